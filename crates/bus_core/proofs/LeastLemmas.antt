@@ -1,0 +1,100 @@
+-- Where nothing is due or in flight, the bound devices are the least set, and the report is the end report.
+use Rattle.std.proofs.Common.{◌≡◌, ◌≢◌, ◌⊎◌, inl, inr, ◌<◌, ◌≤◌, ◌+◌, ℕ, Bool, true, false, not, ◌&&◌, ◌||◌, List, [], ◌∷◌, ◌++◌, length, eqb, cond, refl, sym, ap, ap₂, ◌∙◌, subst, true≢false, append-nil, append_assoc, arith}
+use Rattle.std.specs.List.{list_any, list_all, flat_map}
+use Rattle.std.specs.Prelude.{codes}
+use Rattle.std.proofs.lemmas.Bool.{and_parts, and_from, and_cases, or_cases, or_parts, or_from, or_right, cases_Bool, not-true, not_from_false}
+use Rattle.bus_plan.specs.Plan.{PlannedDevice, is_matched, is_available, suppliers_of, verdict_of}
+use Rattle.bus_plan.specs.declared.verdict.Verdict.TheVariants.{Binds, Fails}
+use Rattle.bus_core.specs.declared.settle.Settle.{Settle}
+use Rattle.bus_core.specs.declared.status.Status.{Status}
+use Rattle.bus_core.specs.declared.status.Status.TheVariants as status
+use Rattle.bus_core.specs.CoreState.{CoreState, is_in_flight, was_begun}
+use Rattle.bus_core.specs.Due.{is_due, is_idle, is_quiet, devices}
+use Rattle.bus_core.specs.History.{is_bound, bound_in, is_settled, IsBusStep, IsBusHistory}
+use Rattle.bus_core.specs.Laws.{QuietIsLeast, SuppliersComeFirst, QuietReportIsTheEnd}
+use Rattle.bus_core.specs.Least.{IsClosed, IsLeast}
+use Rattle.bus_core.specs.Ready.{is_ready}
+use Rattle.bus_core.specs.Report.{status_of, end_status, line_of, report_text, end_text, IsEndReport}
+use Rattle.bus_core.proofs.HistoryLemmas.{along, matched-below, matched-available, ready-matched, ready-weaker, bound-push_cases, bound-verdict, settled-ready, settled-bound, bound-settled, step-within}
+use Rattle.bus_core.proofs.Lists.{list_all_in_range, flat_map_same}
+
+-- the devices bound in a history are in every closed set
+pub bound-closed : (plan : List PlannedDevice) (h : List Settle) → IsBusHistory plan h → (set : ℕ → Bool) → IsClosed plan set → (d : ℕ) → bound_in h d ≡ true → set d ≡ true
+bound-closed plan h steps set closed = along plan (λ h. (d : ℕ) → bound_in h d ≡ true → set d ≡ true)
+    (λ before s held step d bound. elim (bound-push_cases before s d bound) [
+      | inl earlier ↦ held d earlier
+      | inr now ↦ subst (λ n. set n ≡ true) now.1
+          (closed s.device (ready-weaker plan (bound_in before) set held s.device step.ready) (bound-verdict (verdict_of plan s.device) s.outcome step.outcome now.0))
+    ])
+    [] h (λ d bound. absurd (true≢false (sym bound))) steps
+
+-- what quiet says of one device
+pub quiet-at : (plan : List PlannedDevice) (s : CoreState) → is_quiet plan s ≡ true → (d : ℕ) → d < length plan → (is_in_flight s d ≡ false) × (is_due plan s d ≡ false)
+quiet-at plan s quiet d within =
+    or_parts (is_in_flight s d) (is_due plan s d)
+    (not-true (is_in_flight s d || is_due plan s d)
+    (list_all_in_range (λ d. not (is_in_flight s d || is_due plan s d)) (length plan) 0 d quiet (omega arith) (omega arith)))
+
+-- an idle device that isn't due isn't ready
+pub idle-not_ready : (plan : List PlannedDevice) (s : CoreState) (d : ℕ) → is_settled s.history d ≡ false → is_in_flight s d ≡ false → is_due plan s d ≡ false → is_ready plan (bound_in s.history) d ≡ true → ⊥
+idle-not_ready plan s d unsettled landed undue ready =
+    let idle : is_idle s d ≡ true = not_from_false (is_in_flight s d || is_settled s.history d) (or_from (is_in_flight s d) (is_settled s.history d) landed unsettled)
+    in let due : is_due plan s d ≡ true =
+    and_from (is_matched plan d) (is_idle s d && (not (was_begun s d) || is_ready plan (bound_in s.history) d)) (ready-matched plan (bound_in s.history) d ready)
+    (and_from (is_idle s d) (not (was_begun s d) || is_ready plan (bound_in s.history) d) idle
+    (or_right (not (was_begun s d)) (is_ready plan (bound_in s.history) d) ready))
+    in true≢false (sym due ∙ undue)
+
+-- where nothing is due or in flight, the bound devices are closed
+pub quiet-closed : (plan : List PlannedDevice) (s : CoreState) → IsBusHistory plan s.history → is_quiet plan s ≡ true → IsClosed plan (bound_in s.history)
+quiet-closed plan s steps quiet d ready binds = elim (cases_Bool (is_settled s.history d)) [
+  | inl settled ↦ settled-bound plan s.history steps d settled binds
+  | inr unsettled ↦
+      let at : (is_in_flight s d ≡ false) × (is_due plan s d ≡ false) = quiet-at plan s quiet d (matched-below plan d (ready-matched plan (bound_in s.history) d ready))
+      in absurd (idle-not_ready plan s d unsettled at.0 at.1 ready)
+]
+
+pub quiet-least : QuietIsLeast
+quiet-least plan s steps quiet d =
+    (λ bound set closed. bound-closed plan s.history steps set closed d bound, λ inside. inside (bound_in s.history) (quiet-closed plan s steps quiet))
+
+pub suppliers-first : SuppliersComeFirst
+suppliers-first plan front s rest steps =
+    (and_parts (is_matched plan s.device) (list_all (bound_in front) (suppliers_of plan s.device)) (step-within plan [] front s rest steps).ready).1
+
+-- the chains of two statuses, one asked first whether the device has settled, the other last
+pub same-status : (bound settled flying available matched due ready : Bool)
+    → (bound ≡ true → settled ≡ true) → (settled ≡ true → ready ≡ true) → (ready ≡ true → matched ≡ true) → (matched ≡ true → available ≡ true)
+    → flying ≡ false → due ≡ false → (settled ≡ false → ready ≡ true → ⊥)
+    → cond bound status.Bound (cond settled status.Failed (cond flying status.Probing (cond (not available) status.Disabled (cond (not matched) status.Unmatched (cond due status.Due status.Waiting)))))
+    ≡ cond (not available) status.Disabled (cond (not matched) status.Unmatched (cond bound status.Bound (cond ready status.Failed status.Waiting)))
+same-status bound settled true available matched due ready a b c d landed undue e = absurd (true≢false landed)
+same-status bound settled false available matched true ready a b c d landed undue e = absurd (true≢false undue)
+same-status true false false available matched false ready a b c d landed undue e = absurd (true≢false (sym (a refl)))
+same-status bound true false available matched false false a b c d landed undue e = absurd (true≢false (sym (b refl)))
+same-status bound settled false available false false true a b c d landed undue e = absurd (true≢false (sym (c refl)))
+same-status bound settled false false true false ready a b c d landed undue e = absurd (true≢false (sym (d refl)))
+same-status bound false false available matched false true a b c d landed undue e = absurd (e refl refl)
+same-status true true false true true false true a b c d landed undue e = refl
+same-status false true false true true false true a b c d landed undue e = refl
+same-status false false false true true false false a b c d landed undue e = refl
+same-status false false false true false false false a b c d landed undue e = refl
+same-status false false false false false false false a b c d landed undue e = refl
+
+pub quiet-status : (plan : List PlannedDevice) (s : CoreState) → IsBusHistory plan s.history → is_quiet plan s ≡ true → (d : ℕ) → d < length plan → status_of plan s d ≡ end_status plan (bound_in s.history) d
+quiet-status plan s steps quiet d within =
+    let at : (is_in_flight s d ≡ false) × (is_due plan s d ≡ false) = quiet-at plan s quiet d within
+    in same-status (bound_in s.history d) (is_settled s.history d) (is_in_flight s d) (is_available plan d) (is_matched plan d) (is_due plan s d) (is_ready plan (bound_in s.history) d)
+    (bound-settled s.history d) (settled-ready plan s.history steps d) (ready-matched plan (bound_in s.history) d) (matched-available plan d)
+    at.0 at.1 (λ unsettled. idle-not_ready plan s d unsettled at.0 at.1)
+
+pub quiet-end : QuietReportIsTheEnd
+quiet-end plan s steps quiet =
+    record {
+      bound = bound_in s.history;
+      least = quiet-least plan s steps quiet;
+      text_is = ap₂ (λ lines last. lines ++ last)
+          (flat_map_same (λ d. line_of plan (bound_in s.history) (status_of plan s d) d) (λ d. line_of plan (bound_in s.history) (end_status plan (bound_in s.history) d) d) (length plan) 0
+          (λ d above below. ap (λ said. line_of plan (bound_in s.history) said d) (quiet-status plan s steps quiet d (omega arith))))
+          (ap (λ b. cond b (codes "quiet\n") (codes "busy\n")) quiet);
+    }

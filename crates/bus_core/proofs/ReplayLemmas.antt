@@ -1,0 +1,77 @@
+-- A replay goes on by an event, or stops at it; a schedule's lines are read one after another.
+use Rattle.std.proofs.Common.{◌≡◌, ◌∙◌, ℕ, ◌+◌, ◌<◌, ◌≤◌, Bool, true, false, List, [], ◌∷◌, ◌++◌, Option, Some, None, Result, Ok, Err, length, get_or, drop, refl, sym, ap, true≢false, append-nil, append_assoc}
+use Rattle.std.specs.Prelude.{is_ok, IfSome, All, option_to_list}
+use Rattle.std.proofs.lemmas.List.Elements.{All-nil, All-cons, All-append, All-same}
+use Rattle.std.proofs.lemmas.List.{drop_more, drop_all}
+use Rattle.bus_plan.specs.declared.error.PlanError.{PlanError}
+use Rattle.bus_plan.specs.Plan.{PlannedDevice}
+use Rattle.bus_core.specs.declared.event.Event.{Event}
+use Rattle.bus_core.specs.declared.refusal.Refusal.{Refusal}
+use Rattle.bus_core.specs.CoreState.{CoreState}
+use Rattle.bus_core.specs.Replay.{event_refusal, event_state, or_refused, replay_from}
+use Rattle.bus_core.specs.Schedule.{line_meaning, behind, with_line, events_on, schedule_behind}
+
+-- what is left begins with this event
+pub replay-at : (plan : List PlannedDevice) (events : List Event) (i : ℕ) (e : Event) (s : CoreState) → i < length events → e ≡ get_or events i e
+    → replay_from plan i s (drop i events) ≡ or_refused (event_refusal plan s e) (i + 1) (replay_from plan (i + 1) (event_state plan s e) (drop (i + 1) events))
+replay-at plan events i e s within is =
+    ap (replay_from plan i s) (drop_more events i e within ∙ ap (λ x. x ∷ drop (i + 1) events) (sym is))
+
+pub replay-more : (plan : List PlannedDevice) (events : List Event) (i : ℕ) (e : Event) (s : CoreState) → i < length events → e ≡ get_or events i e → event_refusal plan s e ≡ None
+    → replay_from plan i s (drop i events) ≡ replay_from plan (i + 1) (event_state plan s e) (drop (i + 1) events)
+replay-more plan events i e s within is passed =
+    replay-at plan events i e s within is ∙ ap (λ r. or_refused r (i + 1) (replay_from plan (i + 1) (event_state plan s e) (drop (i + 1) events))) passed
+
+pub replay-stops : (plan : List PlannedDevice) (events : List Event) (i : ℕ) (e : Event) (s : CoreState) (r : Refusal) → i < length events → e ≡ get_or events i e → event_refusal plan s e ≡ Some r
+    → replay_from plan i s (drop i events) ≡ Err (i + 1, r)
+replay-stops plan events i e s r within is refused =
+    replay-at plan events i e s within is ∙ ap (λ r. or_refused r (i + 1) (replay_from plan (i + 1) (event_state plan s e) (drop (i + 1) events))) refused
+
+pub replay-ends : (plan : List PlannedDevice) (events : List Event) (i : ℕ) (s : CoreState) → length events ≤ i → replay_from plan i s (drop i events) ≡ Ok s
+replay-ends plan events i s past = ap (replay_from plan i s) (drop_all i events past)
+
+-- ---- a schedule
+behind-behind : (xs ys : List Event) (rest : Result (List Event) PlanError) → behind xs (behind ys rest) ≡ behind (xs ++ ys) rest
+behind-behind xs ys (Err e) = refl
+behind-behind xs ys (Ok more) = ap Ok (sym (append_assoc xs ys more))
+
+-- a lawful line's events go behind those before it
+with-line : (xs : List Event) (said : Result (Option Event) PlanError) (rest : Result (List Event) PlanError) → is_ok said ≡ true → behind xs (with_line said rest) ≡ behind (xs ++ events_on said) rest
+with-line xs (Err e) rest ok = absurd (true≢false (sym ok))
+with-line xs (Ok None) rest ok = ap (λ x. behind x rest) (sym (append-nil xs))
+with-line xs (Ok (Some event)) rest ok = behind-behind xs (event ∷ []) rest
+
+-- the lines that are left begin with this one
+pub schedule-more : (plan : List PlannedDevice) (number : ℕ) (line : List ℕ) (rest left : List (List ℕ)) (xs new : List Event)
+    → left ≡ line ∷ rest → is_ok (line_meaning plan (number + 1) line) ≡ true → new ≡ xs ++ events_on (line_meaning plan (number + 1) line)
+    → behind xs (schedule_behind plan number left) ≡ behind new (schedule_behind plan (number + 1) rest)
+schedule-more plan number line rest left xs new is ok taken =
+    ap (λ x. behind xs (schedule_behind plan number x)) is
+    ∙ with-line xs (line_meaning plan (number + 1) line) (schedule_behind plan (number + 1) rest) ok
+    ∙ ap (λ x. behind x (schedule_behind plan (number + 1) rest)) (sym taken)
+
+pub schedule-stops : (plan : List PlannedDevice) (number : ℕ) (line : List ℕ) (rest left : List (List ℕ)) (xs : List Event) (e : PlanError)
+    → left ≡ line ∷ rest → line_meaning plan (number + 1) line ≡ Err e → behind xs (schedule_behind plan number left) ≡ Err e
+schedule-stops plan number line rest left xs e is bad =
+    ap (λ x. behind xs (schedule_behind plan number x)) is ∙ ap (λ m. behind xs (with_line m (schedule_behind plan (number + 1) rest))) bad
+
+pub schedule-ends : (plan : List PlannedDevice) (number : ℕ) (left : List (List ℕ)) (xs : List Event) → left ≡ [] → behind xs (schedule_behind plan number left) ≡ Ok xs
+schedule-ends plan number left xs none = ap (λ x. behind xs (schedule_behind plan number x)) none ∙ ap Ok (append-nil xs)
+
+events-on_option : (o : Option Event) → events_on (Ok o) ≡ option_to_list o
+events-on_option None = refl
+events-on_option (Some event) = refl
+
+-- a line is read, and its event appended
+pub schedule-read : (plan : List PlannedDevice) (number : ℕ) (line : List ℕ) (rest left : List (List ℕ)) (xs new : List Event) (o : Option Event)
+    → left ≡ line ∷ rest → line_meaning plan (number + 1) line ≡ Ok o → new ≡ xs ++ option_to_list o
+    → behind xs (schedule_behind plan number left) ≡ behind new (schedule_behind plan (number + 1) rest)
+schedule-read plan number line rest left xs new o is says added =
+    schedule-more plan number line rest left xs new is (ap is_ok says) (added ∙ ap (λ x. xs ++ x) (sym (ap events_on says ∙ events-on_option o)))
+
+option-all : (P : Event → Type 0) (o : Option Event) → IfSome o P → All P (option_to_list o)
+option-all P None held = All-nil P
+option-all P (Some event) held = All-cons P event [] held (All-nil P)
+
+pub all-appended : (P : Event → Type 0) (xs new : List Event) (o : Option Event) → All P xs → IfSome o P → new ≡ xs ++ option_to_list o → All P new
+all-appended P xs new o before held added = All-same P new (xs ++ option_to_list o) added (All-append P xs (option_to_list o) before (option-all P o held))

@@ -1,0 +1,14 @@
+pub mod CoreState
+pub mod CoreView
+pub mod Due
+pub mod History
+pub mod Laws
+pub mod Least
+pub mod Phase
+pub mod Ready
+pub mod Refusal
+pub mod Replay
+pub mod Report
+pub mod Schedule
+pub mod Sound
+pub mod Step

@@ -1,0 +1,40 @@
+-- A schedule's events, one after another. A finish of a schedule takes the flight that its device has.
+use Rattle.std.specs.Prelude.{ℕ, ◌+◌, ◌<◌, ◌≡◌, Bool, true, false, not, if◌then◌else◌, List, [], ◌∷◌, Option, Some, None, Result, Ok, Err, length}
+use Rattle.bus_plan.specs.Plan.{PlannedDevice}
+use Rattle.bus_core.specs.declared.event.Event.{Event}
+use Rattle.bus_core.specs.declared.event.Event.TheVariants.{Begin, Finish, Abandon}
+use Rattle.bus_core.specs.declared.refusal.Refusal.{Refusal}
+use Rattle.bus_core.specs.declared.refusal.Refusal.TheVariants.{NotInFlight}
+use Rattle.bus_core.specs.CoreState.{CoreState, is_in_flight, first_state}
+use Rattle.bus_core.specs.Step.{begin_refusal, begin_state, abandon_refusal, without_flight, report_refusal, finish_state}
+
+abbrev pub event_refusal : List PlannedDevice → CoreState → Event → Option Refusal
+event_refusal plan s (Begin d) = begin_refusal plan s d
+event_refusal plan s (Finish d report) = if not (is_in_flight s d) then Some NotInFlight else report_refusal plan s d report
+event_refusal plan s (Abandon d) = abandon_refusal s d
+
+abbrev pub event_state : List PlannedDevice → CoreState → Event → CoreState
+event_state plan s (Begin d) = begin_state s d
+event_state plan s (Finish d report) = finish_state plan s d report
+event_state plan s (Abandon d) = without_flight s d
+
+-- the device that an event is about
+abbrev pub device_of : Event → ℕ
+device_of (Begin d) = d
+device_of (Finish d report) = d
+device_of (Abandon d) = d
+
+abbrev pub IsEventOf : List PlannedDevice → Event → Type 0
+IsEventOf plan e = device_of e < length plan
+
+abbrev pub or_refused : Option Refusal → ℕ → Result CoreState (ℕ × Refusal) → Result CoreState (ℕ × Refusal)
+or_refused None n rest = rest
+or_refused (Some refusal) n rest = Err (n, refusal)
+
+-- the state after all events, or the number of the first refused one, the events counted from n + 1, and its refusal
+abbrev pub replay_from : List PlannedDevice → ℕ → CoreState → List Event → Result CoreState (ℕ × Refusal)
+replay_from plan n s [] = Ok s
+replay_from plan n s (e ∷ es) = or_refused (event_refusal plan s e) (n + 1) (replay_from plan (n + 1) (event_state plan s e) es)
+
+abbrev pub replay_of : List PlannedDevice → List Event → Result CoreState (ℕ × Refusal)
+replay_of plan events = replay_from plan 0 (first_state plan) events

@@ -1,0 +1,30 @@
+//! The probing core: which devices of a plan are bound, which probes are in flight, and which are due.
+#![tactic(auto)]
+
+mod event;
+mod laws;
+mod phase;
+mod refusal;
+mod replaying;
+mod report;
+mod schedule;
+mod settle;
+mod standing;
+mod state;
+mod status;
+mod steps;
+
+pub use event::{Event, Reply, Report, Ticket};
+pub use laws::{
+    events_keep_history, quiet_is_least, quiet_report_is_the_end, suppliers_come_first,
+};
+pub use refusal::Refusal;
+pub use replaying::replay;
+pub use schedule::read_schedule;
+pub use settle::{Outcome, Settle};
+pub use state::Core;
+pub use status::Status;
+pub use steps::MAX_BEGINS;
+
+#[cfg(test)]
+mod tests;

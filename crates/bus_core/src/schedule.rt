@@ -1,0 +1,155 @@
+//! The text of a schedule.
+
+ghost use Rattle.std.specs.Prelude.{◌≡◌, ◌<◌, ◌++◌, ◌⊎◌, length, map, option_to_list, All, IfOk, IfSome, OnOk, MatchResult};
+ghost use Rattle.bus_plan.specs.Plan.{device_at};
+ghost use Rattle.bus_core.specs.Replay.{IsEventOf};
+ghost use Rattle.bus_core.specs.Schedule.{event_of_two, event_of_three, event_of_four, event_of, line_meaning, schedule_of};
+
+use crate::event::{Event, Report};
+use bus_plan::{Device, Plan, PlanError, fields_of, is_line, is_skipped, lines_of};
+use dt_tree::is_path;
+use std::alloc::{AllocError, Global};
+
+fn device_at(plan: &Plan, number: usize, path: &[u8]) -> Result<Device, PlanError>
+    ensures { MatchResult result (λ d. (device_at plan.now path.now ≡ Some d) × (d < length plan.now)) (λ e. (device_at plan.now path.now ≡ None) × (e ≡ PlanError.UnknownPath number)) }
+{
+    match plan.device(path) {
+        Some(device) => Ok(device),
+        None => Err(PlanError::UnknownPath(number)),
+    }
+}
+
+// `begin PATH` and `abandon PATH`
+fn event_of_two(plan: &Plan, number: usize, word: &[u8], path: &[u8]) -> Result<Event, PlanError>
+    ensures event { result ≡ event_of_two plan.now number word.now path.now }
+    ensures within { IfOk result (IsEventOf plan.now) }
+{
+    if !is_path(path) {
+        return Err(PlanError::BadLine(number));
+    }
+    if word == b"begin".as_slice() {
+        return Ok(Event::Begin(device_at(plan, number, path)?));
+    }
+    if word != b"abandon".as_slice() {
+        return Err(PlanError::BadLine(number));
+    }
+    Ok(Event::Abandon(device_at(plan, number, path)?))
+}
+
+// `finish PATH settled`
+fn event_of_three(
+    plan: &Plan,
+    number: usize,
+    word: &[u8],
+    path: &[u8],
+    said: &[u8],
+) -> Result<Event, PlanError>
+    ensures event { result ≡ event_of_three plan.now number word.now path.now said.now }
+    ensures within { IfOk result (IsEventOf plan.now) }
+{
+    if !is_path(path) {
+        return Err(PlanError::BadLine(number));
+    }
+    if word != b"finish".as_slice() {
+        return Err(PlanError::BadLine(number));
+    }
+    if said != b"settled".as_slice() {
+        return Err(PlanError::BadLine(number));
+    }
+    Ok(Event::Finish(device_at(plan, number, path)?, Report::Settled))
+}
+
+// `finish PATH missing SUPPLIER`
+fn event_of_four(
+    plan: &Plan,
+    number: usize,
+    word: &[u8],
+    path: &[u8],
+    said: &[u8],
+    supplier: &[u8],
+) -> Result<Event, PlanError>
+    ensures event { result ≡ event_of_four plan.now number word.now path.now said.now supplier.now }
+    ensures within { IfOk result (IsEventOf plan.now) }
+{
+    if !is_path(path) {
+        return Err(PlanError::BadLine(number));
+    }
+    if !is_path(supplier) {
+        return Err(PlanError::BadLine(number));
+    }
+    if word != b"finish".as_slice() {
+        return Err(PlanError::BadLine(number));
+    }
+    if said != b"missing".as_slice() {
+        return Err(PlanError::BadLine(number));
+    }
+    let device = device_at(plan, number, path)?;
+    let supplier = device_at(plan, number, supplier)?;
+    Ok(Event::Finish(device, Report::Missing(supplier)))
+}
+
+fn event_of(plan: &Plan, number: usize, fields: &[&[u8]]) -> Result<Event, PlanError>
+    ensures event { result ≡ event_of plan.now number (map (λ f. f.now) fields.now) }
+    ensures within { IfOk result (IsEventOf plan.now) }
+{
+    match fields {
+        [word, path] => event_of_two(plan, number, word, path),
+        [word, path, said] => event_of_three(plan, number, word, path, said),
+        [word, path, said, supplier] => event_of_four(plan, number, word, path, said, supplier),
+        _ => Err(PlanError::BadLine(number)),
+    }
+}
+
+fn read_line(
+    alloc: Global,
+    plan: &Plan,
+    number: usize,
+    line: &[u8],
+) -> Result<Option<Event>, PlanError>
+    ensures line { MatchResult result (λ event. line_meaning plan.now number line.now ≡ Ok event) (λ e. (e ≡ PlanError.NoMemory) ⊎ (line_meaning plan.now number line.now ≡ Err e)) }
+    ensures within { IfOk result (λ event. IfSome event (IsEventOf plan.now)) }
+{
+    if !is_line(line) {
+        return Err(PlanError::BadLine(number));
+    }
+    let fields = fields_of(alloc, line)?;
+    if is_skipped(&fields) {
+        return Ok(None);
+    }
+    match event_of(plan, number, &fields) {
+        Ok(event) => Ok(Some(event)),
+        Err(error) => Err(error),
+    }
+}
+
+// Appends what a line says.
+fn append(events: &mut Vec<Event>, event: Option<Event>) -> Result<(), AllocError>
+    ensures { OnOk result (events.new.items ≡ events.old.items ++ option_to_list event) }
+{
+    // The prover has to meet the type inside `Event` by name where a `Vec` of them changes.
+    let _met = Report::Settled;
+    match event {
+        Some(event) => {
+            events.push(event)?;
+            Ok(())
+        }
+        None => Ok(()),
+    }
+}
+
+/// The events of a schedule: `begin PATH`, `finish PATH settled`, `finish PATH missing SUPPLIER` and `abandon PATH`, a
+/// line each. A line of another form is refused with `BadLine`, a path that no device of the plan has with
+/// `UnknownPath`, by the first such line.
+pub fn read_schedule(alloc: Global, plan: &Plan, text: &[u8]) -> Result<Vec<Event>, PlanError>
+    ensures schedule { MatchResult result (λ events. schedule_of plan.now text.now ≡ Ok events.items) (λ e. (e ≡ PlanError.NoMemory) ⊎ (schedule_of plan.now text.now ≡ Err e)) }
+    ensures within { IfOk result (λ events. All (IsEventOf plan.now) events.items) }
+{
+    let _met = Report::Settled;
+    let mut events = Vec::new(alloc);
+    let mut number = 0;
+    for line in lines_of(text) {
+        number += 1;
+        append(&mut events, read_line(alloc, plan, number, line)?)?;
+    }
+    Ok(events)
+}

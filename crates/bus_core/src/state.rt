@@ -1,0 +1,69 @@
+//! The core.
+
+ghost use Rattle.std.specs.Prelude.{◌≡◌, IfOk};
+ghost use Rattle.bus_core.specs.CoreState.{first_state};
+ghost use Rattle.bus_core.specs.declared.refusal.Refusal.TheVariants.{NoMemory};
+ghost use Rattle.std.specs.Prelude.{MatchResult, replicate};
+
+use crate::phase::Phase;
+use crate::refusal::Refusal;
+use crate::settle::Settle;
+use bus_plan::Plan;
+use std::alloc::{AllocError, Global};
+use std::marker::Model;
+
+/// A plan and what has happened to its devices: the phase of each, and the settled ones in their order.
+#[derive(Drop)]
+pub struct Core {
+    pub(crate) plan: Plan,
+    pub(crate) phases: Vec<Phase>,
+    pub(crate) history: Vec<Settle>,
+    pub(crate) begins: u32,
+}
+
+impl Model for Core {
+    ghost use Rattle.bus_core.specs.CoreState.{CoreValue};
+
+    ghost Value = { CoreValue };
+
+    ghost use Rattle.bus_core.specs.CoreView.{core_value, IsKept};
+
+    ghost view = { core_value };
+
+    ghost invariant = { IsKept };
+}
+
+/// So many devices that were never begun.
+fn fresh_phases(alloc: Global, count: usize) -> Result<Vec<Phase>, AllocError>
+    ensures { IfOk result (λ phases. phases.items ≡ replicate count Phase.Fresh) }
+{
+    let mut phases = Vec::with_capacity(alloc, count)?;
+    for _i in 0..count {
+        phases.push(Phase::Fresh)?;
+    }
+    Ok(phases)
+}
+
+impl Core {
+    /// Nothing begun. It makes the room for all settles, so that nothing later takes memory.
+    pub fn new(alloc: Global, plan: Plan) -> Result<Core, Refusal>
+        ensures { MatchResult result (λ core. core ≡ record { plan = plan; state = first_state plan }) (λ refusal. refusal ≡ NoMemory) }
+    {
+        let count = plan.len();
+        let history = Vec::with_capacity(alloc, count)?;
+        let phases = fresh_phases(alloc, count)?;
+        Ok(Core {
+            plan,
+            phases,
+            history,
+            begins: 0,
+        })
+    }
+
+    /// The plan.
+    pub fn plan(&self) -> &Plan
+        ensures { result.now ≡ self.now.plan }
+    {
+        &self.plan
+    }
+}

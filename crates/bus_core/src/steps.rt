@@ -1,0 +1,187 @@
+//! The events of a core. None takes memory: the room of every settle was made with the core.
+
+ghost use Rattle.std.specs.Prelude.{◌≡◌, ◌<◌, ◌+◌, ◌++◌, ◌∷◌, [], length, IfOk, OnOk, OnErr, Some, None, vec_len, vec_capacity, ◌≤◌, true};
+ghost use Rattle.std.specs.Result.{result_err};
+ghost use Rattle.bus_plan.specs.Plan.{verdict_of};
+ghost use Rattle.bus_core.specs.CoreState.{CoreValue, flight_of, is_in_flight};
+ghost use Rattle.bus_core.specs.History.{outcome_by};
+ghost use Rattle.bus_core.specs.Phase.{settled_phase};
+ghost use Rattle.bus_core.specs.Step.{begin_refusal, begin_state, finish_refusal, finish_state, finish_reply, report_refusal, abandon_refusal, without_flight, settled_reply, is_supplier, settled_at_begin};
+ghost use Rattle.bus_core.specs.Replay.{event_refusal, event_state, device_of};
+
+use crate::event::{Reply, Report, Ticket};
+use crate::phase::{Phase, is_due, is_matched, is_ready, phase_of, was_bound};
+use crate::refusal::Refusal;
+use crate::settle::{Outcome, Settle};
+use crate::state::Core;
+use bus_plan::{Device, Plan, Verdict};
+
+/// The begins that a core has: each uses up two of 1,000,000 events, its own and its flight's end.
+pub const MAX_BEGINS: u32 = 500_000;
+
+fn outcome_of(verdict: Verdict) -> Outcome
+    ensures { result ≡ outcome_by verdict }
+{
+    match verdict {
+        Verdict::Binds => Outcome::Bound,
+        Verdict::Fails => Outcome::Failed,
+    }
+}
+
+fn reply_of(outcome: Outcome) -> Reply
+    ensures { result ≡ settled_reply outcome }
+{
+    match outcome {
+        Outcome::Bound => Reply::Bound,
+        Outcome::Failed => Reply::Failed,
+    }
+}
+
+fn phase_after(outcome: Outcome, place: usize) -> Phase
+    ensures { result ≡ settled_phase place outcome }
+{
+    match outcome {
+        Outcome::Bound => Phase::Bound(place),
+        Outcome::Failed => Phase::Failed,
+    }
+}
+
+fn is_supplier(plan: &Plan, device: Device, supplier: Device) -> bool
+    requires { device < length plan.now }
+    ensures { result ≡ is_supplier plan.now device supplier }
+{
+    plan.suppliers(device)
+        .iter()
+        .any(|other| other.index() == supplier.index())
+}
+
+/// A settle more, in room that is there.
+fn append(history: &mut Vec<Settle>, settle: Settle)
+    requires { vec_len history.old < vec_capacity history.old }
+    ensures items { history.new.items ≡ history.old.items ++ settle ∷ [] }
+    ensures room { vec_capacity history.old ≤ vec_capacity history.new }
+{
+    match history.push(settle) {
+        Ok(()) => {}
+        Err(_) => unreachable!(),
+    }
+}
+
+impl Core {
+    /// Begins a probe of the device: a flight that is open until it is finished or abandoned.
+    pub fn begin(&mut self, device: Device) -> Result<Ticket, Refusal>
+        requires { device < length self.old.plan }
+        ensures refused { result_err result ≡ begin_refusal self.old.plan self.old.state device }
+        ensures ticket { IfOk result (λ ticket. ticket ≡ record { device = device; attempt = self.old.state.begins + 1 }) }
+        ensures begun { OnOk result (self.new ≡ record { plan = self.old.plan; state = begin_state self.old.state device }) }
+        ensures err { OnErr result (self.new ≡ self.old) }
+    {
+        if !is_matched(&self.plan, device) {
+            return Err(Refusal::Unmatched);
+        }
+        if !phase_of(&self.phases, device).is_idle() {
+            return Err(Refusal::NotIdle);
+        }
+        if self.begins >= MAX_BEGINS {
+            return Err(Refusal::TooManyEvents);
+        }
+        self.begins += 1;
+        self.phases[device.index()] = Phase::InFlight(self.begins, self.history.len());
+        Ok(Ticket {
+            device,
+            attempt: self.begins,
+        })
+    }
+
+    /// Drops the device's flight. The device counts as begun.
+    pub fn abandon(&mut self, device: Device) -> Result<(), Refusal>
+        requires { device < length self.old.plan }
+        ensures refused { result_err result ≡ abandon_refusal self.old.state device }
+        ensures abandoned { OnOk result (self.new ≡ record { plan = self.old.plan; state = without_flight self.old.state device }) }
+        ensures err { OnErr result (self.new ≡ self.old) }
+    {
+        if !phase_of(&self.phases, device).is_in_flight() {
+            return Err(Refusal::NotInFlight);
+        }
+        self.phases[device.index()] = Phase::Begun;
+        Ok(())
+    }
+
+    /// Ends the flight of the ticket by what its probe found.
+    pub fn finish(&mut self, ticket: &Ticket, report: Report) -> Result<Reply, Refusal>
+        requires { ticket.now.device < length self.old.plan }
+        ensures refused { result_err result ≡ finish_refusal self.old.plan self.old.state ticket.now report }
+        ensures reply { IfOk result (λ reply. reply ≡ finish_reply self.new.plan self.new.state ticket.now.device report) }
+        ensures finished { OnOk result (self.new ≡ record { plan = self.old.plan; state = finish_state self.old.plan self.old.state ticket.now.device report }) }
+        ensures err { OnErr result (self.new ≡ self.old) }
+    {
+        match phase_of(&self.phases, ticket.device) {
+            Phase::InFlight(attempt, settled) if attempt == ticket.attempt => self.land(
+                ticket.device,
+                settled,
+                report,
+            ),
+            _ => Err(Refusal::StaleTicket),
+        }
+    }
+
+    /// Ends the flight of a device, which began when so many had settled.
+    pub(crate) fn land(
+        &mut self,
+        device: Device,
+        settled: usize,
+        report: Report,
+    ) -> Result<Reply, Refusal>
+        requires within { device < length self.old.plan }
+        requires flying { is_in_flight self.old.state device ≡ true }
+        requires since { settled_at_begin (flight_of self.old.state device) ≡ settled }
+        ensures refused { result_err result ≡ report_refusal self.old.plan self.old.state device report }
+        ensures reply { IfOk result (λ reply. reply ≡ finish_reply self.new.plan self.new.state device report) }
+        ensures finished { OnOk result (self.new ≡ record { plan = self.old.plan; state = finish_state self.old.plan self.old.state device report }) }
+        ensures err { OnErr result (self.new ≡ self.old) }
+    {
+        match report {
+            Report::Settled => self.settle(device),
+            Report::Missing(supplier) => self.defer(device, settled, supplier),
+        }
+    }
+
+    fn settle(&mut self, device: Device) -> Result<Reply, Refusal>
+        requires within { device < length self.old.plan }
+        requires flying { is_in_flight self.old.state device ≡ true }
+        ensures refused { result_err result ≡ report_refusal self.old.plan self.old.state device Report.Settled }
+        ensures reply { IfOk result (λ reply. reply ≡ settled_reply (outcome_by (verdict_of self.old.plan device))) }
+        ensures finished { OnOk result (self.new ≡ record { plan = self.old.plan; state = finish_state self.old.plan self.old.state device Report.Settled }) }
+        ensures err { OnErr result (self.new ≡ self.old) }
+    {
+        if !is_ready(&self.plan, &self.phases, device) {
+            return Err(Refusal::NotReady);
+        }
+        let outcome = outcome_of(self.plan.verdict(device));
+        self.phases[device.index()] = phase_after(outcome, self.history.len());
+        append(&mut self.history, Settle { device, outcome });
+        Ok(reply_of(outcome))
+    }
+
+    fn defer(&mut self, device: Device, settled: usize, supplier: Device) -> Result<Reply, Refusal>
+        requires within { device < length self.old.plan }
+        requires flying { is_in_flight self.old.state device ≡ true }
+        requires since { settled_at_begin (flight_of self.old.state device) ≡ settled }
+        ensures refused { result_err result ≡ report_refusal self.old.plan self.old.state device (Report.Missing supplier) }
+        ensures reply { IfOk result (λ reply. reply ≡ finish_reply self.new.plan self.new.state device (Report.Missing supplier)) }
+        ensures finished { OnOk result (self.new ≡ record { plan = self.old.plan; state = without_flight self.old.state device }) }
+        ensures err { OnErr result (self.new ≡ self.old) }
+    {
+        if !is_supplier(&self.plan, device, supplier) {
+            return Err(Refusal::WasBound);
+        }
+        if was_bound(&self.phases, supplier, settled) {
+            return Err(Refusal::WasBound);
+        }
+        self.phases[device.index()] = Phase::Begun;
+        if is_due(&self.plan, &self.phases, device) {
+            return Ok(Reply::Again);
+        }
+        Ok(Reply::Waiting)
+    }
+}

@@ -1,0 +1,128 @@
+-- What is lawful of devices whose lines have no fault.
+use Rattle.std.proofs.Common.{◌≡◌, ◌∙◌, ap, sym, refl, subst, ℕ, zero, suc, ◌+◌, ◌<◌, ◌≤◌, Bool, true, false, ◌&&◌, List, [], ◌∷◌, ◌++◌, length, length-append, arith, append-nil}
+use Rattle.std.specs.Prelude.{All, Option, Some, None, Result, Ok, Err, nat_le, if◌then◌else◌, IfSome, IsTrue, codes}
+use Rattle.std.specs.Option.{option_map, option_to_list}
+use Rattle.std.specs.List.{list_all, slice_index_or}
+use Rattle.std.specs.Str.{bytes_eq}
+use Rattle.std.proofs.lemmas.Bool.{leb-false}
+use Rattle.std.proofs.lemmas.List.{map-append}
+use Rattle.std.proofs.lemmas.List.Elements.{All-nil, All-cons, All-append}
+use Rattle.bus_plan.specs.declared.error.PlanError.{PlanError}
+use Rattle.bus_plan.specs.declared.error.PlanError.TheVariants.{BadLine, DuplicateDevice, TooManyDevices}
+use Rattle.bus_plan.specs.declared.matching.Matching.{Matching}
+use Rattle.bus_plan.specs.declared.verdict.Verdict.{Verdict}
+use Rattle.bus_plan.specs.declared.verdict.Verdict.TheVariants.{Binds, Fails}
+use Rattle.bus_plan.specs.Lines.{is_line, fields, is_skipped}
+use Rattle.bus_plan.specs.Plan.{is_device_path, is_driver_name}
+use Rattle.bus_plan.specs.PlanPaths.{is_among, are_distinct}
+use Rattle.bus_plan.specs.PlanFile.{DeviceLine, driven, undriven, matching_of, device_of, read_device, meaning, meaning_at, device_on, devices_before, line_paths, refusal_of, fault_of, fault_at, faults_before}
+use Rattle.bus_plan.proofs.BoolLemmas.{and-left, and-right}
+use Rattle.bus_plan.proofs.PathLemmas.{distinct-more}
+
+-- the second and third field of a lawful line
+pub record IsLawfulMatching (m : Matching) : Type 0 where
+  pub driver : IfSome m.driver (λ name. IsTrue (is_driver_name name))
+  pub unavailable : m.available ≡ false → m.driver ≡ None
+  pub unmatched : m.driver ≡ None → m.verdict ≡ Binds
+
+pub record IsLawfulLine (d : DeviceLine) : Type 0 where
+  pub forms : list_all is_device_path (d.path ∷ d.suppliers) ≡ true
+  pub distinct : are_distinct (d.path ∷ d.suppliers) ≡ true
+  pub matching : IsLawfulMatching d.matching
+
+pub record IsLawfulListing (ds : List DeviceLine) : Type 0 where
+  pub few : length ds ≤ 512
+  pub distinct : are_distinct (line_paths ds) ≡ true
+  pub lines : All IsLawfulLine ds
+
+-- ---- a line
+some_of-test : (t : Bool) (x m : Matching) → (if t then Some x else None) ≡ Some m → (t ≡ true) × (x ≡ m)
+some_of-test true x m e = (refl, cc)
+some_of-test false x m e = absurd (cc)
+
+lawful-driven : (driver : List ℕ) (verdict : Verdict) (m : Matching) → driven driver verdict ≡ Some m → IsLawfulMatching m
+lawful-driven driver verdict m e =
+    let parts = some_of-test (is_driver_name driver) (record { available = true; driver = Some driver; verdict = verdict }) m e in
+    subst IsLawfulMatching parts.1 (record { driver = parts.0; unavailable = λ e. absurd (cc); unmatched = λ e. absurd (cc) })
+
+lawful-none : (available : Bool) → IsLawfulMatching (record { available = available; driver = None; verdict = Binds })
+lawful-none available = record { driver = tt; unavailable = λ e. refl; unmatched = λ e. refl }
+
+lawful-undriven : (driver : List ℕ) (m : Matching) → undriven driver ≡ Some m → IsLawfulMatching m
+lawful-undriven driver m e = by_test (bytes_eq driver (codes "-")) (bytes_eq driver (codes "!")) e
+  where
+    by_test : (t u : Bool) → (if t then Some (record { available = true; driver = None; verdict = Binds }) else (if u then Some (record { available = false; driver = None; verdict = Binds }) else None)) ≡ Some m → IsLawfulMatching m
+    by_test true u e = subst IsLawfulMatching (cc) (lawful-none true)
+    by_test false true e = subst IsLawfulMatching (cc) (lawful-none false)
+    by_test false false e = absurd (cc)
+
+lawful-matching : (driver word : List ℕ) (m : Matching) → matching_of driver word ≡ Some m → IsLawfulMatching m
+lawful-matching driver word m e = by_test (bytes_eq word (codes "ok")) (bytes_eq word (codes "fail")) (bytes_eq word (codes "-")) e
+  where
+    by_test : (t u v : Bool) → (if t then driven driver Binds else (if u then driven driver Fails else (if v then undriven driver else None))) ≡ Some m → IsLawfulMatching m
+    by_test true u v e = lawful-driven driver Binds m e
+    by_test false true v e = lawful-driven driver Fails m e
+    by_test false false true e = lawful-undriven driver m e
+    by_test false false false e = absurd (cc)
+
+lawful-device : (number : ℕ) (fs : List (List ℕ)) (d : DeviceLine) → device_of number fs ≡ Some d → IsLawfulLine d
+lawful-device number [] d e = absurd (cc)
+lawful-device number (path ∷ []) d e = absurd (cc)
+lawful-device number (path ∷ driver ∷ []) d e = absurd (cc)
+lawful-device number (path ∷ driver ∷ word ∷ suppliers) d e =
+    by_test (list_all is_device_path (path ∷ suppliers) && are_distinct (path ∷ suppliers)) (matching_of driver word) refl refl e
+  where
+    by_test : (t : Bool) (found : Option Matching) → (list_all is_device_path (path ∷ suppliers) && are_distinct (path ∷ suppliers)) ≡ t → matching_of driver word ≡ found
+        → (if t then option_map (λ m. record { number = number; path = path; matching = m; suppliers = suppliers }) found else None) ≡ Some d → IsLawfulLine d
+    by_test true (Some m) tested found e =
+        let is : record { number = number; path = path; matching = m; suppliers = suppliers } ≡ d = cc in
+        subst IsLawfulLine is
+        (record { forms = and-left _ _ tested; distinct = and-right _ _ tested; matching = lawful-matching driver word m found })
+    by_test true None tested found e = absurd (cc)
+    by_test false found tested is e = absurd (cc)
+
+read_device-is : (number : ℕ) (found : Option DeviceLine) (d : DeviceLine) → read_device number found ≡ Ok (Some d) → found ≡ Some d
+read_device-is number None d e = absurd (cc)
+read_device-is number (Some x) d e = cc
+
+pub lawful-line : (number : ℕ) (line : List ℕ) (d : DeviceLine) → meaning number line ≡ Ok (Some d) → IsLawfulLine d
+lawful-line number line d e = by_test (is_line line) (is_skipped (fields line)) e
+  where
+    by_test : (t u : Bool) → (if t then (if u then Ok None else read_device number (device_of number (fields line))) else Err (BadLine number)) ≡ Ok (Some d) → IsLawfulLine d
+    by_test true true e = absurd (cc)
+    by_test true false e = lawful-device number (fields line) d (read_device-is number (device_of number (fields line)) d e)
+    by_test false u e = absurd (cc)
+
+-- ---- the lines
+refusal_none : (ds : List DeviceLine) (d : DeviceLine) → option_to_list (refusal_of ds d) ≡ [] → (is_among d.path (line_paths ds) ≡ false) × (nat_le 512 (length ds) ≡ false)
+refusal_none ds d e = by_test (is_among d.path (line_paths ds)) (nat_le 512 (length ds)) e
+  where
+    by_test : (t u : Bool) → option_to_list (if t then Some (DuplicateDevice d.number) else (if u then Some TooManyDevices else None)) ≡ [] → (t ≡ false) × (u ≡ false)
+    by_test true u e = absurd (cc)
+    by_test false true e = absurd (cc)
+    by_test false false e = (refl, refl)
+
+lawful-step : (ls : List (List ℕ)) (n : ℕ) (ds : List DeviceLine) (m : Result (Option DeviceLine) PlanError)
+    → meaning_at ls n ≡ m → option_to_list (fault_of ds m) ≡ [] → IsLawfulListing ds → IsLawfulListing (ds ++ option_to_list (device_on m))
+lawful-step ls n ds (Err e) says none lawful = absurd (cc)
+lawful-step ls n ds (Ok None) says none lawful = subst IsLawfulListing (sym (append-nil ds)) lawful
+lawful-step ls n ds (Ok (Some d)) says none lawful =
+    let new = refusal_none ds d none in
+    let room : length ds < 512 = leb-false 512 (length ds) new.1 in
+    let before : length ds ≤ 512 = lawful.few in
+    record {
+      few = omega (arith, length-append ds (d ∷ []));
+      distinct = ap are_distinct (map-append (λ d. d.path) ds (d ∷ [])) ∙ distinct-more (line_paths ds) d.path lawful.distinct new.0;
+      lines = All-append IsLawfulLine ds (d ∷ []) lawful.lines
+          (All-cons IsLawfulLine d [] (lawful-line (n + 1) (slice_index_or ls n []) d says) (All-nil IsLawfulLine));
+    }
+
+append-empty : (xs ys : List PlanError) → xs ++ ys ≡ [] → (xs ≡ []) × (ys ≡ [])
+append-empty [] ys e = (refl, e)
+append-empty (x ∷ xs) ys e = absurd (cc)
+
+pub lawful-before : (ls : List (List ℕ)) (n : ℕ) → faults_before ls n ≡ [] → IsLawfulListing (devices_before ls n)
+lawful-before ls zero none = record { few = omega arith; distinct = refl; lines = All-nil IsLawfulLine }
+lawful-before ls (suc n) none =
+    let parts = append-empty (faults_before ls n) (option_to_list (fault_at ls n)) none in
+    lawful-step ls n (devices_before ls n) (meaning_at ls n) refl parts.1 (lawful-before ls n parts.0)

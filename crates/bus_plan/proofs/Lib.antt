@@ -1,0 +1,14 @@
+pub mod LineLemmas
+pub mod ListLemmas
+pub mod BoolLemmas
+pub mod PathLemmas
+pub mod ListingLemmas
+pub mod PlanLemmas
+pub mod DistinctLemmas
+pub mod FaultlessLemmas
+pub mod LawfulLemmas
+pub mod ReadingLemmas
+pub mod TextBytes
+pub mod ReadBack
+pub mod TextLines
+pub mod TextMeaning

@@ -1,0 +1,111 @@
+-- The devices of a plan file's lines, as they are read.
+use Rattle.std.proofs.Common.{◌≡◌, ◌∙◌, ap, ℕ, zero, suc, ◌+◌, ◌<◌, ◌≤◌, true, false, List, [], ◌∷◌, ◌++◌, length, drop, get_or, sym, arith, append-nil, add-one, length-drop, ◌-◌}
+use Rattle.std.specs.Prelude.{Option, Some, None, Result, Ok, if◌then◌else◌, nat_le}
+use Rattle.std.specs.Option.{option_to_list}
+use Rattle.bus_plan.specs.declared.error.PlanError.{PlanError}
+use Rattle.bus_plan.specs.declared.error.PlanError.TheVariants.{DuplicateDevice, TooManyDevices}
+use Rattle.bus_plan.specs.PlanPaths.{is_among}
+use Rattle.bus_plan.specs.PlanFile.{DeviceLine, line_paths, refusal_of, meaning, meaning_at, device_on, devices_before, fault_of, fault_at, faults_before, IsFirst}
+
+-- ---- the refusals of a further device
+pub refusal-there : (ds : List DeviceLine) (d : DeviceLine) → is_among d.path (line_paths ds) ≡ true → refusal_of ds d ≡ Some (DuplicateDevice d.number)
+refusal-there ds d there = ap (λ t. if t then Some (DuplicateDevice d.number) else (if nat_le 512 (length ds) then Some TooManyDevices else None)) there
+
+pub refusal-full : (ds : List DeviceLine) (d : DeviceLine) → is_among d.path (line_paths ds) ≡ false → nat_le 512 (length ds) ≡ true → refusal_of ds d ≡ Some TooManyDevices
+refusal-full ds d new full =
+    ap (λ t. if t then Some (DuplicateDevice d.number) else (if nat_le 512 (length ds) then Some TooManyDevices else None)) new
+    ∙ ap (λ t. if t then Some TooManyDevices else None) full
+
+pub refusal-none : (ds : List DeviceLine) (d : DeviceLine) → is_among d.path (line_paths ds) ≡ false → nat_le 512 (length ds) ≡ false → refusal_of ds d ≡ None
+refusal-none ds d new room =
+    ap (λ t. if t then Some (DuplicateDevice d.number) else (if nat_le 512 (length ds) then Some TooManyDevices else None)) new
+    ∙ ap (λ t. if t then Some TooManyDevices else None) room
+
+-- ---- a walk over the lines
+-- the first n lines are read without a fault, and these are left
+pub record IsReadTo (ls : List (List ℕ)) (n : ℕ) (left : List (List ℕ)) (devices : List DeviceLine) : Type 0 where
+  pub left_is : left ≡ drop n ls
+  pub within : n ≤ length ls
+  pub devices_are : devices ≡ devices_before ls n
+  pub faultless : faults_before ls n ≡ []
+
+pub IsReadTo-at : (ls : List (List ℕ)) (n : ℕ) (left rest : List (List ℕ)) (ds : List DeviceLine) → IsReadTo ls n left ds → left ≡ rest → IsReadTo ls n rest ds
+IsReadTo-at ls n left rest ds walk e = record {
+  left_is = sym e ∙ walk.left_is;
+  within = walk.within;
+  devices_are = walk.devices_are;
+  faultless = walk.faultless;
+}
+
+-- the line at which a walk stands
+next : (ls : List (List ℕ)) (n : ℕ) (line : List ℕ) (rest : List (List ℕ)) → line ∷ rest ≡ drop n ls → (n < length ls) × (get_or ls n [] ≡ line) × (rest ≡ drop (suc n) ls)
+next [] zero line rest e = absurd (cc)
+next [] (suc n) line rest e = absurd (cc)
+next (l ∷ ls) zero line rest e = (omega arith, cc, cc)
+next (l ∷ ls) (suc n) line rest e = let k = next ls n line rest e in (omega arith, k.1, k.2)
+
+devices-step : (ls : List (List ℕ)) (n : ℕ) (m : Result (Option DeviceLine) PlanError) → meaning_at ls n ≡ m
+    → devices_before ls (n + 1) ≡ devices_before ls n ++ option_to_list (device_on m)
+devices-step ls n m says = ap (devices_before ls) (add-one n) ∙ ap (λ k. devices_before ls n ++ option_to_list (device_on k)) says
+
+faults-step : (ls : List (List ℕ)) (n : ℕ) (ds : List DeviceLine) (m : Result (Option DeviceLine) PlanError)
+    → meaning_at ls n ≡ m → ds ≡ devices_before ls n → faults_before ls n ≡ [] → faults_before ls (n + 1) ≡ option_to_list (fault_of ds m)
+faults-step ls n ds m says are none =
+    ap (faults_before ls) (add-one n) ∙ ap (λ fs. fs ++ option_to_list (fault_at ls n)) none
+    ∙ ap (λ k. option_to_list (fault_of k (meaning_at ls n))) (sym are) ∙ ap (λ k. option_to_list (fault_of ds k)) says
+
+-- it is skipped
+pub read-skipped : (ls : List (List ℕ)) (n : ℕ) (line : List ℕ) (rest : List (List ℕ)) (ds : List DeviceLine)
+    → IsReadTo ls n (line ∷ rest) ds → meaning (n + 1) line ≡ Ok None → IsReadTo ls (n + 1) rest ds
+read-skipped ls n line rest ds walk skipped =
+    let at = next ls n line rest walk.left_is in
+    let within : n < length ls = at.0 in
+    let says : meaning_at ls n ≡ Ok None = ap (meaning (n + 1)) at.1 ∙ skipped in
+    record {
+      left_is = at.2 ∙ ap (λ k. drop k ls) (sym (add-one n));
+      within = omega arith;
+      devices_are = walk.devices_are ∙ sym (devices-step ls n (Ok None) says ∙ append-nil (devices_before ls n));
+      faultless = faults-step ls n ds (Ok None) says walk.devices_are walk.faultless;
+    }
+
+-- it gives a device that may be there
+pub read-device : (ls : List (List ℕ)) (n : ℕ) (line : List ℕ) (rest : List (List ℕ)) (ds : List DeviceLine) (d : DeviceLine)
+    → IsReadTo ls n (line ∷ rest) ds → meaning (n + 1) line ≡ Ok (Some d) → refusal_of ds d ≡ None → IsReadTo ls (n + 1) rest (ds ++ d ∷ [])
+read-device ls n line rest ds d walk device lawful =
+    let at = next ls n line rest walk.left_is in
+    let within : n < length ls = at.0 in
+    let says : meaning_at ls n ≡ Ok (Some d) = ap (meaning (n + 1)) at.1 ∙ device in
+    record {
+      left_is = at.2 ∙ ap (λ k. drop k ls) (sym (add-one n));
+      within = omega arith;
+      devices_are = ap (λ t. t ++ d ∷ []) walk.devices_are ∙ sym (devices-step ls n (Ok (Some d)) says);
+      faultless = faults-step ls n ds (Ok (Some d)) says walk.devices_are walk.faultless ∙ ap option_to_list lawful;
+    }
+
+-- the first fault stays the first
+first-stays : (ls : List (List ℕ)) (n : ℕ) (e : PlanError) → IsFirst (faults_before ls n) e → (k m : ℕ) → k + n ≡ m → IsFirst (faults_before ls m) e
+first-stays ls n e first zero m is = let same : m ≡ n = omega arith in (first.0, ap (faults_before ls) same ∙ first.1)
+first-stays ls n e first (suc k) zero is = absurd (omega arith)
+first-stays ls n e first (suc k) (suc m) is =
+    let before = first-stays ls n e first k m (omega arith) in
+    (before.0 ++ option_to_list (fault_at ls m), ap (λ fs. fs ++ option_to_list (fault_at ls m)) before.1)
+
+-- it has a fault
+pub read-fault : (ls : List (List ℕ)) (n : ℕ) (line : List ℕ) (rest : List (List ℕ)) (ds : List DeviceLine) (e : PlanError)
+    → IsReadTo ls n (line ∷ rest) ds → fault_of ds (meaning (n + 1) line) ≡ Some e → IsFirst (faults_before ls (length ls)) e
+read-fault ls n line rest ds e walk fault =
+    let at = next ls n line rest walk.left_is in
+    let within : n < length ls = at.0 in
+    let says : meaning_at ls n ≡ meaning (n + 1) line = ap (meaning (n + 1)) at.1 in
+    let here : faults_before ls (n + 1) ≡ e ∷ [] =
+    faults-step ls n ds (meaning (n + 1) line) says walk.devices_are walk.faultless ∙ ap option_to_list fault in
+    first-stays ls (n + 1) e ([], here) (length ls - (n + 1)) (length ls) (omega arith)
+
+-- none is left
+pub read-all : (ls : List (List ℕ)) (n : ℕ) (ds : List DeviceLine)
+    → IsReadTo ls n [] ds → (ds ≡ devices_before ls (length ls)) × (faults_before ls (length ls) ≡ [])
+read-all ls n ds walk =
+    let gone : length (drop n ls) ≡ 0 = ap length (sym walk.left_is) in
+    let within : n ≤ length ls = walk.within in
+    let all : n ≡ length ls = omega (arith, length-drop n ls) in
+    (walk.devices_are ∙ ap (devices_before ls) all, ap (faults_before ls) (sym all) ∙ walk.faultless)

@@ -1,0 +1,7 @@
+-- `bstr`'s lines are std's.
+use Rattle.std.proofs.Common.{◌∙◌}
+use Rattle.bus_plan.proofs.LineLemmas.{lines-is}
+use Rattle.bus_plan.proofs.lines.lines_of.Goals as goal
+
+pub returns-clause-value : goal.returns-clause-value
+returns-clause-value c = c.lines.ensures.value ∙ lines-is c.args.text.now

@@ -1,0 +1,26 @@
+-- The tests are those of a further device.
+use Rattle.std.proofs.Common.{◌≡◌, ◌∙◌, ap, sym, true, false, length, arith}
+use Rattle.std.specs.Prelude.{Some}
+use Rattle.std.proofs.lemmas.Bool.{le-leb, lt-leb}
+use Rattle.bus_plan.specs.declared.error.PlanError.TheVariants.{DuplicateDevice}
+use Rattle.bus_plan.specs.PlanPaths.{is_among}
+use Rattle.bus_plan.specs.PlanFile.{line_paths}
+use Rattle.bus_plan.proofs.ListingLemmas.{refusal-there, refusal-full, refusal-none}
+use Rattle.bus_plan.proofs.listing.Listing.check_new.Goals as goal
+
+pub returns-then-contains : goal.returns-then-contains
+returns-then-contains c =
+    let there : is_among c.args.device.now.path (line_paths c.args.self.now) ≡ true = cc in
+    refusal-there c.args.self.now c.args.device.now there ∙ ap (λ n. Some (DuplicateDevice n)) (sym c.number.ensures)
+
+pub returns-then-len-ge-MAX_DEVICES : goal.returns-then-len-ge-MAX_DEVICES
+returns-then-len-ge-MAX_DEVICES c =
+    let new : is_among c.args.device.now.path (line_paths c.args.self.now) ≡ false = cc in
+    let long : length c.args.self.now ≡ c.len.result = ap length (sym c.self.view_is) ∙ sym c.self.inside.devices.ok.0 ∙ sym c.len.ensures in
+    refusal-full c.args.self.now c.args.device.now new (le-leb 512 (length c.args.self.now) (omega arith))
+
+pub returns : goal.returns
+returns c =
+    let new : is_among c.args.device.now.path (line_paths c.args.self.now) ≡ false = cc in
+    let long : length c.args.self.now ≡ c.len.result = ap length (sym c.self.view_is) ∙ sym c.self.inside.devices.ok.0 ∙ sym c.len.ensures in
+    refusal-none c.args.self.now c.args.device.now new (lt-leb 512 (length c.args.self.now) (omega arith))

@@ -1,0 +1,30 @@
+-- The lines and the fields of a text file of the bus.
+use Rattle.std.specs.Prelude.{ℕ, Bool, true, ◌&&◌, ◌||◌, ◌==◌, nat_le, not, List, [], ◌∷◌, length, filter, slice_index}
+use Rattle.std.specs.List.{list_all, slice_split}
+-- the lines of a text are std's `lines`: the parts between line feeds, the last one only if it isn't empty,
+-- and one carriage return goes with the line feed behind it
+pub use Rattle.std.specs.Str.Lines.{lines}
+
+-- a tab, or a printing character of ASCII
+abbrev pub is_line_byte : ℕ → Bool
+is_line_byte b = b == 9 || (nat_le 32 b && nat_le b 126)
+
+-- no other byte stands in the line
+abbrev pub is_line : List ℕ → Bool
+is_line line = list_all is_line_byte line
+
+-- a space or a tab
+abbrev pub is_blank : ℕ → Bool
+is_blank b = b == 32 || b == 9
+
+abbrev pub is_filled : List ℕ → Bool
+is_filled field = not (length field == 0)
+
+-- the fields of a line: what stands between blanks
+abbrev pub fields : List ℕ → List (List ℕ)
+fields line = filter is_filled (slice_split is_blank line)
+
+-- a line of these fields says nothing: there are none, or the first begins with `#`
+abbrev pub is_skipped : List (List ℕ) → Bool
+is_skipped [] = true
+is_skipped (field ∷ more) = slice_index field 0 == 35

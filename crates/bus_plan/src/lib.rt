@@ -1,0 +1,28 @@
+//! Plans of the bus: devices with their drivers and suppliers, and the text file that lists them.
+#![tactic(auto)]
+
+mod device;
+mod device_line;
+mod error;
+mod laws;
+mod lines;
+mod listing;
+mod matching;
+mod paths;
+mod plan;
+mod planned;
+mod reading;
+mod verdict;
+mod writing;
+
+pub use device::Device;
+pub use error::PlanError;
+pub use laws::plan_text_is_read_back;
+pub use lines::{fields_of, is_line, is_line_byte, is_skipped, lines_of};
+pub use plan::Plan;
+pub use reading::read_plan;
+pub use verdict::Verdict;
+pub use writing::plan_text;
+
+#[cfg(test)]
+mod tests;

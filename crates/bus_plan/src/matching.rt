@@ -1,0 +1,69 @@
+ghost use Rattle.std.specs.Prelude.{◌≡◌, MatchResult};
+ghost use Rattle.bus_plan.specs.Plan.{is_driver_name};
+ghost use Rattle.bus_plan.specs.declared.error.PlanError.TheVariants.{NoMemory};
+
+use crate::error::PlanError;
+use crate::verdict::Verdict;
+use dt_tree::{Name, is_name};
+use std::alloc::Global;
+
+/// What the second and the third field of a plan file's line say.
+#[derive(Debug, Drop)]
+pub struct Matching {
+    pub available: bool,
+    pub driver: Option<Name>,
+    pub verdict: Verdict,
+}
+
+fn is_driver_name(bytes: &[u8]) -> bool
+    ensures { result ≡ is_driver_name bytes.now }
+{
+    is_name(bytes) && bytes != b"-".as_slice()
+}
+
+impl Matching {
+    ghost use Rattle.bus_plan.specs.PlanFile.{matching_of, driven, undriven};
+
+    fn driven(alloc: Global, driver: &[u8], verdict: Verdict) -> Result<Option<Self>, PlanError>
+        ensures { MatchResult result (λ m. m ≡ driven driver.now verdict) (λ e. e ≡ NoMemory) }
+    {
+        if !is_driver_name(driver) {
+            return Ok(None);
+        }
+        let Ok(name) = Name::new(alloc, driver) else {
+            return Err(PlanError::NoMemory);
+        };
+        Ok(Some(Self {
+            available: true,
+            driver: Some(name),
+            verdict,
+        }))
+    }
+
+    fn undriven(driver: &[u8]) -> Option<Self>
+        ensures { result ≡ undriven driver.now }
+    {
+        let available = match driver {
+            b"-" => true,
+            b"!" => false,
+            _ => return None,
+        };
+        Some(Self {
+            available,
+            driver: None,
+            verdict: Verdict::Binds,
+        })
+    }
+
+    /// What the two fields say, if anything.
+    pub fn of(alloc: Global, driver: &[u8], word: &[u8]) -> Result<Option<Self>, PlanError>
+        ensures { MatchResult result (λ m. m ≡ matching_of driver.now word.now) (λ e. e ≡ NoMemory) }
+    {
+        match word {
+            b"ok" => Self::driven(alloc, driver, Verdict::Binds),
+            b"fail" => Self::driven(alloc, driver, Verdict::Fails),
+            b"-" => Ok(Self::undriven(driver)),
+            _ => Ok(None),
+        }
+    }
+}

@@ -1,0 +1,57 @@
+ghost use Rattle.std.specs.Prelude.{◌≡◌, ◌++◌, ◌∷◌, [], OnOk, OnErr, ◌<◌, IfSome, length, position, false};
+ghost use Rattle.std.specs.List.{list_any};
+ghost use Rattle.std.specs.Str.{bytes_eq};
+
+use indexmap::IndexSet;
+use std::alloc::{AllocError, Global};
+use std::marker::Model;
+
+/// Paths that differ, in order, each found by its bytes without a walk.
+#[derive(Drop)]
+pub struct PathIndex {
+    set: IndexSet<Vec<u8>>,
+}
+
+impl Model for PathIndex {
+    ghost use Rattle.std.specs.Prelude.{List, ℕ, map};
+
+    ghost Value = { List (List ℕ) };
+
+    ghost view = { λ index. map (λ path. path.items) index.set.keys };
+}
+
+impl PathIndex {
+    /// No paths.
+    pub fn new(alloc: Global) -> Self
+        ensures { result ≡ [] }
+    {
+        Self {
+            set: IndexSet::new(alloc),
+        }
+    }
+
+    /// The place of a path.
+    pub fn position(&self, path: &[u8]) -> Option<usize>
+        ensures { result ≡ position (bytes_eq path.now) self.now }
+    {
+        self.set.get_index_of(path)
+    }
+
+    /// Whether a path is there.
+    pub fn contains(&self, path: &[u8]) -> bool
+        ensures { result ≡ list_any (bytes_eq path.now) self.now }
+    {
+        self.set.contains(path)
+    }
+
+    /// Puts a new path last.
+    pub fn push(&mut self, alloc: Global, path: &[u8]) -> Result<(), AllocError>
+        requires { list_any (bytes_eq path.now) self.old ≡ false }
+        ensures ok { OnOk result (self.new ≡ self.old ++ path.now ∷ []) }
+        ensures err { OnErr result (self.new ≡ self.old) }
+    {
+        let key = Vec::from_slice(alloc, path)?;
+        self.set.insert(key)?;
+        Ok(())
+    }
+}

@@ -1,0 +1,123 @@
+ghost use Rattle.std.specs.Prelude.{◌≡◌, ◌<◌, ◌↔◌, [], IsTrue, IfOk, length};
+ghost use Rattle.std.specs.Option.{option_copied};
+
+use crate::device::Device;
+use crate::paths::PathIndex;
+use crate::planned::Planned;
+use crate::verdict::Verdict;
+use dt_tree::{Name, Path};
+use std::alloc::{AllocError, Global};
+use std::marker::Model;
+
+/// Devices with their drivers and suppliers, at most 512. A `Device` is a place in its order.
+#[derive(Drop)]
+pub struct Plan {
+    devices: Vec<Planned>,
+    index: PathIndex,
+}
+
+impl Model for Plan {
+    ghost use Rattle.std.specs.Prelude.{List};
+    ghost use Rattle.bus_plan.specs.Plan.{PlannedDevice};
+    ghost use Rattle.bus_plan.specs.Indexed.{IsIndexed};
+
+    ghost Value = { List PlannedDevice };
+
+    ghost view = { λ plan. plan.devices.items };
+
+    ghost invariant = { λ plan. IsIndexed plan.devices.items plan.index };
+}
+
+impl Plan {
+    ghost use Rattle.bus_plan.specs.Plan.{path_of, is_available, driver_of, verdict_of, suppliers_of, device_at, IsLawful};
+    ghost use Rattle.bus_plan.specs.Indexed.{IsIndexed};
+
+    /// The plan of these devices.
+    pub(crate) fn new(devices: Vec<Planned>, index: PathIndex) -> Self
+        requires { IsIndexed devices.items index }
+        ensures { result ≡ devices.items }
+    {
+        Self { devices, index }
+    }
+
+    /// Costs nothing: tells a caller's proof that the plan is lawful.
+    pub fn check(&self)
+        ensures { IsLawful self.now }
+    {
+        let _ = &self.devices;
+    }
+
+    /// How many devices there are.
+    pub fn len(&self) -> usize
+        ensures { result ≡ length self.now }
+    {
+        self.devices.len()
+    }
+
+    /// Whether there is no device.
+    pub fn is_empty(&self) -> bool
+        ensures { IsTrue result ↔ (self.now ≡ []) }
+    {
+        self.devices.is_empty()
+    }
+
+    /// A device's path.
+    pub fn path(&self, device: Device) -> &Path
+        requires { device < length self.now }
+        ensures { result.now ≡ path_of self.now device }
+    {
+        self.devices[device.index()].path()
+    }
+
+    /// Whether a device may be used.
+    pub fn available(&self, device: Device) -> bool
+        requires { device < length self.now }
+        ensures { result ≡ is_available self.now device }
+    {
+        self.devices[device.index()].available()
+    }
+
+    /// The driver that matches a device.
+    pub fn driver(&self, device: Device) -> Option<&Name>
+        requires { device < length self.now }
+        ensures { option_copied result ≡ driver_of self.now device }
+    {
+        self.devices[device.index()].driver()
+    }
+
+    /// What a device's driver does once the device is ready.
+    pub fn verdict(&self, device: Device) -> Verdict
+        requires { device < length self.now }
+        ensures { result ≡ verdict_of self.now device }
+    {
+        self.devices[device.index()].verdict()
+    }
+
+    /// The devices that have to be bound before a device, in the order of the plan file.
+    pub fn suppliers(&self, device: Device) -> &[Device]
+        requires { device < length self.now }
+        ensures { result.now ≡ suppliers_of self.now device }
+    {
+        self.devices[device.index()].suppliers()
+    }
+
+    /// The device at a path, by a look-up that takes no memory.
+    pub fn device(&self, path: &[u8]) -> Option<Device>
+        ensures { result ≡ device_at self.now path.now }
+    {
+        self.index.position(path).map(Device::new)
+    }
+
+    /// An equal plan.
+    pub fn copy(&self, alloc: Global) -> Result<Self, AllocError>
+        ensures { IfOk result (λ plan. plan ≡ self.now) }
+    {
+        let mut devices = Vec::with_capacity(alloc, self.devices.len())?;
+        let mut index = PathIndex::new(alloc);
+        for device in &self.devices {
+            index.push(alloc, device.path().as_bytes())?;
+            devices.push(device.copy(alloc)?)?;
+        }
+        Ok(Self { devices, index })
+    }
+}

@@ -1,0 +1,14 @@
+ghost use Rattle.bus_plan.specs.PlanFile.{reading, Answers};
+
+use crate::error::PlanError;
+use crate::listing::Listing;
+use crate::plan::Plan;
+use std::alloc::Global;
+
+/// Reads a plan file. The first fault in line order is answered; unknown suppliers come after all other faults.
+pub fn read_plan(alloc: Global, text: &[u8]) -> Result<Plan, PlanError>
+    ensures { Answers (reading text.now) result }
+{
+    let listing = Listing::read(alloc, text)?;
+    listing.plan(alloc)
+}

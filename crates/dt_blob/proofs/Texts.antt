@@ -1,0 +1,129 @@
+-- Values as text: cells one by one, and how long a text is.
+use Rattle.std.proofs.Common.{◌≡◌, ℕ, suc, ◌+◌, ◌*◌, ◌/◌, ◌%◌, ◌<◌, ◌≤◌, Bool, true, false, List, [], ◌∷◌, ◌++◌, length, take, drop, get_or, refl, sym, ap, ◌∙◌, arith, length-append, length-drop, append_assoc, drop-cons}
+use Rattle.std.proofs.lemmas.Bool.{eqb-true}
+use Rattle.std.specs.Prelude.{◌==◌, ◌||◌, codes, if◌then◌else◌}
+use Rattle.dt_blob.specs.SourceText.{hex_of, space, are_strings, character, comma, strings_text, cells_text, pairs_text, value_text, value_part}
+
+four : (xs : List ℕ) (i : ℕ) → i + 4 ≤ length xs → drop i xs ≡ get_or xs i 0 ∷ get_or xs (suc i) 0 ∷ get_or xs (suc (suc i)) 0 ∷ get_or xs (suc (suc (suc i))) 0 ∷ drop (suc (suc (suc (suc i)))) xs
+four xs i h =
+    drop-cons xs i 0 (omega arith)
+    ∙ ap (λ ys. get_or xs i 0 ∷ ys) (drop-cons xs (suc i) 0 (omega arith)
+    ∙ ap (λ ys. get_or xs (suc i) 0 ∷ ys) (drop-cons xs (suc (suc i)) 0 (omega arith)
+    ∙ ap (λ ys. get_or xs (suc (suc i)) 0 ∷ ys) (drop-cons xs (suc (suc (suc i))) 0 (omega arith))))
+
+cells-next : (later : Bool) (xs : List ℕ) (i : ℕ) → i + 4 ≤ length xs → cells_text later (drop i xs) ≡ space later ++ (48 ∷ 120 ∷ (hex_of (take 4 (drop i xs)) ++ cells_text true (drop (suc (suc (suc (suc i)))) xs)))
+cells-next later xs i h = rw (four xs i h) refl
+
+-- one cell more
+pub cells-step : (o s x h piece v last : List ℕ) (later : Bool) (k : ℕ) → s ≡ o ++ space later → x ≡ s ++ (48 ∷ 120 ∷ []) → h ≡ x ++ hex_of piece → piece ≡ take 4 (drop (4 * k) v) → 4 * k + 4 ≤ length v → o ++ cells_text later (drop (4 * k) v) ≡ last → h ++ cells_text true (drop (4 * (k + 1)) v) ≡ last
+cells-step o s x h piece v last later k es ex eh ep room left =
+    let n : 4 * (k + 1) ≡ suc (suc (suc (suc (4 * k)))) = omega arith in
+    let e = cells-next later v (4 * k) room in
+    rw (eh, ex, es, ep, n) (simp append_assoc (ap (λ ys. o ++ ys) (sym e) ∙ left))
+
+-- what is no cell
+pub cells-short : (later : Bool) (xs : List ℕ) → length xs < 4 → cells_text later xs ≡ []
+cells-short later [] h = refl
+cells-short later (a ∷ []) h = refl
+cells-short later (a ∷ b ∷ []) h = refl
+cells-short later (a ∷ b ∷ c ∷ []) h = refl
+cells-short later (a ∷ b ∷ c ∷ d ∷ xs) h = absurd (omega arith)
+
+pub length-hex : (xs : List ℕ) → length (hex_of xs) ≡ 2 * length xs
+length-hex [] = refl
+length-hex (x ∷ xs) = omega (arith, length-hex xs)
+
+length-later_cells : (xs : List ℕ) → length (cells_text true xs) ≡ length xs / 4 * 11
+length-later_cells [] = refl
+length-later_cells (a ∷ []) = refl
+length-later_cells (a ∷ b ∷ []) = refl
+length-later_cells (a ∷ b ∷ c ∷ []) = refl
+length-later_cells (a ∷ b ∷ c ∷ d ∷ xs) = omega (arith, length-later_cells xs)
+
+pub length-cells : (xs : List ℕ) → 4 ≤ length xs → length (cells_text false xs) + 1 ≡ length xs / 4 * 11
+length-cells [] h = absurd (omega arith)
+length-cells (a ∷ []) h = absurd (omega arith)
+length-cells (a ∷ b ∷ []) h = absurd (omega arith)
+length-cells (a ∷ b ∷ c ∷ []) h = absurd (omega arith)
+length-cells (a ∷ b ∷ c ∷ d ∷ xs) h = omega (arith, length-later_cells xs)
+
+length-later_pairs : (xs : List ℕ) → length (pairs_text true xs) ≡ length xs * 3
+length-later_pairs [] = refl
+length-later_pairs (x ∷ xs) = omega (arith, length-later_pairs xs)
+
+pub length-pairs : (xs : List ℕ) → 0 < length xs → length (pairs_text false xs) + 1 ≡ length xs * 3
+length-pairs [] h = absurd (omega arith)
+length-pairs (x ∷ xs) h = omega (arith, length-later_pairs xs)
+
+-- bytes that aren't strings are some
+pub not-none : (xs : List ℕ) → are_strings false xs ≡ false → 0 < length xs
+not-none [] e = absurd (cc)
+not-none (x ∷ xs) e = omega arith
+
+length-comma : (t : Bool) (xs : List ℕ) → length xs ≤ length (comma t ++ xs)
+length-comma true xs = omega arith
+length-comma false xs = omega arith
+
+character-by : (s t : Bool) (b : ℕ) → 1 ≤ length (if s then 34 ∷ [] else (if t then 92 ∷ b ∷ [] else b ∷ []))
+character-by true t b = omega arith
+character-by false true b = omega arith
+character-by false false b = omega arith
+
+pub length-strings : (ended : Bool) (xs : List ℕ) → length xs ≤ length (strings_text ended xs)
+length-strings ended [] = omega arith
+length-strings ended (x ∷ xs) = omega (arith, length-strings (x == 0) xs, length-comma ended (character x ++ strings_text (x == 0) xs), length-append (character x) (strings_text (x == 0) xs), character-by (x == 0) (x == 34 || x == 92) x)
+
+append_nil : (xs : List ℕ) → xs ++ [] ≡ xs
+append_nil [] = refl
+append_nil (x ∷ xs) = ap (λ ys. x ∷ ys) (append_nil xs)
+
+-- behind the last cell
+pub cells-end : (first o p v : List ℕ) (later : Bool) (k : ℕ) → length v / 4 ≤ k → o ++ cells_text later (drop (4 * k) v) ≡ first ++ 60 ∷ cells_text false v → p ≡ o ++ 62 ∷ [] → p ≡ first ++ 60 ∷ (cells_text false v ++ 62 ∷ [])
+cells-end first o p v later k h left e =
+    let none : cells_text later (drop (4 * k) v) ≡ [] = cells-short later (drop (4 * k) v) (omega (arith, length-drop (4 * k) v)) in
+    let o-is : o ≡ first ++ 60 ∷ cells_text false v = sym (append_nil o) ∙ ap (λ ys. o ++ ys) (sym none) ∙ left in
+    e ∙ ap (λ ys. ys ++ 62 ∷ []) o-is ∙ simp append_assoc
+
+text-by : (s t : Bool) (a b c : List ℕ) → s ≡ false → t ≡ true → (if s then a else (if t then b else c)) ≡ b
+text-by true t a b c p q = absurd (cc)
+text-by false true a b c p q = refl
+text-by false false a b c p q = absurd (cc)
+
+text-first : (s : Bool) (a b : List ℕ) → s ≡ true → (if s then a else b) ≡ a
+text-first true a b p = refl
+text-first false a b p = absurd (cc)
+
+text-second : (s : Bool) (a b : List ℕ) → s ≡ false → (if s then a else b) ≡ b
+text-second true a b p = absurd (cc)
+text-second false a b p = refl
+
+text-else : (s t : Bool) (a b c : List ℕ) → s ≡ false → t ≡ false → (if s then a else (if t then b else c)) ≡ c
+text-else true t a b c p q = absurd (cc)
+text-else false true a b c p q = absurd (cc)
+text-else false false a b c p q = refl
+
+pub length-by_cells : (v : List ℕ) → are_strings false v ≡ false → (length v % 4 == 0) ≡ true → length v % 4 ≡ 0 → length v / 4 * 11 + 1 ≡ length (value_text v)
+length-by_cells v s t m =
+    let e = text-by (are_strings false v) (length v % 4 == 0) (34 ∷ strings_text false v) (60 ∷ (cells_text false v ++ 62 ∷ [])) (91 ∷ (pairs_text false v ++ 93 ∷ [])) s t in
+    omega (arith, ap length e, length-append (cells_text false v) (62 ∷ []), length-cells v (omega (arith, not-none v s)))
+
+pub length-by_pairs : (v : List ℕ) → are_strings false v ≡ false → (length v % 4 == 0) ≡ false → length v * 3 + 1 ≡ length (value_text v)
+length-by_pairs v s t =
+    let e = text-else (are_strings false v) (length v % 4 == 0) (34 ∷ strings_text false v) (60 ∷ (cells_text false v ++ 62 ∷ [])) (91 ∷ (pairs_text false v ++ 93 ∷ [])) s t in
+    omega (arith, ap length e, length-append (pairs_text false v) (93 ∷ []), length-pairs v (not-none v s))
+
+-- a text is no shorter than its value
+value-by : (s t : Bool) (v : List ℕ) → are_strings false v ≡ s → (length v % 4 == 0) ≡ t → length v ≤ length (value_text v)
+value-by true t v p q = omega (arith, length-strings false v, ap length (text-first (are_strings false v) (34 ∷ strings_text false v) (if length v % 4 == 0 then 60 ∷ (cells_text false v ++ 62 ∷ []) else 91 ∷ (pairs_text false v ++ 93 ∷ [])) p))
+value-by false true v p q = omega (arith, length-by_cells v p q (eqb-true (length v % 4) 0 q), eqb-true (length v % 4) 0 q)
+value-by false false v p q = omega (arith, length-by_pairs v p q)
+
+pub value-shorter : (v : List ℕ) → length v ≤ length (value_text v)
+value-shorter v = value-by (are_strings false v) (length v % 4 == 0) v refl refl
+
+part-by : (t : Bool) (v : List ℕ) → (length v == 0) ≡ t → length v ≤ length (value_part v)
+part-by true v q = omega (arith, eqb-true (length v) 0 q)
+part-by false v q = omega (arith, value-shorter v, ap length (text-second (length v == 0) (codes ";\n") (codes " = " ++ (value_text v ++ codes ";\n")) q), length-append (value_text v) (codes ";\n"))
+
+pub part-shorter : (v : List ℕ) → length v ≤ length (value_part v)
+part-shorter v = part-by (length v == 0) v refl

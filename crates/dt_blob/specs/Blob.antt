@@ -1,0 +1,65 @@
+-- The blob of a tree (Devicetree Specification v0.4, chapter 5, version 17).
+use Rattle.std.specs.Prelude.{ℕ, ◌+◌, ◌-◌, ◌%◌, List, [], ◌∷◌, ◌++◌, length, take}
+use Rattle.dt_tree.specs.TreeData.{TreeData}
+use Rattle.dt_blob.specs.BigEndian.{word, double_word}
+use Rattle.dt_blob.specs.Strings.{offset_in, with_name, with_names}
+use Rattle.dt_blob.specs.Token.{Token, begin_node, end_node, property, nop, end, tree_tokens}
+
+-- the most bytes of a blob or of a text
+abbrev pub limit : ℕ
+limit = 268435456
+
+-- zero bytes that lead from n bytes to a multiple of 4
+abbrev pub padding : ℕ → List ℕ
+padding n = take ((4 - n % 4) % 4) (0 ∷ 0 ∷ 0 ∷ [])
+
+-- a token as bytes, a property's name as its offset in the strings so far (section 5.4.1)
+abbrev pub token_bytes : List ℕ → Token → List ℕ
+token_bytes strings (begin_node name) = word 1 ++ (name ++ 0 ∷ padding (length name + 1))
+token_bytes strings end_node = word 2
+token_bytes strings (property name value) = word 3 ++ (word (length value) ++ (word (offset_in strings name) ++ (value ++ padding (length value))))
+token_bytes strings nop = word 4
+token_bytes strings end = word 9
+
+-- the strings once a token is written
+abbrev pub strings_after : List ℕ → Token → List ℕ
+strings_after strings (begin_node name) = strings
+strings_after strings end_node = strings
+strings_after strings (property name value) = with_name strings name
+strings_after strings nop = strings
+strings_after strings end = strings
+
+-- the structure block, from the strings so far
+abbrev pub structure_from : List ℕ → List Token → List ℕ
+structure_from strings [] = []
+structure_from strings (token ∷ tokens) = token_bytes strings token ++ structure_from (strings_after strings token) tokens
+
+-- the properties' names, in order
+abbrev pub names_in : List Token → List (List ℕ)
+names_in [] = []
+names_in (begin_node name ∷ tokens) = names_in tokens
+names_in (end_node ∷ tokens) = names_in tokens
+names_in (property name value ∷ tokens) = name ∷ names_in tokens
+names_in (nop ∷ tokens) = names_in tokens
+names_in (end ∷ tokens) = names_in tokens
+
+-- the reserved memory, with its end (section 5.3)
+abbrev pub reservations : List (ℕ × ℕ) → List ℕ
+reservations [] = double_word 0 ++ double_word 0
+reservations (r ∷ rs) = double_word r.0 ++ (double_word r.1 ++ reservations rs)
+
+-- the header, from the processor that boots and the sizes of the three blocks behind it (section 5.2)
+abbrev pub header : ℕ → ℕ → ℕ → ℕ → List ℕ
+header boot_cpu reserved structure strings =
+    word 3490578157 ++ (word (40 + reserved + structure + strings) ++ (word (40 + reserved) ++ (word (40 + reserved + structure) ++ (word 40
+    ++ (word 17 ++ (word 16 ++ (word boot_cpu ++ (word strings ++ word structure))))))))
+
+-- the blocks in order, without gaps
+abbrev pub assembled : ℕ → List ℕ → List ℕ → List ℕ → List ℕ
+assembled boot_cpu reserved structure strings =
+    header boot_cpu (length reserved) (length structure) (length strings) ++ (reserved ++ (structure ++ strings))
+
+abbrev pub blob_of : TreeData → List ℕ
+blob_of tree =
+    let tokens = tree_tokens tree.root in
+    assembled tree.boot_cpu (reservations tree.reserves) (structure_from [] tokens) (with_names [] (names_in tokens))

@@ -1,0 +1,62 @@
+-- The header of a blob: Devicetree Specification v0.4, section 5.2.
+use Rattle.std.specs.Prelude.{ℕ, ◌+◌, ◌%◌, ◌^◌, Bool, not, ◌&&◌, ◌||◌, ◌==◌, nat_lt, nat_le, List, length, drop, take, Option, Some, None, if◌then◌else◌}
+use Rattle.byteorder.specs.Endian.{big_number}
+use Rattle.dt_blob.specs.declared.error.BlobError.{BlobError}
+use Rattle.dt_blob.specs.declared.error.BlobError.TheVariants.{TooLarge, Truncated, BadMagic, BadVersion, BadLayout}
+use Rattle.dt_blob.specs.declared.read_header.Header.{Header}
+
+-- the 32-bit number at a place
+abbrev pub word_at : ℕ → List ℕ → ℕ
+word_at place bytes = big_number 4 (drop place bytes)
+
+-- the ten words, in their order
+abbrev pub header_of : List ℕ → Header
+header_of bytes = record {
+  magic = word_at 0 bytes;
+  size = word_at 4 bytes;
+  structure_at = word_at 8 bytes;
+  strings_at = word_at 12 bytes;
+  reserves_at = word_at 16 bytes;
+  version = word_at 20 bytes;
+  last_compatible = word_at 24 bytes;
+  boot_cpu = word_at 28 bytes;
+  strings_size = word_at 32 bytes;
+  structure_size = word_at 36 bytes;
+}
+
+-- both blocks lie inside the blob, and the words that want it are aligned
+abbrev pub is_laid_out : Header → Bool
+is_laid_out h =
+    nat_le 40 h.size && nat_le (h.structure_at + h.structure_size) h.size && nat_le (h.strings_at + h.strings_size) h.size
+    && h.structure_at % 4 == 0 && h.reserves_at % 8 == 0
+
+-- the first fault of a header that stands before so many bytes
+abbrev pub fault_in : Header → ℕ → Option BlobError
+fault_in h len =
+    if not (h.magic == 0xd00dfeed) then Some BadMagic
+    else (if nat_lt h.version 17 || nat_lt 17 h.last_compatible then Some BadVersion
+    else (if nat_lt len h.size then Some Truncated
+    else (if not (is_laid_out h) then Some BadLayout else None)))
+
+-- the first fault of the bytes that the header shows, in the order of the tests
+unfoldable pub header_fault : List ℕ → Option BlobError
+header_fault bytes =
+    if nat_lt (2 ^ 28) (length bytes) then Some TooLarge
+    else (if nat_lt (length bytes) 40 then Some Truncated
+    else fault_in (header_of bytes) (length bytes))
+
+-- the bytes of the blob that begin at a place, and the bytes of a block
+abbrev pub from_place : ℕ → ℕ → List ℕ → List ℕ
+from_place place size bytes = drop place (take size bytes)
+
+abbrev pub block : ℕ → ℕ → List ℕ → List ℕ
+block place size bytes = take size (drop place bytes)
+
+abbrev pub strings_of : List ℕ → List ℕ
+strings_of bytes = let h = header_of bytes in block h.strings_at h.strings_size bytes
+
+abbrev pub structure_of : List ℕ → List ℕ
+structure_of bytes = let h = header_of bytes in block h.structure_at h.structure_size bytes
+
+abbrev pub reserves_of : List ℕ → List ℕ
+reserves_of bytes = let h = header_of bytes in from_place h.reserves_at h.size bytes

@@ -1,0 +1,15 @@
+pub mod BigEndian
+pub mod Blob
+pub mod BlobError
+pub mod HeaderWords
+pub mod Holds
+pub mod InRange
+pub mod Opened
+pub mod Printed
+pub mod Reading
+pub mod SourceText
+pub mod Strings
+pub mod Table
+pub mod Token
+pub mod TreeFault
+pub mod Written

@@ -1,0 +1,105 @@
+ghost use Rattle.std.specs.Prelude.{◌≡◌};
+ghost use Rattle.dt_blob.specs.BlobError.{number_of, name_of};
+
+use dt_tree::TreeError;
+use std::alloc::{AllocError, AllocFailed};
+use thiserror::Error;
+
+/// Why a blob or a text could not be made, or bytes are no blob.
+#[derive(Clone, Copy, Debug, Drop, PartialEq, Eq, Error)]
+pub enum BlobError {
+    #[error("out of memory")]
+    NoMemory,
+    #[error("the bytes end before the blob does")]
+    Truncated,
+    #[error("the bytes do not begin with the magic number")]
+    BadMagic,
+    #[error("the version is none that can be read")]
+    BadVersion,
+    #[error("a block of the blob is out of place")]
+    BadLayout,
+    #[error("the structure block has a bad token")]
+    BadToken,
+    #[error("a name does not end inside its block")]
+    BadString,
+    #[error("a property stands after a child node")]
+    PropertyAfterNode,
+    #[error("the nodes make no lawful tree")]
+    BadTree,
+    #[error("more than 268,435,456 bytes")]
+    TooLarge,
+}
+
+impl From<AllocError> for BlobError {
+    ghost use Rattle.std.specs.Prelude.{◌≡◌};
+    ghost use Rattle.dt_blob.specs.declared.error.BlobError.TheVariants.{NoMemory};
+
+    ghost from_gives = { λ _ e. e ≡ NoMemory };
+
+    fn from(_e: AllocError) -> BlobError {
+        BlobError::NoMemory
+    }
+}
+
+impl<T: Drop> From<AllocFailed<T>> for BlobError {
+    ghost use Rattle.std.specs.Prelude.{◌≡◌};
+    ghost use Rattle.dt_blob.specs.declared.error.BlobError.TheVariants.{NoMemory};
+
+    ghost from_gives = { λ _ e. e ≡ NoMemory };
+
+    fn from(_e: AllocFailed<T>) -> BlobError {
+        BlobError::NoMemory
+    }
+}
+
+impl From<TreeError> for BlobError {
+    ghost use Rattle.std.specs.Prelude.{◌≡◌};
+    ghost use Rattle.dt_blob.specs.TreeFault.{fault_of_tree};
+
+    ghost from_gives = { λ t e. e ≡ fault_of_tree t };
+
+    fn from(e: TreeError) -> BlobError {
+        match e {
+            TreeError::NoMemory => BlobError::NoMemory,
+            _ => BlobError::BadTree,
+        }
+    }
+}
+
+impl BlobError {
+    /// The number of the error, 0 for want of memory.
+    pub fn number(&self) -> u8
+        ensures { result ≡ number_of self.now }
+    {
+        match self {
+            BlobError::NoMemory => 0,
+            BlobError::Truncated => 30,
+            BlobError::BadMagic => 31,
+            BlobError::BadVersion => 32,
+            BlobError::BadLayout => 33,
+            BlobError::BadToken => 34,
+            BlobError::BadString => 35,
+            BlobError::PropertyAfterNode => 36,
+            BlobError::BadTree => 37,
+            BlobError::TooLarge => 38,
+        }
+    }
+
+    /// The name of the error, as its variant is written.
+    pub fn name(&self) -> &'static str
+        ensures { result.now ≡ name_of self.now }
+    {
+        match self {
+            BlobError::NoMemory => "NoMemory",
+            BlobError::Truncated => "Truncated",
+            BlobError::BadMagic => "BadMagic",
+            BlobError::BadVersion => "BadVersion",
+            BlobError::BadLayout => "BadLayout",
+            BlobError::BadToken => "BadToken",
+            BlobError::BadString => "BadString",
+            BlobError::PropertyAfterNode => "PropertyAfterNode",
+            BlobError::BadTree => "BadTree",
+            BlobError::TooLarge => "TooLarge",
+        }
+    }
+}

@@ -1,0 +1,30 @@
+//! Flattened devicetree blobs: made of a tree, read into one, and a tree printed as a source.
+#![tactic(auto)]
+
+mod assembly;
+mod bytes;
+mod error;
+mod header;
+mod names;
+mod printing;
+mod read_blob;
+mod read_header;
+mod read_laws;
+mod read_nodes;
+mod read_reserves;
+mod read_token;
+mod room;
+mod strings;
+mod value_text;
+mod writer;
+
+pub use assembly::write;
+pub use error::BlobError;
+pub use printing::source_text;
+pub use read_blob::read;
+pub use read_laws::{blob_holds, one_tree};
+
+#[cfg(test)]
+mod read_tests;
+#[cfg(test)]
+mod write_tests;

@@ -1,0 +1,58 @@
+//! Reading a blob.
+ghost use Rattle.std.specs.Prelude.{◌≡◌, ◌≤◌, ◌+◌, ◌↔◌, length, IfOk, IsErrOf, MatchResult, Some};
+ghost use Rattle.dt_tree.specs.TreeData.{TreeData};
+ghost use Rattle.dt_blob.specs.HeaderWords.{block, header_fault};
+ghost use Rattle.dt_blob.specs.Holds.{Holds};
+ghost use Rattle.dt_blob.specs.Reading.{RefusesAll, tree_in};
+
+use crate::error::BlobError;
+use crate::read_header::read_header;
+use crate::read_nodes::read_root;
+use crate::read_reserves::read_reserves;
+use crate::read_token::{behind, first};
+use dt_tree::Tree;
+use std::alloc::Global;
+
+fn block(bytes: &[u8], place: u32, size: u32) -> &[u8]
+    requires { place + size ≤ length bytes.now }
+    ensures { result.now ≡ block place size bytes.now }
+{
+    first(behind(bytes, place as usize), size as usize)
+}
+
+fn whole(alloc: Global, bytes: &[u8]) -> Result<Tree, BlobError>
+    ensures { MatchResult result (λ t. tree_in bytes.now ≡ Some t) (λ e. RefusesAll e (header_fault bytes.now) (tree_in bytes.now)) }
+{
+    let header = read_header(bytes)?;
+    let blob = first(bytes, header.size as usize);
+    if header.size < header.reserves_at {
+        return Err(BlobError::BadLayout);
+    }
+    let reserves = read_reserves(alloc, behind(blob, header.reserves_at as usize))?;
+    let strings = block(bytes, header.strings_at, header.strings_size);
+    let structure = block(bytes, header.structure_at, header.structure_size);
+    let root = read_root(alloc, strings, structure)?;
+    let tree = Tree::new(reserves, header.boot_cpu, root)?;
+    Ok(tree)
+}
+
+/// The tree that the bytes hold; what stands behind the size that the header gives isn't looked at.
+///
+/// The header's tests come first, in their order; then the reservations, whose end may be missing (`BadLayout`);
+/// then the structure block from its beginning, where a value past the block comes before the name of its property,
+/// a bad token before its misplacement, and equal siblings at the end of their node. Takes memory for the tree alone.
+pub fn read(alloc: Global, bytes: &[u8]) -> Result<Tree, BlobError>
+    // What is read is held.
+    ensures found { IfOk result (λ tree. Holds bytes.now tree) }
+    // What is held is read, unless memory runs out.
+    ensures only { (tree : TreeData) → Holds bytes.now tree → MatchResult result (λ found. found ≡ tree) (λ e. e ≡ BlobError.NoMemory) }
+    // These refusals come exactly where the header has that fault first.
+    ensures too_large { IsErrOf result BlobError.TooLarge ↔ (header_fault bytes.now ≡ Some BlobError.TooLarge) }
+    ensures truncated { IsErrOf result BlobError.Truncated ↔ (header_fault bytes.now ≡ Some BlobError.Truncated) }
+    ensures bad_magic { IsErrOf result BlobError.BadMagic ↔ (header_fault bytes.now ≡ Some BlobError.BadMagic) }
+    ensures bad_version { IsErrOf result BlobError.BadVersion ↔ (header_fault bytes.now ≡ Some BlobError.BadVersion) }
+{
+    let tree = whole(alloc, bytes)?;
+    tree.check();
+    Ok(tree)
+}

@@ -1,0 +1,170 @@
+//! The nodes that tokens make.
+ghost use Rattle.std.specs.Prelude.{◌≡◌, [], ◌∷◌, Some, None, if◌then◌else◌};
+ghost use Rattle.dt_tree.specs.NodeView.{name_bytes};
+ghost use Rattle.dt_tree.specs.Name.{is_name};
+ghost use Rattle.dt_blob.specs.Opened.{opened, opened_of, state_of, begin_in, property_in, node_of, end_in, is_end, advance, begun, root_from};
+ghost use Rattle.dt_blob.specs.Reading.{Gives, token_of, tokens_at, left};
+ghost use Rattle.dt_blob.specs.Token.{end};
+
+use crate::error::BlobError;
+use crate::read_token::{BlobToken, token};
+use dt_tree::{Bytes, Name, Node, Property};
+use std::alloc::Global;
+
+/// The most nodes round a node.
+const MAX_DEPTH: usize = 64;
+
+/// A node whose end hasn't come.
+#[derive(Drop)]
+pub(crate) struct OpenNode {
+    name: Option<Name>,
+    properties: Vec<Property>,
+    children: Vec<Node>,
+}
+
+/// How far the tokens so far have come: in a node with those round it, the outermost first, or behind the root.
+#[derive(Drop)]
+pub(crate) enum Progress {
+    Nothing,
+    Inside(OpenNode, Vec<OpenNode>),
+    Behind(Node),
+}
+
+fn open(alloc: Global, name: Option<Name>) -> OpenNode
+    ensures { opened_of result ≡ opened (name_bytes name) [] [] }
+{
+    OpenNode {
+        name,
+        properties: Vec::new(alloc),
+        children: Vec::new(alloc),
+    }
+}
+
+fn lawful(alloc: Global, name: &[u8]) -> Result<Name, BlobError>
+    ensures { Gives (λ n. n) result (if is_name name.now then Some name.now else None) }
+{
+    Ok(Name::new(alloc, name)?)
+}
+
+fn begin(alloc: Global, progress: Progress, name: &[u8]) -> Result<Progress, BlobError>
+    ensures { Gives state_of result (begin_in (state_of progress) name.now) }
+{
+    match progress {
+        Progress::Nothing => {
+            if !name.is_empty() {
+                return Err(BlobError::BadTree);
+            }
+            Ok(Progress::Inside(open(alloc, None), Vec::new(alloc)))
+        }
+        Progress::Inside(top, mut outer) => {
+            let name = lawful(alloc, name)?;
+            if outer.len() >= MAX_DEPTH {
+                return Err(BlobError::BadTree);
+            }
+            outer.push(top)?;
+            Ok(Progress::Inside(open(alloc, Some(name)), outer))
+        }
+        Progress::Behind(_) => Err(BlobError::BadToken),
+    }
+}
+
+fn add_property(
+    alloc: Global,
+    progress: Progress,
+    name: &[u8],
+    value: &[u8],
+) -> Result<Progress, BlobError>
+    ensures { Gives state_of result (property_in (state_of progress) name.now value.now) }
+{
+    match progress {
+        Progress::Inside(mut top, outer) => {
+            if !top.children.is_empty() {
+                return Err(BlobError::PropertyAfterNode);
+            }
+            let name = lawful(alloc, name)?;
+            let value = Bytes::from_vec(Vec::from_slice(alloc, value)?);
+            top.properties.push(Property { name, value })?;
+            Ok(Progress::Inside(top, outer))
+        }
+        _ => Err(BlobError::BadToken),
+    }
+}
+
+fn end(alloc: Global, progress: Progress) -> Result<Progress, BlobError>
+    ensures { Gives state_of result (end_in (state_of progress)) }
+{
+    match progress {
+        Progress::Inside(top, mut outer) => {
+            let node = closed(alloc, top)?;
+            match outer.pop() {
+                None => Ok(Progress::Behind(node)),
+                Some(mut parent) => {
+                    parent.children.push(node)?;
+                    Ok(Progress::Inside(parent, outer))
+                }
+            }
+        }
+        _ => Err(BlobError::BadToken),
+    }
+}
+
+fn closed(alloc: Global, top: OpenNode) -> Result<Node, BlobError>
+    ensures { Gives (λ n. n) result (node_of (opened_of top)) }
+{
+    let OpenNode {
+        name,
+        properties,
+        children,
+    } = top;
+    Ok(Node::new(alloc, name, properties, children)?)
+}
+
+fn advance(alloc: Global, progress: Progress, token: BlobToken<'_>) -> Result<Progress, BlobError>
+    ensures { Gives state_of result (advance (state_of progress) (token_of token.entry)) }
+{
+    match token {
+        BlobToken::BeginNode(name) => begin(alloc, progress, name),
+        BlobToken::Property(name, value) => add_property(alloc, progress, name, value),
+        BlobToken::EndNode => end(alloc, progress),
+        BlobToken::Nop => Ok(progress),
+        BlobToken::End => Err(BlobError::BadToken),
+    }
+}
+
+fn is_end(token: BlobToken<'_>) -> bool
+    ensures { result ≡ is_end (token_of token.entry) }
+{
+    matches!(token, BlobToken::End)
+}
+
+// The root, where it is whole and nothing follows the END.
+fn finish(progress: Progress, rest: &[u8]) -> Result<Node, BlobError>
+    ensures { Gives (λ n. n) result (root_from (state_of progress) (end ∷ left rest.now)) }
+{
+    if !rest.is_empty() {
+        return Err(BlobError::BadToken);
+    }
+    match progress {
+        Progress::Nothing => Err(BlobError::BadToken),
+        Progress::Inside(_, _) => Err(BlobError::BadToken),
+        Progress::Behind(root) => Ok(root),
+    }
+}
+
+/// The root that the structure block spells.
+///
+/// Faults come in the order of the block; equal siblings are found at the end of their node.
+pub(crate) fn read_root(alloc: Global, strings: &[u8], structure: &[u8]) -> Result<Node, BlobError>
+    ensures { Gives (λ n. n) result (root_from begun (tokens_at strings.now structure.now)) }
+{
+    let mut progress = Progress::Nothing;
+    let mut rest = structure;
+    'tokens: loop {
+        let (next, behind) = token(strings, rest)?;
+        rest = behind;
+        if is_end(next) {
+            return finish(progress, rest);
+        }
+        progress = advance(alloc, progress, next)?;
+    }
+}

@@ -1,0 +1,36 @@
+//! The block of memory reservations.
+ghost use Rattle.std.specs.Prelude.{◌≡◌, ◌≤◌, length};
+ghost use Rattle.byteorder.specs.Endian.{big_number};
+ghost use Rattle.dt_blob.specs.Reading.{Gives, reserves_at};
+
+use crate::error::BlobError;
+use crate::read_token::behind;
+use byteorder::{BigEndian, ByteOrder};
+use std::alloc::Global;
+
+fn long(bytes: &[u8]) -> u64
+    requires { 8 ≤ length bytes.now }
+    ensures { result ≡ big_number 8 bytes.now }
+{
+    BigEndian::read_u64(bytes)
+}
+
+/// The addresses and sizes before the first pair of zeros; `BadLayout` where none comes.
+pub(crate) fn read_reserves(alloc: Global, bytes: &[u8]) -> Result<Vec<(u64, u64)>, BlobError>
+    ensures { Gives (λ v. v.items) result (reserves_at bytes.now) }
+{
+    let mut reserves = Vec::new(alloc);
+    let mut rest = bytes;
+    'pairs: loop {
+        if rest.len() < 16 {
+            return Err(BlobError::BadLayout);
+        }
+        let address = long(rest);
+        let size = long(behind(rest, 8));
+        if address == 0 && size == 0 {
+            return Ok(reserves);
+        }
+        rest = behind(rest, 16);
+        reserves.push((address, size))?;
+    }
+}

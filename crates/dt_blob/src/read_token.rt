@@ -1,0 +1,140 @@
+//! The tokens of the structure block, one by one.
+ghost use Rattle.std.specs.Prelude.{◌≡◌, ◌≤◌, ◌<◌, ◌+◌, ◌^◌, length, take, drop, IfOk, IfSome};
+ghost use Rattle.byteorder.specs.Endian.{big_number};
+ghost use Rattle.dt_blob.specs.Reading.{Gives, token_of, zero_in, padded, begin_at, string_at, value_at, property_at, token_at};
+
+use crate::error::BlobError;
+use bstr::ByteSlice;
+use byteorder::{BigEndian, ByteOrder};
+
+/// A token whose texts the blob lends.
+#[derive(Clone, Copy)]
+pub(crate) enum BlobToken<'a> {
+    BeginNode(&'a [u8]),
+    EndNode,
+    Property(&'a [u8], &'a [u8]),
+    Nop,
+    End,
+}
+
+pub(crate) fn word(bytes: &[u8]) -> u32
+    requires { 4 ≤ length bytes.now }
+    ensures { result ≡ big_number 4 bytes.now }
+{
+    BigEndian::read_u32(bytes)
+}
+
+pub(crate) fn behind(bytes: &[u8], count: usize) -> &[u8]
+    requires { count ≤ length bytes.now }
+    ensures { result.now ≡ drop count bytes.now }
+{
+    &bytes[count..]
+}
+
+pub(crate) fn first(bytes: &[u8], count: usize) -> &[u8]
+    requires { count ≤ length bytes.now }
+    ensures { result.now ≡ take count bytes.now }
+{
+    &bytes[..count]
+}
+
+// A length with the padding up to a multiple of four.
+fn padded(length: usize) -> usize
+    requires { length < 2 ^ 63 }
+    ensures value { result ≡ padded length }
+    ensures enough { length ≤ result }
+{
+    length.div_ceil(4) * 4
+}
+
+fn zero_place(bytes: &[u8]) -> Option<usize>
+    ensures place { result ≡ zero_in bytes.now }
+    ensures inside { IfSome result (λ k. k < length bytes.now) }
+{
+    bytes.find_byte(0)
+}
+
+fn begin(bytes: &[u8]) -> Result<(BlobToken<'_>, &[u8]), BlobError>
+    ensures gives { Gives (λ x. (token_of x.0, x.1.now)) result (begin_at bytes.now) }
+    ensures shorter { IfOk result (λ x. length x.1.now ≤ length bytes.now) }
+{
+    let Some(end) = zero_place(bytes) else {
+        return Err(BlobError::BadString);
+    };
+    let size = padded(end + 1);
+    if bytes.len() < size {
+        return Err(BlobError::BadToken);
+    }
+    Ok((BlobToken::BeginNode(first(bytes, end)), behind(bytes, size)))
+}
+
+fn string(strings: &[u8], place: usize) -> Result<&[u8], BlobError>
+    ensures { Gives (λ s. s.now) result (string_at strings.now place) }
+{
+    if strings.len() < place {
+        return Err(BlobError::BadString);
+    }
+    let rest = behind(strings, place);
+    match zero_place(rest) {
+        None => Err(BlobError::BadString),
+        Some(end) => Ok(first(rest, end)),
+    }
+}
+
+fn value<'a>(
+    strings: &'a [u8],
+    size: usize,
+    place: usize,
+    bytes: &'a [u8],
+) -> Result<(BlobToken<'a>, &'a [u8]), BlobError>
+    requires { size < 2 ^ 32 }
+    ensures gives { Gives (λ x. (token_of x.0, x.1.now)) result (value_at strings.now size place bytes.now) }
+    ensures shorter { IfOk result (λ x. length x.1.now ≤ length bytes.now) }
+{
+    let end = padded(size);
+    if bytes.len() < end {
+        return Err(BlobError::BadToken);
+    }
+    let name = string(strings, place)?;
+    Ok((
+        BlobToken::Property(name, first(bytes, size)),
+        behind(bytes, end),
+    ))
+}
+
+fn property<'a>(strings: &'a [u8], bytes: &'a [u8]) -> Result<(BlobToken<'a>, &'a [u8]), BlobError>
+    ensures gives { Gives (λ x. (token_of x.0, x.1.now)) result (property_at strings.now bytes.now) }
+    ensures shorter { IfOk result (λ x. length x.1.now ≤ length bytes.now) }
+{
+    if bytes.len() < 8 {
+        return Err(BlobError::BadToken);
+    }
+    let size = word(bytes) as usize;
+    let place = word(behind(bytes, 4)) as usize;
+    value(strings, size, place, behind(bytes, 8))
+}
+
+/// The token at the front of the block, and what follows it.
+///
+/// A cut token is `BadToken`, a name without its zero byte `BadString`.
+#[tactic(auto, unfolding(crate::specs::Reading::token_at))]
+pub(crate) fn token<'a>(
+    strings: &'a [u8],
+    bytes: &'a [u8],
+) -> Result<(BlobToken<'a>, &'a [u8]), BlobError>
+    ensures gives { Gives (λ x. (token_of x.0, x.1.now)) result (token_at strings.now bytes.now) }
+    ensures shorter { IfOk result (λ x. length x.1.now < length bytes.now) }
+{
+    if bytes.len() < 4 {
+        return Err(BlobError::BadToken);
+    }
+    let rest = behind(bytes, 4);
+    match word(bytes) {
+        1 => begin(rest),
+        2 => Ok((BlobToken::EndNode, rest)),
+        3 => property(strings, rest),
+        4 => Ok((BlobToken::Nop, rest)),
+        9 => Ok((BlobToken::End, rest)),
+        _ => Err(BlobError::BadToken),
+    }
+}

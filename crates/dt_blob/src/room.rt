@@ -1,0 +1,38 @@
+//! The greatest size of a blob and of a text.
+ghost use Rattle.std.specs.Prelude.{◌≡◌, ◌+◌, ◌<◌, ◌≤◌, sum, MatchResult};
+ghost use Rattle.dt_blob.specs.Blob.{limit};
+
+use crate::error::BlobError;
+
+/// The most bytes of a blob or a text.
+pub(crate) const MAX_SIZE: usize = 268_435_456;
+
+/// Refuses where `few` and `more` bytes behind `used` ones are too many.
+pub(crate) fn check_room(used: usize, few: usize, more: usize) -> Result<(), BlobError>
+    requires { used ≤ limit }
+    ensures { MatchResult result (λ _. used + few + more ≤ limit) (λ e. (e ≡ BlobError.TooLarge) × (limit < used + few + more)) }
+{
+    let room = MAX_SIZE - used;
+    if few > room {
+        return Err(BlobError::TooLarge);
+    }
+    if more > room - few {
+        return Err(BlobError::TooLarge);
+    }
+    Ok(())
+}
+
+/// Refuses where pieces of these lengths behind `used` bytes are too many.
+pub(crate) fn check_pieces(used: usize, pieces: &[usize]) -> Result<(), BlobError>
+    requires { used ≤ limit }
+    ensures { MatchResult result (λ _. used + sum pieces.now ≤ limit) (λ e. (e ≡ BlobError.TooLarge) × (limit < used + sum pieces.now)) }
+{
+    let mut room = MAX_SIZE - used;
+    for piece in pieces {
+        if *piece > room {
+            return Err(BlobError::TooLarge);
+        }
+        room -= *piece;
+    }
+    Ok(())
+}

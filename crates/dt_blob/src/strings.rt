@@ -1,0 +1,114 @@
+//! The strings block while it grows.
+ghost use Rattle.std.specs.Prelude.{◌≡◌, ◌+◌, ◌<◌, ◌≤◌, [], length, IfOk, IfSome, MatchResult};
+ghost use Rattle.dt_blob.specs.Blob.{limit};
+ghost use Rattle.dt_blob.specs.Strings.{begins, lowest_place, ended, offset_in, with_name};
+ghost use Rattle.dt_blob.specs.Written.{Refuses};
+
+use crate::bytes::put_ended;
+use crate::error::BlobError;
+use crate::names::{add_names, set_tails};
+use crate::room::check_room;
+use dt_tree::{Name, Node};
+use std::alloc::{AllocError, Global};
+use std::collections::BTreeMap;
+use std::marker::Model;
+
+fn begins_with(text: &[u8], name: &[u8]) -> bool
+    ensures { result ≡ begins (ended name.now) text.now }
+{
+    if text.len() <= name.len() {
+        return false;
+    }
+    for at in 0..name.len() {
+        if name[at] != text[at] {
+            return false;
+        }
+    }
+    0 == text[name.len()]
+}
+
+fn lowest_place(strings: &[u8], name: &[u8]) -> Option<usize>
+    ensures value { result ≡ lowest_place (ended name.now) strings.now }
+    ensures bound { IfSome result (λ at. at < length strings.now) }
+{
+    for at in 0..strings.len() {
+        if begins_with(&strings[at..], name) {
+            return Some(at);
+        }
+    }
+    None
+}
+
+/// The strings so far, and where the names of a tree stand in them.
+#[derive(Drop)]
+pub(crate) struct Strings {
+    block: Vec<u8>,
+    places: BTreeMap<Vec<u8>, Option<usize>>,
+}
+
+impl Model for Strings {
+    ghost use Rattle.std.specs.Prelude.{List, ℕ};
+    ghost use Rattle.dt_blob.specs.Table.{table_of, IsTable, IsClosed};
+
+    ghost Value = { List ℕ };
+
+    ghost view = { λ a. a.block.items };
+
+    ghost invariant = { λ a. IsClosed a.block.items × IsTable (table_of a.places.entries) a.block.items };
+}
+
+impl Strings {
+    /// No strings, for a tree whose root this is.
+    pub(crate) fn new(alloc: Global, root: &Node) -> Result<Self, AllocError>
+        ensures { IfOk result (λ strings. strings ≡ []) }
+    {
+        let mut places = BTreeMap::new(alloc);
+        add_names(alloc, &mut places, root)?;
+        Ok(Self {
+            block: Vec::new(alloc),
+            places,
+        })
+    }
+
+    pub(crate) fn len(&self) -> usize
+        ensures { result ≡ length self.now }
+    {
+        self.block.len()
+    }
+
+    pub(crate) fn as_slice(&self) -> &[u8]
+        ensures { result.now ≡ self.now }
+    {
+        self.block.as_slice()
+    }
+
+    /// The offset of a name that stands there.
+    fn find(&self, name: &Name) -> Option<usize>
+        ensures value { result ≡ lowest_place (ended name.now) self.now }
+        ensures bound { IfSome result (λ at. at < length self.now) }
+    {
+        name.check();
+        match self.places.get(name.as_bytes()) {
+            Some(place) => *place,
+            // no name of the tree, so that it isn't known whether it is a tail of one
+            None => lowest_place(self.block.as_slice(), name.as_bytes()),
+        }
+    }
+
+    /// The offset of a name, which is added where it is new. `used` bytes stand in the other blocks.
+    pub(crate) fn place(&mut self, name: &Name, used: usize) -> Result<usize, BlobError>
+        requires { used + length self.old ≤ limit }
+        ensures { MatchResult result (λ at. (at ≡ offset_in self.old name.now) × (self.new ≡ with_name self.old name.now) × (used + length self.new ≤ limit) × (at ≤ limit)) (λ e. Refuses (used + length (with_name self.old name.now)) e) }
+    {
+        if let Some(at) = self.find(name) {
+            return Ok(at);
+        }
+        name.check();
+        let bytes = name.as_bytes();
+        let end = self.block.len();
+        check_room(used + end, 1, bytes.len())?;
+        put_ended(&mut self.block, bytes)?;
+        set_tails(&mut self.places, bytes, end);
+        Ok(end)
+    }
+}

@@ -1,0 +1,114 @@
+-- A text, its lexemes and its source.
+use Rattle.std.proofs.Common.{◌≡◌, ℕ, List, Option, Some, None, Result, Ok, Err, refl, sym, ap, subst, ◌∙◌, inl, inr, ◌⊎◌, arith}
+use Rattle.std.specs.Prelude.{IfOk, IfErr}
+use Rattle.dt_source.specs.declared.lexeme.Lexeme.{Lexeme}
+use Rattle.dt_source.specs.declared.lexeme.Fault.{Fault}
+use Rattle.dt_source.specs.declared.lexeme.Refusal.{Refusal}
+use Rattle.dt_source.specs.declared.lexeme.ReadError.{ReadError}
+use Rattle.dt_source.specs.declared.lexeme.ReadError.TheVariants as errors
+use Rattle.dt_source.specs.declared.lexeme.FaultKind.{FaultKind}
+use Rattle.dt_source.specs.declared.lexeme.FaultKind.TheVariants.{ElementRange, DivideByZero, BadBits, LiteralRange, BadEscape}
+use Rattle.dt_source.specs.declared.error.SourceErrorKind.{SourceErrorKind}
+use Rattle.dt_source.specs.declared.error.SourceErrorKind.TheVariants as kinds
+use Rattle.dt_source.specs.declared.tree.Source.{Source}
+use Rattle.dt_source.specs.Lexemes.{Lexemes}
+use Rattle.dt_source.specs.Sequences.{Reads}
+use Rattle.dt_source.specs.Tree.{Meaning, meaning}
+use Rattle.dt_source.specs.Bodies.{first_of}
+use Rattle.dt_source.specs.Source.{SourceTree, said, faults_of}
+use Rattle.dt_source.specs.Whole.{source_at}
+use Rattle.dt_source.specs.Order.{IsFirstInText, FaultsAreInOrder}
+use Rattle.dt_source.specs.Laws.{SourcesAreSpelled, SourcesAreRead}
+use Rattle.dt_source.specs.Parse.{IsShort, IsSource, IsNoSource, Says, HasFirstFault, HasFault, Refuses, IsRead, IfRefused}
+use Rattle.dt_source.specs.SourceError.{kind_of_fault}
+use Rattle.dt_source.proofs.Scanning.{one_list}
+
+abbrev just : {A : Type 0} → A → Result A Refusal
+just x = Ok x
+
+ok_is : {A : Type 0} (x y : A) → just x ≡ just y → x ≡ y
+ok_is x y e = cc
+
+pub same_source : SourcesAreRead → (text : List ℕ) (s t : SourceTree) → IsSource text s → IsSource text t → (said text s ≡ said text t) × (first_of (faults_of text s) ≡ first_of (faults_of text t))
+same_source again text s t a b =
+    let e = one_list text a.0 b.0 a.1 b.1 in
+    let p = ok_is _ _ (sym (again text s a.0 a.2) ∙ ap (source_at text) e ∙ again text t b.0 b.2) in
+    (ap (λ (z : Meaning × Option Fault). z.0) p, ap (λ (z : Meaning × Option Fault). z.1) p)
+
+refused : SourcesAreRead → (text : List ℕ) (ls : List Lexeme) (r : Refusal) → Lexemes text ls → source_at text ls ≡ Err r → IsNoSource text
+refused again text ls r h e = λ s a.
+    let same = one_list text a.0 ls a.1 h in
+    let here = again text s a.0 a.2 in
+    let there : source_at text a.0 ≡ Err r = ap (source_at text) same ∙ e in
+    cc (here, there)
+
+found : SourcesAreSpelled → FaultsAreInOrder → (text : List ℕ) (ls : List Lexeme) (m : Meaning) (f : Option Fault) → Lexemes text ls → source_at text ls ≡ Ok (m, f) → IsRead text m f
+found takes order text ls m f h e =
+    let s = takes text ls m f e in
+    (s.0, (ls, h, s.1), s.2, (s.3, subst (λ (o : Option Fault). IsFirstInText o (faults_of text s.0)) s.3 (order text ls s.0 h s.1)))
+
+-- what reading the lexemes gave
+pub is_found : SourcesAreSpelled → FaultsAreInOrder → (text : List ℕ) (ts ls : List Lexeme) (r : Result (Source × Option Fault) ReadError) → Lexemes text ls → ts ≡ ls → Reads (λ x. (meaning x.0, x.1)) r (source_at text ts) → IfOk r (λ x. IsRead text (meaning x.0) x.1)
+is_found takes order text ts ls (Ok x) h t e = found takes order text ls (meaning x.0) x.1 h (ap (source_at text) (sym t) ∙ e)
+is_found takes order text ts ls (Err x) h t e = tt
+
+pub is_refused : SourcesAreRead → (text : List ℕ) (ts ls : List Lexeme) (r : Result (Source × Option Fault) ReadError) → Lexemes text ls → ts ≡ ls → Reads (λ x. (meaning x.0, x.1)) r (source_at text ts) → IfErr r (λ x. IfRefused x (IsNoSource text))
+is_refused again text ts ls (Ok x) h t e = tt
+is_refused again text ts ls (Err errors.NoMemory) h t e = tt
+is_refused again text ts ls (Err (errors.Refused r)) h t e = refused again text ls r h (ap (source_at text) (sym t) ∙ e)
+
+-- a text without lexemes is no source
+pub without_lexemes : (text : List ℕ) → ((ls : List Lexeme) → Lexemes text ls → ⊥) → IsNoSource text
+without_lexemes text none = λ s a. none a.0 a.1
+
+pub if_refused : {P : Type 0} → (e : ReadError) → P → IfRefused e P
+if_refused errors.NoMemory p = tt
+if_refused (errors.Refused r) p = p
+
+-- ---- one answer
+
+abbrev some : {A : Type 0} → A → Option A
+some x = Some x
+
+some_is : {A : Type 0} (x y : A) → some x ≡ some y → x ≡ y
+some_is x y e = cc
+
+pub one_meaning : SourcesAreRead → (text : List ℕ) (m n : Meaning) → Says text m → Says text n → m ≡ n
+one_meaning again text m n a b = sym a.3 ∙ (same_source again text a.0 b.0 a.1 b.1).0 ∙ b.3
+
+pub no_fault : SourcesAreRead → (text : List ℕ) (m : Meaning) (f : Fault) → Says text m → HasFirstFault text f → ⊥
+no_fault again text m f a b =
+    let e : first_of (faults_of text a.0) ≡ some f = (same_source again text a.0 b.0 a.1 b.1).1 ∙ b.2.0 in
+    let n : first_of (faults_of text a.0) ≡ None = ap first_of a.2 in
+    cc (e, n)
+
+pub one_fault : SourcesAreRead → (text : List ℕ) (f g : Fault) → HasFirstFault text f → HasFirstFault text g → f ≡ g
+one_fault again text f g a b = some_is f g (sym a.2.0 ∙ (same_source again text a.0 b.0 a.1 b.1).1 ∙ b.2.0)
+
+has_no_fault : SourcesAreRead → (text : List ℕ) (m : Meaning) (k : FaultKind) → Says text m → HasFault text k → ⊥
+has_no_fault again text m k a h = no_fault again text m h.1.0 a h.1.1
+
+pub accepted : SourcesAreRead → (text : List ℕ) (m : Meaning) (k : SourceErrorKind) → IsShort text → Says text m → Refuses text k → k ≡ kinds.NoMemory
+accepted again text m kinds.NoMemory h a r = refl
+accepted again text m kinds.Syntax h a r = absurd (r.1 a.0 a.1)
+accepted again text m kinds.TooDeep h a r = absurd (r.1 a.0 a.1)
+accepted again text m kinds.TooLong h a r = absurd (omega arith)
+accepted again text m kinds.ElementRange h a r = absurd (has_no_fault again text m ElementRange a r)
+accepted again text m kinds.DivideByZero h a r = absurd (has_no_fault again text m DivideByZero a r)
+accepted again text m kinds.BadBits h a r = absurd (has_no_fault again text m BadBits a r)
+accepted again text m kinds.LiteralRange h a r = absurd (has_no_fault again text m LiteralRange a r)
+accepted again text m kinds.BadEscape h a r = absurd (has_no_fault again text m BadEscape a r)
+
+same_kind : SourcesAreRead → (text : List ℕ) (f : Fault) (k : FaultKind) → HasFirstFault text f → HasFault text k → kind_of_fault k ≡ kind_of_fault f.kind
+same_kind again text f k a h = ap kind_of_fault (sym h.1.2 ∙ ap (λ (g : Fault). g.kind) (one_fault again text h.1.0 f h.1.1 a))
+
+pub faulty : SourcesAreRead → (text : List ℕ) (f : Fault) (k : SourceErrorKind) → IsShort text → HasFirstFault text f → Refuses text k → (k ≡ kinds.NoMemory) ⊎ (k ≡ kind_of_fault f.kind)
+faulty again text f kinds.NoMemory h a r = inl refl
+faulty again text f kinds.Syntax h a r = absurd (r.1 a.0 a.1)
+faulty again text f kinds.TooDeep h a r = absurd (r.1 a.0 a.1)
+faulty again text f kinds.TooLong h a r = absurd (omega arith)
+faulty again text f kinds.ElementRange h a r = inr (same_kind again text f ElementRange a r)
+faulty again text f kinds.DivideByZero h a r = inr (same_kind again text f DivideByZero a r)
+faulty again text f kinds.BadBits h a r = inr (same_kind again text f BadBits a r)
+faulty again text f kinds.LiteralRange h a r = inr (same_kind again text f LiteralRange a r)
+faulty again text f kinds.BadEscape h a r = inr (same_kind again text f BadEscape a r)

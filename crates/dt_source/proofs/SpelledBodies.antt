@@ -1,0 +1,195 @@
+-- Statements that are spelled are read.
+use Rattle.std.proofs.Common.{◌≡◌, ℕ, zero, suc, ◌<◌, ◌≤◌, Bool, true, false, List, [], ◌∷◌, ◌++◌, length, map, Ok, Option, Some, None, refl, sym, ap, subst, ◌∙◌, arith}
+use Rattle.dt_source.specs.declared.lexeme.Lexeme.{Lexeme}
+use Rattle.dt_source.specs.declared.lexeme.Fault.{Fault}
+use Rattle.dt_source.specs.declared.lexeme.Kind.{Kind}
+use Rattle.dt_source.specs.declared.lexeme.Kind.TheVariants.{Name, Semicolon, Equals, Brace, EndBrace, DeleteNode, DeleteProperty}
+use Rattle.dt_source.specs.Expression.{Begins}
+use Rattle.dt_source.specs.Sequences.{earlier, many}
+use Rattle.dt_source.specs.Tree.{Entry, Defines, Undefines, Child, Removes, body_of}
+use Rattle.dt_source.specs.Bodies.{first_of, is_label, label_bytes, name_bytes, labels_at, semicolon_by, ended_by, Inner, named_by, named_at, deleted_by, deleted_at, begun_by, begun_at, statement_at, after, body_below, body_at}
+use Rattle.dt_source.specs.Source.{Statements, End, Sets, Unsets, Holds, Drops, One, SpellsLabels, SpellsValue, SpellsPlaced, SpellsStatements, PieceTree, value_said, value_faults, entries_of, faults_in}
+use Rattle.dt_source.proofs.Complete.{begins_shorter}
+use Rattle.dt_source.proofs.Several as several
+use Rattle.dt_source.proofs.SpelledLabels.{NoLabel, labels_again, labels_shorter, none_at}
+use Rattle.dt_source.proofs.SpelledValues.{value_again, value_shorter}
+
+pub ended_again : {A : Type 0} (a : A) (f : Option Fault) (ts rest : List Lexeme) → Begins ts Semicolon rest → ended_by a f ts ≡ Ok (a, f, rest)
+ended_again a f [] rest h = absurd h
+ended_again a f (t ∷ ts) rest h = ap (λ (x : Kind). semicolon_by a f x t ts) h.0 ∙ rw (h.1) refl
+
+-- ---- by what stands there
+
+-- Labels and a name are read, and what follows them decides.
+named_front : (text : List ℕ) (inner : Inner) (nodes : Bool) (ls : List Lexeme) (n : Lexeme) (ts at us : List Lexeme) → SpellsLabels ls ts at → One Name n at us
+    → statement_at text inner nodes ts ≡ named_at text inner nodes (map (label_bytes text) ls) (name_bytes text n) us
+unfolding statement_at
+named_front text inner nodes ls n ts at us h k =
+    let free : NoLabel at = subst NoLabel (sym k.1) (ap is_label k.0) in
+    let labels : labels_at ts ≡ (ls, at) = labels_again ls ts at h free in
+    ap (λ (x : List Lexeme × List Lexeme). begun_at text inner nodes x.0 x.1) labels ∙ ap (begun_at text inner nodes ls) k.1 ∙ ap (λ (x : Kind). begun_by text inner nodes ls x n us) k.0
+
+-- What no label stands before is read by its kind.
+bare_front : (text : List ℕ) (inner : Inner) (nodes : Bool) (t : Lexeme) (ts : List Lexeme) → is_label t.kind ≡ false → statement_at text inner nodes (t ∷ ts) ≡ begun_by text inner nodes [] t.kind t ts
+unfolding statement_at
+bare_front text inner nodes t ts h =
+    let labels : labels_at (t ∷ ts) ≡ ([], t ∷ ts) = none_at (t ∷ ts) h in
+    ap (λ (x : List Lexeme × List Lexeme). begun_at text inner nodes x.0 x.1) labels
+
+end_again : (text : List ℕ) (inner : Inner) (nodes : Bool) (ts rest : List Lexeme) → Begins ts EndBrace rest → statement_at text inner nodes ts ≡ Ok (None, None, rest)
+end_again text inner nodes [] rest h = absurd h
+end_again text inner nodes (t ∷ ts) rest h = bare_front text inner nodes t ts (ap is_label h.0) ∙ ap (λ (x : Kind). begun_by text inner nodes [] x t ts) h.0 ∙ go nodes ∙ ap (several.part None None) h.1
+  where
+    go : (nodes : Bool) → begun_by text inner nodes [] EndBrace t ts ≡ Ok (None, None, ts)
+    go false = refl
+    go true = refl
+
+empty_again : (text : List ℕ) (inner : Inner) (labels : List (List ℕ)) (name : List ℕ) (us rest : List Lexeme) → Begins us Semicolon rest
+    → named_at text inner false labels name us ≡ Ok (Some (Defines name []), None, rest)
+empty_again text inner labels name [] rest h = absurd h
+empty_again text inner labels name (t ∷ us) rest h = ap (λ (x : Kind). named_by text inner false labels name x t us) h.0 ∙ rw (h.1) refl
+
+valued_again : (text : List ℕ) (inner : Inner) (labels : List (List ℕ)) (name : List ℕ) (p : PieceTree) (ps : List PieceTree) (us mid rest : List Lexeme) → SpellsValue (p ∷ ps) us mid → Begins mid Semicolon rest
+    → named_at text inner false labels name us ≡ Ok (Some (Defines name (value_said text (p ∷ ps))), first_of (value_faults text (p ∷ ps)), rest)
+valued_again text inner labels name p ps [] mid rest h s = absurd h.2
+valued_again text inner labels name p ps (t ∷ us) mid rest h s =
+    let value = value_again text p ps us h.1 mid rest (subst (λ (x : List Lexeme). SpellsPlaced p x h.1) (sym h.2.1) h.3) h.4 s in
+    let ended = ended_again (Some (Defines name (value_said text (p ∷ ps)))) (first_of (value_faults text (p ∷ ps))) mid rest s in
+    ap (λ (x : Kind). named_by text inner false labels name x t us) h.2.0 ∙ rw value ended
+
+-- how a body in this one is read
+record Inside (text : List ℕ) (inner : Inner) (body : Statements) (ts rest : List Lexeme) : Type 0 where
+  read : (t : Lexeme) → inner t ts ≡ Ok (entries_of text body, first_of (faults_in text body), rest)
+
+child_again : (text : List ℕ) (inner : Inner) (nodes : Bool) (labels : List (List ℕ)) (name : List ℕ) (body : Statements) (us at mid rest : List Lexeme) → Begins us Brace at → Inside text inner body at mid → Begins mid Semicolon rest
+    → named_at text inner nodes labels name us ≡ Ok (Some (Child labels name (body_of (entries_of text body))), first_of (faults_in text body), rest)
+child_again text inner nodes labels name body [] at mid rest h i s = absurd h
+child_again text inner nodes labels name body (t ∷ us) at mid rest h i s =
+    ap (λ (x : Kind). named_by text inner nodes labels name x t us) h.0 ∙ go nodes
+  where
+    inside : inner t us ≡ Ok (entries_of text body, first_of (faults_in text body), mid)
+    inside = ap (inner t) h.1 ∙ i.read t
+
+    ended : ended_by (Some (Child labels name (body_of (entries_of text body)))) (first_of (faults_in text body)) mid ≡ Ok (Some (Child labels name (body_of (entries_of text body))), first_of (faults_in text body), rest)
+    ended = ended_again (Some (Child labels name (body_of (entries_of text body)))) (first_of (faults_in text body)) mid rest s
+
+    go : (nodes : Bool) → named_by text inner nodes labels name Brace t us ≡ Ok (Some (Child labels name (body_of (entries_of text body))), first_of (faults_in text body), rest)
+    go false = rw inside ended
+    go true = rw inside ended
+
+deleted_again : (text : List ℕ) (entry : List ℕ → Entry) (n : Lexeme) (us at rest : List Lexeme) → One Name n us at → Begins at Semicolon rest → deleted_at text entry us ≡ Ok (Some (entry (name_bytes text n)), None, rest)
+deleted_again text entry n us at rest h s = ap (deleted_at text entry) h.1 ∙ ap (λ (x : Kind). deleted_by text entry x n at) h.0 ∙ ended_again (Some (entry (name_bytes text n))) None at rest s
+
+unsets_again : (text : List ℕ) (inner : Inner) (n : Lexeme) (ts a b rest : List Lexeme) → Begins ts DeleteProperty a → One Name n a b → Begins b Semicolon rest
+    → statement_at text inner false ts ≡ Ok (Some (Undefines (name_bytes text n)), None, rest)
+unsets_again text inner n [] a b rest h k s = absurd h
+unsets_again text inner n (t ∷ ts) a b rest h k s =
+    bare_front text inner false t ts (ap is_label h.0) ∙ ap (λ (x : Kind). begun_by text inner false [] x t ts) h.0 ∙ ap (deleted_at text Undefines) h.1 ∙ deleted_again text Undefines n a b rest k s
+
+drops_again : (text : List ℕ) (inner : Inner) (nodes : Bool) (n : Lexeme) (ts a b rest : List Lexeme) → Begins ts DeleteNode a → One Name n a b → Begins b Semicolon rest
+    → statement_at text inner nodes ts ≡ Ok (Some (Removes (name_bytes text n)), None, rest)
+drops_again text inner nodes n [] a b rest h k s = absurd h
+drops_again text inner nodes n (t ∷ ts) a b rest h k s =
+    bare_front text inner nodes t ts (ap is_label h.0) ∙ ap (λ (x : Kind). begun_by text inner nodes [] x t ts) h.0 ∙ go nodes ∙ ap (deleted_at text Removes) h.1 ∙ deleted_again text Removes n a b rest k s
+  where
+    go : (nodes : Bool) → begun_by text inner nodes [] DeleteNode t ts ≡ deleted_at text Removes ts
+    go false = refl
+    go true = refl
+
+-- ---- statements one after the other
+
+one_shorter : (k : Kind) (l : Lexeme) (ts rest : List Lexeme) → One k l ts rest → length rest < length ts
+one_shorter k l ts rest h = omega (arith, ap length h.1)
+
+value_end : (v : List PieceTree) (ts rest : List Lexeme) → SpellsValue v ts rest → length rest ≤ length ts
+value_end [] ts rest h = omega (arith, ap length h)
+value_end (p ∷ ps) ts rest h = omega (arith, begins_shorter ts Equals h.0 h.2, value_shorter p ps h.0 h.1 rest h.3 h.4)
+
+pub statements_shorter : (s : Statements) (depth : ℕ) (nodes : Bool) (ts rest : List Lexeme) → SpellsStatements depth nodes s ts rest → length rest < length ts
+unfolding SpellsStatements
+statements_shorter End depth nodes ts rest h = begins_shorter ts EndBrace rest h
+statements_shorter (Sets ls n v more) depth nodes ts rest h =
+    omega (arith, labels_shorter ls ts h.1 h.5, one_shorter Name n h.1 h.2 h.6, value_end v h.2 h.3 h.7, begins_shorter h.3 Semicolon h.4 h.8, statements_shorter more depth false h.4 rest h.9)
+statements_shorter (Unsets n more) depth nodes ts rest h =
+    omega (arith, begins_shorter ts DeleteProperty h.1 h.4, one_shorter Name n h.1 h.2 h.5, begins_shorter h.2 Semicolon h.3 h.6, statements_shorter more depth false h.3 rest h.7)
+statements_shorter (Holds ls n body more) zero nodes ts rest h = absurd h.8
+statements_shorter (Holds ls n body more) (suc depth) nodes ts rest h =
+    omega (arith, labels_shorter ls ts h.0 h.5, one_shorter Name n h.0 h.1 h.6, begins_shorter h.1 Brace h.2 h.7, statements_shorter body depth false h.2 h.3 h.8, begins_shorter h.3 Semicolon h.4 h.9, statements_shorter more (suc depth) true h.4 rest h.10)
+statements_shorter (Drops n more) depth nodes ts rest h =
+    omega (arith, begins_shorter ts DeleteNode h.0 h.3, one_shorter Name n h.0 h.1 h.4, begins_shorter h.1 Semicolon h.2 h.5, statements_shorter more depth true h.2 rest h.6)
+
+-- one statement, and the others behind it
+then_again : (text : List ℕ) (inner : Inner) (n : ℕ) (nodes : Bool) (ts : List Lexeme) (e : Entry) (f : Option Fault) (at : List Lexeme) (es : List Entry) (g : Option Fault) (rest : List Lexeme)
+    → statement_at text inner nodes ts ≡ Ok (Some e, f, at) → many after (statement_at text inner) n (after nodes e) at ≡ Ok (es, g, rest)
+    → many after (statement_at text inner) (suc n) nodes ts ≡ Ok (e ∷ es, earlier f g, rest)
+unfolding many
+then_again text inner n nodes ts e f at es g rest h k = rw (h, k) refl
+
+done_again : (text : List ℕ) (inner : Inner) (n : ℕ) (nodes : Bool) (ts rest : List Lexeme) → statement_at text inner nodes ts ≡ Ok (None, None, rest) → many after (statement_at text inner) (suc n) nodes ts ≡ Ok ([], None, rest)
+unfolding many
+done_again text inner n nodes ts rest h = rw h refl
+
+-- how a body of this depth is read where so many lexemes may be looked at
+abbrev Read : List ℕ → Statements → ℕ → Bool → List Lexeme → List Lexeme → Type 0
+Read text s depth nodes ts rest = (n : ℕ) → length ts < n → many after (statement_at text (body_below text depth)) n nodes ts ≡ Ok (entries_of text s, first_of (faults_in text s), rest)
+
+end_read : (text : List ℕ) (depth : ℕ) (nodes : Bool) (ts rest : List Lexeme) → Begins ts EndBrace rest → Read text End depth nodes ts rest
+unfolding entries_of faults_in
+end_read text depth nodes ts rest h zero lt = absurd (omega arith)
+end_read text depth nodes ts rest h (suc n) lt = done_again text (body_below text depth) n nodes ts rest (end_again text (body_below text depth) nodes ts rest h)
+
+-- a statement that has no fault of its own
+plain_read : (text : List ℕ) (depth : ℕ) (nodes : Bool) (e : Entry) (s more : Statements) (ts at rest : List Lexeme) → entries_of text s ≡ e ∷ entries_of text more → first_of (faults_in text s) ≡ first_of (faults_in text more)
+    → length at < length ts → statement_at text (body_below text depth) nodes ts ≡ Ok (Some e, None, at) → Read text more depth (after nodes e) at rest → Read text s depth nodes ts rest
+plain_read text depth nodes e s more ts at rest es fs lt h r zero l = absurd (omega arith)
+plain_read text depth nodes e s more ts at rest es fs lt h r (suc n) l =
+    then_again text (body_below text depth) n nodes ts e None at (entries_of text more) (first_of (faults_in text more)) rest h (r n (omega arith))
+    ∙ ap (λ (x : List Entry). several.part x (first_of (faults_in text more)) rest) (sym es) ∙ ap (λ (x : Option Fault). several.part (entries_of text s) x rest) (sym fs)
+
+-- a statement that has faults
+faulty_read : (text : List ℕ) (depth : ℕ) (nodes : Bool) (e : Entry) (own : List Fault) (s more : Statements) (ts at rest : List Lexeme) → entries_of text s ≡ e ∷ entries_of text more → faults_in text s ≡ own ++ faults_in text more
+    → length at < length ts → statement_at text (body_below text depth) nodes ts ≡ Ok (Some e, first_of own, at) → Read text more depth (after nodes e) at rest → Read text s depth nodes ts rest
+faulty_read text depth nodes e own s more ts at rest es fs lt h r zero l = absurd (omega arith)
+faulty_read text depth nodes e own s more ts at rest es fs lt h r (suc n) l =
+    then_again text (body_below text depth) n nodes ts e (first_of own) at (entries_of text more) (first_of (faults_in text more)) rest h (r n (omega arith))
+    ∙ ap (λ (x : List Entry). several.part x (earlier (first_of own) (first_of (faults_in text more))) rest) (sym es)
+    ∙ ap (λ (x : Option Fault). several.part (entries_of text s) x rest) (sym (ap first_of fs ∙ several.first_of_both own (faults_in text more)))
+
+pub statements_again : (text : List ℕ) (s : Statements) (depth : ℕ) (nodes : Bool) (ts rest : List Lexeme) → SpellsStatements depth nodes s ts rest → Read text s depth nodes ts rest
+unfolding SpellsStatements entries_of faults_in body_below
+statements_again text End depth nodes ts rest h = end_read text depth nodes ts rest h
+statements_again text (Sets ls n [] more) depth true ts rest h = absurd cc
+statements_again text (Sets ls n [] more) depth false ts rest h =
+    plain_read text depth false (Defines (name_bytes text n) []) (Sets ls n [] more) more ts h.4 rest refl refl
+    (omega (arith, labels_shorter ls ts h.1 h.5, one_shorter Name n h.1 h.2 h.6, value_end [] h.2 h.3 h.7, begins_shorter h.3 Semicolon h.4 h.8))
+    (named_front text (body_below text depth) false ls n ts h.1 h.2 h.5 h.6 ∙ empty_again text (body_below text depth) (map (label_bytes text) ls) (name_bytes text n) h.2 h.4 (subst (λ (x : List Lexeme). Begins x Semicolon h.4) (sym h.7) h.8))
+    (statements_again text more depth false h.4 rest h.9)
+statements_again text (Sets ls n (p ∷ ps) more) depth true ts rest h = absurd cc
+statements_again text (Sets ls n (p ∷ ps) more) depth false ts rest h =
+    faulty_read text depth false (Defines (name_bytes text n) (value_said text (p ∷ ps))) (value_faults text (p ∷ ps)) (Sets ls n (p ∷ ps) more) more ts h.4 rest refl refl
+    (omega (arith, labels_shorter ls ts h.1 h.5, one_shorter Name n h.1 h.2 h.6, value_end (p ∷ ps) h.2 h.3 h.7, begins_shorter h.3 Semicolon h.4 h.8))
+    (named_front text (body_below text depth) false ls n ts h.1 h.2 h.5 h.6 ∙ valued_again text (body_below text depth) (map (label_bytes text) ls) (name_bytes text n) p ps h.2 h.3 h.4 h.7 h.8)
+    (statements_again text more depth false h.4 rest h.9)
+statements_again text (Unsets n more) depth true ts rest h = absurd cc
+statements_again text (Unsets n more) depth false ts rest h =
+    plain_read text depth false (Undefines (name_bytes text n)) (Unsets n more) more ts h.3 rest refl refl
+    (omega (arith, begins_shorter ts DeleteProperty h.1 h.4, one_shorter Name n h.1 h.2 h.5, begins_shorter h.2 Semicolon h.3 h.6))
+    (unsets_again text (body_below text depth) n ts h.1 h.2 h.3 h.4 h.5 h.6)
+    (statements_again text more depth false h.3 rest h.7)
+statements_again text (Holds ls n body more) zero nodes ts rest h = absurd h.8
+statements_again text (Holds ls n body more) (suc depth) nodes ts rest h =
+    let inside = statements_again text body depth false h.2 h.3 h.8 in
+    faulty_read text (suc depth) nodes (Child (map (label_bytes text) ls) (name_bytes text n) (body_of (entries_of text body))) (faults_in text body) (Holds ls n body more) more ts h.4 rest refl refl
+    (omega (arith, labels_shorter ls ts h.0 h.5, one_shorter Name n h.0 h.1 h.6, begins_shorter h.1 Brace h.2 h.7, statements_shorter body depth false h.2 h.3 h.8, begins_shorter h.3 Semicolon h.4 h.9))
+    (named_front text (body_below text (suc depth)) nodes ls n ts h.0 h.1 h.5 h.6
+    ∙ child_again text (body_below text (suc depth)) nodes (map (label_bytes text) ls) (name_bytes text n) body h.1 h.2 h.3 h.4 h.7 (record { read = λ t. inside (suc (length h.2)) (omega arith) }) h.9)
+    (statements_again text more (suc depth) true h.4 rest h.10)
+statements_again text (Drops n more) depth nodes ts rest h =
+    plain_read text depth nodes (Removes (name_bytes text n)) (Drops n more) more ts h.2 rest refl refl
+    (omega (arith, begins_shorter ts DeleteNode h.0 h.3, one_shorter Name n h.0 h.1 h.4, begins_shorter h.1 Semicolon h.2 h.5))
+    (drops_again text (body_below text depth) nodes n ts h.0 h.1 h.2 h.3 h.4 h.5)
+    (statements_again text more depth true h.2 rest h.6)
+
+pub body_again : (text : List ℕ) (s : Statements) (depth : ℕ) (ts rest : List Lexeme) → SpellsStatements depth false s ts rest → body_at text depth ts ≡ Ok (entries_of text s, first_of (faults_in text s), rest)
+unfolding body_at
+body_again text s depth ts rest h = statements_again text s depth false ts rest h (suc (length ts)) (omega arith)

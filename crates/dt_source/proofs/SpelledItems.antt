@@ -1,0 +1,174 @@
+-- Items that are read are spelled, and the other way round.
+use Rattle.std.proofs.Common.{◌≡◌, ℕ, ◌<◌, false, List, [], ◌∷◌, length, map, Ok, Option, Some, None, refl, sym, ap, subst, ◌∙◌, arith, inl, inr}
+use Rattle.dt_source.specs.declared.lexeme.Lexeme.{Lexeme}
+use Rattle.dt_source.specs.declared.lexeme.Fault.{Fault}
+use Rattle.dt_source.specs.declared.lexeme.Kind.{Kind}
+use Rattle.dt_source.specs.declared.lexeme.Kind.TheVariants.{Reference, PathReference, Semicolon, Brace, Slash, DeleteNode}
+use Rattle.dt_source.specs.Expression.{Begins}
+use Rattle.dt_source.specs.Sequences.{SpellsEach}
+use Rattle.dt_source.specs.Tree.{Entry, Edit, Rooted, Extends, Deletes, Body, body_of}
+use Rattle.dt_source.specs.Pieces.{target_of}
+use Rattle.dt_source.specs.Bodies.{first_of, is_label, labels_at, label_bytes, ended_by, body_at, body_below}
+use Rattle.dt_source.specs.Source.{Statements, ItemTree, Root, Extend, Delete, IsReference, OneReference, SpellsLabels, SpellsStatements, SpellsBody, SpellsItem, entries_of, faults_in, item_said, item_faults}
+use Rattle.dt_source.specs.Whole.{brace_kind, brace_at, extend_at, delete_kind, delete_at, root_at, bare_item, unlabelled_item, item_kind, item_with, item_at}
+use Rattle.dt_source.proofs.Sound.{bind_ok}
+use Rattle.dt_source.proofs.Complete.{begins_shorter}
+use Rattle.dt_source.proofs.Several as several
+use Rattle.dt_source.proofs.SpelledLabels.{labels_sound, labels_again, labels_shorter}
+use Rattle.dt_source.proofs.SpelledPieces.{reference_front}
+use Rattle.dt_source.proofs.SpelledStatements.{ended_sound, BodyFound, statements_sound, body_sound}
+use Rattle.dt_source.proofs.SpelledBodies.{ended_again, body_again, statements_shorter}
+
+-- ---- what is read is spelled so
+
+record BraceFound (text : List ℕ) (ts : List Lexeme) (b : Body) (f : Option Fault) (rest : List Lexeme) : Type 0 where
+  tree : Statements
+  spells : SpellsBody tree ts rest
+  said_is : body_of (entries_of text tree) ≡ b
+  fault_is : first_of (faults_in text tree) ≡ f
+
+body_found : (text : List ℕ) (ts : List Lexeme) (es : List Entry) (f : Option Fault) (rest : List Lexeme) → body_at text 64 ts ≡ Ok (es, f, rest) → BodyFound text 64 false ts es f rest
+unfolding body_at
+body_found text ts es f rest e = statements_sound text 64 (body_below text 64) (body_sound text 64) ts es f rest e
+
+brace_sound : (text : List ℕ) (ts : List Lexeme) (b : Body) (f : Option Fault) (rest : List Lexeme) → brace_at text ts ≡ Ok (b, f, rest) → BraceFound text ts b f rest
+unfolding brace_at
+brace_sound text [] b f rest e = absurd cc
+brace_sound text (t ∷ ts) b f rest e = go t.kind refl e
+  where
+    go : (k : Kind) → t.kind ≡ k → brace_kind text k t ts ≡ Ok (b, f, rest) → BraceFound text (t ∷ ts) b f rest
+    go Brace k e =
+        let y = bind_ok (body_at text 64 ts) (λ y. ended_by (body_of y.0) y.1 y.2) (b, f, rest) e in
+        let s = ended_sound (body_of y.0.0) b y.0.1 f y.0.2 rest y.2 in
+        let m = body_found text ts y.0.0 y.0.1 y.0.2 y.1 in
+        record { tree = m.tree; spells = (ts, y.0.2, (k, refl), m.spells, s.ends); said_is = ap body_of m.entries ∙ s.value_is; fault_is = m.faults ∙ s.fault_is }
+    go _ k e = absurd cc
+
+abbrev pub ItemFound : List ℕ → List Lexeme → Option Edit → Option Fault → List Lexeme → Type 0
+ItemFound text ts None f rest = (ts ≡ []) × (f ≡ None)
+ItemFound text ts (Some i) f rest = several.One SpellsItem (item_said text) (item_faults text) ts i f rest
+
+item_to : (text : List ℕ) (ts : List Lexeme) (a b : Option Edit) (f g : Option Fault) (r q : List Lexeme) → ItemFound text ts a f r → (a ≡ b) × (f ≡ g) × (r ≡ q) → ItemFound text ts b g q
+item_to text ts a b f g r q h p =
+    subst (λ (x : Option Edit). ItemFound text ts x g q) p.0 (subst (λ (x : Option Fault). ItemFound text ts a x q) p.1 (subst (λ (x : List Lexeme). ItemFound text ts a f x) p.2 h))
+
+extend_sound : (text : List ℕ) (ls : List Lexeme) (t : Lexeme) (ts us : List Lexeme) (o : Option Edit) (f : Option Fault) (rest : List Lexeme) → SpellsLabels ls ts (t ∷ us) → IsReference t.kind
+    → extend_at text ls t us ≡ Ok (o, f, rest) → ItemFound text ts o f rest
+extend_sound text ls t ts us o f rest s k e =
+    let y = bind_ok (brace_at text us) (λ y. Ok (Some (Extends (map (label_bytes text) ls) (target_of text t) y.0), y.1, y.2)) (o, f, rest) e in
+    let b = brace_sound text us y.0.0 y.0.1 y.0.2 y.1 in
+    item_to text ts (Some (Extends (map (label_bytes text) ls) (target_of text t) y.0.0)) o y.0.1 f y.0.2 rest
+    (record { tree = Extend ls t b.tree; spells = (t ∷ us, us, s, (k, refl), b.spells); value_is = ap (Extends (map (label_bytes text) ls) (target_of text t)) b.said_is; fault_is = b.fault_is })
+    (several.part_is (Some (Extends (map (label_bytes text) ls) (target_of text t) y.0.0)) o y.0.1 f y.0.2 rest y.2)
+
+root_sound : (text : List ℕ) (t : Lexeme) (us : List Lexeme) (o : Option Edit) (f : Option Fault) (rest : List Lexeme) → t.kind ≡ Slash → root_at text us ≡ Ok (o, f, rest) → ItemFound text (t ∷ us) o f rest
+root_sound text t us o f rest k e =
+    let y = bind_ok (brace_at text us) (λ y. Ok (Some (Rooted y.0), y.1, y.2)) (o, f, rest) e in
+    let b = brace_sound text us y.0.0 y.0.1 y.0.2 y.1 in
+    item_to text (t ∷ us) (Some (Rooted y.0.0)) o y.0.1 f y.0.2 rest
+    (record { tree = Root b.tree; spells = (us, (k, refl), b.spells); value_is = ap Rooted b.said_is; fault_is = b.fault_is })
+    (several.part_is (Some (Rooted y.0.0)) o y.0.1 f y.0.2 rest y.2)
+
+delete_sound : (text : List ℕ) (t : Lexeme) (us : List Lexeme) (o : Option Edit) (f : Option Fault) (rest : List Lexeme) → t.kind ≡ DeleteNode → delete_at text us ≡ Ok (o, f, rest) → ItemFound text (t ∷ us) o f rest
+delete_sound text t [] o f rest k e = absurd cc
+delete_sound text t (l ∷ us) o f rest k e = go l.kind refl e
+  where
+    deletes : IsReference l.kind → ended_by (Some (Deletes (target_of text l))) None us ≡ Ok (o, f, rest) → ItemFound text (t ∷ l ∷ us) o f rest
+    deletes h e =
+        let s = ended_sound (Some (Deletes (target_of text l))) o None f us rest e in
+        item_to text (t ∷ l ∷ us) (Some (Deletes (target_of text l))) o None f rest rest (record { tree = Delete l; spells = (l ∷ us, us, (k, refl), (h, refl), s.ends); value_is = refl; fault_is = refl }) (s.value_is, s.fault_is, refl)
+
+    go : (k : Kind) → l.kind ≡ k → delete_kind text k l us ≡ Ok (o, f, rest) → ItemFound text (t ∷ l ∷ us) o f rest
+    go Reference h e = deletes (inl h) e
+    go PathReference h e = deletes (inr h) e
+    go _ h e = absurd cc
+
+bare_sound : (text : List ℕ) (t : Lexeme) (us : List Lexeme) (k : Kind) (o : Option Edit) (f : Option Fault) (rest : List Lexeme) → t.kind ≡ k → bare_item text k t us ≡ Ok (o, f, rest) → ItemFound text (t ∷ us) o f rest
+bare_sound text t us Slash o f rest h e = root_sound text t us o f rest h e
+bare_sound text t us DeleteNode o f rest h e = delete_sound text t us o f rest h e
+bare_sound text t us _ o f rest h e = absurd cc
+
+unlabelled_sound : (text : List ℕ) (ls ts : List Lexeme) (t : Lexeme) (us : List Lexeme) (k : Kind) (o : Option Edit) (f : Option Fault) (rest : List Lexeme) → SpellsLabels ls ts (t ∷ us) → t.kind ≡ k
+    → unlabelled_item text ls k t us ≡ Ok (o, f, rest) → ItemFound text ts o f rest
+unfolding SpellsEach
+unlabelled_sound text [] ts t us k o f rest s h e = subst (λ (x : List Lexeme). ItemFound text x o f rest) (sym s) (bare_sound text t us k o f rest h e)
+unlabelled_sound text (l ∷ ls) ts t us k o f rest s h e = absurd cc
+
+item_with_sound : (text : List ℕ) (ls ts us : List Lexeme) (o : Option Edit) (f : Option Fault) (rest : List Lexeme) → SpellsLabels ls ts us → item_with text ls us ≡ Ok (o, f, rest) → ItemFound text ts o f rest
+item_with_sound text ls ts [] o f rest s e = absurd cc
+item_with_sound text ls ts (t ∷ us) o f rest s e = go t.kind refl e
+  where
+    go : (k : Kind) → t.kind ≡ k → item_kind text ls k t us ≡ Ok (o, f, rest) → ItemFound text ts o f rest
+    go Reference h e = extend_sound text ls t ts us o f rest s (inl h) e
+    go PathReference h e = extend_sound text ls t ts us o f rest s (inr h) e
+    go k h e = unlabelled_sound text ls ts t us k o f rest s h e
+
+pub item_sound : (text : List ℕ) (ts : List Lexeme) (o : Option Edit) (f : Option Fault) (rest : List Lexeme) → item_at text ts ≡ Ok (o, f, rest) → ItemFound text ts o f rest
+unfolding item_at
+item_sound text [] o f rest e = item_to text [] None o None f [] rest (refl, refl) (several.part_is None o None f [] rest e)
+item_sound text (t ∷ ts) o f rest e = item_with_sound text (labels_at (t ∷ ts)).0 (t ∷ ts) (labels_at (t ∷ ts)).1 o f rest (labels_sound (t ∷ ts)).0 e
+
+-- ---- what is spelled is read
+
+brace_again : (text : List ℕ) (s : Statements) (ts rest : List Lexeme) → SpellsBody s ts rest → brace_at text ts ≡ Ok (body_of (entries_of text s), first_of (faults_in text s), rest)
+unfolding brace_at
+brace_again text s [] rest h = absurd h.2
+brace_again text s (t ∷ ts) rest h =
+    let body = body_again text s 64 ts h.1 (subst (λ (x : List Lexeme). SpellsStatements 64 false s x h.1) (sym h.2.1) h.3) in
+    let ended = ended_again (body_of (entries_of text s)) (first_of (faults_in text s)) h.1 rest h.4 in
+    ap (λ (x : Kind). brace_kind text x t ts) h.2.0 ∙ rw body ended
+
+-- Labels are read before an item.
+pub labelled : (text : List ℕ) (ls ts : List Lexeme) (t : Lexeme) (us : List Lexeme) → SpellsLabels ls ts (t ∷ us) → is_label t.kind ≡ false → item_at text ts ≡ item_kind text ls t.kind t us
+unfolding item_at SpellsEach
+labelled text [] [] t us h n = absurd cc
+labelled text (l ∷ ls) [] t us h n = let impossible : [] ≡ l ∷ h.0 = h.1.1 in absurd cc
+labelled text ls (x ∷ ts) t us h n =
+    let labels : labels_at (x ∷ ts) ≡ (ls, t ∷ us) = labels_again ls (x ∷ ts) (t ∷ us) h n in
+    ap (λ (x : List Lexeme × List Lexeme). item_with text x.0 x.1) labels
+
+abbrev Again : List ℕ → ItemTree → List Lexeme → List Lexeme → Type 0
+Again text i ts rest = item_at text ts ≡ Ok (Some (item_said text i), first_of (item_faults text i), rest)
+
+root_again : (text : List ℕ) (s : Statements) (t : Lexeme) (ts a rest : List Lexeme) → Begins (t ∷ ts) Slash a → SpellsBody s a rest → Again text (Root s) (t ∷ ts) rest
+unfolding SpellsEach
+root_again text s t ts a rest h b =
+    let brace = ap (brace_at text) h.1 ∙ brace_again text s a rest b in
+    labelled text [] (t ∷ ts) t ts refl (ap is_label h.0) ∙ ap (λ (x : Kind). item_kind text [] x t ts) h.0 ∙ rw brace refl
+
+extend_again : (text : List ℕ) (ls : List Lexeme) (l : Lexeme) (s : Statements) (ts us rest : List Lexeme) → SpellsLabels ls ts (l ∷ us) → IsReference l.kind → SpellsBody s us rest → Again text (Extend ls l s) ts rest
+extend_again text ls l s ts us rest h k b = labelled text ls ts l us h (reference_front l k) ∙ go k
+  where
+    brace : brace_at text us ≡ Ok (body_of (entries_of text s), first_of (faults_in text s), rest)
+    brace = brace_again text s us rest b
+
+    same : extend_at text ls l us ≡ Ok (Some (item_said text (Extend ls l s)), first_of (faults_in text s), rest)
+    same = rw brace refl
+
+    go : IsReference l.kind → item_kind text ls l.kind l us ≡ Ok (Some (item_said text (Extend ls l s)), first_of (faults_in text s), rest)
+    go (inl k) = ap (λ (x : Kind). item_kind text ls x l us) k ∙ same
+    go (inr k) = ap (λ (x : Kind). item_kind text ls x l us) k ∙ same
+
+delete_again : (text : List ℕ) (l t : Lexeme) (ts a b rest : List Lexeme) → Begins (t ∷ ts) DeleteNode a → OneReference l a b → Begins b Semicolon rest → Again text (Delete l) (t ∷ ts) rest
+unfolding SpellsEach
+delete_again text l t ts a b rest h k s =
+    labelled text [] (t ∷ ts) t ts refl (ap is_label h.0) ∙ ap (λ (x : Kind). item_kind text [] x t ts) h.0 ∙ ap (delete_at text) (h.1 ∙ k.1) ∙ go k.0
+  where
+    go : IsReference l.kind → delete_kind text l.kind l b ≡ Ok (Some (item_said text (Delete l)), None, rest)
+    go (inl k) = ap (λ (x : Kind). delete_kind text x l b) k ∙ ended_again (Some (Deletes (target_of text l))) None b rest s
+    go (inr k) = ap (λ (x : Kind). delete_kind text x l b) k ∙ ended_again (Some (Deletes (target_of text l))) None b rest s
+
+pub item_again : (text : List ℕ) (i : ItemTree) (ts rest : List Lexeme) → SpellsItem i ts rest → Again text i ts rest
+item_again text (Root s) [] rest h = absurd h.1
+item_again text (Root s) (t ∷ ts) rest h = root_again text s t ts h.0 rest h.1 h.2
+item_again text (Extend ls l s) ts rest h = extend_again text ls l s ts h.1 rest (subst (λ (x : List Lexeme). SpellsLabels ls ts x) h.3.1 h.2) h.3.0 h.4
+item_again text (Delete l) [] rest h = absurd h.2
+item_again text (Delete l) (t ∷ ts) rest h = delete_again text l t ts h.0 h.1 rest h.2 h.3 h.4
+
+body_shorter : (s : Statements) (ts rest : List Lexeme) → SpellsBody s ts rest → length rest < length ts
+body_shorter s ts rest h = omega (arith, begins_shorter ts Brace h.0 h.2, statements_shorter s 64 false h.0 h.1 h.3, begins_shorter h.1 Semicolon rest h.4)
+
+pub item_shorter : (i : ItemTree) (ts rest : List Lexeme) → SpellsItem i ts rest → length rest < length ts
+item_shorter (Root s) ts rest h = omega (arith, begins_shorter ts Slash h.0 h.1, body_shorter s h.0 rest h.2)
+item_shorter (Extend ls l s) ts rest h = omega (arith, labels_shorter ls ts h.0 h.2, ap length h.3.1, body_shorter s h.1 rest h.4)
+item_shorter (Delete l) ts rest h = omega (arith, begins_shorter ts DeleteNode h.0 h.2, ap length h.3.1, begins_shorter h.1 Semicolon rest h.4)

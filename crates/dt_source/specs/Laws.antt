@@ -1,0 +1,18 @@
+-- What reading a source has to do with what its lexemes spell.
+use Rattle.std.specs.Prelude.{◌≡◌, ℕ, List, Option, Ok}
+use Rattle.dt_source.specs.declared.lexeme.Lexeme.{Lexeme}
+use Rattle.dt_source.specs.declared.lexeme.Fault.{Fault}
+use Rattle.dt_source.specs.Bodies.{first_of}
+use Rattle.dt_source.specs.Tree.{Meaning}
+use Rattle.dt_source.specs.Source.{SourceTree, Spells, said, faults_of}
+use Rattle.dt_source.specs.Whole.{source_at}
+
+-- What is read is spelled so: it says that, and has that first fault.
+abbrev pub SourcesAreSpelled : Type 0
+SourcesAreSpelled =
+    (text : List ℕ) (ts : List Lexeme) (m : Meaning) (f : Option Fault) → source_at text ts ≡ Ok (m, f)
+    → (s : SourceTree) × Spells s ts × (said text s ≡ m) × (first_of (faults_of text s) ≡ f)
+
+-- What is spelled is read.
+abbrev pub SourcesAreRead : Type 0
+SourcesAreRead = (text : List ℕ) (s : SourceTree) (ts : List Lexeme) → Spells s ts → source_at text ts ≡ Ok (said text s, first_of (faults_of text s))

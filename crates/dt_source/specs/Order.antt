@@ -1,0 +1,16 @@
+-- Faults in the order of the text.
+use Rattle.std.specs.Prelude.{◌≡◌, ℕ, ◌≤◌, List, [], Option, Some, None, Contains, All}
+use Rattle.dt_source.specs.declared.lexeme.Lexeme.{Lexeme}
+use Rattle.dt_source.specs.declared.lexeme.Fault.{Fault}
+use Rattle.dt_source.specs.Bodies.{first_of}
+use Rattle.dt_source.specs.Lexemes.{Lexemes}
+use Rattle.dt_source.specs.Source.{SourceTree, Spells, faults_of}
+
+-- It is one of the faults, and none stands before it in the text; or there is none.
+abbrev pub IsFirstInText : Option Fault → List Fault → Type 0
+IsFirstInText None fs = fs ≡ []
+IsFirstInText (Some f) fs = Contains fs f × All (λ g. f.place ≤ g.place) fs
+
+-- The first fault that is met is the first in the text.
+abbrev pub FaultsAreInOrder : Type 0
+FaultsAreInOrder = (text : List ℕ) (ls : List Lexeme) (s : SourceTree) → Lexemes text ls → Spells s ls → IsFirstInText (first_of (faults_of text s)) (faults_of text s)

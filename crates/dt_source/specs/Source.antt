@@ -1,0 +1,235 @@
+-- Sources, the lexemes that spell them, what they say, and their faults (Devicetree Specification v0.4, sections 6.2 and 6.3).
+use Rattle.std.specs.Prelude.{◌≡◌, ◌≢◌, ℕ, Bool, true, false, ◌||◌, List, [], ◌∷◌, ◌++◌, Option, Some, None, Result, Ok, map, flat_map, ◌⊎◌}
+use Rattle.dt_source.specs.declared.lexeme.Lexeme.{Lexeme}
+use Rattle.dt_source.specs.declared.lexeme.Fault.{Fault}
+use Rattle.dt_source.specs.declared.lexeme.Kind.{Kind}
+use Rattle.dt_source.specs.declared.lexeme.Kind.TheVariants.{Version, Plugin, MemReserve, Bits, DeleteNode, DeleteProperty, Label, Name, Literal, Text, Reference, PathReference, Pair, Semicolon, Brace, EndBrace, Equals, Comma, Less, Greater, Square, EndSquare, Slash}
+use Rattle.dt_source.specs.declared.element.Width.{Width}
+use Rattle.dt_source.specs.declared.element.Width.TheVariants.{ThirtyTwo}
+use Rattle.dt_source.specs.declared.cell.Cell.{Cell}
+use Rattle.dt_source.specs.declared.cell.Cell.TheVariants as cells
+use Rattle.dt_source.specs.Expression.{Expression, Begins, Takes, Deeper, SpellsPrimary}
+use Rattle.dt_source.specs.Values.{Value, literal_of, value_of}
+use Rattle.dt_source.specs.Sequences.{SpellsEach}
+use Rattle.dt_source.specs.Tree.{Piece, Plain, PathOf, Entry, Defines, Undefines, Child, Removes, body_of, Edit, Rooted, Extends, Deletes, Meaning}
+use Rattle.dt_source.specs.Strings.{string_bytes, string_faults, pair_byte}
+use Rattle.dt_source.specs.Pieces.{target_of, width_at, width_in, fault_in, cell_fault, cells_pieces, joined}
+use Rattle.dt_source.specs.Bodies.{label_bytes, name_bytes, concat}
+
+-- ---- what is spelled, with the lexemes that its meaning and its faults are of
+
+pub data CellTree : Type 0 where
+  Element : (first : Lexeme) (value : Expression) → CellTree
+  Refers : (reference : Lexeme) → CellTree
+  Marks : (label : Lexeme) → CellTree
+
+pub data PieceTree : Type 0 where
+  Quoted : (text : Lexeme) → PieceTree
+  Points : (reference : Lexeme) → PieceTree
+  Pairs : (pairs : List Lexeme) → PieceTree
+  Cells : (cells : List CellTree) → PieceTree
+  WideCells : (bits : Lexeme) (cells : List CellTree) → PieceTree
+
+-- the statements of a body
+pub data Statements : Type 0 where
+  End : Statements
+  Sets : (labels : List Lexeme) (name : Lexeme) (value : List PieceTree) (more : Statements) → Statements
+  Unsets : (name : Lexeme) (more : Statements) → Statements
+  Holds : (labels : List Lexeme) (name : Lexeme) (body more : Statements) → Statements
+  Drops : (name : Lexeme) (more : Statements) → Statements
+
+pub record ReserveTree : Type 0 where
+  pub address : Expression
+  pub size : Expression
+
+pub data ItemTree : Type 0 where
+  Root : (body : Statements) → ItemTree
+  Extend : (labels : List Lexeme) (reference : Lexeme) (body : Statements) → ItemTree
+  Delete : (reference : Lexeme) → ItemTree
+
+-- headers say whether they are a plugin's
+pub record SourceTree : Type 0 where
+  pub headers : List Bool
+  pub reserves : List ReserveTree
+  pub items : List ItemTree
+
+-- ---- spelling: each says that the lexemes begin so, and that the rest follows
+
+-- This one lexeme, of a kind, stands at the front.
+abbrev pub One : Kind → Lexeme → List Lexeme → List Lexeme → Type 0
+One k l ts rest = (l.kind ≡ k) × Takes ts l rest
+
+abbrev pub IsReference : Kind → Type 0
+IsReference k = (k ≡ Reference) ⊎ (k ≡ PathReference)
+
+abbrev pub OneReference : Lexeme → List Lexeme → List Lexeme → Type 0
+OneReference l ts rest = IsReference l.kind × Takes ts l rest
+
+abbrev pub SpellsLabels : List Lexeme → List Lexeme → List Lexeme → Type 0
+SpellsLabels ls ts rest = SpellsEach (One Label) ls ts rest
+
+-- Labels that are read and dropped.
+abbrev pub DropsLabels : List Lexeme → List Lexeme → Type 0
+DropsLabels ts rest = (ls : List Lexeme) × SpellsLabels ls ts rest
+
+abbrev pub SpellsCell : CellTree → List Lexeme → List Lexeme → Type 0
+SpellsCell (Element l e) ts rest = (a : List Lexeme) × Takes ts l a × SpellsPrimary e ts rest
+SpellsCell (Refers l) ts rest = OneReference l ts rest
+SpellsCell (Marks l) ts rest = One Label l ts rest
+
+abbrev pub SpellsCells : List CellTree → List Lexeme → List Lexeme → Type 0
+SpellsCells cs ts rest = (a b : List Lexeme) × Begins ts Less a × SpellsEach SpellsCell cs a b × Begins b Greater rest
+
+abbrev pub IsPair : Kind → Type 0
+IsPair k = (k ≡ Pair) ⊎ (k ≡ Label)
+
+abbrev pub OnePair : Lexeme → List Lexeme → List Lexeme → Type 0
+OnePair l ts rest = IsPair l.kind × Takes ts l rest
+
+abbrev pub SpellsPiece : PieceTree → List Lexeme → List Lexeme → Type 0
+SpellsPiece (Quoted l) ts rest = One Text l ts rest
+SpellsPiece (Points l) ts rest = OneReference l ts rest
+SpellsPiece (Pairs ls) ts rest = (a b : List Lexeme) × Begins ts Square a × SpellsEach OnePair ls a b × Begins b EndSquare rest
+SpellsPiece (Cells cs) ts rest = SpellsCells cs ts rest
+SpellsPiece (WideCells l cs) ts rest = (a b : List Lexeme) × Begins ts Bits a × One Literal l a b × SpellsCells cs b rest
+
+abbrev pub SpellsPlaced : PieceTree → List Lexeme → List Lexeme → Type 0
+SpellsPlaced p ts rest = (a b : List Lexeme) × DropsLabels ts a × SpellsPiece p a b × DropsLabels b rest
+
+abbrev pub SpellsFurther : PieceTree → List Lexeme → List Lexeme → Type 0
+SpellsFurther p ts rest = (a : List Lexeme) × Begins ts Comma a × SpellsPlaced p a rest
+
+-- A property without value has no pieces.
+abbrev pub SpellsValue : List PieceTree → List Lexeme → List Lexeme → Type 0
+SpellsValue [] ts rest = ts ≡ rest
+SpellsValue (p ∷ ps) ts rest = (a b : List Lexeme) × Begins ts Equals a × SpellsPlaced p a b × SpellsEach SpellsFurther ps b rest
+
+-- Where nodes is true a node or the deletion of one stood before, and no property follows. A body in this one may
+-- stand where a level is left. The closing brace belongs to the spelling.
+unfoldable pub SpellsStatements : ℕ → Bool → Statements → List Lexeme → List Lexeme → Type 0
+SpellsStatements depth nodes End ts rest = Begins ts EndBrace rest
+SpellsStatements depth nodes (Sets ls n v more) ts rest =
+    (nodes ≡ false) × (a b c d : List Lexeme) × SpellsLabels ls ts a × One Name n a b × SpellsValue v b c × Begins c Semicolon d × SpellsStatements depth false more d rest
+SpellsStatements depth nodes (Unsets n more) ts rest =
+    (nodes ≡ false) × (a b c : List Lexeme) × Begins ts DeleteProperty a × One Name n a b × Begins b Semicolon c × SpellsStatements depth false more c rest
+SpellsStatements depth nodes (Holds ls n body more) ts rest =
+    (a b c d e : List Lexeme) × SpellsLabels ls ts a × One Name n a b × Begins b Brace c
+    × Deeper depth (λ inner. SpellsStatements inner false body c d) × Begins d Semicolon e × SpellsStatements depth true more e rest
+SpellsStatements depth nodes (Drops n more) ts rest =
+    (a b c : List Lexeme) × Begins ts DeleteNode a × One Name n a b × Begins b Semicolon c × SpellsStatements depth true more c rest
+
+abbrev pub SpellsBody : Statements → List Lexeme → List Lexeme → Type 0
+SpellsBody s ts rest = (a b : List Lexeme) × Begins ts Brace a × SpellsStatements 64 false s a b × Begins b Semicolon rest
+
+abbrev pub SpellsItem : ItemTree → List Lexeme → List Lexeme → Type 0
+SpellsItem (Root s) ts rest = (a : List Lexeme) × Begins ts Slash a × SpellsBody s a rest
+SpellsItem (Extend ls l s) ts rest = (a b : List Lexeme) × SpellsLabels ls ts a × OneReference l a b × SpellsBody s b rest
+SpellsItem (Delete l) ts rest = (a b : List Lexeme) × Begins ts DeleteNode a × OneReference l a b × Begins b Semicolon rest
+
+abbrev pub SpellsReserve : ReserveTree → List Lexeme → List Lexeme → Type 0
+SpellsReserve r ts rest = (a b c d : List Lexeme) × DropsLabels ts a × Begins a MemReserve b × SpellsPrimary r.address b c × SpellsPrimary r.size c d × Begins d Semicolon rest
+
+abbrev pub SpellsHeader : Bool → List Lexeme → List Lexeme → Type 0
+SpellsHeader false ts rest = (a : List Lexeme) × Begins ts Version a × Begins a Semicolon rest
+SpellsHeader true ts rest = (a b c : List Lexeme) × Begins ts Version a × Begins a Semicolon b × Begins b Plugin c × Begins c Semicolon rest
+
+-- All the lexemes spell the source.
+unfoldable pub Spells : SourceTree → List Lexeme → Type 0
+Spells s ts =
+    (s.headers ≢ []) × (s.items ≢ []) × (a b : List Lexeme)
+    × SpellsEach SpellsHeader s.headers ts a × SpellsEach SpellsReserve s.reserves a b × SpellsEach SpellsItem s.items b []
+
+-- ---- what is said
+
+abbrev pub cell_of : List ℕ → CellTree → Cell
+cell_of text (Element l e) = cells.Element l.start (value_of text e)
+cell_of text (Refers l) = cells.Reference l
+cell_of text (Marks l) = cells.Label
+
+abbrev pub cells_said : List ℕ → Option Width → List CellTree → List Piece
+cells_said text w cs = cells_pieces text w (map (cell_of text) cs)
+
+abbrev pub pair_by_kind : List ℕ → Lexeme → Kind → List ℕ
+pair_by_kind text l Pair = pair_byte text l ∷ []
+pair_by_kind text l _ = []
+
+abbrev pub pair_bytes : List ℕ → Lexeme → List ℕ
+pair_bytes text l = pair_by_kind text l l.kind
+
+abbrev pub width_said : List ℕ → Lexeme → Result Width Fault
+width_said text l = width_at l (literal_of text l)
+
+abbrev pub piece_said : List ℕ → PieceTree → List Piece
+piece_said text (Quoted l) = Plain (string_bytes text l) ∷ []
+piece_said text (Points l) = PathOf (target_of text l) ∷ []
+piece_said text (Pairs ls) = Plain (concat (map (pair_bytes text) ls)) ∷ []
+piece_said text (Cells cs) = cells_said text (Some ThirtyTwo) cs
+piece_said text (WideCells l cs) = cells_said text (width_in (width_said text l)) cs
+
+abbrev pub value_said : List ℕ → List PieceTree → List Piece
+value_said text ps = joined (flat_map (piece_said text) ps)
+
+unfoldable pub entries_of : List ℕ → Statements → List Entry
+entries_of text End = []
+entries_of text (Sets ls n v more) = Defines (name_bytes text n) (value_said text v) ∷ entries_of text more
+entries_of text (Unsets n more) = Undefines (name_bytes text n) ∷ entries_of text more
+entries_of text (Holds ls n body more) = Child (map (label_bytes text) ls) (name_bytes text n) (body_of (entries_of text body)) ∷ entries_of text more
+entries_of text (Drops n more) = Removes (name_bytes text n) ∷ entries_of text more
+
+abbrev pub item_said : List ℕ → ItemTree → Edit
+item_said text (Root s) = Rooted (body_of (entries_of text s))
+item_said text (Extend ls l s) = Extends (map (label_bytes text) ls) (target_of text l) (body_of (entries_of text s))
+item_said text (Delete l) = Deletes (target_of text l)
+
+-- the pairs of numbers that have no fault
+abbrev pub both_numbers : Value × Value → List (ℕ × ℕ)
+both_numbers (Ok x, Ok y) = (x, y) ∷ []
+both_numbers _ = []
+
+abbrev pub reserve_values : List ℕ → ReserveTree → Value × Value
+reserve_values text r = (value_of text r.address, value_of text r.size)
+
+abbrev pub any : List Bool → Bool
+any [] = false
+any (b ∷ bs) = b || any bs
+
+-- A source is a plugin where any header says so.
+unfoldable pub said : List ℕ → SourceTree → Meaning
+said text s = record { plugin = any s.headers; reserves = flat_map both_numbers (map (reserve_values text) s.reserves); items = map (item_said text) s.items }
+
+-- ---- faults, in the order of the text
+
+abbrev pub fault_list : Option Fault → List Fault
+fault_list None = []
+fault_list (Some f) = f ∷ []
+
+abbrev pub cells_faults : List ℕ → Option Width → List CellTree → List Fault
+cells_faults text w cs = flat_map (λ c. fault_list (cell_fault w (cell_of text c))) cs
+
+abbrev pub piece_faults : List ℕ → PieceTree → List Fault
+piece_faults text (Quoted l) = string_faults text l
+piece_faults text (Points l) = []
+piece_faults text (Pairs ls) = []
+piece_faults text (Cells cs) = cells_faults text (Some ThirtyTwo) cs
+piece_faults text (WideCells l cs) = fault_list (fault_in (width_said text l)) ++ cells_faults text (width_in (width_said text l)) cs
+
+abbrev pub value_faults : List ℕ → List PieceTree → List Fault
+value_faults text ps = flat_map (piece_faults text) ps
+
+unfoldable pub faults_in : List ℕ → Statements → List Fault
+faults_in text End = []
+faults_in text (Sets ls n v more) = value_faults text v ++ faults_in text more
+faults_in text (Unsets n more) = faults_in text more
+faults_in text (Holds ls n body more) = faults_in text body ++ faults_in text more
+faults_in text (Drops n more) = faults_in text more
+
+abbrev pub item_faults : List ℕ → ItemTree → List Fault
+item_faults text (Root s) = faults_in text s
+item_faults text (Extend ls l s) = faults_in text s
+item_faults text (Delete l) = []
+
+abbrev pub reserve_faults : List ℕ → ReserveTree → List Fault
+reserve_faults text r = fault_list (fault_in (value_of text r.address)) ++ fault_list (fault_in (value_of text r.size))
+
+unfoldable pub faults_of : List ℕ → SourceTree → List Fault
+faults_of text s = flat_map (reserve_faults text) s.reserves ++ flat_map (item_faults text) s.items

@@ -1,0 +1,103 @@
+//! A text, parsed.
+ghost use Rattle.std.specs.Prelude.{◌≡◌, ◌⊎◌, ℕ, List, IfOk, IfErr};
+ghost use Rattle.dt_source.specs.declared.error.SourceErrorKind.{SourceErrorKind};
+ghost use Rattle.dt_source.specs.declared.error.SourceErrorKind.TheVariants.{NoMemory};
+ghost use Rattle.dt_source.specs.declared.lexeme.Fault.{Fault};
+ghost use Rattle.dt_source.specs.SourceError.{kind_of_fault};
+ghost use Rattle.dt_source.specs.Tree.{Meaning, meaning};
+ghost use Rattle.dt_source.specs.Bodies.{first_of};
+ghost use Rattle.dt_source.specs.Source.{SourceTree, said, faults_of};
+ghost use Rattle.dt_source.specs.Parse.{IsShort, IsSource, IsNoSource, Says, HasFirstFault, Refuses, IsRead, IfRefused};
+
+use crate::error::{SourceError, SourceErrorKind, kind_of_fault, kind_of_refusal};
+use crate::lexeme::{Fault, ReadError, Refusal, RefusalKind};
+use crate::line::line_of;
+use crate::scan::scan_front;
+use crate::source::source;
+use crate::tree::Source;
+use std::alloc::Global;
+
+// The refusal of a text that has no lexeme at this place: what is refused before it, or else that place.
+fn refused_at(place: u32, read: Result<(Source, Option<Fault>), ReadError>) -> ReadError {
+    match read {
+        Err(ReadError::NoMemory) => ReadError::NoMemory,
+        Err(ReadError::Refused(refusal)) if refusal.place < place => ReadError::Refused(refusal),
+        _ => ReadError::Refused(Refusal {
+            kind: RefusalKind::Syntax,
+            place,
+        }),
+    }
+}
+
+// What the text's source says, and the first of its faults.
+fn read(alloc: Global, text: &[u8]) -> Result<(Source, Option<Fault>), ReadError>
+    requires { IsShort text.now }
+    ensures found { IfOk result (λ x. IsRead text.now (meaning x.0) x.1) }
+    ensures refused { IfErr result (λ e. IfRefused e (IsNoSource text.now)) }
+{
+    let (lexemes, stop) = scan_front(alloc, text)?;
+    match stop {
+        None => source(alloc, text, lexemes.as_slice()),
+        Some(place) => Err(refused_at(place, source(alloc, text, lexemes.as_slice()))),
+    }
+}
+
+fn error_of(text: &[u8], refusal: ReadError) -> SourceError
+    requires short { IsShort text.now }
+    requires none { IfRefused refusal (IsNoSource text.now) }
+    ensures { Refuses text.now result.kind }
+{
+    match refusal {
+        ReadError::NoMemory => SourceError {
+            kind: SourceErrorKind::NoMemory,
+            line: 0,
+        },
+        ReadError::Refused(refusal) => SourceError {
+            kind: kind_of_refusal(refusal.kind),
+            line: line_of(text, refusal.place),
+        },
+    }
+}
+
+fn fault_error(text: &[u8], fault: Fault) -> SourceError
+    requires short { IsShort text.now }
+    requires first { HasFirstFault text.now fault }
+    ensures { Refuses text.now result.kind }
+{
+    SourceError {
+        kind: kind_of_fault(fault.kind),
+        line: line_of(text, fault.place),
+    }
+}
+
+/// The source that the text spells, or why there is none: a text over 16 MiB, then what isn't in the grammar or
+/// nests too deep, then the first fault of a value in the order of the text.
+pub fn parse(alloc: Global, text: &[u8]) -> Result<Source, SourceError>
+    // What is answered is what the text says.
+    ensures found { IfOk result (λ s. IsShort text.now × Says text.now (meaning s)) }
+    // Each refusal comes only where it should.
+    ensures refused { IfErr result (λ e. Refuses text.now e.kind) }
+{
+    if text.len() > 16_777_216 {
+        return Err(SourceError {
+            kind: SourceErrorKind::TooLong,
+            line: 1,
+        });
+    }
+    match read(alloc, text) {
+        Err(refusal) => Err(error_of(text, refusal)),
+        Ok((_, Some(fault))) => Err(fault_error(text, fault)),
+        Ok((source, None)) => Ok(source),
+    }
+}
+
+/// A text spells one source at most, and one answer fits it: where it says something nothing but want of memory
+/// refuses it, and where it has a fault nothing but that and want of memory.
+pub fn one_source()
+    // What its spellings say is the same, and so is their first fault.
+    ensures one { (text : List ℕ) (s t : SourceTree) → IsSource text s → IsSource text t → (said text s ≡ said text t) × (first_of (faults_of text s) ≡ first_of (faults_of text t)) }
+    ensures meaning { (text : List ℕ) (m n : Meaning) → Says text m → Says text n → m ≡ n }
+    ensures accepted { (text : List ℕ) (m : Meaning) (k : SourceErrorKind) → IsShort text → Says text m → Refuses text k → k ≡ NoMemory }
+    ensures fault { (text : List ℕ) (m : Meaning) (f : Fault) → Says text m → HasFirstFault text f → ⊥ }
+    ensures faulty { (text : List ℕ) (f : Fault) (k : SourceErrorKind) → IsShort text → HasFirstFault text f → Refuses text k → (k ≡ NoMemory) ⊎ (k ≡ kind_of_fault f.kind) }
+{}

@@ -1,0 +1,68 @@
+//! The parts of a value while it is read.
+ghost use Rattle.std.specs.Prelude.{◌≡◌, ◌++◌, ◌∷◌, [], map, IfOk, OnOk};
+ghost use Rattle.dt_source.specs.Tree.{Plain, part_view};
+ghost use Rattle.dt_source.specs.Element.{bytes_in, low_bytes};
+ghost use Rattle.dt_source.specs.Pieces.{built, flushed, put};
+
+use crate::element::{Width, push_low_bytes};
+use crate::tree::Part;
+use std::alloc::{AllocError, Global};
+use std::mem;
+
+/// The parts that are closed, and the bytes behind them, which neighbouring bytes join.
+#[derive(Drop)]
+pub struct Parts {
+    closed: Vec<Part>,
+    bytes: Vec<u8>,
+}
+
+impl Parts {
+    pub fn new(alloc: Global) -> Parts
+        ensures { built result ≡ record { closed = []; bytes = [] } }
+    {
+        Parts {
+            closed: Vec::new(alloc),
+            bytes: Vec::new(alloc),
+        }
+    }
+
+    pub fn push_bytes(&mut self, bytes: &[u8]) -> Result<(), AllocError>
+        ensures { OnOk result (built self.new ≡ put (built self.old) (Plain bytes.now)) }
+    {
+        self.bytes.extend_from_slice(bytes)
+    }
+
+    pub fn push_number(&mut self, width: Width, number: u64) -> Result<(), AllocError>
+        ensures { OnOk result (built self.new ≡ put (built self.old) (Plain (low_bytes (bytes_in width) number))) }
+    {
+        push_low_bytes(&mut self.bytes, width, number)
+    }
+
+    // Closes the bytes, where there are any.
+    fn close(&mut self, alloc: Global) -> Result<(), AllocError>
+        ensures { OnOk result (built self.new ≡ record { closed = flushed (built self.old); bytes = [] }) }
+    {
+        if self.bytes.is_empty() {
+            return Ok(());
+        }
+        let bytes = mem::replace(&mut self.bytes, Vec::new(alloc));
+        self.closed.push(Part::Bytes(bytes))?;
+        Ok(())
+    }
+
+    /// Puts a part that isn't bytes behind the others.
+    pub fn push_part(&mut self, alloc: Global, part: Part) -> Result<(), AllocError>
+        ensures { OnOk result (built self.new ≡ record { closed = flushed (built self.old) ++ part_view part ∷ []; bytes = [] }) }
+    {
+        self.close(alloc)?;
+        self.closed.push(part)?;
+        Ok(())
+    }
+
+    pub fn finish(mut self, alloc: Global) -> Result<Vec<Part>, AllocError>
+        ensures { IfOk result (λ v. map part_view v.items ≡ flushed (built self)) }
+    {
+        self.close(alloc)?;
+        Ok(self.closed)
+    }
+}

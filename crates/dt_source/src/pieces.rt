@@ -1,0 +1,233 @@
+//! Values of properties.
+ghost use Rattle.std.specs.Prelude.{◌≡◌, ◌≤◌, ◌<◌, length, map, IfOk, OnOk, IfSome, option_map};
+ghost use Rattle.dt_source.specs.Sequences.{Reads};
+ghost use Rattle.dt_source.specs.Tree.{Plain, PathOf, part_view};
+ghost use Rattle.dt_source.specs.Strings.{string_bytes, string_faults};
+ghost use Rattle.dt_source.specs.Pieces.{target_of, width_at, built, put};
+ghost use Rattle.dt_source.specs.Bodies.{first_of, is_label, labels_at, square_at, less_at, bits_at, piece_at, placed_at, pieces_at, value_at};
+ghost use Rattle.dt_source.specs.Loops.{into, comma_rest};
+
+use crate::cells::{cells, pairs};
+use crate::element::{Width, width_of};
+use crate::expression::syntax_at;
+use crate::lexeme::{Fault, FaultKind, Kind, Lexeme, ReadError};
+use crate::literal::literal;
+use crate::parts::Parts;
+use crate::string::{earlier, string_of, target};
+use crate::tree::Part;
+use std::alloc::{AllocError, Global};
+
+fn is_label(kind: Kind) -> bool
+    ensures { result ≡ is_label kind }
+{
+    match kind {
+        Kind::Label => true,
+        _ => false,
+    }
+}
+
+/// The labels at the front, and what follows them.
+pub fn labels(ts: &[Lexeme]) -> (&[Lexeme], &[Lexeme])
+    ensures gives { (result.0.now, result.1.now) ≡ labels_at ts.now }
+    ensures shorter { length result.1.now ≤ length ts.now }
+{
+    for (i, t) in ts.iter().enumerate() {
+        if !is_label(t.kind) {
+            return ts.split_at(i);
+        }
+    }
+    ts.split_at(ts.len())
+}
+
+// The width that a literal behind /bits/ names, or its fault.
+fn width_at(l: Lexeme, value: Result<u64, Fault>) -> Result<Width, Fault>
+    ensures { result ≡ width_at l value }
+{
+    match value {
+        Err(fault) => Err(fault),
+        Ok(bits) => match width_of(bits) {
+            Some(width) => Ok(width),
+            None => Err(Fault {
+                kind: FaultKind::BadBits,
+                place: l.start,
+            }),
+        },
+    }
+}
+
+// Cells of a width whose fault is this.
+fn less<'a>(
+    alloc: Global,
+    parts: &mut Parts,
+    text: &[u8],
+    width: Option<Width>,
+    fault: Option<Fault>,
+    ts: &'a [Lexeme],
+) -> Result<(Option<Fault>, &'a [Lexeme]), ReadError>
+    ensures gives { Reads (λ x. (built parts.new, x.0, x.1.now)) result (into (built parts.old) (less_at text.now width fault ts.now)) }
+    ensures shorter { IfOk result (λ x. length x.1.now < length ts.now) }
+{
+    match ts {
+        [] => Err(ReadError::Refused(syntax_at(ts))),
+        [t, rest @ ..] => match t.kind {
+            Kind::Less => {
+                let (first, rest) = cells(alloc, parts, text, width, rest)?;
+                Ok((earlier(fault, first), rest))
+            }
+            _ => Err(ReadError::Refused(syntax_at(ts))),
+        },
+    }
+}
+
+// The width behind /bits/, and the cells.
+fn bits<'a>(
+    alloc: Global,
+    parts: &mut Parts,
+    text: &[u8],
+    ts: &'a [Lexeme],
+) -> Result<(Option<Fault>, &'a [Lexeme]), ReadError>
+    ensures gives { Reads (λ x. (built parts.new, x.0, x.1.now)) result (into (built parts.old) (bits_at text.now ts.now)) }
+    ensures shorter { IfOk result (λ x. length x.1.now < length ts.now) }
+{
+    match ts {
+        [] => Err(ReadError::Refused(syntax_at(ts))),
+        [t, rest @ ..] => match t.kind {
+            Kind::Literal => match width_at(*t, literal(text, *t)) {
+                Ok(width) => less(alloc, parts, text, Some(width), None, rest),
+                Err(fault) => less(alloc, parts, text, None, Some(fault), rest),
+            },
+            _ => Err(ReadError::Refused(syntax_at(ts))),
+        },
+    }
+}
+
+fn push_string(
+    alloc: Global,
+    parts: &mut Parts,
+    text: &[u8],
+    l: Lexeme,
+) -> Result<Option<Fault>, AllocError>
+    ensures { IfOk result (λ f. (built parts.new ≡ put (built parts.old) (Plain (string_bytes text.now l))) × (f ≡ first_of (string_faults text.now l))) }
+{
+    let (bytes, fault) = string_of(alloc, text, l)?;
+    parts.push_bytes(bytes.as_slice())?;
+    Ok(fault)
+}
+
+fn push_path(alloc: Global, parts: &mut Parts, text: &[u8], l: Lexeme) -> Result<(), AllocError>
+    ensures { OnOk result (built parts.new ≡ put (built parts.old) (PathOf (target_of text.now l))) }
+{
+    let target = target(alloc, text, l)?;
+    parts.push_part(alloc, Part::Path(target))
+}
+
+fn push_pairs<'a>(
+    alloc: Global,
+    parts: &mut Parts,
+    text: &[u8],
+    ts: &'a [Lexeme],
+) -> Result<(Option<Fault>, &'a [Lexeme]), ReadError>
+    ensures gives { Reads (λ x. (built parts.new, x.0, x.1.now)) result (into (built parts.old) (square_at text.now ts.now)) }
+    ensures shorter { IfOk result (λ x. length x.1.now < length ts.now) }
+{
+    let (bytes, rest) = pairs(alloc, text, ts)?;
+    parts.push_bytes(bytes.as_slice())?;
+    Ok((None, rest))
+}
+
+#[tactic(auto, unfolding(crate::specs::Bodies::piece_at))]
+fn piece<'a>(
+    alloc: Global,
+    parts: &mut Parts,
+    text: &[u8],
+    ts: &'a [Lexeme],
+) -> Result<(Option<Fault>, &'a [Lexeme]), ReadError>
+    ensures gives { Reads (λ x. (built parts.new, x.0, x.1.now)) result (into (built parts.old) (piece_at text.now ts.now)) }
+    ensures shorter { IfOk result (λ x. length x.1.now < length ts.now) }
+{
+    match ts {
+        [] => Err(ReadError::Refused(syntax_at(ts))),
+        [t, rest @ ..] => match t.kind {
+            Kind::Text => {
+                let fault = push_string(alloc, parts, text, *t)?;
+                Ok((fault, rest))
+            }
+            Kind::Reference => {
+                push_path(alloc, parts, text, *t)?;
+                Ok((None, rest))
+            }
+            Kind::PathReference => {
+                push_path(alloc, parts, text, *t)?;
+                Ok((None, rest))
+            }
+            Kind::Square => push_pairs(alloc, parts, text, rest),
+            Kind::Less => cells(alloc, parts, text, Some(Width::ThirtyTwo), rest),
+            Kind::Bits => bits(alloc, parts, text, rest),
+            _ => Err(ReadError::Refused(syntax_at(ts))),
+        },
+    }
+}
+
+// A piece, with labels before and after it, which are dropped.
+#[tactic(auto, using(crate::proofs::PieceLoops::placed_is), unfolding(crate::specs::Bodies::placed_at))]
+fn placed<'a>(
+    alloc: Global,
+    parts: &mut Parts,
+    text: &[u8],
+    ts: &'a [Lexeme],
+) -> Result<(Option<Fault>, &'a [Lexeme]), ReadError>
+    ensures gives { Reads (λ x. (built parts.new, x.0, x.1.now)) result (into (built parts.old) (placed_at text.now ts.now)) }
+    ensures shorter { IfOk result (λ x. length x.1.now < length ts.now) }
+{
+    let (_, bare) = labels(ts);
+    let (fault, behind) = piece(alloc, parts, text, bare)?;
+    let (_, rest) = labels(behind);
+    Ok((fault, rest))
+}
+
+// What follows a comma.
+fn comma<'a>(ts: &'a [Lexeme]) -> Option<&'a [Lexeme]>
+    ensures gives { option_map (λ x. x.now) result ≡ comma_rest ts.now }
+    ensures shorter { IfSome result (λ x. length x.now < length ts.now) }
+{
+    match ts {
+        [t, rest @ ..] => match t.kind {
+            Kind::Comma => Some(rest),
+            _ => None,
+        },
+        [] => None,
+    }
+}
+
+fn pieces<'a>(
+    alloc: Global,
+    parts: &mut Parts,
+    text: &[u8],
+    ts: &'a [Lexeme],
+) -> Result<(Option<Fault>, &'a [Lexeme]), ReadError>
+    ensures gives { Reads (λ x. (built parts.new, x.0, x.1.now)) result (into (built parts.old) (pieces_at text.now ts.now)) }
+    ensures shorter { IfOk result (λ x. length x.1.now < length ts.now) }
+{
+    let (mut first, mut left) = placed(alloc, parts, text, ts)?;
+    while let Some(rest) = comma(left) {
+        let (fault, after) = placed(alloc, parts, text, rest)?;
+        first = earlier(first, fault);
+        left = after;
+    }
+    Ok((first, left))
+}
+
+/// Reads a value behind its `=`: its parts, its first fault, and the lexemes behind it.
+pub fn value<'a>(
+    alloc: Global,
+    text: &[u8],
+    ts: &'a [Lexeme],
+) -> Result<(Vec<Part>, Option<Fault>, &'a [Lexeme]), ReadError>
+    ensures gives { Reads (λ x. (map part_view x.0.items, x.1, x.2.now)) result (value_at text.now ts.now) }
+    ensures shorter { IfOk result (λ x. length x.2.now < length ts.now) }
+{
+    let mut parts = Parts::new(alloc);
+    let (fault, rest) = pieces(alloc, &mut parts, text, ts)?;
+    let value = parts.finish(alloc)?;
+    Ok((value, fault, rest))
+}

@@ -1,0 +1,429 @@
+//! Sources as they are read: headers, reservations and items.
+ghost use Rattle.std.specs.Prelude.{◌≡◌, ◌≤◌, ◌<◌, ◌++◌, ◌∷◌, None, Some, map, length, IfOk, OnOk, IfSome, option_map};
+ghost use Rattle.dt_source.specs.Reading.{Gives};
+ghost use Rattle.dt_source.specs.Sequences.{Reads};
+ghost use Rattle.dt_source.specs.Tree.{Deletes, body_of, view, views, item_view, meaning};
+ghost use Rattle.dt_source.specs.Pieces.{target_of};
+ghost use Rattle.dt_source.specs.Bodies.{ended_by};
+ghost use Rattle.dt_source.specs.Source.{both_numbers};
+ghost use Rattle.dt_source.specs.Whole.{semicolon_at, plugin_at, header_at, more_headers, headers_at, some_header, reserve_with, reserve_at, reserves_at, brace_at, extend_at, root_at, delete_at, bare_item, unlabelled_item, item_with, item_at, some_items, all_items_at, items_at, source_at};
+
+use crate::body::{body, label_list};
+use crate::cells::fault_in;
+use crate::expression::{primary, syntax_at};
+use crate::lexeme::{Fault, Kind, Lexeme, ReadError, Refusal};
+use crate::pieces::labels;
+use crate::string::{earlier, target};
+use crate::tree::{Item, Source, Statement};
+use std::alloc::{AllocError, Global};
+
+fn semicolon(ts: &[Lexeme]) -> Result<&[Lexeme], Refusal>
+    ensures gives { Gives (λ x. x.now) result (semicolon_at ts.now) }
+    ensures shorter { IfOk result (λ x. length x.now < length ts.now) }
+{
+    match ts {
+        [] => Err(syntax_at(ts)),
+        [t, rest @ ..] => match t.kind {
+            Kind::Semicolon => Ok(rest),
+            _ => Err(syntax_at(ts)),
+        },
+    }
+}
+
+fn plugin(ts: &[Lexeme]) -> Result<(bool, &[Lexeme]), Refusal>
+    ensures gives { Gives (λ x. (x.0, x.1.now)) result (plugin_at ts.now) }
+    ensures shorter { IfOk result (λ x. length x.1.now ≤ length ts.now) }
+{
+    match ts {
+        [] => Ok((false, ts)),
+        [t, rest @ ..] => match t.kind {
+            Kind::Plugin => {
+                let rest = semicolon(rest)?;
+                Ok((true, rest))
+            }
+            _ => Ok((false, ts)),
+        },
+    }
+}
+
+// A header, where one begins: whether it says that the source is a plugin.
+#[tactic(auto, unfolding(crate::specs::Whole::header_at))]
+fn header(ts: &[Lexeme]) -> Result<(Option<bool>, &[Lexeme]), Refusal>
+    ensures gives { Gives (λ x. (x.0, None, x.1.now)) result (header_at ts.now) }
+    ensures shorter { IfOk result (λ x. IfSome x.0 (λ _. length x.1.now < length ts.now)) }
+{
+    match ts {
+        [] => Ok((None, ts)),
+        [t, rest @ ..] => match t.kind {
+            Kind::Version => {
+                let rest = semicolon(rest)?;
+                let (said, rest) = plugin(rest)?;
+                Ok((Some(said), rest))
+            }
+            _ => Ok((None, ts)),
+        },
+    }
+}
+
+fn more_headers(plugin: Option<bool>, said: bool) -> Option<bool>
+    ensures { result ≡ more_headers plugin said }
+{
+    match plugin {
+        None => Some(said),
+        Some(before) => Some(before || said),
+    }
+}
+
+fn headers(ts: &[Lexeme]) -> Result<(Option<bool>, &[Lexeme]), Refusal>
+    ensures gives { Gives (λ x. (x.0, None, x.1.now)) result (headers_at ts.now) }
+{
+    let mut plugin = None;
+    let mut left = ts;
+    'headers: loop {
+        let (found, rest) = header(left)?;
+        match found {
+            None => return Ok((plugin, rest)),
+            Some(said) => plugin = more_headers(plugin, said),
+        }
+        left = rest;
+    }
+}
+
+fn some_header(plugin: Option<bool>, ts: &[Lexeme]) -> Result<bool, Refusal>
+    ensures { Gives (λ x. x) result (some_header ts.now plugin) }
+{
+    match plugin {
+        None => Err(syntax_at(ts)),
+        Some(plugin) => Ok(plugin),
+    }
+}
+
+fn reserve_with<'a>(
+    text: &[u8],
+    whole: &'a [Lexeme],
+    ts: &'a [Lexeme],
+) -> Result<
+    (
+        Option<(Result<u64, Fault>, Result<u64, Fault>)>,
+        Option<Fault>,
+        &'a [Lexeme],
+    ),
+    Refusal,
+>
+    ensures gives { Gives (λ x. (x.0, x.1, x.2.now)) result (reserve_with text.now whole.now ts.now) }
+    ensures shorter { IfOk result (λ x. IfSome x.0 (λ _. length x.2.now < length ts.now)) }
+{
+    match ts {
+        [] => Ok((None, None, whole)),
+        [t, rest @ ..] => match t.kind {
+            Kind::MemReserve => {
+                let (address, rest) = primary(text, rest)?;
+                let (size, rest) = primary(text, rest)?;
+                let rest = semicolon(rest)?;
+                Ok((
+                    Some((address, size)),
+                    earlier(fault_in(address), fault_in(size)),
+                    rest,
+                ))
+            }
+            _ => Ok((None, None, whole)),
+        },
+    }
+}
+
+// A reservation, where one begins.
+#[tactic(auto, unfolding(crate::specs::Whole::reserve_at))]
+fn reserve<'a>(
+    text: &[u8],
+    ts: &'a [Lexeme],
+) -> Result<
+    (
+        Option<(Result<u64, Fault>, Result<u64, Fault>)>,
+        Option<Fault>,
+        &'a [Lexeme],
+    ),
+    Refusal,
+>
+    ensures gives { Gives (λ x. (x.0, x.1, x.2.now)) result (reserve_at text.now ts.now) }
+    ensures shorter { IfOk result (λ x. IfSome x.0 (λ _. length x.2.now < length ts.now)) }
+{
+    let (_, rest) = labels(ts);
+    reserve_with(text, ts, rest)
+}
+
+fn push_reserve(
+    list: &mut Vec<(u64, u64)>,
+    values: (Result<u64, Fault>, Result<u64, Fault>),
+) -> Result<(), AllocError>
+    ensures { OnOk result (list.new.items ≡ list.old.items ++ both_numbers values) }
+{
+    match values {
+        (Ok(address), Ok(size)) => {
+            list.push((address, size))?;
+            Ok(())
+        }
+        _ => Ok(()),
+    }
+}
+
+fn reserves<'a>(
+    alloc: Global,
+    text: &[u8],
+    ts: &'a [Lexeme],
+) -> Result<(Vec<(u64, u64)>, Option<Fault>, &'a [Lexeme]), ReadError>
+    ensures gives { Reads (λ x. (x.0.items, x.1, x.2.now)) result (reserves_at text.now ts.now) }
+{
+    let mut list = Vec::new(alloc);
+    let mut first = None;
+    let mut left = ts;
+    'reserves: loop {
+        let (found, fault, rest) = reserve(text, left)?;
+        first = earlier(first, fault);
+        left = rest;
+        match found {
+            None => return Ok((list, first, left)),
+            Some(values) => push_reserve(&mut list, values)?,
+        }
+    }
+}
+
+fn end_body(
+    statements: Vec<Statement>,
+    fault: Option<Fault>,
+    ts: &[Lexeme],
+) -> Result<(Vec<Statement>, Option<Fault>, &[Lexeme]), ReadError>
+    ensures gives { Reads (λ x. (views x.0.items, x.1, x.2.now)) result (ended_by (body_of (map view statements.items)) fault ts.now) }
+    ensures shorter { IfOk result (λ x. length x.2.now < length ts.now) }
+{
+    match ts {
+        [] => Err(ReadError::Refused(syntax_at(ts))),
+        [t, rest @ ..] => match t.kind {
+            Kind::Semicolon => Ok((statements, fault, rest)),
+            _ => Err(ReadError::Refused(syntax_at(ts))),
+        },
+    }
+}
+
+// The body of an item, and a semicolon.
+#[tactic(auto, unfolding(crate::specs::Whole::brace_at))]
+fn brace<'a>(
+    alloc: Global,
+    text: &[u8],
+    ts: &'a [Lexeme],
+) -> Result<(Vec<Statement>, Option<Fault>, &'a [Lexeme]), ReadError>
+    ensures gives { Reads (λ x. (views x.0.items, x.1, x.2.now)) result (brace_at text.now ts.now) }
+    ensures shorter { IfOk result (λ x. length x.2.now < length ts.now) }
+{
+    match ts {
+        [] => Err(ReadError::Refused(syntax_at(ts))),
+        [t, rest @ ..] => match t.kind {
+            Kind::Brace => {
+                let (statements, fault, rest) = body(alloc, text, 64, rest)?;
+                end_body(statements, fault, rest)
+            }
+            _ => Err(ReadError::Refused(syntax_at(ts))),
+        },
+    }
+}
+
+fn extend<'a>(
+    alloc: Global,
+    text: &[u8],
+    labels: &[Lexeme],
+    t: Lexeme,
+    ts: &'a [Lexeme],
+) -> Result<(Option<Item>, Option<Fault>, &'a [Lexeme]), ReadError>
+    ensures gives { Reads (λ x. (option_map item_view x.0, x.1, x.2.now)) result (extend_at text.now labels.now t ts.now) }
+    ensures shorter { IfOk result (λ x. length x.2.now < length ts.now) }
+{
+    let (body, fault, rest) = brace(alloc, text, ts)?;
+    let labels = label_list(alloc, text, labels)?;
+    let target = target(alloc, text, t)?;
+    Ok((
+        Some(Item::Extend {
+            labels,
+            target,
+            body,
+        }),
+        fault,
+        rest,
+    ))
+}
+
+fn end_delete<'a>(
+    alloc: Global,
+    text: &[u8],
+    t: Lexeme,
+    ts: &'a [Lexeme],
+) -> Result<(Option<Item>, Option<Fault>, &'a [Lexeme]), ReadError>
+    ensures gives { Reads (λ x. (option_map item_view x.0, x.1, x.2.now)) result (ended_by (Some (Deletes (target_of text.now t))) None ts.now) }
+    ensures shorter { IfOk result (λ x. length x.2.now < length ts.now) }
+{
+    let target = target(alloc, text, t)?;
+    match ts {
+        [] => Err(ReadError::Refused(syntax_at(ts))),
+        [s, rest @ ..] => match s.kind {
+            Kind::Semicolon => Ok((Some(Item::Delete(target)), None, rest)),
+            _ => Err(ReadError::Refused(syntax_at(ts))),
+        },
+    }
+}
+
+fn delete<'a>(
+    alloc: Global,
+    text: &[u8],
+    ts: &'a [Lexeme],
+) -> Result<(Option<Item>, Option<Fault>, &'a [Lexeme]), ReadError>
+    ensures gives { Reads (λ x. (option_map item_view x.0, x.1, x.2.now)) result (delete_at text.now ts.now) }
+    ensures shorter { IfOk result (λ x. length x.2.now < length ts.now) }
+{
+    match ts {
+        [] => Err(ReadError::Refused(syntax_at(ts))),
+        [t, rest @ ..] => match t.kind {
+            Kind::Reference => end_delete(alloc, text, *t, rest),
+            Kind::PathReference => end_delete(alloc, text, *t, rest),
+            _ => Err(ReadError::Refused(syntax_at(ts))),
+        },
+    }
+}
+
+fn root<'a>(
+    alloc: Global,
+    text: &[u8],
+    ts: &'a [Lexeme],
+) -> Result<(Option<Item>, Option<Fault>, &'a [Lexeme]), ReadError>
+    ensures gives { Reads (λ x. (option_map item_view x.0, x.1, x.2.now)) result (root_at text.now ts.now) }
+    ensures shorter { IfOk result (λ x. length x.2.now < length ts.now) }
+{
+    let (body, fault, rest) = brace(alloc, text, ts)?;
+    Ok((Some(Item::Root(body)), fault, rest))
+}
+
+// The root again, or the deletion of a node. The lexemes with this one are for the refusal.
+fn bare<'a>(
+    alloc: Global,
+    text: &[u8],
+    t: Lexeme,
+    rest: &'a [Lexeme],
+    ts: &'a [Lexeme],
+) -> Result<(Option<Item>, Option<Fault>, &'a [Lexeme]), ReadError>
+    requires { ts.now ≡ t ∷ rest.now }
+    ensures gives { Reads (λ x. (option_map item_view x.0, x.1, x.2.now)) result (bare_item text.now t.kind t rest.now) }
+    ensures shorter { IfOk result (λ x. length x.2.now < length ts.now) }
+{
+    match t.kind {
+        Kind::Slash => root(alloc, text, rest),
+        Kind::DeleteNode => delete(alloc, text, rest),
+        _ => Err(ReadError::Refused(syntax_at(ts))),
+    }
+}
+
+// Nothing but a reference follows labels.
+fn unlabelled<'a>(
+    alloc: Global,
+    text: &[u8],
+    labels: &[Lexeme],
+    t: Lexeme,
+    rest: &'a [Lexeme],
+    ts: &'a [Lexeme],
+) -> Result<(Option<Item>, Option<Fault>, &'a [Lexeme]), ReadError>
+    requires { ts.now ≡ t ∷ rest.now }
+    ensures gives { Reads (λ x. (option_map item_view x.0, x.1, x.2.now)) result (unlabelled_item text.now labels.now t.kind t rest.now) }
+    ensures shorter { IfOk result (λ x. length x.2.now < length ts.now) }
+{
+    match labels {
+        [] => bare(alloc, text, t, rest, ts),
+        [_, ..] => Err(ReadError::Refused(syntax_at(ts))),
+    }
+}
+
+fn item_with<'a>(
+    alloc: Global,
+    text: &[u8],
+    labels: &[Lexeme],
+    ts: &'a [Lexeme],
+) -> Result<(Option<Item>, Option<Fault>, &'a [Lexeme]), ReadError>
+    ensures gives { Reads (λ x. (option_map item_view x.0, x.1, x.2.now)) result (item_with text.now labels.now ts.now) }
+    ensures shorter { IfOk result (λ x. length x.2.now < length ts.now) }
+{
+    match ts {
+        [] => Err(ReadError::Refused(syntax_at(ts))),
+        [t, rest @ ..] => match t.kind {
+            Kind::Reference => extend(alloc, text, labels, *t, rest),
+            Kind::PathReference => extend(alloc, text, labels, *t, rest),
+            _ => unlabelled(alloc, text, labels, *t, rest, ts),
+        },
+    }
+}
+
+// An item, or the end.
+#[tactic(auto, unfolding(crate::specs::Whole::item_at))]
+fn item<'a>(
+    alloc: Global,
+    text: &[u8],
+    ts: &'a [Lexeme],
+) -> Result<(Option<Item>, Option<Fault>, &'a [Lexeme]), ReadError>
+    ensures gives { Reads (λ x. (option_map item_view x.0, x.1, x.2.now)) result (item_at text.now ts.now) }
+    ensures shorter { IfOk result (λ x. IfSome x.0 (λ _. length x.2.now < length ts.now)) }
+{
+    if ts.is_empty() {
+        return Ok((None, None, ts));
+    }
+    let (labels, rest) = labels(ts);
+    item_with(alloc, text, labels, rest)
+}
+
+fn all_items<'a>(
+    alloc: Global,
+    text: &[u8],
+    ts: &'a [Lexeme],
+) -> Result<(Vec<Item>, Option<Fault>, &'a [Lexeme]), ReadError>
+    ensures gives { Reads (λ x. (map item_view x.0.items, x.1, x.2.now)) result (all_items_at text.now ts.now) }
+{
+    let mut items = Vec::new(alloc);
+    let mut first = None;
+    let mut left = ts;
+    'items: loop {
+        let (found, fault, rest) = item(alloc, text, left)?;
+        first = earlier(first, fault);
+        match found {
+            None => return Ok((items, first, rest)),
+            Some(found) => items.push(found)?,
+        }
+        left = rest;
+    }
+}
+
+#[tactic(auto, unfolding(crate::specs::Whole::items_at))]
+fn items(alloc: Global, text: &[u8], ts: &[Lexeme]) -> Result<(Vec<Item>, Option<Fault>), ReadError>
+    ensures { Reads (λ x. (map item_view x.0.items, x.1)) result (items_at text.now ts.now) }
+{
+    let (items, fault, _) = all_items(alloc, text, ts)?;
+    if items.is_empty() {
+        return Err(ReadError::Refused(syntax_at(ts)));
+    }
+    Ok((items, fault))
+}
+
+/// Reads the source that all the lexemes spell, and its first fault.
+#[tactic(auto, unfolding(crate::specs::Whole::source_at))]
+pub fn source(
+    alloc: Global,
+    text: &[u8],
+    ts: &[Lexeme],
+) -> Result<(Source, Option<Fault>), ReadError>
+    ensures { Reads (λ x. (meaning x.0, x.1)) result (source_at text.now ts.now) }
+{
+    let (plugin, rest) = headers(ts)?;
+    let plugin = some_header(plugin, ts)?;
+    let (reserves, first, rest) = reserves(alloc, text, rest)?;
+    let (items, fault) = items(alloc, text, rest)?;
+    Ok((
+        Source {
+            plugin,
+            reserves,
+            items,
+        },
+        earlier(first, fault),
+    ))
+}

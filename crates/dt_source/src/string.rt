@@ -1,0 +1,246 @@
+//! Strings, pairs of hex digits, names and references, as bytes.
+ghost use Rattle.std.specs.Prelude.{◌≡◌, ◌<◌, ◌≤◌, ◌+◌, ◌^◌, ◌++◌, length, drop, slice_range, IfOk, OnOk, IfSome, option_map};
+ghost use Rattle.dt_source.specs.Strings.{escape_of, digit_at, octal_at, hex_at, escape_at, char_step, char_fault, char_number, string_bytes, string_faults, pair_byte};
+ghost use Rattle.dt_source.specs.Tree.{target_view};
+ghost use Rattle.dt_source.specs.Pieces.{target_of};
+ghost use Rattle.dt_source.specs.Sequences.{earlier};
+ghost use Rattle.dt_source.specs.Bodies.{first_of};
+
+use crate::lexeme::{Fault, FaultKind, Kind, Lexeme};
+use crate::literal::{bytes_of, digit_of};
+use crate::tree::Reference;
+use std::alloc::{AllocError, Global};
+
+/// What stands between two places of the text.
+pub fn bytes_between(text: &[u8], start: usize, end: usize) -> &[u8]
+    ensures { result.now ≡ slice_range text.now start end }
+{
+    let end = end.min(text.len());
+    let start = start.min(end);
+    &text[start..end]
+}
+
+fn from(s: &[u8], n: usize) -> &[u8]
+    requires { n ≤ length s.now }
+    ensures { result.now ≡ drop n s.now }
+{
+    &s[n..]
+}
+
+/// The first of two faults.
+pub fn earlier(a: Option<Fault>, b: Option<Fault>) -> Option<Fault>
+    ensures { result ≡ earlier a b }
+{
+    match a {
+        None => b,
+        Some(fault) => Some(fault),
+    }
+}
+
+// What a backslash before this byte stands for, where it is neither a digit nor x.
+fn escape_of(c: u8) -> u8
+    ensures { result ≡ escape_of c }
+{
+    match c {
+        b'a' => 7,
+        b'b' => 8,
+        b't' => 9,
+        b'n' => 10,
+        b'v' => 11,
+        b'f' => 12,
+        b'r' => 13,
+        _ => c,
+    }
+}
+
+fn digit(base: u8, s: &[u8]) -> Option<(u8, &[u8])>
+    ensures gives { option_map (λ x. (x.0, x.1.now)) result ≡ digit_at base s.now }
+    ensures small { IfSome result (λ x. x.0 < base) }
+{
+    match s {
+        [] => None,
+        [c, rest @ ..] => {
+            let number = digit_of(*c);
+            if number < base {
+                Some((number, rest))
+            } else {
+                None
+            }
+        }
+    }
+}
+
+fn octal(a: u8, s: &[u8]) -> (Option<u8>, usize)
+    requires { a < 8 }
+    ensures { result ≡ octal_at a s.now }
+{
+    match digit(8, s) {
+        None => (Some(a), 1),
+        Some((b, s)) => match digit(8, s) {
+            None => (Some(a * 8 + b), 2),
+            Some((c, _)) => {
+                let number = (a as u16 * 8 + b as u16) * 8 + c as u16;
+                (
+                    if number < 256 {
+                        Some(number as u8)
+                    } else {
+                        None
+                    },
+                    3,
+                )
+            }
+        },
+    }
+}
+
+fn hex(s: &[u8]) -> (Option<u8>, usize)
+    ensures { result ≡ hex_at s.now }
+{
+    match digit(16, s) {
+        None => (None, 1),
+        Some((a, s)) => match digit(16, s) {
+            None => (Some(a), 2),
+            Some((b, _)) => (Some(a * 16 + b), 3),
+        },
+    }
+}
+
+// What stands behind a backslash: its byte, where it stands for one, and how many bytes it has.
+fn escape(s: &[u8]) -> (Option<u8>, usize)
+    ensures { result ≡ escape_at s.now }
+{
+    match s {
+        [] => (None, 0),
+        [c, rest @ ..] => {
+            if *c == b'x' {
+                return hex(rest);
+            }
+            match digit(8, s) {
+                None => (Some(escape_of(*c)), 1),
+                Some((a, rest)) => octal(a, rest),
+            }
+        }
+    }
+}
+
+// The place of a byte of a string.
+fn place_in(l: Lexeme, index: usize) -> u32
+    requires { l.start + 1 + index < 2 ^ 32 }
+    ensures { result ≡ l.start + 1 + index }
+{
+    l.start + 1 + index as u32
+}
+
+// What a byte of a string stands for, with the bytes behind it, and how many of these belong to its backslash.
+fn char_at(
+    lexeme: Lexeme,
+    skip: usize,
+    index: usize,
+    c: u8,
+    rest: &[u8],
+) -> (Option<Result<u8, Fault>>, usize)
+    requires { lexeme.start + 1 + index < 2 ^ 32 }
+    ensures { result ≡ char_step skip (lexeme.start + 1 + index) c rest.now }
+{
+    if skip > 0 {
+        return (None, skip - 1);
+    }
+    if c != b'\\' {
+        return (Some(Ok(c)), 0);
+    }
+    let (byte, taken) = escape(rest);
+    match byte {
+        Some(byte) => (Some(Ok(byte)), taken),
+        None => (
+            Some(Err(Fault {
+                kind: FaultKind::BadEscape,
+                place: place_in(lexeme, index),
+            })),
+            taken,
+        ),
+    }
+}
+
+fn char_fault(said: Option<Result<u8, Fault>>) -> Option<Fault>
+    ensures { result ≡ char_fault said }
+{
+    match said {
+        Some(Err(fault)) => Some(fault),
+        _ => None,
+    }
+}
+
+fn push_char(bytes: &mut Vec<u8>, said: Option<Result<u8, Fault>>) -> Result<(), AllocError>
+    ensures { OnOk result (bytes.new.items ≡ bytes.old.items ++ char_number said) }
+{
+    match said {
+        Some(Ok(byte)) => {
+            bytes.push(byte)?;
+            Ok(())
+        }
+        _ => Ok(()),
+    }
+}
+
+/// The bytes of a string with a zero byte, and its first fault.
+pub fn string_of(
+    alloc: Global,
+    text: &[u8],
+    lexeme: Lexeme,
+) -> Result<(Vec<u8>, Option<Fault>), AllocError>
+    ensures { IfOk result (λ x. (x.0.items ≡ string_bytes text.now lexeme) × (x.1 ≡ first_of (string_faults text.now lexeme))) }
+{
+    let inside = bytes_between(
+        text,
+        lexeme.start as usize + 1,
+        (lexeme.end as usize).saturating_sub(1),
+    );
+    let mut bytes = Vec::new(alloc);
+    let mut first = None;
+    let mut skip: usize = 0;
+    for (i, c) in inside.iter().enumerate() {
+        let (said, taken) = char_at(lexeme, skip, i, *c, from(inside, i + 1));
+        first = earlier(first, char_fault(said));
+        push_char(&mut bytes, said)?;
+        skip = taken;
+    }
+    bytes.push(0)?;
+    Ok((bytes, first))
+}
+
+/// The byte of two hex digits.
+#[tactic(auto, unfolding(crate::specs::Strings::pair_byte))]
+pub fn pair(text: &[u8], l: Lexeme) -> u8
+    ensures { result ≡ pair_byte text.now l }
+{
+    match bytes_of(text, l) {
+        [a, b, ..] => ((digit_of(*a) as u16 * 16 + digit_of(*b) as u16) % 256) as u8,
+        _ => 0,
+    }
+}
+
+/// What a reference names.
+pub fn target(alloc: Global, text: &[u8], l: Lexeme) -> Result<Reference, AllocError>
+    ensures { IfOk result (λ r. target_view r ≡ target_of text.now l) }
+{
+    match l.kind {
+        Kind::PathReference => {
+            let path = Vec::from_slice(
+                alloc,
+                bytes_between(
+                    text,
+                    l.start as usize + 2,
+                    (l.end as usize).saturating_sub(1),
+                ),
+            )?;
+            Ok(Reference::Path(path))
+        }
+        _ => {
+            let label = Vec::from_slice(
+                alloc,
+                bytes_between(text, l.start as usize + 1, l.end as usize),
+            )?;
+            Ok(Reference::Label(label))
+        }
+    }
+}

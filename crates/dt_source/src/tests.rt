@@ -1,0 +1,4 @@
+mod board;
+mod expressions;
+mod lexemes;
+mod parsing;

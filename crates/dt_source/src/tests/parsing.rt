@@ -1,0 +1,330 @@
+use crate::error::{SourceError, SourceErrorKind};
+use crate::parse::{one_source, parse};
+use crate::tree::{Item, Part, Reference, Statement};
+use std::alloc::{AllocError, Global};
+use std::test::Fail;
+
+// The value of the last property of the last item, which is the root.
+fn last_value(alloc: Global, text: &[u8]) -> Result<Vec<Part>, u8> {
+    match parse(alloc, text) {
+        Err(e) => Err(e.number()),
+        Ok(mut source) => match source.items.pop() {
+            Some(Item::Root(mut body)) => match body.pop() {
+                Some(Statement::Property { value, .. }) => Ok(value),
+                _ => Err(255),
+            },
+            _ => Err(255),
+        },
+    }
+}
+
+pub fn number(alloc: Global, text: &[u8]) -> u8 {
+    match parse(alloc, text) {
+        Err(e) => e.number(),
+        Ok(_) => 255,
+    }
+}
+
+#[test]
+fn values_of_bytes(rt: HostRuntime) -> Result<(), Fail> {
+    one_source();
+    let rows = [
+        // cell-arithmetic
+        (
+            b"/dts-v1/; / { p = <(1 << 64) (0 - 1) (2 + 3 * 4)>; };".as_slice(),
+            [0, 0, 0, 0, 255, 255, 255, 255, 0, 0, 0, 14].as_slice(),
+        ),
+        (
+            b"/dts-v1/; / { p = /bits/ 8 <1 0xff (0 - 1)>; };",
+            &[1, 255, 255],
+        ),
+        // divide-by-zero
+        (
+            b"/dts-v1/; / { s = \"a\\x41\\n\\101\", [0a 0B], <2>; };",
+            &[0x61, 0x41, 0x0a, 0x41, 0, 0x0a, 0x0b, 0, 0, 0, 2],
+        ),
+        // precedence
+        (
+            b"/dts-v1/; / { p = <(1 | 2 == 2) (2 - 3 < 0) (1 ? 2 : 3 ? 4 : 5) (-1 >> 63)>; };",
+            &[0, 0, 0, 1, 0, 0, 0, 0, 0, 0, 0, 2, 0, 0, 0, 1],
+        ),
+        // element-width
+        (
+            b"/dts-v1/; / { p = /bits/ 8 <(-128) (-256)>; };",
+            &[0x80, 0],
+        ),
+        (
+            b"/dts-v1/; / { p = /bits/ 64 <0xffffffffffffffff>; };",
+            &[255, 255, 255, 255, 255, 255, 255, 255],
+        ),
+        (b"/dts-v1/; / { p = /bits/ 16 <1 l: 2>; };", &[0, 1, 0, 2]),
+        // escapes, a line end in a string, labels everywhere, bytes without blanks
+        (
+            b"/dts-v1/; / { p = \"\\a\\b\\t\\n\\v\\f\\r\\q\\\"\\7\"; };",
+            &[7, 8, 9, 10, 11, 12, 13, 113, 34, 7, 0],
+        ),
+        (
+            b"/dts-v1/; / { p = a: [ b: 0a0B c: ] d: , e: \"\n\\\n\" f: ; };",
+            &[10, 11, 10, 10, 0],
+        ),
+    ];
+    for (text, bytes) in rows {
+        match last_value(rt.alloc(), text) {
+            Ok(value) => match value.as_slice() {
+                [Part::Bytes(found)] => assert_eq!(rt; found.as_slice(), bytes),
+                _ => assert!(rt; false),
+            },
+            Err(_) => assert!(rt; false),
+        }
+    }
+    Ok(())
+}
+
+#[test]
+fn values_of_parts(rt: HostRuntime) -> Result<(), Fail> {
+    let text = b"/dts-v1/; / { p = [], \"x\", &l, <1 &m 2>, <>, [03], &{/a/b@1}, \"\"; };";
+    match last_value(rt.alloc(), text) {
+        Ok(value) => match value.as_slice() {
+            [
+                Part::Bytes(a),
+                Part::Path(Reference::Label(l)),
+                Part::Bytes(b),
+                Part::Phandle(Reference::Label(m)),
+                Part::Bytes(c),
+                Part::Path(Reference::Path(d)),
+                Part::Bytes(e),
+            ] => {
+                assert_eq!(rt; a.as_slice(), b"x\0".as_slice());
+                assert_eq!(rt; l.as_slice(), b"l".as_slice());
+                assert_eq!(rt; b.as_slice(), [0, 0, 0, 1].as_slice());
+                assert_eq!(rt; m.as_slice(), b"m".as_slice());
+                assert_eq!(rt; c.as_slice(), [0, 0, 0, 2, 3].as_slice());
+                assert_eq!(rt; d.as_slice(), b"/a/b@1".as_slice());
+                assert_eq!(rt; e.as_slice(), [0].as_slice());
+            }
+            _ => assert!(rt; false),
+        },
+        Err(_) => assert!(rt; false),
+    }
+    match last_value(rt.alloc(), b"/dts-v1/; / { p = [], <>; };") {
+        Ok(value) => assert_eq!(rt; value.len(), 0),
+        Err(_) => assert!(rt; false),
+    }
+    Ok(())
+}
+
+#[test]
+fn refusals(rt: HostRuntime) -> Result<(), Fail> {
+    let rows = [
+        // syntax-fault
+        (b"/dts-v1/; / {".as_slice(), 10, 1),
+        (b"", 10, 1),
+        (b"/dts-v1/;\n/ { };\n", 255, 0),
+        (b"/dts-v1/;\n/ {\n", 10, 3),
+        (b"/dts-v1/;\n/* / { };\n", 10, 2),
+        (b"/dts-v1/;\n/ {\n  s = \"a\n\n", 10, 3),
+        (b"/dts-v1/;\n/ {\n  a { };\n b;\n};", 10, 4),
+        (b"/dts-v1/; /plugin/; /plugin/; / { };", 10, 1),
+        (b"/plugin/; / { };", 10, 1),
+        (b"/dts-v1/;", 10, 1),
+        // cell-arithmetic, divide-by-zero
+        (b"/dts-v1/; / { p = <0x100000000>; };", 11, 1),
+        (b"/dts-v1/; / { p = <(0 && 1 / 0)>; };", 12, 1),
+        (b"/dts-v1/; / { p = <(1 % 0)>; };", 12, 1),
+        // element-width
+        (b"/dts-v1/; / { p = /bits/ 8 <(-257)>; };", 11, 1),
+        (b"/dts-v1/; / { p = /bits/ 8 <256>; };", 11, 1),
+        (b"/dts-v1/; / { p = /bits/ 12 <1>; };", 13, 1),
+        (b"/dts-v1/; / { p = /bits/ 64 <&a>; };", 13, 1),
+        (b"/dts-v1/; / { p = /bits/ 08 <256>; };", 14, 1),
+        // bad-literals
+        (b"/dts-v1/; / { p = <08>; };", 14, 1),
+        (b"/dts-v1/; / { p = <18446744073709551616>; };", 14, 1),
+        (b"/dts-v1/; / { p = \"\\400\"; };", 15, 1),
+        (b"/dts-v1/; / { p = \"\\x\"; };", 15, 1),
+        (b"/dts-v1/; / { p = <1>; /* };", 10, 1),
+        // the first fault, and its line; a syntax fault comes before all of them
+        (b"/dts-v1/;\n/memreserve/ 08 (1 / 0);\n/ { };", 14, 2),
+        (b"/dts-v1/;\n/ { a = <1\n 0x100000000>, \"\\x\"; };", 11, 3),
+        (
+            b"/dts-v1/;\n/ { a { b = \"\\x\"; };\n c { d = <(1 / 0)>; }; };",
+            15,
+            2,
+        ),
+        (b"/dts-v1/;\n/ { a = <(1 / 0)>; } };", 10, 2),
+    ];
+    for (text, refused, line) in rows {
+        match parse(rt.alloc(), text) {
+            Ok(_) => assert_eq!(rt; refused, 255),
+            Err(e) => {
+                assert_eq!(rt; e.number(), refused);
+                assert_eq!(rt; e.line, line);
+            }
+        }
+    }
+    let long = vec![in rt.alloc(); b' '; 16_777_217]?;
+    let error = SourceError {
+        kind: SourceErrorKind::TooLong,
+        line: 1,
+    };
+    assert_eq!(rt; error.name(), "TooLong");
+    match parse(rt.alloc(), long.as_slice()) {
+        Ok(_) => assert!(rt; false),
+        Err(e) => assert_eq!(rt; e, error),
+    }
+    Ok(())
+}
+
+#[test]
+fn items(rt: HostRuntime) -> Result<(), Fail> {
+    let text =
+        b"/dts-v1/;\n# 1 \"a.dts\"\n/plugin/; /dts-v1/; m: /memreserve/ 0x1000 (0x1000 * 2);\n/ { };\na: b: &l { x; c: d: n@1 { /delete-property/ y; /delete-node/ z; }; };\n/delete-node/ &{/a};";
+    match parse(rt.alloc(), text) {
+        Err(_) => assert!(rt; false),
+        Ok(source) => {
+            assert!(rt; source.plugin);
+            assert_eq!(rt; source.reserves.as_slice(), [(0x1000, 0x2000)].as_slice());
+            match source.items.as_slice() {
+                [
+                    Item::Root(root),
+                    Item::Extend {
+                        labels,
+                        target: Reference::Label(l),
+                        body,
+                    },
+                    Item::Delete(Reference::Path(path)),
+                ] => {
+                    assert_eq!(rt; root.len(), 0);
+                    assert_eq!(rt; labels.len(), 2);
+                    assert_eq!(rt; labels[1].as_slice(), b"b".as_slice());
+                    assert_eq!(rt; l.as_slice(), b"l".as_slice());
+                    assert_eq!(rt; path.as_slice(), b"/a".as_slice());
+                    match body.as_slice() {
+                        [
+                            Statement::Property { name, value },
+                            Statement::Node {
+                                labels,
+                                name: node,
+                                body,
+                            },
+                        ] => {
+                            assert_eq!(rt; name.as_slice(), b"x".as_slice());
+                            assert_eq!(rt; value.len(), 0);
+                            assert_eq!(rt; labels.len(), 2);
+                            assert_eq!(rt; node.as_slice(), b"n@1".as_slice());
+                            match body.as_slice() {
+                                [
+                                    Statement::DeleteProperty { name: y },
+                                    Statement::DeleteNode { name: z },
+                                ] => {
+                                    assert_eq!(rt; y.as_slice(), b"y".as_slice());
+                                    assert_eq!(rt; z.as_slice(), b"z".as_slice());
+                                }
+                                _ => assert!(rt; false),
+                            }
+                        }
+                        _ => assert!(rt; false),
+                    }
+                }
+                _ => assert!(rt; false),
+            }
+        }
+    }
+    Ok(())
+}
+
+// A source with so many of the first pieces and then of the last around the middle.
+fn nested(
+    alloc: Global,
+    head: &[u8],
+    open: &[u8],
+    middle: &[u8],
+    close: &[u8],
+    tail: &[u8],
+    depth: usize,
+) -> Result<Vec<u8>, AllocError> {
+    let mut text = Vec::from_slice(alloc, head)?;
+    for _ in 0..depth {
+        text.extend_from_slice(open)?;
+    }
+    text.extend_from_slice(middle)?;
+    for _ in 0..depth {
+        text.extend_from_slice(close)?;
+    }
+    text.extend_from_slice(tail)?;
+    Ok(text)
+}
+
+// nesting-bounds
+#[test]
+fn nesting(rt: HostRuntime) -> Result<(), Fail> {
+    for (depth, expected) in [(64, 255), (65, 16)] {
+        let parens = nested(
+            rt.alloc(),
+            b"/dts-v1/; / { p = <",
+            b"(",
+            b"1",
+            b")",
+            b">; };",
+            depth,
+        )?;
+        assert_eq!(rt; number(rt.alloc(), parens.as_slice()), expected);
+        let nodes = nested(
+            rt.alloc(),
+            b"/dts-v1/; / {",
+            b"a {",
+            b"",
+            b"};",
+            b"};",
+            depth,
+        )?;
+        assert_eq!(rt; number(rt.alloc(), nodes.as_slice()), expected);
+        let signs = nested(
+            rt.alloc(),
+            b"/dts-v1/; / { p = <(",
+            b"-",
+            b"1",
+            b"",
+            b")>; };",
+            depth - 1,
+        )?;
+        assert_eq!(rt; number(rt.alloc(), signs.as_slice()), expected);
+    }
+    // too deep before what is no lexeme, or behind it
+    let early = nested(
+        rt.alloc(),
+        b"/dts-v1/; / { p = <",
+        b"(",
+        b"\"",
+        b"",
+        b"",
+        65,
+    )?;
+    assert_eq!(rt; number(rt.alloc(), early.as_slice()), 16);
+    let late = nested(
+        rt.alloc(),
+        b"/dts-v1/; / } { p = <",
+        b"(",
+        b"\"",
+        b"",
+        b"",
+        65,
+    )?;
+    assert_eq!(rt; number(rt.alloc(), late.as_slice()), 10);
+    Ok(())
+}
+
+#[test]
+fn damaged_texts(rt: HostRuntime) -> Result<(), Fail> {
+    let text = b"/dts-v1/; /plugin/; &ocp { d { r = <&e>; }; e: e { }; };";
+    assert_eq!(rt; number(rt.alloc(), text), 255);
+    let mut damaged = Vec::from_slice(rt.alloc(), text)?;
+    for i in 0..text.len() {
+        let cut = number(rt.alloc(), &text[..i]);
+        assert!(rt; cut == 10 || cut == 16 || cut == 255);
+        damaged[i] = 0;
+        assert_eq!(rt; number(rt.alloc(), damaged.as_slice()), 10);
+        damaged[i] = text[i];
+    }
+    Ok(())
+}

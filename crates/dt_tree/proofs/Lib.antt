@@ -1,0 +1,10 @@
+pub mod Descent
+pub mod GreatestLaws
+pub mod MapLaws
+pub mod OrderLaws
+pub mod PathTexts
+pub mod PhandleLaws
+pub mod Places
+pub mod ReservedLaws
+pub mod SeenNames
+pub mod SiblingsLemmas

@@ -1,0 +1,16 @@
+pub mod Falls
+pub mod Fault
+pub mod Name
+pub mod NodeCode
+pub mod NodeData
+pub mod NodeView
+pub mod Path
+pub mod PathMap
+pub mod Phandle
+pub mod PhandleWalk
+pub mod Preorder
+pub mod Seen
+pub mod Sound
+pub mod TreeData
+pub mod TreeError
+pub mod TreeView

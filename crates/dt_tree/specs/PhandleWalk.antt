@@ -1,0 +1,49 @@
+-- What the walk for a phandle answers, node by node. The laws of `Phandle` are about the path map; `proofs/PhandleLaws.antt` joins the two.
+use Rattle.std.specs.Prelude.{ℕ, max, Bool, false, List, [], ◌∷◌, Option, Some, None, codes, if◌then◌else◌, ◌==◌, option_and_then}
+use Rattle.std.specs.Option.{option_map, option_map_or}
+use Rattle.dt_tree.specs.declared.property.Property.{Property}
+use Rattle.dt_tree.specs.NodeData.{Siblings, none, more, NodeData}
+use Rattle.dt_tree.specs.PathMap.{value_of}
+use Rattle.dt_tree.specs.Phandle.{phandle_in, is_reserved_name}
+
+-- the phandle of a node that isn't reserved
+abbrev pub phandle_of : List Property → Option ℕ
+phandle_of ps = option_and_then phandle_in (value_of ps (codes "phandle"))
+
+-- 0 for none
+abbrev pub phandle_or_zero : List Property → ℕ
+phandle_or_zero ps = option_map_or (λ h. h) (phandle_of ps) 0
+
+-- the nodes whose names aren't reserved
+abbrev pub unreserved : Siblings → Siblings
+unreserved none = none
+unreserved (more n p c rest) = if is_reserved_name n then unreserved rest else more n p c (unreserved rest)
+
+abbrev pub greatest_among : Siblings → ℕ
+greatest_among none = 0
+greatest_among (more n p c rest) = max (max (phandle_or_zero p) (greatest_among c)) (greatest_among rest)
+
+abbrev pub greatest_below : NodeData → ℕ
+greatest_below b = max (phandle_or_zero b.properties) (greatest_among b.children)
+
+abbrev pub greatest_in_tree : NodeData → ℕ
+greatest_in_tree root = max (phandle_or_zero root.properties) (greatest_among (unreserved root.children))
+
+abbrev pub or_else : {A : Type 0} → Option A → Option A → Option A
+or_else (Some x) o = Some x
+or_else None o = o
+
+-- whether the properties have this phandle
+abbrev pub has_phandle : List Property → ℕ → Bool
+has_phandle ps h = option_map_or (λ g. g == h) (phandle_of ps) false
+
+-- the names on the way to the first node with this phandle
+abbrev pub way_among : Siblings → ℕ → Option (List (List ℕ))
+way_among none h = None
+way_among (more n p c rest) h = or_else (option_map (λ q. n ∷ q) (if has_phandle p h then Some [] else way_among c h)) (way_among rest h)
+
+abbrev pub way_below : NodeData → ℕ → Option (List (List ℕ))
+way_below b h = if has_phandle b.properties h then Some [] else way_among b.children h
+
+abbrev pub way_in_tree : NodeData → ℕ → Option (List (List ℕ))
+way_in_tree root h = if has_phandle root.properties h then Some [] else way_among (unreserved root.children) h

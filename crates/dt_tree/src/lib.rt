@@ -1,0 +1,29 @@
+//! Devicetrees: names, paths, nodes and trees.
+//!
+//! The names, the depth of nodes and the properties follow the Devicetree Specification v0.4, chapter 2.
+#![tactic(auto)]
+
+mod bytes;
+mod error;
+mod finding;
+mod laws;
+mod making;
+mod name;
+mod node;
+mod path;
+mod phandle;
+mod property;
+mod reserved;
+mod tree;
+
+pub use bytes::Bytes;
+pub use error::TreeError;
+pub use laws::{map_of_a_tree, path_texts_and_names, preorder_of_a_tree, same_map_same_tree};
+pub use name::{Name, is_name};
+pub use node::Node;
+pub use path::{Path, is_path};
+pub use property::Property;
+pub use tree::Tree;
+
+#[cfg(test)]
+mod tests;

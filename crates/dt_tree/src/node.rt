@@ -1,0 +1,193 @@
+ghost use Rattle.std.specs.Prelude.{◌≡◌, ◌<◌, ◌≤◌, ◌⊎◌, All, IsTrue, IfOk, MatchResult, true, None, Some};
+ghost use Rattle.std.specs.Option.{option_copied};
+ghost use Rattle.dt_tree.specs.Fault.{fault_of, is_named};
+ghost use Rattle.dt_tree.specs.Name.{is_name};
+ghost use Rattle.dt_tree.specs.NodeData.{node_data, siblings, height_of, node_size};
+ghost use Rattle.dt_tree.specs.NodeView.{name_bytes};
+ghost use Rattle.dt_tree.specs.PathMap.{value_of};
+ghost use Rattle.dt_tree.specs.Sound.{IsSound};
+
+use crate::bytes::Bytes;
+use crate::error::TreeError;
+use crate::making::{
+    are_distinct_nodes, are_distinct_properties, are_named, check_name, check_nodes,
+    check_properties, height_of_all,
+};
+use crate::name::Name;
+use crate::property::Property;
+use std::alloc::{AllocError, Global};
+use std::marker::Model;
+
+/// The most levels of nodes below the root.
+pub const MAX_DEPTH: usize = 64;
+
+/// A node with its properties and the nodes below it. Properties and children each differ in name.
+#[derive(Debug, Drop)]
+pub struct Node {
+    name: Option<Name>,
+    properties: Vec<Property>,
+    children: Vec<Node>,
+}
+
+impl Model for Node {
+    ghost use Rattle.dt_tree.specs.NodeData.{NodeData, node_size};
+    ghost use Rattle.dt_tree.specs.NodeCode.{coded_node};
+
+    ghost Value = { NodeData };
+
+    ghost coded = { coded_node };
+
+    ghost use Rattle.dt_tree.specs.NodeView.{node_of};
+    ghost use Rattle.dt_tree.specs.Sound.{IsSound};
+
+    ghost view = { node_of };
+
+    ghost invariant = { λ a. IsSound (node_of a) };
+
+    ghost size = { node_size };
+
+    ghost use Rattle.std.proofs.Common.{arith};
+    ghost use Rattle.dt_tree.specs.Falls.{most_le-siblings_size};
+
+    ghost size_decreases = { λ a h. omega (arith, most_le-siblings_size a.children.items) };
+}
+
+impl Node {
+    /// Fails with the first of `BadName` (a child has no name), `DuplicateProperty`, `DuplicateNode` and
+    /// `TooDeep` (over 64 levels of nodes below this one), or with `NoMemory`.
+    pub fn new(
+        alloc: Global,
+        name: Option<Name>,
+        properties: Vec<Property>,
+        children: Vec<Node>,
+    ) -> Result<Node, TreeError>
+        ensures node { IfOk result (λ node. node ≡ node_data (name_bytes name) properties.items (siblings children.items)) }
+        ensures fault { MatchResult result (λ _. fault_of properties.items children.items ≡ None) (λ e. (fault_of properties.items children.items ≡ Some e) ⊎ (e ≡ TreeError.NoMemory)) }
+    {
+        if !are_named(children.as_slice()) {
+            return Err(TreeError::BadName);
+        }
+        if !are_distinct_properties(alloc, properties.as_slice())? {
+            return Err(TreeError::DuplicateProperty);
+        }
+        if !are_distinct_nodes(alloc, children.as_slice())? {
+            return Err(TreeError::DuplicateNode);
+        }
+        if height_of_all(children.as_slice()) > MAX_DEPTH {
+            return Err(TreeError::TooDeep);
+        }
+        check_name(&name);
+        check_properties(properties.as_slice());
+        check_nodes(children.as_slice());
+        Ok(Node {
+            name,
+            properties,
+            children,
+        })
+    }
+
+    /// The bytes of the name, none for the root.
+    pub fn name_bytes(&self) -> &[u8]
+        ensures { result.now ≡ self.now.name }
+    {
+        match &self.name {
+            None => &[],
+            Some(name) => name.as_bytes(),
+        }
+    }
+
+    /// The properties, in order.
+    pub fn properties(&self) -> &[Property]
+        ensures { result.now ≡ self.now.properties }
+    {
+        self.properties.as_slice()
+    }
+
+    /// The children, in order. Each has fewer nodes than this one, so that a recursion over them ends.
+    pub fn children(&self) -> &[Node]
+        ensures nodes { siblings result.now ≡ self.now.children }
+        ensures smaller { All (λ child. node_size child < node_size self.now) result.now }
+    {
+        self.children.as_slice()
+    }
+
+    /// Costs nothing: tells a caller's proof that the node and all below it are sound.
+    pub fn check(&self)
+        ensures { IsSound self.now }
+    {
+        let _ = &self.children;
+    }
+
+    /// The value of the property of this name.
+    pub fn value(&self, name: &[u8]) -> Option<&Bytes>
+        ensures { option_copied result ≡ value_of self.now.properties name.now }
+    {
+        for property in &self.properties {
+            if property.name.as_bytes() == name {
+                return Some(&property.value);
+            }
+        }
+        None
+    }
+
+    /// How many levels of nodes are below this one.
+    pub fn height(&self) -> usize
+        ensures value { result ≡ height_of self.now.children }
+        ensures bound { result ≤ 64 }
+    {
+        let mut most = 0;
+        for child in &self.children {
+            most = most.max(child.height() + 1);
+        }
+        most
+    }
+
+    /// An equal node.
+    pub fn copy(&self, alloc: Global) -> Result<Node, AllocError>
+        ensures { IfOk result (λ node. node ≡ self.now) }
+    {
+        let mut children = Vec::new(alloc);
+        for child in &self.children {
+            children.push(child.copy(alloc)?)?;
+        }
+        let properties = copy_properties(alloc, self.properties.as_slice())?;
+        let name = copy_name(alloc, &self.name)?;
+        Ok(Node {
+            name,
+            properties,
+            children,
+        })
+    }
+
+    pub(crate) fn is_named(&self) -> bool
+        ensures value { result ≡ is_named self.now }
+        ensures name { IsTrue result → is_name self.now.name ≡ true }
+    {
+        match &self.name {
+            None => false,
+            Some(name) => {
+                name.check();
+                true
+            }
+        }
+    }
+}
+
+fn copy_name(alloc: Global, name: &Option<Name>) -> Result<Option<Name>, AllocError>
+    ensures { IfOk result (λ copied. copied ≡ name.now) }
+{
+    match name {
+        None => Ok(None),
+        Some(name) => Ok(Some(name.copy(alloc)?)),
+    }
+}
+
+fn copy_properties(alloc: Global, properties: &[Property]) -> Result<Vec<Property>, AllocError>
+    ensures { IfOk result (λ copied. copied.items ≡ properties.now) }
+{
+    let mut copied = Vec::new(alloc);
+    for property in properties {
+        copied.push(property.copy(alloc)?)?;
+    }
+    Ok(copied)
+}

@@ -1,0 +1,107 @@
+//! The numbers by which nodes name one another.
+ghost use Rattle.std.specs.Prelude.{◌≡◌, ◌∷◌, ◌++◌, IfOk};
+ghost use Rattle.std.specs.Option.{option_map};
+ghost use Rattle.dt_tree.specs.Path.{behind_slashes};
+ghost use Rattle.dt_tree.specs.Phandle.{phandle_from, phandle_in};
+ghost use Rattle.dt_tree.specs.PhandleWalk.{phandle_of, has_phandle, phandle_or_zero, greatest_below, way_below};
+
+use crate::bytes::Bytes;
+use crate::node::Node;
+use std::alloc::{AllocError, Global};
+
+fn phandle_from(number: u32) -> Option<u32>
+    ensures { result ≡ phandle_from number }
+{
+    if number == 0 {
+        return None;
+    }
+    if number == u32::MAX {
+        return None;
+    }
+    Some(number)
+}
+
+impl Bytes {
+    /// The value of a property `phandle` as a phandle: 4 bytes, the greatest first, that are neither 0 nor 0xffffffff.
+    pub fn phandle(&self) -> Option<u32>
+        ensures { result ≡ phandle_in self.now }
+    {
+        let bytes = self.as_slice();
+        if bytes.len() != 4 {
+            return None;
+        }
+        let mut word = [0; 4];
+        word.copy_from_slice(bytes);
+        phandle_from(u32::from_be_bytes(word))
+    }
+}
+
+impl Node {
+    /// The phandle in the node's property `phandle`. That a reserved node has none is left to the caller.
+    pub fn phandle(&self) -> Option<u32>
+        ensures { result ≡ phandle_of self.now.properties }
+    {
+        match self.value(b"phandle") {
+            None => None,
+            Some(value) => value.phandle(),
+        }
+    }
+
+    pub(crate) fn has_phandle(&self, phandle: u32) -> bool
+        ensures { result ≡ has_phandle self.now.properties phandle }
+    {
+        match self.phandle() {
+            None => false,
+            Some(own) => own == phandle,
+        }
+    }
+
+    pub(crate) fn phandle_or_zero(&self) -> u32
+        ensures { result ≡ phandle_or_zero self.now.properties }
+    {
+        match self.phandle() {
+            None => 0,
+            Some(phandle) => phandle,
+        }
+    }
+
+    pub(crate) fn greatest_below(&self) -> u32
+        ensures { result ≡ greatest_below self.now }
+    {
+        let mut most = self.phandle_or_zero();
+        for child in self.children() {
+            most = most.max(child.greatest_below());
+        }
+        most
+    }
+
+    /// The names on the way from this node to the first with a phandle, each behind a slash.
+    pub(crate) fn way_below(
+        &self,
+        alloc: Global,
+        phandle: u32,
+    ) -> Result<Option<Vec<u8>>, AllocError>
+        ensures { IfOk result (λ found. option_map (λ text. text.items) found ≡ option_map behind_slashes (way_below self.now phandle)) }
+    {
+        if self.has_phandle(phandle) {
+            return Ok(Some(Vec::new(alloc)));
+        }
+        for child in self.children() {
+            if let Some(below) = child.way_below(alloc, phandle)? {
+                return Ok(Some(behind_name(alloc, child.name_bytes(), below)?));
+            }
+        }
+        Ok(None)
+    }
+}
+
+/// The text of a way, with one more name in front.
+pub(crate) fn behind_name(alloc: Global, name: &[u8], below: Vec<u8>) -> Result<Vec<u8>, AllocError>
+    ensures { IfOk result (λ text. text.items ≡ 47 ∷ (name.now ++ below.items)) }
+{
+    let mut text = Vec::new(alloc);
+    text.push(b'/')?;
+    text.extend_from_slice(name)?;
+    text.extend_from_slice(below.as_slice())?;
+    Ok(text)
+}

@@ -1,0 +1,130 @@
+ghost use Rattle.std.specs.Prelude.{◌≡◌, ◌≢◌, [], filter, IfOk, MatchOption, MatchResult};
+ghost use Rattle.std.specs.Option.{option_copied};
+ghost use Rattle.dt_tree.specs.Path.{path_names};
+ghost use Rattle.dt_tree.specs.PathMap.{node_at, path_map};
+ghost use Rattle.dt_tree.specs.Phandle.{IsGreatest, IsFirstWith, IsNowhere};
+ghost use Rattle.dt_tree.specs.TreeData.{tree_data, is_reserve, IsTree};
+
+use crate::error::TreeError;
+use crate::node::Node;
+use crate::path::Path;
+use std::alloc::{AllocError, Global};
+use std::marker::Model;
+
+/// A root node, with the memory that is reserved and the processor that boots.
+#[derive(Debug, Drop)]
+pub struct Tree {
+    reserves: Vec<(u64, u64)>,
+    boot_cpu: u32,
+    root: Node,
+}
+
+impl Model for Tree {
+    ghost use Rattle.dt_tree.specs.TreeData.{TreeData, coded_tree, IsTree};
+    ghost use Rattle.dt_tree.specs.TreeView.{tree_of};
+
+    ghost Value = { TreeData };
+
+    ghost coded = { coded_tree };
+
+    ghost view = { tree_of };
+
+    ghost invariant = { λ a. IsTree (tree_of a) };
+}
+
+impl Tree {
+    /// Each reserve is an address and a size in bytes; those of (0, 0) are left out, as they end the list in a blob.
+    /// Fails with `BadName` where the root has a name.
+    pub fn new(mut reserves: Vec<(u64, u64)>, boot_cpu: u32, root: Node) -> Result<Tree, TreeError>
+        ensures tree { IfOk result (λ tree. tree ≡ tree_data (filter is_reserve reserves.items) boot_cpu root) }
+        ensures name { MatchResult result (λ _. root.name ≡ []) (λ e. (e ≡ TreeError.BadName) × (root.name ≢ [])) }
+    {
+        if !root.name_bytes().is_empty() {
+            return Err(TreeError::BadName);
+        }
+        root.check();
+        drop_ends(&mut reserves);
+        Ok(Tree {
+            reserves,
+            boot_cpu,
+            root,
+        })
+    }
+
+    /// The reserved memory: addresses and sizes in bytes, in order.
+    pub fn reserves(&self) -> &[(u64, u64)]
+        ensures { result.now ≡ self.now.reserves }
+    {
+        self.reserves.as_slice()
+    }
+
+    /// The number of the processor that boots.
+    pub fn boot_cpu(&self) -> u32
+        ensures { result ≡ self.now.boot_cpu }
+    {
+        self.boot_cpu
+    }
+
+    /// The root node.
+    pub fn root(&self) -> &Node
+        ensures { result.now ≡ self.now.root }
+    {
+        &self.root
+    }
+
+    /// Costs nothing: tells a caller's proof what is true of each tree.
+    pub fn check(&self)
+        ensures { IsTree self.now }
+    {
+        let _ = &self.root;
+    }
+
+    /// The node at a path. Takes no memory.
+    pub fn find(&self, path: &Path) -> Option<&Node>
+        ensures { option_copied result ≡ node_at self.now.root (path_names path.now) }
+    {
+        self.root.find(path)
+    }
+
+    /// The greatest phandle, or 0 where no node has one. Takes no memory.
+    pub fn greatest_phandle(&self) -> u32
+        ensures { IsGreatest (path_map self.now.root) result }
+    {
+        self.root.check();
+        self.root.greatest_in_tree()
+    }
+
+    /// The path of the first node with this phandle, in the order in which a tree is read.
+    pub fn by_phandle(&self, alloc: Global, phandle: u32) -> Result<Option<Path>, AllocError>
+        ensures { IfOk result (λ found. MatchOption found (IsNowhere (path_map self.now.root) phandle) (λ path. IsFirstWith (path_map self.now.root) phandle (path_names path))) }
+    {
+        self.root.check();
+        self.root.path_to(alloc, phandle)
+    }
+
+    /// An equal tree.
+    pub fn copy(&self, alloc: Global) -> Result<Tree, AllocError>
+        ensures { IfOk result (λ tree. tree ≡ self.now) }
+    {
+        let root = self.root.copy(alloc)?;
+        let mut reserves = Vec::new(alloc);
+        reserves.extend_from_slice(self.reserves.as_slice())?;
+        Ok(Tree {
+            reserves,
+            boot_cpu: self.boot_cpu,
+            root,
+        })
+    }
+}
+
+fn is_reserve(reserve: &(u64, u64)) -> bool
+    ensures { result ≡ is_reserve reserve.now }
+{
+    reserve.0 != 0 || reserve.1 != 0
+}
+
+fn drop_ends(reserves: &mut Vec<(u64, u64)>)
+    ensures { reserves.new.items ≡ filter is_reserve reserves.old.items }
+{
+    reserves.retain(|reserve| is_reserve(reserve));
+}

@@ -1,0 +1,98 @@
+//! A refusal as the program prints it.
+ghost use Rattle.std.specs.Prelude.{◌≡◌};
+ghost use Rattle.dtman.specs.Fault.{shown, no_memory, text_fault, event_fault, blob_fault};
+
+use bus_core::Refusal;
+use bus_plan::PlanError;
+use dt_blob::BlobError;
+use std::fmt;
+
+/// Where a fault was found.
+#[derive(Clone, Copy, Debug, PartialEq, Eq)]
+pub enum Place {
+    Nowhere,
+    /// A line of a text file, from 1.
+    Line(usize),
+    /// An event of a schedule, from 1.
+    Event(usize),
+}
+
+/// The number, name and place of a refusal. Numbers and names are those of the crate that refused.
+#[derive(Clone, Copy, Debug)]
+pub struct Fault {
+    pub number: u8,
+    pub name: &'static str,
+    pub place: Place,
+}
+
+impl Fault {
+    /// A growth was refused.
+    pub fn no_memory() -> Fault
+        ensures { shown result ≡ no_memory }
+    {
+        Fault {
+            number: 0,
+            name: "NoMemory",
+            place: Place::Nowhere,
+        }
+    }
+
+    /// The refusal of a text file of the bus, with its line.
+    pub fn of_text(error: &PlanError) -> Fault
+        ensures { shown result ≡ text_fault error.now }
+    {
+        Fault {
+            number: error.number(),
+            name: error.name(),
+            place: match error.line() {
+                Some(line) => Place::Line(line),
+                None => Place::Nowhere,
+            },
+        }
+    }
+
+    /// The refusal of a blob, or of what is made from one.
+    pub fn of_blob(error: &BlobError) -> Fault
+        ensures { shown result ≡ blob_fault error.now }
+    {
+        Fault {
+            number: error.number(),
+            name: error.name(),
+            place: Place::Nowhere,
+        }
+    }
+
+    /// The refusal of an event, with its number. A want of memory is no event's.
+    pub fn of_event(number: usize, refusal: Refusal) -> Fault
+        ensures { shown result ≡ event_fault number refusal }
+    {
+        Fault {
+            number: refusal.number(),
+            name: refusal.name(),
+            place: match refusal {
+                Refusal::NoMemory => Place::Nowhere,
+                _ => Place::Event(number),
+            },
+        }
+    }
+}
+
+impl fmt::Display for Fault {
+    ghost use Rattle.std.specs.Prelude.{Some};
+    ghost use Rattle.dtman.specs.Fault.{fault_line};
+
+    ghost output = { λ fault. Some (fault_line fault) };
+
+    fn fmt<W: fmt::Write>(&self, f: &mut fmt::Formatter<W>) -> fmt::Result {
+        let Fault {
+            number,
+            name,
+            place,
+        } = *self;
+        match place {
+            Place::Nowhere => write!(f, "error {number} {name}"),
+            Place::Line(line) => write!(f, "error {number} {name} line {line}"),
+            Place::Event(event) => write!(f, "error {number} {name} event {event}"),
+        }
+    }
+}

@@ -1,0 +1,17 @@
+//! `dtman`: devicetree compiler and driver-binding manager.
+#![tactic(auto)]
+
+mod command_line;
+mod dump;
+mod fault;
+mod program;
+mod replay;
+mod subcommand;
+#[cfg(test)]
+mod tests;
+
+use std::process::ExitCode;
+
+fn main(rt: HostRuntime) -> ExitCode {
+    program::run(&rt)
+}

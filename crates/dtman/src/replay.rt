@@ -1,0 +1,64 @@
+//! A schedule replayed over a plan, from bytes to the report.
+ghost use Rattle.std.specs.Prelude.{◌≡◌, ◌⊎◌, All, IfOk, MatchResult, Ok, Err};
+ghost use Rattle.bus_core.specs.Replay.{IsEventOf, replay_of};
+ghost use Rattle.bus_core.specs.History.{IsBusHistory};
+ghost use Rattle.bus_core.specs.Report.{report_text};
+ghost use Rattle.bus_core.specs.Schedule.{schedule_of};
+ghost use Rattle.dtman.specs.Fault.{shown, no_memory};
+ghost use Rattle.dtman.specs.Replay.{replay_answer, after_events, after_schedule, ReportsEvents, ReportsHistory, ReportsSchedule};
+
+use crate::fault::Fault;
+use bus_core::{Core, Event, read_schedule, replay};
+use bus_plan::{Plan, read_plan};
+use std::alloc::Global;
+
+/// The report after all events of a schedule: one line a device, then `quiet` or `busy`.
+///
+/// The plan file's fault comes first, then the schedule's, each with its line, then the first refused event with its
+/// number.
+pub fn replay_bytes(alloc: Global, plan: &[u8], schedule: &[u8]) -> Result<Vec<u8>, Fault>
+    ensures answer { MatchResult result
+        (λ report. replay_answer plan.now schedule.now ≡ Ok report.items)
+        (λ fault. (shown fault ≡ no_memory) ⊎ (replay_answer plan.now schedule.now ≡ Err (shown fault))) }
+    ensures history { IfOk result (λ report. ReportsHistory plan.now schedule.now report.items) }
+{
+    match read_plan(alloc, plan) {
+        Ok(plan) => replay_plan(alloc, plan, schedule),
+        Err(error) => Err(Fault::of_text(&error)),
+    }
+}
+
+fn replay_plan(alloc: Global, plan: Plan, schedule: &[u8]) -> Result<Vec<u8>, Fault>
+    ensures answer { MatchResult result
+        (λ report. after_schedule plan (schedule_of plan schedule.now) ≡ Ok report.items)
+        (λ fault. (shown fault ≡ no_memory) ⊎ (after_schedule plan (schedule_of plan schedule.now) ≡ Err (shown fault))) }
+    ensures history { IfOk result (λ report. ReportsSchedule plan schedule.now report.items) }
+{
+    match read_schedule(alloc, &plan, schedule) {
+        Ok(events) => replay_events(alloc, plan, events.as_slice()),
+        Err(error) => Err(Fault::of_text(&error)),
+    }
+}
+
+fn replay_events(alloc: Global, plan: Plan, events: &[Event]) -> Result<Vec<u8>, Fault>
+    requires { All (IsEventOf plan) events.now }
+    ensures answer { MatchResult result
+        (λ report. after_events plan (replay_of plan events.now) ≡ Ok report.items)
+        (λ fault. (shown fault ≡ no_memory) ⊎ (after_events plan (replay_of plan events.now) ≡ Err (shown fault))) }
+    ensures history { IfOk result (λ report. ReportsEvents plan events.now report.items) }
+{
+    match replay(alloc, plan, events) {
+        Ok(core) => report_of(alloc, &core),
+        Err((number, refusal)) => Err(Fault::of_event(number, refusal)),
+    }
+}
+
+fn report_of(alloc: Global, core: &Core) -> Result<Vec<u8>, Fault>
+    ensures report { MatchResult result
+        (λ report. report.items ≡ report_text core.now.plan core.now.state)
+        (λ fault. shown fault ≡ no_memory) }
+    ensures history { IsBusHistory core.now.plan core.now.state.history }
+{
+    core.check();
+    core.report(alloc).map_err(|_| Fault::no_memory())
+}

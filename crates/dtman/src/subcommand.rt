@@ -1,0 +1,8 @@
+//! What the command line asks for.
+
+/// A subcommand with its paths.
+#[derive(Clone, Copy, Debug)]
+pub enum Command<'a> {
+    Dump { blob: &'a str },
+    Replay { plan: &'a str, schedule: &'a str },
+}
