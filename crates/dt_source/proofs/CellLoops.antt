@@ -3,12 +3,12 @@ use Rattle.std.proofs.Common.{◌≡◌, ℕ, suc, ◌<◌, List, [], ◌∷◌,
 use Rattle.std.specs.Prelude.{fold, flat_map}
 use Rattle.std.proofs.lemmas.Grind.{fold-append}
 use Rattle.std.proofs.lemmas.List.{append-nil}
-use Rattle.dt_source.specs.declared.lexeme.Lexeme.{Lexeme}
-use Rattle.dt_source.specs.declared.lexeme.Fault.{Fault}
-use Rattle.dt_source.specs.declared.lexeme.Refusal.{Refusal}
-use Rattle.dt_source.specs.declared.element.Width.{Width}
+use Rattle.dt_lexeme.specs.declared.lexeme.Lexeme.{Lexeme}
+use Rattle.dt_lexeme.specs.declared.lexeme.Fault.{Fault}
+use Rattle.dt_lexeme.specs.declared.lexeme.Refusal.{Refusal}
+use Rattle.dt_expression.specs.declared.element.Width.{Width}
 use Rattle.dt_source.specs.declared.cell.Cell.{Cell}
-use Rattle.dt_source.specs.Reading.{◌>>=◌}
+use Rattle.dt_expression.specs.Reading.{◌>>=◌}
 use Rattle.dt_source.specs.Sequences.{earlier, Part, many}
 use Rattle.dt_source.specs.Tree.{Piece}
 use Rattle.dt_source.specs.Pieces.{Built, put, put_all, cell_fault, cell_pieces, cells_pieces}

@@ -1,8 +1,8 @@
 -- The bytes of a string, one after the other.
 use Rattle.std.proofs.Common.{◌≡◌, ℕ, zero, suc, ◌+◌, ◌<◌, ◌≤◌, List, [], ◌∷◌, ◌++◌, length, get_or, drop, Option, Some, None, Ok, Err, refl, sym, ap, ◌∙◌, append_assoc, arith, add-one, drop-cons}
 use Rattle.std.proofs.lemmas.List.{append-nil}
-use Rattle.dt_source.specs.declared.lexeme.Fault.{Fault}
-use Rattle.dt_source.specs.Values.{Value}
+use Rattle.dt_lexeme.specs.declared.lexeme.Fault.{Fault}
+use Rattle.dt_expression.specs.Values.{Value}
 use Rattle.dt_source.specs.Sequences.{earlier}
 use Rattle.dt_source.specs.Bodies.{first_of}
 use Rattle.dt_source.specs.Strings.{char_step, with_char, chars_with, numbers, faults, char_number, char_fault}

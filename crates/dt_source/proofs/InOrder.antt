@@ -2,32 +2,22 @@
 use Rattle.std.proofs.Common.{◌≡◌, ℕ, zero, suc, ◌+◌, ◌-◌, ◌<◌, ◌≤◌, Bool, true, false, cond, List, [], ◌∷◌, ◌++◌, length, drop, take, Option, Some, None, Ok, Err, refl, sym, ap, subst, arith, inl, inr, ◌⊎◌}
 use Rattle.std.specs.Prelude.{◌==◌}
 use Rattle.std.proofs.lemmas.List.{length-drop}
-use Rattle.dt_source.specs.declared.lexeme.Lexeme.{Lexeme}
-use Rattle.dt_source.specs.declared.lexeme.Fault.{Fault}
-use Rattle.dt_source.specs.declared.lexeme.Kind.{Kind}
-use Rattle.dt_source.specs.declared.lexeme.Kind.TheVariants.{Slash, Percent}
-use Rattle.dt_source.specs.declared.lexeme.FaultKind.TheVariants.{DivideByZero}
-use Rattle.dt_source.specs.declared.place.Place.{Place}
-use Rattle.dt_source.specs.Places.{start, step}
-use Rattle.dt_source.specs.Lexemes.{Left, Lexemes}
-use Rattle.dt_source.specs.Expression.{Expression, Number, Grouped, Prefixed, Infix, Choice, Begins, Takes, Spells}
-use Rattle.dt_source.specs.Values.{Value, value_of, literal_of, or_out_of_range, below_64, literal_number, bytes_of, divided, operation, both, prefixed, choice}
+use Rattle.dt_lexeme.specs.declared.lexeme.Lexeme.{Lexeme}
+use Rattle.dt_lexeme.specs.declared.lexeme.Fault.{Fault}
+use Rattle.dt_lexeme.specs.declared.lexeme.Kind.{Kind}
+use Rattle.dt_lexeme.specs.declared.lexeme.Kind.TheVariants.{Slash, Percent}
+use Rattle.dt_lexeme.specs.declared.lexeme.FaultKind.TheVariants.{DivideByZero}
+use Rattle.dt_lexeme.specs.declared.place.Place.{Place}
+use Rattle.dt_lexeme.specs.Places.{start, step}
+use Rattle.dt_lexeme.specs.Lexemes.{Left, Lexemes}
+use Rattle.dt_expression.specs.Expression.{Expression, Number, Grouped, Prefixed, Infix, Choice, Begins, Takes, Spells}
+use Rattle.dt_expression.specs.Values.{Value, value_of, literal_of, or_out_of_range, below_64, literal_number, bytes_of, divided, operation, both, prefixed, choice}
 use Rattle.dt_source.specs.Pieces.{fault_in}
 use Rattle.dt_source.specs.Source.{fault_list}
-use Rattle.dt_source.proofs.GapEnds.{gap_shorter}
-use Rattle.dt_source.proofs.Scanning.{some_byte}
+use Rattle.dt_lexeme.specs.Order.{Above}
+use Rattle.dt_lexeme.proofs.InOrder.{above_lower}
 
 -- ---- lexemes one behind the other
-
--- These lexemes stand one behind the other, at or behind this place.
-unfoldable pub Above : ℕ → List Lexeme → Type 0
-Above p [] = Unit {0}
-Above p (l ∷ ls) = (p ≤ l.start) × (l.start < l.end) × Above l.end ls
-
-pub above_lower : (p q : ℕ) (ls : List Lexeme) → p ≤ q → Above q ls → Above p ls
-unfolding Above
-above_lower p q [] le h = tt
-above_lower p q (l ∷ ls) le h = (omega (arith, h.0), h.1, h.2)
 
 pub takes_above : (p : ℕ) (ts : List Lexeme) (l : Lexeme) (rest : List Lexeme) → Takes ts l rest → Above p ts → (p ≤ l.start) × (l.start < l.end) × Above l.end rest
 unfolding Above
@@ -45,21 +35,6 @@ pub begins_above : (p : ℕ) (ts : List Lexeme) (k : Kind) (rest : List Lexeme) 
 unfolding Above
 begins_above p [] k rest b h = absurd b
 begins_above p (t ∷ ts) k rest b h = above_lower p t.end rest (omega (arith, h.0, h.1)) (subst (Above t.end) b.1 h.2)
-
-left_above : (total : ℕ) (place : Place) (text : List ℕ) (ls : List Lexeme) → length text ≤ total → Left total place text ls → Above (total - length text) ls
-unfolding Left Above
-left_above total place text [] le h = tt
-left_above total place text (l ∷ ls) le (s, n, gap, longest, from, to, more) =
-    let shorter = gap_shorter text s gap in
-    let some = some_byte place s l.kind n longest in
-    let within = longest.within in
-    let left = length-drop n s in
-    let next = left_above total (step place l.kind) (drop n s) ls (omega (arith, left, shorter)) more in
-    (omega (arith, from, shorter), omega (arith, from, to, some), subst (λ (q : ℕ). Above q ls) (omega (arith, left, to, within, shorter)) next)
-
-pub lexemes_above : (text : List ℕ) (ls : List Lexeme) → Lexemes text ls → Above 0 ls
-unfolding Lexemes
-lexemes_above text ls h = above_lower 0 (length text - length text) ls (omega arith) (left_above (length text) start text ls (omega arith) h)
 
 -- ---- faults one behind the other
 

@@ -1,12 +1,3 @@
-pub mod Runs
-pub mod Numbers
-pub mod GapEnds
-pub mod Begins
-pub mod Scanning
-pub mod Literals
-pub mod Steps
-pub mod Sound
-pub mod Complete
 pub mod Loops
 pub mod CellLoops
 pub mod Chars
@@ -14,7 +5,6 @@ pub mod PieceLoops
 pub mod StatementLoops
 pub mod SourceLoops
 pub mod Parsing
-pub mod Trees
 pub mod Several
 pub mod SpelledLabels
 pub mod SpelledCells

@@ -1,17 +1,17 @@
 -- A text, its lexemes and its source.
 use Rattle.std.proofs.Common.{◌≡◌, ℕ, List, Option, Some, None, Result, Ok, Err, refl, sym, ap, subst, ◌∙◌, inl, inr, ◌⊎◌, arith}
 use Rattle.std.specs.Prelude.{IfOk, IfErr}
-use Rattle.dt_source.specs.declared.lexeme.Lexeme.{Lexeme}
-use Rattle.dt_source.specs.declared.lexeme.Fault.{Fault}
-use Rattle.dt_source.specs.declared.lexeme.Refusal.{Refusal}
-use Rattle.dt_source.specs.declared.lexeme.ReadError.{ReadError}
-use Rattle.dt_source.specs.declared.lexeme.ReadError.TheVariants as errors
-use Rattle.dt_source.specs.declared.lexeme.FaultKind.{FaultKind}
-use Rattle.dt_source.specs.declared.lexeme.FaultKind.TheVariants.{ElementRange, DivideByZero, BadBits, LiteralRange, BadEscape}
+use Rattle.dt_lexeme.specs.declared.lexeme.Lexeme.{Lexeme}
+use Rattle.dt_lexeme.specs.declared.lexeme.Fault.{Fault}
+use Rattle.dt_lexeme.specs.declared.lexeme.Refusal.{Refusal}
+use Rattle.dt_lexeme.specs.declared.lexeme.ReadError.{ReadError}
+use Rattle.dt_lexeme.specs.declared.lexeme.ReadError.TheVariants as errors
+use Rattle.dt_lexeme.specs.declared.lexeme.FaultKind.{FaultKind}
+use Rattle.dt_lexeme.specs.declared.lexeme.FaultKind.TheVariants.{ElementRange, DivideByZero, BadBits, LiteralRange, BadEscape}
 use Rattle.dt_source.specs.declared.error.SourceErrorKind.{SourceErrorKind}
 use Rattle.dt_source.specs.declared.error.SourceErrorKind.TheVariants as kinds
 use Rattle.dt_source.specs.declared.tree.Source.{Source}
-use Rattle.dt_source.specs.Lexemes.{Lexemes}
+use Rattle.dt_lexeme.specs.Lexemes.{Lexemes}
 use Rattle.dt_source.specs.Sequences.{Reads}
 use Rattle.dt_source.specs.Tree.{Meaning, meaning}
 use Rattle.dt_source.specs.Bodies.{first_of}
@@ -21,7 +21,7 @@ use Rattle.dt_source.specs.Order.{IsFirstInText, FaultsAreInOrder}
 use Rattle.dt_source.specs.Laws.{SourcesAreSpelled, SourcesAreRead}
 use Rattle.dt_source.specs.Parse.{IsShort, IsSource, IsNoSource, Says, HasFirstFault, HasFault, Refuses, IsRead, IfRefused}
 use Rattle.dt_source.specs.SourceError.{kind_of_fault}
-use Rattle.dt_source.proofs.Scanning.{one_list}
+use Rattle.dt_lexeme.proofs.Scanning.{one_list}
 
 abbrev just : {A : Type 0} → A → Result A Refusal
 just x = Ok x

@@ -4,14 +4,14 @@ use Rattle.std.specs.Prelude.{fold}
 use Rattle.std.proofs.lemmas.Grind.{fold-append}
 use Rattle.std.proofs.lemmas.List.{append-nil}
 use Rattle.std.proofs.Math.Seq.{take-suc}
-use Rattle.dt_source.specs.declared.lexeme.Lexeme.{Lexeme}
-use Rattle.dt_source.specs.declared.lexeme.Kind.{Kind}
-use Rattle.dt_source.specs.declared.lexeme.Kind.TheVariants.{Comma}
-use Rattle.dt_source.specs.declared.lexeme.Fault.{Fault}
-use Rattle.dt_source.specs.declared.lexeme.Refusal.{Refusal}
-use Rattle.dt_source.specs.declared.lexeme.ReadError.{ReadError}
-use Rattle.dt_source.specs.declared.lexeme.ReadError.TheVariants as errors
-use Rattle.dt_source.specs.Reading.{◌>>=◌}
+use Rattle.dt_lexeme.specs.declared.lexeme.Lexeme.{Lexeme}
+use Rattle.dt_lexeme.specs.declared.lexeme.Kind.{Kind}
+use Rattle.dt_lexeme.specs.declared.lexeme.Kind.TheVariants.{Comma}
+use Rattle.dt_lexeme.specs.declared.lexeme.Fault.{Fault}
+use Rattle.dt_lexeme.specs.declared.lexeme.Refusal.{Refusal}
+use Rattle.dt_lexeme.specs.declared.lexeme.ReadError.{ReadError}
+use Rattle.dt_lexeme.specs.declared.lexeme.ReadError.TheVariants as errors
+use Rattle.dt_expression.specs.Reading.{◌>>=◌}
 use Rattle.dt_source.specs.Sequences.{earlier, Part, many, Fails}
 use Rattle.dt_source.specs.Tree.{Target, Piece, Plain, PhandleOf, PathOf}
 use Rattle.dt_source.specs.Pieces.{Built, put, put_all, bytes_piece, flushed, join_bytes, joined}

@@ -1,19 +1,19 @@
 -- Headers and reservations that are spelled are read.
 use Rattle.std.proofs.Common.{◌≡◌, ℕ, suc, ◌<◌, Bool, true, false, List, [], ◌∷◌, length, map, Ok, Option, Some, None, refl, sym, ap, subst, ◌∙◌, arith, inl, inr}
 use Rattle.std.specs.Prelude.{flat_map, fold}
-use Rattle.dt_source.specs.declared.lexeme.Lexeme.{Lexeme}
-use Rattle.dt_source.specs.declared.lexeme.Fault.{Fault}
-use Rattle.dt_source.specs.declared.lexeme.Kind.{Kind}
-use Rattle.dt_source.specs.declared.lexeme.Kind.TheVariants.{Version, Plugin, MemReserve, Label, Reference, PathReference, Semicolon, Slash, DeleteNode}
-use Rattle.dt_source.specs.Expression.{Begins, SpellsPrimary}
-use Rattle.dt_source.specs.ReadingExpressions.{primary_at}
+use Rattle.dt_lexeme.specs.declared.lexeme.Lexeme.{Lexeme}
+use Rattle.dt_lexeme.specs.declared.lexeme.Fault.{Fault}
+use Rattle.dt_lexeme.specs.declared.lexeme.Kind.{Kind}
+use Rattle.dt_lexeme.specs.declared.lexeme.Kind.TheVariants.{Version, Plugin, MemReserve, Label, Reference, PathReference, Semicolon, Slash, DeleteNode}
+use Rattle.dt_expression.specs.Expression.{Begins, SpellsPrimary}
+use Rattle.dt_expression.specs.ReadingExpressions.{primary_at}
 use Rattle.dt_source.specs.Sequences.{SpellsEach}
-use Rattle.dt_source.specs.Values.{value_of}
+use Rattle.dt_expression.specs.Values.{value_of}
 use Rattle.dt_source.specs.Bodies.{first_of, is_label, labels_at}
 use Rattle.dt_source.specs.Source.{ReserveTree, ItemTree, Root, Extend, Delete, IsReference, SpellsLabels, SpellsReserve, SpellsHeader, SpellsItem, both_numbers, reserve_values, reserve_faults}
 use Rattle.dt_source.specs.Whole.{semicolon_at, plugin_kind, plugin_at, header_kind, header_at, more_headers, headers_at, reserve_kind, reserve_with, reserve_at, reserves_at}
-use Rattle.dt_source.proofs.Complete.{begins_shorter, shorter}
-use Rattle.dt_source.proofs.Trees.{reads_all_that_is_spelled}
+use Rattle.dt_expression.proofs.Complete.{begins_shorter, shorter}
+use Rattle.dt_expression.proofs.Trees.{reads_all_that_is_spelled}
 use Rattle.dt_source.proofs.Several as several
 use Rattle.dt_source.proofs.SpelledLabels.{NoLabel, labels_again, labels_shorter}
 use Rattle.dt_source.proofs.SpelledPieces.{front, reference_front}

@@ -1,12 +1,12 @@
 -- Things that are read one after the other, and things that are spelled so.
 use Rattle.std.proofs.Common.{◌≡◌, ℕ, zero, suc, ◌<◌, List, [], ◌∷◌, ◌++◌, length, map, Ok, Option, Some, None, refl, sym, ap, subst, ◌∙◌, arith}
 use Rattle.std.specs.Prelude.{flat_map}
-use Rattle.dt_source.specs.declared.lexeme.Lexeme.{Lexeme}
-use Rattle.dt_source.specs.declared.lexeme.Fault.{Fault}
-use Rattle.dt_source.specs.Reading.{◌>>=◌}
+use Rattle.dt_lexeme.specs.declared.lexeme.Lexeme.{Lexeme}
+use Rattle.dt_lexeme.specs.declared.lexeme.Fault.{Fault}
+use Rattle.dt_expression.specs.Reading.{◌>>=◌}
 use Rattle.dt_source.specs.Sequences.{earlier, Part, with_item, many, SpellsEach}
 use Rattle.dt_source.specs.Bodies.{first_of, stays}
-use Rattle.dt_source.proofs.Sound.{bind_ok, ok_is}
+use Rattle.dt_expression.proofs.Sound.{bind_ok, ok_is}
 
 pub first_of_both : (a b : List Fault) → first_of (a ++ b) ≡ earlier (first_of a) (first_of b)
 first_of_both [] b = refl

@@ -2,13 +2,13 @@
 use Rattle.std.proofs.Common.{◌≡◌, ℕ, suc, ◌<◌, Bool, List, [], ◌∷◌, ◌++◌, length, Option, Some, None, Ok, Err, refl, sym, ap, ◌∙◌, append_assoc, arith}
 use Rattle.std.specs.Prelude.{fold, flat_map}
 use Rattle.std.proofs.lemmas.List.{append-nil}
-use Rattle.dt_source.specs.declared.lexeme.Lexeme.{Lexeme}
-use Rattle.dt_source.specs.declared.lexeme.Fault.{Fault}
-use Rattle.dt_source.specs.declared.lexeme.Refusal.{Refusal}
-use Rattle.dt_source.specs.declared.lexeme.ReadError.{ReadError}
-use Rattle.dt_source.specs.declared.lexeme.ReadError.TheVariants as errors
-use Rattle.dt_source.specs.Values.{Value}
-use Rattle.dt_source.specs.Reading.{◌>>=◌}
+use Rattle.dt_lexeme.specs.declared.lexeme.Lexeme.{Lexeme}
+use Rattle.dt_lexeme.specs.declared.lexeme.Fault.{Fault}
+use Rattle.dt_lexeme.specs.declared.lexeme.Refusal.{Refusal}
+use Rattle.dt_lexeme.specs.declared.lexeme.ReadError.{ReadError}
+use Rattle.dt_lexeme.specs.declared.lexeme.ReadError.TheVariants as errors
+use Rattle.dt_expression.specs.Values.{Value}
+use Rattle.dt_expression.specs.Reading.{◌>>=◌}
 use Rattle.dt_source.specs.Sequences.{earlier, Part, many, Fails}
 use Rattle.dt_source.specs.Tree.{Edit}
 use Rattle.dt_source.specs.Bodies.{stays}

@@ -2,23 +2,25 @@
 use Rattle.std.proofs.Common.{◌≡◌, ℕ, zero, suc, ◌+◌, ◌-◌, ◌*◌, ◌≤◌, Bool, true, false, cond, List, [], ◌∷◌, length, drop, take, Option, Some, None, Ok, Err, refl, sym, ap, subst, arith, inl, inr, ◌⊎◌}
 use Rattle.std.specs.Prelude.{flat_map, slice_range, ◌==◌, if◌then◌else◌, All}
 use Rattle.std.proofs.lemmas.List.{length-take}
-use Rattle.dt_source.specs.declared.lexeme.Lexeme.{Lexeme}
-use Rattle.dt_source.specs.declared.lexeme.Fault.{Fault}
-use Rattle.dt_source.specs.declared.lexeme.FaultKind.TheVariants.{ElementRange, BadEscape, BadBits}
-use Rattle.dt_source.specs.declared.lexeme.Kind.{Kind}
-use Rattle.dt_source.specs.declared.element.Width.{Width}
-use Rattle.dt_source.specs.declared.element.Width.TheVariants.{Eight, Sixteen, ThirtyTwo, SixtyFour}
-use Rattle.dt_source.specs.Lexemes.{Lexemes}
-use Rattle.dt_source.specs.Expression.{Takes}
-use Rattle.dt_source.specs.Values.{Value, value_of, literal_of}
-use Rattle.dt_source.specs.Element.{element, fits_bits, bytes_in, width_of}
+use Rattle.dt_lexeme.specs.declared.lexeme.Lexeme.{Lexeme}
+use Rattle.dt_lexeme.specs.declared.lexeme.Fault.{Fault}
+use Rattle.dt_lexeme.specs.declared.lexeme.FaultKind.TheVariants.{ElementRange, BadEscape, BadBits}
+use Rattle.dt_lexeme.specs.declared.lexeme.Kind.{Kind}
+use Rattle.dt_expression.specs.declared.element.Width.{Width}
+use Rattle.dt_expression.specs.declared.element.Width.TheVariants.{Eight, Sixteen, ThirtyTwo, SixtyFour}
+use Rattle.dt_lexeme.specs.Lexemes.{Lexemes}
+use Rattle.dt_expression.specs.Expression.{Takes}
+use Rattle.dt_expression.specs.Values.{Value, value_of, literal_of}
+use Rattle.dt_expression.specs.Element.{element, fits_bits, bytes_in, width_of}
 use Rattle.dt_source.specs.Sequences.{SpellsEach}
 use Rattle.dt_source.specs.Strings.{chars_with, char_step, with_char, escaped, escape_at, faults, string_faults}
 use Rattle.dt_source.specs.Pieces.{fault_in, cell_fault, reference_fault, width_at, width_in, lawful}
 use Rattle.dt_source.specs.Bodies.{first_of}
 use Rattle.dt_source.specs.Source.{CellTree, Element, Refers, Marks, PieceTree, Quoted, Points, Pairs, Cells, WideCells, Statements, End, Sets, Unsets, Holds, Drops, ReserveTree, ItemTree, Root, Extend, Delete, SourceTree, One, SpellsLabels, DropsLabels, SpellsCell, SpellsCells, OnePair, SpellsPiece, SpellsPlaced, SpellsFurther, SpellsValue, SpellsStatements, SpellsBody, SpellsItem, SpellsReserve, SpellsHeader, Spells, cell_of, fault_list, cells_faults, piece_faults, width_said, value_faults, faults_in, item_faults, reserve_faults, faults_of}
 use Rattle.dt_source.specs.Order.{IsFirstInText}
-use Rattle.dt_source.proofs.InOrder.{Above, takes_above, takes_rest, above_first, begins_above, lexemes_above, Within, within_lower, literal_place, Reach, reach_none, reach_both, reach_behind, reach_one, value_reach, fault_reach}
+use Rattle.dt_lexeme.specs.Order.{Above}
+use Rattle.dt_lexeme.proofs.InOrder.{lexemes_above}
+use Rattle.dt_source.proofs.InOrder.{takes_above, takes_rest, above_first, begins_above, Within, within_lower, literal_place, Reach, reach_none, reach_both, reach_behind, reach_one, value_reach, fault_reach}
 
 -- ---- one after the other
 

@@ -1,21 +1,21 @@
 -- Headers and reservations that are read are spelled, and the other way round.
 use Rattle.std.proofs.Common.{◌≡◌, ℕ, suc, Bool, true, false, List, [], ◌∷◌, length, map, Ok, Option, Some, None, refl, sym, ap, subst, ◌∙◌}
 use Rattle.std.specs.Prelude.{◌||◌, flat_map, fold}
-use Rattle.dt_source.specs.declared.lexeme.Lexeme.{Lexeme}
-use Rattle.dt_source.specs.declared.lexeme.Fault.{Fault}
-use Rattle.dt_source.specs.declared.lexeme.Kind.{Kind}
-use Rattle.dt_source.specs.declared.lexeme.Kind.TheVariants.{Version, Plugin, MemReserve, Semicolon}
-use Rattle.dt_source.specs.Expression.{Begins}
-use Rattle.dt_source.specs.Values.{Value, value_of}
-use Rattle.dt_source.specs.Reading.{◌>>=◌}
-use Rattle.dt_source.specs.ReadingExpressions.{primary_at}
+use Rattle.dt_lexeme.specs.declared.lexeme.Lexeme.{Lexeme}
+use Rattle.dt_lexeme.specs.declared.lexeme.Fault.{Fault}
+use Rattle.dt_lexeme.specs.declared.lexeme.Kind.{Kind}
+use Rattle.dt_lexeme.specs.declared.lexeme.Kind.TheVariants.{Version, Plugin, MemReserve, Semicolon}
+use Rattle.dt_expression.specs.Expression.{Begins}
+use Rattle.dt_expression.specs.Values.{Value, value_of}
+use Rattle.dt_expression.specs.Reading.{◌>>=◌}
+use Rattle.dt_expression.specs.ReadingExpressions.{primary_at}
 use Rattle.dt_source.specs.Sequences.{SpellsEach, earlier, many}
 use Rattle.dt_source.specs.Pieces.{fault_in}
 use Rattle.dt_source.specs.Bodies.{first_of, stays, labels_at}
 use Rattle.dt_source.specs.Source.{ReserveTree, SpellsReserve, SpellsHeader, DropsLabels, fault_list, both_numbers, reserve_values, reserve_faults, any}
 use Rattle.dt_source.specs.Whole.{semicolon_kind, semicolon_at, plugin_kind, plugin_at, header_kind, header_at, more_headers, headers_at, reserve_kind, reserve_with, reserve_at, reserves_at}
-use Rattle.dt_source.proofs.Sound.{bind_ok, ok_is}
-use Rattle.dt_source.proofs.Trees.{reads_what_is_spelled}
+use Rattle.dt_expression.proofs.Sound.{bind_ok, ok_is}
+use Rattle.dt_expression.proofs.Trees.{reads_what_is_spelled}
 use Rattle.dt_source.proofs.Several as several
 use Rattle.dt_source.proofs.SpelledLabels.{labels_sound}
 use Rattle.dt_source.proofs.SpelledCells.{first_of_list}

@@ -1,16 +1,16 @@
 -- Byte strings that are read are spelled, and the other way round.
 use Rattle.std.proofs.Common.{◌≡◌, ℕ, suc, ◌<◌, ◌≤◌, List, [], ◌∷◌, length, map, Ok, Option, Some, None, refl, sym, ap, subst, ◌∙◌, arith, inl, inr}
 use Rattle.std.specs.Prelude.{flat_map}
-use Rattle.dt_source.specs.declared.lexeme.Lexeme.{Lexeme}
-use Rattle.dt_source.specs.declared.lexeme.Fault.{Fault}
-use Rattle.dt_source.specs.declared.lexeme.Kind.{Kind}
-use Rattle.dt_source.specs.declared.lexeme.Kind.TheVariants.{Label, Pair, EndSquare}
-use Rattle.dt_source.specs.Expression.{Begins}
+use Rattle.dt_lexeme.specs.declared.lexeme.Lexeme.{Lexeme}
+use Rattle.dt_lexeme.specs.declared.lexeme.Fault.{Fault}
+use Rattle.dt_lexeme.specs.declared.lexeme.Kind.{Kind}
+use Rattle.dt_lexeme.specs.declared.lexeme.Kind.TheVariants.{Label, Pair, EndSquare}
+use Rattle.dt_expression.specs.Expression.{Begins}
 use Rattle.dt_source.specs.Sequences.{many, SpellsEach}
 use Rattle.dt_source.specs.Strings.{pair_byte}
 use Rattle.dt_source.specs.Bodies.{first_of, stays, pair_by, pair_at, pairs_at, concat}
 use Rattle.dt_source.specs.Source.{IsPair, OnePair, pair_by_kind, pair_bytes}
-use Rattle.dt_source.proofs.Sound.{bind_ok}
+use Rattle.dt_expression.proofs.Sound.{bind_ok}
 use Rattle.dt_source.proofs.Several as several
 
 abbrev no_faults : Lexeme → List Fault

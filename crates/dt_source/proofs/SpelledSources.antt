@@ -1,17 +1,17 @@
 -- A source that is read is spelled, and the other way round.
 use Rattle.std.proofs.Common.{◌≡◌, ℕ, suc, Bool, List, [], ◌∷◌, ◌++◌, length, map, Result, Ok, Option, Some, None, refl, sym, ap, subst, ◌∙◌, arith}
 use Rattle.std.specs.Prelude.{◌≢◌, flat_map, fold}
-use Rattle.dt_source.specs.declared.lexeme.Lexeme.{Lexeme}
-use Rattle.dt_source.specs.declared.lexeme.Fault.{Fault}
-use Rattle.dt_source.specs.declared.lexeme.Refusal.{Refusal}
-use Rattle.dt_source.specs.Reading.{◌>>=◌}
+use Rattle.dt_lexeme.specs.declared.lexeme.Lexeme.{Lexeme}
+use Rattle.dt_lexeme.specs.declared.lexeme.Fault.{Fault}
+use Rattle.dt_lexeme.specs.declared.lexeme.Refusal.{Refusal}
+use Rattle.dt_expression.specs.Reading.{◌>>=◌}
 use Rattle.dt_source.specs.Sequences.{SpellsEach, earlier}
 use Rattle.dt_source.specs.Tree.{Edit, Meaning}
 use Rattle.dt_source.specs.Bodies.{first_of}
 use Rattle.dt_source.specs.Source.{SourceTree, ReserveTree, ItemTree, SpellsHeader, SpellsReserve, SpellsItem, Spells, said, faults_of, any, both_numbers, reserve_values, reserve_faults, item_said, item_faults}
 use Rattle.dt_source.specs.Whole.{more_headers, headers_at, reserve_at, reserves_at, item_at, some_items, some_header, all_items_at, items_at, source_at}
 use Rattle.dt_source.specs.Laws.{SourcesAreSpelled, SourcesAreRead}
-use Rattle.dt_source.proofs.Sound.{bind_ok, ok_is, some_is}
+use Rattle.dt_expression.proofs.Sound.{bind_ok, ok_is, some_is}
 use Rattle.dt_source.proofs.Several as several
 use Rattle.dt_source.proofs.SpelledHeaders.{all_headers, HeadersFound, headers_sound, ReservesFound, reserves_sound}
 use Rattle.dt_source.proofs.SpelledItems.{item_sound, item_again, item_shorter}

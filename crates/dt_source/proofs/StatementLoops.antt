@@ -2,11 +2,11 @@
 use Rattle.std.proofs.Common.{◌≡◌, ℕ, zero, suc, ◌-◌, ◌<◌, Bool, false, List, [], ◌∷◌, ◌++◌, length, Option, Some, None, Ok, Err, refl, sym, ap, ◌∙◌, append_assoc, arith}
 use Rattle.std.specs.Prelude.{fold}
 use Rattle.std.proofs.lemmas.List.{append-nil}
-use Rattle.dt_source.specs.declared.lexeme.Lexeme.{Lexeme}
-use Rattle.dt_source.specs.declared.lexeme.Fault.{Fault}
-use Rattle.dt_source.specs.declared.lexeme.ReadError.{ReadError}
-use Rattle.dt_source.specs.declared.lexeme.ReadError.TheVariants as errors
-use Rattle.dt_source.specs.Reading.{too_deep}
+use Rattle.dt_lexeme.specs.declared.lexeme.Lexeme.{Lexeme}
+use Rattle.dt_lexeme.specs.declared.lexeme.Fault.{Fault}
+use Rattle.dt_lexeme.specs.declared.lexeme.ReadError.{ReadError}
+use Rattle.dt_lexeme.specs.declared.lexeme.ReadError.TheVariants as errors
+use Rattle.dt_expression.specs.Reading.{too_deep}
 use Rattle.dt_source.specs.Sequences.{earlier, Part, many, Fails}
 use Rattle.dt_source.specs.Tree.{Entry}
 use Rattle.dt_source.specs.Bodies.{after, statement_at, body_below, body_at}

@@ -1,16 +1,16 @@
 -- Reading the statements of a body, and the values of its properties.
 use Rattle.std.specs.Prelude.{ℕ, zero, suc, Bool, true, false, List, [], ◌∷◌, ◌++◌, length, map, Option, Some, None, Ok, Err, slice_range, ◌-◌, if◌then◌else◌}
-use Rattle.dt_source.specs.declared.lexeme.Lexeme.{Lexeme}
-use Rattle.dt_source.specs.declared.lexeme.Fault.{Fault}
-use Rattle.dt_source.specs.declared.lexeme.Kind.{Kind}
-use Rattle.dt_source.specs.declared.lexeme.Kind.TheVariants.{Bits, DeleteNode, DeleteProperty, Label, Name, Literal, Text, Reference, PathReference, Pair, Semicolon, Brace, EndBrace, Equals, Comma, Less, Greater, Square, EndSquare, Paren}
-use Rattle.dt_source.specs.declared.element.Width.{Width}
-use Rattle.dt_source.specs.declared.element.Width.TheVariants.{ThirtyTwo}
+use Rattle.dt_lexeme.specs.declared.lexeme.Lexeme.{Lexeme}
+use Rattle.dt_lexeme.specs.declared.lexeme.Fault.{Fault}
+use Rattle.dt_lexeme.specs.declared.lexeme.Kind.{Kind}
+use Rattle.dt_lexeme.specs.declared.lexeme.Kind.TheVariants.{Bits, DeleteNode, DeleteProperty, Label, Name, Literal, Text, Reference, PathReference, Pair, Semicolon, Brace, EndBrace, Equals, Comma, Less, Greater, Square, EndSquare, Paren}
+use Rattle.dt_expression.specs.declared.element.Width.{Width}
+use Rattle.dt_expression.specs.declared.element.Width.TheVariants.{ThirtyTwo}
 use Rattle.dt_source.specs.declared.cell.Cell.{Cell}
 use Rattle.dt_source.specs.declared.cell.Cell.TheVariants as cells
-use Rattle.dt_source.specs.Values.{literal_of}
-use Rattle.dt_source.specs.Reading.{◌>>=◌, Read, syntax_at, too_deep}
-use Rattle.dt_source.specs.ReadingExpressions.{primary_at}
+use Rattle.dt_expression.specs.Values.{literal_of}
+use Rattle.dt_expression.specs.Reading.{◌>>=◌, Read, syntax_at, too_deep}
+use Rattle.dt_expression.specs.ReadingExpressions.{primary_at}
 use Rattle.dt_source.specs.Sequences.{earlier, Part, many}
 use Rattle.dt_source.specs.Tree.{Piece, Plain, PathOf, Entry, Defines, Undefines, Child, Removes, body_of}
 use Rattle.dt_source.specs.Strings.{string_bytes, string_faults, pair_byte}

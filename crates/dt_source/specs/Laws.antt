@@ -1,7 +1,7 @@
 -- What reading a source has to do with what its lexemes spell.
 use Rattle.std.specs.Prelude.{◌≡◌, ℕ, List, Option, Ok}
-use Rattle.dt_source.specs.declared.lexeme.Lexeme.{Lexeme}
-use Rattle.dt_source.specs.declared.lexeme.Fault.{Fault}
+use Rattle.dt_lexeme.specs.declared.lexeme.Lexeme.{Lexeme}
+use Rattle.dt_lexeme.specs.declared.lexeme.Fault.{Fault}
 use Rattle.dt_source.specs.Bodies.{first_of}
 use Rattle.dt_source.specs.Tree.{Meaning}
 use Rattle.dt_source.specs.Source.{SourceTree, Spells, said, faults_of}

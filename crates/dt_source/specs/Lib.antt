@@ -1,15 +1,3 @@
-pub mod Bytes
-pub mod Fronts
-pub mod Gaps
-pub mod Families
-pub mod Places
-pub mod Lexemes
-pub mod Lines
-pub mod Expression
-pub mod Values
-pub mod Reading
-pub mod ReadingExpressions
-pub mod Element
 pub mod Sequences
 pub mod Tree
 pub mod Strings

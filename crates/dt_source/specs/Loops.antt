@@ -1,10 +1,10 @@
 -- What loops that read keep: what was read before, and what is still read.
 use Rattle.std.specs.Prelude.{ℕ, List, [], ◌∷◌, Option, Some, None, Ok, fold}
-use Rattle.dt_source.specs.declared.lexeme.Fault.{Fault}
-use Rattle.dt_source.specs.declared.lexeme.Lexeme.{Lexeme}
-use Rattle.dt_source.specs.declared.lexeme.Kind.{Kind}
-use Rattle.dt_source.specs.declared.lexeme.Kind.TheVariants.{Comma}
-use Rattle.dt_source.specs.Reading.{◌>>=◌}
+use Rattle.dt_lexeme.specs.declared.lexeme.Fault.{Fault}
+use Rattle.dt_lexeme.specs.declared.lexeme.Lexeme.{Lexeme}
+use Rattle.dt_lexeme.specs.declared.lexeme.Kind.{Kind}
+use Rattle.dt_lexeme.specs.declared.lexeme.Kind.TheVariants.{Comma}
+use Rattle.dt_expression.specs.Reading.{◌>>=◌}
 use Rattle.dt_source.specs.Sequences.{earlier, Part}
 use Rattle.dt_source.specs.Tree.{Piece}
 use Rattle.dt_source.specs.Pieces.{Built, put_all}

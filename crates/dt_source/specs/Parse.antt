@@ -1,14 +1,14 @@
 -- What text is a source, and what parsing answers (Devicetree Specification v0.4, chapter 6).
 use Rattle.std.specs.Prelude.{◌≡◌, ℕ, ◌<◌, ◌≤◌, List, [], length, Option, Some}
-use Rattle.dt_source.specs.declared.lexeme.Lexeme.{Lexeme}
-use Rattle.dt_source.specs.declared.lexeme.Fault.{Fault}
-use Rattle.dt_source.specs.declared.lexeme.FaultKind.{FaultKind}
-use Rattle.dt_source.specs.declared.lexeme.FaultKind.TheVariants.{ElementRange, DivideByZero, BadBits, LiteralRange, BadEscape}
+use Rattle.dt_lexeme.specs.declared.lexeme.Lexeme.{Lexeme}
+use Rattle.dt_lexeme.specs.declared.lexeme.Fault.{Fault}
+use Rattle.dt_lexeme.specs.declared.lexeme.FaultKind.{FaultKind}
+use Rattle.dt_lexeme.specs.declared.lexeme.FaultKind.TheVariants.{ElementRange, DivideByZero, BadBits, LiteralRange, BadEscape}
 use Rattle.dt_source.specs.declared.error.SourceErrorKind.{SourceErrorKind}
 use Rattle.dt_source.specs.declared.error.SourceErrorKind.TheVariants as kinds
-use Rattle.dt_source.specs.declared.lexeme.ReadError.{ReadError}
-use Rattle.dt_source.specs.declared.lexeme.ReadError.TheVariants as errors
-use Rattle.dt_source.specs.Lexemes.{Lexemes}
+use Rattle.dt_lexeme.specs.declared.lexeme.ReadError.{ReadError}
+use Rattle.dt_lexeme.specs.declared.lexeme.ReadError.TheVariants as errors
+use Rattle.dt_lexeme.specs.Lexemes.{Lexemes}
 use Rattle.dt_source.specs.Tree.{Meaning}
 use Rattle.dt_source.specs.Bodies.{first_of}
 use Rattle.dt_source.specs.Order.{IsFirstInText}

@@ -1,17 +1,17 @@
 -- What cells and the pieces of a value say (Devicetree Specification v0.4, section 6.3).
 use Rattle.std.specs.Prelude.{ℕ, ◌+◌, ◌-◌, List, [], ◌∷◌, ◌++◌, Option, Some, None, Result, Ok, Err, slice_range, flat_map, fold, map}
-use Rattle.dt_source.specs.declared.lexeme.Lexeme.{Lexeme}
-use Rattle.dt_source.specs.declared.lexeme.Fault.{Fault}
-use Rattle.dt_source.specs.declared.lexeme.FaultKind.TheVariants.{BadBits}
-use Rattle.dt_source.specs.declared.lexeme.Kind.{Kind}
-use Rattle.dt_source.specs.declared.lexeme.Kind.TheVariants.{PathReference}
-use Rattle.dt_source.specs.declared.element.Width.{Width}
-use Rattle.dt_source.specs.declared.element.Width.TheVariants.{ThirtyTwo}
+use Rattle.dt_lexeme.specs.declared.lexeme.Lexeme.{Lexeme}
+use Rattle.dt_lexeme.specs.declared.lexeme.Fault.{Fault}
+use Rattle.dt_lexeme.specs.declared.lexeme.FaultKind.TheVariants.{BadBits}
+use Rattle.dt_lexeme.specs.declared.lexeme.Kind.{Kind}
+use Rattle.dt_lexeme.specs.declared.lexeme.Kind.TheVariants.{PathReference}
+use Rattle.dt_expression.specs.declared.element.Width.{Width}
+use Rattle.dt_expression.specs.declared.element.Width.TheVariants.{ThirtyTwo}
 use Rattle.dt_source.specs.declared.cell.Cell.{Cell}
 use Rattle.dt_source.specs.declared.cell.Cell.TheVariants as cells
 use Rattle.dt_source.specs.declared.parts.Parts.{Parts}
-use Rattle.dt_source.specs.Values.{Value}
-use Rattle.dt_source.specs.Element.{bytes_in, width_of, low_bytes, element}
+use Rattle.dt_expression.specs.Values.{Value}
+use Rattle.dt_expression.specs.Element.{bytes_in, width_of, low_bytes, element}
 use Rattle.dt_source.specs.Tree.{Target, OfLabel, OfPath, Piece, Plain, PhandleOf, PathOf, part_view}
 
 abbrev pub target_by : List ℕ → Lexeme → Kind → Target

@@ -1,10 +1,10 @@
 -- Strings and byte strings: the bytes between the quotes, and pairs of hex digits
 -- (Devicetree Specification v0.4, section 6.3: strings with escapes as in C, bytestrings).
 use Rattle.std.specs.Prelude.{ℕ, zero, suc, ◌+◌, ◌-◌, ◌*◌, ◌%◌, List, [], ◌∷◌, ◌++◌, Option, Some, None, Ok, Err, nat_lt, ◌==◌, if◌then◌else◌, slice_range}
-use Rattle.dt_source.specs.declared.lexeme.Lexeme.{Lexeme}
-use Rattle.dt_source.specs.declared.lexeme.Fault.{Fault}
-use Rattle.dt_source.specs.declared.lexeme.FaultKind.TheVariants.{BadEscape}
-use Rattle.dt_source.specs.Values.{Value, digit_of}
+use Rattle.dt_lexeme.specs.declared.lexeme.Lexeme.{Lexeme}
+use Rattle.dt_lexeme.specs.declared.lexeme.Fault.{Fault}
+use Rattle.dt_lexeme.specs.declared.lexeme.FaultKind.TheVariants.{BadEscape}
+use Rattle.dt_expression.specs.Values.{Value, digit_of}
 
 -- what a backslash before this byte stands for, where it is neither a digit nor x
 abbrev pub escape_of : ℕ → ℕ

@@ -1,13 +1,13 @@
 -- Reading a whole source.
 use Rattle.std.specs.Prelude.{ℕ, suc, Bool, true, false, ◌||◌, List, [], ◌∷◌, length, map, flat_map, fold, Option, Some, None, Result, Ok, Err}
-use Rattle.dt_source.specs.declared.lexeme.Lexeme.{Lexeme}
-use Rattle.dt_source.specs.declared.lexeme.Fault.{Fault}
-use Rattle.dt_source.specs.declared.lexeme.Refusal.{Refusal}
-use Rattle.dt_source.specs.declared.lexeme.Kind.{Kind}
-use Rattle.dt_source.specs.declared.lexeme.Kind.TheVariants.{Version, Plugin, MemReserve, DeleteNode, Reference, PathReference, Semicolon, Brace, Slash}
-use Rattle.dt_source.specs.Values.{Value}
-use Rattle.dt_source.specs.Reading.{◌>>=◌, Read, syntax_at}
-use Rattle.dt_source.specs.ReadingExpressions.{primary_at}
+use Rattle.dt_lexeme.specs.declared.lexeme.Lexeme.{Lexeme}
+use Rattle.dt_lexeme.specs.declared.lexeme.Fault.{Fault}
+use Rattle.dt_lexeme.specs.declared.lexeme.Refusal.{Refusal}
+use Rattle.dt_lexeme.specs.declared.lexeme.Kind.{Kind}
+use Rattle.dt_lexeme.specs.declared.lexeme.Kind.TheVariants.{Version, Plugin, MemReserve, DeleteNode, Reference, PathReference, Semicolon, Brace, Slash}
+use Rattle.dt_expression.specs.Values.{Value}
+use Rattle.dt_expression.specs.Reading.{◌>>=◌, Read, syntax_at}
+use Rattle.dt_expression.specs.ReadingExpressions.{primary_at}
 use Rattle.dt_source.specs.Sequences.{earlier, Part, many}
 use Rattle.dt_source.specs.Tree.{Edit, Rooted, Extends, Deletes, Meaning, Body, body_of}
 use Rattle.dt_source.specs.Pieces.{target_of, fault_in}

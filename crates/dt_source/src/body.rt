@@ -4,9 +4,9 @@ ghost use Rattle.dt_source.specs.Sequences.{Reads};
 ghost use Rattle.dt_source.specs.Tree.{Undefines, Removes, view};
 ghost use Rattle.dt_source.specs.Bodies.{label_bytes, named_at, deleted_at, ended_by, bare_by, unlabelled, begun_at, statement_at, after, body_below, body_at};
 
-use crate::expression::{syntax_at, too_deep};
-use crate::lexeme::{Fault, Kind, Lexeme, ReadError};
-use crate::literal::bytes_of;
+use dt_expression::expression::{syntax_at, too_deep};
+use dt_lexeme::lexeme::{Fault, Kind, Lexeme, ReadError};
+use dt_expression::literal::bytes_of;
 use crate::pieces::{labels, value};
 use crate::string::{bytes_between, earlier};
 use crate::tree::{Statement, delete_node, delete_property, node, property};

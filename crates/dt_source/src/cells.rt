@@ -1,15 +1,15 @@
 //! Cells and byte strings.
 ghost use Rattle.std.specs.Prelude.{◌≡◌, ◌≤◌, ◌<◌, ◌++◌, length, None, IfOk, OnOk, option_map};
-ghost use Rattle.dt_source.specs.Reading.{Gives};
+ghost use Rattle.dt_expression.specs.Reading.{Gives};
 ghost use Rattle.dt_source.specs.Sequences.{Reads};
 ghost use Rattle.dt_source.specs.Pieces.{reference_fault, fault_in, cell_fault, cell_pieces, element_pieces, built, put_all};
 ghost use Rattle.dt_source.specs.Bodies.{element_at, cell_at, cells_at, pair_at, pairs_at};
 ghost use Rattle.dt_source.specs.Loops.{into, byte_list};
 
 use crate::cell::Cell;
-use crate::element::{Width, element as within, push_low_bytes};
-use crate::expression::{primary, syntax_at};
-use crate::lexeme::{Fault, FaultKind, Kind, Lexeme, ReadError, Refusal};
+use dt_expression::element::{Width, element as within, push_low_bytes};
+use dt_expression::expression::{primary, syntax_at};
+use dt_lexeme::lexeme::{Fault, FaultKind, Kind, Lexeme, ReadError, Refusal};
 use crate::parts::Parts;
 use crate::string::{earlier, pair, target};
 use crate::tree::Part;

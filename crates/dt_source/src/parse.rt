@@ -2,7 +2,7 @@
 ghost use Rattle.std.specs.Prelude.{◌≡◌, ◌⊎◌, ℕ, List, IfOk, IfErr};
 ghost use Rattle.dt_source.specs.declared.error.SourceErrorKind.{SourceErrorKind};
 ghost use Rattle.dt_source.specs.declared.error.SourceErrorKind.TheVariants.{NoMemory};
-ghost use Rattle.dt_source.specs.declared.lexeme.Fault.{Fault};
+ghost use Rattle.dt_lexeme.specs.declared.lexeme.Fault.{Fault};
 ghost use Rattle.dt_source.specs.SourceError.{kind_of_fault};
 ghost use Rattle.dt_source.specs.Tree.{Meaning, meaning};
 ghost use Rattle.dt_source.specs.Bodies.{first_of};
@@ -10,9 +10,9 @@ ghost use Rattle.dt_source.specs.Source.{SourceTree, said, faults_of};
 ghost use Rattle.dt_source.specs.Parse.{IsShort, IsSource, IsNoSource, Says, HasFirstFault, Refuses, IsRead, IfRefused};
 
 use crate::error::{SourceError, SourceErrorKind, kind_of_fault, kind_of_refusal};
-use crate::lexeme::{Fault, ReadError, Refusal, RefusalKind};
-use crate::line::line_of;
-use crate::scan::scan_front;
+use dt_lexeme::lexeme::{Fault, ReadError, Refusal, RefusalKind};
+use dt_lexeme::line::line_of;
+use dt_lexeme::scan::scan_front;
 use crate::source::source;
 use crate::tree::Source;
 use std::alloc::Global;

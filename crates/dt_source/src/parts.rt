@@ -1,10 +1,10 @@
 //! The parts of a value while it is read.
 ghost use Rattle.std.specs.Prelude.{◌≡◌, ◌++◌, ◌∷◌, [], map, IfOk, OnOk};
 ghost use Rattle.dt_source.specs.Tree.{Plain, part_view};
-ghost use Rattle.dt_source.specs.Element.{bytes_in, low_bytes};
+ghost use Rattle.dt_expression.specs.Element.{bytes_in, low_bytes};
 ghost use Rattle.dt_source.specs.Pieces.{built, flushed, put};
 
-use crate::element::{Width, push_low_bytes};
+use dt_expression::element::{Width, push_low_bytes};
 use crate::tree::Part;
 use std::alloc::{AllocError, Global};
 use std::mem;

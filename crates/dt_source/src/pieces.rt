@@ -8,10 +8,10 @@ ghost use Rattle.dt_source.specs.Bodies.{first_of, is_label, labels_at, square_a
 ghost use Rattle.dt_source.specs.Loops.{into, comma_rest};
 
 use crate::cells::{cells, pairs};
-use crate::element::{Width, width_of};
-use crate::expression::syntax_at;
-use crate::lexeme::{Fault, FaultKind, Kind, Lexeme, ReadError};
-use crate::literal::literal;
+use dt_expression::element::{Width, width_of};
+use dt_expression::expression::syntax_at;
+use dt_lexeme::lexeme::{Fault, FaultKind, Kind, Lexeme, ReadError};
+use dt_expression::literal::literal;
 use crate::parts::Parts;
 use crate::string::{earlier, string_of, target};
 use crate::tree::Part;

@@ -1,6 +1,6 @@
 //! Sources as they are read: headers, reservations and items.
 ghost use Rattle.std.specs.Prelude.{◌≡◌, ◌≤◌, ◌<◌, ◌++◌, ◌∷◌, None, Some, map, length, IfOk, OnOk, IfSome, option_map};
-ghost use Rattle.dt_source.specs.Reading.{Gives};
+ghost use Rattle.dt_expression.specs.Reading.{Gives};
 ghost use Rattle.dt_source.specs.Sequences.{Reads};
 ghost use Rattle.dt_source.specs.Tree.{Deletes, body_of, view, views, item_view, meaning};
 ghost use Rattle.dt_source.specs.Pieces.{target_of};
@@ -10,8 +10,8 @@ ghost use Rattle.dt_source.specs.Whole.{semicolon_at, plugin_at, header_at, more
 
 use crate::body::{body, label_list};
 use crate::cells::fault_in;
-use crate::expression::{primary, syntax_at};
-use crate::lexeme::{Fault, Kind, Lexeme, ReadError, Refusal};
+use dt_expression::expression::{primary, syntax_at};
+use dt_lexeme::lexeme::{Fault, Kind, Lexeme, ReadError, Refusal};
 use crate::pieces::labels;
 use crate::string::{earlier, target};
 use crate::tree::{Item, Source, Statement};

@@ -6,8 +6,8 @@ ghost use Rattle.dt_source.specs.Pieces.{target_of};
 ghost use Rattle.dt_source.specs.Sequences.{earlier};
 ghost use Rattle.dt_source.specs.Bodies.{first_of};
 
-use crate::lexeme::{Fault, FaultKind, Kind, Lexeme};
-use crate::literal::{bytes_of, digit_of};
+use dt_lexeme::lexeme::{Fault, FaultKind, Kind, Lexeme};
+use dt_expression::literal::{bytes_of, digit_of};
 use crate::tree::Reference;
 use std::alloc::{AllocError, Global};
 

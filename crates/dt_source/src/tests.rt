@@ -1,4 +1,2 @@
 mod board;
-mod expressions;
-mod lexemes;
 mod parsing;

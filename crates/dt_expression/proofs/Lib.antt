@@ -1,0 +1,5 @@
+mod Literals
+mod Steps
+pub mod Sound
+pub mod Complete
+pub mod Trees

@@ -1,0 +1,68 @@
+-- Reading by depth and by rank, a step at a time.
+use Rattle.std.proofs.Common.{◌≡◌, ℕ, zero, suc, ◌-◌, ◌<◌, ◌≤◌, List, length, Ok, Err, Some, None, refl, sym, ◌∙◌, arith}
+use Rattle.dt_lexeme.specs.declared.lexeme.Lexeme.{Lexeme}
+use Rattle.dt_lexeme.specs.declared.lexeme.Refusal.{Refusal}
+use Rattle.dt_expression.specs.Expression.{Making}
+use Rattle.dt_expression.specs.Reading.{◌>>=◌, Read, too_deep}
+use Rattle.dt_expression.specs.ReadingExpressions.{Reader, operator_at, more, levels, expr_below, unary_below, expr_at, unary_at}
+
+pub expr_below_none : {A : Type 0} (m : Making A) (d : ℕ) (t : Lexeme) (ts : List Lexeme) → d ≡ 0 → expr_below m d t ts ≡ Err (too_deep t)
+unfolding expr_below
+expr_below_none m zero t ts e = refl
+expr_below_none m (suc d) t ts e = absurd (omega arith)
+
+pub unary_below_none : {A : Type 0} (m : Making A) (d : ℕ) (t : Lexeme) (ts : List Lexeme) → d ≡ 0 → unary_below m d t ts ≡ Err (too_deep t)
+unfolding unary_below
+unary_below_none m zero t ts e = refl
+unary_below_none m (suc d) t ts e = absurd (omega arith)
+
+pub expr_below_some : {A : Type 0} (m : Making A) (d : ℕ) (t : Lexeme) (ts : List Lexeme) → 0 < d → expr_below m d t ts ≡ expr_at m (d - 1) ts
+unfolding expr_below expr_at unary_at
+expr_below_some m zero t ts h = absurd (omega arith)
+expr_below_some m (suc d) t ts h = let e : suc d - 1 ≡ d = omega arith in rw e refl
+
+pub unary_below_some : {A : Type 0} (m : Making A) (d : ℕ) (t : Lexeme) (ts : List Lexeme) → 0 < d → unary_below m d t ts ≡ unary_at m (d - 1) ts
+unfolding unary_below unary_at
+unary_below_some m zero t ts h = absurd (omega arith)
+unary_below_some m (suc d) t ts h = let e : suc d - 1 ≡ d = omega arith in rw e refl
+
+pub levels_none : {A : Type 0} (m : Making A) (unary : Reader A) (r : ℕ) (ts : List Lexeme) → r ≡ 0 → levels m unary r ts ≡ unary ts
+unfolding levels
+levels_none m unary zero ts e = refl
+levels_none m unary (suc r) ts e = absurd (omega arith)
+
+pub levels_some : {A : Type 0} (m : Making A) (unary : Reader A) (r : ℕ) (ts : List Lexeme) → 1 ≤ r → levels m unary r ts ≡ (levels m unary (r - 1) ts >>= λ x. more m (levels m unary (r - 1)) r (length x.1) x.0 x.1)
+unfolding levels
+levels_some m unary zero ts h = absurd (omega arith)
+levels_some m unary (suc r) ts h = let e : suc r - 1 ≡ r = omega arith in rw e refl
+
+pub levels_fails : {A : Type 0} (m : Making A) (unary : Reader A) (r : ℕ) (ts : List Lexeme) (e : Refusal) → 1 ≤ r → levels m unary (r - 1) ts ≡ Err e → levels m unary r ts ≡ Err e
+levels_fails m unary r ts e h f = levels_some m unary r ts h ∙ rw f refl
+
+pub levels_begin : {A : Type 0} (m : Making A) (unary : Reader A) (r : ℕ) (ts left : List Lexeme) (v : A) → 1 ≤ r → levels m unary (r - 1) ts ≡ Ok (v, left) → (n : ℕ) × (length left ≤ n) × (more m (levels m unary (r - 1)) r n v left ≡ levels m unary r ts)
+levels_begin m unary r ts left v h e = (length left, omega arith, sym (levels_some m unary r ts h ∙ rw e refl))
+
+-- one more operand
+pub more_goes_on : {A : Type 0} (m : Making A) (lower : Reader A) (level n : ℕ) (v : A) (ts : List Lexeme) (t : Lexeme) (rest : List Lexeme) (x : A) (after : List Lexeme) (total : Read A)
+    → operator_at level ts ≡ Some (t, rest) → length rest < length ts → lower rest ≡ Ok (x, after) → length after < length rest → length ts ≤ n → more m lower level n v ts ≡ total
+    → (fuel : ℕ) × (length after ≤ fuel) × (more m lower level fuel (m.joined t v x) after ≡ total)
+unfolding more
+more_goes_on m lower level zero v ts t rest x after total e s f g h k = absurd (omega arith)
+more_goes_on m lower level (suc n) v ts t rest x after total e s f g h k =
+    let one : more m lower level (suc n) v ts ≡ more m lower level n (m.joined t v x) after = rw (e, f) refl in
+    (n, omega arith, sym one ∙ k)
+
+pub more_fails : {A : Type 0} (m : Making A) (lower : Reader A) (level n : ℕ) (v : A) (ts : List Lexeme) (t : Lexeme) (rest : List Lexeme) (e : Refusal) (total : Read A)
+    → operator_at level ts ≡ Some (t, rest) → length rest < length ts → lower rest ≡ Err e → length ts ≤ n → more m lower level n v ts ≡ total → total ≡ Err e
+unfolding more
+more_fails m lower level zero v ts t rest r total e s f h k = absurd (omega arith)
+more_fails m lower level (suc n) v ts t rest r total e s f h k =
+    let one : more m lower level (suc n) v ts ≡ Err r = rw (e, f) refl in
+    sym k ∙ one
+
+pub more_stops : {A : Type 0} (m : Making A) (lower : Reader A) (level n : ℕ) (v : A) (ts : List Lexeme) (total : Read A) → operator_at level ts ≡ None → more m lower level n v ts ≡ total → total ≡ Ok (v, ts)
+unfolding more
+more_stops m lower level zero v ts total e k = sym k
+more_stops m lower level (suc n) v ts total e k =
+    let one : more m lower level (suc n) v ts ≡ Ok (v, ts) = rw e refl in
+    sym k ∙ one

@@ -1,0 +1,38 @@
+use Rattle.std.proofs.Common.{◌≡◌, ◌≤◌, ◌<◌, length, ℕ, ◌+◌, ◌-◌, ◌*◌}
+use Rattle.dt_expression.specs.Values.{values}
+use Rattle.dt_expression.specs.ReadingExpressions.{unary_at, levels, more}
+use Rattle.dt_expression.proofs.expression.+expression.Given as goal
+
+abbrev pub decreases-expr : goal.decreases-expr
+decreases-expr l = l.depth * 16 + 14
+
+abbrev pub decreases-level : goal.decreases-level
+decreases-level l = l.depth * 16 + (l.rank + 3)
+
+abbrev pub decreases-unary : goal.decreases-unary
+decreases-unary l = l.depth * 16 + 2
+
+abbrev pub decreases-primary_within : goal.decreases-primary_within
+decreases-primary_within l = l.depth * 16 + 1
+
+abbrev pub decreases-expr_deeper : goal.decreases-expr_deeper
+decreases-expr_deeper l = l.depth * 16
+
+abbrev pub decreases-unary_deeper : goal.decreases-unary_deeper
+decreases-unary_deeper l = l.depth * 16
+
+abbrev pub decreases-choose : goal.decreases-choose
+decreases-choose l = l.depth * 16 + 2
+
+abbrev pub decreases-otherwise : goal.decreases-otherwise
+decreases-otherwise l = l.depth * 16 + 1
+
+abbrev pub invariant-level-loop-t : goal.invariant-level-loop-t
+invariant-level-loop-t l = record {
+  left_shorter : length l.left < length l.lexemes;
+  ranked : 1 ≤ l.rank;
+  so_far : (n : ℕ) × (length l.left ≤ n) × (more (values l.text) (levels (values l.text) (unary_at (values l.text) l.depth) (l.rank - 1)) l.rank n l.value l.left ≡ levels (values l.text) (unary_at (values l.text) l.depth) l.rank l.lexemes);
+}
+
+abbrev pub decreases-level-loop-t : goal.decreases-level-loop-t
+decreases-level-loop-t l = length l.left

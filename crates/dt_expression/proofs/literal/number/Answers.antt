@@ -1,0 +1,17 @@
+use Rattle.std.proofs.Common.{◌≡◌, ◌≤◌, ◌<◌, ◌+◌, ◌*◌, ◌^◌, false, get_or, rules}
+use Rattle.dt_expression.specs.Values.{digit_of, is_suffix}
+use Rattle.dt_expression.proofs.Literals.{ends_bad, ends_large}
+use Rattle.dt_expression.proofs.literal.number.Goals as goal
+
+pub returns-then-digit-base : goal.returns-then-digit-base
+returns-then-digit-base c =
+    let s : is_suffix (get_or c.args.digits.now c.loop-c.c-index 0) ≡ false = search rules in
+    let le : c.args.base ≤ digit_of (get_or c.args.digits.now c.loop-c.c-index 0) = rw (c.digit_of-digit.ensures) at c.if-digit-base.true in
+    ends_bad c.args.base c.loop-c.c-index c.loop-c.number c.args.digits.now _ c.loop-c-test.true s le c.loop-c.invariant
+
+pub returns-then-wide : goal.returns-then-wide
+returns-then-wide c =
+    let s : is_suffix (get_or c.args.digits.now c.loop-c.c-index 0) ≡ false = search rules in
+    let lt : digit_of (get_or c.args.digits.now c.loop-c.c-index 0) < c.args.base = rw (c.digit_of-digit.ensures) at c.if-digit-base.false in
+    let large : 2 ^ 64 ≤ c.loop-c.number * c.args.base + digit_of (get_or c.args.digits.now c.loop-c.c-index 0) = rw (c.digit_of-digit.ensures) at c.if-wide.true in
+    ends_large c.args.base c.loop-c.c-index c.loop-c.number c.args.digits.now _ c.loop-c-test.true s lt large c.loop-c.invariant

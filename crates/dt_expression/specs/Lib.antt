@@ -1,0 +1,5 @@
+pub mod Expression
+pub mod Values
+pub mod Reading
+pub mod ReadingExpressions
+pub mod Element

@@ -1,0 +1,30 @@
+-- The places of a text's lexemes grow.
+use Rattle.std.proofs.Common.{◌≡◌, ℕ, ◌+◌, ◌-◌, ◌<◌, ◌≤◌, List, [], ◌∷◌, length, drop, subst, arith}
+use Rattle.std.proofs.lemmas.List.{length-drop}
+use Rattle.dt_lexeme.specs.declared.lexeme.Lexeme.{Lexeme}
+use Rattle.dt_lexeme.specs.declared.place.Place.{Place}
+use Rattle.dt_lexeme.specs.Places.{start, step}
+use Rattle.dt_lexeme.specs.Lexemes.{Left, Lexemes}
+use Rattle.dt_lexeme.specs.Order.{Above}
+use Rattle.dt_lexeme.proofs.GapEnds.{gap_shorter}
+use Rattle.dt_lexeme.proofs.Scanning.{some_byte}
+
+pub above_lower : (p q : ℕ) (ls : List Lexeme) → p ≤ q → Above q ls → Above p ls
+unfolding Above
+above_lower p q [] le h = tt
+above_lower p q (l ∷ ls) le h = (omega (arith, h.0), h.1, h.2)
+
+left_above : (total : ℕ) (place : Place) (text : List ℕ) (ls : List Lexeme) → length text ≤ total → Left total place text ls → Above (total - length text) ls
+unfolding Left Above
+left_above total place text [] le h = tt
+left_above total place text (l ∷ ls) le (s, n, gap, longest, from, to, more) =
+    let shorter = gap_shorter text s gap in
+    let some = some_byte place s l.kind n longest in
+    let within = longest.within in
+    let left = length-drop n s in
+    let next = left_above total (step place l.kind) (drop n s) ls (omega (arith, left, shorter)) more in
+    (omega (arith, from, shorter), omega (arith, from, to, some), subst (λ (q : ℕ). Above q ls) (omega (arith, left, to, within, shorter)) next)
+
+pub lexemes_above : (text : List ℕ) (ls : List Lexeme) → Lexemes text ls → Above 0 ls
+unfolding Lexemes
+lexemes_above text ls h = above_lower 0 (length text - length text) ls (omega arith) (left_above (length text) start text ls (omega arith) h)

@@ -1,0 +1,6 @@
+mod Runs
+mod Numbers
+mod GapEnds
+mod Begins
+pub mod Scanning
+pub mod InOrder

@@ -1,0 +1,143 @@
+-- A text has one list of lexemes, and a loop that takes the longest lexeme each time finds it.
+use Rattle.std.proofs.Common.{◌≡◌, ℕ, zero, suc, ◌+◌, ◌-◌, ◌<◌, ◌≤◌, false, List, [], ◌∷◌, ◌++◌, length, take, drop, Option, Some, None, refl, sym, ap, subst, ◌∙◌, arith, inl, inr, append_assoc, eqb, ◌⊎◌}
+use Rattle.std.proofs.lemmas.List.{append-nil}
+use Rattle.std.proofs.lemmas.Bool.{cases_lt}
+use Rattle.dt_lexeme.specs.declared.lexeme.Kind.{Kind}
+use Rattle.dt_lexeme.specs.declared.lexeme.Kind.TheVariants.{Brace, EndBrace, Paren, EndParen}
+use Rattle.dt_lexeme.specs.declared.lexeme.Lexeme.{Lexeme}
+use Rattle.dt_lexeme.specs.declared.place.Place.{Place}
+use Rattle.dt_lexeme.specs.Gaps.{IsGap, SkipsGap}
+use Rattle.dt_lexeme.specs.Families.{Longest, IsLongest, kind_of}
+use Rattle.dt_lexeme.specs.Places.{start, step}
+use Rattle.dt_lexeme.specs.Lexemes.{Left, Lexemes, HasNone}
+use Rattle.dt_lexeme.proofs.GapEnds.{one_end}
+
+-- a lexeme has at least one byte
+pub some_byte : (place : Place) (s : List ℕ) (k : Kind) (n : ℕ) → IsLongest (kind_of place) s k n → 1 ≤ n
+unfolding kind_of
+some_byte place s k zero h = absurd (cc (h.is))
+some_byte place s k (suc n) h = omega arith
+
+same_length : (f : List ℕ → Option Kind) (s : List ℕ) (k j : Kind) (n m : ℕ) → IsLongest f s k n → IsLongest f s j m → n < m → ⊥
+same_length f s k j n m h g lt = cc (h.longest m lt g.within, g.is)
+
+some_is : (k j : Kind) → Some k ≡ Some j → k ≡ j
+some_is k j e = cc
+
+one_longest : (f : List ℕ → Option Kind) (s : List ℕ) (k j : Kind) (n m : ℕ) → IsLongest f s k n → IsLongest f s j m → (k ≡ j) × (n ≡ m)
+one_longest f s k j n m h g = go (cases_lt n m) (cases_lt m n)
+  where
+    go : (n < m) ⊎ (m ≤ n) → (m < n) ⊎ (n ≤ m) → (k ≡ j) × (n ≡ m)
+    go (inl lt) b = absurd (same_length f s k j n m h g lt)
+    go (inr le) (inl lt) = absurd (same_length f s j k m n g h lt)
+    go (inr le) (inr le') =
+        let e : n ≡ m = omega arith in
+        let p : f (take m s) ≡ Some k = subst (λ (i : ℕ). f (take i s) ≡ Some k) e h.is in
+        (some_is k j (sym p ∙ g.is), e)
+
+-- the lexeme that stands there
+abbrev pub lexeme_at : ℕ → List ℕ → Kind → ℕ → Lexeme
+lexeme_at total s k n = record { kind = k; start = total - length s; end = total - length s + n }
+
+lexeme_is : (l : Lexeme) (k : Kind) (a b : ℕ) → l.kind ≡ k → l.start ≡ a → l.end ≡ b → l ≡ record { kind = k; start = a; end = b }
+lexeme_is l k a b e f g =
+    let L : Kind → ℕ → ℕ → Lexeme = λ k a b. record { kind = k; start = a; end = b } in
+    ap (λ (x : Kind). L x l.start l.end) e ∙ ap (λ (x : ℕ). L k x l.end) f ∙ ap (L k a) g
+
+left_more : (total : ℕ) (place : Place) (left s : List ℕ) (k : Kind) (n : ℕ) (ls : List Lexeme) → IsGap left s → IsLongest (kind_of place) s k n → Left total (step place k) (drop n s) ls → Left total place left (lexeme_at total s k n ∷ ls)
+unfolding Left
+left_more total place left s k n ls g h r = (s, n, g, h, refl, refl, r)
+
+empty_longest : (place : Place) (s : List ℕ) (k : Kind) (n : ℕ) → IsLongest (kind_of place) s k n → s ≡ [] → ⊥
+empty_longest place s k n h e = omega (arith, h.within, some_byte place s k n h, ap length e)
+
+left_less : (total : ℕ) (place : Place) (left s : List ℕ) (k : Kind) (n : ℕ) (all : List Lexeme) → IsGap left s → IsLongest (kind_of place) s k n → Left total place left all
+    → (ls : List Lexeme) × (all ≡ lexeme_at total s k n ∷ ls) × Left total (step place k) (drop n s) ls
+unfolding Left
+left_less total place left s k n [] g h r = absurd (empty_longest place s k n h (one_end left s [] g r))
+left_less total place left s k n (l ∷ ls) g h r =
+    let e : r.0 ≡ s = one_end left r.0 s r.2 g in
+    let h' = subst (λ (x : List ℕ). IsLongest (kind_of place) x l.kind r.1) e r.3 in
+    let u = one_longest (kind_of place) s l.kind k r.1 n h' h in
+    let place_is : l ≡ lexeme_at total s k n = lexeme_is l k _ _ u.0 (r.4 ∙ ap (λ (x : List ℕ). total - length x) e) (r.5 ∙ ap (λ (x : List ℕ). total - length x + r.1) e ∙ ap (λ (m : ℕ). total - length s + m) u.1) in
+    (ls, ap (λ (x : Lexeme). x ∷ ls) place_is, subst (λ (m : ℕ). Left total (step place k) (drop m s) ls) u.1 (subst (λ (j : Kind). Left total (step place j) (drop r.1 s) ls) u.0 (subst (λ (x : List ℕ). Left total (step place l.kind) (drop r.1 x) ls) e r.6)))
+
+pub left_none : (total : ℕ) (place : Place) (left : List ℕ) (ls : List Lexeme) → SkipsGap left None → Left total place left ls → ⊥
+unfolding Left
+left_none total place left [] g r = g [] r
+left_none total place left (l ∷ ls) g r = g r.0 r.2
+
+pub left_lost : (total : ℕ) (place : Place) (left s : List ℕ) (ls : List Lexeme) → IsGap left s → (s ≡ [] → ⊥) → Longest (kind_of place) s None → Left total place left ls → ⊥
+unfolding Left
+left_lost total place left s [] g ne h r = ne (one_end left s [] g r)
+left_lost total place left s (l ∷ ls) g ne h r =
+    let e : r.0 ≡ s = one_end left r.0 s r.2 g in
+    let h' = subst (λ (x : List ℕ). IsLongest (kind_of place) x l.kind r.1) e r.3 in
+    cc (h r.1 h'.within, h'.is)
+
+left_done : (total : ℕ) (place : Place) (left : List ℕ) → IsGap left [] → Left total place left []
+unfolding Left
+left_done total place left g = g
+
+one_left : (a b : List Lexeme) (total : ℕ) (place : Place) (left : List ℕ) → Left total place left a → Left total place left b → a ≡ b
+unfolding Left
+one_left [] [] total place left r q = refl
+one_left [] (l ∷ b) total place left r q = absurd (empty_longest place q.0 l.kind q.1 q.3 (one_end left q.0 [] q.2 r))
+one_left (l ∷ a) b total place left r q =
+    let p = left_less total place left r.0 l.kind r.1 b r.2 r.3 q in
+    let i = one_left a p.0 total (step place l.kind) (drop r.1 r.0) r.6 p.2 in
+    ap (λ (x : Lexeme). x ∷ a) (lexeme_is l l.kind _ _ refl r.4 r.5) ∙ ap (λ (x : List Lexeme). lexeme_at total r.0 l.kind r.1 ∷ x) i ∙ sym p.1
+
+-- A text has one list of lexemes at most.
+pub one_list : (text : List ℕ) (a b : List Lexeme) → Lexemes text a → Lexemes text b → a ≡ b
+unfolding Lexemes
+one_list text a b r q = one_left a b (length text) start text r q
+
+-- ---- a loop
+
+-- What is left of the text has the lexemes behind those that were found.
+pub record Scans (text : List ℕ) (found : List Lexeme) (place : Place) (left : List ℕ) : Type 0 where
+  pub to : (ls : List Lexeme) → Left (length text) place left ls → Lexemes text (found ++ ls)
+  pub of : (all : List Lexeme) → Lexemes text all → (ls : List Lexeme) × (all ≡ found ++ ls) × Left (length text) place left ls
+
+pub scans_start : (text : List ℕ) → Scans text [] start text
+unfolding Lexemes
+scans_start text = record { to = λ ls r. r; of = λ all r. (all, refl, r) }
+
+pub scans_more : (text : List ℕ) (found : List Lexeme) (place : Place) (left s : List ℕ) (k : Kind) (n : ℕ) → IsGap left s → IsLongest (kind_of place) s k n
+    → Scans text found place left → Scans text (found ++ lexeme_at (length text) s k n ∷ []) (step place k) (drop n s)
+scans_more text found place left s k n g h i = record {
+  to = λ ls r. subst (λ (x : List Lexeme). Lexemes text x) (sym (append_assoc found (lexeme_at (length text) s k n ∷ []) ls)) (i.to (lexeme_at (length text) s k n ∷ ls) (left_more (length text) place left s k n ls g h r));
+  of = of;
+}
+  where
+    of : (all : List Lexeme) → Lexemes text all → (ls : List Lexeme) × (all ≡ (found ++ lexeme_at (length text) s k n ∷ []) ++ ls) × Left (length text) (step place k) (drop n s) ls
+    of all r =
+        let p = i.of all r in
+        let q = left_less (length text) place left s k n p.0 g h p.2 in
+        (q.0, p.1 ∙ ap (λ (x : List Lexeme). found ++ x) q.1 ∙ sym (append_assoc found (lexeme_at (length text) s k n ∷ []) q.0), q.2)
+
+pub scans_done : (text : List ℕ) (found : List Lexeme) (place : Place) (left : List ℕ) → IsGap left [] → Scans text found place left → Lexemes text found
+scans_done text found place left g i = subst (λ (x : List Lexeme). Lexemes text x) (append-nil found) (i.to [] (left_done (length text) place left g))
+
+pub scans_none : (text : List ℕ) (found : List Lexeme) (place : Place) (left : List ℕ) → SkipsGap left None → Scans text found place left → HasNone text
+scans_none text found place left g i = λ all r. let p = i.of all r in left_none (length text) place left p.0 g p.2
+
+pub scans_lost : (text : List ℕ) (found : List Lexeme) (place : Place) (left s : List ℕ) → IsGap left s → (s ≡ [] → ⊥) → Longest (kind_of place) s None → Scans text found place left → HasNone text
+scans_lost text found place left s g ne h i = λ all r. let p = i.of all r in left_lost (length text) place left s p.0 g ne h p.2
+
+pub step_braces : (p : Place) (k : Kind) → (step p k).braces ≤ p.braces + 1
+unfolding step
+step_braces p Brace = omega arith
+step_braces p EndBrace = omega arith
+step_braces p _ = omega arith
+
+pub step_parens : (p : Place) (k : Kind) → (step p k).parens ≤ p.parens + 1
+unfolding step
+step_parens p Paren = omega arith
+step_parens p EndParen = omega arith
+step_parens p _ = omega arith
+
+pub not_empty : (s : List ℕ) → eqb (length s) 0 ≡ false → s ≡ [] → ⊥
+not_empty [] e h = cc
+not_empty (c ∷ s) e h = cc

@@ -1,0 +1,10 @@
+use Rattle.std.proofs.Common.{List, ℕ, subst, Some}
+use Rattle.std.specs.List.{list_all}
+use Rattle.dt_lexeme.specs.declared.bytes.Class.TheVariants.{Word}
+use Rattle.dt_lexeme.specs.Bytes.{passes}
+use Rattle.dt_lexeme.specs.Fronts.{IsFront}
+use Rattle.dt_lexeme.proofs.Runs.{capped}
+use Rattle.dt_lexeme.proofs.fronts.words_len.Goals as goal
+
+pub returns : goal.returns
+returns c = capped 254 (list_all (passes Word)) c.args.s.now (Some c.run_len.result) (subst (λ (t : List ℕ). IsFront (list_all (passes Word)) t c.run_len.result) c.front.ensures c.run_len.ensures)

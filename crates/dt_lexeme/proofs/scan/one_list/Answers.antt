@@ -1,0 +1,5 @@
+use Rattle.dt_lexeme.proofs.Scanning.{one_list}
+use Rattle.dt_lexeme.proofs.scan.one_list.Goals as goal
+
+pub returns : goal.returns
+returns c = one_list

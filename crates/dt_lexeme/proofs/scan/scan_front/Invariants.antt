@@ -1,0 +1,14 @@
+use Rattle.std.proofs.Common.{◌≤◌, ◌+◌, length}
+use Rattle.dt_lexeme.proofs.Scanning.{Scans}
+use Rattle.dt_lexeme.proofs.scan.scan_front.Given as goal
+
+abbrev pub invariant-lexemes : goal.invariant-lexemes
+invariant-lexemes l = record {
+  shorter : length l.left ≤ length l.text;
+  braces : l.place.braces + length l.left ≤ length l.text;
+  parens : l.place.parens + length l.left ≤ length l.text;
+  scans : Scans l.text l.found.items l.place l.left;
+}
+
+abbrev pub decreases-lexemes : goal.decreases-lexemes
+decreases-lexemes l = length l.left

@@ -1,0 +1,120 @@
+-- What stands behind the first byte of a lexeme, and how far it reaches.
+use Rattle.std.specs.Prelude.{◌≡◌, ℕ, ◌+◌, ◌<◌, ◌≤◌, ◌==◌, nat_le, nat_lt, Bool, true, false, ◌&&◌, ◌||◌, not, List, [], ◌∷◌, length, take, Option, Some, None, if◌then◌else◌}
+use Rattle.std.specs.List.{list_all}
+use Rattle.dt_lexeme.specs.declared.bytes.Class.{Class}
+use Rattle.dt_lexeme.specs.declared.bytes.Class.TheVariants.{Word, Name, HexDigit, Ell}
+use Rattle.dt_lexeme.specs.Bytes.{is_word, is_name, is_hex, passes}
+
+-- ---- the longest front
+
+-- The longest front that passes the test has n bytes.
+pub record IsFront (b : List ℕ → Bool) (s : List ℕ) (n : ℕ) : Type 0 where
+  pub within : n ≤ length s
+  pub is : b (take n s) ≡ true
+  pub longest : (m : ℕ) → n < m → m ≤ length s → b (take m s) ≡ false
+
+-- how many bytes the longest front has that passes the test, if one does
+abbrev pub Front : (List ℕ → Bool) → List ℕ → Option ℕ → Type 0
+Front b s None = (m : ℕ) → m ≤ length s → b (take m s) ≡ false
+Front b s (Some n) = IsFront b s n
+
+abbrev pub is_empty : List ℕ → Bool
+is_empty [] = true
+is_empty (c ∷ s) = false
+
+-- at most so many bytes that pass a test
+abbrev pub at_most : ℕ → (List ℕ → Bool) → List ℕ → Bool
+at_most n b s = b s && nat_le (length s) n
+
+-- ---- labels, names, references (Devicetree Specification v0.4, section 6.2)
+
+-- The first byte that passes the second test is the last, and those before it pass the first.
+unfoldable pub ends : (ℕ → Bool) → (ℕ → Bool) → List ℕ → Bool
+ends p q [] = false
+ends p q (c ∷ s) = if q c then is_empty s else p c && ends p q s
+
+-- characters of a label and a colon
+abbrev pub ends_label : List ℕ → Bool
+ends_label = ends is_word (λ c. c == 58)
+
+-- behind the first letter of a label: with it at most 255 characters, and a colon
+abbrev pub labels : List ℕ → Bool
+labels = at_most 255 ends_label
+
+-- behind the first character of a name: with it at most 255 characters
+abbrev pub names : List ℕ → Bool
+names = at_most 254 (list_all (passes Name))
+
+-- behind the first letter of a reference's label: with it at most 255 characters
+abbrev pub words : List ℕ → Bool
+words = at_most 254 (list_all (passes Word))
+
+-- bytes that are no slash, and a slash
+abbrev pub ends_word : List ℕ → Bool
+ends_word = ends (λ c. not (c == 47)) (λ c. c == 47)
+
+-- ---- strings
+
+-- The last byte is a quote, and none before it is one, but behind a backslash any byte stands. The flag says that a
+-- backslash stands before.
+unfoldable pub closes : Bool → List ℕ → Bool
+closes escaped [] = false
+closes true (c ∷ s) = closes false s
+closes false (c ∷ s) = if c == 34 then is_empty s else closes (c == 92) s
+
+-- ---- paths of references
+
+-- how many characters of a name stand behind a byte of a path, if so many stand before it and it may stand there
+abbrev pub path_step : ℕ → ℕ → Option ℕ
+path_step n c =
+    if c == 47 then (if nat_lt 0 n then Some 0 else None) else
+    (if nat_lt n 255 && is_name c then Some (n + 1) else None)
+
+-- The rest of a path and the brace behind it; so many characters of a name stand before it.
+unfoldable pub closes_path : ℕ → List ℕ → Bool
+closes_path n [] = false
+closes_path n (c ∷ s) =
+    if c == 125 then nat_lt 0 n && is_empty s else
+    (if c == 47 then nat_lt 0 n && closes_path 0 s else
+    (nat_lt n 255 && is_name c && closes_path (n + 1) s))
+
+-- behind the path's first slash: the brace, as the path is `/`, or names
+abbrev pub path_behind : List ℕ → Bool
+path_behind [] = false
+path_behind (c ∷ s) = if c == 125 then is_empty s else closes_path 0 (c ∷ s)
+
+-- behind `&{`: a path and a brace
+abbrev pub paths : List ℕ → Bool
+paths [] = false
+paths (c ∷ s) = c == 47 && path_behind s
+
+-- ---- literals
+
+-- at most two letters L
+abbrev pub ells : List ℕ → Bool
+ells = at_most 2 (list_all (passes Ell))
+
+-- the letters behind a literal: U, then at most two L, each of them or none
+abbrev pub suffix : List ℕ → Bool
+suffix [] = true
+suffix (c ∷ s) = if c == 85 then ells s else ells (c ∷ s)
+
+-- digits of a class and a suffix
+unfoldable pub numbers : Class → List ℕ → Bool
+numbers class [] = true
+numbers class (c ∷ s) = if passes class c then numbers class s else suffix (c ∷ s)
+
+-- at least one digit of hex, and a suffix
+abbrev pub hexes : List ℕ → Bool
+hexes [] = false
+hexes (c ∷ s) = is_hex c && numbers HexDigit s
+
+-- behind a leading 0: x, hex digits and a suffix
+abbrev pub hexed : List ℕ → Bool
+hexed [] = false
+hexed (c ∷ s) = (c == 120 || c == 88) && hexes s
+
+-- one digit of hex
+abbrev pub one_hex : List ℕ → Bool
+one_hex [] = false
+one_hex (c ∷ s) = is_hex c && is_empty s

@@ -1,0 +1,30 @@
+-- Where a lexeme stands: it follows from the kinds of the lexemes before it.
+use Rattle.std.specs.Prelude.{ℕ, zero, suc, ◌+◌, ◌-◌}
+use Rattle.dt_lexeme.specs.declared.lexeme.Kind.{Kind}
+use Rattle.dt_lexeme.specs.declared.lexeme.Kind.TheVariants.{Brace, EndBrace, Semicolon, DeleteNode, DeleteProperty, Square, Paren, EndParen, Label, Pair}
+use Rattle.dt_lexeme.specs.declared.place.Mode.{Mode}
+use Rattle.dt_lexeme.specs.declared.place.Mode.TheVariants as modes
+use Rattle.dt_lexeme.specs.declared.place.Place.{Place}
+
+abbrev pub start : Place
+start = record { braces = 0; parens = 0; mode = modes.Value }
+
+-- in a body a statement's name, at the top level a value
+abbrev pub statement : ℕ → Mode
+statement zero = modes.Value
+statement (suc n) = modes.Name
+
+-- The place behind a lexeme of this kind: a body's statements begin behind its brace and behind each semicolon in it, a
+-- deletion in a body is followed by a name, bytes stand between square brackets, and labels leave the place as it is.
+unfoldable pub step : Place → Kind → Place
+step p Brace = record { braces = p.braces + 1; parens = p.parens; mode = modes.Name }
+step p EndBrace = record { braces = p.braces - 1; parens = p.parens; mode = modes.Value }
+step p Semicolon = record { braces = p.braces; parens = p.parens; mode = statement p.braces }
+step p DeleteNode = record { braces = p.braces; parens = p.parens; mode = statement p.braces }
+step p DeleteProperty = record { braces = p.braces; parens = p.parens; mode = statement p.braces }
+step p Square = record { braces = p.braces; parens = p.parens; mode = modes.Byte }
+step p Paren = record { braces = p.braces; parens = p.parens + 1; mode = modes.Value }
+step p EndParen = record { braces = p.braces; parens = p.parens - 1; mode = modes.Value }
+step p Label = p
+step p Pair = p
+step p _ = record { braces = p.braces; parens = p.parens; mode = modes.Value }

@@ -1,0 +1,298 @@
+//! The longest lexeme, by the byte that it begins with.
+ghost use Rattle.std.specs.Prelude.{◌≡◌, ◌≤◌, option_map, Some};
+ghost use Rattle.dt_lexeme.specs.Families.{punctuation, operator, single, first_in, first_at, second_of, keyword, Longest, given, ampersand, kind_by, slashed, operated, alone, and_alone};
+ghost use Rattle.dt_lexeme.specs.Fronts.{one_hex};
+
+use crate::bytes::{Class, begins, begins_letter, from, front, is_hex, is_letter, is_name};
+use crate::fronts::{
+    hex_len, label_len, name_len, number_len, path_len, string_len, word_end, words_len,
+};
+use crate::lexeme::Kind;
+use crate::place::{Mode, Place};
+
+/// The lexemes that begin with a byte.
+#[derive(Clone, Copy, Debug, PartialEq, Eq)]
+pub enum First {
+    /// a string
+    Quote,
+    /// a keyword or `/`
+    Solidus,
+    /// a reference; inside parentheses also `&` and `&&`
+    Ampersand(bool),
+    /// a literal with a leading 0
+    Zero,
+    Digit,
+    /// a label or a name
+    Letter,
+    /// a name
+    Other,
+    /// a label
+    Word,
+    /// a label or a pair
+    HexLetter,
+    HexDigit,
+    /// punctuation or an operator inside parentheses
+    Operator(Kind),
+    /// punctuation outside
+    Alone(Kind),
+    Nothing,
+}
+
+fn punctuation(c: u8) -> Option<Kind>
+    ensures { result ≡ punctuation c }
+{
+    match c {
+        b';' => Some(Kind::Semicolon),
+        b'{' => Some(Kind::Brace),
+        b'}' => Some(Kind::EndBrace),
+        b'=' => Some(Kind::Equals),
+        b',' => Some(Kind::Comma),
+        b'<' => Some(Kind::Less),
+        b'>' => Some(Kind::Greater),
+        b'[' => Some(Kind::Square),
+        b']' => Some(Kind::EndSquare),
+        b'(' => Some(Kind::Paren),
+        b')' => Some(Kind::EndParen),
+        _ => None,
+    }
+}
+
+fn operator(c: u8) -> Option<Kind>
+    ensures { result ≡ operator c }
+{
+    match c {
+        b'?' => Some(Kind::Question),
+        b':' => Some(Kind::Colon),
+        b'|' => Some(Kind::Or),
+        b'^' => Some(Kind::Xor),
+        b'+' => Some(Kind::Plus),
+        b'-' => Some(Kind::Minus),
+        b'*' => Some(Kind::Star),
+        b'%' => Some(Kind::Percent),
+        b'~' => Some(Kind::Tilde),
+        b'!' => Some(Kind::Bang),
+        _ => None,
+    }
+}
+
+fn single(inside: bool, c: u8) -> First
+    ensures { result ≡ single inside c }
+{
+    if let Some(kind) = punctuation(c) {
+        return if inside {
+            First::Operator(kind)
+        } else {
+            First::Alone(kind)
+        };
+    }
+    if !inside {
+        return First::Nothing;
+    }
+    match operator(c) {
+        Some(kind) => First::Operator(kind),
+        None => First::Nothing,
+    }
+}
+
+fn first_in(mode: Mode, inside: bool, c: u8) -> First
+    ensures { result ≡ first_in mode inside c }
+{
+    match mode {
+        Mode::Name => {
+            if is_letter(c) {
+                First::Letter
+            } else if is_name(c) {
+                First::Other
+            } else {
+                single(inside, c)
+            }
+        }
+        Mode::Value => {
+            if is_letter(c) {
+                First::Word
+            } else if c == b'0' {
+                First::Zero
+            } else if c >= b'0' && c <= b'9' {
+                First::Digit
+            } else {
+                single(inside, c)
+            }
+        }
+        Mode::Byte => {
+            if is_letter(c) {
+                if is_hex(c) {
+                    First::HexLetter
+                } else {
+                    First::Word
+                }
+            } else if is_hex(c) {
+                First::HexDigit
+            } else {
+                single(inside, c)
+            }
+        }
+    }
+}
+
+/// What may begin with this byte at this place.
+#[tactic(auto, unfolding(crate::specs::Families::first_at))]
+pub fn first_at(place: Place, c: u8) -> First
+    ensures { result ≡ first_at place c }
+{
+    if c == b'"' {
+        First::Quote
+    } else if c == b'/' {
+        First::Solidus
+    } else if c == b'&' {
+        First::Ampersand(place.parens > 0)
+    } else {
+        first_in(place.mode, place.parens > 0, c)
+    }
+}
+
+fn with_kind(kind: Kind, len: Option<usize>) -> Option<(Kind, usize)>
+    ensures { result ≡ option_map (λ n. (kind, n)) len }
+{
+    match len {
+        Some(n) => Some((kind, n)),
+        None => None,
+    }
+}
+
+fn keyword(s: &[u8]) -> Option<Kind>
+    ensures { result ≡ keyword s.now }
+{
+    if s == b"dts-v1/".as_slice() {
+        Some(Kind::Version)
+    } else if s == b"plugin/".as_slice() {
+        Some(Kind::Plugin)
+    } else if s == b"memreserve/".as_slice() {
+        Some(Kind::MemReserve)
+    } else if s == b"bits/".as_slice() {
+        Some(Kind::Bits)
+    } else if s == b"delete-node/".as_slice() {
+        Some(Kind::DeleteNode)
+    } else if s == b"delete-property/".as_slice() {
+        Some(Kind::DeleteProperty)
+    } else {
+        None
+    }
+}
+
+// A keyword, or the slash alone.
+fn solidus(s: &[u8]) -> (Kind, usize)
+    ensures { Longest slashed s.now (Some result) }
+{
+    let Some(n) = word_end(s) else {
+        return (Kind::Slash, 0);
+    };
+    match keyword(front(s, n)) {
+        Some(kind) => (kind, n),
+        None => (Kind::Slash, 0),
+    }
+}
+
+fn second_of(kind: Kind, c: u8) -> Option<Kind>
+    ensures { result ≡ second_of kind c }
+{
+    match (kind, c) {
+        (Kind::Less, b'=') => Some(Kind::LessEqual),
+        (Kind::Less, b'<') => Some(Kind::ShiftLeft),
+        (Kind::Greater, b'=') => Some(Kind::GreaterEqual),
+        (Kind::Greater, b'>') => Some(Kind::ShiftRight),
+        (Kind::Equals, b'=') => Some(Kind::EqualEqual),
+        (Kind::Bang, b'=') => Some(Kind::NotEqual),
+        (Kind::Or, b'|') => Some(Kind::OrOr),
+        _ => None,
+    }
+}
+
+// An operator of two characters, or the first alone.
+fn operated(kind: Kind, s: &[u8]) -> (Kind, usize)
+    ensures { Longest (operated kind) s.now (Some result) }
+{
+    match s {
+        [] => (kind, 0),
+        [c, ..] => match second_of(kind, *c) {
+            Some(two) => (two, 1),
+            None => (kind, 0),
+        },
+    }
+}
+
+// The operator `&`, inside parentheses.
+fn and_alone(inside: bool) -> Option<(Kind, usize)>
+    ensures { result ≡ and_alone inside }
+{
+    if inside { Some((Kind::And, 0)) } else { None }
+}
+
+// A reference, or inside parentheses an operator.
+fn ampersand(inside: bool, s: &[u8]) -> Option<(Kind, usize)>
+    ensures { Longest (ampersand inside) s.now result }
+{
+    if begins(s, b'{') {
+        return match path_len(from(s, 1)) {
+            Some(n) => Some((Kind::PathReference, n + 1)),
+            None => and_alone(inside),
+        };
+    }
+    if begins(s, b'&') {
+        return if inside {
+            Some((Kind::AndAnd, 1))
+        } else {
+            None
+        };
+    }
+    if begins_letter(s) {
+        return Some((Kind::Reference, words_len(from(s, 1)) + 1));
+    }
+    and_alone(inside)
+}
+
+// The second digit of a pair.
+fn pair(s: &[u8]) -> Option<(Kind, usize)>
+    ensures { Longest (given Kind.Pair one_hex) s.now result }
+{
+    match s {
+        [c, ..] if is_hex(*c) => Some((Kind::Pair, 1)),
+        _ => None,
+    }
+}
+
+// A number with a leading 0.
+fn zero(s: &[u8]) -> usize
+    ensures { Longest (kind_by First.Zero) s.now (Some (Kind.Literal, result)) }
+{
+    match hex_len(s) {
+        Some(n) => n,
+        None => number_len(Class::Digit, s),
+    }
+}
+
+/// The longest lexeme of a family, behind its first byte.
+pub fn family(first: First, s: &[u8]) -> Option<(Kind, usize)>
+    ensures { Longest (kind_by first) s.now result }
+{
+    match first {
+        First::Quote => with_kind(Kind::Text, string_len(s)),
+        First::Solidus => Some(solidus(s)),
+        First::Ampersand(inside) => ampersand(inside, s),
+        First::Zero => Some((Kind::Literal, zero(s))),
+        First::Digit => Some((Kind::Literal, number_len(Class::Digit, s))),
+        First::Letter => match label_len(s) {
+            Some(n) => Some((Kind::Label, n)),
+            None => Some((Kind::Name, name_len(s))),
+        },
+        First::Other => Some((Kind::Name, name_len(s))),
+        First::Word => with_kind(Kind::Label, label_len(s)),
+        First::HexLetter => match label_len(s) {
+            Some(n) => Some((Kind::Label, n)),
+            None => pair(s),
+        },
+        First::HexDigit => pair(s),
+        First::Operator(kind) => Some(operated(kind, s)),
+        First::Alone(kind) => Some((kind, 0)),
+        First::Nothing => None,
+    }
+}

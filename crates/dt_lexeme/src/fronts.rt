@@ -1,0 +1,161 @@
+//! Where a string, a word, a path or a number ends, behind its first byte.
+ghost use Rattle.std.specs.Prelude.{◌≡◌, ◌==◌, ◌&&◌, not, Some, false};
+ghost use Rattle.dt_lexeme.specs.Fronts.{Front, closes, ends_label, labels, names, words, ends_word, path_step, closes_path, paths, ells, suffix, numbers, hexed};
+
+use crate::bytes::{Class, begins, begins_hex, begins_x, from, front, is_name, is_word, run_len};
+
+fn ends_string(escaped: bool, c: u8) -> bool
+    ensures { result ≡ not escaped && c == 34 }
+{
+    !escaped && c == b'"'
+}
+
+fn escapes(escaped: bool, c: u8) -> bool
+    ensures { result ≡ not escaped && c == 92 }
+{
+    !escaped && c == b'\\'
+}
+
+/// How long the string is, with its last quote, behind its first quote.
+pub fn string_len(s: &[u8]) -> Option<usize>
+    ensures { Front (closes false) s.now result }
+{
+    let mut escaped = false;
+    for (i, c) in s.iter().enumerate() {
+        if ends_string(escaped, *c) {
+            return Some(i + 1);
+        }
+        escaped = escapes(escaped, *c);
+    }
+    None
+}
+
+fn label_end(s: &[u8]) -> Option<usize>
+    ensures { Front ends_label s.now result }
+{
+    for (i, c) in s.iter().enumerate() {
+        if *c == b':' {
+            return Some(i + 1);
+        }
+        if !is_word(*c) {
+            return None;
+        }
+    }
+    None
+}
+
+/// How long the label is, with its colon, behind its first letter.
+pub fn label_len(s: &[u8]) -> Option<usize>
+    ensures { Front labels s.now result }
+{
+    label_end(front(s, 255))
+}
+
+/// How long the name is behind its first character.
+pub fn name_len(s: &[u8]) -> usize
+    ensures { Front names s.now (Some result) }
+{
+    run_len(Class::Name, front(s, 254))
+}
+
+/// How long the label of a reference is behind its first letter.
+pub fn words_len(s: &[u8]) -> usize
+    ensures { Front words s.now (Some result) }
+{
+    run_len(Class::Word, front(s, 254))
+}
+
+/// How far the next slash is, with it.
+pub fn word_end(s: &[u8]) -> Option<usize>
+    ensures { Front ends_word s.now result }
+{
+    for (i, c) in s.iter().enumerate() {
+        if *c == b'/' {
+            return Some(i + 1);
+        }
+    }
+    None
+}
+
+// How long the name is with this byte of a path.
+fn path_step(name: usize, c: u8) -> Option<usize>
+    ensures { result ≡ path_step name c }
+{
+    if c == b'/' {
+        if name > 0 { Some(0) } else { None }
+    } else if name < 255 && is_name(c) {
+        Some(name + 1)
+    } else {
+        None
+    }
+}
+
+fn path_end(s: &[u8]) -> Option<usize>
+    ensures { Front (closes_path 0) s.now result }
+{
+    let mut name = 0;
+    for (i, c) in s.iter().enumerate() {
+        if *c == b'}' {
+            return if name > 0 { Some(i + 1) } else { None };
+        }
+        let Some(longer) = path_step(name, *c) else {
+            return None;
+        };
+        name = longer;
+    }
+    None
+}
+
+/// How long the path of a reference is, with its last brace, behind its first brace.
+pub fn path_len(s: &[u8]) -> Option<usize>
+    ensures { Front paths s.now result }
+{
+    if !begins(s, b'/') {
+        return None;
+    }
+    let names = from(s, 1);
+    if begins(names, b'}') {
+        return Some(2);
+    }
+    match path_end(names) {
+        Some(n) => Some(n + 1),
+        None => None,
+    }
+}
+
+fn ells_len(s: &[u8]) -> usize
+    ensures { Front ells s.now (Some result) }
+{
+    run_len(Class::Ell, front(s, 2))
+}
+
+fn suffix_len(s: &[u8]) -> usize
+    ensures { Front suffix s.now (Some result) }
+{
+    if begins(s, b'U') {
+        return ells_len(from(s, 1)) + 1;
+    }
+    ells_len(s)
+}
+
+/// How many digits of a class stand at the front, with the literal's suffix.
+pub fn number_len(class: Class, s: &[u8]) -> usize
+    ensures { Front (numbers class) s.now (Some result) }
+{
+    let digits = run_len(class, s);
+    digits + suffix_len(from(s, digits))
+}
+
+/// How long the literal of hex digits is behind its leading `0`.
+pub fn hex_len(s: &[u8]) -> Option<usize>
+    ensures { Front hexed s.now result }
+{
+    if !begins_x(s) {
+        return None;
+    }
+    let digits = from(s, 1);
+    if !begins_hex(digits) {
+        return None;
+    }
+    Some(number_len(Class::HexDigit, from(digits, 1)) + 2)
+}

@@ -1,0 +1,96 @@
+//! Blanks, comments and line markers, which stand between lexemes.
+ghost use Rattle.std.specs.Prelude.{◌≡◌, ◌≤◌, length, IfSome, option_map, true, IfOk, MatchResult, Some};
+ghost use Rattle.dt_lexeme.specs.Gaps.{SkipsGap, IsGap, comment_end, line_end, ends_comment, begins_comment, begins_line, begins_blank};
+
+use crate::bytes::from;
+
+fn ends_comment(s: &[u8]) -> bool
+    ensures value { result ≡ ends_comment s.now }
+    ensures long { result ≡ true → 2 ≤ length s.now }
+{
+    match s {
+        [c, d, ..] => *c == b'*' && *d == b'/',
+        _ => false,
+    }
+}
+
+fn begins_comment(s: &[u8]) -> bool
+    ensures value { result ≡ begins_comment s.now }
+    ensures long { result ≡ true → 2 ≤ length s.now }
+{
+    match s {
+        [c, d, ..] => *c == b'/' && *d == b'*',
+        _ => false,
+    }
+}
+
+fn begins_line(s: &[u8]) -> bool
+    ensures value { result ≡ begins_line s.now }
+    ensures long { result ≡ true → 2 ≤ length s.now }
+{
+    match s {
+        [b'/', d, ..] => *d == b'/',
+        [b'#', b' ', e, ..] => *e >= b'0' && *e <= b'9',
+        _ => false,
+    }
+}
+
+fn begins_blank(s: &[u8]) -> bool
+    ensures value { result ≡ begins_blank s.now }
+    ensures long { result ≡ true → 1 ≤ length s.now }
+{
+    match s {
+        [c, ..] => *c == b' ' || *c >= 9 && *c <= 13,
+        [] => false,
+    }
+}
+
+// What follows the first end of a comment.
+fn comment_end<'a>(s: &'a [u8]) -> Option<&'a [u8]>
+    ensures gives { option_map (λ t. t.now) result ≡ comment_end s.now }
+    ensures shorter { IfSome result (λ t. length t.now ≤ length s.now) }
+{
+    let mut left = s;
+    while left.len() >= 2 {
+        if ends_comment(left) {
+            return Some(from(left, 2));
+        }
+        left = from(left, 1);
+    }
+    None
+}
+
+// What stands from the end of the line on.
+fn line_end(s: &[u8]) -> &[u8]
+    ensures gives { result.now ≡ line_end s.now }
+    ensures shorter { length result.now ≤ length s.now }
+{
+    for (i, c) in s.iter().enumerate() {
+        if *c == b'\n' {
+            return from(s, i);
+        }
+    }
+    from(s, s.len())
+}
+
+/// What follows the gap, or what stands from the comment on that doesn't end.
+pub fn skip_gap<'a>(s: &'a [u8]) -> Result<&'a [u8], &'a [u8]>
+    ensures gap { MatchResult result (λ t. SkipsGap s.now (Some t.now)) (λ t. SkipsGap s.now None) }
+    ensures shorter { MatchResult result (λ t. length t.now ≤ length s.now) (λ t. length t.now ≤ length s.now) }
+{
+    let mut left = s;
+    'gaps: loop {
+        if begins_blank(left) {
+            left = from(left, 1);
+        } else if begins_line(left) {
+            left = line_end(from(left, 2));
+        } else if begins_comment(left) {
+            match comment_end(from(left, 2)) {
+                Some(after) => left = after,
+                None => return Err(left),
+            }
+        } else {
+            return Ok(left);
+        }
+    }
+}

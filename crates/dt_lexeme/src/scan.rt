@@ -1,0 +1,88 @@
+//! The lexemes of a text.
+ghost use Rattle.std.specs.Prelude.{◌≡◌, ◌≤◌, List, ℕ, IfOk, Err};
+ghost use Rattle.dt_lexeme.specs.declared.lexeme.Lexeme.{Lexeme};
+ghost use Rattle.dt_lexeme.specs.declared.lexeme.RefusalKind.TheVariants.{Syntax};
+ghost use Rattle.dt_lexeme.specs.declared.lexeme.ReadError.TheVariants.{Refused};
+ghost use Rattle.dt_lexeme.specs.Families.{Longest, kind_of};
+ghost use Rattle.dt_lexeme.specs.Lexemes.{Lexemes, HasNone, Scanned};
+ghost use Rattle.dt_lexeme.specs.Order.{OneList, LexemesAreInOrder};
+ghost use Rattle.std.specs.Prelude.{length};
+ghost use Rattle.dt_lexeme.specs.declared.lexeme.Refusal.{Refusal};
+
+use crate::bytes::from;
+use crate::families::{family, first_at};
+use crate::gaps::skip_gap;
+use crate::lexeme::{Kind, Lexeme, ReadError, Refusal, RefusalKind};
+use crate::place::Place;
+use std::alloc::{AllocError, Global};
+
+// The longest lexeme that can stand at the front.
+fn next(place: Place, s: &[u8]) -> Option<(Kind, usize)>
+    ensures { Longest (kind_of place) s.now result }
+{
+    match s {
+        [] => None,
+        [c, ..] => match family(first_at(place, *c), from(s, 1)) {
+            Some((kind, n)) => Some((kind, n + 1)),
+            None => None,
+        },
+    }
+}
+
+/// The lexemes of the text up to the first place where none stands, and that place.
+pub fn scan_front(alloc: Global, text: &[u8]) -> Result<(Vec<Lexeme>, Option<u32>), AllocError>
+    requires { length text.now ≤ 16777216 }
+    ensures { IfOk result (λ r. Scanned text.now r.0.items r.1) }
+{
+    let mut found = Vec::new(alloc);
+    let mut place = Place::start();
+    let mut left = text;
+    'lexemes: loop {
+        let s = match skip_gap(left) {
+            Ok(s) => s,
+            Err(s) => return Ok((found, Some((text.len() - s.len()) as u32))),
+        };
+        if s.is_empty() {
+            return Ok((found, None));
+        }
+        let start = text.len() - s.len();
+        let Some((kind, n)) = next(place, s) else {
+            return Ok((found, Some(start as u32)));
+        };
+        found.push(Lexeme {
+            kind,
+            start: start as u32,
+            end: (start + n) as u32,
+        })?;
+        place = place.step(kind);
+        left = from(s, n);
+    }
+}
+
+/// The lexemes of the text, or the place where none stands.
+pub fn scan(alloc: Global, text: &[u8]) -> Result<Vec<Lexeme>, ReadError>
+    requires { length text.now ≤ 16777216 }
+    // What is found are the text's lexemes.
+    ensures found { IfOk result (λ v. Lexemes text.now v.items) }
+    // The text is refused only where it has none.
+    ensures only { (r : Refusal) → result ≡ Err (Refused r) → HasNone text.now }
+    ensures syntax { (r : Refusal) → result ≡ Err (Refused r) → r.kind ≡ Syntax }
+{
+    match scan_front(alloc, text)? {
+        (lexemes, None) => Ok(lexemes),
+        (_, Some(place)) => Err(ReadError::Refused(Refusal {
+            kind: RefusalKind::Syntax,
+            place,
+        })),
+    }
+}
+
+/// A text has one list of lexemes at most.
+pub fn one_list()
+    ensures { OneList }
+{}
+
+/// A text's lexemes stand one behind the other, each with a byte or more.
+pub fn lexemes_are_in_order()
+    ensures { LexemesAreInOrder }
+{}

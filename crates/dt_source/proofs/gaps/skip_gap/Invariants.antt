@@ -1,9 +1,0 @@
-use Rattle.std.proofs.Common.{ℕ, List, length, ◌≤◌}
-use Rattle.dt_source.specs.Gaps.{IsGap}
-use Rattle.dt_source.proofs.gaps.skip_gap.Given as goal
-
-abbrev pub invariant-gaps : goal.invariant-gaps
-invariant-gaps l = record { shorter : length l.left ≤ length l.s; to : (t : List ℕ) → IsGap l.left t → IsGap l.s t; of : (t : List ℕ) → IsGap l.s t → IsGap l.left t }
-
-abbrev pub decreases-gaps : goal.decreases-gaps
-decreases-gaps l = length l.left
