@@ -19,3 +19,8 @@ pub mod SpelledHeaders
 pub mod SpelledItems
 pub mod ReadHeaders
 pub mod SpelledSources
+pub mod OneEach
+pub mod OneCell
+pub mod OneValue
+pub mod OneBody
+pub mod OneSource

@@ -16,3 +16,7 @@ SourcesAreSpelled =
 -- What is spelled is read.
 abbrev pub SourcesAreRead : Type 0
 SourcesAreRead = (text : List ℕ) (s : SourceTree) (ts : List Lexeme) → Spells s ts → source_at text ts ≡ Ok (said text s, first_of (faults_of text s))
+
+-- Lexemes spell at most one source, in one way.
+abbrev pub OneSpelling : Type 0
+OneSpelling = (ts : List Lexeme) (s t : SourceTree) → Spells s ts → Spells t ts → s ≡ t
