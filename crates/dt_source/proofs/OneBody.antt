@@ -1,9 +1,9 @@
 -- Lexemes spell a body in one way alone.
 use Rattle.std.proofs.Common.{◌≡◌, ℕ, zero, suc, Bool, true, false, List, refl, sym, subst, ◌∙◌}
-use Rattle.dt_source.specs.declared.lexeme.Lexeme.{Lexeme}
-use Rattle.dt_source.specs.declared.lexeme.Kind.{Kind}
-use Rattle.dt_source.specs.declared.lexeme.Kind.TheVariants.{Name, Semicolon, Brace, EndBrace, DeleteNode, DeleteProperty}
-use Rattle.dt_source.specs.Expression.{Begins, Deeper}
+use Rattle.dt_lexeme.specs.declared.lexeme.Lexeme.{Lexeme}
+use Rattle.dt_lexeme.specs.declared.lexeme.Kind.{Kind}
+use Rattle.dt_lexeme.specs.declared.lexeme.Kind.TheVariants.{Name, Semicolon, Brace, EndBrace, DeleteNode, DeleteProperty}
+use Rattle.dt_expression.specs.Expression.{Begins, Deeper}
 use Rattle.dt_source.specs.Source.{Statements, End, Sets, Unsets, Holds, Drops, PieceTree, One, SpellsLabels, SpellsValue, SpellsStatements, SpellsBody}
 use Rattle.dt_source.proofs.OneEach.{Same, one_takes, one_begins, one_after, one_labels, sorted, sort_behind, begins_sort, takes_sort, no_label, behind_labels, behind_none}
 use Rattle.dt_source.proofs.OneValue.{Ended, no_brace, one_value}

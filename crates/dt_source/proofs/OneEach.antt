@@ -1,9 +1,9 @@
 -- Lexemes begin in one way alone: what stands first, labels, and one thing after the other.
 use Rattle.std.proofs.Common.{◌≡◌, List, [], ◌∷◌, Option, Some, None, false, refl, sym, ap, subst, ◌∙◌, inl, inr}
-use Rattle.dt_source.specs.declared.lexeme.Lexeme.{Lexeme}
-use Rattle.dt_source.specs.declared.lexeme.Kind.{Kind}
-use Rattle.dt_source.specs.declared.lexeme.Kind.TheVariants.{Literal, Paren, Reference, PathReference}
-use Rattle.dt_source.specs.Expression.{Begins, Takes}
+use Rattle.dt_lexeme.specs.declared.lexeme.Lexeme.{Lexeme}
+use Rattle.dt_lexeme.specs.declared.lexeme.Kind.{Kind}
+use Rattle.dt_lexeme.specs.declared.lexeme.Kind.TheVariants.{Literal, Paren, Reference, PathReference}
+use Rattle.dt_expression.specs.Expression.{Begins, Takes}
 use Rattle.dt_source.specs.Sequences.{SpellsEach}
 use Rattle.dt_source.specs.Bodies.{is_label, labels_at}
 use Rattle.dt_source.specs.Source.{IsReference, OneReference, SpellsLabels}

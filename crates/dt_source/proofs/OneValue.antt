@@ -1,9 +1,9 @@
 -- Lexemes spell the value of a property in one way alone.
 use Rattle.std.proofs.Common.{◌≡◌, List, [], ◌∷◌, false, refl, sym, ap, subst, ◌∙◌}
-use Rattle.dt_source.specs.declared.lexeme.Lexeme.{Lexeme}
-use Rattle.dt_source.specs.declared.lexeme.Kind.{Kind}
-use Rattle.dt_source.specs.declared.lexeme.Kind.TheVariants.{Text, Reference, Square, Less, Bits, Equals, Comma, Semicolon, Brace}
-use Rattle.dt_source.specs.Expression.{Begins}
+use Rattle.dt_lexeme.specs.declared.lexeme.Lexeme.{Lexeme}
+use Rattle.dt_lexeme.specs.declared.lexeme.Kind.{Kind}
+use Rattle.dt_lexeme.specs.declared.lexeme.Kind.TheVariants.{Text, Reference, Square, Less, Bits, Equals, Comma, Semicolon, Brace}
+use Rattle.dt_expression.specs.Expression.{Begins}
 use Rattle.dt_source.specs.Sequences.{SpellsEach}
 use Rattle.dt_source.specs.Bodies.{is_label}
 use Rattle.dt_source.specs.Source.{CellTree, PieceTree, Quoted, Points, Pairs, Cells, WideCells, SpellsLabels, SpellsCells, SpellsPiece, SpellsPlaced, SpellsFurther, SpellsValue}

@@ -15,13 +15,17 @@ use Rattle.dt_lexeme.specs.Lexemes.{Lexemes}
 use Rattle.dt_source.specs.Sequences.{Reads}
 use Rattle.dt_source.specs.Tree.{Meaning, meaning}
 use Rattle.dt_source.specs.Bodies.{first_of}
-use Rattle.dt_source.specs.Source.{SourceTree, said, faults_of}
+use Rattle.dt_source.specs.Source.{SourceTree, Spells, said, faults_of}
 use Rattle.dt_source.specs.Whole.{source_at}
 use Rattle.dt_source.specs.Order.{IsFirstInText, FaultsAreInOrder}
 use Rattle.dt_source.specs.Laws.{SourcesAreSpelled, SourcesAreRead}
 use Rattle.dt_source.specs.Parse.{IsShort, IsSource, IsNoSource, Says, HasFirstFault, HasFault, Refuses, IsRead, IfRefused}
 use Rattle.dt_source.specs.SourceError.{kind_of_fault}
 use Rattle.dt_lexeme.proofs.Scanning.{one_list}
+use Rattle.dt_source.proofs.OneSource.{one_spelling}
+
+pub same_tree : (text : List ℕ) (s t : SourceTree) → IsSource text s → IsSource text t → s ≡ t
+same_tree text s t a b = one_spelling b.0 s t (subst (Spells s) (one_list text a.0 b.0 a.1 b.1) a.2) b.2
 
 abbrev just : {A : Type 0} → A → Result A Refusal
 just x = Ok x

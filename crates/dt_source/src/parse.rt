@@ -5,8 +5,7 @@ ghost use Rattle.dt_source.specs.declared.error.SourceErrorKind.TheVariants.{NoM
 ghost use Rattle.dt_lexeme.specs.declared.lexeme.Fault.{Fault};
 ghost use Rattle.dt_source.specs.SourceError.{kind_of_fault};
 ghost use Rattle.dt_source.specs.Tree.{Meaning, meaning};
-ghost use Rattle.dt_source.specs.Bodies.{first_of};
-ghost use Rattle.dt_source.specs.Source.{SourceTree, said, faults_of};
+ghost use Rattle.dt_source.specs.Source.{SourceTree};
 ghost use Rattle.dt_source.specs.Parse.{IsShort, IsSource, IsNoSource, Says, HasFirstFault, Refuses, IsRead, IfRefused};
 
 use crate::error::{SourceError, SourceErrorKind, kind_of_fault, kind_of_refusal};
@@ -94,8 +93,7 @@ pub fn parse(alloc: Global, text: &[u8]) -> Result<Source, SourceError>
 /// A text spells one source at most, and one answer fits it: where it says something nothing but want of memory
 /// refuses it, and where it has a fault nothing but that and want of memory.
 pub fn one_source()
-    // What its spellings say is the same, and so is their first fault.
-    ensures one { (text : List ℕ) (s t : SourceTree) → IsSource text s → IsSource text t → (said text s ≡ said text t) × (first_of (faults_of text s) ≡ first_of (faults_of text t)) }
+    ensures one { (text : List ℕ) (s t : SourceTree) → IsSource text s → IsSource text t → s ≡ t }
     ensures meaning { (text : List ℕ) (m n : Meaning) → Says text m → Says text n → m ≡ n }
     ensures accepted { (text : List ℕ) (m : Meaning) (k : SourceErrorKind) → IsShort text → Says text m → Refuses text k → k ≡ NoMemory }
     ensures fault { (text : List ℕ) (m : Meaning) (f : Fault) → Says text m → HasFirstFault text f → ⊥ }
