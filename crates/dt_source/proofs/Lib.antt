@@ -29,3 +29,9 @@ pub mod SpelledHeaders
 pub mod SpelledItems
 pub mod ReadHeaders
 pub mod SpelledSources
+pub mod Tails
+pub mod NameForms
+pub mod PathForms
+pub mod LexemeForms
+pub mod LawfulValues
+pub mod LawfulSources

@@ -4,6 +4,7 @@ pub mod Gaps
 pub mod Families
 pub mod Places
 pub mod Lexemes
+pub mod Label
 pub mod Lines
 pub mod Expression
 pub mod Values
@@ -22,3 +23,4 @@ pub mod Laws
 pub mod Order
 pub mod SourceError
 pub mod Parse
+pub mod Lawful

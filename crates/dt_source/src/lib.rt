@@ -21,6 +21,8 @@ mod families;
 mod fronts;
 /// Blanks, comments and line markers.
 mod gaps;
+/// What a source names is lawful.
+pub mod lawful;
 /// The kinds of lexeme, and why a text is no source.
 pub mod lexeme;
 /// Lines of a text.
