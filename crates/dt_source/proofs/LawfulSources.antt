@@ -1,16 +1,14 @@
 -- What a source says names nodes and properties lawfully.
-use Rattle.std.proofs.Common.{◌≡◌, ℕ, zero, suc, Bool, true, false, List, [], ◌∷◌, map, subst}
-use Rattle.std.specs.Prelude.{All}
+use Rattle.std.proofs.Common.{ℕ, zero, suc, Bool, true, false, List, [], subst}
 use Rattle.std.proofs.lemmas.List.Elements.{All-map, All-from_recursion}
 use Rattle.dt_source.specs.declared.lexeme.Lexeme.{Lexeme}
 use Rattle.dt_source.specs.declared.lexeme.Kind.TheVariants.{Name}
-use Rattle.dt_source.specs.Lexemes.{Lexemes}
 use Rattle.dt_source.specs.Tree.{Meaning, body_of}
 use Rattle.dt_source.specs.Source.{Statements, End, Sets, Unsets, Holds, Drops, ReserveTree, ItemTree, Root, Extend, Delete, SourceTree, SpellsStatements, SpellsBody, SpellsItem, SpellsReserve, SpellsHeader, Spells, entries_of, item_said, said}
 use Rattle.dt_source.specs.Parse.{Says}
 use Rattle.dt_source.specs.Lawful.{IsLawfulBody, IsLawfulEdit, IsLawful}
 use Rattle.dt_source.proofs.LexemeForms.{AllLawful, lexemes_lawful}
-use Rattle.dt_source.proofs.LawfulValues.{takes_lawful, one_lawful, begins_lawful, reference_lawful, each_lawful, labels_lawful, drops_lawful, expression_lawful, value_lawful}
+use Rattle.dt_source.proofs.LawfulValues.{one_lawful, begins_lawful, reference_lawful, each_lawful, labels_lawful, drops_lawful, expression_lawful, value_lawful}
 
 -- ---- bodies
 
@@ -73,7 +71,7 @@ source_lawful text s ts (some_header, some_item, a, b, headers, reserves, items)
     let x = each_lawful text SpellsHeader (λ i. Unit {0}) (λ i ts rest s h. (tt, header_lawful text i ts rest s h)) s.headers ts a headers h in
     let y = each_lawful text SpellsReserve (λ i. Unit {0}) (λ i ts rest s h. (tt, reserve_lawful text i ts rest s h)) s.reserves a b reserves x.1 in
     let z = each_lawful text SpellsItem P (item_lawful text) s.items b [] items y.1 in
-    All-map IsLawfulEdit (item_said text) s.items (All-from_recursion P s.items z.0)
+    record { items = All-map IsLawfulEdit (item_said text) s.items (All-from_recursion P s.items z.0) }
 
 pub says_lawful : (text : List ℕ) (m : Meaning) → Says text m → IsLawful m
 says_lawful text m (s, (ls, lexemes, spells), faults, e) = subst IsLawful e (source_lawful text s ls spells (lexemes_lawful text ls lexemes))

@@ -1,14 +1,13 @@
 -- The bytes of names and labels have their form.
-use Rattle.std.proofs.Common.{◌≡◌, ℕ, suc, ◌+◌, ◌-◌, ◌<◌, ◌≤◌, Bool, true, false, eqb, ltb, leb, List, [], ◌∷◌, ◌++◌, length, take, drop, refl, sym, ap, ◌∙◌, append_assoc, length-append, arith}
-use Rattle.std.specs.Prelude.{◌&&◌, ◌||◌, slice_range}
+use Rattle.std.proofs.Common.{◌≡◌, ℕ, ◌-◌, ◌<◌, ◌≤◌, Bool, true, false, eqb, ltb, leb, List, [], ◌∷◌, ◌++◌, length, take, refl, sym, ap, ◌∙◌, length-append, arith}
+use Rattle.std.specs.Prelude.{slice_range}
 use Rattle.std.specs.List.{list_all}
 use Rattle.std.proofs.Math.Seq.{take-append_seam}
-use Rattle.std.proofs.lemmas.List.{take_all}
 use Rattle.std.proofs.lemmas.Bool.Decides.{nat_tests}
 use Rattle.dt_tree.specs.Name as tree
 use Rattle.dt_source.specs.Bytes.{is_letter, is_word, is_name}
 use Rattle.dt_source.specs.Fronts.{is_empty, ends, ends_label, labels, names, words}
-use Rattle.dt_source.specs.Label.{has_label_form, IsLabel}
+use Rattle.dt_source.specs.Label.{IsLabel}
 use Rattle.dt_source.proofs.Runs.{and_both, and_first, and_second, eqb_not, ends_hit, ends_pass, ends_miss, ends_nil}
 
 -- ---- bytes

@@ -73,13 +73,13 @@ pub cut : (text s : List ℕ) (start n a b i j : ℕ) → drop start text ≡ s 
 cut text s start n a b i j e le ei ej =
     elim (cases_lt b a) [
       | inl lt ↦
-        let none : b - a ≡ 0 = omega arith in
-        let none' : j - i ≡ 0 = omega arith in
-        ap (λ (k : ℕ). take k (drop a (take n s))) none ∙ ap (λ (k : ℕ). take k (drop i text)) (sym none')
+          let none : b - a ≡ 0 = omega arith in
+          let none' : j - i ≡ 0 = omega arith in
+          ap (λ (k : ℕ). take k (drop a (take n s))) none ∙ ap (λ (k : ℕ). take k (drop i text)) (sym none')
       | inr le' ↦
-        let all : n ≡ a + (n - a) = omega arith in
-        let same : j - i ≡ b - a = omega arith in
-        let inside : drop a (take n s) ≡ take (n - a) (drop a s) = ap (λ (k : ℕ). drop a (take k s)) all ∙ drop-take a (n - a) s in
-        let behind : drop a s ≡ drop i text = ap (λ (x : List ℕ). drop a x) (sym e) ∙ drop-drop a start text ∙ ap (λ (k : ℕ). drop k text) (sym ei) in
-        ap (λ (x : List ℕ). take (b - a) x) inside ∙ take_within (b - a) (n - a) (drop a s) (omega arith) ∙ ap (λ (x : List ℕ). take (b - a) x) behind ∙ ap (λ (k : ℕ). take k (drop i text)) (sym same)
+          let all : n ≡ a + (n - a) = omega arith in
+          let same : j - i ≡ b - a = omega arith in
+          let inside : drop a (take n s) ≡ take (n - a) (drop a s) = ap (λ (k : ℕ). drop a (take k s)) all ∙ drop-take a (n - a) s in
+          let behind : drop a s ≡ drop i text = ap (λ (x : List ℕ). drop a x) (sym e) ∙ drop-drop a start text ∙ ap (λ (k : ℕ). drop k text) (sym ei) in
+          ap (λ (x : List ℕ). take (b - a) x) inside ∙ take_within (b - a) (n - a) (drop a s) (omega arith) ∙ ap (λ (x : List ℕ). take (b - a) x) behind ∙ ap (λ (k : ℕ). take k (drop i text)) (sym same)
     ]

@@ -1,6 +1,6 @@
 -- What a source names is lawful: names and paths are those of trees, and labels are labels
 -- (Devicetree Specification v0.4, sections 2.2.1, 2.2.3, 2.2.4 and 6.2).
-use Rattle.std.specs.Prelude.{ℕ, List, All, IsTrue}
+use Rattle.std.specs.Prelude.{All, IsTrue}
 use Rattle.dt_tree.specs.Name.{is_name}
 use Rattle.dt_tree.specs.Path.{is_path}
 use Rattle.dt_source.specs.Label.{IsLabel}
@@ -32,5 +32,5 @@ IsLawfulEdit (Extends labels target body) = All IsLabel labels × IsLawfulTarget
 IsLawfulEdit (Deletes target) = IsLawfulTarget target
 
 -- All that the source names is lawful.
-abbrev pub IsLawful : Meaning → Type 0
-IsLawful m = All IsLawfulEdit m.items
+pub record IsLawful (m : Meaning) : Type 0 where
+  pub items : All IsLawfulEdit m.items
