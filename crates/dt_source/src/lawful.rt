@@ -4,8 +4,8 @@ ghost use Rattle.dt_source.specs.Tree.{Meaning};
 ghost use Rattle.dt_source.specs.Parse.{Says};
 ghost use Rattle.dt_source.specs.Lawful.{IsLawful};
 
-/// What a text says names nodes and properties by names, other nodes by labels or paths, and nothing else: each name
-/// and path is one of trees, and each label is one.
+/// What a text says is lawful: its names and paths are those of trees, and its labels are labels. So a tree is built of
+/// them without a test.
 pub fn says_lawful()
     ensures { (text : List ℕ) (m : Meaning) → Says text m → IsLawful m }
 {}
