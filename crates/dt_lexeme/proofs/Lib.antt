@@ -4,3 +4,7 @@ mod GapEnds
 mod Begins
 pub mod Scanning
 pub mod InOrder
+mod Tails
+mod NameForms
+mod PathForms
+pub mod LexemeForms

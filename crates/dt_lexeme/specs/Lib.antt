@@ -5,4 +5,6 @@ pub mod Families
 pub mod Places
 pub mod Lexemes
 pub mod Lines
+pub mod Label
+pub mod Forms
 pub mod Order

@@ -6,6 +6,7 @@ ghost use Rattle.dt_lexeme.specs.declared.lexeme.ReadError.TheVariants.{Refused}
 ghost use Rattle.dt_lexeme.specs.Families.{Longest, kind_of};
 ghost use Rattle.dt_lexeme.specs.Lexemes.{Lexemes, HasNone, Scanned};
 ghost use Rattle.dt_lexeme.specs.Order.{OneList, LexemesAreInOrder};
+ghost use Rattle.dt_lexeme.specs.Forms.{LexemesAreLawful};
 ghost use Rattle.std.specs.Prelude.{length};
 ghost use Rattle.dt_lexeme.specs.declared.lexeme.Refusal.{Refusal};
 
@@ -85,4 +86,9 @@ pub fn one_list()
 /// A text's lexemes stand one behind the other, each with a byte or more.
 pub fn lexemes_are_in_order()
     ensures { LexemesAreInOrder }
+{}
+
+/// Names, labels, references and paths among a text's lexemes are those of the standard.
+pub fn lexemes_are_lawful()
+    ensures { LexemesAreLawful }
 {}

@@ -1,6 +1,6 @@
 use crate::lexeme::{Kind, Lexeme, ReadError, Refusal, RefusalKind};
 use crate::line::line_of;
-use crate::scan::{lexemes_are_in_order, one_list, scan, scan_front};
+use crate::scan::{lexemes_are_in_order, lexemes_are_lawful, one_list, scan, scan_front};
 use std::alloc::Global;
 use std::test::Fail;
 
@@ -22,6 +22,7 @@ fn are(alloc: Global, text: &[u8], kinds: &[(Kind, u32)]) -> bool {
 fn places_of_lexemes(rt: HostRuntime) -> Result<(), Fail> {
     one_list();
     lexemes_are_in_order();
+    lexemes_are_lawful();
     let text = b"/dts-v1/;\n# 1 \"a.dts\"\n\t&{/a} ";
     assert_eq!(rt; scan_front(rt.alloc(), text)?.1, None);
     let found = scan(rt.alloc(), text)?;

@@ -24,3 +24,5 @@ pub mod OneCell
 pub mod OneValue
 pub mod OneBody
 pub mod OneSource
+pub mod LawfulValues
+pub mod LawfulSources

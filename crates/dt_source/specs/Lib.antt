@@ -10,3 +10,4 @@ pub mod Laws
 pub mod Order
 pub mod SourceError
 pub mod Parse
+pub mod Lawful

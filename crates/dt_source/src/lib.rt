@@ -9,6 +9,8 @@ pub mod cell;
 mod cells;
 /// Why a text is refused.
 pub mod error;
+/// What a source names is lawful.
+pub mod lawful;
 /// Faults in the order of the text.
 pub mod order;
 /// A text, parsed.

@@ -6,6 +6,7 @@ ghost use Rattle.dt_lexeme.specs.declared.lexeme.Fault.{Fault};
 ghost use Rattle.dt_source.specs.SourceError.{kind_of_fault};
 ghost use Rattle.dt_source.specs.Tree.{Meaning, meaning};
 ghost use Rattle.dt_source.specs.Source.{SourceTree};
+ghost use Rattle.dt_source.specs.Lawful.{IsLawful};
 ghost use Rattle.dt_source.specs.Parse.{IsShort, IsSource, IsNoSource, Says, HasFirstFault, Refuses, IsRead, IfRefused};
 
 use crate::error::{SourceError, SourceErrorKind, kind_of_fault, kind_of_refusal};
@@ -74,6 +75,8 @@ fn fault_error(text: &[u8], fault: Fault) -> SourceError
 pub fn parse(alloc: Global, text: &[u8]) -> Result<Source, SourceError>
     // What is answered is what the text says.
     ensures found { IfOk result (λ s. IsShort text.now × Says text.now (meaning s)) }
+    // Names and paths in it are those of trees, and labels are labels.
+    ensures lawful { IfOk result (λ s. IsLawful (meaning s)) }
     // Each refusal comes only where it should.
     ensures refused { IfErr result (λ e. Refuses text.now e.kind) }
 {

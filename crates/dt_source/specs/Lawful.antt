@@ -1,0 +1,36 @@
+-- What a source names is lawful: names and paths are those of trees, and labels are labels
+-- (Devicetree Specification v0.4, sections 2.2.1, 2.2.3, 2.2.4 and 6.2).
+use Rattle.std.specs.Prelude.{All, IsTrue}
+use Rattle.dt_tree.specs.Name.{is_name}
+use Rattle.dt_tree.specs.Path.{is_path}
+use Rattle.dt_lexeme.specs.Label.{IsLabel}
+use Rattle.dt_source.specs.Tree.{Target, OfLabel, OfPath, Piece, Plain, PhandleOf, PathOf, Entry, Defines, Undefines, Child, Removes, Body, Done, Then, Edit, Rooted, Extends, Deletes, Meaning}
+
+abbrev pub IsLawfulTarget : Target → Type 0
+IsLawfulTarget (OfLabel label) = IsLabel label
+IsLawfulTarget (OfPath path) = IsTrue (is_path path)
+
+abbrev pub IsLawfulPiece : Piece → Type 0
+IsLawfulPiece (Plain bytes) = Unit {0}
+IsLawfulPiece (PhandleOf target) = IsLawfulTarget target
+IsLawfulPiece (PathOf target) = IsLawfulTarget target
+
+abbrev mutual
+  pub IsLawfulEntry : Entry → Type 0
+  IsLawfulEntry (Defines name value) = IsTrue (is_name name) × All IsLawfulPiece value
+  IsLawfulEntry (Undefines name) = IsTrue (is_name name)
+  IsLawfulEntry (Child labels name body) = All IsLabel labels × IsTrue (is_name name) × IsLawfulBody body
+  IsLawfulEntry (Removes name) = IsTrue (is_name name)
+
+  pub IsLawfulBody : Body → Type 0
+  IsLawfulBody Done = Unit {0}
+  IsLawfulBody (Then first others) = IsLawfulEntry first × IsLawfulBody others
+
+abbrev pub IsLawfulEdit : Edit → Type 0
+IsLawfulEdit (Rooted body) = IsLawfulBody body
+IsLawfulEdit (Extends labels target body) = All IsLabel labels × IsLawfulTarget target × IsLawfulBody body
+IsLawfulEdit (Deletes target) = IsLawfulTarget target
+
+-- All that the source names is lawful.
+pub record IsLawful (m : Meaning) : Type 0 where
+  pub items : All IsLawfulEdit m.items

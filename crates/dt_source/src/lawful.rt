@@ -1,0 +1,11 @@
+//! What a source names is lawful.
+ghost use Rattle.std.specs.Prelude.{ℕ, List};
+ghost use Rattle.dt_source.specs.Tree.{Meaning};
+ghost use Rattle.dt_source.specs.Parse.{Says};
+ghost use Rattle.dt_source.specs.Lawful.{IsLawful};
+
+/// What a text says is lawful: its names and paths are those of trees, and its labels are labels. So a tree is built of
+/// them without a test.
+pub fn says_lawful()
+    ensures { (text : List ℕ) (m : Meaning) → Says text m → IsLawful m }
+{}
