@@ -50,8 +50,8 @@ body_of [] = Done
 body_of (e ∷ es) = Then e (body_of es)
 
 abbrev pub target_view : Reference → Target
-target_view (references.Label label) = OfLabel label.items
-target_view (references.Path path) = OfPath path.items
+target_view (references.Label label) = OfLabel label.now
+target_view (references.Path path) = OfPath path.now
 
 abbrev pub part_view : Part → Piece
 part_view (parts.Bytes bytes) = Plain bytes.items
@@ -60,10 +60,10 @@ part_view (parts.Path target) = PathOf (target_view target)
 
 -- a statement, with each inner one in its place
 abbrev pub view_step : Statement-F Entry → Entry
-view_step (Property name value) = Defines name.items (map part_view value.items)
-view_step (DeleteProperty name) = Undefines name.items
-view_step (Node labels name body) = Child (map (λ v. v.items) labels.items) name.items (body_of body.items)
-view_step (DeleteNode name) = Removes name.items
+view_step (Property name value) = Defines name.now (map part_view value.items)
+view_step (DeleteProperty name) = Undefines name.now
+view_step (Node labels name body) = Child (map (λ v. v.now) labels.items) name.now (body_of body.items)
+view_step (DeleteNode name) = Removes name.now
 
 abbrev pub view : Statement → Entry
 view = fold-Statement Entry view_step
@@ -73,7 +73,7 @@ views ss = body_of (map view ss)
 
 abbrev pub item_view : Item → Edit
 item_view (items.Root body) = Rooted (views body.items)
-item_view (items.Extend labels target body) = Extends (map (λ v. v.items) labels.items) (target_view target) (views body.items)
+item_view (items.Extend labels target body) = Extends (map (λ v. v.now) labels.items) (target_view target) (views body.items)
 item_view (items.Delete target) = Deletes (target_view target)
 
 -- what a source says

@@ -11,13 +11,13 @@ use std::mem;
 
 /// The parts that are closed, and the bytes behind them, which neighbouring bytes join.
 #[derive(Drop)]
-pub struct Parts {
-    closed: Vec<Part>,
+pub struct Parts<'a> {
+    closed: Vec<Part<'a>>,
     bytes: Vec<u8>,
 }
 
-impl Parts {
-    pub fn new(alloc: Global) -> Parts
+impl<'a> Parts<'a> {
+    pub fn new(alloc: Global) -> Parts<'a>
         ensures { built result ≡ record { closed = []; bytes = [] } }
     {
         Parts {
@@ -51,16 +51,16 @@ impl Parts {
     }
 
     /// Puts a part that isn't bytes behind the others.
-    pub fn push_part(&mut self, alloc: Global, part: Part) -> Result<(), AllocError>
-        ensures { OnOk result (built self.new ≡ record { closed = flushed (built self.old) ++ part_view part ∷ []; bytes = [] }) }
+    pub fn push_part(&mut self, alloc: Global, part: Part<'a>) -> Result<(), AllocError>
+        ensures { OnOk result (built self.new ≡ record { closed = flushed (built self.old) ++ part_view part.entry ∷ []; bytes = [] }) }
     {
         self.close(alloc)?;
         self.closed.push(part)?;
         Ok(())
     }
 
-    pub fn finish(mut self, alloc: Global) -> Result<Vec<Part>, AllocError>
-        ensures { IfOk result (λ v. map part_view v.items ≡ flushed (built self)) }
+    pub fn finish(mut self, alloc: Global) -> Result<Vec<Part<'a>>, AllocError>
+        ensures { IfOk result (λ v. map part_view v.items ≡ flushed (built self.entry)) }
     {
         self.close(alloc)?;
         Ok(self.closed)

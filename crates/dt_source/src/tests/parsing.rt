@@ -5,7 +5,7 @@ use std::alloc::{AllocError, Global};
 use std::test::Fail;
 
 // The value of the last property of the last item, which is the root.
-fn last_value(alloc: Global, text: &[u8]) -> Result<Vec<Part>, u8> {
+fn last_value<'a>(alloc: Global, text: &'a [u8]) -> Result<Vec<Part<'a>>, u8> {
     match parse(alloc, text) {
         Err(e) => Err(e.number()),
         Ok(mut source) => match source.items.pop() {
@@ -95,11 +95,11 @@ fn values_of_parts(rt: HostRuntime) -> Result<(), Fail> {
                 Part::Bytes(e),
             ] => {
                 assert_eq!(rt; a.as_slice(), b"x\0".as_slice());
-                assert_eq!(rt; l.as_slice(), b"l".as_slice());
+                assert_eq!(rt; *l, b"l".as_slice());
                 assert_eq!(rt; b.as_slice(), [0, 0, 0, 1].as_slice());
-                assert_eq!(rt; m.as_slice(), b"m".as_slice());
+                assert_eq!(rt; *m, b"m".as_slice());
                 assert_eq!(rt; c.as_slice(), [0, 0, 0, 2, 3].as_slice());
-                assert_eq!(rt; d.as_slice(), b"/a/b@1".as_slice());
+                assert_eq!(rt; *d, b"/a/b@1".as_slice());
                 assert_eq!(rt; e.as_slice(), [0].as_slice());
             }
             _ => assert!(rt; false),
@@ -196,9 +196,9 @@ fn items(rt: HostRuntime) -> Result<(), Fail> {
                 ] => {
                     assert_eq!(rt; root.len(), 0);
                     assert_eq!(rt; labels.len(), 2);
-                    assert_eq!(rt; labels[1].as_slice(), b"b".as_slice());
-                    assert_eq!(rt; l.as_slice(), b"l".as_slice());
-                    assert_eq!(rt; path.as_slice(), b"/a".as_slice());
+                    assert_eq!(rt; labels[1], b"b".as_slice());
+                    assert_eq!(rt; *l, b"l".as_slice());
+                    assert_eq!(rt; *path, b"/a".as_slice());
                     match body.as_slice() {
                         [
                             Statement::Property { name, value },
@@ -208,17 +208,17 @@ fn items(rt: HostRuntime) -> Result<(), Fail> {
                                 body,
                             },
                         ] => {
-                            assert_eq!(rt; name.as_slice(), b"x".as_slice());
+                            assert_eq!(rt; *name, b"x".as_slice());
                             assert_eq!(rt; value.len(), 0);
                             assert_eq!(rt; labels.len(), 2);
-                            assert_eq!(rt; node.as_slice(), b"n@1".as_slice());
+                            assert_eq!(rt; *node, b"n@1".as_slice());
                             match body.as_slice() {
                                 [
                                     Statement::DeleteProperty { name: y },
                                     Statement::DeleteNode { name: z },
                                 ] => {
-                                    assert_eq!(rt; y.as_slice(), b"y".as_slice());
-                                    assert_eq!(rt; z.as_slice(), b"z".as_slice());
+                                    assert_eq!(rt; *y, b"y".as_slice());
+                                    assert_eq!(rt; *z, b"z".as_slice());
                                 }
                                 _ => assert!(rt; false),
                             }
