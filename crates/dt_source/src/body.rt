@@ -20,7 +20,7 @@ pub fn label_list<'text>(
 ) -> Result<Vec<&'text [u8]>, AllocError>
     ensures { IfOk result (λ v. map (λ b. b.now) v.items ≡ map (label_bytes text.now) labels.now) }
 {
-    let mut list = Vec::new(alloc);
+    let mut list = Vec::with_capacity(alloc, labels.len())?;
     for label in labels {
         list.push(bytes_between(
             text,
@@ -227,7 +227,10 @@ pub fn body<'a, 'text>(
         first = earlier(first, fault);
         left = rest;
         match found {
-            None => return Ok((statements, first, left)),
+            None => {
+                statements.shrink_to_fit();
+                return Ok((statements, first, left));
+            }
             Some(s) => {
                 nodes = nodes_after(nodes, &s);
                 statements.push(s)?;

@@ -63,6 +63,7 @@ impl<'a> Parts<'a> {
         ensures { IfOk result (λ v. map part_view v.items ≡ flushed (built self.entry)) }
     {
         self.close(alloc)?;
+        self.closed.shrink_to_fit();
         Ok(self.closed)
     }
 }

@@ -30,7 +30,7 @@ pub body-returns-in-None-clause-gives : goal.body-returns-in-None-clause-gives
 body-returns-in-None-clause-gives t c =
     let so_far = c.statements.invariant.so_far in
     let found = c.in_ok-found.ensures.gives ∙ ap (λ (o : Option Statement). Ok (option_map view o, c.in_ok-found.fault, c.in_ok-found.rest.now)) c.in-None.is in
-    rw (c.earlier-first.ensures) (statements_end c.args.text.now c.args.depth so_far.0 c.statements.nodes c.statements.left.now (map view c.statements.statements.items) c.statements.first c.in_ok-found.fault c.in_ok-found.rest.now (body_at c.args.text.now c.args.depth c.args.ts.now) found so_far.1 so_far.2)
+    rw (c.shrink_to_fit.ensures.items, c.earlier-first.ensures) (statements_end c.args.text.now c.args.depth so_far.0 c.statements.nodes c.statements.left.now (map view c.statements.statements.items) c.statements.first c.in_ok-found.fault c.in_ok-found.rest.now (body_at c.args.text.now c.args.depth c.args.ts.now) found so_far.1 so_far.2)
 
 pub body-statements-preserved : goal.body-statements-preserved
 body-statements-preserved t c =
