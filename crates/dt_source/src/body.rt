@@ -8,6 +8,7 @@ use crate::expression::{syntax_at, too_deep};
 use crate::lexeme::{Fault, Kind, Lexeme, ReadError};
 use crate::literal::bytes_of;
 use crate::pieces::{labels, value};
+use crate::room::push_sparingly;
 use crate::string::{bytes_between, earlier};
 use crate::tree::{Statement, delete_node, delete_property, node, property};
 use std::alloc::{AllocError, Global};
@@ -233,7 +234,7 @@ pub fn body<'a, 'text>(
             }
             Some(s) => {
                 nodes = nodes_after(nodes, &s);
-                statements.push(s)?;
+                push_sparingly(&mut statements, s)?;
             }
         }
     }

@@ -37,6 +37,8 @@ pub mod parse;
 mod pieces;
 /// Where a lexeme stands.
 mod place;
+/// Room for lists that are mostly short.
+mod room;
 /// The lexemes of a text.
 pub mod scan;
 /// The laws between reading and the grammar.

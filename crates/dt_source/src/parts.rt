@@ -5,6 +5,7 @@ ghost use Rattle.dt_source.specs.Element.{bytes_in, low_bytes};
 ghost use Rattle.dt_source.specs.Pieces.{built, flushed, put};
 
 use crate::element::{Width, push_low_bytes};
+use crate::room::push_sparingly;
 use crate::tree::Part;
 use std::alloc::{AllocError, Global};
 use std::mem;
@@ -46,8 +47,7 @@ impl<'a> Parts<'a> {
             return Ok(());
         }
         let bytes = mem::replace(&mut self.bytes, Vec::new(alloc));
-        self.closed.push(Part::Bytes(bytes))?;
-        Ok(())
+        push_sparingly(&mut self.closed, Part::Bytes(bytes))
     }
 
     /// Puts a part that isn't bytes behind the others.
@@ -55,8 +55,7 @@ impl<'a> Parts<'a> {
         ensures { OnOk result (built self.new ≡ record { closed = flushed (built self.old) ++ part_view part.entry ∷ []; bytes = [] }) }
     {
         self.close(alloc)?;
-        self.closed.push(part)?;
-        Ok(())
+        push_sparingly(&mut self.closed, part)
     }
 
     pub fn finish(mut self, alloc: Global) -> Result<Vec<Part<'a>>, AllocError>
