@@ -5,7 +5,7 @@ use Rattle.dt_source.specs.declared.tree.Reference.TheVariants as references
 use Rattle.dt_source.specs.declared.tree.Part.{Part}
 use Rattle.dt_source.specs.declared.tree.Part.TheVariants as parts
 use Rattle.dt_source.specs.declared.tree.Statement.{Statement}
-use Rattle.dt_source.specs.declared.tree.Statement.TheOpen.{Statement-F, Property, DeleteProperty, Node, DeleteNode}
+use Rattle.dt_source.specs.declared.tree.Statement.TheOpen.{Statement-F, Property, DeleteProperty, Node, LabelledNode, DeleteNode}
 use Rattle.dt_source.specs.declared.tree.Statement.TheFolds.{fold-Statement}
 use Rattle.dt_source.specs.declared.tree.Item.{Item}
 use Rattle.dt_source.specs.declared.tree.Item.TheVariants as items
@@ -62,7 +62,8 @@ part_view (parts.Path target) = PathOf (target_view target)
 abbrev pub view_step : Statement-F Entry → Entry
 view_step (Property name value) = Defines name.now (map part_view value.items)
 view_step (DeleteProperty name) = Undefines name.now
-view_step (Node labels name body) = Child (map (λ v. v.now) labels.items) name.now (body_of body.items)
+view_step (Node name body) = Child [] name.now (body_of body.items)
+view_step (LabelledNode named body) = Child (map (λ v. v.now) named.value.labels.items) named.value.name.now (body_of body.items)
 view_step (DeleteNode name) = Removes name.now
 
 abbrev pub view : Statement → Entry

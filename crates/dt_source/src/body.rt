@@ -183,7 +183,7 @@ fn named<'a, 'text>(
             Kind::Brace => {
                 let (inner, fault, rest) = body_deeper(alloc, text, depth, *t, rest)?;
                 let labels = label_list(alloc, text, labels)?;
-                end(node(labels, name, inner), fault, rest)
+                end(node(alloc, labels, name, inner)?, fault, rest)
             }
             _ => Err(ReadError::Refused(syntax_at(ts))),
         },
@@ -248,6 +248,7 @@ fn nodes_after(nodes: bool, s: &Statement) -> bool
         Statement::Property { .. } => nodes,
         Statement::DeleteProperty { .. } => nodes,
         Statement::Node { .. } => true,
+        Statement::LabelledNode { .. } => true,
         Statement::DeleteNode { .. } => true,
     }
 }

@@ -1,6 +1,8 @@
 //! What a source says.
-ghost use Rattle.std.specs.Prelude.{◌≡◌, map};
+ghost use Rattle.std.specs.Prelude.{◌≡◌, map, IfOk};
 ghost use Rattle.dt_source.specs.Tree.{view, views, part_view, target_view, item_view, Defines, Undefines, Child, Removes, Rooted, Extends, Deletes};
+
+use std::alloc::{AllocError, Global};
 
 /// What a reference names: a label, or the path of a node.
 #[derive(Debug, Drop)]
@@ -20,6 +22,13 @@ pub enum Part<'a> {
     Path(Reference<'a>),
 }
 
+/// The labels of a node, of which there is at least one, and its name.
+#[derive(Debug, Drop)]
+pub struct Named<'a> {
+    pub labels: Vec<&'a [u8]>,
+    pub name: &'a [u8],
+}
+
 /// One statement of a body, in the order of the text.
 #[derive(Debug, Drop)]
 pub enum Statement<'a> {
@@ -30,9 +39,14 @@ pub enum Statement<'a> {
     DeleteProperty {
         name: &'a [u8],
     },
+    /// a node without labels
     Node {
-        labels: Vec<&'a [u8]>,
         name: &'a [u8],
+        body: Vec<Statement<'a>>,
+    },
+    /// a node with labels; they lie apart, since most have none and a text can have 8 million statements
+    LabelledNode {
+        named: Box<Named<'a>>,
         body: Vec<Statement<'a>>,
     },
     DeleteNode {
@@ -76,13 +90,18 @@ pub(crate) fn delete_property<'a>(name: &'a [u8]) -> Statement<'a>
 }
 
 pub(crate) fn node<'a>(
+    alloc: Global,
     labels: Vec<&'a [u8]>,
     name: &'a [u8],
     body: Vec<Statement<'a>>,
-) -> Statement<'a>
-    ensures { view result ≡ Child (map (λ v. v.now) labels.entry.items) name.now (views body.entry.items) }
+) -> Result<Statement<'a>, AllocError>
+    ensures { IfOk result (λ s. view s ≡ Child (map (λ v. v.now) labels.entry.items) name.now (views body.entry.items)) }
 {
-    Statement::Node { labels, name, body }
+    if labels.is_empty() {
+        return Ok(Statement::Node { name, body });
+    }
+    let named = Box::new(alloc, Named { labels, name })?;
+    Ok(Statement::LabelledNode { named, body })
 }
 
 pub(crate) fn delete_node<'a>(name: &'a [u8]) -> Statement<'a>

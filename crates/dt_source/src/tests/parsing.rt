@@ -202,16 +202,12 @@ fn items(rt: HostRuntime) -> Result<(), Fail> {
                     match body.as_slice() {
                         [
                             Statement::Property { name, value },
-                            Statement::Node {
-                                labels,
-                                name: node,
-                                body,
-                            },
+                            Statement::LabelledNode { named, body },
                         ] => {
                             assert_eq!(rt; *name, b"x".as_slice());
                             assert_eq!(rt; value.len(), 0);
-                            assert_eq!(rt; labels.len(), 2);
-                            assert_eq!(rt; *node, b"n@1".as_slice());
+                            assert_eq!(rt; named.labels.len(), 2);
+                            assert_eq!(rt; named.name, b"n@1".as_slice());
                             match body.as_slice() {
                                 [
                                     Statement::DeleteProperty { name: y },
