@@ -22,7 +22,7 @@ pub enum Part<'a> {
     Path(Reference<'a>),
 }
 
-/// The labels of a node, of which there is at least one, and its name.
+/// The labels of a node that has some, and its name.
 #[derive(Debug, Drop)]
 pub struct Named<'a> {
     pub labels: Vec<&'a [u8]>,
@@ -44,7 +44,7 @@ pub enum Statement<'a> {
         name: &'a [u8],
         body: Vec<Statement<'a>>,
     },
-    /// a node with labels; they lie apart, since most have none and a text can have 8 million statements
+    /// a node with labels, which lie apart: most nodes have none, and a text can have 8 million statements
     LabelledNode {
         named: Box<Named<'a>>,
         body: Vec<Statement<'a>>,
