@@ -15,6 +15,10 @@ references      5 million references in cells
 reservations    1 million reservations
 items           4 million items
 pieces          5 million empty pieces of one value
+names           8 million empty properties of one node, named by one byte
+strings         3 million properties that hold an empty string
+chains          4 million nodes, each the only one of another, 63 deep
+labelled        2 million empty nodes with a label each
 """
 import os
 import sys
@@ -42,6 +46,10 @@ INPUTS = {
     "reservations": filled(b"/dts-v1/;", b"/memreserve/ 1 1;", b"/ { };"),
     "items": filled(b"/dts-v1/;", b"/{};"),
     "pieces": filled(HEAD + b"p = ", b"<>,", b"<>; };"),
+    "names": filled(HEAD, b"a;", b"};"),
+    "strings": filled(HEAD, b'a="";', b"};"),
+    "chains": filled(HEAD, b"a{" * 63 + b"};" * 63, b"};"),
+    "labelled": filled(HEAD, b"a:b{};", b"};"),
 }
 
 

@@ -1,5 +1,6 @@
 -- What a source says (Devicetree Specification v0.4, section 6.3), without where it lies in memory.
-use Rattle.std.specs.Prelude.{ℕ, Bool, List, [], ◌∷◌, map}
+use Rattle.std.specs.Prelude.{ℕ, Bool, List, [], ◌∷◌, Option, Some, None, map}
+use Rattle.dt_source.specs.declared.labels.Labels.{Labels}
 use Rattle.dt_source.specs.declared.tree.Reference.{Reference}
 use Rattle.dt_source.specs.declared.tree.Reference.TheVariants as references
 use Rattle.dt_source.specs.declared.tree.Part.{Part}
@@ -50,8 +51,16 @@ body_of [] = Done
 body_of (e ∷ es) = Then e (body_of es)
 
 abbrev pub target_view : Reference → Target
-target_view (references.Label label) = OfLabel label.items
-target_view (references.Path path) = OfPath path.items
+target_view (references.Label label) = OfLabel label.now
+target_view (references.Path path) = OfPath path.now
+
+-- what is in an option, as a list
+abbrev pub listed : {A B : Type 0} → (A → List B) → Option A → List B
+listed f None = []
+listed f (Some a) = f a
+
+abbrev pub labels_view : Labels → List (List ℕ)
+labels_view labels = listed (λ some. map (λ v. v.now) some.value.items) labels.some
 
 abbrev pub part_view : Part → Piece
 part_view (parts.Bytes bytes) = Plain bytes.items
@@ -60,10 +69,10 @@ part_view (parts.Path target) = PathOf (target_view target)
 
 -- a statement, with each inner one in its place
 abbrev pub view_step : Statement-F Entry → Entry
-view_step (Property name value) = Defines name.items (map part_view value.items)
-view_step (DeleteProperty name) = Undefines name.items
-view_step (Node labels name body) = Child (map (λ v. v.items) labels.items) name.items (body_of body.items)
-view_step (DeleteNode name) = Removes name.items
+view_step (Property name value) = Defines name.now (map part_view value.items)
+view_step (DeleteProperty name) = Undefines name.now
+view_step (Node labels name body) = Child (labels_view labels) name.now (body_of body.items)
+view_step (DeleteNode name) = Removes name.now
 
 abbrev pub view : Statement → Entry
 view = fold-Statement Entry view_step
@@ -73,7 +82,7 @@ views ss = body_of (map view ss)
 
 abbrev pub item_view : Item → Edit
 item_view (items.Root body) = Rooted (views body.items)
-item_view (items.Extend labels target body) = Extends (map (λ v. v.items) labels.items) (target_view target) (views body.items)
+item_view (items.Extend labels target body) = Extends (labels_view labels) (target_view target) (views body.items)
 item_view (items.Delete target) = Deletes (target_view target)
 
 -- what a source says

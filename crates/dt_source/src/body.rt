@@ -4,40 +4,23 @@ ghost use Rattle.dt_source.specs.Sequences.{Reads};
 ghost use Rattle.dt_source.specs.Tree.{Undefines, Removes, view};
 ghost use Rattle.dt_source.specs.Bodies.{label_bytes, named_at, deleted_at, ended_by, bare_by, unlabelled, begun_at, statement_at, after, body_below, body_at};
 
-use dt_expression::expression::{syntax_at, too_deep};
-use dt_lexeme::lexeme::{Fault, Kind, Lexeme, ReadError};
-use dt_expression::literal::bytes_of;
+use crate::labels::labels_of;
 use crate::pieces::{labels, value};
-use crate::string::{bytes_between, earlier};
+use crate::room::push_sparingly;
+use crate::string::earlier;
 use crate::tree::{Statement, delete_node, delete_property, node, property};
+use dt_expression::expression::{syntax_at, too_deep};
+use dt_expression::literal::bytes_of;
+use dt_lexeme::lexeme::{Fault, Kind, Lexeme, ReadError};
 use std::alloc::{AllocError, Global};
 
-/// The labels without their colons.
-pub fn label_list(alloc: Global, text: &[u8], labels: &[Lexeme]) -> Result<Vec<Vec<u8>>, AllocError>
-    ensures { IfOk result (λ v. map (λ b. b.items) v.items ≡ map (label_bytes text.now) labels.now) }
-{
-    let mut list = Vec::new(alloc);
-    for label in labels {
-        let bytes = Vec::from_slice(
-            alloc,
-            bytes_between(
-                text,
-                label.start as usize,
-                (label.end as usize).saturating_sub(1),
-            ),
-        )?;
-        list.push(bytes)?;
-    }
-    Ok(list)
-}
-
 // A statement, where a semicolon follows it.
-fn end<'a>(
-    s: Statement,
+fn end<'a, 'text>(
+    s: Statement<'text>,
     fault: Option<Fault>,
     ts: &'a [Lexeme],
-) -> Result<(Option<Statement>, Option<Fault>, &'a [Lexeme]), ReadError>
-    ensures gives { Reads (λ x. (option_map view x.0, x.1, x.2.now)) result (ended_by (Some (view s)) fault ts.now) }
+) -> Result<(Option<Statement<'text>>, Option<Fault>, &'a [Lexeme]), ReadError>
+    ensures gives { Reads (λ x. (option_map view x.0, x.1, x.2.now)) result (ended_by (Some (view s.entry)) fault ts.now) }
     ensures shorter { IfOk result (λ x. length x.2.now < length ts.now) }
 {
     match ts {
@@ -49,120 +32,107 @@ fn end<'a>(
     }
 }
 
-fn property_deleted<'a>(
-    alloc: Global,
-    text: &[u8],
+fn property_deleted<'a, 'text>(
+    text: &'text [u8],
     ts: &'a [Lexeme],
-) -> Result<(Option<Statement>, Option<Fault>, &'a [Lexeme]), ReadError>
+) -> Result<(Option<Statement<'text>>, Option<Fault>, &'a [Lexeme]), ReadError>
     ensures gives { Reads (λ x. (option_map view x.0, x.1, x.2.now)) result (deleted_at text.now Undefines ts.now) }
     ensures shorter { IfOk result (λ x. length x.2.now < length ts.now) }
 {
     match ts {
         [] => Err(ReadError::Refused(syntax_at(ts))),
         [t, rest @ ..] => match t.kind {
-            Kind::Name => {
-                let name = Vec::from_slice(alloc, bytes_of(text, *t))?;
-                end(delete_property(name), None, rest)
-            }
+            Kind::Name => end(delete_property(bytes_of(text, *t)), None, rest),
             _ => Err(ReadError::Refused(syntax_at(ts))),
         },
     }
 }
 
-fn node_deleted<'a>(
-    alloc: Global,
-    text: &[u8],
+fn node_deleted<'a, 'text>(
+    text: &'text [u8],
     ts: &'a [Lexeme],
-) -> Result<(Option<Statement>, Option<Fault>, &'a [Lexeme]), ReadError>
+) -> Result<(Option<Statement<'text>>, Option<Fault>, &'a [Lexeme]), ReadError>
     ensures gives { Reads (λ x. (option_map view x.0, x.1, x.2.now)) result (deleted_at text.now Removes ts.now) }
     ensures shorter { IfOk result (λ x. length x.2.now < length ts.now) }
 {
     match ts {
         [] => Err(ReadError::Refused(syntax_at(ts))),
         [t, rest @ ..] => match t.kind {
-            Kind::Name => {
-                let name = Vec::from_slice(alloc, bytes_of(text, *t))?;
-                end(delete_node(name), None, rest)
-            }
+            Kind::Name => end(delete_node(bytes_of(text, *t)), None, rest),
             _ => Err(ReadError::Refused(syntax_at(ts))),
         },
     }
 }
 
 // The end of a body, or a deletion. The lexemes with this one are for the refusal.
-fn bare<'a>(
-    alloc: Global,
-    text: &[u8],
+fn bare<'a, 'text>(
+    text: &'text [u8],
     nodes: bool,
     t: Lexeme,
     rest: &'a [Lexeme],
     ts: &'a [Lexeme],
-) -> Result<(Option<Statement>, Option<Fault>, &'a [Lexeme]), ReadError>
+) -> Result<(Option<Statement<'text>>, Option<Fault>, &'a [Lexeme]), ReadError>
     requires { ts.now ≡ t ∷ rest.now }
     ensures gives { Reads (λ x. (option_map view x.0, x.1, x.2.now)) result (bare_by text.now nodes t.kind t rest.now) }
     ensures shorter { IfOk result (λ x. length x.2.now < length ts.now) }
 {
     match t.kind {
         Kind::EndBrace => Ok((None, None, rest)),
-        Kind::DeleteProperty if !nodes => property_deleted(alloc, text, rest),
-        Kind::DeleteNode => node_deleted(alloc, text, rest),
+        Kind::DeleteProperty if !nodes => property_deleted(text, rest),
+        Kind::DeleteNode => node_deleted(text, rest),
         _ => Err(ReadError::Refused(syntax_at(ts))),
     }
 }
 
 #[cycle(body)]
-fn begun<'a>(
+fn begun<'a, 'text>(
     alloc: Global,
-    text: &[u8],
+    text: &'text [u8],
     depth: u8,
     nodes: bool,
     labels: &[Lexeme],
     ts: &'a [Lexeme],
-) -> Result<(Option<Statement>, Option<Fault>, &'a [Lexeme]), ReadError>
+) -> Result<(Option<Statement<'text>>, Option<Fault>, &'a [Lexeme]), ReadError>
     ensures gives { Reads (λ x. (option_map view x.0, x.1, x.2.now)) result (begun_at text.now (body_below text.now depth) nodes labels.now ts.now) }
     ensures shorter { IfOk result (λ x. length x.2.now < length ts.now) }
 {
     match ts {
         [] => Err(ReadError::Refused(syntax_at(ts))),
         [t, rest @ ..] => match t.kind {
-            Kind::Name => {
-                let name = Vec::from_slice(alloc, bytes_of(text, *t))?;
-                named(alloc, text, depth, nodes, labels, name, rest)
-            }
-            _ => unlabelled(alloc, text, nodes, labels, *t, rest, ts),
+            Kind::Name => named(alloc, text, depth, nodes, labels, bytes_of(text, *t), rest),
+            _ => unlabelled(text, nodes, labels, *t, rest, ts),
         },
     }
 }
 
 // Nothing but a name follows labels.
-fn unlabelled<'a>(
-    alloc: Global,
-    text: &[u8],
+fn unlabelled<'a, 'text>(
+    text: &'text [u8],
     nodes: bool,
     labels: &[Lexeme],
     t: Lexeme,
     rest: &'a [Lexeme],
     ts: &'a [Lexeme],
-) -> Result<(Option<Statement>, Option<Fault>, &'a [Lexeme]), ReadError>
+) -> Result<(Option<Statement<'text>>, Option<Fault>, &'a [Lexeme]), ReadError>
     requires { ts.now ≡ t ∷ rest.now }
     ensures gives { Reads (λ x. (option_map view x.0, x.1, x.2.now)) result (unlabelled text.now nodes labels.now t.kind t rest.now) }
     ensures shorter { IfOk result (λ x. length x.2.now < length ts.now) }
 {
     match labels {
-        [] => bare(alloc, text, nodes, t, rest, ts),
+        [] => bare(text, nodes, t, rest, ts),
         [_, ..] => Err(ReadError::Refused(syntax_at(ts))),
     }
 }
 
 #[cycle(body)]
 #[tactic(auto, unfolding(crate::specs::Bodies::statement_at))]
-fn statement<'a>(
+fn statement<'a, 'text>(
     alloc: Global,
-    text: &[u8],
+    text: &'text [u8],
     depth: u8,
     nodes: bool,
     ts: &'a [Lexeme],
-) -> Result<(Option<Statement>, Option<Fault>, &'a [Lexeme]), ReadError>
+) -> Result<(Option<Statement<'text>>, Option<Fault>, &'a [Lexeme]), ReadError>
     ensures gives { Reads (λ x. (option_map view x.0, x.1, x.2.now)) result (statement_at text.now (body_below text.now depth) nodes ts.now) }
     ensures shorter { IfOk result (λ x. length x.2.now < length ts.now) }
 {
@@ -172,16 +142,16 @@ fn statement<'a>(
 
 // What follows a name: the end of a property without value, a value, or a body.
 #[cycle(body)]
-fn named<'a>(
+fn named<'a, 'text>(
     alloc: Global,
-    text: &[u8],
+    text: &'text [u8],
     depth: u8,
     nodes: bool,
     labels: &[Lexeme],
-    name: Vec<u8>,
+    name: &'text [u8],
     ts: &'a [Lexeme],
-) -> Result<(Option<Statement>, Option<Fault>, &'a [Lexeme]), ReadError>
-    ensures gives { Reads (λ x. (option_map view x.0, x.1, x.2.now)) result (named_at text.now (body_below text.now depth) nodes (map (label_bytes text.now) labels.now) name.items ts.now) }
+) -> Result<(Option<Statement<'text>>, Option<Fault>, &'a [Lexeme]), ReadError>
+    ensures gives { Reads (λ x. (option_map view x.0, x.1, x.2.now)) result (named_at text.now (body_below text.now depth) nodes (map (label_bytes text.now) labels.now) name.now ts.now) }
     ensures shorter { IfOk result (λ x. length x.2.now < length ts.now) }
 {
     match ts {
@@ -194,7 +164,7 @@ fn named<'a>(
             }
             Kind::Brace => {
                 let (inner, fault, rest) = body_deeper(alloc, text, depth, *t, rest)?;
-                let labels = label_list(alloc, text, labels)?;
+                let labels = labels_of(alloc, text, labels)?;
                 end(node(labels, name, inner), fault, rest)
             }
             _ => Err(ReadError::Refused(syntax_at(ts))),
@@ -203,13 +173,13 @@ fn named<'a>(
 }
 
 #[cycle(body)]
-fn body_deeper<'a>(
+fn body_deeper<'a, 'text>(
     alloc: Global,
-    text: &[u8],
+    text: &'text [u8],
     depth: u8,
     brace: Lexeme,
     ts: &'a [Lexeme],
-) -> Result<(Vec<Statement>, Option<Fault>, &'a [Lexeme]), ReadError>
+) -> Result<(Vec<Statement<'text>>, Option<Fault>, &'a [Lexeme]), ReadError>
     ensures gives { Reads (λ x. (map view x.0.items, x.1, x.2.now)) result (body_below text.now depth brace ts.now) }
     ensures shorter { IfOk result (λ x. length x.2.now < length ts.now) }
 {
@@ -222,12 +192,12 @@ fn body_deeper<'a>(
 /// Reads a body behind its brace: its statements, its first fault, and the lexemes behind it. Bodies in it may be
 /// nested so deep.
 #[cycle(body)]
-pub fn body<'a>(
+pub fn body<'a, 'text>(
     alloc: Global,
-    text: &[u8],
+    text: &'text [u8],
     depth: u8,
     ts: &'a [Lexeme],
-) -> Result<(Vec<Statement>, Option<Fault>, &'a [Lexeme]), ReadError>
+) -> Result<(Vec<Statement<'text>>, Option<Fault>, &'a [Lexeme]), ReadError>
     ensures gives { Reads (λ x. (map view x.0.items, x.1, x.2.now)) result (body_at text.now depth ts.now) }
     ensures shorter { IfOk result (λ x. length x.2.now < length ts.now) }
 {
@@ -240,10 +210,13 @@ pub fn body<'a>(
         first = earlier(first, fault);
         left = rest;
         match found {
-            None => return Ok((statements, first, left)),
+            None => {
+                statements.shrink_to_fit();
+                return Ok((statements, first, left));
+            }
             Some(s) => {
                 nodes = nodes_after(nodes, &s);
-                statements.push(s)?;
+                push_sparingly(&mut statements, s)?;
             }
         }
     }

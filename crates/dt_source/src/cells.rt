@@ -7,12 +7,12 @@ ghost use Rattle.dt_source.specs.Bodies.{element_at, cell_at, cells_at, pair_at,
 ghost use Rattle.dt_source.specs.Loops.{into, byte_list};
 
 use crate::cell::Cell;
-use dt_expression::element::{Width, element as within, push_low_bytes};
-use dt_expression::expression::{primary, syntax_at};
-use dt_lexeme::lexeme::{Fault, FaultKind, Kind, Lexeme, ReadError, Refusal};
 use crate::parts::Parts;
 use crate::string::{earlier, pair, target};
 use crate::tree::Part;
+use dt_expression::element::{Width, element as within, push_low_bytes};
+use dt_expression::expression::{primary, syntax_at};
+use dt_lexeme::lexeme::{Fault, FaultKind, Kind, Lexeme, ReadError, Refusal};
 use std::alloc::{AllocError, Global};
 
 fn element<'a>(
@@ -86,7 +86,11 @@ fn cell_fault(width: Option<Width>, cell: Cell) -> Option<Fault>
     }
 }
 
-fn push_number(parts: &mut Parts, width: Width, value: Result<u64, Fault>) -> Result<(), AllocError>
+fn push_number(
+    parts: &mut Parts<'_>,
+    width: Width,
+    value: Result<u64, Fault>,
+) -> Result<(), AllocError>
     ensures { OnOk result (built parts.new ≡ put_all (built parts.old) (element_pieces width value)) }
 {
     match value {
@@ -96,10 +100,10 @@ fn push_number(parts: &mut Parts, width: Width, value: Result<u64, Fault>) -> Re
 }
 
 // Puts what a cell says behind the parts.
-fn push_cell(
+fn push_cell<'text>(
     alloc: Global,
-    parts: &mut Parts,
-    text: &[u8],
+    parts: &mut Parts<'text>,
+    text: &'text [u8],
     width: Option<Width>,
     cell: Cell,
 ) -> Result<(), AllocError>
@@ -114,19 +118,16 @@ fn push_cell(
                 width,
                 within(width, place, value),
             ),
-            Cell::Reference(l) => {
-                let target = target(alloc, text, l)?;
-                parts.push_part(alloc, Part::Phandle(target))
-            }
+            Cell::Reference(l) => parts.push_part(alloc, Part::Phandle(target(text, l))),
         },
     }
 }
 
 /// Reads cells of this width up to their end, behind their `<`.
-pub fn cells<'a>(
+pub fn cells<'a, 'text>(
     alloc: Global,
-    parts: &mut Parts,
-    text: &[u8],
+    parts: &mut Parts<'text>,
+    text: &'text [u8],
     width: Option<Width>,
     ts: &'a [Lexeme],
 ) -> Result<(Option<Fault>, &'a [Lexeme]), ReadError>

@@ -9,6 +9,8 @@ pub mod cell;
 mod cells;
 /// Why a text is refused.
 pub mod error;
+/// The labels of a node.
+pub mod labels;
 /// What a source names is lawful.
 pub mod lawful;
 /// Faults in the order of the text.
@@ -19,6 +21,8 @@ pub mod parse;
 mod parts;
 /// Values of properties, as they are read.
 mod pieces;
+/// Room for lists that are mostly short.
+mod room;
 /// Sources, as they are read.
 mod source;
 /// The laws between reading and the grammar.

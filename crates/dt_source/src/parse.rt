@@ -10,15 +10,15 @@ ghost use Rattle.dt_source.specs.Lawful.{IsLawful};
 ghost use Rattle.dt_source.specs.Parse.{IsShort, IsSource, IsNoSource, Says, HasFirstFault, Refuses, IsRead, IfRefused};
 
 use crate::error::{SourceError, SourceErrorKind, kind_of_fault, kind_of_refusal};
+use crate::source::source;
+use crate::tree::Source;
 use dt_lexeme::lexeme::{Fault, ReadError, Refusal, RefusalKind};
 use dt_lexeme::line::line_of;
 use dt_lexeme::scan::scan_front;
-use crate::source::source;
-use crate::tree::Source;
 use std::alloc::Global;
 
 // The refusal of a text that has no lexeme at this place: what is refused before it, or else that place.
-fn refused_at(place: u32, read: Result<(Source, Option<Fault>), ReadError>) -> ReadError {
+fn refused_at(place: u32, read: Result<(Source<'_>, Option<Fault>), ReadError>) -> ReadError {
     match read {
         Err(ReadError::NoMemory) => ReadError::NoMemory,
         Err(ReadError::Refused(refusal)) if refusal.place < place => ReadError::Refused(refusal),
@@ -30,7 +30,7 @@ fn refused_at(place: u32, read: Result<(Source, Option<Fault>), ReadError>) -> R
 }
 
 // What the text's source says, and the first of its faults.
-fn read(alloc: Global, text: &[u8]) -> Result<(Source, Option<Fault>), ReadError>
+fn read<'a>(alloc: Global, text: &'a [u8]) -> Result<(Source<'a>, Option<Fault>), ReadError>
     requires { IsShort text.now }
     ensures found { IfOk result (λ x. IsRead text.now (meaning x.0) x.1) }
     ensures refused { IfErr result (λ e. IfRefused e (IsNoSource text.now)) }
@@ -72,7 +72,7 @@ fn fault_error(text: &[u8], fault: Fault) -> SourceError
 
 /// The source that the text spells, or why there is none: a text over 16 MiB, then what isn't in the grammar or
 /// nests too deep, then the first fault of a value in the order of the text.
-pub fn parse(alloc: Global, text: &[u8]) -> Result<Source, SourceError>
+pub fn parse<'a>(alloc: Global, text: &'a [u8]) -> Result<Source<'a>, SourceError>
     // What is answered is what the text says.
     ensures found { IfOk result (λ s. IsShort text.now × Says text.now (meaning s)) }
     // Names and paths in it are those of trees, and labels are labels.

@@ -4,20 +4,21 @@ ghost use Rattle.dt_source.specs.Tree.{Plain, part_view};
 ghost use Rattle.dt_expression.specs.Element.{bytes_in, low_bytes};
 ghost use Rattle.dt_source.specs.Pieces.{built, flushed, put};
 
-use dt_expression::element::{Width, push_low_bytes};
+use crate::room::push_sparingly;
 use crate::tree::Part;
+use dt_expression::element::{Width, push_low_bytes};
 use std::alloc::{AllocError, Global};
 use std::mem;
 
 /// The parts that are closed, and the bytes behind them, which neighbouring bytes join.
 #[derive(Drop)]
-pub struct Parts {
-    closed: Vec<Part>,
+pub struct Parts<'a> {
+    closed: Vec<Part<'a>>,
     bytes: Vec<u8>,
 }
 
-impl Parts {
-    pub fn new(alloc: Global) -> Parts
+impl<'a> Parts<'a> {
+    pub fn new(alloc: Global) -> Parts<'a>
         ensures { built result ≡ record { closed = []; bytes = [] } }
     {
         Parts {
@@ -46,23 +47,22 @@ impl Parts {
             return Ok(());
         }
         let bytes = mem::replace(&mut self.bytes, Vec::new(alloc));
-        self.closed.push(Part::Bytes(bytes))?;
-        Ok(())
+        push_sparingly(&mut self.closed, Part::Bytes(bytes))
     }
 
     /// Puts a part that isn't bytes behind the others.
-    pub fn push_part(&mut self, alloc: Global, part: Part) -> Result<(), AllocError>
-        ensures { OnOk result (built self.new ≡ record { closed = flushed (built self.old) ++ part_view part ∷ []; bytes = [] }) }
+    pub fn push_part(&mut self, alloc: Global, part: Part<'a>) -> Result<(), AllocError>
+        ensures { OnOk result (built self.new ≡ record { closed = flushed (built self.old) ++ part_view part.entry ∷ []; bytes = [] }) }
     {
         self.close(alloc)?;
-        self.closed.push(part)?;
-        Ok(())
+        push_sparingly(&mut self.closed, part)
     }
 
-    pub fn finish(mut self, alloc: Global) -> Result<Vec<Part>, AllocError>
-        ensures { IfOk result (λ v. map part_view v.items ≡ flushed (built self)) }
+    pub fn finish(mut self, alloc: Global) -> Result<Vec<Part<'a>>, AllocError>
+        ensures { IfOk result (λ v. map part_view v.items ≡ flushed (built self.entry)) }
     {
         self.close(alloc)?;
+        self.closed.shrink_to_fit();
         Ok(self.closed)
     }
 }

@@ -8,13 +8,13 @@ ghost use Rattle.dt_source.specs.Bodies.{first_of, is_label, labels_at, square_a
 ghost use Rattle.dt_source.specs.Loops.{into, comma_rest};
 
 use crate::cells::{cells, pairs};
-use dt_expression::element::{Width, width_of};
-use dt_expression::expression::syntax_at;
-use dt_lexeme::lexeme::{Fault, FaultKind, Kind, Lexeme, ReadError};
-use dt_expression::literal::literal;
 use crate::parts::Parts;
 use crate::string::{earlier, string_of, target};
 use crate::tree::Part;
+use dt_expression::element::{Width, width_of};
+use dt_expression::expression::syntax_at;
+use dt_expression::literal::literal;
+use dt_lexeme::lexeme::{Fault, FaultKind, Kind, Lexeme, ReadError};
 use std::alloc::{AllocError, Global};
 
 fn is_label(kind: Kind) -> bool
@@ -56,10 +56,10 @@ fn width_at(l: Lexeme, value: Result<u64, Fault>) -> Result<Width, Fault>
 }
 
 // Cells of a width whose fault is this.
-fn less<'a>(
+fn less<'a, 'text>(
     alloc: Global,
-    parts: &mut Parts,
-    text: &[u8],
+    parts: &mut Parts<'text>,
+    text: &'text [u8],
     width: Option<Width>,
     fault: Option<Fault>,
     ts: &'a [Lexeme],
@@ -80,10 +80,10 @@ fn less<'a>(
 }
 
 // The width behind /bits/, and the cells.
-fn bits<'a>(
+fn bits<'a, 'text>(
     alloc: Global,
-    parts: &mut Parts,
-    text: &[u8],
+    parts: &mut Parts<'text>,
+    text: &'text [u8],
     ts: &'a [Lexeme],
 ) -> Result<(Option<Fault>, &'a [Lexeme]), ReadError>
     ensures gives { Reads (λ x. (built parts.new, x.0, x.1.now)) result (into (built parts.old) (bits_at text.now ts.now)) }
@@ -103,7 +103,7 @@ fn bits<'a>(
 
 fn push_string(
     alloc: Global,
-    parts: &mut Parts,
+    parts: &mut Parts<'_>,
     text: &[u8],
     l: Lexeme,
 ) -> Result<Option<Fault>, AllocError>
@@ -114,17 +114,21 @@ fn push_string(
     Ok(fault)
 }
 
-fn push_path(alloc: Global, parts: &mut Parts, text: &[u8], l: Lexeme) -> Result<(), AllocError>
+fn push_path<'text>(
+    alloc: Global,
+    parts: &mut Parts<'text>,
+    text: &'text [u8],
+    l: Lexeme,
+) -> Result<(), AllocError>
     ensures { OnOk result (built parts.new ≡ put (built parts.old) (PathOf (target_of text.now l))) }
 {
-    let target = target(alloc, text, l)?;
-    parts.push_part(alloc, Part::Path(target))
+    parts.push_part(alloc, Part::Path(target(text, l)))
 }
 
-fn push_pairs<'a>(
+fn push_pairs<'a, 'text>(
     alloc: Global,
-    parts: &mut Parts,
-    text: &[u8],
+    parts: &mut Parts<'text>,
+    text: &'text [u8],
     ts: &'a [Lexeme],
 ) -> Result<(Option<Fault>, &'a [Lexeme]), ReadError>
     ensures gives { Reads (λ x. (built parts.new, x.0, x.1.now)) result (into (built parts.old) (square_at text.now ts.now)) }
@@ -136,10 +140,10 @@ fn push_pairs<'a>(
 }
 
 #[tactic(auto, unfolding(crate::specs::Bodies::piece_at))]
-fn piece<'a>(
+fn piece<'a, 'text>(
     alloc: Global,
-    parts: &mut Parts,
-    text: &[u8],
+    parts: &mut Parts<'text>,
+    text: &'text [u8],
     ts: &'a [Lexeme],
 ) -> Result<(Option<Fault>, &'a [Lexeme]), ReadError>
     ensures gives { Reads (λ x. (built parts.new, x.0, x.1.now)) result (into (built parts.old) (piece_at text.now ts.now)) }
@@ -170,10 +174,10 @@ fn piece<'a>(
 
 // A piece, with labels before and after it, which are dropped.
 #[tactic(auto, using(crate::proofs::PieceLoops::placed_is), unfolding(crate::specs::Bodies::placed_at))]
-fn placed<'a>(
+fn placed<'a, 'text>(
     alloc: Global,
-    parts: &mut Parts,
-    text: &[u8],
+    parts: &mut Parts<'text>,
+    text: &'text [u8],
     ts: &'a [Lexeme],
 ) -> Result<(Option<Fault>, &'a [Lexeme]), ReadError>
     ensures gives { Reads (λ x. (built parts.new, x.0, x.1.now)) result (into (built parts.old) (placed_at text.now ts.now)) }
@@ -199,10 +203,10 @@ fn comma<'a>(ts: &'a [Lexeme]) -> Option<&'a [Lexeme]>
     }
 }
 
-fn pieces<'a>(
+fn pieces<'a, 'text>(
     alloc: Global,
-    parts: &mut Parts,
-    text: &[u8],
+    parts: &mut Parts<'text>,
+    text: &'text [u8],
     ts: &'a [Lexeme],
 ) -> Result<(Option<Fault>, &'a [Lexeme]), ReadError>
     ensures gives { Reads (λ x. (built parts.new, x.0, x.1.now)) result (into (built parts.old) (pieces_at text.now ts.now)) }
@@ -218,11 +222,11 @@ fn pieces<'a>(
 }
 
 /// Reads a value behind its `=`: its parts, its first fault, and the lexemes behind it.
-pub fn value<'a>(
+pub fn value<'a, 'text>(
     alloc: Global,
-    text: &[u8],
+    text: &'text [u8],
     ts: &'a [Lexeme],
-) -> Result<(Vec<Part>, Option<Fault>, &'a [Lexeme]), ReadError>
+) -> Result<(Vec<Part<'text>>, Option<Fault>, &'a [Lexeme]), ReadError>
     ensures gives { Reads (λ x. (map part_view x.0.items, x.1, x.2.now)) result (value_at text.now ts.now) }
     ensures shorter { IfOk result (λ x. length x.2.now < length ts.now) }
 {

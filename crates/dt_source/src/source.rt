@@ -8,13 +8,14 @@ ghost use Rattle.dt_source.specs.Bodies.{ended_by};
 ghost use Rattle.dt_source.specs.Source.{both_numbers};
 ghost use Rattle.dt_source.specs.Whole.{semicolon_at, plugin_at, header_at, more_headers, headers_at, some_header, reserve_with, reserve_at, reserves_at, brace_at, extend_at, root_at, delete_at, bare_item, unlabelled_item, item_with, item_at, some_items, all_items_at, items_at, source_at};
 
-use crate::body::{body, label_list};
+use crate::body::body;
 use crate::cells::fault_in;
-use dt_expression::expression::{primary, syntax_at};
-use dt_lexeme::lexeme::{Fault, Kind, Lexeme, ReadError, Refusal};
+use crate::labels::labels_of;
 use crate::pieces::labels;
 use crate::string::{earlier, target};
 use crate::tree::{Item, Source, Statement};
+use dt_expression::expression::{primary, syntax_at};
+use dt_lexeme::lexeme::{Fault, Kind, Lexeme, ReadError, Refusal};
 use std::alloc::{AllocError, Global};
 
 fn semicolon(ts: &[Lexeme]) -> Result<&[Lexeme], Refusal>
@@ -187,12 +188,12 @@ fn reserves<'a>(
     }
 }
 
-fn end_body(
-    statements: Vec<Statement>,
+fn end_body<'a, 'text>(
+    statements: Vec<Statement<'text>>,
     fault: Option<Fault>,
-    ts: &[Lexeme],
-) -> Result<(Vec<Statement>, Option<Fault>, &[Lexeme]), ReadError>
-    ensures gives { Reads (λ x. (views x.0.items, x.1, x.2.now)) result (ended_by (body_of (map view statements.items)) fault ts.now) }
+    ts: &'a [Lexeme],
+) -> Result<(Vec<Statement<'text>>, Option<Fault>, &'a [Lexeme]), ReadError>
+    ensures gives { Reads (λ x. (views x.0.items, x.1, x.2.now)) result (ended_by (body_of (map view statements.entry.items)) fault ts.now) }
     ensures shorter { IfOk result (λ x. length x.2.now < length ts.now) }
 {
     match ts {
@@ -206,11 +207,11 @@ fn end_body(
 
 // The body of an item, and a semicolon.
 #[tactic(auto, unfolding(crate::specs::Whole::brace_at))]
-fn brace<'a>(
+fn brace<'a, 'text>(
     alloc: Global,
-    text: &[u8],
+    text: &'text [u8],
     ts: &'a [Lexeme],
-) -> Result<(Vec<Statement>, Option<Fault>, &'a [Lexeme]), ReadError>
+) -> Result<(Vec<Statement<'text>>, Option<Fault>, &'a [Lexeme]), ReadError>
     ensures gives { Reads (λ x. (views x.0.items, x.1, x.2.now)) result (brace_at text.now ts.now) }
     ensures shorter { IfOk result (λ x. length x.2.now < length ts.now) }
 {
@@ -226,23 +227,22 @@ fn brace<'a>(
     }
 }
 
-fn extend<'a>(
+fn extend<'a, 'text>(
     alloc: Global,
-    text: &[u8],
+    text: &'text [u8],
     labels: &[Lexeme],
     t: Lexeme,
     ts: &'a [Lexeme],
-) -> Result<(Option<Item>, Option<Fault>, &'a [Lexeme]), ReadError>
+) -> Result<(Option<Item<'text>>, Option<Fault>, &'a [Lexeme]), ReadError>
     ensures gives { Reads (λ x. (option_map item_view x.0, x.1, x.2.now)) result (extend_at text.now labels.now t ts.now) }
     ensures shorter { IfOk result (λ x. length x.2.now < length ts.now) }
 {
     let (body, fault, rest) = brace(alloc, text, ts)?;
-    let labels = label_list(alloc, text, labels)?;
-    let target = target(alloc, text, t)?;
+    let labels = labels_of(alloc, text, labels)?;
     Ok((
         Some(Item::Extend {
             labels,
-            target,
+            target: target(text, t),
             body,
         }),
         fault,
@@ -250,48 +250,45 @@ fn extend<'a>(
     ))
 }
 
-fn end_delete<'a>(
-    alloc: Global,
-    text: &[u8],
+fn end_delete<'a, 'text>(
+    text: &'text [u8],
     t: Lexeme,
     ts: &'a [Lexeme],
-) -> Result<(Option<Item>, Option<Fault>, &'a [Lexeme]), ReadError>
+) -> Result<(Option<Item<'text>>, Option<Fault>, &'a [Lexeme]), ReadError>
     ensures gives { Reads (λ x. (option_map item_view x.0, x.1, x.2.now)) result (ended_by (Some (Deletes (target_of text.now t))) None ts.now) }
     ensures shorter { IfOk result (λ x. length x.2.now < length ts.now) }
 {
-    let target = target(alloc, text, t)?;
     match ts {
         [] => Err(ReadError::Refused(syntax_at(ts))),
         [s, rest @ ..] => match s.kind {
-            Kind::Semicolon => Ok((Some(Item::Delete(target)), None, rest)),
+            Kind::Semicolon => Ok((Some(Item::Delete(target(text, t))), None, rest)),
             _ => Err(ReadError::Refused(syntax_at(ts))),
         },
     }
 }
 
-fn delete<'a>(
-    alloc: Global,
-    text: &[u8],
+fn delete<'a, 'text>(
+    text: &'text [u8],
     ts: &'a [Lexeme],
-) -> Result<(Option<Item>, Option<Fault>, &'a [Lexeme]), ReadError>
+) -> Result<(Option<Item<'text>>, Option<Fault>, &'a [Lexeme]), ReadError>
     ensures gives { Reads (λ x. (option_map item_view x.0, x.1, x.2.now)) result (delete_at text.now ts.now) }
     ensures shorter { IfOk result (λ x. length x.2.now < length ts.now) }
 {
     match ts {
         [] => Err(ReadError::Refused(syntax_at(ts))),
         [t, rest @ ..] => match t.kind {
-            Kind::Reference => end_delete(alloc, text, *t, rest),
-            Kind::PathReference => end_delete(alloc, text, *t, rest),
+            Kind::Reference => end_delete(text, *t, rest),
+            Kind::PathReference => end_delete(text, *t, rest),
             _ => Err(ReadError::Refused(syntax_at(ts))),
         },
     }
 }
 
-fn root<'a>(
+fn root<'a, 'text>(
     alloc: Global,
-    text: &[u8],
+    text: &'text [u8],
     ts: &'a [Lexeme],
-) -> Result<(Option<Item>, Option<Fault>, &'a [Lexeme]), ReadError>
+) -> Result<(Option<Item<'text>>, Option<Fault>, &'a [Lexeme]), ReadError>
     ensures gives { Reads (λ x. (option_map item_view x.0, x.1, x.2.now)) result (root_at text.now ts.now) }
     ensures shorter { IfOk result (λ x. length x.2.now < length ts.now) }
 {
@@ -300,33 +297,33 @@ fn root<'a>(
 }
 
 // The root again, or the deletion of a node. The lexemes with this one are for the refusal.
-fn bare<'a>(
+fn bare<'a, 'text>(
     alloc: Global,
-    text: &[u8],
+    text: &'text [u8],
     t: Lexeme,
     rest: &'a [Lexeme],
     ts: &'a [Lexeme],
-) -> Result<(Option<Item>, Option<Fault>, &'a [Lexeme]), ReadError>
+) -> Result<(Option<Item<'text>>, Option<Fault>, &'a [Lexeme]), ReadError>
     requires { ts.now ≡ t ∷ rest.now }
     ensures gives { Reads (λ x. (option_map item_view x.0, x.1, x.2.now)) result (bare_item text.now t.kind t rest.now) }
     ensures shorter { IfOk result (λ x. length x.2.now < length ts.now) }
 {
     match t.kind {
         Kind::Slash => root(alloc, text, rest),
-        Kind::DeleteNode => delete(alloc, text, rest),
+        Kind::DeleteNode => delete(text, rest),
         _ => Err(ReadError::Refused(syntax_at(ts))),
     }
 }
 
 // Nothing but a reference follows labels.
-fn unlabelled<'a>(
+fn unlabelled<'a, 'text>(
     alloc: Global,
-    text: &[u8],
+    text: &'text [u8],
     labels: &[Lexeme],
     t: Lexeme,
     rest: &'a [Lexeme],
     ts: &'a [Lexeme],
-) -> Result<(Option<Item>, Option<Fault>, &'a [Lexeme]), ReadError>
+) -> Result<(Option<Item<'text>>, Option<Fault>, &'a [Lexeme]), ReadError>
     requires { ts.now ≡ t ∷ rest.now }
     ensures gives { Reads (λ x. (option_map item_view x.0, x.1, x.2.now)) result (unlabelled_item text.now labels.now t.kind t rest.now) }
     ensures shorter { IfOk result (λ x. length x.2.now < length ts.now) }
@@ -337,12 +334,12 @@ fn unlabelled<'a>(
     }
 }
 
-fn item_with<'a>(
+fn item_with<'a, 'text>(
     alloc: Global,
-    text: &[u8],
+    text: &'text [u8],
     labels: &[Lexeme],
     ts: &'a [Lexeme],
-) -> Result<(Option<Item>, Option<Fault>, &'a [Lexeme]), ReadError>
+) -> Result<(Option<Item<'text>>, Option<Fault>, &'a [Lexeme]), ReadError>
     ensures gives { Reads (λ x. (option_map item_view x.0, x.1, x.2.now)) result (item_with text.now labels.now ts.now) }
     ensures shorter { IfOk result (λ x. length x.2.now < length ts.now) }
 {
@@ -358,11 +355,11 @@ fn item_with<'a>(
 
 // An item, or the end.
 #[tactic(auto, unfolding(crate::specs::Whole::item_at))]
-fn item<'a>(
+fn item<'a, 'text>(
     alloc: Global,
-    text: &[u8],
+    text: &'text [u8],
     ts: &'a [Lexeme],
-) -> Result<(Option<Item>, Option<Fault>, &'a [Lexeme]), ReadError>
+) -> Result<(Option<Item<'text>>, Option<Fault>, &'a [Lexeme]), ReadError>
     ensures gives { Reads (λ x. (option_map item_view x.0, x.1, x.2.now)) result (item_at text.now ts.now) }
     ensures shorter { IfOk result (λ x. IfSome x.0 (λ _. length x.2.now < length ts.now)) }
 {
@@ -373,11 +370,11 @@ fn item<'a>(
     item_with(alloc, text, labels, rest)
 }
 
-fn all_items<'a>(
+fn all_items<'a, 'text>(
     alloc: Global,
-    text: &[u8],
+    text: &'text [u8],
     ts: &'a [Lexeme],
-) -> Result<(Vec<Item>, Option<Fault>, &'a [Lexeme]), ReadError>
+) -> Result<(Vec<Item<'text>>, Option<Fault>, &'a [Lexeme]), ReadError>
     ensures gives { Reads (λ x. (map item_view x.0.items, x.1, x.2.now)) result (all_items_at text.now ts.now) }
 {
     let mut items = Vec::new(alloc);
@@ -395,7 +392,11 @@ fn all_items<'a>(
 }
 
 #[tactic(auto, unfolding(crate::specs::Whole::items_at))]
-fn items(alloc: Global, text: &[u8], ts: &[Lexeme]) -> Result<(Vec<Item>, Option<Fault>), ReadError>
+fn items<'text>(
+    alloc: Global,
+    text: &'text [u8],
+    ts: &[Lexeme],
+) -> Result<(Vec<Item<'text>>, Option<Fault>), ReadError>
     ensures { Reads (λ x. (map item_view x.0.items, x.1)) result (items_at text.now ts.now) }
 {
     let (items, fault, _) = all_items(alloc, text, ts)?;
@@ -407,11 +408,11 @@ fn items(alloc: Global, text: &[u8], ts: &[Lexeme]) -> Result<(Vec<Item>, Option
 
 /// Reads the source that all the lexemes spell, and its first fault.
 #[tactic(auto, unfolding(crate::specs::Whole::source_at))]
-pub fn source(
+pub fn source<'text>(
     alloc: Global,
-    text: &[u8],
+    text: &'text [u8],
     ts: &[Lexeme],
-) -> Result<(Source, Option<Fault>), ReadError>
+) -> Result<(Source<'text>, Option<Fault>), ReadError>
     ensures { Reads (λ x. (meaning x.0, x.1)) result (source_at text.now ts.now) }
 {
     let (plugin, rest) = headers(ts)?;

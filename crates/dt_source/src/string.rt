@@ -6,9 +6,9 @@ ghost use Rattle.dt_source.specs.Pieces.{target_of};
 ghost use Rattle.dt_source.specs.Sequences.{earlier};
 ghost use Rattle.dt_source.specs.Bodies.{first_of};
 
-use dt_lexeme::lexeme::{Fault, FaultKind, Kind, Lexeme};
-use dt_expression::literal::{bytes_of, digit_of};
 use crate::tree::Reference;
+use dt_expression::literal::{bytes_of, digit_of};
+use dt_lexeme::lexeme::{Fault, FaultKind, Kind, Lexeme};
 use std::alloc::{AllocError, Global};
 
 /// What stands between two places of the text.
@@ -220,27 +220,15 @@ pub fn pair(text: &[u8], l: Lexeme) -> u8
 }
 
 /// What a reference names.
-pub fn target(alloc: Global, text: &[u8], l: Lexeme) -> Result<Reference, AllocError>
-    ensures { IfOk result (λ r. target_view r ≡ target_of text.now l) }
+pub fn target(text: &[u8], l: Lexeme) -> Reference<'_>
+    ensures { target_view result ≡ target_of text.now l }
 {
     match l.kind {
-        Kind::PathReference => {
-            let path = Vec::from_slice(
-                alloc,
-                bytes_between(
-                    text,
-                    l.start as usize + 2,
-                    (l.end as usize).saturating_sub(1),
-                ),
-            )?;
-            Ok(Reference::Path(path))
-        }
-        _ => {
-            let label = Vec::from_slice(
-                alloc,
-                bytes_between(text, l.start as usize + 1, l.end as usize),
-            )?;
-            Ok(Reference::Label(label))
-        }
+        Kind::PathReference => Reference::Path(bytes_between(
+            text,
+            l.start as usize + 2,
+            (l.end as usize).saturating_sub(1),
+        )),
+        _ => Reference::Label(bytes_between(text, l.start as usize + 1, l.end as usize)),
     }
 }

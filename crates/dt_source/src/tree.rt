@@ -1,88 +1,94 @@
 //! What a source says.
 ghost use Rattle.std.specs.Prelude.{◌≡◌, map};
-ghost use Rattle.dt_source.specs.Tree.{view, views, part_view, target_view, item_view, Defines, Undefines, Child, Removes, Rooted, Extends, Deletes};
+ghost use Rattle.dt_source.specs.Tree.{labels_view, view, views, part_view, target_view, item_view, Defines, Undefines, Child, Removes, Rooted, Extends, Deletes};
+
+use crate::labels::Labels;
 
 /// What a reference names: a label, or the path of a node.
 #[derive(Debug, Drop)]
-pub enum Reference {
-    Label(Vec<u8>),
-    Path(Vec<u8>),
+pub enum Reference<'a> {
+    Label(&'a [u8]),
+    Path(&'a [u8]),
 }
 
 /// A part of a property's value.
 #[derive(Debug, Drop)]
-pub enum Part {
+pub enum Part<'a> {
     /// these bytes, of which there is at least one
     Bytes(Vec<u8>),
     /// the target's phandle, 4 bytes
-    Phandle(Reference),
+    Phandle(Reference<'a>),
     /// the target's full path, and a zero byte
-    Path(Reference),
+    Path(Reference<'a>),
 }
 
 /// One statement of a body, in the order of the text.
 #[derive(Debug, Drop)]
-pub enum Statement {
+pub enum Statement<'a> {
     Property {
-        name: Vec<u8>,
-        value: Vec<Part>,
+        name: &'a [u8],
+        value: Vec<Part<'a>>,
     },
     DeleteProperty {
-        name: Vec<u8>,
+        name: &'a [u8],
     },
     Node {
-        labels: Vec<Vec<u8>>,
-        name: Vec<u8>,
-        body: Vec<Statement>,
+        labels: Labels<'a>,
+        name: &'a [u8],
+        body: Vec<Statement<'a>>,
     },
     DeleteNode {
-        name: Vec<u8>,
+        name: &'a [u8],
     },
 }
 
 /// What a source says at its top level, in the order of the text.
 #[derive(Debug, Drop)]
-pub enum Item {
+pub enum Item<'a> {
     /// `/ { .. };`
-    Root(Vec<Statement>),
+    Root(Vec<Statement<'a>>),
     /// `label: &target { .. };`
     Extend {
-        labels: Vec<Vec<u8>>,
-        target: Reference,
-        body: Vec<Statement>,
+        labels: Labels<'a>,
+        target: Reference<'a>,
+        body: Vec<Statement<'a>>,
     },
     /// `/delete-node/ &target;`
-    Delete(Reference),
+    Delete(Reference<'a>),
 }
 
 /// A devicetree source: whether it is a plugin, its reserved memory as pairs of address and size, and its items.
 #[derive(Debug, Drop)]
-pub struct Source {
+pub struct Source<'a> {
     pub plugin: bool,
     pub reserves: Vec<(u64, u64)>,
-    pub items: Vec<Item>,
+    pub items: Vec<Item<'a>>,
 }
 
-pub(crate) fn property(name: Vec<u8>, value: Vec<Part>) -> Statement
-    ensures { view result ≡ Defines name.items (map part_view value.items) }
+pub(crate) fn property<'a>(name: &'a [u8], value: Vec<Part<'a>>) -> Statement<'a>
+    ensures { view result ≡ Defines name.now (map part_view value.entry.items) }
 {
     Statement::Property { name, value }
 }
 
-pub(crate) fn delete_property(name: Vec<u8>) -> Statement
-    ensures { view result ≡ Undefines name.items }
+pub(crate) fn delete_property<'a>(name: &'a [u8]) -> Statement<'a>
+    ensures { view result ≡ Undefines name.now }
 {
     Statement::DeleteProperty { name }
 }
 
-pub(crate) fn node(labels: Vec<Vec<u8>>, name: Vec<u8>, body: Vec<Statement>) -> Statement
-    ensures { view result ≡ Child (map (λ v. v.items) labels.items) name.items (views body.items) }
+pub(crate) fn node<'a>(
+    labels: Labels<'a>,
+    name: &'a [u8],
+    body: Vec<Statement<'a>>,
+) -> Statement<'a>
+    ensures { view result ≡ Child (labels_view labels.entry) name.now (views body.entry.items) }
 {
     Statement::Node { labels, name, body }
 }
 
-pub(crate) fn delete_node(name: Vec<u8>) -> Statement
-    ensures { view result ≡ Removes name.items }
+pub(crate) fn delete_node<'a>(name: &'a [u8]) -> Statement<'a>
+    ensures { view result ≡ Removes name.now }
 {
     Statement::DeleteNode { name }
 }

@@ -2,10 +2,11 @@ use crate::error::{SourceError, SourceErrorKind};
 use crate::parse::{one_source, parse};
 use crate::tree::{Item, Part, Reference, Statement};
 use std::alloc::{AllocError, Global};
+use std::process::Abort;
 use std::test::Fail;
 
 // The value of the last property of the last item, which is the root.
-fn last_value(alloc: Global, text: &[u8]) -> Result<Vec<Part>, u8> {
+fn last_value<'a>(alloc: Global, text: &'a [u8]) -> Result<Vec<Part<'a>>, u8> {
     match parse(alloc, text) {
         Err(e) => Err(e.number()),
         Ok(mut source) => match source.items.pop() {
@@ -71,7 +72,10 @@ fn values_of_bytes(rt: HostRuntime) -> Result<(), Fail> {
     for (text, bytes) in rows {
         match last_value(rt.alloc(), text) {
             Ok(value) => match value.as_slice() {
-                [Part::Bytes(found)] => assert_eq!(rt; found.as_slice(), bytes),
+                [part] => match part {
+                    Part::Bytes(found) => assert_eq!(rt; found.as_slice(), bytes),
+                    _ => assert!(rt; false),
+                },
                 _ => assert!(rt; false),
             },
             Err(_) => assert!(rt; false),
@@ -80,30 +84,38 @@ fn values_of_bytes(rt: HostRuntime) -> Result<(), Fail> {
     Ok(())
 }
 
+// The kind of a part, and its bytes, label or path.
+fn said<'s>(part: &'s Part<'_>) -> (&'static str, &'s [u8]) {
+    match part {
+        Part::Bytes(bytes) => ("bytes", bytes.as_slice()),
+        Part::Phandle(Reference::Label(label)) => ("phandle of a label", label),
+        Part::Phandle(Reference::Path(path)) => ("phandle of a path", path),
+        Part::Path(Reference::Label(label)) => ("path of a label", label),
+        Part::Path(Reference::Path(path)) => ("path of a path", path),
+    }
+}
+
 #[test]
 fn values_of_parts(rt: HostRuntime) -> Result<(), Fail> {
     let text = b"/dts-v1/; / { p = [], \"x\", &l, <1 &m 2>, <>, [03], &{/a/b@1}, \"\"; };";
     match last_value(rt.alloc(), text) {
-        Ok(value) => match value.as_slice() {
-            [
-                Part::Bytes(a),
-                Part::Path(Reference::Label(l)),
-                Part::Bytes(b),
-                Part::Phandle(Reference::Label(m)),
-                Part::Bytes(c),
-                Part::Path(Reference::Path(d)),
-                Part::Bytes(e),
-            ] => {
-                assert_eq!(rt; a.as_slice(), b"x\0".as_slice());
-                assert_eq!(rt; l.as_slice(), b"l".as_slice());
-                assert_eq!(rt; b.as_slice(), [0, 0, 0, 1].as_slice());
-                assert_eq!(rt; m.as_slice(), b"m".as_slice());
-                assert_eq!(rt; c.as_slice(), [0, 0, 0, 2, 3].as_slice());
-                assert_eq!(rt; d.as_slice(), b"/a/b@1".as_slice());
-                assert_eq!(rt; e.as_slice(), [0].as_slice());
+        Ok(value) => {
+            let parts = [
+                ("bytes", b"x\0".as_slice()),
+                ("path of a label", b"l"),
+                ("bytes", &[0, 0, 0, 1]),
+                ("phandle of a label", b"m"),
+                ("bytes", &[0, 0, 0, 2, 3]),
+                ("path of a path", b"/a/b@1"),
+                ("bytes", &[0]),
+            ];
+            assert_eq!(rt; value.len(), parts.len());
+            for (i, (kind, bytes)) in parts.iter().enumerate() {
+                let (found, said) = said(&value[i]);
+                assert_eq!(rt; found, *kind);
+                assert_eq!(rt; said, *bytes);
             }
-            _ => assert!(rt; false),
-        },
+        }
         Err(_) => assert!(rt; false),
     }
     match last_value(rt.alloc(), b"/dts-v1/; / { p = [], <>; };") {
@@ -175,17 +187,59 @@ fn refusals(rt: HostRuntime) -> Result<(), Fail> {
     Ok(())
 }
 
+// What the extension of the next test says.
+fn extension(rt: &impl Abort, body: &[Statement<'_>]) {
+    assert_eq!(rt; body.len(), 2);
+    match (&body[0], &body[1]) {
+        (
+            Statement::Property { name, value },
+            Statement::Node {
+                labels,
+                name: node,
+                body,
+            },
+        ) => {
+            assert_eq!(rt; *name, b"x".as_slice());
+            assert_eq!(rt; value.len(), 0);
+            assert_eq!(rt; labels.as_slice().len(), 2);
+            assert_eq!(rt; *node, b"n@1".as_slice());
+            assert_eq!(rt; body.len(), 3);
+            match (&body[0], &body[1], &body[2]) {
+                (
+                    Statement::DeleteProperty { name: y },
+                    Statement::DeleteNode { name: z },
+                    Statement::Node {
+                        labels,
+                        name: e,
+                        body,
+                    },
+                ) => {
+                    assert_eq!(rt; *y, b"y".as_slice());
+                    assert_eq!(rt; *z, b"z".as_slice());
+                    assert_eq!(rt; labels.as_slice().len(), 0);
+                    assert_eq!(rt; *e, b"e".as_slice());
+                    assert_eq!(rt; body.len(), 0);
+                }
+                _ => assert!(rt; false),
+            }
+        }
+        _ => assert!(rt; false),
+    }
+}
+
 #[test]
 fn items(rt: HostRuntime) -> Result<(), Fail> {
     let text =
-        b"/dts-v1/;\n# 1 \"a.dts\"\n/plugin/; /dts-v1/; m: /memreserve/ 0x1000 (0x1000 * 2);\n/ { };\na: b: &l { x; c: d: n@1 { /delete-property/ y; /delete-node/ z; }; };\n/delete-node/ &{/a};";
+        b"/dts-v1/;\n# 1 \"a.dts\"\n/plugin/; /dts-v1/; m: /memreserve/ 0x1000 (0x1000 * 2);\n/ { };\na: b: &l { x; c: d: n@1 { /delete-property/ y; /delete-node/ z; e { }; }; };\n/delete-node/ &{/a};";
     match parse(rt.alloc(), text) {
         Err(_) => assert!(rt; false),
         Ok(source) => {
             assert!(rt; source.plugin);
             assert_eq!(rt; source.reserves.as_slice(), [(0x1000, 0x2000)].as_slice());
-            match source.items.as_slice() {
-                [
+            let items = source.items.as_slice();
+            assert_eq!(rt; items.len(), 3);
+            match (&items[0], &items[1], &items[2]) {
+                (
                     Item::Root(root),
                     Item::Extend {
                         labels,
@@ -193,38 +247,13 @@ fn items(rt: HostRuntime) -> Result<(), Fail> {
                         body,
                     },
                     Item::Delete(Reference::Path(path)),
-                ] => {
+                ) => {
                     assert_eq!(rt; root.len(), 0);
-                    assert_eq!(rt; labels.len(), 2);
-                    assert_eq!(rt; labels[1].as_slice(), b"b".as_slice());
-                    assert_eq!(rt; l.as_slice(), b"l".as_slice());
-                    assert_eq!(rt; path.as_slice(), b"/a".as_slice());
-                    match body.as_slice() {
-                        [
-                            Statement::Property { name, value },
-                            Statement::Node {
-                                labels,
-                                name: node,
-                                body,
-                            },
-                        ] => {
-                            assert_eq!(rt; name.as_slice(), b"x".as_slice());
-                            assert_eq!(rt; value.len(), 0);
-                            assert_eq!(rt; labels.len(), 2);
-                            assert_eq!(rt; node.as_slice(), b"n@1".as_slice());
-                            match body.as_slice() {
-                                [
-                                    Statement::DeleteProperty { name: y },
-                                    Statement::DeleteNode { name: z },
-                                ] => {
-                                    assert_eq!(rt; y.as_slice(), b"y".as_slice());
-                                    assert_eq!(rt; z.as_slice(), b"z".as_slice());
-                                }
-                                _ => assert!(rt; false),
-                            }
-                        }
-                        _ => assert!(rt; false),
-                    }
+                    assert_eq!(rt; labels.as_slice().len(), 2);
+                    assert_eq!(rt; labels.as_slice()[1], b"b".as_slice());
+                    assert_eq!(rt; *l, b"l".as_slice());
+                    assert_eq!(rt; *path, b"/a".as_slice());
+                    extension(&rt, body.as_slice());
                 }
                 _ => assert!(rt; false),
             }

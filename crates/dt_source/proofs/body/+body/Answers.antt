@@ -30,13 +30,13 @@ pub body-returns-in-None-clause-gives : goal.body-returns-in-None-clause-gives
 body-returns-in-None-clause-gives t c =
     let so_far = c.statements.invariant.so_far in
     let found = c.in_ok-found.ensures.gives ∙ ap (λ (o : Option Statement). Ok (option_map view o, c.in_ok-found.fault, c.in_ok-found.rest.now)) c.in-None.is in
-    rw (c.earlier-first.ensures) (statements_end c.args.text.now c.args.depth so_far.0 c.statements.nodes c.statements.left.now (map view c.statements.statements.items) c.statements.first c.in_ok-found.fault c.in_ok-found.rest.now (body_at c.args.text.now c.args.depth c.args.ts.now) found so_far.1 so_far.2)
+    rw (c.shrink_to_fit.ensures.items, c.earlier-first.ensures) (statements_end c.args.text.now c.args.depth so_far.0 c.statements.nodes c.statements.left.now (map view c.statements.statements.items) c.statements.first c.in_ok-found.fault c.in_ok-found.rest.now (body_at c.args.text.now c.args.depth c.args.ts.now) found so_far.1 so_far.2)
 
 pub body-statements-preserved : goal.body-statements-preserved
 body-statements-preserved t c =
     let so_far = c.statements.invariant.so_far in
     let found = c.in_ok-found.ensures.gives ∙ ap (λ (o : Option Statement). Ok (option_map view o, c.in_ok-found.fault, c.in_ok-found.rest.now)) c.in-Some.is in
-    let items : map view c.push.new.self.items ≡ map view c.statements.statements.items ++ view c.in-Some.s ∷ [] = rw c.in_ok-push-in-Some.ensures.items (map_push view c.statements.statements.items c.in-Some.s) in
+    let items : map view c.push_sparingly.new.list.items ≡ map view c.statements.statements.items ++ view c.in-Some.s ∷ [] = rw c.in_ok-push_sparingly-in-Some.ensures (map_push view c.statements.statements.items c.in-Some.s) in
     record {
       shorter = omega (arith, c.in_ok-found.ensures.shorter, c.statements.invariant.shorter);
       so_far = rw (items, c.earlier-first.ensures, c.nodes_after-nodes.ensures) (statements_more c.args.text.now c.args.depth so_far.0 c.statements.nodes c.statements.left.now (map view c.statements.statements.items) c.statements.first (view c.in-Some.s) c.in_ok-found.fault c.in_ok-found.rest.now (body_at c.args.text.now c.args.depth c.args.ts.now) found c.in_ok-found.ensures.shorter so_far.1 so_far.2);

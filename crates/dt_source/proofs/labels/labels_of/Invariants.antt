@@ -1,7 +1,7 @@
 use Rattle.std.proofs.Common.{◌≡◌, take}
 use Rattle.std.specs.Prelude.{map}
 use Rattle.dt_source.specs.Bodies.{label_bytes}
-use Rattle.dt_source.proofs.body.label_list.Given as goal
+use Rattle.dt_source.proofs.labels.labels_of.Given as goal
 
 abbrev pub invariant-loop-label : goal.invariant-loop-label
-invariant-loop-label l = map (λ b. b.items) l.list.items ≡ map (label_bytes l.text) (take l.label-index l.labels)
+invariant-loop-label l = map (λ b. b.now) l.list.items ≡ map (label_bytes l.text) (take l.label-index l.labels)

@@ -1,0 +1,57 @@
+//! The labels of a node.
+ghost use Rattle.std.specs.Prelude.{◌≡◌, map, IfOk};
+ghost use Rattle.dt_source.specs.Bodies.{label_bytes};
+ghost use Rattle.dt_source.specs.Tree.{labels_view};
+
+use crate::string::bytes_between;
+use dt_lexeme::lexeme::Lexeme;
+use std::alloc::{AllocError, Global};
+
+/// Labels in the order of the text, without their colons. They take one word, since most nodes have none and a text
+/// can have 8 million statements.
+#[derive(Debug, Drop)]
+pub struct Labels<'a> {
+    some: Option<Box<Vec<&'a [u8]>>>,
+}
+
+impl<'a> Labels<'a> {
+    /// The labels of a list.
+    pub fn new(alloc: Global, labels: Vec<&'a [u8]>) -> Result<Self, AllocError>
+        ensures { IfOk result (λ l. labels_view l ≡ map (λ v. v.now) labels.entry.items) }
+    {
+        if labels.is_empty() {
+            return Ok(Self { some: None });
+        }
+        let some = Box::new(alloc, labels)?;
+        Ok(Self { some: Some(some) })
+    }
+
+    /// The labels as a list.
+    pub fn as_slice(&self) -> &[&'a [u8]]
+        ensures { map (λ v. v.now) result.now ≡ labels_view self.now }
+    {
+        match &self.some {
+            None => &[],
+            Some(labels) => labels.as_slice(),
+        }
+    }
+}
+
+/// The labels that these lexemes are.
+pub(crate) fn labels_of<'text>(
+    alloc: Global,
+    text: &'text [u8],
+    labels: &[Lexeme],
+) -> Result<Labels<'text>, AllocError>
+    ensures { IfOk result (λ l. labels_view l ≡ map (label_bytes text.now) labels.now) }
+{
+    let mut list = Vec::with_capacity(alloc, labels.len())?;
+    for label in labels {
+        list.push(bytes_between(
+            text,
+            label.start as usize,
+            (label.end as usize).saturating_sub(1),
+        ))?;
+    }
+    Labels::new(alloc, list)
+}
