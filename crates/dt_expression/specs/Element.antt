@@ -1,8 +1,8 @@
 -- Elements of cells, by their width in bits (Devicetree Specification v0.4, section 6.3: /bits/ and arrays of integers).
 use Rattle.std.specs.Prelude.{ℕ, zero, suc, ◌-◌, ◌*◌, ◌/◌, ◌%◌, ◌^◌, Bool, ◌||◌, List, [], ◌∷◌, Ok, Err, Option, None, Some, nat_lt, ◌==◌, if◌then◌else◌}
 use Rattle.dt_lexeme.specs.declared.lexeme.FaultKind.TheVariants.{ElementRange}
-use Rattle.dt_expression.specs.declared.element.Width.{Width}
-use Rattle.dt_expression.specs.declared.element.Width.TheVariants.{Eight, Sixteen, ThirtyTwo, SixtyFour}
+use Rattle.dt_expression.specs.declared.elements.Width.{Width}
+use Rattle.dt_expression.specs.declared.elements.Width.TheVariants.{Eight, Sixteen, ThirtyTwo, SixtyFour}
 use Rattle.dt_expression.specs.Values.{Value}
 
 -- how many bytes an element of this width has

@@ -5,9 +5,9 @@ ghost use Rattle.dt_expression.specs.Reading.{Gives, syntax_at, too_deep};
 ghost use Rattle.dt_expression.specs.Values.{values};
 ghost use Rattle.dt_expression.specs.ReadingExpressions.{unary_at, levels, expr_at, expr_below, unary_below, operator_at, closed, chosen, otherwise, primary_with, primary_at, ReadsWhatIsSpelled, ReadsAllThatIsSpelled, SpellsOne};
 
-use crate::literal::literal;
+use crate::numeral::literal;
 use crate::value::{both, choice, prefixed};
-use dt_lexeme::lexeme::{Fault, Kind, Lexeme, Refusal, RefusalKind};
+use dt_lexeme::{Fault, Kind, Lexeme, Refusal, RefusalKind};
 
 /// The refusal of lexemes whose first one can't stand where it does, or that end too early: then its place is
 /// behind every place of a text.

@@ -1,13 +1,16 @@
 //! Expressions in the cells of devicetree sources: read from lexemes, and computed.
+//!
+//! The Devicetree Specification v0.4, section 6.3, says which there are.
 #![tactic(auto)]
 
-/// Elements of cells, by their width.
-pub mod element;
-/// Expressions, read from lexemes and computed.
-pub mod expression;
-/// Numbers as they stand in the text.
-pub mod literal;
+mod elements;
+mod expression;
+mod numeral;
+mod value;
+
+pub use elements::{Width, element, push_low_bytes, width_of};
+pub use expression::{primary, reads_the_grammar, syntax_at, too_deep};
+pub use numeral::{bytes_of, digit_of, literal};
+
 #[cfg(test)]
 mod tests;
-/// What operators make of numbers.
-pub mod value;

@@ -1,7 +1,6 @@
-use crate::element::{Width, element, push_low_bytes, width_of};
+use crate::elements::{Width, element, push_low_bytes, width_of};
 use crate::expression::primary;
-use dt_lexeme::lexeme::{Fault, FaultKind, Refusal, RefusalKind};
-use dt_lexeme::scan::scan;
+use dt_lexeme::{Fault, FaultKind, Refusal, RefusalKind, scan};
 use std::alloc::Global;
 use std::test::Fail;
 

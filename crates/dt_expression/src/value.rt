@@ -2,7 +2,7 @@
 ghost use Rattle.std.specs.Prelude.{◌≡◌, ◌/◌, ◌%◌};
 ghost use Rattle.dt_expression.specs.Values.{truth, is_true, divided, shifted_left, shifted_right, operation, both, prefix_operation, prefixed, choice};
 
-use dt_lexeme::lexeme::{Fault, FaultKind, Kind, Lexeme};
+use dt_lexeme::{Fault, FaultKind, Kind, Lexeme};
 
 /// The value of an expression, or its one fault.
 pub type Value = Result<u64, Fault>;

@@ -1,21 +1,20 @@
 //! The lexemes of devicetree sources: what stands between gaps in a text, and where.
+//!
+//! The Devicetree Specification v0.4, chapter 6, says what they are.
 #![tactic(auto)]
 
-/// Classes of bytes, and runs of them.
 mod bytes;
-/// The lexemes that begin with a byte.
 mod families;
-/// Where a string, a word or a path ends.
 mod fronts;
-/// Blanks, comments and line markers.
 mod gaps;
-/// The kinds of lexeme, and why a text is no source.
-pub mod lexeme;
-/// Lines of a text.
-pub mod line;
-/// Where a lexeme stands.
+mod lexeme;
+mod line;
 mod place;
-/// The lexemes of a text.
-pub mod scan;
+mod scanner;
+
+pub use lexeme::{Fault, FaultKind, Kind, Lexeme, ReadError, Refusal, RefusalKind};
+pub use line::line_of;
+pub use scanner::{lexemes_are_in_order, lexemes_are_lawful, one_list, scan, scan_front};
+
 #[cfg(test)]
 mod tests;

@@ -1,6 +1,6 @@
 use crate::lexeme::{Kind, Lexeme, ReadError, Refusal, RefusalKind};
 use crate::line::line_of;
-use crate::scan::{lexemes_are_in_order, lexemes_are_lawful, one_list, scan, scan_front};
+use crate::scanner::{lexemes_are_in_order, lexemes_are_lawful, one_list, scan, scan_front};
 use std::alloc::Global;
 use std::test::Fail;
 

@@ -6,7 +6,7 @@ use Rattle.std.proofs.lemmas.List.{append-nil}
 use Rattle.dt_lexeme.specs.declared.lexeme.Lexeme.{Lexeme}
 use Rattle.dt_lexeme.specs.declared.lexeme.Fault.{Fault}
 use Rattle.dt_lexeme.specs.declared.lexeme.Refusal.{Refusal}
-use Rattle.dt_expression.specs.declared.element.Width.{Width}
+use Rattle.dt_expression.specs.declared.elements.Width.{Width}
 use Rattle.dt_source.specs.declared.cell.Cell.{Cell}
 use Rattle.dt_expression.specs.Reading.{◌>>=◌}
 use Rattle.dt_source.specs.Sequences.{earlier, Part, many}

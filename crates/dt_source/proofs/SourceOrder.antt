@@ -6,8 +6,8 @@ use Rattle.dt_lexeme.specs.declared.lexeme.Lexeme.{Lexeme}
 use Rattle.dt_lexeme.specs.declared.lexeme.Fault.{Fault}
 use Rattle.dt_lexeme.specs.declared.lexeme.FaultKind.TheVariants.{ElementRange, BadEscape, BadBits}
 use Rattle.dt_lexeme.specs.declared.lexeme.Kind.{Kind}
-use Rattle.dt_expression.specs.declared.element.Width.{Width}
-use Rattle.dt_expression.specs.declared.element.Width.TheVariants.{Eight, Sixteen, ThirtyTwo, SixtyFour}
+use Rattle.dt_expression.specs.declared.elements.Width.{Width}
+use Rattle.dt_expression.specs.declared.elements.Width.TheVariants.{Eight, Sixteen, ThirtyTwo, SixtyFour}
 use Rattle.dt_lexeme.specs.Lexemes.{Lexemes}
 use Rattle.dt_expression.specs.Expression.{Takes}
 use Rattle.dt_expression.specs.Values.{Value, value_of, literal_of}

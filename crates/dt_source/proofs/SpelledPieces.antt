@@ -4,8 +4,8 @@ use Rattle.dt_lexeme.specs.declared.lexeme.Lexeme.{Lexeme}
 use Rattle.dt_lexeme.specs.declared.lexeme.Fault.{Fault}
 use Rattle.dt_lexeme.specs.declared.lexeme.Kind.{Kind}
 use Rattle.dt_lexeme.specs.declared.lexeme.Kind.TheVariants.{Text, Reference, PathReference, Square, EndSquare, Less, Greater, Bits, Literal}
-use Rattle.dt_expression.specs.declared.element.Width.{Width}
-use Rattle.dt_expression.specs.declared.element.Width.TheVariants.{ThirtyTwo}
+use Rattle.dt_expression.specs.declared.elements.Width.{Width}
+use Rattle.dt_expression.specs.declared.elements.Width.TheVariants.{ThirtyTwo}
 use Rattle.dt_expression.specs.Expression.{Begins}
 use Rattle.dt_source.specs.Sequences.{SpellsEach, earlier}
 use Rattle.dt_source.specs.Tree.{Piece, Plain, PathOf}

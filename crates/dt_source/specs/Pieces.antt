@@ -5,8 +5,8 @@ use Rattle.dt_lexeme.specs.declared.lexeme.Fault.{Fault}
 use Rattle.dt_lexeme.specs.declared.lexeme.FaultKind.TheVariants.{BadBits}
 use Rattle.dt_lexeme.specs.declared.lexeme.Kind.{Kind}
 use Rattle.dt_lexeme.specs.declared.lexeme.Kind.TheVariants.{PathReference}
-use Rattle.dt_expression.specs.declared.element.Width.{Width}
-use Rattle.dt_expression.specs.declared.element.Width.TheVariants.{ThirtyTwo}
+use Rattle.dt_expression.specs.declared.elements.Width.{Width}
+use Rattle.dt_expression.specs.declared.elements.Width.TheVariants.{ThirtyTwo}
 use Rattle.dt_source.specs.declared.cell.Cell.{Cell}
 use Rattle.dt_source.specs.declared.cell.Cell.TheVariants as cells
 use Rattle.dt_source.specs.declared.parts.Parts.{Parts}

@@ -9,9 +9,8 @@ use crate::pieces::{labels, value};
 use crate::room::push_sparingly;
 use crate::string::earlier;
 use crate::tree::{Statement, delete_node, delete_property, node, property};
-use dt_expression::expression::{syntax_at, too_deep};
-use dt_expression::literal::bytes_of;
-use dt_lexeme::lexeme::{Fault, Kind, Lexeme, ReadError};
+use dt_expression::{bytes_of, syntax_at, too_deep};
+use dt_lexeme::{Fault, Kind, Lexeme, ReadError};
 use std::alloc::{AllocError, Global};
 
 // A statement, where a semicolon follows it.

@@ -10,9 +10,8 @@ use crate::cell::Cell;
 use crate::parts::Parts;
 use crate::string::{earlier, pair, target};
 use crate::tree::Part;
-use dt_expression::element::{Width, element as within, push_low_bytes};
-use dt_expression::expression::{primary, syntax_at};
-use dt_lexeme::lexeme::{Fault, FaultKind, Kind, Lexeme, ReadError, Refusal};
+use dt_expression::{Width, element as within, primary, push_low_bytes, syntax_at};
+use dt_lexeme::{Fault, FaultKind, Kind, Lexeme, ReadError, Refusal};
 use std::alloc::{AllocError, Global};
 
 fn element<'a>(

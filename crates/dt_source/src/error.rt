@@ -2,7 +2,7 @@
 ghost use Rattle.std.specs.Prelude.{◌≡◌};
 ghost use Rattle.dt_source.specs.SourceError.{number_of, name_of, kind_of_fault, kind_of_refusal};
 
-use dt_lexeme::lexeme::{FaultKind, RefusalKind};
+use dt_lexeme::{FaultKind, RefusalKind};
 use thiserror::Error;
 
 /// What is wrong with a text.

@@ -6,7 +6,7 @@ ghost use Rattle.dt_source.specs.Pieces.{built, flushed, put};
 
 use crate::room::push_sparingly;
 use crate::tree::Part;
-use dt_expression::element::{Width, push_low_bytes};
+use dt_expression::{Width, push_low_bytes};
 use std::alloc::{AllocError, Global};
 use std::mem;
 

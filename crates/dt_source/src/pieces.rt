@@ -11,10 +11,8 @@ use crate::cells::{cells, pairs};
 use crate::parts::Parts;
 use crate::string::{earlier, string_of, target};
 use crate::tree::Part;
-use dt_expression::element::{Width, width_of};
-use dt_expression::expression::syntax_at;
-use dt_expression::literal::literal;
-use dt_lexeme::lexeme::{Fault, FaultKind, Kind, Lexeme, ReadError};
+use dt_expression::{Width, literal, syntax_at, width_of};
+use dt_lexeme::{Fault, FaultKind, Kind, Lexeme, ReadError};
 use std::alloc::{AllocError, Global};
 
 fn is_label(kind: Kind) -> bool

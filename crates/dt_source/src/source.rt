@@ -14,8 +14,8 @@ use crate::labels::labels_of;
 use crate::pieces::labels;
 use crate::string::{earlier, target};
 use crate::tree::{Item, Source, Statement};
-use dt_expression::expression::{primary, syntax_at};
-use dt_lexeme::lexeme::{Fault, Kind, Lexeme, ReadError, Refusal};
+use dt_expression::{primary, syntax_at};
+use dt_lexeme::{Fault, Kind, Lexeme, ReadError, Refusal};
 use std::alloc::{AllocError, Global};
 
 fn semicolon(ts: &[Lexeme]) -> Result<&[Lexeme], Refusal>

@@ -7,8 +7,8 @@ ghost use Rattle.dt_source.specs.Sequences.{earlier};
 ghost use Rattle.dt_source.specs.Bodies.{first_of};
 
 use crate::tree::Reference;
-use dt_expression::literal::{bytes_of, digit_of};
-use dt_lexeme::lexeme::{Fault, FaultKind, Kind, Lexeme};
+use dt_expression::{bytes_of, digit_of};
+use dt_lexeme::{Fault, FaultKind, Kind, Lexeme};
 use std::alloc::{AllocError, Global};
 
 /// What stands between two places of the text.

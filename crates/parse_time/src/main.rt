@@ -1,7 +1,7 @@
 //! Parses the file that its argument names, and prints how many items it has, or why it is refused: for timing.
 #![tactic(auto)]
 
-use dt_source::parse::parse;
+use dt_source::parse;
 use std::{env, fs, io};
 
 fn main(rt: HostRuntime) -> io::Result<()> {

@@ -1,5 +1,5 @@
 use crate::error::{SourceError, SourceErrorKind};
-use crate::parse::{one_source, parse};
+use crate::parser::{one_source, parse};
 use crate::tree::{Item, Part, Reference, Statement};
 use std::alloc::{AllocError, Global};
 use std::process::Abort;

@@ -2,7 +2,7 @@
 ghost use Rattle.std.specs.Prelude.{◌≡◌, ◌*◌, ◌++◌, is_ok, if◌then◌else◌};
 ghost use Rattle.dt_expression.specs.Element.{bytes_in, width_of, fits_bits, low_bytes, element};
 
-use dt_lexeme::lexeme::{Fault, FaultKind};
+use dt_lexeme::{Fault, FaultKind};
 use std::alloc::AllocError;
 
 /// How wide an element of cells is.

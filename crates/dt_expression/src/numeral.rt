@@ -2,7 +2,7 @@
 ghost use Rattle.std.specs.Prelude.{◌≡◌, ◌≤◌};
 ghost use Rattle.dt_expression.specs.Values.{bytes_of, digit_of, is_suffix, number_of, literal_number, literal_of, below_64};
 
-use dt_lexeme::lexeme::{Fault, FaultKind, Lexeme};
+use dt_lexeme::{Fault, FaultKind, Lexeme};
 
 /// What a lexeme stands for in its text.
 pub fn bytes_of<'a>(text: &'a [u8], lexeme: Lexeme) -> &'a [u8]

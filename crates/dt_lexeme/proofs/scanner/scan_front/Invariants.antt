@@ -1,6 +1,6 @@
 use Rattle.std.proofs.Common.{◌≤◌, ◌+◌, length}
 use Rattle.dt_lexeme.proofs.Scanning.{Scans}
-use Rattle.dt_lexeme.proofs.scan.scan_front.Given as goal
+use Rattle.dt_lexeme.proofs.scanner.scan_front.Given as goal
 
 abbrev pub invariant-lexemes : goal.invariant-lexemes
 invariant-lexemes l = record {

@@ -3,7 +3,7 @@ use Rattle.dt_lexeme.specs.Lexemes.{Scanned}
 use Rattle.dt_source.proofs.Parsing.{is_found, is_refused}
 use Rattle.dt_source.proofs.SpelledSources.{sources_are_spelled, sources_are_read}
 use Rattle.dt_source.proofs.SourceOrder.{in_order}
-use Rattle.dt_source.proofs.parse.read.Goals as goal
+use Rattle.dt_source.proofs.parser.read.Goals as goal
 
 pub returns-in-None-clause-found : goal.returns-in-None-clause-found
 returns-in-None-clause-found c =

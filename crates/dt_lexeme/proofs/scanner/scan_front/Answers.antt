@@ -3,7 +3,7 @@ use Rattle.std.proofs.lemmas.Bool.{eqb-true}
 use Rattle.std.proofs.lemmas.List.{length-drop, nil_from_length}
 use Rattle.dt_lexeme.specs.Gaps.{IsGap}
 use Rattle.dt_lexeme.proofs.Scanning.{some_byte, scans_start, scans_more, scans_done, scans_none, scans_lost, step_braces, step_parens, not_empty}
-use Rattle.dt_lexeme.proofs.scan.scan_front.Goals as goal
+use Rattle.dt_lexeme.proofs.scanner.scan_front.Goals as goal
 
 pub lexemes-init : goal.lexemes-init
 lexemes-init c = rw (c.start-place.ensures, c.new-found.ensures.items) (record {

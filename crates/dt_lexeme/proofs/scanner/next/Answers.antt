@@ -1,5 +1,5 @@
 use Rattle.dt_lexeme.proofs.Begins.{next_found, next_lost, next_empty}
-use Rattle.dt_lexeme.proofs.scan.next.Goals as goal
+use Rattle.dt_lexeme.proofs.scanner.next.Goals as goal
 
 pub returns-in-empty : goal.returns-in-empty
 returns-in-empty c = next_empty c.args.place c.args.s.now c.in-empty.len_below

@@ -12,9 +12,7 @@ ghost use Rattle.dt_source.specs.Parse.{IsShort, IsSource, IsNoSource, Says, Has
 use crate::error::{SourceError, SourceErrorKind, kind_of_fault, kind_of_refusal};
 use crate::source::source;
 use crate::tree::Source;
-use dt_lexeme::lexeme::{Fault, ReadError, Refusal, RefusalKind};
-use dt_lexeme::line::line_of;
-use dt_lexeme::scan::scan_front;
+use dt_lexeme::{Fault, ReadError, Refusal, RefusalKind, line_of, scan_front};
 use std::alloc::Global;
 
 // The refusal of a text that has no lexeme at this place: what is refused before it, or else that place.

@@ -1,5 +1,5 @@
 use Rattle.dt_lexeme.proofs.Scanning.{one_list}
-use Rattle.dt_lexeme.proofs.scan.one_list.Goals as goal
+use Rattle.dt_lexeme.proofs.scanner.one_list.Goals as goal
 
 pub returns : goal.returns
 returns c = one_list

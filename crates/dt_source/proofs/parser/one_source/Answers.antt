@@ -1,6 +1,6 @@
 use Rattle.dt_source.proofs.Parsing.{same_tree, one_meaning, accepted, no_fault, faulty}
 use Rattle.dt_source.proofs.SpelledSources.{sources_are_read}
-use Rattle.dt_source.proofs.parse.one_source.Goals as goal
+use Rattle.dt_source.proofs.parser.one_source.Goals as goal
 
 pub returns : goal.returns
 returns c = record {

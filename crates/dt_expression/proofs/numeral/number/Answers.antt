@@ -1,7 +1,7 @@
 use Rattle.std.proofs.Common.{◌≡◌, ◌≤◌, ◌<◌, ◌+◌, ◌*◌, ◌^◌, false, get_or, rules}
 use Rattle.dt_expression.specs.Values.{digit_of, is_suffix}
 use Rattle.dt_expression.proofs.Literals.{ends_bad, ends_large}
-use Rattle.dt_expression.proofs.literal.number.Goals as goal
+use Rattle.dt_expression.proofs.numeral.number.Goals as goal
 
 pub returns-then-digit-base : goal.returns-then-digit-base
 returns-then-digit-base c =

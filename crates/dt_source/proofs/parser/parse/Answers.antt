@@ -1,6 +1,6 @@
 use Rattle.dt_source.specs.Tree.{meaning}
 use Rattle.dt_source.proofs.LawfulSources.{says_lawful}
-use Rattle.dt_source.proofs.parse.parse.Goals as goal
+use Rattle.dt_source.proofs.parser.parse.Goals as goal
 
 pub returns-clause-lawful : goal.returns-clause-lawful
 returns-clause-lawful c =

@@ -1,5 +1,5 @@
 use Rattle.dt_lexeme.proofs.LexemeForms.{lexemes_lawful}
-use Rattle.dt_lexeme.proofs.scan.lexemes_are_lawful.Goals as goal
+use Rattle.dt_lexeme.proofs.scanner.lexemes_are_lawful.Goals as goal
 
 pub returns : goal.returns
 returns c = lexemes_lawful
