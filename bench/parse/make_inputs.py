@@ -19,6 +19,7 @@ names           8 million empty properties of one node, named by one byte
 strings         3 million properties that hold an empty string
 chains          4 million nodes, each the only one of another, 63 deep
 labelled        2 million empty nodes with a label each
+board           the items of the example board, again and again
 """
 import os
 import sys
@@ -53,8 +54,16 @@ INPUTS = {
 }
 
 
+def board():
+    path = os.path.join(os.path.dirname(os.path.abspath(__file__)), "../../examples/board.dts")
+    with open(path, "rb") as file:
+        text = file.read()
+    return filled(b"/dts-v1/;\n", text[text.index(b"\n/ {") :])
+
+
 def main(folder):
     os.makedirs(folder, exist_ok=True)
+    INPUTS["board"] = board()
     for name, text in INPUTS.items():
         with open(os.path.join(folder, name + ".dts"), "wb") as file:
             file.write(text)

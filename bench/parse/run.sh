@@ -3,7 +3,7 @@
 set -euo pipefail
 cd "$(dirname "$0")/../.."
 inputs=bench/inputs/parse
-[ -f "$inputs/labelled.dts" ] || python3 bench/parse/make_inputs.py "$inputs"
+[ -f "$inputs/board.dts" ] || python3 bench/parse/make_inputs.py "$inputs"
 program=crates/parse_time/out/parse_time
 [ -x "$program" ] || (cd crates/parse_time && rt run -- data/board.dts >/dev/null)
 for source in "$inputs"/*.dts; do

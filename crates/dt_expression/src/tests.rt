@@ -1,6 +1,7 @@
 use crate::elements::{Width, element, push_low_bytes, width_of};
-use crate::expression::primary;
-use dt_lexeme::{Fault, FaultKind, Refusal, RefusalKind, scan};
+use crate::expression::{primary, reads_the_grammar, syntax_at, too_deep};
+use crate::numeral::{bytes_of, digit_of, literal};
+use dt_lexeme::{Fault, FaultKind, Kind, Lexeme, Refusal, RefusalKind, scan};
 use std::alloc::Global;
 use std::test::Fail;
 
@@ -23,6 +24,37 @@ fn first_cell(alloc: Global, text: &[u8]) -> Result<Result<u64, Fault>, Refusal>
         },
         Err(_) => Err(lost),
     }
+}
+
+#[test]
+fn literals(rt: HostRuntime) -> Result<(), Fail> {
+    reads_the_grammar();
+    let text = b" 0x1fUL 08";
+    let rows = [
+        (1, 7, b"0x1fUL".as_slice(), Ok(31)),
+        (
+            8,
+            10,
+            b"08",
+            Err(Fault {
+                kind: FaultKind::LiteralRange,
+                place: 8,
+            }),
+        ),
+    ];
+    for (start, end, bytes, value) in rows {
+        let lexeme = Lexeme {
+            kind: Kind::Literal,
+            start,
+            end,
+        };
+        assert_eq!(rt; bytes_of(text, lexeme), bytes);
+        assert_eq!(rt; literal(text, lexeme), value);
+        assert_eq!(rt; syntax_at([lexeme].as_slice()).place, start);
+        assert_eq!(rt; too_deep(lexeme).kind, RefusalKind::TooDeep);
+    }
+    assert_eq!(rt; digit_of(b'F'), 15);
+    Ok(())
 }
 
 #[test]

@@ -1,5 +1,8 @@
 use crate::error::{SourceError, SourceErrorKind};
+use crate::lawful::says_lawful;
+use crate::order::faults_are_in_order;
 use crate::parser::{one_source, parse};
+use crate::spelling::reads_sources;
 use crate::tree::{Item, Part, Reference, Statement};
 use std::alloc::{AllocError, Global};
 use std::process::Abort;
@@ -29,6 +32,9 @@ pub fn number(alloc: Global, text: &[u8]) -> u8 {
 #[test]
 fn values_of_bytes(rt: HostRuntime) -> Result<(), Fail> {
     one_source();
+    reads_sources();
+    faults_are_in_order();
+    says_lawful();
     let rows = [
         // cell-arithmetic
         (
