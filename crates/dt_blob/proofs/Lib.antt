@@ -3,6 +3,7 @@ pub mod HeldBlob
 pub mod Holding
 pub mod Laying
 pub mod Lines
+pub mod Ordered
 pub mod Places
 pub mod Refusals
 pub mod Sizes

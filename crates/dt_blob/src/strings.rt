@@ -1,16 +1,15 @@
 //! The strings block while it grows.
-ghost use Rattle.std.specs.Prelude.{◌≡◌, ◌+◌, ◌<◌, ◌≤◌, [], length, IfOk, IfSome, MatchResult};
+ghost use Rattle.std.specs.Prelude.{◌≡◌, ◌+◌, ◌<◌, ◌≤◌, [], None, replicate, length, IfOk, IfSome, MatchResult};
 ghost use Rattle.dt_blob.specs.Blob.{limit};
 ghost use Rattle.dt_blob.specs.Strings.{begins, lowest_place, ended, offset_in, with_name};
 ghost use Rattle.dt_blob.specs.Written.{Refuses};
 
 use crate::bytes::put_ended;
 use crate::error::BlobError;
-use crate::names::{add_names, set_tails};
+use crate::names::{Listed, list_names, place_tails, position};
 use crate::room::check_room;
 use dt_tree::{Name, Node};
 use std::alloc::{AllocError, Global};
-use std::collections::BTreeMap;
 use std::marker::Model;
 
 fn begins_with(text: &[u8], name: &[u8]) -> bool
@@ -41,31 +40,34 @@ fn lowest_place(strings: &[u8], name: &[u8]) -> Option<usize>
 
 /// The strings so far, and where the names of a tree stand in them.
 #[derive(Drop)]
-pub(crate) struct Strings {
+pub(crate) struct Strings<'a> {
     block: Vec<u8>,
-    places: BTreeMap<Vec<u8>, Option<usize>>,
+    names: Vec<Listed<'a>>,
+    places: Vec<Option<usize>>,
 }
 
-impl Model for Strings {
+impl<'a> Model for Strings<'a> {
     ghost use Rattle.std.specs.Prelude.{List, ℕ};
-    ghost use Rattle.dt_blob.specs.Table.{table_of, IsTable, IsClosed};
+    ghost use Rattle.dt_blob.specs.Table.{IsListed, IsTable, IsClosed};
 
     ghost Value = { List ℕ };
 
     ghost view = { λ a. a.block.items };
 
-    ghost invariant = { λ a. IsClosed a.block.items × IsTable (table_of a.places.entries) a.block.items };
+    ghost invariant = { λ a. IsClosed a.block.items × IsListed a.names.items × IsTable a.names.items a.places.items a.block.items };
 }
 
-impl Strings {
+impl<'a> Strings<'a> {
     /// No strings, for a tree whose root this is.
-    pub(crate) fn new(alloc: Global, root: &Node) -> Result<Self, AllocError>
+    pub(crate) fn new(alloc: Global, root: &'a Node) -> Result<Self, AllocError>
         ensures { IfOk result (λ strings. strings ≡ []) }
     {
-        let mut places = BTreeMap::new(alloc);
-        add_names(alloc, &mut places, root)?;
+        let names = list_names(alloc, root)?;
+        let mut places = Vec::new(alloc);
+        places.resize(names.len(), None)?;
         Ok(Self {
             block: Vec::new(alloc),
+            names,
             places,
         })
     }
@@ -88,8 +90,8 @@ impl Strings {
         ensures bound { IfSome result (λ at. at < length self.now) }
     {
         name.check();
-        match self.places.get(name.as_bytes()) {
-            Some(place) => *place,
+        match position(self.names.as_slice(), name.as_bytes()) {
+            Some(at) => self.places[at],
             // no name of the tree, so that it isn't known whether it is a tail of one
             None => lowest_place(self.block.as_slice(), name.as_bytes()),
         }
@@ -108,7 +110,16 @@ impl Strings {
         let end = self.block.len();
         check_room(used + end, 1, bytes.len())?;
         put_ended(&mut self.block, bytes)?;
-        set_tails(&mut self.places, bytes, end);
+        match position(self.names.as_slice(), bytes) {
+            Some(at) => place_tails(
+                self.names.as_slice(),
+                self.places.as_mut_slice(),
+                at,
+                end + bytes.len(),
+            ),
+            // no name of the tree, so that its tails aren't known
+            None => self.names.clear(),
+        }
         Ok(end)
     }
 }
