@@ -1,4 +1,5 @@
 pub mod Blocks
+pub mod FromEnd
 pub mod HeldBlob
 pub mod Holding
 pub mod Laying

@@ -1,13 +1,13 @@
 -- Tails, and the order by the bytes from the last to the first.
-use Rattle.std.proofs.Common.{◌≡◌, ◌≢◌, ◌⊎◌, inl, inr, ℕ, suc, ◌+◌, ◌-◌, ◌<◌, ◌≤◌, Bool, true, false, List, [], ◌∷◌, ◌++◌, length, take, drop, reverse, refl, sym, ap, ◌∙◌, arith, true≢false, length-append, length-drop, eq-eqb}
+use Rattle.std.proofs.Common.{◌≡◌, inl, inr, ℕ, ◌-◌, ◌<◌, ◌≤◌, Bool, true, false, List, [], ◌∷◌, ◌++◌, length, take, drop, reverse, refl, sym, ap, ◌∙◌, arith, true≢false, length-append, length-drop, eq-eqb}
 use Rattle.std.specs.Prelude.{cond, ◌&&◌, ◌==◌, nat_eq, nat_lt}
 use Rattle.std.specs.Ordering.{nat_cmp, is_eq, is_lt, ordering_then, ordering_reverse}
 use Rattle.std.specs.declared.cmp.Ordering.{Ordering}
 use Rattle.std.specs.declared.cmp.Ordering.TheVariants.{Less, Equal, Greater}
-use Rattle.std.specs.Cmp.Lexicographic.{slice_cmp, pointwise, nat_list_cmp_total, nat_list_eq_equiv, unequal}
+use Rattle.std.specs.Cmp.Lexicographic.{slice_cmp, nat_list_cmp_total, nat_list_eq_equiv, unequal}
 use Rattle.std.specs.Cmp.{nat_cmp_total}
 use Rattle.std.specs.Str.{bytes_eq}
-use Rattle.std.proofs.lemmas.Bool.{eqb-true, ne_eqb, and_from, cases_lt, cases_Bool}
+use Rattle.std.proofs.lemmas.Bool.{eqb-true, ne_eqb, and_from, cases_lt}
 use Rattle.std.proofs.lemmas.List.{take-append-drop, reverse-append, reverse-reverse, drop_at}
 use Rattle.std.proofs.lemmas.Map.Text.{is_eq-slice_cmp}
 use Rattle.dt_blob.specs.Strings.{begins}
@@ -43,7 +43,7 @@ equal-by true b h = absurd (cc)
 equal-by false true h = refl
 equal-by false false h = absurd (cc)
 
-cmp-equal : (x y : ℕ) → nat_cmp x y ≡ Equal → x ≡ y
+pub cmp-equal : (x y : ℕ) → nat_cmp x y ≡ Equal → x ≡ y
 cmp-equal x y h = eqb-true x y (equal-by (nat_lt x y) (x == y) h)
 
 cmp-itself : (x : ℕ) → nat_cmp x x ≡ Less → false ≡ true
@@ -59,13 +59,13 @@ between-by : (o : Ordering) (x y z : ℕ) (a b c : List ℕ) → nat_cmp x y ≡
     → slice_cmp nat_cmp (x ∷ a) (y ∷ b) ≡ Less → slice_cmp nat_cmp (y ∷ b) (z ∷ c) ≡ Less → begins (x ∷ a) (y ∷ b) ≡ true
 between-by Less x y z a b c e s ih p q =
     let back : nat_cmp y z ≡ Greater = ap (nat_cmp y) (sym s) ∙ nat_cmp_total.antisymm y x ∙ ap ordering_reverse e in
-    absurd (cc (ap (λ o. ordering_then o (slice_cmp nat_cmp b c)) back, q))
+    absurd (cc q)
 between-by Equal x y z a b c e s ih p q =
     let xy : x ≡ y = cmp-equal x y e in
     let yz : nat_cmp y z ≡ Equal = ap (nat_cmp y) (sym s) ∙ nat_cmp_total.antisymm y x ∙ ap ordering_reverse e in
     and_from (x == y) (begins a b) (eq-eqb x y xy)
     (ih (ap (λ o. ordering_then o (slice_cmp nat_cmp a b)) (sym e) ∙ p) (ap (λ o. ordering_then o (slice_cmp nat_cmp b c)) (sym yz) ∙ q))
-between-by Greater x y z a b c e s ih p q = absurd (cc (ap (λ o. ordering_then o (slice_cmp nat_cmp a b)) e, p))
+between-by Greater x y z a b c e s ih p q = absurd (cc p)
 
 begins-between : (a b c : List ℕ) → begins a c ≡ true → slice_cmp nat_cmp a b ≡ Less → slice_cmp nat_cmp b c ≡ Less → begins a b ≡ true
 begins-between [] b c h p q = refl
@@ -82,7 +82,7 @@ later-by Equal x y a b e ih p = and-false (x == y) (begins a b) (ih (ap (λ o. o
     and-false : (s t : Bool) → t ≡ false → (s && t) ≡ false
     and-false true t h = h
     and-false false t h = refl
-later-by Greater x y a b e ih p = absurd (cc (ap (λ o. ordering_then o (slice_cmp nat_cmp b a)) e, p))
+later-by Greater x y a b e ih p = absurd (cc p)
 
 begins-later : (a b : List ℕ) → slice_cmp nat_cmp b a ≡ Less → begins a b ≡ false
 begins-later [] [] p = absurd (cc)

@@ -1,8 +1,8 @@
 -- The list of names and the table of their places, step by step.
-use Rattle.std.proofs.Common.{◌≡◌, ◌≢◌, ◌⊎◌, inl, inr, ℕ, zero, suc, ◌+◌, ◌-◌, ◌<◌, ◌≤◌, Bool, true, false, List, [], ◌∷◌, ◌++◌, length, drop, get_or, set, refl, sym, ap, ◌∙◌, subst, arith, true≢false, length-append, length-set}
+use Rattle.std.proofs.Common.{◌≡◌, ◌≢◌, ◌⊎◌, inl, inr, ℕ, zero, suc, ◌+◌, ◌-◌, ◌<◌, ◌≤◌, Bool, true, false, List, [], ◌∷◌, ◌++◌, length, drop, get_or, set, refl, sym, ap, ◌∙◌, subst, arith, true≢false}
 use Rattle.std.proofs.Math.Dec.{eqb-suc-zero}
 use Rattle.std.proofs.Math.Arith.{lt_of_le-ne}
-use Rattle.std.proofs.lemmas.Bool.{cases_lt, cases_eq, cases_Bool}
+use Rattle.std.proofs.lemmas.Bool.{cases_lt, cases_eq}
 use Rattle.std.proofs.lemmas.List.{get_or_default, get_or_append_left, get_or_push, get_or-set_same, get_or-set_other, length_push}
 use Rattle.std.specs.Prelude.{Option, Some, None, IfSome, SomeIff, ◌&&◌, not, ◌==◌, nat_eq, nat_lt, slice_get, if◌then◌else◌}
 use Rattle.std.specs.Option.{option_map, option_or}
@@ -14,7 +14,7 @@ use Rattle.dt_blob.specs.declared.names.Listed.{Listed}
 use Rattle.dt_blob.specs.Strings.{begins, lowest_place, ended}
 use Rattle.dt_blob.specs.Table.{name_at, tail_of, IsBefore, is_tail, is_tail_at, IsListed, IsLast, no_zero, is_clean, IsTable, IsClosed}
 use Rattle.dt_blob.proofs.Places.{place-in_none}
-use Rattle.dt_blob.proofs.Tails.{and-first, and-second, same-names, tail_at, place-added}
+use Rattle.dt_blob.proofs.Tails.{and-first, and-second, tail_at, place-added}
 use Rattle.dt_blob.proofs.Ordered.{tail-itself, tail-trans, tail-between, tail-later, tail-short, tail-long, before-trans}
 
 clean-some : (q : List ℕ) → is_clean q ≡ true → 0 < length q
@@ -313,12 +313,14 @@ table-empty names places room none = record { room = room; lowest = λ i d v b c
 pub table-none : (places : List (Option ℕ)) (block : List ℕ) → IsTable [] places block
 table-none places block = record { room = omega arith; lowest = λ i d v b c. absurd (omega (arith, b)) }
 
--- what the table says of a name
-pub table-says : (names : List Listed) (places : List (Option ℕ)) (inside block bytes name : List ℕ) (at : ℕ) (v : Option ℕ) → IsTable names places inside → inside ≡ block → at < length names → ((d : Listed) → name_at names at d ≡ bytes) → bytes ≡ name → is_name name ≡ true
-    → get_or places at v ≡ lowest_place (ended name) block
-table-says names places inside block bytes name at v table same b is en n =
-    let e : name_at names at blank ≡ name = is blank ∙ en in
-    table.lowest at blank v b (ap is_clean e ∙ name-clean name n) ∙ ap (λ q. lowest_place (ended q) inside) e ∙ ap (lowest_place (ended name)) same
-  where
-    blank : Listed
-    blank = record { name = record { ref_ptr = (0, 0); now = [] }; tail = None }
+-- what the table says of a name that is listed, if it is
+pub table-says : (names seen : List Listed) (places lent : List (Option ℕ)) (block text bytes name : List ℕ) (listed v : Option ℕ) → IsTable names places block → seen ≡ names → lent ≡ places → text ≡ block → bytes ≡ name → is_name name ≡ true
+    → IfSome listed (λ at. at < length seen) → IfSome listed (λ at. (d : Listed) → name_at seen at d ≡ bytes) → IfSome listed (λ at. get_or lent at v ≡ lowest_place (ended bytes) text)
+table-says names seen places lent block text bytes name None v table es el et en n b is = tt
+table-says names seen places lent block text bytes name (Some at) v table es el et en n b is =
+    let blank : Listed = record { name = record { ref_ptr = (0, 0); now = [] }; tail = None } in
+    let e : name_at names at blank ≡ bytes = subst (λ ns. name_at ns at blank ≡ bytes) es (is blank) in
+    ap (λ ps. get_or ps at v) el
+    ∙ table.lowest at blank v (subst (λ (ns : List Listed). at < length ns) es b) (ap is_clean (e ∙ en) ∙ name-clean name n)
+    ∙ ap (λ q. lowest_place (ended q) block) e
+    ∙ ap (lowest_place (ended bytes)) (sym et)

@@ -9,5 +9,12 @@ use std::cmp::Ordering;
 pub(crate) fn compare_from_end(left: &[u8], right: &[u8]) -> Ordering
     ensures { result ≡ slice_cmp nat_cmp (reverse left.now) (reverse right.now) }
 {
-    left.iter().rev().cmp(right.iter().rev())
+    let shorter = left.len().min(right.len());
+    for at in 0..shorter {
+        let (one, other) = (left[left.len() - 1 - at], right[right.len() - 1 - at]);
+        if one != other {
+            return one.cmp(&other);
+        }
+    }
+    left.len().cmp(&right.len())
 }

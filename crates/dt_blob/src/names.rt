@@ -1,5 +1,5 @@
 //! The names of a tree's properties, in an order in which tails come first.
-ghost use Rattle.std.specs.Prelude.{◌≡◌, ◌<◌, ◌≤◌, ◌+◌, ◌++◌, ℕ, List, true, length, IfOk, IfSome, IsTrue};
+ghost use Rattle.std.specs.Prelude.{◌≡◌, ◌<◌, ◌≤◌, ◌+◌, ◌++◌, ℕ, List, true, length, IfOk, OnOk, IfSome};
 ghost use Rattle.dt_blob.specs.Blob.{limit};
 ghost use Rattle.dt_blob.specs.Strings.{ended};
 ghost use Rattle.dt_blob.specs.Table.{name_at, is_tail, is_tail_at, no_zero, IsListed, IsLast, IsTable, IsClosed};
@@ -8,7 +8,6 @@ use crate::from_end::compare_from_end;
 use dt_tree::{Node, Property};
 use std::alloc::{AllocError, Global};
 use std::cmp::Ordering;
-use std::collections::BTreeSet;
 
 /// A name, and which of those before it is its longest tail.
 #[derive(Drop)]
@@ -18,16 +17,16 @@ pub(crate) struct Listed<'a> {
 }
 
 fn add_properties<'a>(
-    names: &mut BTreeSet<&'a [u8]>,
+    names: &mut Vec<&'a [u8]>,
     properties: &'a [Property],
 ) -> Result<(), AllocError> {
     for property in properties {
-        names.insert(property.name.as_bytes())?;
+        names.push(property.name.as_bytes())?;
     }
     Ok(())
 }
 
-fn add_names<'a>(names: &mut BTreeSet<&'a [u8]>, node: &'a Node) -> Result<(), AllocError> {
+fn add_names<'a>(names: &mut Vec<&'a [u8]>, node: &'a Node) -> Result<(), AllocError> {
     add_properties(names, node.properties())?;
     for child in node.children() {
         add_names(names, child)?;
@@ -37,12 +36,8 @@ fn add_names<'a>(names: &mut BTreeSet<&'a [u8]>, node: &'a Node) -> Result<(), A
 
 /// The names in a node and below it, in order.
 fn sorted_names<'a>(alloc: Global, node: &'a Node) -> Result<Vec<&'a [u8]>, AllocError> {
-    let mut distinct = BTreeSet::new(alloc);
-    add_names(&mut distinct, node)?;
-    let mut names = Vec::with_capacity(alloc, distinct.len())?;
-    for name in distinct {
-        names.push(name)?;
-    }
+    let mut names = Vec::new(alloc);
+    add_names(&mut names, node)?;
     names.sort_unstable_by(|left, right| compare_from_end(left, right));
     Ok(names)
 }
@@ -75,17 +70,25 @@ fn longest_tail(names: &[Listed], name: &[u8]) -> Option<usize>
     None
 }
 
+/// Lists a name behind the others, unless it stands there already.
+fn list_name<'a>(names: &mut Vec<Listed<'a>>, name: &'a [u8]) -> Result<(), AllocError>
+    requires { IsListed names.old.items }
+    ensures { OnOk result (IsListed names.new.items) }
+{
+    if comes_last(names.as_slice(), name) {
+        let tail = longest_tail(names.as_slice(), name);
+        names.push(Listed { name, tail })?;
+    }
+    Ok(())
+}
+
 /// Lists the names in a node and below it, each once.
 pub(crate) fn list_names<'a>(alloc: Global, node: &'a Node) -> Result<Vec<Listed<'a>>, AllocError>
     ensures { IfOk result (λ names. IsListed names.items) }
 {
-    let sorted = sorted_names(alloc, node)?;
-    let mut names = Vec::with_capacity(alloc, sorted.len())?;
-    for name in sorted {
-        if comes_last(&names, name) {
-            let tail = longest_tail(&names, name);
-            names.push(Listed { name, tail })?;
-        }
+    let mut names = Vec::new(alloc);
+    for name in sorted_names(alloc, node)? {
+        list_name(&mut names, name)?;
     }
     Ok(names)
 }

@@ -1,5 +1,5 @@
 //! The strings block while it grows.
-ghost use Rattle.std.specs.Prelude.{◌≡◌, ◌+◌, ◌<◌, ◌≤◌, [], None, replicate, length, IfOk, IfSome, MatchResult};
+ghost use Rattle.std.specs.Prelude.{◌≡◌, ℕ, ◌+◌, ◌<◌, ◌≤◌, [], Option, slice_index_or, length, IfOk, IfSome, MatchResult};
 ghost use Rattle.dt_blob.specs.Blob.{limit};
 ghost use Rattle.dt_blob.specs.Strings.{begins, lowest_place, ended, offset_in, with_name};
 ghost use Rattle.dt_blob.specs.Written.{Refuses};
@@ -36,6 +36,25 @@ fn lowest_place(strings: &[u8], name: &[u8]) -> Option<usize>
         }
     }
     None
+}
+
+/// The offset of a name that stands in the strings, which is listed at this place.
+fn find(
+    places: &[Option<usize>],
+    strings: &[u8],
+    listed: Option<usize>,
+    name: &[u8],
+) -> Option<usize>
+    requires inside { IfSome listed (λ at. at < length places.now) }
+    requires placed { (v : Option ℕ) → IfSome listed (λ at. slice_index_or places.now at v ≡ lowest_place (ended name.now) strings.now) }
+    ensures value { result ≡ lowest_place (ended name.now) strings.now }
+    ensures bound { IfSome result (λ at. at < length strings.now) }
+{
+    match listed {
+        Some(at) => places[at],
+        // no name of the tree, so that it isn't known whether it is a tail of one
+        None => lowest_place(strings, name),
+    }
 }
 
 /// The strings so far, and where the names of a tree stand in them.
@@ -84,33 +103,22 @@ impl<'a> Strings<'a> {
         self.block.as_slice()
     }
 
-    /// The offset of a name that stands there.
-    fn find(&self, name: &Name) -> Option<usize>
-        ensures value { result ≡ lowest_place (ended name.now) self.now }
-        ensures bound { IfSome result (λ at. at < length self.now) }
-    {
-        name.check();
-        match position(self.names.as_slice(), name.as_bytes()) {
-            Some(at) => self.places[at],
-            // no name of the tree, so that it isn't known whether it is a tail of one
-            None => lowest_place(self.block.as_slice(), name.as_bytes()),
-        }
-    }
-
     /// The offset of a name, which is added where it is new. `used` bytes stand in the other blocks.
     pub(crate) fn place(&mut self, name: &Name, used: usize) -> Result<usize, BlobError>
         requires { used + length self.old ≤ limit }
         ensures { MatchResult result (λ at. (at ≡ offset_in self.old name.now) × (self.new ≡ with_name self.old name.now) × (used + length self.new ≤ limit) × (at ≤ limit)) (λ e. Refuses (used + length (with_name self.old name.now)) e) }
     {
-        if let Some(at) = self.find(name) {
-            return Ok(at);
-        }
         name.check();
         let bytes = name.as_bytes();
+        let listed = position(self.names.as_slice(), bytes);
+        let (places, block) = (self.places.as_slice(), self.block.as_slice());
+        if let Some(at) = find(places, block, listed, bytes) {
+            return Ok(at);
+        }
         let end = self.block.len();
         check_room(used + end, 1, bytes.len())?;
         put_ended(&mut self.block, bytes)?;
-        match position(self.names.as_slice(), bytes) {
+        match listed {
             Some(at) => place_tails(
                 self.names.as_slice(),
                 self.places.as_mut_slice(),

@@ -1,4 +1,4 @@
-use Rattle.std.proofs.Common.{◌≡◌, ◌+◌, ◌-◌, length, sym, subst, ◌∙◌, arith}
+use Rattle.std.proofs.Common.{◌-◌, length, sym, subst, ◌∙◌, arith}
 use Rattle.dt_blob.specs.declared.names.Listed.{Listed}
 use Rattle.dt_blob.specs.Table.{IsBefore}
 use Rattle.dt_blob.proofs.Ordered.{lt-less}

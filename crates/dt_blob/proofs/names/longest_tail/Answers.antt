@@ -1,8 +1,8 @@
-use Rattle.std.proofs.Common.{◌≡◌, ◌<◌, true, false, length, sym, subst, ◌∙◌, arith}
+use Rattle.std.proofs.Common.{◌≡◌, ◌<◌, true, false, length, sym, subst, ◌∙◌}
 use Rattle.std.specs.Prelude.{IfSome}
 use Rattle.std.proofs.lemmas.List.{get_or_default}
 use Rattle.dt_blob.specs.declared.names.Listed.{Listed}
-use Rattle.dt_blob.specs.Table.{is_tail, name_at}
+use Rattle.dt_blob.specs.Table.{is_tail}
 use Rattle.dt_blob.proofs.Tables.{HasTails, tails-first, tails-found, tails-next, tail-inside}
 use Rattle.dt_blob.proofs.names.longest_tail.Goals as goal
 

@@ -1,4 +1,4 @@
-use Rattle.std.proofs.Common.{◌≡◌, ◌<◌, ◌≤◌, ◌++◌, [], None, length, set, sym, subst, ap, arith, length-set}
+use Rattle.std.proofs.Common.{◌<◌, ◌≤◌, ◌++◌, [], None, length, set, sym, subst, ap, length-set}
 use Rattle.std.specs.Prelude.{IfSome}
 use Rattle.std.proofs.lemmas.List.{get_or_default}
 use Rattle.dt_blob.specs.declared.names.Listed.{Listed}

@@ -2,7 +2,6 @@ use Rattle.std.proofs.Common.{◌∙◌, sym, subst, ◌≡◌, arith}
 use Rattle.std.proofs.lemmas.List.{get_or_default}
 use Rattle.dt_blob.specs.declared.names.Listed.{Listed}
 use Rattle.dt_blob.proofs.Ordered.{equal-names}
-use Rattle.dt_blob.proofs.Tables.{tail-place}
 use Rattle.dt_blob.proofs.names.position.Goals as goal
 
 pub returns-in-Equal-clause-same : goal.returns-in-Equal-clause-same

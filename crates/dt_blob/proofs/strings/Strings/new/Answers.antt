@@ -1,4 +1,4 @@
-use Rattle.std.proofs.Common.{◌≡◌, refl, arith}
+use Rattle.std.proofs.Common.{refl, arith}
 use Rattle.dt_blob.proofs.Tables.{table-empty}
 use Rattle.dt_blob.proofs.strings.Strings.new.Goals as goal
 
