@@ -8,6 +8,7 @@ use crate::from_end::compare_from_end;
 use dt_tree::{Node, Property};
 use std::alloc::{AllocError, Global};
 use std::cmp::Ordering;
+use std::collections::BTreeSet;
 
 /// A name, and which of those before it is its longest tail.
 #[derive(Drop)]
@@ -17,16 +18,16 @@ pub(crate) struct Listed<'a> {
 }
 
 fn add_properties<'a>(
-    names: &mut Vec<&'a [u8]>,
+    names: &mut BTreeSet<&'a [u8]>,
     properties: &'a [Property],
 ) -> Result<(), AllocError> {
     for property in properties {
-        names.push(property.name.as_bytes())?;
+        names.insert(property.name.as_bytes())?;
     }
     Ok(())
 }
 
-fn add_names<'a>(names: &mut Vec<&'a [u8]>, node: &'a Node) -> Result<(), AllocError> {
+fn add_names<'a>(names: &mut BTreeSet<&'a [u8]>, node: &'a Node) -> Result<(), AllocError> {
     add_properties(names, node.properties())?;
     for child in node.children() {
         add_names(names, child)?;
@@ -36,8 +37,12 @@ fn add_names<'a>(names: &mut Vec<&'a [u8]>, node: &'a Node) -> Result<(), AllocE
 
 /// The names in a node and below it, in order.
 fn sorted_names<'a>(alloc: Global, node: &'a Node) -> Result<Vec<&'a [u8]>, AllocError> {
-    let mut names = Vec::new(alloc);
-    add_names(&mut names, node)?;
+    let mut distinct = BTreeSet::new(alloc);
+    add_names(&mut distinct, node)?;
+    let mut names = Vec::with_capacity(alloc, distinct.len())?;
+    for name in distinct {
+        names.push(name)?;
+    }
     names.sort_unstable_by(|left, right| compare_from_end(left, right));
     Ok(names)
 }
