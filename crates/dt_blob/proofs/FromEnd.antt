@@ -8,15 +8,7 @@ use Rattle.std.specs.Cmp.Lexicographic.{slice_cmp}
 use Rattle.std.specs.Cmp.{nat_cmp_total}
 use Rattle.std.proofs.lemmas.Bool.{lt-ltb}
 use Rattle.std.proofs.lemmas.List.{drop_more, get_or-reverse, length-drop, length-reverse}
-use Rattle.dt_blob.proofs.Ordered.{cmp-equal}
-
-itself-by : (o : Ordering) → o ≡ ordering_reverse o → o ≡ Equal
-itself-by Less h = absurd (cc)
-itself-by Equal h = refl
-itself-by Greater h = absurd (cc)
-
-cmp-itself : (x : ℕ) → nat_cmp x x ≡ Equal
-cmp-itself x = itself-by (nat_cmp x x) (nat_cmp_total.antisymm x x)
+use Rattle.dt_blob.proofs.Ordered.{cmp-equal, cmp-itself}
 
 reversed-at : (xs : List ℕ) (k : ℕ) → k < length xs → drop k (reverse xs) ≡ get_or xs (length xs - 1 - k) 0 ∷ drop (k + 1) (reverse xs)
 reversed-at xs k h = drop_more (reverse xs) k 0 (omega (arith, length-reverse xs, h)) ∙ ap (λ x. x ∷ drop (k + 1) (reverse xs)) (get_or-reverse xs k 0 h)

@@ -1,20 +1,20 @@
 -- Tails, and the order by the bytes from the last to the first.
 use Rattle.std.proofs.Common.{◌≡◌, inl, inr, ℕ, ◌-◌, ◌<◌, ◌≤◌, Bool, true, false, List, [], ◌∷◌, ◌++◌, length, take, drop, reverse, refl, sym, ap, ◌∙◌, arith, true≢false, length-append, length-drop, eq-eqb}
-use Rattle.std.specs.Prelude.{cond, ◌&&◌, ◌==◌, nat_eq, nat_lt}
+use Rattle.std.specs.Prelude.{cond, ◌==◌, nat_eq, nat_lt}
 use Rattle.std.specs.Ordering.{nat_cmp, is_eq, is_lt, ordering_then, ordering_reverse}
 use Rattle.std.specs.declared.cmp.Ordering.{Ordering}
 use Rattle.std.specs.declared.cmp.Ordering.TheVariants.{Less, Equal, Greater}
 use Rattle.std.specs.Cmp.Lexicographic.{slice_cmp, nat_list_cmp_total, nat_list_eq_equiv, unequal}
 use Rattle.std.specs.Cmp.{nat_cmp_total}
 use Rattle.std.specs.Str.{bytes_eq}
-use Rattle.std.proofs.lemmas.Bool.{eqb-true, ne_eqb, and_from, cases_lt}
+use Rattle.std.proofs.lemmas.Bool.{and_left, and_right, eqb-true, ne_eqb, and_from, cases_lt}
 use Rattle.std.proofs.lemmas.List.{take-append-drop, reverse-append, reverse-reverse, drop_at}
 use Rattle.std.proofs.lemmas.Map.Text.{is_eq-slice_cmp}
 use Rattle.dt_blob.specs.Strings.{begins}
 use Rattle.dt_blob.specs.Table.{IsBefore, is_tail}
 use Rattle.dt_blob.proofs.Tails.{and-first, and-second, same-names}
 
-same-bools : (a b : Bool) → (a ≡ true → b ≡ true) → (b ≡ true → a ≡ true) → a ≡ b
+pub same-bools : (a b : Bool) → (a ≡ true → b ≡ true) → (b ≡ true → a ≡ true) → a ≡ b
 same-bools true b f g = sym (f refl)
 same-bools false true f g = g refl
 same-bools false false f g = refl
@@ -46,8 +46,16 @@ equal-by false false h = absurd (cc)
 pub cmp-equal : (x y : ℕ) → nat_cmp x y ≡ Equal → x ≡ y
 cmp-equal x y h = eqb-true x y (equal-by (nat_lt x y) (x == y) h)
 
-cmp-itself : (x : ℕ) → nat_cmp x x ≡ Less → false ≡ true
-cmp-itself x h = absurd (cc (nat_cmp_total.antisymm x x, h))
+itself-by : (o : Ordering) → o ≡ ordering_reverse o → o ≡ Equal
+itself-by Less h = absurd (cc)
+itself-by Equal h = refl
+itself-by Greater h = absurd (cc)
+
+pub cmp-itself : (x : ℕ) → nat_cmp x x ≡ Equal
+cmp-itself x = itself-by (nat_cmp x x) (nat_cmp_total.antisymm x x)
+
+less-equal : Less ≡ Equal → false ≡ true
+less-equal h = absurd (cc)
 
 pub lt-less : (o : Ordering) → is_lt o ≡ true → o ≡ Less
 lt-less Less h = refl
@@ -76,12 +84,8 @@ begins-between (x ∷ a) (y ∷ b) (z ∷ c) h p q =
 
 -- nothing is begun by what comes behind it
 later-by : (o : Ordering) (x y : ℕ) (a b : List ℕ) → nat_cmp y x ≡ o → (slice_cmp nat_cmp b a ≡ Less → begins a b ≡ false) → slice_cmp nat_cmp (y ∷ b) (x ∷ a) ≡ Less → begins (x ∷ a) (y ∷ b) ≡ false
-later-by Less x y a b e ih p = ap (λ t. t && begins a b) (ne_eqb x y (λ s. true≢false (sym (cmp-itself x (ap (λ u. nat_cmp u x) s ∙ e)))))
-later-by Equal x y a b e ih p = and-false (x == y) (begins a b) (ih (ap (λ o. ordering_then o (slice_cmp nat_cmp b a)) (sym e) ∙ p))
-  where
-    and-false : (s t : Bool) → t ≡ false → (s && t) ≡ false
-    and-false true t h = h
-    and-false false t h = refl
+later-by Less x y a b e ih p = and_left (x == y) (begins a b) (ne_eqb x y (λ s. true≢false (sym (less-equal (sym e ∙ ap (λ u. nat_cmp u x) (sym s) ∙ cmp-itself x)))))
+later-by Equal x y a b e ih p = and_right (x == y) (begins a b) (ih (ap (λ o. ordering_then o (slice_cmp nat_cmp b a)) (sym e) ∙ p))
 later-by Greater x y a b e ih p = absurd (cc p)
 
 begins-later : (a b : List ℕ) → slice_cmp nat_cmp b a ≡ Less → begins a b ≡ false

@@ -15,7 +15,7 @@ use Rattle.dt_blob.specs.Strings.{begins, lowest_place, ended}
 use Rattle.dt_blob.specs.Table.{name_at, tail_of, IsBefore, is_tail, is_tail_at, IsListed, IsLast, no_zero, is_clean, IsTable, IsClosed}
 use Rattle.dt_blob.proofs.Places.{place-in_none}
 use Rattle.dt_blob.proofs.Tails.{and-first, and-second, tail_at, place-added}
-use Rattle.dt_blob.proofs.Ordered.{tail-itself, tail-trans, tail-between, tail-later, tail-short, tail-long, before-trans}
+use Rattle.dt_blob.proofs.Ordered.{same-bools, tail-itself, tail-trans, tail-between, tail-later, tail-short, tail-long, before-trans}
 
 clean-some : (q : List ℕ) → is_clean q ≡ true → 0 < length q
 clean-some [] c = absurd (cc)
@@ -223,18 +223,13 @@ tails-next names name k ok b out has e i d h t = elim (cases_eq i k) [
   | inr apart ↦ subst (λ (x : Listed). is_tail_at names d (name_at names i d) x.tail ≡ true) (get_or_default names k d e b) (sym (ok.linked k i d b h apart) ∙ has i d h t)
 ]
 
-both-ways : (a b : Bool) → (a ≡ true → b ≡ true) → (b ≡ true → a ≡ true) → a ≡ b
-both-ways true b f g = sym (f refl)
-both-ways false true f g = g refl
-both-ways false false f g = refl
-
 pub tails-found : (names : List Listed) (name : List ℕ) (k : ℕ) → ((d : Listed) → is_tail (name_at names k d) name ≡ true) → HasTails names name (Some k)
     → (i : ℕ) (d : Listed) → i < length names → is_tail (name_at names i d) name ≡ is_tail_at names d (name_at names i d) (Some k)
 tails-found names name k is has i d h =
-    both-ways (is_tail (name_at names i d) name) (is_tail (name_at names i d) (name_at names k d)) (has i d h) (λ t. tail-trans (name_at names i d) (name_at names k d) name t (is d))
+    same-bools (is_tail (name_at names i d) name) (is_tail (name_at names i d) (name_at names k d)) (has i d h) (λ t. tail-trans (name_at names i d) (name_at names k d) name t (is d))
 
 pub tails-none : (names : List Listed) (name : List ℕ) → HasTails names name None → (i : ℕ) (d : Listed) → i < length names → is_tail (name_at names i d) name ≡ is_tail_at names d (name_at names i d) None
-tails-none names name has i d h = both-ways (is_tail (name_at names i d) name) false (has i d h) (λ t. absurd (true≢false (sym t)))
+tails-none names name has i d h = same-bools (is_tail (name_at names i d) name) false (has i d h) (λ t. absurd (true≢false (sym t)))
 
 -- ---- the places
 abbrev pub Places : List Listed → List (Option ℕ) → List ℕ → ℕ → Option ℕ → Type 0

@@ -1,6 +1,5 @@
 //! The names of a tree's properties, in an order in which tails come first.
-ghost use Rattle.std.specs.Prelude.{◌≡◌, ◌<◌, ◌≤◌, ◌+◌, ◌++◌, ℕ, List, true, length, IfOk, OnOk, IfSome};
-ghost use Rattle.dt_blob.specs.Blob.{limit};
+ghost use Rattle.std.specs.Prelude.{◌≡◌, ℕ, ◌+◌, ◌<◌, ◌≤◌, ◌++◌, List, true, length, IfOk, OnOk, IfSome};
 ghost use Rattle.dt_blob.specs.Strings.{ended};
 ghost use Rattle.dt_blob.specs.Table.{name_at, is_tail, is_tail_at, no_zero, IsListed, IsLast, IsTable, IsClosed};
 
@@ -75,7 +74,7 @@ fn longest_tail(names: &[Listed], name: &[u8]) -> Option<usize>
     None
 }
 
-/// Lists a name behind the others, unless it stands there already.
+/// Lists a name behind the others, unless it is the last of them.
 fn list_name<'a>(names: &mut Vec<Listed<'a>>, name: &'a [u8]) -> Result<(), AllocError>
     requires { IsListed names.old.items }
     ensures { OnOk result (IsListed names.new.items) }

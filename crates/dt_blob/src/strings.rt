@@ -38,7 +38,7 @@ fn lowest_place(strings: &[u8], name: &[u8]) -> Option<usize>
     None
 }
 
-/// The offset of a name that stands in the strings, which is listed at this place.
+/// The offset of a name that stands in the strings; `listed` is where the names have it.
 fn find(
     places: &[Option<usize>],
     strings: &[u8],
