@@ -1,7 +1,9 @@
 #!/usr/bin/env python3
 """Writes blobs to a folder that a reader could be slow on: each stresses one part of it.
 
-many-names    100,000 distinct property names of 255 bytes
+many-names    100,000 distinct property names of 255 bytes, alike in their last 248
+heads         100,000 distinct property names of 255 bytes, alike in their first 240
+chains        100,000 names of 255 bytes that have 250 others as tails, and then those
 tails         property names that are tails of one another
 small-nodes   1,000,000 nodes without properties
 wide-node     100,000 children of one node
@@ -21,6 +23,26 @@ def many_names():
     blob.begin(b"")
     for number in range(100_000):
         blob.property(b"p%06d" % number + b"x" * 248, b"")
+    blob.end()
+    return blob
+
+
+def heads():
+    blob = Blob()
+    blob.begin(b"")
+    for number in range(100_000):
+        blob.property(b"h" * 240 + b"%015d" % number, b"")
+    blob.end()
+    return blob
+
+
+def chains():
+    blob = Blob()
+    blob.begin(b"")
+    for number in range(100_000):
+        blob.property(b"%05d" % number + b"x" * 250, b"")
+    for length in range(250, 0, -1):
+        blob.property(b"x" * length, b"")
     blob.end()
     return blob
 
@@ -106,6 +128,8 @@ def board(groups):
 
 INPUTS = {
     "many-names": many_names,
+    "heads": heads,
+    "chains": chains,
     "tails": tails,
     "small-nodes": small_nodes,
     "wide-node": wide_node,

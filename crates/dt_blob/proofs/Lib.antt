@@ -1,8 +1,10 @@
 pub mod Blocks
+pub mod FromEnd
 pub mod HeldBlob
 pub mod Holding
 pub mod Laying
 pub mod Lines
+pub mod Ordered
 pub mod Places
 pub mod Refusals
 pub mod Sizes

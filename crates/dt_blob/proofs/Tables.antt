@@ -1,64 +1,21 @@
--- The table of names, step by step.
-use Rattle.std.proofs.Common.{◌≡◌, ℕ, zero, suc, ◌+◌, ◌<◌, ◌≤◌, Bool, true, false, List, [], ◌∷◌, ◌++◌, length, drop, refl, sym, ap, ◌∙◌, arith, drop-cons, add-one}
-use Rattle.std.proofs.lemmas.List.{drop_all}
-use Rattle.std.specs.Prelude.{cond, Option, Some, None, IsSome, IfSome, is_some, ◌&&◌, not, ◌==◌, if◌then◌else◌}
-use Rattle.std.specs.Option.{option_map}
-use Rattle.std.specs.Str.{bytes_eq}
-use Rattle.std.specs.Map.{lookup, set_value}
-use Rattle.std.specs.Global.{Vec}
-use Rattle.std.specs.BTreeMap.{insert_entry}
-use Rattle.std.specs.Cmp.Lexicographic.{nat_list_eq_equiv}
-use Rattle.std.specs.declared.cmp.Ordering.{Ordering}
-use Rattle.std.specs.declared.cmp.Ordering.TheVariants.{Less, Equal, Greater}
-use Rattle.std.proofs.lemmas.Map.{lookup-set_value}
-use Rattle.std.proofs.lemmas.Bool.{eqb-true}
-use Rattle.std.proofs.Common.{true≢false}
+-- The list of names and the table of their places, step by step.
+use Rattle.std.proofs.Common.{◌≡◌, ◌≢◌, ◌⊎◌, inl, inr, ℕ, zero, suc, ◌+◌, ◌-◌, ◌<◌, ◌≤◌, Bool, true, false, List, [], ◌∷◌, ◌++◌, length, drop, get_or, set, refl, sym, ap, ◌∙◌, subst, arith, true≢false}
 use Rattle.std.proofs.Math.Dec.{eqb-suc-zero}
-use Rattle.dt_blob.proofs.Places.{place-in_none}
-use Rattle.std.specs.Ordering.{is_eq, nat_cmp, match_ordering}
-use Rattle.std.specs.Cmp.Lexicographic.{slice_cmp}
-use Rattle.std.proofs.lemmas.Map.Text.{is_eq-slice_cmp}
-use Rattle.std.specs.Prelude.{nat_lt}
+use Rattle.std.proofs.Math.Arith.{lt_of_le-ne}
+use Rattle.std.proofs.lemmas.Bool.{cases_lt, cases_eq}
+use Rattle.std.proofs.lemmas.List.{get_or_default, get_or_append_left, get_or_push, get_or-set_same, get_or-set_other, length_push}
+use Rattle.std.specs.Prelude.{Option, Some, None, IfSome, SomeIff, ◌&&◌, not, ◌==◌, nat_eq, nat_lt, slice_get, if◌then◌else◌}
+use Rattle.std.specs.Option.{option_map, option_or}
+use Rattle.std.specs.Str.{bytes_eq}
 use Rattle.std.specs.List.{list_all}
+use Rattle.std.specs.Cmp.Lexicographic.{unequal}
 use Rattle.dt_tree.specs.Name.{is_name, is_name_byte}
+use Rattle.dt_blob.specs.declared.names.Listed.{Listed}
 use Rattle.dt_blob.specs.Strings.{begins, lowest_place, ended}
-use Rattle.dt_blob.specs.Table.{Table, table_of, place_in, no_zero, is_clean, IsTable, IsClosed, IsUnplaced, is_waiting, first_of}
+use Rattle.dt_blob.specs.Table.{name_at, tail_of, IsBefore, is_tail, is_tail_at, IsListed, IsLast, no_zero, is_clean, IsTable, IsClosed}
+use Rattle.dt_blob.proofs.Places.{place-in_none}
 use Rattle.dt_blob.proofs.Tails.{and-first, and-second, tail_at, place-added}
-
--- what the map finds
-pub table-lookup : (q : List ℕ) (es : List (Vec ℕ × Option ℕ)) → lookup (λ k. is_eq (slice_cmp nat_cmp q k.items)) es ≡ place_in (table_of es) q
-table-lookup q [] = refl
-table-lookup q (e ∷ es) = rw (is_eq-slice_cmp q e.0.items, table-lookup q es) refl
-
-set-by : (a b : Bool) (e : Vec ℕ × Option ℕ) (es fs : List (Vec ℕ × Option ℕ)) (w : Option ℕ) (t : Table) → a ≡ b → table_of fs ≡ t → table_of (cond a ((e.0, w) ∷ es) (e ∷ fs)) ≡ cond b ((e.0.items, w) ∷ table_of es) ((e.0.items, e.1) ∷ t)
-set-by true true e es fs w t h k = refl
-set-by true false e es fs w t h k = absurd (cc)
-set-by false true e es fs w t h k = absurd (cc)
-set-by false false e es fs w t h k = ap (λ xs. (e.0.items, e.1) ∷ xs) k
-
--- what the map holds once a value is written
-pub table-set : (q : List ℕ) (es : List (Vec ℕ × Option ℕ)) (w : Option ℕ) → table_of (set_value (λ k. is_eq (slice_cmp nat_cmp q k.items)) es w) ≡ set_value (bytes_eq q) (table_of es) w
-table-set q [] w = refl
-table-set q (e ∷ es) w = set-by (is_eq (slice_cmp nat_cmp q e.0.items)) (bytes_eq q e.0.items) e es (set_value (λ k. is_eq (slice_cmp nat_cmp q k.items)) es w) w (set_value (bytes_eq q) (table_of es) w) (is_eq-slice_cmp q e.0.items) (table-set q es w)
-
-mark-by : (b : Bool) (o : Option (Option ℕ)) (v : Option ℕ) (p : ℕ) (r l : Option ℕ) → ((u : Option ℕ) → o ≡ Some u → first_of u (if b then Some p else r) ≡ l) → (if b then option_map (λ u. first_of u (Some p)) o else o) ≡ Some v → first_of v r ≡ l
-mark-by true None v p r l h e = absurd (cc)
-mark-by true (Some None) v p r l h e = let ev : v ≡ Some p = cc in ap (λ u. first_of u r) ev ∙ h None refl
-mark-by true (Some (Some k)) v p r l h e = let ev : v ≡ Some k = cc in ap (λ u. first_of u r) ev ∙ h (Some k) refl
-mark-by false o v p r l h e = h v e
-
-tail-unfold : (p at : ℕ) (q name tail : List ℕ) → at < length name → tail ≡ drop at name → tail_at p q (drop at name) ≡ (if bytes_eq q tail then Some p else tail_at (suc p) q (drop (suc at) name))
-tail-unfold p at q name tail lt et = rw (et, drop-cons name at 0 lt) refl
-
--- one tail more
-pub mark-step : (f g : List ℕ → Option (Option ℕ)) (start at : ℕ) (name tail whole : List ℕ) → ((q : List ℕ) → g q ≡ (if bytes_eq q tail then option_map (λ v. first_of v (Some (start + at))) (f q) else f q)) → at < length name → tail ≡ drop at name
-    → ((q : List ℕ) (v : Option ℕ) → is_clean q ≡ true → f q ≡ Some v → first_of v (tail_at (start + at) q (drop at name)) ≡ lowest_place (ended q) whole)
-    → (q : List ℕ) (v : Option ℕ) → is_clean q ≡ true → g q ≡ Some v → first_of v (tail_at (start + (at + 1)) q (drop (at + 1) name)) ≡ lowest_place (ended q) whole
-mark-step f g start at name tail whole step lt et before q v c e =
-    let n : start + (at + 1) ≡ suc (start + at) = omega arith in
-    rw (n, add-one)
-    (mark-by (bytes_eq q tail) (f q) v (start + at) (tail_at (suc (start + at)) q (drop (suc at) name)) (lowest_place (ended q) whole)
-    (λ u hu. ap (first_of u) (sym (tail-unfold (start + at) at q name tail lt et)) ∙ before q u c hu) (sym (step q) ∙ e))
+use Rattle.dt_blob.proofs.Ordered.{same-bools, tail-itself, tail-trans, tail-between, tail-later, tail-short, tail-long, before-trans}
 
 clean-some : (q : List ℕ) → is_clean q ≡ true → 0 < length q
 clean-some [] c = absurd (cc)
@@ -67,91 +24,9 @@ clean-some (x ∷ q) c = omega arith
 clean-free : (q : List ℕ) → is_clean q ≡ true → no_zero q ≡ true
 clean-free q c = and-second (not (length q == 0)) (no_zero q) c
 
--- before the first tail
-pub table-init : (table : Table) (block string : List ℕ) (start : ℕ) → no_zero string ≡ true → length block ≡ start → IsClosed block → IsTable table block → (q : List ℕ) (v : Option ℕ) → is_clean q ≡ true → place_in table q ≡ Some v → first_of v (tail_at (start + 0) q string) ≡ lowest_place (ended q) (block ++ ended string)
-table-init table block string start free len closed t q v c found =
-    let n : start + 0 ≡ length block = omega arith in
-    ap (λ u. first_of u (tail_at (start + 0) q string)) (t q v c found)
-    ∙ ap (λ k. first_of (lowest_place (ended q) block) (tail_at k q string)) n
-    ∙ sym (place-added q block string (clean-free q c) (clean-some q c) closed free)
-
-first-none : (v : Option ℕ) → first_of v None ≡ v
-first-none None = refl
-first-none (Some k) = refl
-
--- behind the last
-pub table-end : (v : Option ℕ) (p at : ℕ) (q string : List ℕ) (l : Option ℕ) → length string ≤ at → first_of v (tail_at p q (drop at string)) ≡ l → v ≡ l
-table-end v p at q string l h e = sym (first-none v) ∙ ap (λ xs. first_of v (tail_at p q xs)) (sym (drop_all at string h)) ∙ e
-
--- ---- one write
-pub same-names : (q name : List ℕ) → bytes_eq q name ≡ true → q ≡ name
-same-names [] [] t = refl
-same-names [] (y ∷ name) t = absurd (cc)
-same-names (x ∷ q) [] t = absurd (cc)
-same-names (x ∷ q) (y ∷ name) t =
-    ap (λ z. z ∷ q) (eqb-true x y (and-first (x == y) (bytes_eq q name) t)) ∙ ap (λ zs. y ∷ zs) (same-names q name (and-second (x == y) (bytes_eq q name) t))
-
-pub waiting-is : (r : Bool) (o : Option ℕ) → not r ≡ is_some o → r ≡ is_waiting (Some o)
-waiting-is true None h = refl
-waiting-is true (Some k) h = absurd (cc)
-waiting-is false None h = absurd (cc)
-waiting-is false (Some k) h = refl
-
-keep-by : (b : Bool) (o n : Option (Option ℕ)) (p : ℕ) → (b ≡ true → o ≡ n) → is_waiting n ≡ false → o ≡ (if b then option_map (λ v. first_of v (Some p)) o else o)
-keep-by true None n p h w = refl
-keep-by true (Some None) n p h w = absurd (true≢false (ap is_waiting (h refl) ∙ w))
-keep-by true (Some (Some k)) n p h w = refl
-keep-by false o n p h w = refl
-
--- a name that is not waiting
-pub set-nothing : (table : Table) (name : List ℕ) (p : ℕ) → is_waiting (place_in table name) ≡ false → (q : List ℕ) → place_in table q ≡ (if bytes_eq q name then option_map (λ v. first_of v (Some p)) (place_in table q) else place_in table q)
-set-nothing table name p w q = keep-by (bytes_eq q name) (place_in table q) (place_in table name) p (λ t. ap (place_in table) (same-names q name t)) w
-
-write-by : (a b : Bool) (o n : Option (Option ℕ)) (p : ℕ) → a ≡ b → (b ≡ true → o ≡ n) → is_waiting n ≡ true → cond a (Some (Some p)) o ≡ (if b then option_map (λ v. first_of v (Some p)) o else o)
-write-by true true None n p e h w = absurd (true≢false (sym w ∙ ap is_waiting (sym (h refl))))
-write-by true true (Some None) n p e h w = refl
-write-by true true (Some (Some k)) n p e h w = absurd (true≢false (sym w ∙ ap is_waiting (sym (h refl))))
-write-by true false o n p e h w = absurd (cc)
-write-by false true o n p e h w = absurd (cc)
-write-by false false o n p e h w = refl
-
-waiting-some : (o : Option (Option ℕ)) → is_waiting o ≡ true → IsSome o
-waiting-some None w = absurd (cc)
-waiting-some (Some v) w = refl
-
-one-name : (name x y : List ℕ) → bytes_eq name x ≡ true → bytes_eq name y ≡ bytes_eq x y
-one-name name x y t = ap (λ n. bytes_eq n y) (same-names name x t)
-
--- a name that is waiting
-pub set-waiting : (es fs : List (Vec ℕ × Option ℕ)) (name : List ℕ) (p : ℕ) → is_waiting (place_in (table_of es) name) ≡ true → fs ≡ set_value (λ k. is_eq (slice_cmp nat_cmp name k.items)) es (Some p)
-    → (q : List ℕ) → place_in (table_of fs) q ≡ (if bytes_eq q name then option_map (λ v. first_of v (Some p)) (place_in (table_of es) q) else place_in (table_of es) q)
-set-waiting es fs name p w e q =
-    ap (λ ts. place_in (table_of ts) q) e
-    ∙ ap (λ t. place_in t q) (table-set name es (Some p))
-    ∙ lookup-set_value nat_list_eq_equiv (bytes_eq name) (one-name name) q (Some p) (table_of es) (waiting-some (place_in (table_of es) name) w)
-    ∙ write-by (bytes_eq name q) (bytes_eq q name) (place_in (table_of es) q) (place_in (table_of es) name) p (nat_list_eq_equiv.symm name q) (λ t. ap (place_in (table_of es)) (same-names q name t)) w
-
--- ---- names without places
-insert-by : (o : Ordering) (a b c : List (Vec ℕ × Option ℕ)) → IsUnplaced (table_of a) → IsUnplaced (table_of b) → IsUnplaced (table_of c) → IsUnplaced (table_of (match_ordering o a b c))
-insert-by Less a b c x y z = x
-insert-by Equal a b c x y z = y
-insert-by Greater a b c x y z = z
-
-pub insert-unplaced : (cmp : Vec ℕ → Vec ℕ → Ordering) (es : List (Vec ℕ × Option ℕ)) (k : Vec ℕ) → IsUnplaced (table_of es) → IsUnplaced (table_of (insert_entry cmp es k None))
-insert-unplaced cmp [] k h = (refl, tt)
-insert-unplaced cmp (e ∷ es) k h = insert-by (cmp k e.0) ((k, None) ∷ e ∷ es) ((e.0, None) ∷ es) (e ∷ insert_entry cmp es k None) (refl, h) (refl, h.1) (h.0, insert-unplaced cmp es k h.1)
-
-found-by : (b : Bool) (w v : Option ℕ) (o : Option (Option ℕ)) → w ≡ None → (o ≡ Some v → v ≡ None) → cond b (Some w) o ≡ Some v → v ≡ None
-found-by true w v o n h e = let ev : v ≡ w = cc in ev ∙ n
-found-by false w v o n h e = h e
-
-unplaced-none : (table : Table) (q : List ℕ) (v : Option ℕ) → IsUnplaced table → place_in table q ≡ Some v → v ≡ None
-unplaced-none [] q v h e = absurd (cc)
-unplaced-none (x ∷ table) q v h e = found-by (bytes_eq q x.0) x.1 v (place_in table q) h.0 (unplaced-none table q v h.1) e
-
--- a table for the empty block
-pub table-empty : (table : Table) → IsUnplaced table → IsTable table []
-table-empty table h q v c e = unplaced-none table q v h e ∙ sym (place-in_none q)
+or-none : (v : Option ℕ) → option_or v None ≡ v
+or-none None = refl
+or-none (Some k) = refl
 
 -- ---- names
 name-byte : (b : ℕ) → is_name_byte b ≡ true → not (b == 0) ≡ true
@@ -189,7 +64,258 @@ pub place-below : (name s : List ℕ) → IfSome (lowest_place (ended name) s) (
 place-below name [] = rw (place-in_none name) tt
 place-below name (c ∷ s) = below-by (begins (ended name) (c ∷ s)) (lowest_place (ended name) s) c s (place-below name s)
 
--- what the table says of a name
-pub table-says : (es : List (Vec ℕ × Option ℕ)) (block inside name bytes : List ℕ) (v : Option ℕ) → IsTable (table_of es) inside → inside ≡ block → bytes ≡ name → is_name name ≡ true → Some v ≡ lookup (λ k. is_eq (slice_cmp nat_cmp bytes k.items)) es → v ≡ lowest_place (ended name) block
-table-says es block inside name bytes v t eb en n found =
-    t name v (name-clean name n) (ap (place_in (table_of es)) (sym en) ∙ sym (table-lookup bytes es) ∙ sym found) ∙ ap (lowest_place (ended name)) eb
+-- ---- a tail among the tails
+tail-by : (b : Bool) (start end k : ℕ) → (b ≡ true → start ≡ end - k) → (if b then Some start else None) ≡ (if b then Some (end - k) else None)
+tail-by true start end k h = ap Some (h refl)
+tail-by false start end k h = refl
+
+none-by : (b c : Bool) (start : ℕ) (o p : Option ℕ) → b ≡ c → o ≡ p → (if b then Some start else o) ≡ (if c then Some start else p)
+none-by b c start o p e h = ap (λ t. if t then Some start else o) e ∙ ap (λ (u : Option ℕ). if c then Some start else u) h
+
+tail-more : (y : ℕ) (q n : List ℕ) → length q ≤ length n → is_tail q (y ∷ n) ≡ is_tail q n
+tail-more y q n h =
+    let k : suc (length n) - length q ≡ suc (length n - length q) = omega arith in
+    ap (λ j. bytes_eq q (drop j (y ∷ n))) k
+
+tail-whole : (y : ℕ) (q n : List ℕ) → length n < length q → is_tail q (y ∷ n) ≡ bytes_eq q (y ∷ n)
+tail-whole y q n h =
+    let k : suc (length n) - length q ≡ 0 = omega arith in
+    ap (λ j. bytes_eq q (drop j (y ∷ n))) k
+
+tail-none : (q : List ℕ) → 0 < length q → is_tail q [] ≡ false
+tail-none q h = tail-short q [] h
+
+if-false : (b : Bool) (o p : Option ℕ) → b ≡ false → p ≡ (if b then o else p)
+if-false true o p h = absurd (cc)
+if-false false o p h = refl
+
+-- where a tail of a string that ends at `end` begins
+pub tail-place : (start end : ℕ) (q n : List ℕ) → 0 < length q → start + length n ≡ end → tail_at start q n ≡ (if is_tail q n then Some (end - length q) else None)
+tail-place start end q [] h e = if-false (is_tail q []) (Some (end - length q)) None (tail-none q h)
+tail-place start end q (y ∷ n) h e = elim (cases_lt (length n) (length q)) [
+  | inl short ↦
+      none-by (bytes_eq q (y ∷ n)) (is_tail q (y ∷ n)) start (tail_at (suc start) q n) None (sym (tail-whole y q n short))
+      (tail-place (suc start) end q n h (omega (arith, e)) ∙ sym (if-false (is_tail q n) (Some (end - length q)) None (tail-short q n short)))
+      ∙ tail-by (is_tail q (y ∷ n)) start end (length q) (λ t. omega (arith, e, short, tail-long q (y ∷ n) t))
+  | inr long ↦
+      let apart : bytes_eq q (y ∷ n) ≡ false = unequal nat_eq q (y ∷ n) (λ s. omega (arith, s, long)) in
+      sym (if-false (bytes_eq q (y ∷ n)) (Some start) (tail_at (suc start) q n) apart)
+      ∙ tail-place (suc start) end q n h (omega (arith, e))
+      ∙ ap (λ b. if b then Some (end - length q) else None) (sym (tail-more y q n long))
+]
+
+-- ---- the list
+-- a name behind which the list goes on
+pub is_tail-kept : (names more : List Listed) (d : Listed) (q : List ℕ) (o : Option ℕ) → IfSome o (λ p. p < length names) → is_tail_at (names ++ more) d q o ≡ is_tail_at names d q o
+is_tail-kept names more d q None h = refl
+is_tail-kept names more d q (Some p) h = ap (λ (e : Listed). is_tail q e.name.now) (get_or_append_left names more d p h)
+
+-- a list to whose end a name is put
+both-are : (P : Listed → Listed → Type 0) (x u y v : Listed) → x ≡ u → y ≡ v → P u v → P x y
+both-are P x u y v e f h = subst (λ z. P z y) (sym e) (subst (λ z. P u z) (sym f) h)
+
+module _ (names : List Listed) (e : Listed) (ok : IsListed names) (last : IsLast names e.name.now) where
+  abbrev more : List Listed
+  more = names ++ e ∷ []
+
+  old : (i : ℕ) (d : Listed) → i < length names → get_or more i d ≡ get_or names i d
+  old i d h = get_or_append_left names (e ∷ []) d i h
+
+  new : (i : ℕ) (d : Listed) → i ≡ length names → get_or more i d ≡ e
+  new i d h = get_or_push names e d i (sym h)
+
+  place : (i : ℕ) → i < length more → (i < length names) ⊎ (i ≡ length names)
+  place i h = elim (cases_lt i (length names)) [
+    | inl before ↦ inl before
+    | inr behind ↦ inr (omega (arith, h, behind, length_push names e))
+  ]
+
+  ascending : (i j : ℕ) (d : Listed) → i < j → j < length more → IsBefore (name_at more i d) (name_at more j d)
+  ascending i j d lt h = elim (place j h) [
+    | inl before ↦ both-are (λ x y. IsBefore x.name.now y.name.now) (get_or more i d) (get_or names i d) (get_or more j d) (get_or names j d) (old i d (omega (arith, lt, before))) (old j d before) (ok.ascending i j d lt before)
+    | inr behind ↦ both-are (λ x y. IsBefore x.name.now y.name.now) (get_or more i d) (get_or names i d) (get_or more j d) e (old i d (omega (arith, lt, behind))) (new j d behind) (last i d (omega (arith, lt, behind)))
+  ]
+
+  module _ (bound : IfSome e.tail (λ p. p < length names)) (link : (i : ℕ) (d : Listed) → i < length names → is_tail (name_at names i d) e.name.now ≡ is_tail_at names d (name_at names i d) e.tail) where
+    earlier : (i : ℕ) (d : Listed) → i < length more → IfSome (tail_of more i d) (λ p. p < i)
+    earlier i d h = elim (place i h) [
+      | inl before ↦ subst (λ (x : Listed). IfSome x.tail (λ p. p < i)) (sym (old i d before)) (ok.earlier i d before)
+      | inr behind ↦ subst (λ (x : Listed). IfSome x.tail (λ p. p < i)) (sym (new i d behind)) (subst (λ n. IfSome e.tail (λ p. p < n)) (sym behind) bound)
+    ]
+
+    -- the new name is no tail of those before it
+    none-later : (i : ℕ) (d : Listed) → i < length names → is_tail e.name.now (name_at names i d) ≡ is_tail_at names d e.name.now (tail_of names i d)
+    none-later i d h = by (tail_of names i d) (ok.earlier i d h)
+      where
+        by : (o : Option ℕ) → IfSome o (λ p. p < i) → is_tail e.name.now (name_at names i d) ≡ is_tail_at names d e.name.now o
+        by None b = tail-later e.name.now (name_at names i d) (last i d h)
+        by (Some p) b = tail-later e.name.now (name_at names i d) (last i d h) ∙ sym (tail-later e.name.now (name_at names p d) (last p d (omega (arith, b, h))))
+
+    inside : (i : ℕ) (d : Listed) → i < length names → IfSome (tail_of names i d) (λ p. p < length names)
+    inside i d h = by (tail_of names i d) (ok.earlier i d h)
+      where
+        by : (o : Option ℕ) → IfSome o (λ p. p < i) → IfSome o (λ p. p < length names)
+        by None b = tt
+        by (Some p) b = omega (arith, b, h)
+
+    linked-are : (i j : ℕ) (d u v : Listed) → get_or more i d ≡ u → get_or more j d ≡ v → IfSome u.tail (λ p. p < length names) → is_tail v.name.now u.name.now ≡ is_tail_at names d v.name.now u.tail
+        → is_tail (name_at more j d) (name_at more i d) ≡ is_tail_at more d (name_at more j d) (tail_of more i d)
+    linked-are i j d u v ei ej b h =
+        both-are (λ x y. is_tail y.name.now x.name.now ≡ is_tail_at more d y.name.now x.tail) (get_or more i d) u (get_or more j d) v ei ej
+        (h ∙ sym (is_tail-kept names (e ∷ []) d v.name.now u.tail b))
+
+    linked : (i j : ℕ) (d : Listed) → i < length more → j < length more → j ≢ i → is_tail (name_at more j d) (name_at more i d) ≡ is_tail_at more d (name_at more j d) (tail_of more i d)
+    linked i j d hi hj apart = elim (place i hi) [
+      | inl bi ↦ elim (place j hj) [
+        | inl bj ↦ linked-are i j d (get_or names i d) (get_or names j d) (old i d bi) (old j d bj) (inside i d bi) (ok.linked i j d bi bj apart)
+        | inr nj ↦ linked-are i j d (get_or names i d) e (old i d bi) (new j d nj) (inside i d bi) (none-later i d bi)
+      ]
+      | inr ni ↦ elim (place j hj) [
+        | inl bj ↦ linked-are i j d e (get_or names j d) (new i d ni) (old j d bj) bound (link j d bj)
+        | inr nj ↦ absurd (apart (nj ∙ sym ni))
+      ]
+    ]
+
+    pub listed-push : IsListed (names ++ e ∷ [])
+    listed-push = record { ascending = ascending; earlier = earlier; linked = linked }
+
+pub listed-none : IsListed []
+listed-none = record { ascending = λ i j d lt h. absurd (omega (arith, h)); earlier = λ i d h. absurd (omega (arith, h)); linked = λ i j d hi hj n. absurd (omega (arith, hi)) }
+
+-- ---- the longest tail
+pub get-at : (names : List Listed) (k : ℕ) (x : Listed) → slice_get names k ≡ Some x → (k < length names) × ((d : Listed) → get_or names k d ≡ x)
+get-at [] k x h = absurd (cc)
+get-at (y ∷ names) zero x h = (omega arith, λ d. cc)
+get-at (y ∷ names) (suc k) x h =
+    let rest = get-at names k x h in
+    (omega (arith, rest.0), rest.1)
+
+pub last-before : (names : List Listed) (name : List ℕ) (k : ℕ) (d : Listed) → IsListed names → k + 1 ≡ length names → IsBefore (name_at names k d) name → IsLast names name
+last-before names name k d ok n b i e h = elim (cases_eq i k) [
+  | inl same ↦ rw same (subst (λ (x : Listed). IsBefore x.name.now name) (get_or_default names k d e (omega (arith, n))) b)
+  | inr apart ↦ before-trans (name_at names i e) (name_at names k e) name (ok.ascending i k e (lt_of_le-ne (omega (arith, h, n)) apart) (omega (arith, n))) (subst (λ (x : Listed). IsBefore x.name.now name) (get_or_default names k d e (omega (arith, n))) b)
+]
+
+-- each listed tail of a name is a tail of this one
+abbrev pub HasTails : List Listed → List ℕ → Option ℕ → Type 0
+HasTails names name next = (i : ℕ) (d : Listed) → i < length names → is_tail (name_at names i d) name ≡ true → is_tail_at names d (name_at names i d) next ≡ true
+
+pub tails-start : (names : List Listed) (name : List ℕ) (k : ℕ) → IsListed names → IsLast names name → k + 1 ≡ length names → HasTails names name (Some k)
+tails-start names name k ok last n i d h t = elim (cases_eq i k) [
+  | inl same ↦ rw same (tail-itself (name_at names k d))
+  | inr apart ↦ tail-between (name_at names i d) (name_at names k d) name t (ok.ascending i k d (lt_of_le-ne (omega (arith, h, n)) apart) (omega (arith, n))) (last k d (omega (arith, n)))
+]
+
+pub tails-first : (names : List Listed) (name : List ℕ) (o : Option ℕ) → IsListed names → IsLast names name → SomeIff o (1 ≤ length names) (length names - 1) → IfSome o (λ at. at < length names) × HasTails names name o
+tails-first names name None ok last h = (tt, λ i d b t. absurd (omega (arith, h, b)))
+tails-first names name (Some k) ok last h = (omega (arith, h), tails-start names name k ok last (omega (arith, h)))
+
+pub tail-inside : (names : List Listed) (k : ℕ) (d : Listed) → IsListed names → k < length names → IfSome (tail_of names k d) (λ at. at < length names)
+tail-inside names k d ok b = by (tail_of names k d) (ok.earlier k d b)
+  where
+    by : (o : Option ℕ) → IfSome o (λ p. p < k) → IfSome o (λ p. p < length names)
+    by None h = tt
+    by (Some p) h = omega (arith, b, h)
+
+pub tails-next : (names : List Listed) (name : List ℕ) (k : ℕ) → IsListed names → k < length names → ((d : Listed) → is_tail (name_at names k d) name ≡ false) → HasTails names name (Some k) → (d : Listed) → HasTails names name (tail_of names k d)
+tails-next names name k ok b out has e i d h t = elim (cases_eq i k) [
+  | inl same ↦ absurd (true≢false (sym t ∙ rw same (out d)))
+  | inr apart ↦ subst (λ (x : Listed). is_tail_at names d (name_at names i d) x.tail ≡ true) (get_or_default names k d e b) (sym (ok.linked k i d b h apart) ∙ has i d h t)
+]
+
+pub tails-found : (names : List Listed) (name : List ℕ) (k : ℕ) → ((d : Listed) → is_tail (name_at names k d) name ≡ true) → HasTails names name (Some k)
+    → (i : ℕ) (d : Listed) → i < length names → is_tail (name_at names i d) name ≡ is_tail_at names d (name_at names i d) (Some k)
+tails-found names name k is has i d h =
+    same-bools (is_tail (name_at names i d) name) (is_tail (name_at names i d) (name_at names k d)) (has i d h) (λ t. tail-trans (name_at names i d) (name_at names k d) name t (is d))
+
+pub tails-none : (names : List Listed) (name : List ℕ) → HasTails names name None → (i : ℕ) (d : Listed) → i < length names → is_tail (name_at names i d) name ≡ is_tail_at names d (name_at names i d) None
+tails-none names name has i d h = same-bools (is_tail (name_at names i d) name) false (has i d h) (λ t. absurd (true≢false (sym t)))
+
+-- ---- the places
+abbrev pub Places : List Listed → List (Option ℕ) → List ℕ → ℕ → Option ℕ → Type 0
+Places names places block end next =
+    (i : ℕ) (d : Listed) (v : Option ℕ) → i < length names → is_clean (name_at names i d) ≡ true
+    → option_or (get_or places i v) (if is_tail_at names d (name_at names i d) next then Some (end - length (name_at names i d)) else None) ≡ lowest_place (ended (name_at names i d)) block
+
+-- before the first place is given
+pub places-first : (names : List Listed) (places : List (Option ℕ)) (block name : List ℕ) (end last : ℕ) → length block + length name ≡ end → IsClosed block → no_zero name ≡ true → ((d : Listed) → name_at names last d ≡ name) → IsTable names places block
+    → Places names places (block ++ ended name) end (Some last)
+places-first names places block name end last size closed free is table i d v b c =
+    let q = name_at names i d in
+    ap (λ u. option_or u (if is_tail q (name_at names last d) then Some (end - length q) else None)) (table.lowest i d v b c)
+    ∙ ap (λ n. option_or (lowest_place (ended q) block) (if is_tail q n then Some (end - length q) else None)) (is d)
+    ∙ ap (option_or (lowest_place (ended q) block)) (sym (tail-place (length block) end q name (clean-some q c) size))
+    ∙ sym (place-added q block name (clean-free q c) (clean-some q c) closed free)
+
+or-twice : (o p : Option ℕ) (e : ℕ) → option_or (option_or o (Some e)) p ≡ option_or o (Some e)
+or-twice None p e = refl
+or-twice (Some k) p e = refl
+
+if-true : (b : Bool) (o p : Option ℕ) → b ≡ true → (if b then o else p) ≡ o
+if-true true o p h = refl
+if-true false o p h = absurd (cc)
+
+-- one place given
+pub places-next : (names : List Listed) (places : List (Option ℕ)) (block : List ℕ) (end k n : ℕ) (w : Option ℕ) (e : Listed) → IsListed names → k < length names → length names ≤ length places → ((d : Listed) → length (name_at names k d) ≡ n)
+    → Places names places block end (Some k) → Places names (set places k (option_or (get_or places k w) (Some (end - n)))) block end (tail_of names k e)
+places-next names places block end k n w e ok b room size before i d v h c = elim (cases_eq i k) [
+  | inl same ↦ subst at (sym same) here h c
+  | inr apart ↦
+      let q = name_at names i d in
+      ap (λ u. option_or u (pending q (is_tail_at names d q (tail_of names k e)))) (get_or-set_other places k i x v apart)
+      ∙ ap (λ t. option_or (get_or places i v) (pending q t)) (ap (λ (y : Listed). is_tail_at names d q y.tail) (get_or_default names k e d b) ∙ sym (ok.linked k i d b h apart))
+      ∙ before i d v h c
+]
+  where
+    x : Option ℕ
+    x = option_or (get_or places k w) (Some (end - n))
+
+    pending : List ℕ → Bool → Option ℕ
+    pending q t = if t then Some (end - length q) else None
+
+    at : ℕ → Type 0
+    at i = i < length names → is_clean (name_at names i d) ≡ true → option_or (get_or (set places k x) i v) (pending (name_at names i d) (is_tail_at names d (name_at names i d) (tail_of names k e))) ≡ lowest_place (ended (name_at names i d)) block
+
+    here : at k
+    here h c =
+        let q = name_at names k d in
+        ap (λ u. option_or u (pending q (is_tail_at names d q (tail_of names k e)))) (get_or-set_same places k x v (omega (arith, b, room)))
+        ∙ or-twice (get_or places k w) (pending q (is_tail_at names d q (tail_of names k e))) (end - n)
+        ∙ ap (λ m. option_or (get_or places k w) (Some (end - m))) (sym (size d))
+        ∙ ap (option_or (get_or places k w)) (sym (if-true (is_tail q q) (Some (end - length q)) None (tail-itself q)))
+        ∙ before k d w h c
+
+-- behind the last place
+pub places-end : (names : List Listed) (places : List (Option ℕ)) (block : List ℕ) (end : ℕ) → length names ≤ length places → Places names places block end None → IsTable names places block
+places-end names places block end room h = record { room = room; lowest = λ i d v b c. sym (or-none (get_or places i v)) ∙ h i d v b c }
+
+-- the next tail is no longer
+pub tail-fits : (names : List Listed) (k end : ℕ) (e : Listed) → IsListed names → k < length names → ((d : Listed) → length (name_at names k d) ≤ end) → (d : Listed) → IfSome (tail_of names k e) (λ p. length (name_at names p d) ≤ end)
+tail-fits names k end e ok b fits d = subst (λ (y : Listed). IfSome y.tail (λ p. length (name_at names p d) ≤ end)) (get_or_default names k d e b) (by (tail_of names k d) refl (ok.earlier k d b))
+  where
+    by : (o : Option ℕ) → tail_of names k d ≡ o → IfSome o (λ p. p < k) → IfSome o (λ p. length (name_at names p d) ≤ end)
+    by None s h = tt
+    by (Some p) s h =
+        let t : is_tail (name_at names p d) (name_at names k d) ≡ true =
+        ok.linked k p d b (omega (arith, h, b)) (λ same. omega (arith, same, h)) ∙ ap (is_tail_at names d (name_at names p d)) s ∙ tail-itself (name_at names p d)
+        in omega (arith, tail-long (name_at names p d) (name_at names k d) t, fits d)
+
+-- a table for the empty block
+pub table-empty : (names : List Listed) (places : List (Option ℕ)) → length names ≤ length places → ((i : ℕ) (v : Option ℕ) → i < length names → get_or places i v ≡ None) → IsTable names places []
+table-empty names places room none = record { room = room; lowest = λ i d v b c. none i v b ∙ sym (place-in_none (name_at names i d)) }
+
+-- no names
+pub table-none : (places : List (Option ℕ)) (block : List ℕ) → IsTable [] places block
+table-none places block = record { room = omega arith; lowest = λ i d v b c. absurd (omega (arith, b)) }
+
+-- what the table says of a name that is listed, if it is
+pub table-says : (names seen : List Listed) (places lent : List (Option ℕ)) (block text bytes name : List ℕ) (listed v : Option ℕ) → IsTable names places block → seen ≡ names → lent ≡ places → text ≡ block → bytes ≡ name → is_name name ≡ true
+    → IfSome listed (λ at. at < length seen) → IfSome listed (λ at. (d : Listed) → name_at seen at d ≡ bytes) → IfSome listed (λ at. get_or lent at v ≡ lowest_place (ended bytes) text)
+table-says names seen places lent block text bytes name None v table es el et en n b is = tt
+table-says names seen places lent block text bytes name (Some at) v table es el et en n b is =
+    let blank : Listed = record { name = record { ref_ptr = (0, 0); now = [] }; tail = None } in
+    let e : name_at names at blank ≡ bytes = subst (λ ns. name_at ns at blank ≡ bytes) es (is blank) in
+    ap (λ ps. get_or ps at v) el
+    ∙ table.lowest at blank v (subst (λ (ns : List Listed). at < length ns) es b) (ap is_clean (e ∙ en) ∙ name-clean name n)
+    ∙ ap (λ q. lowest_place (ended q) block) e
+    ∙ ap (lowest_place (ended bytes)) (sym et)

@@ -1,11 +1,11 @@
 -- Where a name stands in a block to which another name was added.
 use Rattle.std.proofs.Common.{◌≡◌, ℕ, suc, ◌+◌, ◌<◌, Bool, true, false, List, [], ◌∷◌, ◌++◌, length, refl, sym, ap, ◌∙◌, arith}
 use Rattle.std.specs.Prelude.{Option, Some, None, ◌&&◌, not, ◌==◌, if◌then◌else◌}
-use Rattle.std.specs.Option.{option_map}
+use Rattle.std.specs.Option.{option_map, option_or}
 use Rattle.std.specs.Str.{bytes_eq}
-use Rattle.std.proofs.lemmas.Bool.{ne_eqb, eqb-false}
+use Rattle.std.proofs.lemmas.Bool.{ne_eqb, eqb-true, eqb-false}
 use Rattle.dt_blob.specs.Strings.{begins, lowest_place, ended}
-use Rattle.dt_blob.specs.Table.{no_zero, IsClosed, first_of}
+use Rattle.dt_blob.specs.Table.{no_zero, IsClosed}
 use Rattle.dt_blob.proofs.Places.{place-in_none}
 
 pub and-first : (a b : Bool) → (a && b) ≡ true → a ≡ true
@@ -15,6 +15,13 @@ and-first false b h = h
 pub and-second : (a b : Bool) → (a && b) ≡ true → b ≡ true
 and-second true b h = h
 and-second false b h = absurd (cc)
+
+pub same-names : (q name : List ℕ) → bytes_eq q name ≡ true → q ≡ name
+same-names [] [] t = refl
+same-names [] (y ∷ name) t = absurd (cc)
+same-names (x ∷ q) [] t = absurd (cc)
+same-names (x ∷ q) (y ∷ name) t =
+    ap (λ z. z ∷ q) (eqb-true x y (and-first (x == y) (bytes_eq q name) t)) ∙ ap (λ zs. y ∷ zs) (same-names q name (and-second (x == y) (bytes_eq q name) t))
 
 not-true : (a : Bool) → not a ≡ true → a ≡ false
 not-true true h = sym h
@@ -75,7 +82,7 @@ tail-place at (a ∷ t) (y ∷ n) h z k =
     step-by (begins (ended (a ∷ t)) (ended (y ∷ n))) (bytes_eq (a ∷ t) (y ∷ n)) (lowest_place (ended (a ∷ t)) (ended n)) (tail_at (suc at) (a ∷ t) n) at
     (begins-ended (a ∷ t) (y ∷ n) h k) (tail-place (suc at) (a ∷ t) n h z (rest-free y n k))
 
-more-by : (b c : Bool) (o p q : Option ℕ) (n : ℕ) → b ≡ c → o ≡ first_of p (option_map (λ k. n + k) q) → (if b then Some 0 else option_map suc o) ≡ first_of (if c then Some 0 else option_map suc p) (option_map (λ k. suc n + k) q)
+more-by : (b c : Bool) (o p q : Option ℕ) (n : ℕ) → b ≡ c → o ≡ option_or p (option_map (λ k. n + k) q) → (if b then Some 0 else option_map suc o) ≡ option_or (if c then Some 0 else option_map suc p) (option_map (λ k. suc n + k) q)
 more-by true true o p q n e h = refl
 more-by true false o p q n e h = absurd (cc)
 more-by false true o p q n e h = absurd (cc)
@@ -83,7 +90,7 @@ more-by false false o (Some k) q n e h = ap (option_map suc) h
 more-by false false o None None n e h = ap (option_map suc) h
 more-by false false o None (Some k) n e h = ap (option_map suc) h ∙ ap Some (omega arith)
 
-none-first : (o : Option ℕ) → o ≡ first_of None (option_map (λ k. 0 + k) o)
+none-first : (o : Option ℕ) → o ≡ option_or None (option_map (λ k. 0 + k) o)
 none-first None = refl
 none-first (Some k) = ap Some (omega arith)
 
@@ -92,15 +99,15 @@ closed-rest x [] c = tt
 closed-rest x (y ∷ s) c = c
 
 -- a place in a longer block
-place-behind : (t s u : List ℕ) → no_zero t ≡ true → IsClosed s → lowest_place (ended t) (s ++ u) ≡ first_of (lowest_place (ended t) s) (option_map (λ k. length s + k) (lowest_place (ended t) u))
-place-behind t [] u h c = none-first (lowest_place (ended t) u) ∙ ap (λ o. first_of o (option_map (λ k. 0 + k) (lowest_place (ended t) u))) (sym (place-in_none t))
+place-behind : (t s u : List ℕ) → no_zero t ≡ true → IsClosed s → lowest_place (ended t) (s ++ u) ≡ option_or (lowest_place (ended t) s) (option_map (λ k. length s + k) (lowest_place (ended t) u))
+place-behind t [] u h c = none-first (lowest_place (ended t) u) ∙ ap (λ o. option_or o (option_map (λ k. 0 + k) (lowest_place (ended t) u))) (sym (place-in_none t))
 place-behind t (x ∷ s) u h c =
     more-by (begins (ended t) (x ∷ (s ++ u))) (begins (ended t) (x ∷ s)) (lowest_place (ended t) (s ++ u)) (lowest_place (ended t) s) (lowest_place (ended t) u) (length s)
     (begins-closed t (x ∷ s) u h c (omega arith)) (place-behind t s u h (closed-rest x s c))
 
 -- a name's place once another is added
-pub place-added : (t s n : List ℕ) → no_zero t ≡ true → 0 < length t → IsClosed s → no_zero n ≡ true → lowest_place (ended t) (s ++ ended n) ≡ first_of (lowest_place (ended t) s) (tail_at (length s) t n)
-place-added t s n h z c k = place-behind t s (ended n) h c ∙ ap (first_of (lowest_place (ended t) s)) (tail-place (length s) t n h z k)
+pub place-added : (t s n : List ℕ) → no_zero t ≡ true → 0 < length t → IsClosed s → no_zero n ≡ true → lowest_place (ended t) (s ++ ended n) ≡ option_or (lowest_place (ended t) s) (tail_at (length s) t n)
+place-added t s n h z c k = place-behind t s (ended n) h c ∙ ap (option_or (lowest_place (ended t) s)) (tail-place (length s) t n h z k)
 
 pub closed-added : (s n : List ℕ) → IsClosed (s ++ ended n)
 closed-added [] [] = refl

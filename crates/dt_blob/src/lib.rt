@@ -4,6 +4,7 @@
 mod assembly;
 mod bytes;
 mod error;
+mod from_end;
 mod header;
 mod names;
 mod printing;

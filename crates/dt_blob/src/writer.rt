@@ -16,12 +16,12 @@ use std::marker::Model;
 
 /// The blob up to the structure block's end, and the strings so far.
 #[derive(Drop)]
-pub(crate) struct Writer {
+pub(crate) struct Writer<'a> {
     bytes: Vec<u8>,
-    strings: Strings,
+    strings: Strings<'a>,
 }
 
-impl Model for Writer {
+impl<'a> Model for Writer<'a> {
     ghost use Rattle.dt_blob.specs.Written.{Written};
 
     ghost Value = { Written };
@@ -50,10 +50,10 @@ fn put_value(bytes: &mut Vec<u8>, value: &[u8], offset: usize) -> Result<(), All
     put_padding(bytes, value.len())
 }
 
-impl Writer {
+impl<'a> Writer<'a> {
     /// Goes on behind what stands before the structure block.
-    pub(crate) fn new(bytes: Vec<u8>, strings: Strings) -> Self
-        ensures { result ≡ record { bytes = bytes.items; strings = strings } }
+    pub(crate) fn new(bytes: Vec<u8>, strings: Strings<'a>) -> Self
+        ensures { result ≡ record { bytes = bytes.items; strings = strings.entry } }
     {
         Self { bytes, strings }
     }
@@ -67,7 +67,7 @@ impl Writer {
     ) -> Result<Vec<u8>, AllocError>
         requires fits { size_of self ≤ limit }
         requires begun { 40 + reserved ≤ length self.bytes }
-        ensures { IfOk result (λ blob. blob.items ≡ header boot_cpu reserved (length self.bytes - (40 + reserved)) (length self.strings) ++ (drop 40 self.bytes ++ self.strings)) }
+        ensures { IfOk result (λ blob. blob.items ≡ header boot_cpu reserved (length self.entry.bytes - (40 + reserved)) (length self.entry.strings) ++ (drop 40 self.entry.bytes ++ self.entry.strings)) }
     {
         let Writer { mut bytes, strings } = self;
         let sizes = Sizes {
