@@ -60,3 +60,9 @@ pub record IsGap (s t : List ℕ) : Type 0 where
 abbrev pub SkipsGap : List ℕ → Option (List ℕ) → Type 0
 SkipsGap s None = (t : List ℕ) → IsGap s t → ⊥
 SkipsGap s (Some t) = IsGap s t
+
+-- The gap at the front breaks off at a comment that doesn't end.
+pub record BreaksOff (s t : List ℕ) : Type 0 where
+  pub gap : Gap s t
+  pub begins : begins_comment t ≡ true
+  pub endless : comment_end (drop 2 t) ≡ None

@@ -1,6 +1,6 @@
 //! Blanks, comments and line markers, which stand between lexemes.
-ghost use Rattle.std.specs.Prelude.{◌≡◌, ◌≤◌, length, IfSome, option_map, true, IfOk, MatchResult, Some};
-ghost use Rattle.dt_lexeme.specs.Gaps.{SkipsGap, IsGap, comment_end, line_end, ends_comment, begins_comment, begins_line, begins_blank};
+ghost use Rattle.std.specs.Prelude.{◌≡◌, ◌≤◌, length, IfSome, option_map, true, IfErr, IfOk, MatchResult, Some};
+ghost use Rattle.dt_lexeme.specs.Gaps.{SkipsGap, BreaksOff, IsGap, comment_end, line_end, ends_comment, begins_comment, begins_line, begins_blank};
 
 use crate::bytes::from;
 
@@ -76,6 +76,7 @@ fn line_end(s: &[u8]) -> &[u8]
 /// What follows the gap, or what stands from the comment on that doesn't end.
 pub fn skip_gap<'a>(s: &'a [u8]) -> Result<&'a [u8], &'a [u8]>
     ensures gap { MatchResult result (λ t. SkipsGap s.now (Some t.now)) (λ t. SkipsGap s.now None) }
+    ensures unclosed { IfErr result (λ t. BreaksOff s.now t.now) }
     ensures shorter { MatchResult result (λ t. length t.now ≤ length s.now) (λ t. length t.now ≤ length s.now) }
 {
     let mut left = s;
