@@ -77,7 +77,7 @@ fn operate(operator: Lexeme, x: u64, y: u64) -> Result<u64, Fault>
 }
 
 /// An operator between two operands; both are computed before, and the left one's fault comes first.
-pub fn both(
+pub(crate) fn both(
     operator: Lexeme,
     left: Result<u64, Fault>,
     right: Result<u64, Fault>,
@@ -103,7 +103,7 @@ fn prefix_operate(kind: Kind, x: u64) -> u64
 }
 
 /// An operator before its one operand.
-pub fn prefixed(operator: Lexeme, operand: Result<u64, Fault>) -> Result<u64, Fault>
+pub(crate) fn prefixed(operator: Lexeme, operand: Result<u64, Fault>) -> Result<u64, Fault>
     ensures { result ≡ prefixed operator operand }
 {
     match operand {
@@ -113,7 +113,7 @@ pub fn prefixed(operator: Lexeme, operand: Result<u64, Fault>) -> Result<u64, Fa
 }
 
 /// The second operand where the first isn't 0, else the third; all three are computed before.
-pub fn choice(
+pub(crate) fn choice(
     test: Result<u64, Fault>,
     yes: Result<u64, Fault>,
     no: Result<u64, Fault>,

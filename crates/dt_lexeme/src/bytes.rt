@@ -17,19 +17,19 @@ pub enum Class {
     Ell,
 }
 
-pub fn is_letter(c: u8) -> bool
+pub(crate) fn is_letter(c: u8) -> bool
     ensures { result ≡ is_letter c }
 {
     c >= b'A' && c <= b'Z' || c >= b'a' && c <= b'z' || c == b'_'
 }
 
-pub fn is_word(c: u8) -> bool
+pub(crate) fn is_word(c: u8) -> bool
     ensures { result ≡ is_word c }
 {
     is_letter(c) || c >= b'0' && c <= b'9'
 }
 
-pub fn is_name(c: u8) -> bool
+pub(crate) fn is_name(c: u8) -> bool
     ensures { result ≡ is_name c }
 {
     is_word(c)
@@ -43,7 +43,7 @@ pub fn is_name(c: u8) -> bool
         || c == b'-'
 }
 
-pub fn is_hex(c: u8) -> bool
+pub(crate) fn is_hex(c: u8) -> bool
     ensures { result ≡ is_hex c }
 {
     c >= b'0' && c <= b'9' || c >= b'A' && c <= b'F' || c >= b'a' && c <= b'f'
@@ -62,7 +62,7 @@ fn passes(class: Class, c: u8) -> bool
 }
 
 /// How many bytes of this class stand at the front.
-pub fn run_len(class: Class, s: &[u8]) -> usize
+pub(crate) fn run_len(class: Class, s: &[u8]) -> usize
     ensures { Front (list_all (passes class)) s.now (Some result) }
 {
     for (i, c) in s.iter().enumerate() {
@@ -74,7 +74,7 @@ pub fn run_len(class: Class, s: &[u8]) -> usize
 }
 
 /// Whether this byte stands at the front.
-pub fn begins(s: &[u8], c: u8) -> bool
+pub(crate) fn begins(s: &[u8], c: u8) -> bool
     ensures value { result ≡ begins c s.now }
     ensures long { result ≡ true → 1 ≤ length s.now }
 {
@@ -85,7 +85,7 @@ pub fn begins(s: &[u8], c: u8) -> bool
 }
 
 /// Whether a letter stands at the front.
-pub fn begins_letter(s: &[u8]) -> bool
+pub(crate) fn begins_letter(s: &[u8]) -> bool
     ensures value { result ≡ begins_letter s.now }
     ensures long { result ≡ true → 1 ≤ length s.now }
 {
@@ -96,7 +96,7 @@ pub fn begins_letter(s: &[u8]) -> bool
 }
 
 /// Whether a digit of hex stands at the front.
-pub fn begins_hex(s: &[u8]) -> bool
+pub(crate) fn begins_hex(s: &[u8]) -> bool
     ensures value { result ≡ begins_hex s.now }
     ensures long { result ≡ true → 1 ≤ length s.now }
 {
@@ -107,7 +107,7 @@ pub fn begins_hex(s: &[u8]) -> bool
 }
 
 /// Whether `x` or `X` stands at the front.
-pub fn begins_x(s: &[u8]) -> bool
+pub(crate) fn begins_x(s: &[u8]) -> bool
     ensures value { result ≡ begins_x s.now }
     ensures long { result ≡ true → 1 ≤ length s.now }
 {
@@ -118,7 +118,7 @@ pub fn begins_x(s: &[u8]) -> bool
 }
 
 /// What stands behind the first `n` bytes.
-pub fn from(s: &[u8], n: usize) -> &[u8]
+pub(crate) fn from(s: &[u8], n: usize) -> &[u8]
     requires { n ≤ length s.now }
     ensures { result.now ≡ drop n s.now }
 {
@@ -126,7 +126,7 @@ pub fn from(s: &[u8], n: usize) -> &[u8]
 }
 
 /// The first `n` bytes, or all where there are fewer.
-pub fn front(s: &[u8], n: usize) -> &[u8]
+pub(crate) fn front(s: &[u8], n: usize) -> &[u8]
     ensures { result.now ≡ take n s.now }
 {
     if n < s.len() { &s[..n] } else { s }

@@ -136,7 +136,7 @@ fn first_in(mode: Mode, inside: bool, c: u8) -> First
 
 /// What may begin with this byte at this place.
 #[tactic(auto, unfolding(crate::specs::Families::first_at))]
-pub fn first_at(place: Place, c: u8) -> First
+pub(crate) fn first_at(place: Place, c: u8) -> First
     ensures { result ≡ first_at place c }
 {
     if c == b'"' {
@@ -271,7 +271,7 @@ fn zero(s: &[u8]) -> usize
 }
 
 /// The longest lexeme of a family, behind its first byte.
-pub fn family(first: First, s: &[u8]) -> Option<(Kind, usize)>
+pub(crate) fn family(first: First, s: &[u8]) -> Option<(Kind, usize)>
     ensures { Longest (kind_by first) s.now result }
 {
     match first {

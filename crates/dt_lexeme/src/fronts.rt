@@ -17,7 +17,7 @@ fn escapes(escaped: bool, c: u8) -> bool
 }
 
 /// How long the string is, with its last quote, behind its first quote.
-pub fn string_len(s: &[u8]) -> Option<usize>
+pub(crate) fn string_len(s: &[u8]) -> Option<usize>
     ensures { Front (closes false) s.now result }
 {
     let mut escaped = false;
@@ -45,28 +45,28 @@ fn label_end(s: &[u8]) -> Option<usize>
 }
 
 /// How long the label is, with its colon, behind its first letter.
-pub fn label_len(s: &[u8]) -> Option<usize>
+pub(crate) fn label_len(s: &[u8]) -> Option<usize>
     ensures { Front labels s.now result }
 {
     label_end(front(s, 255))
 }
 
 /// How long the name is behind its first character.
-pub fn name_len(s: &[u8]) -> usize
+pub(crate) fn name_len(s: &[u8]) -> usize
     ensures { Front names s.now (Some result) }
 {
     run_len(Class::Name, front(s, 254))
 }
 
 /// How long the label of a reference is behind its first letter.
-pub fn words_len(s: &[u8]) -> usize
+pub(crate) fn words_len(s: &[u8]) -> usize
     ensures { Front words s.now (Some result) }
 {
     run_len(Class::Word, front(s, 254))
 }
 
 /// How far the next slash is, with it.
-pub fn word_end(s: &[u8]) -> Option<usize>
+pub(crate) fn word_end(s: &[u8]) -> Option<usize>
     ensures { Front ends_word s.now result }
 {
     for (i, c) in s.iter().enumerate() {
@@ -107,7 +107,7 @@ fn path_end(s: &[u8]) -> Option<usize>
 }
 
 /// How long the path of a reference is, with its last brace, behind its first brace.
-pub fn path_len(s: &[u8]) -> Option<usize>
+pub(crate) fn path_len(s: &[u8]) -> Option<usize>
     ensures { Front paths s.now result }
 {
     if !begins(s, b'/') {
@@ -139,7 +139,7 @@ fn suffix_len(s: &[u8]) -> usize
 }
 
 /// How many digits of a class stand at the front, with the literal's suffix.
-pub fn number_len(class: Class, s: &[u8]) -> usize
+pub(crate) fn number_len(class: Class, s: &[u8]) -> usize
     ensures { Front (numbers class) s.now (Some result) }
 {
     let digits = run_len(class, s);
@@ -147,7 +147,7 @@ pub fn number_len(class: Class, s: &[u8]) -> usize
 }
 
 /// How long the literal of hex digits is behind its leading `0`.
-pub fn hex_len(s: &[u8]) -> Option<usize>
+pub(crate) fn hex_len(s: &[u8]) -> Option<usize>
     ensures { Front hexed s.now result }
 {
     if !begins_x(s) {

@@ -74,7 +74,7 @@ fn line_end(s: &[u8]) -> &[u8]
 }
 
 /// What follows the gap, or what stands from the comment on that doesn't end.
-pub fn skip_gap<'a>(s: &'a [u8]) -> Result<&'a [u8], &'a [u8]>
+pub(crate) fn skip_gap<'a>(s: &'a [u8]) -> Result<&'a [u8], &'a [u8]>
     ensures gap { MatchResult result (λ t. SkipsGap s.now (Some t.now)) (λ t. SkipsGap s.now None) }
     ensures unclosed { IfErr result (λ t. BreaksOff s.now t.now) }
     ensures shorter { MatchResult result (λ t. length t.now ≤ length s.now) (λ t. length t.now ≤ length s.now) }

@@ -22,7 +22,7 @@ pub struct Place {
 
 impl Place {
     /// The place where a text begins.
-    pub fn start() -> Place
+    pub(crate) fn start() -> Place
         ensures { result ≡ start }
     {
         Place {
@@ -34,7 +34,7 @@ impl Place {
 
     /// The place behind a lexeme.
     #[tactic(auto, unfolding(crate::specs::Places::step))]
-    pub fn step(self, kind: Kind) -> Place
+    pub(crate) fn step(self, kind: Kind) -> Place
         requires braces { self.braces < 18446744073709551615 }
         requires parens { self.parens < 18446744073709551615 }
         ensures { result ≡ step self kind }

@@ -191,7 +191,7 @@ fn body_deeper<'a, 'text>(
 /// Reads a body behind its brace: its statements, its first fault, and the lexemes behind it. Bodies in it may be
 /// nested so deep.
 #[cycle(body)]
-pub fn body<'a, 'text>(
+pub(crate) fn body<'a, 'text>(
     alloc: Global,
     text: &'text [u8],
     depth: u8,

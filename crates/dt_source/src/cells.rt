@@ -60,7 +60,7 @@ fn reference_fault(width: Width, l: Lexeme) -> Option<Fault>
 }
 
 /// The fault of a value, where it has one.
-pub fn fault_in(value: Result<u64, Fault>) -> Option<Fault>
+pub(crate) fn fault_in(value: Result<u64, Fault>) -> Option<Fault>
     ensures { result ≡ fault_in value }
 {
     match value {
@@ -123,7 +123,7 @@ fn push_cell<'text>(
 }
 
 /// Reads cells of this width up to their end, behind their `<`.
-pub fn cells<'a, 'text>(
+pub(crate) fn cells<'a, 'text>(
     alloc: Global,
     parts: &mut Parts<'text>,
     text: &'text [u8],
@@ -178,7 +178,7 @@ fn push_byte(bytes: &mut Vec<u8>, byte: Option<u8>) -> Result<(), AllocError>
 }
 
 /// Reads a byte string up to its end, behind its `[`.
-pub fn pairs<'a>(
+pub(crate) fn pairs<'a>(
     alloc: Global,
     text: &[u8],
     ts: &'a [Lexeme],

@@ -18,7 +18,7 @@ pub struct Parts<'a> {
 }
 
 impl<'a> Parts<'a> {
-    pub fn new(alloc: Global) -> Parts<'a>
+    pub(crate) fn new(alloc: Global) -> Parts<'a>
         ensures { built result ≡ record { closed = []; bytes = [] } }
     {
         Parts {
@@ -27,13 +27,13 @@ impl<'a> Parts<'a> {
         }
     }
 
-    pub fn push_bytes(&mut self, bytes: &[u8]) -> Result<(), AllocError>
+    pub(crate) fn push_bytes(&mut self, bytes: &[u8]) -> Result<(), AllocError>
         ensures { OnOk result (built self.new ≡ put (built self.old) (Plain bytes.now)) }
     {
         self.bytes.extend_from_slice(bytes)
     }
 
-    pub fn push_number(&mut self, width: Width, number: u64) -> Result<(), AllocError>
+    pub(crate) fn push_number(&mut self, width: Width, number: u64) -> Result<(), AllocError>
         ensures { OnOk result (built self.new ≡ put (built self.old) (Plain (low_bytes (bytes_in width) number))) }
     {
         push_low_bytes(&mut self.bytes, width, number)
@@ -51,14 +51,14 @@ impl<'a> Parts<'a> {
     }
 
     /// Puts a part that isn't bytes behind the others.
-    pub fn push_part(&mut self, alloc: Global, part: Part<'a>) -> Result<(), AllocError>
+    pub(crate) fn push_part(&mut self, alloc: Global, part: Part<'a>) -> Result<(), AllocError>
         ensures { OnOk result (built self.new ≡ record { closed = flushed (built self.old) ++ part_view part.entry ∷ []; bytes = [] }) }
     {
         self.close(alloc)?;
         push_sparingly(&mut self.closed, part)
     }
 
-    pub fn finish(mut self, alloc: Global) -> Result<Vec<Part<'a>>, AllocError>
+    pub(crate) fn finish(mut self, alloc: Global) -> Result<Vec<Part<'a>>, AllocError>
         ensures { IfOk result (λ v. map part_view v.items ≡ flushed (built self.entry)) }
     {
         self.close(alloc)?;

@@ -25,7 +25,7 @@ fn is_label(kind: Kind) -> bool
 }
 
 /// The labels at the front, and what follows them.
-pub fn labels(ts: &[Lexeme]) -> (&[Lexeme], &[Lexeme])
+pub(crate) fn labels(ts: &[Lexeme]) -> (&[Lexeme], &[Lexeme])
     ensures gives { (result.0.now, result.1.now) ≡ labels_at ts.now }
     ensures shorter { length result.1.now ≤ length ts.now }
 {
@@ -220,7 +220,7 @@ fn pieces<'a, 'text>(
 }
 
 /// Reads a value behind its `=`: its parts, its first fault, and the lexemes behind it.
-pub fn value<'a, 'text>(
+pub(crate) fn value<'a, 'text>(
     alloc: Global,
     text: &'text [u8],
     ts: &'a [Lexeme],

@@ -408,7 +408,7 @@ fn items<'text>(
 
 /// Reads the source that all the lexemes spell, and its first fault.
 #[tactic(auto, unfolding(crate::specs::Whole::source_at))]
-pub fn source<'text>(
+pub(crate) fn source<'text>(
     alloc: Global,
     text: &'text [u8],
     ts: &[Lexeme],

@@ -12,7 +12,7 @@ use dt_lexeme::{Fault, FaultKind, Kind, Lexeme};
 use std::alloc::{AllocError, Global};
 
 /// What stands between two places of the text.
-pub fn bytes_between(text: &[u8], start: usize, end: usize) -> &[u8]
+pub(crate) fn bytes_between(text: &[u8], start: usize, end: usize) -> &[u8]
     ensures { result.now ≡ slice_range text.now start end }
 {
     let end = end.min(text.len());
@@ -28,7 +28,7 @@ fn from(s: &[u8], n: usize) -> &[u8]
 }
 
 /// The first of two faults.
-pub fn earlier(a: Option<Fault>, b: Option<Fault>) -> Option<Fault>
+pub(crate) fn earlier(a: Option<Fault>, b: Option<Fault>) -> Option<Fault>
     ensures { result ≡ earlier a b }
 {
     match a {
@@ -183,7 +183,7 @@ fn push_char(bytes: &mut Vec<u8>, said: Option<Result<u8, Fault>>) -> Result<(),
 }
 
 /// The bytes of a string with a zero byte, and its first fault.
-pub fn string_of(
+pub(crate) fn string_of(
     alloc: Global,
     text: &[u8],
     lexeme: Lexeme,
@@ -210,7 +210,7 @@ pub fn string_of(
 
 /// The byte of two hex digits.
 #[tactic(auto, unfolding(crate::specs::Strings::pair_byte))]
-pub fn pair(text: &[u8], l: Lexeme) -> u8
+pub(crate) fn pair(text: &[u8], l: Lexeme) -> u8
     ensures { result ≡ pair_byte text.now l }
 {
     match bytes_of(text, l) {
@@ -220,7 +220,7 @@ pub fn pair(text: &[u8], l: Lexeme) -> u8
 }
 
 /// What a reference names.
-pub fn target(text: &[u8], l: Lexeme) -> Reference<'_>
+pub(crate) fn target(text: &[u8], l: Lexeme) -> Reference<'_>
     ensures { target_view result ≡ target_of text.now l }
 {
     match l.kind {
