@@ -13,6 +13,7 @@ pub fn bytes_of<'a>(text: &'a [u8], lexeme: Lexeme) -> &'a [u8]
     &text[start..end]
 }
 
+/// The number of a digit, which is below 16, or 16 where the byte is no digit in any base.
 pub fn digit_of(c: u8) -> u8
     ensures { result ≡ digit_of c }
 {

@@ -7,7 +7,7 @@ use crate::string::bytes_between;
 use dt_lexeme::Lexeme;
 use std::alloc::{AllocError, Global};
 
-/// Labels in the order of the text, without their colons. They take one word, since most nodes have none and a text
+/// Labels in the order of the text, without their colons. They take two words, since most nodes have none and a text
 /// can have 8 million statements.
 #[derive(Debug, Drop)]
 pub struct Labels<'a> {
