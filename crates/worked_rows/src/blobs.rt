@@ -1,0 +1,1 @@
+//! Blobs: written, read, changed; canonical sources.

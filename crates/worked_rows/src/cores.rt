@@ -1,0 +1,1 @@
+//! Events of the probing core, and schedules.

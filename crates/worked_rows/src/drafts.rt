@@ -1,0 +1,1 @@
+//! Edits of a tree that is being built.

@@ -1,0 +1,1 @@
+//! Driver files, and the plan of a tree.

@@ -1,0 +1,1 @@
+//! From bytes to bytes: what each command prints.
