@@ -51,6 +51,13 @@ impl Tree {
         })
     }
 
+    /// What the tree is made of: its reserved memory, the processor that boots, the root. Takes no memory.
+    pub fn into_parts(self) -> (Vec<(u64, u64)>, u32, Node)
+        ensures { tree_data result.0.items result.1 result.2 ≡ self }
+    {
+        (self.reserves, self.boot_cpu, self.root)
+    }
+
     /// The reserved memory: addresses and sizes in bytes, in order.
     pub fn reserves(&self) -> &[(u64, u64)]
         ensures { result.now ≡ self.now.reserves }
