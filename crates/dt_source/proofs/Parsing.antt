@@ -10,10 +10,11 @@ use Rattle.dt_lexeme.specs.declared.lexeme.FaultKind.{FaultKind}
 use Rattle.dt_lexeme.specs.declared.lexeme.FaultKind.TheVariants.{ElementRange, DivideByZero, BadBits, LiteralRange, BadEscape}
 use Rattle.dt_source.specs.declared.error.SourceErrorKind.{SourceErrorKind}
 use Rattle.dt_source.specs.declared.error.SourceErrorKind.TheVariants as kinds
-use Rattle.dt_source.specs.declared.tree.Source.{Source}
+use Rattle.dt_source.specs.declared.tree.Outline.{Outline}
 use Rattle.dt_lexeme.specs.Lexemes.{Lexemes}
 use Rattle.dt_source.specs.Sequences.{Reads}
-use Rattle.dt_source.specs.Tree.{Meaning, meaning}
+use Rattle.dt_source.specs.Tree.{Meaning}
+use Rattle.dt_source.specs.Meaning.{outlined}
 use Rattle.dt_source.specs.Bodies.{first_of}
 use Rattle.dt_source.specs.Source.{SourceTree, Spells, said, faults_of}
 use Rattle.dt_source.specs.Whole.{source_at}
@@ -52,11 +53,11 @@ found takes order text ls m f h e =
     (s.0, (ls, h, s.1), s.2, (s.3, subst (λ (o : Option Fault). IsFirstInText o (faults_of text s.0)) s.3 (order text ls s.0 h s.1)))
 
 -- what reading the lexemes gave
-pub is_found : SourcesAreSpelled → FaultsAreInOrder → (text : List ℕ) (ts ls : List Lexeme) (r : Result (Source × Option Fault) ReadError) → Lexemes text ls → ts ≡ ls → Reads (λ x. (meaning x.0, x.1)) r (source_at text ts) → IfOk r (λ x. IsRead text (meaning x.0) x.1)
-is_found takes order text ts ls (Ok x) h t e = found takes order text ls (meaning x.0) x.1 h (ap (source_at text) (sym t) ∙ e)
+pub is_found : SourcesAreSpelled → FaultsAreInOrder → (text : List ℕ) (ts ls : List Lexeme) (r : Result (Outline × Option Fault) ReadError) → Lexemes text ls → ts ≡ ls → Reads (λ x. (outlined x.0, x.1)) r (source_at text ts) → IfOk r (λ x. IsRead text (outlined x.0) x.1)
+is_found takes order text ts ls (Ok x) h t e = found takes order text ls (outlined x.0) x.1 h (ap (source_at text) (sym t) ∙ e)
 is_found takes order text ts ls (Err x) h t e = tt
 
-pub is_refused : SourcesAreRead → (text : List ℕ) (ts ls : List Lexeme) (r : Result (Source × Option Fault) ReadError) → Lexemes text ls → ts ≡ ls → Reads (λ x. (meaning x.0, x.1)) r (source_at text ts) → IfErr r (λ x. IfRefused x (IsNoSource text))
+pub is_refused : SourcesAreRead → (text : List ℕ) (ts ls : List Lexeme) (r : Result (Outline × Option Fault) ReadError) → Lexemes text ls → ts ≡ ls → Reads (λ x. (outlined x.0, x.1)) r (source_at text ts) → IfErr r (λ x. IfRefused x (IsNoSource text))
 is_refused again text ts ls (Ok x) h t e = tt
 is_refused again text ts ls (Err errors.NoMemory) h t e = tt
 is_refused again text ts ls (Err (errors.Refused r)) h t e = refused again text ls r h (ap (source_at text) (sym t) ∙ e)

@@ -4,19 +4,19 @@ ghost use Rattle.dt_source.specs.declared.error.SourceErrorKind.{SourceErrorKind
 ghost use Rattle.dt_source.specs.declared.error.SourceErrorKind.TheVariants.{NoMemory};
 ghost use Rattle.dt_lexeme.specs.declared.lexeme.Fault.{Fault};
 ghost use Rattle.dt_source.specs.SourceError.{kind_of_fault};
-ghost use Rattle.dt_source.specs.Tree.{Meaning, meaning};
+ghost use Rattle.dt_source.specs.Tree.{Meaning};
+ghost use Rattle.dt_source.specs.Meaning.{meaning, outlined};
 ghost use Rattle.dt_source.specs.Source.{SourceTree};
-ghost use Rattle.dt_source.specs.Lawful.{IsLawful};
 ghost use Rattle.dt_source.specs.Parse.{IsShort, IsSource, IsNoSource, Says, HasFirstFault, Refuses, IsRead, IfRefused};
 
 use crate::error::{SourceError, SourceErrorKind, kind_of_fault, kind_of_refusal};
 use crate::source::source;
-use crate::tree::Source;
+use crate::tree::{Outline, Source};
 use dt_lexeme::{Fault, ReadError, Refusal, RefusalKind, line_of, scan_front};
 use std::alloc::Global;
 
 // The refusal of a text that has no lexeme at this place: what is refused before it, or else that place.
-fn refused_at(place: u32, read: Result<(Source<'_>, Option<Fault>), ReadError>) -> ReadError {
+fn refused_at(place: u32, read: Result<(Outline<'_>, Option<Fault>), ReadError>) -> ReadError {
     match read {
         Err(ReadError::NoMemory) => ReadError::NoMemory,
         Err(ReadError::Refused(refusal)) if refusal.place < place => ReadError::Refused(refusal),
@@ -28,9 +28,9 @@ fn refused_at(place: u32, read: Result<(Source<'_>, Option<Fault>), ReadError>) 
 }
 
 // What the text's source says, and the first of its faults.
-fn read<'a>(alloc: Global, text: &'a [u8]) -> Result<(Source<'a>, Option<Fault>), ReadError>
+fn read<'a>(alloc: Global, text: &'a [u8]) -> Result<(Outline<'a>, Option<Fault>), ReadError>
     requires { IsShort text.now }
-    ensures found { IfOk result (λ x. IsRead text.now (meaning x.0) x.1) }
+    ensures found { IfOk result (λ x. IsRead text.now (outlined x.0) x.1) }
     ensures refused { IfErr result (λ e. IfRefused e (IsNoSource text.now)) }
 {
     let (lexemes, stop) = scan_front(alloc, text)?;
@@ -73,8 +73,6 @@ fn fault_error(text: &[u8], fault: Fault) -> SourceError
 pub fn parse<'a>(alloc: Global, text: &'a [u8]) -> Result<Source<'a>, SourceError>
     // What is answered is what the text says.
     ensures found { IfOk result (λ s. IsShort text.now × Says text.now (meaning s)) }
-    // Names and paths in it are those of trees, and labels are labels.
-    ensures lawful { IfOk result (λ s. IsLawful (meaning s)) }
     // Each refusal comes only where it should.
     ensures refused { IfErr result (λ e. Refuses text.now e.kind) }
 {
@@ -87,7 +85,20 @@ pub fn parse<'a>(alloc: Global, text: &'a [u8]) -> Result<Source<'a>, SourceErro
     match read(alloc, text) {
         Err(refusal) => Err(error_of(text, refusal)),
         Ok((_, Some(fault))) => Err(fault_error(text, fault)),
-        Ok((source, None)) => Ok(source),
+        Ok(
+            (
+                Outline {
+                    plugin,
+                    reserves,
+                    items,
+                },
+                None,
+            ),
+        ) => Ok(Source {
+            plugin,
+            reserves,
+            items,
+        }),
     }
 }
 
