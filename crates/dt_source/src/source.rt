@@ -2,7 +2,8 @@
 ghost use Rattle.std.specs.Prelude.{◌≡◌, ◌≤◌, ◌<◌, ◌++◌, ◌∷◌, None, Some, map, length, IfOk, OnOk, IfSome, option_map};
 ghost use Rattle.dt_expression.specs.Reading.{Gives};
 ghost use Rattle.dt_source.specs.Sequences.{Reads};
-ghost use Rattle.dt_source.specs.Tree.{Deletes, body_of, view, views, item_view, meaning};
+ghost use Rattle.dt_source.specs.Tree.{Deletes, body_of, view, views, item_view};
+ghost use Rattle.dt_source.specs.Meaning.{outlined};
 ghost use Rattle.dt_source.specs.Pieces.{target_of};
 ghost use Rattle.dt_source.specs.Bodies.{ended_by};
 ghost use Rattle.dt_source.specs.Source.{both_numbers};
@@ -13,7 +14,7 @@ use crate::cells::fault_in;
 use crate::labels::labels_of;
 use crate::pieces::labels;
 use crate::string::{earlier, target};
-use crate::tree::{Item, Source, Statement};
+use crate::tree::{Item, Outline, Statement};
 use dt_expression::{primary, syntax_at};
 use dt_lexeme::{Fault, Kind, Lexeme, ReadError, Refusal};
 use std::alloc::{AllocError, Global};
@@ -412,15 +413,15 @@ pub(crate) fn source<'text>(
     alloc: Global,
     text: &'text [u8],
     ts: &[Lexeme],
-) -> Result<(Source<'text>, Option<Fault>), ReadError>
-    ensures { Reads (λ x. (meaning x.0, x.1)) result (source_at text.now ts.now) }
+) -> Result<(Outline<'text>, Option<Fault>), ReadError>
+    ensures { Reads (λ x. (outlined x.0, x.1)) result (source_at text.now ts.now) }
 {
     let (plugin, rest) = headers(ts)?;
     let plugin = some_header(plugin, ts)?;
     let (reserves, first, rest) = reserves(alloc, text, rest)?;
     let (items, fault) = items(alloc, text, rest)?;
     Ok((
-        Source {
+        Outline {
             plugin,
             reserves,
             items,
