@@ -5,8 +5,8 @@ ghost use Rattle.dt_blob.specs.declared.error.BlobError.TheVariants as BlobError
 ghost use Rattle.dt_blob.specs.HeaderWords.{header_fault};
 ghost use Rattle.dt_blob.specs.Holds.{Holds};
 ghost use Rattle.dt_blob.specs.SourceText.{text_of};
-ghost use Rattle.dtman.specs.Dump.{IsDump, CannotPrint};
-ghost use Rattle.dtman.specs.Fault.{shown, blob_fault};
+ghost use Rattle.engine.specs.Dump.{IsDump, CannotPrint};
+ghost use Rattle.engine.specs.Fault.{shown, blob_fault};
 
 use crate::fault::Fault;
 use dt_blob::{read, source_text};

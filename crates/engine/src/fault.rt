@@ -1,6 +1,6 @@
 //! A refusal as the program prints it.
 ghost use Rattle.std.specs.Prelude.{◌≡◌};
-ghost use Rattle.dtman.specs.Fault.{shown, no_memory, text_fault, event_fault, blob_fault};
+ghost use Rattle.engine.specs.Fault.{shown, no_memory, text_fault, event_fault, blob_fault};
 
 use bus_core::Refusal;
 use bus_plan::PlanError;
@@ -79,7 +79,7 @@ impl Fault {
 
 impl fmt::Display for Fault {
     ghost use Rattle.std.specs.Prelude.{Some};
-    ghost use Rattle.dtman.specs.Fault.{fault_line};
+    ghost use Rattle.engine.specs.Fault.{fault_line};
 
     ghost output = { λ fault. Some (fault_line fault) };
 

@@ -4,8 +4,8 @@ ghost use Rattle.bus_core.specs.Replay.{IsEventOf, replay_of};
 ghost use Rattle.bus_core.specs.History.{IsBusHistory};
 ghost use Rattle.bus_core.specs.Report.{report_text};
 ghost use Rattle.bus_core.specs.Schedule.{schedule_of};
-ghost use Rattle.dtman.specs.Fault.{shown, no_memory};
-ghost use Rattle.dtman.specs.Replay.{replay_answer, after_events, after_schedule, ReportsEvents, ReportsHistory, ReportsSchedule};
+ghost use Rattle.engine.specs.Fault.{shown, no_memory};
+ghost use Rattle.engine.specs.Replay.{replay_answer, after_events, after_schedule, ReportsEvents, ReportsHistory, ReportsSchedule};
 
 use crate::fault::Fault;
 use bus_core::{Core, Event, read_schedule, replay};

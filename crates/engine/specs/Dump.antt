@@ -1,11 +1,11 @@
--- What `dtman dump` answers: the canonical source of the tree that the bytes hold.
+-- What `dump_bytes` answers: the canonical source of the tree that the bytes hold.
 use Rattle.std.specs.Prelude.{◌≡◌, ◌<◌, ◌⊎◌, ℕ, List, length}
 use Rattle.dt_tree.specs.TreeData.{TreeData}
 use Rattle.dt_blob.specs.declared.error.BlobError.TheVariants.{TooLarge}
 use Rattle.dt_blob.specs.Blob.{limit}
 use Rattle.dt_blob.specs.Holds.{Holds}
 use Rattle.dt_blob.specs.SourceText.{text_of}
-use Rattle.dtman.specs.Fault.{FaultValue, no_memory, blob_fault}
+use Rattle.engine.specs.Fault.{FaultValue, no_memory, blob_fault}
 
 -- the text is that of a tree that the bytes hold
 pub record IsDump (blob text : List ℕ) : Type 0 where

@@ -8,9 +8,9 @@ use Rattle.bus_core.specs.declared.refusal.Refusal.TheVariants.{NoMemory}
 use Rattle.bus_core.specs.Refusal as core
 use Rattle.dt_blob.specs.declared.error.BlobError.{BlobError}
 use Rattle.dt_blob.specs.BlobError as blob
-use Rattle.dtman.specs.declared.fault.Place.{Place}
-use Rattle.dtman.specs.declared.fault.Place.TheVariants.{Nowhere, Line, Event}
-use Rattle.dtman.specs.declared.fault.Fault.{Fault}
+use Rattle.engine.specs.declared.fault.Place.{Place}
+use Rattle.engine.specs.declared.fault.Place.TheVariants.{Nowhere, Line, Event}
+use Rattle.engine.specs.declared.fault.Fault.{Fault}
 
 pub record FaultValue : Type 0 where
   pub number : ℕ
