@@ -5,6 +5,7 @@ ghost use Rattle.engine.specs.Fault.{shown, no_memory, text_fault, event_fault, 
 use bus_core::Refusal;
 use bus_plan::PlanError;
 use dt_blob::BlobError;
+use std::alloc::AllocError;
 use std::fmt;
 
 /// Where a fault was found.
@@ -36,11 +37,20 @@ impl Fault {
             place: Place::Nowhere,
         }
     }
+}
 
-    /// The refusal of a text file of the bus, with its line.
-    pub fn of_text(error: &PlanError) -> Fault
-        ensures { shown result ≡ text_fault error.now }
-    {
+impl From<AllocError> for Fault {
+    ghost from_gives = { λ _ fault. shown fault ≡ no_memory };
+
+    fn from(_error: AllocError) -> Fault {
+        Fault::no_memory()
+    }
+}
+
+impl From<PlanError> for Fault {
+    ghost from_gives = { λ error fault. shown fault ≡ text_fault error };
+
+    fn from(error: PlanError) -> Fault {
         Fault {
             number: error.number(),
             name: error.name(),
@@ -50,22 +60,25 @@ impl Fault {
             },
         }
     }
+}
 
-    /// The refusal of a blob, or of what is made from one.
-    pub fn of_blob(error: &BlobError) -> Fault
-        ensures { shown result ≡ blob_fault error.now }
-    {
+impl From<BlobError> for Fault {
+    ghost from_gives = { λ error fault. shown fault ≡ blob_fault error };
+
+    fn from(error: BlobError) -> Fault {
         Fault {
             number: error.number(),
             name: error.name(),
             place: Place::Nowhere,
         }
     }
+}
 
-    /// The refusal of an event, with its number. A want of memory is no event's.
-    pub fn of_event(number: usize, refusal: Refusal) -> Fault
-        ensures { shown result ≡ event_fault number refusal }
-    {
+/// The refusal of the event with this number. Want of memory is no event's.
+impl From<(usize, Refusal)> for Fault {
+    ghost from_gives = { λ refused fault. shown fault ≡ event_fault refused.0 refused.1 };
+
+    fn from((number, refusal): (usize, Refusal)) -> Fault {
         Fault {
             number: refusal.number(),
             name: refusal.name(),

@@ -22,43 +22,17 @@ pub fn replay_bytes(alloc: Global, plan: &[u8], schedule: &[u8]) -> Result<Vec<u
         (λ fault. (shown fault ≡ no_memory) ⊎ (replay_answer plan.now schedule.now ≡ Err (shown fault))) }
     ensures history { IfOk result (λ report. ReportsHistory plan.now schedule.now report.items) }
 {
-    match read_plan(alloc, plan) {
-        Ok(plan) => replay_plan(alloc, plan, schedule),
-        Err(error) => Err(Fault::of_text(&error)),
-    }
-}
-
-fn replay_plan(alloc: Global, plan: Plan, schedule: &[u8]) -> Result<Vec<u8>, Fault>
-    ensures answer { MatchResult result
-        (λ report. after_schedule plan (schedule_of plan schedule.now) ≡ Ok report.items)
-        (λ fault. (shown fault ≡ no_memory) ⊎ (after_schedule plan (schedule_of plan schedule.now) ≡ Err (shown fault))) }
-    ensures history { IfOk result (λ report. ReportsSchedule plan schedule.now report.items) }
-{
-    match read_schedule(alloc, &plan, schedule) {
-        Ok(events) => replay_events(alloc, plan, events.as_slice()),
-        Err(error) => Err(Fault::of_text(&error)),
-    }
-}
-
-fn replay_events(alloc: Global, plan: Plan, events: &[Event]) -> Result<Vec<u8>, Fault>
-    requires { All (IsEventOf plan) events.now }
-    ensures answer { MatchResult result
-        (λ report. after_events plan (replay_of plan events.now) ≡ Ok report.items)
-        (λ fault. (shown fault ≡ no_memory) ⊎ (after_events plan (replay_of plan events.now) ≡ Err (shown fault))) }
-    ensures history { IfOk result (λ report. ReportsEvents plan events.now report.items) }
-{
-    match replay(alloc, plan, events) {
-        Ok(core) => report_of(alloc, &core),
-        Err((number, refusal)) => Err(Fault::of_event(number, refusal)),
-    }
+    let plan = read_plan(alloc, plan)?;
+    let events = read_schedule(alloc, &plan, schedule)?;
+    let core = replay(alloc, plan, events.as_slice())?;
+    core.check();
+    report_of(alloc, &core)
 }
 
 fn report_of(alloc: Global, core: &Core) -> Result<Vec<u8>, Fault>
     ensures report { MatchResult result
         (λ report. report.items ≡ report_text core.now.plan core.now.state)
         (λ fault. shown fault ≡ no_memory) }
-    ensures history { IsBusHistory core.now.plan core.now.state.history }
 {
-    core.check();
     core.report(alloc).map_err(|_| Fault::no_memory())
 }
