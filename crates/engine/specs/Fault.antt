@@ -33,6 +33,16 @@ fault_line fault = codes "error " ++ decimal fault.number ++ codes " " ++ fault.
 abbrev pub no_memory : FaultValue
 no_memory = record { number = 0; name = codes "NoMemory"; place = Nowhere }
 
+-- ---- the faults of files
+abbrev pub cannot_read : FaultValue
+cannot_read = record { number = 80; name = codes "CannotRead"; place = Nowhere }
+
+abbrev pub cannot_write : FaultValue
+cannot_write = record { number = 81; name = codes "CannotWrite"; place = Nowhere }
+
+abbrev pub file_too_long : FaultValue
+file_too_long = record { number = 82; name = codes "FileTooLong"; place = Nowhere }
+
 -- ---- the faults of the crates below
 abbrev pub line_place : Option ℕ → Place
 line_place None = Nowhere

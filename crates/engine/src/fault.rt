@@ -1,6 +1,6 @@
 //! A refusal as the program prints it.
 ghost use Rattle.std.specs.Prelude.{◌≡◌};
-ghost use Rattle.engine.specs.Fault.{shown, no_memory, text_fault, event_fault, blob_fault};
+ghost use Rattle.engine.specs.Fault.{shown, no_memory, cannot_read, cannot_write, file_too_long, text_fault, event_fault, blob_fault};
 
 use bus_core::Refusal;
 use bus_plan::PlanError;
@@ -34,6 +34,39 @@ impl Fault {
         Fault {
             number: 0,
             name: "NoMemory",
+            place: Place::Nowhere,
+        }
+    }
+
+    /// A file can't be read.
+    pub fn cannot_read() -> Fault
+        ensures { shown result ≡ cannot_read }
+    {
+        Fault {
+            number: 80,
+            name: "CannotRead",
+            place: Place::Nowhere,
+        }
+    }
+
+    /// A file can't be written.
+    pub fn cannot_write() -> Fault
+        ensures { shown result ≡ cannot_write }
+    {
+        Fault {
+            number: 81,
+            name: "CannotWrite",
+            place: Place::Nowhere,
+        }
+    }
+
+    /// A text file of the bus has more bytes than are read.
+    pub fn file_too_long() -> Fault
+        ensures { shown result ≡ file_too_long }
+    {
+        Fault {
+            number: 82,
+            name: "FileTooLong",
             place: Place::Nowhere,
         }
     }
