@@ -8,9 +8,9 @@ use Rattle.bus_core.specs.declared.refusal.Refusal.TheVariants.{NoMemory}
 use Rattle.bus_core.specs.Refusal as core
 use Rattle.dt_blob.specs.declared.error.BlobError.{BlobError}
 use Rattle.dt_blob.specs.BlobError as blob
-use Rattle.dtman.specs.declared.fault.Place.{Place}
-use Rattle.dtman.specs.declared.fault.Place.TheVariants.{Nowhere, Line, Event}
-use Rattle.dtman.specs.declared.fault.Fault.{Fault}
+use Rattle.engine.specs.declared.fault.Place.{Place}
+use Rattle.engine.specs.declared.fault.Place.TheVariants.{Nowhere, Line, Event}
+use Rattle.engine.specs.declared.fault.Fault.{Fault}
 
 pub record FaultValue : Type 0 where
   pub number : ℕ
@@ -32,6 +32,16 @@ fault_line fault = codes "error " ++ decimal fault.number ++ codes " " ++ fault.
 
 abbrev pub no_memory : FaultValue
 no_memory = record { number = 0; name = codes "NoMemory"; place = Nowhere }
+
+-- ---- the faults of files
+abbrev pub cannot_read : FaultValue
+cannot_read = record { number = 80; name = codes "CannotRead"; place = Nowhere }
+
+abbrev pub cannot_write : FaultValue
+cannot_write = record { number = 81; name = codes "CannotWrite"; place = Nowhere }
+
+abbrev pub file_too_long : FaultValue
+file_too_long = record { number = 82; name = codes "FileTooLong"; place = Nowhere }
 
 -- ---- the faults of the crates below
 abbrev pub line_place : Option ℕ → Place

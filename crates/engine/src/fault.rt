@@ -1,10 +1,11 @@
 //! A refusal as the program prints it.
 ghost use Rattle.std.specs.Prelude.{◌≡◌};
-ghost use Rattle.dtman.specs.Fault.{shown, no_memory, text_fault, event_fault, blob_fault};
+ghost use Rattle.engine.specs.Fault.{shown, no_memory, cannot_read, cannot_write, file_too_long, text_fault, event_fault, blob_fault};
 
 use bus_core::Refusal;
 use bus_plan::PlanError;
 use dt_blob::BlobError;
+use std::alloc::AllocError;
 use std::fmt;
 
 /// Where a fault was found.
@@ -37,10 +38,52 @@ impl Fault {
         }
     }
 
-    /// The refusal of a text file of the bus, with its line.
-    pub fn of_text(error: &PlanError) -> Fault
-        ensures { shown result ≡ text_fault error.now }
+    /// A file can't be read.
+    pub fn cannot_read() -> Fault
+        ensures { shown result ≡ cannot_read }
     {
+        Fault {
+            number: 80,
+            name: "CannotRead",
+            place: Place::Nowhere,
+        }
+    }
+
+    /// A file can't be written.
+    pub fn cannot_write() -> Fault
+        ensures { shown result ≡ cannot_write }
+    {
+        Fault {
+            number: 81,
+            name: "CannotWrite",
+            place: Place::Nowhere,
+        }
+    }
+
+    /// A text file of the bus has more bytes than are read.
+    pub fn file_too_long() -> Fault
+        ensures { shown result ≡ file_too_long }
+    {
+        Fault {
+            number: 82,
+            name: "FileTooLong",
+            place: Place::Nowhere,
+        }
+    }
+}
+
+impl From<AllocError> for Fault {
+    ghost from_gives = { λ _ fault. shown fault ≡ no_memory };
+
+    fn from(_error: AllocError) -> Fault {
+        Fault::no_memory()
+    }
+}
+
+impl From<PlanError> for Fault {
+    ghost from_gives = { λ error fault. shown fault ≡ text_fault error };
+
+    fn from(error: PlanError) -> Fault {
         Fault {
             number: error.number(),
             name: error.name(),
@@ -50,22 +93,25 @@ impl Fault {
             },
         }
     }
+}
 
-    /// The refusal of a blob, or of what is made from one.
-    pub fn of_blob(error: &BlobError) -> Fault
-        ensures { shown result ≡ blob_fault error.now }
-    {
+impl From<BlobError> for Fault {
+    ghost from_gives = { λ error fault. shown fault ≡ blob_fault error };
+
+    fn from(error: BlobError) -> Fault {
         Fault {
             number: error.number(),
             name: error.name(),
             place: Place::Nowhere,
         }
     }
+}
 
-    /// The refusal of an event, with its number. A want of memory is no event's.
-    pub fn of_event(number: usize, refusal: Refusal) -> Fault
-        ensures { shown result ≡ event_fault number refusal }
-    {
+/// The refusal of the event with this number. Want of memory is no event's.
+impl From<(usize, Refusal)> for Fault {
+    ghost from_gives = { λ refused fault. shown fault ≡ event_fault refused.0 refused.1 };
+
+    fn from((number, refusal): (usize, Refusal)) -> Fault {
         Fault {
             number: refusal.number(),
             name: refusal.name(),
@@ -79,7 +125,7 @@ impl Fault {
 
 impl fmt::Display for Fault {
     ghost use Rattle.std.specs.Prelude.{Some};
-    ghost use Rattle.dtman.specs.Fault.{fault_line};
+    ghost use Rattle.engine.specs.Fault.{fault_line};
 
     ghost output = { λ fault. Some (fault_line fault) };
 

@@ -1,4 +1,4 @@
--- What `dtman replay` answers: the plan file, the schedule and its events in this order, the first fault of which is
+-- What `replay_bytes` answers: the plan file, the schedule and its events in this order, the first fault of which is
 -- the answer, and else the report of the state that the events lead to.
 use Rattle.std.specs.Prelude.{◌≡◌, ℕ, List, Result, Ok, Err}
 use Rattle.bus_plan.specs.declared.error.PlanError.{PlanError}
@@ -11,7 +11,7 @@ use Rattle.bus_core.specs.History.{IsBusHistory}
 use Rattle.bus_core.specs.Replay.{replay_of}
 use Rattle.bus_core.specs.Report.{report_text}
 use Rattle.bus_core.specs.Schedule.{schedule_of}
-use Rattle.dtman.specs.Fault.{FaultValue, text_fault, event_fault}
+use Rattle.engine.specs.Fault.{FaultValue, text_fault, event_fault}
 
 abbrev pub after_events : List PlannedDevice → Result CoreState (ℕ × Refusal) → Result (List ℕ) FaultValue
 after_events plan (Ok state) = Ok (report_text plan state)
