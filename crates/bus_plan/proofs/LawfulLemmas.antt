@@ -8,7 +8,6 @@ use Rattle.std.proofs.lemmas.List.Elements.{All-map}
 use Rattle.bus_plan.specs.declared.limits.TheConstants.{MAX_DEVICES}
 use Rattle.bus_plan.specs.declared.error.PlanError.{PlanError}
 use Rattle.bus_plan.specs.declared.error.PlanError.TheVariants.{UnknownPath}
-use Rattle.bus_plan.specs.Indexed.{IsIndexed}
 use Rattle.bus_plan.specs.Plan.{PlannedDevice, nothing, planned, paths, is_device_path, IsLawfulDevice, IsLawful}
 use Rattle.bus_plan.specs.PlanPaths.{are_distinct, are_known, place_of}
 use Rattle.bus_plan.specs.PlanFile.{DeviceLine, line_paths, unknowns_in, unknowns, planned_of, plan_of, IsFaultless}
@@ -118,12 +117,11 @@ lawful-plan ds lawful none =
           (line_at known ds lawful.lines known_all k);
     }
 
--- with its index
-pub indexed-plan : (ds : List DeviceLine) (plan : List PlannedDevice) (index : List (List ℕ))
-    → IsFaultless ds → unknowns ds ≡ [] → plan ≡ plan_of ds → index ≡ line_paths ds → IsIndexed plan index
-indexed-plan ds plan index faultless none is agrees =
+-- the plan of the devices that lines list
+pub lawful-listed : (ds : List DeviceLine) (plan : List PlannedDevice) → IsFaultless ds → unknowns ds ≡ [] → plan ≡ plan_of ds → IsLawful plan
+lawful-listed ds plan faultless none is =
     let listing : IsLawfulListing ds = subst IsLawfulListing (sym faultless.2) (lawful-before faultless.0 faultless.1 faultless.3) in
-    record {
-      lawful = subst IsLawful (sym is) (lawful-plan ds listing none);
-      agrees = agrees ∙ sym (ap paths is ∙ paths-planned (line_paths ds) ds);
-    }
+    subst IsLawful (sym is) (lawful-plan ds listing none)
+
+pub paths-listed : (ds : List DeviceLine) (plan : List PlannedDevice) (index : List (List ℕ)) → plan ≡ plan_of ds → index ≡ line_paths ds → index ≡ paths plan
+paths-listed ds plan index is agrees = agrees ∙ sym (ap paths is ∙ paths-planned (line_paths ds) ds)

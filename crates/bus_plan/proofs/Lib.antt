@@ -8,6 +8,8 @@ pub mod DistinctLemmas
 pub mod FaultlessLemmas
 pub mod LawfulLemmas
 pub mod ReadingLemmas
+pub mod DeviceListsLemmas
+pub mod ConsumersLemmas
 pub mod TextBytes
 pub mod ReadBack
 pub mod TextLines

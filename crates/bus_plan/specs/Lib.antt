@@ -1,6 +1,8 @@
 pub mod Lines
 pub mod Plan
 pub mod PlanError
+pub mod Consumers
+pub mod DeviceLists
 pub mod Indexed
 pub mod PlanPaths
 pub mod PlanFile

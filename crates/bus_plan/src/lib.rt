@@ -1,8 +1,10 @@
 //! Plans of the bus: devices with their drivers and suppliers, and the text file that lists them.
 #![tactic(auto)]
 
+mod consumers;
 mod device;
 mod device_line;
+mod device_lists;
 mod error;
 mod laws;
 mod limits;

@@ -97,7 +97,7 @@ impl<'a> Listing<'a> {
         ensures err { IfErr result (λ e. (e ≡ PlanError.NoMemory) ⊎ IsFirst (unknowns self.entry) e) }
     {
         let devices = plan_all(alloc, self.devices, &self.index)?;
-        Ok(Plan::new(devices, self.index))
+        Ok(Plan::with_index(alloc, devices, self.index)?)
     }
 }
 

@@ -1,7 +1,9 @@
 ghost use Rattle.std.specs.Prelude.{◌≡◌, ◌<◌, ◌↔◌, [], IsTrue, IfOk, length};
 ghost use Rattle.std.specs.Option.{option_copied};
 
+use crate::consumers::consumer_lists;
 use crate::device::Device;
+use crate::device_lists::DeviceLists;
 use crate::paths::PathIndex;
 use crate::planned::Planned;
 use crate::verdict::Verdict;
@@ -15,6 +17,7 @@ use std::marker::Model;
 pub struct Plan {
     devices: Vec<Planned>,
     index: PathIndex,
+    consumers: DeviceLists,
 }
 
 impl Model for Plan {
@@ -26,12 +29,12 @@ impl Model for Plan {
 
     ghost view = { λ plan. plan.devices.items };
 
-    ghost invariant = { λ plan. IsIndexed plan.devices.items plan.index };
+    ghost invariant = { λ plan. IsIndexed plan.devices.items plan.index plan.consumers };
 }
 
 impl Plan {
-    ghost use Rattle.bus_plan.specs.Plan.{path_of, is_available, driver_of, verdict_of, suppliers_of, device_at, IsLawful};
-    ghost use Rattle.bus_plan.specs.Indexed.{IsIndexed};
+    ghost use Rattle.bus_plan.specs.Plan.{path_of, is_available, driver_of, verdict_of, suppliers_of, device_at, paths, IsLawful};
+    ghost use Rattle.bus_plan.specs.Consumers.{consumers_of};
 
     /// The plan of these devices, which have to be lawful together.
     pub fn of(alloc: Global, hasher: RandomState, devices: Vec<Planned>) -> Result<Self, AllocError>
@@ -39,15 +42,25 @@ impl Plan {
         ensures { IfOk result (λ plan. plan ≡ devices.items) }
     {
         let index = PathIndex::of(alloc, hasher, devices.as_slice())?;
-        Ok(Self::new(devices, index))
+        Self::with_index(alloc, devices, index)
     }
 
     /// The same, with the index made already.
-    pub(crate) fn new(devices: Vec<Planned>, index: PathIndex) -> Self
-        requires { IsIndexed devices.items index }
-        ensures { result ≡ devices.items }
+    pub(crate) fn with_index(
+        alloc: Global,
+        devices: Vec<Planned>,
+        index: PathIndex,
+    ) -> Result<Self, AllocError>
+        requires lawful { IsLawful devices.items }
+        requires agrees { index ≡ paths devices.items }
+        ensures { IfOk result (λ plan. plan ≡ devices.items) }
     {
-        Self { devices, index }
+        let consumers = consumer_lists(alloc, devices.as_slice())?;
+        Ok(Self {
+            devices,
+            index,
+            consumers,
+        })
     }
 
     /// Costs nothing: tells a caller's proof that the plan is lawful.
@@ -109,6 +122,14 @@ impl Plan {
         ensures { result.now ≡ suppliers_of self.now device }
     {
         self.devices[device.index()].suppliers()
+    }
+
+    /// The devices that have a device among their suppliers, each once, in plan order.
+    pub fn consumers(&self, device: Device) -> &[Device]
+        requires { device < length self.now }
+        ensures { result.now ≡ consumers_of self.now device }
+    {
+        self.consumers.at(device.index())
     }
 
     /// The device at a path, by a look-up that takes no memory.
