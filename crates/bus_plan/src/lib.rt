@@ -19,6 +19,7 @@ pub use device::Device;
 pub use error::PlanError;
 pub use laws::plan_text_is_read_back;
 pub use lines::{fields_of, is_line, is_line_byte, is_skipped, lines_of};
+pub use listing::MAX_DEVICES;
 pub use plan::Plan;
 pub use reading::read_plan;
 pub use verdict::Verdict;
