@@ -5,6 +5,7 @@ use Rattle.std.specs.List.{slice_index_or, list_all, filter_map}
 use Rattle.std.specs.Str.{bytes_eq}
 use Rattle.bus_plan.specs.declared.error.PlanError.{PlanError}
 use Rattle.bus_plan.specs.declared.error.PlanError.TheVariants.{NoMemory, BadLine, DuplicateDevice, UnknownPath, TooManyDevices}
+use Rattle.bus_plan.specs.declared.limits.TheConstants.{MAX_DEVICES}
 use Rattle.bus_plan.specs.declared.matching.Matching.{Matching}
 use Rattle.bus_plan.specs.declared.verdict.Verdict.{Verdict}
 use Rattle.bus_plan.specs.declared.verdict.Verdict.TheVariants.{Binds, Fails}
@@ -73,11 +74,11 @@ devices_before ls (suc n) = devices_before ls n ++ option_to_list (device_on (me
 abbrev pub line_paths : List DeviceLine → List (List ℕ)
 line_paths devices = map (λ d. d.path) devices
 
--- what forbids a further device: its path is there already, or 512 devices are
+-- what forbids a further device: its path is there already, or as many devices as a plan may have
 abbrev pub refusal_of : List DeviceLine → DeviceLine → Option PlanError
 refusal_of devices d =
     if is_among d.path (line_paths devices) then Some (DuplicateDevice d.number)
-    else (if nat_le 512 (length devices) then Some TooManyDevices else None)
+    else (if nat_le MAX_DEVICES (length devices) then Some TooManyDevices else None)
 
 -- the fault of a line that says this behind these devices
 abbrev pub fault_of : List DeviceLine → Result (Option DeviceLine) PlanError → Option PlanError

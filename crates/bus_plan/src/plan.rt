@@ -7,9 +7,10 @@ use crate::planned::Planned;
 use crate::verdict::Verdict;
 use dt_tree::{Name, Path};
 use std::alloc::{AllocError, Global};
+use std::hash::RandomState;
 use std::marker::Model;
 
-/// Devices with their drivers and suppliers, at most 512. A `Device` is a place in its order.
+/// Devices with their drivers and suppliers, at most `MAX_DEVICES`. A `Device` is a place in its order.
 #[derive(Drop)]
 pub struct Plan {
     devices: Vec<Planned>,
@@ -32,7 +33,16 @@ impl Plan {
     ghost use Rattle.bus_plan.specs.Plan.{path_of, is_available, driver_of, verdict_of, suppliers_of, device_at, IsLawful};
     ghost use Rattle.bus_plan.specs.Indexed.{IsIndexed};
 
-    /// The plan of these devices.
+    /// The plan of these devices, which have to be lawful together.
+    pub fn of(alloc: Global, hasher: RandomState, devices: Vec<Planned>) -> Result<Self, AllocError>
+        requires { IsLawful devices.items }
+        ensures { IfOk result (λ plan. plan ≡ devices.items) }
+    {
+        let index = PathIndex::of(alloc, hasher, devices.as_slice())?;
+        Ok(Self::new(devices, index))
+    }
+
+    /// The same, with the index made already.
     pub(crate) fn new(devices: Vec<Planned>, index: PathIndex) -> Self
         requires { IsIndexed devices.items index }
         ensures { result ≡ devices.items }
@@ -113,11 +123,9 @@ impl Plan {
         ensures { IfOk result (λ plan. plan ≡ self.now) }
     {
         let mut devices = Vec::with_capacity(alloc, self.devices.len())?;
-        let mut index = PathIndex::new(alloc);
         for device in &self.devices {
-            index.push(alloc, device.path().as_bytes())?;
             devices.push(device.copy(alloc)?)?;
         }
-        Ok(Self { devices, index })
+        Self::of(alloc, self.index.hasher(), devices)
     }
 }

@@ -1,5 +1,6 @@
 use crate::{Device, PlanError, Verdict, plan_text, read_plan};
 use std::alloc::Global;
+use std::hash::RandomState;
 use std::test::Fail;
 
 /// Texts that are read, and what is written of them.
@@ -19,7 +20,7 @@ fn plans_are_read_and_written(rt: HostRuntime) -> Result<(), Fail> {
         (b"/a - -\t/b\n/b # ok\n", b"/a - - /b\n/b # ok\n"),
     ];
     for (text, written) in rows {
-        let plan = read_plan(rt.alloc(), text)?;
+        let plan = read_plan(rt.alloc(), RandomState::new(&rt)?, text)?;
         assert_eq!(rt; plan_text(rt.alloc(), &plan)?.as_slice(), written);
         assert_eq!(rt;
             plan_text(rt.alloc(), &plan.copy(rt.alloc())?)?.as_slice(),
@@ -55,14 +56,21 @@ fn faults_are_named_in_line_order(rt: HostRuntime) -> Result<(), Fail> {
         (b"/a x ok /c\n/a x ok /\n", PlanError::BadLine(2)),
     ];
     for (text, error) in rows {
-        assert_eq!(rt; read_plan(rt.alloc(), text).err(), Some(error));
+        assert_eq!(rt;
+            read_plan(rt.alloc(), RandomState::new(&rt)?, text).err(),
+            Some(error)
+        );
     }
     Ok(())
 }
 
 #[test]
 fn readers_answer(rt: HostRuntime) -> Result<(), Fail> {
-    let plan = read_plan(rt.alloc(), b"/s ! -\n/d y fail /s\n")?;
+    let plan = read_plan(
+        rt.alloc(),
+        RandomState::new(&rt)?,
+        b"/s ! -\n/d y fail /s\n",
+    )?;
     assert_eq!(rt; plan.len(), 2);
     assert!(rt; !plan.is_empty());
     let s = Device::new(0);
@@ -90,10 +98,13 @@ fn many_devices(alloc: Global, count: usize) -> Result<Vec<u8>, Fail> {
 #[test]
 fn the_513th_device_is_refused(rt: HostRuntime) -> Result<(), Fail> {
     let full = many_devices(rt.alloc(), 512)?;
-    assert_eq!(rt; read_plan(rt.alloc(), full.as_slice())?.len(), 512);
+    assert_eq!(rt;
+        read_plan(rt.alloc(), RandomState::new(&rt)?, full.as_slice())?.len(),
+        512
+    );
     let over = many_devices(rt.alloc(), 513)?;
     assert_eq!(rt;
-        read_plan(rt.alloc(), over.as_slice()).err(),
+        read_plan(rt.alloc(), RandomState::new(&rt)?, over.as_slice()).err(),
         Some(PlanError::TooManyDevices)
     );
     Ok(())
