@@ -2,7 +2,7 @@
 use Rattle.std.proofs.Common.{◌≡◌, inl, inr, ℕ, ◌<◌, ◌≤◌, true, not, ◌&&◌, ◌||◌, List, Some, None, length, cond, sym, ap, ◌∙◌, lt-ltb, arith}
 use Rattle.std.specs.Prelude.{count_by, nat_lt, Result, Ok, Err, IfErr}
 use Rattle.std.proofs.lemmas.Bool.{and_parts}
-use Rattle.bus_plan.specs.declared.listing.TheConstants.{MAX_DEVICES}
+use Rattle.bus_plan.specs.declared.limits.TheConstants.{MAX_DEVICES}
 use Rattle.bus_plan.specs.Plan.{PlannedDevice, is_matched}
 use Rattle.bus_core.specs.declared.refusal.Refusal.{Refusal}
 use Rattle.bus_core.specs.declared.refusal.Refusal.TheVariants.{NoMemory, Unmatched, NotIdle, TooManyEvents}
