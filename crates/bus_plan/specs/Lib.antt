@@ -3,6 +3,7 @@ pub mod Plan
 pub mod PlanError
 pub mod Consumers
 pub mod DeviceLists
+pub mod FieldsLeft
 pub mod Indexed
 pub mod PlanPaths
 pub mod PlanFile

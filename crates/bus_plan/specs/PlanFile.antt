@@ -1,5 +1,5 @@
 -- A plan file: what each line says, its faults in order, and the plan that it lists.
-use Rattle.std.specs.Prelude.{◌≡◌, ℕ, zero, suc, ◌+◌, true, false, ◌&&◌, ◌⊎◌, if◌then◌else◌, nat_le, codes, List, [], ◌∷◌, ◌++◌, map, length, Option, Some, None, Result, Ok, Err, MatchResult}
+use Rattle.std.specs.Prelude.{◌≡◌, ℕ, Bool, zero, suc, ◌+◌, true, false, ◌&&◌, ◌⊎◌, if◌then◌else◌, nat_le, codes, List, [], ◌∷◌, ◌++◌, map, length, Option, Some, None, Result, Ok, Err, MatchResult}
 use Rattle.std.specs.Option.{option_map, option_to_list}
 use Rattle.std.specs.List.{slice_index_or, list_all, filter_map}
 use Rattle.std.specs.Str.{bytes_eq}
@@ -37,13 +37,17 @@ matching_of driver word =
     else (if bytes_eq word (codes "fail") then driven driver Fails
     else (if bytes_eq word (codes "-") then undriven driver else None))
 
+-- each is a device's path, and no two of them and the device's own are one
+abbrev pub are_supplier_paths : List ℕ → List (List ℕ) → Bool
+are_supplier_paths own paths = list_all is_device_path paths && are_distinct (own ∷ paths)
+
 -- the device of a line with these fields
 abbrev pub device_of : ℕ → List (List ℕ) → Option DeviceLine
 device_of number [] = None
 device_of number (path ∷ []) = None
 device_of number (path ∷ driver ∷ []) = None
 device_of number (path ∷ driver ∷ word ∷ suppliers) =
-    if list_all is_device_path (path ∷ suppliers) && are_distinct (path ∷ suppliers)
+    if is_device_path path && are_supplier_paths path suppliers
     then option_map (λ m. record { number = number; path = path; matching = m; suppliers = suppliers }) (matching_of driver word)
     else None
 
