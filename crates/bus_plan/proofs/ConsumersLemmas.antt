@@ -8,7 +8,7 @@ use Rattle.std.proofs.lemmas.List.Folds.{list_any_more, list_any_none}
 use Rattle.std.proofs.lemmas.List.FromFn.{filter_of_map_range_with_len_more, fill_by_all}
 use Rattle.bus_plan.specs.Plan.{PlannedDevice, suppliers_of}
 use Rattle.bus_plan.specs.Consumers.{devices, has_supplier, consumers_of}
-use Rattle.bus_plan.specs.DeviceLists.{added, IsAdded}
+use Rattle.bus_plan.specs.Private.DeviceLists.{added, IsAdded}
 
 -- ---- one consumer, put behind the lists of the suppliers so far
 pub added-none : (lists : List (List ℕ)) (consumer : ℕ) → IsAdded lists lists consumer []

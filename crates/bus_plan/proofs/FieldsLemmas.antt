@@ -9,7 +9,7 @@ use Rattle.std.proofs.lemmas.List.Splits.{slice_split_at, slice_split_none, slic
 use Rattle.std.proofs.lemmas.List.Sums.{fails_before_first, passes_at_first, prefix_len-le-length}
 use Rattle.std.proofs.lemmas.Slice.{between_to_end}
 use Rattle.bus_plan.specs.Lines.{is_blank, is_filled, fields, is_skipped}
-use Rattle.bus_plan.specs.FieldsLeft.{BeginsFilled}
+use Rattle.bus_plan.specs.Private.FieldsLeft.{BeginsFilled}
 
 -- blanks in front say nothing
 pub fields-skip : (xs : List ℕ) (n : ℕ) → n ≤ length xs → ((k : ℕ) → k < n → is_blank (slice_index xs k) ≡ true) → fields xs ≡ fields (drop n xs)

@@ -98,14 +98,6 @@ abbrev pub faults_before : List (List ℕ) → ℕ → List PlanError
 faults_before ls zero = []
 faults_before ls (suc n) = faults_before ls n ++ option_to_list (fault_at ls n)
 
--- the devices are those of some lines without a fault
-abbrev pub IsFaultless : List DeviceLine → Type 0
-IsFaultless devices = (ls : List (List ℕ)) × (n : ℕ) × (devices ≡ devices_before ls n) × (faults_before ls n ≡ [])
-
--- the list begins with it
-abbrev pub IsFirst : List PlanError → PlanError → Type 0
-IsFirst faults e = (more : List PlanError) × (faults ≡ e ∷ more)
-
 -- ---- the suppliers
 abbrev pub unknown_of : List (List ℕ) → DeviceLine → Option PlanError
 unknown_of known d = if are_known known d.suppliers then None else Some (UnknownPath d.number)

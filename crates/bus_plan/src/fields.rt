@@ -12,7 +12,7 @@ pub struct Fields<'a> {
 impl<'a> Model for Fields<'a> {
     ghost use Rattle.std.specs.Prelude.{List, ℕ};
     ghost use Rattle.bus_plan.specs.Lines.{fields};
-    ghost use Rattle.bus_plan.specs.FieldsLeft.{BeginsFilled};
+    ghost use Rattle.bus_plan.specs.Private.FieldsLeft.{BeginsFilled};
 
     ghost Value = { List (List ℕ) };
 

@@ -30,6 +30,3 @@ pub use planned::Planned;
 pub use reading::read_plan;
 pub use verdict::Verdict;
 pub use writing::plan_text;
-
-#[cfg(test)]
-mod tests;

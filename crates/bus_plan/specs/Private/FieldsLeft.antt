@@ -1,4 +1,4 @@
--- Private contracts alone cite this: what is left of a line while its fields are cut.
+-- What is left of a line while its fields are cut.
 use Rattle.std.specs.Prelude.{◌≡◌, ℕ, ◌<◌, false, List, length, slice_index}
 use Rattle.bus_plan.specs.Lines.{is_blank}
 
