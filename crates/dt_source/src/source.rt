@@ -9,7 +9,7 @@ ghost use Rattle.dt_source.specs.Bodies.{ended_by};
 ghost use Rattle.dt_source.specs.Source.{both_numbers};
 ghost use Rattle.dt_source.specs.Whole.{semicolon_at, plugin_at, header_at, more_headers, headers_at, some_header, reserve_with, reserve_at, reserves_at, brace_at, extend_at, root_at, delete_at, bare_item, unlabelled_item, item_with, item_at, some_items, all_items_at, items_at, source_at};
 
-use crate::body::body;
+use crate::body::{MAX_BODY_DEPTH, body};
 use crate::cells::fault_in;
 use crate::labels::labels_of;
 use crate::pieces::labels;
@@ -220,7 +220,7 @@ fn brace<'a, 'text>(
         [] => Err(ReadError::Refused(syntax_at(ts))),
         [t, rest @ ..] => match t.kind {
             Kind::Brace => {
-                let (statements, fault, rest) = body(alloc, text, 64, rest)?;
+                let (statements, fault, rest) = body(alloc, text, MAX_BODY_DEPTH, rest)?;
                 end_body(statements, fault, rest)
             }
             _ => Err(ReadError::Refused(syntax_at(ts))),

@@ -1,9 +1,7 @@
-//! The example board, `examples/board.dts`, and what is left of it when it is cut.
-use super::parsing::number;
-use std::test::Fail;
+//! A board, written the way that preprocessed kernel sources are.
 
-/// The board's source.
-const BOARD: &[u8] = b"# 1 \"board.dts\"\n\
+/// The source of `examples/board.dts`.
+pub const BOARD: &[u8] = b"# 1 \"board.dts\"\n\
 # 1 \"<built-in>\"\n\
 # 1 \"board.dts\"\n\
 /dts-v1/;\n\
@@ -349,13 +347,3 @@ console: &uart0 {\n\
 \t\tpower-supply = <&vcc3v3>;\n\
 \t};\n\
 };\n";
-
-#[test]
-fn beginnings_of_the_board(rt: HostRuntime) -> Result<(), Fail> {
-    assert_eq!(rt; number(rt.alloc(), BOARD), 255);
-    for i in 0..BOARD.len() {
-        let cut = number(rt.alloc(), &BOARD[..i]);
-        assert!(rt; cut == 10 || cut == 16 || cut == 255, "cut at {i}");
-    }
-    Ok(())
-}
