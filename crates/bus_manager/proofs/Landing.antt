@@ -4,7 +4,7 @@ use Rattle.std.specs.Prelude.{is_some, count_by, nat_lt}
 use Rattle.std.specs.List.{list_all, range_with_len}
 use Rattle.std.proofs.lemmas.Bool.{and_from, or_from, not_from_false, cases_eq, cases_lt, false_from_ne_true}
 use Rattle.std.proofs.lemmas.List.{get_or-set_other, get_or_past}
-use Rattle.bus_plan.specs.declared.listing.TheConstants.{MAX_DEVICES}
+use Rattle.bus_plan.specs.declared.limits.TheConstants.{MAX_DEVICES}
 use Rattle.bus_plan.specs.Plan.{PlannedDevice}
 use Rattle.bus_core.specs.declared.event.Event.TheVariants.{Begin, Finish, Abandon}
 use Rattle.bus_core.specs.declared.event.Report.{Report}

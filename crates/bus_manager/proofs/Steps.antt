@@ -6,7 +6,7 @@ use Rattle.std.proofs.lemmas.List.{length-replicate, get_or-replicate, get_or_pa
 use Rattle.std.proofs.lemmas.List.Sums.{sum_by-set}
 use Rattle.std.proofs.lemmas.List.Folds.{sum_by-replicate}
 use Rattle.std.proofs.lemmas.List.Elements.{All-push, All-nil}
-use Rattle.bus_plan.specs.declared.listing.TheConstants.{MAX_DEVICES}
+use Rattle.bus_plan.specs.declared.limits.TheConstants.{MAX_DEVICES}
 use Rattle.bus_plan.specs.Plan.{PlannedDevice, is_matched}
 use Rattle.bus_core.specs.declared.event.Event.{Event}
 use Rattle.bus_core.specs.declared.event.Event.TheVariants.{Begin, Finish, Abandon}

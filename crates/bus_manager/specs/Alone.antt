@@ -1,6 +1,6 @@
 -- What the caller of a run does alone, once its workers have left: flights are dropped, and due devices probed.
 use Rattle.std.specs.Prelude.{◌≡◌, ◌<◌, ◌≤◌, ◌+◌, ◌*◌, ℕ, false, length}
-use Rattle.bus_plan.specs.declared.listing.TheConstants.{MAX_DEVICES}
+use Rattle.bus_plan.specs.declared.limits.TheConstants.{MAX_DEVICES}
 use Rattle.bus_core.specs.CoreState.{is_in_flight}
 use Rattle.bus_manager.specs.Keeper.{KeeperValue, abandons}
 

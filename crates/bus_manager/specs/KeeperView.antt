@@ -1,7 +1,7 @@
 -- How contracts see a keeper, and what holds of its fields.
 use Rattle.std.specs.Prelude.{◌≡◌, ◌≤◌, ◌+◌, ℕ, Bool, false, ◌&&◌, ◌||◌, List, length, count_by, vec_len, vec_capacity}
 use Rattle.bus_plan.specs.Plan.{PlannedDevice}
-use Rattle.bus_plan.specs.declared.listing.TheConstants.{MAX_DEVICES}
+use Rattle.bus_plan.specs.declared.limits.TheConstants.{MAX_DEVICES}
 use Rattle.bus_core.specs.CoreState.{CoreState, CoreValue, is_in_flight, was_begun}
 use Rattle.bus_core.specs.History.{bound_in, is_settled}
 use Rattle.bus_core.specs.Ready.{is_ready}

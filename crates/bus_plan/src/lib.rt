@@ -21,7 +21,6 @@ pub use error::PlanError;
 pub use laws::plan_text_is_read_back;
 pub use limits::MAX_DEVICES;
 pub use lines::{fields_of, is_line, is_line_byte, is_skipped, lines_of};
-pub use listing::MAX_DEVICES;
 pub use plan::Plan;
 pub use planned::Planned;
 pub use reading::read_plan;

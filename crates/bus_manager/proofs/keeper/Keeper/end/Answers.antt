@@ -1,6 +1,6 @@
 use Rattle.std.proofs.Common.{◌≡◌, ◌<◌, ◌≤◌, ◌-◌, None, length, ap, sym, ◌∙◌, arith}
 use Rattle.std.proofs.lemmas.List.{length_push}
-use Rattle.bus_plan.specs.declared.listing.TheConstants.{MAX_DEVICES}
+use Rattle.bus_plan.specs.declared.limits.TheConstants.{MAX_DEVICES}
 use Rattle.bus_core.specs.declared.event.Event.TheVariants.{Finish}
 use Rattle.bus_core.specs.Step.{finish_refusal, finish_state, finish_reply}
 use Rattle.bus_manager.specs.KeeperView.{IsSoundKeeper}
