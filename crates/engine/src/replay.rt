@@ -11,18 +11,24 @@ use crate::fault::Fault;
 use bus_core::{Core, Event, read_schedule, replay};
 use bus_plan::{Plan, read_plan};
 use std::alloc::Global;
+use std::hash::RandomState;
 
 /// The report after all events of a schedule: one line a device, then `quiet` or `busy`.
 ///
 /// The plan file's fault comes first, then the schedule's, each with its line, then the first refused event with its
 /// number.
-pub fn replay_bytes(alloc: Global, plan: &[u8], schedule: &[u8]) -> Result<Vec<u8>, Fault>
+pub fn replay_bytes(
+    alloc: Global,
+    hasher: RandomState,
+    plan: &[u8],
+    schedule: &[u8],
+) -> Result<Vec<u8>, Fault>
     ensures answer { MatchResult result
         (λ report. replay_answer plan.now schedule.now ≡ Ok report.items)
         (λ fault. (shown fault ≡ no_memory) ⊎ (replay_answer plan.now schedule.now ≡ Err (shown fault))) }
     ensures history { IfOk result (λ report. ReportsHistory plan.now schedule.now report.items) }
 {
-    let plan = read_plan(alloc, plan)?;
+    let plan = read_plan(alloc, hasher, plan)?;
     let events = read_schedule(alloc, &plan, schedule)?;
     let core = replay(alloc, plan, events.as_slice())?;
     core.check();
