@@ -37,12 +37,6 @@ status-same plan phases h n sound d =
     ∙ (λ i. cond (sym (sound.bound d) i) status.Bound (cond (sym (sound.settled d) i) status.Failed
     (cond (is_some (sym (flight-phase phases h n d) i)) status.Probing (idle_status (is_available plan d) (is_matched plan d) (due-same plan phases h n sound d i)))))
 
-pub lines-same : (plan : List PlannedDevice) (phases : List Phase) (h : List Settle) (n : ℕ) → IsSound plan phases h n
-    → flat_map (λ d. line_of plan (bound_by phases) (status_by plan phases d) d) (devices plan)
-    ≡ flat_map (λ d. line_of plan (bound_in h) (status_of plan (state_of phases h n) d) d) (devices plan)
-lines-same plan phases h n sound =
-    λ i. flat_map (λ d. line_of plan (bound-same plan phases h n sound i) (status-same plan phases h n sound d i) d) (devices plan)
-
 -- what is found has what all have
 pub find-all : (p : ℕ → Bool) (P : ℕ → Type 0) (xs : List ℕ) → All P xs → IfSome (find p xs) P
 find-all p P [] all = tt

@@ -6,6 +6,8 @@ pub mod Laws
 pub mod Least
 pub mod Phase
 pub mod Ready
+pub mod RefinementCounts
+pub mod RefinementSet
 pub mod Refusal
 pub mod Replay
 pub mod Report
