@@ -1,10 +1,10 @@
 -- The counts of suppliers that aren't bound, lowered one consumer after another.
-use Rattle.std.proofs.Common.{◌≡◌, ◌≢◌, ◌⊎◌, inl, inr, ◌<◌, ◌≤◌, ◌+◌, ◌-◌, ℕ, zero, suc, Bool, true, false, not, ◌&&◌, ◌||◌, cond, List, [], ◌∷◌, ◌++◌, length, set, get_or, drop, map, eqb, ltb, refl, sym, ap, ap₂, ◌∙◌, subst, true≢false, arith, lt-ltb, le-ltb, append-nil, length-set}
+use Rattle.std.proofs.Common.{◌≡◌, ◌≢◌, ◌⊎◌, inl, inr, ◌<◌, ◌≤◌, ◌+◌, ◌-◌, ℕ, zero, suc, Bool, true, false, cond, List, [], ◌∷◌, ◌++◌, length, set, get_or, map, eqb, refl, sym, ap, ap₂, ◌∙◌, subst, arith, length-set}
 use Rattle.std.specs.List.{range_with_len, filter, list_any}
 use Rattle.bus_plan.specs.Plan.{PlannedDevice, nothing}
 use Rattle.bus_plan.specs.Consumers.{has_supplier}
-use Rattle.std.proofs.lemmas.Bool.{cases_lt, cases_eq, cases_Bool}
-use Rattle.std.proofs.lemmas.List.{get_or-set_same, get_or-set_other, get_or_past, drop_more, drop_all}
+use Rattle.std.proofs.lemmas.Bool.{cases_lt, cases_eq}
+use Rattle.std.proofs.lemmas.List.{get_or-set_same, get_or-set_other, get_or_past}
 
 -- ---- lists over a range
 pub map-range_more : {X : Type 0} (f : ℕ → X) (n a : ℕ) → map f (range_with_len a (suc n)) ≡ map f (range_with_len a n) ++ f (a + n) ∷ []

@@ -1,9 +1,9 @@
 -- The counts and the due devices of a core, as each event keeps them.
-use Rattle.std.proofs.Common.{◌≡◌, ◌≢◌, ◌⊎◌, inl, inr, ◌<◌, ◌≤◌, ◌+◌, ◌-◌, ℕ, zero, suc, Bool, true, false, not, ◌&&◌, ◌||◌, cond, List, [], ◌∷◌, ◌++◌, Option, Some, None, length, set, get_or, map, replicate, eqb, refl, sym, ap, ap₂, ◌∙◌, subst, true≢false, arith, length-set, eq-eqb, ne_eqb, eqb-true}
+use Rattle.std.proofs.Common.{◌≡◌, ◌≢◌, inl, inr, ◌<◌, ◌≤◌, ◌+◌, ◌-◌, ℕ, suc, Bool, true, false, not, ◌&&◌, ◌||◌, cond, List, [], ◌∷◌, Option, None, length, set, get_or, map, replicate, eqb, refl, sym, ap, ap₂, ◌∙◌, subst, true≢false, arith, length-set, eq-eqb, ne_eqb}
 use Rattle.std.specs.Prelude.{is_some, count_by, AllPairs}
 use Rattle.std.specs.List.{list_any, list_all, range_with_len}
-use Rattle.std.proofs.lemmas.Bool.{cases_eq, cases_lt, cases_Bool, eqb-false}
-use Rattle.std.proofs.lemmas.List.{get_or-set_same, get_or-set_other, get_or-map, get_or_past, length-map, map-set, length-replicate}
+use Rattle.std.proofs.lemmas.Bool.{cases_eq, cases_lt, cases_Bool}
+use Rattle.std.proofs.lemmas.List.{get_or-set_same, get_or-set_other, get_or-map, get_or_past, length-map, map-set}
 use Rattle.std.proofs.lemmas.List.FromFn.{get_or-map-range_with_len, length-map-range_with_len}
 use Rattle.std.proofs.lemmas.List.Folds.{sum_by-replicate}
 use Rattle.std.proofs.lemmas.List.Sums.{sum_by-cons, sum_by-set, get_or-le-sum_by, count_by-le-length}
@@ -14,13 +14,12 @@ use Rattle.bus_plan.specs.Consumers.{has_supplier}
 use Rattle.bus_core.specs.declared.phase.Phase.{Phase}
 use Rattle.bus_core.specs.declared.phase.Phase.TheVariants.{Fresh, Begun, InFlight, Bound, Failed}
 use Rattle.bus_core.specs.declared.settle.Settle.{Settle}
-use Rattle.bus_core.specs.CoreState.{CoreState, Flight}
-use Rattle.bus_core.specs.Due.{is_due}
+use Rattle.bus_core.specs.CoreState.{Flight}
 use Rattle.bus_core.specs.History.{bound_in}
-use Rattle.bus_core.specs.Phase.{phase_at, flight_in, bound_now, bound_by, due_in, due_by, idle_in, state_of}
+use Rattle.bus_core.specs.RefinementPhase.{phase_at, flight_in, bound_now, bound_by, due_in, due_by, idle_in, state_of}
 use Rattle.bus_core.specs.Ready.{is_ready}
 use Rattle.bus_core.specs.RefinementCounts.{missing_count, due_with, IsCounted}
-use Rattle.bus_core.specs.Sound.{IsSound}
+use Rattle.bus_core.specs.RefinementSound.{IsSound}
 use Rattle.bus_core.proofs.SoundLemmas.{bound-same, due-same, at-same, at-other, idle-unsettled, unsettled-now, fresh-at, first-sound, map-replicate}
 use Rattle.bus_core.proofs.SetLemmas.{set-said}
 use Rattle.bus_core.proofs.Lists.{or_false}

@@ -1,5 +1,5 @@
 -- The report by the phases is the report of the state.
-use Rattle.std.proofs.Common.{◌≡◌, ℕ, zero, suc, ◌+◌, ◌<◌, Bool, true, false, not, List, [], ◌∷◌, ◌++◌, Option, Some, None, cond, length, refl, sym, ap, ap₂, ◌∙◌, append-nil, append_assoc, add-one, arith}
+use Rattle.std.proofs.Common.{◌≡◌, ℕ, zero, suc, ◌+◌, Bool, true, false, List, [], ◌∷◌, ◌++◌, Some, cond, refl, sym, ap, ap₂, ◌∙◌, append-nil, append_assoc, arith}
 use Rattle.std.specs.Prelude.{is_some, flat_map, find, IfSome, All}
 use Rattle.std.specs.List.{range_with_len}
 use Rattle.std.proofs.lemmas.List.Elements.{All-head, All-tail}
@@ -7,14 +7,11 @@ use Rattle.bus_plan.specs.Plan.{PlannedDevice, is_available, is_matched}
 use Rattle.bus_core.specs.declared.phase.Phase.{Phase}
 use Rattle.bus_core.specs.declared.phase.Phase.TheVariants.{Fresh, Begun, InFlight, Bound, Failed}
 use Rattle.bus_core.specs.declared.settle.Settle.{Settle}
-use Rattle.bus_core.specs.declared.status.Status.{Status}
 use Rattle.bus_core.specs.declared.status.Status.TheVariants as status
-use Rattle.bus_core.specs.Due.{devices, is_due}
-use Rattle.bus_core.specs.History.{bound_in}
-use Rattle.bus_core.specs.Phase.{phase_at, flight_in, settled_in, bound_now, bound_by, due_by, idle_status, status_in, status_by, state_of}
-use Rattle.bus_core.specs.Report.{status_of, line_of}
-use Rattle.bus_core.specs.Sound.{IsSound}
-use Rattle.bus_core.proofs.SoundLemmas.{flight-phase, due-same, bound-same}
+use Rattle.bus_core.specs.RefinementPhase.{phase_at, flight_in, settled_in, bound_now, due_by, idle_status, status_in, status_by, state_of}
+use Rattle.bus_core.specs.Report.{status_of}
+use Rattle.bus_core.specs.RefinementSound.{IsSound}
+use Rattle.bus_core.proofs.SoundLemmas.{flight-phase, due-same}
 
 -- one device's line more
 pub flat_map-range_more : (f : ℕ → List ℕ) (n a : ℕ) → flat_map f (range_with_len a (suc n)) ≡ flat_map f (range_with_len a n) ++ f (a + n)

@@ -1,7 +1,7 @@
 -- The phases tell what the state says, and each event keeps it so.
-use Rattle.std.proofs.Common.{◌≡◌, ◌≢◌, ◌⊎◌, inl, inr, ℕ, zero, suc, ◌+◌, ◌<◌, ◌≤◌, Bool, true, false, not, ◌&&◌, ◌||◌, List, [], ◌∷◌, ◌++◌, Option, Some, None, length, eqb, ltb, cond, set, get_or, take, map, refl, sym, ap, ap₂, ◌∙◌, subst, true≢false, ne_eqb, eq-eqb, lt-ltb, le-ltb, arith, length-append, length-set, take_all}
-use Rattle.std.specs.Prelude.{is_some, count_by, replicate, nat_lt}
-use Rattle.std.proofs.lemmas.Bool.{or_from, cases_lt, cases_eq}
+use Rattle.std.proofs.Common.{◌≡◌, ◌≢◌, inl, inr, ℕ, zero, suc, ◌+◌, ◌<◌, ◌≤◌, Bool, true, false, not, ◌&&◌, ◌||◌, List, [], ◌∷◌, ◌++◌, None, length, eqb, cond, set, take, map, refl, sym, ap, ap₂, ◌∙◌, true≢false, ne_eqb, eq-eqb, lt-ltb, le-ltb, arith, length-set, take_all}
+use Rattle.std.specs.Prelude.{is_some, count_by, replicate}
+use Rattle.std.proofs.lemmas.Bool.{cases_lt, cases_eq}
 use Rattle.std.proofs.lemmas.List.{get_or-set_same, get_or-set_other, get_or_past, get_or-map, length-map, map-set, set-get_or, take-append-le, get_or-replicate, length-replicate, length_push}
 use Rattle.std.proofs.lemmas.List.Sums.{sum_by-set, get_or-le-sum_by}
 use Rattle.std.proofs.lemmas.List.Folds.{sum_by-replicate}
@@ -13,12 +13,12 @@ use Rattle.bus_core.specs.declared.settle.Outcome.{Outcome}
 use Rattle.bus_core.specs.declared.settle.Outcome.TheVariants as outcome
 use Rattle.bus_core.specs.declared.settle.Settle.{Settle}
 use Rattle.bus_core.specs.declared.limits.TheConstants.{MAX_BEGINS}
-use Rattle.bus_core.specs.CoreState.{CoreState, Flight, flight_of, is_in_flight, was_begun, first_state}
+use Rattle.bus_core.specs.CoreState.{flight_of, is_in_flight, was_begun, first_state}
 use Rattle.bus_core.specs.Due.{is_due, is_idle}
-use Rattle.bus_core.specs.History.{outcome_by, is_bound, bound_in, is_settled, IsBusHistory}
-use Rattle.bus_core.specs.Phase.{phase_at, flight_in, begun_in, settled_in, bound_now, bound_before, settled_phase, bound_by, due_in, due_by, idle_in, state_of}
+use Rattle.bus_core.specs.History.{outcome_by, is_bound, bound_in, is_settled}
+use Rattle.bus_core.specs.RefinementPhase.{phase_at, flight_in, begun_in, settled_in, bound_now, bound_before, settled_phase, bound_by, due_in, due_by, idle_in, state_of}
 use Rattle.bus_core.specs.Ready.{is_ready}
-use Rattle.bus_core.specs.Sound.{IsSound, unsettled_in}
+use Rattle.bus_core.specs.RefinementSound.{IsSound, unsettled_in}
 use Rattle.bus_core.specs.Step.{settle_of, begin_state, without_flight, finish_state}
 use Rattle.bus_core.specs.declared.event.Report.TheVariants.{Settled}
 use Rattle.bus_core.proofs.HistoryLemmas.{history-push, bound_in-push, is_settled-push, ready-matched}

@@ -6,7 +6,7 @@ use Rattle.bus_core.specs.declared.phase.Phase.{Phase}
 use Rattle.bus_core.specs.CoreState.{CoreState}
 use Rattle.bus_core.specs.Due.{is_due}
 use Rattle.bus_core.specs.History.{bound_in}
-use Rattle.bus_core.specs.Phase.{due_in}
+use Rattle.bus_core.specs.RefinementPhase.{due_in}
 
 -- how many suppliers of a device aren't in the set
 abbrev pub missing_count : List PlannedDevice → (ℕ → Bool) → ℕ → ℕ

@@ -4,7 +4,7 @@ ghost use Rattle.std.specs.Prelude.{◌≡◌, ◌<◌, ◌-◌, ℕ, true, fals
 ghost use Rattle.bus_plan.specs.Plan.{is_matched, suppliers_of};
 ghost use Rattle.bus_plan.specs.Consumers.{has_supplier};
 ghost use Rattle.bus_core.specs.Due.{devices};
-ghost use Rattle.bus_core.specs.Phase.{phase_at};
+ghost use Rattle.bus_core.specs.RefinementPhase.{phase_at};
 ghost use Rattle.bus_core.specs.RefinementCounts.{due_with};
 
 use crate::device_set::DeviceSet;

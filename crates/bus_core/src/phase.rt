@@ -2,7 +2,7 @@
 
 ghost use Rattle.std.specs.Prelude.{◌≡◌, ◌<◌, length, is_some};
 ghost use Rattle.bus_plan.specs.Plan.{is_matched};
-ghost use Rattle.bus_core.specs.Phase.{phase_at, bound_before, bound_by, idle_in, flight_in};
+ghost use Rattle.bus_core.specs.RefinementPhase.{phase_at, bound_before, bound_by, idle_in, flight_in};
 
 use bus_plan::{Device, Plan};
 

@@ -36,7 +36,7 @@ impl Model for Core {
 
     ghost Value = { CoreValue };
 
-    ghost use Rattle.bus_core.specs.CoreView.{core_value, IsKept};
+    ghost use Rattle.bus_core.specs.RefinementView.{core_value, IsKept};
 
     ghost view = { core_value };
 

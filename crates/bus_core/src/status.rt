@@ -3,7 +3,7 @@
 ghost use Rattle.std.specs.Prelude.{◌≡◌, ◌<◌, length};
 ghost use Rattle.bus_plan.specs.Plan.{is_available, is_matched};
 ghost use Rattle.bus_core.specs.Due.{is_due};
-ghost use Rattle.bus_core.specs.Phase.{idle_status};
+ghost use Rattle.bus_core.specs.RefinementPhase.{idle_status};
 ghost use Rattle.bus_core.specs.Report.{status_of};
 
 use crate::phase::{Phase, is_matched, phase_of};

@@ -1,7 +1,7 @@
-use Rattle.std.proofs.Common.{◌≡◌, ℕ, Bool, List, cond, get_or, drop, length, refl, sym, ap, ◌∙◌, subst, arith, false}
+use Rattle.std.proofs.Common.{◌≡◌, ℕ, Bool, cond, get_or, length, refl, sym, ap, ◌∙◌, subst, arith, false}
 use Rattle.std.proofs.lemmas.List.{drop_all}
 use Rattle.bus_plan.specs.Consumers.{has_supplier}
-use Rattle.bus_core.specs.Phase.{phase_at}
+use Rattle.bus_core.specs.RefinementPhase.{phase_at}
 use Rattle.bus_core.specs.RefinementCounts.{due_with}
 use Rattle.bus_core.proofs.CountLemmas.{lowered, marked, IsPositive, consumers-positive, lowered-all, marked-all, past-supplier}
 use Rattle.bus_core.proofs.counts.lower.Goals as goal

@@ -1,5 +1,5 @@
 use Rattle.std.proofs.Common.{◌≡◌, drop, length}
-use Rattle.bus_core.specs.Phase.{phase_at}
+use Rattle.bus_core.specs.RefinementPhase.{phase_at}
 use Rattle.bus_core.specs.RefinementCounts.{due_with}
 use Rattle.bus_core.proofs.CountLemmas.{lowered, marked, IsPositive}
 use Rattle.bus_core.proofs.counts.lower.Given as goal

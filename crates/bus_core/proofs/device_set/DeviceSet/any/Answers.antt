@@ -1,4 +1,4 @@
-use Rattle.std.proofs.Common.{◌≡◌, ap, ◌∙◌, subst, List, Bool, Option, ℕ, get_or, true, false}
+use Rattle.std.proofs.Common.{◌≡◌, ap, ◌∙◌, subst, List, Bool, ℕ, get_or, true, false}
 use Rattle.std.specs.Prelude.{IfNone, IfSome, slice_get, length, ◌-◌}
 use Rattle.bus_core.proofs.SetLemmas.{any-none, any-some}
 use Rattle.bus_core.proofs.device_set.DeviceSet.any.Goals as goal

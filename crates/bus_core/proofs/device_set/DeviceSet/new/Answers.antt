@@ -1,4 +1,4 @@
-use Rattle.std.proofs.Common.{◌≡◌, ap, ◌∙◌, arith, None, List, Option, ℕ, replicate}
+use Rattle.std.proofs.Common.{◌≡◌, ap, ◌∙◌, arith, None, replicate}
 use Rattle.bus_core.proofs.SetLemmas.{none-placed, none-view}
 use Rattle.bus_core.proofs.device_set.DeviceSet.new.Goals as goal
 

@@ -1,4 +1,4 @@
-use Rattle.std.proofs.Common.{◌≡◌, ◌<◌, ◌+◌, ◌-◌, Some, None, false, map, length, ap, ◌∙◌, arith, set}
+use Rattle.std.proofs.Common.{◌≡◌, ◌+◌, ◌-◌, Some, None, false, map, length, ap, ◌∙◌, arith, set}
 use Rattle.std.specs.Prelude.{is_some}
 use Rattle.bus_core.specs.RefinementSet.{place_of, member_at}
 use Rattle.bus_core.proofs.SetLemmas.{read-place, none-said, last-read, kept-within, last-filled, remove-placed, remove-view}

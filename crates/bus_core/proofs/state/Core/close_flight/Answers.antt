@@ -3,7 +3,7 @@ use Rattle.std.specs.Prelude.{is_some}
 use Rattle.bus_core.specs.declared.phase.Phase.TheVariants.{Begun}
 use Rattle.bus_core.specs.CoreState.{is_in_flight}
 use Rattle.bus_core.specs.History.{bound_in}
-use Rattle.bus_core.specs.Phase.{phase_at, flight_in, bound_by, state_of}
+use Rattle.bus_core.specs.RefinementPhase.{phase_at, flight_in, bound_by, state_of}
 use Rattle.bus_core.specs.Ready.{is_ready}
 use Rattle.bus_core.specs.RefinementCounts.{IsCounted}
 use Rattle.bus_core.specs.Step.{without_flight}

@@ -1,18 +1,18 @@
-use Rattle.std.proofs.Common.{◌≡◌, ◌<◌, ◌≤◌, ◌-◌, ◌+◌, ℕ, List, Bool, true, false, cond, length, get_or, set, subst, refl, ap, sym, ◌∙◌, arith}
+use Rattle.std.proofs.Common.{◌≡◌, ◌<◌, ◌≤◌, ◌-◌, ℕ, Bool, true, cond, length, set, refl, ap, sym, ◌∙◌, arith}
 use Rattle.std.specs.Prelude.{is_some}
 use Rattle.bus_core.specs.RefinementCounts.{IsCounted}
 use Rattle.bus_plan.specs.Plan.{verdict_of}
 use Rattle.bus_core.specs.declared.event.Report.TheVariants.{Settled}
-use Rattle.bus_core.specs.declared.phase.Phase.TheVariants.{Bound, Failed}
+use Rattle.bus_core.specs.declared.phase.Phase.TheVariants.{Failed}
 use Rattle.bus_core.specs.declared.settle.Outcome.TheVariants as outcome
 use Rattle.bus_core.specs.CoreState.{is_in_flight}
 use Rattle.bus_core.specs.History.{outcome_by, bound_in}
-use Rattle.bus_core.specs.Phase.{phase_at, flight_in, bound_by, state_of}
+use Rattle.bus_core.specs.RefinementPhase.{phase_at, flight_in, bound_by, state_of}
 use Rattle.bus_core.specs.Ready.{is_ready}
-use Rattle.bus_core.specs.Sound.{IsSound}
+use Rattle.bus_core.specs.RefinementSound.{IsSound}
 use Rattle.bus_core.specs.Step.{finish_state}
 use Rattle.bus_core.proofs.SoundLemmas.{bound-same, settled-sound, settled-view, flying-phase}
-use Rattle.bus_core.proofs.CountedLemmas.{flying-counts, flying-out, flying-unbound, flight_weight, moved-counted, bind-waits, bind-counted}
+use Rattle.bus_core.proofs.CountedLemmas.{flying-counts, flying-out, flying-unbound, moved-counted}
 use Rattle.bus_core.proofs.state.Core.fail.Goals as goal
 
 abbrev one_or_none : Bool → ℕ

@@ -1,4 +1,4 @@
-use Rattle.std.proofs.Common.{◌≡◌, ◌∙◌}
+use Rattle.std.proofs.Common.{◌∙◌}
 use Rattle.bus_core.specs.Due.{is_due}
 use Rattle.bus_core.proofs.state.Core.is_due.Goals as goal
 

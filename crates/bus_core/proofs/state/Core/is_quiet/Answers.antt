@@ -1,9 +1,9 @@
-use Rattle.std.proofs.Common.{◌≡◌, eqb, length, subst, ◌∙◌}
+use Rattle.std.proofs.Common.{◌≡◌, eqb, subst, ◌∙◌}
 use Rattle.std.proofs.lemmas.List.{length-map}
 use Rattle.bus_core.specs.CoreState.{CoreValue}
 use Rattle.bus_core.specs.Due.{is_due, is_quiet}
 use Rattle.bus_core.specs.History.{IsBusHistory}
-use Rattle.bus_core.specs.Phase.{flight_in, state_of}
+use Rattle.bus_core.specs.RefinementPhase.{flight_in, state_of}
 use Rattle.bus_core.proofs.QuietLemmas.{due-busy, landed-quiet, quiet-then_least}
 use Rattle.bus_core.proofs.state.Core.is_quiet.Goals as goal
 use Rattle.bus_core.proofs.state.Core.is_quiet.Goals.{In-None}

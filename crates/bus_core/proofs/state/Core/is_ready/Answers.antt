@@ -1,4 +1,4 @@
-use Rattle.std.proofs.Common.{◌≡◌, ◌<◌, ◌&&◌, false, true, length, ap, sym, ◌∙◌, arith, eqb, get_or, ne_eqb, eq-eqb}
+use Rattle.std.proofs.Common.{◌≡◌, ◌<◌, length, ap, sym, ◌∙◌, arith, eqb, get_or, ne_eqb, eq-eqb}
 use Rattle.std.proofs.lemmas.List.{get_or_read}
 use Rattle.bus_plan.specs.Plan.{is_matched}
 use Rattle.bus_core.specs.History.{bound_in}

@@ -1,5 +1,5 @@
-use Rattle.std.proofs.Common.{◌≡◌, ◌<◌, ℕ, true, false, Option, length, sym, subst, ◌∙◌}
-use Rattle.std.specs.Prelude.{IfSome, IfNone, slice_index_or}
+use Rattle.std.proofs.Common.{◌≡◌, ◌<◌, ℕ, true, false, length, sym, ◌∙◌}
+use Rattle.std.specs.Prelude.{slice_index_or}
 use Rattle.bus_core.specs.Due.{is_due}
 use Rattle.bus_core.proofs.QuietLemmas.{some-weaker, none-weaker, due-within}
 use Rattle.bus_core.proofs.state.Core.next.Goals as goal

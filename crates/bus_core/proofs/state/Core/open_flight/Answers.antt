@@ -2,7 +2,7 @@ use Rattle.std.proofs.Common.{◌≡◌, ◌<◌, ◌+◌, true, length, set, re
 use Rattle.bus_core.specs.declared.limits.TheConstants.{MAX_BEGINS}
 use Rattle.bus_core.specs.declared.phase.Phase.TheVariants.{InFlight}
 use Rattle.bus_core.specs.Due.{is_idle}
-use Rattle.bus_core.specs.Phase.{phase_at, idle_in, state_of}
+use Rattle.bus_core.specs.RefinementPhase.{phase_at, idle_in, state_of}
 use Rattle.bus_core.specs.RefinementCounts.{IsCounted}
 use Rattle.bus_core.specs.Step.{begin_state}
 use Rattle.bus_core.proofs.SoundLemmas.{idle-same, begun-sound, begun-view}

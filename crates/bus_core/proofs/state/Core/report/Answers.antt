@@ -1,4 +1,4 @@
-use Rattle.std.proofs.Common.{◌≡◌, ◌++◌, cond, ap, ap₂, ◌∙◌}
+use Rattle.std.proofs.Common.{◌++◌, cond, ap, ap₂, ◌∙◌}
 use Rattle.std.specs.Prelude.{codes}
 use Rattle.bus_core.proofs.state.Core.report.Goals as goal
 

@@ -2,9 +2,9 @@
 use Rattle.std.specs.Prelude.{◌≤◌, length, vec_capacity}
 use Rattle.bus_core.specs.declared.state.Core.TheInside.{Inside}
 use Rattle.bus_core.specs.CoreState.{CoreValue}
-use Rattle.bus_core.specs.Phase.{state_of}
+use Rattle.bus_core.specs.RefinementPhase.{state_of}
 use Rattle.bus_core.specs.RefinementCounts.{IsCounted}
-use Rattle.bus_core.specs.Sound.{IsSound}
+use Rattle.bus_core.specs.RefinementSound.{IsSound}
 
 abbrev pub core_value : Inside → CoreValue
 core_value core = record { plan = core.plan; state = state_of core.phases.items core.history.items core.begins }
