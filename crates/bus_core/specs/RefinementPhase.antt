@@ -1,4 +1,4 @@
--- What the core keeps of one device, and how contracts see it.
+-- What the core keeps of one device, and how contracts see it. No public clause cites it.
 use Rattle.std.specs.Prelude.{ℕ, Bool, true, false, nat_lt, not, ◌||◌, is_some, if◌then◌else◌, List, Option, Some, None, slice_index_or, map}
 use Rattle.bus_plan.specs.Plan.{PlannedDevice, is_available, is_matched}
 use Rattle.bus_core.specs.declared.phase.Phase.{Phase}
@@ -91,10 +91,6 @@ status_in Failed available matched due = status.Failed
 
 abbrev pub status_by : List PlannedDevice → List Phase → ℕ → Status
 status_by plan phases d = status_in (phase_at phases d) (is_available plan d) (is_matched plan d) (due_by plan phases d)
-
--- whether a device is in flight or due
-abbrev pub busy_by : List PlannedDevice → List Phase → ℕ → Bool
-busy_by plan phases d = is_some (flight_in (phase_at phases d)) || due_by plan phases d
 
 abbrev pub state_of : List Phase → List Settle → ℕ → CoreState
 state_of phases history begins =
