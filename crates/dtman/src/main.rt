@@ -4,6 +4,7 @@
 mod command_line;
 mod program;
 mod subcommand;
+mod surroundings;
 #[cfg(test)]
 mod tests;
 

@@ -4,6 +4,7 @@
 mod channel;
 mod dump;
 mod fault;
+mod limits;
 mod memory;
 mod replay;
 mod streams;
@@ -12,6 +13,7 @@ mod transfer;
 pub use channel::{Channel, Failed};
 pub use dump::dump_bytes;
 pub use fault::{Fault, Place};
+pub use limits::{MAX_BLOB_LEN, MAX_TEXT_LEN};
 pub use memory::Memory;
 pub use replay::replay_bytes;
 pub use streams::{FileChannel, OutputChannel};

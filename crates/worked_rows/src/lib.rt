@@ -6,6 +6,8 @@
 #[cfg(test)]
 mod blobs;
 #[cfg(test)]
+mod channels;
+#[cfg(test)]
 mod cores;
 #[cfg(test)]
 mod drafts;
