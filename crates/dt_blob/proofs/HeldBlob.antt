@@ -8,12 +8,11 @@ use Rattle.dt_tree.specs.declared.property.Property.{Property}
 use Rattle.dt_tree.specs.Name.{is_name, is_name_byte, are_names}
 use Rattle.dt_tree.specs.NodeData.{NodeData, Siblings, none, more, child_names, property_names}
 use Rattle.dt_tree.specs.Sound.{IsSoundBelow, IsSound}
-use Rattle.dt_tree.specs.TreeData.{TreeData, IsTree, is_reserve}
+use Rattle.dt_tree.specs.TreeData.{TreeData, IsTree, AreLong, is_reserve}
 use Rattle.dt_blob.specs.BigEndian.{word, double_word}
 use Rattle.dt_blob.specs.Blob.{padding, token_bytes, structure_from, names_in, reservations, header, blob_of}
 use Rattle.dt_blob.specs.HeaderWords.{word_at, header_of, is_laid_out, header_fault, strings_of, structure_of, reserves_of}
 use Rattle.dt_blob.specs.Holds.{has_no_zero, Pads, Names, Spells, without_nops, SpellsRoot, Reserves, Holds}
-use Rattle.dt_blob.specs.InRange.{AreLong, InRange}
 use Rattle.dt_blob.specs.Strings.{begins, lowest_place, ended, offset_in, with_name, with_names}
 use Rattle.dt_blob.specs.Token.{Token, begin_node, end_node, property, nop, end, property_tokens, sibling_tokens, tokens_of, tree_tokens}
 use Rattle.dt_blob.proofs.Blocks.{length-header, length-reservations}
@@ -300,8 +299,8 @@ strings_there bytes h rs ss ts boot l e w =
     ∙ ap (take (length ts)) (drop_at ((h ++ rs) ++ ss) ts (40 + length rs + length ss) front)
     ∙ take_all (length ts) ts (omega arith)
 
-pub blob_holds : (tree : TreeData) → IsTree tree → InRange tree → length (blob_of tree) ≤ 2 ^ 28 → Holds (blob_of tree) tree
-blob_holds tree i n h =
+pub blob_holds : (tree : TreeData) → IsTree tree → length (blob_of tree) ≤ 2 ^ 28 → Holds (blob_of tree) tree
+blob_holds tree i h =
     let bytes : List ℕ = blob_of tree in
     let rs : List ℕ = reservations tree.reserves in
     let tokens : List Token = tree_tokens tree.root in
@@ -310,11 +309,11 @@ blob_holds tree i n h =
     let head : List ℕ = header tree.boot_cpu (length rs) (length ss) (length ts) in
     let l : length head ≡ 40 = length-header tree.boot_cpu (length rs) (length ss) (length ts) in
     let len : length bytes ≡ 40 + length rs + length ss + length ts = omega (arith, l, length-append head (rs ++ (ss ++ ts)), length-append rs (ss ++ ts), length-append ss ts) in
-    let w : Words bytes tree.boot_cpu (length rs) (length ss) (length ts) = words_of tree.boot_cpu (length rs) (length ss) (length ts) (rs ++ (ss ++ ts)) n.boot_cpu (omega (arith, len, h)) in
+    let w : Words bytes tree.boot_cpu (length rs) (length ss) (length ts) = words_of tree.boot_cpu (length rs) (length ss) (length ts) (rs ++ (ss ++ ts)) i.boot_cpu_fits (omega (arith, len, h)) in
     let m : length rs % 4 ≡ 0 = omega (arith, length-reservations tree.reserves) in
     record {
       header = no_header_fault bytes tree.boot_cpu (length rs) (length ss) (length ts) m len h w;
-      reserves = subst (Reserves tree.reserves) (sym (reserves_there bytes head rs ss ts tree.boot_cpu l refl w)) (reserves_held tree.reserves (ss ++ ts) i.no_end n.reserves);
+      reserves = subst (Reserves tree.reserves) (sym (reserves_there bytes head rs ss ts tree.boot_cpu l refl w)) (reserves_held tree.reserves (ss ++ ts) i.no_end i.long);
       structure = subst (λ (x : List ℕ). SpellsRoot x tree.root (structure_of bytes)) (sym (strings_there bytes head rs ss ts tree.boot_cpu l refl w))
           (subst (SpellsRoot ts tree.root) (sym (structure_there bytes head rs ss ts tree.boot_cpu l refl w)) (root_held ts tree.root i.no_name i.sound refl (omega (arith, len, h)) (omega (arith, len, h))));
       boot_cpu = sym w.boot_cpu;

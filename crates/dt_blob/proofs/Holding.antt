@@ -45,7 +45,7 @@ reserves_again_in (r ∷ rs) (suc n) bytes h l =
     let later = reserves_again_in rs n (h.0) (h.5) (omega (arith, f.3)) in
     rw (long, f.0, f.1, f.2, some, later) refl
 
-reserves_again : (rs : List (ℕ × ℕ)) (bytes : List ℕ) → Reserves rs bytes → reserves_at bytes ≡ Some rs
+pub reserves_again : (rs : List (ℕ × ℕ)) (bytes : List ℕ) → Reserves rs bytes → reserves_at bytes ≡ Some rs
 unfolding reserves_at
 reserves_again rs bytes h = reserves_again_in rs (suc (length bytes)) bytes h (omega arith)
 

@@ -55,6 +55,10 @@ abbrev pub Reserves : List (ℕ × ℕ) → List ℕ → Type 0
 Reserves [] bytes = (rest : List ℕ) × (bytes ≡ double_word 0 ++ (double_word 0 ++ rest))
 Reserves (r ∷ rs) bytes = (rest : List ℕ) × (bytes ≡ double_word (r.0) ++ (double_word (r.1) ++ rest)) × (r.0 < 2 ^ 64) × (r.1 < 2 ^ 64) × IsTrue (is_reserve r) × Reserves rs rest
 
+-- no pair of zeros ends the pairs that the bytes begin with
+abbrev pub HaveNoEnd : List ℕ → Type 0
+HaveNoEnd bytes = (rs : List (ℕ × ℕ)) → Reserves rs bytes → ⊥
+
 -- the bytes hold the tree
 pub record Holds (bytes : List ℕ) (tree : TreeData) : Type 0 where
   pub header : header_fault bytes ≡ None

@@ -3,7 +3,6 @@ pub mod Blob
 pub mod BlobError
 pub mod HeaderWords
 pub mod Holds
-pub mod InRange
 pub mod Opened
 pub mod Printed
 pub mod Reading

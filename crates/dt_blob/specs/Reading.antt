@@ -12,14 +12,14 @@ use Rattle.dt_blob.specs.HeaderWords.{header_of, header_fault, strings_of, struc
 use Rattle.dt_blob.specs.Token.{Token, begin_node, end_node, property, nop, end}
 use Rattle.dt_blob.specs.Opened.{begun, root_from}
 
--- What a function behind the header returned, seen by view, is what reading gives, unless memory ran out. The
--- refusals of the header aren't given there.
+-- What a function of the structure block returned, seen by view, is what reading gives, unless memory ran out. The
+-- refusals of the header and of the reserves aren't given there.
 abbrev pub Refuses : {Y : Type 0} → BlobError → Option Y → Type 0
 Refuses errors.NoMemory read = Unit {0}
 Refuses errors.Truncated read = ⊥
 Refuses errors.BadMagic read = ⊥
 Refuses errors.BadVersion read = ⊥
-Refuses errors.BadLayout read = read ≡ None
+Refuses errors.BadLayout read = ⊥
 Refuses errors.BadToken read = read ≡ None
 Refuses errors.BadString read = read ≡ None
 Refuses errors.PropertyAfterNode read = read ≡ None
@@ -30,9 +30,9 @@ abbrev pub Gives : {X Y : Type 0} → (X → Y) → Result X BlobError → Optio
 Gives view (Ok x) read = read ≡ Some (view x)
 Gives view (Err e) read = Refuses e read
 
--- why there is no tree: the header's first fault, or what stands behind the header
-abbrev pub RefusesAll : BlobError → Option BlobError → Option TreeData → Type 0
-RefusesAll e fault read = (fault ≡ Some e) ⊎ ((fault ≡ None) × Refuses e read)
+-- the reserves have no end
+abbrev pub HasNoEnd : BlobError → Option (List (ℕ × ℕ)) → Type 0
+HasNoEnd e reserves = (e ≡ errors.BadLayout) × (reserves ≡ None)
 
 -- ---- tokens
 
@@ -126,6 +126,10 @@ tree_in bytes =
     if is_none (header_fault bytes)
     then tree_by bytes (reserves_at (reserves_of bytes)) (root_from begun (tokens_at (strings_of bytes) (structure_of bytes)))
     else None
+
+-- why there is no tree: the header's first fault, the reserves, or what stands behind them
+abbrev pub RefusesAll : BlobError → List ℕ → Type 0
+RefusesAll e bytes = (header_fault bytes ≡ Some e) ⊎ ((header_fault bytes ≡ None) × (HasNoEnd e (reserves_at (reserves_of bytes)) ⊎ Refuses e (tree_in bytes)))
 
 -- ---- what the code keeps
 

@@ -1,5 +1,6 @@
-ghost use Rattle.std.specs.Prelude.{◌≡◌, ◌≤◌, ◌+◌, ◌++◌, length, MatchResult};
+ghost use Rattle.std.specs.Prelude.{◌≡◌, ◌≤◌, ◌+◌, ◌++◌, length, IfOk, MatchResult};
 ghost use Rattle.dt_blob.specs.Blob.{limit, blob_of, header, reservations};
+ghost use Rattle.dt_blob.specs.Holds.{Holds};
 ghost use Rattle.dt_blob.specs.Written.{Refuses};
 
 use crate::error::BlobError;
@@ -34,8 +35,10 @@ fn begin(alloc: Global, reserves: &[(u64, u64)]) -> Result<Vec<u8>, BlobError>
 /// Makes the blob of a tree, in version 17. Fails with `TooLarge` where it has over 268,435,456
 /// bytes, and with `NoMemory`.
 pub fn write(alloc: Global, tree: &Tree) -> Result<Vec<u8>, BlobError>
-    ensures { MatchResult result (λ blob. (blob.items ≡ blob_of tree.now) × (length blob.items ≤ limit)) (λ e. Refuses (length (blob_of tree.now)) e) }
+    ensures blob { MatchResult result (λ blob. (blob.items ≡ blob_of tree.now) × (length blob.items ≤ limit)) (λ e. Refuses (length (blob_of tree.now)) e) }
+    ensures held { IfOk result (λ blob. Holds blob.items tree.now) }
 {
+    tree.check();
     let bytes = begin(alloc, tree.reserves())?;
     let reserved = bytes.len() - HEADER_SIZE;
     let mut writer = Writer::new(bytes, Strings::new(alloc, tree.root())?);

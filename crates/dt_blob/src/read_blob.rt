@@ -1,8 +1,8 @@
 //! Reading a blob.
-ghost use Rattle.std.specs.Prelude.{◌≡◌, ◌≤◌, ◌+◌, ◌↔◌, length, IfOk, IsErrOf, MatchResult, Some};
+ghost use Rattle.std.specs.Prelude.{◌≡◌, ◌≤◌, ◌+◌, ◌↔◌, ◌⊎◌, length, IfOk, IsErrOf, MatchResult, None, Some};
 ghost use Rattle.dt_tree.specs.TreeData.{TreeData};
-ghost use Rattle.dt_blob.specs.HeaderWords.{block, header_fault};
-ghost use Rattle.dt_blob.specs.Holds.{Holds};
+ghost use Rattle.dt_blob.specs.HeaderWords.{block, header_fault, reserves_of};
+ghost use Rattle.dt_blob.specs.Holds.{HaveNoEnd, Holds};
 ghost use Rattle.dt_blob.specs.Reading.{RefusesAll, tree_in};
 
 use crate::error::BlobError;
@@ -21,7 +21,7 @@ fn block(bytes: &[u8], place: u32, size: u32) -> &[u8]
 }
 
 fn whole(alloc: Global, bytes: &[u8]) -> Result<Tree, BlobError>
-    ensures { MatchResult result (λ t. tree_in bytes.now ≡ Some t) (λ e. RefusesAll e (header_fault bytes.now) (tree_in bytes.now)) }
+    ensures { MatchResult result (λ t. tree_in bytes.now ≡ Some t) (λ e. RefusesAll e bytes.now) }
 {
     let header = read_header(bytes)?;
     let blob = first(bytes, header.size as usize);
@@ -51,6 +51,9 @@ pub fn read(alloc: Global, bytes: &[u8]) -> Result<Tree, BlobError>
     ensures truncated { IsErrOf result BlobError.Truncated ↔ (header_fault bytes.now ≡ Some BlobError.Truncated) }
     ensures bad_magic { IsErrOf result BlobError.BadMagic ↔ (header_fault bytes.now ≡ Some BlobError.BadMagic) }
     ensures bad_version { IsErrOf result BlobError.BadVersion ↔ (header_fault bytes.now ≡ Some BlobError.BadVersion) }
+    // This one too, and else the reserved memory has no end.
+    ensures bad_layout { header_fault bytes.now ≡ Some BlobError.BadLayout → IsErrOf result BlobError.BadLayout }
+    ensures no_end { IsErrOf result BlobError.BadLayout → (header_fault bytes.now ≡ Some BlobError.BadLayout) ⊎ ((header_fault bytes.now ≡ None) × HaveNoEnd (reserves_of bytes.now)) }
 {
     let tree = whole(alloc, bytes)?;
     tree.check();

@@ -3,7 +3,6 @@ ghost use Rattle.std.specs.Prelude.{◌≡◌, ◌≤◌, List, ℕ, length};
 ghost use Rattle.dt_tree.specs.TreeData.{TreeData, IsTree};
 ghost use Rattle.dt_blob.specs.Blob.{limit, blob_of};
 ghost use Rattle.dt_blob.specs.Holds.{Holds};
-ghost use Rattle.dt_blob.specs.InRange.{InRange};
 
 /// Bytes hold at most one tree.
 pub fn one_tree()
@@ -12,5 +11,5 @@ pub fn one_tree()
 
 /// The blob of a tree holds that tree, where it isn't over 268,435,456 bytes.
 pub fn blob_holds()
-    ensures { (tree : TreeData) → IsTree tree → InRange tree → length (blob_of tree) ≤ limit → Holds (blob_of tree) tree }
+    ensures { (tree : TreeData) → IsTree tree → length (blob_of tree) ≤ limit → Holds (blob_of tree) tree }
 {}

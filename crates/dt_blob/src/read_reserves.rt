@@ -1,7 +1,7 @@
 //! The block of memory reservations.
-ghost use Rattle.std.specs.Prelude.{◌≡◌, ◌≤◌, length};
+ghost use Rattle.std.specs.Prelude.{◌≡◌, ◌≤◌, ◌⊎◌, length, MatchResult, Some};
 ghost use Rattle.byteorder.specs.Endian.{big_number};
-ghost use Rattle.dt_blob.specs.Reading.{Gives, reserves_at};
+ghost use Rattle.dt_blob.specs.Reading.{HasNoEnd, reserves_at};
 
 use crate::error::BlobError;
 use crate::read_token::behind;
@@ -17,7 +17,7 @@ fn long(bytes: &[u8]) -> u64
 
 /// The addresses and sizes before the first pair of zeros; `BadLayout` where none comes.
 pub(crate) fn read_reserves(alloc: Global, bytes: &[u8]) -> Result<Vec<(u64, u64)>, BlobError>
-    ensures { Gives (λ v. v.items) result (reserves_at bytes.now) }
+    ensures { MatchResult result (λ v. reserves_at bytes.now ≡ Some v.items) (λ e. (e ≡ BlobError.NoMemory) ⊎ HasNoEnd e (reserves_at bytes.now)) }
 {
     let mut reserves = Vec::new(alloc);
     let mut rest = bytes;

@@ -5,6 +5,7 @@ pub mod OrderLaws
 pub mod PathTexts
 pub mod PhandleLaws
 pub mod Places
+pub mod PreorderLaws
 pub mod ReservedLaws
 pub mod SeenNames
 pub mod SiblingsLemmas

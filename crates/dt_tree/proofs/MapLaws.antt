@@ -113,13 +113,13 @@ same_siblings (more n p c r) (more n' p' c' r') d s names same =
 
 pub same_node : (a b : NodeData) → IsSound a → a.name ≡ b.name → path_map a ≡ path_map b → a ≡ b
 same_node a b s name_is e =
-    let names : Some (property_names a.properties) ≡ Some (property_names b.properties) = ap (λ (m : PathMap). m.properties []) e in
-    let kids : Some (child_names a.children) ≡ Some (child_names b.children) = ap (λ (m : PathMap). m.children []) e in
-    let p_is = same_properties a.properties b.properties s.properties.distinct (cc names) (λ j. ap (λ (m : PathMap). m.value [] j) e) in
+    let names : Some (property_names a.properties) ≡ Some (property_names b.properties) = ap (λ (m : PathMap (List ℕ)). m.properties []) e in
+    let kids : Some (child_names a.children) ≡ Some (child_names b.children) = ap (λ (m : PathMap (List ℕ)). m.children []) e in
+    let p_is = same_properties a.properties b.properties s.properties.distinct (cc names) (λ j. ap (λ (m : PathMap (List ℕ)). m.value [] j) e) in
     let c_is = same_siblings a.children b.children s.siblings.distinct s.below (cc kids) (record {
-      names = λ y ys. ap (λ (m : PathMap). m.properties (y ∷ ys)) e;
-      values = λ y ys j. ap (λ (m : PathMap). m.value (y ∷ ys) j) e;
-      children = λ y ys. ap (λ (m : PathMap). m.children (y ∷ ys)) e;
+      names = λ y ys. ap (λ (m : PathMap (List ℕ)). m.properties (y ∷ ys)) e;
+      values = λ y ys j. ap (λ (m : PathMap (List ℕ)). m.value (y ∷ ys) j) e;
+      children = λ y ys. ap (λ (m : PathMap (List ℕ)). m.children (y ∷ ys)) e;
     }) in
     λ i. record { name = name_is i; properties = p_is i; children = c_is i }
 

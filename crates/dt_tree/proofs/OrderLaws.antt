@@ -61,17 +61,17 @@ earlier-either x y (n ∷ ns) d a b = at_head n ns _ refl _ refl a b (earlier-ei
   at_head n ns false f false g a b ih = rw (f, g) (ih (rw f at a) (rw g at b))
 
 -- ---- paths
-abbrev pub HasDistinct : PathMap → Type 0
+abbrev pub HasDistinct : PathMap (List ℕ) → Type 0
 HasDistinct m = (path : Way) → are_distinct (unwrap_or (m.children path) []) ≡ true
 
 distinct_or_none : (o : Option Way) → ((ns : Way) → o ≡ Some ns → are_distinct ns ≡ true) → are_distinct (unwrap_or o []) ≡ true
 distinct_or_none None h = refl
 distinct_or_none (Some ns) h = h ns refl
 
-pub has_distinct : (m : PathMap) → IsPathMap m → HasDistinct m
+pub has_distinct : (m : PathMap (List ℕ)) → IsPathMap m → HasDistinct m
 has_distinct m i path = distinct_or_none (m.children path) (i.no_child_twice path)
 
-pub precedes-apart : (m : PathMap) → HasDistinct m → (p q : Way) → precedes m p q ≡ true → precedes m q p ≡ false
+pub precedes-apart : (m : PathMap (List ℕ)) → HasDistinct m → (p q : Way) → precedes m p q ≡ true → precedes m q p ≡ false
 precedes-apart m d [] [] e = refl
 precedes-apart m d [] (y ∷ ys) e = refl
 precedes-apart m d (x ∷ xs) [] e = absurd (let bad : false ≡ true = e in cc bad)
@@ -87,10 +87,10 @@ precedes-apart m d (x ∷ xs) (y ∷ ys) e = at_head x y _ refl e (precedes-apar
       let back : bytes_eq y x ≡ false = bytes_eq-comm y x ∙ f in
       rw back (earlier-apart x y (unwrap_or (m.children []) []) (d []) beside)
 
-abbrev pub IsEither : PathMap → Way → Way → Type 0
+abbrev pub IsEither : PathMap (List ℕ) → Way → Way → Type 0
 IsEither m p q = (p ≡ q) ⊎ (precedes m p q ≡ true) ⊎ (precedes m q p ≡ true)
 
-among_some : (b : NodeData) (x : List ℕ) (xs : Way) → is_some (node_at b (x ∷ xs)) ≡ true → is_among x (child_names b.children) ≡ true
+pub among_some : (b : NodeData) (x : List ℕ) (xs : Way) → is_some (node_at b (x ∷ xs)) ≡ true → is_among x (child_names b.children) ≡ true
 among_some b x xs e = sym (child-among b.children x) ∙ some_below (child_named b.children x) e where
   some_below : (o : Option NodeData) → is_some (option_and_then (λ (d : NodeData). node_at d xs) o) ≡ true → is_some o ≡ true
   some_below None e = e
@@ -103,8 +103,8 @@ precedes-either (x ∷ xs) [] b e f = inr (inr refl)
 precedes-either (x ∷ xs) (y ∷ ys) b e f = at_head b x y xs ys e f _ refl (λ c. precedes-either xs ys c) where
   in_child : (b c : NodeData) (x : List ℕ) (xs ys : Way) → child_named b.children x ≡ Some c → IsEither (path_map c) xs ys → IsEither (path_map b) (x ∷ xs) (x ∷ ys)
   in_child b c x xs ys is (inl e) = inl (ap (λ (z : Way). x ∷ z) e)
-  in_child b c x xs ys is (inr (inl e)) = inr (inl (rw (bytes_eq-refl x) (ap (λ (m : PathMap). precedes m xs ys) (part_child b c x is) ∙ e)))
-  in_child b c x xs ys is (inr (inr e)) = inr (inr (rw (bytes_eq-refl x) (ap (λ (m : PathMap). precedes m ys xs) (part_child b c x is) ∙ e)))
+  in_child b c x xs ys is (inr (inl e)) = inr (inl (rw (bytes_eq-refl x) (ap (λ (m : PathMap (List ℕ)). precedes m xs ys) (part_child b c x is) ∙ e)))
+  in_child b c x xs ys is (inr (inr e)) = inr (inr (rw (bytes_eq-refl x) (ap (λ (m : PathMap (List ℕ)). precedes m ys xs) (part_child b c x is) ∙ e)))
 
   same_child : (b : NodeData) (x : List ℕ) (xs ys : Way) (o : Option NodeData) → child_named b.children x ≡ o → is_some (option_and_then (λ (d : NodeData). node_at d xs) o) ≡ true → is_some (option_and_then (λ (d : NodeData). node_at d ys) o) ≡ true
       → ((c : NodeData) → is_some (node_at c xs) ≡ true → is_some (node_at c ys) ≡ true → IsEither (path_map c) xs ys) → IsEither (path_map b) (x ∷ xs) (x ∷ ys)

@@ -1,9 +1,10 @@
 -- A path's text and its names say the same.
-use Rattle.std.proofs.Common.{◌≡◌, ◌<◌, append-nil, ℕ, Bool, true, false, ◌&&◌, List, [], ◌∷◌, ◌++◌, length, refl, ap, sym, ◌∙◌, arith}
+use Rattle.std.proofs.Common.{◌≡◌, ◌<◌, append-nil, append_assoc, ℕ, Bool, true, false, ◌&&◌, List, [], ◌∷◌, ◌++◌, length, refl, ap, sym, ◌∙◌, arith}
 use Rattle.std.specs.List.{All, slice_split, list_all, join_with_byte}
 use Rattle.std.proofs.lemmas.Bool.Decides.{nat_tests}
 use Rattle.std.proofs.lemmas.List.Splits.{slice_split_none, slice_split_at, length-slice_split, join_with_byte-slice_split}
 use Rattle.std.proofs.lemmas.List.Elements.{All-from_recursion}
+use Rattle.std.proofs.lemmas.List.Folds.{list_all-append}
 use Rattle.std.specs.List.{AllByRecursion as ByRecursion}
 use Rattle.dt_tree.specs.Name.{is_name_byte, is_name, are_names}
 use Rattle.dt_tree.specs.Path.{is_slash, names_behind, path_names, is_path, behind_slashes, path_text}
@@ -90,3 +91,36 @@ is_path-path_text (n ∷ ns) e = rw (path_names-path_text (n ∷ ns) e) e
 -- paths with the same names are the same
 pub path_names-inj : (s t : List ℕ) → is_path s ≡ true → is_path t ≡ true → path_names s ≡ path_names t → s ≡ t
 path_names-inj s t es et e = sym (path_text-path_names s es) ∙ ap path_text e ∙ path_text-path_names t et
+
+-- ---- a path with one name more
+-- below the root the text is that of the names
+pub names_text-below : (t : List ℕ) → is_path t ≡ true → (length t ≡ 1 → ⊥) → behind_slashes (path_names t) ≡ t
+names_text-below t e more = by_names (path_names t) (path_text-path_names t e) where
+  by_names : (ns : List (List ℕ)) → path_text ns ≡ t → behind_slashes ns ≡ t
+  by_names [] is = absurd (more (ap length (sym is)))
+  by_names (n ∷ ns) is = is
+
+behind-push : (ns : List (List ℕ)) (n : List ℕ) → behind_slashes (ns ++ n ∷ []) ≡ behind_slashes ns ++ 47 ∷ n
+behind-push [] n = ap (λ (t : List ℕ). 47 ∷ t) (append-nil n)
+behind-push (m ∷ ms) n = ap (λ (t : List ℕ). 47 ∷ (m ++ t)) (behind-push ms n) ∙ ap (λ (t : List ℕ). 47 ∷ t) (sym (append_assoc m (behind_slashes ms) (47 ∷ n)))
+
+text-push : (ns : List (List ℕ)) (n : List ℕ) → path_text (ns ++ n ∷ []) ≡ behind_slashes ns ++ 47 ∷ n
+text-push [] n = behind-push [] n
+text-push (m ∷ ms) n = behind-push (m ∷ ms) n
+
+names-push : (ns : List (List ℕ)) (n : List ℕ) → are_names ns ≡ true → is_name n ≡ true → are_names (ns ++ n ∷ []) ≡ true
+names-push ns n e f = rw (list_all-append is_name ns (n ∷ []), e, f) refl
+
+-- the text is the path of a child
+pub record IsChild (above name text : List ℕ) : Type 0 where
+  pub lawful : is_path text ≡ true
+  pub names : path_names text ≡ path_names above ++ name ∷ []
+
+pub child_path : (above name text : List ℕ) → is_path above ≡ true → is_name name ≡ true → text ≡ behind_slashes (path_names above) ++ 47 ∷ name → IsChild above name text
+child_path above name text e f is =
+    let named = names-push (path_names above) name (are_names-path_names above e) f in
+    let is' : text ≡ path_text (path_names above ++ name ∷ []) = is ∙ sym (text-push (path_names above) name) in
+    record {
+      lawful = ap is_path is' ∙ is_path-path_text (path_names above ++ name ∷ []) named;
+      names = ap path_names is' ∙ path_names-path_text (path_names above ++ name ∷ []) named;
+    }

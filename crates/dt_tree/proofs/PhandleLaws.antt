@@ -60,15 +60,15 @@ part_child b c k e = λ i. record {
   value = λ path j. option_and_then (λ ps. value_of ps j) (option_map (λ (n : NodeData). n.properties) (option_and_then (λ (x : NodeData). node_at x path) (e i)));
 }
 
-precedes_in_child : (b c : NodeData) (k : List ℕ) (xs ys : Way) → child_named b.children k ≡ Some c → precedes (path_map c) xs ys ≡ true → precedes (path_map b) (k ∷ xs) (k ∷ ys) ≡ true
-precedes_in_child b c k xs ys e p = rw (bytes_eq-refl k) (ap (λ (m : PathMap). precedes m xs ys) (part_child b c k e) ∙ p)
+pub precedes_in_child : (b c : NodeData) (k : List ℕ) (xs ys : Way) → child_named b.children k ≡ Some c → precedes (path_map c) xs ys ≡ true → precedes (path_map b) (k ∷ xs) (k ∷ ys) ≡ true
+precedes_in_child b c k xs ys e p = rw (bytes_eq-refl k) (ap (λ (m : PathMap (List ℕ)). precedes m xs ys) (part_child b c k e) ∙ p)
 
 -- the order among some children holds among others, where the first path's child is the same
 pub lifted : (f g : Siblings) (x y : List ℕ) (xs ys : Way) → child_named f x ≡ child_named g x → (is_earlier x y (child_names f) ≡ true → is_earlier x y (child_names g) ≡ true)
     → precedes (path_map (only_children f)) (x ∷ xs) (y ∷ ys) ≡ true → precedes (path_map (only_children g)) (x ∷ xs) (y ∷ ys) ≡ true
 lifted f g x y xs ys same earlier p = by_test (bytes_eq x y) refl where
   by_test : (t : Bool) → bytes_eq x y ≡ t → precedes (path_map (only_children g)) (x ∷ xs) (y ∷ ys) ≡ true
-  by_test true e = let q : precedes (part_below (path_map (only_children f)) x) xs ys ≡ true = rw e at p in rw e (ap (λ (m : PathMap). precedes m xs ys) (sym (part_same (only_children f) (only_children g) x same)) ∙ q)
+  by_test true e = let q : precedes (part_below (path_map (only_children f)) x) xs ys ≡ true = rw e at p in rw e (ap (λ (m : PathMap (List ℕ)). precedes m xs ys) (sym (part_same (only_children f) (only_children g) x same)) ∙ q)
   by_test false e = let q : is_earlier x y (child_names f) ≡ true = rw e at p in rw e (earlier q)
 
 -- ---- a phandle
@@ -120,7 +120,7 @@ module _ (n : List ℕ) (p : List Property) (c : Siblings) (h : ℕ) where
   way_below-is w = from_test (has_phandle p h) refl w
 
 -- ---- children, from the first and the others
-named_first : (n : List ℕ) (p : List Property) (c rest : Siblings) → child_named (more n p c rest) n ≡ Some (node_data n p c)
+pub named_first : (n : List ℕ) (p : List Property) (c rest : Siblings) → child_named (more n p c rest) n ≡ Some (node_data n p c)
 named_first n p c rest = rw (bytes_eq-refl n) refl
 
 pub first_in_there : (n : List ℕ) (p : List Property) (c rest : Siblings) (q : Way) → phandle_there (only_children (more n p c rest)) (n ∷ q) ≡ phandle_there (node_data n p c) q

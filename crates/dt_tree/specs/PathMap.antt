@@ -7,12 +7,12 @@ use Rattle.dt_tree.specs.NodeData.{Siblings, none, more, NodeData, child_names, 
 use Rattle.dt_tree.specs.Sound.{is_among, are_distinct}
 use Rattle.dt_tree.specs.TreeData.{TreeData}
 
--- whether a node stands at each path, the names of its properties and of its children in order, and the bytes of each property
-pub record PathMap : Type 0 where
+-- whether a node stands at each path, the names of its properties and of its children in order, and the value of each property
+pub record PathMap (V : Type 0) : Type 0 where
   pub has : List (List ℕ) → Bool
   pub properties : List (List ℕ) → Option (List (List ℕ))
   pub children : List (List ℕ) → Option (List (List ℕ))
-  pub value : List (List ℕ) → List ℕ → Option (List ℕ)
+  pub value : List (List ℕ) → List ℕ → Option V
 
 -- the child of this name
 abbrev pub child_named : Siblings → List ℕ → Option NodeData
@@ -36,7 +36,7 @@ properties_at b path = option_map (λ n. n.properties) (node_at b path)
 abbrev pub children_at : NodeData → List (List ℕ) → Option (List (List ℕ))
 children_at b path = option_map (λ n. child_names n.children) (node_at b path)
 
-abbrev pub path_map : NodeData → PathMap
+abbrev pub path_map : NodeData → PathMap (List ℕ)
 path_map b = record {
   has = λ path. is_some (node_at b path);
   properties = λ path. option_map property_names (properties_at b path);
@@ -46,7 +46,7 @@ path_map b = record {
 
 -- a whole tree
 pub record TreeMap : Type 0 where
-  pub nodes : PathMap
+  pub nodes : PathMap (List ℕ)
   pub reserves : List (ℕ × ℕ)
   pub boot_cpu : ℕ
 
@@ -59,7 +59,7 @@ is_listed k None = false
 is_listed k (Some ns) = is_among k ns
 
 -- what is true of the map of each tree: it has `/` and with each path the one above it, and no name stands twice in a list
-pub record IsPathMap (m : PathMap) : Type 0 where
+pub record IsPathMap {V : Type 0} (m : PathMap V) : Type 0 where
   pub root : m.has [] ≡ true
   pub above : (path : List (List ℕ)) (k : List ℕ) → m.has (path ++ k ∷ []) ≡ true → m.has path ≡ true
   pub below : (path : List (List ℕ)) (k : List ℕ) → m.has (path ++ k ∷ []) ≡ is_listed k (m.children path)

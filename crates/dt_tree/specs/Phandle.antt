@@ -22,19 +22,19 @@ abbrev pub phandle_in : List ℕ → Option ℕ
 phandle_in value = if length value == 4 then phandle_from (from_be_bytes w32 value) else None
 
 -- the phandle of the node at a path
-abbrev pub phandle_at : PathMap → List (List ℕ) → Option ℕ
+abbrev pub phandle_at : PathMap (List ℕ) → List (List ℕ) → Option ℕ
 phandle_at m path = if is_reserved path then None else option_and_then phandle_in (m.value path (codes "phandle"))
 
 -- h is the greatest, or 0 where there is none
-pub record IsGreatest (m : PathMap) (h : ℕ) : Type 0 where
+pub record IsGreatest (m : PathMap (List ℕ)) (h : ℕ) : Type 0 where
   pub bound : (path : List (List ℕ)) (g : ℕ) → phandle_at m path ≡ Some g → g ≤ h
   pub reached : (h ≡ 0) ⊎ ((path : List (List ℕ)) × (phandle_at m path ≡ Some h))
 
 -- the node at this path has h, and stands before each other that has it
-pub record IsFirstWith (m : PathMap) (h : ℕ) (path : List (List ℕ)) : Type 0 where
+pub record IsFirstWith (m : PathMap (List ℕ)) (h : ℕ) (path : List (List ℕ)) : Type 0 where
   pub has : phandle_at m path ≡ Some h
   pub first : (other : List (List ℕ)) → phandle_at m other ≡ Some h → (other ≡ path) ⊎ (precedes m path other ≡ true)
 
 -- no node has h
-abbrev pub IsNowhere : PathMap → ℕ → Type 0
+abbrev pub IsNowhere : PathMap (List ℕ) → ℕ → Type 0
 IsNowhere m h = (path : List (List ℕ)) → phandle_at m path ≢ Some h

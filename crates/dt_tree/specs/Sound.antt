@@ -1,6 +1,7 @@
--- What is true of each node: lawful names, siblings that differ, at most 64 levels below the root.
+-- What is true of each node: lawful names, siblings that differ, at most 64 levels below it.
 use Rattle.std.specs.Prelude.{ℕ, ◌≤◌, Bool, true, false, not, ◌&&◌, ◌||◌, ◌==◌, List, [], ◌∷◌, length, IsTrue}
 use Rattle.std.specs.Str.{bytes_eq}
+use Rattle.dt_tree.specs.declared.limits.TheConstants.{MAX_DEPTH}
 use Rattle.dt_tree.specs.declared.property.Property.{Property}
 use Rattle.dt_tree.specs.Name.{is_name, are_names}
 use Rattle.dt_tree.specs.NodeData.{Siblings, none, more, NodeData, child_names, property_names, height_of}
@@ -30,10 +31,10 @@ abbrev pub IsSoundBelow : Siblings → Type 0
 IsSoundBelow none = Unit {0}
 IsSoundBelow (more n p c rest) = AreSound p × AreSiblings c × IsSoundBelow c × IsSoundBelow rest
 
--- a node, with at most 64 levels below it
+-- a node, with at most so many levels below it
 pub record IsSound (b : NodeData) : Type 0 where
   pub own_name : IsTrue (length b.name == 0 || is_name b.name)
   pub properties : AreSound b.properties
   pub siblings : AreSiblings b.children
   pub below : IsSoundBelow b.children
-  pub shallow : height_of b.children ≤ 64
+  pub shallow : height_of b.children ≤ MAX_DEPTH

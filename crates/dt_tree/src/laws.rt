@@ -1,9 +1,9 @@
 //! Laws of paths and of the path map: functions that do nothing, whose contracts are the laws.
-ghost use Rattle.std.specs.Prelude.{◌≡◌, ◌⊎◌, ℕ, List, false, true};
+ghost use Rattle.std.specs.Prelude.{◌≡◌, ◌≢◌, ◌⊎◌, ℕ, List, All, AllPairs, Contains, false, true};
 ghost use Rattle.dt_tree.specs.Name.{are_names};
 ghost use Rattle.dt_tree.specs.Path.{is_path, path_names, path_text};
 ghost use Rattle.dt_tree.specs.PathMap.{tree_map, path_map, IsPathMap};
-ghost use Rattle.dt_tree.specs.Preorder.{precedes};
+ghost use Rattle.dt_tree.specs.Preorder.{precedes, preorder};
 ghost use Rattle.dt_tree.specs.TreeData.{TreeData, IsTree};
 
 /// The map loses nothing: two trees with the same map are the same tree.
@@ -28,4 +28,12 @@ pub fn path_texts_and_names()
 pub fn preorder_of_a_tree()
     ensures apart { (t : TreeData) → IsTree t → (p q : List (List ℕ)) → precedes (path_map t.root) p q ≡ true → precedes (path_map t.root) q p ≡ false }
     ensures total { (t : TreeData) → (p q : List (List ℕ)) → (path_map t.root).has p ≡ true → (path_map t.root).has q ≡ true → (p ≡ q) ⊎ (precedes (path_map t.root) p q ≡ true) ⊎ (precedes (path_map t.root) q p ≡ true) }
+{}
+
+/// The list of paths has exactly those of the tree, each once and in their order.
+pub fn paths_in_preorder()
+    ensures standing { (t : TreeData) → IsTree t → All (λ path. (path_map t.root).has path ≡ true) (preorder t.root) }
+    ensures all { (t : TreeData) → (path : List (List ℕ)) → (path_map t.root).has path ≡ true → Contains (preorder t.root) path }
+    ensures once { (t : TreeData) → IsTree t → AllPairs (λ p q. p ≢ q) (preorder t.root) }
+    ensures ordered { (t : TreeData) → IsTree t → AllPairs (λ p q. precedes (path_map t.root) p q ≡ true) (preorder t.root) }
 {}

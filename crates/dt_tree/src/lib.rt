@@ -7,6 +7,7 @@ mod bytes;
 mod error;
 mod finding;
 mod laws;
+mod limits;
 mod making;
 mod name;
 mod node;
@@ -18,11 +19,15 @@ mod tree;
 
 pub use bytes::Bytes;
 pub use error::TreeError;
-pub use laws::{map_of_a_tree, path_texts_and_names, preorder_of_a_tree, same_map_same_tree};
+pub use laws::{
+    map_of_a_tree, path_texts_and_names, paths_in_preorder, preorder_of_a_tree, same_map_same_tree,
+};
+pub use limits::{MAX_DEPTH, MAX_NAME_LEN};
 pub use name::{Name, is_name};
 pub use node::Node;
 pub use path::{Path, is_path};
 pub use property::Property;
+pub use reserved::is_reserved_name;
 pub use tree::Tree;
 
 #[cfg(test)]

@@ -3,11 +3,9 @@ ghost use Rattle.std.specs.List.{list_all};
 ghost use Rattle.dt_tree.specs.Name.{is_name, is_name_byte};
 
 use crate::error::TreeError;
+use crate::limits::MAX_NAME_LEN;
 use std::alloc::{AllocError, Global};
 use std::marker::Model;
-
-/// The longest name, in bytes.
-pub const MAX_NAME_LEN: usize = 255;
 
 /// The name of a node or of a property: 1 to 255 bytes out of letters, digits and `,._+*#?@-`.
 #[derive(Debug, Drop)]

@@ -1,14 +1,15 @@
 ghost use Rattle.std.specs.Prelude.{◌≡◌, ◌<◌, ◌≤◌, ◌⊎◌, All, IsTrue, IfOk, MatchResult, true, None, Some};
 ghost use Rattle.std.specs.Option.{option_copied};
-ghost use Rattle.dt_tree.specs.Fault.{fault_of, is_named};
+ghost use Rattle.dt_tree.specs.Fault.{are_named, fault_of, is_named};
 ghost use Rattle.dt_tree.specs.Name.{is_name};
-ghost use Rattle.dt_tree.specs.NodeData.{node_data, siblings, height_of, node_size};
+ghost use Rattle.dt_tree.specs.NodeData.{node_data, siblings, height_of, node_size, child_names, property_names};
 ghost use Rattle.dt_tree.specs.NodeView.{name_bytes};
 ghost use Rattle.dt_tree.specs.PathMap.{value_of};
-ghost use Rattle.dt_tree.specs.Sound.{IsSound};
+ghost use Rattle.dt_tree.specs.Sound.{IsSound, are_distinct};
 
 use crate::bytes::Bytes;
 use crate::error::TreeError;
+use crate::limits::MAX_DEPTH;
 use crate::making::{
     are_distinct_nodes, are_distinct_properties, are_named, check_name, check_nodes,
     check_properties, height_of_all,
@@ -17,9 +18,6 @@ use crate::name::Name;
 use crate::property::Property;
 use std::alloc::{AllocError, Global};
 use std::marker::Model;
-
-/// The most levels of nodes below the root.
-pub const MAX_DEPTH: usize = 64;
 
 /// A node with its properties and the nodes below it. Properties and children each differ in name.
 #[derive(Debug, Drop)]
@@ -86,6 +84,33 @@ impl Node {
         })
     }
 
+    /// The node of these parts, without a test: children have names, properties and children each differ in name, and
+    /// there are at most 64 levels below the node. The caller's proof knows it.
+    pub fn from_distinct(name: Option<Name>, properties: Vec<Property>, children: Vec<Node>) -> Node
+        requires named { are_named children.items ≡ true }
+        requires properties { are_distinct (property_names properties.items) ≡ true }
+        requires children { are_distinct (child_names (siblings children.items)) ≡ true }
+        requires height { height_of (siblings children.items) ≤ MAX_DEPTH }
+        ensures { result ≡ node_data (name_bytes name) properties.items (siblings children.items) }
+    {
+        let _ = are_named(children.as_slice());
+        check_name(&name);
+        check_properties(properties.as_slice());
+        check_nodes(children.as_slice());
+        Node {
+            name,
+            properties,
+            children,
+        }
+    }
+
+    /// What the node is made of. Takes no memory.
+    pub fn into_parts(self) -> (Option<Name>, Vec<Property>, Vec<Node>)
+        ensures { node_data (name_bytes result.0) result.1.items (siblings result.2.items) ≡ self }
+    {
+        (self.name, self.properties, self.children)
+    }
+
     /// The bytes of the name, none for the root.
     pub fn name_bytes(&self) -> &[u8]
         ensures { result.now ≡ self.now.name }
@@ -133,7 +158,7 @@ impl Node {
     /// How many levels of nodes are below this one.
     pub fn height(&self) -> usize
         ensures value { result ≡ height_of self.now.children }
-        ensures bound { result ≤ 64 }
+        ensures bound { result ≤ MAX_DEPTH }
     {
         let mut most = 0;
         for child in &self.children {

@@ -1,10 +1,10 @@
-ghost use Rattle.std.specs.Prelude.{◌≡◌, ◌↔◌, IfOk, IsTrue, IsErrOf, IsOk, OnErr, ◌⊎◌, false, true};
+ghost use Rattle.std.specs.Prelude.{◌≡◌, ◌↔◌, ◌∷◌, ◌++◌, [], IfOk, IsTrue, IsErrOf, IsOk, OnErr, ◌⊎◌, false, true};
 ghost use Rattle.dt_tree.specs.Name.{are_names};
-ghost use Rattle.dt_tree.specs.Path.{is_path, is_slash, names_behind, text_or_root};
+ghost use Rattle.dt_tree.specs.Path.{behind_slashes, is_path, is_slash, names_behind, path_names, text_or_root};
 ghost use Rattle.std.specs.List.{slice_split};
 
 use crate::error::TreeError;
-use crate::name::is_name;
+use crate::name::{Name, is_name};
 use std::alloc::{AllocError, Global};
 use std::marker::Model;
 
@@ -74,6 +74,31 @@ impl Path {
             text.push(b'/')?;
         }
         Ok(Self { text })
+    }
+
+    /// The path to the child of this name. Nothing is tested again.
+    pub fn child(&self, alloc: Global, name: &Name) -> Result<Self, AllocError>
+        ensures { IfOk result (λ path. path_names path ≡ path_names self.now ++ name.now ∷ []) }
+    {
+        self.check();
+        name.check();
+        let names = self.names_text();
+        let mut text = Vec::with_capacity(alloc, names.len() + 1 + name.as_bytes().len())?;
+        text.extend_from_slice(names)?;
+        text.push(b'/')?;
+        text.extend_from_slice(name.as_bytes())?;
+        Ok(Self { text })
+    }
+
+    /// The names, each behind a slash: of the root's path, nothing.
+    fn names_text(&self) -> &[u8]
+        ensures { result.now ≡ behind_slashes (path_names self.now) }
+    {
+        self.check();
+        if self.text.len() == 1 {
+            return &[];
+        }
+        self.text.as_slice()
     }
 
     /// The path's text.

@@ -10,7 +10,8 @@ use crate::path::Path;
 use crate::phandle::behind_name;
 use std::alloc::{AllocError, Global};
 
-fn is_reserved_name(name: &[u8]) -> bool
+/// Whether the root's child of this name is reserved: `__symbols__`, `__fixups__` or `__local_fixups__`.
+pub fn is_reserved_name(name: &[u8]) -> bool
     ensures { result ≡ is_reserved_name name.now }
 {
     name == b"__symbols__".as_slice()

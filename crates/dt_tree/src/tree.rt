@@ -1,9 +1,9 @@
-ghost use Rattle.std.specs.Prelude.{◌≡◌, ◌≢◌, [], filter, IfOk, MatchOption, MatchResult};
+ghost use Rattle.std.specs.Prelude.{◌≡◌, ◌≢◌, ◌<◌, ◌^◌, [], filter, IfOk, MatchOption, MatchResult};
 ghost use Rattle.std.specs.Option.{option_copied};
 ghost use Rattle.dt_tree.specs.Path.{path_names};
 ghost use Rattle.dt_tree.specs.PathMap.{node_at, path_map};
 ghost use Rattle.dt_tree.specs.Phandle.{IsGreatest, IsFirstWith, IsNowhere};
-ghost use Rattle.dt_tree.specs.TreeData.{tree_data, is_reserve, IsTree};
+ghost use Rattle.dt_tree.specs.TreeData.{tree_data, is_reserve, AreLong, IsTree};
 
 use crate::error::TreeError;
 use crate::node::Node;
@@ -43,12 +43,20 @@ impl Tree {
             return Err(TreeError::BadName);
         }
         root.check();
+        check_reserves(reserves.as_slice());
         drop_ends(&mut reserves);
         Ok(Tree {
             reserves,
             boot_cpu,
             root,
         })
+    }
+
+    /// What the tree is made of: its reserved memory, the processor that boots, the root. Takes no memory.
+    pub fn into_parts(self) -> (Vec<(u64, u64)>, u32, Node)
+        ensures { tree_data result.0.items result.1 result.2 ≡ self }
+    {
+        (self.reserves, self.boot_cpu, self.root)
     }
 
     /// The reserved memory: addresses and sizes in bytes, in order.
@@ -121,6 +129,23 @@ fn is_reserve(reserve: &(u64, u64)) -> bool
     ensures { result ≡ is_reserve reserve.now }
 {
     reserve.0 != 0 || reserve.1 != 0
+}
+
+/// Tells the caller's proof that a number has 64 bits.
+fn check_long(number: u64)
+    ensures { number < 2 ^ 64 }
+{
+    let _ = number;
+}
+
+/// The same of addresses and sizes.
+fn check_reserves(reserves: &[(u64, u64)])
+    ensures { AreLong reserves.now }
+{
+    for reserve in reserves {
+        check_long(reserve.0);
+        check_long(reserve.1);
+    }
 }
 
 fn drop_ends(reserves: &mut Vec<(u64, u64)>)

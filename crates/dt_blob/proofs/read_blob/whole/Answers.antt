@@ -1,12 +1,13 @@
-use Rattle.std.proofs.Common.{length, sym, ap, ◌∙◌, arith, inl, inr}
+use Rattle.std.proofs.Common.{refl, length, sym, ap, ◌∙◌, arith, inl, inr}
 use Rattle.std.proofs.lemmas.List.{length-take}
 use Rattle.std.proofs.lemmas.Result.{err_from_is_err_and}
 use Rattle.dt_blob.specs.Opened.{begun, root_from}
 use Rattle.dt_blob.specs.Reading.{reserves_at, tokens_at, tree_in}
 use Rattle.dt_blob.proofs.Laying.{laid_as}
+use Rattle.dt_blob.proofs.Refusals.{reserves_refused}
 use Rattle.dt_blob.proofs.States.{root_sound}
 use Rattle.dt_blob.proofs.Stepping.{refuse}
-use Rattle.dt_blob.proofs.Whole.{tree_without_reserves, tree_without_root, outside_as, reserves_as, strings_as, structure_as, root_as, tree_as, reserves_bytes}
+use Rattle.dt_blob.proofs.Whole.{tree_without_root, outside_as, reserves_as, strings_as, structure_as, root_as, tree_as, reserves_bytes}
 use Rattle.dt_blob.proofs.Words.{AreBytes}
 use Rattle.dt_blob.proofs.read_blob.whole.Goals as goal
 
@@ -21,7 +22,7 @@ first-blob-requires c = (laid_as c.args.bytes.now c.in_ok-header.header c.in_ok-
 pub returns-then-header : goal.returns-then-header
 returns-then-header c =
     let bytes = c.args.bytes.now in
-    inr (c.in_ok-header.ensures.1, tree_without_reserves bytes c.in_ok-header.ensures.1 (outside_as bytes c.in_ok-header.header c.in_ok-header.ensures.0 c.if-header.true))
+    inr (c.in_ok-header.ensures.1, inl (refl, outside_as bytes c.in_ok-header.header c.in_ok-header.ensures.0 c.if-header.true))
 
 pub behind-requires : goal.behind-requires
 behind-requires c =
@@ -34,7 +35,7 @@ returns-in_err-reserves c =
     let p = err_from_is_err_and c.from_residual-in_err-reserves.result c.from_residual-in_err-reserves.ensures.1 in
     let bytes = c.args.bytes.now in
     let part = reserves_as bytes c.first-blob.result.now c.behind.result.now c.in_ok-header.header c.in_ok-header.ensures.0 c.first-blob.ensures c.behind.ensures in
-    rw (p.1, p.2) (inr (c.in_ok-header.ensures.1, refuse c.in_err-reserves.field-0.0 (reserves_at c.behind.result.now) (tree_in bytes) (λ n. tree_without_reserves bytes c.in_ok-header.ensures.1 (sym (ap reserves_at part) ∙ n)) c.in_err-reserves.ensures))
+    rw (p.1, p.2) (reserves_refused bytes c.behind.result.now c.in_err-reserves.field-0.0 c.in_ok-header.ensures.1 part c.in_err-reserves.ensures)
 
 pub block-strings-requires : goal.block-strings-requires
 block-strings-requires c =
@@ -58,7 +59,7 @@ returns-in_err-root c =
     let strings = strings_as bytes c.block-strings.result.now h c.in_ok-header.ensures.0 c.block-strings.ensures in
     let structure = structure_as bytes c.block-structure.result.now h c.in_ok-header.ensures.0 c.block-structure.ensures in
     let root = root_as bytes c.block-strings.result.now c.block-structure.result.now strings structure in
-    rw (p.1, p.2) (inr (c.in_ok-header.ensures.1, refuse c.in_err-root.field-0.0 (root_from begun (tokens_at c.block-strings.result.now c.block-structure.result.now)) (tree_in bytes) (λ n. tree_without_root bytes c.in_ok-header.ensures.1 (sym root ∙ n)) c.in_err-root.ensures))
+    rw (p.1, p.2) (inr (c.in_ok-header.ensures.1, inr (refuse c.in_err-root.field-0.0 (root_from begun (tokens_at c.block-strings.result.now c.block-structure.result.now)) (tree_in bytes) (λ n. tree_without_root bytes c.in_ok-header.ensures.1 (sym root ∙ n)) c.in_err-root.ensures)))
 
 pub returns-in_err-tree : goal.returns-in_err-tree
 returns-in_err-tree c =
