@@ -1,5 +1,5 @@
 -- The consumers of each device, gathered device by device.
-use Rattle.std.proofs.Common.{◌≡◌, ◌≢◌, ◌∙◌, ap, sym, refl, ℕ, ◌+◌, ◌<◌, Bool, true, false, List, [], ◌∷◌, ◌++◌, length, get_or, set, map, take, replicate, arith, append-nil, append_assoc}
+use Rattle.std.proofs.Common.{◌≡◌, ◌≢◌, ◌∙◌, ap, sym, refl, ℕ, ◌+◌, ◌<◌, Bool, true, false, List, [], ◌∷◌, ◌++◌, length, get_or, set, map, take, replicate, arith, append-nil}
 use Rattle.std.specs.Prelude.{if◌then◌else◌, AllPairs, ◌==◌, ◌||◌, filter}
 use Rattle.std.specs.List.{list_any, range_with_len}
 use Rattle.std.proofs.lemmas.Bool.{eqb-true, ne_eqb, eq-eqb}
@@ -8,7 +8,7 @@ use Rattle.std.proofs.lemmas.List.Folds.{list_any_more, list_any_none}
 use Rattle.std.proofs.lemmas.List.FromFn.{filter_of_map_range_with_len_more, fill_by_all}
 use Rattle.bus_plan.specs.Plan.{PlannedDevice, suppliers_of}
 use Rattle.bus_plan.specs.Consumers.{devices, has_supplier, consumers_of}
-use Rattle.bus_plan.specs.DeviceLists.{added, IsAdded}
+use Rattle.bus_plan.specs.Private.DeviceLists.{added, IsAdded}
 
 -- ---- one consumer, put behind the lists of the suppliers so far
 pub added-none : (lists : List (List ℕ)) (consumer : ℕ) → IsAdded lists lists consumer []

@@ -6,7 +6,7 @@ use Rattle.std.proofs.lemmas.Bool.{ltb-true, ltb-false}
 use Rattle.std.proofs.lemmas.List.{get_or_append_left, get_or_push, length-append, take-append-le, drop_at}
 use Rattle.std.proofs.lemmas.List.FromFn.{map-range_with_len_more, length-map-range_with_len, get_or-map-range_with_len}
 use Rattle.std.proofs.lemmas.Slice.{between_is, between_to_end}
-use Rattle.bus_plan.specs.DeviceLists.{list_at, lists_in, IsCut}
+use Rattle.bus_plan.specs.Private.DeviceLists.{list_at, lists_in, IsCut}
 
 -- the block holds these lists and nothing else
 pub record IsPacked (starts block : List ℕ) (lists : List (List ℕ)) : Type 0 where

@@ -16,8 +16,8 @@ use Rattle.bus_plan.specs.declared.verdict.Verdict.TheVariants.{Binds, Fails}
 use Rattle.bus_plan.specs.Lines.{is_line, fields, is_skipped}
 use Rattle.bus_plan.specs.Plan.{is_device_path, is_driver_name}
 use Rattle.bus_plan.specs.PlanPaths.{is_among, are_distinct}
-use Rattle.bus_plan.specs.PlanFile.{DeviceLine, driven, undriven, matching_of, device_of, read_device, meaning, meaning_at, device_on, devices_before, line_paths, refusal_of, fault_of, fault_at, faults_before}
-use Rattle.bus_plan.proofs.BoolLemmas.{and-left, and-right}
+use Rattle.bus_plan.specs.PlanFile.{DeviceLine, driven, undriven, matching_of, are_supplier_paths, device_of, read_device, meaning, meaning_at, device_on, devices_before, line_paths, refusal_of, fault_of, fault_at, faults_before}
+use Rattle.bus_plan.proofs.BoolLemmas.{and-left, and-right, and_both}
 use Rattle.bus_plan.proofs.PathLemmas.{distinct-more}
 
 -- the second and third field of a lawful line
@@ -71,14 +71,19 @@ lawful-device number [] d e = absurd (cc)
 lawful-device number (path ∷ []) d e = absurd (cc)
 lawful-device number (path ∷ driver ∷ []) d e = absurd (cc)
 lawful-device number (path ∷ driver ∷ word ∷ suppliers) d e =
-    by_test (list_all is_device_path (path ∷ suppliers) && are_distinct (path ∷ suppliers)) (matching_of driver word) refl refl e
+    by_test (is_device_path path && are_supplier_paths path suppliers) (matching_of driver word) refl refl e
   where
-    by_test : (t : Bool) (found : Option Matching) → (list_all is_device_path (path ∷ suppliers) && are_distinct (path ∷ suppliers)) ≡ t → matching_of driver word ≡ found
+    by_test : (t : Bool) (found : Option Matching) → (is_device_path path && are_supplier_paths path suppliers) ≡ t → matching_of driver word ≡ found
         → (if t then option_map (λ m. record { number = number; path = path; matching = m; suppliers = suppliers }) found else None) ≡ Some d → IsLawfulLine d
     by_test true (Some m) tested found e =
         let is : record { number = number; path = path; matching = m; suppliers = suppliers } ≡ d = cc in
         subst IsLawfulLine is
-        (record { forms = and-left _ _ tested; distinct = and-right _ _ tested; matching = lawful-matching driver word m found })
+        (record {
+          forms = and_both _ _ (and-left (is_device_path path) (are_supplier_paths path suppliers) tested)
+              (and-left (list_all is_device_path suppliers) (are_distinct (path ∷ suppliers)) (and-right (is_device_path path) (are_supplier_paths path suppliers) tested));
+          distinct = and-right (list_all is_device_path suppliers) (are_distinct (path ∷ suppliers)) (and-right (is_device_path path) (are_supplier_paths path suppliers) tested);
+          matching = lawful-matching driver word m found;
+        })
     by_test true None tested found e = absurd (cc)
     by_test false found tested is e = absurd (cc)
 

@@ -10,7 +10,8 @@ use Rattle.bus_plan.specs.declared.error.PlanError.{PlanError}
 use Rattle.bus_plan.specs.declared.error.PlanError.TheVariants.{UnknownPath}
 use Rattle.bus_plan.specs.Plan.{PlannedDevice, nothing, planned, paths, is_device_path, IsLawfulDevice, IsLawful}
 use Rattle.bus_plan.specs.PlanPaths.{are_distinct, are_known, place_of}
-use Rattle.bus_plan.specs.PlanFile.{DeviceLine, line_paths, unknowns_in, unknowns, planned_of, plan_of, IsFaultless}
+use Rattle.bus_plan.specs.PlanFile.{DeviceLine, line_paths, unknowns_in, unknowns, planned_of, plan_of}
+use Rattle.bus_plan.specs.Private.Reading.{IsFaultless}
 use Rattle.bus_plan.proofs.BoolLemmas.{and-left, and-right}
 use Rattle.bus_plan.proofs.DistinctLemmas.{distinct-pairs, place-holds, known-here, places-within}
 use Rattle.bus_plan.proofs.FaultlessLemmas.{IsLawfulLine, IsLawfulListing, lawful-before}

@@ -10,6 +10,7 @@ pub mod LawfulLemmas
 pub mod ReadingLemmas
 pub mod DeviceListsLemmas
 pub mod ConsumersLemmas
+pub mod FieldsLemmas
 pub mod TextBytes
 pub mod ReadBack
 pub mod TextLines

@@ -6,7 +6,8 @@ use Rattle.bus_plan.specs.declared.limits.TheConstants.{MAX_DEVICES}
 use Rattle.bus_plan.specs.declared.error.PlanError.{PlanError}
 use Rattle.bus_plan.specs.declared.error.PlanError.TheVariants.{DuplicateDevice, TooManyDevices}
 use Rattle.bus_plan.specs.PlanPaths.{is_among}
-use Rattle.bus_plan.specs.PlanFile.{DeviceLine, line_paths, refusal_of, meaning, meaning_at, device_on, devices_before, fault_of, fault_at, faults_before, IsFirst}
+use Rattle.bus_plan.specs.PlanFile.{DeviceLine, line_paths, refusal_of, meaning, meaning_at, device_on, devices_before, fault_of, fault_at, faults_before}
+use Rattle.bus_plan.specs.Private.Reading.{IsFirst}
 
 -- ---- the refusals of a further device
 pub refusal-there : (ds : List DeviceLine) (d : DeviceLine) → is_among d.path (line_paths ds) ≡ true → refusal_of ds d ≡ Some (DuplicateDevice d.number)

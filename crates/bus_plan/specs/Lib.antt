@@ -2,9 +2,8 @@ pub mod Lines
 pub mod Plan
 pub mod PlanError
 pub mod Consumers
-pub mod DeviceLists
-pub mod Indexed
 pub mod PlanPaths
 pub mod PlanFile
 pub mod PlanText
 pub mod Laws
+pub mod Private

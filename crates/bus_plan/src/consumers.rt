@@ -1,7 +1,7 @@
 ghost use Rattle.std.specs.Prelude.{◌≡◌, ◌≢◌, ℕ, ◌<◌, [], All, AllPairs, IfOk, OnOk, length, map, replicate};
 ghost use Rattle.bus_plan.specs.Plan.{suppliers_of};
 ghost use Rattle.bus_plan.specs.Consumers.{consumers_of, devices};
-ghost use Rattle.bus_plan.specs.DeviceLists.{IsAdded};
+ghost use Rattle.bus_plan.specs.Private.DeviceLists.{IsAdded};
 
 use crate::device::Device;
 use crate::device_lists::DeviceLists;

@@ -14,7 +14,7 @@ pub struct DeviceLists {
 
 impl Model for DeviceLists {
     ghost use Rattle.std.specs.Prelude.{List, ℕ};
-    ghost use Rattle.bus_plan.specs.DeviceLists.{lists_in, IsCut};
+    ghost use Rattle.bus_plan.specs.Private.DeviceLists.{lists_in, IsCut};
 
     ghost Value = { List (List ℕ) };
 

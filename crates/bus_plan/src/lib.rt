@@ -6,6 +6,7 @@ mod device;
 mod device_line;
 mod device_lists;
 mod error;
+mod fields;
 mod laws;
 mod limits;
 mod lines;
@@ -20,6 +21,7 @@ mod writing;
 
 pub use device::Device;
 pub use error::PlanError;
+pub use fields::Fields;
 pub use laws::plan_text_is_read_back;
 pub use limits::MAX_DEVICES;
 pub use lines::{fields_of, is_line, is_line_byte, is_skipped, lines_of};
@@ -28,6 +30,3 @@ pub use planned::Planned;
 pub use reading::read_plan;
 pub use verdict::Verdict;
 pub use writing::plan_text;
-
-#[cfg(test)]
-mod tests;

@@ -1,5 +1,6 @@
 ghost use Rattle.std.specs.Prelude.{◌≡◌, ◌⊎◌, ◌++◌, ◌∷◌, [], length, None, Some, IfOk, IfErr, OnOk, OnErr, MatchResult, map};
-ghost use Rattle.bus_plan.specs.PlanFile.{IsFirst, unknowns_in, planned_of};
+ghost use Rattle.bus_plan.specs.PlanFile.{unknowns_in, planned_of};
+ghost use Rattle.bus_plan.specs.Private.Reading.{IsFirst};
 
 use crate::device_line::DeviceLine;
 use crate::error::PlanError;
@@ -31,7 +32,8 @@ impl<'a> Model for Listing<'a> {
 }
 
 impl<'a> Listing<'a> {
-    ghost use Rattle.bus_plan.specs.PlanFile.{devices_before, faults_before, refusal_of, IsFirst, IsFaultless, unknowns, plan_of};
+    ghost use Rattle.bus_plan.specs.PlanFile.{devices_before, faults_before, refusal_of, unknowns, plan_of};
+    ghost use Rattle.bus_plan.specs.Private.Reading.{IsFirst, IsFaultless};
     ghost use Rattle.bus_plan.specs.Lines.{lines};
 
     fn new(alloc: Global, hasher: RandomState) -> Self

@@ -23,7 +23,7 @@ pub struct Plan {
 impl Model for Plan {
     ghost use Rattle.std.specs.Prelude.{List};
     ghost use Rattle.bus_plan.specs.Plan.{PlannedDevice};
-    ghost use Rattle.bus_plan.specs.Indexed.{IsIndexed};
+    ghost use Rattle.bus_plan.specs.Private.Indexed.{IsIndexed};
 
     ghost Value = { List PlannedDevice };
 

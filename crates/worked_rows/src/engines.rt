@@ -1,5 +1,7 @@
 //! From bytes to bytes: what each command prints.
 
+mod channels;
+
 use engine::{Fault, dump_bytes, replay_bytes};
 use std::alloc::{AllocError, Global};
 use std::hash::RandomState;

@@ -6,8 +6,6 @@
 #[cfg(test)]
 mod blobs;
 #[cfg(test)]
-mod channels;
-#[cfg(test)]
 mod cores;
 #[cfg(test)]
 mod drafts;

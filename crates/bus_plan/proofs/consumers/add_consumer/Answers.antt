@@ -1,5 +1,5 @@
 -- One supplier more has got the consumer.
-use Rattle.std.proofs.Common.{◌≡◌, ◌∙◌, ap, sym, ℕ, ◌+◌, ◌<◌, List, [], ◌∷◌, ◌++◌, length, get_or, set, map, take, arith}
+use Rattle.std.proofs.Common.{◌≡◌, ◌∙◌, ap, sym, ℕ, ◌<◌, [], ◌∷◌, ◌++◌, length, get_or, set, map, arith}
 use Rattle.std.proofs.lemmas.List.{map-set, get_or-map, get_or_read, length-map}
 use Rattle.bus_plan.proofs.ConsumersLemmas.{added-more}
 use Rattle.bus_plan.proofs.consumers.add_consumer.Goals as goal

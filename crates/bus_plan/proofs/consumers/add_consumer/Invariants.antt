@@ -1,5 +1,5 @@
 use Rattle.std.proofs.Common.{map, take}
-use Rattle.bus_plan.specs.DeviceLists.{IsAdded}
+use Rattle.bus_plan.specs.Private.DeviceLists.{IsAdded}
 use Rattle.bus_plan.proofs.consumers.add_consumer.Given as goal
 
 -- the consumer stands behind the lists of the suppliers so far

@@ -1,10 +1,10 @@
 -- One device more stands behind the lists of its suppliers.
-use Rattle.std.proofs.Common.{◌≡◌, ◌∙◌, ap, sym, subst, ℕ, ◌+◌, ◌<◌, List, length, map, arith}
+use Rattle.std.proofs.Common.{◌≡◌, ◌∙◌, ap, sym, subst, ℕ, ◌<◌, length, map, arith}
 use Rattle.std.specs.Prelude.{All, AllPairs, IfOk, ◌≢◌}
 use Rattle.std.proofs.lemmas.List.{get_or_read, length-map}
 use Rattle.bus_plan.specs.Plan.{nothing, suppliers_of}
 use Rattle.bus_plan.specs.Consumers.{consumers_of, devices}
-use Rattle.bus_plan.specs.DeviceLists.{IsAdded}
+use Rattle.bus_plan.specs.Private.DeviceLists.{IsAdded}
 use Rattle.bus_plan.proofs.ConsumersLemmas.{gathered-more, gathered-all}
 use Rattle.bus_plan.proofs.consumers.consumer_lists.Goals as goal
 

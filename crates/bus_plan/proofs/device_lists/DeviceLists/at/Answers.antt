@@ -1,5 +1,5 @@
 -- The list lies within the block.
-use Rattle.std.proofs.Common.{◌≡◌, ◌∙◌, ap, sym, ℕ, ◌+◌, ◌-◌, ◌<◌, ◌≤◌, length, get_or, take, drop, [], arith}
+use Rattle.std.proofs.Common.{◌≡◌, ◌∙◌, ap, sym, ◌+◌, ◌-◌, ◌<◌, length, get_or, take, drop, [], arith}
 use Rattle.std.proofs.lemmas.List.{get_or_read}
 use Rattle.bus_plan.proofs.DeviceListsLemmas.{length-lists_in, lists_in-at}
 use Rattle.bus_plan.proofs.device_lists.DeviceLists.at.Goals as goal

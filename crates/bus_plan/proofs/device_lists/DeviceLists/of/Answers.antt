@@ -1,5 +1,5 @@
 -- One list more stands at the block's end.
-use Rattle.std.proofs.Common.{◌≡◌, ◌∙◌, ap, sym, subst, ◌+◌, ◌<◌, List, [], ◌∷◌, ◌++◌, length, map, take}
+use Rattle.std.proofs.Common.{◌≡◌, ◌∙◌, ap, sym, subst, ◌+◌, [], ◌∷◌, ◌++◌, length, map, take}
 use Rattle.std.proofs.lemmas.List.{take_more, map-append}
 use Rattle.bus_plan.proofs.DeviceListsLemmas.{IsPacked, packed-more}
 use Rattle.bus_plan.proofs.device_lists.DeviceLists.of.Goals as goal

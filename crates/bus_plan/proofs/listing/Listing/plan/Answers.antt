@@ -1,7 +1,8 @@
 -- The listing's lines are planned by its own paths.
 use Rattle.std.proofs.Common.{◌≡◌, ◌∙◌, inl, inr, ⊎_elim, ap, sym, subst, map}
 use Rattle.std.proofs.lemmas.Result.{err_from_is_err_and}
-use Rattle.bus_plan.specs.PlanFile.{IsFirst, unknowns_in, unknowns, planned_of, plan_of, line_paths}
+use Rattle.bus_plan.specs.PlanFile.{unknowns_in, unknowns, planned_of, plan_of, line_paths}
+use Rattle.bus_plan.specs.Private.Reading.{IsFirst}
 use Rattle.bus_plan.proofs.LawfulLemmas.{lawful-listed, paths-listed}
 use Rattle.bus_plan.proofs.listing.Listing.plan.Goals as goal
 

@@ -1,5 +1,5 @@
 -- The lists are those of the plan's devices.
-use Rattle.std.proofs.Common.{◌≡◌, ◌∙◌, ap, sym, ◌<◌, [], length, get_or, arith}
+use Rattle.std.proofs.Common.{◌≡◌, ◌∙◌, ap, ◌<◌, [], length, get_or, arith}
 use Rattle.std.proofs.lemmas.List.FromFn.{length-map-range_with_len, get_or-map-range_with_len}
 use Rattle.bus_plan.specs.Consumers.{consumers_of}
 use Rattle.bus_plan.proofs.plan.Plan.consumers.Goals as goal

@@ -1,4 +1,4 @@
--- Private contracts alone cite this: what a plan keeps besides its devices.
+-- What a plan keeps besides its devices.
 use Rattle.std.specs.Prelude.{◌≡◌, ℕ, List, map}
 use Rattle.bus_plan.specs.Consumers.{devices, consumers_of}
 use Rattle.bus_plan.specs.Plan.{PlannedDevice, IsLawful, paths}

@@ -1,4 +1,4 @@
--- Private contracts alone cite this: lists of devices in one block, and how a device is put behind the lists of its suppliers.
+-- Lists of devices in one block, and how a device is put behind the lists of its suppliers.
 use Rattle.std.specs.Prelude.{◌≡◌, ℕ, ◌+◌, ◌-◌, ◌<◌, ◌≤◌, ◌==◌, if◌then◌else◌, List, [], ◌∷◌, ◌++◌, length, map, slice_index, slice_range}
 use Rattle.std.specs.List.{list_any, range_with_len, slice_index_or}
 
