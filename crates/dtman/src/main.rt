@@ -2,6 +2,7 @@
 #![tactic(auto)]
 
 mod command_line;
+mod grammar;
 mod program;
 mod subcommand;
 mod surroundings;

@@ -6,7 +6,7 @@ use crate::subcommand::Command;
 use crate::surroundings::Surroundings;
 use clap::error::ErrorKind as Mistake;
 use engine::{
-    Channel, Failed, Fault, MAX_BLOB_LEN, MAX_TEXT_LEN, OutputChannel, dump_bytes, read_all,
+    Channel, Failed, Fault, MAX_BLOB_LEN, MAX_TEXT_LEN, OutputChannel, dump_bytes, explain, read_all,
     read_within, replay_bytes, write_out,
 };
 use std::alloc::Global;
@@ -41,6 +41,8 @@ enum Failure<'a> {
     Refused(Fault),
     /// A fault of the file at a path.
     File(Fault, &'a str),
+    /// A number that no error has.
+    NoSuchNumber(&'a str),
 }
 
 impl From<Fault> for Failure<'_> {
@@ -142,8 +144,24 @@ fn perform<'a, S: Surroundings, O: Channel>(
             let hasher = seed(surroundings)?;
             replay_bytes(alloc, hasher, plan.as_slice(), schedule.as_slice())?
         }
+        Command::Explain { number } => explained(alloc, number)?,
     };
     print(output, answer.as_slice())
+}
+
+/// What is said of the error with a number.
+fn explained(alloc: Global, number: &str) -> Result<Vec<u8>, Failure<'_>> {
+    let known = match number.parse::<u8>() {
+        Ok(number) => explain(number),
+        Err(_) => None,
+    };
+    match known {
+        Some(explanation) => match format!(in alloc; "{explanation}") {
+            Ok(text) => Ok(text.into_bytes()),
+            Err(_) => Err(Failure::Refused(Fault::no_memory())),
+        },
+        None => Err(Failure::NoSuchNumber(number)),
+    }
 }
 
 /// A blob, or as much of a file as shows that it is too large for one.
@@ -198,6 +216,10 @@ fn fail<E: Eprint>(errors: &E, failure: Failure<'_>) -> u8 {
     let (printed, status) = match failure {
         Failure::Refused(fault) => (eprintln!(errors; "{fault}"), REFUSED),
         Failure::File(fault, path) => (eprintln!(errors; "{fault} {path}"), FILE),
+        Failure::NoSuchNumber(number) => (
+            eprintln!(errors; "error: no error has the number {number}"),
+            COMMAND_LINE,
+        ),
     };
     // Standard error is the last place to say anything: the status stands alone where it is closed.
     let _ = printed;

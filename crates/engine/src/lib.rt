@@ -3,6 +3,7 @@
 
 mod channel;
 mod dump;
+mod explaining;
 mod fault;
 mod limits;
 mod memory;
@@ -12,6 +13,7 @@ mod transfer;
 
 pub use channel::{Channel, Failed};
 pub use dump::dump_bytes;
+pub use explaining::{Explanation, explain};
 pub use fault::{Fault, Place};
 pub use limits::{MAX_BLOB_LEN, MAX_TEXT_LEN};
 pub use memory::Memory;

@@ -1,6 +1,7 @@
 //! From bytes to bytes: what each command prints.
 
 mod channels;
+mod errors;
 
 use engine::{Fault, dump_bytes, replay_bytes};
 use std::alloc::{AllocError, Global};
