@@ -46,7 +46,8 @@ impl<'a> Parts<'a> {
         if self.bytes.is_empty() {
             return Ok(());
         }
-        let bytes = mem::replace(&mut self.bytes, Vec::new(alloc));
+        let mut bytes = mem::replace(&mut self.bytes, Vec::new(alloc));
+        bytes.shrink_to_fit();
         push_sparingly(&mut self.closed, Part::Bytes(bytes))
     }
 

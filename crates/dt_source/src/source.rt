@@ -400,10 +400,11 @@ fn items<'text>(
 ) -> Result<(Vec<Item<'text>>, Option<Fault>), ReadError>
     ensures { Reads (λ x. (map item_view x.0.items, x.1)) result (items_at text.now ts.now) }
 {
-    let (items, fault, _) = all_items(alloc, text, ts)?;
+    let (mut items, fault, _) = all_items(alloc, text, ts)?;
     if items.is_empty() {
         return Err(ReadError::Refused(syntax_at(ts)));
     }
+    items.shrink_to_fit();
     Ok((items, fault))
 }
 
@@ -418,7 +419,8 @@ pub(crate) fn source<'text>(
 {
     let (plugin, rest) = headers(ts)?;
     let plugin = some_header(plugin, ts)?;
-    let (reserves, first, rest) = reserves(alloc, text, rest)?;
+    let (mut reserves, first, rest) = reserves(alloc, text, rest)?;
+    reserves.shrink_to_fit();
     let (items, fault) = items(alloc, text, rest)?;
     Ok((
         Outline {
