@@ -1,5 +1,5 @@
 -- Reading the statements of a body, and the values of its properties.
-use Rattle.std.specs.Prelude.{ℕ, zero, suc, Bool, true, false, List, [], ◌∷◌, ◌++◌, length, map, Option, Some, None, Ok, Err, slice_range, ◌-◌, if◌then◌else◌}
+use Rattle.std.specs.Prelude.{ℕ, zero, suc, Bool, true, false, List, [], ◌∷◌, ◌++◌, length, map, Option, Some, None, Ok, Err, if◌then◌else◌}
 use Rattle.dt_lexeme.specs.declared.lexeme.Lexeme.{Lexeme}
 use Rattle.dt_lexeme.specs.declared.lexeme.Fault.{Fault}
 use Rattle.dt_lexeme.specs.declared.lexeme.Kind.{Kind}
@@ -11,22 +11,14 @@ use Rattle.dt_source.specs.declared.cell.Cell.TheVariants as cells
 use Rattle.dt_expression.specs.Values.{literal_of}
 use Rattle.dt_expression.specs.Reading.{◌>>=◌, Read, syntax_at, too_deep}
 use Rattle.dt_expression.specs.ReadingExpressions.{primary_at}
-use Rattle.dt_source.specs.Sequences.{earlier, Part, many}
+use Rattle.dt_source.specs.Reading.Several.{earlier, Part, many}
 use Rattle.dt_source.specs.Tree.{Piece, Plain, PathOf, Entry, Defines, Undefines, Child, Removes, body_of}
 use Rattle.dt_source.specs.Strings.{string_bytes, string_faults, pair_byte}
 use Rattle.dt_source.specs.Pieces.{target_of, width_at, width_in, fault_in, cell_fault, cells_pieces, joined}
-
-abbrev pub first_of : List Fault → Option Fault
-first_of [] = None
-first_of (f ∷ fs) = Some f
+use Rattle.dt_source.specs.Words.{label_bytes, name_bytes, concat}
+use Rattle.dt_source.specs.Order.{first_of}
 
 -- ---- labels and names
-
-abbrev pub label_bytes : List ℕ → Lexeme → List ℕ
-label_bytes text l = slice_range text l.start (l.end - 1)
-
-abbrev pub name_bytes : List ℕ → Lexeme → List ℕ
-name_bytes text l = slice_range text l.start l.end
 
 abbrev pub is_label : Kind → Bool
 is_label Label = true
@@ -84,10 +76,6 @@ pair_by text _ t ts = Err (syntax_at (t ∷ ts))
 abbrev pub pair_at : List ℕ → List Lexeme → Part (Option (List ℕ))
 pair_at text [] = Err (syntax_at [])
 pair_at text (t ∷ ts) = pair_by text t.kind t ts
-
-abbrev pub concat : List (List ℕ) → List ℕ
-concat [] = []
-concat (b ∷ bs) = b ++ concat bs
 
 unfoldable pub pairs_at : List ℕ → List Lexeme → Part (List ℕ)
 pairs_at text ts = many stays (λ s ts. pair_at text ts) (suc (length ts)) tt ts >>= λ y. Ok (concat y.0, y.1, y.2)

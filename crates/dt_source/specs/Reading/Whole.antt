@@ -9,10 +9,11 @@ use Rattle.dt_lexeme.specs.declared.lexeme.Kind.TheVariants.{Version, Plugin, Me
 use Rattle.dt_expression.specs.Values.{Value}
 use Rattle.dt_expression.specs.Reading.{◌>>=◌, Read, syntax_at}
 use Rattle.dt_expression.specs.ReadingExpressions.{primary_at}
-use Rattle.dt_source.specs.Sequences.{earlier, Part, many}
+use Rattle.dt_source.specs.Reading.Several.{earlier, Part, many}
 use Rattle.dt_source.specs.Tree.{Edit, Rooted, Extends, Deletes, Meaning, Body, body_of}
 use Rattle.dt_source.specs.Pieces.{target_of, fault_in}
-use Rattle.dt_source.specs.Bodies.{label_bytes, labels_at, stays, ended_by, body_at}
+use Rattle.dt_source.specs.Words.{label_bytes}
+use Rattle.dt_source.specs.Reading.Bodies.{labels_at, stays, ended_by, body_at}
 use Rattle.dt_source.specs.Source.{both_numbers}
 
 abbrev pub semicolon_kind : Kind → Lexeme → List Lexeme → Result (List Lexeme) Refusal

@@ -5,9 +5,9 @@ use Rattle.dt_lexeme.specs.declared.lexeme.Lexeme.{Lexeme}
 use Rattle.dt_lexeme.specs.declared.lexeme.Kind.{Kind}
 use Rattle.dt_lexeme.specs.declared.lexeme.Kind.TheVariants.{Comma}
 use Rattle.dt_expression.specs.Reading.{◌>>=◌}
-use Rattle.dt_source.specs.Sequences.{earlier, Part}
+use Rattle.dt_source.specs.Reading.Several.{earlier, Part}
 use Rattle.dt_source.specs.Tree.{Piece}
-use Rattle.dt_source.specs.Pieces.{Built, put_all}
+use Rattle.dt_source.specs.Reading.Values.{Built, put_all}
 
 -- what was read, put behind the parts that are there
 abbrev pub into : Built → Part (List Piece) → Part Built
