@@ -1,29 +1,34 @@
--- What a writer has made so far.
-use Rattle.std.specs.Prelude.{◌≡◌, ◌⊎◌, ℕ, ◌+◌, ◌<◌, ◌≤◌, List, [], ◌∷◌, ◌++◌, length, Result, MatchResult}
+-- What a writer makes of tokens, once each name's offset is known.
+use Rattle.std.specs.Prelude.{◌≡◌, ◌⊎◌, ℕ, ◌+◌, ◌-◌, ◌%◌, ◌<◌, List, [], ◌∷◌, ◌++◌, length}
 use Rattle.dt_blob.specs.declared.error.BlobError.{BlobError}
 use Rattle.dt_blob.specs.declared.error.BlobError.TheVariants.{NoMemory, TooLarge}
-use Rattle.dt_blob.specs.Token.{Token}
-use Rattle.dt_blob.specs.Blob.{limit, token_bytes, strings_after}
+use Rattle.dt_blob.specs.BigEndian.{word}
+use Rattle.dt_blob.specs.Token.{Token, begin_node, end_node, property, nop, end}
+use Rattle.dt_blob.specs.Blob.{limit, padding}
 
-pub record Written : Type 0 where
-  pub bytes : List ℕ
-  pub strings : List ℕ
+abbrev pub bytes_by : (List ℕ → ℕ) → Token → List ℕ
+bytes_by offset (begin_node name) = word 1 ++ (name ++ 0 ∷ padding (length name + 1))
+bytes_by offset end_node = word 2
+bytes_by offset (property name value) = word 3 ++ (word (length value) ++ (word (offset name) ++ (value ++ padding (length value))))
+bytes_by offset nop = word 4
+bytes_by offset end = word 9
 
--- how many bytes the whole has at least
-abbrev pub size_of : Written → ℕ
-size_of w = length w.bytes + length w.strings
+abbrev pub all_bytes : (List ℕ → ℕ) → List Token → List ℕ
+all_bytes offset [] = []
+all_bytes offset (token ∷ tokens) = bytes_by offset token ++ all_bytes offset tokens
 
-abbrev pub after_token : Written → Token → Written
-after_token w token = record { bytes = w.bytes ++ token_bytes w.strings token; strings = strings_after w.strings token }
+-- how many bytes tokens have
+abbrev pub token_size : Token → ℕ
+token_size (begin_node name) = 5 + (4 - (length name + 1) % 4) % 4 + length name
+token_size end_node = 4
+token_size (property name value) = 12 + (4 - length value % 4) % 4 + length value
+token_size nop = 4
+token_size end = 4
 
-abbrev pub after_tokens : Written → List Token → Written
-after_tokens w [] = w
-after_tokens w (token ∷ tokens) = after_tokens (after_token w token) tokens
+abbrev pub tokens_size : List Token → ℕ
+tokens_size [] = 0
+tokens_size (token ∷ tokens) = token_size token + tokens_size tokens
 
 -- want of memory, or a size over the limit
 abbrev pub Refuses : ℕ → BlobError → Type 0
 Refuses size e = (e ≡ NoMemory) ⊎ ((e ≡ TooLarge) × (limit < size))
-
--- the step to `after` was made, and what is made fits
-abbrev pub Writes : {T : Type 0} → Result T BlobError → Written → Written → Type 0
-Writes result new after = MatchResult result (λ _. (new ≡ after) × (size_of after ≤ limit)) (λ e. Refuses (size_of after) e)
