@@ -1,5 +1,6 @@
 -- Where nothing is due or in flight, the bound devices are the least set, and the report is the end report.
 use Rattle.std.proofs.Common.{◌≡◌, ◌≢◌, ◌⊎◌, inl, inr, ◌<◌, ◌≤◌, ◌+◌, ℕ, Bool, true, false, not, ◌&&◌, ◌||◌, List, [], ◌∷◌, ◌++◌, length, eqb, cond, refl, sym, ap, ap₂, ◌∙◌, subst, true≢false, append-nil, append_assoc, arith}
+use mathlib.Core.Path.{fun_ext}
 use Rattle.std.specs.List.{list_any, list_all, flat_map}
 use Rattle.std.specs.Prelude.{codes}
 use Rattle.std.proofs.lemmas.Bool.{and_parts, and_from, and_cases, or_cases, or_parts, or_from, or_right, cases_Bool, not-true, not_from_false}
@@ -11,7 +12,7 @@ use Rattle.bus_core.specs.declared.status.Status.TheVariants as status
 use Rattle.bus_core.specs.CoreState.{CoreState, is_in_flight, was_begun}
 use Rattle.bus_core.specs.Due.{is_due, is_idle, is_quiet, devices}
 use Rattle.bus_core.specs.History.{is_bound, bound_in, is_settled, IsBusStep, IsBusHistory}
-use Rattle.bus_core.specs.Laws.{QuietIsLeast, SuppliersComeFirst, QuietReportIsTheEnd}
+use Rattle.bus_core.specs.Laws.{QuietIsLeast, SuppliersComeFirst, QuietReportIsTheEnd, EndReportIsOne}
 use Rattle.bus_core.specs.Least.{IsClosed, IsLeast}
 use Rattle.bus_core.specs.Ready.{is_ready}
 use Rattle.bus_core.specs.Report.{status_of, end_status, line_of, report_text, end_text, IsEndReport}
@@ -98,3 +99,16 @@ quiet-end plan s steps quiet =
           (λ d above below. ap (λ said. line_of plan (bound_in s.history) said d) (quiet-status plan s steps quiet d (omega arith))))
           (ap (λ b. cond b (codes "quiet\n") (codes "busy\n")) quiet);
     }
+
+-- two tests that each follow from the other are one
+same_test : (p q : ℕ → Bool) (d : ℕ) → (p d ≡ true → q d ≡ true) → (q d ≡ true → p d ≡ true) → p d ≡ q d
+same_test p q d to from = elim (cases_Bool (p d)) [
+  | inl passes ↦ passes ∙ sym (to passes)
+  | inr fails ↦ elim (cases_Bool (q d)) [ inl other ↦ absurd (true≢false (sym (from other) ∙ fails)) | inr other ↦ fails ∙ sym other ]
+]
+
+-- two least sets are one, so two end reports are one text
+pub end-one : EndReportIsOne
+end-one plan one other a b =
+    let same : a.bound ≡ b.bound = fun_ext (λ d. same_test a.bound b.bound d (λ held. (b.least d).1 ((a.least d).0 held)) (λ held. (a.least d).1 ((b.least d).0 held)))
+    in a.text_is ∙ ap (end_text plan) same ∙ sym b.text_is

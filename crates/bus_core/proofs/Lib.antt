@@ -3,6 +3,7 @@ pub mod LeastLemmas
 pub mod Lists
 pub mod QuietLemmas
 pub mod ReachedLemmas
+pub mod ReplayLaws
 pub mod ReplayLemmas
 pub mod ReportLemmas
 pub mod SoundLemmas

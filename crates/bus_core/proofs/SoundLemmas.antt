@@ -12,6 +12,7 @@ use Rattle.bus_core.specs.declared.phase.Phase.TheVariants.{Fresh, Begun, InFlig
 use Rattle.bus_core.specs.declared.settle.Outcome.{Outcome}
 use Rattle.bus_core.specs.declared.settle.Outcome.TheVariants as outcome
 use Rattle.bus_core.specs.declared.settle.Settle.{Settle}
+use Rattle.bus_core.specs.declared.limits.TheConstants.{MAX_BEGINS}
 use Rattle.bus_core.specs.CoreState.{CoreState, Flight, flight_of, is_in_flight, was_begun, first_state}
 use Rattle.bus_core.specs.Due.{is_due, is_idle}
 use Rattle.bus_core.specs.History.{outcome_by, is_bound, bound_in, is_settled, IsBusHistory}
@@ -101,7 +102,7 @@ at-other phases d e phase other = get_or-set_other phases d e phase Fresh other
 
 -- a device that isn't settled goes to another such phase
 pub change-sound : (plan : List PlannedDevice) (phases : List Phase) (h : List Settle) (n m d : ℕ) (phase : Phase)
-    → d < length phases → settled_in (phase_at phases d) ≡ false → settled_in phase ≡ false → m ≤ 500000
+    → d < length phases → settled_in (phase_at phases d) ≡ false → settled_in phase ≡ false → m ≤ MAX_BEGINS
     → IsSound plan phases h n → IsSound plan (set phases d phase) h m
 change-sound plan phases h n m d phase within old new limit sound =
     record {
@@ -261,7 +262,7 @@ flying-unsettled Failed e = sym e
 
 -- a begin, as the phases keep it
 pub begun-sound : (plan : List PlannedDevice) (phases : List Phase) (h : List Settle) (n d e k : ℕ)
-    → e ≡ d → d < length plan → idle_in (phase_at phases d) ≡ true → n < 500000
+    → e ≡ d → d < length plan → idle_in (phase_at phases d) ≡ true → n < MAX_BEGINS
     → IsSound plan phases h n → IsSound plan (set phases e (InFlight (n + 1) k)) h (n + 1)
 begun-sound plan phases h n d e k same within idle few sound =
     change-sound plan phases h n (n + 1) e (InFlight (n + 1) k) (omega (arith, sound.places))

@@ -1,14 +1,17 @@
 -- The laws of the definitions, each stated by a public function.
-use Rattle.std.specs.Prelude.{◌≡◌, ℕ, true, List, [], ◌∷◌, ◌++◌}
+use Rattle.std.specs.Prelude.{◌≡◌, ℕ, ◌+◌, true, List, [], ◌∷◌, ◌++◌, length, Ok, Err}
 use Rattle.std.specs.List.{list_all}
 use Rattle.bus_plan.specs.Plan.{PlannedDevice, suppliers_of}
+use Rattle.bus_core.specs.declared.event.Event.{Event}
+use Rattle.bus_core.specs.declared.refusal.Refusal.{Refusal}
 use Rattle.bus_core.specs.declared.settle.Settle.{Settle}
 use Rattle.bus_core.specs.CoreState.{CoreState, first_state}
 use Rattle.bus_core.specs.Due.{is_quiet}
 use Rattle.bus_core.specs.History.{IsBusHistory, bound_in}
 use Rattle.bus_core.specs.Least.{IsLeast}
 use Rattle.bus_core.specs.Report.{report_text, IsEndReport}
-use Rattle.bus_core.specs.Step.{CoreEvent, after}
+use Rattle.bus_core.specs.Replay.{event_refusal, or_refused, replay_of, core_event, core_events}
+use Rattle.bus_core.specs.Step.{CoreEvent, step, after}
 
 -- every list of events leads to a history of the sequential bus
 abbrev pub EventsKeepHistory : Type 0
@@ -27,3 +30,31 @@ SuppliersComeFirst =
 -- where nothing is due or in flight, the report is the one that every run ends with
 abbrev pub QuietReportIsTheEnd : Type 0
 QuietReportIsTheEnd = (plan : List PlannedDevice) (s : CoreState) → IsBusHistory plan s.history → is_quiet plan s ≡ true → IsEndReport plan (report_text plan s)
+
+-- all end reports of a plan are one text
+abbrev pub EndReportIsOne : Type 0
+EndReportIsOne = (plan : List PlannedDevice) (one other : List ℕ) → IsEndReport plan one → IsEndReport plan other → one ≡ other
+
+-- a replay that isn't refused leads where the library's events lead
+abbrev pub ReplayIsAfter : Type 0
+ReplayIsAfter =
+    (plan : List PlannedDevice) (events : List Event) (s : CoreState)
+    → replay_of plan events ≡ Ok s → s ≡ after plan (first_state plan) (core_events plan (first_state plan) events)
+
+-- its settled devices are a history of the sequential bus
+abbrev pub ReplayKeepsHistory : Type 0
+ReplayKeepsHistory =
+    (plan : List PlannedDevice) (events : List Event) (s : CoreState) → replay_of plan events ≡ Ok s → IsBusHistory plan s.history
+
+-- one event more is the step of that event, or refused as it is
+abbrev pub ReplayGoesOn : Type 0
+ReplayGoesOn =
+    (plan : List PlannedDevice) (events : List Event) (e : Event) (s : CoreState)
+    → replay_of plan events ≡ Ok s
+    → replay_of plan (events ++ e ∷ []) ≡ or_refused (event_refusal plan s e) (length events + 1) (Ok (step plan s (core_event s e)))
+
+-- a refused replay stays refused
+abbrev pub ReplayStops : Type 0
+ReplayStops =
+    (plan : List PlannedDevice) (events more : List Event) (n : ℕ) (refusal : Refusal)
+    → replay_of plan events ≡ Err (n, refusal) → replay_of plan (events ++ more) ≡ Err (n, refusal)

@@ -5,8 +5,8 @@ use Rattle.bus_core.specs.declared.event.Event.{Event}
 use Rattle.bus_core.specs.declared.event.Event.TheVariants.{Begin, Finish, Abandon}
 use Rattle.bus_core.specs.declared.refusal.Refusal.{Refusal}
 use Rattle.bus_core.specs.declared.refusal.Refusal.TheVariants.{NotInFlight}
-use Rattle.bus_core.specs.CoreState.{CoreState, is_in_flight, first_state}
-use Rattle.bus_core.specs.Step.{begin_refusal, begin_state, abandon_refusal, without_flight, report_refusal, finish_state}
+use Rattle.bus_core.specs.CoreState.{CoreState, Flight, flight_of, is_in_flight, first_state}
+use Rattle.bus_core.specs.Step.{begin_refusal, begin_state, abandon_refusal, without_flight, report_refusal, finish_state, CoreEvent, begins, finishes, abandons, step}
 
 abbrev pub event_refusal : List PlannedDevice → CoreState → Event → Option Refusal
 event_refusal plan s (Begin d) = begin_refusal plan s d
@@ -38,3 +38,20 @@ replay_from plan n s (e ∷ es) = or_refused (event_refusal plan s e) (n + 1) (r
 
 abbrev pub replay_of : List PlannedDevice → List Event → Result CoreState (ℕ × Refusal)
 replay_of plan events = replay_from plan 0 (first_state plan) events
+
+-- ---- the library's events
+-- the attempt that a flight's ticket names; no flight has attempt 0
+abbrev pub attempt_of : Option Flight → ℕ
+attempt_of None = 0
+attempt_of (Some flight) = flight.attempt
+
+-- the library's event that an event of a schedule stands for
+abbrev pub core_event : CoreState → Event → CoreEvent
+core_event s (Begin d) = begins d
+core_event s (Finish d report) = finishes (record { device = d; attempt = attempt_of (flight_of s d) }) report
+core_event s (Abandon d) = abandons d
+
+-- those of a schedule's events, one after another
+abbrev pub core_events : List PlannedDevice → CoreState → List Event → List CoreEvent
+core_events plan s [] = []
+core_events plan s (e ∷ es) = core_event s e ∷ core_events plan (step plan s (core_event s e)) es

@@ -3,6 +3,7 @@ use Rattle.std.specs.Prelude.{◌≡◌, ◌≤◌, ◌+◌, ℕ, Bool, not, Lis
 use Rattle.bus_plan.specs.Plan.{PlannedDevice}
 use Rattle.bus_core.specs.declared.phase.Phase.{Phase}
 use Rattle.bus_core.specs.declared.settle.Settle.{Settle}
+use Rattle.bus_core.specs.declared.limits.TheConstants.{MAX_BEGINS}
 use Rattle.bus_core.specs.History.{IsBusHistory, bound_in, is_settled}
 use Rattle.bus_core.specs.Phase.{phase_at, bound_before, bound_now, settled_in}
 
@@ -15,5 +16,5 @@ pub record IsSound (plan : List PlannedDevice) (phases : List Phase) (history : 
   pub bound : (d : ℕ) → bound_in history d ≡ bound_now (phase_at phases d)
   pub settled : (d : ℕ) → is_settled history d ≡ settled_in (phase_at phases d)
   pub lawful : IsBusHistory plan history
-  pub limit : begins ≤ 500000
+  pub limit : begins ≤ MAX_BEGINS
   pub unsettled : length history + count_by unsettled_in phases ≡ length plan

@@ -15,6 +15,7 @@ use Rattle.bus_core.specs.declared.refusal.Refusal.TheVariants.{NotIdle, Unmatch
 use Rattle.bus_core.specs.declared.settle.Settle.{Settle}
 use Rattle.bus_core.specs.declared.settle.Outcome.{Outcome}
 use Rattle.bus_core.specs.declared.settle.Outcome.TheVariants as outcome
+use Rattle.bus_core.specs.declared.limits.TheConstants.{MAX_BEGINS}
 use Rattle.bus_core.specs.CoreState.{CoreState, Flight, flight_of, is_in_flight}
 use Rattle.bus_core.specs.Due.{is_due, is_idle}
 use Rattle.bus_core.specs.History.{bound_in, is_settled, outcome_by}
@@ -25,7 +26,7 @@ abbrev pub begin_refusal : List PlannedDevice → CoreState → ℕ → Option R
 begin_refusal plan s d =
     if not (is_matched plan d) then Some Unmatched
     else (if not (is_idle s d) then Some NotIdle
-    else (if not (nat_lt s.begins 500000) then Some TooManyEvents
+    else (if not (nat_lt s.begins MAX_BEGINS) then Some TooManyEvents
     else None))
 
 abbrev pub begin_state : CoreState → ℕ → CoreState

@@ -28,7 +28,7 @@ pub enum Reply {
 }
 
 /// An event of a schedule. A finish is that of the flight which its device has.
-#[derive(Clone, Copy, Debug, PartialEq, Eq)]
+#[derive(Debug, Drop, PartialEq, Eq)]
 pub enum Event {
     Begin(Device),
     Finish(Device, Report),

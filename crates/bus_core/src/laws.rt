@@ -1,6 +1,6 @@
 //! The laws of the bus, over all plans, states and events.
 
-ghost use Rattle.bus_core.specs.Laws.{EventsKeepHistory, QuietIsLeast, SuppliersComeFirst, QuietReportIsTheEnd};
+ghost use Rattle.bus_core.specs.Laws.{EventsKeepHistory, QuietIsLeast, SuppliersComeFirst, QuietReportIsTheEnd, EndReportIsOne, ReplayIsAfter, ReplayKeepsHistory, ReplayGoesOn, ReplayStops};
 
 /// Every list of begins, finishes and abandons leads to a history of the sequential bus.
 pub fn events_keep_history()
@@ -21,4 +21,29 @@ pub fn suppliers_come_first()
 /// Where nothing is due or in flight after a history of the sequential bus, the report is the end report of the plan.
 pub fn quiet_report_is_the_end()
     ensures { QuietReportIsTheEnd }
+{}
+
+/// All end reports of a plan are one text.
+pub fn end_report_is_one()
+    ensures { EndReportIsOne }
+{}
+
+/// A replay that isn't refused leads where the library's events lead, each finish by the ticket of its device's flight.
+pub fn replay_is_after()
+    ensures { ReplayIsAfter }
+{}
+
+/// The settled devices of a replay are a history of the sequential bus.
+pub fn replay_keeps_history()
+    ensures { ReplayKeepsHistory }
+{}
+
+/// One event more is the step of that event, or is refused as that event is.
+pub fn replay_goes_on()
+    ensures { ReplayGoesOn }
+{}
+
+/// A refused replay stays refused, by the same event.
+pub fn replay_stops()
+    ensures { ReplayStops }
 {}

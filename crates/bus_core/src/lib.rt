@@ -3,6 +3,7 @@
 
 mod event;
 mod laws;
+mod limits;
 mod phase;
 mod refusal;
 mod replaying;
@@ -16,15 +17,13 @@ mod steps;
 
 pub use event::{Event, Reply, Report, Ticket};
 pub use laws::{
-    events_keep_history, quiet_is_least, quiet_report_is_the_end, suppliers_come_first,
+    end_report_is_one, events_keep_history, quiet_is_least, quiet_report_is_the_end,
+    replay_goes_on, replay_is_after, replay_keeps_history, replay_stops, suppliers_come_first,
 };
+pub use limits::MAX_BEGINS;
 pub use refusal::Refusal;
 pub use replaying::replay;
 pub use schedule::read_schedule;
 pub use settle::{Outcome, Settle};
 pub use state::Core;
 pub use status::Status;
-pub use steps::MAX_BEGINS;
-
-#[cfg(test)]
-mod tests;

@@ -31,19 +31,19 @@ impl Core {
     }
 
     // One event of a schedule.
-    fn take(&mut self, event: Event) -> Result<(), Refusal>
-        requires { device_of event < length self.old.plan }
-        ensures refused { result_err result ≡ event_refusal self.old.plan self.old.state event }
-        ensures taken { OnOk result (self.new ≡ record { plan = self.old.plan; state = event_state self.old.plan self.old.state event }) }
+    fn take(&mut self, event: &Event) -> Result<(), Refusal>
+        requires { device_of event.now < length self.old.plan }
+        ensures refused { result_err result ≡ event_refusal self.old.plan self.old.state event.now }
+        ensures taken { OnOk result (self.new ≡ record { plan = self.old.plan; state = event_state self.old.plan self.old.state event.now }) }
         ensures err { OnErr result (self.new ≡ self.old) }
     {
         match event {
-            Event::Begin(device) => match self.begin(device) {
+            Event::Begin(device) => match self.begin(*device) {
                 Ok(_) => Ok(()),
                 Err(refusal) => Err(refusal),
             },
-            Event::Finish(device, report) => self.finish_flight(device, report),
-            Event::Abandon(device) => self.abandon(device),
+            Event::Finish(device, report) => self.finish_flight(*device, *report),
+            Event::Abandon(device) => self.abandon(*device),
         }
     }
 }
@@ -61,7 +61,7 @@ pub fn replay(alloc: Global, plan: Plan, events: &[Event]) -> Result<Core, (usiz
         Err(refusal) => return Err((0, refusal)),
     };
     for (index, event) in events.iter().enumerate() {
-        if let Err(refusal) = core.take(*event) {
+        if let Err(refusal) = core.take(event) {
             return Err((index + 1, refusal));
         }
     }

@@ -8,7 +8,7 @@ ghost use Rattle.bus_plan.specs.Plan.{is_available, is_matched};
 ghost use Rattle.bus_core.specs.Phase.{status_by, idle_status, due_by};
 ghost use Rattle.bus_core.specs.Report.{status_of};
 
-use crate::phase::{Phase, is_due, is_landed, is_matched, next_due, phase_of};
+use crate::phase::{Phase, is_bound, is_due, is_landed, is_matched, next_due, phase_of};
 use crate::state::Core;
 use crate::status::Status;
 use bus_plan::{Device, Plan};
@@ -49,6 +49,21 @@ impl Core {
         ensures { result ≡ status_of self.now.plan self.now.state device }
     {
         status_by(&self.plan, &self.phases, device)
+    }
+
+    // Whether a probe of the device is due.
+    pub(crate) fn is_due(&self, device: Device) -> bool
+        requires { device < length self.now.plan }
+        ensures { result ≡ is_due self.now.plan self.now.state device }
+    {
+        is_due(&self.plan, &self.phases, device)
+    }
+
+    /// Whether a device is bound.
+    pub fn is_bound(&self, device: Device) -> bool
+        ensures { result ≡ bound_in self.now.state.history device }
+    {
+        is_bound(&self.phases, device)
     }
 
     /// A device whose probe is due, if there is one.

@@ -60,6 +60,13 @@ impl Core {
         })
     }
 
+    /// The settled devices with their outcomes, in the order in which they settled.
+    pub fn history(&self) -> &[Settle]
+        ensures { result.now ≡ self.now.state.history }
+    {
+        self.history.as_slice()
+    }
+
     /// The plan.
     pub fn plan(&self) -> &Plan
         ensures { result.now ≡ self.now.plan }

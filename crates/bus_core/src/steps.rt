@@ -4,20 +4,19 @@ ghost use Rattle.std.specs.Prelude.{◌≡◌, ◌<◌, ◌+◌, ◌++◌, ◌�
 ghost use Rattle.std.specs.Result.{result_err};
 ghost use Rattle.bus_plan.specs.Plan.{verdict_of};
 ghost use Rattle.bus_core.specs.CoreState.{CoreValue, flight_of, is_in_flight};
+ghost use Rattle.bus_core.specs.Due.{is_idle};
 ghost use Rattle.bus_core.specs.History.{outcome_by};
 ghost use Rattle.bus_core.specs.Phase.{settled_phase};
-ghost use Rattle.bus_core.specs.Step.{begin_refusal, begin_state, finish_refusal, finish_state, finish_reply, report_refusal, abandon_refusal, without_flight, settled_reply, is_supplier, settled_at_begin};
+ghost use Rattle.bus_core.specs.Step.{begin_refusal, begin_state, finish_refusal, finish_state, finish_reply, report_refusal, abandon_refusal, without_flight, settled_reply, is_supplier, settled_at_begin, begins, finishes, abandons, step};
 ghost use Rattle.bus_core.specs.Replay.{event_refusal, event_state, device_of};
 
 use crate::event::{Reply, Report, Ticket};
-use crate::phase::{Phase, is_due, is_matched, is_ready, phase_of, was_bound};
+use crate::limits::MAX_BEGINS;
+use crate::phase::{Phase, is_matched, is_ready, phase_of, was_bound};
 use crate::refusal::Refusal;
 use crate::settle::{Outcome, Settle};
 use crate::state::Core;
 use bus_plan::{Device, Plan, Verdict};
-
-/// The begins that a core has: each uses up two of 1,000,000 events, its own and its flight's end.
-pub const MAX_BEGINS: u32 = 500_000;
 
 fn outcome_of(verdict: Verdict) -> Outcome
     ensures { result ≡ outcome_by verdict }
@@ -75,6 +74,7 @@ impl Core {
         ensures ticket { IfOk result (λ ticket. ticket ≡ record { device = device; attempt = self.old.state.begins + 1 }) }
         ensures begun { OnOk result (self.new ≡ record { plan = self.old.plan; state = begin_state self.old.state device }) }
         ensures err { OnErr result (self.new ≡ self.old) }
+        ensures step { self.new ≡ record { plan = self.old.plan; state = step self.old.plan self.old.state (begins device) } }
     {
         if !is_matched(&self.plan, device) {
             return Err(Refusal::Unmatched);
@@ -85,12 +85,32 @@ impl Core {
         if self.begins >= MAX_BEGINS {
             return Err(Refusal::TooManyEvents);
         }
+        Ok(self.open_flight(device))
+    }
+
+    // The next flight, of an idle device.
+    fn open_flight(&mut self, device: Device) -> Ticket
+        requires within { device < length self.old.plan }
+        requires idle { is_idle self.old.state device ≡ true }
+        requires few { self.old.state.begins < MAX_BEGINS }
+        ensures ticket { result ≡ record { device = device; attempt = self.old.state.begins + 1 } }
+        ensures begun { self.new ≡ record { plan = self.old.plan; state = begin_state self.old.state device } }
+    {
         self.begins += 1;
         self.phases[device.index()] = Phase::InFlight(self.begins, self.history.len());
-        Ok(Ticket {
+        Ticket {
             device,
             attempt: self.begins,
-        })
+        }
+    }
+
+    // Ends the flight of a device that doesn't settle.
+    fn close_flight(&mut self, device: Device)
+        requires within { device < length self.old.plan }
+        requires flying { is_in_flight self.old.state device ≡ true }
+        ensures { self.new ≡ record { plan = self.old.plan; state = without_flight self.old.state device } }
+    {
+        self.phases[device.index()] = Phase::Begun;
     }
 
     /// Drops the device's flight. The device counts as begun.
@@ -99,11 +119,12 @@ impl Core {
         ensures refused { result_err result ≡ abandon_refusal self.old.state device }
         ensures abandoned { OnOk result (self.new ≡ record { plan = self.old.plan; state = without_flight self.old.state device }) }
         ensures err { OnErr result (self.new ≡ self.old) }
+        ensures step { self.new ≡ record { plan = self.old.plan; state = step self.old.plan self.old.state (abandons device) } }
     {
         if !phase_of(&self.phases, device).is_in_flight() {
             return Err(Refusal::NotInFlight);
         }
-        self.phases[device.index()] = Phase::Begun;
+        self.close_flight(device);
         Ok(())
     }
 
@@ -114,6 +135,7 @@ impl Core {
         ensures reply { IfOk result (λ reply. reply ≡ finish_reply self.new.plan self.new.state ticket.now.device report) }
         ensures finished { OnOk result (self.new ≡ record { plan = self.old.plan; state = finish_state self.old.plan self.old.state ticket.now.device report }) }
         ensures err { OnErr result (self.new ≡ self.old) }
+        ensures step { self.new ≡ record { plan = self.old.plan; state = step self.old.plan self.old.state (finishes ticket.now report) } }
     {
         match phase_of(&self.phases, ticket.device) {
             Phase::InFlight(attempt, settled) if attempt == ticket.attempt => self.land(
@@ -178,8 +200,8 @@ impl Core {
         if was_bound(&self.phases, supplier, settled) {
             return Err(Refusal::WasBound);
         }
-        self.phases[device.index()] = Phase::Begun;
-        if is_due(&self.plan, &self.phases, device) {
+        self.close_flight(device);
+        if self.is_due(device) {
             return Ok(Reply::Again);
         }
         Ok(Reply::Waiting)

@@ -7,6 +7,7 @@ use Rattle.std.specs.Str.{bytes_eq}
 use Rattle.std.proofs.lemmas.Bool.{leb-false}
 use Rattle.std.proofs.lemmas.List.{map-append}
 use Rattle.std.proofs.lemmas.List.Elements.{All-nil, All-cons, All-append}
+use Rattle.bus_plan.specs.declared.limits.TheConstants.{MAX_DEVICES}
 use Rattle.bus_plan.specs.declared.error.PlanError.{PlanError}
 use Rattle.bus_plan.specs.declared.error.PlanError.TheVariants.{BadLine, DuplicateDevice, TooManyDevices}
 use Rattle.bus_plan.specs.declared.matching.Matching.{Matching}
@@ -15,8 +16,8 @@ use Rattle.bus_plan.specs.declared.verdict.Verdict.TheVariants.{Binds, Fails}
 use Rattle.bus_plan.specs.Lines.{is_line, fields, is_skipped}
 use Rattle.bus_plan.specs.Plan.{is_device_path, is_driver_name}
 use Rattle.bus_plan.specs.PlanPaths.{is_among, are_distinct}
-use Rattle.bus_plan.specs.PlanFile.{DeviceLine, driven, undriven, matching_of, device_of, read_device, meaning, meaning_at, device_on, devices_before, line_paths, refusal_of, fault_of, fault_at, faults_before}
-use Rattle.bus_plan.proofs.BoolLemmas.{and-left, and-right}
+use Rattle.bus_plan.specs.PlanFile.{DeviceLine, driven, undriven, matching_of, are_supplier_paths, device_of, read_device, meaning, meaning_at, device_on, devices_before, line_paths, refusal_of, fault_of, fault_at, faults_before}
+use Rattle.bus_plan.proofs.BoolLemmas.{and-left, and-right, and_both}
 use Rattle.bus_plan.proofs.PathLemmas.{distinct-more}
 
 -- the second and third field of a lawful line
@@ -31,7 +32,7 @@ pub record IsLawfulLine (d : DeviceLine) : Type 0 where
   pub matching : IsLawfulMatching d.matching
 
 pub record IsLawfulListing (ds : List DeviceLine) : Type 0 where
-  pub few : length ds ≤ 512
+  pub few : length ds ≤ MAX_DEVICES
   pub distinct : are_distinct (line_paths ds) ≡ true
   pub lines : All IsLawfulLine ds
 
@@ -70,14 +71,19 @@ lawful-device number [] d e = absurd (cc)
 lawful-device number (path ∷ []) d e = absurd (cc)
 lawful-device number (path ∷ driver ∷ []) d e = absurd (cc)
 lawful-device number (path ∷ driver ∷ word ∷ suppliers) d e =
-    by_test (list_all is_device_path (path ∷ suppliers) && are_distinct (path ∷ suppliers)) (matching_of driver word) refl refl e
+    by_test (is_device_path path && are_supplier_paths path suppliers) (matching_of driver word) refl refl e
   where
-    by_test : (t : Bool) (found : Option Matching) → (list_all is_device_path (path ∷ suppliers) && are_distinct (path ∷ suppliers)) ≡ t → matching_of driver word ≡ found
+    by_test : (t : Bool) (found : Option Matching) → (is_device_path path && are_supplier_paths path suppliers) ≡ t → matching_of driver word ≡ found
         → (if t then option_map (λ m. record { number = number; path = path; matching = m; suppliers = suppliers }) found else None) ≡ Some d → IsLawfulLine d
     by_test true (Some m) tested found e =
         let is : record { number = number; path = path; matching = m; suppliers = suppliers } ≡ d = cc in
         subst IsLawfulLine is
-        (record { forms = and-left _ _ tested; distinct = and-right _ _ tested; matching = lawful-matching driver word m found })
+        (record {
+          forms = and_both _ _ (and-left (is_device_path path) (are_supplier_paths path suppliers) tested)
+              (and-left (list_all is_device_path suppliers) (are_distinct (path ∷ suppliers)) (and-right (is_device_path path) (are_supplier_paths path suppliers) tested));
+          distinct = and-right (list_all is_device_path suppliers) (are_distinct (path ∷ suppliers)) (and-right (is_device_path path) (are_supplier_paths path suppliers) tested);
+          matching = lawful-matching driver word m found;
+        })
     by_test true None tested found e = absurd (cc)
     by_test false found tested is e = absurd (cc)
 
@@ -94,8 +100,8 @@ lawful-line number line d e = by_test (is_line line) (is_skipped (fields line)) 
     by_test false u e = absurd (cc)
 
 -- ---- the lines
-refusal_none : (ds : List DeviceLine) (d : DeviceLine) → option_to_list (refusal_of ds d) ≡ [] → (is_among d.path (line_paths ds) ≡ false) × (nat_le 512 (length ds) ≡ false)
-refusal_none ds d e = by_test (is_among d.path (line_paths ds)) (nat_le 512 (length ds)) e
+refusal_none : (ds : List DeviceLine) (d : DeviceLine) → option_to_list (refusal_of ds d) ≡ [] → (is_among d.path (line_paths ds) ≡ false) × (nat_le MAX_DEVICES (length ds) ≡ false)
+refusal_none ds d e = by_test (is_among d.path (line_paths ds)) (nat_le MAX_DEVICES (length ds)) e
   where
     by_test : (t u : Bool) → option_to_list (if t then Some (DuplicateDevice d.number) else (if u then Some TooManyDevices else None)) ≡ [] → (t ≡ false) × (u ≡ false)
     by_test true u e = absurd (cc)
@@ -108,8 +114,8 @@ lawful-step ls n ds (Err e) says none lawful = absurd (cc)
 lawful-step ls n ds (Ok None) says none lawful = subst IsLawfulListing (sym (append-nil ds)) lawful
 lawful-step ls n ds (Ok (Some d)) says none lawful =
     let new = refusal_none ds d none in
-    let room : length ds < 512 = leb-false 512 (length ds) new.1 in
-    let before : length ds ≤ 512 = lawful.few in
+    let room : length ds < MAX_DEVICES = leb-false MAX_DEVICES (length ds) new.1 in
+    let before : length ds ≤ MAX_DEVICES = lawful.few in
     record {
       few = omega (arith, length-append ds (d ∷ []));
       distinct = ap are_distinct (map-append (λ d. d.path) ds (d ∷ [])) ∙ distinct-more (line_paths ds) d.path lawful.distinct new.0;

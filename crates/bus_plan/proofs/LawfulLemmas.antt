@@ -5,12 +5,13 @@ use Rattle.std.specs.List.{list_all, cons_option}
 use Rattle.std.specs.Prelude.{Some, None, if◌then◌else◌}
 use Rattle.std.proofs.lemmas.List.{get_or-map, length-map}
 use Rattle.std.proofs.lemmas.List.Elements.{All-map}
+use Rattle.bus_plan.specs.declared.limits.TheConstants.{MAX_DEVICES}
 use Rattle.bus_plan.specs.declared.error.PlanError.{PlanError}
 use Rattle.bus_plan.specs.declared.error.PlanError.TheVariants.{UnknownPath}
-use Rattle.bus_plan.specs.Indexed.{IsIndexed}
 use Rattle.bus_plan.specs.Plan.{PlannedDevice, nothing, planned, paths, is_device_path, IsLawfulDevice, IsLawful}
 use Rattle.bus_plan.specs.PlanPaths.{are_distinct, are_known, place_of}
-use Rattle.bus_plan.specs.PlanFile.{DeviceLine, line_paths, unknowns_in, unknowns, planned_of, plan_of, IsFaultless}
+use Rattle.bus_plan.specs.PlanFile.{DeviceLine, line_paths, unknowns_in, unknowns, planned_of, plan_of}
+use Rattle.bus_plan.specs.Private.Reading.{IsFaultless}
 use Rattle.bus_plan.proofs.BoolLemmas.{and-left, and-right}
 use Rattle.bus_plan.proofs.DistinctLemmas.{distinct-pairs, place-holds, known-here, places-within}
 use Rattle.bus_plan.proofs.FaultlessLemmas.{IsLawfulLine, IsLawfulListing, lawful-before}
@@ -96,7 +97,7 @@ lawful-plan ds lawful none =
     let known_all = all-known known ds none in
     let long : length (plan_of ds) ≡ length ds = length-map ds (planned_of known) in
     let long_known : length known ≡ length ds = length-map ds (λ d. d.path) in
-    let few : length ds ≤ 512 = lawful.few in
+    let few : length ds ≤ MAX_DEVICES = lawful.few in
     record {
       few = omega arith;
       devices = All-map IsLawfulDevice (planned_of known) ds (λ k x within. lawful-device known _ (lawful.lines k x within));
@@ -117,12 +118,11 @@ lawful-plan ds lawful none =
           (line_at known ds lawful.lines known_all k);
     }
 
--- with its index
-pub indexed-plan : (ds : List DeviceLine) (plan : List PlannedDevice) (index : List (List ℕ))
-    → IsFaultless ds → unknowns ds ≡ [] → plan ≡ plan_of ds → index ≡ line_paths ds → IsIndexed plan index
-indexed-plan ds plan index faultless none is agrees =
+-- the plan of the devices that lines list
+pub lawful-listed : (ds : List DeviceLine) (plan : List PlannedDevice) → IsFaultless ds → unknowns ds ≡ [] → plan ≡ plan_of ds → IsLawful plan
+lawful-listed ds plan faultless none is =
     let listing : IsLawfulListing ds = subst IsLawfulListing (sym faultless.2) (lawful-before faultless.0 faultless.1 faultless.3) in
-    record {
-      lawful = subst IsLawful (sym is) (lawful-plan ds listing none);
-      agrees = agrees ∙ sym (ap paths is ∙ paths-planned (line_paths ds) ds);
-    }
+    subst IsLawful (sym is) (lawful-plan ds listing none)
+
+pub paths-listed : (ds : List DeviceLine) (plan : List PlannedDevice) (index : List (List ℕ)) → plan ≡ plan_of ds → index ≡ line_paths ds → index ≡ paths plan
+paths-listed ds plan index is agrees = agrees ∙ sym (ap paths is ∙ paths-planned (line_paths ds) ds)

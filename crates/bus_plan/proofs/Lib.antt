@@ -8,6 +8,9 @@ pub mod DistinctLemmas
 pub mod FaultlessLemmas
 pub mod LawfulLemmas
 pub mod ReadingLemmas
+pub mod DeviceListsLemmas
+pub mod ConsumersLemmas
+pub mod FieldsLemmas
 pub mod TextBytes
 pub mod ReadBack
 pub mod TextLines

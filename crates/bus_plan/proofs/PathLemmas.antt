@@ -1,16 +1,18 @@
 -- Lists of paths: what is among them, and whether they differ.
-use Rattle.std.proofs.Common.{◌≡◌, ℕ, zero, suc, ◌+◌, ◌<◌, ◌≤◌, Bor, Bool, true, false, cond, not, ◌&&◌, ◌||◌, List, [], ◌∷◌, ◌++◌, length, get_or, map, take, drop, refl, sym, ap, ◌∙◌, arith}
+use Rattle.std.proofs.Common.{◌≡◌, ℕ, zero, suc, ◌+◌, ◌<◌, ◌≤◌, Bor, Bool, true, false, cond, not, ◌&&◌, ◌||◌, List, [], ◌∷◌, ◌++◌, length, get_or, map, take, drop, refl, sym, ap, ◌∙◌, append_assoc, append-nil, arith}
 use Rattle.std.proofs.lemmas.List.{take_more, map-append}
 use Rattle.std.specs.BTreeSet.{BTreeSet, contains}
 use Rattle.std.specs.Cmp.Lexicographic.{slice_cmp, nat_list_eq_equiv, texts_ties}
 use Rattle.std.specs.Ordering.{nat_cmp, is_eq}
 use Rattle.std.specs.declared.cmp.Ordering.{Ordering}
 use Rattle.std.specs.Prelude.{nat_lt, position, Some, None}
-use Rattle.std.specs.List.{list_any, position_or_len}
+use Rattle.std.specs.List.{list_all, list_any, position_or_len}
 use Rattle.std.specs.Str.{bytes_eq}
 use Rattle.std.proofs.lemmas.Bool.{lt-ltb, le-ltb, ltb-true, ltb-false}
 use Rattle.std.proofs.lemmas.Option.{cond_some}
 use Rattle.std.proofs.lemmas.List.Folds.{list_any-append, list_all-append, list_all-map, list_all_at}
+use Rattle.bus_plan.specs.Plan.{is_device_path}
+use Rattle.bus_plan.specs.PlanFile.{are_supplier_paths}
 use Rattle.bus_plan.specs.PlanPaths.{is_among, are_distinct, are_known, place_of}
 use Rattle.bus_plan.proofs.BoolLemmas.{and-left, and-right, and_both, and_false, or_true, or_false, or-left, or-right, not-true}
 
@@ -78,26 +80,61 @@ pub texts-more : (ps : List (Bor (List ℕ))) (i : ℕ) (d : Bor (List ℕ)) →
     → texts (take (i + 1) ps) ≡ texts (take i ps) ++ (get_or ps i d).now ∷ []
 texts-more ps i d h = ap texts (take_more ps i d h) ∙ map-append (λ p. p.now) (take i ps) (get_or ps i d ∷ [])
 
--- the path at i stands before
-pub repeats-at : (first : List ℕ) (ps : List (Bor (List ℕ))) (i : ℕ) (d : Bor (List ℕ)) → i < length ps
-    → is_among (get_or ps i d).now (first ∷ texts (take i ps)) ≡ true → are_distinct (first ∷ texts ps) ≡ false
-repeats-at first ps i d h among =
-    ap (λ t. are_distinct (first ∷ t)) (texts-split ps i d h)
-    ∙ repeats (first ∷ texts (take i ps)) (get_or ps i d).now (texts (drop (suc i) ps)) among
+-- ---- a walk over the suppliers of a line
+-- the paths so far and those that are left are all of them; those so far have their form and differ, and the set has them
+pub record IsReadSoFar (own : List ℕ) (all left : List (List ℕ)) (seen : BTreeSet (Bor (List ℕ))) (paths : List (Bor (List ℕ))) : Type 0 where
+  pub all_are : all ≡ texts paths ++ left
+  pub formed : list_all is_device_path (texts paths) ≡ true
+  pub distinct : are_distinct (own ∷ texts paths) ≡ true
+  pub has : HasPaths seen (own ∷ texts paths)
 
-pub distinct-at : (first : List ℕ) (ps : List (Bor (List ℕ))) (i : ℕ) (d : Bor (List ℕ)) → i < length ps
-    → are_distinct (first ∷ texts (take i ps)) ≡ true → is_among (get_or ps i d).now (first ∷ texts (take i ps)) ≡ false
-    → are_distinct (first ∷ texts (take (i + 1) ps)) ≡ true
-distinct-at first ps i d h distinct new =
-    ap (λ t. are_distinct (first ∷ t)) (texts-more ps i d h)
-    ∙ distinct-more (first ∷ texts (take i ps)) (get_or ps i d).now distinct new
+texts-push : (paths : List (Bor (List ℕ))) (path : Bor (List ℕ)) → texts (paths ++ path ∷ []) ≡ texts paths ++ path.now ∷ []
+texts-push paths path = map-append (λ p. p.now) paths (path ∷ [])
 
-pub HasPaths-at : (s n : BTreeSet (Bor (List ℕ))) (first : List ℕ) (ps : List (Bor (List ℕ))) (i : ℕ) (d : Bor (List ℕ)) → i < length ps
-    → ((q : Bor (List ℕ)) → contains path_cmp n q ≡ cond (is_eq (path_cmp (get_or ps i d) q)) true (contains path_cmp s q))
-    → HasPaths s (first ∷ texts (take i ps)) → HasPaths n (first ∷ texts (take (i + 1) ps))
-HasPaths-at s n first ps i d h update has q =
-    HasPaths-more s n (get_or ps i d) (first ∷ texts (take i ps)) update has q
-    ∙ ap (λ t. is_among q.now (first ∷ t)) (sym (texts-more ps i d h))
+pub read-none : (own : List ℕ) (all left : List (List ℕ)) (seen : BTreeSet (Bor (List ℕ))) (paths : List (Bor (List ℕ))) → paths ≡ [] → left ≡ all → HasPaths seen (own ∷ [])
+    → IsReadSoFar own all left seen paths
+read-none own all left seen paths none are has = record {
+  all_are = sym are ∙ ap (λ ps. texts ps ++ left) (sym none);
+  formed = ap (λ ps. list_all is_device_path (texts ps)) none;
+  distinct = ap (λ ps. are_distinct (own ∷ texts ps)) none;
+  has = λ q. has q ∙ ap (λ ps. is_among q.now (own ∷ texts ps)) (sym none);
+}
+
+-- one of another form
+pub read-unformed : (own : List ℕ) (all rest : List (List ℕ)) (seen : BTreeSet (Bor (List ℕ))) (paths : List (Bor (List ℕ))) (path : List ℕ)
+    → IsReadSoFar own all (path ∷ rest) seen paths → is_device_path path ≡ false → are_supplier_paths own all ≡ false
+read-unformed own all rest seen paths path walk bad =
+    ap (λ ps. list_all is_device_path ps && are_distinct (own ∷ ps)) walk.all_are
+    ∙ ap (λ t. t && are_distinct (own ∷ (texts paths ++ path ∷ rest))) (list_all-append is_device_path (texts paths) (path ∷ rest)
+    ∙ ap (λ t. list_all is_device_path (texts paths) && (t && list_all is_device_path rest)) bad ∙ and_false (list_all is_device_path (texts paths)))
+
+-- one that stands there already
+pub read-repeated : (own : List ℕ) (all rest : List (List ℕ)) (seen : BTreeSet (Bor (List ℕ))) (paths : List (Bor (List ℕ))) (path : Bor (List ℕ))
+    → IsReadSoFar own all (path.now ∷ rest) seen paths → contains path_cmp seen path ≡ true → are_supplier_paths own all ≡ false
+read-repeated own all rest seen paths path walk there =
+    ap (λ ps. list_all is_device_path ps && are_distinct (own ∷ ps)) walk.all_are
+    ∙ ap (λ t. list_all is_device_path (texts paths ++ path.now ∷ rest) && t) (repeats (own ∷ texts paths) path.now rest (sym (walk.has path) ∙ there))
+    ∙ and_false (list_all is_device_path (texts paths ++ path.now ∷ rest))
+
+-- a further one
+pub read-more : (own : List ℕ) (all rest : List (List ℕ)) (seen more : BTreeSet (Bor (List ℕ))) (paths : List (Bor (List ℕ))) (path : Bor (List ℕ))
+    → IsReadSoFar own all (path.now ∷ rest) seen paths → is_device_path path.now ≡ true → contains path_cmp seen path ≡ false
+    → ((q : Bor (List ℕ)) → contains path_cmp more q ≡ cond (is_eq (path_cmp path q)) true (contains path_cmp seen q))
+    → IsReadSoFar own all rest more (paths ++ path ∷ [])
+read-more own all rest seen more paths path walk good new update = record {
+  all_are = walk.all_are ∙ sym (append_assoc (texts paths) (path.now ∷ []) rest) ∙ ap (λ ps. ps ++ rest) (sym (texts-push paths path));
+  formed = ap (list_all is_device_path) (texts-push paths path) ∙ list_all-append is_device_path (texts paths) (path.now ∷ [])
+      ∙ and_both _ _ walk.formed (and_both _ _ good refl);
+  distinct = ap (λ ps. are_distinct (own ∷ ps)) (texts-push paths path)
+      ∙ distinct-more (own ∷ texts paths) path.now walk.distinct (sym (walk.has path) ∙ new);
+  has = λ q. HasPaths-more seen more path (own ∷ texts paths) update walk.has q ∙ ap (λ ps. is_among q.now (own ∷ ps)) (sym (texts-push paths path));
+}
+
+pub read-all : (own : List ℕ) (all : List (List ℕ)) (seen : BTreeSet (Bor (List ℕ))) (paths : List (Bor (List ℕ)))
+    → IsReadSoFar own all [] seen paths → (are_supplier_paths own all ≡ true) × (texts paths ≡ all)
+read-all own all seen paths walk =
+    let are : texts paths ≡ all = sym (walk.all_are ∙ append-nil (texts paths)) in
+    (ap (λ ps. list_all is_device_path ps && are_distinct (own ∷ ps)) (sym are) ∙ and_both _ _ walk.formed walk.distinct, are)
 
 -- ---- look-ups
 lt-both : (m n : ℕ) (t : Bool) → nat_lt m n ≡ t → nat_lt (1 + m) (suc n) ≡ t

@@ -4,7 +4,8 @@ use Rattle.std.specs.Prelude.{Some, None}
 use Rattle.std.specs.List.{cons_option}
 use Rattle.bus_plan.specs.declared.error.PlanError.{PlanError}
 use Rattle.bus_plan.specs.Plan.{PlannedDevice}
-use Rattle.bus_plan.specs.PlanFile.{DeviceLine, planned_of, unknown_of, unknowns_in, IsFirst}
+use Rattle.bus_plan.specs.PlanFile.{DeviceLine, planned_of, unknown_of, unknowns_in}
+use Rattle.bus_plan.specs.Private.Reading.{IsFirst}
 
 -- ---- a walk over the lines
 -- these are planned, and the others left

@@ -5,7 +5,8 @@ use Rattle.bus_plan.specs.declared.error.PlanError.{PlanError}
 use Rattle.bus_plan.specs.declared.error.PlanError.TheVariants.{NoMemory}
 use Rattle.bus_plan.specs.Lines.{lines}
 use Rattle.bus_plan.specs.Plan.{PlannedDevice}
-use Rattle.bus_plan.specs.PlanFile.{DeviceLine, devices_before, faults_before, unknowns, plan_of, first_or, reading, Answers, IsFirst}
+use Rattle.bus_plan.specs.PlanFile.{DeviceLine, devices_before, faults_before, unknowns, plan_of, first_or, reading, Answers}
+use Rattle.bus_plan.specs.Private.Reading.{IsFirst}
 
 -- by the devices of lines without a fault
 reading-by : (text : List ℕ) (ds : List DeviceLine) → ds ≡ devices_before (lines text) (length (lines text))

@@ -134,7 +134,7 @@ module _ (plan : List PlannedDevice) (lawful : IsLawful plan) where
       let own = lawful.devices k nothing within in
       let make : Matching → DeviceLine = λ m. record { number = n; path = d.path; matching = m; suppliers = map (path_of plan) d.suppliers } in
       ap (λ t. if t then option_map make (matching_of (driver_field d.available d.driver) (verdict_field d.driver d.verdict)) else None)
-      (and_both _ _ (and_both _ _ (path-lawful k within) (paths-lawful d.suppliers (lawful.suppliers k))) (line-distinct k within))
+      (and_both _ _ (path-lawful k within) (and_both _ _ (paths-lawful d.suppliers (lawful.suppliers k)) (line-distinct k within)))
       ∙ ap (option_map make) (fields-mean d.available d.driver d.verdict own.driver own.unavailable own.unmatched)
 
   pub line-means : (n k : ℕ) → k < length plan → meaning n (device_text plan (planned plan k)) ≡ Ok (Some (line_of plan n (planned plan k)))

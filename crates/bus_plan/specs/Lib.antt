@@ -1,8 +1,9 @@
 pub mod Lines
 pub mod Plan
 pub mod PlanError
-pub mod Indexed
+pub mod Consumers
 pub mod PlanPaths
 pub mod PlanFile
 pub mod PlanText
 pub mod Laws
+pub mod Private

@@ -1,5 +1,7 @@
 -- The lines and the fields of a text file of the bus.
-use Rattle.std.specs.Prelude.{ℕ, Bool, true, ◌&&◌, ◌||◌, ◌==◌, nat_le, not, List, [], ◌∷◌, length, filter, slice_index}
+use Rattle.std.specs.Prelude.{ℕ, Bool, true, ◌&&◌, ◌||◌, ◌==◌, nat_le, not, List, [], ◌∷◌, length, filter, slice_index, Option}
+use Rattle.std.specs.Borrow.{Bor}
+use Rattle.std.specs.Iterator.{YieldsFirstRef}
 use Rattle.std.specs.List.{list_all, slice_split}
 -- the lines of a text are std's `lines`: the parts between line feeds, the last one only if it isn't empty,
 -- and one carriage return goes with the line feed behind it
@@ -23,6 +25,10 @@ is_filled field = not (length field == 0)
 -- the fields of a line: what stands between blanks
 abbrev pub fields : List ℕ → List (List ℕ)
 fields line = filter is_filled (slice_split is_blank line)
+
+-- one call gives the first of the fields that are left and leaves the others
+abbrev pub TakesFirst : List (List ℕ) → Option (Bor (List ℕ)) → List (List ℕ) → Type 0
+TakesFirst = YieldsFirstRef (λ left. left)
 
 -- a line of these fields says nothing: there are none, or the first begins with `#`
 abbrev pub is_skipped : List (List ℕ) → Bool

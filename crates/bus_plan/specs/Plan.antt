@@ -5,6 +5,7 @@ use Rattle.std.specs.List.{slice_index_or}
 use Rattle.std.specs.Str.{bytes_eq}
 use Rattle.dt_tree.specs.Name.{is_name}
 use Rattle.dt_tree.specs.Path.{is_path}
+use Rattle.bus_plan.specs.declared.limits.TheConstants.{MAX_DEVICES}
 use Rattle.bus_plan.specs.declared.verdict.Verdict.{Verdict}
 use Rattle.bus_plan.specs.declared.verdict.Verdict.TheVariants.{Binds}
 
@@ -67,7 +68,7 @@ pub record IsLawfulDevice (d : PlannedDevice) : Type 0 where
 
 -- what is lawful of a plan
 pub record IsLawful (plan : List PlannedDevice) : Type 0 where
-  pub few : length plan ≤ 512
+  pub few : length plan ≤ MAX_DEVICES
   pub devices : All IsLawfulDevice plan
   pub distinct : AllPairs (λ a b. a ≢ b) (paths plan)
   pub suppliers : (d : ℕ) → All (λ s. s < length plan) (suppliers_of plan d)

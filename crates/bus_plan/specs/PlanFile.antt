@@ -1,10 +1,11 @@
 -- A plan file: what each line says, its faults in order, and the plan that it lists.
-use Rattle.std.specs.Prelude.{◌≡◌, ℕ, zero, suc, ◌+◌, true, false, ◌&&◌, ◌⊎◌, if◌then◌else◌, nat_le, codes, List, [], ◌∷◌, ◌++◌, map, length, Option, Some, None, Result, Ok, Err, MatchResult}
+use Rattle.std.specs.Prelude.{◌≡◌, ℕ, Bool, zero, suc, ◌+◌, true, false, ◌&&◌, ◌⊎◌, if◌then◌else◌, nat_le, codes, List, [], ◌∷◌, ◌++◌, map, length, Option, Some, None, Result, Ok, Err, MatchResult}
 use Rattle.std.specs.Option.{option_map, option_to_list}
 use Rattle.std.specs.List.{slice_index_or, list_all, filter_map}
 use Rattle.std.specs.Str.{bytes_eq}
 use Rattle.bus_plan.specs.declared.error.PlanError.{PlanError}
 use Rattle.bus_plan.specs.declared.error.PlanError.TheVariants.{NoMemory, BadLine, DuplicateDevice, UnknownPath, TooManyDevices}
+use Rattle.bus_plan.specs.declared.limits.TheConstants.{MAX_DEVICES}
 use Rattle.bus_plan.specs.declared.matching.Matching.{Matching}
 use Rattle.bus_plan.specs.declared.verdict.Verdict.{Verdict}
 use Rattle.bus_plan.specs.declared.verdict.Verdict.TheVariants.{Binds, Fails}
@@ -36,13 +37,17 @@ matching_of driver word =
     else (if bytes_eq word (codes "fail") then driven driver Fails
     else (if bytes_eq word (codes "-") then undriven driver else None))
 
+-- each is a device's path, and no two of them and the device's own are one
+abbrev pub are_supplier_paths : List ℕ → List (List ℕ) → Bool
+are_supplier_paths own paths = list_all is_device_path paths && are_distinct (own ∷ paths)
+
 -- the device of a line with these fields
 abbrev pub device_of : ℕ → List (List ℕ) → Option DeviceLine
 device_of number [] = None
 device_of number (path ∷ []) = None
 device_of number (path ∷ driver ∷ []) = None
 device_of number (path ∷ driver ∷ word ∷ suppliers) =
-    if list_all is_device_path (path ∷ suppliers) && are_distinct (path ∷ suppliers)
+    if is_device_path path && are_supplier_paths path suppliers
     then option_map (λ m. record { number = number; path = path; matching = m; suppliers = suppliers }) (matching_of driver word)
     else None
 
@@ -73,11 +78,11 @@ devices_before ls (suc n) = devices_before ls n ++ option_to_list (device_on (me
 abbrev pub line_paths : List DeviceLine → List (List ℕ)
 line_paths devices = map (λ d. d.path) devices
 
--- what forbids a further device: its path is there already, or 512 devices are
+-- what forbids a further device: its path is there already, or as many devices as a plan may have
 abbrev pub refusal_of : List DeviceLine → DeviceLine → Option PlanError
 refusal_of devices d =
     if is_among d.path (line_paths devices) then Some (DuplicateDevice d.number)
-    else (if nat_le 512 (length devices) then Some TooManyDevices else None)
+    else (if nat_le MAX_DEVICES (length devices) then Some TooManyDevices else None)
 
 -- the fault of a line that says this behind these devices
 abbrev pub fault_of : List DeviceLine → Result (Option DeviceLine) PlanError → Option PlanError
@@ -92,14 +97,6 @@ fault_at ls n = fault_of (devices_before ls n) (meaning_at ls n)
 abbrev pub faults_before : List (List ℕ) → ℕ → List PlanError
 faults_before ls zero = []
 faults_before ls (suc n) = faults_before ls n ++ option_to_list (fault_at ls n)
-
--- the devices are those of some lines without a fault
-abbrev pub IsFaultless : List DeviceLine → Type 0
-IsFaultless devices = (ls : List (List ℕ)) × (n : ℕ) × (devices ≡ devices_before ls n) × (faults_before ls n ≡ [])
-
--- the list begins with it
-abbrev pub IsFirst : List PlanError → PlanError → Type 0
-IsFirst faults e = (more : List PlanError) × (faults ≡ e ∷ more)
 
 -- ---- the suppliers
 abbrev pub unknown_of : List (List ℕ) → DeviceLine → Option PlanError

@@ -1,15 +1,16 @@
-ghost use Rattle.std.specs.Prelude.{◌≡◌, ◌⊎◌, IfOk, IfErr, ◌∷◌, map, None, Some, MatchOption, true, false};
-ghost use Rattle.std.specs.List.{list_all};
+ghost use Rattle.std.specs.Prelude.{◌≡◌, ◌⊎◌, IfOk, IfErr, map, None, Some, MatchOption, true, false};
 ghost use Rattle.bus_plan.specs.Plan.{is_device_path};
-ghost use Rattle.bus_plan.specs.PlanPaths.{are_distinct, are_known, place_of};
+ghost use Rattle.bus_plan.specs.PlanPaths.{are_known, place_of};
+ghost use Rattle.bus_plan.specs.PlanFile.{are_supplier_paths};
 
 use crate::device::Device;
 use crate::error::PlanError;
-use crate::lines::{fields_of, is_line, is_skipped};
+use crate::fields::Fields;
+use crate::lines::is_line;
 use crate::matching::Matching;
 use crate::paths::PathIndex;
 use crate::planned::Planned;
-use dt_tree::{Path, is_path};
+use dt_tree::{Path, TreeError, is_path};
 use std::alloc::{AllocError, Global};
 use std::collections::BTreeSet;
 use std::marker::Model;
@@ -43,25 +44,47 @@ fn is_device_path(path: &[u8]) -> bool
     is_path(path) && path != b"/".as_slice()
 }
 
-fn are_device_paths(paths: &[&[u8]]) -> bool
-    ensures { result ≡ list_all is_device_path (map (λ path. path.now) paths.now) }
+// The path of a device: any but `/`.
+fn device_path(alloc: Global, number: usize, bytes: &[u8]) -> Result<Path, PlanError>
+    ensures ok { IfOk result (λ path. (path ≡ bytes.now) × (is_device_path bytes.now ≡ true)) }
+    ensures err { IfErr result (λ e. (e ≡ PlanError.NoMemory)
+        ⊎ ((e ≡ PlanError.BadLine number) × (is_device_path bytes.now ≡ false))) }
 {
-    paths.iter().all(|path| is_device_path(*path))
+    if bytes == b"/".as_slice() {
+        return Err(PlanError::BadLine(number));
+    }
+    match Path::parse(alloc, bytes) {
+        Ok(path) => Ok(path),
+        Err(TreeError::BadName) => Err(PlanError::BadLine(number)),
+        Err(_) => Err(PlanError::NoMemory),
+    }
 }
 
-// An ordered set, which chosen paths can't slow down.
-fn are_distinct(alloc: Global, first: &[u8], more: &[&[u8]]) -> Result<bool, AllocError>
-    ensures { IfOk result (λ distinct.
-        distinct ≡ are_distinct (first.now ∷ map (λ path. path.now) more.now)) }
+// The suppliers of a device with this path, or nothing where one has another form, stands twice or is the device itself.
+// The set is ordered, which chosen paths can't slow down.
+fn supplier_paths<'a>(
+    alloc: Global,
+    own: &'a [u8],
+    fields: Fields<'a>,
+) -> Result<Option<Vec<&'a [u8]>>, AllocError>
+    ensures { IfOk result (λ found. MatchOption found
+        (are_supplier_paths own.now fields.entry ≡ false)
+        (λ paths. (are_supplier_paths own.now fields.entry ≡ true)
+        × (map (λ path. path.now) paths.items ≡ fields.entry))) }
 {
     let mut seen: BTreeSet<&[u8]> = BTreeSet::new(alloc);
-    seen.insert(first)?;
-    for path in more {
-        if !seen.insert(*path)? {
-            return Ok(false);
+    seen.insert(own)?;
+    let mut paths = Vec::new(alloc);
+    for path in fields {
+        if !is_device_path(path) {
+            return Ok(None);
         }
+        if !seen.insert(path)? {
+            return Ok(None);
+        }
+        paths.push(path)?;
     }
-    Ok(true)
+    Ok(Some(paths))
 }
 
 // The places of the suppliers, or nothing where one is no device.
@@ -103,32 +126,26 @@ impl<'a> DeviceLine<'a> {
     ghost use Rattle.bus_plan.specs.PlanFile.{device_of, meaning, Answers, unknown_of, planned_of};
 
     /// The device of a line with these fields.
-    fn of(alloc: Global, number: usize, fields: &[&'a [u8]]) -> Result<Self, PlanError>
-        ensures ok { IfOk result (λ d. device_of number (map (λ f. f.now) fields.now) ≡ Some d) }
+    fn of(alloc: Global, number: usize, mut fields: Fields<'a>) -> Result<Self, PlanError>
+        ensures ok { IfOk result (λ d. device_of number fields.entry ≡ Some d) }
         ensures err { IfErr result (λ e. (e ≡ PlanError.NoMemory)
-            ⊎ ((e ≡ PlanError.BadLine number)
-            × (device_of number (map (λ f. f.now) fields.now) ≡ None))) }
+            ⊎ ((e ≡ PlanError.BadLine number) × (device_of number fields.entry ≡ None))) }
     {
-        let [path, driver, word, suppliers @ ..] = fields else {
+        let path = fields.next().ok_or(PlanError::BadLine(number))?;
+        let driver = fields.next().ok_or(PlanError::BadLine(number))?;
+        let word = fields.next().ok_or(PlanError::BadLine(number))?;
+        let own = device_path(alloc, number, path)?;
+        let Some(suppliers) = supplier_paths(alloc, path, fields)? else {
             return Err(PlanError::BadLine(number));
         };
-        if !is_device_path(path) || !are_device_paths(suppliers) {
-            return Err(PlanError::BadLine(number));
-        }
-        if !are_distinct(alloc, path, suppliers)? {
-            return Err(PlanError::BadLine(number));
-        }
         let Some(matching) = Matching::of(alloc, driver, word)? else {
             return Err(PlanError::BadLine(number));
         };
-        let Ok(path) = Path::parse(alloc, path) else {
-            return Err(PlanError::NoMemory);
-        };
         Ok(Self {
             number,
-            path,
+            path: own,
             matching,
-            suppliers: Vec::from_slice(alloc, suppliers)?,
+            suppliers,
         })
     }
 
@@ -139,11 +156,11 @@ impl<'a> DeviceLine<'a> {
         if !is_line(line) {
             return Err(PlanError::BadLine(number));
         }
-        let fields = fields_of(alloc, line)?;
-        if is_skipped(&fields) {
+        let fields = Fields::of(line);
+        if fields.is_skipped() {
             return Ok(None);
         }
-        Ok(Some(Self::of(alloc, number, &fields)?))
+        Ok(Some(Self::of(alloc, number, fields)?))
     }
 
     /// The device with its suppliers found.

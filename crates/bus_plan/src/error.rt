@@ -12,11 +12,17 @@ pub enum PlanError {
     NoMemory,
     #[error("line {0} has no lawful form")]
     BadLine(usize),
+    #[error("line {0} repeats a driver's name")]
+    DuplicateDriver(usize),
     #[error("line {0} repeats a device's path")]
     DuplicateDevice(usize),
     #[error("line {0} names a path that is no device's")]
     UnknownPath(usize),
-    #[error("more than 512 devices")]
+    #[error("a phandle leads to no node")]
+    DanglingPhandle,
+    #[error("a specifier has no lawful form")]
+    BadSpecifier,
+    #[error("more devices than a plan may have")]
     TooManyDevices,
 }
 
@@ -28,8 +34,11 @@ impl PlanError {
         match self {
             PlanError::NoMemory => 0,
             PlanError::BadLine(_) => 50,
+            PlanError::DuplicateDriver(_) => 51,
             PlanError::DuplicateDevice(_) => 52,
             PlanError::UnknownPath(_) => 53,
+            PlanError::DanglingPhandle => 54,
+            PlanError::BadSpecifier => 55,
             PlanError::TooManyDevices => 56,
         }
     }
@@ -41,8 +50,11 @@ impl PlanError {
         match self {
             PlanError::NoMemory => "NoMemory",
             PlanError::BadLine(_) => "BadLine",
+            PlanError::DuplicateDriver(_) => "DuplicateDriver",
             PlanError::DuplicateDevice(_) => "DuplicateDevice",
             PlanError::UnknownPath(_) => "UnknownPath",
+            PlanError::DanglingPhandle => "DanglingPhandle",
+            PlanError::BadSpecifier => "BadSpecifier",
             PlanError::TooManyDevices => "TooManyDevices",
         }
     }
@@ -54,8 +66,11 @@ impl PlanError {
         match self {
             PlanError::NoMemory => None,
             PlanError::BadLine(line) => Some(*line),
+            PlanError::DuplicateDriver(line) => Some(*line),
             PlanError::DuplicateDevice(line) => Some(*line),
             PlanError::UnknownPath(line) => Some(*line),
+            PlanError::DanglingPhandle => None,
+            PlanError::BadSpecifier => None,
             PlanError::TooManyDevices => None,
         }
     }

@@ -1,6 +1,7 @@
 ghost use Rattle.std.specs.Prelude.{◌≡◌, ◌≤◌, IfOk, length, map};
-ghost use Rattle.bus_plan.specs.Lines.{lines, is_line_byte, is_line, is_blank, fields, is_skipped};
+ghost use Rattle.bus_plan.specs.Lines.{lines, is_line_byte, is_line, fields, is_skipped};
 
+use crate::fields::is_blank;
 use bstr::{ByteSlice, Lines};
 use std::alloc::{AllocError, Global};
 
@@ -25,12 +26,6 @@ pub fn is_line(line: &[u8]) -> bool
     ensures { result ≡ is_line line.now }
 {
     line.iter().all(|byte| is_line_byte(*byte))
-}
-
-fn is_blank(byte: u8) -> bool
-    ensures { result ≡ is_blank byte }
-{
-    byte == b' ' || byte == b'\t'
 }
 
 /// The fields of a line, which spaces and tabs separate.

@@ -1,17 +1,17 @@
 ghost use Rattle.std.specs.Prelude.{◌≡◌, ◌⊎◌, ◌++◌, ◌∷◌, [], length, None, Some, IfOk, IfErr, OnOk, OnErr, MatchResult, map};
-ghost use Rattle.bus_plan.specs.PlanFile.{IsFirst, unknowns_in, planned_of};
+ghost use Rattle.bus_plan.specs.PlanFile.{unknowns_in, planned_of};
+ghost use Rattle.bus_plan.specs.Private.Reading.{IsFirst};
 
 use crate::device_line::DeviceLine;
 use crate::error::PlanError;
+use crate::limits::MAX_DEVICES;
 use crate::lines::lines_of;
 use crate::paths::PathIndex;
 use crate::plan::Plan;
 use crate::planned::Planned;
 use std::alloc::Global;
+use std::hash::RandomState;
 use std::marker::Model;
-
-/// The most devices of a plan.
-pub const MAX_DEVICES: usize = 512;
 
 /// The devices that the lines of a plan file list.
 #[derive(Drop)]
@@ -32,15 +32,16 @@ impl<'a> Model for Listing<'a> {
 }
 
 impl<'a> Listing<'a> {
-    ghost use Rattle.bus_plan.specs.PlanFile.{devices_before, faults_before, refusal_of, IsFirst, IsFaultless, unknowns, plan_of};
+    ghost use Rattle.bus_plan.specs.PlanFile.{devices_before, faults_before, refusal_of, unknowns, plan_of};
+    ghost use Rattle.bus_plan.specs.Private.Reading.{IsFirst, IsFaultless};
     ghost use Rattle.bus_plan.specs.Lines.{lines};
 
-    fn new(alloc: Global) -> Self
+    fn new(alloc: Global, hasher: RandomState) -> Self
         ensures { result ≡ [] }
     {
         Self {
             devices: Vec::new(alloc),
-            index: PathIndex::new(alloc),
+            index: PathIndex::new(alloc, hasher),
         }
     }
 
@@ -74,13 +75,13 @@ impl<'a> Listing<'a> {
     }
 
     /// The devices of a text, or its first line's fault.
-    pub fn read(alloc: Global, text: &'a [u8]) -> Result<Self, PlanError>
+    pub fn read(alloc: Global, hasher: RandomState, text: &'a [u8]) -> Result<Self, PlanError>
         ensures ok { IfOk result (λ listing. let ls = lines text.now in
             (listing ≡ devices_before ls (length ls)) × (faults_before ls (length ls) ≡ [])) }
         ensures err { IfErr result (λ e. let ls = lines text.now in
             (e ≡ PlanError.NoMemory) ⊎ IsFirst (faults_before ls (length ls)) e) }
     {
-        let mut listing = Self::new(alloc);
+        let mut listing = Self::new(alloc, hasher);
         let mut number = 0;
         for line in lines_of(text) {
             number += 1;
@@ -98,7 +99,7 @@ impl<'a> Listing<'a> {
         ensures err { IfErr result (λ e. (e ≡ PlanError.NoMemory) ⊎ IsFirst (unknowns self.entry) e) }
     {
         let devices = plan_all(alloc, self.devices, &self.index)?;
-        Ok(Plan::new(devices, self.index))
+        Ok(Plan::with_index(alloc, devices, self.index)?)
     }
 }
 

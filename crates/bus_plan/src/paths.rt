@@ -1,15 +1,19 @@
-ghost use Rattle.std.specs.Prelude.{◌≡◌, ◌++◌, ◌∷◌, [], OnOk, OnErr, ◌<◌, IfSome, length, position, false};
+ghost use Rattle.std.specs.Prelude.{◌≡◌, ◌++◌, ◌∷◌, ◌≢◌, [], AllPairs, IfOk, OnOk, OnErr, position, false};
 ghost use Rattle.std.specs.List.{list_any};
 ghost use Rattle.std.specs.Str.{bytes_eq};
+ghost use Rattle.bus_plan.specs.Plan.{paths};
 
+use crate::planned::Planned;
 use indexmap::IndexSet;
 use std::alloc::{AllocError, Global};
+use std::hash::RandomState;
 use std::marker::Model;
 
-/// Paths that differ, in order, each found by its bytes without a walk.
+/// Paths that differ, in order, each found by its bytes without a walk. The hasher is random, since paths come from
+/// strangers.
 #[derive(Drop)]
 pub struct PathIndex {
-    set: IndexSet<Vec<u8>>,
+    set: IndexSet<Vec<u8>, RandomState>,
 }
 
 impl Model for PathIndex {
@@ -22,12 +26,29 @@ impl Model for PathIndex {
 
 impl PathIndex {
     /// No paths.
-    pub fn new(alloc: Global) -> Self
+    pub fn new(alloc: Global, hasher: RandomState) -> Self
         ensures { result ≡ [] }
     {
         Self {
-            set: IndexSet::new(alloc),
+            set: IndexSet::with_hasher(alloc, hasher),
         }
+    }
+
+    /// The paths of these devices.
+    pub fn of(alloc: Global, hasher: RandomState, devices: &[Planned]) -> Result<Self, AllocError>
+        requires { AllPairs (λ a b. a ≢ b) (paths devices.now) }
+        ensures { IfOk result (λ index. index ≡ paths devices.now) }
+    {
+        let mut index = Self::new(alloc, hasher);
+        for device in devices {
+            index.push(alloc, device.path().as_bytes())?;
+        }
+        Ok(index)
+    }
+
+    /// What it hashes with.
+    pub fn hasher(&self) -> RandomState {
+        *self.set.hasher()
     }
 
     /// The place of a path.

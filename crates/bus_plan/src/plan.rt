@@ -1,43 +1,66 @@
 ghost use Rattle.std.specs.Prelude.{◌≡◌, ◌<◌, ◌↔◌, [], IsTrue, IfOk, length};
 ghost use Rattle.std.specs.Option.{option_copied};
 
+use crate::consumers::consumer_lists;
 use crate::device::Device;
+use crate::device_lists::DeviceLists;
 use crate::paths::PathIndex;
 use crate::planned::Planned;
 use crate::verdict::Verdict;
 use dt_tree::{Name, Path};
 use std::alloc::{AllocError, Global};
+use std::hash::RandomState;
 use std::marker::Model;
 
-/// Devices with their drivers and suppliers, at most 512. A `Device` is a place in its order.
+/// Devices with their drivers and suppliers, at most `MAX_DEVICES`. A `Device` is a place in its order.
 #[derive(Drop)]
 pub struct Plan {
     devices: Vec<Planned>,
     index: PathIndex,
+    consumers: DeviceLists,
 }
 
 impl Model for Plan {
     ghost use Rattle.std.specs.Prelude.{List};
     ghost use Rattle.bus_plan.specs.Plan.{PlannedDevice};
-    ghost use Rattle.bus_plan.specs.Indexed.{IsIndexed};
+    ghost use Rattle.bus_plan.specs.Private.Indexed.{IsIndexed};
 
     ghost Value = { List PlannedDevice };
 
     ghost view = { λ plan. plan.devices.items };
 
-    ghost invariant = { λ plan. IsIndexed plan.devices.items plan.index };
+    ghost invariant = { λ plan. IsIndexed plan.devices.items plan.index plan.consumers };
 }
 
 impl Plan {
-    ghost use Rattle.bus_plan.specs.Plan.{path_of, is_available, driver_of, verdict_of, suppliers_of, device_at, IsLawful};
-    ghost use Rattle.bus_plan.specs.Indexed.{IsIndexed};
+    ghost use Rattle.bus_plan.specs.Plan.{path_of, is_available, driver_of, verdict_of, suppliers_of, device_at, paths, IsLawful};
+    ghost use Rattle.bus_plan.specs.Consumers.{consumers_of};
 
-    /// The plan of these devices.
-    pub(crate) fn new(devices: Vec<Planned>, index: PathIndex) -> Self
-        requires { IsIndexed devices.items index }
-        ensures { result ≡ devices.items }
+    /// The plan of these devices, which have to be lawful together.
+    pub fn of(alloc: Global, hasher: RandomState, devices: Vec<Planned>) -> Result<Self, AllocError>
+        requires { IsLawful devices.items }
+        ensures { IfOk result (λ plan. plan ≡ devices.items) }
     {
-        Self { devices, index }
+        let index = PathIndex::of(alloc, hasher, devices.as_slice())?;
+        Self::with_index(alloc, devices, index)
+    }
+
+    /// The same, with the index made already.
+    pub(crate) fn with_index(
+        alloc: Global,
+        devices: Vec<Planned>,
+        index: PathIndex,
+    ) -> Result<Self, AllocError>
+        requires lawful { IsLawful devices.items }
+        requires agrees { index ≡ paths devices.items }
+        ensures { IfOk result (λ plan. plan ≡ devices.items) }
+    {
+        let consumers = consumer_lists(alloc, devices.as_slice())?;
+        Ok(Self {
+            devices,
+            index,
+            consumers,
+        })
     }
 
     /// Costs nothing: tells a caller's proof that the plan is lawful.
@@ -101,6 +124,14 @@ impl Plan {
         self.devices[device.index()].suppliers()
     }
 
+    /// The devices that have a device among their suppliers, each once, in plan order.
+    pub fn consumers(&self, device: Device) -> &[Device]
+        requires { device < length self.now }
+        ensures { result.now ≡ consumers_of self.now device }
+    {
+        self.consumers.at(device.index())
+    }
+
     /// The device at a path, by a look-up that takes no memory.
     pub fn device(&self, path: &[u8]) -> Option<Device>
         ensures { result ≡ device_at self.now path.now }
@@ -113,11 +144,9 @@ impl Plan {
         ensures { IfOk result (λ plan. plan ≡ self.now) }
     {
         let mut devices = Vec::with_capacity(alloc, self.devices.len())?;
-        let mut index = PathIndex::new(alloc);
         for device in &self.devices {
-            index.push(alloc, device.path().as_bytes())?;
             devices.push(device.copy(alloc)?)?;
         }
-        Ok(Self { devices, index })
+        Self::of(alloc, self.index.hasher(), devices)
     }
 }

@@ -7,7 +7,7 @@ use dt_tree::{Name, Path};
 use std::alloc::{AllocError, Global};
 use std::marker::Model;
 
-/// A device of a plan.
+/// A device of a plan: its path, whether it may be used, its driver, what that driver does, and the devices that it needs.
 #[derive(Debug, Drop)]
 pub struct Planned {
     path: Path,
@@ -32,6 +32,7 @@ impl Model for Planned {
 }
 
 impl Planned {
+    /// The device of these parts.
     pub fn new(
         path: Path,
         available: bool,
@@ -56,36 +57,42 @@ impl Planned {
         }
     }
 
+    /// Its path.
     pub fn path(&self) -> &Path
         ensures { result.now ≡ self.now.path }
     {
         &self.path
     }
 
+    /// Whether it may be used.
     pub fn available(&self) -> bool
         ensures { result ≡ self.now.available }
     {
         self.available
     }
 
+    /// The driver that matches it.
     pub fn driver(&self) -> Option<&Name>
         ensures { option_copied result ≡ self.now.driver }
     {
         self.driver.as_ref()
     }
 
+    /// What its driver does once it is ready.
     pub fn verdict(&self) -> Verdict
         ensures { result ≡ self.now.verdict }
     {
         self.verdict
     }
 
+    /// The devices that have to be bound before it.
     pub fn suppliers(&self) -> &[Device]
         ensures { result.now ≡ self.now.suppliers }
     {
         self.suppliers.as_slice()
     }
 
+    /// An equal device.
     pub fn copy(&self, alloc: Global) -> Result<Self, AllocError>
         ensures { IfOk result (λ copy. copy ≡ self.now) }
     {

@@ -1,5 +1,6 @@
 -- Expressions in cells, and the lexemes that spell them (Devicetree Specification v0.4, section 6.3).
 use Rattle.std.specs.Prelude.{◌≡◌, ℕ, zero, suc, ◌-◌, ◌≤◌, Bool, true, false, List, [], ◌∷◌}
+use Rattle.dt_expression.specs.declared.expression.TheConstants.{MAX_NESTING}
 use Rattle.dt_lexeme.specs.declared.lexeme.Lexeme.{Lexeme}
 use Rattle.dt_lexeme.specs.declared.lexeme.Kind.{Kind}
 use Rattle.dt_lexeme.specs.declared.lexeme.Kind.TheVariants.{Literal, Less, Greater, Paren, EndParen, Slash, Question, Colon, OrOr, AndAnd, Or, Xor, And, EqualEqual, NotEqual, LessEqual, GreaterEqual, ShiftLeft, ShiftRight, Plus, Minus, Star, Percent, Tilde, Bang}
@@ -79,9 +80,9 @@ IsPrimary (Prefixed t e) = ⊥
 IsPrimary (Infix t e f) = ⊥
 IsPrimary (Choice e f g) = ⊥
 
--- The lexemes begin with a spelling of the literal or the parentheses, within 64 levels, and then the rest follows.
+-- The lexemes begin with a spelling of the literal or the parentheses, nested as deep as may be, and then the rest follows.
 abbrev pub SpellsPrimary : Expression → List Lexeme → List Lexeme → Type 0
-SpellsPrimary e ts rest = IsPrimary e × Spells 64 0 e ts rest
+SpellsPrimary e ts rest = IsPrimary e × Spells MAX_NESTING 0 e ts rest
 
 -- What a reader makes of a literal, of parentheses and of operators with their operands.
 pub record Making (A : Type 0) : Type 0 where

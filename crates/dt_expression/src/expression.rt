@@ -9,6 +9,9 @@ use crate::numeral::literal;
 use crate::value::{both, choice, prefixed};
 use dt_lexeme::{Fault, Kind, Lexeme, Refusal, RefusalKind};
 
+/// How many levels of parentheses, operands of unary operators and choices may stand in one another.
+pub const MAX_NESTING: u8 = 64;
+
 /// The refusal of lexemes whose first one can't stand where it does, or that end too early: then its place is
 /// behind every place of a text.
 pub fn syntax_at(lexemes: &[Lexeme]) -> Refusal
@@ -26,7 +29,7 @@ pub fn syntax_at(lexemes: &[Lexeme]) -> Refusal
     }
 }
 
-/// The refusal of a lexeme that nests deeper than 64.
+/// The refusal of a lexeme that nests too deep.
 pub fn too_deep(lexeme: Lexeme) -> Refusal
     ensures { result ≡ too_deep lexeme }
 {
@@ -250,7 +253,7 @@ fn otherwise<'a>(
     }
 }
 
-/// Reads a literal or an expression in parentheses at the front of the lexemes, within 64 levels: its value or its
+/// Reads a literal or an expression in parentheses at the front of the lexemes, within `MAX_NESTING` levels: its value or its
 /// one fault, and the lexemes behind it.
 #[tactic(auto, unfolding(crate::specs::ReadingExpressions::primary_at, crate::specs::ReadingExpressions::primary_made))]
 pub fn primary<'a>(
@@ -260,7 +263,7 @@ pub fn primary<'a>(
     ensures gives { Gives (λ x. (x.0, x.1.now)) result (primary_at text.now lexemes.now) }
     ensures shorter { IfOk result (λ x. length x.1.now < length lexemes.now) }
 {
-    primary_within(text, 64, lexemes)
+    primary_within(text, MAX_NESTING, lexemes)
 }
 
 /// Reading and the grammar agree: what `primary` reads is spelled so, what is spelled so is read, and in one way alone.

@@ -9,8 +9,5 @@ mod numeral;
 mod value;
 
 pub use elements::{Width, element, push_low_bytes, width_of};
-pub use expression::{primary, reads_the_grammar, syntax_at, too_deep};
+pub use expression::{MAX_NESTING, primary, reads_the_grammar, syntax_at, too_deep};
 pub use numeral::{bytes_of, digit_of, literal};
-
-#[cfg(test)]
-mod tests;

@@ -6,10 +6,10 @@ use Rattle.dt_lexeme.specs.declared.lexeme.Kind.{Kind}
 use Rattle.dt_lexeme.specs.declared.lexeme.Kind.TheVariants.{Brace, EndBrace, Paren, EndParen}
 use Rattle.dt_lexeme.specs.declared.lexeme.Lexeme.{Lexeme}
 use Rattle.dt_lexeme.specs.declared.place.Place.{Place}
-use Rattle.dt_lexeme.specs.Gaps.{IsGap, SkipsGap}
+use Rattle.dt_lexeme.specs.Gaps.{IsGap, SkipsGap, BreaksOff}
 use Rattle.dt_lexeme.specs.Families.{Longest, IsLongest, kind_of}
 use Rattle.dt_lexeme.specs.Places.{start, step}
-use Rattle.dt_lexeme.specs.Lexemes.{Left, Lexemes, HasNone}
+use Rattle.dt_lexeme.specs.Lexemes.{Left, Lexemes, HasNone, BreaksAt, LeftTo, LexemesTo}
 use Rattle.dt_lexeme.proofs.GapEnds.{one_end}
 
 -- a lexeme has at least one byte
@@ -47,6 +47,14 @@ lexeme_is l k a b e f g =
 left_more : (total : ℕ) (place : Place) (left s : List ℕ) (k : Kind) (n : ℕ) (ls : List Lexeme) → IsGap left s → IsLongest (kind_of place) s k n → Left total (step place k) (drop n s) ls → Left total place left (lexeme_at total s k n ∷ ls)
 unfolding Left
 left_more total place left s k n ls g h r = (s, n, g, h, refl, refl, r)
+
+to_more : (total stop : ℕ) (place : Place) (left s : List ℕ) (k : Kind) (n : ℕ) (ls : List Lexeme) → IsGap left s → IsLongest (kind_of place) s k n → LeftTo total stop (step place k) (drop n s) ls → LeftTo total stop place left (lexeme_at total s k n ∷ ls)
+unfolding LeftTo
+to_more total stop place left s k n ls g h r = (s, n, g, h, refl, refl, r)
+
+to_end : (total : ℕ) (place : Place) (left s : List ℕ) → BreaksAt place left s → LeftTo total (total - length s) place left []
+unfolding LeftTo
+to_end total place left s b = (s, b, refl)
 
 empty_longest : (place : Place) (s : List ℕ) (k : Kind) (n : ℕ) → IsLongest (kind_of place) s k n → s ≡ [] → ⊥
 empty_longest place s k n h e = omega (arith, h.within, some_byte place s k n h, ap length e)
@@ -99,16 +107,18 @@ one_list text a b r q = one_left a b (length text) start text r q
 pub record Scans (text : List ℕ) (found : List Lexeme) (place : Place) (left : List ℕ) : Type 0 where
   pub to : (ls : List Lexeme) → Left (length text) place left ls → Lexemes text (found ++ ls)
   pub of : (all : List Lexeme) → Lexemes text all → (ls : List Lexeme) × (all ≡ found ++ ls) × Left (length text) place left ls
+  pub front : (ls : List Lexeme) (stop : ℕ) → LeftTo (length text) stop place left ls → LexemesTo stop text (found ++ ls)
 
 pub scans_start : (text : List ℕ) → Scans text [] start text
-unfolding Lexemes
-scans_start text = record { to = λ ls r. r; of = λ all r. (all, refl, r) }
+unfolding Lexemes LexemesTo
+scans_start text = record { to = λ ls r. r; of = λ all r. (all, refl, r); front = λ ls stop r. r }
 
 pub scans_more : (text : List ℕ) (found : List Lexeme) (place : Place) (left s : List ℕ) (k : Kind) (n : ℕ) → IsGap left s → IsLongest (kind_of place) s k n
     → Scans text found place left → Scans text (found ++ lexeme_at (length text) s k n ∷ []) (step place k) (drop n s)
 scans_more text found place left s k n g h i = record {
   to = λ ls r. subst (λ (x : List Lexeme). Lexemes text x) (sym (append_assoc found (lexeme_at (length text) s k n ∷ []) ls)) (i.to (lexeme_at (length text) s k n ∷ ls) (left_more (length text) place left s k n ls g h r));
   of = of;
+  front = λ ls stop r. subst (λ (x : List Lexeme). LexemesTo stop text x) (sym (append_assoc found (lexeme_at (length text) s k n ∷ []) ls)) (i.front (lexeme_at (length text) s k n ∷ ls) stop (to_more (length text) stop place left s k n ls g h r));
 }
   where
     of : (all : List Lexeme) → Lexemes text all → (ls : List Lexeme) × (all ≡ (found ++ lexeme_at (length text) s k n ∷ []) ++ ls) × Left (length text) (step place k) (drop n s) ls
@@ -120,11 +130,21 @@ scans_more text found place left s k n g h i = record {
 pub scans_done : (text : List ℕ) (found : List Lexeme) (place : Place) (left : List ℕ) → IsGap left [] → Scans text found place left → Lexemes text found
 scans_done text found place left g i = subst (λ (x : List Lexeme). Lexemes text x) (append-nil found) (i.to [] (left_done (length text) place left g))
 
-pub scans_none : (text : List ℕ) (found : List Lexeme) (place : Place) (left : List ℕ) → SkipsGap left None → Scans text found place left → HasNone text
-scans_none text found place left g i = λ all r. let p = i.of all r in left_none (length text) place left p.0 g p.2
+-- What was found stands before the place where the text breaks off.
+scans_to : (text : List ℕ) (found : List Lexeme) (place : Place) (left s : List ℕ) → BreaksAt place left s → Scans text found place left → LexemesTo (length text - length s) text found
+scans_to text found place left s b i = subst (λ (x : List Lexeme). LexemesTo (length text - length s) text x) (append-nil found) (i.front [] (length text - length s) (to_end (length text) place left s b))
 
-pub scans_lost : (text : List ℕ) (found : List Lexeme) (place : Place) (left s : List ℕ) → IsGap left s → (s ≡ [] → ⊥) → Longest (kind_of place) s None → Scans text found place left → HasNone text
-scans_lost text found place left s g ne h i = λ all r. let p = i.of all r in left_lost (length text) place left s p.0 g ne h p.2
+pub scans_none : (text : List ℕ) (found : List Lexeme) (place : Place) (left s : List ℕ) → SkipsGap left None → BreaksOff left s → Scans text found place left → HasNone text × LexemesTo (length text - length s) text found
+scans_none text found place left s g b i = (none, scans_to text found place left s (inl b) i)
+  where
+    none : HasNone text
+    none all r = let p = i.of all r in left_none (length text) place left p.0 g p.2
+
+pub scans_lost : (text : List ℕ) (found : List Lexeme) (place : Place) (left s : List ℕ) → IsGap left s → (s ≡ [] → ⊥) → Longest (kind_of place) s None → Scans text found place left → HasNone text × LexemesTo (length text - length s) text found
+scans_lost text found place left s g ne h i = (none, scans_to text found place left s (inr (g, ne, h)) i)
+  where
+    none : HasNone text
+    none all r = let p = i.of all r in left_lost (length text) place left s p.0 g ne h p.2
 
 pub step_braces : (p : Place) (k : Kind) → (step p k).braces ≤ p.braces + 1
 unfolding step

@@ -13,7 +13,7 @@ ghost use Rattle.dt_lexeme.specs.declared.lexeme.Refusal.{Refusal};
 use crate::bytes::from;
 use crate::families::{family, first_at};
 use crate::gaps::skip_gap;
-use crate::lexeme::{Kind, Lexeme, ReadError, Refusal, RefusalKind};
+use crate::lexeme::{Kind, Lexeme, MAX_TEXT_LEN, ReadError, Refusal, RefusalKind};
 use crate::place::Place;
 use std::alloc::{AllocError, Global};
 
@@ -30,9 +30,9 @@ fn next(place: Place, s: &[u8]) -> Option<(Kind, usize)>
     }
 }
 
-/// The lexemes of the text up to the first place where none stands, and that place.
+/// The lexemes of the text, or those up to the place where it breaks off, and that place.
 pub fn scan_front(alloc: Global, text: &[u8]) -> Result<(Vec<Lexeme>, Option<u32>), AllocError>
-    requires { length text.now ≤ 16777216 }
+    requires { length text.now ≤ MAX_TEXT_LEN }
     ensures { IfOk result (λ r. Scanned text.now r.0.items r.1) }
 {
     let mut found = Vec::new(alloc);
@@ -62,7 +62,7 @@ pub fn scan_front(alloc: Global, text: &[u8]) -> Result<(Vec<Lexeme>, Option<u32
 
 /// The lexemes of the text, or the place where none stands.
 pub fn scan(alloc: Global, text: &[u8]) -> Result<Vec<Lexeme>, ReadError>
-    requires { length text.now ≤ 16777216 }
+    requires { length text.now ≤ MAX_TEXT_LEN }
     // What is found are the text's lexemes.
     ensures found { IfOk result (λ v. Lexemes text.now v.items) }
     // The text is refused only where it has none.

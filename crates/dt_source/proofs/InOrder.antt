@@ -1,15 +1,11 @@
 -- The places of lexemes grow, and so the faults of a source stand in the order of the text.
-use Rattle.std.proofs.Common.{◌≡◌, ℕ, zero, suc, ◌+◌, ◌-◌, ◌<◌, ◌≤◌, Bool, true, false, cond, List, [], ◌∷◌, ◌++◌, length, drop, take, Option, Some, None, Ok, Err, refl, sym, ap, subst, arith, inl, inr, ◌⊎◌}
+use Rattle.std.proofs.Common.{◌≡◌, ℕ, zero, suc, ◌+◌, ◌<◌, ◌≤◌, Bool, true, false, cond, List, [], ◌∷◌, ◌++◌, take, Option, Some, None, Ok, Err, refl, sym, ap, subst, arith, inl, inr, ◌⊎◌}
 use Rattle.std.specs.Prelude.{◌==◌}
-use Rattle.std.proofs.lemmas.List.{length-drop}
 use Rattle.dt_lexeme.specs.declared.lexeme.Lexeme.{Lexeme}
 use Rattle.dt_lexeme.specs.declared.lexeme.Fault.{Fault}
 use Rattle.dt_lexeme.specs.declared.lexeme.Kind.{Kind}
 use Rattle.dt_lexeme.specs.declared.lexeme.Kind.TheVariants.{Slash, Percent}
 use Rattle.dt_lexeme.specs.declared.lexeme.FaultKind.TheVariants.{DivideByZero}
-use Rattle.dt_lexeme.specs.declared.place.Place.{Place}
-use Rattle.dt_lexeme.specs.Places.{start, step}
-use Rattle.dt_lexeme.specs.Lexemes.{Left, Lexemes}
 use Rattle.dt_expression.specs.Expression.{Expression, Number, Grouped, Prefixed, Infix, Choice, Begins, Takes, Spells}
 use Rattle.dt_expression.specs.Values.{Value, value_of, literal_of, or_out_of_range, below_64, literal_number, bytes_of, divided, operation, both, prefixed, choice}
 use Rattle.dt_source.specs.Pieces.{fault_in}

@@ -9,7 +9,7 @@ use Rattle.dt_source.specs.Parse.{Says}
 use Rattle.dt_source.specs.Lawful.{IsLawfulBody, IsLawfulEdit, IsLawful}
 use Rattle.dt_lexeme.specs.Forms.{AllLawful}
 use Rattle.dt_lexeme.proofs.LexemeForms.{lexemes_lawful}
-use Rattle.dt_source.proofs.LawfulValues.{one_lawful, begins_lawful, reference_lawful, each_lawful, labels_lawful, drops_lawful, expression_lawful, value_lawful}
+use Rattle.dt_source.proofs.LawfulValues.{one_lawful, begins_lawful, reference_lawful, each_lawful, labels_lawful, drops_lawful, expression_lawful, value_lawful, value_joined}
 
 -- ---- bodies
 
@@ -20,7 +20,7 @@ statements_lawful text depth nodes (Sets ls n v more) ts rest (k, a, b, c, d, la
     let x = one_lawful text Name n a b name (labels_lawful text ls ts a labels h).1 in
     let y = value_lawful text v b c value x.1 in
     let z = statements_lawful text depth false more d rest others (begins_lawful text c _ d semicolon y.1) in
-    (((x.0, y.0), z.0), z.1)
+    (((x.0, y.0, value_joined text v), z.0), z.1)
 statements_lawful text depth nodes (Unsets n more) ts rest (k, a, b, c, keyword, name, semicolon, others) h =
     let x = one_lawful text Name n a b name (begins_lawful text ts _ a keyword h) in
     let z = statements_lawful text depth false more c rest others (begins_lawful text b _ c semicolon x.1) in

@@ -1,5 +1,5 @@
 -- Values name nodes by labels and paths.
-use Rattle.std.proofs.Common.{ℕ, zero, suc, List, [], ◌∷◌, ◌++◌, map, Option, Some, None, Ok, Err, sym, subst, inl, inr}
+use Rattle.std.proofs.Common.{◌≡◌, refl, Bool, true, false, not, ◌&&◌, ℕ, zero, suc, List, [], ◌∷◌, ◌++◌, map, Option, Some, None, Ok, Err, sym, subst, inl, inr}
 use Rattle.std.specs.Prelude.{flat_map, All}
 use Rattle.std.specs.List.{AllByRecursion}
 use Rattle.std.proofs.lemmas.List.Elements.{All-map, All-from_recursion}
@@ -17,7 +17,7 @@ use Rattle.dt_source.specs.Pieces.{target_by, target_of, width_in, element_piece
 use Rattle.dt_source.specs.Bodies.{label_bytes}
 use Rattle.dt_source.specs.Source.{CellTree, Element, Refers, Marks, PieceTree, Quoted, Points, Pairs, Cells, WideCells, One, IsReference, OneReference, OnePair, SpellsLabels, DropsLabels, SpellsCell, SpellsCells, SpellsPiece, SpellsPlaced, SpellsFurther, SpellsValue, cell_of, cells_said, piece_said, value_said, width_said}
 use Rattle.dt_lexeme.specs.Label.{IsLabel}
-use Rattle.dt_source.specs.Lawful.{IsLawfulTarget, IsLawfulPiece}
+use Rattle.dt_source.specs.Lawful.{IsLawfulTarget, IsLawfulPiece, has_bytes, begins_plain, are_joined}
 use Rattle.dt_lexeme.specs.Forms.{FormAt, AllLawful}
 
 -- ---- the first lexeme
@@ -153,6 +153,28 @@ pieces_lawful text (p ∷ ps) ts rest (a, b, equals, s, more) h =
     let x = placed_lawful text p a b s (begins_lawful text ts _ a equals h) in
     let y = each_lawful text SpellsFurther (λ p. AllPieces (piece_said text p)) (further_lawful text) ps b rest more x.1 in
     ((x.0, y.0), y.1)
+
+-- ---- joined bytes
+
+without_first : (a b c : Bool) → (a && b && c) ≡ true → (b && c) ≡ true
+without_first true b c h = h
+without_first false b c h = absurd (cc)
+
+join_joined : (bs : List ℕ) (ps : List Piece) → are_joined ps ≡ true → are_joined (join_bytes bs ps) ≡ true
+join_joined [] ps h = h
+join_joined (b ∷ bs) [] h = refl
+join_joined (b ∷ bs) (Plain cs ∷ ps) h = without_first (has_bytes cs) (not (begins_plain ps)) (are_joined ps) h
+join_joined (b ∷ bs) (PhandleOf t ∷ ps) h = h
+join_joined (b ∷ bs) (PathOf t ∷ ps) h = h
+
+all_joined : (ps : List Piece) → are_joined (joined ps) ≡ true
+all_joined [] = refl
+all_joined (Plain bs ∷ ps) = join_joined bs (joined ps) (all_joined ps)
+all_joined (PhandleOf t ∷ ps) = all_joined ps
+all_joined (PathOf t ∷ ps) = all_joined ps
+
+pub value_joined : (text : List ℕ) (ps : List PieceTree) → are_joined (value_said text ps) ≡ true
+value_joined text ps = all_joined (flat_map (piece_said text) ps)
 
 pub value_lawful : (text : List ℕ) (ps : List PieceTree) (ts rest : List Lexeme) → SpellsValue ps ts rest → AllLawful text ts → All IsLawfulPiece (value_said text ps) × AllLawful text rest
 value_lawful text ps ts rest s h =

@@ -26,3 +26,4 @@ pub mod OneBody
 pub mod OneSource
 pub mod LawfulValues
 pub mod LawfulSources
+pub mod BodyLists

@@ -10,16 +10,17 @@ use Rattle.dt_lexeme.specs.declared.lexeme.FaultKind.{FaultKind}
 use Rattle.dt_lexeme.specs.declared.lexeme.FaultKind.TheVariants.{ElementRange, DivideByZero, BadBits, LiteralRange, BadEscape}
 use Rattle.dt_source.specs.declared.error.SourceErrorKind.{SourceErrorKind}
 use Rattle.dt_source.specs.declared.error.SourceErrorKind.TheVariants as kinds
-use Rattle.dt_source.specs.declared.tree.Source.{Source}
-use Rattle.dt_lexeme.specs.Lexemes.{Lexemes}
+use Rattle.dt_source.specs.declared.tree.Outline.{Outline}
+use Rattle.dt_lexeme.specs.Lexemes.{Lexemes, HasNone, Scanned}
 use Rattle.dt_source.specs.Sequences.{Reads}
-use Rattle.dt_source.specs.Tree.{Meaning, meaning}
+use Rattle.dt_source.specs.Tree.{Meaning}
+use Rattle.dt_source.specs.Meaning.{outlined}
 use Rattle.dt_source.specs.Bodies.{first_of}
 use Rattle.dt_source.specs.Source.{SourceTree, Spells, said, faults_of}
 use Rattle.dt_source.specs.Whole.{source_at}
 use Rattle.dt_source.specs.Order.{IsFirstInText, FaultsAreInOrder}
 use Rattle.dt_source.specs.Laws.{SourcesAreSpelled, SourcesAreRead}
-use Rattle.dt_source.specs.Parse.{IsShort, IsSource, IsNoSource, Says, HasFirstFault, HasFault, Refuses, IsRead, IfRefused}
+use Rattle.dt_source.specs.Parse.{IsShort, IsSource, IsNoSource, Says, HasFirstFault, HasFault, Refuses, IsRead, IfRefused, refusal_of, refused_at}
 use Rattle.dt_source.specs.SourceError.{kind_of_fault}
 use Rattle.dt_lexeme.proofs.Scanning.{one_list}
 use Rattle.dt_source.proofs.OneSource.{one_spelling}
@@ -52,22 +53,29 @@ found takes order text ls m f h e =
     (s.0, (ls, h, s.1), s.2, (s.3, subst (λ (o : Option Fault). IsFirstInText o (faults_of text s.0)) s.3 (order text ls s.0 h s.1)))
 
 -- what reading the lexemes gave
-pub is_found : SourcesAreSpelled → FaultsAreInOrder → (text : List ℕ) (ts ls : List Lexeme) (r : Result (Source × Option Fault) ReadError) → Lexemes text ls → ts ≡ ls → Reads (λ x. (meaning x.0, x.1)) r (source_at text ts) → IfOk r (λ x. IsRead text (meaning x.0) x.1)
-is_found takes order text ts ls (Ok x) h t e = found takes order text ls (meaning x.0) x.1 h (ap (source_at text) (sym t) ∙ e)
+pub is_found : SourcesAreSpelled → FaultsAreInOrder → (text : List ℕ) (ts ls : List Lexeme) (r : Result (Outline × Option Fault) ReadError) → Lexemes text ls → ts ≡ ls → Reads (λ x. (outlined x.0, x.1)) r (source_at text ts) → IfOk r (λ x. IsRead text (outlined x.0) x.1)
+is_found takes order text ts ls (Ok x) h t e = found takes order text ls (outlined x.0) x.1 h (ap (source_at text) (sym t) ∙ e)
 is_found takes order text ts ls (Err x) h t e = tt
 
-pub is_refused : SourcesAreRead → (text : List ℕ) (ts ls : List Lexeme) (r : Result (Source × Option Fault) ReadError) → Lexemes text ls → ts ≡ ls → Reads (λ x. (meaning x.0, x.1)) r (source_at text ts) → IfErr r (λ x. IfRefused x (IsNoSource text))
+-- a text whose lexemes are refused
+pub is_refused : SourcesAreRead → (text : List ℕ) (ts ls : List Lexeme) (r : Result (Outline × Option Fault) ReadError) → Lexemes text ls → ts ≡ ls → Reads (λ x. (outlined x.0, x.1)) r (source_at text ts) → IfErr r (λ x. IfRefused text x)
 is_refused again text ts ls (Ok x) h t e = tt
 is_refused again text ts ls (Err errors.NoMemory) h t e = tt
-is_refused again text ts ls (Err (errors.Refused r)) h t e = refused again text ls r h (ap (source_at text) (sym t) ∙ e)
+is_refused again text ts ls (Err (errors.Refused r)) h t e =
+    let read : source_at text ls ≡ Err r = ap (source_at text) (sym t) ∙ e in
+    (refused again text ls r h read, (ls, None, h, ap (refusal_of None) read))
 
 -- a text without lexemes is no source
-pub without_lexemes : (text : List ℕ) → ((ls : List Lexeme) → Lexemes text ls → ⊥) → IsNoSource text
+without_lexemes : (text : List ℕ) → HasNone text → IsNoSource text
 without_lexemes text none = λ s a. none a.0 a.1
 
-pub if_refused : {P : Type 0} → (e : ReadError) → P → IfRefused e P
-if_refused errors.NoMemory p = tt
-if_refused (errors.Refused r) p = p
+-- a text that breaks off at a place
+pub is_broken : (text : List ℕ) (ts ls : List Lexeme) (place : ℕ) (r : Result (Outline × Option Fault) ReadError) → Scanned text ls (Some place) → ts ≡ ls → Reads (λ x. (outlined x.0, x.1)) r (source_at text ts) → IfRefused text (refused_at place r)
+is_broken text ts ls place (Ok x) h t e =
+    (without_lexemes text h.0, (ls, Some place, h, ap (refusal_of (Some place)) (ap (source_at text) (sym t) ∙ e)))
+is_broken text ts ls place (Err errors.NoMemory) h t e = tt
+is_broken text ts ls place (Err (errors.Refused r)) h t e =
+    (without_lexemes text h.0, (ls, Some place, h, ap (refusal_of (Some place)) (ap (source_at text) (sym t) ∙ e)))
 
 -- ---- one answer
 
@@ -89,30 +97,30 @@ no_fault again text m f a b =
 pub one_fault : SourcesAreRead → (text : List ℕ) (f g : Fault) → HasFirstFault text f → HasFirstFault text g → f ≡ g
 one_fault again text f g a b = some_is f g (sym a.2.0 ∙ (same_source again text a.0 b.0 a.1 b.1).1 ∙ b.2.0)
 
-has_no_fault : SourcesAreRead → (text : List ℕ) (m : Meaning) (k : FaultKind) → Says text m → HasFault text k → ⊥
-has_no_fault again text m k a h = no_fault again text m h.1.0 a h.1.1
+has_no_fault : SourcesAreRead → (text : List ℕ) (m : Meaning) (k : FaultKind) (n : ℕ) → Says text m → HasFault text k n → ⊥
+has_no_fault again text m k n a h = no_fault again text m h.1.0 a h.1.1
 
-pub accepted : SourcesAreRead → (text : List ℕ) (m : Meaning) (k : SourceErrorKind) → IsShort text → Says text m → Refuses text k → k ≡ kinds.NoMemory
-accepted again text m kinds.NoMemory h a r = refl
-accepted again text m kinds.Syntax h a r = absurd (r.1 a.0 a.1)
-accepted again text m kinds.TooDeep h a r = absurd (r.1 a.0 a.1)
-accepted again text m kinds.TooLong h a r = absurd (omega arith)
-accepted again text m kinds.ElementRange h a r = absurd (has_no_fault again text m ElementRange a r)
-accepted again text m kinds.DivideByZero h a r = absurd (has_no_fault again text m DivideByZero a r)
-accepted again text m kinds.BadBits h a r = absurd (has_no_fault again text m BadBits a r)
-accepted again text m kinds.LiteralRange h a r = absurd (has_no_fault again text m LiteralRange a r)
-accepted again text m kinds.BadEscape h a r = absurd (has_no_fault again text m BadEscape a r)
+pub accepted : SourcesAreRead → (text : List ℕ) (m : Meaning) (k : SourceErrorKind) (n : ℕ) → IsShort text → Says text m → Refuses text k n → k ≡ kinds.NoMemory
+accepted again text m kinds.NoMemory n h a r = refl
+accepted again text m kinds.Syntax n h a r = absurd (r.1.1.0 a.0 a.1)
+accepted again text m kinds.TooDeep n h a r = absurd (r.1.1.0 a.0 a.1)
+accepted again text m kinds.TooLong n h a r = absurd (omega arith)
+accepted again text m kinds.ElementRange n h a r = absurd (has_no_fault again text m ElementRange n a r)
+accepted again text m kinds.DivideByZero n h a r = absurd (has_no_fault again text m DivideByZero n a r)
+accepted again text m kinds.BadBits n h a r = absurd (has_no_fault again text m BadBits n a r)
+accepted again text m kinds.LiteralRange n h a r = absurd (has_no_fault again text m LiteralRange n a r)
+accepted again text m kinds.BadEscape n h a r = absurd (has_no_fault again text m BadEscape n a r)
 
-same_kind : SourcesAreRead → (text : List ℕ) (f : Fault) (k : FaultKind) → HasFirstFault text f → HasFault text k → kind_of_fault k ≡ kind_of_fault f.kind
-same_kind again text f k a h = ap kind_of_fault (sym h.1.2 ∙ ap (λ (g : Fault). g.kind) (one_fault again text h.1.0 f h.1.1 a))
+same_kind : SourcesAreRead → (text : List ℕ) (f : Fault) (k : FaultKind) (n : ℕ) → HasFirstFault text f → HasFault text k n → kind_of_fault k ≡ kind_of_fault f.kind
+same_kind again text f k n a h = ap kind_of_fault (sym h.1.2 ∙ ap (λ (g : Fault). g.kind) (one_fault again text h.1.0 f h.1.1 a))
 
-pub faulty : SourcesAreRead → (text : List ℕ) (f : Fault) (k : SourceErrorKind) → IsShort text → HasFirstFault text f → Refuses text k → (k ≡ kinds.NoMemory) ⊎ (k ≡ kind_of_fault f.kind)
-faulty again text f kinds.NoMemory h a r = inl refl
-faulty again text f kinds.Syntax h a r = absurd (r.1 a.0 a.1)
-faulty again text f kinds.TooDeep h a r = absurd (r.1 a.0 a.1)
-faulty again text f kinds.TooLong h a r = absurd (omega arith)
-faulty again text f kinds.ElementRange h a r = inr (same_kind again text f ElementRange a r)
-faulty again text f kinds.DivideByZero h a r = inr (same_kind again text f DivideByZero a r)
-faulty again text f kinds.BadBits h a r = inr (same_kind again text f BadBits a r)
-faulty again text f kinds.LiteralRange h a r = inr (same_kind again text f LiteralRange a r)
-faulty again text f kinds.BadEscape h a r = inr (same_kind again text f BadEscape a r)
+pub faulty : SourcesAreRead → (text : List ℕ) (f : Fault) (k : SourceErrorKind) (n : ℕ) → IsShort text → HasFirstFault text f → Refuses text k n → (k ≡ kinds.NoMemory) ⊎ (k ≡ kind_of_fault f.kind)
+faulty again text f kinds.NoMemory n h a r = inl refl
+faulty again text f kinds.Syntax n h a r = absurd (r.1.1.0 a.0 a.1)
+faulty again text f kinds.TooDeep n h a r = absurd (r.1.1.0 a.0 a.1)
+faulty again text f kinds.TooLong n h a r = absurd (omega arith)
+faulty again text f kinds.ElementRange n h a r = inr (same_kind again text f ElementRange n a r)
+faulty again text f kinds.DivideByZero n h a r = inr (same_kind again text f DivideByZero n a r)
+faulty again text f kinds.BadBits n h a r = inr (same_kind again text f BadBits n a r)
+faulty again text f kinds.LiteralRange n h a r = inr (same_kind again text f LiteralRange n a r)
+faulty again text f kinds.BadEscape n h a r = inr (same_kind again text f BadEscape n a r)

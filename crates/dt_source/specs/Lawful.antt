@@ -1,6 +1,6 @@
 -- What a source names is lawful: names and paths are those of trees, and labels are labels
--- (Devicetree Specification v0.4, sections 2.2.1, 2.2.3, 2.2.4 and 6.2).
-use Rattle.std.specs.Prelude.{All, IsTrue}
+-- (Devicetree Specification v0.4, sections 2.2.1, 2.2.3, 2.2.4 and 6.2). Each value has as few parts as can be.
+use Rattle.std.specs.Prelude.{ℕ, Bool, true, false, not, ◌&&◌, List, [], ◌∷◌, All, IsTrue}
 use Rattle.dt_tree.specs.Name.{is_name}
 use Rattle.dt_tree.specs.Path.{is_path}
 use Rattle.dt_lexeme.specs.Label.{IsLabel}
@@ -15,9 +15,23 @@ IsLawfulPiece (Plain bytes) = Unit {0}
 IsLawfulPiece (PhandleOf target) = IsLawfulTarget target
 IsLawfulPiece (PathOf target) = IsLawfulTarget target
 
+abbrev pub has_bytes : List ℕ → Bool
+has_bytes [] = false
+has_bytes (b ∷ bs) = true
+
+abbrev pub begins_plain : List Piece → Bool
+begins_plain (Plain bytes ∷ ps) = true
+begins_plain _ = false
+
+-- no part is empty, and no bytes stand next to bytes
+abbrev pub are_joined : List Piece → Bool
+are_joined [] = true
+are_joined (Plain bytes ∷ ps) = has_bytes bytes && not (begins_plain ps) && are_joined ps
+are_joined (p ∷ ps) = are_joined ps
+
 abbrev mutual
   pub IsLawfulEntry : Entry → Type 0
-  IsLawfulEntry (Defines name value) = IsTrue (is_name name) × All IsLawfulPiece value
+  IsLawfulEntry (Defines name value) = IsTrue (is_name name) × All IsLawfulPiece value × IsTrue (are_joined value)
   IsLawfulEntry (Undefines name) = IsTrue (is_name name)
   IsLawfulEntry (Child labels name body) = All IsLabel labels × IsTrue (is_name name) × IsLawfulBody body
   IsLawfulEntry (Removes name) = IsTrue (is_name name)

@@ -11,3 +11,6 @@ pub mod Order
 pub mod SourceError
 pub mod Parse
 pub mod Lawful
+pub mod LawfulOnce
+pub mod Meaning
+pub mod BodyLaws

@@ -1,22 +1,28 @@
 -- What text is a source, and what parsing answers (Devicetree Specification v0.4, chapter 6).
-use Rattle.std.specs.Prelude.{◌≡◌, ℕ, ◌<◌, ◌≤◌, List, [], length, Option, Some}
+use Rattle.std.specs.Prelude.{◌≡◌, ℕ, ◌<◌, ◌≤◌, nat_lt, List, [], length, Option, Some, None, Result, Ok, Err, if◌then◌else◌}
+use Rattle.dt_lexeme.specs.declared.lexeme.TheConstants.{MAX_TEXT_LEN}
 use Rattle.dt_lexeme.specs.declared.lexeme.Lexeme.{Lexeme}
 use Rattle.dt_lexeme.specs.declared.lexeme.Fault.{Fault}
 use Rattle.dt_lexeme.specs.declared.lexeme.FaultKind.{FaultKind}
 use Rattle.dt_lexeme.specs.declared.lexeme.FaultKind.TheVariants.{ElementRange, DivideByZero, BadBits, LiteralRange, BadEscape}
+use Rattle.dt_lexeme.specs.declared.lexeme.Refusal.{Refusal}
+use Rattle.dt_lexeme.specs.declared.lexeme.RefusalKind.{RefusalKind}
+use Rattle.dt_lexeme.specs.declared.lexeme.RefusalKind.TheVariants.{Syntax, TooDeep}
 use Rattle.dt_source.specs.declared.error.SourceErrorKind.{SourceErrorKind}
 use Rattle.dt_source.specs.declared.error.SourceErrorKind.TheVariants as kinds
 use Rattle.dt_lexeme.specs.declared.lexeme.ReadError.{ReadError}
 use Rattle.dt_lexeme.specs.declared.lexeme.ReadError.TheVariants as errors
-use Rattle.dt_lexeme.specs.Lexemes.{Lexemes}
+use Rattle.dt_lexeme.specs.Lexemes.{Lexemes, Scanned}
+use Rattle.dt_lexeme.specs.Lines.{line_at}
 use Rattle.dt_source.specs.Tree.{Meaning}
 use Rattle.dt_source.specs.Bodies.{first_of}
 use Rattle.dt_source.specs.Order.{IsFirstInText}
 use Rattle.dt_source.specs.Source.{SourceTree, Spells, said, faults_of}
+use Rattle.dt_source.specs.Whole.{source_at}
 
 -- at most 16 MiB
 abbrev pub IsShort : List ℕ → Type 0
-IsShort text = length text ≤ 16777216
+IsShort text = length text ≤ MAX_TEXT_LEN
 
 -- Some lexemes of the text spell the source.
 abbrev pub IsSource : List ℕ → SourceTree → Type 0
@@ -38,26 +44,62 @@ IsFirst f fs = (first_of fs ≡ f) × IsFirstInText f fs
 abbrev pub HasFirstFault : List ℕ → Fault → Type 0
 HasFirstFault text f = (s : SourceTree) × IsSource text s × IsFirst (Some f) (faults_of text s)
 
--- Its number is this one's.
-abbrev pub HasFault : List ℕ → FaultKind → Type 0
-HasFault text k = IsShort text × ((f : Fault) × HasFirstFault text f × (f.kind ≡ k))
+-- ---- where a text that is no source stops
 
--- when each refusal comes
-abbrev pub Refuses : List ℕ → SourceErrorKind → Type 0
-Refuses text kinds.NoMemory = Unit {0}
-Refuses text kinds.Syntax = IsShort text × IsNoSource text
-Refuses text kinds.TooDeep = IsShort text × IsNoSource text
-Refuses text kinds.TooLong = 16777216 < length text
-Refuses text kinds.ElementRange = HasFault text ElementRange
-Refuses text kinds.DivideByZero = HasFault text DivideByZero
-Refuses text kinds.BadBits = HasFault text BadBits
-Refuses text kinds.LiteralRange = HasFault text LiteralRange
-Refuses text kinds.BadEscape = HasFault text BadEscape
+-- no lexeme stands at this place
+abbrev pub no_lexeme : ℕ → Refusal
+no_lexeme place = record { kind = Syntax; place = place }
+
+-- the first of two refusals, the second of a place without a lexeme
+abbrev pub refusal_before : ℕ → Refusal → Refusal
+refusal_before place r = if nat_lt r.place place then r else no_lexeme place
+
+-- Why lexemes are refused that reach to the end of the text, or to a place where no lexeme stands: one of them can't
+-- follow or nests too deep, or it is that place.
+abbrev pub refusal_of : {A : Type 0} → Option ℕ → Result A Refusal → Option Refusal
+refusal_of None (Ok x) = None
+refusal_of None (Err r) = Some r
+refusal_of (Some place) (Ok x) = Some (no_lexeme place)
+refusal_of (Some place) (Err r) = Some (refusal_before place r)
+
+-- The text is refused at this place: its lexemes, or those before it breaks off, read from left to right, are refused there.
+abbrev pub StopsAt : List ℕ → Refusal → Type 0
+StopsAt text r = (ls : List Lexeme) × (end : Option ℕ) × Scanned text ls end × (refusal_of end (source_at text ls) ≡ Some r)
+
+abbrev pub IsRefused : List ℕ → Refusal → Type 0
+IsRefused text r = IsNoSource text × StopsAt text r
+
+-- ---- when each refusal comes, and its line
+
+-- The text isn't in the bounded grammar, and stops for this reason in this line.
+abbrev pub HasStop : List ℕ → RefusalKind → ℕ → Type 0
+HasStop text k line = IsShort text × ((r : Refusal) × IsRefused text r × (r.kind ≡ k) × (line ≡ line_at text r.place))
+
+-- Its first fault is of this kind, in this line.
+abbrev pub HasFault : List ℕ → FaultKind → ℕ → Type 0
+HasFault text k line = IsShort text × ((f : Fault) × HasFirstFault text f × (f.kind ≡ k) × (line ≡ line_at text f.place))
+
+abbrev pub Refuses : List ℕ → SourceErrorKind → ℕ → Type 0
+Refuses text kinds.NoMemory line = IsShort text × (line ≡ 0)
+Refuses text kinds.Syntax line = HasStop text Syntax line
+Refuses text kinds.TooDeep line = HasStop text TooDeep line
+Refuses text kinds.TooLong line = (MAX_TEXT_LEN < length text) × (line ≡ 1)
+Refuses text kinds.ElementRange line = HasFault text ElementRange line
+Refuses text kinds.DivideByZero line = HasFault text DivideByZero line
+Refuses text kinds.BadBits line = HasFault text BadBits line
+Refuses text kinds.LiteralRange line = HasFault text LiteralRange line
+Refuses text kinds.BadEscape line = HasFault text BadEscape line
 
 -- what was read of a text: what its source says, and the first of its faults
 abbrev pub IsRead : List ℕ → Meaning → Option Fault → Type 0
 IsRead text m f = (s : SourceTree) × IsSource text s × (said text s ≡ m) × IsFirst f (faults_of text s)
 
-abbrev pub IfRefused : ReadError → Type 0 → Type 0
-IfRefused errors.NoMemory P = Unit {0}
-IfRefused (errors.Refused r) P = P
+abbrev pub IfRefused : List ℕ → ReadError → Type 0
+IfRefused text errors.NoMemory = Unit {0}
+IfRefused text (errors.Refused r) = IsRefused text r
+
+-- the refusal where no lexeme stands at this place
+abbrev pub refused_at : {A : Type 0} → ℕ → Result A ReadError → ReadError
+refused_at place (Ok x) = errors.Refused (no_lexeme place)
+refused_at place (Err errors.NoMemory) = errors.NoMemory
+refused_at place (Err (errors.Refused r)) = errors.Refused (refusal_before place r)

@@ -10,7 +10,6 @@ use Rattle.dt_source.specs.declared.tree.Statement.TheOpen.{Statement-F, Propert
 use Rattle.dt_source.specs.declared.tree.Statement.TheFolds.{fold-Statement}
 use Rattle.dt_source.specs.declared.tree.Item.{Item}
 use Rattle.dt_source.specs.declared.tree.Item.TheVariants as items
-use Rattle.dt_source.specs.declared.tree.Source.{Source}
 
 -- what a reference names: a label, or the path of a node
 pub data Target : Type 0 where
@@ -50,6 +49,11 @@ abbrev pub body_of : List Entry → Body
 body_of [] = Done
 body_of (e ∷ es) = Then e (body_of es)
 
+-- the statements of a body, in their order
+abbrev pub statements_of : Body → List Entry
+statements_of Done = []
+statements_of (Then first others) = first ∷ statements_of others
+
 abbrev pub target_view : Reference → Target
 target_view (references.Label label) = OfLabel label.now
 target_view (references.Path path) = OfPath path.now
@@ -84,7 +88,3 @@ abbrev pub item_view : Item → Edit
 item_view (items.Root body) = Rooted (views body.items)
 item_view (items.Extend labels target body) = Extends (labels_view labels) (target_view target) (views body.items)
 item_view (items.Delete target) = Deletes (target_view target)
-
--- what a source says
-abbrev pub meaning : Source → Meaning
-meaning s = record { plugin = s.plugin; reserves = s.reserves.items; items = map item_view s.items.items }

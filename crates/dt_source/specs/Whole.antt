@@ -1,5 +1,6 @@
 -- Reading a whole source.
 use Rattle.std.specs.Prelude.{ℕ, suc, Bool, true, false, ◌||◌, List, [], ◌∷◌, length, map, flat_map, fold, Option, Some, None, Result, Ok, Err}
+use Rattle.dt_source.specs.declared.body.TheConstants.{MAX_BODY_DEPTH}
 use Rattle.dt_lexeme.specs.declared.lexeme.Lexeme.{Lexeme}
 use Rattle.dt_lexeme.specs.declared.lexeme.Fault.{Fault}
 use Rattle.dt_lexeme.specs.declared.lexeme.Refusal.{Refusal}
@@ -72,7 +73,7 @@ reserves_at text ts = many stays (λ s ts. reserve_at text ts) (suc (length ts))
 
 abbrev pub brace_kind : List ℕ → Kind → Lexeme → List Lexeme → Part Body
 brace_kind text Brace t ts = do
-  y ← body_at text 64 ts
+  y ← body_at text MAX_BODY_DEPTH ts
   ended_by (body_of y.0) y.1 y.2
 brace_kind text _ t ts = Err (syntax_at (t ∷ ts))
 

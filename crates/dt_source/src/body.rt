@@ -13,6 +13,9 @@ use dt_expression::{bytes_of, syntax_at, too_deep};
 use dt_lexeme::{Fault, Kind, Lexeme, ReadError};
 use std::alloc::{AllocError, Global};
 
+/// How many levels of bodies may stand in an item's body: as deep as nodes of a tree.
+pub const MAX_BODY_DEPTH: u8 = 64;
+
 // A statement, where a semicolon follows it.
 fn end<'a, 'text>(
     s: Statement<'text>,

@@ -22,7 +22,7 @@ pub enum SourceErrorKind {
     LiteralRange,
     #[error("an escape that stands for no byte")]
     BadEscape,
-    #[error("nested deeper than 64")]
+    #[error("nested too deep")]
     TooDeep,
     #[error("longer than 16 MiB")]
     TooLong,

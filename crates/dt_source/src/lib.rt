@@ -19,13 +19,11 @@ mod spelling;
 mod string;
 mod tree;
 
+pub use body::MAX_BODY_DEPTH;
 pub use error::{SourceError, SourceErrorKind};
 pub use labels::Labels;
-pub use lawful::says_lawful;
+pub use lawful::{bodies_are_lists, name_of, says_lawful};
 pub use order::faults_are_in_order;
 pub use parser::{one_source, parse};
 pub use spelling::reads_sources;
 pub use tree::{Item, Part, Reference, Source, Statement};
-
-#[cfg(test)]
-mod tests;

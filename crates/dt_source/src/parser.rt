@@ -4,34 +4,41 @@ ghost use Rattle.dt_source.specs.declared.error.SourceErrorKind.{SourceErrorKind
 ghost use Rattle.dt_source.specs.declared.error.SourceErrorKind.TheVariants.{NoMemory};
 ghost use Rattle.dt_lexeme.specs.declared.lexeme.Fault.{Fault};
 ghost use Rattle.dt_source.specs.SourceError.{kind_of_fault};
-ghost use Rattle.dt_source.specs.Tree.{Meaning, meaning};
+ghost use Rattle.dt_source.specs.Tree.{Meaning};
+ghost use Rattle.dt_source.specs.Meaning.{meaning, outlined};
 ghost use Rattle.dt_source.specs.Source.{SourceTree};
-ghost use Rattle.dt_source.specs.Lawful.{IsLawful};
-ghost use Rattle.dt_source.specs.Parse.{IsShort, IsSource, IsNoSource, Says, HasFirstFault, Refuses, IsRead, IfRefused};
+ghost use Rattle.dt_source.specs.Parse.{IsShort, IsSource, Says, HasFirstFault, Refuses, IsRead, IfRefused, IsRefused, refused_at};
 
 use crate::error::{SourceError, SourceErrorKind, kind_of_fault, kind_of_refusal};
 use crate::source::source;
-use crate::tree::Source;
-use dt_lexeme::{Fault, ReadError, Refusal, RefusalKind, line_of, scan_front};
+use crate::tree::{Outline, Source};
+use dt_lexeme::{Fault, MAX_TEXT_LEN, ReadError, Refusal, RefusalKind, line_of, scan_front};
 use std::alloc::Global;
 
 // The refusal of a text that has no lexeme at this place: what is refused before it, or else that place.
-fn refused_at(place: u32, read: Result<(Source<'_>, Option<Fault>), ReadError>) -> ReadError {
+fn refused_at(place: u32, read: Result<(Outline<'_>, Option<Fault>), ReadError>) -> ReadError
+    ensures { result ≡ refused_at place read.entry }
+{
+    let none = Refusal {
+        kind: RefusalKind::Syntax,
+        place,
+    };
     match read {
+        Ok(_) => ReadError::Refused(none),
         Err(ReadError::NoMemory) => ReadError::NoMemory,
-        Err(ReadError::Refused(refusal)) if refusal.place < place => ReadError::Refused(refusal),
-        _ => ReadError::Refused(Refusal {
-            kind: RefusalKind::Syntax,
-            place,
+        Err(ReadError::Refused(refusal)) => ReadError::Refused(if refusal.place < place {
+            refusal
+        } else {
+            none
         }),
     }
 }
 
 // What the text's source says, and the first of its faults.
-fn read<'a>(alloc: Global, text: &'a [u8]) -> Result<(Source<'a>, Option<Fault>), ReadError>
+fn read<'a>(alloc: Global, text: &'a [u8]) -> Result<(Outline<'a>, Option<Fault>), ReadError>
     requires { IsShort text.now }
-    ensures found { IfOk result (λ x. IsRead text.now (meaning x.0) x.1) }
-    ensures refused { IfErr result (λ e. IfRefused e (IsNoSource text.now)) }
+    ensures found { IfOk result (λ x. IsRead text.now (outlined x.0) x.1) }
+    ensures refused { IfErr result (λ e. IfRefused text.now e) }
 {
     let (lexemes, stop) = scan_front(alloc, text)?;
     match stop {
@@ -42,8 +49,8 @@ fn read<'a>(alloc: Global, text: &'a [u8]) -> Result<(Source<'a>, Option<Fault>)
 
 fn error_of(text: &[u8], refusal: ReadError) -> SourceError
     requires short { IsShort text.now }
-    requires none { IfRefused refusal (IsNoSource text.now) }
-    ensures { Refuses text.now result.kind }
+    requires none { IfRefused text.now refusal }
+    ensures { Refuses text.now result.kind result.line }
 {
     match refusal {
         ReadError::NoMemory => SourceError {
@@ -60,7 +67,7 @@ fn error_of(text: &[u8], refusal: ReadError) -> SourceError
 fn fault_error(text: &[u8], fault: Fault) -> SourceError
     requires short { IsShort text.now }
     requires first { HasFirstFault text.now fault }
-    ensures { Refuses text.now result.kind }
+    ensures { Refuses text.now result.kind result.line }
 {
     SourceError {
         kind: kind_of_fault(fault.kind),
@@ -73,12 +80,10 @@ fn fault_error(text: &[u8], fault: Fault) -> SourceError
 pub fn parse<'a>(alloc: Global, text: &'a [u8]) -> Result<Source<'a>, SourceError>
     // What is answered is what the text says.
     ensures found { IfOk result (λ s. IsShort text.now × Says text.now (meaning s)) }
-    // Names and paths in it are those of trees, and labels are labels.
-    ensures lawful { IfOk result (λ s. IsLawful (meaning s)) }
-    // Each refusal comes only where it should.
-    ensures refused { IfErr result (λ e. Refuses text.now e.kind) }
+    // Each refusal comes only where it should, and tells the line of its place. So a text is too long where that is told.
+    ensures refused { IfErr result (λ e. Refuses text.now e.kind e.line) }
 {
-    if text.len() > 16_777_216 {
+    if text.len() > MAX_TEXT_LEN {
         return Err(SourceError {
             kind: SourceErrorKind::TooLong,
             line: 1,
@@ -87,7 +92,20 @@ pub fn parse<'a>(alloc: Global, text: &'a [u8]) -> Result<Source<'a>, SourceErro
     match read(alloc, text) {
         Err(refusal) => Err(error_of(text, refusal)),
         Ok((_, Some(fault))) => Err(fault_error(text, fault)),
-        Ok((source, None)) => Ok(source),
+        Ok(
+            (
+                Outline {
+                    plugin,
+                    reserves,
+                    items,
+                },
+                None,
+            ),
+        ) => Ok(Source {
+            plugin,
+            reserves,
+            items,
+        }),
     }
 }
 
@@ -96,7 +114,7 @@ pub fn parse<'a>(alloc: Global, text: &'a [u8]) -> Result<Source<'a>, SourceErro
 pub fn one_source()
     ensures one { (text : List ℕ) (s t : SourceTree) → IsSource text s → IsSource text t → s ≡ t }
     ensures meaning { (text : List ℕ) (m n : Meaning) → Says text m → Says text n → m ≡ n }
-    ensures accepted { (text : List ℕ) (m : Meaning) (k : SourceErrorKind) → IsShort text → Says text m → Refuses text k → k ≡ NoMemory }
+    ensures accepted { (text : List ℕ) (m : Meaning) (k : SourceErrorKind) (line : ℕ) → IsShort text → Says text m → Refuses text k line → k ≡ NoMemory }
     ensures fault { (text : List ℕ) (m : Meaning) (f : Fault) → Says text m → HasFirstFault text f → ⊥ }
-    ensures faulty { (text : List ℕ) (f : Fault) (k : SourceErrorKind) → IsShort text → HasFirstFault text f → Refuses text k → (k ≡ NoMemory) ⊎ (k ≡ kind_of_fault f.kind) }
+    ensures faulty { (text : List ℕ) (f : Fault) (k : SourceErrorKind) (line : ℕ) → IsShort text → HasFirstFault text f → Refuses text k line → (k ≡ NoMemory) ⊎ (k ≡ kind_of_fault f.kind) }
 {}

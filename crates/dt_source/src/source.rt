@@ -2,18 +2,19 @@
 ghost use Rattle.std.specs.Prelude.{◌≡◌, ◌≤◌, ◌<◌, ◌++◌, ◌∷◌, None, Some, map, length, IfOk, OnOk, IfSome, option_map};
 ghost use Rattle.dt_expression.specs.Reading.{Gives};
 ghost use Rattle.dt_source.specs.Sequences.{Reads};
-ghost use Rattle.dt_source.specs.Tree.{Deletes, body_of, view, views, item_view, meaning};
+ghost use Rattle.dt_source.specs.Tree.{Deletes, body_of, view, views, item_view};
+ghost use Rattle.dt_source.specs.Meaning.{outlined};
 ghost use Rattle.dt_source.specs.Pieces.{target_of};
 ghost use Rattle.dt_source.specs.Bodies.{ended_by};
 ghost use Rattle.dt_source.specs.Source.{both_numbers};
 ghost use Rattle.dt_source.specs.Whole.{semicolon_at, plugin_at, header_at, more_headers, headers_at, some_header, reserve_with, reserve_at, reserves_at, brace_at, extend_at, root_at, delete_at, bare_item, unlabelled_item, item_with, item_at, some_items, all_items_at, items_at, source_at};
 
-use crate::body::body;
+use crate::body::{MAX_BODY_DEPTH, body};
 use crate::cells::fault_in;
 use crate::labels::labels_of;
 use crate::pieces::labels;
 use crate::string::{earlier, target};
-use crate::tree::{Item, Source, Statement};
+use crate::tree::{Item, Outline, Statement};
 use dt_expression::{primary, syntax_at};
 use dt_lexeme::{Fault, Kind, Lexeme, ReadError, Refusal};
 use std::alloc::{AllocError, Global};
@@ -219,7 +220,7 @@ fn brace<'a, 'text>(
         [] => Err(ReadError::Refused(syntax_at(ts))),
         [t, rest @ ..] => match t.kind {
             Kind::Brace => {
-                let (statements, fault, rest) = body(alloc, text, 64, rest)?;
+                let (statements, fault, rest) = body(alloc, text, MAX_BODY_DEPTH, rest)?;
                 end_body(statements, fault, rest)
             }
             _ => Err(ReadError::Refused(syntax_at(ts))),
@@ -412,15 +413,15 @@ pub(crate) fn source<'text>(
     alloc: Global,
     text: &'text [u8],
     ts: &[Lexeme],
-) -> Result<(Source<'text>, Option<Fault>), ReadError>
-    ensures { Reads (λ x. (meaning x.0, x.1)) result (source_at text.now ts.now) }
+) -> Result<(Outline<'text>, Option<Fault>), ReadError>
+    ensures { Reads (λ x. (outlined x.0, x.1)) result (source_at text.now ts.now) }
 {
     let (plugin, rest) = headers(ts)?;
     let plugin = some_header(plugin, ts)?;
     let (reserves, first, rest) = reserves(alloc, text, rest)?;
     let (items, fault) = items(alloc, text, rest)?;
     Ok((
-        Source {
+        Outline {
             plugin,
             reserves,
             items,

@@ -1,6 +1,8 @@
 //! What a source says.
-ghost use Rattle.std.specs.Prelude.{◌≡◌, map};
-ghost use Rattle.dt_source.specs.Tree.{labels_view, view, views, part_view, target_view, item_view, Defines, Undefines, Child, Removes, Rooted, Extends, Deletes};
+ghost use Rattle.std.specs.Prelude.{◌≡◌, map, All};
+ghost use Rattle.dt_source.specs.Tree.{labels_view, view, views, part_view, item_view, Defines, Undefines, Child, Removes};
+ghost use Rattle.dt_source.specs.Lawful.{IsLawfulEdit};
+ghost use Rattle.dt_source.specs.LawfulOnce.{all_once, edit_once};
 
 use crate::labels::Labels;
 
@@ -57,9 +59,31 @@ pub enum Item<'a> {
     Delete(Reference<'a>),
 }
 
-/// A devicetree source: whether it is a plugin, its reserved memory as pairs of address and size, and its items.
+/// A devicetree source: whether it is a plugin, its reserved memory as pairs of address and size, and its items. Names
+/// and paths in it are those of trees, labels are labels, and values have as few parts as can be.
 #[derive(Debug, Drop)]
 pub struct Source<'a> {
+    pub plugin: bool,
+    pub reserves: Vec<(u64, u64)>,
+    pub items: Vec<Item<'a>>,
+    pub ghost lawful: { All IsLawfulEdit (map item_view items.items) } by { all_once IsLawfulEdit edit_once (map item_view items.items) },
+}
+
+impl Source<'_> {
+    ghost use Rattle.dt_source.specs.Lawful.{IsLawful};
+    ghost use Rattle.dt_source.specs.Meaning.{meaning};
+
+    /// Costs nothing: tells a caller's proof that what the source names is lawful.
+    pub fn check(&self)
+        ensures { IsLawful (meaning self.now) }
+    {
+        let _ = &self.items;
+    }
+}
+
+/// A source before what it names is known to be lawful.
+#[derive(Drop)]
+pub struct Outline<'a> {
     pub plugin: bool,
     pub reserves: Vec<(u64, u64)>,
     pub items: Vec<Item<'a>>,

@@ -2,10 +2,7 @@
 #![tactic(auto)]
 
 mod command_line;
-mod dump;
-mod fault;
 mod program;
-mod replay;
 mod subcommand;
 #[cfg(test)]
 mod tests;

@@ -1,11 +1,9 @@
 //! The program: files in, one engine's bytes out, faults as one line each.
 
 use crate::command_line::command;
-use crate::dump::dump_bytes;
-use crate::fault::Fault;
-use crate::replay::replay_bytes;
 use crate::subcommand::Command;
 use clap::error::ErrorKind as Mistake;
+use engine::{Fault, dump_bytes, replay_bytes};
 use std::io::{ErrorKind, Write};
 use std::process::ExitCode;
 use std::rt::{Env, Files};

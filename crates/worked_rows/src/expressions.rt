@@ -1,1 +1,197 @@
-//! Expressions in cells.
+//! Expressions in cells: their values, their faults, and the elements that they make.
+use dt_expression::{
+    Width, bytes_of, digit_of, element, literal, primary, push_low_bytes, reads_the_grammar,
+    syntax_at, too_deep, width_of,
+};
+use dt_lexeme::{Fault, FaultKind, Kind, Lexeme, Refusal, RefusalKind, scan};
+use std::alloc::Global;
+use std::test::Fail;
+
+// The first cell of a property: its value or fault. Seven lexemes stand before it.
+fn first_cell(alloc: Global, text: &[u8]) -> Result<Result<u64, Fault>, Refusal> {
+    let lost = Refusal {
+        kind: RefusalKind::Syntax,
+        place: 0,
+    };
+    if text.len() > 1000 {
+        return Err(lost);
+    }
+    match scan(alloc, text) {
+        Ok(lexemes) => match lexemes.as_slice() {
+            [_, _, _, _, _, _, _, cells @ ..] => {
+                let (value, _) = primary(text, cells)?;
+                Ok(value)
+            }
+            _ => Err(lost),
+        },
+        Err(_) => Err(lost),
+    }
+}
+
+#[test]
+fn literals(rt: HostRuntime) -> Result<(), Fail> {
+    reads_the_grammar();
+    let text = b" 0x1fUL 08";
+    let rows = [
+        (1, 7, b"0x1fUL".as_slice(), Ok(31)),
+        (
+            8,
+            10,
+            b"08",
+            Err(Fault {
+                kind: FaultKind::LiteralRange,
+                place: 8,
+            }),
+        ),
+    ];
+    for (start, end, bytes, value) in rows {
+        let lexeme = Lexeme {
+            kind: Kind::Literal,
+            start,
+            end,
+        };
+        assert_eq!(rt; bytes_of(text, lexeme), bytes);
+        assert_eq!(rt; literal(text, lexeme), value);
+        assert_eq!(rt; syntax_at([lexeme].as_slice()).place, start);
+        assert_eq!(rt; too_deep(lexeme).kind, RefusalKind::TooDeep);
+    }
+    assert_eq!(rt; digit_of(b'F'), 15);
+    Ok(())
+}
+
+#[test]
+fn cells(rt: HostRuntime) -> Result<(), Fail> {
+    let rows = [
+        (b"/dts-v1/; / { p = <(1 << 64)>; };".as_slice(), 0),
+        (b"/dts-v1/; / { p = <(0 - 1)>; };", 0xffff_ffff_ffff_ffff),
+        (b"/dts-v1/; / { p = <(2 + 3 * 4)>; };", 14),
+        (b"/dts-v1/; / { p = <(8 - 4 - 2)>; };", 2),
+        (b"/dts-v1/; / { p = <(1 | 2 == 2)>; };", 1),
+        (b"/dts-v1/; / { p = <(2 - 3 < 0)>; };", 0),
+        (b"/dts-v1/; / { p = <(1 ? 2 : 3 ? 4 : 5)>; };", 2),
+        (b"/dts-v1/; / { p = <(-1 >> 63)>; };", 1),
+        (b"/dts-v1/; / { p = <(!0 + ~0xfUL % 010)>; };", 1),
+        (b"/dts-v1/; / { p = <0X1fULL>; };", 31),
+    ];
+    for (text, value) in rows {
+        assert_eq!(rt; first_cell(rt.alloc(), text), Ok(Ok(value)));
+    }
+    Ok(())
+}
+
+#[test]
+fn faults(rt: HostRuntime) -> Result<(), Fail> {
+    let rows = [
+        (
+            b"/dts-v1/; / { p = <(0 && 1 / 0)>; };".as_slice(),
+            FaultKind::DivideByZero,
+            27,
+        ),
+        (
+            b"/dts-v1/; / { p = <(1 ? 2 : 3 % (1 / 0))>; };",
+            FaultKind::DivideByZero,
+            35,
+        ),
+        (b"/dts-v1/; / { p = <08>; };", FaultKind::LiteralRange, 19),
+        (
+            b"/dts-v1/; / { p = <18446744073709551616>; };",
+            FaultKind::LiteralRange,
+            19,
+        ),
+        (
+            b"/dts-v1/; / { p = <(1 / 09 + 1 / 0)>; };",
+            FaultKind::LiteralRange,
+            24,
+        ),
+    ];
+    for (text, kind, place) in rows {
+        assert_eq!(rt;
+            first_cell(rt.alloc(), text),
+            Ok(Err(Fault { kind, place }))
+        );
+    }
+    Ok(())
+}
+
+#[test]
+fn nesting(rt: HostRuntime) -> Result<(), Fail> {
+    let within = [
+        b"/dts-v1/; / { p = <((((((((((((((((((((((((((((((((((((((((((((((((((((((((((((((((1))))))))))))))))))))))))))))))))))))))))))))))))))))))))))))))))>; };".as_slice(),
+        b"/dts-v1/; / { p = <(---------------------------------------------------------------1)>; };",
+        b"/dts-v1/; / { p = <(1?1:1?1:1?1:1?1:1?1:1?1:1?1:1?1:1?1:1?1:1?1:1?1:1?1:1?1:1?1:1?1:1?1:1?1:1?1:1?1:1?1:1?1:1?1:1?1:1?1:1?1:1?1:1?1:1?1:1?1:1?1:1?1:1?1:1?1:1?1:1?1:1?1:1?1:1?1:1?1:1?1:1?1:1?1:1?1:1?1:1?1:1?1:1?1:1?1:1?1:1?1:1?1:1?1:1?1:1?1:1?1:1?1:1?1:1?1:1?1:1?1:1?1:1?1:1)>; };",
+    ];
+    for text in within {
+        assert!(rt; first_cell(rt.alloc(), text).is_ok());
+    }
+    let beyond = [
+        (
+            b"/dts-v1/; / { p = <(((((((((((((((((((((((((((((((((((((((((((((((((((((((((((((((((1)))))))))))))))))))))))))))))))))))))))))))))))))))))))))))))))))>; };".as_slice(),
+            RefusalKind::TooDeep,
+            83,
+        ),
+        (
+            b"/dts-v1/; / { p = <(----------------------------------------------------------------1)>; };",
+            RefusalKind::TooDeep,
+            83,
+        ),
+        (
+            b"/dts-v1/; / { p = <(1?1:1?1:1?1:1?1:1?1:1?1:1?1:1?1:1?1:1?1:1?1:1?1:1?1:1?1:1?1:1?1:1?1:1?1:1?1:1?1:1?1:1?1:1?1:1?1:1?1:1?1:1?1:1?1:1?1:1?1:1?1:1?1:1?1:1?1:1?1:1?1:1?1:1?1:1?1:1?1:1?1:1?1:1?1:1?1:1?1:1?1:1?1:1?1:1?1:1?1:1?1:1?1:1?1:1?1:1?1:1?1:1?1:1?1:1?1:1?1:1?1:1?1:1?1:1?1:1)>; };",
+            RefusalKind::TooDeep,
+            273,
+        ),
+        (b"/dts-v1/; / { p = <(1 2)>; };", RefusalKind::Syntax, 22),
+        (b"/dts-v1/; / { p = <()>; };", RefusalKind::Syntax, 20),
+        (b"/dts-v1/; / { p = <(1 +", RefusalKind::Syntax, u32::MAX),
+    ];
+    for (text, kind, place) in beyond {
+        assert_eq!(rt; first_cell(rt.alloc(), text), Err(Refusal { kind, place }));
+    }
+    Ok(())
+}
+
+#[test]
+fn elements(rt: HostRuntime) -> Result<(), Fail> {
+    let accepted = [
+        (8, 1, [0x01].as_slice()),
+        (8, 0xff, [0xff].as_slice()),
+        (8, 0u64.wrapping_sub(1), [0xff].as_slice()),
+        (8, 0u64.wrapping_sub(128), [0x80].as_slice()),
+        (8, 0u64.wrapping_sub(256), [0x00].as_slice()),
+        (16, 0xabcd, [0xab, 0xcd].as_slice()),
+        (
+            32,
+            0u64.wrapping_sub(1),
+            [0xff, 0xff, 0xff, 0xff].as_slice(),
+        ),
+        (32, 14, [0, 0, 0, 14].as_slice()),
+        (
+            64,
+            0xffff_ffff_ffff_ffff,
+            [0xff, 0xff, 0xff, 0xff, 0xff, 0xff, 0xff, 0xff].as_slice(),
+        ),
+    ];
+    for (bits, number, expected) in accepted {
+        let mut bytes = Vec::new(rt.alloc());
+        if let Some(width) = width_of(bits) {
+            assert_eq!(rt; element(width, 7, Ok(number)), Ok(number));
+            push_low_bytes(&mut bytes, width, number)?;
+        }
+        assert_eq!(rt; bytes.as_slice(), expected);
+    }
+    let refused = [
+        (Width::Eight, 0u64.wrapping_sub(257)),
+        (Width::Eight, 256),
+        (Width::ThirtyTwo, 0x1_0000_0000),
+    ];
+    for (width, number) in refused {
+        assert_eq!(rt;
+            element(width, 7, Ok(number)),
+            Err(Fault {
+                kind: FaultKind::ElementRange,
+                place: 7
+            })
+        );
+    }
+    assert_eq!(rt; width_of(12), None);
+    Ok(())
+}

@@ -1,1 +1,223 @@
 //! Probes by workers.
+
+ghost use Rattle.std.specs.Prelude.{◌≡◌};
+
+use bus_core::{Refusal, Reply, Report};
+use bus_manager::{Keeper, MAX_WORKERS, Prober, RunError, Seen, TableProber, run};
+use bus_plan::{Device, Plan, read_plan};
+use std::alloc::Global;
+use std::hash::RandomState;
+use std::sync::atomic::{AtomicU64, Ordering};
+use std::test::Fail;
+
+const CLOCK_AND_UART: &str = "/clk fixed ok\n/uart ns ok /clk\n";
+
+// A plan, its end report, and whether each device has settled in it.
+const ROWS: [(&str, &str, &str, &[bool]); 5] = [
+    (
+        "clock-and-uart",
+        CLOCK_AND_UART,
+        "/clk bound fixed\n/uart bound ns\nquiet\n",
+        &[true, true],
+    ),
+    ("empty-plan", "", "quiet\n", &[]),
+    (
+        "cycle-waits",
+        "/a x ok /b\n/b y ok /a\n",
+        "/a waiting /b\n/b waiting /a\nquiet\n",
+        &[false, false],
+    ),
+    (
+        "failed-supplier",
+        "/s x fail\n/d y ok /s\n",
+        "/s failed x\n/d waiting /s\nquiet\n",
+        &[true, false],
+    ),
+    (
+        "failed-supplier",
+        "/s ! -\n/d y ok /s\n",
+        "/s disabled\n/d waiting /s\nquiet\n",
+        &[false, false],
+    ),
+];
+
+#[test]
+fn runs(rt: HostRuntime) -> Result<(), Fail> {
+    for (name, plan, report, settled) in ROWS {
+        let plan = read_plan(rt.alloc(), RandomState::new(&rt)?, plan.as_bytes())?;
+        for workers in [1, 2, MAX_WORKERS] {
+            let ran = run(&rt, rt.alloc(), &plan, &TableProber, workers)?;
+            assert_eq!(rt;
+                ran.report.as_slice(),
+                report.as_bytes(),
+                "{name} by {workers}"
+            );
+            assert_eq!(rt; ran.notes.len(), settled.len(), "{name} by {workers}");
+            for (index, note) in ran.notes.iter().enumerate() {
+                let device = Device::new(index);
+                assert_eq!(rt;
+                    *note,
+                    settled[index].then_some(device),
+                    "{name} by {workers}"
+                );
+            }
+        }
+    }
+    Ok(())
+}
+
+#[test]
+fn refuses_other_numbers_of_workers(rt: HostRuntime) -> Result<(), Fail> {
+    let plan = read_plan(rt.alloc(), RandomState::new(&rt)?, b"/a x ok\n")?;
+    for workers in [0, 65, usize::MAX] {
+        match run(&rt, rt.alloc(), &plan, &TableProber, workers) {
+            Ok(_) => return Err("it ran".into()),
+            Err(refusal) => {
+                assert_eq!(rt; refusal, RunError::TooManyWorkers);
+                assert_eq!(rt; (refusal.number(), refusal.name()), (70, "TooManyWorkers"));
+            }
+        }
+    }
+    Ok(())
+}
+
+// Holds its first call until the second is answered, for at most so many turns.
+#[derive(Drop)]
+struct Gate {
+    begun: AtomicU64,
+    answered: AtomicU64,
+    // how many calls were answered when the first was let go
+    let_go_at: AtomicU64,
+}
+
+const TURNS: u64 = 10_000_000;
+
+impl Prober for Gate {
+    type Note = Device;
+
+    ghost attests = { λ prober plan device note. note ≡ device };
+
+    fn probe(&self, plan: &Plan, device: Device, seen: &Seen) -> (Report, Device) {
+        if self.begun.fetch_add(1, Ordering::SeqCst) == 0 {
+            for _turn in 0..TURNS {
+                if self.answered.load(Ordering::SeqCst) > 0 {
+                    break;
+                }
+                std::thread::yield_now();
+            }
+            self.let_go_at
+                .store(self.answered.load(Ordering::SeqCst), Ordering::SeqCst);
+        }
+        let answer = TableProber.probe(plan, device, seen);
+        self.answered.fetch_add(1, Ordering::SeqCst);
+        answer
+    }
+}
+
+#[test]
+fn gate_two_probes(rt: HostRuntime) -> Result<(), Fail> {
+    let plan = read_plan(rt.alloc(), RandomState::new(&rt)?, b"/a x ok\n/b y ok\n")?;
+    let gate = Gate {
+        begun: AtomicU64::new(0),
+        answered: AtomicU64::new(0),
+        let_go_at: AtomicU64::new(0),
+    };
+    let ran = run(&rt, rt.alloc(), &plan, &gate, 2)?;
+    let report = "/a bound x\n/b bound y\nquiet\n";
+    assert_eq!(rt; ran.report.as_slice(), report.as_bytes());
+    assert_eq!(rt; gate.answered.load(Ordering::SeqCst), 2);
+    assert_eq!(rt;
+        gate.let_go_at.load(Ordering::SeqCst),
+        1,
+        "the probes overlap"
+    );
+    Ok(())
+}
+
+// 200 devices: fours that need the next one, each but the first two fours also needs a device of an earlier four, the
+// last four is a cycle, and each 23rd driver fails.
+fn many_devices(alloc: Global) -> Result<String, Fail> {
+    let mut text = String::new(alloc);
+    for index in 0..200u32 {
+        let verdict = if index % 23 == 22 { "fail" } else { "ok" };
+        text.push_str(format!(in alloc; "/d{index} x {verdict}")?.as_str())?;
+        if index % 4 != 3 {
+            text.push_str(format!(in alloc; " /d{}", index + 1)?.as_str())?;
+        }
+        if index >= 8 {
+            text.push_str(format!(in alloc; " /d{}", index / 2)?.as_str())?;
+        }
+        if index == 199 {
+            text.push_str(" /d196")?;
+        }
+        text.push_str("\n")?;
+    }
+    Ok(text)
+}
+
+#[test]
+fn one_report_by_any_workers(rt: HostRuntime) -> Result<(), Fail> {
+    let text = many_devices(rt.alloc())?;
+    let plan = read_plan(rt.alloc(), RandomState::new(&rt)?, text.as_str().as_bytes())?;
+    let first = run(&rt, rt.alloc(), &plan, &TableProber, 1)?;
+    for round in 0..200usize {
+        let workers = 1 + round % MAX_WORKERS;
+        let ran = run(&rt, rt.alloc(), &plan, &TableProber, workers)?;
+        assert_eq!(rt;
+            ran.report.as_slice(),
+            first.report.as_slice(),
+            "by {workers}"
+        );
+    }
+    Ok(())
+}
+
+#[test]
+fn keeper_by_hand(rt: HostRuntime) -> Result<(), Fail> {
+    let plan = read_plan(
+        rt.alloc(),
+        RandomState::new(&rt)?,
+        b"/uart ns ok /clk\n/clk fixed ok\n",
+    )?;
+    let clk = plan.device(b"/clk").ok_or("no device")?;
+    let uart = plan.device(b"/uart").ok_or("no device")?;
+    let mut keeper = Keeper::new(rt.alloc(), plan.copy(rt.alloc())?)?;
+    keeper.check();
+    let (one, seen) = keeper.take()?.ok_or("nothing due")?;
+    let (other, _) = keeper.take()?.ok_or("nothing due")?;
+    assert!(rt; keeper.take()?.is_none());
+    let (needing, supplying) = if one.device == uart {
+        (one, other)
+    } else {
+        (other, one)
+    };
+    assert!(rt; !seen.contains(clk) && !seen.contains(uart));
+    assert_eq!(rt;
+        TableProber.probe(&plan, uart, &seen),
+        (Report::Missing(clk), uart)
+    );
+    assert_eq!(rt;
+        keeper.finish(&needing, Report::Missing(clk))?,
+        Reply::Waiting
+    );
+    assert_eq!(rt; keeper.finish(&supplying, Report::Settled)?, Reply::Bound);
+    let (again, seen) = keeper.take()?.ok_or("nothing due")?;
+    assert_eq!(rt; again.device, uart);
+    assert!(rt; seen.contains(clk) && !seen.contains(uart));
+    assert_eq!(rt;
+        TableProber.probe(&plan, uart, &seen),
+        (Report::Settled, uart)
+    );
+    keeper.abandon(uart)?;
+    assert_eq!(rt;
+        keeper.finish(&again, Report::Settled),
+        Err(Refusal::StaleTicket)
+    );
+    assert_eq!(rt; keeper.abandon(uart), Err(Refusal::NotInFlight));
+    let (last, _) = keeper.take()?.ok_or("nothing due")?;
+    assert_eq!(rt; keeper.finish(&last, Report::Settled)?, Reply::Bound);
+    assert!(rt; keeper.core().is_quiet());
+    let report = "/uart bound ns\n/clk bound fixed\nquiet\n";
+    assert_eq!(rt; keeper.report(rt.alloc())?.as_slice(), report.as_bytes());
+    Ok(())
+}

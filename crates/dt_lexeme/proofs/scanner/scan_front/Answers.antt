@@ -14,7 +14,7 @@ lexemes-init c = rw (c.start-place.ensures, c.new-found.ensures.items) (record {
 })
 
 pub returns-in-Err : goal.returns-in-Err
-returns-in-Err c = scans_none c.args.text.now c.lexemes.found.items c.lexemes.place c.lexemes.left.now c.in-Err.ensures.gap c.lexemes.invariant.scans
+returns-in-Err c = scans_none c.args.text.now c.lexemes.found.items c.lexemes.place c.lexemes.left.now c.in-Err.s.now c.in-Err.ensures.gap c.in-Err.ensures.unclosed c.lexemes.invariant.scans
 
 pub returns-then-is_empty : goal.returns-then-is_empty
 returns-then-is_empty c =

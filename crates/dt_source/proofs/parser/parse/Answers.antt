@@ -1,8 +1,8 @@
-use Rattle.dt_source.specs.Tree.{meaning}
+use Rattle.dt_source.specs.Meaning.{outlined}
 use Rattle.dt_source.proofs.LawfulSources.{says_lawful}
 use Rattle.dt_source.proofs.parser.parse.Goals as goal
 
-pub returns-clause-lawful : goal.returns-clause-lawful
-returns-clause-lawful c =
-    let r = rw c.in-Ok-default-None.field-0-1-is at c.in-Ok-default-None.ensures.found in
-    says_lawful c.args.text.now (meaning c.in-Ok-default-None.source) (r.0, r.1, r.3.1, r.2)
+pub invariant_of-result : goal.invariant_of-result
+invariant_of-result c =
+    let read = rw c.in-Ok-default-None.field-0-1-is at c.in-Ok-default-None.ensures.found in
+    record { lawful = (says_lawful c.args.text.now (outlined c.in-Ok-default-None.field-0-0) (read.0, read.1, read.3.1, read.2)).items }

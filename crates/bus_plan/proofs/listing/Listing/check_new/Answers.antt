@@ -2,6 +2,7 @@
 use Rattle.std.proofs.Common.{◌≡◌, ◌∙◌, ap, sym, true, false, length, arith}
 use Rattle.std.specs.Prelude.{Some}
 use Rattle.std.proofs.lemmas.Bool.{le-leb, lt-leb}
+use Rattle.bus_plan.specs.declared.limits.TheConstants.{MAX_DEVICES}
 use Rattle.bus_plan.specs.declared.error.PlanError.TheVariants.{DuplicateDevice}
 use Rattle.bus_plan.specs.PlanPaths.{is_among}
 use Rattle.bus_plan.specs.PlanFile.{line_paths}
@@ -17,10 +18,10 @@ pub returns-then-len-ge-MAX_DEVICES : goal.returns-then-len-ge-MAX_DEVICES
 returns-then-len-ge-MAX_DEVICES c =
     let new : is_among c.args.device.now.path (line_paths c.args.self.now) ≡ false = cc in
     let long : length c.args.self.now ≡ c.len.result = ap length (sym c.self.view_is) ∙ sym c.self.inside.devices.ok.0 ∙ sym c.len.ensures in
-    refusal-full c.args.self.now c.args.device.now new (le-leb 512 (length c.args.self.now) (omega arith))
+    refusal-full c.args.self.now c.args.device.now new (le-leb MAX_DEVICES (length c.args.self.now) (omega arith))
 
 pub returns : goal.returns
 returns c =
     let new : is_among c.args.device.now.path (line_paths c.args.self.now) ≡ false = cc in
     let long : length c.args.self.now ≡ c.len.result = ap length (sym c.self.view_is) ∙ sym c.self.inside.devices.ok.0 ∙ sym c.len.ensures in
-    refusal-none c.args.self.now c.args.device.now new (lt-leb 512 (length c.args.self.now) (omega arith))
+    refusal-none c.args.self.now c.args.device.now new (lt-leb MAX_DEVICES (length c.args.self.now) (omega arith))

@@ -1,0 +1,14 @@
+//! Plans out of trees: driver files, and the devices of a tree with their drivers and suppliers.
+#![tactic(auto)]
+
+mod draft;
+mod driver;
+mod driver_set;
+mod fail_line;
+mod reading;
+mod statement;
+
+pub use driver::Driver;
+pub use driver_set::DriverSet;
+pub use fail_line::FailLine;
+pub use reading::read_drivers;

@@ -1,0 +1,115 @@
+ghost use Rattle.std.specs.Prelude.{◌≡◌, ◌⊎◌, IfOk, IfErr, MatchResult, Some, None, map};
+ghost use Rattle.bus_plan.specs.declared.error.PlanError.TheVariants.{NoMemory, BadLine};
+ghost use Rattle.bus_plan.specs.Plan.{is_driver_name};
+ghost use Rattle.bus_plan.specs.PlanFile.{Answers};
+ghost use Rattle.bus_drivers.specs.DriverFile.{driver_of, fail_of, statement_of, meaning};
+
+use crate::driver::Driver;
+use crate::fail_line::FailLine;
+use bus_plan::{PlanError, fields_of, is_line, is_skipped};
+use dt_tree::{Bytes, Name, Path, is_name, is_path};
+use std::alloc::{AllocError, Global};
+
+/// What a line of a driver file says.
+#[derive(Debug, Drop)]
+pub enum Statement {
+    /// `driver NAME COMPATIBLE..`
+    Matches(Driver),
+    /// `fail PATH`
+    Fails(FailLine),
+}
+
+fn is_driver_name(bytes: &[u8]) -> bool
+    ensures { result ≡ is_driver_name bytes.now }
+{
+    is_name(bytes) && bytes != b"-".as_slice()
+}
+
+fn copies_of(alloc: Global, strings: &[&[u8]]) -> Result<Vec<Bytes>, AllocError>
+    ensures { IfOk result (λ copies. copies.items ≡ map (λ s. s.now) strings.now) }
+{
+    let mut copies = Vec::with_capacity(alloc, strings.len())?;
+    for string in strings {
+        copies.push(Bytes::from_vec(Vec::from_slice(alloc, *string)?))?;
+    }
+    Ok(copies)
+}
+
+fn driver_of(
+    alloc: Global,
+    name: &[u8],
+    compatibles: &[&[u8]],
+) -> Result<Option<Statement>, PlanError>
+    ensures { MatchResult result
+        (λ s. s ≡ driver_of name.now (map (λ c. c.now) compatibles.now)) (λ e. e ≡ NoMemory) }
+{
+    if compatibles.is_empty() {
+        return Ok(None);
+    }
+    if !is_driver_name(name) {
+        return Ok(None);
+    }
+    let Ok(name) = Name::new(alloc, name) else {
+        return Err(PlanError::NoMemory);
+    };
+    let compatibles = copies_of(alloc, compatibles)?;
+    Ok(Some(Statement::Matches(Driver::new(name, compatibles))))
+}
+
+fn fail_of(
+    alloc: Global,
+    number: usize,
+    path: &[u8],
+    more: &[&[u8]],
+) -> Result<Option<Statement>, PlanError>
+    ensures { MatchResult result
+        (λ s. s ≡ fail_of number path.now (map (λ f. f.now) more.now)) (λ e. e ≡ NoMemory) }
+{
+    if !more.is_empty() {
+        return Ok(None);
+    }
+    if !is_path(path) {
+        return Ok(None);
+    }
+    let Ok(path) = Path::parse(alloc, path) else {
+        return Err(PlanError::NoMemory);
+    };
+    Ok(Some(Statement::Fails(FailLine::new(path, number))))
+}
+
+fn statement_of(
+    alloc: Global,
+    number: usize,
+    fields: &[&[u8]],
+) -> Result<Option<Statement>, PlanError>
+    ensures { MatchResult result
+        (λ s. s ≡ statement_of number (map (λ f. f.now) fields.now)) (λ e. e ≡ NoMemory) }
+{
+    let [word, first, more @ ..] = fields else {
+        return Ok(None);
+    };
+    match *word {
+        b"driver" => driver_of(alloc, first, more),
+        b"fail" => fail_of(alloc, number, first, more),
+        _ => Ok(None),
+    }
+}
+
+impl Statement {
+    /// What a line says: a statement, or nothing where it is skipped.
+    pub fn read(alloc: Global, number: usize, line: &[u8]) -> Result<Option<Self>, PlanError>
+        ensures { Answers (meaning number line.now) result }
+    {
+        if !is_line(line) {
+            return Err(PlanError::BadLine(number));
+        }
+        let fields = fields_of(alloc, line)?;
+        if is_skipped(&fields) {
+            return Ok(None);
+        }
+        match statement_of(alloc, number, &fields)? {
+            None => Err(PlanError::BadLine(number)),
+            Some(statement) => Ok(Some(statement)),
+        }
+    }
+}

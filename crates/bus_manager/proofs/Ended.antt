@@ -1,0 +1,32 @@
+-- What a quiet keeper says at the end.
+use Rattle.std.proofs.Common.{◌≡◌, ℕ, ◌<◌, true, List, ◌++◌, Option, length, cond, ap, ap₂, ◌∙◌, arith}
+use Rattle.std.specs.Prelude.{codes}
+use Rattle.bus_plan.specs.Plan.{PlannedDevice}
+use Rattle.bus_core.specs.CoreState.{CoreState}
+use Rattle.bus_core.specs.Due.{is_quiet}
+use Rattle.bus_core.specs.History.{bound_in, IsBusHistory}
+use Rattle.bus_core.specs.Report.{line_of, status_of, end_status, report_text, IsEndReport}
+use Rattle.bus_core.proofs.LeastLemmas.{quiet-least, quiet-status, end-one}
+use Rattle.bus_core.proofs.Lists.{flat_map_same}
+use Rattle.bus_manager.specs.Notes.{has_settled, has_note, AreNotes}
+use Rattle.bus_manager.specs.Run.{IsRun}
+
+pub run-ended : {N : Type 0} (attests : ℕ → N → Type 0) (plan : List PlannedDevice) (s : CoreState) (report : List ℕ) (notes : List (Option N))
+    → IsBusHistory plan s.history → is_quiet plan s ≡ true → report ≡ report_text plan s → AreNotes attests plan notes
+    → ((d : ℕ) → d < length plan → has_note notes d ≡ has_settled (status_of plan s d)) → IsRun attests plan report notes
+run-ended attests plan s report notes steps quiet text are noted =
+    let ends : IsEndReport plan report = record {
+      bound = bound_in s.history;
+      least = quiet-least plan s steps quiet;
+      text_is = text ∙ ap₂ (λ lines last. lines ++ last)
+          (flat_map_same (λ d. line_of plan (bound_in s.history) (status_of plan s d) d) (λ d. line_of plan (bound_in s.history) (end_status plan (bound_in s.history) d) d) (length plan) 0
+          (λ d above below. ap (λ said. line_of plan (bound_in s.history) said d) (quiet-status plan s steps quiet d (omega arith))))
+          (ap (λ b. cond b (codes "quiet\n") (codes "busy\n")) quiet);
+    }
+    in record {
+      ends = ends;
+      one = λ other said. end-one plan other report said ends;
+      places = are.places;
+      noted = λ d within. noted d within ∙ ap has_settled (quiet-status plan s steps quiet d within);
+      attested = are.attested;
+    }

@@ -1,0 +1,10 @@
+pub mod ReplayEnd
+pub mod Begins
+pub mod Bounds
+pub mod Steps
+pub mod MissingSupplier
+pub mod Few
+pub mod Accepted
+pub mod Landing
+pub mod NotesLemmas
+pub mod Ended

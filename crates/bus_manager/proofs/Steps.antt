@@ -1,0 +1,182 @@
+-- What a keeper's events keep.
+use Rattle.std.proofs.Common.{◌≡◌, inl, inr, ℕ, ◌+◌, ◌-◌, ◌<◌, ◌≤◌, Bool, true, false, not, ◌&&◌, ◌||◌, List, [], ◌∷◌, ◌++◌, Option, Some, None, length, eqb, cond, set, get_or, refl, sym, ap, ◌∙◌, eq-eqb, ne_eqb, arith, length-set}
+use Rattle.std.specs.Prelude.{is_some, count_by, replicate}
+use Rattle.std.proofs.lemmas.Bool.{and_parts, or_parts, not-true, or_right, cases_eq, cases_lt}
+use Rattle.std.proofs.lemmas.List.{length-replicate, get_or-replicate, get_or_past, get_or-set_same, get_or-set_other}
+use Rattle.std.proofs.lemmas.List.Sums.{sum_by-set}
+use Rattle.std.proofs.lemmas.List.Folds.{sum_by-replicate}
+use Rattle.std.proofs.lemmas.List.Elements.{All-push, All-nil}
+use Rattle.bus_plan.specs.declared.limits.TheConstants.{MAX_DEVICES}
+use Rattle.bus_plan.specs.Plan.{PlannedDevice, is_matched}
+use Rattle.bus_core.specs.declared.event.Event.{Event}
+use Rattle.bus_core.specs.declared.event.Event.TheVariants.{Begin, Finish, Abandon}
+use Rattle.bus_core.specs.declared.event.Report.{Report}
+use Rattle.bus_core.specs.declared.event.Report.TheVariants.{Settled, Missing}
+use Rattle.bus_core.specs.declared.event.Reply.TheVariants as reply
+use Rattle.bus_core.specs.declared.settle.Outcome.{Outcome}
+use Rattle.bus_core.specs.declared.settle.Outcome.TheVariants as outcome
+use Rattle.bus_core.specs.Due.{is_due, is_idle}
+use Rattle.bus_core.specs.History.{bound_in, is_bound, is_settled, outcome_by}
+use Rattle.bus_core.specs.Ready.{is_ready}
+use Rattle.bus_core.specs.declared.event.Ticket.{Ticket}
+use Rattle.bus_core.specs.declared.refusal.Refusal.TheVariants.{NotInFlight}
+use Rattle.bus_core.proofs.ReachedLemmas.{attempt-flying}
+use Rattle.bus_core.specs.Step.{begin_refusal, begin_state, finish_state, finish_reply, finish_refusal, abandon_refusal, report_refusal, settled_reply, settle_of, without_flight, is_attempt}
+use Rattle.bus_plan.specs.Plan.{verdict_of}
+use Rattle.bus_core.proofs.HistoryLemmas.{bound_in-push, matched-below}
+use Rattle.bus_core.specs.CoreState.{CoreValue, CoreState, Flight, flight_of, is_in_flight, was_begun, first_state}
+use Rattle.bus_core.specs.Replay.{event_refusal, event_state, device_of, IsEventOf}
+use Rattle.bus_manager.specs.Events.{is_begin, is_of_due}
+use Rattle.bus_manager.specs.Keeper.{KeeperValue, IsKept, first_keeper}
+use Rattle.bus_manager.specs.KeeperView.{IsBounded, IsSoundKeeper}
+use Rattle.bus_manager.specs.Seen.{seen_after, sees}
+use Rattle.bus_manager.proofs.Bounds.{begin-bounded, abandon-bounded, missing-bounded, settled-bounded, or-false, cond-none}
+use Rattle.bus_manager.proofs.Begins.{count-push, no-count, one-count}
+use Rattle.bus_manager.proofs.ReplayEnd.{replay-push, due-push}
+
+abbrev pub with_event : KeeperValue → Event → KeeperValue
+with_event k e = record { plan = k.plan; state = event_state k.plan k.state e; events = k.events ++ e ∷ [] }
+
+-- an event that the core accepts
+pub event-kept : (k : KeeperValue) (e : Event) → event_refusal k.plan k.state e ≡ None → is_of_due k.plan k.state e ≡ true → device_of e < length k.plan
+    → ((d : ℕ) → IsBounded k.plan (event_state k.plan k.state e) (k.events ++ e ∷ []) d) → (event_state k.plan k.state e).begins ≡ k.state.begins + cond {A = ℕ} (is_begin e) 1 0
+    → length (event_state k.plan k.state e).flights ≡ length k.state.flights
+    → IsKept k → IsKept (with_event k e)
+event-kept k e allowed due within bounded counted long kept =
+    record {
+      replayed = replay-push k.plan 0 (first_state k.plan) k.state k.events e kept.replayed allowed;
+      due = due-push k.plan 0 (first_state k.plan) k.state k.events e kept.replayed kept.due due;
+      begins = λ d. (bounded d).top;
+      within = All-push (IsEventOf k.plan) k.events e kept.within within;
+      counted = counted ∙ ap (λ n. n + cond {A = ℕ} (is_begin e) 1 0) kept.counted ∙ sym (count-push is_begin k.events e);
+      places = long ∙ kept.places;
+    }
+
+pub first-kept : (plan : List PlannedDevice) → IsKept (first_keeper plan)
+first-kept plan = record { replayed = refl; due = refl; begins = λ d. omega arith; within = All-nil (IsEventOf plan); counted = refl; places = length-replicate (length plan) None }
+
+pub first-bounded : (plan : List PlannedDevice) (d : ℕ) → IsBounded plan (first_state plan) [] d
+first-bounded plan d = record { top = omega arith; low = λ _. omega arith; fresh = λ _. refl }
+
+none-in : (n d : ℕ) → get_or (replicate n false) d false ≡ false
+none-in n d = elim (cases_lt d n) [
+  | inl within ↦ get_or-replicate n d false false within
+  | inr past ↦ get_or_past (replicate n false) d false (rw (length-replicate n false) past)
+]
+
+abbrev weight : Option Flight → ℕ
+weight flight = cond (is_some flight) 1 0
+
+-- flights counted, when one place of them changes
+pub flights-set : (flights : List (Option Flight)) (d : ℕ) (x : Option Flight) → d < length flights
+    → count_by is_some (set flights d x) + cond {A = ℕ} (is_some (get_or flights d None)) 1 0 ≡ count_by is_some flights + cond {A = ℕ} (is_some x) 1 0
+flights-set flights d x within = sum_by-set weight flights d x None within
+
+pub first-sound : (plan : List PlannedDevice) (core : CoreValue) (events : List Event) (bound : List Bool) → core ≡ record { plan = plan; state = first_state plan } → events ≡ [] → bound ≡ replicate MAX_DEVICES false → IsSoundKeeper core events bound 0
+first-sound plan core events bound core-is none empty = coe 1 0 (i. IsSoundKeeper (core-is i) (none i) (empty i) 0) (record {
+  kept = first-kept plan;
+  bounded = first-bounded plan;
+  bound_is = λ d. none-in MAX_DEVICES d;
+  places = length-replicate MAX_DEVICES false;
+  begun = length-replicate (length plan) false;
+  flying_is = sym (sum_by-replicate weight (length plan) None ∙ omega arith);
+})
+
+pub begun-sound : (core : CoreValue) (events : List Event) (bound : List Bool) (flying d : ℕ)
+    → is_due core.plan core.state d ≡ true → begin_refusal core.plan core.state d ≡ None → IsSoundKeeper core events bound flying
+    → IsSoundKeeper (record { plan = core.plan; state = begin_state core.state d }) (events ++ Begin d ∷ []) bound (flying + 1)
+begun-sound core events bound flying d due allowed sound =
+    let parts = and_parts (is_matched core.plan d) (is_idle core.state d && (not (was_begun core.state d) || is_ready core.plan (bound_in core.state.history) d)) due
+    in let within : d < length core.plan = matched-below core.plan d parts.0
+    in let idle = or_parts (is_in_flight core.state d) (is_settled core.state.history d) (not-true (is_in_flight core.state d || is_settled core.state.history d)
+    (and_parts (is_idle core.state d) (not (was_begun core.state d) || is_ready core.plan (bound_in core.state.history) d) parts.1).0)
+    in let bounded = λ (e : ℕ). begin-bounded core.plan core.state events d e (omega (arith, sound.kept.places)) (omega (arith, sound.begun)) due (sound.bounded e)
+    in let flight : Option Flight = Some (record { attempt = core.state.begins + 1; settled = length core.state.history })
+    in record {
+      kept = event-kept (record { plan = core.plan; state = core.state; events = events }) (Begin d) allowed due within bounded refl (length-set core.state.flights d flight) sound.kept;
+      bounded = bounded;
+      bound_is = sound.bound_is;
+      places = sound.places;
+      begun = length-set core.state.begun d true ∙ sound.begun;
+      flying_is =
+          let e = flights-set core.state.flights d flight (omega (arith, sound.kept.places))
+          in let none = no-count (is_in_flight core.state d) idle.0
+          in omega (arith, sound.flying_is, e, none);
+    }
+
+-- the flights after one of them ended
+landed : (flights : List (Option Flight)) (d n : ℕ) → d < length flights → is_some (get_or flights d None) ≡ true → n ≡ count_by is_some flights → n - 1 ≡ count_by is_some (set flights d None)
+landed flights d n within flying is =
+    let e = flights-set flights d None within
+    in let one = one-count (is_some (get_or flights d None)) flying
+    in omega (arith, e, one, is)
+
+pub abandoned-sound : (core : CoreValue) (events : List Event) (bound : List Bool) (flying d : ℕ)
+    → d < length core.plan → abandon_refusal core.state d ≡ None → IsSoundKeeper core events bound flying
+    → IsSoundKeeper (record { plan = core.plan; state = without_flight core.state d }) (events ++ Abandon d ∷ []) bound (flying - 1)
+abandoned-sound core events bound flying d within allowed sound =
+    let aloft = (cond-none (is_in_flight core.state d) _ _ allowed).0
+    in let bounded = λ (e : ℕ). abandon-bounded core.plan core.state events d e (sound.bounded e)
+    in record {
+      kept = event-kept (record { plan = core.plan; state = core.state; events = events }) (Abandon d) allowed refl within bounded (omega arith) (length-set core.state.flights d None) sound.kept;
+      bounded = bounded;
+      bound_is = sound.bound_is;
+      places = sound.places;
+      begun = sound.begun;
+      flying_is = landed core.state.flights d flying (omega (arith, sound.kept.places)) aloft sound.flying_is;
+    }
+
+-- the set after a settle
+seen-settled : (bound : List Bool) (d e : ℕ) (o : Outcome) → d < length bound → sees (seen_after bound d (settled_reply o)) e ≡ (sees bound e || (is_bound o && eqb d e))
+seen-settled bound d e outcome.Failed within = sym (or-false (sees bound e) false refl)
+seen-settled bound d e outcome.Bound within = elim (cases_eq d e) [
+  | inl same ↦ ap (λ k. sees (set bound d true) k) (sym same) ∙ get_or-set_same bound d true false within ∙ sym (or_right (sees bound e) (eqb d e) (eq-eqb d e same))
+  | inr other ↦ get_or-set_other bound d e true false (λ q. other (sym q)) ∙ sym (or-false (sees bound e) (eqb d e) (ne_eqb d e other))
+]
+
+length-after : (bound : List Bool) (d : ℕ) (o : Outcome) → length (seen_after bound d (settled_reply o)) ≡ length bound
+length-after bound d outcome.Bound = length-set bound d true
+length-after bound d outcome.Failed = refl
+
+seen-waiting : (bound : List Bool) (d : ℕ) (due : Bool) → seen_after bound d (cond due reply.Again reply.Waiting) ≡ bound
+seen-waiting bound d true = refl
+seen-waiting bound d false = refl
+
+-- a finish is an event of a schedule
+pub finish-allowed : (plan : List PlannedDevice) (s : CoreState) (d : ℕ) (report : Report) → is_in_flight s d ≡ true → report_refusal plan s d report ≡ None → event_refusal plan s (Finish d report) ≡ None
+finish-allowed plan s d report aloft allowed = ap (λ b. cond (not b) (Some NotInFlight) (report_refusal plan s d report)) aloft ∙ allowed
+
+finished-by : (core : CoreValue) (events : List Event) (bound : List Bool) (flying d : ℕ) (report : Report)
+    → d < length core.plan → length core.plan ≤ MAX_DEVICES → is_in_flight core.state d ≡ true → report_refusal core.plan core.state d report ≡ None → IsSoundKeeper core events bound flying
+    → IsSoundKeeper (record { plan = core.plan; state = finish_state core.plan core.state d report }) (events ++ Finish d report ∷ [])
+    (seen_after bound d (finish_reply core.plan (finish_state core.plan core.state d report) d report)) (flying - 1)
+finished-by core events bound flying d Settled within few aloft allowed sound =
+    let o = outcome_by (verdict_of core.plan d)
+    in let bounded = λ (e : ℕ). settled-bounded core.plan core.state events d e (sound.bounded e)
+    in record {
+      kept = event-kept (record { plan = core.plan; state = core.state; events = events }) (Finish d Settled) (finish-allowed core.plan core.state d Settled aloft allowed) refl within bounded (omega arith) (length-set core.state.flights d None) sound.kept;
+      bounded = bounded;
+      bound_is = λ e. seen-settled bound d e o (omega (arith, sound.places)) ∙ ap (λ b. b || (is_bound o && eqb d e)) (sound.bound_is e) ∙ sym (bound_in-push core.state.history (settle_of core.plan d) e);
+      places = length-after bound d o ∙ sound.places;
+      begun = sound.begun;
+      flying_is = landed core.state.flights d flying (omega (arith, sound.kept.places)) aloft sound.flying_is;
+    }
+finished-by core events bound flying d (Missing supplier) within few aloft allowed sound =
+    let bounded = λ (e : ℕ). missing-bounded core.plan core.state events d supplier e allowed (sound.bounded e)
+    in let same = seen-waiting bound d (is_due core.plan (without_flight core.state d) d)
+    in record {
+      kept = event-kept (record { plan = core.plan; state = core.state; events = events }) (Finish d (Missing supplier)) (finish-allowed core.plan core.state d (Missing supplier) aloft allowed) refl within bounded (omega arith) (length-set core.state.flights d None) sound.kept;
+      bounded = bounded;
+      bound_is = λ e. ap (λ b. sees b e) same ∙ sound.bound_is e;
+      places = ap length same ∙ sound.places;
+      begun = sound.begun;
+      flying_is = landed core.state.flights d flying (omega (arith, sound.kept.places)) aloft sound.flying_is;
+    }
+
+pub finished-sound : (core : CoreValue) (events : List Event) (bound : List Bool) (flying : ℕ) (ticket : Ticket) (report : Report)
+    → ticket.device < length core.plan → length core.plan ≤ MAX_DEVICES → finish_refusal core.plan core.state ticket report ≡ None → IsSoundKeeper core events bound flying
+    → IsSoundKeeper (record { plan = core.plan; state = finish_state core.plan core.state ticket.device report }) (events ++ Finish ticket.device report ∷ [])
+    (seen_after bound ticket.device (finish_reply core.plan (finish_state core.plan core.state ticket.device report) ticket.device report)) (flying - 1)
+finished-sound core events bound flying ticket report within few allowed sound =
+    let parts = cond-none (is_attempt (flight_of core.state ticket.device) ticket.attempt) _ _ allowed
+    in finished-by core events bound flying ticket.device report within few (attempt-flying (flight_of core.state ticket.device) ticket.attempt parts.0) parts.1 sound

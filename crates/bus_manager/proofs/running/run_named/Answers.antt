@@ -1,0 +1,8 @@
+use Rattle.std.proofs.Common.{None, ap, ◌∙◌}
+use Rattle.std.specs.Prelude.{replicate}
+use Rattle.bus_manager.proofs.NotesLemmas.{no-notes}
+use Rattle.bus_manager.proofs.running.run_named.Goals as goal
+
+pub place-requires-clause-notes : goal.place-requires-clause-notes
+place-requires-clause-notes g c =
+    λ _ _. no-notes (g.P.Prober.attests c.args.prober.now c.args.plan.now) c.args.plan.now c.in-Ok-no_notes.notes.items (c.in-Ok-no_notes.ensures ∙ ap (λ n. replicate n None) c.len.ensures)

@@ -1,0 +1,11 @@
+pub mod Alone
+pub mod Events
+pub mod Keeper
+pub mod KeeperView
+pub mod Notes
+pub mod Prober
+pub mod Run
+pub mod RunError
+pub mod Seen
+pub mod TableProber
+pub mod Turn

@@ -1,0 +1,196 @@
+//! A core that keeps the events that it accepted.
+
+ghost use Rattle.std.specs.Prelude.{◌≡◌, ◌<◌, ◌≤◌, ◌++◌, ◌∷◌, [], ℕ, false, nat_lt, length, vec_len, vec_capacity, MatchResult, IfOk, IfErr, OnOk, OnErr, IfNone, IfSome};
+ghost use Rattle.std.specs.Result.{result_err};
+ghost use Rattle.bus_core.specs.Due.{is_due};
+ghost use Rattle.bus_core.specs.Report.{report_text};
+ghost use Rattle.bus_core.specs.Step.{finish_refusal, finish_reply, abandon_refusal};
+ghost use Rattle.bus_core.specs.declared.refusal.Refusal.TheVariants.{NoMemory};
+ghost use Rattle.bus_manager.specs.Keeper.{IsKept, open_flights, first_keeper, finished_keeper, abandoned_keeper, IsTaken, IsTakeRefused};
+ghost use Rattle.bus_manager.specs.Seen.{seen_after};
+
+use crate::seen::Seen;
+use bus_core::{Core, Event, Refusal, Reply, Report, Ticket};
+use bus_plan::{Device, Plan};
+use std::alloc::Global;
+use std::marker::Model;
+
+/// A core with the events that it accepted, of which it is the replay. It has room for the end of each open flight.
+#[derive(Drop)]
+pub struct Keeper {
+    core: Core,
+    events: Vec<Event>,
+    // the devices that are bound, and how many flights are open
+    bound: Seen,
+    flying: usize,
+}
+
+impl Model for Keeper {
+    ghost use Rattle.bus_manager.specs.Keeper.{KeeperValue};
+
+    ghost Value = { KeeperValue };
+
+    ghost use Rattle.bus_manager.specs.KeeperView.{keeper_value, IsKeeper};
+
+    ghost view = { keeper_value };
+
+    ghost invariant = { IsKeeper };
+}
+
+impl Keeper {
+    /// Nothing begun.
+    pub fn new(alloc: Global, plan: Plan) -> Result<Keeper, Refusal>
+        ensures { MatchResult result (λ keeper. keeper ≡ first_keeper plan) (λ refusal. refusal ≡ NoMemory) }
+    {
+        Ok(Keeper {
+            core: Core::new(alloc, plan)?,
+            events: Vec::new(alloc),
+            bound: Seen::new(),
+            flying: 0,
+        })
+    }
+
+    /// Costs nothing: tells a caller's proof what holds of every keeper.
+    pub fn check(&self)
+        ensures { IsKept self.now }
+    {
+        let _ = &self.flying;
+    }
+
+    /// The core.
+    pub fn core(&self) -> &Core
+        ensures plan { result.now.plan ≡ self.now.plan }
+        ensures state { result.now.state ≡ self.now.state }
+    {
+        &self.core
+    }
+
+    /// Begins a due device, if there is one, and gives its ticket with the devices that are bound now.
+    pub fn take(&mut self) -> Result<Option<(Ticket, Seen)>, Refusal>
+        ensures none { IfOk result (λ taken. IfNone taken ((self.new ≡ self.old) × ((d : ℕ) → is_due self.old.plan self.old.state d ≡ false))) }
+        ensures some { IfOk result (λ taken. IfSome taken (λ t. IsTaken self.old self.new t.0 t.1)) }
+        ensures refused { IfErr result (IsTakeRefused self.old) }
+        ensures err { OnErr result (self.new ≡ self.old) }
+    {
+        let Some(device) = self.core.next() else {
+            return Ok(None);
+        };
+        // room for this begin, and for the end of each flight, its own among them
+        match self.events.reserve(self.flying + 2) {
+            Ok(()) => {}
+            Err(_) => return Err(Refusal::NoMemory),
+        }
+        let ticket = match self.core.begin(device) {
+            Ok(ticket) => ticket,
+            Err(refusal) => return Err(refusal),
+        };
+        store_begin(&mut self.events, device);
+        self.flying += 1;
+        Ok(Some((ticket, self.bound)))
+    }
+
+    /// Ends the flight of the ticket by what its probe found. It takes no memory.
+    pub fn finish(&mut self, ticket: &Ticket, report: Report) -> Result<Reply, Refusal>
+        requires { ticket.now.device < length self.old.plan }
+        ensures refused { result_err result ≡ finish_refusal self.old.plan self.old.state ticket.now report }
+        ensures reply { IfOk result (λ reply. reply ≡ finish_reply self.new.plan self.new.state ticket.now.device report) }
+        ensures finished { OnOk result (self.new ≡ finished_keeper self.old ticket.now.device report) }
+        ensures err { OnErr result (self.new ≡ self.old) }
+    {
+        self.end(ticket, &report)
+    }
+
+    /// Drops the device's flight. It takes no memory.
+    pub fn abandon(&mut self, device: Device) -> Result<(), Refusal>
+        requires { device < length self.old.plan }
+        ensures refused { result_err result ≡ abandon_refusal self.old.state device }
+        ensures abandoned { OnOk result (self.new ≡ abandoned_keeper self.old device) }
+        ensures err { OnErr result (self.new ≡ self.old) }
+    {
+        match self.core.abandon(device) {
+            Ok(()) => {}
+            Err(refusal) => return Err(refusal),
+        }
+        store_abandon(&mut self.events, device);
+        self.flying -= 1;
+        Ok(())
+    }
+
+    /// The report text.
+    pub fn report(&self, alloc: Global) -> Result<Vec<u8>, Refusal>
+        ensures text { IfOk result (λ text. text.items ≡ report_text self.now.plan self.now.state) }
+        ensures err { IfErr result (λ refusal. refusal ≡ NoMemory) }
+    {
+        self.core.report(alloc)
+    }
+
+    /// Whether a flight is open.
+    pub(crate) fn is_flying(&self) -> bool
+        ensures { result ≡ nat_lt 0 (open_flights self.now.state) }
+    {
+        self.flying > 0
+    }
+
+    /// The devices that are bound now.
+    pub(crate) fn seen(&self) -> Seen {
+        self.bound
+    }
+
+    fn end(&mut self, ticket: &Ticket, report: &Report) -> Result<Reply, Refusal>
+        requires { ticket.now.device < length self.old.plan }
+        ensures refused { result_err result ≡ finish_refusal self.old.plan self.old.state ticket.now report.now }
+        ensures reply { IfOk result (λ reply. reply ≡ finish_reply self.new.plan self.new.state ticket.now.device report.now) }
+        ensures finished { OnOk result (self.new ≡ finished_keeper self.old ticket.now.device report.now) }
+        ensures err { OnErr result (self.new ≡ self.old) }
+    {
+        let reply = match self.core.finish(ticket, *report) {
+            Ok(reply) => reply,
+            Err(refusal) => return Err(refusal),
+        };
+        self.core.plan().check();
+        note_reply(&mut self.bound, ticket.device, reply);
+        append(&mut self.events, Event::Finish(ticket.device, *report));
+        self.flying -= 1;
+        Ok(reply)
+    }
+}
+
+// The set of bound devices after a reply.
+fn note_reply(bound: &mut Seen, device: Device, reply: Reply)
+    requires { device < length bound.old }
+    ensures { bound.new ≡ seen_after bound.old device reply }
+{
+    if matches!(reply, Reply::Bound) {
+        bound.insert(device);
+    }
+}
+
+/// One item more, in room that is there.
+pub(crate) fn append<T: Drop>(items: &mut Vec<T>, item: T)
+    requires { vec_len items.old < vec_capacity items.old }
+    ensures items { items.new.items ≡ items.old.items ++ item ∷ [] }
+    ensures room { vec_capacity items.old ≤ vec_capacity items.new }
+{
+    match items.push(item) {
+        Ok(()) => {}
+        Err(_) => unreachable!(),
+    }
+}
+
+fn store_begin(events: &mut Vec<Event>, device: Device)
+    requires { vec_len events.old < vec_capacity events.old }
+    ensures items { events.new.items ≡ events.old.items ++ Event.Begin device ∷ [] }
+    ensures room { vec_capacity events.old ≤ vec_capacity events.new }
+{
+    let _report: Option<Report> = None;
+    append(events, Event::Begin(device));
+}
+
+fn store_abandon(events: &mut Vec<Event>, device: Device)
+    requires { vec_len events.old < vec_capacity events.old }
+    ensures items { events.new.items ≡ events.old.items ++ Event.Abandon device ∷ [] }
+    ensures room { vec_capacity events.old ≤ vec_capacity events.new }
+{
+    let _report: Option<Report> = None;
+    append(events, Event::Abandon(device));
+}

@@ -1,0 +1,22 @@
+//! Workers that probe the devices of a plan side by side, with one lock round the probing core.
+#![tactic(auto)]
+
+mod alone;
+mod keeper;
+mod manager;
+mod notes;
+mod prober;
+mod run_error;
+mod running;
+mod seen;
+mod table_prober;
+mod worker;
+
+pub use keeper::Keeper;
+pub use manager::{Manager, PlanName};
+pub use notes::Ran;
+pub use prober::Prober;
+pub use run_error::RunError;
+pub use running::{MAX_WORKERS, run};
+pub use seen::Seen;
+pub use table_prober::TableProber;

@@ -1,0 +1,138 @@
+//! One lock round a keeper, and what its workers wait on.
+
+ghost use Rattle.std.specs.Prelude.{◌≡◌, ◌<◌, length, count_by, IfOk, IfErr, IfSome, List, []};
+ghost use Rattle.bus_core.specs.declared.refusal.Refusal.TheVariants.{NoMemory};
+ghost use Rattle.bus_plan.specs.Plan.{PlannedDevice};
+ghost use Rattle.bus_manager.specs.Events.{is_abandon};
+ghost use Rattle.bus_manager.specs.Keeper.{abandons};
+ghost use Rattle.bus_manager.specs.Turn.{IsTurn};
+
+use crate::keeper::Keeper;
+use crate::seen::Seen;
+use bus_core::{Refusal, Reply, Report, Ticket};
+use std::marker::{Brand, PhantomData};
+use std::sync::{Condvar, Mutex, Wait};
+
+/// The name of a plan, which a manager's type carries: so what lies under a lock is known to be of that plan.
+pub trait PlanName {
+    ghost plan: { List PlannedDevice };
+}
+
+impl PlanName for Brand {
+    ghost plan = { [] };
+}
+
+/// What a worker does next.
+pub(crate) enum Turn {
+    /// It probes the device of the ticket.
+    Flight(Ticket, Seen),
+    /// Nothing is due, but a flight is open: its end may make something due.
+    Wait,
+    /// Nothing is due and no flight is open.
+    Quiet,
+}
+
+// What lies under the lock: a keeper of the plan of this name, without abandons.
+#[derive(Drop)]
+struct Kept<J: PlanName> {
+    keeper: Keeper,
+    of: PhantomData<J>,
+    ghost named: { keeper.plan ≡ J.plan },
+    ghost unabandoned: { count_by is_abandon keeper.events ≡ 0 },
+}
+
+impl<J: PlanName> Kept<J> {
+    fn new(keeper: Keeper) -> Self
+        requires named { keeper.plan ≡ J.plan }
+        requires unabandoned { abandons keeper ≡ 0 }
+    {
+        Kept {
+            keeper,
+            of: PhantomData,
+        }
+    }
+
+    // Begins a due device, if there is one.
+    fn turn(&mut self) -> Result<Turn, Refusal>
+        ensures turn { IfOk result (IsTurn self.old.keeper self.new.keeper) }
+        ensures err { IfErr result (λ refusal. refusal ≡ NoMemory) }
+    {
+        self.keeper.check();
+        self.keeper.core().plan().check();
+        match self.keeper.take() {
+            Ok(Some((ticket, seen))) => Ok(Turn::Flight(ticket, seen)),
+            Ok(None) if self.keeper.is_flying() => Ok(Turn::Wait),
+            Ok(None) => Ok(Turn::Quiet),
+            Err(refusal) => Err(refusal),
+        }
+    }
+
+    // Ends a flight, and says whether its device has settled.
+    fn finish(&mut self, ticket: &Ticket, report: Report) -> bool
+        requires { ticket.now.device < length J.plan }
+    {
+        match self.keeper.finish(ticket, report) {
+            Ok(reply) => matches!(reply, Reply::Bound | Reply::Failed),
+            Err(_) => false,
+        }
+    }
+}
+
+/// One lock round a keeper of the plan of this name, and a condition that each finish notifies. What holds of the keeper
+/// holds whenever the lock is free; what a call did to it under the lock no clause can say.
+pub struct Manager<J: PlanName> {
+    kept: Mutex<Kept<J>>,
+    finished: Condvar,
+}
+
+impl<J: PlanName> Manager<J> {
+    /// A lock round a keeper of the plan of this name.
+    pub(crate) fn new(keeper: Keeper) -> Self
+        requires named { keeper.plan ≡ J.plan }
+        requires unabandoned { abandons keeper ≡ 0 }
+    {
+        Manager {
+            kept: Mutex::new(Kept::new(keeper)),
+            finished: Condvar::new(),
+        }
+    }
+
+    /// A due device's flight, as soon as there is one. None where there will be none, or memory is refused.
+    pub(crate) fn take<R: Wait>(&self, rt: &R) -> Option<(Ticket, Seen)>
+        ensures { IfSome result (λ t. t.0.device < length J.plan) }
+    {
+        let mut kept = self.kept.lock(rt);
+        for _ in rt.forever() {
+            match kept.turn() {
+                Ok(Turn::Flight(ticket, seen)) => return Some((ticket, seen)),
+                Ok(Turn::Wait) => {}
+                Ok(Turn::Quiet) => return None,
+                Err(_) => return None,
+            }
+            kept = self.finished.wait(rt, kept);
+        }
+        None
+    }
+
+    /// Ends a flight, and says whether its device has settled. Whoever waits looks again.
+    pub(crate) fn finish<R: Wait>(&self, rt: &R, ticket: &Ticket, report: Report) -> bool
+        requires { ticket.now.device < length J.plan }
+    {
+        let is_settled = self.kept.lock(rt).finish(ticket, report);
+        self.finished.notify_all();
+        is_settled
+    }
+}
+
+impl<J: PlanName> Manager<J> {
+    /// The keeper, once no worker has the manager.
+    pub(crate) fn into_keeper(self) -> Keeper
+        ensures named { result.plan ≡ J.plan }
+        ensures unabandoned { abandons result ≡ 0 }
+    {
+        let Manager { kept, finished } = self;
+        drop(finished);
+        let Kept { keeper, of: _ } = kept.into_inner();
+        keeper
+    }
+}

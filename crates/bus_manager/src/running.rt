@@ -1,0 +1,85 @@
+//! A run by many workers.
+
+ghost use Rattle.std.specs.Prelude.{◌≡◌, ◌<◌, ◌⊎◌, ◌↔◌, IfOk, IfErr, Some};
+ghost use Rattle.std.specs.Result.{result_err};
+ghost use Rattle.bus_core.specs.declared.refusal.Refusal.TheVariants.{NoMemory as OutOfMemory};
+ghost use Rattle.bus_manager.specs.Run.{IsRun};
+
+use crate::alone::finish_alone;
+use crate::keeper::Keeper;
+use crate::manager::{Manager, PlanName};
+use crate::notes::{Ran, no_notes, place};
+use crate::prober::Prober;
+use crate::run_error::RunError;
+use crate::worker::gather;
+use bus_core::Refusal;
+use bus_plan::Plan;
+use std::alloc::Global;
+use std::marker::Brand;
+use std::sync::Wait;
+use std::thread::Threads;
+
+/// The most workers of a run.
+pub const MAX_WORKERS: usize = 64;
+
+/// Probes the devices of a plan by so many workers, 1 to 64, until nothing is due. The report is the same for every
+/// interleaving. Memory may run out for a worker: then it leaves, and the others, at last the caller alone, go on.
+pub fn run<P: Prober, R: Threads + Wait + Sync>(
+    rt: &R,
+    alloc: Global,
+    plan: &Plan,
+    prober: &P,
+    workers: usize,
+) -> Result<Ran<P::Note>, RunError>
+    ensures ran { IfOk result (λ ran. IsRun (P.attests prober.now plan.now) plan.now ran.report.items ran.notes.items) }
+    ensures many { (result_err result ≡ Some RunError.TooManyWorkers) ↔ ((workers ≡ 0) ⊎ (MAX_WORKERS < workers)) }
+{
+    if workers == 0 {
+        return Err(RunError::TooManyWorkers);
+    }
+    if workers > MAX_WORKERS {
+        return Err(RunError::TooManyWorkers);
+    }
+    match run_named::<Brand, P, R>(rt, alloc, plan, prober, workers) {
+        Ok(ran) => Ok(ran),
+        Err(refusal) => Err(by_memory(refusal)),
+    }
+}
+
+// A run's keeper refuses nothing else: its begins are far from used up.
+fn by_memory(_refusal: Refusal) -> RunError
+    requires { _refusal ≡ OutOfMemory }
+    ensures { result ≡ RunError.NoMemory }
+{
+    RunError::NoMemory
+}
+
+// A run over the plan of this name.
+fn run_named<J: PlanName + Send + Sync, P: Prober, R: Threads + Wait + Sync>(
+    rt: &R,
+    alloc: Global,
+    plan: &Plan,
+    prober: &P,
+    workers: usize,
+) -> Result<Ran<P::Note>, Refusal>
+    requires { plan.now ≡ J.plan }
+    ensures ran { IfOk result (λ ran. IsRun (P.attests prober.now plan.now) plan.now ran.report.items ran.notes.items) }
+    ensures err { IfErr result (λ refusal. refusal ≡ OutOfMemory) }
+{
+    let copy = match plan.copy(alloc) {
+        Ok(copy) => copy,
+        Err(_) => return Err(Refusal::NoMemory),
+    };
+    let keeper = match Keeper::new(alloc, copy) {
+        Ok(keeper) => keeper,
+        Err(refusal) => return Err(refusal),
+    };
+    let mut notes = match no_notes::<P::Note>(alloc, plan.len()) {
+        Ok(notes) => notes,
+        Err(_) => return Err(Refusal::NoMemory),
+    };
+    let manager = Manager::<J>::new(keeper);
+    let found = gather(rt, alloc, &manager, plan, prober, workers);
+    place(plan, prober, &mut notes, found);
+    finish_alone(alloc, plan, prober, manager.into_keeper(), notes)
+}

@@ -1,0 +1,105 @@
+-- An index as a function of a number and a name.
+use Rattle.std.proofs.Common.{◌≡◌, ◌⊎◌, inl, inr, ℕ, ◌+◌, ◌<◌, Bool, true, false, cond, if◌then◌else◌, ◌==◌, List, [], ◌∷◌, length, slice_index_or, slice_set, Option, Some, None, refl, ap, ap₂, sym, ◌∙◌, Bor, true≢false, nat_lt, arith}
+use Rattle.std.specs.Str.{bytes_eq}
+use Rattle.std.specs.List.{list_any, position}
+use Rattle.std.proofs.lemmas.Bool.{and_parts, and_from, eqb-true, eq-eqb}
+use Rattle.std.proofs.lemmas.List.{get_or-set_same, get_or-set_other, get_or_past}
+use Rattle.std.proofs.lemmas.Slice.Eq.{bytes_eq-Decides}
+use Rattle.dt_draft.specs.declared.index.Place.{Place}
+use Rattle.dt_draft.specs.Index.{is_key, slot_of, absent}
+
+abbrev pub Key : Type 0
+Key = ℕ × Bor (List ℕ)
+
+abbrev pub is_this : ℕ → List ℕ → Key → Bool
+is_this n k key = is_key n k key.0 key.1.now
+
+pub key-parts : (n : ℕ) (k : List ℕ) (m : ℕ) (j : List ℕ) → is_key n k m j ≡ true → (n ≡ m) × (k ≡ j)
+key-parts n k m j e = let parts = and_parts (n == m) (bytes_eq k j) e in (eqb-true n m parts.0, (bytes_eq-Decides k j).0 parts.1)
+
+pub key-same : (n : ℕ) (k : List ℕ) → is_key n k n k ≡ true
+key-same n k = and_from (n == n) (bytes_eq k k) (eq-eqb n n refl) ((bytes_eq-Decides k k).1 refl)
+
+-- two keys are one or two
+pub key-cases : (n : ℕ) (k : List ℕ) (m : ℕ) (j : List ℕ) → ((is_key n k m j ≡ true) × (n ≡ m) × (k ≡ j)) ⊎ (is_key n k m j ≡ false)
+key-cases n k m j = key-by (is_key n k m j) refl where
+  key-by : (b : Bool) → is_key n k m j ≡ b → ((is_key n k m j ≡ true) × (n ≡ m) × (k ≡ j)) ⊎ (is_key n k m j ≡ false)
+  key-by true e = let parts = key-parts n k m j e in inl (e, parts.0, parts.1)
+  key-by false e = inr e
+
+-- one place holds one key
+slot-one : (keys : List Key) (n : ℕ) (k : List ℕ) (m : ℕ) (j : List ℕ) → slot_of keys n k < length keys → slot_of keys m j ≡ slot_of keys n k → (n ≡ m) × (k ≡ j)
+slot-one [] n k m j within same = absurd (omega arith)
+slot-one (x ∷ xs) n k m j within same = at-head (slot-one xs n k m j) (is_this n k x) (is_this m j x) refl refl where
+  at-head : (slot_of xs n k < length xs → slot_of xs m j ≡ slot_of xs n k → (n ≡ m) × (k ≡ j)) → (a b : Bool) → is_this n k x ≡ a → is_this m j x ≡ b → (n ≡ m) × (k ≡ j)
+  at-head rest true true ea eb =
+      let one = key-parts n k x.0 x.1.now ea in
+      let two = key-parts m j x.0 x.1.now eb in
+      (one.0 ∙ sym two.0, one.1 ∙ sym two.1)
+  at-head rest true false ea eb =
+      let h : slot_of (x ∷ xs) n k ≡ 0 = rw ea refl in
+      let i : slot_of (x ∷ xs) m j ≡ 1 + slot_of xs m j = rw eb refl in
+      absurd (omega (arith, h, i, same))
+  at-head rest false true ea eb =
+      let h : slot_of (x ∷ xs) n k ≡ 1 + slot_of xs n k = rw ea refl in
+      let i : slot_of (x ∷ xs) m j ≡ 0 = rw eb refl in
+      absurd (omega (arith, h, i, same))
+  at-head rest false false ea eb =
+      let h : slot_of (x ∷ xs) n k ≡ 1 + slot_of xs n k = rw ea refl in
+      let i : slot_of (x ∷ xs) m j ≡ 1 + slot_of xs m j = rw eb refl in
+      rest (omega (arith, h, within)) (omega (arith, h, i, same))
+
+-- a place that is written is that of one key
+pub written : (keys : List Key) (places : List Place) (n : ℕ) (k : List ℕ) (p : Place) (slot : ℕ) → slot ≡ slot_of keys n k → slot < length places → length places ≡ length keys
+    → (m : ℕ) (j : List ℕ) → slice_index_or (slice_set places slot p) (slot_of keys m j) absent ≡ (if is_key n k m j then p else slice_index_or places (slot_of keys m j) absent)
+written keys places n k p slot at within even m j = elim (key-cases n k m j) [
+  | inl same ↦
+      ap (λ i. slice_index_or (slice_set places slot p) i absent) (ap₂ (λ a b. slot_of keys a b) (sym same.1) (sym same.2) ∙ sym at)
+      ∙ get_or-set_same places slot p absent within
+      ∙ ap (λ b. if b then p else slice_index_or places (slot_of keys m j) absent) (sym same.0)
+  | inr other ↦
+      get_or-set_other places slot (slot_of keys m j) p absent
+      (λ e. true≢false (sym (let one = slot-one keys n k m j (omega (arith, at, within, even)) (e ∙ at) in ap₂ (λ a b. is_key n k a b) (sym one.0) (sym one.1) ∙ key-same n k) ∙ other))
+      ∙ ap (λ b. if b then p else slice_index_or places (slot_of keys m j) absent) (sym other)
+]
+
+-- a key that wasn't met has no place
+unmet-slot : (keys : List Key) (n : ℕ) (k : List ℕ) → list_any (is_this n k) keys ≡ false → slot_of keys n k ≡ length keys
+unmet-slot [] n k e = refl
+unmet-slot (x ∷ xs) n k e = at-head (unmet-slot xs n k) (is_this n k x) refl e where
+  at-head : (list_any (is_this n k) xs ≡ false → slot_of xs n k ≡ length xs) → (a : Bool) → is_this n k x ≡ a → list_any (is_this n k) (x ∷ xs) ≡ false
+      → slot_of (x ∷ xs) n k ≡ length (x ∷ xs)
+  at-head rest true ea e' = absurd (true≢false (rw ea at e'))
+  at-head rest false ea e' =
+      let none : list_any (is_this n k) xs ≡ false = rw ea at e' in
+      let h : slot_of (x ∷ xs) n k ≡ 1 + slot_of xs n k = rw ea refl in
+      omega (arith, h, rest none)
+
+pub unmet : (keys : List Key) (places : List Place) (n : ℕ) (k : List ℕ) → list_any (is_this n k) keys ≡ false → length places ≡ length keys
+    → slice_index_or places (slot_of keys n k) absent ≡ absent
+unmet keys places n k e even = get_or_past places (slot_of keys n k) absent (omega (arith, unmet-slot keys n k e, even))
+
+pub row-either : (b : Bool) (p q : Place) → (if b then p else q).row ≡ (if b then p.row else q.row)
+row-either true p q = refl
+row-either false p q = refl
+
+pub body-either : (b : Bool) (p q : Place) → (if b then p else q).body ≡ (if b then p.body else q.body)
+body-either true p q = refl
+body-either false p q = refl
+
+-- one number or the other is the same where both are
+pub body-same : (b : Bool) (x y : ℕ) → (b ≡ true → x ≡ y) → (if b then x else y) ≡ y
+body-same true x y e = e refl
+body-same false x y e = refl
+
+-- nothing changes where a key that has no row is forgotten
+pub row-none : (b : Bool) (o : Option ℕ) → (b ≡ true → o ≡ None) → o ≡ (if b then None else o)
+row-none true o e = e refl
+row-none false o e = refl
+
+-- what a set found is the key's place
+pub found-slot : (keys : List Key) (n : ℕ) (k : List ℕ) (i : ℕ) → Some i ≡ position (is_this n k) keys → i ≡ slot_of keys n k
+found-slot keys n k i e = at-test (nat_lt (slot_of keys n k) (length keys)) e where
+  at-test : (b : Bool) → Some i ≡ cond b (Some (slot_of keys n k)) None → i ≡ slot_of keys n k
+  at-test true e' = cc
+  at-test false e' = absurd (cc)

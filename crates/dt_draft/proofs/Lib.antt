@@ -1,0 +1,11 @@
+pub mod Climbs
+pub mod Empty
+pub mod Keeping
+pub mod Keys
+pub mod LabelRows
+pub mod NodeRows
+pub mod PathTests
+pub mod PropertyRows
+pub mod Shown
+pub mod Tables
+pub mod Worn

@@ -1,0 +1,11 @@
+pub mod Edits
+pub mod Fixups
+pub mod MapOf
+pub mod Names
+pub mod Paths
+pub mod Phandles
+pub mod References
+pub mod Resolved
+pub mod Rows
+pub mod Statements
+pub mod Syntax

@@ -1,0 +1,40 @@
+-- What a source says (Devicetree Specification v0.4, section 6.3): V is what stands for the value of a property.
+use Rattle.std.specs.Prelude.{ℕ, Bool, List, [], ◌∷◌}
+
+-- what a reference names: a label, or the text of a path
+pub data Target : Type 0 where
+  OfLabel : (label : List ℕ) → Target
+  OfPath : (path : List ℕ) → Target
+
+-- a part of a value: bytes, a reference in cells, or one outside
+pub data Piece : Type 0 where
+  Plain : (bytes : List ℕ) → Piece
+  PhandleOf : (target : Target) → Piece
+  PathOf : (target : Target) → Piece
+
+-- a statement of a body, and a body
+mutual
+  pub data Entry (V : Type 0) : Type 0 where
+    Defines : (name : List ℕ) (value : V) → Entry V
+    Undefines : (name : List ℕ) → Entry V
+    Child : (labels : List (List ℕ)) (name : List ℕ) (body : Body V) → Entry V
+    Removes : (name : List ℕ) → Entry V
+
+  pub data Body (V : Type 0) : Type 0 where
+    Done : Body V
+    Then : (first : Entry V) (others : Body V) → Body V
+
+abbrev pub body_of : {V : Type 0} → List (Entry V) → Body V
+body_of [] = Done
+body_of (e ∷ es) = Then e (body_of es)
+
+-- an item of a source
+pub data Edit : Type 0 where
+  Rooted : (body : Body (List Piece)) → Edit
+  Extends : (labels : List (List ℕ)) (target : Target) (body : Body (List Piece)) → Edit
+  Deletes : (target : Target) → Edit
+
+pub record Meaning : Type 0 where
+  pub plugin : Bool
+  pub reserves : List (ℕ × ℕ)
+  pub items : List Edit

@@ -1,0 +1,8 @@
+//! What a source means: the definitions of the edits, of phandles, symbols and fixups, and of the resolved tree.
+//!
+//! The definitions stand in `specs/` and follow the Devicetree Specification v0.4, chapter 6, and dtc's dt-object-internal.
+#![tactic(auto)]
+
+mod rows;
+
+pub use rows::worked_rows;

@@ -1,2 +1,0 @@
-mod board;
-mod parsing;

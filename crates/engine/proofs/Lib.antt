@@ -1,0 +1,2 @@
+mod ChannelLemmas
+mod DumpLemmas

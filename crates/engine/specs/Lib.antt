@@ -1,0 +1,4 @@
+pub mod Dump
+pub mod Fault
+pub mod Replay
+pub mod Transfer

@@ -1,0 +1,144 @@
+//! A refusal as the program prints it.
+ghost use Rattle.std.specs.Prelude.{◌≡◌};
+ghost use Rattle.engine.specs.Fault.{shown, no_memory, cannot_read, cannot_write, file_too_long, text_fault, event_fault, blob_fault};
+
+use bus_core::Refusal;
+use bus_plan::PlanError;
+use dt_blob::BlobError;
+use std::alloc::AllocError;
+use std::fmt;
+
+/// Where a fault was found.
+#[derive(Clone, Copy, Debug, PartialEq, Eq)]
+pub enum Place {
+    Nowhere,
+    /// A line of a text file, from 1.
+    Line(usize),
+    /// An event of a schedule, from 1.
+    Event(usize),
+}
+
+/// The number, name and place of a refusal. Numbers and names are those of the crate that refused.
+#[derive(Clone, Copy, Debug)]
+pub struct Fault {
+    pub number: u8,
+    pub name: &'static str,
+    pub place: Place,
+}
+
+impl Fault {
+    /// A growth was refused.
+    pub fn no_memory() -> Fault
+        ensures { shown result ≡ no_memory }
+    {
+        Fault {
+            number: 0,
+            name: "NoMemory",
+            place: Place::Nowhere,
+        }
+    }
+
+    /// A file can't be read.
+    pub fn cannot_read() -> Fault
+        ensures { shown result ≡ cannot_read }
+    {
+        Fault {
+            number: 80,
+            name: "CannotRead",
+            place: Place::Nowhere,
+        }
+    }
+
+    /// A file can't be written.
+    pub fn cannot_write() -> Fault
+        ensures { shown result ≡ cannot_write }
+    {
+        Fault {
+            number: 81,
+            name: "CannotWrite",
+            place: Place::Nowhere,
+        }
+    }
+
+    /// A text file of the bus has more bytes than are read.
+    pub fn file_too_long() -> Fault
+        ensures { shown result ≡ file_too_long }
+    {
+        Fault {
+            number: 82,
+            name: "FileTooLong",
+            place: Place::Nowhere,
+        }
+    }
+}
+
+impl From<AllocError> for Fault {
+    ghost from_gives = { λ _ fault. shown fault ≡ no_memory };
+
+    fn from(_error: AllocError) -> Fault {
+        Fault::no_memory()
+    }
+}
+
+impl From<PlanError> for Fault {
+    ghost from_gives = { λ error fault. shown fault ≡ text_fault error };
+
+    fn from(error: PlanError) -> Fault {
+        Fault {
+            number: error.number(),
+            name: error.name(),
+            place: match error.line() {
+                Some(line) => Place::Line(line),
+                None => Place::Nowhere,
+            },
+        }
+    }
+}
+
+impl From<BlobError> for Fault {
+    ghost from_gives = { λ error fault. shown fault ≡ blob_fault error };
+
+    fn from(error: BlobError) -> Fault {
+        Fault {
+            number: error.number(),
+            name: error.name(),
+            place: Place::Nowhere,
+        }
+    }
+}
+
+/// The refusal of the event with this number. Want of memory is no event's.
+impl From<(usize, Refusal)> for Fault {
+    ghost from_gives = { λ refused fault. shown fault ≡ event_fault refused.0 refused.1 };
+
+    fn from((number, refusal): (usize, Refusal)) -> Fault {
+        Fault {
+            number: refusal.number(),
+            name: refusal.name(),
+            place: match refusal {
+                Refusal::NoMemory => Place::Nowhere,
+                _ => Place::Event(number),
+            },
+        }
+    }
+}
+
+impl fmt::Display for Fault {
+    ghost use Rattle.std.specs.Prelude.{Some};
+    ghost use Rattle.engine.specs.Fault.{fault_line};
+
+    ghost output = { λ fault. Some (fault_line fault) };
+
+    fn fmt<W: fmt::Write>(&self, f: &mut fmt::Formatter<W>) -> fmt::Result {
+        let Fault {
+            number,
+            name,
+            place,
+        } = *self;
+        match place {
+            Place::Nowhere => write!(f, "error {number} {name}"),
+            Place::Line(line) => write!(f, "error {number} {name} line {line}"),
+            Place::Event(event) => write!(f, "error {number} {name} event {event}"),
+        }
+    }
+}

@@ -1,0 +1,18 @@
+//! The engines: each from the bytes of files to the bytes of an answer, or to the first fault.
+#![tactic(auto)]
+
+mod channel;
+mod dump;
+mod fault;
+mod memory;
+mod replay;
+mod streams;
+mod transfer;
+
+pub use channel::{Channel, Failed};
+pub use dump::dump_bytes;
+pub use fault::{Fault, Place};
+pub use memory::Memory;
+pub use replay::replay_bytes;
+pub use streams::{FileChannel, OutputChannel};
+pub use transfer::{WriteFault, read_all, read_within, write_out};
