@@ -4,15 +4,21 @@
 
 use dt_blob::{BlobError, read, write};
 use std::alloc::Global;
+use std::hash::RandomState;
 use std::{env, fs, io};
 
 /// The size of a blob's tree as `write` makes it, or 0 where nothing is to be written.
-fn written_size(alloc: Global, blob: &[u8], writes: bool) -> Result<usize, BlobError> {
+fn written_size(
+    alloc: Global,
+    hasher: RandomState,
+    blob: &[u8],
+    writes: bool,
+) -> Result<usize, BlobError> {
     let tree = read(alloc, blob)?;
     if !writes {
         return Ok(0);
     }
-    Ok(write(alloc, &tree)?.len())
+    Ok(write(alloc, hasher, &tree)?.len())
 }
 
 fn main(rt: HostRuntime) -> io::Result<()> {
@@ -22,7 +28,8 @@ fn main(rt: HostRuntime) -> io::Result<()> {
     };
     let writes = words.get(2).is_none();
     let blob = fs::read(&rt, path.as_str())?;
-    match written_size(rt.alloc(), blob.as_slice(), writes) {
+    let hasher = RandomState::new(&rt)?;
+    match written_size(rt.alloc(), hasher, blob.as_slice(), writes) {
         Ok(size) => println!(rt; "bytes {size}"),
         Err(e) => println!(rt; "error {} {}", e.number(), e.name()),
     }

@@ -90,7 +90,13 @@ fn changed_blob(rt: HostRuntime) -> Result<(), Fail> {
     for bytes in [&nop, &all_nops, &strings_behind, &longer, &gap] {
         assert!(rt; is_one_cell(alloc, hasher, bytes.as_slice())?);
     }
-    assert!(rt; is_one_cell(alloc, hasher, changed(alloc, ONE_CELL, 0x14, 18)?.as_slice())?);
+    assert!(rt;
+        is_one_cell(
+            alloc,
+            hasher,
+            changed(alloc, ONE_CELL, 0x14, 18)?.as_slice()
+        )?
+    );
     Ok(())
 }
 
@@ -231,8 +237,18 @@ fn cut_padding(rt: HostRuntime) -> Result<(), Fail> {
     let rows: [(&str, &[u32], u32, Option<u8>); 4] = [
         ("all of it", &[1, 0, 2, 9], 16, None),
         ("of a node's name", &[1, 0, 2, 9], 6, Some(34)),
-        ("of a node's name, without its zero byte", &[1, 0x6e6e_6e6e, 2, 9], 6, Some(35)),
-        ("of a value", &[1, 0, 3, 1, 0, 0x6100_0000, 2, 9], 21, Some(34)),
+        (
+            "of a node's name, without its zero byte",
+            &[1, 0x6e6e_6e6e, 2, 9],
+            6,
+            Some(35),
+        ),
+        (
+            "of a value",
+            &[1, 0, 3, 1, 0, 0x6100_0000, 2, 9],
+            21,
+            Some(34),
+        ),
     ];
     for (name, structure, size, answer) in rows {
         let bytes = blob(alloc, structure, b"a\0")?;
@@ -247,11 +263,19 @@ fn unlawful_property_names(rt: HostRuntime) -> Result<(), Fail> {
     let alloc = rt.alloc();
     let rows: [(&str, &[u32], u8); 2] = [
         ("in a node", &[1, 0, 3, 0, 0, 2, 9], 37),
-        ("behind a child", &[1, 0, 1, 0x6e00_0000, 2, 3, 0, 0, 2, 9], 36),
+        (
+            "behind a child",
+            &[1, 0, 1, 0x6e00_0000, 2, 3, 0, 0, 2, 9],
+            36,
+        ),
     ];
     for (name, structure, number) in rows {
         let bytes = blob(alloc, structure, b"/\0")?;
-        assert_eq!(rt; refusal(read(alloc, bytes.as_slice())), Some(number), "{name}");
+        assert_eq!(rt;
+            refusal(read(alloc, bytes.as_slice())),
+            Some(number),
+            "{name}"
+        );
     }
     Ok(())
 }
@@ -349,7 +373,12 @@ fn value_forms(rt: HostRuntime) -> Result<(), Fail> {
 fn tails_of_names(rt: HostRuntime) -> Result<(), Fail> {
     let alloc = rt.alloc();
     let hasher = RandomState::new(&rt)?;
-    let properties: [(&[u8], &[u8]); 4] = [(b"reg", b""), (b"xreg", b""), (b"g", b""), (b"eg", b"")];
+    let properties: [(&[u8], &[u8]); 4] = [
+        (b"reg", b""),
+        (b"xreg", b""),
+        (b"g", b""),
+        (b"eg", b""),
+    ];
     let tree = tree(alloc, &[], &properties)?;
     let wanted = blob(
         alloc,

@@ -271,7 +271,11 @@ fn parts(rt: HostRuntime) -> Result<(), Fail> {
     assert!(rt; reserves.as_slice() == [(4096, 16), (0, 1)].as_slice() && boot_cpu == 3);
     let (name, properties, children) = root.into_parts();
     assert!(rt; name.is_none() && properties.is_empty() && children.len() == 3);
-    let bare = Node::from_distinct(Some(Name::new(alloc, b"bare")?), properties, Vec::new(alloc));
+    let bare = Node::from_distinct(
+        Some(Name::new(alloc, b"bare")?),
+        properties,
+        Vec::new(alloc),
+    );
     assert!(rt; bare.name_bytes() == b"bare".as_slice() && bare.height() == 0);
     Ok(())
 }
