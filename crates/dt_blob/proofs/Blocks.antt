@@ -6,9 +6,10 @@ use Rattle.dt_blob.specs.declared.error.BlobError.{BlobError}
 use Rattle.dt_blob.specs.BigEndian.{double_word}
 use Rattle.dt_blob.specs.Blob.{header, reservations, names_in, structure_from, blob_of}
 use Rattle.dt_blob.specs.Strings.{with_names}
-use Rattle.dt_blob.specs.Table.{placed, with_sights}
+use Rattle.dt_blob.specs.Steps.Table.{placed, with_sights}
 use Rattle.dt_blob.specs.Token.{tokens_of, tree_tokens}
-use Rattle.dt_blob.specs.Written.{all_bytes, tokens_size, Refuses}
+use Rattle.dt_blob.specs.Steps.Written.{all_bytes, tokens_size}
+use Rattle.dt_blob.specs.Blob.{Refuses}
 use Rattle.dt_blob.proofs.Lasting.{structure-is, strings-are}
 use Rattle.dt_blob.proofs.Sizes.{length-word, length-double_word, length-all}
 use Rattle.dt_blob.proofs.Walk.{tree-names, clean-tree}

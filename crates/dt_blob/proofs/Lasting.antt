@@ -13,9 +13,9 @@ use Rattle.std.specs.List.{AllByRecursion}
 use Rattle.std.proofs.lemmas.Slice.Eq.{bytes_eq-Decides}
 use Rattle.dt_blob.specs.Blob.{limit, names_in, structure_from}
 use Rattle.dt_blob.specs.Strings.{lowest_place, ended, offset_in, with_name, with_names}
-use Rattle.dt_blob.specs.Table.{is_noted, with_sight, with_sights, is_clean, AreNames, ArePlaced, IsClosed, tail_at, placed}
+use Rattle.dt_blob.specs.Steps.Table.{is_noted, with_sight, with_sights, is_clean, AreNames, ArePlaced, IsClosed, tail_at, placed}
 use Rattle.dt_blob.specs.Token.{Token, begin_node, end_node, property, nop, end}
-use Rattle.dt_blob.specs.Written.{bytes_by, all_bytes}
+use Rattle.dt_blob.specs.Steps.Written.{bytes_by, all_bytes}
 use Rattle.dt_blob.proofs.Places.{new-place, old-place}
 use Rattle.dt_blob.proofs.Sizes.{with_names-grow}
 use Rattle.dt_blob.proofs.Tables.{clean-some, clean-free, place-below, position-None}

@@ -6,7 +6,7 @@ use Rattle.dt_blob.specs.BigEndian.{word, double_word}
 use Rattle.dt_blob.specs.Blob.{padding}
 use Rattle.dt_blob.specs.Strings.{lowest_place, ended, with_name, with_names}
 use Rattle.dt_blob.specs.Token.{Token, begin_node, end_node, property, nop, end}
-use Rattle.dt_blob.specs.Written.{bytes_by, all_bytes, token_size, tokens_size}
+use Rattle.dt_blob.specs.Steps.Written.{bytes_by, all_bytes, token_size, tokens_size}
 
 pub length-word : (x : ℕ) → length (word x) ≡ 4
 unfolding word

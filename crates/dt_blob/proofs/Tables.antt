@@ -19,7 +19,7 @@ use Rattle.indexmap.specs.IndexSet.{insert_key}
 use Rattle.dt_tree.specs.Name.{is_name, is_name_byte}
 use Rattle.dt_blob.specs.Blob.{limit}
 use Rattle.dt_blob.specs.Strings.{begins, lowest_place, ended, with_name}
-use Rattle.dt_blob.specs.Table.{is_noted, with_sight, no_zero, is_clean, AreNames, IsClosed, IsTable, IsPlacedBehind, Pending, tail_at}
+use Rattle.dt_blob.specs.Steps.Table.{is_noted, with_sight, no_zero, is_clean, AreNames, IsClosed, IsTable, IsPlacedBehind, Pending, tail_at}
 use Rattle.dt_blob.proofs.Places.{place-in_none, new-place, old-place}
 use Rattle.dt_blob.proofs.Tails.{and-first, and-second, place-added}
 

@@ -5,7 +5,7 @@ use Rattle.std.specs.Option.{option_map, option_or}
 use Rattle.std.specs.Str.{bytes_eq}
 use Rattle.std.proofs.lemmas.Bool.{ne_eqb, eqb-true, eqb-false}
 use Rattle.dt_blob.specs.Strings.{begins, lowest_place, ended}
-use Rattle.dt_blob.specs.Table.{no_zero, IsClosed, tail_at}
+use Rattle.dt_blob.specs.Steps.Table.{no_zero, IsClosed, tail_at}
 use Rattle.dt_blob.proofs.Places.{place-in_none}
 
 pub and-first : (a b : Bool) → (a && b) ≡ true → a ≡ true

@@ -6,13 +6,13 @@ use Rattle.dt_tree.specs.Sound.{IsSound, IsSoundBelow}
 use Rattle.dt_tree.specs.declared.property.Property.{Property}
 use Rattle.dt_blob.specs.BigEndian.{word}
 use Rattle.dt_blob.specs.Blob.{names_in, padding}
-use Rattle.dt_blob.specs.Table.{is_clean, with_sight, with_sights}
+use Rattle.dt_blob.specs.Steps.Table.{is_clean, with_sight, with_sights}
 use Rattle.dt_blob.specs.Token.{Token, begin_node, end_node, property, nop, end, property_tokens, sibling_tokens, tokens_of, tree_tokens}
 use Rattle.std.specs.List.{list_all}
 use Rattle.std.proofs.lemmas.List.Folds.{list_all-append}
 use Rattle.dt_blob.proofs.Tables.{name-clean}
 use Rattle.dt_blob.proofs.Tails.{and-first, and-second}
-use Rattle.dt_blob.specs.Written.{bytes_by, all_bytes, token_size, tokens_size}
+use Rattle.dt_blob.specs.Steps.Written.{bytes_by, all_bytes, token_size, tokens_size}
 
 -- what is left begins with the item at hand
 pub left-item : {A : Type 0} (xs : List A) (i : ℕ) (x : A) → i < length xs → x ≡ get_or xs i x → drop i xs ≡ x ∷ drop (i + 1) xs

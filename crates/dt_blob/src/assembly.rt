@@ -1,7 +1,7 @@
 ghost use Rattle.std.specs.Prelude.{◌≡◌, ◌≤◌, length, IfOk, MatchResult};
 ghost use Rattle.dt_blob.specs.Blob.{limit, blob_of};
 ghost use Rattle.dt_blob.specs.Holds.{Holds};
-ghost use Rattle.dt_blob.specs.Written.{Refuses};
+ghost use Rattle.dt_blob.specs.Blob.{Refuses};
 
 use crate::error::BlobError;
 use crate::header::{HEADER_SIZE, Sizes, put_header, put_reservations};

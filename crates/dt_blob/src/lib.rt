@@ -6,6 +6,7 @@ mod bytes;
 mod error;
 mod header;
 mod names;
+mod parts;
 mod printing;
 mod read_blob;
 mod read_header;

@@ -3,7 +3,7 @@ ghost use Rattle.std.specs.Prelude.{◌≡◌, ◌<◌, [], slice_get, length, p
 ghost use Rattle.std.specs.Str.{bytes_eq};
 ghost use Rattle.dt_tree.specs.NodeData.{property_names};
 ghost use Rattle.dt_blob.specs.Blob.{names_in};
-ghost use Rattle.dt_blob.specs.Table.{AreNames, with_sight, with_sights};
+ghost use Rattle.dt_blob.specs.Steps.Table.{AreNames, with_sight, with_sights};
 ghost use Rattle.dt_blob.specs.Token.{tokens_of};
 
 use dt_tree::{Name, Node, Property};
@@ -20,7 +20,7 @@ pub(crate) struct Names<'a> {
 
 impl<'a> Model for Names<'a> {
     ghost use Rattle.std.specs.Prelude.{List, ℕ, map};
-    ghost use Rattle.dt_blob.specs.Table.{AreNames};
+    ghost use Rattle.dt_blob.specs.Steps.Table.{AreNames};
 
     ghost Value = { List (List ℕ) };
 

@@ -3,7 +3,7 @@ ghost use Rattle.std.specs.Prelude.{◌≡◌, ◌≤◌, ◌^◌, ◌+◌, leng
 ghost use Rattle.dt_blob.specs.HeaderWords.{word_at, header_of, is_laid_out, fault_in, header_fault};
 
 use crate::error::BlobError;
-use crate::read_token::{behind, word};
+use crate::parts::{behind, word};
 use crate::room::MAX_SIZE;
 
 /// The ten words of the header.

@@ -2,7 +2,7 @@
 ghost use Rattle.std.specs.Prelude.{◌≡◌, ◌+◌, ◌*◌, ◌<◌, ◌≤◌, length, MatchResult};
 ghost use Rattle.dt_blob.specs.Blob.{limit};
 ghost use Rattle.dt_blob.specs.Token.{property_tokens, tokens_of, tree_tokens};
-ghost use Rattle.dt_blob.specs.Written.{tokens_size};
+ghost use Rattle.dt_blob.specs.Steps.Written.{tokens_size};
 
 use crate::bytes::padding_len;
 use crate::error::BlobError;

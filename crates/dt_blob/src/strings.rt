@@ -2,9 +2,9 @@
 ghost use Rattle.std.specs.Prelude.{◌≡◌, ℕ, List, ◌+◌, ◌≤◌, ◌<◌, ◌++◌, [], true, Option, None, slice_index_or, length, take, drop, IfOk, OnOk, MatchResult};
 ghost use Rattle.dt_blob.specs.Blob.{limit, names_in};
 ghost use Rattle.dt_blob.specs.Strings.{ended, with_name, with_names};
-ghost use Rattle.dt_blob.specs.Table.{IsPlacedBehind, IsTable, IsClosed, Pending, no_zero, placed, with_sights};
+ghost use Rattle.dt_blob.specs.Steps.Table.{IsPlacedBehind, IsTable, IsClosed, Pending, no_zero, placed, with_sights};
 ghost use Rattle.dt_blob.specs.Token.{tokens_of};
-ghost use Rattle.dt_blob.specs.Written.{Refuses};
+ghost use Rattle.dt_blob.specs.Blob.{Refuses};
 
 use crate::bytes::put_ended;
 use crate::error::BlobError;
@@ -85,7 +85,7 @@ pub(crate) struct Strings<'a> {
 
 impl<'a> Model for Strings<'a> {
     ghost use Rattle.std.specs.Prelude.{List, ℕ};
-    ghost use Rattle.dt_blob.specs.Table.{ArePlaced};
+    ghost use Rattle.dt_blob.specs.Steps.Table.{ArePlaced};
 
     ghost Value = { List (List ℕ) };
 

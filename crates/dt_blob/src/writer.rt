@@ -2,9 +2,9 @@
 ghost use Rattle.std.specs.Prelude.{◌≡◌, ◌+◌, ◌≤◌, ◌++◌, ◌∷◌, length, OnOk};
 ghost use Rattle.dt_blob.specs.BigEndian.{word};
 ghost use Rattle.dt_blob.specs.Blob.{limit, padding};
-ghost use Rattle.dt_blob.specs.Table.{placed};
+ghost use Rattle.dt_blob.specs.Steps.Table.{placed};
 ghost use Rattle.dt_blob.specs.Token.{begin_node, property_tokens, tokens_of, tree_tokens};
-ghost use Rattle.dt_blob.specs.Written.{all_bytes, bytes_by, tokens_size};
+ghost use Rattle.dt_blob.specs.Steps.Written.{all_bytes, bytes_by, tokens_size};
 
 use crate::bytes::{put_ended, put_padding, put_word};
 use crate::strings::Strings;

@@ -2,9 +2,9 @@ use Rattle.std.proofs.Common.{◌≡◌, ◌≤◌, ◌-◌, ◌++◌, ℕ, List
 use Rattle.dt_blob.specs.Blob.{limit, header, reservations, names_in, blob_of}
 use Rattle.dt_blob.specs.Holds.{Holds}
 use Rattle.dt_blob.specs.Strings.{with_names}
-use Rattle.dt_blob.specs.Table.{placed, with_sights}
+use Rattle.dt_blob.specs.Steps.Table.{placed, with_sights}
 use Rattle.dt_blob.specs.Token.{tokens_of, tree_tokens}
-use Rattle.dt_blob.specs.Written.{all_bytes, tokens_size}
+use Rattle.dt_blob.specs.Steps.Written.{all_bytes, tokens_size}
 use Rattle.dt_blob.proofs.Blocks.{blob-size, blob-is, no-room}
 use Rattle.dt_blob.proofs.HeldBlob.{blob_holds}
 use Rattle.dt_blob.proofs.assembly.write.Goals as goal

@@ -1,7 +1,7 @@
 use Rattle.std.proofs.Common.{length, ap, arith}
 use Rattle.std.proofs.lemmas.Result.{err_from_is_err_and}
 use Rattle.dt_blob.specs.Token.{property_tokens, sibling_tokens}
-use Rattle.dt_blob.specs.Written.{tokens_size}
+use Rattle.dt_blob.specs.Steps.Written.{tokens_size}
 use Rattle.dt_blob.proofs.Walk.{size-node, size-child}
 use Rattle.dt_blob.proofs.sizing.+add_node.Goals as goal
 

@@ -2,7 +2,7 @@ use Rattle.std.proofs.Common.{◌≡◌, ◌+◌, ◌≤◌, drop}
 use Rattle.dt_tree.specs.NodeData.{siblings}
 use Rattle.dt_blob.specs.Blob.{limit}
 use Rattle.dt_blob.specs.Token.{sibling_tokens, tokens_of}
-use Rattle.dt_blob.specs.Written.{tokens_size}
+use Rattle.dt_blob.specs.Steps.Written.{tokens_size}
 use Rattle.dt_blob.proofs.sizing.+add_node.Given as goal
 
 abbrev pub invariant-loop-child : goal.invariant-loop-child

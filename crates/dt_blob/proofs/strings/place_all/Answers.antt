@@ -1,7 +1,7 @@
 use Rattle.std.proofs.Common.{◌+◌, [], length, take, ap, refl, sym, subst, arith}
 use Rattle.std.proofs.lemmas.Result.{err_from_is_err_and}
 use Rattle.dt_blob.specs.Strings.{with_names}
-use Rattle.dt_blob.specs.Table.{IsPlacedBehind}
+use Rattle.dt_blob.specs.Steps.Table.{IsPlacedBehind}
 use Rattle.dt_blob.proofs.Lasting.{closed-names, next-names, part-fits}
 use Rattle.dt_blob.proofs.Tables.{table-empty}
 use Rattle.dt_blob.proofs.strings.place_all.Goals as goal

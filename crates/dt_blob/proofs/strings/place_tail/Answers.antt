@@ -1,5 +1,5 @@
 use Rattle.std.proofs.Common.{◌+◌, None, drop, set, sym, ◌∙◌, subst}
-use Rattle.dt_blob.specs.Table.{Pending}
+use Rattle.dt_blob.specs.Steps.Table.{Pending}
 use Rattle.dt_blob.proofs.Tables.{tail-other_step, tail-named_step}
 use Rattle.dt_blob.proofs.strings.place_tail.Goals as goal
 

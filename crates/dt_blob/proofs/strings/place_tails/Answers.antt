@@ -1,7 +1,7 @@
 use Rattle.std.proofs.Common.{◌≡◌, ◌+◌, ◌++◌, drop, ap, sym, ◌∙◌, subst, arith}
 use Rattle.std.proofs.lemmas.List.{drop_all, drop_more}
 use Rattle.dt_blob.specs.Strings.{ended}
-use Rattle.dt_blob.specs.Table.{Pending}
+use Rattle.dt_blob.specs.Steps.Table.{Pending}
 use Rattle.dt_blob.proofs.Places.{tail-range}
 use Rattle.dt_blob.proofs.Tables.{pending-first, pending-last}
 use Rattle.dt_blob.proofs.strings.place_tails.Goals as goal

@@ -1,6 +1,6 @@
 use Rattle.std.proofs.Common.{◌≡◌, ◌+◌, ◌++◌, true, List, ℕ, drop, length}
 use Rattle.dt_blob.specs.Strings.{ended}
-use Rattle.dt_blob.specs.Table.{IsTable, IsClosed, Pending, no_zero}
+use Rattle.dt_blob.specs.Steps.Table.{IsTable, IsClosed, Pending, no_zero}
 use Rattle.dt_blob.proofs.strings.place_tails.Given as goal
 
 abbrev pub invariant-loop-skipped : goal.invariant-loop-skipped

@@ -1,8 +1,8 @@
 use Rattle.std.proofs.Common.{rules, ap, arith}
 use Rattle.dt_tree.specs.NodeData.{siblings}
-use Rattle.dt_blob.specs.Table.{placed}
+use Rattle.dt_blob.specs.Steps.Table.{placed}
 use Rattle.dt_blob.specs.Token.{property_tokens, sibling_tokens}
-use Rattle.dt_blob.specs.Written.{tokens_size}
+use Rattle.dt_blob.specs.Steps.Written.{tokens_size}
 use Rattle.dt_blob.proofs.Walk.{size-node, size-child, begun-node, next-node}
 use Rattle.dt_blob.proofs.writer.+put_node.Goals as goal
 

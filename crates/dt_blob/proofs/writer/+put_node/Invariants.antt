@@ -2,9 +2,9 @@ use Rattle.std.proofs.Common.{◌≡◌, ◌≤◌, ◌++◌, drop}
 use Rattle.dt_tree.specs.NodeData.{siblings}
 use Rattle.dt_blob.specs.BigEndian.{word}
 use Rattle.dt_blob.specs.Blob.{limit}
-use Rattle.dt_blob.specs.Table.{placed}
+use Rattle.dt_blob.specs.Steps.Table.{placed}
 use Rattle.dt_blob.specs.Token.{sibling_tokens, tokens_of}
-use Rattle.dt_blob.specs.Written.{all_bytes, tokens_size}
+use Rattle.dt_blob.specs.Steps.Written.{all_bytes, tokens_size}
 use Rattle.dt_blob.proofs.writer.+put_node.Given as goal
 
 abbrev pub invariant-loop-child : goal.invariant-loop-child

@@ -1,8 +1,8 @@
 use Rattle.std.proofs.Common.{◌≡◌, ◌≤◌, ◌++◌, drop}
 use Rattle.dt_blob.specs.Blob.{limit}
-use Rattle.dt_blob.specs.Table.{placed}
+use Rattle.dt_blob.specs.Steps.Table.{placed}
 use Rattle.dt_blob.specs.Token.{property_tokens}
-use Rattle.dt_blob.specs.Written.{all_bytes, tokens_size}
+use Rattle.dt_blob.specs.Steps.Written.{all_bytes, tokens_size}
 use Rattle.dt_blob.proofs.writer.put_properties.Given as goal
 
 abbrev pub invariant-loop-property : goal.invariant-loop-property

@@ -1,6 +1,6 @@
 use Rattle.std.proofs.Common.{arith}
 use Rattle.std.proofs.lemmas.Result.{IfOk-equal}
-use Rattle.dt_blob.specs.Table.{placed}
+use Rattle.dt_blob.specs.Steps.Table.{placed}
 use Rattle.dt_blob.specs.Token.{tokens_of}
 use Rattle.dt_blob.proofs.Walk.{size-end, ended-tree}
 use Rattle.dt_blob.proofs.writer.put_structure.Goals as goal

@@ -1,7 +1,7 @@
 use Rattle.std.proofs.Common.{◌+◌, drop, ap, sym, ◌∙◌}
 use Rattle.dt_tree.specs.NodeData.{siblings, property_names}
 use Rattle.dt_blob.specs.Blob.{names_in}
-use Rattle.dt_blob.specs.Table.{with_sights}
+use Rattle.dt_blob.specs.Steps.Table.{with_sights}
 use Rattle.dt_blob.specs.Token.{sibling_tokens}
 use Rattle.dt_blob.proofs.Walk.{sights-node, sights-child}
 use Rattle.dt_blob.proofs.names.Names.+note_node.Goals as goal

@@ -1,7 +1,7 @@
 use Rattle.std.proofs.Common.{◌≡◌, drop}
 use Rattle.dt_tree.specs.NodeData.{siblings}
 use Rattle.dt_blob.specs.Blob.{names_in}
-use Rattle.dt_blob.specs.Table.{with_sights}
+use Rattle.dt_blob.specs.Steps.Table.{with_sights}
 use Rattle.dt_blob.specs.Token.{sibling_tokens, tokens_of}
 use Rattle.dt_blob.proofs.names.Names.+note_node.Given as goal
 

@@ -1,6 +1,6 @@
 use Rattle.std.proofs.Common.{List, ℕ, ap, subst, sym, ◌∙◌}
 use Rattle.std.specs.Prelude.{map}
-use Rattle.dt_blob.specs.Table.{AreNames, with_sight}
+use Rattle.dt_blob.specs.Steps.Table.{AreNames, with_sight}
 use Rattle.dt_blob.proofs.Tables.{sight-insert_key, names-sight}
 use Rattle.dt_blob.proofs.names.Names.note.Goals as goal
 

@@ -1,6 +1,6 @@
 use Rattle.std.proofs.Common.{◌≡◌, drop}
 use Rattle.dt_tree.specs.NodeData.{property_names}
-use Rattle.dt_blob.specs.Table.{with_sights}
+use Rattle.dt_blob.specs.Steps.Table.{with_sights}
 use Rattle.dt_blob.proofs.names.Names.note_properties.Given as goal
 
 abbrev pub invariant-loop-property : goal.invariant-loop-property

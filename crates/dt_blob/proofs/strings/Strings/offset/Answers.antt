@@ -1,7 +1,7 @@
 use Rattle.std.proofs.Common.{◌≤◌, ◌∙◌, sym, ap, subst}
 use Rattle.std.specs.Prelude.{unwrap_or}
 use Rattle.dt_blob.specs.Blob.{limit}
-use Rattle.dt_blob.specs.Table.{placed}
+use Rattle.dt_blob.specs.Steps.Table.{placed}
 use Rattle.dt_blob.proofs.Lasting.{placed-some, placed-none, placed-bound}
 use Rattle.dt_blob.proofs.strings.Strings.offset.Goals as goal
 

@@ -1,10 +1,8 @@
 -- What a writer makes of tokens, once each name's offset is known.
-use Rattle.std.specs.Prelude.{◌≡◌, ◌⊎◌, ℕ, ◌+◌, ◌-◌, ◌%◌, ◌<◌, List, [], ◌∷◌, ◌++◌, length}
-use Rattle.dt_blob.specs.declared.error.BlobError.{BlobError}
-use Rattle.dt_blob.specs.declared.error.BlobError.TheVariants.{NoMemory, TooLarge}
+use Rattle.std.specs.Prelude.{ℕ, ◌+◌, ◌-◌, ◌%◌, List, [], ◌∷◌, ◌++◌, length}
 use Rattle.dt_blob.specs.BigEndian.{word}
 use Rattle.dt_blob.specs.Token.{Token, begin_node, end_node, property, nop, end}
-use Rattle.dt_blob.specs.Blob.{limit, padding}
+use Rattle.dt_blob.specs.Blob.{padding}
 
 abbrev pub bytes_by : (List ℕ → ℕ) → Token → List ℕ
 bytes_by offset (begin_node name) = word 1 ++ (name ++ 0 ∷ padding (length name + 1))
@@ -28,7 +26,3 @@ token_size end = 4
 abbrev pub tokens_size : List Token → ℕ
 tokens_size [] = 0
 tokens_size (token ∷ tokens) = token_size token + tokens_size tokens
-
--- want of memory, or a size over the limit
-abbrev pub Refuses : ℕ → BlobError → Type 0
-Refuses size e = (e ≡ NoMemory) ⊎ ((e ≡ TooLarge) × (limit < size))

@@ -2,7 +2,7 @@
 use Rattle.std.specs.Prelude.{◌≡◌, ℕ, ◌≤◌, List, length, Result, MatchResult}
 use Rattle.dt_blob.specs.declared.error.BlobError.{BlobError}
 use Rattle.dt_blob.specs.Blob.{limit}
-use Rattle.dt_blob.specs.Written.{Refuses}
+use Rattle.dt_blob.specs.Blob.{Refuses}
 
 -- the text is now `whole`, and fits
 abbrev pub Prints : {T : Type 0} → Result T BlobError → List ℕ → List ℕ → Type 0
