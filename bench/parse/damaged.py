@@ -5,11 +5,11 @@ string and changes nothing there but an escape."""
 import subprocess
 import sys
 
-PROGRAM = "crates/parse_time/out/parse_time"
+PROGRAM = subprocess.run(["bench/build"], capture_output=True, check=True).stdout.decode().strip()
 
 
 def answer(text):
-    return subprocess.run([PROGRAM, "/dev/stdin"], input=text, capture_output=True, check=True).stdout.decode()
+    return subprocess.run([PROGRAM, "parse", "/dev/stdin"], input=text, capture_output=True, check=True).stdout.decode()
 
 
 def main(path):

@@ -1,46 +1,54 @@
 #!/usr/bin/env python3
-"""Times runs: the devices of a plan that settle in a second, and how many times one worker's that is.
+"""Times runs: the devices of a plan that settle in a second, how many times one worker's that is, and the processor time
+that they take, again by one worker's.
 
-A probe does nothing, or counts for about 10 microseconds or a millisecond; how many turns these are is measured first.
+A probe does nothing, or counts for about 10 microseconds or a millisecond; how many turns these are is measured first. The
+best of several short runs is taken, without the program's start, so that other work on the machine counts for little.
 """
 import os
+import resource
 import subprocess
 import sys
 import time
 
 WORKERS = (1, 2, 4, 16, 64)
-SECONDS = 0.5
+SECONDS = 0.1
+REPEATS = 9
 
 
-def seconds(program, plan, workers, rounds, turns):
+def once(program, plan, workers, rounds, turns):
+    used = resource.getrusage(resource.RUSAGE_CHILDREN)
     before = time.monotonic()
     said = subprocess.run([program, plan, str(workers), str(rounds), str(turns)], capture_output=True, text=True, check=True).stdout
     passed = time.monotonic() - before
-    if not said.endswith(f"like the first {rounds - 1}\n"):
+    if not said.startswith("devices "):
         sys.exit(f"{plan} by {workers}: {said}")
-    return passed
+    then = resource.getrusage(resource.RUSAGE_CHILDREN)
+    return passed, then.ru_utime + then.ru_stime - used.ru_utime - used.ru_stime
 
 
-def turns_a_microsecond(program, plan, devices):
-    turns = 200_000
-    return turns * devices / 1e6 / min(seconds(program, plan, 1, 1, turns) for _ in range(5))
+def best(program, plan, workers, rounds, turns):
+    """The least time that passed, and the least processor time."""
+    found = [once(program, plan, workers, rounds, turns) for _ in range(REPEATS)]
+    return min(passed for passed, _ in found), min(used for _, used in found)
 
 
-def devices_a_second(program, plan, devices, workers, turns):
-    """The best of three, each as many rounds as take about half a second."""
-    one = seconds(program, plan, workers, 2, turns) / 2
-    rounds = max(2, min(400, int(SECONDS / max(one, 1e-6))))
-    return devices * rounds / min(seconds(program, plan, workers, rounds, turns) for _ in range(3))
+def measured(program, plan, workers, rounds, turns):
+    whole, start = best(program, plan, workers, rounds, turns), best(program, plan, workers, 0, turns)
+    return tuple(max(a - b, 1e-6) for a, b in zip(whole, start))
 
 
 def main(program, folder):
-    pace = turns_a_microsecond(program, os.path.join(folder, "flat-64.plan"), 64)
-    print(f"{'plan':<10} {'a probe':>8} " + " ".join(f"{workers:>8} {'':>6}" for workers in WORKERS))
+    flat = os.path.join(folder, "flat-64.plan")
+    pace = 100_000 * 64 / 1e6 / measured(program, flat, 1, 1, 100_000)[1]
+    print(f"{'plan':<10} {'a probe':>8} " + " ".join(f"{workers:>8} {'':>6} {'':>6}" for workers in WORKERS))
     for name in sorted(os.listdir(folder)):
-        devices = int(name.split("-")[1].split(".")[0])
+        plan, devices = os.path.join(folder, name), int(name.split("-")[1].split(".")[0])
         for label, turns in (("nothing", 0), ("10 us", int(10 * pace)), ("1 ms", int(1000 * pace))):
-            found = [devices_a_second(program, os.path.join(folder, name), devices, workers, turns) for workers in WORKERS]
-            cells = " ".join(f"{rate:8.0f} {rate / found[0]:5.2f}x" for rate in found)
+            rounds = max(1, min(100, int(SECONDS / measured(program, plan, 1, 1, turns)[0])))
+            found = [measured(program, plan, workers, rounds, turns) for workers in WORKERS]
+            rates = [devices * rounds / passed for passed, _ in found]
+            cells = " ".join(f"{rate:8.0f} {rate / rates[0]:5.2f}x {used / found[0][1]:5.2f}c" for rate, (_, used) in zip(rates, found))
             print(f"{name[:-5]:<10} {label:>8} {cells}", flush=True)
 
 

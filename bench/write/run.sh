@@ -4,8 +4,7 @@ set -euo pipefail
 cd "$(dirname "$0")/../.."
 inputs=bench/inputs/dump
 python3 bench/dump/make_inputs.py "$inputs"
-program=crates/blob_time/out/blob_time
-[ -x "$program" ] || (cd crates/blob_time && rt run -- data/sensor-board.dtb >/dev/null)
+program=$(bench/build)
 
 # What the program answers, with its seconds and its memory.
 timed() {
@@ -14,5 +13,5 @@ timed() {
 
 printf '%-12s %-36s %s\n' input 'read and write' 'read alone'
 for blob in "$inputs"/*.dtb; do
-	printf '%-12s %-36s %s\n' "$(basename "$blob" .dtb)" "$(timed "$blob")" "$(timed "$blob" read)"
+	printf '%-12s %-36s %s\n' "$(basename "$blob" .dtb)" "$(timed write "$blob")" "$(timed read "$blob")"
 done

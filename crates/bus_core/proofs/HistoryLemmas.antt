@@ -1,15 +1,15 @@
 -- What holds along a history of the sequential bus.
-use Rattle.std.proofs.Common.{◌≡◌, ◌≢◌, ◌⊎◌, inl, inr, ◌<◌, ◌≤◌, ◌+◌, ℕ, Bool, true, false, not, ◌&&◌, ◌||◌, List, [], ◌∷◌, ◌++◌, length, eqb, get_or, refl, sym, ap, ap₂, ◌∙◌, subst, true≢false, append-nil, append_assoc, arith, eq-eqb, eqb-true, ne_eqb}
+use Rattle.std.proofs.Common.{◌≡◌, ◌⊎◌, inl, inr, ◌<◌, ℕ, Bool, true, false, ◌&&◌, ◌||◌, List, [], ◌∷◌, ◌++◌, length, eqb, refl, sym, ap, ◌∙◌, subst, true≢false, append-nil, append_assoc, eq-eqb, eqb-true}
 use Rattle.std.specs.Prelude.{is_some}
-use Rattle.std.specs.List.{list_any, list_all}
-use Rattle.std.proofs.lemmas.Bool.{and_parts, and_from, or_cases, or_parts, or_from, or_left, or_right, cases_lt, cases_eq, cases_Bool}
+use Rattle.std.specs.List.{list_all}
+use Rattle.std.proofs.lemmas.Bool.{and_parts, and_from, or_cases, or_left, or_right, cases_lt}
 use Rattle.std.proofs.lemmas.List.{get_or_past}
 use Rattle.bus_plan.specs.Plan.{PlannedDevice, is_matched, suppliers_of, verdict_of, is_available, nothing}
 use Rattle.bus_plan.specs.declared.verdict.Verdict.{Verdict}
 use Rattle.bus_plan.specs.declared.verdict.Verdict.TheVariants.{Binds, Fails}
 use Rattle.bus_core.specs.declared.settle.Settle.{Settle}
 use Rattle.bus_core.specs.declared.settle.Outcome.{Outcome}
-use Rattle.bus_core.specs.declared.settle.Outcome.TheVariants.{Bound, Failed}
+use Rattle.bus_core.specs.declared.settle.Outcome.TheVariants.{Bound}
 use Rattle.bus_core.specs.History.{outcome_by, is_bound, bound_in, is_settled, IsBusStep, IsHistoryAfter, IsBusHistory}
 use Rattle.bus_core.specs.Ready.{is_ready}
 use Rattle.bus_core.proofs.Lists.{list_any_push, list_all_weaker}

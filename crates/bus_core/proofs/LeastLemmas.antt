@@ -1,21 +1,19 @@
 -- Where nothing is due or in flight, the bound devices are the least set, and the report is the end report.
-use Rattle.std.proofs.Common.{◌≡◌, ◌≢◌, ◌⊎◌, inl, inr, ◌<◌, ◌≤◌, ◌+◌, ℕ, Bool, true, false, not, ◌&&◌, ◌||◌, List, [], ◌∷◌, ◌++◌, length, eqb, cond, refl, sym, ap, ap₂, ◌∙◌, subst, true≢false, append-nil, append_assoc, arith}
+use Rattle.std.proofs.Common.{◌≡◌, inl, inr, ◌<◌, ℕ, Bool, true, false, not, ◌&&◌, ◌||◌, List, [], ◌++◌, length, cond, refl, sym, ap, ap₂, ◌∙◌, subst, true≢false, arith}
 use mathlib.Core.Path.{fun_ext}
-use Rattle.std.specs.List.{list_any, list_all, flat_map}
+use Rattle.std.specs.List.{list_all}
 use Rattle.std.specs.Prelude.{codes}
-use Rattle.std.proofs.lemmas.Bool.{and_parts, and_from, and_cases, or_cases, or_parts, or_from, or_right, cases_Bool, not-true, not_from_false}
+use Rattle.std.proofs.lemmas.Bool.{and_parts, and_from, or_parts, or_from, or_right, cases_Bool, not-true, not_from_false}
 use Rattle.bus_plan.specs.Plan.{PlannedDevice, is_matched, is_available, suppliers_of, verdict_of}
-use Rattle.bus_plan.specs.declared.verdict.Verdict.TheVariants.{Binds, Fails}
 use Rattle.bus_core.specs.declared.settle.Settle.{Settle}
-use Rattle.bus_core.specs.declared.status.Status.{Status}
 use Rattle.bus_core.specs.declared.status.Status.TheVariants as status
 use Rattle.bus_core.specs.CoreState.{CoreState, is_in_flight, was_begun}
-use Rattle.bus_core.specs.Due.{is_due, is_idle, is_quiet, devices}
-use Rattle.bus_core.specs.History.{is_bound, bound_in, is_settled, IsBusStep, IsBusHistory}
+use Rattle.bus_core.specs.Due.{is_due, is_idle, is_quiet}
+use Rattle.bus_core.specs.History.{bound_in, is_settled, IsBusHistory}
 use Rattle.bus_core.specs.Laws.{QuietIsLeast, SuppliersComeFirst, QuietReportIsTheEnd, EndReportIsOne}
-use Rattle.bus_core.specs.Least.{IsClosed, IsLeast}
+use Rattle.bus_core.specs.Least.{IsClosed}
 use Rattle.bus_core.specs.Ready.{is_ready}
-use Rattle.bus_core.specs.Report.{status_of, end_status, line_of, report_text, end_text, IsEndReport}
+use Rattle.bus_core.specs.Report.{status_of, end_status, line_of, end_text}
 use Rattle.bus_core.proofs.HistoryLemmas.{along, matched-below, matched-available, ready-matched, ready-weaker, bound-push_cases, bound-verdict, settled-ready, settled-bound, bound-settled, step-within}
 use Rattle.bus_core.proofs.Lists.{list_all_in_range, flat_map_same}
 

@@ -1,3 +1,5 @@
+pub mod CountLemmas
+pub mod CountedLemmas
 pub mod HistoryLemmas
 pub mod LeastLemmas
 pub mod Lists
@@ -6,4 +8,5 @@ pub mod ReachedLemmas
 pub mod ReplayLaws
 pub mod ReplayLemmas
 pub mod ReportLemmas
+pub mod SetLemmas
 pub mod SoundLemmas

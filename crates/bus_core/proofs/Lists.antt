@@ -1,8 +1,8 @@
 -- Lemmas on tests over lists, and on tables.
-use Rattle.std.proofs.Common.{◌≡◌, ◌≢◌, ◌⊎◌, inl, inr, ◌<◌, ◌≤◌, ◌+◌, zero, suc, ℕ, Bool, true, false, not, ◌&&◌, ◌||◌, List, [], ◌∷◌, ◌++◌, Option, Some, None, length, set, get_or, refl, sym, ap, ap₂, ◌∙◌, subst, true≢false, append-nil, append_assoc, arith}
+use Rattle.std.proofs.Common.{◌≡◌, ◌≢◌, ◌⊎◌, inl, inr, ◌<◌, ◌≤◌, ◌+◌, zero, suc, ℕ, Bool, true, false, ◌||◌, List, [], ◌∷◌, ◌++◌, Option, None, length, set, get_or, refl, sym, ap, ap₂, ◌∙◌, subst, true≢false, arith}
 use Rattle.std.specs.List.{list_any, list_all, range_with_len, flat_map}
 use Rattle.std.specs.Prelude.{is_some}
-use Rattle.std.proofs.lemmas.Bool.{and_parts, and_from, or_cases, or_parts, or_from, cases_lt, cases_eq}
+use Rattle.std.proofs.lemmas.Bool.{and_parts, and_from, cases_lt, cases_eq}
 use Rattle.std.proofs.lemmas.List.{get_or-set_same, get_or-set_other, get_or_past, set_past}
 use Rattle.std.proofs.lemmas.List.Folds.{list_any-append}
 

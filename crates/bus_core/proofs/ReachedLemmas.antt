@@ -1,17 +1,15 @@
 -- Every list of events leads to a history of the sequential bus.
-use Rattle.std.proofs.Common.{◌≡◌, ◌≢◌, ◌⊎◌, inl, inr, ℕ, ◌+◌, ◌<◌, Bool, true, false, not, ◌&&◌, ◌||◌, List, [], ◌∷◌, ◌++◌, Option, Some, None, length, eqb, cond, set, refl, sym, ap, ◌∙◌, subst, true≢false, ne_eqb}
-use Rattle.std.specs.Prelude.{is_none, is_some, slice_set, slice_index_or, nat_lt, replicate}
-use Rattle.std.proofs.lemmas.Bool.{or_parts, or_from, cases_Bool, not-true, cases_lt, not-false}
+use Rattle.std.proofs.Common.{◌≡◌, inl, inr, ℕ, ◌+◌, Bool, true, false, not, ◌||◌, List, [], ◌∷◌, Option, Some, None, length, eqb, cond, refl, sym, ap, ◌∙◌, subst, true≢false, ne_eqb}
+use Rattle.std.specs.Prelude.{is_none, is_some, slice_index_or, replicate}
+use Rattle.std.proofs.lemmas.Bool.{or_parts, or_from, not-true, cases_lt}
 use Rattle.std.proofs.lemmas.List.{get_or-replicate, get_or_past, length-replicate}
-use Rattle.bus_plan.specs.Plan.{PlannedDevice, is_matched, verdict_of}
+use Rattle.bus_plan.specs.Plan.{PlannedDevice, is_matched}
 use Rattle.bus_core.specs.declared.event.Report.{Report}
 use Rattle.bus_core.specs.declared.event.Report.TheVariants.{Settled, Missing}
-use Rattle.bus_core.specs.declared.event.Ticket.{Ticket}
 use Rattle.bus_core.specs.declared.refusal.Refusal.{Refusal}
-use Rattle.bus_core.specs.declared.settle.Settle.{Settle}
 use Rattle.bus_core.specs.CoreState.{CoreState, Flight, flight_of, is_in_flight, first_state}
 use Rattle.bus_core.specs.Due.{is_idle}
-use Rattle.bus_core.specs.History.{outcome_by, bound_in, is_settled, IsBusStep, IsBusHistory}
+use Rattle.bus_core.specs.History.{bound_in, is_settled, IsBusHistory}
 use Rattle.bus_core.specs.Laws.{EventsKeepHistory}
 use Rattle.bus_core.specs.Ready.{is_ready}
 use Rattle.bus_core.specs.Step.{begin_refusal, begin_state, without_flight, abandon_refusal, report_refusal, is_attempt, finish_refusal, finish_state, settle_of, CoreEvent, begins, finishes, abandons, step, after}

@@ -1,5 +1,5 @@
 -- A replay and the library's events, one after another.
-use Rattle.std.proofs.Common.{◌≡◌, ◌∙◌, ℕ, ◌+◌, Bool, true, false, not, cond, List, [], ◌∷◌, ◌++◌, Option, Some, None, Result, Ok, Err, length, refl, sym, ap, subst, true≢false, eq-eqb, arith, rules}
+use Rattle.std.proofs.Common.{◌≡◌, ◌∙◌, ℕ, ◌+◌, not, cond, List, [], ◌∷◌, ◌++◌, Option, Some, None, Result, Ok, Err, length, refl, sym, ap, subst, true≢false, eq-eqb, arith}
 use Rattle.std.specs.Prelude.{is_some, is_none, is_ok}
 use Rattle.bus_plan.specs.Plan.{PlannedDevice}
 use Rattle.bus_core.specs.declared.event.Event.{Event}
@@ -10,7 +10,7 @@ use Rattle.bus_core.specs.CoreState.{CoreState, Flight, flight_of, first_state}
 use Rattle.bus_core.specs.History.{IsBusHistory}
 use Rattle.bus_core.specs.Laws.{ReplayIsAfter, ReplayKeepsHistory, ReplayGoesOn, ReplayStops}
 use Rattle.bus_core.specs.Replay.{event_refusal, event_state, or_refused, replay_from, attempt_of, core_event, core_events}
-use Rattle.bus_core.specs.Step.{is_attempt, report_refusal, finish_refusal, finish_state, begin_refusal, begin_state, abandon_refusal, without_flight, step, after}
+use Rattle.bus_core.specs.Step.{is_attempt, report_refusal, finish_state, begin_state, without_flight, step, after}
 use Rattle.bus_core.proofs.ReachedLemmas.{events-keep}
 
 no-refusal : {A : Type 0} (r : Refusal) → Some r ≡ None → A

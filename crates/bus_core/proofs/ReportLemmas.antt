@@ -1,5 +1,5 @@
 -- The report by the phases is the report of the state.
-use Rattle.std.proofs.Common.{◌≡◌, ℕ, zero, suc, ◌+◌, ◌<◌, Bool, true, false, not, List, [], ◌∷◌, ◌++◌, Option, Some, None, cond, length, refl, sym, ap, ap₂, ◌∙◌, append-nil, append_assoc, add-one, arith}
+use Rattle.std.proofs.Common.{◌≡◌, ℕ, zero, suc, ◌+◌, Bool, true, false, List, [], ◌∷◌, ◌++◌, Some, cond, refl, sym, ap, ap₂, ◌∙◌, append-nil, append_assoc, arith}
 use Rattle.std.specs.Prelude.{is_some, flat_map, find, IfSome, All}
 use Rattle.std.specs.List.{range_with_len}
 use Rattle.std.proofs.lemmas.List.Elements.{All-head, All-tail}
@@ -7,14 +7,11 @@ use Rattle.bus_plan.specs.Plan.{PlannedDevice, is_available, is_matched}
 use Rattle.bus_core.specs.declared.phase.Phase.{Phase}
 use Rattle.bus_core.specs.declared.phase.Phase.TheVariants.{Fresh, Begun, InFlight, Bound, Failed}
 use Rattle.bus_core.specs.declared.settle.Settle.{Settle}
-use Rattle.bus_core.specs.declared.status.Status.{Status}
 use Rattle.bus_core.specs.declared.status.Status.TheVariants as status
-use Rattle.bus_core.specs.Due.{devices, is_due}
-use Rattle.bus_core.specs.History.{bound_in}
-use Rattle.bus_core.specs.Phase.{phase_at, flight_in, settled_in, bound_now, bound_by, due_by, idle_status, status_in, status_by, state_of}
-use Rattle.bus_core.specs.Report.{status_of, line_of}
-use Rattle.bus_core.specs.Sound.{IsSound}
-use Rattle.bus_core.proofs.SoundLemmas.{flight-phase, due-same, bound-same}
+use Rattle.bus_core.specs.RefinementPhase.{phase_at, flight_in, settled_in, bound_now, due_by, idle_status, status_in, status_by, state_of}
+use Rattle.bus_core.specs.Report.{status_of}
+use Rattle.bus_core.specs.RefinementSound.{IsSound}
+use Rattle.bus_core.proofs.SoundLemmas.{flight-phase, due-same}
 
 -- one device's line more
 pub flat_map-range_more : (f : ℕ → List ℕ) (n a : ℕ) → flat_map f (range_with_len a (suc n)) ≡ flat_map f (range_with_len a n) ++ f (a + n)
@@ -36,12 +33,6 @@ status-same plan phases h n sound d =
     status-in (phase_at phases d) (is_available plan d) (is_matched plan d) (due_by plan phases d)
     ∙ (λ i. cond (sym (sound.bound d) i) status.Bound (cond (sym (sound.settled d) i) status.Failed
     (cond (is_some (sym (flight-phase phases h n d) i)) status.Probing (idle_status (is_available plan d) (is_matched plan d) (due-same plan phases h n sound d i)))))
-
-pub lines-same : (plan : List PlannedDevice) (phases : List Phase) (h : List Settle) (n : ℕ) → IsSound plan phases h n
-    → flat_map (λ d. line_of plan (bound_by phases) (status_by plan phases d) d) (devices plan)
-    ≡ flat_map (λ d. line_of plan (bound_in h) (status_of plan (state_of phases h n) d) d) (devices plan)
-lines-same plan phases h n sound =
-    λ i. flat_map (λ d. line_of plan (bound-same plan phases h n sound i) (status-same plan phases h n sound d i) d) (devices plan)
 
 -- what is found has what all have
 pub find-all : (p : ℕ → Bool) (P : ℕ → Type 0) (xs : List ℕ) → All P xs → IfSome (find p xs) P

@@ -1,7 +1,7 @@
 -- The phases tell what the state says, and each event keeps it so.
-use Rattle.std.proofs.Common.{◌≡◌, ◌≢◌, ◌⊎◌, inl, inr, ℕ, zero, suc, ◌+◌, ◌<◌, ◌≤◌, Bool, true, false, not, ◌&&◌, ◌||◌, List, [], ◌∷◌, ◌++◌, Option, Some, None, length, eqb, ltb, cond, set, get_or, take, map, refl, sym, ap, ap₂, ◌∙◌, subst, true≢false, ne_eqb, eq-eqb, lt-ltb, le-ltb, arith, length-append, length-set, take_all}
-use Rattle.std.specs.Prelude.{is_some, count_by, replicate, nat_lt}
-use Rattle.std.proofs.lemmas.Bool.{or_from, cases_lt, cases_eq}
+use Rattle.std.proofs.Common.{◌≡◌, ◌≢◌, inl, inr, ℕ, zero, suc, ◌+◌, ◌<◌, ◌≤◌, Bool, true, false, not, ◌&&◌, ◌||◌, List, [], ◌∷◌, ◌++◌, None, length, eqb, cond, set, take, map, refl, sym, ap, ap₂, ◌∙◌, true≢false, ne_eqb, eq-eqb, lt-ltb, le-ltb, arith, length-set, take_all}
+use Rattle.std.specs.Prelude.{is_some, count_by, replicate}
+use Rattle.std.proofs.lemmas.Bool.{cases_lt, cases_eq}
 use Rattle.std.proofs.lemmas.List.{get_or-set_same, get_or-set_other, get_or_past, get_or-map, length-map, map-set, set-get_or, take-append-le, get_or-replicate, length-replicate, length_push}
 use Rattle.std.proofs.lemmas.List.Sums.{sum_by-set, get_or-le-sum_by}
 use Rattle.std.proofs.lemmas.List.Folds.{sum_by-replicate}
@@ -13,12 +13,12 @@ use Rattle.bus_core.specs.declared.settle.Outcome.{Outcome}
 use Rattle.bus_core.specs.declared.settle.Outcome.TheVariants as outcome
 use Rattle.bus_core.specs.declared.settle.Settle.{Settle}
 use Rattle.bus_core.specs.declared.limits.TheConstants.{MAX_BEGINS}
-use Rattle.bus_core.specs.CoreState.{CoreState, Flight, flight_of, is_in_flight, was_begun, first_state}
+use Rattle.bus_core.specs.CoreState.{flight_of, is_in_flight, was_begun, first_state}
 use Rattle.bus_core.specs.Due.{is_due, is_idle}
-use Rattle.bus_core.specs.History.{outcome_by, is_bound, bound_in, is_settled, IsBusHistory}
-use Rattle.bus_core.specs.Phase.{phase_at, flight_in, begun_in, settled_in, bound_now, bound_before, settled_phase, bound_by, due_in, due_by, idle_in, state_of}
+use Rattle.bus_core.specs.History.{outcome_by, is_bound, bound_in, is_settled}
+use Rattle.bus_core.specs.RefinementPhase.{phase_at, flight_in, begun_in, settled_in, bound_now, bound_before, settled_phase, bound_by, due_in, due_by, idle_in, state_of}
 use Rattle.bus_core.specs.Ready.{is_ready}
-use Rattle.bus_core.specs.Sound.{IsSound, unsettled_in}
+use Rattle.bus_core.specs.RefinementSound.{IsSound, unsettled_in}
 use Rattle.bus_core.specs.Step.{settle_of, begin_state, without_flight, finish_state}
 use Rattle.bus_core.specs.declared.event.Report.TheVariants.{Settled}
 use Rattle.bus_core.proofs.HistoryLemmas.{history-push, bound_in-push, is_settled-push, ready-matched}
@@ -94,10 +94,10 @@ count-set : (phases : List Phase) (d : ℕ) (phase : Phase) → d < length phase
     count_by unsettled_in (set phases d phase) + weight (phase_at phases d) ≡ count_by unsettled_in phases + weight phase
 count-set phases d phase within = sum_by-set weight phases d phase Fresh within
 
-at-same : (phases : List Phase) (d e : ℕ) (phase : Phase) → d < length phases → e ≡ d → phase_at (set phases d phase) e ≡ phase
+pub at-same : (phases : List Phase) (d e : ℕ) (phase : Phase) → d < length phases → e ≡ d → phase_at (set phases d phase) e ≡ phase
 at-same phases d e phase within same = ap (λ k. phase_at (set phases d phase) k) same ∙ get_or-set_same phases d phase Fresh within
 
-at-other : (phases : List Phase) (d e : ℕ) (phase : Phase) → e ≢ d → phase_at (set phases d phase) e ≡ phase_at phases e
+pub at-other : (phases : List Phase) (d e : ℕ) (phase : Phase) → e ≢ d → phase_at (set phases d phase) e ≡ phase_at phases e
 at-other phases d e phase other = get_or-set_other phases d e phase Fresh other
 
 -- a device that isn't settled goes to another such phase
@@ -144,7 +144,7 @@ settled-early : (place n : ℕ) (o : Outcome) → place < n → bound_before n (
 settled-early place n outcome.Bound early = lt-ltb place n early
 settled-early place n outcome.Failed early = refl
 
-and_true : (b c : Bool) → c ≡ true → (b && c) ≡ b
+pub and_true : (b c : Bool) → c ≡ true → (b && c) ≡ b
 and_true true c e = e
 and_true false c e = refl
 
@@ -152,7 +152,7 @@ or_true : (b : Bool) → (b || true) ≡ true
 or_true true = refl
 or_true false = refl
 
-and_false : (b c : Bool) → c ≡ false → (b && c) ≡ false
+pub and_false : (b c : Bool) → c ≡ false → (b && c) ≡ false
 and_false true c e = e
 and_false false c e = refl
 
@@ -213,7 +213,7 @@ pub unsettled-room : (plan : List PlannedDevice) (phases : List Phase) (h : List
 unsettled-room plan phases h n d within old sound =
     omega (arith, get_or-le-sum_by weight phases d Fresh within, weight-unsettled (phase_at phases d) old, sound.unsettled)
 
-fresh-at : (n d : ℕ) → phase_at (replicate n Fresh) d ≡ Fresh
+pub fresh-at : (n d : ℕ) → phase_at (replicate n Fresh) d ≡ Fresh
 fresh-at n d = elim (cases_lt d n) [
   | inl within ↦ get_or-replicate n d Fresh Fresh within
   | inr past ↦ get_or_past (replicate n Fresh) d Fresh (rw (length-replicate n Fresh) past)
@@ -232,7 +232,7 @@ first-sound plan =
       unsettled = omega (arith, sum_by-replicate weight (length plan) Fresh);
     }
 
-map-replicate : {X Y : Type 0} (f : X → Y) (n : ℕ) (x : X) → map f (replicate n x) ≡ replicate n (f x)
+pub map-replicate : {X Y : Type 0} (f : X → Y) (n : ℕ) (x : X) → map f (replicate n x) ≡ replicate n (f x)
 map-replicate f zero x = refl
 map-replicate f (suc n) x = ap (λ xs. f x ∷ xs) (map-replicate f n x)
 
@@ -246,7 +246,7 @@ first-sound_at plan phases h all none = coe 1 0 (i. IsSound plan (all i) (none i
 pub first-view_at : (plan : List PlannedDevice) (phases : List Phase) (h : List Settle) → phases ≡ replicate (length plan) Fresh → h ≡ [] → state_of phases h 0 ≡ first_state plan
 first-view_at plan phases h all none = (λ i. state_of (all i) (none i) 0) ∙ first-view plan
 
-idle-unsettled : (phase : Phase) → idle_in phase ≡ true → settled_in phase ≡ false
+pub idle-unsettled : (phase : Phase) → idle_in phase ≡ true → settled_in phase ≡ false
 idle-unsettled Fresh e = refl
 idle-unsettled Begun e = refl
 idle-unsettled (InFlight attempt settled) e = refl

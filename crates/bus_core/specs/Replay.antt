@@ -1,5 +1,5 @@
 -- A schedule's events, one after another. A finish of a schedule takes the flight that its device has.
-use Rattle.std.specs.Prelude.{ℕ, ◌+◌, ◌<◌, ◌≡◌, Bool, true, false, not, if◌then◌else◌, List, [], ◌∷◌, Option, Some, None, Result, Ok, Err, length}
+use Rattle.std.specs.Prelude.{ℕ, ◌+◌, ◌<◌, not, if◌then◌else◌, List, [], ◌∷◌, Option, Some, None, Result, Ok, Err, length}
 use Rattle.bus_plan.specs.Plan.{PlannedDevice}
 use Rattle.bus_core.specs.declared.event.Event.{Event}
 use Rattle.bus_core.specs.declared.event.Event.TheVariants.{Begin, Finish, Abandon}

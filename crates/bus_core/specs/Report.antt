@@ -1,5 +1,5 @@
 -- The status of a device and the text of a report, one line a device in the plan's order.
-use Rattle.std.specs.Prelude.{◌≡◌, ℕ, Bool, not, if◌then◌else◌, List, [], ◌∷◌, ◌++◌, Option, Some, None, is_some, unwrap_or, codes, find, flat_map}
+use Rattle.std.specs.Prelude.{◌≡◌, ℕ, Bool, not, if◌then◌else◌, List, [], ◌∷◌, ◌++◌, Option, Some, None, unwrap_or, codes, find, flat_map}
 use Rattle.bus_plan.specs.Plan.{PlannedDevice, path_of, is_available, driver_of, is_matched, suppliers_of}
 use Rattle.bus_core.specs.declared.status.Status.{Status}
 use Rattle.bus_core.specs.declared.status.Status.TheVariants as status

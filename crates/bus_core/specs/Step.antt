@@ -1,10 +1,8 @@
 -- What each event of the core does (Linux driver-api, deferred probing). An event is refused by the first test that it
 -- fails and then changes nothing, or it gives a new state.
-use Rattle.std.specs.Prelude.{ℕ, ◌+◌, ◌==◌, nat_lt, Bool, true, false, not, ◌&&◌, ◌||◌, if◌then◌else◌, List, [], ◌∷◌, ◌++◌, Option, Some, None, length, take, slice_set, is_none}
+use Rattle.std.specs.Prelude.{ℕ, ◌+◌, ◌==◌, nat_lt, Bool, true, false, not, if◌then◌else◌, List, [], ◌∷◌, ◌++◌, Option, Some, None, length, take, slice_set, is_none}
 use Rattle.std.specs.List.{list_any}
 use Rattle.bus_plan.specs.Plan.{PlannedDevice, is_matched, suppliers_of, verdict_of}
-use Rattle.bus_core.specs.declared.event.Event.{Event}
-use Rattle.bus_core.specs.declared.event.Event.TheVariants as event
 use Rattle.bus_core.specs.declared.event.Reply.{Reply}
 use Rattle.bus_core.specs.declared.event.Reply.TheVariants as reply
 use Rattle.bus_core.specs.declared.event.Report.{Report}
@@ -18,7 +16,7 @@ use Rattle.bus_core.specs.declared.settle.Outcome.TheVariants as outcome
 use Rattle.bus_core.specs.declared.limits.TheConstants.{MAX_BEGINS}
 use Rattle.bus_core.specs.CoreState.{CoreState, Flight, flight_of, is_in_flight}
 use Rattle.bus_core.specs.Due.{is_due, is_idle}
-use Rattle.bus_core.specs.History.{bound_in, is_settled, outcome_by}
+use Rattle.bus_core.specs.History.{bound_in, outcome_by}
 use Rattle.bus_core.specs.Ready.{is_ready}
 
 -- Begin: the device has a driver, is idle, and the begins aren't used up.

@@ -1,6 +1,9 @@
 //! The probing core: which devices of a plan are bound, which probes are in flight, and which are due.
 #![tactic(auto)]
 
+mod counts;
+mod device_set;
+mod due;
 mod event;
 mod laws;
 mod limits;
@@ -8,9 +11,9 @@ mod phase;
 mod refusal;
 mod replaying;
 mod report;
+mod room;
 mod schedule;
 mod settle;
-mod standing;
 mod state;
 mod status;
 mod steps;

@@ -1,10 +1,8 @@
 //! What the core keeps of one device.
 
-ghost use Rattle.std.specs.Prelude.{◌≡◌, ◌<◌, ℕ, true, false, not, length, is_some, IfNone, IfSome};
-ghost use Rattle.std.specs.List.{list_all};
+ghost use Rattle.std.specs.Prelude.{◌≡◌, ◌<◌, length, is_some};
 ghost use Rattle.bus_plan.specs.Plan.{is_matched};
-ghost use Rattle.bus_core.specs.Phase.{phase_at, bound_before, bound_by, due_by, idle_in, flight_in};
-ghost use Rattle.bus_core.specs.Ready.{is_ready};
+ghost use Rattle.bus_core.specs.RefinementPhase.{phase_at, bound_before, bound_by, idle_in, flight_in};
 
 use bus_plan::{Device, Plan};
 
@@ -74,54 +72,4 @@ pub fn is_matched(plan: &Plan, device: Device) -> bool
         return false;
     }
     plan.driver(device).is_some()
-}
-
-fn are_bound(phases: &[Phase], devices: &[Device]) -> bool
-    ensures { result ≡ list_all (bound_by phases.now) devices.now }
-{
-    devices.iter().all(|device| is_bound(phases, *device))
-}
-
-/// Whether a device is matched and all its suppliers are bound.
-pub fn is_ready(plan: &Plan, phases: &[Phase], device: Device) -> bool
-    requires { device < length plan.now }
-    ensures { result ≡ is_ready plan.now (bound_by phases.now) device }
-{
-    if !is_matched(plan, device) {
-        return false;
-    }
-    are_bound(phases, plan.suppliers(device))
-}
-
-/// Whether a probe of a device is due.
-pub fn is_due(plan: &Plan, phases: &[Phase], device: Device) -> bool
-    requires { device < length plan.now }
-    ensures { result ≡ due_by plan.now phases.now device }
-{
-    match phase_of(phases, device) {
-        Phase::Fresh => is_matched(plan, device),
-        Phase::Begun => is_ready(plan, phases, device),
-        _ => false,
-    }
-}
-
-/// The first device whose probe is due.
-pub fn next_due(plan: &Plan, phases: &[Phase]) -> Option<Device>
-    ensures none { IfNone result ((d : ℕ) → d < length plan.now → due_by plan.now phases.now d ≡ false) }
-    ensures some { IfSome result (λ d. (d < length plan.now) × (due_by plan.now phases.now d ≡ true)) }
-{
-    for index in 0..plan.len() {
-        let device = Device::new(index);
-        if is_due(plan, phases, device) {
-            return Some(device);
-        }
-    }
-    None
-}
-
-/// Whether no device is in flight.
-pub fn is_landed(phases: &[Phase]) -> bool
-    ensures { result ≡ list_all (λ phase. not (is_some (flight_in phase))) phases.now }
-{
-    phases.iter().all(|phase| !phase.is_in_flight())
 }

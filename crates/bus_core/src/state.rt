@@ -2,9 +2,12 @@
 
 ghost use Rattle.std.specs.Prelude.{◌≡◌, IfOk};
 ghost use Rattle.bus_core.specs.CoreState.{first_state};
+ghost use Rattle.bus_core.specs.History.{IsBusHistory};
 ghost use Rattle.bus_core.specs.declared.refusal.Refusal.TheVariants.{NoMemory};
 ghost use Rattle.std.specs.Prelude.{MatchResult, replicate};
 
+use crate::counts::{matched_devices, supplier_counts};
+use crate::device_set::DeviceSet;
 use crate::phase::Phase;
 use crate::refusal::Refusal;
 use crate::settle::Settle;
@@ -12,13 +15,20 @@ use bus_plan::Plan;
 use std::alloc::{AllocError, Global};
 use std::marker::Model;
 
-/// A plan and what has happened to its devices: the phase of each, and the settled ones in their order.
+/// A plan and what has happened to its devices: the phase of each, and the settled ones in their order. The rest saves
+/// walks over the plan.
 #[derive(Drop)]
 pub struct Core {
     pub(crate) plan: Plan,
     pub(crate) phases: Vec<Phase>,
     pub(crate) history: Vec<Settle>,
     pub(crate) begins: u32,
+    /// How many suppliers of each device aren't bound.
+    pub(crate) missing: Vec<usize>,
+    /// The devices whose probe is due.
+    pub(crate) due: DeviceSet,
+    /// How many flights are open.
+    pub(crate) flights: usize,
 }
 
 impl Model for Core {
@@ -26,7 +36,7 @@ impl Model for Core {
 
     ghost Value = { CoreValue };
 
-    ghost use Rattle.bus_core.specs.CoreView.{core_value, IsKept};
+    ghost use Rattle.bus_core.specs.RefinementView.{core_value, IsKept};
 
     ghost view = { core_value };
 
@@ -52,11 +62,16 @@ impl Core {
         let count = plan.len();
         let history = Vec::with_capacity(alloc, count)?;
         let phases = fresh_phases(alloc, count)?;
+        let missing = supplier_counts(alloc, &plan)?;
+        let due = matched_devices(alloc, &plan)?;
         Ok(Core {
             plan,
             phases,
             history,
             begins: 0,
+            missing,
+            due,
+            flights: 0,
         })
     }
 
@@ -65,6 +80,13 @@ impl Core {
         ensures { result.now ≡ self.now.state.history }
     {
         self.history.as_slice()
+    }
+
+    /// Costs nothing: tells a caller's proof that the settled devices are a history of the sequential bus.
+    pub fn check(&self)
+        ensures { IsBusHistory self.now.plan self.now.state.history }
+    {
+        let _ = &self.phases;
     }
 
     /// The plan.

@@ -1,3 +1,15 @@
+//! How the devices of a core stand.
+
+ghost use Rattle.std.specs.Prelude.{◌≡◌, ◌<◌, length};
+ghost use Rattle.bus_plan.specs.Plan.{is_available, is_matched};
+ghost use Rattle.bus_core.specs.Due.{is_due};
+ghost use Rattle.bus_core.specs.RefinementPhase.{idle_status};
+ghost use Rattle.bus_core.specs.Report.{status_of};
+
+use crate::phase::{Phase, is_matched, phase_of};
+use crate::state::Core;
+use bus_plan::Device;
+
 /// How a device stands.
 #[derive(Clone, Copy, Debug, PartialEq, Eq)]
 pub enum Status {
@@ -13,4 +25,36 @@ pub enum Status {
     Unmatched,
     /// It isn't available.
     Disabled,
+}
+
+impl Core {
+    /// How a device stands.
+    pub fn status(&self, device: Device) -> Status
+        requires { device < length self.now.plan }
+        ensures { result ≡ status_of self.now.plan self.now.state device }
+    {
+        match phase_of(&self.phases, device) {
+            Phase::Bound(_) => Status::Bound,
+            Phase::Failed => Status::Failed,
+            Phase::InFlight(_, _) => Status::Probing,
+            _ => self.idle_status(device),
+        }
+    }
+
+    // How a device stands that is neither in flight nor settled.
+    fn idle_status(&self, device: Device) -> Status
+        requires { device < length self.now.plan }
+        ensures { result ≡ idle_status (is_available self.now.plan device) (is_matched self.now.plan device) (is_due self.now.plan self.now.state device) }
+    {
+        if !self.plan.available(device) {
+            return Status::Disabled;
+        }
+        if !is_matched(&self.plan, device) {
+            return Status::Unmatched;
+        }
+        if self.is_due(device) {
+            return Status::Due;
+        }
+        Status::Waiting
+    }
 }

@@ -5,45 +5,20 @@ ghost use Rattle.std.specs.Result.{result_err};
 ghost use Rattle.bus_plan.specs.Plan.{verdict_of};
 ghost use Rattle.bus_core.specs.CoreState.{CoreValue, flight_of, is_in_flight};
 ghost use Rattle.bus_core.specs.Due.{is_idle};
-ghost use Rattle.bus_core.specs.History.{outcome_by};
-ghost use Rattle.bus_core.specs.Phase.{settled_phase};
+ghost use Rattle.bus_core.specs.History.{outcome_by, bound_in};
+ghost use Rattle.bus_core.specs.Ready.{is_ready};
 ghost use Rattle.bus_core.specs.Step.{begin_refusal, begin_state, finish_refusal, finish_state, finish_reply, report_refusal, abandon_refusal, without_flight, settled_reply, is_supplier, settled_at_begin, begins, finishes, abandons, step};
 ghost use Rattle.bus_core.specs.Replay.{event_refusal, event_state, device_of};
 
+use crate::counts::lower;
 use crate::event::{Reply, Report, Ticket};
 use crate::limits::MAX_BEGINS;
-use crate::phase::{Phase, is_matched, is_ready, phase_of, was_bound};
+use crate::phase::{Phase, is_matched, phase_of, was_bound};
 use crate::refusal::Refusal;
+use crate::room::push_in_room;
 use crate::settle::{Outcome, Settle};
 use crate::state::Core;
 use bus_plan::{Device, Plan, Verdict};
-
-fn outcome_of(verdict: Verdict) -> Outcome
-    ensures { result ≡ outcome_by verdict }
-{
-    match verdict {
-        Verdict::Binds => Outcome::Bound,
-        Verdict::Fails => Outcome::Failed,
-    }
-}
-
-fn reply_of(outcome: Outcome) -> Reply
-    ensures { result ≡ settled_reply outcome }
-{
-    match outcome {
-        Outcome::Bound => Reply::Bound,
-        Outcome::Failed => Reply::Failed,
-    }
-}
-
-fn phase_after(outcome: Outcome, place: usize) -> Phase
-    ensures { result ≡ settled_phase place outcome }
-{
-    match outcome {
-        Outcome::Bound => Phase::Bound(place),
-        Outcome::Failed => Phase::Failed,
-    }
-}
 
 fn is_supplier(plan: &Plan, device: Device, supplier: Device) -> bool
     requires { device < length plan.now }
@@ -52,18 +27,6 @@ fn is_supplier(plan: &Plan, device: Device, supplier: Device) -> bool
     plan.suppliers(device)
         .iter()
         .any(|other| other.index() == supplier.index())
-}
-
-/// A settle more, in room that is there.
-fn append(history: &mut Vec<Settle>, settle: Settle)
-    requires { vec_len history.old < vec_capacity history.old }
-    ensures items { history.new.items ≡ history.old.items ++ settle ∷ [] }
-    ensures room { vec_capacity history.old ≤ vec_capacity history.new }
-{
-    match history.push(settle) {
-        Ok(()) => {}
-        Err(_) => unreachable!(),
-    }
 }
 
 impl Core {
@@ -97,7 +60,9 @@ impl Core {
         ensures begun { self.new ≡ record { plan = self.old.plan; state = begin_state self.old.state device } }
     {
         self.begins += 1;
+        self.flights += 1;
         self.phases[device.index()] = Phase::InFlight(self.begins, self.history.len());
+        self.due.remove(device);
         Ticket {
             device,
             attempt: self.begins,
@@ -110,7 +75,10 @@ impl Core {
         requires flying { is_in_flight self.old.state device ≡ true }
         ensures { self.new ≡ record { plan = self.old.plan; state = without_flight self.old.state device } }
     {
+        let is_ready = self.is_ready(device);
+        self.flights -= 1;
         self.phases[device.index()] = Phase::Begun;
+        self.due.put(device, is_ready);
     }
 
     /// Drops the device's flight. The device counts as begun.
@@ -176,13 +144,65 @@ impl Core {
         ensures finished { OnOk result (self.new ≡ record { plan = self.old.plan; state = finish_state self.old.plan self.old.state device Report.Settled }) }
         ensures err { OnErr result (self.new ≡ self.old) }
     {
-        if !is_ready(&self.plan, &self.phases, device) {
+        if !self.is_ready(device) {
             return Err(Refusal::NotReady);
         }
-        let outcome = outcome_of(self.plan.verdict(device));
-        self.phases[device.index()] = phase_after(outcome, self.history.len());
-        append(&mut self.history, Settle { device, outcome });
-        Ok(reply_of(outcome))
+        match self.plan.verdict(device) {
+            Verdict::Binds => {
+                self.bind(device);
+                Ok(Reply::Bound)
+            }
+            Verdict::Fails => {
+                self.fail(device);
+                Ok(Reply::Failed)
+            }
+        }
+    }
+
+    // Settles a ready device whose driver binds it.
+    fn bind(&mut self, device: Device)
+        requires within { device < length self.old.plan }
+        requires flying { is_in_flight self.old.state device ≡ true }
+        requires ready { is_ready self.old.plan (bound_in self.old.state.history) device ≡ true }
+        requires binds { verdict_of self.old.plan device ≡ Verdict.Binds }
+        ensures { self.new ≡ record { plan = self.old.plan; state = finish_state self.old.plan self.old.state device Report.Settled } }
+    {
+        self.plan.check();
+        self.flights -= 1;
+        self.phases[device.index()] = Phase::Bound(self.history.len());
+        push_in_room(
+            &mut self.history,
+            Settle {
+                device,
+                outcome: Outcome::Bound,
+            },
+        );
+        lower(
+            &self.plan,
+            &self.phases,
+            &mut self.missing,
+            &mut self.due,
+            device,
+        );
+    }
+
+    // Settles a ready device whose driver fails.
+    fn fail(&mut self, device: Device)
+        requires within { device < length self.old.plan }
+        requires flying { is_in_flight self.old.state device ≡ true }
+        requires ready { is_ready self.old.plan (bound_in self.old.state.history) device ≡ true }
+        requires fails { verdict_of self.old.plan device ≡ Verdict.Fails }
+        ensures { self.new ≡ record { plan = self.old.plan; state = finish_state self.old.plan self.old.state device Report.Settled } }
+    {
+        self.flights -= 1;
+        self.phases[device.index()] = Phase::Failed;
+        push_in_room(
+            &mut self.history,
+            Settle {
+                device,
+                outcome: Outcome::Failed,
+            },
+        );
     }
 
     fn defer(&mut self, device: Device, settled: usize, supplier: Device) -> Result<Reply, Refusal>

@@ -109,14 +109,9 @@ pub fn finish_alone<P: Prober>(
     ensures err { IfErr result (λ refusal. refusal ≡ NoMemory) }
 {
     drop_flights(&mut keeper, plan.len());
-    match drain(&mut keeper, plan, prober, &mut notes) {
-        Ok(()) => {}
-        Err(refusal) => return Err(refusal),
-    }
+    drain(&mut keeper, plan, prober, &mut notes)?;
     settle_notes(&keeper, plan, prober, &mut notes);
     keeper.core().check();
-    match keeper.report(alloc) {
-        Ok(report) => Ok(Ran { report, notes }),
-        Err(refusal) => Err(refusal),
-    }
+    let report = keeper.report(alloc)?;
+    Ok(Ran { report, notes })
 }

@@ -76,14 +76,8 @@ impl Keeper {
             return Ok(None);
         };
         // room for this begin, and for the end of each flight, its own among them
-        match self.events.reserve(self.flying + 2) {
-            Ok(()) => {}
-            Err(_) => return Err(Refusal::NoMemory),
-        }
-        let ticket = match self.core.begin(device) {
-            Ok(ticket) => ticket,
-            Err(refusal) => return Err(refusal),
-        };
+        self.events.reserve(self.flying + 2)?;
+        let ticket = self.core.begin(device)?;
         store_begin(&mut self.events, device);
         self.flying += 1;
         Ok(Some((ticket, self.bound)))
@@ -107,10 +101,7 @@ impl Keeper {
         ensures abandoned { OnOk result (self.new ≡ abandoned_keeper self.old device) }
         ensures err { OnErr result (self.new ≡ self.old) }
     {
-        match self.core.abandon(device) {
-            Ok(()) => {}
-            Err(refusal) => return Err(refusal),
-        }
+        self.core.abandon(device)?;
         store_abandon(&mut self.events, device);
         self.flying -= 1;
         Ok(())
@@ -143,10 +134,7 @@ impl Keeper {
         ensures finished { OnOk result (self.new ≡ finished_keeper self.old ticket.now.device report.now) }
         ensures err { OnErr result (self.new ≡ self.old) }
     {
-        let reply = match self.core.finish(ticket, *report) {
-            Ok(reply) => reply,
-            Err(refusal) => return Err(refusal),
-        };
+        let reply = self.core.finish(ticket, *report)?;
         self.core.plan().check();
         note_reply(&mut self.bound, ticket.device, reply);
         append(&mut self.events, Event::Finish(ticket.device, *report));

@@ -23,6 +23,7 @@ impl PlanName for Brand {
 }
 
 /// What a worker does next.
+#[derive(Drop)]
 pub(crate) enum Turn {
     /// It probes the device of the ticket.
     Flight(Ticket, Seen),
@@ -106,8 +107,7 @@ impl<J: PlanName> Manager<J> {
             match kept.turn() {
                 Ok(Turn::Flight(ticket, seen)) => return Some((ticket, seen)),
                 Ok(Turn::Wait) => {}
-                Ok(Turn::Quiet) => return None,
-                Err(_) => return None,
+                Ok(Turn::Quiet) | Err(_) => return None,
             }
             kept = self.finished.wait(rt, kept);
         }

@@ -66,18 +66,8 @@ fn run_named<J: PlanName + Send + Sync, P: Prober, R: Threads + Wait + Sync>(
     ensures ran { IfOk result (λ ran. IsRun (P.attests prober.now plan.now) plan.now ran.report.items ran.notes.items) }
     ensures err { IfErr result (λ refusal. refusal ≡ OutOfMemory) }
 {
-    let copy = match plan.copy(alloc) {
-        Ok(copy) => copy,
-        Err(_) => return Err(Refusal::NoMemory),
-    };
-    let keeper = match Keeper::new(alloc, copy) {
-        Ok(keeper) => keeper,
-        Err(refusal) => return Err(refusal),
-    };
-    let mut notes = match no_notes::<P::Note>(alloc, plan.len()) {
-        Ok(notes) => notes,
-        Err(_) => return Err(Refusal::NoMemory),
-    };
+    let keeper = Keeper::new(alloc, plan.copy(alloc)?)?;
+    let mut notes = no_notes::<P::Note>(alloc, plan.len())?;
     let manager = Manager::<J>::new(keeper);
     let found = gather(rt, alloc, &manager, plan, prober, workers);
     place(plan, prober, &mut notes, found);

@@ -6,7 +6,7 @@ use Rattle.dt_draft.specs.declared.table.NodeRow.{NodeRow}
 use Rattle.dt_draft.specs.declared.table.PropertyRow.{PropertyRow}
 use Rattle.dt_draft.specs.declared.table.LabelRow.{LabelRow}
 use Rattle.dt_draft.specs.declared.table.Draft.{Draft}
-use Rattle.dt_draft.specs.Index.{row_of}
+use Rattle.dt_draft.specs.Index.{row_of, body_of}
 
 -- ---- nodes
 -- the row that stands where there is none
@@ -120,3 +120,43 @@ pub record Kept (p : Path) (old new : List NodeRow) : Type 0 where
   pub more : length old ≤ length new
   pub paths : (k : ℕ) → k ≤ length old → path_of new k ≡ path_of old k
   pub stand : (k : ℕ) → k ≤ length old → stands old k ≡ true → is_below p (path_of old k) ≡ false → stands new k ≡ true
+
+-- ---- words for a draft as a whole
+-- the path of a node
+abbrev pub node_path : {V : Type 0} → Draft V → ℕ → Path
+node_path d n = path_of d.nodes.items n
+
+-- the number is that of a node
+abbrev pub IsNode : {V : Type 0} → Draft V → ℕ → Type 0
+IsNode d n = n ≤ length d.nodes.items
+
+abbrev pub is_standing : {V : Type 0} → Draft V → ℕ → Bool
+is_standing d n = stands d.nodes.items n
+
+abbrev pub IsKept : {V : Type 0} → Path → Draft V → Draft V → Type 0
+IsKept p old new = Kept p old.nodes.items new.nodes.items
+
+abbrev pub HasSameNodes : {V : Type 0} → Draft V → Draft V → Type 0
+HasSameNodes old new = new.nodes.items ≡ old.nodes.items
+
+-- the child of a name
+abbrev pub child_of : {V : Type 0} → Draft V → ℕ → List ℕ → Option ℕ
+child_of d n k = row_of d.node_rows n k
+
+-- the body that defined a child or a property of a node last, 0 for none
+abbrev pub child_body : {V : Type 0} → Draft V → ℕ → List ℕ → ℕ
+child_body d n k = body_of d.node_rows n k
+
+abbrev pub property_body : {V : Type 0} → Draft V → ℕ → List ℕ → ℕ
+property_body d n k = body_of d.property_rows n k
+
+-- both are the same at each name of each node
+abbrev pub HasSameChildBodies : {V : Type 0} → Draft V → Draft V → Type 0
+HasSameChildBodies old new = (n : ℕ) (k : List ℕ) → child_body new n k ≡ child_body old n k
+
+abbrev pub HasSamePropertyBodies : {V : Type 0} → Draft V → Draft V → Type 0
+HasSamePropertyBodies old new = (n : ℕ) (k : List ℕ) → property_body new n k ≡ property_body old n k
+
+-- no body has a number above the last
+abbrev pub IsNumbered : {V : Type 0} → Draft V → Type 0
+IsNumbered d = (n : ℕ) (k : List ℕ) → (child_body d n k ≤ d.bodies) × (property_body d n k ≤ d.bodies)

@@ -1,8 +1,7 @@
 //! An empty draft, and whether a node is in the tree.
-ghost use Rattle.std.specs.Prelude.{◌≡◌, ◌≤◌, length, ℕ, List};
+ghost use Rattle.std.specs.Prelude.{◌≡◌, ◌+◌, IfSome, IsSome};
 ghost use Rattle.dt_meaning.specs.Edits.{empty};
-ghost use Rattle.dt_draft.specs.Index.{body_of};
-ghost use Rattle.dt_draft.specs.Rows.{IsDraft, state_of, stands};
+ghost use Rattle.dt_draft.specs.Rows.{HasSameChildBodies, HasSameNodes, HasSamePropertyBodies, IsDraft, IsNode, IsNumbered, is_standing, state_of};
 
 use crate::index::Index;
 use crate::table::Draft;
@@ -14,8 +13,7 @@ impl<'d, V: Copy> Draft<'d, V> {
     pub fn new(alloc: Global, hasher: RandomState) -> Self
         ensures sound { IsDraft result }
         ensures state { state_of result ≡ empty }
-        ensures nodes { (n : ℕ) (k : List ℕ) → body_of result.node_rows n k ≡ 0 }
-        ensures properties { (n : ℕ) (k : List ℕ) → body_of result.property_rows n k ≡ 0 }
+        ensures numbered { IsNumbered result }
     {
         Draft {
             nodes: Vec::new(alloc),
@@ -24,14 +22,26 @@ impl<'d, V: Copy> Draft<'d, V> {
             node_rows: Index::new(alloc, hasher),
             property_rows: Index::new(alloc, hasher),
             label_rows: Index::new(alloc, hasher),
+            bodies: 0,
         }
+    }
+
+    /// A number for a body that begins, which no body before it had; none where numbers ran out, which 2^64 bodies would take.
+    pub fn begin_body(&mut self) -> Option<usize>
+        ensures number { IfSome result (λ number. number ≡ self.new.bodies) }
+        ensures new { IsSome result → self.new.bodies ≡ self.old.bodies + 1 }
+        ensures rest { self.new ≡ record self.old { bodies = self.new.bodies } }
+    {
+        let number = self.bodies.checked_add(1)?;
+        self.bodies = number;
+        Some(number)
     }
 
     /// Whether the node is in the tree: neither it nor one above it was removed.
     pub fn is_in_tree(&self, node: usize) -> bool
         requires sound { IsDraft self.now }
-        requires known { node ≤ length self.now.nodes.items }
-        ensures { result ≡ stands self.now.nodes.items node }
+        requires known { IsNode self.now node }
+        ensures { result ≡ is_standing self.now node }
     {
         let mut at = node;
         'up: while at != 0 {

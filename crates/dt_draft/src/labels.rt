@@ -1,8 +1,8 @@
 //! The labels of nodes.
-ghost use Rattle.std.specs.Prelude.{◌≡◌, ◌≤◌, ℕ, List, true, length, Ok, Err, Some, None, IfSome, IfNone, OnOk, IsErrOf, MatchOption};
+ghost use Rattle.std.specs.Prelude.{◌≡◌, true, map, Ok, Err, Some, None, IfSome, OnOk, IsErrOf, MatchOption};
 ghost use Rattle.dt_meaning.specs.Edits.{label_path};
 ghost use Rattle.dt_meaning.specs.Statements as meaning;
-ghost use Rattle.dt_draft.specs.Rows.{IsDraft, state_of, path_of, stands};
+ghost use Rattle.dt_draft.specs.Rows.{HasSameChildBodies, HasSameNodes, HasSamePropertyBodies, IsDraft, IsNode, is_standing, node_path, state_of};
 
 use crate::table::{Draft, LabelRow};
 use std::alloc::{AllocError, AllocFailed};
@@ -40,9 +40,9 @@ impl<'d, V: Copy> Draft<'d, V> {
     /// The node that has this label.
     pub fn labelled(&self, label: &'d [u8]) -> Option<usize>
         requires sound { IsDraft self.now }
-        ensures path { MatchOption result (label_path label.now (state_of self.now).labels ≡ None) (λ node. label_path label.now (state_of self.now).labels ≡ Some (path_of self.now.nodes.items node)) }
-        ensures known { IfSome result (λ node. node ≤ length self.now.nodes.items) }
-        ensures there { IfSome result (λ node. stands self.now.nodes.items node ≡ true) }
+        ensures path { MatchOption result (label_path label.now (state_of self.now).labels ≡ None) (λ node. label_path label.now (state_of self.now).labels ≡ Some (node_path self.now node)) }
+        ensures known { IfSome result (λ node. IsNode self.now node) }
+        ensures there { IfSome result (λ node. is_standing self.now node ≡ true) }
     {
         match self.label_rows.get(0, label) {
             None => None,
@@ -60,14 +60,15 @@ impl<'d, V: Copy> Draft<'d, V> {
     /// Gives a label to a node, unless another one has it.
     pub fn give_label(&mut self, label: &'d [u8], node: usize) -> Result<(), LabelError>
         requires sound { IsDraft self.old }
-        requires known { node ≤ length self.old.nodes.items }
-        requires stands { stands self.old.nodes.items node ≡ true }
+        requires known { IsNode self.old node }
+        requires stands { is_standing self.old node ≡ true }
         ensures sound { OnOk result (IsDraft self.new) }
-        ensures kept { self.new.nodes.items ≡ self.old.nodes.items }
-        ensures given { OnOk result (meaning.give_label label.now (path_of self.old.nodes.items node) (label_path label.now (state_of self.old).labels) (state_of self.old) ≡ Ok (state_of self.new)) }
-        ensures refused { IsErrOf result LabelError.DuplicateLabel → meaning.give_label label.now (path_of self.old.nodes.items node) (label_path label.now (state_of self.old).labels) (state_of self.old) ≡ Err meaning.DuplicateLabel }
-        ensures node_rows { self.new.node_rows ≡ self.old.node_rows }
-        ensures property_rows { self.new.property_rows ≡ self.old.property_rows }
+        ensures kept { HasSameNodes self.old self.new }
+        ensures given { OnOk result (meaning.give_label label.now (node_path self.old node) (label_path label.now (state_of self.old).labels) (state_of self.old) ≡ Ok (state_of self.new)) }
+        ensures refused { IsErrOf result LabelError.DuplicateLabel → meaning.give_label label.now (node_path self.old node) (label_path label.now (state_of self.old).labels) (state_of self.old) ≡ Err meaning.DuplicateLabel }
+        ensures children { HasSameChildBodies self.old self.new }
+        ensures properties { HasSamePropertyBodies self.old self.new }
+        ensures count { self.new.bodies ≡ self.old.bodies }
     {
         match self.labelled(label) {
             Some(other) => {
@@ -80,6 +81,25 @@ impl<'d, V: Copy> Draft<'d, V> {
                 self.labels.push(LabelRow { label, node })?;
                 self.label_rows.insert(0, label, row)?;
             }
+        }
+        Ok(())
+    }
+
+    /// Gives labels to a node, in order, up to the first that another node has.
+    pub fn give_labels(&mut self, labels: &'d [&'d [u8]], node: usize) -> Result<(), LabelError>
+        requires sound { IsDraft self.old }
+        requires known { IsNode self.old node }
+        requires stands { is_standing self.old node ≡ true }
+        ensures sound { OnOk result (IsDraft self.new) }
+        ensures kept { HasSameNodes self.old self.new }
+        ensures given { OnOk result (meaning.give_labels (map (λ l. l.now) labels.now) (node_path self.old node) (state_of self.old) ≡ Ok (state_of self.new)) }
+        ensures refused { IsErrOf result LabelError.DuplicateLabel → meaning.give_labels (map (λ l. l.now) labels.now) (node_path self.old node) (state_of self.old) ≡ Err meaning.DuplicateLabel }
+        ensures children { HasSameChildBodies self.old self.new }
+        ensures properties { HasSamePropertyBodies self.old self.new }
+        ensures count { self.new.bodies ≡ self.old.bodies }
+    {
+        for label in labels {
+            self.give_label(*label, node)?;
         }
         Ok(())
     }

@@ -11,6 +11,5 @@ mod labels;
 mod properties;
 mod table;
 
-pub use index::{Index, Place};
 pub use labels::LabelError;
-pub use table::{Draft, LabelRow, NodeRow, PropertyRow};
+pub use table::Draft;

@@ -1,8 +1,8 @@
 //! The properties of nodes.
-ghost use Rattle.std.specs.Prelude.{◌≡◌, ◌≤◌, ◌==◌, ℕ, List, not, true, length, IfOk, OnOk, if◌then◌else◌};
+ghost use Rattle.std.specs.Prelude.{◌≡◌, ◌==◌, ℕ, List, not, true, IfOk, OnOk, if◌then◌else◌};
 ghost use Rattle.dt_meaning.specs.Edits.{with_property, without_property};
-ghost use Rattle.dt_draft.specs.Index.{is_key, row_of, body_of};
-ghost use Rattle.dt_draft.specs.Rows.{IsDraft, state_of, path_of, stands};
+ghost use Rattle.dt_draft.specs.Index.{is_key};
+ghost use Rattle.dt_draft.specs.Rows.{HasSameChildBodies, HasSameNodes, HasSamePropertyBodies, IsDraft, IsNode, is_standing, node_path, property_body, state_of};
 
 use crate::table::{Draft, PropertyRow};
 use std::alloc::AllocError;
@@ -18,14 +18,15 @@ impl<'d, V: Copy> Draft<'d, V> {
         body: usize,
     ) -> Result<bool, AllocError>
         requires sound { IsDraft self.old }
-        requires known { node ≤ length self.old.nodes.items }
-        requires stands { stands self.old.nodes.items node ≡ true }
+        requires known { IsNode self.old node }
+        requires stands { is_standing self.old node ≡ true }
         ensures sound { OnOk result (IsDraft self.new) }
-        ensures kept { self.new.nodes.items ≡ self.old.nodes.items }
-        ensures state { OnOk result (state_of self.new ≡ with_property (path_of self.old.nodes.items node) name.now value (state_of self.old)) }
-        ensures first { IfOk result (λ x. x ≡ not (body_of self.old.property_rows node name.now == body)) }
-        ensures bodies { OnOk result ((n : ℕ) (k : List ℕ) → body_of self.new.property_rows n k ≡ (if is_key node name.now n k then body else body_of self.old.property_rows n k)) }
-        ensures others { self.new.node_rows ≡ self.old.node_rows }
+        ensures kept { HasSameNodes self.old self.new }
+        ensures state { OnOk result (state_of self.new ≡ with_property (node_path self.old node) name.now value (state_of self.old)) }
+        ensures first { IfOk result (λ x. x ≡ not (property_body self.old node name.now == body)) }
+        ensures bodies { OnOk result ((n : ℕ) (k : List ℕ) → property_body self.new n k ≡ (if is_key node name.now n k then body else property_body self.old n k)) }
+        ensures others { HasSameChildBodies self.old self.new }
+        ensures count { self.new.bodies ≡ self.old.bodies }
     {
         self.properties.reserve(1)?;
         let row = self.properties.len();
@@ -45,13 +46,14 @@ impl<'d, V: Copy> Draft<'d, V> {
     /// Removes a property, where it is there.
     pub fn remove_property(&mut self, node: usize, name: &'d [u8])
         requires sound { IsDraft self.old }
-        requires known { node ≤ length self.old.nodes.items }
-        requires stands { stands self.old.nodes.items node ≡ true }
+        requires known { IsNode self.old node }
+        requires stands { is_standing self.old node ≡ true }
         ensures sound { IsDraft self.new }
-        ensures kept { self.new.nodes.items ≡ self.old.nodes.items }
-        ensures state { state_of self.new ≡ without_property (path_of self.old.nodes.items node) name.now (state_of self.old) }
-        ensures bodies { (n : ℕ) (k : List ℕ) → body_of self.new.property_rows n k ≡ body_of self.old.property_rows n k }
-        ensures others { self.new.node_rows ≡ self.old.node_rows }
+        ensures kept { HasSameNodes self.old self.new }
+        ensures state { state_of self.new ≡ without_property (node_path self.old node) name.now (state_of self.old) }
+        ensures bodies { HasSamePropertyBodies self.old self.new }
+        ensures others { HasSameChildBodies self.old self.new }
+        ensures count { self.new.bodies ≡ self.old.bodies }
     {
         if let Some(row) = self.property_rows.forget(node, name) {
             self.properties[row].value = None;

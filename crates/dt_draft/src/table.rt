@@ -35,4 +35,6 @@ pub struct Draft<'d, V> {
     pub(crate) node_rows: Index<'d>,
     pub(crate) property_rows: Index<'d>,
     pub(crate) label_rows: Index<'d>,
+    // how many bodies have begun
+    pub(crate) bodies: usize,
 }

@@ -1,5 +1,6 @@
 -- Reading by depth and by rank, a step at a time.
-use Rattle.std.proofs.Common.{◌≡◌, ℕ, zero, suc, ◌-◌, ◌<◌, ◌≤◌, List, length, Ok, Err, Some, None, refl, sym, ◌∙◌, arith}
+use Rattle.std.proofs.Common.{◌≡◌, ◌⊎◌, inl, inr, subst, ◌+◌, ℕ, zero, suc, ◌-◌, ◌<◌, ◌≤◌, List, length, Ok, Err, Some, None, refl, sym, ◌∙◌, arith}
+use Rattle.std.proofs.lemmas.Bool.{cases_lt}
 use Rattle.dt_lexeme.specs.declared.lexeme.Lexeme.{Lexeme}
 use Rattle.dt_lexeme.specs.declared.lexeme.Refusal.{Refusal}
 use Rattle.dt_expression.specs.Expression.{Making}
@@ -36,11 +37,23 @@ unfolding levels
 levels_some m unary zero ts h = absurd (omega arith)
 levels_some m unary (suc r) ts h = let e : suc r - 1 ≡ r = omega arith in rw e refl
 
-pub levels_fails : {A : Type 0} (m : Making A) (unary : Reader A) (r : ℕ) (ts : List Lexeme) (e : Refusal) → 1 ≤ r → levels m unary (r - 1) ts ≡ Err e → levels m unary r ts ≡ Err e
-levels_fails m unary r ts e h f = levels_some m unary r ts h ∙ rw f refl
+-- what is refused stays so at each further rank
+pub levels_refused : {A : Type 0} (m : Making A) (unary : Reader A) (q r : ℕ) (ts : List Lexeme) (e : Refusal) → r ≤ q → levels m unary r ts ≡ Err e → levels m unary q ts ≡ Err e
+unfolding levels
+levels_refused m unary zero zero ts e h f = f
+levels_refused m unary zero (suc r) ts e h f = absurd (omega arith)
+levels_refused m unary (suc q) r ts e h f = go (cases_lt q r) (levels_refused m unary q r ts e)
+  where
+    go : (q < r) ⊎ (r ≤ q) → (r ≤ q → levels m unary r ts ≡ Err e → levels m unary q ts ≡ Err e) → levels m unary (suc q) ts ≡ Err e
+    go (inr le) at = let below : levels m unary q ts ≡ Err e = at le f in rw below refl
+    go (inl lt) at = let same : r ≡ suc q = omega arith in subst (λ (x : ℕ). levels m unary x ts ≡ Err e) same f
 
-pub levels_begin : {A : Type 0} (m : Making A) (unary : Reader A) (r : ℕ) (ts left : List Lexeme) (v : A) → 1 ≤ r → levels m unary (r - 1) ts ≡ Ok (v, left) → (n : ℕ) × (length left ≤ n) × (more m (levels m unary (r - 1)) r n v left ≡ levels m unary r ts)
-levels_begin m unary r ts left v h e = (length left, omega arith, sym (levels_some m unary r ts h ∙ rw e refl))
+-- the next rank, behind an operand of this one
+pub levels_next : {A : Type 0} (m : Making A) (unary : Reader A) (r : ℕ) (ts left : List Lexeme) (v : A) → levels m unary r ts ≡ Ok (v, left) → levels m unary (r + 1) ts ≡ more m (levels m unary (r + 1 - 1)) (r + 1) (length left) v left
+levels_next m unary r ts left v e =
+    let one : r ≡ r + 1 - 1 = omega arith in
+    let below : levels m unary (r + 1 - 1) ts ≡ Ok (v, left) = subst (λ (x : ℕ). levels m unary x ts ≡ Ok (v, left)) one e in
+    levels_some m unary (r + 1) ts (omega arith) ∙ rw below refl
 
 -- one more operand
 pub more_goes_on : {A : Type 0} (m : Making A) (lower : Reader A) (level n : ℕ) (v : A) (ts : List Lexeme) (t : Lexeme) (rest : List Lexeme) (x : A) (after : List Lexeme) (total : Read A)

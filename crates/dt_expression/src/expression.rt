@@ -1,9 +1,9 @@
 //! Expressions, read from lexemes and computed while they are read.
-ghost use Rattle.std.specs.Prelude.{◌≡◌, ◌≤◌, ◌<◌, [], length, IfOk, IfSome, option_map};
+ghost use Rattle.std.specs.Prelude.{◌≡◌, ◌≤◌, ◌<◌, ◌-◌, length, IfOk, IfSome, option_map};
 ghost use Rattle.dt_expression.specs.Expression.{rank, is_prefix};
 ghost use Rattle.dt_expression.specs.Reading.{Gives, syntax_at, too_deep};
 ghost use Rattle.dt_expression.specs.Values.{values};
-ghost use Rattle.dt_expression.specs.ReadingExpressions.{unary_at, levels, expr_at, expr_below, unary_below, operator_at, closed, chosen, otherwise, primary_with, primary_at, ReadsWhatIsSpelled, ReadsAllThatIsSpelled, SpellsOne};
+ghost use Rattle.dt_expression.specs.ReadingExpressions.{unary_at, levels, more, expr_at, expr_below, unary_below, operator_at, closed, chosen, otherwise, primary_with, primary_at, ReadsWhatIsSpelled, ReadsAllThatIsSpelled, SpellsOne};
 
 use crate::numeral::literal;
 use crate::value::{both, choice, prefixed};
@@ -171,6 +171,31 @@ fn unary<'a>(
     }
 }
 
+// Further operands of operators of this rank, behind a first one.
+#[cycle(expression)]
+fn further<'a>(
+    text: &[u8],
+    depth: u8,
+    rank: u8,
+    first: Result<u64, Fault>,
+    lexemes: &'a [Lexeme],
+) -> Result<(Result<u64, Fault>, &'a [Lexeme]), Refusal>
+    requires some { 1 ≤ rank }
+    requires most { rank ≤ 10 }
+    ensures gives { Gives (λ x. (x.0, x.1.now)) result (more (values text.now) (levels (values text.now) (unary_at (values text.now) depth) (rank - 1)) rank (length lexemes.now) first lexemes.now) }
+    ensures shorter { IfOk result (λ x. length x.1.now ≤ length lexemes.now) }
+{
+    let mut value = first;
+    let mut left = lexemes;
+    while let Some((t, rest)) = operator(rank, left) {
+        let (next, after) = level(text, depth, rank - 1, rest)?;
+        value = both(t, value, next);
+        left = after;
+    }
+    Ok((value, left))
+}
+
+// An operand, and further ones of each rank in turn.
 #[cycle(expression)]
 fn level<'a>(
     text: &[u8],
@@ -182,13 +207,10 @@ fn level<'a>(
     ensures gives { Gives (λ x. (x.0, x.1.now)) result (levels (values text.now) (unary_at (values text.now) depth) rank lexemes.now) }
     ensures shorter { IfOk result (λ x. length x.1.now < length lexemes.now) }
 {
-    if rank == 0 {
-        return unary(text, depth, lexemes);
-    }
-    let (mut value, mut left) = level(text, depth, rank - 1, lexemes)?;
-    while let Some((t, rest)) = operator(rank, left) {
-        let (next, after) = level(text, depth, rank - 1, rest)?;
-        value = both(t, value, next);
+    let (mut value, mut left) = unary(text, depth, lexemes)?;
+    for below in 0..rank {
+        let (more, after) = further(text, depth, below + 1, value, left)?;
+        value = more;
         left = after;
     }
     Ok((value, left))

@@ -16,7 +16,7 @@ abbrev pub value_in : List (Definition (List ℕ)) → Path → List ℕ → Opt
 value_in [] p n = None
 value_in (e ∷ es) p n = if is_of p n e then Some e.value else value_in es p n
 
-abbrev pub map_of : Resolved → PathMap
+abbrev pub map_of : Resolved → PathMap (List ℕ)
 map_of r = record {
   has = λ p. is_there r p;
   properties = λ p. if is_there r p then Some (map (λ e. e.name) (held r.properties p)) else None;

@@ -9,11 +9,13 @@ use Rattle.dt_lexeme.specs.declared.lexeme.Refusal.{Refusal}
 use Rattle.dt_expression.specs.declared.elements.Width.{Width}
 use Rattle.dt_source.specs.declared.cell.Cell.{Cell}
 use Rattle.dt_expression.specs.Reading.{◌>>=◌}
-use Rattle.dt_source.specs.Sequences.{earlier, Part, many}
+use Rattle.dt_source.specs.Reading.Several.{earlier, Part, many}
 use Rattle.dt_source.specs.Tree.{Piece}
-use Rattle.dt_source.specs.Pieces.{Built, put, put_all, cell_fault, cell_pieces, cells_pieces}
-use Rattle.dt_source.specs.Bodies.{cell_at, fault_of_cell, cell_step, stays, cells_at, pair_at, concat, pairs_at}
-use Rattle.dt_source.specs.Loops.{into, folded}
+use Rattle.dt_source.specs.Reading.Values.{Built, put, put_all}
+use Rattle.dt_source.specs.Pieces.{cell_fault, cell_pieces, cells_pieces}
+use Rattle.dt_source.specs.Reading.Bodies.{cell_at, fault_of_cell, cell_step, stays, cells_at, pair_at, pairs_at}
+use Rattle.dt_source.specs.Words.{concat}
+use Rattle.dt_source.specs.Reading.Loops.{into, folded}
 use Rattle.dt_source.proofs.Loops.{many_more, many_end, many_fails, earlier_none}
 
 abbrev pub cell_onto : List ℕ → Option Width → Built → Cell → Built

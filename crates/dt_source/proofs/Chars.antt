@@ -3,8 +3,8 @@ use Rattle.std.proofs.Common.{◌≡◌, ℕ, zero, suc, ◌+◌, ◌<◌, ◌�
 use Rattle.std.proofs.lemmas.List.{append-nil}
 use Rattle.dt_lexeme.specs.declared.lexeme.Fault.{Fault}
 use Rattle.dt_expression.specs.Values.{Value}
-use Rattle.dt_source.specs.Sequences.{earlier}
-use Rattle.dt_source.specs.Bodies.{first_of}
+use Rattle.dt_source.specs.Reading.Several.{earlier}
+use Rattle.dt_source.specs.Order.{first_of}
 use Rattle.dt_source.specs.Strings.{char_step, with_char, chars_with, numbers, faults, char_number, char_fault}
 use Rattle.dt_source.proofs.Loops.{earlier_assoc, earlier_none}
 

@@ -5,8 +5,8 @@ use Rattle.dt_lexeme.specs.declared.lexeme.Lexeme.{Lexeme}
 use Rattle.dt_lexeme.specs.declared.lexeme.Fault.{Fault}
 use Rattle.dt_lexeme.specs.declared.lexeme.Refusal.{Refusal}
 use Rattle.dt_expression.specs.Reading.{◌>>=◌}
-use Rattle.dt_source.specs.Sequences.{earlier, Part, many}
-use Rattle.dt_source.specs.Loops.{folded}
+use Rattle.dt_source.specs.Reading.Several.{earlier, Part, many}
+use Rattle.dt_source.specs.Reading.Loops.{folded}
 
 pub earlier_assoc : (f g h : Option Fault) → earlier f (earlier g h) ≡ earlier (earlier f g) h
 earlier_assoc None g h = refl

@@ -5,7 +5,7 @@ use Rattle.dt_lexeme.specs.declared.lexeme.Kind.{Kind}
 use Rattle.dt_lexeme.specs.declared.lexeme.Kind.TheVariants.{Literal, Paren, Reference, PathReference}
 use Rattle.dt_expression.specs.Expression.{Begins, Takes}
 use Rattle.dt_source.specs.Sequences.{SpellsEach}
-use Rattle.dt_source.specs.Bodies.{is_label, labels_at}
+use Rattle.dt_source.specs.Reading.Bodies.{is_label, labels_at}
 use Rattle.dt_source.specs.Source.{IsReference, OneReference, SpellsLabels}
 use Rattle.dt_source.proofs.Several.{each_can}
 use Rattle.dt_source.proofs.SpelledLabels.{NoLabel, none_at, labels_again}

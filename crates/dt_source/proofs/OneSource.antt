@@ -6,7 +6,7 @@ use Rattle.dt_lexeme.specs.declared.lexeme.Kind.{Kind}
 use Rattle.dt_lexeme.specs.declared.lexeme.Kind.TheVariants.{Version, Plugin, MemReserve, Reference, Semicolon, Slash, DeleteNode}
 use Rattle.dt_expression.specs.Expression.{Expression, Begins, SpellsPrimary}
 use Rattle.dt_source.specs.Sequences.{SpellsEach}
-use Rattle.dt_source.specs.Bodies.{labels_at}
+use Rattle.dt_source.specs.Reading.Bodies.{labels_at}
 use Rattle.dt_source.specs.Source.{SourceTree, ReserveTree, ItemTree, Root, Extend, Delete, SpellsBody, SpellsItem, SpellsReserve, SpellsHeader, Spells}
 use Rattle.dt_source.specs.Laws.{OneSpelling}
 use Rattle.dt_source.proofs.Several.{each_can}

@@ -12,12 +12,12 @@ use Rattle.dt_source.specs.declared.error.SourceErrorKind.{SourceErrorKind}
 use Rattle.dt_source.specs.declared.error.SourceErrorKind.TheVariants as kinds
 use Rattle.dt_source.specs.declared.tree.Outline.{Outline}
 use Rattle.dt_lexeme.specs.Lexemes.{Lexemes, HasNone, Scanned}
-use Rattle.dt_source.specs.Sequences.{Reads}
+use Rattle.dt_source.specs.Reading.Several.{Reads}
 use Rattle.dt_source.specs.Tree.{Meaning}
 use Rattle.dt_source.specs.Meaning.{outlined}
-use Rattle.dt_source.specs.Bodies.{first_of}
+use Rattle.dt_source.specs.Order.{first_of}
 use Rattle.dt_source.specs.Source.{SourceTree, Spells, said, faults_of}
-use Rattle.dt_source.specs.Whole.{source_at}
+use Rattle.dt_source.specs.Reading.Whole.{source_at}
 use Rattle.dt_source.specs.Order.{IsFirstInText, FaultsAreInOrder}
 use Rattle.dt_source.specs.Laws.{SourcesAreSpelled, SourcesAreRead}
 use Rattle.dt_source.specs.Parse.{IsShort, IsSource, IsNoSource, Says, HasFirstFault, HasFault, Refuses, IsRead, IfRefused, refusal_of, refused_at}

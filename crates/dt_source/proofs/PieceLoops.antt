@@ -12,11 +12,12 @@ use Rattle.dt_lexeme.specs.declared.lexeme.Refusal.{Refusal}
 use Rattle.dt_lexeme.specs.declared.lexeme.ReadError.{ReadError}
 use Rattle.dt_lexeme.specs.declared.lexeme.ReadError.TheVariants as errors
 use Rattle.dt_expression.specs.Reading.{◌>>=◌}
-use Rattle.dt_source.specs.Sequences.{earlier, Part, many, Fails}
+use Rattle.dt_source.specs.Reading.Several.{earlier, Part, many, Fails}
 use Rattle.dt_source.specs.Tree.{Target, Piece, Plain, PhandleOf, PathOf}
-use Rattle.dt_source.specs.Pieces.{Built, put, put_all, bytes_piece, flushed, join_bytes, joined}
-use Rattle.dt_source.specs.Bodies.{is_label, labels_at, stays, placed_at, comma_by, comma_at, concat_pieces, pieces_at, value_at}
-use Rattle.dt_source.specs.Loops.{into, folded, comma_by_kind, comma_rest}
+use Rattle.dt_source.specs.Reading.Values.{Built, put, put_all, bytes_piece, flushed}
+use Rattle.dt_source.specs.Pieces.{join_bytes, joined}
+use Rattle.dt_source.specs.Reading.Bodies.{is_label, labels_at, stays, placed_at, comma_by, comma_at, concat_pieces, pieces_at, value_at}
+use Rattle.dt_source.specs.Reading.Loops.{into, folded, comma_by_kind, comma_rest}
 use Rattle.dt_source.proofs.Chars.{drop_all}
 use Rattle.dt_source.proofs.Loops.{many_more, many_end, many_fails, earlier_none}
 

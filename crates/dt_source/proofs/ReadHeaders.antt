@@ -9,9 +9,10 @@ use Rattle.dt_expression.specs.Expression.{Begins, SpellsPrimary}
 use Rattle.dt_expression.specs.ReadingExpressions.{primary_at}
 use Rattle.dt_source.specs.Sequences.{SpellsEach}
 use Rattle.dt_expression.specs.Values.{value_of}
-use Rattle.dt_source.specs.Bodies.{first_of, is_label, labels_at}
+use Rattle.dt_source.specs.Order.{first_of}
+use Rattle.dt_source.specs.Reading.Bodies.{is_label, labels_at}
 use Rattle.dt_source.specs.Source.{ReserveTree, ItemTree, Root, Extend, Delete, IsReference, SpellsLabels, SpellsReserve, SpellsHeader, SpellsItem, both_numbers, reserve_values, reserve_faults}
-use Rattle.dt_source.specs.Whole.{semicolon_at, plugin_kind, plugin_at, header_kind, header_at, more_headers, headers_at, reserve_kind, reserve_with, reserve_at, reserves_at}
+use Rattle.dt_source.specs.Reading.Whole.{semicolon_at, plugin_kind, plugin_at, header_kind, header_at, more_headers, headers_at, reserve_kind, reserve_with, reserve_at, reserves_at}
 use Rattle.dt_expression.proofs.Complete.{begins_shorter, shorter}
 use Rattle.dt_expression.proofs.Trees.{reads_all_that_is_spelled}
 use Rattle.dt_source.proofs.Several as several

@@ -4,8 +4,10 @@ use Rattle.std.specs.Prelude.{flat_map}
 use Rattle.dt_lexeme.specs.declared.lexeme.Lexeme.{Lexeme}
 use Rattle.dt_lexeme.specs.declared.lexeme.Fault.{Fault}
 use Rattle.dt_expression.specs.Reading.{◌>>=◌}
-use Rattle.dt_source.specs.Sequences.{earlier, Part, with_item, many, SpellsEach}
-use Rattle.dt_source.specs.Bodies.{first_of, stays}
+use Rattle.dt_source.specs.Reading.Several.{earlier, Part, with_item, many}
+use Rattle.dt_source.specs.Sequences.{SpellsEach}
+use Rattle.dt_source.specs.Order.{first_of}
+use Rattle.dt_source.specs.Reading.Bodies.{stays}
 use Rattle.dt_expression.proofs.Sound.{bind_ok, ok_is}
 
 pub first_of_both : (a b : List Fault) → first_of (a ++ b) ≡ earlier (first_of a) (first_of b)

@@ -9,12 +9,12 @@ use Rattle.dt_lexeme.specs.declared.lexeme.ReadError.{ReadError}
 use Rattle.dt_lexeme.specs.declared.lexeme.ReadError.TheVariants as errors
 use Rattle.dt_expression.specs.Values.{Value}
 use Rattle.dt_expression.specs.Reading.{◌>>=◌}
-use Rattle.dt_source.specs.Sequences.{earlier, Part, many, Fails}
+use Rattle.dt_source.specs.Reading.Several.{earlier, Part, many, Fails}
 use Rattle.dt_source.specs.Tree.{Edit}
-use Rattle.dt_source.specs.Bodies.{stays}
+use Rattle.dt_source.specs.Reading.Bodies.{stays}
 use Rattle.dt_source.specs.Source.{both_numbers}
-use Rattle.dt_source.specs.Whole.{header_at, more_headers, headers_at, reserve_at, reserves_at, item_at, all_items_at}
-use Rattle.dt_source.specs.Loops.{folded}
+use Rattle.dt_source.specs.Reading.Whole.{header_at, more_headers, headers_at, reserve_at, reserves_at, item_at, all_items_at}
+use Rattle.dt_source.specs.Reading.Loops.{folded}
 use Rattle.dt_source.proofs.Loops.{many_more, many_end, many_fails}
 use Rattle.dt_source.proofs.StatementLoops.{snoc, snoc_read}
 

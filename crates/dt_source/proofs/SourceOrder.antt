@@ -15,7 +15,7 @@ use Rattle.dt_expression.specs.Element.{element, fits_bits, bytes_in, width_of}
 use Rattle.dt_source.specs.Sequences.{SpellsEach}
 use Rattle.dt_source.specs.Strings.{chars_with, char_step, with_char, escaped, escape_at, faults, string_faults}
 use Rattle.dt_source.specs.Pieces.{fault_in, cell_fault, reference_fault, width_at, width_in, lawful}
-use Rattle.dt_source.specs.Bodies.{first_of}
+use Rattle.dt_source.specs.Order.{first_of}
 use Rattle.dt_source.specs.Source.{CellTree, Element, Refers, Marks, PieceTree, Quoted, Points, Pairs, Cells, WideCells, Statements, End, Sets, Unsets, Holds, Drops, ReserveTree, ItemTree, Root, Extend, Delete, SourceTree, One, SpellsLabels, DropsLabels, SpellsCell, SpellsCells, OnePair, SpellsPiece, SpellsPlaced, SpellsFurther, SpellsValue, SpellsStatements, SpellsBody, SpellsItem, SpellsReserve, SpellsHeader, Spells, cell_of, fault_list, cells_faults, piece_faults, width_said, value_faults, faults_in, item_faults, reserve_faults, faults_of}
 use Rattle.dt_source.specs.Order.{IsFirstInText}
 use Rattle.dt_lexeme.specs.Order.{Above}

@@ -5,9 +5,11 @@ use Rattle.dt_lexeme.specs.declared.lexeme.Fault.{Fault}
 use Rattle.dt_lexeme.specs.declared.lexeme.Kind.{Kind}
 use Rattle.dt_lexeme.specs.declared.lexeme.Kind.TheVariants.{Name, Semicolon, Equals, Brace, EndBrace, DeleteNode, DeleteProperty}
 use Rattle.dt_expression.specs.Expression.{Begins}
-use Rattle.dt_source.specs.Sequences.{earlier, many}
+use Rattle.dt_source.specs.Reading.Several.{earlier, many}
 use Rattle.dt_source.specs.Tree.{Entry, Defines, Undefines, Child, Removes, body_of}
-use Rattle.dt_source.specs.Bodies.{first_of, is_label, label_bytes, name_bytes, labels_at, semicolon_by, ended_by, Inner, named_by, named_at, deleted_by, deleted_at, begun_by, begun_at, statement_at, after, body_below, body_at}
+use Rattle.dt_source.specs.Order.{first_of}
+use Rattle.dt_source.specs.Reading.Bodies.{is_label, labels_at, semicolon_by, ended_by, Inner, named_by, named_at, deleted_by, deleted_at, begun_by, begun_at, statement_at, after, body_below, body_at}
+use Rattle.dt_source.specs.Words.{label_bytes, name_bytes}
 use Rattle.dt_source.specs.Source.{Statements, End, Sets, Unsets, Holds, Drops, One, SpellsLabels, SpellsValue, SpellsPlaced, SpellsStatements, PieceTree, value_said, value_faults, entries_of, faults_in}
 use Rattle.dt_expression.proofs.Complete.{begins_shorter}
 use Rattle.dt_source.proofs.Several as several

@@ -10,10 +10,12 @@ use Rattle.dt_source.specs.declared.cell.Cell.TheVariants as cells
 use Rattle.dt_expression.specs.Expression.{Expression, Number, Grouped, Prefixed, Infix, Choice, Begins, Spells, SpellsPrimary}
 use Rattle.dt_expression.specs.Values.{value_of}
 use Rattle.dt_expression.specs.ReadingExpressions.{primary_at}
-use Rattle.dt_source.specs.Sequences.{many, SpellsEach}
+use Rattle.dt_source.specs.Reading.Several.{many}
+use Rattle.dt_source.specs.Sequences.{SpellsEach}
 use Rattle.dt_source.specs.Tree.{Piece}
 use Rattle.dt_source.specs.Pieces.{cell_fault, cells_pieces}
-use Rattle.dt_source.specs.Bodies.{first_of, element_at, cell_by, cell_at, fault_of_cell, cell_step, cells_at, stays}
+use Rattle.dt_source.specs.Order.{first_of}
+use Rattle.dt_source.specs.Reading.Bodies.{element_at, cell_by, cell_at, fault_of_cell, cell_step, cells_at, stays}
 use Rattle.dt_source.specs.Source.{CellTree, Element, Refers, Marks, IsReference, SpellsCell, cell_of, cells_said, cells_faults, fault_list}
 use Rattle.dt_expression.proofs.Sound.{bind_ok, done, ok_is}
 use Rattle.dt_expression.proofs.Complete.{shorter}

@@ -9,11 +9,13 @@ use Rattle.dt_expression.specs.Expression.{Begins}
 use Rattle.dt_expression.specs.Values.{Value, value_of}
 use Rattle.dt_expression.specs.Reading.{◌>>=◌}
 use Rattle.dt_expression.specs.ReadingExpressions.{primary_at}
-use Rattle.dt_source.specs.Sequences.{SpellsEach, earlier, many}
+use Rattle.dt_source.specs.Sequences.{SpellsEach}
+use Rattle.dt_source.specs.Reading.Several.{earlier, many}
 use Rattle.dt_source.specs.Pieces.{fault_in}
-use Rattle.dt_source.specs.Bodies.{first_of, stays, labels_at}
+use Rattle.dt_source.specs.Order.{first_of}
+use Rattle.dt_source.specs.Reading.Bodies.{stays, labels_at}
 use Rattle.dt_source.specs.Source.{ReserveTree, SpellsReserve, SpellsHeader, DropsLabels, fault_list, both_numbers, reserve_values, reserve_faults, any}
-use Rattle.dt_source.specs.Whole.{semicolon_kind, semicolon_at, plugin_kind, plugin_at, header_kind, header_at, more_headers, headers_at, reserve_kind, reserve_with, reserve_at, reserves_at}
+use Rattle.dt_source.specs.Reading.Whole.{semicolon_kind, semicolon_at, plugin_kind, plugin_at, header_kind, header_at, more_headers, headers_at, reserve_kind, reserve_with, reserve_at, reserves_at}
 use Rattle.dt_expression.proofs.Sound.{bind_ok, ok_is}
 use Rattle.dt_expression.proofs.Trees.{reads_what_is_spelled}
 use Rattle.dt_source.proofs.Several as several

@@ -8,9 +8,11 @@ use Rattle.dt_expression.specs.Expression.{Begins}
 use Rattle.dt_source.specs.Sequences.{SpellsEach}
 use Rattle.dt_source.specs.Tree.{Entry, Edit, Rooted, Extends, Deletes, Body, body_of}
 use Rattle.dt_source.specs.Pieces.{target_of}
-use Rattle.dt_source.specs.Bodies.{first_of, is_label, labels_at, label_bytes, ended_by, body_at, body_below}
+use Rattle.dt_source.specs.Order.{first_of}
+use Rattle.dt_source.specs.Reading.Bodies.{is_label, labels_at, ended_by, body_at, body_below}
+use Rattle.dt_source.specs.Words.{label_bytes}
 use Rattle.dt_source.specs.Source.{Statements, ItemTree, Root, Extend, Delete, IsReference, OneReference, SpellsLabels, SpellsStatements, SpellsBody, SpellsItem, entries_of, faults_in, item_said, item_faults}
-use Rattle.dt_source.specs.Whole.{brace_kind, brace_at, extend_at, delete_kind, delete_at, root_at, bare_item, unlabelled_item, item_kind, item_with, item_at}
+use Rattle.dt_source.specs.Reading.Whole.{brace_kind, brace_at, extend_at, delete_kind, delete_at, root_at, bare_item, unlabelled_item, item_kind, item_with, item_at}
 use Rattle.dt_expression.proofs.Sound.{bind_ok}
 use Rattle.dt_expression.proofs.Complete.{begins_shorter}
 use Rattle.dt_source.proofs.Several as several

@@ -4,7 +4,7 @@ use Rattle.dt_lexeme.specs.declared.lexeme.Lexeme.{Lexeme}
 use Rattle.dt_lexeme.specs.declared.lexeme.Kind.{Kind}
 use Rattle.dt_lexeme.specs.declared.lexeme.Kind.TheVariants.{Label}
 use Rattle.dt_source.specs.Sequences.{SpellsEach}
-use Rattle.dt_source.specs.Bodies.{is_label, labels_at}
+use Rattle.dt_source.specs.Reading.Bodies.{is_label, labels_at}
 use Rattle.dt_source.specs.Source.{SpellsLabels}
 
 -- No label stands first.

@@ -6,9 +6,12 @@ use Rattle.dt_lexeme.specs.declared.lexeme.Fault.{Fault}
 use Rattle.dt_lexeme.specs.declared.lexeme.Kind.{Kind}
 use Rattle.dt_lexeme.specs.declared.lexeme.Kind.TheVariants.{Label, Pair, EndSquare}
 use Rattle.dt_expression.specs.Expression.{Begins}
-use Rattle.dt_source.specs.Sequences.{many, SpellsEach}
+use Rattle.dt_source.specs.Reading.Several.{many}
+use Rattle.dt_source.specs.Sequences.{SpellsEach}
 use Rattle.dt_source.specs.Strings.{pair_byte}
-use Rattle.dt_source.specs.Bodies.{first_of, stays, pair_by, pair_at, pairs_at, concat}
+use Rattle.dt_source.specs.Order.{first_of}
+use Rattle.dt_source.specs.Reading.Bodies.{stays, pair_by, pair_at, pairs_at}
+use Rattle.dt_source.specs.Words.{concat}
 use Rattle.dt_source.specs.Source.{IsPair, OnePair, pair_by_kind, pair_bytes}
 use Rattle.dt_expression.proofs.Sound.{bind_ok}
 use Rattle.dt_source.proofs.Several as several

@@ -7,11 +7,13 @@ use Rattle.dt_lexeme.specs.declared.lexeme.Kind.TheVariants.{Text, Reference, Pa
 use Rattle.dt_expression.specs.declared.elements.Width.{Width}
 use Rattle.dt_expression.specs.declared.elements.Width.TheVariants.{ThirtyTwo}
 use Rattle.dt_expression.specs.Expression.{Begins}
-use Rattle.dt_source.specs.Sequences.{SpellsEach, earlier}
+use Rattle.dt_source.specs.Sequences.{SpellsEach}
+use Rattle.dt_source.specs.Reading.Several.{earlier}
 use Rattle.dt_source.specs.Tree.{Piece, Plain, PathOf}
 use Rattle.dt_source.specs.Strings.{string_bytes, string_faults}
 use Rattle.dt_source.specs.Pieces.{target_of, width_in, fault_in}
-use Rattle.dt_source.specs.Bodies.{first_of, is_label, labels_at, cells_at, pairs_at, less_by, less_at, bits_by, bits_at, piece_by, piece_at, placed_at}
+use Rattle.dt_source.specs.Order.{first_of}
+use Rattle.dt_source.specs.Reading.Bodies.{is_label, labels_at, cells_at, pairs_at, less_by, less_at, bits_by, bits_at, piece_by, piece_at, placed_at}
 use Rattle.dt_source.specs.Source.{CellTree, PieceTree, Quoted, Points, Pairs, Cells, WideCells, IsReference, SpellsCell, SpellsCells, OnePair, SpellsPiece, SpellsPlaced, cells_said, cells_faults, fault_list, width_said, piece_said, piece_faults}
 use Rattle.dt_expression.proofs.Sound.{bind_ok}
 use Rattle.dt_expression.proofs.Complete.{begins_shorter}

@@ -6,9 +6,12 @@ use Rattle.dt_lexeme.specs.declared.lexeme.Kind.{Kind}
 use Rattle.dt_lexeme.specs.declared.lexeme.Kind.TheVariants.{Name, Semicolon, Equals, Brace, EndBrace, DeleteNode, DeleteProperty}
 use Rattle.dt_expression.specs.Expression.{Begins, Deeper}
 use Rattle.dt_expression.specs.Reading.{◌>>=◌}
-use Rattle.dt_source.specs.Sequences.{Part, SpellsEach, earlier, many, with_item}
+use Rattle.dt_source.specs.Reading.Several.{Part, earlier, many, with_item}
+use Rattle.dt_source.specs.Sequences.{SpellsEach}
 use Rattle.dt_source.specs.Tree.{Piece, Entry, Defines, Undefines, Child, Removes, body_of}
-use Rattle.dt_source.specs.Bodies.{first_of, label_bytes, name_bytes, labels_at, value_at, semicolon_by, ended_by, Inner, named_by, named_at, deleted_by, deleted_at, bare_by, unlabelled, begun_by, begun_at, statement_at, after, statements_at, body_below}
+use Rattle.dt_source.specs.Order.{first_of}
+use Rattle.dt_source.specs.Words.{label_bytes, name_bytes}
+use Rattle.dt_source.specs.Reading.Bodies.{labels_at, value_at, semicolon_by, ended_by, Inner, named_by, named_at, deleted_by, deleted_at, bare_by, unlabelled, begun_by, begun_at, statement_at, after, statements_at, body_below}
 use Rattle.dt_source.specs.Source.{Statements, End, Sets, Unsets, Holds, Drops, One, SpellsLabels, SpellsStatements, value_faults, entries_of, faults_in}
 use Rattle.dt_expression.proofs.Sound.{bind_ok}
 use Rattle.dt_source.proofs.Several as several

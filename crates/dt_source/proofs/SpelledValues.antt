@@ -7,10 +7,12 @@ use Rattle.dt_lexeme.specs.declared.lexeme.Kind.{Kind}
 use Rattle.dt_lexeme.specs.declared.lexeme.Kind.TheVariants.{Comma, Semicolon}
 use Rattle.dt_expression.specs.Expression.{Begins}
 use Rattle.dt_expression.specs.Reading.{◌>>=◌}
-use Rattle.dt_source.specs.Sequences.{SpellsEach, earlier, many}
+use Rattle.dt_source.specs.Sequences.{SpellsEach}
+use Rattle.dt_source.specs.Reading.Several.{earlier, many}
 use Rattle.dt_source.specs.Tree.{Piece}
 use Rattle.dt_source.specs.Pieces.{joined}
-use Rattle.dt_source.specs.Bodies.{first_of, stays, placed_at, comma_by, comma_at, concat_pieces, pieces_at, value_at}
+use Rattle.dt_source.specs.Order.{first_of}
+use Rattle.dt_source.specs.Reading.Bodies.{stays, placed_at, comma_by, comma_at, concat_pieces, pieces_at, value_at}
 use Rattle.dt_source.specs.Source.{PieceTree, SpellsPlaced, SpellsFurther, piece_said, piece_faults, value_said, value_faults}
 use Rattle.dt_expression.proofs.Sound.{bind_ok}
 use Rattle.dt_expression.proofs.Complete.{begins_shorter}

@@ -7,10 +7,10 @@ use Rattle.dt_lexeme.specs.declared.lexeme.Fault.{Fault}
 use Rattle.dt_lexeme.specs.declared.lexeme.ReadError.{ReadError}
 use Rattle.dt_lexeme.specs.declared.lexeme.ReadError.TheVariants as errors
 use Rattle.dt_expression.specs.Reading.{too_deep}
-use Rattle.dt_source.specs.Sequences.{earlier, Part, many, Fails}
+use Rattle.dt_source.specs.Reading.Several.{earlier, Part, many, Fails}
 use Rattle.dt_source.specs.Tree.{Entry}
-use Rattle.dt_source.specs.Bodies.{after, statement_at, body_below, body_at}
-use Rattle.dt_source.specs.Loops.{folded}
+use Rattle.dt_source.specs.Reading.Bodies.{after, statement_at, body_below, body_at}
+use Rattle.dt_source.specs.Reading.Loops.{folded}
 use Rattle.dt_source.proofs.Loops.{many_more, many_end, many_fails}
 
 abbrev pub snoc : {A : Type 0} → List A → A → List A

@@ -2,10 +2,10 @@
 use Rattle.std.specs.Prelude.{◌≡◌, ℕ, List, Option, Ok}
 use Rattle.dt_lexeme.specs.declared.lexeme.Lexeme.{Lexeme}
 use Rattle.dt_lexeme.specs.declared.lexeme.Fault.{Fault}
-use Rattle.dt_source.specs.Bodies.{first_of}
+use Rattle.dt_source.specs.Order.{first_of}
 use Rattle.dt_source.specs.Tree.{Meaning}
 use Rattle.dt_source.specs.Source.{SourceTree, Spells, said, faults_of}
-use Rattle.dt_source.specs.Whole.{source_at}
+use Rattle.dt_source.specs.Reading.Whole.{source_at}
 
 -- What is read is spelled so: it says that, and has that first fault.
 abbrev pub SourcesAreSpelled : Type 0

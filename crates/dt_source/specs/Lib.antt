@@ -1,11 +1,9 @@
 pub mod Sequences
+pub mod Words
 pub mod Tree
 pub mod Strings
 pub mod Pieces
-pub mod Bodies
-pub mod Loops
 pub mod Source
-pub mod Whole
 pub mod Laws
 pub mod Order
 pub mod SourceError
@@ -14,3 +12,4 @@ pub mod Lawful
 pub mod LawfulOnce
 pub mod Meaning
 pub mod BodyLaws
+pub mod Reading

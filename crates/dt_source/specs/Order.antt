@@ -1,10 +1,13 @@
 -- Faults in the order of the text.
-use Rattle.std.specs.Prelude.{◌≡◌, ℕ, ◌≤◌, List, [], Option, Some, None, Contains, All}
+use Rattle.std.specs.Prelude.{◌≡◌, ℕ, ◌≤◌, List, [], ◌∷◌, Option, Some, None, Contains, All}
 use Rattle.dt_lexeme.specs.declared.lexeme.Lexeme.{Lexeme}
 use Rattle.dt_lexeme.specs.declared.lexeme.Fault.{Fault}
-use Rattle.dt_source.specs.Bodies.{first_of}
 use Rattle.dt_lexeme.specs.Lexemes.{Lexemes}
 use Rattle.dt_source.specs.Source.{SourceTree, Spells, faults_of}
+
+abbrev pub first_of : List Fault → Option Fault
+first_of [] = None
+first_of (f ∷ fs) = Some f
 
 -- It is one of the faults, and none stands before it in the text; or there is none.
 abbrev pub IsFirstInText : Option Fault → List Fault → Type 0

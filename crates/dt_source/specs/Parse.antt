@@ -15,10 +15,10 @@ use Rattle.dt_lexeme.specs.declared.lexeme.ReadError.TheVariants as errors
 use Rattle.dt_lexeme.specs.Lexemes.{Lexemes, Scanned}
 use Rattle.dt_lexeme.specs.Lines.{line_at}
 use Rattle.dt_source.specs.Tree.{Meaning}
-use Rattle.dt_source.specs.Bodies.{first_of}
+use Rattle.dt_source.specs.Order.{first_of}
 use Rattle.dt_source.specs.Order.{IsFirstInText}
 use Rattle.dt_source.specs.Source.{SourceTree, Spells, said, faults_of}
-use Rattle.dt_source.specs.Whole.{source_at}
+use Rattle.dt_source.specs.Reading.Whole.{source_at}
 
 -- at most 16 MiB
 abbrev pub IsShort : List ℕ → Type 0

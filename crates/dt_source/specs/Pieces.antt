@@ -1,5 +1,5 @@
 -- What cells and the pieces of a value say (Devicetree Specification v0.4, section 6.3).
-use Rattle.std.specs.Prelude.{ℕ, ◌+◌, ◌-◌, List, [], ◌∷◌, ◌++◌, Option, Some, None, Result, Ok, Err, slice_range, flat_map, fold, map}
+use Rattle.std.specs.Prelude.{ℕ, ◌+◌, ◌-◌, List, [], ◌∷◌, ◌++◌, Option, Some, None, Result, Ok, Err, slice_range, flat_map}
 use Rattle.dt_lexeme.specs.declared.lexeme.Lexeme.{Lexeme}
 use Rattle.dt_lexeme.specs.declared.lexeme.Fault.{Fault}
 use Rattle.dt_lexeme.specs.declared.lexeme.FaultKind.TheVariants.{BadBits}
@@ -9,10 +9,9 @@ use Rattle.dt_expression.specs.declared.elements.Width.{Width}
 use Rattle.dt_expression.specs.declared.elements.Width.TheVariants.{ThirtyTwo}
 use Rattle.dt_source.specs.declared.cell.Cell.{Cell}
 use Rattle.dt_source.specs.declared.cell.Cell.TheVariants as cells
-use Rattle.dt_source.specs.declared.parts.Parts.{Parts}
 use Rattle.dt_expression.specs.Values.{Value}
 use Rattle.dt_expression.specs.Element.{bytes_in, width_of, low_bytes, element}
-use Rattle.dt_source.specs.Tree.{Target, OfLabel, OfPath, Piece, Plain, PhandleOf, PathOf, part_view}
+use Rattle.dt_source.specs.Tree.{Target, OfLabel, OfPath, Piece, Plain, PhandleOf}
 
 abbrev pub target_by : List ℕ → Lexeme → Kind → Target
 target_by text l PathReference = OfPath (slice_range text (l.start + 2) (l.end - 1))
@@ -78,28 +77,3 @@ abbrev pub joined : List Piece → List Piece
 joined [] = []
 joined (Plain bs ∷ ps) = join_bytes bs (joined ps)
 joined (p ∷ ps) = p ∷ joined ps
-
--- ---- a value while it is read
-
--- the parts that are closed, and the bytes behind them
-pub record Built : Type 0 where
-  pub closed : List Piece
-  pub bytes : List ℕ
-
-abbrev pub built : Parts → Built
-built p = record { closed = map part_view p.closed.items; bytes = p.bytes.items }
-
-abbrev pub bytes_piece : List ℕ → List Piece
-bytes_piece [] = []
-bytes_piece (b ∷ bs) = Plain (b ∷ bs) ∷ []
-
-abbrev pub flushed : Built → List Piece
-flushed b = b.closed ++ bytes_piece b.bytes
-
-abbrev pub put : Built → Piece → Built
-put b (Plain bytes) = record { closed = b.closed; bytes = b.bytes ++ bytes }
-put b (PhandleOf target) = record { closed = flushed b ++ PhandleOf target ∷ []; bytes = [] }
-put b (PathOf target) = record { closed = flushed b ++ PathOf target ∷ []; bytes = [] }
-
-abbrev pub put_all : Built → List Piece → Built
-put_all b ps = fold put b ps

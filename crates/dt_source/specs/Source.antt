@@ -15,7 +15,7 @@ use Rattle.dt_source.specs.Sequences.{SpellsEach}
 use Rattle.dt_source.specs.Tree.{Piece, Plain, PathOf, Entry, Defines, Undefines, Child, Removes, body_of, Edit, Rooted, Extends, Deletes, Meaning}
 use Rattle.dt_source.specs.Strings.{string_bytes, string_faults, pair_byte}
 use Rattle.dt_source.specs.Pieces.{target_of, width_at, width_in, fault_in, cell_fault, cells_pieces, joined}
-use Rattle.dt_source.specs.Bodies.{label_bytes, name_bytes, concat}
+use Rattle.dt_source.specs.Words.{label_bytes, name_bytes, concat}
 
 -- ---- what is spelled, with the lexemes that its meaning and its faults are of
 

@@ -1,8 +1,9 @@
 //! Bodies.
 ghost use Rattle.std.specs.Prelude.{◌≡◌, ◌<◌, ◌∷◌, Some, map, length, IfOk, option_map};
-ghost use Rattle.dt_source.specs.Sequences.{Reads};
+ghost use Rattle.dt_source.specs.Reading.Several.{Reads};
 ghost use Rattle.dt_source.specs.Tree.{Undefines, Removes, view};
-ghost use Rattle.dt_source.specs.Bodies.{label_bytes, named_at, deleted_at, ended_by, bare_by, unlabelled, begun_at, statement_at, after, body_below, body_at};
+ghost use Rattle.dt_source.specs.Words.{label_bytes};
+ghost use Rattle.dt_source.specs.Reading.Bodies.{named_at, deleted_at, ended_by, bare_by, unlabelled, begun_at, statement_at, after, body_below, body_at};
 
 use crate::labels::labels_of;
 use crate::pieces::{labels, value};
@@ -127,7 +128,7 @@ fn unlabelled<'a, 'text>(
 }
 
 #[cycle(body)]
-#[tactic(auto, unfolding(crate::specs::Bodies::statement_at))]
+#[tactic(auto, unfolding(crate::specs::Reading::Bodies::statement_at))]
 fn statement<'a, 'text>(
     alloc: Global,
     text: &'text [u8],

@@ -1,10 +1,11 @@
 //! Cells and byte strings.
 ghost use Rattle.std.specs.Prelude.{◌≡◌, ◌≤◌, ◌<◌, ◌++◌, length, None, IfOk, OnOk, option_map};
 ghost use Rattle.dt_expression.specs.Reading.{Gives};
-ghost use Rattle.dt_source.specs.Sequences.{Reads};
-ghost use Rattle.dt_source.specs.Pieces.{reference_fault, fault_in, cell_fault, cell_pieces, element_pieces, built, put_all};
-ghost use Rattle.dt_source.specs.Bodies.{element_at, cell_at, cells_at, pair_at, pairs_at};
-ghost use Rattle.dt_source.specs.Loops.{into, byte_list};
+ghost use Rattle.dt_source.specs.Reading.Several.{Reads};
+ghost use Rattle.dt_source.specs.Pieces.{reference_fault, fault_in, cell_fault, cell_pieces, element_pieces};
+ghost use Rattle.dt_source.specs.Reading.Values.{built, put_all};
+ghost use Rattle.dt_source.specs.Reading.Bodies.{element_at, cell_at, cells_at, pair_at, pairs_at};
+ghost use Rattle.dt_source.specs.Reading.Loops.{into, byte_list};
 
 use crate::cell::Cell;
 use crate::parts::Parts;
@@ -27,7 +28,7 @@ fn element<'a>(
 }
 
 // An element, a reference, a label, or the end of the cells.
-#[tactic(auto, unfolding(crate::specs::Bodies::cell_at))]
+#[tactic(auto, unfolding(crate::specs::Reading::Bodies::cell_at))]
 fn cell<'a>(text: &[u8], ts: &'a [Lexeme]) -> Result<(Option<Cell>, &'a [Lexeme]), Refusal>
     ensures gives { Gives (λ x. (x.0, x.1.now)) result (cell_at text.now ts.now) }
     ensures shorter { IfOk result (λ x. length x.1.now < length ts.now) }
@@ -149,7 +150,7 @@ pub(crate) fn cells<'a, 'text>(
 }
 
 // A byte, a label, or the end of the byte string: whether it goes on, and the byte.
-#[tactic(auto, unfolding(crate::specs::Bodies::pair_at))]
+#[tactic(auto, unfolding(crate::specs::Reading::Bodies::pair_at))]
 fn pair_in<'a>(text: &[u8], ts: &'a [Lexeme]) -> Result<(Option<Option<u8>>, &'a [Lexeme]), Refusal>
     ensures gives { Gives (λ x. (option_map byte_list x.0, None, x.1.now)) result (pair_at text.now ts.now) }
     ensures shorter { IfOk result (λ x. length x.1.now < length ts.now) }

@@ -1,6 +1,6 @@
 //! The labels of a node.
 ghost use Rattle.std.specs.Prelude.{◌≡◌, map, IfOk};
-ghost use Rattle.dt_source.specs.Bodies.{label_bytes};
+ghost use Rattle.dt_source.specs.Words.{label_bytes};
 ghost use Rattle.dt_source.specs.Tree.{labels_view};
 
 use crate::string::bytes_between;

@@ -2,7 +2,7 @@
 ghost use Rattle.std.specs.Prelude.{◌≡◌, ◌++◌, ◌∷◌, [], map, IfOk, OnOk};
 ghost use Rattle.dt_source.specs.Tree.{Plain, part_view};
 ghost use Rattle.dt_expression.specs.Element.{bytes_in, low_bytes};
-ghost use Rattle.dt_source.specs.Pieces.{built, flushed, put};
+ghost use Rattle.dt_source.specs.Reading.Values.{built, flushed, put};
 
 use crate::room::push_sparingly;
 use crate::tree::Part;
@@ -46,7 +46,8 @@ impl<'a> Parts<'a> {
         if self.bytes.is_empty() {
             return Ok(());
         }
-        let bytes = mem::replace(&mut self.bytes, Vec::new(alloc));
+        let mut bytes = mem::replace(&mut self.bytes, Vec::new(alloc));
+        bytes.shrink_to_fit();
         push_sparingly(&mut self.closed, Part::Bytes(bytes))
     }
 

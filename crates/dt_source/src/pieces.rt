@@ -1,11 +1,13 @@
 //! Values of properties.
 ghost use Rattle.std.specs.Prelude.{◌≡◌, ◌≤◌, ◌<◌, length, map, IfOk, OnOk, IfSome, option_map};
-ghost use Rattle.dt_source.specs.Sequences.{Reads};
+ghost use Rattle.dt_source.specs.Reading.Several.{Reads};
 ghost use Rattle.dt_source.specs.Tree.{Plain, PathOf, part_view};
 ghost use Rattle.dt_source.specs.Strings.{string_bytes, string_faults};
-ghost use Rattle.dt_source.specs.Pieces.{target_of, width_at, built, put};
-ghost use Rattle.dt_source.specs.Bodies.{first_of, is_label, labels_at, square_at, less_at, bits_at, piece_at, placed_at, pieces_at, value_at};
-ghost use Rattle.dt_source.specs.Loops.{into, comma_rest};
+ghost use Rattle.dt_source.specs.Pieces.{target_of, width_at};
+ghost use Rattle.dt_source.specs.Reading.Values.{built, put};
+ghost use Rattle.dt_source.specs.Order.{first_of};
+ghost use Rattle.dt_source.specs.Reading.Bodies.{is_label, labels_at, square_at, less_at, bits_at, piece_at, placed_at, pieces_at, value_at};
+ghost use Rattle.dt_source.specs.Reading.Loops.{into, comma_rest};
 
 use crate::cells::{cells, pairs};
 use crate::parts::Parts;
@@ -137,7 +139,7 @@ fn push_pairs<'a, 'text>(
     Ok((None, rest))
 }
 
-#[tactic(auto, unfolding(crate::specs::Bodies::piece_at))]
+#[tactic(auto, unfolding(crate::specs::Reading::Bodies::piece_at))]
 fn piece<'a, 'text>(
     alloc: Global,
     parts: &mut Parts<'text>,
@@ -171,7 +173,7 @@ fn piece<'a, 'text>(
 }
 
 // A piece, with labels before and after it, which are dropped.
-#[tactic(auto, using(crate::proofs::PieceLoops::placed_is), unfolding(crate::specs::Bodies::placed_at))]
+#[tactic(auto, using(crate::proofs::PieceLoops::placed_is), unfolding(crate::specs::Reading::Bodies::placed_at))]
 fn placed<'a, 'text>(
     alloc: Global,
     parts: &mut Parts<'text>,

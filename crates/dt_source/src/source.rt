@@ -1,13 +1,13 @@
 //! Sources as they are read: headers, reservations and items.
 ghost use Rattle.std.specs.Prelude.{◌≡◌, ◌≤◌, ◌<◌, ◌++◌, ◌∷◌, None, Some, map, length, IfOk, OnOk, IfSome, option_map};
 ghost use Rattle.dt_expression.specs.Reading.{Gives};
-ghost use Rattle.dt_source.specs.Sequences.{Reads};
+ghost use Rattle.dt_source.specs.Reading.Several.{Reads};
 ghost use Rattle.dt_source.specs.Tree.{Deletes, body_of, view, views, item_view};
 ghost use Rattle.dt_source.specs.Meaning.{outlined};
 ghost use Rattle.dt_source.specs.Pieces.{target_of};
-ghost use Rattle.dt_source.specs.Bodies.{ended_by};
+ghost use Rattle.dt_source.specs.Reading.Bodies.{ended_by};
 ghost use Rattle.dt_source.specs.Source.{both_numbers};
-ghost use Rattle.dt_source.specs.Whole.{semicolon_at, plugin_at, header_at, more_headers, headers_at, some_header, reserve_with, reserve_at, reserves_at, brace_at, extend_at, root_at, delete_at, bare_item, unlabelled_item, item_with, item_at, some_items, all_items_at, items_at, source_at};
+ghost use Rattle.dt_source.specs.Reading.Whole.{semicolon_at, plugin_at, header_at, more_headers, headers_at, some_header, reserve_with, reserve_at, reserves_at, brace_at, extend_at, root_at, delete_at, bare_item, unlabelled_item, item_with, item_at, some_items, all_items_at, items_at, source_at};
 
 use crate::body::{MAX_BODY_DEPTH, body};
 use crate::cells::fault_in;
@@ -49,7 +49,7 @@ fn plugin(ts: &[Lexeme]) -> Result<(bool, &[Lexeme]), Refusal>
 }
 
 // A header, where one begins: whether it says that the source is a plugin.
-#[tactic(auto, unfolding(crate::specs::Whole::header_at))]
+#[tactic(auto, unfolding(crate::specs::Reading::Whole::header_at))]
 fn header(ts: &[Lexeme]) -> Result<(Option<bool>, &[Lexeme]), Refusal>
     ensures gives { Gives (λ x. (x.0, None, x.1.now)) result (header_at ts.now) }
     ensures shorter { IfOk result (λ x. IfSome x.0 (λ _. length x.1.now < length ts.now)) }
@@ -134,7 +134,7 @@ fn reserve_with<'a>(
 }
 
 // A reservation, where one begins.
-#[tactic(auto, unfolding(crate::specs::Whole::reserve_at))]
+#[tactic(auto, unfolding(crate::specs::Reading::Whole::reserve_at))]
 fn reserve<'a>(
     text: &[u8],
     ts: &'a [Lexeme],
@@ -207,7 +207,7 @@ fn end_body<'a, 'text>(
 }
 
 // The body of an item, and a semicolon.
-#[tactic(auto, unfolding(crate::specs::Whole::brace_at))]
+#[tactic(auto, unfolding(crate::specs::Reading::Whole::brace_at))]
 fn brace<'a, 'text>(
     alloc: Global,
     text: &'text [u8],
@@ -355,7 +355,7 @@ fn item_with<'a, 'text>(
 }
 
 // An item, or the end.
-#[tactic(auto, unfolding(crate::specs::Whole::item_at))]
+#[tactic(auto, unfolding(crate::specs::Reading::Whole::item_at))]
 fn item<'a, 'text>(
     alloc: Global,
     text: &'text [u8],
@@ -392,7 +392,7 @@ fn all_items<'a, 'text>(
     }
 }
 
-#[tactic(auto, unfolding(crate::specs::Whole::items_at))]
+#[tactic(auto, unfolding(crate::specs::Reading::Whole::items_at))]
 fn items<'text>(
     alloc: Global,
     text: &'text [u8],
@@ -400,15 +400,16 @@ fn items<'text>(
 ) -> Result<(Vec<Item<'text>>, Option<Fault>), ReadError>
     ensures { Reads (λ x. (map item_view x.0.items, x.1)) result (items_at text.now ts.now) }
 {
-    let (items, fault, _) = all_items(alloc, text, ts)?;
+    let (mut items, fault, _) = all_items(alloc, text, ts)?;
     if items.is_empty() {
         return Err(ReadError::Refused(syntax_at(ts)));
     }
+    items.shrink_to_fit();
     Ok((items, fault))
 }
 
 /// Reads the source that all the lexemes spell, and its first fault.
-#[tactic(auto, unfolding(crate::specs::Whole::source_at))]
+#[tactic(auto, unfolding(crate::specs::Reading::Whole::source_at))]
 pub(crate) fn source<'text>(
     alloc: Global,
     text: &'text [u8],
@@ -418,7 +419,8 @@ pub(crate) fn source<'text>(
 {
     let (plugin, rest) = headers(ts)?;
     let plugin = some_header(plugin, ts)?;
-    let (reserves, first, rest) = reserves(alloc, text, rest)?;
+    let (mut reserves, first, rest) = reserves(alloc, text, rest)?;
+    reserves.shrink_to_fit();
     let (items, fault) = items(alloc, text, rest)?;
     Ok((
         Outline {

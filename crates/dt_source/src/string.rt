@@ -3,8 +3,8 @@ ghost use Rattle.std.specs.Prelude.{◌≡◌, ◌<◌, ◌≤◌, ◌+◌, ◌^
 ghost use Rattle.dt_source.specs.Strings.{escape_of, digit_at, octal_at, hex_at, escape_at, char_step, char_fault, char_number, string_bytes, string_faults, pair_byte};
 ghost use Rattle.dt_source.specs.Tree.{target_view};
 ghost use Rattle.dt_source.specs.Pieces.{target_of};
-ghost use Rattle.dt_source.specs.Sequences.{earlier};
-ghost use Rattle.dt_source.specs.Bodies.{first_of};
+ghost use Rattle.dt_source.specs.Reading.Several.{earlier};
+ghost use Rattle.dt_source.specs.Order.{first_of};
 
 use crate::tree::Reference;
 use dt_expression::{bytes_of, digit_of};

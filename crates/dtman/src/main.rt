@@ -2,8 +2,10 @@
 #![tactic(auto)]
 
 mod command_line;
+mod grammar;
 mod program;
 mod subcommand;
+mod surroundings;
 #[cfg(test)]
 mod tests;
 

@@ -1,52 +1,81 @@
 //! The program: files in, one engine's bytes out, faults as one line each.
+ghost use Rattle.std.specs.Prelude.{◌≡◌, false};
 
 use crate::command_line::command;
 use crate::subcommand::Command;
+use crate::surroundings::Surroundings;
 use clap::error::ErrorKind as Mistake;
-use engine::{Fault, dump_bytes, replay_bytes};
-use std::io::{ErrorKind, Write};
+use engine::{
+    Channel, Failed, Fault, MAX_BLOB_LEN, MAX_TEXT_LEN, OutputChannel, dump_bytes, explain, read_all,
+    read_within, replay_bytes, write_out,
+};
+use std::alloc::Global;
+use std::hash::RandomState;
+use std::io::ErrorKind;
 use std::process::ExitCode;
+use std::random::RandomSource;
 use std::rt::{Env, Files};
-use std::{env, fs, io};
+use std::{env, io};
+
+/// The exit status of a command that was done.
+pub const DONE: u8 = 0;
 
 /// The exit status of a refusal.
-const REFUSED: u8 = 1;
+pub const REFUSED: u8 = 1;
 
 /// The exit status of a command line that is no command.
-const COMMAND_LINE: u8 = 2;
+pub const COMMAND_LINE: u8 = 2;
 
 /// The exit status of a file that can't be read or written.
-const FILE: u8 = 3;
+pub const FILE: u8 = 3;
+
+/// Standard output as the path of a fault.
+const OUTPUT: &str = "stdout";
+
+/// The source of the random seed as the path of a fault.
+const SEED: &str = "random";
 
 /// Why a command ended without its output.
 #[derive(Clone, Copy, Debug)]
 enum Failure<'a> {
     Refused(Fault),
-    CannotRead(&'a str),
-    CannotWrite(&'a str),
+    /// A fault of the file at a path.
+    File(Fault, &'a str),
+    /// A number that no error has.
+    NoSuchNumber(&'a str),
+}
+
+impl From<Fault> for Failure<'_> {
+    fn from(fault: Fault) -> Self {
+        Failure::Refused(fault)
+    }
 }
 
 /// Reads the arguments, runs the command, and answers the exit status.
-pub fn run<R: Env + Files + Print + Eprint + AllocGlobal>(rt: &R) -> ExitCode {
-    match arguments(rt) {
+pub fn run<R: Env + Files + RandomSource + Print + Eprint + AllocGlobal>(rt: &R) -> ExitCode {
+    let mut output = OutputChannel::new(io::writer(rt));
+    let mut host = rt;
+    let status = match arguments(rt) {
         Ok(words) => {
             let words: Result<Vec<&str>, _> = words
                 .iter()
                 .map(|word| word.as_str())
                 .collect(rt.alloc());
             match words {
-                Ok(words) => run_words(rt, words.as_slice()),
+                Ok(words) => run_words(rt.alloc(), &mut host, &mut output, rt, words.as_slice()),
                 Err(_) => fail(rt, Failure::Refused(Fault::no_memory())),
             }
         }
-        Err(error) if error.kind() == ErrorKind::OutOfMemory => {
-            fail(rt, Failure::Refused(Fault::no_memory()))
-        }
+        Err(error) if error.kind() == ErrorKind::OutOfMemory => fail(
+            rt,
+            Failure::Refused(Fault::no_memory()),
+        ),
         Err(_) => {
             let _ = eprintln!(rt; "error: an argument is not text");
-            ExitCode::from(COMMAND_LINE)
+            COMMAND_LINE
         }
-    }
+    };
+    ExitCode::from(status)
 }
 
 fn arguments<R: Env + AllocGlobal>(rt: &R) -> io::Result<Vec<String>> {
@@ -54,84 +83,145 @@ fn arguments<R: Env + AllocGlobal>(rt: &R) -> io::Result<Vec<String>> {
     Ok(words)
 }
 
-fn run_words<R: Files + Print + Eprint + AllocGlobal>(rt: &R, words: &[&str]) -> ExitCode {
-    match command(rt.alloc(), words) {
-        Ok(command) => match perform(rt, command) {
-            Ok(()) => ExitCode::SUCCESS,
-            Err(failure) => fail(rt, failure),
+/// Runs the command that the words name, over any files and any standard output, and answers the exit status.
+///
+/// Where that isn't 0, nothing was written to standard output, unless that is what failed.
+pub fn run_words<S: Surroundings, O: Channel, E: Eprint>(
+    alloc: Global,
+    surroundings: &mut S,
+    output: &mut O,
+    errors: &E,
+    words: &[&str],
+) -> u8
+    requires { O.has_failed output.old ≡ false }
+{
+    match command(alloc, words) {
+        Ok(command) => match perform(alloc, surroundings, output, command) {
+            Ok(()) => DONE,
+            Err(failure) => fail(errors, failure),
         },
         Err(error) => match error.kind() {
-            Mistake::OutOfMemory => fail(rt, Failure::Refused(Fault::no_memory())),
-            _ => explain(rt, &error),
+            Mistake::OutOfMemory => fail(errors, Failure::Refused(Fault::no_memory())),
+            Mistake::DisplayHelp | Mistake::DisplayVersion => tell(alloc, output, errors, &error),
+            _ => {
+                let _ = errors.eprint(&error);
+                COMMAND_LINE
+            }
         },
     }
 }
 
-/// Prints what `clap` says: help to standard output, a mistake to standard error.
-fn explain<R: Print + Eprint>(rt: &R, error: &clap::Error) -> ExitCode {
-    if error.use_stderr() {
-        let _ = error.print(rt);
-        return ExitCode::from(COMMAND_LINE);
-    }
-    match error.print(rt) {
-        Ok(()) => ExitCode::SUCCESS,
-        Err(_) => fail(rt, Failure::CannotWrite("stdout")),
+/// Prints what the words asked `clap` for.
+fn tell<O: Channel, E: Eprint>(alloc: Global, output: &mut O, errors: &E, asked: &clap::Error) -> u8
+    requires { O.has_failed output.old ≡ false }
+{
+    let printed = match format!(in alloc; "{asked}") {
+        Ok(text) => print(output, text.as_bytes()),
+        Err(_) => Err(Failure::Refused(Fault::no_memory())),
+    };
+    match printed {
+        Ok(()) => DONE,
+        Err(failure) => fail(errors, failure),
     }
 }
 
-fn perform<'a, R: Files + Print + AllocGlobal>(
-    rt: &R,
+fn perform<'a, S: Surroundings, O: Channel>(
+    alloc: Global,
+    surroundings: &mut S,
+    output: &mut O,
     command: Command<'a>,
-) -> Result<(), Failure<'a>> {
-    match command {
+) -> Result<(), Failure<'a>>
+    requires { O.has_failed output.old ≡ false }
+{
+    let answer = match command {
         Command::Dump { blob } => {
-            let blob = input(rt, blob)?;
-            print_answer(rt, dump_bytes(rt.alloc(), blob.as_slice()))
+            let blob = blob_at(alloc, surroundings, blob)?;
+            dump_bytes(alloc, blob.as_slice())?
         }
         Command::Replay { plan, schedule } => {
-            let plan = input(rt, plan)?;
-            let schedule = input(rt, schedule)?;
-            print_answer(
-                rt,
-                replay_bytes(rt.alloc(), plan.as_slice(), schedule.as_slice()),
-            )
+            let plan = text_at(alloc, surroundings, plan)?;
+            let schedule = text_at(alloc, surroundings, schedule)?;
+            let hasher = seed(surroundings)?;
+            replay_bytes(alloc, hasher, plan.as_slice(), schedule.as_slice())?
         }
+        Command::Explain { number } => explained(alloc, number)?,
+    };
+    print(output, answer.as_slice())
+}
+
+/// What is said of the error with a number.
+fn explained(alloc: Global, number: &str) -> Result<Vec<u8>, Failure<'_>> {
+    let known = match number.parse::<u8>() {
+        Ok(number) => explain(number),
+        Err(_) => None,
+    };
+    match known {
+        Some(explanation) => match format!(in alloc; "{explanation}") {
+            Ok(text) => Ok(text.into_bytes()),
+            Err(_) => Err(Failure::Refused(Fault::no_memory())),
+        },
+        None => Err(Failure::NoSuchNumber(number)),
     }
 }
 
-fn input<'a, R: Files + AllocGlobal>(rt: &R, path: &'a str) -> Result<Vec<u8>, Failure<'a>> {
-    match fs::read(rt, path) {
-        Ok(bytes) => Ok(bytes),
-        Err(error) if error.kind() == ErrorKind::OutOfMemory => {
-            Err(Failure::Refused(Fault::no_memory()))
-        }
-        Err(_) => Err(Failure::CannotRead(path)),
+/// A blob, or as much of a file as shows that it is too large for one.
+fn blob_at<'a, S: Surroundings>(
+    alloc: Global,
+    surroundings: &mut S,
+    path: &'a str,
+) -> Result<Vec<u8>, Failure<'a>> {
+    match surroundings.open(path) {
+        Ok(mut file) => read_all(alloc, &mut file, MAX_BLOB_LEN).map_err(|fault| at(path, fault)),
+        Err(Failed) => Err(Failure::File(Fault::cannot_read(), path)),
     }
 }
 
-/// Prints an engine's bytes, once all of them are there.
-fn print_answer<R: Print>(rt: &R, answer: Result<Vec<u8>, Fault>) -> Result<(), Failure<'static>> {
-    match answer {
-        Ok(text) => output(rt, text.as_slice()),
-        Err(fault) => Err(Failure::Refused(fault)),
+/// A driver, plan or schedule file.
+fn text_at<'a, S: Surroundings>(
+    alloc: Global,
+    surroundings: &mut S,
+    path: &'a str,
+) -> Result<Vec<u8>, Failure<'a>> {
+    match surroundings.open(path) {
+        Ok(mut file) => read_within(alloc, &mut file, MAX_TEXT_LEN).map_err(|fault| at(
+            path, fault,
+        )),
+        Err(Failed) => Err(Failure::File(Fault::cannot_read(), path)),
     }
 }
 
-fn output<R: Print>(rt: &R, text: &[u8]) -> Result<(), Failure<'static>> {
-    let mut writer = io::writer(rt);
-    writer
-        .write_all(text)
-        .map_err(|_| Failure::CannotWrite("stdout"))
+/// A fault met while the file at a path was read: want of memory is no file's.
+fn at(path: &str, fault: Fault) -> Failure<'_> {
+    match fault.number {
+        0 => Failure::Refused(fault),
+        _ => Failure::File(fault, path),
+    }
+}
+
+fn seed<S: Surroundings>(surroundings: &mut S) -> Result<RandomState, Failure<'static>> {
+    surroundings
+        .seed()
+        .map_err(|_| Failure::File(Fault::cannot_read(), SEED))
+}
+
+/// Writes an answer to standard output, once all of it is there.
+fn print<O: Channel>(output: &mut O, text: &[u8]) -> Result<(), Failure<'static>>
+    requires { O.has_failed output.old ≡ false }
+{
+    write_out(output, text).map_err(|_| Failure::File(Fault::cannot_write(), OUTPUT))
 }
 
 /// Prints the one line of a failure, and answers its exit status.
-fn fail<R: Eprint>(rt: &R, failure: Failure<'_>) -> ExitCode {
+fn fail<E: Eprint>(errors: &E, failure: Failure<'_>) -> u8 {
     let (printed, status) = match failure {
-        Failure::Refused(fault) => (eprintln!(rt; "{fault}"), REFUSED),
-        Failure::CannotRead(path) => (eprintln!(rt; "error 80 CannotRead {path}"), FILE),
-        Failure::CannotWrite(path) => (eprintln!(rt; "error 81 CannotWrite {path}"), FILE),
+        Failure::Refused(fault) => (eprintln!(errors; "{fault}"), REFUSED),
+        Failure::File(fault, path) => (eprintln!(errors; "{fault} {path}"), FILE),
+        Failure::NoSuchNumber(number) => (
+            eprintln!(errors; "error: no error has the number {number}"),
+            COMMAND_LINE,
+        ),
     };
     // Standard error is the last place to say anything: the status stands alone where it is closed.
     let _ = printed;
-    ExitCode::from(status)
+    status
 }

@@ -3,7 +3,9 @@
 
 mod channel;
 mod dump;
+mod explaining;
 mod fault;
+mod limits;
 mod memory;
 mod replay;
 mod streams;
@@ -11,7 +13,9 @@ mod transfer;
 
 pub use channel::{Channel, Failed};
 pub use dump::dump_bytes;
+pub use explaining::{Explanation, explain};
 pub use fault::{Fault, Place};
+pub use limits::{MAX_BLOB_LEN, MAX_TEXT_LEN};
 pub use memory::Memory;
 pub use replay::replay_bytes;
 pub use streams::{FileChannel, OutputChannel};

@@ -47,7 +47,7 @@ fn replayed(
     }
 }
 
-const ROWS: [(&str, &str, &str, &str); 21] = [
+const ROWS: [(&str, &str, &str, &str); 22] = [
     ("empty-plan", "", "", "quiet\n"),
     (
         "missing-then-due",
@@ -108,6 +108,12 @@ const ROWS: [(&str, &str, &str, &str); 21] = [
         "/s x fail\n/d y ok /s\n",
         "begin /s\nfinish /s settled\nbegin /d\nfinish /d missing /s\n",
         "/s failed x\n/d waiting /s\nquiet\n",
+    ),
+    (
+        "diamond",
+        "/a x ok\n/b x ok /a\n/c x ok /a\n/d x ok /b /c\n",
+        "begin /d\nfinish /d missing /b\nbegin /a\nfinish /a settled\nbegin /b\nfinish /b settled\n",
+        "/a bound x\n/b bound x\n/c due\n/d waiting /c\nbusy\n",
     ),
     (
         "in flight",
@@ -180,19 +186,28 @@ fn replays(rt: HostRuntime) -> Result<(), Fail> {
     Ok(())
 }
 
-// Begins and finishes whatever is due, as drivers would that need one supplier at most.
+// Begins and finishes whatever is due, each probe as its driver would answer, and counts the begins.
+fn drain(core: &mut Core) -> Result<usize, Fail> {
+    for begins in 0..2_000 {
+        let Some(device) = core.next() else {
+            return Ok(begins);
+        };
+        let mut report = Report::Settled;
+        for supplier in core.plan().suppliers(device) {
+            if !core.is_bound(*supplier) {
+                report = Report::Missing(*supplier);
+            }
+        }
+        let ticket = core.begin(device)?;
+        let _reply = core.finish(&ticket, report)?;
+    }
+    Err("it never ends".into())
+}
+
+// The report once nothing is due.
 fn drained(alloc: Global, hasher: RandomState, plan: &str) -> Result<String, Fail> {
     let mut core = Core::new(alloc, read_plan(alloc, hasher, plan.as_bytes())?)?;
-    for _turn in 0..9 {
-        let Some(device) = core.next() else {
-            break;
-        };
-        let ticket = core.begin(device)?;
-        if core.finish(&ticket, Report::Settled).is_err() {
-            let supplier = *core.plan().suppliers(device).first().ok_or("no supplier")?;
-            let _reply = core.finish(&ticket, Report::Missing(supplier))?;
-        }
-    }
+    let _begins = drain(&mut core)?;
     Ok(
         String::from_utf8(core.report(alloc)?)
             .ok()
@@ -229,6 +244,29 @@ fn drains(rt: HostRuntime) -> Result<(), Fail> {
         let answer = drained(rt.alloc(), RandomState::new(&rt)?, plan)?;
         assert_eq!(rt; answer.as_str(), report, "{name}");
     }
+    Ok(())
+}
+
+// A chain of devices, each but the last with the next one as its supplier.
+fn chain(alloc: Global, length: usize) -> Result<String, Fail> {
+    let mut plan = String::new(alloc);
+    for place in 1..length {
+        plan.push_str(format!(in alloc; "/d{} x ok /d{}\n", place, place + 1)?.as_str())?;
+    }
+    plan.push_str(format!(in alloc; "/d{} x ok\n", length)?.as_str())?;
+    Ok(plan)
+}
+
+#[test]
+fn drains_a_chain(rt: HostRuntime) -> Result<(), Fail> {
+    let text = chain(rt.alloc(), 512)?;
+    let plan = read_plan(rt.alloc(), RandomState::new(&rt)?, text.as_bytes())?;
+    assert_eq!(rt; plan.len(), 512);
+    let mut core = Core::new(rt.alloc(), plan)?;
+    let begins = drain(&mut core)?;
+    assert!(rt; begins <= 1_023);
+    assert_eq!(rt; core.history().len(), 512);
+    assert!(rt; core.is_quiet());
     Ok(())
 }
 
@@ -292,6 +330,40 @@ fn tells_who_has_settled(rt: HostRuntime) -> Result<(), Fail> {
         outcome: Outcome::Bound,
     }];
     assert_eq!(rt; core.history(), settled.as_slice());
+    Ok(())
+}
+
+// Once the core is made its events take no memory. bench/memory runs the tests with every request refused from the Nth
+// on; where that begins behind the core, this one goes on without memory and finds the same answers.
+#[test]
+fn events_take_no_memory(rt: HostRuntime) -> Result<(), Fail> {
+    let Ok(plan) = read_plan(
+        rt.alloc(),
+        RandomState::new(&rt)?,
+        CLOCK_AND_UART.as_bytes(),
+    ) else {
+        return Ok(());
+    };
+    let clk = plan.device(b"/clk").ok_or("no device")?;
+    let uart = plan.device(b"/uart").ok_or("no device")?;
+    let Ok(mut core) = Core::new(rt.alloc(), plan) else {
+        return Ok(());
+    };
+    let deferred = core.begin(uart)?;
+    let settled = core.begin(clk)?;
+    assert_eq!(rt; core.finish(&settled, Report::Settled), Ok(Reply::Bound));
+    assert_eq!(rt;
+        core.finish(&deferred, Report::Missing(clk)),
+        Ok(Reply::Again)
+    );
+    assert_eq!(rt; core.next(), Some(uart));
+    let _dropped = core.begin(uart)?;
+    assert_eq!(rt; core.abandon(uart), Ok(()));
+    assert_eq!(rt; core.status(uart), Status::Due);
+    let last = core.begin(uart)?;
+    assert_eq!(rt; core.finish(&last, Report::Settled), Ok(Reply::Bound));
+    assert!(rt; core.is_quiet() && core.is_bound(uart));
+    assert_eq!(rt; core.history().len(), 2);
     Ok(())
 }
 

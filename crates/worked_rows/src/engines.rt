@@ -1,7 +1,11 @@
 //! From bytes to bytes: what each command prints.
 
+mod channels;
+mod errors;
+
 use engine::{Fault, dump_bytes, replay_bytes};
 use std::alloc::{AllocError, Global};
+use std::hash::RandomState;
 use std::test::Fail;
 
 const CLOCK_AND_UART: &str = "/clk fixed ok\n/uart ns ok /clk\n";
@@ -70,8 +74,9 @@ fn replays_the_worked_rows(rt: HostRuntime) -> Result<(), Fail> {
             "/a waiting /b\n/b waiting /a\nquiet\n",
         ),
     ];
+    let hasher = RandomState::new(&rt)?;
     for (name, plan, schedule, wanted) in rows {
-        let answer = replay_bytes(rt.alloc(), plan.as_bytes(), schedule.as_bytes());
+        let answer = replay_bytes(rt.alloc(), hasher, plan.as_bytes(), schedule.as_bytes());
         let text = printed(rt.alloc(), answer)?;
         assert_eq!(rt; text.as_slice(), wanted.as_bytes(), "{name}");
     }

@@ -1,8 +1,8 @@
 //! Plan files: read, written, read back; what a plan answers; the lines and fields of a text file of the bus.
 
 use bus_plan::{
-    Device, Fields, MAX_DEVICES, Plan, PlanError, Planned, Verdict, is_line, is_line_byte,
-    lines_of, plan_text, plan_text_is_read_back, read_plan,
+    Device, Fields, MAX_DEVICES, PlanError, Planned, Verdict, is_line, is_line_byte, lines_of,
+    plan_text, plan_text_is_read_back, read_plan,
 };
 use dt_tree::{Name, Path};
 use std::alloc::Global;
@@ -124,7 +124,7 @@ fn readers_answer(rt: HostRuntime) -> Result<(), Fail> {
     Ok(())
 }
 
-/// The consumers of row `diamond`'s devices, which stand below two of them, and of a device that itself stands last.
+/// The consumers of row `diamond`'s devices, and of a device that itself stands last.
 #[test]
 fn consumers_stand_in_plan_order(rt: HostRuntime) -> Result<(), Fail> {
     let plan = read_plan(
@@ -132,25 +132,25 @@ fn consumers_stand_in_plan_order(rt: HostRuntime) -> Result<(), Fail> {
         RandomState::new(&rt)?,
         b"/a x ok /e\n/b x ok /a\n/c x ok /e /a\n/d x ok /c /b\n/e ! -\n",
     )?;
-    assert_eq!(rt; plan.len(), 5);
-    let [a, b, c, d, e] = [
-        Device::new(0),
-        Device::new(1),
-        Device::new(2),
-        Device::new(3),
-        Device::new(4),
+    let (a, b) = (Device::new(0), Device::new(1));
+    let (c, d) = (Device::new(2), Device::new(3));
+    let rows: [(usize, &[Device]); 5] = [
+        (0, &[b, c]),
+        (1, &[d]),
+        (2, &[d]),
+        (3, &[]),
+        (4, &[a, c]),
     ];
-    assert_eq!(rt; plan.consumers(a), [b, c].as_slice());
-    assert_eq!(rt; plan.consumers(b), [d].as_slice());
-    assert_eq!(rt; plan.consumers(c), [d].as_slice());
-    assert!(rt; plan.consumers(d).is_empty());
-    assert_eq!(rt; plan.consumers(e), [a, c].as_slice());
+    for (place, consumers) in rows {
+        assert!(rt; place < plan.len());
+        assert_eq!(rt; plan.consumers(Device::new(place)), consumers);
+    }
     Ok(())
 }
 
-/// A device by its parts, and the plan of no devices.
+/// A device by its parts.
 #[test]
-fn plans_are_made_of_parts(rt: HostRuntime) -> Result<(), Fail> {
+fn devices_are_made_of_parts(rt: HostRuntime) -> Result<(), Fail> {
     let device = Planned::new(
         Path::parse(rt.alloc(), b"/d")?,
         true,
@@ -160,12 +160,9 @@ fn plans_are_made_of_parts(rt: HostRuntime) -> Result<(), Fail> {
     );
     let copy = device.copy(rt.alloc())?;
     assert_eq!(rt; copy.path().as_bytes(), b"/d".as_slice());
-    assert!(rt; copy.available());
-    assert!(rt; copy.driver().is_some());
+    assert!(rt; copy.available() && copy.driver().is_some());
     assert_eq!(rt; copy.verdict(), Verdict::Fails);
-    assert_eq!(rt; copy.suppliers(), [Device::new(1)].as_slice());
-    let none = Plan::of(rt.alloc(), RandomState::new(&rt)?, Vec::new(rt.alloc()))?;
-    assert!(rt; none.is_empty());
+    assert_eq!(rt; copy.suppliers(), device.suppliers());
     Ok(())
 }
 
@@ -190,15 +187,33 @@ fn a_device_too_many_is_refused(rt: HostRuntime) -> Result<(), Fail> {
     Ok(())
 }
 
+fn joined_lines(alloc: Global, text: &[u8]) -> Result<Vec<u8>, Fail> {
+    let mut joined = Vec::new(alloc);
+    for line in lines_of(text) {
+        joined.extend_from_slice(line)?;
+        joined.push(b'|')?;
+    }
+    Ok(joined)
+}
+
 /// Lines end with a line feed, which takes one carriage return with it; the last may lack its line feed.
 #[test]
 fn texts_are_cut_into_lines(rt: HostRuntime) -> Result<(), Fail> {
-    let mut lines = lines_of(b"a\r\n\nb\r\r\nc\r");
-    assert_eq!(rt; lines.next(), Some(b"a".as_slice()));
-    assert_eq!(rt; lines.next(), Some(b"".as_slice()));
-    assert_eq!(rt; lines.next(), Some(b"b\r".as_slice()));
-    assert_eq!(rt; lines.next(), Some(b"c\r".as_slice()));
-    assert_eq!(rt; lines.next(), None);
+    let rows: [(&[u8], &[u8]); 4] = [
+        (b"", b""),
+        (b"a", b"a|"),
+        (b"a\n\n", b"a||"),
+        (b"a\r\nb\r\r\nc\r", b"a|b\r|c\r|"),
+    ];
+    for (text, lines) in rows {
+        assert_eq!(rt; joined_lines(rt.alloc(), text)?.as_slice(), lines);
+    }
+    Ok(())
+}
+
+/// A line has tabs and the bytes 0x20 to 0x7e alone.
+#[test]
+fn bytes_of_lines(rt: HostRuntime) -> Result<(), Fail> {
     let rows: [(u8, bool); 7] = [
         (8, false),
         (b'\t', true),
@@ -215,24 +230,28 @@ fn texts_are_cut_into_lines(rt: HostRuntime) -> Result<(), Fail> {
     Ok(())
 }
 
+fn joined_fields(alloc: Global, line: &[u8]) -> Result<Vec<u8>, Fail> {
+    let mut joined = Vec::new(alloc);
+    for field in Fields::of(line) {
+        joined.extend_from_slice(field)?;
+        joined.push(b'|')?;
+    }
+    Ok(joined)
+}
+
 /// Fields stand between spaces and tabs; a line without one, or whose first begins with `#`, is skipped.
 #[test]
 fn lines_are_cut_into_fields(rt: HostRuntime) -> Result<(), Fail> {
-    let mut fields = Fields::of(b" \tbegin  /a\t#x ");
-    assert!(rt; !fields.is_skipped());
-    assert_eq!(rt; fields.next(), Some(b"begin".as_slice()));
-    assert_eq!(rt; fields.next(), Some(b"/a".as_slice()));
-    assert!(rt; fields.is_skipped());
-    assert_eq!(rt; fields.next(), Some(b"#x".as_slice()));
-    assert_eq!(rt; fields.next(), None);
-    let rows: [(&[u8], bool); 5] = [
-        (b"", true),
-        (b" \t ", true),
-        (b"#", true),
-        (b"\t # a", true),
-        (b"a #", false),
+    let rows: [(&[u8], &[u8], bool); 6] = [
+        (b"", b"", true),
+        (b" \t ", b"", true),
+        (b"#", b"#|", true),
+        (b"\t # a", b"#|a|", true),
+        (b"a #", b"a|#|", false),
+        (b" \tbegin  /a\t#x ", b"begin|/a|#x|", false),
     ];
-    for (line, skipped) in rows {
+    for (line, fields, skipped) in rows {
+        assert_eq!(rt; joined_fields(rt.alloc(), line)?.as_slice(), fields);
         assert_eq!(rt; Fields::of(line).is_skipped(), skipped);
     }
     Ok(())

@@ -1,4 +1,4 @@
-use Rattle.std.proofs.Common.{◌≡◌, ◌∙◌, ◌+◌, length, ap, sym, arith}
+use Rattle.std.proofs.Common.{◌∙◌, length, ap, sym, arith}
 use Rattle.bus_core.specs.Replay.{IsEventOf}
 use Rattle.bus_core.proofs.ReplayLemmas.{schedule-read, all-appended}
 use Rattle.bus_core.proofs.schedule.read_schedule.Goals as goal

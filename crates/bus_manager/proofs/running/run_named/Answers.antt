@@ -5,4 +5,4 @@ use Rattle.bus_manager.proofs.running.run_named.Goals as goal
 
 pub place-requires-clause-notes : goal.place-requires-clause-notes
 place-requires-clause-notes g c =
-    λ _ _. no-notes (g.P.Prober.attests c.args.prober.now c.args.plan.now) c.args.plan.now c.in-Ok-no_notes.notes.items (c.in-Ok-no_notes.ensures ∙ ap (λ n. replicate n None) c.len.ensures)
+    λ _ _. no-notes (g.P.Prober.attests c.args.prober.now c.args.plan.now) c.args.plan.now c.in_ok-notes.notes.items (c.in_ok-notes.ensures ∙ ap (λ n. replicate n None) c.len.ensures)

@@ -4,7 +4,7 @@ use Rattle.std.proofs.lemmas.Result.{err_from_is_err_and}
 use Rattle.std.proofs.lemmas.List.{map_push}
 use Rattle.dt_source.specs.declared.tree.Statement.{Statement}
 use Rattle.dt_source.specs.Tree.{view}
-use Rattle.dt_source.specs.Bodies.{body_at}
+use Rattle.dt_source.specs.Reading.Bodies.{body_at}
 use Rattle.dt_source.proofs.StatementLoops.{statements_begin, statements_more, statements_end, statements_fail, body_below_none, body_below_some}
 use Rattle.dt_source.proofs.body.+body.Goals as goal
 

@@ -1,8 +1,8 @@
 use Rattle.std.proofs.Common.{◌≡◌, ◌≤◌, ◌<◌, length, ℕ, ◌+◌, ◌*◌}
 use Rattle.std.specs.Prelude.{map}
 use Rattle.dt_source.specs.Tree.{view}
-use Rattle.dt_source.specs.Bodies.{body_at}
-use Rattle.dt_source.specs.Loops.{folded}
+use Rattle.dt_source.specs.Reading.Bodies.{body_at}
+use Rattle.dt_source.specs.Reading.Loops.{folded}
 use Rattle.dt_source.proofs.StatementLoops.{snoc, statements_left}
 use Rattle.dt_source.proofs.body.+body.Given as goal
 

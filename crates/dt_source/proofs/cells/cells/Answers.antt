@@ -1,9 +1,9 @@
 use Rattle.std.proofs.Common.{Ok, Option, ◌∙◌, ap, arith}
 use Rattle.std.proofs.lemmas.Result.{err_from_is_err_and}
 use Rattle.dt_source.specs.declared.cell.Cell.{Cell}
-use Rattle.dt_source.specs.Pieces.{built}
-use Rattle.dt_source.specs.Bodies.{cells_at}
-use Rattle.dt_source.specs.Loops.{into}
+use Rattle.dt_source.specs.Reading.Values.{built}
+use Rattle.dt_source.specs.Reading.Bodies.{cells_at}
+use Rattle.dt_source.specs.Reading.Loops.{into}
 use Rattle.dt_source.proofs.CellLoops.{cells_begin, cells_more, cells_end, cells_fail}
 use Rattle.dt_source.proofs.cells.cells.Goals as goal
 

@@ -1,7 +1,7 @@
 use Rattle.std.proofs.Common.{◌≡◌, ◌≤◌, ◌<◌, length, ℕ}
-use Rattle.dt_source.specs.Pieces.{built}
-use Rattle.dt_source.specs.Bodies.{cells_at}
-use Rattle.dt_source.specs.Loops.{into, folded}
+use Rattle.dt_source.specs.Reading.Values.{built}
+use Rattle.dt_source.specs.Reading.Bodies.{cells_at}
+use Rattle.dt_source.specs.Reading.Loops.{into, folded}
 use Rattle.dt_source.proofs.CellLoops.{cell_onto, cells_left}
 use Rattle.dt_source.proofs.cells.cells.Given as goal
 

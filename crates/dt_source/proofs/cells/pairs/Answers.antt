@@ -1,8 +1,8 @@
 use Rattle.std.proofs.Common.{None, Ok, Option, ℕ, ◌∙◌, ap, arith}
 use Rattle.std.specs.Prelude.{option_map}
 use Rattle.std.proofs.lemmas.Result.{err_from_is_err_and}
-use Rattle.dt_source.specs.Bodies.{pairs_at}
-use Rattle.dt_source.specs.Loops.{byte_list}
+use Rattle.dt_source.specs.Reading.Bodies.{pairs_at}
+use Rattle.dt_source.specs.Reading.Loops.{byte_list}
 use Rattle.dt_source.proofs.CellLoops.{pairs_begin, pairs_more, pairs_end, pairs_fail}
 use Rattle.dt_source.proofs.cells.pairs.Goals as goal
 

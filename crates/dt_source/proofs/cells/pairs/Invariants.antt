@@ -1,6 +1,6 @@
 use Rattle.std.proofs.Common.{◌≡◌, ◌≤◌, ◌<◌, length, None, ℕ}
-use Rattle.dt_source.specs.Bodies.{pairs_at}
-use Rattle.dt_source.specs.Loops.{folded}
+use Rattle.dt_source.specs.Reading.Bodies.{pairs_at}
+use Rattle.dt_source.specs.Reading.Loops.{folded}
 use Rattle.dt_source.proofs.CellLoops.{pair_onto, pairs_left}
 use Rattle.dt_source.proofs.cells.pairs.Given as goal
 

@@ -1,8 +1,8 @@
 use Rattle.std.proofs.Common.{sym, arith}
 use Rattle.std.proofs.lemmas.Result.{err_from_is_err_and}
-use Rattle.dt_source.specs.Pieces.{built}
-use Rattle.dt_source.specs.Bodies.{pieces_at}
-use Rattle.dt_source.specs.Loops.{into}
+use Rattle.dt_source.specs.Reading.Values.{built}
+use Rattle.dt_source.specs.Reading.Bodies.{pieces_at}
+use Rattle.dt_source.specs.Reading.Loops.{into}
 use Rattle.dt_source.proofs.PieceLoops.{pieces_begin, pieces_begin_fails, pieces_more, pieces_fail, pieces_end}
 use Rattle.dt_source.proofs.pieces.pieces.Goals as goal
 

@@ -1,7 +1,7 @@
 use Rattle.std.proofs.Common.{◌≡◌, ◌<◌, length, ℕ}
-use Rattle.dt_source.specs.Pieces.{built, put_all}
-use Rattle.dt_source.specs.Bodies.{pieces_at}
-use Rattle.dt_source.specs.Loops.{into, folded}
+use Rattle.dt_source.specs.Reading.Values.{built, put_all}
+use Rattle.dt_source.specs.Reading.Bodies.{pieces_at}
+use Rattle.dt_source.specs.Reading.Loops.{into, folded}
 use Rattle.dt_source.proofs.PieceLoops.{pieces_left}
 use Rattle.dt_source.proofs.pieces.pieces.Given as goal
 

@@ -1,5 +1,5 @@
 use Rattle.std.proofs.lemmas.Result.{err_from_is_err_and}
-use Rattle.dt_source.specs.Pieces.{built}
+use Rattle.dt_source.specs.Reading.Values.{built}
 use Rattle.dt_source.proofs.PieceLoops.{value_is, value_fails}
 use Rattle.dt_source.proofs.pieces.value.Goals as goal
 

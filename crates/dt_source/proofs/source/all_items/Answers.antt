@@ -4,7 +4,7 @@ use Rattle.std.proofs.lemmas.Result.{err_from_is_err_and}
 use Rattle.std.proofs.lemmas.List.{map_push}
 use Rattle.dt_source.specs.declared.tree.Item.{Item}
 use Rattle.dt_source.specs.Tree.{item_view}
-use Rattle.dt_source.specs.Whole.{all_items_at}
+use Rattle.dt_source.specs.Reading.Whole.{all_items_at}
 use Rattle.dt_source.proofs.SourceLoops.{items_begin, items_more, items_end, items_fail}
 use Rattle.dt_source.proofs.source.all_items.Goals as goal
 

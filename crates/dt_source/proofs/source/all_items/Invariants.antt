@@ -1,8 +1,8 @@
 use Rattle.std.proofs.Common.{◌≡◌, ◌<◌, length, ℕ}
 use Rattle.std.specs.Prelude.{map}
 use Rattle.dt_source.specs.Tree.{item_view}
-use Rattle.dt_source.specs.Whole.{all_items_at}
-use Rattle.dt_source.specs.Loops.{folded}
+use Rattle.dt_source.specs.Reading.Whole.{all_items_at}
+use Rattle.dt_source.specs.Reading.Loops.{folded}
 use Rattle.dt_source.proofs.StatementLoops.{snoc}
 use Rattle.dt_source.proofs.SourceLoops.{items_left}
 use Rattle.dt_source.proofs.source.all_items.Given as goal

@@ -1,6 +1,6 @@
 use Rattle.std.proofs.Common.{◌≡◌, ◌<◌, length, None, ℕ}
-use Rattle.dt_source.specs.Whole.{more_headers, headers_at}
-use Rattle.dt_source.specs.Loops.{folded}
+use Rattle.dt_source.specs.Reading.Whole.{more_headers, headers_at}
+use Rattle.dt_source.specs.Reading.Loops.{folded}
 use Rattle.dt_source.proofs.SourceLoops.{headers_left}
 use Rattle.dt_source.proofs.source.headers.Given as goal
 

@@ -1,6 +1,6 @@
 use Rattle.std.proofs.Common.{◌≡◌, ◌<◌, length, ℕ}
-use Rattle.dt_source.specs.Whole.{reserves_at}
-use Rattle.dt_source.specs.Loops.{folded}
+use Rattle.dt_source.specs.Reading.Whole.{reserves_at}
+use Rattle.dt_source.specs.Reading.Loops.{folded}
 use Rattle.dt_source.proofs.SourceLoops.{reserve_onto, reserves_left}
 use Rattle.dt_source.proofs.source.reserves.Given as goal
 

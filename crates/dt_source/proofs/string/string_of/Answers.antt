@@ -1,7 +1,7 @@
 use Rattle.std.proofs.Common.{◌≡◌, ◌<◌, ◌+◌, ◌-◌, ◌++◌, ◌∷◌, [], List, ℕ, length, ap, refl, ◌∙◌, arith}
 use Rattle.std.specs.Prelude.{slice_range}
 use Rattle.dt_source.specs.Strings.{chars_with, numbers, faults}
-use Rattle.dt_source.specs.Bodies.{first_of}
+use Rattle.dt_source.specs.Order.{first_of}
 use Rattle.dt_source.proofs.Chars.{said_more, said_end}
 use Rattle.dt_source.proofs.string.string_of.Goals as goal
 

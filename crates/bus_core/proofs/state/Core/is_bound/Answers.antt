@@ -1,6 +1,6 @@
-use Rattle.std.proofs.Common.{◌≡◌, ap, sym, ◌∙◌}
+use Rattle.std.proofs.Common.{ap, sym, ◌∙◌}
 use Rattle.bus_core.specs.History.{bound_in}
-use Rattle.bus_core.specs.Phase.{bound_by}
+use Rattle.bus_core.specs.RefinementPhase.{bound_by}
 use Rattle.bus_core.proofs.state.Core.is_bound.Goals as goal
 
 pub returns : goal.returns

@@ -1,16 +1,18 @@
-use Rattle.std.proofs.Common.{◌≡◌, ◌<◌, ℕ, true, length, ap, sym, ◌∙◌}
+use Rattle.std.proofs.Common.{◌≡◌, ◌<◌, ℕ, true, false, length, sym, ◌∙◌}
+use Rattle.std.specs.Prelude.{slice_index_or}
 use Rattle.bus_core.specs.Due.{is_due}
-use Rattle.bus_core.specs.Phase.{due_by}
-use Rattle.bus_core.proofs.SoundLemmas.{due-same}
-use Rattle.bus_core.proofs.QuietLemmas.{some-weaker}
+use Rattle.bus_core.proofs.QuietLemmas.{some-weaker, none-weaker, due-within}
 use Rattle.bus_core.proofs.state.Core.next.Goals as goal
 
-pub returns-clause-due : goal.returns-clause-due
-returns-clause-due c =
-    some-weaker (λ d. (d < length c.self.inside.plan) × (due_by c.self.inside.plan c.deref.result.now d ≡ true))
-    (λ d. is_due c.args.self.now.plan c.args.self.now.state d ≡ true)
-    (λ d due.
-    sym (λ i. is_due (c.self.view_is i).plan (c.self.view_is i).state d)
-    ∙ sym (due-same c.self.inside.plan c.self.inside.phases.items c.self.inside.history.items c.self.inside.begins c.self.invariant.sound d)
-    ∙ ap (λ x. due_by c.self.inside.plan x d) (sym c.deref.ensures.value) ∙ due.1)
-    c.next_due.result c.next_due.ensures.some
+pub returns : goal.returns
+returns c =
+    let said : (d : ℕ) → slice_index_or c.self.inside.due d false ≡ is_due c.args.self.now.plan c.args.self.now.state d =
+    λ d. c.self.invariant.counted.due_is d ∙ (λ i. is_due (c.self.view_is i).plan (c.self.view_is i).state d)
+    in record {
+      none = none-weaker ((d : ℕ) → slice_index_or c.self.inside.due d false ≡ false) ((d : ℕ) → is_due c.args.self.now.plan c.args.self.now.state d ≡ false)
+          (λ none d. sym (said d) ∙ none d) c.any.result c.any.ensures.none;
+      within = some-weaker (λ d. slice_index_or c.self.inside.due d false ≡ true) (λ d. d < length c.args.self.now.plan)
+          (λ d due. due-within c.args.self.now.plan c.args.self.now.state d (sym (said d) ∙ due)) c.any.result c.any.ensures.some;
+      due = some-weaker (λ d. slice_index_or c.self.inside.due d false ≡ true) (λ d. is_due c.args.self.now.plan c.args.self.now.state d ≡ true)
+          (λ d due. sym (said d) ∙ due) c.any.result c.any.ensures.some;
+    }

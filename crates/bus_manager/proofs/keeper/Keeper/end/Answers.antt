@@ -14,10 +14,10 @@ invariant_of-self-2 c =
     in let r = c.args.report.now
     in let k = c.self.inside
     in let within : t.device < length k.core.plan = omega (arith, c.requires, ap (λ v. length v.plan) c.self.view_is)
-    in let allowed : finish_refusal k.core.plan k.core.state t r ≡ None = sym c.in-Ok.ensures.refused
-    in let core : c.finish.new.self ≡ record { plan = k.core.plan; state = finish_state k.core.plan k.core.state t.device r } = c.in-Ok.ensures.finished
+    in let allowed : finish_refusal k.core.plan k.core.state t r ≡ None = sym c.in_ok-reply.ensures.refused
+    in let core : c.finish.new.self ≡ record { plan = k.core.plan; state = finish_state k.core.plan k.core.state t.device r } = c.in_ok-reply.ensures.finished
     in let few : length k.core.plan ≤ MAX_DEVICES = omega (arith, c.check.ensures.few, ap length c.plan.ensures, ap (λ v. length v.plan) core)
-    in let reply : c.in-Ok.reply ≡ finish_reply k.core.plan (finish_state k.core.plan k.core.state t.device r) t.device r = c.in-Ok.ensures.reply ∙ ap (λ v. finish_reply v.plan v.state t.device r) core
+    in let reply : c.in_ok-reply.reply ≡ finish_reply k.core.plan (finish_state k.core.plan k.core.state t.device r) t.device r = c.in_ok-reply.ensures.reply ∙ ap (λ v. finish_reply v.plan v.state t.device r) core
     in let bound : c.note_reply.new.bound ≡ seen_after k.bound t.device (finish_reply k.core.plan (finish_state k.core.plan k.core.state t.device r) t.device r) = c.note_reply.ensures ∙ ap (seen_after k.bound t.device) reply
     in record {
       sound = coe 1 0 (i. IsSoundKeeper (core i) (c.append.ensures.items i) (bound i) (k.flying - 1)) (finished-sound k.core k.events.items k.bound k.flying t r within few allowed c.self.invariant.sound);

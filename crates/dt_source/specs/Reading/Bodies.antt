@@ -1,0 +1,223 @@
+-- Reading the statements of a body, and the values of its properties.
+use Rattle.std.specs.Prelude.{ℕ, zero, suc, Bool, true, false, List, [], ◌∷◌, ◌++◌, length, map, Option, Some, None, Ok, Err, if◌then◌else◌}
+use Rattle.dt_lexeme.specs.declared.lexeme.Lexeme.{Lexeme}
+use Rattle.dt_lexeme.specs.declared.lexeme.Fault.{Fault}
+use Rattle.dt_lexeme.specs.declared.lexeme.Kind.{Kind}
+use Rattle.dt_lexeme.specs.declared.lexeme.Kind.TheVariants.{Bits, DeleteNode, DeleteProperty, Label, Name, Literal, Text, Reference, PathReference, Pair, Semicolon, Brace, EndBrace, Equals, Comma, Less, Greater, Square, EndSquare, Paren}
+use Rattle.dt_expression.specs.declared.elements.Width.{Width}
+use Rattle.dt_expression.specs.declared.elements.Width.TheVariants.{ThirtyTwo}
+use Rattle.dt_source.specs.declared.cell.Cell.{Cell}
+use Rattle.dt_source.specs.declared.cell.Cell.TheVariants as cells
+use Rattle.dt_expression.specs.Values.{literal_of}
+use Rattle.dt_expression.specs.Reading.{◌>>=◌, Read, syntax_at, too_deep}
+use Rattle.dt_expression.specs.ReadingExpressions.{primary_at}
+use Rattle.dt_source.specs.Reading.Several.{earlier, Part, many}
+use Rattle.dt_source.specs.Tree.{Piece, Plain, PathOf, Entry, Defines, Undefines, Child, Removes, body_of}
+use Rattle.dt_source.specs.Strings.{string_bytes, string_faults, pair_byte}
+use Rattle.dt_source.specs.Pieces.{target_of, width_at, width_in, fault_in, cell_fault, cells_pieces, joined}
+use Rattle.dt_source.specs.Words.{label_bytes, name_bytes, concat}
+use Rattle.dt_source.specs.Order.{first_of}
+
+-- ---- labels and names
+
+abbrev pub is_label : Kind → Bool
+is_label Label = true
+is_label _ = false
+
+-- the labels at the front, and what follows them
+unfoldable pub labels_at : List Lexeme → List Lexeme × List Lexeme
+labels_at [] = ([], [])
+labels_at (t ∷ ts) = if is_label t.kind then (t ∷ (labels_at ts).0, (labels_at ts).1) else ([], t ∷ ts)
+
+-- ---- cells
+
+abbrev pub element_at : ℕ → List ℕ → List Lexeme → Read (Option Cell)
+element_at place text ts = do
+  x ← primary_at text ts
+  Ok (Some (cells.Element place x.0), x.1)
+
+abbrev pub cell_by : List ℕ → Kind → Lexeme → List Lexeme → Read (Option Cell)
+cell_by text Greater t ts = Ok (None, ts)
+cell_by text Literal t ts = element_at t.start text (t ∷ ts)
+cell_by text Paren t ts = element_at t.start text (t ∷ ts)
+cell_by text Reference t ts = Ok (Some (cells.Reference t), ts)
+cell_by text PathReference t ts = Ok (Some (cells.Reference t), ts)
+cell_by text Label t ts = Ok (Some cells.Label, ts)
+cell_by text _ t ts = Err (syntax_at (t ∷ ts))
+
+-- an element, a reference, a label, or the end of the cells
+unfoldable pub cell_at : List ℕ → List Lexeme → Read (Option Cell)
+cell_at text [] = Err (syntax_at [])
+cell_at text (t ∷ ts) = cell_by text t.kind t ts
+
+abbrev pub fault_of_cell : Option Width → Option Cell → Option Fault
+fault_of_cell w None = None
+fault_of_cell w (Some c) = cell_fault w c
+
+abbrev pub cell_step : List ℕ → Option Width → List Lexeme → Part (Option Cell)
+cell_step text w ts = cell_at text ts >>= λ x. Ok (x.0, fault_of_cell w x.0, x.1)
+
+-- what has no state
+abbrev pub stays : {A : Type 0} → Unit {0} → A → Unit {0}
+stays s a = tt
+
+unfoldable pub cells_at : List ℕ → Option Width → List Lexeme → Part (List Piece)
+cells_at text w ts = many stays (λ s ts. cell_step text w ts) (suc (length ts)) tt ts >>= λ y. Ok (cells_pieces text w y.0, y.1, y.2)
+
+-- ---- byte strings
+
+abbrev pub pair_by : List ℕ → Kind → Lexeme → List Lexeme → Part (Option (List ℕ))
+pair_by text EndSquare t ts = Ok (None, None, ts)
+pair_by text Pair t ts = Ok (Some (pair_byte text t ∷ []), None, ts)
+pair_by text Label t ts = Ok (Some [], None, ts)
+pair_by text _ t ts = Err (syntax_at (t ∷ ts))
+
+-- a byte, a label, or the end of the byte string
+abbrev pub pair_at : List ℕ → List Lexeme → Part (Option (List ℕ))
+pair_at text [] = Err (syntax_at [])
+pair_at text (t ∷ ts) = pair_by text t.kind t ts
+
+unfoldable pub pairs_at : List ℕ → List Lexeme → Part (List ℕ)
+pairs_at text ts = many stays (λ s ts. pair_at text ts) (suc (length ts)) tt ts >>= λ y. Ok (concat y.0, y.1, y.2)
+
+-- ---- pieces of a value
+
+abbrev pub square_at : List ℕ → List Lexeme → Part (List Piece)
+square_at text ts = pairs_at text ts >>= λ y. Ok (Plain y.0 ∷ [], y.1, y.2)
+
+abbrev pub less_by : List ℕ → Option Width → Option Fault → Kind → Lexeme → List Lexeme → Part (List Piece)
+less_by text w f Less t ts = cells_at text w ts >>= λ y. Ok (y.0, earlier f y.1, y.2)
+less_by text w f _ t ts = Err (syntax_at (t ∷ ts))
+
+-- cells of a width whose fault is this
+abbrev pub less_at : List ℕ → Option Width → Option Fault → List Lexeme → Part (List Piece)
+less_at text w f [] = Err (syntax_at [])
+less_at text w f (t ∷ ts) = less_by text w f t.kind t ts
+
+abbrev pub bits_by : List ℕ → Kind → Lexeme → List Lexeme → Part (List Piece)
+bits_by text Literal t ts = let w = width_at t (literal_of text t) in less_at text (width_in w) (fault_in w) ts
+bits_by text _ t ts = Err (syntax_at (t ∷ ts))
+
+-- the width behind /bits/, and the cells
+abbrev pub bits_at : List ℕ → List Lexeme → Part (List Piece)
+bits_at text [] = Err (syntax_at [])
+bits_at text (t ∷ ts) = bits_by text t.kind t ts
+
+abbrev pub piece_by : List ℕ → Kind → Lexeme → List Lexeme → Part (List Piece)
+piece_by text Text t ts = Ok (Plain (string_bytes text t) ∷ [], first_of (string_faults text t), ts)
+piece_by text Reference t ts = Ok (PathOf (target_of text t) ∷ [], None, ts)
+piece_by text PathReference t ts = Ok (PathOf (target_of text t) ∷ [], None, ts)
+piece_by text Square t ts = square_at text ts
+piece_by text Less t ts = cells_at text (Some ThirtyTwo) ts
+piece_by text Bits t ts = bits_at text ts
+piece_by text _ t ts = Err (syntax_at (t ∷ ts))
+
+unfoldable pub piece_at : List ℕ → List Lexeme → Part (List Piece)
+piece_at text [] = Err (syntax_at [])
+piece_at text (t ∷ ts) = piece_by text t.kind t ts
+
+-- a piece, with labels before and after it, which are dropped
+unfoldable pub placed_at : List ℕ → List Lexeme → Part (List Piece)
+placed_at text ts = piece_at text (labels_at ts).1 >>= λ y. Ok (y.0, y.1, (labels_at y.2).1)
+
+abbrev pub comma_by : List ℕ → Kind → Lexeme → List Lexeme → Part (Option (List Piece))
+comma_by text Comma t ts = placed_at text ts >>= λ y. Ok (Some y.0, y.1, y.2)
+comma_by text _ t ts = Ok (None, None, t ∷ ts)
+
+-- a further piece, where a comma stands before it
+abbrev pub comma_at : List ℕ → List Lexeme → Part (Option (List Piece))
+comma_at text [] = Ok (None, None, [])
+comma_at text (t ∷ ts) = comma_by text t.kind t ts
+
+abbrev pub concat_pieces : List (List Piece) → List Piece
+concat_pieces [] = []
+concat_pieces (p ∷ ps) = p ++ concat_pieces ps
+
+-- one piece, and further ones behind commas
+unfoldable pub pieces_at : List ℕ → List Lexeme → Part (List Piece)
+pieces_at text ts = do
+  x ← placed_at text ts
+  y ← many stays (λ s ts. comma_at text ts) (suc (length x.2)) tt x.2
+  Ok (x.0 ++ concat_pieces y.0, earlier x.1 y.1, y.2)
+
+unfoldable pub value_at : List ℕ → List Lexeme → Part (List Piece)
+value_at text ts = pieces_at text ts >>= λ y. Ok (joined y.0, y.1, y.2)
+
+-- ---- statements
+
+abbrev pub semicolon_by : {A : Type 0} → A → Option Fault → Kind → Lexeme → List Lexeme → Part A
+semicolon_by a f Semicolon t ts = Ok (a, f, ts)
+semicolon_by a f _ t ts = Err (syntax_at (t ∷ ts))
+
+-- what was read, where a semicolon follows it
+abbrev pub ended_by : {A : Type 0} → A → Option Fault → List Lexeme → Part A
+ended_by a f [] = Err (syntax_at [])
+ended_by a f (t ∷ ts) = semicolon_by a f t.kind t ts
+
+abbrev pub Inner : Type 0
+Inner = Lexeme → List Lexeme → Part (List Entry)
+
+-- what follows a name: the end of a property without value, a value, or a body
+abbrev pub named_by : List ℕ → Inner → Bool → List (List ℕ) → List ℕ → Kind → Lexeme → List Lexeme → Part (Option Entry)
+named_by text inner false labels name Semicolon t ts = Ok (Some (Defines name []), None, ts)
+named_by text inner false labels name Equals t ts = do
+  v ← value_at text ts
+  ended_by (Some (Defines name v.0)) v.1 v.2
+named_by text inner nodes labels name Brace t ts = do
+  b ← inner t ts
+  ended_by (Some (Child labels name (body_of b.0))) b.1 b.2
+named_by text inner nodes labels name _ t ts = Err (syntax_at (t ∷ ts))
+
+abbrev pub named_at : List ℕ → Inner → Bool → List (List ℕ) → List ℕ → List Lexeme → Part (Option Entry)
+named_at text inner nodes labels name [] = Err (syntax_at [])
+named_at text inner nodes labels name (t ∷ ts) = named_by text inner nodes labels name t.kind t ts
+
+abbrev pub deleted_by : List ℕ → (List ℕ → Entry) → Kind → Lexeme → List Lexeme → Part (Option Entry)
+deleted_by text entry Name t ts = ended_by (Some (entry (name_bytes text t))) None ts
+deleted_by text entry _ t ts = Err (syntax_at (t ∷ ts))
+
+-- the name of what is deleted
+abbrev pub deleted_at : List ℕ → (List ℕ → Entry) → List Lexeme → Part (Option Entry)
+deleted_at text entry [] = Err (syntax_at [])
+deleted_at text entry (t ∷ ts) = deleted_by text entry t.kind t ts
+
+-- Nothing but a name follows labels.
+abbrev pub bare_by : List ℕ → Bool → Kind → Lexeme → List Lexeme → Part (Option Entry)
+bare_by text nodes EndBrace t ts = Ok (None, None, ts)
+bare_by text false DeleteProperty t ts = deleted_at text Undefines ts
+bare_by text nodes DeleteNode t ts = deleted_at text Removes ts
+bare_by text nodes _ t ts = Err (syntax_at (t ∷ ts))
+
+abbrev pub unlabelled : List ℕ → Bool → List Lexeme → Kind → Lexeme → List Lexeme → Part (Option Entry)
+unlabelled text nodes [] k t ts = bare_by text nodes k t ts
+unlabelled text nodes (l ∷ ls) k t ts = Err (syntax_at (t ∷ ts))
+
+abbrev pub begun_by : List ℕ → Inner → Bool → List Lexeme → Kind → Lexeme → List Lexeme → Part (Option Entry)
+begun_by text inner nodes labels Name t ts = named_at text inner nodes (map (label_bytes text) labels) (name_bytes text t) ts
+begun_by text inner nodes labels k t ts = unlabelled text nodes labels k t ts
+
+abbrev pub begun_at : List ℕ → Inner → Bool → List Lexeme → List Lexeme → Part (Option Entry)
+begun_at text inner nodes labels [] = Err (syntax_at [])
+begun_at text inner nodes labels (t ∷ ts) = begun_by text inner nodes labels t.kind t ts
+
+-- a statement, or the end of the body
+unfoldable pub statement_at : List ℕ → Inner → Bool → List Lexeme → Part (Option Entry)
+statement_at text inner nodes ts = let l = labels_at ts in begun_at text inner nodes l.0 l.1
+
+-- no property follows a node or the deletion of one
+abbrev pub after : Bool → Entry → Bool
+after nodes (Defines name value) = nodes
+after nodes (Undefines name) = nodes
+after nodes (Child labels name body) = true
+after nodes (Removes name) = true
+
+abbrev pub statements_at : List ℕ → Inner → List Lexeme → Part (List Entry)
+statements_at text inner ts = many after (statement_at text inner) (suc (length ts)) false ts
+
+-- a body whose brace was read, at most this deep
+unfoldable pub body_below : List ℕ → ℕ → Lexeme → List Lexeme → Part (List Entry)
+body_below text zero t ts = Err (too_deep t)
+body_below text (suc depth) t ts = statements_at text (body_below text depth) ts
+
+unfoldable pub body_at : List ℕ → ℕ → List Lexeme → Part (List Entry)
+body_at text depth ts = statements_at text (body_below text depth) ts

@@ -1,0 +1,150 @@
+-- Reading a whole source.
+use Rattle.std.specs.Prelude.{ℕ, suc, Bool, true, false, ◌||◌, List, [], ◌∷◌, length, map, flat_map, fold, Option, Some, None, Result, Ok, Err}
+use Rattle.dt_source.specs.declared.body.TheConstants.{MAX_BODY_DEPTH}
+use Rattle.dt_lexeme.specs.declared.lexeme.Lexeme.{Lexeme}
+use Rattle.dt_lexeme.specs.declared.lexeme.Fault.{Fault}
+use Rattle.dt_lexeme.specs.declared.lexeme.Refusal.{Refusal}
+use Rattle.dt_lexeme.specs.declared.lexeme.Kind.{Kind}
+use Rattle.dt_lexeme.specs.declared.lexeme.Kind.TheVariants.{Version, Plugin, MemReserve, DeleteNode, Reference, PathReference, Semicolon, Brace, Slash}
+use Rattle.dt_expression.specs.Values.{Value}
+use Rattle.dt_expression.specs.Reading.{◌>>=◌, Read, syntax_at}
+use Rattle.dt_expression.specs.ReadingExpressions.{primary_at}
+use Rattle.dt_source.specs.Reading.Several.{earlier, Part, many}
+use Rattle.dt_source.specs.Tree.{Edit, Rooted, Extends, Deletes, Meaning, Body, body_of}
+use Rattle.dt_source.specs.Pieces.{target_of, fault_in}
+use Rattle.dt_source.specs.Words.{label_bytes}
+use Rattle.dt_source.specs.Reading.Bodies.{labels_at, stays, ended_by, body_at}
+use Rattle.dt_source.specs.Source.{both_numbers}
+
+abbrev pub semicolon_kind : Kind → Lexeme → List Lexeme → Result (List Lexeme) Refusal
+semicolon_kind Semicolon t ts = Ok ts
+semicolon_kind _ t ts = Err (syntax_at (t ∷ ts))
+
+-- what follows a semicolon
+abbrev pub semicolon_at : List Lexeme → Result (List Lexeme) Refusal
+semicolon_at [] = Err (syntax_at [])
+semicolon_at (t ∷ ts) = semicolon_kind t.kind t ts
+
+abbrev pub plugin_kind : Kind → Lexeme → List Lexeme → Read Bool
+plugin_kind Plugin t ts = semicolon_at ts >>= λ r. Ok (true, r)
+plugin_kind _ t ts = Ok (false, t ∷ ts)
+
+abbrev pub plugin_at : List Lexeme → Read Bool
+plugin_at [] = Ok (false, [])
+plugin_at (t ∷ ts) = plugin_kind t.kind t ts
+
+abbrev pub header_kind : Kind → Lexeme → List Lexeme → Part (Option Bool)
+header_kind Version t ts = do
+  a ← semicolon_at ts
+  x ← plugin_at a
+  Ok (Some x.0, None, x.1)
+header_kind _ t ts = Ok (None, None, t ∷ ts)
+
+-- a header, where one begins
+unfoldable pub header_at : List Lexeme → Part (Option Bool)
+header_at [] = Ok (None, None, [])
+header_at (t ∷ ts) = header_kind t.kind t ts
+
+abbrev pub more_headers : Option Bool → Bool → Option Bool
+more_headers None b = Some b
+more_headers (Some a) b = Some (a || b)
+
+-- whether a source is a plugin, where it has a header
+unfoldable pub headers_at : List Lexeme → Part (Option Bool)
+headers_at ts = many stays (λ s ts. header_at ts) (suc (length ts)) tt ts >>= λ y. Ok (fold more_headers None y.0, y.1, y.2)
+
+abbrev pub reserve_kind : List ℕ → List Lexeme → Kind → List Lexeme → Part (Option (Value × Value))
+reserve_kind text whole MemReserve ts = do
+  x ← primary_at text ts
+  y ← primary_at text x.1
+  r ← semicolon_at y.1
+  Ok (Some (x.0, y.0), earlier (fault_in x.0) (fault_in y.0), r)
+reserve_kind text whole _ ts = Ok (None, None, whole)
+
+abbrev pub reserve_with : List ℕ → List Lexeme → List Lexeme → Part (Option (Value × Value))
+reserve_with text whole [] = Ok (None, None, whole)
+reserve_with text whole (t ∷ ts) = reserve_kind text whole t.kind ts
+
+-- a reservation, where one begins
+unfoldable pub reserve_at : List ℕ → List Lexeme → Part (Option (Value × Value))
+reserve_at text ts = reserve_with text ts (labels_at ts).1
+
+unfoldable pub reserves_at : List ℕ → List Lexeme → Part (List (ℕ × ℕ))
+reserves_at text ts = many stays (λ s ts. reserve_at text ts) (suc (length ts)) tt ts >>= λ y. Ok (flat_map both_numbers y.0, y.1, y.2)
+
+abbrev pub brace_kind : List ℕ → Kind → Lexeme → List Lexeme → Part Body
+brace_kind text Brace t ts = do
+  y ← body_at text MAX_BODY_DEPTH ts
+  ended_by (body_of y.0) y.1 y.2
+brace_kind text _ t ts = Err (syntax_at (t ∷ ts))
+
+-- the body of an item, and a semicolon
+unfoldable pub brace_at : List ℕ → List Lexeme → Part Body
+brace_at text [] = Err (syntax_at [])
+brace_at text (t ∷ ts) = brace_kind text t.kind t ts
+
+abbrev pub extend_at : List ℕ → List Lexeme → Lexeme → List Lexeme → Part (Option Edit)
+extend_at text ls t ts = brace_at text ts >>= λ y. Ok (Some (Extends (map (label_bytes text) ls) (target_of text t) y.0), y.1, y.2)
+
+abbrev pub delete_kind : List ℕ → Kind → Lexeme → List Lexeme → Part (Option Edit)
+delete_kind text Reference t ts = ended_by (Some (Deletes (target_of text t))) None ts
+delete_kind text PathReference t ts = ended_by (Some (Deletes (target_of text t))) None ts
+delete_kind text _ t ts = Err (syntax_at (t ∷ ts))
+
+abbrev pub delete_at : List ℕ → List Lexeme → Part (Option Edit)
+delete_at text [] = Err (syntax_at [])
+delete_at text (t ∷ ts) = delete_kind text t.kind t ts
+
+abbrev pub root_at : List ℕ → List Lexeme → Part (Option Edit)
+root_at text ts = brace_at text ts >>= λ y. Ok (Some (Rooted y.0), y.1, y.2)
+
+-- Nothing but a reference follows labels.
+abbrev pub bare_item : List ℕ → Kind → Lexeme → List Lexeme → Part (Option Edit)
+bare_item text Slash t ts = root_at text ts
+bare_item text DeleteNode t ts = delete_at text ts
+bare_item text _ t ts = Err (syntax_at (t ∷ ts))
+
+abbrev pub unlabelled_item : List ℕ → List Lexeme → Kind → Lexeme → List Lexeme → Part (Option Edit)
+unlabelled_item text [] k t ts = bare_item text k t ts
+unlabelled_item text (l ∷ ls) k t ts = Err (syntax_at (t ∷ ts))
+
+abbrev pub item_kind : List ℕ → List Lexeme → Kind → Lexeme → List Lexeme → Part (Option Edit)
+item_kind text ls Reference t ts = extend_at text ls t ts
+item_kind text ls PathReference t ts = extend_at text ls t ts
+item_kind text ls k t ts = unlabelled_item text ls k t ts
+
+abbrev pub item_with : List ℕ → List Lexeme → List Lexeme → Part (Option Edit)
+item_with text ls [] = Err (syntax_at [])
+item_with text ls (t ∷ ts) = item_kind text ls t.kind t ts
+
+-- an item, or the end
+unfoldable pub item_at : List ℕ → List Lexeme → Part (Option Edit)
+item_at text [] = Ok (None, None, [])
+item_at text (t ∷ ts) = let l = labels_at (t ∷ ts) in item_with text l.0 l.1
+
+abbrev pub some_items : List Lexeme → List Edit → Result (List Edit) Refusal
+some_items ts [] = Err (syntax_at ts)
+some_items ts (e ∷ es) = Ok (e ∷ es)
+
+abbrev pub some_header : List Lexeme → Option Bool → Result Bool Refusal
+some_header ts None = Err (syntax_at ts)
+some_header ts (Some plugin) = Ok plugin
+
+-- the items up to the end
+unfoldable pub all_items_at : List ℕ → List Lexeme → Part (List Edit)
+all_items_at text ts = many stays (λ s ts. item_at text ts) (suc (length ts)) tt ts
+
+-- the items, of which there is at least one
+unfoldable pub items_at : List ℕ → List Lexeme → Result (List Edit × Option Fault) Refusal
+items_at text ts = do
+  y ← all_items_at text ts
+  es ← some_items ts y.0
+  Ok (es, y.1)
+
+unfoldable pub source_at : List ℕ → List Lexeme → Result (Meaning × Option Fault) Refusal
+source_at text ts = do
+  h ← headers_at ts
+  plugin ← some_header ts h.0
+  r ← reserves_at text h.2
+  i ← items_at text r.2
+  Ok (record { plugin = plugin; reserves = r.0; items = i.0 }, earlier r.1 i.1)

@@ -1,0 +1,68 @@
+//! What the command line may say, as `clap` reads it.
+ghost use Rattle.std.specs.Prelude.{◌≡◌, false, IfOk};
+ghost use Rattle.clap.specs.Words.{app_of, fields_of, rule_of};
+ghost use Rattle.dtman.specs.Grammar as spec;
+
+use clap::{Arg, Command};
+use std::alloc::{AllocError, Global};
+
+/// What `--help` says behind the commands.
+const STATUSES: &str = "\
+Statuses: 0 done; 1 refused, with `error NUMBER NAME` and its place on standard error (`dtman explain NUMBER` says
+more); 2 the command line is no command; 3 a file can't be read or written (80, 81) or is too long (82).
+
+Limits: a blob and its printed source have at most 268,435,456 bytes, and so does each text file; nodes are nested at
+most 64 deep; a plan has at most 512 devices, a schedule at most 500,000 begins.
+
+Formats: a plan's line is `PATH DRIVER ok|fail SUPPLIER..`, `PATH - - SUPPLIER..` (no driver) or `PATH ! - SUPPLIER..`
+(switched off). A schedule's is `begin PATH`, `finish PATH settled`, `finish PATH missing SUPPLIER` or `abandon PATH`.
+Lines that begin with # are skipped.";
+
+/// What the program takes.
+pub fn grammar<'a>(alloc: Global) -> Result<Command<'a>, AllocError>
+    ensures { IfOk result (λ c. (app_of c ≡ spec.dtman) × ((fields_of c).has_globals ≡ false)) }
+{
+    let dump = dump(alloc)?;
+    let replay = replay(alloc)?;
+    let explain = explain(alloc)?;
+    Command::new(alloc, "dtman")
+        .about("Devicetree compiler and driver-binding manager")
+        .version("0.1")
+        .after_help(STATUSES)
+        .subcommand_required(true)
+        .subcommand(dump)?
+        .subcommand(replay)?
+        .subcommand(explain)
+}
+
+fn dump<'a>(alloc: Global) -> Result<Command<'a>, AllocError>
+    ensures { IfOk result (λ c. (app_of c ≡ spec.dump) × ((fields_of c).has_globals ≡ false)) }
+{
+    Command::new(alloc, "dump")
+        .about("Prints a blob as a canonical source")
+        .arg(required(alloc, "IN", "The blob"))
+}
+
+fn replay<'a>(alloc: Global) -> Result<Command<'a>, AllocError>
+    ensures { IfOk result (λ c. (app_of c ≡ spec.replay) × ((fields_of c).has_globals ≡ false)) }
+{
+    Command::new(alloc, "replay")
+        .about("Replays a schedule of probe events over a plan and prints the report")
+        .arg(required(alloc, "PLAN", "The plan file"))?
+        .arg(required(alloc, "SCHEDULE", "The schedule of events"))
+}
+
+fn explain<'a>(alloc: Global) -> Result<Command<'a>, AllocError>
+    ensures { IfOk result (λ c. (app_of c ≡ spec.explain) × ((fields_of c).has_globals ≡ false)) }
+{
+    Command::new(alloc, "explain")
+        .about("Says what an error's number means, and what to do about it")
+        .arg(required(alloc, "NUMBER", "The number behind `error`"))
+}
+
+fn required<'a>(alloc: Global, name: &'a str, about: &'a str) -> Arg<'a>
+    ensures rule { rule_of result ≡ spec.required name.now }
+    ensures local { result.global ≡ false }
+{
+    Arg::new(alloc, name).required(true).help(about)
+}

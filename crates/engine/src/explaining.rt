@@ -1,0 +1,315 @@
+//! What each number means, and what to do about it.
+ghost use Rattle.std.specs.Prelude.{◌≡◌, IfSome};
+
+use std::fmt;
+
+/// An error for its reader.
+#[derive(Clone, Copy, Debug)]
+pub struct Explanation {
+    pub number: u8,
+    pub name: &'static str,
+    pub meaning: &'static str,
+    /// A small input that gives it.
+    pub input: &'static str,
+    pub remedy: &'static str,
+}
+
+impl fmt::Display for Explanation {
+    fn fmt<W: fmt::Write>(&self, f: &mut fmt::Formatter<W>) -> fmt::Result {
+        let Explanation {
+            number,
+            name,
+            meaning,
+            input,
+            remedy,
+        } = *self;
+        write!(
+            f,
+            "## {number} {name}\n{meaning}\n\n- Such an input: {input}\n- What to do: {remedy}\n"
+        )
+    }
+}
+
+/// The explanation of a number that the program prints.
+pub fn explain(number: u8) -> Option<Explanation>
+    ensures { IfSome result (λ found. found.number ≡ number) }
+{
+    let (name, meaning, input, remedy) = match number / 10 {
+        0 => of_memory(number)?,
+        1 => of_source(number)?,
+        3 => of_blob(number)?,
+        5 => of_text(number)?,
+        6 => of_event(number)?,
+        7 => of_run(number)?,
+        8 => of_file(number)?,
+        _ => return None,
+    };
+    Some(Explanation {
+        number,
+        name,
+        meaning,
+        input,
+        remedy,
+    })
+}
+
+/// A name, a meaning, an input and a remedy.
+type Texts = (&'static str, &'static str, &'static str, &'static str);
+
+fn of_memory(number: u8) -> Option<Texts> {
+    match number {
+        0 => Some((
+            "NoMemory",
+            "The system refused memory that the command asked for. Nothing was printed or written.",
+            "none: it depends on the machine",
+            "Free memory, or raise the limit under which the command runs (`ulimit -v`).",
+        )),
+        _ => None,
+    }
+}
+
+fn of_source(number: u8) -> Option<Texts> {
+    match number {
+        10 => Some((
+            "Syntax",
+            "The text is no source: something can't stand where it stands, or the text ends too early.",
+            "an empty source",
+            "Look at the line. A source begins with `/dts-v1/;`, and each node and property ends with `;`. Run the preprocessor first: `#include` and `#define` are its words.",
+        )),
+        11 => Some((
+            "ElementRange",
+            "A number doesn't fit its element: a cell has 32 bits, `/bits/ 8` elements have 8.",
+            "`/dts-v1/;/{a=<0x100000000>;};`",
+            "Split the number into two cells, or choose wider elements by `/bits/ 64`.",
+        )),
+        12 => Some((
+            "DivideByZero",
+            "An expression divides by zero, or takes a remainder by it.",
+            "`/dts-v1/;/{a=<(1/0)>;};`",
+            "Look at what the macros of the line have become.",
+        )),
+        13 => Some((
+            "BadBits",
+            "The width behind `/bits/` isn't 8, 16, 32 or 64, or a reference stands among elements that aren't 32 bits wide.",
+            "`/dts-v1/;/{a=/bits/ 9<1>;};`",
+            "Choose one of the four widths, and put references into cells.",
+        )),
+        14 => Some((
+            "LiteralRange",
+            "A literal isn't a number below 2^64: its digits don't fit its base, or there are too many.",
+            "`/dts-v1/;/{a=<08>;};`",
+            "A leading 0 makes a number octal: leave it out, or write `0x`.",
+        )),
+        15 => Some((
+            "BadEscape",
+            "A backslash in a string begins no escape, or its number is above 255.",
+            "`/dts-v1/;/{a=\"\\x\";};`",
+            "Write `\\\\` for a backslash; `\\x` wants a hex digit, an octal escape is at most `\\377`.",
+        )),
+        16 => Some((
+            "TooDeep",
+            "Nodes or expressions are nested deeper than 64.",
+            "65 opening parentheses in a cell",
+            "Look for a brace that is never closed.",
+        )),
+        17 => Some((
+            "TooLong",
+            "The source has more than 16,777,216 bytes.",
+            "a file of 16,777,217 blanks",
+            "Data of that size belongs in a file of its own, not in a tree.",
+        )),
+        _ => None,
+    }
+}
+
+fn of_blob(number: u8) -> Option<Texts> {
+    match number {
+        30 => Some((
+            "Truncated",
+            "The file ends before the blob does: it has fewer than 40 bytes, or fewer than its header says.",
+            "an empty file",
+            "Make or copy the blob again.",
+        )),
+        31 => Some((
+            "BadMagic",
+            "The file doesn't begin with d0 0d fe ed, so it is no blob.",
+            "40 zero bytes",
+            "See whether it is a source, or is packed (a kernel image, gzip, a FIT image).",
+        )),
+        32 => Some((
+            "BadVersion",
+            "The blob's version is below 17, or it can be read by versions above 17 alone.",
+            "d0 0d fe ed and 36 zero bytes",
+            "Make the blob again by a tool that writes version 17.",
+        )),
+        33 => Some((
+            "BadLayout",
+            "A block lies outside the blob or isn't aligned, or the list of reservations doesn't end.",
+            "d0 0d fe ed, and 36 bytes that are zero but for the version 17",
+            "The blob is damaged: make it again.",
+        )),
+        34 => Some((
+            "BadToken",
+            "The structure block has a word that is no token, is cut, or doesn't end with its node.",
+            "a blob whose structure block is empty",
+            "The blob is damaged: make it again.",
+        )),
+        35 => Some((
+            "BadString",
+            "A node's name doesn't end inside the structure block, or a property's name inside the strings.",
+            "a blob whose root's name has no zero byte",
+            "The blob is damaged: make it again.",
+        )),
+        36 => Some((
+            "PropertyAfterNode",
+            "A property stands behind a child of its node.",
+            "a blob whose root has a child and then a property",
+            "Blobs have a node's properties first: make it by a tool that keeps this order.",
+        )),
+        37 => Some((
+            "BadTree",
+            "The nodes make no tree: the root has a name, a name isn't lawful, siblings have one name, or nodes are deeper than 64.",
+            "a blob whose root is called `a`",
+            "Print the blob by another tool and look for such a name.",
+        )),
+        38 => Some((
+            "TooLarge",
+            "The blob, or the text that it would be printed as, has more than 268,435,456 bytes.",
+            "a file of 268,435,457 bytes",
+            "Take the data out of the tree.",
+        )),
+        _ => None,
+    }
+}
+
+fn of_text(number: u8) -> Option<Texts> {
+    match number {
+        50 => Some((
+            "BadLine",
+            "A line of a driver, plan or schedule file has no lawful form, or a byte that isn't printable.",
+            "a plan file with the line `/a`",
+            "A plan's line is `PATH DRIVER ok SUPPLIER..`, or has `fail`, `- -` or `! -` there; a schedule's is `begin PATH`, `finish PATH settled`, `finish PATH missing SUPPLIER` or `abandon PATH`; a driver file's is `driver NAME COMPATIBLE..` or `fail PATH`.",
+        )),
+        51 => Some((
+            "DuplicateDriver",
+            "Two lines of a driver file name one driver.",
+            "a driver file with the lines `driver a b` and `driver a c`",
+            "Put all strings of a driver on one line.",
+        )),
+        52 => Some((
+            "DuplicateDevice",
+            "Two lines of a plan file name one device.",
+            "a plan file with the line `/a - -` twice",
+            "Keep one of them.",
+        )),
+        53 => Some((
+            "UnknownPath",
+            "A line names a path that is no device's.",
+            "a plan file with the line `/a - - /b`",
+            "A device is a node that has `compatible`: name its path from the root, as `dtman dump` shows it.",
+        )),
+        54 => Some((
+            "DanglingPhandle",
+            "A property refers to a phandle that no node has.",
+            "a device with `clocks = <7>` in a tree without phandles",
+            "Look for a node that was deleted, or for an overlay that wasn't applied.",
+        )),
+        55 => Some((
+            "BadSpecifier",
+            "A property that lists suppliers has another form than its provider's `#..-cells` says.",
+            "a device with `clocks = <1>` whose provider has `#clock-cells = <1>`",
+            "Compare the property with its binding: each entry is a phandle and as many cells as the provider says.",
+        )),
+        56 => Some((
+            "TooManyDevices",
+            "There are more than 512 devices.",
+            "a plan file of 513 devices",
+            "Plan a part of the board.",
+        )),
+        _ => None,
+    }
+}
+
+fn of_event(number: u8) -> Option<Texts> {
+    match number {
+        60 => Some((
+            "NotIdle",
+            "A begin of a device that is in flight or has settled.",
+            "the plan `/a x ok` and `begin /a` twice",
+            "Finish or abandon the flight first; a settled device isn't probed again.",
+        )),
+        61 => Some((
+            "Unmatched",
+            "A begin of a device that has no driver or is switched off.",
+            "the plan `/a - -` and `begin /a`",
+            "Give the device a driver, or take the event out.",
+        )),
+        62 => Some((
+            "StaleTicket",
+            "A finish by the ticket of a flight that is gone. No schedule says it, since its events name devices.",
+            "a call of the library",
+            "Finish a flight by its own ticket.",
+        )),
+        63 => Some((
+            "NotReady",
+            "A finish that settles a device while one of its suppliers isn't bound.",
+            "the plan `/a x ok /b`, `/b - -`, and `begin /a`, `finish /a settled`",
+            "Say `missing` and the supplier, or settle the suppliers first.",
+        )),
+        64 => Some((
+            "WasBound",
+            "A finish that misses a device which is no supplier, or was bound when the flight began.",
+            "the plan `/a x ok`, `/b - -`, and `begin /a`, `finish /a missing /b`",
+            "Name a supplier that the probe couldn't see.",
+        )),
+        65 => Some((
+            "TooManyEvents",
+            "A begin after 500,000 others.",
+            "the plan `/a x ok`, and `begin /a`, `abandon /a` 500,000 times before another `begin /a`",
+            "Cut the schedule.",
+        )),
+        66 => Some((
+            "NotInFlight",
+            "A finish or an abandon of a device that isn't in flight.",
+            "the plan `/a x ok` and `abandon /a`",
+            "Begin the device first.",
+        )),
+        _ => None,
+    }
+}
+
+fn of_run(number: u8) -> Option<Texts> {
+    match number {
+        70 => Some((
+            "TooManyWorkers",
+            "A run by no worker, or by more than 64. The command line takes 1 to 64 alone.",
+            "a call of the library with 65 workers",
+            "Take 1 to 64.",
+        )),
+        _ => None,
+    }
+}
+
+fn of_file(number: u8) -> Option<Texts> {
+    match number {
+        80 => Some((
+            "CannotRead",
+            "The file at the path can't be opened or read (`random` stands for the system's source of random bytes).",
+            "a path where no file is",
+            "See that the path is right, is a file, and may be read.",
+        )),
+        81 => Some((
+            "CannotWrite",
+            "The file at the path can't be made or written; it may hold a beginning of the answer (`stdout` stands for standard output).",
+            "standard output that is closed",
+            "See that the folder is there and may be written, and that the disk has room.",
+        )),
+        82 => Some((
+            "FileTooLong",
+            "A driver, plan or schedule file has more than 268,435,456 bytes.",
+            "a file of 268,435,457 bytes",
+            "Give the right file.",
+        )),
+        _ => None,
+    }
+}

@@ -1,0 +1,166 @@
+//! Each number by a small input, and its explanation.
+
+use super::printed;
+use dt_source::parse;
+use engine::{dump_bytes, explain, replay_bytes};
+use std::alloc::{AllocError, Global};
+use std::hash::RandomState;
+use std::test::Fail;
+
+/// The line that tells what is wrong with a source.
+fn source_line(alloc: Global, text: &[u8]) -> Result<Vec<u8>, AllocError> {
+    match parse(alloc, text) {
+        Ok(_) => Ok(Vec::new(alloc)),
+        Err(error) => {
+            let (number, name, line) = (error.number(), error.name(), error.line);
+            let told = format!(in alloc; "error {number} {name} line {line}")?;
+            Ok(told.into_bytes())
+        }
+    }
+}
+
+/// That the line tells the number, under the name by which it is explained.
+fn is_explained(alloc: Global, number: u8, line: &[u8]) -> Result<bool, AllocError> {
+    match explain(number) {
+        Some(explanation) => {
+            let name = explanation.name;
+            let head = format!(in alloc; "error {number} {name}")?;
+            Ok(explanation.number == number && line.starts_with(head.as_bytes()))
+        }
+        None => Ok(false),
+    }
+}
+
+#[test]
+fn sources_are_refused(rt: HostRuntime) -> Result<(), Fail> {
+    let rows = [
+        (10, "", "error 10 Syntax line 1"),
+        (11, "/dts-v1/;/{a=<0x100000000>;};", "error 11 ElementRange line 1"),
+        (12, "/dts-v1/;/{a=<(1/0)>;};", "error 12 DivideByZero line 1"),
+        (13, "/dts-v1/;/{a=/bits/ 9<1>;};", "error 13 BadBits line 1"),
+        (14, "/dts-v1/;/{a=<08>;};", "error 14 LiteralRange line 1"),
+        (15, "/dts-v1/;/{a=\"\\x\";};", "error 15 BadEscape line 1"),
+        (
+            16,
+            "/dts-v1/;/{a=<(((((((((((((((((((((((((((((((((((((((((((((((((((((((((((((((((",
+            "error 16 TooDeep line 1",
+        ),
+    ];
+    for (number, text, line) in rows {
+        let told = source_line(rt.alloc(), text.as_bytes())?;
+        assert_eq!(rt; told.as_slice(), line.as_bytes(), "{number}");
+        assert!(rt; is_explained(rt.alloc(), number, line.as_bytes())?, "{number}");
+    }
+    Ok(())
+}
+
+#[test]
+fn plans_and_events_are_refused(rt: HostRuntime) -> Result<(), Fail> {
+    let rows = [
+        (50, "/a", "", "error 50 BadLine line 1"),
+        (52, "/a - -\n/a - -", "", "error 52 DuplicateDevice line 2"),
+        (53, "/a - - /b", "", "error 53 UnknownPath line 1"),
+        (60, "/a x ok", "begin /a\nbegin /a", "error 60 NotIdle event 2"),
+        (61, "/a - -", "begin /a", "error 61 Unmatched event 1"),
+        (63, "/a x ok /b\n/b - -", "begin /a\nfinish /a settled", "error 63 NotReady event 2"),
+        (64, "/a x ok\n/b - -", "begin /a\nfinish /a missing /b", "error 64 WasBound event 2"),
+        (66, "/a x ok", "abandon /a", "error 66 NotInFlight event 1"),
+    ];
+    let hasher = RandomState::new(&rt)?;
+    for (number, plan, schedule, line) in rows {
+        let answer = replay_bytes(rt.alloc(), hasher, plan.as_bytes(), schedule.as_bytes());
+        let told = printed(rt.alloc(), answer)?;
+        assert_eq!(rt; told.as_slice(), line.as_bytes(), "{number}");
+        assert!(rt; is_explained(rt.alloc(), number, line.as_bytes())?, "{number}");
+    }
+    Ok(())
+}
+
+#[test]
+fn a_plan_of_513_devices_is_refused(rt: HostRuntime) -> Result<(), Fail> {
+    let mut plan = String::new(rt.alloc());
+    for device in 0..513u16 {
+        write!(&mut plan, "/d{device} - -\n")?;
+    }
+    let answer = replay_bytes(rt.alloc(), RandomState::new(&rt)?, plan.as_bytes(), b"");
+    let told = printed(rt.alloc(), answer)?;
+    assert_eq!(rt; told.as_slice(), b"error 56 TooManyDevices".as_slice());
+    assert!(rt; is_explained(rt.alloc(), 56, told.as_slice())?);
+    Ok(())
+}
+
+/// A blob of a header with these words, a pair of zeros, and what stands behind.
+fn blob(alloc: Global, words: [u32; 10], behind: &[u8]) -> Result<Vec<u8>, AllocError> {
+    let mut bytes = Vec::new(alloc);
+    for word in words {
+        bytes.extend_from_slice(word.to_be_bytes().as_slice())?;
+    }
+    bytes.extend_from_slice([0u8; 16].as_slice())?;
+    bytes.extend_from_slice(behind)?;
+    Ok(bytes)
+}
+
+const MAGIC: u32 = 0xd00d_feed;
+
+#[test]
+fn headers_are_refused(rt: HostRuntime) -> Result<(), Fail> {
+    let rows: [(u8, usize, [u32; 10], &str); 5] = [
+        (30, 0, [0; 10], "error 30 Truncated"),
+        (31, 40, [0; 10], "error 31 BadMagic"),
+        (32, 40, [MAGIC, 0, 0, 0, 0, 0, 0, 0, 0, 0], "error 32 BadVersion"),
+        (33, 40, [MAGIC, 0, 0, 0, 0, 17, 0, 0, 0, 0], "error 33 BadLayout"),
+        (34, 56, [MAGIC, 56, 40, 40, 40, 17, 16, 0, 0, 0], "error 34 BadToken"),
+    ];
+    for (number, len, words, line) in rows {
+        let blob = blob(rt.alloc(), words, b"")?;
+        let front = blob.as_slice().get(..len).ok_or("short")?;
+        let told = printed(rt.alloc(), dump_bytes(rt.alloc(), front))?;
+        assert_eq!(rt; told.as_slice(), line.as_bytes(), "{number}");
+        assert!(rt; is_explained(rt.alloc(), number, line.as_bytes())?, "{number}");
+    }
+    Ok(())
+}
+
+#[test]
+fn structures_are_refused(rt: HostRuntime) -> Result<(), Fail> {
+    let rows: [(u8, u32, &[u8], &str); 3] = [
+        // The root's name is four bytes without a zero.
+        (35, 8, b"\0\0\0\x01aaaa", "error 35 BadString"),
+        // The root has the child `a`, and then the property `a`, whose name is the child's.
+        (
+            36,
+            44,
+            b"\0\0\0\x01\0\0\0\0\0\0\0\x01a\0\0\0\0\0\0\x02\0\0\0\x03\0\0\0\0\0\0\0\0\0\0\0\x02\0\0\0\x09",
+            "error 36 PropertyAfterNode",
+        ),
+        // The root is called `a`.
+        (37, 16, b"\0\0\0\x01a\0\0\0\0\0\0\x02\0\0\0\x09", "error 37 BadTree"),
+    ];
+    for (number, len, structure, line) in rows {
+        let words = [MAGIC, 56 + len, 56, 68, 40, 17, 16, 0, 2, len];
+        let words = if number == 36 { words } else { [MAGIC, 56 + len, 56, 40, 40, 17, 16, 0, 0, len] };
+        let blob = blob(rt.alloc(), words, structure)?;
+        let told = printed(rt.alloc(), dump_bytes(rt.alloc(), blob.as_slice()))?;
+        assert_eq!(rt; told.as_slice(), line.as_bytes(), "{number}");
+        assert!(rt; is_explained(rt.alloc(), number, line.as_bytes())?, "{number}");
+    }
+    Ok(())
+}
+
+/// Each number that a command prints is explained, and no other.
+#[test]
+fn numbers_are_explained(rt: HostRuntime) {
+    let explained: [&[u8]; 7] = [
+        &[0],
+        &[10, 11, 12, 13, 14, 15, 16, 17],
+        &[30, 31, 32, 33, 34, 35, 36, 37, 38],
+        &[50, 51, 52, 53, 54, 55, 56],
+        &[60, 61, 62, 63, 64, 65, 66],
+        &[70],
+        &[80, 81, 82],
+    ];
+    for number in 0..=255u8 {
+        let wanted = explained.iter().any(|numbers| numbers.contains(&number));
+        assert_eq!(rt; explain(number).is_some(), wanted, "{number}");
+    }
+}
