@@ -5,11 +5,12 @@
 use dt_blob::{BlobError, read, write};
 use dt_source::parse;
 use std::alloc::Global;
+use std::hash::RandomState;
 use std::{env, fs, io};
 
-fn written_size(alloc: Global, blob: &[u8]) -> Result<usize, BlobError> {
+fn written_size(alloc: Global, hasher: RandomState, blob: &[u8]) -> Result<usize, BlobError> {
     let tree = read(alloc, blob)?;
-    Ok(write(alloc, &tree)?.len())
+    Ok(write(alloc, hasher, &tree)?.len())
 }
 
 fn read_count(alloc: Global, blob: &[u8]) -> Result<usize, BlobError> {
@@ -29,7 +30,8 @@ fn main(rt: HostRuntime) -> io::Result<()> {
         };
     }
     let answer = if verb.as_str() == "write" {
-        written_size(rt.alloc(), bytes.as_slice())
+        let hasher = RandomState::new(&rt)?;
+        written_size(rt.alloc(), hasher, bytes.as_slice())
     } else {
         read_count(rt.alloc(), bytes.as_slice())
     };

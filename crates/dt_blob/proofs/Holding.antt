@@ -7,8 +7,8 @@ use Rattle.dt_tree.specs.TreeData.{TreeData, tree_data, IsTree}
 use Rattle.dt_blob.specs.BigEndian.{double_word}
 use Rattle.dt_blob.specs.HeaderWords.{header_of, strings_of, structure_of, reserves_of}
 use Rattle.dt_blob.specs.Holds.{Reserves, Holds}
-use Rattle.dt_blob.specs.Opened.{begun, root_from}
-use Rattle.dt_blob.specs.Reading.{tokens_at, reserves_in, reserves_at, tree_in}
+use Rattle.dt_blob.specs.Steps.Opened.{begun, root_from}
+use Rattle.dt_blob.specs.Steps.Reading.{tokens_at, reserves_in, reserves_at, tree_in}
 use Rattle.dt_blob.proofs.TokenLists.{root_spelled, root_lexed}
 use Rattle.dt_blob.proofs.Sizes.{length-double_word}
 use Rattle.dt_blob.proofs.States.{root_sound, root_again}

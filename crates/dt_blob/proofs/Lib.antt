@@ -1,10 +1,9 @@
 pub mod Blocks
-pub mod FromEnd
 pub mod HeldBlob
 pub mod Holding
+pub mod Lasting
 pub mod Laying
 pub mod Lines
-pub mod Ordered
 pub mod Places
 pub mod Refusals
 pub mod Sizes

@@ -6,9 +6,9 @@ use Rattle.dt_tree.specs.NodeData.{NodeData, siblings}
 use Rattle.dt_tree.specs.declared.property.Property.{Property}
 use Rattle.dt_blob.specs.declared.error.BlobError.{BlobError}
 use Rattle.dt_blob.specs.BigEndian.{double_word}
-use Rattle.dt_blob.specs.Printed.{Prints}
+use Rattle.dt_blob.specs.Steps.Printed.{Prints}
 use Rattle.dt_blob.specs.SourceText.{hex_of, tabs, value_part, property_line, property_lines, begin_line, end_line, sibling_lines, node_lines, reserve_line, reserve_lines}
-use Rattle.dt_blob.specs.Written.{Refuses}
+use Rattle.dt_blob.specs.Blob.{Refuses}
 use Rattle.dt_blob.proofs.Sizes.{length-double_word}
 use Rattle.dt_blob.proofs.Texts.{length-hex}
 use Rattle.dt_blob.proofs.Walk.{left-item}

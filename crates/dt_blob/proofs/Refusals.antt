@@ -5,7 +5,7 @@ use Rattle.dt_blob.specs.declared.error.BlobError.{BlobError}
 use Rattle.dt_blob.specs.declared.error.BlobError.TheVariants as errors
 use Rattle.dt_blob.specs.HeaderWords.{header_fault, reserves_of}
 use Rattle.dt_blob.specs.Holds.{HaveNoEnd, Holds}
-use Rattle.dt_blob.specs.Reading.{Refuses, HasNoEnd, RefusesAll, reserves_at, tree_in}
+use Rattle.dt_blob.specs.Steps.Reading.{Refuses, HasNoEnd, RefusesAll, reserves_at, tree_in}
 use Rattle.dt_blob.proofs.Holding.{held_read, reserves_again}
 use Rattle.dt_blob.proofs.Whole.{parts, tree_without_reserves}
 

@@ -8,7 +8,7 @@ use Rattle.byteorder.specs.Endian.{big_number}
 use Rattle.dt_blob.specs.BigEndian.{word}
 use Rattle.dt_blob.specs.Token.{Token, begin_node, end_node, property, nop, end}
 use Rattle.dt_blob.specs.Holds.{has_no_zero, Pads, Names, SpellsToken}
-use Rattle.dt_blob.specs.Reading.{zero_in, padded, named_at, begin_at, string_at, value_at, property_at, token_by, token_at}
+use Rattle.dt_blob.specs.Steps.Reading.{zero_in, padded, named_at, begin_at, string_at, value_at, property_at, token_by, token_at}
 use Rattle.dt_blob.proofs.Sizes.{length-word}
 use Rattle.dt_blob.proofs.Tests.{not_below, test_not_below, equal, guarded}
 use Rattle.dt_blob.proofs.Words.{AreBytes, bytes_behind, word_read, behind_word, word_small, word_spelled}

@@ -8,7 +8,7 @@ use Rattle.dt_tree.specs.Name.{is_name, are_names}
 use Rattle.dt_tree.specs.Sound.{are_distinct, AreSound, AreSiblings, IsSoundBelow, IsSound}
 use Rattle.dt_tree.specs.Fault.{fault_of, are_named}
 use Rattle.dt_blob.specs.Token.{Token, begin_node, end_node, property, nop, end, property_tokens, sibling_tokens, tokens_of, tree_tokens}
-use Rattle.dt_blob.specs.Opened.{Opened, opened, State, begun, inside, behind, ended, begin_in, property_in, behind_node, node_of, end_in, close_in, step, run, root_of, root_from}
+use Rattle.dt_blob.specs.Steps.Opened.{Opened, opened, State, begun, inside, behind, ended, begin_in, property_in, behind_node, node_of, end_in, close_in, step, run, root_of, root_from}
 use Rattle.dt_blob.proofs.Tests.{both, equal, test_below, test_not_below, test_unequal}
 
 -- ---- what has been read

@@ -9,8 +9,8 @@ use Rattle.dt_blob.specs.declared.error.BlobError.{BlobError}
 use Rattle.dt_blob.specs.declared.error.BlobError.TheVariants as errors
 use Rattle.dt_blob.specs.HeaderWords.{header_of, fault_in, header_fault}
 use Rattle.dt_blob.specs.Token.{Token, begin_node, end_node, property, nop, end}
-use Rattle.dt_blob.specs.Opened.{State, Opened, begun, inside, behind, ended, run, advance, is_end, root_of, root_from}
-use Rattle.dt_blob.specs.Reading.{Refuses, token_at, tokens_in, tokens_at, left, reserves_in, reserves_at}
+use Rattle.dt_blob.specs.Steps.Opened.{State, Opened, begun, inside, behind, ended, run, advance, is_end, root_of, root_from}
+use Rattle.dt_blob.specs.Steps.Reading.{Refuses, token_at, tokens_in, tokens_at, left, reserves_in, reserves_at}
 
 -- ---- the header
 

@@ -1,32 +1,34 @@
--- The list of names and the table of their places, step by step.
-use Rattle.std.proofs.Common.{◌≡◌, ◌≢◌, ◌⊎◌, inl, inr, ℕ, zero, suc, ◌+◌, ◌-◌, ◌<◌, ◌≤◌, Bool, true, false, List, [], ◌∷◌, ◌++◌, length, drop, get_or, set, refl, sym, ap, ◌∙◌, subst, arith, true≢false}
+-- The names of a tree in order of first sight, and the table of their places, step by step.
+use Rattle.std.proofs.Common.{◌≡◌, ◌≢◌, inl, inr, ℕ, zero, suc, ◌+◌, ◌<◌, ◌≤◌, Bool, true, false, List, [], ◌∷◌, ◌++◌, length, map, drop, get_or, set, refl, sym, ap, ◌∙◌, subst, arith, length-append}
 use Rattle.std.proofs.Math.Dec.{eqb-suc-zero}
-use Rattle.std.proofs.Math.Arith.{lt_of_le-ne}
 use Rattle.std.proofs.lemmas.Bool.{cases_lt, cases_eq}
-use Rattle.std.proofs.lemmas.List.{get_or_default, get_or_append_left, get_or_push, get_or-set_same, get_or-set_other, length_push}
-use Rattle.std.specs.Prelude.{Option, Some, None, IfSome, SomeIff, ◌&&◌, not, ◌==◌, nat_eq, nat_lt, slice_get, if◌then◌else◌}
+use Rattle.std.proofs.lemmas.Option.{get_or_from_slice_get}
+use Rattle.std.proofs.Math.Arith.{lt_of_le-ne}
+use Rattle.std.proofs.lemmas.List.{get_or-set_same, get_or-set_other, map-append, length-map}
+use Rattle.std.proofs.lemmas.List.Elements.{All-push}
+use Rattle.std.proofs.lemmas.List.Folds.{list_any_at}
+use Rattle.std.proofs.lemmas.List.Quantifiers.{all_pairs_push, position-Some}
+use Rattle.std.proofs.lemmas.List.Sums.{fails_before_first}
+use Rattle.std.proofs.lemmas.Grind.{common_steps}
+use Rattle.std.proofs.lemmas.Slice.Eq.{bytes_eq-Decides}
+use Rattle.std.specs.Prelude.{Option, Some, None, IfSome, ◌&&◌, ◌||◌, not, ◌==◌, nat_lt, is_some, slice_get, position, if◌then◌else◌}
 use Rattle.std.specs.Option.{option_map, option_or}
 use Rattle.std.specs.Str.{bytes_eq}
-use Rattle.std.specs.List.{list_all}
-use Rattle.std.specs.Cmp.Lexicographic.{unequal}
+use Rattle.std.specs.List.{list_all, list_any, position_or_len}
+use Rattle.indexmap.specs.IndexSet.{insert_key}
 use Rattle.dt_tree.specs.Name.{is_name, is_name_byte}
-use Rattle.dt_blob.specs.declared.names.Listed.{Listed}
-use Rattle.dt_blob.specs.Strings.{begins, lowest_place, ended}
-use Rattle.dt_blob.specs.Table.{name_at, tail_of, IsBefore, is_tail, is_tail_at, IsListed, IsLast, no_zero, is_clean, IsTable, IsClosed}
-use Rattle.dt_blob.proofs.Places.{place-in_none}
-use Rattle.dt_blob.proofs.Tails.{and-first, and-second, tail_at, place-added}
-use Rattle.dt_blob.proofs.Ordered.{same-bools, tail-itself, tail-trans, tail-between, tail-later, tail-short, tail-long, before-trans}
+use Rattle.dt_blob.specs.Blob.{limit}
+use Rattle.dt_blob.specs.Strings.{begins, lowest_place, ended, with_name}
+use Rattle.dt_blob.specs.Steps.Table.{is_noted, with_sight, no_zero, is_clean, AreNames, IsClosed, IsTable, IsPlacedBehind, Pending, tail_at}
+use Rattle.dt_blob.proofs.Places.{place-in_none, new-place, old-place}
+use Rattle.dt_blob.proofs.Tails.{and-first, and-second, place-added}
 
-clean-some : (q : List ℕ) → is_clean q ≡ true → 0 < length q
+pub clean-some : (q : List ℕ) → is_clean q ≡ true → 0 < length q
 clean-some [] c = absurd (cc)
 clean-some (x ∷ q) c = omega arith
 
-clean-free : (q : List ℕ) → is_clean q ≡ true → no_zero q ≡ true
+pub clean-free : (q : List ℕ) → is_clean q ≡ true → no_zero q ≡ true
 clean-free q c = and-second (not (length q == 0)) (no_zero q) c
-
-or-none : (v : Option ℕ) → option_or v None ≡ v
-or-none None = refl
-or-none (Some k) = refl
 
 -- ---- names
 name-byte : (b : ℕ) → is_name_byte b ≡ true → not (b == 0) ≡ true
@@ -51,9 +53,6 @@ name-by false false name p h = both (not (length name == 0)) (no_zero name) (ap 
 pub name-clean : (name : List ℕ) → is_name name ≡ true → is_clean name ≡ true
 name-clean name h = name-by (length name == 0) (nat_lt 255 (length name)) name refl h
 
-pub name-free : (name : List ℕ) → is_name name ≡ true → no_zero name ≡ true
-name-free name h = clean-free name (name-clean name h)
-
 below-by : (b : Bool) (o : Option ℕ) (c : ℕ) (s : List ℕ) → IfSome o (λ at. at < length s) → IfSome (if b then Some 0 else option_map suc o) (λ at. at < length (c ∷ s))
 below-by true o c s h = omega arith
 below-by false None c s h = tt
@@ -64,258 +63,175 @@ pub place-below : (name s : List ℕ) → IfSome (lowest_place (ended name) s) (
 place-below name [] = rw (place-in_none name) tt
 place-below name (c ∷ s) = below-by (begins (ended name) (c ∷ s)) (lowest_place (ended name) s) c s (place-below name s)
 
--- ---- a tail among the tails
-tail-by : (b : Bool) (start end k : ℕ) → (b ≡ true → start ≡ end - k) → (if b then Some start else None) ≡ (if b then Some (end - k) else None)
-tail-by true start end k h = ap Some (h refl)
-tail-by false start end k h = refl
+-- ---- what the set shows
+module _ {A B : Type 0} (f : A → B) (p : B → Bool) where
+  position_or_len-map : (xs : List A) → position_or_len (λ x. p (f x)) xs ≡ position_or_len p (map f xs)
+  position_or_len-map [] = refl
+  position_or_len-map (x ∷ xs) = ap (λ n. if not (p (f x)) then 1 + n else 0) (position_or_len-map xs)
 
-none-by : (b c : Bool) (start : ℕ) (o p : Option ℕ) → b ≡ c → o ≡ p → (if b then Some start else o) ≡ (if c then Some start else p)
-none-by b c start o p e h = ap (λ t. if t then Some start else o) e ∙ ap (λ (u : Option ℕ). if c then Some start else u) h
+  pub position-map : (xs : List A) → position (λ x. p (f x)) xs ≡ position p (map f xs)
+  position-map xs = rw (position_or_len-map xs, length-map xs f) refl
 
-tail-more : (y : ℕ) (q n : List ℕ) → length q ≤ length n → is_tail q (y ∷ n) ≡ is_tail q n
-tail-more y q n h =
-    let k : suc (length n) - length q ≡ suc (length n - length q) = omega arith in
-    ap (λ j. bytes_eq q (drop j (y ∷ n))) k
+  list_any-map : (xs : List A) → list_any (λ x. p (f x)) xs ≡ list_any p (map f xs)
+  list_any-map [] = refl
+  list_any-map (x ∷ xs) = ap (λ b. p (f x) || b) (list_any-map xs)
 
-tail-whole : (y : ℕ) (q n : List ℕ) → length n < length q → is_tail q (y ∷ n) ≡ bytes_eq q (y ∷ n)
-tail-whole y q n h =
-    let k : suc (length n) - length q ≡ 0 = omega arith in
-    ap (λ j. bytes_eq q (drop j (y ∷ n))) k
+if-map : {A B : Type 0} (f : A → B) (t u : Bool) (xs ys : List A) → t ≡ u → map f (if t then xs else ys) ≡ (if u then map f xs else map f ys)
+if-map f true true xs ys e = refl
+if-map f true false xs ys e = absurd (cc)
+if-map f false true xs ys e = absurd (cc)
+if-map f false false xs ys e = refl
 
-tail-none : (q : List ℕ) → 0 < length q → is_tail q [] ≡ false
-tail-none q h = tail-short q [] h
+-- a key more
+pub sight-insert_key : {A : Type 0} (f : A → List ℕ) (ks : List A) (k : A) → map f (insert_key (λ x y. bytes_eq (f x) (f y)) ks k) ≡ with_sight (map f ks) (f k)
+sight-insert_key f ks k =
+    if-map f (list_any (λ y. bytes_eq (f k) (f y)) ks) (is_noted (f k) (map f ks)) ks (ks ++ k ∷ []) (list_any-map f (bytes_eq (f k)) ks)
+    ∙ ap (λ (ns : List (List ℕ)). if is_noted (f k) (map f ks) then map f ks else ns) (map-append f ks (k ∷ []))
 
-if-false : (b : Bool) (o p : Option ℕ) → b ≡ false → p ≡ (if b then o else p)
-if-false true o p h = absurd (cc)
-if-false false o p h = refl
+pub no_names : AreNames []
+no_names = record { clean = λ k d lt. absurd (omega arith); differ = λ i j d lt within. absurd (omega arith) }
 
--- where a tail of a string that ends at `end` begins
-pub tail-place : (start end : ℕ) (q n : List ℕ) → 0 < length q → start + length n ≡ end → tail_at start q n ≡ (if is_tail q n then Some (end - length q) else None)
-tail-place start end q [] h e = if-false (is_tail q []) (Some (end - length q)) None (tail-none q h)
-tail-place start end q (y ∷ n) h e = elim (cases_lt (length n) (length q)) [
-  | inl short ↦
-      none-by (bytes_eq q (y ∷ n)) (is_tail q (y ∷ n)) start (tail_at (suc start) q n) None (sym (tail-whole y q n short))
-      (tail-place (suc start) end q n h (omega (arith, e)) ∙ sym (if-false (is_tail q n) (Some (end - length q)) None (tail-short q n short)))
-      ∙ tail-by (is_tail q (y ∷ n)) start end (length q) (λ t. omega (arith, e, short, tail-long q (y ∷ n) t))
-  | inr long ↦
-      let apart : bytes_eq q (y ∷ n) ≡ false = unequal nat_eq q (y ∷ n) (λ s. omega (arith, s, long)) in
-      sym (if-false (bytes_eq q (y ∷ n)) (Some start) (tail_at (suc start) q n) apart)
-      ∙ tail-place (suc start) end q n h (omega (arith, e))
-      ∙ ap (λ b. if b then Some (end - length q) else None) (sym (tail-more y q n long))
-]
+pub names-sight : (ns : List (List ℕ)) (n : List ℕ) → AreNames ns → is_name n ≡ true → AreNames (with_sight ns n)
+names-sight ns n a h = by_test _ refl where
+  apart : is_noted n ns ≡ false → (k : ℕ) (d : List ℕ) → k < length ns → get_or ns k d ≢ n
+  apart e k d lt same =
+      let there : is_noted n ns ≡ true = list_any_at (bytes_eq n) ns k d lt ((bytes_eq-Decides n (get_or ns k d)).1 (sym same)) in
+      let bad : true ≡ false = sym there ∙ e in cc bad
 
--- ---- the list
--- a name behind which the list goes on
-pub is_tail-kept : (names more : List Listed) (d : Listed) (q : List ℕ) (o : Option ℕ) → IfSome o (λ p. p < length names) → is_tail_at (names ++ more) d q o ≡ is_tail_at names d q o
-is_tail-kept names more d q None h = refl
-is_tail-kept names more d q (Some p) h = ap (λ (e : Listed). is_tail q e.name.now) (get_or_append_left names more d p h)
-
--- a list to whose end a name is put
-both-are : (P : Listed → Listed → Type 0) (x u y v : Listed) → x ≡ u → y ≡ v → P u v → P x y
-both-are P x u y v e f h = subst (λ z. P z y) (sym e) (subst (λ z. P u z) (sym f) h)
-
-module _ (names : List Listed) (e : Listed) (ok : IsListed names) (last : IsLast names e.name.now) where
-  abbrev more : List Listed
-  more = names ++ e ∷ []
-
-  old : (i : ℕ) (d : Listed) → i < length names → get_or more i d ≡ get_or names i d
-  old i d h = get_or_append_left names (e ∷ []) d i h
-
-  new : (i : ℕ) (d : Listed) → i ≡ length names → get_or more i d ≡ e
-  new i d h = get_or_push names e d i (sym h)
-
-  place : (i : ℕ) → i < length more → (i < length names) ⊎ (i ≡ length names)
-  place i h = elim (cases_lt i (length names)) [
-    | inl before ↦ inl before
-    | inr behind ↦ inr (omega (arith, h, behind, length_push names e))
-  ]
-
-  ascending : (i j : ℕ) (d : Listed) → i < j → j < length more → IsBefore (name_at more i d) (name_at more j d)
-  ascending i j d lt h = elim (place j h) [
-    | inl before ↦ both-are (λ x y. IsBefore x.name.now y.name.now) (get_or more i d) (get_or names i d) (get_or more j d) (get_or names j d) (old i d (omega (arith, lt, before))) (old j d before) (ok.ascending i j d lt before)
-    | inr behind ↦ both-are (λ x y. IsBefore x.name.now y.name.now) (get_or more i d) (get_or names i d) (get_or more j d) e (old i d (omega (arith, lt, behind))) (new j d behind) (last i d (omega (arith, lt, behind)))
-  ]
-
-  module _ (bound : IfSome e.tail (λ p. p < length names)) (link : (i : ℕ) (d : Listed) → i < length names → is_tail (name_at names i d) e.name.now ≡ is_tail_at names d (name_at names i d) e.tail) where
-    earlier : (i : ℕ) (d : Listed) → i < length more → IfSome (tail_of more i d) (λ p. p < i)
-    earlier i d h = elim (place i h) [
-      | inl before ↦ subst (λ (x : Listed). IfSome x.tail (λ p. p < i)) (sym (old i d before)) (ok.earlier i d before)
-      | inr behind ↦ subst (λ (x : Listed). IfSome x.tail (λ p. p < i)) (sym (new i d behind)) (subst (λ n. IfSome e.tail (λ p. p < n)) (sym behind) bound)
-    ]
-
-    -- the new name is no tail of those before it
-    none-later : (i : ℕ) (d : Listed) → i < length names → is_tail e.name.now (name_at names i d) ≡ is_tail_at names d e.name.now (tail_of names i d)
-    none-later i d h = by (tail_of names i d) (ok.earlier i d h)
-      where
-        by : (o : Option ℕ) → IfSome o (λ p. p < i) → is_tail e.name.now (name_at names i d) ≡ is_tail_at names d e.name.now o
-        by None b = tail-later e.name.now (name_at names i d) (last i d h)
-        by (Some p) b = tail-later e.name.now (name_at names i d) (last i d h) ∙ sym (tail-later e.name.now (name_at names p d) (last p d (omega (arith, b, h))))
-
-    inside : (i : ℕ) (d : Listed) → i < length names → IfSome (tail_of names i d) (λ p. p < length names)
-    inside i d h = by (tail_of names i d) (ok.earlier i d h)
-      where
-        by : (o : Option ℕ) → IfSome o (λ p. p < i) → IfSome o (λ p. p < length names)
-        by None b = tt
-        by (Some p) b = omega (arith, b, h)
-
-    linked-are : (i j : ℕ) (d u v : Listed) → get_or more i d ≡ u → get_or more j d ≡ v → IfSome u.tail (λ p. p < length names) → is_tail v.name.now u.name.now ≡ is_tail_at names d v.name.now u.tail
-        → is_tail (name_at more j d) (name_at more i d) ≡ is_tail_at more d (name_at more j d) (tail_of more i d)
-    linked-are i j d u v ei ej b h =
-        both-are (λ x y. is_tail y.name.now x.name.now ≡ is_tail_at more d y.name.now x.tail) (get_or more i d) u (get_or more j d) v ei ej
-        (h ∙ sym (is_tail-kept names (e ∷ []) d v.name.now u.tail b))
-
-    linked : (i j : ℕ) (d : Listed) → i < length more → j < length more → j ≢ i → is_tail (name_at more j d) (name_at more i d) ≡ is_tail_at more d (name_at more j d) (tail_of more i d)
-    linked i j d hi hj apart = elim (place i hi) [
-      | inl bi ↦ elim (place j hj) [
-        | inl bj ↦ linked-are i j d (get_or names i d) (get_or names j d) (old i d bi) (old j d bj) (inside i d bi) (ok.linked i j d bi bj apart)
-        | inr nj ↦ linked-are i j d (get_or names i d) e (old i d bi) (new j d nj) (inside i d bi) (none-later i d bi)
-      ]
-      | inr ni ↦ elim (place j hj) [
-        | inl bj ↦ linked-are i j d e (get_or names j d) (new i d ni) (old j d bj) bound (link j d bj)
-        | inr nj ↦ absurd (apart (nj ∙ sym ni))
-      ]
-    ]
-
-    pub listed-push : IsListed (names ++ e ∷ [])
-    listed-push = record { ascending = ascending; earlier = earlier; linked = linked }
-
-pub listed-none : IsListed []
-listed-none = record { ascending = λ i j d lt h. absurd (omega (arith, h)); earlier = λ i d h. absurd (omega (arith, h)); linked = λ i j d hi hj n. absurd (omega (arith, hi)) }
-
--- ---- the longest tail
-pub get-at : (names : List Listed) (k : ℕ) (x : Listed) → slice_get names k ≡ Some x → (k < length names) × ((d : Listed) → get_or names k d ≡ x)
-get-at [] k x h = absurd (cc)
-get-at (y ∷ names) zero x h = (omega arith, λ d. cc)
-get-at (y ∷ names) (suc k) x h =
-    let rest = get-at names k x h in
-    (omega (arith, rest.0), rest.1)
-
-pub last-before : (names : List Listed) (name : List ℕ) (k : ℕ) (d : Listed) → IsListed names → k + 1 ≡ length names → IsBefore (name_at names k d) name → IsLast names name
-last-before names name k d ok n b i e h = elim (cases_eq i k) [
-  | inl same ↦ rw same (subst (λ (x : Listed). IsBefore x.name.now name) (get_or_default names k d e (omega (arith, n))) b)
-  | inr apart ↦ before-trans (name_at names i e) (name_at names k e) name (ok.ascending i k e (lt_of_le-ne (omega (arith, h, n)) apart) (omega (arith, n))) (subst (λ (x : Listed). IsBefore x.name.now name) (get_or_default names k d e (omega (arith, n))) b)
-]
-
--- each listed tail of a name is a tail of this one
-abbrev pub HasTails : List Listed → List ℕ → Option ℕ → Type 0
-HasTails names name next = (i : ℕ) (d : Listed) → i < length names → is_tail (name_at names i d) name ≡ true → is_tail_at names d (name_at names i d) next ≡ true
-
-pub tails-start : (names : List Listed) (name : List ℕ) (k : ℕ) → IsListed names → IsLast names name → k + 1 ≡ length names → HasTails names name (Some k)
-tails-start names name k ok last n i d h t = elim (cases_eq i k) [
-  | inl same ↦ rw same (tail-itself (name_at names k d))
-  | inr apart ↦ tail-between (name_at names i d) (name_at names k d) name t (ok.ascending i k d (lt_of_le-ne (omega (arith, h, n)) apart) (omega (arith, n))) (last k d (omega (arith, n)))
-]
-
-pub tails-first : (names : List Listed) (name : List ℕ) (o : Option ℕ) → IsListed names → IsLast names name → SomeIff o (1 ≤ length names) (length names - 1) → IfSome o (λ at. at < length names) × HasTails names name o
-tails-first names name None ok last h = (tt, λ i d b t. absurd (omega (arith, h, b)))
-tails-first names name (Some k) ok last h = (omega (arith, h), tails-start names name k ok last (omega (arith, h)))
-
-pub tail-inside : (names : List Listed) (k : ℕ) (d : Listed) → IsListed names → k < length names → IfSome (tail_of names k d) (λ at. at < length names)
-tail-inside names k d ok b = by (tail_of names k d) (ok.earlier k d b)
-  where
-    by : (o : Option ℕ) → IfSome o (λ p. p < k) → IfSome o (λ p. p < length names)
-    by None h = tt
-    by (Some p) h = omega (arith, b, h)
-
-pub tails-next : (names : List Listed) (name : List ℕ) (k : ℕ) → IsListed names → k < length names → ((d : Listed) → is_tail (name_at names k d) name ≡ false) → HasTails names name (Some k) → (d : Listed) → HasTails names name (tail_of names k d)
-tails-next names name k ok b out has e i d h t = elim (cases_eq i k) [
-  | inl same ↦ absurd (true≢false (sym t ∙ rw same (out d)))
-  | inr apart ↦ subst (λ (x : Listed). is_tail_at names d (name_at names i d) x.tail ≡ true) (get_or_default names k d e b) (sym (ok.linked k i d b h apart) ∙ has i d h t)
-]
-
-pub tails-found : (names : List Listed) (name : List ℕ) (k : ℕ) → ((d : Listed) → is_tail (name_at names k d) name ≡ true) → HasTails names name (Some k)
-    → (i : ℕ) (d : Listed) → i < length names → is_tail (name_at names i d) name ≡ is_tail_at names d (name_at names i d) (Some k)
-tails-found names name k is has i d h =
-    same-bools (is_tail (name_at names i d) name) (is_tail (name_at names i d) (name_at names k d)) (has i d h) (λ t. tail-trans (name_at names i d) (name_at names k d) name t (is d))
-
-pub tails-none : (names : List Listed) (name : List ℕ) → HasTails names name None → (i : ℕ) (d : Listed) → i < length names → is_tail (name_at names i d) name ≡ is_tail_at names d (name_at names i d) None
-tails-none names name has i d h = same-bools (is_tail (name_at names i d) name) false (has i d h) (λ t. absurd (true≢false (sym t)))
+  by_test : (t : Bool) → is_noted n ns ≡ t → AreNames (with_sight ns n)
+  by_test true e = rw e a
+  by_test false e = rw e (record { clean = All-push (λ m. is_clean m ≡ true) ns n a.clean (name-clean n h); differ = all_pairs_push (λ x y. x ≢ y) ns n a.differ (apart e) })
 
 -- ---- the places
-abbrev pub Places : List Listed → List (Option ℕ) → List ℕ → ℕ → Option ℕ → Type 0
-Places names places block end next =
-    (i : ℕ) (d : Listed) (v : Option ℕ) → i < length names → is_clean (name_at names i d) ≡ true
-    → option_or (get_or places i v) (if is_tail_at names d (name_at names i d) next then Some (end - length (name_at names i d)) else None) ≡ lowest_place (ended (name_at names i d)) block
+pub clean-at : (ns : List (List ℕ)) (i : ℕ) (d : List ℕ) → AreNames ns → i < length ns → is_clean (get_or ns i d) ≡ true
+clean-at ns i d a h = a.clean i d h
 
--- before the first place is given
-pub places-first : (names : List Listed) (places : List (Option ℕ)) (block name : List ℕ) (end last : ℕ) → length block + length name ≡ end → IsClosed block → no_zero name ≡ true → ((d : Listed) → name_at names last d ≡ name) → IsTable names places block
-    → Places names places (block ++ ended name) end (Some last)
-places-first names places block name end last size closed free is table i d v b c =
-    let q = name_at names i d in
-    ap (λ u. option_or u (if is_tail q (name_at names last d) then Some (end - length q) else None)) (table.lowest i d v b c)
-    ∙ ap (λ n. option_or (lowest_place (ended q) block) (if is_tail q n then Some (end - length q) else None)) (is d)
-    ∙ ap (option_or (lowest_place (ended q) block)) (sym (tail-place (length block) end q name (clean-some q c) size))
+pub pending-first : (names : List (List ℕ)) (places : List (Option ℕ)) (block name : List ℕ) (start : ℕ) → AreNames names → length block ≡ start → IsClosed block → no_zero name ≡ true → IsTable names places block → Pending names places (block ++ ended name) start name
+pending-first names places block name start a e closed free table i d v h =
+    let q = get_or names i d in
+    let c = clean-at names i d a h in
+    ap (λ u. option_or u (tail_at start q name)) (table i d v h)
+    ∙ ap (λ n. option_or (lowest_place (ended q) block) (tail_at n q name)) (sym e)
     ∙ sym (place-added q block name (clean-free q c) (clean-some q c) closed free)
+
+or-none : (v : Option ℕ) → option_or v None ≡ v
+or-none None = refl
+or-none (Some k) = refl
+
+pub pending-last : (names : List (List ℕ)) (places : List (Option ℕ)) (block : List ℕ) (at : ℕ) → Pending names places block at [] → IsTable names places block
+pending-last names places block at p i d v h = sym (or-none (get_or places i v)) ∙ p i d v h
 
 or-twice : (o p : Option ℕ) (e : ℕ) → option_or (option_or o (Some e)) p ≡ option_or o (Some e)
 or-twice None p e = refl
 or-twice (Some k) p e = refl
 
-if-true : (b : Bool) (o p : Option ℕ) → b ≡ true → (if b then o else p) ≡ o
-if-true true o p h = refl
-if-true false o p h = absurd (cc)
+tail-other : (at : ℕ) (q : List ℕ) (y : ℕ) (n : List ℕ) → bytes_eq q (y ∷ n) ≡ false → tail_at at q (y ∷ n) ≡ tail_at (suc at) q n
+tail-other at q y n e = rw e refl
 
--- one place given
-pub places-next : (names : List Listed) (places : List (Option ℕ)) (block : List ℕ) (end k n : ℕ) (w : Option ℕ) (e : Listed) → IsListed names → k < length names → length names ≤ length places → ((d : Listed) → length (name_at names k d) ≡ n)
-    → Places names places block end (Some k) → Places names (set places k (option_or (get_or places k w) (Some (end - n)))) block end (tail_of names k e)
-places-next names places block end k n w e ok b room size before i d v h c = elim (cases_eq i k) [
-  | inl same ↦ subst at (sym same) here h c
+tail-same : (at : ℕ) (q : List ℕ) (y : ℕ) (n : List ℕ) → bytes_eq q (y ∷ n) ≡ true → tail_at at q (y ∷ n) ≡ Some at
+tail-same at q y n e = rw e refl
+
+not_equal : (x y : List ℕ) (t : Bool) → bytes_eq x y ≡ t → x ≢ y → bytes_eq x y ≡ false
+not_equal x y true e n = absurd (n ((bytes_eq-Decides x y).0 e))
+not_equal x y false e n = e
+
+pub position-None : (p : List ℕ → Bool) (xs : List (List ℕ)) → position p xs ≡ None → (i : ℕ) (d : List ℕ) → i < length xs → p (get_or xs i d) ≡ false
+position-None p xs e i d h =
+    let all : length xs ≤ position_or_len p xs = grind (arith, common_steps) in
+    fails_before_first p xs i d (omega arith)
+
+-- a tail that is no name
+pub pending-other : (names : List (List ℕ)) (places : List (Option ℕ)) (block : List ℕ) (at : ℕ) (y : ℕ) (n : List ℕ) → position (bytes_eq (y ∷ n)) names ≡ None → Pending names places block at (y ∷ n) → Pending names places block (suc at) n
+pending-other names places block at y n none p i d v h =
+    let q = get_or names i d in
+    let apart : q ≢ y ∷ n = λ same.
+    let bad : true ≡ false = sym ((bytes_eq-Decides (y ∷ n) q).1 (sym same)) ∙ position-None (bytes_eq (y ∷ n)) names none i d h in cc bad in
+    ap (option_or (get_or places i v)) (sym (tail-other at q y n (not_equal q (y ∷ n) _ refl apart))) ∙ p i d v h
+
+-- a tail that is the name at a place
+pub pending-named : (names : List (List ℕ)) (places : List (Option ℕ)) (block : List ℕ) (at : ℕ) (y : ℕ) (n : List ℕ) (k : ℕ) (w : Option ℕ) → AreNames names → length places ≡ length names → position (bytes_eq (y ∷ n)) names ≡ Some k
+    → Pending names places block at (y ∷ n) → Pending names (set places k (option_or (get_or places k w) (Some at))) block (suc at) n
+pending-named names places block at y n k w a room is p i d v h = elim (cases_eq i k) [
+  | inl same ↦ subst Goal (sym same) here h
   | inr apart ↦
-      let q = name_at names i d in
-      ap (λ u. option_or u (pending q (is_tail_at names d q (tail_of names k e)))) (get_or-set_other places k i x v apart)
-      ∙ ap (λ t. option_or (get_or places i v) (pending q t)) (ap (λ (y : Listed). is_tail_at names d q y.tail) (get_or_default names k e d b) ∙ sym (ok.linked k i d b h apart))
-      ∙ before i d v h c
+      let q = get_or names i d in
+      let other : q ≢ y ∷ n = λ e. differ_at i apart h (e ∙ sym (named d)) in
+      ap (λ u. option_or u (tail_at (suc at) q n)) (get_or-set_other places k i x v apart)
+      ∙ ap (option_or (get_or places i v)) (sym (tail-other at q y n (not_equal q (y ∷ n) _ refl other)))
+      ∙ p i d v h
 ]
   where
     x : Option ℕ
-    x = option_or (get_or places k w) (Some (end - n))
+    x = option_or (get_or places k w) (Some at)
 
-    pending : List ℕ → Bool → Option ℕ
-    pending q t = if t then Some (end - length q) else None
+    found : (e : List ℕ) → (k < length names) × (bytes_eq (y ∷ n) (get_or names k e) ≡ true)
+    found e = let f = position-Some (bytes_eq (y ∷ n)) names k e is in (f.0, f.1)
 
-    at : ℕ → Type 0
-    at i = i < length names → is_clean (name_at names i d) ≡ true → option_or (get_or (set places k x) i v) (pending (name_at names i d) (is_tail_at names d (name_at names i d) (tail_of names k e))) ≡ lowest_place (ended (name_at names i d)) block
+    named : (e : List ℕ) → get_or names k e ≡ y ∷ n
+    named e = sym ((bytes_eq-Decides (y ∷ n) (get_or names k e)).0 (found e).1)
 
-    here : at k
-    here h c =
-        let q = name_at names k d in
-        ap (λ u. option_or u (pending q (is_tail_at names d q (tail_of names k e)))) (get_or-set_same places k x v (omega (arith, b, room)))
-        ∙ or-twice (get_or places k w) (pending q (is_tail_at names d q (tail_of names k e))) (end - n)
-        ∙ ap (λ m. option_or (get_or places k w) (Some (end - m))) (sym (size d))
-        ∙ ap (option_or (get_or places k w)) (sym (if-true (is_tail q q) (Some (end - length q)) None (tail-itself q)))
-        ∙ before k d w h c
+    differ_at : (i : ℕ) → i ≢ k → i < length names → get_or names i d ≡ get_or names k d → ⊥
+    differ_at i apart h e = elim (cases_lt i k) [
+      | inl below ↦ a.differ i k d below (found d).0 e
+      | inr above ↦ a.differ k i d (omega (arith, above, lt_of_le-ne above (λ s. apart (sym s)))) h (sym e)
+    ]
 
--- behind the last place
-pub places-end : (names : List Listed) (places : List (Option ℕ)) (block : List ℕ) (end : ℕ) → length names ≤ length places → Places names places block end None → IsTable names places block
-places-end names places block end room h = record { room = room; lowest = λ i d v b c. sym (or-none (get_or places i v)) ∙ h i d v b c }
+    Goal : ℕ → Type 0
+    Goal i = i < length names → option_or (get_or (set places k x) i v) (tail_at (suc at) (get_or names i d) n) ≡ lowest_place (ended (get_or names i d)) block
 
--- the next tail is no longer
-pub tail-fits : (names : List Listed) (k end : ℕ) (e : Listed) → IsListed names → k < length names → ((d : Listed) → length (name_at names k d) ≤ end) → (d : Listed) → IfSome (tail_of names k e) (λ p. length (name_at names p d) ≤ end)
-tail-fits names k end e ok b fits d = subst (λ (y : Listed). IfSome y.tail (λ p. length (name_at names p d) ≤ end)) (get_or_default names k d e b) (by (tail_of names k d) refl (ok.earlier k d b))
-  where
-    by : (o : Option ℕ) → tail_of names k d ≡ o → IfSome o (λ p. p < k) → IfSome o (λ p. length (name_at names p d) ≤ end)
-    by None s h = tt
-    by (Some p) s h =
-        let t : is_tail (name_at names p d) (name_at names k d) ≡ true =
-        ok.linked k p d b (omega (arith, h, b)) (λ same. omega (arith, same, h)) ∙ ap (is_tail_at names d (name_at names p d)) s ∙ tail-itself (name_at names p d)
-        in omega (arith, tail-long (name_at names p d) (name_at names k d) t, fits d)
+    here : Goal k
+    here h =
+        let q = get_or names k d in
+        let same : bytes_eq q (y ∷ n) ≡ true = (bytes_eq-Decides q (y ∷ n)).1 (named d) in
+        ap (λ u. option_or u (tail_at (suc at) q n)) (get_or-set_same places k x v (omega (arith, h, room)))
+        ∙ or-twice (get_or places k w) (tail_at (suc at) q n) at
+        ∙ ap (option_or (get_or places k w)) (sym (tail-same at q y n same))
+        ∙ p k d w h
 
--- a table for the empty block
-pub table-empty : (names : List Listed) (places : List (Option ℕ)) → length names ≤ length places → ((i : ℕ) (v : Option ℕ) → i < length names → get_or places i v ≡ None) → IsTable names places []
-table-empty names places room none = record { room = room; lowest = λ i d v b c. none i v b ∙ sym (place-in_none (name_at names i d)) }
+-- ---- step by step
+-- a tail's step, whatever it is
+pub tail-other_step : (names : List (List ℕ)) (places : List (Option ℕ)) (block : List ℕ) (start : ℕ) (tail : List ℕ) → 0 < length tail → position (bytes_eq tail) names ≡ None → Pending names places block start tail → Pending names places block (start + 1) (drop 1 tail)
+tail-other_step names places block start [] h none p = absurd (omega arith)
+tail-other_step names places block start (y ∷ n) h none p = let on : start + 1 ≡ suc start = omega arith in rw on (pending-other names places block start y n none p)
 
--- no names
-pub table-none : (places : List (Option ℕ)) (block : List ℕ) → IsTable [] places block
-table-none places block = record { room = omega arith; lowest = λ i d v b c. absurd (omega (arith, b)) }
+pub tail-named_step : (names : List (List ℕ)) (places : List (Option ℕ)) (block : List ℕ) (start : ℕ) (tail : List ℕ) (k : ℕ) (w : Option ℕ) → AreNames names → 0 < length tail → length places ≡ length names → position (bytes_eq tail) names ≡ Some k
+    → Pending names places block start tail → Pending names (set places k (option_or (get_or places k w) (Some start))) block (start + 1) (drop 1 tail)
+tail-named_step names places block start [] k w a h room is p = absurd (omega arith)
+tail-named_step names places block start (y ∷ n) k w a h room is p = let on : start + 1 ≡ suc start = omega arith in rw on (pending-named names places block start y n k w a room is p)
 
--- what the table says of a name that is listed, if it is
-pub table-says : (names seen : List Listed) (places lent : List (Option ℕ)) (block text bytes name : List ℕ) (listed v : Option ℕ) → IsTable names places block → seen ≡ names → lent ≡ places → text ≡ block → bytes ≡ name → is_name name ≡ true
-    → IfSome listed (λ at. at < length seen) → IfSome listed (λ at. (d : Listed) → name_at seen at d ≡ bytes) → IfSome listed (λ at. get_or lent at v ≡ lowest_place (ended bytes) text)
-table-says names seen places lent block text bytes name None v table es el et en n b is = tt
-table-says names seen places lent block text bytes name (Some at) v table es el et en n b is =
-    let blank : Listed = record { name = record { ref_ptr = (0, 0); now = [] }; tail = None } in
-    let e : name_at names at blank ≡ bytes = subst (λ ns. name_at ns at blank ≡ bytes) es (is blank) in
-    ap (λ ps. get_or ps at v) el
-    ∙ table.lowest at blank v (subst (λ (ns : List Listed). at < length ns) es b) (ap is_clean (e ∙ en) ∙ name-clean name n)
-    ∙ ap (λ q. lowest_place (ended q) block) e
-    ∙ ap (lowest_place (ended bytes)) (sym et)
+-- a name that stands there, and one that doesn't
+pub stands_already : (names : List (List ℕ)) (places : List (Option ℕ)) (block : List ℕ) (at k : ℕ) (v : Option ℕ) → IsTable names places block → at < length names → get_or places at v ≡ Some k → with_name block (get_or names at []) ≡ block
+stands_already names places block at k v t h e = (old-place block (get_or names at []) k (sym (t at [] v h) ∙ e)).1
+
+pub stands_nowhere : (names : List (List ℕ)) (places : List (Option ℕ)) (block : List ℕ) (at : ℕ) (v : Option ℕ) → IsTable names places block → at < length names → get_or places at v ≡ None → with_name block (get_or names at []) ≡ block ++ ended (get_or names at [])
+stands_nowhere names places block at v t h e = (new-place block (get_or names at []) (sym (t at [] v h) ∙ e)).1
+
+pub table-empty : (names : List (List ℕ)) (places : List (Option ℕ)) → ((i : ℕ) (v : Option ℕ) → i < length names → get_or places i v ≡ None) → IsTable names places []
+table-empty names places none i d v b = none i v b ∙ sym (place-in_none (get_or names i d))
+
+-- one name placed
+pub placed-new : (names : List (List ℕ)) (places new : List (Option ℕ)) (block name : List ℕ) (at size next : ℕ) → AreNames names → at < length names → slice_get names at ≡ Some name → length block ≡ size → IsClosed block → IsTable names places block → get_or places at None ≡ None
+    → ((block : List ℕ) → length block ≡ size → IsClosed block → no_zero name ≡ true → IsTable names places block → IsTable names new (block ++ ended name)) → next ≡ size + 1 + length name → next ≤ limit → IsPlacedBehind names new (with_name block (get_or names at [])) next
+placed-new names places new block name at size next a h g e closed table none made is fits =
+    let same : get_or names at [] ≡ name = get_or_from_slice_get names at name [] g in
+    let free : no_zero name ≡ true = ap no_zero (sym same) ∙ clean-free (get_or names at []) (clean-at names at [] a h) in
+    let added : with_name block (get_or names at []) ≡ block ++ ended name = stands_nowhere names places block at None table h none ∙ ap (λ (n : List ℕ). block ++ ended n) same in
+    record {
+      table = subst (λ (b : List ℕ). IsTable names new b) (sym added) (made block e closed free table);
+      size = omega (arith, is, e, ap length added, length-append block (ended name), length-append name (0 ∷ []));
+      fits = fits;
+    }
+
+pub placed-large : (names : List (List ℕ)) (places : List (Option ℕ)) (block name : List ℕ) (at size : ℕ) → at < length names → slice_get names at ≡ Some name → length block ≡ size → IsTable names places block → get_or places at None ≡ None → limit < size + 1 + length name → limit < length (with_name block (get_or names at []))
+placed-large names places block name at size h g e table none large =
+    let same : get_or names at [] ≡ name = get_or_from_slice_get names at name [] g in
+    let added : with_name block (get_or names at []) ≡ block ++ ended name = stands_nowhere names places block at None table h none ∙ ap (λ (n : List ℕ). block ++ ended n) same in
+    omega (arith, large, e, ap length added, length-append block (ended name), length-append name (0 ∷ []))
+
+pub placed-old : (names : List (List ℕ)) (places : List (Option ℕ)) (block : List ℕ) (at size : ℕ) → at < length names → size ≤ limit → length block ≡ size → IsTable names places block → is_some (get_or places at None) ≡ true → IsPlacedBehind names places (with_name block (get_or names at [])) size
+placed-old names places block at size h fits e table some = by (get_or places at None) refl some where
+  by : (o : Option ℕ) → get_or places at None ≡ o → is_some o ≡ true → IsPlacedBehind names places (with_name block (get_or names at [])) size
+  by None f s = absurd (cc)
+  by (Some k) f s =
+      let same : with_name block (get_or names at []) ≡ block = stands_already names places block at k None table h f in
+      record { table = subst (λ (b : List ℕ). IsTable names places b) (sym same) table; size = sym e ∙ ap length (sym same); fits = fits }

@@ -5,7 +5,7 @@ use Rattle.std.specs.Option.{option_map, option_or}
 use Rattle.std.specs.Str.{bytes_eq}
 use Rattle.std.proofs.lemmas.Bool.{ne_eqb, eqb-true, eqb-false}
 use Rattle.dt_blob.specs.Strings.{begins, lowest_place, ended}
-use Rattle.dt_blob.specs.Table.{no_zero, IsClosed}
+use Rattle.dt_blob.specs.Steps.Table.{no_zero, IsClosed, tail_at}
 use Rattle.dt_blob.proofs.Places.{place-in_none}
 
 pub and-first : (a b : Bool) → (a && b) ≡ true → a ≡ true
@@ -60,11 +60,6 @@ begins-ended [] [] h k = refl
 begins-ended [] (y ∷ m) h k = off (0 == y) (begins [] (ended m)) (zero-apart y m k)
 begins-ended (a ∷ t) [] h k = off (a == 0) (begins (ended t) []) (head-apart a t h)
 begins-ended (a ∷ t) (y ∷ m) h k = ap (λ b. (a == y) && b) (begins-ended t m (rest-free a t h) (rest-free y m k))
-
--- the first place, from `at` on, of a tail
-abbrev pub tail_at : ℕ → List ℕ → List ℕ → Option ℕ
-tail_at at t [] = None
-tail_at at t (y ∷ n) = if bytes_eq t (y ∷ n) then Some at else tail_at (suc at) t n
 
 step-by : (b c : Bool) (o : Option ℕ) (r : Option ℕ) (at : ℕ) → b ≡ c → option_map (λ k. suc at + k) o ≡ r → option_map (λ k. at + k) (if b then Some 0 else option_map suc o) ≡ (if c then Some at else r)
 step-by true true o r at e h = ap Some (omega arith)

@@ -3,7 +3,7 @@ use Rattle.std.proofs.Common.{◌≡◌, ℕ, zero, suc, ◌+◌, ◌<◌, Bool,
 use Rattle.std.proofs.lemmas.Bool.Decides.{nat_tests}
 use Rattle.bstr.specs.Find.{IsFirstByte, is_byte}
 use Rattle.dt_blob.specs.Holds.{has_no_zero}
-use Rattle.dt_blob.specs.Reading.{zero_in}
+use Rattle.dt_blob.specs.Steps.Reading.{zero_in}
 
 test_zero : (b : ℕ) → b ≡ 0 → (b == 0) ≡ true
 test_zero b e = grind (arith, nat_tests)

@@ -1,13 +1,20 @@
 -- The blob of a tree (Devicetree Specification v0.4, chapter 5, version 17).
-use Rattle.std.specs.Prelude.{ℕ, ◌+◌, ◌-◌, ◌%◌, List, [], ◌∷◌, ◌++◌, length, take}
+use Rattle.std.specs.Prelude.{◌≡◌, ◌⊎◌, ℕ, ◌+◌, ◌-◌, ◌%◌, ◌<◌, List, [], ◌∷◌, ◌++◌, length, take}
 use Rattle.dt_tree.specs.TreeData.{TreeData}
+use Rattle.dt_blob.specs.declared.error.BlobError.{BlobError}
+use Rattle.dt_blob.specs.declared.error.BlobError.TheVariants.{NoMemory, TooLarge}
+use Rattle.dt_blob.specs.declared.room.TheConstants.{MAX_SIZE}
 use Rattle.dt_blob.specs.BigEndian.{word, double_word}
 use Rattle.dt_blob.specs.Strings.{offset_in, with_name, with_names}
 use Rattle.dt_blob.specs.Token.{Token, begin_node, end_node, property, nop, end, tree_tokens}
 
 -- the most bytes of a blob or of a text
 abbrev pub limit : ℕ
-limit = 268435456
+limit = MAX_SIZE
+
+-- want of memory, or a size over the limit
+abbrev pub Refuses : ℕ → BlobError → Type 0
+Refuses size e = (e ≡ NoMemory) ⊎ ((e ≡ TooLarge) × (limit < size))
 
 -- zero bytes that lead from n bytes to a multiple of 4
 abbrev pub padding : ℕ → List ℕ

@@ -1,9 +1,10 @@
 -- The header of a blob: Devicetree Specification v0.4, section 5.2.
-use Rattle.std.specs.Prelude.{ℕ, ◌+◌, ◌%◌, ◌^◌, Bool, not, ◌&&◌, ◌||◌, ◌==◌, nat_lt, nat_le, List, length, drop, take, Option, Some, None, if◌then◌else◌}
+use Rattle.std.specs.Prelude.{ℕ, ◌+◌, ◌%◌, Bool, not, ◌&&◌, ◌||◌, ◌==◌, nat_lt, nat_le, List, length, drop, take, Option, Some, None, if◌then◌else◌}
 use Rattle.byteorder.specs.Endian.{big_number}
 use Rattle.dt_blob.specs.declared.error.BlobError.{BlobError}
 use Rattle.dt_blob.specs.declared.error.BlobError.TheVariants.{TooLarge, Truncated, BadMagic, BadVersion, BadLayout}
 use Rattle.dt_blob.specs.declared.read_header.Header.{Header}
+use Rattle.dt_blob.specs.declared.room.TheConstants.{MAX_SIZE}
 
 -- the 32-bit number at a place
 abbrev pub word_at : ℕ → List ℕ → ℕ
@@ -41,7 +42,7 @@ fault_in h len =
 -- the first fault of the bytes that the header shows, in the order of the tests
 unfoldable pub header_fault : List ℕ → Option BlobError
 header_fault bytes =
-    if nat_lt (2 ^ 28) (length bytes) then Some TooLarge
+    if nat_lt MAX_SIZE (length bytes) then Some TooLarge
     else (if nat_lt (length bytes) 40 then Some Truncated
     else fault_in (header_of bytes) (length bytes))
 

@@ -3,12 +3,8 @@ pub mod Blob
 pub mod BlobError
 pub mod HeaderWords
 pub mod Holds
-pub mod Opened
-pub mod Printed
-pub mod Reading
 pub mod SourceText
+pub mod Steps
 pub mod Strings
-pub mod Table
 pub mod Token
 pub mod TreeFault
-pub mod Written

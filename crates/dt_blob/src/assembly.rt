@@ -1,47 +1,38 @@
-ghost use Rattle.std.specs.Prelude.{◌≡◌, ◌≤◌, ◌+◌, ◌++◌, length, IfOk, MatchResult};
-ghost use Rattle.dt_blob.specs.Blob.{limit, blob_of, header, reservations};
+ghost use Rattle.std.specs.Prelude.{◌≡◌, ◌≤◌, length, IfOk, MatchResult};
+ghost use Rattle.dt_blob.specs.Blob.{limit, blob_of};
 ghost use Rattle.dt_blob.specs.Holds.{Holds};
-ghost use Rattle.dt_blob.specs.Written.{Refuses};
+ghost use Rattle.dt_blob.specs.Blob.{Refuses};
 
 use crate::error::BlobError;
 use crate::header::{HEADER_SIZE, Sizes, put_header, put_reservations};
-use crate::room::MAX_SIZE;
+use crate::room::add_size;
+use crate::sizing::{add_reservations, add_structure};
 use crate::strings::Strings;
-use crate::writer::Writer;
+use crate::writer::put_structure;
 use dt_tree::Tree;
 use std::alloc::Global;
-
-const RESERVATION_SIZE: usize = 16;
-
-/// Room for a header, and the reserved memory behind it.
-fn begin(alloc: Global, reserves: &[(u64, u64)]) -> Result<Vec<u8>, BlobError>
-    ensures { MatchResult result (λ bytes. (bytes.items ≡ header 0 0 0 0 ++ reservations reserves.now) × (length bytes.items ≤ limit)) (λ e. Refuses (40 + length (reservations reserves.now)) e) }
-{
-    let end = HEADER_SIZE + RESERVATION_SIZE;
-    if reserves.len() > (MAX_SIZE - end) / RESERVATION_SIZE {
-        return Err(BlobError::TooLarge);
-    }
-    let mut bytes = Vec::with_capacity(alloc, end + RESERVATION_SIZE * reserves.len())?;
-    let none = Sizes {
-        reserved: 0,
-        structure: 0,
-        strings: 0,
-    };
-    put_header(&mut bytes, 0, none)?;
-    put_reservations(&mut bytes, reserves)?;
-    Ok(bytes)
-}
+use std::hash::RandomState;
 
 /// Makes the blob of a tree, in version 17. Fails with `TooLarge` where it has over 268,435,456
-/// bytes, and with `NoMemory`.
-pub fn write(alloc: Global, tree: &Tree) -> Result<Vec<u8>, BlobError>
+/// bytes, and with `NoMemory`. The hasher is for the tree's names; no answer depends on it.
+pub fn write(alloc: Global, hasher: RandomState, tree: &Tree) -> Result<Vec<u8>, BlobError>
     ensures blob { MatchResult result (λ blob. (blob.items ≡ blob_of tree.now) × (length blob.items ≤ limit)) (λ e. Refuses (length (blob_of tree.now)) e) }
     ensures held { IfOk result (λ blob. Holds blob.items tree.now) }
 {
     tree.check();
-    let bytes = begin(alloc, tree.reserves())?;
-    let reserved = bytes.len() - HEADER_SIZE;
-    let mut writer = Writer::new(bytes, Strings::new(alloc, tree.root())?);
-    writer.put_structure(tree.root())?;
-    Ok(writer.finish(alloc, tree.boot_cpu(), reserved)?)
+    let structure_at = add_reservations(HEADER_SIZE, tree.reserves())?;
+    let strings_at = add_structure(structure_at, tree.root())?;
+    let strings = Strings::new(alloc, hasher, tree.root())?;
+    let size = add_size(strings_at, 0, strings.size())?;
+    let sizes = Sizes {
+        reserved: (structure_at - HEADER_SIZE) as u32,
+        structure: (strings_at - structure_at) as u32,
+        strings: strings.size() as u32,
+    };
+    let mut bytes = Vec::with_capacity(alloc, size)?;
+    put_header(&mut bytes, tree.boot_cpu(), sizes)?;
+    put_reservations(&mut bytes, tree.reserves())?;
+    put_structure(&mut bytes, &strings, tree.root())?;
+    strings.put(&mut bytes)?;
+    Ok(bytes)
 }

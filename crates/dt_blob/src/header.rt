@@ -1,5 +1,5 @@
 //! The header and the reserved memory, which stand before the structure block.
-ghost use Rattle.std.specs.Prelude.{◌≡◌, ◌+◌, ◌≤◌, ◌++◌, length, drop, OnOk};
+ghost use Rattle.std.specs.Prelude.{◌≡◌, ◌+◌, ◌≤◌, ◌++◌, OnOk};
 ghost use Rattle.dt_blob.specs.Blob.{limit, header, reservations};
 
 use crate::bytes::{put_double_word, put_word};
@@ -49,29 +49,4 @@ pub(crate) fn put_reservations(out: &mut Vec<u8>, reserves: &[(u64, u64)]) -> Re
     }
     put_double_word(out, 0)?;
     put_double_word(out, 0)
-}
-
-/// Writes over the beginning.
-pub(crate) fn replace_beginning(bytes: &mut [u8], beginning: &[u8])
-    requires { length beginning.now ≤ length bytes.old }
-    ensures { bytes.new ≡ beginning.now ++ drop (length beginning.now) bytes.old }
-{
-    bytes[..beginning.len()].copy_from_slice(beginning);
-}
-
-/// Puts the true header in place of the first one.
-pub(crate) fn put_true_header(
-    alloc: Global,
-    bytes: &mut Vec<u8>,
-    boot_cpu: u32,
-    sizes: Sizes,
-) -> Result<(), AllocError>
-    requires sizes { 40 + sizes.reserved + sizes.structure + sizes.strings ≤ limit }
-    requires room { 40 ≤ length bytes.old.items }
-    ensures { OnOk result (bytes.new.items ≡ header boot_cpu sizes.reserved sizes.structure sizes.strings ++ drop 40 bytes.old.items) }
-{
-    let mut header = Vec::with_capacity(alloc, HEADER_SIZE)?;
-    put_header(&mut header, boot_cpu, sizes)?;
-    replace_beginning(bytes.as_mut_slice(), header.as_slice());
-    Ok(())
 }

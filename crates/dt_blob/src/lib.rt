@@ -4,9 +4,9 @@
 mod assembly;
 mod bytes;
 mod error;
-mod from_end;
 mod header;
 mod names;
+mod parts;
 mod printing;
 mod read_blob;
 mod read_header;
@@ -15,6 +15,7 @@ mod read_nodes;
 mod read_reserves;
 mod read_token;
 mod room;
+mod sizing;
 mod strings;
 mod value_text;
 mod writer;
@@ -24,8 +25,4 @@ pub use error::BlobError;
 pub use printing::source_text;
 pub use read_blob::read;
 pub use read_laws::{blob_holds, one_tree};
-
-#[cfg(test)]
-mod read_tests;
-#[cfg(test)]
-mod write_tests;
+pub use room::MAX_SIZE;

@@ -2,9 +2,9 @@
 ghost use Rattle.std.specs.Prelude.{◌≡◌, ◌≤◌, ◌++◌, length, OnOk, MatchResult};
 ghost use Rattle.dt_blob.specs.Blob.{limit};
 ghost use Rattle.dt_blob.specs.BigEndian.{double_word};
-ghost use Rattle.dt_blob.specs.Printed.{Prints};
+ghost use Rattle.dt_blob.specs.Steps.Printed.{Prints};
 ghost use Rattle.dt_blob.specs.SourceText.{hex_of, tabs, value_part, property_line, property_lines, begin_line, end_line, node_lines, reserve_line, reserve_lines, text_of};
-ghost use Rattle.dt_blob.specs.Written.{Refuses};
+ghost use Rattle.dt_blob.specs.Blob.{Refuses};
 
 use crate::error::BlobError;
 use crate::room::check_pieces;

@@ -3,13 +3,13 @@ ghost use Rattle.std.specs.Prelude.{◌≡◌, ◌≤◌, ◌+◌, ◌↔◌, �
 ghost use Rattle.dt_tree.specs.TreeData.{TreeData};
 ghost use Rattle.dt_blob.specs.HeaderWords.{block, header_fault, reserves_of};
 ghost use Rattle.dt_blob.specs.Holds.{HaveNoEnd, Holds};
-ghost use Rattle.dt_blob.specs.Reading.{RefusesAll, tree_in};
+ghost use Rattle.dt_blob.specs.Steps.Reading.{RefusesAll, tree_in};
 
 use crate::error::BlobError;
+use crate::parts::{behind, first};
 use crate::read_header::read_header;
 use crate::read_nodes::read_root;
 use crate::read_reserves::read_reserves;
-use crate::read_token::{behind, first};
 use dt_tree::Tree;
 use std::alloc::Global;
 

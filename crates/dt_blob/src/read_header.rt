@@ -3,10 +3,8 @@ ghost use Rattle.std.specs.Prelude.{◌≡◌, ◌≤◌, ◌^◌, ◌+◌, leng
 ghost use Rattle.dt_blob.specs.HeaderWords.{word_at, header_of, is_laid_out, fault_in, header_fault};
 
 use crate::error::BlobError;
-use crate::read_token::{behind, word};
-
-/// The most bytes of a blob or of a canonical source.
-pub const MAX_BLOB_LEN: usize = 1 << 28;
+use crate::parts::{behind, word};
+use crate::room::MAX_SIZE;
 
 /// The ten words of the header.
 #[derive(Clone, Copy)]
@@ -82,7 +80,7 @@ fn check(header: Header, len: usize) -> Result<Header, BlobError>
 pub(crate) fn read_header(bytes: &[u8]) -> Result<Header, BlobError>
     ensures { MatchResult result (λ h. (h ≡ header_of bytes.now) × (header_fault bytes.now ≡ None)) (λ e. header_fault bytes.now ≡ Some e) }
 {
-    if bytes.len() > MAX_BLOB_LEN {
+    if bytes.len() > MAX_SIZE {
         return Err(BlobError::TooLarge);
     }
     if bytes.len() < 40 {

@@ -2,17 +2,14 @@
 ghost use Rattle.std.specs.Prelude.{◌≡◌, [], ◌∷◌, Some, None, if◌then◌else◌};
 ghost use Rattle.dt_tree.specs.NodeView.{name_bytes};
 ghost use Rattle.dt_tree.specs.Name.{is_name};
-ghost use Rattle.dt_blob.specs.Opened.{opened, opened_of, state_of, begin_in, property_in, node_of, end_in, is_end, advance, begun, root_from};
-ghost use Rattle.dt_blob.specs.Reading.{Gives, token_of, tokens_at, left};
+ghost use Rattle.dt_blob.specs.Steps.Opened.{opened, opened_of, state_of, begin_in, property_in, node_of, end_in, is_end, advance, begun, root_from};
+ghost use Rattle.dt_blob.specs.Steps.Reading.{Gives, token_of, tokens_at, left};
 ghost use Rattle.dt_blob.specs.Token.{end};
 
 use crate::error::BlobError;
 use crate::read_token::{BlobToken, token};
-use dt_tree::{Bytes, Name, Node, Property};
+use dt_tree::{Bytes, MAX_DEPTH, Name, Node, Property};
 use std::alloc::Global;
-
-/// The most nodes round a node.
-const MAX_DEPTH: usize = 64;
 
 /// A node whose end hasn't come.
 #[derive(Drop)]

@@ -1,19 +1,10 @@
 //! The block of memory reservations.
 ghost use Rattle.std.specs.Prelude.{◌≡◌, ◌≤◌, ◌⊎◌, length, MatchResult, Some};
-ghost use Rattle.byteorder.specs.Endian.{big_number};
-ghost use Rattle.dt_blob.specs.Reading.{HasNoEnd, reserves_at};
+ghost use Rattle.dt_blob.specs.Steps.Reading.{HasNoEnd, reserves_at};
 
 use crate::error::BlobError;
-use crate::read_token::behind;
-use byteorder::{BigEndian, ByteOrder};
+use crate::parts::{behind, long};
 use std::alloc::Global;
-
-fn long(bytes: &[u8]) -> u64
-    requires { 8 ≤ length bytes.now }
-    ensures { result ≡ big_number 8 bytes.now }
-{
-    BigEndian::read_u64(bytes)
-}
 
 /// The addresses and sizes before the first pair of zeros; `BadLayout` where none comes.
 pub(crate) fn read_reserves(alloc: Global, bytes: &[u8]) -> Result<Vec<(u64, u64)>, BlobError>

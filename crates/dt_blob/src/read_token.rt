@@ -1,11 +1,10 @@
 //! The tokens of the structure block, one by one.
-ghost use Rattle.std.specs.Prelude.{◌≡◌, ◌≤◌, ◌<◌, ◌+◌, ◌^◌, length, take, drop, IfOk, IfSome};
-ghost use Rattle.byteorder.specs.Endian.{big_number};
-ghost use Rattle.dt_blob.specs.Reading.{Gives, token_of, zero_in, padded, begin_at, string_at, value_at, property_at, token_at};
+ghost use Rattle.std.specs.Prelude.{◌≡◌, ◌≤◌, ◌<◌, ◌^◌, length, IfOk, IfSome};
+ghost use Rattle.dt_blob.specs.Steps.Reading.{Gives, token_of, zero_in, padded, begin_at, string_at, value_at, property_at, token_at};
 
 use crate::error::BlobError;
+use crate::parts::{behind, first, word};
 use bstr::ByteSlice;
-use byteorder::{BigEndian, ByteOrder};
 
 /// A token whose texts the blob lends.
 #[derive(Clone, Copy)]
@@ -15,27 +14,6 @@ pub(crate) enum BlobToken<'a> {
     Property(&'a [u8], &'a [u8]),
     Nop,
     End,
-}
-
-pub(crate) fn word(bytes: &[u8]) -> u32
-    requires { 4 ≤ length bytes.now }
-    ensures { result ≡ big_number 4 bytes.now }
-{
-    BigEndian::read_u32(bytes)
-}
-
-pub(crate) fn behind(bytes: &[u8], count: usize) -> &[u8]
-    requires { count ≤ length bytes.now }
-    ensures { result.now ≡ drop count bytes.now }
-{
-    &bytes[count..]
-}
-
-pub(crate) fn first(bytes: &[u8], count: usize) -> &[u8]
-    requires { count ≤ length bytes.now }
-    ensures { result.now ≡ take count bytes.now }
-{
-    &bytes[..count]
 }
 
 // A length with the padding up to a multiple of four.
@@ -117,7 +95,7 @@ fn property<'a>(strings: &'a [u8], bytes: &'a [u8]) -> Result<(BlobToken<'a>, &'
 /// The token at the front of the block, and what follows it.
 ///
 /// A cut token is `BadToken`, a name without its zero byte `BadString`.
-#[tactic(auto, unfolding(crate::specs::Reading::token_at))]
+#[tactic(auto, unfolding(crate::specs::Steps::Reading::token_at))]
 pub(crate) fn token<'a>(
     strings: &'a [u8],
     bytes: &'a [u8],

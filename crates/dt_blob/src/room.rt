@@ -4,13 +4,13 @@ ghost use Rattle.dt_blob.specs.Blob.{limit};
 
 use crate::error::BlobError;
 
-/// The most bytes of a blob or a text.
-pub(crate) const MAX_SIZE: usize = 268_435_456;
+/// The most bytes of a blob or of a canonical source.
+pub const MAX_SIZE: usize = 268_435_456;
 
-/// Refuses where `few` and `more` bytes behind `used` ones are too many.
-pub(crate) fn check_room(used: usize, few: usize, more: usize) -> Result<(), BlobError>
+/// The size with `few` and `more` bytes behind `used` ones. Refuses where they are too many.
+pub(crate) fn add_size(used: usize, few: usize, more: usize) -> Result<usize, BlobError>
     requires { used ≤ limit }
-    ensures { MatchResult result (λ _. used + few + more ≤ limit) (λ e. (e ≡ BlobError.TooLarge) × (limit < used + few + more)) }
+    ensures { MatchResult result (λ size. (size ≡ used + few + more) × (size ≤ limit)) (λ e. (e ≡ BlobError.TooLarge) × (limit < used + few + more)) }
 {
     let room = MAX_SIZE - used;
     if few > room {
@@ -19,7 +19,7 @@ pub(crate) fn check_room(used: usize, few: usize, more: usize) -> Result<(), Blo
     if more > room - few {
         return Err(BlobError::TooLarge);
     }
-    Ok(())
+    Ok(used + few + more)
 }
 
 /// Refuses where pieces of these lengths behind `used` bytes are too many.

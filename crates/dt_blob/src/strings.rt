@@ -1,133 +1,159 @@
-//! The strings block while it grows.
-ghost use Rattle.std.specs.Prelude.{◌≡◌, ℕ, ◌+◌, ◌<◌, ◌≤◌, [], Option, slice_index_or, length, IfOk, IfSome, MatchResult};
-ghost use Rattle.dt_blob.specs.Blob.{limit};
-ghost use Rattle.dt_blob.specs.Strings.{begins, lowest_place, ended, offset_in, with_name};
-ghost use Rattle.dt_blob.specs.Written.{Refuses};
+//! The strings block: where each name stands, and its bytes.
+ghost use Rattle.std.specs.Prelude.{◌≡◌, ℕ, List, ◌+◌, ◌≤◌, ◌<◌, ◌++◌, [], true, Option, None, slice_index_or, length, take, drop, IfOk, OnOk, MatchResult};
+ghost use Rattle.dt_blob.specs.Blob.{limit, names_in};
+ghost use Rattle.dt_blob.specs.Strings.{ended, with_name, with_names};
+ghost use Rattle.dt_blob.specs.Steps.Table.{IsPlacedBehind, IsTable, IsClosed, Pending, no_zero, placed, with_sights};
+ghost use Rattle.dt_blob.specs.Token.{tokens_of};
+ghost use Rattle.dt_blob.specs.Blob.{Refuses};
 
 use crate::bytes::put_ended;
 use crate::error::BlobError;
-use crate::names::{Listed, list_names, place_tails, position};
-use crate::room::check_room;
-use dt_tree::{Name, Node};
+use crate::names::Names;
+use crate::room::add_size;
+use dt_tree::Node;
 use std::alloc::{AllocError, Global};
+use std::hash::RandomState;
 use std::marker::Model;
 
-fn begins_with(text: &[u8], name: &[u8]) -> bool
-    ensures { result ≡ begins (ended name.now) text.now }
+/// Gives a tail that begins at `start` its place, where it is a name that has none.
+fn place_tail(names: &Names, places: &mut [Option<usize>], tail: &[u8], start: usize)
+    requires room { length places.old ≡ length names.now }
+    requires some { 0 < length tail.now }
+    ensures { (block : List ℕ) → Pending names.now places.old block start tail.now → Pending names.now places.new block (start + 1) (drop 1 tail.now) }
 {
-    if text.len() <= name.len() {
-        return false;
-    }
-    for at in 0..name.len() {
-        if name[at] != text[at] {
-            return false;
-        }
-    }
-    0 == text[name.len()]
+    names.check();
+    let Some(at) = names.position(tail) else {
+        return;
+    };
+    places[at] = places[at].or(Some(start));
 }
 
-fn lowest_place(strings: &[u8], name: &[u8]) -> Option<usize>
-    ensures value { result ≡ lowest_place (ended name.now) strings.now }
-    ensures bound { IfSome result (λ at. at < length strings.now) }
+/// Gives each tail of a name that begins at `start` its place, where it has none.
+fn place_tails(names: &Names, places: &mut [Option<usize>], name: &[u8], start: usize)
+    requires room { length places.old ≡ length names.now }
+    requires fits { start + length name.now ≤ limit }
+    ensures { (block : List ℕ) → length block ≡ start → IsClosed block → no_zero name.now ≡ true → IsTable names.now places.old block → IsTable names.now places.new (block ++ ended name.now) }
 {
-    for at in 0..strings.len() {
-        if begins_with(&strings[at..], name) {
-            return Some(at);
-        }
-    }
-    None
-}
-
-/// The offset of a name that stands in the strings; `listed` is where the names have it.
-fn find(
-    places: &[Option<usize>],
-    strings: &[u8],
-    listed: Option<usize>,
-    name: &[u8],
-) -> Option<usize>
-    requires inside { IfSome listed (λ at. at < length places.now) }
-    requires placed { (v : Option ℕ) → IfSome listed (λ at. slice_index_or places.now at v ≡ lowest_place (ended name.now) strings.now) }
-    ensures value { result ≡ lowest_place (ended name.now) strings.now }
-    ensures bound { IfSome result (λ at. at < length strings.now) }
-{
-    match listed {
-        Some(at) => places[at],
-        // no name of the tree, so that it isn't known whether it is a tail of one
-        None => lowest_place(strings, name),
+    names.check();
+    for skipped in 0..name.len() {
+        place_tail(names, places, &name[skipped..], start + skipped);
     }
 }
 
-/// The strings so far, and where the names of a tree stand in them.
+/// Places a name behind `size` bytes, unless it stands among them, and answers how many there are then.
+fn place(
+    names: &Names,
+    places: &mut [Option<usize>],
+    at: usize,
+    size: usize,
+) -> Result<usize, BlobError>
+    requires room { length places.old ≡ length names.now }
+    requires inside { at < length names.now }
+    requires fits { size ≤ limit }
+    ensures { (block : List ℕ) → length block ≡ size → IsClosed block → IsTable names.now places.old block → MatchResult result (λ next. IsPlacedBehind names.now places.new (with_name block (slice_index_or names.now at [])) next) (λ e. (e ≡ BlobError.TooLarge) × (limit < length (with_name block (slice_index_or names.now at [])))) }
+{
+    names.check();
+    if places[at].is_some() {
+        return Ok(size);
+    }
+    let name = names.get(at);
+    let next = add_size(size, 1, name.len())?;
+    place_tails(names, places, name, size);
+    Ok(next)
+}
+
+/// Places the names in order, each where it stands already, else behind the others, and answers the size of the block.
+fn place_all(names: &Names, places: &mut [Option<usize>]) -> Result<usize, BlobError>
+    requires room { length places.old ≡ length names.now }
+    requires nowhere { (i : ℕ) (v : Option ℕ) → i < length names.now → slice_index_or places.old i v ≡ None }
+    ensures { MatchResult result (λ size. IsPlacedBehind names.now places.new (with_names [] names.now) size) (λ e. (e ≡ BlobError.TooLarge) × (limit < length (with_names [] names.now))) }
+{
+    let mut size = 0;
+    for at in 0..names.len() {
+        size = place(names, places, at, size)?;
+    }
+    Ok(size)
+}
+
+/// The names of a tree, and where each stands in the strings block.
 #[derive(Drop)]
 pub(crate) struct Strings<'a> {
-    block: Vec<u8>,
-    names: Vec<Listed<'a>>,
+    names: Names<'a>,
     places: Vec<Option<usize>>,
+    size: usize,
 }
 
 impl<'a> Model for Strings<'a> {
     ghost use Rattle.std.specs.Prelude.{List, ℕ};
-    ghost use Rattle.dt_blob.specs.Table.{IsListed, IsTable, IsClosed};
+    ghost use Rattle.dt_blob.specs.Steps.Table.{ArePlaced};
 
-    ghost Value = { List ℕ };
+    ghost Value = { List (List ℕ) };
 
-    ghost view = { λ a. a.block.items };
+    ghost view = { λ a. a.names };
 
-    ghost invariant = { λ a. IsClosed a.block.items × IsListed a.names.items × IsTable a.names.items a.places.items a.block.items };
+    ghost invariant = { λ a. ArePlaced a.names a.places.items a.size };
 }
 
 impl<'a> Strings<'a> {
-    /// No strings, for a tree whose root this is.
-    pub(crate) fn new(alloc: Global, root: &'a Node) -> Result<Self, AllocError>
-        ensures { IfOk result (λ strings. strings ≡ []) }
+    /// Those of a root and all below it.
+    pub(crate) fn new(alloc: Global, hasher: RandomState, root: &'a Node) -> Result<Self, BlobError>
+        ensures { MatchResult result (λ strings. strings ≡ with_sights [] (names_in (tokens_of root.now))) (λ e. Refuses (length (with_names [] (with_sights [] (names_in (tokens_of root.now))))) e) }
     {
-        let names = list_names(alloc, root)?;
-        let mut places = Vec::new(alloc);
+        let names = Names::below(alloc, hasher, root)?;
+        let mut places = Vec::with_capacity(alloc, names.len())?;
         places.resize(names.len(), None)?;
+        let size = place_all(&names, places.as_mut_slice())?;
         Ok(Self {
-            block: Vec::new(alloc),
             names,
             places,
+            size,
         })
     }
 
-    pub(crate) fn len(&self) -> usize
-        ensures { result ≡ length self.now }
+    /// The size of the block.
+    pub(crate) fn size(&self) -> usize
+        ensures value { result ≡ length (with_names [] self.now) }
+        ensures bound { result ≤ limit }
     {
-        self.block.len()
+        self.size
     }
 
-    pub(crate) fn as_slice(&self) -> &[u8]
-        ensures { result.now ≡ self.now }
+    /// The offset of a name; 0 for one that isn't the tree's.
+    pub(crate) fn offset(&self, name: &[u8]) -> usize
+        ensures value { result ≡ placed self.now name.now }
+        ensures bound { result ≤ limit }
     {
-        self.block.as_slice()
+        self.names.check();
+        match self.names.position(name) {
+            None => 0,
+            Some(at) => self.places[at].unwrap_or(0),
+        }
     }
 
-    /// The offset of a name, which is added where it is new. `used` bytes stand in the other blocks.
-    pub(crate) fn place(&mut self, name: &Name, used: usize) -> Result<usize, BlobError>
-        requires { used + length self.old ≤ limit }
-        ensures { MatchResult result (λ at. (at ≡ offset_in self.old name.now) × (self.new ≡ with_name self.old name.now) × (used + length self.new ≤ limit) × (at ≤ limit)) (λ e. Refuses (used + length (with_name self.old name.now)) e) }
+    /// Writes the name at `at`, where it begins behind `size` bytes, and answers how many there are then.
+    fn put_name(&self, out: &mut Vec<u8>, at: usize, size: usize) -> Result<usize, AllocError>
+        requires inside { at < length self.now }
+        requires behind { size ≡ length (with_names [] (take at self.now)) }
+        ensures { (whole : List ℕ) → out.old.items ≡ whole ++ with_names [] (take at self.now) → IfOk result (λ next. (next ≡ length (with_names [] (take (at + 1) self.now))) × (out.new.items ≡ whole ++ with_names [] (take (at + 1) self.now))) }
     {
-        name.check();
-        let bytes = name.as_bytes();
-        let listed = position(self.names.as_slice(), bytes);
-        let (places, block) = (self.places.as_slice(), self.block.as_slice());
-        if let Some(at) = find(places, block, listed, bytes) {
-            return Ok(at);
+        self.names.check();
+        let place = self.places[at].unwrap_or(0);
+        if place != size {
+            return Ok(size);
         }
-        let end = self.block.len();
-        check_room(used + end, 1, bytes.len())?;
-        put_ended(&mut self.block, bytes)?;
-        match listed {
-            Some(at) => place_tails(
-                self.names.as_slice(),
-                self.places.as_mut_slice(),
-                at,
-                end + bytes.len(),
-            ),
-            // no name of the tree, so that its tails aren't known
-            None => self.names.clear(),
+        let name = self.names.get(at);
+        put_ended(out, name)?;
+        Ok(size + name.len() + 1)
+    }
+
+    /// Writes the block: each name that begins where those before it end.
+    pub(crate) fn put(&self, out: &mut Vec<u8>) -> Result<(), AllocError>
+        ensures { OnOk result (out.new.items ≡ out.old.items ++ with_names [] self.now) }
+    {
+        let mut size = 0;
+        for at in 0..self.names.len() {
+            size = self.put_name(out, at, size)?;
         }
-        Ok(end)
+        Ok(())
     }
 }

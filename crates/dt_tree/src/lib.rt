@@ -29,6 +29,3 @@ pub use path::{Path, is_path};
 pub use property::Property;
 pub use reserved::is_reserved_name;
 pub use tree::Tree;
-
-#[cfg(test)]
-mod tests;

@@ -1,1 +1,390 @@
 //! Blobs: written, read, changed; canonical sources.
+use dt_blob::{BlobError, blob_holds, one_tree, read, source_text, write};
+use dt_tree::{Bytes, Name, Node, Property, Tree};
+use std::alloc::{AllocError, Global};
+use std::hash::RandomState;
+use std::test::Fail;
+
+/// A root with the one property `a = <1>`.
+const ONE_CELL: &[u8] =
+    b"\xd0\x0d\xfe\xed\x00\x00\x00\x5a\x00\x00\x00\x38\x00\x00\x00\x58\x00\x00\x00\x28\x00\x00\x00\x11\x00\x00\x00\x10\x00\x00\x00\x00\x00\x00\x00\x02\x00\x00\x00\x20\x00\x00\x00\x00\x00\x00\x00\x00\x00\x00\x00\x00\x00\x00\x00\x00\x00\x00\x00\x01\x00\x00\x00\x00\x00\x00\x00\x03\x00\x00\x00\x04\x00\x00\x00\x00\x00\x00\x00\x01\x00\x00\x00\x02\x00\x00\x00\x09\x61\x00";
+
+/// The same bytes with one word changed.
+fn changed(alloc: Global, blob: &[u8], at: usize, word: u32) -> Result<Vec<u8>, AllocError> {
+    let new = word.to_be_bytes();
+    let mut bytes = Vec::new(alloc);
+    for (place, byte) in blob.iter().enumerate() {
+        let byte = match place.checked_sub(at) {
+            Some(0) => new[0],
+            Some(1) => new[1],
+            Some(2) => new[2],
+            Some(3) => new[3],
+            _ => *byte,
+        };
+        bytes.push(byte)?;
+    }
+    Ok(bytes)
+}
+
+fn push_words(bytes: &mut Vec<u8>, words: &[u32]) -> Result<(), AllocError> {
+    for word in words {
+        bytes.extend_from_slice(&word.to_be_bytes())?;
+    }
+    Ok(())
+}
+
+/// A blob without reservations, of the words of the structure block and the strings.
+fn blob(alloc: Global, structure: &[u32], strings: &[u8]) -> Result<Vec<u8>, AllocError> {
+    let size = (structure.len() % 1000 * 4) as u32;
+    let text = (strings.len() % 1000) as u32;
+    let mut bytes = Vec::new(alloc);
+    push_words(
+        &mut bytes,
+        &[
+            0xd00d_feed,
+            56 + size + text,
+            56,
+            56 + size,
+            40,
+            17,
+            16,
+            0,
+            text,
+            size,
+        ],
+    )?;
+    push_words(&mut bytes, &[0, 0, 0, 0])?;
+    push_words(&mut bytes, structure)?;
+    bytes.extend_from_slice(strings)?;
+    Ok(bytes)
+}
+
+/// The number of the refusal, or none.
+fn refusal(outcome: Result<Tree, BlobError>) -> Option<u8> {
+    match outcome {
+        Ok(_) => None,
+        Err(e) => Some(e.number()),
+    }
+}
+
+fn is_one_cell(alloc: Global, hasher: RandomState, bytes: &[u8]) -> Result<bool, Fail> {
+    let tree = read(alloc, bytes)?;
+    let again = write(alloc, hasher, &tree)?;
+    Ok(again.as_slice() == ONE_CELL)
+}
+
+#[test]
+fn changed_blob(rt: HostRuntime) -> Result<(), Fail> {
+    let alloc = rt.alloc();
+    let hasher = RandomState::new(&rt)?;
+    blob_holds();
+    one_tree();
+    assert!(rt; is_one_cell(alloc, hasher, ONE_CELL)?);
+    let nop = blob(alloc, &[1, 0, 4, 3, 4, 0, 1, 2, 9], b"a\0")?;
+    let all_nops = blob(alloc, &[4, 1, 0, 4, 4, 3, 4, 0, 1, 4, 2, 4, 9], b"a\0")?;
+    let strings_behind = blob(alloc, &[1, 0, 3, 4, 2, 1, 2, 9], b"bba\0")?;
+    let mut longer = Vec::from_slice(alloc, ONE_CELL)?;
+    longer.extend_from_slice(b"more")?;
+    let gap = blob(alloc, &[1, 0, 3, 4, 0, 1, 2, 9, 0], b"a\0")?;
+    let gap = changed(alloc, gap.as_slice(), 0x24, 0x20)?;
+    for bytes in [&nop, &all_nops, &strings_behind, &longer, &gap] {
+        assert!(rt; is_one_cell(alloc, hasher, bytes.as_slice())?);
+    }
+    assert!(rt;
+        is_one_cell(
+            alloc,
+            hasher,
+            changed(alloc, ONE_CELL, 0x14, 18)?.as_slice()
+        )?
+    );
+    Ok(())
+}
+
+#[test]
+fn changed_words(rt: HostRuntime) -> Result<(), Fail> {
+    let alloc = rt.alloc();
+    let rows: [(usize, u32, u8); 20] = [
+        (0x24, 0xffff_fffc, 33),
+        (0x24, 0x1c, 34),
+        (0x10, 0x48, 33),
+        (0x20, 1, 35),
+        (0x44, 0xffff_ffff, 34),
+        (0x48, 1, 37),
+        (0x48, 2, 35),
+        (0x00, 0xd00d_feec, 31),
+        (0x14, 3, 32),
+        (0x14, 16, 32),
+        (0x18, 18, 32),
+        (0x04, 0x5b, 30),
+        (0x04, 0x27, 33),
+        (0x08, 0x3a, 33),
+        (0x0c, 0x59, 33),
+        (0x10, 0x2c, 33),
+        (0x10, 0x80, 33),
+        (0x38, 2, 34),
+        (0x40, 5, 34),
+        (0x54, 4, 34),
+    ];
+    for (at, word, number) in rows {
+        let bytes = changed(alloc, ONE_CELL, at, word)?;
+        assert_eq!(rt;
+            refusal(read(alloc, bytes.as_slice())),
+            Some(number),
+            "{at} {word}"
+        );
+    }
+    Ok(())
+}
+
+#[test]
+fn every_cut(rt: HostRuntime) -> Result<(), Fail> {
+    let alloc = rt.alloc();
+    let hasher = RandomState::new(&rt)?;
+    let mut cut = Vec::new(alloc);
+    for byte in ONE_CELL {
+        assert_eq!(rt;
+            refusal(read(alloc, cut.as_slice())),
+            Some(30),
+            "{}",
+            cut.len()
+        );
+        cut.push(*byte)?;
+    }
+    assert!(rt; is_one_cell(alloc, hasher, cut.as_slice())?);
+    Ok(())
+}
+
+#[test]
+fn faults_of_tokens(rt: HostRuntime) -> Result<(), Fail> {
+    let alloc = rt.alloc();
+    let rows: [(&str, &[u32], u8); 21] = [
+        (
+            "a property after a child",
+            &[1, 0, 1, 0x6e00_0000, 2, 3, 0, 0, 2, 9],
+            36,
+        ),
+        ("a name without its zero byte", &[1, 0x6e6e_6e6e], 35),
+        ("a root with a name", &[1, 0x6e00_0000, 2, 9], 37),
+        ("an unlawful name", &[1, 0, 1, 0x2f00_0000, 2, 2, 9], 37),
+        ("equal properties", &[1, 0, 3, 0, 0, 3, 0, 0, 2, 9], 37),
+        (
+            "equal children",
+            &[1, 0, 1, 0x6e00_0000, 2, 1, 0x6e00_0000, 2, 2, 9],
+            37,
+        ),
+        ("two roots", &[1, 0, 2, 1, 0, 2, 9], 34),
+        ("END in a node", &[1, 0, 9], 34),
+        ("no END", &[1, 0, 2], 34),
+        ("no root", &[9], 34),
+        ("END_NODE first", &[2, 9], 34),
+        ("a property first", &[3, 0, 0, 1, 0, 2, 9], 34),
+        ("an unknown token", &[1, 0, 5, 2, 9], 34),
+        ("an offset at the strings' end", &[1, 0, 3, 0, 2, 2, 9], 35),
+        ("an offset past the strings", &[1, 0, 3, 0, 3, 2, 9], 35),
+        ("a cut PROP", &[1, 0, 3, 0], 34),
+        ("a value past the block", &[1, 0, 3, 9, 0, 2, 9], 34),
+        (
+            "a value past the block, an offset past the strings",
+            &[1, 0, 3, 9, 3, 2, 9],
+            34,
+        ),
+        (
+            "equal properties, then a bad token",
+            &[1, 0, 3, 0, 0, 3, 0, 0, 5],
+            34,
+        ),
+        ("bytes behind END", &[1, 0, 2, 9, 0], 34),
+        ("a NOP behind END", &[1, 0, 2, 9, 4], 34),
+    ];
+    for (name, structure, number) in rows {
+        let bytes = blob(alloc, structure, b"a\0")?;
+        assert_eq!(rt;
+            refusal(read(alloc, bytes.as_slice())),
+            Some(number),
+            "{name}"
+        );
+    }
+    Ok(())
+}
+
+/// A root with so many nodes below one another.
+fn nested(alloc: Global, depth: usize) -> Result<Vec<u8>, AllocError> {
+    let mut words = Vec::from_slice(alloc, &[1, 0])?;
+    for _ in 0..depth {
+        words.extend_from_slice(&[1, 0x6e00_0000])?;
+    }
+    for _ in 0..depth {
+        words.push(2)?;
+    }
+    words.extend_from_slice(&[2, 9])?;
+    blob(alloc, words.as_slice(), b"")
+}
+
+#[test]
+fn depth(rt: HostRuntime) -> Result<(), Fail> {
+    let alloc = rt.alloc();
+    assert_eq!(rt; refusal(read(alloc, nested(alloc, 64)?.as_slice())), None);
+    assert_eq!(rt;
+        refusal(read(alloc, nested(alloc, 65)?.as_slice())),
+        Some(37)
+    );
+    Ok(())
+}
+
+#[test]
+fn cut_padding(rt: HostRuntime) -> Result<(), Fail> {
+    let alloc = rt.alloc();
+    let rows: [(&str, &[u32], u32, Option<u8>); 4] = [
+        ("all of it", &[1, 0, 2, 9], 16, None),
+        ("of a node's name", &[1, 0, 2, 9], 6, Some(34)),
+        (
+            "of a node's name, without its zero byte",
+            &[1, 0x6e6e_6e6e, 2, 9],
+            6,
+            Some(35),
+        ),
+        (
+            "of a value",
+            &[1, 0, 3, 1, 0, 0x6100_0000, 2, 9],
+            21,
+            Some(34),
+        ),
+    ];
+    for (name, structure, size, answer) in rows {
+        let bytes = blob(alloc, structure, b"a\0")?;
+        let bytes = changed(alloc, bytes.as_slice(), 0x24, size)?;
+        assert_eq!(rt; refusal(read(alloc, bytes.as_slice())), answer, "{name}");
+    }
+    Ok(())
+}
+
+#[test]
+fn unlawful_property_names(rt: HostRuntime) -> Result<(), Fail> {
+    let alloc = rt.alloc();
+    let rows: [(&str, &[u32], u8); 2] = [
+        ("in a node", &[1, 0, 3, 0, 0, 2, 9], 37),
+        (
+            "behind a child",
+            &[1, 0, 1, 0x6e00_0000, 2, 3, 0, 0, 2, 9],
+            36,
+        ),
+    ];
+    for (name, structure, number) in rows {
+        let bytes = blob(alloc, structure, b"/\0")?;
+        assert_eq!(rt;
+            refusal(read(alloc, bytes.as_slice())),
+            Some(number),
+            "{name}"
+        );
+    }
+    Ok(())
+}
+
+/// A tree whose root has these properties and no children.
+fn tree(
+    alloc: Global,
+    reserves: &[(u64, u64)],
+    properties: &[(&[u8], &[u8])],
+) -> Result<Tree, Fail> {
+    let mut list = Vec::new(alloc);
+    for (name, value) in properties {
+        list.push(Property {
+            name: Name::new(alloc, name)?,
+            value: Bytes::from_vec(Vec::from_slice(alloc, value)?),
+        })?;
+    }
+    let root = Node::new(alloc, None, list, Vec::new(alloc))?;
+    Ok(Tree::new(Vec::from_slice(alloc, reserves)?, 0, root)?)
+}
+
+/// A row: its name, reserves, the root's properties, the blob and the text.
+#[derive(Drop)]
+struct Row<'a> {
+    name: &'a str,
+    reserves: &'a [(u64, u64)],
+    properties: &'a [(&'a [u8], &'a [u8])],
+    blob: &'a [u8],
+    text: &'a [u8],
+}
+
+#[test]
+fn written_rows(rt: HostRuntime) -> Result<(), Fail> {
+    let alloc = rt.alloc();
+    let hasher = RandomState::new(&rt)?;
+    let rows = [
+        Row {
+            name: "empty-root",
+            reserves: &[],
+            properties: &[],
+            blob: b"\xd0\x0d\xfe\xed\x00\x00\x00\x48\x00\x00\x00\x38\x00\x00\x00\x48\x00\x00\x00\x28\x00\x00\x00\x11\x00\x00\x00\x10\x00\x00\x00\x00\x00\x00\x00\x00\x00\x00\x00\x10\x00\x00\x00\x00\x00\x00\x00\x00\x00\x00\x00\x00\x00\x00\x00\x00\x00\x00\x00\x01\x00\x00\x00\x00\x00\x00\x00\x02\x00\x00\x00\x09",
+            text: b"/dts-v1/;\n\n/ {\n};\n",
+        },
+        Row {
+            name: "one-cell",
+            reserves: &[],
+            properties: &[(b"a", b"\0\0\0\x01")],
+            blob: b"\xd0\x0d\xfe\xed\x00\x00\x00\x5a\x00\x00\x00\x38\x00\x00\x00\x58\x00\x00\x00\x28\x00\x00\x00\x11\x00\x00\x00\x10\x00\x00\x00\x00\x00\x00\x00\x02\x00\x00\x00\x20\x00\x00\x00\x00\x00\x00\x00\x00\x00\x00\x00\x00\x00\x00\x00\x00\x00\x00\x00\x01\x00\x00\x00\x00\x00\x00\x00\x03\x00\x00\x00\x04\x00\x00\x00\x00\x00\x00\x00\x01\x00\x00\x00\x02\x00\x00\x00\x09\x61\x00",
+            text: b"/dts-v1/;\n\n/ {\n\ta = <0x00000001>;\n};\n",
+        },
+        Row {
+            name: "suffix-sharing",
+            reserves: &[],
+            properties: &[(b"xreg", b""), (b"reg", b"")],
+            blob: b"\xd0\x0d\xfe\xed\x00\x00\x00\x65\x00\x00\x00\x38\x00\x00\x00\x60\x00\x00\x00\x28\x00\x00\x00\x11\x00\x00\x00\x10\x00\x00\x00\x00\x00\x00\x00\x05\x00\x00\x00\x28\x00\x00\x00\x00\x00\x00\x00\x00\x00\x00\x00\x00\x00\x00\x00\x00\x00\x00\x00\x01\x00\x00\x00\x00\x00\x00\x00\x03\x00\x00\x00\x00\x00\x00\x00\x00\x00\x00\x00\x03\x00\x00\x00\x00\x00\x00\x00\x01\x00\x00\x00\x02\x00\x00\x00\x09\x78\x72\x65\x67\x00",
+            text: b"/dts-v1/;\n\n/ {\n\txreg;\n\treg;\n};\n",
+        },
+        Row {
+            name: "reservation",
+            reserves: &[(0x1000, 0x2000)],
+            properties: &[],
+            blob: b"\xd0\x0d\xfe\xed\x00\x00\x00\x58\x00\x00\x00\x48\x00\x00\x00\x58\x00\x00\x00\x28\x00\x00\x00\x11\x00\x00\x00\x10\x00\x00\x00\x00\x00\x00\x00\x00\x00\x00\x00\x10\x00\x00\x00\x00\x00\x00\x10\x00\x00\x00\x00\x00\x00\x00\x20\x00\x00\x00\x00\x00\x00\x00\x00\x00\x00\x00\x00\x00\x00\x00\x00\x00\x00\x00\x00\x01\x00\x00\x00\x00\x00\x00\x00\x02\x00\x00\x00\x09",
+            text: b"/dts-v1/;\n\n/memreserve/ 0x0000000000001000 0x0000000000002000;\n/ {\n};\n",
+        },
+    ];
+    for row in &rows {
+        let tree = tree(alloc, row.reserves, row.properties)?;
+        let blob = write(alloc, hasher, &tree)?;
+        assert!(rt; blob.as_slice() == row.blob, "{}", row.name);
+        let text = source_text(alloc, &tree)?;
+        assert!(rt; text.as_slice() == row.text, "{}", row.name);
+    }
+    Ok(())
+}
+
+#[test]
+fn value_forms(rt: HostRuntime) -> Result<(), Fail> {
+    let alloc = rt.alloc();
+    let properties: [(&[u8], &[u8]); 5] = [
+        (b"s", b"a\0b\0"),
+        (b"e", b""),
+        (b"n", b"\0\0\0\0"),
+        (b"o", b"\"\\\0"),
+        (b"h", b"a"),
+    ];
+    let tree = tree(alloc, &[], &properties)?;
+    let text = source_text(alloc, &tree)?;
+    let wanted =
+        b"/dts-v1/;\n\n/ {\n\ts = \"a\", \"b\";\n\te;\n\tn = <0x00000000>;\n\to = \"\\\"\\\\\";\n\th = [61];\n};\n";
+    assert!(rt; text.as_slice() == wanted.as_slice());
+    Ok(())
+}
+
+#[test]
+fn tails_of_names(rt: HostRuntime) -> Result<(), Fail> {
+    let alloc = rt.alloc();
+    let hasher = RandomState::new(&rt)?;
+    let properties: [(&[u8], &[u8]); 4] = [
+        (b"reg", b""),
+        (b"xreg", b""),
+        (b"g", b""),
+        (b"eg", b""),
+    ];
+    let tree = tree(alloc, &[], &properties)?;
+    let wanted = blob(
+        alloc,
+        &[1, 0, 3, 0, 0, 3, 0, 4, 3, 0, 2, 3, 0, 1, 2, 9],
+        b"reg\0xreg\0",
+    )?;
+    assert!(rt; write(alloc, hasher, &tree)?.as_slice() == wanted.as_slice());
+    Ok(())
+}

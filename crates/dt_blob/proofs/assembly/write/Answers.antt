@@ -1,48 +1,49 @@
-use Rattle.std.proofs.Common.{◌≡◌, ℕ, ◌≤◌, ◌-◌, List, length, ap, sym, subst, ◌∙◌, refl, arith, length-append}
-use Rattle.dt_blob.specs.Blob.{limit, header, reservations, blob_of}
-use Rattle.dt_blob.specs.Token.{tree_tokens}
-use Rattle.dt_blob.specs.Written.{Written, size_of, after_tokens}
-use Rattle.dt_blob.proofs.Blocks.{length-header, blob-size, blob-is, begun-size, no-room, started, bytes-grow}
+use Rattle.std.proofs.Common.{◌≡◌, ◌≤◌, ◌-◌, ◌++◌, ℕ, List, [], length, ap, refl, sym, subst, ◌∙◌, inr, arith}
+use Rattle.dt_blob.specs.Blob.{limit, header, reservations, names_in, blob_of}
 use Rattle.dt_blob.specs.Holds.{Holds}
+use Rattle.dt_blob.specs.Strings.{with_names}
+use Rattle.dt_blob.specs.Steps.Table.{placed, with_sights}
+use Rattle.dt_blob.specs.Token.{tokens_of, tree_tokens}
+use Rattle.dt_blob.specs.Steps.Written.{all_bytes, tokens_size}
+use Rattle.dt_blob.proofs.Blocks.{blob-size, blob-is, no-room}
 use Rattle.dt_blob.proofs.HeldBlob.{blob_holds}
 use Rattle.dt_blob.proofs.assembly.write.Goals as goal
 
-pub returns-in_err-bytes-clause-blob : goal.returns-in_err-bytes-clause-blob
-returns-in_err-bytes-clause-blob c =
-    no-room c.from_residual.result (λ blob. (blob.items ≡ blob_of c.args.tree.now) × (length blob.items ≤ limit)) _ _ (blob_of c.args.tree.now) c.from_residual.ensures.1 c.in_err-bytes.ensures
-    (rw c.reserves.ensures (begun-size c.args.tree.now))
+pub returns-in_err-structure_at-clause-blob : goal.returns-in_err-structure_at-clause-blob
+returns-in_err-structure_at-clause-blob c =
+    no-room c.from_residual.result (λ blob. (blob.items ≡ blob_of c.args.tree.now) × (length blob.items ≤ limit)) _ _ (blob_of c.args.tree.now) c.from_residual.ensures.1 (inr c.in_err-structure_at.ensures)
+    (omega (arith, blob-size c.args.tree.now c.check.ensures, ap length c.reserves.ensures))
 
-pub overflow_sub-reserved : goal.overflow_sub-reserved
-overflow_sub-reserved c = omega (arith, ap length c.in_ok-bytes.ensures.0, length-append (header 0 0 0 0) (reservations c.reserves.result.now), length-header 0 0 0 0)
+pub returns-in_err-strings_at-clause-blob : goal.returns-in_err-strings_at-clause-blob
+returns-in_err-strings_at-clause-blob c =
+    no-room c.from_residual-in_err-strings_at.result (λ blob. (blob.items ≡ blob_of c.args.tree.now) × (length blob.items ≤ limit)) _ _ (blob_of c.args.tree.now) c.from_residual-in_err-strings_at.ensures.1 (inr c.in_err-strings_at.ensures)
+    (omega (arith, blob-size c.args.tree.now c.check.ensures, ap length c.reserves.ensures, c.in_ok-structure_at.ensures.0, ap (λ r. tokens_size (tree_tokens r)) c.root.ensures))
 
-pub returns-in_err-put_structure-clause-blob : goal.returns-in_err-put_structure-clause-blob
-returns-in_err-put_structure-clause-blob c =
-    let start : c.new-writer.result ≡ started c.args.tree.now.reserves = c.new-writer.ensures ∙ rw (c.in_ok-bytes.ensures.0, c.in_ok-new.ensures, c.reserves.ensures) refl in
-    let size : size_of (after_tokens c.new-writer.result (tree_tokens c.root-2.result.now)) ≡ length (blob_of c.args.tree.now) = rw (start, c.root-2.ensures) (blob-size c.args.tree.now) in
-    no-room c.from_residual-in_err-put_structure.result (λ blob. (blob.items ≡ blob_of c.args.tree.now) × (length blob.items ≤ limit)) _ _ (blob_of c.args.tree.now) c.from_residual-in_err-put_structure.ensures.1 c.in_err-put_structure.ensures
-    (omega (arith, size))
+pub returns-in_err-strings-clause-blob : goal.returns-in_err-strings-clause-blob
+returns-in_err-strings-clause-blob c =
+    no-room c.from_residual-in_err-strings.result (λ blob. (blob.items ≡ blob_of c.args.tree.now) × (length blob.items ≤ limit)) _ _ (blob_of c.args.tree.now) c.from_residual-in_err-strings.ensures.1 c.in_err-strings.ensures
+    (omega (arith, blob-size c.args.tree.now c.check.ensures, ap (λ r. length (with_names [] (with_sights [] (names_in (tokens_of r))))) c.root-2.ensures))
 
-pub finish-requires-clause-begun : goal.finish-requires-clause-begun
-finish-requires-clause-begun c =
-    omega (
-      arith,
-      ap (λ (w : Written). length w.bytes) c.in_ok-put_structure.ensures.0,
-      bytes-grow c.new-writer.result (tree_tokens c.root-2.result.now),
-      ap (λ (w : Written). length w.bytes) c.new-writer.ensures,
-      ap length c.in_ok-bytes.ensures.0,
-      length-append (header 0 0 0 0) (reservations c.reserves.result.now),
-      length-header 0 0 0 0,
-    )
+pub returns-in_err-size-clause-blob : goal.returns-in_err-size-clause-blob
+returns-in_err-size-clause-blob c =
+    let seen = c.in_ok-strings.ensures ∙ ap (λ r. with_sights [] (names_in (tokens_of r))) c.root-2.ensures in
+    no-room c.from_residual-in_err-size.result (λ blob. (blob.items ≡ blob_of c.args.tree.now) × (length blob.items ≤ limit)) _ _ (blob_of c.args.tree.now) c.from_residual-in_err-size.ensures.1 (inr c.in_err-size.ensures)
+    (omega (arith, blob-size c.args.tree.now c.check.ensures, ap length c.reserves.ensures, c.in_ok-structure_at.ensures.0, ap (λ r. tokens_size (tree_tokens r)) c.root.ensures, c.in_ok-strings_at.ensures.0, c.size.ensures.value, ap (λ ns. length (with_names [] ns)) seen))
 
 pub returns-clause-blob : goal.returns-clause-blob
 returns-clause-blob c =
-    let start : c.new-writer.result ≡ started c.args.tree.now.reserves = c.new-writer.ensures ∙ rw (c.in_ok-bytes.ensures.0, c.in_ok-new.ensures, c.reserves.ensures) refl in
-    let size : size_of (after_tokens c.new-writer.result (tree_tokens c.root-2.result.now)) ≡ length (blob_of c.args.tree.now) = rw (start, c.root-2.ensures) (blob-size c.args.tree.now) in
-    let after : c.put_structure.new.self ≡ after_tokens (started c.args.tree.now.reserves) (tree_tokens c.args.tree.now.root) = c.in_ok-put_structure.ensures.0 ∙ rw (start, c.root-2.ensures) refl in
-    let r : c.len-reserved.result - 40 ≡ length (reservations c.args.tree.now.reserves) =
-    omega (arith, ap length c.in_ok-bytes.ensures.0, length-append (header 0 0 0 0) (reservations c.reserves.result.now), length-header 0 0 0 0, ap (λ rs. length (reservations rs)) c.reserves.ensures) in
-    let e : c.in_ok-finish.field-0.items ≡ blob_of c.args.tree.now = c.in_ok-finish.ensures ∙ rw c.boot_cpu.ensures (blob-is c.args.tree.now c.put_structure.new.self (c.len-reserved.result - 40) after r) in
-    (e, omega (arith, ap length e, size, c.in_ok-put_structure.ensures.1))
+    let tree = c.args.tree.now in
+    let names = c.in_ok-strings.strings in
+    let seen : names ≡ with_sights [] (names_in (tokens_of tree.root)) = c.in_ok-strings.ensures ∙ ap (λ r. with_sights [] (names_in (tokens_of r))) c.root-2.ensures in
+    let reserves = ap length c.reserves.ensures in
+    let structure = ap (λ r. tokens_size (tree_tokens r)) c.root.ensures in
+    let block = ap (λ ns. length (with_names [] ns)) seen in
+    let all : c.put.new.out.items ≡ ((header tree.boot_cpu (c.in_ok-structure_at.structure_at - 40) (c.in_ok-strings_at.strings_at - c.in_ok-structure_at.structure_at) c.size-2.result ++ reservations tree.reserves) ++ all_bytes (placed names) (tree_tokens tree.root)) ++ with_names [] names =
+    c.in_ok-put.ensures ∙ rw (c.in_ok-put_structure.ensures, c.in_ok-put_reservations.ensures, c.in_ok-put_header.ensures, c.in_ok-bytes.ensures.items, c.root-3.ensures, c.reserves-2.ensures, c.boot_cpu.ensures) refl in
+    let e : c.put.new.out.items ≡ blob_of tree =
+    blob-is tree c.check.ensures names c.put.new.out.items (c.in_ok-structure_at.structure_at - 40) (c.in_ok-strings_at.strings_at - c.in_ok-structure_at.structure_at) c.size-2.result seen
+    (omega (arith, reserves, c.in_ok-structure_at.ensures.0)) (omega (arith, structure, c.in_ok-strings_at.ensures.0)) c.size-2.ensures.value all in
+    (e, omega (arith, ap length e, blob-size tree c.check.ensures, reserves, structure, block, c.in_ok-structure_at.ensures.0, c.in_ok-strings_at.ensures.0, c.in_ok-size.ensures.0, c.in_ok-size.ensures.1, c.size.ensures.value))
 
 pub returns-clause-held : goal.returns-clause-held
 returns-clause-held c =

@@ -1,8 +1,6 @@
 use Rattle.std.proofs.Common.{arith}
 use Rattle.std.proofs.lemmas.Result.{err_from_is_err_and}
 use Rattle.dt_blob.specs.declared.error.BlobError.TheVariants as errors
-use Rattle.dt_blob.specs.HeaderWords.{header_fault}
-use Rattle.dt_blob.specs.Reading.{tree_in}
 use Rattle.dt_blob.proofs.Holding.{read_held, one_tree}
 use Rattle.dt_blob.proofs.Refusals.{only_memory, kind_of, kind_of_ok, layout_of, end_of}
 use Rattle.dt_blob.proofs.Words.{AreBytes}

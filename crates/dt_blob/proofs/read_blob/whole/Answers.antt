@@ -1,8 +1,8 @@
 use Rattle.std.proofs.Common.{refl, length, sym, ap, ◌∙◌, arith, inl, inr}
 use Rattle.std.proofs.lemmas.List.{length-take}
 use Rattle.std.proofs.lemmas.Result.{err_from_is_err_and}
-use Rattle.dt_blob.specs.Opened.{begun, root_from}
-use Rattle.dt_blob.specs.Reading.{reserves_at, tokens_at, tree_in}
+use Rattle.dt_blob.specs.Steps.Opened.{begun, root_from}
+use Rattle.dt_blob.specs.Steps.Reading.{reserves_at, tokens_at, tree_in}
 use Rattle.dt_blob.proofs.Laying.{laid_as}
 use Rattle.dt_blob.proofs.Refusals.{reserves_refused}
 use Rattle.dt_blob.proofs.States.{root_sound}

@@ -5,8 +5,8 @@ use Rattle.dt_blob.specs.HeaderWords.{fault_in, header_fault}
 use Rattle.dt_blob.proofs.Stepping.{passed, too_large, too_short}
 use Rattle.dt_blob.proofs.read_header.read_header.Goals as goal
 
-pub returns-then-bytes-gt-MAX_BLOB_LEN : goal.returns-then-bytes-gt-MAX_BLOB_LEN
-returns-then-bytes-gt-MAX_BLOB_LEN c = too_large c.args.bytes.now (omega arith)
+pub returns-then-bytes-gt-MAX_SIZE : goal.returns-then-bytes-gt-MAX_SIZE
+returns-then-bytes-gt-MAX_SIZE c = too_large c.args.bytes.now (omega arith)
 
 pub returns-then-bytes-lt40 : goal.returns-then-bytes-lt40
 returns-then-bytes-lt40 c = too_short c.args.bytes.now (omega arith) (omega arith)

@@ -1,6 +1,6 @@
 use Rattle.std.proofs.Common.{◌≡◌, length, ◌<◌, arith}
 use Rattle.std.proofs.lemmas.Bool.Decides.{nat_tests}
-use Rattle.dt_blob.specs.Opened.{state_of}
+use Rattle.dt_blob.specs.Steps.Opened.{state_of}
 use Rattle.dt_blob.proofs.Stepping.{some_left, end_begun, end_inside, end_behind}
 use Rattle.dt_blob.proofs.read_nodes.finish.Goals as goal
 

@@ -1,7 +1,7 @@
 use Rattle.std.proofs.Common.{◌≡◌, inr, refl, false, ◌&&◌, ◌==◌, sym, ap, ◌∙◌, arith}
 use Rattle.std.proofs.lemmas.Bool.Decides.{nat_tests}
 use Rattle.byteorder.specs.Endian.{big_number}
-use Rattle.dt_blob.specs.Reading.{reserves_at}
+use Rattle.dt_blob.specs.Steps.Reading.{reserves_at}
 use Rattle.dt_blob.proofs.Stepping.{joins_begin, joins_short, joins_last, joins_more}
 use Rattle.dt_blob.proofs.read_reserves.read_reserves.Goals as goal
 use Rattle.dt_blob.proofs.read_reserves.read_reserves.Goals.{else-address-eq0-via-then-address-eq0+else-size-eq0, else-address-eq0-via-else-address-eq0}

@@ -1,5 +1,5 @@
 use Rattle.std.proofs.Common.{length}
-use Rattle.dt_blob.specs.Reading.{reserves_at}
+use Rattle.dt_blob.specs.Steps.Reading.{reserves_at}
 use Rattle.dt_blob.proofs.Stepping.{Joins}
 use Rattle.dt_blob.proofs.read_reserves.read_reserves.Given as goal
 

@@ -1,0 +1,142 @@
+-- Reading a blob from left to right, as functions on lists.
+use Rattle.std.specs.Prelude.{◌≡◌, ◌⊎◌, ℕ, zero, suc, ◌+◌, ◌*◌, ◌/◌, ◌&&◌, ◌==◌, nat_lt, List, [], ◌∷◌, length, take, drop, Option, Some, None, Result, Ok, Err, if◌then◌else◌, option_and_then, is_none}
+use Rattle.std.specs.Option.{option_map}
+use Rattle.byteorder.specs.Endian.{big_number}
+use Rattle.dt_tree.specs.NodeData.{NodeData}
+use Rattle.dt_tree.specs.TreeData.{TreeData}
+use Rattle.dt_blob.specs.declared.error.BlobError.{BlobError}
+use Rattle.dt_blob.specs.declared.error.BlobError.TheVariants as errors
+use Rattle.dt_blob.specs.declared.read_token.BlobToken.{BlobToken}
+use Rattle.dt_blob.specs.declared.read_token.BlobToken.TheVariants as code
+use Rattle.dt_blob.specs.HeaderWords.{header_of, header_fault, strings_of, structure_of, reserves_of}
+use Rattle.dt_blob.specs.Token.{Token, begin_node, end_node, property, nop, end}
+use Rattle.dt_blob.specs.Steps.Opened.{begun, root_from}
+
+-- What a function of the structure block returned, seen by view, is what reading gives, unless memory ran out. The
+-- refusals of the header and of the reserves aren't given there.
+abbrev pub Refuses : {Y : Type 0} → BlobError → Option Y → Type 0
+Refuses errors.NoMemory read = Unit {0}
+Refuses errors.Truncated read = ⊥
+Refuses errors.BadMagic read = ⊥
+Refuses errors.BadVersion read = ⊥
+Refuses errors.BadLayout read = ⊥
+Refuses errors.BadToken read = read ≡ None
+Refuses errors.BadString read = read ≡ None
+Refuses errors.PropertyAfterNode read = read ≡ None
+Refuses errors.BadTree read = read ≡ None
+Refuses errors.TooLarge read = ⊥
+
+abbrev pub Gives : {X Y : Type 0} → (X → Y) → Result X BlobError → Option Y → Type 0
+Gives view (Ok x) read = read ≡ Some (view x)
+Gives view (Err e) read = Refuses e read
+
+-- the reserves have no end
+abbrev pub HasNoEnd : BlobError → Option (List (ℕ × ℕ)) → Type 0
+HasNoEnd e reserves = (e ≡ errors.BadLayout) × (reserves ≡ None)
+
+-- ---- tokens
+
+-- the place of the first zero byte
+abbrev pub zero_in : List ℕ → Option ℕ
+zero_in [] = None
+zero_in (b ∷ bs) = if b == 0 then Some 0 else option_map (λ k. k + 1) (zero_in bs)
+
+-- a length with its padding
+abbrev pub padded : ℕ → ℕ
+padded n = (n + 3) / 4 * 4
+
+abbrev pub named_at : ℕ → List ℕ → Option (Token × List ℕ)
+named_at k bytes = if nat_lt (length bytes) (padded (k + 1)) then None else Some (begin_node (take k bytes), drop (padded (k + 1)) bytes)
+
+-- behind a BEGIN_NODE
+abbrev pub begin_at : List ℕ → Option (Token × List ℕ)
+begin_at bytes = option_and_then (λ k. named_at k bytes) (zero_in bytes)
+
+-- the name at a place of the strings
+abbrev pub string_at : List ℕ → ℕ → Option (List ℕ)
+string_at strings place = option_map (λ k. take k (drop place strings)) (zero_in (drop place strings))
+
+-- behind a PROP and its two words
+abbrev pub value_at : List ℕ → ℕ → ℕ → List ℕ → Option (Token × List ℕ)
+value_at strings size place bytes =
+    if nat_lt (length bytes) (padded size) then None
+    else option_map (λ name. (property name (take size bytes), drop (padded size) bytes)) (string_at strings place)
+
+-- behind a PROP
+abbrev pub property_at : List ℕ → List ℕ → Option (Token × List ℕ)
+property_at strings bytes =
+    if nat_lt (length bytes) 8 then None else value_at strings (big_number 4 bytes) (big_number 4 (drop 4 bytes)) (drop 8 bytes)
+
+abbrev pub token_by : List ℕ → ℕ → List ℕ → Option (Token × List ℕ)
+token_by strings n bytes =
+    if n == 1 then begin_at bytes
+    else (if n == 2 then Some (end_node, bytes)
+    else (if n == 3 then property_at strings bytes
+    else (if n == 4 then Some (nop, bytes)
+    else (if n == 9 then Some (end, bytes) else None))))
+
+-- the token at the front, and what follows it
+unfoldable pub token_at : List ℕ → List ℕ → Option (Token × List ℕ)
+token_at strings bytes = if nat_lt (length bytes) 4 then None else token_by strings (big_number 4 bytes) (drop 4 bytes)
+
+-- what stands behind the END; a NOP stands for whatever is no token
+abbrev pub left : List ℕ → List Token
+left [] = []
+left (b ∷ bs) = nop ∷ []
+
+abbrev pub with_token : Token → List ℕ → List Token → List Token
+with_token nop rest ts = ts
+with_token end rest ts = end ∷ left rest
+with_token (begin_node name) rest ts = begin_node name ∷ ts
+with_token end_node rest ts = end_node ∷ ts
+with_token (property name value) rest ts = property name value ∷ ts
+
+abbrev pub tokens_by : Option (Token × List ℕ) → (List ℕ → List Token) → List Token
+tokens_by None f = nop ∷ []
+tokens_by (Some x) f = with_token (x.0) (x.1) (f (x.1))
+
+-- at most n tokens, without the NOPs between them, up to the END
+unfoldable pub tokens_in : List ℕ → ℕ → List ℕ → List Token
+tokens_in strings zero bytes = []
+tokens_in strings (suc n) bytes = tokens_by (token_at strings bytes) (tokens_in strings n)
+
+unfoldable pub tokens_at : List ℕ → List ℕ → List Token
+tokens_at strings bytes = tokens_in strings (suc (length bytes)) bytes
+
+-- ---- reserves
+
+abbrev pub with_reserve : ℕ → ℕ → Option (List (ℕ × ℕ)) → Option (List (ℕ × ℕ))
+with_reserve a b others = if a == 0 && b == 0 then Some [] else option_map (λ rs. (a, b) ∷ rs) others
+
+-- at most n pairs, up to one of zeros
+unfoldable pub reserves_in : ℕ → List ℕ → Option (List (ℕ × ℕ))
+reserves_in zero bytes = None
+reserves_in (suc n) bytes = if nat_lt (length bytes) 16 then None else with_reserve (big_number 8 bytes) (big_number 8 (drop 8 bytes)) (reserves_in n (drop 16 bytes))
+
+unfoldable pub reserves_at : List ℕ → Option (List (ℕ × ℕ))
+reserves_at bytes = reserves_in (suc (length bytes)) bytes
+
+-- ---- the whole
+
+abbrev pub tree_by : List ℕ → Option (List (ℕ × ℕ)) → Option NodeData → Option TreeData
+tree_by bytes rs root = option_and_then (λ r. option_map (λ n. record { reserves = r; boot_cpu = (header_of bytes).boot_cpu; root = n }) root) rs
+
+unfoldable pub tree_in : List ℕ → Option TreeData
+tree_in bytes =
+    if is_none (header_fault bytes)
+    then tree_by bytes (reserves_at (reserves_of bytes)) (root_from begun (tokens_at (strings_of bytes) (structure_of bytes)))
+    else None
+
+-- why there is no tree: the header's first fault, the reserves, or what stands behind them
+abbrev pub RefusesAll : BlobError → List ℕ → Type 0
+RefusesAll e bytes = (header_fault bytes ≡ Some e) ⊎ ((header_fault bytes ≡ None) × (HasNoEnd e (reserves_at (reserves_of bytes)) ⊎ Refuses e (tree_in bytes)))
+
+-- ---- what the code keeps
+
+-- a token whose texts are lent by the blob
+abbrev pub token_of : BlobToken → Token
+token_of (code.BeginNode name) = begin_node name.now
+token_of code.EndNode = end_node
+token_of (code.Property name value) = property name.now value.now
+token_of code.Nop = nop
+token_of code.End = end

@@ -1,0 +1,33 @@
+//! Numbers in bytes, and bytes before and behind a place.
+ghost use Rattle.std.specs.Prelude.{◌≡◌, ◌≤◌, length, take, drop};
+ghost use Rattle.byteorder.specs.Endian.{big_number};
+
+use byteorder::{BigEndian, ByteOrder};
+
+pub(crate) fn word(bytes: &[u8]) -> u32
+    requires { 4 ≤ length bytes.now }
+    ensures { result ≡ big_number 4 bytes.now }
+{
+    BigEndian::read_u32(bytes)
+}
+
+pub(crate) fn behind(bytes: &[u8], count: usize) -> &[u8]
+    requires { count ≤ length bytes.now }
+    ensures { result.now ≡ drop count bytes.now }
+{
+    &bytes[count..]
+}
+
+pub(crate) fn first(bytes: &[u8], count: usize) -> &[u8]
+    requires { count ≤ length bytes.now }
+    ensures { result.now ≡ take count bytes.now }
+{
+    &bytes[..count]
+}
+
+pub(crate) fn long(bytes: &[u8]) -> u64
+    requires { 8 ≤ length bytes.now }
+    ensures { result ≡ big_number 8 bytes.now }
+{
+    BigEndian::read_u64(bytes)
+}
