@@ -28,3 +28,14 @@ left_above total place text (l ∷ ls) le (s, n, gap, longest, from, to, more) =
 pub lexemes_above : (text : List ℕ) (ls : List Lexeme) → Lexemes text ls → Above 0 ls
 unfolding Lexemes
 lexemes_above text ls h = above_lower 0 (length text - length text) ls (omega arith) (left_above (length text) start text ls (omega arith) h)
+
+-- a text has no more lexemes than bytes
+left_few : (total : ℕ) (place : Place) (text : List ℕ) (ls : List Lexeme) → Left total place text ls → length ls ≤ length text
+unfolding Left
+left_few total place text [] gap = omega arith
+left_few total place text (l ∷ ls) (s, n, gap, longest, from, to, more) =
+    omega (arith, gap_shorter text s gap, some_byte place s l.kind n longest, longest.within, length-drop n s, left_few total (step place l.kind) (drop n s) ls more)
+
+pub lexemes_few : (text : List ℕ) (ls : List Lexeme) → Lexemes text ls → length ls ≤ length text
+unfolding Lexemes
+lexemes_few text ls h = left_few (length text) start text ls h

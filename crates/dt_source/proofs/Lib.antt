@@ -27,3 +27,4 @@ pub mod OneSource
 pub mod LawfulValues
 pub mod LawfulSources
 pub mod BodyLists
+pub mod FewRows

@@ -117,7 +117,7 @@ header_follows : (b : Bool) (ts rest : List Lexeme) → SpellsHeader b ts rest �
 header_follows false ts rest h = version_follows ts h.0 h.1
 header_follows true ts rest h = version_follows ts h.0 h.3
 
-header_shorter : (b : Bool) (ts rest : List Lexeme) → SpellsHeader b ts rest → length rest < length ts
+pub header_shorter : (b : Bool) (ts rest : List Lexeme) → SpellsHeader b ts rest → length rest < length ts
 header_shorter false ts rest h = omega (arith, begins_shorter ts Version h.0 h.1, begins_shorter h.0 Semicolon rest h.2)
 header_shorter true ts rest h = omega (arith, begins_shorter ts Version h.0 h.3, begins_shorter h.0 Semicolon h.1 h.4, begins_shorter h.1 Plugin h.2 h.5, begins_shorter h.2 Semicolon rest h.6)
 
@@ -151,7 +151,7 @@ labelled_reserve text ls ts at h n = let labels : labels_at ts ≡ (ls, at) = la
 reserve_again : (text : List ℕ) (r : ReserveTree) (ts rest : List Lexeme) → SpellsReserve r ts rest → Unit {0} → reserve_at text ts ≡ Ok (Some (reserve_values text r), first_of (reserve_faults text r), rest)
 reserve_again text r ts rest h u = labelled_reserve text h.4.0 ts h.0 h.4.1 (front MemReserve refl h.0 h.1 h.5) ∙ reserve_read text ts h.0 r h.1 h.2 h.3 rest h.5 h.6 h.7 h.8
 
-reserve_shorter : (r : ReserveTree) (ts rest : List Lexeme) → SpellsReserve r ts rest → length rest < length ts
+pub reserve_shorter : (r : ReserveTree) (ts rest : List Lexeme) → SpellsReserve r ts rest → length rest < length ts
 reserve_shorter r ts rest h =
     omega (arith, labels_shorter h.4.0 ts h.0 h.4.1, begins_shorter h.0 MemReserve h.1 h.5, shorter r.address 64 0 h.1 h.2 h.6.1, shorter r.size 64 0 h.2 h.3 h.7.1, begins_shorter h.3 Semicolon rest h.8)
 

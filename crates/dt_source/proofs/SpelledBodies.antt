@@ -100,10 +100,10 @@ drops_again text inner nodes n (t ∷ ts) a b rest h k s =
 
 -- ---- statements one after the other
 
-one_shorter : (k : Kind) (l : Lexeme) (ts rest : List Lexeme) → One k l ts rest → length rest < length ts
+pub one_shorter : (k : Kind) (l : Lexeme) (ts rest : List Lexeme) → One k l ts rest → length rest < length ts
 one_shorter k l ts rest h = omega (arith, ap length h.1)
 
-value_end : (v : List PieceTree) (ts rest : List Lexeme) → SpellsValue v ts rest → length rest ≤ length ts
+pub value_end : (v : List PieceTree) (ts rest : List Lexeme) → SpellsValue v ts rest → length rest ≤ length ts
 value_end [] ts rest h = omega (arith, ap length h)
 value_end (p ∷ ps) ts rest h = omega (arith, begins_shorter ts Equals h.0 h.2, value_shorter p ps h.0 h.1 rest h.3 h.4)
 

@@ -9,6 +9,7 @@ pub mod Order
 pub mod SourceError
 pub mod Parse
 pub mod Lawful
+pub mod Counts
 pub mod LawfulOnce
 pub mod Meaning
 pub mod BodyLaws

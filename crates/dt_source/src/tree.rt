@@ -1,7 +1,9 @@
 //! What a source says.
-ghost use Rattle.std.specs.Prelude.{◌≡◌, map, All};
+ghost use Rattle.std.specs.Prelude.{◌≡◌, ◌≤◌, map, All};
+ghost use Rattle.dt_lexeme.specs.declared.lexeme.TheConstants.{MAX_TEXT_LEN};
 ghost use Rattle.dt_source.specs.Tree.{labels_view, view, views, part_view, item_view, Defines, Undefines, Child, Removes};
 ghost use Rattle.dt_source.specs.Lawful.{IsLawfulEdit};
+ghost use Rattle.dt_source.specs.Counts.{how_many};
 ghost use Rattle.dt_source.specs.LawfulOnce.{all_once, edit_once};
 
 use crate::labels::Labels;
@@ -67,15 +69,18 @@ pub struct Source<'a> {
     pub reserves: Vec<(u64, u64)>,
     pub items: Vec<Item<'a>>,
     pub ghost lawful: { All IsLawfulEdit (map item_view items.items) } by { all_once IsLawfulEdit edit_once (map item_view items.items) },
+    pub ghost few: { how_many (map item_view items.items) ≤ MAX_TEXT_LEN },
 }
 
 impl Source<'_> {
     ghost use Rattle.dt_source.specs.Lawful.{IsLawful};
     ghost use Rattle.dt_source.specs.Meaning.{meaning};
 
-    /// Costs nothing: tells a caller's proof that what the source names is lawful.
+    /// Costs nothing: tells a caller's proof that what the source names is lawful, and that rows for its items,
+    /// statements and labels can be numbered by 32 bits.
     pub fn check(&self)
-        ensures { IsLawful (meaning self.now) }
+        ensures lawful { IsLawful (meaning self.now) }
+        ensures few { how_many (meaning self.now).items ≤ MAX_TEXT_LEN }
     {
         let _ = &self.items;
     }
