@@ -1,9 +1,11 @@
 -- The counts of suppliers that aren't bound, lowered one consumer after another.
-use Rattle.std.proofs.Common.{◌≡◌, ◌≢◌, ◌⊎◌, inl, inr, ◌<◌, ◌≤◌, ◌+◌, ◌-◌, ℕ, zero, suc, Bool, true, false, cond, List, [], ◌∷◌, ◌++◌, length, set, get_or, map, eqb, refl, sym, ap, ap₂, ◌∙◌, subst, arith, length-set}
+use Rattle.std.proofs.Common.{◌≡◌, ◌≢◌, ◌⊎◌, inl, inr, ◌<◌, ◌≤◌, ◌+◌, ◌-◌, ℕ, zero, suc, Bool, true, false, cond, List, [], ◌∷◌, ◌++◌, length, set, get_or, map, eqb, refl, sym, ap, ap₂, ◌∙◌, subst, arith, length-set, eq-eqb, ne_eqb, ◌&&◌, ◌||◌}
+use Rattle.std.specs.Prelude.{All}
 use Rattle.std.specs.List.{range_with_len, filter, list_any}
+use Rattle.std.proofs.lemmas.List.Elements.{All-head, All-tail}
 use Rattle.bus_plan.specs.Plan.{PlannedDevice, nothing}
 use Rattle.bus_plan.specs.Consumers.{has_supplier}
-use Rattle.std.proofs.lemmas.Bool.{cases_lt, cases_eq}
+use Rattle.std.proofs.lemmas.Bool.{cases_lt, cases_eq, and_right}
 use Rattle.std.proofs.lemmas.List.{get_or-set_same, get_or-set_other, get_or_past}
 
 -- ---- lists over a range
@@ -183,3 +185,37 @@ marked-all p mark n d counts flags none long = elim (cases_lt d n) [
 
 pub past-supplier : (plan : List PlannedDevice) (s d : ℕ) → length plan ≤ d → has_supplier plan d s ≡ false
 past-supplier plan s d past = ap (λ x. list_any (λ e. eqb e s) x.suppliers) (get_or_past plan d nothing past)
+
+-- ---- a supplier by its consumers
+any-cond : (b : Bool) (d x : ℕ) (xs : List ℕ) → list_any (λ c. eqb c d) (cond b (x ∷ xs) xs) ≡ ((b && eqb x d) || list_any (λ c. eqb c d) xs)
+any-cond true d x xs = refl
+any-cond false d x xs = refl
+
+any-below : (p : ℕ → Bool) (d n a : ℕ) → d < a → list_any (λ c. eqb c d) (consumers_from p a n) ≡ false
+any-below p d zero a below = refl
+any-below p d (suc n) a below =
+    any-cond (p a) d a (consumers_from p (a + 1) n)
+    ∙ ap₂ (λ x y. x || y) (and_right (p a) (eqb a d) (ne_eqb a d (λ e. absurd (omega arith)))) (any-below p d n (a + 1) (omega arith))
+
+any-first : (b : Bool) → ((b && true) || false) ≡ b
+any-first true = refl
+any-first false = refl
+
+any-inside : (p : ℕ → Bool) (d n a : ℕ) → a ≤ d → d < a + n → list_any (λ c. eqb c d) (consumers_from p a n) ≡ p d
+any-inside p d zero a above below = absurd (omega arith)
+any-inside p d (suc n) a above below = any-cond (p a) d a (consumers_from p (a + 1) n) ∙ elim (cases_eq a d) [
+  | inl same ↦
+      ap₂ (λ x y. (p a && x) || y) (eq-eqb a d same) (any-below p d n (a + 1) (omega arith)) ∙ any-first (p a) ∙ ap p same
+  | inr other ↦ ap₂ (λ x y. x || y) (and_right (p a) (eqb a d) (ne_eqb a d other)) (any-inside p d n (a + 1) (omega arith) (omega arith))
+]
+
+-- a device is among the consumers of its suppliers alone
+pub among-consumers : (plan : List PlannedDevice) (d s : ℕ) → d < length plan → list_any (λ c. eqb c d) (consumers_from (λ c. has_supplier plan c s) 0 (length plan)) ≡ has_supplier plan d s
+among-consumers plan d s within = any-inside (λ c. has_supplier plan c s) d (length plan) 0 (omega arith) (omega arith)
+
+-- what is no device of the plan is nobody's supplier
+pub no-supplier : (n s : ℕ) (xs : List ℕ) → All (λ x. x < n) xs → n ≤ s → list_any (λ x. eqb x s) xs ≡ false
+no-supplier n s [] all past = refl
+no-supplier n s (x ∷ xs) all past =
+    let first : x < n = All-head (λ x. x < n) x xs all
+    in ap₂ (λ a b. a || b) (ne_eqb x s (λ e. absurd (omega arith))) (no-supplier n s xs (All-tail (λ x. x < n) x xs all) past)

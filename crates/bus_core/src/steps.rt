@@ -1,6 +1,7 @@
 //! The events of a core. None takes memory: the room of every settle was made with the core.
 
-ghost use Rattle.std.specs.Prelude.{◌≡◌, ◌<◌, ◌+◌, ◌++◌, ◌∷◌, [], length, IfOk, OnOk, OnErr, Some, None, vec_len, vec_capacity, ◌≤◌, true};
+ghost use Rattle.std.specs.Prelude.{◌≡◌, ◌<◌, ◌+◌, ◌++◌, ◌∷◌, [], length, IfOk, OnOk, OnErr, Some, None, vec_len, vec_capacity, ◌≤◌, ◌==◌, true};
+ghost use Rattle.std.specs.List.{list_any};
 ghost use Rattle.std.specs.Result.{result_err};
 ghost use Rattle.bus_plan.specs.Plan.{verdict_of};
 ghost use Rattle.bus_core.specs.CoreState.{CoreValue, flight_of, is_in_flight};
@@ -20,13 +21,28 @@ use crate::settle::{Outcome, Settle};
 use crate::state::Core;
 use bus_plan::{Device, Plan, Verdict};
 
+// Whether a device is among another's suppliers, looked for in the shorter of the suppliers of the one and the consumers of
+// the other.
 fn is_supplier(plan: &Plan, device: Device, supplier: Device) -> bool
     requires { device < length plan.now }
     ensures { result ≡ is_supplier plan.now device supplier }
 {
-    plan.suppliers(device)
-        .iter()
-        .any(|other| other.index() == supplier.index())
+    plan.check();
+    if supplier.index() >= plan.len() {
+        return false;
+    }
+    let suppliers = plan.suppliers(device);
+    let consumers = plan.consumers(supplier);
+    if consumers.len() < suppliers.len() {
+        return is_among(consumers, device);
+    }
+    is_among(suppliers, supplier)
+}
+
+fn is_among(devices: &[Device], device: Device) -> bool
+    ensures { result ≡ list_any (λ d. d == device) devices.now }
+{
+    devices.iter().any(|other| other.index() == device.index())
 }
 
 impl Core {

@@ -333,8 +333,8 @@ fn tells_who_has_settled(rt: HostRuntime) -> Result<(), Fail> {
     Ok(())
 }
 
-// Once the core is made its events take no memory. bench/memory runs the tests with every request refused from the Nth
-// on; where that begins behind the core, this one goes on without memory and finds the same answers.
+// Once the core is made its events take no memory. Run with `--fail-alloc N..`, which refuses each request from the Nth
+// on, this test finds the same answers wherever N is behind the core.
 #[test]
 fn events_take_no_memory(rt: HostRuntime) -> Result<(), Fail> {
     let Ok(plan) = read_plan(
