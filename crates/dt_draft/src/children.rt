@@ -1,5 +1,5 @@
 //! The children of nodes.
-ghost use Rattle.std.specs.Prelude.{◌≡◌, ◌++◌, ◌∷◌, ◌==◌, [], ℕ, List, not, true, IfOk, OnOk, if◌then◌else◌};
+ghost use Rattle.std.specs.Prelude.{◌≡◌, ◌<◌, ◌++◌, ◌∷◌, ◌==◌, [], ℕ, List, not, true, IfOk, OnOk, if◌then◌else◌};
 ghost use Rattle.dt_meaning.specs.Edits.{with_node, without_node};
 ghost use Rattle.dt_meaning.specs.Paths.{Path};
 ghost use Rattle.dt_draft.specs.Index.{is_key};
@@ -70,5 +70,21 @@ impl<'d, V: Copy> Draft<'d, V> {
         if let Some(node) = self.node_rows.forget(parent, name) {
             self.nodes[node - 1].removed = true;
         }
+    }
+
+    /// Removes a node below the root, and all below it.
+    pub fn remove_node(&mut self, node: usize)
+        requires sound { IsDraft self.old }
+        requires known { IsNode self.old node }
+        requires below { 0 < node }
+        requires stands { is_standing self.old node ≡ true }
+        ensures sound { IsDraft self.new }
+        ensures state { state_of self.new ≡ without_node (node_path self.old node) (state_of self.old) }
+        ensures bodies { HasSameChildBodies self.old self.new }
+        ensures others { HasSamePropertyBodies self.old self.new }
+        ensures count { self.new.bodies ≡ self.old.bodies }
+    {
+        let row = self.nodes[node - 1];
+        self.remove_child(row.parent, row.name);
     }
 }

@@ -1,0 +1,30 @@
+-- A fault of the first step is the fault of all.
+use Rattle.std.proofs.Common.{◌≡◌, Result, Err, refl, sym, ap, ◌∙◌, subst}
+use Rattle.dt_meaning.specs.Statements.{Fault, then_do}
+use Rattle.dt_edit.specs.declared.error.EditError.{EditError}
+use Rattle.dt_edit.specs.declared.error.EditError.TheVariants.{NoMemory, DuplicateLabel, DuplicateInBody, TooDeep}
+use Rattle.dt_meaning.specs.Statements as meaning
+use Rattle.dt_draft.specs.declared.labels.LabelError.{LabelError}
+use Rattle.dt_draft.specs.declared.labels.LabelError.TheVariants as labels
+use Rattle.dt_edit.specs.EditFault.{IsFault}
+use Rattle.dt_edit.specs.LabelFault.{edit_error}
+
+pub fault-then : {A B : Type 0} (e : EditError) (r : Result A Fault) (f : A → Result B Fault) → IsFault e r → IsFault e (then_do r f)
+fault-then NoMemory r f h = h
+fault-then DuplicateLabel r f h = ap (λ x. then_do x f) h
+fault-then DuplicateInBody r f h = ap (λ x. then_do x f) h
+fault-then TooDeep r f h = ap (λ x. then_do x f) h
+
+pub fault-same : {A : Type 0} (e : EditError) (r r' : Result A Fault) → r' ≡ r → IsFault e r → IsFault e r'
+fault-same NoMemory r r' same h = h
+fault-same DuplicateLabel r r' same h = same ∙ h
+fault-same DuplicateInBody r r' same h = same ∙ h
+fault-same TooDeep r r' same h = same ∙ h
+
+-- a label that isn't given
+pub label-says : {A : Type 0} (a : LabelError) (r : Result A Fault) → (a ≡ labels.DuplicateLabel → r ≡ Err meaning.DuplicateLabel) → IsFault (edit_error a) r
+label-says labels.NoMemory r h = tt
+label-says labels.DuplicateLabel r h = h refl
+
+pub fault-error : {A : Type 0} (e e' : EditError) (r : Result A Fault) → e ≡ e' → IsFault e' r → IsFault e r
+fault-error e e' r same h = subst (λ (d : EditError). IsFault d r) (sym same) h

@@ -1,0 +1,21 @@
+use Rattle.std.proofs.Common.{◌+◌, ◌-◌, ◌*◌, List, drop}
+use Rattle.dt_source.specs.Tree.{views}
+use Rattle.dt_meaning.specs.Syntax.{Piece}
+use Rattle.dt_meaning.specs.Statements.{Progress}
+use Rattle.dt_edit.specs.Said.{body_of}
+use Rattle.dt_edit.proofs.Steps.{IsUnderWay}
+use Rattle.dt_edit.proofs.body.+edits.Given as goal
+
+abbrev pub invariant-edit_body-loop-statement : goal.invariant-edit_body-loop-statement
+invariant-edit_body-loop-statement l =
+    (x : Progress (List Piece)) × IsUnderWay x l.fn.draft l.draft l.node l.number (body_of (views l.body)) (body_of (views (drop l.statement-index l.body)))
+
+-- each body is one level deeper, down to 64
+abbrev pub decreases-edit : goal.decreases-edit
+decreases-edit l = (64 - l.depth) * 3 + 1
+
+abbrev pub decreases-edit_child : goal.decreases-edit_child
+decreases-edit_child l = (64 - l.depth) * 3
+
+abbrev pub decreases-edit_body : goal.decreases-edit_body
+decreases-edit_body l = (64 - l.depth) * 3 + 2

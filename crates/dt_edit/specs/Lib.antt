@@ -1,0 +1,4 @@
+pub mod EditFault
+pub mod LabelFault
+pub mod Progress
+pub mod Said

@@ -1,0 +1,136 @@
+//! The statements of a body.
+ghost use Rattle.std.specs.Prelude.{◌≡◌, ◌≤◌, ℕ, List, map, true, length, Ok, OnOk, MatchResult};
+ghost use Rattle.dt_meaning.specs.Syntax.{Child, Piece};
+ghost use Rattle.dt_meaning.specs.Statements.{Progress, after_body, after_entry, begun};
+ghost use Rattle.dt_source.specs.Tree.{view, views};
+ghost use Rattle.dt_draft.specs.Rows.{IsDraft, IsKept, IsNode, IsNumbered, is_standing, node_path};
+ghost use Rattle.dt_edit.specs.EditFault.{IsFault};
+ghost use Rattle.dt_edit.specs.Progress.{HasMarks, IsAt};
+ghost use Rattle.dt_edit.specs.Said.{body_of, entry_of, tree_of};
+
+use crate::error::EditError;
+use dt_draft::Draft;
+use dt_source::{Part, Statement};
+
+const MAX_DEPTH: usize = 64;
+
+#[cycle(edits)]
+fn edit_child<'d>(
+    draft: &mut Draft<'d, &'d [Part<'d>]>,
+    node: usize,
+    depth: usize,
+    number: usize,
+    labels: &'d [&'d [u8]],
+    name: &'d [u8],
+    body: &'d [Statement<'d>],
+) -> Result<(), EditError>
+    requires sound { IsDraft draft.old }
+    requires numbered { IsNumbered draft.old }
+    requires counted { number ≤ draft.old.bodies }
+    requires known { IsNode draft.old node }
+    requires stands { is_standing draft.old node ≡ true }
+    requires depth { depth ≡ length (node_path draft.old node) }
+    ensures sound { OnOk result (IsDraft draft.new) }
+    ensures numbered { OnOk result (IsNumbered draft.new) }
+    ensures counted { OnOk result (draft.old.bodies ≤ draft.new.bodies) }
+    ensures kept { OnOk result (IsKept (node_path draft.old node) draft.old draft.new) }
+    ensures marks { OnOk result (HasMarks (node_path draft.old node) draft.old draft.new) }
+    ensures step { (x : Progress (List Piece)) → IsAt x draft.old node number → MatchResult result (λ _. (y : Progress (List Piece)) × (after_entry (Child (map (λ l. l.now) labels.now) name.now (body_of (views body.now))) (node_path draft.old node) x ≡ Ok y) × IsAt y draft.new node number) (λ e. IsFault e (after_entry (Child (map (λ l. l.now) labels.now) name.now (body_of (views body.now))) (node_path draft.old node) x)) }
+{
+    let (child, first) = draft.define_child(node, name, number)?;
+    if let Err(error) = draft.give_labels(labels, child) {
+        return Err(EditError::of_label(error));
+    }
+    if !first {
+        return Err(EditError::DuplicateInBody);
+    }
+    if depth >= MAX_DEPTH {
+        return Err(EditError::TooDeep);
+    }
+    match edit_body(draft, child, depth + 1, body) {
+        Ok(()) => Ok(()),
+        Err(error) => Err(error),
+    }
+}
+
+#[cycle(edits)]
+fn edit<'d>(
+    draft: &mut Draft<'d, &'d [Part<'d>]>,
+    node: usize,
+    depth: usize,
+    number: usize,
+    statement: &'d Statement<'d>,
+) -> Result<(), EditError>
+    requires sound { IsDraft draft.old }
+    requires numbered { IsNumbered draft.old }
+    requires counted { number ≤ draft.old.bodies }
+    requires known { IsNode draft.old node }
+    requires stands { is_standing draft.old node ≡ true }
+    requires depth { depth ≡ length (node_path draft.old node) }
+    ensures sound { OnOk result (IsDraft draft.new) }
+    ensures numbered { OnOk result (IsNumbered draft.new) }
+    ensures counted { OnOk result (draft.old.bodies ≤ draft.new.bodies) }
+    ensures kept { OnOk result (IsKept (node_path draft.old node) draft.old draft.new) }
+    ensures marks { OnOk result (HasMarks (node_path draft.old node) draft.old draft.new) }
+    ensures step { (x : Progress (List Piece)) → IsAt x draft.old node number → MatchResult result (λ _. (y : Progress (List Piece)) × (after_entry (entry_of (view statement.now)) (node_path draft.old node) x ≡ Ok y) × IsAt y draft.new node number) (λ e. IsFault e (after_entry (entry_of (view statement.now)) (node_path draft.old node) x)) }
+{
+    match statement {
+        Statement::Property { name, value } => {
+            if !draft.set_property(node, *name, value.as_slice(), number)? {
+                return Err(EditError::DuplicateInBody);
+            }
+            Ok(())
+        }
+        Statement::DeleteProperty { name } => {
+            draft.remove_property(node, *name);
+            Ok(())
+        }
+        Statement::DeleteNode { name } => {
+            draft.remove_child(node, *name);
+            Ok(())
+        }
+        Statement::Node { labels, name, body } => {
+            edit_child(
+                draft,
+                node,
+                depth,
+                number,
+                labels.as_slice(),
+                *name,
+                body.as_slice(),
+            )?;
+            Ok(())
+        }
+    }
+}
+
+/// Does what the statements of a body say to a node. After a refusal the draft is of no more use.
+#[cycle(edits)]
+pub fn edit_body<'d>(
+    draft: &mut Draft<'d, &'d [Part<'d>]>,
+    node: usize,
+    depth: usize,
+    body: &'d [Statement<'d>],
+) -> Result<(), EditError>
+    requires sound { IsDraft draft.old }
+    requires numbered { IsNumbered draft.old }
+    requires known { IsNode draft.old node }
+    requires stands { is_standing draft.old node ≡ true }
+    requires depth { depth ≡ length (node_path draft.old node) }
+    ensures sound { OnOk result (IsDraft draft.new) }
+    ensures numbered { OnOk result (IsNumbered draft.new) }
+    ensures counted { OnOk result (draft.old.bodies ≤ draft.new.bodies) }
+    ensures kept { OnOk result (IsKept (node_path draft.old node) draft.old draft.new) }
+    ensures marks { OnOk result (HasMarks (node_path draft.old node) draft.old draft.new) }
+    ensures body { MatchResult result (λ _. after_body (body_of (views body.now)) (node_path draft.old node) (begun (tree_of draft.old)) ≡ Ok (tree_of draft.new)) (λ e. IsFault e (after_body (body_of (views body.now)) (node_path draft.old node) (begun (tree_of draft.old)))) }
+{
+    let number = match draft.begin_body() {
+        Some(number) => number,
+        // 2^64 bodies don't fit into memory
+        None => return Err(EditError::NoMemory),
+    };
+    for statement in body {
+        edit(draft, node, depth, number, statement)?;
+    }
+    Ok(())
+}

@@ -1,0 +1,37 @@
+//! Why the edits of a source stop.
+ghost use Rattle.std.specs.Prelude.{◌≡◌};
+ghost use Rattle.dt_edit.specs.LabelFault.{edit_error};
+
+use dt_draft::LabelError;
+use std::alloc::AllocError;
+
+/// Why the edits of a source stop.
+#[derive(Debug, Clone, Copy, PartialEq, Eq, Drop)]
+pub enum EditError {
+    NoMemory,
+    DuplicateLabel,
+    DuplicateInBody,
+    TooDeep,
+}
+
+impl From<AllocError> for EditError {
+    ghost use Rattle.std.specs.Prelude.{◌≡◌};
+    ghost use Rattle.dt_edit.specs.declared.error.EditError.TheVariants.{NoMemory};
+
+    ghost from_gives = { λ _ e. e ≡ NoMemory };
+
+    fn from(_e: AllocError) -> EditError {
+        EditError::NoMemory
+    }
+}
+
+impl EditError {
+    pub(crate) fn of_label(error: LabelError) -> EditError
+        ensures { result ≡ edit_error error }
+    {
+        match error {
+            LabelError::NoMemory => EditError::NoMemory,
+            LabelError::DuplicateLabel => EditError::DuplicateLabel,
+        }
+    }
+}
