@@ -1,6 +1,7 @@
 //! What the command line may say, as `clap` reads it.
 ghost use Rattle.std.specs.Prelude.{◌≡◌, false, IfOk};
-ghost use Rattle.clap.specs.Words.{app_of, fields_of, rule_of};
+ghost use Rattle.clap.specs.Words.{app_of, rule_of};
+ghost use Rattle.clap.specs.declared.builder.command.Command.TheViews.{out-Command};
 ghost use Rattle.dtman.specs.Grammar as spec;
 
 use clap::{Arg, Command};
@@ -20,7 +21,7 @@ Lines that begin with # are skipped.";
 
 /// What the program takes.
 pub fn grammar<'a>(alloc: Global) -> Result<Command<'a>, AllocError>
-    ensures { IfOk result (λ c. (app_of c ≡ spec.dtman) × ((fields_of c).has_globals ≡ false)) }
+    ensures { IfOk result (λ c. (app_of c ≡ spec.dtman) × ((out-Command c).has_globals ≡ false)) }
 {
     let dump = dump(alloc)?;
     let replay = replay(alloc)?;
@@ -36,7 +37,7 @@ pub fn grammar<'a>(alloc: Global) -> Result<Command<'a>, AllocError>
 }
 
 fn dump<'a>(alloc: Global) -> Result<Command<'a>, AllocError>
-    ensures { IfOk result (λ c. (app_of c ≡ spec.dump) × ((fields_of c).has_globals ≡ false)) }
+    ensures { IfOk result (λ c. (app_of c ≡ spec.dump) × ((out-Command c).has_globals ≡ false)) }
 {
     Command::new(alloc, "dump")
         .about("Prints a blob as a canonical source")
@@ -44,7 +45,7 @@ fn dump<'a>(alloc: Global) -> Result<Command<'a>, AllocError>
 }
 
 fn replay<'a>(alloc: Global) -> Result<Command<'a>, AllocError>
-    ensures { IfOk result (λ c. (app_of c ≡ spec.replay) × ((fields_of c).has_globals ≡ false)) }
+    ensures { IfOk result (λ c. (app_of c ≡ spec.replay) × ((out-Command c).has_globals ≡ false)) }
 {
     Command::new(alloc, "replay")
         .about("Replays a schedule of probe events over a plan and prints the report")
@@ -53,7 +54,7 @@ fn replay<'a>(alloc: Global) -> Result<Command<'a>, AllocError>
 }
 
 fn explain<'a>(alloc: Global) -> Result<Command<'a>, AllocError>
-    ensures { IfOk result (λ c. (app_of c ≡ spec.explain) × ((fields_of c).has_globals ≡ false)) }
+    ensures { IfOk result (λ c. (app_of c ≡ spec.explain) × ((out-Command c).has_globals ≡ false)) }
 {
     Command::new(alloc, "explain")
         .about("Says what an error's number means, and what to do about it")

@@ -6,8 +6,8 @@ use crate::subcommand::Command;
 use crate::surroundings::Surroundings;
 use clap::error::ErrorKind as Mistake;
 use engine::{
-    Channel, Failed, Fault, MAX_BLOB_LEN, MAX_TEXT_LEN, OutputChannel, dump_bytes, explain, read_all,
-    read_within, replay_bytes, write_out,
+    Channel, Failed, Fault, MAX_BLOB_LEN, MAX_TEXT_LEN, OutputChannel, dump_bytes, explain,
+    read_all, read_within, replay_bytes, write_out,
 };
 use std::alloc::Global;
 use std::hash::RandomState;

@@ -1,11 +1,11 @@
 -- What `dump_bytes` answers: the canonical source of the tree that the bytes hold, or why there is none.
-use Rattle.std.specs.Prelude.{◌≡◌, ◌≤◌, ◌<◌, ◌⊎◌, ℕ, List, length, Some}
+use Rattle.std.specs.Prelude.{◌≡◌, ◌≤◌, ◌<◌, ◌⊎◌, ℕ, List, length, Some, None}
 use Rattle.dt_tree.specs.TreeData.{TreeData}
 use Rattle.dt_blob.specs.declared.error.BlobError.{BlobError}
 use Rattle.dt_blob.specs.declared.error.BlobError.TheVariants.{NoMemory, Truncated, BadMagic, BadVersion, BadLayout, BadToken, BadString, PropertyAfterNode, BadTree, TooLarge}
-use Rattle.dt_blob.specs.HeaderWords.{header_fault}
+use Rattle.dt_blob.specs.HeaderWords.{header_fault, reserves_of}
 use Rattle.dt_blob.specs.Blob.{limit}
-use Rattle.dt_blob.specs.Holds.{Holds}
+use Rattle.dt_blob.specs.Holds.{Holds, HaveNoEnd}
 use Rattle.dt_blob.specs.SourceText.{text_of}
 use Rattle.engine.specs.Fault.{FaultValue, no_memory, blob_fault}
 
@@ -40,7 +40,7 @@ Explains blob NoMemory = Unit {0}
 Explains blob Truncated = header_fault blob ≡ Some Truncated
 Explains blob BadMagic = header_fault blob ≡ Some BadMagic
 Explains blob BadVersion = header_fault blob ≡ Some BadVersion
-Explains blob BadLayout = HoldsNone blob
+Explains blob BadLayout = (header_fault blob ≡ Some BadLayout) ⊎ ((header_fault blob ≡ None) × HaveNoEnd (reserves_of blob))
 Explains blob BadToken = HoldsNone blob
 Explains blob BadString = HoldsNone blob
 Explains blob PropertyAfterNode = HoldsNone blob

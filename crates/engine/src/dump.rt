@@ -24,6 +24,8 @@ pub fn dump_bytes(alloc: Global, blob: &[u8]) -> Result<Vec<u8>, Fault>
     ensures truncated { IsErrAnd result (λ fault. shown fault ≡ blob_fault BlobError.Truncated) ↔ (header_fault blob.now ≡ Some BlobError.Truncated) }
     ensures bad_magic { IsErrAnd result (λ fault. shown fault ≡ blob_fault BlobError.BadMagic) ↔ (header_fault blob.now ≡ Some BlobError.BadMagic) }
     ensures bad_version { IsErrAnd result (λ fault. shown fault ≡ blob_fault BlobError.BadVersion) ↔ (header_fault blob.now ≡ Some BlobError.BadVersion) }
+    // A header that is laid out badly; else the list of reservations has no end, by `refused`.
+    ensures bad_layout { header_fault blob.now ≡ Some BlobError.BadLayout → IsErrAnd result (λ fault. shown fault ≡ blob_fault BlobError.BadLayout) }
     // Too many bytes come in, or would go out.
     ensures too_large { header_fault blob.now ≡ Some BlobError.TooLarge → IsErrAnd result (λ fault. shown fault ≡ blob_fault BlobError.TooLarge) }
     ensures too_long { IfErr result (λ fault. shown fault ≡ blob_fault BlobError.TooLarge → TooLong blob.now) }

@@ -112,8 +112,12 @@ fn tells_refusals_on_standard_error_alone(rt: HostRuntime) -> Result<(), Fail> {
 fn tells_help_on_standard_output_and_mistakes_on_standard_error(
     rt: HostRuntime,
 ) -> Result<(), Fail> {
-    let rows: [(&[&str], u8); 6] = [
+    let rows: [(&[&str], u8); 10] = [
         (&["dtman", "--help"], 0),
+        (&["dtman", "--version"], 0),
+        (&["dtman", "explain", "64"], 0),
+        (&["dtman", "explain", "99"], 2),
+        (&["dtman", "explain", "all"], 2),
         (&["dtman", "replay", "--help"], 0),
         (&["dtman"], 2),
         (&["dtman", "bind"], 2),

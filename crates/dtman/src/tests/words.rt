@@ -29,6 +29,12 @@ fn reads_the_command_line(rt: HostRuntime) {
     let words = ["dtman", "dump", "board.dtb"];
     let dump = read(rt.alloc(), words.as_slice());
     assert!(rt; matches!(dump, Ok(Command::Dump { blob: "board.dtb" })));
+    let words = ["dtman", "explain", "64"];
+    let explain = read(rt.alloc(), words.as_slice());
+    assert!(rt; matches!(explain, Ok(Command::Explain { number: "64" })));
+    let words = ["dtman", "--version"];
+    let version = read(rt.alloc(), words.as_slice());
+    assert!(rt; matches!(version, Err(ErrorKind::DisplayVersion)));
     let words = ["dtman", "probe", "board.dtb"];
     let unknown = read(rt.alloc(), words.as_slice());
     assert!(rt; matches!(unknown, Err(ErrorKind::InvalidSubcommand)));

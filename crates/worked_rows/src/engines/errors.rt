@@ -35,8 +35,16 @@ fn is_explained(alloc: Global, number: u8, line: &[u8]) -> Result<bool, AllocErr
 fn sources_are_refused(rt: HostRuntime) -> Result<(), Fail> {
     let rows = [
         (10, "", "error 10 Syntax line 1"),
-        (11, "/dts-v1/;/{a=<0x100000000>;};", "error 11 ElementRange line 1"),
-        (12, "/dts-v1/;/{a=<(1/0)>;};", "error 12 DivideByZero line 1"),
+        (
+            11,
+            "/dts-v1/;/{a=<0x100000000>;};",
+            "error 11 ElementRange line 1",
+        ),
+        (
+            12,
+            "/dts-v1/;/{a=<(1/0)>;};",
+            "error 12 DivideByZero line 1",
+        ),
         (13, "/dts-v1/;/{a=/bits/ 9<1>;};", "error 13 BadBits line 1"),
         (14, "/dts-v1/;/{a=<08>;};", "error 14 LiteralRange line 1"),
         (15, "/dts-v1/;/{a=\"\\x\";};", "error 15 BadEscape line 1"),
@@ -49,7 +57,10 @@ fn sources_are_refused(rt: HostRuntime) -> Result<(), Fail> {
     for (number, text, line) in rows {
         let told = source_line(rt.alloc(), text.as_bytes())?;
         assert_eq!(rt; told.as_slice(), line.as_bytes(), "{number}");
-        assert!(rt; is_explained(rt.alloc(), number, line.as_bytes())?, "{number}");
+        assert!(rt;
+            is_explained(rt.alloc(), number, line.as_bytes())?,
+            "{number}"
+        );
     }
     Ok(())
 }
@@ -60,10 +71,25 @@ fn plans_and_events_are_refused(rt: HostRuntime) -> Result<(), Fail> {
         (50, "/a", "", "error 50 BadLine line 1"),
         (52, "/a - -\n/a - -", "", "error 52 DuplicateDevice line 2"),
         (53, "/a - - /b", "", "error 53 UnknownPath line 1"),
-        (60, "/a x ok", "begin /a\nbegin /a", "error 60 NotIdle event 2"),
+        (
+            60,
+            "/a x ok",
+            "begin /a\nbegin /a",
+            "error 60 NotIdle event 2",
+        ),
         (61, "/a - -", "begin /a", "error 61 Unmatched event 1"),
-        (63, "/a x ok /b\n/b - -", "begin /a\nfinish /a settled", "error 63 NotReady event 2"),
-        (64, "/a x ok\n/b - -", "begin /a\nfinish /a missing /b", "error 64 WasBound event 2"),
+        (
+            63,
+            "/a x ok /b\n/b - -",
+            "begin /a\nfinish /a settled",
+            "error 63 NotReady event 2",
+        ),
+        (
+            64,
+            "/a x ok\n/b - -",
+            "begin /a\nfinish /a missing /b",
+            "error 64 WasBound event 2",
+        ),
         (66, "/a x ok", "abandon /a", "error 66 NotInFlight event 1"),
     ];
     let hasher = RandomState::new(&rt)?;
@@ -71,7 +97,10 @@ fn plans_and_events_are_refused(rt: HostRuntime) -> Result<(), Fail> {
         let answer = replay_bytes(rt.alloc(), hasher, plan.as_bytes(), schedule.as_bytes());
         let told = printed(rt.alloc(), answer)?;
         assert_eq!(rt; told.as_slice(), line.as_bytes(), "{number}");
-        assert!(rt; is_explained(rt.alloc(), number, line.as_bytes())?, "{number}");
+        assert!(rt;
+            is_explained(rt.alloc(), number, line.as_bytes())?,
+            "{number}"
+        );
     }
     Ok(())
 }
@@ -107,16 +136,34 @@ fn headers_are_refused(rt: HostRuntime) -> Result<(), Fail> {
     let rows: [(u8, usize, [u32; 10], &str); 5] = [
         (30, 0, [0; 10], "error 30 Truncated"),
         (31, 40, [0; 10], "error 31 BadMagic"),
-        (32, 40, [MAGIC, 0, 0, 0, 0, 0, 0, 0, 0, 0], "error 32 BadVersion"),
-        (33, 40, [MAGIC, 0, 0, 0, 0, 17, 0, 0, 0, 0], "error 33 BadLayout"),
-        (34, 56, [MAGIC, 56, 40, 40, 40, 17, 16, 0, 0, 0], "error 34 BadToken"),
+        (
+            32,
+            40,
+            [MAGIC, 0, 0, 0, 0, 0, 0, 0, 0, 0],
+            "error 32 BadVersion",
+        ),
+        (
+            33,
+            40,
+            [MAGIC, 0, 0, 0, 0, 17, 0, 0, 0, 0],
+            "error 33 BadLayout",
+        ),
+        (
+            34,
+            56,
+            [MAGIC, 56, 40, 40, 40, 17, 16, 0, 0, 0],
+            "error 34 BadToken",
+        ),
     ];
     for (number, len, words, line) in rows {
         let blob = blob(rt.alloc(), words, b"")?;
         let front = blob.as_slice().get(..len).ok_or("short")?;
         let told = printed(rt.alloc(), dump_bytes(rt.alloc(), front))?;
         assert_eq!(rt; told.as_slice(), line.as_bytes(), "{number}");
-        assert!(rt; is_explained(rt.alloc(), number, line.as_bytes())?, "{number}");
+        assert!(rt;
+            is_explained(rt.alloc(), number, line.as_bytes())?,
+            "{number}"
+        );
     }
     Ok(())
 }
@@ -129,20 +176,32 @@ fn structures_are_refused(rt: HostRuntime) -> Result<(), Fail> {
         // The root has the child `a`, and then the property `a`, whose name is the child's.
         (
             36,
-            44,
+            40,
             b"\0\0\0\x01\0\0\0\0\0\0\0\x01a\0\0\0\0\0\0\x02\0\0\0\x03\0\0\0\0\0\0\0\0\0\0\0\x02\0\0\0\x09",
             "error 36 PropertyAfterNode",
         ),
         // The root is called `a`.
-        (37, 16, b"\0\0\0\x01a\0\0\0\0\0\0\x02\0\0\0\x09", "error 37 BadTree"),
+        (
+            37,
+            16,
+            b"\0\0\0\x01a\0\0\0\0\0\0\x02\0\0\0\x09",
+            "error 37 BadTree",
+        ),
     ];
     for (number, len, structure, line) in rows {
         let words = [MAGIC, 56 + len, 56, 68, 40, 17, 16, 0, 2, len];
-        let words = if number == 36 { words } else { [MAGIC, 56 + len, 56, 40, 40, 17, 16, 0, 0, len] };
+        let words = if number == 36 {
+            words
+        } else {
+            [MAGIC, 56 + len, 56, 40, 40, 17, 16, 0, 0, len]
+        };
         let blob = blob(rt.alloc(), words, structure)?;
         let told = printed(rt.alloc(), dump_bytes(rt.alloc(), blob.as_slice()))?;
         assert_eq!(rt; told.as_slice(), line.as_bytes(), "{number}");
-        assert!(rt; is_explained(rt.alloc(), number, line.as_bytes())?, "{number}");
+        assert!(rt;
+            is_explained(rt.alloc(), number, line.as_bytes())?,
+            "{number}"
+        );
     }
     Ok(())
 }

@@ -7,4 +7,4 @@ returns-in_err-tree-clause-refused c =
     let e = c.in_err-tree.field-0.0 in
     let of_read = c.in_err-tree.ensures in
     refused c.args.blob.now e c.from_residual.result c.from_residual.ensures.1
-    (explained c.args.blob.now e of_read.only of_read.too_large of_read.truncated of_read.bad_magic of_read.bad_version)
+    (explained c.args.blob.now e of_read.only of_read.too_large of_read.truncated of_read.bad_magic of_read.bad_version of_read.no_end)

@@ -1,0 +1,36 @@
+-- What the getters answer is what the parse met.
+use Rattle.std.proofs.Common.{codes}
+use Rattle.clap.specs.Words.{rows_of}
+use Rattle.clap.specs.Matches.{found_of}
+use Rattle.dtman.proofs.MetLemmas.{met, value}
+use Rattle.dtman.proofs.command_line.chosen.Goals as goal
+
+pub returns-in_ok-get_str-in-dump : goal.returns-in_ok-get_str-in-dump
+returns-in_ok-get_str-in-dump c =
+    let given = c.in_ok-name.given.now in
+    record {
+      name = c.in_ok-name.name.now;
+      rows = rows_of (found_of given);
+      given = met c.args.matches.now c.in_ok-name.name.now (rows_of (found_of given)) c.in_ok-name.ensures.name c.in_ok-name.ensures.rows;
+      is_met = (c.in-dump.is, value given (codes "IN") c.in_ok-get_str-in-dump.field-0.now c.in_ok-get_str-in-dump.ensures);
+    }
+
+pub returns-in_ok-get_str-in-replay-2 : goal.returns-in_ok-get_str-in-replay-2
+returns-in_ok-get_str-in-replay-2 c =
+    let given = c.in_ok-name.given.now in
+    record {
+      name = c.in_ok-name.name.now;
+      rows = rows_of (found_of given);
+      given = met c.args.matches.now c.in_ok-name.name.now (rows_of (found_of given)) c.in_ok-name.ensures.name c.in_ok-name.ensures.rows;
+      is_met = (c.in-replay.is, value given (codes "PLAN") c.in_ok-get_str-in-replay.field-0.now c.in_ok-get_str-in-replay.ensures, value given (codes "SCHEDULE") c.in_ok-get_str-in-replay-2.field-0.now c.in_ok-get_str-in-replay-2.ensures);
+    }
+
+pub returns-in_ok-get_str-in-explain : goal.returns-in_ok-get_str-in-explain
+returns-in_ok-get_str-in-explain c =
+    let given = c.in_ok-name.given.now in
+    record {
+      name = c.in_ok-name.name.now;
+      rows = rows_of (found_of given);
+      given = met c.args.matches.now c.in_ok-name.name.now (rows_of (found_of given)) c.in_ok-name.ensures.name c.in_ok-name.ensures.rows;
+      is_met = (c.in-explain.is, value given (codes "NUMBER") c.in_ok-get_str-in-explain.field-0.now c.in_ok-get_str-in-explain.ensures);
+    }
