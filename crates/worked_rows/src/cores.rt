@@ -333,8 +333,8 @@ fn tells_who_has_settled(rt: HostRuntime) -> Result<(), Fail> {
     Ok(())
 }
 
-// Once the core is made its events take no memory. Run with `--fail-alloc N..`, which refuses each request from the Nth
-// on, this test finds the same answers wherever N is behind the core.
+// Once the core is made its events take no memory. Run with `--fail-alloc N`, which refuses the Nth request, this test
+// finds the same answers unless that is one of the plan's or the core's.
 #[test]
 fn events_take_no_memory(rt: HostRuntime) -> Result<(), Fail> {
     let Ok(plan) = read_plan(
