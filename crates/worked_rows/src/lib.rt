@@ -4,24 +4,24 @@
 #![tactic(auto)]
 
 #[cfg(test)]
-mod plans;
-#[cfg(test)]
-mod cores;
-#[cfg(test)]
-mod trees;
-#[cfg(test)]
 mod blobs;
 #[cfg(test)]
-mod lexemes;
-#[cfg(test)]
-mod expressions;
-#[cfg(test)]
-mod sources;
+mod cores;
 #[cfg(test)]
 mod drafts;
 #[cfg(test)]
 mod drivers;
 #[cfg(test)]
+mod engines;
+#[cfg(test)]
+mod expressions;
+#[cfg(test)]
+mod lexemes;
+#[cfg(test)]
+mod plans;
+#[cfg(test)]
 mod runs;
 #[cfg(test)]
-mod engines;
+mod sources;
+#[cfg(test)]
+mod trees;
