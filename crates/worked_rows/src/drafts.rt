@@ -1,5 +1,8 @@
 //! Edits of a tree that is being built.
 use dt_draft::{Draft, LabelError};
+use dt_edit::{EditError, edit_body};
+use dt_source::{Item, Part, parse};
+use std::alloc::Global;
 use std::hash::RandomState;
 use std::test::Fail;
 
@@ -8,16 +11,11 @@ use std::test::Fail;
 fn children_are_defined_and_removed(rt: HostRuntime) -> Result<(), Fail> {
     let hasher = RandomState::new(&rt)?;
     let mut draft: Draft<'_, u32> = Draft::new(rt.alloc(), hasher);
-    let rows: [(&[u8], usize, (usize, bool)); 5] = [
-        (b"a", 1, (1, true)),
-        (b"b", 1, (2, true)),
-        (b"a", 1, (1, false)),
-        (b"a", 2, (1, true)),
-        (b"a", 2, (1, false)),
-    ];
-    for (name, body, made) in rows {
-        assert_eq!(rt; draft.define_child(0, name, body)?, made);
-    }
+    assert_eq!(rt; draft.define_child(0, b"a", 1)?, (1, true));
+    assert_eq!(rt; draft.define_child(0, b"b", 1)?, (2, true));
+    assert_eq!(rt; draft.define_child(0, b"a", 1)?, (1, false));
+    assert_eq!(rt; draft.define_child(0, b"a", 2)?, (1, true));
+    assert_eq!(rt; draft.define_child(0, b"a", 2)?, (1, false));
     assert_eq!(rt; draft.child(0, b"a"), Some(1));
     assert_eq!(rt; draft.child(0, b"c"), None);
     draft.remove_child(0, b"a");
@@ -25,6 +23,9 @@ fn children_are_defined_and_removed(rt: HostRuntime) -> Result<(), Fail> {
     assert_eq!(rt; draft.child(0, b"a"), None);
     assert_eq!(rt; draft.define_child(0, b"a", 2)?, (3, false));
     assert_eq!(rt; draft.define_child(0, b"a", 3)?, (3, true));
+    let (last, _) = draft.define_child(0, b"c", 3)?;
+    draft.remove_node(last);
+    assert_eq!(rt; draft.child(0, b"c"), None);
     Ok(())
 }
 
@@ -48,8 +49,8 @@ fn properties_are_set_and_removed(rt: HostRuntime) -> Result<(), Fail> {
 #[test]
 fn labels_are_given_and_lost(rt: HostRuntime) -> Result<(), Fail> {
     let hasher = RandomState::new(&rt)?;
-    let mut draft: Draft<'_, u32> = Draft::new(rt.alloc(), hasher);
     let labels: [&[u8]; 2] = [b"a", b"b"];
+    let mut draft: Draft<'_, u32> = Draft::new(rt.alloc(), hasher);
     let (x, _) = draft.define_child(0, b"x", 1)?;
     assert_eq!(rt; draft.is_in_tree(x), true);
     assert_eq!(rt; draft.give_labels(&labels, x), Ok(()));
@@ -63,6 +64,51 @@ fn labels_are_given_and_lost(rt: HostRuntime) -> Result<(), Fail> {
     assert_eq!(rt; draft.give_label(b"a", z), Ok(()));
     assert_eq!(rt; draft.give_label(b"a", z), Ok(()));
     assert_eq!(rt; draft.labelled(b"a"), Some(z));
+    Ok(())
+}
+
+// How the bodies of the root end, of which the text has one or two.
+fn edited(alloc: Global, hasher: RandomState, text: &[u8]) -> Result<Result<(), EditError>, Fail> {
+    let source = parse(alloc, text)?;
+    let mut draft: Draft<'_, &[Part<'_>]> = Draft::new(alloc, hasher);
+    match source.items.as_slice() {
+        [Item::Root(body)] => Ok(edit_body(&mut draft, 0, 0, body.as_slice())),
+        [Item::Root(first), Item::Root(second)] => {
+            if let Err(error) = edit_body(&mut draft, 0, 0, first.as_slice()) {
+                return Ok(Err(error));
+            }
+            Ok(edit_body(&mut draft, 0, 0, second.as_slice()))
+        }
+        _ => Ok(Ok(())),
+    }
+}
+
+/// Rows `merge-and-delete` and `lost-label`: how their edits end.
+#[test]
+fn bodies_are_edited(rt: HostRuntime) -> Result<(), Fail> {
+    let hasher = RandomState::new(&rt)?;
+    let rows: [(&[u8], Result<(), EditError>); 5] = [
+        (
+            b"/dts-v1/; / { a { x = <1>; y; }; b { }; }; / { a { x = <2>; z; }; /delete-node/ b; };",
+            Ok(()),
+        ),
+        (b"/dts-v1/; / { x; x; };", Err(EditError::DuplicateInBody)),
+        (
+            b"/dts-v1/; / { a { }; /delete-node/ a; a { }; };",
+            Err(EditError::DuplicateInBody),
+        ),
+        (
+            b"/dts-v1/; / { a: x { }; a: y { }; };",
+            Err(EditError::DuplicateLabel),
+        ),
+        (
+            b"/dts-v1/; / { a: x { }; /delete-node/ x; a: y { }; };",
+            Ok(()),
+        ),
+    ];
+    for (text, ended) in rows {
+        assert_eq!(rt; edited(rt.alloc(), hasher, text)?, ended);
+    }
     Ok(())
 }
 
