@@ -18,8 +18,14 @@ fn driver_files_are_refused_in_line_order(rt: HostRuntime) -> Result<(), Fail> {
         (b"drivers x c", PlanError::BadLine(1)),
         (b"compatible / s", PlanError::BadLine(1)),
         (b"#\n\ndriver x c\r\r\n", PlanError::BadLine(3)),
-        (b"driver x c\ndriver y c\ndriver x d\n", PlanError::DuplicateDriver(3)),
-        (b"driver x c\ndriver x d\nfail\n", PlanError::DuplicateDriver(2)),
+        (
+            b"driver x c\ndriver y c\ndriver x d\n",
+            PlanError::DuplicateDriver(3),
+        ),
+        (
+            b"driver x c\ndriver x d\nfail\n",
+            PlanError::DuplicateDriver(2),
+        ),
         (b"driver x c\n# \x7f\ndriver x d\n", PlanError::BadLine(2)),
     ];
     for (text, error) in rows {
@@ -32,7 +38,8 @@ fn driver_files_are_refused_in_line_order(rt: HostRuntime) -> Result<(), Fail> {
 /// A driver file that is read: drivers with their strings, and the lines that fail a device.
 #[test]
 fn driver_files_are_read(rt: HostRuntime) -> Result<(), Fail> {
-    let text = b"# drivers\n\ndriver fixed fixed-clock\n  fail\t/ \r\ndriver ns ns16550a ns16550a x,\"y\"\nfail /uart";
+    let text =
+        b"# drivers\n\ndriver fixed fixed-clock\n  fail\t/ \r\ndriver ns ns16550a ns16550a x,\"y\"\nfail /uart";
     let set = read_drivers(rt.alloc(), RandomState::new(&rt)?, text)?;
     set.check();
     let [fixed, ns] = set.drivers() else {
