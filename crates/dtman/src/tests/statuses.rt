@@ -101,9 +101,9 @@ fn tells_refusals_on_standard_error_alone(rt: HostRuntime) -> Result<(), Fail> {
     for (words, status, printed, told) in rows {
         let mut shelf = Shelf::new(rt.alloc(), FILES.as_slice(), RandomState::new(&rt)?);
         let traces = run_over(&rt, words, &mut shelf, None);
-        assert_eq!(rt; traces.status, status, "{told}");
-        assert_eq!(rt; traces.output.as_slice(), printed.as_bytes(), "{told}");
-        assert_eq!(rt; traces.errors.as_str(), told);
+        assert_eq!(rt; traces.errors.as_bytes(), told.as_bytes());
+        assert_eq!(rt; traces.status, status);
+        assert_eq!(rt; traces.output.as_slice(), printed.as_bytes());
     }
     Ok(())
 }
