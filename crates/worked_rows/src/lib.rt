@@ -6,10 +6,6 @@
 #[cfg(test)]
 mod blobs;
 #[cfg(test)]
-mod cores;
-#[cfg(test)]
-mod drafts;
-#[cfg(test)]
 mod drivers;
 #[cfg(test)]
 mod engines;
