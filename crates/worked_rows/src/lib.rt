@@ -14,8 +14,6 @@ mod expressions;
 #[cfg(test)]
 mod lexemes;
 #[cfg(test)]
-mod plans;
-#[cfg(test)]
 mod runs;
 #[cfg(test)]
 mod sources;

@@ -2,8 +2,8 @@
 
 ghost use Rattle.std.specs.Prelude.{◌≡◌};
 
-use bus_core::{Refusal, Reply, Report};
-use bus_manager::{Keeper, MAX_WORKERS, Prober, RunError, Seen, TableProber, run};
+use bus_core::Report;
+use bus_manager::{MAX_WORKERS, Prober, RunError, Seen, TableProber, run};
 use bus_plan::{Device, Plan, read_plan};
 use std::alloc::Global;
 use std::hash::RandomState;
@@ -169,55 +169,5 @@ fn one_report_by_any_workers(rt: HostRuntime) -> Result<(), Fail> {
             "by {workers}"
         );
     }
-    Ok(())
-}
-
-#[test]
-fn keeper_by_hand(rt: HostRuntime) -> Result<(), Fail> {
-    let plan = read_plan(
-        rt.alloc(),
-        RandomState::new(&rt)?,
-        b"/uart ns ok /clk\n/clk fixed ok\n",
-    )?;
-    let clk = plan.device(b"/clk").ok_or("no device")?;
-    let uart = plan.device(b"/uart").ok_or("no device")?;
-    let mut keeper = Keeper::new(rt.alloc(), plan.copy(rt.alloc())?)?;
-    keeper.check();
-    let (one, seen) = keeper.take()?.ok_or("nothing due")?;
-    let (other, _) = keeper.take()?.ok_or("nothing due")?;
-    assert!(rt; keeper.take()?.is_none());
-    let (needing, supplying) = if one.device == uart {
-        (one, other)
-    } else {
-        (other, one)
-    };
-    assert!(rt; !seen.contains(clk) && !seen.contains(uart));
-    assert_eq!(rt;
-        TableProber.probe(&plan, uart, &seen),
-        (Report::Missing(clk), uart)
-    );
-    assert_eq!(rt;
-        keeper.finish(&needing, Report::Missing(clk))?,
-        Reply::Waiting
-    );
-    assert_eq!(rt; keeper.finish(&supplying, Report::Settled)?, Reply::Bound);
-    let (again, seen) = keeper.take()?.ok_or("nothing due")?;
-    assert_eq!(rt; again.device, uart);
-    assert!(rt; seen.contains(clk) && !seen.contains(uart));
-    assert_eq!(rt;
-        TableProber.probe(&plan, uart, &seen),
-        (Report::Settled, uart)
-    );
-    keeper.abandon(uart)?;
-    assert_eq!(rt;
-        keeper.finish(&again, Report::Settled),
-        Err(Refusal::StaleTicket)
-    );
-    assert_eq!(rt; keeper.abandon(uart), Err(Refusal::NotInFlight));
-    let (last, _) = keeper.take()?.ok_or("nothing due")?;
-    assert_eq!(rt; keeper.finish(&last, Report::Settled)?, Reply::Bound);
-    assert!(rt; keeper.core().is_quiet());
-    let report = "/uart bound ns\n/clk bound fixed\nquiet\n";
-    assert_eq!(rt; keeper.report(rt.alloc())?.as_slice(), report.as_bytes());
     Ok(())
 }
