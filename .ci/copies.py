@@ -3,7 +3,7 @@
 import re
 import sys
 
-TESTED = "crates/worked_rows/src/sources/board.rt"
+TESTED = "crates/source_rows/src/sources/board.rt"
 ESCAPES = {"n": "\n", "t": "\t", '"': '"', "\\": "\\"}
 
 

@@ -8,7 +8,7 @@ TEXT = r'"(?:[^"\\]|\\.)*"'
 ENTRY = re.compile(rf"(\d+) => Some\(\(\s*({TEXT}),\s*({TEXT}),\s*({TEXT}),\s*({TEXT}),\s*\)\)")
 HEAD = """# Errors
 
-`dtman` tells a refusal in one line on standard error, `error NUMBER NAME`, behind it the line, the event or the path where there is one. `dtman explain NUMBER` prints its entry. This page is made by `.ci/errors.py` from the same texts; the inputs are tried by the tests in `crates/worked_rows/src/engines/errors.rt`.
+`dtman` tells a refusal in one line on standard error, `error NUMBER NAME`, behind it the line, the event or the path where there is one. `dtman explain NUMBER` prints its entry. This page is made by `.ci/errors.py` from the same texts; the inputs are tried by the tests in `crates/engine_rows/src/engines/errors.rt`.
 """
 
 

@@ -41,26 +41,27 @@ const ROWS: [(&str, &str, &str, &[bool]); 5] = [
     ),
 ];
 
+// Whether each device that should have settled left its own note, and no other one did.
+fn are_noted(notes: &[Option<Device>], settled: &[bool]) -> bool {
+    notes.len() == settled.len()
+        && notes.iter().zip(settled).enumerate().all(|(index, (note, is_settled))| *note
+            == is_settled.then_some(Device::new(index)))
+}
+
 #[test]
 fn runs(rt: HostRuntime) -> Result<(), Fail> {
-    for (name, plan, report, settled) in ROWS {
-        let plan = read_plan(rt.alloc(), RandomState::new(&rt)?, plan.as_bytes())?;
+    let hasher = RandomState::new(&rt)?;
+    for (name, text, report, settled) in ROWS {
         for workers in [1, 2, MAX_WORKERS] {
+            let plan = read_plan(rt.alloc(), hasher, text.as_bytes())?;
             let ran = run(&rt, rt.alloc(), &plan, &TableProber, workers)?;
+            let is_noted = are_noted(ran.notes.as_slice(), settled);
+            assert!(rt; is_noted, "{name} by {workers}");
             assert_eq!(rt;
                 ran.report.as_slice(),
                 report.as_bytes(),
                 "{name} by {workers}"
             );
-            assert_eq!(rt; ran.notes.len(), settled.len(), "{name} by {workers}");
-            for (index, note) in ran.notes.iter().enumerate() {
-                let device = Device::new(index);
-                assert_eq!(rt;
-                    *note,
-                    settled[index].then_some(device),
-                    "{name} by {workers}"
-                );
-            }
         }
     }
     Ok(())

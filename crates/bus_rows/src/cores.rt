@@ -1,0 +1,444 @@
+//! Events of the probing core, and schedules.
+
+ghost use Rattle.std.specs.Prelude.{◌<◌, length, OnOk};
+
+use bus_core::{
+    Core, Outcome, Refusal, Reply, Report, Settle, Status, Ticket, end_report_is_one,
+    events_keep_history, quiet_is_least, quiet_report_is_the_end, read_schedule, replay,
+    replay_goes_on, replay_is_after, replay_keeps_history, replay_stops, suppliers_come_first,
+};
+use bus_plan::{Device, PlanError, read_plan};
+use std::alloc::Global;
+use std::hash::RandomState;
+use std::process::Abort;
+use std::test::Fail;
+
+const CLOCK_AND_UART: &str = "/clk fixed ok\n/uart ns ok /clk\n";
+
+// A core that begins with the plan of this text.
+fn opened(alloc: Global, hasher: RandomState, text: &[u8]) -> Result<Core, Fail> {
+    let plan = read_plan(alloc, hasher, text)?;
+    Ok(Core::new(alloc, plan)?)
+}
+
+// The device at a path of the core's plan.
+fn at(core: &Core, path: &[u8]) -> Result<Device, Fail> {
+    Ok(core.plan().device(path).ok_or("no device")?)
+}
+
+// The core's calls ask that a device is the plan's. The next four look before they call.
+fn is_of_plan(core: &Core, device: Device) -> Result<(), Fail>
+    ensures { OnOk result (device < length core.now.plan) }
+{
+    if device.index() < core.plan().len() {
+        Ok(())
+    } else {
+        Err("not of the plan".into())
+    }
+}
+
+fn begin(core: &mut Core, device: Device) -> Result<Ticket, Fail> {
+    is_of_plan(core, device)?;
+    Ok(core.begin(device)?)
+}
+
+fn finish(
+    core: &mut Core,
+    ticket: &Ticket,
+    report: Report,
+) -> Result<Result<Reply, Refusal>, Fail> {
+    is_of_plan(core, ticket.device)?;
+    Ok(core.finish(ticket, report))
+}
+
+fn abandon(core: &mut Core, device: Device) -> Result<Result<(), Refusal>, Fail> {
+    is_of_plan(core, device)?;
+    Ok(core.abandon(device))
+}
+
+fn status(core: &Core, device: Device) -> Result<Status, Fail> {
+    is_of_plan(core, device)?;
+    Ok(core.status(device))
+}
+
+// The line of a schedule's fault.
+fn fault_line(alloc: Global, fault: &PlanError) -> Result<Vec<u8>, Fail> {
+    let line = fault.line().ok_or("no line")?;
+    let (number, name) = (fault.number(), fault.name());
+    Ok(format!(in alloc; "error {number} {name} line {line}")?.into_bytes())
+}
+
+// The report of a replay, or the event that it refused.
+fn told(alloc: Global, replayed: Result<Core, (usize, Refusal)>) -> Result<Vec<u8>, Fail> {
+    match replayed {
+        Ok(core) => Ok(core.report(alloc)?),
+        Err((event, refusal)) => {
+            let (number, name) = (refusal.number(), refusal.name());
+            Ok(format!(in alloc; "error {number} {name} event {event}")?.into_bytes())
+        }
+    }
+}
+
+// What the replay of a plan and a schedule gives.
+fn replayed(
+    alloc: Global,
+    hasher: RandomState,
+    plan: &[u8],
+    schedule: &[u8],
+) -> Result<Vec<u8>, Fail> {
+    let plan = read_plan(alloc, hasher, plan)?;
+    match read_schedule(alloc, &plan, schedule) {
+        Ok(events) => told(alloc, replay(alloc, plan, events.as_slice())),
+        Err(fault) => fault_line(alloc, &fault),
+    }
+}
+
+const ROWS: [(&str, &str, &str, &str); 22] = [
+    ("empty-plan", "", "", "quiet\n"),
+    (
+        "missing-then-due",
+        CLOCK_AND_UART,
+        "begin /uart\nbegin /clk\nfinish /clk settled\nfinish /uart missing /clk\n",
+        "/clk bound fixed\n/uart due\nbusy\n",
+    ),
+    (
+        "missing-of-a-bound",
+        CLOCK_AND_UART,
+        "begin /clk\nfinish /clk settled\nbegin /uart\nfinish /uart missing /clk\n",
+        "error 64 WasBound event 4",
+    ),
+    (
+        "refused-events",
+        CLOCK_AND_UART,
+        "finish /clk settled\n",
+        "error 66 NotInFlight event 1",
+    ),
+    (
+        "refused-events",
+        CLOCK_AND_UART,
+        "begin /uart\nfinish /uart settled\n",
+        "error 63 NotReady event 2",
+    ),
+    (
+        "refused-events",
+        CLOCK_AND_UART,
+        "begin /nix\n",
+        "error 53 UnknownPath line 1",
+    ),
+    (
+        "defer-then-due",
+        CLOCK_AND_UART,
+        "begin /uart\nfinish /uart missing /clk\n",
+        "/clk due\n/uart waiting /clk\nbusy\n",
+    ),
+    (
+        "defer-then-due",
+        CLOCK_AND_UART,
+        "begin /uart\nfinish /uart missing /clk\nbegin /clk\nfinish /clk settled\n",
+        "/clk bound fixed\n/uart due\nbusy\n",
+    ),
+    (
+        "abandon-counts",
+        CLOCK_AND_UART,
+        "begin /uart\nabandon /uart\n",
+        "/clk due\n/uart waiting /clk\nbusy\n",
+    ),
+    (
+        "cycle-by-schedule",
+        "/a x ok /b\n/b y ok /a\n",
+        "begin /a\nfinish /a missing /b\nbegin /b\nfinish /b missing /a\n",
+        "/a waiting /b\n/b waiting /a\nquiet\n",
+    ),
+    (
+        "failed-supplier",
+        "/s x fail\n/d y ok /s\n",
+        "begin /s\nfinish /s settled\nbegin /d\nfinish /d missing /s\n",
+        "/s failed x\n/d waiting /s\nquiet\n",
+    ),
+    (
+        "diamond",
+        "/a x ok\n/b x ok /a\n/c x ok /a\n/d x ok /b /c\n",
+        "begin /d\nfinish /d missing /b\nbegin /a\nfinish /a settled\nbegin /b\nfinish /b settled\n",
+        "/a bound x\n/b bound x\n/c due\n/d waiting /c\nbusy\n",
+    ),
+    (
+        "in flight",
+        CLOCK_AND_UART,
+        "begin /clk\nbegin /clk\n",
+        "error 60 NotIdle event 2",
+    ),
+    (
+        "probing",
+        CLOCK_AND_UART,
+        "begin /clk\n",
+        "/clk probing\n/uart due\nbusy\n",
+    ),
+    (
+        "unmatched",
+        "/a - -\n/b ! -\n",
+        "",
+        "/a unmatched\n/b disabled\nquiet\n",
+    ),
+    (
+        "unmatched",
+        "/a - -\n/b ! -\n",
+        "begin /b\n",
+        "error 61 Unmatched event 1",
+    ),
+    (
+        "skipped lines",
+        CLOCK_AND_UART,
+        "# none\n\n \tabandon\t/uart \r\n",
+        "error 66 NotInFlight event 1",
+    ),
+    (
+        "no path",
+        CLOCK_AND_UART,
+        "\nbegin nix\n",
+        "error 50 BadLine line 2",
+    ),
+    (
+        "the root",
+        CLOCK_AND_UART,
+        "begin /\n",
+        "error 53 UnknownPath line 1",
+    ),
+    (
+        "two forms",
+        CLOCK_AND_UART,
+        "finish /nix missing clk\n",
+        "error 50 BadLine line 1",
+    ),
+    (
+        "carriage return",
+        CLOCK_AND_UART,
+        "begin /clk\r",
+        "error 50 BadLine line 1",
+    ),
+    (
+        "other words",
+        CLOCK_AND_UART,
+        "finish /clk failed\n",
+        "error 50 BadLine line 1",
+    ),
+];
+
+#[test]
+fn replays(rt: HostRuntime) -> Result<(), Fail> {
+    let hasher = RandomState::new(&rt)?;
+    for (name, plan, schedule, report) in ROWS {
+        let answer = replayed(rt.alloc(), hasher, plan.as_bytes(), schedule.as_bytes())?;
+        assert_eq!(rt; answer.as_slice(), report.as_bytes(), "{name}");
+    }
+    Ok(())
+}
+
+// What a probe of the device would answer now: the last supplier that isn't bound, if there is one.
+fn answer_of(core: &Core, device: Device) -> Result<Report, Fail> {
+    is_of_plan(core, device)?;
+    let mut report = Report::Settled;
+    for supplier in core.plan().suppliers(device) {
+        if !core.is_bound(*supplier) {
+            report = Report::Missing(*supplier);
+        }
+    }
+    Ok(report)
+}
+
+// Begins and finishes whatever is due, each probe as its driver would answer, and counts the begins.
+fn drain(core: &mut Core) -> Result<usize, Fail> {
+    for begins in 0..2_000 {
+        let Some(device) = core.next() else {
+            return Ok(begins);
+        };
+        let report = answer_of(core, device)?;
+        let ticket = begin(core, device)?;
+        let _reply = finish(core, &ticket, report)??;
+    }
+    Err("it never ends".into())
+}
+
+const DRAINED: [(&str, &str, &str); 4] = [
+    (
+        "clock-and-uart",
+        CLOCK_AND_UART,
+        "/clk bound fixed\n/uart bound ns\nquiet\n",
+    ),
+    (
+        "cycle-waits",
+        "/a x ok /b\n/b y ok /a\n",
+        "/a waiting /b\n/b waiting /a\nquiet\n",
+    ),
+    (
+        "failed-supplier",
+        "/s x fail\n/d y ok /s\n",
+        "/s failed x\n/d waiting /s\nquiet\n",
+    ),
+    (
+        "failed-supplier",
+        "/s ! -\n/d y ok /s\n",
+        "/s disabled\n/d waiting /s\nquiet\n",
+    ),
+];
+
+// The report once nothing is due.
+fn drained(alloc: Global, core: &mut Core) -> Result<Vec<u8>, Fail> {
+    let _begins = drain(core)?;
+    Ok(core.report(alloc)?)
+}
+
+#[test]
+fn drains(rt: HostRuntime) -> Result<(), Fail> {
+    let hasher = RandomState::new(&rt)?;
+    for (name, plan, report) in DRAINED {
+        let mut core = opened(rt.alloc(), hasher, plan.as_bytes())?;
+        let answer = drained(rt.alloc(), &mut core)?;
+        assert_eq!(rt; answer.as_slice(), report.as_bytes(), "{name}");
+    }
+    Ok(())
+}
+
+// A chain of devices, each but the last with the next one as its supplier.
+fn chain(alloc: Global, length: usize) -> Result<String, Fail> {
+    let mut plan = String::new(alloc);
+    for place in 1..length {
+        plan.push_str(format!(in alloc; "/d{} x ok /d{}\n", place, place + 1)?.as_str())?;
+    }
+    plan.push_str(format!(in alloc; "/d{} x ok\n", length)?.as_str())?;
+    Ok(plan)
+}
+
+fn chain_is_bound(rt: &impl Abort, core: &mut Core) -> Result<(), Fail> {
+    assert_eq!(rt; core.plan().len(), 512);
+    let begins = drain(core)?;
+    assert!(rt; begins <= 1_023);
+    assert_eq!(rt; core.history().len(), 512);
+    assert!(rt; core.is_quiet());
+    Ok(())
+}
+
+/// Row `chain-drain`.
+#[test]
+fn drains_a_chain(rt: HostRuntime) -> Result<(), Fail> {
+    let text = chain(rt.alloc(), 512)?;
+    let mut core = opened(rt.alloc(), RandomState::new(&rt)?, text.as_bytes())?;
+    chain_is_bound(&rt, &mut core)
+}
+
+// The core of row `clock-and-uart`'s plan.
+fn clock_and_uart(alloc: Global, hasher: RandomState) -> Result<Core, Fail> {
+    opened(alloc, hasher, CLOCK_AND_UART.as_bytes())
+}
+
+fn a_stale_ticket_is_refused(rt: &impl Abort, alloc: Global, core: &mut Core) -> Result<(), Fail> {
+    let uart = at(core, b"/uart")?;
+    let first = begin(core, uart)?;
+    abandon(core, uart)??;
+    let second = begin(core, uart)?;
+    assert_eq!(rt; (first.attempt, second.attempt), (1, 2));
+    let before = core.report(alloc)?;
+    let refused = finish(core, &first, Report::Settled)?;
+    assert_eq!(rt; refused, Err(Refusal::StaleTicket));
+    assert_eq!(rt; core.report(alloc)?.as_slice(), before.as_slice());
+    Ok(())
+}
+
+/// Row `stale-ticket`.
+#[test]
+fn refuses_a_stale_ticket(rt: HostRuntime) -> Result<(), Fail> {
+    let mut core = clock_and_uart(rt.alloc(), RandomState::new(&rt)?)?;
+    a_stale_ticket_is_refused(&rt, rt.alloc(), &mut core)
+}
+
+fn the_uart_waits(rt: &impl Abort, core: &mut Core) -> Result<(), Fail> {
+    let (clk, uart) = (at(core, b"/clk")?, at(core, b"/uart")?);
+    let ticket = begin(core, uart)?;
+    assert_eq!(rt; status(core, uart)?, Status::Probing);
+    let reply = finish(core, &ticket, Report::Missing(clk))?;
+    assert_eq!(rt; reply, Ok(Reply::Waiting));
+    assert_eq!(rt; core.next(), Some(clk));
+    assert!(rt; !core.is_quiet());
+    Ok(())
+}
+
+#[test]
+fn defers(rt: HostRuntime) -> Result<(), Fail> {
+    let mut core = clock_and_uart(rt.alloc(), RandomState::new(&rt)?)?;
+    the_uart_waits(&rt, &mut core)
+}
+
+fn the_clock_has_settled(rt: &impl Abort, core: &mut Core) -> Result<(), Fail> {
+    let (clk, uart) = (at(core, b"/clk")?, at(core, b"/uart")?);
+    core.check();
+    assert!(rt; !core.is_bound(clk));
+    let ticket = begin(core, clk)?;
+    let reply = finish(core, &ticket, Report::Settled)?;
+    assert_eq!(rt; reply, Ok(Reply::Bound));
+    assert!(rt; core.is_bound(clk) && !core.is_bound(uart));
+    let settled = [Settle {
+        device: clk,
+        outcome: Outcome::Bound,
+    }];
+    assert_eq!(rt; core.history(), settled.as_slice());
+    Ok(())
+}
+
+#[test]
+fn tells_who_has_settled(rt: HostRuntime) -> Result<(), Fail> {
+    let mut core = clock_and_uart(rt.alloc(), RandomState::new(&rt)?)?;
+    the_clock_has_settled(&rt, &mut core)
+}
+
+// Both devices begun at once: the clock is bound before the uart's probe answers that it misses it.
+fn the_uart_is_due_again(rt: &impl Abort, core: &mut Core) -> Result<(), Fail> {
+    let (clk, uart) = (at(core, b"/clk")?, at(core, b"/uart")?);
+    let deferred = begin(core, uart)?;
+    let settled = begin(core, clk)?;
+    let bound = finish(core, &settled, Report::Settled)?;
+    assert_eq!(rt; bound, Ok(Reply::Bound));
+    let again = finish(core, &deferred, Report::Missing(clk))?;
+    assert_eq!(rt; again, Ok(Reply::Again));
+    assert_eq!(rt; core.next(), Some(uart));
+    Ok(())
+}
+
+fn the_uart_is_bound(rt: &impl Abort, core: &mut Core) -> Result<(), Fail> {
+    let uart = at(core, b"/uart")?;
+    let _dropped = begin(core, uart)?;
+    assert_eq!(rt; abandon(core, uart)?, Ok(()));
+    assert_eq!(rt; status(core, uart)?, Status::Due);
+    let last = begin(core, uart)?;
+    let bound = finish(core, &last, Report::Settled)?;
+    assert_eq!(rt; bound, Ok(Reply::Bound));
+    assert!(rt; core.is_quiet() && core.is_bound(uart));
+    assert_eq!(rt; core.history().len(), 2);
+    Ok(())
+}
+
+// Once the core is made its events take no memory. Run with `--fail-alloc N`, which refuses the Nth request, this test
+// finds the same answers unless that is one of the plan's or the core's.
+#[test]
+fn events_take_no_memory(rt: HostRuntime) -> Result<(), Fail> {
+    let text = CLOCK_AND_UART.as_bytes();
+    let Ok(plan) = read_plan(rt.alloc(), RandomState::new(&rt)?, text) else {
+        return Ok(());
+    };
+    let Ok(mut core) = Core::new(rt.alloc(), plan) else {
+        return Ok(());
+    };
+    the_uart_is_due_again(&rt, &mut core)?;
+    the_uart_is_bound(&rt, &mut core)
+}
+
+#[test]
+fn laws_are_called() {
+    events_keep_history();
+    quiet_is_least();
+    suppliers_come_first();
+    quiet_report_is_the_end();
+    end_report_is_one();
+    replay_is_after();
+    replay_keeps_history();
+    replay_goes_on();
+    replay_stops();
+}

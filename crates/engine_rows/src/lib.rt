@@ -1,0 +1,7 @@
+//! The worked rows of the engines, as tables: what a row gives is what the definitions say of it, worked by hand.
+//!
+//! The tests stand here, above the crate of the engines, so that no crate is proved a second time for them.
+#![tactic(auto)]
+
+#[cfg(test)]
+mod engines;

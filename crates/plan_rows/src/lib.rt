@@ -1,0 +1,9 @@
+//! The worked rows of plans and drivers, as tables: what a row gives is what the definitions say of it, worked by hand.
+//!
+//! The tests stand here, above the crates that read the texts of the bus, so that no crate is proved a second time for them.
+#![tactic(auto)]
+
+#[cfg(test)]
+mod drivers;
+#[cfg(test)]
+mod plans;

@@ -1,0 +1,9 @@
+//! The worked rows of trees and blobs, as tables: what a row gives is what the definitions say of it, worked by hand.
+//!
+//! The tests stand here, above the crates of trees, so that no crate is proved a second time for them.
+#![tactic(auto)]
+
+#[cfg(test)]
+mod blobs;
+#[cfg(test)]
+mod trees;
