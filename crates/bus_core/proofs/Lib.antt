@@ -9,4 +9,5 @@ pub mod ReplayLaws
 pub mod ReplayLemmas
 pub mod ReportLemmas
 pub mod SetLemmas
+pub mod SettlingLemmas
 pub mod SoundLemmas

@@ -1,12 +1,12 @@
 //! The text of a schedule.
 
-ghost use Rattle.std.specs.Prelude.{◌≡◌, ◌<◌, ◌++◌, ◌⊎◌, length, map, option_to_list, All, IfOk, IfSome, OnOk, MatchResult};
+ghost use Rattle.std.specs.Prelude.{◌≡◌, ◌<◌, ◌++◌, ◌⊎◌, length, option_to_list, All, IfOk, IfSome, OnOk, MatchResult};
 ghost use Rattle.bus_plan.specs.Plan.{device_at};
 ghost use Rattle.bus_core.specs.Replay.{IsEventOf};
 ghost use Rattle.bus_core.specs.Schedule.{event_of_two, event_of_three, event_of_four, event_of, line_meaning, schedule_of};
 
 use crate::event::{Event, Report};
-use bus_plan::{Device, Plan, PlanError, fields_of, is_line, is_skipped, lines_of};
+use bus_plan::{Device, Fields, Plan, PlanError, is_line, lines_of};
 use dt_tree::is_path;
 use std::alloc::{AllocError, Global};
 
@@ -88,35 +88,37 @@ fn event_of_four(
     Ok(Event::Finish(device, Report::Missing(supplier)))
 }
 
-fn event_of(plan: &Plan, number: usize, fields: &[&[u8]]) -> Result<Event, PlanError>
-    ensures event { result ≡ event_of plan.now number (map (λ f. f.now) fields.now) }
+// The event of a line with these fields: two, three or four of them. A fifth is the last that is asked for.
+fn event_of(plan: &Plan, number: usize, mut fields: Fields<'_>) -> Result<Event, PlanError>
+    ensures event { result ≡ event_of plan.now number fields.entry }
     ensures within { IfOk result (IsEventOf plan.now) }
 {
-    match fields {
-        [word, path] => event_of_two(plan, number, word, path),
-        [word, path, said] => event_of_three(plan, number, word, path, said),
-        [word, path, said, supplier] => event_of_four(plan, number, word, path, said, supplier),
-        _ => Err(PlanError::BadLine(number)),
+    let word = fields.next().ok_or(PlanError::BadLine(number))?;
+    let path = fields.next().ok_or(PlanError::BadLine(number))?;
+    let Some(said) = fields.next() else {
+        return event_of_two(plan, number, word, path);
+    };
+    let Some(supplier) = fields.next() else {
+        return event_of_three(plan, number, word, path, said);
+    };
+    match fields.next() {
+        None => event_of_four(plan, number, word, path, said, supplier),
+        Some(_) => Err(PlanError::BadLine(number)),
     }
 }
 
-fn read_line(
-    alloc: Global,
-    plan: &Plan,
-    number: usize,
-    line: &[u8],
-) -> Result<Option<Event>, PlanError>
-    ensures line { MatchResult result (λ event. line_meaning plan.now number line.now ≡ Ok event) (λ e. (e ≡ PlanError.NoMemory) ⊎ (line_meaning plan.now number line.now ≡ Err e)) }
+fn read_line(plan: &Plan, number: usize, line: &[u8]) -> Result<Option<Event>, PlanError>
+    ensures line { result ≡ line_meaning plan.now number line.now }
     ensures within { IfOk result (λ event. IfSome event (IsEventOf plan.now)) }
 {
     if !is_line(line) {
         return Err(PlanError::BadLine(number));
     }
-    let fields = fields_of(alloc, line)?;
-    if is_skipped(&fields) {
+    let fields = Fields::of(line);
+    if fields.is_skipped() {
         return Ok(None);
     }
-    match event_of(plan, number, &fields) {
+    match event_of(plan, number, fields) {
         Ok(event) => Ok(Some(event)),
         Err(error) => Err(error),
     }
@@ -149,7 +151,7 @@ pub fn read_schedule(alloc: Global, plan: &Plan, text: &[u8]) -> Result<Vec<Even
     let mut number = 0;
     for line in lines_of(text) {
         number += 1;
-        append(&mut events, read_line(alloc, plan, number, line)?)?;
+        append(&mut events, read_line(plan, number, line)?)?;
     }
     Ok(events)
 }

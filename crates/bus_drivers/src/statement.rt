@@ -1,4 +1,4 @@
-ghost use Rattle.std.specs.Prelude.{◌≡◌, ◌⊎◌, IfOk, IfErr, MatchResult, Some, None, map};
+ghost use Rattle.std.specs.Prelude.{◌≡◌, ◌⊎◌, IfOk, IfErr, MatchResult, Some, None};
 ghost use Rattle.bus_plan.specs.declared.error.PlanError.TheVariants.{NoMemory, BadLine};
 ghost use Rattle.bus_plan.specs.Plan.{is_driver_name};
 ghost use Rattle.bus_plan.specs.PlanFile.{Answers};
@@ -6,7 +6,7 @@ ghost use Rattle.bus_drivers.specs.DriverFile.{driver_of, fail_of, statement_of,
 
 use crate::driver::Driver;
 use crate::fail_line::FailLine;
-use bus_plan::{PlanError, fields_of, is_line, is_skipped};
+use bus_plan::{Fields, PlanError, is_line};
 use dt_tree::{Bytes, Name, Path, is_name, is_path};
 use std::alloc::{AllocError, Global};
 
@@ -25,34 +25,36 @@ fn is_driver_name(bytes: &[u8]) -> bool
     is_name(bytes) && bytes != b"-".as_slice()
 }
 
-fn copies_of(alloc: Global, strings: &[&[u8]]) -> Result<Vec<Bytes>, AllocError>
-    ensures { IfOk result (λ copies. copies.items ≡ map (λ s. s.now) strings.now) }
+// The strings that are left of a line, each copied.
+fn copies_of(alloc: Global, strings: Fields<'_>) -> Result<Vec<Bytes>, AllocError>
+    ensures { IfOk result (λ copies. copies.items ≡ strings.entry) }
 {
-    let mut copies = Vec::with_capacity(alloc, strings.len())?;
+    let mut copies = Vec::new(alloc);
     for string in strings {
-        copies.push(Bytes::from_vec(Vec::from_slice(alloc, *string)?))?;
+        copies.push(Bytes::from_vec(Vec::from_slice(alloc, string)?))?;
     }
+    copies.shrink_to_fit();
     Ok(copies)
 }
 
 fn driver_of(
     alloc: Global,
     name: &[u8],
-    compatibles: &[&[u8]],
+    compatibles: Fields<'_>,
 ) -> Result<Option<Statement>, PlanError>
     ensures { MatchResult result
-        (λ s. s ≡ driver_of name.now (map (λ c. c.now) compatibles.now)) (λ e. e ≡ NoMemory) }
+        (λ s. s ≡ driver_of name.now compatibles.entry) (λ e. e ≡ NoMemory) }
 {
-    if compatibles.is_empty() {
+    if !is_driver_name(name) {
         return Ok(None);
     }
-    if !is_driver_name(name) {
+    let compatibles = copies_of(alloc, compatibles)?;
+    if compatibles.is_empty() {
         return Ok(None);
     }
     let Ok(name) = Name::new(alloc, name) else {
         return Err(PlanError::NoMemory);
     };
-    let compatibles = copies_of(alloc, compatibles)?;
     Ok(Some(Statement::Matches(Driver::new(name, compatibles))))
 }
 
@@ -60,12 +62,12 @@ fn fail_of(
     alloc: Global,
     number: usize,
     path: &[u8],
-    more: &[&[u8]],
+    mut more: Fields<'_>,
 ) -> Result<Option<Statement>, PlanError>
     ensures { MatchResult result
-        (λ s. s ≡ fail_of number path.now (map (λ f. f.now) more.now)) (λ e. e ≡ NoMemory) }
+        (λ s. s ≡ fail_of number path.now more.entry) (λ e. e ≡ NoMemory) }
 {
-    if !more.is_empty() {
+    if more.next().is_some() {
         return Ok(None);
     }
     if !is_path(path) {
@@ -80,17 +82,20 @@ fn fail_of(
 fn statement_of(
     alloc: Global,
     number: usize,
-    fields: &[&[u8]],
+    mut fields: Fields<'_>,
 ) -> Result<Option<Statement>, PlanError>
     ensures { MatchResult result
-        (λ s. s ≡ statement_of number (map (λ f. f.now) fields.now)) (λ e. e ≡ NoMemory) }
+        (λ s. s ≡ statement_of number fields.entry) (λ e. e ≡ NoMemory) }
 {
-    let [word, first, more @ ..] = fields else {
+    let Some(word) = fields.next() else {
         return Ok(None);
     };
-    match *word {
-        b"driver" => driver_of(alloc, first, more),
-        b"fail" => fail_of(alloc, number, first, more),
+    let Some(first) = fields.next() else {
+        return Ok(None);
+    };
+    match word {
+        b"driver" => driver_of(alloc, first, fields),
+        b"fail" => fail_of(alloc, number, first, fields),
         _ => Ok(None),
     }
 }
@@ -103,11 +108,11 @@ impl Statement {
         if !is_line(line) {
             return Err(PlanError::BadLine(number));
         }
-        let fields = fields_of(alloc, line)?;
-        if is_skipped(&fields) {
+        let fields = Fields::of(line);
+        if fields.is_skipped() {
             return Ok(None);
         }
-        match statement_of(alloc, number, &fields)? {
+        match statement_of(alloc, number, fields)? {
             None => Err(PlanError::BadLine(number)),
             Some(statement) => Ok(Some(statement)),
         }

@@ -21,7 +21,7 @@ impl<'a> Model for Fields<'a> {
     ghost invariant = { λ left. BeginsFilled left.rest.now };
 }
 
-pub fn is_blank(byte: u8) -> bool
+fn is_blank(byte: u8) -> bool
     ensures { result ≡ is_blank byte }
 {
     byte == b' ' || byte == b'\t'

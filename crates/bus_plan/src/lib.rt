@@ -24,7 +24,7 @@ pub use error::PlanError;
 pub use fields::Fields;
 pub use laws::plan_text_is_read_back;
 pub use limits::MAX_DEVICES;
-pub use lines::{fields_of, is_line, is_line_byte, is_skipped, lines_of};
+pub use lines::{is_line, is_line_byte, lines_of};
 pub use paths::PathIndex;
 pub use plan::Plan;
 pub use planned::Planned;

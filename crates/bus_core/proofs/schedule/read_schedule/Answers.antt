@@ -7,7 +7,7 @@ pub loop-line-preserved : goal.loop-line-preserved
 loop-line-preserved c = record {
   counted = omega (arith, c.loop-line.invariant.counted, ap length c.in-Some.ensures.steps);
   rest = sym (schedule-read c.args.plan.now c.loop-line.number c.in-Some.line.now c.next.new.self c.loop-line.line-iterator c.loop-line.events.items c.append.new.events.items c.in_ok-read_line.field-0
-      c.in-Some.ensures.steps c.in_ok-read_line.ensures.line c.in_ok-append.ensures)
+      c.in-Some.ensures.steps (sym c.in_ok-read_line.ensures.line) c.in_ok-append.ensures)
       ∙ c.loop-line.invariant.rest;
   within = all-appended (IsEventOf c.args.plan.now) c.loop-line.events.items c.append.new.events.items c.in_ok-read_line.field-0
       c.loop-line.invariant.within c.in_ok-read_line.ensures.within c.in_ok-append.ensures;

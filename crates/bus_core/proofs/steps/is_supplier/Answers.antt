@@ -1,4 +1,4 @@
-use Rattle.std.proofs.Common.{◌≡◌, eqb, length, ap, sym, ◌∙◌, arith}
+use Rattle.std.proofs.Common.{eqb, length, ap, sym, ◌∙◌, arith}
 use Rattle.std.specs.List.{list_any}
 use Rattle.bus_plan.specs.Plan.{suppliers_of}
 use Rattle.bus_core.proofs.CountLemmas.{among-consumers, no-supplier}
