@@ -7,6 +7,8 @@ chains        100,000 names of 255 bytes that have 250 others as tails, and then
 tails         property names that are tails of one another
 small-nodes   1,000,000 nodes without properties
 wide-node     100,000 children of one node
+deep          15,000 stems, 64 nodes deep each, with one property a node
+only-child    400,000 nodes with one child each, which has one property
 one-value     one property of 200 MB
 nops          a NOP before each token of 200,000 nodes with a property
 board-150k    a board of the largest size met in practice
@@ -82,6 +84,34 @@ def wide_node():
     return blob
 
 
+def deep():
+    blob = Blob()
+    blob.begin(b"")
+    for stem in range(15_000):
+        blob.begin(b"s%d" % stem)
+        for level in range(63):
+            blob.property(b"reg", struct.pack(">I", level))
+            blob.begin(b"n")
+        blob.property(b"reg", struct.pack(">I", 63))
+        for level in range(64):
+            blob.end()
+    blob.end()
+    return blob
+
+
+def only_child():
+    blob = Blob()
+    blob.begin(b"")
+    for number in range(400_000):
+        blob.begin(b"n%d" % number)
+        blob.begin(b"c")
+        blob.property(b"reg", struct.pack(">I", number))
+        blob.end()
+        blob.end()
+    blob.end()
+    return blob
+
+
 def one_value():
     blob = Blob()
     blob.begin(b"")
@@ -133,6 +163,8 @@ INPUTS = {
     "tails": tails,
     "small-nodes": small_nodes,
     "wide-node": wide_node,
+    "deep": deep,
+    "only-child": only_child,
     "one-value": one_value,
     "nops": nops,
     "board-150k": lambda: board(56),

@@ -18,6 +18,8 @@ pieces          5 million empty pieces of one value
 names           8 million empty properties of one node, named by one byte
 strings         3 million properties that hold an empty string
 chains          4 million nodes, each the only one of another, 63 deep
+deep            3 million nodes, 64 deep, with a property each
+only-child      2 million nodes with one child each
 labelled        2 million empty nodes with a label each
 board           the items of the example board, again and again
 """
@@ -50,6 +52,8 @@ INPUTS = {
     "names": filled(HEAD, b"a;", b"};"),
     "strings": filled(HEAD, b'a="";', b"};"),
     "chains": filled(HEAD, b"a{" * 63 + b"};" * 63, b"};"),
+    "deep": filled(HEAD, b"a{b;" * 64 + b"};" * 64, b"};"),
+    "only-child": filled(HEAD, b"a{b{};};", b"};"),
     "labelled": filled(HEAD, b"a:b{};", b"};"),
 }
 

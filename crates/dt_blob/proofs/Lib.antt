@@ -4,6 +4,7 @@ pub mod Holding
 pub mod Lasting
 pub mod Laying
 pub mod Lines
+pub mod Marks
 pub mod Places
 pub mod Refusals
 pub mod Sizes

@@ -2,6 +2,8 @@
 use Rattle.std.proofs.Common.{◌≡◌, ℕ, suc, ◌+◌, ◌*◌, ◌/◌, ◌%◌, ◌<◌, ◌≤◌, Bool, true, false, List, [], ◌∷◌, ◌++◌, length, take, drop, get_or, refl, sym, ap, ◌∙◌, arith, length-append, length-drop, append_assoc, drop-cons}
 use Rattle.std.proofs.lemmas.Bool.{eqb-true}
 use Rattle.std.specs.Prelude.{◌==◌, ◌||◌, codes, if◌then◌else◌}
+use Rattle.dt_blob.specs.declared.value_form.ValueForm.TheVariants as form
+use Rattle.dt_blob.specs.Steps.Printed.{form_of}
 use Rattle.dt_blob.specs.SourceText.{hex_of, space, are_strings, character, comma, strings_text, cells_text, pairs_text, value_text, value_part}
 
 four : (xs : List ℕ) (i : ℕ) → i + 4 ≤ length xs → drop i xs ≡ get_or xs i 0 ∷ get_or xs (suc i) 0 ∷ get_or xs (suc (suc i)) 0 ∷ get_or xs (suc (suc (suc i))) 0 ∷ drop (suc (suc (suc (suc i)))) xs
@@ -102,15 +104,35 @@ text-else true t a b c p q = absurd (cc)
 text-else false true a b c p q = absurd (cc)
 text-else false false a b c p q = refl
 
-pub length-by_cells : (v : List ℕ) → are_strings false v ≡ false → (length v % 4 == 0) ≡ true → length v % 4 ≡ 0 → length v / 4 * 11 + 1 ≡ length (value_text v)
+length-by_cells : (v : List ℕ) → are_strings false v ≡ false → (length v % 4 == 0) ≡ true → length v % 4 ≡ 0 → length v / 4 * 11 + 1 ≡ length (value_text v)
 length-by_cells v s t m =
     let e = text-by (are_strings false v) (length v % 4 == 0) (34 ∷ strings_text false v) (60 ∷ (cells_text false v ++ 62 ∷ [])) (91 ∷ (pairs_text false v ++ 93 ∷ [])) s t in
     omega (arith, ap length e, length-append (cells_text false v) (62 ∷ []), length-cells v (omega (arith, not-none v s)))
 
-pub length-by_pairs : (v : List ℕ) → are_strings false v ≡ false → (length v % 4 == 0) ≡ false → length v * 3 + 1 ≡ length (value_text v)
+length-by_pairs : (v : List ℕ) → are_strings false v ≡ false → (length v % 4 == 0) ≡ false → length v * 3 + 1 ≡ length (value_text v)
 length-by_pairs v s t =
     let e = text-else (are_strings false v) (length v % 4 == 0) (34 ∷ strings_text false v) (60 ∷ (cells_text false v ++ 62 ∷ [])) (91 ∷ (pairs_text false v ++ 93 ∷ [])) s t in
     omega (arith, ap length e, length-append (pairs_text false v) (93 ∷ []), length-pairs v (not-none v s))
+
+form-cells : (s t : Bool) → form.Cells ≡ (if s then form.Strings else (if t then form.Cells else form.Pairs)) → (s ≡ false) × (t ≡ true)
+form-cells true t e = absurd (cc)
+form-cells false true e = (refl, refl)
+form-cells false false e = absurd (cc)
+
+form-pairs : (s t : Bool) → form.Pairs ≡ (if s then form.Strings else (if t then form.Cells else form.Pairs)) → (s ≡ false) × (t ≡ false)
+form-pairs true t e = absurd (cc)
+form-pairs false true e = absurd (cc)
+form-pairs false false e = (refl, refl)
+
+pub length-in_cells : (v : List ℕ) → form.Cells ≡ form_of v → length v / 4 * 11 + 1 ≡ length (value_text v)
+length-in_cells v e =
+    let parts = form-cells (are_strings false v) (length v % 4 == 0) e in
+    length-by_cells v parts.0 parts.1 (eqb-true (length v % 4) 0 parts.1)
+
+pub length-in_pairs : (v : List ℕ) → form.Pairs ≡ form_of v → length v * 3 + 1 ≡ length (value_text v)
+length-in_pairs v e =
+    let parts = form-pairs (are_strings false v) (length v % 4 == 0) e in
+    length-by_pairs v parts.0 parts.1
 
 -- a text is no shorter than its value
 value-by : (s t : Bool) (v : List ℕ) → are_strings false v ≡ s → (length v % 4 == 0) ≡ t → length v ≤ length (value_text v)

@@ -2,12 +2,13 @@
 ghost use Rattle.std.specs.Prelude.{◌≡◌, ◌≤◌, ◌++◌, length, OnOk, MatchResult};
 ghost use Rattle.dt_blob.specs.Blob.{limit};
 ghost use Rattle.dt_blob.specs.BigEndian.{double_word};
-ghost use Rattle.dt_blob.specs.Steps.Printed.{Prints};
+ghost use Rattle.dt_blob.specs.Steps.Printed.{Prints, form_of};
 ghost use Rattle.dt_blob.specs.SourceText.{hex_of, tabs, value_part, property_line, property_lines, begin_line, end_line, node_lines, reserve_line, reserve_lines, text_of};
 ghost use Rattle.dt_blob.specs.Blob.{Refuses};
 
 use crate::error::BlobError;
 use crate::room::check_pieces;
+use crate::value_form::{ValueForm, form_of};
 use crate::value_text::{put_hex, put_value, value_len};
 use byteorder::{BigEndian, ByteOrder};
 use dt_tree::{Node, Property, Tree};
@@ -22,17 +23,24 @@ fn put_tabs(out: &mut Vec<u8>, depth: usize) -> Result<(), AllocError>
     Ok(())
 }
 
-fn value_part_len(value: &[u8]) -> usize
-    requires { length value.now ≤ limit }
+fn value_part_len(form: ValueForm, value: &[u8]) -> usize
+    requires form { form ≡ form_of value.now }
+    requires fits { length value.now ≤ limit }
     ensures { result ≡ length (value_part value.now) }
 {
     if value.is_empty() {
         return 2;
     }
-    5 + value_len(value)
+    5 + value_len(form, value)
 }
 
-fn put_property_line(out: &mut Vec<u8>, depth: usize, property: &Property) -> Result<(), AllocError>
+fn put_property_line(
+    out: &mut Vec<u8>,
+    depth: usize,
+    property: &Property,
+    form: ValueForm,
+) -> Result<(), AllocError>
+    requires { form ≡ form_of property.now.value }
     ensures { OnOk result (out.new.items ≡ out.old.items ++ property_line depth property.now) }
 {
     put_tabs(out, depth)?;
@@ -42,7 +50,7 @@ fn put_property_line(out: &mut Vec<u8>, depth: usize, property: &Property) -> Re
         return out.extend_from_slice(b";\n");
     }
     out.extend_from_slice(b" = ")?;
-    put_value(out, value)?;
+    put_value(out, form, value)?;
     out.extend_from_slice(b";\n")
 }
 
@@ -53,8 +61,9 @@ fn put_property(out: &mut Vec<u8>, depth: usize, property: &Property) -> Result<
     let name = property.name.as_bytes();
     let value = property.value.as_slice();
     check_pieces(out.len(), &[value.len()])?;
-    check_pieces(out.len(), &[depth, name.len(), value_part_len(value)])?;
-    put_property_line(out, depth, property)?;
+    let form = form_of(value);
+    check_pieces(out.len(), &[depth, name.len(), value_part_len(form, value)])?;
+    put_property_line(out, depth, property, form)?;
     Ok(())
 }
 

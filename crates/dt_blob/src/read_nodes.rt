@@ -105,14 +105,17 @@ fn end(alloc: Global, progress: Progress) -> Result<Progress, BlobError>
     }
 }
 
+// The node without the spare room that its lists grew by.
 fn closed(alloc: Global, top: OpenNode) -> Result<Node, BlobError>
     ensures { Gives (λ n. n) result (node_of (opened_of top)) }
 {
     let OpenNode {
         name,
-        properties,
-        children,
+        mut properties,
+        mut children,
     } = top;
+    properties.shrink_to_fit();
+    children.shrink_to_fit();
     Ok(Node::new(alloc, name, properties, children)?)
 }
 

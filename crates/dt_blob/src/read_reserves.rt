@@ -19,6 +19,7 @@ pub(crate) fn read_reserves(alloc: Global, bytes: &[u8]) -> Result<Vec<(u64, u64
         let address = long(rest);
         let size = long(behind(rest, 8));
         if address == 0 && size == 0 {
+            reserves.shrink_to_fit();
             return Ok(reserves);
         }
         rest = behind(rest, 16);

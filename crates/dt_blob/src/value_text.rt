@@ -1,8 +1,12 @@
 //! A property's value as it stands in a source.
-ghost use Rattle.std.specs.Prelude.{◌≡◌, ◌+◌, ◌*◌, ◌≤◌, ◌++◌, ◌∷◌, [], false, length, OnOk};
+ghost use Rattle.std.specs.Prelude.{◌≡◌, ◌==◌, ◌+◌, ◌*◌, ◌≤◌, ◌++◌, ◌∷◌, [], true, false, length, OnOk, IfSome, MatchOption};
 ghost use Rattle.dt_blob.specs.Blob.{limit};
-ghost use Rattle.dt_blob.specs.SourceText.{hex_digit, hex_of, space, is_printable, are_strings, character, strings_text, cells_text, pairs_text, value_text};
+ghost use Rattle.dt_blob.specs.SourceText.{hex_digit, hex_of, space, strings_text, cells_text, pairs_text, value_text};
+ghost use Rattle.dt_blob.specs.Steps.Printed.{form_of, is_mark, mark_text};
 
+use crate::parts::{behind, first};
+use crate::value_form::ValueForm;
+use memchr::memchr3;
 use std::alloc::AllocError;
 
 fn hex_digit(number: u8) -> u8
@@ -27,59 +31,42 @@ pub(crate) fn put_hex(out: &mut Vec<u8>, bytes: &[u8]) -> Result<(), AllocError>
     Ok(())
 }
 
-fn is_printable(byte: u8) -> bool
-    ensures { result ≡ is_printable byte }
+/// The bytes that are printed as they are, the mark that ends them, and what is behind it.
+fn split_mark(text: &[u8]) -> Option<(&[u8], u8, &[u8])>
+    ensures text { MatchOption result (strings_text false text.now ≡ text.now) (λ x. strings_text false text.now ≡ x.0.now ++ (mark_text x.1 (length x.2.now == 0) ++ strings_text false x.2.now)) }
+    ensures mark { IfSome result (λ x. is_mark x.1 ≡ true) }
+    ensures len { IfSome result (λ x. length text.now ≡ length x.0.now + 1 + length x.2.now) }
 {
-    32 <= byte && byte <= 126
+    let Some(place) = memchr3(0, b'"', b'\\', text) else {
+        return None;
+    };
+    Some((first(text, place), text[place], behind(text, place + 1)))
 }
 
-fn are_strings(value: &[u8]) -> bool
-    ensures { result ≡ are_strings false value.now }
+fn put_mark(out: &mut Vec<u8>, mark: u8, is_last: bool) -> Result<(), AllocError>
+    requires { is_mark mark ≡ true }
+    ensures { OnOk result (out.new.items ≡ out.old.items ++ mark_text mark is_last) }
 {
-    let mut begun = false;
-    for byte in value {
-        if *byte == 0 {
-            if !begun {
-                return false;
-            }
-            begun = false;
-        } else {
-            if !is_printable(*byte) {
-                return false;
-            }
-            begun = true;
-        }
+    if mark != 0 {
+        return out.extend_from_slice(&[b'\\', mark]);
     }
-    !begun
-}
-
-fn put_character(out: &mut Vec<u8>, byte: u8) -> Result<(), AllocError>
-    ensures { OnOk result (out.new.items ≡ out.old.items ++ character byte) }
-{
-    if byte == 0 {
-        out.push(b'"')?;
-        return Ok(());
+    if is_last {
+        return out.extend_from_slice(b"\"");
     }
-    if byte == b'"' || byte == b'\\' {
-        out.push(b'\\')?;
-    }
-    out.push(byte)?;
-    Ok(())
+    out.extend_from_slice(b"\", \"")
 }
 
 fn put_strings(out: &mut Vec<u8>, value: &[u8]) -> Result<(), AllocError>
     ensures { OnOk result (out.new.items ≡ out.old.items ++ 34 ∷ strings_text false value.now) }
 {
     out.push(b'"')?;
-    let mut ended = false;
-    for byte in value {
-        if ended {
-            out.extend_from_slice(b", \"")?;
-        }
-        put_character(out, *byte)?;
-        ended = *byte == 0;
+    let mut rest = value;
+    while let Some((plain, mark, behind)) = split_mark(rest) {
+        out.extend_from_slice(plain)?;
+        put_mark(out, mark, behind.is_empty())?;
+        rest = behind;
     }
-    Ok(())
+    out.extend_from_slice(rest)
 }
 
 fn put_space(out: &mut Vec<u8>, later: bool) -> Result<(), AllocError>
@@ -120,16 +107,30 @@ fn put_pairs(out: &mut Vec<u8>, value: &[u8]) -> Result<(), AllocError>
     Ok(())
 }
 
-pub(crate) fn put_value(out: &mut Vec<u8>, value: &[u8]) -> Result<(), AllocError>
+/// A value in its form.
+pub(crate) fn put_value(out: &mut Vec<u8>, form: ValueForm, value: &[u8]) -> Result<(), AllocError>
+    requires { form ≡ form_of value.now }
     ensures { OnOk result (out.new.items ≡ out.old.items ++ value_text value.now) }
 {
-    if are_strings(value) {
-        return put_strings(out, value);
+    match form {
+        ValueForm::Strings => put_strings(out, value),
+        ValueForm::Cells => put_cells(out, value),
+        ValueForm::Pairs => put_pairs(out, value),
     }
-    if value.len() % 4 == 0 {
-        return put_cells(out, value);
+}
+
+fn mark_len(mark: u8, is_last: bool) -> usize
+    requires { is_mark mark ≡ true }
+    ensures value { result ≡ length (mark_text mark is_last) }
+    ensures bound { result ≤ 4 }
+{
+    if mark != 0 {
+        return 2;
     }
-    put_pairs(out, value)
+    if is_last {
+        return 1;
+    }
+    4
 }
 
 fn strings_len(value: &[u8]) -> usize
@@ -138,32 +139,24 @@ fn strings_len(value: &[u8]) -> usize
     ensures bound { result ≤ 5 * length value.now }
 {
     let mut len = 0;
-    let mut ended = false;
-    for byte in value {
-        if ended {
-            len += 3;
-        }
-        len += if *byte == b'"' || *byte == b'\\' {
-            2
-        } else {
-            1
-        };
-        ended = *byte == 0;
+    let mut rest = value;
+    while let Some((plain, mark, behind)) = split_mark(rest) {
+        len += plain.len() + mark_len(mark, behind.is_empty());
+        rest = behind;
     }
-    len
+    len + rest.len()
 }
 
-/// The length of a value's text.
-pub(crate) fn value_len(value: &[u8]) -> usize
-    requires { length value.now ≤ limit }
+/// The length of the text of a value in its form.
+pub(crate) fn value_len(form: ValueForm, value: &[u8]) -> usize
+    requires form { form ≡ form_of value.now }
+    requires fits { length value.now ≤ limit }
     ensures value { result ≡ length (value_text value.now) }
     ensures bound { result ≤ 5 * length value.now + 1 }
 {
-    if are_strings(value) {
-        return 1 + strings_len(value);
+    match form {
+        ValueForm::Strings => 1 + strings_len(value),
+        ValueForm::Cells => value.len() / 4 * 11 + 1,
+        ValueForm::Pairs => value.len() * 3 + 1,
     }
-    if value.len() % 4 == 0 {
-        return value.len() / 4 * 11 + 1;
-    }
-    value.len() * 3 + 1
 }

@@ -14,8 +14,8 @@ returns-then-rest-lt16 c = inr (refl, joins_short c.pairs.rest.now _ _ c.if-rest
 
 pub returns-then-size-eq0 : goal.returns-then-size-eq0
 returns-then-size-eq0 c =
-    joins_last c.pairs.rest.now _ _ c.if-rest-lt16.false (sym c.long-address.ensures ∙ c.if-address-eq0.true)
-    (sym (c.long-size.ensures ∙ ap (big_number 8) c.behind.ensures) ∙ c.if-size-eq0.true) c.pairs.invariant
+    rw c.shrink_to_fit.ensures.items (joins_last c.pairs.rest.now _ _ c.if-rest-lt16.false (sym c.long-address.ensures ∙ c.if-address-eq0.true)
+    (sym (c.long-size.ensures ∙ ap (big_number 8) c.behind.ensures) ∙ c.if-size-eq0.true) c.pairs.invariant)
 
 pub pairs-preserved : goal.pairs-preserved
 pairs-preserved c =
