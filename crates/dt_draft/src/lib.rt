@@ -8,8 +8,10 @@ mod draft;
 mod index;
 mod keyed;
 mod labels;
+mod paths;
 mod properties;
 mod table;
+mod ways;
 
 pub use labels::LabelError;
 pub use table::Draft;
