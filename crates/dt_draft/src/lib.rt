@@ -10,8 +10,9 @@ mod keyed;
 mod labels;
 mod paths;
 mod properties;
+mod rows;
 mod table;
 mod ways;
 
 pub use labels::LabelError;
-pub use table::Draft;
+pub use table::{Draft, NodeRow, PropertyRow};
