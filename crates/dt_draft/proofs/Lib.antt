@@ -8,4 +8,5 @@ pub mod PathTests
 pub mod PropertyRows
 pub mod Shown
 pub mod Tables
+pub mod WaysDown
 pub mod Worn

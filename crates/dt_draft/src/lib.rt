@@ -8,8 +8,11 @@ mod draft;
 mod index;
 mod keyed;
 mod labels;
+mod paths;
 mod properties;
+mod rows;
 mod table;
+mod ways;
 
 pub use labels::LabelError;
-pub use table::Draft;
+pub use table::{Draft, NodeRow, PropertyRow};

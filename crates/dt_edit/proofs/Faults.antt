@@ -2,7 +2,7 @@
 use Rattle.std.proofs.Common.{◌≡◌, Result, Err, refl, sym, ap, ◌∙◌, subst}
 use Rattle.dt_meaning.specs.Statements.{Fault, then_do}
 use Rattle.dt_edit.specs.declared.error.EditError.{EditError}
-use Rattle.dt_edit.specs.declared.error.EditError.TheVariants.{NoMemory, DuplicateLabel, DuplicateInBody, TooDeep}
+use Rattle.dt_edit.specs.declared.error.EditError.TheVariants.{NoMemory, UnknownLabel, DuplicateLabel, UnknownPath, DuplicateInBody, ReservedName, TooDeep}
 use Rattle.dt_meaning.specs.Statements as meaning
 use Rattle.dt_draft.specs.declared.labels.LabelError.{LabelError}
 use Rattle.dt_draft.specs.declared.labels.LabelError.TheVariants as labels
@@ -11,14 +11,20 @@ use Rattle.dt_edit.specs.LabelFault.{edit_error}
 
 pub fault-then : {A B : Type 0} (e : EditError) (r : Result A Fault) (f : A → Result B Fault) → IsFault e r → IsFault e (then_do r f)
 fault-then NoMemory r f h = h
+fault-then UnknownLabel r f h = ap (λ x. then_do x f) h
 fault-then DuplicateLabel r f h = ap (λ x. then_do x f) h
+fault-then UnknownPath r f h = ap (λ x. then_do x f) h
 fault-then DuplicateInBody r f h = ap (λ x. then_do x f) h
+fault-then ReservedName r f h = ap (λ x. then_do x f) h
 fault-then TooDeep r f h = ap (λ x. then_do x f) h
 
 pub fault-same : {A : Type 0} (e : EditError) (r r' : Result A Fault) → r' ≡ r → IsFault e r → IsFault e r'
 fault-same NoMemory r r' same h = h
+fault-same UnknownLabel r r' same h = same ∙ h
 fault-same DuplicateLabel r r' same h = same ∙ h
+fault-same UnknownPath r r' same h = same ∙ h
 fault-same DuplicateInBody r r' same h = same ∙ h
+fault-same ReservedName r r' same h = same ∙ h
 fault-same TooDeep r r' same h = same ∙ h
 
 -- a label that isn't given

@@ -1,4 +1,5 @@
 pub mod Faults
+pub mod ItemSteps
 pub mod Reading
 pub mod Steps
 pub mod Views

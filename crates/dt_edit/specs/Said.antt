@@ -3,7 +3,7 @@ use Rattle.std.specs.Prelude.{List, map}
 use denote.Ref.{Bor}
 use Rattle.dt_source.specs.declared.tree.Part.{Part}
 use Rattle.dt_source.specs.Tree as said
-use Rattle.dt_meaning.specs.Syntax.{Target, OfLabel, OfPath, Piece, Plain, PhandleOf, PathOf, Entry, Defines, Undefines, Child, Removes, Body, Done, Then}
+use Rattle.dt_meaning.specs.Syntax.{Target, OfLabel, OfPath, Piece, Plain, PhandleOf, PathOf, Entry, Defines, Undefines, Child, Removes, Body, Done, Then, Edit, Rooted, Extends, Deletes}
 use Rattle.dt_meaning.specs.Edits.{State, Definition, definition}
 use Rattle.dt_draft.specs.declared.table.Draft.{Draft}
 use Rattle.dt_draft.specs.Rows.{state_of}
@@ -27,6 +27,11 @@ abbrev mutual
   pub body_of : said.Body → Body (List Piece)
   body_of said.Done = Done
   body_of (said.Then e b) = Then (entry_of e) (body_of b)
+
+abbrev pub item_of : said.Edit → Edit
+item_of (said.Rooted b) = Rooted (body_of b)
+item_of (said.Extends ls t b) = Extends ls (target_of t) (body_of b)
+item_of (said.Deletes t) = Deletes (target_of t)
 
 -- the value of a property as the text has it
 abbrev pub Parts : Type 0

@@ -9,8 +9,11 @@ use std::alloc::AllocError;
 #[derive(Debug, Clone, Copy, PartialEq, Eq, Drop)]
 pub enum EditError {
     NoMemory,
+    UnknownLabel,
     DuplicateLabel,
+    UnknownPath,
     DuplicateInBody,
+    ReservedName,
     TooDeep,
 }
 

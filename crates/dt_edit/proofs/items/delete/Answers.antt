@@ -1,0 +1,14 @@
+use Rattle.std.proofs.Common.{◌≡◌, ◌-◌, suc, arith}
+use Rattle.dt_source.specs.Tree.{target_view}
+use Rattle.dt_draft.specs.Rows.{node_path}
+use Rattle.dt_edit.specs.Said as said
+use Rattle.dt_edit.proofs.ItemSteps.{node-deleted, not-root}
+use Rattle.dt_edit.proofs.items.delete.Goals as goal
+
+pub returns-clause-item : goal.returns-clause-item
+returns-clause-item c =
+    let old = c.args.draft.now in
+    let node = c.in_ok-node.node in
+    let at : node ≡ suc (node - 1) = omega (arith, c.if-node-eq0.false) in
+    node-deleted old c.remove_node.new.self (said.target_of (target_view c.args.target.now)) (node_path old node) c.in_ok-node.ensures.node
+    (not-root old c.requires.sound node (node - 1) at) c.remove_node.ensures.state

@@ -1,0 +1,58 @@
+use Rattle.std.proofs.Common.{◌≡◌, length, map, refl, ap, ap₂, ◌∙◌, arith}
+use Rattle.std.specs.List.{flat_map}
+use Rattle.dt_meaning.specs.References.{held}
+use Rattle.dt_draft.specs.Index.{row_of}
+use Rattle.dt_draft.specs.Rows.{path_of, stands, shown, property_at}
+use Rattle.dt_layout.specs.Private.Walks.{children_to, laid_at, properties_to, rows_walk}
+use Rattle.dt_layout.proofs.Each.{each-all}
+use Rattle.dt_layout.proofs.Orders.{Stands, in-preorder, order-stands, as_shown, all-held}
+use Rattle.dt_layout.proofs.layout.lay_out.Goals as goal
+
+pub lay_properties-requires-clause-known : goal.lay_properties-requires-clause-known
+lay_properties-requires-clause-known g c i below =
+    omega (arith, c.requires.known i, ap (λ rs. (property_at rs i).node) c.properties.ensures, ap length c.nodes-2.ensures)
+
+pub lay_properties-requires-clause-nodes : goal.lay_properties-requires-clause-nodes
+lay_properties-requires-clause-nodes g c k d below =
+    let da = c.args.draft.now in
+    let rows = da.nodes.items in
+    let order : c.as_slice.result.now ≡ rows_walk 64 (children_to rows (length rows)) 0 =
+    c.as_slice.ensures.value ∙ c.in_ok-nodes.ensures ∙ ap (λ rs. rows_walk 64 (children_to rs (length rs)) 0) c.nodes.ensures in
+    let all = order-stands rows (row_of da.node_rows) c.requires.grown c.requires.nodes 64 c.as_slice.result.now order in
+    omega (arith, ap length c.nodes-2.ensures, (each-all (Stands rows (row_of da.node_rows) c.requires.grown c.requires.nodes) c.as_slice.result.now all k d below).0)
+
+pub returns-clause-nodes : goal.returns-clause-nodes
+returns-clause-nodes g c =
+    let da = c.args.draft.now in
+    let rows = da.nodes.items in
+    in-preorder rows (row_of da.node_rows) c.requires.grown c.requires.nodes 64 c.in_ok-nodes.nodes.items refl
+    (c.in_ok-nodes.ensures ∙ ap (λ rs. rows_walk 64 (children_to rs (length rs)) 0) c.nodes.ensures)
+
+pub returns-clause-known : goal.returns-clause-known
+returns-clause-known g c k d below =
+    let da = c.args.draft.now in
+    let rows = da.nodes.items in
+    let order = c.in_ok-nodes.ensures ∙ ap (λ rs. rows_walk 64 (children_to rs (length rs)) 0) c.nodes.ensures in
+    let all = order-stands rows (row_of da.node_rows) c.requires.grown c.requires.nodes 64 c.in_ok-nodes.nodes.items order in
+    (each-all (Stands rows (row_of da.node_rows) c.requires.grown c.requires.nodes) c.in_ok-nodes.nodes.items all k d below).0
+
+pub returns-clause-there : goal.returns-clause-there
+returns-clause-there g c k d below =
+    let da = c.args.draft.now in
+    let rows = da.nodes.items in
+    let order = c.in_ok-nodes.ensures ∙ ap (λ rs. rows_walk 64 (children_to rs (length rs)) 0) c.nodes.ensures in
+    let all = order-stands rows (row_of da.node_rows) c.requires.grown c.requires.nodes 64 c.in_ok-nodes.nodes.items order in
+    (each-all (Stands rows (row_of da.node_rows) c.requires.grown c.requires.nodes) c.in_ok-nodes.nodes.items all k d below).1
+
+pub returns-clause-properties : goal.returns-clause-properties
+returns-clause-properties g c =
+    let da = c.args.draft.now in
+    let rows = da.nodes.items in
+    let ps = da.properties.items in
+    let nodes = c.in_ok-nodes.nodes.items in
+    let order = c.in_ok-nodes.ensures ∙ ap (λ rs. rows_walk 64 (children_to rs (length rs)) 0) c.nodes.ensures in
+    let all = order-stands rows (row_of da.node_rows) c.requires.grown c.requires.nodes 64 nodes order in
+    ap (map (as_shown rows (row_of da.node_rows) c.requires.grown c.requires.nodes ps))
+    (c.in_ok-properties.ensures ∙ ap₂ (λ rs ns. flat_map (λ n. flat_map (laid_at rs) (properties_to rs (length rs) n)) ns) c.properties.ensures c.as_slice.ensures.value)
+    ∙ all-held rows (row_of da.node_rows) c.requires.grown c.requires.nodes ps nodes all
+    ∙ ap (flat_map (held (shown (path_of rows) (stands rows) ps))) (in-preorder rows (row_of da.node_rows) c.requires.grown c.requires.nodes 64 nodes refl order)

@@ -1,0 +1,3 @@
+-- What private contracts cite: how far the code has come. No public clause rests on it.
+pub mod Lists
+pub mod Walks

@@ -1,0 +1,13 @@
+//! The order of a draft's tree: its nodes in preorder, and their properties node by node.
+//!
+//! The Devicetree Specification v0.4, section 6.3, and `dt_meaning` say what the order means.
+#![tactic(auto)]
+
+mod children;
+mod layout;
+mod lists;
+mod properties;
+mod walk;
+
+pub use layout::{Layout, lay_out};
+pub use properties::Laid;
