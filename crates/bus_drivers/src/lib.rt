@@ -7,6 +7,9 @@ mod driver_set;
 mod fail_line;
 mod reading;
 mod statement;
+mod survey;
+mod target;
+mod tree_device;
 
 pub use driver::Driver;
 pub use driver_set::DriverSet;
