@@ -44,7 +44,7 @@ entries root = entry [] (root.properties ∷ []) None ∷ entries_among [] (root
 abbrev pub own_properties : List (List Property) → List Property
 own_properties [] = []
 own_properties (p ∷ []) = p
-own_properties (p ∷ q ∷ more) = own_properties (q ∷ more)
+own_properties (p ∷ q ∷ ps) = own_properties (q ∷ ps)
 
 abbrev pub is_device_entry : Entry → Bool
 is_device_entry e = not (length e.way == 0) && is_compatible (own_properties e.chain)
