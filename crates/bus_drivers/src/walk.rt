@@ -1,0 +1,64 @@
+//! One walk over a tree, from the root down.
+ghost use Rattle.std.specs.Prelude.{◌≡◌, ◌≤◌, ◌⊎◌, ◌&&◌, ◌∷◌, ◌++◌, [], ℕ, nat_eq, length, IfOk, IfErr, OnOk, MatchResult};
+ghost use Rattle.bus_plan.specs.declared.error.PlanError.TheVariants.{NoMemory};
+ghost use Rattle.bus_plan.specs.declared.limits.TheConstants.{MAX_DEVICES};
+ghost use Rattle.dt_tree.specs.PhandleWalk.{or_else};
+ghost use Rattle.indexmap.specs.IndexMap.{get};
+ghost use Rattle.bus_drivers.specs.Nodes.{is_compatible, is_okay};
+ghost use Rattle.bus_drivers.specs.Private.Entries.{device_here};
+ghost use Rattle.bus_drivers.specs.Private.Walk.{own_device, devices_at, devices_in_tree, own_target, target_at, target_in_tree, Refuses};
+
+use crate::status::{is_compatible, is_okay};
+use crate::target::Target;
+use crate::tree_device::TreeDevice;
+use bus_plan::{Device, MAX_DEVICES, PlanError};
+use dt_tree::{Node, Path, is_reserved_name};
+use indexmap::IndexMap;
+use std::alloc::{AllocError, Global};
+use std::hash::RandomState;
+
+/// What the nodes above say of a node: whether all of them are okay, and which device they belong to.
+#[derive(Clone, Copy)]
+pub struct Above {
+    available: bool,
+    device: Option<Device>,
+}
+
+/// A walk: the way to where it is, each name behind a slash, the devices so far, and the first node with each phandle.
+#[derive(Drop)]
+pub struct Walk<'t> {
+    way: Vec<u8>,
+    pub devices: Vec<TreeDevice<'t>>,
+    pub targets: IndexMap<u32, Target<'t>, RandomState>,
+}
+
+fn lengthen(way: &mut Vec<u8>, name: &[u8]) -> Result<(), AllocError>
+    ensures { OnOk result (way.new.items ≡ way.old.items ++ 47 ∷ name.now) }
+{
+    way.push(b'/')?;
+    way.extend_from_slice(name)
+}
+
+// The text of a way is a path, so that only memory can be missing.
+fn path_of(alloc: Global, way: &[u8]) -> Result<Path, PlanError>
+    ensures { MatchResult result (λ path. path ≡ way.now) (λ e. e ≡ NoMemory) }
+{
+    let Ok(path) = Path::parse(alloc, way) else {
+        return Err(PlanError::NoMemory);
+    };
+    Ok(path)
+}
+
+impl<'t> Walk<'t> {
+    fn new(alloc: Global, hasher: RandomState) -> Self
+        ensures way { result.way.items ≡ [] }
+        ensures devices { result.devices.items ≡ [] }
+        ensures targets { (phandle : ℕ) → get nat_eq result.targets phandle ≡ None }
+    {
+        Self {
+            way: Vec::new(alloc),
+            devices: Vec::new(alloc),
+            targets: IndexMap::with_hasher(alloc, hasher),
+        }
+    }
+}
