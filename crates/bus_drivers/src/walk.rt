@@ -49,6 +49,46 @@ fn path_of(alloc: Global, way: &[u8]) -> Result<Path, PlanError>
     Ok(path)
 }
 
+// The device's place is how many were kept before it.
+fn keep_device<'t>(
+    alloc: Global,
+    devices: &mut Vec<TreeDevice<'t>>,
+    way: &[u8],
+    available: bool,
+    node: &'t Node,
+) -> Result<Device, PlanError>
+    requires { length devices.old.items ≤ MAX_DEVICES }
+    ensures device { IfOk result (λ device. device ≡ length devices.old.items) }
+    ensures devices { OnOk result (devices.new.items ≡ devices.old.items ++ record { path = way.now; available = available; properties = node.now.properties } ∷ []) }
+    ensures few { OnOk result (length devices.new.items ≤ MAX_DEVICES) }
+    ensures err { IfErr result (Refuses (devices.old.items ++ record { path = way.now; available = available; properties = node.now.properties } ∷ [])) }
+{
+    if devices.len() == MAX_DEVICES {
+        return Err(PlanError::TooManyDevices);
+    }
+    let device = Device::new(devices.len());
+    devices.push(TreeDevice::new(path_of(alloc, way)?, available, node))?;
+    Ok(device)
+}
+
+// Of several nodes with one phandle, the first stays.
+fn keep_target<'t>(
+    targets: &mut IndexMap<u32, Target<'t>, RandomState>,
+    node: &'t Node,
+    device: Option<Device>,
+) -> Result<(), PlanError>
+    ensures targets { OnOk result ((phandle : ℕ) → get nat_eq targets.new phandle ≡ or_else (get nat_eq targets.old phandle) (own_target node.now.properties device phandle)) }
+    ensures err { IfErr result (λ e. e ≡ NoMemory) }
+{
+    let Some(phandle) = node.phandle() else {
+        return Ok(());
+    };
+    if !targets.contains_key(&phandle) {
+        targets.insert(phandle, Target::new(node, device))?;
+    }
+    Ok(())
+}
+
 impl<'t> Walk<'t> {
     fn new(alloc: Global, hasher: RandomState) -> Self
         ensures way { result.way.items ≡ [] }
