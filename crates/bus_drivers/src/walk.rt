@@ -18,7 +18,7 @@ use std::alloc::{AllocError, Global};
 use std::hash::RandomState;
 
 /// What the nodes above say of a node: whether all of them are okay, and which device they belong to.
-#[derive(Clone, Copy)]
+#[derive(Drop)]
 pub struct Above {
     available: bool,
     device: Option<Device>,
@@ -75,16 +75,16 @@ fn keep_device<'t>(
 fn keep_target<'t>(
     targets: &mut IndexMap<u32, Target<'t>, RandomState>,
     node: &'t Node,
-    device: Option<Device>,
+    here: &Above,
 ) -> Result<(), PlanError>
-    ensures targets { OnOk result ((phandle : ℕ) → get nat_eq targets.new phandle ≡ or_else (get nat_eq targets.old phandle) (own_target node.now.properties device phandle)) }
+    ensures targets { OnOk result ((phandle : ℕ) → get nat_eq targets.new phandle ≡ or_else (get nat_eq targets.old phandle) (own_target node.now.properties here.now.device phandle)) }
     ensures err { IfErr result (λ e. e ≡ NoMemory) }
 {
     let Some(phandle) = node.phandle() else {
         return Ok(());
     };
     if !targets.contains_key(&phandle) {
-        targets.insert(phandle, Target::new(node, device))?;
+        targets.insert(phandle, Target::new(node, here.device))?;
     }
     Ok(())
 }
@@ -100,5 +100,52 @@ impl<'t> Walk<'t> {
             devices: Vec::new(alloc),
             targets: IndexMap::with_hasher(alloc, hasher),
         }
+    }
+
+    // The device that the node at the end of the way belongs to, which is kept where it is the node itself.
+    fn device_of(
+        &mut self,
+        alloc: Global,
+        node: &'t Node,
+        available: bool,
+        above: &Above,
+    ) -> Result<Option<Device>, PlanError>
+        requires { length self.old.devices.items ≤ MAX_DEVICES }
+        ensures device { IfOk result (λ device. device ≡ device_here node.now.properties (length self.old.devices.items) above.now.device) }
+        ensures devices { OnOk result (self.new.devices.items ≡ self.old.devices.items ++ own_device self.old.way.items available node.now.properties) }
+        ensures few { OnOk result (length self.new.devices.items ≤ MAX_DEVICES) }
+        ensures way { OnOk result (self.new.way ≡ self.old.way) }
+        ensures targets { OnOk result (self.new.targets ≡ self.old.targets) }
+        ensures err { IfErr result (Refuses (self.old.devices.items ++ own_device self.old.way.items available node.now.properties)) }
+    {
+        if !is_compatible(node) {
+            return Ok(above.device);
+        }
+        let device = keep_device(
+            alloc,
+            &mut self.devices,
+            self.way.as_slice(),
+            available,
+            node,
+        )?;
+        Ok(Some(device))
+    }
+
+    // Keeps the node at the end of the way, and tells what is above the nodes below it.
+    fn meet(&mut self, alloc: Global, node: &'t Node, above: &Above) -> Result<Above, PlanError>
+        requires { length self.old.devices.items ≤ MAX_DEVICES }
+        ensures available { IfOk result (λ here. here.available ≡ (above.now.available && is_okay node.now.properties)) }
+        ensures device { IfOk result (λ here. here.device ≡ device_here node.now.properties (length self.old.devices.items) above.now.device) }
+        ensures devices { OnOk result (self.new.devices.items ≡ self.old.devices.items ++ own_device self.old.way.items (above.now.available && is_okay node.now.properties) node.now.properties) }
+        ensures few { OnOk result (length self.new.devices.items ≤ MAX_DEVICES) }
+        ensures way { OnOk result (self.new.way ≡ self.old.way) }
+        ensures targets { OnOk result ((phandle : ℕ) → get nat_eq self.new.targets phandle ≡ or_else (get nat_eq self.old.targets phandle) (own_target node.now.properties (device_here node.now.properties (length self.old.devices.items) above.now.device) phandle)) }
+        ensures err { IfErr result (Refuses (self.old.devices.items ++ own_device self.old.way.items (above.now.available && is_okay node.now.properties) node.now.properties)) }
+    {
+        let available = above.available && is_okay(node);
+        let device = self.device_of(alloc, node, available, above)?;
+        let here = Above { available, device };
+        keep_target(&mut self.targets, node, &here)?;
+        Ok(here)
     }
 }
