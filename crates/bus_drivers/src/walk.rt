@@ -21,7 +21,18 @@ use std::hash::RandomState;
 #[derive(Drop)]
 pub struct Above {
     available: bool,
-    device: Option<Device>,
+    device: Option<usize>,
+}
+
+impl Above {
+    fn device(&self) -> Option<Device>
+        ensures { result ≡ self.now.device }
+    {
+        match self.device {
+            None => None,
+            Some(place) => Some(Device::new(place)),
+        }
+    }
 }
 
 /// A walk: the way to where it is, each name behind a slash, the devices so far, and the first node with each phandle.
@@ -56,9 +67,9 @@ fn keep_device<'t>(
     way: &[u8],
     available: bool,
     node: &'t Node,
-) -> Result<Device, PlanError>
+) -> Result<usize, PlanError>
     requires { length devices.old.items ≤ MAX_DEVICES }
-    ensures device { IfOk result (λ device. device ≡ length devices.old.items) }
+    ensures place { IfOk result (λ place. place ≡ length devices.old.items) }
     ensures devices { OnOk result (devices.new.items ≡ devices.old.items ++ record { path = way.now; available = available; properties = node.now.properties } ∷ []) }
     ensures few { OnOk result (length devices.new.items ≤ MAX_DEVICES) }
     ensures err { IfErr result (Refuses (devices.old.items ++ record { path = way.now; available = available; properties = node.now.properties } ∷ [])) }
@@ -66,9 +77,9 @@ fn keep_device<'t>(
     if devices.len() == MAX_DEVICES {
         return Err(PlanError::TooManyDevices);
     }
-    let device = Device::new(devices.len());
+    let place = devices.len();
     devices.push(TreeDevice::new(path_of(alloc, way)?, available, node))?;
-    Ok(device)
+    Ok(place)
 }
 
 // Of several nodes with one phandle, the first stays.
@@ -84,7 +95,7 @@ fn keep_target<'t>(
         return Ok(());
     };
     if !targets.contains_key(&phandle) {
-        targets.insert(phandle, Target::new(node, here.device))?;
+        targets.insert(phandle, Target::new(node, here.device()))?;
     }
     Ok(())
 }
@@ -109,7 +120,7 @@ impl<'t> Walk<'t> {
         node: &'t Node,
         available: bool,
         above: &Above,
-    ) -> Result<Option<Device>, PlanError>
+    ) -> Result<Option<usize>, PlanError>
         requires { length self.old.devices.items ≤ MAX_DEVICES }
         ensures device { IfOk result (λ device. device ≡ device_here node.now.properties (length self.old.devices.items) above.now.device) }
         ensures devices { OnOk result (self.new.devices.items ≡ self.old.devices.items ++ own_device self.old.way.items available node.now.properties) }
@@ -147,5 +158,45 @@ impl<'t> Walk<'t> {
         let here = Above { available, device };
         keep_target(&mut self.targets, node, &here)?;
         Ok(here)
+    }
+
+    // Keeps a node and all below it. The way is longer meanwhile.
+    fn visit(&mut self, alloc: Global, node: &'t Node, above: &Above) -> Result<(), PlanError>
+        requires { length self.old.devices.items ≤ MAX_DEVICES }
+        ensures devices { OnOk result (self.new.devices.items ≡ self.old.devices.items ++ devices_at self.old.way.items above.now.available node.now) }
+        ensures few { OnOk result (length self.new.devices.items ≤ MAX_DEVICES) }
+        ensures way { OnOk result (self.new.way.items ≡ self.old.way.items) }
+        ensures targets { OnOk result ((phandle : ℕ) → get nat_eq self.new.targets phandle ≡ or_else (get nat_eq self.old.targets phandle) (target_at above.now.device (length self.old.devices.items) node.now phandle)) }
+        ensures err { IfErr result (Refuses (self.old.devices.items ++ devices_at self.old.way.items above.now.available node.now)) }
+    {
+        let len = self.way.len();
+        lengthen(&mut self.way, node.name_bytes())?;
+        let here = self.meet(alloc, node, above)?;
+        for child in node.children() {
+            self.visit(alloc, child, &here)?;
+        }
+        self.way.truncate(len);
+        Ok(())
+    }
+
+    /// The walk over the tree below this root, but for its reserved nodes.
+    pub fn over(alloc: Global, hasher: RandomState, root: &'t Node) -> Result<Self, PlanError>
+        ensures devices { IfOk result (λ walk. walk.devices.items ≡ devices_in_tree root.now) }
+        ensures few { IfOk result (λ walk. length walk.devices.items ≤ MAX_DEVICES) }
+        ensures targets { IfOk result (λ walk. (phandle : ℕ) → get nat_eq walk.targets phandle ≡ target_in_tree root.now phandle) }
+        ensures err { IfErr result (Refuses (devices_in_tree root.now)) }
+    {
+        let mut walk = Self::new(alloc, hasher);
+        let here = Above {
+            available: is_okay(root),
+            device: None,
+        };
+        keep_target(&mut walk.targets, root, &here)?;
+        for top in root.children() {
+            if !is_reserved_name(top.name_bytes()) {
+                walk.visit(alloc, top, &here)?;
+            }
+        }
+        Ok(walk)
     }
 }
