@@ -1,9 +1,10 @@
 -- What a walk keeps, node by node.
 use Rattle.std.proofs.Common.{◌≡◌, ◌∙◌, ap, sym, refl, ℕ, ◌+◌, ◌<◌, ◌≤◌, Bool, true, false, ◌&&◌, nat_eq, if◌then◌else◌, List, [], ◌∷◌, ◌++◌, length, get_or, drop, Option, Some, None, append_assoc, arith, length-append, inl, inr}
-use Rattle.std.proofs.lemmas.List.{at_drop_more}
+use Rattle.std.proofs.lemmas.List.{at_drop_more, at_drop_all}
 use Rattle.dt_tree.specs.declared.property.Property.{Property}
 use Rattle.dt_tree.specs.NodeData.{Siblings, none, more, NodeData, siblings}
-use Rattle.dt_tree.specs.PhandleWalk.{or_else}
+use Rattle.dt_tree.specs.Phandle.{is_reserved_name}
+use Rattle.dt_tree.specs.PhandleWalk.{or_else, unreserved}
 use Rattle.bus_plan.specs.declared.error.PlanError.{PlanError}
 use Rattle.bus_plan.specs.declared.limits.TheConstants.{MAX_DEVICES}
 use Rattle.bus_drivers.specs.Nodes.{is_compatible, is_okay, TreeDevice, Target}
@@ -36,6 +37,10 @@ pub next-node : (bs : List NodeData) (i : ℕ) (b : NodeData) → i < length bs 
     → siblings (drop i bs) ≡ more b.name b.properties b.children (siblings (drop (i + 1) bs))
 next-node bs i b h e = at_drop_more siblings bs i b h ∙ ap (λ (x : NodeData). siblings (x ∷ drop (i + 1) bs)) (sym e)
 
+pub next-unreserved : (bs : List NodeData) (i : ℕ) (b : NodeData) → i < length bs → b ≡ get_or bs i b → is_reserved_name b.name ≡ false
+    → unreserved (siblings (drop i bs)) ≡ more b.name b.properties b.children (unreserved (siblings (drop (i + 1) bs)))
+next-unreserved bs i b h e u = ap unreserved (next-node bs i b h e) ∙ rw u refl
+
 pub next-devices : (before after whole : List TreeDevice) (text : List ℕ) (available : Bool) (f rest : Siblings) (b : NodeData) → f ≡ more b.name b.properties b.children rest
     → after ≡ before ++ devices_at text available b → before ++ devices_among text available f ≡ whole → after ++ devices_among text available rest ≡ whole
 next-devices before after whole text available f rest b next is left =
@@ -55,6 +60,16 @@ next-target before after whole above met more_met text available f rest b phandl
     ∙ ap (λ (m : ℕ). or_else (or_else before (target_at above met b phandle)) (target_among above m rest phandle)) counted
     ∙ or_else-assoc before (target_at above met b phandle) (target_among above (((if is_compatible b.properties then 1 else 0) + device_count b.children) + met) rest phandle)
     ∙ ap (λ (g : Siblings). or_else before (target_among above met g phandle)) (sym next) ∙ left
+
+or_else-none : {A : Type 0} (x : Option A) → or_else x None ≡ x
+or_else-none None = refl
+or_else-none (Some a) = refl
+
+-- nothing is left
+pub last-target : (before whole : Option Target) (above : Option ℕ) (met : ℕ) (bs : List NodeData) (i phandle : ℕ) → length bs ≤ i
+    → or_else before (target_among above met (unreserved (siblings (drop i bs))) phandle) ≡ whole → before ≡ whole
+last-target before whole above met bs i phandle h left =
+    sym (or_else-none before) ∙ sym (at_drop_all (λ ds. or_else before (target_among above met (unreserved (siblings ds)) phandle)) bs i h) ∙ left
 
 -- what stops the walk of a part stops the whole
 pub part-refuses : (part rest whole : List TreeDevice) (e : PlanError) → part ++ rest ≡ whole → Refuses part e → Refuses whole e

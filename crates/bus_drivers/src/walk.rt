@@ -193,9 +193,10 @@ impl<'t> Walk<'t> {
         };
         keep_target(&mut walk.targets, root, &here)?;
         for top in root.children() {
-            if !is_reserved_name(top.name_bytes()) {
-                walk.visit(alloc, top, &here)?;
+            if is_reserved_name(top.name_bytes()) {
+                continue;
             }
+            walk.visit(alloc, top, &here)?;
         }
         Ok(walk)
     }
