@@ -23,8 +23,14 @@ length-devices text available none = refl
 length-devices text available (more n p kids rest) =
     let own = own_device (text ++ 47 ∷ n) (available && is_okay p) p in
     let below = devices_among (text ++ 47 ∷ n) (available && is_okay p) kids in
-    omega (arith, length-append (own ++ below) (devices_among text available rest), length-append own below, length-own (text ++ 47 ∷ n) (available && is_okay p) p,
-        length-devices (text ++ 47 ∷ n) (available && is_okay p) kids, length-devices text available rest)
+    omega (
+      arith,
+      length-append (own ++ below) (devices_among text available rest),
+      length-append own below,
+      length-own (text ++ 47 ∷ n) (available && is_okay p) p,
+      length-devices (text ++ 47 ∷ n) (available && is_okay p) kids,
+      length-devices text available rest,
+    )
 
 pub length-at : (text : List ℕ) (available : Bool) (b : NodeData) → length (devices_at text available b) ≡ (if is_compatible b.properties then 1 else 0) + device_count b.children
 length-at text available b =
@@ -47,7 +53,7 @@ next-devices before after whole text available f rest b next is left =
     ap (λ (ds : List TreeDevice). ds ++ devices_among text available rest) is ∙ append_assoc before (devices_at text available b) (devices_among text available rest)
     ∙ ap (λ (g : Siblings). before ++ devices_among text available g) (sym next) ∙ left
 
-or_else-assoc : {A : Type 0} (x y z : Option A) → or_else (or_else x y) z ≡ or_else x (or_else y z)
+pub or_else-assoc : {A : Type 0} (x y z : Option A) → or_else (or_else x y) z ≡ or_else x (or_else y z)
 or_else-assoc None y z = refl
 or_else-assoc (Some a) y z = refl
 
