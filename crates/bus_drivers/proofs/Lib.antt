@@ -1,2 +1,3 @@
 pub mod DraftLemmas
 pub mod Entries
+pub mod EntryWays
