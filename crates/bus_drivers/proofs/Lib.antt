@@ -1,3 +1,4 @@
 pub mod DraftLemmas
 pub mod Entries
+pub mod EntryPlaces
 pub mod EntryWays
