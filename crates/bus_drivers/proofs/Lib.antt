@@ -1,4 +1,5 @@
 pub mod DraftLemmas
 pub mod Entries
 pub mod EntryPlaces
+pub mod EntryWalk
 pub mod EntryWays
