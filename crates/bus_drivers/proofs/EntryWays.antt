@@ -17,6 +17,10 @@ abbrev pub Way : Type 0
 Way = List (List ℕ)
 
 -- ---- lists
+pub map_same : {A B : Type 0} (f g : A → B) → ((x : A) → f x ≡ g x) → (xs : List A) → map f xs ≡ map g xs
+map_same f g same [] = refl
+map_same f g same (x ∷ xs) = λ i. same x i ∷ map_same f g same xs i
+
 pub map_map : {A B C : Type 0} (g : B → C) (f : A → B) (xs : List A) → map g (map f xs) ≡ map (λ x. g (f x)) xs
 map_map g f [] = refl
 map_map g f (x ∷ xs) = ap (λ ys. g (f x) ∷ ys) (map_map g f xs)
@@ -34,15 +38,14 @@ filter_first test x xs = at_head (test x) refl where
   at_head true e = rw e refl
   at_head false e = rw e refl
 
--- what passes one test passes the other
-pub filter_twice : {A : Type 0} (test weaker : A → Bool) → ((x : A) → test x ≡ true → weaker x ≡ true) → (xs : List A) → filter test (filter weaker xs) ≡ filter test xs
-filter_twice test weaker passes [] = refl
-filter_twice test weaker passes (x ∷ xs) = at_head (test x) refl (weaker x) refl (filter_twice test weaker passes xs) where
-  at_head : (t : Bool) → test x ≡ t → (u : Bool) → weaker x ≡ u → filter test (filter weaker xs) ≡ filter test xs → filter test (filter weaker (x ∷ xs)) ≡ filter test (x ∷ xs)
-  at_head true e true f ih = rw (f, e) (ap (λ ys. x ∷ ys) ih)
-  at_head true e false f ih = absurd (let bad : true ≡ false = sym (passes x e) ∙ f in cc bad)
-  at_head false e true f ih = rw (f, e) ih
-  at_head false e false f ih = rw (f, e) ih
+-- one test after another is both
+pub filter_both : {A : Type 0} (test kept both : A → Bool) → ((x : A) → both x ≡ (kept x && test x)) → (xs : List A) → filter test (filter kept xs) ≡ filter both xs
+filter_both test kept both same [] = refl
+filter_both test kept both same (x ∷ xs) = at_head (kept x) refl (test x) refl (filter_both test kept both same xs) where
+  at_head : (t : Bool) → kept x ≡ t → (u : Bool) → test x ≡ u → filter test (filter kept xs) ≡ filter both xs → filter test (filter kept (x ∷ xs)) ≡ filter both (x ∷ xs)
+  at_head true e true f ih = let both_is : both x ≡ true = same x ∙ rw (e, f) refl in rw (e, f, both_is) (ap (λ ys. x ∷ ys) ih)
+  at_head true e false f ih = let both_is : both x ≡ false = same x ∙ rw (e, f) refl in rw (e, f, both_is) ih
+  at_head false e u f ih = let both_is : both x ≡ false = same x ∙ rw e refl in rw (e, both_is) ih
 
 pub find_filter : {A : Type 0} (test kept both : A → Bool) → ((x : A) → both x ≡ (kept x && test x)) → (xs : List A) → find test (filter kept xs) ≡ find both xs
 find_filter test kept both same [] = refl
