@@ -1,16 +1,15 @@
 -- What a walk over a tree meets is what the definitions of `Nodes` say of it.
-use Rattle.std.proofs.Common.{◌≡◌, ◌≢◌, ℕ, nat_eq, Bool, true, false, not, ◌&&◌, ◌==◌, List, [], ◌∷◌, ◌++◌, map, filter, length, append-nil, codes, Option, Some, None, option_and_then, refl, ap, sym, ◌∙◌, subst}
+use Rattle.std.proofs.Common.{◌≡◌, ◌≢◌, ℕ, nat_eq, Bool, true, false, not, ◌&&◌, ◌==◌, List, [], ◌∷◌, map, filter, length, append-nil, codes, Option, Some, None, option_and_then, refl, ap, sym, ◌∙◌, subst}
 use Rattle.std.specs.Option.{option_map, option_map_or, unwrap_or}
-use Rattle.std.specs.List.{AllPairs, find, list_all}
+use Rattle.std.specs.List.{AllPairs, find}
 use Rattle.std.specs.Str.{bytes_eq}
-use Rattle.std.proofs.lemmas.List.Elements.{filter_agree}
 use Rattle.std.proofs.lemmas.List.Folds.{list_all-map}
 use Rattle.std.proofs.lemmas.List.Kept.{AllPairs-filter}
 use Rattle.std.proofs.lemmas.Slice.Eq.{bytes_eq-Decides}
 use Rattle.dt_tree.specs.declared.property.Property.{Property}
 use Rattle.dt_tree.specs.NodeData.{Siblings, none, more, NodeData, child_names}
 use Rattle.dt_tree.specs.Path.{path_text}
-use Rattle.dt_tree.specs.PathMap.{child_named, node_at, value_of, properties_at, path_map}
+use Rattle.dt_tree.specs.PathMap.{child_named, value_of, properties_at, path_map}
 use Rattle.dt_tree.specs.Phandle.{is_reserved, is_reserved_name, phandle_in, phandle_at}
 use Rattle.dt_tree.specs.PhandleWalk.{unreserved, phandle_of}
 use Rattle.dt_tree.specs.Preorder.{paths_among, preorder}

@@ -1,24 +1,23 @@
 -- What a walk meets at each node: its own properties, those above it, and the place of its device.
-use Rattle.std.proofs.Common.{◌≡◌, ◌≢◌, ℕ, ◌+◌, ◌<◌, Bool, true, false, not, ◌&&◌, if◌then◌else◌, nat_lt, List, [], ◌∷◌, ◌++◌, length, get_or, map, filter, append_assoc, Option, Some, None, option_and_then, refl, ap, sym, ◌∙◌, subst, arith}
+use Rattle.std.proofs.Common.{◌≡◌, ◌≢◌, ℕ, ◌+◌, ◌<◌, Bool, true, false, if◌then◌else◌, nat_lt, List, [], ◌∷◌, ◌++◌, length, get_or, map, Option, Some, None, option_and_then, refl, ap, sym, ◌∙◌, subst, arith}
 use Rattle.std.specs.Option.{option_map, unwrap_or}
 use Rattle.std.specs.List.{AllPairs, position, position_or_len}
 use Rattle.std.specs.Str.{bytes_eq}
-use Rattle.std.proofs.lemmas.List.{map-append, map_push, length-append, get_or_at}
-use Rattle.std.proofs.lemmas.List.Elements.{filter-append}
+use Rattle.std.proofs.lemmas.List.{length-append, get_or_at}
 use Rattle.std.proofs.lemmas.List.Sums.{position_or_len_is}
 use Rattle.std.proofs.lemmas.Bool.Decides.{nat_tests}
 use Rattle.std.proofs.lemmas.Slice.Eq.{bytes_eq-Decides}
 use Rattle.dt_tree.specs.declared.property.Property.{Property}
-use Rattle.dt_tree.specs.NodeData.{Siblings, none, more, NodeData, node_data, child_names}
+use Rattle.dt_tree.specs.NodeData.{Siblings, more, NodeData, node_data, child_names}
 use Rattle.dt_tree.specs.PathMap.{child_named, node_at}
 use Rattle.dt_tree.specs.Phandle.{is_reserved}
 use Rattle.dt_tree.specs.PhandleWalk.{or_else}
 use Rattle.dt_tree.specs.Sound.{is_among}
-use Rattle.dt_tree.proofs.PhandleLaws.{IsApart, among_apart}
+use Rattle.dt_tree.proofs.PhandleLaws.{among_apart}
 use Rattle.dt_tree.proofs.Places.{bytes_eq-refl, node_at-append, both}
 use Rattle.bus_drivers.specs.Nodes.{properties_of, ways_down, is_compatible, is_device, device_ways, ways_eq, last_device, nearest_device}
-use Rattle.bus_drivers.specs.Private.Entries.{Entry, entry, entries_among, device_count, device_here}
-use Rattle.bus_drivers.proofs.EntryWays.{Way, ways_from, filter_first, reserved_below, not_root, ways_down-push}
+use Rattle.bus_drivers.specs.Private.Entries.{Entry, entry, device_here}
+use Rattle.bus_drivers.proofs.EntryWays.{Way, reserved_below, not_root, ways_down-push}
 
 -- what is met at the end of a way
 abbrev pub entry_at : NodeData → Way → Entry

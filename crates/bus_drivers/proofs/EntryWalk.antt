@@ -1,14 +1,13 @@
 -- A walk meets each node below a way, once and in preorder, with its own properties and those above it, and the place of its device.
-use Rattle.std.proofs.Common.{◌≡◌, ◌≢◌, ℕ, ◌+◌, Bool, true, false, if◌then◌else◌, List, [], ◌∷◌, ◌++◌, length, map, filter, append_assoc, Option, Some, None, refl, ap, sym, ◌∙◌, subst, arith}
+use Rattle.std.proofs.Common.{◌≡◌, ◌≢◌, ℕ, ◌+◌, Bool, true, false, if◌then◌else◌, List, [], ◌∷◌, ◌++◌, length, map, filter, append_assoc, Option, Some, refl, ap, sym, ◌∙◌, subst, arith}
 use Rattle.std.specs.List.{AllPairs, position}
 use Rattle.std.proofs.lemmas.List.{map-append, map_push, length-append}
 use Rattle.std.proofs.lemmas.List.Elements.{filter-append}
 use Rattle.dt_tree.specs.declared.property.Property.{Property}
-use Rattle.dt_tree.specs.NodeData.{Siblings, none, more, NodeData, child_names}
-use Rattle.dt_tree.specs.Sound.{is_among}
+use Rattle.dt_tree.specs.NodeData.{Siblings, none, more, NodeData}
 use Rattle.dt_tree.proofs.PhandleLaws.{IsApart}
 use Rattle.bus_drivers.specs.Nodes.{properties_of, ways_down, is_compatible, is_device, device_ways, ways_eq, nearest_device}
-use Rattle.bus_drivers.specs.Private.Entries.{Entry, entry, entries_among, device_count, device_here}
+use Rattle.bus_drivers.specs.Private.Entries.{entry, entries_among, device_count, device_here}
 use Rattle.bus_drivers.proofs.EntryPlaces.{entry_at, place_after, nearest_below, IsMet, own_properties_of, own_device, met_below, met_beside}
 use Rattle.bus_drivers.proofs.EntryWays.{Way, ways_from, filter_first, ways_down-push}
 

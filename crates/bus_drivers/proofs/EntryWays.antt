@@ -1,12 +1,12 @@
 -- The ways along a walk, and the lists that are made of them.
-use Rattle.std.proofs.Common.{◌≡◌, ℕ, Bool, true, false, not, ◌&&◌, ◌==◌, ◌+◌, if◌then◌else◌, List, [], ◌∷◌, ◌++◌, length, map, filter, append_assoc, Option, Some, None, option_and_then, refl, ap, sym, ◌∙◌, arith}
+use Rattle.std.proofs.Common.{◌≡◌, ℕ, Bool, true, false, not, ◌&&◌, ◌==◌, if◌then◌else◌, List, [], ◌∷◌, ◌++◌, length, map, filter, append_assoc, refl, ap, sym, ◌∙◌, arith}
 use Rattle.std.specs.Option.{option_map}
-use Rattle.std.specs.List.{find, list_all}
-use Rattle.std.proofs.lemmas.List.{map-append, map_push, length-append}
+use Rattle.std.specs.List.{find}
+use Rattle.std.proofs.lemmas.List.{map-append, map_push}
 use Rattle.std.proofs.lemmas.List.Elements.{filter-append}
 use Rattle.std.proofs.lemmas.Bool.Decides.{nat_tests}
 use Rattle.dt_tree.specs.declared.property.Property.{Property}
-use Rattle.dt_tree.specs.NodeData.{Siblings, none, more, NodeData}
+use Rattle.dt_tree.specs.NodeData.{Siblings, none, more}
 use Rattle.dt_tree.specs.Phandle.{is_reserved, is_reserved_name}
 use Rattle.dt_tree.specs.PhandleWalk.{unreserved}
 use Rattle.dt_tree.specs.Preorder.{paths_among}
