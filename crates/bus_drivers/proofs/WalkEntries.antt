@@ -1,8 +1,8 @@
 -- What a walk keeps is read off what it meets, and so what the definitions say.
-use Rattle.std.proofs.Common.{◌≡◌, ◌∙◌, ap, sym, refl, ℕ, ◌+◌, Bool, true, false, not, ◌&&◌, ◌==◌, nat_eq, cond, if◌then◌else◌, List, [], ◌∷◌, ◌++◌, map, filter, length, Option, Some, None, append_assoc, append-nil, ◌<◌, ◌≤◌, ◌⊎◌, Result, Ok, Err, subst, inl, inr, arith, length-append}
+use Rattle.std.proofs.Common.{◌≡◌, ◌∙◌, ap, sym, refl, ℕ, ◌+◌, Bool, true, false, not, ◌&&◌, ◌==◌, nat_eq, if◌then◌else◌, List, [], ◌∷◌, ◌++◌, length, Option, Some, None, append_assoc, append-nil, ◌<◌, ◌≤◌, ◌⊎◌, Result, Ok, Err, subst, inl, inr, arith}
 use Rattle.std.specs.List.{list_all}
 use Rattle.std.specs.Prelude.{IsErrAnd, MatchResult}
-use Rattle.std.specs.Option.{option_map, option_map_or}
+use Rattle.std.specs.Option.{option_map_or}
 use Rattle.std.proofs.lemmas.Bool.Decides.{nat_tests}
 use Rattle.std.proofs.lemmas.List.Folds.{list_all-append}
 use Rattle.dt_tree.specs.declared.property.Property.{Property}
@@ -14,7 +14,7 @@ use Rattle.bus_plan.specs.declared.error.PlanError.{PlanError}
 use Rattle.bus_plan.specs.declared.error.PlanError.TheVariants.{NoMemory, TooManyDevices}
 use Rattle.bus_plan.specs.declared.limits.TheConstants.{MAX_DEVICES}
 use Rattle.bus_drivers.specs.Nodes.{is_compatible, is_okay, TreeDevice, Target, device_ways, tree_devices, target_of}
-use Rattle.bus_drivers.specs.Private.Entries.{Entry, entry, entries, entries_among, device_count, device_here, own_properties, is_device_entry, device_of_entry, target_of_entry, devices_met, has_phandle, target_met}
+use Rattle.bus_drivers.specs.Private.Entries.{Entry, entry, entries_among, device_count, device_here, own_properties, is_device_entry, device_of_entry, target_of_entry, devices_met, has_phandle, target_met}
 use Rattle.bus_drivers.specs.Private.Survey.{IsSurvey}
 use Rattle.bus_drivers.specs.Private.Walk.{own_device, devices_among, devices_in_tree, own_target, target_among, target_in_tree, Refuses}
 use Rattle.bus_drivers.proofs.Entries.{tree_devices-met, target_of-met, device_count-ways}

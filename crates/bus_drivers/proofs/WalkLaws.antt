@@ -1,15 +1,14 @@
 -- What a walk keeps, node by node.
-use Rattle.std.proofs.Common.{◌≡◌, ◌∙◌, ap, sym, refl, ℕ, ◌+◌, ◌<◌, ◌≤◌, Bool, true, false, ◌&&◌, nat_eq, if◌then◌else◌, List, [], ◌∷◌, ◌++◌, length, get_or, drop, Option, Some, None, append_assoc, arith, length-append, inl, inr}
+use Rattle.std.proofs.Common.{◌≡◌, ◌∙◌, ap, sym, refl, ℕ, ◌+◌, ◌<◌, ◌≤◌, Bool, true, false, ◌&&◌, if◌then◌else◌, List, [], ◌∷◌, ◌++◌, length, get_or, drop, Option, Some, None, append_assoc, arith, length-append, inl, inr}
 use Rattle.std.proofs.lemmas.List.{at_drop_more, at_drop_all}
 use Rattle.dt_tree.specs.declared.property.Property.{Property}
 use Rattle.dt_tree.specs.NodeData.{Siblings, none, more, NodeData, siblings}
 use Rattle.dt_tree.specs.Phandle.{is_reserved_name}
 use Rattle.dt_tree.specs.PhandleWalk.{or_else, unreserved}
 use Rattle.bus_plan.specs.declared.error.PlanError.{PlanError}
-use Rattle.bus_plan.specs.declared.limits.TheConstants.{MAX_DEVICES}
 use Rattle.bus_drivers.specs.Nodes.{is_compatible, is_okay, TreeDevice, Target}
-use Rattle.bus_drivers.specs.Private.Entries.{device_count, device_here}
-use Rattle.bus_drivers.specs.Private.Walk.{own_device, devices_among, devices_at, own_target, target_among, target_at, Refuses}
+use Rattle.bus_drivers.specs.Private.Entries.{device_count}
+use Rattle.bus_drivers.specs.Private.Walk.{own_device, devices_among, devices_at, target_among, target_at, Refuses}
 
 -- ---- how many
 length-own : (text : List ℕ) (available : Bool) (p : List Property) → length (own_device text available p) ≡ (if is_compatible p then 1 else 0)
