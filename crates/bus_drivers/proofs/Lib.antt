@@ -1,1 +1,7 @@
 pub mod DraftLemmas
+pub mod Entries
+pub mod EntryPlaces
+pub mod EntryWalk
+pub mod EntryWays
+pub mod WalkEntries
+pub mod WalkLaws

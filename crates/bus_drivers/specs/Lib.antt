@@ -1,3 +1,5 @@
 pub mod Driver
 pub mod Draft
 pub mod DriverFile
+pub mod Nodes
+pub mod Private

@@ -7,6 +7,11 @@ mod driver_set;
 mod fail_line;
 mod reading;
 mod statement;
+mod status;
+mod survey;
+mod target;
+mod tree_device;
+mod walk;
 
 pub use driver::Driver;
 pub use driver_set::DriverSet;
