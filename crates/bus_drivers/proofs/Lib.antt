@@ -1,2 +1,3 @@
 pub mod DraftLemmas
 pub mod SuppliersLemmas
+pub mod MatchingLemmas

@@ -13,9 +13,9 @@ use Rattle.bus_drivers.specs.TreePlan.{driver_listing}
 abbrev pub driver_found : List (Bor (List ℕ) × Bor (List ℕ)) → List ℕ → Option (List ℕ)
 driver_found entries string = option_copied (lookup (λ key. bytes_eq string key.now) entries)
 
--- the same, behind one more driver
-abbrev pub found_with : List (Bor (List ℕ) × Bor (List ℕ)) → List ℕ → List (List ℕ) → List ℕ → Option (List ℕ)
-found_with entries name strings string = or_else (driver_found entries string) (if is_among string strings then Some name else None)
+-- what was found, or else one more driver that lists these strings
+abbrev pub found_with : Option (List ℕ) → List ℕ → List (List ℕ) → List ℕ → Option (List ℕ)
+found_with before name strings string = or_else before (if is_among string strings then Some name else None)
 
 -- each string has the first driver that lists it
 abbrev pub IsIndexOf : List DriverData → List (Bor (List ℕ) × Bor (List ℕ)) → Type 0
