@@ -1,3 +1,4 @@
 pub mod DraftLemmas
 pub mod SuppliersLemmas
 pub mod MatchingLemmas
+pub mod StringsLemmas

@@ -1,9 +1,9 @@
 -- The plan of a tree and a driver set. A device's driver is the one for the most specific of its `compatible` strings (Devicetree
 -- Specification v0.4, section 2.3.1), and its suppliers are the devices that its properties refer to (Linux driver-api, "Device
 -- links").
-use Rattle.std.specs.Prelude.{ℕ, ◌+◌, Bool, not, ◌==◌, nat_le, codes, if◌then◌else◌, List, [], ◌∷◌, take, map, filter, length, Option, Some, None, unwrap_or, Result, Ok, Err}
+use Rattle.std.specs.Prelude.{ℕ, ◌+◌, Bool, not, ◌==◌, nat_le, codes, if◌then◌else◌, List, [], ◌∷◌, map, filter, length, Option, Some, None, unwrap_or, Result, Ok, Err}
 use Rattle.std.specs.Option.{option_map, option_map_or}
-use Rattle.std.specs.List.{find, count_by, slice_split}
+use Rattle.std.specs.List.{find, slice_split}
 use Rattle.dt_tree.specs.NodeData.{NodeData}
 use Rattle.dt_tree.specs.PathMap.{value_of}
 use Rattle.dt_tree.specs.PhandleWalk.{or_else}
@@ -23,8 +23,13 @@ use Rattle.bus_drivers.specs.References.{and_then, all_references}
 abbrev pub is_zero : ℕ → Bool
 is_zero b = b == 0
 
+abbrev pub without_last : List (List ℕ) → List (List ℕ)
+without_last [] = []
+without_last (part ∷ []) = []
+without_last (part ∷ next ∷ more) = part ∷ without_last (next ∷ more)
+
 abbrev pub strings : List ℕ → List (List ℕ)
-strings value = take (count_by is_zero value) (slice_split is_zero value)
+strings value = without_last (slice_split is_zero value)
 
 -- the strings of `compatible`, the most specific first
 abbrev pub compatible_strings : TreeDevice → List (List ℕ)

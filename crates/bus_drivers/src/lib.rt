@@ -6,6 +6,7 @@ mod driver;
 mod driver_set;
 mod fail_line;
 mod matching;
+mod path_sets;
 mod planning;
 mod reading;
 mod reference;
