@@ -2,16 +2,33 @@ ghost use Rattle.std.specs.Prelude.{◌≡◌, ◌⊎◌, Ok, Err, MatchResult};
 ghost use Rattle.bus_plan.specs.declared.error.PlanError.TheVariants.{NoMemory};
 ghost use Rattle.bus_plan.specs.PlanFile.{Answers};
 ghost use Rattle.bus_drivers.specs.Nodes.{target_of, tree_devices};
-ghost use Rattle.bus_drivers.specs.TreePlan.{plan_of, planned_from};
+ghost use Rattle.bus_drivers.specs.TreePlan.{plan_of, plan_of_devices, planned_from};
+ghost use Rattle.bus_drivers.specs.Private.Planning.{planned_at};
 
 use crate::driver_set::DriverSet;
 use crate::matching::Matcher;
 use crate::suppliers::suppliers_of;
 use crate::survey::Survey;
+use crate::tree_device::TreeDevice;
 use bus_plan::{Device, Plan, PlanError, Planned};
 use dt_tree::Tree;
 use std::alloc::Global;
 use std::hash::RandomState;
+
+fn planned_device(
+    alloc: Global,
+    hasher: RandomState,
+    survey: &Survey<'_>,
+    matcher: &Matcher<'_>,
+    place: Device,
+    device: &TreeDevice<'_>,
+) -> Result<Planned, PlanError>
+    ensures { Answers (planned_at (target_of survey.now) matcher.now place device.now) result }
+{
+    let properties = device.node().properties();
+    let suppliers = suppliers_of(alloc, hasher, survey, place, properties)?;
+    Ok(matcher.planned(alloc, device, suppliers)?)
+}
 
 fn planned_devices(
     alloc: Global,
@@ -24,11 +41,25 @@ fn planned_devices(
 {
     let mut planned = Vec::with_capacity(alloc, survey.devices().len())?;
     for (place, device) in survey.devices().iter().enumerate() {
-        let properties = device.node().properties();
-        let suppliers = suppliers_of(alloc, hasher, survey, Device::new(place), properties)?;
-        planned.push(matcher.planned(alloc, device, suppliers)?)?;
+        let device = planned_device(alloc, hasher, survey, matcher, Device::new(place), device)?;
+        planned.push(device)?;
     }
     Ok(planned)
+}
+
+// The devices of a plan: `fail` lines are refused before properties.
+fn plan_devices(
+    alloc: Global,
+    hasher: RandomState,
+    survey: &Survey<'_>,
+    drivers: &DriverSet,
+) -> Result<Vec<Planned>, PlanError>
+    ensures { let planned = plan_of_devices (target_of survey.now) drivers.now (tree_devices survey.now) in
+        MatchResult result (λ devices. planned ≡ Ok devices.items) (λ e. (e ≡ NoMemory) ⊎ (planned ≡ Err e)) }
+{
+    let matcher = Matcher::of(alloc, hasher, drivers)?;
+    matcher.check_fails(alloc, hasher, survey.devices())?;
+    planned_devices(alloc, hasher, survey, &matcher)
 }
 
 /// The plan of a tree: its devices with their drivers and suppliers, or the first refusal.
@@ -40,9 +71,9 @@ pub fn plan(
 ) -> Result<Plan, PlanError>
     ensures { Answers (plan_of tree.now.root drivers.now) result }
 {
+    tree.check();
+    drivers.check();
     let survey = Survey::of(alloc, hasher, tree)?;
-    let matcher = Matcher::of(alloc, hasher, drivers)?;
-    matcher.check_fails(alloc, hasher, survey.devices())?;
-    let devices = planned_devices(alloc, hasher, &survey, &matcher)?;
+    let devices = plan_devices(alloc, hasher, &survey, drivers)?;
     Ok(Plan::of(alloc, hasher, devices)?)
 }
