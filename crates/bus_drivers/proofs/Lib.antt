@@ -1,3 +1,4 @@
+pub mod DevicePaths
 pub mod DraftLemmas
 pub mod Entries
 pub mod EntryPlaces
