@@ -4,3 +4,4 @@ pub mod Entries
 pub mod EntryPlaces
 pub mod EntryWalk
 pub mod EntryWays
+pub mod Mentions
