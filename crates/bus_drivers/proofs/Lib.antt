@@ -4,4 +4,5 @@ pub mod Entries
 pub mod EntryPlaces
 pub mod EntryWalk
 pub mod EntryWays
+pub mod Lawful
 pub mod Mentions
