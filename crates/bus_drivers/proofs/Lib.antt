@@ -6,3 +6,4 @@ pub mod EntryWalk
 pub mod EntryWays
 pub mod Lawful
 pub mod Mentions
+pub mod SuppliersLemmas

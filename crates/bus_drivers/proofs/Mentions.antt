@@ -8,7 +8,8 @@ use Rattle.std.proofs.lemmas.List.Kept.{AllPairs-cons, AllPairs-filter}
 use Rattle.dt_tree.specs.declared.property.Property.{Property}
 use Rattle.bus_plan.specs.declared.error.PlanError.{PlanError}
 use Rattle.bus_drivers.specs.Nodes.{Target}
-use Rattle.bus_drivers.specs.References.{and_then, Entry, followed_by, cells_behind, entry_with, entry_at, entry_of, cells_of, devices_in, is_length, references, references_of, all_references}
+use Rattle.bus_drivers.specs.declared.reference.Reference.{Reference}
+use Rattle.bus_drivers.specs.References.{and_then, followed_by, cells_behind, reference_with, reference_at, reference_of, cells_of, devices_in, is_length, references, property_references, all_references}
 use Rattle.bus_drivers.specs.SupplierTable.{Form, form_of}
 use Rattle.bus_drivers.specs.TreePlan.{first_mentions, suppliers_among}
 
@@ -30,37 +31,37 @@ module _ (P : ℕ → Type 0) where
 
   -- the device of each target is such a one
   module _ (target : ℕ → Option Target) (in_target : (phandle : ℕ) (t : Target) → target phandle ≡ Some t → (d : ℕ) → t.device ≡ Some d → P d) where
-    -- the device of an entry that there is
-    abbrev InEntry : Result Entry PlanError → Type 0
-    InEntry (Err e) = Unit {0}
-    InEntry (Ok e) = (d : ℕ) → e.device ≡ Some d → P d
+    -- the device of a reference that there is
+    abbrev InReference : Result Reference PlanError → Type 0
+    InReference (Err e) = Unit {0}
+    InReference (Ok e) = (d : ℕ) → e.device ≡ Some d → P d
 
-    with_cells : (device : Option ℕ) (cells : Option ℕ) → ((d : ℕ) → device ≡ Some d → P d) → InEntry (entry_with device cells)
+    with_cells : (device : Option ℕ) (cells : Option ℕ) → ((d : ℕ) → device ≡ Some d → P d) → InReference (reference_with device cells)
     with_cells device None h = tt
     with_cells device (Some cells) h = h
 
-    at_target : (form : Form) (o : Option Target) → ((t : Target) → o ≡ Some t → (d : ℕ) → t.device ≡ Some d → P d) → InEntry (entry_at form o)
+    at_target : (form : Form) (o : Option Target) → ((t : Target) → o ≡ Some t → (d : ℕ) → t.device ≡ Some d → P d) → InReference (reference_at form o)
     at_target form None h = tt
     at_target form (Some t) h = with_cells t.device (cells_behind form t) (h t refl)
 
-    in_entry : (form : Form) (phandle : ℕ) → InEntry (entry_of target form phandle)
-    in_entry form phandle = by_zero (phandle == 0) refl where
-      by_zero : (z : Bool) → (phandle == 0) ≡ z → InEntry (entry_of target form phandle)
+    in_reference : (form : Form) (phandle : ℕ) → InReference (reference_of target form phandle)
+    in_reference form phandle = by_zero (phandle == 0) refl where
+      by_zero : (z : Bool) → (phandle == 0) ≡ z → InReference (reference_of target form phandle)
       by_zero true e = rw e (λ d is. absurd (let bad : None ≡ Some d = is in cc bad))
       by_zero false e = rw e (at_target form (target phandle) (in_target phandle))
 
-    from_entry : (r : Result Entry PlanError) (next : ℕ → Result (List ℕ) PlanError) → InEntry r → ((k : ℕ) → AllIfOk P (next k)) → AllIfOk P (and_then r (λ e. followed_by (Ok (option_to_list e.device)) (next e.cells)))
-    from_entry (Err e) next h all = tt
-    from_entry (Ok e) next h all = both_lists (Ok (option_to_list e.device)) (next e.cells) (listed e.device h) (all e.cells)
+    from_reference : (r : Result Reference PlanError) (next : ℕ → Result (List ℕ) PlanError) → InReference r → ((k : ℕ) → AllIfOk P (next k)) → AllIfOk P (and_then r (λ e. followed_by (Ok (option_to_list e.device)) (next e.cells)))
+    from_reference (Err e) next h all = tt
+    from_reference (Ok e) next h all = both_lists (Ok (option_to_list e.device)) (next e.cells) (listed e.device h) (all e.cells)
 
     in_cells : (form : Form) (cells : List ℕ) (left : ℕ) → AllIfOk P (devices_in target form left cells)
     in_cells form [] left = by_zero (left == 0) refl where
       by_zero : (z : Bool) → (left == 0) ≡ z → AllIfOk P (devices_in target form left [])
       by_zero true e = rw e (All-nil P)
       by_zero false e = rw e tt
-    in_cells form (cell ∷ more) left = by_zero (left == 0) refl (in_entry form cell) (λ k. in_cells form more k) where
-      by_zero : (z : Bool) → (left == 0) ≡ z → InEntry (entry_of target form cell) → ((k : ℕ) → AllIfOk P (devices_in target form k more)) → AllIfOk P (devices_in target form left (cell ∷ more))
-      by_zero true e entry all = rw e (from_entry (entry_of target form cell) (λ k. devices_in target form k more) entry all)
+    in_cells form (cell ∷ more) left = by_zero (left == 0) refl (in_reference form cell) (λ k. in_cells form more k) where
+      by_zero : (z : Bool) → (left == 0) ≡ z → InReference (reference_of target form cell) → ((k : ℕ) → AllIfOk P (devices_in target form k more)) → AllIfOk P (devices_in target form left (cell ∷ more))
+      by_zero true e entry all = rw e (from_reference (reference_of target form cell) (λ k. devices_in target form k more) entry all)
       by_zero false e entry all = rw e (all (left - 1))
 
     in_value : (form : Form) (value : List ℕ) → AllIfOk P (references target form value)
@@ -75,7 +76,7 @@ module _ (P : ℕ → Type 0) where
 
     pub in_properties : (ps : List Property) → AllIfOk P (all_references target ps)
     in_properties [] = All-nil P
-    in_properties (p ∷ ps) = both_lists (references_of target p) (all_references target ps) (by_form (form_of p.name) p.value) (in_properties ps)
+    in_properties (p ∷ ps) = both_lists (property_references target p) (all_references target ps) (by_form (form_of p.name) p.value) (in_properties ps)
 
   -- ---- suppliers
   pub all_first : (ds : List ℕ) → All P ds → All P (first_mentions ds)

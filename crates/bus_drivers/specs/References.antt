@@ -1,4 +1,4 @@
--- What the values of a device's properties refer to: entries of a phandle (Devicetree Specification v0.4, section 2.3.3) and
+-- What the values of a device's properties refer to: each reference is a phandle (Devicetree Specification v0.4, section 2.3.3) and
 -- the cells of its specifier (section 2.5), read by the supplier table.
 use Rattle.std.specs.Prelude.{ℕ, ◌-◌, ◌%◌, Bool, ◌==◌, if◌then◌else◌, List, [], ◌∷◌, ◌++◌, length, Option, Some, None, option_and_then, Result, Ok, Err}
 use Rattle.std.specs.Option.{option_map_or, option_to_list}
@@ -7,6 +7,7 @@ use Rattle.dt_tree.specs.declared.property.Property.{Property}
 use Rattle.dt_tree.specs.PathMap.{value_of}
 use Rattle.bus_plan.specs.declared.error.PlanError.{PlanError}
 use Rattle.bus_plan.specs.declared.error.PlanError.TheVariants.{DanglingPhandle, BadSpecifier}
+use Rattle.bus_drivers.specs.declared.reference.Reference.{Reference}
 use Rattle.bus_drivers.specs.Nodes.{Target}
 use Rattle.bus_drivers.specs.SupplierTable.{Form, counted, bare, single, form_of}
 
@@ -19,7 +20,7 @@ and_then (Ok x) next = next x
 abbrev pub followed_by : {A : Type 0} → Result (List A) PlanError → Result (List A) PlanError → Result (List A) PlanError
 followed_by first second = and_then first (λ xs. and_then second (λ ys. Ok (xs ++ ys)))
 
--- ---- one entry
+-- ---- one reference
 -- a value of four bytes as a number, the greatest byte first (section 2.2.4)
 abbrev pub cell_in : List ℕ → Option ℕ
 cell_in value = if length value == 4 then Some (from_be_bytes w32 value) else None
@@ -30,23 +31,19 @@ cells_behind (counted name) node = option_and_then cell_in (value_of node.proper
 cells_behind bare node = Some 0
 cells_behind single node = Some 0
 
--- an entry: the device that it refers to, if any, and how many cells stand behind its phandle
-pub record Entry : Type 0 where
-  pub device : Option ℕ
-  pub cells : ℕ
+-- a reference is the device that it refers to, if any, and how many cells stand behind its phandle
+abbrev pub reference_with : Option ℕ → Option ℕ → Result Reference PlanError
+reference_with device None = Err BadSpecifier
+reference_with device (Some cells) = Ok (record { device = device; cells = cells })
 
-abbrev pub entry_with : Option ℕ → Option ℕ → Result Entry PlanError
-entry_with device None = Err BadSpecifier
-entry_with device (Some cells) = Ok (record { device = device; cells = cells })
+abbrev pub reference_at : Form → Option Target → Result Reference PlanError
+reference_at form None = Err DanglingPhandle
+reference_at form (Some node) = reference_with node.device (cells_behind form node)
 
-abbrev pub entry_at : Form → Option Target → Result Entry PlanError
-entry_at form None = Err DanglingPhandle
-entry_at form (Some node) = entry_with node.device (cells_behind form node)
-
--- the entry that begins with this phandle; 0 is one that is left empty
-abbrev pub entry_of : (ℕ → Option Target) → Form → ℕ → Result Entry PlanError
-entry_of target form phandle =
-    if phandle == 0 then Ok (record { device = None; cells = 0 }) else entry_at form (target phandle)
+-- the reference that begins with this phandle; 0 is one that is left empty
+abbrev pub reference_of : (ℕ → Option Target) → Form → ℕ → Result Reference PlanError
+reference_of target form phandle =
+    if phandle == 0 then Ok (record { device = None; cells = 0 }) else reference_at form (target phandle)
 
 -- ---- one value
 -- the cells of a value
@@ -54,13 +51,13 @@ abbrev pub cells_of : List ℕ → List ℕ
 cells_of (a ∷ b ∷ c ∷ d ∷ more) = from_be_bytes w32 (a ∷ b ∷ c ∷ d ∷ []) ∷ cells_of more
 cells_of _ = []
 
--- the devices that the entries in these cells refer to, in order, or the first fault; so many cells at the front still belong
--- to the entry before
+-- the devices that these cells refer to, in order, or the first fault; so many cells at the front still belong
+-- to the reference before
 abbrev pub devices_in : (ℕ → Option Target) → Form → ℕ → List ℕ → Result (List ℕ) PlanError
 devices_in target form left [] = if left == 0 then Ok [] else Err BadSpecifier
 devices_in target form left (cell ∷ more) =
     if left == 0
-    then and_then (entry_of target form cell) (λ e. followed_by (Ok (option_to_list e.device)) (devices_in target form e.cells more))
+    then and_then (reference_of target form cell) (λ r. followed_by (Ok (option_to_list r.device)) (devices_in target form r.cells more))
     else devices_in target form (left - 1) more
 
 -- cells, or one cell where one phandle is wanted
@@ -76,10 +73,10 @@ references target form value =
 
 -- ---- properties
 -- a property that the table doesn't have refers to none
-abbrev pub references_of : (ℕ → Option Target) → Property → Result (List ℕ) PlanError
-references_of target p = option_map_or (λ form. references target form p.value) (form_of p.name) (Ok [])
+abbrev pub property_references : (ℕ → Option Target) → Property → Result (List ℕ) PlanError
+property_references target p = option_map_or (λ form. references target form p.value) (form_of p.name) (Ok [])
 
 -- those of all properties, in order
 abbrev pub all_references : (ℕ → Option Target) → List Property → Result (List ℕ) PlanError
 all_references target [] = Ok []
-all_references target (p ∷ ps) = followed_by (references_of target p) (all_references target ps)
+all_references target (p ∷ ps) = followed_by (property_references target p) (all_references target ps)

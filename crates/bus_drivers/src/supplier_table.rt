@@ -1,6 +1,8 @@
 ghost use Rattle.std.specs.Prelude.{◌≡◌, map};
-ghost use Rattle.bus_drivers.specs.SupplierTable.{supplier_table};
-ghost use Rattle.bus_drivers.specs.Private.TableRows.{row_data};
+ghost use Rattle.std.specs.Option.{option_map};
+ghost use Rattle.bus_drivers.specs.SupplierTable.{supplier_table, is_for, form_of};
+ghost use Rattle.bus_drivers.specs.References.{is_length};
+ghost use Rattle.bus_drivers.specs.Private.TableRows.{pattern_data, form_data, row_data};
 
 /// Which properties a row is for.
 #[derive(Clone, Copy, Debug)]
@@ -11,6 +13,18 @@ pub enum Pattern {
     Ending(&'static [u8]),
     /// Each whose name ends in the first, but not in the second.
     EndingBut(&'static [u8], &'static [u8]),
+}
+
+impl Pattern {
+    fn is_for(&self, name: &[u8]) -> bool
+        ensures { result ≡ is_for name.now (pattern_data self.now) }
+    {
+        match self {
+            Pattern::Named(word) => name == *word,
+            Pattern::Ending(end) => name.ends_with(*end),
+            Pattern::EndingBut(end, other) => name.ends_with(*end) && !name.ends_with(*other),
+        }
+    }
 }
 
 /// What a property's value holds.
@@ -126,4 +140,29 @@ fn supplier_table() -> &'static [Row]
     ensures { map row_data result.now ≡ supplier_table }
 {
     &SUPPLIER_TABLE
+}
+
+impl Form {
+    /// What the property of this name holds, where it can name a supplier.
+    pub fn of(name: &[u8]) -> Option<Form>
+        ensures { option_map form_data result ≡ form_of name.now }
+    {
+        for row in supplier_table() {
+            if row.pattern.is_for(name) {
+                return Some(row.form);
+            }
+        }
+        None
+    }
+
+    /// Whether a value of so many bytes can hold this.
+    pub fn is_length(self, bytes: usize) -> bool
+        ensures { result ≡ is_length (form_data self) bytes }
+    {
+        match self {
+            Form::Counted(_) => bytes % 4 == 0,
+            Form::Bare => bytes % 4 == 0,
+            Form::Single => bytes == 4,
+        }
+    }
 }
