@@ -5,8 +5,10 @@ pub mod EntryPlaces
 pub mod EntryWalk
 pub mod EntryWays
 pub mod Lawful
-pub mod Mentions
-pub mod SuppliersLemmas
 pub mod MatchingLemmas
-pub mod StringsLemmas
+pub mod Mentions
 pub mod PlanningLemmas
+pub mod StringsLemmas
+pub mod SuppliersLemmas
+pub mod WalkEntries
+pub mod WalkLaws

@@ -5,3 +5,4 @@ pub mod Planning
 pub mod Suppliers
 pub mod Survey
 pub mod TableRows
+pub mod Walk

@@ -11,11 +11,13 @@ mod planning;
 mod reading;
 mod reference;
 mod statement;
+mod status;
 mod supplier_table;
 mod suppliers;
 mod survey;
 mod target;
 mod tree_device;
+mod walk;
 
 pub use driver::Driver;
 pub use driver_set::DriverSet;

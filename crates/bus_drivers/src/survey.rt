@@ -5,6 +5,7 @@ ghost use Rattle.bus_drivers.specs.Nodes.{device_ways};
 
 use crate::target::Target;
 use crate::tree_device::TreeDevice;
+use crate::walk::Walk;
 use bus_plan::PlanError;
 use dt_tree::{Node, Tree};
 use indexmap::IndexMap;
@@ -47,7 +48,14 @@ impl<'t> Survey<'t> {
             (λ survey. (survey ≡ tree.now.root) × (length (device_ways tree.now.root) ≤ MAX_DEVICES))
             (λ e. (e ≡ NoMemory) ⊎ ((e ≡ TooManyDevices) × (MAX_DEVICES < length (device_ways tree.now.root)))) }
     {
-        Err(PlanError::NoMemory)
+        tree.check();
+        let root = tree.root();
+        let walk = Walk::over(alloc, hasher, root)?;
+        Ok(Self {
+            root,
+            devices: walk.devices,
+            targets: walk.targets,
+        })
     }
 
     /// The devices, in preorder.

@@ -1,6 +1,6 @@
 -- What a walk over the tree meets, node by node, reserved nodes left out: the way to the node, the properties of the nodes from
 -- the root down to it, and the nearest device at or above it. The laws in `proofs/Entries.antt` tie it to `Nodes`.
-use Rattle.std.specs.Prelude.{ℕ, ◌+◌, Bool, false, not, ◌&&◌, ◌==◌, nat_eq, if◌then◌else◌, List, [], ◌∷◌, ◌++◌, map, filter, length, Option, Some, None, unwrap_or}
+use Rattle.std.specs.Prelude.{ℕ, ◌+◌, Bool, false, not, ◌&&◌, ◌==◌, nat_eq, if◌then◌else◌, List, [], ◌∷◌, ◌++◌, map, filter, length, Option, Some, None}
 use Rattle.std.specs.Option.{option_map, option_map_or}
 use Rattle.std.specs.List.{list_all, find}
 use Rattle.dt_tree.specs.declared.property.Property.{Property}

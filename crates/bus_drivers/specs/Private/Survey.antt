@@ -1,5 +1,5 @@
 -- What a survey keeps of its tree: the devices, and each phandle with its target, once.
-use Rattle.std.specs.Prelude.{◌≡◌, ℕ, nat_eq, List, Option}
+use Rattle.std.specs.Prelude.{◌≡◌, ℕ, List, Option}
 use Rattle.dt_tree.specs.NodeData.{NodeData}
 use Rattle.bus_drivers.specs.Nodes.{TreeDevice, Target, tree_devices, target_of}
 

@@ -1,0 +1,17 @@
+-- what is met so far and what is left is what the tree gives
+use Rattle.std.proofs.Common.{◌≡◌, ◌≤◌, ◌++◌, [], ℕ, nat_eq, length, drop}
+use Rattle.bus_plan.specs.declared.limits.TheConstants.{MAX_DEVICES}
+use Rattle.dt_tree.specs.NodeData.{siblings}
+use Rattle.dt_tree.specs.PhandleWalk.{or_else, unreserved}
+use Rattle.indexmap.specs.IndexMap.{get}
+use Rattle.bus_drivers.specs.Private.Walk.{devices_among, devices_in_tree, target_among, target_in_tree}
+use Rattle.bus_drivers.proofs.walk.Walk.over.Given as goal
+
+abbrev pub invariant-loop-top : goal.invariant-loop-top
+invariant-loop-top l = record {
+  devices : l.walk.devices.items ++ devices_among l.walk.way.items l.here.available (unreserved (siblings (drop l.top-index l.top-items))) ≡ devices_in_tree l.root;
+  few : length l.walk.devices.items ≤ MAX_DEVICES;
+  way : l.walk.way.items ≡ [];
+  targets : (phandle : ℕ) → or_else (get nat_eq l.walk.targets phandle) (target_among l.here.device (length l.walk.devices.items) (unreserved (siblings (drop l.top-index l.top-items))) phandle)
+      ≡ target_in_tree l.root phandle;
+}

@@ -1,0 +1,203 @@
+//! One walk over a tree, from the root down.
+ghost use Rattle.std.specs.Prelude.{◌≡◌, ◌≤◌, ◌⊎◌, ◌&&◌, ◌∷◌, ◌++◌, [], ℕ, nat_eq, length, IfOk, IfErr, OnOk, MatchResult};
+ghost use Rattle.bus_plan.specs.declared.error.PlanError.TheVariants.{NoMemory};
+ghost use Rattle.bus_plan.specs.declared.limits.TheConstants.{MAX_DEVICES};
+ghost use Rattle.dt_tree.specs.PhandleWalk.{or_else};
+ghost use Rattle.indexmap.specs.IndexMap.{get};
+ghost use Rattle.bus_drivers.specs.Nodes.{is_compatible, is_okay};
+ghost use Rattle.bus_drivers.specs.Private.Entries.{device_here};
+ghost use Rattle.bus_drivers.specs.Private.Walk.{own_device, devices_at, devices_in_tree, own_target, target_at, target_in_tree, Refuses};
+
+use crate::status::{is_compatible, is_okay};
+use crate::target::Target;
+use crate::tree_device::TreeDevice;
+use bus_plan::{Device, MAX_DEVICES, PlanError};
+use dt_tree::{Node, Path, is_reserved_name};
+use indexmap::IndexMap;
+use std::alloc::{AllocError, Global};
+use std::hash::RandomState;
+
+/// What the nodes above say of a node: whether all of them are okay, and which device they belong to.
+#[derive(Drop)]
+pub struct Above {
+    available: bool,
+    device: Option<usize>,
+}
+
+impl Above {
+    fn device(&self) -> Option<Device>
+        ensures { result ≡ self.now.device }
+    {
+        match self.device {
+            None => None,
+            Some(place) => Some(Device::new(place)),
+        }
+    }
+}
+
+/// A walk: the way to where it is, each name behind a slash, the devices so far, and the first node with each phandle.
+#[derive(Drop)]
+pub struct Walk<'t> {
+    way: Vec<u8>,
+    pub devices: Vec<TreeDevice<'t>>,
+    pub targets: IndexMap<u32, Target<'t>, RandomState>,
+}
+
+fn lengthen(way: &mut Vec<u8>, name: &[u8]) -> Result<(), AllocError>
+    ensures { OnOk result (way.new.items ≡ way.old.items ++ 47 ∷ name.now) }
+{
+    way.push(b'/')?;
+    way.extend_from_slice(name)
+}
+
+// The text of a way is a path, so that only memory can be missing.
+fn path_of(alloc: Global, way: &[u8]) -> Result<Path, PlanError>
+    ensures { MatchResult result (λ path. path ≡ way.now) (λ e. e ≡ NoMemory) }
+{
+    let Ok(path) = Path::parse(alloc, way) else {
+        return Err(PlanError::NoMemory);
+    };
+    Ok(path)
+}
+
+// The device's place is how many were kept before it.
+fn keep_device<'t>(
+    alloc: Global,
+    devices: &mut Vec<TreeDevice<'t>>,
+    way: &[u8],
+    available: bool,
+    node: &'t Node,
+) -> Result<usize, PlanError>
+    requires { length devices.old.items ≤ MAX_DEVICES }
+    ensures place { IfOk result (λ place. place ≡ length devices.old.items) }
+    ensures devices { OnOk result (devices.new.items ≡ devices.old.items ++ record { path = way.now; available = available; properties = node.now.properties } ∷ []) }
+    ensures few { OnOk result (length devices.new.items ≤ MAX_DEVICES) }
+    ensures err { IfErr result (Refuses (devices.old.items ++ record { path = way.now; available = available; properties = node.now.properties } ∷ [])) }
+{
+    if devices.len() == MAX_DEVICES {
+        return Err(PlanError::TooManyDevices);
+    }
+    let place = devices.len();
+    devices.push(TreeDevice::new(path_of(alloc, way)?, available, node))?;
+    Ok(place)
+}
+
+// Of several nodes with one phandle, the first stays.
+fn keep_target<'t>(
+    targets: &mut IndexMap<u32, Target<'t>, RandomState>,
+    node: &'t Node,
+    here: &Above,
+) -> Result<(), PlanError>
+    ensures targets { OnOk result ((phandle : ℕ) → get nat_eq targets.new phandle ≡ or_else (get nat_eq targets.old phandle) (own_target node.now.properties here.now.device phandle)) }
+    ensures err { IfErr result (λ e. e ≡ NoMemory) }
+{
+    let Some(phandle) = node.phandle() else {
+        return Ok(());
+    };
+    if !targets.contains_key(&phandle) {
+        targets.insert(phandle, Target::new(node, here.device()))?;
+    }
+    Ok(())
+}
+
+impl<'t> Walk<'t> {
+    fn new(alloc: Global, hasher: RandomState) -> Self
+        ensures way { result.way.items ≡ [] }
+        ensures devices { result.devices.items ≡ [] }
+        ensures targets { (phandle : ℕ) → get nat_eq result.targets phandle ≡ None }
+    {
+        Self {
+            way: Vec::new(alloc),
+            devices: Vec::new(alloc),
+            targets: IndexMap::with_hasher(alloc, hasher),
+        }
+    }
+
+    // The device that the node at the end of the way belongs to, which is kept where it is the node itself.
+    fn device_of(
+        &mut self,
+        alloc: Global,
+        node: &'t Node,
+        available: bool,
+        above: &Above,
+    ) -> Result<Option<usize>, PlanError>
+        requires { length self.old.devices.items ≤ MAX_DEVICES }
+        ensures device { IfOk result (λ device. device ≡ device_here node.now.properties (length self.old.devices.items) above.now.device) }
+        ensures devices { OnOk result (self.new.devices.items ≡ self.old.devices.items ++ own_device self.old.way.items available node.now.properties) }
+        ensures few { OnOk result (length self.new.devices.items ≤ MAX_DEVICES) }
+        ensures way { OnOk result (self.new.way ≡ self.old.way) }
+        ensures targets { OnOk result (self.new.targets ≡ self.old.targets) }
+        ensures err { IfErr result (Refuses (self.old.devices.items ++ own_device self.old.way.items available node.now.properties)) }
+    {
+        if !is_compatible(node) {
+            return Ok(above.device);
+        }
+        let device = keep_device(
+            alloc,
+            &mut self.devices,
+            self.way.as_slice(),
+            available,
+            node,
+        )?;
+        Ok(Some(device))
+    }
+
+    // Keeps the node at the end of the way, and tells what is above the nodes below it.
+    fn meet(&mut self, alloc: Global, node: &'t Node, above: &Above) -> Result<Above, PlanError>
+        requires { length self.old.devices.items ≤ MAX_DEVICES }
+        ensures available { IfOk result (λ here. here.available ≡ (above.now.available && is_okay node.now.properties)) }
+        ensures device { IfOk result (λ here. here.device ≡ device_here node.now.properties (length self.old.devices.items) above.now.device) }
+        ensures devices { OnOk result (self.new.devices.items ≡ self.old.devices.items ++ own_device self.old.way.items (above.now.available && is_okay node.now.properties) node.now.properties) }
+        ensures few { OnOk result (length self.new.devices.items ≤ MAX_DEVICES) }
+        ensures way { OnOk result (self.new.way ≡ self.old.way) }
+        ensures targets { OnOk result ((phandle : ℕ) → get nat_eq self.new.targets phandle ≡ or_else (get nat_eq self.old.targets phandle) (own_target node.now.properties (device_here node.now.properties (length self.old.devices.items) above.now.device) phandle)) }
+        ensures err { IfErr result (Refuses (self.old.devices.items ++ own_device self.old.way.items (above.now.available && is_okay node.now.properties) node.now.properties)) }
+    {
+        let available = above.available && is_okay(node);
+        let device = self.device_of(alloc, node, available, above)?;
+        let here = Above { available, device };
+        keep_target(&mut self.targets, node, &here)?;
+        Ok(here)
+    }
+
+    // Keeps a node and all below it. The way is longer meanwhile.
+    fn visit(&mut self, alloc: Global, node: &'t Node, above: &Above) -> Result<(), PlanError>
+        requires { length self.old.devices.items ≤ MAX_DEVICES }
+        ensures devices { OnOk result (self.new.devices.items ≡ self.old.devices.items ++ devices_at self.old.way.items above.now.available node.now) }
+        ensures few { OnOk result (length self.new.devices.items ≤ MAX_DEVICES) }
+        ensures way { OnOk result (self.new.way.items ≡ self.old.way.items) }
+        ensures targets { OnOk result ((phandle : ℕ) → get nat_eq self.new.targets phandle ≡ or_else (get nat_eq self.old.targets phandle) (target_at above.now.device (length self.old.devices.items) node.now phandle)) }
+        ensures err { IfErr result (Refuses (self.old.devices.items ++ devices_at self.old.way.items above.now.available node.now)) }
+    {
+        let len = self.way.len();
+        lengthen(&mut self.way, node.name_bytes())?;
+        let here = self.meet(alloc, node, above)?;
+        for child in node.children() {
+            self.visit(alloc, child, &here)?;
+        }
+        self.way.truncate(len);
+        Ok(())
+    }
+
+    /// The walk over the tree below this root, but for its reserved nodes.
+    pub fn over(alloc: Global, hasher: RandomState, root: &'t Node) -> Result<Self, PlanError>
+        ensures devices { IfOk result (λ walk. walk.devices.items ≡ devices_in_tree root.now) }
+        ensures few { IfOk result (λ walk. length walk.devices.items ≤ MAX_DEVICES) }
+        ensures targets { IfOk result (λ walk. (phandle : ℕ) → get nat_eq walk.targets phandle ≡ target_in_tree root.now phandle) }
+        ensures err { IfErr result (Refuses (devices_in_tree root.now)) }
+    {
+        let mut walk = Self::new(alloc, hasher);
+        let here = Above {
+            available: is_okay(root),
+            device: None,
+        };
+        keep_target(&mut walk.targets, root, &here)?;
+        for top in root.children() {
+            if is_reserved_name(top.name_bytes()) {
+                continue;
+            }
+            walk.visit(alloc, top, &here)?;
+        }
+        Ok(walk)
+    }
+}
