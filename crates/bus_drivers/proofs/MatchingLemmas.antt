@@ -1,17 +1,11 @@
 -- The index from strings to drivers, string by string.
-use Rattle.std.proofs.Common.{◌≡◌, ◌∙◌, ap, sym, refl, ℕ, suc, ◌+◌, ◌<◌, Bool, true, false, ◌||◌, List, [], ◌∷◌, length, drop, get_or, Option, None, Some, add-one}
-use Rattle.std.specs.Prelude.{if◌then◌else◌, is_some}
+use Rattle.std.proofs.Common.{◌≡◌, refl, ℕ, Bool, true, false, List, [], ◌∷◌, Option, None, Some}
+use Rattle.std.specs.Prelude.{is_some}
 use Rattle.std.specs.Map.{lookup}
 use Rattle.std.specs.Option.{option_copied}
 use Rattle.std.specs.Borrow.{Bor}
 use Rattle.std.specs.Str.{bytes_eq}
-use Rattle.std.proofs.Math.Seq.{drop-cons}
 use Rattle.indexmap.specs.IndexMap.{insert_entry}
-use Rattle.dt_tree.specs.PhandleWalk.{or_else}
-use Rattle.bus_plan.specs.PlanPaths.{is_among}
-use Rattle.bus_plan.proofs.DistinctLemmas.{bytes_eq-same}
-use Rattle.bus_drivers.specs.Driver.{DriverData}
-use Rattle.bus_drivers.specs.TreePlan.{driver_listing}
 use Rattle.bus_drivers.specs.Private.Matching.{driver_found, found_with}
 
 abbrev Entries : Type 0

@@ -1,6 +1,6 @@
 -- The refusals of a plan, in their order.
-use Rattle.std.proofs.Common.{◌≡◌, ◌∙◌, ap, sym, refl, ℕ, ◌≤◌, ◌<◌, Bool, true, false, not, List, [], ◌∷◌, length, Option, None, Some}
-use Rattle.std.specs.Prelude.{Result, Ok, Err, nat_le}
+use Rattle.std.proofs.Common.{◌≡◌, ◌∙◌, ap, sym, refl, ℕ, ◌≤◌, List, [], ◌∷◌, length, Option, None, Some}
+use Rattle.std.specs.Prelude.{Result, Err}
 use Rattle.std.specs.Option.{option_map}
 use Rattle.std.proofs.lemmas.Bool.{le-leb}
 use Rattle.dt_tree.specs.NodeData.{NodeData}
@@ -50,6 +50,11 @@ module _ (target : ℕ → Option Target) (set : DriverSetData) (devices : List 
   pub plan-known : unknown_fail devices set.fails ≡ None → plan_of_devices target set devices ≡ planned_from target set 0 devices
   plan-known none = rw none refl
 
-pub few-devices : (root : NodeData) (set : DriverSetData) → length (device_ways root) ≤ MAX_DEVICES
+few-devices : (root : NodeData) (set : DriverSetData) → length (device_ways root) ≤ MAX_DEVICES
     → plan_of root set ≡ plan_of_devices (target_of root) set (tree_devices root)
 few-devices root set few = rw (le-leb (length (device_ways root)) MAX_DEVICES few) refl
+
+-- a survey of the tree serves
+pub surveyed : (root survey : NodeData) (set : DriverSetData) (r : Result (List PlannedDevice) PlanError) → survey ≡ root → length (device_ways root) ≤ MAX_DEVICES
+    → plan_of_devices (target_of survey) set (tree_devices survey) ≡ r → plan_of root set ≡ r
+surveyed root survey set r is few h = few-devices root set few ∙ ap (λ s. plan_of_devices (target_of s) set (tree_devices s)) (sym is) ∙ h

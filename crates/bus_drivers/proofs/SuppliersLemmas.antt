@@ -1,6 +1,6 @@
 -- Suppliers that are added while a device's properties are read.
 use Rattle.std.proofs.Common.{◌≡◌, ◌∙◌, ap, sym, refl, ℕ, suc, ◌+◌, ◌<◌, Bool, true, false, not, ◌||◌, ◌&&◌, List, [], ◌∷◌, ◌++◌, filter, append_assoc, append-nil, length, drop, get_or, Option, add-one}
-use Rattle.std.specs.Prelude.{◌==◌, if◌then◌else◌, Result, Ok, Err}
+use Rattle.std.specs.Prelude.{◌==◌, Result, Ok, Err}
 use Rattle.std.specs.List.{list_any}
 use Rattle.std.proofs.Math.Seq.{drop-cons}
 use Rattle.std.proofs.lemmas.Bool.{eqb-true}
@@ -9,7 +9,7 @@ use Rattle.dt_tree.specs.declared.property.Property.{Property}
 use Rattle.bus_plan.specs.declared.error.PlanError.{PlanError}
 use Rattle.bus_drivers.specs.Nodes.{Target}
 use Rattle.bus_drivers.specs.References.{and_then, followed_by, property_references, all_references}
-use Rattle.bus_drivers.specs.TreePlan.{first_mentions, suppliers_among}
+use Rattle.bus_drivers.specs.TreePlan.{suppliers_among}
 use Rattle.bus_drivers.specs.Private.Suppliers.{Suppliers, with_mention, with_mentions, adding}
 
 mentions-append : (s : Suppliers) (ds es : List ℕ) → with_mentions s (ds ++ es) ≡ with_mentions (with_mentions s ds) es

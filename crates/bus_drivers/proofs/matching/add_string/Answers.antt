@@ -1,5 +1,5 @@
 -- A string that isn't there stands last.
-use Rattle.std.proofs.Common.{◌≡◌, ◌∙◌, ap, sym}
+use Rattle.std.proofs.Common.{◌∙◌, ap, sym}
 use Rattle.bus_drivers.specs.Private.Matching.{driver_found}
 use Rattle.bus_drivers.proofs.MatchingLemmas.{absent, found-inserted}
 use Rattle.bus_drivers.proofs.matching.add_string.Goals as goal

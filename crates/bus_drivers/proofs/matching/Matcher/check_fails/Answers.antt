@@ -1,5 +1,5 @@
 -- The index has the paths of the devices.
-use Rattle.std.proofs.Common.{◌≡◌, ◌∙◌, ap, sym, inr}
+use Rattle.std.proofs.Common.{◌∙◌, ap, inr}
 use Rattle.std.specs.Option.{option_map}
 use Rattle.bus_drivers.specs.Driver.{DriverSetData}
 use Rattle.bus_drivers.specs.Private.Matching.{unknown_among}
