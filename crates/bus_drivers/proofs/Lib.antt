@@ -1,7 +1,14 @@
+pub mod DevicePaths
 pub mod DraftLemmas
 pub mod Entries
 pub mod EntryPlaces
 pub mod EntryWalk
 pub mod EntryWays
+pub mod Lawful
+pub mod MatchingLemmas
+pub mod Mentions
+pub mod PlanningLemmas
+pub mod StringsLemmas
+pub mod SuppliersLemmas
 pub mod WalkEntries
 pub mod WalkLaws

@@ -1,0 +1,60 @@
+-- The refusals of a plan, in their order.
+use Rattle.std.proofs.Common.{◌≡◌, ◌∙◌, ap, sym, refl, ℕ, ◌≤◌, List, [], ◌∷◌, length, Option, None, Some}
+use Rattle.std.specs.Prelude.{Result, Err}
+use Rattle.std.specs.Option.{option_map}
+use Rattle.std.proofs.lemmas.Bool.{le-leb}
+use Rattle.dt_tree.specs.NodeData.{NodeData}
+use Rattle.bus_plan.specs.declared.error.PlanError.{PlanError}
+use Rattle.bus_plan.specs.declared.error.PlanError.TheVariants.{UnknownPath}
+use Rattle.bus_plan.specs.declared.limits.TheConstants.{MAX_DEVICES}
+use Rattle.bus_plan.specs.Plan.{PlannedDevice}
+use Rattle.bus_plan.specs.PlanPaths.{is_among}
+use Rattle.bus_drivers.specs.Driver.{FailData, DriverSetData}
+use Rattle.bus_drivers.specs.Nodes.{TreeDevice, Target, device_ways, tree_devices, target_of}
+use Rattle.bus_drivers.specs.TreePlan.{unknown_fail, planned_from, plan_of_devices, plan_of}
+use Rattle.bus_drivers.specs.Private.Matching.{device_paths, unknown_among}
+
+-- ---- `fail` lines
+abbrev are_same : List (List ℕ) → List (List ℕ) → Type 0
+are_same paths others = (q : List ℕ) → is_among q paths ≡ is_among q others
+
+unknown-same : (paths others : List (List ℕ)) (fails : List FailData) → are_same paths others → unknown_among paths fails ≡ unknown_among others fails
+unknown-same paths others [] same = refl
+unknown-same paths others (f ∷ fails) same = rw (same f.path, unknown-same paths others fails same) refl
+
+module _ (paths : List (List ℕ)) (devices : List TreeDevice) (fails : List FailData) (same : are_same paths (device_paths devices))
+    (found : Option ℕ) (is : found ≡ option_map (λ f. f.line) (unknown_among paths fails)) where
+  line : found ≡ option_map (λ f. f.line) (unknown_fail devices fails)
+  line = is ∙ ap (option_map (λ f. f.line)) (unknown-same paths (device_paths devices) fails same)
+
+  pub fails-known : found ≡ None → unknown_fail devices fails ≡ None
+  fails-known none = by (unknown_fail devices fails) (sym line ∙ none) where
+    by : (o : Option FailData) → option_map (λ f. f.line) o ≡ None → o ≡ None
+    by None h = refl
+    by (Some f) h = cc
+
+  pub fails-unknown : (n : ℕ) → found ≡ Some n → option_map (λ f. UnknownPath f.line) (unknown_fail devices fails) ≡ Some (UnknownPath n)
+  fails-unknown n some = by (unknown_fail devices fails) (sym line ∙ some) where
+    by : (o : Option FailData) → option_map (λ f. f.line) o ≡ Some n → option_map (λ f. UnknownPath f.line) o ≡ Some (UnknownPath n)
+    by None h = cc
+    by (Some f) h = let at : f.line ≡ n = cc in ap (λ k. Some (UnknownPath k)) at
+
+-- ---- the plan
+module _ (target : ℕ → Option Target) (set : DriverSetData) (devices : List TreeDevice) where
+  pub plan-unknown : (e : PlanError) → option_map (λ f. UnknownPath f.line) (unknown_fail devices set.fails) ≡ Some e → plan_of_devices target set devices ≡ Err e
+  plan-unknown e h = by (unknown_fail devices set.fails) refl h where
+    by : (o : Option FailData) → unknown_fail devices set.fails ≡ o → option_map (λ f. UnknownPath f.line) o ≡ Some e → plan_of_devices target set devices ≡ Err e
+    by None is g = cc
+    by (Some f) is g = rw is (let at : UnknownPath f.line ≡ e = cc in ap Err at)
+
+  pub plan-known : unknown_fail devices set.fails ≡ None → plan_of_devices target set devices ≡ planned_from target set 0 devices
+  plan-known none = rw none refl
+
+few-devices : (root : NodeData) (set : DriverSetData) → length (device_ways root) ≤ MAX_DEVICES
+    → plan_of root set ≡ plan_of_devices (target_of root) set (tree_devices root)
+few-devices root set few = rw (le-leb (length (device_ways root)) MAX_DEVICES few) refl
+
+-- a survey of the tree serves
+pub surveyed : (root survey : NodeData) (set : DriverSetData) (r : Result (List PlannedDevice) PlanError) → survey ≡ root → length (device_ways root) ≤ MAX_DEVICES
+    → plan_of_devices (target_of survey) set (tree_devices survey) ≡ r → plan_of root set ≡ r
+surveyed root survey set r is few h = few-devices root set few ∙ ap (λ s. plan_of_devices (target_of s) set (tree_devices s)) (sym is) ∙ h

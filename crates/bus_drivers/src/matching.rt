@@ -1,0 +1,203 @@
+ghost use Rattle.std.specs.Prelude.{◌≡◌, ◌⊎◌, ◌<◌, ◌∷◌, [], ℕ, List, Some, None, IfOk, IfSome, MatchOption, MatchResult, OnOk, length, position};
+ghost use Rattle.std.specs.Option.{option_copied, option_map};
+ghost use Rattle.dt_tree.specs.PhandleWalk.{or_else};
+ghost use Rattle.bus_plan.specs.declared.error.PlanError.TheVariants.{NoMemory, UnknownPath};
+ghost use Rattle.bus_drivers.specs.TreePlan.{driver_listing, driver_matching, driver_for, is_zero, strings, verdict_for, planned_device, unknown_fail};
+ghost use Rattle.bus_drivers.specs.Private.Matching.{driver_found, found_with, unknown_among};
+
+use crate::driver::Driver;
+use crate::driver_set::DriverSet;
+use crate::fail_line::FailLine;
+use crate::path_sets::{paths_of_devices, paths_of_fails};
+use crate::tree_device::TreeDevice;
+use bus_plan::{Device, PathIndex, PlanError, Planned, Verdict};
+use dt_tree::Name;
+use indexmap::IndexMap;
+use std::alloc::{AllocError, Global};
+use std::hash::RandomState;
+use std::marker::Model;
+
+/// A driver set with what finds its drivers and its `fail` lines without a walk. The hashers are random, since strings and
+/// paths come from strangers.
+#[derive(Drop)]
+pub struct Matcher<'d> {
+    set: &'d DriverSet,
+    first: IndexMap<&'d [u8], &'d Name, RandomState>,
+    fails: PathIndex,
+}
+
+impl<'d> Model for Matcher<'d> {
+    ghost use Rattle.bus_drivers.specs.Driver.{DriverSetData};
+    ghost use Rattle.bus_drivers.specs.Private.Matching.{IsMatcher};
+
+    ghost Value = { DriverSetData };
+
+    ghost view = { λ matcher. matcher.set.now };
+
+    ghost invariant = { λ matcher. IsMatcher matcher.set.now matcher.first.entries matcher.fails };
+}
+
+fn zero_place(bytes: &[u8]) -> Option<usize>
+    ensures { result ≡ position is_zero bytes.now }
+{
+    bytes.iter().position(|byte| *byte == 0)
+}
+
+// The first string and the bytes behind its zero byte.
+fn next_string(bytes: &[u8]) -> Option<(&[u8], &[u8])>
+    ensures string { MatchOption result (strings bytes.now ≡ [])
+        (λ next. strings bytes.now ≡ next.0.now ∷ strings next.1.now) }
+    ensures fewer { IfSome result (λ next. length next.1.now < length bytes.now) }
+{
+    let Some(end) = zero_place(bytes) else {
+        return None;
+    };
+    Some((&bytes[..end], &bytes[end + 1..]))
+}
+
+type Found<'d> = IndexMap<&'d [u8], &'d Name, RandomState>;
+
+fn add_string<'d>(found: &mut Found<'d>, string: &'d [u8], name: &'d Name) -> Result<(), AllocError>
+    ensures { OnOk result ((q : List ℕ) → driver_found found.new.entries q ≡ found_with (driver_found found.old.entries q) name.now (string.now ∷ []) q) }
+{
+    if found.contains_key(string) {
+        return Ok(());
+    }
+    found.insert(string, name)?;
+    Ok(())
+}
+
+fn add_driver<'d>(found: &mut Found<'d>, driver: &'d Driver) -> Result<(), AllocError>
+    ensures { OnOk result ((q : List ℕ) → driver_found found.new.entries q ≡ found_with (driver_found found.old.entries q) driver.now.name driver.now.compatibles q) }
+{
+    for string in driver.compatibles() {
+        add_string(found, string.as_slice(), driver.name())?;
+    }
+    Ok(())
+}
+
+fn add_drivers<'d>(found: &mut Found<'d>, drivers: &'d [Driver]) -> Result<(), AllocError>
+    ensures { OnOk result ((q : List ℕ) → driver_found found.new.entries q ≡ or_else (driver_found found.old.entries q) (driver_listing drivers.now q)) }
+{
+    for driver in drivers {
+        add_driver(found, driver)?;
+    }
+    Ok(())
+}
+
+fn verdict_of(driver: &Option<Name>, fails: bool) -> Verdict
+    ensures { result ≡ verdict_for driver.now fails }
+{
+    match driver {
+        None => Verdict::Binds,
+        Some(_) => {
+            if fails {
+                Verdict::Fails
+            } else {
+                Verdict::Binds
+            }
+        }
+    }
+}
+
+fn copy_of(alloc: Global, name: Option<&Name>) -> Result<Option<Name>, AllocError>
+    ensures { IfOk result (λ copy. copy ≡ option_copied name.entry) }
+{
+    match name {
+        None => Ok(None),
+        Some(name) => Ok(Some(name.copy(alloc)?)),
+    }
+}
+
+// The first line whose path is none of these.
+fn unknown_line(paths: &PathIndex, fails: &[FailLine]) -> Option<usize>
+    ensures { result ≡ option_map (λ f. f.line) (unknown_among paths.now fails.now) }
+{
+    for fail in fails {
+        if !paths.contains(fail.path().as_bytes()) {
+            return Some(fail.line());
+        }
+    }
+    None
+}
+
+impl<'d> Matcher<'d> {
+    /// The matcher of a driver set.
+    pub fn of(alloc: Global, hasher: RandomState, set: &'d DriverSet) -> Result<Self, AllocError>
+        ensures { IfOk result (λ matcher. matcher ≡ set.now) }
+    {
+        let mut first = IndexMap::with_hasher(alloc, hasher);
+        add_drivers(&mut first, set.drivers())?;
+        let fails = paths_of_fails(alloc, hasher, set.fails())?;
+        Ok(Self { set, first, fails })
+    }
+
+    // The first driver that lists a string.
+    fn listing(&self, string: &[u8]) -> Option<&'d Name>
+        ensures { option_copied result ≡ driver_listing self.now.drivers string.now }
+    {
+        match self.first.get(string) {
+            None => None,
+            Some(name) => Some(*name),
+        }
+    }
+
+    // The driver for the earliest string in a value of `compatible` that one lists.
+    fn matching(&self, compatible: &[u8]) -> Option<&'d Name>
+        ensures { option_copied result ≡ driver_matching self.now.drivers (strings compatible.now) }
+    {
+        let mut rest = compatible;
+        while let Some((string, behind)) = next_string(rest) {
+            rest = behind;
+            if let Some(name) = self.listing(string) {
+                return Some(name);
+            }
+        }
+        None
+    }
+
+    fn driver_for(&self, device: &TreeDevice<'_>) -> Option<&'d Name>
+        ensures { option_copied result ≡ driver_for self.now.drivers device.now }
+    {
+        if !device.available() {
+            return None;
+        }
+        match device.node().value(b"compatible") {
+            None => None,
+            Some(value) => self.matching(value.as_slice()),
+        }
+    }
+
+    /// A device with its driver and its verdict.
+    pub fn planned(
+        &self,
+        alloc: Global,
+        device: &TreeDevice<'_>,
+        suppliers: Vec<Device>,
+    ) -> Result<Planned, AllocError>
+        ensures { IfOk result (λ planned. planned ≡ planned_device self.now device.now suppliers.items) }
+    {
+        let path = device.path().copy(alloc)?;
+        let driver = copy_of(alloc, self.driver_for(device))?;
+        let verdict = verdict_of(&driver, self.fails.contains(path.as_bytes()));
+        Ok(Planned::new(path, device.available(), driver, verdict, suppliers))
+    }
+
+    /// Refused with the first `fail` line whose path is no device's.
+    pub fn check_fails(
+        &self,
+        alloc: Global,
+        hasher: RandomState,
+        devices: &[TreeDevice<'_>],
+    ) -> Result<(), PlanError>
+        ensures { MatchResult result
+            (λ _. unknown_fail devices.now self.now.fails ≡ None)
+            (λ e. (e ≡ NoMemory) ⊎ (option_map (λ f. UnknownPath f.line) (unknown_fail devices.now self.now.fails) ≡ Some e)) }
+    {
+        let paths = paths_of_devices(alloc, hasher, devices)?;
+        match unknown_line(&paths, self.set.fails()) {
+            None => Ok(()),
+            Some(line) => Err(PlanError::UnknownPath(line)),
+        }
+    }
+}

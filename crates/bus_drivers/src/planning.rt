@@ -1,0 +1,79 @@
+ghost use Rattle.std.specs.Prelude.{◌≡◌, ◌⊎◌, Ok, Err, MatchResult};
+ghost use Rattle.bus_plan.specs.declared.error.PlanError.TheVariants.{NoMemory};
+ghost use Rattle.bus_plan.specs.PlanFile.{Answers};
+ghost use Rattle.bus_drivers.specs.Nodes.{target_of, tree_devices};
+ghost use Rattle.bus_drivers.specs.TreePlan.{plan_of, plan_of_devices, planned_from};
+ghost use Rattle.bus_drivers.specs.Private.Planning.{planned_at};
+
+use crate::driver_set::DriverSet;
+use crate::matching::Matcher;
+use crate::suppliers::suppliers_of;
+use crate::survey::Survey;
+use crate::tree_device::TreeDevice;
+use bus_plan::{Device, Plan, PlanError, Planned};
+use dt_tree::Tree;
+use std::alloc::Global;
+use std::hash::RandomState;
+
+fn planned_device(
+    alloc: Global,
+    hasher: RandomState,
+    survey: &Survey<'_>,
+    matcher: &Matcher<'_>,
+    place: Device,
+    device: &TreeDevice<'_>,
+) -> Result<Planned, PlanError>
+    ensures { Answers (planned_at (target_of survey.now) matcher.now place device.now) result }
+{
+    let properties = device.node().properties();
+    let suppliers = suppliers_of(alloc, hasher, survey, place, properties)?;
+    Ok(matcher.planned(alloc, device, suppliers)?)
+}
+
+fn planned_devices(
+    alloc: Global,
+    hasher: RandomState,
+    survey: &Survey<'_>,
+    matcher: &Matcher<'_>,
+) -> Result<Vec<Planned>, PlanError>
+    ensures { let planned = planned_from (target_of survey.now) matcher.now 0 (tree_devices survey.now) in
+        MatchResult result (λ devices. planned ≡ Ok devices.items) (λ e. (e ≡ NoMemory) ⊎ (planned ≡ Err e)) }
+{
+    let mut planned = Vec::with_capacity(alloc, survey.devices().len())?;
+    for (place, device) in survey.devices().iter().enumerate() {
+        let device = planned_device(alloc, hasher, survey, matcher, Device::new(place), device)?;
+        planned.push(device)?;
+    }
+    Ok(planned)
+}
+
+// The devices of a plan: `fail` lines are refused before properties.
+fn plan_devices(
+    alloc: Global,
+    hasher: RandomState,
+    survey: &Survey<'_>,
+    drivers: &DriverSet,
+) -> Result<Vec<Planned>, PlanError>
+    ensures { let planned = plan_of_devices (target_of survey.now) drivers.now (tree_devices survey.now) in
+        MatchResult result (λ devices. planned ≡ Ok devices.items) (λ e. (e ≡ NoMemory) ⊎ (planned ≡ Err e)) }
+{
+    let matcher = Matcher::of(alloc, hasher, drivers)?;
+    matcher.check_fails(alloc, hasher, survey.devices())?;
+    planned_devices(alloc, hasher, survey, &matcher)
+}
+
+/// The plan of a tree: its devices with their drivers and suppliers, or the first refusal.
+pub fn plan(
+    alloc: Global,
+    hasher: RandomState,
+    tree: &Tree,
+    drivers: &DriverSet,
+) -> Result<Plan, PlanError>
+    ensures { Answers (plan_of tree.now.root drivers.now) result }
+{
+    tree.check();
+    drivers.check();
+    let survey = Survey::of(alloc, hasher, tree)?;
+    let devices = plan_devices(alloc, hasher, &survey, drivers)?;
+    Ok(Plan::of(alloc, hasher, devices)?)
+}
