@@ -1,6 +1,7 @@
 pub mod Blocks
 pub mod HeldBlob
 pub mod Holding
+pub mod Kept
 pub mod Lasting
 pub mod Laying
 pub mod Lines

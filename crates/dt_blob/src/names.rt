@@ -1,5 +1,5 @@
 //! The names of a tree's properties.
-ghost use Rattle.std.specs.Prelude.{◌≡◌, ◌<◌, [], slice_get, length, position, OnOk, IfOk, Some};
+ghost use Rattle.std.specs.Prelude.{◌≡◌, ◌<◌, [], slice_get, length, min, position, OnOk, IfOk, Some};
 ghost use Rattle.std.specs.Str.{bytes_eq};
 ghost use Rattle.dt_tree.specs.NodeData.{property_names};
 ghost use Rattle.dt_blob.specs.Blob.{names_in};
@@ -12,21 +12,32 @@ use std::alloc::{AllocError, Global};
 use std::hash::RandomState;
 use std::marker::Model;
 
-/// Names that differ, in order of first sight, each found without a walk.
+/// How many lengths of names are told apart; longer ones, of which there are none, count as the last.
+const LENGTHS: usize = 256;
+
+/// Names that differ, in order of first sight, each found without a walk. What has the length of none isn't looked up.
 #[derive(Drop)]
 pub(crate) struct Names<'a> {
     set: IndexSet<&'a [u8], RandomState>,
+    lengths: [bool; LENGTHS],
 }
 
 impl<'a> Model for Names<'a> {
     ghost use Rattle.std.specs.Prelude.{List, ℕ, map};
-    ghost use Rattle.dt_blob.specs.Steps.Table.{AreNames};
+    ghost use Rattle.dt_blob.specs.Steps.Table.{AreKept};
 
     ghost Value = { List (List ℕ) };
 
     ghost view = { λ names. map (λ name. name.now) names.set.keys };
 
-    ghost invariant = { λ names. AreNames (map (λ name. name.now) names.set.keys) };
+    ghost invariant = { λ names. AreKept (map (λ name. name.now) names.set.keys) names.lengths };
+}
+
+fn place_of_length(len: usize) -> usize
+    ensures value { result ≡ min len 255 }
+    ensures inside { result < 256 }
+{
+    len.min(LENGTHS - 1)
 }
 
 impl<'a> Names<'a> {
@@ -48,6 +59,7 @@ impl<'a> Names<'a> {
     {
         Self {
             set: IndexSet::with_hasher(alloc, hasher),
+            lengths: [false; LENGTHS],
         }
     }
 
@@ -55,7 +67,9 @@ impl<'a> Names<'a> {
         ensures { OnOk result (self.new ≡ with_sight self.old name.now) }
     {
         name.check();
-        self.set.insert(name.as_bytes())?;
+        let name = name.as_bytes();
+        self.set.insert(name)?;
+        self.lengths[place_of_length(name.len())] = true;
         Ok(())
     }
 
@@ -96,6 +110,9 @@ impl<'a> Names<'a> {
     pub(crate) fn position(&self, name: &[u8]) -> Option<usize>
         ensures { result ≡ position (bytes_eq name.now) self.now }
     {
+        if !self.lengths[place_of_length(name.len())] {
+            return None;
+        }
         self.set.get_index_of(name)
     }
 
