@@ -1,0 +1,4 @@
+pub mod Faults
+pub mod GivenSteps
+pub mod KeptNodes
+pub mod Orders

@@ -1,0 +1,4 @@
+pub mod BuildError
+pub mod BuildFault
+pub mod Numbers
+pub mod Said

@@ -1,0 +1,15 @@
+//! Trees out of devicetree sources: edits, phandles and references.
+//!
+//! The Devicetree Specification v0.4, chapter 6 and section 2.3.3, and `dt_meaning` say what a source means.
+#![tactic(auto)]
+
+mod edits;
+mod error;
+mod numbers;
+mod phandle;
+mod reserved;
+
+pub use edits::edited;
+pub use error::BuildError;
+pub use numbers::{Given, Numbered, given_phandles};
+pub use reserved::is_reserved;
