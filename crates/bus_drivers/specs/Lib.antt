@@ -3,3 +3,4 @@ pub mod Draft
 pub mod DriverFile
 pub mod Nodes
 pub mod Private
+pub mod TreePlan

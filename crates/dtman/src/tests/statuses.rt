@@ -39,7 +39,7 @@ fn run_over(
     output.pace = 5;
     output.calls_left = output_fails_at;
     let errors = Errors::new(rt.alloc());
-    let status = run_words(rt.alloc(), shelf, &mut output, &errors, words);
+    let status = run_words(rt.alloc(), shelf, rt, &mut output, &errors, words);
     let Memory { written, .. } = output;
     let Errors { text } = errors;
     Traces {
