@@ -2,5 +2,8 @@ pub mod Driver
 pub mod Draft
 pub mod DriverFile
 pub mod Nodes
+pub mod SupplierTable
+pub mod References
+pub mod TreePlan
 pub mod Private
 pub mod TreePlan

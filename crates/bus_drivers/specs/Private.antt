@@ -1,3 +1,5 @@
 -- What only the contracts of private functions cite: a reader of the public ones needs none of it.
 pub mod Entries
+pub mod Suppliers
 pub mod Survey
+pub mod TableRows

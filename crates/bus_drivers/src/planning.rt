@@ -7,7 +7,7 @@ use dt_tree::Tree;
 use std::alloc::Global;
 use std::hash::RandomState;
 
-/// The plan of a tree: its devices in preorder, each with its driver and suppliers.
+/// The plan of a tree: its devices with their drivers and suppliers, or the first refusal.
 pub fn plan(
     alloc: Global,
     hasher: RandomState,

@@ -22,14 +22,14 @@ const REPORT: &str = "/clk bound fixed\n/uart due\nbusy\n";
 
 /// What a run of the program left.
 #[derive(Drop)]
-struct Traces {
-    status: u8,
-    output: Vec<u8>,
-    errors: String,
+pub struct Traces {
+    pub status: u8,
+    pub output: Vec<u8>,
+    pub errors: String,
 }
 
 /// Runs the program over the files, where a call on standard output may fail.
-fn run_over(
+pub fn run_over(
     rt: &HostRuntime,
     words: &[&str],
     shelf: &mut Shelf<'_>,

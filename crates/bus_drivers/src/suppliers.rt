@@ -1,0 +1,91 @@
+ghost use Rattle.std.specs.Prelude.{◌≡◌, ◌<◌, ◌⊎◌, ◌∷◌, [], Ok, IfOk, IfSome, OnOk, MatchOption, MatchResult, length};
+ghost use Rattle.bus_plan.specs.declared.error.PlanError.TheVariants.{NoMemory};
+ghost use Rattle.bus_drivers.specs.Nodes.{target_of};
+ghost use Rattle.bus_drivers.specs.References.{and_then, cells_of, references, property_references, all_references};
+ghost use Rattle.bus_drivers.specs.TreePlan.{suppliers_among};
+ghost use Rattle.bus_drivers.specs.Private.Suppliers.{with_mention, IsAdded};
+ghost use Rattle.bus_drivers.specs.Private.TableRows.{form_data};
+
+use crate::reference::Reference;
+use crate::supplier_table::Form;
+use crate::survey::Survey;
+use bus_plan::{Device, PlanError};
+use dt_tree::{Node, Property};
+use indexmap::IndexSet;
+use std::alloc::{AllocError, Global};
+use std::hash::RandomState;
+use std::marker::Model;
+
+/// The devices that a device's properties refer to, so far: each once, in order of first mention, the device itself left out.
+#[derive(Drop)]
+pub struct Suppliers {
+    own: usize,
+    found: IndexSet<usize, RandomState>,
+}
+
+impl Model for Suppliers {
+    ghost use Rattle.bus_drivers.specs.Private.Suppliers.{Suppliers as Data};
+
+    ghost Value = { Data };
+
+    ghost view = { λ s. record { own = s.own; found = s.found.keys } };
+}
+
+// The first cell and the bytes behind it.
+fn next_cell(bytes: &[u8]) -> Option<(u32, &[u8])>
+    ensures cell { MatchOption result (cells_of bytes.now ≡ []) (λ next. cells_of bytes.now ≡ next.0 ∷ cells_of next.1.now) }
+    ensures fewer { IfSome result (λ next. length next.1.now < length bytes.now) }
+{
+    let [a, b, c, d, rest @ ..] = bytes else {
+        return None;
+    };
+    Some((u32::from_be_bytes([*a, *b, *c, *d]), rest))
+}
+
+impl Suppliers {
+    fn new(alloc: Global, hasher: RandomState, own: Device) -> Self
+        ensures { result ≡ record { own = own; found = [] } }
+    {
+        Self {
+            own: own.index(),
+            found: IndexSet::with_hasher(alloc, hasher),
+        }
+    }
+
+    fn add(&mut self, device: Device) -> Result<(), AllocError>
+        ensures { OnOk result (self.new ≡ with_mention self.old device) }
+    {
+        if device.index() == self.own {
+            return Ok(());
+        }
+        self.found.insert(device.index())?;
+        Ok(())
+    }
+
+    /// Adds what a value refers to.
+    fn add_value(&mut self, survey: &Survey<'_>, form: Form, value: &[u8]) -> Result<(), PlanError>
+        ensures { IsAdded (references (target_of survey.now) (form_data form) value.now) self.old result self.new }
+    {
+        if !form.is_length(value.len()) {
+            return Err(PlanError::BadSpecifier);
+        }
+        let mut rest = value;
+        let mut left = 0;
+        while let Some((cell, behind)) = next_cell(rest) {
+            rest = behind;
+            if left > 0 {
+                left -= 1;
+                continue;
+            }
+            let reference = Reference::of(survey, form, cell)?;
+            if let Some(device) = reference.device {
+                self.add(device)?;
+            }
+            left = reference.cells;
+        }
+        if left > 0 {
+            return Err(PlanError::BadSpecifier);
+        }
+        Ok(())
+    }
+}
