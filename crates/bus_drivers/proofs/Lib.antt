@@ -7,3 +7,4 @@ pub mod EntryWays
 pub mod Lawful
 pub mod Mentions
 pub mod SuppliersLemmas
+pub mod MatchingLemmas

@@ -5,6 +5,7 @@ mod draft;
 mod driver;
 mod driver_set;
 mod fail_line;
+mod matching;
 mod planning;
 mod reading;
 mod reference;

@@ -88,4 +88,55 @@ impl Suppliers {
         }
         Ok(())
     }
+
+    /// Adds what a property refers to: nothing, where the table doesn't have it.
+    fn add_property(&mut self, survey: &Survey<'_>, property: &Property) -> Result<(), PlanError>
+        ensures { IsAdded (property_references (target_of survey.now) property.now) self.old result self.new }
+    {
+        match Form::of(property.name.as_bytes()) {
+            None => Ok(()),
+            Some(form) => self.add_value(survey, form, property.value.as_slice()),
+        }
+    }
+
+    fn add_properties(
+        &mut self,
+        survey: &Survey<'_>,
+        properties: &[Property],
+    ) -> Result<(), PlanError>
+        ensures { IsAdded (all_references (target_of survey.now) properties.now) self.old result self.new }
+    {
+        for property in properties {
+            self.add_property(survey, property)?;
+        }
+        Ok(())
+    }
+
+    fn into_devices(self, alloc: Global) -> Result<Vec<Device>, AllocError>
+        ensures { IfOk result (λ devices. devices.items ≡ self.found) }
+    {
+        let mut devices = Vec::with_capacity(alloc, self.found.len())?;
+        for place in self.found.as_slice() {
+            devices.push(Device::new(*place))?;
+        }
+        Ok(devices)
+    }
+}
+
+/// The suppliers of a device at this place with these properties.
+pub fn suppliers_of(
+    alloc: Global,
+    hasher: RandomState,
+    survey: &Survey<'_>,
+    own: Device,
+    properties: &[Property],
+) -> Result<Vec<Device>, PlanError>
+    ensures { let mentioned = all_references (target_of survey.now) properties.now in
+        MatchResult result
+        (λ suppliers. and_then mentioned (λ ds. Ok (suppliers_among own ds)) ≡ Ok suppliers.items)
+        (λ e. (e ≡ NoMemory) ⊎ (and_then mentioned (λ ds. Ok (suppliers_among own ds)) ≡ Err e)) }
+{
+    let mut suppliers = Suppliers::new(alloc, hasher, own);
+    suppliers.add_properties(survey, properties)?;
+    Ok(suppliers.into_devices(alloc)?)
 }
