@@ -6,3 +6,4 @@ pub mod SupplierTable
 pub mod References
 pub mod TreePlan
 pub mod Private
+pub mod TreePlan

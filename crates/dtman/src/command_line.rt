@@ -1,11 +1,12 @@
 //! The command line, read by `clap`.
-ghost use Rattle.std.specs.Prelude.{IfOk, IfSome, map};
-ghost use Rattle.clap.specs.Words.{app_of};
+ghost use Rattle.std.specs.Prelude.{◌≡◌, ◌≤◌, IfOk, IfSome, codes, map};
+ghost use Rattle.clap.specs.Words.{app_of, first_of, one_of, found_of, rows_of};
 ghost use Rattle.clap.specs.Simple.{subcommand_rows_of};
-ghost use Rattle.dtman.specs.CommandLine.{Meets, Says};
+ghost use Rattle.dtman.specs.CommandLine.{Meets, Says, is_on, IsNumber};
 
 use crate::grammar::grammar;
 use crate::subcommand;
+use bus_manager::MAX_WORKERS;
 use clap::error::ErrorKind;
 use clap::{ArgMatches, Error};
 use std::alloc::Global;
@@ -34,6 +35,16 @@ fn chosen<'a>(matches: &ArgMatches<'a>) -> Option<subcommand::Command<'a>>
         "dump" => Some(subcommand::Command::Dump {
             blob: given.get_str("IN")?,
         }),
+        "plan" => Some(subcommand::Command::Plan {
+            blob: given.get_str("BLOB")?,
+            drivers: given.get_str("DRIVERS")?,
+            dot: is_on(given, "dot"),
+        }),
+        "probe" => Some(subcommand::Command::Probe {
+            blob: given.get_str("BLOB")?,
+            drivers: given.get_str("DRIVERS")?,
+            workers: workers(given)?,
+        }),
         "replay" => Some(subcommand::Command::Replay {
             plan: given.get_str("PLAN")?,
             schedule: given.get_str("SCHEDULE")?,
@@ -43,4 +54,29 @@ fn chosen<'a>(matches: &ArgMatches<'a>) -> Option<subcommand::Command<'a>>
         }),
         _ => None,
     }
+}
+
+/// Whether an option without a value was given.
+fn is_on(given: &ArgMatches<'_>, name: &str) -> bool
+    ensures { result ≡ is_on (first_of name.now (rows_of (found_of given.now))) }
+{
+    match given.get_str(name) {
+        Some(text) => text == "true",
+        None => false,
+    }
+}
+
+/// The number of workers. That it is in the range of the grammar is tested here once more, as the range of an option is
+/// said of a parse and not of what its getters answer.
+fn workers(given: &ArgMatches<'_>) -> Option<u8>
+    ensures { IfSome result (λ number. IsNumber (one_of (codes "workers") (rows_of (found_of given.now))) number × (1 ≤ number) × (number ≤ MAX_WORKERS)) }
+{
+    let number = given.get_one::<u8>("workers")?;
+    if number < 1 {
+        return None;
+    }
+    if number as usize > MAX_WORKERS {
+        return None;
+    }
+    Some(number)
 }

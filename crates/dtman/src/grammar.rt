@@ -4,7 +4,9 @@ ghost use Rattle.clap.specs.Words.{app_of, rule_of};
 ghost use Rattle.clap.specs.declared.builder.command.Command.TheViews.{out-Command};
 ghost use Rattle.dtman.specs.Grammar as spec;
 
-use clap::{Arg, Command};
+use bus_manager::MAX_WORKERS;
+use clap::builder::ValueParser;
+use clap::{Arg, ArgAction, Command};
 use std::alloc::{AllocError, Global};
 
 /// What `--help` says behind the commands.
@@ -15,7 +17,9 @@ more); 2 the command line is no command; 3 a file can't be read or written (80, 
 Limits: a blob and its printed source have at most 268,435,456 bytes, and so does each text file; nodes are nested at
 most 64 deep; a plan has at most 512 devices, a schedule at most 500,000 begins.
 
-Formats: a plan's line is `PATH DRIVER ok|fail SUPPLIER..`, `PATH - - SUPPLIER..` (no driver) or `PATH ! - SUPPLIER..`
+Workers of `probe` are 1 to 64, 4 where none are named.
+
+Formats: a driver file's line is `driver NAME COMPATIBLE..` or `fail PATH`. A plan's line is `PATH DRIVER ok|fail SUPPLIER..`, `PATH - - SUPPLIER..` (no driver) or `PATH ! - SUPPLIER..`
 (switched off). A schedule's is `begin PATH`, `finish PATH settled`, `finish PATH missing SUPPLIER` or `abandon PATH`.
 Lines that begin with # are skipped.";
 
@@ -24,7 +28,9 @@ pub fn grammar<'a>(alloc: Global) -> Result<Command<'a>, AllocError>
     ensures { IfOk result (λ c. (app_of c ≡ spec.dtman) × ((out-Command c).has_globals ≡ false)) }
 {
     let dump = dump(alloc)?;
+    let plan = plan(alloc)?;
     let replay = replay(alloc)?;
+    let probe = probe(alloc)?;
     let explain = explain(alloc)?;
     Command::new(alloc, "dtman")
         .about("Devicetree compiler and driver-binding manager")
@@ -32,7 +38,9 @@ pub fn grammar<'a>(alloc: Global) -> Result<Command<'a>, AllocError>
         .after_help(STATUSES)
         .subcommand_required(true)
         .subcommand(dump)?
+        .subcommand(plan)?
         .subcommand(replay)?
+        .subcommand(probe)?
         .subcommand(explain)
 }
 
@@ -44,6 +52,16 @@ fn dump<'a>(alloc: Global) -> Result<Command<'a>, AllocError>
         .arg(required(alloc, "IN", "The blob"))
 }
 
+fn plan<'a>(alloc: Global) -> Result<Command<'a>, AllocError>
+    ensures { IfOk result (λ c. (app_of c ≡ spec.plan) × ((out-Command c).has_globals ≡ false)) }
+{
+    Command::new(alloc, "plan")
+        .about("Prints the plan of a blob: its devices with their drivers and suppliers")
+        .arg(required(alloc, "BLOB", "The blob"))?
+        .arg(required(alloc, "DRIVERS", "The driver file"))?
+        .arg(flag(alloc, "dot", "Prints a Graphviz graph instead"))
+}
+
 fn replay<'a>(alloc: Global) -> Result<Command<'a>, AllocError>
     ensures { IfOk result (λ c. (app_of c ≡ spec.replay) × ((out-Command c).has_globals ≡ false)) }
 {
@@ -51,6 +69,22 @@ fn replay<'a>(alloc: Global) -> Result<Command<'a>, AllocError>
         .about("Replays a schedule of probe events over a plan and prints the report")
         .arg(required(alloc, "PLAN", "The plan file"))?
         .arg(required(alloc, "SCHEDULE", "The schedule of events"))
+}
+
+fn probe<'a>(alloc: Global) -> Result<Command<'a>, AllocError>
+    ensures { IfOk result (λ c. (app_of c ≡ spec.probe) × ((out-Command c).has_globals ≡ false)) }
+{
+    Command::new(alloc, "probe")
+        .about("Binds the devices of a blob by workers and prints the end report")
+        .arg(required(alloc, "BLOB", "The blob"))?
+        .arg(required(alloc, "DRIVERS", "The driver file"))?
+        .arg(number(
+            alloc,
+            "workers",
+            MAX_WORKERS as u64,
+            "4",
+            "How many probe at once, 1 to 64",
+        ))
 }
 
 fn explain<'a>(alloc: Global) -> Result<Command<'a>, AllocError>
@@ -66,4 +100,25 @@ fn required<'a>(alloc: Global, name: &'a str, about: &'a str) -> Arg<'a>
     ensures local { result.global ≡ false }
 {
     Arg::new(alloc, name).required(true).help(about)
+}
+
+fn flag<'a>(alloc: Global, name: &'a str, about: &'a str) -> Arg<'a>
+    ensures rule { rule_of result ≡ spec.flag name.now }
+    ensures local { result.global ≡ false }
+{
+    Arg::new(alloc, name)
+        .long(name)
+        .action(ArgAction::SetTrue)
+        .help(about)
+}
+
+fn number<'a>(alloc: Global, name: &'a str, most: u64, default: &'a str, about: &'a str) -> Arg<'a>
+    ensures rule { rule_of result ≡ spec.number name.now most default.now }
+    ensures local { result.global ≡ false }
+{
+    Arg::new(alloc, name)
+        .long(name)
+        .value_parser(ValueParser::unsigned(1, most))
+        .default_value(default)
+        .help(about)
 }

@@ -4,10 +4,11 @@ ghost use Rattle.std.specs.Prelude.{◌≡◌, false};
 use crate::command_line::command;
 use crate::subcommand::Command;
 use crate::surroundings::Surroundings;
+use bus_manager::TableProber;
 use clap::error::ErrorKind as Mistake;
 use engine::{
     Channel, Failed, Fault, MAX_BLOB_LEN, MAX_TEXT_LEN, OutputChannel, dump_bytes, explain,
-    read_all, read_within, replay_bytes, write_out,
+    graph_bytes, plan_bytes, probe_bytes, read_all, read_within, replay_bytes, write_out,
 };
 use std::alloc::Global;
 use std::hash::RandomState;
@@ -15,6 +16,8 @@ use std::io::ErrorKind;
 use std::process::ExitCode;
 use std::random::RandomSource;
 use std::rt::{Env, Files};
+use std::sync::Wait;
+use std::thread::Threads;
 use std::{env, io};
 
 /// The exit status of a command that was done.
@@ -52,7 +55,9 @@ impl From<Fault> for Failure<'_> {
 }
 
 /// Reads the arguments, runs the command, and answers the exit status.
-pub fn run<R: Env + Files + RandomSource + Print + Eprint + AllocGlobal>(rt: &R) -> ExitCode {
+pub fn run<R: Env + Files + RandomSource + Print + Eprint + AllocGlobal + Threads + Wait + Sync>(
+    rt: &R,
+) -> ExitCode {
     let mut output = OutputChannel::new(io::writer(rt));
     let mut host = rt;
     let status = match arguments(rt) {
@@ -62,7 +67,14 @@ pub fn run<R: Env + Files + RandomSource + Print + Eprint + AllocGlobal>(rt: &R)
                 .map(|word| word.as_str())
                 .collect(rt.alloc());
             match words {
-                Ok(words) => run_words(rt.alloc(), &mut host, &mut output, rt, words.as_slice()),
+                Ok(words) => run_words(
+                    rt.alloc(),
+                    &mut host,
+                    rt,
+                    &mut output,
+                    rt,
+                    words.as_slice(),
+                ),
                 Err(_) => fail(rt, Failure::Refused(Fault::no_memory())),
             }
         }
@@ -86,9 +98,10 @@ fn arguments<R: Env + AllocGlobal>(rt: &R) -> io::Result<Vec<String>> {
 /// Runs the command that the words name, over any files and any standard output, and answers the exit status.
 ///
 /// Where that isn't 0, nothing was written to standard output, unless that is what failed.
-pub fn run_words<S: Surroundings, O: Channel, E: Eprint>(
+pub fn run_words<S: Surroundings, O: Channel, E: Eprint, T: Threads + Wait + Sync>(
     alloc: Global,
     surroundings: &mut S,
+    threads: &T,
     output: &mut O,
     errors: &E,
     words: &[&str],
@@ -96,7 +109,7 @@ pub fn run_words<S: Surroundings, O: Channel, E: Eprint>(
     requires { O.has_failed output.old ≡ false }
 {
     match command(alloc, words) {
-        Ok(command) => match perform(alloc, surroundings, output, command) {
+        Ok(command) => match perform(alloc, surroundings, threads, output, command) {
             Ok(()) => DONE,
             Err(failure) => fail(errors, failure),
         },
@@ -125,9 +138,10 @@ fn tell<O: Channel, E: Eprint>(alloc: Global, output: &mut O, errors: &E, asked:
     }
 }
 
-fn perform<'a, S: Surroundings, O: Channel>(
+fn perform<'a, S: Surroundings, O: Channel, T: Threads + Wait + Sync>(
     alloc: Global,
     surroundings: &mut S,
+    threads: &T,
     output: &mut O,
     command: Command<'a>,
 ) -> Result<(), Failure<'a>>
@@ -138,6 +152,12 @@ fn perform<'a, S: Surroundings, O: Channel>(
             let blob = blob_at(alloc, surroundings, blob)?;
             dump_bytes(alloc, blob.as_slice())?
         }
+        Command::Plan { blob, drivers, dot } => planned(alloc, surroundings, blob, drivers, dot)?,
+        Command::Probe {
+            blob,
+            drivers,
+            workers,
+        } => probed(alloc, surroundings, threads, blob, drivers, workers)?,
         Command::Replay { plan, schedule } => {
             let plan = text_at(alloc, surroundings, plan)?;
             let schedule = text_at(alloc, surroundings, schedule)?;
@@ -147,6 +167,48 @@ fn perform<'a, S: Surroundings, O: Channel>(
         Command::Explain { number } => explained(alloc, number)?,
     };
     print(output, answer.as_slice())
+}
+
+/// The plan of a blob and a driver file, as a plan file or as a graph.
+fn planned<'a, S: Surroundings>(
+    alloc: Global,
+    surroundings: &mut S,
+    blob: &'a str,
+    drivers: &'a str,
+    dot: bool,
+) -> Result<Vec<u8>, Failure<'a>> {
+    let blob = blob_at(alloc, surroundings, blob)?;
+    let drivers = text_at(alloc, surroundings, drivers)?;
+    let hasher = seed(surroundings)?;
+    let answer = match dot {
+        true => graph_bytes(alloc, hasher, blob.as_slice(), drivers.as_slice())?,
+        false => plan_bytes(alloc, hasher, blob.as_slice(), drivers.as_slice())?,
+    };
+    Ok(answer)
+}
+
+/// The end report of a blob's devices, probed by the plan alone.
+fn probed<'a, S: Surroundings, T: Threads + Wait + Sync>(
+    alloc: Global,
+    surroundings: &mut S,
+    threads: &T,
+    blob: &'a str,
+    drivers: &'a str,
+    workers: u8,
+) -> Result<Vec<u8>, Failure<'a>> {
+    let blob = blob_at(alloc, surroundings, blob)?;
+    let drivers = text_at(alloc, surroundings, drivers)?;
+    let hasher = seed(surroundings)?;
+    let ran = probe_bytes(
+        threads,
+        alloc,
+        hasher,
+        blob.as_slice(),
+        drivers.as_slice(),
+        &TableProber,
+        workers as usize,
+    )?;
+    Ok(ran.report)
 }
 
 /// What is said of the error with a number.

@@ -3,7 +3,26 @@
 /// A subcommand with its paths and options.
 #[derive(Clone, Copy, Debug)]
 pub enum Command<'a> {
-    Dump { blob: &'a str },
-    Replay { plan: &'a str, schedule: &'a str },
-    Explain { number: &'a str },
+    Dump {
+        blob: &'a str,
+    },
+    Plan {
+        blob: &'a str,
+        drivers: &'a str,
+        /// Print a Graphviz graph in place of the plan file.
+        dot: bool,
+    },
+    Replay {
+        plan: &'a str,
+        schedule: &'a str,
+    },
+    Probe {
+        blob: &'a str,
+        drivers: &'a str,
+        /// From 1 to `MAX_WORKERS`.
+        workers: u8,
+    },
+    Explain {
+        number: &'a str,
+    },
 }

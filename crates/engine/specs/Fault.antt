@@ -8,6 +8,8 @@ use Rattle.bus_core.specs.declared.refusal.Refusal.TheVariants.{NoMemory}
 use Rattle.bus_core.specs.Refusal as core
 use Rattle.dt_blob.specs.declared.error.BlobError.{BlobError}
 use Rattle.dt_blob.specs.BlobError as blob
+use Rattle.bus_manager.specs.declared.run_error.RunError.{RunError}
+use Rattle.bus_manager.specs.RunError as run
 use Rattle.engine.specs.declared.fault.Place.{Place}
 use Rattle.engine.specs.declared.fault.Place.TheVariants.{Nowhere, Line, Event}
 use Rattle.engine.specs.declared.fault.Fault.{Fault}
@@ -63,3 +65,7 @@ event_fault number refusal = record { number = core.number_of refusal; name = co
 -- of a blob
 abbrev pub blob_fault : BlobError → FaultValue
 blob_fault error = record { number = blob.number_of error; name = blob.name_of error; place = Nowhere }
+
+-- of a run by workers
+abbrev pub run_fault : RunError → FaultValue
+run_fault error = record { number = run.number_of error; name = run.name_of error; place = Nowhere }

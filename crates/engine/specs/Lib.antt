@@ -1,4 +1,6 @@
 pub mod Dump
 pub mod Fault
+pub mod Plan
+pub mod Probe
 pub mod Replay
 pub mod Transfer

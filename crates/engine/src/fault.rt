@@ -1,8 +1,9 @@
 //! A refusal as the program prints it.
 ghost use Rattle.std.specs.Prelude.{◌≡◌};
-ghost use Rattle.engine.specs.Fault.{shown, no_memory, cannot_read, cannot_write, file_too_long, text_fault, event_fault, blob_fault};
+ghost use Rattle.engine.specs.Fault.{shown, no_memory, cannot_read, cannot_write, file_too_long, text_fault, event_fault, blob_fault, run_fault};
 
 use bus_core::Refusal;
+use bus_manager::RunError;
 use bus_plan::PlanError;
 use dt_blob::BlobError;
 use std::alloc::AllocError;
@@ -99,6 +100,18 @@ impl From<BlobError> for Fault {
     ghost from_gives = { λ error fault. shown fault ≡ blob_fault error };
 
     fn from(error: BlobError) -> Fault {
+        Fault {
+            number: error.number(),
+            name: error.name(),
+            place: Place::Nowhere,
+        }
+    }
+}
+
+impl From<RunError> for Fault {
+    ghost from_gives = { λ error fault. shown fault ≡ run_fault error };
+
+    fn from(error: RunError) -> Fault {
         Fault {
             number: error.number(),
             name: error.name(),

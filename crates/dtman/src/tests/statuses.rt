@@ -22,14 +22,14 @@ const REPORT: &str = "/clk bound fixed\n/uart due\nbusy\n";
 
 /// What a run of the program left.
 #[derive(Drop)]
-struct Traces {
-    status: u8,
-    output: Vec<u8>,
-    errors: String,
+pub struct Traces {
+    pub status: u8,
+    pub output: Vec<u8>,
+    pub errors: String,
 }
 
 /// Runs the program over the files, where a call on standard output may fail.
-fn run_over(
+pub fn run_over(
     rt: &HostRuntime,
     words: &[&str],
     shelf: &mut Shelf<'_>,
@@ -39,7 +39,7 @@ fn run_over(
     output.pace = 5;
     output.calls_left = output_fails_at;
     let errors = Errors::new(rt.alloc());
-    let status = run_words(rt.alloc(), shelf, &mut output, &errors, words);
+    let status = run_words(rt.alloc(), shelf, rt, &mut output, &errors, words);
     let Memory { written, .. } = output;
     let Errors { text } = errors;
     Traces {

@@ -34,3 +34,23 @@ returns-in_ok-get_str-in-explain c =
       given = met c.args.matches.now c.in_ok-name.name.now (rows_of (found_of given)) c.in_ok-name.ensures.name c.in_ok-name.ensures.rows;
       is_met = (c.in-explain.is, value given (codes "NUMBER") c.in_ok-get_str-in-explain.field-0.now c.in_ok-get_str-in-explain.ensures);
     }
+
+pub returns-in_ok-get_str-in-plan-2 : goal.returns-in_ok-get_str-in-plan-2
+returns-in_ok-get_str-in-plan-2 c =
+    let given = c.in_ok-name.given.now in
+    record {
+      name = c.in_ok-name.name.now;
+      rows = rows_of (found_of given);
+      given = met c.args.matches.now c.in_ok-name.name.now (rows_of (found_of given)) c.in_ok-name.ensures.name c.in_ok-name.ensures.rows;
+      is_met = (c.in-plan.is, value given (codes "BLOB") c.in_ok-get_str-in-plan.field-0.now c.in_ok-get_str-in-plan.ensures, value given (codes "DRIVERS") c.in_ok-get_str-in-plan-2.field-0.now c.in_ok-get_str-in-plan-2.ensures, c.is_on.ensures);
+    }
+
+pub returns-in_ok-workers-in-probe : goal.returns-in_ok-workers-in-probe
+returns-in_ok-workers-in-probe c =
+    let given = c.in_ok-name.given.now in
+    record {
+      name = c.in_ok-name.name.now;
+      rows = rows_of (found_of given);
+      given = met c.args.matches.now c.in_ok-name.name.now (rows_of (found_of given)) c.in_ok-name.ensures.name c.in_ok-name.ensures.rows;
+      is_met = (c.in-probe.is, value given (codes "BLOB") c.in_ok-get_str-in-probe.field-0.now c.in_ok-get_str-in-probe.ensures, value given (codes "DRIVERS") c.in_ok-get_str-in-probe-2.field-0.now c.in_ok-get_str-in-probe-2.ensures, c.in_ok-workers-in-probe.ensures.0, c.in_ok-workers-in-probe.ensures.1, c.in_ok-workers-in-probe.ensures.2);
+    }

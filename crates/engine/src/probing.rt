@@ -1,0 +1,49 @@
+//! The devices of a blob probed by workers, from bytes to the end report.
+ghost use Rattle.std.specs.Prelude.{◌≡◌, ◌⊎◌, Some, Ok, IfOk, IfErr, IsErrAnd, MatchResult};
+ghost use Rattle.dt_tree.specs.TreeData.{TreeData};
+ghost use Rattle.dt_blob.specs.declared.error.BlobError.TheVariants as BlobError;
+ghost use Rattle.dt_blob.specs.HeaderWords.{header_fault};
+ghost use Rattle.dt_blob.specs.Holds.{Holds};
+ghost use Rattle.engine.specs.Fault.{shown, blob_fault};
+ghost use Rattle.engine.specs.Plan.{planning, IsPlanRefusal};
+ghost use Rattle.engine.specs.Probe.{IsProbe, IsProbeOf, AreTooMany, CannotProbe, CannotRun};
+
+use crate::fault::Fault;
+use crate::planning::planned;
+use bus_manager::{Prober, Ran, run};
+use std::alloc::Global;
+use std::hash::RandomState;
+use std::sync::Wait;
+use std::thread::Threads;
+
+/// Plans a blob by the drivers of a file, and probes its devices by so many workers, 1 to 64.
+///
+/// The faults of `plan_bytes` come first, then `TooManyWorkers`.
+pub fn probe_bytes<P: Prober, R: Threads + Wait + Sync>(
+    rt: &R,
+    alloc: Global,
+    hasher: RandomState,
+    blob: &[u8],
+    drivers: &[u8],
+    prober: &P,
+    workers: usize,
+) -> Result<Ran<P::Note>, Fault>
+    // The one end report of the plan of a tree that the bytes hold, with a note of each device that has settled.
+    ensures answer { IfOk result (λ ran. IsProbe (P.attests prober.now) blob.now drivers.now ran.report.items ran.notes.items) }
+    // The plan of a tree that the bytes hold is run, or its first fault told.
+    ensures held { (tree : TreeData) → Holds blob.now tree → MatchResult result (λ ran. IsProbeOf (P.attests prober.now) (planning tree drivers.now) ran.report.items ran.notes.items) (λ fault. CannotProbe tree drivers.now workers (shown fault)) }
+    // No run has no worker, or too many.
+    ensures many { IfOk result (λ _. ¬ (AreTooMany workers)) }
+    // Each refusal has its reason in the bytes or in the number of workers.
+    ensures refused { IfErr result (λ fault. IsPlanRefusal blob.now drivers.now (shown fault) ⊎ CannotRun workers (shown fault)) }
+    // A fault of the header comes before all else.
+    ensures truncated { header_fault blob.now ≡ Some BlobError.Truncated → IsErrAnd result (λ fault. shown fault ≡ blob_fault BlobError.Truncated) }
+    ensures bad_magic { header_fault blob.now ≡ Some BlobError.BadMagic → IsErrAnd result (λ fault. shown fault ≡ blob_fault BlobError.BadMagic) }
+    ensures bad_version { header_fault blob.now ≡ Some BlobError.BadVersion → IsErrAnd result (λ fault. shown fault ≡ blob_fault BlobError.BadVersion) }
+    ensures bad_layout { header_fault blob.now ≡ Some BlobError.BadLayout → IsErrAnd result (λ fault. shown fault ≡ blob_fault BlobError.BadLayout) }
+    ensures too_large { header_fault blob.now ≡ Some BlobError.TooLarge → IsErrAnd result (λ fault. shown fault ≡ blob_fault BlobError.TooLarge) }
+{
+    let plan = planned(alloc, hasher, blob, drivers)?;
+    let ran = run(rt, alloc, &plan, prober, workers)?;
+    Ok(ran)
+}
