@@ -6,4 +6,3 @@ pub mod SupplierTable
 pub mod References
 pub mod TreePlan
 pub mod Private
-pub mod TreePlan
