@@ -4,14 +4,16 @@ ghost use Rattle.dt_tree.specs.TreeData.{TreeData};
 ghost use Rattle.dt_blob.specs.declared.error.BlobError.TheVariants as BlobError;
 ghost use Rattle.dt_blob.specs.HeaderWords.{header_fault};
 ghost use Rattle.dt_blob.specs.Holds.{Holds};
+ghost use Rattle.bus_plan.specs.PlanFile.{Answers};
 ghost use Rattle.bus_plan.specs.PlanText.{text_of};
 ghost use Rattle.engine.specs.Fault.{shown, blob_fault, no_memory};
 ghost use Rattle.engine.specs.Plan.{planning, printed, IsPlanned, IsPlanText, IsPlanRefusal, CannotPlan};
 
 use crate::fault::Fault;
 use bus_drivers::{plan, read_drivers};
-use bus_plan::{Plan, plan_text};
+use bus_plan::{Plan, PlanError, plan_text};
 use dt_blob::read;
+use dt_tree::Tree;
 use std::alloc::Global;
 use std::hash::RandomState;
 
@@ -34,9 +36,19 @@ pub(crate) fn planned(
     ensures too_large { header_fault blob.now ≡ Some BlobError.TooLarge → IsErrAnd result (λ fault. shown fault ≡ blob_fault BlobError.TooLarge) }
 {
     let tree = read(alloc, blob)?;
+    Ok(plan_tree(alloc, hasher, &tree, drivers)?)
+}
+
+fn plan_tree(
+    alloc: Global,
+    hasher: RandomState,
+    tree: &Tree,
+    drivers: &[u8],
+) -> Result<Plan, PlanError>
+    ensures { Answers (planning tree.now drivers.now) result }
+{
     let drivers = read_drivers(alloc, hasher, drivers)?;
-    let plan = plan(alloc, hasher, &tree, &drivers)?;
-    Ok(plan)
+    plan(alloc, hasher, tree, &drivers)
 }
 
 /// The text of the plan of the tree that a blob holds, by the drivers of a file. A plan file's reader takes it.
