@@ -4,7 +4,9 @@ use super::shelf::{Errors, Shelf};
 use crate::program::run_words;
 use engine::Memory;
 use std::hash::RandomState;
+use std::sync::Wait;
 use std::test::Fail;
+use std::thread::Threads;
 
 /// The files of all rows.
 const FILES: [(&str, &[u8]); 5] = [
@@ -29,8 +31,8 @@ pub struct Traces {
 }
 
 /// Runs the program over the files, where a call on standard output may fail.
-pub fn run_over(
-    rt: &HostRuntime,
+pub fn run_over<R: AllocGlobal + Threads + Wait + Sync>(
+    rt: &R,
     words: &[&str],
     shelf: &mut Shelf<'_>,
     output_fails_at: Option<usize>,
