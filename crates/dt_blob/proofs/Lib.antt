@@ -1,4 +1,5 @@
 pub mod Blocks
+pub mod Ends
 pub mod HeldBlob
 pub mod Holding
 pub mod Kept
