@@ -1,4 +1,4 @@
--- A device in flight that is ready, and its plan's verdict: what the parts of a core say of it.
+-- A device in flight, and one that is ready too: what the parts of a core say of it.
 use Rattle.std.proofs.Common.{◌≡◌, ℕ, ◌<◌, ◌≤◌, true, length, ap, sym, ◌∙◌, arith}
 use Rattle.std.specs.Prelude.{is_some}
 use Rattle.bus_plan.specs.declared.verdict.Verdict.{Verdict}
@@ -13,25 +13,17 @@ use Rattle.bus_core.specs.RefinementView.{core_value, IsKept}
 use Rattle.bus_core.proofs.SoundLemmas.{bound-same, flying-phase}
 use Rattle.bus_core.proofs.CountedLemmas.{flying-counts}
 
-pub record IsSettling (core : Inside) (d : ℕ) (o : Outcome) : Type 0 where
+pub record IsFlying (core : Inside) (d : ℕ) : Type 0 where
   pub within : d < length core.plan
   pub inside : d < length core.phases.items
   pub flying : is_some (flight_in (phase_at core.phases.items d)) ≡ true
-  pub ready : is_ready core.plan (bound_by core.phases.items) d ≡ true
-  pub outcome_is : o ≡ outcome_by (verdict_of core.plan d)
   pub some : 1 ≤ core.flights
 
-pub settling : (core : Inside) (v : CoreValue) (d : ℕ) (verdict : Verdict) → core_value core ≡ v → IsKept core
-    → d < length v.plan → is_in_flight v.state d ≡ true → is_ready v.plan (bound_in v.state.history) d ≡ true → verdict_of v.plan d ≡ verdict
-    → IsSettling core d (outcome_by verdict)
-settling core v d verdict view kept below is_flying is_due says = record {
+pub in-flight : (core : Inside) (v : CoreValue) (d : ℕ) → core_value core ≡ v → IsKept core → d < length v.plan → is_in_flight v.state d ≡ true → IsFlying core d
+in-flight core v d view kept below is_flying = record {
   within = within;
   inside = inside;
   flying = flying;
-  ready =
-      ap (λ b. is_ready core.plan b d) (bound-same core.plan core.phases.items core.history.items core.begins kept.sound)
-      ∙ (λ i. is_ready (view i).plan (bound_in (view i).state.history) d) ∙ is_due;
-  outcome_is = sym (ap outcome_by ((λ i. verdict_of (view i).plan d) ∙ says));
   some = flying-counts core.plan core.phases.items core.history.items core.begins d core.missing.items core.due core.flights inside flying kept.counted;
 }
   where
@@ -43,3 +35,31 @@ settling core v d verdict view kept below is_flying is_due says = record {
 
     flying : is_some (flight_in (phase_at core.phases.items d)) ≡ true
     flying = flying-phase core.phases.items core.history.items core.begins d ((λ i. is_in_flight (view i).state d) ∙ is_flying)
+
+-- what the phases say of readiness is what the history says
+pub ready-same : (core : Inside) (v : CoreValue) (d : ℕ) → core_value core ≡ v → IsKept core → is_ready core.plan (bound_by core.phases.items) d ≡ is_ready v.plan (bound_in v.state.history) d
+ready-same core v d view kept =
+    ap (λ b. is_ready core.plan b d) (bound-same core.plan core.phases.items core.history.items core.begins kept.sound)
+    ∙ (λ i. is_ready (view i).plan (bound_in (view i).state.history) d)
+
+pub record IsSettling (core : Inside) (d : ℕ) (o : Outcome) : Type 0 where
+  pub within : d < length core.plan
+  pub inside : d < length core.phases.items
+  pub flying : is_some (flight_in (phase_at core.phases.items d)) ≡ true
+  pub ready : is_ready core.plan (bound_by core.phases.items) d ≡ true
+  pub outcome_is : o ≡ outcome_by (verdict_of core.plan d)
+  pub some : 1 ≤ core.flights
+
+pub settling : (core : Inside) (v : CoreValue) (d : ℕ) (verdict : Verdict) → core_value core ≡ v → IsKept core
+    → d < length v.plan → is_in_flight v.state d ≡ true → is_ready v.plan (bound_in v.state.history) d ≡ true → verdict_of v.plan d ≡ verdict
+    → IsSettling core d (outcome_by verdict)
+settling core v d verdict view kept below is_flying is_due says =
+    let flight = in-flight core v d view kept below is_flying in
+    record {
+      within = flight.within;
+      inside = flight.inside;
+      flying = flight.flying;
+      ready = ready-same core v d view kept ∙ is_due;
+      outcome_is = sym (ap outcome_by ((λ i. verdict_of (view i).plan d) ∙ says));
+      some = flight.some;
+    }

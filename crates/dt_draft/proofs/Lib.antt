@@ -6,6 +6,7 @@ pub mod LabelRows
 pub mod NodeRows
 pub mod PathTests
 pub mod PropertyRows
+pub mod Replaced
 pub mod Shown
 pub mod Tables
 pub mod WaysDown

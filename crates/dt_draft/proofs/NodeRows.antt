@@ -1,5 +1,5 @@
 -- One edit of the rows of nodes is one edit of the tree.
-use Rattle.std.proofs.Common.{◌≡◌, ◌≢◌, inl, inr, ℕ, suc, ◌<◌, ◌≤◌, Bool, true, false, not, ◌&&◌, List, [], ◌∷◌, ◌++◌, length, slice_set, Option, Some, None, if◌then◌else◌, refl, sym, ap, ap₂, ◌∙◌, true≢false, arith}
+use Rattle.std.proofs.Common.{◌≡◌, ◌≢◌, inl, inr, ℕ, suc, ◌-◌, ◌<◌, ◌≤◌, Bool, true, false, not, ◌&&◌, List, [], ◌∷◌, ◌++◌, length, slice_set, Option, Some, None, if◌then◌else◌, refl, sym, ap, ap₂, ◌∙◌, true≢false, arith}
 use Rattle.std.specs.List.{filter}
 use Rattle.std.proofs.lemmas.Bool.{and_parts, cases_eq, cases_lt}
 use Rattle.std.proofs.lemmas.List.{get_or-set_same, get_or-set_other, get_or_past, get_or_append_left, get_or_push, length_push, length-set}
@@ -13,6 +13,7 @@ use Rattle.dt_draft.specs.Rows.{Found, no_row, row_at, path_of, stands, standing
 use Rattle.dt_draft.proofs.Keys.{key-same, key-cases}
 use Rattle.dt_draft.proofs.Climbs.{not-true, suc-is, climb-same, stands-same, path-step, stands-step, one-node, stands-marked}
 use Rattle.dt_draft.proofs.PathTests.{snoc-parts}
+use Rattle.dt_draft.proofs.Replaced.{kept-at}
 use Rattle.dt_draft.proofs.Shown.{shown-paths, standing-same, standing-filter, listed-standing, standing-listed, shown-same, shown-filter}
 use Rattle.dt_draft.proofs.Worn.{worn-same, worn-paths, worn-filter}
 
@@ -157,16 +158,10 @@ module _ (old : List NodeRow) (i : ℕ) (r : NodeRow) (within : i < length old) 
   marked-there k other = get_or-set_other old i k r no_row other
 
   pub marked-parents : (k : ℕ) → (row_at marked k).parent ≡ (row_at old k).parent
-  marked-parents k = elim (cases_eq k i) [
-    | inl same ↦ ap (λ j. (row_at marked j).parent) same ∙ ap (λ x. x.parent) marked-here ∙ parent ∙ ap (λ j. (row_at old j).parent) (sym same)
-    | inr other ↦ ap (λ x. x.parent) (marked-there k other)
-  ]
+  marked-parents = kept-at (λ x. x.parent) old i r no_row within parent
 
   pub marked-names : (k : ℕ) → (row_at marked k).name.now ≡ (row_at old k).name.now
-  marked-names k = elim (cases_eq k i) [
-    | inl same ↦ ap (λ j. (row_at marked j).name.now) same ∙ ap (λ x. x.name.now) marked-here ∙ name ∙ ap (λ j. (row_at old j).name.now) (sym same)
-    | inr other ↦ ap (λ x. x.name.now) (marked-there k other)
-  ]
+  marked-names = kept-at (λ x. x.name.now) old i r no_row within name
 
   pub marked-grown : IsGrown old → IsGrown marked
   marked-grown grown k = omega (arith, marked-parents k, grown k)
@@ -247,3 +242,23 @@ found-child rows i parent name grown parents names kept there = (
   path-step rows grown i ∙ ap₂ (λ n k. path_of rows n ++ k ∷ []) parents names,
   stands-step rows grown i ∙ ap₂ (λ b n. not b && stands rows n) kept parents ∙ there,
 )
+
+-- the row of that child
+pub record IsChild (rows : List NodeRow) (i parent : ℕ) (name : List ℕ) : Type 0 where
+  pub within : i < length rows
+  pub parent_is : (row_at rows i).parent ≡ parent
+  pub name_is : (row_at rows i).name.now ≡ name
+  pub kept : (row_at rows i).removed ≡ false
+  pub path_is : path_of rows (suc i) ≡ path_of rows parent ++ name ∷ []
+  pub there : stands rows (suc i) ≡ true
+
+pub child-of : (rows : List NodeRow) (index : Found) (node parent : ℕ) (name : List ℕ) → IsGrown rows → IsNodeIndex rows index → index parent name ≡ Some node → stands rows parent ≡ true → IsChild rows (node - 1) parent name
+child-of rows index node parent name grown indexed has stands_there =
+    let f = indexed.right parent name node has in
+    let i = node - 1 in
+    let same : i ≡ f.0 = omega (arith, f.1) in
+    let parent_is : (row_at rows i).parent ≡ parent = ap (λ k. (row_at rows k).parent) same ∙ f.3 in
+    let name_is : (row_at rows i).name.now ≡ name = ap (λ k. (row_at rows k).name.now) same ∙ f.4 in
+    let kept : (row_at rows i).removed ≡ false = ap (λ k. (row_at rows k).removed) same ∙ f.5 in
+    let found = found-child rows i parent name grown parent_is name_is kept stands_there in
+    record { within = omega (arith, f.1, f.2); parent_is = parent_is; name_is = name_is; kept = kept; path_is = found.0; there = found.1 }

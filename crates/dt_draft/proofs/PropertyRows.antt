@@ -10,6 +10,7 @@ use Rattle.dt_draft.proofs.Keys.{key-same, key-cases}
 use Rattle.dt_draft.proofs.Climbs.{one-node}
 use Rattle.dt_draft.proofs.Shown.{IsApart}
 use Rattle.dt_draft.proofs.NodeRows.{absent-present, some-is}
+use Rattle.dt_draft.proofs.Replaced.{kept-at}
 
 -- ---- a property is put in its place
 module _ {V : Type 0} (old : List (PropertyRow V)) (i : ℕ) (r : PropertyRow V) (within : i < length old) (node : r.node ≡ (property_at old i).node) (name : r.name.now ≡ (property_at old i).name.now) where
@@ -23,10 +24,7 @@ module _ {V : Type 0} (old : List (PropertyRow V)) (i : ℕ) (r : PropertyRow V)
   replaced-there k other = get_or-set_other old i k r no_property other
 
   pub replaced-nodes : (k : ℕ) → (property_at replaced k).node ≡ (property_at old k).node
-  replaced-nodes k = elim (cases_eq k i) [
-    | inl same ↦ ap (λ j. (property_at replaced j).node) same ∙ ap (λ x. x.node) replaced-here ∙ node ∙ ap (λ j. (property_at old j).node) (sym same)
-    | inr other ↦ ap (λ x. x.node) (replaced-there k other)
-  ]
+  replaced-nodes = kept-at (λ x. x.node) old i r no_property within node
 
   pub replaced-index : (index : Found) → IsPropertyIndex old index → IsSome (property_at old i).value → IsSome r.value → IsPropertyIndex replaced index
   replaced-index index indexed was is = record {

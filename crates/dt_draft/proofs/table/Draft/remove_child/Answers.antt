@@ -1,11 +1,11 @@
-use Rattle.std.proofs.Common.{◌≡◌, ◌-◌, ◌<◌, ◌++◌, ◌∷◌, [], None, true, false, length, if◌then◌else◌, refl, sym, ap, ap₂, ◌∙◌, subst, arith}
+use Rattle.std.proofs.Common.{◌≡◌, ◌-◌, ◌++◌, ◌∷◌, [], None, true, if◌then◌else◌, refl, sym, ap, ap₂, ◌∙◌, subst, arith, rules}
 use Rattle.std.proofs.lemmas.List.{get_or_default}
 use Rattle.dt_meaning.specs.Edits.{without_node}
 use Rattle.dt_draft.specs.declared.table.NodeRow.{NodeRow}
 use Rattle.dt_draft.specs.Index.{row_of, is_key}
 use Rattle.dt_draft.specs.Rows.{Found, AreTables, no_row, row_at, path_of, state_in}
 use Rattle.dt_draft.proofs.Keeping.{kept-marked, kept-itself}
-use Rattle.dt_draft.proofs.NodeRows.{node-removed, not-listed, found-child, unlisted}
+use Rattle.dt_draft.proofs.NodeRows.{node-removed, not-listed, child-of, unlisted}
 use Rattle.dt_draft.proofs.Tables.{forgotten, tables-marked}
 use Rattle.dt_draft.proofs.table.Draft.remove_child.Goals as goal
 
@@ -19,38 +19,30 @@ index_mut-requires g c =
     let f = c.requires.sound.nodes.right c.args.parent c.args.name.now c.in-Some.node (sym c.in-Some.ensures.was) in
     omega (arith, f.1, f.2)
 
-pub returns-in-Some-clause-sound : goal.returns-in-Some-clause-sound
-returns-in-Some-clause-sound g c =
+pub returns-in-Some : goal.returns-in-Some
+returns-in-Some g c =
     let d = c.args.self.now in
     let old = d.nodes.items in
-    let f = c.requires.sound.nodes.right c.args.parent c.args.name.now c.in-Some.node (sym c.in-Some.ensures.was) in
+    let row = child-of old (row_of d.node_rows) c.in-Some.node c.args.parent c.args.name.now c.requires.sound.grown c.requires.sound.nodes (sym c.in-Some.ensures.was) c.requires.stands in
     let i = c.in-Some.node - 1 in
-    let same : i ≡ f.0 = omega (arith, f.1) in
-    let within : i < length old = omega (arith, f.1, f.2) in
     let r : NodeRow = record { parent = c.index_mut.result.now.parent; name = c.index_mut.result.now.name; removed = true } in
-    let was : c.index_mut.result.now ≡ row_at old i = c.index_mut.ensures.value ∙ get_or_default old i c.index_mut.result.now no_row within in
-    let parent : (row_at old i).parent ≡ c.args.parent = ap (λ k. (row_at old k).parent) same ∙ f.3 in
-    let name : (row_at old i).name.now ≡ c.args.name.now = ap (λ k. (row_at old k).name.now) same ∙ f.4 in
-    let kept : (row_at old i).removed ≡ false = ap (λ k. (row_at old k).removed) same ∙ f.5 in
-    let found = found-child old i c.args.parent c.args.name.now c.requires.sound.grown parent name kept c.requires.stands in
-    tables-marked old d.properties.items d.labels.items (row_of d.node_rows) (row_of d.property_rows) (row_of d.label_rows) c.requires.sound i r (row_of c.forget.new.self)
-    within (ap (λ x. x.parent) was) (ap (λ x. x.name.now) was) refl kept found.1
-    (λ n k. c.in-Some.ensures.rows n k ∙ ap₂ (λ a b. if is_key a b n k then None else row_of d.node_rows n k) (sym parent) (sym name))
-
-pub returns-in-Some-clause-state : goal.returns-in-Some-clause-state
-returns-in-Some-clause-state g c =
-    let d = c.args.self.now in
-    let old = d.nodes.items in
-    let f = c.requires.sound.nodes.right c.args.parent c.args.name.now c.in-Some.node (sym c.in-Some.ensures.was) in
-    let i = c.in-Some.node - 1 in
-    let same : i ≡ f.0 = omega (arith, f.1) in
-    let within : i < length old = omega (arith, f.1, f.2) in
-    let r : NodeRow = record { parent = c.index_mut.result.now.parent; name = c.index_mut.result.now.name; removed = true } in
-    let was : c.index_mut.result.now ≡ row_at old i = c.index_mut.ensures.value ∙ get_or_default old i c.index_mut.result.now no_row within in
-    let found = found-child old i c.args.parent c.args.name.now c.requires.sound.grown
-    (ap (λ k. (row_at old k).parent) same ∙ f.3) (ap (λ k. (row_at old k).name.now) same ∙ f.4) (ap (λ k. (row_at old k).removed) same ∙ f.5) c.requires.stands in
-    node-removed old i r within (ap (λ x. x.parent) was) (ap (λ x. x.name.now) was) refl (row_of d.node_rows) d.properties.items d.labels.items c.requires.sound.grown c.requires.sound.nodes found.1
-    ∙ ap (λ p. without_node p (state_in old d.properties.items d.labels.items)) found.0
+    let was : c.index_mut.result.now ≡ row_at old i = c.index_mut.ensures.value ∙ get_or_default old i c.index_mut.result.now no_row row.within in
+    record {
+      sound =
+          tables-marked old d.properties.items d.labels.items (row_of d.node_rows) (row_of d.property_rows) (row_of d.label_rows) c.requires.sound i r (row_of c.forget.new.self)
+          row.within (ap (λ x. x.parent) was) (ap (λ x. x.name.now) was) refl row.kept row.there
+          (λ n k. c.in-Some.ensures.rows n k ∙ ap₂ (λ a b. if is_key a b n k then None else row_of d.node_rows n k) (sym row.parent_is) (sym row.name_is));
+      kept =
+          kept-marked (path_of old c.args.parent) c.args.name.now old i r row.within (ap (λ x. x.parent) was) (ap (λ x. x.name.now) was) refl
+          (row_of d.node_rows) c.requires.sound.grown c.requires.sound.nodes row.there row.path_is;
+      state =
+          node-removed old i r row.within (ap (λ x. x.parent) was) (ap (λ x. x.name.now) was) refl (row_of d.node_rows) d.properties.items d.labels.items
+          c.requires.sound.grown c.requires.sound.nodes row.there
+          ∙ ap (λ p. without_node p (state_in old d.properties.items d.labels.items)) row.path_is;
+      bodies = search rules;
+      others = search rules;
+      count = search rules;
+    }
 
 pub returns-in_default-clause-state : goal.returns-in_default-clause-state
 returns-in_default-clause-state g c =
@@ -63,20 +55,6 @@ returns-in_default-clause-sound g c =
     let d = c.args.self.now in
     let same = forgotten (row_of d.node_rows) (row_of c.forget.new.self) c.args.parent c.args.name.now (sym c.in_default.ensures.was) c.in_default.ensures.rows in
     subst (λ (f : Found). AreTables d.nodes.items d.properties.items d.labels.items f (row_of d.property_rows) (row_of d.label_rows)) (sym same) c.requires.sound
-
-pub returns-in-Some-clause-kept : goal.returns-in-Some-clause-kept
-returns-in-Some-clause-kept g c =
-    let d = c.args.self.now in
-    let old = d.nodes.items in
-    let f = c.requires.sound.nodes.right c.args.parent c.args.name.now c.in-Some.node (sym c.in-Some.ensures.was) in
-    let i = c.in-Some.node - 1 in
-    let same : i ≡ f.0 = omega (arith, f.1) in
-    let within : i < length old = omega (arith, f.1, f.2) in
-    let r : NodeRow = record { parent = c.index_mut.result.now.parent; name = c.index_mut.result.now.name; removed = true } in
-    let was : c.index_mut.result.now ≡ row_at old i = c.index_mut.ensures.value ∙ get_or_default old i c.index_mut.result.now no_row within in
-    let found = found-child old i c.args.parent c.args.name.now c.requires.sound.grown
-    (ap (λ k. (row_at old k).parent) same ∙ f.3) (ap (λ k. (row_at old k).name.now) same ∙ f.4) (ap (λ k. (row_at old k).removed) same ∙ f.5) c.requires.stands in
-    kept-marked (path_of old c.args.parent) c.args.name.now old i r within (ap (λ x. x.parent) was) (ap (λ x. x.name.now) was) refl (row_of d.node_rows) c.requires.sound.grown c.requires.sound.nodes found.1 found.0
 
 pub returns-in_default-clause-kept : goal.returns-in_default-clause-kept
 returns-in_default-clause-kept g c = kept-itself (path_of c.args.self.now.nodes.items c.args.parent) c.args.self.now.nodes.items
