@@ -1,4 +1,7 @@
+pub mod EachSteps
 pub mod Faults
+pub mod FindingSteps
 pub mod GivenSteps
 pub mod KeptNodes
 pub mod Orders
+pub mod WantedSteps

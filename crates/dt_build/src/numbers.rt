@@ -19,18 +19,18 @@ use std::collections::BTreeSet;
 #[derive(Clone, Copy)]
 pub struct Numbered {
     pub node: usize,
-    pub number: u32,
+    pub number: usize,
 }
 
 /// The numbers that properties give, in the order of the walk, and as a set.
 #[derive(Drop)]
 pub struct Given {
     pub numbers: Vec<Numbered>,
-    pub taken: BTreeSet<u32>,
+    pub taken: BTreeSet<usize>,
 }
 
 /// Adds a number, and answers whether it is new.
-fn take(taken: &mut BTreeSet<u32>, number: u32) -> Result<bool, AllocError>
+fn take(taken: &mut BTreeSet<usize>, number: usize) -> Result<bool, AllocError>
     ensures new { IfOk result (λ new. new ≡ not (is_taken taken.old number)) }
     ensures taken { OnOk result ((n : ℕ) → is_taken taken.new n ≡ ((number == n) || is_taken taken.old n)) }
 {
@@ -55,7 +55,7 @@ fn note<'d>(
         return Ok(());
     }
     let number = match number_in(property.value) {
-        Some(number) => number,
+        Some(number) => number as usize,
         None => return Err(BuildError::BadPhandle),
     };
     given.numbers.reserve(1)?;
