@@ -4,4 +4,5 @@ pub mod FindingSteps
 pub mod GivenSteps
 pub mod KeptNodes
 pub mod Orders
+pub mod PathNumbers
 pub mod WantedSteps

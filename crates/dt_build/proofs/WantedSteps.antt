@@ -1,11 +1,23 @@
 -- One node more that is named, and one number more that is taken.
-use Rattle.std.proofs.Common.{◌≡◌, ◌≢◌, ℕ, suc, ◌+◌, ◌<◌, ◌==◌, ◌||◌, Bool, true, false, List, [], ◌∷◌, ◌++◌, length, get_or, set, drop, if◌then◌else◌, refl, sym, ap, ◌∙◌, append_assoc}
+use Rattle.std.proofs.Common.{◌≡◌, ◌≢◌, ℕ, zero, suc, ◌+◌, ◌<◌, ◌==◌, ◌||◌, Bool, true, false, List, [], ◌∷◌, ◌++◌, length, get_or, set, drop, if◌then◌else◌, refl, sym, ap, ◌∙◌, append_assoc}
 use Rattle.std.proofs.lemmas.Bool.{eqb-true, eq-eqb}
 use Rattle.std.proofs.lemmas.List.{at_drop_more, get_or-set_same, get_or-set_other}
 use Rattle.dt_build.specs.Wanted.{new_rows, free_after}
 
-pub free-step : (taken : ℕ → Bool) (tries left n : ℕ) → tries ≡ suc left → taken (n + 1) ≡ true → free_after taken left (n + 1) ≡ free_after taken tries n
-free-step taken tries left n e h = sym (ap (λ t. free_after taken t n) e ∙ ap (λ b. if b then free_after taken left (n + 1) else n + 1) h)
+-- the first number from n on that isn't taken
+abbrev pub free_from : (ℕ → Bool) → ℕ → ℕ → ℕ
+free_from taken zero n = n
+free_from taken (suc tries) n = if taken n then free_from taken tries (n + 1) else n
+
+pub free-is : (taken : ℕ → Bool) (tries n : ℕ) → free_from taken tries (n + 1) ≡ free_after taken tries n
+free-is taken zero n = refl
+free-is taken (suc tries) n = ap (λ m. if taken (n + 1) then m else n + 1) (free-is taken tries (n + 1))
+
+pub free-step : (taken : ℕ → Bool) (tries left n : ℕ) → tries ≡ suc left → taken n ≡ true → free_from taken left (n + 1) ≡ free_from taken tries n
+free-step taken tries left n e h = sym (ap (λ t. free_from taken t n) e ∙ ap (λ b. if b then free_from taken left (n + 1) else n) h)
+
+pub free-here : (taken : ℕ → Bool) (tries left n : ℕ) → tries ≡ suc left → taken n ≡ false → n ≡ free_from taken tries n
+free-here taken tries left n e h = sym (ap (λ t. free_from taken t n) e ∙ ap (λ b. if b then free_from taken left (n + 1) else n) h)
 
 marked-by : (known : List Bool) (n m : ℕ) → n < length known → (b : Bool) → (m == n) ≡ b → get_or (set known n true) m false ≡ (b || get_or known m false)
 marked-by known n m within true e = ap (λ k. get_or (set known n true) k false) (eqb-true m n e) ∙ get_or-set_same known n true false within

@@ -16,4 +16,4 @@ pub use error::BuildError;
 pub use numbers::{Given, Numbered, given_phandles};
 pub use references::{Targets, find_targets};
 pub use reserved::is_reserved;
-pub use wanted::wanting;
+pub use wanted::{number_nodes, wanting};

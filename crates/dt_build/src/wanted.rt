@@ -1,9 +1,10 @@
 //! The nodes that want a number, and the numbers that they get.
-ghost use Rattle.std.specs.Prelude.{◌≡◌, ◌+◌, ◌<◌, ◌≤◌, [], ℕ, Bool, All, IfOk, OnOk, length, map, slice_index_or, false, ◌||◌, ◌==◌};
+ghost use Rattle.std.specs.Prelude.{IfSome, ◌≡◌, ◌+◌, ◌<◌, ◌≤◌, [], ℕ, Bool, All, IfOk, OnOk, length, map, slice_index_or, false, ◌||◌, ◌==◌};
 ghost use Rattle.std.specs.List.{list_any};
 ghost use Rattle.dt_build.specs.Wanted.{free_after, new_rows, numbered_rows};
 ghost use Rattle.dt_build.specs.Numbers.{is_taken};
 
+use crate::error::BuildError;
 use crate::numbers::{Given, Numbered};
 use std::alloc::{AllocError, Global};
 use std::collections::BTreeSet;
@@ -43,18 +44,40 @@ pub fn wanting(
     Ok(nodes)
 }
 
-// The first number above the last one that isn't taken: of one more than so many numbers, one is free.
-fn free_number(taken: &BTreeSet<usize>, tries: usize, last: usize) -> usize
-    requires { last + tries < 18446744073709551615 }
-    ensures free { result ≡ free_after (is_taken taken.now) tries last }
-    ensures bound { result ≤ last + tries + 1 }
+// The first number above the last one that isn't taken: of one more than so many numbers, one is free. None where numbers
+// ran out, which 2^64 nodes would take.
+fn free_number(taken: &BTreeSet<usize>, tries: usize, last: usize) -> Option<usize>
+    ensures { IfSome result (λ number. number ≡ free_after (is_taken taken.now) tries last) }
 {
-    let mut number = last;
+    let mut number = last.checked_add(1)?;
     for _ in 0..tries {
-        if !taken.contains(&(number + 1)) {
-            return number + 1;
+        if !taken.contains(&number) {
+            return Some(number);
         }
-        number += 1;
+        number = number.checked_add(1)?;
     }
-    number + 1
+    Some(number)
+}
+
+/// Gives each node the next number that no property gives.
+pub fn number_nodes(
+    alloc: Global,
+    given: &Given,
+    nodes: &[usize],
+) -> Result<Vec<Numbered>, BuildError>
+    ensures { IfOk result (λ numbers. numbers.items ≡ numbered_rows (is_taken given.now.taken) (length given.now.numbers.items) 0 nodes.now) }
+{
+    let mut numbers = Vec::with_capacity(alloc, nodes.len())?;
+    let mut last = 0;
+    for node in nodes {
+        last = match free_number(&given.taken, given.numbers.len(), last) {
+            Some(number) => number,
+            None => return Err(BuildError::NoMemory),
+        };
+        numbers.push(Numbered {
+            node: *node,
+            number: last,
+        })?;
+    }
+    Ok(numbers)
 }

@@ -17,13 +17,13 @@ loop-node-preserved c =
     let was : c.index.result.now ≡ get_or known node false = c.index.ensures ∙ get_or_default known node c.index.result.now false within in
     elim c.if-not-index.branch [
       | then-not-index+in_ok-push w ↦ record {
-          count = ap (λ v. length v.items) w.known-is ∙ length-set known node true ∙ c.loop-node.invariant.count;
-          rest = ap₂ (λ (ns : List ℕ) (ks : List Bool). ns ++ new_rows (λ n. get_or ks n false) (drop (k + 1) named)) (ap (λ v. v.items) w.nodes-is ∙ w.in_ok-push.ensures.items) (ap (λ v. v.items) w.known-is)
-              ∙ want-more known c.loop-node.nodes.items named k whole c.loop-node-test.true c.loop-node.invariant.rest within (sym was ∙ w.if-not-index.true);
-        }
+        count = ap (λ v. length v.items) w.known-is ∙ length-set known node true ∙ c.loop-node.invariant.count;
+        rest = ap₂ (λ (ns : List ℕ) (ks : List Bool). ns ++ new_rows (λ n. get_or ks n false) (drop (k + 1) named)) (ap (λ v. v.items) w.nodes-is ∙ w.in_ok-push.ensures.items) (ap (λ v. v.items) w.known-is)
+            ∙ want-more known c.loop-node.nodes.items named k whole c.loop-node-test.true c.loop-node.invariant.rest within (sym was ∙ w.if-not-index.true);
+      }
       | else-not-index w ↦ record {
-          count = ap (λ v. length v.items) w.known-is ∙ c.loop-node.invariant.count;
-          rest = ap₂ (λ (ns : List ℕ) (ks : List Bool). ns ++ new_rows (λ n. get_or ks n false) (drop (k + 1) named)) (ap (λ v. v.items) w.nodes-is) (ap (λ v. v.items) w.known-is)
-              ∙ want-known known c.loop-node.nodes.items named k whole c.loop-node-test.true c.loop-node.invariant.rest (sym was ∙ w.if-not-index.false);
-        }
+        count = ap (λ v. length v.items) w.known-is ∙ c.loop-node.invariant.count;
+        rest = ap₂ (λ (ns : List ℕ) (ks : List Bool). ns ++ new_rows (λ n. get_or ks n false) (drop (k + 1) named)) (ap (λ v. v.items) w.nodes-is) (ap (λ v. v.items) w.known-is)
+            ∙ want-known known c.loop-node.nodes.items named k whole c.loop-node-test.true c.loop-node.invariant.rest (sym was ∙ w.if-not-index.false);
+      }
     ]
