@@ -9,6 +9,7 @@ mod numbers;
 mod phandle;
 mod references;
 mod reserved;
+mod resolving;
 mod wanted;
 
 pub use edits::edited;
@@ -16,4 +17,5 @@ pub use error::BuildError;
 pub use numbers::{Given, Numbered, given_phandles};
 pub use references::{Targets, find_targets};
 pub use reserved::is_reserved;
+pub use resolving::{Resolution, resolve};
 pub use wanted::{number_nodes, wanting};

@@ -1,9 +1,9 @@
 //! The phandles that a source gives.
-ghost use Rattle.std.specs.Prelude.{◌≡◌, ◌≤◌, ◌∷◌, ◌==◌, [], ℕ, not, All, map, length, Ok, IfOk, OnOk, MatchResult, ◌||◌};
+ghost use Rattle.std.specs.Prelude.{true, ◌≡◌, ◌≤◌, ◌∷◌, ◌==◌, [], ℕ, not, All, map, length, Ok, IfOk, OnOk, MatchResult, ◌||◌};
 ghost use Rattle.dt_meaning.specs.Phandles.{given_of, has_number};
-ghost use Rattle.dt_draft.specs.Rows.{IsGrown};
+ghost use Rattle.dt_draft.specs.Rows.{IsGrown, stands};
 ghost use Rattle.dt_build.specs.BuildFault.{IsFault};
-ghost use Rattle.dt_build.specs.Numbers.{is_taken, number_at};
+ghost use Rattle.dt_build.specs.Numbers.{AreStanding, is_taken, number_at};
 ghost use Rattle.dt_build.specs.Said.{read_laid};
 
 use crate::error::BuildError;
@@ -44,7 +44,10 @@ fn note<'d>(
 ) -> Result<(), BuildError>
     requires grown { IsGrown nodes.now }
     requires known { property.now.node ≤ length nodes.now }
+    requires stands { stands nodes.now property.now.node ≡ true }
+    requires owners { AreStanding nodes.now given.old.numbers.items }
     requires taken { (n : ℕ) → is_taken given.old.taken n ≡ has_number n (map (number_at nodes.now) given.old.numbers.items) }
+    ensures owners { OnOk result (AreStanding nodes.now given.new.numbers.items) }
     ensures taken { OnOk result ((n : ℕ) → is_taken given.new.taken n ≡ has_number n (map (number_at nodes.now) given.new.numbers.items)) }
     ensures step { MatchResult result (λ _. given_of (read_laid nodes.now property.now ∷ []) (map (number_at nodes.now) given.old.numbers.items) ≡ Ok (map (number_at nodes.now) given.new.numbers.items)) (λ e. IsFault e (given_of (read_laid nodes.now property.now ∷ []) (map (number_at nodes.now) given.old.numbers.items))) }
 {
@@ -77,6 +80,8 @@ pub fn given_phandles<'d>(
 ) -> Result<Given, BuildError>
     requires grown { IsGrown nodes.now }
     requires known { All (λ x. x.node ≤ length nodes.now) properties.now }
+    requires stand { All (λ x. stands nodes.now x.node ≡ true) properties.now }
+    ensures owners { IfOk result (λ given. AreStanding nodes.now given.numbers.items) }
     ensures taken { IfOk result (λ given. (n : ℕ) → is_taken given.taken n ≡ has_number n (map (number_at nodes.now) given.numbers.items)) }
     ensures numbers { MatchResult result (λ given. given_of (map (read_laid nodes.now) properties.now) [] ≡ Ok (map (number_at nodes.now) given.numbers.items)) (λ e. IsFault e (given_of (map (read_laid nodes.now) properties.now) [])) }
 {

@@ -4,7 +4,6 @@ ghost use Rattle.std.specs.List.{list_any};
 ghost use Rattle.dt_build.specs.Wanted.{free_after, new_rows, numbered_rows};
 ghost use Rattle.dt_build.specs.Numbers.{is_taken};
 
-use crate::error::BuildError;
 use crate::numbers::{Given, Numbered};
 use std::alloc::{AllocError, Global};
 use std::collections::BTreeSet;
@@ -64,7 +63,7 @@ pub fn number_nodes(
     alloc: Global,
     given: &Given,
     nodes: &[usize],
-) -> Result<Vec<Numbered>, BuildError>
+) -> Result<Vec<Numbered>, AllocError>
     ensures { IfOk result (λ numbers. numbers.items ≡ numbered_rows (is_taken given.now.taken) (length given.now.numbers.items) 0 nodes.now) }
 {
     let mut numbers = Vec::with_capacity(alloc, nodes.len())?;
@@ -72,7 +71,7 @@ pub fn number_nodes(
     for node in nodes {
         last = match free_number(&given.taken, given.numbers.len(), last) {
             Some(number) => number,
-            None => return Err(BuildError::NoMemory),
+            None => return Err(AllocError),
         };
         numbers.push(Numbered {
             node: *node,
