@@ -1,4 +1,10 @@
+pub mod EachSteps
 pub mod Faults
+pub mod FindingSteps
 pub mod GivenSteps
+pub mod Joined
 pub mod KeptNodes
 pub mod Orders
+pub mod PathNumbers
+pub mod ReadOrder
+pub mod WantedSteps

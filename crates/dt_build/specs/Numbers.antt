@@ -1,10 +1,10 @@
 -- Numbers of nodes, by the nodes' rows (Devicetree Specification v0.4, section 2.3.3).
-use Rattle.std.specs.Prelude.{ℕ, Bool, List}
+use Rattle.std.specs.Prelude.{◌≡◌, ◌≤◌, ℕ, Bool, true, List, length, All}
 use Rattle.std.specs.Ordering.{nat_cmp}
 use Rattle.std.specs.BTreeSet.{BTreeSet, contains}
 use Rattle.dt_meaning.specs.Phandles.{Number, numbered_at}
 use Rattle.dt_draft.specs.declared.table.NodeRow.{NodeRow}
-use Rattle.dt_draft.specs.Rows.{path_of}
+use Rattle.dt_draft.specs.Rows.{path_of, stands}
 use Rattle.dt_build.specs.declared.numbers.Numbered.{Numbered}
 
 abbrev pub number_at : List NodeRow → Numbered → Number
@@ -13,3 +13,8 @@ number_at rows x = numbered_at (path_of rows x.node) x.number
 -- the set has the number
 abbrev pub is_taken : BTreeSet ℕ → ℕ → Bool
 is_taken taken n = contains nat_cmp taken n
+
+-- each is the number of a node of the tree
+pub record AreStanding (rows : List NodeRow) (xs : List Numbered) : Type 0 where
+  pub known : All (λ x. x.node ≤ length rows) xs
+  pub stand : All (λ x. stands rows x.node ≡ true) xs

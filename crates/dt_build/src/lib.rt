@@ -7,9 +7,15 @@ mod edits;
 mod error;
 mod numbers;
 mod phandle;
+mod references;
 mod reserved;
+mod resolving;
+mod wanted;
 
 pub use edits::edited;
 pub use error::BuildError;
 pub use numbers::{Given, Numbered, given_phandles};
+pub use references::{Targets, find_targets};
 pub use reserved::is_reserved;
+pub use resolving::{Resolution, resolve};
+pub use wanted::{number_nodes, wanting};

@@ -1,9 +1,9 @@
 //! The phandles that a source gives.
-ghost use Rattle.std.specs.Prelude.{◌≡◌, ◌≤◌, ◌∷◌, ◌==◌, [], ℕ, not, All, map, length, Ok, IfOk, OnOk, MatchResult, ◌||◌};
+ghost use Rattle.std.specs.Prelude.{true, ◌≡◌, ◌≤◌, ◌∷◌, ◌==◌, [], ℕ, not, All, map, length, Ok, IfOk, OnOk, MatchResult, ◌||◌};
 ghost use Rattle.dt_meaning.specs.Phandles.{given_of, has_number};
-ghost use Rattle.dt_draft.specs.Rows.{IsGrown};
+ghost use Rattle.dt_draft.specs.Rows.{IsGrown, stands};
 ghost use Rattle.dt_build.specs.BuildFault.{IsFault};
-ghost use Rattle.dt_build.specs.Numbers.{is_taken, number_at};
+ghost use Rattle.dt_build.specs.Numbers.{AreStanding, is_taken, number_at};
 ghost use Rattle.dt_build.specs.Said.{read_laid};
 
 use crate::error::BuildError;
@@ -19,18 +19,18 @@ use std::collections::BTreeSet;
 #[derive(Clone, Copy)]
 pub struct Numbered {
     pub node: usize,
-    pub number: u32,
+    pub number: usize,
 }
 
 /// The numbers that properties give, in the order of the walk, and as a set.
 #[derive(Drop)]
 pub struct Given {
     pub numbers: Vec<Numbered>,
-    pub taken: BTreeSet<u32>,
+    pub taken: BTreeSet<usize>,
 }
 
 /// Adds a number, and answers whether it is new.
-fn take(taken: &mut BTreeSet<u32>, number: u32) -> Result<bool, AllocError>
+fn take(taken: &mut BTreeSet<usize>, number: usize) -> Result<bool, AllocError>
     ensures new { IfOk result (λ new. new ≡ not (is_taken taken.old number)) }
     ensures taken { OnOk result ((n : ℕ) → is_taken taken.new n ≡ ((number == n) || is_taken taken.old n)) }
 {
@@ -44,7 +44,10 @@ fn note<'d>(
 ) -> Result<(), BuildError>
     requires grown { IsGrown nodes.now }
     requires known { property.now.node ≤ length nodes.now }
+    requires stands { stands nodes.now property.now.node ≡ true }
+    requires owners { AreStanding nodes.now given.old.numbers.items }
     requires taken { (n : ℕ) → is_taken given.old.taken n ≡ has_number n (map (number_at nodes.now) given.old.numbers.items) }
+    ensures owners { OnOk result (AreStanding nodes.now given.new.numbers.items) }
     ensures taken { OnOk result ((n : ℕ) → is_taken given.new.taken n ≡ has_number n (map (number_at nodes.now) given.new.numbers.items)) }
     ensures step { MatchResult result (λ _. given_of (read_laid nodes.now property.now ∷ []) (map (number_at nodes.now) given.old.numbers.items) ≡ Ok (map (number_at nodes.now) given.new.numbers.items)) (λ e. IsFault e (given_of (read_laid nodes.now property.now ∷ []) (map (number_at nodes.now) given.old.numbers.items))) }
 {
@@ -55,7 +58,7 @@ fn note<'d>(
         return Ok(());
     }
     let number = match number_in(property.value) {
-        Some(number) => number,
+        Some(number) => number as usize,
         None => return Err(BuildError::BadPhandle),
     };
     given.numbers.reserve(1)?;
@@ -77,6 +80,8 @@ pub fn given_phandles<'d>(
 ) -> Result<Given, BuildError>
     requires grown { IsGrown nodes.now }
     requires known { All (λ x. x.node ≤ length nodes.now) properties.now }
+    requires stand { All (λ x. stands nodes.now x.node ≡ true) properties.now }
+    ensures owners { IfOk result (λ given. AreStanding nodes.now given.numbers.items) }
     ensures taken { IfOk result (λ given. (n : ℕ) → is_taken given.taken n ≡ has_number n (map (number_at nodes.now) given.numbers.items)) }
     ensures numbers { MatchResult result (λ given. given_of (map (read_laid nodes.now) properties.now) [] ≡ Ok (map (number_at nodes.now) given.numbers.items)) (λ e. IsFault e (given_of (map (read_laid nodes.now) properties.now) [])) }
 {

@@ -3,28 +3,28 @@ use Rattle.std.proofs.Common.{◌≡◌, ℕ, zero, suc, ◌<◌, Bool, true, fa
 use Rattle.std.specs.List.{flat_map}
 use Rattle.std.proofs.lemmas.List.{map-append}
 
-abbrev pub Each : (ℕ → Type 0) → List ℕ → Type 0
+abbrev pub Each : {A : Type 0} → (A → Type 0) → List A → Type 0
 Each P [] = Unit {0}
 Each P (x ∷ xs) = P x × Each P xs
 
-pub each-append : (P : ℕ → Type 0) (xs ys : List ℕ) → Each P xs → Each P ys → Each P (xs ++ ys)
+pub each-append : {A : Type 0} (P : A → Type 0) (xs ys : List A) → Each P xs → Each P ys → Each P (xs ++ ys)
 each-append P [] ys a b = b
 each-append P (x ∷ xs) ys a b = (a.0, each-append P xs ys a.1 b)
 
-pub each-one : (P : ℕ → Type 0) (b : Bool) (x : ℕ) → (b ≡ true → P x) → Each P (if b then x ∷ [] else [])
+pub each-one : {A : Type 0} (P : A → Type 0) (b : Bool) (x : A) → (b ≡ true → P x) → Each P (if b then x ∷ [] else [])
 each-one P false x h = tt
 each-one P true x h = (h refl, tt)
 
-pub each-more : (P Q : ℕ → Type 0) (xs : List ℕ) → ((x : ℕ) → P x → Q x) → Each P xs → Each Q xs
+pub each-more : {A : Type 0} (P Q : A → Type 0) (xs : List A) → ((x : A) → P x → Q x) → Each P xs → Each Q xs
 each-more P Q [] f h = tt
 each-more P Q (x ∷ xs) f h = (f x h.0, each-more P Q xs f h.1)
 
-pub each-all : (P : ℕ → Type 0) (xs : List ℕ) → Each P xs → (i d : ℕ) → i < length xs → P (get_or xs i d)
+pub each-all : {A : Type 0} (P : A → Type 0) (xs : List A) → Each P xs → (i : ℕ) (d : A) → i < length xs → P (get_or xs i d)
 each-all P [] h i d below = absurd (omega arith)
 each-all P (x ∷ xs) h zero d below = h.0
 each-all P (x ∷ xs) h (suc i) d below = each-all P xs h.1 i d (omega arith)
 
-pub each-flat : (P Q : ℕ → Type 0) (f : ℕ → List ℕ) (xs : List ℕ) → ((x : ℕ) → P x → Each Q (f x)) → Each P xs → Each Q (flat_map f xs)
+pub each-flat : {A B : Type 0} (P : A → Type 0) (Q : B → Type 0) (f : A → List B) (xs : List A) → ((x : A) → P x → Each Q (f x)) → Each P xs → Each Q (flat_map f xs)
 each-flat P Q f [] g h = tt
 each-flat P Q f (x ∷ xs) g h = each-append Q (f x) (flat_map f xs) (g x h.0) (each-flat P Q f xs g h.1)
 

@@ -1,11 +1,13 @@
 -- The rows of one node: one more, and how far they go.
-use Rattle.std.proofs.Common.{◌≡◌, ℕ, zero, suc, ◌+◌, ◌<◌, ◌≤◌, true, false, not, ◌&&◌, ◌==◌, List, [], ◌∷◌, ◌++◌, length, get_or, if◌then◌else◌, sym, ap, ap₂, ◌∙◌, append-nil, add-one, arith}
+use Rattle.std.proofs.Common.{◌≡◌, ℕ, zero, suc, ◌+◌, ◌<◌, ◌≤◌, true, false, not, ◌&&◌, ◌==◌, List, [], ◌∷◌, ◌++◌, length, get_or, if◌then◌else◌, sym, ap, ap₂, ◌∙◌, append-nil, add-one, Bor, Option, Some, None, subst, arith}
+use Rattle.std.specs.List.{flat_map}
+use Rattle.std.proofs.lemmas.Bool.{eqb-true}
 use Rattle.std.proofs.lemmas.List.{get_or_default}
 use Rattle.dt_draft.specs.declared.table.NodeRow.{NodeRow}
 use Rattle.dt_draft.specs.declared.table.PropertyRow.{PropertyRow}
 use Rattle.dt_draft.specs.Rows.{row_at, no_row, property_at}
-use Rattle.dt_layout.specs.Private.Walks.{children_to, properties_to}
-use Rattle.dt_layout.proofs.Each.{Each, each-append, each-one}
+use Rattle.dt_layout.specs.Private.Walks.{children_to, properties_to, laid_of, laid_at}
+use Rattle.dt_layout.proofs.Each.{Each, each-append, each-one, each-flat}
 
 -- the row that a loop has where there is none
 abbrev pub plain : NodeRow
@@ -41,3 +43,22 @@ own-within rows n m zero le = tt
 own-within rows n m (suc k) le =
     each-append (λ j. j < m) (properties_to rows k n) _ (own-within rows n m k (omega arith))
     (each-one (λ j. j < m) (n == (property_at rows k).node) k (λ e. omega arith))
+
+-- each is a property of the node
+pub own-nodes : {V : Type 0} (rows : List (PropertyRow V)) (n k : ℕ) → Each (λ i. (property_at rows i).node ≡ n) (properties_to rows k n)
+own-nodes rows n zero = tt
+own-nodes rows n (suc k) =
+    each-append (λ i. (property_at rows i).node ≡ n) (properties_to rows k n) _ (own-nodes rows n k)
+    (each-one (λ i. (property_at rows i).node ≡ n) (n == (property_at rows k).node) k (λ e. sym (eqb-true n (property_at rows k).node e)))
+
+laid-node : {V : Type 0} (node : ℕ) (name : Bor (List ℕ)) (o : Option V) (P : ℕ → Type 0) → P node → Each (λ x. P x.node) (laid_of node name o)
+laid-node node name None P h = tt
+laid-node node name (Some v) P h = (h, tt)
+
+-- what is laid out is of the nodes of the order
+pub laid-nodes : {V : Type 0} (rows : List (PropertyRow V)) (P : ℕ → Type 0) (order : List ℕ) → Each P order → Each (λ x. P x.node) (flat_map (λ n. flat_map (laid_at rows) (properties_to rows (length rows) n)) order)
+laid-nodes rows P order h =
+    each-flat P (λ x. P x.node) (λ n. flat_map (laid_at rows) (properties_to rows (length rows) n)) order
+    (λ n is. each-flat (λ i. (property_at rows i).node ≡ n) (λ x. P x.node) (laid_at rows) (properties_to rows (length rows) n)
+    (λ i same. laid-node (property_at rows i).node (property_at rows i).name (property_at rows i).value P (subst P (sym same) is))
+    (own-nodes rows n (length rows))) h

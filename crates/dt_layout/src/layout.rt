@@ -25,6 +25,8 @@ pub fn lay_out<'d, V: Copy>(
     ensures nodes { IfOk result (λ layout. map (node_path draft.now) layout.nodes.items ≡ preorder (state_of draft.now).nodes) }
     ensures known { IfOk result (λ layout. All (λ n. IsNode draft.now n) layout.nodes.items) }
     ensures there { IfOk result (λ layout. All (λ n. is_standing draft.now n ≡ true) layout.nodes.items) }
+    ensures owners { IfOk result (λ layout. All (λ x. IsNode draft.now x.node) layout.properties.items) }
+    ensures stand { IfOk result (λ layout. All (λ x. is_standing draft.now x.node ≡ true) layout.properties.items) }
     ensures properties { IfOk result (λ layout. map (laid_definition draft.now) layout.properties.items ≡ in_order (state_of draft.now)) }
 {
     let nodes = walk_tree(alloc, draft.nodes())?;

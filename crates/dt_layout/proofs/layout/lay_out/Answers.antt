@@ -1,10 +1,11 @@
-use Rattle.std.proofs.Common.{◌≡◌, length, map, refl, ap, ap₂, ◌∙◌, arith}
+use Rattle.std.proofs.Common.{◌≡◌, sym, subst, length, map, refl, ap, ap₂, ◌∙◌, arith}
 use Rattle.std.specs.List.{flat_map}
 use Rattle.dt_meaning.specs.References.{held}
 use Rattle.dt_draft.specs.Index.{row_of}
 use Rattle.dt_draft.specs.Rows.{path_of, stands, shown, property_at}
 use Rattle.dt_layout.specs.Private.Walks.{children_to, laid_at, properties_to, rows_walk}
-use Rattle.dt_layout.proofs.Each.{each-all}
+use Rattle.dt_layout.proofs.Each.{Each, each-all}
+use Rattle.dt_layout.proofs.KidSteps.{laid-nodes}
 use Rattle.dt_layout.proofs.Orders.{Stands, in-preorder, order-stands, as_shown, all-held}
 use Rattle.dt_layout.proofs.layout.lay_out.Goals as goal
 
@@ -43,6 +44,30 @@ returns-clause-there g c k d below =
     let order = c.in_ok-nodes.ensures ∙ ap (λ rs. rows_walk 64 (children_to rs (length rs)) 0) c.nodes.ensures in
     let all = order-stands rows (row_of da.node_rows) c.requires.grown c.requires.nodes 64 c.in_ok-nodes.nodes.items order in
     (each-all (Stands rows (row_of da.node_rows) c.requires.grown c.requires.nodes) c.in_ok-nodes.nodes.items all k d below).1
+
+pub returns-clause-owners : goal.returns-clause-owners
+returns-clause-owners g c k d below =
+    let da = c.args.draft.now in
+    let rows = da.nodes.items in
+    let ps = da.properties.items in
+    let nodes = c.in_ok-nodes.nodes.items in
+    let Up = Stands rows (row_of da.node_rows) c.requires.grown c.requires.nodes in
+    let order = c.in_ok-nodes.ensures ∙ ap (λ rs. rows_walk 64 (children_to rs (length rs)) 0) c.nodes.ensures in
+    let all = order-stands rows (row_of da.node_rows) c.requires.grown c.requires.nodes 64 nodes order in
+    let laid = c.in_ok-properties.ensures ∙ ap₂ (λ rs ns. flat_map (λ n. flat_map (laid_at rs) (properties_to rs (length rs) n)) ns) c.properties.ensures c.as_slice.ensures.value in
+    (each-all (λ x. Up x.node) c.in_ok-properties.properties.items (subst (λ xs. Each (λ x. Up x.node) xs) (sym laid) (laid-nodes ps Up nodes all)) k d below).0
+
+pub returns-clause-stand : goal.returns-clause-stand
+returns-clause-stand g c k d below =
+    let da = c.args.draft.now in
+    let rows = da.nodes.items in
+    let ps = da.properties.items in
+    let nodes = c.in_ok-nodes.nodes.items in
+    let Up = Stands rows (row_of da.node_rows) c.requires.grown c.requires.nodes in
+    let order = c.in_ok-nodes.ensures ∙ ap (λ rs. rows_walk 64 (children_to rs (length rs)) 0) c.nodes.ensures in
+    let all = order-stands rows (row_of da.node_rows) c.requires.grown c.requires.nodes 64 nodes order in
+    let laid = c.in_ok-properties.ensures ∙ ap₂ (λ rs ns. flat_map (λ n. flat_map (laid_at rs) (properties_to rs (length rs) n)) ns) c.properties.ensures c.as_slice.ensures.value in
+    (each-all (λ x. Up x.node) c.in_ok-properties.properties.items (subst (λ xs. Each (λ x. Up x.node) xs) (sym laid) (laid-nodes ps Up nodes all)) k d below).1
 
 pub returns-clause-properties : goal.returns-clause-properties
 returns-clause-properties g c =
