@@ -1,7 +1,8 @@
 //! Driver files, and the plan of a tree.
-use bus_drivers::read_drivers;
+use bus_drivers::{Driver, FailLine, read_drivers};
 use bus_plan::PlanError;
 use std::hash::RandomState;
+use std::process::Abort;
 use std::test::Fail;
 
 /// Driver files that are refused, with the fault and its line.
@@ -35,14 +36,8 @@ fn driver_files_are_refused_in_line_order(rt: HostRuntime) -> Result<(), Fail> {
     Ok(())
 }
 
-/// A driver file that is read: drivers with their strings, and the lines that fail a device.
-#[test]
-fn driver_files_are_read(rt: HostRuntime) -> Result<(), Fail> {
-    let text =
-        b"# drivers\n\ndriver fixed fixed-clock\n  fail\t/ \r\ndriver ns ns16550a ns16550a x,\"y\"\nfail /uart";
-    let set = read_drivers(rt.alloc(), RandomState::new(&rt)?, text)?;
-    set.check();
-    let [fixed, ns] = set.drivers() else {
+fn drivers_are_told(rt: &impl Abort, drivers: &[Driver]) -> Result<(), Fail> {
+    let [fixed, ns] = drivers else {
         return Err(Fail::from("two drivers"));
     };
     assert_eq!(rt; fixed.name().as_bytes(), b"fixed".as_slice());
@@ -54,7 +49,11 @@ fn driver_files_are_read(rt: HostRuntime) -> Result<(), Fail> {
     assert_eq!(rt; first.as_slice(), b"ns16550a".as_slice());
     assert_eq!(rt; second.as_slice(), b"ns16550a".as_slice());
     assert_eq!(rt; third.as_slice(), b"x,\"y\"".as_slice());
-    let [root, uart] = set.fails() else {
+    Ok(())
+}
+
+fn fails_are_told(rt: &impl Abort, fails: &[FailLine]) -> Result<(), Fail> {
+    let [root, uart] = fails else {
         return Err(Fail::from("two devices that fail"));
     };
     assert_eq!(rt; root.path().as_bytes(), b"/".as_slice());
@@ -62,4 +61,15 @@ fn driver_files_are_read(rt: HostRuntime) -> Result<(), Fail> {
     assert_eq!(rt; uart.path().as_bytes(), b"/uart".as_slice());
     assert_eq!(rt; uart.line(), 6);
     Ok(())
+}
+
+/// A driver file that is read: drivers with their strings, and the lines that fail a device.
+#[test]
+fn driver_files_are_read(rt: HostRuntime) -> Result<(), Fail> {
+    let text =
+        b"# drivers\n\ndriver fixed fixed-clock\n  fail\t/ \r\ndriver ns ns16550a ns16550a x,\"y\"\nfail /uart";
+    let set = read_drivers(rt.alloc(), RandomState::new(&rt)?, text)?;
+    set.check();
+    drivers_are_told(&rt, set.drivers())?;
+    fails_are_told(&rt, set.fails())
 }

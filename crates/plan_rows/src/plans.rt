@@ -1,17 +1,29 @@
 //! Plan files: read, written, read back; what a plan answers; the lines and fields of a text file of the bus.
 
 use bus_plan::{
-    Device, Fields, MAX_DEVICES, PlanError, Planned, Verdict, is_line, is_line_byte, lines_of,
-    plan_text, plan_text_is_read_back, read_plan,
+    Device, Fields, MAX_DEVICES, Plan, PlanError, Planned, Verdict, is_line, is_line_byte,
+    lines_of, plan_text, plan_text_is_read_back, read_plan,
 };
 use dt_tree::{Name, Path};
 use std::alloc::Global;
 use std::hash::RandomState;
+use std::process::Abort;
 use std::test::Fail;
+
+fn is_written_as(rt: &impl Abort, alloc: Global, plan: &Plan, text: &[u8]) -> Result<(), Fail> {
+    assert_eq!(rt; plan_text(alloc, plan)?.as_slice(), text);
+    Ok(())
+}
+
+fn is_copied_as(rt: &impl Abort, alloc: Global, plan: &Plan, text: &[u8]) -> Result<(), Fail> {
+    let copy = plan.copy(alloc)?;
+    is_written_as(rt, alloc, &copy, text)
+}
 
 /// Texts that are read, and what is written of them: one space between fields, no comments, no blank lines.
 #[test]
 fn plans_are_read_and_written(rt: HostRuntime) -> Result<(), Fail> {
+    let hasher = RandomState::new(&rt)?;
     let rows: [(&[u8], &[u8]); 5] = [
         (b"", b""),
         (b"# none\n\n \t\n", b""),
@@ -27,10 +39,9 @@ fn plans_are_read_and_written(rt: HostRuntime) -> Result<(), Fail> {
     ];
     plan_text_is_read_back();
     for (text, written) in rows {
-        let plan = read_plan(rt.alloc(), RandomState::new(&rt)?, text)?;
-        assert_eq!(rt; plan_text(rt.alloc(), &plan)?.as_slice(), written);
-        let copy = plan.copy(rt.alloc())?;
-        assert_eq!(rt; plan_text(rt.alloc(), &copy)?.as_slice(), written);
+        let plan = read_plan(rt.alloc(), hasher, text)?;
+        is_written_as(&rt, rt.alloc(), &plan, written)?;
+        is_copied_as(&rt, rt.alloc(), &plan, written)?;
     }
     Ok(())
 }
@@ -100,38 +111,39 @@ fn refusals_have_numbers_and_names(rt: HostRuntime) -> Result<(), Fail> {
     Ok(())
 }
 
-#[test]
-fn readers_answer(rt: HostRuntime) -> Result<(), Fail> {
-    let plan = read_plan(
-        rt.alloc(),
-        RandomState::new(&rt)?,
-        b"/s ! -\n/d y fail /s\n",
-    )?;
-    plan.check();
+fn two_devices_are_told(rt: &impl Abort, plan: &Plan) {
+    let (s, d) = (Device::new(0), Device::new(1));
+    assert_eq!(rt; d.index(), 1);
     assert_eq!(rt; plan.len(), 2);
     assert!(rt; !plan.is_empty());
-    let s = Device::new(0);
-    let d = Device::new(1);
-    assert_eq!(rt; d.index(), 1);
-    assert_eq!(rt; plan.device(b"/d"), Some(d));
-    assert_eq!(rt; plan.device(b"/x"), None);
     assert_eq!(rt; plan.path(d).as_bytes(), b"/d".as_slice());
-    assert!(rt; !plan.available(s));
+    assert!(rt; !plan.available(s) && plan.available(d));
     assert!(rt; plan.driver(s).is_none());
-    assert!(rt; plan.available(d));
     assert_eq!(rt; plan.verdict(d), Verdict::Fails);
     assert_eq!(rt; plan.suppliers(d), [s].as_slice());
+}
+
+#[test]
+fn readers_answer(rt: HostRuntime) -> Result<(), Fail> {
+    let text = b"/s ! -\n/d y fail /s\n";
+    let plan = read_plan(rt.alloc(), RandomState::new(&rt)?, text)?;
+    plan.check();
+    two_devices_are_told(&rt, &plan);
+    let found = [plan.device(b"/d"), plan.device(b"/x")];
+    assert_eq!(rt; found, [Some(Device::new(1)), None]);
     Ok(())
+}
+
+fn has_consumers(rt: &impl Abort, plan: &Plan, place: usize, consumers: &[Device]) {
+    assert!(rt; place < plan.len());
+    assert_eq!(rt; plan.consumers(Device::new(place)), consumers);
 }
 
 /// The consumers of row `diamond`'s devices, and of a device that itself stands last.
 #[test]
 fn consumers_stand_in_plan_order(rt: HostRuntime) -> Result<(), Fail> {
-    let plan = read_plan(
-        rt.alloc(),
-        RandomState::new(&rt)?,
-        b"/a x ok /e\n/b x ok /a\n/c x ok /e /a\n/d x ok /c /b\n/e ! -\n",
-    )?;
+    let text = b"/a x ok /e\n/b x ok /a\n/c x ok /e /a\n/d x ok /c /b\n/e ! -\n";
+    let plan = read_plan(rt.alloc(), RandomState::new(&rt)?, text)?;
     let (a, b) = (Device::new(0), Device::new(1));
     let (c, d) = (Device::new(2), Device::new(3));
     let rows: [(usize, &[Device]); 5] = [
@@ -142,27 +154,35 @@ fn consumers_stand_in_plan_order(rt: HostRuntime) -> Result<(), Fail> {
         (4, &[a, c]),
     ];
     for (place, consumers) in rows {
-        assert!(rt; place < plan.len());
-        assert_eq!(rt; plan.consumers(Device::new(place)), consumers);
+        has_consumers(&rt, &plan, place, consumers);
     }
     Ok(())
 }
 
-/// A device by its parts.
+// A device by its parts.
+fn planned(alloc: Global) -> Result<Planned, Fail> {
+    Ok(Planned::new(
+        Path::parse(alloc, b"/d")?,
+        true,
+        Some(Name::new(alloc, b"x")?),
+        Verdict::Fails,
+        Vec::from_slice(alloc, &[Device::new(1)])?,
+    ))
+}
+
+fn is_planned(rt: &impl Abort, device: &Planned) {
+    assert_eq!(rt; device.path().as_bytes(), b"/d".as_slice());
+    assert!(rt; device.available() && device.driver().is_some());
+    assert_eq!(rt; device.verdict(), Verdict::Fails);
+    assert_eq!(rt; device.suppliers(), [Device::new(1)].as_slice());
+}
+
 #[test]
 fn devices_are_made_of_parts(rt: HostRuntime) -> Result<(), Fail> {
-    let device = Planned::new(
-        Path::parse(rt.alloc(), b"/d")?,
-        true,
-        Some(Name::new(rt.alloc(), b"x")?),
-        Verdict::Fails,
-        Vec::from_slice(rt.alloc(), &[Device::new(1)])?,
-    );
+    let device = planned(rt.alloc())?;
+    is_planned(&rt, &device);
     let copy = device.copy(rt.alloc())?;
-    assert_eq!(rt; copy.path().as_bytes(), b"/d".as_slice());
-    assert!(rt; copy.available() && copy.driver().is_some());
-    assert_eq!(rt; copy.verdict(), Verdict::Fails);
-    assert_eq!(rt; copy.suppliers(), device.suppliers());
+    is_planned(&rt, &copy);
     Ok(())
 }
 
@@ -175,15 +195,27 @@ fn many_devices(alloc: Global, count: usize) -> Result<Vec<u8>, Fail> {
     Ok(text)
 }
 
+// How many devices a plan of so many lines has.
+fn count_read(
+    alloc: Global,
+    hasher: RandomState,
+    lines: usize,
+) -> Result<Result<usize, PlanError>, Fail> {
+    let text = many_devices(alloc, lines)?;
+    match read_plan(alloc, hasher, text.as_slice()) {
+        Ok(plan) => Ok(Ok(plan.len())),
+        Err(error) => Ok(Err(error)),
+    }
+}
+
 /// One device more than a plan may have is refused.
 #[test]
 fn a_device_too_many_is_refused(rt: HostRuntime) -> Result<(), Fail> {
-    let full = many_devices(rt.alloc(), MAX_DEVICES)?;
-    let plan = read_plan(rt.alloc(), RandomState::new(&rt)?, full.as_slice())?;
-    assert_eq!(rt; plan.len(), MAX_DEVICES);
-    let over = many_devices(rt.alloc(), MAX_DEVICES + 1)?;
-    let refused = read_plan(rt.alloc(), RandomState::new(&rt)?, over.as_slice());
-    assert_eq!(rt; refused.err(), Some(PlanError::TooManyDevices));
+    let hasher = RandomState::new(&rt)?;
+    let full = count_read(rt.alloc(), hasher, MAX_DEVICES)?;
+    assert_eq!(rt; full, Ok(MAX_DEVICES));
+    let over = count_read(rt.alloc(), hasher, MAX_DEVICES + 1)?;
+    assert_eq!(rt; over, Err(PlanError::TooManyDevices));
     Ok(())
 }
 
