@@ -10,7 +10,7 @@ ghost use Rattle.engine.specs.Fault.{shown, blob_fault, no_memory};
 ghost use Rattle.engine.specs.Plan.{planning, printed, IsPlanned, IsPlanText, IsPlanRefusal, CannotPlan};
 
 use crate::fault::Fault;
-use bus_drivers::{plan, read_drivers};
+use bus_drivers::{plan, plan_graph, read_drivers};
 use bus_plan::{Plan, PlanError, plan_text};
 use dt_blob::read;
 use dt_tree::Tree;
@@ -81,7 +81,7 @@ fn text_of(alloc: Global, plan: &Plan) -> Result<Vec<u8>, Fault>
     plan_text(alloc, plan).map_err(|_| Fault::no_memory())
 }
 
-/// The plan as a Graphviz graph in place of its text. What it prints is outside the proved clauses.
+/// The plan as a Graphviz graph in place of its text. What it draws is outside the proved clauses.
 pub fn graph_bytes(
     alloc: Global,
     hasher: RandomState,
@@ -91,5 +91,5 @@ pub fn graph_bytes(
     ensures refused { IfErr result (λ fault. IsPlanRefusal blob.now drivers.now (shown fault)) }
 {
     let plan = planned(alloc, hasher, blob, drivers)?;
-    text_of(alloc, &plan)
+    plan_graph(alloc, &plan).map_err(|_| Fault::no_memory())
 }

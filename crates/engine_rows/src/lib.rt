@@ -5,3 +5,5 @@
 
 #[cfg(test)]
 mod engines;
+#[cfg(test)]
+mod probes;

@@ -7,3 +7,5 @@
 mod drivers;
 #[cfg(test)]
 mod plans;
+#[cfg(test)]
+mod plans_of_trees;
