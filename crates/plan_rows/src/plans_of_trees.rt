@@ -36,7 +36,7 @@ fn tree_of(alloc: Global, rows: &[Row]) -> Result<Tree, Fail> {
         levels.push(Vec::new(alloc))?;
     }
     for (depth, name, entries) in rows.iter().rev() {
-        let mut children = last_level(&mut levels, alloc, *depth + 1);
+        let mut children = last_level(&mut levels, alloc, depth.saturating_add(1));
         children.reverse();
         let name = if *depth == 0 {
             None
