@@ -281,18 +281,22 @@ const DRAINED: [(&str, &str, &str); 4] = [
     ),
 ];
 
-// The report once nothing is due.
-fn drained(alloc: Global, core: &mut Core) -> Result<Vec<u8>, Fail> {
+fn report_of_drained(alloc: Global, core: &mut Core) -> Result<Vec<u8>, Fail> {
     let _begins = drain(core)?;
     Ok(core.report(alloc)?)
+}
+
+// The report once nothing of the plan is due.
+fn drained(alloc: Global, hasher: RandomState, plan: &[u8]) -> Result<Vec<u8>, Fail> {
+    let mut core = opened(alloc, hasher, plan)?;
+    report_of_drained(alloc, &mut core)
 }
 
 #[test]
 fn drains(rt: HostRuntime) -> Result<(), Fail> {
     let hasher = RandomState::new(&rt)?;
     for (name, plan, report) in DRAINED {
-        let mut core = opened(rt.alloc(), hasher, plan.as_bytes())?;
-        let answer = drained(rt.alloc(), &mut core)?;
+        let answer = drained(rt.alloc(), hasher, plan.as_bytes())?;
         assert_eq!(rt; answer.as_slice(), report.as_bytes(), "{name}");
     }
     Ok(())

@@ -3,10 +3,11 @@
 ghost use Rattle.std.specs.Prelude.{◌≡◌};
 
 use bus_core::Report;
-use bus_manager::{MAX_WORKERS, Prober, RunError, Seen, TableProber, run};
+use bus_manager::{MAX_WORKERS, Prober, Ran, RunError, Seen, TableProber, run};
 use bus_plan::{Device, Plan, read_plan};
 use std::alloc::Global;
 use std::hash::RandomState;
+use std::process::Abort;
 use std::sync::atomic::{AtomicU64, Ordering};
 use std::test::Fail;
 
@@ -48,20 +49,19 @@ fn are_noted(notes: &[Option<Device>], settled: &[bool]) -> bool {
             == is_settled.then_some(Device::new(index)))
 }
 
+fn has_run(rt: &impl Abort, name: &str, ran: &Ran<Device>, report: &str, settled: &[bool]) {
+    assert!(rt; are_noted(ran.notes.as_slice(), settled), "{name}");
+    assert_eq!(rt; ran.report.as_slice(), report.as_bytes(), "{name}");
+}
+
 #[test]
 fn runs(rt: HostRuntime) -> Result<(), Fail> {
     let hasher = RandomState::new(&rt)?;
     for (name, text, report, settled) in ROWS {
+        let plan = read_plan(rt.alloc(), hasher, text.as_bytes())?;
         for workers in [1, 2, MAX_WORKERS] {
-            let plan = read_plan(rt.alloc(), hasher, text.as_bytes())?;
             let ran = run(&rt, rt.alloc(), &plan, &TableProber, workers)?;
-            let is_noted = are_noted(ran.notes.as_slice(), settled);
-            assert!(rt; is_noted, "{name} by {workers}");
-            assert_eq!(rt;
-                ran.report.as_slice(),
-                report.as_bytes(),
-                "{name} by {workers}"
-            );
+            has_run(&rt, name, &ran, report, settled);
         }
     }
     Ok(())

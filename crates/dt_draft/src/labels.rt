@@ -86,7 +86,7 @@ impl<'d, V: Copy> Draft<'d, V> {
     }
 
     /// Gives labels to a node, in order, up to the first that another node has.
-    pub fn give_labels(&mut self, labels: &'d [&'d [u8]], node: usize) -> Result<(), LabelError>
+    pub fn give_labels(&mut self, labels: &[&'d [u8]], node: usize) -> Result<(), LabelError>
         requires sound { IsDraft self.old }
         requires known { IsNode self.old node }
         requires stands { is_standing self.old node ≡ true }

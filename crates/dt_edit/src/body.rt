@@ -15,14 +15,14 @@ use dt_source::{Part, Statement};
 const MAX_DEPTH: usize = 64;
 
 #[cycle(edits)]
-fn edit_child<'d>(
-    draft: &mut Draft<'d, &'d [Part<'d>]>,
+fn edit_child<'d, 't>(
+    draft: &mut Draft<'t, &'d [Part<'t>]>,
     node: usize,
     depth: usize,
     number: usize,
-    labels: &'d [&'d [u8]],
-    name: &'d [u8],
-    body: &'d [Statement<'d>],
+    labels: &'d [&'t [u8]],
+    name: &'t [u8],
+    body: &'d [Statement<'t>],
 ) -> Result<(), EditError>
     requires sound { IsDraft draft.old }
     requires numbered { IsNumbered draft.old }
@@ -54,12 +54,12 @@ fn edit_child<'d>(
 }
 
 #[cycle(edits)]
-fn edit<'d>(
-    draft: &mut Draft<'d, &'d [Part<'d>]>,
+fn edit<'d, 't>(
+    draft: &mut Draft<'t, &'d [Part<'t>]>,
     node: usize,
     depth: usize,
     number: usize,
-    statement: &'d Statement<'d>,
+    statement: &'d Statement<'t>,
 ) -> Result<(), EditError>
     requires sound { IsDraft draft.old }
     requires numbered { IsNumbered draft.old }
@@ -106,11 +106,11 @@ fn edit<'d>(
 
 /// Does what the statements of a body say to a node. After a refusal the draft is of no more use.
 #[cycle(edits)]
-pub fn edit_body<'d>(
-    draft: &mut Draft<'d, &'d [Part<'d>]>,
+pub fn edit_body<'d, 't>(
+    draft: &mut Draft<'t, &'d [Part<'t>]>,
     node: usize,
     depth: usize,
-    body: &'d [Statement<'d>],
+    body: &'d [Statement<'t>],
 ) -> Result<(), EditError>
     requires sound { IsDraft draft.old }
     requires numbered { IsNumbered draft.old }

@@ -21,61 +21,63 @@ fn printed(alloc: Global, answer: Result<Vec<u8>, Fault>) -> Result<Vec<u8>, All
     }
 }
 
+// A row's name, its plan, its schedule, and what is printed.
+const REPLAYS: [(&str, &str, &str, &str); 9] = [
+    ("empty-plan", "", "", "quiet\n"),
+    (
+        "missing-then-due",
+        CLOCK_AND_UART,
+        "begin /uart\nbegin /clk\nfinish /clk settled\nfinish /uart missing /clk\n",
+        "/clk bound fixed\n/uart due\nbusy\n",
+    ),
+    (
+        "missing-of-a-bound",
+        CLOCK_AND_UART,
+        "begin /clk\nfinish /clk settled\nbegin /uart\nfinish /uart missing /clk\n",
+        "error 64 WasBound event 4",
+    ),
+    (
+        "refused-events: no flight",
+        CLOCK_AND_UART,
+        "finish /clk settled\n",
+        "error 66 NotInFlight event 1",
+    ),
+    (
+        "refused-events: a supplier isn't bound",
+        CLOCK_AND_UART,
+        "begin /uart\nfinish /uart settled\n",
+        "error 63 NotReady event 2",
+    ),
+    (
+        "refused-events: no such device",
+        CLOCK_AND_UART,
+        "begin /nix\n",
+        "error 53 UnknownPath line 1",
+    ),
+    (
+        "the plan's fault comes first",
+        "/clk fixed\n",
+        "begin /nix\n",
+        "error 50 BadLine line 1",
+    ),
+    (
+        "the whole schedule is read before its first event",
+        CLOCK_AND_UART,
+        "finish /clk settled\nbegin /clk",
+        "error 66 NotInFlight event 1",
+    ),
+    (
+        "cycle-by-schedule",
+        "/a x ok /b\n/b y ok /a\n",
+        "begin /a\nfinish /a missing /b\nbegin /b\nfinish /b missing /a\n",
+        "/a waiting /b\n/b waiting /a\nquiet\n",
+    ),
+];
+
 #[test]
 fn replays_the_worked_rows(rt: HostRuntime) -> Result<(), Fail> {
-    let rows = [
-        ("empty-plan", "", "", "quiet\n"),
-        (
-            "missing-then-due",
-            CLOCK_AND_UART,
-            "begin /uart\nbegin /clk\nfinish /clk settled\nfinish /uart missing /clk\n",
-            "/clk bound fixed\n/uart due\nbusy\n",
-        ),
-        (
-            "missing-of-a-bound",
-            CLOCK_AND_UART,
-            "begin /clk\nfinish /clk settled\nbegin /uart\nfinish /uart missing /clk\n",
-            "error 64 WasBound event 4",
-        ),
-        (
-            "refused-events: no flight",
-            CLOCK_AND_UART,
-            "finish /clk settled\n",
-            "error 66 NotInFlight event 1",
-        ),
-        (
-            "refused-events: a supplier isn't bound",
-            CLOCK_AND_UART,
-            "begin /uart\nfinish /uart settled\n",
-            "error 63 NotReady event 2",
-        ),
-        (
-            "refused-events: no such device",
-            CLOCK_AND_UART,
-            "begin /nix\n",
-            "error 53 UnknownPath line 1",
-        ),
-        (
-            "the plan's fault comes first",
-            "/clk fixed\n",
-            "begin /nix\n",
-            "error 50 BadLine line 1",
-        ),
-        (
-            "the whole schedule is read before its first event",
-            CLOCK_AND_UART,
-            "finish /clk settled\nbegin /clk",
-            "error 66 NotInFlight event 1",
-        ),
-        (
-            "cycle-by-schedule",
-            "/a x ok /b\n/b y ok /a\n",
-            "begin /a\nfinish /a missing /b\nbegin /b\nfinish /b missing /a\n",
-            "/a waiting /b\n/b waiting /a\nquiet\n",
-        ),
-    ];
     let hasher = RandomState::new(&rt)?;
-    for (name, plan, schedule, wanted) in rows {
+    for (name, plan, schedule, wanted) in REPLAYS {
         let answer = replay_bytes(rt.alloc(), hasher, plan.as_bytes(), schedule.as_bytes());
         let text = printed(rt.alloc(), answer)?;
         assert_eq!(rt; text.as_slice(), wanted.as_bytes(), "{name}");

@@ -54,92 +54,88 @@ fn places_of_lexemes(rt: HostRuntime) -> Result<(), Fail> {
     Ok(())
 }
 
+// Texts of statements with the kinds and lengths of their lexemes.
+const STATEMENTS: [(&[u8], &[(Kind, u32)]); 9] = [
+    // labels and names at a statement's beginning, in a body and behind a deletion in one
+    (
+        b"{a:b:c,d",
+        &[
+            (Kind::Brace, 1),
+            (Kind::Label, 2),
+            (Kind::Label, 2),
+            (Kind::Name, 3),
+        ],
+    ),
+    (
+        b"{#a=",
+        &[(Kind::Brace, 1), (Kind::Name, 2), (Kind::Equals, 1)],
+    ),
+    (
+        b"{;1@2{",
+        &[
+            (Kind::Brace, 1),
+            (Kind::Semicolon, 1),
+            (Kind::Name, 3),
+            (Kind::Brace, 1),
+        ],
+    ),
+    (
+        b"{/delete-property/a-b",
+        &[
+            (Kind::Brace, 1),
+            (Kind::DeleteProperty, 17),
+            (Kind::Name, 3),
+        ],
+    ),
+    (
+        b"{/delete-node/+",
+        &[(Kind::Brace, 1), (Kind::DeleteNode, 13), (Kind::Name, 1)],
+    ),
+    // the top level has values alone
+    (
+        b"/delete-node/&x;a:&x{};",
+        &[
+            (Kind::DeleteNode, 13),
+            (Kind::Reference, 2),
+            (Kind::Semicolon, 1),
+            (Kind::Label, 2),
+            (Kind::Reference, 2),
+            (Kind::Brace, 1),
+            (Kind::EndBrace, 1),
+            (Kind::Semicolon, 1),
+        ],
+    ),
+    (
+        b"/memreserve/0 1UL;",
+        &[
+            (Kind::MemReserve, 12),
+            (Kind::Literal, 1),
+            (Kind::Literal, 3),
+            (Kind::Semicolon, 1),
+        ],
+    ),
+    (
+        b"/plugin/ /bits/ /",
+        &[(Kind::Plugin, 8), (Kind::Bits, 6), (Kind::Slash, 1)],
+    ),
+    // bytes between square brackets, where a label comes first
+    (
+        b"[0aBc ab:cd]a:",
+        &[
+            (Kind::Square, 1),
+            (Kind::Pair, 2),
+            (Kind::Pair, 2),
+            (Kind::Label, 3),
+            (Kind::Pair, 2),
+            (Kind::EndSquare, 1),
+            (Kind::Label, 2),
+        ],
+    ),
+];
+
 #[test]
 fn statements(rt: HostRuntime) -> Result<(), Fail> {
-    let rows = [
-        // labels and names at a statement's beginning, in a body and behind a deletion in one
-        (
-            b"{a:b:c,d".as_slice(),
-            [
-                (Kind::Brace, 1),
-                (Kind::Label, 2),
-                (Kind::Label, 2),
-                (Kind::Name, 3),
-            ]
-            .as_slice(),
-        ),
-        (
-            b"{#a=",
-            [(Kind::Brace, 1), (Kind::Name, 2), (Kind::Equals, 1)].as_slice(),
-        ),
-        (
-            b"{;1@2{",
-            [
-                (Kind::Brace, 1),
-                (Kind::Semicolon, 1),
-                (Kind::Name, 3),
-                (Kind::Brace, 1),
-            ]
-            .as_slice(),
-        ),
-        (
-            b"{/delete-property/a-b",
-            [
-                (Kind::Brace, 1),
-                (Kind::DeleteProperty, 17),
-                (Kind::Name, 3),
-            ]
-            .as_slice(),
-        ),
-        (
-            b"{/delete-node/+",
-            [(Kind::Brace, 1), (Kind::DeleteNode, 13), (Kind::Name, 1)].as_slice(),
-        ),
-        // the top level has values alone
-        (
-            b"/delete-node/&x;a:&x{};",
-            [
-                (Kind::DeleteNode, 13),
-                (Kind::Reference, 2),
-                (Kind::Semicolon, 1),
-                (Kind::Label, 2),
-                (Kind::Reference, 2),
-                (Kind::Brace, 1),
-                (Kind::EndBrace, 1),
-                (Kind::Semicolon, 1),
-            ]
-            .as_slice(),
-        ),
-        (
-            b"/memreserve/0 1UL;",
-            [
-                (Kind::MemReserve, 12),
-                (Kind::Literal, 1),
-                (Kind::Literal, 3),
-                (Kind::Semicolon, 1),
-            ]
-            .as_slice(),
-        ),
-        (
-            b"/plugin/ /bits/ /",
-            [(Kind::Plugin, 8), (Kind::Bits, 6), (Kind::Slash, 1)].as_slice(),
-        ),
-        // bytes between square brackets, where a label comes first
-        (
-            b"[0aBc ab:cd]a:",
-            [
-                (Kind::Square, 1),
-                (Kind::Pair, 2),
-                (Kind::Pair, 2),
-                (Kind::Label, 3),
-                (Kind::Pair, 2),
-                (Kind::EndSquare, 1),
-                (Kind::Label, 2),
-            ]
-            .as_slice(),
-        ),
-    ];
-    for (text, kinds) in rows {
+    for (text, kinds) in STATEMENTS {
         assert!(rt; are(rt.alloc(), text, kinds));
     }
     Ok(())
@@ -176,108 +172,103 @@ fn long_labels(rt: HostRuntime) -> Result<(), Fail> {
     Ok(())
 }
 
+// Texts of values with the kinds and lengths of their lexemes.
+const VALUES: [(&[u8], &[(Kind, u32)]); 9] = [
+    // operators inside parentheses alone
+    (
+        b"<<0x1fULL>>",
+        &[
+            (Kind::Less, 1),
+            (Kind::Less, 1),
+            (Kind::Literal, 7),
+            (Kind::Greater, 1),
+            (Kind::Greater, 1),
+        ],
+    ),
+    (
+        b"(<<<=<>>>=>",
+        &[
+            (Kind::Paren, 1),
+            (Kind::ShiftLeft, 2),
+            (Kind::LessEqual, 2),
+            (Kind::Less, 1),
+            (Kind::ShiftRight, 2),
+            (Kind::GreaterEqual, 2),
+            (Kind::Greater, 1),
+        ],
+    ),
+    (
+        b"(&&&|||^===!!=)=",
+        &[
+            (Kind::Paren, 1),
+            (Kind::AndAnd, 2),
+            (Kind::And, 1),
+            (Kind::OrOr, 2),
+            (Kind::Or, 1),
+            (Kind::Xor, 1),
+            (Kind::EqualEqual, 2),
+            (Kind::Equals, 1),
+            (Kind::Bang, 1),
+            (Kind::NotEqual, 2),
+            (Kind::EndParen, 1),
+            (Kind::Equals, 1),
+        ],
+    ),
+    (
+        b"(?:+-*/%~ 1",
+        &[
+            (Kind::Paren, 1),
+            (Kind::Question, 1),
+            (Kind::Colon, 1),
+            (Kind::Plus, 1),
+            (Kind::Minus, 1),
+            (Kind::Star, 1),
+            (Kind::Slash, 1),
+            (Kind::Percent, 1),
+            (Kind::Tilde, 1),
+            (Kind::Literal, 1),
+        ],
+    ),
+    (
+        b"\"a\\\"\\\\\", &a1{",
+        &[
+            (Kind::Text, 7),
+            (Kind::Comma, 1),
+            (Kind::Reference, 3),
+            (Kind::Brace, 1),
+        ],
+    ),
+    (
+        b"&{/}&{/a/b@1,2}",
+        &[(Kind::PathReference, 4), (Kind::PathReference, 11)],
+    ),
+    (
+        b"0X1a 0 09 1L 2LL 3U",
+        &[
+            (Kind::Literal, 4),
+            (Kind::Literal, 1),
+            (Kind::Literal, 2),
+            (Kind::Literal, 2),
+            (Kind::Literal, 3),
+            (Kind::Literal, 2),
+        ],
+    ),
+    // what stands between
+    (
+        b"1/* \n*// /2//3\n# 4\n# 5",
+        &[
+            (Kind::Literal, 1),
+            (Kind::Slash, 1),
+            (Kind::Slash, 1),
+            (Kind::Literal, 1),
+        ],
+    ),
+    (b" \t\r\n\x0b\x0c", &[]),
+];
+
 #[test]
 fn values(rt: HostRuntime) -> Result<(), Fail> {
-    let rows = [
-        // operators inside parentheses alone
-        (
-            b"<<0x1fULL>>".as_slice(),
-            [
-                (Kind::Less, 1),
-                (Kind::Less, 1),
-                (Kind::Literal, 7),
-                (Kind::Greater, 1),
-                (Kind::Greater, 1),
-            ]
-            .as_slice(),
-        ),
-        (
-            b"(<<<=<>>>=>",
-            [
-                (Kind::Paren, 1),
-                (Kind::ShiftLeft, 2),
-                (Kind::LessEqual, 2),
-                (Kind::Less, 1),
-                (Kind::ShiftRight, 2),
-                (Kind::GreaterEqual, 2),
-                (Kind::Greater, 1),
-            ]
-            .as_slice(),
-        ),
-        (
-            b"(&&&|||^===!!=)=",
-            [
-                (Kind::Paren, 1),
-                (Kind::AndAnd, 2),
-                (Kind::And, 1),
-                (Kind::OrOr, 2),
-                (Kind::Or, 1),
-                (Kind::Xor, 1),
-                (Kind::EqualEqual, 2),
-                (Kind::Equals, 1),
-                (Kind::Bang, 1),
-                (Kind::NotEqual, 2),
-                (Kind::EndParen, 1),
-                (Kind::Equals, 1),
-            ]
-            .as_slice(),
-        ),
-        (
-            b"(?:+-*/%~ 1",
-            [
-                (Kind::Paren, 1),
-                (Kind::Question, 1),
-                (Kind::Colon, 1),
-                (Kind::Plus, 1),
-                (Kind::Minus, 1),
-                (Kind::Star, 1),
-                (Kind::Slash, 1),
-                (Kind::Percent, 1),
-                (Kind::Tilde, 1),
-                (Kind::Literal, 1),
-            ]
-            .as_slice(),
-        ),
-        (
-            b"\"a\\\"\\\\\", &a1{",
-            [
-                (Kind::Text, 7),
-                (Kind::Comma, 1),
-                (Kind::Reference, 3),
-                (Kind::Brace, 1),
-            ]
-            .as_slice(),
-        ),
-        (
-            b"&{/}&{/a/b@1,2}",
-            [(Kind::PathReference, 4), (Kind::PathReference, 11)].as_slice(),
-        ),
-        (
-            b"0X1a 0 09 1L 2LL 3U",
-            [
-                (Kind::Literal, 4),
-                (Kind::Literal, 1),
-                (Kind::Literal, 2),
-                (Kind::Literal, 2),
-                (Kind::Literal, 3),
-                (Kind::Literal, 2),
-            ]
-            .as_slice(),
-        ),
-        // what stands between
-        (
-            b"1/* \n*// /2//3\n# 4\n# 5",
-            [
-                (Kind::Literal, 1),
-                (Kind::Slash, 1),
-                (Kind::Slash, 1),
-                (Kind::Literal, 1),
-            ]
-            .as_slice(),
-        ),
-        (b" \t\r\n\x0b\x0c", [].as_slice()),
-    ];
-    for (text, kinds) in rows {
+    for (text, kinds) in VALUES {
         assert!(rt; are(rt.alloc(), text, kinds));
     }
     Ok(())

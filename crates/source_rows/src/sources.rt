@@ -41,6 +41,48 @@ fn number(alloc: Global, text: &[u8]) -> u8 {
     }
 }
 
+// Sources, and the bytes of their last value.
+const VALUES: [(&[u8], &[u8]); 9] = [
+    // cell-arithmetic
+    (
+        b"/dts-v1/; / { p = <(1 << 64) (0 - 1) (2 + 3 * 4)>; };",
+        &[0, 0, 0, 0, 255, 255, 255, 255, 0, 0, 0, 14],
+    ),
+    (
+        b"/dts-v1/; / { p = /bits/ 8 <1 0xff (0 - 1)>; };",
+        &[1, 255, 255],
+    ),
+    // divide-by-zero
+    (
+        b"/dts-v1/; / { s = \"a\\x41\\n\\101\", [0a 0B], <2>; };",
+        &[0x61, 0x41, 0x0a, 0x41, 0, 0x0a, 0x0b, 0, 0, 0, 2],
+    ),
+    // precedence
+    (
+        b"/dts-v1/; / { p = <(1 | 2 == 2) (2 - 3 < 0) (1 ? 2 : 3 ? 4 : 5) (-1 >> 63)>; };",
+        &[0, 0, 0, 1, 0, 0, 0, 0, 0, 0, 0, 2, 0, 0, 0, 1],
+    ),
+    // element-width
+    (
+        b"/dts-v1/; / { p = /bits/ 8 <(-128) (-256)>; };",
+        &[0x80, 0],
+    ),
+    (
+        b"/dts-v1/; / { p = /bits/ 64 <0xffffffffffffffff>; };",
+        &[255, 255, 255, 255, 255, 255, 255, 255],
+    ),
+    (b"/dts-v1/; / { p = /bits/ 16 <1 l: 2>; };", &[0, 1, 0, 2]),
+    // escapes, a line end in a string, labels everywhere, bytes without blanks
+    (
+        b"/dts-v1/; / { p = \"\\a\\b\\t\\n\\v\\f\\r\\q\\\"\\7\"; };",
+        &[7, 8, 9, 10, 11, 12, 13, 113, 34, 7, 0],
+    ),
+    (
+        b"/dts-v1/; / { p = a: [ b: 0a0B c: ] d: , e: \"\n\\\n\" f: ; };",
+        &[10, 11, 10, 10, 0],
+    ),
+];
+
 #[test]
 fn values_of_bytes(rt: HostRuntime) -> Result<(), Fail> {
     one_source();
@@ -48,47 +90,7 @@ fn values_of_bytes(rt: HostRuntime) -> Result<(), Fail> {
     faults_are_in_order();
     says_lawful();
     bodies_are_lists();
-    let rows = [
-        // cell-arithmetic
-        (
-            b"/dts-v1/; / { p = <(1 << 64) (0 - 1) (2 + 3 * 4)>; };".as_slice(),
-            [0, 0, 0, 0, 255, 255, 255, 255, 0, 0, 0, 14].as_slice(),
-        ),
-        (
-            b"/dts-v1/; / { p = /bits/ 8 <1 0xff (0 - 1)>; };",
-            &[1, 255, 255],
-        ),
-        // divide-by-zero
-        (
-            b"/dts-v1/; / { s = \"a\\x41\\n\\101\", [0a 0B], <2>; };",
-            &[0x61, 0x41, 0x0a, 0x41, 0, 0x0a, 0x0b, 0, 0, 0, 2],
-        ),
-        // precedence
-        (
-            b"/dts-v1/; / { p = <(1 | 2 == 2) (2 - 3 < 0) (1 ? 2 : 3 ? 4 : 5) (-1 >> 63)>; };",
-            &[0, 0, 0, 1, 0, 0, 0, 0, 0, 0, 0, 2, 0, 0, 0, 1],
-        ),
-        // element-width
-        (
-            b"/dts-v1/; / { p = /bits/ 8 <(-128) (-256)>; };",
-            &[0x80, 0],
-        ),
-        (
-            b"/dts-v1/; / { p = /bits/ 64 <0xffffffffffffffff>; };",
-            &[255, 255, 255, 255, 255, 255, 255, 255],
-        ),
-        (b"/dts-v1/; / { p = /bits/ 16 <1 l: 2>; };", &[0, 1, 0, 2]),
-        // escapes, a line end in a string, labels everywhere, bytes without blanks
-        (
-            b"/dts-v1/; / { p = \"\\a\\b\\t\\n\\v\\f\\r\\q\\\"\\7\"; };",
-            &[7, 8, 9, 10, 11, 12, 13, 113, 34, 7, 0],
-        ),
-        (
-            b"/dts-v1/; / { p = a: [ b: 0a0B c: ] d: , e: \"\n\\\n\" f: ; };",
-            &[10, 11, 10, 10, 0],
-        ),
-    ];
-    for (text, bytes) in rows {
+    for (text, bytes) in VALUES {
         match parse(rt.alloc(), text) {
             Err(_) => assert!(rt; false),
             Ok(source) => {
@@ -150,47 +152,49 @@ fn values_of_parts(rt: HostRuntime) -> Result<(), Fail> {
     Ok(())
 }
 
+// Sources, the number of their refusal (255 for none), and its line.
+const REFUSALS: [(&[u8], u8, usize); 27] = [
+    // syntax-fault
+    (b"/dts-v1/; / {", 10, 1),
+    (b"", 10, 1),
+    (b"/dts-v1/;\n/ { };\n", 255, 0),
+    (b"/dts-v1/;\n/ {\n", 10, 3),
+    (b"/dts-v1/;\n/* / { };\n", 10, 2),
+    (b"/dts-v1/;\n/ {\n  s = \"a\n\n", 10, 3),
+    (b"/dts-v1/;\n/ {\n  a { };\n b;\n};", 10, 4),
+    (b"/dts-v1/; /plugin/; /plugin/; / { };", 10, 1),
+    (b"/plugin/; / { };", 10, 1),
+    (b"/dts-v1/;", 10, 1),
+    // cell-arithmetic, divide-by-zero
+    (b"/dts-v1/; / { p = <0x100000000>; };", 11, 1),
+    (b"/dts-v1/; / { p = <(0 && 1 / 0)>; };", 12, 1),
+    (b"/dts-v1/; / { p = <(1 % 0)>; };", 12, 1),
+    // element-width
+    (b"/dts-v1/; / { p = /bits/ 8 <(-257)>; };", 11, 1),
+    (b"/dts-v1/; / { p = /bits/ 8 <256>; };", 11, 1),
+    (b"/dts-v1/; / { p = /bits/ 12 <1>; };", 13, 1),
+    (b"/dts-v1/; / { p = /bits/ 64 <&a>; };", 13, 1),
+    (b"/dts-v1/; / { p = /bits/ 08 <256>; };", 14, 1),
+    // bad-literals
+    (b"/dts-v1/; / { p = <08>; };", 14, 1),
+    (b"/dts-v1/; / { p = <18446744073709551616>; };", 14, 1),
+    (b"/dts-v1/; / { p = \"\\400\"; };", 15, 1),
+    (b"/dts-v1/; / { p = \"\\x\"; };", 15, 1),
+    (b"/dts-v1/; / { p = <1>; /* };", 10, 1),
+    // the first fault, and its line; a syntax fault comes before all of them
+    (b"/dts-v1/;\n/memreserve/ 08 (1 / 0);\n/ { };", 14, 2),
+    (b"/dts-v1/;\n/ { a = <1\n 0x100000000>, \"\\x\"; };", 11, 3),
+    (
+        b"/dts-v1/;\n/ { a { b = \"\\x\"; };\n c { d = <(1 / 0)>; }; };",
+        15,
+        2,
+    ),
+    (b"/dts-v1/;\n/ { a = <(1 / 0)>; } };", 10, 2),
+];
+
 #[test]
 fn refusals(rt: HostRuntime) -> Result<(), Fail> {
-    let rows = [
-        // syntax-fault
-        (b"/dts-v1/; / {".as_slice(), 10, 1),
-        (b"", 10, 1),
-        (b"/dts-v1/;\n/ { };\n", 255, 0),
-        (b"/dts-v1/;\n/ {\n", 10, 3),
-        (b"/dts-v1/;\n/* / { };\n", 10, 2),
-        (b"/dts-v1/;\n/ {\n  s = \"a\n\n", 10, 3),
-        (b"/dts-v1/;\n/ {\n  a { };\n b;\n};", 10, 4),
-        (b"/dts-v1/; /plugin/; /plugin/; / { };", 10, 1),
-        (b"/plugin/; / { };", 10, 1),
-        (b"/dts-v1/;", 10, 1),
-        // cell-arithmetic, divide-by-zero
-        (b"/dts-v1/; / { p = <0x100000000>; };", 11, 1),
-        (b"/dts-v1/; / { p = <(0 && 1 / 0)>; };", 12, 1),
-        (b"/dts-v1/; / { p = <(1 % 0)>; };", 12, 1),
-        // element-width
-        (b"/dts-v1/; / { p = /bits/ 8 <(-257)>; };", 11, 1),
-        (b"/dts-v1/; / { p = /bits/ 8 <256>; };", 11, 1),
-        (b"/dts-v1/; / { p = /bits/ 12 <1>; };", 13, 1),
-        (b"/dts-v1/; / { p = /bits/ 64 <&a>; };", 13, 1),
-        (b"/dts-v1/; / { p = /bits/ 08 <256>; };", 14, 1),
-        // bad-literals
-        (b"/dts-v1/; / { p = <08>; };", 14, 1),
-        (b"/dts-v1/; / { p = <18446744073709551616>; };", 14, 1),
-        (b"/dts-v1/; / { p = \"\\400\"; };", 15, 1),
-        (b"/dts-v1/; / { p = \"\\x\"; };", 15, 1),
-        (b"/dts-v1/; / { p = <1>; /* };", 10, 1),
-        // the first fault, and its line; a syntax fault comes before all of them
-        (b"/dts-v1/;\n/memreserve/ 08 (1 / 0);\n/ { };", 14, 2),
-        (b"/dts-v1/;\n/ { a = <1\n 0x100000000>, \"\\x\"; };", 11, 3),
-        (
-            b"/dts-v1/;\n/ { a { b = \"\\x\"; };\n c { d = <(1 / 0)>; }; };",
-            15,
-            2,
-        ),
-        (b"/dts-v1/;\n/ { a = <(1 / 0)>; } };", 10, 2),
-    ];
-    for (text, refused, line) in rows {
+    for (text, refused, line) in REFUSALS {
         match parse(rt.alloc(), text) {
             Ok(_) => assert_eq!(rt; refused, 255),
             Err(e) => {

@@ -154,49 +154,51 @@ fn every_cut(rt: HostRuntime) -> Result<(), Fail> {
     Ok(())
 }
 
+// What is wrong with a structure block, its words, and the number of the refusal.
+const BAD_TOKENS: [(&str, &[u32], u8); 21] = [
+    (
+        "a property after a child",
+        &[1, 0, 1, 0x6e00_0000, 2, 3, 0, 0, 2, 9],
+        36,
+    ),
+    ("a name without its zero byte", &[1, 0x6e6e_6e6e], 35),
+    ("a root with a name", &[1, 0x6e00_0000, 2, 9], 37),
+    ("an unlawful name", &[1, 0, 1, 0x2f00_0000, 2, 2, 9], 37),
+    ("equal properties", &[1, 0, 3, 0, 0, 3, 0, 0, 2, 9], 37),
+    (
+        "equal children",
+        &[1, 0, 1, 0x6e00_0000, 2, 1, 0x6e00_0000, 2, 2, 9],
+        37,
+    ),
+    ("two roots", &[1, 0, 2, 1, 0, 2, 9], 34),
+    ("END in a node", &[1, 0, 9], 34),
+    ("no END", &[1, 0, 2], 34),
+    ("no root", &[9], 34),
+    ("END_NODE first", &[2, 9], 34),
+    ("a property first", &[3, 0, 0, 1, 0, 2, 9], 34),
+    ("an unknown token", &[1, 0, 5, 2, 9], 34),
+    ("an offset at the strings' end", &[1, 0, 3, 0, 2, 2, 9], 35),
+    ("an offset past the strings", &[1, 0, 3, 0, 3, 2, 9], 35),
+    ("a cut PROP", &[1, 0, 3, 0], 34),
+    ("a value past the block", &[1, 0, 3, 9, 0, 2, 9], 34),
+    (
+        "a value past the block, an offset past the strings",
+        &[1, 0, 3, 9, 3, 2, 9],
+        34,
+    ),
+    (
+        "equal properties, then a bad token",
+        &[1, 0, 3, 0, 0, 3, 0, 0, 5],
+        34,
+    ),
+    ("bytes behind END", &[1, 0, 2, 9, 0], 34),
+    ("a NOP behind END", &[1, 0, 2, 9, 4], 34),
+];
+
 #[test]
 fn faults_of_tokens(rt: HostRuntime) -> Result<(), Fail> {
     let alloc = rt.alloc();
-    let rows: [(&str, &[u32], u8); 21] = [
-        (
-            "a property after a child",
-            &[1, 0, 1, 0x6e00_0000, 2, 3, 0, 0, 2, 9],
-            36,
-        ),
-        ("a name without its zero byte", &[1, 0x6e6e_6e6e], 35),
-        ("a root with a name", &[1, 0x6e00_0000, 2, 9], 37),
-        ("an unlawful name", &[1, 0, 1, 0x2f00_0000, 2, 2, 9], 37),
-        ("equal properties", &[1, 0, 3, 0, 0, 3, 0, 0, 2, 9], 37),
-        (
-            "equal children",
-            &[1, 0, 1, 0x6e00_0000, 2, 1, 0x6e00_0000, 2, 2, 9],
-            37,
-        ),
-        ("two roots", &[1, 0, 2, 1, 0, 2, 9], 34),
-        ("END in a node", &[1, 0, 9], 34),
-        ("no END", &[1, 0, 2], 34),
-        ("no root", &[9], 34),
-        ("END_NODE first", &[2, 9], 34),
-        ("a property first", &[3, 0, 0, 1, 0, 2, 9], 34),
-        ("an unknown token", &[1, 0, 5, 2, 9], 34),
-        ("an offset at the strings' end", &[1, 0, 3, 0, 2, 2, 9], 35),
-        ("an offset past the strings", &[1, 0, 3, 0, 3, 2, 9], 35),
-        ("a cut PROP", &[1, 0, 3, 0], 34),
-        ("a value past the block", &[1, 0, 3, 9, 0, 2, 9], 34),
-        (
-            "a value past the block, an offset past the strings",
-            &[1, 0, 3, 9, 3, 2, 9],
-            34,
-        ),
-        (
-            "equal properties, then a bad token",
-            &[1, 0, 3, 0, 0, 3, 0, 0, 5],
-            34,
-        ),
-        ("bytes behind END", &[1, 0, 2, 9, 0], 34),
-        ("a NOP behind END", &[1, 0, 2, 9, 4], 34),
-    ];
-    for (name, structure, number) in rows {
+    for (name, structure, number) in BAD_TOKENS {
         let bytes = blob(alloc, structure, b"a\0")?;
         assert_eq!(rt;
             refusal(read(alloc, bytes.as_slice())),

@@ -5,6 +5,7 @@ use dt_tree::{
     same_map_same_tree,
 };
 use std::alloc::Global;
+use std::process::Abort;
 use std::test::Fail;
 
 /// A property `phandle` with this number.
@@ -234,16 +235,23 @@ fn finds(rt: HostRuntime) -> Result<(), Fail> {
     Ok(())
 }
 
-#[test]
-fn node_copied(rt: HostRuntime) -> Result<(), Fail> {
-    let alloc = rt.alloc();
-    let tree = sample(alloc)?;
-    let soc = tree.root().child(b"soc").ok_or("no child")?.copy(alloc)?;
+fn uart_is_below(rt: &impl Abort, alloc: Global, soc: &Node) -> Result<(), Fail> {
     let below = soc.find(&Path::parse(alloc, b"/uart")?).ok_or("no node")?;
     assert!(rt; below.name_bytes() == b"uart".as_slice());
     let value = below.value(b"phandle").ok_or("no value")?.copy(alloc)?;
     assert!(rt; value.into_vec().as_slice() == [0, 0, 0, 7].as_slice());
     Ok(())
+}
+
+fn soc_copied(alloc: Global, tree: &Tree) -> Result<Node, Fail> {
+    Ok(tree.root().child(b"soc").ok_or("no child")?.copy(alloc)?)
+}
+
+#[test]
+fn node_copied(rt: HostRuntime) -> Result<(), Fail> {
+    let tree = sample(rt.alloc())?;
+    let soc = soc_copied(rt.alloc(), &tree)?;
+    uart_is_below(&rt, rt.alloc(), &soc)
 }
 
 #[test]

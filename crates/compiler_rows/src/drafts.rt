@@ -1,0 +1,280 @@
+//! Edits of a draft, at its root.
+
+ghost use Rattle.std.specs.Prelude.{OnOk};
+ghost use Rattle.dt_draft.specs.Rows.{IsDraft, IsNumbered};
+
+use dt_draft::{Draft, LabelError};
+use dt_edit::{EditError, edit_body};
+use dt_source::{Item, Part, parse};
+use std::alloc::{AllocError, Global};
+use std::hash::RandomState;
+use std::process::Abort;
+use std::test::Fail;
+
+// A child of the root.
+fn define<'d>(
+    draft: &mut Draft<'d, u32>,
+    name: &'d [u8],
+    body: usize,
+) -> Result<(usize, bool), AllocError>
+    requires { IsDraft draft.old }
+    ensures { OnOk result (IsDraft draft.new) }
+{
+    draft.define_child(0, name, body)
+}
+
+fn remove<'d>(draft: &mut Draft<'d, u32>, name: &'d [u8])
+    requires { IsDraft draft.old }
+    ensures { IsDraft draft.new }
+{
+    draft.remove_child(0, name);
+}
+
+// A child that goes again, by its number.
+fn define_for_a_while<'d>(draft: &mut Draft<'d, u32>, name: &'d [u8]) -> Result<usize, AllocError>
+    requires { IsDraft draft.old }
+    ensures { OnOk result (IsDraft draft.new) }
+{
+    let (node, _) = draft.define_child(0, name, 3)?;
+    if node > 0 {
+        draft.remove_node(node);
+    }
+    Ok(node)
+}
+
+fn children_are_numbered(rt: &impl Abort, draft: &mut Draft<'_, u32>) -> Result<(), Fail>
+    requires { IsDraft draft.old }
+    ensures { OnOk result (IsDraft draft.new) }
+{
+    assert_eq!(rt; define(draft, b"a", 1)?, (1, true));
+    assert_eq!(rt; define(draft, b"b", 1)?, (2, true));
+    assert_eq!(rt; define(draft, b"a", 1)?, (1, false));
+    assert_eq!(rt; define(draft, b"a", 2)?, (1, true));
+    assert_eq!(rt; define(draft, b"a", 2)?, (1, false));
+    assert_eq!(rt; draft.child(0, b"a"), Some(1));
+    assert_eq!(rt; draft.child(0, b"c"), None);
+    Ok(())
+}
+
+fn children_are_removed(rt: &impl Abort, draft: &mut Draft<'_, u32>) -> Result<(), Fail>
+    requires { IsDraft draft.old }
+{
+    remove(draft, b"a");
+    remove(draft, b"c");
+    assert_eq!(rt; draft.child(0, b"a"), None);
+    assert_eq!(rt; define(draft, b"a", 2)?, (3, false));
+    assert_eq!(rt; define(draft, b"a", 3)?, (3, true));
+    assert_eq!(rt; define_for_a_while(draft, b"c")?, 4);
+    assert_eq!(rt; draft.child(0, b"c"), None);
+    Ok(())
+}
+
+/// `/ { a { }; a { }; };` twice: the first body to define a child, and the child that is there, are told.
+#[test]
+fn children_are_defined_and_removed(rt: HostRuntime) -> Result<(), Fail> {
+    let mut draft: Draft<'_, u32> = Draft::new(rt.alloc(), RandomState::new(&rt)?);
+    children_are_numbered(&rt, &mut draft)?;
+    children_are_removed(&rt, &mut draft)
+}
+
+// A property of the root.
+fn set<'d>(
+    draft: &mut Draft<'d, u32>,
+    name: &'d [u8],
+    value: u32,
+    body: usize,
+) -> Result<bool, AllocError>
+    requires { IsDraft draft.old }
+    ensures { OnOk result (IsDraft draft.new) }
+{
+    draft.set_property(0, name, value, body)
+}
+
+fn unset<'d>(draft: &mut Draft<'d, u32>, name: &'d [u8])
+    requires { IsDraft draft.old }
+    ensures { IsDraft draft.new }
+{
+    draft.remove_property(0, name);
+}
+
+fn first_definitions_are_told(rt: &impl Abort, draft: &mut Draft<'_, u32>) -> Result<(), Fail>
+    requires { IsDraft draft.old }
+{
+    assert_eq!(rt; set(draft, b"x", 1, 1)?, true);
+    assert_eq!(rt; set(draft, b"x", 2, 1)?, false);
+    assert_eq!(rt; set(draft, b"x", 3, 2)?, true);
+    unset(draft, b"x");
+    unset(draft, b"y");
+    assert_eq!(rt; set(draft, b"x", 4, 2)?, false);
+    Ok(())
+}
+
+/// `/ { x = <1>; x = <2>; };`: the second definition isn't the body's first.
+#[test]
+fn properties_are_set_and_removed(rt: HostRuntime) -> Result<(), Fail> {
+    let mut draft: Draft<'_, u32> = Draft::new(rt.alloc(), RandomState::new(&rt)?);
+    first_definitions_are_told(&rt, &mut draft)
+}
+
+#[test]
+fn bodies_are_numbered(rt: HostRuntime) -> Result<(), Fail> {
+    let mut draft: Draft<'_, u32> = Draft::new(rt.alloc(), RandomState::new(&rt)?);
+    let numbers = [draft.begin_body(), draft.begin_body()];
+    assert_eq!(rt; numbers, [Some(1), Some(2)]);
+    Ok(())
+}
+
+// Defines a child of the root with a label: its number, and how the label was given.
+fn label<'d>(
+    draft: &mut Draft<'d, u32>,
+    name: &'d [u8],
+    label: &'d [u8],
+) -> Result<usize, LabelError>
+    requires { IsDraft draft.old }
+    ensures { OnOk result (IsDraft draft.new) }
+{
+    let (node, _) = draft.define_child(0, name, 1)?;
+    draft.give_label(label, node)?;
+    Ok(node)
+}
+
+// The same with labels, behind a question whether the child is there.
+fn label_all<'d>(
+    draft: &mut Draft<'d, u32>,
+    name: &'d [u8],
+    labels: &'d [&'d [u8]],
+) -> Result<(usize, bool), LabelError>
+    requires { IsDraft draft.old }
+    ensures { OnOk result (IsDraft draft.new) }
+{
+    let (node, _) = draft.define_child(0, name, 1)?;
+    let is_there = draft.is_in_tree(node);
+    draft.give_labels(labels, node)?;
+    Ok((node, is_there))
+}
+
+fn a_label_is_free_again<'d>(
+    rt: &impl Abort,
+    draft: &mut Draft<'d, u32>,
+    labels: &'d [&'d [u8]],
+) -> Result<(), Fail>
+    requires { IsDraft draft.old }
+{
+    let (x, is_there) = label_all(draft, b"x", labels)?;
+    assert!(rt; is_there);
+    assert_eq!(rt; draft.labelled(b"b"), Some(x));
+    remove(draft, b"x");
+    assert_eq!(rt; draft.labelled(b"a"), None);
+    let z = label(draft, b"z", b"a")?;
+    let again = label(draft, b"z", b"a")?;
+    assert_eq!(rt; again, z);
+    assert_eq!(rt; draft.labelled(b"a"), Some(z));
+    Ok(())
+}
+
+/// `/ { a: b: x { }; /delete-node/ x; a: a: z { }; };`: labels of a node that is gone are free.
+#[test]
+fn labels_are_given_and_lost(rt: HostRuntime) -> Result<(), Fail> {
+    let labels: [&[u8]; 2] = [b"a", b"b"];
+    let mut draft: Draft<'_, u32> = Draft::new(rt.alloc(), RandomState::new(&rt)?);
+    a_label_is_free_again(&rt, &mut draft, &labels)
+}
+
+fn a_label_is_refused(rt: &impl Abort, draft: &mut Draft<'_, u32>) -> Result<(), Fail>
+    requires { IsDraft draft.old }
+{
+    let _x = label(draft, b"x", b"a")?;
+    assert_eq!(rt; label(draft, b"y", b"a"), Err(LabelError::DuplicateLabel));
+    Ok(())
+}
+
+fn the_root_is_refused_a_label(rt: &impl Abort, draft: &mut Draft<'_, u32>) -> Result<(), Fail>
+    requires { IsDraft draft.old }
+{
+    let _x = label(draft, b"x", b"a")?;
+    assert_eq!(rt; draft.give_label(b"a", 0), Err(LabelError::DuplicateLabel));
+    Ok(())
+}
+
+/// `/ { a: x { }; a: y { }; };`, and `a: / { a: x { }; };`.
+#[test]
+fn labels_of_others_are_refused(rt: HostRuntime) -> Result<(), Fail> {
+    let hasher = RandomState::new(&rt)?;
+    let mut draft: Draft<'_, u32> = Draft::new(rt.alloc(), hasher);
+    a_label_is_refused(&rt, &mut draft)?;
+    let mut draft: Draft<'_, u32> = Draft::new(rt.alloc(), hasher);
+    the_root_is_refused_a_label(&rt, &mut draft)
+}
+
+// How a body ends that is the root's.
+fn edit_item<'d, 't>(
+    draft: &mut Draft<'t, &'d [Part<'t>]>,
+    item: &'d Item<'t>,
+) -> Result<(), EditError>
+    requires sound { IsDraft draft.old }
+    requires numbered { IsNumbered draft.old }
+    ensures sound { OnOk result (IsDraft draft.new) }
+    ensures numbered { OnOk result (IsNumbered draft.new) }
+{
+    match item {
+        Item::Root(body) => edit_body(draft, 0, 0, body.as_slice()),
+        _ => Ok(()),
+    }
+}
+
+// How the bodies of the root end, of which there are one or two.
+fn edit_items<'d, 't>(
+    alloc: Global,
+    hasher: RandomState,
+    items: &'d [Item<'t>],
+) -> Result<(), EditError> {
+    let mut draft: Draft<'t, &'d [Part<'t>]> = Draft::new(alloc, hasher);
+    let [first, rest @ ..] = items else {
+        return Ok(());
+    };
+    edit_item(&mut draft, first)?;
+    match rest {
+        [second] => edit_item(&mut draft, second),
+        _ => Ok(()),
+    }
+}
+
+fn edited(alloc: Global, hasher: RandomState, text: &[u8]) -> Result<Result<(), EditError>, Fail> {
+    let source = parse(alloc, text)?;
+    Ok(edit_items(alloc, hasher, source.items.as_slice()))
+}
+
+/// Rows `merge-and-delete` and `lost-label`: how their edits end.
+#[test]
+fn bodies_are_edited(rt: HostRuntime) -> Result<(), Fail> {
+    let hasher = RandomState::new(&rt)?;
+    let rows: [(&[u8], Result<(), EditError>); 5] = [
+        (
+            b"/dts-v1/; / { a { x = <1>; y; }; b { }; }; / { a { x = <2>; z; }; /delete-node/ b; };",
+            Ok(()),
+        ),
+        (b"/dts-v1/; / { x; x; };", Err(EditError::DuplicateInBody)),
+        (
+            b"/dts-v1/; / { a { }; /delete-node/ a; a { }; };",
+            Err(EditError::DuplicateInBody),
+        ),
+        (
+            b"/dts-v1/; / { a: x { }; a: y { }; };",
+            Err(EditError::DuplicateLabel),
+        ),
+        (
+            b"/dts-v1/; / { a: x { }; /delete-node/ x; a: y { }; };",
+            Ok(()),
+        ),
+    ];
+    for (text, ended) in rows {
+        assert_eq!(rt; edited(rt.alloc(), hasher, text)?, ended);
+    }
+    Ok(())
+}
+
+/// The definitions give what was worked by hand.
+#[test]
+fn rows_are_computed() {
+    dt_meaning::worked_rows();
+}
