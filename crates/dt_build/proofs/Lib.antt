@@ -3,7 +3,9 @@ pub mod Faults
 pub mod FindingSteps
 pub mod GivenSteps
 pub mod Joined
+pub mod KeptNames
 pub mod KeptNodes
+pub mod LabelledPaths
 pub mod Orders
 pub mod PathNumbers
 pub mod ReadOrder

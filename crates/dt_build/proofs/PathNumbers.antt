@@ -33,7 +33,7 @@ turned-by a b true false d e = sym (eq-eqb b a (sym (eqb-true a b d))) ∙ e
 turned-by a b false true d e = sym d ∙ eq-eqb a b (sym (eqb-true b a e))
 turned-by a b false false d e = refl
 
-turned : (a b : ℕ) → (a == b) ≡ (b == a)
+pub turned : (a b : ℕ) → (a == b) ≡ (b == a)
 turned a b = turned-by a b (a == b) (b == a) refl refl
 
 abbrev pub EachStands : List NodeRow → List ℕ → Type 0

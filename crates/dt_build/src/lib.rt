@@ -5,6 +5,8 @@
 
 mod edits;
 mod error;
+mod labelled;
+mod names;
 mod numbers;
 mod phandle;
 mod references;
@@ -14,6 +16,8 @@ mod wanted;
 
 pub use edits::edited;
 pub use error::BuildError;
+pub use labelled::labelled_nodes;
+pub use names::is_name_taken;
 pub use numbers::{Given, Numbered, given_phandles};
 pub use references::{Targets, find_targets};
 pub use reserved::is_reserved;

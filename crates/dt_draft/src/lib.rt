@@ -15,4 +15,4 @@ mod table;
 mod ways;
 
 pub use labels::LabelError;
-pub use table::{Draft, NodeRow, PropertyRow};
+pub use table::{Draft, LabelRow, NodeRow, PropertyRow};

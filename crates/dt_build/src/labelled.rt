@@ -1,0 +1,49 @@
+//! The nodes that have labels.
+ghost use Rattle.std.specs.Prelude.{◌≡◌, ◌<◌, ◌==◌, ◌&&◌, ℕ, false, not, All, IfOk, filter, length, slice_index_or};
+ghost use Rattle.std.specs.List.{list_any};
+ghost use Rattle.dt_tree.specs.Phandle as phandles;
+ghost use Rattle.dt_draft.specs.Rows.{IsDraft, IsNode, node_path};
+
+use crate::reserved::is_reserved;
+use dt_draft::{Draft, LabelRow};
+use dt_source::Part;
+use std::alloc::{AllocError, Global};
+
+// Whether each node has got a label.
+fn label_marks(
+    alloc: Global,
+    count: usize,
+    labels: &[LabelRow<'_>],
+) -> Result<Vec<bool>, AllocError>
+    requires { All (λ r. r.node < count) labels.now }
+    ensures count { IfOk result (λ marks. length marks.items ≡ count) }
+    ensures marks { IfOk result (λ marks. (n : ℕ) → slice_index_or marks.items n false ≡ list_any (λ r. r.node == n) labels.now) }
+{
+    let mut marks = vec![in alloc; false; count]?;
+    for row in labels {
+        marks[row.node] = true;
+    }
+    Ok(marks)
+}
+
+/// The nodes of a list that have labels, without the reserved ones.
+pub fn labelled_nodes<'d>(
+    alloc: Global,
+    draft: &Draft<'d, &'d [Part<'d>]>,
+    order: &[usize],
+) -> Result<Vec<usize>, AllocError>
+    requires sound { IsDraft draft.now }
+    requires known { All (λ n. IsNode draft.now n) order.now }
+    ensures { IfOk result (λ nodes. nodes.items ≡ filter (λ n. list_any (λ r. r.node == n) draft.now.labels.items && not (phandles.is_reserved (node_path draft.now n))) order.now) }
+{
+    let marks = label_marks(alloc, draft.nodes().len() + 1, draft.labels())?;
+    let mut nodes = Vec::new(alloc);
+    for node in order {
+        if marks[*node] {
+            if !is_reserved(draft.nodes(), *node) {
+                nodes.push(*node)?;
+            }
+        }
+    }
+    Ok(nodes)
+}
