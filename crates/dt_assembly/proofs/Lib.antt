@@ -1,3 +1,5 @@
+pub mod Chains
 pub mod Orders
 pub mod PathFacts
+pub mod Steps
 pub mod Walks

@@ -1,7 +1,7 @@
 -- What an assembly holds: the nodes on the way from the root to the last node, each without the next, which is its last child.
-use Rattle.std.specs.Prelude.{◌≡◌, ℕ, ◌≤◌, true, List, [], ◌∷◌}
-use Rattle.dt_tree.specs.NodeData.{Siblings, none, more, NodeData, node_data, nodes_of, child_names, property_names, height_of}
-use Rattle.dt_tree.specs.Fault.{are_named}
+use Rattle.std.specs.Prelude.{◌≡◌, ℕ, ◌≤◌, Bool, true, not, ◌==◌, List, [], ◌∷◌, length, map}
+use Rattle.std.specs.List.{list_all}
+use Rattle.dt_tree.specs.NodeData.{Siblings, none, more, NodeData, node_data, child_names, property_names, height_of}
 use Rattle.dt_tree.specs.Sound.{are_distinct}
 use Rattle.dt_meaning.specs.Paths.{Path}
 
@@ -20,23 +20,28 @@ abbrev pub tree_of : List NodeData → NodeData
 tree_of [] = node_data [] [] none
 tree_of (b ∷ bs) = node_data b.name b.properties (beside b.children (chained bs))
 
-abbrev names_of : List NodeData → Path
-names_of [] = []
-names_of (b ∷ bs) = b.name ∷ names_of bs
+abbrev pub names_of : List NodeData → Path
+names_of bs = map (λ b. b.name) bs
 
 -- the path of the last node
 abbrev pub way_of : List NodeData → Path
 way_of [] = []
 way_of (b ∷ bs) = names_of bs
 
--- what each node has differs in name
+-- ---- what is true of each assembly
+abbrev pub is_filled : List ℕ → Bool
+is_filled n = not (length n == 0)
+
+-- names of siblings
+pub record AreApart (ns : List (List ℕ)) : Type 0 where
+  pub named : list_all is_filled ns ≡ true
+  pub distinct : are_distinct ns ≡ true
+
 abbrev pub AreOpen : List NodeData → Type 0
 AreOpen [] = Unit {0}
-AreOpen (b ∷ bs) =
-    (are_distinct (property_names b.properties) ≡ true) × (are_named (nodes_of (beside b.children (chained bs))) ≡ true)
-    × (are_distinct (child_names (beside b.children (chained bs))) ≡ true) × AreOpen bs
+AreOpen (b ∷ bs) = (are_distinct (property_names b.properties) ≡ true) × AreApart (child_names (beside b.children (chained bs))) × AreOpen bs
 
--- what is true of each assembly: one level is the root's
+-- one of the levels is the root's
 pub record IsAssembly (bs : List NodeData) : Type 0 where
   pub parts : AreOpen bs
   pub shallow : height_of (chained bs) ≤ 65
