@@ -213,7 +213,7 @@ module _ {X : Type 0} (F : Siblings → List X) (up : List ℕ → X → X) (own
         ap (λ ys. F (beside b.children (chained ys))) (sym (append_assoc bs (t ∷ []) (new ∷ []))) ∙ gather-below (bs ++ t ∷ []) b.children (gather-more (bs ++ t ∷ []))
 
 -- paths
-abbrev lower : List ℕ → Path → Path
+abbrev pub lower : List ℕ → Path → Path
 lower n q = n ∷ q
 
 through-path : (ns p : Path) → through lower ns (p ∷ []) ≡ (ns ++ p) ∷ []

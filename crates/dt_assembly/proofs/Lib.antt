@@ -2,4 +2,5 @@ pub mod Chains
 pub mod Orders
 pub mod PathFacts
 pub mod Steps
+pub mod TreeLists
 pub mod Walks

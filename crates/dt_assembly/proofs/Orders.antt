@@ -24,14 +24,14 @@ gathered f (x ∷ xs) = ap (cons_option (f x)) (gathered f xs) ∙ one (f x) (fl
   one None ys = refl
   one (Some y) ys = refl
 
-abbrev is_filled : List Bool → Bool
+abbrev pub is_filled : List Bool → Bool
 is_filled [] = false
 is_filled (b ∷ bs) = true
 
-abbrev marked : Path → Path → List Bool
+abbrev pub marked : Path → Path → List Bool
 marked p x = if same_path p x then true ∷ [] else []
 
-listed-marked : (p : Path) (xs : List Path) → is_listed p xs ≡ is_filled (flat_map (marked p) xs)
+pub listed-marked : (p : Path) (xs : List Path) → is_listed p xs ≡ is_filled (flat_map (marked p) xs)
 listed-marked p [] = refl
 listed-marked p (x ∷ xs) = by_same (same_path p x) (flat_map (marked p) xs) (listed-marked p xs) where
   by_same : (t : Bool) (bs : List Bool) → is_listed p xs ≡ is_filled bs → (t || is_listed p xs) ≡ is_filled ((if t then true ∷ [] else []) ++ bs)
@@ -39,19 +39,20 @@ listed-marked p (x ∷ xs) = by_same (same_path p x) (flat_map (marked p) xs) (l
   by_same false bs ih = ih
 
 -- ---- the properties of a node
+pub held-append : (p : Path) (ds es : List (Definition (List ℕ))) → held (ds ++ es) p ≡ held ds p ++ held es p
+held-append p [] es = refl
+held-append p (d ∷ ds) es = by_test (same_path p d.path) (held-append p ds es) where
+  by_test : (t : Bool) → held (ds ++ es) p ≡ held ds p ++ held es p → cond t (d ∷ held (ds ++ es) p) (held (ds ++ es) p) ≡ cond t (d ∷ held ds p) (held ds p) ++ held es p
+  by_test true ih = ap (λ ys. d ∷ ys) ih
+  by_test false ih = ih
+
 module _ (es : List (Definition (List ℕ))) (p : Path) where
   abbrev own : Path → List (Definition (List ℕ))
   own x = held (held es x) p
 
   held-flat : (xs : List Path) → held (flat_map (held es) xs) p ≡ flat_map own xs
   held-flat [] = refl
-  held-flat (x ∷ xs) = held-append (held es x) (flat_map (held es) xs) ∙ ap (λ ys. own x ++ ys) (held-flat xs) where
-    held-append : (as' bs : List (Definition (List ℕ))) → held (as' ++ bs) p ≡ held as' p ++ held bs p
-    held-append [] bs = refl
-    held-append (e ∷ as') bs = by_test (same_path p e.path) (held-append as' bs) where
-      by_test : (t : Bool) → held (as' ++ bs) p ≡ held as' p ++ held bs p → cond t (e ∷ held (as' ++ bs) p) (held (as' ++ bs) p) ≡ cond t (e ∷ held as' p) (held as' p) ++ held bs p
-      by_test true ih = ap (λ ys. e ∷ ys) ih
-      by_test false ih = ih
+  held-flat (x ∷ xs) = held-append p (held es x) (flat_map (held es) xs) ∙ ap (λ ys. own x ++ ys) (held-flat xs)
 
 other-held : (es : List (Definition (List ℕ))) (p x : Path) → same_path p x ≡ false → held (held es x) p ≡ []
 other-held [] p x other = refl
