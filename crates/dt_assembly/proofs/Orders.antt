@@ -80,6 +80,10 @@ value-held (e ∷ es) p n = by_test e (same_path p e.path) refl (value-held es p
   by_test e true is ih = rw is (ap (λ o. if bytes_eq n e.name then Some e.value else o) ih)
   by_test e false is ih = ih
 
+pub no-below : (p : Path) → name_below p [] ≡ None
+no-below [] = refl
+no-below (x ∷ xs) = refl
+
 -- ---- the whole
 module _ (r : Resolved) (are : AreNodes r.nodes) where
   behind : [] ∷ behind_root (preorder r.nodes) ≡ preorder r.nodes
@@ -107,13 +111,9 @@ module _ (r : Resolved) (are : AreNodes r.nodes) where
   value-same p n there =
       value-held (walked r).properties p n ∙ ap (λ es. value_in es p n) (held-same p there) ∙ sym (value-held r.properties p n)
 
-  no-child : (p : Path) → name_below p [] ≡ None
-  no-child [] = refl
-  no-child (x ∷ xs) = refl
-
   children-same : (p : Path) → is_there r p ≡ true → filter_map (name_below p) (walked r).nodes ≡ filter_map (name_below p) r.nodes
   children-same p there =
-      ap (λ o. cons_option o (filter_map (name_below p) (walked r).nodes)) (sym (no-child p))
+      ap (λ o. cons_option o (filter_map (name_below p) (walked r).nodes)) (sym (no-below p))
       ∙ ap (filter_map (name_below p)) behind
       ∙ gathered (name_below p) (preorder r.nodes)
       ∙ from-children (λ x. as_list (name_below p x)) r.nodes are p there (λ x e. none (name_below p x) e)

@@ -1,5 +1,5 @@
-use Rattle.dt_assembly.proofs.TreeLists.{there-of}
+use Rattle.dt_assembly.proofs.TreeLists.{map-lists}
 use Rattle.dt_assembly.proofs.laws.map_of_lists.Goals as goal
 
 pub returns : goal.returns
-returns c = ?
+returns c = map-lists
