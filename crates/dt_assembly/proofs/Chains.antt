@@ -1,5 +1,5 @@
 -- The open nodes of an assembly as one tree: a node more, and a node that gets no more children.
-use Rattle.std.proofs.Common.{◌≡◌, ℕ, zero, suc, ◌+◌, ◌-◌, ◌≤◌, ◌<◌, max, Bool, true, false, not, ◌&&◌, ◌||◌, ◌==◌, List, [], ◌∷◌, ◌++◌, length, map, take, if◌then◌else◌, refl, sym, ap, ap₂, ◌∙◌, subst, append_assoc, append-nil, length-append, true≢false, arith}
+use Rattle.std.proofs.Common.{◌≡◌, ℕ, ◌+◌, ◌-◌, ◌≤◌, max, Bool, true, false, not, ◌&&◌, ◌||◌, List, [], ◌∷◌, ◌++◌, length, map, take, if◌then◌else◌, refl, sym, ap, ap₂, ◌∙◌, subst, append_assoc, append-nil, length-append, arith}
 use Rattle.std.specs.List.{list_all}
 use Rattle.std.specs.Str.{bytes_eq}
 use Rattle.std.proofs.Math.Seq.{take-append_seam}
@@ -12,10 +12,10 @@ use Rattle.dt_tree.specs.Preorder.{paths_among}
 use Rattle.dt_tree.specs.Sound.{is_among, are_distinct}
 use Rattle.dt_tree.proofs.SeenNames.{bytes_eq-comm}
 use Rattle.dt_meaning.specs.Paths.{Path, same_path, is_listed}
-use Rattle.dt_meaning.specs.Edits.{Definition, definition}
+use Rattle.dt_meaning.specs.Edits.{definition}
 use Rattle.dt_assembly.specs.Lists.{defined_at, below_child, defined_among, lists_of, with_last}
 use Rattle.dt_assembly.specs.OpenNodes.{beside, chained, tree_of, names_of, way_of, is_filled, AreApart, AreOpen, IsAssembly}
-use Rattle.dt_assembly.proofs.PathFacts.{or-false, or-right, not-true, bytes-itself}
+use Rattle.dt_assembly.proofs.PathFacts.{or-false, not-true, bytes-itself}
 
 -- ---- side by side
 pub beside-none : (f : Siblings) → beside f none ≡ f
@@ -134,15 +134,17 @@ module _ (t new : NodeData) (no_children : new.children ≡ none) where
   open-more : (xs : List NodeData) → is_filled new.name ≡ true → are_distinct (property_names new.properties) ≡ true → is_among new.name (child_names t.children) ≡ false
       → AreOpen (xs ++ t ∷ []) → AreOpen (xs ++ t ∷ new ∷ [])
   open-more [] filled differ fresh a =
-      let kids : AreApart (child_names t.children) = subst (λ (f : Siblings). AreApart (child_names f)) (beside-none t.children) a.1 in
-      (a.0,
-      subst AreApart (sym (names-beside t.children (chained (new ∷ [])))) (apart-append (child_names t.children) new.name kids filled fresh),
-      (differ, subst (λ (f : Siblings). AreApart (child_names (beside f none))) (sym no_children) none-apart, tt))
-  open-more (b ∷ bs) filled differ fresh a =
-      (a.0,
-      subst AreApart
-      (names-beside b.children (chained (bs ++ t ∷ [])) ∙ ap (λ ns. child_names b.children ++ ns) (sym (chain-names bs)) ∙ sym (names-beside b.children (chained (bs ++ t ∷ new ∷ [])))) a.1,
-      open-more bs filled differ fresh a.2)
+      let kids : AreApart (child_names t.children) = subst (λ (f : Siblings). AreApart (child_names f)) (beside-none t.children) a.1 in (
+        a.0,
+        subst AreApart (sym (names-beside t.children (chained (new ∷ [])))) (apart-append (child_names t.children) new.name kids filled fresh),
+        (differ, subst (λ (f : Siblings). AreApart (child_names (beside f none))) (sym no_children) none-apart, tt),
+      )
+  open-more (b ∷ bs) filled differ fresh a = (
+    a.0,
+    subst AreApart
+        (names-beside b.children (chained (bs ++ t ∷ [])) ∙ ap (λ ns. child_names b.children ++ ns) (sym (chain-names bs)) ∙ sym (names-beside b.children (chained (bs ++ t ∷ new ∷ [])))) a.1,
+    open-more bs filled differ fresh a.2,
+  )
 
   height-more : (xs : List NodeData) → height_of (chained (xs ++ t ∷ new ∷ [])) ≤ max (height_of (chained (xs ++ t ∷ []))) (length xs + 2)
   height-more [] = omega (arith, ap (λ f. height_of (beside f none)) no_children, height-beside t.children (chained (new ∷ [])), ap height_of (beside-none t.children))
@@ -256,7 +258,7 @@ module _ (t new : NodeData) (no_children : new.children ≡ none) (xs : List Nod
   lists-more =
       let added = defined_at (way_of (xs ++ t ∷ []) ++ new.name ∷ []) new.properties in
       let definitions = ap₂ (λ ps es. defined_at [] ps ++ es) (root-properties xs) defined-more
-          ∙ sym (append_assoc (defined_at [] (tree_of (xs ++ t ∷ [])).properties) (defined_among (tree_of (xs ++ t ∷ [])).children) added) in
+      ∙ sym (append_assoc (defined_at [] (tree_of (xs ++ t ∷ [])).properties) (defined_among (tree_of (xs ++ t ∷ [])).children) added) in
       λ i. record { nodes = paths-more i; properties = definitions i }
 
 -- ---- a path that isn't listed is that of no child
@@ -277,9 +279,9 @@ child-listed n (more m p c rest) e =
     let parts = listed-append (n ∷ []) (map (lower m) ([] ∷ paths_among c)) (paths_among rest) e in
     let first = or-false (bytes_eq n m && true) (is_listed (n ∷ []) (map (lower m) (paths_among c))) parts.0 in
     ap₂ (λ a b. a || b) (bytes_eq-comm m n ∙ and-true (bytes_eq n m) ∙ first.0) (child-listed n rest parts.1) where
-  and-true : (b : Bool) → b ≡ (b && true)
-  and-true true = refl
-  and-true false = refl
+      and-true : (b : Bool) → b ≡ (b && true)
+      and-true true = refl
+      and-true false = refl
 
 beside-listed : (p : Path) (f g : Siblings) → is_listed p (paths_among (beside f g)) ≡ false → is_listed p (paths_among g) ≡ false
 beside-listed p f g e = (listed-append p (paths_among f) (paths_among g) (ap (is_listed p) (sym (gather-beside paths_among lower (λ _. [] ∷ []) refl (λ n q c rest. refl) f g)) ∙ e)).1

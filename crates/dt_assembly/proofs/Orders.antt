@@ -1,15 +1,14 @@
 -- The map of lists in order of definition is that of the lists in order of the walk.
-use Rattle.std.proofs.Common.{◌≡◌, ℕ, Bool, true, false, not, ◌&&◌, ◌||◌, List, [], ◌∷◌, ◌++◌, map, Option, Some, None, is_some, if◌then◌else◌, cond, refl, sym, ap, ap₂, ◌∙◌, append-nil, true≢false}
-use Rattle.std.specs.List.{filter, filter_map, flat_map, cons_option}
+use Rattle.std.proofs.Common.{◌≡◌, ℕ, Bool, true, false, not, ◌&&◌, ◌||◌, List, [], ◌∷◌, ◌++◌, map, Option, Some, None, is_some, if◌then◌else◌, cond, refl, sym, ap, ◌∙◌, true≢false}
+use Rattle.std.specs.List.{filter_map, flat_map, cons_option}
 use Rattle.std.specs.Str.{bytes_eq}
-use Rattle.std.proofs.lemmas.Bool.{and_from}
 use Rattle.dt_meaning.specs.Paths.{Path, same_path, is_listed, name_below}
-use Rattle.dt_meaning.specs.Edits.{Definition, is_of}
+use Rattle.dt_meaning.specs.Edits.{Definition}
 use Rattle.dt_meaning.specs.References.{preorder, held}
 use Rattle.dt_meaning.specs.Resolved.{Resolved}
 use Rattle.dt_meaning.specs.MapOf.{is_there, value_in, map_of}
 use Rattle.dt_assembly.specs.Standing.{are_apart, AreNodes, walked, behind_root}
-use Rattle.dt_assembly.proofs.PathFacts.{not-both, same-itself, same-is}
+use Rattle.dt_assembly.proofs.PathFacts.{not-both, same-is}
 use Rattle.dt_assembly.proofs.Walks.{flat-one, from-children, from-one}
 
 -- ---- lists of one, or of none
@@ -118,9 +117,9 @@ module _ (r : Resolved) (are : AreNodes r.nodes) where
       ∙ gathered (name_below p) (preorder r.nodes)
       ∙ from-children (λ x. as_list (name_below p x)) r.nodes are p there (λ x e. none (name_below p x) e)
       ∙ sym (gathered (name_below p) r.nodes) where
-    none : (o : Option (List ℕ)) → is_some o ≡ false → as_list o ≡ []
-    none None e = refl
-    none (Some n) e = absurd (true≢false e)
+        none : (o : Option (List ℕ)) → is_some o ≡ false → as_list o ≡ []
+        none None e = refl
+        none (Some n) e = absurd (true≢false e)
 
   if-same : {A : Type 0} (t u : Bool) (a b : A) → t ≡ u → (t ≡ true → a ≡ b) → (if t then Some a else None) ≡ (if u then Some b else None)
   if-same true true a b e f = ap Some (f refl)
@@ -138,8 +137,8 @@ module _ (r : Resolved) (are : AreNodes r.nodes) where
   map-walked = λ i. record {
     has = λ p. there-same p i;
     properties = λ p. if-same (is_there r p) (is_there (walked r) p) (map (λ e. e.name) (held r.properties p)) (map (λ e. e.name) (held (walked r).properties p)) (there-same p)
-      (λ there. ap (map (λ e. e.name)) (sym (held-same p there))) i;
+        (λ there. ap (map (λ e. e.name)) (sym (held-same p there))) i;
     children = λ p. if-same (is_there r p) (is_there (walked r) p) (filter_map (name_below p) r.nodes) (filter_map (name_below p) (walked r).nodes) (there-same p)
-      (λ there. sym (children-same p there)) i;
+        (λ there. sym (children-same p there)) i;
     value = λ p n. if-value (is_there r p) (is_there (walked r) p) (value_in r.properties p n) (value_in (walked r).properties p n) (there-same p) (λ there. sym (value-same p n there)) i;
   }

@@ -1,5 +1,5 @@
 -- Paths, the names below them, and lists of them.
-use Rattle.std.proofs.Common.{◌≡◌, ℕ, ◌+◌, ◌≤◌, Bool, true, false, not, ◌&&◌, ◌||◌, List, [], ◌∷◌, ◌++◌, length, Option, Some, None, is_some, if◌then◌else◌, refl, sym, ap, ap₂, ◌∙◌, subst, append_assoc, append-nil, true≢false, arith}
+use Rattle.std.proofs.Common.{◌≡◌, ℕ, ◌≤◌, Bool, true, false, not, ◌||◌, List, [], ◌∷◌, ◌++◌, length, Option, Some, None, is_some, if◌then◌else◌, refl, sym, ap, ap₂, ◌∙◌, subst, append_assoc, append-nil, true≢false, arith}
 use Rattle.std.specs.List.{list_any}
 use Rattle.std.specs.Str.{bytes_eq}
 use Rattle.std.proofs.lemmas.Bool.{and_parts, and_from}
@@ -7,7 +7,6 @@ use Rattle.std.proofs.lemmas.Bool.Decides.{nat_tests}
 use Rattle.std.proofs.lemmas.Slice.Eq.{bytes_eq-Decides}
 use Rattle.dt_meaning.specs.Paths.{Path, same_path, is_listed, name_below}
 use Rattle.dt_meaning.specs.Resolved.{is_too_deep}
-use Rattle.dt_assembly.specs.Standing.{are_apart}
 
 -- ---- tests
 pub or-false : (a b : Bool) → (a || b) ≡ false → (a ≡ false) × (b ≡ false)
@@ -89,12 +88,12 @@ not-deep [] x d l = absurd (true≢false (sym l))
 not-deep (y ∷ ys) x d l =
     let parts = or-false (is_too_deep y) (list_any is_too_deep ys) d in
     by_same y ys x (same_path x y) refl l parts.0 (not-deep ys x parts.1) where
-  shallow : (y : Path) → is_too_deep y ≡ false → length y ≤ 64
-  shallow y e = grind (arith, nat_tests)
+      shallow : (y : Path) → is_too_deep y ≡ false → length y ≤ 64
+      shallow y e = grind (arith, nat_tests)
 
-  by_same : (y : Path) (ys : List Path) (x : Path) (t : Bool) → same_path x y ≡ t → (t || is_listed x ys) ≡ true → is_too_deep y ≡ false → (is_listed x ys ≡ true → length x ≤ 64) → length x ≤ 64
-  by_same y ys x true same l d ih = let e : length x ≡ length y = ap length (same-is x y same) in let s = shallow y d in omega arith
-  by_same y ys x false same l d ih = ih l
+      by_same : (y : Path) (ys : List Path) (x : Path) (t : Bool) → same_path x y ≡ t → (t || is_listed x ys) ≡ true → is_too_deep y ≡ false → (is_listed x ys ≡ true → length x ≤ 64) → length x ≤ 64
+      by_same y ys x true same l d ih = let e : length x ≡ length y = ap length (same-is x y same) in let s = shallow y d in omega arith
+      by_same y ys x false same l d ih = ih l
 
 -- no path that is elsewhere is this one
 pub listed-other : (p x : Path) (xs : List Path) → is_listed p xs ≡ false → is_listed x xs ≡ true → same_path p x ≡ false

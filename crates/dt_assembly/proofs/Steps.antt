@@ -1,13 +1,13 @@
 -- The steps of an assembly over its fields.
-use Rattle.std.proofs.Common.{◌≡◌, ℕ, ◌+◌, ◌-◌, ◌≤◌, ◌<◌, true, false, not, ◌==◌, List, [], ◌∷◌, ◌++◌, length, map, take, refl, sym, ap, ap₂, ◌∙◌, subst, append_assoc, length-append, arith}
+use Rattle.std.proofs.Common.{◌≡◌, ℕ, ◌-◌, ◌<◌, true, false, List, [], ◌∷◌, ◌++◌, length, map, take, refl, sym, ap, ◌∙◌, subst, append_assoc, arith}
 use Rattle.std.proofs.lemmas.Bool.Decides.{nat_tests}
 use Rattle.std.proofs.lemmas.List.{map-append, length-map}
 use Rattle.dt_tree.specs.declared.property.Property.{Property}
 use Rattle.dt_tree.specs.Fault.{are_named}
 use Rattle.dt_tree.specs.Name.{is_name}
-use Rattle.dt_tree.specs.NodeData.{NodeData, node_data, none, siblings, child_names, property_names, height_of}
+use Rattle.dt_tree.specs.NodeData.{NodeData, node_data, none, property_names}
 use Rattle.dt_tree.specs.Sound.{are_distinct}
-use Rattle.dt_meaning.specs.Paths.{Path, is_listed}
+use Rattle.dt_meaning.specs.Paths.{is_listed}
 use Rattle.dt_assembly.specs.declared.open.OpenNode.{OpenNode}
 use Rattle.dt_assembly.specs.Lists.{lists_of, with_last}
 use Rattle.dt_assembly.specs.Opened.{opened}

@@ -1,6 +1,6 @@
 -- The lists of a tree say what its path map says.
-use Rattle.std.proofs.Common.{◌≡◌, ℕ, Bool, true, false, not, ◌&&◌, ◌||◌, List, [], ◌∷◌, ◌++◌, map, Option, Some, None, is_some, option_and_then, if◌then◌else◌, cond, refl, sym, ap, ap₂, ◌∙◌, append-nil, append_assoc, true≢false}
-use Rattle.std.specs.List.{filter, filter_map, flat_map, cons_option}
+use Rattle.std.proofs.Common.{◌≡◌, ℕ, Bool, true, false, ◌&&◌, List, [], ◌∷◌, ◌++◌, map, Option, Some, None, is_some, option_and_then, if◌then◌else◌, cond, refl, sym, ap, ap₂, ◌∙◌, append-nil, true≢false}
+use Rattle.std.specs.List.{filter_map, flat_map, cons_option}
 use Rattle.std.specs.Option.{option_map}
 use Rattle.std.specs.Str.{bytes_eq}
 use Rattle.std.proofs.lemmas.List.{map-append}
@@ -9,13 +9,13 @@ use Rattle.std.proofs.lemmas.List.Elements.{filter_map-append}
 use Rattle.std.proofs.lemmas.Slice.Eq.{bytes_eq-Decides}
 use Rattle.dt_tree.specs.declared.property.Property.{Property}
 use Rattle.dt_tree.specs.NodeData.{Siblings, none, more, NodeData, node_data, child_names, property_names}
-use Rattle.dt_tree.specs.PathMap.{child_named, node_at, value_of, properties_at, children_at, path_map}
+use Rattle.dt_tree.specs.PathMap.{child_named, node_at, value_of, path_map}
 use Rattle.dt_tree.specs.Preorder.{paths_among}
 use Rattle.dt_tree.specs.Sound.{is_among, are_distinct, IsSoundBelow, IsSound}
 use Rattle.dt_tree.proofs.Places.{IsSoundInside, inside, child-among, distinct_head, distinct_tail}
 use Rattle.dt_tree.proofs.SeenNames.{bytes_eq-comm}
 use Rattle.dt_meaning.specs.Paths.{Path, same_path, is_listed, name_below}
-use Rattle.dt_meaning.specs.Edits.{Definition, definition, is_of}
+use Rattle.dt_meaning.specs.Edits.{Definition}
 use Rattle.dt_meaning.specs.References.{held}
 use Rattle.dt_meaning.specs.Resolved.{Resolved}
 use Rattle.dt_meaning.specs.MapOf.{is_there, value_in, map_of}
@@ -51,17 +51,17 @@ module _ {X Y : Type 0} (F : Siblings → List X) (up : List ℕ → X → X) (o
       ap (H (k ∷ ks)) (at-more n p c rest) ∙ of-append (k ∷ ks) (map (up n) (own p ++ F c)) (F rest)
       ∙ by_name n p c rest s (distinct_head n (child_names rest) _ refl d) (bytes_eq n k) refl
       (among k ks deeper rest (distinct_tail n (child_names rest) _ refl d) s.3) where
-    by_name : (n : List ℕ) (p : List Property) (c rest : Siblings) → IsSoundBelow (more n p c rest) → is_among n (child_names rest) ≡ false → (t : Bool) → bytes_eq n k ≡ t
-        → H (k ∷ ks) (F rest) ≡ at_node (option_and_then (λ b. node_at b ks) (child_named rest k))
-        → H (k ∷ ks) (map (up n) (own p ++ F c)) ++ H (k ∷ ks) (F rest) ≡ at_node (option_and_then (λ b. node_at b ks) (if t then Some (node_data n p c) else child_named rest k))
-    by_name n p c rest s alone true same ih =
-        let is : n ≡ k = (bytes_eq-Decides n k).0 same in
-        let gone = no-child rest k (ap (λ m. is_among m (child_names rest)) (sym is) ∙ alone) in
-        ap₂ (λ a b. a ++ b)
-        (ap (λ m. H (k ∷ ks) (map (up m) (own p ++ F c))) is ∙ of-same k ks (own p ++ F c) ∙ deeper (node_data n p c) (record { properties = s.0; siblings = s.1; below = s.2 }))
-        (ih ∙ ap (λ o. at_node (option_and_then (λ b. node_at b ks) o)) gone)
-        ∙ append-nil (at_node (node_at (node_data n p c) ks))
-    by_name n p c rest s alone false other ih = ap₂ (λ a b. a ++ b) (of-other n k ks (own p ++ F c) other) ih
+        by_name : (n : List ℕ) (p : List Property) (c rest : Siblings) → IsSoundBelow (more n p c rest) → is_among n (child_names rest) ≡ false → (t : Bool) → bytes_eq n k ≡ t
+            → H (k ∷ ks) (F rest) ≡ at_node (option_and_then (λ b. node_at b ks) (child_named rest k))
+            → H (k ∷ ks) (map (up n) (own p ++ F c)) ++ H (k ∷ ks) (F rest) ≡ at_node (option_and_then (λ b. node_at b ks) (if t then Some (node_data n p c) else child_named rest k))
+        by_name n p c rest s alone true same ih =
+            let is : n ≡ k = (bytes_eq-Decides n k).0 same in
+            let gone = no-child rest k (ap (λ m. is_among m (child_names rest)) (sym is) ∙ alone) in
+            ap₂ (λ a b. a ++ b)
+            (ap (λ m. H (k ∷ ks) (map (up m) (own p ++ F c))) is ∙ of-same k ks (own p ++ F c) ∙ deeper (node_data n p c) (record { properties = s.0; siblings = s.1; below = s.2 }))
+            (ih ∙ ap (λ o. at_node (option_and_then (λ b. node_at b ks) o)) gone)
+            ∙ append-nil (at_node (node_at (node_data n p c) ks))
+        by_name n p c rest s alone false other ih = ap₂ (λ a b. a ++ b) (of-other n k ks (own p ++ F c) other) ih
 
   pub asked : (path : Path) (b : NodeData) → IsSoundInside b → H path (all b) ≡ at_node (node_at b path)
   asked [] b s = refl
@@ -84,9 +84,9 @@ there-of path b s =
     filled (node_at b path)
     ∙ ap is_filled (sym (asked paths_among lower (λ _. [] ∷ []) (λ p xs. flat_map (marked p) xs) refl (λ n p c rest. refl) (λ p. refl) (λ p. flat_map-append (marked p)) marked-lower marked-other (λ k ks p. refl) path b s))
     ∙ sym (listed-marked path ([] ∷ paths_among b.children)) where
-  filled : (o : Option NodeData) → is_some o ≡ is_filled (at_node paths_among lower (λ _. [] ∷ []) (λ p xs. flat_map (marked p) xs) refl (λ n p c rest. refl) (λ p. refl) (λ p. flat_map-append (marked p)) marked-lower marked-other (λ k ks p. refl) o)
-  filled None = refl
-  filled (Some d) = refl
+      filled : (o : Option NodeData) → is_some o ≡ is_filled (at_node paths_among lower (λ _. [] ∷ []) (λ p xs. flat_map (marked p) xs) refl (λ n p c rest. refl) (λ p. refl) (λ p. flat_map-append (marked p)) marked-lower marked-other (λ k ks p. refl) o)
+      filled None = refl
+      filled (Some d) = refl
 
 -- ---- the names of its children
 below-lower : (k : List ℕ) (ks : Path) (xs : List Path) → filter_map (name_below (k ∷ ks)) (map (lower k) xs) ≡ filter_map (name_below ks) xs
@@ -137,10 +137,10 @@ held-lower k ks (x ∷ xs) =
     let others = held (map (below_child k) xs) (k ∷ ks) in
     ap (λ t. map property_of (cond (t && same_path ks x.path) (below_child k x ∷ others) others)) (bytes-itself k)
     ∙ by_test x (same_path ks x.path) others (held xs ks) (held-lower k ks xs) where
-  by_test : (x : Definition (List ℕ)) (t : Bool) (ys zs : List (Definition (List ℕ))) → map property_of ys ≡ map property_of zs
-      → map property_of (cond t (below_child k x ∷ ys) ys) ≡ map property_of (cond t (x ∷ zs) zs)
-  by_test x true ys zs ih = ap (λ ps. property_of x ∷ ps) ih
-  by_test x false ys zs ih = ih
+      by_test : (x : Definition (List ℕ)) (t : Bool) (ys zs : List (Definition (List ℕ))) → map property_of ys ≡ map property_of zs
+          → map property_of (cond t (below_child k x ∷ ys) ys) ≡ map property_of (cond t (x ∷ zs) zs)
+      by_test x true ys zs ih = ap (λ ps. property_of x ∷ ps) ih
+      by_test x false ys zs ih = ih
 
 held-other : (n k : List ℕ) (ks : Path) (xs : List (Definition (List ℕ))) → bytes_eq n k ≡ false → held_at (k ∷ ks) (map (below_child n) xs) ≡ []
 held-other n k ks [] e = refl
@@ -210,10 +210,10 @@ pub map-lists : (b : NodeData) → IsSound b → path_map b ≡ map_of (lists_of
 map-lists b sound = λ i. record {
   has = λ p. there-of p b s i;
   properties = λ p. names-of (node_at b p) (is_there r p) (map (λ e. e.name) (held r.properties p)) (there-of p b s)
-    (λ d e. ap property_names (properties-of p b d s e) ∙ names-held (held r.properties p)) i;
+      (λ d e. ap property_names (properties-of p b d s e) ∙ names-held (held r.properties p)) i;
   children = λ p. mapped (λ (n : NodeData). child_names n.children) (node_at b p) (is_there r p) (filter_map (name_below p) r.nodes) (there-of p b s) (λ d e. children-of p b d s e) i;
   value = λ p k. value-of k (node_at b p) (is_there r p) (value_in r.properties p k) (there-of p b s)
-    (λ d e. ap (λ ps. value_of ps k) (properties-of p b d s e) ∙ value-held_at r.properties p k) i;
+      (λ d e. ap (λ ps. value_of ps k) (properties-of p b d s e) ∙ value-held_at r.properties p k) i;
 } where
   r : Resolved
   r = lists_of b

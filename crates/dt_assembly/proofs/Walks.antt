@@ -1,12 +1,12 @@
 -- What a walk meets, gathered by a function of paths that gives nothing away from the children of one node.
-use Rattle.std.proofs.Common.{◌≡◌, ℕ, zero, suc, ◌+◌, ◌≤◌, ◌<◌, Bool, true, false, not, ◌&&◌, ◌||◌, List, [], ◌∷◌, ◌++◌, length, Option, Some, None, is_some, if◌then◌else◌, cond, refl, sym, ap, ap₂, ◌∙◌, subst, append_assoc, append-nil, length-append, true≢false, arith}
-use Rattle.std.specs.List.{filter, flat_map, list_any}
+use Rattle.std.proofs.Common.{◌≡◌, ℕ, zero, suc, ◌+◌, Bool, true, false, not, ◌||◌, List, [], ◌∷◌, ◌++◌, length, is_some, if◌then◌else◌, cond, refl, sym, ap, ap₂, ◌∙◌, append_assoc, append-nil, length-append, true≢false, arith}
+use Rattle.std.specs.List.{filter, flat_map}
 use Rattle.std.proofs.lemmas.Bool.{and_parts}
 use Rattle.std.proofs.lemmas.List.Concat.{flat_map-append}
 use Rattle.dt_meaning.specs.Paths.{Path, same_path, is_listed, name_below}
 use Rattle.dt_meaning.specs.References.{walk, preorder}
 use Rattle.dt_assembly.specs.Standing.{are_apart, AreNodes}
-use Rattle.dt_assembly.proofs.PathFacts.{or-false, or-right, not-both, not-true, same-itself, same-is, below-is, below-child, child-is, next-names, by_last, listed-first, listed-next, not-deep, listed-other}
+use Rattle.dt_assembly.proofs.PathFacts.{not-both, not-true, same-itself, same-is, below-child, child-is, next-names, by_last, listed-first, listed-next, not-deep, listed-other}
 
 -- ---- pieces of a list
 pub chosen : {A : Type 0} (t : Bool) (xs ys : List A) → (t ≡ true → xs ≡ ys) → (t ≡ false → [] ≡ ys) → (if t then xs else []) ≡ ys
@@ -40,12 +40,12 @@ module _ {B : Type 0} where
   flat-one f c (x ∷ xs) a l e =
       let parts = and_parts (not (is_listed x xs)) (are_apart xs) a in
       by_same f c x xs (same_path c x) refl l e (not-true (is_listed x xs) parts.0) (λ there. flat-one f c xs parts.1 there e) where
-    by_same : (f : Path → List B) (c x : Path) (xs : List Path) (t : Bool) → same_path c x ≡ t → (t || is_listed c xs) ≡ true → ((y : Path) → same_path c y ≡ false → f y ≡ [])
-        → is_listed x xs ≡ false → (is_listed c xs ≡ true → flat_map f xs ≡ f c) → f x ++ flat_map f xs ≡ f c
-    by_same f c x xs true same l e gone ih =
-        let is : c ≡ x = same-is c x same in
-        ap₂ (λ a b. a ++ b) (ap f (sym is)) (flat-none f xs (λ y there. e y (listed-other c y xs (ap (λ z. is_listed z xs) is ∙ gone) there))) ∙ append-nil (f c)
-    by_same f c x xs false same l e gone ih = ap₂ (λ a b. a ++ b) (e x same) (ih l)
+        by_same : (f : Path → List B) (c x : Path) (xs : List Path) (t : Bool) → same_path c x ≡ t → (t || is_listed c xs) ≡ true → ((y : Path) → same_path c y ≡ false → f y ≡ [])
+            → is_listed x xs ≡ false → (is_listed c xs ≡ true → flat_map f xs ≡ f c) → f x ++ flat_map f xs ≡ f c
+        by_same f c x xs true same l e gone ih =
+            let is : c ≡ x = same-is c x same in
+            ap₂ (λ a b. a ++ b) (ap f (sym is)) (flat-none f xs (λ y there. e y (listed-other c y xs (ap (λ z. is_listed z xs) is ∙ gone) there))) ∙ append-nil (f c)
+        by_same f c x xs false same l e gone ih = ap₂ (λ a b. a ++ b) (e x same) (ih l)
 
 -- ---- walks
 module _ {B : Type 0} (g : Path → List B) (nodes : List Path) where
@@ -115,12 +115,12 @@ module _ {B : Type 0} (g : Path → List B) (nodes : List Path) (are : AreNodes 
         (λ child. let m = child-is p x child in
         vanish g nodes (Within g nodes x) (within-step g nodes x) (λ y b. ap g b.1 ∙ elsewhere (x ++ b.0) (λ j e. meets m.0 m.1 b.0 j e)) k x ([], sym (append-nil x)))
         (λ _. refl) where
-      meets : (m : List ℕ) → x ≡ p ++ m ∷ [] → (t : Path) (j : List ℕ) → x ++ t ≡ q ++ j ∷ [] → ⊥
-      meets m e t j f =
-          let from_m : x ++ t ≡ p ++ m ∷ t = ap (λ z. z ++ t) e ∙ append_assoc p (m ∷ []) t in
-          let from_n : q ++ j ∷ [] ≡ p ++ n ∷ (s ++ j ∷ []) = ap (λ z. z ++ j ∷ []) is ∙ append_assoc p (n ∷ s) (j ∷ []) in
-          let same = next-names p m n t (s ++ j ∷ []) (sym from_m ∙ f ∙ from_n) in
-          not-both (same_path (p ++ n ∷ []) x) (ap (λ z. same_path (p ++ n ∷ []) z) (e ∙ ap (λ z. p ++ z ∷ []) same) ∙ same-itself (p ++ n ∷ [])) other
+          meets : (m : List ℕ) → x ≡ p ++ m ∷ [] → (t : Path) (j : List ℕ) → x ++ t ≡ q ++ j ∷ [] → ⊥
+          meets m e t j f =
+              let from_m : x ++ t ≡ p ++ m ∷ t = ap (λ z. z ++ t) e ∙ append_assoc p (m ∷ []) t in
+              let from_n : q ++ j ∷ [] ≡ p ++ n ∷ (s ++ j ∷ []) = ap (λ z. z ++ j ∷ []) is ∙ append_assoc p (n ∷ s) (j ∷ []) in
+              let same = next-names p m n t (s ++ j ∷ []) (sym from_m ∙ f ∙ from_n) in
+              not-both (same_path (p ++ n ∷ []) x) (ap (λ z. same_path (p ++ n ∷ []) z) (e ∙ ap (λ z. p ++ z ∷ []) same) ∙ same-itself (p ++ n ∷ [])) other
 
     pub descend : (k : ℕ) (s p : Path) → k + length p ≡ 64 → q ≡ p ++ s → flat_map g (walk k nodes p) ≡ flat_map g nodes
     descend zero s p deep is =

@@ -4,6 +4,8 @@ use Rattle.std.specs.List.{list_all}
 use Rattle.dt_tree.specs.NodeData.{Siblings, none, more, NodeData, node_data, child_names, property_names, height_of}
 use Rattle.dt_tree.specs.Sound.{are_distinct}
 use Rattle.dt_meaning.specs.Paths.{Path}
+use Rattle.dt_meaning.specs.Resolved.{Resolved}
+use Rattle.dt_assembly.specs.Lists.{lists_of}
 
 -- nodes side by side, and others behind them
 abbrev pub beside : Siblings → Siblings → Siblings
@@ -27,6 +29,10 @@ names_of bs = map (λ b. b.name) bs
 abbrev pub way_of : List NodeData → Path
 way_of [] = []
 way_of (b ∷ bs) = names_of bs
+
+-- the nodes and the properties so far, in the order in which they were put there
+abbrev pub assembled : List NodeData → Resolved
+assembled bs = lists_of (tree_of bs)
 
 -- ---- what is true of each assembly
 abbrev pub is_filled : List ℕ → Bool

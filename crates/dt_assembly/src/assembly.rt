@@ -1,12 +1,12 @@
 //! Trees in the making.
 ghost use Rattle.std.specs.Prelude.{◌≡◌, ◌+◌, ◌-◌, ◌≤◌, ◌<◌, ◌++◌, ◌∷◌, [], IfOk, false, true, length, take};
-ghost use Rattle.dt_tree.specs.NodeData.{node_data, property_names, none};
+ghost use Rattle.dt_tree.specs.NodeData.{property_names};
 ghost use Rattle.dt_tree.specs.PathMap.{path_map};
 ghost use Rattle.dt_tree.specs.Sound.{are_distinct};
 ghost use Rattle.dt_meaning.specs.MapOf.{map_of};
 ghost use Rattle.dt_meaning.specs.Paths.{is_listed};
-ghost use Rattle.dt_assembly.specs.Lists.{lists_of, with_last};
-ghost use Rattle.dt_assembly.specs.OpenNodes.{tree_of, way_of};
+ghost use Rattle.dt_assembly.specs.Lists.{defined_at, with_last};
+ghost use Rattle.dt_assembly.specs.OpenNodes.{assembled, tree_of, way_of};
 
 use crate::open::OpenNode;
 use dt_tree::{Name, Node, Property};
@@ -38,10 +38,12 @@ impl Model for Assembly {
 }
 
 impl Assembly {
-    /// A root with these properties.
+    /// A root with these properties. Takes no memory.
     pub fn new(alloc: Global, properties: Vec<Property>) -> Assembly
         requires { are_distinct (property_names properties.items) ≡ true }
-        ensures { result ≡ node_data [] properties.items none ∷ [] }
+        ensures nodes { (assembled result).nodes ≡ [] }
+        ensures properties { (assembled result).properties ≡ defined_at [] properties.items }
+        ensures way { way_of result ≡ [] }
     {
         Assembly {
             last: OpenNode::new(alloc, None, properties),
@@ -49,9 +51,9 @@ impl Assembly {
         }
     }
 
-    /// Puts a node behind all others, so many levels below the root: the last child of the last node that is a level higher.
+    /// Puts a node behind all others, so many levels below the root: the last child of the last node that is one level higher.
     ///
-    /// Fails for want of memory alone, and then the assembly is gone.
+    /// Fails for want of memory alone, and then the assembly is gone. A node costs constant time, beside those that it closes.
     pub fn push(
         self,
         alloc: Global,
@@ -62,19 +64,19 @@ impl Assembly {
         requires below { 1 ≤ depth }
         requires reached { depth ≤ length (way_of self) + 1 }
         requires shallow { depth ≤ 64 }
-        requires new { is_listed (take (depth - 1) (way_of self) ++ name ∷ []) (lists_of (tree_of self)).nodes ≡ false }
+        requires new { is_listed (take (depth - 1) (way_of self) ++ name ∷ []) (assembled self).nodes ≡ false }
         requires properties { are_distinct (property_names properties.items) ≡ true }
-        ensures nodes { IfOk result (λ assembly. lists_of (tree_of assembly) ≡ with_last (take (depth - 1) (way_of self) ++ name ∷ []) properties.items (lists_of (tree_of self))) }
+        ensures nodes { IfOk result (λ assembly. assembled assembly ≡ with_last (take (depth - 1) (way_of self) ++ name ∷ []) properties.items (assembled self)) }
         ensures way { IfOk result (λ assembly. way_of assembly ≡ take (depth - 1) (way_of self) ++ name ∷ []) }
     {
         let parent = self.closed_to(depth - 1)?;
         parent.with_node(alloc, name, properties)
     }
 
-    /// The root, with all below it.
+    /// The root with all below it. Fails for want of memory alone.
     pub fn finish(self) -> Result<Node, AllocError>
         ensures name { IfOk result (λ root. root.name ≡ []) }
-        ensures map { IfOk result (λ root. path_map root ≡ map_of (lists_of (tree_of self))) }
+        ensures map { IfOk result (λ root. path_map root ≡ map_of (assembled self)) }
     {
         let root = self.closed_to(0)?.closed();
         root.check();
@@ -132,9 +134,9 @@ impl Assembly {
         properties: Vec<Property>,
     ) -> Result<Assembly, AllocError>
         requires shallow { length (way_of self) < 64 }
-        requires new { is_listed (way_of self ++ name ∷ []) (lists_of (tree_of self)).nodes ≡ false }
+        requires new { is_listed (way_of self ++ name ∷ []) (assembled self).nodes ≡ false }
         requires properties { are_distinct (property_names properties.items) ≡ true }
-        ensures nodes { IfOk result (λ assembly. lists_of (tree_of assembly) ≡ with_last (way_of self ++ name ∷ []) properties.items (lists_of (tree_of self))) }
+        ensures nodes { IfOk result (λ assembly. assembled assembly ≡ with_last (way_of self ++ name ∷ []) properties.items (assembled self)) }
         ensures way { IfOk result (λ assembly. way_of assembly ≡ way_of self ++ name ∷ []) }
     {
         name.check();

@@ -1,4 +1,4 @@
-use Rattle.std.proofs.Common.{◌≡◌, ◌∙◌, ap, length, arith}
+use Rattle.std.proofs.Common.{ap, length, arith}
 use Rattle.dt_assembly.specs.OpenNodes.{way_of}
 use Rattle.dt_assembly.proofs.Steps.{levels}
 use Rattle.dt_assembly.proofs.assembly.Assembly.depth.Goals as goal

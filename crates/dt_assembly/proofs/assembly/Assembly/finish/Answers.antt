@@ -1,7 +1,6 @@
-use Rattle.std.proofs.Common.{◌≡◌, ◌∙◌, ap, sym}
+use Rattle.std.proofs.Common.{◌∙◌, ap}
 use Rattle.dt_meaning.specs.MapOf.{map_of}
 use Rattle.dt_assembly.specs.Lists.{lists_of}
-use Rattle.dt_assembly.specs.OpenNodes.{tree_of}
 use Rattle.dt_assembly.proofs.TreeLists.{map-lists}
 use Rattle.dt_assembly.proofs.assembly.Assembly.finish.Goals as goal
 

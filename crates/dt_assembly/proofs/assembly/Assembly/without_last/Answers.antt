@@ -1,4 +1,4 @@
-use Rattle.std.proofs.Common.{◌≡◌, ◌-◌, ◌∙◌, ap, sym, length, take}
+use Rattle.std.proofs.Common.{◌≡◌, ◌-◌, ◌∙◌, ap, length, take}
 use Rattle.dt_assembly.specs.Opened.{opened}
 use Rattle.dt_assembly.specs.OpenNodes.{tree_of, way_of}
 use Rattle.dt_assembly.proofs.Chains.{joined}

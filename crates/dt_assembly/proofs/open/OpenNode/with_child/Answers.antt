@@ -1,4 +1,4 @@
-use Rattle.std.proofs.Common.{◌≡◌, ◌∷◌, [], ◌∙◌, ap}
+use Rattle.std.proofs.Common.{◌∷◌, [], ◌∙◌, ap}
 use Rattle.dt_tree.specs.NodeData.{node_data, siblings}
 use Rattle.dt_tree.specs.NodeView.{name_bytes}
 use Rattle.dt_assembly.proofs.Chains.{siblings-append}
