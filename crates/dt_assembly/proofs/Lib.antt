@@ -1,4 +1,5 @@
 pub mod Chains
+pub mod InTurn
 pub mod Orders
 pub mod PathFacts
 pub mod Steps

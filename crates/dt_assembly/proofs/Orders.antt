@@ -89,7 +89,7 @@ module _ (r : Resolved) (are : AreNodes r.nodes) where
   unfolding preorder
   behind = refl
 
-  there-same : (p : Path) → is_there r p ≡ is_there (walked r) p
+  pub there-same : (p : Path) → is_there r p ≡ is_there (walked r) p
   there-same p =
       listed-marked p ([] ∷ r.nodes)
       ∙ ap is_filled (sym (from-one (marked p) r.nodes are p (λ x e. ap (λ t. if t then true ∷ [] else []) e)))

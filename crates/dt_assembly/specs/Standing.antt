@@ -1,5 +1,5 @@
 -- The nodes of a tree as a list of their paths, whatever their order (Devicetree Specification v0.4, section 2.2.3).
-use Rattle.std.specs.Prelude.{◌≡◌, ℕ, Bool, true, false, not, ◌&&◌, List, [], ◌∷◌, ◌++◌}
+use Rattle.std.specs.Prelude.{◌≡◌, ℕ, ◌≤◌, Bool, true, false, not, ◌&&◌, List, [], ◌∷◌, ◌++◌, length, take}
 use Rattle.std.specs.List.{list_any, flat_map}
 use Rattle.dt_meaning.specs.Paths.{Path, is_listed}
 use Rattle.dt_meaning.specs.References.{preorder, held}
@@ -24,3 +24,16 @@ behind_root (p ∷ ps) = ps
 -- the same nodes and properties in the order of the walk
 abbrev pub walked : Resolved → Resolved
 walked r = record { nodes = behind_root (preorder r.nodes); properties = flat_map (held r.properties) (preorder r.nodes) }
+
+-- ---- one node after the other
+-- the second path is that of a child of the node at the first, or of one above that
+pub record Follows (p q : Path) : Type 0 where
+  pub levels : ℕ
+  pub within : levels ≤ length p
+  pub name : List ℕ
+  pub path : q ≡ take levels p ++ name ∷ []
+
+abbrev pub AreFollowed : List Path → Type 0
+AreFollowed [] = Unit {0}
+AreFollowed (p ∷ []) = Unit {0}
+AreFollowed (p ∷ q ∷ qs) = Follows p q × AreFollowed (q ∷ qs)

@@ -8,4 +8,4 @@ mod laws;
 mod open;
 
 pub use assembly::Assembly;
-pub use laws::{map_of_lists, order_of_siblings};
+pub use laws::{map_of_lists, order_of_siblings, walk_of_nodes};
