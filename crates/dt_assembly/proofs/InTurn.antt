@@ -1,5 +1,5 @@
 -- The walk puts each node down once, below the one before it or below a node above that.
-use Rattle.std.proofs.Common.{◌≡◌, ℕ, zero, suc, ◌+◌, ◌≤◌, ◌<◌, Bool, true, false, not, ◌&&◌, ◌||◌, List, [], ◌∷◌, ◌++◌, length, get_or, take, Option, is_some, if◌then◌else◌, cond, refl, sym, ap, ap₂, ◌∙◌, subst, append_assoc, append-nil, length-append, true≢false, arith}
+use Rattle.std.proofs.Common.{◌≡◌, ℕ, zero, suc, ◌≤◌, ◌<◌, Bool, true, false, not, ◌&&◌, ◌||◌, List, [], ◌∷◌, ◌++◌, length, get_or, take, is_some, if◌then◌else◌, cond, refl, sym, ap, ap₂, ◌∙◌, subst, append_assoc, append-nil, length-append, arith}
 use Rattle.std.specs.List.{filter, flat_map}
 use Rattle.std.proofs.Math.Seq.{take-append_seam}
 use Rattle.std.proofs.lemmas.Bool.{and_from, and_parts}
@@ -26,9 +26,9 @@ apart-by_marks (x ∷ xs) few =
     and_from (not (is_listed x xs)) (are_apart xs)
     (ap not (listed-marked x xs ∙ none (flat_map (marked x) xs) (omega (arith, few x, length-append (marked x x) (flat_map (marked x) xs), ap (λ t. length (if t then true ∷ [] else [])) (same-itself x)))))
     (apart-by_marks xs (λ p. omega (arith, few p, length-append (marked p x) (flat_map (marked p) xs)))) where
-  none : (bs : List Bool) → length bs ≤ 0 → is_filled bs ≡ false
-  none [] e = refl
-  none (b ∷ bs) e = absurd (omega arith)
+      none : (bs : List Bool) → length bs ≤ 0 → is_filled bs ≡ false
+      none [] e = refl
+      none (b ∷ bs) e = absurd (omega arith)
 
 pub each-once : (nodes : List Path) → AreNodes nodes → are_apart (preorder nodes) ≡ true
 each-once nodes are =
@@ -44,19 +44,19 @@ before-apart (x ∷ xs) (suc i) a below =
     let parts = and_parts (not (is_listed x xs)) (are_apart xs) a in
     let within : i < length xs = omega arith in
     ap₂ (λ a b. a || b) (apart x xs i (not-true (is_listed x xs) parts.0) within) (before-apart xs i parts.1 within) where
-  there : (xs : List Path) (i : ℕ) → i < length xs → is_listed (get_or xs i []) xs ≡ true
-  there [] i below = absurd (omega arith)
-  there (x ∷ xs) zero below = listed-first x xs
-  there (x ∷ xs) (suc i) below = later (same_path (get_or xs i []) x) (there xs i (omega arith)) where
-    later : (t : Bool) → is_listed (get_or xs i []) xs ≡ true → (t || is_listed (get_or xs i []) xs) ≡ true
-    later true l = refl
-    later false l = l
+      there : (xs : List Path) (i : ℕ) → i < length xs → is_listed (get_or xs i []) xs ≡ true
+      there [] i below = absurd (omega arith)
+      there (x ∷ xs) zero below = listed-first x xs
+      there (x ∷ xs) (suc i) below = later (same_path (get_or xs i []) x) (there xs i (omega arith)) where
+        later : (t : Bool) → is_listed (get_or xs i []) xs ≡ true → (t || is_listed (get_or xs i []) xs) ≡ true
+        later true l = refl
+        later false l = l
 
-  apart : (x : Path) (xs : List Path) (i : ℕ) → is_listed x xs ≡ false → i < length xs → same_path (get_or xs i []) x ≡ false
-  apart x xs i gone below = by_same (same_path (get_or xs i []) x) refl where
-    by_same : (t : Bool) → same_path (get_or xs i []) x ≡ t → t ≡ false
-    by_same true same = not-both (is_listed x xs) (ap (λ y. is_listed y xs) (sym (same-is (get_or xs i []) x same)) ∙ there xs i below) gone
-    by_same false same = refl
+      apart : (x : Path) (xs : List Path) (i : ℕ) → is_listed x xs ≡ false → i < length xs → same_path (get_or xs i []) x ≡ false
+      apart x xs i gone below = by_same (same_path (get_or xs i []) x) refl where
+        by_same : (t : Bool) → same_path (get_or xs i []) x ≡ t → t ≡ false
+        by_same true same = not-both (is_listed x xs) (ap (λ y. is_listed y xs) (sym (same-is (get_or xs i []) x same)) ∙ there xs i below) gone
+        by_same false same = refl
 
 -- ---- each after one that it is below
 abbrev Within : Path → Path → Type 0

@@ -5,3 +5,4 @@ pub mod PathFacts
 pub mod Steps
 pub mod TreeLists
 pub mod Walks
+pub mod Ways

@@ -2,3 +2,4 @@ pub mod Lists
 pub mod Opened
 pub mod OpenNodes
 pub mod Standing
+pub mod Values
