@@ -1,10 +1,12 @@
 //! Plans out of trees: driver files, and the devices of a tree with their drivers and suppliers.
 #![tactic(auto)]
 
+mod cycles;
 mod draft;
 mod driver;
 mod driver_set;
 mod fail_line;
+mod graph;
 mod matching;
 mod path_sets;
 mod planning;
@@ -22,5 +24,6 @@ mod walk;
 pub use driver::Driver;
 pub use driver_set::DriverSet;
 pub use fail_line::FailLine;
+pub use graph::plan_graph;
 pub use planning::plan;
 pub use reading::read_drivers;
