@@ -24,10 +24,6 @@ adding-next s t (Ok ds) (Ok es) h =
     let is : with_mentions s ds ≡ t = cc in
     ap Ok (mentions-append s ds es ∙ ap (λ u. with_mentions u es) is)
 
-adding-fault : (s : Suppliers) (e : PlanError) (first rest : Result (List ℕ) PlanError) → adding s first ≡ Err e → adding s (followed_by first rest) ≡ Err e
-adding-fault s e (Err f) rest h = h
-adding-fault s e (Ok ds) rest h = cc
-
 module _ (target : ℕ → Option Target) (s : Suppliers) (ps : List Property) (i : ℕ) (p : Property) (within : i < length ps) (is : p ≡ get_or ps i p) where
   here : drop i ps ≡ p ∷ drop (i + 1) ps
   here = rw add-one (drop-cons ps i p within ∙ ap (λ q. q ∷ drop (suc i) ps) (sym is))
@@ -38,12 +34,6 @@ module _ (target : ℕ → Option Target) (s : Suppliers) (ps : List Property) (
   properties-next t h =
       sym (adding-next s t (property_references target p) (all_references target (drop (i + 1) ps)) h)
       ∙ ap (λ qs. adding s (all_references target qs)) (sym here)
-
-  -- the first fault
-  pub properties-fault : (e : PlanError) → adding s (property_references target p) ≡ Err e → adding s (all_references target (drop i ps)) ≡ Err e
-  properties-fault e h =
-      ap (λ qs. adding s (all_references target qs)) here
-      ∙ adding-fault s e (property_references target p) (all_references target (drop (i + 1) ps)) h
 
 -- ---- what is found, as a list
 -- two tests of a list are one

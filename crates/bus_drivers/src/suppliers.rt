@@ -70,7 +70,7 @@ impl Suppliers {
             return Err(PlanError::BadSpecifier);
         }
         let mut rest = value;
-        let mut left = 0;
+        let mut left: u32 = 0;
         while let Some((cell, behind)) = next_cell(rest) {
             rest = behind;
             if left > 0 {
