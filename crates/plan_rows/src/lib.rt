@@ -6,6 +6,8 @@
 #[cfg(test)]
 mod drivers;
 #[cfg(test)]
+mod graphs;
+#[cfg(test)]
 mod plans;
 #[cfg(test)]
 mod plans_of_trees;

@@ -1,0 +1,31 @@
+//! Pictures of plans.
+use bus_drivers::plan_graph;
+use bus_plan::read_plan;
+use std::hash::RandomState;
+use std::test::Fail;
+
+/// Pictures: states, arrows, and the arrows of cycles.
+#[test]
+fn graphs(rt: HostRuntime) -> Result<(), Fail> {
+    let alloc = rt.alloc();
+    let rows = [
+        (
+            "",
+            "digraph plan {\n    rankdir=LR;\n    node [shape=box];\n}\n",
+        ),
+        (
+            "/a x ok /b\n/b y fail /c /d\n/c - - /a\n/d ! -\n",
+            "digraph plan {\n    rankdir=LR;\n    node [shape=box];\n    \"/a\" [label=\"/a\\nx\"];\n    \"/b\" [label=\"/b\\ny fails\"];\n    \"/c\" [label=\"/c\\nunmatched\"];\n    \"/d\" [label=\"/d\\ndisabled\"];\n    \"/a\" -> \"/b\" [color=red];\n    \"/b\" -> \"/c\" [color=red];\n    \"/b\" -> \"/d\";\n    \"/c\" -> \"/a\" [color=red];\n}\n",
+        ),
+        (
+            "/a x ok /b\n/b x ok /a /c\n/c x ok /d\n/d x ok /c\n",
+            "digraph plan {\n    rankdir=LR;\n    node [shape=box];\n    \"/a\" [label=\"/a\\nx\"];\n    \"/b\" [label=\"/b\\nx\"];\n    \"/c\" [label=\"/c\\nx\"];\n    \"/d\" [label=\"/d\\nx\"];\n    \"/a\" -> \"/b\" [color=red];\n    \"/b\" -> \"/a\" [color=red];\n    \"/b\" -> \"/c\";\n    \"/c\" -> \"/d\" [color=red];\n    \"/d\" -> \"/c\" [color=red];\n}\n",
+        ),
+    ];
+    for (text, wanted) in rows {
+        let plan = read_plan(alloc, RandomState::new(&rt)?, text.as_bytes())?;
+        let graph = plan_graph(alloc, &plan)?;
+        assert_eq!(rt; graph.as_slice(), wanted.as_bytes());
+    }
+    Ok(())
+}
