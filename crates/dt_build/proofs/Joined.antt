@@ -1,15 +1,15 @@
 -- Numbers and targets together.
-use Rattle.std.proofs.Common.{◌≡◌, ℕ, suc, ◌==◌, Bool, true, false, List, [], ◌∷◌, length, map, Result, Ok, sym, ap, ◌∙◌, append-nil, arith}
+use Rattle.std.proofs.Common.{◌≡◌, ℕ, suc, ◌==◌, ◌++◌, ◌&&◌, not, Bool, true, false, if◌then◌else◌, List, [], ◌∷◌, length, map, Result, Ok, Err, refl, sym, ap, ap₂, ◌∙◌, arith}
 use Rattle.std.specs.List.{list_any}
 use Rattle.std.specs.Prelude.{All}
 use Rattle.std.proofs.lemmas.List.{length-map}
 use Rattle.dt_meaning.specs.Edits.{Definition}
-use Rattle.dt_meaning.specs.Statements.{Fault, then_do}
-use Rattle.dt_meaning.specs.Phandles.{Number, has_number, named_in_cells, new_ones, numbered, wanted}
-use Rattle.dt_meaning.specs.References.{Found}
+use Rattle.dt_meaning.specs.Statements.{Fault, ReservedName, then_do}
+use Rattle.dt_meaning.specs.Phandles.{Number, has_number, new_ones, numbered, labelled, wanted}
+use Rattle.dt_meaning.specs.References.{Found, preorder}
 use Rattle.dt_draft.specs.declared.table.Draft.{Draft}
 use Rattle.dt_draft.specs.Index.{row_of}
-use Rattle.dt_draft.specs.Rows.{IsDraft, is_standing, path_of, stands}
+use Rattle.dt_draft.specs.Rows.{IsDraft, is_standing, node_path, path_of, stands, state_of}
 use Rattle.dt_edit.specs.Said.{Parts, tree_of}
 use Rattle.dt_build.specs.declared.error.BuildError.{BuildError}
 use Rattle.dt_build.specs.declared.numbers.Numbered.{Numbered}
@@ -18,6 +18,14 @@ use Rattle.dt_build.specs.BuildFault.{IsFault}
 use Rattle.dt_build.specs.Numbers.{AreStanding, number_at}
 use Rattle.dt_build.specs.Targets.{AreFound, AreTargets}
 use Rattle.dt_build.specs.Wanted.{new_rows, numbered_rows}
+use Rattle.dt_build.specs.Wanted.{labelled_rows}
+use Rattle.dt_layout.proofs.Each.{Each, each-append}
+use Rattle.dt_tree.specs.Phandle.{is_reserved}
+use Rattle.dt_draft.specs.declared.table.NodeRow.{NodeRow}
+use Rattle.std.specs.List.{filter}
+use Rattle.std.proofs.lemmas.List.{map-append}
+use Rattle.dt_meaning.specs.Paths.{same_path}
+use Rattle.dt_build.proofs.LabelledPaths.{labelled-same}
 use Rattle.dt_build.proofs.Faults.{fault-same}
 use Rattle.dt_build.proofs.PathNumbers.{EachStands, given-same, news-same, numbers-same}
 
@@ -29,24 +37,72 @@ each-numbered : (d : Draft Parts) (xs : List Numbered) → All (λ x. stands d.n
 each-numbered d [] all = tt
 each-numbered d (x ∷ xs) all = (all 0 x (omega arith), each-numbered d xs (λ i y below. all (suc i) y (omega arith)))
 
+stands-append : (rows : List NodeRow) (ms ns : List ℕ) → EachStands rows ms → EachStands rows ns → EachStands rows (ms ++ ns)
+stands-append rows [] ns a b = b
+stands-append rows (m ∷ ms) ns a b = (a.0, stands-append rows ms ns a.1 b)
+
+kept-by : (P : ℕ → Type 0) (t : ℕ → Bool) (n : ℕ) (ns : List ℕ) (b : Bool) → t n ≡ b → P n → Each P (filter t ns) → Each P (filter t (n ∷ ns))
+kept-by P t n ns true e h hs = rw e (h, hs)
+kept-by P t n ns false e h hs = rw e hs
+
+each-kept : (P : ℕ → Type 0) (t : ℕ → Bool) (ns : List ℕ) → Each P ns → Each P (filter t ns)
+each-kept P t [] h = tt
+each-kept P t (n ∷ ns) h = kept-by P t n ns (t n) refl h.0 (each-kept P t ns h.1)
+
+each-when : (P : ℕ → Type 0) (b : Bool) (ns : List ℕ) → Each P ns → Each P (if b then ns else [])
+each-when P true ns h = h
+each-when P false ns h = tt
+
+each-of : (P : ℕ → Type 0) (ns : List ℕ) → All P ns → Each P ns
+each-of P [] all = tt
+each-of P (n ∷ ns) all = (all 0 0 (omega arith), each-of P ns (λ i x below. all (suc i) x (omega arith)))
+
+as-stands : (rows : List NodeRow) (ns : List ℕ) → Each (λ n. stands rows n ≡ true) ns → EachStands rows ns
+as-stands rows [] h = tt
+as-stands rows (n ∷ ns) h = (h.0, as-stands rows ns h.1)
+
+-- what is named is a node
+pub named-within : (P : ℕ → Type 0) (d : Draft Parts) (symbols : Bool) (cells order : List ℕ) → All P cells → All P order → Each P (cells ++ (if symbols then labelled_rows d order else []))
+named-within P d symbols cells order a b =
+    each-append P cells (if symbols then labelled_rows d order else []) (each-of P cells a)
+    (each-when P symbols (labelled_rows d order) (each-kept P (λ n. list_any (λ r. r.node == n) d.labels.items && not (is_reserved (node_path d n))) order (each-of P order b)))
+
+when-labelled : (d : Draft Parts) → IsDraft d → (symbols : Bool) (order : List ℕ) → EachStands d.nodes.items order → map (node_path d) order ≡ preorder (state_of d).nodes
+    → map (node_path d) (if symbols then labelled_rows d order else []) ≡ (if symbols then labelled (tree_of d) else [])
+when-labelled d sound true order up at =
+    labelled-same d.nodes.items (row_of d.node_rows) sound.grown sound.nodes d.labels.items order up
+    ∙ ap (filter (λ p. list_any (λ l. same_path p l.path) (state_of d).labels && not (is_reserved p))) at
+when-labelled d sound false order up at = refl
+
 module _ (d : Draft Parts) (sound : IsDraft d) (given : List Numbered) (up : AreStanding d.nodes.items given) (es : List (Definition (List Found))) (t : Targets) (at : AreFound d es t) (known : AreTargets d t)
-    (taken : ℕ → Bool) (same : (n : ℕ) → taken n ≡ has_number n (map (number_at d.nodes.items) given)) where
+    (taken : ℕ → Bool) (same : (n : ℕ) → taken n ≡ has_number n (map (number_at d.nodes.items) given))
+    (symbols : Bool) (order : List ℕ) (there : All (λ n. is_standing d n ≡ true) order) (nodes : map (node_path d) order ≡ preorder (state_of d).nodes) where
+  abbrev named : List ℕ
+  named = t.cells.items ++ (if symbols then labelled_rows d order else [])
+
   abbrev xs : List Number
   xs = map (number_at d.nodes.items) given
 
-  wanted-same : map (path_of d.nodes.items) (new_rows (λ n. list_any (λ x. x.node == n) given) t.cells.items) ≡ wanted false (tree_of d) xs es
+  wanted-same : map (path_of d.nodes.items) (new_rows (λ n. list_any (λ x. x.node == n) given) named) ≡ wanted symbols (tree_of d) xs es
   wanted-same =
       news-same d.nodes.items (row_of d.node_rows) sound.grown sound.nodes (λ n. list_any (λ x. x.node == n) given) (map (λ x. x.path) xs)
-      (given-same d.nodes.items (row_of d.node_rows) sound.grown sound.nodes given (each-numbered d given up.stand)) t.cells.items (each-stands d t.cells.items known.there)
-      ∙ ap (new_ones (map (λ x. x.path) xs)) (at.cells ∙ sym (append-nil (named_in_cells es)))
+      (given-same d.nodes.items (row_of d.node_rows) sound.grown sound.nodes given (each-numbered d given up.stand)) named
+      (as-stands d.nodes.items named (named-within (λ n. is_standing d n ≡ true) d symbols t.cells.items order known.there there))
+      ∙ ap (new_ones (map (λ x. x.path) xs))
+      (map-append (node_path d) t.cells.items (if symbols then labelled_rows d order else [])
+      ∙ ap₂ (λ a b. a ++ b) at.cells (when-labelled d sound symbols order (each-stands d order there) nodes))
 
-  pub all-numbered : (new : List Numbered) → new ≡ numbered_rows taken (length given) 0 (new_rows (λ n. list_any (λ x. x.node == n) given) t.cells.items)
-      → map (number_at d.nodes.items) new ≡ numbered xs 0 (wanted false (tree_of d) xs es)
+  pub all-numbered : (new : List Numbered) → new ≡ numbered_rows taken (length given) 0 (new_rows (λ n. list_any (λ x. x.node == n) given) named)
+      → map (number_at d.nodes.items) new ≡ numbered xs 0 (wanted symbols (tree_of d) xs es)
   all-numbered new is =
       ap (map (number_at d.nodes.items)) is
-      ∙ numbers-same d.nodes.items taken xs (length given) same (sym (length-map given (number_at d.nodes.items))) 0 (new_rows (λ n. list_any (λ x. x.node == n) given) t.cells.items)
+      ∙ numbers-same d.nodes.items taken xs (length given) same (sym (length-map given (number_at d.nodes.items))) 0 (new_rows (λ n. list_any (λ x. x.node == n) given) named)
       ∙ ap (numbered xs 0) wanted-same
 
 -- a fault of the references, where the numbers have none
 pub fault-behind : (e : BuildError) (r : Result (List Number) Fault) (q : Result (List (Definition (List Found))) Fault) (given : List Number) → r ≡ Ok given → IsFault e q → IsFault e (then_do r (λ _. q))
 fault-behind e r q given is fault = fault-same e q (then_do r (λ _. q)) (ap (λ x. then_do x (λ _. q)) is) fault
+
+-- behind a name that is free
+pub free-fault : (e : BuildError) (b : Bool) (r : Result (List (Definition (List Found))) Fault) → b ≡ false → IsFault e r → IsFault e (if b then Err ReservedName else r)
+free-fault e b r free fault = fault-same e r (if b then Err ReservedName else r) (ap (λ c. if c then Err ReservedName else r) free) fault

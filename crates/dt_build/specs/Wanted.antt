@@ -1,5 +1,10 @@
 -- The nodes that get a number, by their rows (Devicetree Specification v0.4, section 2.3.3).
-use Rattle.std.specs.Prelude.{ℕ, zero, suc, ◌+◌, ◌==◌, Bool, ◌||◌, List, [], ◌∷◌, if◌then◌else◌}
+use Rattle.std.specs.Prelude.{ℕ, zero, suc, ◌+◌, ◌==◌, Bool, not, ◌||◌, ◌&&◌, List, [], ◌∷◌, if◌then◌else◌}
+use Rattle.std.specs.List.{list_any, filter}
+use Rattle.dt_tree.specs.Phandle.{is_reserved}
+use Rattle.dt_draft.specs.declared.table.Draft.{Draft}
+use Rattle.dt_draft.specs.Rows.{node_path}
+use Rattle.dt_edit.specs.Said.{Parts}
 use Rattle.dt_build.specs.declared.numbers.Numbered.{Numbered}
 
 -- each once, where it is first, without those that are known
@@ -16,3 +21,7 @@ free_after taken (suc tries) n = if taken (n + 1) then free_after taken tries (n
 abbrev pub numbered_rows : (ℕ → Bool) → ℕ → ℕ → List ℕ → List Numbered
 numbered_rows taken tries n [] = []
 numbered_rows taken tries n (k ∷ ks) = record { node = k; number = free_after taken tries n } ∷ numbered_rows taken tries (free_after taken tries n) ks
+
+-- the nodes of a list that have labels, without the reserved ones
+abbrev pub labelled_rows : Draft Parts → List ℕ → List ℕ
+labelled_rows d order = filter (λ n. list_any (λ r. r.node == n) d.labels.items && not (is_reserved (node_path d n))) order

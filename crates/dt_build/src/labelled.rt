@@ -1,8 +1,8 @@
 //! The nodes that have labels.
-ghost use Rattle.std.specs.Prelude.{◌≡◌, ◌<◌, ◌==◌, ◌&&◌, ℕ, false, not, All, IfOk, filter, length, slice_index_or};
+ghost use Rattle.std.specs.Prelude.{◌≡◌, ◌<◌, ◌==◌, ◌++◌, [], ℕ, false, All, IfOk, if◌then◌else◌, length, slice_index_or};
 ghost use Rattle.std.specs.List.{list_any};
-ghost use Rattle.dt_tree.specs.Phandle as phandles;
-ghost use Rattle.dt_draft.specs.Rows.{IsDraft, IsNode, node_path};
+ghost use Rattle.dt_draft.specs.Rows.{IsDraft, IsNode};
+ghost use Rattle.dt_build.specs.Wanted.{labelled_rows};
 
 use crate::reserved::is_reserved;
 use dt_draft::{Draft, LabelRow};
@@ -34,7 +34,7 @@ pub fn labelled_nodes<'d>(
 ) -> Result<Vec<usize>, AllocError>
     requires sound { IsDraft draft.now }
     requires known { All (λ n. IsNode draft.now n) order.now }
-    ensures { IfOk result (λ nodes. nodes.items ≡ filter (λ n. list_any (λ r. r.node == n) draft.now.labels.items && not (phandles.is_reserved (node_path draft.now n))) order.now) }
+    ensures { IfOk result (λ nodes. nodes.items ≡ labelled_rows draft.now order.now) }
 {
     let marks = label_marks(alloc, draft.nodes().len() + 1, draft.labels())?;
     let mut nodes = Vec::new(alloc);
@@ -46,4 +46,24 @@ pub fn labelled_nodes<'d>(
         }
     }
     Ok(nodes)
+}
+
+/// The nodes that are named in cells, and with symbols the labelled ones behind them.
+pub fn named_nodes<'d>(
+    alloc: Global,
+    draft: &Draft<'d, &'d [Part<'d>]>,
+    order: &[usize],
+    cells: &[usize],
+    symbols: bool,
+) -> Result<Vec<usize>, AllocError>
+    requires sound { IsDraft draft.now }
+    requires known { All (λ n. IsNode draft.now n) order.now }
+    ensures { IfOk result (λ named. named.items ≡ cells.now ++ (if symbols then labelled_rows draft.now order.now else [])) }
+{
+    let mut named = Vec::from_slice(alloc, cells)?;
+    if symbols {
+        let labelled = labelled_nodes(alloc, draft, order)?;
+        named.extend_from_slice(labelled.as_slice())?;
+    }
+    Ok(named)
 }

@@ -16,7 +16,7 @@ mod wanted;
 
 pub use edits::edited;
 pub use error::BuildError;
-pub use labelled::labelled_nodes;
+pub use labelled::{labelled_nodes, named_nodes};
 pub use names::is_name_taken;
 pub use numbers::{Given, Numbered, given_phandles};
 pub use references::{Targets, find_targets};
