@@ -7,7 +7,7 @@ use Rattle.dt_meaning.specs.Paths.{Path, same_path, is_listed, name_below}
 use Rattle.dt_meaning.specs.References.{walk, preorder}
 use Rattle.dt_assembly.specs.Standing.{are_apart, AreNodes, Follows, AreFollowed}
 use Rattle.dt_assembly.proofs.Orders.{is_filled, marked, listed-marked}
-use Rattle.dt_assembly.proofs.PathFacts.{not-both, not-true, same-itself, same-is, child-is, listed-first, listed-other}
+use Rattle.dt_assembly.proofs.PathFacts.{not-both, not-true, same-itself, same-is, child-is, listed-first, listed-next, listed-other}
 use Rattle.dt_assembly.proofs.Walks.{flat-none, flat-one, from-one}
 
 -- ---- each once
@@ -36,6 +36,11 @@ each-once nodes are =
     (λ p. subst (λ (bs : List Bool). length bs ≤ 1) (sym (from-one (marked p) nodes are p (λ x e. ap (λ t. if t then true ∷ [] else []) e)))
     (marks p ([] ∷ nodes) (ap (λ b. not b && are_apart nodes) are.no_root ∙ are.once)))
 
+pub listed-at : (xs : List Path) (i : ℕ) → i < length xs → is_listed (get_or xs i []) xs ≡ true
+listed-at [] i below = absurd (omega arith)
+listed-at (x ∷ xs) zero below = listed-first x xs
+listed-at (x ∷ xs) (suc i) below = listed-next (get_or xs i []) x xs (listed-at xs i (omega arith))
+
 -- a path doesn't stand among those before it
 pub before-apart : (xs : List Path) (i : ℕ) → are_apart xs ≡ true → i < length xs → is_listed (get_or xs i []) (take i xs) ≡ false
 before-apart [] i a below = absurd (omega arith)
@@ -44,18 +49,10 @@ before-apart (x ∷ xs) (suc i) a below =
     let parts = and_parts (not (is_listed x xs)) (are_apart xs) a in
     let within : i < length xs = omega arith in
     ap₂ (λ a b. a || b) (apart x xs i (not-true (is_listed x xs) parts.0) within) (before-apart xs i parts.1 within) where
-      there : (xs : List Path) (i : ℕ) → i < length xs → is_listed (get_or xs i []) xs ≡ true
-      there [] i below = absurd (omega arith)
-      there (x ∷ xs) zero below = listed-first x xs
-      there (x ∷ xs) (suc i) below = later (same_path (get_or xs i []) x) (there xs i (omega arith)) where
-        later : (t : Bool) → is_listed (get_or xs i []) xs ≡ true → (t || is_listed (get_or xs i []) xs) ≡ true
-        later true l = refl
-        later false l = l
-
       apart : (x : Path) (xs : List Path) (i : ℕ) → is_listed x xs ≡ false → i < length xs → same_path (get_or xs i []) x ≡ false
       apart x xs i gone below = by_same (same_path (get_or xs i []) x) refl where
         by_same : (t : Bool) → same_path (get_or xs i []) x ≡ t → t ≡ false
-        by_same true same = not-both (is_listed x xs) (ap (λ y. is_listed y xs) (sym (same-is (get_or xs i []) x same)) ∙ there xs i below) gone
+        by_same true same = not-both (is_listed x xs) (ap (λ y. is_listed y xs) (sym (same-is (get_or xs i []) x same)) ∙ listed-at xs i below) gone
         by_same false same = refl
 
 -- ---- each after one that it is below

@@ -2,6 +2,7 @@ pub mod Chains
 pub mod InTurn
 pub mod Orders
 pub mod PathFacts
+pub mod Pushes
 pub mod Standing
 pub mod Steps
 pub mod TreeLists

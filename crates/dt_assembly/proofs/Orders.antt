@@ -85,7 +85,7 @@ no-below (x ∷ xs) = refl
 
 -- ---- the whole
 module _ (r : Resolved) (are : AreNodes r.nodes) where
-  behind : [] ∷ behind_root (preorder r.nodes) ≡ preorder r.nodes
+  pub behind : [] ∷ behind_root (preorder r.nodes) ≡ preorder r.nodes
   unfolding preorder
   behind = refl
 

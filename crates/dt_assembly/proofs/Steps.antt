@@ -10,7 +10,7 @@ use Rattle.dt_tree.specs.Sound.{are_distinct}
 use Rattle.dt_meaning.specs.Paths.{is_listed}
 use Rattle.dt_assembly.specs.declared.open.OpenNode.{OpenNode}
 use Rattle.dt_assembly.specs.Lists.{lists_of, with_last}
-use Rattle.dt_assembly.specs.Opened.{opened}
+use Rattle.dt_assembly.specs.Private.Opened.{opened}
 use Rattle.dt_assembly.specs.OpenNodes.{tree_of, way_of, is_filled, IsAssembly}
 use Rattle.dt_assembly.proofs.Chains.{named-all, joined, tree-joined, joined-assembly, way-joined, IsWhole, last-whole, more-assembly, way-more, way-length, lists-more, tree-fresh}
 

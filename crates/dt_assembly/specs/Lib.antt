@@ -1,5 +1,5 @@
 pub mod Lists
-pub mod Opened
 pub mod OpenNodes
+pub mod Private
 pub mod Standing
 pub mod Values

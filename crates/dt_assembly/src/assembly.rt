@@ -26,7 +26,7 @@ impl Model for Assembly {
     ghost use Rattle.dt_tree.specs.NodeData.{NodeData};
     ghost use Rattle.dt_tree.specs.NodeCode.{coded_node};
     ghost use Rattle.dt_assembly.specs.OpenNodes.{IsAssembly};
-    ghost use Rattle.dt_assembly.specs.Opened.{open_nodes};
+    ghost use Rattle.dt_assembly.specs.Private.Opened.{open_nodes};
 
     ghost Value = { List NodeData };
 

@@ -4,7 +4,7 @@ ghost use Rattle.dt_tree.specs.NodeData.{node_data, child_names, property_names,
 ghost use Rattle.dt_tree.specs.NodeView.{name_bytes};
 ghost use Rattle.dt_tree.specs.Fault.{are_named};
 ghost use Rattle.dt_tree.specs.Sound.{are_distinct};
-ghost use Rattle.dt_assembly.specs.Opened.{opened};
+ghost use Rattle.dt_assembly.specs.Private.Opened.{opened};
 ghost use Rattle.dt_assembly.specs.OpenNodes.{beside};
 
 use dt_tree::{Name, Node, Property};

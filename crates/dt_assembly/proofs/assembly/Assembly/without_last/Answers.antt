@@ -1,5 +1,5 @@
 use Rattle.std.proofs.Common.{◌≡◌, ◌-◌, ◌∙◌, ap, length, take}
-use Rattle.dt_assembly.specs.Opened.{opened}
+use Rattle.dt_assembly.specs.Private.Opened.{opened}
 use Rattle.dt_assembly.specs.OpenNodes.{tree_of, way_of}
 use Rattle.dt_assembly.proofs.Chains.{joined}
 use Rattle.dt_assembly.proofs.Steps.{whole, named, close-assembly, close-tree, close-way}
