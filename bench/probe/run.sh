@@ -5,8 +5,7 @@ set -euo pipefail
 cd "$(dirname "$0")/../.."
 inputs=bench/inputs/probe
 python3 bench/probe/make_inputs.py "$inputs"
-program=crates/probe_time/out/probe_time
-[ -x "$program" ] || (cd crates/probe_time && rt run -- data/board.plan 4 3 0 >/dev/null)
+program=$(bench/build probe)
 if [ "${1:-}" != often ]; then
 	exec python3 bench/probe/measure.py "$program" "$inputs"
 fi
