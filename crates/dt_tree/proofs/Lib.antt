@@ -1,6 +1,14 @@
+pub mod AtPlace
+pub mod CallLaws
+pub mod ChangeLaws
+pub mod ChildLaws
 pub mod Descent
+pub mod FirstName
 pub mod GreatestLaws
+pub mod Looks
 pub mod MapLaws
+pub mod NameLists
+pub mod OneNode
 pub mod OrderLaws
 pub mod PathTexts
 pub mod PhandleLaws
@@ -9,3 +17,5 @@ pub mod PreorderLaws
 pub mod ReservedLaws
 pub mod SeenNames
 pub mod SiblingsLemmas
+pub mod Steps
+pub mod StillSound

@@ -11,14 +11,14 @@ use Rattle.dt_tree.specs.TreeData.{TreeData, IsTree}
 use Rattle.dt_tree.specs.PathMap.{TreeMap, tree_map}
 use Rattle.dt_tree.specs.Sound.{is_among, are_distinct, IsSoundBelow, IsSound}
 
-missing_value : (ps : List Property) (j : List ℕ) → is_among j (property_names ps) ≡ false → value_of ps j ≡ None
+pub missing_value : (ps : List Property) (j : List ℕ) → is_among j (property_names ps) ≡ false → value_of ps j ≡ None
 missing_value [] j a = refl
 missing_value (p ∷ ps) j a = at_head p ps j _ refl a (missing_value ps j) where
   at_head : (p : Property) (ps : List Property) (j : List ℕ) (t : Bool) → bytes_eq p.name j ≡ t → is_among j (property_names (p ∷ ps)) ≡ false → (is_among j (property_names ps) ≡ false → value_of ps j ≡ None) → value_of (p ∷ ps) j ≡ None
   at_head p ps j true e a ih = absurd (let h : true ≡ false = (rw e at a) in cc)
   at_head p ps j false e a ih = rw e (ih (rw e at a))
 
-missing_child : (f : Siblings) (y : List ℕ) → is_among y (child_names f) ≡ false → child_named f y ≡ None
+pub missing_child : (f : Siblings) (y : List ℕ) → is_among y (child_names f) ≡ false → child_named f y ≡ None
 missing_child none y a = refl
 missing_child (more n p c rest) y a = at_head n p c rest y _ refl a (missing_child rest y) where
   at_head : (n : List ℕ) (p : List Property) (c rest : Siblings) (y : List ℕ) (t : Bool) → bytes_eq n y ≡ t → is_among y (n ∷ child_names rest) ≡ false → (is_among y (child_names rest) ≡ false → child_named rest y ≡ None) → child_named (more n p c rest) y ≡ None

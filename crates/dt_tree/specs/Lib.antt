@@ -1,3 +1,4 @@
+pub mod Changes
 pub mod Falls
 pub mod Fault
 pub mod Name
@@ -9,6 +10,7 @@ pub mod PathMap
 pub mod Phandle
 pub mod PhandleWalk
 pub mod Preorder
+pub mod Private
 pub mod Seen
 pub mod Sound
 pub mod TreeData

@@ -7,6 +7,8 @@ ghost use Rattle.dt_tree.specs.NodeView.{name_bytes};
 ghost use Rattle.dt_tree.specs.PathMap.{value_of};
 ghost use Rattle.dt_tree.specs.Sound.{IsSound, are_distinct};
 
+pub(crate) mod changing;
+
 use crate::bytes::Bytes;
 use crate::error::TreeError;
 use crate::limits::MAX_DEPTH;

@@ -1,6 +1,7 @@
 ghost use Rattle.std.specs.Prelude.{◌≡◌, ◌↔◌, ◌∷◌, ◌++◌, [], IfOk, IsTrue, IsErrOf, IsOk, OnErr, ◌⊎◌, false, true};
 ghost use Rattle.dt_tree.specs.Name.{are_names};
 ghost use Rattle.dt_tree.specs.Path.{behind_slashes, is_path, is_slash, names_behind, path_names, text_or_root};
+ghost use Rattle.dt_tree.specs.Private.Edits.{names_in};
 ghost use Rattle.std.specs.List.{slice_split};
 
 use crate::error::TreeError;
@@ -99,6 +100,17 @@ impl Path {
             return &[];
         }
         self.text.as_slice()
+    }
+
+    /// The text of the names between slashes, or none for the root's path.
+    pub(crate) fn names_between(&self) -> Option<&[u8]>
+        ensures { names_in result ≡ path_names self.now }
+    {
+        self.check();
+        if self.text.len() == 1 {
+            return None;
+        }
+        Some(&self.text[1..])
     }
 
     /// The path's text.

@@ -5,6 +5,8 @@ ghost use Rattle.dt_tree.specs.PathMap.{node_at, path_map};
 ghost use Rattle.dt_tree.specs.Phandle.{IsGreatest, IsFirstWith, IsNowhere};
 ghost use Rattle.dt_tree.specs.TreeData.{tree_data, is_reserve, AreLong, IsTree};
 
+mod changing;
+
 use crate::error::TreeError;
 use crate::node::Node;
 use crate::path::Path;

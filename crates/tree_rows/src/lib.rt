@@ -6,4 +6,6 @@
 #[cfg(test)]
 mod blobs;
 #[cfg(test)]
+mod changes;
+#[cfg(test)]
 mod trees;
