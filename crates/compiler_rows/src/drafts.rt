@@ -1,12 +1,10 @@
 //! Edits of a draft, at its root.
 
 ghost use Rattle.std.specs.Prelude.{OnOk};
-ghost use Rattle.dt_draft.specs.Rows.{IsDraft, IsNumbered};
+ghost use Rattle.dt_draft.specs.Rows.{IsDraft};
 
 use dt_draft::{Draft, LabelError};
-use dt_edit::{EditError, edit_body};
-use dt_source::{Item, Part, parse};
-use std::alloc::{AllocError, Global};
+use std::alloc::AllocError;
 use std::hash::RandomState;
 use std::process::Abort;
 use std::test::Fail;
@@ -204,73 +202,6 @@ fn labels_of_others_are_refused(rt: HostRuntime) -> Result<(), Fail> {
     a_label_is_refused(&rt, &mut draft)?;
     let mut draft: Draft<'_, u32> = Draft::new(rt.alloc(), hasher);
     the_root_is_refused_a_label(&rt, &mut draft)
-}
-
-// How a body ends that is the root's.
-fn edit_item<'d, 't>(
-    draft: &mut Draft<'t, &'d [Part<'t>]>,
-    item: &'d Item<'t>,
-) -> Result<(), EditError>
-    requires sound { IsDraft draft.old }
-    requires numbered { IsNumbered draft.old }
-    ensures sound { OnOk result (IsDraft draft.new) }
-    ensures numbered { OnOk result (IsNumbered draft.new) }
-{
-    match item {
-        Item::Root(body) => edit_body(draft, 0, 0, body.as_slice()),
-        _ => Ok(()),
-    }
-}
-
-// How the bodies of the root end, of which there are one or two.
-fn edit_items<'d, 't>(
-    alloc: Global,
-    hasher: RandomState,
-    items: &'d [Item<'t>],
-) -> Result<(), EditError> {
-    let mut draft: Draft<'t, &'d [Part<'t>]> = Draft::new(alloc, hasher);
-    let [first, rest @ ..] = items else {
-        return Ok(());
-    };
-    edit_item(&mut draft, first)?;
-    match rest {
-        [second] => edit_item(&mut draft, second),
-        _ => Ok(()),
-    }
-}
-
-fn edited(alloc: Global, hasher: RandomState, text: &[u8]) -> Result<Result<(), EditError>, Fail> {
-    let source = parse(alloc, text)?;
-    Ok(edit_items(alloc, hasher, source.items.as_slice()))
-}
-
-/// Rows `merge-and-delete` and `lost-label`: how their edits end.
-#[test]
-fn bodies_are_edited(rt: HostRuntime) -> Result<(), Fail> {
-    let hasher = RandomState::new(&rt)?;
-    let rows: [(&[u8], Result<(), EditError>); 5] = [
-        (
-            b"/dts-v1/; / { a { x = <1>; y; }; b { }; }; / { a { x = <2>; z; }; /delete-node/ b; };",
-            Ok(()),
-        ),
-        (b"/dts-v1/; / { x; x; };", Err(EditError::DuplicateInBody)),
-        (
-            b"/dts-v1/; / { a { }; /delete-node/ a; a { }; };",
-            Err(EditError::DuplicateInBody),
-        ),
-        (
-            b"/dts-v1/; / { a: x { }; a: y { }; };",
-            Err(EditError::DuplicateLabel),
-        ),
-        (
-            b"/dts-v1/; / { a: x { }; /delete-node/ x; a: y { }; };",
-            Ok(()),
-        ),
-    ];
-    for (text, ended) in rows {
-        assert_eq!(rt; edited(rt.alloc(), hasher, text)?, ended);
-    }
-    Ok(())
 }
 
 /// The definitions give what was worked by hand.

@@ -7,3 +7,5 @@
 mod assemblies;
 #[cfg(test)]
 mod drafts;
+#[cfg(test)]
+mod edits;

@@ -3,7 +3,7 @@ use Rattle.std.specs.Prelude.{List, map}
 use denote.Ref.{Bor}
 use Rattle.dt_source.specs.declared.tree.Part.{Part}
 use Rattle.dt_source.specs.Tree as said
-use Rattle.dt_meaning.specs.Syntax.{Target, OfLabel, OfPath, Piece, Plain, PhandleOf, PathOf, Entry, Defines, Undefines, Child, Removes, Body, Done, Then, Edit, Rooted, Extends, Deletes}
+use Rattle.dt_meaning.specs.Syntax.{Target, OfLabel, OfPath, Piece, Plain, PhandleOf, PathOf, Entry, Defines, Undefines, Child, Removes, Body, Done, Then, Edit, Rooted, Extends, Deletes, Meaning}
 use Rattle.dt_meaning.specs.Edits.{State, Definition, definition}
 use Rattle.dt_draft.specs.declared.table.Draft.{Draft}
 use Rattle.dt_draft.specs.Rows.{state_of}
@@ -32,6 +32,10 @@ abbrev pub item_of : said.Edit → Edit
 item_of (said.Rooted b) = Rooted (body_of b)
 item_of (said.Extends ls t b) = Extends ls (target_of t) (body_of b)
 item_of (said.Deletes t) = Deletes (target_of t)
+
+-- what a whole source says
+abbrev pub reading : said.Meaning → Meaning
+reading m = record { plugin = m.plugin; reserves = m.reserves; items = map item_of m.items }
 
 -- the value of a property as the text has it
 abbrev pub Parts : Type 0

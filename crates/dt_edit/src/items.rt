@@ -14,9 +14,9 @@ use crate::targets::target_of;
 use dt_draft::Draft;
 use dt_source::{Item, Labels, Part, Reference, Statement};
 
-fn delete<'d>(
-    draft: &mut Draft<'d, &'d [Part<'d>]>,
-    target: &'d Reference<'d>,
+fn delete<'d, 't>(
+    draft: &mut Draft<'t, &'d [Part<'t>]>,
+    target: &'d Reference<'t>,
 ) -> Result<(), EditError>
     requires sound { IsDraft draft.old }
     requires numbered { IsNumbered draft.old }
@@ -32,11 +32,11 @@ fn delete<'d>(
     Ok(())
 }
 
-fn extend<'d>(
-    draft: &mut Draft<'d, &'d [Part<'d>]>,
-    labels: &'d Labels<'d>,
-    target: &'d Reference<'d>,
-    body: &'d [Statement<'d>],
+fn extend<'d, 't>(
+    draft: &mut Draft<'t, &'d [Part<'t>]>,
+    labels: &'d Labels<'t>,
+    target: &'d Reference<'t>,
+    body: &'d [Statement<'t>],
 ) -> Result<(), EditError>
     requires sound { IsDraft draft.old }
     requires numbered { IsNumbered draft.old }
@@ -55,7 +55,10 @@ fn extend<'d>(
     }
 }
 
-fn edit_item<'d>(draft: &mut Draft<'d, &'d [Part<'d>]>, item: &'d Item<'d>) -> Result<(), EditError>
+fn edit_item<'d, 't>(
+    draft: &mut Draft<'t, &'d [Part<'t>]>,
+    item: &'d Item<'t>,
+) -> Result<(), EditError>
     requires sound { IsDraft draft.old }
     requires numbered { IsNumbered draft.old }
     ensures sound { OnOk result (IsDraft draft.new) }
@@ -83,9 +86,9 @@ fn edit_item<'d>(draft: &mut Draft<'d, &'d [Part<'d>]>, item: &'d Item<'d>) -> R
 }
 
 /// Does what the items of an ordinary source say, in their order. After a refusal the draft is of no more use.
-pub fn edit_items<'d>(
-    draft: &mut Draft<'d, &'d [Part<'d>]>,
-    items: &'d [Item<'d>],
+pub fn edit_items<'d, 't>(
+    draft: &mut Draft<'t, &'d [Part<'t>]>,
+    items: &'d [Item<'t>],
 ) -> Result<(), EditError>
     requires sound { IsDraft draft.old }
     requires numbered { IsNumbered draft.old }

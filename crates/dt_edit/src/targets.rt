@@ -12,9 +12,9 @@ use dt_draft::Draft;
 use dt_source::{Part, Reference};
 
 /// The node that a reference names.
-pub fn target_of<'d>(
-    draft: &Draft<'d, &'d [Part<'d>]>,
-    target: &'d Reference<'d>,
+pub fn target_of<'d, 't>(
+    draft: &Draft<'t, &'d [Part<'t>]>,
+    target: &'d Reference<'t>,
 ) -> Result<usize, EditError>
     requires sound { IsDraft draft.now }
     ensures node { MatchResult result (λ node. found (said.target_of (target_view target.now)) (tree_of draft.now) ≡ Ok (node_path draft.now node)) (λ e. IsFault e (found (said.target_of (target_view target.now)) (tree_of draft.now))) }

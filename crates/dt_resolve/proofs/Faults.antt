@@ -1,0 +1,52 @@
+-- A fault of the first step is the fault of all.
+use Rattle.std.proofs.Common.{◌≡◌, Bool, true, false, Result, Ok, Err, if◌then◌else◌, ap, ◌∙◌}
+use Rattle.dt_meaning.specs.Statements.{Fault, then_do}
+use Rattle.dt_edit.specs.declared.error.EditError.{EditError}
+use Rattle.dt_edit.specs.declared.error.EditError.TheVariants as edits
+use Rattle.dt_edit.specs.EditFault as edit
+use Rattle.dt_resolve.specs.declared.error.BuildError.{BuildError}
+use Rattle.dt_resolve.specs.declared.error.BuildError.TheVariants.{NoMemory, UnknownLabel, DuplicateLabel, UnknownPath, BadPhandle, DuplicatePhandle, DuplicateInBody, PathInPlugin, ReservedName, TooDeep, NoPlugin}
+use Rattle.dt_resolve.specs.BuildFault.{IsFault, build_error}
+
+pub fault-then : {A B : Type 0} (e : BuildError) (r : Result A Fault) (f : A → Result B Fault) → IsFault e r → IsFault e (then_do r f)
+fault-then NoMemory r f h = h
+fault-then UnknownLabel r f h = ap (λ x. then_do x f) h
+fault-then DuplicateLabel r f h = ap (λ x. then_do x f) h
+fault-then UnknownPath r f h = ap (λ x. then_do x f) h
+fault-then BadPhandle r f h = ap (λ x. then_do x f) h
+fault-then DuplicatePhandle r f h = ap (λ x. then_do x f) h
+fault-then DuplicateInBody r f h = ap (λ x. then_do x f) h
+fault-then PathInPlugin r f h = ap (λ x. then_do x f) h
+fault-then ReservedName r f h = ap (λ x. then_do x f) h
+fault-then TooDeep r f h = ap (λ x. then_do x f) h
+fault-then NoPlugin r f h = elim h [ ]
+
+pub fault-same : {A : Type 0} (e : BuildError) (r r' : Result A Fault) → r' ≡ r → IsFault e r → IsFault e r'
+fault-same NoMemory r r' same h = h
+fault-same UnknownLabel r r' same h = same ∙ h
+fault-same DuplicateLabel r r' same h = same ∙ h
+fault-same UnknownPath r r' same h = same ∙ h
+fault-same BadPhandle r r' same h = same ∙ h
+fault-same DuplicatePhandle r r' same h = same ∙ h
+fault-same DuplicateInBody r r' same h = same ∙ h
+fault-same PathInPlugin r r' same h = same ∙ h
+fault-same ReservedName r r' same h = same ∙ h
+fault-same TooDeep r r' same h = same ∙ h
+fault-same NoPlugin r r' same h = elim h [ ]
+
+-- a fault of the second step, where the first has none
+pub fault-second : {A B C : Type 0} (e : BuildError) (b : Bool) (f : Fault) (r : Result A Fault) (q : Result B Fault) (g : A → B → Result C Fault) → IsFault e (if b then Err f else then_do r (λ _. q))
+    → IsFault e (if b then Err f else then_do r (λ x. then_do q (g x)))
+fault-second {A} {B} {C} e true f r q g h = fault-then {A = B} {B = C} e (Err f) (λ _. Err f) h
+fault-second {A} {B} {C} e false f (Err a) q g h = fault-then {A = B} {B = C} e (Err a) (λ _. Err a) h
+fault-second e false f (Ok x) q g h = fault-then e q (g x) h
+
+-- a fault of the edits
+pub edit-fault : {A : Type 0} (a : EditError) (r : Result A Fault) → edit.IsFault a r → IsFault (build_error a) r
+edit-fault edits.NoMemory r h = h
+edit-fault edits.UnknownLabel r h = h
+edit-fault edits.DuplicateLabel r h = h
+edit-fault edits.UnknownPath r h = h
+edit-fault edits.DuplicateInBody r h = h
+edit-fault edits.ReservedName r h = h
+edit-fault edits.TooDeep r h = h

@@ -1,0 +1,30 @@
+-- A child of the root with a name.
+use Rattle.std.proofs.Common.{◌≡◌, ℕ, Bool, true, false, ◌||◌, List, length, Some, None, refl, sym, ap, ◌∙◌, arith}
+use Rattle.dt_meaning.specs.Paths.{is_listed}
+use Rattle.dt_meaning.specs.Names.{symbols_name}
+use Rattle.dt_meaning.specs.Resolved.{has_child, names_taken}
+use Rattle.dt_draft.specs.declared.table.Draft.{Draft}
+use Rattle.dt_draft.specs.Index.{row_of}
+use Rattle.dt_draft.specs.Rows.{IsDraft, path_of, stands, standing}
+use Rattle.dt_draft.proofs.NodeRows.{not-listed, found-child}
+use Rattle.dt_draft.proofs.Shown.{listed-standing}
+use Rattle.dt_edit.specs.Said.{Parts, tree_of}
+
+module _ (d : Draft Parts) (sound : IsDraft d) where
+  pub child-there : (name : List ℕ) (m : ℕ) → row_of d.node_rows 0 name ≡ Some m → has_child (tree_of d) name ≡ true
+  child-there name m e =
+      let rows = d.nodes.items in
+      let f = sound.nodes.right 0 name m e in
+      let c = found-child rows f.0 0 name sound.grown f.3 f.4 f.5 refl in
+      ap (λ p. is_listed p (standing (path_of rows) (stands rows) (length rows))) (sym c.0) ∙ listed-standing (path_of rows) (stands rows) (length rows) f.0 (omega (arith, f.2)) c.1
+
+  pub child-absent : (name : List ℕ) → row_of d.node_rows 0 name ≡ None → has_child (tree_of d) name ≡ false
+  child-absent name e = not-listed d.nodes.items (row_of d.node_rows) sound.grown sound.nodes 0 name refl e
+
+or-none : (b : Bool) → (b || false) ≡ b
+or-none true = refl
+or-none false = refl
+
+pub taken-with : (d : Draft Parts) (symbols b : Bool) → symbols ≡ true → has_child (tree_of d) symbols_name ≡ b → b ≡ names_taken symbols false (tree_of d)
+taken-with d symbols b on has =
+    sym (ap (λ s. names_taken s false (tree_of d)) on ∙ ap (λ h. h || false) has ∙ or-none b)

@@ -1,0 +1,13 @@
+pub mod EachSteps
+pub mod Faults
+pub mod FindingSteps
+pub mod GivenSteps
+pub mod Joined
+pub mod KeptNames
+pub mod KeptNodes
+pub mod LabelledPaths
+pub mod Orders
+pub mod PathNumbers
+pub mod PreparedFaults
+pub mod ReadOrder
+pub mod WantedSteps

@@ -1,0 +1,32 @@
+-- What each error says of the meaning; want of memory says nothing of it.
+use Rattle.std.specs.Prelude.{◌≡◌, Result, Err}
+use Rattle.dt_meaning.specs.Statements.{Fault}
+use Rattle.dt_meaning.specs.Statements as meaning
+use Rattle.dt_edit.specs.declared.error.EditError.{EditError}
+use Rattle.dt_edit.specs.declared.error.EditError.TheVariants as edits
+use Rattle.dt_resolve.specs.declared.error.BuildError.{BuildError}
+use Rattle.dt_resolve.specs.declared.error.BuildError.TheVariants.{NoMemory, UnknownLabel, DuplicateLabel, UnknownPath, BadPhandle, DuplicatePhandle, DuplicateInBody, PathInPlugin, ReservedName, TooDeep, NoPlugin}
+
+-- a plugin is refused before any edit
+abbrev pub IsFault : {A : Type 0} → BuildError → Result A Fault → Type 0
+IsFault NoMemory r = Unit {0}
+IsFault UnknownLabel r = r ≡ Err meaning.UnknownLabel
+IsFault DuplicateLabel r = r ≡ Err meaning.DuplicateLabel
+IsFault UnknownPath r = r ≡ Err meaning.UnknownPath
+IsFault BadPhandle r = r ≡ Err meaning.BadPhandle
+IsFault DuplicatePhandle r = r ≡ Err meaning.DuplicatePhandle
+IsFault DuplicateInBody r = r ≡ Err meaning.DuplicateInBody
+IsFault PathInPlugin r = r ≡ Err meaning.PathInPlugin
+IsFault ReservedName r = r ≡ Err meaning.ReservedName
+IsFault TooDeep r = r ≡ Err meaning.TooDeep
+IsFault NoPlugin r = ⊥
+
+-- an edit that is refused stops the build
+abbrev pub build_error : EditError → BuildError
+build_error edits.NoMemory = NoMemory
+build_error edits.UnknownLabel = UnknownLabel
+build_error edits.DuplicateLabel = DuplicateLabel
+build_error edits.UnknownPath = UnknownPath
+build_error edits.DuplicateInBody = DuplicateInBody
+build_error edits.ReservedName = ReservedName
+build_error edits.TooDeep = TooDeep

@@ -1,0 +1,8 @@
+pub mod BuildError
+pub mod BuildFault
+pub mod Numbers
+pub mod Prepared
+pub mod Private
+pub mod Resolution
+pub mod Said
+pub mod Targets

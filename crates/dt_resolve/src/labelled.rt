@@ -1,0 +1,69 @@
+//! The nodes that have labels.
+ghost use Rattle.std.specs.Prelude.{◌≡◌, ◌<◌, ◌==◌, ◌++◌, [], ℕ, false, All, IfOk, if◌then◌else◌, length, slice_index_or};
+ghost use Rattle.std.specs.List.{list_any};
+ghost use Rattle.dt_draft.specs.Rows.{IsDraft, IsNode};
+ghost use Rattle.dt_resolve.specs.Private.Wanted.{labelled_rows};
+
+use crate::reserved::is_reserved;
+use dt_draft::{Draft, LabelRow};
+use dt_source::Part;
+use std::alloc::{AllocError, Global};
+
+// Whether each node has got a label.
+fn label_marks(
+    alloc: Global,
+    count: usize,
+    labels: &[LabelRow<'_>],
+) -> Result<Vec<bool>, AllocError>
+    requires { All (λ r. r.node < count) labels.now }
+    ensures count { IfOk result (λ marks. length marks.items ≡ count) }
+    ensures marks { IfOk result (λ marks. (n : ℕ) → slice_index_or marks.items n false ≡ list_any (λ r. r.node == n) labels.now) }
+{
+    let mut marks = vec![in alloc; false; count]?;
+    for row in labels {
+        marks[row.node] = true;
+    }
+    Ok(marks)
+}
+
+/// The nodes of a list that have labels, without the reserved ones.
+pub(crate) fn labelled_nodes<'d, 't>(
+    alloc: Global,
+    draft: &Draft<'t, &'d [Part<'t>]>,
+    order: &[usize],
+) -> Result<Vec<usize>, AllocError>
+    requires sound { IsDraft draft.now }
+    requires known { All (λ n. IsNode draft.now n) order.now }
+    ensures { IfOk result (λ nodes. nodes.items ≡ labelled_rows draft.now order.now) }
+{
+    let marks = label_marks(alloc, draft.nodes().len() + 1, draft.labels())?;
+    let mut nodes = Vec::new(alloc);
+    for node in order {
+        if marks[*node] {
+            if !is_reserved(draft.nodes(), *node) {
+                nodes.push(*node)?;
+            }
+        }
+    }
+    Ok(nodes)
+}
+
+/// The nodes that are named in cells, and with symbols the labelled ones behind them.
+pub(crate) fn named_nodes<'d, 't>(
+    alloc: Global,
+    draft: &Draft<'t, &'d [Part<'t>]>,
+    order: &[usize],
+    cells: &[usize],
+    symbols: bool,
+) -> Result<Vec<usize>, AllocError>
+    requires sound { IsDraft draft.now }
+    requires known { All (λ n. IsNode draft.now n) order.now }
+    ensures { IfOk result (λ named. named.items ≡ cells.now ++ (if symbols then labelled_rows draft.now order.now else [])) }
+{
+    let mut named = Vec::from_slice(alloc, cells)?;
+    if symbols {
+        let labelled = labelled_nodes(alloc, draft, order)?;
+        named.extend_from_slice(labelled.as_slice())?;
+    }
+    Ok(named)
+}

@@ -1,0 +1,23 @@
+//! The edits, the phandles and the references of a source, before its tree is made.
+//!
+//! The Devicetree Specification v0.4, chapter 6 and section 2.3.3, and `dt_meaning` say what a source means.
+#![tactic(auto)]
+
+mod edits;
+mod error;
+mod labelled;
+mod names;
+mod numbers;
+mod phandle;
+mod prepared;
+mod references;
+mod reserved;
+mod resolving;
+mod wanted;
+
+pub use error::BuildError;
+pub use numbers::{Given, Numbered};
+pub use prepared::{Prepared, prepare};
+pub use references::Targets;
+pub use reserved::is_reserved;
+pub use resolving::Resolution;
