@@ -38,7 +38,10 @@ impl OpenNode {
         requires height { height_of (siblings self.children.items) ≤ 64 }
         ensures { result ≡ opened self }
     {
-        Node::from_distinct(self.name, self.properties, self.children)
+        let mut children = self.children;
+        // a kept list has no spare room
+        children.shrink_to_fit();
+        Node::from_distinct(self.name, self.properties, children)
     }
 
     /// The same node with one more child.

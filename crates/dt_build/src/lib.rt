@@ -1,25 +1,17 @@
-//! Trees out of devicetree sources: edits, phandles and references.
+//! Trees out of devicetree sources: edits, phandles, references and symbols.
 //!
 //! The Devicetree Specification v0.4, chapter 6 and section 2.3.3, and `dt_meaning` say what a source means.
 #![tactic(auto)]
 
-mod edits;
-mod error;
-mod labelled;
+mod building;
+mod making;
 mod names;
-mod numbers;
-mod phandle;
-mod references;
-mod reserved;
-mod resolving;
-mod wanted;
+mod numbering;
+mod own;
+mod place;
+mod sizes;
+mod symbols;
+mod value;
 
-pub use edits::edited;
-pub use error::BuildError;
-pub use labelled::{labelled_nodes, named_nodes};
-pub use names::is_name_taken;
-pub use numbers::{Given, Numbered, given_phandles};
-pub use references::{Targets, find_targets};
-pub use reserved::is_reserved;
-pub use resolving::{Resolution, resolve};
-pub use wanted::{number_nodes, wanting};
+pub use building::{build, build_within};
+pub use dt_resolve::BuildError;

@@ -1,22 +1,17 @@
-//! The names that are kept for what is added.
-ghost use Rattle.std.specs.Prelude.{◌≡◌, false};
-ghost use Rattle.dt_meaning.specs.Resolved.{names_taken};
-ghost use Rattle.dt_draft.specs.Rows.{IsDraft};
-ghost use Rattle.dt_edit.specs.Said.{tree_of};
+//! Names that are known to be lawful.
+ghost use Rattle.std.specs.Prelude.{◌≡◌, true, IfOk};
+ghost use Rattle.dt_tree.specs.Name.{is_name};
 
-use dt_draft::Draft;
-use dt_source::Part;
+use dt_tree::Name;
+use std::alloc::{AllocError, Global};
 
-/// Whether the root of an ordinary source has a child whose name is kept for symbols.
-pub fn is_name_taken<'d>(draft: &Draft<'d, &'d [Part<'d>]>, symbols: bool) -> bool
-    requires { IsDraft draft.now }
-    ensures { result ≡ names_taken symbols false (tree_of draft.now) }
+/// A copy of a lawful name: only memory can lack.
+pub(crate) fn lawful_name(alloc: Global, bytes: &[u8]) -> Result<Name, AllocError>
+    requires { is_name bytes.now ≡ true }
+    ensures { IfOk result (λ name. name ≡ bytes.now) }
 {
-    if !symbols {
-        return false;
-    }
-    match draft.child(0, b"__symbols__".as_slice()) {
-        Some(_) => true,
-        None => false,
+    match Name::new(alloc, bytes) {
+        Ok(name) => Ok(name),
+        Err(_) => Err(AllocError),
     }
 }

@@ -1,0 +1,268 @@
+-- Edits keep what is true of each name, and that no node is deeper than 64, no property and no label stands twice.
+use Rattle.std.proofs.Common.{◌≡◌, ◌≤◌, ℕ, Bool, true, false, not, ◌||◌, List, [], ◌∷◌, ◌++◌, length, Option, Some, None, Result, Ok, Err, if◌then◌else◌, refl, sym, ap, ap₂, ◌∙◌, subst, true≢false, length-append, arith}
+use Rattle.std.specs.Prelude.{nat_lt}
+use Rattle.std.specs.List.{filter}
+use Rattle.std.specs.Str.{bytes_eq}
+use Rattle.std.proofs.lemmas.Bool.{and_parts}
+use Rattle.std.proofs.lemmas.Bool.Decides.{nat_tests}
+use Rattle.std.proofs.lemmas.Slice.Eq.{bytes_eq-Decides}
+use Rattle.dt_tree.specs.Path.{path_names}
+use Rattle.dt_tree.specs.Sound.{is_among}
+use Rattle.dt_meaning.specs.Paths.{Path, same_path, is_within, is_listed}
+use Rattle.dt_meaning.specs.Syntax.{Target, OfLabel, OfPath, Piece, Entry, Defines, Undefines, Child, Removes, Body, Done, Then, Edit, Rooted, Extends, Deletes, Meaning}
+use Rattle.dt_meaning.specs.Edits.{Definition, definition, Label, labelled_at, State, empty, has_node, with_node, without_node, is_of, put, with_property, without_property, label_path, with_label}
+use Rattle.dt_meaning.specs.Statements.{Fault, UnknownLabel, UnknownPath, DuplicateLabel, DuplicateInBody, ReservedName, TooDeep, then_do, ok_or, give_label, give_labels, is_made, Progress, progress, begun, child_fault, unless, after_entry, after_body, found, after_item, after_items, edited}
+use Rattle.dt_draft.proofs.PathTests.{same-is}
+use Rattle.dt_layout.proofs.Each.{Each, each-append}
+use Rattle.dt_build.proofs.ApartLists.{InPairs, each-kept, pairs-kept, pairs-last}
+
+-- the names on the way are so, and there are at most 64
+abbrev pub IsWay : (List ℕ → Type 0) → Path → Type 0
+IsWay N q = Each N q × (length q ≤ 64)
+
+-- the later property has another node or another name
+abbrev pub HasOtherKey : {V : Type 0} → Definition V → Definition V → Type 0
+HasOtherKey e x = is_of x.path x.name e ≡ false
+
+-- the later label is another word
+abbrev pub IsOtherWord : Label → Label → Type 0
+IsOtherWord l x = bytes_eq x.label l.label ≡ false
+
+pub record IsNamed {V : Type 0} (N : List ℕ → Type 0) (s : State V) : Type 0 where
+  pub nodes : Each (IsWay N) s.nodes
+  pub properties : Each (λ e. N e.name) s.properties
+  pub labels : Each (λ l. N l.label × IsWay N l.path) s.labels
+  pub keys : InPairs HasOtherKey s.properties
+  pub words : InPairs IsOtherWord s.labels
+
+-- ---- what a source names
+abbrev mutual
+  pub IsNamedEntry : {V : Type 0} → (List ℕ → Type 0) → Entry V → Type 0
+  IsNamedEntry N (Defines n v) = N n
+  IsNamedEntry N (Undefines n) = Unit {0}
+  IsNamedEntry N (Child ls n b) = Each N ls × N n × IsNamedBody N b
+  IsNamedEntry N (Removes n) = Unit {0}
+
+  pub IsNamedBody : {V : Type 0} → (List ℕ → Type 0) → Body V → Type 0
+  IsNamedBody N Done = Unit {0}
+  IsNamedBody N (Then e b) = IsNamedEntry N e × IsNamedBody N b
+
+abbrev pub IsNamedEdit : (List ℕ → Type 0) → Edit → Type 0
+IsNamedEdit N (Rooted b) = IsNamedBody N b
+IsNamedEdit N (Extends ls t b) = Each N ls × IsNamedBody N b
+IsNamedEdit N (Deletes t) = Unit {0}
+
+-- ---- steps that went well
+pub did : {A B : Type 0} (r : Result A Fault) (g : A → Result B Fault) (b : B) → then_do r g ≡ Ok b → (a : A) × (r ≡ Ok a) × (g a ≡ Ok b)
+did (Ok a) g b e = (a, refl, e)
+did (Err f) g b e = absurd (cc)
+
+abbrev done : {A : Type 0} → A → Result A Fault
+done a = Ok a
+
+pub ok-is : {A : Type 0} (a b : A) → done a ≡ done b → a ≡ b
+ok-is a b e = cc
+
+pub not-refused : {A : Type 0} (c : Bool) (f : Fault) (r : Result A Fault) (b : A) → (if c then Err f else r) ≡ Ok b → (c ≡ false) × (r ≡ Ok b)
+not-refused true f r b e = absurd (cc)
+not-refused false f r b e = (refl, e)
+
+no-fault : {A : Type 0} (o : Option Fault) (r : Result A Fault) (b : A) → unless o r ≡ Ok b → (o ≡ None) × (r ≡ Ok b)
+no-fault None r b e = (refl, e)
+no-fault (Some f) r b e = absurd (cc)
+
+no-third : (a b c : Bool) (f g h : Fault) → (if a then Some f else (if b then Some g else (if c then Some h else None))) ≡ None → c ≡ false
+no-third true b c f g h e = absurd (cc)
+no-third false true c f g h e = absurd (cc)
+no-third false false true f g h e = absurd (cc)
+no-third false false false f g h e = refl
+
+short : {V : Type 0} (p : Path) (n : List ℕ) (cs : List (List ℕ)) (s : State V) → child_fault p n cs s ≡ None → length p ≤ 63
+short p n cs s e =
+    let few : nat_lt 63 (length p) ≡ false = no-third (is_among n cs) (is_made p n s) (nat_lt 63 (length p)) DuplicateInBody ReservedName TooDeep e in
+    grind (arith, nat_tests)
+
+-- ---- a property is put
+module _ {V : Type 0} (p : Path) (n : List ℕ) (v : V) where
+  put-each : (P : Definition V → Type 0) (es : List (Definition V)) → P (definition p n v) → Each P es → Each P (put p n v es)
+  put-each P [] h hs = (h, tt)
+  put-each P (e ∷ es) h hs = by-key (is_of p n e) (put-each P es h hs.1) where
+    by-key : (b : Bool) → Each P (put p n v es) → Each P (if b then definition p n v ∷ es else e ∷ put p n v es)
+    by-key true rest = (h, hs.1)
+    by-key false rest = (hs.0, rest)
+
+  apart-same : (e x : Definition V) → is_of p n e ≡ true → is_of x.path x.name e ≡ false → is_of x.path x.name (definition p n v) ≡ false
+  apart-same e x is apart =
+      let parts = and_parts (same_path p e.path) (bytes_eq n e.name) is in
+      ap₂ (λ a b. is_of x.path x.name (definition a b v)) (same-is p e.path parts.0) ((bytes_eq-Decides n e.name).0 parts.1) ∙ apart
+
+  each-apart : (e : Definition V) (es : List (Definition V)) → is_of p n e ≡ true → Each (HasOtherKey e) es → Each (HasOtherKey (definition p n v)) es
+  each-apart e [] is hs = tt
+  each-apart e (x ∷ es) is hs = (apart-same e x is hs.0, each-apart e es is hs.1)
+
+  pub put-keys : (es : List (Definition V)) → InPairs HasOtherKey es → InPairs HasOtherKey (put p n v es)
+  put-keys [] h = (tt, tt)
+  put-keys (e ∷ es) h = by-key (is_of p n e) refl (put-keys es h.1) where
+    by-key : (b : Bool) → is_of p n e ≡ b → InPairs HasOtherKey (put p n v es) → InPairs HasOtherKey (if b then definition p n v ∷ es else e ∷ put p n v es)
+    by-key true is rest = (each-apart e es is h.0, h.1)
+    by-key false is rest = (put-each (HasOtherKey e) es is h.0, rest)
+
+-- ---- each edit
+pub listed-so : (P : Path → Type 0) (p : Path) (xs : List Path) → Each P xs → is_listed p xs ≡ true → P p
+listed-so P p [] h l = absurd (true≢false (sym l))
+listed-so P p (x ∷ xs) h l = by-same (same_path p x) refl l (listed-so P p xs h.1) where
+  by-same : (b : Bool) → same_path p x ≡ b → (b || is_listed p xs) ≡ true → (is_listed p xs ≡ true → P p) → P p
+  by-same true same l rest = subst P (sym (same-is p x same)) h.0
+  by-same false same l rest = rest l
+
+new-word : (l : List ℕ) (ls : List Label) → label_path l ls ≡ None → Each (λ x. bytes_eq l x.label ≡ false) ls
+new-word l [] e = tt
+new-word l (x ∷ xs) e = by-word (bytes_eq l x.label) refl e (new-word l xs) where
+  by-word : (b : Bool) → bytes_eq l x.label ≡ b → (if b then Some x.path else label_path l xs) ≡ None → (label_path l xs ≡ None → Each (λ y. bytes_eq l y.label ≡ false) xs)
+      → Each (λ y. bytes_eq l y.label ≡ false) (x ∷ xs)
+  by-word true is e rest = absurd (cc)
+  by-word false is e rest = (is, rest e)
+
+label-found : (o : Option Path) (p : Path) → ok_or UnknownLabel o ≡ Ok p → o ≡ Some p
+label-found None p e = absurd (cc)
+label-found (Some q) p e = ap (λ x. Some x) (ok-is q p e)
+
+path-found : (c : Bool) (q p : Path) → (if c then Ok q else Err UnknownPath) ≡ Ok p → (c ≡ true) × (q ≡ p)
+path-found true q p e = (refl, ok-is q p e)
+path-found false q p e = absurd (cc)
+
+module _ (N : List ℕ → Type 0) where
+  further : (p : Path) (n : List ℕ) → IsWay N p → N n → length p ≤ 63 → IsWay N (p ++ n ∷ [])
+  further p n way name few = (each-append N p (n ∷ []) way.0 (name, tt), omega (arith, length-append p (n ∷ []), way.1))
+
+  label-way : (l : List ℕ) (ls : List Label) (p : Path) → Each (λ x. N x.label × IsWay N x.path) ls → label_path l ls ≡ Some p → IsWay N p
+  label-way l [] p h e = absurd (cc)
+  label-way l (x ∷ xs) p h e = by-word (bytes_eq l x.label) e (label-way l xs p h.1) where
+    by-word : (b : Bool) → (if b then Some x.path else label_path l xs) ≡ Some p → (label_path l xs ≡ Some p → IsWay N p) → IsWay N p
+    by-word true e rest = let is : x.path ≡ p = cc in subst (IsWay N) is h.0.1
+    by-word false e rest = rest e
+
+  root-way : IsWay N []
+  root-way = (tt, omega arith)
+
+module _ {V : Type 0} (N : List ℕ → Type 0) where
+  node-added : (p : Path) (s : State V) → IsWay N p → IsNamed N s → IsNamed N (with_node p s)
+  node-added p s way k = record {
+    nodes = by-listed (is_listed p s.nodes);
+    properties = k.properties;
+    labels = k.labels;
+    keys = k.keys;
+    words = k.words;
+  } where
+    by-listed : (b : Bool) → Each (IsWay N) (if b then s.nodes else s.nodes ++ p ∷ [])
+    by-listed true = k.nodes
+    by-listed false = each-append (IsWay N) s.nodes (p ∷ []) k.nodes (way, tt)
+
+  node-removed : (p : Path) (s : State V) → IsNamed N s → IsNamed N (without_node p s)
+  node-removed p s k = by-listed (is_listed p s.nodes) where
+    gone : State V
+    gone = record s { nodes = filter (λ q. not (is_within p q)) s.nodes; properties = filter (λ e. not (is_within p e.path)) s.properties; labels = filter (λ l. not (is_within p l.path)) s.labels }
+
+    by-listed : (b : Bool) → IsNamed N (if b then gone else s)
+    by-listed true = record {
+      nodes = each-kept (IsWay N) (λ q. not (is_within p q)) s.nodes k.nodes;
+      properties = each-kept (λ e. N e.name) (λ e. not (is_within p e.path)) s.properties k.properties;
+      labels = each-kept (λ l. N l.label × IsWay N l.path) (λ l. not (is_within p l.path)) s.labels k.labels;
+      keys = pairs-kept HasOtherKey (λ e. not (is_within p e.path)) s.properties k.keys;
+      words = pairs-kept IsOtherWord (λ l. not (is_within p l.path)) s.labels k.words;
+    }
+    by-listed false = k
+
+  property-added : (p : Path) (n : List ℕ) (v : V) (s : State V) → N n → IsNamed N s → IsNamed N (with_property p n v s)
+  property-added p n v s name k = record {
+    nodes = k.nodes;
+    properties = put-each p n v (λ e. N e.name) s.properties name k.properties;
+    labels = k.labels;
+    keys = put-keys p n v s.properties k.keys;
+    words = k.words;
+  }
+
+  property-removed : (p : Path) (n : List ℕ) (s : State V) → IsNamed N s → IsNamed N (without_property p n s)
+  property-removed p n s k = record {
+    nodes = k.nodes;
+    properties = each-kept (λ e. N e.name) (λ e. not (is_of p n e)) s.properties k.properties;
+    labels = k.labels;
+    keys = pairs-kept HasOtherKey (λ e. not (is_of p n e)) s.properties k.keys;
+    words = k.words;
+  }
+
+  label-given : (l : List ℕ) (p : Path) (o : Option Path) (s t : State V) → label_path l s.labels ≡ o → N l → IsWay N p → IsNamed N s → give_label l p o s ≡ Ok t → IsNamed N t
+  label-given l p None s t is name way k e = subst (IsNamed N) (ok-is (with_label l p s) t e) (record {
+    nodes = k.nodes;
+    properties = k.properties;
+    labels = each-append (λ l. N l.label × IsWay N l.path) s.labels (labelled_at l p ∷ []) k.labels ((name, way), tt);
+    keys = k.keys;
+    words = pairs-last IsOtherWord s.labels (labelled_at l p) k.words (new-word l s.labels is);
+  })
+  label-given l p (Some q) s t is name way k e = by-same (same_path p q) e where
+    by-same : (b : Bool) → (if b then Ok s else Err DuplicateLabel) ≡ Ok t → IsNamed N t
+    by-same true e = subst (IsNamed N) (ok-is s t e) k
+    by-same false e = absurd (cc)
+
+  labels-given : (ls : List (List ℕ)) (p : Path) (s t : State V) → Each N ls → IsWay N p → IsNamed N s → give_labels ls p s ≡ Ok t → IsNamed N t
+  labels-given [] p s t names way k e = subst (IsNamed N) (ok-is s t e) k
+  labels-given (l ∷ ls) p s t names way k e =
+      let a = did (give_label l p (label_path l s.labels) s) (give_labels ls p) t e in
+      labels-given ls p a.0 t names.1 way (label-given l p (label_path l s.labels) s a.0 refl names.0 way k a.1) a.2
+
+  -- ---- statements
+  mutual
+    entry-kept : (e : Entry V) (p : Path) (x y : Progress V) → IsNamedEntry N e → IsWay N p → IsNamed N x.state → after_entry e p x ≡ Ok y → IsNamed N y.state
+    entry-kept (Defines n v) p x y names way k e =
+        let z = progress (n ∷ x.properties) x.children (with_property p n v x.state) in
+        subst (λ (w : Progress V). IsNamed N w.state) (ok-is z y (not-refused (is_among n x.properties) DuplicateInBody (Ok z) y e).1) (property-added p n v x.state names k)
+    entry-kept (Undefines n) p x y names way k e =
+        subst (λ (w : Progress V). IsNamed N w.state) (ok-is (progress x.properties x.children (without_property p n x.state)) y e) (property-removed p n x.state k)
+    entry-kept (Removes n) p x y names way k e =
+        subst (λ (w : Progress V). IsNamed N w.state) (ok-is (progress x.properties x.children (without_node (p ++ n ∷ []) x.state)) y e) (node-removed (p ++ n ∷ []) x.state k)
+    entry-kept (Child ls n body) p x y names way k e =
+        let q = p ++ n ∷ [] in
+        let inner : State V → Result (Progress V) Fault = λ s. then_do (after_body body q (begun (with_node q s))) (λ t. Ok (progress x.properties (n ∷ x.children) t)) in
+        let a = did (give_labels ls q x.state) (λ s. unless (child_fault p n x.children s) (inner s)) y e in
+        let fits = no-fault (child_fault p n x.children a.0) (inner a.0) y a.2 in
+        let on = further N p n way names.1 (short p n x.children a.0 fits.0) in
+        let b = did (after_body body q (begun (with_node q a.0))) (λ t. Ok (progress x.properties (n ∷ x.children) t)) y fits.1 in
+        subst (λ (w : Progress V). IsNamed N w.state) (ok-is (progress x.properties (n ∷ x.children) b.0) y b.2)
+        (body-kept body q (begun (with_node q a.0)) b.0 names.2 on (node-added q a.0 on (labels-given ls q x.state a.0 names.0 on k a.1)) b.1)
+
+    body-kept : (b : Body V) (p : Path) (x : Progress V) (t : State V) → IsNamedBody N b → IsWay N p → IsNamed N x.state → after_body b p x ≡ Ok t → IsNamed N t
+    body-kept Done p x t names way k e = subst (IsNamed N) (ok-is x.state t e) k
+    body-kept (Then first others) p x t names way k e =
+        let a = did (after_entry first p x) (after_body others p) t e in
+        body-kept others p a.0 t names.1 way (entry-kept first p x a.0 names.0 way k a.1) a.2
+
+  -- ---- items
+  found-way : (t : Target) (s : State V) (p : Path) → IsNamed N s → found t s ≡ Ok p → IsWay N p
+  found-way (OfLabel l) s p k e = label-way N l s.labels p k.labels (label-found (label_path l s.labels) p e)
+  found-way (OfPath t) s p k e =
+      let f = path-found (has_node (path_names t) s) (path_names t) p e in
+      subst (IsWay N) f.1 (listed-so (IsWay N) (path_names t) ([] ∷ s.nodes) (root-way N, k.nodes) f.0)
+
+module _ (N : List ℕ → Type 0) where
+  item-kept : (i : Edit) (s t : State (List Piece)) → IsNamedEdit N i → IsNamed N s → after_item false i s ≡ Ok t → IsNamed N t
+  item-kept (Rooted body) s t names k e = body-kept N body [] (begun s) t names (root-way N) k e
+  item-kept (Deletes target) s t names k e =
+      let a = did (found target s) (λ p. if same_path p [] then Err ReservedName else Ok (without_node p s)) t e in
+      subst (IsNamed N) (ok-is (without_node a.0 s) t (not-refused (same_path a.0 []) ReservedName (Ok (without_node a.0 s)) t a.2).1) (node-removed N a.0 s k)
+  item-kept (Extends ls target body) s t names k e =
+      let a = did (found target s) (λ p. then_do (give_labels ls p s) (λ u. after_body body p (begun u))) t e in
+      let way = found-way N target s a.0 k a.1 in
+      let b = did (give_labels ls a.0 s) (λ u. after_body body a.0 (begun u)) t a.2 in
+      body-kept N body a.0 (begun b.0) t names.1 way (labels-given N ls a.0 s b.0 names.0 way k b.1) b.2
+
+  items-kept : (is : List Edit) (s t : State (List Piece)) → Each (IsNamedEdit N) is → IsNamed N s → after_items false is s ≡ Ok t → IsNamed N t
+  items-kept [] s t names k e = subst (IsNamed N) (ok-is s t e) k
+  items-kept (i ∷ is) s t names k e =
+      let a = did (after_item false i s) (after_items false is) t e in
+      items-kept is a.0 t names.1 (item-kept i s a.0 names.0 k a.1) a.2
+
+  -- all edits of an ordinary source
+  pub edits-named : (m : Meaning) (s : State (List Piece)) → m.plugin ≡ false → Each (IsNamedEdit N) m.items → edited m ≡ Ok s → IsNamed N s
+  edits-named m s ordinary names e =
+      items-kept m.items empty s names (record { nodes = tt; properties = tt; labels = tt; keys = tt; words = tt })
+      (ap (λ b. after_items b m.items empty) (sym ordinary) ∙ e)

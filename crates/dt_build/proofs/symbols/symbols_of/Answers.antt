@@ -1,0 +1,35 @@
+use Rattle.std.proofs.Common.{◌≡◌, ◌<◌, ◌∷◌, [], true, length, sym, ap, ◌∙◌, arith}
+use Rattle.dt_tree.specs.Name.{is_name}
+use Rattle.dt_meaning.specs.Names.{symbols_name}
+use Rattle.dt_assembly.specs.Lists.{defined_at}
+use Rattle.dt_draft.specs.Rows.{is_standing, label_at, node_path}
+use Rattle.dt_edit.specs.Said.{tree_of}
+use Rattle.dt_build.proofs.MakingLabels.{lawful-label, property-more, symbols-same}
+use Rattle.dt_build.proofs.MakingNodes.{each-of}
+use Rattle.dt_build.proofs.symbols.symbols_of.Goals as goal
+use Rattle.dt_build.proofs.symbols.symbols_of.Goals.{then-is_in_tree+in_ok-symbol_of+in_ok-push, else-is_in_tree}
+
+pub symbol_of-requires-clause-named : goal.symbol_of-requires-clause-named
+symbol_of-requires-clause-named c =
+    let d = c.args.prepared.now.draft in
+    let k = c.loop-row.row-index in
+    let rows = c.labels-row-items.ensures in
+    let below : k < length d.labels.items = omega (arith, c.loop-row-test.true, ap length rows) in
+    ap (λ rs. is_name (label_at rs k).label.now) rows
+    ∙ lawful-label (node_path d) (is_standing d) d.labels.items (each-of (λ l. is_name l.label ≡ true) (tree_of d).labels c.requires.named.labels) k below
+    (ap (λ rs. is_standing d (label_at rs k).node) (sym rows) ∙ sym c.is_in_tree.ensures ∙ c.if-is_in_tree.true)
+
+pub loop-row-preserved : goal.loop-row-preserved
+loop-row-preserved c =
+    let d = c.args.prepared.now.draft in
+    let rows = c.labels-row-items.result.now in
+    let k = c.loop-row.row-index in
+    elim c.if-is_in_tree.branch [
+      | then-is_in_tree+in_ok-symbol_of+in_ok-push w ↦
+          property-more (node_path d) (is_standing d) rows k c.loop-row-test.true (sym c.is_in_tree.ensures ∙ w.if-is_in_tree.true)
+          c.loop-row.symbols.items c.if-is_in_tree.symbols.items w.in_ok-symbol_of.field-0 c.loop-row.invariant w.in_ok-symbol_of.ensures
+          (ap (λ v. v.items) w.symbols-is ∙ w.in_ok-push.ensures.items)
+      | else-is_in_tree w ↦
+          ap (λ v. defined_at (symbols_name ∷ []) v.items) w.symbols-is ∙ c.loop-row.invariant
+          ∙ sym (symbols-same (node_path d) (is_standing d) rows k c.loop-row-test.true (sym c.is_in_tree.ensures ∙ w.if-is_in_tree.false))
+    ]

@@ -1,0 +1,18 @@
+-- What is made of a source that is prepared, where its values are short enough.
+use Rattle.std.specs.Prelude.{◌≡◌, ◌<◌, ◌≤◌, ◌-◌, ◌^◌, ℕ, Bool, Option, None, Some}
+use Rattle.dt_tree.specs.PathMap.{tree_map}
+use Rattle.dt_tree.specs.TreeData.{TreeData}
+use Rattle.dt_meaning.specs.Syntax.{Meaning}
+use Rattle.dt_meaning.specs.MapOf.{tree_map_of}
+use Rattle.dt_resolve.specs.declared.prepared.Prepared.{Prepared}
+use Rattle.dt_build.specs.Built.{size_in}
+use Rattle.dt_build.specs.Private.Made.{lists}
+
+-- the tree, which is no longer than a limit that numbers can pass
+pub record IsFittingTree (symbols : Bool) (m : Meaning) (p : Prepared) (limit : ℕ) (t : TreeData) : Type 0 where
+  pub map : tree_map t ≡ tree_map_of m (lists symbols p)
+  pub fits : limit < 2 ^ 64 - 1 → size_in (lists symbols p).properties ≤ limit
+
+abbrev pub IsFitting : Bool → Meaning → Prepared → ℕ → Option TreeData → Type 0
+IsFitting symbols m p limit (Some t) = IsFittingTree symbols m p limit t
+IsFitting symbols m p limit None = limit < size_in (lists symbols p).properties

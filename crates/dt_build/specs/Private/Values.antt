@@ -1,0 +1,42 @@
+-- Values whose references have targets (Devicetree Specification v0.4, section 6.3).
+use Rattle.std.specs.Prelude.{ℕ, ◌+◌, List, [], ◌∷◌, drop, slice_index_or}
+use Rattle.dt_source.specs.declared.tree.Part.{Part}
+use Rattle.dt_source.specs.declared.tree.Part.TheVariants as parts
+use Rattle.dt_meaning.specs.Paths.{Path}
+use Rattle.dt_meaning.specs.Edits.{Definition, definition}
+use Rattle.dt_meaning.specs.References.{Found, Bytes, Cell, Way}
+use Rattle.dt_meaning.specs.Fixups.{value_bytes}
+use Rattle.dt_meaning.specs.Phandles.{Number}
+use Rattle.dt_layout.specs.declared.properties.Laid.{Laid}
+use Rattle.dt_edit.specs.Said.{Parts}
+
+-- how many targets a part has, and a value
+abbrev pub uses : Part → ℕ
+uses (parts.Bytes b) = 0
+uses (parts.Phandle t) = 1
+uses (parts.Path t) = 1
+
+abbrev pub all_uses : List Part → ℕ
+all_uses [] = 0
+all_uses (x ∷ xs) = uses x + all_uses xs
+
+-- a part whose target is the node n
+abbrev pub found_of : (ℕ → Path) → Part → ℕ → Found
+found_of path (parts.Bytes b) n = Bytes b.items
+found_of path (parts.Phandle t) n = Cell (path n)
+found_of path (parts.Path t) n = Way (path n)
+
+-- a value whose targets are the first of these
+abbrev pub founds_of : (ℕ → Path) → List Part → List ℕ → List Found
+founds_of path [] ts = []
+founds_of path (x ∷ xs) ts = found_of path x (slice_index_or ts 0 0) ∷ founds_of path xs (drop (uses x) ts)
+
+-- the properties of one node, with their bytes
+abbrev pub run_of : List Number → (ℕ → Path) → Path → List (Laid Parts) → List ℕ → List (Definition (List ℕ))
+run_of ns path q [] ts = []
+run_of ns path q (x ∷ xs) ts = definition q x.name.now (value_bytes ns (founds_of path x.value.now ts)) ∷ run_of ns path q xs (drop (all_uses x.value.now) ts)
+
+-- how many targets they have
+abbrev pub run_uses : List (Laid Parts) → ℕ
+run_uses [] = 0
+run_uses (x ∷ xs) = all_uses x.value.now + run_uses xs
