@@ -1,0 +1,83 @@
+-- A text in parts, each of which stands where it is.
+use Rattle.std.proofs.Common.{◌≡◌, ℕ, zero, suc, ◌+◌, ◌<◌, ◌≤◌, true, List, [], ◌∷◌, ◌++◌, length, take, Option, Some, None, refl, sym, ap, subst, ◌∙◌, arith, append_assoc, length-append}
+use Rattle.std.specs.List.{list_all}
+use Rattle.std.proofs.lemmas.Bool.{and_parts}
+use Rattle.std.proofs.Math.Seq.{take-append_seam, drop-append_seam}
+use Rattle.dt_lexeme.specs.declared.lexeme.Lexeme.{Lexeme}
+use Rattle.dt_lexeme.specs.declared.lexeme.Kind.{Kind}
+use Rattle.dt_lexeme.specs.declared.place.Place.{Place}
+use Rattle.dt_lexeme.specs.Bytes.{is_blank}
+use Rattle.dt_lexeme.specs.Gaps.{blank, nothing, IsGap, NoGap}
+use Rattle.dt_lexeme.specs.Families.{IsLongest, kind_of}
+use Rattle.dt_lexeme.specs.Places.{step}
+use Rattle.dt_lexeme.specs.Lexemes.{Left}
+use Rattle.dt_canonical.specs.Private.Lexed.{Segment, Blanks, Word, bytes_of, written, placed}
+
+-- ---- parts behind parts
+
+pub written_append : (a b : List Segment) → written (a ++ b) ≡ written a ++ written b
+unfolding written
+written_append [] b = refl
+written_append (s ∷ a) b = ap (λ (t : List ℕ). bytes_of s ++ t) (written_append a b) ∙ sym (append_assoc (bytes_of s) (written a) (written b))
+
+-- ---- blanks in front
+
+blank_gap : (b : ℕ) (t s : List ℕ) → is_blank b ≡ true → IsGap t s → IsGap (b ∷ t) s
+blank_gap b t s e h = record { gap = blank e h.gap; over = h.over }
+
+pub left_blank : (total : ℕ) (place : Place) (b : ℕ) (t : List ℕ) (ls : List Lexeme) → is_blank b ≡ true → Left total place t ls → Left total place (b ∷ t) ls
+unfolding Left
+left_blank total place b t [] e h = blank_gap b t [] e h
+left_blank total place b t (l ∷ ls) e (s, n, gap, longest, from, to, more) = (s, n, blank_gap b t s e gap, longest, from, to, more)
+
+pub left_blanks : (total : ℕ) (place : Place) (bs t : List ℕ) (ls : List Lexeme) → list_all is_blank bs ≡ true → Left total place t ls → Left total place (bs ++ t) ls
+left_blanks total place [] t ls e h = h
+left_blanks total place (b ∷ bs) t ls e h =
+    let p = and_parts (is_blank b) (list_all is_blank bs) e in
+    left_blank total place b (bs ++ t) ls p.0 (left_blanks total place bs t ls p.1 h)
+
+-- ---- the longest lexeme
+
+-- With this text's first byte and more behind them the bytes are no lexeme.
+abbrev pub Ends : (List ℕ → Option Kind) → List ℕ → List ℕ → Type 0
+Ends f bs [] = Unit {0}
+Ends f bs (c ∷ t) = (u : List ℕ) → f (bs ++ c ∷ u) ≡ None
+
+take_more : (f : List ℕ → Option Kind) (bs t : List ℕ) → Ends f bs t → (m : ℕ) → length bs < m → m ≤ length (bs ++ t) → f (take m (bs ++ t)) ≡ None
+take_more f [] [] h m lt le = absurd (omega arith)
+take_more f [] (c ∷ t) h zero lt le = absurd (omega arith)
+take_more f [] (c ∷ t) h (suc m) lt le = h (take m t)
+take_more f (b ∷ bs) t h zero lt le = absurd (omega arith)
+take_more f (b ∷ bs) t h (suc m) lt le = take_more (λ u. f (b ∷ u)) bs t (further t h) m (omega arith) (omega arith)
+  where
+    further : (t : List ℕ) → Ends f (b ∷ bs) t → Ends (λ u. f (b ∷ u)) bs t
+    further [] h = tt
+    further (c ∷ t) h = h
+
+pub longest_of : (f : List ℕ → Option Kind) (bs t : List ℕ) (k : Kind) → f bs ≡ Some k → Ends f bs t → IsLongest f (bs ++ t) k (length bs)
+longest_of f bs t k e h = record { within = omega (arith, length-append bs t); is = ap f (take-append_seam bs t) ∙ e; longest = take_more f bs t h }
+
+-- ---- each part stands
+
+-- These bytes are a lexeme at this place, behind no gap, and with what is behind them they are none.
+pub record Here (place : Place) (k : Kind) (bs t : List ℕ) : Type 0 where
+  pub over : NoGap (bs ++ t)
+  pub is : kind_of place bs ≡ Some k
+  pub ends : Ends (kind_of place) bs t
+
+-- From this place on the parts are blanks and the lexemes that they are said to be, with this text behind them.
+unfoldable pub Stands : Place → List Segment → Type 0
+Stands place [] = Unit {0}
+Stands place (Blanks bs ∷ ss) = (list_all is_blank bs ≡ true) × Stands place ss
+Stands place (Word k bs ∷ ss) = Here place k bs (written ss) × Stands (step place k) ss
+
+-- Parts that stand are the lexemes of their text.
+pub lexed : (total p : ℕ) (place : Place) (ss : List Segment) → Stands place ss → p + length (written ss) ≡ total → Left total place (written ss) (placed p ss)
+unfolding written placed Left Stands
+lexed total p place [] h e = record { gap = nothing; over = record { blank = refl; line = refl; comment = refl } }
+lexed total p place (Blanks bs ∷ ss) h e =
+    left_blanks total place bs (written ss) (placed (p + length bs) ss) h.0 (lexed total (p + length bs) place ss h.1 (omega (arith, e, length-append bs (written ss))))
+lexed total p place (Word k bs ∷ ss) h e =
+    let n = length-append bs (written ss) in
+    let next = lexed total (p + length bs) (step place k) ss h.1 (omega (arith, e, n)) in
+    (bs ++ written ss, length bs, record { gap = nothing; over = h.0.over }, longest_of (kind_of place) bs (written ss) k h.0.is h.0.ends, omega (arith, e), omega (arith, e), subst (λ (t : List ℕ). Left total (step place k) t (placed (p + length bs) ss)) (sym (drop-append_seam bs (written ss))) next)

@@ -1,0 +1,4 @@
+pub mod Bytes
+pub mod Conditions
+pub mod Private
+pub mod SourceOf
