@@ -11,6 +11,8 @@ if [ "${1:-}" != often ]; then
 fi
 for plan in "$inputs"/*.plan; do
 	for workers in 2 64; do
-		printf '%-10s by %2d: %s\n' "$(basename "$plan" .plan)" "$workers" "$(timeout 600 "$program" "$plan" "$workers" 1000 0 || echo 'did not end')"
+		for way in "" locked; do
+			printf '%-10s by %2d %-6s %s\n' "$(basename "$plan" .plan)" "$workers" "$way:" "$(timeout 600 "$program" "$plan" "$workers" 1000 0 $way || echo 'did not end')"
+		done
 	done
 done

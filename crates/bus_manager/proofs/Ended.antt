@@ -1,13 +1,17 @@
 -- What a quiet keeper says at the end.
-use Rattle.std.proofs.Common.{◌≡◌, ℕ, ◌<◌, true, List, ◌++◌, Option, length, cond, ap, ap₂, ◌∙◌, arith}
+use Rattle.std.proofs.Common.{◌≡◌, ℕ, ◌<◌, true, List, ◌++◌, Option, length, cond, refl, ap, ap₂, ◌∙◌, arith}
 use Rattle.std.specs.Prelude.{codes}
 use Rattle.bus_plan.specs.Plan.{PlannedDevice}
 use Rattle.bus_core.specs.CoreState.{CoreState}
 use Rattle.bus_core.specs.Due.{is_quiet}
 use Rattle.bus_core.specs.History.{bound_in, IsBusHistory}
-use Rattle.bus_core.specs.Report.{line_of, status_of, end_status, report_text, IsEndReport}
+use Rattle.bus_core.specs.Report.{line_of, status_of, end_status, end_text, report_text, IsEndReport}
 use Rattle.bus_core.proofs.LeastLemmas.{quiet-least, quiet-status, end-one}
 use Rattle.bus_core.proofs.Lists.{flat_map_same}
+use Rattle.bus_board.specs.Ends.{EndsAs}
+use Rattle.bus_board.specs.declared.view.View.{View}
+use Rattle.bus_board.specs.declared.words.Word.{Word}
+use Rattle.bus_manager.specs.BoardEnd.{bound_by_words}
 use Rattle.bus_manager.specs.Notes.{has_settled, has_note, AreNotes}
 use Rattle.bus_manager.specs.Run.{IsRun}
 
@@ -28,5 +32,19 @@ run-ended attests plan s report notes steps quiet text are noted =
       one = λ other said. end-one plan other report said ends;
       places = are.places;
       noted = λ d within. noted d within ∙ ap has_settled (quiet-status plan s steps quiet d within);
+      attested = are.attested;
+    }
+
+-- what a quiet board says at the end
+pub quiet-run : {N : Type 0} (attests : ℕ → N → Type 0) (plan : List PlannedDevice) (words : List Word) (report : List ℕ) (notes : List (Option N)) (v : View)
+    → EndsAs plan v words true → report ≡ end_text plan (bound_by_words words) → AreNotes attests plan notes
+    → ((d : ℕ) → d < length plan → has_note notes d ≡ has_settled (end_status plan (bound_by_words words) d)) → IsRun attests plan report notes
+quiet-run attests plan words report notes v e text are noted =
+    let ends : IsEndReport plan report = record { bound = bound_by_words words; least = e.least refl; text_is = text }
+    in record {
+      ends = ends;
+      one = λ other said. end-one plan other report said ends;
+      places = are.places;
+      noted = noted;
       attested = are.attested;
     }

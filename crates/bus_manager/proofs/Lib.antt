@@ -1,3 +1,4 @@
+pub mod FlyingLemmas
 pub mod ReplayEnd
 pub mod Begins
 pub mod Bounds

@@ -1,5 +1,7 @@
 pub mod Alone
+pub mod BoardEnd
 pub mod Events
+pub mod Flying
 pub mod Keeper
 pub mod KeeperView
 pub mod Notes

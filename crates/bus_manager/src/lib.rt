@@ -1,13 +1,17 @@
-//! Workers that probe the devices of a plan side by side, with one lock round the probing core.
+//! Workers that probe the devices of a plan side by side: over a board, or with one lock round the probing core.
 #![tactic(auto)]
 
 mod alone;
+mod boarded;
+mod end_report;
+mod flying;
 mod keeper;
 mod manager;
 mod notes;
 mod prober;
 mod run_error;
 mod running;
+mod seats;
 mod seen;
 mod table_prober;
 mod worker;
@@ -17,6 +21,6 @@ pub use manager::{Manager, PlanName};
 pub use notes::Ran;
 pub use prober::Prober;
 pub use run_error::RunError;
-pub use running::{MAX_WORKERS, run};
+pub use running::{MAX_WORKERS, run, run_locked};
 pub use seen::Seen;
 pub use table_prober::TableProber;

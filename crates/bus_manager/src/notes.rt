@@ -54,8 +54,8 @@ pub fn place<P: Prober>(
     }
 }
 
-// Puts what one worker found into its places.
-fn place_some<P: Prober>(
+/// Puts what one worker found into its places.
+pub fn place_some<P: Prober>(
     plan: &Plan,
     prober: &P,
     notes: &mut Vec<Option<P::Note>>,
@@ -86,14 +86,15 @@ fn place_one<P: Prober>(
     }
 }
 
-fn has_settled(status: Status) -> bool
+/// Whether it is bound or failed.
+pub fn has_settled(status: Status) -> bool
     ensures { result ≡ has_settled status }
 {
     matches!(status, Status::Bound | Status::Failed)
 }
 
-// Leaves a note of a device that has settled, by a probe where none came, and none of another.
-fn settle_note<P: Prober>(
+/// Leaves a note of a device that has settled, by a probe where none came, and none of another.
+pub fn settle_note<P: Prober>(
     plan: &Plan,
     prober: &P,
     notes: &mut Vec<Option<P::Note>>,

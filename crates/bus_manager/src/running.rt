@@ -1,11 +1,12 @@
-//! A run by many workers.
+//! Runs by many workers, over a board or with a lock.
 
-ghost use Rattle.std.specs.Prelude.{◌≡◌, ◌<◌, ◌⊎◌, ◌↔◌, IfOk, IfErr, Some};
+ghost use Rattle.std.specs.Prelude.{◌≡◌, ◌<◌, ◌≤◌, ◌⊎◌, ◌↔◌, true, false, IfOk, IfErr, Some};
 ghost use Rattle.std.specs.Result.{result_err};
 ghost use Rattle.bus_core.specs.declared.refusal.Refusal.TheVariants.{NoMemory as OutOfMemory};
 ghost use Rattle.bus_manager.specs.Run.{IsRun};
 
 use crate::alone::finish_alone;
+use crate::boarded::run_boarded;
 use crate::keeper::Keeper;
 use crate::manager::{Manager, PlanName};
 use crate::notes::{Ran, no_notes, place};
@@ -22,8 +23,18 @@ use std::thread::Threads;
 /// The most workers of a run.
 pub const MAX_WORKERS: usize = 64;
 
-/// Probes the devices of a plan by so many workers, 1 to 64, until nothing is due. The report is the same for every
-/// interleaving. Memory may run out for a worker: then it leaves, and the others, at last the caller alone, go on.
+fn is_allowed(workers: usize) -> bool
+    ensures yes { result ≡ true → (0 < workers) × (workers ≤ MAX_WORKERS) }
+    ensures no { result ≡ false → (workers ≡ 0) ⊎ (MAX_WORKERS < workers) }
+{
+    if workers == 0 {
+        return false;
+    }
+    workers <= MAX_WORKERS
+}
+
+/// Probes the devices of a plan by so many workers, 1 to 64, over a board: no worker waits for another. The report is the
+/// same for every interleaving. Where memory runs out for a worker it leaves, and the others, at last the caller alone, go on.
 pub fn run<P: Prober, R: Threads + Wait + Sync>(
     rt: &R,
     alloc: Global,
@@ -34,10 +45,27 @@ pub fn run<P: Prober, R: Threads + Wait + Sync>(
     ensures ran { IfOk result (λ ran. IsRun (P.attests prober.now plan.now) plan.now ran.report.items ran.notes.items) }
     ensures many { (result_err result ≡ Some RunError.TooManyWorkers) ↔ ((workers ≡ 0) ⊎ (MAX_WORKERS < workers)) }
 {
-    if workers == 0 {
+    if !is_allowed(workers) {
         return Err(RunError::TooManyWorkers);
     }
-    if workers > MAX_WORKERS {
+    match run_boarded(rt, alloc, plan, prober, workers) {
+        Ok(ran) => Ok(ran),
+        Err(refusal) => Err(by_memory(refusal)),
+    }
+}
+
+/// The same with one lock round the core, on which a worker may wait for another to finish.
+pub fn run_locked<P: Prober, R: Threads + Wait + Sync>(
+    rt: &R,
+    alloc: Global,
+    plan: &Plan,
+    prober: &P,
+    workers: usize,
+) -> Result<Ran<P::Note>, RunError>
+    ensures ran { IfOk result (λ ran. IsRun (P.attests prober.now plan.now) plan.now ran.report.items ran.notes.items) }
+    ensures many { (result_err result ≡ Some RunError.TooManyWorkers) ↔ ((workers ≡ 0) ⊎ (MAX_WORKERS < workers)) }
+{
+    if !is_allowed(workers) {
         return Err(RunError::TooManyWorkers);
     }
     match run_named::<Brand, P, R>(rt, alloc, plan, prober, workers) {
@@ -46,7 +74,7 @@ pub fn run<P: Prober, R: Threads + Wait + Sync>(
     }
 }
 
-// A run's keeper refuses nothing else: its begins are far from used up.
+// A run is refused nothing else: a keeper's begins are far from used up.
 fn by_memory(_refusal: Refusal) -> RunError
     requires { _refusal ≡ OutOfMemory }
     ensures { result ≡ RunError.NoMemory }
@@ -54,7 +82,7 @@ fn by_memory(_refusal: Refusal) -> RunError
     RunError::NoMemory
 }
 
-// A run over the plan of this name.
+// A run with a lock, over the plan of this name.
 fn run_named<J: PlanName + Send + Sync, P: Prober, R: Threads + Wait + Sync>(
     rt: &R,
     alloc: Global,

@@ -47,4 +47,12 @@ impl Seen {
     {
         self.places[device.index()] = true;
     }
+
+    /// Says whether a device is in the set.
+    pub(crate) fn put(&mut self, device: Device, is_bound: bool)
+        requires { device < length self.old }
+        ensures { self.new ≡ slice_set self.old device is_bound }
+    {
+        self.places[device.index()] = is_bound;
+    }
 }

@@ -3,13 +3,38 @@
 ghost use Rattle.std.specs.Prelude.{◌≡◌};
 
 use bus_core::Report;
-use bus_manager::{MAX_WORKERS, Prober, Ran, RunError, Seen, TableProber, run};
+use bus_manager::{MAX_WORKERS, Prober, Ran, RunError, Seen, TableProber, run, run_locked};
 use bus_plan::{Device, Plan, read_plan};
 use std::alloc::Global;
 use std::hash::RandomState;
 use std::process::Abort;
+use std::sync::Wait;
 use std::sync::atomic::{AtomicU64, Ordering};
 use std::test::Fail;
+use std::thread::Threads;
+
+// The two ways of a run.
+#[derive(Clone, Copy, Debug, PartialEq, Eq)]
+enum Way {
+    Board,
+    Lock,
+}
+
+const WAYS: [Way; 2] = [Way::Board, Way::Lock];
+
+fn run_by<P: Prober, R: Threads + Wait + Sync>(
+    way: Way,
+    rt: &R,
+    alloc: Global,
+    plan: &Plan,
+    prober: &P,
+    workers: usize,
+) -> Result<Ran<P::Note>, RunError> {
+    match way {
+        Way::Board => run(rt, alloc, plan, prober, workers),
+        Way::Lock => run_locked(rt, alloc, plan, prober, workers),
+    }
+}
 
 const CLOCK_AND_UART: &str = "/clk fixed ok\n/uart ns ok /clk\n";
 
@@ -59,9 +84,11 @@ fn runs(rt: HostRuntime) -> Result<(), Fail> {
     let hasher = RandomState::new(&rt)?;
     for (name, text, report, settled) in ROWS {
         let plan = read_plan(rt.alloc(), hasher, text.as_bytes())?;
-        for workers in [1, 2, MAX_WORKERS] {
-            let ran = run(&rt, rt.alloc(), &plan, &TableProber, workers)?;
-            has_run(&rt, name, &ran, report, settled);
+        for way in WAYS {
+            for workers in [1, 2, MAX_WORKERS] {
+                let ran = run_by(way, &rt, rt.alloc(), &plan, &TableProber, workers)?;
+                has_run(&rt, name, &ran, report, settled);
+            }
         }
     }
     Ok(())
@@ -70,12 +97,14 @@ fn runs(rt: HostRuntime) -> Result<(), Fail> {
 #[test]
 fn refuses_other_numbers_of_workers(rt: HostRuntime) -> Result<(), Fail> {
     let plan = read_plan(rt.alloc(), RandomState::new(&rt)?, b"/a x ok\n")?;
-    for workers in [0, 65, usize::MAX] {
-        match run(&rt, rt.alloc(), &plan, &TableProber, workers) {
-            Ok(_) => return Err("it ran".into()),
-            Err(refusal) => {
-                assert_eq!(rt; refusal, RunError::TooManyWorkers);
-                assert_eq!(rt; (refusal.number(), refusal.name()), (70, "TooManyWorkers"));
+    for way in WAYS {
+        for workers in [0, 65, usize::MAX] {
+            match run_by(way, &rt, rt.alloc(), &plan, &TableProber, workers) {
+                Ok(_) => return Err("it ran".into()),
+                Err(refusal) => {
+                    assert_eq!(rt; refusal, RunError::TooManyWorkers);
+                    assert_eq!(rt; (refusal.number(), refusal.name()), (70, "TooManyWorkers"));
+                }
             }
         }
     }
@@ -115,15 +144,18 @@ impl Prober for Gate {
     }
 }
 
-#[test]
-fn gate_two_probes(rt: HostRuntime) -> Result<(), Fail> {
-    let plan = read_plan(rt.alloc(), RandomState::new(&rt)?, b"/a x ok\n/b y ok\n")?;
+fn probes_overlap<R: Threads + Wait + Sync + Abort>(
+    way: Way,
+    rt: &R,
+    alloc: Global,
+    plan: &Plan,
+) -> Result<(), Fail> {
     let gate = Gate {
         begun: AtomicU64::new(0),
         answered: AtomicU64::new(0),
         let_go_at: AtomicU64::new(0),
     };
-    let ran = run(&rt, rt.alloc(), &plan, &gate, 2)?;
+    let ran = run_by(way, rt, alloc, plan, &gate, 2)?;
     let report = "/a bound x\n/b bound y\nquiet\n";
     assert_eq!(rt; ran.report.as_slice(), report.as_bytes());
     assert_eq!(rt; gate.answered.load(Ordering::SeqCst), 2);
@@ -132,6 +164,15 @@ fn gate_two_probes(rt: HostRuntime) -> Result<(), Fail> {
         1,
         "the probes overlap"
     );
+    Ok(())
+}
+
+#[test]
+fn gate_two_probes(rt: HostRuntime) -> Result<(), Fail> {
+    let plan = read_plan(rt.alloc(), RandomState::new(&rt)?, b"/a x ok\n/b y ok\n")?;
+    for way in WAYS {
+        probes_overlap(way, &rt, rt.alloc(), &plan)?;
+    }
     Ok(())
 }
 
@@ -163,7 +204,8 @@ fn one_report_by_any_workers(rt: HostRuntime) -> Result<(), Fail> {
     let first = run(&rt, rt.alloc(), &plan, &TableProber, 1)?;
     for round in 0..200usize {
         let workers = 1 + round % MAX_WORKERS;
-        let ran = run(&rt, rt.alloc(), &plan, &TableProber, workers)?;
+        let way = WAYS[round % 2];
+        let ran = run_by(way, &rt, rt.alloc(), &plan, &TableProber, workers)?;
         assert_eq!(rt;
             ran.report.as_slice(),
             first.report.as_slice(),

@@ -1,0 +1,12 @@
+pub mod Allowed
+pub mod Calls
+pub mod Endings
+pub mod Histories
+pub mod Landings
+pub mod Moves
+pub mod Paying
+pub mod Seats
+pub mod Sums
+pub mod Tied
+pub mod Turns
+pub mod Walks

@@ -1,0 +1,129 @@
+-- The claims of one walk over the devices.
+use Rattle.std.proofs.Common.{◌≡◌, ◌≢◌, ℕ, suc, ◌+◌, ◌<◌, ◌≤◌, true, List, [], ◌∷◌, ◌++◌, length, Option, Some, None, refl, sym, ap, ◌∙◌, subst, arith, append_assoc, eqb}
+use mathlib.Core.Option.{none}
+use prog.Atomic.{either}
+use Rattle.atomic_table.specs.Table.{Allows, Me, step}
+use Rattle.bus_plan.specs.Plan.{PlannedDevice, suppliers_of}
+use Rattle.bus_core.specs.History.{IsBusHistory}
+use Rattle.bus_board.proofs.Allowed.{claim_allowed}
+use Rattle.bus_board.proofs.Histories.{front_trans, front_whole}
+use Rattle.bus_board.proofs.Moves.{Kind}
+use Rattle.bus_board.proofs.Tied.{same_made}
+use Rattle.bus_board.specs.Learns.{Claimed, Passed, tries, tries_before}
+use Rattle.bus_board.specs.Lists.{Among}
+use Rattle.bus_board.specs.Outcomes.{History, IsFront}
+use Rattle.bus_board.specs.Private.Ties.{Carries, IsTied, looks_at}
+use Rattle.bus_board.specs.Rule.{Holds}
+use Rattle.bus_board.specs.Steps.{Claims}
+use Rattle.bus_board.specs.Views.{claimed_by, made, passed_all}
+use Rattle.bus_board.specs.declared.flight.Open.{Open}
+use Rattle.bus_board.specs.declared.view.View.{View}
+
+abbrev M : Type 0
+M = Me (Unit {0}) View
+
+-- how far a walk has come: these claims were lost, and nothing else changed
+pub record Walk (v : View) (m : M) (lost : List (ℕ × ℕ)) : Type 0 where
+  pub log : History
+  pub view : m.0 ≡ passed_all v log lost
+  pub front : IsFront v.seen log
+  pub lawful : IsBusHistory v.plan log
+  pub same_made : made m.0 ≡ made v
+  pub live : m.0.live ≡ true
+  pub idle : m.0.flight ≡ None
+
+pairs-nil : (xs : List (ℕ × ℕ)) → xs ++ [] ≡ xs
+pairs-nil [] = refl
+pairs-nil (x ∷ xs) = ap (λ (l : List (ℕ × ℕ)). x ∷ l) (pairs-nil xs)
+
+pub walk_start : (m : M) → m.0.live ≡ true → m.0.flight ≡ None → IsBusHistory m.0.plan m.0.seen → Walk m.0 m []
+walk_start m live idle lawful = record {
+  log = m.0.seen;
+  view = passed_none m.0;
+  front = front_whole m.0.seen;
+  lawful = lawful;
+  same_made = refl;
+  live = live;
+  idle = idle;
+}
+  where
+    passed_none : (v : View) → v ≡ passed_all v v.seen []
+    passed_none v = λ i. record { live = v.live; plan = v.plan; seen = v.seen; told = v.told; mine = v.mine; flight = v.flight; claimed = v.claimed; passed = sym (pairs-nil v.passed) i; owed = v.owed }
+
+pub walk_claims : (key : List PlannedDevice) (slots id : ℕ) (v : View) (m : M) (lost : List (ℕ × ℕ)) (d old new : ℕ) → Kind old new → Walk v m lost → d < length key
+    → Allows (Holds key) slots id m d (λ n. either (eqb n old) new n) (Claims (step slots d old new none) m)
+walk_claims key slots id v m lost d old new kind w inside = claim_allowed key slots id m d old new kind inside w.live w.idle
+
+-- a claim was lost
+pub walk_lost : (v : View) (m n : M) (slots d old new r : ℕ) (lost : List (ℕ × ℕ)) → Walk v m lost → Claims (step slots d old new none) m r n → r ≢ old → Walk v n (lost ++ (d, old) ∷ [])
+walk_lost v m n slots d old new r lost w told miss =
+    let is : n.0 ≡ passed_all m.0 told.log ((d, old) ∷ []) = told.lost miss in
+    let was : m.0 ≡ passed_all v w.log lost = w.view in
+    let whole : passed_all (passed_all v w.log lost) told.log ((d, old) ∷ []) ≡ passed_all v told.log (lost ++ (d, old) ∷ []) = λ i. record {
+      live = v.live;
+      plan = v.plan;
+      seen = told.log;
+      told = v.told;
+      mine = v.mine;
+      flight = v.flight;
+      claimed = v.claimed;
+      passed = append_assoc v.passed lost ((d, old) ∷ []) i;
+      owed = v.owed;
+    } in
+    record {
+      log = told.log;
+      view = is ∙ ap (λ (u : View). passed_all u told.log ((d, old) ∷ [])) was ∙ whole;
+      front = front_trans v.seen m.0.seen told.log (subst (IsFront v.seen) (sym (ap (λ (u : View). u.seen) was)) w.front) told.sees.seen;
+      lawful = subst (λ (p : List PlannedDevice). IsBusHistory p told.log) (ap (λ (u : View). u.plan) was) told.sees.lawful;
+      same_made = ap made is ∙ same_made m.0 told.log told.sees ∙ w.same_made;
+      live = ap (λ (u : View). u.live) is ∙ w.live;
+      idle = ap (λ (u : View). u.flight) is ∙ w.idle;
+    }
+
+-- the claim was won
+pub walk_won : (v : View) (m n : M) (slots d old new r : ℕ) → Kind old new → d < length v.plan → Walk v m (tries_before d old) → Claims (step slots d old new none) m r n → r ≡ old → Claimed v n.0 d
+walk_won v m n slots d old new r kind inside w told hit =
+    let is : n.0 ≡ claimed_by m.0 told.log d old = told.won hit in
+    let was : m.0 ≡ passed_all v w.log (tries_before d old) = w.view in
+    record {
+      log = told.log;
+      from = old;
+      from_is = kind.fresh;
+      inside = inside;
+      new = subst (λ (u : View). ¬ Among u.claimed d old) was (told.new hit);
+      view = is ∙ ap (λ (u : View). claimed_by u told.log d old) was;
+      front = front_trans v.seen m.0.seen told.log (subst (IsFront v.seen) (sym (ap (λ (u : View). u.seen) was)) w.front) told.sees.seen;
+      lawful = subst (λ (p : List PlannedDevice). IsBusHistory p told.log) (ap (λ (u : View). u.plan) was) told.sees.lawful;
+      made = ap made is ∙ same_made m.0 told.log told.sees ∙ w.same_made;
+    }
+
+-- one device more was passed
+pub walk_on : (v : View) (m : M) (d : ℕ) → Walk v m ((tries d ++ (d, 0) ∷ []) ++ (d, 3) ∷ []) → Walk v m (tries (d + 1))
+walk_on v m d w = subst (Walk v m) (append_assoc (tries d) ((d, 0) ∷ []) ((d, 3) ∷ []) ∙ ap tries (let e : suc d ≡ d + 1 = omega arith in e)) w
+
+pub walk_end : (v : View) (m : M) (n : ℕ) → Walk v m (tries n) → n ≡ length v.plan → Passed v m.0
+walk_end v m n w all = record { log = w.log; view = w.view ∙ ap (λ (k : ℕ). passed_all v w.log (tries k)) all; front = w.front; lawful = w.lawful; made = w.same_made }
+
+-- the flight of a claim, and the seat's fields for it
+pub claimed_tie : (m n : M) (d : ℕ) (x : Open) (p : List PlannedDevice) (open_flight : Option Open) (owed : List ℕ) (count room more : ℕ) → IsTied m open_flight owed count room → m.0.plan ≡ p → n.1 ≡ m.1
+    → Claimed m.0 n.0 d → x.device ≡ d → x.looks.items ≡ looks_at [] (suppliers_of p d) → count + length p ≤ more → IsTied n (Some x) owed count more
+claimed_tie m n d x p open_flight owed count room more was plan same c device is roomy = record {
+  slots = same ∙ was.slots;
+  live = ap (λ (v : View). v.live) c.view ∙ was.live;
+  lawful = subst (λ (v : View). IsBusHistory v.plan v.seen) (sym c.view) c.lawful;
+  flight = subst (λ (v : View). Carries v.plan v.flight (Some x)) (sym c.view) (c.inside, device, is ∙ ap (λ (q : List PlannedDevice). looks_at [] (suppliers_of q d)) (sym plan));
+  debts = ap (λ (v : View). v.owed) c.view ∙ was.debts;
+  within = λ i lt. omega (arith, was.within i lt, ap (λ (v : View). length v.plan) c.view);
+  roomy = λ _. omega (arith, roomy, ap (length {A = PlannedDevice}) plan, ap (λ (v : View). length v.plan) c.view);
+}
+
+pub passed_tie : (m n : M) (owed : List ℕ) (count room more : ℕ) → IsTied m None owed count room → n.1 ≡ m.1 → Passed m.0 n.0 → IsTied n None owed count more
+passed_tie m n owed count room more was same c = record {
+  slots = same ∙ was.slots;
+  live = ap (λ (v : View). v.live) c.view ∙ was.live;
+  lawful = subst (λ (v : View). IsBusHistory v.plan v.seen) (sym c.view) c.lawful;
+  flight = subst (λ (v : View). Carries v.plan v.flight None) (sym c.view) was.flight;
+  debts = ap (λ (v : View). v.owed) c.view ∙ was.debts;
+  within = λ i lt. omega (arith, was.within i lt, ap (λ (v : View). length v.plan) c.view);
+  roomy = λ flying. absurd (flying refl);
+}

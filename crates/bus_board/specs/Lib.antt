@@ -1,0 +1,10 @@
+pub mod Ends
+pub mod Learns
+pub mod Lists
+pub mod Outcomes
+pub mod Private
+pub mod Rule
+pub mod Shown
+pub mod Steps
+pub mod Views
+pub mod Words

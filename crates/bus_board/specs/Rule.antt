@@ -1,0 +1,74 @@
+-- What holds of a board between any two steps, over the words and all views: the seven clauses of the board.
+-- FRESH 0, TRYING 1, WAITING 2, WOKEN 3, RETRYING 4, BOUND 5, FAILED 6, UNMATCHED 7.
+use Rattle.std.specs.Prelude.{◌≡◌, ◌≢◌, ℕ, suc, ◌<◌, ◌≤◌, true, false, List, length, take, Option, Some, None, slice_index}
+use mathlib.Core.Option.{some}
+use lib.ListN.{get_elem?}
+use Rattle.atomic_table.specs.Table.{State}
+use Rattle.bus_plan.specs.Plan.{PlannedDevice, is_matched}
+use Rattle.bus_core.specs.declared.settle.Outcome.{Outcome}
+use Rattle.bus_core.specs.declared.settle.Outcome.TheVariants.{Bound}
+use Rattle.bus_core.specs.History.{IsBusHistory, bound_in}
+use Rattle.bus_core.specs.Ready.{is_ready}
+use Rattle.bus_board.specs.Lists.{times, Among, total}
+use Rattle.bus_board.specs.Outcomes.{History, outcome_of, AllBound, IsFront}
+use Rattle.bus_board.specs.Views.{last_look, flies, owes}
+use Rattle.bus_board.specs.Words.{settled_as, flights_of, flying_word, IsRetried}
+use Rattle.bus_board.specs.declared.view.View.{View}
+use Rattle.bus_board.specs.declared.view.Flight.{Flight}
+
+-- A flight (clauses 2, 4 and 5): its word is TRYING, or RETRYING where it was claimed from WOKEN. Suppliers seen BOUND are
+-- bound in what its seat has seen; a missed one wasn't bound at its claim; a retried device was ready then.
+pub record FlightFits (plan : List PlannedDevice) (log : History) (words : List ℕ) (seen : History) (f : Flight) : Type 0 where
+  pub within : f.device < length plan
+  pub at : f.at ≤ length log
+  pub word : slice_index words f.device ≡ flying_word f.again
+  pub matched : is_matched plan f.device ≡ true
+  pub bound : (s : ℕ) → last_look f.looks s ≡ Some true → outcome_of seen s ≡ Some Bound
+  pub missed : (s : ℕ) → last_look f.looks s ≡ Some false → outcome_of (take f.at log) s ≢ Some Bound
+  pub retried : f.again ≡ true → is_ready plan (bound_in (take f.at log)) f.device ≡ true
+
+-- A view (clauses 1, 3 and 7): what it has seen is a front of the history, its own settles are among those, a device that it
+-- has claimed or passed from FRESH isn't FRESH, and one claimed from WOKEN is RETRYING, BOUND or FAILED.
+pub record Fits (plan : List PlannedDevice) (log : History) (words : List ℕ) (v : View) : Type 0 where
+  pub plan_is : v.live ≡ true → v.plan ≡ plan
+  pub seen : IsFront v.seen log
+  pub told : IsFront v.told log
+  pub mine : (d : ℕ) → outcome_of v.seen d ≡ None → times d v.mine ≡ 0
+  pub claimed : (d w : ℕ) → Among v.claimed d w → slice_index words d ≢ 0
+  pub retried : (d : ℕ) → Among v.claimed d 3 → IsRetried (slice_index words d)
+  pub passed : (d : ℕ) → Among v.passed d 0 → slice_index words d ≢ 0
+  pub flight : (f : Flight) → v.flight ≡ Some f → FlightFits plan log words v.seen f
+
+-- The word of a device (clauses 1, 2, 5 and 6): it tells the device's outcome in the history, and one flight exactly where it is
+-- TRYING or RETRYING; it is UNMATCHED exactly where no driver matches; a WOKEN device is ready; a WAITING one whose suppliers
+-- are all bound is owed by some seat.
+pub record Tells (plan : List PlannedDevice) (log : History) (views : List View) (d w : ℕ) : Type 0 where
+  pub small : w ≤ 7
+  pub settled : outcome_of log d ≡ settled_as w
+  pub flown : total (flies d) views ≡ flights_of w
+  pub unmatched : w ≡ 7 → is_matched plan d ≡ false
+  pub matched : is_matched plan d ≡ false → w ≡ 7
+  pub woken : w ≡ 3 → is_ready plan (bound_in log) d ≡ true
+  pub waiting : w ≡ 2 → AllBound plan log d → 0 < total (owes d) views
+
+abbrev pub settled_times : Option Outcome → ℕ
+settled_times None = 0
+settled_times (Some o) = 1
+
+-- some seat has seen all of the history, which so is the longest list that any seat has seen
+abbrev pub SeenBySome : List View → History → Type 0
+SeenBySome views log = (j : ℕ) × (v : View) × (get_elem? views j ≡ some v) × (v.seen ≡ log)
+
+-- The words and the views show a state of the core, whose history is one of the sequential bus; each settle is one seat's own.
+pub record Kept (plan : List PlannedDevice) (words : List ℕ) (views : List View) : Type 0 where
+  pub log : History
+  pub lawful : IsBusHistory plan log
+  pub whole : SeenBySome views log
+  pub wide : length words ≡ suc (length plan)
+  pub words_tell : (d : ℕ) → d < length plan → Tells plan log views d (slice_index words d)
+  pub owned : (d : ℕ) → total (λ v. times d v.mine) views ≡ settled_times (outcome_of log d)
+  pub fits : (j : ℕ) (v : View) → get_elem? views j ≡ some v → Fits plan log words v
+
+-- a board's table has no slots
+abbrev pub Holds : List PlannedDevice → State (Unit {0}) View → Type 0
+Holds plan s = Kept plan s.words s.views

@@ -1,0 +1,22 @@
+//! The board: the deferred-probing bus without a lock, one atomic word a device.
+#![tactic(auto)]
+
+mod board;
+mod claiming;
+mod closing;
+mod debts;
+mod flight;
+mod looking;
+mod order;
+mod returning;
+mod seat;
+mod settling;
+mod view;
+mod waking;
+mod words;
+
+pub use board::Board;
+pub use closing::End;
+pub use seat::Seat;
+pub use view::{Flight, View};
+pub use words::Word;

@@ -1,0 +1,57 @@
+//! How a seat pays its debts: each owed device is woken, where it waits with all suppliers bound.
+
+ghost use Rattle.std.specs.Prelude.{◌≡◌, ◌<◌, ◌+◌, ◌∷◌, ℕ, List, [], true, length, slice_index};
+ghost use Rattle.bus_core.specs.History.{IsBusHistory};
+ghost use Rattle.bus_board.specs.Learns.{Paid};
+ghost use Rattle.bus_board.specs.Shown.{IsOf};
+ghost use Rattle.bus_board.specs.Views.{rest};
+
+use crate::board::{Board, Words};
+use crate::order::{Check, Wake};
+use crate::seat::{Seat, Token};
+use crate::words::{BOUND, WAITING, WOKEN};
+use bus_plan::{Device, Plan};
+
+impl Board {
+    /// Pays each debt: where a supplier of the owed device isn't BOUND the debt drops, as whoever binds it owes the device
+    /// again; else the device is woken by one try.
+    pub fn wake_owed(&self, seat: &mut Seat)
+        requires { IsOf self.now seat.old }
+        ensures board { IsOf self.now seat.new }
+        ensures paid { Paid seat.old.view seat.new.view [] }
+    {
+        wake_all(&self.table, &self.plan, &mut seat.token, &seat.owed);
+        seat.owed.clear();
+    }
+}
+
+// Wakes each owed device.
+fn wake_all(table: &Words, plan: &Plan, token: &mut Token, owed: &[Device])
+    requires table { (token.old.table_id ≡ table.now.shared.table_id) × (table.now.shared.key ≡ plan.now) × (table.now.shared.table_id.words ≡ length plan.now + 1) }
+    requires seat { (token.old.me.0.plan ≡ plan.now) × (token.old.me.0.live ≡ true) × IsBusHistory token.old.me.0.plan token.old.me.0.seen }
+    requires owed { (token.old.me.0.owed ≡ owed.now) × ((i : ℕ) → i < length owed.now → slice_index owed.now i < length plan.now) }
+    ensures same { (token.new.table_id ≡ token.old.table_id) × (token.new.me.1 ≡ token.old.me.1) }
+    ensures paid { Paid token.old.me.0 token.new.me.0 [] }
+{
+    for device in owed {
+        wake_one(table, plan, token, *device);
+    }
+}
+
+// Checks the suppliers of the first owed device, and wakes it where each is BOUND. The debt drops.
+fn wake_one(table: &Words, plan: &Plan, token: &mut Token, device: Device)
+    requires table { (token.old.table_id ≡ table.now.shared.table_id) × (table.now.shared.key ≡ plan.now) × (table.now.shared.table_id.words ≡ length plan.now + 1) }
+    requires seat { (token.old.me.0.plan ≡ plan.now) × (token.old.me.0.live ≡ true) × IsBusHistory token.old.me.0.plan token.old.me.0.seen }
+    requires owed { (device < length plan.now) × ((more : List ℕ) × (token.old.me.0.owed ≡ device ∷ more)) }
+    ensures same { (token.new.table_id ≡ token.old.table_id) × (token.new.me.1 ≡ token.old.me.1) }
+    ensures dropped { Paid token.old.me.0 token.new.me.0 (rest token.old.me.0.owed) }
+{
+    plan.check();
+    let shared = &table.shared;
+    for supplier in plan.suppliers(device) {
+        if shared.load::<Check>(token, supplier.index()) != BOUND {
+            return;
+        }
+    }
+    shared.compare_exchange::<Wake>(token, device.index(), WAITING, WOKEN);
+}

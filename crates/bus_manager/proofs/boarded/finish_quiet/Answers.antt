@@ -1,0 +1,7 @@
+use Rattle.bus_manager.proofs.Ended.{quiet-run}
+use Rattle.bus_manager.proofs.boarded.finish_quiet.Goals as goal
+
+pub returns-clause-ran : goal.returns-clause-ran
+returns-clause-ran g c =
+    quiet-run (g.P.Prober.attests c.args.prober.now c.args.plan.now) c.args.plan.now c.args.words.now c.in_ok-report.report.items c.settle_by_words.new.notes.items c.requires.ends.0
+    c.requires.ends.1 c.in_ok-report.ensures c.settle_by_words.ensures.notes c.settle_by_words.ensures.noted

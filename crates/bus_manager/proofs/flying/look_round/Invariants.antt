@@ -1,0 +1,14 @@
+use Rattle.std.proofs.Common.{◌≡◌, [], length}
+use Rattle.bus_plan.specs.Plan.{suppliers_of}
+use Rattle.bus_plan.specs.declared.limits.TheConstants.{MAX_DEVICES}
+use Rattle.bus_board.specs.Shown.{IsOf}
+use Rattle.bus_manager.specs.Flying.{HasLooked}
+use Rattle.bus_manager.proofs.flying.look_round.Given as goal
+
+abbrev pub invariant-loop-index : goal.invariant-loop-index
+invariant-loop-index l = record {
+  of : IsOf l.board l.seat;
+  looked : HasLooked l.seat.view l.device l.seen (suppliers_of l.plan l.device) l.index;
+  owed : l.seat.view.owed ≡ [];
+  room : length l.seen ≡ MAX_DEVICES;
+}

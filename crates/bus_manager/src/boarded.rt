@@ -1,0 +1,117 @@
+//! What the caller of a run over a board does, before and after its workers.
+
+ghost use Rattle.std.specs.Prelude.{◌≡◌, ◌<◌, ℕ, true, length, IfOk, IfErr};
+ghost use Rattle.bus_core.specs.Report.{end_status};
+ghost use Rattle.bus_core.specs.declared.refusal.Refusal.TheVariants.{NoMemory};
+ghost use Rattle.bus_board.specs.Ends.{EndsAs};
+ghost use Rattle.bus_board.specs.declared.view.View.{View};
+ghost use Rattle.bus_manager.specs.BoardEnd.{bound_by_words};
+ghost use Rattle.bus_manager.specs.Flying.{IsFree};
+ghost use Rattle.bus_manager.specs.Notes.{has_settled, has_note, AreNotes};
+ghost use Rattle.bus_manager.specs.Run.{IsRun};
+
+use crate::alone::finish_alone;
+use crate::end_report::{end_report, end_status, is_bound};
+use crate::flying::work;
+use crate::keeper::Keeper;
+use crate::notes::{Ran, has_settled, no_notes, place_some, settle_note};
+use crate::prober::Prober;
+use crate::seats::{gather, land_all, seats};
+use crate::seen::Seen;
+use bus_board::{Board, Seat, Word};
+use bus_core::Refusal;
+use bus_plan::{Device, Plan};
+use std::alloc::Global;
+use std::thread::Threads;
+
+// The devices whose words are BOUND.
+fn bound_devices(plan: &Plan, words: &[Word]) -> Seen {
+    plan.check();
+    let mut seen = Seen::new();
+    for index in 0..plan.len() {
+        let device = Device::new(index);
+        seen.put(device, is_bound(words, device));
+    }
+    seen
+}
+
+// Leaves a note of each device that has settled.
+fn settle_by_words<P: Prober>(
+    plan: &Plan,
+    prober: &P,
+    words: &[Word],
+    notes: &mut Vec<Option<P::Note>>,
+)
+    requires notes { AreNotes (P.attests prober.now plan.now) plan.now notes.old.items }
+    ensures notes { AreNotes (P.attests prober.now plan.now) plan.now notes.new.items }
+    ensures noted { (d : ℕ) → d < length plan.now → has_note notes.new.items d ≡ has_settled (end_status plan.now (bound_by_words words.now) d) }
+{
+    let seen = bound_devices(plan, words);
+    for index in 0..plan.len() {
+        let device = Device::new(index);
+        let settled = has_settled(end_status(plan, words, device));
+        settle_note(plan, prober, notes, device, settled, &seen);
+    }
+}
+
+// The end of a run whose board was quiet.
+fn finish_quiet<P: Prober>(
+    alloc: Global,
+    plan: &Plan,
+    prober: &P,
+    words: &[Word],
+    mut notes: Vec<Option<P::Note>>,
+) -> Result<Ran<P::Note>, Refusal>
+    requires ends { (v : View) × EndsAs plan.now v words.now true }
+    requires notes { AreNotes (P.attests prober.now plan.now) plan.now notes.items }
+    ensures ran { IfOk result (λ ran. IsRun (P.attests prober.now plan.now) plan.now ran.report.items ran.notes.items) }
+    ensures err { IfErr result (λ refusal. refusal ≡ NoMemory) }
+{
+    settle_by_words(plan, prober, words, &mut notes);
+    let report = end_report(alloc, plan, words)?;
+    Ok(Ran { report, notes })
+}
+
+// Ends a run. Where the board isn't quiet, as memory was refused, the caller runs the plan alone, from nothing.
+fn finish<P: Prober>(
+    alloc: Global,
+    plan: &Plan,
+    prober: &P,
+    board: Board,
+    own: Seat,
+    notes: Vec<Option<P::Note>>,
+) -> Result<Ran<P::Note>, Refusal>
+    requires plan { board.plan ≡ plan.now }
+    requires own { IsFree board own }
+    requires notes { AreNotes (P.attests prober.now plan.now) plan.now notes.items }
+    ensures ran { IfOk result (λ ran. IsRun (P.attests prober.now plan.now) plan.now ran.report.items ran.notes.items) }
+    ensures err { IfErr result (λ refusal. refusal ≡ NoMemory) }
+{
+    let end = board.close(own);
+    if end.quiet {
+        return finish_quiet(alloc, plan, prober, &end.words, notes);
+    }
+    let keeper = Keeper::new(alloc, plan.copy(alloc)?)?;
+    finish_alone(alloc, plan, prober, keeper, notes)
+}
+
+/// A run over a board by so many workers, and then by the caller alone.
+pub fn run_boarded<P: Prober, R: Threads + Sync>(
+    rt: &R,
+    alloc: Global,
+    plan: &Plan,
+    prober: &P,
+    workers: usize,
+) -> Result<Ran<P::Note>, Refusal>
+    ensures ran { IfOk result (λ ran. IsRun (P.attests prober.now plan.now) plan.now ran.report.items ran.notes.items) }
+    ensures err { IfErr result (λ refusal. refusal ≡ NoMemory) }
+{
+    let mut notes = no_notes::<P::Note>(alloc, plan.len())?;
+    let (board, mut own) = Board::open(alloc, plan.copy(alloc)?)?;
+    let seats = seats(alloc, &board, &mut own, workers)?;
+    let left = gather(rt, alloc, &board, plan, prober, seats);
+    land_all(&board, plan, prober, &mut own, &mut notes, left);
+    let found = work(alloc, &board, plan, prober, &mut own);
+    place_some(plan, prober, &mut notes, found);
+    finish(alloc, plan, prober, board, own, notes)
+}

@@ -1,0 +1,163 @@
+//! The flights of one seat of a board: each looks at its device's suppliers, probes it, and ends.
+
+ghost use Rattle.std.specs.Prelude.{◌≡◌, ◌<◌, ◌+◌, All, IfSome, IfNone, Some, None, [], length, slice_get};
+ghost use Rattle.bus_plan.specs.Plan.{suppliers_of};
+ghost use Rattle.bus_board.specs.Shown.{IsOf};
+ghost use Rattle.bus_manager.specs.Flying.{HasLooked, HasTaken, IsFree};
+ghost use Rattle.bus_manager.specs.Prober.{IsLawfulReport};
+ghost use Rattle.bus_manager.specs.Seen.{sees};
+
+use crate::keeper::append;
+use crate::prober::Prober;
+use crate::seen::Seen;
+use crate::worker::Noted;
+use bus_board::{Board, Seat};
+use bus_core::Report;
+use bus_plan::{Device, MAX_DEVICES, Plan};
+use std::alloc::Global;
+
+// Looks at the next supplier, and notes in the set what it found.
+fn look_at(
+    board: &Board,
+    plan: &Plan,
+    seat: &mut Seat,
+    seen: &mut Seen,
+    device: Device,
+    index: usize,
+    supplier: Device,
+)
+    requires plan { board.now.plan ≡ plan.now }
+    requires of { IsOf board.now seat.old }
+    requires looked { HasLooked seat.old.view device seen.old (suppliers_of plan.now device) index }
+    requires next { slice_get (suppliers_of plan.now device) index ≡ Some supplier }
+    requires room { (length seen.old ≡ MAX_DEVICES) × (supplier < MAX_DEVICES) }
+    ensures of { IsOf board.now seat.new }
+    ensures looked { HasLooked seat.new.view device seen.new (suppliers_of plan.now device) (index + 1) }
+    ensures owed { seat.new.view.owed ≡ seat.old.view.owed }
+    ensures room { length seen.new ≡ MAX_DEVICES }
+{
+    match board.look(seat, supplier) {
+        Ok(bound) => seen.put(supplier, bound),
+        Err(_) => unreachable!(),
+    }
+}
+
+// Looks at each supplier: the set has those that were found bound.
+fn look_round(board: &Board, plan: &Plan, seat: &mut Seat, device: Device) -> Seen
+    requires plan { board.now.plan ≡ plan.now }
+    requires taken { HasTaken board.now seat.old device }
+    ensures of { IsOf board.now seat.new }
+    ensures looked { HasLooked seat.new.view device result (suppliers_of plan.now device) (length (suppliers_of plan.now device)) }
+    ensures owed { seat.new.view.owed ≡ [] }
+{
+    plan.check();
+    let mut seen = Seen::new();
+    let suppliers = plan.suppliers(device);
+    for index in 0..suppliers.len() {
+        look_at(
+            board,
+            plan,
+            seat,
+            &mut seen,
+            device,
+            index,
+            suppliers[index],
+        );
+    }
+    seen
+}
+
+// Ends the flight by what its probe found, and says whether its device has settled.
+fn end_flight(
+    board: &Board,
+    plan: &Plan,
+    seat: &mut Seat,
+    device: Device,
+    seen: &Seen,
+    report: Report,
+) -> bool
+    requires plan { board.now.plan ≡ plan.now }
+    requires of { IsOf board.now seat.old }
+    requires looked { HasLooked seat.old.view device seen.now (suppliers_of plan.now device) (length (suppliers_of plan.now device)) }
+    requires lawful { IsLawfulReport plan.now (sees seen.now) device report }
+    ensures of { IsOf board.now seat.new }
+    ensures ended { seat.new.view.flight ≡ None }
+{
+    match report {
+        Report::Settled => match board.settle(seat) {
+            Ok(_) => true,
+            Err(_) => unreachable!(),
+        },
+        Report::Missing(supplier) => match board.defer(seat, supplier) {
+            Ok(()) => false,
+            Err(_) => unreachable!(),
+        },
+    }
+}
+
+// Probes the device that the seat has taken, and gives the probe's note where the device has settled.
+fn fly<P: Prober>(
+    board: &Board,
+    plan: &Plan,
+    prober: &P,
+    seat: &mut Seat,
+    device: Device,
+) -> Option<P::Note>
+    requires plan { board.now.plan ≡ plan.now }
+    requires taken { HasTaken board.now seat.old device }
+    ensures free { IsFree board.now seat.new }
+    ensures note { IfSome result (λ note. P.attests prober.now plan.now device note) }
+{
+    let seen = look_round(board, plan, seat, device);
+    let (report, note) = prober.probe(plan, device, &seen);
+    let is_settled = end_flight(board, plan, seat, device, &seen, report);
+    board.wake_owed(seat);
+    if is_settled { Some(note) } else { None }
+}
+
+// The device that the seat takes. None where nothing is left to take, or memory is refused.
+fn take(alloc: Global, board: &Board, seat: &mut Seat) -> Option<Device>
+    requires { IsFree board.now seat.old }
+    ensures some { IfSome result (λ device. HasTaken board.now seat.new device) }
+    ensures none { IfNone result (IsFree board.now seat.new) }
+{
+    match board.take(alloc, seat) {
+        Ok(Some(device)) => Some(device),
+        Ok(None) => None,
+        Err(_) => None,
+    }
+}
+
+/// One seat's flights, until nothing is left to take or memory is refused. It gives the notes of the devices that settled
+/// by it.
+pub fn work<P: Prober>(
+    alloc: Global,
+    board: &Board,
+    plan: &Plan,
+    prober: &P,
+    seat: &mut Seat,
+) -> Vec<Noted<P::Note>>
+    requires plan { board.now.plan ≡ plan.now }
+    requires free { IsFree board.now seat.old }
+    ensures free { IsFree board.now seat.new }
+    ensures notes { All (λ n. P.attests prober.now plan.now n.device n.note) result.items }
+{
+    plan.check();
+    let mut notes = Vec::new(alloc);
+    // a device is claimed twice at most, so the last take finds nothing
+    for _flight in 0..2 * plan.len() + 1 {
+        // the note's room first, so that no flight is left for want of it
+        match notes.reserve(1) {
+            Ok(()) => {}
+            Err(_) => break,
+        }
+        let Some(device) = take(alloc, board, seat) else {
+            break;
+        };
+        match fly(board, plan, prober, seat, device) {
+            Some(note) => append(&mut notes, Noted { device, note }),
+            None => {}
+        }
+    }
+    notes
+}
