@@ -20,6 +20,9 @@ flag id = record (new_rule id) { long = Some id; action = Some SetTrue }
 abbrev pub number : Text → ℕ → Text → Rule
 number id most default = record (new_rule id) { long = Some id; parser = Some (Unsigned 1 most); defaults = default ∷ [] }
 
+abbrev pub compile : App
+compile = with_rule (with_rule (with_rule (new_app (codes "compile")) (required (codes "IN"))) (required (codes "OUT"))) (flag (codes "symbols"))
+
 abbrev pub plan : App
 plan = with_rule (with_rule (with_rule (new_app (codes "plan")) (required (codes "BLOB"))) (required (codes "DRIVERS"))) (flag (codes "dot"))
 
@@ -37,4 +40,6 @@ abbrev pub top : App
 top = let a = new_app (codes "dtman") in record a { top = record a.top { has_version = true; subcommand_required = true } }
 
 unfoldable pub dtman : App
-dtman = with_subcommand (with_subcommand (with_subcommand (with_subcommand (with_subcommand top dump.top) plan.top) replay.top) probe.top) explain.top
+dtman =
+    with_subcommand (with_subcommand (with_subcommand (with_subcommand (with_subcommand (with_subcommand top compile.top) dump.top) plan.top) replay.top) probe.top)
+    explain.top

@@ -32,6 +32,11 @@ fn chosen<'a>(matches: &ArgMatches<'a>) -> Option<subcommand::Command<'a>>
 {
     let (name, given) = matches.subcommand()?;
     match name {
+        "compile" => Some(subcommand::Command::Compile {
+            source: given.get_str("IN")?,
+            out: given.get_str("OUT")?,
+            symbols: is_on(given, "symbols"),
+        }),
         "dump" => Some(subcommand::Command::Dump {
             blob: given.get_str("IN")?,
         }),

@@ -14,8 +14,8 @@ const STATUSES: &str = "\
 Statuses: 0 done; 1 refused, with `error NUMBER NAME` and its place on standard error (`dtman explain NUMBER` says
 more); 2 the command line is no command; 3 a file can't be read or written (80, 81) or is too long (82).
 
-Limits: a blob and its printed source have at most 268,435,456 bytes, and so does each text file; nodes are nested at
-most 64 deep; a plan has at most 512 devices, a schedule at most 500,000 begins.
+Limits: a source has at most 16,777,216 bytes; a blob and its printed source have at most 268,435,456, and so does each
+text file of the bus; nodes are nested at most 64 deep; a plan has at most 512 devices, a schedule at most 500,000 begins.
 
 Workers of `probe` are 1 to 64, 4 where none are named.
 
@@ -27,6 +27,7 @@ Lines that begin with # are skipped.";
 pub fn grammar<'a>(alloc: Global) -> Result<Command<'a>, AllocError>
     ensures { IfOk result (λ c. (app_of c ≡ spec.dtman) × ((out-Command c).has_globals ≡ false)) }
 {
+    let compile = compile(alloc)?;
     let dump = dump(alloc)?;
     let plan = plan(alloc)?;
     let replay = replay(alloc)?;
@@ -37,11 +38,26 @@ pub fn grammar<'a>(alloc: Global) -> Result<Command<'a>, AllocError>
         .version("0.1")
         .after_help(STATUSES)
         .subcommand_required(true)
+        .subcommand(compile)?
         .subcommand(dump)?
         .subcommand(plan)?
         .subcommand(replay)?
         .subcommand(probe)?
         .subcommand(explain)
+}
+
+fn compile<'a>(alloc: Global) -> Result<Command<'a>, AllocError>
+    ensures { IfOk result (λ c. (app_of c ≡ spec.compile) × ((out-Command c).has_globals ≡ false)) }
+{
+    Command::new(alloc, "compile")
+        .about("Compiles a source to a blob")
+        .arg(required(alloc, "IN", "The source"))?
+        .arg(required(
+            alloc,
+            "OUT",
+            "The blob, which is written once all of it is ready",
+        ))?
+        .arg(flag(alloc, "symbols", "Adds the paths of all labelled nodes"))
 }
 
 fn dump<'a>(alloc: Global) -> Result<Command<'a>, AllocError>

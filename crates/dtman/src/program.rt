@@ -1,5 +1,5 @@
 //! The program: files in, one engine's bytes out, faults as one line each.
-ghost use Rattle.std.specs.Prelude.{◌≡◌, false};
+ghost use Rattle.std.specs.Prelude.{◌≡◌, ◌<◌, ◌^◌, false};
 
 use crate::command_line::command;
 use crate::subcommand::Command;
@@ -7,8 +7,9 @@ use crate::surroundings::Surroundings;
 use bus_manager::TableProber;
 use clap::error::ErrorKind as Mistake;
 use engine::{
-    Channel, Failed, Fault, MAX_BLOB_LEN, MAX_TEXT_LEN, OutputChannel, dump_bytes, explain,
-    graph_bytes, plan_bytes, probe_bytes, read_all, read_within, replay_bytes, write_out,
+    Channel, Failed, Fault, MAX_BLOB_LEN, MAX_SOURCE_LEN, MAX_TEXT_LEN, OutputChannel,
+    compile_bytes, dump_bytes, explain, graph_bytes, plan_bytes, probe_bytes, read_all,
+    read_within, replay_bytes, write_out,
 };
 use std::alloc::Global;
 use std::hash::RandomState;
@@ -148,8 +149,13 @@ fn perform<'a, S: Surroundings, O: Channel, T: Threads + Wait + Sync>(
     requires { O.has_failed output.old ≡ false }
 {
     let answer = match command {
+        Command::Compile {
+            source,
+            out,
+            symbols,
+        } => return compiled(alloc, surroundings, source, out, symbols),
         Command::Dump { blob } => {
-            let blob = blob_at(alloc, surroundings, blob)?;
+            let blob = read_at(alloc, surroundings, blob, MAX_BLOB_LEN)?;
             dump_bytes(alloc, blob.as_slice())?
         }
         Command::Plan { blob, drivers, dot } => planned(alloc, surroundings, blob, drivers, dot)?,
@@ -169,6 +175,20 @@ fn perform<'a, S: Surroundings, O: Channel, T: Threads + Wait + Sync>(
     print(output, answer.as_slice())
 }
 
+/// Writes the blob of a source: the file is opened once all bytes are there.
+fn compiled<'a, S: Surroundings>(
+    alloc: Global,
+    surroundings: &mut S,
+    source: &'a str,
+    out: &'a str,
+    symbols: bool,
+) -> Result<(), Failure<'a>> {
+    let source = read_at(alloc, surroundings, source, MAX_SOURCE_LEN)?;
+    let hasher = seed(surroundings)?;
+    let blob = compile_bytes(alloc, hasher, source.as_slice(), symbols)?;
+    write_at(surroundings, out, blob.as_slice())
+}
+
 /// The plan of a blob and a driver file, as a plan file or as a graph.
 fn planned<'a, S: Surroundings>(
     alloc: Global,
@@ -177,7 +197,7 @@ fn planned<'a, S: Surroundings>(
     drivers: &'a str,
     dot: bool,
 ) -> Result<Vec<u8>, Failure<'a>> {
-    let blob = blob_at(alloc, surroundings, blob)?;
+    let blob = read_at(alloc, surroundings, blob, MAX_BLOB_LEN)?;
     let drivers = text_at(alloc, surroundings, drivers)?;
     let hasher = seed(surroundings)?;
     let answer = match dot {
@@ -196,7 +216,7 @@ fn probed<'a, S: Surroundings, T: Threads + Wait + Sync>(
     drivers: &'a str,
     workers: u8,
 ) -> Result<Vec<u8>, Failure<'a>> {
-    let blob = blob_at(alloc, surroundings, blob)?;
+    let blob = read_at(alloc, surroundings, blob, MAX_BLOB_LEN)?;
     let drivers = text_at(alloc, surroundings, drivers)?;
     let hasher = seed(surroundings)?;
     let ran = probe_bytes(
@@ -226,15 +246,37 @@ fn explained(alloc: Global, number: &str) -> Result<Vec<u8>, Failure<'_>> {
     }
 }
 
-/// A blob, or as much of a file as shows that it is too large for one.
-fn blob_at<'a, S: Surroundings>(
+/// A source or a blob, or as much of a file as shows that it is too long for one.
+fn read_at<'a, S: Surroundings>(
     alloc: Global,
     surroundings: &mut S,
     path: &'a str,
-) -> Result<Vec<u8>, Failure<'a>> {
+    limit: usize,
+) -> Result<Vec<u8>, Failure<'a>>
+    requires { limit < 2 ^ 32 }
+{
     match surroundings.open(path) {
-        Ok(mut file) => read_all(alloc, &mut file, MAX_BLOB_LEN).map_err(|fault| at(path, fault)),
+        Ok(mut file) => read_all(alloc, &mut file, limit).map_err(|fault| at(path, fault)),
         Err(Failed) => Err(Failure::File(Fault::cannot_read(), path)),
+    }
+}
+
+/// Writes a file that is made or emptied first. After a failed write it holds a beginning of the bytes, or nothing.
+fn write_at<'a, S: Surroundings>(
+    surroundings: &mut S,
+    path: &'a str,
+    bytes: &[u8],
+) -> Result<(), Failure<'a>> {
+    let mut file = match surroundings.create(path) {
+        Ok(file) => file,
+        Err(Failed) => return Err(Failure::File(Fault::cannot_write(), path)),
+    };
+    match write_out(&mut file, bytes) {
+        Ok(()) => {
+            surroundings.close(path, file);
+            Ok(())
+        }
+        Err(_) => Err(Failure::File(Fault::cannot_write(), path)),
     }
 }
 

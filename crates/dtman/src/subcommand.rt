@@ -3,6 +3,12 @@
 /// A subcommand with its paths and options.
 #[derive(Clone, Copy, Debug)]
 pub enum Command<'a> {
+    Compile {
+        source: &'a str,
+        out: &'a str,
+        /// Add the node of symbols.
+        symbols: bool,
+    },
     Dump {
         blob: &'a str,
     },

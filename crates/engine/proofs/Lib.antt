@@ -1,2 +1,4 @@
+pub mod CompileLemmas
 mod ChannelLemmas
 mod DumpLemmas
+pub mod ValueSizes

@@ -6,6 +6,11 @@ use Rattle.bus_plan.specs.PlanError as plan
 use Rattle.bus_core.specs.declared.refusal.Refusal.{Refusal}
 use Rattle.bus_core.specs.declared.refusal.Refusal.TheVariants.{NoMemory}
 use Rattle.bus_core.specs.Refusal as core
+use Rattle.dt_source.specs.declared.error.SourceErrorKind.{SourceErrorKind}
+use Rattle.dt_source.specs.declared.error.SourceErrorKind.TheVariants as sources
+use Rattle.dt_source.specs.SourceError as source
+use Rattle.dt_resolve.specs.declared.error.BuildError.{BuildError}
+use Rattle.dt_resolve.specs.BuildError as build
 use Rattle.dt_blob.specs.declared.error.BlobError.{BlobError}
 use Rattle.dt_blob.specs.BlobError as blob
 use Rattle.bus_manager.specs.declared.run_error.RunError.{RunError}
@@ -61,6 +66,18 @@ event_place number _ = Event number
 -- of an event of a schedule
 abbrev pub event_fault : ℕ → Refusal → FaultValue
 event_fault number refusal = record { number = core.number_of refusal; name = core.name_of refusal; place = event_place number refusal }
+
+abbrev pub source_place : SourceErrorKind → ℕ → Place
+source_place sources.NoMemory line = Nowhere
+source_place _ line = Line line
+
+-- of a source's text
+abbrev pub source_fault : SourceErrorKind → ℕ → FaultValue
+source_fault kind line = record { number = source.number_of kind; name = source.name_of kind; place = source_place kind line }
+
+-- of what a source says
+abbrev pub build_fault : BuildError → FaultValue
+build_fault error = record { number = build.number_of error; name = build.name_of error; place = Nowhere }
 
 -- of a blob
 abbrev pub blob_fault : BlobError → FaultValue

@@ -1,3 +1,4 @@
+pub mod Compile
 pub mod Dump
 pub mod Fault
 pub mod Plan

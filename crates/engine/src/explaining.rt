@@ -37,6 +37,7 @@ pub fn explain(number: u8) -> Option<Explanation>
     let (name, meaning, input, remedy) = match number / 10 {
         0 => of_memory(number)?,
         1 => of_source(number)?,
+        2 => of_build(number)?,
         3 => of_blob(number)?,
         5 => of_text(number)?,
         6 => of_event(number)?,
@@ -117,6 +118,66 @@ fn of_source(number: u8) -> Option<Texts> {
             "The source has more than 16,777,216 bytes.",
             "a file of 16,777,217 blanks",
             "Data of that size belongs in a file of its own, not in a tree.",
+        )),
+        _ => None,
+    }
+}
+
+fn of_build(number: u8) -> Option<Texts> {
+    match number {
+        20 => Some((
+            "UnknownLabel",
+            "A reference names a label that no node has: none had it yet where an item is extended or deleted, none has it in the end where a value refers to it.",
+            "`/dts-v1/;/{a=<&b>;};`",
+            "Look for the label's spelling, and for a deletion that took its node away.",
+        )),
+        21 => Some((
+            "DuplicateLabel",
+            "A label is given to a second node while the first one is there.",
+            "`/dts-v1/;/{a: x { }; a: y { };};`",
+            "Rename one of the labels.",
+        )),
+        22 => Some((
+            "UnknownPath",
+            "A reference names a path that no node has.",
+            "`/dts-v1/;/{a=&{/b};};`",
+            "Compare the path with the tree, unit addresses too.",
+        )),
+        23 => Some((
+            "BadPhandle",
+            "A property `phandle` isn't four plain bytes, or is 0 or 0xffffffff.",
+            "`/dts-v1/;/{phandle=<0>;};`",
+            "Leave the property out: a node that is referred to gets a number.",
+        )),
+        24 => Some((
+            "DuplicatePhandle",
+            "Two nodes have one phandle.",
+            "`/dts-v1/;/{phandle=<1>; a{phandle=<1>;};};`",
+            "Leave one of the two properties out.",
+        )),
+        25 => Some((
+            "DuplicateInBody",
+            "One body defines a property, or a child, twice.",
+            "`/dts-v1/;/{a; a;};`",
+            "Leave out the earlier one: a body that comes later may define it anew.",
+        )),
+        27 => Some((
+            "ReservedName",
+            "The root is deleted, cells refer to a reserved node, or symbols are asked for and the root has `__symbols__`.",
+            "`/dts-v1/;/{a=<&{/__symbols__}>; __symbols__{};};`",
+            "Leave `__symbols__`, `__fixups__` and `__local_fixups__` to the compiler.",
+        )),
+        28 => Some((
+            "TooDeep",
+            "A node lies deeper than 64 levels below the root.",
+            "an extension of a node at level 64 with a child",
+            "Trees of boards have some 12 levels: look for a path that repeats.",
+        )),
+        29 => Some((
+            "NoPlugin",
+            "The source is a plugin, which isn't compiled yet.",
+            "`/dts-v1/;/plugin/;/{};`",
+            "Compile it with dtc.",
         )),
         _ => None,
     }

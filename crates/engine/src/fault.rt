@@ -1,11 +1,13 @@
 //! A refusal as the program prints it.
 ghost use Rattle.std.specs.Prelude.{◌≡◌};
-ghost use Rattle.engine.specs.Fault.{shown, no_memory, cannot_read, cannot_write, file_too_long, text_fault, event_fault, blob_fault, run_fault};
+ghost use Rattle.engine.specs.Fault.{shown, no_memory, cannot_read, cannot_write, file_too_long, text_fault, event_fault, blob_fault, build_fault, run_fault, source_fault};
 
 use bus_core::Refusal;
 use bus_manager::RunError;
 use bus_plan::PlanError;
 use dt_blob::BlobError;
+use dt_build::BuildError;
+use dt_source::{SourceError, SourceErrorKind};
 use std::alloc::AllocError;
 use std::fmt;
 
@@ -92,6 +94,34 @@ impl From<PlanError> for Fault {
                 Some(line) => Place::Line(line),
                 None => Place::Nowhere,
             },
+        }
+    }
+}
+
+/// The line is that of the text. Want of memory is no line's.
+impl From<SourceError> for Fault {
+    ghost from_gives = { λ error fault. shown fault ≡ source_fault error.kind error.line };
+
+    fn from(error: SourceError) -> Fault {
+        Fault {
+            number: error.number(),
+            name: error.name(),
+            place: match error.kind {
+                SourceErrorKind::NoMemory => Place::Nowhere,
+                _ => Place::Line(error.line),
+            },
+        }
+    }
+}
+
+impl From<BuildError> for Fault {
+    ghost from_gives = { λ error fault. shown fault ≡ build_fault error };
+
+    fn from(error: BuildError) -> Fault {
+        Fault {
+            number: error.number(),
+            name: error.name(),
+            place: Place::Nowhere,
         }
     }
 }

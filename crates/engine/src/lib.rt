@@ -2,6 +2,7 @@
 #![tactic(auto)]
 
 mod channel;
+mod compiling;
 mod dump;
 mod explaining;
 mod fault;
@@ -14,10 +15,11 @@ mod streams;
 mod transfer;
 
 pub use channel::{Channel, Failed};
+pub use compiling::compile_bytes;
 pub use dump::dump_bytes;
 pub use explaining::{Explanation, explain};
 pub use fault::{Fault, Place};
-pub use limits::{MAX_BLOB_LEN, MAX_TEXT_LEN};
+pub use limits::{MAX_BLOB_LEN, MAX_SOURCE_LEN, MAX_TEXT_LEN};
 pub use memory::Memory;
 pub use planning::{graph_bytes, plan_bytes};
 pub use probing::probe_bytes;

@@ -5,3 +5,6 @@ pub const MAX_BLOB_LEN: usize = 268_435_456;
 
 /// The most bytes of a driver, plan or schedule file.
 pub const MAX_TEXT_LEN: usize = 268_435_456;
+
+/// The most bytes of a source.
+pub const MAX_SOURCE_LEN: usize = 16_777_216;

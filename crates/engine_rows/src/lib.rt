@@ -4,6 +4,8 @@
 #![tactic(auto)]
 
 #[cfg(test)]
+mod compiling;
+#[cfg(test)]
 mod engines;
 #[cfg(test)]
 mod probes;

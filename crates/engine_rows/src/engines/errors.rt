@@ -1,23 +1,10 @@
 //! Each number by a small input, and its explanation.
 
 use super::printed;
-use dt_source::parse;
-use engine::{dump_bytes, explain, replay_bytes};
+use engine::{compile_bytes, dump_bytes, explain, replay_bytes};
 use std::alloc::{AllocError, Global};
 use std::hash::RandomState;
 use std::test::Fail;
-
-/// The line that tells what is wrong with a source.
-fn source_line(alloc: Global, text: &[u8]) -> Result<Vec<u8>, AllocError> {
-    match parse(alloc, text) {
-        Ok(_) => Ok(Vec::new(alloc)),
-        Err(error) => {
-            let (number, name, line) = (error.number(), error.name(), error.line);
-            let told = format!(in alloc; "error {number} {name} line {line}")?;
-            Ok(told.into_bytes())
-        }
-    }
-}
 
 /// That the line tells the number, under the name by which it is explained.
 fn is_explained(alloc: Global, number: u8, line: &[u8]) -> Result<bool, AllocError> {
@@ -53,9 +40,31 @@ fn sources_are_refused(rt: HostRuntime) -> Result<(), Fail> {
             "/dts-v1/;/{a=<(((((((((((((((((((((((((((((((((((((((((((((((((((((((((((((((((",
             "error 16 TooDeep line 1",
         ),
+        (20, "/dts-v1/;/{a=<&b>;};", "error 20 UnknownLabel"),
+        (
+            21,
+            "/dts-v1/;/{a: x { }; a: y { };};",
+            "error 21 DuplicateLabel",
+        ),
+        (22, "/dts-v1/;/{a=&{/b};};", "error 22 UnknownPath"),
+        (23, "/dts-v1/;/{phandle=<0>;};", "error 23 BadPhandle"),
+        (
+            24,
+            "/dts-v1/;/{phandle=<1>; a{phandle=<1>;};};",
+            "error 24 DuplicatePhandle",
+        ),
+        (25, "/dts-v1/;/{a; a;};", "error 25 DuplicateInBody"),
+        (
+            27,
+            "/dts-v1/;/{a=<&{/__symbols__}>; __symbols__{};};",
+            "error 27 ReservedName",
+        ),
+        (29, "/dts-v1/;/plugin/;/{};", "error 29 NoPlugin"),
     ];
+    let hasher = RandomState::new(&rt)?;
     for (number, text, line) in rows {
-        let told = source_line(rt.alloc(), text.as_bytes())?;
+        let answer = compile_bytes(rt.alloc(), hasher, text.as_bytes(), false);
+        let told = printed(rt.alloc(), answer)?;
         assert_eq!(rt; told.as_slice(), line.as_bytes(), "{number}");
         assert!(rt;
             is_explained(rt.alloc(), number, line.as_bytes())?,
@@ -209,9 +218,10 @@ fn structures_are_refused(rt: HostRuntime) -> Result<(), Fail> {
 /// Each number that a command prints is explained, and no other.
 #[test]
 fn numbers_are_explained(rt: HostRuntime) {
-    let explained: [&[u8]; 7] = [
+    let explained: [&[u8]; 8] = [
         &[0],
         &[10, 11, 12, 13, 14, 15, 16, 17],
+        &[20, 21, 22, 23, 24, 25, 27, 28, 29],
         &[30, 31, 32, 33, 34, 35, 36, 37, 38],
         &[50, 51, 52, 53, 54, 55, 56],
         &[60, 61, 62, 63, 64, 65, 66],

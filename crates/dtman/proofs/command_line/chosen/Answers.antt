@@ -5,6 +5,16 @@ use Rattle.clap.specs.Matches.{found_of}
 use Rattle.dtman.proofs.MetLemmas.{met, value}
 use Rattle.dtman.proofs.command_line.chosen.Goals as goal
 
+pub returns-in_ok-get_str-in-compile-2 : goal.returns-in_ok-get_str-in-compile-2
+returns-in_ok-get_str-in-compile-2 c =
+    let given = c.in_ok-name.given.now in
+    record {
+      name = c.in_ok-name.name.now;
+      rows = rows_of (found_of given);
+      given = met c.args.matches.now c.in_ok-name.name.now (rows_of (found_of given)) c.in_ok-name.ensures.name c.in_ok-name.ensures.rows;
+      is_met = (c.in-compile.is, value given (codes "IN") c.in_ok-get_str-in-compile.field-0.now c.in_ok-get_str-in-compile.ensures, value given (codes "OUT") c.in_ok-get_str-in-compile-2.field-0.now c.in_ok-get_str-in-compile-2.ensures, c.is_on.ensures);
+    }
+
 pub returns-in_ok-get_str-in-dump : goal.returns-in_ok-get_str-in-dump
 returns-in_ok-get_str-in-dump c =
     let given = c.in_ok-name.given.now in
@@ -42,7 +52,7 @@ returns-in_ok-get_str-in-plan-2 c =
       name = c.in_ok-name.name.now;
       rows = rows_of (found_of given);
       given = met c.args.matches.now c.in_ok-name.name.now (rows_of (found_of given)) c.in_ok-name.ensures.name c.in_ok-name.ensures.rows;
-      is_met = (c.in-plan.is, value given (codes "BLOB") c.in_ok-get_str-in-plan.field-0.now c.in_ok-get_str-in-plan.ensures, value given (codes "DRIVERS") c.in_ok-get_str-in-plan-2.field-0.now c.in_ok-get_str-in-plan-2.ensures, c.is_on.ensures);
+      is_met = (c.in-plan.is, value given (codes "BLOB") c.in_ok-get_str-in-plan.field-0.now c.in_ok-get_str-in-plan.ensures, value given (codes "DRIVERS") c.in_ok-get_str-in-plan-2.field-0.now c.in_ok-get_str-in-plan-2.ensures, c.is_on-in-plan.ensures);
     }
 
 pub returns-in_ok-workers-in-probe : goal.returns-in_ok-workers-in-probe
