@@ -31,7 +31,7 @@ fault-path e fine (k ∷ ks) room b = at_child (child_named b.children k) (λ c.
   at_child None ih = refl
   at_child (Some c) ih = ih c
 
-child_height : (f : Siblings) (k : List ℕ) (c : NodeData) → child_named f k ≡ Some c → height_of c.children + 1 ≤ height_of f
+pub child_height : (f : Siblings) (k : List ℕ) (c : NodeData) → child_named f k ≡ Some c → height_of c.children + 1 ≤ height_of f
 child_height none k c e = absurd (cc e)
 child_height (more n p d rest) k c e = at_head _ refl e (child_height rest k c) where
   at_head : (t : Bool) → bytes_eq n k ≡ t → (if bytes_eq n k then Some (node_data n p d) else child_named rest k) ≡ Some c → (child_named rest k ≡ Some c → height_of c.children + 1 ≤ height_of rest) → height_of c.children + 1 ≤ max (height_of d + 1) (height_of rest)

@@ -2,12 +2,17 @@ pub mod AtPlace
 pub mod CallLaws
 pub mod ChangeLaws
 pub mod ChildLaws
+pub mod Collected
 pub mod Descent
 pub mod FirstName
 pub mod GreatestLaws
 pub mod Looks
+pub mod MergeCall
+pub mod MergeLaws
+pub mod MergedSound
 pub mod MapLaws
 pub mod NameLists
+pub mod NameMaps
 pub mod OneNode
 pub mod OrderLaws
 pub mod PathTexts

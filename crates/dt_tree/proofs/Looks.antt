@@ -91,7 +91,7 @@ module _ (k : List ℕ) (g : NodeData → NodeData) (named : (b : NodeData) → 
   child_named-change none y = none_either (bytes_eq k y)
   child_named-change (more n p c rest) y = child_at n p c rest y _ refl _ refl (child_named-change rest y)
 
-change_at-name : (path : List (List ℕ)) (g : NodeData → NodeData) → ((b : NodeData) → (g b).name ≡ b.name) → (b : NodeData) → (change_at path g b).name ≡ b.name
+pub change_at-name : (path : List (List ℕ)) (g : NodeData → NodeData) → ((b : NodeData) → (g b).name ≡ b.name) → (b : NodeData) → (change_at path g b).name ≡ b.name
 change_at-name [] g named b = named b
 change_at-name (x ∷ xs) g named b = refl
 

@@ -1,5 +1,5 @@
 -- One property or one child put in, taken out or replaced, at its place.
-use Rattle.std.proofs.Common.{◌≡◌, ℕ, ◌+◌, ◌<◌, true, false, List, [], ◌∷◌, ◌++◌, length, get_or, Some, None, refl, ap, arith}
+use Rattle.std.proofs.Common.{◌≡◌, ℕ, ◌+◌, ◌<◌, true, false, List, [], ◌∷◌, ◌++◌, length, get_or, Option, Some, None, refl, ap, arith}
 use Rattle.std.proofs.Math.ListN.{set}
 use Rattle.std.proofs.lemmas.Grind.{common_steps}
 use Rattle.std.specs.List.{remove}
@@ -10,11 +10,15 @@ use Rattle.dt_tree.specs.Private.Edits.{place_of, put_property, drop_property, p
 use Rattle.dt_tree.specs.Sound.{is_among}
 use Rattle.dt_tree.proofs.AtPlace.{AreNamesOf, at_place, no_place}
 
-named_properties : AreNamesOf property_names (λ p. p.name)
+pub named_properties : AreNamesOf property_names (λ p. p.name)
 named_properties = record { nil = refl; cons = λ p ps. refl }
 
 abbrev pub names_of : List NodeData → List (List ℕ)
 names_of bs = child_names (siblings bs)
+
+-- the node of this name among them
+abbrev pub child_in : List NodeData → List ℕ → Option NodeData
+child_in bs k = child_named (siblings bs) k
 
 pub named_children : AreNamesOf names_of (λ b. b.name)
 named_children = record { nil = refl; cons = λ b bs. refl }

@@ -2,6 +2,7 @@ pub mod Changes
 pub mod Falls
 pub mod Fault
 pub mod Name
+pub mod Merged
 pub mod NodeCode
 pub mod NodeData
 pub mod NodeView

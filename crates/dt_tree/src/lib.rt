@@ -26,6 +26,7 @@ pub use limits::{MAX_DEPTH, MAX_NAME_LEN};
 pub use name::{Name, is_name};
 pub use node::Node;
 pub use path::{Path, is_path};
+pub use phandle::phandle_in;
 pub use property::Property;
 pub use reserved::is_reserved_name;
 pub use tree::Tree;

@@ -8,6 +8,7 @@ ghost use Rattle.dt_tree.specs.PathMap.{value_of};
 ghost use Rattle.dt_tree.specs.Sound.{IsSound, are_distinct};
 
 pub(crate) mod changing;
+mod merging;
 
 use crate::bytes::Bytes;
 use crate::error::TreeError;

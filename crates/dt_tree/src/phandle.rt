@@ -21,18 +21,24 @@ fn phandle_from(number: u32) -> Option<u32>
     Some(number)
 }
 
+/// The phandle that bytes give: four of them, the greatest first, that are neither 0 nor 0xffffffff.
+pub fn phandle_in(bytes: &[u8]) -> Option<u32>
+    ensures { result ≡ phandle_in bytes.now }
+{
+    if bytes.len() != 4 {
+        return None;
+    }
+    let mut word = [0; 4];
+    word.copy_from_slice(bytes);
+    phandle_from(u32::from_be_bytes(word))
+}
+
 impl Bytes {
-    /// The value of a property `phandle` as a phandle: 4 bytes, the greatest first, that are neither 0 nor 0xffffffff.
+    /// The value of a property `phandle` as a phandle.
     pub fn phandle(&self) -> Option<u32>
         ensures { result ≡ phandle_in self.now }
     {
-        let bytes = self.as_slice();
-        if bytes.len() != 4 {
-            return None;
-        }
-        let mut word = [0; 4];
-        word.copy_from_slice(bytes);
-        phandle_from(u32::from_be_bytes(word))
+        phandle_in(self.as_slice())
     }
 }
 

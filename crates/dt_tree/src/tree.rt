@@ -6,6 +6,7 @@ ghost use Rattle.dt_tree.specs.Phandle.{IsGreatest, IsFirstWith, IsNowhere};
 ghost use Rattle.dt_tree.specs.TreeData.{tree_data, is_reserve, AreLong, IsTree};
 
 mod changing;
+mod merging;
 
 use crate::error::TreeError;
 use crate::node::Node;

@@ -8,4 +8,6 @@ mod blobs;
 #[cfg(test)]
 mod changes;
 #[cfg(test)]
+mod merges;
+#[cfg(test)]
 mod trees;

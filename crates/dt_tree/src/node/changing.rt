@@ -38,7 +38,7 @@ pub(crate) enum Edit<'a> {
 }
 
 /// The first of the names between slashes, and the text of the others.
-fn split_first_name(names: &[u8]) -> (&[u8], Option<&[u8]>)
+pub(super) fn split_first_name(names: &[u8]) -> (&[u8], Option<&[u8]>)
     ensures { slice_split is_slash names.now ≡ result.0.now ∷ names_in result.1 }
 {
     for (at, byte) in names.iter().enumerate() {
@@ -49,7 +49,7 @@ fn split_first_name(names: &[u8]) -> (&[u8], Option<&[u8]>)
     (names, None)
 }
 
-fn place_of_child(children: &[Node], name: &[u8]) -> Option<usize>
+pub(super) fn place_of_child(children: &[Node], name: &[u8]) -> Option<usize>
     ensures { result ≡ place_of (child_names (siblings children.now)) name.now }
 {
     for (at, child) in children.iter().enumerate() {
