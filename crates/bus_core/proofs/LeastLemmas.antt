@@ -13,7 +13,7 @@ use Rattle.bus_core.specs.History.{bound_in, is_settled, IsBusHistory}
 use Rattle.bus_core.specs.Laws.{QuietIsLeast, SuppliersComeFirst, QuietReportIsTheEnd, EndReportIsOne}
 use Rattle.bus_core.specs.Least.{IsClosed}
 use Rattle.bus_core.specs.Ready.{is_ready}
-use Rattle.bus_core.specs.Report.{status_of, end_status, line_of, end_text}
+use Rattle.bus_core.specs.Report.{missing_supplier, status_of, end_status, line_of, core_line, end_line, report_text, end_text}
 use Rattle.bus_core.proofs.HistoryLemmas.{along, matched-below, matched-available, ready-matched, ready-weaker, bound-push_cases, bound-verdict, settled-ready, settled-bound, bound-settled, step-within}
 use Rattle.bus_core.proofs.Lists.{list_all_in_range, flat_map_same}
 
@@ -87,16 +87,16 @@ quiet-status plan s steps quiet d within =
     (bound-settled s.history d) (settled-ready plan s.history steps d) (ready-matched plan (bound_in s.history) d) (matched-available plan d)
     at.0 at.1 (λ unsettled. idle-not_ready plan s d unsettled at.0 at.1)
 
+-- the report of a quiet core is the end report of its bound devices
+pub quiet-text : (plan : List PlannedDevice) (s : CoreState) → IsBusHistory plan s.history → is_quiet plan s ≡ true → report_text plan s ≡ end_text plan (bound_in s.history)
+quiet-text plan s steps quiet =
+    ap₂ (λ lines last. lines ++ last)
+    (flat_map_same (core_line plan s) (end_line plan (bound_in s.history)) (length plan) 0
+    (λ d above below. ap (λ said. line_of plan (missing_supplier plan (bound_in s.history) d) said d) (quiet-status plan s steps quiet d (omega arith))))
+    (ap (λ b. cond b (codes "quiet\n") (codes "busy\n")) quiet)
+
 pub quiet-end : QuietReportIsTheEnd
-quiet-end plan s steps quiet =
-    record {
-      bound = bound_in s.history;
-      least = quiet-least plan s steps quiet;
-      text_is = ap₂ (λ lines last. lines ++ last)
-          (flat_map_same (λ d. line_of plan (bound_in s.history) (status_of plan s d) d) (λ d. line_of plan (bound_in s.history) (end_status plan (bound_in s.history) d) d) (length plan) 0
-          (λ d above below. ap (λ said. line_of plan (bound_in s.history) said d) (quiet-status plan s steps quiet d (omega arith))))
-          (ap (λ b. cond b (codes "quiet\n") (codes "busy\n")) quiet);
-    }
+quiet-end plan s steps quiet = record { bound = bound_in s.history; least = quiet-least plan s steps quiet; text_is = quiet-text plan s steps quiet }
 
 -- two tests that each follow from the other are one
 same_test : (p q : ℕ → Bool) (d : ℕ) → (p d ≡ true → q d ≡ true) → (q d ≡ true → p d ≡ true) → p d ≡ q d

@@ -30,22 +30,26 @@ abbrev pub path_text : List PlannedDevice → Option ℕ → List ℕ
 path_text plan None = []
 path_text plan (Some d) = path_of plan d
 
--- what a line says behind the path
-abbrev pub status_text : List PlannedDevice → (ℕ → Bool) → ℕ → Status → List ℕ
-status_text plan bound d status.Bound = codes " bound " ++ driver_text plan d
-status_text plan bound d status.Failed = codes " failed " ++ driver_text plan d
-status_text plan bound d status.Probing = codes " probing"
-status_text plan bound d status.Due = codes " due"
-status_text plan bound d status.Waiting = codes " waiting " ++ path_text plan (missing_supplier plan bound d)
-status_text plan bound d status.Unmatched = codes " unmatched"
-status_text plan bound d status.Disabled = codes " disabled"
+-- what a line says behind the path, with the supplier that a waiting device lacks
+abbrev pub status_text : List PlannedDevice → Option ℕ → ℕ → Status → List ℕ
+status_text plan missing d status.Bound = codes " bound " ++ driver_text plan d
+status_text plan missing d status.Failed = codes " failed " ++ driver_text plan d
+status_text plan missing d status.Probing = codes " probing"
+status_text plan missing d status.Due = codes " due"
+status_text plan missing d status.Waiting = codes " waiting " ++ path_text plan missing
+status_text plan missing d status.Unmatched = codes " unmatched"
+status_text plan missing d status.Disabled = codes " disabled"
 
-abbrev pub line_of : List PlannedDevice → (ℕ → Bool) → Status → ℕ → List ℕ
-line_of plan bound said d = path_of plan d ++ (status_text plan bound d said ++ 10 ∷ [])
+abbrev pub line_of : List PlannedDevice → Option ℕ → Status → ℕ → List ℕ
+line_of plan missing said d = path_of plan d ++ (status_text plan missing d said ++ 10 ∷ [])
+
+-- a device's line in a core's report
+abbrev pub core_line : List PlannedDevice → CoreState → ℕ → List ℕ
+core_line plan s d = line_of plan (missing_supplier plan (bound_in s.history) d) (status_of plan s d) d
 
 abbrev pub report_text : List PlannedDevice → CoreState → List ℕ
 report_text plan s =
-    flat_map (λ d. line_of plan (bound_in s.history) (status_of plan s d) d) (devices plan)
+    flat_map (core_line plan s) (devices plan)
     ++ (if is_quiet plan s then codes "quiet\n" else codes "busy\n")
 
 -- The report that a run ends with: the devices of a set are bound, those ready for it and not in it have failed, all
@@ -58,8 +62,11 @@ end_status plan bound d =
     else (if is_ready plan bound d then status.Failed
     else status.Waiting)))
 
+abbrev pub end_line : List PlannedDevice → (ℕ → Bool) → ℕ → List ℕ
+end_line plan bound d = line_of plan (missing_supplier plan bound d) (end_status plan bound d) d
+
 abbrev pub end_text : List PlannedDevice → (ℕ → Bool) → List ℕ
-end_text plan bound = flat_map (λ d. line_of plan bound (end_status plan bound d) d) (devices plan) ++ codes "quiet\n"
+end_text plan bound = flat_map (end_line plan bound) (devices plan) ++ codes "quiet\n"
 
 pub record IsEndReport (plan : List PlannedDevice) (text : List ℕ) : Type 0 where
   pub bound : ℕ → Bool

@@ -11,6 +11,7 @@ mod phase;
 mod refusal;
 mod replaying;
 mod report;
+mod report_line;
 mod room;
 mod schedule;
 mod settle;
@@ -26,6 +27,7 @@ pub use laws::{
 pub use limits::MAX_BEGINS;
 pub use refusal::Refusal;
 pub use replaying::replay;
+pub use report_line::push_line;
 pub use schedule::read_schedule;
 pub use settle::{Outcome, Settle};
 pub use state::Core;

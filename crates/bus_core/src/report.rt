@@ -1,25 +1,16 @@
 //! The text of a report.
 
-ghost use Rattle.std.specs.Prelude.{◌≡◌, ◌<◌, ◌++◌, length, flat_map, IfOk, IfErr, OnOk, codes, if◌then◌else◌};
+ghost use Rattle.std.specs.Prelude.{◌≡◌, ◌<◌, ◌++◌, length, flat_map, IfOk, IfErr, IfSome, OnOk, codes, if◌then◌else◌};
 ghost use Rattle.bus_core.specs.Due.{devices};
 ghost use Rattle.bus_core.specs.History.{bound_in};
-ghost use Rattle.bus_core.specs.Report.{driver_text, missing_supplier, path_text, status_of, status_text, line_of, report_text};
+ghost use Rattle.bus_core.specs.Report.{missing_supplier, line_of, core_line, report_text};
 
 use crate::refusal::Refusal;
+use crate::report_line::push_line;
 use crate::state::Core;
 use crate::status::Status;
-use bus_plan::{Device, Plan};
+use bus_plan::Device;
 use std::alloc::{AllocError, Global};
-
-fn push_driver(text: &mut Vec<u8>, plan: &Plan, device: Device) -> Result<(), AllocError>
-    requires { device < length plan.now }
-    ensures { OnOk result (text.new.items ≡ text.old.items ++ driver_text plan.now device) }
-{
-    match plan.driver(device) {
-        Some(name) => text.extend_from_slice(name.as_bytes()),
-        None => Ok(()),
-    }
-}
 
 fn last_line(is_quiet: bool) -> &'static [u8]
     ensures { result.now ≡ (if is_quiet then codes "quiet\n" else codes "busy\n") }
@@ -40,57 +31,34 @@ impl Core {
             .find(|supplier| !self.is_bound(*supplier))
     }
 
-    fn push_missing(&self, text: &mut Vec<u8>, device: Device) -> Result<(), AllocError>
+    // The supplier that the line of a device with this status names: only that of a waiting device is looked for.
+    fn named_supplier(&self, device: Device, status: Status) -> Option<Device>
         requires { device < length self.now.plan }
-        ensures { OnOk result (text.new.items ≡ text.old.items ++ path_text self.now.plan (missing_supplier self.now.plan (bound_in self.now.state.history) device)) }
+        ensures line { line_of self.now.plan result status device ≡ line_of self.now.plan (missing_supplier self.now.plan (bound_in self.now.state.history) device) status device }
+        ensures within { IfSome result (λ supplier. supplier < length self.now.plan) }
     {
         self.plan.check();
-        match self.missing_supplier(device) {
-            Some(supplier) => text.extend_from_slice(self.plan.path(supplier).as_bytes()),
-            None => Ok(()),
+        match status {
+            Status::Waiting => self.missing_supplier(device),
+            _ => None,
         }
     }
 
-    fn push_status(&self, text: &mut Vec<u8>, device: Device) -> Result<(), AllocError>
+    fn push_device(&self, text: &mut Vec<u8>, device: Device) -> Result<(), AllocError>
         requires { device < length self.now.plan }
-        ensures { OnOk result (text.new.items ≡ text.old.items ++ status_text self.now.plan (bound_in self.now.state.history) device (status_of self.now.plan self.now.state device)) }
+        ensures { OnOk result (text.new.items ≡ text.old.items ++ core_line self.now.plan self.now.state device) }
     {
-        match self.status(device) {
-            Status::Bound => {
-                text.extend_from_slice(b" bound ")?;
-                push_driver(text, &self.plan, device)
-            }
-            Status::Failed => {
-                text.extend_from_slice(b" failed ")?;
-                push_driver(text, &self.plan, device)
-            }
-            Status::Probing => text.extend_from_slice(b" probing"),
-            Status::Due => text.extend_from_slice(b" due"),
-            Status::Waiting => {
-                text.extend_from_slice(b" waiting ")?;
-                self.push_missing(text, device)
-            }
-            Status::Unmatched => text.extend_from_slice(b" unmatched"),
-            Status::Disabled => text.extend_from_slice(b" disabled"),
-        }
-    }
-
-    fn push_line(&self, text: &mut Vec<u8>, device: Device) -> Result<(), AllocError>
-        requires { device < length self.now.plan }
-        ensures { OnOk result (text.new.items ≡ text.old.items ++ line_of self.now.plan (bound_in self.now.state.history) (status_of self.now.plan self.now.state device) device) }
-    {
-        text.extend_from_slice(self.plan.path(device).as_bytes())?;
-        self.push_status(text, device)?;
-        text.push(b'\n')?;
-        Ok(())
+        let status = self.status(device);
+        let missing = self.named_supplier(device, status);
+        push_line(text, &self.plan, device, status, missing)
     }
 
     fn device_lines(&self, alloc: Global) -> Result<Vec<u8>, AllocError>
-        ensures { IfOk result (λ text. text.items ≡ flat_map (λ d. line_of self.now.plan (bound_in self.now.state.history) (status_of self.now.plan self.now.state d) d) (devices self.now.plan)) }
+        ensures { IfOk result (λ text. text.items ≡ flat_map (core_line self.now.plan self.now.state) (devices self.now.plan)) }
     {
         let mut text = Vec::new(alloc);
         for index in 0..self.plan.len() {
-            self.push_line(&mut text, Device::new(index))?;
+            self.push_device(&mut text, Device::new(index))?;
         }
         Ok(text)
     }

@@ -6,7 +6,7 @@ ghost use Rattle.bus_core.specs.Replay.{IsEventOf};
 ghost use Rattle.bus_core.specs.Schedule.{event_of_two, event_of_three, event_of_four, event_of, line_meaning, schedule_of};
 
 use crate::event::{Event, Report};
-use bus_plan::{Device, Fields, Plan, PlanError, is_line, lines_of};
+use bus_plan::{Device, Fields, Plan, PlanError, lines_of};
 use dt_tree::is_path;
 use std::alloc::{AllocError, Global};
 
@@ -111,13 +111,9 @@ fn read_line(plan: &Plan, number: usize, line: &[u8]) -> Result<Option<Event>, P
     ensures line { result ≡ line_meaning plan.now number line.now }
     ensures within { IfOk result (λ event. IfSome event (IsEventOf plan.now)) }
 {
-    if !is_line(line) {
-        return Err(PlanError::BadLine(number));
-    }
-    let fields = Fields::of(line);
-    if fields.is_skipped() {
+    let Some(fields) = Fields::read(number, line)? else {
         return Ok(None);
-    }
+    };
     match event_of(plan, number, fields) {
         Ok(event) => Ok(Some(event)),
         Err(error) => Err(error),

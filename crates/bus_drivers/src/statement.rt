@@ -6,7 +6,7 @@ ghost use Rattle.bus_drivers.specs.DriverFile.{driver_of, fail_of, statement_of,
 
 use crate::driver::Driver;
 use crate::fail_line::FailLine;
-use bus_plan::{Fields, PlanError, is_line};
+use bus_plan::{Fields, PlanError};
 use dt_tree::{Bytes, Name, Path, is_name, is_path};
 use std::alloc::{AllocError, Global};
 
@@ -105,13 +105,9 @@ impl Statement {
     pub fn read(alloc: Global, number: usize, line: &[u8]) -> Result<Option<Self>, PlanError>
         ensures { Answers (meaning number line.now) result }
     {
-        if !is_line(line) {
-            return Err(PlanError::BadLine(number));
-        }
-        let fields = Fields::of(line);
-        if fields.is_skipped() {
+        let Some(fields) = Fields::read(number, line)? else {
             return Ok(None);
-        }
+        };
         match statement_of(alloc, number, fields)? {
             None => Err(PlanError::BadLine(number)),
             Some(statement) => Ok(Some(statement)),

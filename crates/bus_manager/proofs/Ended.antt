@@ -1,13 +1,11 @@
 -- What a quiet keeper says at the end.
-use Rattle.std.proofs.Common.{◌≡◌, ℕ, ◌<◌, true, List, ◌++◌, Option, length, cond, refl, ap, ap₂, ◌∙◌, arith}
-use Rattle.std.specs.Prelude.{codes}
+use Rattle.std.proofs.Common.{◌≡◌, ℕ, ◌<◌, true, List, Option, length, refl, ap, ◌∙◌}
 use Rattle.bus_plan.specs.Plan.{PlannedDevice}
 use Rattle.bus_core.specs.CoreState.{CoreState}
 use Rattle.bus_core.specs.Due.{is_quiet}
 use Rattle.bus_core.specs.History.{bound_in, IsBusHistory}
-use Rattle.bus_core.specs.Report.{line_of, status_of, end_status, end_text, report_text, IsEndReport}
-use Rattle.bus_core.proofs.LeastLemmas.{quiet-least, quiet-status, end-one}
-use Rattle.bus_core.proofs.Lists.{flat_map_same}
+use Rattle.bus_core.specs.Report.{status_of, end_status, end_text, report_text, IsEndReport}
+use Rattle.bus_core.proofs.LeastLemmas.{quiet-least, quiet-status, quiet-text, end-one}
 use Rattle.bus_board.specs.Ends.{EndsAs}
 use Rattle.bus_board.specs.declared.view.View.{View}
 use Rattle.bus_board.specs.declared.words.Word.{Word}
@@ -19,14 +17,7 @@ pub run-ended : {N : Type 0} (attests : ℕ → N → Type 0) (plan : List Plann
     → IsBusHistory plan s.history → is_quiet plan s ≡ true → report ≡ report_text plan s → AreNotes attests plan notes
     → ((d : ℕ) → d < length plan → has_note notes d ≡ has_settled (status_of plan s d)) → IsRun attests plan report notes
 run-ended attests plan s report notes steps quiet text are noted =
-    let ends : IsEndReport plan report = record {
-      bound = bound_in s.history;
-      least = quiet-least plan s steps quiet;
-      text_is = text ∙ ap₂ (λ lines last. lines ++ last)
-          (flat_map_same (λ d. line_of plan (bound_in s.history) (status_of plan s d) d) (λ d. line_of plan (bound_in s.history) (end_status plan (bound_in s.history) d) d) (length plan) 0
-          (λ d above below. ap (λ said. line_of plan (bound_in s.history) said d) (quiet-status plan s steps quiet d (omega arith))))
-          (ap (λ b. cond b (codes "quiet\n") (codes "busy\n")) quiet);
-    }
+    let ends : IsEndReport plan report = record { bound = bound_in s.history; least = quiet-least plan s steps quiet; text_is = text ∙ quiet-text plan s steps quiet }
     in record {
       ends = ends;
       one = λ other said. end-one plan other report said ends;

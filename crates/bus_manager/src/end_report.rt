@@ -1,14 +1,14 @@
 //! The end report of a plan, from the words that a quiet board ended with.
 
-ghost use Rattle.std.specs.Prelude.{◌≡◌, ◌<◌, ◌++◌, length, flat_map, IfOk, OnOk};
+ghost use Rattle.std.specs.Prelude.{◌≡◌, ◌<◌, ◌++◌, length, flat_map, IfOk, IfSome, OnOk};
 ghost use Rattle.std.specs.List.{list_all};
 ghost use Rattle.bus_plan.specs.Plan.{suppliers_of};
 ghost use Rattle.bus_core.specs.Due.{devices};
-ghost use Rattle.bus_core.specs.Report.{driver_text, end_status, end_text, line_of, missing_supplier, path_text, status_text};
+ghost use Rattle.bus_core.specs.Report.{end_line, end_status, end_text, line_of, missing_supplier};
 ghost use Rattle.bus_manager.specs.BoardEnd.{bound_by_words};
 
 use bus_board::Word;
-use bus_core::Status;
+use bus_core::{Status, push_line};
 use bus_plan::{Device, Plan};
 use std::alloc::{AllocError, Global};
 
@@ -60,82 +60,39 @@ fn missing_supplier(plan: &Plan, words: &[Word], device: Device) -> Option<Devic
         .find(|supplier| !is_bound(words, *supplier))
 }
 
-fn push_driver(text: &mut Vec<u8>, plan: &Plan, device: Device) -> Result<(), AllocError>
+// The supplier that the line of a device with this status names: only that of a waiting device is looked for.
+fn named_supplier(plan: &Plan, words: &[Word], device: Device, status: Status) -> Option<Device>
     requires { device < length plan.now }
-    ensures { OnOk result (text.new.items ≡ text.old.items ++ driver_text plan.now device) }
-{
-    match plan.driver(device) {
-        Some(name) => text.extend_from_slice(name.as_bytes()),
-        None => Ok(()),
-    }
-}
-
-fn push_missing(
-    text: &mut Vec<u8>,
-    plan: &Plan,
-    words: &[Word],
-    device: Device,
-) -> Result<(), AllocError>
-    requires { device < length plan.now }
-    ensures { OnOk result (text.new.items ≡ text.old.items ++ path_text plan.now (missing_supplier plan.now (bound_by_words words.now) device)) }
+    ensures line { line_of plan.now result status device ≡ line_of plan.now (missing_supplier plan.now (bound_by_words words.now) device) status device }
+    ensures within { IfSome result (λ supplier. supplier < length plan.now) }
 {
     plan.check();
-    match missing_supplier(plan, words, device) {
-        Some(supplier) => text.extend_from_slice(plan.path(supplier).as_bytes()),
-        None => Ok(()),
+    match status {
+        Status::Waiting => missing_supplier(plan, words, device),
+        _ => None,
     }
 }
 
-fn push_status(
+fn push_device(
     text: &mut Vec<u8>,
     plan: &Plan,
     words: &[Word],
     device: Device,
 ) -> Result<(), AllocError>
     requires { device < length plan.now }
-    ensures { OnOk result (text.new.items ≡ text.old.items ++ status_text plan.now (bound_by_words words.now) device (end_status plan.now (bound_by_words words.now) device)) }
+    ensures { OnOk result (text.new.items ≡ text.old.items ++ end_line plan.now (bound_by_words words.now) device) }
 {
-    match end_status(plan, words, device) {
-        Status::Bound => {
-            text.extend_from_slice(b" bound ")?;
-            push_driver(text, plan, device)
-        }
-        Status::Failed => {
-            text.extend_from_slice(b" failed ")?;
-            push_driver(text, plan, device)
-        }
-        Status::Probing => text.extend_from_slice(b" probing"),
-        Status::Due => text.extend_from_slice(b" due"),
-        Status::Waiting => {
-            text.extend_from_slice(b" waiting ")?;
-            push_missing(text, plan, words, device)
-        }
-        Status::Unmatched => text.extend_from_slice(b" unmatched"),
-        Status::Disabled => text.extend_from_slice(b" disabled"),
-    }
-}
-
-fn push_line(
-    text: &mut Vec<u8>,
-    plan: &Plan,
-    words: &[Word],
-    device: Device,
-) -> Result<(), AllocError>
-    requires { device < length plan.now }
-    ensures { OnOk result (text.new.items ≡ text.old.items ++ line_of plan.now (bound_by_words words.now) (end_status plan.now (bound_by_words words.now) device) device) }
-{
-    text.extend_from_slice(plan.path(device).as_bytes())?;
-    push_status(text, plan, words, device)?;
-    text.push(b'\n')?;
-    Ok(())
+    let status = end_status(plan, words, device);
+    let missing = named_supplier(plan, words, device, status);
+    push_line(text, plan, device, status, missing)
 }
 
 fn device_lines(alloc: Global, plan: &Plan, words: &[Word]) -> Result<Vec<u8>, AllocError>
-    ensures { IfOk result (λ text. text.items ≡ flat_map (λ d. line_of plan.now (bound_by_words words.now) (end_status plan.now (bound_by_words words.now) d) d) (devices plan.now)) }
+    ensures { IfOk result (λ text. text.items ≡ flat_map (end_line plan.now (bound_by_words words.now)) (devices plan.now)) }
 {
     let mut text = Vec::new(alloc);
     for index in 0..plan.len() {
-        push_line(&mut text, plan, words, Device::new(index))?;
+        push_device(&mut text, plan, words, Device::new(index))?;
     }
     Ok(text)
 }

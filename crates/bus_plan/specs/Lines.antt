@@ -1,8 +1,10 @@
 -- The lines and the fields of a text file of the bus.
-use Rattle.std.specs.Prelude.{ℕ, Bool, true, ◌&&◌, ◌||◌, ◌==◌, nat_le, not, List, [], ◌∷◌, length, filter, slice_index, Option}
+use Rattle.std.specs.Prelude.{ℕ, Bool, true, ◌&&◌, ◌||◌, ◌==◌, nat_le, not, if◌then◌else◌, List, [], ◌∷◌, length, filter, slice_index, Option, Some, None, Result, Ok, Err}
 use Rattle.std.specs.Borrow.{Bor}
 use Rattle.std.specs.Iterator.{YieldsFirstRef}
 use Rattle.std.specs.List.{list_all, slice_split}
+use Rattle.bus_plan.specs.declared.error.PlanError.{PlanError}
+use Rattle.bus_plan.specs.declared.error.PlanError.TheVariants.{BadLine}
 -- the lines of a text are std's `lines`: the parts between line feeds, the last one only if it isn't empty,
 -- and one carriage return goes with the line feed behind it
 pub use Rattle.std.specs.Str.Lines.{lines}
@@ -34,3 +36,9 @@ TakesFirst = YieldsFirstRef (λ left. left)
 abbrev pub is_skipped : List (List ℕ) → Bool
 is_skipped [] = true
 is_skipped (field ∷ more) = slice_index field 0 == 35
+
+-- what there is to read in a line: its fields, nothing where it is skipped, or that it is bad
+abbrev pub line_fields : ℕ → List ℕ → Result (Option (List (List ℕ))) PlanError
+line_fields number line =
+    if is_line line then (if is_skipped (fields line) then Ok None else Ok (Some (fields line)))
+    else Err (BadLine number)

@@ -6,7 +6,6 @@ ghost use Rattle.bus_plan.specs.PlanFile.{are_supplier_paths};
 use crate::device::Device;
 use crate::error::PlanError;
 use crate::fields::Fields;
-use crate::lines::is_line;
 use crate::matching::Matching;
 use crate::paths::PathIndex;
 use crate::planned::Planned;
@@ -153,14 +152,10 @@ impl<'a> DeviceLine<'a> {
     pub fn read(alloc: Global, number: usize, line: &'a [u8]) -> Result<Option<Self>, PlanError>
         ensures { Answers (meaning number line.now) result }
     {
-        if !is_line(line) {
-            return Err(PlanError::BadLine(number));
+        match Fields::read(number, line)? {
+            Some(fields) => Ok(Some(Self::of(alloc, number, fields)?)),
+            None => Ok(None),
         }
-        let fields = Fields::of(line);
-        if fields.is_skipped() {
-            return Ok(None);
-        }
-        Ok(Some(Self::of(alloc, number, fields)?))
     }
 
     /// The device with its suppliers found.

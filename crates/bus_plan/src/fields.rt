@@ -1,6 +1,8 @@
 ghost use Rattle.std.specs.Prelude.{◌≡◌, ℕ, ◌<◌, ◌≤◌, Bool, not, length, slice_index};
-ghost use Rattle.bus_plan.specs.Lines.{is_blank, fields, is_skipped};
+ghost use Rattle.bus_plan.specs.Lines.{is_blank, fields, is_skipped, line_fields};
 
+use crate::error::PlanError;
+use crate::lines::is_line;
 use std::marker::Model;
 
 /// The fields of a line, which spaces and tabs separate: each is cut when it is asked for, and none takes memory.
@@ -59,6 +61,20 @@ impl<'a> Fields<'a> {
             None => true,
             Some(byte) => *byte == b'#',
         }
+    }
+
+    /// What there is to read in a line: its fields, or nothing where it is skipped.
+    pub fn read(number: usize, line: &'a [u8]) -> Result<Option<Self>, PlanError>
+        ensures { result ≡ line_fields number line.now }
+    {
+        if !is_line(line) {
+            return Err(PlanError::BadLine(number));
+        }
+        let fields = Self::of(line);
+        if fields.is_skipped() {
+            return Ok(None);
+        }
+        Ok(Some(fields))
     }
 }
 

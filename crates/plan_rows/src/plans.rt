@@ -288,3 +288,26 @@ fn lines_are_cut_into_fields(rt: HostRuntime) -> Result<(), Fail> {
     }
     Ok(())
 }
+
+fn first_field<'a>(line: &'a [u8]) -> Result<Option<&'a [u8]>, PlanError> {
+    match Fields::read(7, line)? {
+        Some(mut fields) => Ok(fields.next()),
+        None => Ok(None),
+    }
+}
+
+/// A line is read as its fields, as nothing where it is skipped, or refused with its number.
+#[test]
+fn lines_are_read(rt: HostRuntime) -> Result<(), Fail> {
+    let rows: [(&[u8], Result<Option<&[u8]>, PlanError>); 5] = [
+        (b"", Ok(None)),
+        (b" # a", Ok(None)),
+        (b" a\t#b ", Ok(Some(b"a"))),
+        (b"a\r", Err(PlanError::BadLine(7))),
+        (b"#\r", Err(PlanError::BadLine(7))),
+    ];
+    for (line, read) in rows {
+        assert_eq!(rt; first_field(line), read);
+    }
+    Ok(())
+}

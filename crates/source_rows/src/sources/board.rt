@@ -207,6 +207,17 @@ boot: /memreserve/ 0x9f000000 (16 * 1024 * 1024);\n\
 \t\t\t\t#pwm-cells = <3>;\n\
 \t\t\t};\n\
 \n\
+\t\t\tspi0: spi@1000 {\n\
+\t\t\t\tcompatible = \"tern,spi\";\n\
+\t\t\t\treg = <0x1000 0x400>;\n\
+\t\t\t\tinterrupts = <0 12 4>;\n\
+\t\t\t\tclocks = <&ccu 61>;\n\
+\t\t\t\tresets = <&ccu 44>;\n\
+\t\t\t\t#address-cells = <1>;\n\
+\t\t\t\t#size-cells = <0>;\n\
+\t\t\t\tstatus = \"disabled\";\n\
+\t\t\t};\n\
+\n\
 \t\t\tmmc0: mmc@4000 {\n\
 \t\t\t\tcompatible = \"tern,mmc\";\n\
 \t\t\t\treg = <0x4000 0x1000>;\n\
