@@ -7,5 +7,3 @@
 mod assemblies;
 #[cfg(test)]
 mod drafts;
-#[cfg(test)]
-mod edits;

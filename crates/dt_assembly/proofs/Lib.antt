@@ -1,10 +1,12 @@
 pub mod Chains
 pub mod InTurn
+pub mod MakingWalk
 pub mod Orders
 pub mod PathFacts
 pub mod Pushes
+pub mod SizesOfMaps
 pub mod Standing
 pub mod Steps
 pub mod TreeLists
+pub mod TreeNodes
 pub mod Walks
-pub mod Ways

@@ -44,6 +44,12 @@ same-is (x ∷ xs) (y ∷ ys) e =
     let parts = and_parts (bytes_eq x y) (same_path xs ys) e in
     ap₂ (λ a b. a ∷ b) ((bytes_eq-Decides x y).0 parts.0) (same-is xs ys parts.1)
 
+pub other-way : (p q : Path) → same_path p q ≡ false → same_path q p ≡ false
+other-way p q e = by_same (same_path q p) refl where
+  by_same : (t : Bool) → same_path q p ≡ t → t ≡ false
+  by_same true same = not-both (same_path p q) (ap (same_path p) (same-is q p same) ∙ same-itself p) e
+  by_same false same = refl
+
 pub below-is : (p x : Path) (n : List ℕ) → name_below p x ≡ Some n → x ≡ p ++ n ∷ []
 below-is [] [] n e = absurd (cc)
 below-is [] (m ∷ []) n e = let h : m ≡ n = cc in ap (λ k. k ∷ []) h

@@ -8,7 +8,7 @@ use Rattle.dt_meaning.specs.Edits.{Label}
 use Rattle.dt_meaning.specs.Phandles.{new_ones}
 use Rattle.dt_meaning.specs.Resolved.{Resolved, fronts, symbol, is_too_deep, with_more}
 use Rattle.dt_assembly.specs.Standing.{are_apart, AreNodes}
-use Rattle.dt_assembly.proofs.PathFacts.{not-both, not-true, or-false, same-itself, same-is, listed-first}
+use Rattle.dt_assembly.proofs.PathFacts.{not-true, or-false, other-way, same-is, listed-first}
 
 pub listed-both : (p : Path) (xs ys : List Path) → is_listed p (xs ++ ys) ≡ (is_listed p xs || is_listed p ys)
 listed-both p [] ys = refl
@@ -17,13 +17,8 @@ listed-both p (x ∷ xs) ys = ap (λ b. same_path p x || b) (listed-both p xs ys
   or-both true b c = refl
   or-both false b c = refl
 
-other-way : (p q : Path) → same_path p q ≡ false → same_path q p ≡ false
-other-way p q e = by_same (same_path q p) refl where
-  by_same : (t : Bool) → same_path q p ≡ t → t ≡ false
-  by_same true same = not-both (same_path p q) (ap (same_path p) (same-is q p same) ∙ same-itself p) e
-  by_same false same = refl
-
-apart-more : (xs : List Path) (p : Path) → are_apart xs ≡ true → is_listed p xs ≡ false → are_apart (xs ++ p ∷ []) ≡ true
+-- one path more that isn't there
+pub apart-more : (xs : List Path) (p : Path) → are_apart xs ≡ true → is_listed p xs ≡ false → are_apart (xs ++ p ∷ []) ≡ true
 apart-more [] p a new = refl
 apart-more (x ∷ xs) p a new =
     let parts = and_parts (not (is_listed x xs)) (are_apart xs) a in

@@ -1,5 +1,5 @@
 pub mod Lists
 pub mod OpenNodes
 pub mod Private
+pub mod Sizes
 pub mod Standing
-pub mod Values

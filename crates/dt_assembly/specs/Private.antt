@@ -1,2 +1,3 @@
--- What private contracts cite: the fields of an assembly. No public clause rests on it.
+-- What private contracts cite: the fields of an assembly, and how far a tree is made, for the crates above. No public clause rests on it.
+pub mod Making
 pub mod Opened

@@ -1,28 +1,19 @@
 //! Laws of a tree's lists: functions that do nothing, whose contracts are the laws.
-ghost use Rattle.std.specs.Prelude.{◌≡◌, List, map, true};
+ghost use Rattle.std.specs.Prelude.{◌≡◌, List, true};
 ghost use Rattle.dt_tree.specs.NodeData.{NodeData};
 ghost use Rattle.dt_tree.specs.PathMap.{path_map};
 ghost use Rattle.dt_tree.specs.Sound.{IsSound};
-ghost use Rattle.dt_meaning.specs.Fixups.{bytes_of, value_bytes};
 ghost use Rattle.dt_meaning.specs.MapOf.{map_of};
 ghost use Rattle.dt_meaning.specs.Paths.{Path};
-ghost use Rattle.dt_meaning.specs.Phandles.{Number};
-ghost use Rattle.dt_meaning.specs.References.{Found, preorder};
+ghost use Rattle.dt_meaning.specs.References.{preorder};
 ghost use Rattle.dt_meaning.specs.Resolved.{Resolved};
 ghost use Rattle.dt_assembly.specs.Lists.{lists_of};
 ghost use Rattle.dt_assembly.specs.Standing.{AreFollowed, AreNodes, are_apart, walked};
-ghost use Rattle.dt_assembly.specs.Values.{bytes_of_parts, part_bytes};
-ghost use Rattle.dt_assembly.specs.declared.value.Part.{Part};
 
 /// The walk puts each node down once, and each below the one before it or below a node above that: so an assembly takes them.
 pub fn walk_of_nodes()
     ensures once { (nodes : List Path) → AreNodes nodes → are_apart (preorder nodes) ≡ true }
     ensures followed { (nodes : List Path) → AreNodes nodes → AreFollowed (preorder nodes) }
-{}
-
-/// A value has the bytes that are meant, where each of its parts has.
-pub fn bytes_of_a_value()
-    ensures { (xs : List Number) (parts : List Part) (v : List Found) → map part_bytes parts ≡ map (bytes_of xs) v → bytes_of_parts parts ≡ value_bytes xs v }
 {}
 
 /// The lists of a tree say all that its path map says.

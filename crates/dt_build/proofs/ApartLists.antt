@@ -1,5 +1,5 @@
 -- What is true of each element of a list, or of each two.
-use Rattle.std.proofs.Common.{◌≡◌, suc, Bool, true, false, List, [], ◌∷◌, ◌++◌, map, refl, arith}
+use Rattle.std.proofs.Common.{◌≡◌, Bool, true, false, List, [], ◌∷◌, ◌++◌, map, refl}
 use Rattle.std.specs.Prelude.{All}
 use Rattle.std.specs.List.{filter}
 use Rattle.dt_layout.proofs.Each.{Each, each-append, each-all, each-more}
@@ -11,10 +11,6 @@ InPairs R (x ∷ xs) = Each (R x) xs × InPairs R xs
 
 -- ---- each
 module _ {A : Type 0} (P : A → Type 0) where
-  pub each-of : (xs : List A) → All P xs → Each P xs
-  each-of [] all = tt
-  each-of (x ∷ xs) all = (all 0 x (omega arith), each-of xs (λ i y below. all (suc i) y (omega arith)))
-
   pub all-of : (xs : List A) → Each P xs → All P xs
   all-of xs each i d below = each-all P xs each i d below
 

@@ -68,12 +68,12 @@ keys-given : (ps : List Path) (es : List (Definition (List Piece))) (fs : List (
 keys-given ps es fs same h = each-from (IsGiven ps) bare fs (subst (Each (IsGiven ps)) (sym same) (each-same (IsGiven ps) bare es h))
 
 -- ---- no two properties of one node have one name
-module _ (symbols : Bool) (s : State (List Piece)) (are : AreNodes s.nodes) (keys : InPairs HasOtherKey s.properties) (given new : List Number) (fs : List (Definition (List Found)))
-    (gave : given_of (in_order s) [] ≡ Ok given) (found : references false s ≡ Ok fs) (is : new ≡ numbered given 0 (wanted symbols s given fs)) where
+module _ (symbols plugin : Bool) (s : State (List Piece)) (are : AreNodes s.nodes) (keys : InPairs HasOtherKey s.properties) (given new : List Number) (fs : List (Definition (List Found)))
+    (gave : given_of (in_order s) [] ≡ Ok given) (found : references plugin s ≡ Ok fs) (is : new ≡ numbered given 0 (wanted symbols s given fs)) where
   pub names-apart : (q : Path) → are_distinct (map (λ e. e.name) (held (made given new fs) q)) ≡ true
   names-apart q =
-      let same = keys-found s (in_order s) fs found in
-      distinct-held q (made given new fs) (made-apart given new fs (new-numbers symbols s (in_order s) fs given new found is)
+      let same = keys-found plugin s (in_order s) fs found in
+      distinct-held q (made given new fs) (made-apart given new fs (new-numbers symbols plugin s (in_order s) fs given new found is)
       (keys-apart (in_order s) fs same (pairs-in-order s.properties (preorder s.nodes) (each-once s.nodes are) keys))
       (keys-given (paths given) (in_order s) fs same (all-given (in_order s) [] given gave)))
 

@@ -8,16 +8,15 @@ use Rattle.dt_meaning.specs.Paths.{Path, same_path, is_listed}
 use Rattle.dt_meaning.specs.Syntax.{OfLabel, OfPath, Piece, Plain, PhandleOf, PathOf}
 use Rattle.dt_meaning.specs.Edits.{Definition, definition, State, label_path}
 use Rattle.dt_meaning.specs.Statements.{DuplicatePhandle, ReservedName, then_do, found}
-use Rattle.dt_meaning.specs.References.{preorder, Found, Bytes, Cell, Way, each, cell_at, cell_of_label, found_in, found_value}
+use Rattle.dt_meaning.specs.References.{preorder, Found, Bytes, Cell, Open, Way, each, cell_at, cell_of, cell_of_label, found_in, found_value}
 use Rattle.dt_meaning.specs.Phandles.{Number, numbered_at, has_number, is_phandle, number_in, given_one, given_of, cell_path, named_in_cells, labelled, new_ones, next_free, numbered, wanted}
 use Rattle.dt_draft.proofs.PathTests.{same-itself}
 use Rattle.dt_layout.proofs.Each.{Each, each-append, each-more}
 use Rattle.dt_assembly.specs.Standing.{are_apart}
-use Rattle.dt_assembly.proofs.PathFacts.{not-both, not-true, or-false, or-right}
+use Rattle.dt_assembly.proofs.PathFacts.{not-both, not-true, or-false, or-right, other-way}
 use Rattle.dt_assembly.proofs.Standing.{listed-both}
 use Rattle.dt_build.proofs.ApartLists.{InPairs, each-passed}
 use Rattle.dt_build.proofs.NamedEdits.{did, ok-is, not-refused}
-use Rattle.dt_build.proofs.NodesStanding.{other-way}
 
 abbrev pub paths : List Number → List Path
 paths xs = map (λ x. x.path) xs
@@ -85,51 +84,57 @@ cell-free p f e =
     let g = not-refused (is_reserved p) ReservedName (Ok (Cell p)) f e in
     subst AreFree (ok-is (Cell p) f g.1) (g.0, tt)
 
-label-free : (l : List ℕ) (o : Option Path) (f : Found) → cell_of_label false l o ≡ Ok f → AreFree f
-label-free l (Some p) f e = cell-free p f e
-label-free l None f e = absurd (cc)
+label-free : (plugin : Bool) (l : List ℕ) (o : Option Path) (f : Found) → cell_of_label plugin l o ≡ Ok f → AreFree f
+label-free true l (Some p) f e = cell-free p f e
+label-free true l None f e = subst AreFree (ok-is (Open l) f e) tt
+label-free false l (Some p) f e = cell-free p f e
+label-free false l None f e = absurd (cc)
 
 -- node and name alone
 abbrev pub bare : {V : Type 0} → Definition V → Definition (Unit {0})
 bare e = definition e.path e.name tt
 
-module _ (s : State (List Piece)) where
-  piece-free : (v : Piece) (f : Found) → found_in false s v ≡ Ok f → AreFree f
+path-free : (plugin : Bool) (s : State (List Piece)) (t : List ℕ) (f : Found) → cell_of plugin s (OfPath t) ≡ Ok f → AreFree f
+path-free true s t f e = absurd (cc)
+path-free false s t f e =
+    let a = did (found (OfPath t) s) cell_at f e in
+    cell-free a.0 f a.2
+
+module _ (plugin : Bool) (s : State (List Piece)) where
+  piece-free : (v : Piece) (f : Found) → found_in plugin s v ≡ Ok f → AreFree f
   piece-free (Plain b) f e = subst AreFree (ok-is (Bytes b) f e) tt
   piece-free (PathOf t) f e =
       let a = did (found t s) (λ p. Ok (Way p)) f e in
       subst AreFree (ok-is (Way a.0) f a.2) tt
-  piece-free (PhandleOf (OfLabel l)) f e = label-free l (label_path l s.labels) f e
-  piece-free (PhandleOf (OfPath t)) f e =
-      let a = did (found (OfPath t) s) cell_at f e in
-      cell-free a.0 f a.2
+  piece-free (PhandleOf (OfLabel l)) f e = label-free plugin l (label_path l s.labels) f e
+  piece-free (PhandleOf (OfPath t)) f e = path-free plugin s t f e
 
-  value-free : (vs : List Piece) (fs : List Found) → each (found_in false s) vs ≡ Ok fs → Each IsFree (flat_map cell_path fs)
+  value-free : (vs : List Piece) (fs : List Found) → each (found_in plugin s) vs ≡ Ok fs → Each IsFree (flat_map cell_path fs)
   value-free [] fs e = subst (λ (gs : List Found). Each IsFree (flat_map cell_path gs)) (ok-is [] fs e) tt
   value-free (v ∷ vs) fs e =
-      let a = did (found_in false s v) (λ b. then_do (each (found_in false s) vs) (λ bs. Ok (b ∷ bs))) fs e in
-      let b = did (each (found_in false s) vs) (λ bs. Ok (a.0 ∷ bs)) fs a.2 in
+      let a = did (found_in plugin s v) (λ b. then_do (each (found_in plugin s) vs) (λ bs. Ok (b ∷ bs))) fs e in
+      let b = did (each (found_in plugin s) vs) (λ bs. Ok (a.0 ∷ bs)) fs a.2 in
       subst (λ (gs : List Found). Each IsFree (flat_map cell_path gs)) (ok-is (a.0 ∷ b.0) fs b.2)
       (each-append IsFree (cell_path a.0) (flat_map cell_path b.0) (piece-free v a.0 a.1) (value-free vs b.0 b.1))
 
-  pub cells-free : (es : List (Definition (List Piece))) (fs : List (Definition (List Found))) → each (found_value false s) es ≡ Ok fs → Each IsFree (named_in_cells fs)
+  pub cells-free : (es : List (Definition (List Piece))) (fs : List (Definition (List Found))) → each (found_value plugin s) es ≡ Ok fs → Each IsFree (named_in_cells fs)
   cells-free [] fs e = subst (λ (gs : List (Definition (List Found))). Each IsFree (named_in_cells gs)) (ok-is [] fs e) tt
   cells-free (x ∷ es) fs e =
-      let a = did (found_value false s x) (λ b. then_do (each (found_value false s) es) (λ bs. Ok (b ∷ bs))) fs e in
-      let b = did (each (found_value false s) es) (λ bs. Ok (a.0 ∷ bs)) fs a.2 in
-      let v = did (each (found_in false s) x.value) (λ w. Ok (definition x.path x.name w)) a.0 a.1 in
+      let a = did (found_value plugin s x) (λ b. then_do (each (found_value plugin s) es) (λ bs. Ok (b ∷ bs))) fs e in
+      let b = did (each (found_value plugin s) es) (λ bs. Ok (a.0 ∷ bs)) fs a.2 in
+      let v = did (each (found_in plugin s) x.value) (λ w. Ok (definition x.path x.name w)) a.0 a.1 in
       subst (λ (gs : List (Definition (List Found))). Each IsFree (named_in_cells gs)) (ok-is (a.0 ∷ b.0) fs b.2)
       (each-append IsFree (flat_map cell_path a.0.value) (named_in_cells b.0)
       (subst (λ (g : Definition (List Found)). Each IsFree (flat_map cell_path g.value)) (ok-is (definition x.path x.name v.0) a.0 v.2) (value-free x.value v.0 v.1))
       (cells-free es b.0 b.1))
 
   -- finding keeps node and name
-  pub keys-found : (es : List (Definition (List Piece))) (fs : List (Definition (List Found))) → each (found_value false s) es ≡ Ok fs → map bare fs ≡ map bare es
+  pub keys-found : (es : List (Definition (List Piece))) (fs : List (Definition (List Found))) → each (found_value plugin s) es ≡ Ok fs → map bare fs ≡ map bare es
   keys-found [] fs e = ap (map bare) (sym (ok-is [] fs e))
   keys-found (x ∷ es) fs e =
-      let a = did (found_value false s x) (λ b. then_do (each (found_value false s) es) (λ bs. Ok (b ∷ bs))) fs e in
-      let b = did (each (found_value false s) es) (λ bs. Ok (a.0 ∷ bs)) fs a.2 in
-      let v = did (each (found_in false s) x.value) (λ w. Ok (definition x.path x.name w)) a.0 a.1 in
+      let a = did (found_value plugin s x) (λ b. then_do (each (found_value plugin s) es) (λ bs. Ok (b ∷ bs))) fs e in
+      let b = did (each (found_value plugin s) es) (λ bs. Ok (a.0 ∷ bs)) fs a.2 in
+      let v = did (each (found_in plugin s) x.value) (λ w. Ok (definition x.path x.name w)) a.0 a.1 in
       ap (map bare) (sym (ok-is (a.0 ∷ b.0) fs b.2))
       ∙ ap₂ (λ f gs. f ∷ gs) (ap bare (sym (ok-is (definition x.path x.name v.0) a.0 v.2))) (keys-found es b.0 b.1)
 
@@ -144,7 +149,7 @@ when-free false ps h = tt
 
 -- ---- each once
 module _ (P : Path → Type 0) where
-  ones-so : (seen ps : List Path) → Each P ps → Each P (new_ones seen ps)
+  pub ones-so : (seen ps : List Path) → Each P ps → Each P (new_ones seen ps)
   ones-so seen [] h = tt
   ones-so seen (p ∷ ps) h = by-seen (is_listed p seen) (ones-so seen ps h.1) (ones-so (p ∷ seen) ps h.1) where
     by-seen : (b : Bool) → Each P (new_ones seen ps) → Each P (new_ones (p ∷ seen) ps) → Each P (if b then new_ones seen ps else p ∷ new_ones (p ∷ seen) ps)
@@ -192,14 +197,14 @@ pub record AreNew (given new : List Number) : Type 0 where
   pub unseen : Each (λ q. is_listed q (paths given) ≡ false) (paths new)
   pub free : Each IsFree (paths new)
 
-pub new-numbers : (symbols : Bool) (s : State (List Piece)) (es : List (Definition (List Piece))) (fs : List (Definition (List Found))) (given new : List Number) → each (found_value false s) es ≡ Ok fs
+pub new-numbers : (symbols plugin : Bool) (s : State (List Piece)) (es : List (Definition (List Piece))) (fs : List (Definition (List Found))) (given new : List Number) → each (found_value plugin s) es ≡ Ok fs
     → new ≡ numbered given 0 (wanted symbols s given fs) → AreNew given new
-new-numbers symbols s es fs given new found is =
+new-numbers symbols plugin s es fs given new found is =
     let named = named_in_cells fs ++ (if symbols then labelled s else []) in
     let at : paths new ≡ new_ones (paths given) named = ap paths is ∙ numbered-paths given 0 (wanted symbols s given fs) in
     record {
       apart = subst (InPairs IsOtherPath) (sym at) (ones-apart (paths given) named);
       unseen = subst (Each (λ q. is_listed q (paths given) ≡ false)) (sym at) (ones-unseen (paths given) named);
       free = subst (Each IsFree) (sym at) (ones-so IsFree (paths given) named
-          (each-append IsFree (named_in_cells fs) (if symbols then labelled s else []) (cells-free s es fs found) (when-free symbols (labelled s) (labelled-free s))));
+          (each-append IsFree (named_in_cells fs) (if symbols then labelled s else []) (cells-free plugin s es fs found) (when-free symbols (labelled s) (labelled-free s))));
     }

@@ -1,17 +1,19 @@
 -- The lists of a source that is prepared: they are its resolved tree, each property stands at a node of theirs, and no name stands
 -- twice at one.
-use Rattle.std.proofs.Common.{◌≡◌, ◌≤◌, ◌+◌, suc, Bool, true, false, ◌||◌, List, [], ◌∷◌, ◌++◌, map, length, get_or, Ok, refl, sym, ap, ap₂, ◌∙◌, subst, arith}
+use Rattle.std.proofs.Common.{◌≡◌, ◌≤◌, suc, Bool, true, false, List, [], ◌∷◌, ◌++◌, map, length, Ok, Err, if◌then◌else◌, refl, sym, ap, ap₂, ◌∙◌, subst, arith}
 use Rattle.std.specs.Prelude.{All}
-use Rattle.std.specs.List.{flat_map}
+use Rattle.std.specs.List.{list_any, flat_map}
 use Rattle.dt_tree.specs.NodeData.{NodeData}
 use Rattle.dt_tree.specs.PathMap.{path_map}
 use Rattle.dt_tree.specs.Sound.{are_distinct, IsSound}
-use Rattle.dt_meaning.specs.Names.{symbols_name}
+use Rattle.dt_meaning.specs.Names.{symbols_name, fixups_name, local_fixups_name}
 use Rattle.dt_meaning.specs.Paths.{Path, same_path, is_listed}
 use Rattle.dt_meaning.specs.Syntax.{Meaning}
 use Rattle.dt_meaning.specs.Edits.{Definition, Label}
+use Rattle.dt_meaning.specs.Statements.{TooDeep, then_do}
 use Rattle.dt_meaning.specs.References.{Found, held, preorder}
-use Rattle.dt_meaning.specs.Resolved.{Resolved, names_taken, phandle_property, put_together, resolved, symbol, when, with_bytes, with_more}
+use Rattle.dt_meaning.specs.Fixups.{places, fixups, local_fixups}
+use Rattle.dt_meaning.specs.Resolved.{Resolved, is_too_deep, names_taken, phandle_property, put_together, resolved, resolved_state, shallow, symbol, when, with_bytes, with_more}
 use Rattle.dt_meaning.specs.MapOf.{map_of}
 use Rattle.dt_draft.specs.declared.table.NodeRow.{NodeRow}
 use Rattle.dt_draft.specs.Rows.{path_of, stands, standing}
@@ -23,36 +25,38 @@ use Rattle.dt_resolve.specs.declared.prepared.Prepared.{Prepared}
 use Rattle.dt_resolve.specs.Numbers.{AreStanding, number_at}
 use Rattle.dt_resolve.specs.Prepared.{IsPrepared}
 use Rattle.dt_assembly.specs.Standing.{AreNodes, behind_root, walked}
-use Rattle.dt_assembly.proofs.InTurn.{each-once}
-use Rattle.dt_assembly.proofs.PathFacts.{same-is, listed-first, listed-next, or-right}
-use Rattle.dt_assembly.proofs.Standing.{listed-both}
-use Rattle.dt_build.specs.Built.{size_in, size_below}
-use Rattle.dt_build.specs.Private.Made.{all_numbers, founds, given_numbers, lists, made_properties, new_numbers, ok_or_none, own, plain_lists}
+use Rattle.dt_assembly.specs.Sizes.{size_in, size_below}
+use Rattle.dt_assembly.proofs.Orders.{map-walked}
+use Rattle.dt_assembly.proofs.PathFacts.{same-is, listed-first, listed-next}
+use Rattle.dt_assembly.proofs.SizesOfMaps.{once-by_names, sizes-of-lists}
+use Rattle.dt_build.specs.Private.Made.{all_numbers, fixup_lists, founds, given_numbers, lists, made_places, made_properties, new_numbers, own, plain_lists, symbol_lists}
 use Rattle.dt_build.specs.Private.Ready.{IsReady}
-use Rattle.dt_build.proofs.Shallow.{all-resolved, symbols-free, together}
-use Rattle.dt_build.proofs.SizeOfWalk.{size-append, size-of-walk}
-use Rattle.dt_build.proofs.SizesOfMaps.{sizes-of-tree, size-of-lists}
-use Rattle.dt_build.proofs.SymbolsLast.{symbols_path, held-before, held-last, symbols-walked, with-none, with-symbols}
+use Rattle.dt_build.proofs.ApartLists.{each-same}
+use Rattle.dt_build.proofs.FixupLists.{fixups-at, fixups-distinct, fixups-under}
+use Rattle.dt_build.proofs.MirrorLists.{local_fixups-distinct, local_fixups-under}
+use Rattle.dt_build.proofs.MoreLists.{AllUnder, IsUnder, IsWhole, other-child, shallow-child, under-at, whole-more, whole-none}
+use Rattle.dt_build.proofs.Ready.{founds-are}
+use Rattle.dt_build.proofs.Shallow.{fixups-free, mirror-free, put-by, state-resolved, symbols-free}
+use Rattle.dt_build.proofs.SymbolsLast.{symbols_path, symbols-elsewhere, symbols-held, symbols-walked, with-none}
 use Rattle.dt_build.proofs.WalkOrder.{AllAt, AreOrdered, in-walk, walk-ordered}
 
 -- ---- the resolved tree
-pub prepared-resolved : (symbols : Bool) (m : Meaning) (es : List (Definition (List Found))) (p : Prepared) → IsPrepared symbols m es p → m.plugin ≡ false → AreNodes (tree_of p.draft).nodes
-    → resolved symbols m ≡ Ok (lists symbols p)
-prepared-resolved symbols m es p prepared ordinary are =
-    let s = tree_of p.draft in
-    let all = prepared.resolved in
-    all-resolved symbols s es (given_numbers p) are all.free all.given all.found m ordinary prepared.edited
-    ∙ ap₂ (λ fs ns. Ok (put_together symbols false s fs (given_numbers p) ns)) (sym (ap ok_or_none all.found)) (sym all.new)
+module _ (symbols : Bool) (m : Meaning) (es : List (Definition (List Found))) (p : Prepared) (is : IsPrepared symbols m es p) where
+  prepared-shown : resolved symbols m ≡ shallow (lists symbols p)
+  prepared-shown =
+      let s = tree_of p.draft in
+      let all = is.resolved in
+      ap (λ r. then_do r (resolved_state symbols m.plugin)) is.edited
+      ∙ state-resolved symbols m.plugin is.fragments s es (given_numbers p) all.free all.given all.found
+      ∙ ap₂ (λ b ns. shallow (put_together symbols b s es (given_numbers p) ns)) (sym is.plugin) (sym all.new)
+      ∙ ap (λ fs. shallow (put_together symbols p.plugin s fs (given_numbers p) (new_numbers p))) (sym (founds-are symbols m es p is))
+      ∙ ap shallow (put-by symbols p.plugin s (founds p) (given_numbers p) (new_numbers p))
 
--- ---- each of a list
-module _ {A : Type 0} (P : A → Type 0) where
-  each-of : (xs : List A) → All P xs → Each P xs
-  each-of [] all = tt
-  each-of (x ∷ xs) all = (all 0 x (omega arith), each-of xs (λ i y below. all (suc i) y (omega arith)))
+  pub prepared-resolved : list_any is_too_deep (lists symbols p).nodes ≡ false → resolved symbols m ≡ Ok (lists symbols p)
+  prepared-resolved fits = prepared-shown ∙ ap (λ t. if t then Err TooDeep else Ok (lists symbols p)) fits
 
-  each-made : {B : Type 0} (f : B → A) (xs : List B) → Each (λ x. P (f x)) xs → Each P (map f xs)
-  each-made f [] each = tt
-  each-made f (x ∷ xs) each = (each.0, each-made f xs each.1)
+  pub prepared-too_deep : list_any is_too_deep (lists symbols p).nodes ≡ true → resolved symbols m ≡ Err TooDeep
+  prepared-too_deep deep = prepared-shown ∙ ap (λ t. if t then Err TooDeep else Ok (lists symbols p)) deep
 
 abbrev pub IsAt : {V : Type 0} → List Path → Definition V → Type 0
 IsAt nodes e = is_listed e.path nodes ≡ true
@@ -70,7 +74,7 @@ module _ {V : Type 0} where
       (each-append (IsAt (x ∷ xs)) p.first p.others (at-first x xs p.first p.at)
       (each-more (IsAt xs) (IsAt (x ∷ xs)) p.others (λ e there. listed-next e.path x xs there) (ordered-there xs p.others ordered.1)))
 
-  walk-there : (nodes : List Path) → AreNodes nodes → (es : List (Definition V)) → flat_map (held es) (preorder nodes) ≡ es → Each (IsAt ([] ∷ nodes)) es
+  pub walk-there : (nodes : List Path) → AreNodes nodes → (es : List (Definition V)) → flat_map (held es) (preorder nodes) ≡ es → Each (IsAt ([] ∷ nodes)) es
   walk-there nodes are es same =
       each-more (IsAt (preorder nodes)) (IsAt ([] ∷ nodes)) es (λ e there. sym (in-walk nodes are e.path) ∙ there)
       (ordered-there (preorder nodes) es (subst (λ (ds : List (Definition V)). AreOrdered (preorder nodes) ds) same (walk-ordered es (preorder nodes))))
@@ -90,106 +94,108 @@ module _ (p : Prepared) (are : AreNodes (tree_of p.draft).nodes) (same : flat_ma
   made-each : Each (IsAt there) (made_properties p)
   made-each =
       each-append (IsAt there) (map (with_bytes (all_numbers p)) (founds p)) (map phandle_property (new_numbers p))
-      (each-made (IsAt there) (with_bytes (all_numbers p)) (founds p) (walk-there (tree_of p.draft).nodes are (founds p) same))
+      (each-same (IsAt there) (with_bytes (all_numbers p)) (founds p) (walk-there (tree_of p.draft).nodes are (founds p) same))
       (numbered-there p.draft.nodes.items p.resolution.new.items up)
 
   -- each property that is made is at a node
   pub made-there : All (λ e. is_listed e.path ([] ∷ (tree_of p.draft).nodes) ≡ true) (made_properties p)
   made-there = each-all (IsAt there) (made_properties p) made-each
 
--- ---- symbols more
+-- ---- symbols
 names-symbols : (ls : List Label) → map (λ e. e.name) (map symbol ls) ≡ map (λ l. l.label) ls
 names-symbols [] = refl
 names-symbols (l ∷ ls) = ap (λ ns. l.label ∷ ns) (names-symbols ls)
 
-module _ (r : Resolved) (are : AreNodes r.nodes) (new : is_listed symbols_path r.nodes ≡ false) (all : All (λ e. is_listed e.path ([] ∷ r.nodes) ≡ true) r.properties) where
-  symbols-apart : (ls : List Label) → ((q : Path) → are_distinct (map (λ e. e.name) (held r.properties q)) ≡ true) → are_distinct (map (λ l. l.label) ls) ≡ true
-      → (q : Path) → are_distinct (map (λ e. e.name) (held (r.properties ++ map symbol ls) q)) ≡ true
-  symbols-apart ls apart labels q = by_same (same_path q symbols_path) refl where
-    by_same : (t : Bool) → same_path q symbols_path ≡ t → are_distinct (map (λ e. e.name) (held (r.properties ++ map symbol ls) q)) ≡ true
-    by_same true same =
-        ap (λ x. are_distinct (map (λ e. e.name) (held (r.properties ++ map symbol ls) x))) (same-is q symbols_path same)
-        ∙ ap (λ es. are_distinct (map (λ e. e.name) es)) (held-last r are new all ls) ∙ ap are_distinct (names-symbols ls) ∙ labels
-    by_same false same = ap (λ es. are_distinct (map (λ e. e.name) es)) (held-before r are new ls q same) ∙ apart q
+pub symbols-at : (ls : List Label) → Each (λ e. e.path ≡ symbols_path) (map symbol ls)
+symbols-at [] = tt
+symbols-at (l ∷ ls) = (refl, symbols-at ls)
 
-  abbrev more : List Path
-  more = [] ∷ r.nodes ++ symbols_path ∷ []
+symbols-under : (ls : List Label) → AllUnder symbols_name (map symbol ls)
+symbols-under ls = each-more (λ e. e.path ≡ symbols_path) (λ e. IsUnder symbols_name e.path) (map symbol ls) (λ e at. under-at symbols_name e.path at) (symbols-at ls)
 
-  each-symbol : (ls : List Label) → Each (IsAt more) (map symbol ls)
-  each-symbol [] = tt
-  each-symbol (l ∷ ls) =
-      (listed-both symbols_path ([] ∷ r.nodes) (symbols_path ∷ []) ∙ or-right (is_listed symbols_path ([] ∷ r.nodes)) (is_listed symbols_path (symbols_path ∷ [])) (listed-first symbols_path []), each-symbol ls)
+when-under : (t : Bool) (ls : List Label) → AllUnder symbols_name (when t (map symbol ls))
+when-under true ls = symbols-under ls
+when-under false ls = tt
 
-  symbols-there : (l : Label) (ls : List Label) → Each (IsAt ([] ∷ (with_more (map symbol (l ∷ ls)) r).nodes)) (r.properties ++ map symbol (l ∷ ls))
-  symbols-there l ls =
-      subst (λ (ns : List Path). Each (IsAt ([] ∷ ns)) (r.properties ++ map symbol (l ∷ ls))) (sym (with-symbols r l ls))
-      (each-append (IsAt more) r.properties (map symbol (l ∷ ls))
-      (each-more (IsAt ([] ∷ r.nodes)) (IsAt more) r.properties
-      (λ e there. listed-both e.path ([] ∷ r.nodes) (symbols_path ∷ []) ∙ ap (λ b. b || is_listed e.path (symbols_path ∷ [])) there) (each-of (IsAt ([] ∷ r.nodes)) r.properties all))
-      (each-symbol (l ∷ ls)))
+symbols-distinct : (ls : List Label) → are_distinct (map (λ l. l.label) ls) ≡ true → (q : Path) → are_distinct (map (λ e. e.name) (held (map symbol ls) q)) ≡ true
+symbols-distinct ls labels q = by_same (same_path q symbols_path) refl where
+  by_same : (t : Bool) → same_path q symbols_path ≡ t → are_distinct (map (λ e. e.name) (held (map symbol ls) q)) ≡ true
+  by_same true same =
+      ap (λ x. are_distinct (map (λ e. e.name) (held (map symbol ls) x))) (same-is q symbols_path same)
+      ∙ ap (λ es. are_distinct (map (λ e. e.name) es)) (symbols-held ls) ∙ ap are_distinct (names-symbols ls) ∙ labels
+  by_same false other = ap (λ es. are_distinct (map (λ e. e.name) es)) (symbols-elsewhere ls q other)
 
 -- ---- the lists
-pub lists-plain : (symbols : Bool) (p : Prepared) → lists symbols p ≡ with_more (when symbols (map symbol (tree_of p.draft).labels)) (plain_lists p)
-lists-plain symbols p = together symbols (tree_of p.draft) (founds p) (given_numbers p) (new_numbers p)
-
-pub lists-properties : (symbols : Bool) (p : Prepared) → (lists symbols p).properties ≡ made_properties p ++ when symbols (map symbol (tree_of p.draft).labels)
-lists-properties symbols p = ap (λ r. r.properties) (lists-plain symbols p)
-
-module _ (symbols : Bool) (p : Prepared) (ready : IsReady p) (free : names_taken symbols false (tree_of p.draft) ≡ false) where
+module _ (symbols : Bool) (p : Prepared) (ready : IsReady p) (free : names_taken symbols p.plugin (tree_of p.draft) ≡ false) where
   abbrev labels : List Label
   labels = (tree_of p.draft).labels
 
-  all-there : All (λ e. is_listed e.path ([] ∷ (tree_of p.draft).nodes) ≡ true) (made_properties p)
-  all-there = made-there p ready.standing ready.walked ready.new
+  plain-whole : IsWhole (plain_lists p)
+  plain-whole = record { nodes = ready.standing; there = made-there p ready.standing ready.walked ready.new; apart = ready.apart }
 
-  -- each property is at a node
-  pub lists-there : All (λ e. is_listed e.path ([] ∷ (lists symbols p).nodes) ≡ true) (lists symbols p).properties
-  lists-there = subst (λ (r : Resolved). All (λ e. is_listed e.path ([] ∷ r.nodes) ≡ true) r.properties) (sym (lists-plain symbols p)) (by_symbols symbols labels free) where
-    by_symbols : (t : Bool) (ls : List Label) → names_taken t false (tree_of p.draft) ≡ false
-        → All (λ e. is_listed e.path ([] ∷ (with_more (when t (map symbol ls)) (plain_lists p)).nodes) ≡ true) (with_more (when t (map symbol ls)) (plain_lists p)).properties
-    by_symbols false ls free = subst (λ (r : Resolved). All (λ e. is_listed e.path ([] ∷ r.nodes) ≡ true) r.properties) (sym (with-none (plain_lists p))) all-there
-    by_symbols true [] free = subst (λ (r : Resolved). All (λ e. is_listed e.path ([] ∷ r.nodes) ≡ true) r.properties) (sym (with-none (plain_lists p))) all-there
-    by_symbols true (l ∷ ls) free =
-        each-all (IsAt ([] ∷ (with_more (map symbol (l ∷ ls)) (plain_lists p)).nodes)) (made_properties p ++ map symbol (l ∷ ls))
-        (symbols-there (plain_lists p) ready.standing (symbols-free (tree_of p.draft) free) all-there l ls)
+  pub symbols-whole : IsWhole (symbol_lists symbols p)
+  symbols-whole = by_symbols symbols free where
+    by_symbols : (t : Bool) → names_taken t p.plugin (tree_of p.draft) ≡ false → IsWhole (with_more (when t (map symbol labels)) (plain_lists p))
+    by_symbols false free = whole-none (plain_lists p) plain-whole
+    by_symbols true free =
+        whole-more (plain_lists p) symbols_name (map symbol labels) (symbols-free p.plugin (tree_of p.draft) free) (symbols-under labels) plain-whole (symbols-distinct labels ready.labels_apart)
+        (shallow-child (plain_lists p) symbols_name (map symbol labels) ready.standing.shallow (symbols-at labels))
 
-  -- no name stands twice at one node
-  pub lists-apart : (q : Path) → are_distinct (map (λ e. e.name) (held (lists symbols p).properties q)) ≡ true
-  lists-apart q = ap (λ es. are_distinct (map (λ e. e.name) (held es q))) (lists-properties symbols p) ∙ by_symbols symbols free where
-    by_symbols : (t : Bool) → names_taken t false (tree_of p.draft) ≡ false → are_distinct (map (λ e. e.name) (held (made_properties p ++ when t (map symbol labels)) q)) ≡ true
-    by_symbols false free = ap (λ es. are_distinct (map (λ e. e.name) (held es q))) (ap (λ r. r.properties) (with-none (plain_lists p))) ∙ ready.apart q
-    by_symbols true free = symbols-apart (plain_lists p) ready.standing (symbols-free (tree_of p.draft) free) all-there labels ready.apart ready.labels_apart q
+  -- the nodes of fixups and of their mirror are new, where they are made
+  pub fixups-new : p.plugin ≡ true → is_listed (fixups_name ∷ []) (symbol_lists symbols p).nodes ≡ false
+  fixups-new plugin =
+      other-child (plain_lists p) symbols_name (when symbols (map symbol labels)) (when-under symbols labels) fixups_name refl
+      (fixups-free symbols (tree_of p.draft) (ap (λ b. names_taken symbols b (tree_of p.draft)) (sym plugin) ∙ free))
 
-  -- no tree with this map has shorter values
-  pub lists-within : (b : NodeData) → IsSound b → path_map b ≡ map_of (lists symbols p) → size_in (lists symbols p).properties ≤ size_below b
-  lists-within b sound same = omega (arith, sizes-of-tree b (lists symbols p) sound same lists-apart lists-there, size-of-lists b)
+  pub mirror-new : p.plugin ≡ true → is_listed (local_fixups_name ∷ []) (fixup_lists symbols p).nodes ≡ false
+  mirror-new plugin =
+      other-child (symbol_lists symbols p) fixups_name (fixups (made_places p) []) (fixups-under (made_places p)) local_fixups_name refl
+      (other-child (plain_lists p) symbols_name (when symbols (map symbol labels)) (when-under symbols labels) local_fixups_name refl
+      (mirror-free symbols (tree_of p.draft) (ap (λ b. names_taken symbols b (tree_of p.draft)) (sym plugin) ∙ free)))
 
-  -- all values are those of the nodes of the walk, and the symbols
-  pub size-by_nodes : size_in (lists symbols p).properties ≡ size_in (flat_map (own p) (preorder (tree_of p.draft).nodes)) + size_in (when symbols (map symbol labels))
-  size-by_nodes =
-      let nodes = (tree_of p.draft).nodes in
-      let met = size-of-walk (preorder nodes) (each-once nodes ready.standing) (made_properties p)
-      (λ i e below. let d = get_or (made_properties p) i e in in-walk nodes ready.standing d.path ∙ all-there i e below) in
-      ap size_in (lists-properties symbols p) ∙ omega (arith, met, size-append (made_properties p) (when symbols (map symbol labels)))
+  pub fixups-whole : IsWhole (fixup_lists symbols p)
+  fixups-whole = by_plugin p.plugin refl where
+    by_plugin : (b : Bool) → p.plugin ≡ b → IsWhole (with_more (fixups (when b (places (all_numbers p) (founds p))) []) (symbol_lists symbols p))
+    by_plugin false is = whole-none (symbol_lists symbols p) symbols-whole
+    by_plugin true is =
+        let xs = places (all_numbers p) (founds p) in
+        whole-more (symbol_lists symbols p) fixups_name (fixups xs []) (fixups-new is) (fixups-under xs) symbols-whole (fixups-distinct xs)
+        (shallow-child (symbol_lists symbols p) fixups_name (fixups xs []) symbols-whole.nodes.shallow (fixups-at xs))
 
--- ---- the lists in the order of the walk
-pub walked-plain : (p : Prepared) → walked (plain_lists p) ≡ record { nodes = behind_root (preorder (tree_of p.draft).nodes); properties = flat_map (own p) (preorder (tree_of p.draft).nodes) }
-walked-plain p = refl
+  -- each property is at a node, and no name stands twice at one
+  module _ (fits : list_any is_too_deep (lists symbols p).nodes ≡ false) where
+    pub lists-whole : IsWhole (lists symbols p)
+    lists-whole = by_plugin p.plugin refl fits where
+      by_plugin : (b : Bool) → p.plugin ≡ b → list_any is_too_deep (with_more (local_fixups (when b (places (all_numbers p) (founds p))) []) (fixup_lists symbols p)).nodes ≡ false
+          → IsWhole (with_more (local_fixups (when b (places (all_numbers p) (founds p))) []) (fixup_lists symbols p))
+      by_plugin false is fits = whole-none (fixup_lists symbols p) fixups-whole
+      by_plugin true is fits =
+          let xs = places (all_numbers p) (founds p) in
+          whole-more (fixup_lists symbols p) local_fixups_name (local_fixups xs []) (mirror-new is) (local_fixups-under xs) fixups-whole (local_fixups-distinct xs) fits
 
-pub walked-lists : (p : Prepared) → IsReady p → names_taken true false (tree_of p.draft) ≡ false → (l : Label) (ls : List Label) → (tree_of p.draft).labels ≡ l ∷ ls
-    → walked (lists true p)
+    -- no tree with this map has shorter values
+    pub lists-within : (b : NodeData) → IsSound b → path_map b ≡ map_of (lists symbols p) → size_in (lists symbols p).properties ≤ size_below b
+    lists-within b sound same = sizes-of-lists b (lists symbols p) sound same (once-by_names (lists symbols p).properties lists-whole.apart) lists-whole.there
+
+    -- siblings come in order of definition
+    pub map-lists_walked : map_of (walked (lists symbols p)) ≡ map_of (lists symbols p)
+    map-lists_walked = sym (map-walked (lists symbols p) lists-whole.nodes)
+
+-- ---- the symbols in the order of the walk
+pub walked-lists : (p : Prepared) → IsReady p → names_taken true p.plugin (tree_of p.draft) ≡ false → (l : Label) (ls : List Label) → (tree_of p.draft).labels ≡ l ∷ ls
+    → walked (symbol_lists true p)
     ≡ record {
       nodes = behind_root (preorder (tree_of p.draft).nodes) ++ (symbols_name ∷ []) ∷ [];
       properties = flat_map (own p) (preorder (tree_of p.draft).nodes) ++ map symbol (tree_of p.draft).labels;
     }
 walked-lists p ready free l ls are =
     let s = tree_of p.draft in
-    ap walked (lists-plain true p ∙ ap (λ xs. with_more (map symbol xs) (plain_lists p)) are)
-    ∙ symbols-walked (plain_lists p) ready.standing (symbols-free s free) (made-there p ready.standing ready.walked ready.new) l ls
+    ap walked (ap (λ xs. with_more (map symbol xs) (plain_lists p)) are)
+    ∙ symbols-walked (plain_lists p) ready.standing (symbols-free p.plugin s free) (made-there p ready.standing ready.walked ready.new) l ls
     ∙ ap (λ (xs : List Label). with_last xs) (sym are) where
       with_last : List Label → Resolved
       with_last xs = record { nodes = behind_root (preorder (tree_of p.draft).nodes) ++ (symbols_name ∷ []) ∷ []; properties = flat_map (own p) (preorder (tree_of p.draft).nodes) ++ map symbol xs }
 
 -- without symbols, or without labels, there is nothing more
-pub lists-bare : (symbols : Bool) (p : Prepared) → when symbols (map symbol (tree_of p.draft).labels) ≡ [] → lists symbols p ≡ plain_lists p
-lists-bare symbols p none = lists-plain symbols p ∙ ap (λ es. with_more es (plain_lists p)) none ∙ with-none (plain_lists p)
+pub lists-bare : (symbols : Bool) (p : Prepared) → when symbols (map symbol (tree_of p.draft).labels) ≡ [] → symbol_lists symbols p ≡ plain_lists p
+lists-bare symbols p none = ap (λ es. with_more es (plain_lists p)) none ∙ with-none (plain_lists p)

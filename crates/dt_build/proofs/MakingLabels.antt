@@ -15,8 +15,8 @@ use Rattle.dt_draft.specs.Rows.{label_at, worn}
 use Rattle.dt_draft.proofs.Worn.{worn-append}
 use Rattle.dt_layout.proofs.Each.{Each}
 use Rattle.dt_assembly.specs.Lists.{defined_at}
-use Rattle.dt_build.specs.Built.{size_in}
-use Rattle.dt_build.proofs.MakingWalk.{names-defined}
+use Rattle.dt_assembly.specs.Sizes.{size_in}
+use Rattle.dt_assembly.proofs.MakingWalk.{names-defined}
 
 defined-append : (q : Path) (xs ys : List Property) → defined_at q (xs ++ ys) ≡ defined_at q xs ++ defined_at q ys
 defined-append q [] ys = refl

@@ -1,68 +1,51 @@
--- The whole tree: without symbols, and with the labels' node behind all others.
-use Rattle.std.proofs.Common.{◌≡◌, ℕ, ◌<◌, true, false, List, [], ◌∷◌, ◌++◌, length, map, Result, Ok, Err, refl, sym, ap, ◌∙◌, arith}
+-- The whole tree: with the labels' node behind all others, and with what is made of it.
+use Rattle.std.proofs.Common.{◌≡◌, ℕ, ◌<◌, true, false, List, [], ◌∷◌, ◌++◌, length, map, refl, sym, ap, ◌∙◌, arith}
 use Rattle.std.specs.List.{flat_map}
-use Rattle.std.specs.Result.{IfOk}
 use Rattle.dt_tree.specs.declared.property.Property.{Property}
 use Rattle.dt_tree.specs.NodeData.{NodeData}
 use Rattle.dt_meaning.specs.Names.{symbols_name}
 use Rattle.dt_meaning.specs.Paths.{is_listed}
 use Rattle.dt_meaning.specs.Edits.{Label}
-use Rattle.dt_meaning.specs.MapOf.{map_of}
 use Rattle.dt_meaning.specs.References.{preorder}
-use Rattle.dt_meaning.specs.Resolved.{names_taken, symbol, with_more}
+use Rattle.dt_meaning.specs.Resolved.{names_taken, symbol}
 use Rattle.dt_assembly.specs.Lists.{defined_at, with_last}
 use Rattle.dt_assembly.specs.OpenNodes.{assembled}
 use Rattle.dt_assembly.specs.Standing.{behind_root, walked}
-use Rattle.dt_assembly.proofs.Orders.{there-same, map-walked}
-use Rattle.dt_assembly.proofs.Standing.{symbols-nodes}
+use Rattle.dt_assembly.proofs.Orders.{there-same}
 use Rattle.dt_edit.specs.Said.{tree_of}
 use Rattle.dt_resolve.specs.declared.prepared.Prepared.{Prepared}
-use Rattle.dt_build.specs.Private.Made.{lists, own, plain_lists}
+use Rattle.dt_build.specs.Private.Made.{own, plain_lists, symbol_lists}
 use Rattle.dt_build.specs.Private.Ready.{IsReady}
-use Rattle.dt_build.proofs.ListsOfPrepared.{lists-plain, lists-bare, walked-lists}
+use Rattle.dt_build.proofs.ListsOfPrepared.{lists-bare, walked-lists}
 use Rattle.dt_build.proofs.Shallow.{symbols-free}
 
-pub ok-more : {A E : Type 0} (P Q : A → Type 0) → ((x : A) → P x → Q x) → (r : Result A E) → IfOk r P → IfOk r Q
-ok-more P Q f (Ok x) h = f x h
-ok-more P Q f (Err e) h = h
-
-module _ (p : Prepared) (r : IsReady p) where
+-- ---- the labels' node
+module _ (p : Prepared) (r : IsReady p) (free : names_taken true p.plugin (tree_of p.draft) ≡ false) (bs : List NodeData) (made : assembled bs ≡ walked (plain_lists p)) where
   abbrev labels : List Label
   labels = (tree_of p.draft).labels
 
-  module _ (free : names_taken true false (tree_of p.draft) ≡ false) (bs : List NodeData) (made : assembled bs ≡ walked (plain_lists p)) where
-    pub symbols-new : (name : List ℕ) → name ≡ symbols_name → is_listed (name ∷ []) (assembled bs).nodes ≡ false
-    symbols-new name is =
-        ap (λ n. is_listed (n ∷ []) (assembled bs).nodes) is ∙ ap (λ l. is_listed (symbols_name ∷ []) l.nodes) made
-        ∙ sym (there-same (plain_lists p) r.standing (symbols_name ∷ [])) ∙ symbols-free (tree_of p.draft) free
+  pub symbols-new : (name : List ℕ) → name ≡ symbols_name → is_listed (name ∷ []) (assembled bs).nodes ≡ false
+  symbols-new name is =
+      ap (λ n. is_listed (n ∷ []) (assembled bs).nodes) is ∙ ap (λ l. is_listed (symbols_name ∷ []) l.nodes) made
+      ∙ sym (there-same (plain_lists p) r.standing (symbols_name ∷ [])) ∙ symbols-free p.plugin (tree_of p.draft) free
 
-    pub no-symbols : (ps : List Property) → defined_at (symbols_name ∷ []) ps ≡ map symbol labels → ps ≡ [] → assembled bs ≡ walked (lists true p)
-    no-symbols ps is none = made ∙ ap walked (sym (lists-bare true p (sym is ∙ ap (defined_at (symbols_name ∷ [])) none)))
+  pub no-symbols : (ps : List Property) → defined_at (symbols_name ∷ []) ps ≡ map symbol labels → ps ≡ [] → assembled bs ≡ walked (symbol_lists true p)
+  no-symbols ps is none = made ∙ ap walked (sym (lists-bare true p (sym is ∙ ap (defined_at (symbols_name ∷ [])) none)))
 
-    pub whole : (ps : List Property) → defined_at (symbols_name ∷ []) ps ≡ map symbol labels → 0 < length ps → with_last (symbols_name ∷ []) ps (assembled bs) ≡ walked (lists true p)
-    whole ps is some =
-        ap (with_last (symbols_name ∷ []) ps) made
-        ∙ ap (λ es. record {
-          nodes = behind_root (preorder (tree_of p.draft).nodes) ++ (symbols_name ∷ []) ∷ [];
-          properties = flat_map (own p) (preorder (tree_of p.draft).nodes) ++ es;
-        }) is
-        ∙ sym (by_labels ps labels is some refl) where
-          by_labels : (qs : List Property) (ls : List Label) → defined_at (symbols_name ∷ []) qs ≡ map symbol ls → 0 < length qs → (tree_of p.draft).labels ≡ ls
-              → walked (lists true p)
-              ≡ record {
-                nodes = behind_root (preorder (tree_of p.draft).nodes) ++ (symbols_name ∷ []) ∷ [];
-                properties = flat_map (own p) (preorder (tree_of p.draft).nodes) ++ map symbol (tree_of p.draft).labels;
-              }
-          by_labels [] ls e some are = absurd (omega arith)
-          by_labels (q ∷ qs) [] e some are = absurd (cc)
-          by_labels (q ∷ qs) (l ∷ ls) e some are = walked-lists p r free l ls are
-
-  -- siblings come in order of definition
-  pub map-plain : map_of (walked (plain_lists p)) ≡ map_of (lists false p)
-  map-plain = sym (map-walked (plain_lists p) r.standing) ∙ ap map_of (sym (lists-bare false p refl))
-
-  pub map-symbols : names_taken true false (tree_of p.draft) ≡ false → map_of (walked (lists true p)) ≡ map_of (lists true p)
-  map-symbols free =
-      ap (λ l. map_of (walked l)) (lists-plain true p)
-      ∙ sym (map-walked (with_more (map symbol labels) (plain_lists p)) (symbols-nodes (plain_lists p) labels r.standing (symbols-free (tree_of p.draft) free)))
-      ∙ ap map_of (sym (lists-plain true p))
+  pub whole : (ps : List Property) → defined_at (symbols_name ∷ []) ps ≡ map symbol labels → 0 < length ps → with_last (symbols_name ∷ []) ps (assembled bs) ≡ walked (symbol_lists true p)
+  whole ps is some =
+      ap (with_last (symbols_name ∷ []) ps) made
+      ∙ ap (λ es. record {
+        nodes = behind_root (preorder (tree_of p.draft).nodes) ++ (symbols_name ∷ []) ∷ [];
+        properties = flat_map (own p) (preorder (tree_of p.draft).nodes) ++ es;
+      }) is
+      ∙ sym (by_labels ps labels is some refl) where
+        by_labels : (qs : List Property) (ls : List Label) → defined_at (symbols_name ∷ []) qs ≡ map symbol ls → 0 < length qs → (tree_of p.draft).labels ≡ ls
+            → walked (symbol_lists true p)
+            ≡ record {
+              nodes = behind_root (preorder (tree_of p.draft).nodes) ++ (symbols_name ∷ []) ∷ [];
+              properties = flat_map (own p) (preorder (tree_of p.draft).nodes) ++ map symbol (tree_of p.draft).labels;
+            }
+        by_labels [] ls e some are = absurd (omega arith)
+        by_labels (q ∷ qs) [] e some are = absurd (cc)
+        by_labels (q ∷ qs) (l ∷ ls) e some are = walked-lists p r free l ls are

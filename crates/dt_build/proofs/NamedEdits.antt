@@ -1,5 +1,5 @@
 -- Edits keep what is true of each name, and that no node is deeper than 64, no property and no label stands twice.
-use Rattle.std.proofs.Common.{◌≡◌, ◌≤◌, ℕ, Bool, true, false, not, ◌||◌, List, [], ◌∷◌, ◌++◌, length, Option, Some, None, Result, Ok, Err, if◌then◌else◌, refl, sym, ap, ap₂, ◌∙◌, subst, true≢false, length-append, arith}
+use Rattle.std.proofs.Common.{◌≡◌, ◌≤◌, ◌+◌, ℕ, Bool, true, false, not, ◌||◌, List, [], ◌∷◌, ◌++◌, length, Option, Some, None, Result, Ok, Err, if◌then◌else◌, refl, sym, ap, ap₂, ◌∙◌, subst, true≢false, length-append, arith}
 use Rattle.std.specs.Prelude.{nat_lt}
 use Rattle.std.specs.List.{filter}
 use Rattle.std.specs.Str.{bytes_eq}
@@ -8,10 +8,11 @@ use Rattle.std.proofs.lemmas.Bool.Decides.{nat_tests}
 use Rattle.std.proofs.lemmas.Slice.Eq.{bytes_eq-Decides}
 use Rattle.dt_tree.specs.Path.{path_names}
 use Rattle.dt_tree.specs.Sound.{is_among}
+use Rattle.dt_meaning.specs.Names.{fragment_name, overlay_name}
 use Rattle.dt_meaning.specs.Paths.{Path, same_path, is_within, is_listed}
-use Rattle.dt_meaning.specs.Syntax.{Target, OfLabel, OfPath, Piece, Entry, Defines, Undefines, Child, Removes, Body, Done, Then, Edit, Rooted, Extends, Deletes, Meaning}
-use Rattle.dt_meaning.specs.Edits.{Definition, definition, Label, labelled_at, State, empty, has_node, with_node, without_node, is_of, put, with_property, without_property, label_path, with_label}
-use Rattle.dt_meaning.specs.Statements.{Fault, UnknownLabel, UnknownPath, DuplicateLabel, DuplicateInBody, ReservedName, TooDeep, then_do, ok_or, give_label, give_labels, is_made, Progress, progress, begun, child_fault, unless, after_entry, after_body, found, after_item, after_items, edited}
+use Rattle.dt_meaning.specs.Syntax.{Target, OfLabel, OfPath, Piece, Plain, PhandleOf, PathOf, Entry, Defines, Undefines, Child, Removes, Body, Done, Then, Edit, Rooted, Extends, Deletes, Meaning}
+use Rattle.dt_meaning.specs.Edits.{Definition, definition, Label, labelled_at, State, empty, counted, has_node, with_node, without_node, is_of, put, with_property, without_property, label_path, with_label}
+use Rattle.dt_meaning.specs.Statements.{Fault, UnknownLabel, UnknownPath, DuplicateLabel, DuplicateInBody, ReservedName, TooDeep, then_do, ok_or, give_label, give_labels, is_made, Progress, progress, begun, child_fault, unless, after_entry, after_body, found, target_name, target_value, with_fragment, after_fragment, makes_fragment, after_item, after_items, edited}
 use Rattle.dt_draft.proofs.PathTests.{same-is}
 use Rattle.dt_layout.proofs.Each.{Each, each-append}
 use Rattle.dt_build.proofs.ApartLists.{InPairs, each-kept, pairs-kept, pairs-last}
@@ -28,28 +29,42 @@ HasOtherKey e x = is_of x.path x.name e ≡ false
 abbrev pub IsOtherWord : Label → Label → Type 0
 IsOtherWord l x = bytes_eq x.label l.label ≡ false
 
-pub record IsNamed {V : Type 0} (N : List ℕ → Type 0) (s : State V) : Type 0 where
+-- N is true of each name, and W of each value
+pub record IsNamed {V : Type 0} (N : List ℕ → Type 0) (W : V → Type 0) (s : State V) : Type 0 where
   pub nodes : Each (IsWay N) s.nodes
-  pub properties : Each (λ e. N e.name) s.properties
+  pub properties : Each (λ e. N e.name × W e.value) s.properties
   pub labels : Each (λ l. N l.label × IsWay N l.path) s.labels
   pub keys : InPairs HasOtherKey s.properties
   pub words : InPairs IsOtherWord s.labels
 
 -- ---- what a source names
 abbrev mutual
-  pub IsNamedEntry : {V : Type 0} → (List ℕ → Type 0) → Entry V → Type 0
-  IsNamedEntry N (Defines n v) = N n
-  IsNamedEntry N (Undefines n) = Unit {0}
-  IsNamedEntry N (Child ls n b) = Each N ls × N n × IsNamedBody N b
-  IsNamedEntry N (Removes n) = Unit {0}
+  pub IsNamedEntry : {V : Type 0} → (List ℕ → Type 0) → (V → Type 0) → Entry V → Type 0
+  IsNamedEntry N W (Defines n v) = N n × W v
+  IsNamedEntry N W (Undefines n) = Unit {0}
+  IsNamedEntry N W (Child ls n b) = Each N ls × N n × IsNamedBody N W b
+  IsNamedEntry N W (Removes n) = Unit {0}
 
-  pub IsNamedBody : {V : Type 0} → (List ℕ → Type 0) → Body V → Type 0
-  IsNamedBody N Done = Unit {0}
-  IsNamedBody N (Then e b) = IsNamedEntry N e × IsNamedBody N b
+  pub IsNamedBody : {V : Type 0} → (List ℕ → Type 0) → (V → Type 0) → Body V → Type 0
+  IsNamedBody N W Done = Unit {0}
+  IsNamedBody N W (Then e b) = IsNamedEntry N W e × IsNamedBody N W b
+
+-- a label that a reference has
+abbrev pub IsNamedTarget : (List ℕ → Type 0) → Target → Type 0
+IsNamedTarget N (OfLabel l) = N l
+IsNamedTarget N (OfPath t) = Unit {0}
+
+abbrev pub IsNamedPiece : (List ℕ → Type 0) → Piece → Type 0
+IsNamedPiece N (Plain b) = Unit {0}
+IsNamedPiece N (PhandleOf t) = IsNamedTarget N t
+IsNamedPiece N (PathOf t) = IsNamedTarget N t
+
+abbrev pub IsNamedValue : (List ℕ → Type 0) → List Piece → Type 0
+IsNamedValue N v = Each (IsNamedPiece N) v
 
 abbrev pub IsNamedEdit : (List ℕ → Type 0) → Edit → Type 0
-IsNamedEdit N (Rooted b) = IsNamedBody N b
-IsNamedEdit N (Extends ls t b) = Each N ls × IsNamedBody N b
+IsNamedEdit N (Rooted b) = IsNamedBody N (IsNamedValue N) b
+IsNamedEdit N (Extends ls t b) = Each N ls × IsNamedTarget N t × IsNamedBody N (IsNamedValue N) b
 IsNamedEdit N (Deletes t) = Unit {0}
 
 -- ---- steps that went well
@@ -145,8 +160,8 @@ module _ (N : List ℕ → Type 0) where
   root-way : IsWay N []
   root-way = (tt, omega arith)
 
-module _ {V : Type 0} (N : List ℕ → Type 0) where
-  node-added : (p : Path) (s : State V) → IsWay N p → IsNamed N s → IsNamed N (with_node p s)
+module _ {V : Type 0} (N : List ℕ → Type 0) (W : V → Type 0) where
+  node-added : (p : Path) (s : State V) → IsWay N p → IsNamed N W s → IsNamed N W (with_node p s)
   node-added p s way k = record {
     nodes = by-listed (is_listed p s.nodes);
     properties = k.properties;
@@ -158,41 +173,41 @@ module _ {V : Type 0} (N : List ℕ → Type 0) where
     by-listed true = k.nodes
     by-listed false = each-append (IsWay N) s.nodes (p ∷ []) k.nodes (way, tt)
 
-  node-removed : (p : Path) (s : State V) → IsNamed N s → IsNamed N (without_node p s)
+  node-removed : (p : Path) (s : State V) → IsNamed N W s → IsNamed N W (without_node p s)
   node-removed p s k = by-listed (is_listed p s.nodes) where
     gone : State V
     gone = record s { nodes = filter (λ q. not (is_within p q)) s.nodes; properties = filter (λ e. not (is_within p e.path)) s.properties; labels = filter (λ l. not (is_within p l.path)) s.labels }
 
-    by-listed : (b : Bool) → IsNamed N (if b then gone else s)
+    by-listed : (b : Bool) → IsNamed N W (if b then gone else s)
     by-listed true = record {
       nodes = each-kept (IsWay N) (λ q. not (is_within p q)) s.nodes k.nodes;
-      properties = each-kept (λ e. N e.name) (λ e. not (is_within p e.path)) s.properties k.properties;
+      properties = each-kept (λ e. N e.name × W e.value) (λ e. not (is_within p e.path)) s.properties k.properties;
       labels = each-kept (λ l. N l.label × IsWay N l.path) (λ l. not (is_within p l.path)) s.labels k.labels;
       keys = pairs-kept HasOtherKey (λ e. not (is_within p e.path)) s.properties k.keys;
       words = pairs-kept IsOtherWord (λ l. not (is_within p l.path)) s.labels k.words;
     }
     by-listed false = k
 
-  property-added : (p : Path) (n : List ℕ) (v : V) (s : State V) → N n → IsNamed N s → IsNamed N (with_property p n v s)
-  property-added p n v s name k = record {
+  property-added : (p : Path) (n : List ℕ) (v : V) (s : State V) → N n → W v → IsNamed N W s → IsNamed N W (with_property p n v s)
+  property-added p n v s name value k = record {
     nodes = k.nodes;
-    properties = put-each p n v (λ e. N e.name) s.properties name k.properties;
+    properties = put-each p n v (λ e. N e.name × W e.value) s.properties (name, value) k.properties;
     labels = k.labels;
     keys = put-keys p n v s.properties k.keys;
     words = k.words;
   }
 
-  property-removed : (p : Path) (n : List ℕ) (s : State V) → IsNamed N s → IsNamed N (without_property p n s)
+  property-removed : (p : Path) (n : List ℕ) (s : State V) → IsNamed N W s → IsNamed N W (without_property p n s)
   property-removed p n s k = record {
     nodes = k.nodes;
-    properties = each-kept (λ e. N e.name) (λ e. not (is_of p n e)) s.properties k.properties;
+    properties = each-kept (λ e. N e.name × W e.value) (λ e. not (is_of p n e)) s.properties k.properties;
     labels = k.labels;
     keys = pairs-kept HasOtherKey (λ e. not (is_of p n e)) s.properties k.keys;
     words = k.words;
   }
 
-  label-given : (l : List ℕ) (p : Path) (o : Option Path) (s t : State V) → label_path l s.labels ≡ o → N l → IsWay N p → IsNamed N s → give_label l p o s ≡ Ok t → IsNamed N t
-  label-given l p None s t is name way k e = subst (IsNamed N) (ok-is (with_label l p s) t e) (record {
+  label-given : (l : List ℕ) (p : Path) (o : Option Path) (s t : State V) → label_path l s.labels ≡ o → N l → IsWay N p → IsNamed N W s → give_label l p o s ≡ Ok t → IsNamed N W t
+  label-given l p None s t is name way k e = subst (IsNamed N W) (ok-is (with_label l p s) t e) (record {
     nodes = k.nodes;
     properties = k.properties;
     labels = each-append (λ l. N l.label × IsWay N l.path) s.labels (labelled_at l p ∷ []) k.labels ((name, way), tt);
@@ -200,26 +215,26 @@ module _ {V : Type 0} (N : List ℕ → Type 0) where
     words = pairs-last IsOtherWord s.labels (labelled_at l p) k.words (new-word l s.labels is);
   })
   label-given l p (Some q) s t is name way k e = by-same (same_path p q) e where
-    by-same : (b : Bool) → (if b then Ok s else Err DuplicateLabel) ≡ Ok t → IsNamed N t
-    by-same true e = subst (IsNamed N) (ok-is s t e) k
+    by-same : (b : Bool) → (if b then Ok s else Err DuplicateLabel) ≡ Ok t → IsNamed N W t
+    by-same true e = subst (IsNamed N W) (ok-is s t e) k
     by-same false e = absurd (cc)
 
-  labels-given : (ls : List (List ℕ)) (p : Path) (s t : State V) → Each N ls → IsWay N p → IsNamed N s → give_labels ls p s ≡ Ok t → IsNamed N t
-  labels-given [] p s t names way k e = subst (IsNamed N) (ok-is s t e) k
+  labels-given : (ls : List (List ℕ)) (p : Path) (s t : State V) → Each N ls → IsWay N p → IsNamed N W s → give_labels ls p s ≡ Ok t → IsNamed N W t
+  labels-given [] p s t names way k e = subst (IsNamed N W) (ok-is s t e) k
   labels-given (l ∷ ls) p s t names way k e =
       let a = did (give_label l p (label_path l s.labels) s) (give_labels ls p) t e in
       labels-given ls p a.0 t names.1 way (label-given l p (label_path l s.labels) s a.0 refl names.0 way k a.1) a.2
 
   -- ---- statements
   mutual
-    entry-kept : (e : Entry V) (p : Path) (x y : Progress V) → IsNamedEntry N e → IsWay N p → IsNamed N x.state → after_entry e p x ≡ Ok y → IsNamed N y.state
+    entry-kept : (e : Entry V) (p : Path) (x y : Progress V) → IsNamedEntry N W e → IsWay N p → IsNamed N W x.state → after_entry e p x ≡ Ok y → IsNamed N W y.state
     entry-kept (Defines n v) p x y names way k e =
         let z = progress (n ∷ x.properties) x.children (with_property p n v x.state) in
-        subst (λ (w : Progress V). IsNamed N w.state) (ok-is z y (not-refused (is_among n x.properties) DuplicateInBody (Ok z) y e).1) (property-added p n v x.state names k)
+        subst (λ (w : Progress V). IsNamed N W w.state) (ok-is z y (not-refused (is_among n x.properties) DuplicateInBody (Ok z) y e).1) (property-added p n v x.state names.0 names.1 k)
     entry-kept (Undefines n) p x y names way k e =
-        subst (λ (w : Progress V). IsNamed N w.state) (ok-is (progress x.properties x.children (without_property p n x.state)) y e) (property-removed p n x.state k)
+        subst (λ (w : Progress V). IsNamed N W w.state) (ok-is (progress x.properties x.children (without_property p n x.state)) y e) (property-removed p n x.state k)
     entry-kept (Removes n) p x y names way k e =
-        subst (λ (w : Progress V). IsNamed N w.state) (ok-is (progress x.properties x.children (without_node (p ++ n ∷ []) x.state)) y e) (node-removed (p ++ n ∷ []) x.state k)
+        subst (λ (w : Progress V). IsNamed N W w.state) (ok-is (progress x.properties x.children (without_node (p ++ n ∷ []) x.state)) y e) (node-removed (p ++ n ∷ []) x.state k)
     entry-kept (Child ls n body) p x y names way k e =
         let q = p ++ n ∷ [] in
         let inner : State V → Result (Progress V) Fault = λ s. then_do (after_body body q (begun (with_node q s))) (λ t. Ok (progress x.properties (n ∷ x.children) t)) in
@@ -227,42 +242,82 @@ module _ {V : Type 0} (N : List ℕ → Type 0) where
         let fits = no-fault (child_fault p n x.children a.0) (inner a.0) y a.2 in
         let on = further N p n way names.1 (short p n x.children a.0 fits.0) in
         let b = did (after_body body q (begun (with_node q a.0))) (λ t. Ok (progress x.properties (n ∷ x.children) t)) y fits.1 in
-        subst (λ (w : Progress V). IsNamed N w.state) (ok-is (progress x.properties (n ∷ x.children) b.0) y b.2)
+        subst (λ (w : Progress V). IsNamed N W w.state) (ok-is (progress x.properties (n ∷ x.children) b.0) y b.2)
         (body-kept body q (begun (with_node q a.0)) b.0 names.2 on (node-added q a.0 on (labels-given ls q x.state a.0 names.0 on k a.1)) b.1)
 
-    body-kept : (b : Body V) (p : Path) (x : Progress V) (t : State V) → IsNamedBody N b → IsWay N p → IsNamed N x.state → after_body b p x ≡ Ok t → IsNamed N t
-    body-kept Done p x t names way k e = subst (IsNamed N) (ok-is x.state t e) k
+    body-kept : (b : Body V) (p : Path) (x : Progress V) (t : State V) → IsNamedBody N W b → IsWay N p → IsNamed N W x.state → after_body b p x ≡ Ok t → IsNamed N W t
+    body-kept Done p x t names way k e = subst (IsNamed N W) (ok-is x.state t e) k
     body-kept (Then first others) p x t names way k e =
         let a = did (after_entry first p x) (after_body others p) t e in
         body-kept others p a.0 t names.1 way (entry-kept first p x a.0 names.0 way k a.1) a.2
 
   -- ---- items
-  found-way : (t : Target) (s : State V) (p : Path) → IsNamed N s → found t s ≡ Ok p → IsWay N p
+  found-way : (t : Target) (s : State V) (p : Path) → IsNamed N W s → found t s ≡ Ok p → IsWay N p
   found-way (OfLabel l) s p k e = label-way N l s.labels p k.labels (label-found (label_path l s.labels) p e)
   found-way (OfPath t) s p k e =
       let f = path-found (has_node (path_names t) s) (path_names t) p e in
       subst (IsWay N) f.1 (listed-so (IsWay N) (path_names t) ([] ∷ s.nodes) (root-way N, k.nodes) f.0)
 
+-- the names that fragments bring
+pub record HasFragmentNames (N : List ℕ → Type 0) : Type 0 where
+  pub fragment : (n : ℕ) → N (fragment_name n)
+  pub overlay : N overlay_name
+  pub target : (t : Target) → N (target_name t)
+
 module _ (N : List ℕ → Type 0) where
-  item-kept : (i : Edit) (s t : State (List Piece)) → IsNamedEdit N i → IsNamed N s → after_item false i s ≡ Ok t → IsNamed N t
-  item-kept (Rooted body) s t names k e = body-kept N body [] (begun s) t names (root-way N) k e
-  item-kept (Deletes target) s t names k e =
-      let a = did (found target s) (λ p. if same_path p [] then Err ReservedName else Ok (without_node p s)) t e in
-      subst (IsNamed N) (ok-is (without_node a.0 s) t (not-refused (same_path a.0 []) ReservedName (Ok (without_node a.0 s)) t a.2).1) (node-removed N a.0 s k)
-  item-kept (Extends ls target body) s t names k e =
-      let a = did (found target s) (λ p. then_do (give_labels ls p s) (λ u. after_body body p (begun u))) t e in
-      let way = found-way N target s a.0 k a.1 in
-      let b = did (give_labels ls a.0 s) (λ u. after_body body a.0 (begun u)) t a.2 in
-      body-kept N body a.0 (begun b.0) t names.1 way (labels-given N ls a.0 s b.0 names.0 way k b.1) b.2
+  -- whatever was counted
+  pub counted-named : (n : ℕ) (s : State (List Piece)) → IsNamed N (IsNamedValue N) (counted n s) → IsNamed N (IsNamedValue N) s
+  counted-named n s k = record { nodes = k.nodes; properties = k.properties; labels = k.labels; keys = k.keys; words = k.words }
 
-  items-kept : (is : List Edit) (s t : State (List Piece)) → Each (IsNamedEdit N) is → IsNamed N s → after_items false is s ≡ Ok t → IsNamed N t
-  items-kept [] s t names k e = subst (IsNamed N) (ok-is s t e) k
-  items-kept (i ∷ is) s t names k e =
-      let a = did (after_item false i s) (after_items false is) t e in
-      items-kept is a.0 t names.1 (item-kept i s a.0 names.0 k a.1) a.2
+  named-counted : (n : ℕ) (s : State (List Piece)) → IsNamed N (IsNamedValue N) s → IsNamed N (IsNamedValue N) (counted n s)
+  named-counted n s k = record { nodes = k.nodes; properties = k.properties; labels = k.labels; keys = k.keys; words = k.words }
 
-  -- all edits of an ordinary source
-  pub edits-named : (m : Meaning) (s : State (List Piece)) → m.plugin ≡ false → Each (IsNamedEdit N) m.items → edited m ≡ Ok s → IsNamed N s
-  edits-named m s ordinary names e =
-      items-kept m.items empty s names (record { nodes = tt; properties = tt; labels = tt; keys = tt; words = tt })
-      (ap (λ b. after_items b m.items empty) (sym ordinary) ∙ e)
+  module _ (brings : HasFragmentNames N) where
+    value-named : (t : Target) → IsNamedTarget N t → IsNamedValue N (target_value t)
+    value-named (OfLabel l) h = (h, tt)
+    value-named (OfPath t) h = (tt, tt)
+
+    fragment-added : (f : List ℕ) (t : Target) (s : State (List Piece)) → N f → IsNamedTarget N t → IsNamed N (IsNamedValue N) s → IsNamed N (IsNamedValue N) (with_fragment f t s)
+    fragment-added f t s name named k =
+        let one = counted (s.fragments + 1) s in
+        let own = with_node (f ∷ []) one in
+        let said = with_property (f ∷ []) (target_name t) (target_value t) own in
+        node-added N (IsNamedValue N) (f ∷ overlay_name ∷ []) said (two-names f name) (property-added N (IsNamedValue N) (f ∷ []) (target_name t) (target_value t) own (brings.target t) (value-named t named)
+        (node-added N (IsNamedValue N) (f ∷ []) one ((name, tt), omega arith) (named-counted (s.fragments + 1) s k))) where
+          two-names : (f : List ℕ) → N f → IsWay N (f ∷ overlay_name ∷ [])
+          two-names f name = ((name, (brings.overlay, tt)), omega arith)
+
+    fragment-kept : (f : List ℕ) (target : Target) (body : Body (List Piece)) (s t : State (List Piece)) → N f → IsNamedTarget N target → IsNamedBody N (IsNamedValue N) body → IsNamed N (IsNamedValue N) s → after_fragment target body f s ≡ Ok t → IsNamed N (IsNamedValue N) t
+    fragment-kept f target body s t name named names k e =
+        let a = not-refused (is_listed (f ∷ []) s.nodes) ReservedName (after_body body (f ∷ overlay_name ∷ []) (begun (with_fragment f target s))) t e in
+        body-kept N (IsNamedValue N) body (f ∷ overlay_name ∷ []) (begun (with_fragment f target s)) t names ((name, (brings.overlay, tt)), omega arith) (fragment-added f target s name named k) a.1
+
+    node-extended : (ls : List (List ℕ)) (target : Target) (body : Body (List Piece)) (s t : State (List Piece)) → Each N ls → IsNamedBody N (IsNamedValue N) body → IsNamed N (IsNamedValue N) s
+        → then_do (found target s) (λ p. then_do (give_labels ls p s) (λ u. after_body body p (begun u))) ≡ Ok t → IsNamed N (IsNamedValue N) t
+    node-extended ls target body s t words names k e =
+        let a = did (found target s) (λ p. then_do (give_labels ls p s) (λ u. after_body body p (begun u))) t e in
+        let way = found-way N (IsNamedValue N) target s a.0 k a.1 in
+        let b = did (give_labels ls a.0 s) (λ u. after_body body a.0 (begun u)) t a.2 in
+        body-kept N (IsNamedValue N) body a.0 (begun b.0) t names way (labels-given N (IsNamedValue N) ls a.0 s b.0 words way k b.1) b.2
+
+    item-kept : (plugin : Bool) (i : Edit) (s t : State (List Piece)) → IsNamedEdit N i → IsNamed N (IsNamedValue N) s → after_item plugin i s ≡ Ok t → IsNamed N (IsNamedValue N) t
+    item-kept plugin (Rooted body) s t names k e = body-kept N (IsNamedValue N) body [] (begun s) t names (root-way N) k e
+    item-kept plugin (Deletes target) s t names k e =
+        let a = did (found target s) (λ p. if same_path p [] then Err ReservedName else Ok (without_node p s)) t e in
+        subst (IsNamed N (IsNamedValue N)) (ok-is (without_node a.0 s) t (not-refused (same_path a.0 []) ReservedName (Ok (without_node a.0 s)) t a.2).1) (node-removed N (IsNamedValue N) a.0 s k)
+    item-kept plugin (Extends ls target body) s t names k e = by_kind (makes_fragment plugin ls target s) e where
+      by_kind : (b : Bool) → (if b then after_fragment target body (fragment_name s.fragments) s else then_do (found target s) (λ p. then_do (give_labels ls p s) (λ u. after_body body p (begun u)))) ≡ Ok t
+          → IsNamed N (IsNamedValue N) t
+      by_kind true e = fragment-kept (fragment_name s.fragments) target body s t (brings.fragment s.fragments) names.1 names.2 k e
+      by_kind false e = node-extended ls target body s t names.0 names.2 k e
+
+    items-kept : (plugin : Bool) (is : List Edit) (s t : State (List Piece)) → Each (IsNamedEdit N) is → IsNamed N (IsNamedValue N) s → after_items plugin is s ≡ Ok t → IsNamed N (IsNamedValue N) t
+    items-kept plugin [] s t names k e = subst (IsNamed N (IsNamedValue N)) (ok-is s t e) k
+    items-kept plugin (i ∷ is) s t names k e =
+        let a = did (after_item plugin i s) (after_items plugin is) t e in
+        items-kept plugin is a.0 t names.1 (item-kept plugin i s a.0 names.0 k a.1) a.2
+
+    -- all edits of a source
+    pub edits-named : (m : Meaning) (n : ℕ) (s : State (List Piece)) → Each (IsNamedEdit N) m.items → edited m ≡ Ok (counted n s) → IsNamed N (IsNamedValue N) s
+    edits-named m n s names e =
+        counted-named n s (items-kept m.plugin m.items empty (counted n s) names (record { nodes = tt; properties = tt; labels = tt; keys = tt; words = tt }) e)

@@ -1,4 +1,4 @@
--- What a lawful source names, and how deep the nodes of any ordinary source are.
+-- What a lawful source names, and how deep the nodes of any source are.
 use Rattle.std.proofs.Common.{◌≡◌, ◌≤◌, ℕ, suc, Bool, true, false, ◌||◌, List, [], ◌∷◌, length, map, Ok, refl, ap₂, arith}
 use Rattle.std.specs.Prelude.{nat_lt, All}
 use Rattle.std.specs.List.{list_any, list_all}
@@ -6,16 +6,17 @@ use Rattle.std.proofs.lemmas.Bool.{and_from}
 use Rattle.std.proofs.lemmas.Bool.Decides.{nat_tests}
 use Rattle.dt_tree.specs.Name.{is_name}
 use Rattle.dt_source.specs.Tree as said
-use Rattle.dt_source.specs.Lawful.{IsLawfulTarget, IsLawfulEntry, IsLawfulBody, IsLawfulEdit}
+use Rattle.dt_source.specs.Lawful.{IsLawfulTarget, IsLawfulPiece, IsLawfulEntry, IsLawfulBody, IsLawfulEdit}
 use Rattle.dt_meaning.specs.Paths.{Path}
-use Rattle.dt_meaning.specs.Syntax.{Piece, Entry, Defines, Undefines, Child, Removes, Body, Done, Then, Edit, Rooted, Extends, Deletes, Meaning}
-use Rattle.dt_meaning.specs.Edits.{State}
+use Rattle.dt_meaning.specs.Syntax.{Target, OfLabel, OfPath, Piece, Plain, PhandleOf, PathOf, Entry, Defines, Undefines, Child, Removes, Body, Done, Then, Edit, Rooted, Extends, Deletes, Meaning}
+use Rattle.dt_meaning.specs.Edits.{State, counted}
 use Rattle.dt_meaning.specs.Statements.{edited}
 use Rattle.dt_meaning.specs.Resolved.{is_too_deep}
-use Rattle.dt_edit.specs.Said.{entry_of, body_of, item_of}
-use Rattle.dt_layout.proofs.Each.{Each, each-more}
-use Rattle.dt_build.proofs.ApartLists.{each-of, each-any}
-use Rattle.dt_build.proofs.NamedEdits.{IsWay, IsNamedEntry, IsNamedBody, IsNamedEdit, edits-named}
+use Rattle.dt_edit.specs.Said.{target_of, piece_of, entry_of, body_of, item_of}
+use Rattle.dt_layout.proofs.Each.{Each, each-more, each-of}
+use Rattle.dt_build.proofs.ApartLists.{each-any, each-same}
+use Rattle.dt_build.proofs.FragmentNames.{fragment-named, overlay-named, target-named}
+use Rattle.dt_build.proofs.NamedEdits.{HasFragmentNames, IsWay, IsNamedTarget, IsNamedPiece, IsNamedValue, IsNamedEntry, IsNamedBody, IsNamedEdit, edits-named}
 
 abbrev pub IsName : List ℕ → Type 0
 IsName n = is_name n ≡ true
@@ -28,20 +29,32 @@ IsLabel l = IsLawfulTarget (said.OfLabel l)
 labels-named : (ls : List (List ℕ)) → All IsLabel ls → Each IsName ls
 labels-named ls all = each-more IsLabel IsName ls (λ l h. h.0) (each-of IsLabel ls all)
 
+target-is : (t : said.Target) → IsLawfulTarget t → IsNamedTarget IsName (target_of t)
+target-is (said.OfLabel l) h = h.0
+target-is (said.OfPath t) h = tt
+
+piece-is : (v : said.Piece) → IsLawfulPiece v → IsNamedPiece IsName (piece_of v)
+piece-is (said.Plain b) h = tt
+piece-is (said.PhandleOf t) h = target-is t h
+piece-is (said.PathOf t) h = target-is t h
+
+value-is : (vs : List said.Piece) → All IsLawfulPiece vs → IsNamedValue IsName (map piece_of vs)
+value-is vs all = each-same (IsNamedPiece IsName) piece_of vs (each-more IsLawfulPiece (λ v. IsNamedPiece IsName (piece_of v)) vs piece-is (each-of IsLawfulPiece vs all))
+
 mutual
-  entry-named : (e : said.Entry) → IsLawfulEntry e → IsNamedEntry IsName (entry_of e)
-  entry-named (said.Defines n v) h = h.0
+  entry-named : (e : said.Entry) → IsLawfulEntry e → IsNamedEntry IsName (IsNamedValue IsName) (entry_of e)
+  entry-named (said.Defines n v) h = (h.0, value-is v h.1)
   entry-named (said.Undefines n) h = tt
   entry-named (said.Child ls n b) h = (labels-named ls h.0, h.1, body-named b h.2)
   entry-named (said.Removes n) h = tt
 
-  body-named : (b : said.Body) → IsLawfulBody b → IsNamedBody IsName (body_of b)
+  body-named : (b : said.Body) → IsLawfulBody b → IsNamedBody IsName (IsNamedValue IsName) (body_of b)
   body-named said.Done h = tt
   body-named (said.Then e b) h = (entry-named e h.0, body-named b h.1)
 
 item-named : (i : said.Edit) → IsLawfulEdit i → IsNamedEdit IsName (item_of i)
 item-named (said.Rooted b) h = body-named b h
-item-named (said.Extends ls t b) h = (labels-named ls h.0, body-named b h.2)
+item-named (said.Extends ls t b) h = (labels-named ls h.0, target-is t h.1, body-named b h.2)
 item-named (said.Deletes t) h = tt
 
 pub items-named : (is : List said.Edit) → All IsLawfulEdit is → Each (IsNamedEdit IsName) (map item_of is)
@@ -62,26 +75,41 @@ shallow-of N (q ∷ qs) h = ap₂ (λ a b. a || b) (not-deep q h.0.1) (shallow-o
 abbrev IsAny : List ℕ → Type 0
 IsAny n = Unit {0}
 
+target-any : (t : Target) → IsNamedTarget IsAny t
+target-any (OfLabel l) = tt
+target-any (OfPath t) = tt
+
+piece-any : (v : Piece) → IsNamedPiece IsAny v
+piece-any (Plain b) = tt
+piece-any (PhandleOf t) = target-any t
+piece-any (PathOf t) = target-any t
+
 mutual
-  entry-any : {V : Type 0} (e : Entry V) → IsNamedEntry IsAny e
-  entry-any (Defines n v) = tt
+  entry-any : (e : Entry (List Piece)) → IsNamedEntry IsAny (IsNamedValue IsAny) e
+  entry-any (Defines n v) = (tt, each-any (IsNamedPiece IsAny) v piece-any)
   entry-any (Undefines n) = tt
   entry-any (Child ls n b) = (each-any IsAny ls (λ l. tt), tt, body-any b)
   entry-any (Removes n) = tt
 
-  body-any : {V : Type 0} (b : Body V) → IsNamedBody IsAny b
+  body-any : (b : Body (List Piece)) → IsNamedBody IsAny (IsNamedValue IsAny) b
   body-any Done = tt
   body-any (Then e b) = (entry-any e, body-any b)
 
 item-any : (i : Edit) → IsNamedEdit IsAny i
 item-any (Rooted b) = body-any b
-item-any (Extends ls t b) = (each-any IsAny ls (λ l. tt), body-any b)
+item-any (Extends ls t b) = (each-any IsAny ls (λ l. tt), target-any t, body-any b)
 item-any (Deletes t) = tt
 
-pub edits-shallow : (m : Meaning) (s : State (List Piece)) → m.plugin ≡ false → edited m ≡ Ok s → list_any is_too_deep s.nodes ≡ false
-edits-shallow m s ordinary e = shallow-of IsAny s.nodes (edits-named IsAny m s ordinary (each-any (IsNamedEdit IsAny) m.items item-any) e).nodes
+any-brought : HasFragmentNames IsAny
+any-brought = record { fragment = λ n. tt; overlay = tt; target = λ t. tt }
+
+pub edits-shallow : (m : Meaning) (n : ℕ) (s : State (List Piece)) → edited m ≡ Ok (counted n s) → list_any is_too_deep s.nodes ≡ false
+edits-shallow m n s e = shallow-of IsAny s.nodes (edits-named IsAny any-brought m n s (each-any (IsNamedEdit IsAny) m.items item-any) e).nodes
 
 -- ---- each name is a name
 pub way-named : (q : Path) → Each IsName q → list_all is_name q ≡ true
 way-named [] h = refl
 way-named (n ∷ ns) h = and_from (is_name n) (list_all is_name ns) h.0 (way-named ns h.1)
+
+pub names-brought : HasFragmentNames IsName
+names-brought = record { fragment = fragment-named; overlay = overlay-named; target = target-named }

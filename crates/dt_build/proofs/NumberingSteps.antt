@@ -17,7 +17,7 @@ use Rattle.dt_build.specs.Private.Numbers.{first_number}
 use Rattle.dt_build.specs.Private.Ready.{IsReady}
 
 -- ---- numbers in 32 bits
-low-bytes : (n : ℕ) → to_be_bytes w32 (n % 4294967296) ≡ to_be_bytes w32 n
+pub low-bytes : (n : ℕ) → to_be_bytes w32 (n % 4294967296) ≡ to_be_bytes w32 n
 low-bytes n =
     let a : n % 4294967296 / 16777216 % 256 ≡ n / 16777216 % 256 = omega arith in
     let b : n % 4294967296 / 65536 % 256 ≡ n / 65536 % 256 = omega arith in

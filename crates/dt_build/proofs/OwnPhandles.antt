@@ -15,17 +15,17 @@ use Rattle.dt_meaning.specs.Resolved.{with_bytes, phandle_property}
 use Rattle.dt_draft.specs.Index.{row_of}
 use Rattle.dt_draft.specs.Rows.{IsNode, is_standing, node_path}
 use Rattle.dt_assembly.specs.Lists.{defined_at}
+use Rattle.dt_assembly.specs.Sizes.{size_in}
 use Rattle.dt_assembly.proofs.Orders.{held-append}
 use Rattle.dt_assembly.proofs.PathFacts.{not-both, or-false, not-true, same-is, bytes-itself}
+use Rattle.dt_assembly.proofs.MakingWalk.{one-more}
 use Rattle.dt_resolve.specs.declared.prepared.Prepared.{Prepared}
 use Rattle.dt_resolve.proofs.PathNumbers.{given-same}
 use Rattle.dt_build.specs.declared.numbering.Numbering.{Numbering}
-use Rattle.dt_build.specs.Built.{size_in}
 use Rattle.dt_build.specs.Private.Made.{founds, given_numbers, new_numbers, all_numbers, own}
 use Rattle.dt_build.specs.Private.Places.{IsNumbering}
 use Rattle.dt_build.specs.Private.Ready.{IsReady}
 use Rattle.dt_build.proofs.NumberingSteps.{each-numbered}
-use Rattle.dt_build.proofs.OwnSteps.{one-more}
 
 -- ---- the properties of the source
 pub held-bytes : (ns : List Number) (es : List (Definition (List Found))) (q : Path) → held (map (with_bytes ns) es) q ≡ map (with_bytes ns) (held es q)

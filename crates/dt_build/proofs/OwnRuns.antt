@@ -1,7 +1,7 @@
 -- The properties of one node are a run in the order of the walk.
-use Rattle.std.proofs.Common.{◌≡◌, ℕ, zero, suc, ◌+◌, ◌^◌, ◌<◌, ◌==◌, Bool, true, false, not, List, [], ◌∷◌, ◌++◌, length, get_or, take, drop, map, Ok, cond, refl, sym, ap, ap₂, ◌∙◌, subst, append_assoc, arith}
-use Rattle.std.specs.Prelude.{All}
+use Rattle.std.proofs.Common.{◌≡◌, Option, ℕ, zero, suc, ◌+◌, ◌^◌, ◌<◌, ◌==◌, Bool, true, false, not, List, [], ◌∷◌, ◌++◌, length, get_or, take, drop, map, Ok, cond, refl, sym, ap, ap₂, ◌∙◌, subst, append_assoc, arith}
 use Rattle.std.specs.List.{flat_map, prefix_len}
+use Rattle.std.specs.Option.{option_map}
 use Rattle.std.proofs.Math.Seq.{take-append_seam, drop-append_seam}
 use Rattle.std.proofs.lemmas.Bool.{and_parts}
 use Rattle.std.proofs.lemmas.Grind.{flat_map-append}
@@ -19,7 +19,8 @@ use Rattle.dt_draft.specs.Index.{row_of}
 use Rattle.dt_draft.specs.Rows as rows
 use Rattle.dt_draft.specs.Rows.{IsGrown, IsNodeIndex, node_path, path_of, stands}
 use Rattle.dt_layout.specs.declared.properties.Laid.{Laid}
-use Rattle.dt_layout.proofs.Each.{Each, each-all, each-append, each-more}
+use Rattle.dt_layout.proofs.Each.{Each, each-all, each-drop, each-of, each-take}
+use Rattle.dt_layout.proofs.Runs.{IsOther, Named, Owns, all-named, apart-drop, each-held, none-held}
 use Rattle.dt_layout.proofs.Shows.{same-node}
 use Rattle.dt_edit.specs.Said.{Parts, pieces, tree_of}
 use Rattle.dt_resolve.specs.declared.prepared.Prepared.{Prepared}
@@ -28,7 +29,7 @@ use Rattle.dt_resolve.specs.Targets.{target_path}
 use Rattle.dt_resolve.proofs.ReadOrder.{read-order}
 use Rattle.dt_assembly.specs.Standing.{are_apart}
 use Rattle.dt_assembly.proofs.InTurn.{each-once}
-use Rattle.dt_assembly.proofs.PathFacts.{or-false, not-true, same-is}
+use Rattle.dt_assembly.proofs.PathFacts.{not-true, same-is}
 use Rattle.dt_build.specs.declared.place.Place.{Place}
 use Rattle.dt_build.specs.Private.Made.{founds, all_numbers}
 use Rattle.dt_build.specs.Private.Places.{IsPlace, IsRun, path_at}
@@ -36,68 +37,7 @@ use Rattle.dt_build.specs.Private.Ready.{IsReady}
 use Rattle.dt_build.specs.Private.Values.{all_uses, founds_of, run_of, run_uses}
 use Rattle.dt_build.proofs.ValueFounds.{each-split, value-is, value-found}
 
--- ---- lists
-each-of : (P : Laid Parts → Type 0) (xs : List (Laid Parts)) → All P xs → Each P xs
-each-of P [] all = tt
-each-of P (x ∷ xs) all = (all 0 x (omega arith), each-of P xs (λ i y below. all (suc i) y (omega arith)))
-
-each-drop : (P : Laid Parts → Type 0) (k : ℕ) (xs : List (Laid Parts)) → Each P xs → Each P (drop k xs)
-each-drop P zero xs h = h
-each-drop P (suc k) [] h = tt
-each-drop P (suc k) (x ∷ xs) h = each-drop P k xs h.1
-
-each-take : (P : Laid Parts → Type 0) (k : ℕ) (xs : List (Laid Parts)) → Each P xs → Each P (take k xs)
-each-take P zero xs h = tt
-each-take P (suc k) [] h = tt
-each-take P (suc k) (x ∷ xs) h = (h.0, each-take P k xs h.1)
-
-apart-drop : (k : ℕ) (ps : List Path) → are_apart ps ≡ true → are_apart (drop k ps) ≡ true
-apart-drop zero ps h = h
-apart-drop (suc k) [] h = h
-apart-drop (suc k) (p ∷ ps) h = apart-drop k ps (and_parts (not (is_listed p ps)) (are_apart ps) h).1
-
--- ---- the properties of one path, and of others
-module _ {V : Type 0} (q : Path) where
-  abbrev pub Owns : Definition V → Type 0
-  Owns e = same_path q e.path ≡ true
-
-  abbrev pub IsOther : Definition V → Type 0
-  IsOther e = same_path q e.path ≡ false
-
-each-held : {V : Type 0} (es : List (Definition V)) (q : Path) → Each (Owns q) (held es q)
-each-held [] q = tt
-each-held {V} (e ∷ es) q = by_test (same_path q e.path) refl (each-held es q) where
-  by_test : (t : Bool) → same_path q e.path ≡ t → Each (Owns q) (held es q) → Each (Owns q) (cond t (e ∷ held es q) (held es q))
-  by_test true is ih = (is, ih)
-  by_test false is ih = ih
-
-none-held : {V : Type 0} (es : List (Definition V)) (q : Path) (qs : List Path) → is_listed q qs ≡ false → Each (IsOther q) (flat_map (held es) qs)
-none-held es q [] gone = tt
-none-held {V} es q (p ∷ qs) gone =
-    let parts = or-false (same_path q p) (is_listed q qs) gone in
-    each-append (IsOther q) (held es p) (flat_map (held es) qs)
-    (each-more (Owns p) (IsOther q) (held es p) (λ (e : Definition V) (same : same_path p e.path ≡ true). ap (same_path q) (sym (same-is p e.path same)) ∙ parts.0) (each-held es p))
-    (none-held es q qs parts.1)
-
 -- ---- names
-abbrev Named : {V : Type 0} → Definition V → Type 0
-Named e = is_name e.name ≡ true
-
-each-defined : (es : List (Definition (List Piece))) → All (λ e. is_name e.name ≡ true) es → Each Named es
-each-defined [] all = tt
-each-defined (e ∷ es) all = (all 0 e (omega arith), each-defined es (λ i d below. all (suc i) d (omega arith)))
-
-held-named : (es : List (Definition (List Piece))) (q : Path) → Each Named es → Each Named (held es q)
-held-named [] q h = tt
-held-named (e ∷ es) q h = by_test (same_path q e.path) (held-named es q h.1) where
-  by_test : (t : Bool) → Each Named (held es q) → Each Named (cond t (e ∷ held es q) (held es q))
-  by_test true ih = (h.0, ih)
-  by_test false ih = ih
-
-all-named : (es : List (Definition (List Piece))) (qs : List Path) → Each Named es → Each Named (flat_map (held es) qs)
-all-named es [] h = tt
-all-named es (q ∷ qs) h = each-append Named (held es q) (flat_map (held es) qs) (held-named es q h) (all-named es qs h)
-
 abbrev LaidNamed : Laid Parts → Type 0
 LaidNamed x = is_name x.name.now ≡ true
 
@@ -106,18 +46,18 @@ laid-named nodes [] h = tt
 laid-named nodes (x ∷ xs) h = (h.0, laid-named nodes xs h.1)
 
 -- ---- properties and what was found in their values
-module _ (s : State (List Piece)) (nodes : List NodeRow) where
+module _ (plugin : Bool) (s : State (List Piece)) (nodes : List NodeRow) where
   abbrev pub AreRead : List (Laid Parts) → List (Definition (List Found)) → Type 0
   AreRead [] [] = Unit {0}
   AreRead [] (e ∷ es) = ⊥
   AreRead (x ∷ xs) [] = ⊥
-  AreRead (x ∷ xs) (e ∷ es) = (found_value false s (read_laid nodes x) ≡ Ok e) × AreRead xs es
+  AreRead (x ∷ xs) (e ∷ es) = (found_value plugin s (read_laid nodes x) ≡ Ok e) × AreRead xs es
 
-  read-all : (xs : List (Laid Parts)) (es : List (Definition (List Found))) → each (found_value false s) (map (read_laid nodes) xs) ≡ Ok es → AreRead xs es
+  read-all : (xs : List (Laid Parts)) (es : List (Definition (List Found))) → each (found_value plugin s) (map (read_laid nodes) xs) ≡ Ok es → AreRead xs es
   read-all [] [] h = tt
   read-all [] (e ∷ es) h = absurd (cc)
   read-all (x ∷ xs) es h =
-      let split = each-split (found_value false s (read_laid nodes x)) (each (found_value false s) (map (read_laid nodes) xs)) es h in
+      let split = each-split (found_value plugin s (read_laid nodes x)) (each (found_value plugin s) (map (read_laid nodes) xs)) es h in
       subst (λ (ds : List (Definition (List Found))). AreRead (x ∷ xs) ds) (sym split.4) (split.2, read-all xs split.1 split.3)
 
   read-drop : (k : ℕ) (xs : List (Laid Parts)) (es : List (Definition (List Found))) → AreRead xs es → AreRead (drop k xs) (drop k es)
@@ -140,16 +80,16 @@ module _ (s : State (List Piece)) (nodes : List NodeRow) where
   read-length (x ∷ xs) [] h = absurd h
   read-length (x ∷ xs) (e ∷ es) h = ap suc (read-length xs es h.1)
 
-  read-is : (x : Laid Parts) (e : Definition (List Found)) → found_value false s (read_laid nodes x) ≡ Ok e
-      → (each (found_in false s) (pieces x.value) ≡ Ok e.value) × (e.path ≡ path_of nodes x.node) × (e.name ≡ x.name.now)
-  read-is x e h = value-is (each (found_in false s) (pieces x.value)) (path_of nodes x.node) x.name.now e h
+  read-is : (x : Laid Parts) (e : Definition (List Found)) → found_value plugin s (read_laid nodes x) ≡ Ok e
+      → (each (found_in plugin s) (pieces x.value) ≡ Ok e.value) × (e.path ≡ path_of nodes x.node) × (e.name ≡ x.name.now)
+  read-is x e h = value-is (each (found_in plugin s) (pieces x.value)) (path_of nodes x.node) x.name.now e h
 
   -- ---- the run
   module _ (index : rows.Found) (grown : IsGrown nodes) (indexed : IsNodeIndex nodes index) (n : ℕ) (up : stands nodes n ≡ true) where
     abbrev Stood : Laid Parts → Type 0
     Stood x = stands nodes x.node ≡ true
 
-    tests : (x : Laid Parts) (e : Definition (List Found)) → found_value false s (read_laid nodes x) ≡ Ok e → stands nodes x.node ≡ true → (n == x.node) ≡ same_path (path_of nodes n) e.path
+    tests : (x : Laid Parts) (e : Definition (List Found)) → found_value plugin s (read_laid nodes x) ≡ Ok e → stands nodes x.node ≡ true → (n == x.node) ≡ same_path (path_of nodes n) e.path
     tests x e h stood = sym (same-node nodes index grown indexed n x.node up stood) ∙ ap (same_path (path_of nodes n)) (sym (read-is x e h).1)
 
     run-long : (ds bs : List (Definition (List Found))) (xs : List (Laid Parts)) → AreRead xs (ds ++ bs) → Each (Owns (path_of nodes n)) ds → Each (IsOther (path_of nodes n)) bs → Each Stood xs
@@ -162,23 +102,23 @@ module _ (s : State (List Piece)) (nodes : List NodeRow) where
         let rest : prefix_len (λ y. n == y.node) xs ≡ length ds = run-long ds bs xs h.1 own.1 other stood.1 in
         ap (λ t. cond t (1 + prefix_len (λ y. n == y.node) xs) 0) (tests x a h.0 stood.0 ∙ own.0) ∙ omega arith
 
-  abbrev pub targets_in : List (Definition (List Found)) → List Path
+  abbrev pub targets_in : List (Definition (List Found)) → List (Option Path)
   targets_in es = flat_map (λ e. flat_map target_path e.value) es
 
   run-made : (ns : List Number) (path : ℕ → Path) (q : Path) (run : List (Laid Parts)) (ds : List (Definition (List Found))) → AreRead run ds → Each (Owns q) ds
-      → (ts : List ℕ) (rest : List Path) → map path ts ≡ targets_in ds ++ rest
-      → (run_of ns path q run ts ≡ map (with_bytes ns) ds) × (map path (drop (run_uses run) ts) ≡ rest)
+      → (ts : List (Option ℕ)) (rest : List (Option Path)) → map (option_map path) ts ≡ targets_in ds ++ rest
+      → (run_of ns path q run ts ≡ map (with_bytes ns) ds) × (map (option_map path) (drop (run_uses run) ts) ≡ rest)
   run-made ns path q [] [] h own ts rest at = (refl, at)
   run-made ns path q [] (a ∷ ds) h own ts rest at = absurd h
   run-made ns path q (x ∷ run) [] h own ts rest at = absurd h
   run-made ns path q (x ∷ run) (a ∷ ds) h own ts rest at =
       let is = read-is x a h.0 in
-      let value = value-found s path x.value.now a.value ts (targets_in ds ++ rest) is.0 (at ∙ append_assoc (flat_map target_path a.value) (targets_in ds) rest) in
+      let value = value-found plugin s path x.value.now a.value ts (targets_in ds ++ rest) is.0 (at ∙ append_assoc (flat_map target_path a.value) (targets_in ds) rest) in
       let more = run-made ns path q run ds h.1 own.1 (drop (all_uses x.value.now) ts) rest value.1 in (
         ap (λ p. definition p x.name.now (value_bytes ns (founds_of path x.value.now ts)) ∷ run_of ns path q run (drop (all_uses x.value.now) ts)) (same-is q a.path own.0)
             ∙ ap (λ m. definition a.path m (value_bytes ns (founds_of path x.value.now ts)) ∷ run_of ns path q run (drop (all_uses x.value.now) ts)) (sym is.2)
             ∙ ap₂ (λ fs es. definition a.path a.name (value_bytes ns fs) ∷ es) value.0 more.0,
-        ap (map path) (sym (drop-drop (run_uses run) (all_uses x.value.now) ts)) ∙ more.1,
+        ap (map (option_map path)) (sym (drop-drop (run_uses run) (all_uses x.value.now) ts)) ∙ more.1,
       )
 
 -- ---- of a source that is prepared
@@ -215,42 +155,42 @@ module _ (p : Prepared) (ready : IsReady p) (at : Place) (is : IsPlace p at) (mo
       not-true (is_listed (path_at p at.node) behind)
       (and_parts (not (is_listed (path_at p at.node) behind)) (are_apart behind) (ap are_apart (sym walk-here) ∙ apart)).0
 
-  all-read : AreRead (tree_of p.draft) p.draft.nodes.items p.layout.properties.items (founds p)
+  all-read : AreRead p.plugin (tree_of p.draft) p.draft.nodes.items p.layout.properties.items (founds p)
   all-read =
-      read-all (tree_of p.draft) p.draft.nodes.items p.layout.properties.items (founds p)
-      (ap (each (found_value false (tree_of p.draft))) (read-order p.draft p.layout.properties.items ready.laid) ∙ ready.found)
+      read-all p.plugin (tree_of p.draft) p.draft.nodes.items p.layout.properties.items (founds p)
+      (ap (each (found_value p.plugin (tree_of p.draft))) (read-order p.draft p.layout.properties.items ready.laid) ∙ ready.found)
 
-  here-read : AreRead (tree_of p.draft) p.draft.nodes.items laid_behind (own_founds ++ other_founds)
+  here-read : AreRead p.plugin (tree_of p.draft) p.draft.nodes.items laid_behind (own_founds ++ other_founds)
   here-read =
-      subst (λ (es : List (Definition (List Found))). AreRead (tree_of p.draft) p.draft.nodes.items laid_behind es) split
-      (read-drop (tree_of p.draft) p.draft.nodes.items at.property p.layout.properties.items (founds p) all-read)
+      subst (λ (es : List (Definition (List Found))). AreRead p.plugin (tree_of p.draft) p.draft.nodes.items laid_behind es) split
+      (read-drop p.plugin (tree_of p.draft) p.draft.nodes.items at.property p.layout.properties.items (founds p) all-read)
 
   own-owned : Each (Owns (path_at p at.node)) own_founds
   own-owned = each-held (founds p) (path_at p at.node)
 
   here-long : prefix_len (λ x. node == x.node) laid_behind ≡ length own_founds
   here-long =
-      run-long (tree_of p.draft) p.draft.nodes.items (row_of p.draft.node_rows) ready.sound.grown ready.sound.nodes node (ready.there at.node 0 more)
+      run-long p.plugin (tree_of p.draft) p.draft.nodes.items (row_of p.draft.node_rows) ready.sound.grown ready.sound.nodes node (ready.there at.node 0 more)
       own_founds other_founds laid_behind here-read own-owned (none-held (founds p) (path_at p at.node) behind once)
       (each-drop (λ x. stands p.draft.nodes.items x.node ≡ true) at.property p.layout.properties.items (each-of (λ x. stands p.draft.nodes.items x.node ≡ true) p.layout.properties.items ready.stand))
 
   module _ (run : List (Laid Parts)) (taken : run ≡ take (prefix_len (λ x. node == x.node) laid_behind) laid_behind) where
-    run-read : AreRead (tree_of p.draft) p.draft.nodes.items run own_founds
+    run-read : AreRead p.plugin (tree_of p.draft) p.draft.nodes.items run own_founds
     run-read =
-        subst (λ (xs : List (Laid Parts)). AreRead (tree_of p.draft) p.draft.nodes.items xs own_founds) (sym (taken ∙ ap (λ k. take k laid_behind) here-long))
-        (subst (λ (es : List (Definition (List Found))). AreRead (tree_of p.draft) p.draft.nodes.items (take (length own_founds) laid_behind) es) (take-append_seam own_founds other_founds)
-        (read-take (tree_of p.draft) p.draft.nodes.items (length own_founds) laid_behind (own_founds ++ other_founds) here-read))
+        subst (λ (xs : List (Laid Parts)). AreRead p.plugin (tree_of p.draft) p.draft.nodes.items xs own_founds) (sym (taken ∙ ap (λ k. take k laid_behind) here-long))
+        (subst (λ (es : List (Definition (List Found))). AreRead p.plugin (tree_of p.draft) p.draft.nodes.items (take (length own_founds) laid_behind) es) (take-append_seam own_founds other_founds)
+        (read-take p.plugin (tree_of p.draft) p.draft.nodes.items (length own_founds) laid_behind (own_founds ++ other_founds) here-read))
 
     others : drop (at.property + length run) (founds p) ≡ other_founds
     others =
         sym (drop-drop (length run) at.property (founds p))
-        ∙ ap₂ (λ k es. drop k es) (read-length (tree_of p.draft) p.draft.nodes.items run own_founds run-read) split
+        ∙ ap₂ (λ k es. drop k es) (read-length p.plugin (tree_of p.draft) p.draft.nodes.items run own_founds run-read) split
         ∙ drop-append_seam own_founds other_founds
 
     made : (run_of (all_numbers p) (node_path p.draft) (path_at p at.node) run (drop at.target p.resolution.targets.all.items) ≡ map (with_bytes (all_numbers p)) own_founds)
-        × (map (node_path p.draft) (drop (run_uses run) (drop at.target p.resolution.targets.all.items)) ≡ flat_map (λ e. flat_map target_path e.value) other_founds)
+        × (map (option_map (node_path p.draft)) (drop (run_uses run) (drop at.target p.resolution.targets.all.items)) ≡ flat_map (λ e. flat_map target_path e.value) other_founds)
     made =
-        run-made (tree_of p.draft) p.draft.nodes.items (all_numbers p) (node_path p.draft) (path_at p at.node) run own_founds run-read own-owned (drop at.target p.resolution.targets.all.items)
+        run-made p.plugin (tree_of p.draft) p.draft.nodes.items (all_numbers p) (node_path p.draft) (path_at p at.node) run own_founds run-read own-owned (drop at.target p.resolution.targets.all.items)
         (flat_map (λ e. flat_map target_path e.value) other_founds)
         (is.targets ∙ ap (flat_map (λ e. flat_map target_path e.value)) split ∙ flat_map-append (λ (e : Definition (List Found)). flat_map target_path e.value) own_founds other_founds)
 
@@ -261,7 +201,7 @@ module _ (p : Prepared) (ready : IsReady p) (at : Place) (is : IsPlace p at) (mo
         (each-drop LaidNamed at.property p.layout.properties.items
         (laid-named p.draft.nodes.items p.layout.properties.items
         (subst (λ (es : List (Definition (List Piece))). Each Named es) (sym (read-order p.draft p.layout.properties.items ready.laid))
-        (all-named (tree_of p.draft).properties (preorder (tree_of p.draft).nodes) (each-defined (tree_of p.draft).properties ready.named.properties))))))
+        (all-named (tree_of p.draft).properties (preorder (tree_of p.draft).nodes) (each-of Named (tree_of p.draft).properties ready.named.properties))))))
 
     pub run-is : at.property + length run < 2 ^ 64 → IsRun p at run
     run-is fits = record {
@@ -273,11 +213,9 @@ module _ (p : Prepared) (ready : IsReady p) (at : Place) (is : IsPlace p at) (mo
     }
 
   -- as the code takes it
-  pub run-taken : (n count : ℕ) (rest : List (Laid Parts)) → n ≡ get_or p.layout.nodes.items at.node n → rest ≡ laid_behind → count ≡ prefix_len (λ x. n == x.node) rest
-      → take count rest ≡ take (prefix_len (λ x. node == x.node) laid_behind) laid_behind
-  run-taken n count rest here left long =
-      ap (λ k. take k rest) long
-      ∙ ap₂ (λ (m : ℕ) (xs : List (Laid Parts)). take (prefix_len (λ x. m == x.node) xs) xs) (here ∙ get_or_default p.layout.nodes.items at.node n 0 more) left
+  pub run-taken : (n : ℕ) → n ≡ get_or p.layout.nodes.items at.node n
+      → take (prefix_len (λ x. n == x.node) laid_behind) laid_behind ≡ take (prefix_len (λ x. node == x.node) laid_behind) laid_behind
+  run-taken n here = ap (λ (m : ℕ). take (prefix_len (λ x. m == x.node) laid_behind) laid_behind) (here ∙ get_or_default p.layout.nodes.items at.node n 0 more)
 
-pub run-fits : (count property : ℕ) (xs rest : List (Laid Parts)) → property < 2 ^ 64 → length xs < 2 ^ 64 → rest ≡ drop property xs → property + length (take count rest) < 2 ^ 64
-run-fits count property xs rest a b is = omega (arith, length-take count rest, ap length is, length-drop property xs)
+pub run-fits : (count property : ℕ) (xs run : List (Laid Parts)) → property < 2 ^ 64 → length xs < 2 ^ 64 → run ≡ take count (drop property xs) → property + length run < 2 ^ 64
+run-fits count property xs run a b is = omega (arith, ap length is, length-take count (drop property xs), length-drop property xs)

@@ -1,4 +1,4 @@
--- A lawful ordinary source that is prepared is ready to be made into a tree.
+-- A lawful source that is prepared is ready to be made into a tree.
 use Rattle.std.proofs.Common.{◌≡◌, suc, Bool, true, false, List, [], ◌∷◌, length, map, Ok, sym, ap, ◌∙◌, subst, arith}
 use Rattle.std.specs.List.{flat_map, list_all}
 use Rattle.dt_tree.specs.Name.{is_name}
@@ -15,6 +15,7 @@ use Rattle.dt_draft.specs.Rows.{path_of}
 use Rattle.dt_edit.specs.Said.{tree_of}
 use Rattle.dt_layout.proofs.Each.{Each, each-more}
 use Rattle.dt_assembly.specs.Standing.{are_apart, AreNodes}
+use Rattle.dt_layout.proofs.NodesStanding.{are-nodes, there-by}
 use Rattle.dt_resolve.specs.declared.numbers.Numbered.{Numbered}
 use Rattle.dt_resolve.specs.declared.prepared.Prepared.{Prepared}
 use Rattle.dt_resolve.specs.Numbers.{AreStanding, number_at}
@@ -27,22 +28,25 @@ use Rattle.dt_build.proofs.ApartLists.{all-of}
 use Rattle.dt_build.proofs.ApartKeys.{distinct-words}
 use Rattle.dt_build.proofs.ApartMade.{listed-in-order, names-apart}
 use Rattle.dt_build.proofs.ApartNumbers.{AreNew, apart-of, new-numbers, paths}
-use Rattle.dt_build.proofs.NamedEdits.{IsWay, IsNamed, edits-named, listed-so}
-use Rattle.dt_build.proofs.NamedSources.{IsName, items-named, way-named, edits-shallow}
-use Rattle.dt_build.proofs.NodesStanding.{are-nodes, there-by}
+use Rattle.dt_build.proofs.FoundNames.{founds-named}
+use Rattle.dt_build.proofs.NamedEdits.{IsWay, IsNamed, IsNamedValue, edits-named, listed-so}
+use Rattle.dt_build.proofs.NamedSources.{IsName, items-named, names-brought, way-named, edits-shallow}
 
--- ---- of any ordinary source
-module _ (symbols : Bool) (m : Meaning) (es : List (Definition (List Found))) (p : Prepared) (is : IsPrepared symbols m es p) (ordinary : m.plugin ≡ false) where
-  founds-are : founds p ≡ es
-  founds-are = ap ok_or_none is.resolved.found
+-- ---- of any source
+module _ (symbols : Bool) (m : Meaning) (es : List (Definition (List Found))) (p : Prepared) (is : IsPrepared symbols m es p) where
+  found-here : references p.plugin (tree_of p.draft) ≡ Ok es
+  found-here = ap (λ b. references b (tree_of p.draft)) is.plugin ∙ is.resolved.found
 
-  pub found-all : references false (tree_of p.draft) ≡ Ok (founds p)
-  found-all = is.resolved.found ∙ ap (λ xs. Ok xs) (sym founds-are)
+  pub founds-are : founds p ≡ es
+  founds-are = ap ok_or_none found-here
+
+  pub found-all : references p.plugin (tree_of p.draft) ≡ Ok (founds p)
+  found-all = found-here ∙ ap (λ xs. Ok xs) (sym founds-are)
 
   pub standing-all : AreNodes (tree_of p.draft).nodes
   standing-all =
       are-nodes p.draft.nodes.items (row_of p.draft.node_rows) is.sound.grown is.sound.nodes (length p.draft.nodes.items)
-      (edits-shallow m (tree_of p.draft) ordinary is.edited)
+      (edits-shallow m is.fragments (tree_of p.draft) is.edited)
 
   -- ---- new numbers
   abbrev nodes : List Path
@@ -52,7 +56,7 @@ module _ (symbols : Bool) (m : Meaning) (es : List (Definition (List Found))) (p
   new-is = is.resolved.new ∙ ap (λ fs. numbered (given_numbers p) 0 (wanted symbols (tree_of p.draft) (given_numbers p) fs)) (sym founds-are)
 
   new-nodes : AreNew (given_numbers p) (new_numbers p)
-  new-nodes = new-numbers symbols (tree_of p.draft) (in_order (tree_of p.draft)) (founds p) (given_numbers p) (new_numbers p) found-all new-is
+  new-nodes = new-numbers symbols p.plugin (tree_of p.draft) (in_order (tree_of p.draft)) (founds p) (given_numbers p) (new_numbers p) found-all new-is
 
   -- no node gets two
   pub new-apart : are_apart (paths (new_numbers p)) ≡ true
@@ -78,13 +82,15 @@ module _ (symbols : Bool) (m : Meaning) (es : List (Definition (List Found))) (p
   given-there q there = listed-so (λ x. is_listed x (preorder nodes) ≡ true) q (paths (given_numbers p)) (each-there p.resolution.given.numbers.items is.given) there
 
   -- ---- of a lawful one
-  module _ (named : IsNamed IsName (tree_of p.draft)) (walked : flat_map (held (founds p)) (preorder nodes) ≡ founds p) where
+  module _ (named : IsNamed IsName (IsNamedValue IsName) (tree_of p.draft)) (walked : flat_map (held (founds p)) (preorder nodes) ≡ founds p) where
     all-named : AreNamed p
     all-named = record {
       nodes = all-of (λ q. list_all is_name q ≡ true) nodes (each-more (IsWay IsName) (λ q. list_all is_name q ≡ true) nodes (λ q h. way-named q h.0) named.nodes);
-      properties = all-of (λ e. is_name e.name ≡ true) (tree_of p.draft).properties named.properties;
+      properties = all-of (λ e. is_name e.name ≡ true) (tree_of p.draft).properties
+          (each-more (λ e. IsName e.name × IsNamedValue IsName e.value) (λ e. is_name e.name ≡ true) (tree_of p.draft).properties (λ e h. h.0) named.properties);
       labels = all-of (λ l. is_name l.label ≡ true) (tree_of p.draft).labels
           (each-more (λ l. IsName l.label × IsWay IsName l.path) (λ l. is_name l.label ≡ true) (tree_of p.draft).labels (λ l h. h.0) named.labels);
+      elsewhere = founds-named p.plugin (tree_of p.draft) (founds p) named.properties found-all;
     }
 
     named-ready : IsReady p
@@ -105,14 +111,14 @@ module _ (symbols : Bool) (m : Meaning) (es : List (Definition (List Found))) (p
       new_free = new-free;
       standing = standing-all;
       named = all-named;
-      apart = names-apart symbols (tree_of p.draft) standing-all named.keys (given_numbers p) (new_numbers p) (founds p) is.resolved.given found-all new-is;
+      apart = names-apart symbols p.plugin (tree_of p.draft) standing-all named.keys (given_numbers p) (new_numbers p) (founds p) is.resolved.given found-all new-is;
       labels_apart = distinct-words (tree_of p.draft).labels named.words;
       walked = walked;
     }
 
--- a lawful ordinary source
-pub ready : (symbols : Bool) (source : Source) (es : List (Definition (List Found))) (p : Prepared) → IsPrepared symbols (meaning_of source) es p → IsLawful (said.meaning source) → source.plugin ≡ false
+-- a lawful source
+pub ready : (symbols : Bool) (source : Source) (es : List (Definition (List Found))) (p : Prepared) → IsPrepared symbols (meaning_of source) es p → IsLawful (said.meaning source)
     → flat_map (held (founds p)) (preorder (tree_of p.draft).nodes) ≡ founds p → IsReady p
-ready symbols source es p is lawful ordinary walked =
-    named-ready symbols (meaning_of source) es p is ordinary
-    (edits-named IsName (meaning_of source) (tree_of p.draft) ordinary (items-named (said.meaning source).items lawful.items) is.edited) walked
+ready symbols source es p is lawful walked =
+    named-ready symbols (meaning_of source) es p is
+    (edits-named IsName names-brought (meaning_of source) is.fragments (tree_of p.draft) (items-named (said.meaning source).items lawful.items) is.edited) walked

@@ -7,14 +7,9 @@ use Rattle.dt_meaning.specs.Paths.{Path, same_path, is_listed}
 use Rattle.dt_meaning.specs.Edits.{Definition}
 use Rattle.dt_meaning.specs.References.{held}
 use Rattle.dt_assembly.specs.Standing.{are_apart}
-use Rattle.dt_assembly.proofs.PathFacts.{not-both, not-true, or-false, same-itself, same-is}
-use Rattle.dt_build.specs.Built.{size_in}
-
-pub other-way : (p q : Path) → same_path p q ≡ false → same_path q p ≡ false
-other-way p q e = by_same (same_path q p) refl where
-  by_same : (t : Bool) → same_path q p ≡ t → t ≡ false
-  by_same true same = not-both (same_path p q) (ap (same_path p) (same-is q p same) ∙ same-itself p) e
-  by_same false same = refl
+use Rattle.dt_assembly.specs.Sizes.{size_in}
+use Rattle.dt_assembly.proofs.PathFacts.{not-true, or-false, other-way, same-itself, same-is}
+use Rattle.dt_assembly.proofs.SizesOfMaps.{size-append}
 
 -- ---- the properties of one node
 module _ {V : Type 0} where
@@ -39,10 +34,6 @@ module _ {V : Type 0} where
       ap₂ (λ a b. a ++ b) (held-other e es x (other-way e.path x parts.0)) (walk-without e es xs parts.1)
 
 -- ---- sizes
-pub size-append : (xs ys : List (Definition (List ℕ))) → size_in (xs ++ ys) ≡ size_in xs + size_in ys
-size-append [] ys = omega arith
-size-append (x ∷ xs) ys = omega (arith, size-append xs ys)
-
 met-once : (e : Definition (List ℕ)) (es : List (Definition (List ℕ))) (order : List Path) → are_apart order ≡ true → is_listed e.path order ≡ true
     → size_in (flat_map (held (e ∷ es)) order) ≡ length e.value + size_in (flat_map (held es) order)
 met-once e es [] apart there = absurd (true≢false (sym there))

@@ -12,31 +12,31 @@ use Rattle.dt_meaning.specs.Phandles.{new_ones}
 use Rattle.dt_meaning.specs.Resolved.{Resolved, fronts, symbol, with_more}
 use Rattle.dt_assembly.specs.Standing.{AreNodes, walked, behind_root}
 use Rattle.dt_assembly.proofs.Orders.{behind, there-same, no-below}
-use Rattle.dt_assembly.proofs.PathFacts.{not-both, same-itself, child-is, listed-first, listed-next, listed-other}
-use Rattle.dt_build.proofs.SizeOfWalk.{other-way, held-both, held-other}
+use Rattle.dt_assembly.proofs.PathFacts.{not-both, same-itself, child-is, listed-first, listed-next, listed-other, other-way}
+use Rattle.dt_build.proofs.SizeOfWalk.{held-both, held-other}
 
 -- ---- children that are kept of a list
-kept-both : (f : Path → Bool) (xs ys : List Path) → filter f (xs ++ ys) ≡ filter f xs ++ filter f ys
+pub kept-both : (f : Path → Bool) (xs ys : List Path) → filter f (xs ++ ys) ≡ filter f xs ++ filter f ys
 kept-both f [] ys = refl
 kept-both f (x ∷ xs) ys = by_test (f x) (kept-both f xs ys) where
   by_test : (t : Bool) → filter f (xs ++ ys) ≡ filter f xs ++ filter f ys → cond t (x ∷ filter f (xs ++ ys)) (filter f (xs ++ ys)) ≡ cond t (x ∷ filter f xs) (filter f xs) ++ filter f ys
   by_test true ih = ap (λ zs. x ∷ zs) ih
   by_test false ih = ih
 
-none-kept : (f : Path → Bool) (xs : List Path) → ((x : Path) → is_listed x xs ≡ true → f x ≡ false) → filter f xs ≡ []
+pub none-kept : (f : Path → Bool) (xs : List Path) → ((x : Path) → is_listed x xs ≡ true → f x ≡ false) → filter f xs ≡ []
 none-kept f [] none = refl
 none-kept f (x ∷ xs) none =
     ap (λ t. cond t (x ∷ filter f xs) (filter f xs)) (none x (listed-first x xs)) ∙ none-kept f xs (λ y there. none y (listed-next y x xs there))
 
 -- two functions that agree on what is kept
-same-kept : {B : Type 0} (f : Path → Bool) (g h : Path → List B) (xs : List Path) → ((x : Path) → f x ≡ true → g x ≡ h x) → flat_map g (filter f xs) ≡ flat_map h (filter f xs)
+pub same-kept : {B : Type 0} (f : Path → Bool) (g h : Path → List B) (xs : List Path) → ((x : Path) → f x ≡ true → g x ≡ h x) → flat_map g (filter f xs) ≡ flat_map h (filter f xs)
 same-kept f g h [] same = refl
 same-kept f g h (x ∷ xs) same = by_test x (f x) refl (same-kept f g h xs same) where
   by_test : (x : Path) (t : Bool) → f x ≡ t → flat_map g (filter f xs) ≡ flat_map h (filter f xs) → flat_map g (cond t (x ∷ filter f xs) (filter f xs)) ≡ flat_map h (cond t (x ∷ filter f xs) (filter f xs))
   by_test x true is ih = ap₂ (λ a b. a ++ b) (same x is) ih
   by_test x false is ih = ih
 
-same-listed : {B : Type 0} (g h : Path → List B) (xs : List Path) → ((x : Path) → is_listed x xs ≡ true → g x ≡ h x) → flat_map g xs ≡ flat_map h xs
+pub same-listed : {B : Type 0} (g h : Path → List B) (xs : List Path) → ((x : Path) → is_listed x xs ≡ true → g x ≡ h x) → flat_map g xs ≡ flat_map h xs
 same-listed g h [] same = refl
 same-listed g h (x ∷ xs) same = ap₂ (λ a b. a ++ b) (same x (listed-first x xs)) (same-listed g h xs (λ y there. same y (listed-next y x xs there)))
 

@@ -12,8 +12,8 @@ use Rattle.dt_layout.proofs.Each.{Each}
 use Rattle.dt_assembly.specs.Standing.{are_apart, AreNodes}
 use Rattle.dt_assembly.proofs.InTurn.{each-once}
 use Rattle.dt_assembly.proofs.Orders.{behind, there-same}
-use Rattle.dt_assembly.proofs.PathFacts.{not-true, same-is, or-false}
-use Rattle.dt_build.proofs.SizeOfWalk.{other-way, held-both, held-other, held-own}
+use Rattle.dt_assembly.proofs.PathFacts.{not-true, same-is, or-false, other-way}
+use Rattle.dt_build.proofs.SizeOfWalk.{held-both, held-other, held-own}
 
 -- ---- the walk meets what is listed
 pub in-walk : (nodes : List Path) → AreNodes nodes → (p : Path) → is_listed p (preorder nodes) ≡ is_listed p ([] ∷ nodes)

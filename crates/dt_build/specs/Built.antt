@@ -1,35 +1,17 @@
 -- What a build answers: the resolved tree, where its values are short enough, or why there is none
 -- (Devicetree Specification v0.4, chapter 6).
-use Rattle.std.specs.Prelude.{◌≡◌, ◌<◌, ◌≤◌, ◌+◌, ◌-◌, ◌^◌, ℕ, Bool, true, List, [], ◌∷◌, length, Option, None, Some, Ok}
-use Rattle.dt_tree.specs.declared.property.Property.{Property}
-use Rattle.dt_tree.specs.NodeData.{Siblings, none, more, NodeData}
+use Rattle.std.specs.Prelude.{◌≡◌, ◌<◌, ◌≤◌, ◌-◌, ◌^◌, ℕ, Bool, Option, None, Some, Ok}
+use Rattle.dt_tree.specs.NodeData.{NodeData}
 use Rattle.dt_tree.specs.PathMap.{path_map, tree_map}
 use Rattle.dt_tree.specs.Sound.{IsSound}
 use Rattle.dt_tree.specs.TreeData.{TreeData}
 use Rattle.dt_meaning.specs.Syntax.{Meaning}
-use Rattle.dt_meaning.specs.Edits.{Definition}
 use Rattle.dt_meaning.specs.MapOf.{map_of, tree_map_of}
 use Rattle.dt_meaning.specs.Resolved.{Resolved, resolved}
+use Rattle.dt_assembly.specs.Sizes.{size_in, size_below}
 use Rattle.dt_resolve.specs.declared.error.BuildError.{BuildError}
-use Rattle.dt_resolve.specs.declared.error.BuildError.TheVariants.{NoMemory, UnknownLabel, DuplicateLabel, UnknownPath, BadPhandle, DuplicatePhandle, DuplicateInBody, PathInPlugin, ReservedName, TooDeep, NoPlugin}
+use Rattle.dt_resolve.specs.declared.error.BuildError.TheVariants.{NoMemory, UnknownLabel, DuplicateLabel, UnknownPath, BadPhandle, DuplicatePhandle, DuplicateInBody, PathInPlugin, ReservedName, TooDeep}
 use Rattle.dt_resolve.specs.BuildFault.{IsFault}
-
--- how many bytes the values have together
-abbrev pub size_in : List (Definition (List ℕ)) → ℕ
-size_in [] = 0
-size_in (e ∷ es) = length e.value + size_in es
-
--- the same of the nodes of a tree
-abbrev pub size_of : List Property → ℕ
-size_of [] = 0
-size_of (x ∷ xs) = length x.value + size_of xs
-
-abbrev pub size_among : Siblings → ℕ
-size_among none = 0
-size_among (more n p c rest) = size_of p + (size_among c + size_among rest)
-
-abbrev pub size_below : NodeData → ℕ
-size_below b = size_of b.properties + size_among b.children
 
 -- the tree is the source's resolved tree
 pub record IsTreeOf (symbols : Bool) (m : Meaning) (t : TreeData) : Type 0 where
@@ -56,7 +38,6 @@ IsBuilt symbols m limit None = IsLonger symbols m limit
 
 -- why a source makes no tree
 abbrev pub Refuses : Bool → Meaning → BuildError → Type 0
-Refuses symbols m NoPlugin = m.plugin ≡ true
 Refuses symbols m NoMemory = Unit {0}
 Refuses symbols m UnknownLabel = IsFault UnknownLabel (resolved symbols m)
 Refuses symbols m DuplicateLabel = IsFault DuplicateLabel (resolved symbols m)

@@ -1,15 +1,19 @@
 //! The tree of a source.
-ghost use Rattle.std.specs.Prelude.{◌≡◌, false, true, IfOk, Option, IsErrOf, MatchResult};
-ghost use Rattle.dt_meaning.specs.Resolved.{names_taken};
+ghost use Rattle.std.specs.Prelude.{◌≡◌, false, IfOk, Option, MatchResult};
+ghost use Rattle.std.specs.List.{list_any};
+ghost use Rattle.dt_meaning.specs.Resolved.{is_too_deep, names_taken};
 ghost use Rattle.dt_edit.specs.Said.{tree_of};
 ghost use Rattle.dt_resolve.specs.Said.{meaning_of};
 ghost use Rattle.dt_build.specs.Built.{IsBuilt, IsTreeOf, Refuses};
 ghost use Rattle.dt_build.specs.Private.Fitting.{IsFitting};
+ghost use Rattle.dt_build.specs.Private.Made.{lists};
 ghost use Rattle.dt_build.specs.Private.Ready.{IsReady};
 
 use crate::making::make;
+use crate::mirror::is_mirror_too_deep;
 use crate::numbering::number;
 use crate::sizes::total_size;
+use dt_edit::fragments_of;
 use dt_resolve::{BuildError, Prepared, prepare};
 use dt_source::Source;
 use dt_tree::Tree;
@@ -25,7 +29,8 @@ fn fitting_tree(
     limit: usize,
 ) -> Result<Option<Tree>, AllocError>
     requires ready { IsReady prepared.now }
-    requires free { names_taken symbols false (tree_of prepared.now.draft) ≡ false }
+    requires free { names_taken symbols prepared.now.plugin (tree_of prepared.now.draft) ≡ false }
+    requires shallow { list_any is_too_deep (lists symbols prepared.now).nodes ≡ false }
     ensures { IfOk result (λ tree. IsFitting symbols (meaning_of source.now) prepared.now limit tree) }
 {
     let numbering = number(alloc, prepared)?;
@@ -42,7 +47,8 @@ fn fitting_tree(
 }
 
 /// The tree of a source, or None where its values are longer together than the limit, in bytes: sizes are counted before any
-/// value is made. With symbols the root gets `__symbols__`, with the path of each labelled node.
+/// value is made. With symbols the root gets `__symbols__`, with the path of each labelled node; a plugin's root gets `__fixups__` and
+/// `__local_fixups__`, with the places of its phandles.
 pub fn build_within(
     alloc: Global,
     hasher: RandomState,
@@ -51,16 +57,17 @@ pub fn build_within(
     limit: usize,
 ) -> Result<Option<Tree>, BuildError>
     ensures tree { MatchResult result (λ tree. IsBuilt symbols (meaning_of source.now) limit tree) (λ e. Refuses symbols (meaning_of source.now) e) }
-    ensures plugin { source.now.plugin ≡ true → IsErrOf result BuildError.NoPlugin }
 {
-    if source.plugin {
-        return Err(BuildError::NoPlugin);
-    }
     source.check();
-    let prepared = match prepare(alloc, hasher, source, symbols) {
+    let fragments = fragments_of(alloc, source.items.as_slice())?;
+    let prepared = match prepare(alloc, hasher, source, &fragments, symbols) {
         Ok(prepared) => prepared,
         Err(error) => return Err(error),
     };
+    // behind the edits only the mirror of a node is deeper than the node
+    if is_mirror_too_deep(&prepared, symbols) {
+        return Err(BuildError::TooDeep);
+    }
     let tree = fitting_tree(alloc, source, &prepared, symbols, limit)?;
     Ok(tree)
 }
@@ -73,7 +80,6 @@ pub fn build(
     symbols: bool,
 ) -> Result<Tree, BuildError>
     ensures tree { MatchResult result (λ tree. IsTreeOf symbols (meaning_of source.now) tree) (λ e. Refuses symbols (meaning_of source.now) e) }
-    ensures plugin { source.now.plugin ≡ true → IsErrOf result BuildError.NoPlugin }
 {
     match build_within(alloc, hasher, source, symbols, usize::MAX) {
         Ok(Some(tree)) => Ok(tree),

@@ -1,22 +1,24 @@
 //! The nodes of a tree, each made once.
 ghost use Rattle.std.specs.Prelude.{◌≡◌, ◌+◌, ◌<◌, false, [], IfOk, length};
+ghost use Rattle.std.specs.List.{list_any};
 ghost use Rattle.dt_tree.specs.PathMap.{path_map};
 ghost use Rattle.dt_meaning.specs.MapOf.{map_of};
-ghost use Rattle.dt_meaning.specs.Resolved.{names_taken};
+ghost use Rattle.dt_meaning.specs.Resolved.{is_too_deep, names_taken};
 ghost use Rattle.dt_edit.specs.Said.{tree_of};
 ghost use Rattle.dt_assembly.specs.OpenNodes.{assembled};
+ghost use Rattle.dt_assembly.specs.Private.Making.{IsMade};
 ghost use Rattle.dt_assembly.specs.Standing.{walked};
-ghost use Rattle.dt_build.specs.Private.Made.{lists, plain_lists};
-ghost use Rattle.dt_build.specs.Private.Making.{IsMade};
+ghost use Rattle.dt_build.specs.Private.Made.{lists, plain_lists, symbol_lists};
 ghost use Rattle.dt_build.specs.Private.Places.{IsNumbering, IsPlace};
 ghost use Rattle.dt_build.specs.Private.Ready.{IsReady};
 
-use crate::names::lawful_name;
+use crate::fixups::with_fixups;
+use crate::mirroring::with_mirror;
 use crate::numbering::Numbering;
 use crate::own::own_properties;
 use crate::place::Place;
 use crate::symbols::with_symbols;
-use dt_assembly::Assembly;
+use dt_assembly::{Assembly, lawful_name};
 use dt_resolve::Prepared;
 use dt_tree::Node;
 use std::alloc::{AllocError, Global};
@@ -29,7 +31,7 @@ fn root_of(
 ) -> Result<(Assembly, Place), AllocError>
     requires ready { IsReady prepared.now }
     requires numbering { IsNumbering prepared.now numbering.now }
-    ensures made { IfOk result (λ x. IsMade prepared.now x.1.node x.0) }
+    ensures made { IfOk result (λ x. IsMade (plain_lists prepared.now) x.1.node x.0) }
     ensures place { IfOk result (λ x. IsPlace prepared.now x.1) }
 {
     let (properties, behind) = own_properties(alloc, prepared, numbering, Place::start())?;
@@ -48,8 +50,8 @@ fn with_node(
     requires numbering { IsNumbering prepared.now numbering.now }
     requires place { IsPlace prepared.now place }
     requires more { place.node < length prepared.now.layout.nodes.items }
-    requires made { IsMade prepared.now place.node assembly }
-    ensures made { IfOk result (λ x. IsMade prepared.now x.1.node x.0) }
+    requires made { IsMade (plain_lists prepared.now) place.node assembly }
+    ensures made { IfOk result (λ x. IsMade (plain_lists prepared.now) x.1.node x.0) }
     ensures place { IfOk result (λ x. IsPlace prepared.now x.1) }
     ensures node { IfOk result (λ x. x.1.node ≡ place.node + 1) }
 {
@@ -81,7 +83,47 @@ fn with_nodes(
     Ok(assembly)
 }
 
-/// The root with all below it, with symbols the labels' node last.
+// The nodes of the source, with symbols the labels' node last.
+fn with_labels(
+    alloc: Global,
+    prepared: &Prepared<'_, '_>,
+    numbering: &Numbering,
+    symbols: bool,
+) -> Result<Assembly, AllocError>
+    requires ready { IsReady prepared.now }
+    requires numbering { IsNumbering prepared.now numbering.now }
+    requires free { names_taken symbols prepared.now.plugin (tree_of prepared.now.draft) ≡ false }
+    ensures { IfOk result (λ assembly. assembled assembly ≡ walked (symbol_lists symbols prepared.now)) }
+{
+    let nodes = with_nodes(alloc, prepared, numbering)?;
+    if !symbols {
+        return Ok(nodes);
+    }
+    with_symbols(alloc, prepared, nodes)
+}
+
+// With a plugin's fixups behind all others.
+fn with_all(
+    alloc: Global,
+    prepared: &Prepared<'_, '_>,
+    numbering: &Numbering,
+    symbols: bool,
+) -> Result<Assembly, AllocError>
+    requires ready { IsReady prepared.now }
+    requires numbering { IsNumbering prepared.now numbering.now }
+    requires free { names_taken symbols prepared.now.plugin (tree_of prepared.now.draft) ≡ false }
+    requires shallow { list_any is_too_deep (lists symbols prepared.now).nodes ≡ false }
+    ensures { IfOk result (λ assembly. assembled assembly ≡ walked (lists symbols prepared.now)) }
+{
+    let assembly = with_labels(alloc, prepared, numbering, symbols)?;
+    if !prepared.plugin {
+        return Ok(assembly);
+    }
+    let assembly = with_fixups(alloc, prepared, symbols, assembly)?;
+    with_mirror(alloc, prepared, symbols, assembly)
+}
+
+/// The root with all below it: the nodes of the source, with symbols the labels' node, and a plugin's fixups last.
 pub(crate) fn make(
     alloc: Global,
     prepared: &Prepared<'_, '_>,
@@ -90,13 +132,10 @@ pub(crate) fn make(
 ) -> Result<Node, AllocError>
     requires ready { IsReady prepared.now }
     requires numbering { IsNumbering prepared.now numbering.now }
-    requires free { names_taken symbols false (tree_of prepared.now.draft) ≡ false }
+    requires free { names_taken symbols prepared.now.plugin (tree_of prepared.now.draft) ≡ false }
+    requires shallow { list_any is_too_deep (lists symbols prepared.now).nodes ≡ false }
     ensures name { IfOk result (λ root. root.name ≡ []) }
     ensures map { IfOk result (λ root. path_map root ≡ map_of (lists symbols prepared.now)) }
 {
-    let nodes = with_nodes(alloc, prepared, numbering)?;
-    if !symbols {
-        return nodes.finish();
-    }
-    with_symbols(alloc, prepared, nodes)?.finish()
+    with_all(alloc, prepared, numbering, symbols)?.finish()
 }

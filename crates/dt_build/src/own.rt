@@ -1,51 +1,40 @@
 //! The properties of one node.
-ghost use Rattle.std.specs.Prelude.{◌≡◌, ◌+◌, ◌-◌, ◌<◌, ◌^◌, ◌==◌, ℕ, All, IfOk, codes, drop, length, min, true};
-ghost use Rattle.std.specs.List.{prefix_len};
+ghost use Rattle.std.specs.Prelude.{◌≡◌, ◌+◌, ◌-◌, ◌<◌, ◌^◌, ℕ, All, IfOk, codes, drop, length, min, true};
 ghost use Rattle.std.specs.Int.{to_be_bytes, w32};
 ghost use Rattle.dt_tree.specs.Name.{is_name};
 ghost use Rattle.dt_assembly.specs.Lists.{defined_at};
 ghost use Rattle.dt_meaning.specs.Fixups.{value_bytes as bytes_of_all};
 ghost use Rattle.dt_meaning.specs.Paths.{Path};
-ghost use Rattle.dt_draft.specs.Rows.{IsNode, is_standing, node_path};
-ghost use Rattle.dt_build.specs.Built.{size_in};
+ghost use Rattle.dt_draft.specs.Rows.{node_path};
+ghost use Rattle.dt_assembly.specs.Sizes.{size_in};
+ghost use Rattle.dt_resolve.specs.Targets.{IsKnown, IsThere};
 ghost use Rattle.dt_build.specs.Private.Made.{all_numbers, own};
 ghost use Rattle.dt_build.specs.Private.Places.{IsNumbering, IsPlace, IsRun, path_at};
 ghost use Rattle.dt_build.specs.Private.Ready.{IsReady};
 ghost use Rattle.dt_build.specs.Private.Values.{founds_of, run_of, run_uses};
 
-use crate::names::lawful_name;
 use crate::numbering::Numbering;
-use crate::place::{Place, behind};
+use crate::place::Place;
 use crate::value::{targets_behind, value_bytes, value_size};
-use dt_layout::Laid;
+use dt_assembly::lawful_name;
+use dt_layout::{Laid, behind};
 use dt_resolve::Prepared;
 use dt_source::Part;
 use dt_tree::{Bytes, Property};
 use std::alloc::{AllocError, Global};
 
 // ---- the run of a node's properties
-fn run_length(properties: &[Laid<'_, &[Part<'_>]>], node: usize) -> usize
-    ensures { result ≡ prefix_len (λ x. node == x.node) properties.now }
-{
-    for (place, property) in properties.iter().enumerate() {
-        if node != property.node {
-            return place;
-        }
-    }
-    properties.len()
-}
-
 fn run_at<'p, 'd, 't>(
     prepared: &'p Prepared<'d, 't>,
     place: Place,
-) -> &'p [Laid<'t, &'d [Part<'t>]>]
+) -> &'p [Laid<'d, &'d [Part<'t>]>]
     requires ready { IsReady prepared.now }
     requires place { IsPlace prepared.now place }
     requires more { place.node < length prepared.now.layout.nodes.items }
     ensures { IsRun prepared.now place result.now }
 {
-    let rest = behind(prepared.layout.properties.as_slice(), place.property);
-    &rest[..run_length(rest, prepared.layout.nodes[place.node])]
+    let node = prepared.layout.nodes[place.node];
+    prepared.layout.run_of(node, place.property)
 }
 
 // The place behind a run, where these targets are left.
@@ -53,7 +42,7 @@ fn place_behind(
     prepared: &Prepared<'_, '_>,
     place: Place,
     run: &[Laid<'_, &[Part<'_>]>],
-    left: &[usize],
+    left: &[Option<usize>],
 ) -> Place
     requires place { place.node < length prepared.now.layout.nodes.items }
     requires run { IsRun prepared.now place run.now }
@@ -74,13 +63,13 @@ fn laid_property(
     prepared: &Prepared<'_, '_>,
     numbering: &Numbering,
     laid: &Laid<'_, &[Part<'_>]>,
-    targets: &[usize],
+    targets: &[Option<usize>],
 ) -> Result<Property, AllocError>
     requires ready { IsReady prepared.now }
     requires numbering { IsNumbering prepared.now numbering.now }
     requires named { is_name laid.now.name.now ≡ true }
-    requires known { All (λ n. IsNode prepared.now.draft n) targets.now }
-    requires there { All (λ n. is_standing prepared.now.draft n ≡ true) targets.now }
+    requires known { All (IsKnown prepared.now.draft) targets.now }
+    requires there { All (IsThere prepared.now.draft) targets.now }
     ensures name { IfOk result (λ property. property.name ≡ laid.now.name.now) }
     ensures value { IfOk result (λ property. property.value ≡ bytes_of_all (all_numbers prepared.now) (founds_of (node_path prepared.now.draft) laid.now.value.now targets.now)) }
 {
@@ -96,13 +85,13 @@ fn run_properties<'t>(
     prepared: &Prepared<'_, '_>,
     numbering: &Numbering,
     run: &[Laid<'_, &[Part<'_>]>],
-    targets: &'t [usize],
-) -> Result<(Vec<Property>, &'t [usize]), AllocError>
+    targets: &'t [Option<usize>],
+) -> Result<(Vec<Property>, &'t [Option<usize>]), AllocError>
     requires ready { IsReady prepared.now }
     requires numbering { IsNumbering prepared.now numbering.now }
     requires named { All (λ x. is_name x.name.now ≡ true) run.now }
-    requires known { All (λ n. IsNode prepared.now.draft n) targets.now }
-    requires there { All (λ n. is_standing prepared.now.draft n ≡ true) targets.now }
+    requires known { All (IsKnown prepared.now.draft) targets.now }
+    requires there { All (IsThere prepared.now.draft) targets.now }
     ensures properties { IfOk result (λ x. (q : Path) → defined_at q x.0.items ≡ run_of (all_numbers prepared.now) (node_path prepared.now.draft) q run.now targets.now) }
     ensures left { IfOk result (λ x. x.1.now ≡ drop (run_uses run.now) targets.now) }
 {
@@ -155,10 +144,10 @@ pub(crate) fn own_properties(
 fn run_size<'t>(
     prepared: &Prepared<'_, '_>,
     run: &[Laid<'_, &[Part<'_>]>],
-    targets: &'t [usize],
-) -> (usize, &'t [usize])
+    targets: &'t [Option<usize>],
+) -> (usize, &'t [Option<usize>])
     requires ready { IsReady prepared.now }
-    requires known { All (λ n. IsNode prepared.now.draft n) targets.now }
+    requires known { All (IsKnown prepared.now.draft) targets.now }
     ensures size { (q : Path) → result.0 ≡ min (size_in (run_of (all_numbers prepared.now) (node_path prepared.now.draft) q run.now targets.now)) (2 ^ 64 - 1) }
     ensures left { result.1.now ≡ drop (run_uses run.now) targets.now }
 {

@@ -1,5 +1,5 @@
 //! Where the making of a tree stands.
-ghost use Rattle.std.specs.Prelude.{◌≡◌, drop};
+ghost use Rattle.std.specs.Prelude.{◌≡◌};
 
 /// How many nodes were made, in the order of the walk, and how many properties and targets of references were used.
 #[derive(Clone, Copy)]
@@ -19,16 +19,5 @@ impl Place {
             property: 0,
             target: 0,
         }
-    }
-}
-
-/// What stands behind the first ones.
-pub(crate) fn behind<T>(items: &[T], count: usize) -> &[T]
-    ensures { result.now ≡ drop count items.now }
-{
-    if count < items.len() {
-        &items[count..]
-    } else {
-        &[]
     }
 }

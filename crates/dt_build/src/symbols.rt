@@ -9,13 +9,12 @@ ghost use Rattle.dt_edit.specs.Said.{tree_of};
 ghost use Rattle.dt_assembly.specs.Lists.{defined_at};
 ghost use Rattle.dt_assembly.specs.OpenNodes.{assembled};
 ghost use Rattle.dt_assembly.specs.Standing.{walked};
-ghost use Rattle.dt_build.specs.Built.{size_in};
-ghost use Rattle.dt_build.specs.Private.Made.{lists, plain_lists};
+ghost use Rattle.dt_assembly.specs.Sizes.{size_in};
+ghost use Rattle.dt_build.specs.Private.Made.{plain_lists, symbol_lists};
 ghost use Rattle.dt_build.specs.Private.Ready.{IsReady};
 
-use crate::names::lawful_name;
 use crate::value::{append_way, way_size};
-use dt_assembly::Assembly;
+use dt_assembly::{Assembly, lawful_name};
 use dt_draft::{Draft, LabelRow};
 use dt_resolve::Prepared;
 use dt_source::Part;
@@ -79,9 +78,9 @@ pub(crate) fn with_symbols(
     assembly: Assembly,
 ) -> Result<Assembly, AllocError>
     requires ready { IsReady prepared.now }
-    requires free { names_taken true false (tree_of prepared.now.draft) ≡ false }
+    requires free { names_taken true prepared.now.plugin (tree_of prepared.now.draft) ≡ false }
     requires made { assembled assembly ≡ walked (plain_lists prepared.now) }
-    ensures { IfOk result (λ whole. assembled whole ≡ walked (lists true prepared.now)) }
+    ensures { IfOk result (λ whole. assembled whole ≡ walked (symbol_lists true prepared.now)) }
 {
     let symbols = symbols_of(alloc, prepared)?;
     if symbols.is_empty() {

@@ -1,23 +1,25 @@
 //! The bytes of values whose references have targets.
-ghost use Rattle.std.specs.Prelude.{◌≡◌, ◌≤◌, ◌^◌, ◌-◌, ◌++◌, ◌∷◌, [], All, IfOk, OnOk, drop, length, min, true, slice_index_or};
-ghost use Rattle.dt_tree.specs.Path.{behind_slashes, path_text};
+ghost use Rattle.std.specs.Prelude.{◌≡◌, ◌≤◌, ◌^◌, ◌-◌, ◌++◌, ◌∷◌, [], None, All, IfOk, OnOk, drop, length, min, slice_index_or};
+ghost use Rattle.dt_tree.specs.Path.{path_text};
 ghost use Rattle.dt_meaning.specs.Fixups.{bytes_of, value_bytes as bytes_of_all};
-ghost use Rattle.dt_draft.specs.Rows.{IsGrown, IsNode, is_standing, node_path, path_of};
+ghost use Rattle.dt_draft.specs.Rows.{IsGrown, node_path, path_of};
+ghost use Rattle.dt_resolve.specs.Targets.{IsKnown, IsThere};
 ghost use Rattle.dt_build.specs.Private.Made.{all_numbers};
 ghost use Rattle.dt_build.specs.Private.Places.{IsNumbering};
 ghost use Rattle.dt_build.specs.Private.Ready.{IsReady};
 ghost use Rattle.dt_build.specs.Private.Values.{all_uses, found_of, founds_of, uses};
 
 use crate::numbering::Numbering;
-use crate::place::behind;
 use dt_draft::NodeRow;
+use dt_layout::{append_names, behind, names_size};
 use dt_resolve::Prepared;
 use dt_source::Part;
 use dt_tree::Bytes;
 use std::alloc::{AllocError, Global};
 
 // ---- targets
-fn target_count(part: &Part<'_>) -> usize
+/// How many targets a part has.
+pub(crate) fn target_count(part: &Part<'_>) -> usize
     ensures { result ≡ uses part.now }
 {
     match part {
@@ -28,7 +30,10 @@ fn target_count(part: &Part<'_>) -> usize
 }
 
 /// The targets behind those of a value.
-pub(crate) fn targets_behind<'t>(value: &[Part<'_>], targets: &'t [usize]) -> &'t [usize]
+pub(crate) fn targets_behind<'t>(
+    value: &[Part<'_>],
+    targets: &'t [Option<usize>],
+) -> &'t [Option<usize>]
     ensures { result.now ≡ drop (all_uses value.now) targets.now }
 {
     let mut count = 0;
@@ -38,13 +43,13 @@ pub(crate) fn targets_behind<'t>(value: &[Part<'_>], targets: &'t [usize]) -> &'
     behind(targets, count)
 }
 
-// The root, where there is none.
-fn target_at(targets: &[usize], place: usize) -> usize
-    ensures { result ≡ slice_index_or targets.now place 0 }
+/// The target at a place, none behind the last.
+pub(crate) fn target_at(targets: &[Option<usize>], place: usize) -> Option<usize>
+    ensures { result ≡ slice_index_or targets.now place None }
 {
     match targets.get(place) {
         Some(target) => *target,
-        None => 0,
+        None => None,
     }
 }
 
@@ -58,25 +63,25 @@ pub(crate) fn way_size(nodes: &[NodeRow<'_>], node: usize) -> usize
     if node == 0 {
         return 2;
     }
-    let mut size: usize = 1;
-    let mut at = node;
-    'up: while at != 0 {
-        let row = nodes[at - 1];
-        size = size.saturating_add(row.name.len()).saturating_add(1);
-        at = row.parent;
-    }
-    size
+    names_size(nodes, node).saturating_add(1)
 }
 
-fn part_size(prepared: &Prepared<'_, '_>, part: &Part<'_>, target: usize) -> usize
+/// How many bytes a part has, or the greatest number where there are more. Takes no memory.
+pub(crate) fn part_size(
+    prepared: &Prepared<'_, '_>,
+    part: &Part<'_>,
+    target: Option<usize>,
+) -> usize
     requires ready { IsReady prepared.now }
-    requires known { IsNode prepared.now.draft target }
+    requires known { IsKnown prepared.now.draft target }
     ensures { result ≡ min (length (bytes_of (all_numbers prepared.now) (found_of (node_path prepared.now.draft) part.now target))) (2 ^ 64 - 1) }
 {
-    match part {
-        Part::Bytes(bytes) => bytes.len(),
-        Part::Phandle(_) => 4,
-        Part::Path(_) => way_size(prepared.draft.nodes(), target),
+    match (part, target) {
+        (Part::Bytes(bytes), _) => bytes.len(),
+        (Part::Phandle(_), _) => 4,
+        (Part::Path(_), Some(node)) => way_size(prepared.draft.nodes(), node),
+        // never: the text of a path has its node
+        (Part::Path(_), None) => 0,
     }
 }
 
@@ -84,10 +89,10 @@ fn part_size(prepared: &Prepared<'_, '_>, part: &Part<'_>, target: usize) -> usi
 pub(crate) fn value_size(
     prepared: &Prepared<'_, '_>,
     value: &[Part<'_>],
-    targets: &[usize],
+    targets: &[Option<usize>],
 ) -> usize
     requires ready { IsReady prepared.now }
-    requires known { All (λ n. IsNode prepared.now.draft n) targets.now }
+    requires known { All (IsKnown prepared.now.draft) targets.now }
     ensures { result ≡ min (length (bytes_of_all (all_numbers prepared.now) (founds_of (node_path prepared.now.draft) value.now targets.now))) (2 ^ 64 - 1) }
 {
     let mut size: usize = 0;
@@ -100,22 +105,6 @@ pub(crate) fn value_size(
 }
 
 // ---- bytes
-// The names on the way to a node, each behind a slash. As deep as the node.
-fn append_names(value: &mut Vec<u8>, nodes: &[NodeRow<'_>], node: usize) -> Result<(), AllocError>
-    requires grown { IsGrown nodes.now }
-    requires known { node ≤ length nodes.now }
-    ensures { OnOk result (value.new.items ≡ value.old.items ++ behind_slashes (path_of nodes.now node)) }
-{
-    if node == 0 {
-        return Ok(());
-    }
-    let row = nodes[node - 1];
-    append_names(value, nodes, row.parent)?;
-    value.push(b'/')?;
-    value.extend_from_slice(row.name)?;
-    Ok(())
-}
-
 /// Puts the text of a node's path and its zero byte behind a value.
 pub(crate) fn append_way(
     value: &mut Vec<u8>,
@@ -135,23 +124,29 @@ pub(crate) fn append_way(
     Ok(())
 }
 
+// A cell whose node the plugin leaves to its base holds the number that is no phandle.
 fn append_part(
     value: &mut Vec<u8>,
     prepared: &Prepared<'_, '_>,
     numbering: &Numbering,
     part: &Part<'_>,
-    target: usize,
+    target: Option<usize>,
 ) -> Result<(), AllocError>
     requires ready { IsReady prepared.now }
     requires numbering { IsNumbering prepared.now numbering.now }
-    requires known { IsNode prepared.now.draft target }
-    requires there { is_standing prepared.now.draft target ≡ true }
+    requires known { IsKnown prepared.now.draft target }
+    requires there { IsThere prepared.now.draft target }
     ensures { OnOk result (value.new.items ≡ value.old.items ++ bytes_of (all_numbers prepared.now) (found_of (node_path prepared.now.draft) part.now target)) }
 {
-    match part {
-        Part::Bytes(bytes) => value.extend_from_slice(bytes)?,
-        Part::Phandle(_) => value.extend_from_slice(&numbering.phandles[target].to_be_bytes())?,
-        Part::Path(_) => append_way(value, prepared.draft.nodes(), target)?,
+    match (part, target) {
+        (Part::Bytes(bytes), _) => value.extend_from_slice(bytes)?,
+        (Part::Phandle(_), Some(node)) => {
+            value.extend_from_slice(&numbering.phandles[node].to_be_bytes())?
+        }
+        (Part::Phandle(_), None) => value.extend_from_slice(&u32::MAX.to_be_bytes())?,
+        (Part::Path(_), Some(node)) => append_way(value, prepared.draft.nodes(), node)?,
+        // never: the text of a path has its node
+        (Part::Path(_), None) => {}
     }
     Ok(())
 }
@@ -162,12 +157,12 @@ pub(crate) fn value_bytes(
     prepared: &Prepared<'_, '_>,
     numbering: &Numbering,
     value: &[Part<'_>],
-    targets: &[usize],
+    targets: &[Option<usize>],
 ) -> Result<Bytes, AllocError>
     requires ready { IsReady prepared.now }
     requires numbering { IsNumbering prepared.now numbering.now }
-    requires known { All (λ n. IsNode prepared.now.draft n) targets.now }
-    requires there { All (λ n. is_standing prepared.now.draft n ≡ true) targets.now }
+    requires known { All (IsKnown prepared.now.draft) targets.now }
+    requires there { All (IsThere prepared.now.draft) targets.now }
     ensures { IfOk result (λ bytes. bytes ≡ bytes_of_all (all_numbers prepared.now) (founds_of (node_path prepared.now.draft) value.now targets.now)) }
 {
     let mut bytes = Vec::with_capacity(alloc, value_size(prepared, value, targets))?;

@@ -26,9 +26,10 @@ use Rattle.dt_assembly.proofs.InTurn.{each-once}
 use Rattle.dt_assembly.proofs.Orders.{behind, there-same}
 use Rattle.dt_assembly.proofs.PathFacts.{not-both, not-true, or-false, same-is, same-itself, bytes-itself, listed-first, listed-next}
 use Rattle.dt_assembly.proofs.TreeLists.{map-lists}
+use Rattle.dt_assembly.proofs.TreeNodes.{tree-nodes}
 use Rattle.dt_canonical.specs.Conditions.{HasSourcePhandles}
 use Rattle.dt_canonical.proofs.MeaningEdits.{parts_of}
-use Rattle.dt_canonical.proofs.MeaningLists.{Placed, said_of, tree-nodes, in_turn, map-meant}
+use Rattle.dt_canonical.proofs.MeaningLists.{Placed, said_of, in_turn, map-meant}
 
 -- ---- each stands so to all behind it
 abbrev pub InPairs : {A : Type 0} → (A → A → Type 0) → List A → Type 0

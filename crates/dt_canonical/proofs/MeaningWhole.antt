@@ -16,10 +16,11 @@ use Rattle.dt_meaning.specs.Resolved.{Resolved, is_too_deep, put_together, resol
 use Rattle.dt_meaning.specs.Statements.{Fault, TooDeep, then_do}
 use Rattle.dt_edit.specs.Said.{reading}
 use Rattle.dt_assembly.specs.Lists.{lists_of}
+use Rattle.dt_assembly.proofs.TreeNodes.{tree-nodes}
 use Rattle.dt_canonical.specs.Conditions.{IsSourceTree}
 use Rattle.dt_canonical.specs.SourceOf.{source_of}
 use Rattle.dt_canonical.proofs.MeaningEdits.{parts_of, made, source-made}
-use Rattle.dt_canonical.proofs.MeaningLists.{Placed, said_of, nodes-listed, properties-listed, tree-nodes, in_turn, meant, map-meant}
+use Rattle.dt_canonical.proofs.MeaningLists.{Placed, said_of, nodes-listed, properties-listed, in_turn, meant, map-meant}
 use Rattle.dt_canonical.proofs.MeaningPhandles.{phandles-given}
 
 -- ---- the walk

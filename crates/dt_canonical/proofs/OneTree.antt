@@ -1,6 +1,5 @@
 -- The canonical source of a tree means that tree, and no other.
 use Rattle.std.proofs.Common.{◌≡◌, false, Result, Ok, sym, ap, ◌∙◌, subst}
-use Rattle.dt_tree.specs.PathMap.{TreeMap, tree_map}
 use Rattle.dt_tree.specs.TreeData.{TreeData, IsTree}
 use Rattle.dt_tree.proofs.MapLaws.{same_tree}
 use Rattle.dt_source.specs.Parse.{Says}

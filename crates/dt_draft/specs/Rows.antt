@@ -143,6 +143,10 @@ HasSameNodes old new = new.nodes.items ≡ old.nodes.items
 abbrev pub child_of : {V : Type 0} → Draft V → ℕ → List ℕ → Option ℕ
 child_of d n k = row_of d.node_rows n k
 
+-- the row of the property of a name
+abbrev pub property_of : {V : Type 0} → Draft V → ℕ → List ℕ → Option ℕ
+property_of d n k = row_of d.property_rows n k
+
 -- the body that defined a child or a property of a node last, 0 for none
 abbrev pub child_body : {V : Type 0} → Draft V → ℕ → List ℕ → ℕ
 child_body d n k = body_of d.node_rows n k

@@ -2,12 +2,19 @@
 ghost use Rattle.std.specs.Prelude.{◌≡◌, ◌==◌, ℕ, List, not, true, IfOk, OnOk, if◌then◌else◌};
 ghost use Rattle.dt_meaning.specs.Edits.{with_property, without_property};
 ghost use Rattle.dt_draft.specs.Index.{is_key};
-ghost use Rattle.dt_draft.specs.Rows.{HasSameChildBodies, HasSameNodes, HasSamePropertyBodies, IsDraft, IsNode, is_standing, node_path, property_body, state_of};
+ghost use Rattle.dt_draft.specs.Rows.{HasSameChildBodies, HasSameNodes, HasSamePropertyBodies, IsDraft, IsNode, is_standing, node_path, property_body, property_of, state_of};
 
 use crate::table::{Draft, PropertyRow};
 use std::alloc::AllocError;
 
 impl<'d, V: Copy> Draft<'d, V> {
+    /// The row of the property of this name.
+    pub fn property(&self, node: usize, name: &'d [u8]) -> Option<usize>
+        ensures { result ≡ property_of self.now node name.now }
+    {
+        self.property_rows.get(node, name)
+    }
+
     /// Sets a property in its place, or behind the others; and whether this body is the first to define it, or another one did so
     /// last.
     pub fn set_property(

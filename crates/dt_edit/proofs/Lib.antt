@@ -1,5 +1,10 @@
+pub mod Admission
+pub mod Collecting
+pub mod Decimals
 pub mod Faults
+pub mod FragmentSteps
 pub mod ItemSteps
+pub mod Readiness
 pub mod Reading
 pub mod Steps
 pub mod Views

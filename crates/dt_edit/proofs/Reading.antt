@@ -3,7 +3,7 @@ use Rattle.std.proofs.Common.{◌≡◌, ℕ, Bool, true, false, not, List, [], 
 use Rattle.std.specs.List.{filter}
 use Rattle.dt_meaning.specs.Paths.{Path, same_path, is_within, is_listed}
 use Rattle.dt_meaning.specs.Syntax.{Piece}
-use Rattle.dt_meaning.specs.Edits.{State, Definition, definition, put, is_of, with_node, without_node, with_property, without_property, with_label, label_path}
+use Rattle.dt_meaning.specs.Edits.{State, Definition, definition, put, is_of, with_node, without_node, with_property, without_property, with_label, label_path, counted}
 use Rattle.dt_meaning.specs.Statements.{Fault, DuplicateLabel, then_do, give_label, give_labels}
 use Rattle.dt_edit.specs.Said.{Parts, pieces, read_definition, read}
 
@@ -34,9 +34,6 @@ with_property-read p n v s = ap (λ es. with_properties es s) (put-read p n v s.
 
 pub without_property-read : (p : Path) (n : List ℕ) (s : State Parts) → without_property p n (read s) ≡ read (without_property p n s)
 without_property-read p n s = ap (λ es. with_properties es s) (filter-read read_definition (λ e. not (is_of p n e)) s.properties)
-
-pub with_node-read : (p : Path) (s : State Parts) → with_node p (read s) ≡ read (with_node p s)
-with_node-read p s = refl
 
 pub without_node-read : (p : Path) (s : State Parts) → without_node p (read s) ≡ read (without_node p s)
 without_node-read p s = by-listed (is_listed p s.nodes) where
@@ -73,8 +70,24 @@ module _ {A B : Type 0} (f : State A → State B) (keeps : KeepsLabels f) where
       ap (λ r. then_do r (give_labels ls p)) (ap (λ xs. give_label l p (label_path l xs) (f s)) (keeps.labels s) ∙ one-label l p (label_path l s.labels) s)
       ∙ then-labels ls p (give_label l p (label_path l s.labels) s) (give_labels-kept ls p)
 
-pub reading-keeps : KeepsLabels read
-reading-keeps = record { labels = λ s. refl; given = λ l p s. refl }
-
 pub with_node-keeps : {A : Type 0} (q : Path) → KeepsLabels {A = A} {B = A} (with_node q)
 with_node-keeps q = record { labels = λ s. refl; given = λ l p s. refl }
+
+-- ---- the same, after so many fragments
+abbrev pub shown : ℕ → State Parts → State (List Piece)
+shown made s = counted made (read s)
+
+pub without_node-counted : {V : Type 0} (made : ℕ) (p : Path) (s : State V) → without_node p (counted made s) ≡ counted made (without_node p s)
+without_node-counted {V} made p s = by-listed (is_listed p s.nodes) where
+  gone : State V
+  gone = record s { nodes = filter (λ q. not (is_within p q)) s.nodes; properties = filter (λ e. not (is_within p e.path)) s.properties; labels = filter (λ l. not (is_within p l.path)) s.labels }
+
+  by-listed : (b : Bool) → (if b then counted made gone else counted made s) ≡ counted made (if b then gone else s)
+  by-listed true = refl
+  by-listed false = refl
+
+pub without_node-shown : (made : ℕ) (p : Path) (s : State Parts) → without_node p (shown made s) ≡ shown made (without_node p s)
+without_node-shown made p s = without_node-counted made p (read s) ∙ ap (counted made) (without_node-read p s)
+
+pub showing-keeps : (made : ℕ) → KeepsLabels (shown made)
+showing-keeps made = record { labels = λ s. refl; given = λ l p s. refl }

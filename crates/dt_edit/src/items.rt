@@ -1,28 +1,36 @@
 //! The items of a source.
-ghost use Rattle.std.specs.Prelude.{◌≡◌, map, false, Ok, OnOk, MatchResult};
-ghost use Rattle.dt_meaning.specs.Syntax.{Deletes, Extends};
+ghost use Rattle.std.specs.Prelude.{◌≡◌, ◌+◌, ◌≤◌, ◌∷◌, ℕ, List, length, map, false, Ok, OnOk, MatchResult};
+ghost use Rattle.dt_meaning.specs.Syntax.{Deletes, Edit, Extends};
 ghost use Rattle.dt_meaning.specs.Statements.{after_item, after_items};
 ghost use Rattle.dt_source.specs.Tree.{item_view, labels_view, target_view, views};
 ghost use Rattle.dt_draft.specs.Rows.{IsDraft, IsNumbered};
 ghost use Rattle.dt_edit.specs.EditFault.{IsFault};
+ghost use Rattle.dt_edit.specs.Fragments.{AreFragments, target_values};
+ghost use Rattle.dt_meaning.specs.Edits.{counted};
+ghost use Rattle.dt_edit.specs.Private.Made.{IsExact};
+ghost use Rattle.dt_edit.specs.Private.Ready.{IsReady};
 ghost use Rattle.dt_edit.specs.Said as said;
 ghost use Rattle.dt_edit.specs.Said.{body_of, item_of, tree_of};
 
+use crate::adding::{add_fragment, makes_fragment};
 use crate::body::edit_body;
 use crate::error::EditError;
+use crate::fragments::Fragments;
+use crate::made::Made;
 use crate::targets::target_of;
 use dt_draft::Draft;
 use dt_source::{Item, Labels, Part, Reference, Statement};
+use std::alloc::Global;
 
 fn delete<'d, 't>(
-    draft: &mut Draft<'t, &'d [Part<'t>]>,
+    draft: &mut Draft<'d, &'d [Part<'t>]>,
     target: &'d Reference<'t>,
 ) -> Result<(), EditError>
     requires sound { IsDraft draft.old }
     requires numbered { IsNumbered draft.old }
     ensures sound { OnOk result (IsDraft draft.new) }
     ensures numbered { OnOk result (IsNumbered draft.new) }
-    ensures item { MatchResult result (λ _. after_item false (Deletes (said.target_of (target_view target.now))) (tree_of draft.old) ≡ Ok (tree_of draft.new)) (λ e. IsFault e (after_item false (Deletes (said.target_of (target_view target.now))) (tree_of draft.old))) }
+    ensures item { (n : ℕ) → MatchResult result (λ _. after_item false (Deletes (said.target_of (target_view target.now))) (counted n (tree_of draft.old)) ≡ Ok (counted n (tree_of draft.new))) (λ e. IsFault e (after_item false (Deletes (said.target_of (target_view target.now))) (counted n (tree_of draft.old)))) }
 {
     let node = target_of(draft, target)?;
     if node == 0 {
@@ -33,41 +41,63 @@ fn delete<'d, 't>(
 }
 
 fn extend<'d, 't>(
-    draft: &mut Draft<'t, &'d [Part<'t>]>,
+    draft: &mut Draft<'d, &'d [Part<'t>]>,
+    made: &Made<'d>,
     labels: &'d Labels<'t>,
     target: &'d Reference<'t>,
     body: &'d [Statement<'t>],
 ) -> Result<(), EditError>
     requires sound { IsDraft draft.old }
     requires numbered { IsNumbered draft.old }
+    requires exact { IsExact made.now }
     ensures sound { OnOk result (IsDraft draft.new) }
     ensures numbered { OnOk result (IsNumbered draft.new) }
-    ensures item { MatchResult result (λ _. after_item false (Extends (labels_view labels.now) (said.target_of (target_view target.now)) (body_of (views body.now))) (tree_of draft.old) ≡ Ok (tree_of draft.new)) (λ e. IsFault e (after_item false (Extends (labels_view labels.now) (said.target_of (target_view target.now)) (body_of (views body.now))) (tree_of draft.old))) }
+    ensures item { MatchResult result (λ _. after_item false (Extends (labels_view labels.now) (said.target_of (target_view target.now)) (body_of (views body.now))) (counted made.now.count (tree_of draft.old)) ≡ Ok (counted made.now.count (tree_of draft.new))) (λ e. IsFault e (after_item false (Extends (labels_view labels.now) (said.target_of (target_view target.now)) (body_of (views body.now))) (counted made.now.count (tree_of draft.old)))) }
 {
     let node = target_of(draft, target)?;
     if let Err(error) = draft.give_labels(labels.as_slice(), node) {
         return Err(EditError::of_label(error));
     }
     let depth = draft.depth(node);
-    match edit_body(draft, node, depth, body) {
+    match edit_body(draft, made, node, depth, body) {
         Ok(()) => Ok(()),
         Err(error) => Err(error),
     }
 }
 
+/// How many extensions an item is.
+fn extensions_in<'t>(item: &Item<'t>) -> usize
+    ensures count { result ≡ length (target_values (item_of (item_view item.now))) }
+    ensures one { result ≤ 1 }
+{
+    match item {
+        Item::Extend { .. } => 1,
+        Item::Root(_) | Item::Delete(_) => 0,
+    }
+}
+
 fn edit_item<'d, 't>(
-    draft: &mut Draft<'t, &'d [Part<'t>]>,
+    draft: &mut Draft<'d, &'d [Part<'t>]>,
+    made: &mut Made<'d>,
+    plugin: bool,
+    fragments: &'d Fragments<'t>,
+    extension: usize,
     item: &'d Item<'t>,
 ) -> Result<(), EditError>
     requires sound { IsDraft draft.old }
     requires numbered { IsNumbered draft.old }
+    requires exact { IsExact made.old }
+    requires counted { made.old.count ≤ extension }
+    requires ready { (rest : List Edit) × IsReady fragments.now extension (item_of (item_view item.now) ∷ rest) }
     ensures sound { OnOk result (IsDraft draft.new) }
     ensures numbered { OnOk result (IsNumbered draft.new) }
-    ensures item { MatchResult result (λ _. after_item false (item_of (item_view item.now)) (tree_of draft.old) ≡ Ok (tree_of draft.new)) (λ e. IsFault e (after_item false (item_of (item_view item.now)) (tree_of draft.old))) }
+    ensures exact { OnOk result (IsExact made.new) }
+    ensures counted { OnOk result (made.new.count ≤ extension + length (target_values (item_of (item_view item.now)))) }
+    ensures item { MatchResult result (λ _. after_item plugin (item_of (item_view item.now)) (counted made.old.count (tree_of draft.old)) ≡ Ok (counted made.new.count (tree_of draft.new))) (λ e. IsFault e (after_item plugin (item_of (item_view item.now)) (counted made.old.count (tree_of draft.old)))) }
 {
     match item {
         Item::Root(body) => {
-            edit_body(draft, 0, 0, body.as_slice())?;
+            edit_body(draft, made, 0, 0, body.as_slice())?;
             Ok(())
         }
         Item::Delete(target) => {
@@ -79,25 +109,42 @@ fn edit_item<'d, 't>(
             target,
             body,
         } => {
-            extend(draft, labels, target, body.as_slice())?;
-            Ok(())
+            if makes_fragment(plugin, draft, labels, target) {
+                let name = fragments.names[made.count].as_slice();
+                let value = fragments.targets[extension].as_slice();
+                match add_fragment(draft, made, name, target, value, body.as_slice()) {
+                    Ok(()) => Ok(()),
+                    Err(error) => Err(error),
+                }
+            } else {
+                extend(draft, made, labels, target, body.as_slice())?;
+                Ok(())
+            }
         }
     }
 }
 
-/// Does what the items of an ordinary source say, in their order. After a refusal the draft is of no more use.
+/// Does what the items of a source say, in their order. After a refusal the draft is of no more use.
 pub fn edit_items<'d, 't>(
-    draft: &mut Draft<'t, &'d [Part<'t>]>,
+    alloc: Global,
+    draft: &mut Draft<'d, &'d [Part<'t>]>,
+    plugin: bool,
+    fragments: &'d Fragments<'t>,
     items: &'d [Item<'t>],
 ) -> Result<(), EditError>
     requires sound { IsDraft draft.old }
     requires numbered { IsNumbered draft.old }
+    requires unmade { (tree_of draft.old).fragments ≡ 0 }
+    requires fragments { AreFragments (map item_of (map item_view items.now)) fragments.now }
     ensures sound { OnOk result (IsDraft draft.new) }
     ensures numbered { OnOk result (IsNumbered draft.new) }
-    ensures items { MatchResult result (λ _. after_items false (map item_of (map item_view items.now)) (tree_of draft.old) ≡ Ok (tree_of draft.new)) (λ e. IsFault e (after_items false (map item_of (map item_view items.now)) (tree_of draft.old))) }
+    ensures items { MatchResult result (λ _. (n : ℕ) × (after_items plugin (map item_of (map item_view items.now)) (tree_of draft.old) ≡ Ok (counted n (tree_of draft.new)))) (λ e. IsFault e (after_items plugin (map item_of (map item_view items.now)) (tree_of draft.old))) }
 {
+    let mut made = Made::new(alloc);
+    let mut extensions = 0;
     for item in items {
-        edit_item(draft, item)?;
+        edit_item(draft, &mut made, plugin, fragments, extensions, item)?;
+        extensions += extensions_in(item);
     }
     Ok(())
 }

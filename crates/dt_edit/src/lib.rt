@@ -3,12 +3,15 @@
 //! The Devicetree Specification v0.4, sections 6.3 and 6.4, says what they mean.
 #![tactic(auto)]
 
+mod adding;
 mod body;
 mod error;
+mod fragments;
 mod items;
+mod made;
 mod targets;
 
-pub use body::edit_body;
 pub use error::EditError;
+pub use fragments::{Fragments, fragments_of};
 pub use items::edit_items;
 pub use targets::target_of;

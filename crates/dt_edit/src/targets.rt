@@ -13,7 +13,7 @@ use dt_source::{Part, Reference};
 
 /// The node that a reference names.
 pub fn target_of<'d, 't>(
-    draft: &Draft<'t, &'d [Part<'t>]>,
+    draft: &Draft<'d, &'d [Part<'t>]>,
     target: &'d Reference<'t>,
 ) -> Result<usize, EditError>
     requires sound { IsDraft draft.now }

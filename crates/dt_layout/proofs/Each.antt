@@ -1,5 +1,6 @@
 -- What is true of each number of a list.
-use Rattle.std.proofs.Common.{◌≡◌, ℕ, zero, suc, ◌<◌, Bool, true, false, List, [], ◌∷◌, ◌++◌, length, get_or, map, if◌then◌else◌, refl, ap, ap₂, ◌∙◌, arith}
+use Rattle.std.proofs.Common.{◌≡◌, ℕ, zero, suc, ◌<◌, Bool, true, false, List, [], ◌∷◌, ◌++◌, length, get_or, drop, take, map, if◌then◌else◌, refl, ap, ap₂, ◌∙◌, arith}
+use Rattle.std.specs.Prelude.{All}
 use Rattle.std.specs.List.{flat_map}
 use Rattle.std.proofs.lemmas.List.{map-append}
 
@@ -36,3 +37,17 @@ same-flat P f g (x ∷ xs) e h = ap₂ (λ a b. a ++ b) (e x h.0) (same-flat P f
 pub map-flat : {A B : Type 0} (v : A → B) (f : ℕ → List A) (xs : List ℕ) → map v (flat_map f xs) ≡ flat_map (λ x. map v (f x)) xs
 map-flat v f [] = refl
 map-flat v f (x ∷ xs) = map-append v (f x) (flat_map f xs) ∙ ap (λ ys. map v (f x) ++ ys) (map-flat v f xs)
+
+pub each-of : {A : Type 0} (P : A → Type 0) (xs : List A) → All P xs → Each P xs
+each-of P [] all = tt
+each-of P (x ∷ xs) all = (all 0 x (omega arith), each-of P xs (λ i y below. all (suc i) y (omega arith)))
+
+pub each-drop : {A : Type 0} (P : A → Type 0) (k : ℕ) (xs : List A) → Each P xs → Each P (drop k xs)
+each-drop P zero xs h = h
+each-drop P (suc k) [] h = tt
+each-drop P (suc k) (x ∷ xs) h = each-drop P k xs h.1
+
+pub each-take : {A : Type 0} (P : A → Type 0) (k : ℕ) (xs : List A) → Each P xs → Each P (take k xs)
+each-take P zero xs h = tt
+each-take P (suc k) [] h = tt
+each-take P (suc k) (x ∷ xs) h = (h.0, each-take P k xs h.1)

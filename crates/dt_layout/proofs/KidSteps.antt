@@ -7,18 +7,15 @@ use Rattle.dt_draft.specs.declared.table.NodeRow.{NodeRow}
 use Rattle.dt_draft.specs.declared.table.PropertyRow.{PropertyRow}
 use Rattle.dt_draft.specs.Rows.{row_at, no_row, property_at}
 use Rattle.dt_layout.specs.Private.Walks.{children_to, properties_to, laid_of, laid_at}
+use Rattle.dt_layout.proofs.BlankRows.{blank_row}
 use Rattle.dt_layout.proofs.Each.{Each, each-append, each-one, each-flat}
-
--- the row that a loop has where there is none
-abbrev pub plain : NodeRow
-plain = record { parent = 0; name = record { ref_ptr = (0, 0); now = [] }; removed = false }
 
 module _ (rows : List NodeRow) (k n : ℕ) (within : k < length rows) where
   abbrev row : NodeRow
-  row = get_or rows k plain
+  row = get_or rows k blank_row
 
   is-row : row ≡ row_at rows k
-  is-row = get_or_default rows k plain no_row within
+  is-row = get_or_default rows k blank_row no_row within
 
   pub kids-more : (before : List ℕ) → before ≡ children_to rows k n → row.removed ≡ false → before ++ (if n == row.parent then (k + 1) ∷ [] else []) ≡ children_to rows (k + 1) n
   kids-more before e kept =

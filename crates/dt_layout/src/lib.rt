@@ -7,7 +7,13 @@ mod children;
 mod layout;
 mod lists;
 mod properties;
+mod reserved;
+mod run;
 mod walk;
+mod ways;
 
 pub use layout::{Layout, lay_out};
 pub use properties::Laid;
+pub use reserved::is_reserved;
+pub use run::behind;
+pub use ways::{append_names, names_size};

@@ -33,6 +33,10 @@ pub record State (V : Type 0) : Type 0 where
 abbrev pub empty : {V : Type 0} → State V
 empty = record { nodes = []; properties = []; labels = []; fragments = 0 }
 
+-- the same tree, after so many fragments
+abbrev pub counted : {V : Type 0} → ℕ → State V → State V
+counted n s = record s { fragments = n }
+
 -- ---- nodes
 abbrev pub has_node : {V : Type 0} → Path → State V → Bool
 has_node p s = is_listed p ([] ∷ s.nodes)

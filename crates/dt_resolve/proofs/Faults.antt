@@ -5,7 +5,7 @@ use Rattle.dt_edit.specs.declared.error.EditError.{EditError}
 use Rattle.dt_edit.specs.declared.error.EditError.TheVariants as edits
 use Rattle.dt_edit.specs.EditFault as edit
 use Rattle.dt_resolve.specs.declared.error.BuildError.{BuildError}
-use Rattle.dt_resolve.specs.declared.error.BuildError.TheVariants.{NoMemory, UnknownLabel, DuplicateLabel, UnknownPath, BadPhandle, DuplicatePhandle, DuplicateInBody, PathInPlugin, ReservedName, TooDeep, NoPlugin}
+use Rattle.dt_resolve.specs.declared.error.BuildError.TheVariants.{NoMemory, UnknownLabel, DuplicateLabel, UnknownPath, BadPhandle, DuplicatePhandle, DuplicateInBody, PathInPlugin, ReservedName, TooDeep}
 use Rattle.dt_resolve.specs.BuildFault.{IsFault, build_error}
 
 pub fault-then : {A B : Type 0} (e : BuildError) (r : Result A Fault) (f : A → Result B Fault) → IsFault e r → IsFault e (then_do r f)
@@ -19,7 +19,6 @@ fault-then DuplicateInBody r f h = ap (λ x. then_do x f) h
 fault-then PathInPlugin r f h = ap (λ x. then_do x f) h
 fault-then ReservedName r f h = ap (λ x. then_do x f) h
 fault-then TooDeep r f h = ap (λ x. then_do x f) h
-fault-then NoPlugin r f h = elim h [ ]
 
 pub fault-same : {A : Type 0} (e : BuildError) (r r' : Result A Fault) → r' ≡ r → IsFault e r → IsFault e r'
 fault-same NoMemory r r' same h = h
@@ -32,7 +31,6 @@ fault-same DuplicateInBody r r' same h = same ∙ h
 fault-same PathInPlugin r r' same h = same ∙ h
 fault-same ReservedName r r' same h = same ∙ h
 fault-same TooDeep r r' same h = same ∙ h
-fault-same NoPlugin r r' same h = elim h [ ]
 
 -- a fault of the second step, where the first has none
 pub fault-second : {A B C : Type 0} (e : BuildError) (b : Bool) (f : Fault) (r : Result A Fault) (q : Result B Fault) (g : A → B → Result C Fault) → IsFault e (if b then Err f else then_do r (λ _. q))

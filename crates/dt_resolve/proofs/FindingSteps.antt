@@ -1,13 +1,12 @@
 -- The targets of one reference more.
-use Rattle.std.proofs.Common.{◌≡◌, ℕ, Bool, true, false, List, [], ◌∷◌, ◌++◌, map, Option, Some, None, Ok, Err, if◌then◌else◌, refl, sym, ap, ◌∙◌, append_assoc, append-nil}
+use Rattle.std.proofs.Common.{◌≡◌, ℕ, Bool, true, false, List, [], ◌∷◌, ◌++◌, map, Option, Some, None, option_map, Ok, refl, sym, ap, ap₂, ◌∙◌, append_assoc, append-nil}
 use Rattle.std.specs.List.{flat_map}
 use Rattle.std.proofs.lemmas.Grind.{flat_map-append}
-use Rattle.dt_tree.specs.Phandle.{is_reserved}
 use Rattle.dt_meaning.specs.Paths.{Path}
-use Rattle.dt_meaning.specs.Syntax.{Target, OfLabel, OfPath, Piece, PhandleOf, PathOf}
+use Rattle.dt_meaning.specs.Syntax.{Target, OfLabel, OfPath, Piece, PathOf}
 use Rattle.dt_meaning.specs.Edits.{Definition, definition, State, label_path}
-use Rattle.dt_meaning.specs.Statements.{UnknownLabel, ReservedName, then_do, ok_or, found}
-use Rattle.dt_meaning.specs.References.{Found, Bytes, Cell, Way, each, cell_at, cell_of, cell_of_label, found_in, found_value}
+use Rattle.dt_meaning.specs.Statements.{UnknownLabel, then_do, ok_or, found}
+use Rattle.dt_meaning.specs.References.{Found, Bytes, Open, Way, each, cell_at, cell_of, cell_of_label, found_in, found_value}
 use Rattle.dt_meaning.specs.Phandles.{cell_path}
 use Rattle.dt_draft.specs.declared.table.Draft.{Draft}
 use Rattle.dt_draft.specs.Rows.{node_path}
@@ -20,7 +19,7 @@ use Rattle.dt_resolve.specs.BuildFault.{IsFault, build_error}
 use Rattle.dt_resolve.specs.Targets.{target_path, AreFound}
 use Rattle.dt_resolve.specs.Private.Targets.{Adds, AreTargets}
 use Rattle.dt_resolve.proofs.EachSteps.{IsSoFar}
-use Rattle.dt_resolve.proofs.Faults.{fault-then, fault-same, edit-fault}
+use Rattle.dt_resolve.proofs.Faults.{fault-then, edit-fault}
 
 -- ---- one reference
 label-cell : (l : List ℕ) (o : Option Path) → cell_of_label false l o ≡ then_do (ok_or UnknownLabel o) cell_at
@@ -32,50 +31,40 @@ pub cell-found : (s : State (List Piece)) (t : Target) → cell_of false s t ≡
 cell-found s (OfLabel l) = label-cell l (label_path l s.labels)
 cell-found s (OfPath p) = refl
 
-module _ (s : State (List Piece)) (t : Target) where
-  pub way-found : (p : Path) → found t s ≡ Ok p → found_in false s (PathOf t) ≡ Ok (Way p)
+module _ (plugin : Bool) (s : State (List Piece)) (t : Target) where
+  pub way-found : (p : Path) → found t s ≡ Ok p → found_in plugin s (PathOf t) ≡ Ok (Way p)
   way-found p at = ap (λ r. then_do r (λ q. Ok (Way q))) at
 
-  pub way-fault : (a : EditError) → edit.IsFault a (found t s) → IsFault (build_error a) (found_in false s (PathOf t))
+  pub way-fault : (a : EditError) → edit.IsFault a (found t s) → IsFault (build_error a) (found_in plugin s (PathOf t))
   way-fault a fault = fault-then (build_error a) (found t s) (λ q. Ok (Way q)) (edit-fault a (found t s) fault)
 
-  at-cell : (p : Path) (b : Bool) → found t s ≡ Ok p → is_reserved p ≡ b → found_in false s (PhandleOf t) ≡ (if b then Err ReservedName else Ok (Cell p))
-  at-cell p b at is = cell-found s t ∙ ap (λ r. then_do r cell_at) at ∙ ap (λ c. if c then Err ReservedName else Ok (Cell p)) is
-
-  pub cell-named : (p : Path) → found t s ≡ Ok p → is_reserved p ≡ false → found_in false s (PhandleOf t) ≡ Ok (Cell p)
-  cell-named p at is = at-cell p false at is
-
-  pub cell-reserved : (p : Path) → found t s ≡ Ok p → is_reserved p ≡ true → found_in false s (PhandleOf t) ≡ Err ReservedName
-  cell-reserved p at is = at-cell p true at is
-
-  pub cell-fault : (a : EditError) → edit.IsFault a (found t s) → IsFault (build_error a) (found_in false s (PhandleOf t))
-  cell-fault a fault =
-      fault-same (build_error a) (then_do (found t s) cell_at) (found_in false s (PhandleOf t)) (cell-found s t)
-      (fault-then (build_error a) (found t s) cell_at (edit-fault a (found t s) fault))
+module _ (plugin : Bool) (s : State (List Piece)) where
+  pub cell-open : (l : List ℕ) → plugin ≡ true → label_path l s.labels ≡ None → cell_of plugin s (OfLabel l) ≡ Ok (Open l)
+  cell-open l is at = ap₂ (λ b o. cell_of_label b l o) is at
 
 -- ---- lists of targets
 pub adds-none : (d : Draft Parts) (t : Targets) → Adds d [] t t
-adds-none d t = record { all = sym (append-nil (map (node_path d) t.all.items)); cells = sym (append-nil (map (node_path d) t.cells.items)) }
+adds-none d t = record { all = sym (append-nil (map (option_map (node_path d)) t.all.items)); cells = sym (append-nil (map (node_path d) t.cells.items)) }
 
 pub adds-bytes : (d : Draft Parts) (b : List ℕ) (t : Targets) → Adds d (Bytes b ∷ []) t t
-adds-bytes d b t = record { all = sym (append-nil (map (node_path d) t.all.items)); cells = sym (append-nil (map (node_path d) t.cells.items)) }
+adds-bytes d b t = record { all = sym (append-nil (map (option_map (node_path d)) t.all.items)); cells = sym (append-nil (map (node_path d) t.cells.items)) }
 
 pub adds-then : (d : Draft Parts) (fs gs : List Found) (old mid new : Targets) → Adds d fs old mid → Adds d gs mid new → Adds d (fs ++ gs) old new
 adds-then d fs gs old mid new a b = record {
-  all = b.all ∙ ap (λ ps. ps ++ flat_map target_path gs) a.all ∙ append_assoc (map (node_path d) old.all.items) (flat_map target_path fs) (flat_map target_path gs)
-      ∙ ap (λ ps. map (node_path d) old.all.items ++ ps) (sym (flat_map-append target_path fs gs));
+  all = b.all ∙ ap (λ ps. ps ++ flat_map target_path gs) a.all ∙ append_assoc (map (option_map (node_path d)) old.all.items) (flat_map target_path fs) (flat_map target_path gs)
+      ∙ ap (λ ps. map (option_map (node_path d)) old.all.items ++ ps) (sym (flat_map-append target_path fs gs));
   cells = b.cells ∙ ap (λ ps. ps ++ flat_map cell_path gs) a.cells ∙ append_assoc (map (node_path d) old.cells.items) (flat_map cell_path fs) (flat_map cell_path gs)
       ∙ ap (λ ps. map (node_path d) old.cells.items ++ ps) (sym (flat_map-append cell_path fs gs));
 }
 
-abbrev all_in : Definition (List Found) → List Path
+abbrev all_in : Definition (List Found) → List (Option Path)
 all_in e = flat_map target_path e.value
 
 abbrev cells_in : Definition (List Found) → List Path
 cells_in e = flat_map cell_path e.value
 
 pub found-none : (d : Draft Parts) (t : Targets) → t.all.items ≡ [] → t.cells.items ≡ [] → AreFound d [] t
-found-none d t a b = record { all = ap (map (node_path d)) a; cells = ap (map (node_path d)) b }
+found-none d t a b = record { all = ap (map (option_map (node_path d))) a; cells = ap (map (node_path d)) b }
 
 pub found-more : (d : Draft Parts) (es : List (Definition (List Found))) (p : Path) (n : List ℕ) (fs : List Found) (mid new : Targets) → AreFound d es mid → Adds d fs mid new → AreFound d (es ++ definition p n fs ∷ []) new
 found-more d es p n fs mid new a b =
@@ -86,19 +75,19 @@ found-more d es p n fs mid new a b =
     }
 
 -- ---- a value
-pub value-found : (s : State (List Piece)) (e : Definition (List Piece)) (fs : List Found) → each (found_in false s) e.value ≡ Ok fs → found_value false s e ≡ Ok (definition e.path e.name fs)
-value-found s e fs at = ap (λ r. then_do r (λ v. Ok (definition e.path e.name v))) at
+pub value-found : (plugin : Bool) (s : State (List Piece)) (e : Definition (List Piece)) (fs : List Found) → each (found_in plugin s) e.value ≡ Ok fs → found_value plugin s e ≡ Ok (definition e.path e.name fs)
+value-found plugin s e fs at = ap (λ r. then_do r (λ v. Ok (definition e.path e.name v))) at
 
-pub value-fault : (s : State (List Piece)) (e : Definition (List Piece)) (b : BuildError) → IsFault b (each (found_in false s) e.value) → IsFault b (found_value false s e)
-value-fault s e b fault = fault-then b (each (found_in false s) e.value) (λ v. Ok (definition e.path e.name v)) fault
+pub value-fault : (plugin : Bool) (s : State (List Piece)) (e : Definition (List Piece)) (b : BuildError) → IsFault b (each (found_in plugin s) e.value) → IsFault b (found_value plugin s e)
+value-fault plugin s e b fault = fault-then b (each (found_in plugin s) e.value) (λ v. Ok (definition e.path e.name v)) fault
 
 -- ---- on the way
-pub record IsFinding (d : Draft Parts) (s : State (List Piece)) (fs : List Found) (left all : List Piece) (old now : Targets) : Type 0 where
+pub record IsFinding (plugin : Bool) (d : Draft Parts) (s : State (List Piece)) (fs : List Found) (left all : List Piece) (old now : Targets) : Type 0 where
   pub known : AreTargets d now
-  pub so_far : IsSoFar (found_in false s) fs left all
+  pub so_far : IsSoFar (found_in plugin s) fs left all
   pub adds : Adds d fs old now
 
-pub record IsWalking (d : Draft Parts) (s : State (List Piece)) (es : List (Definition (List Found))) (left all : List (Definition (List Piece))) (now : Targets) : Type 0 where
+pub record IsWalking (plugin : Bool) (d : Draft Parts) (s : State (List Piece)) (es : List (Definition (List Found))) (left all : List (Definition (List Piece))) (now : Targets) : Type 0 where
   pub known : AreTargets d now
-  pub so_far : IsSoFar (found_value false s) es left all
+  pub so_far : IsSoFar (found_value plugin s) es left all
   pub found : AreFound d es now

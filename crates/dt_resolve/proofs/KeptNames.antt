@@ -1,8 +1,7 @@
 -- A child of the root with a name.
-use Rattle.std.proofs.Common.{◌≡◌, ℕ, Bool, true, false, ◌||◌, List, length, Some, None, refl, sym, ap, ◌∙◌, arith}
+use Rattle.std.proofs.Common.{◌≡◌, ℕ, true, false, List, length, Some, None, refl, sym, ap, ◌∙◌, arith}
 use Rattle.dt_meaning.specs.Paths.{is_listed}
-use Rattle.dt_meaning.specs.Names.{symbols_name}
-use Rattle.dt_meaning.specs.Resolved.{has_child, names_taken}
+use Rattle.dt_meaning.specs.Resolved.{has_child}
 use Rattle.dt_draft.specs.declared.table.Draft.{Draft}
 use Rattle.dt_draft.specs.Index.{row_of}
 use Rattle.dt_draft.specs.Rows.{IsDraft, path_of, stands, standing}
@@ -20,11 +19,3 @@ module _ (d : Draft Parts) (sound : IsDraft d) where
 
   pub child-absent : (name : List ℕ) → row_of d.node_rows 0 name ≡ None → has_child (tree_of d) name ≡ false
   child-absent name e = not-listed d.nodes.items (row_of d.node_rows) sound.grown sound.nodes 0 name refl e
-
-or-none : (b : Bool) → (b || false) ≡ b
-or-none true = refl
-or-none false = refl
-
-pub taken-with : (d : Draft Parts) (symbols b : Bool) → symbols ≡ true → has_child (tree_of d) symbols_name ≡ b → b ≡ names_taken symbols false (tree_of d)
-taken-with d symbols b on has =
-    sym (ap (λ s. names_taken s false (tree_of d)) on ∙ ap (λ h. h || false) has ∙ or-none b)

@@ -1,10 +1,10 @@
+pub mod Counted
 pub mod EachSteps
 pub mod Faults
 pub mod FindingSteps
 pub mod GivenSteps
 pub mod Joined
 pub mod KeptNames
-pub mod KeptNodes
 pub mod LabelledPaths
 pub mod Orders
 pub mod PathNumbers

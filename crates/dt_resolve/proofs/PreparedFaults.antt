@@ -1,7 +1,7 @@
 -- A fault of the numbers or the references, where the edits have none, is a fault of the whole.
-use Rattle.std.proofs.Common.{◌≡◌, Bool, false, List, [], Ok, Err, if◌then◌else◌, ap, ◌∙◌}
+use Rattle.std.proofs.Common.{◌≡◌, ℕ, Bool, List, [], Ok, Err, if◌then◌else◌, sym, ap, ◌∙◌}
 use Rattle.dt_meaning.specs.Syntax.{Meaning, Piece}
-use Rattle.dt_meaning.specs.Edits.{State}
+use Rattle.dt_meaning.specs.Edits.{State, counted}
 use Rattle.dt_meaning.specs.Statements as meaning
 use Rattle.dt_meaning.specs.Statements.{ReservedName, then_do}
 use Rattle.dt_meaning.specs.References.{in_order, references}
@@ -9,12 +9,17 @@ use Rattle.dt_meaning.specs.Phandles.{given_of, numbered, wanted}
 use Rattle.dt_meaning.specs.Resolved.{names_taken, put_together, resolved, resolved_state, shallow}
 use Rattle.dt_resolve.specs.declared.error.BuildError.{BuildError}
 use Rattle.dt_resolve.specs.BuildFault.{IsFault}
+use Rattle.dt_resolve.proofs.Counted.{counted-resolved}
 use Rattle.dt_resolve.proofs.Faults.{fault-same, fault-second}
 
-pub references-stop : (e : BuildError) (symbols : Bool) (m : Meaning) (s : State (List Piece)) → meaning.edited m ≡ Ok s → m.plugin ≡ false
-    → IsFault e (if names_taken symbols false s then Err ReservedName else then_do (given_of (in_order s) []) (λ _. references false s)) → IsFault e (resolved symbols m)
-references-stop e symbols m s done ordinary fault =
-    fault-same e (resolved_state symbols false s) (resolved symbols m)
-    (ap (λ r. then_do r (resolved_state symbols m.plugin)) done ∙ ap (λ b. resolved_state symbols b s) ordinary)
-    (fault-second e (names_taken symbols false s) ReservedName (given_of (in_order s) []) (references false s)
-    (λ given es. shallow (put_together symbols false s es given (numbered given 0 (wanted symbols s given es)))) fault)
+-- the whole is what follows the edits, however many fragments they made
+pub resolved-counted : (symbols plugin : Bool) (m : Meaning) (n : ℕ) (s : State (List Piece)) → meaning.edited m ≡ Ok (counted n s) → plugin ≡ m.plugin → resolved symbols m ≡ resolved_state symbols plugin s
+resolved-counted symbols plugin m n s done is =
+    ap (λ r. then_do r (resolved_state symbols m.plugin)) done ∙ ap (λ b. resolved_state symbols b (counted n s)) (sym is) ∙ counted-resolved n s symbols plugin
+
+pub references-stop : (e : BuildError) (symbols plugin : Bool) (m : Meaning) (n : ℕ) (s : State (List Piece)) → meaning.edited m ≡ Ok (counted n s) → plugin ≡ m.plugin
+    → IsFault e (if names_taken symbols plugin s then Err ReservedName else then_do (given_of (in_order s) []) (λ _. references plugin s)) → IsFault e (resolved symbols m)
+references-stop e symbols plugin m n s done is fault =
+    fault-same e (resolved_state symbols plugin s) (resolved symbols m) (resolved-counted symbols plugin m n s done is)
+    (fault-second e (names_taken symbols plugin s) ReservedName (given_of (in_order s) []) (references plugin s)
+    (λ given es. shallow (put_together symbols plugin s es given (numbered given 0 (wanted symbols s given es)))) fault)

@@ -1,7 +1,7 @@
 -- The numbers and names of the errors.
 use Rattle.std.specs.Prelude.{ℕ, List, codes}
 use Rattle.dt_resolve.specs.declared.error.BuildError.{BuildError}
-use Rattle.dt_resolve.specs.declared.error.BuildError.TheVariants.{NoMemory, UnknownLabel, DuplicateLabel, UnknownPath, BadPhandle, DuplicatePhandle, DuplicateInBody, PathInPlugin, ReservedName, TooDeep, NoPlugin}
+use Rattle.dt_resolve.specs.declared.error.BuildError.TheVariants.{NoMemory, UnknownLabel, DuplicateLabel, UnknownPath, BadPhandle, DuplicatePhandle, DuplicateInBody, PathInPlugin, ReservedName, TooDeep}
 
 abbrev pub number_of : BuildError → ℕ
 number_of NoMemory = 0
@@ -14,7 +14,6 @@ number_of DuplicateInBody = 25
 number_of PathInPlugin = 26
 number_of ReservedName = 27
 number_of TooDeep = 28
-number_of NoPlugin = 29
 
 abbrev pub name_of : BuildError → List ℕ
 name_of NoMemory = codes "NoMemory"
@@ -27,4 +26,3 @@ name_of DuplicateInBody = codes "DuplicateInBody"
 name_of PathInPlugin = codes "PathInPlugin"
 name_of ReservedName = codes "ReservedName"
 name_of TooDeep = codes "TooDeep"
-name_of NoPlugin = codes "NoPlugin"

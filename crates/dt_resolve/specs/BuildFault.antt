@@ -5,9 +5,8 @@ use Rattle.dt_meaning.specs.Statements as meaning
 use Rattle.dt_edit.specs.declared.error.EditError.{EditError}
 use Rattle.dt_edit.specs.declared.error.EditError.TheVariants as edits
 use Rattle.dt_resolve.specs.declared.error.BuildError.{BuildError}
-use Rattle.dt_resolve.specs.declared.error.BuildError.TheVariants.{NoMemory, UnknownLabel, DuplicateLabel, UnknownPath, BadPhandle, DuplicatePhandle, DuplicateInBody, PathInPlugin, ReservedName, TooDeep, NoPlugin}
+use Rattle.dt_resolve.specs.declared.error.BuildError.TheVariants.{NoMemory, UnknownLabel, DuplicateLabel, UnknownPath, BadPhandle, DuplicatePhandle, DuplicateInBody, PathInPlugin, ReservedName, TooDeep}
 
--- a plugin is refused before any edit
 abbrev pub IsFault : {A : Type 0} → BuildError → Result A Fault → Type 0
 IsFault NoMemory r = Unit {0}
 IsFault UnknownLabel r = r ≡ Err meaning.UnknownLabel
@@ -19,7 +18,6 @@ IsFault DuplicateInBody r = r ≡ Err meaning.DuplicateInBody
 IsFault PathInPlugin r = r ≡ Err meaning.PathInPlugin
 IsFault ReservedName r = r ≡ Err meaning.ReservedName
 IsFault TooDeep r = r ≡ Err meaning.TooDeep
-IsFault NoPlugin r = ⊥
 
 -- an edit that is refused stops the build
 abbrev pub build_error : EditError → BuildError

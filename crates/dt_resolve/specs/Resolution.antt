@@ -11,10 +11,10 @@ use Rattle.dt_resolve.specs.Numbers.{number_at}
 use Rattle.dt_resolve.specs.Targets.{AreFound}
 
 -- the numbers given, the references found, and the numbers of the nodes that want one
-pub record IsResolved (symbols : Bool) (d : Draft Parts) (es : List (Definition (List Found))) (all : Resolution) : Type 0 where
-  pub free : names_taken symbols false (tree_of d) ≡ false
+pub record IsResolved (symbols plugin : Bool) (d : Draft Parts) (es : List (Definition (List Found))) (all : Resolution) : Type 0 where
+  pub free : names_taken symbols plugin (tree_of d) ≡ false
   pub given : given_of (in_order (tree_of d)) [] ≡ Ok (map (number_at d.nodes.items) all.given.numbers.items)
-  pub found : references false (tree_of d) ≡ Ok es
+  pub found : references plugin (tree_of d) ≡ Ok es
   pub targets : AreFound d es all.targets
   pub new : map (number_at d.nodes.items) all.new.items
       ≡ numbered (map (number_at d.nodes.items) all.given.numbers.items) 0 (wanted symbols (tree_of d) (map (number_at d.nodes.items) all.given.numbers.items) es)

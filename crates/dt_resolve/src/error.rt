@@ -29,8 +29,6 @@ pub enum BuildError {
     ReservedName,
     #[error("a node is deeper than 64 levels")]
     TooDeep,
-    #[error("a plugin, which isn't compiled yet")]
-    NoPlugin,
 }
 
 impl From<AllocError> for BuildError {
@@ -90,7 +88,6 @@ impl BuildError {
             BuildError::PathInPlugin => 26,
             BuildError::ReservedName => 27,
             BuildError::TooDeep => 28,
-            BuildError::NoPlugin => 29,
         }
     }
 
@@ -109,7 +106,6 @@ impl BuildError {
             BuildError::PathInPlugin => "PathInPlugin",
             BuildError::ReservedName => "ReservedName",
             BuildError::TooDeep => "TooDeep",
-            BuildError::NoPlugin => "NoPlugin",
         }
     }
 }

@@ -4,8 +4,8 @@ ghost use Rattle.std.specs.List.{list_any};
 ghost use Rattle.dt_draft.specs.Rows.{IsDraft, IsNode};
 ghost use Rattle.dt_resolve.specs.Private.Wanted.{labelled_rows};
 
-use crate::reserved::is_reserved;
 use dt_draft::{Draft, LabelRow};
+use dt_layout::is_reserved;
 use dt_source::Part;
 use std::alloc::{AllocError, Global};
 
@@ -29,7 +29,7 @@ fn label_marks(
 /// The nodes of a list that have labels, without the reserved ones.
 pub(crate) fn labelled_nodes<'d, 't>(
     alloc: Global,
-    draft: &Draft<'t, &'d [Part<'t>]>,
+    draft: &Draft<'d, &'d [Part<'t>]>,
     order: &[usize],
 ) -> Result<Vec<usize>, AllocError>
     requires sound { IsDraft draft.now }
@@ -51,7 +51,7 @@ pub(crate) fn labelled_nodes<'d, 't>(
 /// The nodes that are named in cells, and with symbols the labelled ones behind them.
 pub(crate) fn named_nodes<'d, 't>(
     alloc: Global,
-    draft: &Draft<'t, &'d [Part<'t>]>,
+    draft: &Draft<'d, &'d [Part<'t>]>,
     order: &[usize],
     cells: &[usize],
     symbols: bool,

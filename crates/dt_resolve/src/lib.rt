@@ -11,7 +11,6 @@ mod numbers;
 mod phandle;
 mod prepared;
 mod references;
-mod reserved;
 mod resolving;
 mod wanted;
 
@@ -19,5 +18,4 @@ pub use error::BuildError;
 pub use numbers::{Given, Numbered};
 pub use prepared::{Prepared, prepare};
 pub use references::Targets;
-pub use reserved::is_reserved;
 pub use resolving::Resolution;

@@ -9,9 +9,8 @@ ghost use Rattle.dt_resolve.specs.Private.Laid.{read_laid};
 
 use crate::error::BuildError;
 use crate::phandle::number_in;
-use crate::reserved::is_reserved;
 use dt_draft::NodeRow;
-use dt_layout::Laid;
+use dt_layout::{Laid, is_reserved};
 use dt_source::Part;
 use std::alloc::{AllocError, Global};
 use std::collections::BTreeSet;
@@ -41,7 +40,7 @@ fn take(taken: &mut BTreeSet<usize>, number: usize) -> Result<bool, AllocError>
 fn note<'d, 't>(
     given: &mut Given,
     nodes: &[NodeRow<'t>],
-    property: &Laid<'t, &'d [Part<'t>]>,
+    property: &Laid<'d, &'d [Part<'t>]>,
 ) -> Result<(), BuildError>
     requires grown { IsGrown nodes.now }
     requires known { property.now.node ≤ length nodes.now }
@@ -77,7 +76,7 @@ fn note<'d, 't>(
 pub(crate) fn given_phandles<'d, 't>(
     alloc: Global,
     nodes: &[NodeRow<'t>],
-    properties: &[Laid<'t, &'d [Part<'t>]>],
+    properties: &[Laid<'d, &'d [Part<'t>]>],
 ) -> Result<Given, BuildError>
     requires grown { IsGrown nodes.now }
     requires known { All (λ x. x.node ≤ length nodes.now) properties.now }

@@ -1,5 +1,5 @@
 //! The numbers and the targets of a tree.
-ghost use Rattle.std.specs.Prelude.{◌≡◌, ◌∷◌, [], List, true, false, All, map, Ok, Err, IfOk, MatchResult, if◌then◌else◌};
+ghost use Rattle.std.specs.Prelude.{◌≡◌, ◌∷◌, [], List, true, All, map, Ok, Err, IfOk, MatchResult, if◌then◌else◌};
 ghost use Rattle.dt_meaning.specs.Edits.{Definition};
 ghost use Rattle.dt_meaning.specs.Resolved.{names_taken};
 ghost use Rattle.dt_meaning.specs.Statements as meaning;
@@ -33,13 +33,14 @@ pub struct Resolution {
     pub new: Vec<Numbered>,
 }
 
-/// Finds the references of an ordinary source, and numbers the nodes that are named in cells and, with symbols, the labelled ones.
+/// Finds the references of a source, and numbers the nodes that are named in cells and, with symbols, the labelled ones.
 pub(crate) fn resolve<'d, 't>(
     alloc: Global,
-    draft: &Draft<'t, &'d [Part<'t>]>,
+    draft: &Draft<'d, &'d [Part<'t>]>,
     order: &[usize],
-    properties: &[Laid<'t, &'d [Part<'t>]>],
+    properties: &[Laid<'d, &'d [Part<'t>]>],
     symbols: bool,
+    plugin: bool,
 ) -> Result<Resolution, BuildError>
     requires sound { IsDraft draft.now }
     requires known { All (λ n. IsNode draft.now n) order.now }
@@ -51,16 +52,16 @@ pub(crate) fn resolve<'d, 't>(
     ensures targets { IfOk result (λ all. AreTargets draft.now all.targets) }
     ensures given { IfOk result (λ all. AreStanding draft.now.nodes.items all.given.numbers.items) }
     ensures new { IfOk result (λ all. AreStanding draft.now.nodes.items all.new.items) }
-    ensures resolved { MatchResult result (λ all. (es : List (Definition (List Found))) × IsResolved symbols draft.now es all) (λ e. IsFault e (if names_taken symbols false (tree_of draft.now) then Err meaning.ReservedName else then_do (given_of (in_order (tree_of draft.now)) []) (λ _. references false (tree_of draft.now)))) }
+    ensures resolved { MatchResult result (λ all. (es : List (Definition (List Found))) × IsResolved symbols plugin draft.now es all) (λ e. IsFault e (if names_taken symbols plugin (tree_of draft.now) then Err meaning.ReservedName else then_do (given_of (in_order (tree_of draft.now)) []) (λ _. references plugin (tree_of draft.now)))) }
 {
-    if is_name_taken(draft, symbols) {
+    if is_name_taken(draft, symbols, plugin) {
         return Err(BuildError::ReservedName);
     }
     let given = match given_phandles(alloc, draft.nodes(), properties) {
         Ok(given) => given,
         Err(error) => return Err(error),
     };
-    let targets = match find_targets(alloc, draft, properties) {
+    let targets = match find_targets(alloc, draft, properties, plugin) {
         Ok(targets) => targets,
         Err(error) => return Err(error),
     };

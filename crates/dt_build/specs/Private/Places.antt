@@ -1,5 +1,5 @@
 -- Where the making of a tree stands: so many nodes were made, in the order of the walk, and so many properties and targets were used.
-use Rattle.std.specs.Prelude.{◌≡◌, ◌+◌, ◌^◌, ◌<◌, ◌==◌, ℕ, true, false, List, length, map, drop, slice_index_or, All}
+use Rattle.std.specs.Prelude.{◌≡◌, ◌+◌, ◌^◌, ◌<◌, ◌==◌, ℕ, true, false, List, length, map, drop, slice_index_or, All, option_map}
 use Rattle.std.specs.Int.{to_be_bytes, w32}
 use Rattle.std.specs.List.{flat_map, list_any}
 use Rattle.dt_tree.specs.Name.{is_name}
@@ -24,7 +24,7 @@ path_at p k = node_path p.draft (slice_index_or p.layout.nodes.items k 0)
 -- the properties and the targets behind the place are those of the nodes behind it
 pub record IsPlace (p : Prepared) (at : Place) : Type 0 where
   pub properties : drop at.property (founds p) ≡ flat_map (held (founds p)) (drop at.node (preorder (tree_of p.draft).nodes))
-  pub targets : map (node_path p.draft) (drop at.target p.resolution.targets.all.items) ≡ flat_map (λ e. flat_map target_path e.value) (drop at.property (founds p))
+  pub targets : map (option_map (node_path p.draft)) (drop at.target p.resolution.targets.all.items) ≡ flat_map (λ e. flat_map target_path e.value) (drop at.property (founds p))
 
 -- the properties of the next node, in the order of the walk: they have its bytes with the targets at the place, and behind them
 -- stand the properties and the targets of the nodes behind it
@@ -33,7 +33,7 @@ pub record IsRun (p : Prepared) (at : Place) (run : List (Laid Parts)) : Type 0 
   pub named : All (λ x. is_name x.name.now ≡ true) run
   pub properties : run_of (all_numbers p) (node_path p.draft) (path_at p at.node) run (drop at.target p.resolution.targets.all.items) ≡ map (with_bytes (all_numbers p)) (held (founds p) (path_at p at.node))
   pub next : drop (at.property + length run) (founds p) ≡ flat_map (held (founds p)) (drop (at.node + 1) (preorder (tree_of p.draft).nodes))
-  pub targets : map (node_path p.draft) (drop (run_uses run) (drop at.target p.resolution.targets.all.items)) ≡ flat_map (λ e. flat_map target_path e.value) (drop (at.property + length run) (founds p))
+  pub targets : map (option_map (node_path p.draft)) (drop (run_uses run) (drop at.target p.resolution.targets.all.items)) ≡ flat_map (λ e. flat_map target_path e.value) (drop (at.property + length run) (founds p))
 
 -- the number of each node that stands, and whether it is new
 pub record IsNumbering (p : Prepared) (n : Numbering) : Type 0 where

@@ -1,10 +1,12 @@
 -- Values whose references have targets (Devicetree Specification v0.4, section 6.3).
-use Rattle.std.specs.Prelude.{ℕ, ◌+◌, List, [], ◌∷◌, drop, slice_index_or}
+use Rattle.std.specs.Prelude.{ℕ, ◌+◌, List, [], ◌∷◌, drop, slice_index_or, Option, Some, None}
 use Rattle.dt_source.specs.declared.tree.Part.{Part}
 use Rattle.dt_source.specs.declared.tree.Part.TheVariants as parts
+use Rattle.dt_source.specs.declared.tree.Reference.{Reference}
+use Rattle.dt_source.specs.declared.tree.Reference.TheVariants as references
 use Rattle.dt_meaning.specs.Paths.{Path}
 use Rattle.dt_meaning.specs.Edits.{Definition, definition}
-use Rattle.dt_meaning.specs.References.{Found, Bytes, Cell, Way}
+use Rattle.dt_meaning.specs.References.{Found, Bytes, Cell, Open, Way}
 use Rattle.dt_meaning.specs.Fixups.{value_bytes}
 use Rattle.dt_meaning.specs.Phandles.{Number}
 use Rattle.dt_layout.specs.declared.properties.Laid.{Laid}
@@ -20,19 +22,33 @@ abbrev pub all_uses : List Part → ℕ
 all_uses [] = 0
 all_uses (x ∷ xs) = uses x + all_uses xs
 
--- a part whose target is the node n
-abbrev pub found_of : (ℕ → Path) → Part → ℕ → Found
+-- the label of a reference
+abbrev pub label_in : Reference → List ℕ
+label_in (references.Label l) = l.now
+label_in (references.Path p) = []
+
+-- a part with its target: the node n, or none
+abbrev pub cell_for : (ℕ → Path) → Reference → Option ℕ → Found
+cell_for path t None = Open (label_in t)
+cell_for path t (Some n) = Cell (path n)
+
+-- the text of a path always has its node
+abbrev pub way_for : (ℕ → Path) → Option ℕ → Found
+way_for path None = Bytes []
+way_for path (Some n) = Way (path n)
+
+abbrev pub found_of : (ℕ → Path) → Part → Option ℕ → Found
 found_of path (parts.Bytes b) n = Bytes b.items
-found_of path (parts.Phandle t) n = Cell (path n)
-found_of path (parts.Path t) n = Way (path n)
+found_of path (parts.Phandle t) n = cell_for path t n
+found_of path (parts.Path t) n = way_for path n
 
 -- a value whose targets are the first of these
-abbrev pub founds_of : (ℕ → Path) → List Part → List ℕ → List Found
+abbrev pub founds_of : (ℕ → Path) → List Part → List (Option ℕ) → List Found
 founds_of path [] ts = []
-founds_of path (x ∷ xs) ts = found_of path x (slice_index_or ts 0 0) ∷ founds_of path xs (drop (uses x) ts)
+founds_of path (x ∷ xs) ts = found_of path x (slice_index_or ts 0 None) ∷ founds_of path xs (drop (uses x) ts)
 
 -- the properties of one node, with their bytes
-abbrev pub run_of : List Number → (ℕ → Path) → Path → List (Laid Parts) → List ℕ → List (Definition (List ℕ))
+abbrev pub run_of : List Number → (ℕ → Path) → Path → List (Laid Parts) → List (Option ℕ) → List (Definition (List ℕ))
 run_of ns path q [] ts = []
 run_of ns path q (x ∷ xs) ts = definition q x.name.now (value_bytes ns (founds_of path x.value.now ts)) ∷ run_of ns path q xs (drop (all_uses x.value.now) ts)
 

@@ -1,4 +1,4 @@
-use Rattle.std.proofs.Common.{◌≡◌, ◌<◌, ◌∙◌, List, ℕ, false, map, get_or, drop, length, sym, ap, arith}
+use Rattle.std.proofs.Common.{◌≡◌, Option, ◌<◌, ◌∙◌, List, ℕ, false, map, get_or, drop, length, sym, ap, arith}
 use Rattle.std.specs.Int.{to_be_bytes, w32}
 use Rattle.std.proofs.lemmas.List.{get_or_default}
 use Rattle.dt_meaning.specs.References.{held}
@@ -26,7 +26,7 @@ returns-clause-properties c =
     let counted : n < length numbering.phandles.items = omega (arith, known, c.requires.numbering.count) in
     let made : defined_at (path_at p place.node) c.in_ok-properties.properties.items ≡ map (with_bytes (all_numbers p)) (held (founds p) (path_at p place.node)) =
     c.in_ok-properties.ensures.properties (path_at p place.node)
-    ∙ ap (λ (ts : List ℕ). run_of (all_numbers p) (node_path p.draft) (path_at p place.node) c.run_at-run.result.now ts) (c.behind-targets.ensures ∙ ap (drop place.target) c.as_slice.ensures.value)
+    ∙ ap (λ (ts : List (Option ℕ)). run_of (all_numbers p) (node_path p.draft) (path_at p place.node) c.run_at-run.result.now ts) (c.behind-targets.ensures ∙ ap (drop place.target) c.as_slice.ensures.value)
     ∙ c.run_at-run.ensures.properties in
     let mark = at-index numbering.new.items c.index-node.result.now n c.index.result.now false c.index.ensures here marked in
     elim c.if-index.branch [

@@ -1,9 +1,9 @@
-use Rattle.std.proofs.Common.{◌≡◌, ◌+◌, ◌-◌, ◌^◌, ◌<◌, ◌∙◌, min, List, ℕ, false, map, get_or, drop, length, ap, arith}
+use Rattle.std.proofs.Common.{◌≡◌, Option, ◌+◌, ◌-◌, ◌^◌, ◌<◌, ◌∙◌, min, List, ℕ, false, map, get_or, drop, length, ap, arith}
 use Rattle.std.proofs.lemmas.List.{get_or_default}
 use Rattle.dt_meaning.specs.References.{held}
 use Rattle.dt_meaning.specs.Resolved.{with_bytes}
 use Rattle.dt_draft.specs.Rows.{node_path}
-use Rattle.dt_build.specs.Built.{size_in}
+use Rattle.dt_assembly.specs.Sizes.{size_in}
 use Rattle.dt_build.specs.Private.Made.{founds, all_numbers}
 use Rattle.dt_build.specs.Private.Places.{path_at}
 use Rattle.dt_build.specs.Private.Values.{run_of}
@@ -25,7 +25,7 @@ returns-clause-size c =
     let made : c.run_size-size.result.0 ≡ min (size_in (map (with_bytes (all_numbers p)) (held (founds p) (path_at p place.node)))) (2 ^ 64 - 1) =
     c.run_size-size.ensures.size (path_at p place.node)
     ∙ ap (λ es. min (size_in es) (2 ^ 64 - 1))
-    (ap (λ (ts : List ℕ). run_of (all_numbers p) (node_path p.draft) (path_at p place.node) c.run_at-run.result.now ts) (c.behind-targets.ensures ∙ ap (drop place.target) c.as_slice.ensures.value)
+    (ap (λ (ts : List (Option ℕ)). run_of (all_numbers p) (node_path p.draft) (path_at p place.node) c.run_at-run.result.now ts) (c.behind-targets.ensures ∙ ap (drop place.target) c.as_slice.ensures.value)
     ∙ c.run_at-run.ensures.properties) in
     let mark = at-index numbering.new.items c.index-node.result.now n c.index.result.now false c.index.ensures here marked in
     elim c.if-index.branch [

@@ -1,5 +1,5 @@
-use Rattle.std.proofs.Common.{◌≡◌, true}
-use Rattle.dt_draft.specs.Rows.{IsNode, is_standing, node_path}
+use Rattle.dt_draft.specs.Rows.{node_path}
+use Rattle.dt_resolve.specs.Targets.{IsKnown, IsThere}
 use Rattle.dt_build.specs.Private.Made.{all_numbers}
 use Rattle.dt_build.specs.Private.Values.{all_uses}
 use Rattle.dt_build.proofs.OwnSteps.{all-drop, left-more, properties-more, properties-all}
@@ -15,8 +15,8 @@ loop-laid-preserved c =
     let new = c.targets_behind-left.result.now in
     let step = c.targets_behind-left.ensures in
     record {
-      known = all-drop (λ n. IsNode p.draft n) (all_uses x.value.now) old new step c.loop-laid.invariant.known;
-      there = all-drop (λ n. is_standing p.draft n ≡ true) (all_uses x.value.now) old new step c.loop-laid.invariant.there;
+      known = all-drop (IsKnown p.draft) (all_uses x.value.now) old new step c.loop-laid.invariant.known;
+      there = all-drop (IsThere p.draft) (all_uses x.value.now) old new step c.loop-laid.invariant.there;
       properties = λ q. properties-more (all_numbers p) (node_path p.draft) q run i x old new c.loop-laid-test.true c.laid-item.is step c.loop-laid.properties.items c.push.new.self.items
           c.in_ok-laid_property.field-0 _ c.in_ok-push.ensures.items c.in_ok-laid_property.ensures.name c.in_ok-laid_property.ensures.value (c.loop-laid.invariant.properties q);
       left = left-more run i x old new _ c.loop-laid-test.true c.laid-item.is step c.loop-laid.invariant.left;

@@ -1,4 +1,5 @@
-use Rattle.dt_draft.specs.Rows.{IsNode, node_path}
+use Rattle.dt_draft.specs.Rows.{node_path}
+use Rattle.dt_resolve.specs.Targets.{IsKnown}
 use Rattle.dt_build.specs.Private.Made.{all_numbers}
 use Rattle.dt_build.specs.Private.Values.{all_uses}
 use Rattle.std.proofs.Common.{arith}
@@ -15,7 +16,7 @@ loop-laid-preserved c =
     let new = c.targets_behind-left.result.now in
     let step = c.targets_behind-left.ensures in
     record {
-      known = all-drop (λ n. IsNode p.draft n) (all_uses x.value.now) old new step c.loop-laid.invariant.known;
+      known = all-drop (IsKnown p.draft) (all_uses x.value.now) old new step c.loop-laid.invariant.known;
       fits = omega (arith, c.saturating_add-size.ensures);
       size = λ q. sizes-more (all_numbers p) (node_path p.draft) q run i x old new c.loop-laid-test.true c.laid-item.is step c.loop-laid.size c.value_size.result c.saturating_add-size.result
           _ c.value_size.ensures c.saturating_add-size.ensures (c.loop-laid.invariant.size q);

@@ -1,8 +1,8 @@
 use Rattle.std.proofs.Common.{◌≡◌, ◌-◌, ◌^◌, length, min, take}
 use Rattle.std.specs.List.{flat_map}
 use Rattle.dt_meaning.specs.References.{held, preorder}
+use Rattle.dt_assembly.specs.Sizes.{size_in}
 use Rattle.dt_edit.specs.Said.{tree_of}
-use Rattle.dt_build.specs.Built.{size_in}
 use Rattle.dt_build.specs.Private.Made.{made_properties}
 use Rattle.dt_build.specs.Private.Places.{IsPlace}
 use Rattle.dt_build.proofs.sizes.nodes_size.Given as goal

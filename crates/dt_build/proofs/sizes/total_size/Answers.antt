@@ -1,13 +1,21 @@
-use Rattle.std.proofs.Common.{map, ap, ◌∙◌}
-use Rattle.dt_meaning.specs.Resolved.{symbol}
-use Rattle.dt_edit.specs.Said.{tree_of}
-use Rattle.dt_build.specs.Built.{size_in}
-use Rattle.dt_build.specs.Private.Made.{lists, made_properties}
-use Rattle.dt_build.proofs.MakingSizes.{size-symbols, sum-capped}
+use Rattle.std.proofs.Common.{◌-◌, ◌^◌, ◌+◌, [], min, ap, ◌∙◌, sym, arith}
+use Rattle.dt_meaning.specs.Fixups.{fixups, local_fixups}
+use Rattle.dt_assembly.specs.Sizes.{size_in}
+use Rattle.dt_build.specs.Private.Made.{lists, made_places, symbol_lists}
+use Rattle.dt_build.proofs.MakingSizes.{size-fixups, size-ordinary, sum-capped}
 use Rattle.dt_build.proofs.sizes.total_size.Goals as goal
+
+pub returns-then-not-prepared : goal.returns-then-not-prepared
+returns-then-not-prepared c =
+    let p = c.args.prepared.now in
+    c.labels_size-size.ensures ∙ ap (λ n. min n (2 ^ 64 - 1)) (sym (size-ordinary c.args.symbols p c.if-not-prepared.true))
 
 pub returns : goal.returns
 returns c =
     let p = c.args.prepared.now in
-    sum-capped (size_in (lists c.args.symbols p).properties) (size_in (made_properties p)) (size_in (map symbol (tree_of p.draft).labels)) c.nodes_size-size.result c.symbols_size.result c.saturating_add.result
-    (ap (λ s. size_in (lists s p).properties) c.if-not-symbols.false ∙ size-symbols p) c.nodes_size-size.ensures c.symbols_size.ensures c.saturating_add.ensures
+    let xs = made_places p in
+    let plain = size_in (symbol_lists c.args.symbols p).properties in
+    sum-capped (size_in (lists c.args.symbols p).properties) (plain + size_in (fixups xs [])) (size_in (local_fixups xs [])) c.saturating_add.result c.mirror_size.result c.saturating_add-2.result
+    (size-fixups c.args.symbols p)
+    (sum-capped (plain + size_in (fixups xs [])) plain (size_in (fixups xs [])) c.labels_size-size.result c.fixups_size.result c.saturating_add.result (omega arith) c.labels_size-size.ensures c.fixups_size.ensures c.saturating_add.ensures)
+    c.mirror_size.ensures c.saturating_add-2.ensures

@@ -3,9 +3,9 @@ use Rattle.dt_tree.specs.Name.{is_name}
 use Rattle.dt_meaning.specs.Names.{symbols_name}
 use Rattle.dt_assembly.specs.Lists.{defined_at}
 use Rattle.dt_draft.specs.Rows.{is_standing, label_at, node_path}
+use Rattle.dt_layout.proofs.Each.{each-of}
 use Rattle.dt_edit.specs.Said.{tree_of}
 use Rattle.dt_build.proofs.MakingLabels.{lawful-label, property-more, symbols-same}
-use Rattle.dt_build.proofs.MakingNodes.{each-of}
 use Rattle.dt_build.proofs.symbols.symbols_of.Goals as goal
 use Rattle.dt_build.proofs.symbols.symbols_of.Goals.{then-is_in_tree+in_ok-symbol_of+in_ok-push, else-is_in_tree}
 

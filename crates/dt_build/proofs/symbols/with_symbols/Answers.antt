@@ -3,10 +3,11 @@ use Rattle.std.proofs.lemmas.Bool.Decides.{nat_tests}
 use Rattle.dt_assembly.specs.Lists.{with_last}
 use Rattle.dt_assembly.specs.OpenNodes.{assembled, way_of}
 use Rattle.dt_assembly.specs.Standing.{walked}
+use Rattle.dt_assembly.proofs.MakingWalk.{ok-more}
 use Rattle.dt_edit.specs.Said.{tree_of}
-use Rattle.dt_build.specs.Private.Made.{lists}
+use Rattle.dt_build.specs.Private.Made.{symbol_lists}
 use Rattle.dt_build.proofs.MakingLabels.{distinct-symbols}
-use Rattle.dt_build.proofs.MakingWhole.{ok-more, symbols-new, whole}
+use Rattle.dt_build.proofs.MakingWhole.{symbols-new, whole}
 use Rattle.dt_build.proofs.symbols.with_symbols.Goals as goal
 
 pub push-requires-clause-new : goal.push-requires-clause-new
@@ -23,6 +24,6 @@ returns c =
     let ps = c.in_ok-symbols.symbols.items in
     let bs = c.args.assembly in
     let some : 0 < length ps = grind (arith, nat_tests, c.is_empty.ensures, c.if-is_empty.false) in
-    ok-more (λ a. assembled a ≡ with_last (take (1 - 1) (way_of bs) ++ c.in_ok-name.name ∷ []) ps (assembled bs)) (λ a. assembled a ≡ walked (lists true p))
+    ok-more (λ a. assembled a ≡ with_last (take (1 - 1) (way_of bs) ++ c.in_ok-name.name ∷ []) ps (assembled bs)) (λ a. assembled a ≡ walked (symbol_lists true p))
     (λ a e. e ∙ ap (λ n. with_last (n ∷ []) ps (assembled bs)) (c.in_ok-name.ensures ∙ c.as_slice.ensures) ∙ whole p c.requires.ready c.requires.free bs c.requires.made ps c.in_ok-symbols.ensures some)
     c.push.result c.push.ensures.nodes

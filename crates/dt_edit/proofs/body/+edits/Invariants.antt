@@ -8,7 +8,7 @@ use Rattle.dt_edit.proofs.body.+edits.Given as goal
 
 abbrev pub invariant-edit_body-loop-statement : goal.invariant-edit_body-loop-statement
 invariant-edit_body-loop-statement l =
-    (x : Progress (List Piece)) × IsUnderWay x l.fn.draft l.draft l.node l.number (body_of (views l.body)) (body_of (views (drop l.statement-index l.body)))
+    (x : Progress (List Piece)) × IsUnderWay x l.fn.draft l.draft l.node l.number l.made.count (body_of (views l.body)) (body_of (views (drop l.statement-index l.body)))
 
 -- each body is one level deeper, down to 64
 abbrev pub decreases-edit : goal.decreases-edit

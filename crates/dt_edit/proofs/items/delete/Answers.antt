@@ -6,9 +6,9 @@ use Rattle.dt_edit.proofs.ItemSteps.{node-deleted, not-root}
 use Rattle.dt_edit.proofs.items.delete.Goals as goal
 
 pub returns-clause-item : goal.returns-clause-item
-returns-clause-item c =
+returns-clause-item c n =
     let old = c.args.draft.now in
     let node = c.in_ok-node.node in
     let at : node ≡ suc (node - 1) = omega (arith, c.if-node-eq0.false) in
-    node-deleted old c.remove_node.new.self (said.target_of (target_view c.args.target.now)) (node_path old node) c.in_ok-node.ensures.node
+    node-deleted n old c.remove_node.new.self (said.target_of (target_view c.args.target.now)) (node_path old node) c.in_ok-node.ensures.node
     (not-root old c.requires.sound node (node - 1) at) c.remove_node.ensures.state

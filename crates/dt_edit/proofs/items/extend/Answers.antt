@@ -1,5 +1,6 @@
 use Rattle.std.proofs.Common.{◌≡◌, false, Ok, Err, sym, ap, ◌∙◌}
 use Rattle.dt_source.specs.Tree.{target_view, labels_view, views}
+use Rattle.dt_meaning.specs.Edits.{counted}
 use Rattle.dt_meaning.specs.Statements as meaning
 use Rattle.dt_meaning.specs.Statements.{after_body, after_item, begun}
 use Rattle.dt_meaning.specs.Syntax.{Extends}
@@ -13,18 +14,20 @@ use Rattle.dt_edit.proofs.items.extend.Goals as goal
 pub returns-in-Err-clause-item : goal.returns-in-Err-clause-item
 returns-in-Err-clause-item c =
     let old = c.args.draft.now in
+    let made = c.args.made.now.count in
     let t = said.target_of (target_view c.args.target.now) in
     let ls = labels_view c.args.labels.now in
     let body = body_of (views c.args.body.now) in
     let p = node_path old c.in_ok-node.node in
-    let r = after_item false (Extends ls t body) (tree_of old) in
+    let r = after_item false (Extends ls t body) (counted made (tree_of old)) in
     fault-error c.of_label.result _ r c.of_label.ensures
-    (label-says c.in-Err.error r (λ same. extend-labelled old t ls body p c.in_ok-node.ensures.node
+    (label-says c.in-Err.error r (λ same. extend-labelled made old t ls body p c.in_ok-node.ensures.node
     (ap (λ xs. meaning.give_labels xs p (state_of old)) (sym c.as_slice.ensures) ∙ c.in-Err.ensures.refused (ap (λ e. Err e) same))))
 
 pub returns-in-Err-edit_body-clause-item : goal.returns-in-Err-edit_body-clause-item
 returns-in-Err-edit_body-clause-item c =
     let old = c.args.draft.now in
+    let made = c.args.made.now.count in
     let mid = c.give_labels.new.self in
     let t = said.target_of (target_view c.args.target.now) in
     let ls = labels_view c.args.labels.now in
@@ -32,13 +35,14 @@ returns-in-Err-edit_body-clause-item c =
     let node = c.in_ok-node.node in
     let p = node_path old node in
     let given : meaning.give_labels ls p (state_of old) ≡ Ok (state_of mid) = ap (λ xs. meaning.give_labels xs p (state_of old)) (sym c.as_slice.ensures) ∙ c.in_default.ensures.given in
-    fault-same c.in-Err-edit_body.error (after_body body (node_path mid node) (begun (tree_of mid))) (after_item false (Extends ls t body) (tree_of old))
-    (extended old t ls body p mid c.in_ok-node.ensures.node given ∙ ap (λ rows. after_body body (path_of rows node) (begun (tree_of mid))) (sym c.in_default.ensures.kept))
+    fault-same c.in-Err-edit_body.error (after_body body (node_path mid node) (begun (counted made (tree_of mid)))) (after_item false (Extends ls t body) (counted made (tree_of old)))
+    (extended made old t ls body p mid c.in_ok-node.ensures.node given ∙ ap (λ rows. after_body body (path_of rows node) (begun (counted made (tree_of mid)))) (sym c.in_default.ensures.kept))
     c.in-Err-edit_body.ensures.body
 
 pub returns-in-Ok-clause-item : goal.returns-in-Ok-clause-item
 returns-in-Ok-clause-item c =
     let old = c.args.draft.now in
+    let made = c.args.made.now.count in
     let mid = c.give_labels.new.self in
     let t = said.target_of (target_view c.args.target.now) in
     let ls = labels_view c.args.labels.now in
@@ -46,6 +50,6 @@ returns-in-Ok-clause-item c =
     let node = c.in_ok-node.node in
     let p = node_path old node in
     let given : meaning.give_labels ls p (state_of old) ≡ Ok (state_of mid) = ap (λ xs. meaning.give_labels xs p (state_of old)) (sym c.as_slice.ensures) ∙ c.in_default.ensures.given in
-    extended old t ls body p mid c.in_ok-node.ensures.node given
-    ∙ ap (λ rows. after_body body (path_of rows node) (begun (tree_of mid))) (sym c.in_default.ensures.kept)
+    extended made old t ls body p mid c.in_ok-node.ensures.node given
+    ∙ ap (λ rows. after_body body (path_of rows node) (begun (counted made (tree_of mid)))) (sym c.in_default.ensures.kept)
     ∙ c.in-Ok.ensures.body

@@ -1,4 +1,4 @@
-use Rattle.std.proofs.Common.{◌+◌, false, List, [], ◌∷◌, ◌++◌, map, drop, subst}
+use Rattle.std.proofs.Common.{◌+◌, List, [], ◌∷◌, ◌++◌, map, drop, subst}
 use Rattle.dt_meaning.specs.Syntax.{Piece}
 use Rattle.dt_meaning.specs.Edits.{Definition, definition}
 use Rattle.dt_meaning.specs.References.{found_value}
@@ -16,7 +16,7 @@ loop-property-preserved c =
     let k = c.loop-property.property-index in
     let x = c.property-item.result in
     let e = read x in
-    let f = found_value false (tree_of d) in
+    let f = found_value c.args.plugin (tree_of d) in
     let rest = map read (drop (k + 1) properties) in
     let all = map read properties in
     let i = c.loop-property.invariant in
@@ -26,7 +26,7 @@ loop-property-preserved c =
         known = c.in_default.ensures.known;
         so_far = so-far-more f i.0 e rest all (definition e.path e.name step.0)
             (subst (λ (es : List (Definition (List Piece))). IsSoFar f i.0 es all) (left-read read properties k x c.loop-property-test.true c.property-item.is) i.1.so_far)
-            (value-found (tree_of d) e step.0 step.1);
+            (value-found c.args.plugin (tree_of d) e step.0 step.1);
         found = found-more d i.0 e.path e.name step.0 c.loop-property.targets c.find_value.new.targets i.1.found step.2;
       },
     )

@@ -9,4 +9,4 @@ use Rattle.dt_resolve.proofs.references.find_targets.Given as goal
 abbrev pub invariant-loop-property : goal.invariant-loop-property
 invariant-loop-property l =
     (es : List (Definition (List Found)))
-    × IsWalking l.draft (tree_of l.draft) es (map (read_laid l.draft.nodes.items) (drop l.property-index l.properties)) (map (read_laid l.draft.nodes.items) l.properties) l.targets
+    × IsWalking l.plugin l.draft (tree_of l.draft) es (map (read_laid l.draft.nodes.items) (drop l.property-index l.properties)) (map (read_laid l.draft.nodes.items) l.properties) l.targets

@@ -1,4 +1,4 @@
-use Rattle.std.proofs.Common.{◌+◌, false, List, [], ◌∷◌, ◌++◌, map, drop, ap, subst}
+use Rattle.std.proofs.Common.{◌+◌, List, [], ◌∷◌, ◌++◌, map, drop, ap, subst}
 use Rattle.dt_source.specs.Tree.{part_view}
 use Rattle.dt_meaning.specs.Syntax.{Piece}
 use Rattle.dt_meaning.specs.References.{found_in}
@@ -13,7 +13,7 @@ loop-part-preserved c =
     let value = c.args.value.now in
     let k = c.loop-part.part-index in
     let x = c.part-item.result in
-    let f = found_in false (tree_of d) in
+    let f = found_in c.args.plugin (tree_of d) in
     let all = map piece_of (map part_view value) in
     let rest = map piece_of (map part_view (drop (k + 1) value)) in
     let i = c.loop-part.invariant in

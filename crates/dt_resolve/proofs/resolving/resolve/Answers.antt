@@ -1,4 +1,4 @@
-use Rattle.std.proofs.Common.{◌≡◌, ◌∙◌, ◌==◌, ◌++◌, if◌then◌else◌, [], ℕ, List, false, map, length, Ok, sym, ap, ap₂, subst, arith}
+use Rattle.std.proofs.Common.{◌≡◌, ◌∙◌, ◌==◌, ◌++◌, if◌then◌else◌, [], ℕ, List, map, length, Ok, sym, ap, ap₂, subst, arith}
 use Rattle.std.specs.List.{list_any}
 use Rattle.dt_meaning.specs.Phandles.{given_of, has_number}
 use Rattle.dt_meaning.specs.References.{each, found_value, in_order, references}
@@ -23,8 +23,8 @@ returns-in-Err-clause-resolved c =
     let e = c.in-Err.error in
     let xs = c.args.properties.now in
     let order : map (read_laid c.nodes.result.now) xs ≡ in_order (tree_of d) = ap (λ rows. map (read_laid rows) xs) c.nodes.ensures ∙ read-order d xs c.requires.laid in
-    free-fault e (names_taken c.args.symbols false (tree_of d)) (then_do (given_of (in_order (tree_of d)) []) (λ _. references false (tree_of d))) (sym c.is_name_taken.ensures ∙ c.if-is_name_taken.false)
-    (fault-then e (given_of (in_order (tree_of d)) []) (λ _. references false (tree_of d))
+    free-fault e (names_taken c.args.symbols c.args.plugin (tree_of d)) (then_do (given_of (in_order (tree_of d)) []) (λ _. references c.args.plugin (tree_of d))) (sym c.is_name_taken.ensures ∙ c.if-is_name_taken.false)
+    (fault-then e (given_of (in_order (tree_of d)) []) (λ _. references c.args.plugin (tree_of d))
     (fault-same e (given_of (map (read_laid c.nodes.result.now) xs) []) (given_of (in_order (tree_of d)) []) (ap (λ es. given_of es []) (sym order)) c.in-Err.ensures.numbers))
 
 pub returns-in-Err-find_targets-clause-resolved : goal.returns-in-Err-find_targets-clause-resolved
@@ -36,9 +36,9 @@ returns-in-Err-find_targets-clause-resolved c =
     let numbers = map (number_at c.nodes.result.now) c.in-Ok.given.numbers.items in
     let given : given_of (in_order (tree_of d)) [] ≡ Ok numbers =
     ap (λ es. given_of es []) (sym (ap (λ rows. map (read_laid rows) xs) c.nodes.ensures ∙ order)) ∙ c.in-Ok.ensures.numbers in
-    free-fault e (names_taken c.args.symbols false (tree_of d)) (then_do (given_of (in_order (tree_of d)) []) (λ _. references false (tree_of d))) (sym c.is_name_taken.ensures ∙ c.if-is_name_taken.false)
-    (fault-behind e (given_of (in_order (tree_of d)) []) (references false (tree_of d)) numbers given
-    (fault-same e (each (found_value false (tree_of d)) (map (read_laid d.nodes.items) xs)) (references false (tree_of d)) (ap (each (found_value false (tree_of d))) (sym order)) c.in-Err-find_targets.ensures.targets))
+    free-fault e (names_taken c.args.symbols c.args.plugin (tree_of d)) (then_do (given_of (in_order (tree_of d)) []) (λ _. references c.args.plugin (tree_of d))) (sym c.is_name_taken.ensures ∙ c.if-is_name_taken.false)
+    (fault-behind e (given_of (in_order (tree_of d)) []) (references c.args.plugin (tree_of d)) numbers given
+    (fault-same e (each (found_value c.args.plugin (tree_of d)) (map (read_laid d.nodes.items) xs)) (references c.args.plugin (tree_of d)) (ap (each (found_value c.args.plugin (tree_of d))) (sym order)) c.in-Err-find_targets.ensures.targets))
 
 pub wanting-requires-clause-named : goal.wanting-requires-clause-named
 wanting-requires-clause-named c k x below =
@@ -82,7 +82,7 @@ returns-clause-resolved c =
         free = sym c.is_name_taken.ensures ∙ c.if-is_name_taken.false;
         given = ap (λ es. given_of es []) (sym (ap (λ rows. map (read_laid rows) xs) c.nodes.ensures ∙ order)) ∙ c.in-Ok.ensures.numbers
             ∙ ap (λ (rows : List NodeRow). Ok (map (number_at rows) given)) c.nodes.ensures;
-        found = ap (each (found_value false (tree_of d))) (sym order) ∙ found.1;
+        found = ap (each (found_value c.args.plugin (tree_of d))) (sym order) ∙ found.1;
         targets = found.2;
         new = all-numbered d c.requires.sound given up found.0 t found.2 c.in-Ok-find_targets.ensures.known taken
             (λ n. c.in-Ok.ensures.taken n ∙ ap (λ (rows : List NodeRow). has_number n (map (number_at rows) given)) c.nodes.ensures) c.args.symbols c.args.order.now c.requires.there c.requires.nodes c.in_ok-new.new.items

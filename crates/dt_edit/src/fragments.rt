@@ -1,0 +1,98 @@
+//! What fragments hold that stands nowhere in a plugin's text.
+ghost use Rattle.std.specs.Prelude.{◌≡◌, ◌∷◌, ◌++◌, [], length, map, All, IfOk, OnOk};
+ghost use Rattle.dt_meaning.specs.Names.{fragment_name};
+ghost use Rattle.dt_meaning.specs.Statements.{target_value};
+ghost use Rattle.dt_source.specs.Lawful.{IsLawfulEdit, IsLawfulTarget};
+ghost use Rattle.dt_source.specs.Tree.{item_view, part_view, target_view};
+ghost use Rattle.dt_edit.specs.Fragments.{AreFragments, first_names, target_values};
+ghost use Rattle.dt_edit.specs.Said.{item_of, piece_of, target_of};
+
+use dt_source::{Item, Part, Reference};
+use std::alloc::{AllocError, Global};
+
+/// The name of each fragment that a source may make, and the value of its property `target` or `target-path` by its extension.
+#[derive(Drop)]
+pub struct Fragments<'t> {
+    pub(crate) names: Vec<Vec<u8>>,
+    pub(crate) targets: Vec<Vec<Part<'t>>>,
+}
+
+fn fragment_name(alloc: Global, number: usize) -> Result<Vec<u8>, AllocError>
+    ensures { IfOk result (λ name. name.items ≡ fragment_name number) }
+{
+    let name = format!(in alloc; "fragment@{number}")?;
+    Ok(name.into_bytes())
+}
+
+/// A path as text, with the zero byte behind it.
+fn path_bytes(alloc: Global, path: &[u8]) -> Result<Vec<u8>, AllocError>
+    ensures { IfOk result (λ bytes. bytes.items ≡ path.now ++ 0 ∷ []) }
+{
+    let mut bytes = Vec::with_capacity(alloc, path.len() + 1)?;
+    bytes.extend_from_slice(path)?;
+    bytes.push(0)?;
+    Ok(bytes)
+}
+
+/// What the property of a fragment has that says what it extends.
+fn target_value<'t>(alloc: Global, target: &Reference<'t>) -> Result<Vec<Part<'t>>, AllocError>
+    requires { IsLawfulTarget (target_view target.now) }
+    ensures { IfOk result (λ value. map piece_of (map part_view value.items) ≡ target_value (target_of (target_view target.now))) }
+{
+    let part = match target {
+        Reference::Label(label) => Part::Phandle(Reference::Label(*label)),
+        Reference::Path(path) => Part::Bytes(path_bytes(alloc, *path)?),
+    };
+    let mut value = Vec::with_capacity(alloc, 1)?;
+    value.push(part)?;
+    Ok(value)
+}
+
+impl<'t> Fragments<'t> {
+    /// Adds the next name, and what the next extension extends.
+    fn add(&mut self, alloc: Global, target: &Reference<'t>) -> Result<(), AllocError>
+        requires even { map (λ v. v.items) self.old.names.items ≡ first_names (length self.old.targets.items) }
+        requires lawful { IsLawfulTarget (target_view target.now) }
+        ensures even { OnOk result (map (λ v. v.items) self.new.names.items ≡ first_names (length self.new.targets.items)) }
+        ensures targets { OnOk result (map (λ v. map piece_of (map part_view v.items)) self.new.targets.items ≡ map (λ v. map piece_of (map part_view v.items)) self.old.targets.items ++ target_value (target_of (target_view target.now)) ∷ []) }
+    {
+        let name = fragment_name(alloc, self.names.len())?;
+        let value = target_value(alloc, target)?;
+        self.names.push(name)?;
+        self.targets.push(value)?;
+        Ok(())
+    }
+
+    /// Adds what an item has, where it is an extension.
+    fn add_item(&mut self, alloc: Global, item: &Item<'t>) -> Result<(), AllocError>
+        requires even { map (λ v. v.items) self.old.names.items ≡ first_names (length self.old.targets.items) }
+        requires lawful { IsLawfulEdit (item_view item.now) }
+        ensures even { OnOk result (map (λ v. v.items) self.new.names.items ≡ first_names (length self.new.targets.items)) }
+        ensures targets { OnOk result (map (λ v. map piece_of (map part_view v.items)) self.new.targets.items ≡ map (λ v. map piece_of (map part_view v.items)) self.old.targets.items ++ target_values (item_of (item_view item.now))) }
+    {
+        match item {
+            Item::Extend { target, .. } => {
+                self.add(alloc, target)?;
+                Ok(())
+            }
+            Item::Root(_) | Item::Delete(_) => Ok(()),
+        }
+    }
+}
+
+/// A name and a target for each extension of a source, as each may make a fragment.
+pub fn fragments_of<'t>(alloc: Global, items: &[Item<'t>]) -> Result<Fragments<'t>, AllocError>
+    requires { All IsLawfulEdit (map item_view items.now) }
+    ensures { IfOk result (λ fragments. AreFragments (map item_of (map item_view items.now)) fragments) }
+{
+    let mut fragments = Fragments {
+        names: Vec::new(alloc),
+        targets: Vec::new(alloc),
+    };
+    for item in items {
+        fragments.add_item(alloc, item)?;
+    }
+    fragments.names.shrink_to_fit();
+    fragments.targets.shrink_to_fit();
+    Ok(fragments)
+}

@@ -1,0 +1,43 @@
+//! The way to a node, name by name.
+ghost use Rattle.std.specs.Prelude.{◌≡◌, ◌≤◌, ◌-◌, ◌^◌, ◌++◌, OnOk, length, min};
+ghost use Rattle.dt_tree.specs.Path.{behind_slashes};
+ghost use Rattle.dt_draft.specs.Rows.{IsGrown, path_of};
+
+use dt_draft::NodeRow;
+use std::alloc::AllocError;
+
+/// How many bytes the names on the way to a node have behind slashes, or the greatest number where there are more.
+pub fn names_size(nodes: &[NodeRow<'_>], node: usize) -> usize
+    requires grown { IsGrown nodes.now }
+    requires known { node ≤ length nodes.now }
+    ensures { result ≡ min (length (behind_slashes (path_of nodes.now node))) (2 ^ 64 - 1) }
+{
+    let mut size: usize = 0;
+    let mut at = node;
+    'up: while at != 0 {
+        let row = nodes[at - 1];
+        size = size.saturating_add(row.name.len()).saturating_add(1);
+        at = row.parent;
+    }
+    size
+}
+
+/// Puts the names on the way to a node behind a value, each behind a slash. As deep as the node.
+pub fn append_names(
+    value: &mut Vec<u8>,
+    nodes: &[NodeRow<'_>],
+    node: usize,
+) -> Result<(), AllocError>
+    requires grown { IsGrown nodes.now }
+    requires known { node ≤ length nodes.now }
+    ensures { OnOk result (value.new.items ≡ value.old.items ++ behind_slashes (path_of nodes.now node)) }
+{
+    if node == 0 {
+        return Ok(());
+    }
+    let row = nodes[node - 1];
+    append_names(value, nodes, row.parent)?;
+    value.push(b'/')?;
+    value.extend_from_slice(row.name)?;
+    Ok(())
+}
