@@ -1,0 +1,16 @@
+pub mod Composed
+pub mod FragmentRows
+pub mod Listing
+pub mod LocalSteps
+pub mod LookUps
+pub mod OpenRows
+pub mod OpeningLaws
+pub mod Phandles
+pub mod Raised
+pub mod ReadingLaws
+pub mod RowPlaces
+pub mod SymbolLaws
+pub mod Taking
+pub mod TextLaws
+pub mod TwinLaws
+pub mod WritingLaws

@@ -1,0 +1,144 @@
+-- Fixups, text by text.
+use Rattle.std.proofs.Common.{◌≡◌, ℕ, zero, suc, ◌+◌, ◌<◌, ◌≤◌, Bool, true, false, ◌&&◌, List, [], ◌∷◌, ◌++◌, length, get_or, drop, Some, None, Ok, Err, refl, sym, ap, ◌∙◌, subst, append_assoc}
+use Rattle.std.specs.Prelude.{Result}
+use Rattle.std.specs.List.{filter, flat_map}
+use Rattle.std.specs.Str.{bytes_eq}
+use Rattle.std.proofs.lemmas.List.{append-nil, at_drop_more, at_drop_all}
+use Rattle.dt_meaning.specs.Names.{fixups_name}
+use Rattle.dt_meaning.specs.Paths.{Path, same_path}
+use Rattle.dt_draft.specs.declared.table.NodeRow.{NodeRow}
+use Rattle.dt_draft.specs.declared.table.Draft.{Draft}
+use Rattle.dt_draft.specs.Rows.{IsGrown, path_of, row_at}
+use Rattle.dt_draft.proofs.Climbs.{path-step}
+use Rattle.dt_listing.specs.ByRow.{row_property}
+use Rattle.dt_listing.specs.Listed.{Lent}
+use Rattle.overlay_meaning.specs.Steps.{Fault, BadFixup, each, then_do}
+use Rattle.overlay_meaning.specs.Shifted.{Fixup, Place, Value, fixup_in, fixups_in, is_fixups, place_of}
+use Rattle.overlay_meaning.specs.Texts.{parts}
+use Rattle.dt_fixup.specs.declared.error.OverlayError.{OverlayError}
+use Rattle.dt_fixup.specs.OverlayFault.{IsFault}
+use Rattle.dt_fixup.specs.Private.Fixing.{gathered, row_fixups}
+use Rattle.dt_fixup.proofs.LocalSteps.{definitions, definitions-end, definitions-step, fault-then}
+
+-- ---- the node of fixups
+two-names : (q : Path) (m n : List ℕ) → same_path (fixups_name ∷ []) ((q ++ m ∷ []) ++ n ∷ []) ≡ false
+two-names [] m n = and-none (bytes_eq fixups_name m) where
+  and-none : (b : Bool) → (b && false) ≡ false
+  and-none true = refl
+  and-none false = refl
+two-names (x ∷ []) m n = and-none (bytes_eq fixups_name x) where
+  and-none : (b : Bool) → (b && false) ≡ false
+  and-none true = refl
+  and-none false = refl
+two-names (x ∷ y ∷ q) m n = and-none (bytes_eq fixups_name x) where
+  and-none : (b : Bool) → (b && false) ≡ false
+  and-none true = refl
+  and-none false = refl
+
+and-true : (b : Bool) → (b && true) ≡ b
+and-true true = refl
+and-true false = refl
+
+pub fixups-top : (rows : List NodeRow) → IsGrown rows → (n k : ℕ) → n ≡ suc k → (row_at rows k).parent ≡ 0 → same_path (fixups_name ∷ []) (path_of rows n) ≡ bytes_eq fixups_name (row_at rows k).name.now
+fixups-top rows grown n k at top =
+    ap (λ m. same_path (fixups_name ∷ []) (path_of rows m)) at ∙ ap (same_path (fixups_name ∷ [])) (path-step rows grown k)
+    ∙ ap (λ m. same_path (fixups_name ∷ []) (path_of rows m ++ (row_at rows k).name.now ∷ [])) top ∙ and-true (bytes_eq fixups_name (row_at rows k).name.now)
+
+below : (rows : List NodeRow) → IsGrown rows → (m : ℕ) (n : List ℕ) → (m ≡ 0 → ⊥) → same_path (fixups_name ∷ []) (path_of rows m ++ n ∷ []) ≡ false
+below rows grown zero n some = absurd (some refl)
+below rows grown (suc j) n some = ap (λ p. same_path (fixups_name ∷ []) (p ++ n ∷ [])) (path-step rows grown j) ∙ two-names (path_of rows (row_at rows j).parent) (row_at rows j).name.now n
+
+pub fixups-below : (rows : List NodeRow) → IsGrown rows → (n k : ℕ) → n ≡ suc k → ((row_at rows k).parent ≡ 0 → ⊥) → same_path (fixups_name ∷ []) (path_of rows n) ≡ false
+fixups-below rows grown n k at some =
+    ap (λ m. same_path (fixups_name ∷ []) (path_of rows m)) at ∙ ap (same_path (fixups_name ∷ [])) (path-step rows grown k)
+    ∙ below rows grown (row_at rows k).parent (row_at rows k).name.now some
+
+-- ---- one after the other
+-- what a loop has so far, and what is left
+abbrev pub IsSoFar : {A : Type 0} → Result (List A) Fault → Result (List A) Fault → List A → List A → Type 0
+IsSoFar {A} all rest old new = (fs : List A) × (all ≡ then_do rest (λ gs. Ok (fs ++ gs))) × (new ≡ old ++ fs)
+
+then-ok : {A : Type 0} (r : Result (List A) Fault) → r ≡ then_do r (λ gs. Ok ([] ++ gs))
+then-ok (Ok a) = refl
+then-ok (Err e) = refl
+
+pub so-far-start : {A : Type 0} (all : Result (List A) Fault) (old : List A) → IsSoFar all all old old
+so-far-start all old = ([], then-ok all, sym (append-nil old))
+
+then-then : {A B C : Type 0} (r : Result A Fault) (g : A → Result B Fault) (h : B → Result C Fault) → then_do (then_do r g) h ≡ then_do r (λ a. then_do (g a) h)
+then-then (Ok a) g h = refl
+then-then (Err e) g h = refl
+
+regroup : {A : Type 0} (r : Result (List A) Fault) (fs gs : List A) → then_do r (λ hs. Ok (fs ++ (gs ++ hs))) ≡ then_do r (λ hs. Ok ((fs ++ gs) ++ hs))
+regroup (Ok hs) fs gs = ap (λ xs. Ok xs) (sym (append_assoc fs gs hs))
+regroup (Err e) fs gs = refl
+
+pub so-far-more : {A : Type 0} (all rest step next : Result (List A) Fault) (old new newer : List A) → IsSoFar all rest old new
+    → rest ≡ then_do step (λ gs. then_do next (λ hs. Ok (gs ++ hs))) → ((gs : List A) × (step ≡ Ok gs) × (newer ≡ new ++ gs)) → IsSoFar all next old newer
+so-far-more all rest step next old new newer so splits added =
+    let fs = so.0 in
+    let gs = added.0 in (
+      fs ++ gs,
+      so.1 ∙ ap (λ r. then_do r (λ hs. Ok (fs ++ hs))) (splits ∙ ap (λ r. then_do r (λ gs. then_do next (λ hs. Ok (gs ++ hs)))) added.1)
+          ∙ then-then next (λ hs. Ok (gs ++ hs)) (λ hs. Ok (fs ++ hs)) ∙ regroup next fs gs,
+      added.2 ∙ ap (λ xs. xs ++ gs) so.2 ∙ append_assoc old fs gs,
+    )
+
+pub so-far-fault : {A : Type 0} (e : OverlayError) (all rest step next : Result (List A) Fault) (old new : List A) → IsSoFar all rest old new
+    → rest ≡ then_do step (λ gs. then_do next (λ hs. Ok (gs ++ hs))) → IsFault e step → IsFault e all
+so-far-fault {A} e all rest step next old new so splits h =
+    subst (λ (r : Result (List A) Fault). IsFault e r) (sym (so.1 ∙ ap (λ r. then_do r (λ hs. Ok (so.0 ++ hs))) splits))
+    (fault-then e (then_do step (λ gs. then_do next (λ hs. Ok (gs ++ hs)))) (λ hs. Ok (so.0 ++ hs)) (fault-then e step (λ gs. then_do next (λ hs. Ok (gs ++ hs))) h))
+
+pub so-far-end : {A : Type 0} (all rest : Result (List A) Fault) (old new : List A) → IsSoFar all rest old new → rest ≡ Ok [] → (fs : List A) × (all ≡ Ok fs) × (new ≡ old ++ fs)
+so-far-end all rest old new so none = (so.0, so.1 ∙ ap (λ r. then_do r (λ gs. Ok (so.0 ++ gs))) none ∙ ap (λ xs. Ok xs) (append-nil so.0), so.2)
+
+-- ---- rows
+gathered-step : (e : Value) (es : List Value) → gathered (e ∷ es) ≡ then_do (fixups_in e) (λ gs. then_do (gathered es) (λ hs. Ok (gs ++ hs)))
+gathered-step e es = by (fixups_in e) (each fixups_in es) where
+  by : (r : Result (List Fixup) Fault) (q : Result (List (List Fixup)) Fault)
+      → then_do (then_do r (λ b. then_do q (λ bs. Ok (b ∷ bs)))) (λ fss. Ok (flat_map (λ f. f) fss)) ≡ then_do r (λ gs. then_do (then_do q (λ fss. Ok (flat_map (λ f. f) fss))) (λ hs. Ok (gs ++ hs)))
+  by (Err f) q = refl
+  by (Ok a) (Err f) = refl
+  by (Ok a) (Ok b) = refl
+
+one-gathered : (e : Value) → gathered (e ∷ []) ≡ fixups_in e
+one-gathered e = by (fixups_in e) where
+  by : (r : Result (List Fixup) Fault) → then_do (then_do r (λ b. Ok (b ∷ []))) (λ fss. Ok (flat_map (λ f. f) fss)) ≡ r
+  by (Err f) = refl
+  by (Ok a) = ap (λ xs. Ok xs) (append-nil a)
+
+pub row-fixups : (d : Draft Lent) (k : ℕ) → is_fixups (row_property d k) ≡ true → row_fixups d k ≡ fixups_in (row_property d k)
+row-fixups d k is = rw is (one-gathered (row_property d k))
+
+pub row-none : (d : Draft Lent) (k : ℕ) → is_fixups (row_property d k) ≡ false → row_fixups d k ≡ Ok []
+row-none d k other = rw other refl
+
+rows-split : (e : Value) (es : List Value) (b : Bool) → is_fixups e ≡ b → gathered (filter is_fixups (e ∷ es)) ≡ then_do (gathered (filter is_fixups (e ∷ []))) (λ gs. then_do (gathered (filter is_fixups es)) (λ hs. Ok (gs ++ hs)))
+rows-split e es true t = rw t (gathered-step e (filter is_fixups es) ∙ ap (λ r. then_do r (λ gs. then_do (gathered (filter is_fixups es)) (λ hs. Ok (gs ++ hs)))) (sym (one-gathered e)))
+rows-split e es false t = rw t (then-ok (gathered (filter is_fixups es)))
+
+pub rows-more : (d : Draft Lent) (k : ℕ) → k < length d.properties.items
+    → gathered (filter is_fixups (definitions d k)) ≡ then_do (row_fixups d k) (λ gs. then_do (gathered (filter is_fixups (definitions d (k + 1)))) (λ hs. Ok (gs ++ hs)))
+rows-more d k below' = ap (λ es. gathered (filter is_fixups es)) (definitions-step d k below') ∙ rows-split (row_property d k) (definitions d (k + 1)) (is_fixups (row_property d k)) refl
+
+pub rows-end : (d : Draft Lent) (k : ℕ) → length d.properties.items ≤ k → gathered (filter is_fixups (definitions d k)) ≡ Ok []
+rows-end d k past = ap (λ es. gathered (filter is_fixups es)) (definitions-end d k past)
+
+-- ---- texts
+pub texts-more : (f : List ℕ → Result Fixup Fault) (all : List (List ℕ)) (i : ℕ) (text : List ℕ) → (i < length all) × (text ≡ get_or all i text)
+    → each f (drop i all) ≡ then_do (then_do (f text) (λ a. Ok (a ∷ []))) (λ gs. then_do (each f (drop (i + 1) all)) (λ hs. Ok (gs ++ hs)))
+texts-more f all i text h = at_drop_more (each f) all i text h.0 ∙ ap (λ (x : List ℕ). then_do (f x) (λ b. then_do (each f (drop (i + 1) all)) (λ bs. Ok (b ∷ bs)))) (sym h.1) ∙ by (f text) (each f (drop (i + 1) all)) where
+  by : (r : Result Fixup Fault) (q : Result (List Fixup) Fault) → then_do r (λ b. then_do q (λ bs. Ok (b ∷ bs))) ≡ then_do (then_do r (λ a. Ok (a ∷ []))) (λ gs. then_do q (λ hs. Ok (gs ++ hs)))
+  by (Ok a) q = refl
+  by (Err e) q = refl
+
+pub texts-end : (f : List ℕ → Result Fixup Fault) (all : List (List ℕ)) (i : ℕ) → length all ≤ i → each f (drop i all) ≡ Ok []
+texts-end f all i past = at_drop_all (each f) all i past
+
+-- ---- one text
+pub text-place : (l text : List ℕ) (a : Place) → place_of (parts 58 text) ≡ Some a → fixup_in l text ≡ Ok (record { symbol = l; at = a })
+text-place l text a some = rw some refl
+
+pub text-none : (l text : List ℕ) → place_of (parts 58 text) ≡ None → fixup_in l text ≡ Err BadFixup
+text-none l text none = rw none refl

@@ -1,0 +1,53 @@
+use Rattle.std.proofs.Common.{◌≡◌, ◌∙◌, ◌≤◌, ◌+◌, Some, None, false, length, ap, sym, arith, rules}
+use Rattle.std.specs.Prelude.{codes}
+use Rattle.std.specs.Str.{bytes_eq}
+use Rattle.dt_tree.specs.Phandle.{is_reserved}
+use Rattle.dt_draft.specs.Rows.{path_of, property_of, node_path}
+use Rattle.overlay_meaning.specs.Shifted.{place}
+use Rattle.dt_fixup.specs.Sheet.{shown, value_at}
+use Rattle.dt_fixup.proofs.LookUps.{row-there, value-none, value-some}
+use Rattle.dt_fixup.proofs.OpenRows.{not-there, not-inside, open-place}
+use Rattle.dt_fixup.proofs.placing.open_row.Goals as goal
+
+pub returns-in_default : goal.returns-in_default
+returns-in_default c =
+    let s = c.args.sheet.now in
+    let none : property_of s.draft c.args.node c.args.name.now ≡ None = sym c.property.ensures ∙ c.in_default.is in
+    not-there (place (node_path s.draft c.args.node) c.args.name.now c.args.offset) (shown s).properties
+    (value-none s.draft c.requires.sound.whole (value_at s) c.args.node c.args.name.now c.requires.known none)
+
+pub value-length-requires-clause-known : goal.value-length-requires-clause-known
+value-length-requires-clause-known c =
+    let s = c.args.sheet.now in
+    let found : property_of s.draft c.args.node c.args.name.now ≡ Some c.in-Some.row = sym c.property.ensures ∙ c.in-Some.is in
+    (row-there s.draft c.requires.sound.whole c.args.node c.args.name.now c.in-Some.row found).0
+
+pub returns-then-length-lt4 : goal.returns-then-length-lt4
+returns-then-length-lt4 c =
+    let s = c.args.sheet.now in
+    let found : property_of s.draft c.args.node c.args.name.now ≡ Some c.in-Some.row = sym c.property.ensures ∙ c.in-Some.is in
+    let same : length c.value-length.result.now ≡ length (value_at s c.in-Some.row) = ap length c.value-length.ensures in
+    not-inside (place (node_path s.draft c.args.node) c.args.name.now c.args.offset) (shown s).properties (value_at s c.in-Some.row)
+    (value-some s.draft c.requires.sound.whole (value_at s) c.args.node c.args.name.now c.in-Some.row c.requires.known found) (omega (arith, same))
+
+pub returns-then-length-offset : goal.returns-then-length-offset
+returns-then-length-offset c =
+    let s = c.args.sheet.now in
+    let found : property_of s.draft c.args.node c.args.name.now ≡ Some c.in-Some.row = sym c.property.ensures ∙ c.in-Some.is in
+    let same : length c.value-length.result.now ≡ length (value_at s c.in-Some.row) = ap length c.value-length.ensures in
+    not-inside (place (node_path s.draft c.args.node) c.args.name.now c.args.offset) (shown s).properties (value_at s c.in-Some.row)
+    (value-some s.draft c.requires.sound.whole (value_at s) c.args.node c.args.name.now c.in-Some.row c.requires.known found) (omega (arith, same))
+
+pub returns : goal.returns
+returns c =
+    let s = c.args.sheet.now in
+    let found : property_of s.draft c.args.node c.args.name.now ≡ Some c.in-Some.row = sym c.property.ensures ∙ c.in-Some.is in
+    let same : length c.value-length.result.now ≡ length (value_at s c.in-Some.row) = ap length c.value-length.ensures in
+    let inside : c.args.offset + 4 ≤ length (value_at s c.in-Some.row) = omega (arith, same) in
+    let plain : is_reserved (node_path s.draft c.args.node) ≡ false = ap (λ rows. is_reserved (path_of rows c.args.node)) (sym c.nodes.ensures) ∙ sym c.is_reserved.ensures ∙ c.if-is_reserved.false in
+    let other : bytes_eq c.args.name.now (codes "phandle") ≡ false = search rules in (
+      open-place (place (node_path s.draft c.args.node) c.args.name.now c.args.offset) (shown s).properties (value_at s c.in-Some.row)
+          (value-some s.draft c.requires.sound.whole (value_at s) c.args.node c.args.name.now c.in-Some.row c.requires.known found) inside plain other,
+      found,
+      inside,
+    )

@@ -1,0 +1,13 @@
+use Rattle.std.proofs.Common.{◌≡◌, length, ap, arith}
+use Rattle.dt_draft.specs.Rows.{property_at}
+use Rattle.dt_fixup.proofs.reading.read_row.Goals as goal
+
+pub is_fixups-requires-clause-known : goal.is_fixups-requires-clause-known
+is_fixups-requires-clause-known c =
+    let d = c.args.draft.now in
+    let ps = d.properties.items in
+    let k = c.args.row in
+    let node : (property_at c.properties.result.now k).node ≡ (property_at ps k).node = ap (λ xs. (property_at xs k).node) c.properties.ensures in
+    let known = c.requires.whole.sound.known k in
+    let same : length c.nodes.result.now ≡ length d.nodes.items = ap length c.nodes.ensures in
+    omega (arith, node, known, same)

@@ -1,0 +1,4 @@
+pub mod OverlayError
+pub mod OverlayFault
+pub mod Private
+pub mod Sheet

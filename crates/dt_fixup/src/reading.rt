@@ -1,0 +1,106 @@
+//! The fixups that an overlay's texts name.
+ghost use Rattle.std.specs.Prelude.{◌≡◌, ◌≤◌, ◌<◌, ◌∷◌, [], length, map};
+ghost use Rattle.std.specs.List.{filter};
+ghost use Rattle.dt_listing.specs.Listed.{IsWhole, lists};
+ghost use Rattle.dt_meaning.specs.Edits.{definition};
+ghost use Rattle.dt_meaning.specs.Names.{fixups_name};
+ghost use Rattle.dt_meaning.specs.Paths.{same_path};
+ghost use Rattle.dt_draft.specs.Rows.{IsGrown, path_of};
+ghost use Rattle.overlay_meaning.specs.Steps.{each};
+ghost use Rattle.overlay_meaning.specs.Shifted as meaning;
+ghost use Rattle.overlay_meaning.specs.Shifted.{fixup_in, fixups_in};
+ghost use Rattle.overlay_meaning.specs.Texts.{parts};
+ghost use Rattle.dt_fixup.specs.Private.Fixing.{Adds, gathered, named, row_fixups};
+
+use crate::error::OverlayError;
+use crate::local::lent;
+use crate::texts::{PlaceText, place_in, unended};
+use dt_draft::{Draft, NodeRow};
+use std::alloc::Global;
+
+/// A fixup as its text names it, with the name of the symbol.
+#[derive(Clone, Copy)]
+pub(crate) struct Named<'t> {
+    pub symbol: &'t [u8],
+    pub place: PlaceText<'t>,
+}
+
+/// Whether a node is `/__fixups__`.
+fn is_fixups(nodes: &[NodeRow<'_>], node: usize) -> bool
+    requires grown { IsGrown nodes.now }
+    requires known { node ≤ length nodes.now }
+    ensures { result ≡ same_path (fixups_name ∷ []) (path_of nodes.now node) }
+{
+    if node == 0 {
+        return false;
+    }
+    let row = nodes[node - 1];
+    if row.parent != 0 {
+        return false;
+    }
+    row.name == b"__fixups__".as_slice()
+}
+
+/// Adds the fixups of texts between zero bytes.
+fn read_texts<'t>(
+    found: &mut Vec<Named<'t>>,
+    symbol: &'t [u8],
+    texts: &'t [u8],
+) -> Result<(), OverlayError>
+    ensures { Adds (each (fixup_in symbol.now) (parts 0 texts.now)) (map named found.old.items) (map named found.new.items) result }
+{
+    for text in texts.split(|byte| *byte == 0) {
+        let Some(place) = place_in(text) else {
+            return Err(OverlayError::BadFixup);
+        };
+        found.push(Named { symbol, place })?;
+    }
+    Ok(())
+}
+
+/// Adds the fixups of a property.
+fn read_value<'t>(
+    found: &mut Vec<Named<'t>>,
+    symbol: &'t [u8],
+    value: &'t [u8],
+) -> Result<(), OverlayError>
+    ensures { Adds (fixups_in (definition [] symbol.now value.now)) (map named found.old.items) (map named found.new.items) result }
+{
+    match unended(value) {
+        None => Err(OverlayError::BadFixup),
+        Some(texts) => read_texts(found, symbol, texts),
+    }
+}
+
+/// Adds the fixups of a property's row, where it has some.
+fn read_row<'t>(
+    found: &mut Vec<Named<'t>>,
+    draft: &Draft<'t, &'t [u8]>,
+    row: usize,
+) -> Result<(), OverlayError>
+    requires whole { IsWhole draft.now }
+    requires known { row < length draft.now.properties.items }
+    ensures { Adds (row_fixups draft.now row) (map named found.old.items) (map named found.new.items) result }
+{
+    let property = draft.properties()[row];
+    if !is_fixups(draft.nodes(), property.node) {
+        return Ok(());
+    }
+    read_value(found, property.name, lent(property.value))
+}
+
+/// Adds all fixups of an overlay, in order.
+pub(crate) fn read_fixups<'t>(
+    found: &mut Vec<Named<'t>>,
+    draft: &Draft<'t, &'t [u8]>,
+) -> Result<(), OverlayError>
+    requires whole { IsWhole draft.now }
+    ensures { Adds (gathered (filter meaning.is_fixups (lists draft.now).properties)) (map named found.old.items) (map named found.new.items) result }
+{
+    for row in 0..draft.properties().len() {
+        if let Err(error) = read_row(found, draft, row) {
+            return Err(error);
+        }
+    }
+    Ok(())
+}

@@ -1,0 +1,161 @@
+//! An overlay's rows, with the values that were changed.
+ghost use Rattle.std.specs.Prelude.{◌≡◌, ◌+◌, ◌<◌, ◌≤◌, ◌==◌, ◌&&◌, ◌||◌, ℕ, None, not, length, take, drop, [], if◌then◌else◌, IfOk, OnOk, OnErr, IsSome};
+ghost use Rattle.std.specs.Int.{from_be_bytes, to_be_bytes, w32};
+ghost use Rattle.dt_listing.specs.Listed.{IsWhole, lists};
+ghost use Rattle.dt_fixup.specs.Sheet.{IsSheet, change_at, shown, value_at};
+ghost use Rattle.overlay_meaning.specs.Shifted.{Shifting, written};
+ghost use Rattle.dt_fixup.specs.Private.Marks.{is_inside, is_taken};
+ghost use Rattle.dt_fixup.specs.Private.Steps.{IsAt, is_marked};
+
+use dt_draft::Draft;
+use std::alloc::{AllocError, Global};
+
+/// A value that was changed, and which of its bytes are those of places of phandles.
+#[derive(Drop)]
+pub struct Change {
+    pub(crate) bytes: Vec<u8>,
+    // what lies behind its end isn't that of a place
+    pub(crate) taken: Vec<bool>,
+}
+
+/// An overlay's rows, and the change of each property.
+#[derive(Drop)]
+pub struct Sheet<'t> {
+    pub draft: Draft<'t, &'t [u8]>,
+    pub(crate) changes: Vec<Option<Change>>,
+}
+
+/// The number in the four bytes at an offset.
+pub(crate) fn number_in(value: &[u8], offset: usize) -> u32
+    requires { offset + 4 ≤ length value.now }
+    ensures { result ≡ from_be_bytes w32 (take 4 (drop offset value.now)) }
+{
+    let mut word = [0; 4];
+    word.copy_from_slice(&value[offset..offset + 4]);
+    u32::from_be_bytes(word)
+}
+
+impl<'t> Sheet<'t> {
+    /// The rows of an overlay, before any change.
+    pub(crate) fn new(alloc: Global, draft: Draft<'t, &'t [u8]>) -> Result<Self, AllocError>
+        requires { IsWhole draft }
+        ensures sound { IfOk result (λ sheet. IsSheet sheet) }
+        ensures draft { IfOk result (λ sheet. sheet.draft ≡ draft.entry) }
+        ensures shown { IfOk result (λ sheet. shown sheet ≡ lists draft.entry) }
+        ensures start { IfOk result (λ sheet. (x : Shifting) → x.properties ≡ (lists draft.entry).properties → x.places ≡ [] → IsAt x sheet) }
+        ensures unchanged { IfOk result (λ sheet. (k : ℕ) → change_at sheet k ≡ None) }
+    {
+        let count = draft.properties().len();
+        let mut changes = Vec::with_capacity(alloc, count)?;
+        for _row in 0..count {
+            changes.push(None)?;
+        }
+        Ok(Sheet { draft, changes })
+    }
+
+    /// The value of a property as it is now.
+    pub fn value(&self, property: usize) -> &[u8]
+        requires sound { IsSheet self.now }
+        requires known { property < length self.now.draft.properties.items }
+        ensures { result.now ≡ value_at self.now property }
+    {
+        match &self.changes[property] {
+            Some(change) => change.bytes.as_slice(),
+            None => match self.draft.properties()[property].value {
+                Some(value) => value,
+                None => &[],
+            },
+        }
+    }
+
+    /// The number in the four bytes at an offset of a property's value.
+    pub(crate) fn number_at(&self, property: usize, offset: usize) -> u32
+        requires sound { IsSheet self.now }
+        requires known { property < length self.now.draft.properties.items }
+        requires fits { offset + 4 ≤ length (value_at self.now property) }
+        ensures { result ≡ from_be_bytes w32 (take 4 (drop offset (value_at self.now property))) }
+    {
+        number_in(self.value(property), offset)
+    }
+
+    // Makes the change of a property where there is none, with the value as it is.
+    fn open(&mut self, property: usize) -> Result<(), AllocError>
+        requires sound { IsSheet self.old }
+        requires known { property < length self.old.draft.properties.items }
+        ensures sound { IsSheet self.new }
+        ensures draft { self.new.draft ≡ self.old.draft }
+        ensures values { (k : ℕ) → value_at self.new k ≡ value_at self.old k }
+        ensures marks { (k i : ℕ) → is_marked (change_at self.new k) i ≡ is_marked (change_at self.old k) i }
+        ensures open { OnOk result (IsSome (change_at self.new property)) }
+        ensures kept { OnErr result (self.new ≡ self.old) }
+    {
+        if self.changes[property].is_some() {
+            return Ok(());
+        }
+        let alloc = *self.changes.allocator();
+        let bytes = Vec::from_slice(alloc, self.value(property))?;
+        self.changes[property] = Some(Change {
+            bytes,
+            taken: Vec::new(alloc),
+        });
+        Ok(())
+    }
+
+    /// Writes a number at an offset of a property's value.
+    pub(crate) fn write(
+        &mut self,
+        property: usize,
+        offset: usize,
+        number: u32,
+    ) -> Result<(), AllocError>
+        requires sound { IsSheet self.old }
+        requires known { property < length self.old.draft.properties.items }
+        requires fits { offset + 4 ≤ length (value_at self.old property) }
+        ensures sound { IsSheet self.new }
+        ensures draft { self.new.draft ≡ self.old.draft }
+        ensures values { OnOk result ((k : ℕ) → value_at self.new k ≡ (if k == property then written offset (to_be_bytes w32 number) (value_at self.old k) else value_at self.old k)) }
+        ensures marks { OnOk result ((k i : ℕ) → is_marked (change_at self.new k) i ≡ is_marked (change_at self.old k) i) }
+        ensures kept { OnErr result (self.new ≡ self.old) }
+    {
+        self.open(property)?;
+        if let Some(change) = &mut self.changes[property] {
+            change.write(offset, number);
+        }
+        Ok(())
+    }
+
+    // Whether one of the four bytes at an offset is that of a place.
+    fn is_taken(&self, property: usize, offset: usize) -> bool
+        requires sound { IsSheet self.now }
+        requires known { property < length self.now.draft.properties.items }
+        requires fits { offset + 4 ≤ length (value_at self.now property) }
+        ensures { result ≡ is_taken (change_at self.now property) offset }
+    {
+        match &self.changes[property] {
+            Some(change) => change.is_taken(offset),
+            None => false,
+        }
+    }
+
+    /// Takes the four bytes at an offset for a place, and answers whether they were free.
+    pub(crate) fn take(&mut self, property: usize, offset: usize) -> Result<bool, AllocError>
+        requires sound { IsSheet self.old }
+        requires known { property < length self.old.draft.properties.items }
+        requires fits { offset + 4 ≤ length (value_at self.old property) }
+        ensures sound { IsSheet self.new }
+        ensures draft { self.new.draft ≡ self.old.draft }
+        ensures values { (k : ℕ) → value_at self.new k ≡ value_at self.old k }
+        ensures free { IfOk result (λ free. free ≡ not (is_taken (change_at self.old property) offset)) }
+        ensures marks { IfOk result (λ free. (k i : ℕ) → is_marked (change_at self.new k) i ≡ ((free && (k == property) && is_inside offset i) || is_marked (change_at self.old k) i)) }
+        ensures kept { OnErr result ((k i : ℕ) → is_marked (change_at self.new k) i ≡ is_marked (change_at self.old k) i) }
+    {
+        if self.is_taken(property, offset) {
+            return Ok(false);
+        }
+        self.open(property)?;
+        if let Some(change) = &mut self.changes[property] {
+            change.mark(offset)?;
+        }
+        Ok(true)
+    }
+}

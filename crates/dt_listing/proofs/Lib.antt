@@ -1,0 +1,12 @@
+pub mod Behind
+pub mod Listings
+pub mod LookUps
+pub mod ParentRuns
+pub mod PathRuns
+pub mod Ranges
+pub mod RowOrder
+pub mod RunsBelow
+pub mod Steps
+pub mod TreePaths
+pub mod WholeDrafts
+pub mod WholeRows

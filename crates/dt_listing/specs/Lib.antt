@@ -1,0 +1,4 @@
+pub mod ByRow
+pub mod Listed
+pub mod Private
+pub mod Runs

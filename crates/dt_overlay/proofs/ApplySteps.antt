@@ -1,0 +1,104 @@
+-- From an overlay's sheet to the result.
+use Rattle.std.proofs.Common.{◌≡◌, ℕ, ◌<◌, ◌≤◌, ◌-◌, ◌^◌, Bool, true, false, List, [], ◌∷◌, Option, Some, None, Result, Ok, Err, cond, refl, sym, ap, ap₂, ◌∙◌, subst}
+use Rattle.std.specs.Prelude.{MatchOption, MatchResult}
+use Rattle.std.specs.List.{filter, list_all}
+use Rattle.std.proofs.lemmas.Bool.{and_parts}
+use Rattle.dt_tree.specs.PathMap.{path_map, tree_map}
+use Rattle.dt_tree.specs.TreeData.{TreeData, IsTree, is_reserve, tree_data}
+use Rattle.dt_meaning.specs.MapOf.{map_of}
+use Rattle.dt_overlay.specs.Applied.{IsAppliedWithin}
+use Rattle.dt_overlay.specs.Private.Applying.{IsRoot, IsRootOrTooLong}
+use Rattle.dt_overlay.proofs.Sizes.{draft-longer}
+use Rattle.dt_tree.specs.NodeData.{NodeData}
+use Rattle.dt_meaning.specs.Names.{symbols_name}
+use Rattle.dt_meaning.specs.Paths.{same_path}
+use Rattle.dt_meaning.specs.Resolved.{Resolved}
+use Rattle.dt_assembly.specs.Lists.{lists_of}
+use Rattle.dt_draft.specs.declared.table.Draft.{Draft}
+use Rattle.dt_assembly.specs.Sizes.{size_in}
+use Rattle.dt_listing.specs.Listed.{IsWhole, Lent, lists}
+use Rattle.dt_fixup.specs.declared.error.OverlayError.{OverlayError}
+use Rattle.dt_fixup.specs.OverlayFault.{IsFault}
+use Rattle.overlay_meaning.specs.Applied.{overlay_result, with_fragment, with_symbols}
+use Rattle.overlay_meaning.specs.Shifted.{Value, fragments, shifted_overlay}
+use Rattle.overlay_meaning.specs.Steps.{Fault, fold, then_do}
+use Rattle.dt_overlay.specs.Private.Symbols.{laid_over, symbols_of, with_all}
+use Rattle.dt_overlay.proofs.Folded.{fault-then}
+use Rattle.dt_overlay.proofs.Shallows.{IsShallow, fold-shallow, symbols-shallow}
+use Rattle.dt_overlay.proofs.SymbolSteps.{symbols-are}
+
+module _ (base o t u : Resolved) (es : List Value) (folded : fold (with_fragment base o) (fragments o) base ≡ Ok t) (symbols : es ≡ symbols_of base o) (put : u ≡ with_all es t) where
+  abbrev given : List Value
+  given = filter (λ e. same_path (symbols_name ∷ []) e.path) o.properties
+
+  with-is : with_symbols base o given t ≡ u
+  with-is = symbols-are base o given t ∙ ap (λ xs. with_all xs t) (sym symbols) ∙ sym put
+
+  pub laid-is : laid_over base o ≡ Ok u
+  laid-is = ap (λ r. then_do r (λ x. Ok (with_symbols base o given x))) folded ∙ ap (λ x. Ok x) with-is
+
+  pub laid-shallow : IsShallow base → IsShallow u
+  laid-shallow s = subst IsShallow with-is (symbols-shallow base o given t (fold-shallow base o (fragments o) base t folded s))
+
+-- ---- all together
+module _ (a b : NodeData) (base over : Resolved) (ea : base ≡ lists_of a) (eb : over ≡ lists_of b) where
+  abbrev pub all : Result Resolved Fault
+  all = overlay_result (lists_of a) (lists_of b)
+
+  all-is : then_do (shifted_overlay base over) (laid_over base) ≡ all
+  all-is = ap₂ (λ x y. then_do (shifted_overlay x y) (laid_over x)) ea eb
+
+  pub shift-fault : (e : OverlayError) → IsFault e (shifted_overlay base over) → IsFault e all
+  shift-fault e h = subst (IsFault e) all-is (fault-then e (shifted_overlay base over) (laid_over base) h)
+
+  module _ (o : Resolved) (shifted : shifted_overlay base over ≡ Ok o) where
+    pub laid-all : laid_over base o ≡ all
+    laid-all = ap (λ r. then_do r (laid_over base)) (sym shifted) ∙ all-is
+
+    pub laid-fault : (e : OverlayError) → IsFault e (laid_over base o) → IsFault e all
+    laid-fault e h = subst (IsFault e) laid-all h
+
+    pub laid-result : (u : Resolved) → laid_over base o ≡ Ok u → all ≡ Ok u
+    laid-result u h = sym laid-all ∙ h
+
+-- ---- roots
+pub root-of : (wanted : Result Resolved Fault) (limit : ℕ) (d : Draft Lent) → IsWhole d → wanted ≡ Ok (lists d) → (found : Option NodeData)
+    → MatchOption found (limit < size_in (lists d).properties) (λ root. root.name ≡ [])
+    → MatchOption found (limit < size_in (lists d).properties) (λ root. path_map root ≡ map_of (lists d))
+    → MatchOption found (limit < size_in (lists d).properties) (λ _. limit < 2 ^ 64 - 1 → size_in (lists d).properties ≤ limit)
+    → IsRootOrTooLong wanted limit found
+root-of wanted limit d w is None a b c = record { lists = lists d; result = is; longer = a; trees = draft-longer d w }
+root-of wanted limit d w is (Some root) a b c = record { lists = lists d; result = is; name = a; map = b; fits = c }
+
+pub root-all : (a b : NodeData) (base over : Resolved) → base ≡ lists_of a → over ≡ lists_of b → (o : Resolved) → shifted_overlay base over ≡ Ok o → (limit : ℕ) (found : Option NodeData)
+    → IsRootOrTooLong (laid_over base o) limit found → IsRootOrTooLong (overlay_result (lists_of a) (lists_of b)) limit found
+root-all a b base over ea eb o shifted limit found h = subst (λ (r : Result Resolved Fault). IsRootOrTooLong r limit found) (laid-all a b base over ea eb o shifted) h
+
+pub match-all : (a b : NodeData) (base over : Resolved) → base ≡ lists_of a → over ≡ lists_of b → (o : Resolved) → shifted_overlay base over ≡ Ok o → (limit : ℕ) (r : Result (Option NodeData) OverlayError)
+    → MatchResult r (λ root. IsRootOrTooLong (laid_over base o) limit root) (λ e. IsFault e (laid_over base o))
+    → MatchResult r (λ root. IsRootOrTooLong (overlay_result (lists_of a) (lists_of b)) limit root) (λ e. IsFault e (overlay_result (lists_of a) (lists_of b)))
+match-all a b base over ea eb o shifted limit (Ok found) h = root-all a b base over ea eb o shifted limit found h
+match-all a b base over ea eb o shifted limit (Err e) h = laid-fault a b base over ea eb o shifted e h
+
+reserves-all : (rs : List (ℕ × ℕ)) → list_all is_reserve rs ≡ true → filter is_reserve rs ≡ rs
+reserves-all [] e = refl
+reserves-all (r ∷ rs) e =
+    let parts = and_parts (is_reserve r) (list_all is_reserve rs) e in
+    by_test (is_reserve r) parts.0 (reserves-all rs parts.1) where
+      by_test : (t : Bool) → t ≡ true → filter is_reserve rs ≡ rs → cond t (r ∷ filter is_reserve rs) (filter is_reserve rs) ≡ r ∷ rs
+      by_test true e ih = ap (λ ys. r ∷ ys) ih
+      by_test false e ih = absurd (cc)
+
+pub tree-within : (base over : TreeData) (limit : ℕ) (root : NodeData) → IsRoot (overlay_result (lists_of base.root) (lists_of over.root)) limit root → IsTree base → (rs : List (ℕ × ℕ)) (cpu : ℕ) (t : TreeData)
+    → rs ≡ base.reserves → cpu ≡ base.boot_cpu → t ≡ tree_data (filter is_reserve rs) cpu root → IsAppliedWithin base over limit t
+tree-within base over limit root h is rs cpu t same boot made = record {
+  applied = record {
+    lists = h.lists;
+    result = h.result;
+    map = ap tree_map made ∙ (λ i. record { nodes = h.map i; reserves = (ap (filter is_reserve) same ∙ reserves-all base.reserves is.no_end) i; boot_cpu = boot i });
+  };
+  fits = h.fits;
+}
+
+pub root-found : (wanted : Result Resolved Fault) (limit : ℕ) (found : Option NodeData) (root : NodeData) → found ≡ Some root → IsRootOrTooLong wanted limit found → IsRoot wanted limit root
+root-found wanted limit found root is h = subst (λ (o : Option NodeData). IsRootOrTooLong wanted limit o) is h

@@ -1,0 +1,128 @@
+-- How long the texts of symbols' paths are, and all symbols together.
+use Rattle.std.proofs.Common.{◌≡◌, ℕ, zero, suc, ◌+◌, ◌-◌, ◌^◌, ◌<◌, min, Bool, true, false, ◌&&◌, List, [], ◌∷◌, ◌++◌, length, get_or, drop, Option, Some, None, cond, refl, sym, ap, ◌∙◌, length-append, arith}
+use Rattle.std.specs.List.{filter, flat_map}
+use Rattle.std.specs.Str.{bytes_eq}
+use Rattle.std.proofs.lemmas.Bool.Decides.{nat_tests}
+use Rattle.std.proofs.lemmas.List.{at_drop_more, get_or_default}
+use Rattle.dt_tree.specs.Path.{text_or_root}
+use Rattle.dt_meaning.specs.Paths.{Path, same_path}
+use Rattle.dt_meaning.specs.Names.{symbols_name}
+use Rattle.dt_meaning.specs.Edits.{definition}
+use Rattle.dt_meaning.specs.Resolved.{Resolved}
+use Rattle.dt_draft.specs.declared.table.NodeRow.{NodeRow}
+use Rattle.dt_draft.specs.declared.table.PropertyRow.{PropertyRow}
+use Rattle.dt_draft.specs.Rows.{no_row, no_property, property_at, row_at, path_of, IsGrown}
+use Rattle.dt_draft.proofs.Climbs.{path-step}
+use Rattle.dt_assembly.specs.Sizes.{size_in}
+use Rattle.dt_assembly.proofs.SizesOfMaps.{size-append}
+use Rattle.dt_listing.specs.Listed.{Lent}
+use Rattle.dt_fixup.specs.declared.sheet.Sheet.{Sheet}
+use Rattle.dt_fixup.specs.Sheet.{shown, shown_from, value_at}
+use Rattle.overlay_meaning.specs.Applied.{symbol_path}
+use Rattle.overlay_meaning.specs.Shifted.{Value}
+use Rattle.overlay_meaning.specs.Texts.{ended_path}
+use Rattle.dt_overlay.specs.Private.Symbols.{symbol_at}
+
+-- ---- the node of symbols
+and-false : (b : Bool) → (b && false) ≡ false
+and-false true = refl
+and-false false = refl
+
+and-true : (b : Bool) → (b && true) ≡ b
+and-true true = refl
+and-true false = refl
+
+two-names : (q : Path) (n m : List ℕ) → same_path (symbols_name ∷ []) ((q ++ n ∷ []) ++ m ∷ []) ≡ false
+two-names [] n m = and-false (bytes_eq symbols_name n)
+two-names (x ∷ []) n m = and-false (bytes_eq symbols_name x)
+two-names (x ∷ y ∷ q) n m = and-false (bytes_eq symbols_name x)
+
+module _ (rows : List NodeRow) (grown : IsGrown rows) where
+  further-down : (k p : ℕ) → (row_at rows k).parent ≡ p → (p ≡ 0 → ⊥) → same_path (symbols_name ∷ []) (path_of rows (suc k)) ≡ false
+  further-down k zero is below = absurd (below refl)
+  further-down k (suc j) is below =
+      ap (same_path (symbols_name ∷ [])) (path-step rows grown k ∙ ap (λ n. path_of rows n ++ (row_at rows k).name.now ∷ []) is ∙ ap (λ q. q ++ (row_at rows k).name.now ∷ []) (path-step rows grown j))
+      ∙ two-names (path_of rows (row_at rows j).parent) (row_at rows j).name.now (row_at rows k).name.now
+
+  -- one row up
+  module _ (n k : ℕ) (d : NodeRow) (at : n ≡ suc k) (within : k < length rows) where
+    abbrev was : get_or rows k d ≡ row_at rows k
+    was = get_or_default rows k d no_row within
+
+    pub not-symbols : ((get_or rows k d).parent ≡ 0 → ⊥) → same_path (symbols_name ∷ []) (path_of rows n) ≡ false
+    not-symbols below = ap (λ m. same_path (symbols_name ∷ []) (path_of rows m)) at ∙ further-down k (row_at rows k).parent refl (λ e. below (ap (λ x. x.parent) was ∙ e))
+
+    pub by-name : (get_or rows k d).parent ≡ 0 → same_path (symbols_name ∷ []) (path_of rows n) ≡ bytes_eq symbols_name (get_or rows k d).name.now
+    by-name top =
+        ap (λ m. same_path (symbols_name ∷ []) (path_of rows m)) at
+        ∙ ap (same_path (symbols_name ∷ [])) (path-step rows grown k ∙ ap (λ m. path_of rows m ++ (row_at rows k).name.now ∷ []) (sym (ap (λ x. x.parent) was) ∙ top))
+        ∙ and-true (bytes_eq symbols_name (row_at rows k).name.now)
+        ∙ ap (λ (x : NodeRow). bytes_eq symbols_name x.name.now) (sym was)
+
+-- ---- the text of a path
+text-some : (b : ℕ) (bs : List ℕ) → text_or_root (b ∷ bs) ≡ b ∷ bs
+text-some b bs = grind (arith, nat_tests)
+
+module _ (way rest : List ℕ) where
+  pub text-root : (names : ℕ) → names ≡ min (min (length way) (2 ^ 64 - 1) + length rest) (2 ^ 64 - 1) → names ≡ 0 → 2 ≡ min (length (text_or_root (way ++ rest) ++ 0 ∷ [])) (2 ^ 64 - 1)
+  text-root names is none = by_text (way ++ rest) (omega (arith, is, none, length-append way rest)) where
+    by_text : (t : List ℕ) → length t ≡ 0 → 2 ≡ min (length (text_or_root t ++ 0 ∷ [])) (2 ^ 64 - 1)
+    by_text [] e = omega arith
+    by_text (b ∷ bs) e = absurd (omega (arith, e))
+
+  pub text-below : (names sum : ℕ) → names ≡ min (min (length way) (2 ^ 64 - 1) + length rest) (2 ^ 64 - 1) → (names ≡ 0 → ⊥) → sum ≡ min (names + 1) (2 ^ 64 - 1)
+      → sum ≡ min (length (text_or_root (way ++ rest) ++ 0 ∷ [])) (2 ^ 64 - 1)
+  text-below names sum is some more = by_text (way ++ rest) (omega (arith, length-append way rest)) where
+    by_text : (t : List ℕ) → length t ≡ length way + length rest → sum ≡ min (length (text_or_root t ++ 0 ∷ [])) (2 ^ 64 - 1)
+    by_text [] e = absurd (some (omega (arith, is, e)))
+    by_text (b ∷ bs) e = omega (arith, is, e, more, ap (λ u. length (u ++ 0 ∷ [])) (text-some b bs), length-append (b ∷ bs) (0 ∷ []))
+
+-- ---- all symbols
+module _ (base : Resolved) (s : Sheet) where
+  abbrev path : ℕ → Path
+  path = path_of s.draft.nodes.items
+
+  abbrev rows : List (PropertyRow Lent)
+  rows = s.draft.properties.items
+
+  abbrev made : List Value → List Value
+  made es = flat_map (λ e. symbol_at e.name (symbol_path base (shown s) (ended_path e.value))) (filter (λ e. same_path (symbols_name ∷ []) e.path) es)
+
+  -- the symbols from a row on
+  abbrev pub symbols_from : ℕ → List (PropertyRow Lent) → List Value
+  symbols_from k rs = made (shown_from path (value_at s) k rs)
+
+  nameless : (n : List ℕ) (o : Option Path) → size_in (symbol_at n o) ≡ size_in (symbol_at [] o)
+  nameless n None = refl
+  nameless n (Some p) = refl
+
+  abbrev one : ℕ → ℕ
+  one k = size_in (symbol_at [] (symbol_path base (shown s) (ended_path (value_at s k))))
+
+  from-symbol : (k : ℕ) (r : PropertyRow Lent) (rs : List (PropertyRow Lent)) → same_path (symbols_name ∷ []) (path r.node) ≡ true → size_in (symbols_from k (r ∷ rs)) ≡ one k + size_in (symbols_from (k + 1) rs)
+  from-symbol k r rs is =
+      let o = symbol_path base (shown s) (ended_path (value_at s k)) in
+      let rest = filter (λ e. same_path (symbols_name ∷ []) e.path) (shown_from path (value_at s) (k + 1) rs) in
+      let first : size_in (symbols_from k (r ∷ rs)) ≡ size_in (symbol_at r.name.now o ++ symbols_from (k + 1) rs) =
+      ap (λ t. size_in (flat_map (λ e. symbol_at e.name (symbol_path base (shown s) (ended_path e.value))) (cond t (definition (path r.node) r.name.now (value_at s k) ∷ rest) rest))) is in
+      first ∙ size-append (symbol_at r.name.now o) (symbols_from (k + 1) rs) ∙ ap (λ m. m + size_in (symbols_from (k + 1) rs)) (nameless r.name.now o)
+
+  from-other : (k : ℕ) (r : PropertyRow Lent) (rs : List (PropertyRow Lent)) → same_path (symbols_name ∷ []) (path r.node) ≡ false → size_in (symbols_from k (r ∷ rs)) ≡ size_in (symbols_from (k + 1) rs)
+  from-other k r rs is =
+      let rest = filter (λ e. same_path (symbols_name ∷ []) e.path) (shown_from path (value_at s) (k + 1) rs) in
+      ap (λ t. size_in (flat_map (λ e. symbol_at e.name (symbol_path base (shown s) (ended_path e.value))) (cond t (definition (path r.node) r.name.now (value_at s k) ∷ rest) rest))) is
+
+  module _ (k : ℕ) (below : k < length rows) where
+    pub size-more : same_path (symbols_name ∷ []) (path (property_at rows k).node) ≡ true → (size part sum whole : ℕ) → part ≡ min (one k) (2 ^ 64 - 1) → sum ≡ min (size + part) (2 ^ 64 - 1)
+        → min (size + size_in (symbols_from k (drop k rows))) (2 ^ 64 - 1) ≡ whole → min (sum + size_in (symbols_from (k + 1) (drop (k + 1) rows))) (2 ^ 64 - 1) ≡ whole
+    size-more is size part sum whole a b so =
+        let all : size_in (symbols_from k (drop k rows)) ≡ one k + size_in (symbols_from (k + 1) (drop (k + 1) rows)) =
+        at_drop_more (λ (ys : List (PropertyRow Lent)). size_in (symbols_from k ys)) rows k no_property below ∙ from-symbol k (property_at rows k) (drop (k + 1) rows) is in
+        omega (arith, all, a, b, so)
+
+    pub size-same : same_path (symbols_name ∷ []) (path (property_at rows k).node) ≡ false → (size whole : ℕ)
+        → min (size + size_in (symbols_from k (drop k rows))) (2 ^ 64 - 1) ≡ whole → min (size + size_in (symbols_from (k + 1) (drop (k + 1) rows))) (2 ^ 64 - 1) ≡ whole
+    size-same is size whole so =
+        let all : size_in (symbols_from k (drop k rows)) ≡ size_in (symbols_from (k + 1) (drop (k + 1) rows)) =
+        at_drop_more (λ (ys : List (PropertyRow Lent)). size_in (symbols_from k ys)) rows k no_property below ∙ from-other k (property_at rows k) (drop (k + 1) rows) is in
+        omega (arith, all, so)

@@ -1,0 +1,49 @@
+use Rattle.std.proofs.Common.{List, suc, ◌+◌, ◌<◌, length, refl, sym, ap, ◌∙◌, subst, arith}
+use Rattle.std.specs.Prelude.{codes}
+use Rattle.dt_meaning.specs.MapOf.{value_in}
+use Rattle.dt_meaning.specs.Paths.{Path}
+use Rattle.dt_listing.specs.Listed.{lists}
+use Rattle.dt_fixup.specs.Sheet.{shown}
+use Rattle.overlay_meaning.specs.Applied.{target_by}
+use Rattle.dt_overlay.specs.declared.fragments.Fragment.{Fragment}
+use Rattle.dt_overlay.specs.Private.Fragments.{IsFragment}
+use Rattle.dt_overlay.proofs.FragmentRows.{AreSoFar, all-found, row-found, row-skipped}
+use Rattle.dt_overlay.proofs.fragments.find_fragments.Goals as goal
+use Rattle.dt_overlay.proofs.fragments.find_fragments.Goals.{in-Some+in_ok-push, in_default}
+
+pub loop-row-preserved : goal.loop-row-preserved
+loop-row-preserved c =
+    let base = c.args.base.now in
+    let s = c.args.sheet.now in
+    let over = s.draft in
+    let k = c.loop-row.row in
+    let lt : k < length over.nodes.items = omega (arith, c.loop-row-test.true, ap length c.nodes-row-end.ensures) in
+    elim c.match-fragment_body.branch [
+      | in-Some+in_ok-push w ↦
+          let b = w.in-Some.ensures in
+          let t = w.find_target-target in
+          let f : Fragment = record { node = k + 1; body = w.in-Some.body; target = t.result } in
+          let is : IsFragment base s b.name f = record {
+            node = b.path;
+            node_known = omega (arith, lt);
+            body = b.body_path;
+            body_known = b.body_known;
+            target = t.ensures.target
+                ∙ ap (λ (p : Path). target_by (lists base) (value_in (shown s).properties p (codes "target")) (value_in (shown s).properties p (codes "target-path"))) b.path;
+            target_known = t.ensures.known;
+          } in
+          record {
+            so_far = λ m e. subst (λ (l : List Fragment). AreSoFar base s l (k + 1) m) (sym (ap (λ v. v.items) w.list-is ∙ w.in_ok-push.ensures.items))
+                (row-found base s c.loop-row.list.items k m f w.in-Some.body b is (c.loop-row.invariant.so_far (suc m) (omega (arith, e))));
+          }
+      | in_default w ↦
+          record {
+            so_far = λ m e. subst (λ (l : List Fragment). AreSoFar base s l (k + 1) m) (sym (ap (λ v. v.items) w.list-is))
+                (row-skipped base s c.loop-row.list.items k m w.in_default.ensures (c.loop-row.invariant.so_far (suc m) (omega (arith, e))));
+          }
+    ]
+
+pub returns : goal.returns
+returns c =
+    let s = c.args.sheet.now in
+    all-found c.args.base.now s c.loop-row.list.items c.loop-row.row 0 refl (c.loop-row.invariant.so_far 0 (omega (arith, c.loop-row-test.false, c.loop-row.auto.row-end, ap length c.nodes-row-end.ensures)))

@@ -1,0 +1,152 @@
+use Rattle.std.proofs.Common.{◌≡◌, ◌<◌, ◌≤◌, ◌-◌, ◌||◌, suc, length, get_or, slice_index_or, map, refl, sym, ap, ◌∙◌, arith}
+use Rattle.std.specs.List.{list_any}
+use Rattle.dt_draft.specs.Rows.{node_path}
+use Rattle.dt_draft.proofs.Keeping.{kept-itself, kept-then}
+use Rattle.dt_meaning.specs.Resolved.{is_too_deep}
+use Rattle.std.proofs.lemmas.List.{length-set}
+use Rattle.dt_listing.specs.Listed.{lists, plain}
+use Rattle.overlay_meaning.specs.Applied.{moved, with_nodes}
+use Rattle.dt_overlay.specs.Private.Merging.{IsPart}
+use Rattle.dt_overlay.proofs.PartLists.{nodes-start, nodes-end}
+use Rattle.dt_layout.proofs.BlankRows.{blank_row}
+use Rattle.dt_overlay.proofs.PartSteps.{deep-else, deep-more, deep-then, first-places, inside-more, more-places, new-place, or-false, parent-place, rest-more, row-is}
+use Rattle.dt_overlay.proofs.part.define_nodes.Goals as goal
+use Rattle.dt_overlay.proofs.part.define_nodes.Goals.{then-depth-gt-MAX_DEPTH, else-depth-gt-MAX_DEPTH}
+
+pub loop-node-init : goal.loop-node-init
+loop-node-init c =
+    let over = c.args.sheet.now.draft in
+    let d = c.args.draft.now in
+    let b = c.args.body in
+    let t = node_path d (slice_index_or c.args.places.now b 0) in
+    let start = nodes-start over c.requires.sheet.whole c.requires.ordered b c.requires.body c.requires.top t in
+    record {
+      low = omega arith;
+      high = let h = c.requires.body in omega (arith, h, ap length c.nodes-nodes.ensures);
+      sound = c.requires.sound;
+      kept = λ p. kept-itself p d.nodes.items;
+      labels = refl;
+      room = refl;
+      inside = λ k from lt. absurd (omega (arith, from, lt));
+      places = first-places over d b c.args.places.now c.requires.top c.requires.target c.requires.stands;
+      rest = ap (λ ps. with_nodes ps (lists d).nodes) (sym start);
+      properties = refl;
+      deep = ap (list_any is_too_deep) (sym start);
+    }
+
+pub returns-then-row-body-clause-nodes : goal.returns-then-row-body-clause-nodes
+returns-then-row-body-clause-nodes c =
+    let i = c.loop-node.invariant in
+    let over = c.args.sheet.now.draft in
+    let b = c.args.body in
+    let n = c.loop-node.node in
+    let t = node_path c.args.draft.now (slice_index_or c.args.places.now b 0) in
+    let part : IsPart over.nodes.items b n = record {
+      more = i.low;
+      known = omega (arith, c.loop-node-test.true, ap length c.nodes-nodes.ensures);
+      inside = i.inside;
+      behind = λ k at lt. omega (arith, c.if-row-body.true, ap (λ x. x.parent) (row-is c.nodes-nodes.result.now over.nodes.items n k blank_row c.nodes-nodes.ensures at lt));
+    } in
+    ap (λ ps. with_nodes ps (lists c.loop-node.draft).nodes) (sym (nodes-end over c.requires.sheet.whole c.requires.ordered b c.requires.body c.requires.top t n part)) ∙ i.rest
+
+pub returns-then-row-body-clause-deep : goal.returns-then-row-body-clause-deep
+returns-then-row-body-clause-deep c =
+    let i = c.loop-node.invariant in
+    let over = c.args.sheet.now.draft in
+    let b = c.args.body in
+    let n = c.loop-node.node in
+    let t = node_path c.args.draft.now (slice_index_or c.args.places.now b 0) in
+    let part : IsPart over.nodes.items b n = record {
+      more = i.low;
+      known = omega (arith, c.loop-node-test.true, ap length c.nodes-nodes.ensures);
+      inside = i.inside;
+      behind = λ k at lt. omega (arith, c.if-row-body.true, ap (λ x. x.parent) (row-is c.nodes-nodes.result.now over.nodes.items n k blank_row c.nodes-nodes.ensures at lt));
+    } in
+    or-false c.loop-node.is_deep
+    ∙ ap (λ ps. c.loop-node.is_deep || list_any is_too_deep ps) (sym (nodes-end over c.requires.sheet.whole c.requires.ordered b c.requires.body c.requires.top t n part)) ∙ i.deep
+
+pub returns-clause-part : goal.returns-clause-part
+returns-clause-part c =
+    let i = c.loop-node.invariant in
+    record {
+      more = omega (arith, c.requires.body, ap length c.nodes-nodes.ensures);
+      known = omega (arith, ap length c.nodes-nodes.ensures);
+      inside = λ k from lt. i.inside k from (omega (arith, lt, c.loop-node-test.false));
+      behind = λ k at lt. absurd (omega (arith, at, lt, ap length c.nodes-nodes.ensures));
+    }
+
+pub bounds-places-row : goal.bounds-places-row
+bounds-places-row c =
+    let i = c.loop-node.invariant in
+    let over = c.args.sheet.now.draft in
+    let n = c.loop-node.node in
+    let k = n - 1 in
+    let at : n ≡ suc k = omega (arith, i.low) in
+    let same = ap length c.nodes-nodes.ensures in
+    let row = row-is c.nodes-nodes.result.now over.nodes.items n k blank_row c.nodes-nodes.ensures at (omega (arith, at, c.loop-node-test.true, same)) in
+    omega (arith, i.room, c.requires.room, same, c.loop-node-test.true, at, ap (λ x. x.parent) row, c.requires.sheet.whole.sound.grown k)
+
+pub define_child-requires-clause-known : goal.define_child-requires-clause-known
+define_child-requires-clause-known c =
+    let i = c.loop-node.invariant in
+    let over = c.args.sheet.now.draft in
+    let n = c.loop-node.node in
+    let k = n - 1 in
+    let at : n ≡ suc k = omega (arith, i.low) in
+    let lt : k < length over.nodes.items = omega (arith, at, c.loop-node-test.true, ap length c.nodes-nodes.ensures) in
+    let row = row-is c.nodes-nodes.result.now over.nodes.items n k blank_row c.nodes-nodes.ensures at lt in
+    (parent-place over c.requires.sheet.whole c.requires.ordered c.args.body c.requires.body c.requires.top _ c.loop-node.draft c.loop-node.places n k at (get_or c.nodes-nodes.result.now (n - 1) blank_row) row i.low lt i.inside i.places (omega (arith, c.if-row-body.false))).known
+
+pub define_child-requires-clause-stands : goal.define_child-requires-clause-stands
+define_child-requires-clause-stands c =
+    let i = c.loop-node.invariant in
+    let over = c.args.sheet.now.draft in
+    let n = c.loop-node.node in
+    let k = n - 1 in
+    let at : n ≡ suc k = omega (arith, i.low) in
+    let lt : k < length over.nodes.items = omega (arith, at, c.loop-node-test.true, ap length c.nodes-nodes.ensures) in
+    let row = row-is c.nodes-nodes.result.now over.nodes.items n k blank_row c.nodes-nodes.ensures at lt in
+    (parent-place over c.requires.sheet.whole c.requires.ordered c.args.body c.requires.body c.requires.top _ c.loop-node.draft c.loop-node.places n k at (get_or c.nodes-nodes.result.now (n - 1) blank_row) row i.low lt i.inside i.places (omega (arith, c.if-row-body.false))).stands
+
+pub loop-node-preserved : goal.loop-node-preserved
+loop-node-preserved c =
+    let i = c.loop-node.invariant in
+    let over = c.args.sheet.now.draft in
+    let b = c.args.body in
+    let n = c.loop-node.node in
+    let k = n - 1 in
+    let t = node_path c.args.draft.now (slice_index_or c.args.places.now b 0) in
+    let at : n ≡ suc k = omega (arith, i.low) in
+    let lt : k < length over.nodes.items = omega (arith, at, c.loop-node-test.true, ap length c.nodes-nodes.ensures) in
+    let row = row-is c.nodes-nodes.result.now over.nodes.items n k blank_row c.nodes-nodes.ensures at lt in
+    let low : b ≤ (get_or c.nodes-nodes.result.now (n - 1) blank_row).parent = omega (arith, c.if-row-body.false) in
+    let old = c.args.draft.now in
+    let d = c.loop-node.draft in
+    let new = c.define_child.new.self in
+    let e = c.in_ok-place.ensures in
+    let place = c.in_ok-place.place in
+    let whole = c.requires.sheet.whole in
+    let ordered = c.requires.ordered in
+    let known = c.requires.body in
+    let top = c.requires.top in
+    let places = c.loop-node.places in
+    let here = new-place over whole ordered b known top t d places n k at (get_or c.nodes-nodes.result.now (n - 1) blank_row) row i.low lt i.inside i.places low new place e.known e.there e.made in
+    let length-here : c.depth.result ≡ length (moved t (node_path over n)) = c.depth.ensures ∙ ap length here.path in
+    let noted : c.if-depth-gt-MAX_DEPTH.is_deep ≡ (c.loop-node.is_deep || is_too_deep (moved t (node_path over n))) = elim c.if-depth-gt-MAX_DEPTH.branch [
+      | then-depth-gt-MAX_DEPTH w ↦ deep-then c.loop-node.is_deep c.if-depth-gt-MAX_DEPTH.is_deep c.depth.result (moved t (node_path over n)) w.is_deep-is w.if-depth-gt-MAX_DEPTH.true length-here
+      | else-depth-gt-MAX_DEPTH w ↦
+          deep-else c.loop-node.is_deep c.if-depth-gt-MAX_DEPTH.is_deep c.depth.result (moved t (node_path over n)) w.is_deep-is (let far = w.if-depth-gt-MAX_DEPTH.false in omega (arith, far)) length-here
+    ] in
+    record {
+      low = omega (arith, i.low);
+      high = omega (arith, c.loop-node-test.true);
+      sound = e.sound;
+      kept = λ p. kept-then p old.nodes.items d.nodes.items new.nodes.items (i.kept p) (e.kept p);
+      labels = ap (λ s. s.labels) e.state ∙ i.labels;
+      room = length-set places n place ∙ i.room;
+      inside = inside-more over whole ordered b known top t d places n k at (get_or c.nodes-nodes.result.now (n - 1) blank_row) row i.low lt i.inside i.places low;
+      places = more-places over d new t b n places place e.kept i.places (omega (arith, i.room, c.requires.room, c.loop-node-test.true, ap length c.nodes-nodes.ensures)) here;
+      rest = rest-more over whole ordered b known top t d places n k at (get_or c.nodes-nodes.result.now (n - 1) blank_row) row i.low lt i.inside i.places low new e.state ∙ i.rest;
+      properties = ap (λ s. map plain s.properties) e.state ∙ i.properties;
+      deep = deep-more over whole ordered b known top t d places n k at (get_or c.nodes-nodes.result.now (n - 1) blank_row) row i.low lt i.inside i.places low c.loop-node.is_deep c.if-depth-gt-MAX_DEPTH.is_deep noted ∙ i.deep;
+    }

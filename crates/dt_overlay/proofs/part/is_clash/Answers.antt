@@ -1,0 +1,16 @@
+use Rattle.std.proofs.Common.{rules, ◌≡◌, ◌&&◌, true, is_some, refl, sym, ap, ◌∙◌}
+use Rattle.std.specs.Prelude.{codes}
+use Rattle.std.specs.Str.{bytes_eq}
+use Rattle.dt_meaning.specs.MapOf.{value_in}
+use Rattle.dt_draft.specs.Rows.{node_path, property_of}
+use Rattle.dt_listing.specs.Listed.{lists}
+use Rattle.dt_overlay.proofs.Clashes.{look-up}
+use Rattle.dt_overlay.proofs.part.is_clash.Goals as goal
+
+pub returns-then-eq : goal.returns-then-eq
+returns-then-eq c =
+    let d = c.args.draft.now in
+    let there : bytes_eq c.args.name.now (codes "phandle") ≡ true = search rules in
+    c.is_some.ensures ∙ ap is_some c.property.ensures
+    ∙ look-up d c.requires.sound c.args.node c.args.name.now c.requires.stands (property_of d c.args.node c.args.name.now) refl
+    ∙ ap (λ b. b && is_some (value_in (lists d).properties (node_path d c.args.node) c.args.name.now)) (sym there)

@@ -1,0 +1,35 @@
+-- What applying an overlay answers: the tree of *Overlay result*, where its values are short enough, or why there is none
+-- (dt-object-internal, section 3).
+use Rattle.std.specs.Prelude.{◌≡◌, ◌<◌, ◌≤◌, ◌-◌, ◌^◌, ℕ, Option, None, Some, Ok}
+use Rattle.dt_tree.specs.NodeData.{NodeData}
+use Rattle.dt_tree.specs.PathMap.{path_map, tree_map}
+use Rattle.dt_tree.specs.Sound.{IsSound}
+use Rattle.dt_tree.specs.TreeData.{TreeData}
+use Rattle.dt_meaning.specs.MapOf.{map_of}
+use Rattle.dt_meaning.specs.Resolved.{Resolved}
+use Rattle.dt_assembly.specs.Lists.{lists_of}
+use Rattle.dt_assembly.specs.Sizes.{size_in, size_below}
+use Rattle.overlay_meaning.specs.Applied.{overlay_result}
+
+-- the tree is the base with the overlay applied; its reservations and its processor are the base's
+pub record IsApplied (base over t : TreeData) : Type 0 where
+  pub lists : Resolved
+  pub result : overlay_result (lists_of base.root) (lists_of over.root) ≡ Ok lists
+  pub map : tree_map t ≡ record { nodes = map_of lists; reserves = base.reserves; boot_cpu = base.boot_cpu }
+
+-- and its values have no more bytes together than a limit below the greatest number
+pub record IsAppliedWithin (base over : TreeData) (limit : ℕ) (t : TreeData) : Type 0 where
+  pub applied : IsApplied base over t
+  pub fits : limit < 2 ^ 64 - 1 → size_in applied.lists.properties ≤ limit
+
+-- its values have more bytes together than this, and so has each tree with its map
+pub record IsLonger (base over : TreeData) (limit : ℕ) : Type 0 where
+  pub lists : Resolved
+  pub result : overlay_result (lists_of base.root) (lists_of over.root) ≡ Ok lists
+  pub longer : limit < size_in lists.properties
+  pub trees : (b : NodeData) → IsSound b → path_map b ≡ map_of lists → size_in lists.properties ≤ size_below b
+
+-- there is a tree, unless its values are too long
+abbrev pub IsAppliedOrLonger : TreeData → TreeData → ℕ → Option TreeData → Type 0
+IsAppliedOrLonger base over limit (Some t) = IsAppliedWithin base over limit t
+IsAppliedOrLonger base over limit None = IsLonger base over limit

@@ -1,0 +1,7 @@
+-- What private contracts cite. No public clause rests on it.
+pub mod Applying
+pub mod Fragments
+pub mod Making
+pub mod Merging
+pub mod Symbols
+pub mod SymbolTargets

@@ -1,0 +1,36 @@
+-- The root of the tree that applying an overlay answers (dt-object-internal, section 3).
+use Rattle.std.specs.Prelude.{◌≡◌, ◌<◌, ◌≤◌, ◌-◌, ◌^◌, ℕ, [], Option, Some, None, Result, Ok}
+use Rattle.dt_tree.specs.NodeData.{NodeData}
+use Rattle.dt_tree.specs.PathMap.{path_map}
+use Rattle.dt_tree.specs.Sound.{IsSound}
+use Rattle.dt_meaning.specs.MapOf.{map_of}
+use Rattle.dt_meaning.specs.Resolved.{Resolved}
+use Rattle.dt_assembly.specs.Sizes.{size_below, size_in}
+use Rattle.overlay_meaning.specs.Steps.{Fault}
+use Rattle.dt_overlay.specs.Private.Symbols.{laid_over, symbols_of}
+
+-- a root with the map that is meant, whose values fit
+pub record IsRoot (wanted : Result Resolved Fault) (limit : ℕ) (root : NodeData) : Type 0 where
+  pub lists : Resolved
+  pub result : wanted ≡ Ok lists
+  pub name : root.name ≡ []
+  pub map : path_map root ≡ map_of lists
+  pub fits : limit < 2 ^ 64 - 1 → size_in lists.properties ≤ limit
+
+-- its values would be too long
+pub record IsTooLong (wanted : Result Resolved Fault) (limit : ℕ) : Type 0 where
+  pub lists : Resolved
+  pub result : wanted ≡ Ok lists
+  pub longer : limit < size_in lists.properties
+  pub trees : (b : NodeData) → IsSound b → path_map b ≡ map_of lists → size_in lists.properties ≤ size_below b
+
+abbrev pub IsRootOrTooLong : Result Resolved Fault → ℕ → Option NodeData → Type 0
+IsRootOrTooLong wanted limit (Some root) = IsRoot wanted limit root
+IsRootOrTooLong wanted limit None = IsTooLong wanted limit
+
+-- nothing is refused, and the result is no shorter than its symbols' values, nor is a tree with its map
+pub record HasSymbols (base over : Resolved) : Type 0 where
+  pub lists : Resolved
+  pub result : laid_over base over ≡ Ok lists
+  pub symbols : size_in (symbols_of base over) ≤ size_in lists.properties
+  pub trees : (b : NodeData) → IsSound b → path_map b ≡ map_of lists → size_in lists.properties ≤ size_below b

@@ -1,0 +1,52 @@
+-- Where symbols' paths lead in the base, by the overlay's rows (dt-object-internal, section 3).
+use Rattle.std.specs.Prelude.{◌≡◌, ◌<◌, ◌+◌, ℕ, List, [], ◌∷◌, ◌++◌, length, Option, Some, None, option_map, if◌then◌else◌, slice_index_or}
+use Rattle.std.specs.List.{slice_split}
+use Rattle.dt_tree.specs.Path.{behind_slashes, is_slash, path_text, text_or_root}
+use Rattle.dt_meaning.specs.Names.{overlay_name}
+use Rattle.dt_meaning.specs.Paths.{Path, is_listed}
+use Rattle.dt_meaning.specs.Resolved.{Resolved}
+use Rattle.dt_draft.specs.declared.table.Draft.{Draft}
+use Rattle.dt_draft.specs.Rows.{IsNode, node_path}
+use Rattle.dt_listing.specs.Listed.{Lent, lists}
+use Rattle.overlay_meaning.specs.Applied.{body, symbol_path, target}
+use Rattle.dt_fixup.specs.declared.sheet.Sheet.{Sheet}
+use Rattle.dt_fixup.specs.Sheet.{shown}
+use Rattle.dt_overlay.specs.declared.fragments.Fragment.{Fragment}
+use Rattle.dt_overlay.specs.Private.Fragments.{IsTarget}
+
+-- the base's node that a node of the overlay targets, where that is a fragment
+pub record IsRowTarget (base : Draft Lent) (s : Sheet) (n : ℕ) (t : Option ℕ) : Type 0 where
+  pub path : (f : List ℕ) → node_path s.draft n ≡ f ∷ [] → option_map (node_path base) t ≡ (if is_listed (body f) (shown s).nodes then target (lists base) (shown s) f else None)
+  pub known : IsTarget base t
+
+-- what stands behind the last fragment
+abbrev pub no_fragment : Fragment
+no_fragment = record { node = 0; body = 0; target = None }
+
+-- those of all rows
+pub record AreTargets (base : Draft Lent) (s : Sheet) (targets : List (Option ℕ)) : Type 0 where
+  pub count : length targets ≡ length s.draft.nodes.items
+  pub each : (k : ℕ) → k < length targets → IsRowTarget base s (k + 1) (slice_index_or targets k None)
+
+-- a symbol's path: that of a node, and names that a text has behind slashes
+pub record IsSymbolTarget (base : Draft Lent) (p : Option Path) (n : ℕ) (rest : List ℕ) : Type 0 where
+  pub names : Path
+  pub path : p ≡ Some (node_path base n ++ names)
+  pub known : IsNode base n
+  pub behind : rest ≡ behind_slashes names
+  pub text : path_text (node_path base n ++ names) ≡ text_or_root (behind_slashes (node_path base n) ++ rest)
+
+-- the names in a text of slashes and names
+abbrev pub names_after : List ℕ → List (List ℕ)
+names_after [] = []
+names_after (b ∷ names) = slice_split is_slash names
+
+-- no path of a symbol, whatever the overlay
+abbrev pub IsOutside : Path → Type 0
+IsOutside p = (base over : Resolved) → symbol_path base over (Some p) ≡ None
+
+-- a path below a body of a name, and the text of the names below it
+pub record IsInside (p : Path) (fragment rest : List ℕ) : Type 0 where
+  pub names : Path
+  pub path : p ≡ fragment ∷ overlay_name ∷ names
+  pub behind : rest ≡ behind_slashes names

@@ -1,0 +1,44 @@
+-- The symbols that an overlay adds (dt-object-internal, section 3).
+use Rattle.std.specs.Prelude.{ℕ, List, [], ◌∷◌, ◌++◌, Option, Some, None, Result, Ok}
+use Rattle.std.specs.List.{flat_map, filter}
+use Rattle.dt_tree.specs.Path.{path_text}
+use Rattle.dt_meaning.specs.Paths.{Path, same_path}
+use Rattle.dt_meaning.specs.Names.{symbols_name}
+use Rattle.dt_meaning.specs.Edits.{definition, put}
+use Rattle.dt_meaning.specs.Resolved.{Resolved}
+use Rattle.overlay_meaning.specs.Applied.{symbol_path, with_fragment, with_node, with_symbols}
+use Rattle.overlay_meaning.specs.Steps.{Fault, fold, then_do}
+use Rattle.overlay_meaning.specs.Shifted.{Value, fragments}
+use Rattle.overlay_meaning.specs.Texts.{ended_path}
+use Rattle.dt_overlay.specs.declared.symbols.Symbol.{Symbol}
+
+-- a symbol's property, where its path begins in a fragment
+abbrev pub symbol_at : List ℕ → Option Path → List Value
+symbol_at n None = []
+symbol_at n (Some p) = definition (symbols_name ∷ []) n (path_text p ++ 0 ∷ []) ∷ []
+
+-- those of an overlay, in order
+abbrev pub symbols_of : Resolved → Resolved → List Value
+symbols_of base over = flat_map (λ e. symbol_at e.name (symbol_path base over (ended_path e.value))) (filter (λ e. same_path (symbols_name ∷ []) e.path) over.properties)
+
+abbrev pub symbol_value : Symbol → Value
+symbol_value s = definition (symbols_name ∷ []) s.name.now s.value.items
+
+-- the property of a symbol, where there is one
+abbrev pub values_in : Option Symbol → List Value
+values_in None = []
+values_in (Some s) = symbol_value s ∷ []
+
+-- a symbol's property, over what is there
+abbrev pub with_symbol : Value → Resolved → Resolved
+with_symbol e t = record { nodes = with_node (symbols_name ∷ []) t.nodes; properties = put (symbols_name ∷ []) e.name e.value t.properties }
+
+abbrev pub with_all : List Value → Resolved → Resolved
+with_all [] t = t
+with_all (e ∷ es) t = with_all es (with_symbol e t)
+
+-- all but what is changed by phandles and fixups
+abbrev pub laid_over : Resolved → Resolved → Result Resolved Fault
+laid_over base over =
+    then_do (fold (with_fragment base over) (fragments over) base) (λ t.
+    Ok (with_symbols base over (filter (λ e. same_path (symbols_name ∷ []) e.path) over.properties) t))

@@ -1,0 +1,133 @@
+//! The fragments of an overlay, and the nodes of the base that they target.
+ghost use Rattle.std.specs.Prelude.{◌≡◌, ◌<◌, ◌+◌, ◌==◌, [], ℕ, None, Some, IfOk, OnOk, MatchOption, codes, if◌then◌else◌, is_some, length, option_map};
+ghost use Rattle.std.specs.BTreeMap.{get};
+ghost use Rattle.std.specs.Int.{from_be_bytes, w32};
+ghost use Rattle.std.specs.Ordering.{nat_cmp};
+ghost use Rattle.dt_meaning.specs.MapOf.{value_in};
+ghost use Rattle.dt_draft.specs.Rows.{IsNode, node_path};
+ghost use Rattle.dt_listing.specs.Listed.{IsOrdered, IsWhole, lists};
+ghost use Rattle.overlay_meaning.specs.Applied.{standing, target_by};
+ghost use Rattle.overlay_meaning.specs.Texts.{ended_path};
+ghost use Rattle.overlay_meaning.specs.Shifted.{fragment_at, fragments};
+ghost use Rattle.dt_fixup.specs.Sheet.{IsSheet, shown};
+ghost use Rattle.dt_overlay.specs.Private.Fragments.{AreFragments, ArePhandles, IsBody, IsTarget};
+
+use dt_draft::Draft;
+use dt_fixup::{Sheet, ended_path, row_phandle};
+use std::alloc::{AllocError, Global};
+use std::collections::BTreeMap;
+
+/// A fragment: its node and its `__overlay__` by their rows in the overlay, and the base's node that it targets, where there is one.
+#[derive(Clone, Copy)]
+pub(crate) struct Fragment {
+    pub(crate) node: usize,
+    pub(crate) body: usize,
+    pub(crate) target: Option<usize>,
+}
+
+/// The fragments of an overlay, in order. Each look-up of a target goes through a map that is made once.
+pub(crate) fn find_fragments<'t>(
+    alloc: Global,
+    base: &Draft<'t, &'t [u8]>,
+    sheet: &Sheet<'t>,
+) -> Result<Vec<Fragment>, AllocError>
+    requires base { IsWhole base.now }
+    requires sheet { IsSheet sheet.now }
+    requires ordered { IsOrdered sheet.now.draft }
+    ensures { IfOk result (λ list. AreFragments base.now sheet.now (fragments (shown sheet.now)) list.items) }
+{
+    let phandles = phandle_nodes(alloc, base)?;
+    let mut list = Vec::new(alloc);
+    for row in 0..sheet.draft.nodes().len() {
+        if let Some(body) = fragment_body(&sheet.draft, row) {
+            let node = row + 1;
+            let target = find_target(base, sheet, &phandles, node);
+            list.push(Fragment { node, body, target })?;
+        }
+    }
+    Ok(list)
+}
+
+// The `__overlay__` of a row's node, where that is a fragment.
+pub(crate) fn fragment_body<'t>(over: &Draft<'t, &'t [u8]>, row: usize) -> Option<usize>
+    requires whole { IsWhole over.now }
+    requires known { row < length over.now.nodes.items }
+    ensures { MatchOption result (fragment_at (node_path over.now (row + 1)) (lists over.now).nodes ≡ []) (λ body. IsBody over.now row body) }
+{
+    if over.nodes()[row].parent != 0 {
+        return None;
+    }
+    over.child(row + 1, b"__overlay__".as_slice())
+}
+
+// The first node of each phandle.
+fn phandle_nodes<'t>(
+    alloc: Global,
+    base: &Draft<'t, &'t [u8]>,
+) -> Result<BTreeMap<u32, usize>, AllocError>
+    requires { IsWhole base.now }
+    ensures { IfOk result (λ found. ArePhandles base.now found) }
+{
+    let mut found = BTreeMap::new(alloc);
+    for row in 0..base.properties().len() {
+        if let Some(number) = row_phandle(base, row) {
+            put_first(&mut found, number, base.properties()[row].node)?;
+        }
+    }
+    Ok(found)
+}
+
+// Notes a node for a number that has none.
+fn put_first(found: &mut BTreeMap<u32, usize>, number: u32, node: usize) -> Result<(), AllocError>
+    ensures { OnOk result ((n : ℕ) → get nat_cmp found.new n ≡ (if is_some (get nat_cmp found.old n) then get nat_cmp found.old n else (if n == number then Some node else None))) }
+{
+    if !found.contains_key(&number) {
+        found.insert(number, node)?;
+    }
+    Ok(())
+}
+
+// The base's node that a fragment targets.
+fn find_target<'t>(
+    base: &Draft<'t, &'t [u8]>,
+    sheet: &Sheet<'t>,
+    phandles: &BTreeMap<u32, usize>,
+    fragment: usize,
+) -> Option<usize>
+    requires base { IsWhole base.now }
+    requires sheet { IsSheet sheet.now }
+    requires phandles { ArePhandles base.now phandles.now }
+    requires known { IsNode sheet.now.draft fragment }
+    ensures target { option_map (node_path base.now) result ≡ target_by (lists base.now) (value_in (shown sheet.now).properties (node_path sheet.now.draft fragment) (codes "target")) (value_in (shown sheet.now).properties (node_path sheet.now.draft fragment) (codes "target-path")) }
+    ensures known { IsTarget base.now result }
+{
+    match sheet.draft.property(fragment, b"target".as_slice()) {
+        Some(row) => by_phandle(phandles, sheet.value(row)),
+        None => match sheet.draft.property(fragment, b"target-path".as_slice()) {
+            Some(row) => by_path(base, sheet.value(row)),
+            None => None,
+        },
+    }
+}
+
+fn by_phandle(phandles: &BTreeMap<u32, usize>, value: &[u8]) -> Option<usize>
+    ensures { result ≡ (if length value.now == 4 then get nat_cmp phandles.now (from_be_bytes w32 value.now) else None) }
+{
+    if value.len() != 4 {
+        return None;
+    }
+    let mut word = [0; 4];
+    word.copy_from_slice(value);
+    phandles.get(&u32::from_be_bytes(word)).copied()
+}
+
+fn by_path<'t>(base: &Draft<'t, &'t [u8]>, value: &'t [u8]) -> Option<usize>
+    requires { IsWhole base.now }
+    ensures target { option_map (node_path base.now) result ≡ standing (lists base.now) (ended_path value.now) }
+    ensures known { IsTarget base.now result }
+{
+    let Some(path) = ended_path(value) else {
+        return None;
+    };
+    base.at_path(path)
+}

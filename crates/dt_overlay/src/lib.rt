@@ -1,0 +1,16 @@
+//! Overlays, applied to trees.
+//!
+//! dtc's dt-object-internal, section 3, and `overlay_meaning` say what is made.
+#![tactic(auto)]
+
+mod applying;
+mod fragments;
+mod making;
+mod merging;
+mod part;
+mod symbol_sizes;
+mod symbol_target;
+mod symbols;
+
+pub use applying::{apply, apply_within};
+pub use dt_fixup::OverlayError;

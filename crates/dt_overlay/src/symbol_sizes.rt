@@ -1,0 +1,86 @@
+//! How long an overlay's symbols are, before any is made.
+ghost use Rattle.std.specs.Prelude.{◌≡◌, ◌-◌, ◌^◌, ◌<◌, ◌≤◌, ◌++◌, [], ◌∷◌, length, min};
+ghost use Rattle.dt_tree.specs.Path.{behind_slashes, text_or_root};
+ghost use Rattle.dt_meaning.specs.Names.{symbols_name};
+ghost use Rattle.dt_meaning.specs.Paths.{same_path};
+ghost use Rattle.dt_draft.specs.Rows.{IsGrown, path_of};
+ghost use Rattle.dt_assembly.specs.Sizes.{size_in};
+ghost use Rattle.dt_listing.specs.Listed.{IsWhole, lists};
+ghost use Rattle.overlay_meaning.specs.Applied.{symbol_path};
+ghost use Rattle.overlay_meaning.specs.Texts.{ended_path};
+ghost use Rattle.dt_fixup.specs.Sheet.{IsSheet, shown, value_at};
+ghost use Rattle.dt_overlay.specs.Private.Symbols.{symbol_at, symbols_of};
+ghost use Rattle.dt_overlay.specs.Private.SymbolTargets.{AreTargets};
+
+use crate::symbol_target::symbol_target;
+use dt_draft::{Draft, NodeRow};
+use dt_fixup::Sheet;
+use dt_layout::names_size;
+
+/// How many bytes the symbols' values have together, or the greatest number where there are more. Takes no memory.
+pub(crate) fn symbols_size<'t>(
+    base: &Draft<'t, &'t [u8]>,
+    sheet: &Sheet<'t>,
+    targets: &[Option<usize>],
+) -> usize
+    requires base { IsWhole base.now }
+    requires sheet { IsSheet sheet.now }
+    requires targets { AreTargets base.now sheet.now targets.now }
+    ensures { result ≡ min (size_in (symbols_of (lists base.now) (shown sheet.now))) (2 ^ 64 - 1) }
+{
+    let mut size: usize = 0;
+    for row in 0..sheet.draft.properties().len() {
+        if is_symbols_node(sheet.draft.nodes(), sheet.draft.properties()[row].node) {
+            size = size.saturating_add(symbol_size(base, sheet, targets, row));
+        }
+    }
+    size
+}
+
+/// Whether a node is the one whose properties are symbols.
+pub(crate) fn is_symbols_node(nodes: &[NodeRow<'_>], node: usize) -> bool
+    requires grown { IsGrown nodes.now }
+    requires known { node ≤ length nodes.now }
+    ensures { result ≡ same_path (symbols_name ∷ []) (path_of nodes.now node) }
+{
+    if node == 0 {
+        return false;
+    }
+    let row = nodes[node - 1];
+    if row.parent != 0 {
+        return false;
+    }
+    row.name == b"__symbols__".as_slice()
+}
+
+// How many bytes the value of a symbol has that a row is for, or the greatest number where there are more.
+fn symbol_size<'t>(
+    base: &Draft<'t, &'t [u8]>,
+    sheet: &Sheet<'t>,
+    targets: &[Option<usize>],
+    row: usize,
+) -> usize
+    requires base { IsWhole base.now }
+    requires sheet { IsSheet sheet.now }
+    requires targets { AreTargets base.now sheet.now targets.now }
+    requires known { row < length sheet.now.draft.properties.items }
+    ensures { result ≡ min (size_in (symbol_at [] (symbol_path (lists base.now) (shown sheet.now) (ended_path (value_at sheet.now row))))) (2 ^ 64 - 1) }
+{
+    match symbol_target(sheet, targets, sheet.value(row)) {
+        None => 0,
+        Some((node, rest)) => text_size(base.nodes(), node, rest),
+    }
+}
+
+/// How many bytes the text of a path below a node has with its zero byte, or the greatest number where there are more.
+pub(crate) fn text_size(nodes: &[NodeRow<'_>], node: usize, rest: &[u8]) -> usize
+    requires grown { IsGrown nodes.now }
+    requires known { node ≤ length nodes.now }
+    ensures { result ≡ min (length (text_or_root (behind_slashes (path_of nodes.now node) ++ rest.now) ++ 0 ∷ [])) (2 ^ 64 - 1) }
+{
+    let names = names_size(nodes, node).saturating_add(rest.len());
+    if names == 0 {
+        return 2;
+    }
+    names.saturating_add(1)
+}

@@ -1,0 +1,95 @@
+//! Where the paths of an overlay's symbols lead in the base.
+ghost use Rattle.std.specs.Prelude.{◌≡◌, ◌∷◌, length, slice_index_or, IfOk, MatchOption};
+ghost use Rattle.std.specs.List.{slice_split};
+ghost use Rattle.dt_tree.specs.Path.{behind_slashes, is_slash, path_names};
+ghost use Rattle.dt_draft.specs.declared.table.Draft.{Draft};
+ghost use Rattle.dt_listing.specs.Listed.{IsOrdered, IsWhole, Lent, lists};
+ghost use Rattle.overlay_meaning.specs.Applied.{symbol_path};
+ghost use Rattle.overlay_meaning.specs.Shifted.{fragments};
+ghost use Rattle.overlay_meaning.specs.Texts.{ended_path};
+ghost use Rattle.dt_fixup.specs.Sheet.{IsSheet, shown};
+ghost use Rattle.dt_overlay.specs.Private.Fragments.{AreFragments};
+ghost use Rattle.dt_overlay.specs.Private.SymbolTargets.{AreTargets, IsInside, IsOutside, IsSymbolTarget, names_after, no_fragment};
+
+use crate::fragments::{Fragment, fragment_body};
+use dt_fixup::{Sheet, ended_path};
+use std::alloc::{AllocError, Global};
+
+/// The base's nodes that fragments target, by the fragments' rows in the overlay.
+pub(crate) fn row_targets<'t>(
+    alloc: Global,
+    sheet: &Sheet<'t>,
+    list: &[Fragment],
+) -> Result<Vec<Option<usize>>, AllocError>
+    requires sheet { IsSheet sheet.now }
+    requires ordered { IsOrdered sheet.now.draft }
+    ensures { IfOk result (λ targets. (base : Draft Lent) → AreFragments base sheet.now (fragments (shown sheet.now)) list.now → AreTargets base sheet.now targets.items) }
+{
+    let count = sheet.draft.nodes().len();
+    let mut targets = Vec::with_capacity(alloc, count)?;
+    let mut used = 0;
+    for row in 0..count {
+        if fragment_body(&sheet.draft, row).is_some() {
+            targets.push(target_of(list, used))?;
+            used += 1;
+        } else {
+            targets.push(None)?;
+        }
+    }
+    Ok(targets)
+}
+
+// The target of a fragment, none behind the last.
+fn target_of(list: &[Fragment], at: usize) -> Option<usize>
+    ensures { result ≡ (slice_index_or list.now at no_fragment).target }
+{
+    if at < list.len() {
+        list[at].target
+    } else {
+        None
+    }
+}
+
+// The first of the names between slashes, and what stands behind it: nothing, or a slash and the other names.
+fn split_name(names: &[u8]) -> (&[u8], &[u8])
+    ensures names { slice_split is_slash names.now ≡ result.0.now ∷ names_after result.1.now }
+    ensures text { result.1.now ≡ behind_slashes (names_after result.1.now) }
+{
+    for (at, byte) in names.iter().enumerate() {
+        if *byte == b'/' {
+            return (&names[..at], &names[at..]);
+        }
+    }
+    (names, &[])
+}
+
+// The name of the fragment whose body a path's text begins with, and what stands behind the body's name.
+fn split_body(path: &[u8]) -> Option<(&[u8], &[u8])>
+    ensures { MatchOption result (IsOutside (path_names path.now)) (λ found. IsInside (path_names path.now) found.0.now found.1.now) }
+{
+    let (_, names) = path.split_first()?;
+    let (fragment, behind) = split_name(names);
+    let (_, below) = behind.split_first()?;
+    let (overlay, rest) = split_name(below);
+    if overlay == b"__overlay__".as_slice() {
+        Some((fragment, rest))
+    } else {
+        None
+    }
+}
+
+/// The base's node that the fragment at the head of a symbol's path targets, and what stands in the path behind the body's name.
+pub(crate) fn symbol_target<'v>(
+    sheet: &Sheet<'v>,
+    targets: &[Option<usize>],
+    value: &'v [u8],
+) -> Option<(usize, &'v [u8])>
+    requires sheet { IsSheet sheet.now }
+    requires count { length targets.now ≡ length sheet.now.draft.nodes.items }
+    ensures { (base : Draft Lent) → AreTargets base sheet.now targets.now → MatchOption result (symbol_path (lists base) (shown sheet.now) (ended_path value.now) ≡ None) (λ found. IsSymbolTarget base (symbol_path (lists base) (shown sheet.now) (ended_path value.now)) found.0 found.1.now) }
+{
+    let (fragment, rest) = split_body(ended_path(value)?)?;
+    let node = sheet.draft.child(0, fragment)?;
+    let target = targets[node - 1]?;
+    Some((target, rest))
+}
