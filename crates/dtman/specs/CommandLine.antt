@@ -5,7 +5,7 @@ use Rattle.std.specs.Str.Parse.{IsNumeral, digits_value, without_leading_plus}
 use Rattle.bus_manager.specs.declared.running.TheConstants.{MAX_WORKERS}
 use Rattle.clap.specs.Words.{Row, Text, first_of, one_of, subcommand_of}
 use Rattle.dtman.specs.declared.subcommand.Command.{Command}
-use Rattle.dtman.specs.declared.subcommand.Command.TheVariants.{Compile, Dump, Plan, Replay, Probe, Explain}
+use Rattle.dtman.specs.declared.subcommand.Command.TheVariants.{Compile, Overlay, Dump, Plan, Replay, Probe, Explain}
 use Rattle.dtman.specs.Grammar.{dtman}
 
 -- whether an option without a value was given
@@ -22,6 +22,8 @@ IsNumber (Some text) n = IsNumeral 10 (without_leading_plus text) × (n ≡ digi
 abbrev pub IsMet : Command → Text → List Row → Type 0
 IsMet (Compile source out symbols) name rows =
     (name ≡ codes "compile") × (first_of (codes "IN") rows ≡ Some source.now) × (first_of (codes "OUT") rows ≡ Some out.now) × (symbols ≡ is_on (first_of (codes "symbols") rows))
+IsMet (Overlay base overlay out) name rows =
+    (name ≡ codes "overlay") × (first_of (codes "BASE") rows ≡ Some base.now) × (first_of (codes "OVERLAY") rows ≡ Some overlay.now) × (first_of (codes "OUT") rows ≡ Some out.now)
 IsMet (Dump blob) name rows = (name ≡ codes "dump") × (first_of (codes "IN") rows ≡ Some blob.now)
 IsMet (Plan blob drivers dot) name rows =
     (name ≡ codes "plan") × (first_of (codes "BLOB") rows ≡ Some blob.now) × (first_of (codes "DRIVERS") rows ≡ Some drivers.now) × (dot ≡ is_on (first_of (codes "dot") rows))

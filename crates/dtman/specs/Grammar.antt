@@ -23,6 +23,9 @@ number id most default = record (new_rule id) { long = Some id; parser = Some (U
 abbrev pub compile : App
 compile = with_rule (with_rule (with_rule (new_app (codes "compile")) (required (codes "IN"))) (required (codes "OUT"))) (flag (codes "symbols"))
 
+abbrev pub overlay : App
+overlay = with_rule (with_rule (with_rule (new_app (codes "overlay")) (required (codes "BASE"))) (required (codes "OVERLAY"))) (required (codes "OUT"))
+
 abbrev pub plan : App
 plan = with_rule (with_rule (with_rule (new_app (codes "plan")) (required (codes "BLOB"))) (required (codes "DRIVERS"))) (flag (codes "dot"))
 
@@ -41,5 +44,6 @@ top = let a = new_app (codes "dtman") in record a { top = record a.top { has_ver
 
 unfoldable pub dtman : App
 dtman =
-    with_subcommand (with_subcommand (with_subcommand (with_subcommand (with_subcommand (with_subcommand top compile.top) dump.top) plan.top) replay.top) probe.top)
+    with_subcommand
+    (with_subcommand (with_subcommand (with_subcommand (with_subcommand (with_subcommand (with_subcommand top compile.top) overlay.top) dump.top) plan.top) replay.top) probe.top)
     explain.top

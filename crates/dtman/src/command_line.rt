@@ -37,6 +37,11 @@ fn chosen<'a>(matches: &ArgMatches<'a>) -> Option<subcommand::Command<'a>>
             out: given.get_str("OUT")?,
             symbols: is_on(given, "symbols"),
         }),
+        "overlay" => Some(subcommand::Command::Overlay {
+            base: given.get_str("BASE")?,
+            overlay: given.get_str("OVERLAY")?,
+            out: given.get_str("OUT")?,
+        }),
         "dump" => Some(subcommand::Command::Dump {
             blob: given.get_str("IN")?,
         }),

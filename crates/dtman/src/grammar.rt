@@ -28,6 +28,7 @@ pub fn grammar<'a>(alloc: Global) -> Result<Command<'a>, AllocError>
     ensures { IfOk result (λ c. (app_of c ≡ spec.dtman) × ((out-Command c).has_globals ≡ false)) }
 {
     let compile = compile(alloc)?;
+    let overlay = overlay(alloc)?;
     let dump = dump(alloc)?;
     let plan = plan(alloc)?;
     let replay = replay(alloc)?;
@@ -39,6 +40,7 @@ pub fn grammar<'a>(alloc: Global) -> Result<Command<'a>, AllocError>
         .after_help(STATUSES)
         .subcommand_required(true)
         .subcommand(compile)?
+        .subcommand(overlay)?
         .subcommand(dump)?
         .subcommand(plan)?
         .subcommand(replay)?
@@ -58,6 +60,20 @@ fn compile<'a>(alloc: Global) -> Result<Command<'a>, AllocError>
             "The blob, which is written once all of it is ready",
         ))?
         .arg(flag(alloc, "symbols", "Adds the paths of all labelled nodes"))
+}
+
+fn overlay<'a>(alloc: Global) -> Result<Command<'a>, AllocError>
+    ensures { IfOk result (λ c. (app_of c ≡ spec.overlay) × ((out-Command c).has_globals ≡ false)) }
+{
+    Command::new(alloc, "overlay")
+        .about("Applies an overlay to a base")
+        .arg(required(alloc, "BASE", "The base's blob"))?
+        .arg(required(alloc, "OVERLAY", "The overlay's blob"))?
+        .arg(required(
+            alloc,
+            "OUT",
+            "The blob, which is written once all of it is ready",
+        ))
 }
 
 fn dump<'a>(alloc: Global) -> Result<Command<'a>, AllocError>

@@ -8,8 +8,8 @@ use bus_manager::TableProber;
 use clap::error::ErrorKind as Mistake;
 use engine::{
     Channel, Failed, Fault, MAX_BLOB_LEN, MAX_SOURCE_LEN, MAX_TEXT_LEN, OutputChannel,
-    compile_bytes, dump_bytes, explain, graph_bytes, plan_bytes, probe_bytes, read_all,
-    read_within, replay_bytes, write_out,
+    compile_bytes, dump_bytes, explain, graph_bytes, overlay_bytes, plan_bytes, probe_bytes,
+    read_all, read_within, replay_bytes, write_out,
 };
 use std::alloc::Global;
 use std::hash::RandomState;
@@ -154,6 +154,9 @@ fn perform<'a, S: Surroundings, O: Channel, T: Threads + Wait + Sync>(
             out,
             symbols,
         } => return compiled(alloc, surroundings, source, out, symbols),
+        Command::Overlay { base, overlay, out } => {
+            return overlaid(alloc, surroundings, base, overlay, out);
+        }
         Command::Dump { blob } => {
             let blob = read_at(alloc, surroundings, blob, MAX_BLOB_LEN)?;
             dump_bytes(alloc, blob.as_slice())?
@@ -186,6 +189,21 @@ fn compiled<'a, S: Surroundings>(
     let source = read_at(alloc, surroundings, source, MAX_SOURCE_LEN)?;
     let hasher = seed(surroundings)?;
     let blob = compile_bytes(alloc, hasher, source.as_slice(), symbols)?;
+    write_at(surroundings, out, blob.as_slice())
+}
+
+/// Writes the blob of a base with an overlay applied: the file is opened once all bytes are there.
+fn overlaid<'a, S: Surroundings>(
+    alloc: Global,
+    surroundings: &mut S,
+    base: &'a str,
+    overlay: &'a str,
+    out: &'a str,
+) -> Result<(), Failure<'a>> {
+    let base = read_at(alloc, surroundings, base, MAX_BLOB_LEN)?;
+    let overlay = read_at(alloc, surroundings, overlay, MAX_BLOB_LEN)?;
+    let hasher = seed(surroundings)?;
+    let blob = overlay_bytes(alloc, hasher, base.as_slice(), overlay.as_slice())?;
     write_at(surroundings, out, blob.as_slice())
 }
 

@@ -9,6 +9,11 @@ pub enum Command<'a> {
         /// Add the node of symbols.
         symbols: bool,
     },
+    Overlay {
+        base: &'a str,
+        overlay: &'a str,
+        out: &'a str,
+    },
     Dump {
         blob: &'a str,
     },

@@ -2,6 +2,7 @@
 
 mod clock_and_uart;
 mod compiling;
+mod overlaying;
 mod probing;
 mod shelf;
 mod statuses;

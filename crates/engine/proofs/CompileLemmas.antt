@@ -1,12 +1,11 @@
 -- From what the parts answer to what compiling answers.
-use Rattle.std.proofs.Common.{◌≡◌, ◌<◌, ◌⊎◌, inl, inr, ℕ, Bool, List, length, Result, Ok, Err, IfOk, IfErr, MatchResult, ap, sym, ◌∙◌, subst, arith}
-use Rattle.dt_tree.specs.PathMap.{TreeMap, tree_map}
+use Rattle.std.proofs.Common.{◌≡◌, ◌<◌, inl, inr, ℕ, Bool, List, length, Result, Ok, Err, IfOk, IfErr, MatchResult, ap, sym, ◌∙◌, subst, arith}
+use Rattle.dt_tree.specs.PathMap.{TreeMap}
 use Rattle.dt_tree.specs.TreeData.{TreeData, IsTree}
 use Rattle.dt_tree.proofs.MapLaws.{same_tree}
 use Rattle.dt_source.specs.Parse.{IsShort, Says}
 use Rattle.dt_source.specs.Tree as said
 use Rattle.dt_edit.specs.Said.{reading}
-use Rattle.dt_meaning.specs.MapOf.{tree_map_of}
 use Rattle.dt_meaning.specs.Syntax.{Meaning}
 use Rattle.dt_blob.specs.declared.error.BlobError.{BlobError}
 use Rattle.dt_blob.specs.Blob.{blob_of, limit}

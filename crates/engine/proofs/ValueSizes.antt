@@ -3,11 +3,11 @@ use Rattle.std.proofs.Common.{◌≡◌, ℕ, ◌+◌, ◌≤◌, List, [], ◌�
 use Rattle.dt_tree.specs.declared.property.Property.{Property}
 use Rattle.dt_tree.specs.NodeData.{NodeData, Siblings, none, more}
 use Rattle.dt_tree.specs.TreeData.{TreeData}
+use Rattle.dt_assembly.specs.Sizes.{size_among, size_below, size_of}
 use Rattle.dt_blob.specs.BigEndian.{word}
-use Rattle.dt_blob.specs.Blob.{blob_of, assembled, header, padding, reservations, structure_from, strings_after, token_bytes, names_in}
+use Rattle.dt_blob.specs.Blob.{blob_of, header, padding, reservations, structure_from, strings_after, token_bytes, names_in}
 use Rattle.dt_blob.specs.Strings.{offset_in, with_names}
 use Rattle.dt_blob.specs.Token.{Token, begin_node, end_node, property, nop, end, property_tokens, sibling_tokens, tokens_of, tree_tokens}
-use Rattle.dt_build.specs.Built.{size_among, size_below, size_of}
 
 -- how many bytes the values of tokens have
 abbrev valued : List Token → ℕ

@@ -52,3 +52,10 @@ pub record IsRefusal (blob : List ℕ) (fault : FaultValue) : Type 0 where
   pub error : BlobError
   pub told : fault ≡ blob_fault error
   pub explained : Explains blob error
+
+-- the bytes are read as no tree; the limit is that of the bytes that come in
+pub record IsUnread (blob : List ℕ) (fault : FaultValue) : Type 0 where
+  pub error : BlobError
+  pub told : fault ≡ blob_fault error
+  pub explained : Explains blob error
+  pub size : error ≡ TooLarge → header_fault blob ≡ Some TooLarge

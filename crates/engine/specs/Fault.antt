@@ -11,6 +11,8 @@ use Rattle.dt_source.specs.declared.error.SourceErrorKind.TheVariants as sources
 use Rattle.dt_source.specs.SourceError as source
 use Rattle.dt_resolve.specs.declared.error.BuildError.{BuildError}
 use Rattle.dt_resolve.specs.BuildError as build
+use Rattle.dt_fixup.specs.declared.error.OverlayError.{OverlayError}
+use Rattle.dt_fixup.specs.OverlayError as overlay
 use Rattle.dt_blob.specs.declared.error.BlobError.{BlobError}
 use Rattle.dt_blob.specs.BlobError as blob
 use Rattle.bus_manager.specs.declared.run_error.RunError.{RunError}
@@ -78,6 +80,10 @@ source_fault kind line = record { number = source.number_of kind; name = source.
 -- of what a source says
 abbrev pub build_fault : BuildError → FaultValue
 build_fault error = record { number = build.number_of error; name = build.name_of error; place = Nowhere }
+
+-- of an overlay on its base
+abbrev pub overlay_fault : OverlayError → FaultValue
+overlay_fault error = record { number = overlay.number_of error; name = overlay.name_of error; place = Nowhere }
 
 -- of a blob
 abbrev pub blob_fault : BlobError → FaultValue

@@ -1,6 +1,7 @@
 pub mod Compile
 pub mod Dump
 pub mod Fault
+pub mod Overlay
 pub mod Plan
 pub mod Probe
 pub mod Replay

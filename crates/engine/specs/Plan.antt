@@ -1,11 +1,8 @@
 -- What a blob and a driver file plan: the plan of the tree that the bytes hold and of the drivers that the file says, or the first
 -- fault, the blob's before the file's and that before the plan's.
-use Rattle.std.specs.Prelude.{◌≡◌, ℕ, List, Result, Ok, Err, Some, ◌⊎◌}
+use Rattle.std.specs.Prelude.{◌≡◌, ℕ, List, Result, Ok, Err, ◌⊎◌}
 use Rattle.dt_tree.specs.TreeData.{TreeData}
 use Rattle.dt_tree.specs.NodeData.{NodeData}
-use Rattle.dt_blob.specs.declared.error.BlobError.{BlobError}
-use Rattle.dt_blob.specs.declared.error.BlobError.TheVariants.{TooLarge}
-use Rattle.dt_blob.specs.HeaderWords.{header_fault}
 use Rattle.dt_blob.specs.Holds.{Holds}
 use Rattle.bus_plan.specs.declared.error.PlanError.{PlanError}
 use Rattle.bus_plan.specs.Plan.{PlannedDevice}
@@ -13,8 +10,8 @@ use Rattle.bus_plan.specs.PlanText.{text_of}
 use Rattle.bus_drivers.specs.Driver.{DriverSetData}
 use Rattle.bus_drivers.specs.DriverFile.{reading}
 use Rattle.bus_drivers.specs.TreePlan.{plan_of}
-use Rattle.engine.specs.Dump.{Explains}
-use Rattle.engine.specs.Fault.{FaultValue, no_memory, blob_fault, text_fault}
+use Rattle.engine.specs.Dump.{IsUnread}
+use Rattle.engine.specs.Fault.{FaultValue, no_memory, text_fault}
 
 abbrev pub after_drivers : NodeData → Result DriverSetData PlanError → Result (List PlannedDevice) PlanError
 after_drivers root (Ok set) = plan_of root set
@@ -42,13 +39,6 @@ pub record IsPlanText (blob drivers text : List ℕ) : Type 0 where
   pub text_is : text ≡ text_of plan
 
 -- ---- refusals
--- the bytes are read as no tree
-pub record IsUnread (blob : List ℕ) (fault : FaultValue) : Type 0 where
-  pub error : BlobError
-  pub told : fault ≡ blob_fault error
-  pub explained : Explains blob error
-  pub size : error ≡ TooLarge → header_fault blob ≡ Some TooLarge
-
 -- the driver file or the plan of a tree that is held has this first fault
 pub record IsUnplanned (planned : Result (List PlannedDevice) PlanError) (fault : FaultValue) : Type 0 where
   pub error : PlanError

@@ -59,7 +59,8 @@ fn source_blob(
     }
 }
 
-fn tree_blob(alloc: Global, hasher: RandomState, tree: &Tree) -> Result<Vec<u8>, Fault>
+/// The blob of a tree.
+pub(crate) fn tree_blob(alloc: Global, hasher: RandomState, tree: &Tree) -> Result<Vec<u8>, Fault>
     ensures { MatchResult result (λ blob. (blob.items ≡ blob_of tree.now) × (length blob.items ≤ limit)) (λ fault. CannotWrite (length (blob_of tree.now)) (shown fault)) }
 {
     match write(alloc, hasher, tree) {

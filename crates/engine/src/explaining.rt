@@ -39,6 +39,7 @@ pub fn explain(number: u8) -> Option<Explanation>
         1 => of_source(number)?,
         2 => of_build(number)?,
         3 => of_blob(number)?,
+        4 => of_overlay(number)?,
         5 => of_text(number)?,
         6 => of_event(number)?,
         7 => of_run(number)?,
@@ -161,9 +162,15 @@ fn of_build(number: u8) -> Option<Texts> {
             "`/dts-v1/;/{a; a;};`",
             "Leave out the earlier one: a body that comes later may define it anew.",
         )),
+        26 => Some((
+            "PathInPlugin",
+            "Cells of a plugin refer to a node by its path, and fixups carry labels alone.",
+            "`/dts-v1/;/plugin/;&a{r=<&{/b}>;};`",
+            "Give the node a label, and refer to it by that.",
+        )),
         27 => Some((
             "ReservedName",
-            "The root is deleted, cells refer to a reserved node, or symbols are asked for and the root has `__symbols__`.",
+            "The root is deleted, cells refer to a reserved node, or a name that the compiler gives is taken (`__symbols__` with symbols; in a plugin `__fixups__`, `__local_fixups__` and the names of its fragments).",
             "`/dts-v1/;/{a=<&{/__symbols__}>; __symbols__{};};`",
             "Leave `__symbols__`, `__fixups__` and `__local_fixups__` to the compiler.",
         )),
@@ -172,12 +179,6 @@ fn of_build(number: u8) -> Option<Texts> {
             "A node lies deeper than 64 levels below the root.",
             "an extension of a node at level 64 with a child",
             "Trees of boards have some 12 levels: look for a path that repeats.",
-        )),
-        29 => Some((
-            "NoPlugin",
-            "The source is a plugin, which isn't compiled yet.",
-            "`/dts-v1/;/plugin/;/{};`",
-            "Compile it with dtc.",
         )),
         _ => None,
     }
@@ -238,6 +239,54 @@ fn of_blob(number: u8) -> Option<Texts> {
             "The blob, or the text that it would be printed as, has more than 268,435,456 bytes.",
             "a file of 268,435,457 bytes",
             "Take the data out of the tree.",
+        )),
+        _ => None,
+    }
+}
+
+fn of_overlay(number: u8) -> Option<Texts> {
+    match number {
+        40 => Some((
+            "NotOverlay",
+            "The second blob is no overlay: no child of its root has a child `__overlay__`.",
+            "the blob of `/dts-v1/;/{};` as the overlay",
+            "Give the base first and then the overlay. An overlay is compiled from a source that begins with `/dts-v1/; /plugin/;`.",
+        )),
+        41 => Some((
+            "NoTarget",
+            "The base has no node that a fragment targets: none with the phandle in `target`, or, where that isn't there, none at the path in `target-path`.",
+            "the overlay `/dts-v1/;/{f{target-path=\"/b\"; __overlay__{};};};` over a base without `/b`",
+            "Compare the fragment with the base as `dtman dump` prints it. A target is a node that the base has before anything is applied.",
+        )),
+        42 => Some((
+            "UnknownSymbol",
+            "A label that the overlay refers to is no symbol of the base, or its symbol leads to no node that has a phandle.",
+            "an overlay of `/dts-v1/;/plugin/;&b{};` over a base without the label `b`",
+            "Compile the base with `--symbols`, and look for the label's spelling in its `__symbols__`.",
+        )),
+        43 => Some((
+            "BadFixup",
+            "An entry of `__fixups__` or `__local_fixups__` has another form, leads to no four bytes that may be written, or two of them overlap.",
+            "an overlay whose `__fixups__` has `b = \"/f:target\"`",
+            "Leave both nodes to the compiler: look for a tool that changed the overlay after it was compiled.",
+        )),
+        44 => Some((
+            "PhandleOverflow",
+            "A phandle of the overlay, raised above all of the base's, would be 0xffffffff or more.",
+            "an overlay with `phandle = <0xfffffffe>` in a fragment",
+            "Leave phandles out of the sources: the compiler numbers them from 1.",
+        )),
+        45 => Some((
+            "PhandleClash",
+            "A node would get a phandle where it has one, or two nodes of the overlay have one phandle.",
+            "a fragment with `phandle = <1>` in its `__overlay__`, whose target has a phandle",
+            "Leave out a label that the overlay gives to a node of the base, and compile the overlay without `--symbols` where only that asks for the phandle.",
+        )),
+        46 => Some((
+            "TooDeep",
+            "A node of the overlay would lie deeper than 64 levels below the base's root.",
+            "a fragment with a child, whose target lies at level 64",
+            "Trees of boards have some 12 levels: look for a target far down.",
         )),
         _ => None,
     }

@@ -1,12 +1,13 @@
 //! A refusal as the program prints it.
 ghost use Rattle.std.specs.Prelude.{◌≡◌};
-ghost use Rattle.engine.specs.Fault.{shown, no_memory, cannot_read, cannot_write, file_too_long, text_fault, event_fault, blob_fault, build_fault, run_fault, source_fault};
+ghost use Rattle.engine.specs.Fault.{shown, no_memory, cannot_read, cannot_write, file_too_long, text_fault, event_fault, blob_fault, build_fault, overlay_fault, run_fault, source_fault};
 
 use bus_core::Refusal;
 use bus_manager::RunError;
 use bus_plan::PlanError;
 use dt_blob::BlobError;
 use dt_build::BuildError;
+use dt_overlay::OverlayError;
 use dt_source::{SourceError, SourceErrorKind};
 use std::alloc::AllocError;
 use std::fmt;
@@ -118,6 +119,18 @@ impl From<BuildError> for Fault {
     ghost from_gives = { λ error fault. shown fault ≡ build_fault error };
 
     fn from(error: BuildError) -> Fault {
+        Fault {
+            number: error.number(),
+            name: error.name(),
+            place: Place::Nowhere,
+        }
+    }
+}
+
+impl From<OverlayError> for Fault {
+    ghost from_gives = { λ error fault. shown fault ≡ overlay_fault error };
+
+    fn from(error: OverlayError) -> Fault {
         Fault {
             number: error.number(),
             name: error.name(),

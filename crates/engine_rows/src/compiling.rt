@@ -8,7 +8,7 @@ use std::hash::RandomState;
 use std::test::Fail;
 
 /// The blob of a source, or the line that tells why there is none.
-fn compiled(
+pub(crate) fn compiled(
     alloc: Global,
     hasher: RandomState,
     source: &str,
@@ -24,7 +24,7 @@ fn compiled(
 }
 
 /// The same, with the blob printed as a canonical source, without its first two lines.
-fn printed(
+pub(crate) fn printed(
     alloc: Global,
     hasher: RandomState,
     source: &str,
@@ -163,7 +163,7 @@ fn compiles_the_worked_rows(rt: HostRuntime) -> Result<(), Fail> {
 }
 
 /// Row, source, whether with symbols, and the refusal.
-const REFUSALS: [(&str, &str, bool, &str); 22] = [
+const REFUSALS: [(&str, &str, bool, &str); 27] = [
     (
         "cell-arithmetic",
         "/dts-v1/; / { p = <0x100000000>; };",
@@ -231,6 +231,42 @@ const REFUSALS: [(&str, &str, bool, &str); 22] = [
         "error 22 UnknownPath",
     ),
     (
+        "a child that was deleted and defined again in one body",
+        "/dts-v1/; / { a { }; /delete-node/ a; a { }; };",
+        false,
+        "error 25 DuplicateInBody",
+    ),
+    (
+        "an extension by an unknown label",
+        "/dts-v1/; / { }; &nix { };",
+        false,
+        "error 20 UnknownLabel",
+    ),
+    (
+        "an extension's reference before its labels",
+        "/dts-v1/; / { a: x { }; }; a: &nix { };",
+        false,
+        "error 20 UnknownLabel",
+    ),
+    (
+        "a label of another node, by an extension",
+        "/dts-v1/; / { a: x { }; y { }; }; a: &{/y} { };",
+        false,
+        "error 21 DuplicateLabel",
+    ),
+    (
+        "a deletion by an unknown path",
+        "/dts-v1/; / { }; /delete-node/ &{/nix};",
+        false,
+        "error 22 UnknownPath",
+    ),
+    (
+        "a label that went with its node, deleted by name",
+        "/dts-v1/; / { a: x { }; }; / { /delete-node/ x; }; &a { };",
+        false,
+        "error 20 UnknownLabel",
+    ),
+    (
         "a path reference to no node",
         "/dts-v1/; / { p = &{/nix}; };",
         false,
@@ -285,12 +321,6 @@ const REFUSALS: [(&str, &str, bool, &str); 22] = [
         "error 27 ReservedName",
     ),
     (
-        "a plugin",
-        "/dts-v1/; /plugin/; / { };",
-        false,
-        "error 29 NoPlugin",
-    ),
-    (
         "an edit comes before what is found later",
         "/dts-v1/; / { x { r = <&nix>; }; }; &nix { };",
         false,
@@ -318,6 +348,45 @@ fn printed_blobs_compile_to_themselves(rt: HostRuntime) -> Result<(), Fail> {
                 Err(_) => assert!(rt; false, "{name}"),
             },
             Err(_) => assert!(rt; false, "{name}"),
+        }
+    }
+    Ok(())
+}
+
+pub(crate) fn repeat(text: &mut Vec<u8>, part: &[u8], times: usize) -> Result<(), AllocError> {
+    for _ in 0..times {
+        text.extend_from_slice(part)?;
+    }
+    Ok(())
+}
+
+// A node at level 64, and an extension of it.
+fn extends_at_64(alloc: Global, extension: &[u8]) -> Result<Vec<u8>, AllocError> {
+    let mut text = Vec::from_slice(alloc, b"/dts-v1/; / { ")?;
+    repeat(&mut text, b"a { ", 63)?;
+    text.extend_from_slice(b"l: a { }; ")?;
+    repeat(&mut text, b"}; ", 63)?;
+    text.extend_from_slice(b"}; ")?;
+    text.extend_from_slice(extension)?;
+    Ok(text)
+}
+
+/// A node deeper than 64 is 28, by an extension too.
+#[test]
+fn depth_is_limited(rt: HostRuntime) -> Result<(), Fail> {
+    let hasher = RandomState::new(&rt)?;
+    for (extension, refused) in [("&l { x; };", false), ("&l { b { }; };", true)] {
+        let text = extends_at_64(rt.alloc(), extension.as_bytes())?;
+        match compile_bytes(rt.alloc(), hasher, text.as_slice(), false) {
+            Ok(_) => assert!(rt; !refused, "{extension}"),
+            Err(fault) => {
+                let line = format!(in rt.alloc(); "{fault}")?;
+                assert_eq!(rt;
+                    line.as_bytes() == b"error 28 TooDeep".as_slice(),
+                    refused,
+                    "{extension}"
+                );
+            }
         }
     }
     Ok(())

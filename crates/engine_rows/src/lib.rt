@@ -8,4 +8,8 @@ mod compiling;
 #[cfg(test)]
 mod engines;
 #[cfg(test)]
+mod overlaying;
+#[cfg(test)]
+mod plugins;
+#[cfg(test)]
 mod probes;

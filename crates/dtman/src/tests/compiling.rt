@@ -16,16 +16,6 @@ const BLOB: &[u8] =
     b"\xd0\x0d\xfe\xed\0\0\0\x48\0\0\0\x38\0\0\0\x48\0\0\0\x28\0\0\0\x11\0\0\0\x10\0\0\0\0\0\0\0\0\0\0\0\x10\
 \0\0\0\0\0\0\0\0\0\0\0\0\0\0\0\0\0\0\0\x01\0\0\0\0\0\0\0\x02\0\0\0\x09";
 
-/// That the last file that was written is this one, with these bytes; or that none was, where there are none.
-fn has_written(shelf: &Shelf<'_>, path: &str, bytes: &[u8]) -> bool {
-    match &shelf.closed {
-        Some((name, written)) => {
-            name.as_slice() == path.as_bytes() && written.as_slice() == bytes
-        }
-        None => bytes.is_empty(),
-    }
-}
-
 #[test]
 fn compiles_to_a_file(rt: HostRuntime) -> Result<(), Fail> {
     let rows: [(&[&str], u8, &str, &[u8]); 6] = [
@@ -67,7 +57,7 @@ fn compiles_to_a_file(rt: HostRuntime) -> Result<(), Fail> {
         assert_eq!(rt; traces.errors.as_bytes(), told.as_bytes());
         assert_eq!(rt; traces.status, status);
         assert_eq!(rt; traces.output.as_slice(), b"".as_slice());
-        assert!(rt; has_written(&shelf, "out", written));
+        assert!(rt; shelf.has_written("out", written));
     }
     Ok(())
 }

@@ -35,6 +35,16 @@ impl<'a> Shelf<'a> {
         }
     }
 
+    /// That the last file that was written is this one, with these bytes; or that none was, where there are none.
+    pub fn has_written(&self, path: &str, bytes: &[u8]) -> bool {
+        match &self.closed {
+            Some((name, written)) => {
+                name.as_slice() == path.as_bytes() && written.as_slice() == bytes
+            }
+            None => bytes.is_empty(),
+        }
+    }
+
     fn channel(&self, bytes: &'a [u8]) -> Memory<'a>
         ensures { result.failed ≡ false }
     {

@@ -114,7 +114,7 @@ fn tells_refusals_on_standard_error_alone(rt: HostRuntime) -> Result<(), Fail> {
 fn tells_help_on_standard_output_and_mistakes_on_standard_error(
     rt: HostRuntime,
 ) -> Result<(), Fail> {
-    let rows: [(&[&str], u8); 10] = [
+    let rows: [(&[&str], u8); 12] = [
         (&["dtman", "--help"], 0),
         (&["dtman", "--version"], 0),
         (&["dtman", "explain", "64"], 0),
@@ -125,6 +125,8 @@ fn tells_help_on_standard_output_and_mistakes_on_standard_error(
         (&["dtman", "bind"], 2),
         (&["dtman", "dump"], 2),
         (&["dtman", "dump", "empty", "empty"], 2),
+        (&["dtman", "overlay", "--help"], 0),
+        (&["dtman", "overlay", "empty", "empty"], 2),
     ];
     for (words, status) in rows {
         let mut shelf = Shelf::new(rt.alloc(), FILES.as_slice(), RandomState::new(&rt)?);

@@ -29,6 +29,18 @@ fn reads_the_command_line(rt: HostRuntime) {
     let words = ["dtman", "dump", "board.dtb"];
     let dump = read(rt.alloc(), words.as_slice());
     assert!(rt; matches!(dump, Ok(Command::Dump { blob: "board.dtb" })));
+    let words = ["dtman", "overlay", "base.dtb", "over.dtbo", "out.dtb"];
+    let overlay = read(rt.alloc(), words.as_slice());
+    assert!(rt;
+        matches!(
+            overlay,
+            Ok(Command::Overlay {
+                base: "base.dtb",
+                overlay: "over.dtbo",
+                out: "out.dtb"
+            })
+        )
+    );
     let words = ["dtman", "explain", "64"];
     let explain = read(rt.alloc(), words.as_slice());
     assert!(rt; matches!(explain, Ok(Command::Explain { number: "64" })));

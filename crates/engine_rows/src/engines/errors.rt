@@ -1,7 +1,8 @@
 //! Each number by a small input, and its explanation.
 
 use super::printed;
-use engine::{compile_bytes, dump_bytes, explain, replay_bytes};
+use crate::compiling::compiled;
+use engine::{compile_bytes, dump_bytes, explain, overlay_bytes, replay_bytes};
 use std::alloc::{AllocError, Global};
 use std::hash::RandomState;
 use std::test::Fail;
@@ -55,11 +56,15 @@ fn sources_are_refused(rt: HostRuntime) -> Result<(), Fail> {
         ),
         (25, "/dts-v1/;/{a; a;};", "error 25 DuplicateInBody"),
         (
+            26,
+            "/dts-v1/;/plugin/;&a{r=<&{/b}>;};",
+            "error 26 PathInPlugin",
+        ),
+        (
             27,
             "/dts-v1/;/{a=<&{/__symbols__}>; __symbols__{};};",
             "error 27 ReservedName",
         ),
-        (29, "/dts-v1/;/plugin/;/{};", "error 29 NoPlugin"),
     ];
     let hasher = RandomState::new(&rt)?;
     for (number, text, line) in rows {
@@ -71,6 +76,52 @@ fn sources_are_refused(rt: HostRuntime) -> Result<(), Fail> {
             "{number}"
         );
     }
+    Ok(())
+}
+
+#[test]
+fn overlays_are_refused(rt: HostRuntime) -> Result<(), Fail> {
+    let rows = [
+        (40, "/dts-v1/;/{};", "error 40 NotOverlay"),
+        (
+            41,
+            "/dts-v1/;/{f{target-path=\"/b\"; __overlay__{};};};",
+            "error 41 NoTarget",
+        ),
+        (
+            42,
+            "/dts-v1/;/{f{target=<0>; __overlay__{};}; __fixups__{b=\"/f:target:0\";};};",
+            "error 42 UnknownSymbol",
+        ),
+        (
+            43,
+            "/dts-v1/;/{f{target=<0>; __overlay__{};}; __fixups__{a=\"/f:target\";};};",
+            "error 43 BadFixup",
+        ),
+        (
+            44,
+            "/dts-v1/;/{f{__overlay__{phandle=<0xfffffffe>;};};};",
+            "error 44 PhandleOverflow",
+        ),
+        (
+            45,
+            "/dts-v1/;/{f{target-path=\"/a\"; __overlay__{phandle=<1>;};};};",
+            "error 45 PhandleClash",
+        ),
+    ];
+    let hasher = RandomState::new(&rt)?;
+    let base = compiled(rt.alloc(), hasher, "/dts-v1/; / { a: a { }; };", true)?;
+    for (number, overlay, line) in rows {
+        let overlay = compiled(rt.alloc(), hasher, overlay, false)?;
+        let answer = overlay_bytes(rt.alloc(), hasher, base.as_slice(), overlay.as_slice());
+        let told = printed(rt.alloc(), answer)?;
+        assert_eq!(rt; told.as_slice(), line.as_bytes(), "{number}");
+        assert!(rt;
+            is_explained(rt.alloc(), number, line.as_bytes())?,
+            "{number}"
+        );
+    }
+    assert!(rt; is_explained(rt.alloc(), 46, b"error 46 TooDeep")?);
     Ok(())
 }
 
@@ -218,11 +269,12 @@ fn structures_are_refused(rt: HostRuntime) -> Result<(), Fail> {
 /// Each number that a command prints is explained, and no other.
 #[test]
 fn numbers_are_explained(rt: HostRuntime) {
-    let explained: [&[u8]; 8] = [
+    let explained: [&[u8]; 9] = [
         &[0],
         &[10, 11, 12, 13, 14, 15, 16, 17],
-        &[20, 21, 22, 23, 24, 25, 27, 28, 29],
+        &[20, 21, 22, 23, 24, 25, 26, 27, 28],
         &[30, 31, 32, 33, 34, 35, 36, 37, 38],
+        &[40, 41, 42, 43, 44, 45, 46],
         &[50, 51, 52, 53, 54, 55, 56],
         &[60, 61, 62, 63, 64, 65, 66],
         &[70],

@@ -15,6 +15,16 @@ returns-in_ok-get_str-in-compile-2 c =
       is_met = (c.in-compile.is, value given (codes "IN") c.in_ok-get_str-in-compile.field-0.now c.in_ok-get_str-in-compile.ensures, value given (codes "OUT") c.in_ok-get_str-in-compile-2.field-0.now c.in_ok-get_str-in-compile-2.ensures, c.is_on.ensures);
     }
 
+pub returns-in_ok-get_str-in-overlay-3 : goal.returns-in_ok-get_str-in-overlay-3
+returns-in_ok-get_str-in-overlay-3 c =
+    let given = c.in_ok-name.given.now in
+    record {
+      name = c.in_ok-name.name.now;
+      rows = rows_of (found_of given);
+      given = met c.args.matches.now c.in_ok-name.name.now (rows_of (found_of given)) c.in_ok-name.ensures.name c.in_ok-name.ensures.rows;
+      is_met = (c.in-overlay.is, value given (codes "BASE") c.in_ok-get_str-in-overlay.field-0.now c.in_ok-get_str-in-overlay.ensures, value given (codes "OVERLAY") c.in_ok-get_str-in-overlay-2.field-0.now c.in_ok-get_str-in-overlay-2.ensures, value given (codes "OUT") c.in_ok-get_str-in-overlay-3.field-0.now c.in_ok-get_str-in-overlay-3.ensures);
+    }
+
 pub returns-in_ok-get_str-in-dump : goal.returns-in_ok-get_str-in-dump
 returns-in_ok-get_str-in-dump c =
     let given = c.in_ok-name.given.now in

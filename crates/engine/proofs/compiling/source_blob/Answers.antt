@@ -1,4 +1,4 @@
-use Rattle.std.proofs.Common.{inr, Option, Some, subst}
+use Rattle.std.proofs.Common.{inr, Option, subst}
 use Rattle.std.proofs.lemmas.Result.{MatchResult-weaker}
 use Rattle.dt_tree.specs.TreeData.{TreeData}
 use Rattle.dt_blob.specs.Blob.{limit}

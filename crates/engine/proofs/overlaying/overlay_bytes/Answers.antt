@@ -1,0 +1,39 @@
+-- The reader's errors are told, and explained by what the reader promises of them; a tree that is held is the one that was read.
+use Rattle.std.proofs.Common.{inl, inr, ap}
+use Rattle.engine.specs.Fault.{blob_fault}
+use Rattle.engine.specs.Overlay.{CannotApply, IsBlobOfApplied, IsOverlayRefusal}
+use Rattle.engine.proofs.DumpLemmas.{explained}
+use Rattle.engine.proofs.OverlayLemmas.{matched, of-held, told, unread}
+use Rattle.engine.proofs.overlaying.overlay_bytes.Goals as goal
+
+pub returns-clause-held : goal.returns-clause-held
+returns-clause-held c =
+    λ b o base_held over_held.
+    of-held (λ blob. blob.items) c.applied_blob.result c.in_ok-base.base b c.in_ok-overlay.overlay o
+    (c.in_ok-base.ensures.only b base_held) (c.in_ok-overlay.ensures.only o over_held) c.applied_blob.ensures
+
+pub returns-in_err-base-clause-refused : goal.returns-in_err-base-clause-refused
+returns-in_err-base-clause-refused c =
+    let base = c.args.base.now in
+    let e = c.in_err-base.field-0.0 in
+    let of_read = c.in_err-base.ensures in
+    told e (IsOverlayRefusal base c.args.overlay.now) c.from_residual.result c.from_residual.ensures.1
+    (inl (unread base e of_read.too_large (explained base e of_read.only of_read.too_large of_read.truncated of_read.bad_magic of_read.bad_version of_read.no_end)))
+
+pub returns-in_err-overlay-clause-held : goal.returns-in_err-overlay-clause-held
+returns-in_err-overlay-clause-held c =
+    λ b o base_held over_held.
+    matched c.in_err-overlay.field-0.0 (CannotApply b o) (λ blob. IsBlobOfApplied b o blob.items) c.from_residual-in_err-overlay.result c.from_residual-in_err-overlay.ensures.1
+    (inl (ap blob_fault (c.in_err-overlay.ensures.only o over_held)))
+
+pub returns-in_err-overlay-clause-refused : goal.returns-in_err-overlay-clause-refused
+returns-in_err-overlay-clause-refused c =
+    let over = c.args.overlay.now in
+    let e = c.in_err-overlay.field-0.0 in
+    let of_read = c.in_err-overlay.ensures in
+    told e (IsOverlayRefusal c.args.base.now over) c.from_residual-in_err-overlay.result c.from_residual-in_err-overlay.ensures.1
+    (inr (inl (record {
+      base_tree = c.in_ok-base.base;
+      base_held = c.in_ok-base.ensures.found;
+      unread = unread over e of_read.too_large (explained over e of_read.only of_read.too_large of_read.truncated of_read.bad_magic of_read.bad_version of_read.no_end);
+    })))
