@@ -1,8 +1,9 @@
 //! Blobs: written, read, changed; canonical sources.
 use dt_blob::{BlobError, blob_holds, one_tree, read, source_text, write};
-use dt_tree::{Bytes, Name, Node, Property, Tree};
+use dt_tree::{Bytes, Name, Node, Property, Tree, TreeError};
 use std::alloc::{AllocError, Global};
 use std::hash::RandomState;
+use std::process::Abort;
 use std::test::Fail;
 
 /// A root with the one property `a = <1>`.
@@ -73,6 +74,54 @@ fn is_one_cell(alloc: Global, hasher: RandomState, bytes: &[u8]) -> Result<bool,
     Ok(again.as_slice() == ONE_CELL)
 }
 
+/// Blobs of one-cell's tree: words of the structure block, and strings.
+const OF_ONE_CELL: [(&str, &[u32], &[u8]); 3] = [
+    ("a NOP", &[1, 0, 4, 3, 4, 0, 1, 2, 9], b"a\0"),
+    (
+        "NOPs wherever they may be",
+        &[4, 1, 0, 4, 4, 3, 4, 0, 1, 4, 2, 4, 9],
+        b"a\0",
+    ),
+    (
+        "a name behind other strings",
+        &[1, 0, 3, 4, 2, 1, 2, 9],
+        b"bba\0",
+    ),
+];
+
+fn makes_one_cell(
+    alloc: Global,
+    hasher: RandomState,
+    structure: &[u32],
+    strings: &[u8],
+) -> Result<bool, Fail> {
+    let bytes = blob(alloc, structure, strings)?;
+    is_one_cell(alloc, hasher, bytes.as_slice())
+}
+
+/// Whether a blob with one word changed is one of one-cell's tree.
+fn stays_one_cell(
+    alloc: Global,
+    hasher: RandomState,
+    blob: &[u8],
+    at: usize,
+    word: u32,
+) -> Result<bool, Fail> {
+    let bytes = changed(alloc, blob, at, word)?;
+    is_one_cell(alloc, hasher, bytes.as_slice())
+}
+
+fn longer_is_one_cell(alloc: Global, hasher: RandomState) -> Result<bool, Fail> {
+    let mut longer = Vec::from_slice(alloc, ONE_CELL)?;
+    longer.extend_from_slice(b"more")?;
+    is_one_cell(alloc, hasher, longer.as_slice())
+}
+
+fn gap_is_one_cell(alloc: Global, hasher: RandomState) -> Result<bool, Fail> {
+    let gap = blob(alloc, &[1, 0, 3, 4, 0, 1, 2, 9, 0], b"a\0")?;
+    stays_one_cell(alloc, hasher, gap.as_slice(), 0x24, 0x20)
+}
+
 #[test]
 fn changed_blob(rt: HostRuntime) -> Result<(), Fail> {
     let alloc = rt.alloc();
@@ -80,23 +129,15 @@ fn changed_blob(rt: HostRuntime) -> Result<(), Fail> {
     blob_holds();
     one_tree();
     assert!(rt; is_one_cell(alloc, hasher, ONE_CELL)?);
-    let nop = blob(alloc, &[1, 0, 4, 3, 4, 0, 1, 2, 9], b"a\0")?;
-    let all_nops = blob(alloc, &[4, 1, 0, 4, 4, 3, 4, 0, 1, 4, 2, 4, 9], b"a\0")?;
-    let strings_behind = blob(alloc, &[1, 0, 3, 4, 2, 1, 2, 9], b"bba\0")?;
-    let mut longer = Vec::from_slice(alloc, ONE_CELL)?;
-    longer.extend_from_slice(b"more")?;
-    let gap = blob(alloc, &[1, 0, 3, 4, 0, 1, 2, 9, 0], b"a\0")?;
-    let gap = changed(alloc, gap.as_slice(), 0x24, 0x20)?;
-    for bytes in [&nop, &all_nops, &strings_behind, &longer, &gap] {
-        assert!(rt; is_one_cell(alloc, hasher, bytes.as_slice())?);
+    for (name, structure, strings) in OF_ONE_CELL {
+        assert!(rt;
+            makes_one_cell(alloc, hasher, structure, strings)?,
+            "{name}"
+        );
     }
-    assert!(rt;
-        is_one_cell(
-            alloc,
-            hasher,
-            changed(alloc, ONE_CELL, 0x14, 18)?.as_slice()
-        )?
-    );
+    assert!(rt; longer_is_one_cell(alloc, hasher)?);
+    assert!(rt; gap_is_one_cell(alloc, hasher)?);
+    assert!(rt; stays_one_cell(alloc, hasher, ONE_CELL, 0x14, 18)?);
     Ok(())
 }
 
@@ -282,111 +323,141 @@ fn unlawful_property_names(rt: HostRuntime) -> Result<(), Fail> {
     Ok(())
 }
 
-/// A tree whose root has these properties and no children.
+fn property(alloc: Global, name: &[u8], value: &[u8]) -> Result<Property, TreeError> {
+    let value = Bytes::from_vec(Vec::from_slice(alloc, value)?);
+    let name = Name::new(alloc, name)?;
+    Ok(Property { name, value })
+}
+
+/// A root with these properties and no children.
+fn root(alloc: Global, properties: &[(&[u8], &[u8])]) -> Result<Node, Fail> {
+    let mut list = Vec::new(alloc);
+    for (name, value) in properties {
+        list.push(property(alloc, name, value)?)?;
+    }
+    Ok(Node::new(alloc, None, list, Vec::new(alloc))?)
+}
+
+/// A tree of that root.
 fn tree(
     alloc: Global,
     reserves: &[(u64, u64)],
     properties: &[(&[u8], &[u8])],
 ) -> Result<Tree, Fail> {
-    let mut list = Vec::new(alloc);
-    for (name, value) in properties {
-        list.push(Property {
-            name: Name::new(alloc, name)?,
-            value: Bytes::from_vec(Vec::from_slice(alloc, value)?),
-        })?;
-    }
-    let root = Node::new(alloc, None, list, Vec::new(alloc))?;
-    Ok(Tree::new(Vec::from_slice(alloc, reserves)?, 0, root)?)
+    let reserves = Vec::from_slice(alloc, reserves)?;
+    Ok(Tree::new(reserves, 0, root(alloc, properties)?)?)
 }
 
 /// A row: its name, reserves, the root's properties, the blob and the text.
-#[derive(Drop)]
-struct Row<'a> {
-    name: &'a str,
-    reserves: &'a [(u64, u64)],
-    properties: &'a [(&'a [u8], &'a [u8])],
-    blob: &'a [u8],
-    text: &'a [u8],
+#[derive(Clone, Copy, Drop)]
+struct Row {
+    name: &'static str,
+    reserves: &'static [(u64, u64)],
+    properties: &'static [(&'static [u8], &'static [u8])],
+    blob: &'static [u8],
+    text: &'static [u8],
+}
+
+const WRITTEN: [Row; 4] = [
+    Row {
+        name: "empty-root",
+        reserves: &[],
+        properties: &[],
+        blob: b"\xd0\x0d\xfe\xed\x00\x00\x00\x48\x00\x00\x00\x38\x00\x00\x00\x48\x00\x00\x00\x28\x00\x00\x00\x11\x00\x00\x00\x10\x00\x00\x00\x00\x00\x00\x00\x00\x00\x00\x00\x10\x00\x00\x00\x00\x00\x00\x00\x00\x00\x00\x00\x00\x00\x00\x00\x00\x00\x00\x00\x01\x00\x00\x00\x00\x00\x00\x00\x02\x00\x00\x00\x09",
+        text: b"/dts-v1/;\n\n/ {\n};\n",
+    },
+    Row {
+        name: "one-cell",
+        reserves: &[],
+        properties: &[(b"a", b"\0\0\0\x01")],
+        blob: b"\xd0\x0d\xfe\xed\x00\x00\x00\x5a\x00\x00\x00\x38\x00\x00\x00\x58\x00\x00\x00\x28\x00\x00\x00\x11\x00\x00\x00\x10\x00\x00\x00\x00\x00\x00\x00\x02\x00\x00\x00\x20\x00\x00\x00\x00\x00\x00\x00\x00\x00\x00\x00\x00\x00\x00\x00\x00\x00\x00\x00\x01\x00\x00\x00\x00\x00\x00\x00\x03\x00\x00\x00\x04\x00\x00\x00\x00\x00\x00\x00\x01\x00\x00\x00\x02\x00\x00\x00\x09\x61\x00",
+        text: b"/dts-v1/;\n\n/ {\n\ta = <0x00000001>;\n};\n",
+    },
+    Row {
+        name: "suffix-sharing",
+        reserves: &[],
+        properties: &[(b"xreg", b""), (b"reg", b"")],
+        blob: b"\xd0\x0d\xfe\xed\x00\x00\x00\x65\x00\x00\x00\x38\x00\x00\x00\x60\x00\x00\x00\x28\x00\x00\x00\x11\x00\x00\x00\x10\x00\x00\x00\x00\x00\x00\x00\x05\x00\x00\x00\x28\x00\x00\x00\x00\x00\x00\x00\x00\x00\x00\x00\x00\x00\x00\x00\x00\x00\x00\x00\x01\x00\x00\x00\x00\x00\x00\x00\x03\x00\x00\x00\x00\x00\x00\x00\x00\x00\x00\x00\x03\x00\x00\x00\x00\x00\x00\x00\x01\x00\x00\x00\x02\x00\x00\x00\x09\x78\x72\x65\x67\x00",
+        text: b"/dts-v1/;\n\n/ {\n\txreg;\n\treg;\n};\n",
+    },
+    Row {
+        name: "reservation",
+        reserves: &[(0x1000, 0x2000)],
+        properties: &[],
+        blob: b"\xd0\x0d\xfe\xed\x00\x00\x00\x58\x00\x00\x00\x48\x00\x00\x00\x58\x00\x00\x00\x28\x00\x00\x00\x11\x00\x00\x00\x10\x00\x00\x00\x00\x00\x00\x00\x00\x00\x00\x00\x10\x00\x00\x00\x00\x00\x00\x10\x00\x00\x00\x00\x00\x00\x00\x20\x00\x00\x00\x00\x00\x00\x00\x00\x00\x00\x00\x00\x00\x00\x00\x00\x00\x00\x00\x00\x01\x00\x00\x00\x00\x00\x00\x00\x02\x00\x00\x00\x09",
+        text: b"/dts-v1/;\n\n/memreserve/ 0x0000000000001000 0x0000000000002000;\n/ {\n};\n",
+    },
+];
+
+fn row_is_written(
+    rt: &impl Abort,
+    alloc: Global,
+    hasher: RandomState,
+    tree: &Tree,
+    row: &Row,
+) -> Result<(), Fail> {
+    let blob = write(alloc, hasher, tree)?;
+    assert!(rt; blob.as_slice() == row.blob, "{}", row.name);
+    let text = source_text(alloc, tree)?;
+    assert!(rt; text.as_slice() == row.text, "{}", row.name);
+    Ok(())
 }
 
 #[test]
 fn written_rows(rt: HostRuntime) -> Result<(), Fail> {
-    let alloc = rt.alloc();
     let hasher = RandomState::new(&rt)?;
-    let rows = [
-        Row {
-            name: "empty-root",
-            reserves: &[],
-            properties: &[],
-            blob: b"\xd0\x0d\xfe\xed\x00\x00\x00\x48\x00\x00\x00\x38\x00\x00\x00\x48\x00\x00\x00\x28\x00\x00\x00\x11\x00\x00\x00\x10\x00\x00\x00\x00\x00\x00\x00\x00\x00\x00\x00\x10\x00\x00\x00\x00\x00\x00\x00\x00\x00\x00\x00\x00\x00\x00\x00\x00\x00\x00\x00\x01\x00\x00\x00\x00\x00\x00\x00\x02\x00\x00\x00\x09",
-            text: b"/dts-v1/;\n\n/ {\n};\n",
-        },
-        Row {
-            name: "one-cell",
-            reserves: &[],
-            properties: &[(b"a", b"\0\0\0\x01")],
-            blob: b"\xd0\x0d\xfe\xed\x00\x00\x00\x5a\x00\x00\x00\x38\x00\x00\x00\x58\x00\x00\x00\x28\x00\x00\x00\x11\x00\x00\x00\x10\x00\x00\x00\x00\x00\x00\x00\x02\x00\x00\x00\x20\x00\x00\x00\x00\x00\x00\x00\x00\x00\x00\x00\x00\x00\x00\x00\x00\x00\x00\x00\x01\x00\x00\x00\x00\x00\x00\x00\x03\x00\x00\x00\x04\x00\x00\x00\x00\x00\x00\x00\x01\x00\x00\x00\x02\x00\x00\x00\x09\x61\x00",
-            text: b"/dts-v1/;\n\n/ {\n\ta = <0x00000001>;\n};\n",
-        },
-        Row {
-            name: "suffix-sharing",
-            reserves: &[],
-            properties: &[(b"xreg", b""), (b"reg", b"")],
-            blob: b"\xd0\x0d\xfe\xed\x00\x00\x00\x65\x00\x00\x00\x38\x00\x00\x00\x60\x00\x00\x00\x28\x00\x00\x00\x11\x00\x00\x00\x10\x00\x00\x00\x00\x00\x00\x00\x05\x00\x00\x00\x28\x00\x00\x00\x00\x00\x00\x00\x00\x00\x00\x00\x00\x00\x00\x00\x00\x00\x00\x00\x01\x00\x00\x00\x00\x00\x00\x00\x03\x00\x00\x00\x00\x00\x00\x00\x00\x00\x00\x00\x03\x00\x00\x00\x00\x00\x00\x00\x01\x00\x00\x00\x02\x00\x00\x00\x09\x78\x72\x65\x67\x00",
-            text: b"/dts-v1/;\n\n/ {\n\txreg;\n\treg;\n};\n",
-        },
-        Row {
-            name: "reservation",
-            reserves: &[(0x1000, 0x2000)],
-            properties: &[],
-            blob: b"\xd0\x0d\xfe\xed\x00\x00\x00\x58\x00\x00\x00\x48\x00\x00\x00\x58\x00\x00\x00\x28\x00\x00\x00\x11\x00\x00\x00\x10\x00\x00\x00\x00\x00\x00\x00\x00\x00\x00\x00\x10\x00\x00\x00\x00\x00\x00\x10\x00\x00\x00\x00\x00\x00\x00\x20\x00\x00\x00\x00\x00\x00\x00\x00\x00\x00\x00\x00\x00\x00\x00\x00\x00\x00\x00\x00\x01\x00\x00\x00\x00\x00\x00\x00\x02\x00\x00\x00\x09",
-            text: b"/dts-v1/;\n\n/memreserve/ 0x0000000000001000 0x0000000000002000;\n/ {\n};\n",
-        },
-    ];
-    for row in &rows {
-        let tree = tree(alloc, row.reserves, row.properties)?;
-        let blob = write(alloc, hasher, &tree)?;
-        assert!(rt; blob.as_slice() == row.blob, "{}", row.name);
-        let text = source_text(alloc, &tree)?;
-        assert!(rt; text.as_slice() == row.text, "{}", row.name);
+    for row in WRITTEN {
+        let tree = tree(rt.alloc(), row.reserves, row.properties)?;
+        row_is_written(&rt, rt.alloc(), hasher, &tree, &row)?;
     }
+    Ok(())
+}
+
+/// A property of each form of values.
+const FORMS: [(&[u8], &[u8]); 5] = [
+    (b"s", b"a\0b\0"),
+    (b"e", b""),
+    (b"n", b"\0\0\0\0"),
+    (b"o", b"\"\\\0"),
+    (b"h", b"a"),
+];
+
+const FORMS_TEXT: &[u8] =
+    b"/dts-v1/;\n\n/ {\n\ts = \"a\", \"b\";\n\te;\n\tn = <0x00000000>;\n\to = \"\\\"\\\\\";\n\th = [61];\n};\n";
+
+fn text_is(rt: &impl Abort, alloc: Global, tree: &Tree, wanted: &[u8]) -> Result<(), Fail> {
+    let text = source_text(alloc, tree)?;
+    assert!(rt; text.as_slice() == wanted);
     Ok(())
 }
 
 #[test]
 fn value_forms(rt: HostRuntime) -> Result<(), Fail> {
-    let alloc = rt.alloc();
-    let properties: [(&[u8], &[u8]); 5] = [
-        (b"s", b"a\0b\0"),
-        (b"e", b""),
-        (b"n", b"\0\0\0\0"),
-        (b"o", b"\"\\\0"),
-        (b"h", b"a"),
-    ];
-    let tree = tree(alloc, &[], &properties)?;
-    let text = source_text(alloc, &tree)?;
-    let wanted =
-        b"/dts-v1/;\n\n/ {\n\ts = \"a\", \"b\";\n\te;\n\tn = <0x00000000>;\n\to = \"\\\"\\\\\";\n\th = [61];\n};\n";
-    assert!(rt; text.as_slice() == wanted.as_slice());
-    Ok(())
+    let tree = tree(rt.alloc(), &[], &FORMS)?;
+    text_is(&rt, rt.alloc(), &tree, FORMS_TEXT)
 }
 
-#[test]
-fn tails_of_names(rt: HostRuntime) -> Result<(), Fail> {
-    let alloc = rt.alloc();
-    let hasher = RandomState::new(&rt)?;
-    let properties: [(&[u8], &[u8]); 4] = [
-        (b"reg", b""),
-        (b"xreg", b""),
-        (b"g", b""),
-        (b"eg", b""),
-    ];
-    let tree = tree(alloc, &[], &properties)?;
+/// Properties whose names are tails of one another.
+const TAILS: [(&[u8], &[u8]); 4] = [(b"reg", b""), (b"xreg", b""), (b"g", b""), (b"eg", b"")];
+
+fn tails_are_shared(
+    rt: &impl Abort,
+    alloc: Global,
+    hasher: RandomState,
+    tree: &Tree,
+) -> Result<(), Fail> {
     let wanted = blob(
         alloc,
         &[1, 0, 3, 0, 0, 3, 0, 4, 3, 0, 2, 3, 0, 1, 2, 9],
         b"reg\0xreg\0",
     )?;
-    assert!(rt; write(alloc, hasher, &tree)?.as_slice() == wanted.as_slice());
+    assert!(rt; write(alloc, hasher, tree)?.as_slice() == wanted.as_slice());
     Ok(())
+}
+
+#[test]
+fn tails_of_names(rt: HostRuntime) -> Result<(), Fail> {
+    let hasher = RandomState::new(&rt)?;
+    let tree = tree(rt.alloc(), &[], &TAILS)?;
+    tails_are_shared(&rt, rt.alloc(), hasher, &tree)
 }

@@ -1,7 +1,9 @@
 //! The calls that change a tree: what they answer and the canonical source of what they leave.
+use crate::growing::{Call, Step, grown, made};
 use dt_blob::source_text;
-use dt_tree::{Bytes, MAX_DEPTH, Name, Node, Path, Property, Tree, TreeError};
+use dt_tree::{MAX_DEPTH, Name, Path, Tree, TreeError};
 use std::alloc::Global;
+use std::process::Abort;
 use std::test::Fail;
 
 /// The lines of each tree before those of its root.
@@ -10,94 +12,53 @@ const HEAD: &[u8] = b"/dts-v1/;\n\n/memreserve/ 0x0000000000001000 0x00000000000
 /// The lines in the root of the tree that each row begins with.
 const BASE: &[u8] = b"\ta = [01];\n\tb;\n\tsoc {\n\t\tuart {\n\t\t};\n\t};\n\tclk {\n\t};\n};\n";
 
-/// A call, but for its path and name.
-#[derive(Clone, Copy, Drop)]
-enum Call {
-    Set(&'static [u8]),
-    Unset,
-    Add,
-    Remove,
-}
+/// The calls that make that tree.
+const BASE_STEPS: [Step; 5] = [
+    (Call::Set(&[1]), b"/", b"a"),
+    (Call::Set(&[]), b"/", b"b"),
+    (Call::Add, b"/", b"soc"),
+    (Call::Add, b"/soc", b"uart"),
+    (Call::Add, b"/", b"clk"),
+];
 
 /// A call of the base tree, whether it answers that something was there, the number of its refusal, or 0, and the
 /// lines in the root that it leaves.
 #[derive(Clone, Copy, Drop)]
 struct Row {
-    call: Call,
-    path: &'static [u8],
-    name: &'static [u8],
+    step: Step,
     there: bool,
     refusal: u8,
     left: &'static [u8],
 }
 
-fn property(alloc: Global, name: &[u8], value: &[u8]) -> Result<Property, Fail> {
-    let value = Bytes::from_vec(Vec::from_slice(alloc, value)?);
-    let name = Name::new(alloc, name)?;
-    Ok(Property { name, value })
-}
-
-fn node(alloc: Global, name: &[u8], children: Vec<Node>) -> Result<Node, Fail> {
-    let name = Name::new(alloc, name)?;
-    Ok(Node::new(alloc, Some(name), Vec::new(alloc), children)?)
-}
-
 fn base(alloc: Global) -> Result<Tree, Fail> {
-    let mut below = Vec::new(alloc);
-    below.push(node(alloc, b"uart", Vec::new(alloc))?)?;
-    let mut children = Vec::new(alloc);
-    children.push(node(alloc, b"soc", below)?)?;
-    children.push(node(alloc, b"clk", Vec::new(alloc))?)?;
-    let mut properties = Vec::new(alloc);
-    properties.push(property(alloc, b"a", &[1])?)?;
-    properties.push(property(alloc, b"b", &[])?)?;
-    let root = Node::new(alloc, None, properties, children)?;
-    let reserves = Vec::from_slice(alloc, &[(4096, 16)])?;
-    Ok(Tree::new(reserves, 3, root)?)
+    grown(alloc, &[(4096, 16)], &BASE_STEPS)
 }
 
-/// Makes the call; setting and adding answer false.
-fn made(alloc: Global, tree: &mut Tree, row: &Row) -> Result<bool, TreeError> {
-    let path = Path::parse(alloc, row.path)?;
-    let name = Name::new(alloc, row.name)?;
-    match row.call {
-        Call::Set(value) => {
-            let value = Bytes::from_vec(Vec::from_slice(alloc, value)?);
-            tree.set_property(&path, name, value)?;
-            Ok(false)
-        }
-        Call::Unset => tree.remove_property(&path, &name),
-        Call::Add => {
-            tree.add_child(alloc, &path, name)?;
-            Ok(false)
-        }
-        Call::Remove => tree.remove_child(&path, &name),
+/// Whether the call answers as the row says.
+fn answers(alloc: Global, tree: &mut Tree, row: &Row) -> bool {
+    match made(alloc, tree, row.step) {
+        Ok(there) => there == row.there && row.refusal == 0,
+        Err(TreeError::NoMemory) => false,
+        Err(e) => !row.there && e.number() == row.refusal,
     }
+}
+
+/// Whether the tree is what the row says that the call leaves.
+fn is_left(alloc: Global, tree: &Tree, row: &Row) -> Result<bool, Fail> {
+    let text = source_text(alloc, tree)?;
+    Ok(tree.boot_cpu() == 3 && text.as_slice().strip_prefix(HEAD) == Some(row.left))
 }
 
 fn row_holds(alloc: Global, row: &Row) -> Result<bool, Fail> {
     let mut tree = base(alloc)?;
-    let (there, refusal) = match made(alloc, &mut tree, row) {
-        Ok(there) => (there, 0),
-        Err(TreeError::NoMemory) => return Ok(false),
-        Err(e) => (false, e.number()),
-    };
-    let mut wanted = Vec::from_slice(alloc, HEAD)?;
-    wanted.extend_from_slice(row.left)?;
-    let text = source_text(alloc, &tree)?;
-    Ok(
-        there == row.there
-            && refusal == row.refusal
-            && tree.boot_cpu() == 3
-            && text.as_slice() == wanted.as_slice(),
-    )
+    let answered = answers(alloc, &mut tree, row);
+    Ok(answered && is_left(alloc, &tree, row)?)
 }
 
 const fn done(call: Call, path: &'static [u8], name: &'static [u8], left: &'static [u8]) -> Row {
     Row {
-        call,
-        path,
-        name,
+        step: (call, path, name),
         there: false,
         refusal: 0,
         left,
@@ -199,21 +160,41 @@ fn children(rt: HostRuntime) -> Result<(), Fail> {
     Ok(())
 }
 
-/// A node below a path of 64 names is too deep, whatever its name; one with a taken name is not tested for depth.
-#[test]
-fn deepest_child(rt: HostRuntime) -> Result<(), Fail> {
-    let alloc = rt.alloc();
-    let mut tree = base(alloc)?;
-    let name = Name::new(alloc, b"floor")?;
+/// Puts as many floors below one another as there may be, and gives the path of the lowest.
+fn deepest(alloc: Global, tree: &mut Tree, name: &Name) -> Result<Path, TreeError> {
     let mut path = Path::parse(alloc, b"/")?;
     for _ in 0..MAX_DEPTH {
         tree.add_child(alloc, &path, name.copy(alloc)?)?;
-        path = path.child(alloc, &name)?;
+        path = path.child(alloc, name)?;
     }
-    let before = source_text(alloc, &tree)?;
-    let added = tree.add_child(alloc, &path, name);
+    Ok(path)
+}
+
+fn is_too_deep(
+    rt: &impl Abort,
+    alloc: Global,
+    tree: &mut Tree,
+    path: &Path,
+    name: Name,
+) -> Result<(), Fail> {
+    let before = source_text(alloc, tree)?;
+    let added = tree.add_child(alloc, path, name);
     assert!(rt; matches!(added, Err(TreeError::TooDeep)));
-    assert!(rt; source_text(alloc, &tree)?.as_slice() == before.as_slice());
-    assert!(rt; tree.remove_child(&Path::parse(alloc, b"/")?, &Name::new(alloc, b"floor")?)?);
+    assert!(rt; source_text(alloc, tree)?.as_slice() == before.as_slice());
     Ok(())
+}
+
+fn floors_end(rt: &impl Abort, alloc: Global, tree: &mut Tree) -> Result<(), Fail> {
+    let name = Name::new(alloc, b"floor")?;
+    let path = deepest(alloc, tree, &name)?;
+    is_too_deep(rt, alloc, tree, &path, name)?;
+    assert!(rt; made(alloc, tree, (Call::Remove, b"/", b"floor"))?);
+    Ok(())
+}
+
+/// A node below a path of 64 names is too deep, whatever its name; one with a taken name is not tested for depth.
+#[test]
+fn deepest_child(rt: HostRuntime) -> Result<(), Fail> {
+    let mut tree = base(rt.alloc())?;
+    floors_end(&rt, rt.alloc(), &mut tree)
 }

@@ -8,6 +8,8 @@ mod blobs;
 #[cfg(test)]
 mod changes;
 #[cfg(test)]
+mod growing;
+#[cfg(test)]
 mod merges;
 #[cfg(test)]
 mod trees;

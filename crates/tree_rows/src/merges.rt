@@ -1,7 +1,9 @@
 //! Merging a node into a tree: the canonical source of the new tree, and the refusals.
+use crate::growing::{Call, Step, grown};
 use dt_blob::source_text;
-use dt_tree::{Bytes, Name, Node, Path, Property, Tree, TreeError};
+use dt_tree::{Name, Node, Path, Tree, TreeError};
 use std::alloc::Global;
+use std::process::Abort;
 use std::test::Fail;
 
 /// The tree that each row begins with.
@@ -16,64 +18,49 @@ const AT_ROOT: &[u8] =
 const AT_CLK: &[u8] =
     b"/dts-v1/;\n\n/ {\n\tx = [01];\n\ty;\n\tsoc {\n\t\tx = [01];\n\t\tuart {\n\t\t};\n\t};\n\tclk {\n\t\tx = [02];\n\t\tz;\n\t\tgpio {\n\t\t};\n\t\tsoc {\n\t\t\tx = [02];\n\t\t\tz;\n\t\t\tspi {\n\t\t\t};\n\t\t\tuart {\n\t\t\t};\n\t\t};\n\t};\n};\n";
 
-fn property(alloc: Global, name: &[u8], value: &[u8]) -> Result<Property, Fail> {
-    let value = Bytes::from_vec(Vec::from_slice(alloc, value)?);
-    let name = Name::new(alloc, name)?;
-    Ok(Property { name, value })
+/// The calls that make the tree that each row begins with.
+const BASE_STEPS: [Step; 6] = [
+    (Call::Set(&[1]), b"/", b"x"),
+    (Call::Set(&[]), b"/", b"y"),
+    (Call::Add, b"/", b"soc"),
+    (Call::Set(&[1]), b"/soc", b"x"),
+    (Call::Add, b"/soc", b"uart"),
+    (Call::Add, b"/", b"clk"),
+];
+
+/// Those that make `other`, a node with x = 2 and z, and the children gpio and soc, of which soc has x = 2 and z and
+/// the children spi and uart.
+const OTHER_STEPS: [Step; 9] = [
+    (Call::Add, b"/", b"other"),
+    (Call::Set(&[2]), b"/other", b"x"),
+    (Call::Set(&[]), b"/other", b"z"),
+    (Call::Add, b"/other", b"gpio"),
+    (Call::Add, b"/other", b"soc"),
+    (Call::Set(&[2]), b"/other/soc", b"x"),
+    (Call::Set(&[]), b"/other/soc", b"z"),
+    (Call::Add, b"/other/soc", b"spi"),
+    (Call::Add, b"/other/soc", b"uart"),
+];
+
+fn floor(alloc: Global, children: Vec<Node>) -> Result<Node, TreeError> {
+    match Name::new(alloc, b"floor") {
+        Ok(name) => Node::new(alloc, Some(name), Vec::new(alloc), children),
+        Err(e) => Err(e),
+    }
 }
 
-/// The properties x of one byte and another without a value.
-fn two_properties(alloc: Global, x: u8, other: &[u8]) -> Result<Vec<Property>, Fail> {
-    let mut properties = Vec::new(alloc);
-    properties.push(property(alloc, b"x", &[x])?)?;
-    properties.push(property(alloc, other, &[])?)?;
-    Ok(properties)
-}
-
-fn child(
-    alloc: Global,
-    name: &[u8],
-    properties: Vec<Property>,
-    children: Vec<Node>,
-) -> Result<Node, Fail> {
-    let name = Name::new(alloc, name)?;
-    Ok(Node::new(alloc, Some(name), properties, children)?)
-}
-
-fn leaf(alloc: Global, name: &[u8]) -> Result<Node, Fail> {
-    child(alloc, name, Vec::new(alloc), Vec::new(alloc))
-}
-
-fn base(alloc: Global) -> Result<Tree, Fail> {
-    let mut properties = Vec::new(alloc);
-    properties.push(property(alloc, b"x", &[1])?)?;
-    let mut below = Vec::new(alloc);
-    below.push(leaf(alloc, b"uart")?)?;
-    let mut children = Vec::new(alloc);
-    children.push(child(alloc, b"soc", properties, below)?)?;
-    children.push(leaf(alloc, b"clk")?)?;
-    let root = Node::new(alloc, None, two_properties(alloc, 1, b"y")?, children)?;
-    Ok(Tree::new(Vec::new(alloc), 3, root)?)
-}
-
-/// A node with x = 2 and z, and the children gpio and soc, of which soc has x = 2 and z and the children spi and uart.
-fn other(alloc: Global) -> Result<Node, Fail> {
-    let mut below = Vec::new(alloc);
-    below.push(leaf(alloc, b"spi")?)?;
-    below.push(leaf(alloc, b"uart")?)?;
-    let mut children = Vec::new(alloc);
-    children.push(leaf(alloc, b"gpio")?)?;
-    children.push(child(alloc, b"soc", two_properties(alloc, 2, b"z")?, below)?)?;
-    child(alloc, b"other", two_properties(alloc, 2, b"z")?, children)
+fn over(alloc: Global, node: Node) -> Result<Node, TreeError> {
+    match Vec::from_array(alloc, [node]) {
+        Ok(children) => floor(alloc, children),
+        Err(_) => Err(TreeError::NoMemory),
+    }
 }
 
 /// A node with so many levels of nodes below it.
-fn tower(alloc: Global, levels: usize) -> Result<Node, Fail> {
-    let mut node = leaf(alloc, b"floor")?;
+fn tower(alloc: Global, levels: usize) -> Result<Node, TreeError> {
+    let mut node = floor(alloc, Vec::new(alloc))?;
     for _ in 0..levels {
-        let mut children = Vec::new(alloc);
-        children.push(node)?;
-        node = child(alloc, b"floor", Vec::new(alloc), children)?;
+        node = over(alloc, node)?;
     }
     Ok(node)
 }
@@ -96,33 +83,65 @@ fn refusal(answer: Result<Tree, TreeError>) -> u8 {
     }
 }
 
+/// The same, of a tower merged into a tree.
+fn tower_refused(alloc: Global, tree: &Tree, path: &Path, levels: usize) -> Result<u8, Fail> {
+    let node = tower(alloc, levels)?;
+    Ok(refusal(tree.merge(alloc, path, &node)))
+}
+
+fn is_written_as(rt: &impl Abort, alloc: Global, tree: &Tree, text: &[u8]) -> Result<(), Fail> {
+    assert!(rt; tree.boot_cpu() == 3);
+    assert!(rt; source_text(alloc, tree)?.as_slice() == text);
+    Ok(())
+}
+
+fn merged(alloc: Global, tree: &Tree, path: &[u8], node: &Node) -> Result<Tree, TreeError> {
+    let path = Path::parse(alloc, path)?;
+    tree.merge(alloc, &path, node)
+}
+
+fn is_merged(rt: &impl Abort, alloc: Global, tree: &Tree, others: &Tree) -> Result<(), Fail> {
+    let node = others.root().child(b"other").ok_or("no node")?;
+    for (path, text) in [(b"/".as_slice(), AT_ROOT), (b"/clk".as_slice(), AT_CLK)] {
+        let tree = merged(alloc, tree, path, node)?;
+        is_written_as(rt, alloc, &tree, text)?;
+    }
+    is_written_as(rt, alloc, tree, BASE)
+}
+
 /// What is there keeps its place and takes the new value; what is new goes last. The tree that was merged into stays.
 #[test]
 fn merged_nodes(rt: HostRuntime) -> Result<(), Fail> {
-    let alloc = rt.alloc();
-    let tree = base(alloc)?;
-    let node = other(alloc)?;
-    let at_root = tree.merge(alloc, &Path::parse(alloc, b"/")?, &node)?;
-    assert!(rt; at_root.boot_cpu() == 3);
-    assert!(rt; source_text(alloc, &at_root)?.as_slice() == AT_ROOT);
-    let at_clk = tree.merge(alloc, &Path::parse(alloc, b"/clk")?, &node)?;
-    assert!(rt; source_text(alloc, &at_clk)?.as_slice() == AT_CLK);
-    assert!(rt; source_text(alloc, &tree)?.as_slice() == BASE);
+    let tree = grown(rt.alloc(), &[], &BASE_STEPS)?;
+    let others = grown(rt.alloc(), &[], &OTHER_STEPS)?;
+    is_merged(&rt, rt.alloc(), &tree, &others)
+}
+
+/// The tree with ten levels of nodes below its root.
+fn high(alloc: Global, tree: &Tree) -> Result<Tree, Fail> {
+    let node = tower(alloc, 10)?;
+    Ok(merged(alloc, tree, b"/", &node)?)
+}
+
+fn is_too_high(rt: &impl Abort, alloc: Global, tree: &Tree) -> Result<(), Fail> {
+    for (names, levels, number) in [(10, 54, 255), (10, 60, 4), (11, 60, 5)] {
+        let path = stairs(alloc, names)?;
+        assert_eq!(rt; tower_refused(alloc, tree, &path, levels)?, number);
+    }
+    Ok(())
+}
+
+fn is_nowhere(rt: &impl Abort, alloc: Global, tree: &Tree) -> Result<(), Fail> {
+    let nowhere = Path::parse(alloc, b"/uart")?;
+    assert_eq!(rt; tower_refused(alloc, tree, &nowhere, 64)?, 5);
     Ok(())
 }
 
 /// No node at the path is told before a node that would lie too deep.
 #[test]
 fn refused_merges(rt: HostRuntime) -> Result<(), Fail> {
-    let alloc = rt.alloc();
-    let tree = base(alloc)?;
-    let root = Path::parse(alloc, b"/")?;
-    let nowhere = Path::parse(alloc, b"/uart")?;
-    assert!(rt; refusal(tree.merge(alloc, &nowhere, &tower(alloc, 64)?)) == 5);
-    let high = tree.merge(alloc, &root, &tower(alloc, 10)?)?;
-    let tenth = stairs(alloc, 10)?;
-    assert!(rt; refusal(high.merge(alloc, &tenth, &tower(alloc, 54)?)) == 255);
-    assert!(rt; refusal(high.merge(alloc, &tenth, &tower(alloc, 60)?)) == 4);
-    assert!(rt; refusal(high.merge(alloc, &stairs(alloc, 11)?, &tower(alloc, 60)?)) == 5);
-    Ok(())
+    let tree = grown(rt.alloc(), &[], &BASE_STEPS)?;
+    is_nowhere(&rt, rt.alloc(), &tree)?;
+    let high = high(rt.alloc(), &tree)?;
+    is_too_high(&rt, rt.alloc(), &high)
 }

@@ -39,16 +39,31 @@ fn tower(alloc: Global, levels: u8) -> Result<Node, Fail> {
     Ok(node)
 }
 
+fn push_over(
+    alloc: Global,
+    children: &mut Vec<Node>,
+    name: &[u8],
+    number: u32,
+    uart: u32,
+) -> Result<(), Fail> {
+    let uart = numbered(alloc, b"uart", uart, Vec::new(alloc))?;
+    children.push(over(alloc, name, number, uart)?)?;
+    Ok(())
+}
+
+fn push_sample(alloc: Global, children: &mut Vec<Node>) -> Result<(), Fail> {
+    push_over(alloc, children, b"soc", u32::MAX, 7)?;
+    push_over(alloc, children, b"__symbols__", 9, 8)?;
+    children.push(numbered(alloc, b"clk", 7, Vec::new(alloc))?)?;
+    Ok(())
+}
+
 /// `/` with `soc` (0xffffffff) over `uart` (7), `__symbols__` (9) over `uart` (8), and `clk` (7).
 fn sample(alloc: Global) -> Result<Tree, Fail> {
-    let mut children = Vec::new(alloc);
-    let uart = numbered(alloc, b"uart", 7, Vec::new(alloc))?;
-    children.push(over(alloc, b"soc", u32::MAX, uart)?)?;
-    let uart = numbered(alloc, b"uart", 8, Vec::new(alloc))?;
-    children.push(over(alloc, b"__symbols__", 9, uart)?)?;
-    children.push(numbered(alloc, b"clk", 7, Vec::new(alloc))?)?;
-    let root = Node::new(alloc, None, Vec::new(alloc), children)?;
     let reserves = Vec::from_slice(alloc, &[(0, 0), (4096, 16), (0, 1)])?;
+    let mut children = Vec::new(alloc);
+    push_sample(alloc, &mut children)?;
+    let root = Node::new(alloc, None, Vec::new(alloc), children)?;
     Ok(Tree::new(reserves, 3, root)?)
 }
 
@@ -93,18 +108,20 @@ fn makes_path(alloc: Global, bytes: &[u8]) -> Result<bool, Fail> {
     }
 }
 
+const PATHS: [(&[u8], bool); 6] = [
+    (b"", false),
+    (b"/", true),
+    (b"a", false),
+    (b"/a/b@1", true),
+    (b"/a/", false),
+    (b"//a", false),
+];
+
 #[test]
 fn paths(rt: HostRuntime) -> Result<(), Fail> {
     let alloc = rt.alloc();
     path_texts_and_names();
-    for (bytes, lawful) in [
-        (b"".as_slice(), false),
-        (b"/".as_slice(), true),
-        (b"a".as_slice(), false),
-        (b"/a/b@1".as_slice(), true),
-        (b"/a/".as_slice(), false),
-        (b"//a".as_slice(), false),
-    ] {
+    for (bytes, lawful) in PATHS {
         assert_eq!(rt; is_path(bytes), lawful);
         assert_eq!(rt; makes_path(alloc, bytes)?, lawful);
     }
@@ -120,25 +137,45 @@ struct Faults {
     deep: bool,
 }
 
-fn faulty_children(alloc: Global, faults: Faults) -> Result<Vec<Node>, Fail> {
-    let mut children = Vec::new(alloc);
-    children.push(tower(alloc, if faults.deep { 64 } else { 63 })?)?;
+fn push_tower(alloc: Global, children: &mut Vec<Node>, levels: u8) -> Result<(), Fail> {
+    children.push(tower(alloc, levels)?)?;
+    Ok(())
+}
+
+fn push_nameless(alloc: Global, children: &mut Vec<Node>) -> Result<(), Fail> {
+    children.push(Node::new(alloc, None, Vec::new(alloc), Vec::new(alloc))?)?;
+    Ok(())
+}
+
+fn push_faulty(alloc: Global, children: &mut Vec<Node>, faults: Faults) -> Result<(), Fail> {
+    push_tower(alloc, children, if faults.deep { 64 } else { 63 })?;
     if faults.child_twice {
-        children.push(tower(alloc, 1)?)?;
+        push_tower(alloc, children, 1)?;
     }
     if faults.nameless {
-        children.push(Node::new(alloc, None, Vec::new(alloc), Vec::new(alloc))?)?;
+        push_nameless(alloc, children)?;
     }
+    Ok(())
+}
+
+fn faulty_children(alloc: Global, faults: Faults) -> Result<Vec<Node>, Fail> {
+    let mut children = Vec::new(alloc);
+    push_faulty(alloc, &mut children, faults)?;
     Ok(children)
 }
 
-/// The number of the refusal of a node with these faults, or the height of the node.
-fn attempt(alloc: Global, faults: Faults) -> Result<usize, Fail> {
+fn faulty_properties(alloc: Global, faults: Faults) -> Result<Vec<Property>, Fail> {
     let mut properties = Vec::new(alloc);
     properties.push(phandle(alloc, 1)?)?;
     if faults.property_twice {
         properties.push(phandle(alloc, 2)?)?;
     }
+    Ok(properties)
+}
+
+/// The number of the refusal of a node with these faults, or the height of the node.
+fn attempt(alloc: Global, faults: Faults) -> Result<usize, Fail> {
+    let properties = faulty_properties(alloc, faults)?;
     let children = faulty_children(alloc, faults)?;
     match Node::new(alloc, None, properties, children) {
         Ok(node) => Ok(node.height()),
@@ -185,31 +222,29 @@ fn named_root(rt: HostRuntime) -> Result<(), Fail> {
     }
 }
 
-#[test]
-fn copied_tree(rt: HostRuntime) -> Result<(), Fail> {
-    let alloc = rt.alloc();
-    same_map_same_tree();
-    map_of_a_tree();
-    let tree = sample(alloc)?.copy(alloc)?;
+fn is_sample(rt: &impl Abort, tree: &Tree) {
     tree.check();
     tree.root().check();
     assert!(rt; tree.reserves() == [(4096, 16), (0, 1)].as_slice());
     assert_eq!(rt; tree.boot_cpu(), 3);
     assert_eq!(rt; tree.root().children().len(), 3);
-    Ok(())
 }
 
 #[test]
-fn phandles(rt: HostRuntime) -> Result<(), Fail> {
-    let alloc = rt.alloc();
-    let tree = sample(alloc)?;
-    preorder_of_a_tree();
+fn copied_tree(rt: HostRuntime) -> Result<(), Fail> {
+    same_map_same_tree();
+    map_of_a_tree();
+    let tree = sample(rt.alloc())?.copy(rt.alloc())?;
+    is_sample(&rt, &tree);
+    Ok(())
+}
+
+/// Where the nodes of these phandles are.
+const PHANDLES: [(u32, &[u8]); 3] = [(7, b"/soc/uart"), (8, b""), (u32::MAX, b"")];
+
+fn phandles_are_told(rt: &impl Abort, alloc: Global, tree: &Tree) -> Result<(), Fail> {
     assert_eq!(rt; tree.greatest_phandle(), 7);
-    for (number, text) in [
-        (7, b"/soc/uart".as_slice()),
-        (8, b"".as_slice()),
-        (u32::MAX, b"".as_slice()),
-    ] {
+    for (number, text) in PHANDLES {
         match tree.by_phandle(alloc, number)? {
             None => assert!(rt; text.is_empty()),
             Some(path) => assert!(rt; path.as_bytes() == text),
@@ -219,28 +254,48 @@ fn phandles(rt: HostRuntime) -> Result<(), Fail> {
 }
 
 #[test]
-fn finds(rt: HostRuntime) -> Result<(), Fail> {
-    let alloc = rt.alloc();
-    let tree = sample(alloc)?;
-    for (text, number) in [
-        (b"/".as_slice(), None),
-        (b"/soc/clk".as_slice(), None),
-        (b"/soc/uart".as_slice(), Some(7)),
-        (b"/__symbols__/uart".as_slice(), Some(8)),
-    ] {
-        let path = Path::parse(alloc, text)?;
-        let found = tree.find(&path).and_then(|node| node.phandle());
-        assert!(rt; found == number);
+fn phandles(rt: HostRuntime) -> Result<(), Fail> {
+    let tree = sample(rt.alloc())?;
+    preorder_of_a_tree();
+    phandles_are_told(&rt, rt.alloc(), &tree)
+}
+
+/// The phandles of the nodes at these paths.
+const AT_PATHS: [(&[u8], Option<u32>); 4] = [
+    (b"/", None),
+    (b"/soc/clk", None),
+    (b"/soc/uart", Some(7)),
+    (b"/__symbols__/uart", Some(8)),
+];
+
+fn phandle_at(alloc: Global, tree: &Tree, text: &[u8]) -> Result<Option<u32>, Fail> {
+    let path = Path::parse(alloc, text)?;
+    Ok(tree.find(&path).and_then(|node| node.phandle()))
+}
+
+fn nodes_are_found(rt: &impl Abort, alloc: Global, tree: &Tree) -> Result<(), Fail> {
+    for (text, number) in AT_PATHS {
+        assert!(rt; phandle_at(alloc, tree, text)? == number);
     }
     Ok(())
 }
 
-fn uart_is_below(rt: &impl Abort, alloc: Global, soc: &Node) -> Result<(), Fail> {
-    let below = soc.find(&Path::parse(alloc, b"/uart")?).ok_or("no node")?;
-    assert!(rt; below.name_bytes() == b"uart".as_slice());
-    let value = below.value(b"phandle").ok_or("no value")?.copy(alloc)?;
+#[test]
+fn finds(rt: HostRuntime) -> Result<(), Fail> {
+    let tree = sample(rt.alloc())?;
+    nodes_are_found(&rt, rt.alloc(), &tree)
+}
+
+fn is_uart(rt: &impl Abort, alloc: Global, node: &Node) -> Result<(), Fail> {
+    assert!(rt; node.name_bytes() == b"uart".as_slice());
+    let value = node.value(b"phandle").ok_or("no value")?.copy(alloc)?;
     assert!(rt; value.into_vec().as_slice() == [0, 0, 0, 7].as_slice());
     Ok(())
+}
+
+fn uart_is_below(rt: &impl Abort, alloc: Global, soc: &Node) -> Result<(), Fail> {
+    let path = Path::parse(alloc, b"/uart")?;
+    is_uart(rt, alloc, soc.find(&path).ok_or("no node")?)
 }
 
 fn soc_copied(alloc: Global, tree: &Tree) -> Result<Node, Fail> {
@@ -254,15 +309,26 @@ fn node_copied(rt: HostRuntime) -> Result<(), Fail> {
     uart_is_below(&rt, rt.alloc(), &soc)
 }
 
-#[test]
-fn property_copied(rt: HostRuntime) -> Result<(), Fail> {
-    let alloc = rt.alloc();
-    let node = numbered(alloc, b"uart", 8, Vec::new(alloc))?;
-    let property = node.properties().first().ok_or("no property")?.copy(alloc)?;
+fn first_copied(alloc: Global, node: &Node) -> Result<Property, Fail> {
+    Ok(node.properties().first().ok_or("no property")?.copy(alloc)?)
+}
+
+fn is_phandle(rt: &impl Abort, property: &Property) {
     assert!(rt; property.name.as_bytes() == b"phandle".as_slice());
     assert!(rt; property.value.phandle() == Some(8));
+}
+
+fn phandle_is_first(rt: &impl Abort, alloc: Global, node: &Node) -> Result<(), Fail> {
+    let property = first_copied(alloc, node)?;
+    is_phandle(rt, &property);
     assert!(rt; node.value(b"reg").is_none() && Bytes::new(alloc).as_slice().is_empty());
     Ok(())
+}
+
+#[test]
+fn property_copied(rt: HostRuntime) -> Result<(), Fail> {
+    let node = numbered(rt.alloc(), b"uart", 8, Vec::new(rt.alloc()))?;
+    phandle_is_first(&rt, rt.alloc(), &node)
 }
 
 #[test]
@@ -271,47 +337,56 @@ fn limits(rt: HostRuntime) -> Result<(), Fail> {
     Ok(())
 }
 
-#[test]
-fn parts(rt: HostRuntime) -> Result<(), Fail> {
-    let alloc = rt.alloc();
-    paths_in_preorder();
-    let (reserves, boot_cpu, root) = sample(alloc)?.into_parts();
-    assert!(rt; reserves.as_slice() == [(4096, 16), (0, 1)].as_slice() && boot_cpu == 3);
+/// The root of the sample is taken apart, and what is left of it takes another name.
+fn root_has_parts(rt: &impl Abort, alloc: Global, root: Node, bare: Name) {
     let (name, properties, children) = root.into_parts();
     assert!(rt; name.is_none() && properties.is_empty() && children.len() == 3);
-    let bare = Node::from_distinct(
-        Some(Name::new(alloc, b"bare")?),
-        properties,
-        Vec::new(alloc),
-    );
+    let bare = Node::from_distinct(Some(bare), properties, Vec::new(alloc));
     assert!(rt; bare.name_bytes() == b"bare".as_slice() && bare.height() == 0);
+}
+
+#[test]
+fn parts(rt: HostRuntime) -> Result<(), Fail> {
+    paths_in_preorder();
+    let bare = Name::new(rt.alloc(), b"bare")?;
+    let (reserves, boot_cpu, root) = sample(rt.alloc())?.into_parts();
+    assert!(rt; reserves.as_slice() == [(4096, 16), (0, 1)].as_slice() && boot_cpu == 3);
+    root_has_parts(&rt, rt.alloc(), root, bare);
     Ok(())
+}
+
+/// Paths, and those of their children uart@1.
+const OF_CHILDREN: [(&[u8], &[u8]); 3] = [
+    (b"/", b"/uart@1"),
+    (b"/soc", b"/soc/uart@1"),
+    (b"/a/b", b"/a/b/uart@1"),
+];
+
+fn path_of_child(alloc: Global, above: &[u8], name: &Name) -> Result<Path, TreeError> {
+    Ok(Path::parse(alloc, above)?.child(alloc, name)?)
 }
 
 #[test]
 fn paths_of_children(rt: HostRuntime) -> Result<(), Fail> {
-    let alloc = rt.alloc();
-    let name = Name::new(alloc, b"uart@1")?;
-    for (above, text) in [
-        (b"/".as_slice(), b"/uart@1".as_slice()),
-        (b"/soc".as_slice(), b"/soc/uart@1".as_slice()),
-        (b"/a/b".as_slice(), b"/a/b/uart@1".as_slice()),
-    ] {
-        let path = Path::parse(alloc, above)?.child(alloc, &name)?;
+    let name = Name::new(rt.alloc(), b"uart@1")?;
+    for (above, text) in OF_CHILDREN {
+        let path = path_of_child(rt.alloc(), above, &name)?;
         assert!(rt; path.as_bytes() == text);
     }
     Ok(())
 }
 
+const RESERVED: [(&[u8], bool); 5] = [
+    (b"__symbols__", true),
+    (b"__fixups__", true),
+    (b"__local_fixups__", true),
+    (b"__symbols", false),
+    (b"__overlay__", false),
+];
+
 #[test]
 fn reserved_names(rt: HostRuntime) -> Result<(), Fail> {
-    for (name, reserved) in [
-        (b"__symbols__".as_slice(), true),
-        (b"__fixups__".as_slice(), true),
-        (b"__local_fixups__".as_slice(), true),
-        (b"__symbols".as_slice(), false),
-        (b"__overlay__".as_slice(), false),
-    ] {
+    for (name, reserved) in RESERVED {
         assert_eq!(rt; is_reserved_name(name), reserved);
     }
     Ok(())
