@@ -10,8 +10,8 @@ use Rattle.dt_tree.specs.declared.property.Property.{Property}
 use Rattle.dt_tree.specs.NodeData.{Siblings, none, more, NodeData, child_names}
 use Rattle.dt_tree.specs.Path.{path_text}
 use Rattle.dt_tree.specs.PathMap.{child_named, value_of, properties_at, path_map}
-use Rattle.dt_tree.specs.Phandle.{is_reserved, is_reserved_name, phandle_in, phandle_at}
-use Rattle.dt_tree.specs.PhandleWalk.{unreserved, phandle_of}
+use Rattle.dt_tree.specs.Phandle.{is_reserved, is_reserved_name, phandle_in, phandle_at, phandle_of}
+use Rattle.dt_tree.specs.Private.PhandleWalk.{unreserved}
 use Rattle.dt_tree.specs.Preorder.{paths_among, preorder}
 use Rattle.dt_tree.specs.Sound.{is_among}
 use Rattle.dt_tree.specs.TreeData.{TreeData, IsTree}

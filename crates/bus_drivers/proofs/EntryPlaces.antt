@@ -10,8 +10,7 @@ use Rattle.std.proofs.lemmas.Slice.Eq.{bytes_eq-Decides}
 use Rattle.dt_tree.specs.declared.property.Property.{Property}
 use Rattle.dt_tree.specs.NodeData.{Siblings, more, NodeData, node_data, child_names}
 use Rattle.dt_tree.specs.PathMap.{child_named, node_at}
-use Rattle.dt_tree.specs.Phandle.{is_reserved}
-use Rattle.dt_tree.specs.PhandleWalk.{or_else}
+use Rattle.dt_tree.specs.Phandle.{is_reserved, or_else}
 use Rattle.dt_tree.specs.Sound.{is_among}
 use Rattle.dt_tree.proofs.PhandleLaws.{among_apart}
 use Rattle.dt_tree.proofs.Places.{bytes_eq-refl, node_at-append, both}

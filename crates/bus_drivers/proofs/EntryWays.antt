@@ -8,7 +8,7 @@ use Rattle.std.proofs.lemmas.Bool.Decides.{nat_tests}
 use Rattle.dt_tree.specs.declared.property.Property.{Property}
 use Rattle.dt_tree.specs.NodeData.{Siblings, none, more}
 use Rattle.dt_tree.specs.Phandle.{is_reserved, is_reserved_name}
-use Rattle.dt_tree.specs.PhandleWalk.{unreserved}
+use Rattle.dt_tree.specs.Private.PhandleWalk.{unreserved}
 use Rattle.dt_tree.specs.Preorder.{paths_among}
 use Rattle.bus_drivers.specs.Nodes.{ways_down}
 use Rattle.bus_drivers.specs.Private.Entries.{own_properties}

@@ -8,7 +8,8 @@ use Rattle.std.proofs.lemmas.List.Folds.{list_all-append}
 use Rattle.dt_tree.specs.declared.property.Property.{Property}
 use Rattle.dt_tree.specs.NodeData.{Siblings, none, more, NodeData}
 use Rattle.dt_tree.specs.Path.{behind_slashes, path_text}
-use Rattle.dt_tree.specs.PhandleWalk.{or_else, unreserved, phandle_of}
+use Rattle.dt_tree.specs.Phandle.{or_else, phandle_of}
+use Rattle.dt_tree.specs.Private.PhandleWalk.{unreserved}
 use Rattle.dt_tree.specs.TreeData.{TreeData, IsTree}
 use Rattle.bus_plan.specs.declared.error.PlanError.{PlanError}
 use Rattle.bus_plan.specs.declared.error.PlanError.TheVariants.{NoMemory, TooManyDevices}

@@ -3,8 +3,8 @@ use Rattle.std.proofs.Common.{◌≡◌, ◌∙◌, ap, sym, refl, ℕ, ◌+◌,
 use Rattle.std.proofs.lemmas.List.{at_drop_more, at_drop_all}
 use Rattle.dt_tree.specs.declared.property.Property.{Property}
 use Rattle.dt_tree.specs.NodeData.{Siblings, none, more, NodeData, siblings}
-use Rattle.dt_tree.specs.Phandle.{is_reserved_name}
-use Rattle.dt_tree.specs.PhandleWalk.{or_else, unreserved}
+use Rattle.dt_tree.specs.Phandle.{is_reserved_name, or_else}
+use Rattle.dt_tree.specs.Private.PhandleWalk.{unreserved}
 use Rattle.bus_plan.specs.declared.error.PlanError.{PlanError}
 use Rattle.bus_drivers.specs.Nodes.{is_compatible, is_okay, TreeDevice, Target}
 use Rattle.bus_drivers.specs.Private.Entries.{device_count}

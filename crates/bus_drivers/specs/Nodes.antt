@@ -8,8 +8,7 @@ use Rattle.dt_tree.specs.declared.property.Property.{Property}
 use Rattle.dt_tree.specs.NodeData.{NodeData}
 use Rattle.dt_tree.specs.Path.{path_text}
 use Rattle.dt_tree.specs.PathMap.{path_map, properties_at, value_of}
-use Rattle.dt_tree.specs.Phandle.{is_reserved, phandle_at}
-use Rattle.dt_tree.specs.PhandleWalk.{or_else}
+use Rattle.dt_tree.specs.Phandle.{is_reserved, phandle_at, or_else}
 use Rattle.dt_tree.specs.Preorder.{preorder}
 
 -- the properties of the node at the end of a way

@@ -6,7 +6,7 @@ use Rattle.std.specs.Option.{option_map, option_map_or}
 use Rattle.std.specs.List.{find, slice_split}
 use Rattle.dt_tree.specs.NodeData.{NodeData}
 use Rattle.dt_tree.specs.PathMap.{value_of}
-use Rattle.dt_tree.specs.PhandleWalk.{or_else}
+use Rattle.dt_tree.specs.Phandle.{or_else}
 use Rattle.bus_plan.specs.declared.error.PlanError.{PlanError}
 use Rattle.bus_plan.specs.declared.error.PlanError.TheVariants.{UnknownPath, TooManyDevices}
 use Rattle.bus_plan.specs.declared.limits.TheConstants.{MAX_DEVICES}

@@ -1,6 +1,6 @@
 ghost use Rattle.std.specs.Prelude.{◌≡◌, ◌⊎◌, ◌<◌, ◌∷◌, [], ℕ, List, Some, None, IfOk, IfSome, MatchOption, MatchResult, OnOk, length, position};
 ghost use Rattle.std.specs.Option.{option_copied, option_map};
-ghost use Rattle.dt_tree.specs.PhandleWalk.{or_else};
+ghost use Rattle.dt_tree.specs.Phandle.{or_else};
 ghost use Rattle.bus_plan.specs.declared.error.PlanError.TheVariants.{NoMemory, UnknownPath};
 ghost use Rattle.bus_drivers.specs.TreePlan.{driver_listing, driver_matching, driver_for, is_zero, strings, verdict_for, planned_device, unknown_fail};
 ghost use Rattle.bus_drivers.specs.Private.Matching.{driver_found, found_with, unknown_among};

@@ -2,7 +2,7 @@
 ghost use Rattle.std.specs.Prelude.{◌≡◌, ◌≤◌, ◌⊎◌, ◌&&◌, ◌∷◌, ◌++◌, [], ℕ, nat_eq, length, IfOk, IfErr, OnOk, MatchResult};
 ghost use Rattle.bus_plan.specs.declared.error.PlanError.TheVariants.{NoMemory};
 ghost use Rattle.bus_plan.specs.declared.limits.TheConstants.{MAX_DEVICES};
-ghost use Rattle.dt_tree.specs.PhandleWalk.{or_else};
+ghost use Rattle.dt_tree.specs.Phandle.{or_else};
 ghost use Rattle.indexmap.specs.IndexMap.{get};
 ghost use Rattle.bus_drivers.specs.Nodes.{is_compatible, is_okay};
 ghost use Rattle.bus_drivers.specs.Private.Entries.{device_here};

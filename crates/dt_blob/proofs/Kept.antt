@@ -1,5 +1,5 @@
 -- The lengths of the names that were seen: what has none of them is no name.
-use Rattle.std.proofs.Common.{◌≡◌, ℕ, ◌<◌, Bool, true, false, List, [], length, get_or, set, sym, ◌∙◌, ap, refl, arith, inl, inr}
+use Rattle.std.proofs.Common.{◌≡◌, ℕ, ◌<◌, ◌≤◌, Bool, true, false, List, [], length, get_or, set, sym, ◌∙◌, ap, refl, arith, inl, inr}
 use Rattle.std.specs.Prelude.{Option, Some, None, All, min, position}
 use Rattle.std.specs.Str.{bytes_eq}
 use Rattle.std.proofs.lemmas.Bool.{cases_eq}
@@ -30,7 +30,7 @@ at-place lengths at place inside e = elim (cases_eq place at) [
 ]
 
 -- one name more
-pub kept-sight : (names : List (List ℕ)) (lengths : List Bool) (name : List ℕ) (at : ℕ) → AreKept names lengths → is_name name ≡ true → at ≡ min (length name) 255 → at < 256 → AreKept (with_sight names name) (set lengths at true)
+pub kept-sight : (names : List (List ℕ)) (lengths : List Bool) (name : List ℕ) (at : ℕ) → AreKept names lengths → is_name name ≡ true → at ≡ min (length name) 255 → at ≤ 255 → AreKept (with_sight names name) (set lengths at true)
 kept-sight names lengths name at kept lawful is inside = record {
   differ = names-sight names name kept.differ lawful;
   seen = by_test (is_noted name names) refl;

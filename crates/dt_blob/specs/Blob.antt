@@ -5,6 +5,7 @@ use Rattle.dt_blob.specs.declared.error.BlobError.{BlobError}
 use Rattle.dt_blob.specs.declared.error.BlobError.TheVariants.{NoMemory, TooLarge}
 use Rattle.dt_blob.specs.declared.room.TheConstants.{MAX_SIZE}
 use Rattle.dt_blob.specs.BigEndian.{word, double_word}
+use Rattle.dt_blob.specs.Format.{magic_number, header_size, format_version, compatible_version, begin_node_word, end_node_word, property_word, nop_word, end_word}
 use Rattle.dt_blob.specs.Strings.{offset_in, with_name, with_names}
 use Rattle.dt_blob.specs.Token.{Token, begin_node, end_node, property, nop, end, tree_tokens}
 
@@ -22,11 +23,11 @@ padding n = take ((4 - n % 4) % 4) (0 ∷ 0 ∷ 0 ∷ [])
 
 -- a token as bytes, a property's name as its offset in the strings so far (section 5.4.1)
 abbrev pub token_bytes : List ℕ → Token → List ℕ
-token_bytes strings (begin_node name) = word 1 ++ (name ++ 0 ∷ padding (length name + 1))
-token_bytes strings end_node = word 2
-token_bytes strings (property name value) = word 3 ++ (word (length value) ++ (word (offset_in strings name) ++ (value ++ padding (length value))))
-token_bytes strings nop = word 4
-token_bytes strings end = word 9
+token_bytes strings (begin_node name) = word begin_node_word ++ (name ++ 0 ∷ padding (length name + 1))
+token_bytes strings end_node = word end_node_word
+token_bytes strings (property name value) = word property_word ++ (word (length value) ++ (word (offset_in strings name) ++ (value ++ padding (length value))))
+token_bytes strings nop = word nop_word
+token_bytes strings end = word end_word
 
 -- the strings once a token is written
 abbrev pub strings_after : List ℕ → Token → List ℕ
@@ -58,8 +59,8 @@ reservations (r ∷ rs) = double_word r.0 ++ (double_word r.1 ++ reservations rs
 -- the header, from the processor that boots and the sizes of the three blocks behind it (section 5.2)
 abbrev pub header : ℕ → ℕ → ℕ → ℕ → List ℕ
 header boot_cpu reserved structure strings =
-    word 3490578157 ++ (word (40 + reserved + structure + strings) ++ (word (40 + reserved) ++ (word (40 + reserved + structure) ++ (word 40
-    ++ (word 17 ++ (word 16 ++ (word boot_cpu ++ (word strings ++ word structure))))))))
+    word magic_number ++ (word (header_size + reserved + structure + strings) ++ (word (header_size + reserved) ++ (word (header_size + reserved + structure) ++ (word header_size
+    ++ (word format_version ++ (word compatible_version ++ (word boot_cpu ++ (word strings ++ word structure))))))))
 
 -- the blocks in order, without gaps
 abbrev pub assembled : ℕ → List ℕ → List ℕ → List ℕ → List ℕ

@@ -4,6 +4,7 @@ use Rattle.byteorder.specs.Endian.{big_number}
 use Rattle.dt_blob.specs.declared.error.BlobError.{BlobError}
 use Rattle.dt_blob.specs.declared.error.BlobError.TheVariants.{TooLarge, Truncated, BadMagic, BadVersion, BadLayout}
 use Rattle.dt_blob.specs.declared.read_header.Header.{Header}
+use Rattle.dt_blob.specs.Format.{magic_number, header_size, format_version}
 use Rattle.dt_blob.specs.declared.room.TheConstants.{MAX_SIZE}
 
 -- the 32-bit number at a place
@@ -28,14 +29,14 @@ header_of bytes = record {
 -- both blocks lie inside the blob, and the words that want it are aligned
 abbrev pub is_laid_out : Header → Bool
 is_laid_out h =
-    nat_le 40 h.size && nat_le (h.structure_at + h.structure_size) h.size && nat_le (h.strings_at + h.strings_size) h.size
+    nat_le header_size h.size && nat_le (h.structure_at + h.structure_size) h.size && nat_le (h.strings_at + h.strings_size) h.size
     && h.structure_at % 4 == 0 && h.reserves_at % 8 == 0
 
 -- the first fault of a header that stands before so many bytes
 abbrev pub fault_in : Header → ℕ → Option BlobError
 fault_in h len =
-    if not (h.magic == 0xd00dfeed) then Some BadMagic
-    else (if nat_lt h.version 17 || nat_lt 17 h.last_compatible then Some BadVersion
+    if not (h.magic == magic_number) then Some BadMagic
+    else (if nat_lt h.version format_version || nat_lt format_version h.last_compatible then Some BadVersion
     else (if nat_lt len h.size then Some Truncated
     else (if not (is_laid_out h) then Some BadLayout else None)))
 
@@ -43,7 +44,7 @@ fault_in h len =
 unfoldable pub header_fault : List ℕ → Option BlobError
 header_fault bytes =
     if nat_lt MAX_SIZE (length bytes) then Some TooLarge
-    else (if nat_lt (length bytes) 40 then Some Truncated
+    else (if nat_lt (length bytes) header_size then Some Truncated
     else fault_in (header_of bytes) (length bytes))
 
 -- the bytes of the blob that begin at a place, and the bytes of a block

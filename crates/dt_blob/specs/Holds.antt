@@ -4,6 +4,7 @@ use Rattle.std.specs.List.{list_all}
 use Rattle.dt_tree.specs.NodeData.{NodeData}
 use Rattle.dt_tree.specs.TreeData.{TreeData, IsTree, is_reserve}
 use Rattle.dt_blob.specs.BigEndian.{word, double_word}
+use Rattle.dt_blob.specs.Format.{begin_node_word, end_node_word, property_word, nop_word, end_word}
 use Rattle.dt_blob.specs.HeaderWords.{header_of, header_fault, strings_of, structure_of, reserves_of}
 use Rattle.dt_blob.specs.Token.{Token, begin_node, end_node, property, nop, end, tokens_of}
 
@@ -22,13 +23,13 @@ Names strings place name = (rest : List ℕ) × (drop place strings ≡ name ++ 
 -- the bytes spell a token (section 5.4.1)
 abbrev pub SpellsToken : List ℕ → Token → List ℕ → Type 0
 SpellsToken strings (begin_node name) bytes =
-    (padding : List ℕ) × (bytes ≡ word 1 ++ (name ++ 0 ∷ padding)) × Pads (length name + 1) padding × IsTrue (has_no_zero name)
-SpellsToken strings end_node bytes = bytes ≡ word 2
+    (padding : List ℕ) × (bytes ≡ word begin_node_word ++ (name ++ 0 ∷ padding)) × Pads (length name + 1) padding × IsTrue (has_no_zero name)
+SpellsToken strings end_node bytes = bytes ≡ word end_node_word
 SpellsToken strings (property name value) bytes =
-    (place : ℕ) × (padding : List ℕ) × (bytes ≡ word 3 ++ (word (length value) ++ (word place ++ (value ++ padding))))
+    (place : ℕ) × (padding : List ℕ) × (bytes ≡ word property_word ++ (word (length value) ++ (word place ++ (value ++ padding))))
     × (length value < 2 ^ 32) × (place < 2 ^ 32) × Pads (length value) padding × Names strings place name
-SpellsToken strings nop bytes = bytes ≡ word 4
-SpellsToken strings end bytes = bytes ≡ word 9
+SpellsToken strings nop bytes = bytes ≡ word nop_word
+SpellsToken strings end bytes = bytes ≡ word end_word
 
 -- the bytes spell tokens, one after the other
 abbrev pub Spells : List ℕ → List Token → List ℕ → Type 0

@@ -1,10 +1,10 @@
 pub mod BigEndian
 pub mod Blob
 pub mod BlobError
+pub mod Format
 pub mod HeaderWords
 pub mod Holds
 pub mod SourceText
 pub mod Steps
 pub mod Strings
 pub mod Token
-pub mod TreeFault

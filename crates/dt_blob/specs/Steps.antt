@@ -3,4 +3,5 @@ pub mod Opened
 pub mod Printed
 pub mod Reading
 pub mod Table
+pub mod TreeFault
 pub mod Written

@@ -13,7 +13,7 @@ use dt_tree::Tree;
 use std::alloc::Global;
 use std::hash::RandomState;
 
-/// Makes the blob of a tree, in version 17. Fails with `TooLarge` where it has over 268,435,456
+/// Makes the blob of a tree, in version 17. Fails with `TooLarge` where it has over `MAX_SIZE`
 /// bytes, and with `NoMemory`. The hasher is for the tree's names; no answer depends on it.
 pub fn write(alloc: Global, hasher: RandomState, tree: &Tree) -> Result<Vec<u8>, BlobError>
     ensures blob { MatchResult result (λ blob. (blob.items ≡ blob_of tree.now) × (length blob.items ≤ limit)) (λ e. Refuses (length (blob_of tree.now)) e) }

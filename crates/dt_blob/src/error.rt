@@ -54,7 +54,7 @@ impl<T: Drop> From<AllocFailed<T>> for BlobError {
 
 impl From<TreeError> for BlobError {
     ghost use Rattle.std.specs.Prelude.{◌≡◌};
-    ghost use Rattle.dt_blob.specs.TreeFault.{fault_of_tree};
+    ghost use Rattle.dt_blob.specs.Steps.TreeFault.{fault_of_tree};
 
     ghost from_gives = { λ t e. e ≡ fault_of_tree t };
 

@@ -1,6 +1,7 @@
 //! The header and the reserved memory, which stand before the structure block.
 ghost use Rattle.std.specs.Prelude.{◌≡◌, ◌+◌, ◌≤◌, ◌++◌, OnOk};
 ghost use Rattle.dt_blob.specs.Blob.{limit, header, reservations};
+ghost use Rattle.dt_blob.specs.Format.{header_size};
 
 use crate::bytes::{put_double_word, put_word};
 use std::alloc::{AllocError, Global};
@@ -8,9 +9,11 @@ use std::alloc::{AllocError, Global};
 /// The header's size in bytes.
 pub(crate) const HEADER_SIZE: usize = 40;
 
-const MAGIC: u32 = 0xd00d_feed;
+/// The word that begins a blob.
+pub(crate) const MAGIC: u32 = 0xd00d_feed;
 
-const VERSION: u32 = 17;
+/// The version of the format.
+pub(crate) const VERSION: u32 = 17;
 
 const LAST_COMPATIBLE_VERSION: u32 = 16;
 
@@ -23,16 +26,16 @@ pub(crate) struct Sizes {
 }
 
 pub(crate) fn put_header(out: &mut Vec<u8>, boot_cpu: u32, sizes: Sizes) -> Result<(), AllocError>
-    requires { 40 + sizes.reserved + sizes.structure + sizes.strings ≤ limit }
+    requires { header_size + sizes.reserved + sizes.structure + sizes.strings ≤ limit }
     ensures { OnOk result (out.new.items ≡ out.old.items ++ header boot_cpu sizes.reserved sizes.structure sizes.strings) }
 {
-    let structure_at = 40 + sizes.reserved;
+    let structure_at = HEADER_SIZE as u32 + sizes.reserved;
     let strings_at = structure_at + sizes.structure;
     put_word(out, MAGIC)?;
     put_word(out, strings_at + sizes.strings)?;
     put_word(out, structure_at)?;
     put_word(out, strings_at)?;
-    put_word(out, 40)?;
+    put_word(out, HEADER_SIZE as u32)?;
     put_word(out, VERSION)?;
     put_word(out, LAST_COMPATIBLE_VERSION)?;
     put_word(out, boot_cpu)?;

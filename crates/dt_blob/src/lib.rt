@@ -17,6 +17,7 @@ mod read_token;
 mod room;
 mod sizing;
 mod strings;
+mod token_words;
 mod value_form;
 mod value_text;
 mod writer;

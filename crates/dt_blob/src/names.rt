@@ -1,19 +1,20 @@
 //! The names of a tree's properties.
-ghost use Rattle.std.specs.Prelude.{◌≡◌, ◌<◌, [], slice_get, length, min, position, OnOk, IfOk, Some};
+ghost use Rattle.std.specs.Prelude.{◌≡◌, ◌<◌, ◌≤◌, [], slice_get, length, min, position, OnOk, IfOk, Some};
 ghost use Rattle.std.specs.Str.{bytes_eq};
+ghost use Rattle.dt_tree.specs.declared.limits.TheConstants.{MAX_NAME_LEN};
 ghost use Rattle.dt_tree.specs.NodeData.{property_names};
 ghost use Rattle.dt_blob.specs.Blob.{names_in};
 ghost use Rattle.dt_blob.specs.Steps.Table.{AreNames, with_sight, with_sights};
 ghost use Rattle.dt_blob.specs.Token.{tokens_of};
 
-use dt_tree::{Name, Node, Property};
+use dt_tree::{MAX_NAME_LEN, Name, Node, Property};
 use indexmap::IndexSet;
 use std::alloc::{AllocError, Global};
 use std::hash::RandomState;
 use std::marker::Model;
 
 /// How many lengths of names are told apart; longer ones, of which there are none, count as the last.
-const LENGTHS: usize = 256;
+const LENGTHS: usize = MAX_NAME_LEN + 1;
 
 /// Names that differ, in order of first sight, each found without a walk. What has the length of none isn't looked up.
 #[derive(Drop)]
@@ -34,10 +35,10 @@ impl<'a> Model for Names<'a> {
 }
 
 fn place_of_length(len: usize) -> usize
-    ensures value { result ≡ min len 255 }
-    ensures inside { result < 256 }
+    ensures value { result ≡ min len MAX_NAME_LEN }
+    ensures inside { result ≤ MAX_NAME_LEN }
 {
-    len.min(LENGTHS - 1)
+    len.min(MAX_NAME_LEN)
 }
 
 impl<'a> Names<'a> {

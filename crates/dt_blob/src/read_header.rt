@@ -1,8 +1,10 @@
 //! The header of a blob and its tests.
 ghost use Rattle.std.specs.Prelude.{◌≡◌, ◌≤◌, ◌^◌, ◌+◌, length, drop, None, Some, MatchResult};
+ghost use Rattle.dt_blob.specs.Format.{header_size};
 ghost use Rattle.dt_blob.specs.HeaderWords.{word_at, header_of, is_laid_out, fault_in, header_fault};
 
 use crate::error::BlobError;
+use crate::header::{HEADER_SIZE, MAGIC, VERSION};
 use crate::parts::{behind, word};
 use crate::room::MAX_SIZE;
 
@@ -29,7 +31,7 @@ fn word_at(bytes: &[u8], place: usize) -> u32
 }
 
 fn header_of(bytes: &[u8]) -> Header
-    requires { 40 ≤ length bytes.now }
+    requires { header_size ≤ length bytes.now }
     ensures { result ≡ header_of bytes.now }
 {
     Header {
@@ -51,7 +53,7 @@ fn is_laid_out(header: Header) -> bool
     ensures { result ≡ is_laid_out header }
 {
     let size = u64::from(header.size);
-    40 <= size
+    HEADER_SIZE as u64 <= size
         && u64::from(header.structure_at) + u64::from(header.structure_size) <= size
         && u64::from(header.strings_at) + u64::from(header.strings_size) <= size
         && header.structure_at % 4 == 0
@@ -61,10 +63,10 @@ fn is_laid_out(header: Header) -> bool
 fn check(header: Header, len: usize) -> Result<Header, BlobError>
     ensures { MatchResult result (λ h. (h ≡ header) × (fault_in header len ≡ None)) (λ e. fault_in header len ≡ Some e) }
 {
-    if header.magic != 0xd00d_feed {
+    if header.magic != MAGIC {
         return Err(BlobError::BadMagic);
     }
-    if header.version < 17 || 17 < header.last_compatible {
+    if header.version < VERSION || VERSION < header.last_compatible {
         return Err(BlobError::BadVersion);
     }
     if len < header.size as usize {
@@ -83,7 +85,7 @@ pub(crate) fn read_header(bytes: &[u8]) -> Result<Header, BlobError>
     if bytes.len() > MAX_SIZE {
         return Err(BlobError::TooLarge);
     }
-    if bytes.len() < 40 {
+    if bytes.len() < HEADER_SIZE {
         return Err(BlobError::Truncated);
     }
     check(header_of(bytes), bytes.len())

@@ -4,6 +4,7 @@ ghost use Rattle.dt_blob.specs.Steps.Reading.{HasNoEnd, reserves_at};
 
 use crate::error::BlobError;
 use crate::parts::{behind, long};
+use crate::sizing::RESERVATION_SIZE;
 use std::alloc::Global;
 
 /// The addresses and sizes before the first pair of zeros; `BadLayout` where none comes.
@@ -13,7 +14,7 @@ pub(crate) fn read_reserves(alloc: Global, bytes: &[u8]) -> Result<Vec<(u64, u64
     let mut reserves = Vec::new(alloc);
     let mut rest = bytes;
     'pairs: loop {
-        if rest.len() < 16 {
+        if rest.len() < RESERVATION_SIZE {
             return Err(BlobError::BadLayout);
         }
         let address = long(rest);
@@ -22,7 +23,7 @@ pub(crate) fn read_reserves(alloc: Global, bytes: &[u8]) -> Result<Vec<(u64, u64
             reserves.shrink_to_fit();
             return Ok(reserves);
         }
-        rest = behind(rest, 16);
+        rest = behind(rest, RESERVATION_SIZE);
         reserves.push((address, size))?;
     }
 }

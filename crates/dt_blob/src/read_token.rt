@@ -4,6 +4,7 @@ ghost use Rattle.dt_blob.specs.Steps.Reading.{Gives, token_of, zero_in, padded, 
 
 use crate::error::BlobError;
 use crate::parts::{behind, first, word};
+use crate::token_words::{BEGIN_NODE_WORD, END_NODE_WORD, END_WORD, NOP_WORD, PROPERTY_WORD};
 use bstr::ByteSlice;
 
 /// A token whose texts the blob lends.
@@ -108,11 +109,11 @@ pub(crate) fn token<'a>(
     }
     let rest = behind(bytes, 4);
     match word(bytes) {
-        1 => begin(rest),
-        2 => Ok((BlobToken::EndNode, rest)),
-        3 => property(strings, rest),
-        4 => Ok((BlobToken::Nop, rest)),
-        9 => Ok((BlobToken::End, rest)),
+        BEGIN_NODE_WORD => begin(rest),
+        END_NODE_WORD => Ok((BlobToken::EndNode, rest)),
+        PROPERTY_WORD => property(strings, rest),
+        NOP_WORD => Ok((BlobToken::Nop, rest)),
+        END_WORD => Ok((BlobToken::End, rest)),
         _ => Err(BlobError::BadToken),
     }
 }

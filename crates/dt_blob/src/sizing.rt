@@ -1,6 +1,7 @@
 //! How many bytes the blocks of a blob have, before one is made.
 ghost use Rattle.std.specs.Prelude.{◌≡◌, ◌+◌, ◌*◌, ◌<◌, ◌≤◌, length, MatchResult};
 ghost use Rattle.dt_blob.specs.Blob.{limit};
+ghost use Rattle.dt_blob.specs.Format.{reservation_size};
 ghost use Rattle.dt_blob.specs.Token.{property_tokens, tokens_of, tree_tokens};
 ghost use Rattle.dt_blob.specs.Steps.Written.{tokens_size};
 
@@ -10,12 +11,12 @@ use crate::room::{MAX_SIZE, add_size};
 use dt_tree::{Node, Property};
 
 /// A pair of an address and a size, in bytes.
-const RESERVATION_SIZE: usize = 16;
+pub(crate) const RESERVATION_SIZE: usize = 16;
 
 /// The reserved memory with its end, behind `used` bytes.
 pub(crate) fn add_reservations(used: usize, reserves: &[(u64, u64)]) -> Result<usize, BlobError>
     requires { used ≤ limit }
-    ensures { MatchResult result (λ size. (size ≡ used + (16 * length reserves.now + 16)) × (size ≤ limit)) (λ e. (e ≡ BlobError.TooLarge) × (limit < used + (16 * length reserves.now + 16))) }
+    ensures { MatchResult result (λ size. (size ≡ used + (reservation_size * length reserves.now + reservation_size)) × (size ≤ limit)) (λ e. (e ≡ BlobError.TooLarge) × (limit < used + (reservation_size * length reserves.now + reservation_size))) }
 {
     if reserves.len() > MAX_SIZE / RESERVATION_SIZE {
         return Err(BlobError::TooLarge);

@@ -2,28 +2,22 @@
 ghost use Rattle.std.specs.Prelude.{◌≡◌, ◌+◌, ◌≤◌, ◌++◌, ◌∷◌, length, OnOk};
 ghost use Rattle.dt_blob.specs.BigEndian.{word};
 ghost use Rattle.dt_blob.specs.Blob.{limit, padding};
+ghost use Rattle.dt_blob.specs.Format.{begin_node_word, property_word};
 ghost use Rattle.dt_blob.specs.Steps.Table.{placed};
 ghost use Rattle.dt_blob.specs.Token.{begin_node, property_tokens, tokens_of, tree_tokens};
 ghost use Rattle.dt_blob.specs.Steps.Written.{all_bytes, bytes_by, tokens_size};
 
 use crate::bytes::{put_ended, put_padding, put_word};
 use crate::strings::Strings;
+use crate::token_words::{BEGIN_NODE_WORD, END_NODE_WORD, END_WORD, PROPERTY_WORD};
 use dt_tree::{Node, Property};
 use std::alloc::AllocError;
 
-const BEGIN_NODE: u32 = 1;
-
-const END_NODE: u32 = 2;
-
-const PROPERTY: u32 = 3;
-
-const END: u32 = 9;
-
 fn put_begin(out: &mut Vec<u8>, name: &[u8]) -> Result<(), AllocError>
     requires { length name.now ≤ limit }
-    ensures { OnOk result (out.new.items ≡ out.old.items ++ (word 1 ++ (name.now ++ 0 ∷ padding (length name.now + 1)))) }
+    ensures { OnOk result (out.new.items ≡ out.old.items ++ (word begin_node_word ++ (name.now ++ 0 ∷ padding (length name.now + 1)))) }
 {
-    put_word(out, BEGIN_NODE)?;
+    put_word(out, BEGIN_NODE_WORD)?;
     put_ended(out, name)?;
     put_padding(out, name.len() + 1)
 }
@@ -31,9 +25,9 @@ fn put_begin(out: &mut Vec<u8>, name: &[u8]) -> Result<(), AllocError>
 fn put_value(out: &mut Vec<u8>, value: &[u8], offset: usize) -> Result<(), AllocError>
     requires value { length value.now ≤ limit }
     requires offset { offset ≤ limit }
-    ensures { OnOk result (out.new.items ≡ out.old.items ++ (word 3 ++ (word (length value.now) ++ (word offset ++ (value.now ++ padding (length value.now)))))) }
+    ensures { OnOk result (out.new.items ≡ out.old.items ++ (word property_word ++ (word (length value.now) ++ (word offset ++ (value.now ++ padding (length value.now)))))) }
 {
-    put_word(out, PROPERTY)?;
+    put_word(out, PROPERTY_WORD)?;
     put_word(out, value.len() as u32)?;
     put_word(out, offset as u32)?;
     out.extend_from_slice(value)?;
@@ -64,7 +58,7 @@ fn put_node(out: &mut Vec<u8>, strings: &Strings, node: &Node) -> Result<(), All
     for child in node.children() {
         put_node(out, strings, child)?;
     }
-    put_word(out, END_NODE)
+    put_word(out, END_NODE_WORD)
 }
 
 /// The structure block of a root, with its end.
@@ -77,5 +71,5 @@ pub(crate) fn put_structure(
     ensures { OnOk result (out.new.items ≡ out.old.items ++ all_bytes (placed strings.now) (tree_tokens root.now)) }
 {
     put_node(out, strings, root)?;
-    put_word(out, END)
+    put_word(out, END_WORD)
 }

@@ -7,8 +7,8 @@ use Rattle.std.proofs.lemmas.Bool.Decides.{nat_tests}
 use Rattle.dt_tree.specs.declared.property.Property.{Property}
 use Rattle.dt_tree.specs.NodeData.{Siblings, none, more, NodeData, node_data, child_names}
 use Rattle.dt_tree.specs.PathMap.{path_map}
-use Rattle.dt_tree.specs.Phandle.{phandle_at, IsGreatest}
-use Rattle.dt_tree.specs.PhandleWalk.{phandle_of, phandle_or_zero, unreserved, greatest_among, greatest_below, greatest_in_tree}
+use Rattle.dt_tree.specs.Phandle.{phandle_at, IsGreatest, phandle_of}
+use Rattle.dt_tree.specs.Private.PhandleWalk.{phandle_or_zero, unreserved, greatest_among, greatest_below, greatest_in_tree}
 use Rattle.dt_tree.specs.Sound.{is_among}
 use Rattle.dt_tree.proofs.PhandleLaws.{IsApart, apart, phandle_there, only_children, there_among, among_apart, first_in_there, other_in_there}
 use Rattle.dt_tree.proofs.Places.{IsSoundInside, some_inj}

@@ -7,7 +7,8 @@ use Rattle.std.proofs.lemmas.Bool.Decides.{nat_tests}
 use Rattle.dt_tree.specs.declared.property.Property.{Property}
 use Rattle.dt_tree.specs.NodeData.{Siblings, none, more, NodeData, node_data, child_names}
 use Rattle.dt_tree.specs.PathMap.{PathMap, child_named, node_at, value_of, path_map}
-use Rattle.dt_tree.specs.PhandleWalk.{phandle_of, or_else, has_phandle, way_among, way_below}
+use Rattle.dt_tree.specs.Phandle.{phandle_of, or_else}
+use Rattle.dt_tree.specs.Private.PhandleWalk.{has_phandle, way_among, way_below}
 use Rattle.dt_tree.specs.Preorder.{is_earlier, part_below, precedes}
 use Rattle.dt_tree.specs.Sound.{is_among, are_distinct, IsSoundBelow}
 use Rattle.dt_tree.proofs.Places.{bytes_eq-refl, some_inj, distinct_head, distinct_tail, child-among}

@@ -10,8 +10,8 @@ use Rattle.dt_tree.specs.Name.{are_names}
 use Rattle.dt_tree.specs.NodeData.{Siblings, none, more, NodeData, node_data, child_names}
 use Rattle.dt_tree.specs.Path.{is_path, path_names, path_text, behind_slashes, text_or_root}
 use Rattle.dt_tree.specs.PathMap.{child_named, node_at, value_of, path_map}
-use Rattle.dt_tree.specs.Phandle.{phandle_in, phandle_at, is_reserved_name, IsFirstWith, IsNowhere}
-use Rattle.dt_tree.specs.PhandleWalk.{phandle_of, unreserved, way_in_tree}
+use Rattle.dt_tree.specs.Phandle.{phandle_in, phandle_at, is_reserved_name, IsFirstWith, IsNowhere, phandle_of}
+use Rattle.dt_tree.specs.Private.PhandleWalk.{unreserved, way_in_tree}
 use Rattle.dt_tree.specs.Preorder.{is_earlier, precedes}
 use Rattle.dt_tree.specs.Sound.{is_among}
 use Rattle.dt_tree.proofs.PathTexts.{is_path-path_text, path_names-path_text}

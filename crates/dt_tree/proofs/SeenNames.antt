@@ -11,7 +11,7 @@ use Rattle.std.proofs.lemmas.List.{at_drop_more}
 use Rattle.std.proofs.lemmas.Map.Text.{is_eq-slice_cmp}
 use Rattle.std.proofs.lemmas.Slice.Eq.{bytes_eq-Decides}
 use denote.Ref.{Bor}
-use Rattle.dt_tree.specs.Seen.{Seen, has_name, are_fresh}
+use Rattle.dt_tree.specs.Private.Seen.{Seen, has_name, are_fresh}
 use Rattle.dt_tree.specs.Sound.{is_among, are_distinct}
 
 abbrev pub by_name : Bor (List ℕ) → Bor (List ℕ) → Ordering

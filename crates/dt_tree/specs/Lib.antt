@@ -9,10 +9,8 @@ pub mod NodeView
 pub mod Path
 pub mod PathMap
 pub mod Phandle
-pub mod PhandleWalk
 pub mod Preorder
 pub mod Private
-pub mod Seen
 pub mod Sound
 pub mod TreeData
 pub mod TreeError

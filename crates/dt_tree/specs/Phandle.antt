@@ -3,7 +3,8 @@
 use Rattle.std.specs.Prelude.{◌≡◌, ◌≢◌, ℕ, ◌≤◌, Bool, true, false, ◌||◌, ◌==◌, ◌⊎◌, List, [], ◌∷◌, Option, Some, None, codes, length, if◌then◌else◌, option_and_then}
 use Rattle.std.specs.Int.{from_be_bytes, w32}
 use Rattle.std.specs.Str.{bytes_eq}
-use Rattle.dt_tree.specs.PathMap.{PathMap}
+use Rattle.dt_tree.specs.declared.property.Property.{Property}
+use Rattle.dt_tree.specs.PathMap.{PathMap, value_of}
 use Rattle.dt_tree.specs.Preorder.{precedes}
 
 abbrev pub is_reserved_name : List ℕ → Bool
@@ -20,6 +21,15 @@ phandle_from h = if h == 0 then None else (if h == 4294967295 then None else Som
 -- the phandle in a property's value, of four bytes with the greatest first
 abbrev pub phandle_in : List ℕ → Option ℕ
 phandle_in value = if length value == 4 then phandle_from (from_be_bytes w32 value) else None
+
+-- the phandle of a node that isn't reserved, by its properties
+abbrev pub phandle_of : List Property → Option ℕ
+phandle_of ps = option_and_then phandle_in (value_of ps (codes "phandle"))
+
+-- the first of two that is there
+abbrev pub or_else : {A : Type 0} → Option A → Option A → Option A
+or_else (Some x) o = Some x
+or_else None o = o
 
 -- the phandle of the node at a path
 abbrev pub phandle_at : PathMap (List ℕ) → List (List ℕ) → Option ℕ

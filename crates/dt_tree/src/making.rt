@@ -3,7 +3,7 @@ ghost use Rattle.std.specs.Prelude.{◌≡◌, ◌+◌, ◌≤◌, ◌||◌, ◌
 ghost use Rattle.dt_tree.specs.NodeData.{siblings, child_names, property_names, height_of};
 ghost use Rattle.dt_tree.specs.Sound.{are_distinct, IsSoundBelow};
 ghost use Rattle.std.specs.Str.{bytes_eq};
-ghost use Rattle.dt_tree.specs.Seen.{has_name};
+ghost use Rattle.dt_tree.specs.Private.Seen.{has_name};
 ghost use Rattle.dt_tree.specs.Fault.{are_named};
 ghost use Rattle.dt_tree.specs.Name.{is_name, are_names};
 ghost use Rattle.dt_tree.specs.NodeView.{name_bytes};

@@ -2,8 +2,8 @@
 ghost use Rattle.std.specs.Prelude.{◌≡◌, ◌∷◌, ◌++◌, IfOk};
 ghost use Rattle.std.specs.Option.{option_map};
 ghost use Rattle.dt_tree.specs.Path.{behind_slashes};
-ghost use Rattle.dt_tree.specs.Phandle.{phandle_from, phandle_in};
-ghost use Rattle.dt_tree.specs.PhandleWalk.{phandle_of, has_phandle, phandle_or_zero, greatest_below, way_below};
+ghost use Rattle.dt_tree.specs.Phandle.{phandle_from, phandle_in, phandle_of};
+ghost use Rattle.dt_tree.specs.Private.PhandleWalk.{has_phandle, phandle_or_zero, greatest_below, way_below};
 
 use crate::bytes::Bytes;
 use crate::node::Node;

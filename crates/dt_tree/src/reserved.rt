@@ -3,7 +3,7 @@ ghost use Rattle.std.specs.Prelude.{◌≡◌, IfOk};
 ghost use Rattle.std.specs.Option.{option_map};
 ghost use Rattle.dt_tree.specs.Path.{behind_slashes, path_names};
 ghost use Rattle.dt_tree.specs.Phandle.{is_reserved_name};
-ghost use Rattle.dt_tree.specs.PhandleWalk.{greatest_in_tree, way_in_tree};
+ghost use Rattle.dt_tree.specs.Private.PhandleWalk.{greatest_in_tree, way_in_tree};
 
 use crate::node::Node;
 use crate::path::Path;

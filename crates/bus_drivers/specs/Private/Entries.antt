@@ -6,7 +6,8 @@ use Rattle.std.specs.List.{list_all, find}
 use Rattle.dt_tree.specs.declared.property.Property.{Property}
 use Rattle.dt_tree.specs.NodeData.{Siblings, none, more, NodeData}
 use Rattle.dt_tree.specs.Path.{path_text}
-use Rattle.dt_tree.specs.PhandleWalk.{unreserved, phandle_of}
+use Rattle.dt_tree.specs.Phandle.{phandle_of}
+use Rattle.dt_tree.specs.Private.PhandleWalk.{unreserved}
 use Rattle.bus_drivers.specs.Nodes.{is_compatible, is_okay, TreeDevice, Target}
 
 -- the node's own properties are the last of its chain, and its device is named by its place among the devices

@@ -5,7 +5,7 @@ use Rattle.std.specs.Map.{lookup}
 use Rattle.std.specs.Option.{option_copied}
 use Rattle.std.specs.List.{find}
 use Rattle.std.specs.Str.{bytes_eq}
-use Rattle.dt_tree.specs.PhandleWalk.{or_else}
+use Rattle.dt_tree.specs.Phandle.{or_else}
 use Rattle.bus_plan.specs.PlanPaths.{is_among}
 use Rattle.bus_drivers.specs.Driver.{FailData, DriverSetData}
 use Rattle.bus_drivers.specs.Nodes.{TreeDevice}

@@ -5,7 +5,8 @@ use Rattle.std.specs.Prelude.{◌≡◌, ◌<◌, ◌⊎◌, ℕ, ◌+◌, Bool,
 use Rattle.std.specs.Option.{option_map_or}
 use Rattle.dt_tree.specs.declared.property.Property.{Property}
 use Rattle.dt_tree.specs.NodeData.{Siblings, none, more, NodeData}
-use Rattle.dt_tree.specs.PhandleWalk.{or_else, unreserved, phandle_of}
+use Rattle.dt_tree.specs.Phandle.{or_else, phandle_of}
+use Rattle.dt_tree.specs.Private.PhandleWalk.{unreserved}
 use Rattle.bus_plan.specs.declared.error.PlanError.{PlanError}
 use Rattle.bus_plan.specs.declared.error.PlanError.TheVariants.{NoMemory, TooManyDevices}
 use Rattle.bus_plan.specs.declared.limits.TheConstants.{MAX_DEVICES}

@@ -8,6 +8,7 @@ use Rattle.dt_blob.specs.declared.error.BlobError.{BlobError}
 use Rattle.dt_blob.specs.declared.error.BlobError.TheVariants as errors
 use Rattle.dt_blob.specs.declared.read_token.BlobToken.{BlobToken}
 use Rattle.dt_blob.specs.declared.read_token.BlobToken.TheVariants as code
+use Rattle.dt_blob.specs.Format.{reservation_size, begin_node_word, end_node_word, property_word, nop_word, end_word}
 use Rattle.dt_blob.specs.HeaderWords.{header_of, header_fault, strings_of, structure_of, reserves_of}
 use Rattle.dt_blob.specs.Token.{Token, begin_node, end_node, property, nop, end}
 use Rattle.dt_blob.specs.Steps.Opened.{begun, root_from}
@@ -69,11 +70,11 @@ property_at strings bytes =
 
 abbrev pub token_by : List ℕ → ℕ → List ℕ → Option (Token × List ℕ)
 token_by strings n bytes =
-    if n == 1 then begin_at bytes
-    else (if n == 2 then Some (end_node, bytes)
-    else (if n == 3 then property_at strings bytes
-    else (if n == 4 then Some (nop, bytes)
-    else (if n == 9 then Some (end, bytes) else None))))
+    if n == begin_node_word then begin_at bytes
+    else (if n == end_node_word then Some (end_node, bytes)
+    else (if n == property_word then property_at strings bytes
+    else (if n == nop_word then Some (nop, bytes)
+    else (if n == end_word then Some (end, bytes) else None))))
 
 -- the token at the front, and what follows it
 unfoldable pub token_at : List ℕ → List ℕ → Option (Token × List ℕ)
@@ -111,7 +112,7 @@ with_reserve a b others = if a == 0 && b == 0 then Some [] else option_map (λ r
 -- at most n pairs, up to one of zeros
 unfoldable pub reserves_in : ℕ → List ℕ → Option (List (ℕ × ℕ))
 reserves_in zero bytes = None
-reserves_in (suc n) bytes = if nat_lt (length bytes) 16 then None else with_reserve (big_number 8 bytes) (big_number 8 (drop 8 bytes)) (reserves_in n (drop 16 bytes))
+reserves_in (suc n) bytes = if nat_lt (length bytes) reservation_size then None else with_reserve (big_number 8 bytes) (big_number 8 (drop 8 bytes)) (reserves_in n (drop reservation_size bytes))
 
 unfoldable pub reserves_at : List ℕ → Option (List (ℕ × ℕ))
 reserves_at bytes = reserves_in (suc (length bytes)) bytes

@@ -1,5 +1,5 @@
 use Rattle.std.proofs.Common.{◌≡◌, ℕ, List, drop}
-use Rattle.dt_tree.specs.PhandleWalk.{or_else}
+use Rattle.dt_tree.specs.Phandle.{or_else}
 use Rattle.bus_drivers.specs.TreePlan.{driver_listing}
 use Rattle.bus_drivers.specs.Private.Matching.{driver_found}
 use Rattle.bus_drivers.proofs.matching.add_drivers.Given as goal

@@ -8,8 +8,8 @@ use Rattle.dt_blob.proofs.read_header.read_header.Goals as goal
 pub returns-then-bytes-gt-MAX_SIZE : goal.returns-then-bytes-gt-MAX_SIZE
 returns-then-bytes-gt-MAX_SIZE c = too_large c.args.bytes.now (omega arith)
 
-pub returns-then-bytes-lt40 : goal.returns-then-bytes-lt40
-returns-then-bytes-lt40 c = too_short c.args.bytes.now (omega arith) (omega arith)
+pub returns-then-bytes-lt-HEADER_SIZE : goal.returns-then-bytes-lt-HEADER_SIZE
+returns-then-bytes-lt-HEADER_SIZE c = too_short c.args.bytes.now (omega arith) (omega arith)
 
 pub returns : goal.returns
 returns c =

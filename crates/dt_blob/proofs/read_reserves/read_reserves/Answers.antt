@@ -9,12 +9,12 @@ use Rattle.dt_blob.proofs.read_reserves.read_reserves.Goals.{else-address-eq0-vi
 pub pairs-init : goal.pairs-init
 pairs-init c = joins_begin c.args.bytes.now _ c.new-reserves.ensures.items
 
-pub returns-then-rest-lt16 : goal.returns-then-rest-lt16
-returns-then-rest-lt16 c = inr (refl, joins_short c.pairs.rest.now _ _ c.if-rest-lt16.true c.pairs.invariant)
+pub returns-then-rest-lt-RESERVATION_SIZE : goal.returns-then-rest-lt-RESERVATION_SIZE
+returns-then-rest-lt-RESERVATION_SIZE c = inr (refl, joins_short c.pairs.rest.now _ _ c.if-rest-lt-RESERVATION_SIZE.true c.pairs.invariant)
 
 pub returns-then-size-eq0 : goal.returns-then-size-eq0
 returns-then-size-eq0 c =
-    rw c.shrink_to_fit.ensures.items (joins_last c.pairs.rest.now _ _ c.if-rest-lt16.false (sym c.long-address.ensures ∙ c.if-address-eq0.true)
+    rw c.shrink_to_fit.ensures.items (joins_last c.pairs.rest.now _ _ c.if-rest-lt-RESERVATION_SIZE.false (sym c.long-address.ensures ∙ c.if-address-eq0.true)
     (sym (c.long-size.ensures ∙ ap (big_number 8) c.behind.ensures) ∙ c.if-size-eq0.true) c.pairs.invariant)
 
 pub pairs-preserved : goal.pairs-preserved

@@ -1,7 +1,7 @@
 use Rattle.std.proofs.Common.{◌≡◌, false, List, arith, refl, ◌∙◌}
 use Rattle.std.proofs.lemmas.Grind.{common_steps}
 use Rattle.dt_tree.specs.NodeData.{NodeData, siblings, child_names}
-use Rattle.dt_tree.specs.Seen.{has_name}
+use Rattle.dt_tree.specs.Private.Seen.{has_name}
 use Rattle.dt_tree.proofs.SeenNames.{names-first, names-next}
 use Rattle.dt_tree.proofs.making.are_distinct_nodes.Goals as goal
 

@@ -1,6 +1,6 @@
 use Rattle.std.proofs.Common.{◌≡◌, ◌&&◌, drop}
 use Rattle.dt_tree.specs.NodeData.{siblings, child_names}
-use Rattle.dt_tree.specs.Seen.{are_fresh}
+use Rattle.dt_tree.specs.Private.Seen.{are_fresh}
 use Rattle.dt_tree.specs.Sound.{are_distinct}
 use Rattle.dt_tree.proofs.making.are_distinct_nodes.Given as goal
 

@@ -1,7 +1,7 @@
 use Rattle.std.proofs.Common.{◌≡◌, false, arith, refl, ◌∙◌}
 use Rattle.std.proofs.lemmas.Grind.{common_steps}
 use Rattle.dt_tree.specs.NodeData.{property_names}
-use Rattle.dt_tree.specs.Seen.{has_name}
+use Rattle.dt_tree.specs.Private.Seen.{has_name}
 use Rattle.dt_tree.proofs.SeenNames.{names-first, names-next}
 use Rattle.dt_tree.proofs.making.are_distinct_properties.Goals as goal
 

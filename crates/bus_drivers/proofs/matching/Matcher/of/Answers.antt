@@ -1,6 +1,6 @@
 -- Both indexes are those of the set.
 use Rattle.std.proofs.Common.{◌∙◌, ap}
-use Rattle.dt_tree.specs.PhandleWalk.{or_else}
+use Rattle.dt_tree.specs.Phandle.{or_else}
 use Rattle.bus_plan.specs.PlanPaths.{is_among}
 use Rattle.bus_drivers.specs.TreePlan.{driver_listing, fail_paths}
 use Rattle.bus_drivers.specs.Private.Matching.{driver_found}

@@ -2,7 +2,7 @@
 use Rattle.std.proofs.Common.{◌≡◌, ◌≤◌, ◌∷◌, ◌++◌, ℕ, nat_eq, length, drop}
 use Rattle.bus_plan.specs.declared.limits.TheConstants.{MAX_DEVICES}
 use Rattle.dt_tree.specs.NodeData.{siblings}
-use Rattle.dt_tree.specs.PhandleWalk.{or_else}
+use Rattle.dt_tree.specs.Phandle.{or_else}
 use Rattle.indexmap.specs.IndexMap.{get}
 use Rattle.bus_drivers.specs.Private.Walk.{devices_among, devices_at, target_among, target_at}
 use Rattle.bus_drivers.proofs.walk.Walk.+visit.Given as goal

@@ -1,7 +1,7 @@
 use Rattle.std.proofs.Common.{◌≡◌, ◌++◌, ℕ, ◌+◌, nat_eq, false, None, length, drop, ap, sym, ◌∙◌, List, length-append}
 use Rattle.dt_tree.specs.NodeData.{more, siblings}
 use Rattle.dt_tree.specs.Phandle.{is_reserved_name}
-use Rattle.dt_tree.specs.PhandleWalk.{unreserved}
+use Rattle.dt_tree.specs.Private.PhandleWalk.{unreserved}
 use Rattle.indexmap.specs.IndexMap.{get}
 use Rattle.bus_drivers.specs.Private.Walk.{devices_among, devices_at}
 use Rattle.bus_drivers.proofs.WalkLaws.{next-unreserved, next-devices, next-target, last-target}

@@ -1,6 +1,6 @@
 use Rattle.std.proofs.Common.{◌≡◌, drop, max}
 use Rattle.dt_tree.specs.NodeData.{siblings}
-use Rattle.dt_tree.specs.PhandleWalk.{greatest_among, greatest_below}
+use Rattle.dt_tree.specs.Private.PhandleWalk.{greatest_among, greatest_below}
 use Rattle.dt_tree.proofs.node.Node.+greatest_below.Given as goal
 
 abbrev pub invariant-loop-child : goal.invariant-loop-child

@@ -1,7 +1,7 @@
 use Rattle.std.proofs.Common.{◌≡◌, Some, List, ℕ, ap, ◌∙◌}
 use Rattle.std.specs.Option.{option_map}
 use Rattle.dt_tree.specs.Path.{behind_slashes, path_names}
-use Rattle.dt_tree.specs.PhandleWalk.{way_in_tree}
+use Rattle.dt_tree.specs.Private.PhandleWalk.{way_in_tree}
 use Rattle.dt_tree.proofs.Places.{inside}
 use Rattle.dt_tree.proofs.ReservedLaws.{text_of_tree_way}
 use Rattle.dt_tree.proofs.node.Node.path_to.Goals as goal

@@ -1,6 +1,6 @@
 use Rattle.std.proofs.Common.{◌≡◌, drop}
 use Rattle.dt_tree.specs.NodeData.{siblings}
-use Rattle.dt_tree.specs.PhandleWalk.{unreserved, way_among, way_in_tree}
+use Rattle.dt_tree.specs.Private.PhandleWalk.{unreserved, way_among, way_in_tree}
 use Rattle.dt_tree.proofs.node.Node.way_in_tree.Given as goal
 
 abbrev pub invariant-loop-top : goal.invariant-loop-top

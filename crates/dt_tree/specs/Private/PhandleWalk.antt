@@ -1,14 +1,9 @@
 -- What the walk for a phandle answers, node by node. The laws of `Phandle` are about the path map; `proofs/PhandleLaws.antt` joins the two.
-use Rattle.std.specs.Prelude.{ℕ, max, Bool, false, List, [], ◌∷◌, Option, Some, None, codes, if◌then◌else◌, ◌==◌, option_and_then}
+use Rattle.std.specs.Prelude.{ℕ, max, Bool, false, List, [], ◌∷◌, Option, Some, None, if◌then◌else◌, ◌==◌}
 use Rattle.std.specs.Option.{option_map, option_map_or}
 use Rattle.dt_tree.specs.declared.property.Property.{Property}
 use Rattle.dt_tree.specs.NodeData.{Siblings, none, more, NodeData}
-use Rattle.dt_tree.specs.PathMap.{value_of}
-use Rattle.dt_tree.specs.Phandle.{phandle_in, is_reserved_name}
-
--- the phandle of a node that isn't reserved
-abbrev pub phandle_of : List Property → Option ℕ
-phandle_of ps = option_and_then phandle_in (value_of ps (codes "phandle"))
+use Rattle.dt_tree.specs.Phandle.{phandle_of, is_reserved_name, or_else}
 
 -- 0 for none
 abbrev pub phandle_or_zero : List Property → ℕ
@@ -28,10 +23,6 @@ greatest_below b = max (phandle_or_zero b.properties) (greatest_among b.children
 
 abbrev pub greatest_in_tree : NodeData → ℕ
 greatest_in_tree root = max (phandle_or_zero root.properties) (greatest_among (unreserved root.children))
-
-abbrev pub or_else : {A : Type 0} → Option A → Option A → Option A
-or_else (Some x) o = Some x
-or_else None o = o
 
 -- whether the properties have this phandle
 abbrev pub has_phandle : List Property → ℕ → Bool
