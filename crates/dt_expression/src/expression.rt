@@ -1,43 +1,17 @@
 //! Expressions, read from lexemes and computed while they are read.
 ghost use Rattle.std.specs.Prelude.{◌≡◌, ◌≤◌, ◌<◌, ◌-◌, length, IfOk, IfSome, option_map};
 ghost use Rattle.dt_expression.specs.Expression.{rank, is_prefix};
-ghost use Rattle.dt_expression.specs.Reading.{Gives, syntax_at, too_deep};
+ghost use Rattle.dt_expression.specs.Reading.{Gives};
 ghost use Rattle.dt_expression.specs.Values.{values};
 ghost use Rattle.dt_expression.specs.ReadingExpressions.{unary_at, levels, more, expr_at, expr_below, unary_below, operator_at, closed, chosen, otherwise, primary_with, primary_at, ReadsWhatIsSpelled, ReadsAllThatIsSpelled, SpellsOne};
 
 use crate::numeral::literal;
+use crate::refusals::{syntax_at, too_deep};
 use crate::value::{both, choice, prefixed};
-use dt_lexeme::{Fault, Kind, Lexeme, Refusal, RefusalKind};
+use dt_lexeme::{Fault, Kind, Lexeme, Refusal};
 
 /// How many levels of parentheses, operands of unary operators and choices may stand in one another.
 pub const MAX_NESTING: u8 = 64;
-
-/// The refusal of lexemes whose first one can't stand where it does, or that end too early: then its place is
-/// behind every place of a text.
-pub fn syntax_at(lexemes: &[Lexeme]) -> Refusal
-    ensures { result ≡ syntax_at lexemes.now }
-{
-    match lexemes {
-        [] => Refusal {
-            kind: RefusalKind::Syntax,
-            place: u32::MAX,
-        },
-        [first, ..] => Refusal {
-            kind: RefusalKind::Syntax,
-            place: first.start,
-        },
-    }
-}
-
-/// The refusal of a lexeme that nests too deep.
-pub fn too_deep(lexeme: Lexeme) -> Refusal
-    ensures { result ≡ too_deep lexeme }
-{
-    Refusal {
-        kind: RefusalKind::TooDeep,
-        place: lexeme.start,
-    }
-}
 
 // How loosely an operator binds: 0 where it is none.
 fn rank_of(kind: Kind) -> u8

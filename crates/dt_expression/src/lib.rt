@@ -6,8 +6,10 @@
 mod elements;
 mod expression;
 mod numeral;
+mod refusals;
 mod value;
 
 pub use elements::{Width, element, push_low_bytes, width_of};
-pub use expression::{MAX_NESTING, primary, reads_the_grammar, syntax_at, too_deep};
+pub use expression::{MAX_NESTING, primary, reads_the_grammar};
 pub use numeral::{bytes_of, digit_of, literal};
+pub use refusals::{syntax_at, too_deep};

@@ -3,6 +3,7 @@ ghost use Rattle.std.specs.Prelude.{◌≡◌, ◌==◌, ◌&&◌, not, Some, fa
 ghost use Rattle.dt_lexeme.specs.Fronts.{Front, closes, ends_label, labels, names, words, ends_word, path_step, closes_path, paths, ells, suffix, numbers, hexed};
 
 use crate::bytes::{Class, begins, begins_hex, begins_x, from, front, is_name, is_word, run_len};
+use dt_tree::MAX_NAME_LEN;
 
 fn ends_string(escaped: bool, c: u8) -> bool
     ensures { result ≡ not escaped && c == 34 }
@@ -48,21 +49,21 @@ fn label_end(s: &[u8]) -> Option<usize>
 pub(crate) fn label_len(s: &[u8]) -> Option<usize>
     ensures { Front labels s.now result }
 {
-    label_end(front(s, 255))
+    label_end(front(s, MAX_NAME_LEN))
 }
 
 /// How long the name is behind its first character.
 pub(crate) fn name_len(s: &[u8]) -> usize
     ensures { Front names s.now (Some result) }
 {
-    run_len(Class::Name, front(s, 254))
+    run_len(Class::Name, front(s, MAX_NAME_LEN - 1))
 }
 
 /// How long the label of a reference is behind its first letter.
 pub(crate) fn words_len(s: &[u8]) -> usize
     ensures { Front words s.now (Some result) }
 {
-    run_len(Class::Word, front(s, 254))
+    run_len(Class::Word, front(s, MAX_NAME_LEN - 1))
 }
 
 /// How far the next slash is, with it.
@@ -83,7 +84,7 @@ fn path_step(name: usize, c: u8) -> Option<usize>
 {
     if c == b'/' {
         if name > 0 { Some(0) } else { None }
-    } else if name < 255 && is_name(c) {
+    } else if name < MAX_NAME_LEN && is_name(c) {
         Some(name + 1)
     } else {
         None

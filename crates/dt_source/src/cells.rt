@@ -2,17 +2,18 @@
 ghost use Rattle.std.specs.Prelude.{◌≡◌, ◌≤◌, ◌<◌, ◌++◌, length, None, IfOk, OnOk, option_map};
 ghost use Rattle.dt_expression.specs.Reading.{Gives};
 ghost use Rattle.dt_source.specs.Reading.Several.{Reads};
-ghost use Rattle.dt_source.specs.Pieces.{reference_fault, fault_in, cell_fault, cell_pieces, element_pieces};
+ghost use Rattle.dt_source.specs.Pieces.{fault_in, cell_fault, cell_pieces, element_pieces};
 ghost use Rattle.dt_source.specs.Reading.Values.{built, put_all};
 ghost use Rattle.dt_source.specs.Reading.Bodies.{element_at, cell_at, cells_at, pair_at, pairs_at};
 ghost use Rattle.dt_source.specs.Reading.Loops.{into, byte_list};
 
 use crate::cell::Cell;
 use crate::parts::Parts;
-use crate::string::{earlier, pair, target};
+use crate::references::{reference_fault, target};
+use crate::string::{earlier, pair};
 use crate::tree::Part;
 use dt_expression::{Width, element as within, primary, push_low_bytes, syntax_at};
-use dt_lexeme::{Fault, FaultKind, Kind, Lexeme, ReadError, Refusal};
+use dt_lexeme::{Fault, Kind, Lexeme, ReadError, Refusal};
 use std::alloc::{AllocError, Global};
 
 fn element<'a>(
@@ -44,19 +45,6 @@ fn cell<'a>(text: &[u8], ts: &'a [Lexeme]) -> Result<(Option<Cell>, &'a [Lexeme]
             Kind::Label => Ok((Some(Cell::Label), rest)),
             _ => Err(syntax_at(ts)),
         },
-    }
-}
-
-// A reference stands in cells of 32 bits alone.
-fn reference_fault(width: Width, l: Lexeme) -> Option<Fault>
-    ensures { result ≡ reference_fault width l }
-{
-    match width {
-        Width::ThirtyTwo => None,
-        _ => Some(Fault {
-            kind: FaultKind::BadBits,
-            place: l.start,
-        }),
     }
 }
 

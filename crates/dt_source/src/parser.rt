@@ -7,32 +7,14 @@ ghost use Rattle.dt_source.specs.SourceError.{kind_of_fault};
 ghost use Rattle.dt_source.specs.Tree.{Meaning};
 ghost use Rattle.dt_source.specs.Meaning.{meaning, outlined};
 ghost use Rattle.dt_source.specs.Source.{SourceTree};
-ghost use Rattle.dt_source.specs.Parse.{IsShort, IsSource, Says, HasFirstFault, Refuses, IsRead, IfRefused, IsRefused, refused_at};
+ghost use Rattle.dt_source.specs.Parse.{IsShort, IsSource, Says, HasFirstFault, Refuses, IsRead, IfRefused};
 
-use crate::error::{SourceError, SourceErrorKind, kind_of_fault, kind_of_refusal};
+use crate::error::{SourceError, SourceErrorKind};
+use crate::refusals::{error_of, fault_error, refused_at};
 use crate::source::source;
 use crate::tree::{Outline, Source};
-use dt_lexeme::{Fault, MAX_TEXT_LEN, ReadError, Refusal, RefusalKind, line_of, scan_front};
+use dt_lexeme::{Fault, MAX_TEXT_LEN, ReadError, scan_front};
 use std::alloc::Global;
-
-// The refusal of a text that has no lexeme at this place: what is refused before it, or else that place.
-fn refused_at(place: u32, read: Result<(Outline<'_>, Option<Fault>), ReadError>) -> ReadError
-    ensures { result ≡ refused_at place read.entry }
-{
-    let none = Refusal {
-        kind: RefusalKind::Syntax,
-        place,
-    };
-    match read {
-        Ok(_) => ReadError::Refused(none),
-        Err(ReadError::NoMemory) => ReadError::NoMemory,
-        Err(ReadError::Refused(refusal)) => ReadError::Refused(if refusal.place < place {
-            refusal
-        } else {
-            none
-        }),
-    }
-}
 
 // What the text's source says, and the first of its faults.
 fn read<'a>(alloc: Global, text: &'a [u8]) -> Result<(Outline<'a>, Option<Fault>), ReadError>
@@ -44,34 +26,6 @@ fn read<'a>(alloc: Global, text: &'a [u8]) -> Result<(Outline<'a>, Option<Fault>
     match stop {
         None => source(alloc, text, lexemes.as_slice()),
         Some(place) => Err(refused_at(place, source(alloc, text, lexemes.as_slice()))),
-    }
-}
-
-fn error_of(text: &[u8], refusal: ReadError) -> SourceError
-    requires short { IsShort text.now }
-    requires none { IfRefused text.now refusal }
-    ensures { Refuses text.now result.kind result.line }
-{
-    match refusal {
-        ReadError::NoMemory => SourceError {
-            kind: SourceErrorKind::NoMemory,
-            line: 0,
-        },
-        ReadError::Refused(refusal) => SourceError {
-            kind: kind_of_refusal(refusal.kind),
-            line: line_of(text, refusal.place),
-        },
-    }
-}
-
-fn fault_error(text: &[u8], fault: Fault) -> SourceError
-    requires short { IsShort text.now }
-    requires first { HasFirstFault text.now fault }
-    ensures { Refuses text.now result.kind result.line }
-{
-    SourceError {
-        kind: kind_of_fault(fault.kind),
-        line: line_of(text, fault.place),
     }
 }
 

@@ -11,7 +11,8 @@ ghost use Rattle.dt_source.specs.Reading.Loops.{into, comma_rest};
 
 use crate::cells::{cells, pairs};
 use crate::parts::Parts;
-use crate::string::{earlier, string_of, target};
+use crate::references::target;
+use crate::string::{earlier, string_of};
 use crate::tree::Part;
 use dt_expression::{Width, literal, syntax_at, width_of};
 use dt_lexeme::{Fault, FaultKind, Kind, Lexeme, ReadError};

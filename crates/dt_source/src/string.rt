@@ -1,14 +1,11 @@
-//! Strings, pairs of hex digits, names and references, as bytes.
+//! Strings and pairs of hex digits, as bytes.
 ghost use Rattle.std.specs.Prelude.{◌≡◌, ◌<◌, ◌≤◌, ◌+◌, ◌^◌, ◌++◌, length, drop, slice_range, IfOk, OnOk, IfSome, option_map};
 ghost use Rattle.dt_source.specs.Strings.{escape_of, digit_at, octal_at, hex_at, escape_at, char_step, char_fault, char_number, string_bytes, string_faults, pair_byte};
-ghost use Rattle.dt_source.specs.Tree.{target_view};
-ghost use Rattle.dt_source.specs.Pieces.{target_of};
 ghost use Rattle.dt_source.specs.Reading.Several.{earlier};
 ghost use Rattle.dt_source.specs.Order.{first_of};
 
-use crate::tree::Reference;
 use dt_expression::{bytes_of, digit_of};
-use dt_lexeme::{Fault, FaultKind, Kind, Lexeme};
+use dt_lexeme::{Fault, FaultKind, Lexeme};
 use std::alloc::{AllocError, Global};
 
 /// What stands between two places of the text.
@@ -216,19 +213,5 @@ pub(crate) fn pair(text: &[u8], l: Lexeme) -> u8
     match bytes_of(text, l) {
         [a, b, ..] => ((digit_of(*a) as u16 * 16 + digit_of(*b) as u16) % 256) as u8,
         _ => 0,
-    }
-}
-
-/// What a reference names.
-pub(crate) fn target(text: &[u8], l: Lexeme) -> Reference<'_>
-    ensures { target_view result ≡ target_of text.now l }
-{
-    match l.kind {
-        Kind::PathReference => Reference::Path(bytes_between(
-            text,
-            l.start as usize + 2,
-            (l.end as usize).saturating_sub(1),
-        )),
-        _ => Reference::Label(bytes_between(text, l.start as usize + 1, l.end as usize)),
     }
 }

@@ -5,7 +5,7 @@ mod board;
 use board::BOARD;
 use dt_source::{
     Item, Part, Reference, Source, SourceError, SourceErrorKind, Statement, bodies_are_lists,
-    faults_are_in_order, name_of, one_source, parse, reads_sources, says_lawful,
+    faults_are_in_order, one_source, parse, reads_sources, says_lawful,
 };
 use std::alloc::{AllocError, Global};
 use std::process::Abort;
@@ -397,12 +397,5 @@ fn beginnings_of_the_board(rt: HostRuntime) -> Result<(), Fail> {
             assert!(rt; cut == 10 || cut == 255, "cut at {i}");
         }
     }
-    Ok(())
-}
-
-#[test]
-fn names(rt: HostRuntime) -> Result<(), Fail> {
-    let name = name_of(rt.alloc(), b"uart@1")?;
-    assert_eq!(rt; name.as_bytes(), b"uart@1".as_slice());
     Ok(())
 }

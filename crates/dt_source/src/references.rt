@@ -1,0 +1,36 @@
+//! References: what they name, and where they can't stand.
+ghost use Rattle.std.specs.Prelude.{◌≡◌};
+ghost use Rattle.dt_source.specs.Tree.{target_view};
+ghost use Rattle.dt_source.specs.Pieces.{target_of, reference_fault};
+
+use crate::string::bytes_between;
+use crate::tree::Reference;
+use dt_expression::Width;
+use dt_lexeme::{Fault, FaultKind, Kind, Lexeme};
+
+/// What a reference names.
+pub(crate) fn target(text: &[u8], l: Lexeme) -> Reference<'_>
+    ensures { target_view result ≡ target_of text.now l }
+{
+    match l.kind {
+        Kind::PathReference => Reference::Path(bytes_between(
+            text,
+            l.start as usize + 2,
+            (l.end as usize).saturating_sub(1),
+        )),
+        _ => Reference::Label(bytes_between(text, l.start as usize + 1, l.end as usize)),
+    }
+}
+
+/// A reference stands in cells of 32 bits alone.
+pub(crate) fn reference_fault(width: Width, l: Lexeme) -> Option<Fault>
+    ensures { result ≡ reference_fault width l }
+{
+    match width {
+        Width::ThirtyTwo => None,
+        _ => Some(Fault {
+            kind: FaultKind::BadBits,
+            place: l.start,
+        }),
+    }
+}

@@ -1,0 +1,59 @@
+//! How a text is refused: by what can't be read, or by the first fault of a value.
+ghost use Rattle.std.specs.Prelude.{◌≡◌};
+ghost use Rattle.dt_source.specs.Parse.{IsShort, HasFirstFault, Refuses, IfRefused, refused_at};
+
+use crate::error::{SourceError, SourceErrorKind, kind_of_fault, kind_of_refusal};
+use crate::tree::Outline;
+use dt_lexeme::{Fault, ReadError, Refusal, RefusalKind, line_of};
+
+/// The refusal of a text that has no lexeme at this place: what is refused before it, or else that place.
+pub(crate) fn refused_at(
+    place: u32,
+    read: Result<(Outline<'_>, Option<Fault>), ReadError>,
+) -> ReadError
+    ensures { result ≡ refused_at place read.entry }
+{
+    let none = Refusal {
+        kind: RefusalKind::Syntax,
+        place,
+    };
+    match read {
+        Ok(_) => ReadError::Refused(none),
+        Err(ReadError::NoMemory) => ReadError::NoMemory,
+        Err(ReadError::Refused(refusal)) => ReadError::Refused(if refusal.place < place {
+            refusal
+        } else {
+            none
+        }),
+    }
+}
+
+/// Why a text is refused that isn't in the grammar or nests too deep, and the line of that.
+pub(crate) fn error_of(text: &[u8], refusal: ReadError) -> SourceError
+    requires short { IsShort text.now }
+    requires none { IfRefused text.now refusal }
+    ensures { Refuses text.now result.kind result.line }
+{
+    match refusal {
+        ReadError::NoMemory => SourceError {
+            kind: SourceErrorKind::NoMemory,
+            line: 0,
+        },
+        ReadError::Refused(refusal) => SourceError {
+            kind: kind_of_refusal(refusal.kind),
+            line: line_of(text, refusal.place),
+        },
+    }
+}
+
+/// Why a text is refused whose first fault this is, and its line.
+pub(crate) fn fault_error(text: &[u8], fault: Fault) -> SourceError
+    requires short { IsShort text.now }
+    requires first { HasFirstFault text.now fault }
+    ensures { Refuses text.now result.kind result.line }
+{
+    SourceError {
+        kind: kind_of_fault(fault.kind),
+        line: line_of(text, fault.place),
+    }
+}
