@@ -1,10 +1,11 @@
 -- The open nodes of an assembly as one tree: a node more, and a node that gets no more children.
-use Rattle.std.proofs.Common.{◌≡◌, ℕ, ◌+◌, ◌-◌, ◌≤◌, max, Bool, true, false, not, ◌&&◌, ◌||◌, List, [], ◌∷◌, ◌++◌, length, map, take, if◌then◌else◌, refl, sym, ap, ap₂, ◌∙◌, subst, append_assoc, append-nil, length-append, arith}
+use Rattle.std.proofs.Common.{◌≡◌, ℕ, ◌+◌, ◌-◌, ◌≤◌, ◌<◌, max, Bool, true, false, not, ◌&&◌, ◌||◌, List, [], ◌∷◌, ◌++◌, length, map, take, if◌then◌else◌, refl, sym, ap, ap₂, ◌∙◌, subst, append_assoc, append-nil, length-append, arith}
 use Rattle.std.specs.List.{list_all}
 use Rattle.std.specs.Str.{bytes_eq}
 use Rattle.std.proofs.Math.Seq.{take-append_seam}
 use Rattle.std.proofs.lemmas.Bool.{and_parts, and_from}
 use Rattle.std.proofs.lemmas.List.{map-append, length-map}
+use Rattle.dt_tree.specs.declared.limits.TheConstants.{MAX_DEPTH}
 use Rattle.dt_tree.specs.declared.property.Property.{Property}
 use Rattle.dt_tree.specs.Fault.{is_named, are_named}
 use Rattle.dt_tree.specs.NodeData.{Siblings, none, more, NodeData, node_data, siblings, child_names, property_names, height_of}
@@ -66,7 +67,7 @@ module _ (q t : NodeData) where
   pub joined-assembly : (xs : List NodeData) → IsAssembly (xs ++ q ∷ t ∷ []) → IsAssembly (xs ++ joined q t ∷ [])
   joined-assembly xs a = record {
     parts = open-joined xs a.parts;
-    shallow = subst (λ (f : Siblings). height_of f ≤ 65) (sym (chained-joined xs)) a.shallow;
+    shallow = subst (λ (f : Siblings). height_of f ≤ MAX_DEPTH + 1) (sym (chained-joined xs)) a.shallow;
     root = ap (λ b. b.name) (tree-joined xs) ∙ a.root;
   }
 
@@ -92,7 +93,7 @@ last-height (b ∷ bs) t = omega (arith, last-height bs t, height-beside b.child
 pub record IsWhole (t : NodeData) : Type 0 where
   pub properties : are_distinct (property_names t.properties) ≡ true
   pub children : AreApart (child_names t.children)
-  pub height : height_of t.children ≤ 64
+  pub height : height_of t.children ≤ MAX_DEPTH
 
 pub last-whole : (xs : List NodeData) (t : NodeData) → IsAssembly (xs ++ t ∷ []) → IsWhole t
 last-whole xs t a =
@@ -154,7 +155,7 @@ module _ (t new : NodeData) (no_children : new.children ≡ none) where
   root-name [] = refl
   root-name (b ∷ bs) = refl
 
-  pub more-assembly : (xs : List NodeData) → is_filled new.name ≡ true → are_distinct (property_names new.properties) ≡ true → is_among new.name (child_names t.children) ≡ false → length xs ≤ 63
+  pub more-assembly : (xs : List NodeData) → is_filled new.name ≡ true → are_distinct (property_names new.properties) ≡ true → is_among new.name (child_names t.children) ≡ false → length xs < MAX_DEPTH
       → IsAssembly (xs ++ t ∷ []) → IsAssembly (xs ++ t ∷ new ∷ [])
   more-assembly xs filled differ fresh low a = record {
     parts = open-more xs filled differ fresh a.parts;

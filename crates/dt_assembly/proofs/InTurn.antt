@@ -3,11 +3,12 @@ use Rattle.std.proofs.Common.{◌≡◌, ℕ, zero, suc, ◌≤◌, ◌<◌, Boo
 use Rattle.std.specs.List.{filter, flat_map}
 use Rattle.std.proofs.Math.Seq.{take-append_seam}
 use Rattle.std.proofs.lemmas.Bool.{and_from, and_parts}
+use Rattle.dt_tree.specs.declared.limits.TheConstants.{MAX_DEPTH}
 use Rattle.dt_meaning.specs.Paths.{Path, same_path, is_listed, name_below}
 use Rattle.dt_meaning.specs.References.{walk, preorder}
 use Rattle.dt_assembly.specs.Standing.{are_apart, AreNodes, Follows, AreFollowed}
 use Rattle.dt_assembly.proofs.Orders.{is_filled, marked, listed-marked}
-use Rattle.dt_assembly.proofs.PathFacts.{not-both, not-true, same-itself, same-is, child-is, listed-first, listed-next, listed-other}
+use Rattle.dt_assembly.proofs.PathFacts.{Within, within-step, not-both, not-true, same-itself, same-is, child-is, listed-first, listed-next, listed-other}
 use Rattle.dt_assembly.proofs.Walks.{flat-none, flat-one, from-one}
 
 -- ---- each once
@@ -56,9 +57,6 @@ before-apart (x ∷ xs) (suc i) a below =
         by_same false same = refl
 
 -- ---- each after one that it is below
-abbrev Within : Path → Path → Type 0
-Within c x = (s : Path) × (x ≡ c ++ s)
-
 child-follows : (p x c : Path) → Within p x → is_some (name_below p c) ≡ true → Follows x c
 child-follows p x c w child =
     let n = child-is p c child in
@@ -68,10 +66,6 @@ child-follows p x c w child =
       name = n.0;
       path = n.1 ∙ ap (λ z. z ++ n.0 ∷ []) (sym (ap (take (length p)) w.1 ∙ take-append_seam p w.0));
     }
-
-child-within : (top p c : Path) → Within top p → is_some (name_below p c) ≡ true → Within top c
-child-within top p c w child =
-    let n = child-is p c child in (w.0 ++ n.0 ∷ [], n.1 ∙ ap (λ z. z ++ n.0 ∷ []) w.1 ∙ append_assoc top w.0 (n.0 ∷ []))
 
 within-within : (top c y : Path) → Within top c → Within c y → Within top y
 within-within top c y w v = (w.0 ++ v.0, v.1 ∙ ap (λ z. z ++ v.0) w.1 ∙ append_assoc top w.0 v.0)
@@ -91,7 +85,7 @@ module _ (nodes : List Path) where
         → AreFollowed (y ∷ (flat_map (walk k nodes) (cond t (d ∷ filter (λ q. is_some (name_below c q)) ds) (filter (λ q. is_some (name_below c q)) ds)) ++ rest))
     by_child d ds true child y w ih =
         let more = flat_map (walk k nodes) (filter (λ q. is_some (name_below c q)) ds) ++ rest in
-        let in_c = child-within c c d ([], sym (append-nil c)) child in
+        let in_c = within-step c c d ([], sym (append-nil c)) child in
         subst (λ (zs : List Path). AreFollowed (y ∷ zs)) (sym (append_assoc (walk k nodes d) (flat_map (walk k nodes) (filter (λ q. is_some (name_below c q)) ds)) rest))
         (begins k y d more (child-follows c y d w child) (deeper d more (λ x v. ih x (within-within c d x in_c v))))
     by_child d ds false other y w ih = ih y w
@@ -102,7 +96,7 @@ module _ (nodes : List Path) where
 
   pub in-turn : AreFollowed (preorder nodes)
   unfolding preorder
-  in-turn = subst AreFollowed (append-nil (walk 64 nodes [])) (walk-followed 64 [] [] (λ y w. tt))
+  in-turn = subst AreFollowed (append-nil (walk MAX_DEPTH nodes [])) (walk-followed MAX_DEPTH [] [] (λ y w. tt))
 
 -- at a place of the list
 pub followed-at : (xs : List Path) (i : ℕ) → AreFollowed xs → suc i < length xs → Follows (get_or xs i []) (get_or xs (suc i) [])

@@ -38,7 +38,7 @@ listed-marked p (x ∷ xs) = by_same (same_path p x) (flat_map (marked p) xs) (l
   by_same false bs ih = ih
 
 -- ---- the properties of a node
-pub held-append : (p : Path) (ds es : List (Definition (List ℕ))) → held (ds ++ es) p ≡ held ds p ++ held es p
+pub held-append : {V : Type 0} (p : Path) (ds es : List (Definition V)) → held (ds ++ es) p ≡ held ds p ++ held es p
 held-append p [] es = refl
 held-append p (d ∷ ds) es = by_test (same_path p d.path) (held-append p ds es) where
   by_test : (t : Bool) → held (ds ++ es) p ≡ held ds p ++ held es p → cond t (d ∷ held (ds ++ es) p) (held (ds ++ es) p) ≡ cond t (d ∷ held ds p) (held ds p) ++ held es p

@@ -5,7 +5,8 @@ use Rattle.std.specs.Str.{bytes_eq}
 use Rattle.std.proofs.lemmas.Bool.{and_parts, and_from}
 use Rattle.std.proofs.lemmas.Bool.Decides.{nat_tests}
 use Rattle.std.proofs.lemmas.Slice.Eq.{bytes_eq-Decides}
-use Rattle.dt_meaning.specs.Paths.{Path, same_path, is_listed, name_below}
+use Rattle.dt_tree.specs.declared.limits.TheConstants.{MAX_DEPTH}
+use Rattle.dt_meaning.specs.Paths.{Path, same_path, is_within, is_listed, name_below}
 use Rattle.dt_meaning.specs.Resolved.{is_too_deep}
 
 -- ---- tests
@@ -74,6 +75,22 @@ pub next-names : (p : Path) (a b : List ℕ) (s t : Path) → p ++ a ∷ s ≡ p
 next-names [] a b s t e = cc
 next-names (x ∷ xs) a b s t e = let h : (xs ++ a ∷ s) ≡ (xs ++ b ∷ t) = cc in next-names xs a b s t h
 
+-- a path that is the first or below it
+abbrev pub Within : Path → Path → Type 0
+Within c x = (s : Path) × (x ≡ c ++ s)
+
+pub within-is : (p q : Path) → is_within p q ≡ true → Within p q
+within-is [] q w = (q, refl)
+within-is (x ∷ xs) [] w = absurd (true≢false (sym w))
+within-is (x ∷ xs) (y ∷ ys) w =
+    let parts = and_parts (bytes_eq x y) (is_within xs ys) w in
+    let rest = within-is xs ys parts.1 in
+    (rest.0, ap₂ (λ a b. a ∷ b) (sym ((bytes_eq-Decides x y).0 parts.0)) rest.1)
+
+pub within-step : (c x y : Path) → Within c x → is_some (name_below x y) ≡ true → Within c y
+within-step c x y w child =
+    let n = child-is x y child in (w.0 ++ n.0 ∷ [], n.1 ∙ ap (λ z. z ++ n.0 ∷ []) w.1 ∙ append_assoc c w.0 (n.0 ∷ []))
+
 onto : (P : Path → Type 0) → ((q : Path) (n : List ℕ) → P (q ++ n ∷ [])) → (s p : Path) → P p → P (p ++ s)
 onto P child [] p h = subst P (sym (append-nil p)) h
 onto P child (n ∷ s) p h = subst P (append_assoc p (n ∷ []) s) (onto P child s (p ++ n ∷ []) (child p n))
@@ -89,15 +106,15 @@ listed-first x xs = ap (λ b. b || is_listed x xs) (same-itself x)
 pub listed-next : (y x : Path) (xs : List Path) → is_listed y xs ≡ true → is_listed y (x ∷ xs) ≡ true
 listed-next y x xs l = or-right (same_path y x) (is_listed y xs) l
 
-pub not-deep : (xs : List Path) (x : Path) → list_any is_too_deep xs ≡ false → is_listed x xs ≡ true → length x ≤ 64
+pub not-deep : (xs : List Path) (x : Path) → list_any is_too_deep xs ≡ false → is_listed x xs ≡ true → length x ≤ MAX_DEPTH
 not-deep [] x d l = absurd (true≢false (sym l))
 not-deep (y ∷ ys) x d l =
     let parts = or-false (is_too_deep y) (list_any is_too_deep ys) d in
     by_same y ys x (same_path x y) refl l parts.0 (not-deep ys x parts.1) where
-      shallow : (y : Path) → is_too_deep y ≡ false → length y ≤ 64
+      shallow : (y : Path) → is_too_deep y ≡ false → length y ≤ MAX_DEPTH
       shallow y e = grind (arith, nat_tests)
 
-      by_same : (y : Path) (ys : List Path) (x : Path) (t : Bool) → same_path x y ≡ t → (t || is_listed x ys) ≡ true → is_too_deep y ≡ false → (is_listed x ys ≡ true → length x ≤ 64) → length x ≤ 64
+      by_same : (y : Path) (ys : List Path) (x : Path) (t : Bool) → same_path x y ≡ t → (t || is_listed x ys) ≡ true → is_too_deep y ≡ false → (is_listed x ys ≡ true → length x ≤ MAX_DEPTH) → length x ≤ MAX_DEPTH
       by_same y ys x true same l d ih = let e : length x ≡ length y = ap length (same-is x y same) in let s = shallow y d in omega arith
       by_same y ys x false same l d ih = ih l
 

@@ -5,6 +5,7 @@ use Rattle.std.proofs.lemmas.Bool.{and_parts}
 use Rattle.std.proofs.lemmas.List.{length-take-le, map-append}
 use Rattle.std.proofs.lemmas.List.Concat.{flat_map-append}
 use Rattle.std.proofs.Math.Seq.{take-append_seam}
+use Rattle.dt_tree.specs.declared.limits.TheConstants.{MAX_DEPTH}
 use Rattle.dt_tree.specs.declared.property.Property.{Property}
 use Rattle.dt_meaning.specs.Paths.{Path, is_listed}
 use Rattle.dt_meaning.specs.References.{preorder}
@@ -19,7 +20,7 @@ use Rattle.dt_assembly.proofs.PathFacts.{listed-next, not-deep}
 -- the node at a path with this last name, so deep, can be pushed behind those before it
 pub record IsNext (way : Path) (before : List Path) (depth : ℕ) (name : List ℕ) (path : Path) : Type 0 where
   pub reached : depth ≤ length way + 1
-  pub shallow : depth ≤ 64
+  pub shallow : depth ≤ MAX_DEPTH
   pub at : take (depth - 1) way ++ name ∷ [] ≡ path
   pub new : is_listed (take (depth - 1) way ++ name ∷ []) before ≡ false
 
@@ -46,7 +47,7 @@ module _ (nodes : List Path) (are : AreNodes nodes) where
   unfolding bare
   rest-listed q l = there-same bare are q ∙ l
 
-  low : (q : Path) → is_listed q ([] ∷ nodes) ≡ true → length q ≤ 64
+  low : (q : Path) → is_listed q ([] ∷ nodes) ≡ true → length q ≤ MAX_DEPTH
   low [] l = omega arith
   low (x ∷ xs) l = not-deep nodes (x ∷ xs) are.shallow l
 

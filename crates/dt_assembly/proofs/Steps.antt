@@ -2,6 +2,7 @@
 use Rattle.std.proofs.Common.{◌≡◌, ℕ, ◌-◌, ◌<◌, true, false, List, [], ◌∷◌, ◌++◌, length, map, take, refl, sym, ap, ◌∙◌, subst, append_assoc, arith}
 use Rattle.std.proofs.lemmas.Bool.Decides.{nat_tests}
 use Rattle.std.proofs.lemmas.List.{map-append, length-map}
+use Rattle.dt_tree.specs.declared.limits.TheConstants.{MAX_DEPTH}
 use Rattle.dt_tree.specs.declared.property.Property.{Property}
 use Rattle.dt_tree.specs.Fault.{are_named}
 use Rattle.dt_tree.specs.Name.{is_name}
@@ -62,7 +63,7 @@ module _ (above more : List OpenNode) (last next : OpenNode) (name : List ℕ) (
   unfolding new
   grown = two more above last next e ∙ ap (λ b. map opened above ++ opened last ∷ b ∷ []) made
 
-  pub grow-assembly : is_name name ≡ true → are_distinct (property_names ps) ≡ true → length (way_of (viewed above last)) < 64
+  pub grow-assembly : is_name name ≡ true → are_distinct (property_names ps) ≡ true → length (way_of (viewed above last)) < MAX_DEPTH
       → is_listed (way_of (viewed above last) ++ name ∷ []) (lists_of (tree_of (viewed above last))).nodes ≡ false → IsAssembly (viewed above last) → IsAssembly (viewed more next)
   unfolding new
   grow-assembly is_named differ low fresh a =

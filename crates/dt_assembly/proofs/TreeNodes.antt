@@ -7,6 +7,7 @@ use Rattle.std.proofs.lemmas.Bool.Decides.{nat_tests}
 use Rattle.std.proofs.lemmas.List.{map-append, map-id}
 use Rattle.std.proofs.lemmas.List.Elements.{All-head, All-tail}
 use Rattle.std.proofs.lemmas.List.Folds.{list_any-append}
+use Rattle.dt_tree.specs.declared.limits.TheConstants.{MAX_DEPTH}
 use Rattle.dt_tree.specs.declared.property.Property.{Property}
 use Rattle.dt_tree.specs.NodeData.{Siblings, none, more, NodeData, height_of}
 use Rattle.dt_tree.specs.Preorder.{paths_among}
@@ -48,12 +49,12 @@ paths-more p n ps c rest =
     (map-append (λ q. p ++ q) (map down (paths_among c)) (paths_among rest)
     ∙ ap (λ xs. xs ++ paths_below p rest) (map-map (λ q. p ++ q) down (λ q. (p ++ n ∷ []) ++ q) (paths_among c) (λ q. sym (append_assoc p (n ∷ []) q))))
 
-none-deep : (p : Path) (f : Siblings) → length p + height_of f ≤ 64 → list_any is_too_deep (paths_below p f) ≡ false
+none-deep : (p : Path) (f : Siblings) → length p + height_of f ≤ MAX_DEPTH → list_any is_too_deep (paths_below p f) ≡ false
 none-deep p none deep = refl
 none-deep p (more n ps c rest) deep =
     let q = p ++ n ∷ [] in
-    let few : length q ≤ 64 = omega (arith, length-append p (n ∷ [])) in
-    let here : nat_lt 64 (length q) ≡ false = grind (arith, nat_tests) in
+    let few : length q ≤ MAX_DEPTH = omega (arith, length-append p (n ∷ [])) in
+    let here : nat_lt MAX_DEPTH (length q) ≡ false = grind (arith, nat_tests) in
     ap (list_any is_too_deep) (paths-more p n ps c rest)
     ∙ ap₂ (λ s t. s || t) here
     (list_any-append is_too_deep (paths_below q c) (paths_below p rest)

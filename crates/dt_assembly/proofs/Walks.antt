@@ -1,17 +1,28 @@
 -- What a walk meets, gathered by a function of paths that gives nothing away from the children of one node.
 use Rattle.std.proofs.Common.{◌≡◌, ℕ, zero, suc, ◌+◌, Bool, true, false, not, ◌||◌, List, [], ◌∷◌, ◌++◌, length, is_some, if◌then◌else◌, cond, refl, sym, ap, ap₂, ◌∙◌, append_assoc, append-nil, length-append, true≢false, arith}
-use Rattle.std.specs.List.{filter, flat_map}
+use Rattle.std.specs.List.{filter, flat_map, list_all}
 use Rattle.std.proofs.lemmas.Bool.{and_parts}
 use Rattle.std.proofs.lemmas.List.Concat.{flat_map-append}
+use Rattle.dt_tree.specs.declared.limits.TheConstants.{MAX_DEPTH}
 use Rattle.dt_meaning.specs.Paths.{Path, same_path, is_listed, name_below}
 use Rattle.dt_meaning.specs.References.{walk, preorder}
 use Rattle.dt_assembly.specs.Standing.{are_apart, AreNodes}
-use Rattle.dt_assembly.proofs.PathFacts.{not-both, not-true, same-itself, same-is, below-child, child-is, next-names, by_last, listed-first, listed-next, not-deep, listed-other}
+use Rattle.dt_assembly.proofs.PathFacts.{Within, within-step, not-both, not-true, same-itself, same-is, below-child, child-is, next-names, by_last, listed-first, listed-next, not-deep, listed-other}
 
 -- ---- pieces of a list
 pub chosen : {A : Type 0} (t : Bool) (xs ys : List A) → (t ≡ true → xs ≡ ys) → (t ≡ false → [] ≡ ys) → (if t then xs else []) ≡ ys
 chosen true xs ys f g = f refl
 chosen false xs ys f g = g refl
+
+pub filter-all : {A : Type 0} (t : A → Bool) (xs : List A) → list_all t xs ≡ true → filter t xs ≡ xs
+filter-all t [] all = refl
+filter-all t (x ∷ xs) all =
+    let parts = and_parts (t x) (list_all t xs) all in
+    ap (λ b. cond b (x ∷ filter t xs) (filter t xs)) parts.0 ∙ ap (λ ys. x ∷ ys) (filter-all t xs parts.1)
+
+pub flat-flat : {A B C : Type 0} (g : B → List C) (f : A → List B) (xs : List A) → flat_map g (flat_map f xs) ≡ flat_map (λ x. flat_map g (f x)) xs
+flat-flat g f [] = refl
+flat-flat g f (x ∷ xs) = flat_map-append g (f x) (flat_map f xs) ∙ ap (λ ys. flat_map g (f x) ++ ys) (flat-flat g f xs)
 
 module _ {B : Type 0} where
   pub flat-same : (f g : Path → List B) (xs : List Path) → ((x : Path) → f x ≡ g x) → flat_map f xs ≡ flat_map g xs
@@ -22,17 +33,13 @@ module _ {B : Type 0} where
   flat-none f [] e = refl
   flat-none f (x ∷ xs) e = ap₂ (λ a b. a ++ b) (e x (listed-first x xs)) (flat-none f xs (λ y l. e y (listed-next y x xs l)))
 
-  flat-chosen : (h : Path → Bool) (f : Path → List B) (xs : List Path) → flat_map f (filter h xs) ≡ flat_map (λ x. if h x then f x else []) xs
+  pub flat-chosen : (h : Path → Bool) (f : Path → List B) (xs : List Path) → flat_map f (filter h xs) ≡ flat_map (λ x. if h x then f x else []) xs
   flat-chosen h f [] = refl
   flat-chosen h f (x ∷ xs) = by_test x xs (h x) (flat-chosen h f xs) where
     by_test : (x : Path) (xs : List Path) (t : Bool) → flat_map f (filter h xs) ≡ flat_map (λ y. if h y then f y else []) xs
         → flat_map f (cond t (x ∷ filter h xs) (filter h xs)) ≡ (if t then f x else []) ++ flat_map (λ y. if h y then f y else []) xs
     by_test x xs true ih = ap (λ ys. f x ++ ys) ih
     by_test x xs false ih = ih
-
-  flat-flat : (g : Path → List B) (f : Path → List Path) (xs : List Path) → flat_map g (flat_map f xs) ≡ flat_map (λ x. flat_map g (f x)) xs
-  flat-flat g f [] = refl
-  flat-flat g f (x ∷ xs) = flat_map-append g (f x) (flat_map f xs) ∙ ap (λ ys. flat_map g (f x) ++ ys) (flat-flat g f xs)
 
   -- all come from one path
   pub flat-one : (f : Path → List B) (c : Path) (xs : List Path) → are_apart xs ≡ true → is_listed c xs ≡ true → ((x : Path) → same_path c x ≡ false → f x ≡ []) → flat_map f xs ≡ f c
@@ -49,7 +56,7 @@ module _ {B : Type 0} where
 
 -- ---- walks
 module _ {B : Type 0} (g : Path → List B) (nodes : List Path) where
-  walk-step : (k : ℕ) (p : Path) → flat_map g (walk (suc k) nodes p) ≡ g p ++ flat_map (λ c. if is_some (name_below p c) then flat_map g (walk k nodes c) else []) nodes
+  pub walk-step : (k : ℕ) (p : Path) → flat_map g (walk (suc k) nodes p) ≡ g p ++ flat_map (λ c. if is_some (name_below p c) then flat_map g (walk k nodes c) else []) nodes
   walk-step k p =
       ap (λ ys. g p ++ ys)
       (flat-flat g (walk k nodes) (filter (λ q. is_some (name_below p q)) nodes) ∙ flat-chosen (λ q. is_some (name_below p q)) (λ c. flat_map g (walk k nodes c)) nodes)
@@ -82,20 +89,12 @@ module _ {B : Type 0} (g : Path → List B) (nodes : List Path) where
       (λ child. let n = child-is c d child in vanish (Below c) (below-step c) (λ x b. ap g b.2 ∙ none b.0 b.1) k d (n.0, [], n.1)) (λ _. refl)))
       ∙ append-nil (g c)
 
-  abbrev Within : Path → Path → Type 0
-  Within c x = (s : Path) × (x ≡ c ++ s)
-
-  within-step : (c x y : Path) → Within c x → is_listed y nodes ≡ true → is_some (name_below x y) ≡ true → Within c y
-  within-step c x y b there child =
-      let n = child-is x y child in
-      (b.0 ++ n.0 ∷ [], n.1 ∙ ap (λ z. z ++ n.0 ∷ []) b.1 ∙ append_assoc c b.0 (n.0 ∷ []))
-
-child-listed : (nodes : List Path) (p : Path) (n : List ℕ) → is_listed (p ++ n ∷ []) ([] ∷ nodes) ≡ true → is_listed (p ++ n ∷ []) nodes ≡ true
+pub child-listed : (nodes : List Path) (p : Path) (n : List ℕ) → is_listed (p ++ n ∷ []) ([] ∷ nodes) ≡ true → is_listed (p ++ n ∷ []) nodes ≡ true
 child-listed nodes [] n l = l
 child-listed nodes (x ∷ xs) n l = l
 
 -- where a node stands, all above it do
-above-all : (nodes : List Path) → AreNodes nodes → (s p : Path) → is_listed (p ++ s) ([] ∷ nodes) ≡ true → is_listed p ([] ∷ nodes) ≡ true
+pub above-all : (nodes : List Path) → AreNodes nodes → (s p : Path) → is_listed (p ++ s) ([] ∷ nodes) ≡ true → is_listed p ([] ∷ nodes) ≡ true
 above-all nodes are [] p l = ap (λ x. is_listed x ([] ∷ nodes)) (sym (append-nil p)) ∙ l
 above-all nodes are (n ∷ s) p l =
     are.above p n (child-listed nodes p n (above-all nodes are s (p ++ n ∷ []) (ap (λ x. is_listed x ([] ∷ nodes)) (append_assoc p (n ∷ []) s) ∙ l)))
@@ -113,7 +112,7 @@ module _ {B : Type 0} (g : Path → List B) (nodes : List Path) (are : AreNodes 
     others k n s p is x other =
         chosen (is_some (name_below p x)) (flat_map g (walk k nodes x)) []
         (λ child. let m = child-is p x child in
-        vanish g nodes (Within g nodes x) (within-step g nodes x) (λ y b. ap g b.1 ∙ elsewhere (x ++ b.0) (λ j e. meets m.0 m.1 b.0 j e)) k x ([], sym (append-nil x)))
+        vanish g nodes (Within x) (λ a b w there. within-step x a b w) (λ y b. ap g b.1 ∙ elsewhere (x ++ b.0) (λ j e. meets m.0 m.1 b.0 j e)) k x ([], sym (append-nil x)))
         (λ _. refl) where
           meets : (m : List ℕ) → x ≡ p ++ m ∷ [] → (t : Path) (j : List ℕ) → x ++ t ≡ q ++ j ∷ [] → ⊥
           meets m e t j f =
@@ -122,7 +121,7 @@ module _ {B : Type 0} (g : Path → List B) (nodes : List Path) (are : AreNodes 
               let same = next-names p m n t (s ++ j ∷ []) (sym from_m ∙ f ∙ from_n) in
               not-both (same_path (p ++ n ∷ []) x) (ap (λ z. same_path (p ++ n ∷ []) z) (e ∙ ap (λ z. p ++ z ∷ []) same) ∙ same-itself (p ++ n ∷ [])) other
 
-    pub descend : (k : ℕ) (s p : Path) → k + length p ≡ 64 → q ≡ p ++ s → flat_map g (walk k nodes p) ≡ flat_map g nodes
+    pub descend : (k : ℕ) (s p : Path) → k + length p ≡ MAX_DEPTH → q ≡ p ++ s → flat_map g (walk k nodes p) ≡ flat_map g nodes
     descend zero s p deep is =
         ap (λ ys. ys ++ []) (elsewhere p (λ n e. omega (arith, ap length e, ap length is, length-append p s, length-append q (n ∷ []))))
         ∙ sym (flat-none g nodes (λ x l. elsewhere x (λ n e. omega (arith, not-deep nodes x are.shallow l, ap length e, ap length is, length-append p s, length-append q (n ∷ [])))))
@@ -148,19 +147,19 @@ module _ {B : Type 0} (g : Path → List B) (nodes : List Path) (are : AreNodes 
     -- what the children of one node give comes in their order
     pub from-children : flat_map g (preorder nodes) ≡ flat_map g nodes
     unfolding preorder
-    from-children = descend 64 q [] refl refl
+    from-children = descend MAX_DEPTH q [] refl refl
 
   -- nothing but at listed nodes
   nothing : ((x : Path) → is_listed x ([] ∷ nodes) ≡ true → g x ≡ []) → flat_map g (preorder nodes) ≡ flat_map g ([] ∷ nodes)
   unfolding preorder
   nothing none =
-      vanish g nodes (λ x. is_listed x ([] ∷ nodes) ≡ true) (λ x y _ l _. listed-next y [] nodes l) none 64 [] refl
+      vanish g nodes (λ x. is_listed x ([] ∷ nodes) ≡ true) (λ x y _ l _. listed-next y [] nodes l) none MAX_DEPTH [] refl
       ∙ sym (flat-none g ([] ∷ nodes) none)
 
   at-root : ((x : Path) → same_path [] x ≡ false → g x ≡ []) → flat_map g (preorder nodes) ≡ flat_map g ([] ∷ nodes)
   unfolding preorder
   at-root none =
-      alone g nodes 64 [] (λ m s. none (m ∷ s) refl)
+      alone g nodes MAX_DEPTH [] (λ m s. none (m ∷ s) refl)
       ∙ sym (append-nil (g [])) ∙ ap (λ ys. g [] ++ ys) (sym (flat-none g nodes (λ x l. none x (listed-other [] x nodes are.no_root l))))
 
   at-child : (q : Path) (n : List ℕ) → ((x : Path) → same_path (q ++ n ∷ []) x ≡ false → g x ≡ []) → flat_map g (preorder nodes) ≡ flat_map g ([] ∷ nodes)

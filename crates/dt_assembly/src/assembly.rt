@@ -1,5 +1,6 @@
 //! Trees in the making.
 ghost use Rattle.std.specs.Prelude.{◌≡◌, ◌+◌, ◌-◌, ◌≤◌, ◌<◌, ◌++◌, ◌∷◌, [], IfOk, false, true, length, take};
+ghost use Rattle.dt_tree.specs.declared.limits.TheConstants.{MAX_DEPTH};
 ghost use Rattle.dt_tree.specs.NodeData.{property_names};
 ghost use Rattle.dt_tree.specs.PathMap.{path_map};
 ghost use Rattle.dt_tree.specs.Sound.{are_distinct};
@@ -63,7 +64,7 @@ impl Assembly {
     ) -> Result<Assembly, AllocError>
         requires below { 1 ≤ depth }
         requires reached { depth ≤ length (way_of self) + 1 }
-        requires shallow { depth ≤ 64 }
+        requires shallow { depth ≤ MAX_DEPTH }
         requires new { is_listed (take (depth - 1) (way_of self) ++ name ∷ []) (assembled self).nodes ≡ false }
         requires properties { are_distinct (property_names properties.items) ≡ true }
         ensures nodes { IfOk result (λ assembly. assembled assembly ≡ with_last (take (depth - 1) (way_of self) ++ name ∷ []) properties.items (assembled self)) }
@@ -133,7 +134,7 @@ impl Assembly {
         name: Name,
         properties: Vec<Property>,
     ) -> Result<Assembly, AllocError>
-        requires shallow { length (way_of self) < 64 }
+        requires shallow { length (way_of self) < MAX_DEPTH }
         requires new { is_listed (way_of self ++ name ∷ []) (assembled self).nodes ≡ false }
         requires properties { are_distinct (property_names properties.items) ≡ true }
         ensures nodes { IfOk result (λ assembly. assembled assembly ≡ with_last (way_of self ++ name ∷ []) properties.items (assembled self)) }

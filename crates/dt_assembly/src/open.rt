@@ -1,5 +1,6 @@
 //! Nodes that may get more children.
 ghost use Rattle.std.specs.Prelude.{◌≡◌, ◌≤◌, [], ◌∷◌, ◌++◌, IfOk, true};
+ghost use Rattle.dt_tree.specs.declared.limits.TheConstants.{MAX_DEPTH};
 ghost use Rattle.dt_tree.specs.NodeData.{node_data, child_names, property_names, siblings, height_of, none, more};
 ghost use Rattle.dt_tree.specs.NodeView.{name_bytes};
 ghost use Rattle.dt_tree.specs.Fault.{are_named};
@@ -35,7 +36,7 @@ impl OpenNode {
         requires named { are_named self.children.items ≡ true }
         requires properties { are_distinct (property_names self.properties.items) ≡ true }
         requires children { are_distinct (child_names (siblings self.children.items)) ≡ true }
-        requires height { height_of (siblings self.children.items) ≤ 64 }
+        requires height { height_of (siblings self.children.items) ≤ MAX_DEPTH }
         ensures { result ≡ opened self }
     {
         let mut children = self.children;

@@ -58,7 +58,7 @@ module _ {V : Type 0} (es : List (Definition V)) where
   pub held-here : (p : Path) → Each (λ e. p ≡ e.path) (held es p)
   held-here p = each-passed (λ e. p ≡ e.path) (λ e. same_path p e.path) es (λ e is. same-is p e.path is)
 
-  held-listed : (ps : List Path) → Each (λ e. is_listed e.path ps ≡ true) (flat_map (held es) ps)
+  pub held-listed : (ps : List Path) → Each (λ e. is_listed e.path ps ≡ true) (flat_map (held es) ps)
   held-listed [] = tt
   held-listed (p ∷ ps) =
       each-append (λ e. is_listed e.path (p ∷ ps) ≡ true) (held es p) (flat_map (held es) ps)

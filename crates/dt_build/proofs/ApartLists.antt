@@ -1,8 +1,7 @@
 -- What is true of each element of a list, or of each two.
 use Rattle.std.proofs.Common.{◌≡◌, Bool, true, false, List, [], ◌∷◌, ◌++◌, map, refl}
-use Rattle.std.specs.Prelude.{All}
 use Rattle.std.specs.List.{filter}
-use Rattle.dt_layout.proofs.Each.{Each, each-append, each-all, each-more}
+use Rattle.dt_layout.proofs.Each.{Each, each-append, each-kept, each-more, each-same}
 
 -- each stands so to all behind it
 abbrev pub InPairs : {A : Type 0} → (A → A → Type 0) → List A → Type 0
@@ -11,17 +10,6 @@ InPairs R (x ∷ xs) = Each (R x) xs × InPairs R xs
 
 -- ---- each
 module _ {A : Type 0} (P : A → Type 0) where
-  pub all-of : (xs : List A) → Each P xs → All P xs
-  all-of xs each i d below = each-all P xs each i d below
-
-  kept-by : (t : A → Bool) (x : A) (xs : List A) (b : Bool) → t x ≡ b → P x → Each P (filter t xs) → Each P (filter t (x ∷ xs))
-  kept-by t x xs true e h hs = rw e (h, hs)
-  kept-by t x xs false e h hs = rw e hs
-
-  pub each-kept : (t : A → Bool) (xs : List A) → Each P xs → Each P (filter t xs)
-  each-kept t [] h = tt
-  each-kept t (x ∷ xs) h = kept-by t x xs (t x) refl h.0 (each-kept t xs h.1)
-
   passed-by : (t : A → Bool) (x : A) (xs : List A) (b : Bool) → t x ≡ b → (b ≡ true → P x) → Each P (filter t xs) → Each P (filter t (x ∷ xs))
   passed-by t x xs true e h hs = rw e (h refl, hs)
   passed-by t x xs false e h hs = rw e hs
@@ -30,10 +18,6 @@ module _ {A : Type 0} (P : A → Type 0) where
   pub each-passed : (t : A → Bool) (xs : List A) → ((x : A) → t x ≡ true → P x) → Each P (filter t xs)
   each-passed t [] h = tt
   each-passed t (x ∷ xs) h = passed-by t x xs (t x) refl (h x) (each-passed t xs h)
-
-  pub each-same : {B : Type 0} (f : B → A) (xs : List B) → Each (λ x. P (f x)) xs → Each P (map f xs)
-  each-same f [] h = tt
-  each-same f (x ∷ xs) h = (h.0, each-same f xs h.1)
 
   pub each-from : {B : Type 0} (f : B → A) (xs : List B) → Each P (map f xs) → Each (λ x. P (f x)) xs
   each-from f [] h = tt

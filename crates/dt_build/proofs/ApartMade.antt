@@ -13,13 +13,13 @@ use Rattle.dt_meaning.specs.References.{Found, held, preorder, in_order, referen
 use Rattle.dt_meaning.specs.Phandles.{Number, given_of, numbered, wanted}
 use Rattle.dt_meaning.specs.Resolved.{with_bytes, phandle_property}
 use Rattle.dt_draft.proofs.PathTests.{same-is}
-use Rattle.dt_layout.proofs.Each.{Each, each-more}
+use Rattle.dt_layout.proofs.Each.{Each, each-more, each-same}
 use Rattle.dt_assembly.specs.Standing.{AreNodes}
 use Rattle.dt_assembly.proofs.InTurn.{each-once}
 use Rattle.dt_assembly.proofs.Orders.{is_filled, marked, listed-marked}
 use Rattle.dt_assembly.proofs.PathFacts.{not-both}
 use Rattle.dt_assembly.proofs.Walks.{from-one}
-use Rattle.dt_build.proofs.ApartLists.{InPairs, each-same, each-from, pairs-same, pairs-from, pairs-more, pairs-behind}
+use Rattle.dt_build.proofs.ApartLists.{InPairs, each-from, pairs-same, pairs-from, pairs-more, pairs-behind}
 use Rattle.dt_build.proofs.ApartKeys.{distinct-held, pairs-in-order}
 use Rattle.dt_build.proofs.ApartNumbers.{paths, bare, keys-found, IsGiven, all-given, IsFree, IsOtherPath, AreNew, new-numbers}
 use Rattle.dt_build.proofs.NamedEdits.{HasOtherKey}

@@ -7,9 +7,9 @@ use Rattle.dt_meaning.specs.Syntax.{OfLabel, OfPath, Piece, Plain, PhandleOf, Pa
 use Rattle.dt_meaning.specs.Edits.{Definition, definition, State, label_path}
 use Rattle.dt_meaning.specs.Statements.{ReservedName, then_do, found}
 use Rattle.dt_meaning.specs.References.{Found, Bytes, Cell, Open, Way, cell_at, cell_of, cell_of_label, each, found_in, found_value, held, in_order, preorder, references}
-use Rattle.dt_layout.proofs.Each.{Each, each-flat, each-more}
+use Rattle.dt_layout.proofs.Each.{Each, each-all, each-flat, each-kept, each-more}
 use Rattle.dt_build.specs.Private.Ready.{IsNamedFound}
-use Rattle.dt_build.proofs.ApartLists.{all-of, each-any, each-kept}
+use Rattle.dt_build.proofs.ApartLists.{each-any}
 use Rattle.dt_build.proofs.NamedEdits.{IsNamedPiece, IsNamedValue, did, not-refused, ok-is}
 use Rattle.dt_build.proofs.NamedSources.{IsName}
 
@@ -62,7 +62,7 @@ each-walked P s h =
 pub founds-named : (plugin : Bool) (s : State (List Piece)) (fs : List (Definition (List Found))) → Each (λ e. IsName e.name × IsNamedValue IsName e.value) s.properties → references plugin s ≡ Ok fs
     → All (λ e. All IsNamedFound e.value) fs
 founds-named plugin s fs h e =
-    all-of (λ d. All IsNamedFound d.value) fs
-    (each-more (λ d. Each IsNamedFound d.value) (λ d. All IsNamedFound d.value) fs (λ d k. all-of IsNamedFound d.value k)
+    each-all (λ d. All IsNamedFound d.value) fs
+    (each-more (λ d. Each IsNamedFound d.value) (λ d. All IsNamedFound d.value) fs (λ d k. each-all IsNamedFound d.value k)
     (values-so plugin s (in_order s) fs
     (each-walked (λ d. IsNamedValue IsName d.value) s (each-more (λ d. IsName d.name × IsNamedValue IsName d.value) (λ d. IsNamedValue IsName d.value) s.properties (λ d k. k.1) h)) e))

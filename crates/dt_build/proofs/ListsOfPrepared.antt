@@ -18,7 +18,7 @@ use Rattle.dt_meaning.specs.MapOf.{map_of}
 use Rattle.dt_draft.specs.declared.table.NodeRow.{NodeRow}
 use Rattle.dt_draft.specs.Rows.{path_of, stands, standing}
 use Rattle.dt_draft.proofs.WaysDown.{node-listed}
-use Rattle.dt_layout.proofs.Each.{Each, each-append, each-more, each-all}
+use Rattle.dt_layout.proofs.Each.{Each, each-all, each-append, each-more, each-same}
 use Rattle.dt_edit.specs.Said.{tree_of}
 use Rattle.dt_resolve.specs.declared.numbers.Numbered.{Numbered}
 use Rattle.dt_resolve.specs.declared.prepared.Prepared.{Prepared}
@@ -31,7 +31,6 @@ use Rattle.dt_assembly.proofs.PathFacts.{same-is, listed-first, listed-next}
 use Rattle.dt_assembly.proofs.SizesOfMaps.{once-by_names, sizes-of-lists}
 use Rattle.dt_build.specs.Private.Made.{all_numbers, fixup_lists, founds, given_numbers, lists, made_places, made_properties, new_numbers, own, plain_lists, symbol_lists}
 use Rattle.dt_build.specs.Private.Ready.{IsReady}
-use Rattle.dt_build.proofs.ApartLists.{each-same}
 use Rattle.dt_build.proofs.FixupLists.{fixups-at, fixups-distinct, fixups-under}
 use Rattle.dt_build.proofs.MirrorLists.{local_fixups-distinct, local_fixups-under}
 use Rattle.dt_build.proofs.MoreLists.{AllUnder, IsUnder, IsWhole, other-child, shallow-child, under-at, whole-more, whole-none}

@@ -1,54 +1,22 @@
 -- Steps below one node, gathered on a walk: each child's come together, and children come in their order.
-use Rattle.std.proofs.Common.{◌≡◌, ◌≤◌, ℕ, zero, suc, Bool, true, false, List, [], ◌∷◌, ◌++◌, length, is_some, if◌then◌else◌, cond, refl, sym, ap, ap₂, ◌∙◌, append_assoc, append-nil, length-append, true≢false, arith}
+use Rattle.std.proofs.Common.{◌≡◌, ◌≤◌, ℕ, zero, suc, Bool, true, false, List, [], ◌∷◌, ◌++◌, length, is_some, if◌then◌else◌, refl, sym, ap, ap₂, ◌∙◌, append_assoc, append-nil, length-append, arith}
 use Rattle.std.specs.List.{filter, flat_map, list_any}
-use Rattle.std.specs.Str.{bytes_eq}
-use Rattle.std.proofs.lemmas.Bool.{and_parts}
-use Rattle.std.proofs.lemmas.List.Concat.{flat_map-append}
-use Rattle.std.proofs.lemmas.Slice.Eq.{bytes_eq-Decides}
-use Rattle.dt_meaning.specs.Paths.{Path, same_path, is_within, is_listed, name_below}
+use Rattle.dt_meaning.specs.Paths.{Path, same_path, is_listed, name_below}
 use Rattle.dt_meaning.specs.References.{walk, preorder}
 use Rattle.dt_layout.proofs.Each.{Each, each-flat, each-more}
 use Rattle.dt_assembly.specs.Standing.{AreNodes}
-use Rattle.dt_assembly.proofs.PathFacts.{below-child, child-is, next-names, not-both, not-deep, same-itself}
-use Rattle.dt_assembly.proofs.Walks.{chosen, flat-none, flat-one, vanish}
+use Rattle.dt_assembly.proofs.PathFacts.{Within, within-step, below-child, child-is, next-names, not-both, not-deep, same-itself}
+use Rattle.dt_assembly.proofs.Walks.{above-all, child-listed, chosen, flat-none, flat-one, vanish, walk-step}
 use Rattle.dt_build.proofs.ApartLists.{each-passed}
 use Rattle.dt_build.proofs.MirrorDepth.{one-listed, some-listed}
 use Rattle.dt_build.proofs.WalkOrder.{in-walk}
 
 -- ---- lists
-pub flat-flat : {A B C : Type 0} (g : B → List C) (f : A → List B) (xs : List A) → flat_map g (flat_map f xs) ≡ flat_map (λ x. flat_map g (f x)) xs
-flat-flat g f [] = refl
-flat-flat g f (x ∷ xs) = flat_map-append g (f x) (flat_map f xs) ∙ ap (λ ys. flat_map g (f x) ++ ys) (flat-flat g f xs)
-
-flat-chosen : {B : Type 0} (h : Path → Bool) (f : Path → List B) (xs : List Path) → flat_map f (filter h xs) ≡ flat_map (λ x. if h x then f x else []) xs
-flat-chosen h f [] = refl
-flat-chosen {B} h f (x ∷ xs) = by_test (h x) (flat-chosen h f xs) where
-  by_test : (t : Bool) → flat_map f (filter h xs) ≡ flat_map (λ y. if h y then f y else []) xs
-      → flat_map f (cond t (x ∷ filter h xs) (filter h xs)) ≡ (if t then f x else []) ++ flat_map (λ y. if h y then f y else []) xs
-  by_test true ih = ap (λ ys. f x ++ ys) ih
-  by_test false ih = ih
-
 none-so : {A : Type 0} (P : A → Type 0) (xs : List A) → Each P xs → ((x : A) → P x → ⊥) → xs ≡ []
 none-so P [] each not = refl
 none-so P (x ∷ xs) each not = absurd (not x each.0)
 
 -- ---- paths
-abbrev pub Within : Path → Path → Type 0
-Within c x = (s : Path) × (x ≡ c ++ s)
-
-pub within-is : (p q : Path) → is_within p q ≡ true → Within p q
-within-is [] q w = (q, refl)
-within-is (x ∷ xs) [] w = absurd (true≢false (sym w))
-within-is (x ∷ xs) (y ∷ ys) w =
-    let parts = and_parts (bytes_eq x y) (is_within xs ys) w in
-    let rest = within-is xs ys parts.1 in
-    (rest.0, ap₂ (λ a b. a ∷ b) (sym ((bytes_eq-Decides x y).0 parts.0)) rest.1)
-
-within-step : (c x y : Path) → Within c x → is_some (name_below x y) ≡ true → Within c y
-within-step c x y b child =
-    let n = child-is x y child in
-    (b.0 ++ n.0 ∷ [], n.1 ∙ ap (λ z. z ++ n.0 ∷ []) b.1 ∙ append_assoc c b.0 (n.0 ∷ []))
-
 walk-within : (c : Path) (nodes : List Path) (k : ℕ) (x : Path) → Within c x → Each (Within c) (walk k nodes x)
 walk-within c nodes zero x w = (w, tt)
 walk-within c nodes (suc k) x w = (
@@ -56,16 +24,6 @@ walk-within c nodes (suc k) x w = (
   each-flat (Within c) (Within c) (walk k nodes) (filter (λ q. is_some (name_below x q)) nodes) (λ q v. walk-within c nodes k q v)
       (each-passed (Within c) (λ q. is_some (name_below x q)) nodes (λ q child. within-step c x q w child)),
 )
-
--- ---- nodes above
-child-listed : (nodes : List Path) (p : Path) (n : List ℕ) → is_listed (p ++ n ∷ []) ([] ∷ nodes) ≡ true → is_listed (p ++ n ∷ []) nodes ≡ true
-child-listed nodes [] n l = l
-child-listed nodes (x ∷ xs) n l = l
-
-above-all : (nodes : List Path) → AreNodes nodes → (s p : Path) → is_listed (p ++ s) ([] ∷ nodes) ≡ true → is_listed p ([] ∷ nodes) ≡ true
-above-all nodes are [] p l = ap (λ x. is_listed x ([] ∷ nodes)) (sym (append-nil p)) ∙ l
-above-all nodes are (n ∷ s) p l =
-    are.above p n (child-listed nodes p n (above-all nodes are s (p ++ n ∷ []) (ap (λ x. is_listed x ([] ∷ nodes)) (append_assoc p (n ∷ []) s) ∙ l)))
 
 -- ---- levels
 -- so many more than the path has names, and one
@@ -94,11 +52,6 @@ module _ (n : List ℕ) (nodes : List Path) (are : AreNodes nodes) (p : Path) (g
   gives-none : (q : Path) → ((m : List ℕ) (s : Path) → q ≡ p ++ m ∷ s → ⊥) → g q ≡ []
   gives-none q not = none-so (λ y. IsStep n p y q) (g q) (steps q) (λ y step. not step.name step.below step.from)
 
-  walk-step : (k : ℕ) (r : Path) → flat_map g (walk (suc k) nodes r) ≡ g r ++ flat_map (λ c. if is_some (name_below r c) then flat_map g (walk k nodes c) else []) nodes
-  walk-step k r =
-      ap (λ ys. g r ++ ys)
-      (flat-flat g (walk k nodes) (filter (λ q. is_some (name_below r q)) nodes) ∙ flat-chosen (λ q. is_some (name_below r q)) (λ c. flat_map g (walk k nodes c)) nodes)
-
   -- another child of a node above, with all below it
   others : (k : ℕ) (m : List ℕ) (s r : Path) → p ≡ r ++ m ∷ s → (x : Path) → same_path (r ++ m ∷ []) x ≡ false → (if is_some (name_below r x) then flat_map g (walk k nodes x) else []) ≡ []
   others k m s r is x other =
@@ -116,14 +69,14 @@ module _ (n : List ℕ) (nodes : List Path) (are : AreNodes nodes) (p : Path) (g
   descend : is_listed p ([] ∷ nodes) ≡ true → (j : ℕ) (s r : Path) → p ≡ r ++ s → flat_map g (walk (levels s j) nodes r) ≡ flat_map (run nodes p g j) nodes
   descend there j [] r is =
       let same : p ≡ r = is ∙ append-nil r in
-      walk-step j r
+      walk-step g nodes j r
       ∙ ap₂ (λ a b. a ++ b) (gives-none r (λ m t e. omega (arith, ap length e, ap length same, length-append p (m ∷ t))))
       (ap (λ z. flat_map (λ c. if is_some (name_below z c) then flat_map g (walk j nodes c) else []) nodes) (sym same))
   descend there j (m ∷ s) r is =
       let c = r ++ m ∷ [] in
       let on : p ≡ c ++ s = is ∙ sym (append_assoc r (m ∷ []) s) in
       let stands = above-all nodes are s c (ap (λ x. is_listed x ([] ∷ nodes)) (sym on) ∙ there) in
-      walk-step (levels s j) r
+      walk-step g nodes (levels s j) r
       ∙ ap₂ (λ a b. a ++ b) (gives-none r (λ i t e. omega (arith, ap length e, ap length is, length-append p (i ∷ t), length-append r (m ∷ s))))
       (flat-one (λ x. if is_some (name_below r x) then flat_map g (walk (levels s j) nodes x) else []) c nodes are.once (child-listed nodes r m stands) (others (levels s j) m s r is)
       ∙ ap (λ o. if is_some o then flat_map g (walk (levels s j) nodes c) else []) (below-child r m)

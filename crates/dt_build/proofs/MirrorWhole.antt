@@ -10,17 +10,18 @@ use Rattle.dt_meaning.specs.References.{Found, held, preorder, walk}
 use Rattle.dt_meaning.specs.Phandles.{Number, new_ones}
 use Rattle.dt_meaning.specs.Fixups.{places, places_in, local_fixups}
 use Rattle.dt_meaning.specs.Resolved.{fronts, when}
-use Rattle.dt_layout.proofs.Each.{Each, each-flat, each-more}
+use Rattle.dt_layout.proofs.Each.{Each, each-flat, each-more, each-same}
 use Rattle.dt_assembly.specs.Standing.{AreNodes}
-use Rattle.dt_assembly.proofs.PathFacts.{bytes-itself, child-is, listed-first, listed-next, not-both, same-is}
+use Rattle.dt_assembly.proofs.PathFacts.{bytes-itself, child-is, listed-first, listed-next, not-both, same-is, within-is}
+use Rattle.dt_assembly.proofs.Walks.{flat-flat}
 use Rattle.dt_edit.specs.Said.{tree_of}
 use Rattle.dt_resolve.specs.declared.prepared.Prepared.{Prepared}
 use Rattle.dt_build.specs.Private.Made.{all_numbers, founds, made_places}
 use Rattle.dt_build.specs.Private.Ready.{IsReady}
-use Rattle.dt_build.proofs.ApartLists.{each-passed, each-same}
+use Rattle.dt_build.proofs.ApartLists.{each-passed}
 use Rattle.dt_build.proofs.MirrorFronts.{brought, brought_by, mirror-fronts}
 use Rattle.dt_build.proofs.MirrorOrder.{has_any, listed-kept, ones-kept, ones-of-runs}
-use Rattle.dt_build.proofs.MirrorSteps.{IsStep, child-runs, flat-flat, run, run-at, within-is}
+use Rattle.dt_build.proofs.MirrorSteps.{IsStep, child-runs, run, run-at}
 use Rattle.dt_build.proofs.MirrorWalk.{IsMirror}
 use Rattle.dt_build.proofs.MoreLists.{fronts-above, fronts_of, listed-new, same-tests}
 use Rattle.dt_build.proofs.PlaceNames.{places-so}

@@ -11,13 +11,13 @@ use Rattle.dt_meaning.specs.Edits.{Definition}
 use Rattle.dt_meaning.specs.References.{held}
 use Rattle.dt_meaning.specs.Phandles.{new_ones}
 use Rattle.dt_meaning.specs.Resolved.{Resolved, fronts, is_too_deep, with_more}
-use Rattle.dt_layout.proofs.Each.{Each, each-append, each-flat, each-more, each-of}
+use Rattle.dt_layout.proofs.Each.{Each, each-all, each-append, each-flat, each-more, each-of}
 use Rattle.dt_assembly.specs.Standing.{are_apart, AreNodes}
+use Rattle.dt_assembly.proofs.Orders.{held-append}
 use Rattle.dt_assembly.proofs.PathFacts.{by_last, bytes-itself, listed-first, not-both, not-true, or-false, same-is}
 use Rattle.dt_assembly.proofs.Standing.{listed-both}
-use Rattle.dt_build.proofs.ApartLists.{all-of}
 use Rattle.dt_build.proofs.ApartNumbers.{apart-of, ones-apart, ones-so}
-use Rattle.dt_build.proofs.SizeOfWalk.{held-both, held-other}
+use Rattle.dt_build.proofs.SizeOfWalk.{held-other}
 use Rattle.dt_build.proofs.SymbolsLast.{none-held, with-none}
 
 -- the path is that of the child of this name, or below it
@@ -261,7 +261,7 @@ module _ (r : Resolved) (n : List ℕ) (es : List (Definition (List ℕ))) (new 
   module _ (is : IsWhole r) where
     there-more : All (λ e. is_listed e.path ([] ∷ (with_more es r).nodes) ≡ true) (r.properties ++ es)
     there-more =
-        all-of (λ e. is_listed e.path ([] ∷ (with_more es r).nodes) ≡ true) (r.properties ++ es)
+        each-all (λ e. is_listed e.path ([] ∷ (with_more es r).nodes) ≡ true) (r.properties ++ es)
         (each-append (λ e. is_listed e.path ([] ∷ (with_more es r).nodes) ≡ true) r.properties es
         (each-more (λ e. is_listed e.path ([] ∷ r.nodes) ≡ true) (λ e. is_listed e.path ([] ∷ (with_more es r).nodes) ≡ true) r.properties
         (λ e l. listed-both e.path ([] ∷ r.nodes) (new_ones [] (fronts_of es)) ∙ or_left (is_listed e.path ([] ∷ r.nodes)) (is_listed e.path (new_ones [] (fronts_of es))) l)
@@ -273,14 +273,14 @@ module _ (r : Resolved) (n : List ℕ) (es : List (Definition (List ℕ))) (new 
     -- at the new nodes stand the new properties alone, and none elsewhere
     pub held-under : (q : Path) → IsUnder n q → held (r.properties ++ es) q ≡ held es q
     held-under q here =
-        held-both r.properties es q
+        held-append q r.properties es
         ∙ ap (λ ds. ds ++ held es q) (none-held r.properties ([] ∷ r.nodes) q (or_from (same_path q []) (is_listed q r.nodes) (no-root-here q here) (under-new n r.nodes is.nodes new q here)) is.there) where
           no-root-here : (q : Path) → IsUnder n q → same_path q [] ≡ false
           no-root-here [] here = absurd (true≢false (sym here))
           no-root-here (x ∷ xs) here = refl
 
     pub held-before : (q : Path) → is_within (n ∷ []) q ≡ false → held (r.properties ++ es) q ≡ held r.properties q
-    held-before q other = held-both r.properties es q ∙ ap (λ ds. held r.properties q ++ ds) (held-elsewhere n q es under other) ∙ append-nil (held r.properties q)
+    held-before q other = held-append q r.properties es ∙ ap (λ ds. held r.properties q ++ ds) (held-elsewhere n q es under other) ∙ append-nil (held r.properties q)
 
     pub whole-more : ((q : Path) → are_distinct (map (λ e. e.name) (held es q)) ≡ true) → list_any is_too_deep (with_more es r).nodes ≡ false → IsWhole (with_more es r)
     whole-more apart shallow = record { nodes = nodes-more is.nodes shallow; there = there-more; apart = λ q. by_under q (is_within (n ∷ []) q) refl } where

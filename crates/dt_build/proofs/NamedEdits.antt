@@ -14,8 +14,8 @@ use Rattle.dt_meaning.specs.Syntax.{Target, OfLabel, OfPath, Piece, Plain, Phand
 use Rattle.dt_meaning.specs.Edits.{Definition, definition, Label, labelled_at, State, empty, counted, has_node, with_node, without_node, is_of, put, with_property, without_property, label_path, with_label}
 use Rattle.dt_meaning.specs.Statements.{Fault, UnknownLabel, UnknownPath, DuplicateLabel, DuplicateInBody, ReservedName, TooDeep, then_do, ok_or, give_label, give_labels, is_made, Progress, progress, begun, child_fault, unless, after_entry, after_body, found, target_name, target_value, with_fragment, after_fragment, makes_fragment, after_item, after_items, edited}
 use Rattle.dt_draft.proofs.PathTests.{same-is}
-use Rattle.dt_layout.proofs.Each.{Each, each-append}
-use Rattle.dt_build.proofs.ApartLists.{InPairs, each-kept, pairs-kept, pairs-last}
+use Rattle.dt_layout.proofs.Each.{Each, each-append, each-kept}
+use Rattle.dt_build.proofs.ApartLists.{InPairs, pairs-kept, pairs-last}
 
 -- the names on the way are so, and there are at most 64
 abbrev pub IsWay : (List ℕ → Type 0) → Path → Type 0

@@ -13,8 +13,8 @@ use Rattle.dt_meaning.specs.Edits.{State, counted}
 use Rattle.dt_meaning.specs.Statements.{edited}
 use Rattle.dt_meaning.specs.Resolved.{is_too_deep}
 use Rattle.dt_edit.specs.Said.{target_of, piece_of, entry_of, body_of, item_of}
-use Rattle.dt_layout.proofs.Each.{Each, each-more, each-of}
-use Rattle.dt_build.proofs.ApartLists.{each-any, each-same}
+use Rattle.dt_layout.proofs.Each.{Each, each-more, each-of, each-same}
+use Rattle.dt_build.proofs.ApartLists.{each-any}
 use Rattle.dt_build.proofs.FragmentNames.{fragment-named, overlay-named, target-named}
 use Rattle.dt_build.proofs.NamedEdits.{HasFragmentNames, IsWay, IsNamedTarget, IsNamedPiece, IsNamedValue, IsNamedEntry, IsNamedBody, IsNamedEdit, edits-named}
 

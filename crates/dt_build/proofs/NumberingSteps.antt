@@ -1,7 +1,6 @@
 -- The numbers of nodes by their rows, and the bytes of these numbers.
-use Rattle.std.proofs.Common.{◌≡◌, ℕ, suc, ◌%◌, ◌/◌, ◌==◌, Bool, true, false, List, [], ◌∷◌, ◌++◌, map, if◌then◌else◌, refl, sym, ap, ap₂, ◌∙◌, append-nil, arith}
+use Rattle.std.proofs.Common.{◌≡◌, ℕ, ◌%◌, ◌/◌, ◌==◌, Bool, true, false, List, [], ◌∷◌, ◌++◌, map, if◌then◌else◌, refl, sym, ap, ap₂, ◌∙◌, append-nil, arith}
 use Rattle.std.specs.Int.{to_be_bytes, w32}
-use Rattle.std.specs.Prelude.{All}
 use Rattle.dt_meaning.specs.Phandles.{Number}
 use Rattle.dt_meaning.specs.Fixups.{number_of}
 use Rattle.dt_draft.specs.declared.table.NodeRow.{NodeRow}
@@ -11,7 +10,7 @@ use Rattle.dt_layout.proofs.Shows.{same-node}
 use Rattle.dt_resolve.specs.declared.numbers.Numbered.{Numbered}
 use Rattle.dt_resolve.specs.declared.prepared.Prepared.{Prepared}
 use Rattle.dt_resolve.specs.Numbers.{number_at}
-use Rattle.dt_resolve.proofs.PathNumbers.{EachStands}
+use Rattle.dt_resolve.proofs.PathNumbers.{EachStands, each-numbered}
 use Rattle.dt_build.specs.Private.Made.{all_numbers, new_numbers}
 use Rattle.dt_build.specs.Private.Numbers.{first_number}
 use Rattle.dt_build.specs.Private.Ready.{IsReady}
@@ -41,10 +40,6 @@ module _ (rows : List NodeRow) (index : Found) (grown : IsGrown rows) (indexed :
       ∙ ap (λ b. to_be_bytes w32 (if b then x.number else number_of (map (number_at rows) xs ++ ys) (path_of rows k))) (sym (same-node rows index grown indexed k x.node up each.0))
 
 -- ---- of a source that is prepared
-pub each-numbered : (rows : List NodeRow) (xs : List Numbered) → All (λ x. stands rows x.node ≡ true) xs → EachStands rows (map (λ x. x.node) xs)
-each-numbered rows [] all = tt
-each-numbered rows (x ∷ xs) all = (all 0 x (omega arith), each-numbered rows xs (λ i y below. all (suc i) y (omega arith)))
-
 module _ (p : Prepared) (ready : IsReady p) (k : ℕ) (up : is_standing p.draft k ≡ true) where
   new-is : to_be_bytes w32 (first_number p.resolution.new.items k 4294967295) ≡ to_be_bytes w32 (number_of (new_numbers p) (node_path p.draft k))
   new-is =

@@ -17,6 +17,7 @@ use Rattle.dt_draft.specs.Rows.{IsNode, is_standing, node_path}
 use Rattle.dt_assembly.specs.Lists.{defined_at}
 use Rattle.dt_assembly.specs.Sizes.{size_in}
 use Rattle.dt_assembly.proofs.Orders.{held-append}
+use Rattle.dt_assembly.proofs.SizesOfMaps.{size-append}
 use Rattle.dt_assembly.proofs.PathFacts.{not-both, or-false, not-true, same-is, bytes-itself}
 use Rattle.dt_assembly.proofs.MakingWalk.{one-more}
 use Rattle.dt_resolve.specs.declared.prepared.Prepared.{Prepared}
@@ -25,7 +26,7 @@ use Rattle.dt_build.specs.declared.numbering.Numbering.{Numbering}
 use Rattle.dt_build.specs.Private.Made.{founds, given_numbers, new_numbers, all_numbers, own}
 use Rattle.dt_build.specs.Private.Places.{IsNumbering}
 use Rattle.dt_build.specs.Private.Ready.{IsReady}
-use Rattle.dt_build.proofs.NumberingSteps.{each-numbered}
+use Rattle.dt_resolve.proofs.PathNumbers.{each-numbered}
 
 -- ---- the properties of the source
 pub held-bytes : (ns : List Number) (es : List (Definition (List Found))) (q : Path) → held (map (with_bytes ns) es) q ≡ map (with_bytes ns) (held es q)
@@ -80,10 +81,6 @@ number-behind q (x ∷ xs) ys gone =
     let parts = or-false (same_path q x.path) (is_listed q (map (λ x. x.path) xs)) gone in
     ap (λ t. if t then x.number else number_of (xs ++ ys) q) parts.0 ∙ number-behind q xs ys parts.1
 
-sizes-append : (es ds : List (Definition (List ℕ))) → size_in (es ++ ds) ≡ size_in es + size_in ds
-sizes-append [] ds = omega arith
-sizes-append (e ∷ es) ds = omega (arith, sizes-append es ds)
-
 -- ---- of a source that is prepared
 module _ (p : Prepared) (ready : IsReady p) (numbering : Numbering) (is : IsNumbering p numbering) (n : ℕ) (known : IsNode p.draft n) (up : is_standing p.draft n ≡ true) where
   abbrev q : Path
@@ -136,7 +133,7 @@ module _ (p : Prepared) (ready : IsReady p) (numbering : Numbering) (is : IsNumb
 
   pub size-new : (size sum : ℕ) → get_or numbering.new.items n false ≡ true → sum ≡ min (size + 4) (2 ^ 64 - 1) → size ≡ min (size_in laid) (2 ^ 64 - 1) → sum ≡ min (size_in (own p q)) (2 ^ 64 - 1)
   size-new size sum mark a b =
-      let all : size_in (own p q) ≡ size_in laid + 4 = ap size_in (own-is true mark) ∙ sizes-append laid phandle in
+      let all : size_in (own p q) ≡ size_in laid + 4 = ap size_in (own-is true mark) ∙ size-append laid phandle in
       omega arith
 
   pub size-old : (size sum : ℕ) → get_or numbering.new.items n false ≡ false → sum ≡ min (size + 0) (2 ^ 64 - 1) → size ≡ min (size_in laid) (2 ^ 64 - 1) → sum ≡ min (size_in (own p q)) (2 ^ 64 - 1)

@@ -8,11 +8,11 @@ use Rattle.dt_meaning.specs.Phandles.{Number}
 use Rattle.dt_meaning.specs.Fixups.{Place, bytes_of, label_found, places, places_in}
 use Rattle.dt_meaning.specs.Resolved.{when}
 use Rattle.dt_edit.specs.Said.{tree_of}
-use Rattle.dt_layout.proofs.Each.{Each, each-append, each-flat, each-more, each-of}
+use Rattle.dt_layout.proofs.Each.{Each, each-append, each-flat, each-more, each-of, each-same}
 use Rattle.dt_resolve.specs.declared.prepared.Prepared.{Prepared}
 use Rattle.dt_build.specs.Private.Made.{all_numbers, founds, made_places}
 use Rattle.dt_build.specs.Private.Ready.{IsNamedFound, IsReady}
-use Rattle.dt_build.proofs.ApartLists.{each-from, each-same}
+use Rattle.dt_build.proofs.ApartLists.{each-from}
 use Rattle.dt_build.proofs.ApartNumbers.{bare, keys-found}
 use Rattle.dt_build.proofs.FixupLists.{IsOfLabel}
 use Rattle.dt_build.proofs.FoundNames.{each-walked}

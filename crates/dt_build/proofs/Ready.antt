@@ -13,7 +13,7 @@ use Rattle.dt_meaning.specs.Phandles.{numbered, wanted}
 use Rattle.dt_draft.specs.Index.{row_of}
 use Rattle.dt_draft.specs.Rows.{path_of}
 use Rattle.dt_edit.specs.Said.{tree_of}
-use Rattle.dt_layout.proofs.Each.{Each, each-more}
+use Rattle.dt_layout.proofs.Each.{Each, each-all, each-more}
 use Rattle.dt_assembly.specs.Standing.{are_apart, AreNodes}
 use Rattle.dt_layout.proofs.NodesStanding.{are-nodes, there-by}
 use Rattle.dt_resolve.specs.declared.numbers.Numbered.{Numbered}
@@ -24,7 +24,6 @@ use Rattle.dt_resolve.specs.Said.{meaning_of}
 use Rattle.dt_resolve.specs.Targets.{AreFound}
 use Rattle.dt_build.specs.Private.Made.{founds, given_numbers, new_numbers, ok_or_none}
 use Rattle.dt_build.specs.Private.Ready.{AreNamed, IsReady}
-use Rattle.dt_build.proofs.ApartLists.{all-of}
 use Rattle.dt_build.proofs.ApartKeys.{distinct-words}
 use Rattle.dt_build.proofs.ApartMade.{listed-in-order, names-apart}
 use Rattle.dt_build.proofs.ApartNumbers.{AreNew, apart-of, new-numbers, paths}
@@ -85,10 +84,10 @@ module _ (symbols : Bool) (m : Meaning) (es : List (Definition (List Found))) (p
   module _ (named : IsNamed IsName (IsNamedValue IsName) (tree_of p.draft)) (walked : flat_map (held (founds p)) (preorder nodes) ≡ founds p) where
     all-named : AreNamed p
     all-named = record {
-      nodes = all-of (λ q. list_all is_name q ≡ true) nodes (each-more (IsWay IsName) (λ q. list_all is_name q ≡ true) nodes (λ q h. way-named q h.0) named.nodes);
-      properties = all-of (λ e. is_name e.name ≡ true) (tree_of p.draft).properties
+      nodes = each-all (λ q. list_all is_name q ≡ true) nodes (each-more (IsWay IsName) (λ q. list_all is_name q ≡ true) nodes (λ q h. way-named q h.0) named.nodes);
+      properties = each-all (λ e. is_name e.name ≡ true) (tree_of p.draft).properties
           (each-more (λ e. IsName e.name × IsNamedValue IsName e.value) (λ e. is_name e.name ≡ true) (tree_of p.draft).properties (λ e h. h.0) named.properties);
-      labels = all-of (λ l. is_name l.label ≡ true) (tree_of p.draft).labels
+      labels = each-all (λ l. is_name l.label ≡ true) (tree_of p.draft).labels
           (each-more (λ l. IsName l.label × IsWay IsName l.path) (λ l. is_name l.label ≡ true) (tree_of p.draft).labels (λ l h. h.0) named.labels);
       elsewhere = founds-named p.plugin (tree_of p.draft) (founds p) named.properties found-all;
     }

@@ -13,13 +13,6 @@ use Rattle.dt_assembly.proofs.SizesOfMaps.{size-append}
 
 -- ---- the properties of one node
 module _ {V : Type 0} where
-  pub held-both : (ds es : List (Definition V)) (p : Path) → held (ds ++ es) p ≡ held ds p ++ held es p
-  held-both [] es p = refl
-  held-both (d ∷ ds) es p = by_test (same_path p d.path) (held-both ds es p) where
-    by_test : (t : Bool) → held (ds ++ es) p ≡ held ds p ++ held es p → cond t (d ∷ held (ds ++ es) p) (held (ds ++ es) p) ≡ cond t (d ∷ held ds p) (held ds p) ++ held es p
-    by_test true ih = ap (λ ys. d ∷ ys) ih
-    by_test false ih = ih
-
   pub held-other : (e : Definition V) (es : List (Definition V)) (p : Path) → same_path p e.path ≡ false → held (e ∷ es) p ≡ held es p
   held-other e es p other = ap (λ t. cond t (e ∷ held es p) (held es p)) other
 

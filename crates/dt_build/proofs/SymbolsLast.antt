@@ -11,9 +11,9 @@ use Rattle.dt_meaning.specs.References.{walk, preorder, held}
 use Rattle.dt_meaning.specs.Phandles.{new_ones}
 use Rattle.dt_meaning.specs.Resolved.{Resolved, fronts, symbol, with_more}
 use Rattle.dt_assembly.specs.Standing.{AreNodes, walked, behind_root}
-use Rattle.dt_assembly.proofs.Orders.{behind, there-same, no-below}
+use Rattle.dt_assembly.proofs.Orders.{behind, held-append, there-same, no-below}
 use Rattle.dt_assembly.proofs.PathFacts.{not-both, same-itself, child-is, listed-first, listed-next, listed-other, other-way}
-use Rattle.dt_build.proofs.SizeOfWalk.{held-both, held-other}
+use Rattle.dt_build.proofs.SizeOfWalk.{held-other}
 
 -- ---- children that are kept of a list
 pub kept-both : (f : Path → Bool) (xs ys : List Path) → filter f (xs ++ ys) ≡ filter f xs ++ filter f ys
@@ -128,12 +128,12 @@ module _ (r : Resolved) (are : AreNodes r.nodes) (new : is_listed symbols_path r
   -- the properties at other paths are as before
   pub held-before : (ls : List Label) (p : Path) → same_path p symbols_path ≡ false → held (r.properties ++ map symbol ls) p ≡ held r.properties p
   held-before ls p other =
-      held-both r.properties (map symbol ls) p ∙ ap (λ es. held r.properties p ++ es) (symbols-elsewhere ls p other) ∙ append-nil (held r.properties p)
+      held-append p r.properties (map symbol ls) ∙ ap (λ es. held r.properties p ++ es) (symbols-elsewhere ls p other) ∙ append-nil (held r.properties p)
 
   module _ (all : All (λ e. is_listed e.path ([] ∷ r.nodes) ≡ true) r.properties) where
     pub held-last : (ls : List Label) → held (r.properties ++ map symbol ls) symbols_path ≡ map symbol ls
     held-last ls =
-        held-both r.properties (map symbol ls) symbols_path
+        held-append symbols_path r.properties (map symbol ls)
         ∙ ap₂ (λ a b. a ++ b) (none-held r.properties ([] ∷ r.nodes) symbols_path new all) (symbols-held ls)
 
     met-before : (x : Path) → is_listed x (preorder r.nodes) ≡ true → same_path x symbols_path ≡ false

@@ -11,9 +11,9 @@ use Rattle.dt_meaning.specs.References.{Found, each, found_in, found_value, held
 use Rattle.dt_layout.proofs.Each.{Each}
 use Rattle.dt_assembly.specs.Standing.{are_apart, AreNodes}
 use Rattle.dt_assembly.proofs.InTurn.{each-once}
-use Rattle.dt_assembly.proofs.Orders.{behind, there-same}
+use Rattle.dt_assembly.proofs.Orders.{held-append, behind, there-same}
 use Rattle.dt_assembly.proofs.PathFacts.{not-true, same-is, or-false, other-way}
-use Rattle.dt_build.proofs.SizeOfWalk.{held-both, held-other, held-own}
+use Rattle.dt_build.proofs.SizeOfWalk.{held-other, held-own}
 
 -- ---- the walk meets what is listed
 pub in-walk : (nodes : List Path) → AreNodes nodes → (p : Path) → is_listed p (preorder nodes) ≡ is_listed p ([] ∷ nodes)
@@ -58,7 +58,7 @@ module _ {V : Type 0} where
   held-gone (y ∷ ys) es ordered x gone =
       let p = ordered.0 in
       let parts = or-false (same_path x y) (is_listed x ys) gone in
-      ap (λ zs. held zs x) p.parts ∙ held-both p.first p.others x ∙ ap₂ (λ a b. a ++ b) (held-no y x p.first p.at parts.0) (held-gone ys p.others ordered.1 x parts.1)
+      ap (λ zs. held zs x) p.parts ∙ held-append x p.first p.others ∙ ap₂ (λ a b. a ++ b) (held-no y x p.first p.at parts.0) (held-gone ys p.others ordered.1 x parts.1)
 
   -- the same without those of a node that isn't walked
   walk-others : (x : Path) (first es : List (Definition V)) (order : List Path) → AllAt x first → is_listed x order ≡ false → flat_map (held (first ++ es)) order ≡ flat_map (held es) order
@@ -66,7 +66,7 @@ module _ {V : Type 0} where
   walk-others x first es (y ∷ ys) at gone =
       let parts = or-false (same_path x y) (is_listed x ys) gone in
       ap₂ (λ a b. a ++ b)
-      (held-both first es y ∙ ap (λ zs. zs ++ held es y) (held-no x y first at (other-way x y parts.0)))
+      (held-append y first es ∙ ap (λ zs. zs ++ held es y) (held-no x y first at (other-way x y parts.0)))
       (walk-others x first es ys at parts.1)
 
   pub walk-again : (order : List Path) → are_apart order ≡ true → (es : List (Definition V)) → AreOrdered order es → flat_map (held es) order ≡ es
@@ -77,7 +77,7 @@ module _ {V : Type 0} where
       let gone = not-true (is_listed x xs) parts.0 in
       ap (λ ys. flat_map (held ys) (x ∷ xs)) p.parts
       ∙ ap₂ (λ a b. a ++ b)
-      (held-both p.first p.others x ∙ ap₂ (λ a b. a ++ b) (held-all x p.first p.at) (held-gone xs p.others ordered.1 x gone) ∙ append-nil p.first)
+      (held-append x p.first p.others ∙ ap₂ (λ a b. a ++ b) (held-all x p.first p.at) (held-gone xs p.others ordered.1 x gone) ∙ append-nil p.first)
       (walk-others x p.first p.others xs p.at gone ∙ walk-again xs parts.1 p.others ordered.1)
       ∙ sym p.parts
 

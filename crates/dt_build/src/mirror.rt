@@ -12,6 +12,7 @@ ghost use Rattle.dt_build.specs.Private.Spots.{cells_size, is_deep, shown};
 
 use crate::spots::{Spot, spot_at, walk_behind, whole_walk};
 use dt_resolve::Prepared;
+use dt_tree::MAX_DEPTH;
 
 // How many bytes the offset of a place has, where the place is that of a phandle of the source's own.
 fn cell_size(spot: Option<Spot<'_>>) -> usize
@@ -49,13 +50,13 @@ fn is_spot_too_deep(prepared: &Prepared<'_, '_>, spot: Option<Spot<'_>>) -> bool
     match spot {
         Some(spot) => match spot.label {
             Some(_) => false,
-            None => prepared.draft.depth(spot.node) >= 64,
+            None => prepared.draft.depth(spot.node) >= MAX_DEPTH,
         },
         None => false,
     }
 }
 
-/// Whether the mirror of a node would be deeper than 64 levels. Takes no memory.
+/// Whether the mirror of a node would be deeper than a node may be. Takes no memory.
 pub(crate) fn is_mirror_too_deep(prepared: &Prepared<'_, '_>, symbols: bool) -> bool
     requires { IsReady prepared.now }
     ensures { result ≡ list_any is_too_deep (lists symbols prepared.now).nodes }

@@ -1,11 +1,10 @@
 //! The phandle of each node.
-ghost use Rattle.std.specs.Prelude.{◌≡◌, ◌<◌, ◌==◌, ℕ, All, false, length, slice_index_or, IfOk};
-ghost use Rattle.std.specs.List.{list_any};
+ghost use Rattle.std.specs.Prelude.{◌≡◌, ◌<◌, ℕ, All, length, slice_index_or, IfOk};
 ghost use Rattle.dt_build.specs.Private.Numbers.{first_number};
 ghost use Rattle.dt_build.specs.Private.Places.{IsNumbering};
 ghost use Rattle.dt_build.specs.Private.Ready.{IsReady};
 
-use dt_resolve::{Numbered, Prepared};
+use dt_resolve::{Numbered, Prepared, numbered_nodes};
 use std::alloc::{AllocError, Global};
 
 /// The phandle of each node, the number that is no phandle where it has none; and whether it is a new one.
@@ -13,19 +12,6 @@ use std::alloc::{AllocError, Global};
 pub(crate) struct Numbering {
     pub(crate) phandles: Vec<u32>,
     pub(crate) new: Vec<bool>,
-}
-
-// Whether each node is among those that get a number.
-fn new_marks(alloc: Global, count: usize, numbers: &[Numbered]) -> Result<Vec<bool>, AllocError>
-    requires { All (λ x. x.node < count) numbers.now }
-    ensures count { IfOk result (λ marks. length marks.items ≡ count) }
-    ensures marks { IfOk result (λ marks. (n : ℕ) → slice_index_or marks.items n false ≡ list_any (λ x. x.node == n) numbers.now) }
-{
-    let mut marks = vec![in alloc; false; count]?;
-    for one in numbers {
-        marks[one.node] = true;
-    }
-    Ok(marks)
 }
 
 // Writes the numbers, in 32 bits, from last to first, so that a node keeps its first one.
@@ -50,7 +36,7 @@ pub(crate) fn number(alloc: Global, prepared: &Prepared<'_, '_>) -> Result<Numbe
     let count = prepared.draft.nodes().len() + 1;
     let given = prepared.resolution.given.numbers.as_slice();
     let added = prepared.resolution.new.as_slice();
-    let new = new_marks(alloc, count, added)?;
+    let new = numbered_nodes(alloc, count, added)?;
     let mut phandles = vec![in alloc; u32::MAX; count]?;
     put_numbers(&mut phandles, added);
     put_numbers(&mut phandles, given);

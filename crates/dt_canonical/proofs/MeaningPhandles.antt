@@ -1,5 +1,5 @@
 -- The phandles that a canonical source gives are the tree's, so that no reference is left and no number is missing.
-use Rattle.std.proofs.Common.{◌≡◌, ℕ, ◌==◌, Bool, true, false, not, ◌&&◌, ◌||◌, List, [], ◌∷◌, ◌++◌, map, Option, Some, None, is_some, option_and_then, Ok, Err, if◌then◌else◌, cond, refl, sym, ap, ap₂, ◌∙◌, true≢false, arith, codes}
+use Rattle.std.proofs.Common.{◌≡◌, ℕ, ◌==◌, Bool, true, false, not, ◌&&◌, ◌||◌, List, [], ◌∷◌, ◌++◌, map, Option, Some, None, is_some, option_and_then, Ok, Err, if◌then◌else◌, refl, sym, ap, ap₂, ◌∙◌, true≢false, arith, codes}
 use Rattle.std.specs.List.{flat_map}
 use Rattle.std.specs.Str.{bytes_eq}
 use Rattle.std.proofs.lemmas.Bool.{and_parts, and_from}
@@ -19,7 +19,7 @@ use Rattle.dt_meaning.specs.Phandles.{Number, numbered_at, has_number, is_phandl
 use Rattle.dt_meaning.specs.References.{held, preorder}
 use Rattle.dt_meaning.specs.Resolved.{Resolved}
 use Rattle.dt_meaning.specs.Statements.{DuplicatePhandle, then_do}
-use Rattle.dt_layout.proofs.Each.{Each, each-append, each-more}
+use Rattle.dt_layout.proofs.Each.{Each, each-more}
 use Rattle.dt_assembly.specs.Lists.{lists_of}
 use Rattle.dt_assembly.specs.Standing.{are_apart}
 use Rattle.dt_assembly.proofs.InTurn.{each-once}
@@ -27,29 +27,15 @@ use Rattle.dt_assembly.proofs.Orders.{behind, there-same}
 use Rattle.dt_assembly.proofs.PathFacts.{not-both, not-true, or-false, same-is, same-itself, bytes-itself, listed-first, listed-next}
 use Rattle.dt_assembly.proofs.TreeLists.{map-lists}
 use Rattle.dt_assembly.proofs.TreeNodes.{tree-nodes}
+use Rattle.dt_build.proofs.ApartKeys.{held-here, held-listed}
+use Rattle.dt_build.proofs.ApartLists.{InPairs, pairs-behind}
 use Rattle.dt_canonical.specs.Conditions.{HasSourcePhandles}
 use Rattle.dt_canonical.proofs.MeaningEdits.{parts_of}
 use Rattle.dt_canonical.proofs.MeaningLists.{Placed, said_of, in_turn, map-meant}
 
--- ---- each stands so to all behind it
-abbrev pub InPairs : {A : Type 0} → (A → A → Type 0) → List A → Type 0
-InPairs R [] = Unit {0}
-InPairs R (x ∷ xs) = Each (R x) xs × InPairs R xs
-
-pairs-behind : {A : Type 0} (R : A → A → Type 0) (xs ys : List A) → InPairs R xs → InPairs R ys → Each (λ x. Each (R x) ys) xs → InPairs R (xs ++ ys)
-pairs-behind R [] ys a b between = b
-pairs-behind R (x ∷ xs) ys a b between = (each-append (R x) xs ys a.0 between.0, pairs-behind R xs ys a.1 b between.1)
-
 -- ---- the properties in order of the walk: no two of one node have a name
 abbrev HasOtherKey : Placed → Placed → Type 0
 HasOtherKey e x = is_of x.path x.name e ≡ false
-
-held-here : (es : List Placed) (p : Path) → Each (λ e. p ≡ e.path) (held es p)
-held-here [] p = tt
-held-here (e ∷ es) p = by_same (same_path p e.path) refl (held-here es p) where
-  by_same : (t : Bool) → same_path p e.path ≡ t → Each (λ x. p ≡ x.path) (held es p) → Each (λ x. p ≡ x.path) (cond t (e ∷ held es p) (held es p))
-  by_same true same ih = (same-is p e.path same, ih)
-  by_same false same ih = ih
 
 other-names : (e : Placed) (xs : List Placed) → is_among e.name (map (λ x. x.name) xs) ≡ false → Each (HasOtherKey e) xs
 other-names e [] a = tt
@@ -68,13 +54,6 @@ named-apart (x ∷ xs) d =
 
 key-apart : (e x : Placed) → same_path x.path e.path ≡ false → HasOtherKey e x
 key-apart e x other = ap (λ t. t && bytes_eq x.name e.name) other
-
-held-listed : (es : List Placed) (ps : List Path) → Each (λ e. is_listed e.path ps ≡ true) (flat_map (held es) ps)
-held-listed es [] = tt
-held-listed es (p ∷ ps) =
-    each-append (λ e. is_listed e.path (p ∷ ps) ≡ true) (held es p) (flat_map (held es) ps)
-    (each-more (λ e. p ≡ e.path) (λ e. is_listed e.path (p ∷ ps) ≡ true) (held es p) (λ e is. ap (λ q. is_listed q (p ∷ ps)) (sym is) ∙ listed-first p ps) (held-here es p))
-    (each-more (λ e. is_listed e.path ps ≡ true) (λ e. is_listed e.path (p ∷ ps) ≡ true) (flat_map (held es) ps) (λ e l. listed-next e.path p ps l) (held-listed es ps))
 
 keys-apart : (es : List Placed) (ps : List Path) → are_apart ps ≡ true → ((p : Path) → is_listed p ps ≡ true → are_distinct (map (λ e. e.name) (held es p)) ≡ true) → InPairs HasOtherKey (flat_map (held es) ps)
 keys-apart es [] a d = tt

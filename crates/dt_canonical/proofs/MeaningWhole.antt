@@ -1,7 +1,6 @@
 -- The canonical source of a tree means that tree.
 use Rattle.std.proofs.Common.{◌≡◌, ℕ, Bool, true, false, List, [], ◌∷◌, ◌++◌, map, Result, Ok, Err, if◌then◌else◌, cond, refl, sym, ap, ap₂, ◌∙◌, append-nil}
-use Rattle.std.specs.List.{filter, flat_map, list_all, list_any}
-use Rattle.std.proofs.lemmas.Bool.{and_parts}
+use Rattle.std.specs.List.{flat_map, list_any}
 use Rattle.std.proofs.lemmas.List.{map-append}
 use Rattle.dt_tree.specs.PathMap.{tree_map}
 use Rattle.dt_tree.specs.TreeData.{TreeData, IsTree, is_reserve}
@@ -17,6 +16,7 @@ use Rattle.dt_meaning.specs.Statements.{Fault, TooDeep, then_do}
 use Rattle.dt_edit.specs.Said.{reading}
 use Rattle.dt_assembly.specs.Lists.{lists_of}
 use Rattle.dt_assembly.proofs.TreeNodes.{tree-nodes}
+use Rattle.dt_assembly.proofs.Walks.{filter-all}
 use Rattle.dt_canonical.specs.Conditions.{IsSourceTree}
 use Rattle.dt_canonical.specs.SourceOf.{source_of}
 use Rattle.dt_canonical.proofs.MeaningEdits.{parts_of, made, source-made}
@@ -97,13 +97,7 @@ module _ (ns : List Path) (ps : List (Definition (List Piece))) (es : List Place
       ∙ ap shallow together
       ∙ ap (λ t. if t then Err TooDeep else Ok plain) flat
 
--- ---- reservations
-kept : (rs : List (ℕ × ℕ)) → list_all is_reserve rs ≡ true → filter is_reserve rs ≡ rs
-kept [] all = refl
-kept (r ∷ rs) all =
-    let parts = and_parts (is_reserve r) (list_all is_reserve rs) all in
-    ap (λ t. cond t (r ∷ filter is_reserve rs) (filter is_reserve rs)) parts.0 ∙ ap (λ xs. r ∷ xs) (kept rs parts.1)
-
+-- ---- the whole
 pub source-meant : (t : TreeData) → IsTree t → IsSourceTree t → (r : Resolved) × (resolved false (reading (source_of t)) ≡ Ok r) × (tree_map t ≡ tree_map_of (reading (source_of t)) r)
 source-meant t is has =
     let b = t.root in
@@ -114,5 +108,5 @@ source-meant t is has =
       meant b is.sound,
       ap (λ r. then_do r (resolved_state false false)) (source-made t is ∙ ap₂ (λ xs ys. Ok (made xs ys)) (nodes-listed b.children) (properties-listed b))
           ∙ resolved-plain ns ps (in_turn b is.sound) given.0 (tree-nodes b is.sound).shallow (walk-said q.properties (preorder ns)) given.1,
-      (λ i. record { nodes = map-meant b is.sound i; reserves = sym (kept t.reserves is.no_end) i; boot_cpu = has.boots i }),
+      (λ i. record { nodes = map-meant b is.sound i; reserves = sym (filter-all is_reserve t.reserves is.no_end) i; boot_cpu = has.boots i }),
     )

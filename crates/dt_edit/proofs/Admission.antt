@@ -2,6 +2,7 @@
 use Rattle.std.proofs.Common.{◌≡◌, ℕ, zero, suc, ◌-◌, ◌<◌, Bool, true, false, ◌&&◌, ◌||◌, ◌==◌, List, [], ◌∷◌, ◌++◌, length, Option, Some, None, Result, Ok, Err, if◌then◌else◌, nat_lt, refl, sym, ap, ap₂, ◌∙◌, subst, true≢false, arith}
 use Rattle.std.specs.Str.{bytes_eq}
 use Rattle.std.proofs.lemmas.Bool.{eqb-true, ltb-true}
+use Rattle.dt_tree.specs.declared.limits.TheConstants.{MAX_DEPTH}
 use Rattle.dt_tree.specs.Sound.{is_among}
 use Rattle.dt_meaning.specs.Paths.{Path, same_path, is_within}
 use Rattle.dt_meaning.specs.Names.{is_fragment}
@@ -13,7 +14,7 @@ use Rattle.dt_draft.specs.Index.{is_key}
 use Rattle.dt_draft.specs.Rows.{IsDraft, IsNode, IsKept, HasSamePropertyBodies, node_path, child_body, property_body, state_of}
 use Rattle.dt_draft.proofs.Keeping.{kept-then, kept-in-child}
 use Rattle.dt_edit.specs.Private.Admitted.{admitted}
-use Rattle.dt_edit.specs.Progress.{IsAt, HasMarks}
+use Rattle.dt_edit.specs.Private.Progress.{IsAt, HasMarks}
 use Rattle.dt_edit.specs.Said.{Parts}
 use Rattle.dt_edit.proofs.ItemSteps.{not-root}
 use Rattle.dt_edit.proofs.Reading.{shown, give_labels-kept, showing-keeps, with_node-keeps}
@@ -162,6 +163,6 @@ module _ (old two three : Draft Parts) (node child number : ℕ) (name : List �
     pub own-properties : IsNode old node → (k : List ℕ) → property_body three node k ≡ property_body old node k
     own-properties known k = marks.properties node k (still-node node known) (outside-of node known (not-in-own-child (node_path old node) name)) ∙ unset node k
 
-pub shallow : (n : ℕ) (b : Bool) → nat_lt 63 n ≡ b → n < 64 → b ≡ false
+pub shallow : (n : ℕ) (b : Bool) → nat_lt 63 n ≡ b → n < MAX_DEPTH → b ≡ false
 shallow n true e less = absurd (omega (arith, ltb-true 63 n e))
 shallow n false e less = refl

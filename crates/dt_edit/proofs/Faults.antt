@@ -7,7 +7,7 @@ use Rattle.dt_meaning.specs.Statements as meaning
 use Rattle.dt_draft.specs.declared.labels.LabelError.{LabelError}
 use Rattle.dt_draft.specs.declared.labels.LabelError.TheVariants as labels
 use Rattle.dt_edit.specs.EditFault.{IsFault}
-use Rattle.dt_edit.specs.LabelFault.{edit_error}
+use Rattle.dt_edit.specs.Private.LabelFault.{edit_error}
 
 pub fault-then : {A B : Type 0} (e : EditError) (r : Result A Fault) (f : A → Result B Fault) → IsFault e r → IsFault e (then_do r f)
 fault-then NoMemory r f h = h

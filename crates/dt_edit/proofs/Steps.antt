@@ -12,7 +12,7 @@ use Rattle.dt_draft.specs.Rows.{IsDraft, IsNumbered, IsNode, IsKept, HasSameChil
 use Rattle.dt_draft.proofs.Keeping.{below-not-itself, child-below, kept-itself, kept-then}
 use Rattle.dt_draft.proofs.Keys.{key-cases}
 use Rattle.dt_draft.proofs.PathTests.{within-itself}
-use Rattle.dt_edit.specs.Progress.{IsAt, HasMarks}
+use Rattle.dt_edit.specs.Private.Progress.{IsAt, HasMarks}
 use Rattle.dt_edit.specs.Said.{Parts, pieces}
 use Rattle.dt_edit.proofs.Reading.{shown, with_property-read, without_property-read, without_node-shown}
 

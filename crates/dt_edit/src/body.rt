@@ -1,5 +1,6 @@
 //! The statements of a body.
 ghost use Rattle.std.specs.Prelude.{◌≡◌, ◌≤◌, ◌<◌, ◌++◌, ◌∷◌, [], ℕ, List, map, true, length, Ok, IfOk, OnOk, MatchResult, if◌then◌else◌};
+ghost use Rattle.dt_tree.specs.declared.limits.TheConstants.{MAX_DEPTH};
 ghost use Rattle.dt_meaning.specs.Edits.{counted};
 ghost use Rattle.dt_meaning.specs.Paths.{Path};
 ghost use Rattle.dt_meaning.specs.Syntax.{Child, Piece};
@@ -10,15 +11,14 @@ ghost use Rattle.dt_draft.specs.Rows.{HasSamePropertyBodies, IsDraft, IsKept, Is
 ghost use Rattle.dt_edit.specs.EditFault.{IsFault};
 ghost use Rattle.dt_edit.specs.Private.Admitted.{admitted};
 ghost use Rattle.dt_edit.specs.Private.Made.{IsExact};
-ghost use Rattle.dt_edit.specs.Progress.{HasMarks, IsAt};
+ghost use Rattle.dt_edit.specs.Private.Progress.{HasMarks, IsAt};
 ghost use Rattle.dt_edit.specs.Said.{body_of, entry_of, tree_of};
 
 use crate::error::EditError;
 use crate::made::Made;
 use dt_draft::Draft;
 use dt_source::{Part, Statement};
-
-const MAX_DEPTH: usize = 64;
+use dt_tree::MAX_DEPTH;
 
 /// Lets a child with its labels into the tree, unless this body has it already, or it can't stand there.
 fn admit_child<'d, 't>(
@@ -46,7 +46,7 @@ fn admit_child<'d, 't>(
     ensures kept { OnOk result ((p : Path) → IsKept p draft.old draft.new) }
     ensures children { OnOk result ((n : ℕ) (k : List ℕ) → child_body draft.new n k ≡ (if is_key node name.now n k then number else child_body draft.old n k)) }
     ensures properties { OnOk result (HasSamePropertyBodies draft.old draft.new) }
-    ensures shallow { OnOk result (depth < 64) }
+    ensures shallow { OnOk result (depth < MAX_DEPTH) }
     ensures step { (x : Progress (List Piece)) → IsAt x draft.old node number made.now.count → MatchResult result (λ _. admitted (map (λ l. l.now) labels.now) name.now (node_path draft.old node) x ≡ Ok (counted made.now.count (tree_of draft.new))) (λ e. IsFault e (admitted (map (λ l. l.now) labels.now) name.now (node_path draft.old node) x)) }
 {
     // the draft holds them for as long as it lives itself

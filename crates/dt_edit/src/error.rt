@@ -1,6 +1,6 @@
 //! Why the edits of a source stop.
 ghost use Rattle.std.specs.Prelude.{◌≡◌};
-ghost use Rattle.dt_edit.specs.LabelFault.{edit_error};
+ghost use Rattle.dt_edit.specs.Private.LabelFault.{edit_error};
 
 use dt_draft::LabelError;
 use std::alloc::AllocError;

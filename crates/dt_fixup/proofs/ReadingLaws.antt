@@ -1,15 +1,9 @@
 -- Fixups, text by text.
-use Rattle.std.proofs.Common.{◌≡◌, ℕ, zero, suc, ◌+◌, ◌<◌, ◌≤◌, Bool, true, false, ◌&&◌, List, [], ◌∷◌, ◌++◌, length, get_or, drop, Some, None, Ok, Err, refl, sym, ap, ◌∙◌, subst, append_assoc}
+use Rattle.std.proofs.Common.{◌≡◌, ℕ, ◌+◌, ◌<◌, ◌≤◌, Bool, true, false, List, [], ◌∷◌, ◌++◌, length, get_or, drop, Some, None, Ok, Err, refl, sym, ap, ◌∙◌, subst, append_assoc}
 use Rattle.std.specs.Prelude.{Result}
 use Rattle.std.specs.List.{filter, flat_map}
-use Rattle.std.specs.Str.{bytes_eq}
 use Rattle.std.proofs.lemmas.List.{append-nil, at_drop_more, at_drop_all}
-use Rattle.dt_meaning.specs.Names.{fixups_name}
-use Rattle.dt_meaning.specs.Paths.{Path, same_path}
-use Rattle.dt_draft.specs.declared.table.NodeRow.{NodeRow}
 use Rattle.dt_draft.specs.declared.table.Draft.{Draft}
-use Rattle.dt_draft.specs.Rows.{IsGrown, path_of, row_at}
-use Rattle.dt_draft.proofs.Climbs.{path-step}
 use Rattle.dt_listing.specs.ByRow.{row_property}
 use Rattle.dt_listing.specs.Listed.{Lent}
 use Rattle.overlay_meaning.specs.Steps.{Fault, BadFixup, each, then_do}
@@ -19,39 +13,6 @@ use Rattle.dt_fixup.specs.declared.error.OverlayError.{OverlayError}
 use Rattle.dt_fixup.specs.OverlayFault.{IsFault}
 use Rattle.dt_fixup.specs.Private.Fixing.{gathered, row_fixups}
 use Rattle.dt_fixup.proofs.LocalSteps.{definitions, definitions-end, definitions-step, fault-then}
-
--- ---- the node of fixups
-two-names : (q : Path) (m n : List ℕ) → same_path (fixups_name ∷ []) ((q ++ m ∷ []) ++ n ∷ []) ≡ false
-two-names [] m n = and-none (bytes_eq fixups_name m) where
-  and-none : (b : Bool) → (b && false) ≡ false
-  and-none true = refl
-  and-none false = refl
-two-names (x ∷ []) m n = and-none (bytes_eq fixups_name x) where
-  and-none : (b : Bool) → (b && false) ≡ false
-  and-none true = refl
-  and-none false = refl
-two-names (x ∷ y ∷ q) m n = and-none (bytes_eq fixups_name x) where
-  and-none : (b : Bool) → (b && false) ≡ false
-  and-none true = refl
-  and-none false = refl
-
-and-true : (b : Bool) → (b && true) ≡ b
-and-true true = refl
-and-true false = refl
-
-pub fixups-top : (rows : List NodeRow) → IsGrown rows → (n k : ℕ) → n ≡ suc k → (row_at rows k).parent ≡ 0 → same_path (fixups_name ∷ []) (path_of rows n) ≡ bytes_eq fixups_name (row_at rows k).name.now
-fixups-top rows grown n k at top =
-    ap (λ m. same_path (fixups_name ∷ []) (path_of rows m)) at ∙ ap (same_path (fixups_name ∷ [])) (path-step rows grown k)
-    ∙ ap (λ m. same_path (fixups_name ∷ []) (path_of rows m ++ (row_at rows k).name.now ∷ [])) top ∙ and-true (bytes_eq fixups_name (row_at rows k).name.now)
-
-below : (rows : List NodeRow) → IsGrown rows → (m : ℕ) (n : List ℕ) → (m ≡ 0 → ⊥) → same_path (fixups_name ∷ []) (path_of rows m ++ n ∷ []) ≡ false
-below rows grown zero n some = absurd (some refl)
-below rows grown (suc j) n some = ap (λ p. same_path (fixups_name ∷ []) (p ++ n ∷ [])) (path-step rows grown j) ∙ two-names (path_of rows (row_at rows j).parent) (row_at rows j).name.now n
-
-pub fixups-below : (rows : List NodeRow) → IsGrown rows → (n k : ℕ) → n ≡ suc k → ((row_at rows k).parent ≡ 0 → ⊥) → same_path (fixups_name ∷ []) (path_of rows n) ≡ false
-fixups-below rows grown n k at some =
-    ap (λ m. same_path (fixups_name ∷ []) (path_of rows m)) at ∙ ap (same_path (fixups_name ∷ [])) (path-step rows grown k)
-    ∙ below rows grown (row_at rows k).parent (row_at rows k).name.now some
 
 -- ---- one after the other
 -- what a loop has so far, and what is left

@@ -1,11 +1,8 @@
 //! The fixups that an overlay's texts name.
-ghost use Rattle.std.specs.Prelude.{◌≡◌, ◌≤◌, ◌<◌, ◌∷◌, [], length, map};
+ghost use Rattle.std.specs.Prelude.{◌<◌, [], length, map};
 ghost use Rattle.std.specs.List.{filter};
 ghost use Rattle.dt_listing.specs.Listed.{IsWhole, lists};
 ghost use Rattle.dt_meaning.specs.Edits.{definition};
-ghost use Rattle.dt_meaning.specs.Names.{fixups_name};
-ghost use Rattle.dt_meaning.specs.Paths.{same_path};
-ghost use Rattle.dt_draft.specs.Rows.{IsGrown, path_of};
 ghost use Rattle.overlay_meaning.specs.Steps.{each};
 ghost use Rattle.overlay_meaning.specs.Shifted as meaning;
 ghost use Rattle.overlay_meaning.specs.Shifted.{fixup_in, fixups_in};
@@ -15,7 +12,8 @@ ghost use Rattle.dt_fixup.specs.Private.Fixing.{Adds, gathered, named, row_fixup
 use crate::error::OverlayError;
 use crate::local::lent;
 use crate::texts::{PlaceText, place_in, unended};
-use dt_draft::{Draft, NodeRow};
+use dt_draft::Draft;
+use dt_layout::is_root_child;
 use std::alloc::Global;
 
 /// A fixup as its text names it, with the name of the symbol.
@@ -23,22 +21,6 @@ use std::alloc::Global;
 pub(crate) struct Named<'t> {
     pub symbol: &'t [u8],
     pub place: PlaceText<'t>,
-}
-
-/// Whether a node is `/__fixups__`.
-fn is_fixups(nodes: &[NodeRow<'_>], node: usize) -> bool
-    requires grown { IsGrown nodes.now }
-    requires known { node ≤ length nodes.now }
-    ensures { result ≡ same_path (fixups_name ∷ []) (path_of nodes.now node) }
-{
-    if node == 0 {
-        return false;
-    }
-    let row = nodes[node - 1];
-    if row.parent != 0 {
-        return false;
-    }
-    row.name == b"__fixups__".as_slice()
 }
 
 /// Adds the fixups of texts between zero bytes.
@@ -83,7 +65,7 @@ fn read_row<'t>(
     ensures { Adds (row_fixups draft.now row) (map named found.old.items) (map named found.new.items) result }
 {
     let property = draft.properties()[row];
-    if !is_fixups(draft.nodes(), property.node) {
+    if !is_root_child(draft.nodes(), property.node, b"__fixups__".as_slice()) {
         return Ok(());
     }
     read_value(found, property.name, lent(property.value))

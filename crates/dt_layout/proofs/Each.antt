@@ -1,7 +1,7 @@
--- What is true of each number of a list.
+-- What is true of each element of a list.
 use Rattle.std.proofs.Common.{◌≡◌, ℕ, zero, suc, ◌<◌, Bool, true, false, List, [], ◌∷◌, ◌++◌, length, get_or, drop, take, map, if◌then◌else◌, refl, ap, ap₂, ◌∙◌, arith}
 use Rattle.std.specs.Prelude.{All}
-use Rattle.std.specs.List.{flat_map}
+use Rattle.std.specs.List.{filter, flat_map}
 use Rattle.std.proofs.lemmas.List.{map-append}
 
 abbrev pub Each : {A : Type 0} → (A → Type 0) → List A → Type 0
@@ -41,6 +41,23 @@ map-flat v f (x ∷ xs) = map-append v (f x) (flat_map f xs) ∙ ap (λ ys. map 
 pub each-of : {A : Type 0} (P : A → Type 0) (xs : List A) → All P xs → Each P xs
 each-of P [] all = tt
 each-of P (x ∷ xs) all = (all 0 x (omega arith), each-of P xs (λ i y below. all (suc i) y (omega arith)))
+
+-- what passes a test
+kept-by : {A : Type 0} (P : A → Type 0) (t : A → Bool) (x : A) (xs : List A) (b : Bool) → t x ≡ b → P x → Each P (filter t xs) → Each P (filter t (x ∷ xs))
+kept-by P t x xs true e h hs = rw e (h, hs)
+kept-by P t x xs false e h hs = rw e hs
+
+pub each-kept : {A : Type 0} (P : A → Type 0) (t : A → Bool) (xs : List A) → Each P xs → Each P (filter t xs)
+each-kept P t [] h = tt
+each-kept P t (x ∷ xs) h = kept-by P t x xs (t x) refl h.0 (each-kept P t xs h.1)
+
+pub each-when : {A : Type 0} (P : A → Type 0) (b : Bool) (xs : List A) → Each P xs → Each P (if b then xs else [])
+each-when P true xs h = h
+each-when P false xs h = tt
+
+pub each-same : {A B : Type 0} (P : A → Type 0) (f : B → A) (xs : List B) → Each (λ x. P (f x)) xs → Each P (map f xs)
+each-same P f [] h = tt
+each-same P f (x ∷ xs) h = (h.0, each-same P f xs h.1)
 
 pub each-drop : {A : Type 0} (P : A → Type 0) (k : ℕ) (xs : List A) → Each P xs → Each P (drop k xs)
 each-drop P zero xs h = h

@@ -1,3 +1,4 @@
+mod RootChildren
 pub mod BlankRows
 pub mod Each
 pub mod KeptNodes

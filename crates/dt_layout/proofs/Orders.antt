@@ -3,6 +3,7 @@ use Rattle.std.proofs.Common.{◌≡◌, ℕ, zero, suc, ◌≤◌, true, List, 
 use Rattle.std.specs.List.{filter, flat_map}
 use Rattle.std.proofs.lemmas.List.{take_all}
 use Rattle.std.proofs.lemmas.List.Folds.{flat_map-map}
+use Rattle.dt_tree.specs.declared.limits.TheConstants.{MAX_DEPTH}
 use Rattle.dt_meaning.specs.Paths.{Path}
 use Rattle.dt_meaning.specs.Edits.{Definition}
 use Rattle.dt_meaning.specs.References.{walk, preorder, held}
@@ -44,7 +45,7 @@ module _ (rows : List NodeRow) (index : Found) (grown : IsGrown rows) (indexed :
   pub order-stands : (levels : ℕ) (order : List ℕ) → order ≡ rows_walk levels kids 0 → Each Stands order
   order-stands levels order e = subst (λ (xs : List ℕ). Each Stands xs) (sym e) (walk-stands levels 0 (omega arith, refl))
 
-  pub in-preorder : (levels : ℕ) (order : List ℕ) → levels ≡ 64 → order ≡ rows_walk levels kids 0 → map (path_of rows) order ≡ preorder all
+  pub in-preorder : (levels : ℕ) (order : List ℕ) → levels ≡ MAX_DEPTH → order ≡ rows_walk levels kids 0 → map (path_of rows) order ≡ preorder all
   unfolding preorder
   in-preorder levels order e at = ap (map (path_of rows)) at ∙ walk-paths levels 0 (omega arith, refl) ∙ ap (λ l. walk l all []) e
 

@@ -15,6 +15,7 @@ use Rattle.dt_draft.specs.Rows.{Found, row_at, path_of, stands, standing, shown,
 use Rattle.dt_draft.proofs.Climbs.{one-node, path-step, stands-step}
 use Rattle.dt_draft.proofs.PathTests.{same-itself, same-is}
 use Rattle.dt_draft.proofs.Shown.{shown-append}
+use Rattle.dt_assembly.proofs.Orders.{no-below}
 use Rattle.dt_layout.specs.declared.properties.Laid.{Laid}
 use Rattle.dt_layout.specs.Private.Walks.{children_to, properties_to, laid_of, laid_at}
 use Rattle.dt_layout.proofs.Each.{Each, each-append, each-one}
@@ -24,10 +25,6 @@ none-either : (b : Bool) (o : Option (List ℕ)) → o ≡ None → is_some (if 
 none-either true o e = ap (λ (x : Option (List ℕ)). is_some x) e
 none-either false o e = refl
 
-none-above : (xs : Path) → name_below xs [] ≡ None
-none-above [] = refl
-none-above (x ∷ xs) = refl
-
 below-by : (b c : Bool) (o : Option (List ℕ)) → is_some o ≡ c → is_some (if b then o else None) ≡ (b && c)
 below-by true c o e = e
 below-by false c o e = refl
@@ -36,7 +33,7 @@ pub below-snoc : (p q : Path) (a : List ℕ) → is_some (name_below p (q ++ a �
 below-snoc [] [] a = refl
 below-snoc [] (y ∷ []) a = refl
 below-snoc [] (y ∷ z ∷ ys) a = refl
-below-snoc (x ∷ xs) [] a = none-either (bytes_eq x a) (name_below xs []) (none-above xs)
+below-snoc (x ∷ xs) [] a = none-either (bytes_eq x a) (name_below xs []) (no-below xs)
 below-snoc (x ∷ xs) (y ∷ ys) a = below-by (bytes_eq x y) (same_path xs ys) (name_below xs (ys ++ a ∷ [])) (below-snoc xs ys a)
 
 -- what a property that was laid out shows

@@ -16,4 +16,4 @@ pub use layout::{Layout, lay_out};
 pub use properties::Laid;
 pub use reserved::is_reserved;
 pub use run::behind;
-pub use ways::{append_names, names_size};
+pub use ways::{append_names, is_root_child, names_size};

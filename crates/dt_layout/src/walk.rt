@@ -1,5 +1,6 @@
 //! The walk over a tree.
 ghost use Rattle.std.specs.Prelude.{◌≡◌, ◌<◌, ◌++◌, ℕ, All, IfOk, OnOk, length};
+ghost use Rattle.dt_tree.specs.declared.limits.TheConstants.{MAX_DEPTH};
 ghost use Rattle.dt_draft.specs.Rows.{IsGrown};
 ghost use Rattle.dt_layout.specs.Private.Lists.{list_count, list_of};
 ghost use Rattle.dt_layout.specs.Private.Walks.{children_to, rows_walk};
@@ -7,9 +8,8 @@ ghost use Rattle.dt_layout.specs.Private.Walks.{children_to, rows_walk};
 use crate::children::children;
 use crate::lists::Lists;
 use dt_draft::NodeRow;
+use dt_tree::MAX_DEPTH;
 use std::alloc::{AllocError, Global};
-
-const MAX_DEPTH: usize = 64;
 
 // Puts a node and all below it, down to so many levels, behind the others: each before what is below it.
 fn walk(
@@ -35,7 +35,7 @@ fn walk(
 /// The numbers of a tree's nodes in preorder.
 pub(crate) fn walk_tree(alloc: Global, nodes: &[NodeRow<'_>]) -> Result<Vec<usize>, AllocError>
     requires { IsGrown nodes.now }
-    ensures { IfOk result (λ order. order.items ≡ rows_walk 64 (children_to nodes.now (length nodes.now)) 0) }
+    ensures { IfOk result (λ order. order.items ≡ rows_walk MAX_DEPTH (children_to nodes.now (length nodes.now)) 0) }
 {
     let below = children(alloc, nodes)?;
     let mut order = Vec::with_capacity(alloc, nodes.len())?;

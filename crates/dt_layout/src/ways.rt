@@ -1,6 +1,7 @@
 //! The way to a node, name by name.
-ghost use Rattle.std.specs.Prelude.{◌≡◌, ◌≤◌, ◌-◌, ◌^◌, ◌++◌, OnOk, length, min};
+ghost use Rattle.std.specs.Prelude.{◌≡◌, ◌≤◌, ◌-◌, ◌^◌, ◌∷◌, ◌++◌, [], OnOk, length, min};
 ghost use Rattle.dt_tree.specs.Path.{behind_slashes};
+ghost use Rattle.dt_meaning.specs.Paths.{same_path};
 ghost use Rattle.dt_draft.specs.Rows.{IsGrown, path_of};
 
 use dt_draft::NodeRow;
@@ -40,4 +41,17 @@ pub fn append_names(
     value.push(b'/')?;
     value.extend_from_slice(row.name)?;
     Ok(())
+}
+
+/// Whether a node is the root's child of a name.
+pub fn is_root_child(nodes: &[NodeRow<'_>], node: usize, name: &[u8]) -> bool
+    requires grown { IsGrown nodes.now }
+    requires known { node ≤ length nodes.now }
+    ensures { result ≡ same_path (name.now ∷ []) (path_of nodes.now node) }
+{
+    if node == 0 {
+        return false;
+    }
+    let row = nodes[node - 1];
+    row.parent == 0 && row.name == name
 }

@@ -9,7 +9,8 @@ use Rattle.dt_draft.proofs.Climbs.{path-step}
 use Rattle.dt_draft.proofs.PathTests.{snoc-parts, within-itself, within-snoc}
 use Rattle.dt_listing.specs.Listed.{Lent, IsWhole, IsOrdered}
 use Rattle.dt_listing.specs.Runs.{IsRun}
-use Rattle.dt_listing.proofs.PathRuns.{parts-within, take-keeps, within-by}
+use Rattle.dt_assembly.proofs.PathFacts.{within-is}
+use Rattle.dt_listing.proofs.PathRuns.{take-keeps, within-by}
 use Rattle.dt_listing.proofs.RunsBelow.{follows, reached}
 
 module _ (d : Draft Lent) (whole : IsWhole d) (ordered : IsOrdered d) (n e : ℕ) (from : n ≤ e) (known : IsNode d e) where
@@ -69,7 +70,7 @@ module _ (d : Draft Lent) (whole : IsWhole d) (ordered : IsOrdered d) (n e : ℕ
         elim (cases_lt f.levels (length b)) [
           | inl short ↦ omega (arith, deep)
           | inr long ↦
-              let w = parts-within b (path (suc i)) (ap (λ m. is_within b (path m)) (sym is) ∙ last-within) in
+              let w = within-is b (path (suc i)) (ap (λ m. is_within b (path m)) (sym is) ∙ last-within) in
               let kept = take-keeps b w.0 f.levels long in
               let up = within-by b (path r.parent) (kept.0, above.0 ∙ ap (take f.levels) w.1 ∙ kept.1) in
               let low = last more in

@@ -1,23 +1,15 @@
 -- Paths that follow each other: what is below one of them, and what isn't.
-use Rattle.std.proofs.Common.{◌≡◌, ℕ, zero, suc, ◌+◌, ◌≤◌, ◌<◌, Bool, true, false, ◌||◌, [], ◌∷◌, ◌++◌, length, take, drop, refl, sym, ap, ap₂, ◌∙◌, append_assoc, append-nil, length-append, true≢false, arith}
+use Rattle.std.proofs.Common.{◌≡◌, ℕ, zero, suc, ◌+◌, ◌≤◌, ◌<◌, Bool, true, false, ◌||◌, [], ◌∷◌, ◌++◌, length, take, drop, refl, sym, ap, ◌∙◌, append_assoc, append-nil, length-append, true≢false, arith}
 use Rattle.std.specs.Str.{bytes_eq}
-use Rattle.std.proofs.lemmas.Bool.{and_parts, and_from}
+use Rattle.std.proofs.lemmas.Bool.{and_from}
 use Rattle.std.proofs.lemmas.List.{take-append-drop, length-take-le}
 use Rattle.std.proofs.lemmas.Slice.Eq.{bytes_eq-Decides}
 use Rattle.dt_meaning.specs.Paths.{Path, same_path, is_within}
 use Rattle.dt_assembly.specs.Standing.{Follows}
+use Rattle.dt_assembly.proofs.PathFacts.{Within, within-is}
 use Rattle.dt_draft.proofs.PathTests.{within-snoc}
-use Rattle.dt_listing.proofs.TreePaths.{Within}
 
 -- ---- a path and what is below it
-pub parts-within : (b x : Path) → is_within b x ≡ true → Within b x
-parts-within [] x e = (x, refl)
-parts-within (y ∷ ys) [] e = absurd (true≢false (sym e))
-parts-within (y ∷ ys) (z ∷ zs) e =
-    let parts = and_parts (bytes_eq y z) (is_within ys zs) e in
-    let rest = parts-within ys zs parts.1 in
-    (rest.0, ap₂ (λ n ns. n ∷ ns) (sym ((bytes_eq-Decides y z).0 parts.0)) rest.1)
-
 more-within : (b s : Path) → is_within b (b ++ s) ≡ true
 more-within [] s = refl
 more-within (y ∷ ys) s = and_from (bytes_eq y y) (is_within ys (ys ++ s)) ((bytes_eq-Decides y y).1 refl) (more-within ys s)
@@ -48,7 +40,7 @@ pub before-within : (b p q : Path) → Follows p q → is_within b q ≡ true �
 before-within b p q f w other =
     let above = take f.levels p in
     let up = either (is_within b above) (same_path b (above ++ f.name ∷ [])) (sym (within-snoc b above f.name) ∙ ap (is_within b) (sym f.path) ∙ w) (ap (same_path b) (sym f.path) ∙ other) in
-    let r = parts-within b above up in
+    let r = within-is b above up in
     within-by b p (r.0 ++ drop f.levels p, sym (take-append-drop f.levels p) ∙ ap (λ x. x ++ drop f.levels p) r.1 ∙ append_assoc b r.0 (drop f.levels p))
 
 none-longer : (s : Path) → length s ≤ 0 → s ≡ []
@@ -58,5 +50,5 @@ none-longer (x ∷ xs) le = absurd (omega arith)
 -- a path below b that is no longer is b
 pub no-longer : (b q : Path) → is_within b q ≡ true → length q ≤ length b → q ≡ b
 no-longer b q w short =
-    let r = parts-within b q w in
+    let r = within-is b q w in
     r.1 ∙ ap (λ s. b ++ s) (none-longer r.0 (omega (arith, ap length r.1, length-append b r.0))) ∙ append-nil b

@@ -7,6 +7,7 @@ use Rattle.std.proofs.lemmas.List.{length-map}
 use Rattle.dt_meaning.specs.Paths.{Path, same_path, is_within, is_below}
 use Rattle.dt_assembly.specs.Standing.{AreFollowed, Follows}
 use Rattle.dt_assembly.proofs.InTurn.{followed-at}
+use Rattle.dt_assembly.proofs.PathFacts.{Within}
 use Rattle.dt_draft.specs.declared.table.Draft.{Draft}
 use Rattle.dt_draft.specs.declared.table.PropertyRow.{PropertyRow}
 use Rattle.dt_draft.specs.Rows.{IsNode, no_property, path_of, property_at, row_at}
@@ -19,7 +20,6 @@ use Rattle.dt_listing.proofs.Behind.{false-by}
 use Rattle.dt_listing.proofs.WholeDrafts.{all-entries, one-number}
 use Rattle.dt_listing.proofs.PathRuns.{within-by, still-within, before-within, no-longer}
 use Rattle.dt_listing.proofs.Ranges.{from-length, from-at, numbers-taken, items-taken, Reaches, place-of}
-use Rattle.dt_listing.proofs.TreePaths.{Within}
 use Rattle.dt_listing.proofs.WholeRows.{entry}
 
 either : (s t : Bool) → (s || t) ≡ true → (s ≡ true) ⊎ (t ≡ true)

@@ -24,7 +24,7 @@ pub siblings-left : (p : Path) (bs : List NodeData) (i : ℕ) (b : NodeData) (r 
 siblings-left p bs i b r h e = ap (λ cs. with_siblings p (siblings cs) r) (left-item bs i b h e)
 
 -- ---- one row more
-put-plain : (p : Path) (n : List ℕ) (v : Lent) (es : List (Definition Lent)) → map plain (put p n v es) ≡ put p n v.now (map plain es)
+pub put-plain : (p : Path) (n : List ℕ) (v : Lent) (es : List (Definition Lent)) → map plain (put p n v es) ≡ put p n v.now (map plain es)
 put-plain p n v [] = refl
 put-plain p n v (e ∷ es) = by_test (is_of p n e) (put-plain p n v es) where
   by_test : (t : Bool) → map plain (put p n v es) ≡ put p n v.now (map plain es)

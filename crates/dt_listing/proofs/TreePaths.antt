@@ -13,14 +13,11 @@ use Rattle.dt_meaning.specs.Paths.{Path}
 use Rattle.dt_meaning.specs.Edits.{Definition}
 use Rattle.dt_assembly.specs.Lists.{defined_at, below_child, defined_among, lists_of}
 use Rattle.dt_assembly.specs.Standing.{AreFollowed, Follows}
+use Rattle.dt_assembly.proofs.PathFacts.{Within}
 use Rattle.dt_assembly.proofs.TreeNodes.{below-root, paths-more, paths_below}
 use Rattle.dt_listing.specs.ByRow.{is_named}
 
 -- ---- one after the other
--- the path is p or below it
-abbrev pub Within : Path → Path → Type 0
-Within p x = (s : Path) × (x ≡ p ++ s)
-
 child-follows : (p y : Path) (n : List ℕ) → Within p y → Follows y (p ++ n ∷ [])
 child-follows p y n w = record {
   levels = length p;

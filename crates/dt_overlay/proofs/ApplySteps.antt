@@ -1,8 +1,7 @@
 -- From an overlay's sheet to the result.
-use Rattle.std.proofs.Common.{◌≡◌, ℕ, ◌<◌, ◌≤◌, ◌-◌, ◌^◌, Bool, true, false, List, [], ◌∷◌, Option, Some, None, Result, Ok, Err, cond, refl, sym, ap, ap₂, ◌∙◌, subst}
+use Rattle.std.proofs.Common.{◌≡◌, ℕ, ◌<◌, ◌≤◌, ◌-◌, ◌^◌, List, [], ◌∷◌, Option, Some, None, Result, Ok, Err, sym, ap, ap₂, ◌∙◌, subst}
 use Rattle.std.specs.Prelude.{MatchOption, MatchResult}
-use Rattle.std.specs.List.{filter, list_all}
-use Rattle.std.proofs.lemmas.Bool.{and_parts}
+use Rattle.std.specs.List.{filter}
 use Rattle.dt_tree.specs.PathMap.{path_map, tree_map}
 use Rattle.dt_tree.specs.TreeData.{TreeData, IsTree, is_reserve, tree_data}
 use Rattle.dt_meaning.specs.MapOf.{map_of}
@@ -14,6 +13,7 @@ use Rattle.dt_meaning.specs.Names.{symbols_name}
 use Rattle.dt_meaning.specs.Paths.{same_path}
 use Rattle.dt_meaning.specs.Resolved.{Resolved}
 use Rattle.dt_assembly.specs.Lists.{lists_of}
+use Rattle.dt_assembly.proofs.Walks.{filter-all}
 use Rattle.dt_draft.specs.declared.table.Draft.{Draft}
 use Rattle.dt_assembly.specs.Sizes.{size_in}
 use Rattle.dt_listing.specs.Listed.{IsWhole, Lent, lists}
@@ -80,22 +80,13 @@ pub match-all : (a b : NodeData) (base over : Resolved) → base ≡ lists_of a 
 match-all a b base over ea eb o shifted limit (Ok found) h = root-all a b base over ea eb o shifted limit found h
 match-all a b base over ea eb o shifted limit (Err e) h = laid-fault a b base over ea eb o shifted e h
 
-reserves-all : (rs : List (ℕ × ℕ)) → list_all is_reserve rs ≡ true → filter is_reserve rs ≡ rs
-reserves-all [] e = refl
-reserves-all (r ∷ rs) e =
-    let parts = and_parts (is_reserve r) (list_all is_reserve rs) e in
-    by_test (is_reserve r) parts.0 (reserves-all rs parts.1) where
-      by_test : (t : Bool) → t ≡ true → filter is_reserve rs ≡ rs → cond t (r ∷ filter is_reserve rs) (filter is_reserve rs) ≡ r ∷ rs
-      by_test true e ih = ap (λ ys. r ∷ ys) ih
-      by_test false e ih = absurd (cc)
-
 pub tree-within : (base over : TreeData) (limit : ℕ) (root : NodeData) → IsRoot (overlay_result (lists_of base.root) (lists_of over.root)) limit root → IsTree base → (rs : List (ℕ × ℕ)) (cpu : ℕ) (t : TreeData)
     → rs ≡ base.reserves → cpu ≡ base.boot_cpu → t ≡ tree_data (filter is_reserve rs) cpu root → IsAppliedWithin base over limit t
 tree-within base over limit root h is rs cpu t same boot made = record {
   applied = record {
     lists = h.lists;
     result = h.result;
-    map = ap tree_map made ∙ (λ i. record { nodes = h.map i; reserves = (ap (filter is_reserve) same ∙ reserves-all base.reserves is.no_end) i; boot_cpu = boot i });
+    map = ap tree_map made ∙ (λ i. record { nodes = h.map i; reserves = (ap (filter is_reserve) same ∙ filter-all is_reserve base.reserves is.no_end) i; boot_cpu = boot i });
   };
   fits = h.fits;
 }

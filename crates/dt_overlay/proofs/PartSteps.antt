@@ -5,6 +5,7 @@ use Rattle.std.specs.List.{list_any}
 use Rattle.std.proofs.lemmas.Bool.{cases_eq}
 use Rattle.std.proofs.lemmas.Bool.Decides.{nat_tests}
 use Rattle.std.proofs.lemmas.List.{get_or_default, get_or-set_same, get_or-set_other}
+use Rattle.dt_tree.specs.declared.limits.TheConstants.{MAX_DEPTH}
 use Rattle.dt_meaning.specs.Edits as edits
 use Rattle.dt_meaning.specs.Paths.{Path}
 use Rattle.dt_meaning.specs.Resolved.{is_too_deep}
@@ -87,16 +88,16 @@ pub or-false : (a : Bool) → a ≡ (a || false)
 or-false true = refl
 or-false false = refl
 
-pub deep-then : (x x' : Bool) (n : ℕ) (p : Path) → x' ≡ true → 64 < n → n ≡ length p → x' ≡ (x || is_too_deep p)
+pub deep-then : (x x' : Bool) (n : ℕ) (p : Path) → x' ≡ true → MAX_DEPTH < n → n ≡ length p → x' ≡ (x || is_too_deep p)
 deep-then x x' n p new deep same =
-    let far : 64 < length p = omega (arith, deep, same) in
-    let e : nat_lt 64 (length p) ≡ true = grind (arith, nat_tests) in
+    let far : MAX_DEPTH < length p = omega (arith, deep, same) in
+    let e : nat_lt MAX_DEPTH (length p) ≡ true = grind (arith, nat_tests) in
     new ∙ or-true x ∙ ap (λ b. x || b) (sym e)
 
-pub deep-else : (x x' : Bool) (n : ℕ) (p : Path) → x' ≡ x → n ≤ 64 → n ≡ length p → x' ≡ (x || is_too_deep p)
+pub deep-else : (x x' : Bool) (n : ℕ) (p : Path) → x' ≡ x → n ≤ MAX_DEPTH → n ≡ length p → x' ≡ (x || is_too_deep p)
 deep-else x x' n p new deep same =
-    let near' : length p ≤ 64 = omega (arith, deep, same) in
-    let e : nat_lt 64 (length p) ≡ false = grind (arith, nat_tests) in
+    let near' : length p ≤ MAX_DEPTH = omega (arith, deep, same) in
+    let e : nat_lt MAX_DEPTH (length p) ≡ false = grind (arith, nat_tests) in
     new ∙ or-false x ∙ ap (λ b. x || b) (sym e)
 
 -- ---- the node of row k, with its place

@@ -1,30 +1,23 @@
 -- One property of a part more.
-use Rattle.std.proofs.Common.{◌≡◌, inl, inr, ℕ, ◌+◌, ◌≤◌, ◌<◌, Bool, true, false, ◌&&◌, ◌||◌, List, [], ◌∷◌, length, get_or, map, is_some, if◌then◌else◌, refl, sym, ap, ◌∙◌, arith}
+use Rattle.std.proofs.Common.{◌≡◌, inl, inr, ℕ, ◌+◌, ◌≤◌, ◌<◌, Bool, ◌&&◌, ◌||◌, List, length, get_or, map, is_some, sym, ap, ◌∙◌, arith}
 use Rattle.std.specs.Prelude.{codes}
 use Rattle.std.specs.List.{list_any}
 use Rattle.std.specs.Str.{bytes_eq}
 use Rattle.std.proofs.lemmas.Bool.{cases_lt}
-use Rattle.dt_meaning.specs.Edits.{Definition, definition, is_of, put, with_property}
+use Rattle.dt_meaning.specs.Edits.{Definition, put, with_property}
 use Rattle.dt_meaning.specs.MapOf.{value_in}
 use Rattle.dt_meaning.specs.Paths.{Path}
 use Rattle.dt_draft.specs.declared.table.Draft.{Draft}
 use Rattle.dt_draft.specs.declared.table.PropertyRow.{PropertyRow}
 use Rattle.dt_draft.specs.Rows.{HasSameNodes, node_path, path_of, property_at, state_of}
 use Rattle.dt_listing.specs.Listed.{IsOrdered, Lent, lists, plain}
+use Rattle.dt_listing.proofs.Steps.{put-plain}
 use Rattle.dt_fixup.specs.declared.sheet.Sheet.{Sheet}
 use Rattle.dt_fixup.specs.Sheet.{IsSheet, value_at}
 use Rattle.overlay_meaning.specs.Applied.{clashes, moved, with_values}
 use Rattle.dt_overlay.specs.declared.part.Part.{Part}
 use Rattle.dt_overlay.specs.Private.Merging.{ArePlaces, IsPartOf, IsPlace}
 use Rattle.dt_overlay.proofs.PartLists.{values_left, values-step}
-
-pub put-plain : (p : Path) (n : List ℕ) (v : Lent) (es : List (Definition Lent)) → map plain (put p n v es) ≡ put p n v.now (map plain es)
-put-plain p n v [] = refl
-put-plain p n v (e ∷ es) = by_test (is_of p n e) (put-plain p n v es) where
-  by_test : (t : Bool) → map plain (put p n v es) ≡ put p n v.now (map plain es)
-      → map plain (if t then definition p n v ∷ es else e ∷ put p n v es) ≡ (if t then definition p n v.now ∷ map plain es else plain e ∷ put p n v.now (map plain es))
-  by_test true ih = refl
-  by_test false ih = ap (λ ds. plain e ∷ ds) ih
 
 pub first-last : (over : Draft Lent) (p : Part) → IsPartOf over p → p.first ≤ p.last
 first-last over p part = elim (cases_lt p.last p.first) [

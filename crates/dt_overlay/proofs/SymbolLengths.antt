@@ -1,18 +1,15 @@
 -- How long the texts of symbols' paths are, and all symbols together.
-use Rattle.std.proofs.Common.{◌≡◌, ℕ, zero, suc, ◌+◌, ◌-◌, ◌^◌, ◌<◌, min, Bool, true, false, ◌&&◌, List, [], ◌∷◌, ◌++◌, length, get_or, drop, Option, Some, None, cond, refl, sym, ap, ◌∙◌, length-append, arith}
+use Rattle.std.proofs.Common.{◌≡◌, ℕ, ◌+◌, ◌-◌, ◌^◌, ◌<◌, min, true, false, List, [], ◌∷◌, ◌++◌, length, drop, Option, Some, None, cond, refl, ap, ◌∙◌, length-append, arith}
 use Rattle.std.specs.List.{filter, flat_map}
-use Rattle.std.specs.Str.{bytes_eq}
 use Rattle.std.proofs.lemmas.Bool.Decides.{nat_tests}
-use Rattle.std.proofs.lemmas.List.{at_drop_more, get_or_default}
+use Rattle.std.proofs.lemmas.List.{at_drop_more}
 use Rattle.dt_tree.specs.Path.{text_or_root}
 use Rattle.dt_meaning.specs.Paths.{Path, same_path}
 use Rattle.dt_meaning.specs.Names.{symbols_name}
 use Rattle.dt_meaning.specs.Edits.{definition}
 use Rattle.dt_meaning.specs.Resolved.{Resolved}
-use Rattle.dt_draft.specs.declared.table.NodeRow.{NodeRow}
 use Rattle.dt_draft.specs.declared.table.PropertyRow.{PropertyRow}
-use Rattle.dt_draft.specs.Rows.{no_row, no_property, property_at, row_at, path_of, IsGrown}
-use Rattle.dt_draft.proofs.Climbs.{path-step}
+use Rattle.dt_draft.specs.Rows.{no_property, property_at, path_of}
 use Rattle.dt_assembly.specs.Sizes.{size_in}
 use Rattle.dt_assembly.proofs.SizesOfMaps.{size-append}
 use Rattle.dt_listing.specs.Listed.{Lent}
@@ -22,42 +19,6 @@ use Rattle.overlay_meaning.specs.Applied.{symbol_path}
 use Rattle.overlay_meaning.specs.Shifted.{Value}
 use Rattle.overlay_meaning.specs.Texts.{ended_path}
 use Rattle.dt_overlay.specs.Private.Symbols.{symbol_at}
-
--- ---- the node of symbols
-and-false : (b : Bool) → (b && false) ≡ false
-and-false true = refl
-and-false false = refl
-
-and-true : (b : Bool) → (b && true) ≡ b
-and-true true = refl
-and-true false = refl
-
-two-names : (q : Path) (n m : List ℕ) → same_path (symbols_name ∷ []) ((q ++ n ∷ []) ++ m ∷ []) ≡ false
-two-names [] n m = and-false (bytes_eq symbols_name n)
-two-names (x ∷ []) n m = and-false (bytes_eq symbols_name x)
-two-names (x ∷ y ∷ q) n m = and-false (bytes_eq symbols_name x)
-
-module _ (rows : List NodeRow) (grown : IsGrown rows) where
-  further-down : (k p : ℕ) → (row_at rows k).parent ≡ p → (p ≡ 0 → ⊥) → same_path (symbols_name ∷ []) (path_of rows (suc k)) ≡ false
-  further-down k zero is below = absurd (below refl)
-  further-down k (suc j) is below =
-      ap (same_path (symbols_name ∷ [])) (path-step rows grown k ∙ ap (λ n. path_of rows n ++ (row_at rows k).name.now ∷ []) is ∙ ap (λ q. q ++ (row_at rows k).name.now ∷ []) (path-step rows grown j))
-      ∙ two-names (path_of rows (row_at rows j).parent) (row_at rows j).name.now (row_at rows k).name.now
-
-  -- one row up
-  module _ (n k : ℕ) (d : NodeRow) (at : n ≡ suc k) (within : k < length rows) where
-    abbrev was : get_or rows k d ≡ row_at rows k
-    was = get_or_default rows k d no_row within
-
-    pub not-symbols : ((get_or rows k d).parent ≡ 0 → ⊥) → same_path (symbols_name ∷ []) (path_of rows n) ≡ false
-    not-symbols below = ap (λ m. same_path (symbols_name ∷ []) (path_of rows m)) at ∙ further-down k (row_at rows k).parent refl (λ e. below (ap (λ x. x.parent) was ∙ e))
-
-    pub by-name : (get_or rows k d).parent ≡ 0 → same_path (symbols_name ∷ []) (path_of rows n) ≡ bytes_eq symbols_name (get_or rows k d).name.now
-    by-name top =
-        ap (λ m. same_path (symbols_name ∷ []) (path_of rows m)) at
-        ∙ ap (same_path (symbols_name ∷ [])) (path-step rows grown k ∙ ap (λ m. path_of rows m ++ (row_at rows k).name.now ∷ []) (sym (ap (λ x. x.parent) was) ∙ top))
-        ∙ and-true (bytes_eq symbols_name (row_at rows k).name.now)
-        ∙ ap (λ (x : NodeRow). bytes_eq symbols_name x.name.now) (sym was)
 
 -- ---- the text of a path
 text-some : (b : ℕ) (bs : List ℕ) → text_or_root (b ∷ bs) ≡ b ∷ bs

@@ -13,13 +13,11 @@ ghost use Rattle.dt_overlay.specs.Private.Merging.{AreKept, ArePlaces, IsFirst, 
 
 use dt_draft::{Draft, PropertyRow};
 use dt_fixup::{OverlayError, Sheet};
+use dt_tree::MAX_DEPTH;
 use std::alloc::AllocError;
 
 /// What overlays add, as the one body that defines all rows.
 const BODY: usize = 1;
-
-/// The deepest that a node may lie.
-const MAX_DEPTH: usize = 64;
 
 /// Defines the nodes below the node `body` of the overlay, below the place of `body`, and notes the place of each. Answers the
 /// node behind them, and whether one of them lies too deep.

@@ -15,7 +15,7 @@ ghost use Rattle.dt_overlay.specs.Private.SymbolTargets.{AreTargets};
 use crate::symbol_target::symbol_target;
 use dt_draft::{Draft, NodeRow};
 use dt_fixup::Sheet;
-use dt_layout::names_size;
+use dt_layout::{is_root_child, names_size};
 
 /// How many bytes the symbols' values have together, or the greatest number where there are more. Takes no memory.
 pub(crate) fn symbols_size<'t>(
@@ -43,14 +43,7 @@ pub(crate) fn is_symbols_node(nodes: &[NodeRow<'_>], node: usize) -> bool
     requires known { node ≤ length nodes.now }
     ensures { result ≡ same_path (symbols_name ∷ []) (path_of nodes.now node) }
 {
-    if node == 0 {
-        return false;
-    }
-    let row = nodes[node - 1];
-    if row.parent != 0 {
-        return false;
-    }
-    row.name == b"__symbols__".as_slice()
+    is_root_child(nodes, node, b"__symbols__".as_slice())
 }
 
 // How many bytes the value of a symbol has that a row is for, or the greatest number where there are more.

@@ -1,5 +1,5 @@
 -- Numbers and targets together.
-use Rattle.std.proofs.Common.{◌≡◌, ℕ, suc, ◌==◌, ◌++◌, ◌&&◌, ◌||◌, not, Bool, true, false, if◌then◌else◌, List, [], ◌∷◌, length, map, Result, Ok, Err, refl, sym, ap, ap₂, ◌∙◌, subst, arith}
+use Rattle.std.proofs.Common.{◌≡◌, ℕ, ◌==◌, ◌++◌, ◌&&◌, ◌||◌, not, Bool, true, false, if◌then◌else◌, List, [], ◌∷◌, length, map, Result, Ok, Err, refl, sym, ap, ap₂, ◌∙◌, subst}
 use Rattle.std.specs.List.{list_any}
 use Rattle.std.specs.Prelude.{All}
 use Rattle.std.proofs.lemmas.List.{length-map}
@@ -9,7 +9,7 @@ use Rattle.dt_meaning.specs.Phandles.{Number, has_number, new_ones, numbered, la
 use Rattle.dt_meaning.specs.References.{Found, preorder}
 use Rattle.dt_draft.specs.declared.table.Draft.{Draft}
 use Rattle.dt_draft.specs.Index.{row_of}
-use Rattle.dt_draft.specs.Rows.{IsDraft, IsNode, is_standing, node_path, path_of, stands, state_of}
+use Rattle.dt_draft.specs.Rows.{IsDraft, IsNode, is_standing, node_path, path_of, state_of}
 use Rattle.dt_edit.specs.Said.{Parts, tree_of}
 use Rattle.dt_resolve.specs.declared.error.BuildError.{BuildError}
 use Rattle.dt_resolve.specs.declared.numbers.Numbered.{Numbered}
@@ -19,47 +19,14 @@ use Rattle.dt_resolve.specs.Numbers.{AreStanding, number_at}
 use Rattle.dt_resolve.specs.Targets.{AreFound}
 use Rattle.dt_resolve.specs.Private.Targets.{AreTargets}
 use Rattle.dt_resolve.specs.Private.Wanted.{free_after, labelled_rows, new_rows, numbered_rows}
-use Rattle.dt_layout.proofs.Each.{Each, each-all, each-append}
+use Rattle.dt_layout.proofs.Each.{Each, each-all, each-append, each-kept, each-of, each-when}
 use Rattle.dt_tree.specs.Phandle.{is_reserved}
-use Rattle.dt_draft.specs.declared.table.NodeRow.{NodeRow}
 use Rattle.std.specs.List.{filter}
 use Rattle.std.proofs.lemmas.List.{map-append}
 use Rattle.dt_meaning.specs.Paths.{same_path}
 use Rattle.dt_resolve.proofs.LabelledPaths.{labelled-same}
 use Rattle.dt_resolve.proofs.Faults.{fault-same}
-use Rattle.dt_resolve.proofs.PathNumbers.{EachStands, given-same, news-same, numbers-same}
-
-each-stands : (d : Draft Parts) (ns : List ℕ) → All (λ n. is_standing d n ≡ true) ns → EachStands d.nodes.items ns
-each-stands d [] all = tt
-each-stands d (n ∷ ns) all = (all 0 0 (omega arith), each-stands d ns (λ i x below. all (suc i) x (omega arith)))
-
-each-numbered : (d : Draft Parts) (xs : List Numbered) → All (λ x. stands d.nodes.items x.node ≡ true) xs → EachStands d.nodes.items (map (λ x. x.node) xs)
-each-numbered d [] all = tt
-each-numbered d (x ∷ xs) all = (all 0 x (omega arith), each-numbered d xs (λ i y below. all (suc i) y (omega arith)))
-
-stands-append : (rows : List NodeRow) (ms ns : List ℕ) → EachStands rows ms → EachStands rows ns → EachStands rows (ms ++ ns)
-stands-append rows [] ns a b = b
-stands-append rows (m ∷ ms) ns a b = (a.0, stands-append rows ms ns a.1 b)
-
-kept-by : (P : ℕ → Type 0) (t : ℕ → Bool) (n : ℕ) (ns : List ℕ) (b : Bool) → t n ≡ b → P n → Each P (filter t ns) → Each P (filter t (n ∷ ns))
-kept-by P t n ns true e h hs = rw e (h, hs)
-kept-by P t n ns false e h hs = rw e hs
-
-each-kept : (P : ℕ → Type 0) (t : ℕ → Bool) (ns : List ℕ) → Each P ns → Each P (filter t ns)
-each-kept P t [] h = tt
-each-kept P t (n ∷ ns) h = kept-by P t n ns (t n) refl h.0 (each-kept P t ns h.1)
-
-each-when : (P : ℕ → Type 0) (b : Bool) (ns : List ℕ) → Each P ns → Each P (if b then ns else [])
-each-when P true ns h = h
-each-when P false ns h = tt
-
-each-of : (P : ℕ → Type 0) (ns : List ℕ) → All P ns → Each P ns
-each-of P [] all = tt
-each-of P (n ∷ ns) all = (all 0 0 (omega arith), each-of P ns (λ i x below. all (suc i) x (omega arith)))
-
-as-stands : (rows : List NodeRow) (ns : List ℕ) → Each (λ n. stands rows n ≡ true) ns → EachStands rows ns
-as-stands rows [] h = tt
-as-stands rows (n ∷ ns) h = (h.0, as-stands rows ns h.1)
+use Rattle.dt_resolve.proofs.PathNumbers.{EachStands, each-numbered, given-same, news-same, numbers-same}
 
 -- what is named is a node
 pub named-within : (P : ℕ → Type 0) (d : Draft Parts) (symbols : Bool) (cells order : List ℕ) → All P cells → All P order → Each P (cells ++ (if symbols then labelled_rows d order else []))
@@ -86,11 +53,11 @@ module _ (d : Draft Parts) (sound : IsDraft d) (given : List Numbered) (up : Are
   wanted-same : map (path_of d.nodes.items) (new_rows (λ n. list_any (λ x. x.node == n) given) named) ≡ wanted symbols (tree_of d) xs es
   wanted-same =
       news-same d.nodes.items (row_of d.node_rows) sound.grown sound.nodes (λ n. list_any (λ x. x.node == n) given) (map (λ x. x.path) xs)
-      (given-same d.nodes.items (row_of d.node_rows) sound.grown sound.nodes given (each-numbered d given up.stand)) named
-      (as-stands d.nodes.items named (named-within (λ n. is_standing d n ≡ true) d symbols t.cells.items order known.there there))
+      (given-same d.nodes.items (row_of d.node_rows) sound.grown sound.nodes given (each-numbered d.nodes.items given up.stand)) named
+      (named-within (λ n. is_standing d n ≡ true) d symbols t.cells.items order known.there there)
       ∙ ap (new_ones (map (λ x. x.path) xs))
       (map-append (node_path d) t.cells.items (if symbols then labelled_rows d order else [])
-      ∙ ap₂ (λ a b. a ++ b) at.cells (when-labelled d sound symbols order (each-stands d order there) nodes))
+      ∙ ap₂ (λ a b. a ++ b) at.cells (when-labelled d sound symbols order (each-of (λ n. is_standing d n ≡ true) order there) nodes))
 
   pub all-numbered : (new : List Numbered) → new ≡ numbered_rows taken (length given) 0 (new_rows (λ n. list_any (λ x. x.node == n) given) named)
       → map (number_at d.nodes.items) new ≡ numbered xs 0 (wanted symbols (tree_of d) xs es)

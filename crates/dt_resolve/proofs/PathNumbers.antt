@@ -1,11 +1,13 @@
 -- Numbers by rows are numbers by paths.
 use Rattle.std.proofs.Common.{◌≡◌, ℕ, zero, suc, ◌+◌, ◌==◌, ◌||◌, Bool, true, false, List, [], ◌∷◌, length, map, if◌then◌else◌, refl, sym, ap, ap₂, ◌∙◌}
+use Rattle.std.specs.Prelude.{All}
 use Rattle.std.specs.List.{list_any}
 use Rattle.std.proofs.lemmas.Bool.{eqb-true, eq-eqb}
 use Rattle.dt_meaning.specs.Paths.{Path, is_listed}
 use Rattle.dt_meaning.specs.Phandles.{Number, numbered_at, has_number, new_ones, next_free, numbered}
 use Rattle.dt_draft.specs.declared.table.NodeRow.{NodeRow}
 use Rattle.dt_draft.specs.Rows.{Found, path_of, stands, IsGrown, IsNodeIndex}
+use Rattle.dt_layout.proofs.Each.{Each, each-of, each-same}
 use Rattle.dt_layout.proofs.Shows.{same-node}
 use Rattle.dt_resolve.specs.declared.numbers.Numbered.{Numbered}
 use Rattle.dt_resolve.specs.Numbers.{number_at}
@@ -37,8 +39,10 @@ pub turned : (a b : ℕ) → (a == b) ≡ (b == a)
 turned a b = turned-by a b (a == b) (b == a) refl refl
 
 abbrev pub EachStands : List NodeRow → List ℕ → Type 0
-EachStands rows [] = Unit {0}
-EachStands rows (n ∷ ns) = (stands rows n ≡ true) × EachStands rows ns
+EachStands rows ns = Each (λ n. stands rows n ≡ true) ns
+
+pub each-numbered : (rows : List NodeRow) (xs : List Numbered) → All (λ x. stands rows x.node ≡ true) xs → EachStands rows (map (λ x. x.node) xs)
+each-numbered rows xs all = each-same (λ n. stands rows n ≡ true) (λ (x : Numbered). x.node) xs (each-of (λ (x : Numbered). stands rows x.node ≡ true) xs all)
 
 module _ (rows : List NodeRow) (index : Found) (grown : IsGrown rows) (indexed : IsNodeIndex rows index) where
   new-by : (known : ℕ → Bool) (seen : List Path) (n : ℕ) (ns : List ℕ) (b : Bool) → map (path_of rows) (new_rows known ns) ≡ new_ones seen (map (path_of rows) ns)

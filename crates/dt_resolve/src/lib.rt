@@ -19,3 +19,4 @@ pub use numbers::{Given, Numbered};
 pub use prepared::{Prepared, prepare};
 pub use references::Targets;
 pub use resolving::Resolution;
+pub use wanted::numbered_nodes;

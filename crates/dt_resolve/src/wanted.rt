@@ -7,17 +7,21 @@ use crate::numbers::{Given, Numbered};
 use std::alloc::{AllocError, Global};
 use std::collections::BTreeSet;
 
-// Whether each node has a number from the source.
-fn numbered_nodes(alloc: Global, count: usize, given: &[Numbered]) -> Result<Vec<bool>, AllocError>
-    requires { All (λ x. x.node < count) given.now }
-    ensures count { IfOk result (λ known. length known.items ≡ count) }
-    ensures known { IfOk result (λ known. (n : ℕ) → slice_index_or known.items n false ≡ list_any (λ x. x.node == n) given.now) }
+/// Whether each node has one of these numbers.
+pub fn numbered_nodes(
+    alloc: Global,
+    count: usize,
+    numbers: &[Numbered],
+) -> Result<Vec<bool>, AllocError>
+    requires { All (λ x. x.node < count) numbers.now }
+    ensures count { IfOk result (λ marks. length marks.items ≡ count) }
+    ensures marks { IfOk result (λ marks. (n : ℕ) → slice_index_or marks.items n false ≡ list_any (λ x. x.node == n) numbers.now) }
 {
-    let mut known = vec![in alloc; false; count]?;
-    for one in given {
-        known[one.node] = true;
+    let mut marks = vec![in alloc; false; count]?;
+    for one in numbers {
+        marks[one.node] = true;
     }
-    Ok(known)
+    Ok(marks)
 }
 
 /// The nodes of a list that have no number from the source, each once, where it is first.

@@ -1,6 +1,6 @@
 -- The fragments that a plugin made so far (dt-object-internal, section 3).
 use Rattle.std.specs.Prelude.{◌≡◌, ℕ, List}
-use Rattle.dt_tree.specs.Seen.{has_name}
+use Rattle.dt_tree.specs.Private.Seen.{has_name}
 use Rattle.dt_meaning.specs.Names.{is_fragment}
 use Rattle.dt_edit.specs.declared.made.Made.{Made}
 

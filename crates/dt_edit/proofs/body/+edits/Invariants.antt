@@ -1,4 +1,5 @@
 use Rattle.std.proofs.Common.{◌+◌, ◌-◌, ◌*◌, List, drop}
+use Rattle.dt_tree.specs.declared.limits.TheConstants.{MAX_DEPTH}
 use Rattle.dt_source.specs.Tree.{views}
 use Rattle.dt_meaning.specs.Syntax.{Piece}
 use Rattle.dt_meaning.specs.Statements.{Progress}
@@ -10,12 +11,12 @@ abbrev pub invariant-edit_body-loop-statement : goal.invariant-edit_body-loop-st
 invariant-edit_body-loop-statement l =
     (x : Progress (List Piece)) × IsUnderWay x l.fn.draft l.draft l.node l.number l.made.count (body_of (views l.body)) (body_of (views (drop l.statement-index l.body)))
 
--- each body is one level deeper, down to 64
+-- each body is one level deeper, down to MAX_DEPTH
 abbrev pub decreases-edit : goal.decreases-edit
-decreases-edit l = (64 - l.depth) * 3 + 1
+decreases-edit l = (MAX_DEPTH - l.depth) * 3 + 1
 
 abbrev pub decreases-edit_child : goal.decreases-edit_child
-decreases-edit_child l = (64 - l.depth) * 3
+decreases-edit_child l = (MAX_DEPTH - l.depth) * 3
 
 abbrev pub decreases-edit_body : goal.decreases-edit_body
-decreases-edit_body l = (64 - l.depth) * 3 + 2
+decreases-edit_body l = (MAX_DEPTH - l.depth) * 3 + 2

@@ -2,8 +2,8 @@ use Rattle.std.proofs.Common.{◌≡◌, length, ap, arith}
 use Rattle.dt_draft.specs.Rows.{property_at}
 use Rattle.dt_fixup.proofs.reading.read_row.Goals as goal
 
-pub is_fixups-requires-clause-known : goal.is_fixups-requires-clause-known
-is_fixups-requires-clause-known c =
+pub is_root_child-requires-clause-known : goal.is_root_child-requires-clause-known
+is_root_child-requires-clause-known c =
     let d = c.args.draft.now in
     let ps = d.properties.items in
     let k = c.args.row in

@@ -1,4 +1,5 @@
 use Rattle.std.proofs.Common.{◌≡◌, ◌≤◌, ◌++◌, length, ℕ, List, sym, ap₂, ◌∙◌, subst, arith}
+use Rattle.dt_tree.specs.declared.limits.TheConstants.{MAX_DEPTH}
 use Rattle.dt_layout.specs.Private.Lists.{list_of}
 use Rattle.dt_layout.specs.Private.Walks.{children_to, rows_walk}
 use Rattle.dt_layout.proofs.Each.{Each, each-all}
@@ -18,5 +19,5 @@ pub returns : goal.returns
 returns c =
     let rows = c.args.nodes.now in
     c.in_ok-walk.ensures
-    ∙ ap₂ (λ xs f. xs ++ rows_walk 64 f 0) c.in_ok-order.ensures.items
+    ∙ ap₂ (λ xs f. xs ++ rows_walk MAX_DEPTH f 0) c.in_ok-order.ensures.items
     (same-function (list_of c.in_ok-below.below) (children_to rows (length rows)) c.in_ok-below.ensures.lists)

@@ -4,6 +4,6 @@ use Rattle.dt_resolve.proofs.wanted.numbered_nodes.Given as goal
 
 abbrev pub invariant-loop-one : goal.invariant-loop-one
 invariant-loop-one l = record {
-  count : length l.known.items ≡ l.count;
-  known : (n : ℕ) → slice_index_or l.known.items n false ≡ list_any (λ x. x.node == n) (take l.one-index l.given);
+  count : length l.marks.items ≡ l.count;
+  marks : (n : ℕ) → slice_index_or l.marks.items n false ≡ list_any (λ x. x.node == n) (take l.one-index l.numbers);
 }

@@ -1,4 +1,5 @@
 use Rattle.std.proofs.Common.{◌≡◌, ◌<◌, ◌++◌, ◌∷◌, [], ◌∙◌, ap, sym, length, false, subst, List}
+use Rattle.dt_tree.specs.declared.limits.TheConstants.{MAX_DEPTH}
 use Rattle.dt_tree.specs.NodeData.{NodeData}
 use Rattle.dt_meaning.specs.Paths.{is_listed}
 use Rattle.dt_assembly.specs.Lists.{lists_of, with_last}
@@ -11,7 +12,7 @@ invariant_of-result c =
     let inside = c.self.inside in
     grow-assembly inside.above.items c.push.new.self.items inside.last c.new.result c.args.name c.args.properties.items c.in_ok-push.ensures.items c.new.ensures
     c.check.ensures c.requires.properties
-    (subst (λ (bs : List NodeData). length (way_of bs) < 64) (sym c.self.view_is) c.requires.shallow)
+    (subst (λ (bs : List NodeData). length (way_of bs) < MAX_DEPTH) (sym c.self.view_is) c.requires.shallow)
     (subst (λ (bs : List NodeData). is_listed (way_of bs ++ c.args.name ∷ []) (lists_of (tree_of bs)).nodes ≡ false) (sym c.self.view_is) c.requires.new)
     c.self.invariant
 
