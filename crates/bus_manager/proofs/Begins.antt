@@ -7,7 +7,8 @@ use Rattle.std.proofs.lemmas.List.Elements.{All-head, All-tail}
 use Rattle.bus_core.specs.declared.event.Event.{Event}
 use Rattle.bus_core.specs.declared.event.Event.TheVariants.{Begin, Finish, Abandon}
 use Rattle.bus_core.specs.Replay.{device_of}
-use Rattle.bus_manager.specs.Events.{is_begin, is_abandon, is_begin_of, is_abandon_of}
+use Rattle.bus_manager.specs.Events.{is_begin, is_begin_of, is_abandon_of}
+use Rattle.bus_manager.specs.Private.Counts.{is_abandon}
 use Rattle.bus_manager.specs.Keeper.{KeeperValue, IsKept}
 
 -- what a test counts

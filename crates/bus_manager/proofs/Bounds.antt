@@ -16,7 +16,7 @@ use Rattle.bus_core.specs.Ready.{is_ready}
 use Rattle.bus_core.specs.Step.{begin_state, without_flight, finish_state, report_refusal, is_supplier, bound_at_begin, settled_at_begin, settle_of}
 use Rattle.bus_core.proofs.HistoryLemmas.{ready-weaker, bound-stays, is_settled-push}
 use Rattle.bus_manager.specs.Events.{is_begin_of, is_abandon_of}
-use Rattle.bus_manager.specs.KeeperView.{is_late, IsBounded}
+use Rattle.bus_manager.specs.Private.KeeperView.{is_late, IsBounded}
 use Rattle.bus_manager.proofs.Begins.{count-push, no-count, one-count}
 
 -- an event that is no begin of the device, after which it is late if it was before

@@ -9,8 +9,9 @@ use Rattle.bus_core.proofs.LeastLemmas.{quiet-least, quiet-status, quiet-text, e
 use Rattle.bus_board.specs.Ends.{EndsAs}
 use Rattle.bus_board.specs.declared.view.View.{View}
 use Rattle.bus_board.specs.declared.words.Word.{Word}
-use Rattle.bus_manager.specs.BoardEnd.{bound_by_words}
-use Rattle.bus_manager.specs.Notes.{has_settled, has_note, AreNotes}
+use Rattle.bus_manager.specs.Private.BoardEnd.{bound_by_words}
+use Rattle.bus_manager.specs.Notes.{has_settled, has_note}
+use Rattle.bus_manager.specs.Private.Notes.{AreNotes}
 use Rattle.bus_manager.specs.Run.{IsRun}
 
 pub run-ended : {N : Type 0} (attests : ℕ → N → Type 0) (plan : List PlannedDevice) (s : CoreState) (report : List ℕ) (notes : List (Option N))

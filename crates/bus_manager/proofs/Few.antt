@@ -12,7 +12,7 @@ use Rattle.bus_core.specs.Due.{is_due, is_idle}
 use Rattle.bus_core.specs.History.{bound_in}
 use Rattle.bus_core.specs.Ready.{is_ready}
 use Rattle.bus_core.specs.Step.{begin_refusal}
-use Rattle.bus_manager.specs.Events.{is_abandon}
+use Rattle.bus_manager.specs.Private.Counts.{is_abandon}
 use Rattle.bus_manager.specs.Keeper.{KeeperValue, IsKept, IsTakeRefused}
 use Rattle.bus_manager.proofs.Begins.{few-begins}
 

@@ -16,7 +16,7 @@ use Rattle.bus_board.specs.Views.{last_look, looked_in, newcomer}
 use Rattle.bus_board.specs.declared.view.View.{View}
 use Rattle.bus_board.specs.declared.view.Flight.{Flight}
 use Rattle.bus_board.proofs.Histories.{has_all}
-use Rattle.bus_manager.specs.Flying.{HasLooked, HasTaken, IsFree}
+use Rattle.bus_manager.specs.Private.Flying.{HasLooked, HasTaken, IsFree}
 use Rattle.bus_manager.specs.Seen.{sees}
 
 flight-same : (v : View) (f g : Flight) → v.flight ≡ Some f → v.flight ≡ Some g → f ≡ g

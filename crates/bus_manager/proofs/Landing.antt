@@ -16,9 +16,9 @@ use Rattle.bus_core.specs.CoreState.{CoreState, Flight, is_in_flight}
 use Rattle.bus_core.specs.Due.{is_due, is_quiet}
 use Rattle.bus_core.specs.Step.{begin_state, finish_state, abandon_refusal}
 use Rattle.bus_core.proofs.Lists.{emptied-get}
-use Rattle.bus_manager.specs.Alone.{IsLanded, IsDropped, IsDriven}
-use Rattle.bus_manager.specs.Events.{is_abandon}
-use Rattle.bus_manager.specs.Keeper.{open_flights, KeeperValue, IsKept, IsTaken, begun_keeper, finished_keeper, abandoned_keeper, abandons}
+use Rattle.bus_manager.specs.Private.Alone.{IsLanded, IsDropped, IsDriven}
+use Rattle.bus_manager.specs.Private.Counts.{is_abandon, open_flights, abandons}
+use Rattle.bus_manager.specs.Keeper.{KeeperValue, IsKept, IsTaken, begun_keeper, finished_keeper, abandoned_keeper}
 use Rattle.bus_manager.proofs.Begins.{count-push, one-count, few-begins}
 use Rattle.bus_manager.proofs.Steps.{flights-set}
 

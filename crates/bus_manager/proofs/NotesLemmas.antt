@@ -4,7 +4,8 @@ use Rattle.std.specs.Prelude.{is_some, replicate}
 use Rattle.std.proofs.lemmas.Bool.{cases_eq, cases_lt}
 use Rattle.std.proofs.lemmas.List.{get_or-set_same, get_or-set_other, get_or-replicate, get_or_past, length-replicate}
 use Rattle.bus_plan.specs.Plan.{PlannedDevice}
-use Rattle.bus_manager.specs.Notes.{has_note, AreNotes, IsNoted}
+use Rattle.bus_manager.specs.Notes.{has_note}
+use Rattle.bus_manager.specs.Private.Notes.{AreNotes, IsNoted}
 
 -- a place is written
 pub put-notes : {N : Type 0} (attests : ℕ → N → Type 0) (plan : List PlannedDevice) (old new : List (Option N)) (d : ℕ) (x : Option N)

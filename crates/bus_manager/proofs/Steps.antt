@@ -28,8 +28,9 @@ use Rattle.bus_core.specs.CoreState.{CoreValue, CoreState, Flight, flight_of, is
 use Rattle.bus_core.specs.Replay.{event_refusal, event_state, device_of, IsEventOf}
 use Rattle.bus_manager.specs.Events.{is_begin, is_of_due}
 use Rattle.bus_manager.specs.Keeper.{KeeperValue, IsKept, first_keeper}
-use Rattle.bus_manager.specs.KeeperView.{IsBounded, IsSoundKeeper}
-use Rattle.bus_manager.specs.Seen.{seen_after, sees}
+use Rattle.bus_manager.specs.Private.KeeperView.{IsBounded, IsSoundKeeper}
+use Rattle.bus_manager.specs.Seen.{sees}
+use Rattle.bus_manager.specs.Private.Seen.{seen_after}
 use Rattle.bus_manager.proofs.Bounds.{begin-bounded, abandon-bounded, missing-bounded, settled-bounded, or-false, cond-none}
 use Rattle.bus_manager.proofs.Begins.{count-push, no-count, one-count}
 use Rattle.bus_manager.proofs.ReplayEnd.{replay-push, due-push}

@@ -1,4 +1,5 @@
--- The events that a keeper has stored: which of them are begins and abandons, and whether each begin was of a due device.
+-- The events that a keeper has stored: which of them are begins, which of a device's are begins or abandons, and whether
+-- each begin was of a due device.
 use Rattle.std.specs.Prelude.{◌==◌, ℕ, Bool, true, false, ◌&&◌, List, [], ◌∷◌}
 use Rattle.bus_plan.specs.Plan.{PlannedDevice}
 use Rattle.bus_core.specs.declared.event.Event.{Event}
@@ -11,11 +12,6 @@ abbrev pub is_begin : Event → Bool
 is_begin (Begin d) = true
 is_begin (Finish d report) = false
 is_begin (Abandon d) = false
-
-abbrev pub is_abandon : Event → Bool
-is_abandon (Begin d) = false
-is_abandon (Finish d report) = false
-is_abandon (Abandon d) = true
 
 abbrev pub is_begin_of : ℕ → Event → Bool
 is_begin_of d (Begin e) = e == d

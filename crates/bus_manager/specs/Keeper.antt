@@ -1,5 +1,5 @@
 -- A keeper as contracts see it, and what holds of every keeper.
-use Rattle.std.specs.Prelude.{◌≡◌, ◌≤◌, ◌+◌, ◌⊎◌, ℕ, Bool, true, List, [], ◌∷◌, ◌++◌, Some, None, Ok, is_some, length, count_by, All}
+use Rattle.std.specs.Prelude.{◌≡◌, ◌≤◌, ◌+◌, ◌⊎◌, ℕ, Bool, true, List, [], ◌∷◌, ◌++◌, Some, None, Ok, length, count_by, All}
 use Rattle.bus_plan.specs.Plan.{PlannedDevice}
 use Rattle.bus_core.specs.declared.event.Event.{Event}
 use Rattle.bus_core.specs.declared.event.Event.TheVariants.{Begin, Finish, Abandon}
@@ -12,7 +12,7 @@ use Rattle.bus_core.specs.Due.{is_due}
 use Rattle.bus_core.specs.History.{bound_in}
 use Rattle.bus_core.specs.Replay.{replay_of, IsEventOf}
 use Rattle.bus_core.specs.Step.{begin_refusal, begin_state, finish_state, without_flight}
-use Rattle.bus_manager.specs.Events.{is_begin, is_abandon, is_begin_of, is_abandon_of, are_of_due}
+use Rattle.bus_manager.specs.Events.{is_begin, is_begin_of, is_abandon_of, are_of_due}
 use Rattle.bus_manager.specs.Seen.{sees}
 
 -- a core's plan and state, with the events that it accepted
@@ -30,12 +30,6 @@ pub record IsKept (k : KeeperValue) : Type 0 where
   pub within : All (IsEventOf k.plan) k.events
   pub counted : k.state.begins ≡ count_by is_begin k.events
   pub places : length k.state.flights ≡ length k.plan
-
-abbrev pub abandons : KeeperValue → ℕ
-abandons k = count_by is_abandon k.events
-
-abbrev pub open_flights : CoreState → ℕ
-open_flights s = count_by is_some s.flights
 
 -- the keepers before any event, and after each kind of event
 abbrev pub first_keeper : List PlannedDevice → KeeperValue

@@ -1,13 +1,9 @@
-pub mod Alone
-pub mod BoardEnd
 pub mod Events
-pub mod Flying
 pub mod Keeper
-pub mod KeeperView
 pub mod Notes
 pub mod Prober
+pub mod Private
 pub mod Run
 pub mod RunError
 pub mod Seen
 pub mod TableProber
-pub mod Turn

@@ -3,9 +3,9 @@
 ghost use Rattle.std.specs.Prelude.{◌≡◌, ◌≤◌, ◌<◌, ◌+◌, true, false, length, IfOk, IfErr, OnOk};
 ghost use Rattle.bus_core.specs.Due.{is_quiet};
 ghost use Rattle.bus_core.specs.declared.refusal.Refusal.TheVariants.{NoMemory};
-ghost use Rattle.bus_manager.specs.Alone.{IsLanded, IsDropped, IsDriven};
-ghost use Rattle.bus_manager.specs.Keeper.{abandons};
-ghost use Rattle.bus_manager.specs.Notes.{AreNotes};
+ghost use Rattle.bus_manager.specs.Private.Alone.{IsLanded, IsDropped, IsDriven};
+ghost use Rattle.bus_manager.specs.Private.Counts.{abandons};
+ghost use Rattle.bus_manager.specs.Private.Notes.{AreNotes};
 ghost use Rattle.bus_manager.specs.Run.{IsRun};
 
 use crate::keeper::Keeper;

@@ -5,9 +5,10 @@ ghost use Rattle.bus_core.specs.Report.{end_status};
 ghost use Rattle.bus_core.specs.declared.refusal.Refusal.TheVariants.{NoMemory};
 ghost use Rattle.bus_board.specs.Ends.{EndsAs};
 ghost use Rattle.bus_board.specs.declared.view.View.{View};
-ghost use Rattle.bus_manager.specs.BoardEnd.{bound_by_words};
-ghost use Rattle.bus_manager.specs.Flying.{IsFree};
-ghost use Rattle.bus_manager.specs.Notes.{has_settled, has_note, AreNotes};
+ghost use Rattle.bus_manager.specs.Private.BoardEnd.{bound_by_words};
+ghost use Rattle.bus_manager.specs.Private.Flying.{IsFree};
+ghost use Rattle.bus_manager.specs.Notes.{has_settled, has_note};
+ghost use Rattle.bus_manager.specs.Private.Notes.{AreNotes};
 ghost use Rattle.bus_manager.specs.Run.{IsRun};
 
 use crate::alone::finish_alone;

@@ -5,7 +5,7 @@ ghost use Rattle.std.specs.List.{list_all};
 ghost use Rattle.bus_plan.specs.Plan.{suppliers_of};
 ghost use Rattle.bus_core.specs.Due.{devices};
 ghost use Rattle.bus_core.specs.Report.{end_line, end_status, end_text, line_of, missing_supplier};
-ghost use Rattle.bus_manager.specs.BoardEnd.{bound_by_words};
+ghost use Rattle.bus_manager.specs.Private.BoardEnd.{bound_by_words};
 
 use bus_board::Word;
 use bus_core::{Status, push_line};

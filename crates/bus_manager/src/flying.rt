@@ -3,7 +3,7 @@
 ghost use Rattle.std.specs.Prelude.{◌≡◌, ◌<◌, ◌+◌, All, IfSome, IfNone, Some, None, [], length, slice_get};
 ghost use Rattle.bus_plan.specs.Plan.{suppliers_of};
 ghost use Rattle.bus_board.specs.Shown.{IsOf};
-ghost use Rattle.bus_manager.specs.Flying.{HasLooked, HasTaken, IsFree};
+ghost use Rattle.bus_manager.specs.Private.Flying.{HasLooked, HasTaken, IsFree};
 ghost use Rattle.bus_manager.specs.Prober.{IsLawfulReport};
 ghost use Rattle.bus_manager.specs.Seen.{sees};
 

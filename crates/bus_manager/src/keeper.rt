@@ -6,8 +6,9 @@ ghost use Rattle.bus_core.specs.Due.{is_due};
 ghost use Rattle.bus_core.specs.Report.{report_text};
 ghost use Rattle.bus_core.specs.Step.{finish_refusal, finish_reply, abandon_refusal};
 ghost use Rattle.bus_core.specs.declared.refusal.Refusal.TheVariants.{NoMemory};
-ghost use Rattle.bus_manager.specs.Keeper.{IsKept, open_flights, first_keeper, finished_keeper, abandoned_keeper, IsTaken, IsTakeRefused};
-ghost use Rattle.bus_manager.specs.Seen.{seen_after};
+ghost use Rattle.bus_manager.specs.Keeper.{IsKept, first_keeper, finished_keeper, abandoned_keeper, IsTaken, IsTakeRefused};
+ghost use Rattle.bus_manager.specs.Private.Counts.{open_flights};
+ghost use Rattle.bus_manager.specs.Private.Seen.{seen_after};
 
 use crate::seen::Seen;
 use bus_core::{Core, Event, Refusal, Reply, Report, Ticket};
@@ -30,7 +31,7 @@ impl Model for Keeper {
 
     ghost Value = { KeeperValue };
 
-    ghost use Rattle.bus_manager.specs.KeeperView.{keeper_value, IsKeeper};
+    ghost use Rattle.bus_manager.specs.Private.KeeperView.{keeper_value, IsKeeper};
 
     ghost view = { keeper_value };
 

@@ -3,9 +3,8 @@
 ghost use Rattle.std.specs.Prelude.{◌≡◌, ◌<◌, length, count_by, IfOk, IfErr, IfSome, List, []};
 ghost use Rattle.bus_core.specs.declared.refusal.Refusal.TheVariants.{NoMemory};
 ghost use Rattle.bus_plan.specs.Plan.{PlannedDevice};
-ghost use Rattle.bus_manager.specs.Events.{is_abandon};
-ghost use Rattle.bus_manager.specs.Keeper.{abandons};
-ghost use Rattle.bus_manager.specs.Turn.{IsTurn};
+ghost use Rattle.bus_manager.specs.Private.Counts.{is_abandon, abandons};
+ghost use Rattle.bus_manager.specs.Private.Turn.{IsTurn};
 
 use crate::keeper::Keeper;
 use crate::seen::Seen;

@@ -2,7 +2,8 @@
 
 ghost use Rattle.std.specs.Prelude.{◌≡◌, ◌<◌, ℕ, length, replicate, slice_set, All, IfOk, None};
 ghost use Rattle.bus_core.specs.Report.{status_of};
-ghost use Rattle.bus_manager.specs.Notes.{has_settled, has_note, AreNotes, IsNoted};
+ghost use Rattle.bus_manager.specs.Notes.{has_settled, has_note};
+ghost use Rattle.bus_manager.specs.Private.Notes.{AreNotes, IsNoted};
 
 use crate::keeper::Keeper;
 use crate::prober::Prober;

@@ -33,8 +33,9 @@ fn is_allowed(workers: usize) -> bool
     workers <= MAX_WORKERS
 }
 
-/// Probes the devices of a plan by so many workers, 1 to 64, over a board: no worker waits for another. The report is the
-/// same for every interleaving. Where memory runs out for a worker it leaves, and the others, at last the caller alone, go on.
+/// Probes the devices of a plan by so many workers, 1 to `MAX_WORKERS`, over a board: no worker waits for another. The
+/// report is the same for every interleaving. Where memory runs out for a worker it leaves, and the others, at last the
+/// caller alone, go on.
 pub fn run<P: Prober, R: Threads + Wait + Sync>(
     rt: &R,
     alloc: Global,

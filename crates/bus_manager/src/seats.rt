@@ -2,8 +2,8 @@
 
 ghost use Rattle.std.specs.Prelude.{◌≡◌, All, IfOk, IfErr};
 ghost use Rattle.bus_core.specs.declared.refusal.Refusal.TheVariants.{NoMemory};
-ghost use Rattle.bus_manager.specs.Flying.{IsFree};
-ghost use Rattle.bus_manager.specs.Notes.{AreNotes};
+ghost use Rattle.bus_manager.specs.Private.Flying.{IsFree};
+ghost use Rattle.bus_manager.specs.Private.Notes.{AreNotes};
 
 use crate::flying::work;
 use crate::notes::place_some;

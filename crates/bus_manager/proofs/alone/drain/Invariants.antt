@@ -1,7 +1,7 @@
 use Rattle.std.proofs.Common.{◌≡◌, ◌≤◌, ◌-◌, length}
-use Rattle.bus_manager.specs.Alone.{most_begins, IsLanded}
-use Rattle.bus_manager.specs.Keeper.{abandons}
-use Rattle.bus_manager.specs.Notes.{AreNotes}
+use Rattle.bus_manager.specs.Private.Alone.{most_begins, IsLanded}
+use Rattle.bus_manager.specs.Private.Counts.{abandons}
+use Rattle.bus_manager.specs.Private.Notes.{AreNotes}
 use Rattle.bus_manager.proofs.alone.drain.Given as goal
 
 abbrev pub invariant-driving : goal.invariant-driving

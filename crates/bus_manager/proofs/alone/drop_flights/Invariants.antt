@@ -1,6 +1,6 @@
 use Rattle.std.proofs.Common.{◌≡◌, ◌<◌, ◌≤◌, ◌+◌, ℕ, false}
 use Rattle.bus_core.specs.CoreState.{is_in_flight}
-use Rattle.bus_manager.specs.Keeper.{abandons}
+use Rattle.bus_manager.specs.Private.Counts.{abandons}
 use Rattle.bus_manager.proofs.alone.drop_flights.Given as goal
 
 abbrev pub invariant-loop-index : goal.invariant-loop-index

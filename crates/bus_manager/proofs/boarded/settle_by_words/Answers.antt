@@ -1,6 +1,6 @@
 use Rattle.std.proofs.Common.{ap, ◌∙◌}
 use Rattle.bus_core.specs.Report.{end_status}
-use Rattle.bus_manager.specs.BoardEnd.{bound_by_words}
+use Rattle.bus_manager.specs.Private.BoardEnd.{bound_by_words}
 use Rattle.bus_manager.specs.Notes.{has_settled}
 use Rattle.bus_manager.proofs.NotesLemmas.{noted-more}
 use Rattle.bus_manager.proofs.boarded.settle_by_words.Goals as goal

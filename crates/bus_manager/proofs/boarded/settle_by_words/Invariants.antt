@@ -1,7 +1,8 @@
 use Rattle.std.proofs.Common.{◌≡◌, ◌<◌, ℕ}
 use Rattle.bus_core.specs.Report.{end_status}
-use Rattle.bus_manager.specs.BoardEnd.{bound_by_words}
-use Rattle.bus_manager.specs.Notes.{has_settled, has_note, AreNotes}
+use Rattle.bus_manager.specs.Private.BoardEnd.{bound_by_words}
+use Rattle.bus_manager.specs.Notes.{has_settled, has_note}
+use Rattle.bus_manager.specs.Private.Notes.{AreNotes}
 use Rattle.bus_manager.proofs.boarded.settle_by_words.Given as goal
 
 abbrev pub invariant-loop-index : goal.invariant-loop-index

@@ -1,6 +1,6 @@
 use Rattle.bus_core.specs.Report.{end_line}
 use Rattle.bus_core.proofs.ReportLemmas.{lines_more}
-use Rattle.bus_manager.specs.BoardEnd.{bound_by_words}
+use Rattle.bus_manager.specs.Private.BoardEnd.{bound_by_words}
 use Rattle.bus_manager.proofs.end_report.device_lines.Goals as goal
 
 pub loop-index-preserved : goal.loop-index-preserved

@@ -1,7 +1,7 @@
 use Rattle.std.proofs.Common.{◌<◌, not, length}
 use Rattle.bus_plan.specs.Plan.{suppliers_of}
 use Rattle.bus_core.proofs.ReportLemmas.{find-all}
-use Rattle.bus_manager.specs.BoardEnd.{bound_by_words}
+use Rattle.bus_manager.specs.Private.BoardEnd.{bound_by_words}
 use Rattle.bus_manager.proofs.end_report.named_supplier.Goals as goal
 
 pub returns-in-Waiting-clause-within : goal.returns-in-Waiting-clause-within

@@ -2,7 +2,7 @@ use Rattle.std.proofs.Common.{◌≡◌, [], length}
 use Rattle.bus_plan.specs.Plan.{suppliers_of}
 use Rattle.bus_plan.specs.declared.limits.TheConstants.{MAX_DEVICES}
 use Rattle.bus_board.specs.Shown.{IsOf}
-use Rattle.bus_manager.specs.Flying.{HasLooked}
+use Rattle.bus_manager.specs.Private.Flying.{HasLooked}
 use Rattle.bus_manager.proofs.flying.look_round.Given as goal
 
 abbrev pub invariant-loop-index : goal.invariant-loop-index

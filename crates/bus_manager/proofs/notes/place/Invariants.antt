@@ -1,5 +1,5 @@
 use Rattle.std.proofs.Common.{All, vec_len}
-use Rattle.bus_manager.specs.Notes.{AreNotes}
+use Rattle.bus_manager.specs.Private.Notes.{AreNotes}
 use Rattle.bus_manager.proofs.notes.place.Given as goal
 
 abbrev pub invariant-placing : goal.invariant-placing

@@ -1,6 +1,7 @@
 use Rattle.std.proofs.Common.{◌≡◌, ◌<◌, ℕ}
 use Rattle.bus_core.specs.Report.{status_of}
-use Rattle.bus_manager.specs.Notes.{has_settled, has_note, AreNotes}
+use Rattle.bus_manager.specs.Notes.{has_settled, has_note}
+use Rattle.bus_manager.specs.Private.Notes.{AreNotes}
 use Rattle.bus_manager.proofs.notes.settle_notes.Given as goal
 
 abbrev pub invariant-loop-index : goal.invariant-loop-index

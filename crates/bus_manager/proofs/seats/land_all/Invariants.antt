@@ -1,6 +1,6 @@
 use Rattle.std.proofs.Common.{All, vec_len}
-use Rattle.bus_manager.specs.Flying.{IsFree}
-use Rattle.bus_manager.specs.Notes.{AreNotes}
+use Rattle.bus_manager.specs.Private.Flying.{IsFree}
+use Rattle.bus_manager.specs.Private.Notes.{AreNotes}
 use Rattle.bus_manager.proofs.seats.land_all.Given as goal
 
 abbrev pub invariant-landing : goal.invariant-landing

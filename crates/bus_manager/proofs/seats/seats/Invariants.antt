@@ -1,5 +1,5 @@
 use Rattle.std.proofs.Common.{All}
-use Rattle.bus_manager.specs.Flying.{IsFree}
+use Rattle.bus_manager.specs.Private.Flying.{IsFree}
 use Rattle.bus_manager.proofs.seats.seats.Given as goal
 
 abbrev pub invariant-loop-seat : goal.invariant-loop-seat

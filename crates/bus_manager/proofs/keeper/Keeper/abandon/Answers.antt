@@ -2,7 +2,7 @@ use Rattle.std.proofs.Common.{◌≡◌, ◌<◌, ◌-◌, None, length, ap, sym
 use Rattle.std.proofs.lemmas.List.{length_push}
 use Rattle.bus_core.specs.declared.event.Event.TheVariants.{Abandon}
 use Rattle.bus_core.specs.Step.{abandon_refusal, without_flight}
-use Rattle.bus_manager.specs.KeeperView.{IsSoundKeeper}
+use Rattle.bus_manager.specs.Private.KeeperView.{IsSoundKeeper}
 use Rattle.bus_manager.proofs.Steps.{abandoned-sound}
 use Rattle.bus_manager.proofs.keeper.Keeper.abandon.Goals as goal
 

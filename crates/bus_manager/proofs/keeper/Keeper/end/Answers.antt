@@ -3,8 +3,8 @@ use Rattle.std.proofs.lemmas.List.{length_push}
 use Rattle.bus_plan.specs.declared.limits.TheConstants.{MAX_DEVICES}
 use Rattle.bus_core.specs.declared.event.Event.TheVariants.{Finish}
 use Rattle.bus_core.specs.Step.{finish_refusal, finish_state, finish_reply}
-use Rattle.bus_manager.specs.KeeperView.{IsSoundKeeper}
-use Rattle.bus_manager.specs.Seen.{seen_after}
+use Rattle.bus_manager.specs.Private.KeeperView.{IsSoundKeeper}
+use Rattle.bus_manager.specs.Private.Seen.{seen_after}
 use Rattle.bus_manager.proofs.Steps.{finished-sound}
 use Rattle.bus_manager.proofs.keeper.Keeper.end.Goals as goal
 

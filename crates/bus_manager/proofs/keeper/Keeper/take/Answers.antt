@@ -2,7 +2,7 @@ use Rattle.std.proofs.Common.{◌≡◌, ◌+◌, ◌∷◌, [], ◌++◌, None,
 use Rattle.std.proofs.lemmas.List.{length_push}
 use Rattle.bus_core.specs.declared.event.Event.TheVariants.{Begin}
 use Rattle.bus_core.specs.Step.{begin_refusal, begin_state}
-use Rattle.bus_manager.specs.KeeperView.{IsSoundKeeper}
+use Rattle.bus_manager.specs.Private.KeeperView.{IsSoundKeeper}
 use Rattle.bus_manager.proofs.Steps.{begun-sound}
 use Rattle.bus_manager.proofs.keeper.Keeper.take.Goals as goal
 

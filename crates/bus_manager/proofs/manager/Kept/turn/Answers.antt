@@ -1,6 +1,6 @@
 use Rattle.std.proofs.Common.{length, ap, sym, ◌∙◌, arith}
 use Rattle.std.specs.Prelude.{nat_lt}
-use Rattle.bus_manager.specs.Keeper.{open_flights}
+use Rattle.bus_manager.specs.Private.Counts.{open_flights}
 use Rattle.bus_manager.proofs.Few.{only-memory}
 use Rattle.bus_manager.proofs.Landing.{unflown-quiet}
 use Rattle.bus_manager.proofs.manager.Kept.turn.Goals as goal

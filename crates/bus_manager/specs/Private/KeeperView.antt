@@ -9,7 +9,8 @@ use Rattle.bus_core.specs.Step.{bound_at_begin}
 use Rattle.bus_core.specs.declared.event.Event.{Event}
 use Rattle.bus_manager.specs.declared.keeper.Keeper.TheInside.{Inside}
 use Rattle.bus_manager.specs.Events.{is_begin_of, is_abandon_of}
-use Rattle.bus_manager.specs.Keeper.{KeeperValue, IsKept, open_flights}
+use Rattle.bus_manager.specs.Keeper.{KeeperValue, IsKept}
+use Rattle.bus_manager.specs.Private.Counts.{open_flights}
 use Rattle.bus_manager.specs.Seen.{sees}
 
 -- a device that has settled, or is in a flight at whose begin all its suppliers were bound: it isn't begun again, unless

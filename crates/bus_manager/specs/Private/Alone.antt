@@ -2,7 +2,8 @@
 use Rattle.std.specs.Prelude.{◌≡◌, ◌<◌, ◌≤◌, ◌+◌, ◌*◌, ℕ, false, length}
 use Rattle.bus_plan.specs.declared.limits.TheConstants.{MAX_DEVICES}
 use Rattle.bus_core.specs.CoreState.{is_in_flight}
-use Rattle.bus_manager.specs.Keeper.{KeeperValue, abandons}
+use Rattle.bus_manager.specs.Keeper.{KeeperValue}
+use Rattle.bus_manager.specs.Private.Counts.{abandons}
 
 -- no device of the plan is in flight
 abbrev pub IsLanded : KeeperValue → Type 0
