@@ -88,14 +88,10 @@ fn overlays_are_refused(rt: HostRuntime) -> Result<(), Fail> {
             "/dts-v1/;/{f{target-path=\"/b\"; __overlay__{};};};",
             "error 41 NoTarget",
         ),
-        (
-            42,
-            "/dts-v1/;/{f{target=<0>; __overlay__{};}; __fixups__{b=\"/f:target:0\";};};",
-            "error 42 UnknownSymbol",
-        ),
+        (42, "/dts-v1/;/plugin/;&b{};", "error 42 UnknownSymbol"),
         (
             43,
-            "/dts-v1/;/{f{target=<0>; __overlay__{};}; __fixups__{a=\"/f:target\";};};",
+            "/dts-v1/;/{f{target=<0>; __overlay__{};}; __fixups__{b=\"/f:target\";};};",
             "error 43 BadFixup",
         ),
         (

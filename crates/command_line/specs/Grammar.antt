@@ -1,0 +1,49 @@
+-- What the command line may say: each subcommand with its arguments, as clap's definitions have them.
+use Rattle.std.specs.Prelude.{ℕ, [], ◌∷◌, Some, true, codes}
+use Rattle.bus_manager.specs.declared.running.TheConstants.{MAX_WORKERS}
+use Rattle.clap.specs.declared.builder.action.ArgAction.TheVariants.{SetTrue}
+use Rattle.clap.specs.declared.builder.value_parser.ValueParser.TheVariants.{Unsigned}
+use Rattle.clap.specs.Words.{App, Rule, Text, new_app, new_rule, with_rule, with_subcommand}
+
+-- an argument that has to be there
+abbrev pub required : Text → Rule
+required id = record (new_rule id) { required = true }
+
+abbrev pub dump : App
+dump = with_rule (new_app (codes "dump")) (required (codes "IN"))
+
+-- an option without a value
+abbrev pub flag : Text → Rule
+flag id = record (new_rule id) { long = Some id; action = Some SetTrue }
+
+-- an option with a number from 1 to the most, and the number where it isn't given
+abbrev pub number : Text → ℕ → Text → Rule
+number id most default = record (new_rule id) { long = Some id; parser = Some (Unsigned 1 most); defaults = default ∷ [] }
+
+abbrev pub compile : App
+compile = with_rule (with_rule (with_rule (new_app (codes "compile")) (required (codes "IN"))) (required (codes "OUT"))) (flag (codes "symbols"))
+
+abbrev pub overlay : App
+overlay = with_rule (with_rule (with_rule (new_app (codes "overlay")) (required (codes "BASE"))) (required (codes "OVERLAY"))) (required (codes "OUT"))
+
+abbrev pub plan : App
+plan = with_rule (with_rule (with_rule (new_app (codes "plan")) (required (codes "BLOB"))) (required (codes "DRIVERS"))) (flag (codes "dot"))
+
+abbrev pub replay : App
+replay = with_rule (with_rule (new_app (codes "replay")) (required (codes "PLAN"))) (required (codes "SCHEDULE"))
+
+abbrev pub probe : App
+probe = with_rule (with_rule (with_rule (new_app (codes "probe")) (required (codes "BLOB"))) (required (codes "DRIVERS"))) (number (codes "workers") MAX_WORKERS (codes "4"))
+
+abbrev pub explain : App
+explain = with_rule (new_app (codes "explain")) (required (codes "NUMBER"))
+
+-- the program, with a version, which wants a subcommand
+abbrev pub top : App
+top = let a = new_app (codes "dtman") in record a { top = record a.top { has_version = true; subcommand_required = true } }
+
+unfoldable pub dtman : App
+dtman =
+    with_subcommand
+    (with_subcommand (with_subcommand (with_subcommand (with_subcommand (with_subcommand (with_subcommand top compile.top) overlay.top) dump.top) plan.top) replay.top) probe.top)
+    explain.top

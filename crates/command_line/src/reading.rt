@@ -1,0 +1,92 @@
+//! The command line, read by `clap`.
+ghost use Rattle.std.specs.Prelude.{◌≡◌, ◌≤◌, IfOk, IfSome, codes, map};
+ghost use Rattle.clap.specs.Words.{app_of, first_of, one_of, found_of, rows_of};
+ghost use Rattle.clap.specs.Simple.{subcommand_rows_of};
+ghost use Rattle.command_line.specs.CommandLine.{Meets, Says, is_on, IsNumber};
+
+use crate::grammar::grammar;
+use crate::subcommand::Command;
+use bus_manager::MAX_WORKERS;
+use clap::error::ErrorKind;
+use clap::{ArgMatches, Error};
+use std::alloc::Global;
+
+/// Reads the words of a command line, of which the first is the program's name.
+pub fn command<'a>(alloc: Global, words: &'a [&'a str]) -> Result<Command<'a>, Error>
+    ensures { IfOk result (λ command. Says command (map (λ word. word.now) words.entry.now)) }
+{
+    let mut grammar = grammar(alloc)?;
+    let matches = grammar.try_get_matches_from_mut(words)?;
+    match chosen(&matches) {
+        Some(command) => Ok(command),
+        None => {
+            let error = grammar.error(ErrorKind::MissingSubcommand, "a subcommand is required")?;
+            Err(error)
+        }
+    }
+}
+
+/// The subcommand that was met. A parse that succeeds has one, with its paths.
+fn chosen<'a>(matches: &ArgMatches<'a>) -> Option<Command<'a>>
+    ensures { IfSome result (λ command. Meets command (subcommand_rows_of matches.now)) }
+{
+    let (name, given) = matches.subcommand()?;
+    match name {
+        "compile" => Some(Command::Compile {
+            source: given.get_str("IN")?,
+            out: given.get_str("OUT")?,
+            symbols: is_on(given, "symbols"),
+        }),
+        "overlay" => Some(Command::Overlay {
+            base: given.get_str("BASE")?,
+            overlay: given.get_str("OVERLAY")?,
+            out: given.get_str("OUT")?,
+        }),
+        "dump" => Some(Command::Dump {
+            blob: given.get_str("IN")?,
+        }),
+        "plan" => Some(Command::Plan {
+            blob: given.get_str("BLOB")?,
+            drivers: given.get_str("DRIVERS")?,
+            dot: is_on(given, "dot"),
+        }),
+        "probe" => Some(Command::Probe {
+            blob: given.get_str("BLOB")?,
+            drivers: given.get_str("DRIVERS")?,
+            workers: workers(given)?,
+        }),
+        "replay" => Some(Command::Replay {
+            plan: given.get_str("PLAN")?,
+            schedule: given.get_str("SCHEDULE")?,
+        }),
+        "explain" => Some(Command::Explain {
+            number: given.get_str("NUMBER")?,
+        }),
+        _ => None,
+    }
+}
+
+/// Whether an option without a value was given.
+fn is_on(given: &ArgMatches<'_>, name: &str) -> bool
+    ensures { result ≡ is_on (first_of name.now (rows_of (found_of given.now))) }
+{
+    match given.get_str(name) {
+        Some(text) => text == "true",
+        None => false,
+    }
+}
+
+/// The number of workers. That it is in the range of the grammar is tested here once more, as the range of an option is
+/// said of a parse and not of what its getters answer.
+fn workers(given: &ArgMatches<'_>) -> Option<u8>
+    ensures { IfSome result (λ number. IsNumber (one_of (codes "workers") (rows_of (found_of given.now))) number × (1 ≤ number) × (number ≤ MAX_WORKERS)) }
+{
+    let number = given.get_one::<u8>("workers")?;
+    if number < 1 {
+        return None;
+    }
+    if number as usize > MAX_WORKERS {
+        return None;
+    }
+    Some(number)
+}

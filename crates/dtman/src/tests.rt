@@ -1,9 +1,0 @@
-//! What the command line means, and what the program does with files and standard output over memory.
-
-mod clock_and_uart;
-mod compiling;
-mod overlaying;
-mod probing;
-mod shelf;
-mod statuses;
-mod words;

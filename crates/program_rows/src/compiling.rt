@@ -1,0 +1,70 @@
+//! `compile` over files in memory: what stands in OUT, and when it is opened at all.
+
+use super::shelf::Shelf;
+use super::statuses::run_over;
+use std::hash::RandomState;
+use std::test::Fail;
+
+const FILES: [(&str, &[u8]); 3] = [
+    ("board.dts", b"/dts-v1/; / { };"),
+    ("bad.dts", b"/dts-v1/; / {"),
+    ("lost.dts", b"/dts-v1/; / { r = <&nix>; };"),
+];
+
+/// The blob of an empty root.
+const BLOB: &[u8] =
+    b"\xd0\x0d\xfe\xed\0\0\0\x48\0\0\0\x38\0\0\0\x48\0\0\0\x28\0\0\0\x11\0\0\0\x10\0\0\0\0\0\0\0\0\0\0\0\x10\
+\0\0\0\0\0\0\0\0\0\0\0\0\0\0\0\0\0\0\0\x01\0\0\0\0\0\0\0\x02\0\0\0\x09";
+
+#[test]
+fn compiles_to_a_file(rt: HostRuntime) -> Result<(), Fail> {
+    let rows: [(&[&str], u8, &str, &[u8]); 7] = [
+        (&["dtman", "compile", "board.dts", "out"], 0, "", BLOB),
+        (
+            &["dtman", "compile", "--symbols", "board.dts", "out"],
+            0,
+            "",
+            BLOB,
+        ),
+        (
+            &["dtman", "compile", "bad.dts", "out"],
+            1,
+            "error 10 Syntax line 1\n",
+            b"",
+        ),
+        (
+            &["dtman", "compile", "lost.dts", "out"],
+            1,
+            "error 20 UnknownLabel\n",
+            b"",
+        ),
+        (
+            &["dtman", "compile", "nix.dts", "out"],
+            3,
+            "error 80 CannotRead nix.dts\n",
+            b"",
+        ),
+        (
+            &["dtman", "compile", "board.dts", "locked"],
+            3,
+            "error 81 CannotWrite locked\n",
+            b"",
+        ),
+        // OUT isn't opened where the source is refused.
+        (
+            &["dtman", "compile", "bad.dts", "locked"],
+            1,
+            "error 10 Syntax line 1\n",
+            b"",
+        ),
+    ];
+    for (words, status, told, written) in rows {
+        let mut shelf = Shelf::new(rt.alloc(), FILES.as_slice(), RandomState::new(&rt)?);
+        let traces = run_over(&rt, words, &mut shelf, None);
+        assert_eq!(rt; traces.errors.as_bytes(), told.as_bytes());
+        assert_eq!(rt; traces.status, status);
+        assert_eq!(rt; traces.output.as_slice(), b"".as_slice());
+        assert!(rt; shelf.has_written("out", written));
+    }
+    Ok(())
+}

@@ -1,0 +1,134 @@
+//! The command line.
+
+use clap::error::ErrorKind;
+use command_line::{Command, command};
+use std::alloc::Global;
+
+/// The command that the words name, or the kind of their mistake.
+fn read<'a>(alloc: Global, words: &'a [&'a str]) -> Result<Command<'a>, ErrorKind> {
+    match command(alloc, words) {
+        Ok(command) => Ok(command),
+        Err(error) => Err(error.kind()),
+    }
+}
+
+#[test]
+fn reads_the_command_line(rt: HostRuntime) {
+    let words = ["dtman", "replay", "board.plan", "boot.schedule"];
+    let replay = read(rt.alloc(), words.as_slice());
+    assert!(rt;
+        matches!(
+            replay,
+            Ok(Command::Replay {
+                plan: "board.plan",
+                schedule: "boot.schedule"
+            })
+        )
+    );
+    let words = ["dtman", "dump", "board.dtb"];
+    let dump = read(rt.alloc(), words.as_slice());
+    assert!(rt; matches!(dump, Ok(Command::Dump { blob: "board.dtb" })));
+    let words = ["dtman", "overlay", "base.dtb", "over.dtbo", "out.dtb"];
+    let overlay = read(rt.alloc(), words.as_slice());
+    assert!(rt;
+        matches!(
+            overlay,
+            Ok(Command::Overlay {
+                base: "base.dtb",
+                overlay: "over.dtbo",
+                out: "out.dtb"
+            })
+        )
+    );
+    let words = ["dtman", "explain", "64"];
+    let explain = read(rt.alloc(), words.as_slice());
+    assert!(rt; matches!(explain, Ok(Command::Explain { number: "64" })));
+    let words = ["dtman", "--version"];
+    let version = read(rt.alloc(), words.as_slice());
+    assert!(rt; matches!(version, Err(ErrorKind::DisplayVersion)));
+    let words = ["dtman", "bind", "board.dtb"];
+    let unknown = read(rt.alloc(), words.as_slice());
+    assert!(rt; matches!(unknown, Err(ErrorKind::InvalidSubcommand)));
+}
+
+#[test]
+fn reads_plan_with_its_option(rt: HostRuntime) {
+    let words = ["dtman", "plan", "board.dtb", "board.drivers"];
+    let plan = read(rt.alloc(), words.as_slice());
+    assert!(rt;
+        matches!(
+            plan,
+            Ok(Command::Plan {
+                blob: "board.dtb",
+                drivers: "board.drivers",
+                dot: false
+            })
+        )
+    );
+    let words = ["dtman", "plan", "--dot", "board.dtb", "board.drivers"];
+    let graph = read(rt.alloc(), words.as_slice());
+    assert!(rt;
+        matches!(
+            graph,
+            Ok(Command::Plan {
+                blob: "board.dtb",
+                drivers: "board.drivers",
+                dot: true
+            })
+        )
+    );
+}
+
+/// The workers that a command line of `probe` names, or the kind of its mistake.
+fn workers_of(alloc: Global, option: &[&str]) -> Result<u8, ErrorKind> {
+    let words = match option {
+        [name, number] => [
+            "dtman",
+            "probe",
+            "board.dtb",
+            "board.drivers",
+            *name,
+            *number,
+        ],
+        _ => [
+            "dtman",
+            "probe",
+            "board.dtb",
+            "board.drivers",
+            "--workers",
+            "4",
+        ],
+    };
+    match read(alloc, words.as_slice())? {
+        Command::Probe {
+            blob: "board.dtb",
+            drivers: "board.drivers",
+            workers,
+        } => Ok(workers),
+        _ => Ok(0),
+    }
+}
+
+#[test]
+fn reads_probe_with_its_workers(rt: HostRuntime) {
+    let words = ["dtman", "probe", "board.dtb", "board.drivers"];
+    let four = read(rt.alloc(), words.as_slice());
+    assert!(rt; matches!(four, Ok(Command::Probe { workers: 4, .. })));
+    let rows: [(&str, Result<u8, ErrorKind>); 7] = [
+        ("1", Ok(1)),
+        ("64", Ok(64)),
+        ("+4", Ok(4)),
+        ("04", Ok(4)),
+        ("0", Err(ErrorKind::ValueValidation)),
+        ("65", Err(ErrorKind::ValueValidation)),
+        ("many", Err(ErrorKind::ValueValidation)),
+    ];
+    for (number, workers) in rows {
+        let option = ["--workers", number];
+        assert_eq!(rt;
+            workers_of(rt.alloc(), option.as_slice()),
+            workers,
+            "{number}"
+        );
+    }
+}
