@@ -1,5 +1,5 @@
 #!/usr/bin/env bash
-# Each blob in examples/ is printed and compiled again, and comes back byte for byte.
+# Each blob in examples/ is printed and compiled again, and comes back byte for byte; and the sensor board's files are one board.
 set -euo pipefail
 cd "$(dirname "$0")/.."
 work=$(mktemp -d)
@@ -12,3 +12,7 @@ for blob in examples/*.dtb; do
 	count=$((count + 1))
 done
 echo "examples: $count blobs come back byte for byte"
+bin/dtman dump examples/sensor-board.dtb | cmp - examples/sensor-board.dts
+python3 examples/make_sensor_board.py "$work/made.dtb"
+cmp "$work/made.dtb" examples/sensor-board.dtb
+echo "examples: the sensor board's blob and source are one"

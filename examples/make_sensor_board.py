@@ -1,5 +1,5 @@
 #!/usr/bin/env python3
-"""Writes examples/sensor-board.dtb: the blob of a small board, as a boot loader would be given it."""
+"""Writes examples/sensor-board.dtb, or the file that is named: the blob of a small board, as a boot loader would be given it."""
 import os
 import sys
 
@@ -87,5 +87,5 @@ def put(blob, node):
 
 board = Blob(reserves=[(0x87F00000, 0x100000)])
 put(board, BOARD)
-with open(os.path.join(here, "sensor-board.dtb"), "wb") as out:
+with open(sys.argv[1] if len(sys.argv) > 1 else os.path.join(here, "sensor-board.dtb"), "wb") as out:
     out.write(board.bytes())

@@ -2,7 +2,7 @@
 # Times `dtman compile` on sources of 2 and 16 MB, beside dtc where it is installed (a minute for each), with the most memory taken.
 set -euo pipefail
 cd "$(dirname "$0")/../.."
-[ -x bin/dtman ] || make build
+make build
 out=$(mktemp)
 trap 'rm -f "$out"' EXIT
 

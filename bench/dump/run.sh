@@ -4,7 +4,7 @@ set -euo pipefail
 cd "$(dirname "$0")/../.."
 inputs=bench/inputs/dump
 python3 bench/dump/make_inputs.py "$inputs"
-[ -x bin/dtman ] || make build
+make build
 
 seconds() {
 	local begin end

@@ -11,7 +11,7 @@
 # lists (Where fdtoverlay answers otherwise).
 set -euo pipefail
 cd "$(dirname "$0")/../.."
-[ -x bin/dtman ] || make build
+make build
 work=$(mktemp -d)
 trap 'rm -rf "$work"' EXIT
 status=0

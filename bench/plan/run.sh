@@ -4,7 +4,7 @@ set -euo pipefail
 cd "$(dirname "$0")/../.."
 inputs=bench/inputs/plan
 python3 bench/plan/make_inputs.py "$inputs"
-[ -x bin/dtman ] || make build
+make build
 
 least() {
 	for _ in 1 2 3 4 5; do

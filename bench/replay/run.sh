@@ -5,7 +5,7 @@ set -euo pipefail
 cd "$(dirname "$0")/../.."
 inputs=bench/inputs/replay
 [ -f "$inputs/random-read.schedule" ] || python3 bench/replay/make_inputs.py "$inputs"
-[ -x bin/dtman ] || make build
+make build
 
 # The least time of five runs, in seconds.
 least() {
