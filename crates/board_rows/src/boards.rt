@@ -1,6 +1,5 @@
 //! Boards by hand: what the seats are answered, and what the words are at the end.
 
-ghost use Rattle.std.specs.Prelude.{IfOk};
 ghost use Rattle.bus_board.specs.Shown.{IsOf};
 
 use crate::seats::{
@@ -12,7 +11,6 @@ use bus_plan::Device;
 use std::alloc::Global;
 use std::hash::RandomState;
 use std::process::Abort;
-use std::test::Fail;
 
 pub const UART_AND_CLOCK: &str = "/uart ns ok /clk\n/clk fixed ok\n";
 
@@ -50,48 +48,48 @@ fn uart_is_woken(rt: &impl Abort, alloc: Global, board: &Board, two: &mut Seat)
 
 /// Row board-two-seats. That seat 2's wake changes no word is seen by its next take, which finds nothing.
 #[test]
-fn board_two_seats(rt: HostRuntime) -> Result<(), Fail> {
-    let (board, mut one) = open(rt.alloc(), RandomState::new(&rt)?, UART_AND_CLOCK)?;
-    let mut two = further(rt.alloc(), &board, &mut one)?;
+fn board_two_seats(rt: HostRuntime) {
+    let hasher = RandomState::new(&rt).expect(&rt, "a seed");
+    let (board, mut one) = open(&rt, rt.alloc(), hasher, UART_AND_CLOCK);
+    let mut two = further(&rt, rt.alloc(), &board, &mut one);
     clock_is_missed(&rt, rt.alloc(), &board, &mut one, &mut two);
     wakes(&board, &mut two);
     takes(&rt, rt.alloc(), &board, &mut two, Ok(None));
     defers(&rt, &board, &mut one, clk(), Ok(()));
     wakes(&board, &mut one);
     uart_is_woken(&rt, rt.alloc(), &board, &mut two);
-    gives_back(&board, &mut one, two)?;
+    gives_back(&rt, &board, &mut one, two);
     closes(&rt, board, one, &[Word::Bound, Word::Bound], true);
-    Ok(())
 }
 
 /// Row board-left-waiting, and what row board-with-wakes says of it: without its wake seat 1 owes, and is not taken back.
 /// Seat 1 is the one that stays at the end, so its debt needs nobody's word.
 #[test]
-fn board_left_waiting(rt: HostRuntime) -> Result<(), Fail> {
-    let (board, mut two) = open(rt.alloc(), RandomState::new(&rt)?, UART_AND_CLOCK)?;
-    let mut one = further(rt.alloc(), &board, &mut two)?;
+fn board_left_waiting(rt: HostRuntime) {
+    let hasher = RandomState::new(&rt).expect(&rt, "a seed");
+    let (board, mut two) = open(&rt, rt.alloc(), hasher, UART_AND_CLOCK);
+    let mut one = further(&rt, rt.alloc(), &board, &mut two);
     clock_is_missed(&rt, rt.alloc(), &board, &mut one, &mut two);
     defers(&rt, &board, &mut one, clk(), Ok(()));
-    let mut one = keeps(&rt, &board, &mut two, one)?;
-    let two = keeps(&rt, &board, &mut one, two)?;
+    let mut one = keeps(&rt, &board, &mut two, one);
+    let two = keeps(&rt, &board, &mut one, two);
     drop(two);
     closes(&rt, board, one, &[Word::Waiting, Word::Bound], false);
-    Ok(())
 }
 
 /// Row board-with-wakes: row board-left-waiting with each wake runs as row board-two-seats.
 #[test]
-fn board_with_wakes(rt: HostRuntime) -> Result<(), Fail> {
-    let (board, mut two) = open(rt.alloc(), RandomState::new(&rt)?, UART_AND_CLOCK)?;
-    let mut one = further(rt.alloc(), &board, &mut two)?;
+fn board_with_wakes(rt: HostRuntime) {
+    let hasher = RandomState::new(&rt).expect(&rt, "a seed");
+    let (board, mut two) = open(&rt, rt.alloc(), hasher, UART_AND_CLOCK);
+    let mut one = further(&rt, rt.alloc(), &board, &mut two);
     clock_is_missed(&rt, rt.alloc(), &board, &mut one, &mut two);
     wakes(&board, &mut two);
     defers(&rt, &board, &mut one, clk(), Ok(()));
     wakes(&board, &mut one);
-    gives_back(&board, &mut two, one)?;
+    gives_back(&rt, &board, &mut two, one);
     uart_is_woken(&rt, rt.alloc(), &board, &mut two);
     closes(&rt, board, two, &[Word::Bound, Word::Bound], true);
-    Ok(())
 }
 
 // A uart that hasn't seen its clock can't settle, nor be taken twice, nor look at itself.
@@ -127,32 +125,32 @@ pub fn first_settles(rt: &impl Abort, board: &Board, one: &mut Seat)
 
 /// Row board-refusals, with seat 2's wake before it is given back.
 #[test]
-fn board_refusals(rt: HostRuntime) -> Result<(), Fail> {
-    let (board, mut one) = open(rt.alloc(), RandomState::new(&rt)?, UART_AND_CLOCK)?;
-    let mut two = further(rt.alloc(), &board, &mut one)?;
+fn board_refusals(rt: HostRuntime) {
+    let hasher = RandomState::new(&rt).expect(&rt, "a seed");
+    let (board, mut one) = open(&rt, rt.alloc(), hasher, UART_AND_CLOCK);
+    let mut two = further(&rt, rt.alloc(), &board, &mut one);
     first_is_refused(&rt, rt.alloc(), &board, &mut one);
     looks(&rt, &board, &mut two, clk(), Err(Refusal::NotInFlight));
     second_settles(&rt, rt.alloc(), &board, &mut two);
     first_settles(&rt, &board, &mut one);
     takes(&rt, rt.alloc(), &board, &mut one, Ok(None));
     takes(&rt, rt.alloc(), &board, &mut two, Ok(None));
-    gives_back(&board, &mut one, two)?;
+    gives_back(&rt, &board, &mut one, two);
     closes(&rt, board, one, &[Word::Bound, Word::Bound], true);
-    Ok(())
 }
 
 /// Row seat-with-a-flight: the seat comes back, and its flight with it.
 #[test]
-fn seat_with_a_flight(rt: HostRuntime) -> Result<(), Fail> {
-    let (board, mut one) = open(rt.alloc(), RandomState::new(&rt)?, UART_AND_CLOCK)?;
-    let mut two = further(rt.alloc(), &board, &mut one)?;
+fn seat_with_a_flight(rt: HostRuntime) {
+    let hasher = RandomState::new(&rt).expect(&rt, "a seed");
+    let (board, mut one) = open(&rt, rt.alloc(), hasher, UART_AND_CLOCK);
+    let mut two = further(&rt, rt.alloc(), &board, &mut one);
     takes(&rt, rt.alloc(), &board, &mut two, Ok(Some(uart())));
-    let mut two = keeps(&rt, &board, &mut one, two)?;
+    let mut two = keeps(&rt, &board, &mut one, two);
     takes(&rt, rt.alloc(), &board, &mut two, Err(Refusal::NotIdle));
     looks(&rt, &board, &mut two, clk(), Ok(false));
     drop(two);
     closes(&rt, board, one, &[Word::Trying, Word::Fresh], false);
-    Ok(())
 }
 
 const TWO_SUPPLIERS: &str = "/d x ok /a /b\n/a x ok\n/b x ok\n";
@@ -207,16 +205,17 @@ fn consumer_settles(rt: &impl Abort, alloc: Global, board: &Board, one: &mut Sea
 
 /// Rows board-two-suppliers and owing-seat: between its settle and its wake seat 3 is not taken back.
 #[test]
-fn board_two_suppliers(rt: HostRuntime) -> Result<(), Fail> {
-    let (board, mut one) = open(rt.alloc(), RandomState::new(&rt)?, TWO_SUPPLIERS)?;
-    let mut two = further(rt.alloc(), &board, &mut one)?;
-    let mut three = further(rt.alloc(), &board, &mut one)?;
+fn board_two_suppliers(rt: HostRuntime) {
+    let hasher = RandomState::new(&rt).expect(&rt, "a seed");
+    let (board, mut one) = open(&rt, rt.alloc(), hasher, TWO_SUPPLIERS);
+    let mut two = further(&rt, rt.alloc(), &board, &mut one);
+    let mut three = further(&rt, rt.alloc(), &board, &mut one);
     suppliers_are_taken(&rt, rt.alloc(), &board, &mut one, &mut two, &mut three);
     suppliers_settle(&rt, rt.alloc(), &board, &mut two, &mut three);
-    let mut three = keeps(&rt, &board, &mut one, three)?;
+    let mut three = keeps(&rt, &board, &mut one, three);
     wakes(&board, &mut three);
-    gives_back(&board, &mut one, two)?;
-    gives_back(&board, &mut one, three)?;
+    gives_back(&rt, &board, &mut one, two);
+    gives_back(&rt, &board, &mut one, three);
     consumer_settles(&rt, rt.alloc(), &board, &mut one);
     closes(
         &rt,
@@ -225,5 +224,4 @@ fn board_two_suppliers(rt: HostRuntime) -> Result<(), Fail> {
         &[Word::Bound, Word::Bound, Word::Bound],
         true,
     );
-    Ok(())
 }

@@ -1,6 +1,5 @@
 //! One line of a board's row each: a seat makes a call and is answered.
 
-ghost use Rattle.std.specs.Prelude.{IfOk};
 ghost use Rattle.bus_board.specs.Shown.{IsOf};
 
 use bus_board::{Board, Seat, Word};
@@ -9,22 +8,21 @@ use bus_plan::{Device, read_plan};
 use std::alloc::Global;
 use std::hash::RandomState;
 use std::process::Abort;
-use std::test::Fail;
 
 /// A board over the plan of this text, and its first seat.
-pub fn open(alloc: Global, hasher: RandomState, text: &str) -> Result<(Board, Seat), Fail>
-    ensures { IfOk result (λ r. IsOf r.0 r.1) }
+pub fn open(rt: &impl Abort, alloc: Global, hasher: RandomState, text: &str) -> (Board, Seat)
+    ensures { IsOf result.0 result.1 }
 {
-    let plan = read_plan(alloc, hasher, text.as_bytes())?;
-    Ok(Board::open(alloc, plan)?)
+    let plan = read_plan(alloc, hasher, text.as_bytes()).expect(rt, "a plan");
+    Board::open(alloc, plan).expect(rt, "a board")
 }
 
-pub fn further(alloc: Global, board: &Board, seat: &mut Seat) -> Result<Seat, Fail>
+pub fn further(rt: &impl Abort, alloc: Global, board: &Board, seat: &mut Seat) -> Seat
     requires { IsOf board.now seat.old }
     ensures same { IsOf board.now seat.new }
-    ensures new { IfOk result (λ r. IsOf board.now r) }
+    ensures new { IsOf board.now result }
 {
-    Ok(board.seat(alloc, seat)?)
+    board.seat(alloc, seat).expect(rt, "a seat")
 }
 
 pub fn takes(
@@ -84,31 +82,28 @@ pub fn wakes(board: &Board, seat: &mut Seat)
     board.wake_owed(seat);
 }
 
-pub fn gives_back(board: &Board, into: &mut Seat, seat: Seat) -> Result<(), Fail>
+pub fn gives_back(rt: &impl Abort, board: &Board, into: &mut Seat, seat: Seat)
     requires into { IsOf board.now into.old }
     requires seat { IsOf board.now seat }
     ensures { IsOf board.now into.new }
 {
-    match board.give_back(into, seat) {
-        Ok(()) => Ok(()),
-        Err(_) => Err("the seat came back".into()),
-    }
+    let given = board.give_back(into, seat);
+    assert!(rt; given.is_ok(), "the seat came back");
 }
 
 /// The seat has a flight, or owes: it comes back.
-pub fn keeps(rt: &impl Abort, board: &Board, into: &mut Seat, seat: Seat) -> Result<Seat, Fail>
+pub fn keeps(rt: &impl Abort, board: &Board, into: &mut Seat, seat: Seat) -> Seat
     requires into { IsOf board.now into.old }
     requires seat { IsOf board.now seat }
     ensures into { IsOf board.now into.new }
-    ensures seat { IfOk result (λ r. IsOf board.now r) }
+    ensures seat { IsOf board.now result }
 {
-    match board.give_back(into, seat) {
-        Ok(()) => Err("the seat was taken back".into()),
-        Err((seat, refusal)) => {
-            assert_eq!(rt; refusal, Refusal::NotIdle);
-            Ok(seat)
-        }
-    }
+    let (seat, refusal) = board
+        .give_back(into, seat)
+        .err()
+        .expect(rt, "the seat was taken back");
+    assert_eq!(rt; refusal, Refusal::NotIdle);
+    seat
 }
 
 pub fn closes(rt: &impl Abort, board: Board, seat: Seat, words: &[Word], quiet: bool)

@@ -1,6 +1,5 @@
 //! Row board-refusals with each seat in threads of its own, which hand the seat back by joins.
 
-ghost use Rattle.std.specs.Prelude.{IfOk};
 ghost use Rattle.bus_board.specs.Shown.{IsOf};
 
 use crate::boards::{UART_AND_CLOCK, clk, first_is_refused, first_settles, second_settles};
@@ -10,7 +9,6 @@ use bus_core::Refusal;
 use std::alloc::Global;
 use std::hash::RandomState;
 use std::process::Abort;
-use std::test::Fail;
 use std::thread::{Threads, join};
 
 fn one_begins(rt: &impl Abort, alloc: Global, board: &Board, mut one: Seat) -> Seat
@@ -117,13 +115,13 @@ fn both_end<R: Threads + Abort + Sync>(
 }
 
 #[test]
-fn board_refusals_in_threads(rt: HostRuntime) -> Result<(), Fail> {
-    let (board, mut one) = open(rt.alloc(), RandomState::new(&rt)?, UART_AND_CLOCK)?;
-    let two = further(rt.alloc(), &board, &mut one)?;
+fn board_refusals_in_threads(rt: HostRuntime) {
+    let hasher = RandomState::new(&rt).expect(&rt, "a seed");
+    let (board, mut one) = open(&rt, rt.alloc(), hasher, UART_AND_CLOCK);
+    let two = further(&rt, rt.alloc(), &board, &mut one);
     let (one, two) = both_begin(&rt, rt.alloc(), &board, one, two);
     let two = second_goes_on(&rt, rt.alloc(), &board, two);
     let (mut one, two) = both_end(&rt, rt.alloc(), &board, one, two);
-    gives_back(&board, &mut one, two)?;
+    gives_back(&rt, &board, &mut one, two);
     closes(&rt, board, one, &[Word::Bound, Word::Bound], true);
-    Ok(())
 }

@@ -2,19 +2,20 @@
 use dt_assembly::Assembly;
 use dt_tree::{Name, Node};
 use std::alloc::Global;
-use std::test::Fail;
+use std::process::Abort;
 
-fn with_child(alloc: Global, name: &[u8]) -> Result<Node, Fail> {
+fn with_child(rt: &impl Abort, alloc: Global, name: &[u8]) -> Node {
     let assembly = Assembly::new(alloc, Vec::new(alloc));
-    let name = Name::new(alloc, name)?;
-    let assembly = assembly.push(alloc, 1, name, Vec::new(alloc))?;
-    Ok(assembly.finish()?)
+    let name = Name::new(alloc, name).expect(rt, "a name");
+    let assembly = assembly
+        .push(alloc, 1, name, Vec::new(alloc))
+        .expect(rt, "memory");
+    assembly.finish().expect(rt, "memory")
 }
 
 #[test]
-fn a_child(rt: HostRuntime) -> Result<(), Fail> {
-    let root = with_child(rt.alloc(), b"soc")?;
+fn a_child(rt: HostRuntime) {
+    let root = with_child(&rt, rt.alloc(), b"soc");
     assert!(rt; root.name_bytes().is_empty() && root.children().len() == 1);
     assert!(rt; root.child(b"soc").is_some());
-    Ok(())
 }

@@ -3,9 +3,9 @@
 use super::shelf::Shelf;
 use super::statuses::run_over;
 use engine::compile_bytes;
-use std::alloc::{AllocError, Global};
+use std::alloc::Global;
 use std::hash::RandomState;
-use std::test::Fail;
+use std::process::Abort;
 
 const BASE: &str = "/dts-v1/; / { };";
 
@@ -18,18 +18,17 @@ const BLOB: &[u8] =
 \0\0\0\0\0\0\0\0\0\0\0\0\0\0\0\0\0\0\0\x01\0\0\0\0\0\0\0\x03\0\0\0\0\0\0\0\0\0\0\0\x02\0\0\0\x09a\0";
 
 /// The blob of a source that compiles.
-fn compiled(alloc: Global, hasher: RandomState, source: &str) -> Result<Vec<u8>, AllocError> {
-    match compile_bytes(alloc, hasher, source.as_bytes(), false) {
-        Ok(blob) => Ok(blob),
-        Err(_) => Ok(Vec::new(alloc)),
-    }
+fn compiled(rt: &impl Abort, alloc: Global, hasher: RandomState, source: &str) -> Vec<u8> {
+    compile_bytes(alloc, hasher, source.as_bytes(), false)
+        .ok()
+        .expect(rt, "a source that compiles")
 }
 
 #[test]
-fn applies_to_a_file(rt: HostRuntime) -> Result<(), Fail> {
-    let hasher = RandomState::new(&rt)?;
-    let base = compiled(rt.alloc(), hasher, BASE)?;
-    let overlay = compiled(rt.alloc(), hasher, OVERLAY)?;
+fn applies_to_a_file(rt: HostRuntime) {
+    let hasher = RandomState::new(&rt).expect(&rt, "a seed");
+    let base = compiled(&rt, rt.alloc(), hasher, BASE);
+    let overlay = compiled(&rt, rt.alloc(), hasher, OVERLAY);
     let files = [
         ("base.dtb", base.as_slice()),
         ("over.dtbo", overlay.as_slice()),
@@ -69,13 +68,12 @@ fn applies_to_a_file(rt: HostRuntime) -> Result<(), Fail> {
         assert_eq!(rt; traces.output.as_slice(), b"".as_slice());
         assert!(rt; shelf.has_written("out", written));
     }
-    Ok(())
 }
 
 #[test]
-fn tells_blobs_that_cannot_be_read(rt: HostRuntime) -> Result<(), Fail> {
-    let hasher = RandomState::new(&rt)?;
-    let base = compiled(rt.alloc(), hasher, BASE)?;
+fn tells_blobs_that_cannot_be_read(rt: HostRuntime) {
+    let hasher = RandomState::new(&rt).expect(&rt, "a seed");
+    let base = compiled(&rt, rt.alloc(), hasher, BASE);
     let files = [
         ("base.dtb", base.as_slice()),
         ("short.dtb", b"\xd0\x0d\xfe\xed".as_slice()),
@@ -98,5 +96,4 @@ fn tells_blobs_that_cannot_be_read(rt: HostRuntime) -> Result<(), Fail> {
         assert_eq!(rt; traces.output.as_slice(), b"".as_slice());
         assert!(rt; shelf.has_written("out", b""));
     }
-    Ok(())
 }

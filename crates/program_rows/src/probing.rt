@@ -4,7 +4,6 @@ use super::clock_and_uart::BLOB;
 use super::shelf::Shelf;
 use super::statuses::run_over;
 use std::hash::RandomState;
-use std::test::Fail;
 
 const FILES: [(&str, &[u8]); 5] = [
     ("board.dtb", BLOB),
@@ -20,7 +19,7 @@ const FILES: [(&str, &[u8]); 5] = [
 const REPORT: &str = "/clk bound fixed\n/uart bound ns\nquiet\n";
 
 #[test]
-fn plans_and_probes(rt: HostRuntime) -> Result<(), Fail> {
+fn plans_and_probes(rt: HostRuntime) {
     let rows: [(&[&str], u8, &str, &str); 7] = [
         (
             &["plan", "board.dtb", "board.drivers"],
@@ -61,13 +60,13 @@ fn plans_and_probes(rt: HostRuntime) -> Result<(), Fail> {
         ),
     ];
     for (words, status, printed, told) in rows {
-        let mut line = Vec::from_slice(rt.alloc(), ["dtman"].as_slice())?;
-        line.extend_from_slice(words)?;
-        let mut shelf = Shelf::new(rt.alloc(), FILES.as_slice(), RandomState::new(&rt)?);
+        let mut line = Vec::from_slice(rt.alloc(), ["dtman"].as_slice()).expect(&rt, "memory");
+        line.extend_from_slice(words).expect(&rt, "memory");
+        let hasher = RandomState::new(&rt).expect(&rt, "a seed");
+        let mut shelf = Shelf::new(rt.alloc(), FILES.as_slice(), hasher);
         let traces = run_over(&rt, line.as_slice(), &mut shelf, None);
         assert_eq!(rt; traces.errors.as_bytes(), told.as_bytes());
         assert_eq!(rt; traces.status, status);
         assert_eq!(rt; traces.output.as_slice(), printed.as_bytes());
     }
-    Ok(())
 }

@@ -5,7 +5,6 @@ use engine::Memory;
 use program::run_words;
 use std::hash::RandomState;
 use std::sync::Wait;
-use std::test::Fail;
 use std::thread::Threads;
 
 /// The files of all rows.
@@ -52,7 +51,7 @@ pub fn run_over<R: AllocGlobal + Threads + Wait + Sync>(
 }
 
 #[test]
-fn tells_refusals_on_standard_error_alone(rt: HostRuntime) -> Result<(), Fail> {
+fn tells_refusals_on_standard_error_alone(rt: HostRuntime) {
     let rows: [(&[&str], u8, &str, &str); 9] = [
         (
             &["dtman", "replay", "board.plan", "boot.schedule"],
@@ -101,19 +100,17 @@ fn tells_refusals_on_standard_error_alone(rt: HostRuntime) -> Result<(), Fail> {
         ),
     ];
     for (words, status, printed, told) in rows {
-        let mut shelf = Shelf::new(rt.alloc(), FILES.as_slice(), RandomState::new(&rt)?);
+        let hasher = RandomState::new(&rt).expect(&rt, "a seed");
+        let mut shelf = Shelf::new(rt.alloc(), FILES.as_slice(), hasher);
         let traces = run_over(&rt, words, &mut shelf, None);
         assert_eq!(rt; traces.errors.as_bytes(), told.as_bytes());
         assert_eq!(rt; traces.status, status);
         assert_eq!(rt; traces.output.as_slice(), printed.as_bytes());
     }
-    Ok(())
 }
 
 #[test]
-fn tells_help_on_standard_output_and_mistakes_on_standard_error(
-    rt: HostRuntime,
-) -> Result<(), Fail> {
+fn tells_help_on_standard_output_and_mistakes_on_standard_error(rt: HostRuntime) {
     let rows: [(&[&str], u8); 12] = [
         (&["dtman", "--help"], 0),
         (&["dtman", "--version"], 0),
@@ -129,21 +126,22 @@ fn tells_help_on_standard_output_and_mistakes_on_standard_error(
         (&["dtman", "overlay", "empty", "empty"], 2),
     ];
     for (words, status) in rows {
-        let mut shelf = Shelf::new(rt.alloc(), FILES.as_slice(), RandomState::new(&rt)?);
+        let hasher = RandomState::new(&rt).expect(&rt, "a seed");
+        let mut shelf = Shelf::new(rt.alloc(), FILES.as_slice(), hasher);
         let traces = run_over(&rt, words, &mut shelf, None);
         assert_eq!(rt; traces.status, status);
         assert_eq!(rt; traces.output.is_empty(), status == 2);
         assert_eq!(rt; traces.errors.is_empty(), status == 0);
     }
-    Ok(())
 }
 
 /// Each call on an input fails in turn: the file that has the fault is told, and nothing is printed.
 #[test]
-fn tells_a_read_that_fails(rt: HostRuntime) -> Result<(), Fail> {
+fn tells_a_read_that_fails(rt: HostRuntime) {
     // 31 bytes by 7 and the end are 6 calls; the schedule's 69 bytes are 11.
     for call in 0..11usize {
-        let mut shelf = Shelf::new(rt.alloc(), FILES.as_slice(), RandomState::new(&rt)?);
+        let hasher = RandomState::new(&rt).expect(&rt, "a seed");
+        let mut shelf = Shelf::new(rt.alloc(), FILES.as_slice(), hasher);
         shelf.fails_at = Some(call);
         let words = ["dtman", "replay", "board.plan", "boot.schedule"];
         let traces = run_over(&rt, words.as_slice(), &mut shelf, None);
@@ -152,20 +150,20 @@ fn tells_a_read_that_fails(rt: HostRuntime) -> Result<(), Fail> {
         } else {
             "boot.schedule"
         };
-        let told = format!(in rt.alloc(); "error 80 CannotRead {path}\n")?;
+        let told = format!(in rt.alloc(); "error 80 CannotRead {path}\n").expect(&rt, "memory");
         assert_eq!(rt; traces.status, 3, "{call}");
         assert_eq!(rt; traces.output.is_empty(), true, "{call}");
         assert_eq!(rt; traces.errors.as_str(), told.as_str(), "{call}");
     }
-    Ok(())
 }
 
 /// Each call on standard output fails in turn: a beginning of the report is there.
 #[test]
-fn tells_a_write_that_fails(rt: HostRuntime) -> Result<(), Fail> {
+fn tells_a_write_that_fails(rt: HostRuntime) {
     // 33 bytes by 5 are 7 calls.
     for call in 0..7usize {
-        let mut shelf = Shelf::new(rt.alloc(), FILES.as_slice(), RandomState::new(&rt)?);
+        let hasher = RandomState::new(&rt).expect(&rt, "a seed");
+        let mut shelf = Shelf::new(rt.alloc(), FILES.as_slice(), hasher);
         let words = ["dtman", "replay", "board.plan", "boot.schedule"];
         let traces = run_over(&rt, words.as_slice(), &mut shelf, Some(call));
         let written = traces.output.as_slice();
@@ -178,17 +176,16 @@ fn tells_a_write_that_fails(rt: HostRuntime) -> Result<(), Fail> {
             "{call}"
         );
     }
-    Ok(())
 }
 
 #[test]
-fn tells_that_there_is_no_seed(rt: HostRuntime) -> Result<(), Fail> {
-    let mut shelf = Shelf::new(rt.alloc(), FILES.as_slice(), RandomState::new(&rt)?);
+fn tells_that_there_is_no_seed(rt: HostRuntime) {
+    let hasher = RandomState::new(&rt).expect(&rt, "a seed");
+    let mut shelf = Shelf::new(rt.alloc(), FILES.as_slice(), hasher);
     shelf.seed = None;
     let words = ["dtman", "replay", "board.plan", "boot.schedule"];
     let traces = run_over(&rt, words.as_slice(), &mut shelf, None);
     assert_eq!(rt; traces.status, 3);
     assert_eq!(rt; traces.output.is_empty(), true);
     assert_eq!(rt; traces.errors.as_str(), "error 80 CannotRead random\n");
-    Ok(())
 }

@@ -5,7 +5,6 @@ use dt_expression::{
 };
 use dt_lexeme::{Fault, FaultKind, Kind, Lexeme, Refusal, RefusalKind, scan};
 use std::alloc::Global;
-use std::test::Fail;
 
 // The first cell of a property: its value or fault. Seven lexemes stand before it.
 fn first_cell(alloc: Global, text: &[u8]) -> Result<Result<u64, Fault>, Refusal> {
@@ -29,7 +28,7 @@ fn first_cell(alloc: Global, text: &[u8]) -> Result<Result<u64, Fault>, Refusal>
 }
 
 #[test]
-fn literals(rt: HostRuntime) -> Result<(), Fail> {
+fn literals(rt: HostRuntime) {
     reads_the_grammar();
     let text = b" 0x1fUL 08";
     let rows = [
@@ -56,11 +55,10 @@ fn literals(rt: HostRuntime) -> Result<(), Fail> {
         assert_eq!(rt; too_deep(lexeme).kind, RefusalKind::TooDeep);
     }
     assert_eq!(rt; digit_of(b'F'), 15);
-    Ok(())
 }
 
 #[test]
-fn cells(rt: HostRuntime) -> Result<(), Fail> {
+fn cells(rt: HostRuntime) {
     let rows = [
         (b"/dts-v1/; / { p = <(1 << 64)>; };".as_slice(), 0),
         (b"/dts-v1/; / { p = <(0 - 1)>; };", 0xffff_ffff_ffff_ffff),
@@ -76,11 +74,10 @@ fn cells(rt: HostRuntime) -> Result<(), Fail> {
     for (text, value) in rows {
         assert_eq!(rt; first_cell(rt.alloc(), text), Ok(Ok(value)));
     }
-    Ok(())
 }
 
 #[test]
-fn faults(rt: HostRuntime) -> Result<(), Fail> {
+fn faults(rt: HostRuntime) {
     let rows = [
         (
             b"/dts-v1/; / { p = <(0 && 1 / 0)>; };".as_slice(),
@@ -110,11 +107,10 @@ fn faults(rt: HostRuntime) -> Result<(), Fail> {
             Ok(Err(Fault { kind, place }))
         );
     }
-    Ok(())
 }
 
 #[test]
-fn nesting(rt: HostRuntime) -> Result<(), Fail> {
+fn nesting(rt: HostRuntime) {
     let within = [
         b"/dts-v1/; / { p = <((((((((((((((((((((((((((((((((((((((((((((((((((((((((((((((((1))))))))))))))))))))))))))))))))))))))))))))))))))))))))))))))))>; };".as_slice(),
         b"/dts-v1/; / { p = <(---------------------------------------------------------------1)>; };",
@@ -146,11 +142,10 @@ fn nesting(rt: HostRuntime) -> Result<(), Fail> {
     for (text, kind, place) in beyond {
         assert_eq!(rt; first_cell(rt.alloc(), text), Err(Refusal { kind, place }));
     }
-    Ok(())
 }
 
 #[test]
-fn elements(rt: HostRuntime) -> Result<(), Fail> {
+fn elements(rt: HostRuntime) {
     let accepted = [
         (8, 1, [0x01].as_slice()),
         (8, 0xff, [0xff].as_slice()),
@@ -174,7 +169,7 @@ fn elements(rt: HostRuntime) -> Result<(), Fail> {
         let mut bytes = Vec::new(rt.alloc());
         if let Some(width) = width_of(bits) {
             assert_eq!(rt; element(width, 7, Ok(number)), Ok(number));
-            push_low_bytes(&mut bytes, width, number)?;
+            push_low_bytes(&mut bytes, width, number).expect(&rt, "memory");
         }
         assert_eq!(rt; bytes.as_slice(), expected);
     }
@@ -193,5 +188,4 @@ fn elements(rt: HostRuntime) -> Result<(), Fail> {
         );
     }
     assert_eq!(rt; width_of(12), None);
-    Ok(())
 }

@@ -4,7 +4,6 @@ use dt_lexeme::{
     line_of, one_list, scan, scan_front,
 };
 use std::alloc::Global;
-use std::test::Fail;
 
 // Whether the text's lexemes have these kinds and lengths, whatever stands between them.
 fn are(alloc: Global, text: &[u8], kinds: &[(Kind, u32)]) -> bool {
@@ -21,15 +20,16 @@ fn are(alloc: Global, text: &[u8], kinds: &[(Kind, u32)]) -> bool {
 }
 
 #[test]
-fn places_of_lexemes(rt: HostRuntime) -> Result<(), Fail> {
+fn places_of_lexemes(rt: HostRuntime) {
     one_list();
     lexemes_are_in_order();
     lexemes_are_lawful();
     let text = b"/dts-v1/;\n# 1 \"a.dts\"\n\t&{/a} ";
-    assert_eq!(rt; scan_front(rt.alloc(), text)?.1, None);
-    let (front, stop) = scan_front(rt.alloc(), b"/dts-v1/; %")?;
+    let (_, stop) = scan_front(rt.alloc(), text).expect(&rt, "lexemes");
+    assert_eq!(rt; stop, None);
+    let (front, stop) = scan_front(rt.alloc(), b"/dts-v1/; %").expect(&rt, "lexemes");
     assert_eq!(rt; (front.len(), stop), (2, Some(10)));
-    let found = scan(rt.alloc(), text)?;
+    let found = scan(rt.alloc(), text).expect(&rt, "lexemes");
     assert_eq!(rt;
         found.as_slice(),
         [
@@ -51,7 +51,6 @@ fn places_of_lexemes(rt: HostRuntime) -> Result<(), Fail> {
         ]
         .as_slice()
     );
-    Ok(())
 }
 
 // Texts of statements with the kinds and lengths of their lexemes.
@@ -134,16 +133,15 @@ const STATEMENTS: [(&[u8], &[(Kind, u32)]); 9] = [
 ];
 
 #[test]
-fn statements(rt: HostRuntime) -> Result<(), Fail> {
+fn statements(rt: HostRuntime) {
     for (text, kinds) in STATEMENTS {
         assert!(rt; are(rt.alloc(), text, kinds));
     }
-    Ok(())
 }
 
 // 256 letters and a colon are no label, and 256 letters no name.
 #[test]
-fn long_labels(rt: HostRuntime) -> Result<(), Fail> {
+fn long_labels(rt: HostRuntime) {
     let rows = [
         (
             b"[aaaaaaaaaaaaaaaaaaaaaaaaaaaaaaaaaaaaaaaaaaaaaaaaaaaaaaaaaaaaaaaaaaaaaaaaaaaaaaaaaaaaaaaaaaaaaaaaaaaaaaaaaaaaaaaaaaaaaaaaaaaaaaaaaaaaaaaaaaaaaaaaaaaaaaaaaaaaaaaaaaaaaaaaaaaaaaaaaaaaaaaaaaaaaaaaaaaaaaaaaaaaaaaaaaaaaaaaaaaaaaaaaaaaaaaaaaaaaaaaaaaaaaaaaaaaaaaa:".as_slice(),
@@ -169,7 +167,6 @@ fn long_labels(rt: HostRuntime) -> Result<(), Fail> {
     for (text, kinds) in rows {
         assert!(rt; are(rt.alloc(), text, kinds));
     }
-    Ok(())
 }
 
 // Texts of values with the kinds and lengths of their lexemes.
@@ -267,15 +264,14 @@ const VALUES: [(&[u8], &[(Kind, u32)]); 9] = [
 ];
 
 #[test]
-fn values(rt: HostRuntime) -> Result<(), Fail> {
+fn values(rt: HostRuntime) {
     for (text, kinds) in VALUES {
         assert!(rt; are(rt.alloc(), text, kinds));
     }
-    Ok(())
 }
 
 #[test]
-fn no_lexeme(rt: HostRuntime) -> Result<(), Fail> {
+fn no_lexeme(rt: HostRuntime) {
     let rows = [
         (b";\n a".as_slice(), 3, 2),
         (b"\n\"a\n", 1, 2),
@@ -312,5 +308,4 @@ fn no_lexeme(rt: HostRuntime) -> Result<(), Fail> {
         );
         assert_eq!(rt; line_of(text, place), line);
     }
-    Ok(())
 }

@@ -7,9 +7,8 @@ use dt_source::{
     Item, Part, Reference, Source, SourceError, SourceErrorKind, Statement, bodies_are_lists,
     faults_are_in_order, one_source, parse, reads_sources, says_lawful,
 };
-use std::alloc::{AllocError, Global};
+use std::alloc::Global;
 use std::process::Abort;
-use std::test::Fail;
 
 // The value of the last property of the last item, which is the root.
 fn last_value<'s, 'a>(source: &'s Source<'a>) -> Option<&'s [Part<'a>]> {
@@ -84,7 +83,7 @@ const VALUES: [(&[u8], &[u8]); 9] = [
 ];
 
 #[test]
-fn values_of_bytes(rt: HostRuntime) -> Result<(), Fail> {
+fn values_of_bytes(rt: HostRuntime) {
     one_source();
     reads_sources();
     faults_are_in_order();
@@ -102,7 +101,6 @@ fn values_of_bytes(rt: HostRuntime) -> Result<(), Fail> {
             }
         }
     }
-    Ok(())
 }
 
 // The kind of a part, and its bytes, label or path.
@@ -117,7 +115,7 @@ fn said<'s>(part: &'s Part<'_>) -> (&'static str, &'s [u8]) {
 }
 
 #[test]
-fn values_of_parts(rt: HostRuntime) -> Result<(), Fail> {
+fn values_of_parts(rt: HostRuntime) {
     let text = b"/dts-v1/; / { p = [], \"x\", &l, <1 &m 2>, <>, [03], &{/a/b@1}, \"\"; };";
     let parts = [
         ("bytes", b"x\0".as_slice()),
@@ -149,7 +147,6 @@ fn values_of_parts(rt: HostRuntime) -> Result<(), Fail> {
             Some(value) => assert!(rt; value.is_empty()),
         },
     }
-    Ok(())
 }
 
 // Sources, the number of their refusal (255 for none), and its line.
@@ -193,7 +190,7 @@ const REFUSALS: [(&[u8], u8, usize); 27] = [
 ];
 
 #[test]
-fn refusals(rt: HostRuntime) -> Result<(), Fail> {
+fn refusals(rt: HostRuntime) {
     for (text, refused, line) in REFUSALS {
         match parse(rt.alloc(), text) {
             Ok(_) => assert_eq!(rt; refused, 255),
@@ -203,7 +200,7 @@ fn refusals(rt: HostRuntime) -> Result<(), Fail> {
             }
         }
     }
-    let long = vec![in rt.alloc(); b' '; 16_777_217]?;
+    let long = vec![in rt.alloc(); b' '; 16_777_217].expect(&rt, "memory");
     let error = SourceError {
         kind: SourceErrorKind::TooLong,
         line: 1,
@@ -213,7 +210,6 @@ fn refusals(rt: HostRuntime) -> Result<(), Fail> {
         Ok(_) => assert!(rt; false),
         Err(e) => assert_eq!(rt; e, error),
     }
-    Ok(())
 }
 
 // What the extension of the next test says.
@@ -257,7 +253,7 @@ fn extension(rt: &impl Abort, body: &[Statement<'_>]) {
 }
 
 #[test]
-fn items(rt: HostRuntime) -> Result<(), Fail> {
+fn items(rt: HostRuntime) {
     let text =
         b"/dts-v1/;\n# 1 \"a.dts\"\n/plugin/; /dts-v1/; m: /memreserve/ 0x1000 (0x1000 * 2);\n/ { };\na: b: &l { x; c: d: n@1 { /delete-property/ y; /delete-node/ z; e { }; }; };\n/delete-node/ &{/a};";
     match parse(rt.alloc(), text) {
@@ -288,95 +284,52 @@ fn items(rt: HostRuntime) -> Result<(), Fail> {
             }
         }
     }
-    Ok(())
 }
 
-// A source with so many of the first pieces and then of the last around the middle.
-fn nested(
-    alloc: Global,
-    head: &[u8],
-    open: &[u8],
-    middle: &[u8],
-    close: &[u8],
-    tail: &[u8],
-    depth: usize,
-) -> Result<Vec<u8>, AllocError> {
-    let mut text = Vec::from_slice(alloc, head)?;
+// A source of five pieces, with the second and the fourth so many times around the third.
+fn nested(rt: &impl Abort, alloc: Global, pieces: [&[u8]; 5], depth: usize) -> Vec<u8> {
+    let [head, open, middle, close, tail] = pieces;
+    let mut text = Vec::from_slice(alloc, head).expect(rt, "memory");
     for _ in 0..depth {
-        text.extend_from_slice(open)?;
+        text.extend_from_slice(open).expect(rt, "memory");
     }
-    text.extend_from_slice(middle)?;
+    text.extend_from_slice(middle).expect(rt, "memory");
     for _ in 0..depth {
-        text.extend_from_slice(close)?;
+        text.extend_from_slice(close).expect(rt, "memory");
     }
-    text.extend_from_slice(tail)?;
-    Ok(text)
+    text.extend_from_slice(tail).expect(rt, "memory");
+    text
+}
+
+// The number of such a source's refusal, or 255.
+fn nested_number(rt: &impl Abort, alloc: Global, pieces: [&[u8]; 5], depth: usize) -> u8 {
+    let text = nested(rt, alloc, pieces, depth);
+    number(alloc, text.as_slice())
 }
 
 // nesting-bounds
 #[test]
-fn nesting(rt: HostRuntime) -> Result<(), Fail> {
+fn nesting(rt: HostRuntime) {
+    let parens: [&[u8]; 5] = [b"/dts-v1/; / { p = <", b"(", b"1", b")", b">; };"];
+    let nodes: [&[u8]; 5] = [b"/dts-v1/; / {", b"a {", b"", b"};", b"};"];
+    let signs: [&[u8]; 5] = [b"/dts-v1/; / { p = <(", b"-", b"1", b"", b")>; };"];
     for (depth, expected) in [(64, 255), (65, 16)] {
-        let parens = nested(
-            rt.alloc(),
-            b"/dts-v1/; / { p = <",
-            b"(",
-            b"1",
-            b")",
-            b">; };",
-            depth,
-        )?;
-        assert_eq!(rt; number(rt.alloc(), parens.as_slice()), expected);
-        let nodes = nested(
-            rt.alloc(),
-            b"/dts-v1/; / {",
-            b"a {",
-            b"",
-            b"};",
-            b"};",
-            depth,
-        )?;
-        assert_eq!(rt; number(rt.alloc(), nodes.as_slice()), expected);
-        let signs = nested(
-            rt.alloc(),
-            b"/dts-v1/; / { p = <(",
-            b"-",
-            b"1",
-            b"",
-            b")>; };",
-            depth - 1,
-        )?;
-        assert_eq!(rt; number(rt.alloc(), signs.as_slice()), expected);
+        assert_eq!(rt; nested_number(&rt, rt.alloc(), parens, depth), expected);
+        assert_eq!(rt; nested_number(&rt, rt.alloc(), nodes, depth), expected);
+        assert_eq!(rt; nested_number(&rt, rt.alloc(), signs, depth - 1), expected);
     }
     // too deep before what is no lexeme, or behind it
-    let early = nested(
-        rt.alloc(),
-        b"/dts-v1/; / { p = <",
-        b"(",
-        b"\"",
-        b"",
-        b"",
-        65,
-    )?;
-    assert_eq!(rt; number(rt.alloc(), early.as_slice()), 16);
-    let late = nested(
-        rt.alloc(),
-        b"/dts-v1/; / } { p = <",
-        b"(",
-        b"\"",
-        b"",
-        b"",
-        65,
-    )?;
-    assert_eq!(rt; number(rt.alloc(), late.as_slice()), 10);
-    Ok(())
+    let early: [&[u8]; 5] = [b"/dts-v1/; / { p = <", b"(", b"\"", b"", b""];
+    assert_eq!(rt; nested_number(&rt, rt.alloc(), early, 65), 16);
+    let late: [&[u8]; 5] = [b"/dts-v1/; / } { p = <", b"(", b"\"", b"", b""];
+    assert_eq!(rt; nested_number(&rt, rt.alloc(), late, 65), 10);
 }
 
 #[test]
-fn damaged_texts(rt: HostRuntime) -> Result<(), Fail> {
+fn damaged_texts(rt: HostRuntime) {
     let text = b"/dts-v1/; /plugin/; &ocp { d { r = <&e>; }; e: e { }; };";
     assert_eq!(rt; number(rt.alloc(), text), 255);
-    let mut damaged = Vec::from_slice(rt.alloc(), text)?;
+    let mut damaged = Vec::from_slice(rt.alloc(), text).expect(&rt, "memory");
     for i in 0..text.len() {
         let cut = number(rt.alloc(), &text[..i]);
         assert!(rt; cut == 10 || cut == 16 || cut == 255);
@@ -384,12 +337,11 @@ fn damaged_texts(rt: HostRuntime) -> Result<(), Fail> {
         assert_eq!(rt; number(rt.alloc(), damaged.as_slice()), 10);
         damaged[i] = text[i];
     }
-    Ok(())
 }
 
 // Whole lines of the board: a source again at the end of each item behind its first.
 #[test]
-fn beginnings_of_the_board(rt: HostRuntime) -> Result<(), Fail> {
+fn beginnings_of_the_board(rt: HostRuntime) {
     assert_eq!(rt; number(rt.alloc(), BOARD), 255);
     for (i, byte) in BOARD.iter().enumerate() {
         if *byte == b'\n' {
@@ -397,5 +349,4 @@ fn beginnings_of_the_board(rt: HostRuntime) -> Result<(), Fail> {
             assert!(rt; cut == 10 || cut == 255, "cut at {i}");
         }
     }
-    Ok(())
 }

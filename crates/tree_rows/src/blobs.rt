@@ -1,17 +1,16 @@
 //! Blobs: written, read, changed; canonical sources.
 use dt_blob::{BlobError, blob_holds, one_tree, read, source_text, write};
-use dt_tree::{Bytes, Name, Node, Property, Tree, TreeError};
-use std::alloc::{AllocError, Global};
+use dt_tree::{Bytes, Name, Node, Property, Tree};
+use std::alloc::Global;
 use std::hash::RandomState;
 use std::process::Abort;
-use std::test::Fail;
 
 /// A root with the one property `a = <1>`.
 const ONE_CELL: &[u8] =
     b"\xd0\x0d\xfe\xed\x00\x00\x00\x5a\x00\x00\x00\x38\x00\x00\x00\x58\x00\x00\x00\x28\x00\x00\x00\x11\x00\x00\x00\x10\x00\x00\x00\x00\x00\x00\x00\x02\x00\x00\x00\x20\x00\x00\x00\x00\x00\x00\x00\x00\x00\x00\x00\x00\x00\x00\x00\x00\x00\x00\x00\x01\x00\x00\x00\x00\x00\x00\x00\x03\x00\x00\x00\x04\x00\x00\x00\x00\x00\x00\x00\x01\x00\x00\x00\x02\x00\x00\x00\x09\x61\x00";
 
 /// The same bytes with one word changed.
-fn changed(alloc: Global, blob: &[u8], at: usize, word: u32) -> Result<Vec<u8>, AllocError> {
+fn changed(rt: &impl Abort, alloc: Global, blob: &[u8], at: usize, word: u32) -> Vec<u8> {
     let new = word.to_be_bytes();
     let mut bytes = Vec::new(alloc);
     for (place, byte) in blob.iter().enumerate() {
@@ -22,24 +21,26 @@ fn changed(alloc: Global, blob: &[u8], at: usize, word: u32) -> Result<Vec<u8>, 
             Some(3) => new[3],
             _ => *byte,
         };
-        bytes.push(byte)?;
+        bytes.push(byte).expect(rt, "memory");
     }
-    Ok(bytes)
+    bytes
 }
 
-fn push_words(bytes: &mut Vec<u8>, words: &[u32]) -> Result<(), AllocError> {
+fn push_words(rt: &impl Abort, bytes: &mut Vec<u8>, words: &[u32]) {
     for word in words {
-        bytes.extend_from_slice(&word.to_be_bytes())?;
+        bytes
+            .extend_from_slice(&word.to_be_bytes())
+            .expect(rt, "memory");
     }
-    Ok(())
 }
 
 /// A blob without reservations, of the words of the structure block and the strings.
-fn blob(alloc: Global, structure: &[u32], strings: &[u8]) -> Result<Vec<u8>, AllocError> {
+fn blob(rt: &impl Abort, alloc: Global, structure: &[u32], strings: &[u8]) -> Vec<u8> {
     let size = (structure.len() % 1000 * 4) as u32;
     let text = (strings.len() % 1000) as u32;
     let mut bytes = Vec::new(alloc);
     push_words(
+        rt,
         &mut bytes,
         &[
             0xd00d_feed,
@@ -53,11 +54,11 @@ fn blob(alloc: Global, structure: &[u32], strings: &[u8]) -> Result<Vec<u8>, All
             text,
             size,
         ],
-    )?;
-    push_words(&mut bytes, &[0, 0, 0, 0])?;
-    push_words(&mut bytes, structure)?;
-    bytes.extend_from_slice(strings)?;
-    Ok(bytes)
+    );
+    push_words(rt, &mut bytes, &[0, 0, 0, 0]);
+    push_words(rt, &mut bytes, structure);
+    bytes.extend_from_slice(strings).expect(rt, "memory");
+    bytes
 }
 
 /// The number of the refusal, or none.
@@ -68,10 +69,10 @@ fn refusal(outcome: Result<Tree, BlobError>) -> Option<u8> {
     }
 }
 
-fn is_one_cell(alloc: Global, hasher: RandomState, bytes: &[u8]) -> Result<bool, Fail> {
-    let tree = read(alloc, bytes)?;
-    let again = write(alloc, hasher, &tree)?;
-    Ok(again.as_slice() == ONE_CELL)
+fn is_one_cell(rt: &impl Abort, alloc: Global, hasher: RandomState, bytes: &[u8]) -> bool {
+    let tree = read(alloc, bytes).expect(rt, "a tree");
+    let again = write(alloc, hasher, &tree).expect(rt, "a blob");
+    again.as_slice() == ONE_CELL
 }
 
 /// Blobs of one-cell's tree: words of the structure block, and strings.
@@ -90,59 +91,60 @@ const OF_ONE_CELL: [(&str, &[u32], &[u8]); 3] = [
 ];
 
 fn makes_one_cell(
+    rt: &impl Abort,
     alloc: Global,
     hasher: RandomState,
     structure: &[u32],
     strings: &[u8],
-) -> Result<bool, Fail> {
-    let bytes = blob(alloc, structure, strings)?;
-    is_one_cell(alloc, hasher, bytes.as_slice())
+) -> bool {
+    let bytes = blob(rt, alloc, structure, strings);
+    is_one_cell(rt, alloc, hasher, bytes.as_slice())
 }
 
 /// Whether a blob with one word changed is one of one-cell's tree.
 fn stays_one_cell(
+    rt: &impl Abort,
     alloc: Global,
     hasher: RandomState,
     blob: &[u8],
     at: usize,
     word: u32,
-) -> Result<bool, Fail> {
-    let bytes = changed(alloc, blob, at, word)?;
-    is_one_cell(alloc, hasher, bytes.as_slice())
+) -> bool {
+    let bytes = changed(rt, alloc, blob, at, word);
+    is_one_cell(rt, alloc, hasher, bytes.as_slice())
 }
 
-fn longer_is_one_cell(alloc: Global, hasher: RandomState) -> Result<bool, Fail> {
-    let mut longer = Vec::from_slice(alloc, ONE_CELL)?;
-    longer.extend_from_slice(b"more")?;
-    is_one_cell(alloc, hasher, longer.as_slice())
+fn longer_is_one_cell(rt: &impl Abort, alloc: Global, hasher: RandomState) -> bool {
+    let mut longer = Vec::from_slice(alloc, ONE_CELL).expect(rt, "memory");
+    longer.extend_from_slice(b"more").expect(rt, "memory");
+    is_one_cell(rt, alloc, hasher, longer.as_slice())
 }
 
-fn gap_is_one_cell(alloc: Global, hasher: RandomState) -> Result<bool, Fail> {
-    let gap = blob(alloc, &[1, 0, 3, 4, 0, 1, 2, 9, 0], b"a\0")?;
-    stays_one_cell(alloc, hasher, gap.as_slice(), 0x24, 0x20)
+fn gap_is_one_cell(rt: &impl Abort, alloc: Global, hasher: RandomState) -> bool {
+    let gap = blob(rt, alloc, &[1, 0, 3, 4, 0, 1, 2, 9, 0], b"a\0");
+    stays_one_cell(rt, alloc, hasher, gap.as_slice(), 0x24, 0x20)
 }
 
 #[test]
-fn changed_blob(rt: HostRuntime) -> Result<(), Fail> {
+fn changed_blob(rt: HostRuntime) {
     let alloc = rt.alloc();
-    let hasher = RandomState::new(&rt)?;
+    let hasher = RandomState::new(&rt).expect(&rt, "a seed");
     blob_holds();
     one_tree();
-    assert!(rt; is_one_cell(alloc, hasher, ONE_CELL)?);
+    assert!(rt; is_one_cell(&rt, alloc, hasher, ONE_CELL));
     for (name, structure, strings) in OF_ONE_CELL {
         assert!(rt;
-            makes_one_cell(alloc, hasher, structure, strings)?,
+            makes_one_cell(&rt, alloc, hasher, structure, strings),
             "{name}"
         );
     }
-    assert!(rt; longer_is_one_cell(alloc, hasher)?);
-    assert!(rt; gap_is_one_cell(alloc, hasher)?);
-    assert!(rt; stays_one_cell(alloc, hasher, ONE_CELL, 0x14, 18)?);
-    Ok(())
+    assert!(rt; longer_is_one_cell(&rt, alloc, hasher));
+    assert!(rt; gap_is_one_cell(&rt, alloc, hasher));
+    assert!(rt; stays_one_cell(&rt, alloc, hasher, ONE_CELL, 0x14, 18));
 }
 
 #[test]
-fn changed_words(rt: HostRuntime) -> Result<(), Fail> {
+fn changed_words(rt: HostRuntime) {
     let alloc = rt.alloc();
     let rows: [(usize, u32, u8); 20] = [
         (0x24, 0xffff_fffc, 33),
@@ -167,20 +169,19 @@ fn changed_words(rt: HostRuntime) -> Result<(), Fail> {
         (0x54, 4, 34),
     ];
     for (at, word, number) in rows {
-        let bytes = changed(alloc, ONE_CELL, at, word)?;
+        let bytes = changed(&rt, alloc, ONE_CELL, at, word);
         assert_eq!(rt;
             refusal(read(alloc, bytes.as_slice())),
             Some(number),
             "{at} {word}"
         );
     }
-    Ok(())
 }
 
 #[test]
-fn every_cut(rt: HostRuntime) -> Result<(), Fail> {
+fn every_cut(rt: HostRuntime) {
     let alloc = rt.alloc();
-    let hasher = RandomState::new(&rt)?;
+    let hasher = RandomState::new(&rt).expect(&rt, "a seed");
     let mut cut = Vec::new(alloc);
     for byte in ONE_CELL {
         assert_eq!(rt;
@@ -189,10 +190,9 @@ fn every_cut(rt: HostRuntime) -> Result<(), Fail> {
             "{}",
             cut.len()
         );
-        cut.push(*byte)?;
+        cut.push(*byte).expect(&rt, "memory");
     }
-    assert!(rt; is_one_cell(alloc, hasher, cut.as_slice())?);
-    Ok(())
+    assert!(rt; is_one_cell(&rt, alloc, hasher, cut.as_slice()));
 }
 
 // What is wrong with a structure block, its words, and the number of the refusal.
@@ -237,45 +237,48 @@ const BAD_TOKENS: [(&str, &[u32], u8); 21] = [
 ];
 
 #[test]
-fn faults_of_tokens(rt: HostRuntime) -> Result<(), Fail> {
+fn faults_of_tokens(rt: HostRuntime) {
     let alloc = rt.alloc();
     for (name, structure, number) in BAD_TOKENS {
-        let bytes = blob(alloc, structure, b"a\0")?;
+        let bytes = blob(&rt, alloc, structure, b"a\0");
         assert_eq!(rt;
             refusal(read(alloc, bytes.as_slice())),
             Some(number),
             "{name}"
         );
     }
-    Ok(())
 }
 
 /// A root with so many nodes below one another.
-fn nested(alloc: Global, depth: usize) -> Result<Vec<u8>, AllocError> {
-    let mut words = Vec::from_slice(alloc, &[1, 0])?;
+fn nested(rt: &impl Abort, alloc: Global, depth: usize) -> Vec<u8> {
+    let mut words = Vec::from_slice(alloc, &[1, 0]).expect(rt, "memory");
     for _ in 0..depth {
-        words.extend_from_slice(&[1, 0x6e00_0000])?;
+        words
+            .extend_from_slice(&[1, 0x6e00_0000])
+            .expect(rt, "memory");
     }
     for _ in 0..depth {
-        words.push(2)?;
+        words.push(2).expect(rt, "memory");
     }
-    words.extend_from_slice(&[2, 9])?;
-    blob(alloc, words.as_slice(), b"")
+    words.extend_from_slice(&[2, 9]).expect(rt, "memory");
+    blob(rt, alloc, words.as_slice(), b"")
 }
 
 #[test]
-fn depth(rt: HostRuntime) -> Result<(), Fail> {
+fn depth(rt: HostRuntime) {
     let alloc = rt.alloc();
-    assert_eq!(rt; refusal(read(alloc, nested(alloc, 64)?.as_slice())), None);
     assert_eq!(rt;
-        refusal(read(alloc, nested(alloc, 65)?.as_slice())),
+        refusal(read(alloc, nested(&rt, alloc, 64).as_slice())),
+        None
+    );
+    assert_eq!(rt;
+        refusal(read(alloc, nested(&rt, alloc, 65).as_slice())),
         Some(37)
     );
-    Ok(())
 }
 
 #[test]
-fn cut_padding(rt: HostRuntime) -> Result<(), Fail> {
+fn cut_padding(rt: HostRuntime) {
     let alloc = rt.alloc();
     let rows: [(&str, &[u32], u32, Option<u8>); 4] = [
         ("all of it", &[1, 0, 2, 9], 16, None),
@@ -294,15 +297,14 @@ fn cut_padding(rt: HostRuntime) -> Result<(), Fail> {
         ),
     ];
     for (name, structure, size, answer) in rows {
-        let bytes = blob(alloc, structure, b"a\0")?;
-        let bytes = changed(alloc, bytes.as_slice(), 0x24, size)?;
+        let bytes = blob(&rt, alloc, structure, b"a\0");
+        let bytes = changed(&rt, alloc, bytes.as_slice(), 0x24, size);
         assert_eq!(rt; refusal(read(alloc, bytes.as_slice())), answer, "{name}");
     }
-    Ok(())
 }
 
 #[test]
-fn unlawful_property_names(rt: HostRuntime) -> Result<(), Fail> {
+fn unlawful_property_names(rt: HostRuntime) {
     let alloc = rt.alloc();
     let rows: [(&str, &[u32], u8); 2] = [
         ("in a node", &[1, 0, 3, 0, 0, 2, 9], 37),
@@ -313,39 +315,40 @@ fn unlawful_property_names(rt: HostRuntime) -> Result<(), Fail> {
         ),
     ];
     for (name, structure, number) in rows {
-        let bytes = blob(alloc, structure, b"/\0")?;
+        let bytes = blob(&rt, alloc, structure, b"/\0");
         assert_eq!(rt;
             refusal(read(alloc, bytes.as_slice())),
             Some(number),
             "{name}"
         );
     }
-    Ok(())
 }
 
-fn property(alloc: Global, name: &[u8], value: &[u8]) -> Result<Property, TreeError> {
-    let value = Bytes::from_vec(Vec::from_slice(alloc, value)?);
-    let name = Name::new(alloc, name)?;
-    Ok(Property { name, value })
+fn property(rt: &impl Abort, alloc: Global, name: &[u8], value: &[u8]) -> Property {
+    let value = Bytes::from_vec(Vec::from_slice(alloc, value).expect(rt, "memory"));
+    let name = Name::new(alloc, name).expect(rt, "a name");
+    Property { name, value }
 }
 
 /// A root with these properties and no children.
-fn root(alloc: Global, properties: &[(&[u8], &[u8])]) -> Result<Node, Fail> {
+fn root(rt: &impl Abort, alloc: Global, properties: &[(&[u8], &[u8])]) -> Node {
     let mut list = Vec::new(alloc);
     for (name, value) in properties {
-        list.push(property(alloc, name, value)?)?;
+        let property = property(rt, alloc, name, value);
+        list.push(property).expect(rt, "memory");
     }
-    Ok(Node::new(alloc, None, list, Vec::new(alloc))?)
+    Node::new(alloc, None, list, Vec::new(alloc)).expect(rt, "a node")
 }
 
 /// A tree of that root.
 fn tree(
+    rt: &impl Abort,
     alloc: Global,
     reserves: &[(u64, u64)],
     properties: &[(&[u8], &[u8])],
-) -> Result<Tree, Fail> {
-    let reserves = Vec::from_slice(alloc, reserves)?;
-    Ok(Tree::new(reserves, 0, root(alloc, properties)?)?)
+) -> Tree {
+    let reserves = Vec::from_slice(alloc, reserves).expect(rt, "memory");
+    Tree::new(reserves, 0, root(rt, alloc, properties)).expect(rt, "a tree")
 }
 
 /// A row: its name, reserves, the root's properties, the blob and the text.
@@ -389,28 +392,20 @@ const WRITTEN: [Row; 4] = [
     },
 ];
 
-fn row_is_written(
-    rt: &impl Abort,
-    alloc: Global,
-    hasher: RandomState,
-    tree: &Tree,
-    row: &Row,
-) -> Result<(), Fail> {
-    let blob = write(alloc, hasher, tree)?;
+fn row_is_written(rt: &impl Abort, alloc: Global, hasher: RandomState, tree: &Tree, row: &Row) {
+    let blob = write(alloc, hasher, tree).expect(rt, "a blob");
     assert!(rt; blob.as_slice() == row.blob, "{}", row.name);
-    let text = source_text(alloc, tree)?;
+    let text = source_text(alloc, tree).expect(rt, "a text");
     assert!(rt; text.as_slice() == row.text, "{}", row.name);
-    Ok(())
 }
 
 #[test]
-fn written_rows(rt: HostRuntime) -> Result<(), Fail> {
-    let hasher = RandomState::new(&rt)?;
+fn written_rows(rt: HostRuntime) {
+    let hasher = RandomState::new(&rt).expect(&rt, "a seed");
     for row in WRITTEN {
-        let tree = tree(rt.alloc(), row.reserves, row.properties)?;
-        row_is_written(&rt, rt.alloc(), hasher, &tree, &row)?;
+        let tree = tree(&rt, rt.alloc(), row.reserves, row.properties);
+        row_is_written(&rt, rt.alloc(), hasher, &tree, &row);
     }
-    Ok(())
 }
 
 /// A property of each form of values.
@@ -425,39 +420,34 @@ const FORMS: [(&[u8], &[u8]); 5] = [
 const FORMS_TEXT: &[u8] =
     b"/dts-v1/;\n\n/ {\n\ts = \"a\", \"b\";\n\te;\n\tn = <0x00000000>;\n\to = \"\\\"\\\\\";\n\th = [61];\n};\n";
 
-fn text_is(rt: &impl Abort, alloc: Global, tree: &Tree, wanted: &[u8]) -> Result<(), Fail> {
-    let text = source_text(alloc, tree)?;
+fn text_is(rt: &impl Abort, alloc: Global, tree: &Tree, wanted: &[u8]) {
+    let text = source_text(alloc, tree).expect(rt, "a text");
     assert!(rt; text.as_slice() == wanted);
-    Ok(())
 }
 
 #[test]
-fn value_forms(rt: HostRuntime) -> Result<(), Fail> {
-    let tree = tree(rt.alloc(), &[], &FORMS)?;
-    text_is(&rt, rt.alloc(), &tree, FORMS_TEXT)
+fn value_forms(rt: HostRuntime) {
+    let tree = tree(&rt, rt.alloc(), &[], &FORMS);
+    text_is(&rt, rt.alloc(), &tree, FORMS_TEXT);
 }
 
 /// Properties whose names are tails of one another.
 const TAILS: [(&[u8], &[u8]); 4] = [(b"reg", b""), (b"xreg", b""), (b"g", b""), (b"eg", b"")];
 
-fn tails_are_shared(
-    rt: &impl Abort,
-    alloc: Global,
-    hasher: RandomState,
-    tree: &Tree,
-) -> Result<(), Fail> {
+fn tails_are_shared(rt: &impl Abort, alloc: Global, hasher: RandomState, tree: &Tree) {
     let wanted = blob(
+        rt,
         alloc,
         &[1, 0, 3, 0, 0, 3, 0, 4, 3, 0, 2, 3, 0, 1, 2, 9],
         b"reg\0xreg\0",
-    )?;
-    assert!(rt; write(alloc, hasher, tree)?.as_slice() == wanted.as_slice());
-    Ok(())
+    );
+    let written = write(alloc, hasher, tree).expect(rt, "a blob");
+    assert!(rt; written.as_slice() == wanted.as_slice());
 }
 
 #[test]
-fn tails_of_names(rt: HostRuntime) -> Result<(), Fail> {
-    let hasher = RandomState::new(&rt)?;
-    let tree = tree(rt.alloc(), &[], &TAILS)?;
-    tails_are_shared(&rt, rt.alloc(), hasher, &tree)
+fn tails_of_names(rt: HostRuntime) {
+    let hasher = RandomState::new(&rt).expect(&rt, "a seed");
+    let tree = tree(&rt, rt.alloc(), &[], &TAILS);
+    tails_are_shared(&rt, rt.alloc(), hasher, &tree);
 }

@@ -4,7 +4,6 @@ use dt_blob::source_text;
 use dt_tree::{MAX_DEPTH, Name, Path, Tree, TreeError};
 use std::alloc::Global;
 use std::process::Abort;
-use std::test::Fail;
 
 /// The lines of each tree before those of its root.
 const HEAD: &[u8] = b"/dts-v1/;\n\n/memreserve/ 0x0000000000001000 0x0000000000000010;\n/ {\n";
@@ -31,13 +30,13 @@ struct Row {
     left: &'static [u8],
 }
 
-fn base(alloc: Global) -> Result<Tree, Fail> {
-    grown(alloc, &[(4096, 16)], &BASE_STEPS)
+fn base(rt: &impl Abort, alloc: Global) -> Tree {
+    grown(rt, alloc, &[(4096, 16)], &BASE_STEPS)
 }
 
 /// Whether the call answers as the row says.
-fn answers(alloc: Global, tree: &mut Tree, row: &Row) -> bool {
-    match made(alloc, tree, row.step) {
+fn answers(rt: &impl Abort, alloc: Global, tree: &mut Tree, row: &Row) -> bool {
+    match made(rt, alloc, tree, row.step) {
         Ok(there) => there == row.there && row.refusal == 0,
         Err(TreeError::NoMemory) => false,
         Err(e) => !row.there && e.number() == row.refusal,
@@ -45,15 +44,15 @@ fn answers(alloc: Global, tree: &mut Tree, row: &Row) -> bool {
 }
 
 /// Whether the tree is what the row says that the call leaves.
-fn is_left(alloc: Global, tree: &Tree, row: &Row) -> Result<bool, Fail> {
-    let text = source_text(alloc, tree)?;
-    Ok(tree.boot_cpu() == 3 && text.as_slice().strip_prefix(HEAD) == Some(row.left))
+fn is_left(rt: &impl Abort, alloc: Global, tree: &Tree, row: &Row) -> bool {
+    let text = source_text(alloc, tree).expect(rt, "a text");
+    tree.boot_cpu() == 3 && text.as_slice().strip_prefix(HEAD) == Some(row.left)
 }
 
-fn row_holds(alloc: Global, row: &Row) -> Result<bool, Fail> {
-    let mut tree = base(alloc)?;
-    let answered = answers(alloc, &mut tree, row);
-    Ok(answered && is_left(alloc, &tree, row)?)
+fn row_holds(rt: &impl Abort, alloc: Global, row: &Row) -> bool {
+    let mut tree = base(rt, alloc);
+    let answered = answers(rt, alloc, &mut tree, row);
+    answered && is_left(rt, alloc, &tree, row)
 }
 
 const fn done(call: Call, path: &'static [u8], name: &'static [u8], left: &'static [u8]) -> Row {
@@ -80,7 +79,7 @@ const fn refused(call: Call, path: &'static [u8], name: &'static [u8], refusal: 
 }
 
 #[test]
-fn properties(rt: HostRuntime) -> Result<(), Fail> {
+fn properties(rt: HostRuntime) {
     let alloc = rt.alloc();
     let rows = [
         done(
@@ -114,13 +113,12 @@ fn properties(rt: HostRuntime) -> Result<(), Fail> {
         refused(Call::Unset, b"/uart", b"a", 5),
     ];
     for row in &rows {
-        assert!(rt; row_holds(alloc, row)?);
+        assert!(rt; row_holds(&rt, alloc, row));
     }
-    Ok(())
 }
 
 #[test]
-fn children(rt: HostRuntime) -> Result<(), Fail> {
+fn children(rt: HostRuntime) {
     let alloc = rt.alloc();
     let rows = [
         done(
@@ -155,46 +153,40 @@ fn children(rt: HostRuntime) -> Result<(), Fail> {
         refused(Call::Remove, b"/uart", b"a", 5),
     ];
     for row in &rows {
-        assert!(rt; row_holds(alloc, row)?);
+        assert!(rt; row_holds(&rt, alloc, row));
     }
-    Ok(())
 }
 
 /// Puts as many floors below one another as there may be, and gives the path of the lowest.
-fn deepest(alloc: Global, tree: &mut Tree, name: &Name) -> Result<Path, TreeError> {
-    let mut path = Path::parse(alloc, b"/")?;
+fn deepest(rt: &impl Abort, alloc: Global, tree: &mut Tree, name: &Name) -> Path {
+    let mut path = Path::parse(alloc, b"/").expect(rt, "a path");
     for _ in 0..MAX_DEPTH {
-        tree.add_child(alloc, &path, name.copy(alloc)?)?;
-        path = path.child(alloc, name)?;
+        let copy = name.copy(alloc).expect(rt, "memory");
+        tree.add_child(alloc, &path, copy).expect(rt, "a child");
+        path = path.child(alloc, name).expect(rt, "memory");
     }
-    Ok(path)
+    path
 }
 
-fn is_too_deep(
-    rt: &impl Abort,
-    alloc: Global,
-    tree: &mut Tree,
-    path: &Path,
-    name: Name,
-) -> Result<(), Fail> {
-    let before = source_text(alloc, tree)?;
+fn is_too_deep(rt: &impl Abort, alloc: Global, tree: &mut Tree, path: &Path, name: Name) {
+    let before = source_text(alloc, tree).expect(rt, "a text");
     let added = tree.add_child(alloc, path, name);
     assert!(rt; matches!(added, Err(TreeError::TooDeep)));
-    assert!(rt; source_text(alloc, tree)?.as_slice() == before.as_slice());
-    Ok(())
+    let after = source_text(alloc, tree).expect(rt, "a text");
+    assert!(rt; after.as_slice() == before.as_slice());
 }
 
-fn floors_end(rt: &impl Abort, alloc: Global, tree: &mut Tree) -> Result<(), Fail> {
-    let name = Name::new(alloc, b"floor")?;
-    let path = deepest(alloc, tree, &name)?;
-    is_too_deep(rt, alloc, tree, &path, name)?;
-    assert!(rt; made(alloc, tree, (Call::Remove, b"/", b"floor"))?);
-    Ok(())
+fn floors_end(rt: &impl Abort, alloc: Global, tree: &mut Tree) {
+    let name = Name::new(alloc, b"floor").expect(rt, "a name");
+    let path = deepest(rt, alloc, tree, &name);
+    is_too_deep(rt, alloc, tree, &path, name);
+    let removed = made(rt, alloc, tree, (Call::Remove, b"/", b"floor"));
+    assert!(rt; removed.expect(rt, "a change"));
 }
 
 /// A node below a path of 64 names is too deep, whatever its name; one with a taken name is not tested for depth.
 #[test]
-fn deepest_child(rt: HostRuntime) -> Result<(), Fail> {
-    let mut tree = base(rt.alloc())?;
-    floors_end(&rt, rt.alloc(), &mut tree)
+fn deepest_child(rt: HostRuntime) {
+    let mut tree = base(&rt, rt.alloc());
+    floors_end(&rt, rt.alloc(), &mut tree);
 }

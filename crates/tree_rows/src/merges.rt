@@ -4,7 +4,6 @@ use dt_blob::source_text;
 use dt_tree::{Name, Node, Path, Tree, TreeError};
 use std::alloc::Global;
 use std::process::Abort;
-use std::test::Fail;
 
 /// The tree that each row begins with.
 const BASE: &[u8] =
@@ -42,37 +41,33 @@ const OTHER_STEPS: [Step; 9] = [
     (Call::Add, b"/other/soc", b"uart"),
 ];
 
-fn floor(alloc: Global, children: Vec<Node>) -> Result<Node, TreeError> {
-    match Name::new(alloc, b"floor") {
-        Ok(name) => Node::new(alloc, Some(name), Vec::new(alloc), children),
-        Err(e) => Err(e),
-    }
+fn floor(rt: &impl Abort, alloc: Global, children: Vec<Node>) -> Node {
+    let name = Name::new(alloc, b"floor").expect(rt, "a name");
+    Node::new(alloc, Some(name), Vec::new(alloc), children).expect(rt, "a node")
 }
 
-fn over(alloc: Global, node: Node) -> Result<Node, TreeError> {
-    match Vec::from_array(alloc, [node]) {
-        Ok(children) => floor(alloc, children),
-        Err(_) => Err(TreeError::NoMemory),
-    }
+fn over(rt: &impl Abort, alloc: Global, node: Node) -> Node {
+    let children = Vec::from_array(alloc, [node]).ok().expect(rt, "memory");
+    floor(rt, alloc, children)
 }
 
 /// A node with so many levels of nodes below it.
-fn tower(alloc: Global, levels: usize) -> Result<Node, TreeError> {
-    let mut node = floor(alloc, Vec::new(alloc))?;
+fn tower(rt: &impl Abort, alloc: Global, levels: usize) -> Node {
+    let mut node = floor(rt, alloc, Vec::new(alloc));
     for _ in 0..levels {
-        node = over(alloc, node)?;
+        node = over(rt, alloc, node);
     }
-    Ok(node)
+    node
 }
 
 /// A path of so many names.
-fn stairs(alloc: Global, levels: usize) -> Result<Path, Fail> {
-    let name = Name::new(alloc, b"floor")?;
-    let mut path = Path::parse(alloc, b"/")?;
+fn stairs(rt: &impl Abort, alloc: Global, levels: usize) -> Path {
+    let name = Name::new(alloc, b"floor").expect(rt, "a name");
+    let mut path = Path::parse(alloc, b"/").expect(rt, "a path");
     for _ in 0..levels {
-        path = path.child(alloc, &name)?;
+        path = path.child(alloc, &name).expect(rt, "memory");
     }
-    Ok(path)
+    path
 }
 
 /// The number of the refusal, or 255 where there is a tree.
@@ -84,64 +79,62 @@ fn refusal(answer: Result<Tree, TreeError>) -> u8 {
 }
 
 /// The same, of a tower merged into a tree.
-fn tower_refused(alloc: Global, tree: &Tree, path: &Path, levels: usize) -> Result<u8, Fail> {
-    let node = tower(alloc, levels)?;
-    Ok(refusal(tree.merge(alloc, path, &node)))
+fn tower_refused(rt: &impl Abort, alloc: Global, tree: &Tree, path: &Path, levels: usize) -> u8 {
+    let node = tower(rt, alloc, levels);
+    refusal(tree.merge(alloc, path, &node))
 }
 
-fn is_written_as(rt: &impl Abort, alloc: Global, tree: &Tree, text: &[u8]) -> Result<(), Fail> {
+fn is_written_as(rt: &impl Abort, alloc: Global, tree: &Tree, text: &[u8]) {
     assert!(rt; tree.boot_cpu() == 3);
-    assert!(rt; source_text(alloc, tree)?.as_slice() == text);
-    Ok(())
+    let written = source_text(alloc, tree).expect(rt, "a text");
+    assert!(rt; written.as_slice() == text);
 }
 
-fn merged(alloc: Global, tree: &Tree, path: &[u8], node: &Node) -> Result<Tree, TreeError> {
-    let path = Path::parse(alloc, path)?;
-    tree.merge(alloc, &path, node)
+fn merged(rt: &impl Abort, alloc: Global, tree: &Tree, path: &[u8], node: &Node) -> Tree {
+    let path = Path::parse(alloc, path).expect(rt, "a path");
+    tree.merge(alloc, &path, node).expect(rt, "a tree")
 }
 
-fn is_merged(rt: &impl Abort, alloc: Global, tree: &Tree, others: &Tree) -> Result<(), Fail> {
-    let node = others.root().child(b"other").ok_or("no node")?;
+fn is_merged(rt: &impl Abort, alloc: Global, tree: &Tree, others: &Tree) {
+    let node = others.root().child(b"other").expect(rt, "a node");
     for (path, text) in [(b"/".as_slice(), AT_ROOT), (b"/clk".as_slice(), AT_CLK)] {
-        let tree = merged(alloc, tree, path, node)?;
-        is_written_as(rt, alloc, &tree, text)?;
+        let tree = merged(rt, alloc, tree, path, node);
+        is_written_as(rt, alloc, &tree, text);
     }
-    is_written_as(rt, alloc, tree, BASE)
+    is_written_as(rt, alloc, tree, BASE);
 }
 
 /// What is there keeps its place and takes the new value; what is new goes last. The tree that was merged into stays.
 #[test]
-fn merged_nodes(rt: HostRuntime) -> Result<(), Fail> {
-    let tree = grown(rt.alloc(), &[], &BASE_STEPS)?;
-    let others = grown(rt.alloc(), &[], &OTHER_STEPS)?;
-    is_merged(&rt, rt.alloc(), &tree, &others)
+fn merged_nodes(rt: HostRuntime) {
+    let tree = grown(&rt, rt.alloc(), &[], &BASE_STEPS);
+    let others = grown(&rt, rt.alloc(), &[], &OTHER_STEPS);
+    is_merged(&rt, rt.alloc(), &tree, &others);
 }
 
 /// The tree with ten levels of nodes below its root.
-fn high(alloc: Global, tree: &Tree) -> Result<Tree, Fail> {
-    let node = tower(alloc, 10)?;
-    Ok(merged(alloc, tree, b"/", &node)?)
+fn high(rt: &impl Abort, alloc: Global, tree: &Tree) -> Tree {
+    let node = tower(rt, alloc, 10);
+    merged(rt, alloc, tree, b"/", &node)
 }
 
-fn is_too_high(rt: &impl Abort, alloc: Global, tree: &Tree) -> Result<(), Fail> {
+fn is_too_high(rt: &impl Abort, alloc: Global, tree: &Tree) {
     for (names, levels, number) in [(10, 54, 255), (10, 60, 4), (11, 60, 5)] {
-        let path = stairs(alloc, names)?;
-        assert_eq!(rt; tower_refused(alloc, tree, &path, levels)?, number);
+        let path = stairs(rt, alloc, names);
+        assert_eq!(rt; tower_refused(rt, alloc, tree, &path, levels), number);
     }
-    Ok(())
 }
 
-fn is_nowhere(rt: &impl Abort, alloc: Global, tree: &Tree) -> Result<(), Fail> {
-    let nowhere = Path::parse(alloc, b"/uart")?;
-    assert_eq!(rt; tower_refused(alloc, tree, &nowhere, 64)?, 5);
-    Ok(())
+fn is_nowhere(rt: &impl Abort, alloc: Global, tree: &Tree) {
+    let nowhere = Path::parse(alloc, b"/uart").expect(rt, "a path");
+    assert_eq!(rt; tower_refused(rt, alloc, tree, &nowhere, 64), 5);
 }
 
 /// No node at the path is told before a node that would lie too deep.
 #[test]
-fn refused_merges(rt: HostRuntime) -> Result<(), Fail> {
-    let tree = grown(rt.alloc(), &[], &BASE_STEPS)?;
-    is_nowhere(&rt, rt.alloc(), &tree)?;
-    let high = high(rt.alloc(), &tree)?;
-    is_too_high(&rt, rt.alloc(), &high)
+fn refused_merges(rt: HostRuntime) {
+    let tree = grown(&rt, rt.alloc(), &[], &BASE_STEPS);
+    is_nowhere(&rt, rt.alloc(), &tree);
+    let high = high(&rt, rt.alloc(), &tree);
+    is_too_high(&rt, rt.alloc(), &high);
 }
