@@ -2,11 +2,10 @@
 use bus_drivers::plan_graph;
 use bus_plan::read_plan;
 use std::hash::RandomState;
-use std::test::Fail;
 
 /// Pictures: states, arrows, and the arrows of cycles.
 #[test]
-fn graphs(rt: HostRuntime) -> Result<(), Fail> {
+fn graphs(rt: HostRuntime) {
     let alloc = rt.alloc();
     let rows = [
         (
@@ -23,9 +22,9 @@ fn graphs(rt: HostRuntime) -> Result<(), Fail> {
         ),
     ];
     for (text, wanted) in rows {
-        let plan = read_plan(alloc, RandomState::new(&rt)?, text.as_bytes())?;
-        let graph = plan_graph(alloc, &plan)?;
+        let hasher = RandomState::new(&rt).expect(&rt, "a seed");
+        let plan = read_plan(alloc, hasher, text.as_bytes()).expect(&rt, "a plan");
+        let graph = plan_graph(alloc, &plan).expect(&rt, "a picture");
         assert_eq!(rt; graph.as_slice(), wanted.as_bytes());
     }
-    Ok(())
 }

@@ -8,22 +8,21 @@ use dt_tree::{Name, Path};
 use std::alloc::Global;
 use std::hash::RandomState;
 use std::process::Abort;
-use std::test::Fail;
 
-fn is_written_as(rt: &impl Abort, alloc: Global, plan: &Plan, text: &[u8]) -> Result<(), Fail> {
-    assert_eq!(rt; plan_text(alloc, plan)?.as_slice(), text);
-    Ok(())
+fn is_written_as(rt: &impl Abort, alloc: Global, plan: &Plan, text: &[u8]) {
+    let written = plan_text(alloc, plan).expect(rt, "a text");
+    assert_eq!(rt; written.as_slice(), text);
 }
 
-fn is_copied_as(rt: &impl Abort, alloc: Global, plan: &Plan, text: &[u8]) -> Result<(), Fail> {
-    let copy = plan.copy(alloc)?;
-    is_written_as(rt, alloc, &copy, text)
+fn is_copied_as(rt: &impl Abort, alloc: Global, plan: &Plan, text: &[u8]) {
+    let copy = plan.copy(alloc).expect(rt, "a copy");
+    is_written_as(rt, alloc, &copy, text);
 }
 
 /// Texts that are read, and what is written of them: one space between fields, no comments, no blank lines.
 #[test]
-fn plans_are_read_and_written(rt: HostRuntime) -> Result<(), Fail> {
-    let hasher = RandomState::new(&rt)?;
+fn plans_are_read_and_written(rt: HostRuntime) {
+    let hasher = RandomState::new(&rt).expect(&rt, "a seed");
     let rows: [(&[u8], &[u8]); 5] = [
         (b"", b""),
         (b"# none\n\n \t\n", b""),
@@ -39,16 +38,15 @@ fn plans_are_read_and_written(rt: HostRuntime) -> Result<(), Fail> {
     ];
     plan_text_is_read_back();
     for (text, written) in rows {
-        let plan = read_plan(rt.alloc(), hasher, text)?;
-        is_written_as(&rt, rt.alloc(), &plan, written)?;
-        is_copied_as(&rt, rt.alloc(), &plan, written)?;
+        let plan = read_plan(rt.alloc(), hasher, text).expect(&rt, "a plan");
+        is_written_as(&rt, rt.alloc(), &plan, written);
+        is_copied_as(&rt, rt.alloc(), &plan, written);
     }
-    Ok(())
 }
 
 /// Texts that are refused, with the line at fault: the first fault in line order, and unknown suppliers behind all others.
 #[test]
-fn faults_are_named_in_line_order(rt: HostRuntime) -> Result<(), Fail> {
+fn faults_are_named_in_line_order(rt: HostRuntime) {
     let rows: [(&[u8], PlanError); 22] = [
         (b"/a", PlanError::BadLine(1)),
         (b"/a x", PlanError::BadLine(1)),
@@ -74,15 +72,15 @@ fn faults_are_named_in_line_order(rt: HostRuntime) -> Result<(), Fail> {
         (b"/a x ok /c\n/a x ok /\n", PlanError::BadLine(2)),
     ];
     for (text, error) in rows {
-        let plan = read_plan(rt.alloc(), RandomState::new(&rt)?, text);
+        let hasher = RandomState::new(&rt).expect(&rt, "a seed");
+        let plan = read_plan(rt.alloc(), hasher, text);
         assert_eq!(rt; plan.err(), Some(error));
     }
-    Ok(())
 }
 
 /// Each refusal by its number, its name and its line.
 #[test]
-fn refusals_have_numbers_and_names(rt: HostRuntime) -> Result<(), Fail> {
+fn refusals_have_numbers_and_names(rt: HostRuntime) {
     let rows: [(PlanError, u8, &str, Option<usize>); 8] = [
         (PlanError::NoMemory, 0, "NoMemory", None),
         (PlanError::BadLine(7), 50, "BadLine", Some(7)),
@@ -108,7 +106,6 @@ fn refusals_have_numbers_and_names(rt: HostRuntime) -> Result<(), Fail> {
         assert_eq!(rt; error.name(), name);
         assert_eq!(rt; error.line(), line);
     }
-    Ok(())
 }
 
 fn two_devices_are_told(rt: &impl Abort, plan: &Plan) {
@@ -124,14 +121,14 @@ fn two_devices_are_told(rt: &impl Abort, plan: &Plan) {
 }
 
 #[test]
-fn readers_answer(rt: HostRuntime) -> Result<(), Fail> {
+fn readers_answer(rt: HostRuntime) {
     let text = b"/s ! -\n/d y fail /s\n";
-    let plan = read_plan(rt.alloc(), RandomState::new(&rt)?, text)?;
+    let hasher = RandomState::new(&rt).expect(&rt, "a seed");
+    let plan = read_plan(rt.alloc(), hasher, text).expect(&rt, "a plan");
     plan.check();
     two_devices_are_told(&rt, &plan);
     let found = [plan.device(b"/d"), plan.device(b"/x")];
     assert_eq!(rt; found, [Some(Device::new(1)), None]);
-    Ok(())
 }
 
 fn has_consumers(rt: &impl Abort, plan: &Plan, place: usize, consumers: &[Device]) {
@@ -141,9 +138,10 @@ fn has_consumers(rt: &impl Abort, plan: &Plan, place: usize, consumers: &[Device
 
 /// The consumers of row `diamond`'s devices, and of a device that itself stands last.
 #[test]
-fn consumers_stand_in_plan_order(rt: HostRuntime) -> Result<(), Fail> {
+fn consumers_stand_in_plan_order(rt: HostRuntime) {
     let text = b"/a x ok /e\n/b x ok /a\n/c x ok /e /a\n/d x ok /c /b\n/e ! -\n";
-    let plan = read_plan(rt.alloc(), RandomState::new(&rt)?, text)?;
+    let hasher = RandomState::new(&rt).expect(&rt, "a seed");
+    let plan = read_plan(rt.alloc(), hasher, text).expect(&rt, "a plan");
     let (a, b) = (Device::new(0), Device::new(1));
     let (c, d) = (Device::new(2), Device::new(3));
     let rows: [(usize, &[Device]); 5] = [
@@ -156,18 +154,17 @@ fn consumers_stand_in_plan_order(rt: HostRuntime) -> Result<(), Fail> {
     for (place, consumers) in rows {
         has_consumers(&rt, &plan, place, consumers);
     }
-    Ok(())
 }
 
 // A device by its parts.
-fn planned(alloc: Global) -> Result<Planned, Fail> {
-    Ok(Planned::new(
-        Path::parse(alloc, b"/d")?,
+fn planned(rt: &impl Abort, alloc: Global) -> Planned {
+    Planned::new(
+        Path::parse(alloc, b"/d").expect(rt, "a path"),
         true,
-        Some(Name::new(alloc, b"x")?),
+        Some(Name::new(alloc, b"x").expect(rt, "a name")),
         Verdict::Fails,
-        Vec::from_slice(alloc, &[Device::new(1)])?,
-    ))
+        Vec::from_slice(alloc, &[Device::new(1)]).expect(rt, "memory"),
+    )
 }
 
 fn is_planned(rt: &impl Abort, device: &Planned) {
@@ -178,59 +175,58 @@ fn is_planned(rt: &impl Abort, device: &Planned) {
 }
 
 #[test]
-fn devices_are_made_of_parts(rt: HostRuntime) -> Result<(), Fail> {
-    let device = planned(rt.alloc())?;
+fn devices_are_made_of_parts(rt: HostRuntime) {
+    let device = planned(&rt, rt.alloc());
     is_planned(&rt, &device);
-    let copy = device.copy(rt.alloc())?;
+    let copy = device.copy(rt.alloc()).expect(&rt, "a copy");
     is_planned(&rt, &copy);
-    Ok(())
 }
 
-fn many_devices(alloc: Global, count: usize) -> Result<Vec<u8>, Fail> {
+fn many_devices(rt: &impl Abort, alloc: Global, count: usize) -> Vec<u8> {
     let mut text = Vec::new(alloc);
     for number in 0..count {
-        let line = format!(in alloc; "/d{number} x ok\n")?;
-        text.extend_from_slice(line.as_bytes())?;
+        let line = format!(in alloc; "/d{number} x ok\n").expect(rt, "memory");
+        text.extend_from_slice(line.as_bytes()).expect(rt, "memory");
     }
-    Ok(text)
+    text
 }
 
 // How many devices a plan of so many lines has.
 fn count_read(
+    rt: &impl Abort,
     alloc: Global,
     hasher: RandomState,
     lines: usize,
-) -> Result<Result<usize, PlanError>, Fail> {
-    let text = many_devices(alloc, lines)?;
+) -> Result<usize, PlanError> {
+    let text = many_devices(rt, alloc, lines);
     match read_plan(alloc, hasher, text.as_slice()) {
-        Ok(plan) => Ok(Ok(plan.len())),
-        Err(error) => Ok(Err(error)),
+        Ok(plan) => Ok(plan.len()),
+        Err(error) => Err(error),
     }
 }
 
 /// One device more than a plan may have is refused.
 #[test]
-fn a_device_too_many_is_refused(rt: HostRuntime) -> Result<(), Fail> {
-    let hasher = RandomState::new(&rt)?;
-    let full = count_read(rt.alloc(), hasher, MAX_DEVICES)?;
+fn a_device_too_many_is_refused(rt: HostRuntime) {
+    let hasher = RandomState::new(&rt).expect(&rt, "a seed");
+    let full = count_read(&rt, rt.alloc(), hasher, MAX_DEVICES);
     assert_eq!(rt; full, Ok(MAX_DEVICES));
-    let over = count_read(rt.alloc(), hasher, MAX_DEVICES + 1)?;
+    let over = count_read(&rt, rt.alloc(), hasher, MAX_DEVICES + 1);
     assert_eq!(rt; over, Err(PlanError::TooManyDevices));
-    Ok(())
 }
 
-fn joined_lines(alloc: Global, text: &[u8]) -> Result<Vec<u8>, Fail> {
+fn joined_lines(rt: &impl Abort, alloc: Global, text: &[u8]) -> Vec<u8> {
     let mut joined = Vec::new(alloc);
     for line in lines_of(text) {
-        joined.extend_from_slice(line)?;
-        joined.push(b'|')?;
+        joined.extend_from_slice(line).expect(rt, "memory");
+        joined.push(b'|').expect(rt, "memory");
     }
-    Ok(joined)
+    joined
 }
 
 /// Lines end with a line feed, which takes one carriage return with it; the last may lack its line feed.
 #[test]
-fn texts_are_cut_into_lines(rt: HostRuntime) -> Result<(), Fail> {
+fn texts_are_cut_into_lines(rt: HostRuntime) {
     let rows: [(&[u8], &[u8]); 4] = [
         (b"", b""),
         (b"a", b"a|"),
@@ -238,14 +234,14 @@ fn texts_are_cut_into_lines(rt: HostRuntime) -> Result<(), Fail> {
         (b"a\r\nb\r\r\nc\r", b"a|b\r|c\r|"),
     ];
     for (text, lines) in rows {
-        assert_eq!(rt; joined_lines(rt.alloc(), text)?.as_slice(), lines);
+        let joined = joined_lines(&rt, rt.alloc(), text);
+        assert_eq!(rt; joined.as_slice(), lines);
     }
-    Ok(())
 }
 
 /// A line has tabs and the bytes 0x20 to 0x7e alone.
 #[test]
-fn bytes_of_lines(rt: HostRuntime) -> Result<(), Fail> {
+fn bytes_of_lines(rt: HostRuntime) {
     let rows: [(u8, bool); 7] = [
         (8, false),
         (b'\t', true),
@@ -259,21 +255,20 @@ fn bytes_of_lines(rt: HostRuntime) -> Result<(), Fail> {
         assert_eq!(rt; is_line_byte(byte), lawful);
         assert_eq!(rt; is_line(&[b'a', byte]), lawful);
     }
-    Ok(())
 }
 
-fn joined_fields(alloc: Global, line: &[u8]) -> Result<Vec<u8>, Fail> {
+fn joined_fields(rt: &impl Abort, alloc: Global, line: &[u8]) -> Vec<u8> {
     let mut joined = Vec::new(alloc);
     for field in Fields::of(line) {
-        joined.extend_from_slice(field)?;
-        joined.push(b'|')?;
+        joined.extend_from_slice(field).expect(rt, "memory");
+        joined.push(b'|').expect(rt, "memory");
     }
-    Ok(joined)
+    joined
 }
 
 /// Fields stand between spaces and tabs; a line without one, or whose first begins with `#`, is skipped.
 #[test]
-fn lines_are_cut_into_fields(rt: HostRuntime) -> Result<(), Fail> {
+fn lines_are_cut_into_fields(rt: HostRuntime) {
     let rows: [(&[u8], &[u8], bool); 6] = [
         (b"", b"", true),
         (b" \t ", b"", true),
@@ -283,10 +278,10 @@ fn lines_are_cut_into_fields(rt: HostRuntime) -> Result<(), Fail> {
         (b" \tbegin  /a\t#x ", b"begin|/a|#x|", false),
     ];
     for (line, fields, skipped) in rows {
-        assert_eq!(rt; joined_fields(rt.alloc(), line)?.as_slice(), fields);
+        let joined = joined_fields(&rt, rt.alloc(), line);
+        assert_eq!(rt; joined.as_slice(), fields);
         assert_eq!(rt; Fields::of(line).is_skipped(), skipped);
     }
-    Ok(())
 }
 
 fn first_field<'a>(line: &'a [u8]) -> Result<Option<&'a [u8]>, PlanError> {
@@ -298,7 +293,7 @@ fn first_field<'a>(line: &'a [u8]) -> Result<Option<&'a [u8]>, PlanError> {
 
 /// A line is read as its fields, as nothing where it is skipped, or refused with its number.
 #[test]
-fn lines_are_read(rt: HostRuntime) -> Result<(), Fail> {
+fn lines_are_read(rt: HostRuntime) {
     let rows: [(&[u8], Result<Option<&[u8]>, PlanError>); 5] = [
         (b"", Ok(None)),
         (b" # a", Ok(None)),
@@ -309,5 +304,4 @@ fn lines_are_read(rt: HostRuntime) -> Result<(), Fail> {
     for (line, read) in rows {
         assert_eq!(rt; first_field(line), read);
     }
-    Ok(())
 }
