@@ -3,37 +3,39 @@
 //! What a row gives is worked by hand from the Devicetree Specification, chapter 6, and from the rules of edits and phandles.
 
 use engine::{compile_bytes, dump_bytes};
-use std::alloc::{AllocError, Global};
+use std::alloc::Global;
 use std::hash::RandomState;
-use std::test::Fail;
+use std::process::Abort;
 
 /// The blob of a source, or the line that tells why there is none.
 pub(crate) fn compiled(
+    rt: &impl Abort,
     alloc: Global,
     hasher: RandomState,
     source: &str,
     symbols: bool,
-) -> Result<Vec<u8>, AllocError> {
+) -> Vec<u8> {
     match compile_bytes(alloc, hasher, source.as_bytes(), symbols) {
-        Ok(blob) => Ok(blob),
+        Ok(blob) => blob,
         Err(fault) => {
-            let line = format!(in alloc; "{fault}")?;
-            Ok(line.into_bytes())
+            let line = format!(in alloc; "{fault}").expect(rt, "memory");
+            line.into_bytes()
         }
     }
 }
 
 /// The same, with the blob printed as a canonical source, without its first two lines.
 pub(crate) fn printed(
+    rt: &impl Abort,
     alloc: Global,
     hasher: RandomState,
     source: &str,
     symbols: bool,
-) -> Result<Vec<u8>, AllocError> {
-    let blob = compiled(alloc, hasher, source, symbols)?;
+) -> Vec<u8> {
+    let blob = compiled(rt, alloc, hasher, source, symbols);
     match dump_bytes(alloc, blob.as_slice()) {
-        Ok(text) => Vec::from_slice(alloc, &text.as_slice()[11..]),
-        Err(_) => Ok(blob),
+        Ok(text) => Vec::from_slice(alloc, &text.as_slice()[11..]).expect(rt, "memory"),
+        Err(_) => blob,
     }
 }
 
@@ -67,13 +69,12 @@ const BLOBS: [(&str, &str, &[u8]); 4] = [
 ];
 
 #[test]
-fn writes_the_blobs_of_the_rows(rt: HostRuntime) -> Result<(), Fail> {
-    let hasher = RandomState::new(&rt)?;
+fn writes_the_blobs_of_the_rows(rt: HostRuntime) {
+    let hasher = RandomState::new(&rt).expect(&rt, "a seed");
     for (name, source, wanted) in BLOBS {
-        let blob = compiled(rt.alloc(), hasher, source, false)?;
+        let blob = compiled(&rt, rt.alloc(), hasher, source, false);
         assert_eq!(rt; blob.as_slice(), wanted, "{name}");
     }
-    Ok(())
 }
 
 /// Row, source, whether with symbols, and the root as it is printed, or the refusal.
@@ -153,13 +154,12 @@ const ROWS: [(&str, &str, bool, &str); 12] = [
 ];
 
 #[test]
-fn compiles_the_worked_rows(rt: HostRuntime) -> Result<(), Fail> {
-    let hasher = RandomState::new(&rt)?;
+fn compiles_the_worked_rows(rt: HostRuntime) {
+    let hasher = RandomState::new(&rt).expect(&rt, "a seed");
     for (name, source, symbols, wanted) in ROWS {
-        let text = printed(rt.alloc(), hasher, source, symbols)?;
+        let text = printed(&rt, rt.alloc(), hasher, source, symbols);
         assert_eq!(rt; text.as_slice(), wanted.as_bytes(), "{name}");
     }
-    Ok(())
 }
 
 /// Row, source, whether with symbols, and the refusal.
@@ -329,18 +329,17 @@ const REFUSALS: [(&str, &str, bool, &str); 27] = [
 ];
 
 #[test]
-fn refuses_the_worked_rows(rt: HostRuntime) -> Result<(), Fail> {
-    let hasher = RandomState::new(&rt)?;
+fn refuses_the_worked_rows(rt: HostRuntime) {
+    let hasher = RandomState::new(&rt).expect(&rt, "a seed");
     for (name, source, symbols, wanted) in REFUSALS {
-        let line = compiled(rt.alloc(), hasher, source, symbols)?;
+        let line = compiled(&rt, rt.alloc(), hasher, source, symbols);
         assert_eq!(rt; line.as_slice(), wanted.as_bytes(), "{name}");
     }
-    Ok(())
 }
 
 #[test]
-fn printed_blobs_compile_to_themselves(rt: HostRuntime) -> Result<(), Fail> {
-    let hasher = RandomState::new(&rt)?;
+fn printed_blobs_compile_to_themselves(rt: HostRuntime) {
+    let hasher = RandomState::new(&rt).expect(&rt, "a seed");
     for (name, _, wanted) in BLOBS {
         match dump_bytes(rt.alloc(), wanted) {
             Ok(text) => match compile_bytes(rt.alloc(), hasher, text.as_slice(), false) {
@@ -350,37 +349,35 @@ fn printed_blobs_compile_to_themselves(rt: HostRuntime) -> Result<(), Fail> {
             Err(_) => assert!(rt; false, "{name}"),
         }
     }
-    Ok(())
 }
 
-pub(crate) fn repeat(text: &mut Vec<u8>, part: &[u8], times: usize) -> Result<(), AllocError> {
+pub(crate) fn repeat(rt: &impl Abort, text: &mut Vec<u8>, part: &[u8], times: usize) {
     for _ in 0..times {
-        text.extend_from_slice(part)?;
+        text.extend_from_slice(part).expect(rt, "memory");
     }
-    Ok(())
 }
 
 // A node at level 64, and an extension of it.
-fn extends_at_64(alloc: Global, extension: &[u8]) -> Result<Vec<u8>, AllocError> {
-    let mut text = Vec::from_slice(alloc, b"/dts-v1/; / { ")?;
-    repeat(&mut text, b"a { ", 63)?;
-    text.extend_from_slice(b"l: a { }; ")?;
-    repeat(&mut text, b"}; ", 63)?;
-    text.extend_from_slice(b"}; ")?;
-    text.extend_from_slice(extension)?;
-    Ok(text)
+fn extends_at_64(rt: &impl Abort, alloc: Global, extension: &[u8]) -> Vec<u8> {
+    let mut text = Vec::from_slice(alloc, b"/dts-v1/; / { ").expect(rt, "memory");
+    repeat(rt, &mut text, b"a { ", 63);
+    text.extend_from_slice(b"l: a { }; ").expect(rt, "memory");
+    repeat(rt, &mut text, b"}; ", 63);
+    text.extend_from_slice(b"}; ").expect(rt, "memory");
+    text.extend_from_slice(extension).expect(rt, "memory");
+    text
 }
 
 /// A node deeper than 64 is 28, by an extension too.
 #[test]
-fn depth_is_limited(rt: HostRuntime) -> Result<(), Fail> {
-    let hasher = RandomState::new(&rt)?;
+fn depth_is_limited(rt: HostRuntime) {
+    let hasher = RandomState::new(&rt).expect(&rt, "a seed");
     for (extension, refused) in [("&l { x; };", false), ("&l { b { }; };", true)] {
-        let text = extends_at_64(rt.alloc(), extension.as_bytes())?;
+        let text = extends_at_64(&rt, rt.alloc(), extension.as_bytes());
         match compile_bytes(rt.alloc(), hasher, text.as_slice(), false) {
             Ok(_) => assert!(rt; !refused, "{extension}"),
             Err(fault) => {
-                let line = format!(in rt.alloc(); "{fault}")?;
+                let line = format!(in rt.alloc(); "{fault}").expect(&rt, "memory");
                 assert_eq!(rt;
                     line.as_bytes() == b"error 28 TooDeep".as_slice(),
                     refused,
@@ -389,5 +386,4 @@ fn depth_is_limited(rt: HostRuntime) -> Result<(), Fail> {
             }
         }
     }
-    Ok(())
 }

@@ -4,19 +4,19 @@ mod channels;
 mod errors;
 
 use engine::{Fault, dump_bytes, replay_bytes};
-use std::alloc::{AllocError, Global};
+use std::alloc::Global;
 use std::hash::RandomState;
-use std::test::Fail;
+use std::process::Abort;
 
 const CLOCK_AND_UART: &str = "/clk fixed ok\n/uart ns ok /clk\n";
 
 /// What the program would print for an answer.
-fn printed(alloc: Global, answer: Result<Vec<u8>, Fault>) -> Result<Vec<u8>, AllocError> {
+fn printed(rt: &impl Abort, alloc: Global, answer: Result<Vec<u8>, Fault>) -> Vec<u8> {
     match answer {
-        Ok(text) => Ok(text),
+        Ok(text) => text,
         Err(fault) => {
-            let line = format!(in alloc; "{fault}")?;
-            Ok(line.into_bytes())
+            let line = format!(in alloc; "{fault}").expect(rt, "memory");
+            line.into_bytes()
         }
     }
 }
@@ -75,14 +75,13 @@ const REPLAYS: [(&str, &str, &str, &str); 9] = [
 ];
 
 #[test]
-fn replays_the_worked_rows(rt: HostRuntime) -> Result<(), Fail> {
-    let hasher = RandomState::new(&rt)?;
+fn replays_the_worked_rows(rt: HostRuntime) {
+    let hasher = RandomState::new(&rt).expect(&rt, "a seed");
     for (name, plan, schedule, wanted) in REPLAYS {
         let answer = replay_bytes(rt.alloc(), hasher, plan.as_bytes(), schedule.as_bytes());
-        let text = printed(rt.alloc(), answer)?;
+        let text = printed(&rt, rt.alloc(), answer);
         assert_eq!(rt; text.as_slice(), wanted.as_bytes(), "{name}");
     }
-    Ok(())
 }
 
 /// The blob of the source `/ { a = <1>; };`.
@@ -94,16 +93,15 @@ const ONE_CELL: [u8; 90] = [
 ];
 
 #[test]
-fn dumps_one_cell_and_changed_blobs(rt: HostRuntime) -> Result<(), Fail> {
+fn dumps_one_cell_and_changed_blobs(rt: HostRuntime) {
     let blob = ONE_CELL.as_slice();
-    let text = printed(rt.alloc(), dump_bytes(rt.alloc(), blob))?;
+    let text = printed(&rt, rt.alloc(), dump_bytes(rt.alloc(), blob));
     let wanted = "/dts-v1/;\n\n/ {\n\ta = <0x00000001>;\n};\n";
     assert_eq!(rt; text.as_slice(), wanted.as_bytes());
-    let cut = printed(rt.alloc(), dump_bytes(rt.alloc(), &blob[..89]))?;
+    let cut = printed(&rt, rt.alloc(), dump_bytes(rt.alloc(), &blob[..89]));
     assert_eq!(rt; cut.as_slice(), b"error 30 Truncated".as_slice());
     let mut changed = ONE_CELL;
     changed[23] = 3;
-    let version = printed(rt.alloc(), dump_bytes(rt.alloc(), changed.as_slice()))?;
+    let version = printed(&rt, rt.alloc(), dump_bytes(rt.alloc(), changed.as_slice()));
     assert_eq!(rt; version.as_slice(), b"error 32 BadVersion".as_slice());
-    Ok(())
 }

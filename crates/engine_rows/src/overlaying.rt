@@ -5,39 +5,40 @@
 
 use crate::compiling::compiled;
 use engine::{Fault, dump_bytes, overlay_bytes};
-use std::alloc::{AllocError, Global};
+use std::alloc::Global;
 use std::hash::RandomState;
-use std::test::Fail;
+use std::process::Abort;
 
 /// The base of all tables, which is compiled with symbols: /ocp has the phandle 1.
 const BASE: &str = "/dts-v1/; / { ocp: ocp { }; };";
 
 /// The blob printed as a canonical source, without its first two lines, or the line of the refusal.
-fn printed(alloc: Global, answer: Result<Vec<u8>, Fault>) -> Result<Vec<u8>, AllocError> {
+fn printed(rt: &impl Abort, alloc: Global, answer: Result<Vec<u8>, Fault>) -> Vec<u8> {
     match answer {
         Ok(blob) => match dump_bytes(alloc, blob.as_slice()) {
-            Ok(text) => Vec::from_slice(alloc, &text.as_slice()[11..]),
-            Err(_) => Ok(blob),
+            Ok(text) => Vec::from_slice(alloc, &text.as_slice()[11..]).expect(rt, "memory"),
+            Err(_) => blob,
         },
         Err(fault) => {
-            let line = format!(in alloc; "{fault}")?;
-            Ok(line.into_bytes())
+            let line = format!(in alloc; "{fault}").expect(rt, "memory");
+            line.into_bytes()
         }
     }
 }
 
 /// What is printed of the overlay's source applied to the base's.
 fn applied(
+    rt: &impl Abort,
     alloc: Global,
     hasher: RandomState,
     base: &str,
     symbols: bool,
     overlay: &str,
-) -> Result<Vec<u8>, AllocError> {
-    let base = compiled(alloc, hasher, base, symbols)?;
-    let overlay = compiled(alloc, hasher, overlay, false)?;
+) -> Vec<u8> {
+    let base = compiled(rt, alloc, hasher, base, symbols);
+    let overlay = compiled(rt, alloc, hasher, overlay, false);
     let answer = overlay_bytes(alloc, hasher, base.as_slice(), overlay.as_slice());
-    printed(alloc, answer)
+    printed(rt, alloc, answer)
 }
 
 /// Row, overlay, and the root of what is made, as it is printed.
@@ -95,13 +96,12 @@ const ROWS: [(&str, &str, &str); 10] = [
 ];
 
 #[test]
-fn applies_the_worked_rows(rt: HostRuntime) -> Result<(), Fail> {
-    let hasher = RandomState::new(&rt)?;
+fn applies_the_worked_rows(rt: HostRuntime) {
+    let hasher = RandomState::new(&rt).expect(&rt, "a seed");
     for (name, overlay, wanted) in ROWS {
-        let text = applied(rt.alloc(), hasher, BASE, true, overlay)?;
+        let text = applied(&rt, rt.alloc(), hasher, BASE, true, overlay);
         assert_eq!(rt; text.as_slice(), wanted.as_bytes(), "{name}");
     }
-    Ok(())
 }
 
 /// Row, overlay, and the refusal.
@@ -199,13 +199,12 @@ const REFUSALS: [(&str, &str, &str); 18] = [
 ];
 
 #[test]
-fn refuses_the_worked_rows(rt: HostRuntime) -> Result<(), Fail> {
-    let hasher = RandomState::new(&rt)?;
+fn refuses_the_worked_rows(rt: HostRuntime) {
+    let hasher = RandomState::new(&rt).expect(&rt, "a seed");
     for (name, overlay, wanted) in REFUSALS {
-        let line = applied(rt.alloc(), hasher, BASE, true, overlay)?;
+        let line = applied(&rt, rt.alloc(), hasher, BASE, true, overlay);
         assert_eq!(rt; line.as_slice(), wanted.as_bytes(), "{name}");
     }
-    Ok(())
 }
 
 /// What was changed in the overlay of row `overlay-pair`, the overlay, and the answer.
@@ -268,13 +267,12 @@ const CHANGED: [(&str, &str, &str); 11] = [
 ];
 
 #[test]
-fn answers_for_changed_overlays(rt: HostRuntime) -> Result<(), Fail> {
-    let hasher = RandomState::new(&rt)?;
+fn answers_for_changed_overlays(rt: HostRuntime) {
+    let hasher = RandomState::new(&rt).expect(&rt, "a seed");
     for (name, overlay, wanted) in CHANGED {
-        let text = applied(rt.alloc(), hasher, BASE, true, overlay)?;
+        let text = applied(&rt, rt.alloc(), hasher, BASE, true, overlay);
         assert_eq!(rt; text.as_slice(), wanted.as_bytes(), "{name}");
     }
-    Ok(())
 }
 
 /// Row, base, whether it is compiled with symbols, overlay, and the answer.
@@ -324,53 +322,53 @@ const BASES: [(&str, &str, bool, &str, &str); 6] = [
 ];
 
 #[test]
-fn answers_for_other_bases(rt: HostRuntime) -> Result<(), Fail> {
-    let hasher = RandomState::new(&rt)?;
+fn answers_for_other_bases(rt: HostRuntime) {
+    let hasher = RandomState::new(&rt).expect(&rt, "a seed");
     for (name, base, symbols, overlay, wanted) in BASES {
-        let text = applied(rt.alloc(), hasher, base, symbols, overlay)?;
+        let text = applied(&rt, rt.alloc(), hasher, base, symbols, overlay);
         assert_eq!(rt; text.as_slice(), wanted.as_bytes(), "{name}");
     }
-    Ok(())
 }
 
 /// An overlay whose one fragment has 62 nodes one below the other, the deepest that a blob can have there.
-fn deep_overlay(alloc: Global, target: &str) -> Result<String, AllocError> {
+fn deep_overlay(rt: &impl Abort, alloc: Global, target: &str) -> String {
     let mut source = String::new(alloc);
-    source.push_str("/dts-v1/; / { fragment@0 { target-path = \"")?;
-    source.push_str(target)?;
-    source.push_str("\"; __overlay__ { ")?;
+    source
+        .push_str("/dts-v1/; / { fragment@0 { target-path = \"")
+        .expect(rt, "memory");
+    source.push_str(target).expect(rt, "memory");
+    source.push_str("\"; __overlay__ { ").expect(rt, "memory");
     for _ in 0..62u8 {
-        source.push_str("n { ")?;
+        source.push_str("n { ").expect(rt, "memory");
     }
     for _ in 0..62u8 {
-        source.push_str("}; ")?;
+        source.push_str("}; ").expect(rt, "memory");
     }
-    source.push_str("}; }; };")?;
-    Ok(source)
+    source.push_str("}; }; };").expect(rt, "memory");
+    source
 }
 
 #[test]
-fn nodes_are_at_most_64_deep(rt: HostRuntime) -> Result<(), Fail> {
-    let hasher = RandomState::new(&rt)?;
+fn nodes_are_at_most_64_deep(rt: HostRuntime) {
+    let hasher = RandomState::new(&rt).expect(&rt, "a seed");
     let base = "/dts-v1/; / { a { b { c { }; }; }; };";
-    let below = deep_overlay(rt.alloc(), "/a/b")?;
-    let deepest = applied(rt.alloc(), hasher, base, true, below.as_str())?;
+    let below = deep_overlay(&rt, rt.alloc(), "/a/b");
+    let deepest = applied(&rt, rt.alloc(), hasher, base, true, below.as_str());
     assert!(rt;
         deepest
             .as_slice()
             .starts_with(b"/ {\n\ta {\n\t\tb {\n\t\t\tc {\n\t\t\t};\n\t\t\tn {\n")
     );
-    let below = deep_overlay(rt.alloc(), "/a/b/c")?;
-    let deeper = applied(rt.alloc(), hasher, base, true, below.as_str())?;
+    let below = deep_overlay(&rt, rt.alloc(), "/a/b/c");
+    let deeper = applied(&rt, rt.alloc(), hasher, base, true, below.as_str());
     assert_eq!(rt; deeper.as_slice(), b"error 46 TooDeep".as_slice());
-    Ok(())
 }
 
 /// Bytes that hold no tree, the base's before the overlay's; and row `not-an-overlay`.
 #[test]
-fn tells_the_faults_of_the_blobs(rt: HostRuntime) -> Result<(), Fail> {
-    let hasher = RandomState::new(&rt)?;
-    let base = compiled(rt.alloc(), hasher, BASE, true)?;
+fn tells_the_faults_of_the_blobs(rt: HostRuntime) {
+    let hasher = RandomState::new(&rt).expect(&rt, "a seed");
+    let base = compiled(&rt, rt.alloc(), hasher, BASE, true);
     let zeros = [0u8; 40];
     let rows: [(&[u8], &[u8], &str); 5] = [
         (b"", zeros.as_slice(), "error 30 Truncated"),
@@ -380,8 +378,8 @@ fn tells_the_faults_of_the_blobs(rt: HostRuntime) -> Result<(), Fail> {
         (base.as_slice(), base.as_slice(), "error 40 NotOverlay"),
     ];
     for (base, overlay, wanted) in rows {
-        let line = printed(rt.alloc(), overlay_bytes(rt.alloc(), hasher, base, overlay))?;
+        let answer = overlay_bytes(rt.alloc(), hasher, base, overlay);
+        let line = printed(&rt, rt.alloc(), answer);
         assert_eq!(rt; line.as_slice(), wanted.as_bytes());
     }
-    Ok(())
 }

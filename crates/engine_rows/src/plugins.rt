@@ -4,9 +4,9 @@
 
 use crate::compiling::{compiled, printed, repeat};
 use engine::compile_bytes;
-use std::alloc::{AllocError, Global};
+use std::alloc::Global;
 use std::hash::RandomState;
-use std::test::Fail;
+use std::process::Abort;
 
 /// Row, source, whether with symbols, and the root as it is printed.
 const ROWS: [(&str, &str, bool, &str); 11] = [
@@ -79,13 +79,12 @@ const ROWS: [(&str, &str, bool, &str); 11] = [
 ];
 
 #[test]
-fn compiles_plugins(rt: HostRuntime) -> Result<(), Fail> {
-    let hasher = RandomState::new(&rt)?;
+fn compiles_plugins(rt: HostRuntime) {
+    let hasher = RandomState::new(&rt).expect(&rt, "a seed");
     for (name, source, symbols, wanted) in ROWS {
-        let root = printed(rt.alloc(), hasher, source, symbols)?;
+        let root = printed(&rt, rt.alloc(), hasher, source, symbols);
         assert_eq!(rt; root.as_slice(), wanted.as_bytes(), "{name}");
     }
-    Ok(())
 }
 
 /// Row, source, and the refusal.
@@ -153,35 +152,35 @@ const REFUSALS: [(&str, &str, &str); 12] = [
 ];
 
 #[test]
-fn refuses_plugins(rt: HostRuntime) -> Result<(), Fail> {
-    let hasher = RandomState::new(&rt)?;
+fn refuses_plugins(rt: HostRuntime) {
+    let hasher = RandomState::new(&rt).expect(&rt, "a seed");
     for (name, source, wanted) in REFUSALS {
-        let line = compiled(rt.alloc(), hasher, source, false)?;
+        let line = compiled(&rt, rt.alloc(), hasher, source, false);
         assert_eq!(rt; line.as_slice(), wanted.as_bytes(), "{name}");
     }
-    Ok(())
 }
 
 // A node that refers to itself in cells, with so many nodes between it and the root.
-fn refers_below(alloc: Global, between: usize) -> Result<Vec<u8>, AllocError> {
-    let mut text = Vec::from_slice(alloc, b"/dts-v1/; /plugin/; / { ")?;
-    repeat(&mut text, b"a { ", between)?;
-    text.extend_from_slice(b"l: a { r = <&l>; }; ")?;
-    repeat(&mut text, b"}; ", between)?;
-    text.extend_from_slice(b"};")?;
-    Ok(text)
+fn refers_below(rt: &impl Abort, alloc: Global, between: usize) -> Vec<u8> {
+    let mut text = Vec::from_slice(alloc, b"/dts-v1/; /plugin/; / { ").expect(rt, "memory");
+    repeat(rt, &mut text, b"a { ", between);
+    text.extend_from_slice(b"l: a { r = <&l>; }; ")
+        .expect(rt, "memory");
+    repeat(rt, &mut text, b"}; ", between);
+    text.extend_from_slice(b"};").expect(rt, "memory");
+    text
 }
 
 /// The mirror of a node at level 64 would stand at level 65.
 #[test]
-fn mirrors_are_limited(rt: HostRuntime) -> Result<(), Fail> {
-    let hasher = RandomState::new(&rt)?;
+fn mirrors_are_limited(rt: HostRuntime) {
+    let hasher = RandomState::new(&rt).expect(&rt, "a seed");
     for (between, refused) in [(62, false), (63, true)] {
-        let text = refers_below(rt.alloc(), between)?;
+        let text = refers_below(&rt, rt.alloc(), between);
         match compile_bytes(rt.alloc(), hasher, text.as_slice(), false) {
             Ok(_) => assert!(rt; !refused, "{between}"),
             Err(fault) => {
-                let line = format!(in rt.alloc(); "{fault}")?;
+                let line = format!(in rt.alloc(); "{fault}").expect(&rt, "memory");
                 assert_eq!(rt;
                     line.as_bytes() == b"error 28 TooDeep".as_slice(),
                     refused,
@@ -190,5 +189,4 @@ fn mirrors_are_limited(rt: HostRuntime) -> Result<(), Fail> {
             }
         }
     }
-    Ok(())
 }

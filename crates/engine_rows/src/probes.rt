@@ -6,10 +6,10 @@ use bus_core::Report;
 use bus_manager::{Prober, Seen, TableProber};
 use bus_plan::{Device, Plan};
 use engine::{Fault, graph_bytes, plan_bytes, probe_bytes};
-use std::alloc::{AllocError, Global};
+use std::alloc::Global;
 use std::hash::RandomState;
+use std::process::Abort;
 use std::sync::atomic::{AtomicU64, Ordering};
-use std::test::Fail;
 
 // `/ { clk: clk { compatible = "fixed-clock"; #clock-cells = <0>; }; uart { compatible = "ns16550a"; clocks = <&clk>; }; };`
 const CLOCK_AND_UART: &[u8] =
@@ -30,18 +30,18 @@ const TWO_ALONE: &[u8] =
 \x02\0\0\0\x02\0\0\0\x09compatible\0";
 
 /// What the program would print for an answer.
-fn printed(alloc: Global, answer: Result<Vec<u8>, Fault>) -> Result<Vec<u8>, AllocError> {
+fn printed(rt: &impl Abort, alloc: Global, answer: Result<Vec<u8>, Fault>) -> Vec<u8> {
     match answer {
-        Ok(text) => Ok(text),
+        Ok(text) => text,
         Err(fault) => {
-            let line = format!(in alloc; "{fault}")?;
-            Ok(line.into_bytes())
+            let line = format!(in alloc; "{fault}").expect(rt, "memory");
+            line.into_bytes()
         }
     }
 }
 
 #[test]
-fn plans_blobs(rt: HostRuntime) -> Result<(), Fail> {
+fn plans_blobs(rt: HostRuntime) {
     let rows: [(&[u8], &str, &str); 5] = [
         (CLOCK_AND_UART, DRIVERS, "/clk fixed ok\n/uart ns ok /clk\n"),
         (TWO_ALONE, "", "/a - -\n/b - -\n"),
@@ -59,25 +59,23 @@ fn plans_blobs(rt: HostRuntime) -> Result<(), Fail> {
         ),
     ];
     for (blob, drivers, expected) in rows {
-        let hasher = RandomState::new(&rt)?;
+        let hasher = RandomState::new(&rt).expect(&rt, "a seed");
         let answer = plan_bytes(rt.alloc(), hasher, blob, drivers.as_bytes());
-        let text = printed(rt.alloc(), answer)?;
+        let text = printed(&rt, rt.alloc(), answer);
         assert_eq!(rt; text.as_slice(), expected.as_bytes());
     }
-    Ok(())
 }
 
 #[test]
-fn draws_blobs(rt: HostRuntime) -> Result<(), Fail> {
-    let hasher = RandomState::new(&rt)?;
+fn draws_blobs(rt: HostRuntime) {
+    let hasher = RandomState::new(&rt).expect(&rt, "a seed");
     let answer = graph_bytes(rt.alloc(), hasher, CLOCK_AND_UART, DRIVERS.as_bytes());
-    let text = printed(rt.alloc(), answer)?;
+    let text = printed(&rt, rt.alloc(), answer);
     assert!(rt; text.starts_with(b"digraph"));
-    Ok(())
 }
 
 #[test]
-fn probes_blobs(rt: HostRuntime) -> Result<(), Fail> {
+fn probes_blobs(rt: HostRuntime) {
     let rows: [(usize, &str); 5] = [
         (1, "/clk bound fixed\n/uart bound ns\nquiet\n"),
         (2, "/clk bound fixed\n/uart bound ns\nquiet\n"),
@@ -86,7 +84,7 @@ fn probes_blobs(rt: HostRuntime) -> Result<(), Fail> {
         (65, "error 70 TooManyWorkers"),
     ];
     for (workers, expected) in rows {
-        let hasher = RandomState::new(&rt)?;
+        let hasher = RandomState::new(&rt).expect(&rt, "a seed");
         let ran = probe_bytes(
             &rt,
             rt.alloc(),
@@ -96,10 +94,9 @@ fn probes_blobs(rt: HostRuntime) -> Result<(), Fail> {
             &TableProber,
             workers,
         );
-        let text = printed(rt.alloc(), ran.map(|ran| ran.report))?;
+        let text = printed(&rt, rt.alloc(), ran.map(|ran| ran.report));
         assert_eq!(rt; text.as_slice(), expected.as_bytes());
     }
-    Ok(())
 }
 
 // Holds its first call until the second is answered, for at most so many turns.
@@ -136,13 +133,13 @@ impl Prober for Gate {
 }
 
 #[test]
-fn gate_two_probes(rt: HostRuntime) -> Result<(), Fail> {
+fn gate_two_probes(rt: HostRuntime) {
     let gate = Gate {
         begun: AtomicU64::new(0),
         answered: AtomicU64::new(0),
         let_go_at: AtomicU64::new(0),
     };
-    let hasher = RandomState::new(&rt)?;
+    let hasher = RandomState::new(&rt).expect(&rt, "a seed");
     let ran = probe_bytes(
         &rt,
         rt.alloc(),
@@ -152,7 +149,7 @@ fn gate_two_probes(rt: HostRuntime) -> Result<(), Fail> {
         &gate,
         2,
     );
-    let text = printed(rt.alloc(), ran.map(|ran| ran.report))?;
+    let text = printed(&rt, rt.alloc(), ran.map(|ran| ran.report));
     assert_eq!(rt;
         text.as_slice(),
         b"/a bound one\n/b bound two\nquiet\n".as_slice()
@@ -163,5 +160,4 @@ fn gate_two_probes(rt: HostRuntime) -> Result<(), Fail> {
         1,
         "the probes overlap"
     );
-    Ok(())
 }

@@ -1,7 +1,6 @@
 //! Whole inputs and whole outputs, over memory that fails at each call in turn.
 
 use engine::{Fault, Memory, WriteFault, read_all, read_within, write_out};
-use std::test::Fail;
 
 const TEXT: &[u8] = b"a line of text, and one more";
 
@@ -70,7 +69,7 @@ fn tells_how_much_was_written_before_a_write_failed(rt: HostRuntime) {
 }
 
 #[test]
-fn a_call_that_moves_nothing_fails(rt: HostRuntime) -> Result<(), Fail> {
+fn a_call_that_moves_nothing_fails(rt: HostRuntime) {
     let mut channel = Memory::new(rt.alloc(), TEXT);
     channel.pace = 0;
     let answer = number(read_all(rt.alloc(), &mut channel, 1000));
@@ -82,5 +81,4 @@ fn a_call_that_moves_nothing_fails(rt: HostRuntime) -> Result<(), Fail> {
         write_out(&mut channel, TEXT),
         Err(WriteFault { written: 0 })
     );
-    Ok(())
 }

@@ -3,24 +3,24 @@
 use super::printed;
 use crate::compiling::compiled;
 use engine::{compile_bytes, dump_bytes, explain, overlay_bytes, replay_bytes};
-use std::alloc::{AllocError, Global};
+use std::alloc::Global;
 use std::hash::RandomState;
-use std::test::Fail;
+use std::process::Abort;
 
 /// That the line tells the number, under the name by which it is explained.
-fn is_explained(alloc: Global, number: u8, line: &[u8]) -> Result<bool, AllocError> {
+fn is_explained(rt: &impl Abort, alloc: Global, number: u8, line: &[u8]) -> bool {
     match explain(number) {
         Some(explanation) => {
             let name = explanation.name;
-            let head = format!(in alloc; "error {number} {name}")?;
-            Ok(explanation.number == number && line.starts_with(head.as_bytes()))
+            let head = format!(in alloc; "error {number} {name}").expect(rt, "memory");
+            explanation.number == number && line.starts_with(head.as_bytes())
         }
-        None => Ok(false),
+        None => false,
     }
 }
 
 #[test]
-fn sources_are_refused(rt: HostRuntime) -> Result<(), Fail> {
+fn sources_are_refused(rt: HostRuntime) {
     let rows = [
         (10, "", "error 10 Syntax line 1"),
         (
@@ -66,21 +66,20 @@ fn sources_are_refused(rt: HostRuntime) -> Result<(), Fail> {
             "error 27 ReservedName",
         ),
     ];
-    let hasher = RandomState::new(&rt)?;
+    let hasher = RandomState::new(&rt).expect(&rt, "a seed");
     for (number, text, line) in rows {
         let answer = compile_bytes(rt.alloc(), hasher, text.as_bytes(), false);
-        let told = printed(rt.alloc(), answer)?;
+        let told = printed(&rt, rt.alloc(), answer);
         assert_eq!(rt; told.as_slice(), line.as_bytes(), "{number}");
         assert!(rt;
-            is_explained(rt.alloc(), number, line.as_bytes())?,
+            is_explained(&rt, rt.alloc(), number, line.as_bytes()),
             "{number}"
         );
     }
-    Ok(())
 }
 
 #[test]
-fn overlays_are_refused(rt: HostRuntime) -> Result<(), Fail> {
+fn overlays_are_refused(rt: HostRuntime) {
     let rows = [
         (40, "/dts-v1/;/{};", "error 40 NotOverlay"),
         (
@@ -105,24 +104,23 @@ fn overlays_are_refused(rt: HostRuntime) -> Result<(), Fail> {
             "error 45 PhandleClash",
         ),
     ];
-    let hasher = RandomState::new(&rt)?;
-    let base = compiled(rt.alloc(), hasher, "/dts-v1/; / { a: a { }; };", true)?;
+    let hasher = RandomState::new(&rt).expect(&rt, "a seed");
+    let base = compiled(&rt, rt.alloc(), hasher, "/dts-v1/; / { a: a { }; };", true);
     for (number, overlay, line) in rows {
-        let overlay = compiled(rt.alloc(), hasher, overlay, false)?;
+        let overlay = compiled(&rt, rt.alloc(), hasher, overlay, false);
         let answer = overlay_bytes(rt.alloc(), hasher, base.as_slice(), overlay.as_slice());
-        let told = printed(rt.alloc(), answer)?;
+        let told = printed(&rt, rt.alloc(), answer);
         assert_eq!(rt; told.as_slice(), line.as_bytes(), "{number}");
         assert!(rt;
-            is_explained(rt.alloc(), number, line.as_bytes())?,
+            is_explained(&rt, rt.alloc(), number, line.as_bytes()),
             "{number}"
         );
     }
-    assert!(rt; is_explained(rt.alloc(), 46, b"error 46 TooDeep")?);
-    Ok(())
+    assert!(rt; is_explained(&rt, rt.alloc(), 46, b"error 46 TooDeep"));
 }
 
 #[test]
-fn plans_and_events_are_refused(rt: HostRuntime) -> Result<(), Fail> {
+fn plans_and_events_are_refused(rt: HostRuntime) {
     let rows = [
         (50, "/a", "", "error 50 BadLine line 1"),
         (52, "/a - -\n/a - -", "", "error 52 DuplicateDevice line 2"),
@@ -148,47 +146,50 @@ fn plans_and_events_are_refused(rt: HostRuntime) -> Result<(), Fail> {
         ),
         (66, "/a x ok", "abandon /a", "error 66 NotInFlight event 1"),
     ];
-    let hasher = RandomState::new(&rt)?;
+    let hasher = RandomState::new(&rt).expect(&rt, "a seed");
     for (number, plan, schedule, line) in rows {
         let answer = replay_bytes(rt.alloc(), hasher, plan.as_bytes(), schedule.as_bytes());
-        let told = printed(rt.alloc(), answer)?;
+        let told = printed(&rt, rt.alloc(), answer);
         assert_eq!(rt; told.as_slice(), line.as_bytes(), "{number}");
         assert!(rt;
-            is_explained(rt.alloc(), number, line.as_bytes())?,
+            is_explained(&rt, rt.alloc(), number, line.as_bytes()),
             "{number}"
         );
     }
-    Ok(())
 }
 
 #[test]
-fn a_plan_of_513_devices_is_refused(rt: HostRuntime) -> Result<(), Fail> {
+fn a_plan_of_513_devices_is_refused(rt: HostRuntime) {
     let mut plan = String::new(rt.alloc());
     for device in 0..513u16 {
-        write!(&mut plan, "/d{device} - -\n")?;
+        write!(&mut plan, "/d{device} - -\n").expect(&rt, "memory");
     }
-    let answer = replay_bytes(rt.alloc(), RandomState::new(&rt)?, plan.as_bytes(), b"");
-    let told = printed(rt.alloc(), answer)?;
+    let hasher = RandomState::new(&rt).expect(&rt, "a seed");
+    let answer = replay_bytes(rt.alloc(), hasher, plan.as_bytes(), b"");
+    let told = printed(&rt, rt.alloc(), answer);
     assert_eq!(rt; told.as_slice(), b"error 56 TooManyDevices".as_slice());
-    assert!(rt; is_explained(rt.alloc(), 56, told.as_slice())?);
-    Ok(())
+    assert!(rt; is_explained(&rt, rt.alloc(), 56, told.as_slice()));
 }
 
 /// A blob of a header with these words, a pair of zeros, and what stands behind.
-fn blob(alloc: Global, words: [u32; 10], behind: &[u8]) -> Result<Vec<u8>, AllocError> {
+fn blob(rt: &impl Abort, alloc: Global, words: [u32; 10], behind: &[u8]) -> Vec<u8> {
     let mut bytes = Vec::new(alloc);
     for word in words {
-        bytes.extend_from_slice(word.to_be_bytes().as_slice())?;
+        bytes
+            .extend_from_slice(word.to_be_bytes().as_slice())
+            .expect(rt, "memory");
     }
-    bytes.extend_from_slice([0u8; 16].as_slice())?;
-    bytes.extend_from_slice(behind)?;
-    Ok(bytes)
+    bytes
+        .extend_from_slice([0u8; 16].as_slice())
+        .expect(rt, "memory");
+    bytes.extend_from_slice(behind).expect(rt, "memory");
+    bytes
 }
 
 const MAGIC: u32 = 0xd00d_feed;
 
 #[test]
-fn headers_are_refused(rt: HostRuntime) -> Result<(), Fail> {
+fn headers_are_refused(rt: HostRuntime) {
     let rows: [(u8, usize, [u32; 10], &str); 5] = [
         (30, 0, [0; 10], "error 30 Truncated"),
         (31, 40, [0; 10], "error 31 BadMagic"),
@@ -212,20 +213,19 @@ fn headers_are_refused(rt: HostRuntime) -> Result<(), Fail> {
         ),
     ];
     for (number, len, words, line) in rows {
-        let blob = blob(rt.alloc(), words, b"")?;
-        let front = blob.as_slice().get(..len).ok_or("short")?;
-        let told = printed(rt.alloc(), dump_bytes(rt.alloc(), front))?;
+        let blob = blob(&rt, rt.alloc(), words, b"");
+        let front = blob.as_slice().get(..len).expect(&rt, "so many bytes");
+        let told = printed(&rt, rt.alloc(), dump_bytes(rt.alloc(), front));
         assert_eq!(rt; told.as_slice(), line.as_bytes(), "{number}");
         assert!(rt;
-            is_explained(rt.alloc(), number, line.as_bytes())?,
+            is_explained(&rt, rt.alloc(), number, line.as_bytes()),
             "{number}"
         );
     }
-    Ok(())
 }
 
 #[test]
-fn structures_are_refused(rt: HostRuntime) -> Result<(), Fail> {
+fn structures_are_refused(rt: HostRuntime) {
     let rows: [(u8, u32, &[u8], &str); 3] = [
         // The root's name is four bytes without a zero.
         (35, 8, b"\0\0\0\x01aaaa", "error 35 BadString"),
@@ -251,15 +251,14 @@ fn structures_are_refused(rt: HostRuntime) -> Result<(), Fail> {
         } else {
             [MAGIC, 56 + len, 56, 40, 40, 17, 16, 0, 0, len]
         };
-        let blob = blob(rt.alloc(), words, structure)?;
-        let told = printed(rt.alloc(), dump_bytes(rt.alloc(), blob.as_slice()))?;
+        let blob = blob(&rt, rt.alloc(), words, structure);
+        let told = printed(&rt, rt.alloc(), dump_bytes(rt.alloc(), blob.as_slice()));
         assert_eq!(rt; told.as_slice(), line.as_bytes(), "{number}");
         assert!(rt;
-            is_explained(rt.alloc(), number, line.as_bytes())?,
+            is_explained(&rt, rt.alloc(), number, line.as_bytes()),
             "{number}"
         );
     }
-    Ok(())
 }
 
 /// Each number that a command prints is explained, and no other.
