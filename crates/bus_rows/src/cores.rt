@@ -1,6 +1,6 @@
 //! Events of the probing core, and schedules.
 
-ghost use Rattle.std.specs.Prelude.{◌<◌, length, OnOk};
+ghost use Rattle.std.specs.Prelude.{◌<◌, length};
 
 use bus_core::{
     Core, Outcome, Refusal, Reply, Report, Settle, Status, Ticket, end_report_is_one,
@@ -11,85 +11,86 @@ use bus_plan::{Device, PlanError, read_plan};
 use std::alloc::Global;
 use std::hash::RandomState;
 use std::process::Abort;
-use std::test::Fail;
 
 const CLOCK_AND_UART: &str = "/clk fixed ok\n/uart ns ok /clk\n";
 
 // A core that begins with the plan of this text.
-fn opened(alloc: Global, hasher: RandomState, text: &[u8]) -> Result<Core, Fail> {
-    let plan = read_plan(alloc, hasher, text)?;
-    Ok(Core::new(alloc, plan)?)
+fn opened(rt: &impl Abort, alloc: Global, hasher: RandomState, text: &[u8]) -> Core {
+    let plan = read_plan(alloc, hasher, text).expect(rt, "a plan");
+    Core::new(alloc, plan).expect(rt, "a core")
 }
 
 // The device at a path of the core's plan.
-fn at(core: &Core, path: &[u8]) -> Result<Device, Fail> {
-    Ok(core.plan().device(path).ok_or("no device")?)
+fn at(rt: &impl Abort, core: &Core, path: &[u8]) -> Device {
+    core.plan().device(path).expect(rt, "a device")
 }
 
 // The core's calls ask that a device is the plan's. The next four look before they call.
-fn is_of_plan(core: &Core, device: Device) -> Result<(), Fail>
-    ensures { OnOk result (device < length core.now.plan) }
+fn is_of_plan(rt: &impl Abort, core: &Core, device: Device)
+    ensures { device < length core.now.plan }
 {
-    if device.index() < core.plan().len() {
-        Ok(())
-    } else {
-        Err("not of the plan".into())
-    }
+    assert!(rt; device.index() < core.plan().len(), "not of the plan");
 }
 
-fn begin(core: &mut Core, device: Device) -> Result<Ticket, Fail> {
-    is_of_plan(core, device)?;
-    Ok(core.begin(device)?)
+fn begin(rt: &impl Abort, core: &mut Core, device: Device) -> Ticket {
+    is_of_plan(rt, core, device);
+    core.begin(device).expect(rt, "a ticket")
 }
 
 fn finish(
+    rt: &impl Abort,
     core: &mut Core,
     ticket: &Ticket,
     report: Report,
-) -> Result<Result<Reply, Refusal>, Fail> {
-    is_of_plan(core, ticket.device)?;
-    Ok(core.finish(ticket, report))
+) -> Result<Reply, Refusal> {
+    is_of_plan(rt, core, ticket.device);
+    core.finish(ticket, report)
 }
 
-fn abandon(core: &mut Core, device: Device) -> Result<Result<(), Refusal>, Fail> {
-    is_of_plan(core, device)?;
-    Ok(core.abandon(device))
+fn abandon(rt: &impl Abort, core: &mut Core, device: Device) -> Result<(), Refusal> {
+    is_of_plan(rt, core, device);
+    core.abandon(device)
 }
 
-fn status(core: &Core, device: Device) -> Result<Status, Fail> {
-    is_of_plan(core, device)?;
-    Ok(core.status(device))
+fn status(rt: &impl Abort, core: &Core, device: Device) -> Status {
+    is_of_plan(rt, core, device);
+    core.status(device)
 }
 
 // The line of a schedule's fault.
-fn fault_line(alloc: Global, fault: &PlanError) -> Result<Vec<u8>, Fail> {
-    let line = fault.line().ok_or("no line")?;
+fn fault_line(rt: &impl Abort, alloc: Global, fault: &PlanError) -> Vec<u8> {
+    let line = fault.line().expect(rt, "a line");
     let (number, name) = (fault.number(), fault.name());
-    Ok(format!(in alloc; "error {number} {name} line {line}")?.into_bytes())
+    format!(in alloc; "error {number} {name} line {line}")
+        .expect(rt, "a text")
+        .into_bytes()
 }
 
 // The report of a replay, or the event that it refused.
-fn told(alloc: Global, replayed: Result<Core, (usize, Refusal)>) -> Result<Vec<u8>, Fail> {
+fn told(rt: &impl Abort, alloc: Global, replayed: Result<Core, (usize, Refusal)>) -> Vec<u8> {
     match replayed {
-        Ok(core) => Ok(core.report(alloc)?),
+        Ok(core) => core.report(alloc).expect(rt, "a report"),
         Err((event, refusal)) => {
             let (number, name) = (refusal.number(), refusal.name());
-            Ok(format!(in alloc; "error {number} {name} event {event}")?.into_bytes())
+            format!(in alloc; "error {number} {name} event {event}")
+                .expect(rt, "a text")
+                .into_bytes()
         }
     }
 }
 
 // What the replay of a plan and a schedule gives.
 fn replayed(
+    rt: &impl Abort,
     alloc: Global,
     hasher: RandomState,
     plan: &[u8],
     schedule: &[u8],
-) -> Result<Vec<u8>, Fail> {
-    let plan = read_plan(alloc, hasher, plan)?;
+) -> Vec<u8> {
+    let plan = read_plan(alloc, hasher, plan).expect(rt, "a plan");
     match read_schedule(alloc, &plan, schedule) {
-        Ok(events) => told(alloc, replay(alloc, plan, events.as_slice())),
-        Err(fault) => fault_line(alloc, &fault),
+        Ok(events) => told(rt, alloc, replay(alloc, plan, events.as_slice())),
+        Err(fault) => fault_line(rt, alloc, &fault),
     }
 }
 
@@ -224,38 +225,43 @@ const ROWS: [(&str, &str, &str, &str); 22] = [
 ];
 
 #[test]
-fn replays(rt: HostRuntime) -> Result<(), Fail> {
-    let hasher = RandomState::new(&rt)?;
+fn replays(rt: HostRuntime) {
+    let hasher = RandomState::new(&rt).expect(&rt, "a seed");
     for (name, plan, schedule, report) in ROWS {
-        let answer = replayed(rt.alloc(), hasher, plan.as_bytes(), schedule.as_bytes())?;
+        let answer = replayed(
+            &rt,
+            rt.alloc(),
+            hasher,
+            plan.as_bytes(),
+            schedule.as_bytes(),
+        );
         assert_eq!(rt; answer.as_slice(), report.as_bytes(), "{name}");
     }
-    Ok(())
 }
 
 // What a probe of the device would answer now: the last supplier that isn't bound, if there is one.
-fn answer_of(core: &Core, device: Device) -> Result<Report, Fail> {
-    is_of_plan(core, device)?;
+fn answer_of(rt: &impl Abort, core: &Core, device: Device) -> Report {
+    is_of_plan(rt, core, device);
     let mut report = Report::Settled;
     for supplier in core.plan().suppliers(device) {
         if !core.is_bound(*supplier) {
             report = Report::Missing(*supplier);
         }
     }
-    Ok(report)
+    report
 }
 
 // Begins and finishes whatever is due, each probe as its driver would answer, and counts the begins.
-fn drain(core: &mut Core) -> Result<usize, Fail> {
+fn drain(rt: &impl Abort, core: &mut Core) -> usize {
     for begins in 0..2_000 {
         let Some(device) = core.next() else {
-            return Ok(begins);
+            return begins;
         };
-        let report = answer_of(core, device)?;
-        let ticket = begin(core, device)?;
-        let _reply = finish(core, &ticket, report)??;
+        let report = answer_of(rt, core, device);
+        let ticket = begin(rt, core, device);
+        let _reply = finish(rt, core, &ticket, report).expect(rt, "a reply");
     }
-    Err("it never ends".into())
+    panic!(rt; "it never ends")
 }
 
 const DRAINED: [(&str, &str, &str); 4] = [
@@ -281,102 +287,104 @@ const DRAINED: [(&str, &str, &str); 4] = [
     ),
 ];
 
-fn report_of_drained(alloc: Global, core: &mut Core) -> Result<Vec<u8>, Fail> {
-    let _begins = drain(core)?;
-    Ok(core.report(alloc)?)
+fn report_of_drained(rt: &impl Abort, alloc: Global, core: &mut Core) -> Vec<u8> {
+    let _begins = drain(rt, core);
+    core.report(alloc).expect(rt, "a report")
 }
 
 // The report once nothing of the plan is due.
-fn drained(alloc: Global, hasher: RandomState, plan: &[u8]) -> Result<Vec<u8>, Fail> {
-    let mut core = opened(alloc, hasher, plan)?;
-    report_of_drained(alloc, &mut core)
+fn drained(rt: &impl Abort, alloc: Global, hasher: RandomState, plan: &[u8]) -> Vec<u8> {
+    let mut core = opened(rt, alloc, hasher, plan);
+    report_of_drained(rt, alloc, &mut core)
 }
 
 #[test]
-fn drains(rt: HostRuntime) -> Result<(), Fail> {
-    let hasher = RandomState::new(&rt)?;
+fn drains(rt: HostRuntime) {
+    let hasher = RandomState::new(&rt).expect(&rt, "a seed");
     for (name, plan, report) in DRAINED {
-        let answer = drained(rt.alloc(), hasher, plan.as_bytes())?;
+        let answer = drained(&rt, rt.alloc(), hasher, plan.as_bytes());
         assert_eq!(rt; answer.as_slice(), report.as_bytes(), "{name}");
     }
-    Ok(())
 }
 
 // A chain of devices, each but the last with the next one as its supplier.
-fn chain(alloc: Global, length: usize) -> Result<String, Fail> {
+fn chain(rt: &impl Abort, alloc: Global, length: usize) -> String {
     let mut plan = String::new(alloc);
     for place in 1..length {
-        plan.push_str(format!(in alloc; "/d{} x ok /d{}\n", place, place + 1)?.as_str())?;
+        let line = format!(in alloc; "/d{} x ok /d{}\n", place, place + 1).expect(rt, "a line");
+        plan.push_str(line.as_str()).expect(rt, "room");
     }
-    plan.push_str(format!(in alloc; "/d{} x ok\n", length)?.as_str())?;
-    Ok(plan)
+    let last = format!(in alloc; "/d{} x ok\n", length).expect(rt, "a line");
+    plan.push_str(last.as_str()).expect(rt, "room");
+    plan
 }
 
-fn chain_is_bound(rt: &impl Abort, core: &mut Core) -> Result<(), Fail> {
+fn chain_is_bound(rt: &impl Abort, core: &mut Core) {
     assert_eq!(rt; core.plan().len(), 512);
-    let begins = drain(core)?;
+    let begins = drain(rt, core);
     assert!(rt; begins <= 1_023);
     assert_eq!(rt; core.history().len(), 512);
     assert!(rt; core.is_quiet());
-    Ok(())
 }
 
 /// Row `chain-drain`.
 #[test]
-fn drains_a_chain(rt: HostRuntime) -> Result<(), Fail> {
-    let text = chain(rt.alloc(), 512)?;
-    let mut core = opened(rt.alloc(), RandomState::new(&rt)?, text.as_bytes())?;
-    chain_is_bound(&rt, &mut core)
+fn drains_a_chain(rt: HostRuntime) {
+    let text = chain(&rt, rt.alloc(), 512);
+    let hasher = RandomState::new(&rt).expect(&rt, "a seed");
+    let mut core = opened(&rt, rt.alloc(), hasher, text.as_bytes());
+    chain_is_bound(&rt, &mut core);
 }
 
 // The core of row `clock-and-uart`'s plan.
-fn clock_and_uart(alloc: Global, hasher: RandomState) -> Result<Core, Fail> {
-    opened(alloc, hasher, CLOCK_AND_UART.as_bytes())
+fn clock_and_uart(rt: &impl Abort, alloc: Global, hasher: RandomState) -> Core {
+    opened(rt, alloc, hasher, CLOCK_AND_UART.as_bytes())
 }
 
-fn a_stale_ticket_is_refused(rt: &impl Abort, alloc: Global, core: &mut Core) -> Result<(), Fail> {
-    let uart = at(core, b"/uart")?;
-    let first = begin(core, uart)?;
-    abandon(core, uart)??;
-    let second = begin(core, uart)?;
+fn a_stale_ticket_is_refused(rt: &impl Abort, alloc: Global, core: &mut Core) {
+    let uart = at(rt, core, b"/uart");
+    let first = begin(rt, core, uart);
+    abandon(rt, core, uart).expect(rt, "a flight");
+    let second = begin(rt, core, uart);
     assert_eq!(rt; (first.attempt, second.attempt), (1, 2));
-    let before = core.report(alloc)?;
-    let refused = finish(core, &first, Report::Settled)?;
+    let before = core.report(alloc).expect(rt, "a report");
+    let refused = finish(rt, core, &first, Report::Settled);
     assert_eq!(rt; refused, Err(Refusal::StaleTicket));
-    assert_eq!(rt; core.report(alloc)?.as_slice(), before.as_slice());
-    Ok(())
+    let after = core.report(alloc).expect(rt, "a report");
+    assert_eq!(rt; after.as_slice(), before.as_slice());
 }
 
 /// Row `stale-ticket`.
 #[test]
-fn refuses_a_stale_ticket(rt: HostRuntime) -> Result<(), Fail> {
-    let mut core = clock_and_uart(rt.alloc(), RandomState::new(&rt)?)?;
-    a_stale_ticket_is_refused(&rt, rt.alloc(), &mut core)
+fn refuses_a_stale_ticket(rt: HostRuntime) {
+    let hasher = RandomState::new(&rt).expect(&rt, "a seed");
+    let mut core = clock_and_uart(&rt, rt.alloc(), hasher);
+    a_stale_ticket_is_refused(&rt, rt.alloc(), &mut core);
 }
 
-fn the_uart_waits(rt: &impl Abort, core: &mut Core) -> Result<(), Fail> {
-    let (clk, uart) = (at(core, b"/clk")?, at(core, b"/uart")?);
-    let ticket = begin(core, uart)?;
-    assert_eq!(rt; status(core, uart)?, Status::Probing);
-    let reply = finish(core, &ticket, Report::Missing(clk))?;
+fn the_uart_waits(rt: &impl Abort, core: &mut Core) {
+    let (clk, uart) = (at(rt, core, b"/clk"), at(rt, core, b"/uart"));
+    let ticket = begin(rt, core, uart);
+    assert_eq!(rt; status(rt, core, uart), Status::Probing);
+    let reply = finish(rt, core, &ticket, Report::Missing(clk));
     assert_eq!(rt; reply, Ok(Reply::Waiting));
     assert_eq!(rt; core.next(), Some(clk));
     assert!(rt; !core.is_quiet());
-    Ok(())
 }
 
 #[test]
-fn defers(rt: HostRuntime) -> Result<(), Fail> {
-    let mut core = clock_and_uart(rt.alloc(), RandomState::new(&rt)?)?;
-    the_uart_waits(&rt, &mut core)
+fn defers(rt: HostRuntime) {
+    let hasher = RandomState::new(&rt).expect(&rt, "a seed");
+    let mut core = clock_and_uart(&rt, rt.alloc(), hasher);
+    the_uart_waits(&rt, &mut core);
 }
 
-fn the_clock_has_settled(rt: &impl Abort, core: &mut Core) -> Result<(), Fail> {
-    let (clk, uart) = (at(core, b"/clk")?, at(core, b"/uart")?);
+fn the_clock_has_settled(rt: &impl Abort, core: &mut Core) {
+    let (clk, uart) = (at(rt, core, b"/clk"), at(rt, core, b"/uart"));
     core.check();
     assert!(rt; !core.is_bound(clk));
-    let ticket = begin(core, clk)?;
-    let reply = finish(core, &ticket, Report::Settled)?;
+    let ticket = begin(rt, core, clk);
+    let reply = finish(rt, core, &ticket, Report::Settled);
     assert_eq!(rt; reply, Ok(Reply::Bound));
     assert!(rt; core.is_bound(clk) && !core.is_bound(uart));
     let settled = [Settle {
@@ -384,54 +392,53 @@ fn the_clock_has_settled(rt: &impl Abort, core: &mut Core) -> Result<(), Fail> {
         outcome: Outcome::Bound,
     }];
     assert_eq!(rt; core.history(), settled.as_slice());
-    Ok(())
 }
 
 #[test]
-fn tells_who_has_settled(rt: HostRuntime) -> Result<(), Fail> {
-    let mut core = clock_and_uart(rt.alloc(), RandomState::new(&rt)?)?;
-    the_clock_has_settled(&rt, &mut core)
+fn tells_who_has_settled(rt: HostRuntime) {
+    let hasher = RandomState::new(&rt).expect(&rt, "a seed");
+    let mut core = clock_and_uart(&rt, rt.alloc(), hasher);
+    the_clock_has_settled(&rt, &mut core);
 }
 
 // Both devices begun at once: the clock is bound before the uart's probe answers that it misses it.
-fn the_uart_is_due_again(rt: &impl Abort, core: &mut Core) -> Result<(), Fail> {
-    let (clk, uart) = (at(core, b"/clk")?, at(core, b"/uart")?);
-    let deferred = begin(core, uart)?;
-    let settled = begin(core, clk)?;
-    let bound = finish(core, &settled, Report::Settled)?;
+fn the_uart_is_due_again(rt: &impl Abort, core: &mut Core) {
+    let (clk, uart) = (at(rt, core, b"/clk"), at(rt, core, b"/uart"));
+    let deferred = begin(rt, core, uart);
+    let settled = begin(rt, core, clk);
+    let bound = finish(rt, core, &settled, Report::Settled);
     assert_eq!(rt; bound, Ok(Reply::Bound));
-    let again = finish(core, &deferred, Report::Missing(clk))?;
+    let again = finish(rt, core, &deferred, Report::Missing(clk));
     assert_eq!(rt; again, Ok(Reply::Again));
     assert_eq!(rt; core.next(), Some(uart));
-    Ok(())
 }
 
-fn the_uart_is_bound(rt: &impl Abort, core: &mut Core) -> Result<(), Fail> {
-    let uart = at(core, b"/uart")?;
-    let _dropped = begin(core, uart)?;
-    assert_eq!(rt; abandon(core, uart)?, Ok(()));
-    assert_eq!(rt; status(core, uart)?, Status::Due);
-    let last = begin(core, uart)?;
-    let bound = finish(core, &last, Report::Settled)?;
+fn the_uart_is_bound(rt: &impl Abort, core: &mut Core) {
+    let uart = at(rt, core, b"/uart");
+    let _dropped = begin(rt, core, uart);
+    assert_eq!(rt; abandon(rt, core, uart), Ok(()));
+    assert_eq!(rt; status(rt, core, uart), Status::Due);
+    let last = begin(rt, core, uart);
+    let bound = finish(rt, core, &last, Report::Settled);
     assert_eq!(rt; bound, Ok(Reply::Bound));
     assert!(rt; core.is_quiet() && core.is_bound(uart));
     assert_eq!(rt; core.history().len(), 2);
-    Ok(())
 }
 
 // Once the core is made its events take no memory. Run with `--fail-alloc N`, which refuses the Nth request, this test
 // finds the same answers unless that is one of the plan's or the core's.
 #[test]
-fn events_take_no_memory(rt: HostRuntime) -> Result<(), Fail> {
+fn events_take_no_memory(rt: HostRuntime) {
     let text = CLOCK_AND_UART.as_bytes();
-    let Ok(plan) = read_plan(rt.alloc(), RandomState::new(&rt)?, text) else {
-        return Ok(());
+    let hasher = RandomState::new(&rt).expect(&rt, "a seed");
+    let Ok(plan) = read_plan(rt.alloc(), hasher, text) else {
+        return;
     };
     let Ok(mut core) = Core::new(rt.alloc(), plan) else {
-        return Ok(());
+        return;
     };
-    the_uart_is_due_again(&rt, &mut core)?;
-    the_uart_is_bound(&rt, &mut core)
+    the_uart_is_due_again(&rt, &mut core);
+    the_uart_is_bound(&rt, &mut core);
 }
 
 #[test]

@@ -10,7 +10,6 @@ use std::hash::RandomState;
 use std::process::Abort;
 use std::sync::Wait;
 use std::sync::atomic::{AtomicU64, Ordering};
-use std::test::Fail;
 use std::thread::Threads;
 
 // The two ways of a run.
@@ -80,27 +79,28 @@ fn has_run(rt: &impl Abort, name: &str, ran: &Ran<Device>, report: &str, settled
 }
 
 #[test]
-fn runs(rt: HostRuntime) -> Result<(), Fail> {
-    let hasher = RandomState::new(&rt)?;
+fn runs(rt: HostRuntime) {
+    let hasher = RandomState::new(&rt).expect(&rt, "a seed");
     for (name, text, report, settled) in ROWS {
-        let plan = read_plan(rt.alloc(), hasher, text.as_bytes())?;
+        let plan = read_plan(rt.alloc(), hasher, text.as_bytes()).expect(&rt, "a plan");
         for way in WAYS {
             for workers in [1, 2, MAX_WORKERS] {
-                let ran = run_by(way, &rt, rt.alloc(), &plan, &TableProber, workers)?;
+                let answer = run_by(way, &rt, rt.alloc(), &plan, &TableProber, workers);
+                let ran = answer.expect(&rt, "a run");
                 has_run(&rt, name, &ran, report, settled);
             }
         }
     }
-    Ok(())
 }
 
 #[test]
-fn refuses_other_numbers_of_workers(rt: HostRuntime) -> Result<(), Fail> {
-    let plan = read_plan(rt.alloc(), RandomState::new(&rt)?, b"/a x ok\n")?;
+fn refuses_other_numbers_of_workers(rt: HostRuntime) {
+    let hasher = RandomState::new(&rt).expect(&rt, "a seed");
+    let plan = read_plan(rt.alloc(), hasher, b"/a x ok\n").expect(&rt, "a plan");
     for way in WAYS {
         for workers in [0, 65, usize::MAX] {
             match run_by(way, &rt, rt.alloc(), &plan, &TableProber, workers) {
-                Ok(_) => return Err("it ran".into()),
+                Ok(_) => panic!(rt; "it ran"),
                 Err(refusal) => {
                     assert_eq!(rt; refusal, RunError::TooManyWorkers);
                     assert_eq!(rt; (refusal.number(), refusal.name()), (70, "TooManyWorkers"));
@@ -108,7 +108,6 @@ fn refuses_other_numbers_of_workers(rt: HostRuntime) -> Result<(), Fail> {
             }
         }
     }
-    Ok(())
 }
 
 // Holds its first call until the second is answered, for at most so many turns.
@@ -144,18 +143,13 @@ impl Prober for Gate {
     }
 }
 
-fn probes_overlap<R: Threads + Wait + Sync + Abort>(
-    way: Way,
-    rt: &R,
-    alloc: Global,
-    plan: &Plan,
-) -> Result<(), Fail> {
+fn probes_overlap<R: Threads + Wait + Sync + Abort>(way: Way, rt: &R, alloc: Global, plan: &Plan) {
     let gate = Gate {
         begun: AtomicU64::new(0),
         answered: AtomicU64::new(0),
         let_go_at: AtomicU64::new(0),
     };
-    let ran = run_by(way, rt, alloc, plan, &gate, 2)?;
+    let ran = run_by(way, rt, alloc, plan, &gate, 2).expect(rt, "a run");
     let report = "/a bound x\n/b bound y\nquiet\n";
     assert_eq!(rt; ran.report.as_slice(), report.as_bytes());
     assert_eq!(rt; gate.answered.load(Ordering::SeqCst), 2);
@@ -164,53 +158,55 @@ fn probes_overlap<R: Threads + Wait + Sync + Abort>(
         1,
         "the probes overlap"
     );
-    Ok(())
 }
 
 #[test]
-fn gate_two_probes(rt: HostRuntime) -> Result<(), Fail> {
-    let plan = read_plan(rt.alloc(), RandomState::new(&rt)?, b"/a x ok\n/b y ok\n")?;
+fn gate_two_probes(rt: HostRuntime) {
+    let hasher = RandomState::new(&rt).expect(&rt, "a seed");
+    let plan = read_plan(rt.alloc(), hasher, b"/a x ok\n/b y ok\n").expect(&rt, "a plan");
     for way in WAYS {
-        probes_overlap(way, &rt, rt.alloc(), &plan)?;
+        probes_overlap(way, &rt, rt.alloc(), &plan);
     }
-    Ok(())
 }
 
 // 200 devices: fours that need the next one, each but the first two fours also needs a device of an earlier four, the
 // last four is a cycle, and each 23rd driver fails.
-fn many_devices(alloc: Global) -> Result<String, Fail> {
+fn many_devices(rt: &impl Abort, alloc: Global) -> String {
     let mut text = String::new(alloc);
     for index in 0..200u32 {
         let verdict = if index % 23 == 22 { "fail" } else { "ok" };
-        text.push_str(format!(in alloc; "/d{index} x {verdict}")?.as_str())?;
+        let device = format!(in alloc; "/d{index} x {verdict}").expect(rt, "a text");
+        text.push_str(device.as_str()).expect(rt, "room");
         if index % 4 != 3 {
-            text.push_str(format!(in alloc; " /d{}", index + 1)?.as_str())?;
+            let next = format!(in alloc; " /d{}", index + 1).expect(rt, "a text");
+            text.push_str(next.as_str()).expect(rt, "room");
         }
         if index >= 8 {
-            text.push_str(format!(in alloc; " /d{}", index / 2)?.as_str())?;
+            let earlier = format!(in alloc; " /d{}", index / 2).expect(rt, "a text");
+            text.push_str(earlier.as_str()).expect(rt, "room");
         }
         if index == 199 {
-            text.push_str(" /d196")?;
+            text.push_str(" /d196").expect(rt, "room");
         }
-        text.push_str("\n")?;
+        text.push_str("\n").expect(rt, "room");
     }
-    Ok(text)
+    text
 }
 
 #[test]
-fn one_report_by_any_workers(rt: HostRuntime) -> Result<(), Fail> {
-    let text = many_devices(rt.alloc())?;
-    let plan = read_plan(rt.alloc(), RandomState::new(&rt)?, text.as_str().as_bytes())?;
-    let first = run(&rt, rt.alloc(), &plan, &TableProber, 1)?;
+fn one_report_by_any_workers(rt: HostRuntime) {
+    let text = many_devices(&rt, rt.alloc());
+    let hasher = RandomState::new(&rt).expect(&rt, "a seed");
+    let plan = read_plan(rt.alloc(), hasher, text.as_str().as_bytes()).expect(&rt, "a plan");
+    let first = run(&rt, rt.alloc(), &plan, &TableProber, 1).expect(&rt, "a run");
     for round in 0..200usize {
         let workers = 1 + round % MAX_WORKERS;
         let way = WAYS[round % 2];
-        let ran = run_by(way, &rt, rt.alloc(), &plan, &TableProber, workers)?;
+        let ran = run_by(way, &rt, rt.alloc(), &plan, &TableProber, workers).expect(&rt, "a run");
         assert_eq!(rt;
             ran.report.as_slice(),
             first.report.as_slice(),
             "by {workers}"
         );
     }
-    Ok(())
 }
