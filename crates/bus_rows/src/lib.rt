@@ -5,7 +5,9 @@
 
 #[cfg(test)]
 mod cores;
+pub mod gate;
 #[cfg(test)]
 mod keepers;
+pub mod replays;
 #[cfg(test)]
 mod runs;

@@ -1,15 +1,13 @@
 //! Probes by workers.
 
-ghost use Rattle.std.specs.Prelude.{◌≡◌};
-
-use bus_core::Report;
-use bus_manager::{MAX_WORKERS, Prober, Ran, RunError, Seen, TableProber, run, run_locked};
+use crate::gate::Gate;
+use crate::replays::CLOCK_AND_UART;
+use bus_manager::{MAX_WORKERS, Prober, Ran, RunError, TableProber, run, run_locked};
 use bus_plan::{Device, Plan, read_plan};
 use std::alloc::Global;
 use std::hash::RandomState;
 use std::process::Abort;
 use std::sync::Wait;
-use std::sync::atomic::{AtomicU64, Ordering};
 use std::thread::Threads;
 
 // The two ways of a run.
@@ -34,8 +32,6 @@ fn run_by<P: Prober, R: Threads + Wait + Sync>(
         Way::Lock => run_locked(rt, alloc, plan, prober, workers),
     }
 }
-
-const CLOCK_AND_UART: &str = "/clk fixed ok\n/uart ns ok /clk\n";
 
 // A plan, its end report, and whether each device has settled in it.
 const ROWS: [(&str, &str, &str, &[bool]); 5] = [
@@ -110,54 +106,12 @@ fn refuses_other_numbers_of_workers(rt: HostRuntime) {
     }
 }
 
-// Holds its first call until the second is answered, for at most so many turns.
-#[derive(Drop)]
-struct Gate {
-    begun: AtomicU64,
-    answered: AtomicU64,
-    // how many calls were answered when the first was let go
-    let_go_at: AtomicU64,
-}
-
-const TURNS: u64 = 10_000_000;
-
-impl Prober for Gate {
-    type Note = Device;
-
-    ghost attests = { λ prober plan device note. note ≡ device };
-
-    fn probe(&self, plan: &Plan, device: Device, seen: &Seen) -> (Report, Device) {
-        if self.begun.fetch_add(1, Ordering::SeqCst) == 0 {
-            for _turn in 0..TURNS {
-                if self.answered.load(Ordering::SeqCst) > 0 {
-                    break;
-                }
-                std::thread::yield_now();
-            }
-            self.let_go_at
-                .store(self.answered.load(Ordering::SeqCst), Ordering::SeqCst);
-        }
-        let answer = TableProber.probe(plan, device, seen);
-        self.answered.fetch_add(1, Ordering::SeqCst);
-        answer
-    }
-}
-
 fn probes_overlap<R: Threads + Wait + Sync + Abort>(way: Way, rt: &R, alloc: Global, plan: &Plan) {
-    let gate = Gate {
-        begun: AtomicU64::new(0),
-        answered: AtomicU64::new(0),
-        let_go_at: AtomicU64::new(0),
-    };
+    let gate = Gate::new();
     let ran = run_by(way, rt, alloc, plan, &gate, 2).expect(rt, "a run");
     let report = "/a bound x\n/b bound y\nquiet\n";
     assert_eq!(rt; ran.report.as_slice(), report.as_bytes());
-    assert_eq!(rt; gate.answered.load(Ordering::SeqCst), 2);
-    assert_eq!(rt;
-        gate.let_go_at.load(Ordering::SeqCst),
-        1,
-        "the probes overlap"
-    );
+    assert!(rt; gate.has_overlapped(), "the probes overlap");
 }
 
 #[test]

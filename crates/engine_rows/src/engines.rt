@@ -3,57 +3,15 @@
 mod channels;
 mod errors;
 
-use engine::{Fault, dump_bytes, replay_bytes};
+use crate::answers::printed;
+use bus_rows::replays::{CLOCK_AND_UART, REPLAYS};
+use engine::{dump_bytes, replay_bytes};
 use std::alloc::Global;
 use std::hash::RandomState;
 use std::process::Abort;
 
-const CLOCK_AND_UART: &str = "/clk fixed ok\n/uart ns ok /clk\n";
-
-/// What the program would print for an answer.
-fn printed(rt: &impl Abort, alloc: Global, answer: Result<Vec<u8>, Fault>) -> Vec<u8> {
-    match answer {
-        Ok(text) => text,
-        Err(fault) => {
-            let line = format!(in alloc; "{fault}").expect(rt, "memory");
-            line.into_bytes()
-        }
-    }
-}
-
-// A row's name, its plan, its schedule, and what is printed.
-const REPLAYS: [(&str, &str, &str, &str); 9] = [
-    ("empty-plan", "", "", "quiet\n"),
-    (
-        "missing-then-due",
-        CLOCK_AND_UART,
-        "begin /uart\nbegin /clk\nfinish /clk settled\nfinish /uart missing /clk\n",
-        "/clk bound fixed\n/uart due\nbusy\n",
-    ),
-    (
-        "missing-of-a-bound",
-        CLOCK_AND_UART,
-        "begin /clk\nfinish /clk settled\nbegin /uart\nfinish /uart missing /clk\n",
-        "error 64 WasBound event 4",
-    ),
-    (
-        "refused-events: no flight",
-        CLOCK_AND_UART,
-        "finish /clk settled\n",
-        "error 66 NotInFlight event 1",
-    ),
-    (
-        "refused-events: a supplier isn't bound",
-        CLOCK_AND_UART,
-        "begin /uart\nfinish /uart settled\n",
-        "error 63 NotReady event 2",
-    ),
-    (
-        "refused-events: no such device",
-        CLOCK_AND_UART,
-        "begin /nix\n",
-        "error 53 UnknownPath line 1",
-    ),
+// The same rows as those of the replays, of what a core's calls alone don't meet.
+const FAULTS: [(&str, &str, &str, &str); 2] = [
     (
         "the plan's fault comes first",
         "/clk fixed\n",
@@ -66,20 +24,34 @@ const REPLAYS: [(&str, &str, &str, &str); 9] = [
         "finish /clk settled\nbegin /clk",
         "error 66 NotInFlight event 1",
     ),
-    (
-        "cycle-by-schedule",
-        "/a x ok /b\n/b y ok /a\n",
-        "begin /a\nfinish /a missing /b\nbegin /b\nfinish /b missing /a\n",
-        "/a waiting /b\n/b waiting /a\nquiet\n",
-    ),
 ];
+
+// What the program would print for a replay.
+fn replayed(
+    rt: &impl Abort,
+    alloc: Global,
+    hasher: RandomState,
+    plan: &str,
+    schedule: &str,
+) -> Vec<u8> {
+    let answer = replay_bytes(alloc, hasher, plan.as_bytes(), schedule.as_bytes());
+    printed(rt, alloc, answer)
+}
 
 #[test]
 fn replays_the_worked_rows(rt: HostRuntime) {
     let hasher = RandomState::new(&rt).expect(&rt, "a seed");
     for (name, plan, schedule, wanted) in REPLAYS {
-        let answer = replay_bytes(rt.alloc(), hasher, plan.as_bytes(), schedule.as_bytes());
-        let text = printed(&rt, rt.alloc(), answer);
+        let text = replayed(&rt, rt.alloc(), hasher, plan, schedule);
+        assert_eq!(rt; text.as_slice(), wanted.as_bytes(), "{name}");
+    }
+}
+
+#[test]
+fn tells_the_first_fault(rt: HostRuntime) {
+    let hasher = RandomState::new(&rt).expect(&rt, "a seed");
+    for (name, plan, schedule, wanted) in FAULTS {
+        let text = replayed(&rt, rt.alloc(), hasher, plan, schedule);
         assert_eq!(rt; text.as_slice(), wanted.as_bytes(), "{name}");
     }
 }

@@ -3,8 +3,9 @@
 //! What a row gives is worked by hand from dtc's dt-object-internal and the rules of fixups. The overlays are written as ordinary
 //! sources: the fragments and the two nodes of fixups by hand, as a plugin's source would be compiled.
 
+use crate::answers::{as_source, printed};
 use crate::compiling::compiled;
-use engine::{Fault, dump_bytes, overlay_bytes};
+use engine::overlay_bytes;
 use std::alloc::Global;
 use std::hash::RandomState;
 use std::process::Abort;
@@ -12,21 +13,7 @@ use std::process::Abort;
 /// The base of all tables, which is compiled with symbols: /ocp has the phandle 1.
 const BASE: &str = "/dts-v1/; / { ocp: ocp { }; };";
 
-/// The blob printed as a canonical source, without its first two lines, or the line of the refusal.
-fn printed(rt: &impl Abort, alloc: Global, answer: Result<Vec<u8>, Fault>) -> Vec<u8> {
-    match answer {
-        Ok(blob) => match dump_bytes(alloc, blob.as_slice()) {
-            Ok(text) => Vec::from_slice(alloc, &text.as_slice()[11..]).expect(rt, "memory"),
-            Err(_) => blob,
-        },
-        Err(fault) => {
-            let line = format!(in alloc; "{fault}").expect(rt, "memory");
-            line.into_bytes()
-        }
-    }
-}
-
-/// What is printed of the overlay's source applied to the base's.
+/// What the overlay's source applied to the base's gives: the blob as a canonical source, or the line of the refusal.
 fn applied(
     rt: &impl Abort,
     alloc: Global,
@@ -38,7 +25,8 @@ fn applied(
     let base = compiled(rt, alloc, hasher, base, symbols);
     let overlay = compiled(rt, alloc, hasher, overlay, false);
     let answer = overlay_bytes(alloc, hasher, base.as_slice(), overlay.as_slice());
-    printed(rt, alloc, answer)
+    let told = printed(rt, alloc, answer);
+    as_source(rt, alloc, told)
 }
 
 /// Row, overlay, and the root of what is made, as it is printed.

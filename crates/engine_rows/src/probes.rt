@@ -1,15 +1,10 @@
 //! Plans of blobs, and probes of their devices by workers.
 
-ghost use Rattle.std.specs.Prelude.{◌≡◌};
-
-use bus_core::Report;
-use bus_manager::{Prober, Seen, TableProber};
-use bus_plan::{Device, Plan};
-use engine::{Fault, graph_bytes, plan_bytes, probe_bytes};
-use std::alloc::Global;
+use crate::answers::printed;
+use bus_manager::TableProber;
+use bus_rows::gate::Gate;
+use engine::{graph_bytes, plan_bytes, probe_bytes};
 use std::hash::RandomState;
-use std::process::Abort;
-use std::sync::atomic::{AtomicU64, Ordering};
 
 // `/ { clk: clk { compatible = "fixed-clock"; #clock-cells = <0>; }; uart { compatible = "ns16550a"; clocks = <&clk>; }; };`
 const CLOCK_AND_UART: &[u8] =
@@ -28,17 +23,6 @@ const TWO_ALONE: &[u8] =
 \0\0H\0\0\0\0\0\0\0\0\0\0\0\0\0\0\0\0\0\0\0\x01\0\0\0\0\0\0\0\x01a\0\0\0\0\0\0\x03\0\0\0\
 \x02\0\0\0\0x\0\0\0\0\0\0\x02\0\0\0\x01b\0\0\0\0\0\0\x03\0\0\0\x02\0\0\0\0y\0\0\0\0\0\0\
 \x02\0\0\0\x02\0\0\0\x09compatible\0";
-
-/// What the program would print for an answer.
-fn printed(rt: &impl Abort, alloc: Global, answer: Result<Vec<u8>, Fault>) -> Vec<u8> {
-    match answer {
-        Ok(text) => text,
-        Err(fault) => {
-            let line = format!(in alloc; "{fault}").expect(rt, "memory");
-            line.into_bytes()
-        }
-    }
-}
 
 #[test]
 fn plans_blobs(rt: HostRuntime) {
@@ -99,46 +83,9 @@ fn probes_blobs(rt: HostRuntime) {
     }
 }
 
-// Holds its first call until the second is answered, for at most so many turns.
-#[derive(Drop)]
-struct Gate {
-    begun: AtomicU64,
-    answered: AtomicU64,
-    // how many calls were answered when the first was let go
-    let_go_at: AtomicU64,
-}
-
-const TURNS: u64 = 10_000_000;
-
-impl Prober for Gate {
-    type Note = Device;
-
-    ghost attests = { λ prober plan device note. note ≡ device };
-
-    fn probe(&self, plan: &Plan, device: Device, seen: &Seen) -> (Report, Device) {
-        if self.begun.fetch_add(1, Ordering::SeqCst) == 0 {
-            for _turn in 0..TURNS {
-                if self.answered.load(Ordering::SeqCst) > 0 {
-                    break;
-                }
-                std::thread::yield_now();
-            }
-            self.let_go_at
-                .store(self.answered.load(Ordering::SeqCst), Ordering::SeqCst);
-        }
-        let answer = TableProber.probe(plan, device, seen);
-        self.answered.fetch_add(1, Ordering::SeqCst);
-        answer
-    }
-}
-
 #[test]
 fn gate_two_probes(rt: HostRuntime) {
-    let gate = Gate {
-        begun: AtomicU64::new(0),
-        answered: AtomicU64::new(0),
-        let_go_at: AtomicU64::new(0),
-    };
+    let gate = Gate::new();
     let hasher = RandomState::new(&rt).expect(&rt, "a seed");
     let ran = probe_bytes(
         &rt,
@@ -154,10 +101,5 @@ fn gate_two_probes(rt: HostRuntime) {
         text.as_slice(),
         b"/a bound one\n/b bound two\nquiet\n".as_slice()
     );
-    assert_eq!(rt; gate.answered.load(Ordering::SeqCst), 2);
-    assert_eq!(rt;
-        gate.let_go_at.load(Ordering::SeqCst),
-        1,
-        "the probes overlap"
-    );
+    assert!(rt; gate.has_overlapped(), "the probes overlap");
 }

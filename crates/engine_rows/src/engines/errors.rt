@@ -1,8 +1,8 @@
 //! Each number by a small input, and its explanation.
 
-use super::printed;
+use crate::answers::printed;
 use crate::compiling::compiled;
-use engine::{compile_bytes, dump_bytes, explain, overlay_bytes, replay_bytes};
+use engine::{Fault, compile_bytes, dump_bytes, explain, overlay_bytes, replay_bytes};
 use std::alloc::Global;
 use std::hash::RandomState;
 use std::process::Abort;
@@ -17,6 +17,22 @@ fn is_explained(rt: &impl Abort, alloc: Global, number: u8, line: &[u8]) -> bool
         }
         None => false,
     }
+}
+
+// That the answer is the refusal that the line tells, and that its number is explained.
+fn is_refused(
+    rt: &impl Abort,
+    alloc: Global,
+    number: u8,
+    line: &str,
+    answer: Result<Vec<u8>, Fault>,
+) {
+    let told = printed(rt, alloc, answer);
+    assert_eq!(rt; told.as_slice(), line.as_bytes(), "{number}");
+    assert!(rt;
+        is_explained(rt, alloc, number, line.as_bytes()),
+        "{number}"
+    );
 }
 
 #[test]
@@ -69,12 +85,7 @@ fn sources_are_refused(rt: HostRuntime) {
     let hasher = RandomState::new(&rt).expect(&rt, "a seed");
     for (number, text, line) in rows {
         let answer = compile_bytes(rt.alloc(), hasher, text.as_bytes(), false);
-        let told = printed(&rt, rt.alloc(), answer);
-        assert_eq!(rt; told.as_slice(), line.as_bytes(), "{number}");
-        assert!(rt;
-            is_explained(&rt, rt.alloc(), number, line.as_bytes()),
-            "{number}"
-        );
+        is_refused(&rt, rt.alloc(), number, line, answer);
     }
 }
 
@@ -109,12 +120,7 @@ fn overlays_are_refused(rt: HostRuntime) {
     for (number, overlay, line) in rows {
         let overlay = compiled(&rt, rt.alloc(), hasher, overlay, false);
         let answer = overlay_bytes(rt.alloc(), hasher, base.as_slice(), overlay.as_slice());
-        let told = printed(&rt, rt.alloc(), answer);
-        assert_eq!(rt; told.as_slice(), line.as_bytes(), "{number}");
-        assert!(rt;
-            is_explained(&rt, rt.alloc(), number, line.as_bytes()),
-            "{number}"
-        );
+        is_refused(&rt, rt.alloc(), number, line, answer);
     }
     assert!(rt; is_explained(&rt, rt.alloc(), 46, b"error 46 TooDeep"));
 }
@@ -149,12 +155,7 @@ fn plans_and_events_are_refused(rt: HostRuntime) {
     let hasher = RandomState::new(&rt).expect(&rt, "a seed");
     for (number, plan, schedule, line) in rows {
         let answer = replay_bytes(rt.alloc(), hasher, plan.as_bytes(), schedule.as_bytes());
-        let told = printed(&rt, rt.alloc(), answer);
-        assert_eq!(rt; told.as_slice(), line.as_bytes(), "{number}");
-        assert!(rt;
-            is_explained(&rt, rt.alloc(), number, line.as_bytes()),
-            "{number}"
-        );
+        is_refused(&rt, rt.alloc(), number, line, answer);
     }
 }
 
@@ -166,9 +167,7 @@ fn a_plan_of_513_devices_is_refused(rt: HostRuntime) {
     }
     let hasher = RandomState::new(&rt).expect(&rt, "a seed");
     let answer = replay_bytes(rt.alloc(), hasher, plan.as_bytes(), b"");
-    let told = printed(&rt, rt.alloc(), answer);
-    assert_eq!(rt; told.as_slice(), b"error 56 TooManyDevices".as_slice());
-    assert!(rt; is_explained(&rt, rt.alloc(), 56, told.as_slice()));
+    is_refused(&rt, rt.alloc(), 56, "error 56 TooManyDevices", answer);
 }
 
 /// A blob of a header with these words, a pair of zeros, and what stands behind.
@@ -215,12 +214,8 @@ fn headers_are_refused(rt: HostRuntime) {
     for (number, len, words, line) in rows {
         let blob = blob(&rt, rt.alloc(), words, b"");
         let front = blob.as_slice().get(..len).expect(&rt, "so many bytes");
-        let told = printed(&rt, rt.alloc(), dump_bytes(rt.alloc(), front));
-        assert_eq!(rt; told.as_slice(), line.as_bytes(), "{number}");
-        assert!(rt;
-            is_explained(&rt, rt.alloc(), number, line.as_bytes()),
-            "{number}"
-        );
+        let answer = dump_bytes(rt.alloc(), front);
+        is_refused(&rt, rt.alloc(), number, line, answer);
     }
 }
 
@@ -252,12 +247,8 @@ fn structures_are_refused(rt: HostRuntime) {
             [MAGIC, 56 + len, 56, 40, 40, 17, 16, 0, 0, len]
         };
         let blob = blob(&rt, rt.alloc(), words, structure);
-        let told = printed(&rt, rt.alloc(), dump_bytes(rt.alloc(), blob.as_slice()));
-        assert_eq!(rt; told.as_slice(), line.as_bytes(), "{number}");
-        assert!(rt;
-            is_explained(&rt, rt.alloc(), number, line.as_bytes()),
-            "{number}"
-        );
+        let answer = dump_bytes(rt.alloc(), blob.as_slice());
+        is_refused(&rt, rt.alloc(), number, line, answer);
     }
 }
 
