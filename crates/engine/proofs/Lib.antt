@@ -1,5 +1,6 @@
 pub mod CompileLemmas
 mod ChannelLemmas
 mod DumpLemmas
+mod ExplainLemmas
 pub mod OverlayLemmas
 pub mod ValueSizes

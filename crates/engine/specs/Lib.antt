@@ -1,5 +1,6 @@
 pub mod Compile
 pub mod Dump
+pub mod Explain
 pub mod Fault
 pub mod Overlay
 pub mod Plan

@@ -1,5 +1,6 @@
 //! What each number means, and what to do about it.
-ghost use Rattle.std.specs.Prelude.{◌≡◌, IfSome};
+ghost use Rattle.std.specs.Prelude.{◌≡◌, IfSome, is_some};
+ghost use Rattle.engine.specs.Explain.{is_one_of, is_error_number, memory_numbers, source_numbers, build_numbers, blob_numbers, overlay_numbers, text_numbers, event_numbers, run_numbers, file_numbers};
 
 use std::fmt;
 
@@ -15,6 +16,11 @@ pub struct Explanation {
 }
 
 impl fmt::Display for Explanation {
+    ghost use Rattle.std.specs.Prelude.{Some};
+    ghost use Rattle.engine.specs.Explain.{entry_text};
+
+    ghost output = { λ explanation. Some (entry_text explanation) };
+
     fn fmt<W: fmt::Write>(&self, f: &mut fmt::Formatter<W>) -> fmt::Result {
         let Explanation {
             number,
@@ -32,20 +38,10 @@ impl fmt::Display for Explanation {
 
 /// The explanation of a number that the program prints.
 pub fn explain(number: u8) -> Option<Explanation>
-    ensures { IfSome result (λ found. found.number ≡ number) }
+    ensures known { is_some result ≡ is_error_number number }
+    ensures numbered { IfSome result (λ found. found.number ≡ number) }
 {
-    let (name, meaning, input, remedy) = match number / 10 {
-        0 => of_memory(number)?,
-        1 => of_source(number)?,
-        2 => of_build(number)?,
-        3 => of_blob(number)?,
-        4 => of_overlay(number)?,
-        5 => of_text(number)?,
-        6 => of_event(number)?,
-        7 => of_run(number)?,
-        8 => of_file(number)?,
-        _ => return None,
-    };
+    let (name, meaning, input, remedy) = texts_of(number)?;
     Some(Explanation {
         number,
         name,
@@ -58,7 +54,23 @@ pub fn explain(number: u8) -> Option<Explanation>
 /// A name, a meaning, an input and a remedy.
 type Texts = (&'static str, &'static str, &'static str, &'static str);
 
-fn of_memory(number: u8) -> Option<Texts> {
+fn texts_of(number: u8) -> Option<Texts>
+    ensures { is_some result ≡ is_error_number number }
+{
+    of_memory(number)
+        .or(of_source(number))
+        .or(of_build(number))
+        .or(of_blob(number))
+        .or(of_overlay(number))
+        .or(of_text(number))
+        .or(of_event(number))
+        .or(of_run(number))
+        .or(of_file(number))
+}
+
+fn of_memory(number: u8) -> Option<Texts>
+    ensures { is_some result ≡ is_one_of memory_numbers number }
+{
     match number {
         0 => Some((
             "NoMemory",
@@ -70,7 +82,9 @@ fn of_memory(number: u8) -> Option<Texts> {
     }
 }
 
-fn of_source(number: u8) -> Option<Texts> {
+fn of_source(number: u8) -> Option<Texts>
+    ensures { is_some result ≡ is_one_of source_numbers number }
+{
     match number {
         10 => Some((
             "Syntax",
@@ -124,7 +138,9 @@ fn of_source(number: u8) -> Option<Texts> {
     }
 }
 
-fn of_build(number: u8) -> Option<Texts> {
+fn of_build(number: u8) -> Option<Texts>
+    ensures { is_some result ≡ is_one_of build_numbers number }
+{
     match number {
         20 => Some((
             "UnknownLabel",
@@ -184,7 +200,9 @@ fn of_build(number: u8) -> Option<Texts> {
     }
 }
 
-fn of_blob(number: u8) -> Option<Texts> {
+fn of_blob(number: u8) -> Option<Texts>
+    ensures { is_some result ≡ is_one_of blob_numbers number }
+{
     match number {
         30 => Some((
             "Truncated",
@@ -244,7 +262,9 @@ fn of_blob(number: u8) -> Option<Texts> {
     }
 }
 
-fn of_overlay(number: u8) -> Option<Texts> {
+fn of_overlay(number: u8) -> Option<Texts>
+    ensures { is_some result ≡ is_one_of overlay_numbers number }
+{
     match number {
         40 => Some((
             "NotOverlay",
@@ -292,7 +312,9 @@ fn of_overlay(number: u8) -> Option<Texts> {
     }
 }
 
-fn of_text(number: u8) -> Option<Texts> {
+fn of_text(number: u8) -> Option<Texts>
+    ensures { is_some result ≡ is_one_of text_numbers number }
+{
     match number {
         50 => Some((
             "BadLine",
@@ -340,7 +362,9 @@ fn of_text(number: u8) -> Option<Texts> {
     }
 }
 
-fn of_event(number: u8) -> Option<Texts> {
+fn of_event(number: u8) -> Option<Texts>
+    ensures { is_some result ≡ is_one_of event_numbers number }
+{
     match number {
         60 => Some((
             "NotIdle",
@@ -388,7 +412,9 @@ fn of_event(number: u8) -> Option<Texts> {
     }
 }
 
-fn of_run(number: u8) -> Option<Texts> {
+fn of_run(number: u8) -> Option<Texts>
+    ensures { is_some result ≡ is_one_of run_numbers number }
+{
     match number {
         70 => Some((
             "TooManyWorkers",
@@ -400,7 +426,9 @@ fn of_run(number: u8) -> Option<Texts> {
     }
 }
 
-fn of_file(number: u8) -> Option<Texts> {
+fn of_file(number: u8) -> Option<Texts>
+    ensures { is_some result ≡ is_one_of file_numbers number }
+{
     match number {
         80 => Some((
             "CannotRead",
