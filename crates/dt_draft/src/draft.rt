@@ -1,5 +1,5 @@
 //! An empty draft, and whether a node is in the tree.
-ghost use Rattle.std.specs.Prelude.{◌≡◌, ◌+◌, IfSome, IsSome};
+ghost use Rattle.std.specs.Prelude.{◌≡◌, ◌+◌, ◌-◌, ◌^◌, IfSome, IsNone, IsSome};
 ghost use Rattle.dt_meaning.specs.Edits.{empty};
 ghost use Rattle.dt_draft.specs.Rows.{HasSameChildBodies, HasSameNodes, HasSamePropertyBodies, IsDraft, IsNode, IsNumbered, is_standing, state_of};
 
@@ -30,6 +30,7 @@ impl<'d, V: Copy> Draft<'d, V> {
     pub fn begin_body(&mut self) -> Option<usize>
         ensures number { IfSome result (λ number. number ≡ self.new.bodies) }
         ensures new { IsSome result → self.new.bodies ≡ self.old.bodies + 1 }
+        ensures none { IsNone result → (self.new ≡ self.old) × (self.old.bodies ≡ 2 ^ 64 - 1) }
         ensures rest { self.new ≡ record self.old { bodies = self.new.bodies } }
     {
         let number = self.bodies.checked_add(1)?;
