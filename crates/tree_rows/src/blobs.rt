@@ -236,16 +236,18 @@ const BAD_TOKENS: [(&str, &[u32], u8); 21] = [
     ("a NOP behind END", &[1, 0, 2, 9, 4], 34),
 ];
 
+// That a blob of this structure is refused by the number.
+fn is_refused(rt: &impl Abort, alloc: Global, name: &str, structure: &[u32], number: u8) {
+    let bytes = blob(rt, alloc, structure, b"a\0");
+    let told = refusal(read(alloc, bytes.as_slice()));
+    assert_eq!(rt; told, Some(number), "{name}");
+}
+
 #[test]
 fn faults_of_tokens(rt: HostRuntime) {
     let alloc = rt.alloc();
-    for (name, structure, number) in BAD_TOKENS {
-        let bytes = blob(&rt, alloc, structure, b"a\0");
-        assert_eq!(rt;
-            refusal(read(alloc, bytes.as_slice())),
-            Some(number),
-            "{name}"
-        );
+    for (name, structure, number) in &BAD_TOKENS {
+        is_refused(&rt, alloc, name, structure, *number);
     }
 }
 
