@@ -1,7 +1,7 @@
 //! An overlay applied to a base, from bytes to bytes.
 ghost use Rattle.std.specs.Prelude.{◌≡◌, Some, IfOk, IfErr, IsErrAnd, MatchResult};
 ghost use Rattle.dt_tree.specs.TreeData.{TreeData};
-ghost use Rattle.dt_blob.specs.declared.error.BlobError.TheVariants as BlobError;
+ghost use Rattle.dt_blob.specs.declared.error.BlobError.{BlobError};
 ghost use Rattle.dt_blob.specs.HeaderWords.{header_fault};
 ghost use Rattle.dt_blob.specs.Holds.{Holds};
 ghost use Rattle.engine.specs.Fault.{shown, blob_fault};
@@ -33,11 +33,7 @@ pub fn overlay_bytes(
     // Each refusal has its reason in the bytes.
     ensures refused { IfErr result (λ fault. IsOverlayRefusal base.now overlay.now (shown fault)) }
     // A fault of the base's header comes before all else.
-    ensures truncated { header_fault base.now ≡ Some BlobError.Truncated → IsErrAnd result (λ fault. shown fault ≡ blob_fault BlobError.Truncated) }
-    ensures bad_magic { header_fault base.now ≡ Some BlobError.BadMagic → IsErrAnd result (λ fault. shown fault ≡ blob_fault BlobError.BadMagic) }
-    ensures bad_version { header_fault base.now ≡ Some BlobError.BadVersion → IsErrAnd result (λ fault. shown fault ≡ blob_fault BlobError.BadVersion) }
-    ensures bad_layout { header_fault base.now ≡ Some BlobError.BadLayout → IsErrAnd result (λ fault. shown fault ≡ blob_fault BlobError.BadLayout) }
-    ensures too_large { header_fault base.now ≡ Some BlobError.TooLarge → IsErrAnd result (λ fault. shown fault ≡ blob_fault BlobError.TooLarge) }
+    ensures header { (e : BlobError) → header_fault base.now ≡ Some e → IsErrAnd result (λ fault. shown fault ≡ blob_fault e) }
 {
     let base = read(alloc, base)?;
     let overlay = read(alloc, overlay)?;

@@ -1,7 +1,7 @@
 //! The plan of a blob and a driver file, from bytes to bytes.
 ghost use Rattle.std.specs.Prelude.{◌≡◌, Some, Ok, IfOk, IfErr, IsErrAnd, MatchResult};
 ghost use Rattle.dt_tree.specs.TreeData.{TreeData};
-ghost use Rattle.dt_blob.specs.declared.error.BlobError.TheVariants as BlobError;
+ghost use Rattle.dt_blob.specs.declared.error.BlobError.{BlobError};
 ghost use Rattle.dt_blob.specs.HeaderWords.{header_fault};
 ghost use Rattle.dt_blob.specs.Holds.{Holds};
 ghost use Rattle.bus_plan.specs.PlanFile.{Answers};
@@ -29,11 +29,7 @@ pub(crate) fn planned(
     ensures answer { IfOk result (IsPlanned blob.now drivers.now) }
     ensures held { (tree : TreeData) → Holds blob.now tree → MatchResult result (λ plan. planning tree drivers.now ≡ Ok plan) (λ fault. CannotPlan tree drivers.now (shown fault)) }
     ensures refused { IfErr result (λ fault. IsPlanRefusal blob.now drivers.now (shown fault)) }
-    ensures truncated { header_fault blob.now ≡ Some BlobError.Truncated → IsErrAnd result (λ fault. shown fault ≡ blob_fault BlobError.Truncated) }
-    ensures bad_magic { header_fault blob.now ≡ Some BlobError.BadMagic → IsErrAnd result (λ fault. shown fault ≡ blob_fault BlobError.BadMagic) }
-    ensures bad_version { header_fault blob.now ≡ Some BlobError.BadVersion → IsErrAnd result (λ fault. shown fault ≡ blob_fault BlobError.BadVersion) }
-    ensures bad_layout { header_fault blob.now ≡ Some BlobError.BadLayout → IsErrAnd result (λ fault. shown fault ≡ blob_fault BlobError.BadLayout) }
-    ensures too_large { header_fault blob.now ≡ Some BlobError.TooLarge → IsErrAnd result (λ fault. shown fault ≡ blob_fault BlobError.TooLarge) }
+    ensures header { (e : BlobError) → header_fault blob.now ≡ Some e → IsErrAnd result (λ fault. shown fault ≡ blob_fault e) }
 {
     let tree = read(alloc, blob)?;
     Ok(plan_tree(alloc, hasher, &tree, drivers)?)
@@ -65,11 +61,7 @@ pub fn plan_bytes(
     // Each refusal has its reason in the bytes.
     ensures refused { IfErr result (λ fault. IsPlanRefusal blob.now drivers.now (shown fault)) }
     // A fault of the header comes before all else.
-    ensures truncated { header_fault blob.now ≡ Some BlobError.Truncated → IsErrAnd result (λ fault. shown fault ≡ blob_fault BlobError.Truncated) }
-    ensures bad_magic { header_fault blob.now ≡ Some BlobError.BadMagic → IsErrAnd result (λ fault. shown fault ≡ blob_fault BlobError.BadMagic) }
-    ensures bad_version { header_fault blob.now ≡ Some BlobError.BadVersion → IsErrAnd result (λ fault. shown fault ≡ blob_fault BlobError.BadVersion) }
-    ensures bad_layout { header_fault blob.now ≡ Some BlobError.BadLayout → IsErrAnd result (λ fault. shown fault ≡ blob_fault BlobError.BadLayout) }
-    ensures too_large { header_fault blob.now ≡ Some BlobError.TooLarge → IsErrAnd result (λ fault. shown fault ≡ blob_fault BlobError.TooLarge) }
+    ensures header { (e : BlobError) → header_fault blob.now ≡ Some e → IsErrAnd result (λ fault. shown fault ≡ blob_fault e) }
 {
     let plan = planned(alloc, hasher, blob, drivers)?;
     text_of(alloc, &plan)

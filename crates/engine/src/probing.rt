@@ -1,7 +1,8 @@
 //! The devices of a blob probed by workers, from bytes to the end report.
-ghost use Rattle.std.specs.Prelude.{◌≡◌, ◌⊎◌, Some, Ok, IfOk, IfErr, IsErrAnd, MatchResult};
+ghost use Rattle.std.specs.Prelude.{◌≡◌, ◌⊎◌, Some, IfOk, IfErr, IsErrAnd, MatchResult};
+ghost use Rattle.bus_manager.specs.Run.{IsRun};
 ghost use Rattle.dt_tree.specs.TreeData.{TreeData};
-ghost use Rattle.dt_blob.specs.declared.error.BlobError.TheVariants as BlobError;
+ghost use Rattle.dt_blob.specs.declared.error.BlobError.{BlobError};
 ghost use Rattle.dt_blob.specs.HeaderWords.{header_fault};
 ghost use Rattle.dt_blob.specs.Holds.{Holds};
 ghost use Rattle.engine.specs.Fault.{shown, blob_fault};
@@ -11,6 +12,7 @@ ghost use Rattle.engine.specs.Probe.{IsProbe, IsProbeOf, AreTooMany, CannotProbe
 use crate::fault::Fault;
 use crate::planning::planned;
 use bus_manager::{Prober, Ran, run};
+use bus_plan::Plan;
 use std::alloc::Global;
 use std::hash::RandomState;
 use std::sync::Wait;
@@ -37,13 +39,24 @@ pub fn probe_bytes<P: Prober, R: Threads + Wait + Sync>(
     // Each refusal has its reason in the bytes or in the number of workers.
     ensures refused { IfErr result (λ fault. IsPlanRefusal blob.now drivers.now (shown fault) ⊎ CannotRun workers (shown fault)) }
     // A fault of the header comes before all else.
-    ensures truncated { header_fault blob.now ≡ Some BlobError.Truncated → IsErrAnd result (λ fault. shown fault ≡ blob_fault BlobError.Truncated) }
-    ensures bad_magic { header_fault blob.now ≡ Some BlobError.BadMagic → IsErrAnd result (λ fault. shown fault ≡ blob_fault BlobError.BadMagic) }
-    ensures bad_version { header_fault blob.now ≡ Some BlobError.BadVersion → IsErrAnd result (λ fault. shown fault ≡ blob_fault BlobError.BadVersion) }
-    ensures bad_layout { header_fault blob.now ≡ Some BlobError.BadLayout → IsErrAnd result (λ fault. shown fault ≡ blob_fault BlobError.BadLayout) }
-    ensures too_large { header_fault blob.now ≡ Some BlobError.TooLarge → IsErrAnd result (λ fault. shown fault ≡ blob_fault BlobError.TooLarge) }
+    ensures header { (e : BlobError) → header_fault blob.now ≡ Some e → IsErrAnd result (λ fault. shown fault ≡ blob_fault e) }
 {
     let plan = planned(alloc, hasher, blob, drivers)?;
-    let ran = run(rt, alloc, &plan, prober, workers)?;
-    Ok(ran)
+    plan_run(rt, alloc, &plan, prober, workers)
+}
+
+fn plan_run<P: Prober, R: Threads + Wait + Sync>(
+    rt: &R,
+    alloc: Global,
+    plan: &Plan,
+    prober: &P,
+    workers: usize,
+) -> Result<Ran<P::Note>, Fault>
+    ensures run { MatchResult result (λ ran. IsRun (P.attests prober.now plan.now) plan.now ran.report.items ran.notes.items) (λ fault. CannotRun workers (shown fault)) }
+    ensures many { IfOk result (λ _. ¬ (AreTooMany workers)) }
+{
+    match run(rt, alloc, plan, prober, workers) {
+        Ok(ran) => Ok(ran),
+        Err(error) => Err(Fault::from(error)),
+    }
 }

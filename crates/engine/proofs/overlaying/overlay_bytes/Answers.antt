@@ -1,8 +1,9 @@
 -- The reader's errors are told, and explained by what the reader promises of them; a tree that is held is the one that was read.
-use Rattle.std.proofs.Common.{inl, inr, ap}
+use Rattle.std.proofs.Common.{inl, inr, ap, Ok, Err}
 use Rattle.engine.specs.Fault.{blob_fault}
 use Rattle.engine.specs.Overlay.{CannotApply, IsBlobOfApplied, IsOverlayRefusal}
 use Rattle.engine.proofs.DumpLemmas.{explained}
+use Rattle.engine.proofs.HeaderLemmas.{header-error, header-told, no-error}
 use Rattle.engine.proofs.OverlayLemmas.{matched, of-held, told, unread}
 use Rattle.engine.proofs.overlaying.overlay_bytes.Goals as goal
 
@@ -37,3 +38,21 @@ returns-in_err-overlay-clause-refused c =
       base_held = c.in_ok-base.ensures.found;
       unread = unread over e of_read.too_large (explained over e of_read.only of_read.too_large of_read.truncated of_read.bad_magic of_read.bad_version of_read.no_end);
     })))
+
+pub returns-clause-header : goal.returns-clause-header
+returns-clause-header c =
+    let r = c.in_ok-base.ensures in
+    λ e is. elim (no-error c.in_ok-base.base e (header-error c.args.base.now (Ok c.in_ok-base.base) r.too_large r.truncated r.bad_magic r.bad_version r.bad_layout e is)) [ ]
+
+pub returns-in_err-base-clause-header : goal.returns-in_err-base-clause-header
+returns-in_err-base-clause-header c =
+    let r = c.in_err-base.ensures in
+    λ e is.
+    header-told c.in_err-base.field-0.0 e c.from_residual.result
+    (header-error c.args.base.now (Err c.in_err-base.field-0.0) r.too_large r.truncated r.bad_magic r.bad_version r.bad_layout e is)
+    c.from_residual.ensures.1
+
+pub returns-in_err-overlay-clause-header : goal.returns-in_err-overlay-clause-header
+returns-in_err-overlay-clause-header c =
+    let r = c.in_ok-base.ensures in
+    λ e is. elim (no-error c.in_ok-base.base e (header-error c.args.base.now (Ok c.in_ok-base.base) r.too_large r.truncated r.bad_magic r.bad_version r.bad_layout e is)) [ ]
