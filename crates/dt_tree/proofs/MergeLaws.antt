@@ -264,11 +264,8 @@ siblings-merged items others =
     ∙ ap (λ (t : Siblings). merged_with (siblings items) (siblings others) t) (siblings-new (child_names (siblings items)) others)
 
 -- the parts that the code makes are those of the merged node
-pub assembled : (n m : List ℕ) (ps qs rs : List Property) (items others out kids : List NodeData) (self other : NodeData) → node_data n ps (siblings items) ≡ self → node_data m qs (siblings others) ≡ other → rs ≡ merged_properties ps qs
-    → out ≡ map (merged_child other.children) items → kids ≡ out ++ new_nodes (child_names (siblings items)) others → node_data n rs (siblings kids) ≡ merged self other
-assembled n m ps qs rs items others out kids self other view_self view_other rs_are out_is kids_are =
-    let g_is : siblings others ≡ other.children = ap (λ (b : NodeData). b.children) view_other in
+pub assembled : (items others out kids : List NodeData) (f g : Siblings) → siblings items ≡ f → siblings others ≡ g → out ≡ map (merged_child g) items → kids ≡ out ++ new_nodes (child_names (siblings items)) others → siblings kids ≡ merged_siblings f g
+assembled items others out kids f g items_are others_are out_is kids_are =
     let new : List NodeData = new_nodes (child_names (siblings items)) others in
-    let listed : kids ≡ map (merged_child (siblings others)) items ++ new = kids_are ∙ ap (λ (l : List NodeData). l ++ new) (out_is ∙ ap (λ (s : Siblings). map (merged_child s) items) (sym g_is)) in
-    let children_are : siblings kids ≡ merged_siblings (siblings items) (siblings others) = ap siblings listed ∙ siblings-merged items others in
-    (λ i. node_data n (rs_are i) (children_are i)) ∙ (λ i. merged (view_self i) (view_other i))
+    let listed : kids ≡ map (merged_child (siblings others)) items ++ new = kids_are ∙ ap (λ (l : List NodeData). l ++ new) (out_is ∙ ap (λ (s : Siblings). map (merged_child s) items) (sym others_are)) in
+    ap siblings listed ∙ siblings-merged items others ∙ (λ i. merged_siblings (items_are i) (others_are i))

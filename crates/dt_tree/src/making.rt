@@ -1,13 +1,15 @@
 //! The checks that a new node has to pass.
-ghost use Rattle.std.specs.Prelude.{◌≡◌, ◌+◌, ◌≤◌, ◌||◌, ◌==◌, ℕ, List, not, IfOk, OnOk, IsTrue, true, length};
+ghost use Rattle.std.specs.Prelude.{◌≡◌, ◌+◌, ◌≤◌, ◌⊎◌, ◌||◌, ◌==◌, ℕ, List, not, IfOk, OnOk, MatchResult, IsTrue, true, length, None, Some};
 ghost use Rattle.dt_tree.specs.NodeData.{siblings, child_names, property_names, height_of};
 ghost use Rattle.dt_tree.specs.Sound.{are_distinct, IsSoundBelow};
 ghost use Rattle.std.specs.Str.{bytes_eq};
 ghost use Rattle.dt_tree.specs.Private.Seen.{has_name};
-ghost use Rattle.dt_tree.specs.Fault.{are_named};
+ghost use Rattle.dt_tree.specs.Fault.{are_named, fault_of};
 ghost use Rattle.dt_tree.specs.Name.{is_name, are_names};
 ghost use Rattle.dt_tree.specs.NodeView.{name_bytes};
 
+use crate::error::TreeError;
+use crate::limits::MAX_DEPTH;
 use crate::name::Name;
 use crate::node::Node;
 use crate::property::Property;
@@ -22,10 +24,30 @@ fn note_name<'a>(seen: &mut BTreeSet<&'a [u8]>, name: &'a [u8]) -> Result<bool, 
     Ok(seen.insert(name)?)
 }
 
-pub(crate) fn are_distinct_properties(
+/// The first fault of a node of these parts.
+pub(crate) fn check_parts(
     alloc: Global,
     properties: &[Property],
-) -> Result<bool, AllocError>
+    children: &[Node],
+) -> Result<(), TreeError>
+    ensures { MatchResult result (λ _. fault_of properties.now children.now ≡ None) (λ e. (fault_of properties.now children.now ≡ Some e) ⊎ (e ≡ TreeError.NoMemory)) }
+{
+    if !are_named(children) {
+        return Err(TreeError::BadName);
+    }
+    if !are_distinct_properties(alloc, properties)? {
+        return Err(TreeError::DuplicateProperty);
+    }
+    if !are_distinct_nodes(alloc, children)? {
+        return Err(TreeError::DuplicateNode);
+    }
+    if height_of_all(children) > MAX_DEPTH {
+        return Err(TreeError::TooDeep);
+    }
+    Ok(())
+}
+
+fn are_distinct_properties(alloc: Global, properties: &[Property]) -> Result<bool, AllocError>
     ensures { IfOk result (λ distinct. distinct ≡ are_distinct (property_names properties.now)) }
 {
     let mut seen = BTreeSet::new(alloc);
@@ -37,7 +59,7 @@ pub(crate) fn are_distinct_properties(
     Ok(true)
 }
 
-pub(crate) fn are_distinct_nodes(alloc: Global, nodes: &[Node]) -> Result<bool, AllocError>
+fn are_distinct_nodes(alloc: Global, nodes: &[Node]) -> Result<bool, AllocError>
     ensures { IfOk result (λ distinct. distinct ≡ are_distinct (child_names (siblings nodes.now))) }
 {
     let mut seen = BTreeSet::new(alloc);
@@ -61,7 +83,7 @@ pub(crate) fn are_named(nodes: &[Node]) -> bool
     true
 }
 
-pub(crate) fn height_of_all(nodes: &[Node]) -> usize
+fn height_of_all(nodes: &[Node]) -> usize
     ensures { result ≡ height_of (siblings nodes.now) }
 {
     let mut most = 0;

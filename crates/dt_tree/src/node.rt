@@ -1,4 +1,4 @@
-ghost use Rattle.std.specs.Prelude.{◌≡◌, ◌<◌, ◌≤◌, ◌⊎◌, All, IsTrue, IfOk, MatchResult, true, None, Some};
+ghost use Rattle.std.specs.Prelude.{◌≡◌, ◌<◌, ◌≤◌, ◌⊎◌, ◌∷◌, ◌++◌, [], All, IsTrue, IfOk, OnOk, MatchResult, true, None, Some};
 ghost use Rattle.std.specs.Option.{option_copied};
 ghost use Rattle.dt_tree.specs.Fault.{are_named, fault_of, is_named};
 ghost use Rattle.dt_tree.specs.Name.{is_name};
@@ -6,6 +6,7 @@ ghost use Rattle.dt_tree.specs.NodeData.{node_data, siblings, height_of, node_si
 ghost use Rattle.dt_tree.specs.NodeView.{name_bytes};
 ghost use Rattle.dt_tree.specs.PathMap.{value_of};
 ghost use Rattle.dt_tree.specs.Sound.{IsSound, are_distinct};
+ghost use Rattle.dt_tree.specs.Private.Merging.{property_of};
 
 pub(crate) mod changing;
 mod merging;
@@ -13,10 +14,7 @@ mod merging;
 use crate::bytes::Bytes;
 use crate::error::TreeError;
 use crate::limits::MAX_DEPTH;
-use crate::making::{
-    are_distinct_nodes, are_distinct_properties, are_named, check_name, check_nodes,
-    check_properties, height_of_all,
-};
+use crate::making::{are_named, check_name, check_nodes, check_parts, check_properties};
 use crate::name::Name;
 use crate::property::Property;
 use std::alloc::{AllocError, Global};
@@ -65,26 +63,8 @@ impl Node {
         ensures node { IfOk result (λ node. node ≡ node_data (name_bytes name) properties.items (siblings children.items)) }
         ensures fault { MatchResult result (λ _. fault_of properties.items children.items ≡ None) (λ e. (fault_of properties.items children.items ≡ Some e) ⊎ (e ≡ TreeError.NoMemory)) }
     {
-        if !are_named(children.as_slice()) {
-            return Err(TreeError::BadName);
-        }
-        if !are_distinct_properties(alloc, properties.as_slice())? {
-            return Err(TreeError::DuplicateProperty);
-        }
-        if !are_distinct_nodes(alloc, children.as_slice())? {
-            return Err(TreeError::DuplicateNode);
-        }
-        if height_of_all(children.as_slice()) > MAX_DEPTH {
-            return Err(TreeError::TooDeep);
-        }
-        check_name(&name);
-        check_properties(properties.as_slice());
-        check_nodes(children.as_slice());
-        Ok(Node {
-            name,
-            properties,
-            children,
-        })
+        check_parts(alloc, properties.as_slice(), children.as_slice())?;
+        Ok(Node::from_distinct(name, properties, children))
     }
 
     /// The node of these parts, without a test: children have names, properties and children each differ in name, and
@@ -178,8 +158,16 @@ impl Node {
         for child in &self.children {
             children.push(child.copy(alloc)?)?;
         }
-        let properties = copy_properties(alloc, self.properties.as_slice())?;
+        self.with_children(alloc, children)
+    }
+
+    /// A node of copies of the name and the properties, and of these children.
+    fn with_children(&self, alloc: Global, children: Vec<Node>) -> Result<Node, AllocError>
+        requires { IsSound (node_data self.now.name self.now.properties (siblings children.items)) }
+        ensures { IfOk result (λ node. node ≡ node_data self.now.name self.now.properties (siblings children.items)) }
+    {
         let name = copy_name(alloc, &self.name)?;
+        let properties = copy_properties(alloc, self.properties.as_slice())?;
         Ok(Node {
             name,
             properties,
@@ -215,7 +203,30 @@ fn copy_properties(alloc: Global, properties: &[Property]) -> Result<Vec<Propert
 {
     let mut copied = Vec::new(alloc);
     for property in properties {
-        copied.push(property.copy(alloc)?)?;
+        push_property(alloc, &mut copied, &property.name, &property.value)?;
     }
     Ok(copied)
+}
+
+/// Puts a property of copies of these last.
+fn push_property(
+    alloc: Global,
+    properties: &mut Vec<Property>,
+    name: &Name,
+    value: &Bytes,
+) -> Result<(), AllocError>
+    ensures { OnOk result (properties.new.items ≡ properties.old.items ++ property_of name.now value.now ∷ []) }
+{
+    let name = name.copy(alloc)?;
+    let value = value.copy(alloc)?;
+    properties.push(Property { name, value })?;
+    Ok(())
+}
+
+/// Puts a copy of the node last.
+fn push_copy(alloc: Global, nodes: &mut Vec<Node>, node: &Node) -> Result<(), AllocError>
+    ensures { OnOk result (nodes.new.items ≡ nodes.old.items ++ node.now ∷ []) }
+{
+    nodes.push(node.copy(alloc)?)?;
+    Ok(())
 }

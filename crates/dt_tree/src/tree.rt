@@ -117,9 +117,9 @@ impl Tree {
     pub fn copy(&self, alloc: Global) -> Result<Tree, AllocError>
         ensures { IfOk result (λ tree. tree ≡ self.now) }
     {
-        let root = self.root.copy(alloc)?;
         let mut reserves = Vec::new(alloc);
         reserves.extend_from_slice(self.reserves.as_slice())?;
+        let root = self.root.copy(alloc)?;
         Ok(Tree {
             reserves,
             boot_cpu: self.boot_cpu,

@@ -16,6 +16,9 @@ use Rattle.dt_tree.specs.Sound.{is_among}
 abbrev pub named : {X : Type 0} → BTreeMap (Bor (List ℕ)) X → List ℕ → Option X
 named m k = get_by (λ j. slice_cmp nat_cmp k j.now) m
 
+abbrev pub property_of : List ℕ → List ℕ → Property
+property_of n v = record { name = n; value = v }
+
 -- the property with its value among qs, where they have one
 abbrev pub with_value : List Property → Property → Property
 with_value qs p = record { name = p.name; value = unwrap_or (value_of qs p.name) p.value }

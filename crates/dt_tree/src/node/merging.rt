@@ -1,9 +1,9 @@
 //! One node merged into another, or into the node at a path. Both are only read: what is made is new.
-ghost use Rattle.std.specs.Prelude.{◌≡◌, ◌<◌, ◌≤◌, ◌++◌, List, ℕ, IfOk, OnOk, MatchResult, None, length, option_copied, set, true};
+ghost use Rattle.std.specs.Prelude.{◌≡◌, ◌<◌, ◌≤◌, ◌∷◌, ◌++◌, [], List, ℕ, IfOk, OnOk, MatchResult, None, length, option_copied, set, true, unwrap_or};
 ghost use Rattle.dt_tree.specs.Changes.{IsRefusal};
-ghost use Rattle.dt_tree.specs.NodeData.{child_names, height_of, property_names, siblings};
+ghost use Rattle.dt_tree.specs.NodeData.{child_names, height_of, node_data, property_names, siblings};
 ghost use Rattle.dt_tree.specs.PathMap.{child_named, value_of};
-ghost use Rattle.dt_tree.specs.Sound.{are_distinct};
+ghost use Rattle.dt_tree.specs.Sound.{IsSound, are_distinct};
 ghost use Rattle.dt_tree.specs.Private.Edits.{change_at, names_in};
 ghost use Rattle.dt_tree.specs.Private.Merging.{
   merge_refusal,
@@ -18,7 +18,7 @@ use crate::bytes::Bytes;
 use crate::error::TreeError;
 use crate::limits::MAX_DEPTH;
 use crate::node::changing::{place_of_child, split_first_name};
-use crate::node::{Node, copy_name, copy_properties};
+use crate::node::{Node, copy_name, push_copy, push_property};
 use crate::property::Property;
 use std::alloc::{AllocError, Global};
 use std::collections::BTreeMap;
@@ -64,10 +64,20 @@ fn push_new_properties(
     let ours = values_by_name(alloc, ours)?;
     for property in theirs {
         if !ours.contains_key(property.name.as_bytes()) {
-            merged.push(property.copy(alloc)?)?;
+            push_property(alloc, merged, &property.name, &property.value)?;
         }
     }
     Ok(())
+}
+
+/// Their value for the property where they have one, or its own.
+fn merged_value<'a>(property: &'a Property, theirs: &BTreeMap<&'a [u8], &'a Bytes>) -> &'a Bytes
+    ensures { result.now ≡ unwrap_or (option_copied (named theirs.now property.now.name)) property.now.value }
+{
+    match theirs.get(property.name.as_bytes()) {
+        Some(value) => value,
+        None => &property.value,
+    }
 }
 
 /// Our properties, with their values where they have one, and then those that only they have.
@@ -83,14 +93,12 @@ fn merge_properties(
     let values = values_by_name(alloc, theirs)?;
     let mut merged = Vec::new(alloc);
     for property in ours {
-        let value = match values.get(property.name.as_bytes()) {
-            Some(value) => value.copy(alloc)?,
-            None => property.value.copy(alloc)?,
-        };
-        merged.push(Property {
-            name: property.name.copy(alloc)?,
-            value,
-        })?;
+        push_property(
+            alloc,
+            &mut merged,
+            &property.name,
+            merged_value(property, &values),
+        )?;
     }
     push_new_properties(alloc, &mut merged, ours, theirs)?;
     Ok(merged)
@@ -109,7 +117,7 @@ fn push_new_nodes(
     let ours = children_by_name(alloc, ours)?;
     for node in theirs {
         if !ours.contains_key(node.name_bytes()) {
-            merged.push(node.copy(alloc)?)?;
+            push_copy(alloc, merged, node)?;
         }
     }
     Ok(())
@@ -120,7 +128,7 @@ fn push_copies(alloc: Global, copies: &mut Vec<Node>, nodes: &[Node]) -> Result<
     ensures { OnOk result (copies.new.items ≡ copies.old.items ++ nodes.now) }
 {
     for node in nodes {
-        copies.push(node.copy(alloc)?)?;
+        push_copy(alloc, copies, node)?;
     }
     Ok(())
 }
@@ -152,11 +160,11 @@ impl Node {
         let theirs = children_by_name(alloc, other.children.as_slice())?;
         let mut children = Vec::new(alloc);
         for child in &self.children {
-            let child = match theirs.get(child.name_bytes()) {
-                Some(other) => child.merged(alloc, other)?,
-                None => child.copy(alloc)?,
+            let made = match theirs.get(child.name_bytes()) {
+                Some(other) => child.merged(alloc, other),
+                None => child.copy(alloc),
             };
-            children.push(child)?;
+            children.push(made?)?;
         }
         push_new_nodes(
             alloc,
@@ -164,17 +172,45 @@ impl Node {
             self.children.as_slice(),
             other.children.as_slice(),
         )?;
+        self.merged_with(alloc, other, children)
+    }
+
+    /// A node of the name, of the properties with the other's merged into them, and of these children.
+    fn merged_with(
+        &self,
+        alloc: Global,
+        other: &Node,
+        children: Vec<Node>,
+    ) -> Result<Node, AllocError>
+        requires { IsSound (node_data self.now.name (merged_properties self.now.properties other.now.properties) (siblings children.items)) }
+        ensures { IfOk result (λ node. node ≡ node_data self.now.name (merged_properties self.now.properties other.now.properties) (siblings children.items)) }
+    {
+        self.check();
+        other.check();
+        let name = copy_name(alloc, &self.name)?;
         let properties = merge_properties(
             alloc,
             self.properties.as_slice(),
             other.properties.as_slice(),
         )?;
-        let name = copy_name(alloc, &self.name)?;
         Ok(Node {
             name,
             properties,
             children,
         })
+    }
+
+    /// This node with the other merged into it, where there may be so many levels below it.
+    fn merged_here(&self, alloc: Global, room: usize, other: &Node) -> Result<Node, TreeError>
+        requires low { height_of self.now.children ≤ room }
+        ensures merged { IfOk result (λ node. node ≡ merged self.now other.now) }
+        ensures low { IfOk result (λ node. height_of node.children ≤ room) }
+        ensures fault { MatchResult result (λ _. merge_refusal [] room other.now self.now ≡ None) (λ e. IsRefusal (merge_refusal [] room other.now self.now) e) }
+    {
+        if other.height() > room {
+            return Err(TreeError::TooDeep);
+        }
+        Ok(self.merged(alloc, other)?)
     }
 
     /// This node with the other merged into the node that these names lead to. There may be so many levels below this node.
@@ -191,28 +227,19 @@ impl Node {
         ensures low { IfOk result (λ node. height_of node.children ≤ room) }
         ensures fault { MatchResult result (λ _. merge_refusal (names_in names.entry) room other.now self.now ≡ None) (λ e. IsRefusal (merge_refusal (names_in names.entry) room other.now self.now) e) }
     {
+        self.check();
         match names {
-            None => {
-                if other.height() > room {
-                    return Err(TreeError::TooDeep);
-                }
-                Ok(self.merged(alloc, other)?)
-            }
+            None => self.merged_here(alloc, room, other),
             Some(names) => {
                 let (first, rest) = split_first_name(names);
-                match place_of_child(self.children.as_slice(), first) {
+                let children = self.children();
+                match place_of_child(children, first) {
                     None => Err(TreeError::NoSuchPath),
                     Some(at) => {
-                        let child = self.children[at].merged_below(alloc, room - 1, rest, other)?;
+                        let child = children[at].merged_below(alloc, room - 1, rest, other)?;
                         child.check();
-                        let children = copies_with(alloc, self.children.as_slice(), at, child)?;
-                        let properties = copy_properties(alloc, self.properties.as_slice())?;
-                        let name = copy_name(alloc, &self.name)?;
-                        Ok(Node {
-                            name,
-                            properties,
-                            children,
-                        })
+                        let children = copies_with(alloc, children, at, child)?;
+                        Ok(self.with_children(alloc, children)?)
                     }
                 }
             }

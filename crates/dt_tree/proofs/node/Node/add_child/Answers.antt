@@ -26,6 +26,9 @@ invariant_of-self-in-None c =
     let absent = (no_child c.args.name c.self.inside.children.items (grind (arith, common_steps))).absent in
     rw c.in_ok-push_child-in-None.ensures.pushed (push_sound (node_of c.self.inside) c.args.name c.check.ensures absent c.self.invariant)
 
+pub returns-in-Some-clause-changed : goal.returns-in-Some-clause-changed
+returns-in-Some-clause-changed c = tt
+
 pub returns-in-Some-clause-answer : goal.returns-in-Some-clause-answer
 returns-in-Some-clause-answer c =
     let there = (child_at c.args.name c.self.inside.children.items c.in-Some.field-0 (grind (arith, common_steps))).there in

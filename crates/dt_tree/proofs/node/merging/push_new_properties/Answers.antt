@@ -1,4 +1,4 @@
-use Rattle.std.proofs.Common.{◌≡◌, ℕ, not, List, ◌+◌, ◌++◌, drop, is_some, Option, ap, sym, ◌∙◌}
+use Rattle.std.proofs.Common.{◌≡◌, ℕ, not, List, ◌+◌, ◌++◌, drop, is_some, Option, refl, ap, sym, ◌∙◌}
 use Rattle.dt_tree.specs.declared.property.Property.{Property}
 use Rattle.dt_tree.specs.NodeData.{property_names}
 use Rattle.dt_tree.specs.Private.Merging.{new_properties}
@@ -7,7 +7,7 @@ use Rattle.dt_tree.proofs.Collected.{kept-next, left-next}
 use Rattle.dt_tree.proofs.NameMaps.{held-some}
 use Rattle.dt_tree.proofs.Places.{value-among}
 use Rattle.dt_tree.proofs.node.merging.push_new_properties.Goals as goal
-use Rattle.dt_tree.proofs.node.merging.push_new_properties.Goals.{then-not-contains_key+in_ok-copy+in_ok-push, else-not-contains_key}
+use Rattle.dt_tree.proofs.node.merging.push_new_properties.Goals.{then-not-contains_key+in_ok-push_property, else-not-contains_key}
 
 pub loop-property-preserved : goal.loop-property-preserved
 loop-property-preserved c =
@@ -20,10 +20,10 @@ loop-property-preserved c =
     let mark : c.contains_key.result ≡ is_among x.name ns =
     c.contains_key.ensures ∙ held-some c.in_ok-ours.ours k ∙ ap (λ (o : Option (List ℕ)). is_some o) (c.in_ok-ours.ensures k) ∙ value-among c.args.ours.now k ∙ ap (λ m. is_among m ns) c.as_bytes.ensures.value in
     elim c.if-not-contains_key.branch [
-      | then-not-contains_key+in_ok-copy+in_ok-push w ↦
+      | then-not-contains_key+in_ok-push_property w ↦
           ap (λ v. v.items ++ new_properties ns (drop (i + 1) theirs)) w.merged-is
-          ∙ ap (λ (l : List Property). l ++ new_properties ns (drop (i + 1) theirs)) w.in_ok-push.ensures.items
-          ∙ kept-next is_new c.loop-property.merged.items theirs i x _ c.loop-property-test.true c.property-item.is w.in_ok-copy.ensures (ap not (sym mark ∙ w.if-not-contains_key.true))
+          ∙ ap (λ (l : List Property). l ++ new_properties ns (drop (i + 1) theirs)) w.in_ok-push_property.ensures
+          ∙ kept-next is_new c.loop-property.merged.items theirs i x _ c.loop-property-test.true c.property-item.is refl (ap not (sym mark ∙ w.if-not-contains_key.true))
           ∙ c.loop-property.invariant
       | else-not-contains_key w ↦
           ap (λ v. v.items ++ new_properties ns (drop (i + 1) theirs)) w.merged-is
