@@ -1,6 +1,5 @@
-use Rattle.std.proofs.Common.{◌≡◌, Bool, true, false, not, Option, Some, None, if◌then◌else◌, nat_lt, refl, sym, ◌∙◌, arith}
+use Rattle.std.proofs.Common.{◌≡◌, Bool, true, false, not, Some, None, if◌then◌else◌, nat_lt, refl, sym, ◌∙◌, arith}
 use Rattle.std.proofs.lemmas.Bool.Decides.{nat_tests}
-use Rattle.dt_tree.specs.declared.error.TreeError.{TreeError}
 use Rattle.dt_tree.specs.declared.error.TreeError.TheVariants.{BadName, DuplicateProperty, DuplicateNode, TooDeep}
 use Rattle.dt_tree.specs.Fault.{are_named, fault_of}
 use Rattle.dt_tree.specs.NodeData.{siblings, child_names, property_names, height_of}
