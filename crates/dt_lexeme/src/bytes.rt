@@ -5,7 +5,7 @@ ghost use Rattle.dt_lexeme.specs.Bytes.{is_letter, is_word, is_name, is_hex, pas
 ghost use Rattle.dt_lexeme.specs.Fronts.{Front};
 
 /// Bytes that stand in one run.
-#[derive(Clone, Copy, Debug, PartialEq, Eq)]
+#[derive(Clone, Copy)]
 pub enum Class {
     /// of a label, behind its first letter
     Word,

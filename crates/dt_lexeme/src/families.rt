@@ -11,7 +11,7 @@ use crate::lexeme::Kind;
 use crate::place::{Mode, Place};
 
 /// The lexemes that begin with a byte.
-#[derive(Clone, Copy, Debug, PartialEq, Eq)]
+#[derive(Clone, Copy)]
 pub enum First {
     /// a string
     Quote,

@@ -5,7 +5,7 @@ ghost use Rattle.dt_lexeme.specs.Places.{step, start};
 use crate::lexeme::Kind;
 
 /// At a statement's beginning, between `[` and `]`, or elsewhere.
-#[derive(Clone, Copy, Debug, PartialEq, Eq)]
+#[derive(Clone, Copy)]
 pub enum Mode {
     Value,
     Name,
@@ -13,7 +13,7 @@ pub enum Mode {
 }
 
 /// How many bodies and parentheses are open, and what may stand next.
-#[derive(Clone, Copy, Debug, PartialEq, Eq)]
+#[derive(Clone, Copy)]
 pub struct Place {
     pub braces: usize,
     pub parens: usize,
