@@ -3,30 +3,30 @@ ghost use Rattle.std.specs.Prelude.{◌≡◌};
 ghost use Rattle.dt_source.specs.SourceError.{number_of, name_of, kind_of_fault, kind_of_refusal};
 
 use dt_lexeme::{FaultKind, RefusalKind};
+use std::fmt;
 use thiserror::Error;
 
 /// What is wrong with a text.
-#[derive(Debug, Clone, Copy, PartialEq, Eq, Drop, Error)]
+#[derive(Debug, Clone, Copy, PartialEq, Eq, Drop)]
 pub enum SourceErrorKind {
-    #[error("out of memory")]
     NoMemory,
-    #[error("no lexeme, or one that can't follow")]
     Syntax,
-    #[error("an element that its width can't hold")]
     ElementRange,
-    #[error("a division by zero")]
     DivideByZero,
-    #[error("a width other than 8, 16, 32 and 64, or a reference in cells not 32 wide")]
     BadBits,
-    #[error("a literal that isn't a number below 2^64")]
     LiteralRange,
-    #[error("an escape that stands for no byte")]
     BadEscape,
-    #[error("nested too deep")]
     TooDeep,
-    #[error("longer than 16 MiB")]
     TooLong,
 }
+
+impl fmt::Display for SourceErrorKind {
+    fn fmt<W: fmt::Write>(&self, f: &mut fmt::Formatter<W>) -> fmt::Result {
+        f.write_str(self.message())
+    }
+}
+
+impl std::error::Error for SourceErrorKind {}
 
 /// Why a text is refused, and the line of that, from 1. Want of memory has no line: it is 0 there.
 #[derive(Debug, Clone, Copy, PartialEq, Eq, Drop, Error)]
@@ -68,6 +68,23 @@ impl SourceErrorKind {
             SourceErrorKind::BadEscape => "BadEscape",
             SourceErrorKind::TooDeep => "TooDeep",
             SourceErrorKind::TooLong => "TooLong",
+        }
+    }
+
+    // What is wrong, for people.
+    fn message(&self) -> &'static str {
+        match self {
+            SourceErrorKind::NoMemory => "out of memory",
+            SourceErrorKind::Syntax => "no lexeme, or one that can't follow",
+            SourceErrorKind::ElementRange => "an element that its width can't hold",
+            SourceErrorKind::DivideByZero => "a division by zero",
+            SourceErrorKind::BadBits => {
+                "a width other than 8, 16, 32 and 64, or a reference in cells not 32 wide"
+            }
+            SourceErrorKind::LiteralRange => "a literal that isn't a number below 2^64",
+            SourceErrorKind::BadEscape => "an escape that stands for no byte",
+            SourceErrorKind::TooDeep => "nested too deep",
+            SourceErrorKind::TooLong => "longer than 16 MiB",
         }
     }
 }
