@@ -1,8 +1,8 @@
 -- A source has no more items, statements and labels than its text has bytes.
-use Rattle.std.proofs.Common.{◌≡◌, ℕ, zero, suc, ◌+◌, ◌<◌, ◌≤◌, Bool, true, false, List, [], ◌∷◌, length, map, ap, subst, arith}
+use Rattle.std.proofs.Common.{ℕ, zero, suc, ◌+◌, ◌<◌, ◌≤◌, Bool, true, false, List, [], ◌∷◌, length, map, ap, subst, arith}
 use Rattle.std.proofs.lemmas.List.{length-map}
 use Rattle.dt_lexeme.specs.declared.lexeme.Lexeme.{Lexeme}
-use Rattle.dt_lexeme.specs.declared.lexeme.Kind.TheVariants.{Name, Label, Semicolon, Brace, EndBrace, DeleteNode, DeleteProperty, Slash}
+use Rattle.dt_lexeme.specs.declared.lexeme.Kind.TheVariants.{Name, Semicolon, Brace, EndBrace, DeleteNode, DeleteProperty, Slash}
 use Rattle.dt_lexeme.proofs.InOrder.{lexemes_few}
 use Rattle.dt_expression.proofs.Complete.{begins_shorter}
 use Rattle.dt_source.specs.Sequences.{SpellsEach}

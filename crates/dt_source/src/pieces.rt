@@ -1,10 +1,10 @@
 //! Values of properties.
-ghost use Rattle.std.specs.Prelude.{◌≡◌, ◌≤◌, ◌<◌, length, map, IfOk, OnOk, IfSome, option_map};
+ghost use Rattle.std.specs.Prelude.{◌≡◌, ◌≤◌, ◌<◌, [], ◌∷◌, Ok, None, length, map, IfOk, IfSome, option_map};
 ghost use Rattle.dt_source.specs.Reading.Several.{Reads};
 ghost use Rattle.dt_source.specs.Tree.{Plain, PathOf, part_view};
 ghost use Rattle.dt_source.specs.Strings.{string_bytes, string_faults};
 ghost use Rattle.dt_source.specs.Pieces.{target_of, width_at};
-ghost use Rattle.dt_source.specs.Reading.Values.{built, put};
+ghost use Rattle.dt_source.specs.Reading.Values.{built};
 ghost use Rattle.dt_source.specs.Order.{first_of};
 ghost use Rattle.dt_source.specs.Reading.Bodies.{is_label, labels_at, square_at, less_at, bits_at, piece_at, placed_at, pieces_at, value_at};
 ghost use Rattle.dt_source.specs.Reading.Loops.{into, comma_rest};
@@ -16,7 +16,7 @@ use crate::string::{earlier, string_of};
 use crate::tree::Part;
 use dt_expression::{Width, literal, syntax_at, width_of};
 use dt_lexeme::{Fault, FaultKind, Kind, Lexeme, ReadError};
-use std::alloc::{AllocError, Global};
+use std::alloc::Global;
 
 fn is_label(kind: Kind) -> bool
     ensures { result ≡ is_label kind }
@@ -102,28 +102,33 @@ fn bits<'a, 'text>(
     }
 }
 
-fn push_string(
+fn push_string<'a>(
     alloc: Global,
     parts: &mut Parts<'_>,
     text: &[u8],
     l: Lexeme,
-) -> Result<Option<Fault>, AllocError>
-    ensures { IfOk result (λ f. (built parts.new ≡ put (built parts.old) (Plain (string_bytes text.now l))) × (f ≡ first_of (string_faults text.now l))) }
+    ts: &'a [Lexeme],
+) -> Result<(Option<Fault>, &'a [Lexeme]), ReadError>
+    ensures gives { Reads (λ x. (built parts.new, x.0, x.1.now)) result (into (built parts.old) (Ok (Plain (string_bytes text.now l) ∷ [], first_of (string_faults text.now l), ts.now))) }
+    ensures rest { IfOk result (λ x. x.1.now ≡ ts.now) }
 {
     let (bytes, fault) = string_of(alloc, text, l)?;
     parts.push_bytes(bytes.as_slice())?;
-    Ok(fault)
+    Ok((fault, ts))
 }
 
-fn push_path<'text>(
+fn push_path<'a, 'text>(
     alloc: Global,
     parts: &mut Parts<'text>,
     text: &'text [u8],
     l: Lexeme,
-) -> Result<(), AllocError>
-    ensures { OnOk result (built parts.new ≡ put (built parts.old) (PathOf (target_of text.now l))) }
+    ts: &'a [Lexeme],
+) -> Result<(Option<Fault>, &'a [Lexeme]), ReadError>
+    ensures gives { Reads (λ x. (built parts.new, x.0, x.1.now)) result (into (built parts.old) (Ok (PathOf (target_of text.now l) ∷ [], None, ts.now))) }
+    ensures rest { IfOk result (λ x. x.1.now ≡ ts.now) }
 {
-    parts.push_part(alloc, Part::Path(target(text, l)))
+    parts.push_part(alloc, Part::Path(target(text, l)))?;
+    Ok((None, ts))
 }
 
 fn push_pairs<'a, 'text>(
@@ -153,18 +158,8 @@ fn piece<'a, 'text>(
     match ts {
         [] => Err(ReadError::Refused(syntax_at(ts))),
         [t, rest @ ..] => match t.kind {
-            Kind::Text => {
-                let fault = push_string(alloc, parts, text, *t)?;
-                Ok((fault, rest))
-            }
-            Kind::Reference => {
-                push_path(alloc, parts, text, *t)?;
-                Ok((None, rest))
-            }
-            Kind::PathReference => {
-                push_path(alloc, parts, text, *t)?;
-                Ok((None, rest))
-            }
+            Kind::Text => push_string(alloc, parts, text, *t, rest),
+            Kind::Reference | Kind::PathReference => push_path(alloc, parts, text, *t, rest),
             Kind::Square => push_pairs(alloc, parts, text, rest),
             Kind::Less => cells(alloc, parts, text, Some(Width::ThirtyTwo), rest),
             Kind::Bits => bits(alloc, parts, text, rest),

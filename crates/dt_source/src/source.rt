@@ -279,8 +279,7 @@ fn delete<'a, 'text>(
     match ts {
         [] => Err(ReadError::Refused(syntax_at(ts))),
         [t, rest @ ..] => match t.kind {
-            Kind::Reference => end_delete(text, *t, rest),
-            Kind::PathReference => end_delete(text, *t, rest),
+            Kind::Reference | Kind::PathReference => end_delete(text, *t, rest),
             _ => Err(ReadError::Refused(syntax_at(ts))),
         },
     }
@@ -348,8 +347,7 @@ fn item_with<'a, 'text>(
     match ts {
         [] => Err(ReadError::Refused(syntax_at(ts))),
         [t, rest @ ..] => match t.kind {
-            Kind::Reference => extend(alloc, text, labels, *t, rest),
-            Kind::PathReference => extend(alloc, text, labels, *t, rest),
+            Kind::Reference | Kind::PathReference => extend(alloc, text, labels, *t, rest),
             _ => unlabelled(alloc, text, labels, *t, rest, ts),
         },
     }
