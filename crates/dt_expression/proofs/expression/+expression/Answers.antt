@@ -1,7 +1,12 @@
-use Rattle.std.proofs.Common.{◌<◌, ◌+◌, ◌-◌, length, arith, sym, refl, ◌∙◌}
-use Rattle.dt_expression.specs.Values.{values}
-use Rattle.dt_expression.specs.ReadingExpressions.{unary_at, levels}
+use Rattle.std.proofs.Common.{◌≡◌, ◌<◌, ◌≤◌, ◌+◌, ◌-◌, List, [], ◌∷◌, length, get_or, take, drop, arith, sym, ap, refl, ◌∙◌}
+use Rattle.std.proofs.lemmas.List.{take_rest}
 use Rattle.std.proofs.lemmas.Result.{err_from_is_err_and}
+use Rattle.dt_lexeme.specs.declared.lexeme.Lexeme.{Lexeme}
+use Rattle.dt_lexeme.specs.declared.lexeme.Kind.{Kind}
+use Rattle.dt_lexeme.specs.declared.lexeme.Kind.TheVariants.{Question, Colon, Paren}
+use Rattle.dt_expression.specs.Expression.{Making}
+use Rattle.dt_expression.specs.Values.{values}
+use Rattle.dt_expression.specs.ReadingExpressions.{Reader, primary_by, primary_with, unary_at, levels, otherwise_by, otherwise, chosen_by, chosen, expr_below}
 use Rattle.dt_expression.proofs.Steps.{expr_below_none, unary_below_none, expr_below_some, unary_below_some, levels_none, levels_refused, levels_next, more_goes_on, more_fails, more_stops}
 use Rattle.dt_expression.proofs.expression.+expression.Goals as goal
 
@@ -60,3 +65,44 @@ level-loop-below-preserved t c = record {
   left_shorter = omega (arith, c.in_ok-more.ensures.shorter, c.loop-below.invariant.left_shorter);
   so_far = levels_next (values c.args.text.now) (unary_at (values c.args.text.now) c.args.depth) c.loop-below.below c.args.lexemes.now c.loop-below.left.now c.loop-below.value c.loop-below.invariant.so_far ∙ c.in_ok-more.ensures.gives;
 }
+
+-- ---- operands behind a lexeme
+
+grouped : {A : Type 0} (m : Making A) (expr : Lexeme → Reader A) (ts : List Lexeme) (d : Lexeme) → 1 ≤ length ts → (get_or ts 0 d).kind ≡ Paren → primary_with m expr ts ≡ primary_by m expr Paren (get_or ts 0 d) (take (length ts - 1) (drop 1 ts))
+grouped m expr [] d h k = absurd (omega arith)
+grouped m expr (t ∷ ts) d h k = ap (λ (x : Kind). primary_by m expr x t ts) k ∙ ap (λ (x : List Lexeme). primary_by m expr Paren t x) (sym (take_rest (t ∷ ts) 1))
+
+second : {A : Type 0} (m : Making A) (expr : Lexeme → Reader A) (v : A) (ts : List Lexeme) (d : Lexeme) → 1 ≤ length ts → (get_or ts 0 d).kind ≡ Question → chosen m expr v ts ≡ chosen_by m expr v Question (get_or ts 0 d) (take (length ts - 1) (drop 1 ts))
+second m expr v [] d h k = absurd (omega arith)
+second m expr v (t ∷ ts) d h k = ap (λ (x : Kind). chosen_by m expr v x t ts) k ∙ ap (λ (x : List Lexeme). chosen_by m expr v Question t x) (sym (take_rest (t ∷ ts) 1))
+
+third : {A : Type 0} (m : Making A) (expr : Lexeme → Reader A) (v w : A) (ts : List Lexeme) (d : Lexeme) → 1 ≤ length ts → (get_or ts 0 d).kind ≡ Colon → otherwise m expr v w ts ≡ otherwise_by m expr v w Colon (get_or ts 0 d) (take (length ts - 1) (drop 1 ts))
+third m expr v w [] d h k = absurd (omega arith)
+third m expr v w (t ∷ ts) d h k = ap (λ (x : Kind). otherwise_by m expr v w x t ts) k ∙ ap (λ (x : List Lexeme). otherwise_by m expr v w Colon t x) (sym (take_rest (t ∷ ts) 1))
+
+pub primary_within-returns-in_err-value-in-Paren-clause-gives : goal.primary_within-returns-in_err-value-in-Paren-clause-gives
+primary_within-returns-in_err-value-in-Paren-clause-gives t c =
+    let p = err_from_is_err_and c.from_residual.result c.from_residual.ensures.1 in
+    rw (p.1, p.2) (grouped (values c.args.text.now) (expr_below (values c.args.text.now) c.args.depth) c.args.lexemes.now _ c.in-len1-up.len_at_least c.in-Paren.is ∙ rw c.in_err-value-in-Paren.ensures.gives refl)
+
+pub primary_within-returns-in_ok-value-in-Paren-clause-gives : goal.primary_within-returns-in_ok-value-in-Paren-clause-gives
+primary_within-returns-in_ok-value-in-Paren-clause-gives t c =
+    rw (grouped (values c.args.text.now) (expr_below (values c.args.text.now) c.args.depth) c.args.lexemes.now _ c.in-len1-up.len_at_least c.in-Paren.is, c.in_ok-value-in-Paren.ensures.gives) c.close.ensures.gives
+
+pub choose-returns-in_err-yes-in-Question-clause-gives : goal.choose-returns-in_err-yes-in-Question-clause-gives
+choose-returns-in_err-yes-in-Question-clause-gives t c =
+    let p = err_from_is_err_and c.from_residual.result c.from_residual.ensures.1 in
+    rw (p.1, p.2) (second (values c.args.text.now) (expr_below (values c.args.text.now) c.args.depth) c.args.test c.args.lexemes.now _ c.in-len1-up.len_at_least c.in-Question.is ∙ rw c.in_err-yes-in-Question.ensures.gives refl)
+
+pub choose-returns-in_ok-yes-in-Question-clause-gives : goal.choose-returns-in_ok-yes-in-Question-clause-gives
+choose-returns-in_ok-yes-in-Question-clause-gives t c =
+    rw (second (values c.args.text.now) (expr_below (values c.args.text.now) c.args.depth) c.args.test c.args.lexemes.now _ c.in-len1-up.len_at_least c.in-Question.is, c.in_ok-yes-in-Question.ensures.gives) c.otherwise.ensures.gives
+
+pub otherwise-returns-in_err-no-in-Colon-clause-gives : goal.otherwise-returns-in_err-no-in-Colon-clause-gives
+otherwise-returns-in_err-no-in-Colon-clause-gives t c =
+    let p = err_from_is_err_and c.from_residual.result c.from_residual.ensures.1 in
+    rw (p.1, p.2) (third (values c.args.text.now) (expr_below (values c.args.text.now) c.args.depth) c.args.test c.args.yes c.args.lexemes.now _ c.in-len1-up.len_at_least c.in-Colon.is ∙ rw c.in_err-no-in-Colon.ensures.gives refl)
+
+pub otherwise-returns-in_ok-no-in-Colon-clause-gives : goal.otherwise-returns-in_ok-no-in-Colon-clause-gives
+otherwise-returns-in_ok-no-in-Colon-clause-gives t c =
+    third (values c.args.text.now) (expr_below (values c.args.text.now) c.args.depth) c.args.test c.args.yes c.args.lexemes.now _ c.in-len1-up.len_at_least c.in-Colon.is ∙ rw (c.in_ok-no-in-Colon.ensures.gives, c.choice.ensures) refl
