@@ -1,12 +1,13 @@
-use Rattle.std.proofs.Common.{◌≡◌, ◌<◌, ◌≤◌, ◌+◌, ◌-◌, List, [], ◌∷◌, length, get_or, take, drop, arith, sym, ap, refl, ◌∙◌}
+use Rattle.std.proofs.Common.{◌≡◌, ◌<◌, ◌≤◌, ◌+◌, ◌-◌, ℕ, false, List, [], ◌∷◌, length, get_or, take, drop, arith, sym, ap, refl, ◌∙◌}
 use Rattle.std.proofs.lemmas.List.{take_rest}
 use Rattle.std.proofs.lemmas.Result.{err_from_is_err_and}
 use Rattle.dt_lexeme.specs.declared.lexeme.Lexeme.{Lexeme}
 use Rattle.dt_lexeme.specs.declared.lexeme.Kind.{Kind}
 use Rattle.dt_lexeme.specs.declared.lexeme.Kind.TheVariants.{Question, Colon, Paren}
-use Rattle.dt_expression.specs.Expression.{Making}
+use Rattle.dt_expression.specs.Expression.{is_prefix, Making}
 use Rattle.dt_expression.specs.Values.{values}
-use Rattle.dt_expression.specs.ReadingExpressions.{Reader, primary_by, primary_with, unary_at, levels, otherwise_by, otherwise, chosen_by, chosen, expr_below}
+use Rattle.dt_expression.specs.ReadingExpressions.{Reader, primary_by, primary_with, unary_at, levels, otherwise_by, otherwise, chosen_by, chosen, expr_below, expr_at}
+use Rattle.dt_expression.specs.Reading.{◌>>=◌}
 use Rattle.dt_expression.proofs.Steps.{expr_below_none, unary_below_none, expr_below_some, unary_below_some, levels_none, levels_refused, levels_next, more_goes_on, more_fails, more_stops}
 use Rattle.dt_expression.proofs.expression.+expression.Goals as goal
 
@@ -106,3 +107,25 @@ otherwise-returns-in_err-no-in-Colon-clause-gives t c =
 pub otherwise-returns-in_ok-no-in-Colon-clause-gives : goal.otherwise-returns-in_ok-no-in-Colon-clause-gives
 otherwise-returns-in_ok-no-in-Colon-clause-gives t c =
     third (values c.args.text.now) (expr_below (values c.args.text.now) c.args.depth) c.args.test c.args.yes c.args.lexemes.now _ c.in-len1-up.len_at_least c.in-Colon.is ∙ rw (c.in_ok-no-in-Colon.ensures.gives, c.choice.ensures) refl
+
+-- ---- what stands before none
+
+bare : {A : Type 0} (m : Making A) (depth : ℕ) (ts : List Lexeme) (d : Lexeme) → 1 ≤ length ts → is_prefix (get_or ts 0 d).kind ≡ false → unary_at m depth ts ≡ primary_with m (expr_below m depth) ts
+unfolding unary_at
+bare m depth [] d h p = absurd (omega arith)
+bare m depth (t ∷ ts) d h p = rw p refl
+
+first : {A : Type 0} (m : Making A) (depth : ℕ) (ts : List Lexeme) → expr_at m depth ts ≡ (levels m (unary_at m depth) 10 ts >>= λ x. chosen m (expr_below m depth) x.0 x.1)
+unfolding expr_at
+first m depth ts = refl
+
+pub unary-returns-else-is_prefix-clause-gives : goal.unary-returns-else-is_prefix-clause-gives
+unary-returns-else-is_prefix-clause-gives t c = rw (bare (values c.args.text.now) c.args.depth c.args.lexemes.now _ c.in-len1-up.len_at_least (sym c.is_prefix.ensures ∙ c.if-is_prefix.false)) c.primary_within.ensures.gives
+
+pub expr-returns-in_err-test-clause-gives : goal.expr-returns-in_err-test-clause-gives
+expr-returns-in_err-test-clause-gives t c =
+    let p = err_from_is_err_and c.from_residual.result c.from_residual.ensures.1 in
+    rw (p.1, p.2) (first (values c.args.text.now) c.args.depth c.args.lexemes.now ∙ rw c.in_err-test.ensures.gives refl)
+
+pub expr-returns-clause-gives : goal.expr-returns-clause-gives
+expr-returns-clause-gives t c = rw (first (values c.args.text.now) c.args.depth c.args.lexemes.now, c.in_ok-test.ensures.gives) c.choose.ensures.gives
