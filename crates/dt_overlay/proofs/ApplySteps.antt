@@ -41,25 +41,22 @@ module _ (base o t u : Resolved) (es : List Value) (folded : fold (with_fragment
   laid-shallow s = subst IsShallow with-is (symbols-shallow base o given t (fold-shallow base o (fragments o) base t folded s))
 
 -- ---- all together
-module _ (a b : NodeData) (base over : Resolved) (ea : base ≡ lists_of a) (eb : over ≡ lists_of b) where
+module _ (a b : NodeData) (base : Resolved) (ea : base ≡ lists_of a) where
   abbrev pub all : Result Resolved Fault
   all = overlay_result (lists_of a) (lists_of b)
 
-  all-is : then_do (shifted_overlay base over) (laid_over base) ≡ all
-  all-is = ap₂ (λ x y. then_do (shifted_overlay x y) (laid_over x)) ea eb
+  all-is : then_do (shifted_overlay base (lists_of b)) (laid_over base) ≡ all
+  all-is = ap (λ x. then_do (shifted_overlay x (lists_of b)) (laid_over x)) ea
 
-  pub shift-fault : (e : OverlayError) → IsFault e (shifted_overlay base over) → IsFault e all
-  shift-fault e h = subst (IsFault e) all-is (fault-then e (shifted_overlay base over) (laid_over base) h)
+  pub shift-fault : (e : OverlayError) → IsFault e (shifted_overlay base (lists_of b)) → IsFault e all
+  shift-fault e h = subst (IsFault e) all-is (fault-then e (shifted_overlay base (lists_of b)) (laid_over base) h)
 
-  module _ (o : Resolved) (shifted : shifted_overlay base over ≡ Ok o) where
+  module _ (o : Resolved) (shifted : shifted_overlay base (lists_of b) ≡ Ok o) where
     pub laid-all : laid_over base o ≡ all
     laid-all = ap (λ r. then_do r (laid_over base)) (sym shifted) ∙ all-is
 
     pub laid-fault : (e : OverlayError) → IsFault e (laid_over base o) → IsFault e all
     laid-fault e h = subst (IsFault e) laid-all h
-
-    pub laid-result : (u : Resolved) → laid_over base o ≡ Ok u → all ≡ Ok u
-    laid-result u h = sym laid-all ∙ h
 
 -- ---- roots
 pub root-of : (wanted : Result Resolved Fault) (limit : ℕ) (d : Draft Lent) → IsWhole d → wanted ≡ Ok (lists d) → (found : Option NodeData)
@@ -70,15 +67,15 @@ pub root-of : (wanted : Result Resolved Fault) (limit : ℕ) (d : Draft Lent) �
 root-of wanted limit d w is None a b c = record { lists = lists d; result = is; longer = a; trees = draft-longer d w }
 root-of wanted limit d w is (Some root) a b c = record { lists = lists d; result = is; name = a; map = b; fits = c }
 
-pub root-all : (a b : NodeData) (base over : Resolved) → base ≡ lists_of a → over ≡ lists_of b → (o : Resolved) → shifted_overlay base over ≡ Ok o → (limit : ℕ) (found : Option NodeData)
+pub root-all : (a b : NodeData) (base : Resolved) → base ≡ lists_of a → (o : Resolved) → shifted_overlay base (lists_of b) ≡ Ok o → (limit : ℕ) (found : Option NodeData)
     → IsRootOrTooLong (laid_over base o) limit found → IsRootOrTooLong (overlay_result (lists_of a) (lists_of b)) limit found
-root-all a b base over ea eb o shifted limit found h = subst (λ (r : Result Resolved Fault). IsRootOrTooLong r limit found) (laid-all a b base over ea eb o shifted) h
+root-all a b base ea o shifted limit found h = subst (λ (r : Result Resolved Fault). IsRootOrTooLong r limit found) (laid-all a b base ea o shifted) h
 
-pub match-all : (a b : NodeData) (base over : Resolved) → base ≡ lists_of a → over ≡ lists_of b → (o : Resolved) → shifted_overlay base over ≡ Ok o → (limit : ℕ) (r : Result (Option NodeData) OverlayError)
+pub match-all : (a b : NodeData) (base : Resolved) → base ≡ lists_of a → (o : Resolved) → shifted_overlay base (lists_of b) ≡ Ok o → (limit : ℕ) (r : Result (Option NodeData) OverlayError)
     → MatchResult r (λ root. IsRootOrTooLong (laid_over base o) limit root) (λ e. IsFault e (laid_over base o))
     → MatchResult r (λ root. IsRootOrTooLong (overlay_result (lists_of a) (lists_of b)) limit root) (λ e. IsFault e (overlay_result (lists_of a) (lists_of b)))
-match-all a b base over ea eb o shifted limit (Ok found) h = root-all a b base over ea eb o shifted limit found h
-match-all a b base over ea eb o shifted limit (Err e) h = laid-fault a b base over ea eb o shifted e h
+match-all a b base ea o shifted limit (Ok found) h = root-all a b base ea o shifted limit found h
+match-all a b base ea o shifted limit (Err e) h = laid-fault a b base ea o shifted e h
 
 pub tree-within : (base over : TreeData) (limit : ℕ) (root : NodeData) → IsRoot (overlay_result (lists_of base.root) (lists_of over.root)) limit root → IsTree base → (rs : List (ℕ × ℕ)) (cpu : ℕ) (t : TreeData)
     → rs ≡ base.reserves → cpu ≡ base.boot_cpu → t ≡ tree_data (filter is_reserve rs) cpu root → IsAppliedWithin base over limit t

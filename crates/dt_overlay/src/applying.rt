@@ -1,8 +1,7 @@
 //! An overlay, applied to a base.
-ghost use Rattle.std.specs.Prelude.{◌≡◌, ◌<◌, ◌≤◌, ◌-◌, ◌^◌, [], All, IfOk, MatchOption, MatchResult, Ok, map, true};
+ghost use Rattle.std.specs.Prelude.{◌≡◌, ◌<◌, ◌≤◌, ◌-◌, ◌^◌, [], IfOk, MatchOption, MatchResult, Ok};
 ghost use Rattle.overlay_meaning.specs.Applied.{overlay_result};
-ghost use Rattle.overlay_meaning.specs.Shifted.{fragments};
-ghost use Rattle.dt_tree.specs.Name.{is_name};
+ghost use Rattle.overlay_meaning.specs.Shifted.{fragments, shifted_overlay};
 ghost use Rattle.dt_tree.specs.PathMap.{path_map};
 ghost use Rattle.dt_meaning.specs.MapOf.{map_of};
 ghost use Rattle.dt_assembly.specs.Lists.{lists_of};
@@ -12,9 +11,10 @@ ghost use Rattle.dt_listing.specs.Listed.{IsOrdered, IsWhole, lists};
 ghost use Rattle.dt_fixup.specs.OverlayFault.{IsFault};
 ghost use Rattle.dt_fixup.specs.Sheet.{IsSheet, shown};
 ghost use Rattle.dt_overlay.specs.Applied.{IsApplied, IsAppliedOrLonger};
-ghost use Rattle.dt_overlay.specs.Private.Applying.{HasSymbols, IsRootOrTooLong};
+ghost use Rattle.dt_overlay.specs.Private.Additions.{AreSymbols};
+ghost use Rattle.dt_overlay.specs.Private.Applying.{IsRootOrTooLong};
 ghost use Rattle.dt_overlay.specs.Private.Fragments.{AreFragments};
-ghost use Rattle.dt_overlay.specs.Private.Symbols.{laid_over, symbol_value, symbols_of};
+ghost use Rattle.dt_overlay.specs.Private.Symbols.{laid_over, symbols_of};
 
 use crate::fragments::{Fragment, find_fragments};
 use crate::making::{make, total_size};
@@ -29,47 +29,39 @@ use dt_tree::{Node, Tree};
 use std::alloc::{AllocError, Global};
 use std::hash::RandomState;
 
-// The base's rows with all that the overlay puts there.
-fn lay_over<'s, 't>(
-    alloc: Global,
-    base: Draft<'s, &'s [u8]>,
-    sheet: &'s Sheet<'t>,
-    list: &[Fragment],
-    symbols: &'s [Symbol<'t>],
-) -> Result<Draft<'s, &'s [u8]>, OverlayError>
-    requires base { IsWhole base }
-    requires nodes { AreNodes (lists base).nodes }
-    requires sheet { IsSheet sheet.now }
-    requires ordered { IsOrdered sheet.now.draft }
-    requires fragments { AreFragments base sheet.now (fragments (shown sheet.now)) list.now }
-    requires symbols { map symbol_value symbols.now ≡ symbols_of (lists base) (shown sheet.now) }
-    requires named { All (λ s. is_name s.name.now ≡ true) symbols.now }
-    ensures whole { IfOk result (λ draft. IsWhole draft) }
-    ensures nodes { IfOk result (λ draft. AreNodes (lists draft).nodes) }
-    ensures laid { MatchResult result (λ draft. laid_over (lists base.entry) (shown sheet.now) ≡ Ok (lists draft)) (λ e. IsFault e (laid_over (lists base.entry) (shown sheet.now))) }
-{
-    let mut draft = base;
-    merge_fragments(alloc, &mut draft, sheet, list)?;
-    put_symbols(&mut draft, symbols)?;
-    Ok(draft)
+/// What an overlay puts into a base: its fragments, and its symbols where their values are no longer than a limit.
+#[derive(Drop)]
+struct Additions<'t> {
+    list: Vec<Fragment>,
+    symbols: Option<Vec<Symbol<'t>>>,
 }
 
-// Merges the fragments alone: where symbols are too long, all that refuses them comes first.
-fn merge_alone<'s, 't>(
+// What a sheet puts into the base's rows. Symbols that are too long aren't made.
+fn find_additions<'t>(
     alloc: Global,
-    base: Draft<'s, &'s [u8]>,
-    sheet: &'s Sheet<'t>,
-    list: &[Fragment],
-) -> Result<(), OverlayError>
-    requires base { IsWhole base }
+    rows: &Draft<'t, &'t [u8]>,
+    sheet: &Sheet<'t>,
+    limit: usize,
+) -> Result<Additions<'t>, AllocError>
+    requires base { IsWhole rows.now }
     requires sheet { IsSheet sheet.now }
     requires ordered { IsOrdered sheet.now.draft }
-    requires fragments { AreFragments base sheet.now (fragments (shown sheet.now)) list.now }
-    ensures { MatchResult result (λ _. HasSymbols (lists base.entry) (shown sheet.now)) (λ e. IsFault e (laid_over (lists base.entry) (shown sheet.now))) }
+    ensures fragments { IfOk result (λ additions. AreFragments rows.now sheet.now (fragments (shown sheet.now)) additions.list.items) }
+    ensures symbols { IfOk result (λ additions. AreSymbols (symbols_of (lists rows.now) (shown sheet.now)) limit additions.symbols) }
 {
-    let mut draft = base;
-    merge_fragments(alloc, &mut draft, sheet, list)?;
-    Ok(())
+    let list = find_fragments(alloc, rows, sheet)?;
+    let targets = row_targets(alloc, sheet, list.as_slice())?;
+    if symbols_size(rows, sheet, targets.as_slice()) > limit {
+        return Ok(Additions {
+            list,
+            symbols: None,
+        });
+    }
+    let symbols = find_symbols(alloc, rows, sheet, targets.as_slice())?;
+    Ok(Additions {
+        list,
+        symbols: Some(symbols),
+    })
 }
 
 // The root of a draft's tree, or None where its values are longer together than the limit.
@@ -91,27 +83,51 @@ fn root_within<'d>(
     Ok(Some(root))
 }
 
-// The same with the symbols that were found, as a tree.
-fn symbols_root<'s, 't>(
+// Puts what was found over the base's rows, and makes the root, or none where its values are too long. All that refuses the
+// fragments comes first.
+fn laid_root<'s, 't>(
+    alloc: Global,
+    draft: &mut Draft<'s, &'s [u8]>,
+    sheet: &'s Sheet<'t>,
+    additions: &'s Additions<'t>,
+    limit: usize,
+) -> Result<Option<Node>, OverlayError>
+    requires base { IsWhole draft.old }
+    requires nodes { AreNodes (lists draft.old).nodes }
+    requires sheet { IsSheet sheet.now }
+    requires ordered { IsOrdered sheet.now.draft }
+    requires fragments { AreFragments draft.old sheet.now (fragments (shown sheet.now)) additions.now.list.items }
+    requires symbols { AreSymbols (symbols_of (lists draft.old) (shown sheet.now)) limit additions.now.symbols }
+    ensures { MatchResult result (λ root. IsRootOrTooLong (laid_over (lists draft.old) (shown sheet.now)) limit root) (λ e. IsFault e (laid_over (lists draft.old) (shown sheet.now))) }
+{
+    merge_fragments(alloc, draft, sheet, additions.list.as_slice())?;
+    let symbols = match &additions.symbols {
+        Some(symbols) => symbols.as_slice(),
+        None => return Ok(None),
+    };
+    put_symbols(draft, symbols)?;
+    let root = root_within(alloc, draft, limit)?;
+    Ok(root)
+}
+
+// The same with rows that live as long as what is put there.
+fn rows_root<'s, 't>(
     alloc: Global,
     rows: Draft<'s, &'s [u8]>,
     sheet: &'s Sheet<'t>,
-    list: &[Fragment],
-    symbols: &'s [Symbol<'t>],
+    additions: &'s Additions<'t>,
     limit: usize,
 ) -> Result<Option<Node>, OverlayError>
     requires base { IsWhole rows }
     requires nodes { AreNodes (lists rows).nodes }
     requires sheet { IsSheet sheet.now }
     requires ordered { IsOrdered sheet.now.draft }
-    requires fragments { AreFragments rows sheet.now (fragments (shown sheet.now)) list.now }
-    requires symbols { map symbol_value symbols.now ≡ symbols_of (lists rows) (shown sheet.now) }
-    requires named { All (λ s. is_name s.name.now ≡ true) symbols.now }
+    requires fragments { AreFragments rows sheet.now (fragments (shown sheet.now)) additions.now.list.items }
+    requires symbols { AreSymbols (symbols_of (lists rows) (shown sheet.now)) limit additions.now.symbols }
     ensures { MatchResult result (λ root. IsRootOrTooLong (laid_over (lists rows.entry) (shown sheet.now)) limit root) (λ e. IsFault e (laid_over (lists rows.entry) (shown sheet.now))) }
 {
-    let draft = lay_over(alloc, rows, sheet, list, symbols)?;
-    let root = root_within(alloc, &draft, limit)?;
-    Ok(root)
+    let mut draft = rows;
+    laid_root(alloc, &mut draft, sheet, additions, limit)
 }
 
 // The root of the base with what a sheet puts there, or None where its values are too long.
@@ -127,21 +143,24 @@ fn sheet_root<'t>(
     requires ordered { IsOrdered sheet.now.draft }
     ensures { MatchResult result (λ root. IsRootOrTooLong (laid_over (lists rows.entry) (shown sheet.now)) limit root) (λ e. IsFault e (laid_over (lists rows.entry) (shown sheet.now))) }
 {
-    let list = find_fragments(alloc, &rows, sheet)?;
-    let targets = row_targets(alloc, sheet, list.as_slice())?;
-    if symbols_size(&rows, sheet, targets.as_slice()) > limit {
-        merge_alone(alloc, rows, sheet, list.as_slice())?;
-        return Ok(None);
-    }
-    let symbols = find_symbols(alloc, &rows, sheet, targets.as_slice())?;
-    symbols_root(
-        alloc,
-        rows,
-        sheet,
-        list.as_slice(),
-        symbols.as_slice(),
-        limit,
-    )
+    let additions = find_additions(alloc, &rows, sheet, limit)?;
+    rows_root(alloc, rows, sheet, &additions, limit)
+}
+
+// The rows of an overlay above those of its base.
+fn overlay_sheet<'t>(
+    alloc: Global,
+    hasher: RandomState,
+    rows: &Draft<'t, &'t [u8]>,
+    overlay: &'t Tree,
+) -> Result<Sheet<'t>, OverlayError>
+    requires { IsWhole rows.now }
+    ensures sheet { MatchResult result (λ sheet. shifted_overlay (lists rows.now) (lists_of overlay.now.root) ≡ Ok (shown sheet)) (λ e. IsFault e (shifted_overlay (lists rows.now) (lists_of overlay.now.root))) }
+    ensures sound { IfOk result (λ sheet. IsSheet sheet) }
+    ensures ordered { IfOk result (λ sheet. IsOrdered sheet.draft) }
+{
+    let over = list_tree(alloc, hasher, overlay)?;
+    shift(alloc, rows, over)
 }
 
 // The root of the base with the overlay applied, or None where its values are too long.
@@ -155,8 +174,7 @@ fn applied_root<'t>(
     ensures { MatchResult result (λ root. IsRootOrTooLong (overlay_result (lists_of base.now.root) (lists_of overlay.now.root)) limit root) (λ e. IsFault e (overlay_result (lists_of base.now.root) (lists_of overlay.now.root))) }
 {
     let rows = list_tree(alloc, hasher, base)?;
-    let over = list_tree(alloc, hasher, overlay)?;
-    let sheet = shift(alloc, &rows, over)?;
+    let sheet = overlay_sheet(alloc, hasher, &rows, overlay)?;
     sheet_root(alloc, rows, &sheet, limit)
 }
 
