@@ -1,8 +1,14 @@
 //! The tree of a source.
-ghost use Rattle.std.specs.Prelude.{◌≡◌, false, IfOk, Option, MatchResult};
+ghost use Rattle.std.specs.Prelude.{◌≡◌, false, IfOk, List, MatchResult, Option};
 ghost use Rattle.std.specs.List.{list_any};
+ghost use Rattle.dt_meaning.specs.Edits.{Definition};
+ghost use Rattle.dt_meaning.specs.References.{Found};
 ghost use Rattle.dt_meaning.specs.Resolved.{is_too_deep, names_taken};
+ghost use Rattle.dt_source.specs.Lawful.{IsLawful};
+ghost use Rattle.dt_source.specs.Meaning.{meaning};
+ghost use Rattle.dt_edit.specs.Fragments.{AreFragments};
 ghost use Rattle.dt_edit.specs.Said.{tree_of};
+ghost use Rattle.dt_resolve.specs.Prepared.{IsPrepared};
 ghost use Rattle.dt_resolve.specs.Said.{meaning_of};
 ghost use Rattle.dt_build.specs.Built.{IsBuilt, IsTreeOf, Refuses};
 ghost use Rattle.dt_build.specs.Private.Fitting.{IsFitting};
@@ -13,7 +19,7 @@ use crate::making::make;
 use crate::mirror::is_mirror_too_deep;
 use crate::numbering::number;
 use crate::sizes::total_size;
-use dt_edit::fragments_of;
+use dt_edit::{Fragments, fragments_of};
 use dt_resolve::{BuildError, Prepared, prepare};
 use dt_source::Source;
 use dt_tree::Tree;
@@ -46,6 +52,45 @@ fn fitting_tree(
     }
 }
 
+// The tree of a source that was prepared, or why it has none.
+fn prepared_tree(
+    alloc: Global,
+    source: &Source<'_>,
+    prepared: &Prepared<'_, '_>,
+    symbols: bool,
+    limit: usize,
+) -> Result<Option<Tree>, BuildError>
+    requires lawful { IsLawful (meaning source.now) }
+    requires prepared { (es : List (Definition (List Found))) × IsPrepared symbols (meaning_of source.now) es prepared.now }
+    ensures { MatchResult result (λ tree. IsBuilt symbols (meaning_of source.now) limit tree) (λ e. Refuses symbols (meaning_of source.now) e) }
+{
+    // behind the edits only the mirror of a node is deeper than the node
+    if is_mirror_too_deep(prepared, symbols) {
+        return Err(BuildError::TooDeep);
+    }
+    let tree = fitting_tree(alloc, source, prepared, symbols, limit)?;
+    Ok(tree)
+}
+
+// The tree of a source with these fragments, or why it has none.
+fn source_tree<'d, 't>(
+    alloc: Global,
+    hasher: RandomState,
+    source: &'d Source<'t>,
+    fragments: &'d Fragments<'t>,
+    symbols: bool,
+    limit: usize,
+) -> Result<Option<Tree>, BuildError>
+    requires lawful { IsLawful (meaning source.now) }
+    requires fragments { AreFragments (meaning_of source.now).items fragments.now }
+    ensures { MatchResult result (λ tree. IsBuilt symbols (meaning_of source.now) limit tree) (λ e. Refuses symbols (meaning_of source.now) e) }
+{
+    match prepare(alloc, hasher, source, fragments, symbols) {
+        Ok(prepared) => prepared_tree(alloc, source, &prepared, symbols, limit),
+        Err(error) => Err(error),
+    }
+}
+
 /// The tree of a source, or None where its values are longer together than the limit, in bytes: sizes are counted before any
 /// value is made. With symbols the root gets `__symbols__`, with the path of each labelled node; a plugin's root gets `__fixups__` and
 /// `__local_fixups__`, with the places of its phandles.
@@ -60,16 +105,7 @@ pub fn build_within(
 {
     source.check();
     let fragments = fragments_of(alloc, source.items.as_slice())?;
-    let prepared = match prepare(alloc, hasher, source, &fragments, symbols) {
-        Ok(prepared) => prepared,
-        Err(error) => return Err(error),
-    };
-    // behind the edits only the mirror of a node is deeper than the node
-    if is_mirror_too_deep(&prepared, symbols) {
-        return Err(BuildError::TooDeep);
-    }
-    let tree = fitting_tree(alloc, source, &prepared, symbols, limit)?;
-    Ok(tree)
+    source_tree(alloc, hasher, source, &fragments, symbols, limit)
 }
 
 /// The tree of a source, however long its values are.
