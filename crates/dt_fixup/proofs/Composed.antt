@@ -23,7 +23,7 @@ some-by : (fs : List (List ℕ)) → are_some fs ≡ true → some_of fs ≡ Ok 
 some-by [] some = absurd (true≢false (sym some))
 some-by (f ∷ fs) some = refl
 
-none-by : (fs : List (List ℕ)) → are_some fs ≡ false → some_of fs ≡ Err NotOverlay
+pub none-by : (fs : List (List ℕ)) → are_some fs ≡ false → some_of fs ≡ Err NotOverlay
 none-by [] none = refl
 none-by (f ∷ fs) none = absurd (true≢false none)
 
@@ -40,9 +40,8 @@ module _ (base over : Resolved) where
   abbrev moved : List Value → Result Resolved Fault
   moved es = then_do (fold (raise_places s) (filter is_mirror over.properties) (raised_at es)) fixed
 
-  pub no-fragment : are_some (fragments over) ≡ false → shifted_overlay base over ≡ Err NotOverlay
-  no-fragment none =
-      ap (λ r. then_do r (λ _. then_do (with_phandles s over.properties) moved)) (none-by (fragments over) none)
+  pub fragments-refused : (e : OverlayError) → IsFault e (some_of (fragments over)) → IsFault e (shifted_overlay base over)
+  fragments-refused e fault = fault-by e (some_of (fragments over)) (shifted_overlay base over) (λ f is. ap (λ r. then_do r (λ _. then_do (with_phandles s over.properties) moved)) is) fault
 
   -- behind the test for fragments
   begun : are_some (fragments over) ≡ true → shifted_overlay base over ≡ then_do (with_phandles s over.properties) moved

@@ -85,7 +85,11 @@ module _ (d : Draft Lent) (whole : IsWhole d) (parent : ℕ) (n : List ℕ) wher
   pub top-other : parent ≡ 0 → bytes_eq local_fixups_name n ≡ false → IsTwin rows (p ++ n ∷ []) NoMirror
   top-other top e = let root : p ≡ [] = ap (path_of rows) top in rw root (and-no (bytes_eq local_fixups_name n) e)
 
--- ---- one twin more
+-- ---- the twins of the first nodes
+pub twins-start : (rows : List NodeRow) (ts : List Twin) → ts ≡ NoMirror ∷ [] → (n : ℕ) → n ≤ 0 → IsTwin rows (path_of rows n) (slice_index_or ts n NoMirror)
+twins-start rows ts is zero le = subst (λ (us : List Twin). IsTwin rows [] (slice_index_or us 0 NoMirror)) (sym is) refl
+twins-start rows ts is (suc n) le = absurd (omega (arith, le))
+
 pub twins-more : (rows : List NodeRow) → IsGrown rows → (ts : List Twin) (i : ℕ) (t : Twin) (r : NodeRow) → i < length rows → length ts ≡ i + 1 → r ≡ row_at rows i
     → ((n : ℕ) → n ≤ i → IsTwin rows (path_of rows n) (slice_index_or ts n NoMirror)) → IsTwin rows (path_of rows r.parent ++ r.name.now ∷ []) t
     → (us : List Twin) → us ≡ ts ++ t ∷ [] → (n : ℕ) → n ≤ i + 1 → IsTwin rows (path_of rows n) (slice_index_or us n NoMirror)

@@ -1,14 +1,13 @@
 //! An overlay's rows, with the values that were changed.
-ghost use Rattle.std.specs.Prelude.{◌≡◌, ◌+◌, ◌<◌, ◌≤◌, ◌==◌, ◌&&◌, ◌||◌, ℕ, None, not, length, take, drop, [], if◌then◌else◌, IfOk, OnOk, OnErr, IsSome};
+ghost use Rattle.std.specs.Prelude.{◌≡◌, ◌+◌, ◌<◌, ◌≤◌, ◌==◌, ◌&&◌, ◌||◌, ℕ, not, length, take, drop, if◌then◌else◌, IfOk, OnOk, OnErr, IsSome};
 ghost use Rattle.std.specs.Int.{from_be_bytes, to_be_bytes, w32};
-ghost use Rattle.dt_listing.specs.Listed.{IsWhole, lists};
-ghost use Rattle.dt_fixup.specs.Sheet.{IsSheet, change_at, shown, value_at};
-ghost use Rattle.overlay_meaning.specs.Shifted.{Shifting, written};
+ghost use Rattle.dt_fixup.specs.Sheet.{IsSheet, change_at, value_at};
+ghost use Rattle.overlay_meaning.specs.Shifted.{written};
 ghost use Rattle.dt_fixup.specs.Private.Marks.{is_inside, is_taken};
-ghost use Rattle.dt_fixup.specs.Private.Steps.{IsAt, is_marked};
+ghost use Rattle.dt_fixup.specs.Private.Steps.{is_marked};
 
 use dt_draft::Draft;
-use std::alloc::{AllocError, Global};
+use std::alloc::AllocError;
 
 /// A value that was changed, and which of its bytes are those of places of phandles.
 #[derive(Drop)]
@@ -36,23 +35,6 @@ pub(crate) fn number_in(value: &[u8], offset: usize) -> u32
 }
 
 impl<'t> Sheet<'t> {
-    /// The rows of an overlay, before any change.
-    pub(crate) fn new(alloc: Global, draft: Draft<'t, &'t [u8]>) -> Result<Self, AllocError>
-        requires { IsWhole draft }
-        ensures sound { IfOk result (λ sheet. IsSheet sheet) }
-        ensures draft { IfOk result (λ sheet. sheet.draft ≡ draft.entry) }
-        ensures shown { IfOk result (λ sheet. shown sheet ≡ lists draft.entry) }
-        ensures start { IfOk result (λ sheet. (x : Shifting) → x.properties ≡ (lists draft.entry).properties → x.places ≡ [] → IsAt x sheet) }
-        ensures unchanged { IfOk result (λ sheet. (k : ℕ) → change_at sheet k ≡ None) }
-    {
-        let count = draft.properties().len();
-        let mut changes = Vec::with_capacity(alloc, count)?;
-        for _row in 0..count {
-            changes.push(None)?;
-        }
-        Ok(Sheet { draft, changes })
-    }
-
     /// The value of a property as it is now.
     pub fn value(&self, property: usize) -> &[u8]
         requires sound { IsSheet self.now }

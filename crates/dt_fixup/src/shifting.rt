@@ -1,9 +1,10 @@
 //! An overlay above its base.
-ghost use Rattle.std.specs.Prelude.{◌≡◌, IfOk, Ok, MatchResult};
+ghost use Rattle.std.specs.Prelude.{◌≡◌, ℕ, IfOk, None, Ok, MatchResult, length, replicate, true};
 ghost use Rattle.dt_listing.specs.Listed.{IsOrdered, IsWhole, lists};
-ghost use Rattle.overlay_meaning.specs.Shifted.{shifted_overlay};
+ghost use Rattle.overlay_meaning.specs.Shifted.{fragments, shifted_overlay, some_of};
 ghost use Rattle.dt_fixup.specs.OverlayFault.{IsFault};
-ghost use Rattle.dt_fixup.specs.Sheet.{IsSheet, shown};
+ghost use Rattle.dt_fixup.specs.Sheet.{IsSheet, change_at, shown};
+ghost use Rattle.dt_fixup.specs.Private.Fragments.{are_some};
 
 use crate::error::OverlayError;
 use crate::fixups::resolve_fixups;
@@ -11,9 +12,57 @@ use crate::fragments::has_fragment;
 use crate::local::raise_local;
 use crate::phandle::greatest_phandle;
 use crate::raising::raise;
-use crate::sheet::Sheet;
+use crate::sheet::{Change, Sheet};
 use dt_draft::Draft;
 use std::alloc::Global;
+
+// No change of a property yet, where the overlay has a fragment.
+fn no_changes<'t>(
+    alloc: Global,
+    over: &Draft<'t, &'t [u8]>,
+) -> Result<Vec<Option<Change>>, OverlayError>
+    requires whole { IsWhole over.now }
+    requires ordered { IsOrdered over.now }
+    ensures none { IfOk result (λ changes. changes.items ≡ replicate (length over.now.properties.items) None) }
+    ensures some { MatchResult result (λ _. are_some (fragments (lists over.now)) ≡ true) (λ e. IsFault e (some_of (fragments (lists over.now)))) }
+{
+    if !has_fragment(over) {
+        return Err(OverlayError::NotOverlay);
+    }
+    let count = over.properties().len();
+    let mut changes = Vec::with_capacity(alloc, count)?;
+    for _row in 0..count {
+        changes.push(None)?;
+    }
+    Ok(changes)
+}
+
+// Changes the values of an overlay that has none changed yet.
+fn shift_values<'t>(
+    alloc: Global,
+    base: &Draft<'t, &'t [u8]>,
+    sheet: &mut Sheet<'t>,
+) -> Result<(), OverlayError>
+    requires base { IsWhole base.now }
+    requires sound { IsSheet sheet.old }
+    requires unchanged { (k : ℕ) → change_at sheet.old k ≡ None }
+    requires some { are_some (fragments (lists sheet.old.draft)) ≡ true }
+    ensures sound { IsSheet sheet.new }
+    ensures draft { sheet.new.draft ≡ sheet.old.draft }
+    ensures shifted { MatchResult result (λ _. shifted_overlay (lists base.now) (lists sheet.old.draft) ≡ Ok (shown sheet.new)) (λ e. IsFault e (shifted_overlay (lists base.now) (lists sheet.old.draft))) }
+{
+    let rise = greatest_phandle(base) as usize + 1;
+    if let Err(error) = raise(alloc, sheet, rise) {
+        return Err(error);
+    }
+    if let Err(error) = raise_local(alloc, sheet, rise) {
+        return Err(error);
+    }
+    if let Err(error) = resolve_fixups(alloc, base, sheet) {
+        return Err(error);
+    }
+    Ok(())
+}
 
 /// The overlay with its phandles and local places raised above the base's greatest phandle, and with the phandles of the base's
 /// nodes at the places of its fixups.
@@ -29,18 +78,15 @@ pub fn shift<'t>(
     ensures sound { IfOk result (λ sheet. IsSheet sheet) }
     ensures draft { IfOk result (λ sheet. sheet.draft ≡ over.entry) }
 {
-    if !has_fragment(&over) {
-        return Err(OverlayError::NotOverlay);
-    }
-    let rise = greatest_phandle(base) as usize + 1;
-    let mut sheet = Sheet::new(alloc, over)?;
-    if let Err(error) = raise(alloc, &mut sheet, rise) {
-        return Err(error);
-    }
-    if let Err(error) = raise_local(alloc, &mut sheet, rise) {
-        return Err(error);
-    }
-    if let Err(error) = resolve_fixups(alloc, base, &mut sheet) {
+    let changes = match no_changes(alloc, &over) {
+        Ok(changes) => changes,
+        Err(error) => return Err(error),
+    };
+    let mut sheet = Sheet {
+        draft: over,
+        changes,
+    };
+    if let Err(error) = shift_values(alloc, base, &mut sheet) {
         return Err(error);
     }
     Ok(sheet)

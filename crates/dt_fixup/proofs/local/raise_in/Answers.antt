@@ -1,9 +1,23 @@
+use Rattle.std.proofs.Common.{◌<◌, length, subst, sym}
 use Rattle.std.specs.Int.{to_be_bytes, w32}
+use Rattle.dt_draft.specs.declared.table.Draft.{Draft}
 use Rattle.dt_draft.specs.Rows.{node_path}
+use Rattle.dt_listing.specs.Listed.{Lent}
 use Rattle.overlay_meaning.specs.Shifted.{place, write_at}
 use Rattle.dt_fixup.specs.Sheet.{value_at}
 use Rattle.dt_fixup.proofs.LocalSteps.{raise-refused, raise-done, taken-value, written-place}
+use Rattle.dt_fixup.proofs.LookUps.{row-there}
 use Rattle.dt_fixup.proofs.local.raise_in.Goals as goal
+
+pub number_at-requires-clause-known : goal.number_at-requires-clause-known
+number_at-requires-clause-known c =
+    let there = row-there c.args.sheet.now.draft c.requires.sound.whole c.args.node c.args.name.now c.in_ok-row.row c.in_ok-row.ensures.row in
+    subst (λ (d : Draft Lent). c.in_ok-row.row < length d.properties.items) (sym c.in_ok-row.ensures.draft) there.0
+
+pub write-requires-clause-known : goal.write-requires-clause-known
+write-requires-clause-known c =
+    let there = row-there c.args.sheet.now.draft c.requires.sound.whole c.args.node c.args.name.now c.in_ok-row.row c.in_ok-row.ensures.row in
+    subst (λ (d : Draft Lent). c.in_ok-row.row < length d.properties.items) (sym c.in_ok-row.ensures.draft) there.0
 
 pub returns-in-Err-clause-step : goal.returns-in-Err-clause-step
 returns-in-Err-clause-step c = λ x at.

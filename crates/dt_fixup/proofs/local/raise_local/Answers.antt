@@ -29,6 +29,19 @@ raise_row-requires-clause-twin c =
     subst (λ (e : Draft Lent). IsTwin e.nodes.items (node_path e (property_at e.properties.items k).node) c.index.result.now) (sym same)
     (subst (λ (u : Twin). IsTwin d.nodes.items (node_path d n) u) (sym item) (c.in_ok-twins.ensures.twins n known))
 
+pub index-requires : goal.index-requires
+index-requires c =
+    let d = c.args.sheet.now.draft in
+    let k = c.loop-row.row in
+    let same : c.loop-row.sheet.draft ≡ d = c.loop-row.invariant.draft in
+    let node : (property_at c.properties.result.now k).node ≡ (property_at d.properties.items k).node =
+    ap (λ xs. (property_at xs k).node) (c.properties.ensures ∙ ap (λ e. e.properties.items) same) in
+    omega (arith, node, c.requires.sound.whole.sound.known k, c.in_ok-twins.ensures.count)
+
+pub raise_row-requires-clause-known : goal.raise_row-requires-clause-known
+raise_row-requires-clause-known c =
+    omega (arith, c.loop-row-test.true, ap length c.properties-row-end.ensures, ap (λ (e : Draft Lent). length e.properties.items) c.loop-row.invariant.draft)
+
 pub loop-row-init : goal.loop-row-init
 loop-row-init c =
     let d = c.args.sheet.now.draft in
