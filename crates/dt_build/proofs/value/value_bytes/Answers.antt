@@ -1,9 +1,35 @@
-use Rattle.std.proofs.Common.{◌+◌, drop, arith}
+use Rattle.std.proofs.Common.{◌+◌, ◌++◌, ℕ, zero, suc, List, [], ◌∷◌, Option, None, get_or, drop, ap, sym, subst, ◌∙◌, append-nil, arith}
+use Rattle.std.specs.Prelude.{All}
+use Rattle.std.proofs.lemmas.List.{drop_all}
+use Rattle.dt_meaning.specs.Fixups.{value_bytes}
 use Rattle.dt_draft.specs.Rows.{node_path}
+use Rattle.dt_resolve.specs.Targets.{IsKnown, IsThere}
 use Rattle.dt_build.specs.Private.Made.{all_numbers}
 use Rattle.dt_build.specs.Private.Values.{found_of, founds_of}
 use Rattle.dt_build.proofs.ValueSteps.{bytes-more, founds-step, uses-few}
 use Rattle.dt_build.proofs.value.value_bytes.Goals as goal
+
+-- what holds of each target and of none holds of the target at a place
+at-or-none : (P : Option ℕ → Type 0) → P None → (ts : List (Option ℕ)) → All P ts → (k : ℕ) → P (get_or ts k None)
+at-or-none P none [] all k = none
+at-or-none P none (t ∷ ts) all zero = all 0 None (omega arith)
+at-or-none P none (t ∷ ts) all (suc k) = at-or-none P none ts (λ j d below. all (suc j) d (omega (arith, below))) k
+
+pub loop-part-init : goal.loop-part-init
+loop-part-init c =
+    let p = c.args.prepared.now in
+    let fs = founds_of (node_path p.draft) c.args.value.now c.args.targets.now in
+    record { few = omega arith; bytes = ap (λ bs. bs ++ value_bytes (all_numbers p) fs) c.in_ok-bytes.ensures.items }
+
+pub append_part-requires-clause-known : goal.append_part-requires-clause-known
+append_part-requires-clause-known c =
+    let known : Option ℕ → Type 0 = λ t. IsKnown c.args.prepared.now.draft t in
+    subst known (sym c.target_at.ensures) (at-or-none known tt c.args.targets.now c.requires.known c.loop-part.used)
+
+pub append_part-requires-clause-there : goal.append_part-requires-clause-there
+append_part-requires-clause-there c =
+    let there : Option ℕ → Type 0 = λ t. IsThere c.args.prepared.now.draft t in
+    subst there (sym c.target_at.ensures) (at-or-none there tt c.args.targets.now c.requires.there c.loop-part.used)
 
 pub loop-part-preserved : goal.loop-part-preserved
 loop-part-preserved c =
@@ -22,3 +48,12 @@ loop-part-preserved c =
           (founds-step path xs ts i used x c.target_at.result count c.loop-part-test.true c.part-item.is c.target_at.ensures c.target_count-used.ensures)
           c.in_ok-append_part.ensures c.loop-part.invariant.bytes;
     }
+
+pub returns : goal.returns
+returns c =
+    let p = c.args.prepared.now in
+    let bytes = c.loop-part.bytes.items in
+    let left = drop c.loop-part.used c.args.targets.now in
+    c.from_vec.ensures ∙ sym (append-nil bytes)
+    ∙ ap (λ ys. bytes ++ value_bytes (all_numbers p) (founds_of (node_path p.draft) ys left)) (sym (drop_all c.loop-part.part-index c.args.value.now c.loop-part-test.false))
+    ∙ c.loop-part.invariant.bytes
