@@ -1,10 +1,9 @@
-use Rattle.std.proofs.Common.{Result, ap, subst}
+use Rattle.std.proofs.Common.{subst}
 use Rattle.std.proofs.Common.{◌≡◌}
 use Rattle.std.specs.Prelude.{MatchResult, Ok}
 use Rattle.dt_meaning.specs.Resolved.{Resolved}
 use Rattle.dt_listing.specs.Listed.{lists}
 use Rattle.overlay_meaning.specs.Shifted.{shifted_overlay}
-use Rattle.overlay_meaning.specs.Steps.{Fault}
 use Rattle.dt_fixup.specs.OverlayFault.{IsFault}
 use Rattle.dt_fixup.specs.Sheet.{shown}
 use Rattle.dt_overlay.proofs.applying.overlay_sheet.Goals as goal
