@@ -1,7 +1,9 @@
-use Rattle.std.proofs.Common.{◌∙◌, sym}
+use Rattle.std.proofs.Common.{◌≡◌, ◌∙◌, ℕ, length, ap, sym, arith}
 use Rattle.dt_listing.specs.Listed.{lists}
 use Rattle.overlay_meaning.specs.Shifted.{fragments}
+use Rattle.dt_fixup.specs.declared.sheet.Change.{Change}
 use Rattle.dt_fixup.proofs.Composed.{none-by}
+use Rattle.dt_fixup.proofs.Listing.{nones}
 use Rattle.dt_fixup.proofs.shifting.no_changes.Goals as goal
 
 pub returns-then-not-has_fragment-clause-some : goal.returns-then-not-has_fragment-clause-some
@@ -9,3 +11,8 @@ returns-then-not-has_fragment-clause-some c = none-by (fragments (lists c.args.o
 
 pub returns-clause-some : goal.returns-clause-some
 returns-clause-some c = sym c.has_fragment.ensures ∙ c.if-not-has_fragment.false
+
+pub returns-clause-none : goal.returns-clause-none
+returns-clause-none c =
+    let all : c.loop-row._row ≡ length c.args.over.now.properties.items = omega (arith, c.loop-row-test.false, c.loop-row.auto._row-end, ap length c.properties-count.ensures) in
+    c.loop-row.invariant.items ∙ ap (λ (n : ℕ). nones {A = Change} n) all
