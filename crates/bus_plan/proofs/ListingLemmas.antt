@@ -1,6 +1,6 @@
 -- The devices of a plan file's lines, as they are read.
-use Rattle.std.proofs.Common.{◌≡◌, ◌∙◌, ap, ℕ, zero, suc, ◌+◌, ◌<◌, ◌≤◌, true, false, List, [], ◌∷◌, ◌++◌, length, drop, get_or, sym, arith, append-nil, add-one, length-drop, ◌-◌}
-use Rattle.std.specs.Prelude.{Option, Some, None, Result, Ok, if◌then◌else◌, nat_le}
+use Rattle.std.proofs.Common.{◌≡◌, ◌∙◌, ap, ℕ, zero, suc, ◌+◌, ◌<◌, ◌≤◌, true, false, List, [], ◌∷◌, ◌++◌, length, drop, get_or, sym, arith, add-one, length-drop, ◌-◌}
+use Rattle.std.specs.Prelude.{Option, Some, None, Result, if◌then◌else◌, nat_le}
 use Rattle.std.specs.Option.{option_to_list}
 use Rattle.bus_plan.specs.declared.limits.TheConstants.{MAX_DEVICES}
 use Rattle.bus_plan.specs.declared.error.PlanError.{PlanError}
@@ -56,32 +56,18 @@ faults-step ls n ds m says are none =
     ap (faults_before ls) (add-one n) ∙ ap (λ fs. fs ++ option_to_list (fault_at ls n)) none
     ∙ ap (λ k. option_to_list (fault_of k (meaning_at ls n))) (sym are) ∙ ap (λ k. option_to_list (fault_of ds k)) says
 
--- it is skipped
-pub read-skipped : (ls : List (List ℕ)) (n : ℕ) (line : List ℕ) (rest : List (List ℕ)) (ds : List DeviceLine)
-    → IsReadTo ls n (line ∷ rest) ds → meaning (n + 1) line ≡ Ok None → IsReadTo ls (n + 1) rest ds
-read-skipped ls n line rest ds walk skipped =
+-- it has no fault: it is skipped, or gives a device that may be there
+pub read-line : (ls : List (List ℕ)) (n : ℕ) (line : List ℕ) (rest : List (List ℕ)) (ds : List DeviceLine)
+    → IsReadTo ls n (line ∷ rest) ds → fault_of ds (meaning (n + 1) line) ≡ None → IsReadTo ls (n + 1) rest (ds ++ option_to_list (device_on (meaning (n + 1) line)))
+read-line ls n line rest ds walk lawful =
     let at = next ls n line rest walk.left_is in
     let within : n < length ls = at.0 in
-    let says : meaning_at ls n ≡ Ok None = ap (meaning (n + 1)) at.1 ∙ skipped in
+    let says : meaning_at ls n ≡ meaning (n + 1) line = ap (meaning (n + 1)) at.1 in
     record {
       left_is = at.2 ∙ ap (λ k. drop k ls) (sym (add-one n));
       within = omega arith;
-      devices_are = walk.devices_are ∙ sym (devices-step ls n (Ok None) says ∙ append-nil (devices_before ls n));
-      faultless = faults-step ls n ds (Ok None) says walk.devices_are walk.faultless;
-    }
-
--- it gives a device that may be there
-pub read-device : (ls : List (List ℕ)) (n : ℕ) (line : List ℕ) (rest : List (List ℕ)) (ds : List DeviceLine) (d : DeviceLine)
-    → IsReadTo ls n (line ∷ rest) ds → meaning (n + 1) line ≡ Ok (Some d) → refusal_of ds d ≡ None → IsReadTo ls (n + 1) rest (ds ++ d ∷ [])
-read-device ls n line rest ds d walk device lawful =
-    let at = next ls n line rest walk.left_is in
-    let within : n < length ls = at.0 in
-    let says : meaning_at ls n ≡ Ok (Some d) = ap (meaning (n + 1)) at.1 ∙ device in
-    record {
-      left_is = at.2 ∙ ap (λ k. drop k ls) (sym (add-one n));
-      within = omega arith;
-      devices_are = ap (λ t. t ++ d ∷ []) walk.devices_are ∙ sym (devices-step ls n (Ok (Some d)) says);
-      faultless = faults-step ls n ds (Ok (Some d)) says walk.devices_are walk.faultless ∙ ap option_to_list lawful;
+      devices_are = ap (λ t. t ++ option_to_list (device_on (meaning (n + 1) line))) walk.devices_are ∙ sym (devices-step ls n (meaning (n + 1) line) says);
+      faultless = faults-step ls n ds (meaning (n + 1) line) says walk.devices_are walk.faultless ∙ ap option_to_list lawful;
     }
 
 -- the first fault stays the first

@@ -1,4 +1,5 @@
-ghost use Rattle.std.specs.Prelude.{◌≡◌, ◌⊎◌, IfOk, IfErr, map, None, Some, MatchOption, true, false};
+ghost use Rattle.std.specs.Prelude.{◌≡◌, ◌⊎◌, IfOk, IfErr, [], map, None, Some, true, false};
+ghost use Rattle.std.specs.BTreeSet.{IsEmpty};
 ghost use Rattle.bus_plan.specs.Plan.{is_device_path};
 ghost use Rattle.bus_plan.specs.PlanPaths.{are_known, place_of};
 ghost use Rattle.bus_plan.specs.PlanFile.{are_supplier_paths};
@@ -59,52 +60,74 @@ fn device_path(alloc: Global, number: usize, bytes: &[u8]) -> Result<Path, PlanE
     }
 }
 
-// The suppliers of a device with this path, or nothing where one has another form, stands twice or is the device itself.
+// Takes the suppliers of a device with this path, unless one has another form, stands twice or is the device itself.
 // The set is ordered, which chosen paths can't slow down.
-fn supplier_paths<'a>(
-    alloc: Global,
+fn take_paths<'a>(
     own: &'a [u8],
     fields: Fields<'a>,
-) -> Result<Option<Vec<&'a [u8]>>, AllocError>
-    ensures { IfOk result (λ found. MatchOption found
-        (are_supplier_paths own.now fields.entry ≡ false)
-        (λ paths. (are_supplier_paths own.now fields.entry ≡ true)
-        × (map (λ path. path.now) paths.items ≡ fields.entry))) }
+    seen: &mut BTreeSet<&'a [u8]>,
+    paths: &mut Vec<&'a [u8]>,
+) -> Result<bool, AllocError>
+    requires unseen { IsEmpty seen.old }
+    requires none { paths.old.items ≡ [] }
+    ensures { IfOk result (λ lawful. (are_supplier_paths own.now fields.entry ≡ lawful)
+        × (lawful ≡ true → map (λ path. path.now) paths.new.items ≡ fields.entry)) }
 {
-    let mut seen: BTreeSet<&[u8]> = BTreeSet::new(alloc);
     seen.insert(own)?;
-    let mut paths = Vec::new(alloc);
     for path in fields {
         if !is_device_path(path) {
-            return Ok(None);
+            return Ok(false);
         }
         if !seen.insert(path)? {
-            return Ok(None);
+            return Ok(false);
         }
         paths.push(path)?;
     }
-    Ok(Some(paths))
+    Ok(true)
 }
 
-// The places of the suppliers, or nothing where one is no device.
+fn supplier_paths<'a>(
+    alloc: Global,
+    number: usize,
+    own: &'a [u8],
+    fields: Fields<'a>,
+) -> Result<Vec<&'a [u8]>, PlanError>
+    ensures ok { IfOk result (λ paths. (are_supplier_paths own.now fields.entry ≡ true)
+        × (map (λ path. path.now) paths.items ≡ fields.entry)) }
+    ensures err { IfErr result (λ e. (e ≡ PlanError.NoMemory)
+        ⊎ ((e ≡ PlanError.BadLine number) × (are_supplier_paths own.now fields.entry ≡ false))) }
+{
+    let mut seen: BTreeSet<&[u8]> = BTreeSet::new(alloc);
+    let mut paths = Vec::new(alloc);
+    match take_paths(own, fields, &mut seen, &mut paths) {
+        Ok(true) => Ok(paths),
+        Ok(false) => Err(PlanError::BadLine(number)),
+        Err(_) => Err(PlanError::NoMemory),
+    }
+}
+
+// The places of the suppliers of the device of a line.
 fn places_of(
     alloc: Global,
+    number: usize,
     suppliers: &[&[u8]],
     index: &PathIndex,
-) -> Result<Option<Vec<Device>>, AllocError>
-    ensures { IfOk result (λ found. let paths = map (λ s. s.now) suppliers.now in
-        MatchOption found (are_known index.now paths ≡ false) (λ places.
+) -> Result<Vec<Device>, PlanError>
+    ensures ok { IfOk result (λ places. let paths = map (λ s. s.now) suppliers.now in
         (are_known index.now paths ≡ true)
-        × (places.items ≡ map (place_of index.now) paths))) }
+        × (places.items ≡ map (place_of index.now) paths)) }
+    ensures err { IfErr result (λ e. (e ≡ PlanError.NoMemory)
+        ⊎ ((e ≡ PlanError.UnknownPath number)
+        × (are_known index.now (map (λ s. s.now) suppliers.now) ≡ false))) }
 {
     let mut places = Vec::new(alloc);
     for supplier in suppliers {
         let Some(place) = index.position(*supplier) else {
-            return Ok(None);
+            return Err(PlanError::UnknownPath(number));
         };
         places.push(Device::new(place))?;
     }
-    Ok(Some(places))
+    Ok(places)
 }
 
 impl<'a> DeviceLine<'a> {
@@ -134,12 +157,8 @@ impl<'a> DeviceLine<'a> {
         let driver = fields.next().ok_or(PlanError::BadLine(number))?;
         let word = fields.next().ok_or(PlanError::BadLine(number))?;
         let own = device_path(alloc, number, path)?;
-        let Some(suppliers) = supplier_paths(alloc, path, fields)? else {
-            return Err(PlanError::BadLine(number));
-        };
-        let Some(matching) = Matching::of(alloc, driver, word)? else {
-            return Err(PlanError::BadLine(number));
-        };
+        let suppliers = supplier_paths(alloc, number, path, fields)?;
+        let matching = Matching::of(alloc, number, driver, word)?;
         Ok(Self {
             number,
             path: own,
@@ -165,9 +184,7 @@ impl<'a> DeviceLine<'a> {
         ensures err { IfErr result (λ e. (e ≡ PlanError.NoMemory)
             ⊎ (unknown_of index.now self.entry ≡ Some e)) }
     {
-        let Some(suppliers) = places_of(alloc, &self.suppliers, index)? else {
-            return Err(PlanError::UnknownPath(self.number));
-        };
+        let suppliers = places_of(alloc, self.number, &self.suppliers, index)?;
         let Matching {
             available,
             driver,

@@ -29,8 +29,8 @@ impl DeviceLists {
         ensures { IfOk result (λ kept. kept ≡ map (λ list. list.items) lists.now) }
     {
         let mut starts = Vec::with_capacity(alloc, lists.len() + 1)?;
-        let mut block = Vec::new(alloc);
         starts.push(0)?;
+        let mut block = Vec::new(alloc);
         for list in lists {
             block.extend_from_slice(list.as_slice())?;
             starts.push(block.len())?;

@@ -3,26 +3,20 @@ ghost use Rattle.bus_plan.specs.PlanError.{number_of, name_of, line_of};
 ghost use Rattle.bus_plan.specs.declared.error.PlanError.TheVariants.{NoMemory};
 
 use std::alloc::{AllocError, AllocFailed};
-use thiserror::Error;
+use std::error::Error;
+use std::fmt;
+use std::fmt::{Display, Formatter, Write};
 
 /// Why a text of the bus or a plan is refused. A line counts all lines of the text, from 1.
-#[derive(Clone, Copy, Debug, PartialEq, Eq, Error)]
+#[derive(Clone, Copy, Debug, PartialEq, Eq)]
 pub enum PlanError {
-    #[error("out of memory")]
     NoMemory,
-    #[error("line {0} has no lawful form")]
     BadLine(usize),
-    #[error("line {0} repeats a driver's name")]
     DuplicateDriver(usize),
-    #[error("line {0} repeats a device's path")]
     DuplicateDevice(usize),
-    #[error("line {0} names a path that is no device's")]
     UnknownPath(usize),
-    #[error("a phandle leads to no node")]
     DanglingPhandle,
-    #[error("a specifier has no lawful form")]
     BadSpecifier,
-    #[error("more devices than a plan may have")]
     TooManyDevices,
 }
 
@@ -75,6 +69,33 @@ impl PlanError {
         }
     }
 }
+
+impl PlanError {
+    // What is wrong, or what the line at fault does.
+    fn text(&self) -> &'static str {
+        match self {
+            PlanError::NoMemory => "out of memory",
+            PlanError::BadLine(_) => "has no lawful form",
+            PlanError::DuplicateDriver(_) => "repeats a driver's name",
+            PlanError::DuplicateDevice(_) => "repeats a device's path",
+            PlanError::UnknownPath(_) => "names a path that is no device's",
+            PlanError::DanglingPhandle => "a phandle leads to no node",
+            PlanError::BadSpecifier => "a specifier has no lawful form",
+            PlanError::TooManyDevices => "more devices than a plan may have",
+        }
+    }
+}
+
+impl Display for PlanError {
+    fn fmt<W: Write>(&self, f: &mut Formatter<W>) -> fmt::Result {
+        match self.line() {
+            Some(line) => write!(f, "line {line} {}", self.text()),
+            None => f.write_str(self.text()),
+        }
+    }
+}
+
+impl Error for PlanError {}
 
 impl From<AllocError> for PlanError {
     ghost from_gives = { λ _ error. error ≡ NoMemory };

@@ -1,5 +1,6 @@
-ghost use Rattle.std.specs.Prelude.{◌≡◌, ◌⊎◌, ◌++◌, ◌∷◌, [], length, None, Some, IfOk, IfErr, OnOk, OnErr, MatchResult, map};
-ghost use Rattle.bus_plan.specs.PlanFile.{unknowns_in, planned_of};
+ghost use Rattle.std.specs.Prelude.{◌≡◌, ◌<◌, ◌⊎◌, ◌++◌, ◌∷◌, [], length, None, Some, IfOk, IfErr, OnOk, OnErr, MatchResult, map};
+ghost use Rattle.std.specs.Vec.{vec_len, vec_capacity};
+ghost use Rattle.bus_plan.specs.PlanFile.{line_paths, refusal_of, unknowns_in, planned_of};
 ghost use Rattle.bus_plan.specs.Private.Reading.{IsFirst};
 
 use crate::device_line::DeviceLine;
@@ -32,7 +33,8 @@ impl<'a> Model for Listing<'a> {
 }
 
 impl<'a> Listing<'a> {
-    ghost use Rattle.bus_plan.specs.PlanFile.{devices_before, faults_before, refusal_of, unknowns, plan_of};
+    ghost use Rattle.std.specs.Option.{option_to_list};
+    ghost use Rattle.bus_plan.specs.PlanFile.{meaning, device_on, fault_of, devices_before, faults_before, unknowns, plan_of};
     ghost use Rattle.bus_plan.specs.Private.Reading.{IsFirst, IsFaultless};
     ghost use Rattle.bus_plan.specs.Lines.{lines};
 
@@ -45,32 +47,32 @@ impl<'a> Listing<'a> {
         }
     }
 
-    // What forbids a further device.
-    fn check_new(&self, device: &DeviceLine<'a>) -> Result<(), PlanError>
-        ensures { MatchResult result (λ _. refusal_of self.now device.now ≡ None)
-            (λ e. refusal_of self.now device.now ≡ Some e) }
+    // One line more: its device is put last.
+    fn read_line(&mut self, alloc: Global, number: usize, line: &'a [u8]) -> Result<(), PlanError>
+        ensures ok { OnOk result ((fault_of self.old (meaning number line.now) ≡ None)
+            × (self.new ≡ self.old ++ option_to_list (device_on (meaning number line.now)))) }
+        ensures err { IfErr result (λ e. (e ≡ PlanError.NoMemory)
+            ⊎ (fault_of self.old (meaning number line.now) ≡ Some e)) }
     {
-        if self.index.contains(device.path().as_bytes()) {
-            return Err(PlanError::DuplicateDevice(device.number()));
-        }
-        if self.devices.len() >= MAX_DEVICES {
-            return Err(PlanError::TooManyDevices);
+        if let Some(device) = DeviceLine::read(alloc, number, line)? {
+            admit(alloc, &mut self.devices, &mut self.index, &device)?;
+            self.devices.push(device).unwrap();
         }
         Ok(())
     }
 
-    // Room is made before the first change.
-    fn add(&mut self, alloc: Global, device: DeviceLine<'a>) -> Result<(), PlanError>
-        ensures ok { OnOk result ((refusal_of self.old device.entry ≡ None)
-            × (self.new ≡ self.old ++ device.entry ∷ [])) }
-        ensures err { IfErr result (λ e. (e ≡ PlanError.NoMemory)
-            ⊎ (refusal_of self.old device.entry ≡ Some e)) }
-        ensures kept { OnErr result (self.new ≡ self.old) }
+    fn read_lines(&mut self, alloc: Global, text: &'a [u8]) -> Result<(), PlanError>
+        requires { self.old ≡ [] }
+        ensures ok { OnOk result (let ls = lines text.now in
+            (self.new ≡ devices_before ls (length ls)) × (faults_before ls (length ls) ≡ [])) }
+        ensures err { IfErr result (λ e. let ls = lines text.now in
+            (e ≡ PlanError.NoMemory) ⊎ IsFirst (faults_before ls (length ls)) e) }
     {
-        self.check_new(&device)?;
-        self.devices.reserve(1)?;
-        self.index.push(alloc, device.path().as_bytes())?;
-        self.devices.push(device).unwrap();
+        let mut number = 0;
+        for line in lines_of(text) {
+            number += 1;
+            self.read_line(alloc, number, line)?;
+        }
         Ok(())
     }
 
@@ -82,13 +84,7 @@ impl<'a> Listing<'a> {
             (e ≡ PlanError.NoMemory) ⊎ IsFirst (faults_before ls (length ls)) e) }
     {
         let mut listing = Self::new(alloc, hasher);
-        let mut number = 0;
-        for line in lines_of(text) {
-            number += 1;
-            if let Some(device) = DeviceLine::read(alloc, number, line)? {
-                listing.add(alloc, device)?;
-            }
-        }
+        listing.read_lines(alloc, text)?;
         Ok(listing)
     }
 
@@ -101,6 +97,47 @@ impl<'a> Listing<'a> {
         let devices = plan_all(alloc, self.devices, &self.index)?;
         Ok(Plan::with_index(alloc, devices, self.index)?)
     }
+}
+
+// What forbids a further device.
+fn check_new(
+    devices: &[DeviceLine<'_>],
+    index: &PathIndex,
+    device: &DeviceLine<'_>,
+) -> Result<(), PlanError>
+    requires { index.now ≡ line_paths devices.now }
+    ensures { MatchResult result (λ _. refusal_of devices.now device.now ≡ None)
+        (λ e. refusal_of devices.now device.now ≡ Some e) }
+{
+    if index.contains(device.path().as_bytes()) {
+        return Err(PlanError::DuplicateDevice(device.number()));
+    }
+    if devices.len() >= MAX_DEVICES {
+        return Err(PlanError::TooManyDevices);
+    }
+    Ok(())
+}
+
+// Takes the path of a further device, once there is room for the device itself.
+fn admit<'a>(
+    alloc: Global,
+    devices: &mut Vec<DeviceLine<'a>>,
+    index: &mut PathIndex,
+    device: &DeviceLine<'a>,
+) -> Result<(), PlanError>
+    requires { index.old ≡ line_paths devices.old.items }
+    ensures ok { OnOk result ((refusal_of devices.old.items device.now ≡ None)
+        × (index.new ≡ line_paths devices.old.items ++ device.now.path ∷ [])) }
+    ensures room { OnOk result (vec_len devices.new < vec_capacity devices.new) }
+    ensures err { IfErr result (λ e. (e ≡ PlanError.NoMemory)
+        ⊎ (refusal_of devices.old.items device.now ≡ Some e)) }
+    ensures kept { OnErr result (index.new ≡ index.old) }
+    ensures devices { devices.new.items ≡ devices.old.items }
+{
+    check_new(devices, index, device)?;
+    devices.reserve(1)?;
+    index.push(alloc, device.path().as_bytes())?;
+    Ok(())
 }
 
 fn plan_all<'a>(

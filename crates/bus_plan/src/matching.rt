@@ -1,6 +1,6 @@
-ghost use Rattle.std.specs.Prelude.{◌≡◌, MatchResult};
+ghost use Rattle.std.specs.Prelude.{◌≡◌, ◌⊎◌, IfOk, IfErr, MatchResult, Some, None};
 ghost use Rattle.bus_plan.specs.Plan.{is_driver_name};
-ghost use Rattle.bus_plan.specs.declared.error.PlanError.TheVariants.{NoMemory};
+ghost use Rattle.bus_plan.specs.declared.error.PlanError.TheVariants.{NoMemory, BadLine};
 
 use crate::error::PlanError;
 use crate::verdict::Verdict;
@@ -55,15 +55,18 @@ impl Matching {
         })
     }
 
-    /// What the two fields say, if anything.
-    pub fn of(alloc: Global, driver: &[u8], word: &[u8]) -> Result<Option<Self>, PlanError>
-        ensures { MatchResult result (λ m. m ≡ matching_of driver.now word.now) (λ e. e ≡ NoMemory) }
+    /// What the two fields of a line say.
+    pub fn of(alloc: Global, number: usize, driver: &[u8], word: &[u8]) -> Result<Self, PlanError>
+        ensures ok { IfOk result (λ m. matching_of driver.now word.now ≡ Some m) }
+        ensures err { IfErr result (λ e. (e ≡ NoMemory)
+            ⊎ ((e ≡ BadLine number) × (matching_of driver.now word.now ≡ None))) }
     {
-        match word {
-            b"ok" => Self::driven(alloc, driver, Verdict::Binds),
-            b"fail" => Self::driven(alloc, driver, Verdict::Fails),
-            b"-" => Ok(Self::undriven(driver)),
-            _ => Ok(None),
-        }
+        let found = match word {
+            b"ok" => Self::driven(alloc, driver, Verdict::Binds)?,
+            b"fail" => Self::driven(alloc, driver, Verdict::Fails)?,
+            b"-" => Self::undriven(driver),
+            _ => None,
+        };
+        found.ok_or(PlanError::BadLine(number))
     }
 }

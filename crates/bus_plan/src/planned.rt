@@ -96,16 +96,24 @@ impl Planned {
     pub fn copy(&self, alloc: Global) -> Result<Self, AllocError>
         ensures { IfOk result (λ copy. copy ≡ self.now) }
     {
-        let driver = match &self.driver {
-            None => None,
-            Some(name) => Some(name.copy(alloc)?),
-        };
+        let path = self.path.copy(alloc)?;
+        let driver = copy_driver(alloc, self.driver.as_ref())?;
+        let suppliers = Vec::from_slice(alloc, self.suppliers.as_slice())?;
         Ok(Self {
-            path: self.path.copy(alloc)?,
+            path,
             available: self.available,
             driver,
             verdict: self.verdict,
-            suppliers: Vec::from_slice(alloc, self.suppliers.as_slice())?,
+            suppliers,
         })
+    }
+}
+
+fn copy_driver(alloc: Global, driver: Option<&Name>) -> Result<Option<Name>, AllocError>
+    ensures { IfOk result (λ copy. copy ≡ option_copied driver.entry) }
+{
+    match driver {
+        None => Ok(None),
+        Some(name) => Ok(Some(name.copy(alloc)?)),
     }
 }

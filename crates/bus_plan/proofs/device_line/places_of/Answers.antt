@@ -1,5 +1,5 @@
 -- Each supplier is looked up.
-use Rattle.std.proofs.Common.{◌∙◌, sym, ap, [], ◌∷◌, ◌++◌, map, ◌<◌, length, arith, get_or, take, Bor, List, ℕ}
+use Rattle.std.proofs.Common.{◌∙◌, inr, refl, sym, ap, [], ◌∷◌, ◌++◌, map, ◌<◌, length, arith, get_or, take, Bor, List, ℕ}
 use Rattle.bus_plan.specs.PlanPaths.{place_of}
 use Rattle.bus_plan.proofs.PathLemmas.{texts, position-known, position-unknown, known-at, unknown-at, places-at}
 use Rattle.bus_plan.proofs.device_line.places_of.Goals as goal
@@ -8,12 +8,15 @@ use Rattle.bus_plan.proofs.device_line.places_of.Goals as goal
 abbrev unnamed : Bor (List ℕ)
 unnamed = record { ref_ptr = (0, 0); now = [] }
 
-pub returns-in_default : goal.returns-in_default
-returns-in_default c =
+pub returns-in_default-clause-err : goal.returns-in_default-clause-err
+returns-in_default-clause-err c =
     let within : c.loop-supplier.supplier-index < length c.args.suppliers.now = omega arith in
     let supplier : List ℕ = (get_or c.args.suppliers.now c.loop-supplier.supplier-index unnamed).now in
-    unknown-at c.args.index.now c.args.suppliers.now c.loop-supplier.supplier-index unnamed within
-    (position-unknown supplier c.args.index.now (sym c.in_default.ensures))
+    inr (
+      refl,
+      unknown-at c.args.index.now c.args.suppliers.now c.loop-supplier.supplier-index unnamed within
+          (position-unknown supplier c.args.index.now (sym c.in_default.ensures)),
+    )
 
 pub loop-supplier-preserved : goal.loop-supplier-preserved
 loop-supplier-preserved c =

@@ -1,5 +1,5 @@
 use Rattle.bus_plan.proofs.PathLemmas.{IsReadSoFar}
-use Rattle.bus_plan.proofs.device_line.supplier_paths.Given as goal
+use Rattle.bus_plan.proofs.device_line.take_paths.Given as goal
 
 -- the paths so far have their form and differ, and the set has them
 abbrev pub invariant-loop-path : goal.invariant-loop-path
