@@ -1,32 +1,28 @@
 -- The refusals of a plan, in their order.
-use Rattle.std.proofs.Common.{◌≡◌, ◌∙◌, ap, sym, refl, ℕ, ◌≤◌, List, [], ◌∷◌, length, Option, None, Some}
-use Rattle.std.specs.Prelude.{Result, Err}
+use Rattle.std.proofs.Common.{◌≡◌, ◌∙◌, ◌⊎◌, inl, inr, ⊎_elim, ap, sym, refl, ℕ, ◌≤◌, List, [], ◌∷◌, length, Option, None, Some}
+use Rattle.std.specs.Prelude.{Result, Ok, Err, MatchResult}
 use Rattle.std.specs.Option.{option_map}
 use Rattle.std.proofs.lemmas.Bool.{le-leb}
 use Rattle.dt_tree.specs.NodeData.{NodeData}
 use Rattle.bus_plan.specs.declared.error.PlanError.{PlanError}
-use Rattle.bus_plan.specs.declared.error.PlanError.TheVariants.{UnknownPath}
+use Rattle.bus_plan.specs.declared.error.PlanError.TheVariants.{NoMemory, UnknownPath}
 use Rattle.bus_plan.specs.declared.limits.TheConstants.{MAX_DEVICES}
 use Rattle.bus_plan.specs.Plan.{PlannedDevice}
 use Rattle.bus_plan.specs.PlanPaths.{is_among}
 use Rattle.bus_drivers.specs.Driver.{FailData, DriverSetData}
 use Rattle.bus_drivers.specs.Nodes.{TreeDevice, Target, device_ways, tree_devices, target_of}
 use Rattle.bus_drivers.specs.TreePlan.{unknown_fail, planned_from, plan_of_devices, plan_of}
-use Rattle.bus_drivers.specs.Private.Matching.{device_paths, unknown_among}
+use Rattle.bus_drivers.specs.Private.Matching.{unknown_among}
 
 -- ---- `fail` lines
 abbrev are_same : List (List ℕ) → List (List ℕ) → Type 0
 are_same paths others = (q : List ℕ) → is_among q paths ≡ is_among q others
 
-unknown-same : (paths others : List (List ℕ)) (fails : List FailData) → are_same paths others → unknown_among paths fails ≡ unknown_among others fails
+pub unknown-same : (paths others : List (List ℕ)) (fails : List FailData) → are_same paths others → unknown_among paths fails ≡ unknown_among others fails
 unknown-same paths others [] same = refl
 unknown-same paths others (f ∷ fails) same = rw (same f.path, unknown-same paths others fails same) refl
 
-module _ (paths : List (List ℕ)) (devices : List TreeDevice) (fails : List FailData) (same : are_same paths (device_paths devices))
-    (found : Option ℕ) (is : found ≡ option_map (λ f. f.line) (unknown_among paths fails)) where
-  line : found ≡ option_map (λ f. f.line) (unknown_fail devices fails)
-  line = is ∙ ap (option_map (λ f. f.line)) (unknown-same paths (device_paths devices) fails same)
-
+module _ (devices : List TreeDevice) (fails : List FailData) (found : Option ℕ) (line : found ≡ option_map (λ f. f.line) (unknown_fail devices fails)) where
   pub fails-known : found ≡ None → unknown_fail devices fails ≡ None
   fails-known none = by (unknown_fail devices fails) (sym line ∙ none) where
     by : (o : Option FailData) → option_map (λ f. f.line) o ≡ None → o ≡ None
@@ -55,6 +51,12 @@ few-devices : (root : NodeData) (set : DriverSetData) → length (device_ways ro
 few-devices root set few = rw (le-leb (length (device_ways root)) MAX_DEVICES few) refl
 
 -- a survey of the tree serves
-pub surveyed : (root survey : NodeData) (set : DriverSetData) (r : Result (List PlannedDevice) PlanError) → survey ≡ root → length (device_ways root) ≤ MAX_DEVICES
+surveyed : (root survey : NodeData) (set : DriverSetData) (r : Result (List PlannedDevice) PlanError) → survey ≡ root → length (device_ways root) ≤ MAX_DEVICES
     → plan_of_devices (target_of survey) set (tree_devices survey) ≡ r → plan_of root set ≡ r
 surveyed root survey set r is few h = few-devices root set few ∙ ap (λ s. plan_of_devices (target_of s) set (tree_devices s)) (sym is) ∙ h
+
+pub surveyed-all : {D : Type 0} (root survey : NodeData) (set : DriverSetData) (items : D → List PlannedDevice) (r : Result D PlanError) → survey ≡ root → length (device_ways root) ≤ MAX_DEVICES
+    → MatchResult r (λ ds. plan_of_devices (target_of survey) set (tree_devices survey) ≡ Ok (items ds)) (λ e. (e ≡ NoMemory) ⊎ (plan_of_devices (target_of survey) set (tree_devices survey) ≡ Err e))
+    → MatchResult r (λ ds. plan_of root set ≡ Ok (items ds)) (λ e. (e ≡ NoMemory) ⊎ (plan_of root set ≡ Err e))
+surveyed-all root survey set items (Ok ds) is few h = surveyed root survey set (Ok (items ds)) is few h
+surveyed-all root survey set items (Err e) is few h = ⊎_elim (λ none. inl none) (λ fault. inr (surveyed root survey set (Err e) is few fault)) h

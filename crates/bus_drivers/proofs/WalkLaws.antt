@@ -1,5 +1,5 @@
 -- What a walk keeps, node by node.
-use Rattle.std.proofs.Common.{◌≡◌, ◌∙◌, ap, sym, refl, ℕ, ◌+◌, ◌<◌, ◌≤◌, Bool, true, false, ◌&&◌, if◌then◌else◌, List, [], ◌∷◌, ◌++◌, length, get_or, drop, Option, Some, None, append_assoc, arith, length-append, inl, inr}
+use Rattle.std.proofs.Common.{◌≡◌, ◌∙◌, ap, sym, refl, ℕ, ◌+◌, ◌<◌, ◌≤◌, Bool, true, false, ◌&&◌, if◌then◌else◌, List, [], ◌∷◌, ◌++◌, length, get_or, drop, Option, Some, None, append_assoc, append-nil, arith, length-append, inl, inr}
 use Rattle.std.proofs.lemmas.List.{at_drop_more, at_drop_all}
 use Rattle.dt_tree.specs.declared.property.Property.{Property}
 use Rattle.dt_tree.specs.NodeData.{Siblings, none, more, NodeData, siblings}
@@ -8,7 +8,7 @@ use Rattle.dt_tree.specs.Private.PhandleWalk.{unreserved}
 use Rattle.bus_plan.specs.declared.error.PlanError.{PlanError}
 use Rattle.bus_drivers.specs.Nodes.{is_compatible, is_okay, TreeDevice, Target}
 use Rattle.bus_drivers.specs.Private.Entries.{device_count}
-use Rattle.bus_drivers.specs.Private.Walk.{own_device, devices_among, devices_at, target_among, target_at, Refuses}
+use Rattle.bus_drivers.specs.Private.Walk.{own_device, devices_among, devices_at, devices_in_tree, own_target, target_among, target_at, target_in_tree, Refuses}
 
 -- ---- how many
 length-own : (text : List ℕ) (available : Bool) (p : List Property) → length (own_device text available p) ≡ (if is_compatible p then 1 else 0)
@@ -46,6 +46,10 @@ pub next-unreserved : (bs : List NodeData) (i : ℕ) (b : NodeData) → i < leng
     → unreserved (siblings (drop i bs)) ≡ more b.name b.properties b.children (unreserved (siblings (drop (i + 1) bs)))
 next-unreserved bs i b h e u = ap unreserved (next-node bs i b h e) ∙ rw u refl
 
+pub next-reserved : (bs : List NodeData) (i : ℕ) (b : NodeData) → i < length bs → b ≡ get_or bs i b → is_reserved_name b.name ≡ true
+    → unreserved (siblings (drop i bs)) ≡ unreserved (siblings (drop (i + 1) bs))
+next-reserved bs i b h e u = ap unreserved (next-node bs i b h e) ∙ rw u refl
+
 pub next-devices : (before after whole : List TreeDevice) (text : List ℕ) (available : Bool) (f rest : Siblings) (b : NodeData) → f ≡ more b.name b.properties b.children rest
     → after ≡ before ++ devices_at text available b → before ++ devices_among text available f ≡ whole → after ++ devices_among text available rest ≡ whole
 next-devices before after whole text available f rest b next is left =
@@ -70,7 +74,29 @@ or_else-none : {A : Type 0} (x : Option A) → or_else x None ≡ x
 or_else-none None = refl
 or_else-none (Some a) = refl
 
+-- nothing is met yet
+pub begin-devices : (root : NodeData) (devices : List TreeDevice) (text : List ℕ) (available : Bool) (bs : List NodeData) → devices ≡ [] → text ≡ [] → available ≡ is_okay root.properties
+    → siblings bs ≡ root.children → devices ++ devices_among text available (unreserved (siblings bs)) ≡ devices_in_tree root
+begin-devices root devices text available bs empty at okay all =
+    ap (λ (ds : List TreeDevice). ds ++ devices_among text available (unreserved (siblings bs))) empty ∙ ap (λ (t : List ℕ). devices_among t available (unreserved (siblings bs))) at
+    ∙ ap (λ (b : Bool). devices_among [] b (unreserved (siblings bs))) okay ∙ ap (λ (f : Siblings). devices_among [] (is_okay root.properties) (unreserved f)) all
+
+-- but the root
+pub begin-target : (root : NodeData) (devices : List TreeDevice) (before after : Option Target) (bs : List NodeData) (phandle : ℕ) → devices ≡ [] → before ≡ None
+    → after ≡ or_else before (own_target root.properties None phandle) → siblings bs ≡ root.children
+    → or_else after (target_among None (length devices) (unreserved (siblings bs)) phandle) ≡ target_in_tree root phandle
+begin-target root devices before after bs phandle empty new is all =
+    let own = own_target root.properties None phandle in
+    ap (λ (o : Option Target). or_else o (target_among None (length devices) (unreserved (siblings bs)) phandle)) (is ∙ ap (λ (o : Option Target). or_else o own) new)
+    ∙ ap (λ (ds : List TreeDevice). or_else own (target_among None (length ds) (unreserved (siblings bs)) phandle)) empty
+    ∙ ap (λ (f : Siblings). or_else own (target_among None 0 (unreserved f) phandle)) all
+
 -- nothing is left
+pub last-devices : (before whole : List TreeDevice) (text : List ℕ) (available : Bool) (bs : List NodeData) (i : ℕ) → length bs ≤ i
+    → before ++ devices_among text available (unreserved (siblings (drop i bs))) ≡ whole → before ≡ whole
+last-devices before whole text available bs i h left =
+    sym (append-nil before) ∙ sym (at_drop_all (λ ds. before ++ devices_among text available (unreserved (siblings ds))) bs i h) ∙ left
+
 pub last-target : (before whole : Option Target) (above : Option ℕ) (met : ℕ) (bs : List NodeData) (i phandle : ℕ) → length bs ≤ i
     → or_else before (target_among above met (unreserved (siblings (drop i bs))) phandle) ≡ whole → before ≡ whole
 last-target before whole above met bs i phandle h left =

@@ -3,15 +3,15 @@ ghost use Rattle.std.specs.Option.{option_copied, option_map};
 ghost use Rattle.dt_tree.specs.Phandle.{or_else};
 ghost use Rattle.bus_plan.specs.declared.error.PlanError.TheVariants.{NoMemory, UnknownPath};
 ghost use Rattle.bus_drivers.specs.TreePlan.{driver_listing, driver_matching, driver_for, is_zero, strings, verdict_for, planned_device, unknown_fail};
-ghost use Rattle.bus_drivers.specs.Private.Matching.{driver_found, found_with, unknown_among};
+ghost use Rattle.bus_drivers.specs.Private.Matching.{IsMatcher, driver_found, found_with, unknown_among};
 
 use crate::driver::Driver;
 use crate::driver_set::DriverSet;
 use crate::fail_line::FailLine;
-use crate::path_sets::{paths_of_devices, paths_of_fails};
+use crate::path_sets::{add_devices, add_fails};
 use crate::tree_device::TreeDevice;
 use bus_plan::{Device, PathIndex, PlanError, Planned, Verdict};
-use dt_tree::Name;
+use dt_tree::{Name, Path};
 use indexmap::IndexMap;
 use std::alloc::{AllocError, Global};
 use std::hash::RandomState;
@@ -85,6 +85,22 @@ fn add_drivers<'d>(found: &mut Found<'d>, drivers: &'d [Driver]) -> Result<(), A
     Ok(())
 }
 
+// Fills the two indexes of a matcher.
+fn index_set<'d>(
+    alloc: Global,
+    first: &mut Found<'d>,
+    fails: &mut PathIndex,
+    set: &'d DriverSet,
+) -> Result<(), AllocError>
+    requires no_drivers { first.old.entries ≡ [] }
+    requires no_fails { fails.old ≡ [] }
+    ensures { OnOk result (IsMatcher set.now first.new.entries fails.new) }
+{
+    add_drivers(first, set.drivers())?;
+    add_fails(alloc, fails, set.fails())?;
+    Ok(())
+}
+
 fn verdict_of(driver: &Option<Name>, fails: bool) -> Verdict
     ensures { result ≡ verdict_for driver.now fails }
 {
@@ -127,8 +143,8 @@ impl<'d> Matcher<'d> {
         ensures { IfOk result (λ matcher. matcher ≡ set.now) }
     {
         let mut first = IndexMap::with_hasher(alloc, hasher);
-        add_drivers(&mut first, set.drivers())?;
-        let fails = paths_of_fails(alloc, hasher, set.fails())?;
+        let mut fails = PathIndex::new(alloc, hasher);
+        index_set(alloc, &mut first, &mut fails, set)?;
         Ok(Self { set, first, fails })
     }
 
@@ -168,6 +184,19 @@ impl<'d> Matcher<'d> {
         }
     }
 
+    // A device's path and its driver.
+    fn matched(
+        &self,
+        alloc: Global,
+        device: &TreeDevice<'_>,
+    ) -> Result<(Path, Option<Name>), AllocError>
+        ensures { IfOk result (λ matched. (matched.0 ≡ device.now.path) × (matched.1 ≡ driver_for self.now.drivers device.now)) }
+    {
+        let path = device.path().copy(alloc)?;
+        let driver = copy_of(alloc, self.driver_for(device))?;
+        Ok((path, driver))
+    }
+
     /// A device with its driver and its verdict.
     pub fn planned(
         &self,
@@ -177,8 +206,7 @@ impl<'d> Matcher<'d> {
     ) -> Result<Planned, AllocError>
         ensures { IfOk result (λ planned. planned ≡ planned_device self.now device.now suppliers.items) }
     {
-        let path = device.path().copy(alloc)?;
-        let driver = copy_of(alloc, self.driver_for(device))?;
+        let (path, driver) = self.matched(alloc, device)?;
         let verdict = verdict_of(&driver, self.fails.contains(path.as_bytes()));
         Ok(Planned::new(path, device.available(), driver, verdict, suppliers))
     }
@@ -194,10 +222,23 @@ impl<'d> Matcher<'d> {
             (λ _. unknown_fail devices.now self.now.fails ≡ None)
             (λ e. (e ≡ NoMemory) ⊎ (option_map (λ f. UnknownPath f.line) (unknown_fail devices.now self.now.fails) ≡ Some e)) }
     {
-        let paths = paths_of_devices(alloc, hasher, devices)?;
-        match unknown_line(&paths, self.set.fails()) {
+        match self.first_unknown(alloc, hasher, devices)? {
             None => Ok(()),
             Some(line) => Err(PlanError::UnknownPath(line)),
         }
+    }
+
+    // The line of the first `fail` line whose path is no device's.
+    fn first_unknown(
+        &self,
+        alloc: Global,
+        hasher: RandomState,
+        devices: &[TreeDevice<'_>],
+    ) -> Result<Option<usize>, AllocError>
+        ensures { IfOk result (λ line. line ≡ option_map (λ f. f.line) (unknown_fail devices.now self.now.fails)) }
+    {
+        let mut paths = PathIndex::new(alloc, hasher);
+        add_devices(alloc, &mut paths, devices)?;
+        Ok(unknown_line(&paths, self.set.fails()))
     }
 }

@@ -1,5 +1,5 @@
 //! Paths that are looked up many times.
-ghost use Rattle.std.specs.Prelude.{◌≡◌, ◌∷◌, ℕ, List, IfOk, OnOk};
+ghost use Rattle.std.specs.Prelude.{◌≡◌, ◌∷◌, [], ℕ, List, OnOk};
 ghost use Rattle.bus_plan.specs.PlanPaths.{is_among};
 ghost use Rattle.bus_drivers.specs.Private.Matching.{device_paths};
 ghost use Rattle.bus_drivers.specs.TreePlan.{fail_paths};
@@ -8,7 +8,6 @@ use crate::fail_line::FailLine;
 use crate::tree_device::TreeDevice;
 use bus_plan::PathIndex;
 use std::alloc::{AllocError, Global};
-use std::hash::RandomState;
 
 fn add_path(alloc: Global, index: &mut PathIndex, path: &[u8]) -> Result<(), AllocError>
     ensures { OnOk result ((q : List ℕ) → is_among q index.new ≡ is_among q (path.now ∷ index.old)) }
@@ -19,32 +18,28 @@ fn add_path(alloc: Global, index: &mut PathIndex, path: &[u8]) -> Result<(), All
     index.push(alloc, path)
 }
 
-/// The paths of the `fail` lines.
-pub fn paths_of_fails(
-    alloc: Global,
-    hasher: RandomState,
-    fails: &[FailLine],
-) -> Result<PathIndex, AllocError>
-    ensures { IfOk result (λ index. (q : List ℕ) → is_among q index ≡ is_among q (fail_paths fails.now)) }
+/// Adds the paths of the `fail` lines.
+pub fn add_fails(alloc: Global, index: &mut PathIndex, fails: &[FailLine]) -> Result<(), AllocError>
+    requires { index.old ≡ [] }
+    ensures { OnOk result ((q : List ℕ) → is_among q index.new ≡ is_among q (fail_paths fails.now)) }
 {
-    let mut index = PathIndex::new(alloc, hasher);
     for fail in fails {
-        add_path(alloc, &mut index, fail.path().as_bytes())?;
+        add_path(alloc, index, fail.path().as_bytes())?;
     }
-    Ok(index)
+    Ok(())
 }
 
-/// The paths of the devices.
-pub fn paths_of_devices(
+/// Adds the paths of the devices.
+pub fn add_devices(
     alloc: Global,
-    hasher: RandomState,
+    index: &mut PathIndex,
     devices: &[TreeDevice<'_>],
-) -> Result<PathIndex, AllocError>
-    ensures { IfOk result (λ index. (q : List ℕ) → is_among q index ≡ is_among q (device_paths devices.now)) }
+) -> Result<(), AllocError>
+    requires { index.old ≡ [] }
+    ensures { OnOk result ((q : List ℕ) → is_among q index.new ≡ is_among q (device_paths devices.now)) }
 {
-    let mut index = PathIndex::new(alloc, hasher);
     for device in devices {
-        add_path(alloc, &mut index, device.path().as_bytes())?;
+        add_path(alloc, index, device.path().as_bytes())?;
     }
-    Ok(index)
+    Ok(())
 }

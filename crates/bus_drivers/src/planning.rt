@@ -47,7 +47,20 @@ fn planned_devices(
     Ok(planned)
 }
 
-// The devices of a plan: `fail` lines are refused before properties.
+// `fail` lines are refused before properties.
+fn matched_devices(
+    alloc: Global,
+    hasher: RandomState,
+    survey: &Survey<'_>,
+    matcher: &Matcher<'_>,
+) -> Result<Vec<Planned>, PlanError>
+    ensures { let planned = plan_of_devices (target_of survey.now) matcher.now (tree_devices survey.now) in
+        MatchResult result (λ devices. planned ≡ Ok devices.items) (λ e. (e ≡ NoMemory) ⊎ (planned ≡ Err e)) }
+{
+    matcher.check_fails(alloc, hasher, survey.devices())?;
+    planned_devices(alloc, hasher, survey, matcher)
+}
+
 fn plan_devices(
     alloc: Global,
     hasher: RandomState,
@@ -58,8 +71,21 @@ fn plan_devices(
         MatchResult result (λ devices. planned ≡ Ok devices.items) (λ e. (e ≡ NoMemory) ⊎ (planned ≡ Err e)) }
 {
     let matcher = Matcher::of(alloc, hasher, drivers)?;
-    matcher.check_fails(alloc, hasher, survey.devices())?;
-    planned_devices(alloc, hasher, survey, &matcher)
+    matched_devices(alloc, hasher, survey, &matcher)
+}
+
+// The devices of the plan of a tree.
+fn devices_of(
+    alloc: Global,
+    hasher: RandomState,
+    tree: &Tree,
+    drivers: &DriverSet,
+) -> Result<Vec<Planned>, PlanError>
+    ensures { let plan = plan_of tree.now.root drivers.now in
+        MatchResult result (λ devices. plan ≡ Ok devices.items) (λ e. (e ≡ NoMemory) ⊎ (plan ≡ Err e)) }
+{
+    let survey = Survey::of(alloc, hasher, tree)?;
+    plan_devices(alloc, hasher, &survey, drivers)
 }
 
 /// The plan of a tree: its devices with their drivers and suppliers, or the first refusal.
@@ -73,7 +99,6 @@ pub fn plan(
 {
     tree.check();
     drivers.check();
-    let survey = Survey::of(alloc, hasher, tree)?;
-    let devices = plan_devices(alloc, hasher, &survey, drivers)?;
+    let devices = devices_of(alloc, hasher, tree, drivers)?;
     Ok(Plan::of(alloc, hasher, devices)?)
 }

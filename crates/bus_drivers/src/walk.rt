@@ -179,6 +179,30 @@ impl<'t> Walk<'t> {
         Ok(())
     }
 
+    // Keeps the nodes of a tree, but for the reserved ones.
+    fn keep_tree(&mut self, alloc: Global, root: &'t Node) -> Result<(), PlanError>
+        requires way { self.old.way.items ≡ [] }
+        requires devices { self.old.devices.items ≡ [] }
+        requires targets { (phandle : ℕ) → get nat_eq self.old.targets phandle ≡ None }
+        ensures devices { OnOk result (self.new.devices.items ≡ devices_in_tree root.now) }
+        ensures few { OnOk result (length self.new.devices.items ≤ MAX_DEVICES) }
+        ensures targets { OnOk result ((phandle : ℕ) → get nat_eq self.new.targets phandle ≡ target_in_tree root.now phandle) }
+        ensures err { IfErr result (Refuses (devices_in_tree root.now)) }
+    {
+        let here = Above {
+            available: is_okay(root),
+            device: None,
+        };
+        keep_target(&mut self.targets, root, &here)?;
+        for top in root.children() {
+            if is_reserved_name(top.name_bytes()) {
+                continue;
+            }
+            self.visit(alloc, top, &here)?;
+        }
+        Ok(())
+    }
+
     /// The walk over the tree below this root, but for its reserved nodes.
     pub fn over(alloc: Global, hasher: RandomState, root: &'t Node) -> Result<Self, PlanError>
         ensures devices { IfOk result (λ walk. walk.devices.items ≡ devices_in_tree root.now) }
@@ -187,17 +211,7 @@ impl<'t> Walk<'t> {
         ensures err { IfErr result (Refuses (devices_in_tree root.now)) }
     {
         let mut walk = Self::new(alloc, hasher);
-        let here = Above {
-            available: is_okay(root),
-            device: None,
-        };
-        keep_target(&mut walk.targets, root, &here)?;
-        for top in root.children() {
-            if is_reserved_name(top.name_bytes()) {
-                continue;
-            }
-            walk.visit(alloc, top, &here)?;
-        }
+        walk.keep_tree(alloc, root)?;
         Ok(walk)
     }
 }

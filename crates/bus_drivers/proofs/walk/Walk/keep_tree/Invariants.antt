@@ -6,13 +6,13 @@ use Rattle.dt_tree.specs.Phandle.{or_else}
 use Rattle.dt_tree.specs.Private.PhandleWalk.{unreserved}
 use Rattle.indexmap.specs.IndexMap.{get}
 use Rattle.bus_drivers.specs.Private.Walk.{devices_among, devices_in_tree, target_among, target_in_tree}
-use Rattle.bus_drivers.proofs.walk.Walk.over.Given as goal
+use Rattle.bus_drivers.proofs.walk.Walk.keep_tree.Given as goal
 
 abbrev pub invariant-loop-top : goal.invariant-loop-top
 invariant-loop-top l = record {
-  devices : l.walk.devices.items ++ devices_among l.walk.way.items l.here.available (unreserved (siblings (drop l.top-index l.top-items))) ≡ devices_in_tree l.root;
-  few : length l.walk.devices.items ≤ MAX_DEVICES;
-  way : l.walk.way.items ≡ [];
-  targets : (phandle : ℕ) → or_else (get nat_eq l.walk.targets phandle) (target_among l.here.device (length l.walk.devices.items) (unreserved (siblings (drop l.top-index l.top-items))) phandle)
+  devices : l.self.devices.items ++ devices_among l.self.way.items l.here.available (unreserved (siblings (drop l.top-index l.top-items))) ≡ devices_in_tree l.root;
+  few : length l.self.devices.items ≤ MAX_DEVICES;
+  way : l.self.way.items ≡ [];
+  targets : (phandle : ℕ) → or_else (get nat_eq l.self.targets phandle) (target_among l.here.device (length l.self.devices.items) (unreserved (siblings (drop l.top-index l.top-items))) phandle)
       ≡ target_in_tree l.root phandle;
 }

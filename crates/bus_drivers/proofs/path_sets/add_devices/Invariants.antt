@@ -1,7 +1,7 @@
 use Rattle.std.proofs.Common.{◌≡◌, ◌++◌, ℕ, List, drop}
 use Rattle.bus_plan.specs.PlanPaths.{is_among}
 use Rattle.bus_drivers.specs.Private.Matching.{device_paths}
-use Rattle.bus_drivers.proofs.path_sets.paths_of_devices.Given as goal
+use Rattle.bus_drivers.proofs.path_sets.add_devices.Given as goal
 
 -- the paths so far and those that are left are all paths
 abbrev pub invariant-loop-device : goal.invariant-loop-device
