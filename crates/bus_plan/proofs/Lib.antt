@@ -15,3 +15,4 @@ pub mod TextBytes
 pub mod ReadBack
 pub mod TextLines
 pub mod TextMeaning
+pub mod TextSteps

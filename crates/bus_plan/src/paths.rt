@@ -41,7 +41,8 @@ impl PathIndex {
     {
         let mut index = Self::new(alloc, hasher);
         for device in devices {
-            index.push(alloc, device.path().as_bytes())?;
+            let path = device.path().as_bytes();
+            index.push(alloc, path)?;
         }
         Ok(index)
     }

@@ -143,10 +143,17 @@ impl Plan {
     pub fn copy(&self, alloc: Global) -> Result<Self, AllocError>
         ensures { IfOk result (λ plan. plan ≡ self.now) }
     {
-        let mut devices = Vec::with_capacity(alloc, self.devices.len())?;
-        for device in &self.devices {
-            devices.push(device.copy(alloc)?)?;
-        }
+        let devices = copies(alloc, self.devices.as_slice())?;
         Self::of(alloc, self.index.hasher(), devices)
     }
+}
+
+fn copies(alloc: Global, devices: &[Planned]) -> Result<Vec<Planned>, AllocError>
+    ensures { IfOk result (λ copies. copies.items ≡ devices.now) }
+{
+    let mut copies = Vec::with_capacity(alloc, devices.len())?;
+    for device in devices {
+        copies.push(device.copy(alloc)?)?;
+    }
+    Ok(copies)
 }

@@ -1,6 +1,0 @@
-use Rattle.std.proofs.Common.{◌≡◌, take}
-use Rattle.bus_plan.proofs.plan.Plan.copy.Given as goal
-
--- the devices so far
-abbrev pub invariant-loop-device : goal.invariant-loop-device
-invariant-loop-device l = l.devices.items ≡ take l.device-index l.device-items
