@@ -8,7 +8,7 @@ use dt_tree::{Name, is_name};
 use std::alloc::Global;
 
 /// What the second and the third field of a plan file's line say.
-#[derive(Debug, Drop)]
+#[derive(Drop)]
 pub struct Matching {
     pub available: bool,
     pub driver: Option<Name>,
