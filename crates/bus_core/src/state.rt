@@ -4,7 +4,9 @@ ghost use Rattle.std.specs.Prelude.{◌≡◌, IfOk};
 ghost use Rattle.bus_core.specs.CoreState.{first_state};
 ghost use Rattle.bus_core.specs.History.{IsBusHistory};
 ghost use Rattle.bus_core.specs.declared.refusal.Refusal.TheVariants.{NoMemory};
-ghost use Rattle.std.specs.Prelude.{MatchResult, replicate};
+ghost use Rattle.std.specs.Prelude.{MatchResult, replicate, ◌≤◌, ℕ, [], false, length, map, slice_index_or, vec_capacity};
+ghost use Rattle.bus_plan.specs.Plan.{is_matched, suppliers_of};
+ghost use Rattle.bus_core.specs.Due.{devices};
 
 use crate::counts::{matched_devices, supplier_counts};
 use crate::device_set::DeviceSet;
@@ -54,25 +56,43 @@ fn fresh_phases(alloc: Global, count: usize) -> Result<Vec<Phase>, AllocError>
     Ok(phases)
 }
 
+/// What a core keeps beside its plan: the settled devices, the phase of each, how many of its suppliers aren't bound, and
+/// the devices that are due.
+type Kept = (Vec<Settle>, Vec<Phase>, Vec<usize>, DeviceSet);
+
+// What a core keeps before anything has begun. The plan is lent, so that no way out has to drop it.
+fn first_kept(alloc: Global, plan: &Plan) -> Result<Kept, AllocError>
+    ensures history { IfOk result (λ kept. kept.0.items ≡ []) }
+    ensures room { IfOk result (λ kept. length plan.now ≤ vec_capacity kept.0) }
+    ensures phases { IfOk result (λ kept. kept.1.items ≡ replicate (length plan.now) Phase.Fresh) }
+    ensures missing { IfOk result (λ kept. kept.2.items ≡ map (λ d. length (suppliers_of plan.now d)) (devices plan.now)) }
+    ensures places { IfOk result (λ kept. length kept.3 ≡ length plan.now) }
+    ensures due { IfOk result (λ kept. (d : ℕ) → slice_index_or kept.3 d false ≡ is_matched plan.now d) }
+{
+    let history = Vec::with_capacity(alloc, plan.len())?;
+    let phases = fresh_phases(alloc, plan.len())?;
+    let missing = supplier_counts(alloc, plan)?;
+    let due = matched_devices(alloc, plan)?;
+    Ok((history, phases, missing, due))
+}
+
 impl Core {
     /// Nothing begun. It makes the room for all settles, so that nothing later takes memory.
     pub fn new(alloc: Global, plan: Plan) -> Result<Core, Refusal>
         ensures { MatchResult result (λ core. core ≡ record { plan = plan; state = first_state plan }) (λ refusal. refusal ≡ NoMemory) }
     {
-        let count = plan.len();
-        let history = Vec::with_capacity(alloc, count)?;
-        let phases = fresh_phases(alloc, count)?;
-        let missing = supplier_counts(alloc, &plan)?;
-        let due = matched_devices(alloc, &plan)?;
-        Ok(Core {
-            plan,
-            phases,
-            history,
-            begins: 0,
-            missing,
-            due,
-            flights: 0,
-        })
+        match first_kept(alloc, &plan) {
+            Ok((history, phases, missing, due)) => Ok(Core {
+                plan,
+                phases,
+                history,
+                begins: 0,
+                missing,
+                due,
+                flights: 0,
+            }),
+            Err(_) => Err(Refusal::NoMemory),
+        }
     }
 
     /// The settled devices with their outcomes, in the order in which they settled.
