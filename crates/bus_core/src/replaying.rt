@@ -2,7 +2,7 @@
 
 ghost use Rattle.std.specs.Prelude.{◌≡◌, ◌<◌, ◌⊎◌, length, All, IfOk, IfErr, OnOk, OnErr};
 ghost use Rattle.std.specs.Result.{result_err};
-ghost use Rattle.bus_core.specs.Replay.{event_refusal, event_state, device_of, IsEventOf, replay_of};
+ghost use Rattle.bus_core.specs.Replay.{event_refusal, event_state, device_of, IsEventOf, replay_from, replay_of};
 ghost use Rattle.bus_core.specs.declared.refusal.Refusal.TheVariants.{NoMemory};
 ghost use Rattle.bus_core.specs.CoreState.{is_in_flight};
 
@@ -46,6 +46,21 @@ impl Core {
             Event::Abandon(device) => self.abandon(*device),
         }
     }
+
+    // All events of a schedule, or the number and the refusal of the first refused one.
+    fn take_all(&mut self, events: &[Event]) -> Result<(), (usize, Refusal)>
+        requires { All (IsEventOf self.old.plan) events.now }
+        ensures plan { self.new.plan ≡ self.old.plan }
+        ensures taken { OnOk result (replay_from self.old.plan 0 self.old.state events.now ≡ Ok self.new.state) }
+        ensures refused { IfErr result (λ e. replay_from self.old.plan 0 self.old.state events.now ≡ Err e) }
+    {
+        for (index, event) in events.iter().enumerate() {
+            if let Err(refusal) = self.take(event) {
+                return Err((index + 1, refusal));
+            }
+        }
+        Ok(())
+    }
 }
 
 /// The core after all events, or the number (from 1; 0 where memory for the core was refused) and the refusal of the
@@ -60,10 +75,8 @@ pub fn replay(alloc: Global, plan: Plan, events: &[Event]) -> Result<Core, (usiz
         Ok(core) => core,
         Err(refusal) => return Err((0, refusal)),
     };
-    for (index, event) in events.iter().enumerate() {
-        if let Err(refusal) = core.take(event) {
-            return Err((index + 1, refusal));
-        }
+    match core.take_all(events) {
+        Ok(()) => Ok(core),
+        Err(refused) => Err(refused),
     }
-    Ok(core)
 }
