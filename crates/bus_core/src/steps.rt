@@ -1,6 +1,6 @@
 //! The events of a core. None takes memory: the room of every settle was made with the core.
 
-ghost use Rattle.std.specs.Prelude.{◌≡◌, ◌<◌, ◌+◌, ◌++◌, ◌∷◌, [], length, IfOk, OnOk, OnErr, Some, None, vec_len, vec_capacity, ◌≤◌, ◌==◌, true};
+ghost use Rattle.std.specs.Prelude.{◌≡◌, ◌<◌, ◌+◌, ◌++◌, ◌∷◌, [], length, IfOk, IfNone, OnOk, OnErr, Some, None, vec_len, vec_capacity, ◌≤◌, ◌==◌, true};
 ghost use Rattle.std.specs.List.{list_any};
 ghost use Rattle.std.specs.Result.{result_err};
 ghost use Rattle.bus_plan.specs.Plan.{verdict_of};
@@ -55,16 +55,29 @@ impl Core {
         ensures err { OnErr result (self.new ≡ self.old) }
         ensures step { self.new ≡ record { plan = self.old.plan; state = step self.old.plan self.old.state (begins device) } }
     {
+        match self.begin_refusal(device) {
+            Some(refusal) => Err(refusal),
+            None => Ok(self.open_flight(device)),
+        }
+    }
+
+    // Why the device can't begin, where it can't.
+    fn begin_refusal(&self, device: Device) -> Option<Refusal>
+        requires { device < length self.now.plan }
+        ensures refusal { result ≡ begin_refusal self.now.plan self.now.state device }
+        ensures idle { IfNone result (is_idle self.now.state device ≡ true) }
+        ensures few { IfNone result (self.now.state.begins < MAX_BEGINS) }
+    {
         if !is_matched(&self.plan, device) {
-            return Err(Refusal::Unmatched);
+            return Some(Refusal::Unmatched);
         }
         if !phase_of(&self.phases, device).is_idle() {
-            return Err(Refusal::NotIdle);
+            return Some(Refusal::NotIdle);
         }
         if self.begins >= MAX_BEGINS {
-            return Err(Refusal::TooManyEvents);
+            return Some(Refusal::TooManyEvents);
         }
-        Ok(self.open_flight(device))
+        None
     }
 
     // The next flight, of an idle device.
