@@ -1,6 +1,7 @@
 //! What the caller of a run does alone, once its workers have left.
 
-ghost use Rattle.std.specs.Prelude.{◌≡◌, ◌≤◌, ◌<◌, ◌+◌, true, false, length, IfOk, IfErr, OnOk};
+ghost use Rattle.std.specs.Prelude.{◌≡◌, ◌≤◌, ◌<◌, ◌+◌, true, false, length, IfOk, IfErr, OnOk, MatchResult};
+ghost use Rattle.bus_manager.specs.Keeper.{first_keeper};
 ghost use Rattle.bus_core.specs.Due.{is_quiet};
 ghost use Rattle.bus_core.specs.declared.refusal.Refusal.TheVariants.{NoMemory};
 ghost use Rattle.bus_manager.specs.Private.Alone.{IsLanded, IsDropped, IsDriven};
@@ -94,6 +95,36 @@ fn drain<P: Prober>(
     Ok(())
 }
 
+// Drops the flights that are left, probes what is due, leaves a note of each settled device, and gives the report. The
+// keeper and the notes are lent, so that no way out has to drop them.
+fn end_alone<P: Prober>(
+    alloc: Global,
+    plan: &Plan,
+    prober: &P,
+    keeper: &mut Keeper,
+    notes: &mut Vec<Option<P::Note>>,
+) -> Result<Vec<u8>, Refusal>
+    requires plan { keeper.old.plan ≡ plan.now }
+    requires unabandoned { abandons keeper.old ≡ 0 }
+    requires notes { AreNotes (P.attests prober.now plan.now) plan.now notes.old.items }
+    ensures ran { IfOk result (λ report. IsRun (P.attests prober.now plan.now) plan.now report.items notes.new.items) }
+    ensures err { IfErr result (λ refusal. refusal ≡ NoMemory) }
+{
+    drop_flights(keeper, plan.len());
+    drain(keeper, plan, prober, notes)?;
+    settle_notes(keeper, plan, prober, notes);
+    keeper.core().check();
+    let report = keeper.report(alloc)?;
+    Ok(report)
+}
+
+/// A keeper of a copy of the plan, with nothing begun.
+pub fn fresh_keeper(alloc: Global, plan: &Plan) -> Result<Keeper, Refusal>
+    ensures { MatchResult result (λ keeper. keeper ≡ first_keeper plan.now) (λ refusal. refusal ≡ NoMemory) }
+{
+    Keeper::new(alloc, plan.copy(alloc)?)
+}
+
 /// Ends a run: drops the flights that are left, probes what is due, and leaves a note of each settled device.
 pub fn finish_alone<P: Prober>(
     alloc: Global,
@@ -108,10 +139,10 @@ pub fn finish_alone<P: Prober>(
     ensures ran { IfOk result (λ ran. IsRun (P.attests prober.now plan.now) plan.now ran.report.items ran.notes.items) }
     ensures err { IfErr result (λ refusal. refusal ≡ NoMemory) }
 {
-    drop_flights(&mut keeper, plan.len());
-    drain(&mut keeper, plan, prober, &mut notes)?;
-    settle_notes(&keeper, plan, prober, &mut notes);
-    keeper.core().check();
-    let report = keeper.report(alloc)?;
-    Ok(Ran { report, notes })
+    let ended = end_alone(alloc, plan, prober, &mut keeper, &mut notes);
+    drop(keeper);
+    match ended {
+        Ok(report) => Ok(Ran { report, notes }),
+        Err(refusal) => Err(refusal),
+    }
 }

@@ -11,10 +11,9 @@ ghost use Rattle.bus_manager.specs.Notes.{has_settled, has_note};
 ghost use Rattle.bus_manager.specs.Private.Notes.{AreNotes};
 ghost use Rattle.bus_manager.specs.Run.{IsRun};
 
-use crate::alone::finish_alone;
+use crate::alone::{finish_alone, fresh_keeper};
 use crate::end_report::{end_report, end_status, is_bound};
 use crate::flying::work;
-use crate::keeper::Keeper;
 use crate::notes::{Ran, has_settled, no_notes, place_some, settle_note};
 use crate::prober::Prober;
 use crate::seats::{gather, land_all, seats};
@@ -92,8 +91,16 @@ fn finish<P: Prober>(
     if end.quiet {
         return finish_quiet(alloc, plan, prober, &end.words, notes);
     }
-    let keeper = Keeper::new(alloc, plan.copy(alloc)?)?;
+    let keeper = fresh_keeper(alloc, plan)?;
     finish_alone(alloc, plan, prober, keeper, notes)
+}
+
+// A board of a copy of the plan, and its first seat.
+fn fresh_board(alloc: Global, plan: &Plan) -> Result<(Board, Seat), Refusal>
+    ensures free { IfOk result (λ r. (r.0.plan ≡ plan.now) × IsFree r.0 r.1) }
+    ensures err { IfErr result (λ refusal. refusal ≡ NoMemory) }
+{
+    Board::open(alloc, plan.copy(alloc)?)
 }
 
 /// A run over a board by so many workers, and then by the caller alone.
@@ -108,7 +115,7 @@ pub fn run_boarded<P: Prober, R: Threads + Sync>(
     ensures err { IfErr result (λ refusal. refusal ≡ NoMemory) }
 {
     let mut notes = no_notes::<P::Note>(alloc, plan.len())?;
-    let (board, mut own) = Board::open(alloc, plan.copy(alloc)?)?;
+    let (board, mut own) = fresh_board(alloc, plan)?;
     let seats = seats(alloc, &board, &mut own, workers)?;
     let left = gather(rt, alloc, &board, plan, prober, seats);
     land_all(&board, plan, prober, &mut own, &mut notes, left);

@@ -5,9 +5,8 @@ ghost use Rattle.std.specs.Result.{result_err};
 ghost use Rattle.bus_core.specs.declared.refusal.Refusal.TheVariants.{NoMemory as OutOfMemory};
 ghost use Rattle.bus_manager.specs.Run.{IsRun};
 
-use crate::alone::finish_alone;
+use crate::alone::{finish_alone, fresh_keeper};
 use crate::boarded::run_boarded;
-use crate::keeper::Keeper;
 use crate::manager::{Manager, PlanName};
 use crate::notes::{Ran, no_notes, place};
 use crate::prober::Prober;
@@ -95,8 +94,8 @@ fn run_named<J: PlanName + Send + Sync, P: Prober, R: Threads + Wait + Sync>(
     ensures ran { IfOk result (λ ran. IsRun (P.attests prober.now plan.now) plan.now ran.report.items ran.notes.items) }
     ensures err { IfErr result (λ refusal. refusal ≡ OutOfMemory) }
 {
-    let keeper = Keeper::new(alloc, plan.copy(alloc)?)?;
     let mut notes = no_notes::<P::Note>(alloc, plan.len())?;
+    let keeper = fresh_keeper(alloc, plan)?;
     let manager = Manager::<J>::new(keeper);
     let found = gather(rt, alloc, &manager, plan, prober, workers);
     place(plan, prober, &mut notes, found);

@@ -3,7 +3,7 @@ use Rattle.bus_core.specs.Due.{is_quiet}
 use Rattle.bus_core.specs.History.{IsBusHistory}
 use Rattle.bus_core.specs.Report.{report_text}
 use Rattle.bus_manager.proofs.Ended.{run-ended}
-use Rattle.bus_manager.proofs.alone.finish_alone.Goals as goal
+use Rattle.bus_manager.proofs.alone.end_alone.Goals as goal
 
 pub returns-clause-ran : goal.returns-clause-ran
 returns-clause-ran g c =
