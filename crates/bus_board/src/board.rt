@@ -1,6 +1,6 @@
 //! A board and its first seats.
 
-ghost use Rattle.std.specs.Prelude.{◌≡◌, ◌<◌, ◌≤◌, ℕ, length, IfOk, IfErr};
+ghost use Rattle.std.specs.Prelude.{◌≡◌, ◌<◌, ◌≤◌, ◌+◌, ℕ, [], length, vec_capacity, IfOk, IfErr};
 ghost use Rattle.bus_plan.specs.Plan.{suppliers_of, is_matched};
 ghost use Rattle.bus_core.specs.declared.refusal.Refusal.TheVariants.{NoMemory};
 ghost use Rattle.bus_board.specs.Shown.{IsOf};
@@ -8,7 +8,7 @@ ghost use Rattle.bus_board.specs.Views.{opener, newcomer};
 ghost use Rattle.bus_board.specs.Words.{AreFirst};
 
 use crate::order::{Further, Order};
-use crate::seat::Seat;
+use crate::seat::{Seat, Token};
 use crate::view::View;
 use crate::words::{FRESH, Word, first_word};
 use atomic_table::Table;
@@ -55,23 +55,24 @@ impl Board {
         ensures opened { IfOk result (λ r. (r.0.plan ≡ plan) × IsOf r.0 r.1 × (r.1.view ≡ opener plan)) }
         ensures err { IfErr result (λ refusal. refusal ≡ NoMemory) }
     {
-        let words = first_words(alloc, &plan)?;
-        let room = Vec::with_capacity(alloc, plan.len())?;
-        let owed = Vec::with_capacity(alloc, plan.len())?;
-        let (table, token) = Words::of_words(alloc, &words, &plan)?;
-        let most_suppliers = most_suppliers(&plan);
-        let board = Board {
-            table,
-            plan,
-            most_suppliers,
-            room,
-        };
-        let seat = Seat {
-            token,
-            flight: None,
-            owed,
-        };
-        Ok((board, seat))
+        match first_parts(alloc, &plan) {
+            Ok((table, token, room, owed)) => {
+                let most_suppliers = most_suppliers(&plan);
+                let board = Board {
+                    table,
+                    plan,
+                    most_suppliers,
+                    room,
+                };
+                let seat = Seat {
+                    token,
+                    flight: None,
+                    owed,
+                };
+                Ok((board, seat))
+            }
+            Err(_) => Err(Refusal::NoMemory),
+        }
     }
 
     /// A further seat, which has seen what the given one has.
@@ -89,6 +90,29 @@ impl Board {
             owed,
         })
     }
+}
+
+// What a board and its first seat have beside the plan, which is lent, so that no way out has to drop it.
+fn first_parts(
+    alloc: Global,
+    plan: &Plan,
+) -> Result<(Words, Token, Vec<Word>, Vec<Device>), AllocError>
+    ensures table { IfOk result (λ parts. (parts.0.shared.table_id.words ≡ length plan.now + 1) × (parts.0.shared.table_id.slots ≡ 0) × (parts.0.shared.key ≡ plan.now) × (parts.1.table_id ≡ parts.0.shared.table_id) × (parts.1.me ≡ (opener plan.now, []))) }
+    ensures room { IfOk result (λ parts. (parts.2.items ≡ []) × (length plan.now ≤ vec_capacity parts.2)) }
+    ensures owed { IfOk result (λ parts. parts.3.items ≡ []) }
+{
+    let room = Vec::with_capacity(alloc, plan.len())?;
+    let owed = Vec::with_capacity(alloc, plan.len())?;
+    let (table, token) = first_table(alloc, plan)?;
+    Ok((table, token, room, owed))
+}
+
+// The words at the start, and the token of the first seat.
+fn first_table(alloc: Global, plan: &Plan) -> Result<(Words, Token), AllocError>
+    ensures { IfOk result (λ t. (t.0.shared.table_id.words ≡ length plan.now + 1) × (t.0.shared.table_id.slots ≡ 0) × (t.0.shared.key ≡ plan.now) × (t.1.table_id ≡ t.0.shared.table_id) × (t.1.me ≡ (opener plan.now, []))) }
+{
+    let words = first_words(alloc, plan)?;
+    Words::of_words(alloc, &words, plan)
 }
 
 // The words at the start: one for each device, and one to spare, as a load needs one where there is no device.

@@ -1,6 +1,6 @@
 //! How a seat ends.
 
-ghost use Rattle.std.specs.Prelude.{◌≡◌, ◌≢◌, ◌⊎◌, [], None, IfErr, OnOk};
+ghost use Rattle.std.specs.Prelude.{◌≡◌, ◌≢◌, ◌⊎◌, [], true, false, None, IfErr, OnOk};
 ghost use Rattle.bus_core.specs.declared.refusal.Refusal.TheVariants.{NotIdle};
 ghost use Rattle.bus_board.specs.Learns.{JoinedBy};
 ghost use Rattle.bus_board.specs.Shown.{IsOf};
@@ -19,10 +19,7 @@ impl Board {
         ensures ok { OnOk result ((seat.view.flight ≡ None) × (seat.view.owed ≡ []) × JoinedBy into.old.view seat.view into.new.view) }
         ensures err { IfErr result (λ r. (r.0 ≡ seat) × (into.new ≡ into.old) × (r.1 ≡ NotIdle) × ((seat.view.flight ≢ None) ⊎ (seat.view.owed ≢ []))) }
     {
-        if seat.flight.is_some() {
-            return Err((seat, Refusal::NotIdle));
-        }
-        if !seat.owed.is_empty() {
+        if !seat.is_free() {
             return Err((seat, Refusal::NotIdle));
         }
         let Seat {
@@ -35,5 +32,18 @@ impl Board {
         // a join tells nothing, so a load of the spare word tells the history so far
         shared.load::<Note>(&mut into.token, self.plan.len());
         Ok(())
+    }
+}
+
+impl Seat {
+    // Whether the seat has no flight and owes nothing.
+    fn is_free(&self) -> bool
+        ensures yes { result ≡ true → (self.now.view.flight ≡ None) × (self.now.view.owed ≡ []) }
+        ensures no { result ≡ false → (self.now.view.flight ≢ None) ⊎ (self.now.view.owed ≢ []) }
+    {
+        if self.flight.is_some() {
+            return false;
+        }
+        self.owed.is_empty()
     }
 }

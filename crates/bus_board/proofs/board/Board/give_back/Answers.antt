@@ -1,19 +1,14 @@
-use Rattle.std.proofs.Common.{◌≡◌, ℕ, vec_len, eqb-true, List, [], ◌∷◌, None, sym, subst, ap, ◌∙◌, arith, length, refl}
+use Rattle.std.proofs.Common.{◌≡◌, sym, subst, ap, ◌∙◌, arith}
 use Rattle.atomic_table.specs.Table.{Me}
 use Rattle.bus_core.specs.History.{IsBusHistory}
 use Rattle.bus_board.proofs.Allowed.{note_allowed}
 use Rattle.bus_board.proofs.Seats.{join_allowed, joined_told}
-use Rattle.bus_board.proofs.Tied.{idle_seat, none_open}
 use Rattle.bus_board.specs.Learns.{JoinedBy}
 use Rattle.bus_board.specs.Outcomes.{IsFront}
 use Rattle.bus_board.specs.Shown.{Posted, Seated}
 use Rattle.bus_board.specs.Views.{both}
 use Rattle.bus_board.specs.declared.view.View.{View}
 use Rattle.bus_board.proofs.board.Board.give_back.Goals as goal
-
-empty_of : (xs : List ℕ) → length xs ≡ 0 → xs ≡ []
-empty_of [] e = refl
-empty_of (x ∷ xs) e = absurd (omega arith)
 
 pub join_seat-requires : goal.join_seat-requires
 join_seat-requires c =
@@ -23,7 +18,7 @@ join_seat-requires c =
       ap (λ (x : Seated). x.table) c.seat.view_is ∙ c.requires.seat.0 ∙ at,
       c.seat.invariant.slots,
       omega (arith, inv.1),
-      join_allowed _ _ _ _ _ c.into.invariant.live (idle_seat c.seat.inside.token.me _ _ _ _ c.seat.invariant (none_open c.seat.inside.flight (c.if-is_some.ensures))),
+      join_allowed _ _ _ _ _ c.into.invariant.live (ap (λ (x : Seated). x.view.flight) c.seat.view_is ∙ (c.is_free.ensures.yes c.if-not-is_free.false).0),
     )
 
 pub load-requires : goal.load-requires
@@ -45,7 +40,7 @@ returns-clause-ok c =
     let is : m ≡ both v w = ap (λ (x : Me (Unit {0}) View). x.0) j in
     let told = joined_told v w c.load.new.seat.me.0 n.log (n.view ∙ is)
     (subst (λ (x : View). IsBusHistory x.plan n.log) is n.sees.lawful) (subst (λ (x : View). IsFront x.seen n.log) is n.sees.seen) (subst (λ (x : View). IsFront x.told n.log) is n.sees.told) in (
-      subst (λ (s : Seated). s.view.flight ≡ None) c.seat.view_is (idle_seat c.seat.inside.token.me _ _ _ _ c.seat.invariant (none_open c.seat.inside.flight c.if-is_some.ensures)),
-      subst (λ (s : Seated). s.view.owed ≡ []) c.seat.view_is (c.seat.invariant.debts ∙ empty_of c.seat.inside.owed.items (omega (arith, eqb-true (vec_len c.seat.inside.owed) 0 (sym c.is_empty.ensures ∙ c.if-not-is_empty.false)))),
+      (c.is_free.ensures.yes c.if-not-is_free.false).0,
+      (c.is_free.ensures.yes c.if-not-is_free.false).1,
       subst (λ (s : Seated). JoinedBy s.view c.args.seat.view c.load.new.seat.me.0) c.into.view_is (subst (λ (s : Seated). JoinedBy v s.view c.load.new.seat.me.0) c.seat.view_is told),
     )
