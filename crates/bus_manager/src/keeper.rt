@@ -1,6 +1,6 @@
 //! A core that keeps the events that it accepted.
 
-ghost use Rattle.std.specs.Prelude.{◌≡◌, ◌<◌, ◌≤◌, ◌++◌, ◌∷◌, [], ℕ, false, nat_lt, length, vec_len, vec_capacity, MatchResult, IfOk, IfErr, OnOk, OnErr, IfNone, IfSome};
+ghost use Rattle.std.specs.Prelude.{◌≡◌, ◌<◌, ◌≤◌, ◌++◌, ◌∷◌, [], ℕ, false, true, nat_lt, length, vec_len, vec_capacity, MatchResult, IfOk, IfErr, OnOk, OnErr, IfNone, IfSome};
 ghost use Rattle.std.specs.Result.{result_err};
 ghost use Rattle.bus_core.specs.Due.{is_due};
 ghost use Rattle.bus_core.specs.Report.{report_text};
@@ -76,12 +76,25 @@ impl Keeper {
         let Some(device) = self.core.next() else {
             return Ok(None);
         };
+        match self.begin_due(device) {
+            Ok(taken) => Ok(Some(taken)),
+            Err(refusal) => Err(refusal),
+        }
+    }
+
+    fn begin_due(&mut self, device: Device) -> Result<(Ticket, Seen), Refusal>
+        requires within { device < length self.old.plan }
+        requires due { is_due self.old.plan self.old.state device ≡ true }
+        ensures taken { IfOk result (λ t. IsTaken self.old self.new t.0 t.1) }
+        ensures refused { IfErr result (IsTakeRefused self.old) }
+        ensures err { OnErr result (self.new ≡ self.old) }
+    {
         // room for this begin, and for the end of each flight, its own among them
         self.events.reserve(self.flying + 2)?;
         let ticket = self.core.begin(device)?;
         store_begin(&mut self.events, device);
         self.flying += 1;
-        Ok(Some((ticket, self.bound)))
+        Ok((ticket, self.bound))
     }
 
     /// Ends the flight of the ticket by what its probe found. It takes no memory.
