@@ -1,6 +1,6 @@
 //! What the caller of a run over a board does, before and after its workers.
 
-ghost use Rattle.std.specs.Prelude.{◌≡◌, ◌<◌, ℕ, true, length, IfOk, IfErr};
+ghost use Rattle.std.specs.Prelude.{◌≡◌, ◌<◌, ℕ, true, length, All, IfOk, IfErr};
 ghost use Rattle.bus_core.specs.Report.{end_status};
 ghost use Rattle.bus_core.specs.declared.refusal.Refusal.TheVariants.{NoMemory};
 ghost use Rattle.bus_board.specs.Ends.{EndsAs};
@@ -95,12 +95,20 @@ fn finish<P: Prober>(
     finish_alone(alloc, plan, prober, keeper, notes)
 }
 
-// A board of a copy of the plan, and its first seat.
-fn fresh_board(alloc: Global, plan: &Plan) -> Result<(Board, Seat), Refusal>
-    ensures free { IfOk result (λ r. (r.0.plan ≡ plan.now) × IsFree r.0 r.1) }
+// A board of a copy of the plan, its first seat, and so many further ones.
+fn fresh_seats(
+    alloc: Global,
+    plan: &Plan,
+    count: usize,
+) -> Result<(Board, Seat, Vec<Seat>), Refusal>
+    ensures plan { IfOk result (λ r. r.0.plan ≡ plan.now) }
+    ensures own { IfOk result (λ r. IsFree r.0 r.1) }
+    ensures seats { IfOk result (λ r. All (IsFree r.0) r.2.items) }
     ensures err { IfErr result (λ refusal. refusal ≡ NoMemory) }
 {
-    Board::open(alloc, plan.copy(alloc)?)
+    let (board, mut own) = Board::open(alloc, plan.copy(alloc)?)?;
+    let seats = seats(alloc, &board, &mut own, count)?;
+    Ok((board, own, seats))
 }
 
 /// A run over a board by so many workers, and then by the caller alone.
@@ -115,8 +123,7 @@ pub fn run_boarded<P: Prober, R: Threads + Sync>(
     ensures err { IfErr result (λ refusal. refusal ≡ NoMemory) }
 {
     let mut notes = no_notes::<P::Note>(alloc, plan.len())?;
-    let (board, mut own) = fresh_board(alloc, plan)?;
-    let seats = seats(alloc, &board, &mut own, workers)?;
+    let (board, mut own, seats) = fresh_seats(alloc, plan, workers)?;
     let left = gather(rt, alloc, &board, plan, prober, seats);
     land_all(&board, plan, prober, &mut own, &mut notes, left);
     let found = work(alloc, &board, plan, prober, &mut own);
