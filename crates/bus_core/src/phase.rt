@@ -7,7 +7,7 @@ ghost use Rattle.bus_core.specs.RefinementPhase.{phase_at, bound_before, bound_b
 use bus_plan::{Device, Plan};
 
 /// Where a device stands.
-#[derive(Clone, Copy, Debug, PartialEq, Eq)]
+#[derive(Clone, Copy)]
 pub enum Phase {
     /// Never begun.
     Fresh,

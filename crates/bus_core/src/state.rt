@@ -69,8 +69,9 @@ fn first_kept(alloc: Global, plan: &Plan) -> Result<Kept, AllocError>
     ensures places { IfOk result (λ kept. length kept.3 ≡ length plan.now) }
     ensures due { IfOk result (λ kept. (d : ℕ) → slice_index_or kept.3 d false ≡ is_matched plan.now d) }
 {
-    let history = Vec::with_capacity(alloc, plan.len())?;
-    let phases = fresh_phases(alloc, plan.len())?;
+    let count = plan.len();
+    let history = Vec::with_capacity(alloc, count)?;
+    let phases = fresh_phases(alloc, count)?;
     let missing = supplier_counts(alloc, plan)?;
     let due = matched_devices(alloc, plan)?;
     Ok((history, phases, missing, due))
