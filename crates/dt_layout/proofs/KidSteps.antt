@@ -1,8 +1,9 @@
 -- The rows of one node: one more, and how far they go.
-use Rattle.std.proofs.Common.{◌≡◌, ℕ, zero, suc, ◌+◌, ◌<◌, ◌≤◌, true, false, not, ◌&&◌, ◌==◌, List, [], ◌∷◌, ◌++◌, length, get_or, if◌then◌else◌, sym, ap, ap₂, ◌∙◌, append-nil, add-one, Bor, Option, Some, None, subst, arith}
+use Rattle.std.proofs.Common.{◌≡◌, ℕ, zero, suc, ◌+◌, ◌<◌, ◌≤◌, true, false, not, ◌&&◌, ◌==◌, List, [], ◌∷◌, ◌++◌, length, get_or, if◌then◌else◌, refl, sym, ap, ap₂, ◌∙◌, append-nil, append_assoc, take, add-one, Bor, Option, Some, None, subst, arith}
 use Rattle.std.specs.List.{flat_map}
 use Rattle.std.proofs.lemmas.Bool.{eqb-true}
-use Rattle.std.proofs.lemmas.List.{get_or_default}
+use Rattle.std.proofs.lemmas.List.{get_or_default, take_more}
+use Rattle.std.proofs.lemmas.List.Concat.{flat_map-append}
 use Rattle.dt_draft.specs.declared.table.NodeRow.{NodeRow}
 use Rattle.dt_draft.specs.declared.table.PropertyRow.{PropertyRow}
 use Rattle.dt_draft.specs.Rows.{row_at, no_row, property_at}
@@ -28,6 +29,27 @@ module _ (rows : List NodeRow) (k n : ℕ) (within : k < length rows) where
       ap (λ j. children_to rows j n) (add-one k)
       ∙ ap (λ b. children_to rows k n ++ (if not b && (n == (row_at rows k).parent) then suc k ∷ [] else [])) (sym (ap (λ x. x.removed) is-row) ∙ gone)
       ∙ append-nil (children_to rows k n)
+
+-- one property more
+pub own-more : {V : Type 0} (rows : List (PropertyRow V)) (k n : ℕ) (read : PropertyRow V) → read ≡ property_at rows k
+    → (before : List ℕ) → before ≡ properties_to rows k n → before ++ (if n == read.node then k ∷ [] else []) ≡ properties_to rows (k + 1) n
+own-more {V} rows k n read is before e =
+    ap₂ (λ xs m. xs ++ (if n == m then k ∷ [] else [])) e (ap (λ (x : PropertyRow V). x.node) is)
+    ∙ ap (λ j. properties_to rows j n) (sym (add-one k))
+
+-- what one number more brings
+pub flat-more : {A : Type 0} (f : ℕ → List A) (ns : List ℕ) (i : ℕ) → i < length ns
+    → (start before : List A) → before ≡ start ++ flat_map f (take i ns) → before ++ f (get_or ns i 0) ≡ start ++ flat_map f (take (i + 1) ns)
+flat-more f ns i within start before e =
+    let x = get_or ns i 0 in
+    ap (λ xs. xs ++ f x) e ∙ append_assoc start (flat_map f (take i ns)) (f x)
+    ∙ ap (λ xs. start ++ xs)
+    (ap (λ ys. flat_map f (take i ns) ++ ys) (sym (append-nil (f x))) ∙ sym (flat_map-append f (take i ns) (x ∷ []))
+    ∙ ap (flat_map f) (sym (take_more ns i 0 within)))
+
+pub laid-none : {V : Type 0} (node : ℕ) (name : Bor (List ℕ)) (o : Option V) → ((v : V) → o ≡ Some v → ⊥) → laid_of node name o ≡ []
+laid-none node name None h = refl
+laid-none node name (Some v) h = absurd (h v refl)
 
 pub kids-within : (rows : List NodeRow) (n m k : ℕ) → k ≤ m → Each (λ j. j ≤ m) (children_to rows k n)
 kids-within rows n m zero le = tt

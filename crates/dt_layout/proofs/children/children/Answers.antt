@@ -1,4 +1,8 @@
-use Rattle.std.proofs.Common.{◌∙◌, ap, sym}
+use Rattle.std.proofs.Common.{◌≡◌, ◌∙◌, length, ap, sym, arith}
+use Rattle.std.proofs.lemmas.List.{get_or_default}
+use Rattle.dt_draft.specs.Rows.{no_row}
+use Rattle.dt_layout.specs.Private.Walks.{children_to}
+use Rattle.dt_layout.proofs.BlankRows.{blank_row}
 use Rattle.dt_layout.specs.Private.Lists.{list_count, list_of}
 use Rattle.dt_layout.proofs.KidSteps.{kids-more, kids-same}
 use Rattle.dt_layout.proofs.children.children.Goals as goal
@@ -20,3 +24,22 @@ loop-place-preserved c =
         lists = λ n. ap (λ ls. list_of ls n) w.lists-is ∙ c.loop-place.invariant.lists n ∙ sym (kids-same rows k n c.loop-place-test.true w.if-not-row.false);
       }
     ]
+
+pub loop-place-init : goal.loop-place-init
+loop-place-init c = record { count = c.in_ok-lists.ensures.count; lists = c.in_ok-lists.ensures.none }
+
+pub push-requires : goal.push-requires
+push-requires c =
+    let rows = c.args.nodes.now in
+    let k = c.loop-place.place in
+    let row = get_or_default rows k blank_row no_row c.loop-place-test.true in
+    omega (arith, ap (λ x. x.parent) row, c.requires k, c.loop-place.invariant.count, c.loop-place-test.true)
+
+pub returns-clause-count : goal.returns-clause-count
+returns-clause-count c = c.loop-place.invariant.count
+
+pub returns-clause-lists : goal.returns-clause-lists
+returns-clause-lists c n =
+    let rows = c.args.nodes.now in
+    let all : c.loop-place.place ≡ length rows = omega (arith, c.loop-place-test.false, c.loop-place.auto.place-end) in
+    c.loop-place.invariant.lists n ∙ ap (λ j. children_to rows j n) all
