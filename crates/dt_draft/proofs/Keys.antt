@@ -1,5 +1,5 @@
 -- An index as a function of a number and a name.
-use Rattle.std.proofs.Common.{◌≡◌, ◌⊎◌, inl, inr, ℕ, ◌+◌, ◌<◌, Bool, true, false, cond, if◌then◌else◌, ◌==◌, List, [], ◌∷◌, length, slice_index_or, slice_set, Option, Some, None, refl, ap, ap₂, sym, ◌∙◌, Bor, true≢false, nat_lt, arith}
+use Rattle.std.proofs.Common.{◌≡◌, ◌⊎◌, inl, inr, ℕ, suc, ◌+◌, ◌<◌, Bool, true, false, not, cond, if◌then◌else◌, ◌==◌, List, [], ◌∷◌, ◌++◌, length, slice_index_or, slice_set, Option, Some, None, refl, ap, ap₂, sym, ◌∙◌, Bor, true≢false, nat_lt, arith}
 use Rattle.std.specs.Str.{bytes_eq}
 use Rattle.std.specs.List.{list_any, position}
 use Rattle.std.proofs.lemmas.Bool.{and_parts, and_from, eqb-true, eq-eqb}
@@ -78,6 +78,43 @@ unmet-slot (x ∷ xs) n k e = at-head (unmet-slot xs n k) (is_this n k x) refl e
 pub unmet : (keys : List Key) (places : List Place) (n : ℕ) (k : List ℕ) → list_any (is_this n k) keys ≡ false → length places ≡ length keys
     → slice_index_or places (slot_of keys n k) absent ≡ absent
 unmet keys places n k e even = get_or_past places (slot_of keys n k) absent (omega (arith, unmet-slot keys n k e, even))
+
+one-more : (i : ℕ) → 1 + i ≡ suc i
+one-more i = omega arith
+
+-- one key more at the end, with no row
+pub met-more : (keys : List Key) (places : List Place) (key : Key) → length places ≡ length keys
+    → (n : ℕ) (k : List ℕ) → slice_index_or (places ++ absent ∷ []) (slot_of (keys ++ key ∷ []) n k) absent ≡ slice_index_or places (slot_of keys n k) absent
+met-more [] [] key even n k = at-new (is_this n k key) refl where
+  at-new : (b : Bool) → is_this n k key ≡ b → slice_index_or (absent ∷ []) (slot_of (key ∷ []) n k) absent ≡ absent
+  at-new true e = rw e refl
+  at-new false e = rw e refl
+met-more [] (p ∷ ps) key even n k = absurd (omega arith)
+met-more (x ∷ xs) [] key even n k = absurd (omega arith)
+met-more (x ∷ xs) (p ∷ ps) key even n k = at-head (met-more xs ps key (omega arith) n k) (is_this n k x) refl where
+  at-head : slice_index_or (ps ++ absent ∷ []) (slot_of (xs ++ key ∷ []) n k) absent ≡ slice_index_or ps (slot_of xs n k) absent → (b : Bool) → is_this n k x ≡ b
+      → slice_index_or (p ∷ ps ++ absent ∷ []) (slot_of (x ∷ xs ++ key ∷ []) n k) absent ≡ slice_index_or (p ∷ ps) (slot_of (x ∷ xs) n k) absent
+  at-head rest true e = rw e refl
+  at-head rest false e =
+      rw e (ap (λ i. slice_index_or (p ∷ ps ++ absent ∷ []) i absent) (one-more (slot_of (xs ++ key ∷ []) n k))
+      ∙ rest ∙ sym (ap (λ i. slice_index_or (p ∷ ps) i absent) (one-more (slot_of xs n k))))
+
+pub slot-more : (keys : List Key) (key : Key) → slot_of (keys ++ key ∷ []) key.0 key.1.now ≡ slot_of keys key.0 key.1.now
+slot-more [] key = rw (key-same key.0 key.1.now) refl
+slot-more (x ∷ xs) key = at-head (slot-more xs key) (is_this key.0 key.1.now x) refl where
+  at-head : slot_of (xs ++ key ∷ []) key.0 key.1.now ≡ slot_of xs key.0 key.1.now → (b : Bool) → is_this key.0 key.1.now x ≡ b
+      → slot_of (x ∷ xs ++ key ∷ []) key.0 key.1.now ≡ slot_of (x ∷ xs) key.0 key.1.now
+  at-head rest true e = rw e refl
+  at-head rest false e = rw e (ap (λ i. 1 + i) rest)
+
+-- what a set that inserted a key says of it
+pub as-met : (keys : List Key) (key : Key) (b t : Bool) → b ≡ not t → b ≡ false → (if t then keys else keys ++ key ∷ []) ≡ keys
+as-met keys key b true e f = refl
+as-met keys key b false e f = absurd (true≢false (sym e ∙ f))
+
+pub as-new : (keys : List Key) (key : Key) (b t : Bool) → b ≡ not t → b ≡ true → (if t then keys else keys ++ key ∷ []) ≡ keys ++ key ∷ []
+as-new keys key b false e f = refl
+as-new keys key b true e f = absurd (true≢false (sym f ∙ e))
 
 pub row-either : (b : Bool) (p q : Place) → (if b then p else q).row ≡ (if b then p.row else q.row)
 row-either true p q = refl
