@@ -1,6 +1,0 @@
-use Rattle.std.proofs.Common.{refl}
-use Rattle.dt_resolve.specs.Said.{meaning_of}
-use Rattle.dt_resolve.proofs.prepared.prepare.Goals as goal
-
-pub returns-in-Ok : goal.returns-in-Ok
-returns-in-Ok c = c.arrange.ensures (meaning_of c.args.source.now) c.in-Ok.ensures.tree.0 c.in-Ok.ensures.tree.1 refl
