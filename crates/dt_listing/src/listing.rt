@@ -1,5 +1,6 @@
 //! A tree as rows.
 ghost use Rattle.std.specs.Prelude.{◌≡◌, true, IfOk, OnOk};
+ghost use Rattle.dt_meaning.specs.Edits.{empty};
 ghost use Rattle.dt_meaning.specs.Paths.{Path};
 ghost use Rattle.dt_draft.specs.Rows.{HasSameNodes, IsDraft, IsKept, IsNode, is_standing, node_path, state_of};
 ghost use Rattle.dt_listing.specs.Listed.{IsListing, lists};
@@ -24,14 +25,26 @@ pub fn list_tree<'t>(
     ensures { IfOk result (λ draft. IsListing draft tree.now.root) }
 {
     let mut draft = Draft::new(alloc, hasher);
+    match fill(&mut draft, tree) {
+        Ok(()) => Ok(draft),
+        Err(error) => Err(error),
+    }
+}
+
+// Fills an empty draft with the rows of a tree.
+fn fill<'t>(draft: &mut Draft<'t, &'t [u8]>, tree: &'t Tree) -> Result<(), AllocError>
+    requires sound { IsDraft draft.old }
+    requires empty { state_of draft.old ≡ empty }
+    ensures { OnOk result (IsListing draft.new tree.now.root) }
+{
     let root = tree.root();
     root.check();
-    list_node(&mut draft, 0, root)?;
+    list_node(draft, 0, root)?;
     // never so: a draft's contracts are silent on rows that were removed, and here none was
-    if !has_all_rows(&draft) {
+    if !has_all_rows(draft) {
         return Err(AllocError);
     }
-    Ok(draft)
+    Ok(())
 }
 
 // Puts the properties of a node behind all others.

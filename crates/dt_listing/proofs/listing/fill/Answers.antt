@@ -6,14 +6,13 @@ use Rattle.dt_listing.specs.Private.Listing.{with_tree}
 use Rattle.dt_listing.proofs.Behind.{tree-listed}
 use Rattle.dt_listing.proofs.Listings.{listing}
 use Rattle.dt_listing.proofs.Steps.{seen}
-use Rattle.dt_listing.proofs.listing.list_tree.Goals as goal
+use Rattle.dt_listing.proofs.listing.fill.Goals as goal
 
 pub returns : goal.returns
 returns c =
     let d = c.list_node.new.draft in
     let b = c.args.tree.now.root in
-    let first = c.new-draft.ensures in
     let e = c.in_ok-list_node.ensures in
     let root = c.root-root.ensures in
-    let same : lists d ≡ lists_of b = e.lists ∙ ap₂ (λ t s. with_tree [] t (seen s)) root first.state ∙ tree-listed b (subst IsSound root c.check.ensures) in
-    listing d b e.sound (subst IsSound root c.check.ensures) (sym c.has_all_rows.ensures ∙ c.if-not-has_all_rows.false) (e.labels ∙ ap (λ s. s.labels) first.state) same
+    let same : lists d ≡ lists_of b = e.lists ∙ ap₂ (λ t s. with_tree [] t (seen s)) root c.requires.empty ∙ tree-listed b (subst IsSound root c.check.ensures) in
+    listing d b e.sound (subst IsSound root c.check.ensures) (sym c.has_all_rows.ensures ∙ c.if-not-has_all_rows.false) (e.labels ∙ ap (λ s. s.labels) c.requires.empty) same
