@@ -143,7 +143,9 @@ pub fn edit_items<'d, 't>(
     let mut made = Made::new(alloc);
     let mut extensions = 0;
     for item in items {
-        edit_item(draft, &mut made, plugin, fragments, extensions, item)?;
+        if let Err(error) = edit_item(draft, &mut made, plugin, fragments, extensions, item) {
+            return Err(error);
+        }
         extensions += extensions_in(item);
     }
     Ok(())
