@@ -1,7 +1,7 @@
-use Rattle.std.proofs.Common.{◌≡◌, ◌<◌, ◌++◌, ◌∷◌, [], ℕ, List, length, slice_index_or, ap, ap₂, sym, ◌∙◌, arith}
+use Rattle.std.proofs.Common.{◌≡◌, ◌++◌, ◌∷◌, [], List, slice_index_or, ap, ap₂, sym, ◌∙◌}
 use Rattle.std.specs.List.{list_any}
 use Rattle.dt_draft.specs.declared.index.Place.{Place}
-use Rattle.dt_draft.specs.Index.{absent, place_of, slot_of}
+use Rattle.dt_draft.specs.Index.{absent, slot_of}
 use Rattle.dt_draft.proofs.Keys.{Key, is_this, as-met, as-new, met-more, slot-more}
 use Rattle.dt_draft.proofs.index.Index.slot.Goals as goal
 

@@ -1,4 +1,4 @@
-use Rattle.std.proofs.Common.{◌≡◌, ◌+◌, ◌∙◌, List, [], ℕ, Bor, Ok, map, get_or, drop, length, refl, sym, ap}
+use Rattle.std.proofs.Common.{◌≡◌, ◌+◌, ◌∙◌, List, [], ℕ, Bor, Ok, map, get_or, drop, refl, sym, ap}
 use Rattle.std.proofs.lemmas.List.{at_drop_more, at_drop_all}
 use Rattle.dt_meaning.specs.Edits.{label_path}
 use Rattle.dt_meaning.specs.Statements.{give_label, give_labels, then_do}
