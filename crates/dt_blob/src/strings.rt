@@ -2,7 +2,7 @@
 ghost use Rattle.std.specs.Prelude.{◌≡◌, ℕ, List, ◌+◌, ◌≤◌, ◌<◌, ◌++◌, [], true, Option, None, slice_index_or, length, take, drop, IfOk, OnOk, MatchResult};
 ghost use Rattle.dt_blob.specs.Blob.{limit, names_in};
 ghost use Rattle.dt_blob.specs.Strings.{ended, with_name, with_names};
-ghost use Rattle.dt_blob.specs.Steps.Table.{IsPlacedBehind, IsTable, IsClosed, Pending, no_zero, placed, with_sights};
+ghost use Rattle.dt_blob.specs.Steps.Table.{ArePlaced, IsPlacedBehind, IsTable, IsClosed, Pending, no_zero, placed, with_sights};
 ghost use Rattle.dt_blob.specs.Token.{tokens_of};
 ghost use Rattle.dt_blob.specs.Blob.{Refuses};
 
@@ -75,6 +75,15 @@ fn place_all(names: &Names, places: &mut [Option<usize>]) -> Result<usize, BlobE
     Ok(size)
 }
 
+/// The place of each name in the strings block, and the size of the block.
+fn places_of(alloc: Global, names: &Names) -> Result<(Vec<Option<usize>>, usize), BlobError>
+    ensures { MatchResult result (λ x. ArePlaced names.now x.0.items x.1) (λ e. Refuses (length (with_names [] names.now)) e) }
+{
+    let mut places = vec![in alloc; None; names.len()]?;
+    let size = place_all(names, places.as_mut_slice())?;
+    Ok((places, size))
+}
+
 /// The names of a tree, and where each stands in the strings block.
 #[derive(Drop)]
 pub(crate) struct Strings<'a> {
@@ -100,9 +109,7 @@ impl<'a> Strings<'a> {
         ensures { MatchResult result (λ strings. strings ≡ with_sights [] (names_in (tokens_of root.now))) (λ e. Refuses (length (with_names [] (with_sights [] (names_in (tokens_of root.now))))) e) }
     {
         let names = Names::below(alloc, hasher, root)?;
-        let mut places = Vec::with_capacity(alloc, names.len())?;
-        places.resize(names.len(), None)?;
-        let size = place_all(&names, places.as_mut_slice())?;
+        let (places, size) = places_of(alloc, &names)?;
         Ok(Self {
             names,
             places,
