@@ -53,6 +53,10 @@ over (Err d) e new whole m p h l = rw p (refuses-more m (length whole) e l h)
 pub part-over : {T : Type 0} (r : Result T BlobError) (e : BlobError) (new part rest whole : List ℕ) → IsErrAnd r (λ d. d ≡ e) → Refuses (length part) e → part ++ rest ≡ whole → Prints r new whole
 part-over r e new part rest whole p h s = over r e new whole (length part) p h (omega (arith, ap length s, length-append part rest))
 
+-- the second part behind the first
+pub both-parts : (out first b p r : List ℕ) → first ≡ out ++ b → (first ++ p) ++ r ≡ out ++ (b ++ (p ++ r))
+both-parts out first b p r e = ap (λ xs. (xs ++ p) ++ r) e ∙ append_assoc (out ++ b) p r ∙ append_assoc out b (p ++ r)
+
 siblings-lines : (depth : ℕ) (b : NodeData) (bs : List NodeData) → sibling_lines depth (siblings (b ∷ bs)) ≡ node_lines depth b.name b ++ sibling_lines depth (siblings bs)
 siblings-lines depth b bs = simp append_assoc
 
