@@ -1,1 +1,2 @@
 mod MetLemmas
+pub mod Making

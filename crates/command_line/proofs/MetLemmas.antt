@@ -1,7 +1,7 @@
 -- The subcommand that a parse met, from what its getters answer.
 use Rattle.std.proofs.Common.{◌≡◌, ℕ, List, Option, Some, None, Result, Ok, option_map, sym, ◌∙◌, subst, true, refl}
 use Rattle.std.specs.Str.Parse.{ParsesUnsigned}
-use Rattle.std.specs.Prelude.{Box}
+use Rattle.std.specs.Prelude.{Box, IfSome}
 use Rattle.std.specs.Box.{box_value}
 use Rattle.clap.specs.Words.{ReadsOne, Row, Text, first_of, first_value, is_simple, one_of, one_text, rows_of}
 use Rattle.clap.specs.Matches.{subcommand_name_of, found_of}
@@ -10,7 +10,8 @@ use Rattle.clap.specs.declared.parser.matches.ArgMatches.{ArgMatches}
 use Rattle.clap.specs.declared.parser.matches.ArgMatches.TheViews.{out-ArgMatches, out-SubCommand}
 use Rattle.clap.specs.declared.parser.matches.SubCommand.{SubCommand}
 use Rattle.clap.proofs.WalkLemmas.{first_value-rows, one_text-rows}
-use Rattle.command_line.specs.CommandLine.{IsNumber}
+use Rattle.command_line.specs.CommandLine.{IsMet, IsNumber, Meets}
+use Rattle.command_line.specs.declared.subcommand.Command.{Command}
 use Rattle.command_line.specs.Grammar.{dtman}
 
 pairs : {Z : Type 0} (o : Option (Box SubCommand Z)) (name : Text) (rows : List Row)
@@ -26,6 +27,19 @@ pub met : (m : ArgMatches) (name : Text) (rows : List Row)
     → Some rows ≡ option_map (λ p. p.1) (subcommand_rows (out-ArgMatches m).subcommand)
     → subcommand_rows_of m ≡ Some (name, rows)
 met m name rows e f = pairs (out-ArgMatches m).subcommand name rows e f
+
+-- the subcommand of a word, as its arm reads it
+pub meets : (m : ArgMatches) (name word : Text) (rows : List Row) (read : Option Command)
+    → Some name ≡ subcommand_name_of m
+    → Some rows ≡ option_map (λ p. p.1) (subcommand_rows (out-ArgMatches m).subcommand)
+    → name ≡ word → IfSome read (λ command. IsMet command word rows) → IfSome read (λ command. Meets command (subcommand_rows_of m))
+meets m name word rows None e f is h = tt
+meets m name word rows (Some command) e f is h = record {
+  name = name;
+  rows = rows;
+  given = met m name rows e f;
+  is_met = subst (λ (n : Text). IsMet command n rows) (sym is) h;
+}
 
 -- a value of it
 pub value : (m : ArgMatches) (id text : Text) → Some text ≡ first_value (found_of m) id → first_of id (rows_of (found_of m)) ≡ Some text

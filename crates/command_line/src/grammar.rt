@@ -1,8 +1,9 @@
 //! What the command line may say, as `clap` reads it.
 ghost use Rattle.std.specs.Prelude.{◌≡◌, false, IfOk};
-ghost use Rattle.clap.specs.Words.{app_of, rule_of};
+ghost use Rattle.clap.specs.Words.{App, Rule, app_of, new_app, rule_of, with_rule, with_subcommand};
 ghost use Rattle.clap.specs.declared.builder.command.Command.TheViews.{out-Command};
 ghost use Rattle.command_line.specs.Grammar as spec;
+ghost use Rattle.command_line.specs.Making.{Makes};
 
 use bus_manager::MAX_WORKERS;
 use clap::builder::ValueParser;
@@ -27,14 +28,45 @@ Lines that begin with # are skipped.";
 pub fn grammar<'a>(alloc: Global) -> Result<Command<'a>, AllocError>
     ensures { IfOk result (λ c. (app_of c ≡ spec.dtman) × ((out-Command c).has_globals ≡ false)) }
 {
-    // A subcommand is made when it is added, so that no other is held where memory is refused.
-    let app = top(alloc).subcommand(compile(alloc)?)?;
-    let app = app.subcommand(overlay(alloc)?)?;
-    let app = app.subcommand(dump(alloc)?)?;
-    let app = app.subcommand(plan(alloc)?)?;
-    let app = app.subcommand(replay(alloc)?)?;
-    let app = app.subcommand(probe(alloc)?)?;
-    app.subcommand(explain(alloc)?)
+    let app = add_subcommand(Ok(top(alloc)), compile(alloc));
+    let app = add_subcommand(app, overlay(alloc));
+    let app = add_subcommand(app, dump(alloc));
+    let app = add_subcommand(app, plan(alloc));
+    let app = add_subcommand(app, replay(alloc));
+    let app = add_subcommand(app, probe(alloc));
+    add_subcommand(app, explain(alloc))
+}
+
+/// Adds a subcommand, unless memory was refused. It takes what may be refused, so that its callers have one way out.
+fn add_subcommand<'a>(
+    command: Result<Command<'a>, AllocError>,
+    subcommand: Result<Command<'a>, AllocError>,
+) -> Result<Command<'a>, AllocError>
+    ensures { (app : App) (other : App) → Makes command.entry app → Makes subcommand.entry other → Makes result (with_subcommand app other.top) }
+{
+    let command = command?;
+    let subcommand = subcommand?;
+    command.subcommand(subcommand)
+}
+
+/// Adds an argument, unless memory was refused.
+fn add_argument<'a>(
+    command: Result<Command<'a>, AllocError>,
+    argument: Arg<'a>,
+) -> Result<Command<'a>, AllocError>
+    requires { argument.global ≡ false }
+    ensures { (app : App) (rule : Rule) → Makes command.entry app → rule_of argument.entry ≡ rule → Makes result (with_rule app rule) }
+{
+    let command = command?;
+    command.arg(argument)
+}
+
+/// A command without arguments.
+fn named<'a>(alloc: Global, name: &'a str, about: &'a str) -> Command<'a>
+    ensures shape { app_of result ≡ new_app name.now }
+    ensures globals { (out-Command result).has_globals ≡ false }
+{
+    Command::new(alloc, name).about(about)
 }
 
 /// The program without its subcommands.
@@ -52,80 +84,70 @@ fn top<'a>(alloc: Global) -> Command<'a>
 fn compile<'a>(alloc: Global) -> Result<Command<'a>, AllocError>
     ensures { IfOk result (λ c. (app_of c ≡ spec.compile) × ((out-Command c).has_globals ≡ false)) }
 {
-    Command::new(alloc, "compile")
-        .about("Compiles a source to a blob")
-        .arg(required(alloc, "IN", "The source"))?
-        .arg(required(
-            alloc,
-            "OUT",
-            "The blob, which is written once all of it is ready",
-        ))?
-        .arg(flag(alloc, "symbols", "Adds the paths of all labelled nodes"))
+    let about = "Compiles a source to a blob";
+    let out = "The blob, which is written once all of it is ready";
+    let symbols = "Adds the paths of all labelled nodes";
+    let command = named(alloc, "compile", about).arg(required(alloc, "IN", "The source"));
+    let command = add_argument(command, required(alloc, "OUT", out));
+    add_argument(command, flag(alloc, "symbols", symbols))
 }
 
 fn overlay<'a>(alloc: Global) -> Result<Command<'a>, AllocError>
     ensures { IfOk result (λ c. (app_of c ≡ spec.overlay) × ((out-Command c).has_globals ≡ false)) }
 {
-    Command::new(alloc, "overlay")
-        .about("Applies an overlay to a base")
-        .arg(required(alloc, "BASE", "The base's blob"))?
-        .arg(required(alloc, "OVERLAY", "The overlay's blob"))?
-        .arg(required(
-            alloc,
-            "OUT",
-            "The blob, which is written once all of it is ready",
-        ))
+    let about = "Applies an overlay to a base";
+    let out = "The blob, which is written once all of it is ready";
+    let command = named(alloc, "overlay", about).arg(required(alloc, "BASE", "The base's blob"));
+    let command = add_argument(command, required(alloc, "OVERLAY", "The overlay's blob"));
+    add_argument(command, required(alloc, "OUT", out))
 }
 
 fn dump<'a>(alloc: Global) -> Result<Command<'a>, AllocError>
     ensures { IfOk result (λ c. (app_of c ≡ spec.dump) × ((out-Command c).has_globals ≡ false)) }
 {
-    Command::new(alloc, "dump")
-        .about("Prints a blob as a canonical source")
-        .arg(required(alloc, "IN", "The blob"))
+    let about = "Prints a blob as a canonical source";
+    named(alloc, "dump", about).arg(required(alloc, "IN", "The blob"))
 }
 
 fn plan<'a>(alloc: Global) -> Result<Command<'a>, AllocError>
     ensures { IfOk result (λ c. (app_of c ≡ spec.plan) × ((out-Command c).has_globals ≡ false)) }
 {
-    Command::new(alloc, "plan")
-        .about("Prints the plan of a blob: its devices with their drivers and suppliers")
-        .arg(required(alloc, "BLOB", "The blob"))?
-        .arg(required(alloc, "DRIVERS", "The driver file"))?
-        .arg(flag(alloc, "dot", "Prints a Graphviz graph instead"))
+    let about = "Prints the plan of a blob: its devices with their drivers and suppliers";
+    let command = named(alloc, "plan", about).arg(required(alloc, "BLOB", "The blob"));
+    let command = add_argument(command, required(alloc, "DRIVERS", "The driver file"));
+    add_argument(
+        command,
+        flag(alloc, "dot", "Prints a Graphviz graph instead"),
+    )
 }
 
 fn replay<'a>(alloc: Global) -> Result<Command<'a>, AllocError>
     ensures { IfOk result (λ c. (app_of c ≡ spec.replay) × ((out-Command c).has_globals ≡ false)) }
 {
-    Command::new(alloc, "replay")
-        .about("Replays a schedule of probe events over a plan and prints the report")
-        .arg(required(alloc, "PLAN", "The plan file"))?
-        .arg(required(alloc, "SCHEDULE", "The schedule of events"))
+    let about = "Replays a schedule of probe events over a plan and prints the report";
+    let command = named(alloc, "replay", about).arg(required(alloc, "PLAN", "The plan file"));
+    add_argument(
+        command,
+        required(alloc, "SCHEDULE", "The schedule of events"),
+    )
 }
 
 fn probe<'a>(alloc: Global) -> Result<Command<'a>, AllocError>
     ensures { IfOk result (λ c. (app_of c ≡ spec.probe) × ((out-Command c).has_globals ≡ false)) }
 {
-    Command::new(alloc, "probe")
-        .about("Binds the devices of a blob by workers and prints the end report")
-        .arg(required(alloc, "BLOB", "The blob"))?
-        .arg(required(alloc, "DRIVERS", "The driver file"))?
-        .arg(number(
-            alloc,
-            "workers",
-            MAX_WORKERS as u64,
-            "4",
-            "How many probe at once, 1 to 64",
-        ))
+    let about = "Binds the devices of a blob by workers and prints the end report";
+    let workers = "How many probe at once, 1 to 64";
+    let most = MAX_WORKERS as u64;
+    let command = named(alloc, "probe", about).arg(required(alloc, "BLOB", "The blob"));
+    let command = add_argument(command, required(alloc, "DRIVERS", "The driver file"));
+    add_argument(command, number(alloc, "workers", most, "4", workers))
 }
 
 fn explain<'a>(alloc: Global) -> Result<Command<'a>, AllocError>
     ensures { IfOk result (λ c. (app_of c ≡ spec.explain) × ((out-Command c).has_globals ≡ false)) }
 {
-    Command::new(alloc, "explain")
-        .about("Says what an error's number means, and what to do about it")
-        .arg(required(alloc, "NUMBER", "The number behind `error`"))
+    let about = "Says what an error's number means, and what to do about it";
+    named(alloc, "explain", about).arg(required(alloc, "NUMBER", "The number behind `error`"))
 }
 
 fn required<'a>(alloc: Global, name: &'a str, about: &'a str) -> Arg<'a>

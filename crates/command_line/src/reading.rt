@@ -2,7 +2,8 @@
 ghost use Rattle.std.specs.Prelude.{◌≡◌, ◌≤◌, IfOk, IfSome, codes, map};
 ghost use Rattle.clap.specs.Words.{app_of, first_of, one_of, found_of, rows_of};
 ghost use Rattle.clap.specs.Simple.{subcommand_rows_of};
-ghost use Rattle.command_line.specs.CommandLine.{Meets, Says, is_on, IsNumber};
+ghost use Rattle.command_line.specs.Grammar.{dtman};
+ghost use Rattle.command_line.specs.CommandLine.{IsMet, Meets, Says, is_on, IsNumber};
 
 use crate::grammar::grammar;
 use crate::subcommand::Command;
@@ -16,13 +17,26 @@ pub fn command<'a>(alloc: Global, words: &'a [&'a str]) -> Result<Command<'a>, E
     ensures { IfOk result (λ command. Says command (map (λ word. word.now) words.entry.now)) }
 {
     let mut grammar = grammar(alloc)?;
+    read(&mut grammar, words)
+}
+
+/// Reads words by a grammar, which it borrows, so that no way out drops it.
+fn read<'a>(grammar: &mut clap::Command<'a>, words: &'a [&'a str]) -> Result<Command<'a>, Error>
+    requires { app_of grammar.old ≡ dtman }
+    ensures { IfOk result (λ command. Says command (map (λ word. word.now) words.entry.now)) }
+{
     let matches = grammar.try_get_matches_from_mut(words)?;
     match chosen(&matches) {
         Some(command) => Ok(command),
-        None => {
-            let error = grammar.error(ErrorKind::MissingSubcommand, "a subcommand is required")?;
-            Err(error)
-        }
+        None => Err(no_subcommand(grammar)),
+    }
+}
+
+/// The error of words without a subcommand, or the want of memory for it.
+fn no_subcommand(grammar: &mut clap::Command<'_>) -> Error {
+    match grammar.error(ErrorKind::MissingSubcommand, "a subcommand is required") {
+        Ok(error) => error,
+        Err(refused) => Error::from(refused),
     }
 }
 
@@ -32,38 +46,80 @@ fn chosen<'a>(matches: &ArgMatches<'a>) -> Option<Command<'a>>
 {
     let (name, given) = matches.subcommand()?;
     match name {
-        "compile" => Some(Command::Compile {
-            source: given.get_str("IN")?,
-            out: given.get_str("OUT")?,
-            symbols: is_on(given, "symbols"),
-        }),
-        "overlay" => Some(Command::Overlay {
-            base: given.get_str("BASE")?,
-            overlay: given.get_str("OVERLAY")?,
-            out: given.get_str("OUT")?,
-        }),
-        "dump" => Some(Command::Dump {
-            blob: given.get_str("IN")?,
-        }),
-        "plan" => Some(Command::Plan {
-            blob: given.get_str("BLOB")?,
-            drivers: given.get_str("DRIVERS")?,
-            dot: is_on(given, "dot"),
-        }),
-        "probe" => Some(Command::Probe {
-            blob: given.get_str("BLOB")?,
-            drivers: given.get_str("DRIVERS")?,
-            workers: workers(given)?,
-        }),
-        "replay" => Some(Command::Replay {
-            plan: given.get_str("PLAN")?,
-            schedule: given.get_str("SCHEDULE")?,
-        }),
-        "explain" => Some(Command::Explain {
-            number: given.get_str("NUMBER")?,
-        }),
+        "compile" => compile(given),
+        "overlay" => overlay(given),
+        "dump" => dump(given),
+        "plan" => plan(given),
+        "probe" => probe(given),
+        "replay" => replay(given),
+        "explain" => explain(given),
         _ => None,
     }
+}
+
+fn compile<'a>(given: &ArgMatches<'a>) -> Option<Command<'a>>
+    ensures { IfSome result (λ command. IsMet command (codes "compile") (rows_of (found_of given.now))) }
+{
+    Some(Command::Compile {
+        source: given.get_str("IN")?,
+        out: given.get_str("OUT")?,
+        symbols: is_on(given, "symbols"),
+    })
+}
+
+fn overlay<'a>(given: &ArgMatches<'a>) -> Option<Command<'a>>
+    ensures { IfSome result (λ command. IsMet command (codes "overlay") (rows_of (found_of given.now))) }
+{
+    Some(Command::Overlay {
+        base: given.get_str("BASE")?,
+        overlay: given.get_str("OVERLAY")?,
+        out: given.get_str("OUT")?,
+    })
+}
+
+fn dump<'a>(given: &ArgMatches<'a>) -> Option<Command<'a>>
+    ensures { IfSome result (λ command. IsMet command (codes "dump") (rows_of (found_of given.now))) }
+{
+    Some(Command::Dump {
+        blob: given.get_str("IN")?,
+    })
+}
+
+fn plan<'a>(given: &ArgMatches<'a>) -> Option<Command<'a>>
+    ensures { IfSome result (λ command. IsMet command (codes "plan") (rows_of (found_of given.now))) }
+{
+    Some(Command::Plan {
+        blob: given.get_str("BLOB")?,
+        drivers: given.get_str("DRIVERS")?,
+        dot: is_on(given, "dot"),
+    })
+}
+
+fn probe<'a>(given: &ArgMatches<'a>) -> Option<Command<'a>>
+    ensures { IfSome result (λ command. IsMet command (codes "probe") (rows_of (found_of given.now))) }
+{
+    Some(Command::Probe {
+        blob: given.get_str("BLOB")?,
+        drivers: given.get_str("DRIVERS")?,
+        workers: workers(given)?,
+    })
+}
+
+fn replay<'a>(given: &ArgMatches<'a>) -> Option<Command<'a>>
+    ensures { IfSome result (λ command. IsMet command (codes "replay") (rows_of (found_of given.now))) }
+{
+    Some(Command::Replay {
+        plan: given.get_str("PLAN")?,
+        schedule: given.get_str("SCHEDULE")?,
+    })
+}
+
+fn explain<'a>(given: &ArgMatches<'a>) -> Option<Command<'a>>
+    ensures { IfSome result (λ command. IsMet command (codes "explain") (rows_of (found_of given.now))) }
+{
+    Some(Command::Explain {
+        number: given.get_str("NUMBER")?,
+    })
 }
 
 /// Whether an option without a value was given.

@@ -3,11 +3,11 @@ use Rattle.std.proofs.Common.{ap, subst, map, ◌∙◌}
 use Rattle.clap.specs.Words.{App, is_simple, subcommand_of}
 use Rattle.command_line.specs.CommandLine.{Meets}
 use Rattle.command_line.proofs.MetLemmas.{dtman_is_simple}
-use Rattle.command_line.proofs.reading.command.Goals as goal
+use Rattle.command_line.proofs.reading.read.Goals as goal
 
 pub returns-in-Some : goal.returns-in-Some
 returns-in-Some c =
     let words = map (λ word. word.now) c.args.words.now in
-    let defined = c.in_ok-grammar.ensures.0 in
+    let defined = c.requires in
     let matches = c.in_ok-matches.ensures.ok.2 (ap is_simple defined ∙ dtman_is_simple) in
     subst (λ met. Meets c.in-Some.command met) (matches.1 ∙ ap (λ (a : App). subcommand_of a words) defined) c.in-Some.ensures
