@@ -114,6 +114,11 @@ length-by_pairs v s t =
     let e = text-else (are_strings false v) (length v % 4 == 0) (34 ∷ strings_text false v) (60 ∷ (cells_text false v ++ 62 ∷ [])) (91 ∷ (pairs_text false v ++ 93 ∷ [])) s t in
     omega (arith, ap length e, length-append (pairs_text false v) (93 ∷ []), length-pairs v (not-none v s))
 
+form-strings : (s t : Bool) → form.Strings ≡ (if s then form.Strings else (if t then form.Cells else form.Pairs)) → s ≡ true
+form-strings true t e = refl
+form-strings false true e = absurd (cc)
+form-strings false false e = absurd (cc)
+
 form-cells : (s t : Bool) → form.Cells ≡ (if s then form.Strings else (if t then form.Cells else form.Pairs)) → (s ≡ false) × (t ≡ true)
 form-cells true t e = absurd (cc)
 form-cells false true e = (refl, refl)
@@ -123,6 +128,22 @@ form-pairs : (s t : Bool) → form.Pairs ≡ (if s then form.Strings else (if t 
 form-pairs true t e = absurd (cc)
 form-pairs false true e = absurd (cc)
 form-pairs false false e = (refl, refl)
+
+-- the text of a value, by its form
+pub text-in_strings : (v : List ℕ) → form.Strings ≡ form_of v → 34 ∷ strings_text false v ≡ value_text v
+text-in_strings v e =
+    let is = form-strings (are_strings false v) (length v % 4 == 0) e in
+    sym (text-first (are_strings false v) (34 ∷ strings_text false v) (if length v % 4 == 0 then 60 ∷ (cells_text false v ++ 62 ∷ []) else 91 ∷ (pairs_text false v ++ 93 ∷ [])) is)
+
+pub text-in_cells : (v : List ℕ) → form.Cells ≡ form_of v → 60 ∷ (cells_text false v ++ 62 ∷ []) ≡ value_text v
+text-in_cells v e =
+    let parts = form-cells (are_strings false v) (length v % 4 == 0) e in
+    sym (text-by (are_strings false v) (length v % 4 == 0) (34 ∷ strings_text false v) (60 ∷ (cells_text false v ++ 62 ∷ [])) (91 ∷ (pairs_text false v ++ 93 ∷ [])) parts.0 parts.1)
+
+pub text-in_pairs : (v : List ℕ) → form.Pairs ≡ form_of v → 91 ∷ (pairs_text false v ++ 93 ∷ []) ≡ value_text v
+text-in_pairs v e =
+    let parts = form-pairs (are_strings false v) (length v % 4 == 0) e in
+    sym (text-else (are_strings false v) (length v % 4 == 0) (34 ∷ strings_text false v) (60 ∷ (cells_text false v ++ 62 ∷ [])) (91 ∷ (pairs_text false v ++ 93 ∷ [])) parts.0 parts.1)
 
 pub length-in_cells : (v : List ℕ) → form.Cells ≡ form_of v → length v / 4 * 11 + 1 ≡ length (value_text v)
 length-in_cells v e =

@@ -109,6 +109,14 @@ begun-node offset b out first second name ps s ef es en ep ec =
     let k = all_bytes offset (sibling_tokens b.children) in
     rw (es, ef, en, ep, ec) (append_assoc (out ++ n) p (k ++ word 2) ∙ append_assoc out n (p ++ (k ++ word 2)) ∙ ap (λ (bs : List ℕ). out ++ bs) (sym (bytes-node offset b)))
 
+pub next-property : (offset : List ℕ → ℕ) (ps : List Property) (i : ℕ) (p : Property) (out new whole name value : List ℕ) (at : ℕ) → i < length ps → p ≡ get_or ps i p → name ≡ p.name → value ≡ p.value → at ≡ offset name
+    → new ≡ out ++ (word 3 ++ (word (length value) ++ (word at ++ (value ++ padding (length value))))) → out ++ all_bytes offset (property_tokens (drop i ps)) ≡ whole → new ++ all_bytes offset (property_tokens (drop (i + 1) ps)) ≡ whole
+next-property offset ps i p out new whole name value at h e en ev ea is left =
+    let t = bytes_by offset (property p.name p.value) in
+    let r = all_bytes offset (property_tokens (drop (i + 1) ps)) in
+    let put : new ≡ out ++ t = is ∙ rw (ea, en, ev) refl in
+    ap (λ (o : List ℕ). o ++ r) put ∙ append_assoc out t r ∙ ap (λ (x : List ℕ). out ++ x) (sym (ap (all_bytes offset) (left-property ps i p h e))) ∙ left
+
 pub next-node : (offset : List ℕ → ℕ) (bs : List NodeData) (i : ℕ) (b : NodeData) (out new whole : List ℕ) → i < length bs → b ≡ get_or bs i b → new ≡ out ++ all_bytes offset (tokens_of b)
     → out ++ (all_bytes offset (sibling_tokens (siblings (drop i bs))) ++ word 2) ≡ whole → new ++ (all_bytes offset (sibling_tokens (siblings (drop (i + 1) bs))) ++ word 2) ≡ whole
 next-node offset bs i b out new whole h e is left =
