@@ -5,6 +5,7 @@ use dt_expression::{
 };
 use dt_lexeme::{Fault, FaultKind, Kind, Lexeme, Refusal, RefusalKind, scan};
 use std::alloc::Global;
+use std::process::Abort;
 
 // The first cell of a property: its value or fault. Seven lexemes stand before it.
 fn first_cell(alloc: Global, text: &[u8]) -> Result<Result<u64, Fault>, Refusal> {
@@ -27,12 +28,32 @@ fn first_cell(alloc: Global, text: &[u8]) -> Result<Result<u64, Fault>, Refusal>
     }
 }
 
+/// Where a literal starts and ends, its bytes, its value or fault.
+type Literal = (u32, u32, &'static [u8], Result<u64, Fault>);
+
+fn is_read(rt: &impl Abort, text: &[u8], row: &Literal) {
+    let (start, end, bytes, value) = *row;
+    let lexeme = Lexeme {
+        kind: Kind::Literal,
+        start,
+        end,
+    };
+    assert_eq!(rt; bytes_of(text, lexeme), bytes);
+    assert_eq!(rt; literal(text, lexeme), value);
+    refusals_tell_it(rt, lexeme);
+}
+
+fn refusals_tell_it(rt: &impl Abort, lexeme: Lexeme) {
+    assert_eq!(rt; syntax_at([lexeme].as_slice()).place, lexeme.start);
+    assert_eq!(rt; too_deep(lexeme).kind, RefusalKind::TooDeep);
+}
+
 #[test]
 fn literals(rt: HostRuntime) {
     reads_the_grammar();
     let text = b" 0x1fUL 08";
-    let rows = [
-        (1, 7, b"0x1fUL".as_slice(), Ok(31)),
+    let rows: [Literal; 2] = [
+        (1, 7, b"0x1fUL", Ok(31)),
         (
             8,
             10,
@@ -43,24 +64,16 @@ fn literals(rt: HostRuntime) {
             }),
         ),
     ];
-    for (start, end, bytes, value) in rows {
-        let lexeme = Lexeme {
-            kind: Kind::Literal,
-            start,
-            end,
-        };
-        assert_eq!(rt; bytes_of(text, lexeme), bytes);
-        assert_eq!(rt; literal(text, lexeme), value);
-        assert_eq!(rt; syntax_at([lexeme].as_slice()).place, start);
-        assert_eq!(rt; too_deep(lexeme).kind, RefusalKind::TooDeep);
+    for row in &rows {
+        is_read(&rt, text, row);
     }
     assert_eq!(rt; digit_of(b'F'), 15);
 }
 
 #[test]
 fn cells(rt: HostRuntime) {
-    let rows = [
-        (b"/dts-v1/; / { p = <(1 << 64)>; };".as_slice(), 0),
+    let rows: [(&[u8], u64); 10] = [
+        (b"/dts-v1/; / { p = <(1 << 64)>; };", 0),
         (b"/dts-v1/; / { p = <(0 - 1)>; };", 0xffff_ffff_ffff_ffff),
         (b"/dts-v1/; / { p = <(2 + 3 * 4)>; };", 14),
         (b"/dts-v1/; / { p = <(8 - 4 - 2)>; };", 2),
@@ -71,16 +84,16 @@ fn cells(rt: HostRuntime) {
         (b"/dts-v1/; / { p = <(!0 + ~0xfUL % 010)>; };", 1),
         (b"/dts-v1/; / { p = <0X1fULL>; };", 31),
     ];
-    for (text, value) in rows {
-        assert_eq!(rt; first_cell(rt.alloc(), text), Ok(Ok(value)));
+    for (text, value) in &rows {
+        assert_eq!(rt; first_cell(rt.alloc(), *text), Ok(Ok(*value)));
     }
 }
 
 #[test]
 fn faults(rt: HostRuntime) {
-    let rows = [
+    let rows: [(&[u8], FaultKind, u32); 5] = [
         (
-            b"/dts-v1/; / { p = <(0 && 1 / 0)>; };".as_slice(),
+            b"/dts-v1/; / { p = <(0 && 1 / 0)>; };",
             FaultKind::DivideByZero,
             27,
         ),
@@ -101,11 +114,12 @@ fn faults(rt: HostRuntime) {
             24,
         ),
     ];
-    for (text, kind, place) in rows {
-        assert_eq!(rt;
-            first_cell(rt.alloc(), text),
-            Ok(Err(Fault { kind, place }))
-        );
+    for (text, kind, place) in &rows {
+        let fault = Fault {
+            kind: *kind,
+            place: *place,
+        };
+        assert_eq!(rt; first_cell(rt.alloc(), *text), Ok(Err(fault)));
     }
 }
 
@@ -116,8 +130,8 @@ fn nesting(rt: HostRuntime) {
         b"/dts-v1/; / { p = <(---------------------------------------------------------------1)>; };",
         b"/dts-v1/; / { p = <(1?1:1?1:1?1:1?1:1?1:1?1:1?1:1?1:1?1:1?1:1?1:1?1:1?1:1?1:1?1:1?1:1?1:1?1:1?1:1?1:1?1:1?1:1?1:1?1:1?1:1?1:1?1:1?1:1?1:1?1:1?1:1?1:1?1:1?1:1?1:1?1:1?1:1?1:1?1:1?1:1?1:1?1:1?1:1?1:1?1:1?1:1?1:1?1:1?1:1?1:1?1:1?1:1?1:1?1:1?1:1?1:1?1:1?1:1?1:1?1:1?1:1?1:1?1:1)>; };",
     ];
-    for text in within {
-        assert!(rt; first_cell(rt.alloc(), text).is_ok());
+    for text in &within {
+        assert!(rt; first_cell(rt.alloc(), *text).is_ok());
     }
     let beyond = [
         (
@@ -139,14 +153,39 @@ fn nesting(rt: HostRuntime) {
         (b"/dts-v1/; / { p = <()>; };", RefusalKind::Syntax, 20),
         (b"/dts-v1/; / { p = <(1 +", RefusalKind::Syntax, u32::MAX),
     ];
-    for (text, kind, place) in beyond {
-        assert_eq!(rt; first_cell(rt.alloc(), text), Err(Refusal { kind, place }));
+    for (text, kind, place) in &beyond {
+        let refusal = Refusal {
+            kind: *kind,
+            place: *place,
+        };
+        assert_eq!(rt; first_cell(rt.alloc(), *text), Err(refusal));
     }
+}
+
+fn push_element(rt: &impl Abort, bytes: &mut Vec<u8>, bits: u64, number: u64) {
+    if let Some(width) = width_of(bits) {
+        assert_eq!(rt; element(width, 7, Ok(number)), Ok(number));
+        push_low_bytes(bytes, width, number).expect(rt, "memory");
+    }
+}
+
+fn makes(rt: &impl Abort, alloc: Global, bits: u64, number: u64, expected: &[u8]) {
+    let mut bytes = Vec::new(alloc);
+    push_element(rt, &mut bytes, bits, number);
+    assert_eq!(rt; bytes.as_slice(), expected);
+}
+
+fn is_out_of_range(rt: &impl Abort, width: Width, number: u64) {
+    let fault = Fault {
+        kind: FaultKind::ElementRange,
+        place: 7,
+    };
+    assert_eq!(rt; element(width, 7, Ok(number)), Err(fault));
 }
 
 #[test]
 fn elements(rt: HostRuntime) {
-    let accepted = [
+    let accepted: [(u64, u64, &[u8]); 9] = [
         (8, 1, [0x01].as_slice()),
         (8, 0xff, [0xff].as_slice()),
         (8, 0u64.wrapping_sub(1), [0xff].as_slice()),
@@ -165,27 +204,16 @@ fn elements(rt: HostRuntime) {
             [0xff, 0xff, 0xff, 0xff, 0xff, 0xff, 0xff, 0xff].as_slice(),
         ),
     ];
-    for (bits, number, expected) in accepted {
-        let mut bytes = Vec::new(rt.alloc());
-        if let Some(width) = width_of(bits) {
-            assert_eq!(rt; element(width, 7, Ok(number)), Ok(number));
-            push_low_bytes(&mut bytes, width, number).expect(&rt, "memory");
-        }
-        assert_eq!(rt; bytes.as_slice(), expected);
+    for (bits, number, expected) in &accepted {
+        makes(&rt, rt.alloc(), *bits, *number, *expected);
     }
     let refused = [
         (Width::Eight, 0u64.wrapping_sub(257)),
         (Width::Eight, 256),
         (Width::ThirtyTwo, 0x1_0000_0000),
     ];
-    for (width, number) in refused {
-        assert_eq!(rt;
-            element(width, 7, Ok(number)),
-            Err(Fault {
-                kind: FaultKind::ElementRange,
-                place: 7
-            })
-        );
+    for (width, number) in &refused {
+        is_out_of_range(&rt, *width, *number);
     }
     assert_eq!(rt; width_of(12), None);
 }

@@ -4,6 +4,7 @@ use dt_lexeme::{
     line_of, one_list, scan, scan_front,
 };
 use std::alloc::Global;
+use std::process::Abort;
 
 // Whether the text's lexemes have these kinds and lengths, whatever stands between them.
 fn are(alloc: Global, text: &[u8], kinds: &[(Kind, u32)]) -> bool {
@@ -19,38 +20,46 @@ fn are(alloc: Global, text: &[u8], kinds: &[(Kind, u32)]) -> bool {
             && l.end - l.start == *len)
 }
 
+// How many lexemes stand in front of where a text breaks off.
+fn front(rt: &impl Abort, alloc: Global, text: &[u8]) -> (usize, Option<u32>) {
+    assert!(rt; text.len() <= 1000);
+    let (front, stop) = scan_front(alloc, text).expect(rt, "lexemes");
+    (front.len(), stop)
+}
+
+fn has_lexemes(rt: &impl Abort, alloc: Global, text: &[u8], lexemes: &[Lexeme]) {
+    assert!(rt; text.len() <= 1000);
+    let found = scan(alloc, text).expect(rt, "lexemes");
+    assert_eq!(rt; found.as_slice(), lexemes);
+}
+
 #[test]
 fn places_of_lexemes(rt: HostRuntime) {
     one_list();
     lexemes_are_in_order();
     lexemes_are_lawful();
     let text = b"/dts-v1/;\n# 1 \"a.dts\"\n\t&{/a} ";
-    let (_, stop) = scan_front(rt.alloc(), text).expect(&rt, "lexemes");
+    let (_, stop) = front(&rt, rt.alloc(), text);
     assert_eq!(rt; stop, None);
-    let (front, stop) = scan_front(rt.alloc(), b"/dts-v1/; %").expect(&rt, "lexemes");
-    assert_eq!(rt; (front.len(), stop), (2, Some(10)));
-    let found = scan(rt.alloc(), text).expect(&rt, "lexemes");
-    assert_eq!(rt;
-        found.as_slice(),
-        [
-            Lexeme {
-                kind: Kind::Version,
-                start: 0,
-                end: 8
-            },
-            Lexeme {
-                kind: Kind::Semicolon,
-                start: 8,
-                end: 9
-            },
-            Lexeme {
-                kind: Kind::PathReference,
-                start: 23,
-                end: 28
-            },
-        ]
-        .as_slice()
-    );
+    assert_eq!(rt; front(&rt, rt.alloc(), b"/dts-v1/; %"), (2, Some(10)));
+    let lexemes = [
+        Lexeme {
+            kind: Kind::Version,
+            start: 0,
+            end: 8,
+        },
+        Lexeme {
+            kind: Kind::Semicolon,
+            start: 8,
+            end: 9,
+        },
+        Lexeme {
+            kind: Kind::PathReference,
+            start: 23,
+            end: 28,
+        },
+    ];
+    has_lexemes(&rt, rt.alloc(), text, &lexemes);
 }
 
 // Texts of statements with the kinds and lengths of their lexemes.
@@ -134,8 +143,8 @@ const STATEMENTS: [(&[u8], &[(Kind, u32)]); 9] = [
 
 #[test]
 fn statements(rt: HostRuntime) {
-    for (text, kinds) in STATEMENTS {
-        assert!(rt; are(rt.alloc(), text, kinds));
+    for (text, kinds) in &STATEMENTS {
+        assert!(rt; are(rt.alloc(), *text, *kinds));
     }
 }
 
@@ -265,15 +274,26 @@ const VALUES: [(&[u8], &[(Kind, u32)]); 9] = [
 
 #[test]
 fn values(rt: HostRuntime) {
-    for (text, kinds) in VALUES {
-        assert!(rt; are(rt.alloc(), text, kinds));
+    for (text, kinds) in &VALUES {
+        assert!(rt; are(rt.alloc(), *text, *kinds));
     }
+}
+
+// That a text breaks off at a place, which is in a line.
+fn breaks_off(rt: &impl Abort, alloc: Global, text: &[u8], place: u32, line: usize) {
+    assert!(rt; text.len() <= 1000);
+    let refusal = Refusal {
+        kind: RefusalKind::Syntax,
+        place,
+    };
+    assert_eq!(rt; scan(alloc, text).err(), Some(ReadError::Refused(refusal)));
+    assert_eq!(rt; line_of(text, place), line);
 }
 
 #[test]
 fn no_lexeme(rt: HostRuntime) {
-    let rows = [
-        (b";\n a".as_slice(), 3, 2),
+    let rows: [(&[u8], u32, usize); 16] = [
+        (b";\n a", 3, 2),
         (b"\n\"a\n", 1, 2),
         (b"\n\n/* *\n", 2, 3),
         (b"\"\\\"", 0, 1),
@@ -298,14 +318,7 @@ fn no_lexeme(rt: HostRuntime) {
         (b"1ul", 1, 1),
         (b"\x00", 0, 1),
     ];
-    for (text, place, line) in rows {
-        assert_eq!(rt;
-            scan(rt.alloc(), text),
-            Err(ReadError::Refused(Refusal {
-                kind: RefusalKind::Syntax,
-                place
-            }))
-        );
-        assert_eq!(rt; line_of(text, place), line);
+    for (text, place, line) in &rows {
+        breaks_off(&rt, rt.alloc(), *text, *place, *line);
     }
 }

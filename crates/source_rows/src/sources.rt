@@ -32,11 +32,15 @@ fn only_bytes<'s>(value: &'s [Part<'_>]) -> Option<&'s [u8]> {
     }
 }
 
+fn refusal(alloc: Global, text: &[u8]) -> Option<SourceError> {
+    parse(alloc, text).err()
+}
+
 // The number of the text's refusal, or 255.
 fn number(alloc: Global, text: &[u8]) -> u8 {
-    match parse(alloc, text) {
-        Err(e) => e.number(),
-        Ok(_) => 255,
+    match refusal(alloc, text) {
+        Some(e) => e.number(),
+        None => 255,
     }
 }
 
@@ -82,6 +86,17 @@ const VALUES: [(&[u8], &[u8]); 9] = [
     ),
 ];
 
+fn has_last_bytes(rt: &impl Abort, source: &Source<'_>, bytes: &[u8]) {
+    source.check();
+    let value = last_value(source).expect(rt, "a value");
+    assert_eq!(rt; only_bytes(value), Some(bytes));
+}
+
+fn says_bytes(rt: &impl Abort, alloc: Global, text: &[u8], bytes: &[u8]) {
+    let source = parse(alloc, text).expect(rt, "a source");
+    has_last_bytes(rt, &source, bytes);
+}
+
 #[test]
 fn values_of_bytes(rt: HostRuntime) {
     one_source();
@@ -89,17 +104,8 @@ fn values_of_bytes(rt: HostRuntime) {
     faults_are_in_order();
     says_lawful();
     bodies_are_lists();
-    for (text, bytes) in VALUES {
-        match parse(rt.alloc(), text) {
-            Err(_) => assert!(rt; false),
-            Ok(source) => {
-                source.check();
-                match last_value(&source) {
-                    None => assert!(rt; false),
-                    Some(value) => assert_eq!(rt; only_bytes(value), Some(bytes)),
-                }
-            }
-        }
+    for (text, bytes) in &VALUES {
+        says_bytes(&rt, rt.alloc(), *text, *bytes);
     }
 }
 
@@ -114,39 +120,43 @@ fn said<'s>(part: &'s Part<'_>) -> (&'static str, &'s [u8]) {
     }
 }
 
+// The parts that the next test's value says.
+const PARTS: [(&str, &[u8]); 7] = [
+    ("bytes", b"x\0"),
+    ("path of a label", b"l"),
+    ("bytes", &[0, 0, 0, 1]),
+    ("phandle of a label", b"m"),
+    ("bytes", &[0, 0, 0, 2, 3]),
+    ("path of a path", b"/a/b@1"),
+    ("bytes", &[0]),
+];
+
+fn is_said(rt: &impl Abort, part: &Part<'_>, kind: &str, bytes: &[u8]) {
+    let (found, said) = said(part);
+    assert_eq!(rt; found, kind);
+    assert_eq!(rt; said, bytes);
+}
+
+fn says_parts(rt: &impl Abort, source: &Source<'_>) {
+    let value = last_value(source).expect(rt, "a value");
+    assert_eq!(rt; value.len(), PARTS.len());
+    for (part, (kind, bytes)) in value.iter().zip(&PARTS) {
+        is_said(rt, part, *kind, *bytes);
+    }
+}
+
+fn says_no_parts(rt: &impl Abort, alloc: Global, text: &[u8]) {
+    let source = parse(alloc, text).expect(rt, "a source");
+    let value = last_value(&source).expect(rt, "a value");
+    assert!(rt; value.is_empty());
+}
+
 #[test]
 fn values_of_parts(rt: HostRuntime) {
     let text = b"/dts-v1/; / { p = [], \"x\", &l, <1 &m 2>, <>, [03], &{/a/b@1}, \"\"; };";
-    let parts = [
-        ("bytes", b"x\0".as_slice()),
-        ("path of a label", b"l"),
-        ("bytes", &[0, 0, 0, 1]),
-        ("phandle of a label", b"m"),
-        ("bytes", &[0, 0, 0, 2, 3]),
-        ("path of a path", b"/a/b@1"),
-        ("bytes", &[0]),
-    ];
-    match parse(rt.alloc(), text) {
-        Err(_) => assert!(rt; false),
-        Ok(source) => match last_value(&source) {
-            None => assert!(rt; false),
-            Some(value) => {
-                assert_eq!(rt; value.len(), parts.len());
-                for (i, (kind, bytes)) in parts.iter().enumerate() {
-                    let (found, said) = said(&value[i]);
-                    assert_eq!(rt; found, *kind);
-                    assert_eq!(rt; said, *bytes);
-                }
-            }
-        },
-    }
-    match parse(rt.alloc(), b"/dts-v1/; / { p = [], <>; };") {
-        Err(_) => assert!(rt; false),
-        Ok(source) => match last_value(&source) {
-            None => assert!(rt; false),
-            Some(value) => assert!(rt; value.is_empty()),
-        },
-    }
+    let source = parse(rt.alloc(), text).expect(&rt, "a source");
+    says_parts(&rt, &source);
+    says_no_parts(&rt, rt.alloc(), b"/dts-v1/; / { p = [], <>; };");
 }
 
 // Sources, the number of their refusal (255 for none), and its line.
@@ -189,101 +199,145 @@ const REFUSALS: [(&[u8], u8, usize); 27] = [
     (b"/dts-v1/;\n/ { a = <(1 / 0)>; } };", 10, 2),
 ];
 
-#[test]
-fn refusals(rt: HostRuntime) {
-    for (text, refused, line) in REFUSALS {
-        match parse(rt.alloc(), text) {
-            Ok(_) => assert_eq!(rt; refused, 255),
-            Err(e) => {
-                assert_eq!(rt; e.number(), refused);
-                assert_eq!(rt; e.line, line);
-            }
+fn is_refused(rt: &impl Abort, alloc: Global, text: &[u8], refused: u8, line: usize) {
+    match refusal(alloc, text) {
+        None => assert_eq!(rt; refused, 255),
+        Some(e) => {
+            assert_eq!(rt; e.number(), refused);
+            assert_eq!(rt; e.line, line);
         }
     }
-    let long = vec![in rt.alloc(); b' '; 16_777_217].expect(&rt, "memory");
+}
+
+fn too_long_is_refused(rt: &impl Abort, alloc: Global) {
     let error = SourceError {
         kind: SourceErrorKind::TooLong,
         line: 1,
     };
     assert_eq!(rt; error.name(), "TooLong");
-    match parse(rt.alloc(), long.as_slice()) {
-        Ok(_) => assert!(rt; false),
-        Err(e) => assert_eq!(rt; e, error),
+    let long = vec![in alloc; b' '; 16_777_217].expect(rt, "memory");
+    assert_eq!(rt; refusal(alloc, long.as_slice()), Some(error));
+}
+
+#[test]
+fn refusals(rt: HostRuntime) {
+    for (text, refused, line) in &REFUSALS {
+        is_refused(&rt, rt.alloc(), *text, *refused, *line);
     }
+    too_long_is_refused(&rt, rt.alloc());
+}
+
+fn is_empty_property(rt: &impl Abort, statement: &Statement<'_>, named: &[u8]) {
+    let Statement::Property { name, value } = statement else {
+        panic!(rt; "a property");
+    };
+    assert_eq!(rt; *name, named);
+    assert_eq!(rt; value.len(), 0);
+}
+
+fn deletes_property(rt: &impl Abort, statement: &Statement<'_>, named: &[u8]) {
+    let Statement::DeleteProperty { name } = statement else {
+        panic!(rt; "a property's deletion");
+    };
+    assert_eq!(rt; *name, named);
+}
+
+fn deletes_node(rt: &impl Abort, statement: &Statement<'_>, named: &[u8]) {
+    let Statement::DeleteNode { name } = statement else {
+        panic!(rt; "a node's deletion");
+    };
+    assert_eq!(rt; *name, named);
+}
+
+// The body of a node that is named so and has so many labels.
+fn body_of<'s, 'a>(
+    rt: &impl Abort,
+    statement: &'s Statement<'a>,
+    named: &[u8],
+    count: usize,
+) -> &'s [Statement<'a>] {
+    let Statement::Node { labels, name, body } = statement else {
+        panic!(rt; "a node");
+    };
+    assert_eq!(rt; labels.as_slice().len(), count);
+    assert_eq!(rt; *name, named);
+    body.as_slice()
+}
+
+// What the node in the extension of the next test says.
+fn node_in_extension(rt: &impl Abort, body: &[Statement<'_>]) {
+    let [property, node, child] = body else {
+        panic!(rt; "three statements");
+    };
+    deletes_property(rt, property, b"y");
+    deletes_node(rt, node, b"z");
+    assert_eq!(rt; body_of(rt, child, b"e", 0).len(), 0);
 }
 
 // What the extension of the next test says.
 fn extension(rt: &impl Abort, body: &[Statement<'_>]) {
-    assert_eq!(rt; body.len(), 2);
-    match (&body[0], &body[1]) {
-        (
-            Statement::Property { name, value },
-            Statement::Node {
-                labels,
-                name: node,
-                body,
-            },
-        ) => {
-            assert_eq!(rt; *name, b"x".as_slice());
-            assert_eq!(rt; value.len(), 0);
-            assert_eq!(rt; labels.as_slice().len(), 2);
-            assert_eq!(rt; *node, b"n@1".as_slice());
-            assert_eq!(rt; body.len(), 3);
-            match (&body[0], &body[1], &body[2]) {
-                (
-                    Statement::DeleteProperty { name: y },
-                    Statement::DeleteNode { name: z },
-                    Statement::Node {
-                        labels,
-                        name: e,
-                        body,
-                    },
-                ) => {
-                    assert_eq!(rt; *y, b"y".as_slice());
-                    assert_eq!(rt; *z, b"z".as_slice());
-                    assert_eq!(rt; labels.as_slice().len(), 0);
-                    assert_eq!(rt; *e, b"e".as_slice());
-                    assert_eq!(rt; body.len(), 0);
-                }
-                _ => assert!(rt; false),
-            }
-        }
-        _ => assert!(rt; false),
-    }
+    let [property, node] = body else {
+        panic!(rt; "two statements");
+    };
+    is_empty_property(rt, property, b"x");
+    node_in_extension(rt, body_of(rt, node, b"n@1", 2));
+}
+
+fn is_empty_root(rt: &impl Abort, item: &Item<'_>) {
+    let Item::Root(body) = item else {
+        panic!(rt; "a root");
+    };
+    assert_eq!(rt; body.len(), 0);
+}
+
+fn is_label(rt: &impl Abort, reference: &Reference<'_>, named: &[u8]) {
+    let Reference::Label(label) = reference else {
+        panic!(rt; "a label");
+    };
+    assert_eq!(rt; *label, named);
+}
+
+fn is_extension(rt: &impl Abort, item: &Item<'_>) {
+    let Item::Extend {
+        labels,
+        target,
+        body,
+    } = item
+    else {
+        panic!(rt; "an extension");
+    };
+    let [_, last] = labels.as_slice() else {
+        panic!(rt; "two labels");
+    };
+    assert_eq!(rt; *last, b"b".as_slice());
+    is_label(rt, target, b"l");
+    extension(rt, body.as_slice());
+}
+
+fn is_deletion(rt: &impl Abort, item: &Item<'_>) {
+    let Item::Delete(Reference::Path(path)) = item else {
+        panic!(rt; "a deletion by a path");
+    };
+    assert_eq!(rt; *path, b"/a".as_slice());
+}
+
+fn says_items(rt: &impl Abort, source: &Source<'_>) {
+    assert!(rt; source.plugin);
+    assert_eq!(rt; source.reserves.as_slice(), [(0x1000, 0x2000)].as_slice());
+    let [root, extension, deletion] = source.items.as_slice() else {
+        panic!(rt; "three items");
+    };
+    is_empty_root(rt, root);
+    is_extension(rt, extension);
+    is_deletion(rt, deletion);
 }
 
 #[test]
 fn items(rt: HostRuntime) {
     let text =
         b"/dts-v1/;\n# 1 \"a.dts\"\n/plugin/; /dts-v1/; m: /memreserve/ 0x1000 (0x1000 * 2);\n/ { };\na: b: &l { x; c: d: n@1 { /delete-property/ y; /delete-node/ z; e { }; }; };\n/delete-node/ &{/a};";
-    match parse(rt.alloc(), text) {
-        Err(_) => assert!(rt; false),
-        Ok(source) => {
-            assert!(rt; source.plugin);
-            assert_eq!(rt; source.reserves.as_slice(), [(0x1000, 0x2000)].as_slice());
-            let items = source.items.as_slice();
-            assert_eq!(rt; items.len(), 3);
-            match (&items[0], &items[1], &items[2]) {
-                (
-                    Item::Root(root),
-                    Item::Extend {
-                        labels,
-                        target: Reference::Label(l),
-                        body,
-                    },
-                    Item::Delete(Reference::Path(path)),
-                ) => {
-                    assert_eq!(rt; root.len(), 0);
-                    assert_eq!(rt; labels.as_slice().len(), 2);
-                    assert_eq!(rt; labels.as_slice()[1], b"b".as_slice());
-                    assert_eq!(rt; *l, b"l".as_slice());
-                    assert_eq!(rt; *path, b"/a".as_slice());
-                    extension(&rt, body.as_slice());
-                }
-                _ => assert!(rt; false),
-            }
-        }
-    }
+    let source = parse(rt.alloc(), text).expect(&rt, "a source");
+    says_items(&rt, &source);
 }
 
 // A source of five pieces, with the second and the fourth so many times around the third.
@@ -307,35 +361,50 @@ fn nested_number(rt: &impl Abort, alloc: Global, pieces: [&[u8]; 5], depth: usiz
     number(alloc, text.as_slice())
 }
 
+const PARENS: [&[u8]; 5] = [b"/dts-v1/; / { p = <", b"(", b"1", b")", b">; };"];
+
+const NODES: [&[u8]; 5] = [b"/dts-v1/; / {", b"a {", b"", b"};", b"};"];
+
+const SIGNS: [&[u8]; 5] = [b"/dts-v1/; / { p = <(", b"-", b"1", b"", b")>; };"];
+
+// Pieces, how often the second and the fourth stand there, and the number of the refusal, or 255.
+const NESTED: [([&[u8]; 5], usize, u8); 8] = [
+    (PARENS, 64, 255),
+    (NODES, 64, 255),
+    (SIGNS, 63, 255),
+    (PARENS, 65, 16),
+    (NODES, 65, 16),
+    (SIGNS, 64, 16),
+    // too deep before what is no lexeme, or behind it
+    ([b"/dts-v1/; / { p = <", b"(", b"\"", b"", b""], 65, 16),
+    ([b"/dts-v1/; / } { p = <", b"(", b"\"", b"", b""], 65, 10),
+];
+
 // nesting-bounds
 #[test]
 fn nesting(rt: HostRuntime) {
-    let parens: [&[u8]; 5] = [b"/dts-v1/; / { p = <", b"(", b"1", b")", b">; };"];
-    let nodes: [&[u8]; 5] = [b"/dts-v1/; / {", b"a {", b"", b"};", b"};"];
-    let signs: [&[u8]; 5] = [b"/dts-v1/; / { p = <(", b"-", b"1", b"", b")>; };"];
-    for (depth, expected) in [(64, 255), (65, 16)] {
-        assert_eq!(rt; nested_number(&rt, rt.alloc(), parens, depth), expected);
-        assert_eq!(rt; nested_number(&rt, rt.alloc(), nodes, depth), expected);
-        assert_eq!(rt; nested_number(&rt, rt.alloc(), signs, depth - 1), expected);
+    for (pieces, depth, expected) in &NESTED {
+        assert_eq!(rt; nested_number(&rt, rt.alloc(), *pieces, *depth), *expected);
     }
-    // too deep before what is no lexeme, or behind it
-    let early: [&[u8]; 5] = [b"/dts-v1/; / { p = <", b"(", b"\"", b"", b""];
-    assert_eq!(rt; nested_number(&rt, rt.alloc(), early, 65), 16);
-    let late: [&[u8]; 5] = [b"/dts-v1/; / } { p = <", b"(", b"\"", b"", b""];
-    assert_eq!(rt; nested_number(&rt, rt.alloc(), late, 65), 10);
+}
+
+// The number of the refusal of the text with a zero byte at a place.
+fn damaged_number(rt: &impl Abort, alloc: Global, text: &[u8], place: usize) -> u8 {
+    let mut damaged = Vec::from_slice(alloc, text).expect(rt, "memory");
+    if let Some(byte) = damaged.get_mut(place) {
+        *byte = 0;
+    }
+    number(alloc, damaged.as_slice())
 }
 
 #[test]
 fn damaged_texts(rt: HostRuntime) {
     let text = b"/dts-v1/; /plugin/; &ocp { d { r = <&e>; }; e: e { }; };";
     assert_eq!(rt; number(rt.alloc(), text), 255);
-    let mut damaged = Vec::from_slice(rt.alloc(), text).expect(&rt, "memory");
     for i in 0..text.len() {
         let cut = number(rt.alloc(), &text[..i]);
         assert!(rt; cut == 10 || cut == 16 || cut == 255);
-        damaged[i] = 0;
-        assert_eq!(rt; number(rt.alloc(), damaged.as_slice()), 10);
-        damaged[i] = text[i];
+        assert_eq!(rt; damaged_number(&rt, rt.alloc(), text, i), 10);
     }
 }
 
