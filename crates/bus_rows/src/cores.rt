@@ -65,16 +65,19 @@ fn fault_line(rt: &impl Abort, alloc: Global, fault: &PlanError) -> Vec<u8> {
         .into_bytes()
 }
 
+// The line of a refused event.
+fn refused_line(rt: &impl Abort, alloc: Global, event: usize, refusal: Refusal) -> Vec<u8> {
+    let (number, name) = (refusal.number(), refusal.name());
+    format!(in alloc; "error {number} {name} event {event}")
+        .expect(rt, "a text")
+        .into_bytes()
+}
+
 // The report of a replay, or the event that it refused.
 fn told(rt: &impl Abort, alloc: Global, replayed: Result<Core, (usize, Refusal)>) -> Vec<u8> {
     match replayed {
         Ok(core) => core.report(alloc).expect(rt, "a report"),
-        Err((event, refusal)) => {
-            let (number, name) = (refusal.number(), refusal.name());
-            format!(in alloc; "error {number} {name} event {event}")
-                .expect(rt, "a text")
-                .into_bytes()
-        }
+        Err((event, refusal)) => refused_line(rt, alloc, event, refusal),
     }
 }
 
@@ -93,18 +96,22 @@ fn replayed(
     }
 }
 
+fn is_replayed(
+    rt: &impl Abort,
+    alloc: Global,
+    hasher: RandomState,
+    row: &(&str, &str, &str, &str),
+) {
+    let (name, plan, schedule, report) = row;
+    let answer = replayed(rt, alloc, hasher, plan.as_bytes(), schedule.as_bytes());
+    assert_eq!(rt; answer.as_slice(), report.as_bytes(), "{name}");
+}
+
 #[test]
 fn replays(rt: HostRuntime) {
     let hasher = RandomState::new(&rt).expect(&rt, "a seed");
-    for (name, plan, schedule, report) in REPLAYS {
-        let answer = replayed(
-            &rt,
-            rt.alloc(),
-            hasher,
-            plan.as_bytes(),
-            schedule.as_bytes(),
-        );
-        assert_eq!(rt; answer.as_slice(), report.as_bytes(), "{name}");
+    for row in &REPLAYS {
+        is_replayed(&rt, rt.alloc(), hasher, row);
     }
 }
 
@@ -167,12 +174,17 @@ fn drained(rt: &impl Abort, alloc: Global, hasher: RandomState, plan: &[u8]) -> 
     report_of_drained(rt, alloc, &mut core)
 }
 
+fn is_drained(rt: &impl Abort, alloc: Global, hasher: RandomState, row: &(&str, &str, &str)) {
+    let (name, plan, report) = row;
+    let answer = drained(rt, alloc, hasher, plan.as_bytes());
+    assert_eq!(rt; answer.as_slice(), report.as_bytes(), "{name}");
+}
+
 #[test]
 fn drains(rt: HostRuntime) {
     let hasher = RandomState::new(&rt).expect(&rt, "a seed");
-    for (name, plan, report) in DRAINED {
-        let answer = drained(&rt, rt.alloc(), hasher, plan.as_bytes());
-        assert_eq!(rt; answer.as_slice(), report.as_bytes(), "{name}");
+    for row in &DRAINED {
+        is_drained(&rt, rt.alloc(), hasher, row);
     }
 }
 
@@ -196,12 +208,17 @@ fn chain_is_bound(rt: &impl Abort, core: &mut Core) {
     assert!(rt; core.is_quiet());
 }
 
+// The core of a chain's plan.
+fn chained(rt: &impl Abort, alloc: Global, hasher: RandomState) -> Core {
+    let text = chain(rt, alloc, 512);
+    opened(rt, alloc, hasher, text.as_bytes())
+}
+
 /// Row `chain-drain`.
 #[test]
 fn drains_a_chain(rt: HostRuntime) {
-    let text = chain(&rt, rt.alloc(), 512);
     let hasher = RandomState::new(&rt).expect(&rt, "a seed");
-    let mut core = opened(&rt, rt.alloc(), hasher, text.as_bytes());
+    let mut core = chained(&rt, rt.alloc(), hasher);
     chain_is_bound(&rt, &mut core);
 }
 
@@ -210,17 +227,31 @@ fn clock_and_uart(rt: &impl Abort, alloc: Global, hasher: RandomState) -> Core {
     opened(rt, alloc, hasher, CLOCK_AND_UART.as_bytes())
 }
 
-fn a_stale_ticket_is_refused(rt: &impl Abort, alloc: Global, core: &mut Core) {
+// The first of the uart's two tickets, whose flight was abandoned.
+fn stale_ticket(rt: &impl Abort, core: &mut Core) -> Ticket {
     let uart = at(rt, core, b"/uart");
     let first = begin(rt, core, uart);
     abandon(rt, core, uart).expect(rt, "a flight");
     let second = begin(rt, core, uart);
     assert_eq!(rt; (first.attempt, second.attempt), (1, 2));
-    let before = core.report(alloc).expect(rt, "a report");
-    let refused = finish(rt, core, &first, Report::Settled);
+    first
+}
+
+fn is_stale(rt: &impl Abort, core: &mut Core, ticket: &Ticket) {
+    let refused = finish(rt, core, ticket, Report::Settled);
     assert_eq!(rt; refused, Err(Refusal::StaleTicket));
-    let after = core.report(alloc).expect(rt, "a report");
-    assert_eq!(rt; after.as_slice(), before.as_slice());
+}
+
+fn reports(rt: &impl Abort, alloc: Global, core: &Core, wanted: &[u8]) {
+    let report = core.report(alloc).expect(rt, "a report");
+    assert_eq!(rt; report.as_slice(), wanted);
+}
+
+fn a_stale_ticket_is_refused(rt: &impl Abort, alloc: Global, core: &mut Core) {
+    let first = stale_ticket(rt, core);
+    let before = core.report(alloc).expect(rt, "a report");
+    is_stale(rt, core, &first);
+    reports(rt, alloc, core, before.as_slice());
 }
 
 /// Row `stale-ticket`.
@@ -252,9 +283,7 @@ fn the_clock_has_settled(rt: &impl Abort, core: &mut Core) {
     let (clk, uart) = (at(rt, core, b"/clk"), at(rt, core, b"/uart"));
     core.check();
     assert!(rt; !core.is_bound(clk));
-    let ticket = begin(rt, core, clk);
-    let reply = finish(rt, core, &ticket, Report::Settled);
-    assert_eq!(rt; reply, Ok(Reply::Bound));
+    binds(rt, core, clk);
     assert!(rt; core.is_bound(clk) && !core.is_bound(uart));
     let settled = [Settle {
         device: clk,
@@ -282,16 +311,34 @@ fn the_uart_is_due_again(rt: &impl Abort, core: &mut Core) {
     assert_eq!(rt; core.next(), Some(uart));
 }
 
+fn is_abandoned(rt: &impl Abort, core: &mut Core, device: Device) {
+    let _dropped = begin(rt, core, device);
+    assert_eq!(rt; abandon(rt, core, device), Ok(()));
+    assert_eq!(rt; status(rt, core, device), Status::Due);
+}
+
+fn binds(rt: &impl Abort, core: &mut Core, device: Device) {
+    let ticket = begin(rt, core, device);
+    let bound = finish(rt, core, &ticket, Report::Settled);
+    assert_eq!(rt; bound, Ok(Reply::Bound));
+}
+
 fn the_uart_is_bound(rt: &impl Abort, core: &mut Core) {
     let uart = at(rt, core, b"/uart");
-    let _dropped = begin(rt, core, uart);
-    assert_eq!(rt; abandon(rt, core, uart), Ok(()));
-    assert_eq!(rt; status(rt, core, uart), Status::Due);
-    let last = begin(rt, core, uart);
-    let bound = finish(rt, core, &last, Report::Settled);
-    assert_eq!(rt; bound, Ok(Reply::Bound));
+    is_abandoned(rt, core, uart);
+    binds(rt, core, uart);
     assert!(rt; core.is_quiet() && core.is_bound(uart));
     assert_eq!(rt; core.history().len(), 2);
+}
+
+fn both_are_bound(rt: &impl Abort, core: &mut Core) {
+    the_uart_is_due_again(rt, core);
+    the_uart_is_bound(rt, core);
+}
+
+fn opened_if_there_is_memory(alloc: Global, hasher: RandomState, text: &[u8]) -> Option<Core> {
+    let plan = read_plan(alloc, hasher, text).ok()?;
+    Core::new(alloc, plan).ok()
 }
 
 // Once the core is made its events take no memory. Run with `--fail-alloc N`, which refuses the Nth request, this test
@@ -300,14 +347,9 @@ fn the_uart_is_bound(rt: &impl Abort, core: &mut Core) {
 fn events_take_no_memory(rt: HostRuntime) {
     let text = CLOCK_AND_UART.as_bytes();
     let hasher = RandomState::new(&rt).expect(&rt, "a seed");
-    let Ok(plan) = read_plan(rt.alloc(), hasher, text) else {
-        return;
-    };
-    let Ok(mut core) = Core::new(rt.alloc(), plan) else {
-        return;
-    };
-    the_uart_is_due_again(&rt, &mut core);
-    the_uart_is_bound(&rt, &mut core);
+    if let Some(mut core) = opened_if_there_is_memory(rt.alloc(), hasher, text) {
+        both_are_bound(&rt, &mut core);
+    }
 }
 
 #[test]

@@ -1,5 +1,7 @@
 //! Probes by workers.
 
+ghost use Rattle.std.specs.Prelude.{◌<◌};
+
 use crate::gate::Gate;
 use crate::replays::CLOCK_AND_UART;
 use bus_manager::{MAX_WORKERS, Prober, Ran, RunError, TableProber, run, run_locked};
@@ -19,6 +21,26 @@ enum Way {
 
 const WAYS: [Way; 2] = [Way::Board, Way::Lock];
 
+// Each way with one, two and the most workers.
+const LAWFUL: [(Way, usize); 6] = [
+    (Way::Board, 1),
+    (Way::Board, 2),
+    (Way::Board, MAX_WORKERS),
+    (Way::Lock, 1),
+    (Way::Lock, 2),
+    (Way::Lock, MAX_WORKERS),
+];
+
+// Each way with numbers of workers that are refused.
+const UNLAWFUL: [(Way, usize); 6] = [
+    (Way::Board, 0),
+    (Way::Board, 65),
+    (Way::Board, usize::MAX),
+    (Way::Lock, 0),
+    (Way::Lock, 65),
+    (Way::Lock, usize::MAX),
+];
+
 fn run_by<P: Prober, R: Threads + Wait + Sync>(
     way: Way,
     rt: &R,
@@ -33,8 +55,10 @@ fn run_by<P: Prober, R: Threads + Wait + Sync>(
     }
 }
 
-// A plan, its end report, and whether each device has settled in it.
-const ROWS: [(&str, &str, &str, &[bool]); 5] = [
+// A row's name, its plan, its end report, and whether each device has settled in it.
+type Row = (&'static str, &'static str, &'static str, &'static [bool]);
+
+const ROWS: [Row; 5] = [
     (
         "clock-and-uart",
         CLOCK_AND_UART,
@@ -74,35 +98,59 @@ fn has_run(rt: &impl Abort, name: &str, ran: &Ran<Device>, report: &str, settled
     assert_eq!(rt; ran.report.as_slice(), report.as_bytes(), "{name}");
 }
 
+fn runs_by<R: Threads + Wait + Sync + Abort>(
+    way: Way,
+    rt: &R,
+    alloc: Global,
+    plan: &Plan,
+    workers: usize,
+    row: &Row,
+) {
+    let (name, _, report, settled) = row;
+    let ran = run_by(way, rt, alloc, plan, &TableProber, workers).expect(rt, "a run");
+    has_run(rt, *name, &ran, *report, *settled);
+}
+
+fn row_runs<R: Threads + Wait + Sync + Abort>(
+    rt: &R,
+    alloc: Global,
+    hasher: RandomState,
+    row: &Row,
+) {
+    let (_, text, ..) = row;
+    let plan = read_plan(alloc, hasher, text.as_bytes()).expect(rt, "a plan");
+    for (way, workers) in &LAWFUL {
+        runs_by(*way, rt, alloc, &plan, *workers, row);
+    }
+}
+
 #[test]
 fn runs(rt: HostRuntime) {
     let hasher = RandomState::new(&rt).expect(&rt, "a seed");
-    for (name, text, report, settled) in ROWS {
-        let plan = read_plan(rt.alloc(), hasher, text.as_bytes()).expect(&rt, "a plan");
-        for way in WAYS {
-            for workers in [1, 2, MAX_WORKERS] {
-                let answer = run_by(way, &rt, rt.alloc(), &plan, &TableProber, workers);
-                let ran = answer.expect(&rt, "a run");
-                has_run(&rt, name, &ran, report, settled);
-            }
-        }
+    for row in &ROWS {
+        row_runs(&rt, rt.alloc(), hasher, row);
     }
+}
+
+fn is_refused<R: Threads + Wait + Sync + Abort>(
+    way: Way,
+    rt: &R,
+    alloc: Global,
+    plan: &Plan,
+    workers: usize,
+) {
+    let answer = run_by(way, rt, alloc, plan, &TableProber, workers);
+    let refusal = answer.err().expect(rt, "it ran");
+    assert_eq!(rt; refusal, RunError::TooManyWorkers);
+    assert_eq!(rt; (refusal.number(), refusal.name()), (70, "TooManyWorkers"));
 }
 
 #[test]
 fn refuses_other_numbers_of_workers(rt: HostRuntime) {
     let hasher = RandomState::new(&rt).expect(&rt, "a seed");
     let plan = read_plan(rt.alloc(), hasher, b"/a x ok\n").expect(&rt, "a plan");
-    for way in WAYS {
-        for workers in [0, 65, usize::MAX] {
-            match run_by(way, &rt, rt.alloc(), &plan, &TableProber, workers) {
-                Ok(_) => panic!(rt; "it ran"),
-                Err(refusal) => {
-                    assert_eq!(rt; refusal, RunError::TooManyWorkers);
-                    assert_eq!(rt; (refusal.number(), refusal.name()), (70, "TooManyWorkers"));
-                }
-            }
-        }
+    for (way, workers) in &UNLAWFUL {
+        is_refused(*way, &rt, rt.alloc(), &plan, *workers);
     }
 }
 
@@ -118,9 +166,36 @@ fn probes_overlap<R: Threads + Wait + Sync + Abort>(way: Way, rt: &R, alloc: Glo
 fn gate_two_probes(rt: HostRuntime) {
     let hasher = RandomState::new(&rt).expect(&rt, "a seed");
     let plan = read_plan(rt.alloc(), hasher, b"/a x ok\n/b y ok\n").expect(&rt, "a plan");
-    for way in WAYS {
-        probes_overlap(way, &rt, rt.alloc(), &plan);
+    for way in &WAYS {
+        probes_overlap(*way, &rt, rt.alloc(), &plan);
     }
+}
+
+fn push_device(rt: &impl Abort, alloc: Global, text: &mut String, index: u32) {
+    let verdict = if index % 23 == 22 { "fail" } else { "ok" };
+    let device = format!(in alloc; "/d{index} x {verdict}").expect(rt, "a text");
+    text.push_str(device.as_str()).expect(rt, "room");
+}
+
+fn push_supplier(rt: &impl Abort, alloc: Global, text: &mut String, index: u32) {
+    let supplier = format!(in alloc; " /d{index}").expect(rt, "a text");
+    text.push_str(supplier.as_str()).expect(rt, "room");
+}
+
+fn push_line(rt: &impl Abort, alloc: Global, text: &mut String, index: u32)
+    requires { index < 200 }
+{
+    push_device(rt, alloc, text, index);
+    if index % 4 != 3 {
+        push_supplier(rt, alloc, text, index + 1);
+    }
+    if index >= 8 {
+        push_supplier(rt, alloc, text, index / 2);
+    }
+    if index == 199 {
+        push_supplier(rt, alloc, text, 196);
+    }
+    text.push_str("\n").expect(rt, "room");
 }
 
 // 200 devices: fours that need the next one, each but the first two fours also needs a device of an earlier four, the
@@ -128,39 +203,39 @@ fn gate_two_probes(rt: HostRuntime) {
 fn many_devices(rt: &impl Abort, alloc: Global) -> String {
     let mut text = String::new(alloc);
     for index in 0..200u32 {
-        let verdict = if index % 23 == 22 { "fail" } else { "ok" };
-        let device = format!(in alloc; "/d{index} x {verdict}").expect(rt, "a text");
-        text.push_str(device.as_str()).expect(rt, "room");
-        if index % 4 != 3 {
-            let next = format!(in alloc; " /d{}", index + 1).expect(rt, "a text");
-            text.push_str(next.as_str()).expect(rt, "room");
-        }
-        if index >= 8 {
-            let earlier = format!(in alloc; " /d{}", index / 2).expect(rt, "a text");
-            text.push_str(earlier.as_str()).expect(rt, "room");
-        }
-        if index == 199 {
-            text.push_str(" /d196").expect(rt, "room");
-        }
-        text.push_str("\n").expect(rt, "room");
+        push_line(rt, alloc, &mut text, index);
     }
     text
 }
 
+fn plan_of_many(rt: &impl Abort, alloc: Global, hasher: RandomState) -> Plan {
+    let text = many_devices(rt, alloc);
+    read_plan(alloc, hasher, text.as_str().as_bytes()).expect(rt, "a plan")
+}
+
+fn round_reports<R: Threads + Wait + Sync + Abort>(
+    rt: &R,
+    alloc: Global,
+    plan: &Plan,
+    round: usize,
+    report: &[u8],
+) {
+    let workers = 1 + round % MAX_WORKERS;
+    let way = WAYS[round % 2];
+    let ran = run_by(way, rt, alloc, plan, &TableProber, workers).expect(rt, "a run");
+    assert_eq!(rt; ran.report.as_slice(), report, "by {workers}");
+}
+
+fn has_one_report<R: Threads + Wait + Sync + Abort>(rt: &R, alloc: Global, plan: &Plan) {
+    let first = run(rt, alloc, plan, &TableProber, 1).expect(rt, "a run");
+    for round in 0..200usize {
+        round_reports(rt, alloc, plan, round, first.report.as_slice());
+    }
+}
+
 #[test]
 fn one_report_by_any_workers(rt: HostRuntime) {
-    let text = many_devices(&rt, rt.alloc());
     let hasher = RandomState::new(&rt).expect(&rt, "a seed");
-    let plan = read_plan(rt.alloc(), hasher, text.as_str().as_bytes()).expect(&rt, "a plan");
-    let first = run(&rt, rt.alloc(), &plan, &TableProber, 1).expect(&rt, "a run");
-    for round in 0..200usize {
-        let workers = 1 + round % MAX_WORKERS;
-        let way = WAYS[round % 2];
-        let ran = run_by(way, &rt, rt.alloc(), &plan, &TableProber, workers).expect(&rt, "a run");
-        assert_eq!(rt;
-            ran.report.as_slice(),
-            first.report.as_slice(),
-            "by {workers}"
-        );
-    }
+    let plan = plan_of_many(&rt, rt.alloc(), hasher);
+    has_one_report(&rt, rt.alloc(), &plan);
 }
