@@ -143,39 +143,51 @@ fn changed_blob(rt: HostRuntime) {
     assert!(rt; stays_one_cell(&rt, alloc, hasher, ONE_CELL, 0x14, 18));
 }
 
+// A place in one-cell's blob, the word that is put there, and the number of the refusal.
+const CHANGED: [(usize, u32, u8); 20] = [
+    (0x24, 0xffff_fffc, 33),
+    (0x24, 0x1c, 34),
+    (0x10, 0x48, 33),
+    (0x20, 1, 35),
+    (0x44, 0xffff_ffff, 34),
+    (0x48, 1, 37),
+    (0x48, 2, 35),
+    (0x00, 0xd00d_feec, 31),
+    (0x14, 3, 32),
+    (0x14, 16, 32),
+    (0x18, 18, 32),
+    (0x04, 0x5b, 30),
+    (0x04, 0x27, 33),
+    (0x08, 0x3a, 33),
+    (0x0c, 0x59, 33),
+    (0x10, 0x2c, 33),
+    (0x10, 0x80, 33),
+    (0x38, 2, 34),
+    (0x40, 5, 34),
+    (0x54, 4, 34),
+];
+
+fn changed_refusal(rt: &impl Abort, alloc: Global, at: usize, word: u32) -> Option<u8> {
+    let bytes = changed(rt, alloc, ONE_CELL, at, word);
+    refusal(read(alloc, bytes.as_slice()))
+}
+
+fn is_refused_changed(rt: &impl Abort, alloc: Global, row: &(usize, u32, u8)) {
+    let (at, word, number) = *row;
+    let told = changed_refusal(rt, alloc, at, word);
+    assert_eq!(rt; told, Some(number), "{at} {word}");
+}
+
 #[test]
 fn changed_words(rt: HostRuntime) {
-    let alloc = rt.alloc();
-    let rows: [(usize, u32, u8); 20] = [
-        (0x24, 0xffff_fffc, 33),
-        (0x24, 0x1c, 34),
-        (0x10, 0x48, 33),
-        (0x20, 1, 35),
-        (0x44, 0xffff_ffff, 34),
-        (0x48, 1, 37),
-        (0x48, 2, 35),
-        (0x00, 0xd00d_feec, 31),
-        (0x14, 3, 32),
-        (0x14, 16, 32),
-        (0x18, 18, 32),
-        (0x04, 0x5b, 30),
-        (0x04, 0x27, 33),
-        (0x08, 0x3a, 33),
-        (0x0c, 0x59, 33),
-        (0x10, 0x2c, 33),
-        (0x10, 0x80, 33),
-        (0x38, 2, 34),
-        (0x40, 5, 34),
-        (0x54, 4, 34),
-    ];
-    for (at, word, number) in rows {
-        let bytes = changed(&rt, alloc, ONE_CELL, at, word);
-        assert_eq!(rt;
-            refusal(read(alloc, bytes.as_slice())),
-            Some(number),
-            "{at} {word}"
-        );
+    for row in &CHANGED {
+        is_refused_changed(&rt, rt.alloc(), row);
     }
+}
+
+fn cut_is_refused(rt: &impl Abort, alloc: Global, cut: &[u8]) {
+    let told = refusal(read(alloc, cut));
+    assert_eq!(rt; told, Some(30), "{}", cut.len());
 }
 
 #[test]
@@ -184,12 +196,7 @@ fn every_cut(rt: HostRuntime) {
     let hasher = RandomState::new(&rt).expect(&rt, "a seed");
     let mut cut = Vec::new(alloc);
     for byte in ONE_CELL {
-        assert_eq!(rt;
-            refusal(read(alloc, cut.as_slice())),
-            Some(30),
-            "{}",
-            cut.len()
-        );
+        cut_is_refused(&rt, alloc, cut.as_slice());
         cut.push(*byte).expect(&rt, "memory");
     }
     assert!(rt; is_one_cell(&rt, alloc, hasher, cut.as_slice()));
@@ -236,18 +243,25 @@ const BAD_TOKENS: [(&str, &[u32], u8); 21] = [
     ("a NOP behind END", &[1, 0, 2, 9, 4], 34),
 ];
 
-// That a blob of this structure is refused by the number.
-fn is_refused(rt: &impl Abort, alloc: Global, name: &str, structure: &[u32], number: u8) {
-    let bytes = blob(rt, alloc, structure, b"a\0");
-    let told = refusal(read(alloc, bytes.as_slice()));
-    assert_eq!(rt; told, Some(number), "{name}");
+fn structure_refusal(
+    rt: &impl Abort,
+    alloc: Global,
+    structure: &[u32],
+    strings: &[u8],
+) -> Option<u8> {
+    let bytes = blob(rt, alloc, structure, strings);
+    refusal(read(alloc, bytes.as_slice()))
+}
+
+fn is_told(rt: &impl Abort, told: Option<u8>, number: Option<u8>, name: &str) {
+    assert_eq!(rt; told, number, "{name}");
 }
 
 #[test]
 fn faults_of_tokens(rt: HostRuntime) {
-    let alloc = rt.alloc();
     for (name, structure, number) in &BAD_TOKENS {
-        is_refused(&rt, alloc, name, structure, *number);
+        let told = structure_refusal(&rt, rt.alloc(), *structure, b"a\0");
+        is_told(&rt, told, Some(*number), *name);
     }
 }
 
@@ -279,50 +293,56 @@ fn depth(rt: HostRuntime) {
     );
 }
 
-#[test]
-fn cut_padding(rt: HostRuntime) {
-    let alloc = rt.alloc();
-    let rows: [(&str, &[u32], u32, Option<u8>); 4] = [
-        ("all of it", &[1, 0, 2, 9], 16, None),
-        ("of a node's name", &[1, 0, 2, 9], 6, Some(34)),
-        (
-            "of a node's name, without its zero byte",
-            &[1, 0x6e6e_6e6e, 2, 9],
-            6,
-            Some(35),
-        ),
-        (
-            "of a value",
-            &[1, 0, 3, 1, 0, 0x6100_0000, 2, 9],
-            21,
-            Some(34),
-        ),
-    ];
-    for (name, structure, size, answer) in rows {
-        let bytes = blob(&rt, alloc, structure, b"a\0");
-        let bytes = changed(&rt, alloc, bytes.as_slice(), 0x24, size);
-        assert_eq!(rt; refusal(read(alloc, bytes.as_slice())), answer, "{name}");
-    }
+// What is cut, the words of the structure block, the size that it is told to have, and the number of the refusal.
+const CUT: [(&str, &[u32], u32, Option<u8>); 4] = [
+    ("all of it", &[1, 0, 2, 9], 16, None),
+    ("of a node's name", &[1, 0, 2, 9], 6, Some(34)),
+    (
+        "of a node's name, without its zero byte",
+        &[1, 0x6e6e_6e6e, 2, 9],
+        6,
+        Some(35),
+    ),
+    (
+        "of a value",
+        &[1, 0, 3, 1, 0, 0x6100_0000, 2, 9],
+        21,
+        Some(34),
+    ),
+];
+
+fn cut_blob(rt: &impl Abort, alloc: Global, structure: &[u32], size: u32) -> Vec<u8> {
+    let bytes = blob(rt, alloc, structure, b"a\0");
+    changed(rt, alloc, bytes.as_slice(), 0x24, size)
+}
+
+fn cut_refusal(rt: &impl Abort, alloc: Global, structure: &[u32], size: u32) -> Option<u8> {
+    let bytes = cut_blob(rt, alloc, structure, size);
+    refusal(read(alloc, bytes.as_slice()))
 }
 
 #[test]
+fn cut_padding(rt: HostRuntime) {
+    for (name, structure, size, number) in &CUT {
+        let told = cut_refusal(&rt, rt.alloc(), *structure, *size);
+        is_told(&rt, told, *number, *name);
+    }
+}
+
+const UNLAWFUL: [(&str, &[u32], u8); 2] = [
+    ("in a node", &[1, 0, 3, 0, 0, 2, 9], 37),
+    (
+        "behind a child",
+        &[1, 0, 1, 0x6e00_0000, 2, 3, 0, 0, 2, 9],
+        36,
+    ),
+];
+
+#[test]
 fn unlawful_property_names(rt: HostRuntime) {
-    let alloc = rt.alloc();
-    let rows: [(&str, &[u32], u8); 2] = [
-        ("in a node", &[1, 0, 3, 0, 0, 2, 9], 37),
-        (
-            "behind a child",
-            &[1, 0, 1, 0x6e00_0000, 2, 3, 0, 0, 2, 9],
-            36,
-        ),
-    ];
-    for (name, structure, number) in rows {
-        let bytes = blob(&rt, alloc, structure, b"/\0");
-        assert_eq!(rt;
-            refusal(read(alloc, bytes.as_slice())),
-            Some(number),
-            "{name}"
-        );
+    for (name, structure, number) in &UNLAWFUL {
+        let told = structure_refusal(&rt, rt.alloc(), *structure, b"/\0");
+        is_told(&rt, told, Some(*number), *name);
     }
 }
 
@@ -401,12 +421,16 @@ fn row_is_written(rt: &impl Abort, alloc: Global, hasher: RandomState, tree: &Tr
     assert!(rt; text.as_slice() == row.text, "{}", row.name);
 }
 
+fn row_holds(rt: &impl Abort, alloc: Global, hasher: RandomState, row: &Row) {
+    let tree = tree(rt, alloc, row.reserves, row.properties);
+    row_is_written(rt, alloc, hasher, &tree, row);
+}
+
 #[test]
 fn written_rows(rt: HostRuntime) {
     let hasher = RandomState::new(&rt).expect(&rt, "a seed");
-    for row in WRITTEN {
-        let tree = tree(&rt, rt.alloc(), row.reserves, row.properties);
-        row_is_written(&rt, rt.alloc(), hasher, &tree, &row);
+    for row in &WRITTEN {
+        row_holds(&rt, rt.alloc(), hasher, row);
     }
 }
 

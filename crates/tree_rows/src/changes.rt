@@ -55,6 +55,12 @@ fn row_holds(rt: &impl Abort, alloc: Global, row: &Row) -> bool {
     answered && is_left(rt, alloc, &tree, row)
 }
 
+fn rows_hold(rt: &impl Abort, alloc: Global, rows: &[Row]) {
+    for row in rows {
+        assert!(rt; row_holds(rt, alloc, row));
+    }
+}
+
 const fn done(call: Call, path: &'static [u8], name: &'static [u8], left: &'static [u8]) -> Row {
     Row {
         step: (call, path, name),
@@ -80,7 +86,6 @@ const fn refused(call: Call, path: &'static [u8], name: &'static [u8], refusal: 
 
 #[test]
 fn properties(rt: HostRuntime) {
-    let alloc = rt.alloc();
     let rows = [
         done(
             Call::Set(&[2]),
@@ -112,14 +117,11 @@ fn properties(rt: HostRuntime) {
         done(Call::Unset, b"/soc", b"a", BASE),
         refused(Call::Unset, b"/uart", b"a", 5),
     ];
-    for row in &rows {
-        assert!(rt; row_holds(&rt, alloc, row));
-    }
+    rows_hold(&rt, rt.alloc(), &rows);
 }
 
 #[test]
 fn children(rt: HostRuntime) {
-    let alloc = rt.alloc();
     let rows = [
         done(
             Call::Add,
@@ -152,9 +154,7 @@ fn children(rt: HostRuntime) {
         done(Call::Remove, b"/", b"a", BASE),
         refused(Call::Remove, b"/uart", b"a", 5),
     ];
-    for row in &rows {
-        assert!(rt; row_holds(&rt, alloc, row));
-    }
+    rows_hold(&rt, rt.alloc(), &rows);
 }
 
 /// Puts as many floors below one another as there may be, and gives the path of the lowest.

@@ -24,15 +24,27 @@ pub fn made(
 ) -> Result<bool, TreeError> {
     let (call, path, name) = step;
     let path = Path::parse(alloc, path).expect(rt, "a path");
+    made_at(rt, alloc, tree, call, &path, name)
+}
+
+fn made_at(
+    rt: &impl Abort,
+    alloc: Global,
+    tree: &mut Tree,
+    call: Call,
+    path: &Path,
+    name: &[u8],
+) -> Result<bool, TreeError> {
     let name = Name::new(alloc, name).expect(rt, "a name");
     match call {
         Call::Set(value) => {
-            let value = Bytes::from_vec(Vec::from_slice(alloc, value).expect(rt, "memory"));
-            tree.set_property(&path, name, value).map(|()| false)
+            let value = Vec::from_slice(alloc, value).expect(rt, "memory");
+            tree.set_property(path, name, Bytes::from_vec(value))
+                .map(|()| false)
         }
-        Call::Unset => tree.remove_property(&path, &name),
-        Call::Add => tree.add_child(alloc, &path, name).map(|()| false),
-        Call::Remove => tree.remove_child(&path, &name),
+        Call::Unset => tree.remove_property(path, &name),
+        Call::Add => tree.add_child(alloc, path, name).map(|()| false),
+        Call::Remove => tree.remove_child(path, &name),
     }
 }
 

@@ -95,21 +95,35 @@ fn merged(rt: &impl Abort, alloc: Global, tree: &Tree, path: &[u8], node: &Node)
     tree.merge(alloc, &path, node).expect(rt, "a tree")
 }
 
+fn is_merged_at(
+    rt: &impl Abort,
+    alloc: Global,
+    tree: &Tree,
+    path: &[u8],
+    node: &Node,
+    text: &[u8],
+) {
+    let tree = merged(rt, alloc, tree, path, node);
+    is_written_as(rt, alloc, &tree, text);
+}
+
 fn is_merged(rt: &impl Abort, alloc: Global, tree: &Tree, others: &Tree) {
     let node = others.root().child(b"other").expect(rt, "a node");
-    for (path, text) in [(b"/".as_slice(), AT_ROOT), (b"/clk".as_slice(), AT_CLK)] {
-        let tree = merged(rt, alloc, tree, path, node);
-        is_written_as(rt, alloc, &tree, text);
-    }
+    is_merged_at(rt, alloc, tree, b"/", node, AT_ROOT);
+    is_merged_at(rt, alloc, tree, b"/clk", node, AT_CLK);
     is_written_as(rt, alloc, tree, BASE);
+}
+
+fn others_are_merged(rt: &impl Abort, alloc: Global, tree: &Tree) {
+    let others = grown(rt, alloc, &[], &OTHER_STEPS);
+    is_merged(rt, alloc, tree, &others);
 }
 
 /// What is there keeps its place and takes the new value; what is new goes last. The tree that was merged into stays.
 #[test]
 fn merged_nodes(rt: HostRuntime) {
     let tree = grown(&rt, rt.alloc(), &[], &BASE_STEPS);
-    let others = grown(&rt, rt.alloc(), &[], &OTHER_STEPS);
-    is_merged(&rt, rt.alloc(), &tree, &others);
+    others_are_merged(&rt, rt.alloc(), &tree);
 }
 
 /// The tree with ten levels of nodes below its root.
@@ -130,11 +144,15 @@ fn is_nowhere(rt: &impl Abort, alloc: Global, tree: &Tree) {
     assert_eq!(rt; tower_refused(rt, alloc, tree, &nowhere, 64), 5);
 }
 
+fn high_is_refused(rt: &impl Abort, alloc: Global, tree: &Tree) {
+    let high = high(rt, alloc, tree);
+    is_too_high(rt, alloc, &high);
+}
+
 /// No node at the path is told before a node that would lie too deep.
 #[test]
 fn refused_merges(rt: HostRuntime) {
     let tree = grown(&rt, rt.alloc(), &[], &BASE_STEPS);
     is_nowhere(&rt, rt.alloc(), &tree);
-    let high = high(&rt, rt.alloc(), &tree);
-    is_too_high(&rt, rt.alloc(), &high);
+    high_is_refused(&rt, rt.alloc(), &tree);
 }
