@@ -1,8 +1,15 @@
 //! Driver files, and the plan of a tree.
 use bus_drivers::{Driver, FailLine, read_drivers};
 use bus_plan::PlanError;
+use dt_tree::Bytes;
+use std::alloc::Global;
 use std::hash::RandomState;
 use std::process::Abort;
+
+fn is_refused(rt: &impl Abort, alloc: Global, hasher: RandomState, text: &[u8], error: PlanError) {
+    let refusal = read_drivers(alloc, hasher, text).err();
+    assert_eq!(rt; refusal, Some(error));
+}
 
 /// Driver files that are refused, with the fault and its line.
 #[test]
@@ -28,36 +35,46 @@ fn driver_files_are_refused_in_line_order(rt: HostRuntime) {
         ),
         (b"driver x c\n# \x7f\ndriver x d\n", PlanError::BadLine(2)),
     ];
-    for (text, error) in rows {
-        let hasher = RandomState::new(&rt).expect(&rt, "a seed");
-        let read = read_drivers(rt.alloc(), hasher, text);
-        assert_eq!(rt; read.err(), Some(error));
+    let hasher = RandomState::new(&rt).expect(&rt, "a seed");
+    for (text, error) in &rows {
+        is_refused(&rt, rt.alloc(), hasher, *text, *error);
     }
+}
+
+fn has_name(rt: &impl Abort, driver: &Driver, name: &[u8]) {
+    assert_eq!(rt; driver.name().as_bytes(), name);
+}
+
+fn strings_are_told(rt: &impl Abort, strings: &[Bytes]) {
+    let [first, second, third] = strings else {
+        panic!(rt; "three strings");
+    };
+    let told = [first.as_slice(), second.as_slice(), third.as_slice()];
+    let wanted: [&[u8]; 3] = [b"ns16550a", b"ns16550a", b"x,\"y\""];
+    assert_eq!(rt; told, wanted);
 }
 
 fn drivers_are_told(rt: &impl Abort, drivers: &[Driver]) {
     let [fixed, ns] = drivers else {
         panic!(rt; "two drivers");
     };
-    assert_eq!(rt; fixed.name().as_bytes(), b"fixed".as_slice());
+    has_name(rt, fixed, b"fixed");
     assert_eq!(rt; fixed.compatibles().len(), 1);
-    assert_eq!(rt; ns.name().as_bytes(), b"ns".as_slice());
-    let [first, second, third] = ns.compatibles() else {
-        panic!(rt; "three strings");
-    };
-    assert_eq!(rt; first.as_slice(), b"ns16550a".as_slice());
-    assert_eq!(rt; second.as_slice(), b"ns16550a".as_slice());
-    assert_eq!(rt; third.as_slice(), b"x,\"y\"".as_slice());
+    has_name(rt, ns, b"ns");
+    strings_are_told(rt, ns.compatibles());
+}
+
+fn fail_is_told(rt: &impl Abort, fail: &FailLine, path: &[u8], line: usize) {
+    assert_eq!(rt; fail.path().as_bytes(), path);
+    assert_eq!(rt; fail.line(), line);
 }
 
 fn fails_are_told(rt: &impl Abort, fails: &[FailLine]) {
     let [root, uart] = fails else {
         panic!(rt; "two devices that fail");
     };
-    assert_eq!(rt; root.path().as_bytes(), b"/".as_slice());
-    assert_eq!(rt; root.line(), 4);
-    assert_eq!(rt; uart.path().as_bytes(), b"/uart".as_slice());
-    assert_eq!(rt; uart.line(), 6);
+    fail_is_told(rt, root, b"/", 4);
+    fail_is_told(rt, uart, b"/uart", 6);
 }
 
 /// A driver file that is read: drivers with their strings, and the lines that fail a device.

@@ -1,13 +1,24 @@
 //! Pictures of plans.
 use bus_drivers::plan_graph;
-use bus_plan::read_plan;
+use bus_plan::{Plan, read_plan};
+use std::alloc::Global;
 use std::hash::RandomState;
+use std::process::Abort;
+
+fn is_drawn_as(rt: &impl Abort, alloc: Global, plan: &Plan, wanted: &str) {
+    let graph = plan_graph(alloc, plan).expect(rt, "a picture");
+    assert_eq!(rt; graph.as_slice(), wanted.as_bytes());
+}
+
+fn text_is_drawn_as(rt: &impl Abort, alloc: Global, hasher: RandomState, text: &str, wanted: &str) {
+    let plan = read_plan(alloc, hasher, text.as_bytes()).expect(rt, "a plan");
+    is_drawn_as(rt, alloc, &plan, wanted);
+}
 
 /// Pictures: states, arrows, and the arrows of cycles.
 #[test]
 fn graphs(rt: HostRuntime) {
-    let alloc = rt.alloc();
-    let rows = [
+    let rows: [(&str, &str); 3] = [
         (
             "",
             "digraph plan {\n    rankdir=LR;\n    node [shape=box];\n}\n",
@@ -21,10 +32,8 @@ fn graphs(rt: HostRuntime) {
             "digraph plan {\n    rankdir=LR;\n    node [shape=box];\n    \"/a\" [label=\"/a\\nx\"];\n    \"/b\" [label=\"/b\\nx\"];\n    \"/c\" [label=\"/c\\nx\"];\n    \"/d\" [label=\"/d\\nx\"];\n    \"/a\" -> \"/b\" [color=red];\n    \"/b\" -> \"/a\" [color=red];\n    \"/b\" -> \"/c\";\n    \"/c\" -> \"/d\" [color=red];\n    \"/d\" -> \"/c\" [color=red];\n}\n",
         ),
     ];
-    for (text, wanted) in rows {
-        let hasher = RandomState::new(&rt).expect(&rt, "a seed");
-        let plan = read_plan(alloc, hasher, text.as_bytes()).expect(&rt, "a plan");
-        let graph = plan_graph(alloc, &plan).expect(&rt, "a picture");
-        assert_eq!(rt; graph.as_slice(), wanted.as_bytes());
+    let hasher = RandomState::new(&rt).expect(&rt, "a seed");
+    for (text, wanted) in &rows {
+        text_is_drawn_as(&rt, rt.alloc(), hasher, *text, *wanted);
     }
 }

@@ -1,5 +1,7 @@
 //! Plan files: read, written, read back; what a plan answers; the lines and fields of a text file of the bus.
 
+ghost use Rattle.std.specs.Prelude.{◌≡◌, length};
+
 use bus_plan::{
     Device, Fields, MAX_DEVICES, Plan, PlanError, Planned, Verdict, is_line, is_line_byte,
     lines_of, plan_text, plan_text_is_read_back, read_plan,
@@ -17,6 +19,18 @@ fn is_written_as(rt: &impl Abort, alloc: Global, plan: &Plan, text: &[u8]) {
 fn is_copied_as(rt: &impl Abort, alloc: Global, plan: &Plan, text: &[u8]) {
     let copy = plan.copy(alloc).expect(rt, "a copy");
     is_written_as(rt, alloc, &copy, text);
+}
+
+fn text_is_written_as(
+    rt: &impl Abort,
+    alloc: Global,
+    hasher: RandomState,
+    text: &[u8],
+    written: &[u8],
+) {
+    let plan = read_plan(alloc, hasher, text).expect(rt, "a plan");
+    is_written_as(rt, alloc, &plan, written);
+    is_copied_as(rt, alloc, &plan, written);
 }
 
 /// Texts that are read, and what is written of them: one space between fields, no comments, no blank lines.
@@ -37,11 +51,14 @@ fn plans_are_read_and_written(rt: HostRuntime) {
         (b"/a - -\t/b\n/b # ok\n", b"/a - - /b\n/b # ok\n"),
     ];
     plan_text_is_read_back();
-    for (text, written) in rows {
-        let plan = read_plan(rt.alloc(), hasher, text).expect(&rt, "a plan");
-        is_written_as(&rt, rt.alloc(), &plan, written);
-        is_copied_as(&rt, rt.alloc(), &plan, written);
+    for (text, written) in &rows {
+        text_is_written_as(&rt, rt.alloc(), hasher, *text, *written);
     }
+}
+
+fn is_refused(rt: &impl Abort, alloc: Global, hasher: RandomState, text: &[u8], error: PlanError) {
+    let refusal = read_plan(alloc, hasher, text).err();
+    assert_eq!(rt; refusal, Some(error));
 }
 
 /// Texts that are refused, with the line at fault: the first fault in line order, and unknown suppliers behind all others.
@@ -71,17 +88,26 @@ fn faults_are_named_in_line_order(rt: HostRuntime) {
         (b"/a x ok /c\n/a x ok\n", PlanError::DuplicateDevice(2)),
         (b"/a x ok /c\n/a x ok /\n", PlanError::BadLine(2)),
     ];
-    for (text, error) in rows {
-        let hasher = RandomState::new(&rt).expect(&rt, "a seed");
-        let plan = read_plan(rt.alloc(), hasher, text);
-        assert_eq!(rt; plan.err(), Some(error));
+    let hasher = RandomState::new(&rt).expect(&rt, "a seed");
+    for (text, error) in &rows {
+        is_refused(&rt, rt.alloc(), hasher, *text, *error);
     }
+}
+
+/// A refusal with its number, its name and its line.
+type Told = (PlanError, u8, &'static str, Option<usize>);
+
+fn is_told(rt: &impl Abort, row: &Told) {
+    let (error, number, name, line) = row;
+    assert_eq!(rt; error.number(), *number);
+    assert_eq!(rt; error.name(), *name);
+    assert_eq!(rt; error.line(), *line);
 }
 
 /// Each refusal by its number, its name and its line.
 #[test]
 fn refusals_have_numbers_and_names(rt: HostRuntime) {
-    let rows: [(PlanError, u8, &str, Option<usize>); 8] = [
+    let rows: [Told; 8] = [
         (PlanError::NoMemory, 0, "NoMemory", None),
         (PlanError::BadLine(7), 50, "BadLine", Some(7)),
         (
@@ -101,23 +127,40 @@ fn refusals_have_numbers_and_names(rt: HostRuntime) {
         (PlanError::BadSpecifier, 55, "BadSpecifier", None),
         (PlanError::TooManyDevices, 56, "TooManyDevices", None),
     ];
-    for (error, number, name, line) in rows {
-        assert_eq!(rt; error.number(), number);
-        assert_eq!(rt; error.name(), name);
-        assert_eq!(rt; error.line(), line);
+    for row in &rows {
+        is_told(&rt, row);
     }
 }
 
-fn two_devices_are_told(rt: &impl Abort, plan: &Plan) {
-    let (s, d) = (Device::new(0), Device::new(1));
-    assert_eq!(rt; d.index(), 1);
+fn two_devices_are_there(rt: &impl Abort, plan: &Plan)
+    ensures { length plan.now ≡ 2 }
+{
+    assert_eq!(rt; Device::new(1).index(), 1);
     assert_eq!(rt; plan.len(), 2);
     assert!(rt; !plan.is_empty());
-    assert_eq!(rt; plan.path(d).as_bytes(), b"/d".as_slice());
-    assert!(rt; !plan.available(s) && plan.available(d));
+}
+
+fn first_is_told(rt: &impl Abort, plan: &Plan)
+    requires { length plan.now ≡ 2 }
+{
+    let s = Device::new(0);
+    assert!(rt; !plan.available(s));
     assert!(rt; plan.driver(s).is_none());
+}
+
+fn second_is_told(rt: &impl Abort, plan: &Plan)
+    requires { length plan.now ≡ 2 }
+{
+    let d = Device::new(1);
+    assert_eq!(rt; plan.path(d).as_bytes(), b"/d".as_slice());
+    assert!(rt; plan.available(d));
     assert_eq!(rt; plan.verdict(d), Verdict::Fails);
-    assert_eq!(rt; plan.suppliers(d), [s].as_slice());
+    assert_eq!(rt; plan.suppliers(d), [Device::new(0)].as_slice());
+}
+
+fn devices_are_found(rt: &impl Abort, plan: &Plan) {
+    let found = [plan.device(b"/d"), plan.device(b"/x")];
+    assert_eq!(rt; found, [Some(Device::new(1)), None]);
 }
 
 #[test]
@@ -126,9 +169,10 @@ fn readers_answer(rt: HostRuntime) {
     let hasher = RandomState::new(&rt).expect(&rt, "a seed");
     let plan = read_plan(rt.alloc(), hasher, text).expect(&rt, "a plan");
     plan.check();
-    two_devices_are_told(&rt, &plan);
-    let found = [plan.device(b"/d"), plan.device(b"/x")];
-    assert_eq!(rt; found, [Some(Device::new(1)), None]);
+    two_devices_are_there(&rt, &plan);
+    first_is_told(&rt, &plan);
+    second_is_told(&rt, &plan);
+    devices_are_found(&rt, &plan);
 }
 
 fn has_consumers(rt: &impl Abort, plan: &Plan, place: usize, consumers: &[Device]) {
@@ -151,8 +195,8 @@ fn consumers_stand_in_plan_order(rt: HostRuntime) {
         (3, &[]),
         (4, &[a, c]),
     ];
-    for (place, consumers) in rows {
-        has_consumers(&rt, &plan, place, consumers);
+    for (place, consumers) in &rows {
+        has_consumers(&rt, &plan, *place, *consumers);
     }
 }
 
@@ -224,6 +268,11 @@ fn joined_lines(rt: &impl Abort, alloc: Global, text: &[u8]) -> Vec<u8> {
     joined
 }
 
+fn is_cut_into(rt: &impl Abort, alloc: Global, text: &[u8], lines: &[u8]) {
+    let joined = joined_lines(rt, alloc, text);
+    assert_eq!(rt; joined.as_slice(), lines);
+}
+
 /// Lines end with a line feed, which takes one carriage return with it; the last may lack its line feed.
 #[test]
 fn texts_are_cut_into_lines(rt: HostRuntime) {
@@ -233,10 +282,14 @@ fn texts_are_cut_into_lines(rt: HostRuntime) {
         (b"a\n\n", b"a||"),
         (b"a\r\nb\r\r\nc\r", b"a|b\r|c\r|"),
     ];
-    for (text, lines) in rows {
-        let joined = joined_lines(&rt, rt.alloc(), text);
-        assert_eq!(rt; joined.as_slice(), lines);
+    for (text, lines) in &rows {
+        is_cut_into(&rt, rt.alloc(), *text, *lines);
     }
+}
+
+fn may_stand_in_a_line(rt: &impl Abort, byte: u8, lawful: bool) {
+    assert_eq!(rt; is_line_byte(byte), lawful);
+    assert_eq!(rt; is_line(&[b'a', byte]), lawful);
 }
 
 /// A line has tabs and the bytes 0x20 to 0x7e alone.
@@ -251,9 +304,8 @@ fn bytes_of_lines(rt: HostRuntime) {
         (b'~', true),
         (127, false),
     ];
-    for (byte, lawful) in rows {
-        assert_eq!(rt; is_line_byte(byte), lawful);
-        assert_eq!(rt; is_line(&[b'a', byte]), lawful);
+    for (byte, lawful) in &rows {
+        may_stand_in_a_line(&rt, *byte, *lawful);
     }
 }
 
@@ -264,6 +316,12 @@ fn joined_fields(rt: &impl Abort, alloc: Global, line: &[u8]) -> Vec<u8> {
         joined.push(b'|').expect(rt, "memory");
     }
     joined
+}
+
+fn has_fields(rt: &impl Abort, alloc: Global, line: &[u8], fields: &[u8], skipped: bool) {
+    let joined = joined_fields(rt, alloc, line);
+    assert_eq!(rt; joined.as_slice(), fields);
+    assert_eq!(rt; Fields::of(line).is_skipped(), skipped);
 }
 
 /// Fields stand between spaces and tabs; a line without one, or whose first begins with `#`, is skipped.
@@ -277,10 +335,8 @@ fn lines_are_cut_into_fields(rt: HostRuntime) {
         (b"a #", b"a|#|", false),
         (b" \tbegin  /a\t#x ", b"begin|/a|#x|", false),
     ];
-    for (line, fields, skipped) in rows {
-        let joined = joined_fields(&rt, rt.alloc(), line);
-        assert_eq!(rt; joined.as_slice(), fields);
-        assert_eq!(rt; Fields::of(line).is_skipped(), skipped);
+    for (line, fields, skipped) in &rows {
+        has_fields(&rt, rt.alloc(), *line, *fields, *skipped);
     }
 }
 
@@ -289,6 +345,10 @@ fn first_field<'a>(line: &'a [u8]) -> Result<Option<&'a [u8]>, PlanError> {
         Some(mut fields) => Ok(fields.next()),
         None => Ok(None),
     }
+}
+
+fn is_read_as(rt: &impl Abort, line: &[u8], read: Result<Option<&[u8]>, PlanError>) {
+    assert_eq!(rt; first_field(line), read);
 }
 
 /// A line is read as its fields, as nothing where it is skipped, or refused with its number.
@@ -301,7 +361,7 @@ fn lines_are_read(rt: HostRuntime) {
         (b"a\r", Err(PlanError::BadLine(7))),
         (b"#\r", Err(PlanError::BadLine(7))),
     ];
-    for (line, read) in rows {
-        assert_eq!(rt; first_field(line), read);
+    for (line, read) in &rows {
+        is_read_as(&rt, *line, *read);
     }
 }
