@@ -8,7 +8,7 @@ use std::hash::RandomState;
 use std::process::Abort;
 
 // What is done with a draft that has nothing yet.
-#[derive(Clone, Copy, Debug)]
+#[derive(Clone, Copy)]
 enum Row {
     Children,
     Properties,
