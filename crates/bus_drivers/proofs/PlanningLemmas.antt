@@ -1,8 +1,9 @@
 -- The refusals of a plan, in their order.
-use Rattle.std.proofs.Common.{◌≡◌, ◌∙◌, ◌⊎◌, inl, inr, ⊎_elim, ap, sym, refl, ℕ, ◌≤◌, List, [], ◌∷◌, length, Option, None, Some}
+use Rattle.std.proofs.Common.{◌≡◌, ◌∙◌, ◌⊎◌, inl, inr, ⊎_elim, ap, sym, refl, ℕ, ◌+◌, ◌<◌, ◌≤◌, List, [], ◌∷◌, ◌++◌, append_assoc, length, drop, get_or, Option, None, Some}
 use Rattle.std.specs.Prelude.{Result, Ok, Err, MatchResult}
 use Rattle.std.specs.Option.{option_map}
 use Rattle.std.proofs.lemmas.Bool.{le-leb}
+use Rattle.std.proofs.lemmas.List.{at_drop_more}
 use Rattle.dt_tree.specs.NodeData.{NodeData}
 use Rattle.bus_plan.specs.declared.error.PlanError.{PlanError}
 use Rattle.bus_plan.specs.declared.error.PlanError.TheVariants.{NoMemory, UnknownPath}
@@ -11,8 +12,10 @@ use Rattle.bus_plan.specs.Plan.{PlannedDevice}
 use Rattle.bus_plan.specs.PlanPaths.{is_among}
 use Rattle.bus_drivers.specs.Driver.{FailData, DriverSetData}
 use Rattle.bus_drivers.specs.Nodes.{TreeDevice, Target, device_ways, tree_devices, target_of}
-use Rattle.bus_drivers.specs.TreePlan.{unknown_fail, planned_from, plan_of_devices, plan_of}
+use Rattle.bus_drivers.specs.References.{and_then, followed_by, all_references}
+use Rattle.bus_drivers.specs.TreePlan.{suppliers_among, planned_device, unknown_fail, planned_from, plan_of_devices, plan_of}
 use Rattle.bus_drivers.specs.Private.Matching.{unknown_among}
+use Rattle.bus_drivers.specs.Private.Planning.{planned_at}
 
 -- ---- `fail` lines
 abbrev are_same : List (List ℕ) → List (List ℕ) → Type 0
@@ -34,6 +37,39 @@ module _ (devices : List TreeDevice) (fails : List FailData) (found : Option ℕ
     by : (o : Option FailData) → option_map (λ f. f.line) o ≡ Some n → option_map (λ f. UnknownPath f.line) o ≡ Some (UnknownPath n)
     by None h = cc
     by (Some f) h = let at : f.line ≡ n = cc in ap (λ k. Some (UnknownPath k)) at
+
+-- ---- devices that are planned one by one
+pub none-before : (planned : List PlannedDevice) (rest : Result (List PlannedDevice) PlanError) → planned ≡ [] → followed_by (Ok planned) rest ≡ rest
+none-before planned (Err e) none = refl
+none-before planned (Ok ds) none = ap (λ (ps : List PlannedDevice). Ok (ps ++ ds)) none
+
+module _ (target : ℕ → Option Target) (set : DriverSetData) (planned : List PlannedDevice) (devices : List TreeDevice) (place : ℕ) (d : TreeDevice)
+    (within : place < length devices) (is : d ≡ get_or devices place d) where
+  abbrev left : List TreeDevice → Result (List PlannedDevice) PlanError
+  left ds = followed_by (Ok planned) (planned_from target set place ds)
+
+  here : left (drop place devices) ≡ left (d ∷ drop (place + 1) devices)
+  here = at_drop_more left devices place d within ∙ ap (λ (e : TreeDevice). left (e ∷ drop (place + 1) devices)) (sym is)
+
+  -- a device more
+  pub planned-next : (p : PlannedDevice) → planned_at target set place d ≡ Ok p
+      → followed_by (Ok (planned ++ p ∷ [])) (planned_from target set (place + 1) (drop (place + 1) devices)) ≡ left (drop place devices)
+  planned-next p h = by (all_references target d.properties) (planned_from target set (place + 1) (drop (place + 1) devices)) h ∙ sym here where
+    by : (r : Result (List ℕ) PlanError) (more : Result (List PlannedDevice) PlanError) → and_then r (λ mentioned. Ok (planned_device set d (suppliers_among place mentioned))) ≡ Ok p
+        → followed_by (Ok (planned ++ p ∷ [])) more ≡ followed_by (Ok planned) (and_then r (λ mentioned. and_then more (λ ps. Ok (planned_device set d (suppliers_among place mentioned) ∷ ps))))
+    by (Err e) more g = cc
+    by (Ok ms) (Err e) g = refl
+    by (Ok ms) (Ok ps) g =
+        let same : planned_device set d (suppliers_among place ms) ≡ p = cc in
+        ap Ok (append_assoc planned (p ∷ []) ps ∙ ap (λ (q : PlannedDevice). planned ++ q ∷ ps) (sym same))
+
+  -- or its fault
+  pub planned-fault : (e : PlanError) → planned_at target set place d ≡ Err e → left (drop place devices) ≡ Err e
+  planned-fault e h = here ∙ by (all_references target d.properties) (planned_from target set (place + 1) (drop (place + 1) devices)) h where
+    by : (r : Result (List ℕ) PlanError) (more : Result (List PlannedDevice) PlanError) → and_then r (λ mentioned. Ok (planned_device set d (suppliers_among place mentioned))) ≡ Err e
+        → followed_by (Ok planned) (and_then r (λ mentioned. and_then more (λ ps. Ok (planned_device set d (suppliers_among place mentioned) ∷ ps)))) ≡ Err e
+    by (Err f) more g = let same : f ≡ e = cc in ap Err same
+    by (Ok ms) more g = cc
 
 -- ---- the plan
 module _ (target : ℕ → Option Target) (set : DriverSetData) (devices : List TreeDevice) where

@@ -11,7 +11,7 @@ use Rattle.bus_drivers.specs.Private.Entries.{device_count}
 use Rattle.bus_drivers.specs.Private.Walk.{own_device, devices_among, devices_at, devices_in_tree, own_target, target_among, target_at, target_in_tree, Refuses}
 
 -- ---- how many
-length-own : (text : List ℕ) (available : Bool) (p : List Property) → length (own_device text available p) ≡ (if is_compatible p then 1 else 0)
+pub length-own : (text : List ℕ) (available : Bool) (p : List Property) → length (own_device text available p) ≡ (if is_compatible p then 1 else 0)
 length-own text available p = by_test (is_compatible p) (record { path = text; available = available; properties = p }) where
   by_test : (t : Bool) (d : TreeDevice) → length (if t then d ∷ [] else []) ≡ (if t then 1 else 0)
   by_test true d = refl
@@ -70,7 +70,7 @@ next-target before after whole above met more_met text available f rest b phandl
     ∙ or_else-assoc before (target_at above met b phandle) (target_among above (((if is_compatible b.properties then 1 else 0) + device_count b.children) + met) rest phandle)
     ∙ ap (λ (g : Siblings). or_else before (target_among above met g phandle)) (sym next) ∙ left
 
-or_else-none : {A : Type 0} (x : Option A) → or_else x None ≡ x
+pub or_else-none : {A : Type 0} (x : Option A) → or_else x None ≡ x
 or_else-none None = refl
 or_else-none (Some a) = refl
 

@@ -5,11 +5,16 @@ use crate::cycles::{components_of, in_one};
 use bus_plan::{Device, Plan, Verdict};
 use std::alloc::{AllocError, Global};
 
-fn write_quoted(text: &mut Vec<u8>, bytes: &[u8]) -> Result<(), AllocError> {
-    text.push(b'"')?;
+// A text between two others.
+fn write_between(
+    text: &mut Vec<u8>,
+    before: &[u8],
+    bytes: &[u8],
+    after: &[u8],
+) -> Result<(), AllocError> {
+    text.extend_from_slice(before)?;
     text.extend_from_slice(bytes)?;
-    text.push(b'"')?;
-    Ok(())
+    text.extend_from_slice(after)
 }
 
 // What becomes of a device: its driver, that it fails, or why it has none.
@@ -37,14 +42,10 @@ fn write_device(text: &mut Vec<u8>, plan: &Plan, device: Device) -> Result<(), A
     requires { device < length plan.now }
 {
     let path = plan.path(device).as_bytes();
-    text.extend_from_slice(b"    ")?;
-    write_quoted(text, path)?;
-    text.extend_from_slice(b" [label=\"")?;
-    text.extend_from_slice(path)?;
-    text.extend_from_slice(b"\\n")?;
+    write_between(text, b"    \"", path, b"\" [label=\"")?;
+    write_between(text, b"", path, b"\\n")?;
     write_state(text, plan, device)?;
-    text.extend_from_slice(b"\"];\n")?;
-    Ok(())
+    text.extend_from_slice(b"\"];\n")
 }
 
 fn write_arrow(
@@ -53,15 +54,13 @@ fn write_arrow(
     to: &[u8],
     is_in_cycle: bool,
 ) -> Result<(), AllocError> {
-    text.extend_from_slice(b"    ")?;
-    write_quoted(text, from)?;
-    text.extend_from_slice(b" -> ")?;
-    write_quoted(text, to)?;
-    if is_in_cycle {
-        text.extend_from_slice(b" [color=red]")?;
-    }
-    text.extend_from_slice(b";\n")?;
-    Ok(())
+    let end = if is_in_cycle {
+        b"\" [color=red];\n".as_slice()
+    } else {
+        b"\";\n".as_slice()
+    };
+    write_between(text, b"    \"", from, b"\" -> \"")?;
+    write_between(text, b"", to, end)
 }
 
 // An arrow to each supplier of a device.
@@ -82,20 +81,40 @@ fn write_arrows(
     Ok(())
 }
 
+fn write_devices(text: &mut Vec<u8>, plan: &Plan) -> Result<(), AllocError> {
+    for place in 0..plan.len() {
+        write_device(text, plan, Device::new(place))?;
+    }
+    Ok(())
+}
+
+fn write_all_arrows(
+    text: &mut Vec<u8>,
+    plan: &Plan,
+    components: &[usize],
+) -> Result<(), AllocError> {
+    for place in 0..plan.len() {
+        write_arrows(text, plan, components, Device::new(place))?;
+    }
+    Ok(())
+}
+
+fn write_plan(text: &mut Vec<u8>, plan: &Plan, components: &[usize]) -> Result<(), AllocError> {
+    text.extend_from_slice(b"digraph plan {\n    rankdir=LR;\n    node [shape=box];\n")?;
+    write_devices(text, plan)?;
+    write_all_arrows(text, plan, components)?;
+    text.extend_from_slice(b"}\n")
+}
+
+fn write_graph(alloc: Global, text: &mut Vec<u8>, plan: &Plan) -> Result<(), AllocError> {
+    let components = components_of(alloc, plan)?;
+    write_plan(text, plan, components.as_slice())
+}
+
 /// The plan as a Graphviz graph: its devices with their drivers or states, an arrow from each to each of its suppliers, and the
 /// arrows of cycles red.
 pub fn plan_graph(alloc: Global, plan: &Plan) -> Result<Vec<u8>, AllocError> {
-    let components = components_of(alloc, plan)?;
-    let mut text = Vec::from_slice(
-        alloc,
-        b"digraph plan {\n    rankdir=LR;\n    node [shape=box];\n",
-    )?;
-    for place in 0..plan.len() {
-        write_device(&mut text, plan, Device::new(place))?;
-    }
-    for place in 0..plan.len() {
-        write_arrows(&mut text, plan, components.as_slice(), Device::new(place))?;
-    }
-    text.extend_from_slice(b"}\n")?;
+    let mut text = Vec::new(alloc);
+    write_graph(alloc, &mut text, plan)?;
     Ok(text)
 }

@@ -112,8 +112,8 @@ impl Suppliers {
         Ok(())
     }
 
-    fn into_devices(self, alloc: Global) -> Result<Vec<Device>, AllocError>
-        ensures { IfOk result (λ devices. devices.items ≡ self.found) }
+    fn devices(&self, alloc: Global) -> Result<Vec<Device>, AllocError>
+        ensures { IfOk result (λ devices. devices.items ≡ self.now.found) }
     {
         let mut devices = Vec::with_capacity(alloc, self.found.len())?;
         for place in self.found.as_slice() {
@@ -138,5 +138,5 @@ pub fn suppliers_of(
 {
     let mut suppliers = Suppliers::new(alloc, hasher, own);
     suppliers.add_properties(survey, properties)?;
-    Ok(suppliers.into_devices(alloc)?)
+    Ok(suppliers.devices(alloc)?)
 }

@@ -1,5 +1,5 @@
 //! One walk over a tree, from the root down.
-ghost use Rattle.std.specs.Prelude.{◌≡◌, ◌≤◌, ◌⊎◌, ◌&&◌, ◌∷◌, ◌++◌, [], ℕ, nat_eq, length, IfOk, IfErr, OnOk, MatchResult};
+ghost use Rattle.std.specs.Prelude.{◌≡◌, ◌≤◌, ◌⊎◌, ◌&&◌, ◌∷◌, ◌++◌, [], ℕ, nat_eq, nat_lt, length, IfOk, IfErr, OnOk, MatchResult};
 ghost use Rattle.bus_plan.specs.declared.error.PlanError.TheVariants.{NoMemory};
 ghost use Rattle.bus_plan.specs.declared.limits.TheConstants.{MAX_DEVICES};
 ghost use Rattle.dt_tree.specs.Phandle.{or_else};
@@ -60,6 +60,12 @@ fn path_of(alloc: Global, way: &[u8]) -> Result<Path, PlanError>
     Ok(path)
 }
 
+fn has_room(count: usize) -> bool
+    ensures { result ≡ nat_lt count MAX_DEVICES }
+{
+    count < MAX_DEVICES
+}
+
 // The device's place is how many were kept before it.
 fn keep_device<'t>(
     alloc: Global,
@@ -74,7 +80,7 @@ fn keep_device<'t>(
     ensures few { OnOk result (length devices.new.items ≤ MAX_DEVICES) }
     ensures err { IfErr result (Refuses (devices.old.items ++ record { path = way.now; available = available; properties = node.now.properties } ∷ [])) }
 {
-    if devices.len() == MAX_DEVICES {
+    if !has_room(devices.len()) {
         return Err(PlanError::TooManyDevices);
     }
     let place = devices.len();

@@ -9,4 +9,4 @@ use Rattle.bus_drivers.proofs.suppliers.suppliers_of.Goals as goal
 pub returns : goal.returns
 returns c =
     let mentioned = all_references (target_of c.args.survey.now) c.args.properties.now in
-    suppliers-all c.args.own mentioned _ _ (ap (λ s. adding s mentioned) (sym c.new-suppliers.ensures) ∙ c.in_ok-add_properties.ensures) c.in_ok-into_devices.ensures
+    suppliers-all c.args.own mentioned _ _ (ap (λ s. adding s mentioned) (sym c.new-suppliers.ensures) ∙ c.in_ok-add_properties.ensures) c.in_ok-devices.ensures

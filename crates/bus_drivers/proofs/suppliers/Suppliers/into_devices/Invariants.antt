@@ -1,6 +1,0 @@
-use Rattle.std.proofs.Common.{◌≡◌, take}
-use Rattle.bus_drivers.proofs.suppliers.Suppliers.into_devices.Given as goal
-
--- the places so far are named
-abbrev pub invariant-loop-place : goal.invariant-loop-place
-invariant-loop-place l = l.devices.items ≡ take l.place-index l.fn.self.found
