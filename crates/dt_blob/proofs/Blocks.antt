@@ -1,5 +1,6 @@
 -- The blob from its blocks.
-use Rattle.std.proofs.Common.{◌≡◌, ℕ, ◌+◌, ◌*◌, ◌≤◌, List, [], ◌∷◌, ◌++◌, length, ap, sym, ◌∙◌, inl, inr, arith, length-append, append_assoc}
+use Rattle.std.proofs.Common.{◌≡◌, ℕ, ◌+◌, ◌*◌, ◌<◌, ◌≤◌, List, [], ◌∷◌, ◌++◌, length, drop, get_or, ap, sym, ◌∙◌, inl, inr, arith, length-append, append_assoc, drop-cons, add-one}
+use Rattle.std.proofs.lemmas.List.{drop_all}
 use Rattle.std.specs.Prelude.{Result, Ok, Err, IsErrAnd, MatchResult}
 use Rattle.dt_tree.specs.TreeData.{TreeData, IsTree}
 use Rattle.dt_blob.specs.declared.error.BlobError.{BlobError}
@@ -21,6 +22,20 @@ pub length-reservations : (rs : List (ℕ × ℕ)) → length (reservations rs) 
 length-reservations [] = simp (length-append, length-double_word)
 length-reservations (r ∷ rs) =
     omega (arith, length-append (double_word r.0) (double_word r.1 ++ reservations rs), length-append (double_word r.1) (reservations rs), length-double_word r.0, length-double_word r.1, length-reservations rs)
+
+-- one reservation more
+pub next-reservation : (out a b last : List ℕ) (rs : List (ℕ × ℕ)) (i : ℕ) (r : ℕ × ℕ) → i < length rs → a ≡ out ++ double_word (get_or rs i r).0 → b ≡ a ++ double_word (get_or rs i r).1 → out ++ reservations (drop i rs) ≡ last → b ++ reservations (drop (i + 1) rs) ≡ last
+next-reservation out a b last rs i r h ea eb left =
+    let e : get_or rs i r ∷ drop (i + 1) rs ≡ drop i rs = rw add-one (sym (drop-cons rs i r h)) in
+    let x = double_word (get_or rs i r).0 in
+    let y = double_word (get_or rs i r).1 in
+    let rest = reservations (drop (i + 1) rs) in
+    ap (λ (ys : List ℕ). ys ++ rest) (eb ∙ ap (λ (ys : List ℕ). ys ++ y) ea) ∙ append_assoc (out ++ x) y rest ∙ append_assoc out x (y ++ rest) ∙ ap (λ (ds : List (ℕ × ℕ)). out ++ reservations ds) e ∙ left
+
+-- the pair of zeros behind the last
+pub last-reservation : (out a last : List ℕ) (rs : List (ℕ × ℕ)) (i : ℕ) → length rs ≤ i → a ≡ out ++ double_word 0 → out ++ reservations (drop i rs) ≡ last → a ++ double_word 0 ≡ last
+last-reservation out a last rs i h ea left =
+    ap (λ (ys : List ℕ). ys ++ double_word 0) ea ∙ append_assoc out (double_word 0) (double_word 0) ∙ ap (λ (ds : List (ℕ × ℕ)). out ++ reservations ds) (sym (drop_all i rs h)) ∙ left
 
 -- how long the blob is, by what is known before it is made
 pub blob-size : (tree : TreeData) → IsTree tree → length (blob_of tree) ≡ 40 + (16 * length tree.reserves + 16) + tokens_size (tree_tokens tree.root) + length (with_names [] (with_sights [] (names_in (tokens_of tree.root))))

@@ -1,5 +1,5 @@
 -- Lines of a source: how long they are, and one behind the other.
-use Rattle.std.proofs.Common.{◌≡◌, ℕ, suc, ◌+◌, ◌-◌, ◌<◌, ◌≤◌, List, [], ◌∷◌, ◌++◌, length, drop, get_or, refl, sym, ap, ◌∙◌, arith, length-append, append_assoc, drop-cons, add-one, inl, inr}
+use Rattle.std.proofs.Common.{◌≡◌, ℕ, suc, ◌+◌, ◌-◌, ◌<◌, ◌≤◌, List, [], ◌∷◌, ◌++◌, length, drop, get_or, refl, sym, ap, subst, ◌∙◌, arith, length-append, append_assoc, drop-cons, add-one, inl, inr}
 use Rattle.std.proofs.lemmas.List.{length-replicate}
 use Rattle.std.specs.Prelude.{Result, Ok, Err, IsErrAnd, codes}
 use Rattle.dt_tree.specs.NodeData.{NodeData, siblings}
@@ -8,7 +8,7 @@ use Rattle.dt_blob.specs.declared.error.BlobError.{BlobError}
 use Rattle.dt_blob.specs.BigEndian.{double_word}
 use Rattle.dt_blob.specs.Steps.Printed.{Prints}
 use Rattle.dt_blob.specs.SourceText.{hex_of, tabs, value_part, property_line, property_lines, begin_line, end_line, sibling_lines, node_lines, reserve_line, reserve_lines}
-use Rattle.dt_blob.specs.Blob.{Refuses}
+use Rattle.dt_blob.specs.Blob.{limit, Refuses}
 use Rattle.dt_blob.proofs.Sizes.{length-double_word}
 use Rattle.dt_blob.proofs.Texts.{length-hex}
 use Rattle.dt_blob.proofs.Walk.{left-item}
@@ -83,3 +83,9 @@ pub next-reserve_at : (out last : List ℕ) (rs : List (ℕ × ℕ)) (i : ℕ) (
 next-reserve_at out last rs i r h left =
     let e : get_or rs i r ∷ drop (i + 1) rs ≡ drop i rs = rw add-one (sym (drop-cons rs i r h)) in
     append_assoc out (reserve_line (get_or rs i r)) (reserve_lines (drop (i + 1) rs)) ∙ ap (λ ds. out ++ reserve_lines ds) e ∙ left
+
+-- no line is left
+pub ended-lines : (out rest last : List ℕ) → rest ≡ [] → out ++ rest ≡ last → length out ≤ limit → (out ≡ last) × (length last ≤ limit)
+ended-lines out rest last none left h =
+    let is : out ≡ last = sym (append_nil out) ∙ ap (λ ys. out ++ ys) (sym none) ∙ left in
+    (is, subst (λ (ys : List ℕ). length ys ≤ limit) is h)

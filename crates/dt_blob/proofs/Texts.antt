@@ -1,10 +1,11 @@
 -- Values as text: cells one by one, and how long a text is.
-use Rattle.std.proofs.Common.{◌≡◌, ℕ, suc, ◌+◌, ◌*◌, ◌/◌, ◌%◌, ◌<◌, ◌≤◌, Bool, true, false, List, [], ◌∷◌, ◌++◌, length, take, drop, get_or, refl, sym, ap, ◌∙◌, arith, length-append, length-drop, append_assoc, drop-cons}
+use Rattle.std.proofs.Common.{◌≡◌, ℕ, suc, ◌+◌, ◌*◌, ◌/◌, ◌%◌, ◌<◌, ◌≤◌, Bool, true, false, List, [], ◌∷◌, ◌++◌, length, take, drop, get_or, refl, sym, ap, ◌∙◌, arith, length-append, length-drop, append_assoc, drop-cons, add-one}
+use Rattle.std.proofs.lemmas.List.{drop_all}
 use Rattle.std.proofs.lemmas.Bool.{eqb-true}
 use Rattle.std.specs.Prelude.{◌==◌, ◌||◌, codes, if◌then◌else◌}
 use Rattle.dt_blob.specs.declared.value_form.ValueForm.TheVariants as form
 use Rattle.dt_blob.specs.Steps.Printed.{form_of}
-use Rattle.dt_blob.specs.SourceText.{hex_of, space, are_strings, character, comma, strings_text, cells_text, pairs_text, value_text, value_part}
+use Rattle.dt_blob.specs.SourceText.{hex_digit, hex_of, space, are_strings, character, comma, strings_text, cells_text, pairs_text, value_text, value_part}
 
 four : (xs : List ℕ) (i : ℕ) → i + 4 ≤ length xs → drop i xs ≡ get_or xs i 0 ∷ get_or xs (suc i) 0 ∷ get_or xs (suc (suc i)) 0 ∷ get_or xs (suc (suc (suc i))) 0 ∷ drop (suc (suc (suc (suc i)))) xs
 four xs i h =
@@ -22,6 +23,22 @@ cells-step o s x h piece v last later k es ex eh ep room left =
     let n : 4 * (k + 1) ≡ suc (suc (suc (suc (4 * k)))) = omega arith in
     let e = cells-next later v (4 * k) room in
     rw (eh, ex, es, ep, n) (simp append_assoc (ap (λ ys. o ++ ys) (sym e) ∙ left))
+
+-- one byte more
+pub pairs-step : (o s h v last : List ℕ) (later : Bool) (i : ℕ) → i < length v → s ≡ o ++ space later → h ≡ s ++ hex_of (get_or v i 0 ∷ []) → o ++ pairs_text later (drop i v) ≡ last → h ++ pairs_text true (drop (i + 1) v) ≡ last
+pairs-step o s h v last later i room es eh left =
+    let e : get_or v i 0 ∷ drop (i + 1) v ≡ drop i v = rw add-one (sym (drop-cons v i 0 room)) in
+    let digits = hex_of (get_or v i 0 ∷ []) in
+    let rest = pairs_text true (drop (i + 1) v) in
+    ap (λ ys. ys ++ rest) (eh ∙ ap (λ ys. ys ++ digits) es) ∙ append_assoc (o ++ space later) digits rest ∙ append_assoc o (space later) (digits ++ rest) ∙ ap (λ ys. o ++ pairs_text later ys) e ∙ left
+
+-- two digits more
+pub hex-step : (o s h v last : List ℕ) (a b : ℕ) (i : ℕ) → i < length v → a ≡ hex_digit (get_or v i 0 / 16) → b ≡ hex_digit (get_or v i 0 % 16) → s ≡ o ++ a ∷ [] → h ≡ s ++ b ∷ [] → o ++ hex_of (drop i v) ≡ last → h ++ hex_of (drop (i + 1) v) ≡ last
+hex-step o s h v last a b i room ea eb es eh left =
+    let e : get_or v i 0 ∷ drop (i + 1) v ≡ drop i v = rw add-one (sym (drop-cons v i 0 room)) in
+    let rest = hex_of (drop (i + 1) v) in
+    ap (λ ys. ys ++ rest) (eh ∙ ap (λ ys. ys ++ b ∷ []) es) ∙ append_assoc (o ++ a ∷ []) (b ∷ []) rest ∙ append_assoc o (a ∷ []) (b ∷ rest)
+    ∙ ap (λ x. o ++ x ∷ b ∷ rest) ea ∙ ap (λ x. o ++ hex_digit (get_or v i 0 / 16) ∷ x ∷ rest) eb ∙ ap (λ ys. o ++ hex_of ys) e ∙ left
 
 -- what is no cell
 pub cells-short : (later : Bool) (xs : List ℕ) → length xs < 4 → cells_text later xs ≡ []
@@ -78,6 +95,16 @@ length-strings ended (x ∷ xs) = omega (arith, length-strings (x == 0) xs, leng
 append_nil : (xs : List ℕ) → xs ++ [] ≡ xs
 append_nil [] = refl
 append_nil (x ∷ xs) = ap (λ ys. x ∷ ys) (append_nil xs)
+
+-- nothing is left
+pub nothing-left : (o rest last : List ℕ) → rest ≡ [] → o ++ rest ≡ last → o ≡ last
+nothing-left o rest last none left = sym (append_nil o) ∙ ap (λ ys. o ++ ys) (sym none) ∙ left
+
+-- behind the last byte
+pub pairs-end : (first o p v : List ℕ) (later : Bool) (i : ℕ) → length v ≤ i → o ++ pairs_text later (drop i v) ≡ first ++ 91 ∷ pairs_text false v → p ≡ o ++ 93 ∷ [] → p ≡ first ++ 91 ∷ (pairs_text false v ++ 93 ∷ [])
+pairs-end first o p v later i h left e =
+    let o-is : o ≡ first ++ 91 ∷ pairs_text false v = nothing-left o (pairs_text later (drop i v)) _ (ap (pairs_text later) (drop_all i v h)) left in
+    e ∙ ap (λ ys. ys ++ 93 ∷ []) o-is ∙ append_assoc first (91 ∷ pairs_text false v) (93 ∷ [])
 
 -- behind the last cell
 pub cells-end : (first o p v : List ℕ) (later : Bool) (k : ℕ) → length v / 4 ≤ k → o ++ cells_text later (drop (4 * k) v) ≡ first ++ 60 ∷ cells_text false v → p ≡ o ++ 62 ∷ [] → p ≡ first ++ 60 ∷ (cells_text false v ++ 62 ∷ [])

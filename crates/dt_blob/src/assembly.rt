@@ -60,6 +60,16 @@ fn assemble(
     Ok(bytes)
 }
 
+/// Where the structure block and the strings block begin.
+fn block_places(tree: &Tree) -> Result<(usize, usize), BlobError>
+    ensures { MatchResult result (λ x. (x.0 ≡ header_size + (reservation_size * length tree.now.reserves + reservation_size)) × ((x.1 ≡ x.0 + tokens_size (tree_tokens tree.now.root)) × (x.1 ≤ limit))) (λ e. Refuses (length (blob_of tree.now)) e) }
+{
+    tree.check();
+    let structure_at = add_reservations(HEADER_SIZE, tree.reserves())?;
+    let strings_at = add_structure(structure_at, tree.root())?;
+    Ok((structure_at, strings_at))
+}
+
 /// Makes the blob of a tree, in version 17. Fails with `TooLarge` where it has over `MAX_SIZE`
 /// bytes, and with `NoMemory`. The hasher is for the tree's names; no answer depends on it.
 pub fn write(alloc: Global, hasher: RandomState, tree: &Tree) -> Result<Vec<u8>, BlobError>
@@ -67,8 +77,7 @@ pub fn write(alloc: Global, hasher: RandomState, tree: &Tree) -> Result<Vec<u8>,
     ensures held { IfOk result (λ blob. Holds blob.items tree.now) }
 {
     tree.check();
-    let structure_at = add_reservations(HEADER_SIZE, tree.reserves())?;
-    let strings_at = add_structure(structure_at, tree.root())?;
+    let (structure_at, strings_at) = block_places(tree)?;
     let strings = Strings::new(alloc, hasher, tree.root())?;
     assemble(alloc, tree, &strings, structure_at, strings_at)
 }

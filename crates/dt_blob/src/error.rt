@@ -3,30 +3,22 @@ ghost use Rattle.dt_blob.specs.BlobError.{number_of, name_of};
 
 use dt_tree::TreeError;
 use std::alloc::{AllocError, AllocFailed};
-use thiserror::Error;
+use std::error::Error;
+use std::fmt;
+use std::fmt::{Display, Formatter, Write};
 
 /// Why a blob or a text could not be made, or bytes are no blob.
-#[derive(Clone, Copy, Debug, Drop, PartialEq, Eq, Error)]
+#[derive(Clone, Copy, Debug, Drop, PartialEq, Eq)]
 pub enum BlobError {
-    #[error("out of memory")]
     NoMemory,
-    #[error("the bytes end before the blob does")]
     Truncated,
-    #[error("the bytes do not begin with the magic number")]
     BadMagic,
-    #[error("the version is none that can be read")]
     BadVersion,
-    #[error("a block of the blob is out of place")]
     BadLayout,
-    #[error("the structure block has a bad token")]
     BadToken,
-    #[error("a name does not end inside its block")]
     BadString,
-    #[error("a property stands after a child node")]
     PropertyAfterNode,
-    #[error("the nodes make no lawful tree")]
     BadTree,
-    #[error("more than 268,435,456 bytes")]
     TooLarge,
 }
 
@@ -103,3 +95,29 @@ impl BlobError {
         }
     }
 }
+
+impl BlobError {
+    // What is wrong.
+    fn text(&self) -> &'static str {
+        match self {
+            BlobError::NoMemory => "out of memory",
+            BlobError::Truncated => "the bytes end before the blob does",
+            BlobError::BadMagic => "the bytes do not begin with the magic number",
+            BlobError::BadVersion => "the version is none that can be read",
+            BlobError::BadLayout => "a block of the blob is out of place",
+            BlobError::BadToken => "the structure block has a bad token",
+            BlobError::BadString => "a name does not end inside its block",
+            BlobError::PropertyAfterNode => "a property stands after a child node",
+            BlobError::BadTree => "the nodes make no lawful tree",
+            BlobError::TooLarge => "more than 268,435,456 bytes",
+        }
+    }
+}
+
+impl Display for BlobError {
+    fn fmt<W: Write>(&self, f: &mut Formatter<W>) -> fmt::Result {
+        f.write_str(self.text())
+    }
+}
+
+impl Error for BlobError {}

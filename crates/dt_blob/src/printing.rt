@@ -34,6 +34,18 @@ fn value_part_len(form: ValueForm, value: &[u8]) -> usize
     5 + value_len(form, value)
 }
 
+fn put_value_part(out: &mut Vec<u8>, form: ValueForm, value: &[u8]) -> Result<(), AllocError>
+    requires { form ≡ form_of value.now }
+    ensures { OnOk result (out.new.items ≡ out.old.items ++ value_part value.now) }
+{
+    if value.is_empty() {
+        return out.extend_from_slice(b";\n");
+    }
+    out.extend_from_slice(b" = ")?;
+    put_value(out, form, value)?;
+    out.extend_from_slice(b";\n")
+}
+
 fn put_property_line(
     out: &mut Vec<u8>,
     depth: usize,
@@ -45,13 +57,7 @@ fn put_property_line(
 {
     put_tabs(out, depth)?;
     out.extend_from_slice(property.name.as_bytes())?;
-    let value = property.value.as_slice();
-    if value.is_empty() {
-        return out.extend_from_slice(b";\n");
-    }
-    out.extend_from_slice(b" = ")?;
-    put_value(out, form, value)?;
-    out.extend_from_slice(b";\n")
+    put_value_part(out, form, property.value.as_slice())
 }
 
 fn put_property(out: &mut Vec<u8>, depth: usize, property: &Property) -> Result<(), BlobError>

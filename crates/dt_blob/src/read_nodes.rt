@@ -1,8 +1,8 @@
 //! The nodes that tokens make.
-ghost use Rattle.std.specs.Prelude.{◌≡◌, [], ◌∷◌, Some, None, if◌then◌else◌};
+ghost use Rattle.std.specs.Prelude.{◌≡◌, List, [], ◌∷◌, map, reverse, Some, None, if◌then◌else◌};
 ghost use Rattle.dt_tree.specs.NodeView.{name_bytes};
 ghost use Rattle.dt_tree.specs.Name.{is_name};
-ghost use Rattle.dt_blob.specs.Steps.Opened.{opened, opened_of, state_of, begin_in, property_in, node_of, end_in, is_end, advance, begun, root_from};
+ghost use Rattle.dt_blob.specs.Steps.Opened.{Opened, inside, opened, opened_of, state_of, begin_in, property_in, node_of, end_in, is_end, advance, begun, root_from};
 ghost use Rattle.dt_blob.specs.Steps.Reading.{Gives, token_of, tokens_at, left};
 ghost use Rattle.dt_blob.specs.Token.{end};
 
@@ -10,6 +10,7 @@ use crate::error::BlobError;
 use crate::read_token::{BlobToken, token};
 use dt_tree::{Bytes, MAX_DEPTH, Name, Node, Property};
 use std::alloc::Global;
+use std::mem;
 
 /// A node whose end hasn't come.
 #[derive(Drop)]
@@ -43,6 +44,24 @@ fn lawful(alloc: Global, name: &[u8]) -> Result<Name, BlobError>
     Ok(Name::new(alloc, name)?)
 }
 
+// A child's beginning, in the node at hand and those round it.
+fn begin_child(
+    alloc: Global,
+    top: &mut OpenNode,
+    outer: &mut Vec<OpenNode>,
+    name: &[u8],
+) -> Result<(), BlobError>
+    ensures { Gives (λ _. inside (opened_of top.new) (reverse (map opened_of outer.new.items))) result (begin_in (inside (opened_of top.old) (reverse (map opened_of outer.old.items))) name.now) }
+{
+    if outer.len() >= MAX_DEPTH {
+        return Err(BlobError::BadTree);
+    }
+    let name = lawful(alloc, name)?;
+    outer.reserve(1)?;
+    outer.push_reserved(mem::replace(top, open(alloc, Some(name))));
+    Ok(())
+}
+
 fn begin(alloc: Global, progress: Progress, name: &[u8]) -> Result<Progress, BlobError>
     ensures { Gives state_of result (begin_in (state_of progress) name.now) }
 {
@@ -53,16 +72,32 @@ fn begin(alloc: Global, progress: Progress, name: &[u8]) -> Result<Progress, Blo
             }
             Ok(Progress::Inside(open(alloc, None), Vec::new(alloc)))
         }
-        Progress::Inside(top, mut outer) => {
-            let name = lawful(alloc, name)?;
-            if outer.len() >= MAX_DEPTH {
-                return Err(BlobError::BadTree);
-            }
-            outer.push(top)?;
-            Ok(Progress::Inside(open(alloc, Some(name)), outer))
+        Progress::Inside(mut top, mut outer) => {
+            begin_child(alloc, &mut top, &mut outer, name)?;
+            Ok(Progress::Inside(top, outer))
         }
         Progress::Behind(_) => Err(BlobError::BadToken),
     }
+}
+
+fn property(alloc: Global, name: &[u8], value: &[u8]) -> Result<Property, BlobError>
+    ensures { Gives (λ p. p) result (if is_name name.now then Some (record { name = name.now; value = value.now }) else None) }
+{
+    let name = lawful(alloc, name)?;
+    let value = Bytes::from_vec(Vec::from_slice(alloc, value)?);
+    Ok(Property { name, value })
+}
+
+fn add(alloc: Global, top: &mut OpenNode, name: &[u8], value: &[u8]) -> Result<(), BlobError>
+    ensures { (outer : List Opened) → Gives (λ _. inside (opened_of top.new) outer) result (property_in (inside (opened_of top.old) outer) name.now value.now) }
+{
+    let children = top.children.len();
+    if children > 0 {
+        return Err(BlobError::PropertyAfterNode);
+    }
+    let property = property(alloc, name, value)?;
+    top.properties.push(property)?;
+    Ok(())
 }
 
 fn add_property(
@@ -75,12 +110,7 @@ fn add_property(
 {
     match progress {
         Progress::Inside(mut top, outer) => {
-            if !top.children.is_empty() {
-                return Err(BlobError::PropertyAfterNode);
-            }
-            let name = lawful(alloc, name)?;
-            let value = Bytes::from_vec(Vec::from_slice(alloc, value)?);
-            top.properties.push(Property { name, value })?;
+            add(alloc, &mut top, name, value)?;
             Ok(Progress::Inside(top, outer))
         }
         _ => Err(BlobError::BadToken),

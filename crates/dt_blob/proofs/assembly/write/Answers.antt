@@ -1,29 +1,18 @@
-use Rattle.std.proofs.Common.{◌≡◌, ◌≤◌, ℕ, List, [], length, ap, sym, subst, inr, arith}
+use Rattle.std.proofs.Common.{◌≡◌, ◌≤◌, ℕ, List, [], length, ap, sym, subst, arith}
 use Rattle.dt_blob.specs.Blob.{limit, names_in, blob_of}
 use Rattle.dt_blob.specs.Holds.{Holds}
 use Rattle.dt_blob.specs.Strings.{with_names}
 use Rattle.dt_blob.specs.Steps.Table.{with_sights}
-use Rattle.dt_blob.specs.Token.{tokens_of, tree_tokens}
-use Rattle.dt_blob.specs.Steps.Written.{tokens_size}
+use Rattle.dt_blob.specs.Token.{tokens_of}
 use Rattle.std.proofs.lemmas.Result.{MatchResult-weaker}
 use Rattle.dt_blob.proofs.Blocks.{blob-size, no-room}
 use Rattle.dt_blob.proofs.HeldBlob.{blob_holds}
 use Rattle.dt_blob.proofs.assembly.write.Goals as goal
 
-pub returns-in_err-structure_at-clause-blob : goal.returns-in_err-structure_at-clause-blob
-returns-in_err-structure_at-clause-blob c =
-    no-room c.from_residual.result (λ blob. (blob.items ≡ blob_of c.args.tree.now) × (length blob.items ≤ limit)) _ _ (blob_of c.args.tree.now) c.from_residual.ensures.1 (inr c.in_err-structure_at.ensures)
-    (omega (arith, blob-size c.args.tree.now c.check.ensures, ap length c.reserves.ensures))
-
-pub returns-in_err-strings_at-clause-blob : goal.returns-in_err-strings_at-clause-blob
-returns-in_err-strings_at-clause-blob c =
-    no-room c.from_residual-in_err-strings_at.result (λ blob. (blob.items ≡ blob_of c.args.tree.now) × (length blob.items ≤ limit)) _ _ (blob_of c.args.tree.now) c.from_residual-in_err-strings_at.ensures.1 (inr c.in_err-strings_at.ensures)
-    (omega (arith, blob-size c.args.tree.now c.check.ensures, ap length c.reserves.ensures, c.in_ok-structure_at.ensures.0, ap (λ r. tokens_size (tree_tokens r)) c.root.ensures))
-
 pub returns-in_err-strings-clause-blob : goal.returns-in_err-strings-clause-blob
 returns-in_err-strings-clause-blob c =
     no-room c.from_residual-in_err-strings.result (λ blob. (blob.items ≡ blob_of c.args.tree.now) × (length blob.items ≤ limit)) _ _ (blob_of c.args.tree.now) c.from_residual-in_err-strings.ensures.1 c.in_err-strings.ensures
-    (omega (arith, blob-size c.args.tree.now c.check.ensures, ap (λ r. length (with_names [] (with_sights [] (names_in (tokens_of r))))) c.root-2.ensures))
+    (omega (arith, blob-size c.args.tree.now c.check.ensures, ap (λ r. length (with_names [] (with_sights [] (names_in (tokens_of r))))) c.root.ensures))
 
 pub returns-clause-held : goal.returns-clause-held
 returns-clause-held c =

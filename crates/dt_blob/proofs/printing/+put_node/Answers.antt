@@ -1,4 +1,4 @@
-use Rattle.std.proofs.Common.{◌+◌, ◌++◌, ℕ, List, drop, ap, sym, subst, ◌∙◌, append_assoc}
+use Rattle.std.proofs.Common.{rules, ◌+◌, ◌++◌, ℕ, List, drop, ap, sym, subst, ◌∙◌, append_assoc}
 use Rattle.std.proofs.lemmas.List.{drop_all}
 use Rattle.dt_tree.specs.NodeData.{siblings}
 use Rattle.dt_tree.specs.declared.property.Property.{Property}
@@ -53,3 +53,12 @@ pub returns : goal.returns
 returns t c =
     let none = ap (λ bs. c.loop-child.out.items ++ (sibling_lines (c.args.depth + 1) (siblings bs) ++ end_line c.args.depth)) (drop_all c.loop-child.child-index c.children-child-items.result.now c.loop-child-test.false) in
     subst (λ (whole : List ℕ). Prints c.put_end.result c.put_end.new.out.items whole) (sym none ∙ c.loop-child.invariant.left) c.put_end.ensures
+
+pub put_properties-requires : goal.put_properties-requires
+put_properties-requires t c = rw c.in_ok-put_begin.ensures.0 c.in_ok-put_begin.ensures.1
+
+pub put_node-requires : goal.put_node-requires
+put_node-requires t c = (search rules, c.loop-child.invariant.fits)
+
+pub put_end-requires : goal.put_end-requires
+put_end-requires t c = c.loop-child.invariant.fits
