@@ -1,5 +1,5 @@
 //! An overlay above its base.
-ghost use Rattle.std.specs.Prelude.{◌≡◌, ℕ, IfOk, None, Ok, MatchResult, length, replicate, true};
+ghost use Rattle.std.specs.Prelude.{◌≡◌, [], ℕ, IfOk, OnOk, None, Ok, MatchResult, length, replicate, true};
 ghost use Rattle.dt_listing.specs.Listed.{IsOrdered, IsWhole, lists};
 ghost use Rattle.overlay_meaning.specs.Shifted.{fragments, shifted_overlay, some_of};
 ghost use Rattle.dt_fixup.specs.OverlayFault.{IsFault};
@@ -16,25 +16,26 @@ use crate::sheet::{Change, Sheet};
 use dt_draft::Draft;
 use std::alloc::Global;
 
-// No change of a property yet, where the overlay has a fragment.
-fn no_changes<'t>(
-    alloc: Global,
+// Makes no change of a property yet, where the overlay has a fragment.
+fn open_changes<'t>(
+    changes: &mut Vec<Option<Change>>,
     over: &Draft<'t, &'t [u8]>,
-) -> Result<Vec<Option<Change>>, OverlayError>
+) -> Result<(), OverlayError>
     requires whole { IsWhole over.now }
     requires ordered { IsOrdered over.now }
-    ensures none { IfOk result (λ changes. changes.items ≡ replicate (length over.now.properties.items) None) }
+    requires fresh { changes.old.items ≡ [] }
+    ensures none { OnOk result (changes.new.items ≡ replicate (length over.now.properties.items) None) }
     ensures some { MatchResult result (λ _. are_some (fragments (lists over.now)) ≡ true) (λ e. IsFault e (some_of (fragments (lists over.now)))) }
 {
     if !has_fragment(over) {
         return Err(OverlayError::NotOverlay);
     }
     let count = over.properties().len();
-    let mut changes = Vec::with_capacity(alloc, count)?;
+    changes.reserve(count)?;
     for _row in 0..count {
         changes.push(None)?;
     }
-    Ok(changes)
+    Ok(())
 }
 
 // Changes the values of an overlay that has none changed yet.
@@ -64,6 +65,26 @@ fn shift_values<'t>(
     Ok(())
 }
 
+// Shifts an overlay whose sheet has no places for changes yet.
+fn shift_sheet<'t>(
+    alloc: Global,
+    base: &Draft<'t, &'t [u8]>,
+    sheet: &mut Sheet<'t>,
+) -> Result<(), OverlayError>
+    requires base { IsWhole base.now }
+    requires over { IsWhole sheet.old.draft }
+    requires ordered { IsOrdered sheet.old.draft }
+    requires fresh { sheet.old.changes.items ≡ [] }
+    ensures sound { OnOk result (IsSheet sheet.new) }
+    ensures draft { OnOk result (sheet.new.draft ≡ sheet.old.draft) }
+    ensures shifted { MatchResult result (λ _. shifted_overlay (lists base.now) (lists sheet.old.draft) ≡ Ok (shown sheet.new)) (λ e. IsFault e (shifted_overlay (lists base.now) (lists sheet.old.draft))) }
+{
+    if let Err(error) = open_changes(&mut sheet.changes, &sheet.draft) {
+        return Err(error);
+    }
+    shift_values(alloc, base, sheet)
+}
+
 /// The overlay with its phandles and local places raised above the base's greatest phandle, and with the phandles of the base's
 /// nodes at the places of its fixups.
 pub fn shift<'t>(
@@ -78,15 +99,11 @@ pub fn shift<'t>(
     ensures sound { IfOk result (λ sheet. IsSheet sheet) }
     ensures draft { IfOk result (λ sheet. sheet.draft ≡ over.entry) }
 {
-    let changes = match no_changes(alloc, &over) {
-        Ok(changes) => changes,
-        Err(error) => return Err(error),
-    };
     let mut sheet = Sheet {
         draft: over,
-        changes,
+        changes: Vec::new(alloc),
     };
-    if let Err(error) = shift_values(alloc, base, &mut sheet) {
+    if let Err(error) = shift_sheet(alloc, base, &mut sheet) {
         return Err(error);
     }
     Ok(sheet)

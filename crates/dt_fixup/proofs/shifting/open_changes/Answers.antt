@@ -4,7 +4,7 @@ use Rattle.overlay_meaning.specs.Shifted.{fragments}
 use Rattle.dt_fixup.specs.declared.sheet.Change.{Change}
 use Rattle.dt_fixup.proofs.Composed.{none-by}
 use Rattle.dt_fixup.proofs.Listing.{nones}
-use Rattle.dt_fixup.proofs.shifting.no_changes.Goals as goal
+use Rattle.dt_fixup.proofs.shifting.open_changes.Goals as goal
 
 pub returns-then-not-has_fragment-clause-some : goal.returns-then-not-has_fragment-clause-some
 returns-then-not-has_fragment-clause-some c = none-by (fragments (lists c.args.over.now)) (sym c.has_fragment.ensures ∙ c.if-not-has_fragment.true)
