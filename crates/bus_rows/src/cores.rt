@@ -110,7 +110,7 @@ fn is_replayed(
 #[test]
 fn replays(rt: HostRuntime) {
     let hasher = RandomState::new(&rt).expect(&rt, "a seed");
-    for row in &REPLAYS {
+    for row in REPLAYS {
         is_replayed(&rt, rt.alloc(), hasher, row);
     }
 }
@@ -140,7 +140,7 @@ fn drain(rt: &impl Abort, core: &mut Core) -> usize {
     panic!(rt; "it never ends")
 }
 
-const DRAINED: [(&str, &str, &str); 4] = [
+const DRAINED: &[(&str, &str, &str)] = &[
     (
         "clock-and-uart",
         CLOCK_AND_UART,
@@ -183,7 +183,7 @@ fn is_drained(rt: &impl Abort, alloc: Global, hasher: RandomState, row: &(&str, 
 #[test]
 fn drains(rt: HostRuntime) {
     let hasher = RandomState::new(&rt).expect(&rt, "a seed");
-    for row in &DRAINED {
+    for row in DRAINED {
         is_drained(&rt, rt.alloc(), hasher, row);
     }
 }

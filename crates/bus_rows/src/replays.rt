@@ -4,7 +4,7 @@
 pub const CLOCK_AND_UART: &str = "/clk fixed ok\n/uart ns ok /clk\n";
 
 /// A row's name, its plan, its schedule, and the report or the line of the refusal.
-pub const REPLAYS: [(&str, &str, &str, &str); 22] = [
+pub const REPLAYS: &[(&str, &str, &str, &str)] = &[
     ("empty-plan", "", "", "quiet\n"),
     (
         "missing-then-due",

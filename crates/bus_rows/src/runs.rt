@@ -22,7 +22,7 @@ enum Way {
 const WAYS: [Way; 2] = [Way::Board, Way::Lock];
 
 // Each way with one, two and the most workers.
-const LAWFUL: [(Way, usize); 6] = [
+const LAWFUL: &[(Way, usize)] = &[
     (Way::Board, 1),
     (Way::Board, 2),
     (Way::Board, MAX_WORKERS),
@@ -32,7 +32,7 @@ const LAWFUL: [(Way, usize); 6] = [
 ];
 
 // Each way with numbers of workers that are refused.
-const UNLAWFUL: [(Way, usize); 6] = [
+const UNLAWFUL: &[(Way, usize)] = &[
     (Way::Board, 0),
     (Way::Board, 65),
     (Way::Board, usize::MAX),
@@ -58,7 +58,7 @@ fn run_by<P: Prober, R: Threads + Wait + Sync>(
 // A row's name, its plan, its end report, and whether each device has settled in it.
 type Row = (&'static str, &'static str, &'static str, &'static [bool]);
 
-const ROWS: [Row; 5] = [
+const ROWS: &[Row] = &[
     (
         "clock-and-uart",
         CLOCK_AND_UART,
@@ -119,7 +119,7 @@ fn row_runs<R: Threads + Wait + Sync + Abort>(
 ) {
     let (_, text, ..) = row;
     let plan = read_plan(alloc, hasher, text.as_bytes()).expect(rt, "a plan");
-    for (way, workers) in &LAWFUL {
+    for (way, workers) in LAWFUL {
         runs_by(*way, rt, alloc, &plan, *workers, row);
     }
 }
@@ -127,7 +127,7 @@ fn row_runs<R: Threads + Wait + Sync + Abort>(
 #[test]
 fn runs(rt: HostRuntime) {
     let hasher = RandomState::new(&rt).expect(&rt, "a seed");
-    for row in &ROWS {
+    for row in ROWS {
         row_runs(&rt, rt.alloc(), hasher, row);
     }
 }
@@ -149,7 +149,7 @@ fn is_refused<R: Threads + Wait + Sync + Abort>(
 fn refuses_other_numbers_of_workers(rt: HostRuntime) {
     let hasher = RandomState::new(&rt).expect(&rt, "a seed");
     let plan = read_plan(rt.alloc(), hasher, b"/a x ok\n").expect(&rt, "a plan");
-    for (way, workers) in &UNLAWFUL {
+    for (way, workers) in UNLAWFUL {
         is_refused(*way, &rt, rt.alloc(), &plan, *workers);
     }
 }

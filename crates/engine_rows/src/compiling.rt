@@ -9,7 +9,7 @@ use std::hash::RandomState;
 use std::process::Abort;
 
 /// How each blob begins.
-pub(crate) const BLOB_MAGIC: [u8; 4] = [0xd0, 0x0d, 0xfe, 0xed];
+pub(crate) const BLOB_MAGIC: &[u8] = b"\xd0\x0d\xfe\xed";
 
 /// The blob of a source, or the line that tells why there is none.
 pub(crate) fn compiled(
@@ -35,8 +35,24 @@ pub(crate) fn compiled_source(
     as_source(rt, alloc, blob)
 }
 
+/// A row: its name, the source, whether with symbols, and the root as it is printed, or the refusal.
+pub(crate) type Row = (&'static str, &'static str, bool, &'static str);
+
+fn is_compiled(rt: &impl Abort, alloc: Global, hasher: RandomState, row: &Row) {
+    let (name, source, symbols, wanted) = row;
+    let text = compiled_source(rt, alloc, hasher, *source, *symbols);
+    assert_eq!(rt; text.as_slice(), wanted.as_bytes(), "{name}");
+}
+
+/// That each row's source is compiled, or refused, as the row tells.
+pub(crate) fn are_compiled(rt: &impl Abort, alloc: Global, hasher: RandomState, rows: &[Row]) {
+    for row in rows {
+        is_compiled(rt, alloc, hasher, row);
+    }
+}
+
 /// Row, source, and the blob.
-const BLOBS: [(&str, &str, &[u8]); 4] = [
+const BLOBS: &[(&str, &str, &[u8])] = &[
     (
         "empty-root",
         "/dts-v1/; / { };",
@@ -64,17 +80,28 @@ const BLOBS: [(&str, &str, &[u8]); 4] = [
     ),
 ];
 
+fn is_written(
+    rt: &impl Abort,
+    alloc: Global,
+    hasher: RandomState,
+    name: &str,
+    source: &str,
+    wanted: &[u8],
+) {
+    let blob = compiled(rt, alloc, hasher, source, false);
+    assert_eq!(rt; blob.as_slice(), wanted, "{name}");
+}
+
 #[test]
 fn writes_the_blobs_of_the_rows(rt: HostRuntime) {
     let hasher = RandomState::new(&rt).expect(&rt, "a seed");
     for (name, source, wanted) in BLOBS {
-        let blob = compiled(&rt, rt.alloc(), hasher, source, false);
-        assert_eq!(rt; blob.as_slice(), wanted, "{name}");
+        is_written(&rt, rt.alloc(), hasher, *name, *source, *wanted);
     }
 }
 
-/// Row, source, whether with symbols, and the root as it is printed, or the refusal.
-const ROWS: [(&str, &str, bool, &str); 12] = [
+/// Sources that are compiled.
+const ROWS: &[Row] = &[
     (
         "cell-arithmetic",
         "/dts-v1/; / { p = <(1 << 64) (0 - 1) (2 + 3 * 4)>; q = /bits/ 8 <1 0xff (0 - 1)>; };",
@@ -152,14 +179,11 @@ const ROWS: [(&str, &str, bool, &str); 12] = [
 #[test]
 fn compiles_the_worked_rows(rt: HostRuntime) {
     let hasher = RandomState::new(&rt).expect(&rt, "a seed");
-    for (name, source, symbols, wanted) in ROWS {
-        let text = compiled_source(&rt, rt.alloc(), hasher, source, symbols);
-        assert_eq!(rt; text.as_slice(), wanted.as_bytes(), "{name}");
-    }
+    are_compiled(&rt, rt.alloc(), hasher, ROWS);
 }
 
-/// Row, source, whether with symbols, and the refusal.
-const REFUSALS: [(&str, &str, bool, &str); 27] = [
+/// Sources that are refused.
+const REFUSALS: &[Row] = &[
     (
         "cell-arithmetic",
         "/dts-v1/; / { p = <0x100000000>; };",
@@ -327,23 +351,26 @@ const REFUSALS: [(&str, &str, bool, &str); 27] = [
 #[test]
 fn refuses_the_worked_rows(rt: HostRuntime) {
     let hasher = RandomState::new(&rt).expect(&rt, "a seed");
-    for (name, source, symbols, wanted) in REFUSALS {
-        let line = compiled(&rt, rt.alloc(), hasher, source, symbols);
-        assert_eq!(rt; line.as_slice(), wanted.as_bytes(), "{name}");
-    }
+    are_compiled(&rt, rt.alloc(), hasher, REFUSALS);
+}
+
+// What the blob as it is printed is compiled to.
+fn compiled_again(rt: &impl Abort, alloc: Global, hasher: RandomState, blob: &[u8]) -> Vec<u8> {
+    let text = printed(rt, alloc, dump_bytes(alloc, blob));
+    let answer = compile_bytes(alloc, hasher, text.as_slice(), false);
+    printed(rt, alloc, answer)
+}
+
+fn comes_back(rt: &impl Abort, alloc: Global, hasher: RandomState, name: &str, blob: &[u8]) {
+    let again = compiled_again(rt, alloc, hasher, blob);
+    assert_eq!(rt; again.as_slice(), blob, "{name}");
 }
 
 #[test]
 fn printed_blobs_compile_to_themselves(rt: HostRuntime) {
     let hasher = RandomState::new(&rt).expect(&rt, "a seed");
-    for (name, _, wanted) in BLOBS {
-        match dump_bytes(rt.alloc(), wanted) {
-            Ok(text) => match compile_bytes(rt.alloc(), hasher, text.as_slice(), false) {
-                Ok(blob) => assert_eq!(rt; blob.as_slice(), wanted, "{name}"),
-                Err(_) => assert!(rt; false, "{name}"),
-            },
-            Err(_) => assert!(rt; false, "{name}"),
-        }
+    for (name, _, blob) in BLOBS {
+        comes_back(&rt, rt.alloc(), hasher, *name, *blob);
     }
 }
 
@@ -364,18 +391,25 @@ fn extends_at_64(rt: &impl Abort, alloc: Global, extension: &[u8]) -> Vec<u8> {
     text
 }
 
+/// That the answer for the source begins so.
+pub(crate) fn answer_begins(
+    rt: &impl Abort,
+    alloc: Global,
+    hasher: RandomState,
+    source: &[u8],
+    head: &[u8],
+) {
+    let told = printed(rt, alloc, compile_bytes(alloc, hasher, source, false));
+    assert!(rt; told.as_slice().starts_with(head));
+}
+
 /// A node deeper than 64 is 28, by an extension too.
 #[test]
 fn depth_is_limited(rt: HostRuntime) {
     let hasher = RandomState::new(&rt).expect(&rt, "a seed");
-    let rows: [(&str, &[u8]); 2] = [
-        ("&l { x; };", BLOB_MAGIC.as_slice()),
-        ("&l { b { }; };", b"error 28 TooDeep"),
-    ];
-    for (extension, head) in rows {
-        let text = extends_at_64(&rt, rt.alloc(), extension.as_bytes());
-        let answer = compile_bytes(rt.alloc(), hasher, text.as_slice(), false);
-        let told = printed(&rt, rt.alloc(), answer);
-        assert!(rt; told.as_slice().starts_with(head), "{extension}");
-    }
+    let deepest = extends_at_64(&rt, rt.alloc(), b"&l { x; };");
+    answer_begins(&rt, rt.alloc(), hasher, deepest.as_slice(), BLOB_MAGIC);
+    let deeper = extends_at_64(&rt, rt.alloc(), b"&l { b { }; };");
+    let refusal = b"error 28 TooDeep";
+    answer_begins(&rt, rt.alloc(), hasher, deeper.as_slice(), refusal);
 }

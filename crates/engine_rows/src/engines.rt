@@ -10,8 +10,11 @@ use std::alloc::Global;
 use std::hash::RandomState;
 use std::process::Abort;
 
+/// A row: its name, the plan, the schedule, and what is printed.
+type Row = (&'static str, &'static str, &'static str, &'static str);
+
 // The same rows as those of the replays, of what a core's calls alone don't meet.
-const FAULTS: [(&str, &str, &str, &str); 2] = [
+const FAULTS: &[Row] = &[
     (
         "the plan's fault comes first",
         "/clk fixed\n",
@@ -26,34 +29,29 @@ const FAULTS: [(&str, &str, &str, &str); 2] = [
     ),
 ];
 
-// What the program would print for a replay.
-fn replayed(
-    rt: &impl Abort,
-    alloc: Global,
-    hasher: RandomState,
-    plan: &str,
-    schedule: &str,
-) -> Vec<u8> {
+fn is_replayed(rt: &impl Abort, alloc: Global, hasher: RandomState, row: &Row) {
+    let (name, plan, schedule, wanted) = row;
     let answer = replay_bytes(alloc, hasher, plan.as_bytes(), schedule.as_bytes());
-    printed(rt, alloc, answer)
+    let text = printed(rt, alloc, answer);
+    assert_eq!(rt; text.as_slice(), wanted.as_bytes(), "{name}");
+}
+
+fn are_replayed(rt: &impl Abort, alloc: Global, hasher: RandomState, rows: &[Row]) {
+    for row in rows {
+        is_replayed(rt, alloc, hasher, row);
+    }
 }
 
 #[test]
 fn replays_the_worked_rows(rt: HostRuntime) {
     let hasher = RandomState::new(&rt).expect(&rt, "a seed");
-    for (name, plan, schedule, wanted) in REPLAYS {
-        let text = replayed(&rt, rt.alloc(), hasher, plan, schedule);
-        assert_eq!(rt; text.as_slice(), wanted.as_bytes(), "{name}");
-    }
+    are_replayed(&rt, rt.alloc(), hasher, REPLAYS);
 }
 
 #[test]
 fn tells_the_first_fault(rt: HostRuntime) {
     let hasher = RandomState::new(&rt).expect(&rt, "a seed");
-    for (name, plan, schedule, wanted) in FAULTS {
-        let text = replayed(&rt, rt.alloc(), hasher, plan, schedule);
-        assert_eq!(rt; text.as_slice(), wanted.as_bytes(), "{name}");
-    }
+    are_replayed(&rt, rt.alloc(), hasher, FAULTS);
 }
 
 /// The blob of the source `/ { a = <1>; };`.
@@ -64,16 +62,17 @@ const ONE_CELL: [u8; 90] = [
     0, 0, 0, 9, 0x61, 0,
 ];
 
+fn is_dumped(rt: &impl Abort, alloc: Global, blob: &[u8], wanted: &str) {
+    let text = printed(rt, alloc, dump_bytes(alloc, blob));
+    assert_eq!(rt; text.as_slice(), wanted.as_bytes());
+}
+
 #[test]
 fn dumps_one_cell_and_changed_blobs(rt: HostRuntime) {
-    let blob = ONE_CELL.as_slice();
-    let text = printed(&rt, rt.alloc(), dump_bytes(rt.alloc(), blob));
     let wanted = "/dts-v1/;\n\n/ {\n\ta = <0x00000001>;\n};\n";
-    assert_eq!(rt; text.as_slice(), wanted.as_bytes());
-    let cut = printed(&rt, rt.alloc(), dump_bytes(rt.alloc(), &blob[..89]));
-    assert_eq!(rt; cut.as_slice(), b"error 30 Truncated".as_slice());
+    is_dumped(&rt, rt.alloc(), ONE_CELL.as_slice(), wanted);
+    is_dumped(&rt, rt.alloc(), &ONE_CELL[..89], "error 30 Truncated");
     let mut changed = ONE_CELL;
     changed[23] = 3;
-    let version = printed(&rt, rt.alloc(), dump_bytes(rt.alloc(), changed.as_slice()));
-    assert_eq!(rt; version.as_slice(), b"error 32 BadVersion".as_slice());
+    is_dumped(&rt, rt.alloc(), changed.as_slice(), "error 32 BadVersion");
 }

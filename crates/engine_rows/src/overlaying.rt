@@ -29,8 +29,24 @@ fn applied(
     as_source(rt, alloc, told)
 }
 
-/// Row, overlay, and the root of what is made, as it is printed.
-const ROWS: [(&str, &str, &str); 10] = [
+/// A row: its name, the overlay, and the root of what is made, as it is printed, or the refusal.
+type Row = (&'static str, &'static str, &'static str);
+
+fn is_applied(rt: &impl Abort, alloc: Global, hasher: RandomState, row: &Row) {
+    let (name, overlay, wanted) = row;
+    let text = applied(rt, alloc, hasher, BASE, true, *overlay);
+    assert_eq!(rt; text.as_slice(), wanted.as_bytes(), "{name}");
+}
+
+// That each row's overlay is applied to the base, or refused, as the row tells.
+fn are_applied(rt: &impl Abort, alloc: Global, hasher: RandomState, rows: &[Row]) {
+    for row in rows {
+        is_applied(rt, alloc, hasher, row);
+    }
+}
+
+/// Overlays that are applied.
+const ROWS: &[Row] = &[
     (
         "overlay-pair",
         "/dts-v1/; / { fragment@0 { target = <0xffffffff>; __overlay__ { d { r = <1>; }; e { phandle = <1>; }; }; }; __fixups__ { ocp = \"/fragment@0:target:0\"; }; __local_fixups__ { fragment@0 { __overlay__ { d { r = <0>; }; }; }; }; };",
@@ -86,14 +102,11 @@ const ROWS: [(&str, &str, &str); 10] = [
 #[test]
 fn applies_the_worked_rows(rt: HostRuntime) {
     let hasher = RandomState::new(&rt).expect(&rt, "a seed");
-    for (name, overlay, wanted) in ROWS {
-        let text = applied(&rt, rt.alloc(), hasher, BASE, true, overlay);
-        assert_eq!(rt; text.as_slice(), wanted.as_bytes(), "{name}");
-    }
+    are_applied(&rt, rt.alloc(), hasher, ROWS);
 }
 
-/// Row, overlay, and the refusal.
-const REFUSALS: [(&str, &str, &str); 18] = [
+/// Overlays that are refused.
+const REFUSALS: &[Row] = &[
     (
         "extends-a-new-node: in the other order",
         "/dts-v1/; / { fragment@0 { target = <1>; __overlay__ { x; }; }; fragment@1 { target = <0xffffffff>; __overlay__ { e { phandle = <1>; }; }; }; __fixups__ { ocp = \"/fragment@1:target:0\"; }; __local_fixups__ { fragment@0 { target = <0>; }; }; };",
@@ -189,14 +202,11 @@ const REFUSALS: [(&str, &str, &str); 18] = [
 #[test]
 fn refuses_the_worked_rows(rt: HostRuntime) {
     let hasher = RandomState::new(&rt).expect(&rt, "a seed");
-    for (name, overlay, wanted) in REFUSALS {
-        let line = applied(&rt, rt.alloc(), hasher, BASE, true, overlay);
-        assert_eq!(rt; line.as_slice(), wanted.as_bytes(), "{name}");
-    }
+    are_applied(&rt, rt.alloc(), hasher, REFUSALS);
 }
 
-/// What was changed in the overlay of row `overlay-pair`, the overlay, and the answer.
-const CHANGED: [(&str, &str, &str); 11] = [
+/// The overlay of row `overlay-pair`, changed as the row's name tells.
+const CHANGED: &[Row] = &[
     (
         "two zeros",
         "/dts-v1/; / { fragment@0 { target = <0xffffffff>; __overlay__ { d { r = <1>; }; e { phandle = <1>; }; }; }; __fixups__ { ocp = \"/fragment@0:target:00\"; }; __local_fixups__ { fragment@0 { __overlay__ { d { r = <0>; }; }; }; }; };",
@@ -257,14 +267,13 @@ const CHANGED: [(&str, &str, &str); 11] = [
 #[test]
 fn answers_for_changed_overlays(rt: HostRuntime) {
     let hasher = RandomState::new(&rt).expect(&rt, "a seed");
-    for (name, overlay, wanted) in CHANGED {
-        let text = applied(&rt, rt.alloc(), hasher, BASE, true, overlay);
-        assert_eq!(rt; text.as_slice(), wanted.as_bytes(), "{name}");
-    }
+    are_applied(&rt, rt.alloc(), hasher, CHANGED);
 }
 
-/// Row, base, whether it is compiled with symbols, overlay, and the answer.
-const BASES: [(&str, &str, bool, &str, &str); 6] = [
+/// A row: its name, the base, whether it is compiled with symbols, the overlay, and the answer.
+type BaseRow = (&'static str, &'static str, bool, &'static str, &'static str);
+
+const BASES: &[BaseRow] = &[
     (
         "reservations are those of the base",
         "/dts-v1/; /memreserve/ 0x1000 0x2000; / { };",
@@ -309,12 +318,17 @@ const BASES: [(&str, &str, bool, &str, &str); 6] = [
     ),
 ];
 
+fn is_applied_to_its_base(rt: &impl Abort, alloc: Global, hasher: RandomState, row: &BaseRow) {
+    let (name, base, symbols, overlay, wanted) = row;
+    let text = applied(rt, alloc, hasher, *base, *symbols, *overlay);
+    assert_eq!(rt; text.as_slice(), wanted.as_bytes(), "{name}");
+}
+
 #[test]
 fn answers_for_other_bases(rt: HostRuntime) {
     let hasher = RandomState::new(&rt).expect(&rt, "a seed");
-    for (name, base, symbols, overlay, wanted) in BASES {
-        let text = applied(&rt, rt.alloc(), hasher, base, symbols, overlay);
-        assert_eq!(rt; text.as_slice(), wanted.as_bytes(), "{name}");
+    for row in BASES {
+        is_applied_to_its_base(&rt, rt.alloc(), hasher, row);
     }
 }
 
@@ -336,38 +350,57 @@ fn deep_overlay(rt: &impl Abort, alloc: Global, target: &str) -> String {
     source
 }
 
+const DEEP_BASE: &str = "/dts-v1/; / { a { b { c { }; }; }; };";
+
+// That the answer for a deep overlay of this target begins so.
+fn deep_begins(rt: &impl Abort, alloc: Global, hasher: RandomState, target: &str, head: &[u8]) {
+    let overlay = deep_overlay(rt, alloc, target);
+    let told = applied(rt, alloc, hasher, DEEP_BASE, true, overlay.as_str());
+    assert!(rt; told.as_slice().starts_with(head), "{target}");
+}
+
 #[test]
 fn nodes_are_at_most_64_deep(rt: HostRuntime) {
     let hasher = RandomState::new(&rt).expect(&rt, "a seed");
-    let base = "/dts-v1/; / { a { b { c { }; }; }; };";
-    let below = deep_overlay(&rt, rt.alloc(), "/a/b");
-    let deepest = applied(&rt, rt.alloc(), hasher, base, true, below.as_str());
-    assert!(rt;
-        deepest
-            .as_slice()
-            .starts_with(b"/ {\n\ta {\n\t\tb {\n\t\t\tc {\n\t\t\t};\n\t\t\tn {\n")
-    );
-    let below = deep_overlay(&rt, rt.alloc(), "/a/b/c");
-    let deeper = applied(&rt, rt.alloc(), hasher, base, true, below.as_str());
-    assert_eq!(rt; deeper.as_slice(), b"error 46 TooDeep".as_slice());
+    let deepest = b"/ {\n\ta {\n\t\tb {\n\t\t\tc {\n\t\t\t};\n\t\t\tn {\n";
+    deep_begins(&rt, rt.alloc(), hasher, "/a/b", deepest);
+    deep_begins(&rt, rt.alloc(), hasher, "/a/b/c", b"error 46 TooDeep");
 }
 
-/// Bytes that hold no tree, the base's before the overlay's; and row `not-an-overlay`.
+fn blobs_are_refused(
+    rt: &impl Abort,
+    alloc: Global,
+    hasher: RandomState,
+    base: &[u8],
+    overlay: &[u8],
+    wanted: &str,
+) {
+    let line = printed(rt, alloc, overlay_bytes(alloc, hasher, base, overlay));
+    assert_eq!(rt; line.as_slice(), wanted.as_bytes());
+}
+
+const ZEROS: &[u8] = &[0; 40];
+
+/// Bytes that hold no tree, the base's before the overlay's.
 #[test]
-fn tells_the_faults_of_the_blobs(rt: HostRuntime) {
+fn tells_the_faults_of_bytes(rt: HostRuntime) {
+    let hasher = RandomState::new(&rt).expect(&rt, "a seed");
+    let truncated = "error 30 Truncated";
+    blobs_are_refused(&rt, rt.alloc(), hasher, b"", ZEROS, truncated);
+    let bad_magic = "error 31 BadMagic";
+    blobs_are_refused(&rt, rt.alloc(), hasher, ZEROS, b"", bad_magic);
+}
+
+/// A base with bytes that hold no tree, and row `not-an-overlay`.
+#[test]
+fn tells_the_faults_of_overlays(rt: HostRuntime) {
+    const ROWS: &[(&[u8], &str)] = &[(b"", "error 30 Truncated"), (ZEROS, "error 31 BadMagic")];
     let hasher = RandomState::new(&rt).expect(&rt, "a seed");
     let base = compiled(&rt, rt.alloc(), hasher, BASE, true);
-    let zeros = [0u8; 40];
-    let rows: [(&[u8], &[u8], &str); 5] = [
-        (b"", zeros.as_slice(), "error 30 Truncated"),
-        (zeros.as_slice(), b"", "error 31 BadMagic"),
-        (base.as_slice(), b"", "error 30 Truncated"),
-        (base.as_slice(), zeros.as_slice(), "error 31 BadMagic"),
-        (base.as_slice(), base.as_slice(), "error 40 NotOverlay"),
-    ];
-    for (base, overlay, wanted) in rows {
-        let answer = overlay_bytes(rt.alloc(), hasher, base, overlay);
-        let line = printed(&rt, rt.alloc(), answer);
-        assert_eq!(rt; line.as_slice(), wanted.as_bytes());
+    let base = base.as_slice();
+    for (overlay, wanted) in ROWS {
+        blobs_are_refused(&rt, rt.alloc(), hasher, base, *overlay, *wanted);
     }
+    let wanted = "error 40 NotOverlay";
+    blobs_are_refused(&rt, rt.alloc(), hasher, base, base, wanted);
 }

@@ -2,15 +2,13 @@
 //!
 //! What a row gives is worked by hand from dt-object-internal, sections 2 and 3, and from the rules of edits and fixups.
 
-use crate::answers::printed;
-use crate::compiling::{BLOB_MAGIC, compiled, compiled_source, repeat};
-use engine::compile_bytes;
+use crate::compiling::{BLOB_MAGIC, Row, answer_begins, are_compiled, repeat};
 use std::alloc::Global;
 use std::hash::RandomState;
 use std::process::Abort;
 
-/// Row, source, whether with symbols, and the root as it is printed.
-const ROWS: [(&str, &str, bool, &str); 11] = [
+/// Plugins that are compiled.
+const ROWS: &[Row] = &[
     (
         "overlay-pair",
         "/dts-v1/; /plugin/; &ocp { d { r = <&e>; }; e: e { }; };",
@@ -82,72 +80,81 @@ const ROWS: [(&str, &str, bool, &str); 11] = [
 #[test]
 fn compiles_plugins(rt: HostRuntime) {
     let hasher = RandomState::new(&rt).expect(&rt, "a seed");
-    for (name, source, symbols, wanted) in ROWS {
-        let root = compiled_source(&rt, rt.alloc(), hasher, source, symbols);
-        assert_eq!(rt; root.as_slice(), wanted.as_bytes(), "{name}");
-    }
+    are_compiled(&rt, rt.alloc(), hasher, ROWS);
 }
 
-/// Row, source, and the refusal.
-const REFUSALS: [(&str, &str, &str); 12] = [
+/// Plugins that are refused.
+const REFUSALS: &[Row] = &[
     (
         "not-an-overlay: a path in cells",
         "/dts-v1/; /plugin/; &ocp { r = <&{/ocp}>; };",
+        false,
         "error 26 PathInPlugin",
     ),
     (
         "the name of a fragment that was deleted",
         "/dts-v1/; /plugin/; &a { }; /delete-node/ &{/fragment@0}; / { fragment@0 { }; };",
+        false,
         "error 27 ReservedName",
     ),
     (
         "a fragment whose name is taken",
         "/dts-v1/; /plugin/; / { fragment@0 { }; }; &a { };",
+        false,
         "error 27 ReservedName",
     ),
     (
         "fixups written by hand",
         "/dts-v1/; /plugin/; / { __fixups__ { }; };",
+        false,
         "error 27 ReservedName",
     ),
     (
         "local fixups written by hand",
         "/dts-v1/; /plugin/; / { __local_fixups__ { }; };",
+        false,
         "error 27 ReservedName",
     ),
     (
         "names come before phandles",
         "/dts-v1/; /plugin/; / { __fixups__ { phandle = <0>; }; };",
+        false,
         "error 27 ReservedName",
     ),
     (
         "the text of an unknown label's path",
         "/dts-v1/; /plugin/; &a { s = &nix; };",
+        false,
         "error 20 UnknownLabel",
     ),
     (
         "an extension with labels makes no fragment",
         "/dts-v1/; /plugin/; l: &nix { };",
+        false,
         "error 20 UnknownLabel",
     ),
     (
         "a path with labels makes no fragment",
         "/dts-v1/; /plugin/; l: &{/nix} { };",
+        false,
         "error 22 UnknownPath",
     ),
     (
         "an unknown label that is deleted",
         "/dts-v1/; /plugin/; /delete-node/ &nix;",
+        false,
         "error 20 UnknownLabel",
     ),
     (
         "a property twice in a fragment",
         "/dts-v1/; /plugin/; &a { x; x; };",
+        false,
         "error 25 DuplicateInBody",
     ),
     (
         "a reserved node in cells",
         "/dts-v1/; /plugin/; / { r = <&l>; l: __symbols__ { }; };",
+        false,
         "error 27 ReservedName",
     ),
 ];
@@ -155,10 +162,7 @@ const REFUSALS: [(&str, &str, &str); 12] = [
 #[test]
 fn refuses_plugins(rt: HostRuntime) {
     let hasher = RandomState::new(&rt).expect(&rt, "a seed");
-    for (name, source, wanted) in REFUSALS {
-        let line = compiled(&rt, rt.alloc(), hasher, source, false);
-        assert_eq!(rt; line.as_slice(), wanted.as_bytes(), "{name}");
-    }
+    are_compiled(&rt, rt.alloc(), hasher, REFUSALS);
 }
 
 // A node that refers to itself in cells, with so many nodes between it and the root.
@@ -176,11 +180,9 @@ fn refers_below(rt: &impl Abort, alloc: Global, between: usize) -> Vec<u8> {
 #[test]
 fn mirrors_are_limited(rt: HostRuntime) {
     let hasher = RandomState::new(&rt).expect(&rt, "a seed");
-    let rows: [(usize, &[u8]); 2] = [(62, BLOB_MAGIC.as_slice()), (63, b"error 28 TooDeep")];
-    for (between, head) in rows {
-        let text = refers_below(&rt, rt.alloc(), between);
-        let answer = compile_bytes(rt.alloc(), hasher, text.as_slice(), false);
-        let told = printed(&rt, rt.alloc(), answer);
-        assert!(rt; told.as_slice().starts_with(head), "{between}");
-    }
+    let deepest = refers_below(&rt, rt.alloc(), 62);
+    answer_begins(&rt, rt.alloc(), hasher, deepest.as_slice(), BLOB_MAGIC);
+    let deeper = refers_below(&rt, rt.alloc(), 63);
+    let refusal = b"error 28 TooDeep";
+    answer_begins(&rt, rt.alloc(), hasher, deeper.as_slice(), refusal);
 }

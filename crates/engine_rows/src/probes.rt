@@ -1,10 +1,14 @@
 //! Plans of blobs, and probes of their devices by workers.
 
 use crate::answers::printed;
-use bus_manager::TableProber;
+use bus_manager::{Prober, TableProber};
 use bus_rows::gate::Gate;
 use engine::{graph_bytes, plan_bytes, probe_bytes};
+use std::alloc::Global;
 use std::hash::RandomState;
+use std::process::Abort;
+use std::sync::Wait;
+use std::thread::Threads;
 
 // `/ { clk: clk { compatible = "fixed-clock"; #clock-cells = <0>; }; uart { compatible = "ns16550a"; clocks = <&clk>; }; };`
 const CLOCK_AND_UART: &[u8] =
@@ -24,9 +28,22 @@ const TWO_ALONE: &[u8] =
 \x02\0\0\0\0x\0\0\0\0\0\0\x02\0\0\0\x01b\0\0\0\0\0\0\x03\0\0\0\x02\0\0\0\0y\0\0\0\0\0\0\
 \x02\0\0\0\x02\0\0\0\x09compatible\0";
 
+fn is_planned(
+    rt: &impl Abort,
+    alloc: Global,
+    hasher: RandomState,
+    blob: &[u8],
+    drivers: &str,
+    wanted: &str,
+) {
+    let answer = plan_bytes(alloc, hasher, blob, drivers.as_bytes());
+    let text = printed(rt, alloc, answer);
+    assert_eq!(rt; text.as_slice(), wanted.as_bytes());
+}
+
 #[test]
 fn plans_blobs(rt: HostRuntime) {
-    let rows: [(&[u8], &str, &str); 5] = [
+    const ROWS: &[(&[u8], &str, &str)] = &[
         (CLOCK_AND_UART, DRIVERS, "/clk fixed ok\n/uart ns ok /clk\n"),
         (TWO_ALONE, "", "/a - -\n/b - -\n"),
         // The blob's fault comes first, then the driver file's, then the plan's.
@@ -42,11 +59,9 @@ fn plans_blobs(rt: HostRuntime) {
             "error 53 UnknownPath line 2",
         ),
     ];
-    for (blob, drivers, expected) in rows {
-        let hasher = RandomState::new(&rt).expect(&rt, "a seed");
-        let answer = plan_bytes(rt.alloc(), hasher, blob, drivers.as_bytes());
-        let text = printed(&rt, rt.alloc(), answer);
-        assert_eq!(rt; text.as_slice(), expected.as_bytes());
+    let hasher = RandomState::new(&rt).expect(&rt, "a seed");
+    for (blob, drivers, wanted) in ROWS {
+        is_planned(&rt, rt.alloc(), hasher, *blob, *drivers, *wanted);
     }
 }
 
@@ -58,28 +73,44 @@ fn draws_blobs(rt: HostRuntime) {
     assert!(rt; text.starts_with(b"digraph"));
 }
 
+fn is_probed<P: Prober, R: Threads + Wait + Sync + Abort>(
+    rt: &R,
+    alloc: Global,
+    hasher: RandomState,
+    input: (&[u8], &str),
+    prober: &P,
+    workers: usize,
+    wanted: &str,
+) {
+    let (blob, drivers) = input;
+    let drivers = drivers.as_bytes();
+    let ran = probe_bytes(rt, alloc, hasher, blob, drivers, prober, workers);
+    let text = printed(rt, alloc, ran.map(|ran| ran.report));
+    assert_eq!(rt; text.as_slice(), wanted.as_bytes());
+}
+
 #[test]
 fn probes_blobs(rt: HostRuntime) {
-    let rows: [(usize, &str); 5] = [
-        (1, "/clk bound fixed\n/uart bound ns\nquiet\n"),
-        (2, "/clk bound fixed\n/uart bound ns\nquiet\n"),
-        (64, "/clk bound fixed\n/uart bound ns\nquiet\n"),
+    const REPORT: &str = "/clk bound fixed\n/uart bound ns\nquiet\n";
+    const ROWS: &[(usize, &str)] = &[
+        (1, REPORT),
+        (2, REPORT),
+        (64, REPORT),
         (0, "error 70 TooManyWorkers"),
         (65, "error 70 TooManyWorkers"),
     ];
-    for (workers, expected) in rows {
-        let hasher = RandomState::new(&rt).expect(&rt, "a seed");
-        let ran = probe_bytes(
+    let hasher = RandomState::new(&rt).expect(&rt, "a seed");
+    for (workers, wanted) in ROWS {
+        let input = (CLOCK_AND_UART, DRIVERS);
+        is_probed(
             &rt,
             rt.alloc(),
             hasher,
-            CLOCK_AND_UART,
-            DRIVERS.as_bytes(),
+            input,
             &TableProber,
-            workers,
+            *workers,
+            *wanted,
         );
-        let text = printed(&rt, rt.alloc(), ran.map(|ran| ran.report));
-        assert_eq!(rt; text.as_slice(), expected.as_bytes());
     }
 }
 
@@ -87,19 +118,8 @@ fn probes_blobs(rt: HostRuntime) {
 fn gate_two_probes(rt: HostRuntime) {
     let gate = Gate::new();
     let hasher = RandomState::new(&rt).expect(&rt, "a seed");
-    let ran = probe_bytes(
-        &rt,
-        rt.alloc(),
-        hasher,
-        TWO_ALONE,
-        b"driver one x\ndriver two y\n",
-        &gate,
-        2,
-    );
-    let text = printed(&rt, rt.alloc(), ran.map(|ran| ran.report));
-    assert_eq!(rt;
-        text.as_slice(),
-        b"/a bound one\n/b bound two\nquiet\n".as_slice()
-    );
+    let input = (TWO_ALONE, "driver one x\ndriver two y\n");
+    let wanted = "/a bound one\n/b bound two\nquiet\n";
+    is_probed(&rt, rt.alloc(), hasher, input, &gate, 2, wanted);
     assert!(rt; gate.has_overlapped(), "the probes overlap");
 }

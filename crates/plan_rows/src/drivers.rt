@@ -14,7 +14,7 @@ fn is_refused(rt: &impl Abort, alloc: Global, hasher: RandomState, text: &[u8], 
 /// Driver files that are refused, with the fault and its line.
 #[test]
 fn driver_files_are_refused_in_line_order(rt: HostRuntime) {
-    let rows: [(&[u8], PlanError); 13] = [
+    const ROWS: &[(&[u8], PlanError)] = &[
         (b"driver", PlanError::BadLine(1)),
         (b"driver x", PlanError::BadLine(1)),
         (b"driver - c", PlanError::BadLine(1)),
@@ -36,7 +36,7 @@ fn driver_files_are_refused_in_line_order(rt: HostRuntime) {
         (b"driver x c\n# \x7f\ndriver x d\n", PlanError::BadLine(2)),
     ];
     let hasher = RandomState::new(&rt).expect(&rt, "a seed");
-    for (text, error) in &rows {
+    for (text, error) in ROWS {
         is_refused(&rt, rt.alloc(), hasher, *text, *error);
     }
 }

@@ -18,7 +18,7 @@ fn text_is_drawn_as(rt: &impl Abort, alloc: Global, hasher: RandomState, text: &
 /// Pictures: states, arrows, and the arrows of cycles.
 #[test]
 fn graphs(rt: HostRuntime) {
-    let rows: [(&str, &str); 3] = [
+    const ROWS: &[(&str, &str)] = &[
         (
             "",
             "digraph plan {\n    rankdir=LR;\n    node [shape=box];\n}\n",
@@ -33,7 +33,7 @@ fn graphs(rt: HostRuntime) {
         ),
     ];
     let hasher = RandomState::new(&rt).expect(&rt, "a seed");
-    for (text, wanted) in &rows {
+    for (text, wanted) in ROWS {
         text_is_drawn_as(&rt, rt.alloc(), hasher, *text, *wanted);
     }
 }

@@ -36,8 +36,7 @@ fn text_is_written_as(
 /// Texts that are read, and what is written of them: one space between fields, no comments, no blank lines.
 #[test]
 fn plans_are_read_and_written(rt: HostRuntime) {
-    let hasher = RandomState::new(&rt).expect(&rt, "a seed");
-    let rows: [(&[u8], &[u8]); 5] = [
+    const ROWS: &[(&[u8], &[u8])] = &[
         (b"", b""),
         (b"# none\n\n \t\n", b""),
         (
@@ -50,8 +49,9 @@ fn plans_are_read_and_written(rt: HostRuntime) {
         ),
         (b"/a - -\t/b\n/b # ok\n", b"/a - - /b\n/b # ok\n"),
     ];
+    let hasher = RandomState::new(&rt).expect(&rt, "a seed");
     plan_text_is_read_back();
-    for (text, written) in &rows {
+    for (text, written) in ROWS {
         text_is_written_as(&rt, rt.alloc(), hasher, *text, *written);
     }
 }
@@ -64,7 +64,7 @@ fn is_refused(rt: &impl Abort, alloc: Global, hasher: RandomState, text: &[u8], 
 /// Texts that are refused, with the line at fault: the first fault in line order, and unknown suppliers behind all others.
 #[test]
 fn faults_are_named_in_line_order(rt: HostRuntime) {
-    let rows: [(&[u8], PlanError); 22] = [
+    const ROWS: &[(&[u8], PlanError)] = &[
         (b"/a", PlanError::BadLine(1)),
         (b"/a x", PlanError::BadLine(1)),
         (b"/ x ok\n", PlanError::BadLine(1)),
@@ -89,7 +89,7 @@ fn faults_are_named_in_line_order(rt: HostRuntime) {
         (b"/a x ok /c\n/a x ok /\n", PlanError::BadLine(2)),
     ];
     let hasher = RandomState::new(&rt).expect(&rt, "a seed");
-    for (text, error) in &rows {
+    for (text, error) in ROWS {
         is_refused(&rt, rt.alloc(), hasher, *text, *error);
     }
 }
@@ -107,7 +107,7 @@ fn is_told(rt: &impl Abort, row: &Told) {
 /// Each refusal by its number, its name and its line.
 #[test]
 fn refusals_have_numbers_and_names(rt: HostRuntime) {
-    let rows: [Told; 8] = [
+    const ROWS: &[Told] = &[
         (PlanError::NoMemory, 0, "NoMemory", None),
         (PlanError::BadLine(7), 50, "BadLine", Some(7)),
         (
@@ -127,7 +127,7 @@ fn refusals_have_numbers_and_names(rt: HostRuntime) {
         (PlanError::BadSpecifier, 55, "BadSpecifier", None),
         (PlanError::TooManyDevices, 56, "TooManyDevices", None),
     ];
-    for row in &rows {
+    for row in ROWS {
         is_told(&rt, row);
     }
 }
@@ -276,13 +276,13 @@ fn is_cut_into(rt: &impl Abort, alloc: Global, text: &[u8], lines: &[u8]) {
 /// Lines end with a line feed, which takes one carriage return with it; the last may lack its line feed.
 #[test]
 fn texts_are_cut_into_lines(rt: HostRuntime) {
-    let rows: [(&[u8], &[u8]); 4] = [
+    const ROWS: &[(&[u8], &[u8])] = &[
         (b"", b""),
         (b"a", b"a|"),
         (b"a\n\n", b"a||"),
         (b"a\r\nb\r\r\nc\r", b"a|b\r|c\r|"),
     ];
-    for (text, lines) in &rows {
+    for (text, lines) in ROWS {
         is_cut_into(&rt, rt.alloc(), *text, *lines);
     }
 }
@@ -295,7 +295,7 @@ fn may_stand_in_a_line(rt: &impl Abort, byte: u8, lawful: bool) {
 /// A line has tabs and the bytes 0x20 to 0x7e alone.
 #[test]
 fn bytes_of_lines(rt: HostRuntime) {
-    let rows: [(u8, bool); 7] = [
+    const ROWS: &[(u8, bool)] = &[
         (8, false),
         (b'\t', true),
         (b'\r', false),
@@ -304,7 +304,7 @@ fn bytes_of_lines(rt: HostRuntime) {
         (b'~', true),
         (127, false),
     ];
-    for (byte, lawful) in &rows {
+    for (byte, lawful) in ROWS {
         may_stand_in_a_line(&rt, *byte, *lawful);
     }
 }
@@ -327,7 +327,7 @@ fn has_fields(rt: &impl Abort, alloc: Global, line: &[u8], fields: &[u8], skippe
 /// Fields stand between spaces and tabs; a line without one, or whose first begins with `#`, is skipped.
 #[test]
 fn lines_are_cut_into_fields(rt: HostRuntime) {
-    let rows: [(&[u8], &[u8], bool); 6] = [
+    const ROWS: &[(&[u8], &[u8], bool)] = &[
         (b"", b"", true),
         (b" \t ", b"", true),
         (b"#", b"#|", true),
@@ -335,7 +335,7 @@ fn lines_are_cut_into_fields(rt: HostRuntime) {
         (b"a #", b"a|#|", false),
         (b" \tbegin  /a\t#x ", b"begin|/a|#x|", false),
     ];
-    for (line, fields, skipped) in &rows {
+    for (line, fields, skipped) in ROWS {
         has_fields(&rt, rt.alloc(), *line, *fields, *skipped);
     }
 }
@@ -354,14 +354,14 @@ fn is_read_as(rt: &impl Abort, line: &[u8], read: Result<Option<&[u8]>, PlanErro
 /// A line is read as its fields, as nothing where it is skipped, or refused with its number.
 #[test]
 fn lines_are_read(rt: HostRuntime) {
-    let rows: [(&[u8], Result<Option<&[u8]>, PlanError>); 5] = [
+    const ROWS: &[(&[u8], Result<Option<&[u8]>, PlanError>)] = &[
         (b"", Ok(None)),
         (b" # a", Ok(None)),
         (b" a\t#b ", Ok(Some(b"a"))),
         (b"a\r", Err(PlanError::BadLine(7))),
         (b"#\r", Err(PlanError::BadLine(7))),
     ];
-    for (line, read) in &rows {
+    for (line, read) in ROWS {
         is_read_as(&rt, *line, *read);
     }
 }

@@ -1,23 +1,22 @@
 //! `compile` over files in memory: what stands in OUT, and when it is opened at all.
 
-use super::shelf::Shelf;
-use super::statuses::run_over;
+use super::runs::{Files, Writing, row_writes};
 use std::hash::RandomState;
 
-const FILES: [(&str, &[u8]); 3] = [
+const FILES: Files = &[
     ("board.dts", b"/dts-v1/; / { };"),
     ("bad.dts", b"/dts-v1/; / {"),
     ("lost.dts", b"/dts-v1/; / { r = <&nix>; };"),
 ];
 
 /// The blob of an empty root.
-const BLOB: &[u8] =
+pub const BLOB: &[u8] =
     b"\xd0\x0d\xfe\xed\0\0\0\x48\0\0\0\x38\0\0\0\x48\0\0\0\x28\0\0\0\x11\0\0\0\x10\0\0\0\0\0\0\0\0\0\0\0\x10\
 \0\0\0\0\0\0\0\0\0\0\0\0\0\0\0\0\0\0\0\x01\0\0\0\0\0\0\0\x02\0\0\0\x09";
 
 #[test]
 fn compiles_to_a_file(rt: HostRuntime) {
-    let rows: [(&[&str], u8, &str, &[u8]); 7] = [
+    const ROWS: &[Writing] = &[
         (&["dtman", "compile", "board.dts", "out"], 0, "", BLOB),
         (
             &["dtman", "compile", "--symbols", "board.dts", "out"],
@@ -57,13 +56,8 @@ fn compiles_to_a_file(rt: HostRuntime) {
             b"",
         ),
     ];
-    for (words, status, told, written) in rows {
-        let hasher = RandomState::new(&rt).expect(&rt, "a seed");
-        let mut shelf = Shelf::new(rt.alloc(), FILES.as_slice(), hasher);
-        let traces = run_over(&rt, words, &mut shelf, None);
-        assert_eq!(rt; traces.errors.as_bytes(), told.as_bytes());
-        assert_eq!(rt; traces.status, status);
-        assert_eq!(rt; traces.output.as_slice(), b"".as_slice());
-        assert!(rt; shelf.has_written("out", written));
+    let hasher = RandomState::new(&rt).expect(&rt, "a seed");
+    for row in ROWS {
+        row_writes(&rt, FILES, hasher, row);
     }
 }

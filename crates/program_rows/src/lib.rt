@@ -10,6 +10,8 @@ mod overlaying;
 #[cfg(test)]
 mod probing;
 #[cfg(test)]
+mod runs;
+#[cfg(test)]
 mod shelf;
 #[cfg(test)]
 mod statuses;

@@ -1,13 +1,11 @@
 //! `overlay` over files in memory: what stands in OUT, and when it is opened at all.
 
-use super::shelf::Shelf;
-use super::statuses::run_over;
+use super::compiling::BLOB as BASE;
+use super::runs::{Files, Writing, row_writes};
 use engine::compile_bytes;
 use std::alloc::Global;
 use std::hash::RandomState;
 use std::process::Abort;
-
-const BASE: &str = "/dts-v1/; / { };";
 
 /// An overlay, written as an ordinary source: its one fragment gives the root a property.
 const OVERLAY: &str = "/dts-v1/; / { fragment@0 { target-path = \"/\"; __overlay__ { a; }; }; };";
@@ -26,14 +24,7 @@ fn compiled(rt: &impl Abort, alloc: Global, hasher: RandomState, source: &str) -
 
 #[test]
 fn applies_to_a_file(rt: HostRuntime) {
-    let hasher = RandomState::new(&rt).expect(&rt, "a seed");
-    let base = compiled(&rt, rt.alloc(), hasher, BASE);
-    let overlay = compiled(&rt, rt.alloc(), hasher, OVERLAY);
-    let files = [
-        ("base.dtb", base.as_slice()),
-        ("over.dtbo", overlay.as_slice()),
-    ];
-    let rows: [(&[&str], u8, &str, &[u8]); 4] = [
+    const ROWS: &[Writing] = &[
         (
             &["dtman", "overlay", "base.dtb", "over.dtbo", "out"],
             0,
@@ -60,40 +51,57 @@ fn applies_to_a_file(rt: HostRuntime) {
             b"",
         ),
     ];
-    for (words, status, told, written) in rows {
-        let mut shelf = Shelf::new(rt.alloc(), files.as_slice(), hasher);
-        let traces = run_over(&rt, words, &mut shelf, None);
-        assert_eq!(rt; traces.errors.as_bytes(), told.as_bytes());
-        assert_eq!(rt; traces.status, status);
-        assert_eq!(rt; traces.output.as_slice(), b"".as_slice());
-        assert!(rt; shelf.has_written("out", written));
+    let hasher = RandomState::new(&rt).expect(&rt, "a seed");
+    let overlay = compiled(&rt, rt.alloc(), hasher, OVERLAY);
+    let files = [("base.dtb", BASE), ("over.dtbo", overlay.as_slice())];
+    for row in ROWS {
+        row_writes(&rt, files.as_slice(), hasher, row);
     }
 }
 
+const FILES: Files = &[
+    ("base.dtb", BASE),
+    ("short.dtb", b"\xd0\x0d\xfe\xed"),
+    ("zeros.dtb", &[0; 40]),
+];
+
 #[test]
 fn tells_blobs_that_cannot_be_read(rt: HostRuntime) {
-    let hasher = RandomState::new(&rt).expect(&rt, "a seed");
-    let base = compiled(&rt, rt.alloc(), hasher, BASE);
-    let files = [
-        ("base.dtb", base.as_slice()),
-        ("short.dtb", b"\xd0\x0d\xfe\xed".as_slice()),
-        ("zeros.dtb", [0u8; 40].as_slice()),
-    ];
-    let rows: [(&str, &str, u8, &str); 5] = [
+    const ROWS: &[Writing] = &[
         // Both files are read before any is parsed, in the order of the line.
-        ("short.dtb", "nix", 3, "error 80 CannotRead nix\n"),
-        ("nix", "nought", 3, "error 80 CannotRead nix\n"),
-        ("zeros.dtb", "short.dtb", 1, "error 31 BadMagic\n"),
-        ("short.dtb", "zeros.dtb", 1, "error 30 Truncated\n"),
-        ("base.dtb", "zeros.dtb", 1, "error 31 BadMagic\n"),
+        (
+            &["dtman", "overlay", "short.dtb", "nix", "out"],
+            3,
+            "error 80 CannotRead nix\n",
+            b"",
+        ),
+        (
+            &["dtman", "overlay", "nix", "nought", "out"],
+            3,
+            "error 80 CannotRead nix\n",
+            b"",
+        ),
+        (
+            &["dtman", "overlay", "zeros.dtb", "short.dtb", "out"],
+            1,
+            "error 31 BadMagic\n",
+            b"",
+        ),
+        (
+            &["dtman", "overlay", "short.dtb", "zeros.dtb", "out"],
+            1,
+            "error 30 Truncated\n",
+            b"",
+        ),
+        (
+            &["dtman", "overlay", "base.dtb", "zeros.dtb", "out"],
+            1,
+            "error 31 BadMagic\n",
+            b"",
+        ),
     ];
-    for (base, overlay, status, told) in rows {
-        let words = ["dtman", "overlay", base, overlay, "out"];
-        let mut shelf = Shelf::new(rt.alloc(), files.as_slice(), hasher);
-        let traces = run_over(&rt, words.as_slice(), &mut shelf, None);
-        assert_eq!(rt; traces.errors.as_bytes(), told.as_bytes());
-        assert_eq!(rt; traces.status, status);
-        assert_eq!(rt; traces.output.as_slice(), b"".as_slice());
-        assert!(rt; shelf.has_written("out", b""));
+    let hasher = RandomState::new(&rt).expect(&rt, "a seed");
+    for row in ROWS {
+        row_writes(&rt, FILES, hasher, row);
     }
 }

@@ -1,14 +1,14 @@
 //! The exit statuses, and what goes where.
 
-use super::shelf::{Errors, Shelf};
-use engine::Memory;
-use program::run_words;
+use super::runs::{Files, Row, ends, row_ends, run_over};
+use super::shelf::Shelf;
 use std::hash::RandomState;
+use std::process::Abort;
 use std::sync::Wait;
 use std::thread::Threads;
 
 /// The files of all rows.
-const FILES: [(&str, &[u8]); 5] = [
+const FILES: Files = &[
     ("board.plan", b"/clk fixed ok\n/uart ns ok /clk\n"),
     (
         "boot.schedule",
@@ -21,44 +21,12 @@ const FILES: [(&str, &[u8]); 5] = [
 
 const REPORT: &str = "/clk bound fixed\n/uart due\nbusy\n";
 
-/// What a run of the program left.
-#[derive(Drop)]
-pub struct Traces {
-    pub status: u8,
-    pub output: Vec<u8>,
-    pub errors: String,
-}
-
-/// Runs the program over the files, where a call on standard output may fail.
-pub fn run_over<R: AllocGlobal + Threads + Wait + Sync>(
-    rt: &R,
-    words: &[&str],
-    shelf: &mut Shelf<'_>,
-    output_fails_at: Option<usize>,
-) -> Traces {
-    let mut output = Memory::new(rt.alloc(), b"");
-    output.pace = 5;
-    output.calls_left = output_fails_at;
-    let errors = Errors::new(rt.alloc());
-    let status = run_words(rt.alloc(), shelf, rt, &mut output, &errors, words);
-    let Memory { written, .. } = output;
-    let Errors { text } = errors;
-    Traces {
-        status,
-        output: written,
-        errors: text.into_inner(),
-    }
-}
+const REPLAY: &[&str] = &["dtman", "replay", "board.plan", "boot.schedule"];
 
 #[test]
 fn tells_refusals_on_standard_error_alone(rt: HostRuntime) {
-    let rows: [(&[&str], u8, &str, &str); 9] = [
-        (
-            &["dtman", "replay", "board.plan", "boot.schedule"],
-            0,
-            REPORT,
-            "",
-        ),
+    const ROWS: &[Row] = &[
+        (REPLAY, 0, REPORT, ""),
         (&["dtman", "replay", "empty", "empty"], 0, "quiet\n", ""),
         (
             &["dtman", "replay", "board.plan", "early.schedule"],
@@ -99,19 +67,29 @@ fn tells_refusals_on_standard_error_alone(rt: HostRuntime) {
             "error 80 CannotRead nix\n",
         ),
     ];
-    for (words, status, printed, told) in rows {
-        let hasher = RandomState::new(&rt).expect(&rt, "a seed");
-        let mut shelf = Shelf::new(rt.alloc(), FILES.as_slice(), hasher);
-        let traces = run_over(&rt, words, &mut shelf, None);
-        assert_eq!(rt; traces.errors.as_bytes(), told.as_bytes());
-        assert_eq!(rt; traces.status, status);
-        assert_eq!(rt; traces.output.as_slice(), printed.as_bytes());
+    let hasher = RandomState::new(&rt).expect(&rt, "a seed");
+    for row in ROWS {
+        row_ends(&rt, FILES, hasher, row);
     }
+}
+
+// That the words are a mistake, told on standard error, or ask for a page, which is printed.
+fn is_answered<R: AllocGlobal + Threads + Wait + Sync + Abort>(
+    rt: &R,
+    hasher: RandomState,
+    words: &[&str],
+    status: u8,
+) {
+    let mut shelf = Shelf::new(rt.alloc(), FILES, hasher);
+    let traces = run_over(rt, words, &mut shelf, None);
+    assert_eq!(rt; traces.status, status);
+    assert_eq!(rt; traces.output.is_empty(), status == 2);
+    assert_eq!(rt; traces.errors.is_empty(), status == 0);
 }
 
 #[test]
 fn tells_help_on_standard_output_and_mistakes_on_standard_error(rt: HostRuntime) {
-    let rows: [(&[&str], u8); 12] = [
+    const ROWS: &[(&[&str], u8)] = &[
         (&["dtman", "--help"], 0),
         (&["dtman", "--version"], 0),
         (&["dtman", "explain", "64"], 0),
@@ -125,67 +103,71 @@ fn tells_help_on_standard_output_and_mistakes_on_standard_error(rt: HostRuntime)
         (&["dtman", "overlay", "--help"], 0),
         (&["dtman", "overlay", "empty", "empty"], 2),
     ];
-    for (words, status) in rows {
-        let hasher = RandomState::new(&rt).expect(&rt, "a seed");
-        let mut shelf = Shelf::new(rt.alloc(), FILES.as_slice(), hasher);
-        let traces = run_over(&rt, words, &mut shelf, None);
-        assert_eq!(rt; traces.status, status);
-        assert_eq!(rt; traces.output.is_empty(), status == 2);
-        assert_eq!(rt; traces.errors.is_empty(), status == 0);
+    let hasher = RandomState::new(&rt).expect(&rt, "a seed");
+    for (words, status) in ROWS {
+        is_answered(&rt, hasher, *words, *status);
     }
+}
+
+fn read_fails<R: AllocGlobal + Threads + Wait + Sync + Abort>(
+    rt: &R,
+    hasher: RandomState,
+    call: usize,
+    told: &str,
+) {
+    let mut shelf = Shelf::new(rt.alloc(), FILES, hasher);
+    shelf.fails_at = Some(call);
+    ends(rt, REPLAY, &mut shelf, 3, "", told);
 }
 
 /// Each call on an input fails in turn: the file that has the fault is told, and nothing is printed.
 #[test]
 fn tells_a_read_that_fails(rt: HostRuntime) {
+    let hasher = RandomState::new(&rt).expect(&rt, "a seed");
     // 31 bytes by 7 and the end are 6 calls; the schedule's 69 bytes are 11.
-    for call in 0..11usize {
-        let hasher = RandomState::new(&rt).expect(&rt, "a seed");
-        let mut shelf = Shelf::new(rt.alloc(), FILES.as_slice(), hasher);
-        shelf.fails_at = Some(call);
-        let words = ["dtman", "replay", "board.plan", "boot.schedule"];
-        let traces = run_over(&rt, words.as_slice(), &mut shelf, None);
-        let path = if call < 6 {
-            "board.plan"
-        } else {
-            "boot.schedule"
-        };
-        let told = format!(in rt.alloc(); "error 80 CannotRead {path}\n").expect(&rt, "memory");
-        assert_eq!(rt; traces.status, 3, "{call}");
-        assert_eq!(rt; traces.output.is_empty(), true, "{call}");
-        assert_eq!(rt; traces.errors.as_str(), told.as_str(), "{call}");
+    for call in 0..6usize {
+        read_fails(&rt, hasher, call, "error 80 CannotRead board.plan\n");
     }
+    for call in 6..11usize {
+        read_fails(&rt, hasher, call, "error 80 CannotRead boot.schedule\n");
+    }
+}
+
+fn write_fails<R: AllocGlobal + Threads + Wait + Sync + Abort>(
+    rt: &R,
+    hasher: RandomState,
+    call: usize,
+) {
+    let mut shelf = Shelf::new(rt.alloc(), FILES, hasher);
+    let traces = run_over(rt, REPLAY, &mut shelf, Some(call));
+    let written = traces.output.as_slice();
+    assert_eq!(rt; traces.status, 3, "{call}");
+    assert_eq!(rt; Some(written), REPORT.as_bytes().get(..5 * call), "{call}");
+    let told = "error 81 CannotWrite stdout\n";
+    assert_eq!(rt; traces.errors.as_str(), told, "{call}");
 }
 
 /// Each call on standard output fails in turn: a beginning of the report is there.
 #[test]
 fn tells_a_write_that_fails(rt: HostRuntime) {
+    let hasher = RandomState::new(&rt).expect(&rt, "a seed");
     // 33 bytes by 5 are 7 calls.
     for call in 0..7usize {
-        let hasher = RandomState::new(&rt).expect(&rt, "a seed");
-        let mut shelf = Shelf::new(rt.alloc(), FILES.as_slice(), hasher);
-        let words = ["dtman", "replay", "board.plan", "boot.schedule"];
-        let traces = run_over(&rt, words.as_slice(), &mut shelf, Some(call));
-        let written = traces.output.as_slice();
-        assert_eq!(rt; traces.status, 3, "{call}");
-        assert_eq!(rt; written.len(), 5 * call, "{call}");
-        assert!(rt; REPORT.as_bytes().starts_with(written), "{call}");
-        assert_eq!(rt;
-            traces.errors.as_str(),
-            "error 81 CannotWrite stdout\n",
-            "{call}"
-        );
+        write_fails(&rt, hasher, call);
     }
 }
 
 #[test]
 fn tells_that_there_is_no_seed(rt: HostRuntime) {
     let hasher = RandomState::new(&rt).expect(&rt, "a seed");
-    let mut shelf = Shelf::new(rt.alloc(), FILES.as_slice(), hasher);
+    let mut shelf = Shelf::new(rt.alloc(), FILES, hasher);
     shelf.seed = None;
-    let words = ["dtman", "replay", "board.plan", "boot.schedule"];
-    let traces = run_over(&rt, words.as_slice(), &mut shelf, None);
-    assert_eq!(rt; traces.status, 3);
-    assert_eq!(rt; traces.output.is_empty(), true);
-    assert_eq!(rt; traces.errors.as_str(), "error 80 CannotRead random\n");
+    ends(
+        &rt,
+        REPLAY,
+        &mut shelf,
+        3,
+        "",
+        "error 80 CannotRead random\n",
+    );
 }

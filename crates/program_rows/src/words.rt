@@ -111,10 +111,7 @@ fn workers_of(alloc: Global, option: &[&str]) -> Result<u8, ErrorKind> {
 
 #[test]
 fn reads_probe_with_its_workers(rt: HostRuntime) {
-    let words = ["dtman", "probe", "board.dtb", "board.drivers"];
-    let four = read(rt.alloc(), words.as_slice());
-    assert!(rt; matches!(four, Ok(Command::Probe { workers: 4, .. })));
-    let rows: [(&str, Result<u8, ErrorKind>); 7] = [
+    const ROWS: &[(&str, Result<u8, ErrorKind>)] = &[
         ("1", Ok(1)),
         ("64", Ok(64)),
         ("+4", Ok(4)),
@@ -123,7 +120,10 @@ fn reads_probe_with_its_workers(rt: HostRuntime) {
         ("65", Err(ErrorKind::ValueValidation)),
         ("many", Err(ErrorKind::ValueValidation)),
     ];
-    for (number, workers) in rows {
+    let words = ["dtman", "probe", "board.dtb", "board.drivers"];
+    let four = read(rt.alloc(), words.as_slice());
+    assert!(rt; matches!(four, Ok(Command::Probe { workers: 4, .. })));
+    for &(number, workers) in ROWS {
         let option = ["--workers", number];
         assert_eq!(rt;
             workers_of(rt.alloc(), option.as_slice()),

@@ -50,9 +50,7 @@ fn refusals_tell_it(rt: &impl Abort, lexeme: Lexeme) {
 
 #[test]
 fn literals(rt: HostRuntime) {
-    reads_the_grammar();
-    let text = b" 0x1fUL 08";
-    let rows: [Literal; 2] = [
+    const ROWS: &[Literal] = &[
         (1, 7, b"0x1fUL", Ok(31)),
         (
             8,
@@ -64,7 +62,9 @@ fn literals(rt: HostRuntime) {
             }),
         ),
     ];
-    for row in &rows {
+    reads_the_grammar();
+    let text = b" 0x1fUL 08";
+    for row in ROWS {
         is_read(&rt, text, row);
     }
     assert_eq!(rt; digit_of(b'F'), 15);
@@ -72,7 +72,7 @@ fn literals(rt: HostRuntime) {
 
 #[test]
 fn cells(rt: HostRuntime) {
-    let rows: [(&[u8], u64); 10] = [
+    const ROWS: &[(&[u8], u64)] = &[
         (b"/dts-v1/; / { p = <(1 << 64)>; };", 0),
         (b"/dts-v1/; / { p = <(0 - 1)>; };", 0xffff_ffff_ffff_ffff),
         (b"/dts-v1/; / { p = <(2 + 3 * 4)>; };", 14),
@@ -84,14 +84,14 @@ fn cells(rt: HostRuntime) {
         (b"/dts-v1/; / { p = <(!0 + ~0xfUL % 010)>; };", 1),
         (b"/dts-v1/; / { p = <0X1fULL>; };", 31),
     ];
-    for (text, value) in &rows {
+    for (text, value) in ROWS {
         assert_eq!(rt; first_cell(rt.alloc(), *text), Ok(Ok(*value)));
     }
 }
 
 #[test]
 fn faults(rt: HostRuntime) {
-    let rows: [(&[u8], FaultKind, u32); 5] = [
+    const ROWS: &[(&[u8], FaultKind, u32)] = &[
         (
             b"/dts-v1/; / { p = <(0 && 1 / 0)>; };",
             FaultKind::DivideByZero,
@@ -114,7 +114,7 @@ fn faults(rt: HostRuntime) {
             24,
         ),
     ];
-    for (text, kind, place) in &rows {
+    for (text, kind, place) in ROWS {
         let fault = Fault {
             kind: *kind,
             place: *place,
@@ -185,26 +185,22 @@ fn is_out_of_range(rt: &impl Abort, width: Width, number: u64) {
 
 #[test]
 fn elements(rt: HostRuntime) {
-    let accepted: [(u64, u64, &[u8]); 9] = [
-        (8, 1, [0x01].as_slice()),
-        (8, 0xff, [0xff].as_slice()),
-        (8, 0u64.wrapping_sub(1), [0xff].as_slice()),
-        (8, 0u64.wrapping_sub(128), [0x80].as_slice()),
-        (8, 0u64.wrapping_sub(256), [0x00].as_slice()),
-        (16, 0xabcd, [0xab, 0xcd].as_slice()),
-        (
-            32,
-            0u64.wrapping_sub(1),
-            [0xff, 0xff, 0xff, 0xff].as_slice(),
-        ),
-        (32, 14, [0, 0, 0, 14].as_slice()),
+    const ACCEPTED: &[(u64, u64, &[u8])] = &[
+        (8, 1, &[0x01]),
+        (8, 0xff, &[0xff]),
+        (8, u64::MAX, &[0xff]),
+        (8, u64::MAX - 127, &[0x80]),
+        (8, u64::MAX - 255, &[0x00]),
+        (16, 0xabcd, &[0xab, 0xcd]),
+        (32, u64::MAX, &[0xff, 0xff, 0xff, 0xff]),
+        (32, 14, &[0, 0, 0, 14]),
         (
             64,
             0xffff_ffff_ffff_ffff,
-            [0xff, 0xff, 0xff, 0xff, 0xff, 0xff, 0xff, 0xff].as_slice(),
+            &[0xff, 0xff, 0xff, 0xff, 0xff, 0xff, 0xff, 0xff],
         ),
     ];
-    for (bits, number, expected) in &accepted {
+    for (bits, number, expected) in ACCEPTED {
         makes(&rt, rt.alloc(), *bits, *number, *expected);
     }
     let refused = [

@@ -63,7 +63,7 @@ fn places_of_lexemes(rt: HostRuntime) {
 }
 
 // Texts of statements with the kinds and lengths of their lexemes.
-const STATEMENTS: [(&[u8], &[(Kind, u32)]); 9] = [
+const STATEMENTS: &[(&[u8], &[(Kind, u32)])] = &[
     // labels and names at a statement's beginning, in a body and behind a deletion in one
     (
         b"{a:b:c,d",
@@ -143,7 +143,7 @@ const STATEMENTS: [(&[u8], &[(Kind, u32)]); 9] = [
 
 #[test]
 fn statements(rt: HostRuntime) {
-    for (text, kinds) in &STATEMENTS {
+    for (text, kinds) in STATEMENTS {
         assert!(rt; are(rt.alloc(), *text, *kinds));
     }
 }
@@ -179,7 +179,7 @@ fn long_labels(rt: HostRuntime) {
 }
 
 // Texts of values with the kinds and lengths of their lexemes.
-const VALUES: [(&[u8], &[(Kind, u32)]); 9] = [
+const VALUES: &[(&[u8], &[(Kind, u32)])] = &[
     // operators inside parentheses alone
     (
         b"<<0x1fULL>>",
@@ -274,7 +274,7 @@ const VALUES: [(&[u8], &[(Kind, u32)]); 9] = [
 
 #[test]
 fn values(rt: HostRuntime) {
-    for (text, kinds) in &VALUES {
+    for (text, kinds) in VALUES {
         assert!(rt; are(rt.alloc(), *text, *kinds));
     }
 }
@@ -292,7 +292,7 @@ fn breaks_off(rt: &impl Abort, alloc: Global, text: &[u8], place: u32, line: usi
 
 #[test]
 fn no_lexeme(rt: HostRuntime) {
-    let rows: [(&[u8], u32, usize); 16] = [
+    const ROWS: &[(&[u8], u32, usize)] = &[
         (b";\n a", 3, 2),
         (b"\n\"a\n", 1, 2),
         (b"\n\n/* *\n", 2, 3),
@@ -318,7 +318,7 @@ fn no_lexeme(rt: HostRuntime) {
         (b"1ul", 1, 1),
         (b"\x00", 0, 1),
     ];
-    for (text, place, line) in &rows {
+    for (text, place, line) in ROWS {
         breaks_off(&rt, rt.alloc(), *text, *place, *line);
     }
 }

@@ -45,7 +45,7 @@ fn number(alloc: Global, text: &[u8]) -> u8 {
 }
 
 // Sources, and the bytes of their last value.
-const VALUES: [(&[u8], &[u8]); 9] = [
+const VALUES: &[(&[u8], &[u8])] = &[
     // cell-arithmetic
     (
         b"/dts-v1/; / { p = <(1 << 64) (0 - 1) (2 + 3 * 4)>; };",
@@ -104,7 +104,7 @@ fn values_of_bytes(rt: HostRuntime) {
     faults_are_in_order();
     says_lawful();
     bodies_are_lists();
-    for (text, bytes) in &VALUES {
+    for (text, bytes) in VALUES {
         says_bytes(&rt, rt.alloc(), *text, *bytes);
     }
 }
@@ -121,7 +121,7 @@ fn said<'s>(part: &'s Part<'_>) -> (&'static str, &'s [u8]) {
 }
 
 // The parts that the next test's value says.
-const PARTS: [(&str, &[u8]); 7] = [
+const PARTS: &[(&str, &[u8])] = &[
     ("bytes", b"x\0"),
     ("path of a label", b"l"),
     ("bytes", &[0, 0, 0, 1]),
@@ -140,7 +140,7 @@ fn is_said(rt: &impl Abort, part: &Part<'_>, kind: &str, bytes: &[u8]) {
 fn says_parts(rt: &impl Abort, source: &Source<'_>) {
     let value = last_value(source).expect(rt, "a value");
     assert_eq!(rt; value.len(), PARTS.len());
-    for (part, (kind, bytes)) in value.iter().zip(&PARTS) {
+    for (part, (kind, bytes)) in value.iter().zip(PARTS) {
         is_said(rt, part, *kind, *bytes);
     }
 }
@@ -160,7 +160,7 @@ fn values_of_parts(rt: HostRuntime) {
 }
 
 // Sources, the number of their refusal (255 for none), and its line.
-const REFUSALS: [(&[u8], u8, usize); 27] = [
+const REFUSALS: &[(&[u8], u8, usize)] = &[
     // syntax-fault
     (b"/dts-v1/; / {", 10, 1),
     (b"", 10, 1),
@@ -221,7 +221,7 @@ fn too_long_is_refused(rt: &impl Abort, alloc: Global) {
 
 #[test]
 fn refusals(rt: HostRuntime) {
-    for (text, refused, line) in &REFUSALS {
+    for (text, refused, line) in REFUSALS {
         is_refused(&rt, rt.alloc(), *text, *refused, *line);
     }
     too_long_is_refused(&rt, rt.alloc());
@@ -368,7 +368,7 @@ const NODES: [&[u8]; 5] = [b"/dts-v1/; / {", b"a {", b"", b"};", b"};"];
 const SIGNS: [&[u8]; 5] = [b"/dts-v1/; / { p = <(", b"-", b"1", b"", b")>; };"];
 
 // Pieces, how often the second and the fourth stand there, and the number of the refusal, or 255.
-const NESTED: [([&[u8]; 5], usize, u8); 8] = [
+const NESTED: &[([&[u8]; 5], usize, u8)] = &[
     (PARENS, 64, 255),
     (NODES, 64, 255),
     (SIGNS, 63, 255),
@@ -383,7 +383,7 @@ const NESTED: [([&[u8]; 5], usize, u8); 8] = [
 // nesting-bounds
 #[test]
 fn nesting(rt: HostRuntime) {
-    for (pieces, depth, expected) in &NESTED {
+    for (pieces, depth, expected) in NESTED {
         assert_eq!(rt; nested_number(&rt, rt.alloc(), *pieces, *depth), *expected);
     }
 }

@@ -76,7 +76,7 @@ fn is_one_cell(rt: &impl Abort, alloc: Global, hasher: RandomState, bytes: &[u8]
 }
 
 /// Blobs of one-cell's tree: words of the structure block, and strings.
-const OF_ONE_CELL: [(&str, &[u32], &[u8]); 3] = [
+const OF_ONE_CELL: &[(&str, &[u32], &[u8])] = &[
     ("a NOP", &[1, 0, 4, 3, 4, 0, 1, 2, 9], b"a\0"),
     (
         "NOPs wherever they may be",
@@ -132,7 +132,7 @@ fn changed_blob(rt: HostRuntime) {
     blob_holds();
     one_tree();
     assert!(rt; is_one_cell(&rt, alloc, hasher, ONE_CELL));
-    for (name, structure, strings) in OF_ONE_CELL {
+    for &(name, structure, strings) in OF_ONE_CELL {
         assert!(rt;
             makes_one_cell(&rt, alloc, hasher, structure, strings),
             "{name}"
@@ -144,7 +144,7 @@ fn changed_blob(rt: HostRuntime) {
 }
 
 // A place in one-cell's blob, the word that is put there, and the number of the refusal.
-const CHANGED: [(usize, u32, u8); 20] = [
+const CHANGED: &[(usize, u32, u8)] = &[
     (0x24, 0xffff_fffc, 33),
     (0x24, 0x1c, 34),
     (0x10, 0x48, 33),
@@ -180,7 +180,7 @@ fn is_refused_changed(rt: &impl Abort, alloc: Global, row: &(usize, u32, u8)) {
 
 #[test]
 fn changed_words(rt: HostRuntime) {
-    for row in &CHANGED {
+    for row in CHANGED {
         is_refused_changed(&rt, rt.alloc(), row);
     }
 }
@@ -203,7 +203,7 @@ fn every_cut(rt: HostRuntime) {
 }
 
 // What is wrong with a structure block, its words, and the number of the refusal.
-const BAD_TOKENS: [(&str, &[u32], u8); 21] = [
+const BAD_TOKENS: &[(&str, &[u32], u8)] = &[
     (
         "a property after a child",
         &[1, 0, 1, 0x6e00_0000, 2, 3, 0, 0, 2, 9],
@@ -259,7 +259,7 @@ fn is_told(rt: &impl Abort, told: Option<u8>, number: Option<u8>, name: &str) {
 
 #[test]
 fn faults_of_tokens(rt: HostRuntime) {
-    for (name, structure, number) in &BAD_TOKENS {
+    for (name, structure, number) in BAD_TOKENS {
         let told = structure_refusal(&rt, rt.alloc(), *structure, b"a\0");
         is_told(&rt, told, Some(*number), *name);
     }
@@ -294,7 +294,7 @@ fn depth(rt: HostRuntime) {
 }
 
 // What is cut, the words of the structure block, the size that it is told to have, and the number of the refusal.
-const CUT: [(&str, &[u32], u32, Option<u8>); 4] = [
+const CUT: &[(&str, &[u32], u32, Option<u8>)] = &[
     ("all of it", &[1, 0, 2, 9], 16, None),
     ("of a node's name", &[1, 0, 2, 9], 6, Some(34)),
     (
@@ -323,13 +323,13 @@ fn cut_refusal(rt: &impl Abort, alloc: Global, structure: &[u32], size: u32) -> 
 
 #[test]
 fn cut_padding(rt: HostRuntime) {
-    for (name, structure, size, number) in &CUT {
+    for (name, structure, size, number) in CUT {
         let told = cut_refusal(&rt, rt.alloc(), *structure, *size);
         is_told(&rt, told, *number, *name);
     }
 }
 
-const UNLAWFUL: [(&str, &[u32], u8); 2] = [
+const UNLAWFUL: &[(&str, &[u32], u8)] = &[
     ("in a node", &[1, 0, 3, 0, 0, 2, 9], 37),
     (
         "behind a child",
@@ -340,7 +340,7 @@ const UNLAWFUL: [(&str, &[u32], u8); 2] = [
 
 #[test]
 fn unlawful_property_names(rt: HostRuntime) {
-    for (name, structure, number) in &UNLAWFUL {
+    for (name, structure, number) in UNLAWFUL {
         let told = structure_refusal(&rt, rt.alloc(), *structure, b"/\0");
         is_told(&rt, told, Some(*number), *name);
     }
@@ -383,7 +383,7 @@ struct Row {
     text: &'static [u8],
 }
 
-const WRITTEN: [Row; 4] = [
+const WRITTEN: &[Row] = &[
     Row {
         name: "empty-root",
         reserves: &[],
@@ -429,13 +429,13 @@ fn row_holds(rt: &impl Abort, alloc: Global, hasher: RandomState, row: &Row) {
 #[test]
 fn written_rows(rt: HostRuntime) {
     let hasher = RandomState::new(&rt).expect(&rt, "a seed");
-    for row in &WRITTEN {
+    for row in WRITTEN {
         row_holds(&rt, rt.alloc(), hasher, row);
     }
 }
 
 /// A property of each form of values.
-const FORMS: [(&[u8], &[u8]); 5] = [
+const FORMS: &[(&[u8], &[u8])] = &[
     (b"s", b"a\0b\0"),
     (b"e", b""),
     (b"n", b"\0\0\0\0"),
@@ -453,12 +453,12 @@ fn text_is(rt: &impl Abort, alloc: Global, tree: &Tree, wanted: &[u8]) {
 
 #[test]
 fn value_forms(rt: HostRuntime) {
-    let tree = tree(&rt, rt.alloc(), &[], &FORMS);
+    let tree = tree(&rt, rt.alloc(), &[], FORMS);
     text_is(&rt, rt.alloc(), &tree, FORMS_TEXT);
 }
 
 /// Properties whose names are tails of one another.
-const TAILS: [(&[u8], &[u8]); 4] = [(b"reg", b""), (b"xreg", b""), (b"g", b""), (b"eg", b"")];
+const TAILS: &[(&[u8], &[u8])] = &[(b"reg", b""), (b"xreg", b""), (b"g", b""), (b"eg", b"")];
 
 fn tails_are_shared(rt: &impl Abort, alloc: Global, hasher: RandomState, tree: &Tree) {
     let wanted = blob(
@@ -474,6 +474,6 @@ fn tails_are_shared(rt: &impl Abort, alloc: Global, hasher: RandomState, tree: &
 #[test]
 fn tails_of_names(rt: HostRuntime) {
     let hasher = RandomState::new(&rt).expect(&rt, "a seed");
-    let tree = tree(&rt, rt.alloc(), &[], &TAILS);
+    let tree = tree(&rt, rt.alloc(), &[], TAILS);
     tails_are_shared(&rt, rt.alloc(), hasher, &tree);
 }

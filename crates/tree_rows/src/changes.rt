@@ -12,7 +12,7 @@ const HEAD: &[u8] = b"/dts-v1/;\n\n/memreserve/ 0x0000000000001000 0x00000000000
 const BASE: &[u8] = b"\ta = [01];\n\tb;\n\tsoc {\n\t\tuart {\n\t\t};\n\t};\n\tclk {\n\t};\n};\n";
 
 /// The calls that make that tree.
-const BASE_STEPS: [Step; 5] = [
+const BASE_STEPS: &[Step] = &[
     (Call::Set(&[1]), b"/", b"a"),
     (Call::Set(&[]), b"/", b"b"),
     (Call::Add, b"/", b"soc"),
@@ -20,39 +20,40 @@ const BASE_STEPS: [Step; 5] = [
     (Call::Add, b"/", b"clk"),
 ];
 
-/// A call of the base tree, whether it answers that something was there, the number of its refusal, or 0, and the
-/// lines in the root that it leaves.
+/// What a call answers: it is done, it found what it took out, or the number of its refusal.
 #[derive(Clone, Copy, Drop)]
-struct Row {
-    step: Step,
-    there: bool,
-    refusal: u8,
-    left: &'static [u8],
+enum Answer {
+    Done,
+    Found,
+    Refused(u8),
 }
+
+/// A call of the base tree, what it answers, and the lines in the root that it leaves.
+type Row = (Step, Answer, &'static [u8]);
 
 fn base(rt: &impl Abort, alloc: Global) -> Tree {
-    grown(rt, alloc, &[(4096, 16)], &BASE_STEPS)
+    grown(rt, alloc, &[(4096, 16)], BASE_STEPS)
 }
 
-/// Whether the call answers as the row says.
-fn answers(rt: &impl Abort, alloc: Global, tree: &mut Tree, row: &Row) -> bool {
-    match made(rt, alloc, tree, row.step) {
-        Ok(there) => there == row.there && row.refusal == 0,
-        Err(TreeError::NoMemory) => false,
-        Err(e) => !row.there && e.number() == row.refusal,
+fn answers(rt: &impl Abort, alloc: Global, tree: &mut Tree, step: Step, answer: Answer) -> bool {
+    match (made(rt, alloc, tree, step), answer) {
+        (Ok(there), Answer::Done) => !there,
+        (Ok(there), Answer::Found) => there,
+        (Err(e), Answer::Refused(number)) => e.number() == number,
+        _ => false,
     }
 }
 
-/// Whether the tree is what the row says that the call leaves.
-fn is_left(rt: &impl Abort, alloc: Global, tree: &Tree, row: &Row) -> bool {
+fn is_left(rt: &impl Abort, alloc: Global, tree: &Tree, left: &[u8]) -> bool {
     let text = source_text(alloc, tree).expect(rt, "a text");
-    tree.boot_cpu() == 3 && text.as_slice().strip_prefix(HEAD) == Some(row.left)
+    tree.boot_cpu() == 3 && text.as_slice().strip_prefix(HEAD) == Some(left)
 }
 
 fn row_holds(rt: &impl Abort, alloc: Global, row: &Row) -> bool {
+    let (step, answer, left) = row;
     let mut tree = base(rt, alloc);
-    let answered = answers(rt, alloc, &mut tree, row);
-    answered && is_left(rt, alloc, &tree, row)
+    let answered = answers(rt, alloc, &mut tree, *step, *answer);
+    answered && is_left(rt, alloc, &tree, *left)
 }
 
 fn rows_hold(rt: &impl Abort, alloc: Global, rows: &[Row]) {
@@ -61,100 +62,79 @@ fn rows_hold(rt: &impl Abort, alloc: Global, rows: &[Row]) {
     }
 }
 
-const fn done(call: Call, path: &'static [u8], name: &'static [u8], left: &'static [u8]) -> Row {
-    Row {
-        step: (call, path, name),
-        there: false,
-        refusal: 0,
-        left,
-    }
-}
-
-/// A call that finds what it takes out.
-const fn found(call: Call, path: &'static [u8], name: &'static [u8], left: &'static [u8]) -> Row {
-    let mut row = done(call, path, name, left);
-    row.there = true;
-    row
-}
-
-/// A call that is refused.
-const fn refused(call: Call, path: &'static [u8], name: &'static [u8], refusal: u8) -> Row {
-    let mut row = done(call, path, name, BASE);
-    row.refusal = refusal;
-    row
-}
+const OF_PROPERTIES: &[Row] = &[
+    (
+        (Call::Set(&[2]), b"/", b"a"),
+        Answer::Done,
+        b"\ta = [02];\n\tb;\n\tsoc {\n\t\tuart {\n\t\t};\n\t};\n\tclk {\n\t};\n};\n",
+    ),
+    (
+        (Call::Set(&[2]), b"/", b"c"),
+        Answer::Done,
+        b"\ta = [01];\n\tb;\n\tc = [02];\n\tsoc {\n\t\tuart {\n\t\t};\n\t};\n\tclk {\n\t};\n};\n",
+    ),
+    (
+        (Call::Set(&[]), b"/soc/uart", b"a"),
+        Answer::Done,
+        b"\ta = [01];\n\tb;\n\tsoc {\n\t\tuart {\n\t\t\ta;\n\t\t};\n\t};\n\tclk {\n\t};\n};\n",
+    ),
+    (
+        (Call::Set(&[2]), b"/soc/clk", b"a"),
+        Answer::Refused(5),
+        BASE,
+    ),
+    (
+        (Call::Set(&[2]), b"/clk/a/b", b"a"),
+        Answer::Refused(5),
+        BASE,
+    ),
+    (
+        (Call::Unset, b"/", b"a"),
+        Answer::Found,
+        b"\tb;\n\tsoc {\n\t\tuart {\n\t\t};\n\t};\n\tclk {\n\t};\n};\n",
+    ),
+    ((Call::Unset, b"/", b"soc"), Answer::Done, BASE),
+    ((Call::Unset, b"/soc", b"a"), Answer::Done, BASE),
+    ((Call::Unset, b"/uart", b"a"), Answer::Refused(5), BASE),
+];
 
 #[test]
 fn properties(rt: HostRuntime) {
-    let rows = [
-        done(
-            Call::Set(&[2]),
-            b"/",
-            b"a",
-            b"\ta = [02];\n\tb;\n\tsoc {\n\t\tuart {\n\t\t};\n\t};\n\tclk {\n\t};\n};\n",
-        ),
-        done(
-            Call::Set(&[2]),
-            b"/",
-            b"c",
-            b"\ta = [01];\n\tb;\n\tc = [02];\n\tsoc {\n\t\tuart {\n\t\t};\n\t};\n\tclk {\n\t};\n};\n",
-        ),
-        done(
-            Call::Set(&[]),
-            b"/soc/uart",
-            b"a",
-            b"\ta = [01];\n\tb;\n\tsoc {\n\t\tuart {\n\t\t\ta;\n\t\t};\n\t};\n\tclk {\n\t};\n};\n",
-        ),
-        refused(Call::Set(&[2]), b"/soc/clk", b"a", 5),
-        refused(Call::Set(&[2]), b"/clk/a/b", b"a", 5),
-        found(
-            Call::Unset,
-            b"/",
-            b"a",
-            b"\tb;\n\tsoc {\n\t\tuart {\n\t\t};\n\t};\n\tclk {\n\t};\n};\n",
-        ),
-        done(Call::Unset, b"/", b"soc", BASE),
-        done(Call::Unset, b"/soc", b"a", BASE),
-        refused(Call::Unset, b"/uart", b"a", 5),
-    ];
-    rows_hold(&rt, rt.alloc(), &rows);
+    rows_hold(&rt, rt.alloc(), OF_PROPERTIES);
 }
+
+const OF_NODES: &[Row] = &[
+    (
+        (Call::Add, b"/", b"uart"),
+        Answer::Done,
+        b"\ta = [01];\n\tb;\n\tsoc {\n\t\tuart {\n\t\t};\n\t};\n\tclk {\n\t};\n\tuart {\n\t};\n};\n",
+    ),
+    (
+        (Call::Add, b"/soc", b"a"),
+        Answer::Done,
+        b"\ta = [01];\n\tb;\n\tsoc {\n\t\tuart {\n\t\t};\n\t\ta {\n\t\t};\n\t};\n\tclk {\n\t};\n};\n",
+    ),
+    ((Call::Add, b"/", b"clk"), Answer::Refused(3), BASE),
+    ((Call::Add, b"/soc", b"uart"), Answer::Refused(3), BASE),
+    ((Call::Add, b"/clk/a", b"b"), Answer::Refused(5), BASE),
+    (
+        (Call::Remove, b"/", b"soc"),
+        Answer::Found,
+        b"\ta = [01];\n\tb;\n\tclk {\n\t};\n};\n",
+    ),
+    (
+        (Call::Remove, b"/soc", b"uart"),
+        Answer::Found,
+        b"\ta = [01];\n\tb;\n\tsoc {\n\t};\n\tclk {\n\t};\n};\n",
+    ),
+    ((Call::Remove, b"/", b"uart"), Answer::Done, BASE),
+    ((Call::Remove, b"/", b"a"), Answer::Done, BASE),
+    ((Call::Remove, b"/uart", b"a"), Answer::Refused(5), BASE),
+];
 
 #[test]
 fn children(rt: HostRuntime) {
-    let rows = [
-        done(
-            Call::Add,
-            b"/",
-            b"uart",
-            b"\ta = [01];\n\tb;\n\tsoc {\n\t\tuart {\n\t\t};\n\t};\n\tclk {\n\t};\n\tuart {\n\t};\n};\n",
-        ),
-        done(
-            Call::Add,
-            b"/soc",
-            b"a",
-            b"\ta = [01];\n\tb;\n\tsoc {\n\t\tuart {\n\t\t};\n\t\ta {\n\t\t};\n\t};\n\tclk {\n\t};\n};\n",
-        ),
-        refused(Call::Add, b"/", b"clk", 3),
-        refused(Call::Add, b"/soc", b"uart", 3),
-        refused(Call::Add, b"/clk/a", b"b", 5),
-        found(
-            Call::Remove,
-            b"/",
-            b"soc",
-            b"\ta = [01];\n\tb;\n\tclk {\n\t};\n};\n",
-        ),
-        found(
-            Call::Remove,
-            b"/soc",
-            b"uart",
-            b"\ta = [01];\n\tb;\n\tsoc {\n\t};\n\tclk {\n\t};\n};\n",
-        ),
-        done(Call::Remove, b"/", b"uart", BASE),
-        done(Call::Remove, b"/", b"a", BASE),
-        refused(Call::Remove, b"/uart", b"a", 5),
-    ];
-    rows_hold(&rt, rt.alloc(), &rows);
+    rows_hold(&rt, rt.alloc(), OF_NODES);
 }
 
 /// Puts as many floors below one another as there may be, and gives the path of the lowest.

@@ -18,7 +18,7 @@ const AT_CLK: &[u8] =
     b"/dts-v1/;\n\n/ {\n\tx = [01];\n\ty;\n\tsoc {\n\t\tx = [01];\n\t\tuart {\n\t\t};\n\t};\n\tclk {\n\t\tx = [02];\n\t\tz;\n\t\tgpio {\n\t\t};\n\t\tsoc {\n\t\t\tx = [02];\n\t\t\tz;\n\t\t\tspi {\n\t\t\t};\n\t\t\tuart {\n\t\t\t};\n\t\t};\n\t};\n};\n";
 
 /// The calls that make the tree that each row begins with.
-const BASE_STEPS: [Step; 6] = [
+const BASE_STEPS: &[Step] = &[
     (Call::Set(&[1]), b"/", b"x"),
     (Call::Set(&[]), b"/", b"y"),
     (Call::Add, b"/", b"soc"),
@@ -29,7 +29,7 @@ const BASE_STEPS: [Step; 6] = [
 
 /// Those that make `other`, a node with x = 2 and z, and the children gpio and soc, of which soc has x = 2 and z and
 /// the children spi and uart.
-const OTHER_STEPS: [Step; 9] = [
+const OTHER_STEPS: &[Step] = &[
     (Call::Add, b"/", b"other"),
     (Call::Set(&[2]), b"/other", b"x"),
     (Call::Set(&[]), b"/other", b"z"),
@@ -115,14 +115,14 @@ fn is_merged(rt: &impl Abort, alloc: Global, tree: &Tree, others: &Tree) {
 }
 
 fn others_are_merged(rt: &impl Abort, alloc: Global, tree: &Tree) {
-    let others = grown(rt, alloc, &[], &OTHER_STEPS);
+    let others = grown(rt, alloc, &[], OTHER_STEPS);
     is_merged(rt, alloc, tree, &others);
 }
 
 /// What is there keeps its place and takes the new value; what is new goes last. The tree that was merged into stays.
 #[test]
 fn merged_nodes(rt: HostRuntime) {
-    let tree = grown(&rt, rt.alloc(), &[], &BASE_STEPS);
+    let tree = grown(&rt, rt.alloc(), &[], BASE_STEPS);
     others_are_merged(&rt, rt.alloc(), &tree);
 }
 
@@ -152,7 +152,7 @@ fn high_is_refused(rt: &impl Abort, alloc: Global, tree: &Tree) {
 /// No node at the path is told before a node that would lie too deep.
 #[test]
 fn refused_merges(rt: HostRuntime) {
-    let tree = grown(&rt, rt.alloc(), &[], &BASE_STEPS);
+    let tree = grown(&rt, rt.alloc(), &[], BASE_STEPS);
     is_nowhere(&rt, rt.alloc(), &tree);
     high_is_refused(&rt, rt.alloc(), &tree);
 }

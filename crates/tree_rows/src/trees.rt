@@ -116,7 +116,7 @@ fn makes_path(rt: &impl Abort, alloc: Global, bytes: &[u8]) -> bool {
     }
 }
 
-const PATHS: [(&[u8], bool); 6] = [
+const PATHS: &[(&[u8], bool)] = &[
     (b"", false),
     (b"/", true),
     (b"a", false),
@@ -129,7 +129,7 @@ const PATHS: [(&[u8], bool); 6] = [
 fn paths(rt: HostRuntime) {
     let alloc = rt.alloc();
     path_texts_and_names();
-    for (bytes, lawful) in PATHS {
+    for &(bytes, lawful) in PATHS {
         assert_eq!(rt; is_path(bytes), lawful);
         assert_eq!(rt; makes_path(&rt, alloc, bytes), lawful);
     }
@@ -240,11 +240,11 @@ fn copied_tree(rt: HostRuntime) {
 }
 
 /// Where the nodes of these phandles are.
-const PHANDLES: [(u32, &[u8]); 3] = [(7, b"/soc/uart"), (8, b""), (u32::MAX, b"")];
+const PHANDLES: &[(u32, &[u8])] = &[(7, b"/soc/uart"), (8, b""), (u32::MAX, b"")];
 
 fn phandles_are_told(rt: &impl Abort, alloc: Global, tree: &Tree) {
     assert_eq!(rt; tree.greatest_phandle(), 7);
-    for (number, text) in PHANDLES {
+    for &(number, text) in PHANDLES {
         match tree.by_phandle(alloc, number).expect(rt, "memory") {
             None => assert!(rt; text.is_empty()),
             Some(path) => assert!(rt; path.as_bytes() == text),
@@ -260,7 +260,7 @@ fn phandles(rt: HostRuntime) {
 }
 
 /// The phandles of the nodes at these paths.
-const AT_PATHS: [(&[u8], Option<u32>); 4] = [
+const AT_PATHS: &[(&[u8], Option<u32>)] = &[
     (b"/", None),
     (b"/soc/clk", None),
     (b"/soc/uart", Some(7)),
@@ -273,7 +273,7 @@ fn phandle_at(rt: &impl Abort, alloc: Global, tree: &Tree, text: &[u8]) -> Optio
 }
 
 fn nodes_are_found(rt: &impl Abort, alloc: Global, tree: &Tree) {
-    for (text, number) in AT_PATHS {
+    for &(text, number) in AT_PATHS {
         assert!(rt; phandle_at(rt, alloc, tree, text) == number);
     }
 }
@@ -353,7 +353,7 @@ fn parts(rt: HostRuntime) {
 }
 
 /// Paths, and those of their children uart@1.
-const OF_CHILDREN: [(&[u8], &[u8]); 3] = [
+const OF_CHILDREN: &[(&[u8], &[u8])] = &[
     (b"/", b"/uart@1"),
     (b"/soc", b"/soc/uart@1"),
     (b"/a/b", b"/a/b/uart@1"),
@@ -367,13 +367,13 @@ fn path_of_child(rt: &impl Abort, alloc: Global, above: &[u8], name: &Name) -> P
 #[test]
 fn paths_of_children(rt: HostRuntime) {
     let name = Name::new(rt.alloc(), b"uart@1").expect(&rt, "a name");
-    for (above, text) in OF_CHILDREN {
+    for &(above, text) in OF_CHILDREN {
         let path = path_of_child(&rt, rt.alloc(), above, &name);
         assert!(rt; path.as_bytes() == text);
     }
 }
 
-const RESERVED: [(&[u8], bool); 5] = [
+const RESERVED: &[(&[u8], bool)] = &[
     (b"__symbols__", true),
     (b"__fixups__", true),
     (b"__local_fixups__", true),
@@ -383,7 +383,7 @@ const RESERVED: [(&[u8], bool); 5] = [
 
 #[test]
 fn reserved_names(rt: HostRuntime) {
-    for (name, reserved) in RESERVED {
+    for &(name, reserved) in RESERVED {
         assert_eq!(rt; is_reserved_name(name), reserved);
     }
 }

@@ -37,7 +37,7 @@ fn is_refused(
 
 #[test]
 fn sources_are_refused(rt: HostRuntime) {
-    let rows = [
+    const ROWS: &[(u8, &str, &str)] = &[
         (10, "", "error 10 Syntax line 1"),
         (
             11,
@@ -83,7 +83,7 @@ fn sources_are_refused(rt: HostRuntime) {
         ),
     ];
     let hasher = RandomState::new(&rt).expect(&rt, "a seed");
-    for (number, text, line) in rows {
+    for &(number, text, line) in ROWS {
         let answer = compile_bytes(rt.alloc(), hasher, text.as_bytes(), false);
         is_refused(&rt, rt.alloc(), number, line, answer);
     }
@@ -91,7 +91,7 @@ fn sources_are_refused(rt: HostRuntime) {
 
 #[test]
 fn overlays_are_refused(rt: HostRuntime) {
-    let rows = [
+    const ROWS: &[(u8, &str, &str)] = &[
         (40, "/dts-v1/;/{};", "error 40 NotOverlay"),
         (
             41,
@@ -117,7 +117,7 @@ fn overlays_are_refused(rt: HostRuntime) {
     ];
     let hasher = RandomState::new(&rt).expect(&rt, "a seed");
     let base = compiled(&rt, rt.alloc(), hasher, "/dts-v1/; / { a: a { }; };", true);
-    for (number, overlay, line) in rows {
+    for &(number, overlay, line) in ROWS {
         let overlay = compiled(&rt, rt.alloc(), hasher, overlay, false);
         let answer = overlay_bytes(rt.alloc(), hasher, base.as_slice(), overlay.as_slice());
         is_refused(&rt, rt.alloc(), number, line, answer);
@@ -127,7 +127,7 @@ fn overlays_are_refused(rt: HostRuntime) {
 
 #[test]
 fn plans_and_events_are_refused(rt: HostRuntime) {
-    let rows = [
+    const ROWS: &[(u8, &str, &str, &str)] = &[
         (50, "/a", "", "error 50 BadLine line 1"),
         (52, "/a - -\n/a - -", "", "error 52 DuplicateDevice line 2"),
         (53, "/a - - /b", "", "error 53 UnknownPath line 1"),
@@ -153,7 +153,7 @@ fn plans_and_events_are_refused(rt: HostRuntime) {
         (66, "/a x ok", "abandon /a", "error 66 NotInFlight event 1"),
     ];
     let hasher = RandomState::new(&rt).expect(&rt, "a seed");
-    for (number, plan, schedule, line) in rows {
+    for &(number, plan, schedule, line) in ROWS {
         let answer = replay_bytes(rt.alloc(), hasher, plan.as_bytes(), schedule.as_bytes());
         is_refused(&rt, rt.alloc(), number, line, answer);
     }
@@ -189,7 +189,7 @@ const MAGIC: u32 = 0xd00d_feed;
 
 #[test]
 fn headers_are_refused(rt: HostRuntime) {
-    let rows: [(u8, usize, [u32; 10], &str); 5] = [
+    const ROWS: &[(u8, usize, [u32; 10], &str)] = &[
         (30, 0, [0; 10], "error 30 Truncated"),
         (31, 40, [0; 10], "error 31 BadMagic"),
         (
@@ -211,7 +211,7 @@ fn headers_are_refused(rt: HostRuntime) {
             "error 34 BadToken",
         ),
     ];
-    for (number, len, words, line) in rows {
+    for &(number, len, words, line) in ROWS {
         let blob = blob(&rt, rt.alloc(), words, b"");
         let front = blob.as_slice().get(..len).expect(&rt, "so many bytes");
         let answer = dump_bytes(rt.alloc(), front);
@@ -221,7 +221,7 @@ fn headers_are_refused(rt: HostRuntime) {
 
 #[test]
 fn structures_are_refused(rt: HostRuntime) {
-    let rows: [(u8, u32, &[u8], &str); 3] = [
+    const ROWS: &[(u8, u32, &[u8], &str)] = &[
         // The root's name is four bytes without a zero.
         (35, 8, b"\0\0\0\x01aaaa", "error 35 BadString"),
         // The root has the child `a`, and then the property `a`, whose name is the child's.
@@ -239,7 +239,7 @@ fn structures_are_refused(rt: HostRuntime) {
             "error 37 BadTree",
         ),
     ];
-    for (number, len, structure, line) in rows {
+    for &(number, len, structure, line) in ROWS {
         let words = [MAGIC, 56 + len, 56, 68, 40, 17, 16, 0, 2, len];
         let words = if number == 36 {
             words
@@ -255,7 +255,7 @@ fn structures_are_refused(rt: HostRuntime) {
 /// Each number that a command prints is explained, and no other.
 #[test]
 fn numbers_are_explained(rt: HostRuntime) {
-    let explained: [&[u8]; 9] = [
+    const EXPLAINED: &[&[u8]] = &[
         &[0],
         &[10, 11, 12, 13, 14, 15, 16, 17],
         &[20, 21, 22, 23, 24, 25, 26, 27, 28],
@@ -267,7 +267,7 @@ fn numbers_are_explained(rt: HostRuntime) {
         &[80, 81, 82],
     ];
     for number in 0..=255u8 {
-        let wanted = explained.iter().any(|numbers| numbers.contains(&number));
+        let wanted = EXPLAINED.iter().any(|numbers| numbers.contains(&number));
         assert_eq!(rt; explain(number).is_some(), wanted, "{number}");
     }
 }
