@@ -1,4 +1,5 @@
 //! The exit statuses, and what goes where.
+ghost use Rattle.std.specs.Prelude.{◌<◌};
 
 use super::runs::{Files, Row, ends, row_ends, run_over};
 use super::shelf::Shelf;
@@ -137,7 +138,9 @@ fn write_fails<R: AllocGlobal + Threads + Wait + Sync + Abort>(
     rt: &R,
     hasher: RandomState,
     call: usize,
-) {
+)
+    requires { call < 7 }
+{
     let mut shelf = Shelf::new(rt.alloc(), FILES, hasher);
     let traces = run_over(rt, REPLAY, &mut shelf, Some(call));
     let written = traces.output.as_slice();

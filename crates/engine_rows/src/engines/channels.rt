@@ -1,4 +1,5 @@
 //! Whole inputs and whole outputs, over memory that fails at each call in turn.
+ghost use Rattle.std.specs.Prelude.{◌<◌};
 
 use engine::{Fault, Memory, WriteFault, read_all, read_within, write_out};
 use std::alloc::Global;
@@ -15,6 +16,7 @@ fn number(answer: Result<Vec<u8>, Fault>) -> (usize, u8) {
 }
 
 fn reads_all(rt: &impl Abort, alloc: Global, limit: usize, read: usize, left: usize) {
+    assert!(rt; limit <= 1000);
     let mut channel = Memory::new(alloc, TEXT);
     channel.pace = 5;
     let answer = number(read_all(alloc, &mut channel, limit));
@@ -23,6 +25,7 @@ fn reads_all(rt: &impl Abort, alloc: Global, limit: usize, read: usize, left: us
 }
 
 fn reads_within(rt: &impl Abort, alloc: Global, limit: usize) {
+    assert!(rt; limit <= 1000);
     let mut channel = Memory::new(alloc, TEXT);
     let answer = number(read_within(alloc, &mut channel, limit));
     let wanted = if limit < 28 { (0, 82) } else { (28, 0) };
@@ -63,7 +66,9 @@ fn tells_the_read_that_fails(rt: HostRuntime) {
     }
 }
 
-fn write_fails(rt: &impl Abort, alloc: Global, call: usize, wanted: Result<(), WriteFault>) {
+fn write_fails(rt: &impl Abort, alloc: Global, call: usize, wanted: Result<(), WriteFault>)
+    requires { call < 7 }
+{
     let mut channel = Memory::new(alloc, b"");
     channel.pace = 5;
     channel.calls_left = Some(call);
