@@ -352,19 +352,25 @@ fn deep_overlay(rt: &impl Abort, alloc: Global, target: &str) -> String {
 
 const DEEP_BASE: &str = "/dts-v1/; / { a { b { c { }; }; }; };";
 
-// That the answer for a deep overlay of this target begins so.
-fn deep_begins(rt: &impl Abort, alloc: Global, hasher: RandomState, target: &str, head: &[u8]) {
+// What a deep overlay of this target gives.
+fn deep_told(rt: &impl Abort, alloc: Global, hasher: RandomState, target: &str) -> Vec<u8> {
     let overlay = deep_overlay(rt, alloc, target);
-    let told = applied(rt, alloc, hasher, DEEP_BASE, true, overlay.as_str());
-    assert!(rt; told.as_slice().starts_with(head), "{target}");
+    applied(rt, alloc, hasher, DEEP_BASE, true, overlay.as_str())
 }
 
 #[test]
-fn nodes_are_at_most_64_deep(rt: HostRuntime) {
+fn nodes_may_be_64_deep(rt: HostRuntime) {
     let hasher = RandomState::new(&rt).expect(&rt, "a seed");
-    let deepest = b"/ {\n\ta {\n\t\tb {\n\t\t\tc {\n\t\t\t};\n\t\t\tn {\n";
-    deep_begins(&rt, rt.alloc(), hasher, "/a/b", deepest);
-    deep_begins(&rt, rt.alloc(), hasher, "/a/b/c", b"error 46 TooDeep");
+    let deepest = deep_told(&rt, rt.alloc(), hasher, "/a/b");
+    let head = b"/ {\n\ta {\n\t\tb {\n\t\t\tc {\n\t\t\t};\n\t\t\tn {\n";
+    assert!(rt; deepest.as_slice().starts_with(head));
+}
+
+#[test]
+fn nodes_65_deep_are_refused(rt: HostRuntime) {
+    let hasher = RandomState::new(&rt).expect(&rt, "a seed");
+    let deeper = deep_told(&rt, rt.alloc(), hasher, "/a/b/c");
+    assert_eq!(rt; deeper.as_slice(), b"error 46 TooDeep".as_slice());
 }
 
 fn blobs_are_refused(
