@@ -2,6 +2,8 @@
 ghost use Rattle.std.specs.Prelude.{◌≡◌, IfSome, is_some};
 ghost use Rattle.engine.specs.Explain.{is_one_of, is_error_number, memory_numbers, source_numbers, build_numbers, blob_numbers, overlay_numbers, text_numbers, event_numbers, run_numbers, file_numbers};
 
+mod texts;
+
 use std::fmt;
 
 /// An error for its reader.
@@ -72,12 +74,7 @@ fn of_memory(number: u8) -> Option<Texts>
     ensures { is_some result ≡ is_one_of memory_numbers number }
 {
     match number {
-        0 => Some((
-            "NoMemory",
-            "The system refused memory that the command asked for. Nothing was printed or written.",
-            "none: it depends on the machine",
-            "Free memory, or raise the limit under which the command runs (`ulimit -v`).",
-        )),
+        0 => Some(texts::NO_MEMORY),
         _ => None,
     }
 }
@@ -86,54 +83,14 @@ fn of_source(number: u8) -> Option<Texts>
     ensures { is_some result ≡ is_one_of source_numbers number }
 {
     match number {
-        10 => Some((
-            "Syntax",
-            "The text is no source: something can't stand where it stands, or the text ends too early.",
-            "an empty source",
-            "Look at the line. A source begins with `/dts-v1/;`, and each node and property ends with `;`. Run the preprocessor first: `#include` and `#define` are its words.",
-        )),
-        11 => Some((
-            "ElementRange",
-            "A number doesn't fit its element: a cell has 32 bits, `/bits/ 8` elements have 8.",
-            "`/dts-v1/;/{a=<0x100000000>;};`",
-            "Split the number into two cells, or choose wider elements by `/bits/ 64`.",
-        )),
-        12 => Some((
-            "DivideByZero",
-            "An expression divides by zero, or takes a remainder by it.",
-            "`/dts-v1/;/{a=<(1/0)>;};`",
-            "Look at what the macros of the line have become.",
-        )),
-        13 => Some((
-            "BadBits",
-            "The width behind `/bits/` isn't 8, 16, 32 or 64, or a reference stands among elements that aren't 32 bits wide.",
-            "`/dts-v1/;/{a=/bits/ 9<1>;};`",
-            "Choose one of the four widths, and put references into cells.",
-        )),
-        14 => Some((
-            "LiteralRange",
-            "A literal isn't a number below 2^64: its digits don't fit its base, or there are too many.",
-            "`/dts-v1/;/{a=<08>;};`",
-            "A leading 0 makes a number octal: leave it out, or write `0x`.",
-        )),
-        15 => Some((
-            "BadEscape",
-            "A backslash in a string begins no escape, or its number is above 255.",
-            "`/dts-v1/;/{a=\"\\x\";};`",
-            "Write `\\\\` for a backslash; `\\x` wants a hex digit, an octal escape is at most `\\377`.",
-        )),
-        16 => Some((
-            "TooDeep",
-            "Nodes or expressions are nested deeper than 64.",
-            "65 opening parentheses in a cell",
-            "Look for a brace that is never closed.",
-        )),
-        17 => Some((
-            "TooLong",
-            "The source has more than 16,777,216 bytes.",
-            "a file of 16,777,217 blanks",
-            "Data of that size belongs in a file of its own, not in a tree.",
-        )),
+        10 => Some(texts::SYNTAX),
+        11 => Some(texts::ELEMENT_RANGE),
+        12 => Some(texts::DIVIDE_BY_ZERO),
+        13 => Some(texts::BAD_BITS),
+        14 => Some(texts::LITERAL_RANGE),
+        15 => Some(texts::BAD_ESCAPE),
+        16 => Some(texts::SOURCE_TOO_DEEP),
+        17 => Some(texts::TOO_LONG),
         _ => None,
     }
 }
@@ -142,60 +99,15 @@ fn of_build(number: u8) -> Option<Texts>
     ensures { is_some result ≡ is_one_of build_numbers number }
 {
     match number {
-        20 => Some((
-            "UnknownLabel",
-            "A reference names a label that no node has: none had it yet where an item is extended or deleted, none has it in the end where a value refers to it.",
-            "`/dts-v1/;/{a=<&b>;};`",
-            "Look for the label's spelling, and for a deletion that took its node away.",
-        )),
-        21 => Some((
-            "DuplicateLabel",
-            "A label is given to a second node while the first one is there.",
-            "`/dts-v1/;/{a: x { }; a: y { };};`",
-            "Rename one of the labels.",
-        )),
-        22 => Some((
-            "UnknownPath",
-            "A reference names a path that no node has.",
-            "`/dts-v1/;/{a=&{/b};};`",
-            "Compare the path with the tree, unit addresses too.",
-        )),
-        23 => Some((
-            "BadPhandle",
-            "A property `phandle` isn't four plain bytes, or is 0 or 0xffffffff.",
-            "`/dts-v1/;/{phandle=<0>;};`",
-            "Leave the property out: a node that is referred to gets a number.",
-        )),
-        24 => Some((
-            "DuplicatePhandle",
-            "Two nodes have one phandle.",
-            "`/dts-v1/;/{phandle=<1>; a{phandle=<1>;};};`",
-            "Leave one of the two properties out.",
-        )),
-        25 => Some((
-            "DuplicateInBody",
-            "One body defines a property, or a child, twice.",
-            "`/dts-v1/;/{a; a;};`",
-            "Leave out the earlier one: a body that comes later may define it anew.",
-        )),
-        26 => Some((
-            "PathInPlugin",
-            "Cells of a plugin refer to a node by its path, and fixups carry labels alone.",
-            "`/dts-v1/;/plugin/;&a{r=<&{/b}>;};`",
-            "Give the node a label, and refer to it by that.",
-        )),
-        27 => Some((
-            "ReservedName",
-            "The root is deleted, cells refer to a reserved node, or a name that the compiler gives is taken (`__symbols__` with symbols; in a plugin `__fixups__`, `__local_fixups__` and the names of its fragments).",
-            "`/dts-v1/;/{a=<&{/__symbols__}>; __symbols__{};};`",
-            "Leave `__symbols__`, `__fixups__` and `__local_fixups__` to the compiler.",
-        )),
-        28 => Some((
-            "TooDeep",
-            "A node lies deeper than 64 levels below the root.",
-            "an extension of a node at level 64 with a child",
-            "Trees of boards have some 12 levels: look for a path that repeats.",
-        )),
+        20 => Some(texts::UNKNOWN_LABEL),
+        21 => Some(texts::DUPLICATE_LABEL),
+        22 => Some(texts::UNKNOWN_REFERENCE_PATH),
+        23 => Some(texts::BAD_PHANDLE),
+        24 => Some(texts::DUPLICATE_PHANDLE),
+        25 => Some(texts::DUPLICATE_IN_BODY),
+        26 => Some(texts::PATH_IN_PLUGIN),
+        27 => Some(texts::RESERVED_NAME),
+        28 => Some(texts::TREE_TOO_DEEP),
         _ => None,
     }
 }
@@ -204,60 +116,15 @@ fn of_blob(number: u8) -> Option<Texts>
     ensures { is_some result ≡ is_one_of blob_numbers number }
 {
     match number {
-        30 => Some((
-            "Truncated",
-            "The file ends before the blob does: it has fewer than 40 bytes, or fewer than its header says.",
-            "an empty file",
-            "Make or copy the blob again.",
-        )),
-        31 => Some((
-            "BadMagic",
-            "The file doesn't begin with d0 0d fe ed, so it is no blob.",
-            "40 zero bytes",
-            "See whether it is a source, or is packed (a kernel image, gzip, a FIT image).",
-        )),
-        32 => Some((
-            "BadVersion",
-            "The blob's version is below 17, or it can be read by versions above 17 alone.",
-            "d0 0d fe ed and 36 zero bytes",
-            "Make the blob again by a tool that writes version 17.",
-        )),
-        33 => Some((
-            "BadLayout",
-            "A block lies outside the blob or isn't aligned, or the list of reservations doesn't end.",
-            "d0 0d fe ed, and 36 bytes that are zero but for the version 17",
-            "The blob is damaged: make it again.",
-        )),
-        34 => Some((
-            "BadToken",
-            "The structure block has a word that is no token, is cut, or doesn't end with its node.",
-            "a blob whose structure block is empty",
-            "The blob is damaged: make it again.",
-        )),
-        35 => Some((
-            "BadString",
-            "A node's name doesn't end inside the structure block, or a property's name inside the strings.",
-            "a blob whose root's name has no zero byte",
-            "The blob is damaged: make it again.",
-        )),
-        36 => Some((
-            "PropertyAfterNode",
-            "A property stands behind a child of its node.",
-            "a blob whose root has a child and then a property",
-            "Blobs have a node's properties first: make it by a tool that keeps this order.",
-        )),
-        37 => Some((
-            "BadTree",
-            "The nodes make no tree: the root has a name, a name isn't lawful, siblings have one name, or nodes are deeper than 64.",
-            "a blob whose root is called `a`",
-            "Print the blob by another tool and look for such a name.",
-        )),
-        38 => Some((
-            "TooLarge",
-            "The blob, or the text that it would be printed as, has more than 268,435,456 bytes.",
-            "a file of 268,435,457 bytes",
-            "Take the data out of the tree.",
-        )),
+        30 => Some(texts::TRUNCATED),
+        31 => Some(texts::BAD_MAGIC),
+        32 => Some(texts::BAD_VERSION),
+        33 => Some(texts::BAD_LAYOUT),
+        34 => Some(texts::BAD_TOKEN),
+        35 => Some(texts::BAD_STRING),
+        36 => Some(texts::PROPERTY_AFTER_NODE),
+        37 => Some(texts::BAD_TREE),
+        38 => Some(texts::TOO_LARGE),
         _ => None,
     }
 }
@@ -266,48 +133,13 @@ fn of_overlay(number: u8) -> Option<Texts>
     ensures { is_some result ≡ is_one_of overlay_numbers number }
 {
     match number {
-        40 => Some((
-            "NotOverlay",
-            "The second blob is no overlay: no child of its root has a child `__overlay__`.",
-            "the blob of `/dts-v1/;/{};` as the overlay",
-            "Give the base first and then the overlay. An overlay is compiled from a source that begins with `/dts-v1/; /plugin/;`.",
-        )),
-        41 => Some((
-            "NoTarget",
-            "The base has no node that a fragment targets: none with the phandle in `target`, or, where that isn't there, none at the path in `target-path`.",
-            "the overlay `/dts-v1/;/{f{target-path=\"/b\"; __overlay__{};};};` over a base without `/b`",
-            "Compare the fragment with the base as `dtman dump` prints it. A target is a node that the base has before anything is applied.",
-        )),
-        42 => Some((
-            "UnknownSymbol",
-            "A label that the overlay refers to is no symbol of the base, or its symbol leads to no node that has a phandle.",
-            "an overlay of `/dts-v1/;/plugin/;&b{};` over a base without the label `b`",
-            "Compile the base with `--symbols`, and look for the label's spelling in its `__symbols__`.",
-        )),
-        43 => Some((
-            "BadFixup",
-            "An entry of `__fixups__` or `__local_fixups__` has another form, leads to no four bytes that may be written, or two of them overlap.",
-            "an overlay whose `__fixups__` has `b = \"/f:target\"`",
-            "Leave both nodes to the compiler: look for a tool that changed the overlay after it was compiled.",
-        )),
-        44 => Some((
-            "PhandleOverflow",
-            "A phandle of the overlay, raised above all of the base's, would be 0xffffffff or more.",
-            "an overlay with `phandle = <0xfffffffe>` in a fragment",
-            "Leave phandles out of the sources: the compiler numbers them from 1.",
-        )),
-        45 => Some((
-            "PhandleClash",
-            "A node would get a phandle where it has one, or two nodes of the overlay have one phandle.",
-            "a fragment with `phandle = <1>` in its `__overlay__`, whose target has a phandle",
-            "Leave out a label that the overlay gives to a node of the base, and compile the overlay without `--symbols` where only that asks for the phandle.",
-        )),
-        46 => Some((
-            "TooDeep",
-            "A node of the overlay would lie deeper than 64 levels below the base's root.",
-            "a fragment with a child, whose target lies at level 64",
-            "Trees of boards have some 12 levels: look for a target far down.",
-        )),
+        40 => Some(texts::NOT_OVERLAY),
+        41 => Some(texts::NO_TARGET),
+        42 => Some(texts::UNKNOWN_SYMBOL),
+        43 => Some(texts::BAD_FIXUP),
+        44 => Some(texts::PHANDLE_OVERFLOW),
+        45 => Some(texts::PHANDLE_CLASH),
+        46 => Some(texts::OVERLAY_TOO_DEEP),
         _ => None,
     }
 }
@@ -316,48 +148,13 @@ fn of_text(number: u8) -> Option<Texts>
     ensures { is_some result ≡ is_one_of text_numbers number }
 {
     match number {
-        50 => Some((
-            "BadLine",
-            "A line of a driver, plan or schedule file has no lawful form, or a byte that isn't printable.",
-            "a plan file with the line `/a`",
-            "A plan's line is `PATH DRIVER ok SUPPLIER..`, or has `fail`, `- -` or `! -` there; a schedule's is `begin PATH`, `finish PATH settled`, `finish PATH missing SUPPLIER` or `abandon PATH`; a driver file's is `driver NAME COMPATIBLE..` or `fail PATH`.",
-        )),
-        51 => Some((
-            "DuplicateDriver",
-            "Two lines of a driver file name one driver.",
-            "a driver file with the lines `driver a b` and `driver a c`",
-            "Put all strings of a driver on one line.",
-        )),
-        52 => Some((
-            "DuplicateDevice",
-            "Two lines of a plan file name one device.",
-            "a plan file with the line `/a - -` twice",
-            "Keep one of them.",
-        )),
-        53 => Some((
-            "UnknownPath",
-            "A line names a path that is no device's.",
-            "a plan file with the line `/a - - /b`",
-            "A device is a node that has `compatible`: name its path from the root, as `dtman dump` shows it.",
-        )),
-        54 => Some((
-            "DanglingPhandle",
-            "A property refers to a phandle that no node has.",
-            "a device with `clocks = <7>` in a tree without phandles",
-            "Look for a node that was deleted, or for an overlay that wasn't applied.",
-        )),
-        55 => Some((
-            "BadSpecifier",
-            "A property that lists suppliers has another form than its provider's `#..-cells` says.",
-            "a device with `clocks = <1>` whose provider has `#clock-cells = <1>`",
-            "Compare the property with its binding: each entry is a phandle and as many cells as the provider says.",
-        )),
-        56 => Some((
-            "TooManyDevices",
-            "There are more than 512 devices.",
-            "a plan file of 513 devices",
-            "Plan a part of the board.",
-        )),
+        50 => Some(texts::BAD_LINE),
+        51 => Some(texts::DUPLICATE_DRIVER),
+        52 => Some(texts::DUPLICATE_DEVICE),
+        53 => Some(texts::UNKNOWN_LINE_PATH),
+        54 => Some(texts::DANGLING_PHANDLE),
+        55 => Some(texts::BAD_SPECIFIER),
+        56 => Some(texts::TOO_MANY_DEVICES),
         _ => None,
     }
 }
@@ -366,48 +163,13 @@ fn of_event(number: u8) -> Option<Texts>
     ensures { is_some result ≡ is_one_of event_numbers number }
 {
     match number {
-        60 => Some((
-            "NotIdle",
-            "A begin of a device that is in flight or has settled.",
-            "the plan `/a x ok` and `begin /a` twice",
-            "Finish or abandon the flight first; a settled device isn't probed again.",
-        )),
-        61 => Some((
-            "Unmatched",
-            "A begin of a device that has no driver or is switched off.",
-            "the plan `/a - -` and `begin /a`",
-            "Give the device a driver, or take the event out.",
-        )),
-        62 => Some((
-            "StaleTicket",
-            "A finish by the ticket of a flight that is gone. No schedule says it, since its events name devices.",
-            "a call of the library",
-            "Finish a flight by its own ticket.",
-        )),
-        63 => Some((
-            "NotReady",
-            "A finish that settles a device while one of its suppliers isn't bound.",
-            "the plan `/a x ok /b`, `/b - -`, and `begin /a`, `finish /a settled`",
-            "Say `missing` and the supplier, or settle the suppliers first.",
-        )),
-        64 => Some((
-            "WasBound",
-            "A finish that misses a device which is no supplier, or was bound when the flight began.",
-            "the plan `/a x ok`, `/b - -`, and `begin /a`, `finish /a missing /b`",
-            "Name a supplier that the probe couldn't see.",
-        )),
-        65 => Some((
-            "TooManyEvents",
-            "A begin after 500,000 others.",
-            "the plan `/a x ok`, and `begin /a`, `abandon /a` 500,000 times before another `begin /a`",
-            "Cut the schedule.",
-        )),
-        66 => Some((
-            "NotInFlight",
-            "A finish or an abandon of a device that isn't in flight.",
-            "the plan `/a x ok` and `abandon /a`",
-            "Begin the device first.",
-        )),
+        60 => Some(texts::NOT_IDLE),
+        61 => Some(texts::UNMATCHED),
+        62 => Some(texts::STALE_TICKET),
+        63 => Some(texts::NOT_READY),
+        64 => Some(texts::WAS_BOUND),
+        65 => Some(texts::TOO_MANY_EVENTS),
+        66 => Some(texts::NOT_IN_FLIGHT),
         _ => None,
     }
 }
@@ -416,12 +178,7 @@ fn of_run(number: u8) -> Option<Texts>
     ensures { is_some result ≡ is_one_of run_numbers number }
 {
     match number {
-        70 => Some((
-            "TooManyWorkers",
-            "A run by no worker, or by more than 64. The command line takes 1 to 64 alone.",
-            "a call of the library with 65 workers",
-            "Take 1 to 64.",
-        )),
+        70 => Some(texts::TOO_MANY_WORKERS),
         _ => None,
     }
 }
@@ -430,24 +187,9 @@ fn of_file(number: u8) -> Option<Texts>
     ensures { is_some result ≡ is_one_of file_numbers number }
 {
     match number {
-        80 => Some((
-            "CannotRead",
-            "The file at the path can't be opened or read (`random` stands for the system's source of random bytes).",
-            "a path where no file is",
-            "See that the path is right, is a file, and may be read.",
-        )),
-        81 => Some((
-            "CannotWrite",
-            "The file at the path can't be made or written; it may hold a beginning of the answer (`stdout` stands for standard output).",
-            "standard output that is closed",
-            "See that the folder is there and may be written, and that the disk has room.",
-        )),
-        82 => Some((
-            "FileTooLong",
-            "A driver, plan or schedule file has more than 268,435,456 bytes.",
-            "a file of 268,435,457 bytes",
-            "Give the right file.",
-        )),
+        80 => Some(texts::CANNOT_READ),
+        81 => Some(texts::CANNOT_WRITE),
+        82 => Some(texts::FILE_TOO_LONG),
         _ => None,
     }
 }

@@ -125,12 +125,14 @@ fn read_fails<R: AllocGlobal + Threads + Wait + Sync + Abort>(
 #[test]
 fn tells_a_read_that_fails(rt: HostRuntime) {
     let hasher = RandomState::new(&rt).expect(&rt, "a seed");
-    // 31 bytes by 7 and the end are 6 calls; the schedule's 69 bytes are 11.
-    for call in 0..6usize {
-        read_fails(&rt, hasher, call, "error 80 CannotRead board.plan\n");
-    }
-    for call in 6..11usize {
-        read_fails(&rt, hasher, call, "error 80 CannotRead boot.schedule\n");
+    // 31 bytes by 7 and the end are 6 calls, and 11 for the 69 bytes of the schedule; each input counts its own.
+    for call in 0..11usize {
+        let told = if call < 6 {
+            "error 80 CannotRead board.plan\n"
+        } else {
+            "error 80 CannotRead boot.schedule\n"
+        };
+        read_fails(&rt, hasher, call, told);
     }
 }
 
