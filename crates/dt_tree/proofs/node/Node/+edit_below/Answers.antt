@@ -112,3 +112,15 @@ returns-in-Some-place_of_child-clause-low t c =
       answer = c.edit_below-answer.ensures.answer;
     } in
     (step (name_bytes i.name) i.properties.items i.children.items k at p c.index_mut-child.result.now c.index_mut-child.ensures.value c.args.room low (names_in c.split_first_name.result.1) c.args.edit c.edit_below-answer.new.self c.args.self.now c.edit_below-answer.result c.self.view_is did).low
+
+pub returns-in-None-clause-changed : goal.returns-in-None-clause-changed
+returns-in-None-clause-changed t c = rw c.in-None.is c.edit_here.ensures.changed
+
+pub returns-in-None-clause-kept : goal.returns-in-None-clause-kept
+returns-in-None-clause-kept t c = c.edit_here.ensures.kept
+
+pub returns-in-None-clause-low : goal.returns-in-None-clause-low
+returns-in-None-clause-low t c = c.edit_here.ensures.low
+
+pub returns-in-None-clause-answer : goal.returns-in-None-clause-answer
+returns-in-None-clause-answer t c = rw c.in-None.is c.edit_here.ensures.answer

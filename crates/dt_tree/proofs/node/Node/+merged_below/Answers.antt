@@ -166,3 +166,12 @@ returns-in_ok-with_children-in-Some-place_of_child-clause-fault t c =
     let names_are : names_in c.args.names ≡ k ∷ ks = ap names_in c.in-Some.is ∙ c.split_first_name.ensures in
     let s = step_down a.name a.properties items k at p c.index-children-at.result c.index-children-at.is c.args.room c.requires.bound ks (names_in c.args.names) names_are c.args.other.now a view c.requires.low (subst IsSound (sym view) c.check.ensures) in
     s.fault ∙ c.in_ok-child-in-Some-place_of_child.ensures.fault
+
+pub returns-in-None-clause-merged : goal.returns-in-None-clause-merged
+returns-in-None-clause-merged t c = rw c.in-None.is c.merged_here.ensures.merged
+
+pub returns-in-None-clause-low : goal.returns-in-None-clause-low
+returns-in-None-clause-low t c = c.merged_here.ensures.low
+
+pub returns-in-None-clause-fault : goal.returns-in-None-clause-fault
+returns-in-None-clause-fault t c = rw c.in-None.is c.merged_here.ensures.fault

@@ -1,7 +1,6 @@
-use Rattle.std.proofs.Common.{◌≡◌, rules, sym, ◌∙◌, arith, tests, length, Some, None}
+use Rattle.std.proofs.Common.{◌≡◌, rules, ap, sym, ◌∙◌, arith, tests, length, Some, None}
 use Rattle.std.specs.List.{slice_split}
 use Rattle.std.specs.Option.{option_copied}
-use Rattle.std.proofs.lemmas.Grind.{common_steps}
 use Rattle.std.proofs.lemmas.List.{length_push}
 use Rattle.std.proofs.lemmas.Iterator.Consumers.{YieldsList-turn, YieldsList-end}
 use Rattle.std.proofs.lemmas.Iterator.Splits.{YieldsList-from_slice_split}
@@ -14,16 +13,16 @@ pub returns-in_err-node : goal.returns-in_err-node
 returns-in_err-node c =
     let turn = YieldsList-turn (YieldsList-from_slice_split {s = c.into_iter-name-iterator.result} _ is_slash c.args.names.now (cc) (cc) (cc) (λ x r q k. search (rules, tests)))
     c.loop-name.yielded _ c.loop-name.yielded_by _ c.next.new.self c.in-Some.name c.in-Some.is c.next.ensures.steps in
-    let none : child_named c.loop-name.node.now.children c.in-Some.name.now ≡ None = grind (arith, common_steps) in
+    let none : child_named c.loop-name.node.now.children c.in-Some.name.now ≡ None = sym c.child.ensures ∙ ap option_copied c.in_err-node.was in
     let e = node_at-none (slice_split is_slash c.args.names.now) (length c.loop-name.yielded) c.in-Some.name.now c.loop-name.node.now turn none in
-    let gone : option_copied c.from_residual.result ≡ None = grind (arith, common_steps) in
+    let gone : option_copied c.from_residual.result ≡ None = ap option_copied c.from_residual.ensures in
     gone ∙ sym e ∙ c.loop-name.invariant
 
 pub loop-name-preserved : goal.loop-name-preserved
 loop-name-preserved c =
     let turn = YieldsList-turn (YieldsList-from_slice_split {s = c.into_iter-name-iterator.result} _ is_slash c.args.names.now (cc) (cc) (cc) (λ x r q k. search (rules, tests)))
     c.loop-name.yielded _ c.loop-name.yielded_by _ c.next.new.self c.in-Some.name c.in-Some.is c.next.ensures.steps in
-    let some : child_named c.loop-name.node.now.children c.in-Some.name.now ≡ Some c.in_ok-node.node.now = grind (arith, common_steps) in
+    let some : child_named c.loop-name.node.now.children c.in-Some.name.now ≡ Some c.in_ok-node.node.now = sym c.child.ensures ∙ ap option_copied c.in_ok-node.was in
     let e = node_at-some (slice_split is_slash c.args.names.now) (length c.loop-name.yielded) c.in-Some.name.now c.loop-name.node.now c.in_ok-node.node.now turn some in
     rw length_push (sym e ∙ c.loop-name.invariant)
 

@@ -1,4 +1,5 @@
-use Rattle.std.proofs.Common.{◌≡◌, not, List, ◌+◌, ◌++◌, drop, is_some, Option, refl, ap, sym, ◌∙◌}
+use Rattle.std.proofs.Common.{◌≡◌, not, List, ◌+◌, ◌++◌, drop, is_some, Option, refl, ap, sym, ◌∙◌, append-nil}
+use Rattle.std.proofs.lemmas.List.{at_drop_all}
 use Rattle.dt_tree.specs.NodeData.{NodeData, siblings, child_names}
 use Rattle.dt_tree.specs.Private.Merging.{new_nodes}
 use Rattle.dt_tree.specs.Sound.{is_among}
@@ -29,3 +30,8 @@ loop-node-preserved c =
           ∙ left-next is_new c.loop-node.merged.items theirs i x c.loop-node-test.true c.node-item.is (ap not (sym mark ∙ w.if-not-contains_key.false))
           ∙ c.loop-node.invariant
     ]
+
+pub returns : goal.returns
+returns c =
+    let out = c.loop-node.merged.items in
+    sym (at_drop_all (λ (l : List NodeData). out ++ new_nodes (child_names (siblings c.args.ours.now)) l) c.args.theirs.now c.loop-node.node-index c.loop-node-test.false ∙ append-nil out) ∙ c.loop-node.invariant

@@ -1,4 +1,5 @@
-use Rattle.std.proofs.Common.{◌≡◌, ℕ, not, List, ◌+◌, ◌++◌, drop, is_some, Option, refl, ap, sym, ◌∙◌}
+use Rattle.std.proofs.Common.{◌≡◌, ℕ, not, List, ◌+◌, ◌++◌, drop, is_some, Option, refl, ap, sym, ◌∙◌, append-nil}
+use Rattle.std.proofs.lemmas.List.{at_drop_all}
 use Rattle.dt_tree.specs.declared.property.Property.{Property}
 use Rattle.dt_tree.specs.NodeData.{property_names}
 use Rattle.dt_tree.specs.Private.Merging.{new_properties}
@@ -30,3 +31,8 @@ loop-property-preserved c =
           ∙ left-next is_new c.loop-property.merged.items theirs i x c.loop-property-test.true c.property-item.is (ap not (sym mark ∙ w.if-not-contains_key.false))
           ∙ c.loop-property.invariant
     ]
+
+pub returns : goal.returns
+returns c =
+    let out = c.loop-property.merged.items in
+    sym (at_drop_all (λ (l : List Property). out ++ new_properties (property_names c.args.ours.now) l) c.args.theirs.now c.loop-property.property-index c.loop-property-test.false ∙ append-nil out) ∙ c.loop-property.invariant
