@@ -1,12 +1,12 @@
 -- The counts of suppliers that aren't bound, lowered one consumer after another.
-use Rattle.std.proofs.Common.{◌≡◌, ◌≢◌, ◌⊎◌, inl, inr, ◌<◌, ◌≤◌, ◌+◌, ◌-◌, ℕ, zero, suc, Bool, true, false, cond, List, [], ◌∷◌, ◌++◌, length, set, get_or, map, eqb, refl, sym, ap, ap₂, ◌∙◌, subst, arith, length-set, eq-eqb, ne_eqb, ◌&&◌, ◌||◌}
+use Rattle.std.proofs.Common.{◌≡◌, ◌≢◌, ◌⊎◌, inl, inr, ◌<◌, ◌≤◌, ◌+◌, ◌-◌, ℕ, zero, suc, Bool, true, false, cond, List, [], ◌∷◌, ◌++◌, length, set, get_or, drop, map, eqb, refl, sym, ap, ap₂, ◌∙◌, subst, arith, length-set, eq-eqb, ne_eqb, ◌&&◌, ◌||◌}
 use Rattle.std.specs.Prelude.{All}
 use Rattle.std.specs.List.{range_with_len, filter, list_any}
 use Rattle.std.proofs.lemmas.List.Elements.{All-head, All-tail}
 use Rattle.bus_plan.specs.Plan.{PlannedDevice, nothing}
 use Rattle.bus_plan.specs.Consumers.{has_supplier}
 use Rattle.std.proofs.lemmas.Bool.{cases_lt, cases_eq, and_right}
-use Rattle.std.proofs.lemmas.List.{get_or-set_same, get_or-set_other, get_or_past}
+use Rattle.std.proofs.lemmas.List.{get_or-set_same, get_or-set_other, get_or_past, drop_more}
 
 -- ---- lists over a range
 pub map-range_more : {X : Type 0} (f : ℕ → X) (n a : ℕ) → map f (range_with_len a (suc n)) ≡ map f (range_with_len a n) ++ f (a + n) ∷ []
@@ -69,6 +69,26 @@ positive-within counts c some = elim (cases_lt c (length counts)) [
   | inl within ↦ within
   | inr past ↦ absurd (omega (arith, get_or_past counts c 0 past))
 ]
+
+-- the first of the consumers that are left, c, is lowered at its place, and gets its mark by what is left there
+pub lower-step : (mark : ℕ → ℕ → Bool) (cs counts : List ℕ) (flags new : List Bool) (i c e : ℕ) (b : Bool)
+    → i < length cs → c ≡ get_or cs i c → e ≡ c → IsPositive counts (drop i cs) → new ≡ set flags c b → b ≡ mark c (get_or (one_less counts e) e 0)
+    → IsPositive (one_less counts e) (drop (i + 1) cs)
+    × ((lowered (one_less counts e) (drop (i + 1) cs) ≡ lowered counts (drop i cs)) × (marked mark (one_less counts e) new (drop (i + 1) cs) ≡ marked mark counts flags (drop i cs)))
+lower-step mark cs counts flags new i c e b within is same some put says =
+    let rest = drop (i + 1) cs
+    in let first : drop i cs ≡ c ∷ rest = drop_more cs i c within ∙ ap (λ x. x ∷ rest) (sym is)
+    in let positive : IsPositive counts (c ∷ rest) = subst (IsPositive counts) first some
+    in let here : get_or (one_less counts c) c 0 ≡ get_or counts c 0 - 1 = get_or-set_same counts c (get_or counts c 0 - 1) 0 (positive-within counts c positive.0)
+    in let marks : new ≡ set flags c (mark c (get_or counts c 0 - 1)) =
+    put ∙ ap (set flags c) (says ∙ ap (λ k. mark c (get_or (one_less counts k) k 0)) same ∙ ap (mark c) here)
+    in (
+      subst (λ k. IsPositive (one_less counts k) rest) (sym same) positive.1,
+      (
+        ap (λ k. lowered (one_less counts k) rest) same ∙ sym (ap (lowered counts) first),
+        (λ j. marked mark (one_less counts (same j)) (marks j) rest) ∙ sym (ap (marked mark counts flags) first),
+      ),
+    )
 
 less-other : (b : Bool) (counts : List ℕ) (c d : ℕ) → d ≢ c → get_or (cond b (one_less counts c) counts) d 0 ≡ get_or counts d 0
 less-other true counts c d ne = get_or-set_other counts c d (get_or counts c 0 - 1) 0 ne

@@ -1,16 +1,21 @@
 -- A device in flight, and one that is ready too: what the parts of a core say of it.
-use Rattle.std.proofs.Common.{◌≡◌, ℕ, ◌<◌, ◌≤◌, true, length, ap, sym, ◌∙◌, arith}
-use Rattle.std.specs.Prelude.{is_some}
+use Rattle.std.proofs.Common.{◌≡◌, ℕ, ◌<◌, ◌≤◌, true, false, cond, List, Option, Result, Ok, Err, length, refl, ap, sym, ◌∙◌, arith}
+use Rattle.std.specs.Prelude.{is_some, is_none, OnOk, OnErr}
+use Rattle.std.specs.Result.{result_err}
 use Rattle.bus_plan.specs.declared.verdict.Verdict.{Verdict}
-use Rattle.bus_plan.specs.Plan.{verdict_of}
+use Rattle.bus_plan.specs.Plan.{PlannedDevice, verdict_of}
+use Rattle.bus_core.specs.declared.event.Reply.{Reply}
+use Rattle.bus_core.specs.declared.phase.Phase.{Phase}
+use Rattle.bus_core.specs.declared.phase.Phase.TheVariants.{Fresh, Begun, InFlight, Bound, Failed}
+use Rattle.bus_core.specs.declared.refusal.Refusal.{Refusal}
 use Rattle.bus_core.specs.declared.settle.Outcome.{Outcome}
 use Rattle.bus_core.specs.declared.state.Core.TheInside.{Inside}
-use Rattle.bus_core.specs.CoreState.{CoreValue, is_in_flight}
+use Rattle.bus_core.specs.CoreState.{CoreState, CoreValue, flight_of, is_in_flight}
 use Rattle.bus_core.specs.History.{outcome_by, bound_in}
 use Rattle.bus_core.specs.Ready.{is_ready}
 use Rattle.bus_core.specs.RefinementPhase.{phase_at, flight_in, bound_by}
 use Rattle.bus_core.specs.RefinementView.{core_value, IsKept}
-use Rattle.bus_core.proofs.SoundLemmas.{bound-same, flying-phase}
+use Rattle.bus_core.proofs.SoundLemmas.{bound-same, flight-phase, flying-phase}
 use Rattle.bus_core.proofs.CountedLemmas.{flying-counts}
 
 pub record IsFlying (core : Inside) (d : ℕ) : Type 0 where
@@ -63,3 +68,24 @@ settling core v d verdict view kept below is_flying is_due says =
       outcome_is = sym (ap outcome_by ((λ i. verdict_of (view i).plan d) ∙ says));
       some = flight.some;
     }
+
+-- a phase that isn't in flight has no flight
+pub no-flight : (phase : Phase) → ((attempt settled : ℕ) → phase ≡ InFlight attempt settled → ⊥) → is_some (flight_in phase) ≡ false
+no-flight Fresh apart = refl
+no-flight Begun apart = refl
+no-flight (InFlight attempt settled) apart = absurd (apart attempt settled refl)
+no-flight (Bound place) apart = refl
+no-flight Failed apart = refl
+
+-- the flight of a device whose phase is read
+pub flight-read : (core : Inside) (v : CoreValue) (d : ℕ) (phases : List Phase) (phase : Phase) → core_value core ≡ v → phases ≡ core.phases.items → phase ≡ phase_at phases d
+    → flight_of v.state d ≡ flight_in phase
+flight-read core v d phases phase view all is =
+    sym (λ i. flight_of (view i).state d) ∙ flight-phase core.phases.items core.history.items core.begins d ∙ ap flight_in (sym (is ∙ ap (λ x. phase_at x d) all))
+
+-- what a call that may be refused leaves
+pub step-left : (result : Result Reply Refusal) (refusal : Option Refusal) (plan : List PlannedDevice) (done old : CoreState) (new : CoreValue)
+    → result_err result ≡ refusal → OnOk result (new ≡ record { plan = plan; state = done }) → OnErr result (new ≡ record { plan = plan; state = old })
+    → new ≡ record { plan = plan; state = cond (is_none refusal) done old }
+step-left (Ok reply) refusal plan done old new says ok err = ok ∙ (λ i. record { plan = plan; state = cond (is_none (says i)) done old })
+step-left (Err e) refusal plan done old new says ok err = err ∙ (λ i. record { plan = plan; state = cond (is_none (says i)) done old })

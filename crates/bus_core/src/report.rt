@@ -1,6 +1,6 @@
 //! The text of a report.
 
-ghost use Rattle.std.specs.Prelude.{◌≡◌, ◌<◌, ◌++◌, length, flat_map, IfOk, IfErr, IfSome, OnOk, codes, if◌then◌else◌};
+ghost use Rattle.std.specs.Prelude.{◌≡◌, ◌<◌, ◌++◌, length, flat_map, IfOk, IfErr, IfSome, OnOk, codes, not, if◌then◌else◌};
 ghost use Rattle.bus_core.specs.Due.{devices};
 ghost use Rattle.bus_core.specs.History.{bound_in};
 ghost use Rattle.bus_core.specs.Report.{missing_supplier, line_of, core_line, report_text};
@@ -28,7 +28,14 @@ impl Core {
             .suppliers(device)
             .iter()
             .copied()
-            .find(|supplier| !self.is_bound(*supplier))
+            .find(|supplier| self.is_missing(*supplier))
+    }
+
+    // Whether a supplier isn't bound.
+    fn is_missing(&self, supplier: Device) -> bool
+        ensures { result ≡ not (bound_in self.now.state.history supplier) }
+    {
+        !self.is_bound(supplier)
     }
 
     // The supplier that the line of a device with this status names: only that of a waiting device is looked for.

@@ -1,6 +1,10 @@
-use Rattle.std.proofs.Common.{◌≡◌, ap, ◌∙◌, arith, None, replicate}
+use Rattle.std.proofs.Common.{◌≡◌, ◌∷◌, ◌++◌, [], ap, ◌∙◌, arith, None, replicate}
+use Rattle.std.proofs.lemmas.List.{replicate_more}
 use Rattle.bus_core.proofs.SetLemmas.{none-placed, none-view}
 use Rattle.bus_core.proofs.device_set.DeviceSet.new.Goals as goal
+
+pub loop-i-preserved : goal.loop-i-preserved
+loop-i-preserved c = c.in_ok-push.ensures.items ∙ ap (λ xs. xs ++ None ∷ []) c.loop-i.invariant ∙ replicate_more c.loop-i._i None
 
 pub invariant_of-result : goal.invariant_of-result
 invariant_of-result c =
