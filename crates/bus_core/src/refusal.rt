@@ -3,20 +3,26 @@ ghost use Rattle.bus_core.specs.Refusal.{number_of, name_of};
 ghost use Rattle.bus_core.specs.declared.refusal.Refusal.TheVariants.{NoMemory};
 
 use std::alloc::{AllocError, AllocFailed};
-use std::error::Error;
-use std::fmt;
-use std::fmt::{Display, Formatter, Write};
+use thiserror::Error;
 
 /// Why the core refuses a call.
-#[derive(Clone, Copy, Debug, PartialEq, Eq)]
+#[derive(Clone, Copy, Debug, PartialEq, Eq, Error)]
 pub enum Refusal {
+    #[error("out of memory")]
     NoMemory,
+    #[error("the device is in flight or has settled")]
     NotIdle,
+    #[error("the device has no driver, or isn't available")]
     Unmatched,
+    #[error("the ticket's flight is gone")]
     StaleTicket,
+    #[error("a supplier isn't bound")]
     NotReady,
+    #[error("the device named is no supplier, or was bound when the flight began")]
     WasBound,
+    #[error("500,000 flights have begun")]
     TooManyEvents,
+    #[error("the device isn't in flight")]
     NotInFlight,
 }
 
@@ -53,30 +59,6 @@ impl Refusal {
         }
     }
 }
-
-impl Refusal {
-    fn text(self) -> &'static str {
-        match self {
-            Refusal::NoMemory => "out of memory",
-            Refusal::NotIdle => "the device is in flight or has settled",
-            Refusal::Unmatched => "the device has no driver, or isn't available",
-            Refusal::StaleTicket => "the ticket's flight is gone",
-            Refusal::NotReady => "a supplier isn't bound",
-            Refusal::WasBound =>
-                "the device named is no supplier, or was bound when the flight began",
-            Refusal::TooManyEvents => "500,000 flights have begun",
-            Refusal::NotInFlight => "the device isn't in flight",
-        }
-    }
-}
-
-impl Display for Refusal {
-    fn fmt<W: Write>(&self, f: &mut Formatter<W>) -> fmt::Result {
-        f.write_str(self.text())
-    }
-}
-
-impl Error for Refusal {}
 
 impl From<AllocError> for Refusal {
     ghost from_gives = { λ _ refusal. refusal ≡ NoMemory };
