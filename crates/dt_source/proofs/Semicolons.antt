@@ -16,9 +16,9 @@ with_end a f r = Ok (a, f, r)
 ended : {A : Type 0} (a : A) (f : Option Fault) (ts : List Lexeme) → ended_by a f ts ≡ (semicolon_at ts >>= with_end a f)
 ended a f [] = refl
 ended a f (t ∷ ts) = go t.kind where
-    go : (k : Kind) → semicolon_by a f k t ts ≡ (semicolon_kind k t ts >>= with_end a f)
-    go Semicolon = refl
-    go _ = refl
+  go : (k : Kind) → semicolon_by a f k t ts ≡ (semicolon_kind k t ts >>= with_end a f)
+  go Semicolon = refl
+  go _ = refl
 
 pub ended_ok : {A : Type 0} (a : A) (f : Option Fault) (ts rest : List Lexeme) → semicolon_at ts ≡ Ok rest → ended_by a f ts ≡ Ok (a, f, rest)
 ended_ok a f ts rest e = ended a f ts ∙ rw e refl

@@ -3,9 +3,7 @@ use Rattle.dt_lexeme.specs.declared.lexeme.Lexeme.{Lexeme}
 use Rattle.dt_lexeme.specs.declared.lexeme.Kind.{Kind}
 use Rattle.dt_lexeme.specs.declared.lexeme.Kind.TheVariants.{Literal}
 use Rattle.dt_expression.specs.Reading.{syntax_at}
-use Rattle.dt_source.specs.Reading.Values.{built}
 use Rattle.dt_source.specs.Reading.Bodies.{bits_by, bits_at}
-use Rattle.dt_source.specs.Reading.Loops.{into}
 use Rattle.dt_source.proofs.pieces.bits.Goals as goal
 
 other : (text : List ℕ) (ts : List Lexeme) (d : Lexeme) → 1 ≤ length ts → ((get_or ts 0 d).kind ≡ Literal → ⊥) → bits_at text ts ≡ Err (syntax_at ts)
