@@ -1,4 +1,5 @@
 pub mod Loops
+pub mod Semicolons
 pub mod CellLoops
 pub mod Chars
 pub mod PieceLoops

@@ -5,6 +5,7 @@ ghost use Rattle.dt_source.specs.Tree.{Undefines, Removes, view};
 ghost use Rattle.dt_source.specs.Words.{label_bytes};
 ghost use Rattle.dt_source.specs.Reading.Bodies.{named_at, deleted_at, ended_by, bare_by, unlabelled, begun_at, statement_at, after, body_below, body_at};
 
+use crate::ends::semicolon;
 use crate::labels::labels_of;
 use crate::pieces::{labels, value};
 use crate::room::push_sparingly;
@@ -26,12 +27,9 @@ fn end<'a, 'text>(
     ensures gives { Reads (λ x. (option_map view x.0, x.1, x.2.now)) result (ended_by (Some (view s.entry)) fault ts.now) }
     ensures shorter { IfOk result (λ x. length x.2.now < length ts.now) }
 {
-    match ts {
-        [] => Err(ReadError::Refused(syntax_at(ts))),
-        [t, rest @ ..] => match t.kind {
-            Kind::Semicolon => Ok((Some(s), fault, rest)),
-            _ => Err(ReadError::Refused(syntax_at(ts))),
-        },
+    match semicolon(ts) {
+        Ok(rest) => Ok((Some(s), fault, rest)),
+        Err(refusal) => Err(ReadError::Refused(refusal)),
     }
 }
 

@@ -9,7 +9,7 @@ use std::alloc::{AllocError, Global};
 
 /// Labels in the order of the text, without their colons. They take two words, since most nodes have none and a text
 /// can have 8 million statements.
-#[derive(Debug, Drop)]
+#[derive(Drop)]
 pub struct Labels<'a> {
     some: Option<Box<Vec<&'a [u8]>>>,
 }

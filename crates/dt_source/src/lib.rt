@@ -6,6 +6,7 @@
 mod body;
 mod cell;
 mod cells;
+mod ends;
 mod error;
 mod labels;
 mod lawful;

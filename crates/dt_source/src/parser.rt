@@ -1,7 +1,7 @@
 //! A text, parsed.
 ghost use Rattle.std.specs.Prelude.{◌≡◌, ◌⊎◌, ℕ, List, IfOk, IfErr};
 ghost use Rattle.dt_source.specs.declared.error.SourceErrorKind.{SourceErrorKind};
-ghost use Rattle.dt_source.specs.declared.error.SourceErrorKind.TheVariants.{NoMemory};
+ghost use Rattle.dt_source.specs.declared.error.SourceErrorKind.TheVariants.{NoMemory, TooLong};
 ghost use Rattle.dt_lexeme.specs.declared.lexeme.Fault.{Fault};
 ghost use Rattle.dt_source.specs.SourceError.{kind_of_fault};
 ghost use Rattle.dt_source.specs.Tree.{Meaning};
@@ -29,6 +29,16 @@ fn read<'a>(alloc: Global, text: &'a [u8]) -> Result<(Outline<'a>, Option<Fault>
     }
 }
 
+// The refusal of a text over 16 MiB.
+fn too_long() -> SourceError
+    ensures { result ≡ record { kind = TooLong; line = 1 } }
+{
+    SourceError {
+        kind: SourceErrorKind::TooLong,
+        line: 1,
+    }
+}
+
 /// The source that the text spells, or why there is none: a text over 16 MiB, then what isn't in the grammar or
 /// nests too deep, then the first fault of a value in the order of the text.
 pub fn parse<'a>(alloc: Global, text: &'a [u8]) -> Result<Source<'a>, SourceError>
@@ -38,10 +48,7 @@ pub fn parse<'a>(alloc: Global, text: &'a [u8]) -> Result<Source<'a>, SourceErro
     ensures refused { IfErr result (λ e. Refuses text.now e.kind e.line) }
 {
     if text.len() > MAX_TEXT_LEN {
-        return Err(SourceError {
-            kind: SourceErrorKind::TooLong,
-            line: 1,
-        });
+        return Err(too_long());
     }
     match read(alloc, text) {
         Err(refusal) => Err(error_of(text, refusal)),

@@ -7,10 +7,11 @@ ghost use Rattle.dt_source.specs.Meaning.{outlined};
 ghost use Rattle.dt_source.specs.Pieces.{target_of};
 ghost use Rattle.dt_source.specs.Reading.Bodies.{ended_by};
 ghost use Rattle.dt_source.specs.Source.{both_numbers};
-ghost use Rattle.dt_source.specs.Reading.Whole.{semicolon_at, plugin_at, header_at, more_headers, headers_at, some_header, reserve_with, reserve_at, reserves_at, brace_at, extend_at, root_at, delete_at, bare_item, unlabelled_item, item_with, item_at, some_items, all_items_at, items_at, source_at};
+ghost use Rattle.dt_source.specs.Reading.Whole.{plugin_at, header_at, more_headers, headers_at, some_header, reserve_with, reserve_at, reserves_at, brace_at, extend_at, root_at, delete_at, bare_item, unlabelled_item, item_with, item_at, some_items, all_items_at, items_at, source_at};
 
 use crate::body::{MAX_BODY_DEPTH, body};
 use crate::cells::fault_in;
+use crate::ends::semicolon;
 use crate::labels::labels_of;
 use crate::pieces::labels;
 use crate::references::target;
@@ -19,19 +20,6 @@ use crate::tree::{Item, Outline, Statement};
 use dt_expression::{primary, syntax_at};
 use dt_lexeme::{Fault, Kind, Lexeme, ReadError, Refusal};
 use std::alloc::{AllocError, Global};
-
-fn semicolon(ts: &[Lexeme]) -> Result<&[Lexeme], Refusal>
-    ensures gives { Gives (λ x. x.now) result (semicolon_at ts.now) }
-    ensures shorter { IfOk result (λ x. length x.now < length ts.now) }
-{
-    match ts {
-        [] => Err(syntax_at(ts)),
-        [t, rest @ ..] => match t.kind {
-            Kind::Semicolon => Ok(rest),
-            _ => Err(syntax_at(ts)),
-        },
-    }
-}
 
 fn plugin(ts: &[Lexeme]) -> Result<(bool, &[Lexeme]), Refusal>
     ensures gives { Gives (λ x. (x.0, x.1.now)) result (plugin_at ts.now) }
@@ -198,12 +186,9 @@ fn end_body<'a, 'text>(
     ensures gives { Reads (λ x. (views x.0.items, x.1, x.2.now)) result (ended_by (body_of (map view statements.entry.items)) fault ts.now) }
     ensures shorter { IfOk result (λ x. length x.2.now < length ts.now) }
 {
-    match ts {
-        [] => Err(ReadError::Refused(syntax_at(ts))),
-        [t, rest @ ..] => match t.kind {
-            Kind::Semicolon => Ok((statements, fault, rest)),
-            _ => Err(ReadError::Refused(syntax_at(ts))),
-        },
+    match semicolon(ts) {
+        Ok(rest) => Ok((statements, fault, rest)),
+        Err(refusal) => Err(ReadError::Refused(refusal)),
     }
 }
 
@@ -260,12 +245,9 @@ fn end_delete<'a, 'text>(
     ensures gives { Reads (λ x. (option_map item_view x.0, x.1, x.2.now)) result (ended_by (Some (Deletes (target_of text.now t))) None ts.now) }
     ensures shorter { IfOk result (λ x. length x.2.now < length ts.now) }
 {
-    match ts {
-        [] => Err(ReadError::Refused(syntax_at(ts))),
-        [s, rest @ ..] => match s.kind {
-            Kind::Semicolon => Ok((Some(Item::Delete(target(text, t))), None, rest)),
-            _ => Err(ReadError::Refused(syntax_at(ts))),
-        },
+    match semicolon(ts) {
+        Ok(rest) => Ok((Some(Item::Delete(target(text, t))), None, rest)),
+        Err(refusal) => Err(ReadError::Refused(refusal)),
     }
 }
 

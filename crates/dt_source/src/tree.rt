@@ -9,14 +9,14 @@ ghost use Rattle.dt_source.specs.LawfulOnce.{all_once, edit_once};
 use crate::labels::Labels;
 
 /// What a reference names: a label, or the path of a node.
-#[derive(Debug, Drop)]
+#[derive(Drop)]
 pub enum Reference<'a> {
     Label(&'a [u8]),
     Path(&'a [u8]),
 }
 
 /// A part of a property's value.
-#[derive(Debug, Drop)]
+#[derive(Drop)]
 pub enum Part<'a> {
     /// these bytes, of which there is at least one
     Bytes(Vec<u8>),
@@ -27,7 +27,7 @@ pub enum Part<'a> {
 }
 
 /// One statement of a body, in the order of the text.
-#[derive(Debug, Drop)]
+#[derive(Drop)]
 pub enum Statement<'a> {
     Property {
         name: &'a [u8],
@@ -47,7 +47,7 @@ pub enum Statement<'a> {
 }
 
 /// What a source says at its top level, in the order of the text.
-#[derive(Debug, Drop)]
+#[derive(Drop)]
 pub enum Item<'a> {
     /// `/ { .. };`
     Root(Vec<Statement<'a>>),
@@ -63,7 +63,7 @@ pub enum Item<'a> {
 
 /// A devicetree source: whether it is a plugin, its reserved memory as pairs of address and size, and its items. Names
 /// and paths in it are those of trees, labels are labels, and values have as few parts as can be.
-#[derive(Debug, Drop)]
+#[derive(Drop)]
 pub struct Source<'a> {
     pub plugin: bool,
     pub reserves: Vec<(u64, u64)>,

@@ -1,13 +1,13 @@
-use Rattle.std.proofs.Common.{◌≡◌, ◌<◌, ◌≤◌, ◌+◌, ◌-◌, ℕ, false, List, [], ◌∷◌, length, get_or, take, drop, arith, sym, ap, refl, ◌∙◌}
+use Rattle.std.proofs.Common.{◌≡◌, ◌<◌, ◌≤◌, ◌+◌, ◌-◌, ℕ, false, List, [], ◌∷◌, length, get_or, take, drop, Ok, Err, arith, sym, ap, refl, ◌∙◌}
 use Rattle.std.proofs.lemmas.List.{take_rest}
 use Rattle.std.proofs.lemmas.Result.{err_from_is_err_and}
 use Rattle.dt_lexeme.specs.declared.lexeme.Lexeme.{Lexeme}
 use Rattle.dt_lexeme.specs.declared.lexeme.Kind.{Kind}
-use Rattle.dt_lexeme.specs.declared.lexeme.Kind.TheVariants.{Question, Colon, Paren}
+use Rattle.dt_lexeme.specs.declared.lexeme.Kind.TheVariants.{Literal, Question, Colon, Paren}
 use Rattle.dt_expression.specs.Expression.{is_prefix, Making}
 use Rattle.dt_expression.specs.Values.{values}
 use Rattle.dt_expression.specs.ReadingExpressions.{Reader, primary_by, primary_with, unary_at, levels, otherwise_by, otherwise, chosen_by, chosen, expr_below, expr_at}
-use Rattle.dt_expression.specs.Reading.{◌>>=◌}
+use Rattle.dt_expression.specs.Reading.{◌>>=◌, syntax_at}
 use Rattle.dt_expression.proofs.Steps.{expr_below_none, unary_below_none, expr_below_some, unary_below_some, levels_none, levels_refused, levels_next, more_goes_on, more_fails, more_stops}
 use Rattle.dt_expression.proofs.expression.+expression.Goals as goal
 
@@ -129,3 +129,39 @@ expr-returns-in_err-test-clause-gives t c =
 
 pub expr-returns-clause-gives : goal.expr-returns-clause-gives
 expr-returns-clause-gives t c = rw (first (values c.args.text.now) c.args.depth c.args.lexemes.now, c.in_ok-test.ensures.gives) c.choose.ensures.gives
+
+-- ---- lexemes that begin no operand
+
+no_primary : {A : Type 0} (m : Making A) (expr : Lexeme → Reader A) (ts : List Lexeme) (d : Lexeme) → 1 ≤ length ts → ((get_or ts 0 d).kind ≡ Literal → ⊥) → ((get_or ts 0 d).kind ≡ Paren → ⊥) → primary_with m expr ts ≡ Err (syntax_at ts)
+no_primary m expr [] d h n0 n1 = absurd (omega arith)
+no_primary m expr (t ∷ ts) d h n0 n1 = go t.kind n0 n1
+  where
+    go : (k : Kind) → (k ≡ Literal → ⊥) → (k ≡ Paren → ⊥) → primary_by m expr k t ts ≡ Err (syntax_at (t ∷ ts))
+    go Literal n0 n1 = absurd (n0 refl)
+    go Paren n0 n1 = absurd (n1 refl)
+    go _ n0 n1 = refl
+
+no_second : {A : Type 0} (m : Making A) (expr : Lexeme → Reader A) (v : A) (ts : List Lexeme) (d : Lexeme) → 1 ≤ length ts → ((get_or ts 0 d).kind ≡ Question → ⊥) → chosen m expr v ts ≡ Ok (v, ts)
+no_second m expr v [] d h n = absurd (omega arith)
+no_second m expr v (t ∷ ts) d h n = go t.kind n
+  where
+    go : (k : Kind) → (k ≡ Question → ⊥) → chosen_by m expr v k t ts ≡ Ok (v, t ∷ ts)
+    go Question n = absurd (n refl)
+    go _ n = refl
+
+no_third : {A : Type 0} (m : Making A) (expr : Lexeme → Reader A) (v w : A) (ts : List Lexeme) (d : Lexeme) → 1 ≤ length ts → ((get_or ts 0 d).kind ≡ Colon → ⊥) → otherwise m expr v w ts ≡ Err (syntax_at ts)
+no_third m expr v w [] d h n = absurd (omega arith)
+no_third m expr v w (t ∷ ts) d h n = go t.kind n
+  where
+    go : (k : Kind) → (k ≡ Colon → ⊥) → otherwise_by m expr v w k t ts ≡ Err (syntax_at (t ∷ ts))
+    go Colon n = absurd (n refl)
+    go _ n = refl
+
+pub primary_within-returns-in_default-clause-gives : goal.primary_within-returns-in_default-clause-gives
+primary_within-returns-in_default-clause-gives t c = rw c.syntax_at-in_default.ensures (no_primary (values c.args.text.now) (expr_below (values c.args.text.now) c.args.depth) c.args.lexemes.now _ c.in-len1-up.len_at_least c.in_default.not-Literal c.in_default.not-Paren)
+
+pub choose-returns-in_default-clause-gives : goal.choose-returns-in_default-clause-gives
+choose-returns-in_default-clause-gives t c = no_second (values c.args.text.now) (expr_below (values c.args.text.now) c.args.depth) c.args.test c.args.lexemes.now _ c.in-len1-up.len_at_least c.in_default.not-Question
+
+pub otherwise-returns-in_default-clause-gives : goal.otherwise-returns-in_default-clause-gives
+otherwise-returns-in_default-clause-gives t c = rw c.syntax_at-in_default.ensures (no_third (values c.args.text.now) (expr_below (values c.args.text.now) c.args.depth) c.args.test c.args.yes c.args.lexemes.now _ c.in-len1-up.len_at_least c.in_default.not-Colon)

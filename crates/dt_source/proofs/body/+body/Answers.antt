@@ -13,7 +13,7 @@ use Rattle.dt_source.specs.declared.tree.Statement.{Statement}
 use Rattle.dt_source.specs.Reading.Several.{Fails}
 use Rattle.dt_source.specs.Tree.{Piece, Entry, Defines, Child, body_of, view}
 use Rattle.dt_source.specs.Words.{label_bytes, name_bytes}
-use Rattle.dt_source.specs.Reading.Bodies.{Inner, labels_at, value_at, ended_by, named_by, named_at, begun_by, begun_at, statement_at, body_below, body_at}
+use Rattle.dt_source.specs.Reading.Bodies.{Inner, labels_at, value_at, ended_by, named_by, named_at, begun_by, begun_at, unlabelled, statement_at, body_below, body_at}
 use Rattle.dt_source.proofs.StatementLoops.{statements_begin, statements_more, statements_end, statements_fail, body_below_none, body_below_some}
 use Rattle.dt_source.proofs.body.+body.Goals as goal
 
@@ -103,6 +103,18 @@ stated text inner nodes ts l e = ap (λ (x : List Lexeme × List Lexeme). begun_
 
 pub statement-returns-clause-gives : goal.statement-returns-clause-gives
 statement-returns-clause-gives t c = rw (stated c.args.text.now (body_below c.args.text.now c.args.depth) c.args.nodes c.args.ts.now _ c.labels.ensures.gives) c.begun.ensures.gives
+
+begun_other : (text : List ℕ) (inner : Inner) (nodes : Bool) (labels ts : List Lexeme) (d : Lexeme) → 1 ≤ length ts → ((get_or ts 0 d).kind ≡ Name → ⊥)
+    → begun_at text inner nodes labels ts ≡ unlabelled text nodes labels (get_or ts 0 d).kind (get_or ts 0 d) (take (length ts - 1) (drop 1 ts))
+begun_other text inner nodes labels [] d h n = absurd (omega arith)
+begun_other text inner nodes labels (t ∷ ts) d h n = go t.kind n ∙ ap (λ (x : List Lexeme). unlabelled text nodes labels t.kind t x) (sym (take_rest (t ∷ ts) 1))
+  where
+    go : (k : Kind) → (k ≡ Name → ⊥) → begun_by text inner nodes labels k t ts ≡ unlabelled text nodes labels k t ts
+    go Name n = absurd (n refl)
+    go _ n = refl
+
+pub begun-returns-in_default-clause-gives : goal.begun-returns-in_default-clause-gives
+begun-returns-in_default-clause-gives t c = rw (begun_other c.args.text.now (body_below c.args.text.now c.args.depth) c.args.nodes c.args.labels.now c.args.ts.now _ c.in-len1-up.len_at_least c.in_default.not-Name) c.unlabelled.ensures.gives
 
 pub begun-returns-in-Name-clause-gives : goal.begun-returns-in-Name-clause-gives
 begun-returns-in-Name-clause-gives t c = rw (begun c.args.text.now (body_below c.args.text.now c.args.depth) c.args.nodes c.args.labels.now c.args.ts.now _ c.bytes_of.result.now c.in-len1-up.len_at_least c.in-Name.is c.bytes_of.ensures) c.named.ensures.gives

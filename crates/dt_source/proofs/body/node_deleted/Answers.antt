@@ -1,8 +1,9 @@
-use Rattle.std.proofs.Common.{◌≡◌, ◌≤◌, ◌-◌, ℕ, List, [], ◌∷◌, length, get_or, take, drop, Some, None, sym, ap, ◌∙◌, arith}
+use Rattle.std.proofs.Common.{◌≡◌, ◌≤◌, ◌-◌, ℕ, List, [], ◌∷◌, length, get_or, take, drop, Some, None, Err, refl, sym, ap, ◌∙◌, arith}
 use Rattle.std.proofs.lemmas.List.{take_rest}
 use Rattle.dt_lexeme.specs.declared.lexeme.Lexeme.{Lexeme}
 use Rattle.dt_lexeme.specs.declared.lexeme.Kind.{Kind}
 use Rattle.dt_lexeme.specs.declared.lexeme.Kind.TheVariants.{Name}
+use Rattle.dt_expression.specs.Reading.{syntax_at}
 use Rattle.dt_source.specs.Tree.{Entry, Removes}
 use Rattle.dt_source.specs.Words.{name_bytes}
 use Rattle.dt_source.specs.Reading.Bodies.{ended_by, deleted_by, deleted_at}
@@ -18,3 +19,14 @@ removes text (t ∷ ts) d name s h k n p =
 
 pub returns-in-Name-clause-gives : goal.returns-in-Name-clause-gives
 returns-in-Name-clause-gives c = rw (removes c.args.text.now c.args.ts.now _ c.bytes_of.result.now _ c.in-len1-up.len_at_least c.in-Name.is c.bytes_of.ensures c.delete_node.ensures) c.end.ensures.gives
+
+other : (text : List ℕ) (ts : List Lexeme) (d : Lexeme) → 1 ≤ length ts → ((get_or ts 0 d).kind ≡ Name → ⊥) → deleted_at text Removes ts ≡ Err (syntax_at ts)
+other text [] d h n = absurd (omega arith)
+other text (t ∷ ts) d h n = go t.kind n
+  where
+    go : (k : Kind) → (k ≡ Name → ⊥) → deleted_by text Removes k t ts ≡ Err (syntax_at (t ∷ ts))
+    go Name n = absurd (n refl)
+    go _ n = refl
+
+pub returns-in_default-clause-gives : goal.returns-in_default-clause-gives
+returns-in_default-clause-gives c = rw c.syntax_at-in_default.ensures (other c.args.text.now c.args.ts.now _ c.in-len1-up.len_at_least c.in_default.not-Name)

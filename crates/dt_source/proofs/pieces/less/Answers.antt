@@ -1,9 +1,10 @@
-use Rattle.std.proofs.Common.{◌≡◌, ◌≤◌, ◌-◌, ℕ, List, [], ◌∷◌, length, get_or, take, drop, Option, refl, sym, ap, ◌∙◌, arith}
+use Rattle.std.proofs.Common.{◌≡◌, ◌≤◌, ◌-◌, ℕ, List, [], ◌∷◌, length, get_or, take, drop, Option, Err, refl, sym, ap, ◌∙◌, arith}
 use Rattle.std.proofs.lemmas.List.{take_rest}
 use Rattle.dt_lexeme.specs.declared.lexeme.Lexeme.{Lexeme}
 use Rattle.dt_lexeme.specs.declared.lexeme.Fault.{Fault}
 use Rattle.dt_lexeme.specs.declared.lexeme.Kind.{Kind}
 use Rattle.dt_lexeme.specs.declared.lexeme.Kind.TheVariants.{Less}
+use Rattle.dt_expression.specs.Reading.{syntax_at}
 use Rattle.dt_expression.specs.declared.elements.Width.{Width}
 use Rattle.dt_source.specs.Reading.Values.{built}
 use Rattle.dt_source.specs.Reading.Bodies.{cells_at, less_by, less_at}
@@ -20,3 +21,14 @@ returns-in_ok-first-in-Less-clause-gives c =
     ap (into (built c.args.parts.now)) (begins c.args.text.now c.args.width c.args.fault c.args.ts.now _ c.in-len1-up.len_at_least c.in-Less.is)
     ∙ into_earlier (built c.args.parts.now) c.args.fault (cells_at c.args.text.now c.args.width (take (length c.args.ts.now - 1) (drop 1 c.args.ts.now))) (built c.cells.new.parts) c.in_ok-first-in-Less.first c.in_ok-first-in-Less.rest.now c.in_ok-first-in-Less.ensures.gives
     ∙ rw c.earlier.ensures refl
+
+other : (text : List ℕ) (w : Option Width) (f : Option Fault) (ts : List Lexeme) (d : Lexeme) → 1 ≤ length ts → ((get_or ts 0 d).kind ≡ Less → ⊥) → less_at text w f ts ≡ Err (syntax_at ts)
+other text w f [] d h n = absurd (omega arith)
+other text w f (t ∷ ts) d h n = go t.kind n
+  where
+    go : (k : Kind) → (k ≡ Less → ⊥) → less_by text w f k t ts ≡ Err (syntax_at (t ∷ ts))
+    go Less n = absurd (n refl)
+    go _ n = refl
+
+pub returns-in_default-clause-gives : goal.returns-in_default-clause-gives
+returns-in_default-clause-gives c = rw (c.syntax_at-in_default.ensures, other c.args.text.now c.args.width c.args.fault c.args.ts.now _ c.in-len1-up.len_at_least c.in_default.not-Less) refl

@@ -1,4 +1,4 @@
-use Rattle.std.proofs.Common.{◌≡◌, ◌≤◌, ◌-◌, ℕ, List, [], ◌∷◌, length, get_or, take, drop, Option, refl, sym, ap, ◌∙◌, arith}
+use Rattle.std.proofs.Common.{◌≡◌, ◌≤◌, ◌-◌, ℕ, List, [], ◌∷◌, length, get_or, take, drop, Option, Err, refl, sym, ap, ◌∙◌, arith}
 use Rattle.std.proofs.lemmas.List.{take_rest}
 use Rattle.std.proofs.lemmas.Result.{err_from_is_err_and}
 use Rattle.dt_lexeme.specs.declared.lexeme.Lexeme.{Lexeme}
@@ -7,7 +7,7 @@ use Rattle.dt_lexeme.specs.declared.lexeme.Kind.{Kind}
 use Rattle.dt_lexeme.specs.declared.lexeme.Kind.TheVariants.{Brace}
 use Rattle.dt_lexeme.specs.declared.lexeme.ReadError.{ReadError}
 use Rattle.dt_lexeme.specs.declared.lexeme.ReadError.TheVariants as errors
-use Rattle.dt_expression.specs.Reading.{◌>>=◌}
+use Rattle.dt_expression.specs.Reading.{◌>>=◌, syntax_at}
 use Rattle.dt_source.specs.declared.body.TheConstants.{MAX_BODY_DEPTH}
 use Rattle.dt_source.specs.Reading.Several.{Part, Fails}
 use Rattle.dt_source.specs.Tree.{Body, Entry, body_of}
@@ -32,3 +32,15 @@ returns-in_err-statements-in-Brace-clause-gives c =
 pub returns-in_ok-statements-in-Brace-clause-gives : goal.returns-in_ok-statements-in-Brace-clause-gives
 returns-in_ok-statements-in-Brace-clause-gives c =
     rw (inner c.args.text.now c.args.ts.now _ c.in-len1-up.len_at_least c.in-Brace.is, c.in_ok-statements-in-Brace.ensures.gives) c.end_body.ensures.gives
+
+other : (text : List ℕ) (ts : List Lexeme) (d : Lexeme) → 1 ≤ length ts → ((get_or ts 0 d).kind ≡ Brace → ⊥) → brace_at text ts ≡ Err (syntax_at ts)
+unfolding brace_at
+other text [] d h n = absurd (omega arith)
+other text (t ∷ ts) d h n = go t.kind n
+  where
+    go : (k : Kind) → (k ≡ Brace → ⊥) → brace_kind text k t ts ≡ Err (syntax_at (t ∷ ts))
+    go Brace n = absurd (n refl)
+    go _ n = refl
+
+pub returns-in_default-clause-gives : goal.returns-in_default-clause-gives
+returns-in_default-clause-gives c = rw c.syntax_at-in_default.ensures (other c.args.text.now c.args.ts.now _ c.in-len1-up.len_at_least c.in_default.not-Brace)

@@ -1,4 +1,4 @@
-use Rattle.std.proofs.Common.{◌≡◌, ◌≤◌, ◌-◌, Bool, List, [], ◌∷◌, length, get_or, take, drop, Ok, Option, Some, None, Result, sym, ap, ◌∙◌, arith}
+use Rattle.std.proofs.Common.{◌≡◌, ◌≤◌, ◌-◌, Bool, List, [], ◌∷◌, length, get_or, take, drop, Ok, Option, Some, None, Result, refl, sym, ap, ◌∙◌, arith}
 use Rattle.std.proofs.lemmas.List.{take_rest}
 use Rattle.std.proofs.lemmas.Result.{err_from_is_err_and}
 use Rattle.dt_lexeme.specs.declared.lexeme.Lexeme.{Lexeme}
@@ -33,3 +33,15 @@ returns-in_err-said-in-Version-clause-gives c =
 
 pub returns-in_ok-said-in-Version-clause-gives : goal.returns-in_ok-said-in-Version-clause-gives
 returns-in_ok-said-in-Version-clause-gives c = begins c.args.ts.now _ c.in-len1-up.len_at_least c.in-Version.is ∙ ap ended c.in_ok-rest-in-Version.ensures.gives ∙ ap said c.in_ok-said-in-Version.ensures.gives
+
+other : (ts : List Lexeme) (d : Lexeme) → 1 ≤ length ts → ((get_or ts 0 d).kind ≡ Version → ⊥) → header_at ts ≡ Ok (None, None, ts)
+unfolding header_at
+other [] d h n = absurd (omega arith)
+other (t ∷ ts) d h n = go t.kind n
+  where
+    go : (k : Kind) → (k ≡ Version → ⊥) → header_kind k t ts ≡ Ok (None, None, (t ∷ ts))
+    go Version n = absurd (n refl)
+    go _ n = refl
+
+pub returns-in_default-clause-gives : goal.returns-in_default-clause-gives
+returns-in_default-clause-gives c = other c.args.ts.now _ c.in-len1-up.len_at_least c.in_default.not-Version
