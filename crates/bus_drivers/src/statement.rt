@@ -100,11 +100,13 @@ fn statement_of(
     let Some(first) = fields.next() else {
         return Ok(None);
     };
-    match word {
-        b"driver" => driver_of(alloc, first, fields),
-        b"fail" => fail_of(alloc, number, first, fields),
-        _ => Ok(None),
+    if word == b"driver".as_slice() {
+        return driver_of(alloc, first, fields);
     }
+    if word == b"fail".as_slice() {
+        return fail_of(alloc, number, first, fields);
+    }
+    Ok(None)
 }
 
 impl Statement {
