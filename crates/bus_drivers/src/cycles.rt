@@ -60,36 +60,65 @@ fn all_entered(alloc: Global, count: usize) -> Result<Vec<Step>, AllocError> {
     Ok(steps)
 }
 
-// The devices in the order in which a walk leaves them.
-fn leaving_order(alloc: Global, plan: &Plan, most_steps: usize) -> Result<Vec<usize>, AllocError> {
-    let mut order = Vec::with_capacity(alloc, plan.len())?;
-    let mut marks = vec![in alloc; false; plan.len()]?;
-    let mut steps = all_entered(alloc, plan.len())?;
+// Enters a device that wasn't entered yet: behind its suppliers it is left.
+fn enter(
+    plan: &Plan,
+    marks: &mut [bool],
+    steps: &mut Vec<Step>,
+    place: usize,
+) -> Result<(), AllocError> {
+    if !mark(marks, place) {
+        return Ok(());
+    }
+    steps.push(Step::Leave(place))?;
+    enter_all(steps, suppliers_of(plan, place))
+}
+
+// Puts the devices in the order in which these steps leave them.
+fn leave_all(
+    plan: &Plan,
+    most_steps: usize,
+    marks: &mut [bool],
+    steps: &mut Vec<Step>,
+    order: &mut Vec<usize>,
+) -> Result<(), AllocError> {
     for _ in 0..most_steps {
         match steps.pop() {
             None => break,
             Some(Step::Leave(place)) => order.push(place)?,
-            Some(Step::Enter(place)) => {
-                if mark(&mut marks, place) {
-                    steps.push(Step::Leave(place))?;
-                    enter_all(&mut steps, suppliers_of(plan, place))?;
-                }
-            }
+            Some(Step::Enter(place)) => enter(plan, marks, steps, place)?,
         }
     }
+    Ok(())
+}
+
+fn put_in_order(
+    alloc: Global,
+    plan: &Plan,
+    most_steps: usize,
+    order: &mut Vec<usize>,
+) -> Result<(), AllocError> {
+    let mut marks = vec![in alloc; false; plan.len()]?;
+    let mut steps = all_entered(alloc, plan.len())?;
+    leave_all(plan, most_steps, &mut marks, &mut steps, order)
+}
+
+// The devices in the order in which a walk leaves them.
+fn leaving_order(alloc: Global, plan: &Plan, most_steps: usize) -> Result<Vec<usize>, AllocError> {
+    let mut order = Vec::with_capacity(alloc, plan.len())?;
+    put_in_order(alloc, plan, most_steps, &mut order)?;
     Ok(order)
 }
 
-// Gives the devices that reach the root, and have no component yet, the root's.
-fn give_component(
-    alloc: Global,
+// Gives the devices that reach the root, and have no component yet, the root's. No steps are left from before.
+fn reach_all(
     plan: &Plan,
     most_steps: usize,
     marks: &mut [bool],
     components: &mut [usize],
+    steps: &mut Vec<Step>,
     root: usize,
 ) -> Result<(), AllocError> {
-    let mut steps = Vec::new(alloc);
     steps.push(Step::Enter(root))?;
     for _ in 0..most_steps {
         let Some(Step::Enter(place)) = steps.pop() else {
@@ -99,21 +128,49 @@ fn give_component(
             if let Some(component) = components.get_mut(place) {
                 *component = root;
             }
-            enter_all(&mut steps, consumers_of(plan, place))?;
+            enter_all(steps, consumers_of(plan, place))?;
         }
     }
     Ok(())
 }
 
-/// The component of each device: devices are in one where each reaches the other by suppliers.
-pub fn components_of(alloc: Global, plan: &Plan) -> Result<Vec<usize>, AllocError> {
+fn give_component(
+    alloc: Global,
+    plan: &Plan,
+    most_steps: usize,
+    marks: &mut [bool],
+    components: &mut [usize],
+    root: usize,
+) -> Result<(), AllocError> {
+    let mut steps = Vec::new(alloc);
+    reach_all(plan, most_steps, marks, components, &mut steps, root)
+}
+
+// Gives each device a component, from the last root of this order to the first.
+fn give_components(
+    alloc: Global,
+    plan: &Plan,
+    most_steps: usize,
+    order: &[usize],
+    components: &mut [usize],
+) -> Result<(), AllocError> {
+    let mut marks = vec![in alloc; false; plan.len()]?;
+    for root in order.iter().rev() {
+        give_component(alloc, plan, most_steps, &mut marks, components, *root)?;
+    }
+    Ok(())
+}
+
+fn fill_components(alloc: Global, plan: &Plan, components: &mut [usize]) -> Result<(), AllocError> {
     let most_steps = most_steps(plan);
     let order = leaving_order(alloc, plan, most_steps)?;
-    let mut marks = vec![in alloc; false; plan.len()]?;
+    give_components(alloc, plan, most_steps, order.as_slice(), components)
+}
+
+/// The component of each device: devices are in one where each reaches the other by suppliers.
+pub fn components_of(alloc: Global, plan: &Plan) -> Result<Vec<usize>, AllocError> {
     let mut components = vec![in alloc; 0; plan.len()]?;
-    for root in order.iter().rev() {
-        give_component(alloc, plan, most_steps, &mut marks, &mut components, *root)?;
-    }
+    fill_components(alloc, plan, &mut components)?;
     Ok(components)
 }
 

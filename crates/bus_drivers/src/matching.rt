@@ -137,6 +137,20 @@ fn unknown_line(paths: &PathIndex, fails: &[FailLine]) -> Option<usize>
     None
 }
 
+// The line of the first of these whose path is no device's. The index is filled with the devices' paths.
+fn unknown_beside(
+    alloc: Global,
+    paths: &mut PathIndex,
+    devices: &[TreeDevice<'_>],
+    fails: &[FailLine],
+) -> Result<Option<usize>, AllocError>
+    requires { paths.old ≡ [] }
+    ensures { IfOk result (λ line. line ≡ option_map (λ f. f.line) (unknown_fail devices.now fails.now)) }
+{
+    add_devices(alloc, paths, devices)?;
+    Ok(unknown_line(paths, fails))
+}
+
 impl<'d> Matcher<'d> {
     /// The matcher of a driver set.
     pub fn of(alloc: Global, hasher: RandomState, set: &'d DriverSet) -> Result<Self, AllocError>
@@ -238,7 +252,6 @@ impl<'d> Matcher<'d> {
         ensures { IfOk result (λ line. line ≡ option_map (λ f. f.line) (unknown_fail devices.now self.now.fails)) }
     {
         let mut paths = PathIndex::new(alloc, hasher);
-        add_devices(alloc, &mut paths, devices)?;
-        Ok(unknown_line(&paths, self.set.fails()))
+        unknown_beside(alloc, &mut paths, devices, self.set.fails())
     }
 }

@@ -1,5 +1,8 @@
+ghost use Rattle.std.specs.Prelude.{◌≡◌, ◌⊎◌, Ok, Err, MatchResult};
+ghost use Rattle.bus_plan.specs.declared.error.PlanError.TheVariants.{NoMemory};
+ghost use Rattle.bus_plan.specs.Lines.{lines};
 ghost use Rattle.bus_plan.specs.PlanFile.{Answers};
-ghost use Rattle.bus_drivers.specs.DriverFile.{reading};
+ghost use Rattle.bus_drivers.specs.DriverFile.{meaning, reading, with_line, with_lines};
 
 use crate::draft::Draft;
 use crate::driver_set::DriverSet;
@@ -8,17 +11,35 @@ use bus_plan::{PlanError, lines_of};
 use std::alloc::Global;
 use std::hash::RandomState;
 
+// Adds what a line says.
+fn read_line(alloc: Global, draft: &mut Draft, number: usize, line: &[u8]) -> Result<(), PlanError>
+    ensures { let read = with_line number draft.old (meaning number line.now) in
+        MatchResult result (λ _. read ≡ Ok draft.new) (λ e. (e ≡ NoMemory) ⊎ (read ≡ Err e)) }
+{
+    match Statement::read(alloc, number, line)? {
+        None => Ok(()),
+        Some(statement) => draft.add(alloc, number, statement),
+    }
+}
+
+// Adds what the lines say.
+fn read_lines(alloc: Global, draft: &mut Draft, text: &[u8]) -> Result<(), PlanError>
+    ensures { let read = with_lines 1 (Ok draft.old) (lines text.now) in
+        MatchResult result (λ _. read ≡ Ok draft.new) (λ e. (e ≡ NoMemory) ⊎ (read ≡ Err e)) }
+{
+    let mut number = 0;
+    for line in lines_of(text) {
+        number += 1;
+        read_line(alloc, draft, number, line)?;
+    }
+    Ok(())
+}
+
 /// Reads a driver file. The first fault in line order is answered.
 pub fn read_drivers(alloc: Global, hasher: RandomState, text: &[u8]) -> Result<DriverSet, PlanError>
     ensures { Answers (reading text.now) result }
 {
     let mut draft = Draft::new(alloc, hasher);
-    let mut number = 0;
-    for line in lines_of(text) {
-        number += 1;
-        if let Some(statement) = Statement::read(alloc, number, line)? {
-            draft.add(alloc, number, statement)?;
-        }
-    }
+    read_lines(alloc, &mut draft, text)?;
     Ok(draft.finish())
 }

@@ -1,4 +1,4 @@
-ghost use Rattle.std.specs.Prelude.{◌≡◌, ◌⊎◌, IfOk, IfErr, MatchResult, Some, None};
+ghost use Rattle.std.specs.Prelude.{◌≡◌, ◌⊎◌, ◌++◌, IfOk, IfErr, OnOk, MatchResult, Some, None};
 ghost use Rattle.bus_plan.specs.declared.error.PlanError.TheVariants.{NoMemory, BadLine};
 ghost use Rattle.bus_plan.specs.Plan.{is_driver_name};
 ghost use Rattle.bus_plan.specs.PlanFile.{Answers};
@@ -25,14 +25,21 @@ fn is_driver_name(bytes: &[u8]) -> bool
     is_name(bytes) && bytes != b"-".as_slice()
 }
 
+fn add_copies(alloc: Global, copies: &mut Vec<Bytes>, strings: Fields<'_>) -> Result<(), AllocError>
+    ensures { OnOk result (copies.new.items ≡ copies.old.items ++ strings.entry) }
+{
+    for string in strings {
+        copies.push(Bytes::from_vec(Vec::from_slice(alloc, string)?))?;
+    }
+    Ok(())
+}
+
 // The strings that are left of a line, each copied.
 fn copies_of(alloc: Global, strings: Fields<'_>) -> Result<Vec<Bytes>, AllocError>
     ensures { IfOk result (λ copies. copies.items ≡ strings.entry) }
 {
     let mut copies = Vec::new(alloc);
-    for string in strings {
-        copies.push(Bytes::from_vec(Vec::from_slice(alloc, string)?))?;
-    }
+    add_copies(alloc, &mut copies, strings)?;
     copies.shrink_to_fit();
     Ok(copies)
 }
@@ -93,11 +100,13 @@ fn statement_of(
     let Some(first) = fields.next() else {
         return Ok(None);
     };
-    match word {
-        b"driver" => driver_of(alloc, first, fields),
-        b"fail" => fail_of(alloc, number, first, fields),
-        _ => Ok(None),
+    if word == b"driver".as_slice() {
+        return driver_of(alloc, first, fields);
     }
+    if word == b"fail".as_slice() {
+        return fail_of(alloc, number, first, fields);
+    }
+    Ok(None)
 }
 
 impl Statement {

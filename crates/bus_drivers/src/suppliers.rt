@@ -123,6 +123,23 @@ impl Suppliers {
     }
 }
 
+// Adds what these properties refer to, and gives the devices, where none was added before.
+fn all_of(
+    alloc: Global,
+    survey: &Survey<'_>,
+    suppliers: &mut Suppliers,
+    properties: &[Property],
+) -> Result<Vec<Device>, PlanError>
+    requires { suppliers.old.found ≡ [] }
+    ensures { let mentioned = all_references (target_of survey.now) properties.now in
+        MatchResult result
+        (λ devices. and_then mentioned (λ ds. Ok (suppliers_among suppliers.old.own ds)) ≡ Ok devices.items)
+        (λ e. (e ≡ NoMemory) ⊎ (and_then mentioned (λ ds. Ok (suppliers_among suppliers.old.own ds)) ≡ Err e)) }
+{
+    suppliers.add_properties(survey, properties)?;
+    Ok(suppliers.devices(alloc)?)
+}
+
 /// The suppliers of a device at this place with these properties.
 pub fn suppliers_of(
     alloc: Global,
@@ -137,6 +154,5 @@ pub fn suppliers_of(
         (λ e. (e ≡ NoMemory) ⊎ (and_then mentioned (λ ds. Ok (suppliers_among own ds)) ≡ Err e)) }
 {
     let mut suppliers = Suppliers::new(alloc, hasher, own);
-    suppliers.add_properties(survey, properties)?;
-    Ok(suppliers.devices(alloc)?)
+    all_of(alloc, survey, &mut suppliers, properties)
 }

@@ -1,6 +1,0 @@
-use Rattle.std.proofs.Common.{◌≡◌, ◌++◌}
-use Rattle.bus_drivers.proofs.statement.copies_of.Given as goal
-
--- the strings so far are copied, and the others are left
-abbrev pub invariant-loop-string : goal.invariant-loop-string
-invariant-loop-string l = l.copies.items ++ l.string-iterator ≡ l.fn.strings
