@@ -1,11 +1,11 @@
-use Rattle.std.proofs.Common.{◌≡◌, ◌∙◌, ◌+◌, ◌==◌, ◌++◌, ℕ, Bool, true, false, if◌then◌else◌, List, length, Option, Some, None, Result, Ok, Err, refl, sym, ap, arith}
+use Rattle.std.proofs.Common.{◌≡◌, ◌∙◌, ◌==◌, ◌++◌, ℕ, Bool, true, false, if◌then◌else◌, List, length, Option, Some, None, Ok, refl, sym, ap, arith}
 use Rattle.std.specs.Int.{from_be_bytes, to_be_bytes, w32}
 use Rattle.std.proofs.lemmas.Bool.{eqb-true, eq-eqb}
 use Rattle.std.proofs.lemmas.List.{append-nil, drop_all}
 use Rattle.dt_tree.specs.Phandle.{phandle_from, phandle_in}
 use Rattle.dt_meaning.specs.Phandles.{is_phandle}
 use Rattle.dt_listing.specs.ByRow.{row_property}
-use Rattle.overlay_meaning.specs.Steps.{Fault, then_do}
+use Rattle.overlay_meaning.specs.Steps.{then_do}
 use Rattle.overlay_meaning.specs.Shifted.{Value, phandle_of, raised, raised_number, raised_phandle, with_value, written}
 use Rattle.dt_fixup.specs.declared.error.OverlayError.{OverlayError}
 use Rattle.dt_fixup.specs.OverlayFault.{IsFault}
