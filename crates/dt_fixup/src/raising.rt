@@ -43,7 +43,10 @@ fn raise_row(sheet: &mut Sheet<'_>, property: usize, shift: usize) -> Result<(),
         Some(number) => number,
         None => return Ok(()),
     };
-    let number = raised(number, shift)?;
+    let number = match raised(number, shift) {
+        Ok(number) => number,
+        Err(error) => return Err(error),
+    };
     sheet.write(property, 0, number)?;
     Ok(())
 }

@@ -119,6 +119,24 @@ impl<'t> Sheet<'t> {
         }
     }
 
+    // Marks the four bytes at an offset of a property that has a change.
+    fn mark(&mut self, property: usize, offset: usize) -> Result<(), AllocError>
+        requires sound { IsSheet self.old }
+        requires known { property < length self.old.draft.properties.items }
+        requires fits { offset + 4 ≤ length (value_at self.old property) }
+        requires open { IsSome (change_at self.old property) }
+        ensures sound { IsSheet self.new }
+        ensures draft { self.new.draft ≡ self.old.draft }
+        ensures values { (k : ℕ) → value_at self.new k ≡ value_at self.old k }
+        ensures marks { OnOk result ((k i : ℕ) → is_marked (change_at self.new k) i ≡ (((k == property) && is_inside offset i) || is_marked (change_at self.old k) i)) }
+        ensures kept { OnErr result ((k i : ℕ) → is_marked (change_at self.new k) i ≡ is_marked (change_at self.old k) i) }
+    {
+        if let Some(change) = &mut self.changes[property] {
+            change.mark(offset)?;
+        }
+        Ok(())
+    }
+
     /// Takes the four bytes at an offset for a place, and answers whether they were free.
     pub(crate) fn take(&mut self, property: usize, offset: usize) -> Result<bool, AllocError>
         requires sound { IsSheet self.old }
@@ -135,9 +153,7 @@ impl<'t> Sheet<'t> {
             return Ok(false);
         }
         self.open(property)?;
-        if let Some(change) = &mut self.changes[property] {
-            change.mark(offset)?;
-        }
+        self.mark(property, offset)?;
         Ok(true)
     }
 }

@@ -1,5 +1,5 @@
 use Rattle.std.proofs.Common.{◌∙◌, ◌+◌, ◌<◌, ◌≤◌, [], length, get_or, map, drop, sym, ap}
-use Rattle.std.proofs.lemmas.List.{get_or_default}
+use Rattle.std.proofs.lemmas.List.{get_or_default, take_all}
 use Rattle.dt_draft.specs.declared.table.Draft.{Draft}
 use Rattle.dt_listing.specs.Listed.{Lent}
 use Rattle.overlay_meaning.specs.Shifted.{take_place}
@@ -54,3 +54,6 @@ returns-clause-step c =
     let i = c.loop-fixup.fixup-index in
     let past : length all ≤ i = c.loop-fixup-test.false in
     reached-end (takes (map named all)) (takes (map named (drop i all))) c.args.sheet.now c.loop-fixup.sheet c.loop-fixup.invariant.reached (takes-end all i past)
+
+pub returns-clause-opened : goal.returns-clause-opened
+returns-clause-opened c = c.loop-fixup.invariant.opened ∙ ap (map named) (take_all c.loop-fixup.fixup-index c.args.fixups.now c.loop-fixup-test.false)

@@ -1,14 +1,48 @@
-use Rattle.std.proofs.Common.{Ok, length, ap, subst, sym, ◌∙◌, arith}
-use Rattle.overlay_meaning.specs.Steps.{each}
-use Rattle.overlay_meaning.specs.Shifted.{raised_phandle, with_value}
+use Rattle.std.proofs.Common.{◌≡◌, ◌∙◌, ◌+◌, ◌<◌, ◌==◌, ℕ, Bool, true, false, List, Result, Ok, length, ap, subst, sym, refl, arith}
+use Rattle.std.proofs.lemmas.Bool.{eqb-true}
+use Rattle.std.proofs.lemmas.Bool.Decides.{nat_tests}
+use Rattle.overlay_meaning.specs.Steps.{Fault, each}
+use Rattle.overlay_meaning.specs.Shifted.{Value, raised_phandle, with_value}
+use Rattle.dt_draft.specs.declared.table.Draft.{Draft}
 use Rattle.dt_draft.specs.Rows.{path_of}
 use Rattle.dt_listing.specs.ByRow.{row_property}
-use Rattle.dt_listing.specs.Listed.{lists}
+use Rattle.dt_listing.specs.Listed.{Lent, lists}
 use Rattle.dt_listing.proofs.WholeDrafts.{all-entries}
 use Rattle.dt_fixup.specs.OverlayFault.{IsFault}
 use Rattle.dt_fixup.specs.Sheet.{shown_from, value_at}
 use Rattle.dt_fixup.proofs.Raised.{each-listed, each-refused, fault-by}
+use Rattle.dt_fixup.proofs.RowPlaces.{eqb-not}
 use Rattle.dt_fixup.proofs.raising.raise_rows.Goals as goal
+
+-- a row that is another than the next one is one before it
+before : (k p : ℕ) → k < p + 1 → (k == p) ≡ false → k < p
+before k p below other = grind (arith, nat_tests)
+
+-- what was done, with one row more
+done-more : (f : Value → Result Value Fault) (row : ℕ → Value) (old new : ℕ → List ℕ) (p : ℕ) → ((k : ℕ) → k < p → f (row k) ≡ Ok (with_value (row k) (old k)))
+    → f (row p) ≡ Ok (with_value (row p) (new p)) → ((k : ℕ) → (k == p) ≡ false → new k ≡ old k) → (k : ℕ) → k < p + 1 → f (row k) ≡ Ok (with_value (row k) (new k))
+done-more f row old new p done here others k below = by (k == p) refl where
+  by : (t : Bool) → (k == p) ≡ t → f (row k) ≡ Ok (with_value (row k) (new k))
+  by true e = subst (λ j. f (row j) ≡ Ok (with_value (row j) (new j))) (sym (eqb-true k p e)) here
+  by false e = done k (before k p below e) ∙ ap (λ v. Ok (with_value (row k) v)) (sym (others k e))
+
+pub loop-property-preserved : goal.loop-property-preserved
+loop-property-preserved c =
+    let d = c.args.sheet.now.draft in
+    let s = c.loop-property.sheet in
+    let t = c.raise_row.new.sheet in
+    let i = c.loop-property.property in
+    let inv = c.loop-property.invariant in
+    let e = c.in_default.ensures in
+    record {
+      sound = e.sound;
+      draft = e.draft ∙ inv.draft;
+      unmarked = λ k j. e.marks k j ∙ inv.unmarked k j;
+      done =
+          done-more (raised_phandle c.args.shift) (row_property d) (value_at s) (value_at t) i inv.done
+          (subst (λ (x : Draft Lent). raised_phandle c.args.shift (row_property x i) ≡ Ok (with_value (row_property x i) (value_at t i))) inv.draft e.raised) e.others;
+      rest = λ k from. e.others k (eqb-not k i (λ is. omega (arith, from, is))) ∙ inv.rest k (omega (arith, from));
+    }
 
 pub returns-in-Err-clause-raised : goal.returns-in-Err-clause-raised
 returns-in-Err-clause-raised c =

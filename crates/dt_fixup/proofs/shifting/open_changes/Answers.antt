@@ -1,4 +1,5 @@
-use Rattle.std.proofs.Common.{◌≡◌, ◌∙◌, ℕ, length, ap, sym, arith}
+use Rattle.std.proofs.Common.{◌≡◌, ◌∙◌, ◌++◌, ◌∷◌, [], ℕ, List, Option, None, length, ap, sym, arith}
+use Rattle.std.proofs.lemmas.List.{replicate_more}
 use Rattle.dt_listing.specs.Listed.{lists}
 use Rattle.overlay_meaning.specs.Shifted.{fragments}
 use Rattle.dt_fixup.specs.declared.sheet.Change.{Change}
@@ -16,3 +17,8 @@ pub returns-clause-none : goal.returns-clause-none
 returns-clause-none c =
     let all : c.loop-row._row ≡ length c.args.over.now.properties.items = omega (arith, c.loop-row-test.false, c.loop-row.auto._row-end, ap length c.properties-count.ensures) in
     c.loop-row.invariant.items ∙ ap (λ (n : ℕ). nones {A = Change} n) all
+
+pub loop-row-preserved : goal.loop-row-preserved
+loop-row-preserved c = record {
+  items = c.in_ok-push.ensures.items ∙ ap (λ (xs : List (Option Change)). xs ++ None ∷ []) c.loop-row.invariant.items ∙ replicate_more c.loop-row._row None;
+}
