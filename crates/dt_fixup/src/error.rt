@@ -3,20 +3,26 @@ ghost use Rattle.std.specs.Prelude.{◌≡◌};
 ghost use Rattle.dt_fixup.specs.OverlayError.{name_of, number_of};
 
 use std::alloc::{AllocError, AllocFailed};
-use std::error::Error;
-use std::fmt;
-use std::fmt::{Display, Formatter, Write};
+use thiserror::Error;
 
 /// Why an overlay isn't applied.
-#[derive(Debug, Clone, Copy, PartialEq, Eq, Drop)]
+#[derive(Debug, Clone, Copy, PartialEq, Eq, Drop, Error)]
 pub enum OverlayError {
+    #[error("out of memory")]
     NoMemory,
+    #[error("no child of the root has a child `__overlay__`")]
     NotOverlay,
+    #[error("the base has no node that a fragment targets")]
     NoTarget,
+    #[error("the base has no such symbol, or its node has no phandle")]
     UnknownSymbol,
+    #[error("a fixup that names no place for a phandle")]
     BadFixup,
+    #[error("a phandle would be 0xffffffff or more")]
     PhandleOverflow,
+    #[error("two phandles for one node, or two nodes with one phandle")]
     PhandleClash,
+    #[error("a node would be deeper than 64 levels")]
     TooDeep,
 }
 
@@ -75,31 +81,3 @@ impl OverlayError {
         }
     }
 }
-
-impl OverlayError {
-    // What is wrong.
-    fn text(&self) -> &'static str {
-        match self {
-            OverlayError::NoMemory => "out of memory",
-            OverlayError::NotOverlay => "no child of the root has a child `__overlay__`",
-            OverlayError::NoTarget => "the base has no node that a fragment targets",
-            OverlayError::UnknownSymbol => {
-                "the base has no such symbol, or its node has no phandle"
-            }
-            OverlayError::BadFixup => "a fixup that names no place for a phandle",
-            OverlayError::PhandleOverflow => "a phandle would be 0xffffffff or more",
-            OverlayError::PhandleClash => {
-                "two phandles for one node, or two nodes with one phandle"
-            }
-            OverlayError::TooDeep => "a node would be deeper than 64 levels",
-        }
-    }
-}
-
-impl Display for OverlayError {
-    fn fmt<W: Write>(&self, f: &mut Formatter<W>) -> fmt::Result {
-        f.write_str(self.text())
-    }
-}
-
-impl Error for OverlayError {}
