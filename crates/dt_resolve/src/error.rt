@@ -4,30 +4,22 @@ ghost use Rattle.dt_resolve.specs.BuildError.{name_of, number_of};
 
 use dt_edit::EditError;
 use std::alloc::{AllocError, AllocFailed};
-use thiserror::Error;
+use std::error::Error;
+use std::fmt;
+use std::fmt::{Display, Formatter, Write};
 
 /// Why a source makes no tree.
-#[derive(Debug, Clone, Copy, PartialEq, Eq, Drop, Error)]
+#[derive(Debug, Clone, Copy, PartialEq, Eq, Drop)]
 pub enum BuildError {
-    #[error("out of memory")]
     NoMemory,
-    #[error("no node has this label")]
     UnknownLabel,
-    #[error("another node has this label")]
     DuplicateLabel,
-    #[error("no node has this path")]
     UnknownPath,
-    #[error("a phandle that is not 4 plain bytes, or is 0 or 0xffffffff")]
     BadPhandle,
-    #[error("two nodes have one phandle")]
     DuplicatePhandle,
-    #[error("a body defines a name twice")]
     DuplicateInBody,
-    #[error("a path in cells of a plugin")]
     PathInPlugin,
-    #[error("a name or a node that is kept for other uses")]
     ReservedName,
-    #[error("a node is deeper than 64 levels")]
     TooDeep,
 }
 
@@ -109,3 +101,29 @@ impl BuildError {
         }
     }
 }
+
+impl BuildError {
+    // What is wrong.
+    fn text(&self) -> &'static str {
+        match self {
+            BuildError::NoMemory => "out of memory",
+            BuildError::UnknownLabel => "no node has this label",
+            BuildError::DuplicateLabel => "another node has this label",
+            BuildError::UnknownPath => "no node has this path",
+            BuildError::BadPhandle => "a phandle that is not 4 plain bytes, or is 0 or 0xffffffff",
+            BuildError::DuplicatePhandle => "two nodes have one phandle",
+            BuildError::DuplicateInBody => "a body defines a name twice",
+            BuildError::PathInPlugin => "a path in cells of a plugin",
+            BuildError::ReservedName => "a name or a node that is kept for other uses",
+            BuildError::TooDeep => "a node is deeper than 64 levels",
+        }
+    }
+}
+
+impl Display for BuildError {
+    fn fmt<W: Write>(&self, f: &mut Formatter<W>) -> fmt::Result {
+        f.write_str(self.text())
+    }
+}
+
+impl Error for BuildError {}
