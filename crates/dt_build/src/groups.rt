@@ -52,6 +52,21 @@ fn count_spot<'d>(
     Ok(())
 }
 
+// Counts the texts of all places among those of their labels.
+fn count_spots<'d>(
+    sizes: &mut BTreeMap<&'d [u8], usize>,
+    prepared: &Prepared<'d, 'd>,
+) -> Result<(), AllocError>
+    requires { IsReady prepared.now }
+{
+    let mut at = whole_walk(prepared);
+    while !at.properties.is_empty() {
+        count_spot(sizes, prepared, spot_at(prepared, at))?;
+        at = walk_behind(prepared, at);
+    }
+    Ok(())
+}
+
 // How long the texts of each label are together: room is taken once for them.
 fn label_sizes<'d>(
     alloc: Global,
@@ -60,11 +75,7 @@ fn label_sizes<'d>(
     requires { IsReady prepared.now }
 {
     let mut sizes = BTreeMap::new(alloc);
-    let mut at = whole_walk(prepared);
-    while !at.properties.is_empty() {
-        count_spot(&mut sizes, prepared, spot_at(prepared, at))?;
-        at = walk_behind(prepared, at);
-    }
+    count_spots(&mut sizes, prepared)?;
     Ok(sizes)
 }
 
@@ -151,6 +162,25 @@ fn put_spot<'d>(
     Ok(())
 }
 
+// Puts all places into the groups of their labels.
+fn put_spots<'d>(
+    alloc: Global,
+    prepared: &Prepared<'d, 'd>,
+    sizes: &BTreeMap<&'d [u8], usize>,
+    groups: &mut Groups<'d>,
+) -> Result<(), AllocError>
+    requires ready { IsReady prepared.now }
+    requires indexed { AreIndexed groups.old }
+    ensures { OnOk result (given groups.new.groups.items ≡ fixups (made_places prepared.now) (given groups.old.groups.items)) }
+{
+    let mut at = whole_walk(prepared);
+    while !at.properties.is_empty() {
+        put_spot(alloc, prepared, sizes, groups, spot_at(prepared, at))?;
+        at = walk_behind(prepared, at);
+    }
+    Ok(())
+}
+
 /// All places by label, in order of first reference.
 pub(crate) fn grouped<'d>(
     alloc: Global,
@@ -164,10 +194,6 @@ pub(crate) fn grouped<'d>(
         groups: Vec::new(alloc),
         places: BTreeMap::new(alloc),
     };
-    let mut at = whole_walk(prepared);
-    while !at.properties.is_empty() {
-        put_spot(alloc, prepared, &sizes, &mut groups, spot_at(prepared, at))?;
-        at = walk_behind(prepared, at);
-    }
+    put_spots(alloc, prepared, &sizes, &mut groups)?;
     Ok(groups)
 }

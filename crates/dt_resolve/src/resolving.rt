@@ -88,7 +88,14 @@ pub(crate) fn resolve<'d, 't>(
         Ok(targets) => targets,
         Err(error) => return Err(error),
     };
-    let new = new_numbers(alloc, draft, order, &given, targets.cells.as_slice(), symbols)?;
+    let new = new_numbers(
+        alloc,
+        draft,
+        order,
+        &given,
+        targets.cells.as_slice(),
+        symbols,
+    )?;
     Ok(Resolution {
         given,
         targets,
