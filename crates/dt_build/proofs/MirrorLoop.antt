@@ -39,16 +39,6 @@ not-zero n some = by_test (n == 0) refl where
 pub first-node : (p : Prepared) → IsReady p → 1 ≤ length p.layout.nodes.items
 first-node p ready = omega (arith, count (order-of p ready), some-node (tree_of p.draft).nodes)
 
--- the mark of a node in the order of the walk
-pub mark-known : (p : Prepared) → IsReady p → (k : ℕ) → 1 ≤ k → k < length p.layout.nodes.items → (marks : List Bool) (xs : List Mirrored) → mirror_of (node_path p.draft) xs ≡ all_mirrored p
-    → ((j : ℕ) → is_standing p.draft j ≡ true → get_or marks j false ≡ list_any (λ x. is_listed (node_path p.draft j) (fronts (node_path p.draft x.node))) xs)
-    → get_or marks (get_or p.layout.nodes.items k 0) false ≡ has_mirror p (path_at p k)
-mark-known p ready k some below marks xs are all =
-    let n = get_or p.layout.nodes.items k 0 in
-    let there : n ≡ get_or p.layout.nodes.items k n = get_or_default p.layout.nodes.items k 0 n below in
-    let path : path_at p k ≡ path_of p.draft.nodes.items n = path-is (order-of p ready) k some below n there in
-    mark-is (node_path p.draft) (path_of p.draft.nodes.items n) (deep (order-of p ready) k some below n there) p xs are (get_or marks n false) (all n (ready.there k 0 below)) ∙ ap (has_mirror p) (sym path)
-
 module _ (p : Prepared) (ready : IsReady p) (k : ℕ) (some : 1 ≤ k) (below : k < length p.layout.nodes.items) (n : ℕ) (there : n ≡ get_or p.layout.nodes.items k n) where
   pub node-is : n ≡ get_or p.layout.nodes.items k 0
   node-is = there ∙ get_or_default p.layout.nodes.items k n 0 below
@@ -56,8 +46,18 @@ module _ (p : Prepared) (ready : IsReady p) (k : ℕ) (some : 1 ≤ k) (below : 
   pub node-known : n ≤ length p.draft.nodes.items
   node-known = omega (arith, node-is, ready.known k 0 below)
 
-  pub mark-here : (marks : List Bool) → get_or marks (get_or p.layout.nodes.items k 0) false ≡ has_mirror p (path_at p k) → get_or marks n false ≡ has_mirror p (path_at p k)
-  mark-here marks is = ap (λ m. get_or marks m false) node-is ∙ is
+  pub node-stands : is_standing p.draft n ≡ true
+  node-stands = ap (is_standing p.draft) node-is ∙ ready.there k 0 below
+
+  pub mark-read : (marks : List Bool) (xs ys : List Mirrored) → length marks ≡ length p.draft.nodes.items + 1 → mirror_of (node_path p.draft) xs ≡ all_mirrored p → ys ≡ xs
+      → ((j : ℕ) → is_standing p.draft j ≡ true → get_or marks j false ≡ list_any (λ x. is_listed (node_path p.draft j) (fronts (node_path p.draft x.node))) ys)
+      → (t : Bool) → t ≡ get_or marks n t → t ≡ has_mirror p (path_at p k)
+  mark-read marks xs ys long are same all t read =
+      let path : path_at p k ≡ path_of p.draft.nodes.items n = path-is (order-of p ready) k some below n there in
+      mark-is (node_path p.draft) (path_of p.draft.nodes.items n) (deep (order-of p ready) k some below n there) p xs are t
+      (read ∙ get_or_default marks n t false (omega (arith, long, node-known)) ∙ all n node-stands
+      ∙ ap (list_any (λ x. is_listed (node_path p.draft n) (fronts (node_path p.draft x.node)))) same)
+      ∙ ap (has_mirror p) (sym path)
 
   module _ (symbols : Bool) (free : names_taken symbols p.plugin (tree_of p.draft) ≡ false) (shallow : list_any is_too_deep (lists symbols p).nodes ≡ false) (plugin : p.plugin ≡ true) (on : has_mirror p (path_at p k) ≡ true)
       (bs : List NodeData) (made : assembled bs ≡ with_mirrors symbols p (first_mirrored p k)) (way : way_of bs ≡ get_or ([] ∷ nodes_with symbols p (first_mirrored p k)) (length (nodes_with symbols p (first_mirrored p k))) [])

@@ -1,9 +1,7 @@
 //! The tree of a source.
 ghost use Rattle.std.specs.Prelude.{◌≡◌, false, IfOk, List, MatchResult, Option};
 ghost use Rattle.std.specs.List.{list_any};
-ghost use Rattle.dt_tree.specs.PathMap.{tree_map};
 ghost use Rattle.dt_meaning.specs.Edits.{Definition};
-ghost use Rattle.dt_meaning.specs.MapOf.{tree_map_of};
 ghost use Rattle.dt_meaning.specs.References.{Found};
 ghost use Rattle.dt_meaning.specs.Resolved.{is_too_deep, names_taken};
 ghost use Rattle.dt_source.specs.Lawful.{IsLawful};
@@ -15,12 +13,11 @@ ghost use Rattle.dt_resolve.specs.Said.{meaning_of};
 ghost use Rattle.dt_build.specs.Built.{IsBuilt, IsTreeOf, Refuses};
 ghost use Rattle.dt_build.specs.Private.Fitting.{IsFitting};
 ghost use Rattle.dt_build.specs.Private.Made.{lists};
-ghost use Rattle.dt_build.specs.Private.Places.{IsNumbering};
 ghost use Rattle.dt_build.specs.Private.Ready.{IsReady};
 
 use crate::making::make;
 use crate::mirror::is_mirror_too_deep;
-use crate::numbering::{Numbering, number};
+use crate::numbering::number;
 use crate::sizes::total_size;
 use dt_edit::{Fragments, fragments_of};
 use dt_resolve::{BuildError, Prepared, prepare};
@@ -28,29 +25,6 @@ use dt_source::Source;
 use dt_tree::Tree;
 use std::alloc::{AllocError, Global};
 use std::hash::RandomState;
-
-// The tree of a source that is prepared.
-fn made_tree(
-    alloc: Global,
-    source: &Source<'_>,
-    prepared: &Prepared<'_, '_>,
-    numbering: &Numbering,
-    symbols: bool,
-) -> Result<Tree, AllocError>
-    requires ready { IsReady prepared.now }
-    requires numbering { IsNumbering prepared.now numbering.now }
-    requires free { names_taken symbols prepared.now.plugin (tree_of prepared.now.draft) ≡ false }
-    requires shallow { list_any is_too_deep (lists symbols prepared.now).nodes ≡ false }
-    ensures { IfOk result (λ tree. tree_map tree ≡ tree_map_of (meaning_of source.now) (lists symbols prepared.now)) }
-{
-    let reserves = Vec::from_slice(alloc, source.reserves.as_slice())?;
-    let root = make(alloc, prepared, numbering, symbols)?;
-    match Tree::new(reserves, 0, root) {
-        Ok(tree) => Ok(tree),
-        // never: the root has no name
-        Err(_) => Err(AllocError),
-    }
-}
 
 // The tree of a source that is prepared, or None where its values are too long.
 fn fitting_tree(
@@ -69,8 +43,13 @@ fn fitting_tree(
     if total_size(prepared, &numbering, symbols) > limit {
         return Ok(None);
     }
-    let tree = made_tree(alloc, source, prepared, &numbering, symbols)?;
-    Ok(Some(tree))
+    let root = make(alloc, prepared, &numbering, symbols)?;
+    let reserves = Vec::from_slice(alloc, source.reserves.as_slice())?;
+    match Tree::new(reserves, 0, root) {
+        Ok(tree) => Ok(Some(tree)),
+        // never: the root has no name
+        Err(_) => Err(AllocError),
+    }
 }
 
 // The tree of a source that was prepared, or why it has none.

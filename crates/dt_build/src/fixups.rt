@@ -1,5 +1,5 @@
 //! The places that a plugin leaves to its base, as properties of the root's child `__fixups__`.
-ghost use Rattle.std.specs.Prelude.{◌≡◌, ◌-◌, ◌^◌, ◌++◌, [], false, IfOk, IfSome, OnOk, min};
+ghost use Rattle.std.specs.Prelude.{◌≡◌, ◌-◌, ◌^◌, [], false, IfOk, IfSome, min};
 ghost use Rattle.dt_meaning.specs.Fixups.{fixups};
 ghost use Rattle.dt_meaning.specs.Resolved.{names_taken};
 ghost use Rattle.dt_draft.specs.Rows.{IsNode, node_path};
@@ -8,13 +8,13 @@ ghost use Rattle.dt_assembly.specs.Lists.{defined_at};
 ghost use Rattle.dt_assembly.specs.OpenNodes.{assembled};
 ghost use Rattle.dt_assembly.specs.Standing.{walked};
 ghost use Rattle.dt_assembly.specs.Sizes.{size_in};
-ghost use Rattle.dt_build.specs.Private.Groups.{fixups_path, given};
+ghost use Rattle.dt_build.specs.Private.Groups.{fixups_path};
 ghost use Rattle.dt_build.specs.Private.Made.{fixup_lists, made_places, symbol_lists};
 ghost use Rattle.dt_build.specs.Private.Ready.{IsReady};
 ghost use Rattle.dt_build.specs.Private.Spots.{shown, texts_size};
 
 use crate::digits::digits_size;
-use crate::groups::{Group, grouped};
+use crate::groups::grouped;
 use crate::spots::{Spot, spot_at, walk_behind, whole_walk};
 use crate::value::way_size;
 use dt_assembly::{Assembly, lawful_name};
@@ -66,31 +66,6 @@ pub(crate) fn label_name(alloc: Global, label: &[u8]) -> Result<Name, AllocError
     }
 }
 
-// The property of a label that no node has.
-fn fixup_of(alloc: Global, group: Group<'_>) -> Result<Property, AllocError>
-    ensures name { IfOk result (λ made. made.name ≡ group.entry.label.now) }
-    ensures value { IfOk result (λ made. made.value ≡ group.entry.text.items) }
-{
-    Ok(Property {
-        name: label_name(alloc, group.label)?,
-        value: Bytes::from_vec(group.text),
-    })
-}
-
-// Puts the property of each group behind others.
-fn put_groups(
-    properties: &mut Vec<Property>,
-    alloc: Global,
-    groups: Vec<Group<'_>>,
-) -> Result<(), AllocError>
-    ensures { OnOk result (defined_at fixups_path properties.new.items ≡ defined_at fixups_path properties.old.items ++ given groups.entry.items) }
-{
-    for group in groups {
-        properties.push(fixup_of(alloc, group)?)?;
-    }
-    Ok(())
-}
-
 // One property a label that no node has.
 fn fixups_of(alloc: Global, prepared: &Prepared<'_, '_>) -> Result<Vec<Property>, AllocError>
     requires { IsReady prepared.now }
@@ -98,7 +73,12 @@ fn fixups_of(alloc: Global, prepared: &Prepared<'_, '_>) -> Result<Vec<Property>
 {
     let groups = grouped(alloc, prepared)?.groups;
     let mut properties = Vec::with_capacity(alloc, groups.len())?;
-    put_groups(&mut properties, alloc, groups)?;
+    for group in groups {
+        properties.push(Property {
+            name: label_name(alloc, group.label)?,
+            value: Bytes::from_vec(group.text),
+        })?;
+    }
     Ok(properties)
 }
 

@@ -52,21 +52,6 @@ fn count_spot<'d>(
     Ok(())
 }
 
-// Counts the texts of all places among those of their labels.
-fn count_spots<'d>(
-    sizes: &mut BTreeMap<&'d [u8], usize>,
-    prepared: &Prepared<'d, 'd>,
-) -> Result<(), AllocError>
-    requires { IsReady prepared.now }
-{
-    let mut at = whole_walk(prepared);
-    while !at.properties.is_empty() {
-        count_spot(sizes, prepared, spot_at(prepared, at))?;
-        at = walk_behind(prepared, at);
-    }
-    Ok(())
-}
-
 // How long the texts of each label are together: room is taken once for them.
 fn label_sizes<'d>(
     alloc: Global,
@@ -75,7 +60,11 @@ fn label_sizes<'d>(
     requires { IsReady prepared.now }
 {
     let mut sizes = BTreeMap::new(alloc);
-    count_spots(&mut sizes, prepared)?;
+    let mut at = whole_walk(prepared);
+    while !at.properties.is_empty() {
+        count_spot(&mut sizes, prepared, spot_at(prepared, at))?;
+        at = walk_behind(prepared, at);
+    }
     Ok(sizes)
 }
 
@@ -162,25 +151,6 @@ fn put_spot<'d>(
     Ok(())
 }
 
-// Puts all places into the groups of their labels.
-fn put_spots<'d>(
-    alloc: Global,
-    prepared: &Prepared<'d, 'd>,
-    sizes: &BTreeMap<&'d [u8], usize>,
-    groups: &mut Groups<'d>,
-) -> Result<(), AllocError>
-    requires ready { IsReady prepared.now }
-    requires indexed { AreIndexed groups.old }
-    ensures { OnOk result (given groups.new.groups.items ≡ fixups (made_places prepared.now) (given groups.old.groups.items)) }
-{
-    let mut at = whole_walk(prepared);
-    while !at.properties.is_empty() {
-        put_spot(alloc, prepared, sizes, groups, spot_at(prepared, at))?;
-        at = walk_behind(prepared, at);
-    }
-    Ok(())
-}
-
 /// All places by label, in order of first reference.
 pub(crate) fn grouped<'d>(
     alloc: Global,
@@ -194,6 +164,10 @@ pub(crate) fn grouped<'d>(
         groups: Vec::new(alloc),
         places: BTreeMap::new(alloc),
     };
-    put_spots(alloc, prepared, &sizes, &mut groups)?;
+    let mut at = whole_walk(prepared);
+    while !at.properties.is_empty() {
+        put_spot(alloc, prepared, &sizes, &mut groups, spot_at(prepared, at))?;
+        at = walk_behind(prepared, at);
+    }
     Ok(groups)
 }

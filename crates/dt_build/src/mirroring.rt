@@ -1,5 +1,5 @@
 //! The mirror of a plugin's nodes below the root's child `__local_fixups__`.
-ghost use Rattle.std.specs.Prelude.{◌≡◌, ◌+◌, ◌<◌, ◌≤◌, ◌||◌, ◌∷◌, ℕ, [], true, false, All, IfOk, length, map, replicate, slice_index_or};
+ghost use Rattle.std.specs.Prelude.{◌≡◌, ◌+◌, ◌||◌, ◌∷◌, ℕ, [], true, false, All, IfOk, length, map, replicate, slice_index_or};
 ghost use Rattle.std.specs.List.{list_any};
 ghost use Rattle.dt_meaning.specs.Names.{local_fixups_name};
 ghost use Rattle.dt_meaning.specs.Fixups.{local_fixups};
@@ -12,8 +12,7 @@ ghost use Rattle.dt_assembly.specs.Lists.{defined_at};
 ghost use Rattle.dt_assembly.specs.OpenNodes.{assembled, way_of};
 ghost use Rattle.dt_assembly.specs.Standing.{walked};
 ghost use Rattle.dt_build.specs.Private.Made.{fixup_lists, lists, made_places};
-ghost use Rattle.dt_build.specs.Private.Mirror.{IsAtNode, all_mirrored, has_mirror, mirror_of, mirror_path};
-ghost use Rattle.dt_build.specs.Private.Places.{path_at};
+ghost use Rattle.dt_build.specs.Private.Mirror.{IsAtNode, mirror_of, mirror_path};
 ghost use Rattle.dt_build.specs.Private.Ready.{IsReady};
 
 use crate::mirrored::{Mirrored, mirrored_properties};
@@ -86,62 +85,6 @@ fn mirror_lists(
     Ok(lists)
 }
 
-// Whether each node has a mirror, but for the root, and the mirrored properties of each.
-fn marks_and_lists(
-    alloc: Global,
-    prepared: &Prepared<'_, '_>,
-    mirrored: Vec<Mirrored>,
-) -> Result<(Vec<bool>, Vec<Vec<Property>>), AllocError>
-    requires ready { IsReady prepared.now }
-    requires nodes { All (λ x. IsAtNode prepared.now x.node) mirrored.items }
-    ensures long { IfOk result (λ x. length x.0.items ≡ length prepared.now.draft.nodes.items + 1) }
-    ensures marks { IfOk result (λ x. (k : ℕ) → is_standing prepared.now.draft k ≡ true → slice_index_or x.0.items k false ≡ list_any (λ y. is_listed (node_path prepared.now.draft k) (fronts (node_path prepared.now.draft y.node))) mirrored.items) }
-    ensures count { IfOk result (λ x. length x.1.items ≡ length prepared.now.draft.nodes.items + 1) }
-    ensures lists { IfOk result (λ x. (k : ℕ) → is_standing prepared.now.draft k ≡ true → defined_at (mirror_path (node_path prepared.now.draft k)) (slice_index_or (map (λ list. list.items) x.1.items) k []) ≡ held (mirror_of (node_path prepared.now.draft) mirrored.items) (mirror_path (node_path prepared.now.draft k))) }
-{
-    let marks = mirror_marks(alloc, prepared, mirrored.as_slice())?;
-    let lists = mirror_lists(alloc, prepared, mirrored)?;
-    Ok((marks, lists))
-}
-
-// Puts the root's mirror behind all other nodes, and the mirrors of the marked nodes below it.
-fn put_mirror(
-    alloc: Global,
-    prepared: &Prepared<'_, '_>,
-    symbols: bool,
-    marks: &[bool],
-    mirrors: &mut Vec<Vec<Property>>,
-    assembly: Assembly,
-) -> Result<Assembly, AllocError>
-    requires ready { IsReady prepared.now }
-    requires plugin { prepared.now.plugin ≡ true }
-    requires free { names_taken symbols prepared.now.plugin (tree_of prepared.now.draft) ≡ false }
-    requires shallow { list_any is_too_deep (lists symbols prepared.now).nodes ≡ false }
-    requires root { has_mirror prepared.now [] ≡ true }
-    requires marks { (k : ℕ) → 1 ≤ k → k < length prepared.now.layout.nodes.items → slice_index_or marks.now (slice_index_or prepared.now.layout.nodes.items k 0) false ≡ has_mirror prepared.now (path_at prepared.now k) }
-    requires long { length marks.now ≡ length prepared.now.draft.nodes.items + 1 }
-    requires count { length mirrors.old.items ≡ length prepared.now.draft.nodes.items + 1 }
-    requires mirrors { (k : ℕ) → is_standing prepared.now.draft k ≡ true → defined_at (mirror_path (node_path prepared.now.draft k)) (slice_index_or (map (λ list. list.items) mirrors.old.items) k []) ≡ held (all_mirrored prepared.now) (mirror_path (node_path prepared.now.draft k)) }
-    requires made { assembled assembly ≡ walked (fixup_lists symbols prepared.now) }
-    ensures { IfOk result (λ whole. assembled whole ≡ walked (lists symbols prepared.now)) }
-{
-    let name = lawful_name(alloc, b"__local_fixups__".as_slice())?;
-    let properties = mem::replace(&mut mirrors[0], Vec::new(alloc));
-    let mut assembly = assembly.push(alloc, 1, name, properties)?;
-    let mut place = 1;
-    'each: while place < prepared.layout.nodes.len() {
-        let node = prepared.layout.nodes[place];
-        if marks[node] {
-            let name = lawful_name(alloc, prepared.draft.nodes()[node - 1].name)?;
-            let properties = mem::replace(&mut mirrors[node], Vec::new(alloc));
-            let depth = prepared.draft.depth(node) + 1;
-            assembly = assembly.push(alloc, depth, name, properties)?;
-        }
-        place += 1;
-    }
-    Ok(assembly)
-}
-
 /// The tree with the mirror behind all other nodes, where the plugin has a phandle of its own in cells.
 pub(crate) fn with_mirror(
     alloc: Global,
@@ -162,13 +105,21 @@ pub(crate) fn with_mirror(
     if mirrored.is_empty() {
         return Ok(assembly);
     }
-    let (marks, mut lists) = marks_and_lists(alloc, prepared, mirrored)?;
-    put_mirror(
-        alloc,
-        prepared,
-        symbols,
-        marks.as_slice(),
-        &mut lists,
-        assembly,
-    )
+    let marks = mirror_marks(alloc, prepared, mirrored.as_slice())?;
+    let mut lists = mirror_lists(alloc, prepared, mirrored)?;
+    let name = lawful_name(alloc, b"__local_fixups__".as_slice())?;
+    let properties = mem::replace(&mut lists[0], Vec::new(alloc));
+    let mut assembly = assembly.push(alloc, 1, name, properties)?;
+    let mut place = 1;
+    'each: while place < prepared.layout.nodes.len() {
+        let node = prepared.layout.nodes[place];
+        if marks[node] {
+            let name = lawful_name(alloc, prepared.draft.nodes()[node - 1].name)?;
+            let properties = mem::replace(&mut lists[node], Vec::new(alloc));
+            let depth = prepared.draft.depth(node) + 1;
+            assembly = assembly.push(alloc, depth, name, properties)?;
+        }
+        place += 1;
+    }
+    Ok(assembly)
 }

@@ -1,6 +1,5 @@
 //! The numbers and the targets of a tree.
-ghost use Rattle.std.specs.Prelude.{◌≡◌, ◌==◌, ◌++◌, ◌∷◌, [], List, true, All, length, map, Ok, Err, IfOk, MatchResult, if◌then◌else◌};
-ghost use Rattle.std.specs.List.{list_any};
+ghost use Rattle.std.specs.Prelude.{◌≡◌, ◌∷◌, [], List, true, All, map, Ok, Err, IfOk, MatchResult, if◌then◌else◌};
 ghost use Rattle.dt_meaning.specs.Edits.{Definition};
 ghost use Rattle.dt_meaning.specs.Resolved.{names_taken};
 ghost use Rattle.dt_meaning.specs.Statements as meaning;
@@ -14,7 +13,6 @@ ghost use Rattle.dt_resolve.specs.BuildFault.{IsFault};
 ghost use Rattle.dt_resolve.specs.Numbers.{AreStanding};
 ghost use Rattle.dt_resolve.specs.Resolution.{IsResolved};
 ghost use Rattle.dt_resolve.specs.Private.Targets.{AreTargets};
-ghost use Rattle.dt_resolve.specs.Private.Wanted.{is_taken, labelled_rows, new_rows, numbered_rows};
 
 use crate::error::BuildError;
 use crate::labelled::named_nodes;
@@ -25,7 +23,7 @@ use crate::wanted::{number_nodes, wanting};
 use dt_draft::Draft;
 use dt_layout::Laid;
 use dt_source::Part;
-use std::alloc::{AllocError, Global};
+use std::alloc::Global;
 
 /// The numbers that a source gives, the targets of its references, and the numbers that nodes get.
 #[derive(Drop)]
@@ -33,27 +31,6 @@ pub struct Resolution {
     pub given: Given,
     pub targets: Targets,
     pub new: Vec<Numbered>,
-}
-
-// The numbers of the nodes that are named in cells and, with symbols, of the labelled ones, where the source gives them none.
-fn new_numbers<'d, 't>(
-    alloc: Global,
-    draft: &Draft<'d, &'d [Part<'t>]>,
-    order: &[usize],
-    given: &Given,
-    cells: &[usize],
-    symbols: bool,
-) -> Result<Vec<Numbered>, AllocError>
-    requires sound { IsDraft draft.now }
-    requires known { All (λ n. IsNode draft.now n) order.now }
-    requires given { AreStanding draft.now.nodes.items given.now.numbers.items }
-    requires cells { All (λ n. IsNode draft.now n) cells.now }
-    ensures { IfOk result (λ new. new.items ≡ numbered_rows (is_taken given.now.taken) (length given.now.numbers.items) 0 (new_rows (λ n. list_any (λ x. x.node == n) given.now.numbers.items) (cells.now ++ (if symbols then labelled_rows draft.now order.now else [])))) }
-{
-    let count = draft.nodes().len() + 1;
-    let named = named_nodes(alloc, draft, order, cells, symbols)?;
-    let nodes = wanting(alloc, count, given.numbers.as_slice(), named.as_slice())?;
-    number_nodes(alloc, given, nodes.as_slice())
 }
 
 /// Finds the references of a source, and numbers the nodes that are named in cells and, with symbols, the labelled ones.
@@ -88,14 +65,10 @@ pub(crate) fn resolve<'d, 't>(
         Ok(targets) => targets,
         Err(error) => return Err(error),
     };
-    let new = new_numbers(
-        alloc,
-        draft,
-        order,
-        &given,
-        targets.cells.as_slice(),
-        symbols,
-    )?;
+    let count = draft.nodes().len() + 1;
+    let named = named_nodes(alloc, draft, order, targets.cells.as_slice(), symbols)?;
+    let nodes = wanting(alloc, count, given.numbers.as_slice(), named.as_slice())?;
+    let new = number_nodes(alloc, &given, nodes.as_slice())?;
     Ok(Resolution {
         given,
         targets,

@@ -1,11 +1,20 @@
-use Rattle.std.proofs.Common.{◌≡◌, ◌<◌, ◌∙◌, length, get_or, ap, arith, false}
+use Rattle.std.proofs.Common.{◌≡◌, ◌<◌, ◌==◌, ◌∷◌, ◌∙◌, [], true, false, List, length, map, get_or, refl, ap, ap₂, sym, arith}
 use Rattle.std.proofs.lemmas.Bool.Decides.{nat_tests}
+use Rattle.std.proofs.lemmas.List.{map-set, get_or-map, get_or_default, length-map, length-set}
+use Rattle.dt_meaning.specs.Names.{local_fixups_name}
+use Rattle.dt_meaning.specs.Paths.{is_listed}
 use Rattle.dt_meaning.specs.References.{held}
 use Rattle.dt_draft.specs.Rows.{node_path}
-use Rattle.dt_build.specs.Private.Mirror.{mirror_path}
-use Rattle.dt_build.proofs.MirrorLoop.{mark-known}
-use Rattle.dt_build.proofs.MirrorPushes.{no-mirror, no-plugin, none-mirrored, top-there}
+use Rattle.dt_assembly.specs.Lists.{defined_at, with_last}
+use Rattle.dt_assembly.specs.OpenNodes.{assembled, way_of}
+use Rattle.dt_build.specs.Private.Mirror.{all_mirrored, first_mirrored, has_mirror, mirror_path, nodes_with, with_mirrors}
+use Rattle.dt_build.specs.Private.Places.{path_at}
+use Rattle.dt_layout.proofs.MakingNodes.{below-root, root-at, row-within}
+use Rattle.dt_build.proofs.MakingNodes.{lawful-read, order-of}
+use Rattle.dt_build.proofs.MirrorLoop.{first-node, fits, lists-kept, mark-read, node-is, node-known, not-zero, pushed, way-pushed}
+use Rattle.dt_build.proofs.MirrorPushes.{no-mirror, no-plugin, none-mirrored, distinct-mirror, first-same, mirror-all, mirror-more, mirror-none, other-node, top-new, top-there, way-more}
 use Rattle.dt_build.proofs.mirroring.with_mirror.Goals as goal
+use Rattle.dt_build.proofs.mirroring.with_mirror.Goals.{then-index+in_ok-name-2+in_ok-assembly-2, else-index}
 
 pub returns-then-not-prepared : goal.returns-then-not-prepared
 returns-then-not-prepared c = no-mirror c.args.symbols c.args.prepared.now c.args.assembly c.requires.made (no-plugin c.args.prepared.now c.if-not-prepared.true)
@@ -17,31 +26,269 @@ returns-then-is_empty c =
     let none : length mirrored ≡ 0 = grind (arith, nat_tests, c.is_empty.ensures, c.if-is_empty.true) in
     no-mirror c.args.symbols p c.args.assembly c.requires.made (none-mirrored (node_path p.draft) p mirrored c.in_ok-mirrored.ensures.all none)
 
-pub put_mirror-requires-clause-plugin : goal.put_mirror-requires-clause-plugin
-put_mirror-requires-clause-plugin c = c.if-not-prepared.false
+pub index_mut-requires : goal.index_mut-requires
+index_mut-requires c = omega (arith, c.in_ok-lists.ensures.count)
 
-pub put_mirror-requires-clause-root : goal.put_mirror-requires-clause-root
-put_mirror-requires-clause-root c =
+pub push-requires-clause-new : goal.push-requires-clause-new
+push-requires-clause-new c =
     let p = c.args.prepared.now in
+    let r = c.requires.ready in
+    let plugin = c.if-not-prepared.false in
     let mirrored = c.in_ok-mirrored.mirrored.items in
-    let some : 0 < length mirrored = grind (arith, nat_tests, c.is_empty.ensures, c.if-is_empty.false) in
-    top-there c.args.symbols p c.requires.ready c.requires.free c.requires.shallow c.if-not-prepared.false (node_path p.draft) mirrored c.in_ok-mirrored.ensures.all some
+    let are = c.in_ok-mirrored.ensures.all in
+    let named : c.in_ok-name.name ≡ local_fixups_name = c.in_ok-name.ensures ∙ c.as_slice-2.ensures in
+    ap (λ m. is_listed (m ∷ []) (assembled c.args.assembly).nodes) named ∙ ap (λ l. is_listed (mirror_path []) l.nodes) c.requires.made ∙ top-new c.args.symbols p r c.requires.free c.requires.shallow plugin
 
-pub put_mirror-requires-clause-marks : goal.put_mirror-requires-clause-marks
-put_mirror-requires-clause-marks c k some below =
+pub push-requires-clause-properties : goal.push-requires-clause-properties
+push-requires-clause-properties c =
     let p = c.args.prepared.now in
-    ap (λ ms. get_or ms (get_or p.layout.nodes.items k 0) false) c.as_slice.ensures.value
-    ∙ mark-known p c.requires.ready k some below c.in_ok-marks.marks.items c.in_ok-mirrored.mirrored.items c.in_ok-mirrored.ensures.all c.in_ok-marks.ensures.marks
+    let r = c.requires.ready in
+    let plugin = c.if-not-prepared.false in
+    let mirrored = c.in_ok-mirrored.mirrored.items in
+    let are = c.in_ok-mirrored.ensures.all in
+    let named : c.in_ok-name.name ≡ local_fixups_name = c.in_ok-name.ensures ∙ c.as_slice-2.ensures in
+    let ls = c.in_ok-lists.lists.items in
+    let kept = map (λ list. list.items) ls in
+    let long : 0 < length ls = omega (arith, c.in_ok-lists.ensures.count) in
+    let ps = c.replace-properties.result.items in
+    let taken : ps ≡ get_or kept 0 [] = ap (λ list. list.items) (c.replace-properties.ensures.value ∙ c.index_mut.ensures.value) ∙ sym (get_or-map (λ list. list.items) ls 0 _ [] long) in
+    let own : defined_at (mirror_path []) ps ≡ held (all_mirrored p) (mirror_path []) =
+    ap (defined_at (mirror_path [])) taken ∙ c.in_ok-lists.ensures.lists 0 refl ∙ ap (λ es. held es (mirror_path [])) are in
+    distinct-mirror p [] ps own
 
-pub put_mirror-requires-clause-long : goal.put_mirror-requires-clause-long
-put_mirror-requires-clause-long c = ap length c.as_slice.ensures.value ∙ c.in_ok-marks.ensures.long
+pub each-init : goal.each-init
+each-init c =
+    let p = c.args.prepared.now in
+    let r = c.requires.ready in
+    let plugin = c.if-not-prepared.false in
+    let mirrored = c.in_ok-mirrored.mirrored.items in
+    let are = c.in_ok-mirrored.ensures.all in
+    let named : c.in_ok-name.name ≡ local_fixups_name = c.in_ok-name.ensures ∙ c.as_slice-2.ensures in
+    let ls = c.in_ok-lists.lists.items in
+    let kept = map (λ list. list.items) ls in
+    let long : 0 < length ls = omega (arith, c.in_ok-lists.ensures.count) in
+    let ps = c.replace-properties.result.items in
+    let taken : ps ≡ get_or kept 0 [] = ap (λ list. list.items) (c.replace-properties.ensures.value ∙ c.index_mut.ensures.value) ∙ sym (get_or-map (λ list. list.items) ls 0 _ [] long) in
+    let own : defined_at (mirror_path []) ps ≡ held (all_mirrored p) (mirror_path []) =
+    ap (defined_at (mirror_path [])) taken ∙ c.in_ok-lists.ensures.lists 0 refl ∙ ap (λ es. held es (mirror_path [])) are in
+    let nonempty : 0 < length mirrored = grind (arith, nat_tests, c.is_empty.ensures, c.if-is_empty.false) in
+    let top = root-at (order-of p r) in
+    let any : 0 < length p.layout.nodes.items = omega (arith, first-node p r) in
+    let on : has_mirror p (path_at p 0) ≡ true = ap (has_mirror p) top ∙ top-there c.args.symbols p r c.requires.free c.requires.shallow plugin (node_path p.draft) mirrored are nonempty in
+    let own_top : defined_at (mirror_path (path_at p 0)) ps ≡ held (all_mirrored p) (mirror_path (path_at p 0)) = ap (λ q. defined_at (mirror_path q) ps) top ∙ own ∙ ap (λ q. held (all_mirrored p) (mirror_path q)) (sym top) in
+    record {
+      some = omega arith;
+      count = length-set ls 0 _ ∙ c.in_ok-lists.ensures.count;
+      lists = λ j past less.
+          let m = get_or p.layout.nodes.items j 0 in
+          ap (λ (vs : List (List _)). defined_at (mirror_path (path_at p j)) (get_or vs m [])) (map-set (λ list. list.items) ls 0 c.replace-properties.new.dest)
+          ∙ ap (defined_at (mirror_path (path_at p j)))
+          (lists-kept kept 0 m _ (omega (arith, long, length-map ls (λ list. list.items))) (not-zero m (below-root (order-of p r) j past less m (get_or_default p.layout.nodes.items j 0 m less))))
+          ∙ c.in_ok-lists.ensures.lists m (r.there j 0 less) ∙ ap (λ es. held es (mirror_path (path_at p j))) are;
+      made = c.in_ok-assembly.ensures.nodes ∙ ap₂ (λ m a. with_last (m ∷ []) ps a) named (c.requires.made ∙ mirror-none c.args.symbols p r c.requires.free c.requires.shallow plugin)
+          ∙ ap (λ q. with_last (mirror_path q) ps (with_mirrors c.args.symbols p (first_mirrored p 0))) (sym top) ∙ mirror-more c.args.symbols p r c.requires.free c.requires.shallow plugin 0 any on ps own_top;
+      way = c.in_ok-assembly.ensures.way ∙ ap (λ m. m ∷ []) named ∙ ap mirror_path (sym top) ∙ way-more c.args.symbols p r c.requires.free c.requires.shallow plugin 0 any on;
+    }
 
-pub put_mirror-requires-clause-count : goal.put_mirror-requires-clause-count
-put_mirror-requires-clause-count c = c.in_ok-marks.ensures.count
+pub index-node-requires : goal.index-node-requires
+index-node-requires c = omega (arith, c.each-test.true, c.len.ensures)
 
-pub put_mirror-requires-clause-mirrors : goal.put_mirror-requires-clause-mirrors
-put_mirror-requires-clause-mirrors c k there =
-    c.in_ok-marks.ensures.lists k there ∙ ap (λ es. held es (mirror_path (node_path c.args.prepared.now.draft k))) c.in_ok-mirrored.ensures.all
+pub index-requires : goal.index-requires
+index-requires c =
+    let p = c.args.prepared.now in
+    let below : c.each.place < length p.layout.nodes.items = omega (arith, c.each-test.true, c.len.ensures) in
+    omega (arith, c.in_ok-marks.ensures.count, node-known p c.requires.ready c.each.place c.each.invariant.some below c.index-node.result.now c.index-node.ensures)
+
+pub index_mut-requires-then-index : goal.index_mut-requires-then-index
+index_mut-requires-then-index c =
+    let p = c.args.prepared.now in
+    let below : c.each.place < length p.layout.nodes.items = omega (arith, c.each-test.true, c.len.ensures) in
+    omega (arith, c.each.invariant.count, node-known p c.requires.ready c.each.place c.each.invariant.some below c.index-node.result.now c.index-node.ensures)
+
+pub push-requires-then-index-clause-below : goal.push-requires-then-index-clause-below
+push-requires-then-index-clause-below c = omega arith
+
+pub overflow_sub-node : goal.overflow_sub-node
+overflow_sub-node c =
+    let p = c.args.prepared.now in
+    let r = c.requires.ready in
+    let plugin = c.if-not-prepared.false in
+    let mirrored = c.in_ok-mirrored.mirrored.items in
+    let are = c.in_ok-mirrored.ensures.all in
+    let k = c.each.place in
+    let some = c.each.invariant.some in
+    let below : k < length p.layout.nodes.items = omega (arith, c.each-test.true, c.len.ensures) in
+    let n = c.index-node.result.now in
+    let there = c.index-node.ensures in
+    below-root (order-of p r) k some below n there
+
+pub bounds-nodes-node : goal.bounds-nodes-node
+bounds-nodes-node c =
+    let p = c.args.prepared.now in
+    let r = c.requires.ready in
+    let plugin = c.if-not-prepared.false in
+    let mirrored = c.in_ok-mirrored.mirrored.items in
+    let are = c.in_ok-mirrored.ensures.all in
+    let k = c.each.place in
+    let some = c.each.invariant.some in
+    let below : k < length p.layout.nodes.items = omega (arith, c.each-test.true, c.len.ensures) in
+    let n = c.index-node.result.now in
+    let there = c.index-node.ensures in
+    row-within (order-of p r) k some below n there c.nodes.result.now c.nodes.ensures
+
+pub lawful_name-requires-then-index : goal.lawful_name-requires-then-index
+lawful_name-requires-then-index c =
+    let p = c.args.prepared.now in
+    let r = c.requires.ready in
+    let plugin = c.if-not-prepared.false in
+    let mirrored = c.in_ok-mirrored.mirrored.items in
+    let are = c.in_ok-mirrored.ensures.all in
+    let k = c.each.place in
+    let some = c.each.invariant.some in
+    let below : k < length p.layout.nodes.items = omega (arith, c.each-test.true, c.len.ensures) in
+    let n = c.index-node.result.now in
+    let there = c.index-node.ensures in
+    lawful-read p r k some below n there c.nodes.result.now c.nodes.ensures
+
+pub overflow_add-depth : goal.overflow_add-depth
+overflow_add-depth c =
+    let p = c.args.prepared.now in
+    let r = c.requires.ready in
+    let plugin = c.if-not-prepared.false in
+    let mirrored = c.in_ok-mirrored.mirrored.items in
+    let are = c.in_ok-mirrored.ensures.all in
+    let k = c.each.place in
+    let some = c.each.invariant.some in
+    let below : k < length p.layout.nodes.items = omega (arith, c.each-test.true, c.len.ensures) in
+    let n = c.index-node.result.now in
+    let there = c.index-node.ensures in
+    let on : has_mirror p (path_at p k) ≡ true =
+    sym (mark-read p r k some below n there c.in_ok-marks.marks.items mirrored c.as_slice.result.now c.in_ok-marks.ensures.count are c.as_slice.ensures.value c.in_ok-marks.ensures.marks c.index.result.now c.index.ensures) ∙ c.if-index.true in
+    omega (arith, (fits p r k some below n there c.args.symbols c.requires.free c.requires.shallow plugin on c.each.assembly c.each.invariant.made c.each.invariant.way c.nodes.result.now c.nodes.ensures c.in_ok-name-2.name c.in_ok-name-2.ensures c.depth-depth.result c.depth-depth.ensures).shallow)
+
+pub push-requires-then-index-clause-reached : goal.push-requires-then-index-clause-reached
+push-requires-then-index-clause-reached c =
+    let p = c.args.prepared.now in
+    let r = c.requires.ready in
+    let plugin = c.if-not-prepared.false in
+    let mirrored = c.in_ok-mirrored.mirrored.items in
+    let are = c.in_ok-mirrored.ensures.all in
+    let k = c.each.place in
+    let some = c.each.invariant.some in
+    let below : k < length p.layout.nodes.items = omega (arith, c.each-test.true, c.len.ensures) in
+    let n = c.index-node.result.now in
+    let there = c.index-node.ensures in
+    let on : has_mirror p (path_at p k) ≡ true =
+    sym (mark-read p r k some below n there c.in_ok-marks.marks.items mirrored c.as_slice.result.now c.in_ok-marks.ensures.count are c.as_slice.ensures.value c.in_ok-marks.ensures.marks c.index.result.now c.index.ensures) ∙ c.if-index.true in
+    (fits p r k some below n there c.args.symbols c.requires.free c.requires.shallow plugin on c.each.assembly c.each.invariant.made c.each.invariant.way c.nodes.result.now c.nodes.ensures c.in_ok-name-2.name c.in_ok-name-2.ensures c.depth-depth.result c.depth-depth.ensures).reached
+
+pub push-requires-then-index-clause-shallow : goal.push-requires-then-index-clause-shallow
+push-requires-then-index-clause-shallow c =
+    let p = c.args.prepared.now in
+    let r = c.requires.ready in
+    let plugin = c.if-not-prepared.false in
+    let mirrored = c.in_ok-mirrored.mirrored.items in
+    let are = c.in_ok-mirrored.ensures.all in
+    let k = c.each.place in
+    let some = c.each.invariant.some in
+    let below : k < length p.layout.nodes.items = omega (arith, c.each-test.true, c.len.ensures) in
+    let n = c.index-node.result.now in
+    let there = c.index-node.ensures in
+    let on : has_mirror p (path_at p k) ≡ true =
+    sym (mark-read p r k some below n there c.in_ok-marks.marks.items mirrored c.as_slice.result.now c.in_ok-marks.ensures.count are c.as_slice.ensures.value c.in_ok-marks.ensures.marks c.index.result.now c.index.ensures) ∙ c.if-index.true in
+    (fits p r k some below n there c.args.symbols c.requires.free c.requires.shallow plugin on c.each.assembly c.each.invariant.made c.each.invariant.way c.nodes.result.now c.nodes.ensures c.in_ok-name-2.name c.in_ok-name-2.ensures c.depth-depth.result c.depth-depth.ensures).shallow
+
+pub push-requires-then-index-clause-new : goal.push-requires-then-index-clause-new
+push-requires-then-index-clause-new c =
+    let p = c.args.prepared.now in
+    let r = c.requires.ready in
+    let plugin = c.if-not-prepared.false in
+    let mirrored = c.in_ok-mirrored.mirrored.items in
+    let are = c.in_ok-mirrored.ensures.all in
+    let k = c.each.place in
+    let some = c.each.invariant.some in
+    let below : k < length p.layout.nodes.items = omega (arith, c.each-test.true, c.len.ensures) in
+    let n = c.index-node.result.now in
+    let there = c.index-node.ensures in
+    let on : has_mirror p (path_at p k) ≡ true =
+    sym (mark-read p r k some below n there c.in_ok-marks.marks.items mirrored c.as_slice.result.now c.in_ok-marks.ensures.count are c.as_slice.ensures.value c.in_ok-marks.ensures.marks c.index.result.now c.index.ensures) ∙ c.if-index.true in
+    (fits p r k some below n there c.args.symbols c.requires.free c.requires.shallow plugin on c.each.assembly c.each.invariant.made c.each.invariant.way c.nodes.result.now c.nodes.ensures c.in_ok-name-2.name c.in_ok-name-2.ensures c.depth-depth.result c.depth-depth.ensures).new
+
+pub push-requires-then-index-clause-properties : goal.push-requires-then-index-clause-properties
+push-requires-then-index-clause-properties c =
+    let p = c.args.prepared.now in
+    let r = c.requires.ready in
+    let plugin = c.if-not-prepared.false in
+    let mirrored = c.in_ok-mirrored.mirrored.items in
+    let are = c.in_ok-mirrored.ensures.all in
+    let k = c.each.place in
+    let some = c.each.invariant.some in
+    let below : k < length p.layout.nodes.items = omega (arith, c.each-test.true, c.len.ensures) in
+    let n = c.index-node.result.now in
+    let there = c.index-node.ensures in
+    let ls = c.each.lists.items in
+    let kept = map (λ list. list.items) ls in
+    let within : n < length ls = omega (arith, c.each.invariant.count, node-known p r k some below n there) in
+    let ps = c.replace-properties-then-index.result.items in
+    let taken : ps ≡ get_or kept n [] = ap (λ list. list.items) (c.replace-properties-then-index.ensures.value ∙ c.index_mut-then-index.ensures.value) ∙ sym (get_or-map (λ list. list.items) ls n _ [] within) in
+    let own : defined_at (mirror_path (path_at p k)) ps ≡ held (all_mirrored p) (mirror_path (path_at p k)) =
+    ap (defined_at (mirror_path (path_at p k))) (taken ∙ ap (λ m. get_or kept m []) (node-is p r k some below n there)) ∙ c.each.invariant.lists k (omega arith) below in
+    distinct-mirror p (path_at p k) ps own
+
+pub each-preserved : goal.each-preserved
+each-preserved c =
+    let p = c.args.prepared.now in
+    let r = c.requires.ready in
+    let plugin = c.if-not-prepared.false in
+    let mirrored = c.in_ok-mirrored.mirrored.items in
+    let are = c.in_ok-mirrored.ensures.all in
+    let k = c.each.place in
+    let some = c.each.invariant.some in
+    let below : k < length p.layout.nodes.items = omega (arith, c.each-test.true, c.len.ensures) in
+    let n = c.index-node.result.now in
+    let there = c.index-node.ensures in
+    elim c.if-index.branch [
+      | then-index+in_ok-name-2+in_ok-assembly-2 w ↦
+          let on : has_mirror p (path_at p k) ≡ true =
+          sym (mark-read p r k some below n there c.in_ok-marks.marks.items mirrored c.as_slice.result.now c.in_ok-marks.ensures.count are c.as_slice.ensures.value c.in_ok-marks.ensures.marks c.index.result.now c.index.ensures) ∙ w.if-index.true in
+          let ls = c.each.lists.items in
+          let kept = map (λ list. list.items) ls in
+          let within : n < length ls = omega (arith, c.each.invariant.count, node-known p r k some below n there) in
+          let ps = w.replace-properties-then-index.result.items in
+          let taken : ps ≡ get_or kept n [] = ap (λ list. list.items) (w.replace-properties-then-index.ensures.value ∙ w.index_mut-then-index.ensures.value) ∙ sym (get_or-map (λ list. list.items) ls n _ [] within) in
+          let own : defined_at (mirror_path (path_at p k)) ps ≡ held (all_mirrored p) (mirror_path (path_at p k)) =
+          ap (defined_at (mirror_path (path_at p k))) (taken ∙ ap (λ m. get_or kept m []) (node-is p r k some below n there)) ∙ c.each.invariant.lists k (omega arith) below in
+          record {
+            some = omega (arith, some);
+            count = ap (λ v. length v.items) w.lists-is ∙ length-set ls n _ ∙ c.each.invariant.count;
+            lists = λ j past less.
+                let m = get_or p.layout.nodes.items j 0 in
+                let other = other-node c.args.symbols p r c.requires.free c.requires.shallow plugin k j (omega (arith, past)) less in
+                ap (λ v. defined_at (mirror_path (path_at p j)) (get_or (map (λ list. list.items) v.items) m [])) w.lists-is
+                ∙ ap (λ (vs : List (List _)). defined_at (mirror_path (path_at p j)) (get_or vs m [])) (map-set (λ list. list.items) ls n w.replace-properties-then-index.new.dest)
+                ∙ ap (defined_at (mirror_path (path_at p j))) (lists-kept kept n m _ (omega (arith, within, length-map ls (λ list. list.items))) (ap (λ i. m == i) (node-is p r k some below n there) ∙ other))
+                ∙ c.each.invariant.lists j (omega (arith, past)) less;
+            made = ap assembled w.assembly-is ∙ pushed p r k some below n there c.args.symbols c.requires.free c.requires.shallow plugin on c.each.assembly c.each.invariant.made c.each.invariant.way w.nodes.result.now w.nodes.ensures w.in_ok-name-2.name w.in_ok-name-2.ensures w.depth-depth.result w.depth-depth.ensures w.in_ok-assembly-2.assembly ps own w.in_ok-assembly-2.ensures.nodes;
+            way = ap way_of w.assembly-is ∙ way-pushed p r k some below n there c.args.symbols c.requires.free c.requires.shallow plugin on c.each.assembly c.each.invariant.made c.each.invariant.way w.nodes.result.now w.nodes.ensures w.in_ok-name-2.name w.in_ok-name-2.ensures w.depth-depth.result w.depth-depth.ensures w.in_ok-assembly-2.assembly w.in_ok-assembly-2.ensures.way;
+          }
+      | else-index w ↦
+          let off : has_mirror p (path_at p k) ≡ false =
+          sym (mark-read p r k some below n there c.in_ok-marks.marks.items mirrored c.as_slice.result.now c.in_ok-marks.ensures.count are c.as_slice.ensures.value c.in_ok-marks.ensures.marks c.index.result.now c.index.ensures) ∙ w.if-index.false in
+          let same = first-same c.args.symbols p r c.requires.free c.requires.shallow plugin k below off in
+          record {
+            some = omega (arith, some);
+            count = ap (λ v. length v.items) w.lists-is ∙ c.each.invariant.count;
+            lists = λ j past less. ap (λ v. defined_at (mirror_path (path_at p j)) (get_or (map (λ list. list.items) v.items) (get_or p.layout.nodes.items j 0) [])) w.lists-is ∙ c.each.invariant.lists j (omega (arith, past)) less;
+            made = ap assembled w.assembly-is ∙ c.each.invariant.made ∙ ap (with_mirrors c.args.symbols p) (sym same);
+            way = ap way_of w.assembly-is ∙ c.each.invariant.way ∙ ap (λ qs. get_or ([] ∷ nodes_with c.args.symbols p qs) (length (nodes_with c.args.symbols p qs)) []) (sym same);
+          }
+    ]
 
 pub returns : goal.returns
-returns c = c.put_mirror.ensures
+returns c =
+    let p = c.args.prepared.now in
+    let r = c.requires.ready in
+    let plugin = c.if-not-prepared.false in
+    let mirrored = c.in_ok-mirrored.mirrored.items in
+    let are = c.in_ok-mirrored.ensures.all in
+    c.each.invariant.made ∙ mirror-all c.args.symbols p r c.requires.free c.requires.shallow plugin c.each.place (omega (arith, c.each-test.false, c.len.ensures))

@@ -1,5 +1,4 @@
-use Rattle.std.proofs.Common.{◌≡◌, ◌∙◌, ◌==◌, ◌++◌, if◌then◌else◌, [], ℕ, List, map, length, Ok, sym, ap, subst}
-use Rattle.std.specs.Prelude.{All}
+use Rattle.std.proofs.Common.{◌≡◌, ◌∙◌, ◌==◌, ◌++◌, if◌then◌else◌, [], ℕ, List, map, length, Ok, sym, ap, ap₂, subst, arith}
 use Rattle.std.specs.List.{list_any}
 use Rattle.dt_meaning.specs.Phandles.{given_of, has_number}
 use Rattle.dt_meaning.specs.References.{each, found_value, in_order, references}
@@ -7,12 +6,14 @@ use Rattle.dt_meaning.specs.Resolved.{names_taken}
 use Rattle.dt_meaning.specs.Statements.{then_do}
 use Rattle.dt_draft.specs.declared.table.NodeRow.{NodeRow}
 use Rattle.dt_draft.specs.Rows.{IsNode}
+use Rattle.dt_layout.proofs.Each.{Each, each-all}
 use Rattle.dt_edit.specs.Said.{tree_of}
+use Rattle.dt_resolve.specs.declared.numbers.Numbered.{Numbered}
 use Rattle.dt_resolve.specs.Numbers.{AreStanding, number_at}
 use Rattle.dt_resolve.specs.Private.Wanted.{is_taken, labelled_rows, new_rows, numbered_rows}
 use Rattle.dt_resolve.specs.Private.Laid.{read_laid}
 use Rattle.dt_resolve.proofs.Faults.{fault-then, fault-same}
-use Rattle.dt_resolve.proofs.Joined.{all-numbered, fault-behind, free-fault, new-standing}
+use Rattle.dt_resolve.proofs.Joined.{all-numbered, fault-behind, free-fault, named-within, new-standing}
 use Rattle.dt_resolve.proofs.ReadOrder.{read-order}
 use Rattle.dt_resolve.proofs.resolving.resolve.Goals as goal
 
@@ -39,11 +40,13 @@ returns-in-Err-find_targets-clause-resolved c =
     (fault-behind e (given_of (in_order (tree_of d)) []) (references c.args.plugin (tree_of d)) numbers given
     (fault-same e (each (found_value c.args.plugin (tree_of d)) (map (read_laid d.nodes.items) xs)) (references c.args.plugin (tree_of d)) (ap (each (found_value c.args.plugin (tree_of d))) (sym order)) c.in-Err-find_targets.ensures.targets))
 
-pub new_numbers-requires-clause-given : goal.new_numbers-requires-clause-given
-new_numbers-requires-clause-given c = subst (λ (rows : List NodeRow). AreStanding rows c.in-Ok.given.numbers.items) c.nodes.ensures c.in-Ok.ensures.owners
-
-pub new_numbers-requires-clause-cells : goal.new_numbers-requires-clause-cells
-new_numbers-requires-clause-cells c = subst (λ (ns : List ℕ). All (λ n. IsNode c.args.draft.now n) ns) (sym c.as_slice.ensures.value) c.in-Ok-find_targets.ensures.known.known
+pub wanting-requires-clause-named : goal.wanting-requires-clause-named
+wanting-requires-clause-named c k x below =
+    let d = c.args.draft.now in
+    let named = c.as_slice-3.ensures.value ∙ c.in_ok-named.ensures ∙ ap (λ (ns : List ℕ). ns ++ (if c.args.symbols then labelled_rows d c.args.order.now else [])) c.as_slice.ensures.value in
+    let all = subst (λ (ns : List ℕ). Each (λ n. IsNode d n) ns) (sym named)
+    (named-within (λ n. IsNode d n) d c.args.symbols c.in-Ok-find_targets.targets.cells.items c.args.order.now c.in-Ok-find_targets.ensures.known.known c.requires.known) in
+    omega (arith, ap length c.nodes-2.ensures, each-all (λ n. IsNode d n) c.as_slice-3.result.now all k x below)
 
 pub returns-clause-given : goal.returns-clause-given
 returns-clause-given c = subst (λ (rows : List NodeRow). AreStanding rows c.in-Ok.given.numbers.items) c.nodes.ensures c.in-Ok.ensures.owners
@@ -55,9 +58,11 @@ returns-clause-new c =
     let taken = is_taken c.in-Ok.given.taken in
     let t = c.in-Ok-find_targets.targets in
     let order = c.args.order.now in
+    let named = c.as_slice-3.ensures.value ∙ c.in_ok-named.ensures ∙ ap (λ (ns : List ℕ). ns ++ (if c.args.symbols then labelled_rows d order else [])) c.as_slice.ensures.value in
+    let nodes = c.as_slice-4.ensures.value ∙ c.in_ok-nodes.ensures
+    ∙ ap₂ (λ (gs : List Numbered) (ns : List ℕ). new_rows (λ n. list_any (λ x. x.node == n) gs) ns) c.as_slice-2.ensures.value named in
     new-standing d t c.in-Ok-find_targets.ensures.known c.args.symbols order c.requires.known c.requires.there (λ n. list_any (λ x. x.node == n) given) taken (length given) c.in_ok-new.new.items
-    (c.in_ok-new.ensures
-    ∙ ap (λ (cells : List ℕ). numbered_rows taken (length given) 0 (new_rows (λ n. list_any (λ x. x.node == n) given) (cells ++ (if c.args.symbols then labelled_rows d order else [])))) c.as_slice.ensures.value)
+    (c.in_ok-new.ensures ∙ ap (numbered_rows taken (length given) 0) nodes)
 
 pub returns-clause-resolved : goal.returns-clause-resolved
 returns-clause-resolved c =
@@ -69,8 +74,9 @@ returns-clause-resolved c =
     let t = c.in-Ok-find_targets.targets in
     let found = c.in-Ok-find_targets.ensures.targets in
     let up = subst (λ (rows : List NodeRow). AreStanding rows given) c.nodes.ensures c.in-Ok.ensures.owners in
-    let new = c.in_ok-new.ensures
-    ∙ ap (λ (cells : List ℕ). numbered_rows taken (length given) 0 (new_rows (λ n. list_any (λ x. x.node == n) given) (cells ++ (if c.args.symbols then labelled_rows d c.args.order.now else [])))) c.as_slice.ensures.value in (
+    let named = c.as_slice-3.ensures.value ∙ c.in_ok-named.ensures ∙ ap (λ (ns : List ℕ). ns ++ (if c.args.symbols then labelled_rows d c.args.order.now else [])) c.as_slice.ensures.value in
+    let nodes = c.as_slice-4.ensures.value ∙ c.in_ok-nodes.ensures
+    ∙ ap₂ (λ (gs : List Numbered) (ns : List ℕ). new_rows (λ n. list_any (λ x. x.node == n) gs) ns) c.as_slice-2.ensures.value named in (
       found.0,
       record {
         free = sym c.is_name_taken.ensures ∙ c.if-is_name_taken.false;
@@ -80,6 +86,6 @@ returns-clause-resolved c =
         targets = found.2;
         new = all-numbered d c.requires.sound given up found.0 t found.2 c.in-Ok-find_targets.ensures.known taken
             (λ n. c.in-Ok.ensures.taken n ∙ ap (λ (rows : List NodeRow). has_number n (map (number_at rows) given)) c.nodes.ensures) c.args.symbols c.args.order.now c.requires.there c.requires.nodes c.in_ok-new.new.items
-            new;
+            (c.in_ok-new.ensures ∙ ap (numbered_rows taken (length given) 0) nodes);
       },
     )

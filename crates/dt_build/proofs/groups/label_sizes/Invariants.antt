@@ -1,5 +1,5 @@
 use Rattle.dt_build.specs.Private.Spots.{IsWalk, weight}
-use Rattle.dt_build.proofs.groups.count_spots.Given as goal
+use Rattle.dt_build.proofs.groups.label_sizes.Given as goal
 
 abbrev pub invariant-loop-at : goal.invariant-loop-at
 invariant-loop-at l = IsWalk l.prepared l.at

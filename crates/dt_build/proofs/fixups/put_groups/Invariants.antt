@@ -1,7 +1,0 @@
-use Rattle.std.proofs.Common.{◌≡◌, ◌++◌}
-use Rattle.dt_assembly.specs.Lists.{defined_at}
-use Rattle.dt_build.specs.Private.Groups.{fixups_path, given}
-use Rattle.dt_build.proofs.fixups.put_groups.Given as goal
-
-abbrev pub invariant-loop-group : goal.invariant-loop-group
-invariant-loop-group l = defined_at fixups_path l.properties.items ++ given l.group-iterator.rest.items ≡ defined_at fixups_path l.fn.properties.items ++ given l.fn.groups.items
