@@ -1,12 +1,15 @@
 -- From a source that is prepared to its tree.
-use Rattle.std.proofs.Common.{◌≡◌, ℕ, Bool, true, false, List, Option, Some, None, ap, ◌∙◌}
-use Rattle.std.specs.List.{list_any}
-use Rattle.dt_tree.specs.TreeData.{TreeData}
+use Rattle.std.proofs.Common.{◌≡◌, ℕ, ◌<◌, ◌≤◌, ◌-◌, ◌^◌, min, arith, Bool, true, false, List, Option, Some, None, ap, ◌∙◌}
+use Rattle.std.specs.List.{filter, list_any}
+use Rattle.dt_tree.specs.NodeData.{NodeData}
+use Rattle.dt_tree.specs.PathMap.{path_map, tree_map}
+use Rattle.dt_tree.specs.TreeData.{TreeData, is_reserve, tree_data}
 use Rattle.dt_source.specs.declared.tree.Source.{Source}
 use Rattle.dt_source.specs.Lawful.{IsLawful}
 use Rattle.dt_source.specs.Meaning as said
 use Rattle.dt_meaning.specs.Syntax.{Meaning}
 use Rattle.dt_meaning.specs.Edits.{Definition}
+use Rattle.dt_meaning.specs.MapOf.{map_of, tree_map_of}
 use Rattle.dt_meaning.specs.References.{Found}
 use Rattle.dt_meaning.specs.Resolved.{is_too_deep, names_taken, resolved}
 use Rattle.dt_edit.specs.Said.{tree_of}
@@ -35,6 +38,17 @@ refused symbols m DuplicateInBody h = h
 refused symbols m PathInPlugin h = h
 refused symbols m ReservedName h = h
 refused symbols m TooDeep h = h
+
+-- values that are no longer than a limit below the greatest number
+pub fits-within : (size limit counted : ℕ) → counted ≡ min size (2 ^ 64 - 1) → counted ≤ limit → limit < 2 ^ 64 - 1 → size ≤ limit
+fits-within size limit counted is less small = omega (arith, is, less, small)
+
+pub too-long : (size limit counted : ℕ) → counted ≡ min size (2 ^ 64 - 1) → limit < counted → limit < size
+too-long size limit counted is more = omega (arith, is, more)
+
+pub tree-made : (symbols : Bool) (source : Source) (p : Prepared) (rs : List (ℕ × ℕ)) (root : NodeData) (t : TreeData) → t ≡ tree_data (filter is_reserve rs) 0 root → rs ≡ source.reserves.items
+    → path_map root ≡ map_of (lists symbols p) → tree_map t ≡ tree_map_of (meaning_of source) (lists symbols p)
+tree-made symbols source p rs root t is same made = ap tree_map is ∙ (λ i. record { nodes = made i; reserves = filter is_reserve (same i); boot_cpu = 0 })
 
 module _ (symbols : Bool) (source : Source) (es : List (Definition (List Found))) (p : Prepared) (is : IsPrepared symbols (meaning_of source) es p) where
   pub prepared-ready : IsLawful (said.meaning source) → IsReady p

@@ -198,3 +198,9 @@ walked-lists p ready free l ls are =
 -- without symbols, or without labels, there is nothing more
 pub lists-bare : (symbols : Bool) (p : Prepared) → when symbols (map symbol (tree_of p.draft).labels) ≡ [] → symbol_lists symbols p ≡ plain_lists p
 lists-bare symbols p none = ap (λ es. with_more es (plain_lists p)) none ∙ with-none (plain_lists p)
+
+-- an ordinary source has no fixups
+pub lists-ordinary : (symbols : Bool) (p : Prepared) → p.plugin ≡ false → lists symbols p ≡ symbol_lists symbols p
+lists-ordinary symbols p ordinary =
+    ap (λ b. let xs = when b (places (all_numbers p) (founds p)) in with_more (local_fixups xs []) (with_more (fixups xs []) (symbol_lists symbols p))) ordinary
+    ∙ with-none (with_more [] (symbol_lists symbols p)) ∙ with-none (symbol_lists symbols p)

@@ -12,9 +12,22 @@ use Rattle.dt_build.specs.Private.Places.{path_at}
 use Rattle.dt_layout.proofs.MakingNodes.{below-root, root-at, row-within}
 use Rattle.dt_build.proofs.MakingNodes.{lawful-read, order-of}
 use Rattle.dt_build.proofs.MirrorLoop.{first-node, fits, lists-kept, mark-read, node-is, node-known, not-zero, pushed, way-pushed}
-use Rattle.dt_build.proofs.MirrorPushes.{distinct-mirror, first-same, mirror-all, mirror-more, mirror-none, other-node, top-new, top-there, way-more}
+use Rattle.dt_build.proofs.MirrorPushes.{no-mirror, no-plugin, none-mirrored, distinct-mirror, first-same, mirror-all, mirror-more, mirror-none, other-node, top-new, top-there, way-more}
 use Rattle.dt_build.proofs.mirroring.with_mirror.Goals as goal
 use Rattle.dt_build.proofs.mirroring.with_mirror.Goals.{then-index+in_ok-name-2+in_ok-assembly-2, else-index}
+
+pub returns-then-not-prepared : goal.returns-then-not-prepared
+returns-then-not-prepared c = no-mirror c.args.symbols c.args.prepared.now c.args.assembly c.requires.made (no-plugin c.args.prepared.now c.if-not-prepared.true)
+
+pub returns-then-is_empty : goal.returns-then-is_empty
+returns-then-is_empty c =
+    let p = c.args.prepared.now in
+    let mirrored = c.in_ok-mirrored.mirrored.items in
+    let none : length mirrored ≡ 0 = grind (arith, nat_tests, c.is_empty.ensures, c.if-is_empty.true) in
+    no-mirror c.args.symbols p c.args.assembly c.requires.made (none-mirrored (node_path p.draft) p mirrored c.in_ok-mirrored.ensures.all none)
+
+pub index_mut-requires : goal.index_mut-requires
+index_mut-requires c = omega (arith, c.in_ok-lists.ensures.count)
 
 pub push-requires-clause-new : goal.push-requires-clause-new
 push-requires-clause-new c =
@@ -76,6 +89,24 @@ each-init c =
           ∙ ap (λ q. with_last (mirror_path q) ps (with_mirrors c.args.symbols p (first_mirrored p 0))) (sym top) ∙ mirror-more c.args.symbols p r c.requires.free c.requires.shallow plugin 0 any on ps own_top;
       way = c.in_ok-assembly.ensures.way ∙ ap (λ m. m ∷ []) named ∙ ap mirror_path (sym top) ∙ way-more c.args.symbols p r c.requires.free c.requires.shallow plugin 0 any on;
     }
+
+pub index-node-requires : goal.index-node-requires
+index-node-requires c = omega (arith, c.each-test.true, c.len.ensures)
+
+pub index-requires : goal.index-requires
+index-requires c =
+    let p = c.args.prepared.now in
+    let below : c.each.place < length p.layout.nodes.items = omega (arith, c.each-test.true, c.len.ensures) in
+    omega (arith, c.in_ok-marks.ensures.count, node-known p c.requires.ready c.each.place c.each.invariant.some below c.index-node.result.now c.index-node.ensures)
+
+pub index_mut-requires-then-index : goal.index_mut-requires-then-index
+index_mut-requires-then-index c =
+    let p = c.args.prepared.now in
+    let below : c.each.place < length p.layout.nodes.items = omega (arith, c.each-test.true, c.len.ensures) in
+    omega (arith, c.each.invariant.count, node-known p c.requires.ready c.each.place c.each.invariant.some below c.index-node.result.now c.index-node.ensures)
+
+pub push-requires-then-index-clause-below : goal.push-requires-then-index-clause-below
+push-requires-then-index-clause-below c = omega arith
 
 pub overflow_sub-node : goal.overflow_sub-node
 overflow_sub-node c =

@@ -1,11 +1,12 @@
-use Rattle.std.proofs.Common.{◌+◌, List, [], ◌∷◌, ◌++◌, map, drop, subst}
+use Rattle.std.proofs.lemmas.List.{drop_all}
+use Rattle.std.proofs.Common.{◌≡◌, ◌+◌, ap, List, [], ◌∷◌, ◌++◌, map, drop, subst}
 use Rattle.dt_meaning.specs.Syntax.{Piece}
 use Rattle.dt_meaning.specs.Edits.{Definition, definition}
 use Rattle.dt_meaning.specs.References.{found_value}
 use Rattle.dt_edit.specs.Said.{tree_of}
 use Rattle.dt_resolve.specs.Private.Laid.{read_laid}
-use Rattle.dt_resolve.proofs.EachSteps.{IsSoFar, so-far-more, left-read}
-use Rattle.dt_resolve.proofs.FindingSteps.{found-more, value-found}
+use Rattle.dt_resolve.proofs.EachSteps.{IsSoFar, so-far-all, so-far-more, so-far-stops, left-read}
+use Rattle.dt_resolve.proofs.FindingSteps.{found-more, value-fault, value-found}
 use Rattle.dt_resolve.proofs.references.find_targets.Goals as goal
 
 pub loop-property-preserved : goal.loop-property-preserved
@@ -30,3 +31,27 @@ loop-property-preserved c =
         found = found-more d i.0 e.path e.name step.0 c.loop-property.targets c.find_value.new.targets i.1.found step.2;
       },
     )
+
+pub returns-clause-targets : goal.returns-clause-targets
+returns-clause-targets c =
+    let d = c.args.draft.now in
+    let read = read_laid d.nodes.items in
+    let properties = c.args.properties.now in
+    let f = found_value c.args.plugin (tree_of d) in
+    let i = c.loop-property.invariant in
+    let none : map read (drop c.loop-property.property-index properties) ≡ [] = ap (map read) (drop_all c.loop-property.property-index properties c.loop-property-test.false) in
+    (i.0, so-far-all f i.0 (map read properties) (subst (λ (es : List (Definition (List Piece))). IsSoFar f i.0 es (map read properties)) none i.1.so_far), i.1.found)
+
+pub returns-in-Err-clause-targets : goal.returns-in-Err-clause-targets
+returns-in-Err-clause-targets c =
+    let d = c.args.draft.now in
+    let read = read_laid d.nodes.items in
+    let properties = c.args.properties.now in
+    let k = c.loop-property.property-index in
+    let x = c.property-item.result in
+    let f = found_value c.args.plugin (tree_of d) in
+    let all = map read properties in
+    let i = c.loop-property.invariant in
+    so-far-stops f i.0 (read x) (map read (drop (k + 1) properties)) all c.in-Err.error
+    (subst (λ (es : List (Definition (List Piece))). IsSoFar f i.0 es all) (left-read read properties k x c.loop-property-test.true c.property-item.is) i.1.so_far)
+    (value-fault c.args.plugin (tree_of d) (read x) c.in-Err.error c.in-Err.ensures.step)
