@@ -1,5 +1,6 @@
 pub mod Loops
 pub mod Semicolons
+pub mod Deletions
 pub mod CellLoops
 pub mod Chars
 pub mod PieceLoops
