@@ -1,4 +1,4 @@
-use Rattle.std.proofs.Common.{◌∙◌, ap}
+use Rattle.std.proofs.Common.{rules, ◌∙◌, ap}
 use Rattle.dt_meaning.specs.MapOf.{map_of}
 use Rattle.dt_assembly.specs.Lists.{lists_of}
 use Rattle.dt_assembly.proofs.TreeLists.{map-lists}
@@ -7,3 +7,6 @@ use Rattle.dt_assembly.proofs.assembly.Assembly.finish.Goals as goal
 pub returns-clause-map : goal.returns-clause-map
 returns-clause-map c =
     map-lists c.closed-root.result c.check.ensures ∙ ap (λ b. map_of (lists_of b)) (c.closed-root.ensures ∙ c.in_ok-closed_to.ensures.tree)
+
+pub closed-root-requires : goal.closed-root-requires
+closed-root-requires c = search rules
