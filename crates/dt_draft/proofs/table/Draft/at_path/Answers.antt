@@ -1,4 +1,4 @@
-use Rattle.std.proofs.Common.{◌≡◌, Option, ℕ, refl, sym, ap, ◌∙◌, subst, arith}
+use Rattle.std.proofs.Common.{rules, ◌≡◌, Option, ℕ, refl, sym, ap, ◌∙◌, subst, arith}
 use Rattle.dt_tree.specs.Path.{path_names}
 use Rattle.dt_draft.specs.Index.{row_of}
 use Rattle.dt_draft.specs.Private.Ways.{row_behind}
@@ -40,3 +40,6 @@ returns-clause-there g c =
     let same : c.follow.result ≡ row_behind found 0 names = c.follow.ensures ∙ ap (λ ns. row_behind found 0 ns) (names-split c.args.path.now (omega (arith, c.if-path-lt2.false))) in
     there-found rows found grown indexed names c.follow.result
     (subst (λ (o : Option ℕ). Leads rows found grown indexed 0 names o) (sym same) (way-leads rows found grown indexed names 0 (omega arith) refl))
+
+pub returns-then-path-lt2-clause-path : goal.returns-then-path-lt2-clause-path
+returns-then-path-lt2-clause-path c = search rules

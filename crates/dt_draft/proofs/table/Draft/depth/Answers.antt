@@ -1,4 +1,4 @@
-use Rattle.std.proofs.Common.{◌≡◌, ◌+◌, ◌-◌, ◌<◌, suc, length, sym, ap, ◌∙◌, arith}
+use Rattle.std.proofs.Common.{rules, ◌≡◌, ◌+◌, ◌-◌, ◌<◌, suc, length, sym, ap, ◌∙◌, arith}
 use Rattle.std.proofs.lemmas.List.{get_or_default, length_push}
 use Rattle.dt_draft.specs.Rows.{no_row, row_at, path_of}
 use Rattle.dt_draft.proofs.Climbs.{path-step}
@@ -22,3 +22,6 @@ up-preserved g c =
       climbed = omega (arith, grown, parent, c.up.invariant.climbed);
       same = omega (arith, longer, c.up.invariant.same);
     }
+
+pub up-init : goal.up-init
+up-init c = search rules
