@@ -1,4 +1,4 @@
-use Rattle.std.proofs.Common.{◌≡◌, ◌-◌, suc, arith}
+use Rattle.std.proofs.Common.{◌≡◌, ◌-◌, suc, arith, rules}
 use Rattle.dt_source.specs.Tree.{target_view}
 use Rattle.dt_draft.specs.Rows.{node_path}
 use Rattle.dt_edit.specs.Said as said
@@ -12,3 +12,6 @@ returns-clause-item c n =
     let at : node ≡ suc (node - 1) = omega (arith, c.if-node-eq0.false) in
     node-deleted n old c.remove_node.new.self (said.target_of (target_view c.args.target.now)) (node_path old node) c.in_ok-node.ensures.node
     (not-root old c.requires.sound node (node - 1) at) c.remove_node.ensures.state
+
+pub returns-then-node-eq0-clause-item : goal.returns-then-node-eq0-clause-item
+returns-then-node-eq0-clause-item c = search rules
