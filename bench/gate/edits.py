@@ -3,9 +3,8 @@
 
     (cd crates/NAME && rt check --jobs 1); python3 bench/gate/edits.py NAME [EDIT ..]
 
-Each edit is checked over a copy of what the crate's own check kept, so that the first one costs no proof of the crate. The check
-of an edit proves again what the edit before it had changed, as it does in the gate. `offers` is the message of a goal that stays
-open; it isn't put together where an answer by hand fails.
+Each edit is checked over a copy of what the crate's own check kept, as in the gate, so that none costs a proof of the crate and
+none pays for another. `offers` is the message of a goal that stays open; it isn't put together where an answer by hand fails.
 """
 import importlib.machinery
 import importlib.util
@@ -34,9 +33,9 @@ def spent():
 
 
 def told(said):
-    """The first line that tells why an edited crate is refused."""
-    lines = [it for it in said.split("\n") if re.search(r": error: |it is not proved that", it)]
-    return lines[0][:140] if lines else "not refused"
+    """The lines that tell why an edited crate is refused."""
+    lines = [it[:140] for it in said.split("\n") if re.search(r": error: |it is not proved that", it)]
+    return "\n            ".join(["", *lines]) if lines else "not refused"
 
 
 def main():
@@ -47,12 +46,12 @@ def main():
     edits = [it for it in rt.edits_of(crate)[0] if not chosen or os.path.basename(it).removesuffix(".edit") in chosen]
     with tempfile.TemporaryDirectory() as room:
         kept, times = f"{room}/kept", f"{room}/times"
-        shutil.copytree(f"{crate.folder}/out/incremental", kept)
         for edit in [None, *edits]:
             texts, why = rt.read_edit(edit, crate.folder) if edit else ({}, None)
             if why:
                 print(f"{os.path.basename(edit)}: {why}")
                 continue
+            rt.linked(f"{crate.folder}/out/incremental", kept)
             before = spent()
             ran = rt.checked(crate, texts, ["--jobs", "1", "--stage-times", times], kept)
             with open(times, encoding="utf-8") as file:
@@ -60,6 +59,7 @@ def main():
             stages = ", ".join(f"{row[1]} {float(row[2]):.1f}" for row in rows if float(row[2]) >= 0.5)
             shown = os.path.basename(edit).removesuffix(".edit") if edit else "nothing changed"
             print(f"{spent() - before:6.1f}  {shown}: {stages}" + (f"; {told(ran.stdout)}" if edit else ""), flush=True)
+            shutil.rmtree(kept)
     return 0
 
 

@@ -1,6 +1,7 @@
-//! The worked rows of the engines, as tables: what a row gives is what the definitions say of it, worked by hand.
+//! The worked rows of the engines and of the program, as tables: what a row gives is what the definitions say of it, worked by
+//! hand.
 //!
-//! The tests stand here, above the crate of the engines, so that no crate is proved a second time for them.
+//! The tests stand here, above the crates of the engines and of the program, so that no crate is proved a second time for them.
 #![tactic(auto)]
 
 #[cfg(test)]
@@ -15,3 +16,5 @@ mod overlaying;
 mod plugins;
 #[cfg(test)]
 mod probes;
+#[cfg(test)]
+mod programs;

@@ -1,8 +1,11 @@
-//! The worked rows of plans and drivers, as tables: what a row gives is what the definitions say of it, worked by hand.
+//! The worked rows of plans, drivers and boards, as tables: what a row gives is what the definitions say of it, worked by hand.
 //!
-//! The tests stand here, above the crates that read the texts of the bus, so that no crate is proved a second time for them.
+//! The tests stand here, above the crates that read the texts of the bus and its board, so that no crate is proved a second time
+//! for them.
 #![tactic(auto)]
 
+#[cfg(test)]
+mod boards;
 #[cfg(test)]
 mod drivers;
 #[cfg(test)]
@@ -11,3 +14,7 @@ mod graphs;
 mod plans;
 #[cfg(test)]
 mod plans_of_trees;
+#[cfg(test)]
+mod seats;
+#[cfg(test)]
+mod threads;
