@@ -10,10 +10,10 @@ build:
 demo: build
 	@.ci/demo
 
-# The gate: every proof from nothing, the must-fail edits, the tests and the program. One job a check, and as many checks as
+# The gate: every proof from nothing, the must-fail edits, the tests and the program. One job a check, on one processor, and as many checks as
 # processors: further jobs of one check would take a third more of their time.
 test:
-	RT_JOBS=$$(nproc) rt ci
+	RT_JOBS=$$(nproc) .ci/lanes.py rt ci
 
 clean:
 	rm -rf bin out crates/*/out

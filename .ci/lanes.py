@@ -1,0 +1,36 @@
+#!/usr/bin/env python3
+"""Runs a command, and keeps each thread that it starts, with all that the thread starts, to one processor in turn.
+
+`rt ci` starts its checks from threads, as many as it has lanes. A check that sees one processor starts fewer threads of its own,
+and takes a tenth less processor time than one that sees four and shares them with three others.
+"""
+import contextlib
+import os
+import subprocess
+import sys
+import time
+
+
+def threads_of(number):
+    """The threads of a process, or none once it has ended."""
+    with contextlib.suppress(OSError):
+        return [int(it) for it in os.listdir(f"/proc/{number}/task")]
+    return []
+
+
+def main():
+    processors = sorted(os.sched_getaffinity(0))
+    gate = subprocess.Popen(sys.argv[1:])
+    seen = [gate.pid]
+    while gate.poll() is None:
+        for thread in threads_of(gate.pid):
+            if thread not in seen:
+                with contextlib.suppress(OSError):
+                    os.sched_setaffinity(thread, {processors[len(seen) % len(processors)]})
+                seen.append(thread)
+        time.sleep(0.2)
+    return gate.returncode
+
+
+if __name__ == "__main__":
+    sys.exit(main())
