@@ -127,7 +127,9 @@ fn rows_root<'s, 't>(
     ensures { MatchResult result (λ root. IsRootOrTooLong (laid_over (lists rows.entry) (shown sheet.now)) limit root) (λ e. IsFault e (laid_over (lists rows.entry) (shown sheet.now))) }
 {
     let mut draft = rows;
-    laid_root(alloc, &mut draft, sheet, additions, limit)
+    let root = laid_root(alloc, &mut draft, sheet, additions, limit);
+    drop(draft);
+    root
 }
 
 // The root of the base with what a sheet puts there, or None where its values are too long.
@@ -143,8 +145,13 @@ fn sheet_root<'t>(
     requires ordered { IsOrdered sheet.now.draft }
     ensures { MatchResult result (λ root. IsRootOrTooLong (laid_over (lists rows.entry) (shown sheet.now)) limit root) (λ e. IsFault e (laid_over (lists rows.entry) (shown sheet.now))) }
 {
-    let additions = find_additions(alloc, &rows, sheet, limit)?;
-    rows_root(alloc, rows, sheet, &additions, limit)
+    match find_additions(alloc, &rows, sheet, limit) {
+        Ok(additions) => rows_root(alloc, rows, sheet, &additions, limit),
+        Err(refused) => {
+            drop(rows);
+            Err(OverlayError::from(refused))
+        }
+    }
 }
 
 // The rows of an overlay above those of its base.
@@ -174,8 +181,17 @@ fn applied_root<'t>(
     ensures { MatchResult result (λ root. IsRootOrTooLong (overlay_result (lists_of base.now.root) (lists_of overlay.now.root)) limit root) (λ e. IsFault e (overlay_result (lists_of base.now.root) (lists_of overlay.now.root))) }
 {
     let rows = list_tree(alloc, hasher, base)?;
-    let sheet = overlay_sheet(alloc, hasher, &rows, overlay)?;
-    sheet_root(alloc, rows, &sheet, limit)
+    match overlay_sheet(alloc, hasher, &rows, overlay) {
+        Ok(sheet) => {
+            let root = sheet_root(alloc, rows, &sheet, limit);
+            drop(sheet);
+            root
+        }
+        Err(error) => {
+            drop(rows);
+            Err(error)
+        }
+    }
 }
 
 /// The base with the overlay applied, or None where the values of this tree are longer together than the limit, in bytes: sizes are
