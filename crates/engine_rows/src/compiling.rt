@@ -151,6 +151,12 @@ const ROWS: &[Row] = &[
         "/ {\n\tr = <0x00000001>;\n\ty {\n\t\tphandle = <0x00000001>;\n\t};\n};\n",
     ),
     (
+        "two labels of a removed node are free, and one is given to the same node twice",
+        "/dts-v1/; / { r = <&a &b>; a: b: x { }; }; / { /delete-node/ x; a: a: z { }; b: y { }; };",
+        false,
+        "/ {\n\tr = <0x00000001 0x00000002>;\n\tz {\n\t\tphandle = <0x00000001>;\n\t};\n\ty {\n\t\tphandle = <0x00000002>;\n\t};\n};\n",
+    ),
+    (
         "a labelled reserved node gets a symbol and no phandle",
         "/dts-v1/; / { __fixups__ { l: n { }; }; };",
         true,
@@ -279,6 +285,18 @@ const REFUSALS: &[Row] = &[
         "/dts-v1/; / { }; /delete-node/ &{/nix};",
         false,
         "error 22 UnknownPath",
+    ),
+    (
+        "a label of a child, for the root",
+        "/dts-v1/; / { a: x { }; }; a: &{/} { };",
+        false,
+        "error 21 DuplicateLabel",
+    ),
+    (
+        "a property that was deleted and defined again in one body",
+        "/dts-v1/; / { x; /delete-property/ x; x; };",
+        false,
+        "error 25 DuplicateInBody",
     ),
     (
         "a label that went with its node, deleted by name",

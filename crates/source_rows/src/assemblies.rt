@@ -19,3 +19,9 @@ fn a_child(rt: HostRuntime) {
     assert!(rt; root.name_bytes().is_empty() && root.children().len() == 1);
     assert!(rt; root.child(b"soc").is_some());
 }
+
+/// The definitions give what was worked by hand.
+#[test]
+fn rows_are_computed() {
+    dt_meaning::worked_rows();
+}

@@ -1,4 +1,4 @@
-//! The worked rows of lexemes, expressions and sources, of edits of a draft and of trees in the making, as tables: what a row
+//! The worked rows of lexemes, expressions and sources and of trees in the making, as tables: what a row
 //! gives is what the definitions say of it, worked by hand.
 //!
 //! The tests stand here, above the crates that read sources and make trees of them, so that no crate is proved a second time for
@@ -7,8 +7,6 @@
 
 #[cfg(test)]
 mod assemblies;
-#[cfg(test)]
-mod drafts;
 #[cfg(test)]
 mod expressions;
 #[cfg(test)]
