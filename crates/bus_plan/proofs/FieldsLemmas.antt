@@ -1,5 +1,5 @@
 -- A line's fields, cut from its front.
-use Rattle.std.proofs.Common.{◌≡◌, ◌∙◌, ap, sym, refl, subst, ℕ, zero, suc, ◌+◌, ◌<◌, ◌≤◌, Bool, true, false, not, List, [], ◌∷◌, ◌++◌, length, get_or, take, drop, arith}
+use Rattle.std.proofs.Common.{◌≡◌, ◌∙◌, ap, sym, refl, subst, ℕ, zero, suc, ◌+◌, ◌-◌, ◌<◌, ◌≤◌, Bool, true, false, not, List, [], ◌∷◌, ◌++◌, length, get_or, take, drop, arith}
 use Rattle.std.specs.Prelude.{All, filter, slice_index, slice_range, if◌then◌else◌, ◌==◌, nat_lt}
 use Rattle.std.specs.List.{position_or_len}
 use Rattle.std.proofs.lemmas.Bool.{ltb-true, ltb-false, ne_eqb}
@@ -94,3 +94,10 @@ fields-cut rest field behind n m begins some within filled ends field_is behind_
     ∙ ap (λ b. field ∷ fields b) (sym behind_is)
     ∙ ap (λ fs. field ∷ fs) (fields-skip behind m short blank)
     ∙ ap (λ b. field ∷ fields b) (sym (between_to_end behind m (length behind) (omega arith)))
+
+-- what is left from a place begins with the byte there
+pub filled-from : (line : List ℕ) (n : ℕ) → (n < length line → is_blank (slice_index line n) ≡ false) → BeginsFilled (take (length line - n) (drop n line))
+filled-from line n found =
+    let same : n + 0 ≡ n = omega arith in
+    subst BeginsFilled (sym (between_to_end line n (length line) (omega arith)))
+    (λ some. ap is_blank (get_or-drop n line 0 0 ∙ ap (λ i. get_or line i 0) same) ∙ found (omega (arith, some, length-drop n line)))

@@ -1,7 +1,7 @@
 -- The field goes up to the first blank, and the blanks behind it are dropped.
 use Rattle.std.proofs.Common.{◌∙◌, sym, ℕ, ◌<◌, List, length}
 use Rattle.bstr.proofs.lemmas.MatchListLemmas.{goes-ref}
-use Rattle.bus_plan.proofs.FieldsLemmas.{some-of, fields-cut}
+use Rattle.bus_plan.proofs.FieldsLemmas.{some-of, fields-cut, filled-from}
 use Rattle.bus_plan.proofs.fields.FieldsIterator.next.Goals as goal
 
 pub returns-clause-steps : goal.returns-clause-steps
@@ -22,3 +22,6 @@ returns-clause-goes c =
     ∙ fields-cut rest c.split_at.result.0.now c.split_at.result.1.now c.first_place.result c.first_place-2.result c.self.invariant some
     c.first_place.ensures.within c.first_place.ensures.before c.first_place.ensures.found c.split_at.ensures.front c.split_at.ensures.back
     c.first_place-2.ensures.within c.first_place-2.ensures.before)
+
+pub invariant_of-self : goal.invariant_of-self
+invariant_of-self c = filled-from c.split_at.result.1.now c.first_place-2.result c.first_place-2.ensures.found
