@@ -54,3 +54,16 @@ pub ends_large : (base i n : ℕ) (xs : List ℕ) (total : Option ℕ) → i < l
     → 2 ^ 64 ≤ n * base + digit_of (get_or xs i 0) → from_digit base xs i (Some n) ≡ total → None ≡ total
 ends_large base i n xs total lt s h large e =
     sym (large_left base (n * base + digit_of (get_or xs i 0)) (drop (i + 1) xs) large) ∙ sym (ap (from_digit base xs (i + 1)) (good_digit base n (get_or xs i 0) s h)) ∙ sym (one_digit base i xs (Some n) lt) ∙ e
+
+pub goes_on : (base i n m : ℕ) (xs : List ℕ) (total : Option ℕ) → i < length xs → is_suffix (get_or xs i 0) ≡ false → digit_of (get_or xs i 0) < base
+    → m ≡ n * base + digit_of (get_or xs i 0) → from_digit base xs i (Some n) ≡ total → from_digit base xs (i + 1) (Some m) ≡ total
+goes_on base i n m xs total lt s below same e =
+    ap (λ x. from_digit base xs (i + 1) (Some x)) same ∙ sym (ap (from_digit base xs (i + 1)) (good_digit base n (get_or xs i 0) s below)) ∙ sym (one_digit base i xs (Some n) lt) ∙ e
+
+suffix : (base n c : ℕ) → is_suffix c ≡ true → number_step base (Some n) c ≡ some n
+suffix base n c h = rw h refl
+
+pub skips : (base i n m : ℕ) (xs : List ℕ) (total : Option ℕ) → i < length xs → is_suffix (get_or xs i 0) ≡ true → m ≡ n → from_digit base xs i (Some n) ≡ total
+    → from_digit base xs (i + 1) (Some m) ≡ total
+skips base i n m xs total lt s same e =
+    ap (λ x. from_digit base xs (i + 1) (Some x)) same ∙ sym (ap (from_digit base xs (i + 1)) (suffix base n (get_or xs i 0) s)) ∙ sym (one_digit base i xs (Some n) lt) ∙ e

@@ -203,6 +203,9 @@ label_kind s n h = label_else (given Name names) s n h go
         let k : list_all is_name (take m s) ≡ false = all_fails is_name s at.0 (omega (arith, at.1, h.within)) (colon_is_no_name _ at.2) m (omega (arith, at.1)) in
         rw (and_left (list_all is_name (take m s)) _ k) refl
 
+pub no_label_kind : (s : List ℕ) (n : ℕ) → Front labels s None → IsFront names s n → IsLongest (kind_by firsts.Letter) s Name n
+no_label_kind s n none h = record { within = h.within; is = rw (none n h.within, h.is) refl; longest = λ m lt le. rw (none m le, h.longest m lt le) refl }
+
 pair_short : (s : List ℕ) (m : ℕ) → 1 < m → m ≤ length s → given Pair one_hex (take m s) ≡ None
 pair_short s zero lt le = absurd (omega arith)
 pair_short s (suc zero) lt le = absurd (omega arith)

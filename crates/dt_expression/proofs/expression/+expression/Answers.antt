@@ -165,3 +165,6 @@ choose-returns-in_default-clause-gives t c = no_second (values c.args.text.now) 
 
 pub otherwise-returns-in_default-clause-gives : goal.otherwise-returns-in_default-clause-gives
 otherwise-returns-in_default-clause-gives t c = rw c.syntax_at-in_default.ensures (no_third (values c.args.text.now) (expr_below (values c.args.text.now) c.args.depth) c.args.test c.args.yes c.args.lexemes.now _ c.in-len1-up.len_at_least c.in_default.not-Colon)
+
+pub further-level-requires : goal.further-level-requires
+further-level-requires t c = (omega (arith, c.decreases, c.requires.some), omega (arith, c.requires.most))

@@ -1,4 +1,4 @@
-use Rattle.std.proofs.Common.{◌≤◌, length, arith}
+use Rattle.std.proofs.Common.{◌≤◌, length, arith, refl}
 use Rattle.dt_source.specs.Meaning.{outlined}
 use Rattle.dt_source.specs.Counts.{how_many}
 use Rattle.dt_source.proofs.LawfulSources.{says_lawful}
@@ -13,3 +13,6 @@ invariant_of-result c =
       lawful = (says_lawful c.args.text.now (outlined c.in-Ok-default-None.field-0-0) (read.0, read.1, read.3.1, read.2)).items;
       few = omega (arith, few);
     }
+
+pub returns-then-text-gt-MAX_TEXT_LEN-clause-refused : goal.returns-then-text-gt-MAX_TEXT_LEN-clause-refused
+returns-then-text-gt-MAX_TEXT_LEN-clause-refused c = rw c.too_long.ensures (c.if-text-gt-MAX_TEXT_LEN.true, refl)
