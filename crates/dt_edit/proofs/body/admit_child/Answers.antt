@@ -67,3 +67,6 @@ returns-clause-step c x at =
     (not-true (child_body old c.args.node c.args.name.now == c.args.number) (sym c.in_ok-child.ensures.first ∙ c.if-not-first.false))
     (taken-at old c.requires.sound c.args.node made c.args.name.now ∙ sym c.is_taken.ensures ∙ c.if-is_taken.false)
     (shallow (length (node_path old c.args.node)) _ refl (omega (arith, c.requires.depth, c.if-depth-ge-MAX_DEPTH.false)))
+
+pub returns-clause-shallow : goal.returns-clause-shallow
+returns-clause-shallow c = omega (arith, c.if-depth-ge-MAX_DEPTH.false)

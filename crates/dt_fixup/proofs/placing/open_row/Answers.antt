@@ -1,4 +1,4 @@
-use Rattle.std.proofs.Common.{◌≡◌, ◌∙◌, ◌≤◌, ◌+◌, Some, None, false, length, ap, sym, arith, rules}
+use Rattle.std.proofs.Common.{◌≡◌, ◌∙◌, ◌≤◌, ◌+◌, Some, None, true, false, length, ap, sym, arith}
 use Rattle.std.specs.Prelude.{codes}
 use Rattle.std.specs.Str.{bytes_eq}
 use Rattle.dt_tree.specs.Phandle.{is_reserved}
@@ -6,7 +6,7 @@ use Rattle.dt_draft.specs.Rows.{path_of, property_of, node_path}
 use Rattle.overlay_meaning.specs.Shifted.{place}
 use Rattle.dt_fixup.specs.Sheet.{shown, value_at}
 use Rattle.dt_fixup.proofs.LookUps.{row-there, value-none, value-some}
-use Rattle.dt_fixup.proofs.OpenRows.{not-there, not-inside, open-place}
+use Rattle.dt_fixup.proofs.OpenRows.{not-there, not-inside, named-phandle, open-place}
 use Rattle.dt_fixup.proofs.placing.open_row.Goals as goal
 
 pub returns-in_default : goal.returns-in_default
@@ -38,6 +38,12 @@ returns-then-length-offset c =
     not-inside (place (node_path s.draft c.args.node) c.args.name.now c.args.offset) (shown s).properties (value_at s c.in-Some.row)
     (value-some s.draft c.requires.sound.whole (value_at s) c.args.node c.args.name.now c.in-Some.row c.requires.known found) (omega (arith, same))
 
+pub returns-then-eq : goal.returns-then-eq
+returns-then-eq c =
+    let s = c.args.sheet.now in
+    let same : bytes_eq c.args.name.now (codes "phandle") ≡ true = ap (λ k. bytes_eq c.args.name.now k) (sym c.as_slice.ensures) ∙ sym c.eq.ensures ∙ c.if-eq.true in
+    named-phandle (place (node_path s.draft c.args.node) c.args.name.now c.args.offset) (shown s).properties same
+
 pub returns : goal.returns
 returns c =
     let s = c.args.sheet.now in
@@ -45,7 +51,7 @@ returns c =
     let same : length c.value-length.result.now ≡ length (value_at s c.in-Some.row) = ap length c.value-length.ensures in
     let inside : c.args.offset + 4 ≤ length (value_at s c.in-Some.row) = omega (arith, same) in
     let plain : is_reserved (node_path s.draft c.args.node) ≡ false = ap (λ rows. is_reserved (path_of rows c.args.node)) (sym c.nodes.ensures) ∙ sym c.is_reserved.ensures ∙ c.if-is_reserved.false in
-    let other : bytes_eq c.args.name.now (codes "phandle") ≡ false = search rules in (
+    let other : bytes_eq c.args.name.now (codes "phandle") ≡ false = ap (λ k. bytes_eq c.args.name.now k) (sym c.as_slice.ensures) ∙ sym c.eq.ensures ∙ c.if-eq.false in (
       open-place (place (node_path s.draft c.args.node) c.args.name.now c.args.offset) (shown s).properties (value_at s c.in-Some.row)
           (value-some s.draft c.requires.sound.whole (value_at s) c.args.node c.args.name.now c.in-Some.row c.requires.known found) inside plain other,
       found,

@@ -1,4 +1,4 @@
-use Rattle.std.proofs.Common.{◌≡◌, ◌+◌, ◌++◌, ◌∷◌, [], suc, List, false, length, refl, sym, ap, ◌∙◌, subst, arith, rules}
+use Rattle.std.proofs.Common.{◌≡◌, ◌==◌, not, ◌+◌, ◌++◌, ◌∷◌, [], suc, List, false, length, refl, sym, ap, ◌∙◌, subst, arith, rules}
 use Rattle.std.proofs.lemmas.List.{length_push}
 use Rattle.dt_meaning.specs.Edits.{with_node}
 use Rattle.dt_draft.specs.declared.table.NodeRow.{NodeRow}
@@ -33,7 +33,7 @@ returns-in-Some g c =
           ap (λ xs. state_in xs d.properties.items d.labels.items) e
           ∙ with-listed (path_of rows (suc f.0)) (state_in rows d.properties.items d.labels.items) (listed-standing (path_of rows) (stands rows) (length rows) f.0 (omega (arith, f.2)) child.1)
           ∙ ap (λ p. with_node p (state_in rows d.properties.items d.labels.items)) child.0;
-      first = search rules;
+      first = ap (λ (x : Place). not (x.body == c.args.body)) c.in_ok-place.ensures.before;
       bodies = search rules;
       others = search rules;
       count = search rules;
@@ -62,7 +62,7 @@ returns-in_ok-push-in-None g c =
           ap (λ rows. state_in rows d.properties.items d.labels.items) e
           ∙ node-added old r found d.properties.items d.labels.items c.requires.sound.grown c.requires.sound.nodes c.requires.sound.known c.requires.sound.known_labels
           c.requires.known refl c.requires.stands none;
-      first = search rules;
+      first = ap (λ (x : Place). not (x.body == c.args.body)) c.in_ok-place.ensures.before;
       bodies = search rules;
       others = search rules;
       count = search rules;

@@ -21,6 +21,9 @@ returns-then-is_in_tree-clause-path g c =
     (ap (λ x. stands d.nodes.items x.node) (sym was) ∙ sym c.is_in_tree.ensures ∙ c.if-is_in_tree.true)
     ∙ ap (λ x. Some (path_of d.nodes.items x.node)) (sym was)
 
+pub returns-then-is_in_tree-clause-there : goal.returns-then-is_in_tree-clause-there
+returns-then-is_in_tree-clause-there g c = sym c.is_in_tree.ensures ∙ c.if-is_in_tree.true
+
 pub returns-else-is_in_tree-clause-path : goal.returns-else-is_in_tree-clause-path
 returns-else-is_in_tree-clause-path g c =
     let d = c.args.self.now in

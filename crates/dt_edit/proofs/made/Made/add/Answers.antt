@@ -1,4 +1,4 @@
-use Rattle.std.proofs.Common.{◌||◌, ap, ap₂, ◌∙◌, sym, add-one}
+use Rattle.std.proofs.Common.{◌||◌, refl, ap, ap₂, ◌∙◌, sym, add-one}
 use Rattle.std.specs.List.{list_any}
 use Rattle.std.specs.Str.{bytes_eq}
 use Rattle.dt_tree.proofs.SeenNames.{has-insert, bytes_eq-comm, is_named}
@@ -12,3 +12,6 @@ returns-clause-exact c name =
     ∙ has-insert old.names.keys c.args.name name
     ∙ ap₂ (λ a b. a || b) (bytes_eq-comm c.args.name.now name ∙ ap (bytes_eq name) c.requires.next) (c.requires.exact name)
     ∙ ap (λ n. is_fragment n name) (sym (add-one old.count))
+
+pub returns-clause-count : goal.returns-clause-count
+returns-clause-count c = refl
