@@ -21,13 +21,14 @@ def threads_of(number):
 def main():
     processors = sorted(os.sched_getaffinity(0))
     gate = subprocess.Popen(sys.argv[1:])
-    seen = [gate.pid]
+    lanes = []
     while gate.poll() is None:
         for thread in threads_of(gate.pid):
-            if thread not in seen:
-                with contextlib.suppress(OSError):
-                    os.sched_setaffinity(thread, {processors[len(seen) % len(processors)]})
-                seen.append(thread)
+            with contextlib.suppress(OSError):
+                # what a lane starts itself has that lane's processor already
+                if thread != gate.pid and len(os.sched_getaffinity(thread)) == len(processors) > 1:
+                    os.sched_setaffinity(thread, {processors[len(lanes) % len(processors)]})
+                    lanes.append(thread)
         time.sleep(0.2)
     return gate.returncode
 
