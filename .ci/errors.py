@@ -10,7 +10,7 @@ TEXT = r'"(?:[^"\\]|\\.)*"'
 ENTRY = re.compile(rf"const (\w+): Texts = \(\s*({TEXT}),\s*({TEXT}),\s*({TEXT}),\s*({TEXT}),\s*\);")
 HEAD = """# Errors
 
-`dtman` tells a refusal in one line on standard error, `error NUMBER NAME`, behind it the line, the event or the path where there is one. `dtman explain NUMBER` prints its entry. This page is made by `.ci/errors.py` from the same texts; the inputs are tried by tests: most in `crates/engine_rows/src/engines/errors.rt`, 28 and 46 beside them in `compiling.rt` and `overlaying.rt`, 51, 54, 55, 62 and 70 in `plan_rows` and `bus_rows`, 80 and 81 in `programs/statuses.rt`, and the greatest (17, 38, 65, 82) by `.ci/limits.sh`.
+`dtman` tells a refusal in one line on standard error, `error NUMBER NAME`, behind it the line, the event or the path where there is one. `dtman explain NUMBER` prints its entry. This page is made by `.ci/errors.py` from the same texts; the inputs are tried by tests: most in `crates/engine_rows/src/engines/errors.rt`, 28 and 46 beside them in `compiling.rt` and `overlaying.rt`, 51, 54, 55, 62 and 70 in `plan_rows` and `bus_rows`, 80 and 81 in `crates/engine_rows/src/programs/statuses.rt`, and the greatest (17, 38, 65, 82) by `.ci/limits.sh`.
 """
 
 

@@ -1,9 +1,9 @@
 #!/usr/bin/env python3
 """Runs a command, and keeps each thread that it starts, with all that the thread starts, to one processor in turn.
 
-`rt ci` starts its checks from threads, as many as it has lanes. A check that sees one processor starts fewer threads of its own,
-and takes a tenth less processor time than one that sees four and shares them with three others. Tests and programs are run by the
-first thread, which keeps all processors, so threads in tests run side by side.
+`rt ci` starts its checks from threads, as many as it has lanes. A check that sees one processor starts fewer threads of its own:
+that of an edit takes about a tenth less processor time so, a whole proof about the same. Tests and programs are run by the first
+thread, which keeps all processors, so threads in tests run side by side.
 """
 import contextlib
 import os
