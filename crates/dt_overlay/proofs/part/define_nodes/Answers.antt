@@ -1,17 +1,30 @@
-use Rattle.std.proofs.Common.{◌≡◌, ◌<◌, ◌≤◌, ◌-◌, ◌||◌, suc, length, get_or, slice_index_or, map, refl, sym, ap, ◌∙◌, arith}
+use Rattle.std.proofs.Common.{◌≡◌, ◌<◌, ◌≤◌, ◌-◌, ◌||◌, ℕ, suc, List, length, get_or, slice_index_or, map, refl, sym, ap, ◌∙◌, arith}
 use Rattle.std.specs.List.{list_any}
-use Rattle.dt_draft.specs.Rows.{node_path}
+use Rattle.dt_draft.specs.declared.table.NodeRow.{NodeRow}
+use Rattle.dt_draft.specs.Rows.{IsGrown, node_path}
 use Rattle.dt_draft.proofs.Keeping.{kept-itself, kept-then}
 use Rattle.dt_meaning.specs.Resolved.{is_too_deep}
 use Rattle.std.proofs.lemmas.List.{length-set}
 use Rattle.dt_listing.specs.Listed.{lists, plain}
 use Rattle.overlay_meaning.specs.Applied.{moved, with_nodes}
-use Rattle.dt_overlay.specs.Private.Merging.{IsPart}
+use Rattle.dt_overlay.specs.Private.Merging.{IsInside, IsPart}
 use Rattle.dt_overlay.proofs.PartLists.{nodes-start, nodes-end}
 use Rattle.dt_layout.proofs.BlankRows.{blank_row}
 use Rattle.dt_overlay.proofs.PartSteps.{deep-else, deep-more, deep-then, first-places, inside-more, more-places, new-place, or-false, parent-place, rest-more, row-is}
 use Rattle.dt_overlay.proofs.part.define_nodes.Goals as goal
 use Rattle.dt_overlay.proofs.part.define_nodes.Goals.{then-depth-gt-MAX_DEPTH, else-depth-gt-MAX_DEPTH}
+
+-- what was noted up to a row whose parent stands before the body is the part
+ended : (rows given : List NodeRow) (b n : ℕ) → given ≡ rows → b < n → n ≤ suc (length rows) → IsInside rows b n → (get_or given (n - 1) blank_row).parent < b → IsPart rows b n
+ended rows given b n same more known inside before = record {
+  more = more;
+  known = known;
+  inside = inside;
+  behind = λ k at lt. omega (arith, before, ap (λ x. x.parent) (row-is given rows n k blank_row same at lt));
+}
+
+parent-known : (rows given : List NodeRow) (n k : ℕ) → given ≡ rows → IsGrown rows → n ≡ suc k → k < length rows → (get_or given (n - 1) blank_row).parent < length rows
+parent-known rows given n k same grown at lt = omega (arith, lt, ap (λ x. x.parent) (row-is given rows n k blank_row same at lt), grown k)
 
 pub loop-node-init : goal.loop-node-init
 loop-node-init c =
@@ -41,12 +54,8 @@ returns-then-row-body-clause-nodes c =
     let b = c.args.body in
     let n = c.loop-node.node in
     let t = node_path c.args.draft.now (slice_index_or c.args.places.now b 0) in
-    let part : IsPart over.nodes.items b n = record {
-      more = i.low;
-      known = omega (arith, c.loop-node-test.true, ap length c.nodes-nodes.ensures);
-      inside = i.inside;
-      behind = λ k at lt. omega (arith, c.if-row-body.true, ap (λ x. x.parent) (row-is c.nodes-nodes.result.now over.nodes.items n k blank_row c.nodes-nodes.ensures at lt));
-    } in
+    let known : n ≤ suc (length over.nodes.items) = omega (arith, c.loop-node-test.true, ap length c.nodes-nodes.ensures) in
+    let part = ended over.nodes.items c.nodes-nodes.result.now b n c.nodes-nodes.ensures i.low known i.inside c.if-row-body.true in
     ap (λ ps. with_nodes ps (lists c.loop-node.draft).nodes) (sym (nodes-end over c.requires.sheet.whole c.requires.ordered b c.requires.body c.requires.top t n part)) ∙ i.rest
 
 pub returns-then-row-body-clause-deep : goal.returns-then-row-body-clause-deep
@@ -56,14 +65,17 @@ returns-then-row-body-clause-deep c =
     let b = c.args.body in
     let n = c.loop-node.node in
     let t = node_path c.args.draft.now (slice_index_or c.args.places.now b 0) in
-    let part : IsPart over.nodes.items b n = record {
-      more = i.low;
-      known = omega (arith, c.loop-node-test.true, ap length c.nodes-nodes.ensures);
-      inside = i.inside;
-      behind = λ k at lt. omega (arith, c.if-row-body.true, ap (λ x. x.parent) (row-is c.nodes-nodes.result.now over.nodes.items n k blank_row c.nodes-nodes.ensures at lt));
-    } in
+    let known : n ≤ suc (length over.nodes.items) = omega (arith, c.loop-node-test.true, ap length c.nodes-nodes.ensures) in
+    let part = ended over.nodes.items c.nodes-nodes.result.now b n c.nodes-nodes.ensures i.low known i.inside c.if-row-body.true in
     or-false c.loop-node.is_deep
     ∙ ap (λ ps. c.loop-node.is_deep || list_any is_too_deep ps) (sym (nodes-end over c.requires.sheet.whole c.requires.ordered b c.requires.body c.requires.top t n part)) ∙ i.deep
+
+pub returns-then-row-body-clause-part : goal.returns-then-row-body-clause-part
+returns-then-row-body-clause-part c =
+    let i = c.loop-node.invariant in
+    let rows = c.args.sheet.now.draft.nodes.items in
+    let known : c.loop-node.node ≤ suc (length rows) = omega (arith, c.loop-node-test.true, ap length c.nodes-nodes.ensures) in
+    ended rows c.nodes-nodes.result.now c.args.body c.loop-node.node c.nodes-nodes.ensures i.low known i.inside c.if-row-body.true
 
 pub returns-clause-part : goal.returns-clause-part
 returns-clause-part c =
@@ -78,13 +90,24 @@ returns-clause-part c =
 pub bounds-places-row : goal.bounds-places-row
 bounds-places-row c =
     let i = c.loop-node.invariant in
-    let over = c.args.sheet.now.draft in
+    let rows = c.args.sheet.now.draft.nodes.items in
     let n = c.loop-node.node in
-    let k = n - 1 in
-    let at : n ≡ suc k = omega (arith, i.low) in
-    let same = ap length c.nodes-nodes.ensures in
-    let row = row-is c.nodes-nodes.result.now over.nodes.items n k blank_row c.nodes-nodes.ensures at (omega (arith, at, c.loop-node-test.true, same)) in
-    omega (arith, i.room, c.requires.room, same, c.loop-node-test.true, at, ap (λ x. x.parent) row, c.requires.sheet.whole.sound.grown k)
+    let same = c.nodes-nodes.ensures in
+    let at : n ≡ suc (n - 1) = omega (arith, i.low) in
+    let lt : n - 1 < length rows = omega (arith, at, c.loop-node-test.true, ap length same) in
+    let known = parent-known rows c.nodes-nodes.result.now n (n - 1) same c.requires.sheet.whole.sound.grown at lt in
+    omega (arith, known, i.room, c.requires.room)
+
+pub offset_bounds-places-row : goal.offset_bounds-places-row
+offset_bounds-places-row c =
+    let i = c.loop-node.invariant in
+    let rows = c.args.sheet.now.draft.nodes.items in
+    let n = c.loop-node.node in
+    let same = c.nodes-nodes.ensures in
+    let at : n ≡ suc (n - 1) = omega (arith, i.low) in
+    let lt : n - 1 < length rows = omega (arith, at, c.loop-node-test.true, ap length same) in
+    let known = parent-known rows c.nodes-nodes.result.now n (n - 1) same c.requires.sheet.whole.sound.grown at lt in
+    omega (arith, known, i.room, c.requires.room)
 
 pub define_child-requires-clause-known : goal.define_child-requires-clause-known
 define_child-requires-clause-known c =
