@@ -1,8 +1,10 @@
-use Rattle.std.proofs.Common.{◌≡◌, ◌<◌, ◌∷◌, [], true, length, sym, ap, ◌∙◌, arith}
+use Rattle.std.proofs.Common.{◌≡◌, ◌<◌, ◌∷◌, [], true, length, map, sym, ap, ◌∙◌, arith}
+use Rattle.std.proofs.lemmas.List.{take_all}
 use Rattle.dt_tree.specs.Name.{is_name}
 use Rattle.dt_meaning.specs.Names.{symbols_name}
+use Rattle.dt_meaning.specs.Resolved.{symbol}
 use Rattle.dt_assembly.specs.Lists.{defined_at}
-use Rattle.dt_draft.specs.Rows.{is_standing, label_at, node_path}
+use Rattle.dt_draft.specs.Rows.{is_standing, label_at, node_path, worn}
 use Rattle.dt_layout.proofs.Each.{each-of}
 use Rattle.dt_edit.specs.Said.{tree_of}
 use Rattle.dt_build.proofs.MakingLabels.{lawful-label, property-more, symbols-same}
@@ -33,3 +35,10 @@ loop-row-preserved c =
           ap (λ v. defined_at (symbols_name ∷ []) v.items) w.symbols-is ∙ c.loop-row.invariant
           ∙ sym (symbols-same (node_path d) (is_standing d) rows k c.loop-row-test.true (sym c.is_in_tree.ensures ∙ w.if-is_in_tree.false))
     ]
+
+pub returns : goal.returns
+returns c =
+    let d = c.args.prepared.now.draft in
+    c.loop-row.invariant
+    ∙ ap (λ rs. map symbol (worn (node_path d) (is_standing d) rs))
+    (take_all c.loop-row.row-index c.labels-row-items.result.now c.loop-row-test.false ∙ c.labels-row-items.ensures)
