@@ -1,6 +1,6 @@
 -- The reader's loops, a turn at a time.
 use Rattle.std.proofs.Common.{◌≡◌, ℕ, zero, suc, ◌<◌, ◌≤◌, ◌^◌, true, false, ◌&&◌, ◌==◌, List, [], ◌∷◌, ◌++◌, length, drop, Option, Some, None, refl, ap, sym, ◌∙◌, arith, append_assoc, length-drop}
-use Rattle.std.specs.Prelude.{nat_lt, option_and_then}
+use Rattle.std.specs.Prelude.{nat_lt, option_and_then, if◌then◌else◌}
 use Rattle.std.specs.Option.{option_map}
 use Rattle.std.proofs.lemmas.Bool.Decides.{nat_tests}
 use Rattle.byteorder.specs.Endian.{big_number}
@@ -10,7 +10,7 @@ use Rattle.dt_blob.specs.declared.error.BlobError.TheVariants as errors
 use Rattle.dt_blob.specs.HeaderWords.{header_of, fault_in, header_fault}
 use Rattle.dt_blob.specs.Token.{Token, begin_node, end_node, property, nop, end}
 use Rattle.dt_blob.specs.Steps.Opened.{State, Opened, begun, inside, behind, ended, run, advance, is_end, root_of, root_from}
-use Rattle.dt_blob.specs.Steps.Reading.{Refuses, token_at, tokens_in, tokens_at, left, reserves_in, reserves_at}
+use Rattle.dt_blob.specs.Steps.Reading.{Refuses, token_by, token_at, tokens_in, tokens_at, left, reserves_in, reserves_at}
 
 -- ---- the header
 
@@ -33,6 +33,14 @@ too_short bytes h k =
     rw (large, small) refl
 
 -- ---- tokens
+
+-- where a word stands at the front, it decides
+pub by_word : (strings bytes rest : List ℕ) (n k : ℕ) → 4 ≤ length bytes → n ≡ big_number 4 bytes → n ≡ k → rest ≡ drop 4 bytes
+    → token_at strings bytes ≡ token_by strings k rest
+unfolding token_at
+by_word strings bytes rest n k some read is left_is =
+    let short : nat_lt (length bytes) 4 ≡ false = grind (arith, nat_tests) in
+    λ i. if short i then None else token_by strings ((sym read ∙ is) i) (sym left_is i)
 
 -- what is left leads to the root
 pub record Leads (strings bytes : List ℕ) (s : State) (all : Option NodeData) : Type 0 where
