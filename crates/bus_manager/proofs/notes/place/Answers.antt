@@ -1,0 +1,12 @@
+use Rattle.std.proofs.Common.{All, Vec, Global}
+use Rattle.std.proofs.lemmas.List.Elements.{All-pop}
+use Rattle.bus_manager.specs.declared.worker.Noted.{Noted}
+use Rattle.bus_manager.proofs.notes.place.Goals as goal
+
+pub placing-preserved : goal.placing-preserved
+placing-preserved g c = record {
+  notes_are = c.place_some.ensures;
+  found_are = (All-pop (λ (some : Vec (Noted g.row.P-Note.Denot) Global).
+      All (λ n. g.P.Prober.attests c.args.prober.now c.args.plan.now n.device n.note) some.items)
+      c.placing.found.items c.pop.new.self.items c.pop.result c.pop.ensures.items c.placing.invariant.found_are).0;
+}
