@@ -1,4 +1,5 @@
-use Rattle.std.proofs.Common.{◌≡◌, ◌<◌, ◌≤◌, ◌-◌, ◌||◌, ℕ, suc, List, length, get_or, slice_index_or, map, refl, sym, ap, ◌∙◌, arith}
+use Rattle.std.proofs.Common.{◌≡◌, ◌<◌, ◌≤◌, ◌-◌, ◌+◌, ◌||◌, ℕ, suc, List, length, get_or, slice_index_or, map}
+use Rattle.std.proofs.Common.{refl, sym, ap, ◌∙◌, arith}
 use Rattle.std.specs.List.{list_any}
 use Rattle.dt_draft.specs.declared.table.NodeRow.{NodeRow}
 use Rattle.dt_draft.specs.Rows.{IsGrown, node_path}
@@ -15,7 +16,8 @@ use Rattle.dt_overlay.proofs.part.define_nodes.Goals as goal
 use Rattle.dt_overlay.proofs.part.define_nodes.Goals.{then-depth-gt-MAX_DEPTH, else-depth-gt-MAX_DEPTH}
 
 -- what was noted up to a row whose parent stands before the body is the part
-ended : (rows given : List NodeRow) (b n : ℕ) → given ≡ rows → b < n → n ≤ suc (length rows) → IsInside rows b n → (get_or given (n - 1) blank_row).parent < b → IsPart rows b n
+ended : (rows given : List NodeRow) (b n : ℕ) → given ≡ rows → b < n → n ≤ suc (length rows) → IsInside rows b n
+    → (get_or given (n - 1) blank_row).parent < b → IsPart rows b n
 ended rows given b n same more known inside before = record {
   more = more;
   known = known;
@@ -23,8 +25,13 @@ ended rows given b n same more known inside before = record {
   behind = λ k at lt. omega (arith, before, ap (λ x. x.parent) (row-is given rows n k blank_row same at lt));
 }
 
-parent-known : (rows given : List NodeRow) (n k : ℕ) → given ≡ rows → IsGrown rows → n ≡ suc k → k < length rows → (get_or given (n - 1) blank_row).parent < length rows
-parent-known rows given n k same grown at lt = omega (arith, lt, ap (λ x. x.parent) (row-is given rows n k blank_row same at lt), grown k)
+-- a row behind the body has its parent among the rows
+parent-known : (rows given : List NodeRow) (b n : ℕ) → given ≡ rows → IsGrown rows → b < n → n < length given + 1
+    → (get_or given (n - 1) blank_row).parent < length rows
+parent-known rows given b n same grown low within =
+    let at : n ≡ suc (n - 1) = omega (arith, low) in
+    let lt : n - 1 < length rows = omega (arith, at, within, ap length same) in
+    omega (arith, lt, ap (λ x. x.parent) (row-is given rows n (n - 1) blank_row same at lt), grown (n - 1))
 
 pub loop-node-init : goal.loop-node-init
 loop-node-init c =
@@ -54,8 +61,9 @@ returns-then-row-body-clause-nodes c =
     let b = c.args.body in
     let n = c.loop-node.node in
     let t = node_path c.args.draft.now (slice_index_or c.args.places.now b 0) in
-    let known : n ≤ suc (length over.nodes.items) = omega (arith, c.loop-node-test.true, ap length c.nodes-nodes.ensures) in
-    let part = ended over.nodes.items c.nodes-nodes.result.now b n c.nodes-nodes.ensures i.low known i.inside c.if-row-body.true in
+    let same = c.nodes-nodes.ensures in
+    let known : n ≤ suc (length over.nodes.items) = omega (arith, c.loop-node-test.true, ap length same) in
+    let part = ended over.nodes.items c.nodes-nodes.result.now b n same i.low known i.inside c.if-row-body.true in
     ap (λ ps. with_nodes ps (lists c.loop-node.draft).nodes) (sym (nodes-end over c.requires.sheet.whole c.requires.ordered b c.requires.body c.requires.top t n part)) ∙ i.rest
 
 pub returns-then-row-body-clause-deep : goal.returns-then-row-body-clause-deep
@@ -65,8 +73,9 @@ returns-then-row-body-clause-deep c =
     let b = c.args.body in
     let n = c.loop-node.node in
     let t = node_path c.args.draft.now (slice_index_or c.args.places.now b 0) in
-    let known : n ≤ suc (length over.nodes.items) = omega (arith, c.loop-node-test.true, ap length c.nodes-nodes.ensures) in
-    let part = ended over.nodes.items c.nodes-nodes.result.now b n c.nodes-nodes.ensures i.low known i.inside c.if-row-body.true in
+    let same = c.nodes-nodes.ensures in
+    let known : n ≤ suc (length over.nodes.items) = omega (arith, c.loop-node-test.true, ap length same) in
+    let part = ended over.nodes.items c.nodes-nodes.result.now b n same i.low known i.inside c.if-row-body.true in
     or-false c.loop-node.is_deep
     ∙ ap (λ ps. c.loop-node.is_deep || list_any is_too_deep ps) (sym (nodes-end over c.requires.sheet.whole c.requires.ordered b c.requires.body c.requires.top t n part)) ∙ i.deep
 
@@ -74,8 +83,10 @@ pub returns-then-row-body-clause-part : goal.returns-then-row-body-clause-part
 returns-then-row-body-clause-part c =
     let i = c.loop-node.invariant in
     let rows = c.args.sheet.now.draft.nodes.items in
-    let known : c.loop-node.node ≤ suc (length rows) = omega (arith, c.loop-node-test.true, ap length c.nodes-nodes.ensures) in
-    ended rows c.nodes-nodes.result.now c.args.body c.loop-node.node c.nodes-nodes.ensures i.low known i.inside c.if-row-body.true
+    let n = c.loop-node.node in
+    let same = c.nodes-nodes.ensures in
+    let known : n ≤ suc (length rows) = omega (arith, c.loop-node-test.true, ap length same) in
+    ended rows c.nodes-nodes.result.now c.args.body n same i.low known i.inside c.if-row-body.true
 
 pub returns-clause-part : goal.returns-clause-part
 returns-clause-part c =
@@ -90,23 +101,15 @@ returns-clause-part c =
 pub bounds-places-row : goal.bounds-places-row
 bounds-places-row c =
     let i = c.loop-node.invariant in
-    let rows = c.args.sheet.now.draft.nodes.items in
-    let n = c.loop-node.node in
-    let same = c.nodes-nodes.ensures in
-    let at : n ≡ suc (n - 1) = omega (arith, i.low) in
-    let lt : n - 1 < length rows = omega (arith, at, c.loop-node-test.true, ap length same) in
-    let known = parent-known rows c.nodes-nodes.result.now n (n - 1) same c.requires.sheet.whole.sound.grown at lt in
+    let known = parent-known c.args.sheet.now.draft.nodes.items c.nodes-nodes.result.now c.args.body c.loop-node.node
+    c.nodes-nodes.ensures c.requires.sheet.whole.sound.grown i.low c.loop-node-test.true in
     omega (arith, known, i.room, c.requires.room)
 
 pub offset_bounds-places-row : goal.offset_bounds-places-row
 offset_bounds-places-row c =
     let i = c.loop-node.invariant in
-    let rows = c.args.sheet.now.draft.nodes.items in
-    let n = c.loop-node.node in
-    let same = c.nodes-nodes.ensures in
-    let at : n ≡ suc (n - 1) = omega (arith, i.low) in
-    let lt : n - 1 < length rows = omega (arith, at, c.loop-node-test.true, ap length same) in
-    let known = parent-known rows c.nodes-nodes.result.now n (n - 1) same c.requires.sheet.whole.sound.grown at lt in
+    let known = parent-known c.args.sheet.now.draft.nodes.items c.nodes-nodes.result.now c.args.body c.loop-node.node
+    c.nodes-nodes.ensures c.requires.sheet.whole.sound.grown i.low c.loop-node-test.true in
     omega (arith, known, i.room, c.requires.room)
 
 pub define_child-requires-clause-known : goal.define_child-requires-clause-known

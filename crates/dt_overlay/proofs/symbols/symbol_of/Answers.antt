@@ -11,5 +11,6 @@ symbol_text-requires-clause-known c =
 
 pub returns-in_ok-value-in-Some-clause-value : goal.returns-in_ok-value-in-Some-clause-value
 returns-in_ok-value-in-Some-clause-value c =
-    let behind : c.in_ok-value-in-Some.value.items ≡ text_or_root (behind_slashes (path_of c.nodes.result.now c.in-Some.node) ++ c.in-Some.rest.now) ++ 0 ∷ [] = c.in_ok-value-in-Some.ensures in
+    let names = behind_slashes (path_of c.nodes.result.now c.in-Some.node) ++ c.in-Some.rest.now in
+    let behind : c.in_ok-value-in-Some.value.items ≡ text_or_root names ++ 0 ∷ [] = c.in_ok-value-in-Some.ensures in
     search rules
