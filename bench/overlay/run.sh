@@ -7,7 +7,7 @@
 # `-`         dtman or fdtoverlay hasn't answered in time, or fdtoverlay hasn't been asked
 #
 # It fails where the trees differ, where dtman refuses a pair other than `symbols`, and where it answers that one otherwise than by 38
-# (fdtoverlay doesn't get it: it would write what it is asked for). None of the pairs has another of the differences that docs/model.md
+# (fdtoverlay doesn't get it: it would write what it is asked for). None of the pairs has another of the differences that docs/model/overlay.md
 # lists (Where fdtoverlay answers otherwise).
 set -euo pipefail
 cd "$(dirname "$0")/../.."
