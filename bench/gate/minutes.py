@@ -3,8 +3,8 @@
 
     RT_JOBS=4 python3 bench/gate/minutes.py .ci/lanes.py rt ci --anew
 
-With no words it runs `rt ci`. It looks at the processes below the gate once a second, so what begins and ends between two looks
-is missed.
+With no words it runs `rt ci`; over `.ci/build --anew` it tells what the program alone takes. It looks at the processes below the
+gate once a second, so what begins and ends between two looks is missed.
 """
 import glob
 import os
@@ -46,13 +46,13 @@ def crate_of(number):
         folder = os.readlink(f"/proc/{number}/cwd")
     except OSError:
         return None
-    if not folder.startswith(os.getcwd() + "/crates/"):
+    if os.path.basename(os.path.dirname(folder)) != "crates":
         return crate, "edits"
     return crate, "tests" if "--test" in words else "proofs"
 
 
 def watched(gate):
-    """The processor minutes of all that a gate starts, until it ends, by the crate and the kind of work, and under None what is of no crate."""
+    """The processor minutes of all that a gate starts until it ends, by crate and kind of work; under None those of no crate."""
     below, spent = {gate.pid}, {}
     while gate.poll() is None:
         for number, parent, start, seconds in processes():
@@ -93,7 +93,8 @@ def main():
     gate = subprocess.Popen(sys.argv[1:] or ["rt", "ci"])
     minutes = watched(gate)
     print("", *table(minutes), sep="\n")
-    print(f"\nprocessor minutes: {sum(minutes.values()):.0f}, of which {minutes.get(None, 0):.0f} are of no crate; minutes: {(time.monotonic() - begin) / 60:.0f}")
+    print(f"\nprocessor minutes: {sum(minutes.values()):.0f}, of which {minutes.get(None, 0):.0f} are of no crate")
+    print(f"minutes by the clock: {(time.monotonic() - begin) / 60:.0f}")
     return gate.returncode
 
 
