@@ -1,14 +1,14 @@
-# dtman: try, build and prove. `rt` is the toolchain's command.
+# dtman: build, try and prove. `rt` is the toolchain's command.
 
-.PHONY: demo build test clean toolchain
-
-# The commands over the example boards, before anything is proved.
-demo: toolchain
-	@.ci/demo
+.PHONY: build demo test clean toolchain
 
 # Proves and builds the program, and leaves it at bin/dtman.
 build: toolchain
 	@.ci/build
+
+# The commands over the example boards, before anything is proved.
+demo: toolchain
+	@.ci/demo
 
 # The gate: every proof from nothing, the must-fail edits, the tests and the program. One job a check, on one processor, and as many checks as
 # processors: further jobs of one check would take a third more of their time.
