@@ -1,19 +1,25 @@
 # dtman: build, try and prove. `rt` is the toolchain's command.
 
-.PHONY: build demo test clean
+.PHONY: build demo test clean toolchain
 
 # Proves and builds the program, and leaves it at bin/dtman.
-build:
+build: toolchain
 	@.ci/build
 
-# The commands over the example board.
-demo: build
+# The commands over the example boards, before anything is proved.
+demo: toolchain
 	@.ci/demo
 
 # The gate: every proof from nothing, the must-fail edits, the tests and the program. One job a check, on one processor, and as many checks as
 # processors: further jobs of one check would take a third more of their time.
-test:
+test: toolchain
 	RT_JOBS=$$(nproc) .ci/lanes.py rt ci
+
+toolchain:
+	@command -v rt >/dev/null || { \
+	echo "rt isn't on the path: it is the command of the Rattle toolchain kit (rattle-kit-13f), which compiles and proves dtman." >&2; \
+	echo "The kit is one folder and needs no network: link its bin/rt into a folder of the path; then \`rt version\` tells the kit, \`rt doc\` its first page." >&2; \
+	exit 1; }
 
 clean:
 	rm -rf bin out crates/*/out

@@ -16,3 +16,6 @@ bin/dtman dump examples/sensor-board.dtb | cmp - examples/sensor-board.dts
 python3 examples/make_sensor_board.py "$work/made.dtb"
 cmp "$work/made.dtb" examples/sensor-board.dtb
 echo "examples: the sensor board's blob and source are one"
+bin/dtman plan examples/sensor-board.dtb examples/sensor-board.drivers >"$work/planned.plan"
+bin/dtman replay "$work/planned.plan" examples/planned.schedule >/dev/null
+echo "examples: the sensor board's plan is replayed"

@@ -1,19 +1,20 @@
 #!/usr/bin/env python3
-"""Runs the gate, and prints its processor minutes by crate: proofs, tests, edits, and all else.
+"""Runs the gate, and prints its processor minutes as the table of docs/gate.md: a crate's proofs, tests and edits, and the edits' number.
 
-It looks at the processes below the gate once a second, so what begins and ends between two looks is missed. Once a minute it
-takes the time of a yardstick, as the machine may be shared with others: what a minute did counts as much the more as the
-yardstick was faster than on a quiet machine.
+    RT_JOBS=4 python3 bench/gate/minutes.py .ci/lanes.py rt ci --anew
+
+With no words it runs `rt ci`; over `.ci/build --anew` it tells what the program alone takes. It looks at the processes below the
+gate once a second, so what begins and ends between two looks is missed.
 """
+import glob
 import os
+import re
 import subprocess
 import sys
 import time
 
 TICKS = os.sysconf("SC_CLK_TCK")
-KINDS = ("proofs", "tests", "edits", "other")
-YARDSTICK = "import time\ns = 0\nfor i in range(10_000_000): s += i * i\nprint(time.process_time())"
-QUIET = 1.85  # the yardstick's seconds on a quiet machine
+KINDS = ("proofs", "tests", "edits")
 
 
 def text_of(path):
@@ -45,56 +46,55 @@ def crate_of(number):
         folder = os.readlink(f"/proc/{number}/cwd")
     except OSError:
         return None
-    if not folder.startswith(os.getcwd() + "/crates/"):
+    if os.path.basename(os.path.dirname(folder)) != "crates":
         return crate, "edits"
     return crate, "tests" if "--test" in words else "proofs"
 
 
-class Speed:
-    """The yardstick's seconds, minute by minute."""
-
-    def __init__(self):
-        self.seconds, self.running, self.due = [], None, 0.0
-
-    def look(self):
-        """Begins the yardstick once a minute, and notes what it took."""
-        if self.running and self.running.poll() is not None:
-            self.seconds.append(float(self.running.stdout.read()))
-            self.running = None
-        if not self.running and time.monotonic() >= self.due:
-            self.due = time.monotonic() + 60
-            self.running = subprocess.Popen([sys.executable, "-c", YARDSTICK], stdout=subprocess.PIPE)
-
-    def now(self):
-        """How much of a quiet machine's work is done in a second."""
-        return QUIET / self.seconds[-1] if self.seconds else 1.0
-
-
-def main():
-    begin = time.monotonic()
-    gate = subprocess.Popen(sys.argv[1:] or ["rt", "ci"])
-    below, spent, speed, quiet = {gate.pid}, {}, Speed(), 0.0
+def watched(gate):
+    """The processor minutes of all that a gate starts until it ends, by crate and kind of work; under None those of no crate."""
+    below, spent = {gate.pid}, {}
     while gate.poll() is None:
-        speed.look()
         for number, parent, start, seconds in processes():
             if number in below or parent in below:
                 below.add(number)
                 row = spent.setdefault((number, start), [None, 0.0])
                 row[0] = row[0] or crate_of(number)
-                quiet += max(seconds - row[1], 0.0) * speed.now() / 60
                 row[1] = max(row[1], seconds)
         time.sleep(1)
-    table = {}
+    minutes = {}
     for what, seconds in spent.values():
-        crate, kind = what or ("all", "other")
-        table.setdefault(crate, dict.fromkeys(KINDS, 0.0))[kind] += seconds / 60
-    print(f"\n{'crate':16}" + "".join(f"{kind:>9}" for kind in KINDS))
-    for crate, row in sorted(table.items(), key=lambda it: -sum(it[1].values())):
-        print(f"{crate:16}" + "".join(f"{row[kind]:9.1f}" for kind in KINDS))
-    whole = sum(sum(row.values()) for row in table.values())
-    print(f"processor minutes: {whole:.0f}; minutes: {(time.monotonic() - begin) / 60:.0f}")
-    taken = speed.seconds or [QUIET]
-    print(f"yardstick: {min(taken):.1f} to {max(taken):.1f} seconds; at {QUIET} seconds these were {quiet:.0f} processor minutes")
+        minutes[what] = minutes.get(what, 0.0) + seconds / 60
+    return minutes
+
+
+def crates():
+    """The crates in the order of crates.txt."""
+    with open("crates.txt", encoding="utf-8") as file:
+        return re.findall(r"^(\w+)\b[^:\n]*:", file.read(), re.MULTILINE)
+
+
+def table(minutes):
+    """The table's lines: a row a crate, and one for all."""
+    yield "| Crate | Proofs | Tests | Edits | Their number |"
+    yield "|---|---|---|---|---|"
+    whole = 0
+    for crate in crates():
+        number = len(glob.glob(f"crates/{crate}/must-fail/*.edit"))
+        whole += number
+        cells = [f"{minutes[crate, kind]:.1f}" if (crate, kind) in minutes else "" for kind in KINDS]
+        yield f"| `{crate}` | {' | '.join(cells)} | {number or ''} |"
+    sums = [sum(it for what, it in minutes.items() if what and what[1] == kind) for kind in KINDS]
+    yield f"| all | {' | '.join(f'{it:.0f}' for it in sums)} | {whole} |"
+
+
+def main():
+    begin = time.monotonic()
+    gate = subprocess.Popen(sys.argv[1:] or ["rt", "ci"])
+    minutes = watched(gate)
+    print("", *table(minutes), sep="\n")
+    print(f"\nprocessor minutes: {sum(minutes.values()):.0f}, of which {minutes.get(None, 0):.0f} are of no crate")
+    print(f"minutes by the clock: {(time.monotonic() - begin) / 60:.0f}")
     return gate.returncode
 
 
