@@ -1,0 +1,169 @@
+#!/usr/bin/env bash
+# Hostile surroundings: memory, threads and files that fail at each call in turn (.ci/refusals.py, by the shim .ci/refusals.c), files that
+# can't take or give what is asked, and small stacks.
+set -euo pipefail
+cd "$(dirname "$0")/.."
+program=$PWD/bin/dtman
+examples=$PWD/examples
+work=$(mktemp -d)
+trap 'rm -rf "$work"' EXIT
+
+if compiler=$(command -v clang || command -v gcc || command -v cc); then
+	"$compiler" -std=c11 -O2 -Wall -Wextra -Werror -fPIC -shared -o "$work/refusals.so" .ci/refusals.c -ldl
+	python3 .ci/refusals.py "$work/refusals.so"
+else
+	echo "refusals: neither clang nor gcc nor cc is here, so memory, threads and files were not made to fail" >&2
+fi
+cd "$work"
+
+# fail WORD..: says what went wrong, and ends
+fail() {
+	echo "refusals: $*" >&2
+	exit 1
+}
+
+# ends STATUS LINE WORD..: what the program must end with and say of a command line; what it prints is in the file printed
+ends() {
+	local status=$1 line=$2 ended=0
+	shift 2
+	"$program" "$@" 2>told || ended=$?
+	[ "$ended" = "$status" ] && [ "$(cat told)" = "$line" ] || fail "dtman $* ended with $ended and said: $(cat told)"
+}
+
+# same FILE FILE: the two hold the same bytes
+same() {
+	cmp -s "$1" "$2" || fail "$1 doesn't hold what $2 does"
+}
+
+printf '/dts-v1/; / { ocp: ocp { }; };' >base.dts
+printf '/dts-v1/; /plugin/; &ocp { d { r = <&e>; }; e: e { }; };' >overlay.dts
+printf '/dts-v1/; / {' >wrong.dts
+"$program" compile base.dts base.dtb --symbols
+"$program" compile overlay.dts overlay.dtb
+"$program" overlay base.dtb overlay.dtb both.dtb
+"$program" compile "$examples/board.dts" board.dtb
+"$program" plan "$examples/sensor-board.dtb" "$examples/sensor-board.drivers" >board.plan
+
+# The commands that print.
+printing=(
+	"dump board.dtb"
+	"plan $examples/sensor-board.dtb $examples/sensor-board.drivers"
+	"replay board.plan $examples/planned.schedule"
+	"probe $examples/sensor-board.dtb $examples/sensor-board.drivers"
+	"explain 63"
+	"--help"
+	"--version"
+)
+
+# Outputs that take nothing: a full device, a pipe that nobody reads, closed standard output.
+ends 3 "error 81 CannotWrite /dev/full" compile base.dts /dev/full
+ends 3 "error 81 CannotWrite /dev/full" overlay base.dtb overlay.dtb /dev/full
+mkfifo unread
+exec 5<>unread 6>unread 5<&-
+for words in "${printing[@]}"; do
+	read -ra words <<<"$words"
+	ends 3 "error 81 CannotWrite stdout" "${words[@]}" >/dev/full
+	ends 3 "error 81 CannotWrite stdout" "${words[@]}" >&6
+	ends 3 "error 81 CannotWrite stdout" "${words[@]}" >&-
+	ends 3 "error 81 CannotWrite stdout" "${words[@]}" <&- >&-
+done
+exec 6>&-
+"$program" compile base.dts closed.dtb --symbols <&- >&- 2>&-
+same closed.dtb base.dtb
+"$program" compile wrong.dts closed.dtb <&- >&- 2>&- && fail "a wrong source was taken"
+same closed.dtb base.dtb
+
+# A file that may hold 4 KB and no more: OUT holds a beginning of the bytes, or what it held.
+cp base.dtb full.dtb
+(trap '' XFSZ && ulimit -f 4 && ends 3 "error 81 CannotWrite full.dtb" compile "$examples/board.dts" full.dtb)
+cmp -s full.dtb base.dtb || same full.dtb <(head -c "$(stat -c %s full.dtb)" board.dtb)
+
+# OUT is an input: it is read whole before it is written, and stays where the input is refused.
+cp base.dts taken
+ends 0 "" compile taken taken --symbols
+same taken base.dtb
+for place in 1 2; do
+	cp base.dtb taken-1
+	cp overlay.dtb taken-2
+	ends 0 "" overlay taken-1 taken-2 "taken-$place"
+	same "taken-$place" both.dtb
+done
+cp wrong.dts taken
+ends 1 "error 10 Syntax line 1" compile taken taken
+same taken wrong.dts
+cp base.dtb taken
+ends 1 "error 40 NotOverlay" overlay taken base.dtb taken
+ends 1 "error 40 NotOverlay" overlay base.dtb taken taken
+same taken base.dtb
+
+# OUT in a folder that isn't there, that is a file, that takes no files, or that is OUT itself.
+mkdir shut folder
+chmod 555 shut
+places=(none/out.dtb base.dts/out.dtb /proc/out.dtb folder "")
+# The rights of a file don't bind root.
+[ "$(id -u)" = 0 ] || places+=(shut/out.dtb)
+for out in "${places[@]}"; do
+	ends 3 "error 81 CannotWrite $out" compile base.dts "$out"
+	ends 3 "error 81 CannotWrite $out" overlay base.dtb overlay.dtb "$out"
+done
+
+# Inputs that aren't there, that are a folder, that come in two parts, and that have no end.
+for input in none folder base.dts/none; do
+	ends 3 "error 80 CannotRead $input" compile "$input" none.dtb
+	ends 3 "error 80 CannotRead $input" overlay base.dtb "$input" none.dtb
+	ends 3 "error 80 CannotRead $input" dump "$input"
+	ends 3 "error 80 CannotRead $input" plan base.dtb "$input"
+	ends 3 "error 80 CannotRead $input" probe "$input" none
+	ends 3 "error 80 CannotRead $input" replay board.plan "$input"
+done
+mkfifo parts
+{ head -c 7 base.dts && sleep 0.2 && tail -c +8 base.dts; } >parts &
+ends 0 "" compile parts parts.dtb --symbols
+same parts.dtb base.dtb
+ends 1 "error 17 TooLong line 1" compile /dev/zero none.dtb
+ends 1 "error 38 TooLarge" dump /dev/zero
+ends 3 "error 82 FileTooLong /dev/zero" replay /dev/zero "$examples/planned.schedule"
+[ ! -e none.dtb ] || fail "a refused compile or overlay made its OUT"
+echo "refusals of places: full, closed, unread, missing and endless ones are told, and a refused OUT is as it was"
+
+# deep BODY: nodes as deep as they go, and a body for the lowest
+deep() {
+	printf '/dts-v1/; / {'
+	printf ' n%s: n {' {1..64}
+	printf ' %s' "$1"
+	printf ' };%.0s' {0..64}
+}
+
+# long BEGIN END: four million letters between two texts
+long() {
+	printf '%s' "$1"
+	head -c 4000000 /dev/zero | tr '\0' a
+	printf '%s' "$2"
+}
+
+# within KB WORD..: the program is done with a stack of so many KB
+within() {
+	local room=$1
+	shift
+	(ulimit -Ss "$room" && exec env -i "$program" "$@" >printed) || fail "dtman $* needs more stack than $room KB"
+}
+
+parentheses=$(printf '(%.0s' {1..64})
+deep "r = <&n1 &n64>, &n64;" >deep-references.dts
+deep "p = <${parentheses}1${parentheses//(/)}>;" >deep-parentheses.dts
+long '/dts-v1/; / { s = "' '"; };' >long-string.dts
+{ long '# ' $'\n' && echo 'driver x a'; } >long.drivers
+{ long '# ' $'\n' && cat "$examples/planned.schedule"; } >long.schedule
+for source in deep-references deep-parentheses long-string; do
+	within 256 compile "$source.dts" "$source.dtb" --symbols
+	within 64 dump "$source.dtb"
+	within 64 plan "$source.dtb" long.drivers
+	within 64 probe "$source.dtb" long.drivers --workers 64
+done
+printf '/dts-v1/; /plugin/; &n1 { y: y { r = <&n64 &y>; }; };' >deep-overlay.dts
+within 256 compile deep-overlay.dts deep-overlay.dtb
+within 64 overlay deep-references.dtb deep-overlay.dtb deep-both.dtb
+within 64 replay board.plan long.schedule
+within 64 explain 63
+within 64 --help
+echo "stacks: the deepest inputs take at most 256 KB of stack in compile, and 64 KB in the other commands"
