@@ -3,8 +3,9 @@
 # can't take or give what is asked, and small stacks.
 set -euo pipefail
 cd "$(dirname "$0")/.."
-program=$PWD/bin/dtman
-examples=$PWD/examples
+root=$PWD
+program=$root/bin/dtman
+examples=$root/examples
 work=$(mktemp -d)
 trap 'rm -rf "$work"' EXIT
 
@@ -70,13 +71,24 @@ done
 exec 6>&-
 "$program" compile base.dts closed.dtb --symbols <&- >&- 2>&-
 same closed.dtb base.dtb
-"$program" compile wrong.dts closed.dtb <&- >&- 2>&- && fail "a wrong source was taken"
+ended=0
+"$program" compile wrong.dts closed.dtb <&- >&- 2>&- || ended=$?
+[ "$ended" = 1 ] || fail "with nothing open a wrong source ended with $ended"
 same closed.dtb base.dtb
 
-# A file that may hold 4 KB and no more: OUT holds a beginning of the bytes, or what it held.
+# A file that may hold 4 KB and no more: OUT holds a beginning of the bytes, or what it held. What is told never gets into it.
+limited() (trap '' XFSZ && ulimit -f 4 && exec "$program" compile "$examples/board.dts" full.dtb)
+begins() {
+	cmp -s full.dtb base.dtb || same full.dtb <(head -c "$(stat -c %s full.dtb)" board.dtb)
+}
 cp base.dtb full.dtb
-(trap '' XFSZ && ulimit -f 4 && ends 3 "error 81 CannotWrite full.dtb" compile "$examples/board.dts" full.dtb)
-cmp -s full.dtb base.dtb || same full.dtb <(head -c "$(stat -c %s full.dtb)" board.dtb)
+ended=0
+limited 2>told || ended=$?
+[ "$ended" = 3 ] && [ "$(cat told)" = "error 81 CannotWrite full.dtb" ] || fail "a full file ended with $ended and: $(cat told)"
+begins
+cp base.dtb full.dtb
+limited 2>&- && fail "a full file was written whole"
+begins
 
 # OUT is an input: it is read whole before it is written, and stays where the input is refused.
 cp base.dts taken
@@ -126,44 +138,6 @@ ends 3 "error 82 FileTooLong /dev/zero" replay /dev/zero "$examples/planned.sche
 [ ! -e none.dtb ] || fail "a refused compile or overlay made its OUT"
 echo "refusals of places: full, closed, unread, missing and endless ones are told, and a refused OUT is as it was"
 
-# deep BODY: nodes as deep as they go, and a body for the lowest
-deep() {
-	printf '/dts-v1/; / {'
-	printf ' n%s: n {' {1..64}
-	printf ' %s' "$1"
-	printf ' };%.0s' {0..64}
-}
-
-# long BEGIN END: four million letters between two texts
-long() {
-	printf '%s' "$1"
-	head -c 4000000 /dev/zero | tr '\0' a
-	printf '%s' "$2"
-}
-
-# within KB WORD..: the program is done with a stack of so many KB
-within() {
-	local room=$1
-	shift
-	(ulimit -Ss "$room" && exec env -i "$program" "$@" >printed) || fail "dtman $* needs more stack than $room KB"
-}
-
-parentheses=$(printf '(%.0s' {1..64})
-deep "r = <&n1 &n64>, &n64;" >deep-references.dts
-deep "p = <${parentheses}1${parentheses//(/)}>;" >deep-parentheses.dts
-long '/dts-v1/; / { s = "' '"; };' >long-string.dts
-{ long '# ' $'\n' && echo 'driver x a'; } >long.drivers
-{ long '# ' $'\n' && cat "$examples/planned.schedule"; } >long.schedule
-for source in deep-references deep-parentheses long-string; do
-	within 256 compile "$source.dts" "$source.dtb" --symbols
-	within 64 dump "$source.dtb"
-	within 64 plan "$source.dtb" long.drivers
-	within 64 probe "$source.dtb" long.drivers --workers 64
-done
-printf '/dts-v1/; /plugin/; &n1 { y: y { r = <&n64 &y>; }; };' >deep-overlay.dts
-within 256 compile deep-overlay.dts deep-overlay.dtb
-within 64 overlay deep-references.dtb deep-overlay.dtb deep-both.dtb
-within 64 replay board.plan long.schedule
-within 64 explain 63
-within 64 --help
-echo "stacks: the deepest inputs take at most 256 KB of stack in compile, and 64 KB in the other commands"
+cd "$root"
+python3 bench/stack/needs.py check
+echo "stacks: the deepest inputs take at most 512 KB of stack in compile, and 64 KB in the other commands"
