@@ -46,7 +46,7 @@ __attribute__((constructor)) static void begin(void)
 	start_thread = (int (*)(pthread_t *, const pthread_attr_t *, void *(*)(void *), void *))dlsym(RTLD_NEXT, "pthread_create");
 	if (!rule || !file || sscanf(rule, "%15s %ld %ld %d", name, &first, &last, &how) != 4)
 		return;
-	long fd = syscall(SYS_open, file, O_RDWR);
+	long fd = syscall(SYS_openat, AT_FDCWD, file, O_RDWR);
 	long at = syscall(SYS_mmap, NULL, sizeof *tally, PROT_READ | PROT_WRITE, MAP_SHARED, fd, 0L);
 	if (fd < 0 || at == -1)
 		abort();
@@ -120,7 +120,7 @@ int open(const char *path, int flags, ...)
 	va_end(rest);
 	if (fails(OPEN, path))
 		return -1;
-	int fd = (int)syscall(SYS_open, path, flags, mode);
+	int fd = (int)syscall(SYS_openat, AT_FDCWD, path, flags, mode);
 	if (fd >= 0 && fd < 64)
 		snprintf(opened[fd], sizeof opened[fd], "%s", path);
 	return fd;
@@ -139,7 +139,7 @@ static ssize_t room(enum kind met, int fd, size_t size)
 	if (!fails(met, path_of(fd)))
 		return (ssize_t)size;
 	if (how == GROWN) {
-		long more = syscall(SYS_open, path_of(fd), O_WRONLY | O_APPEND);
+		long more = syscall(SYS_openat, AT_FDCWD, path_of(fd), O_WRONLY | O_APPEND);
 		if (more < 0 || syscall(SYS_write, more, " ", 1) != 1)
 			abort();
 		syscall(SYS_close, more);
@@ -184,10 +184,10 @@ int fsync(int fd)
 
 int rename(const char *from, const char *to)
 {
-	return fails(CHANGE, to) ? -1 : (int)syscall(SYS_rename, from, to);
+	return fails(CHANGE, to) ? -1 : renameat(AT_FDCWD, from, AT_FDCWD, to);
 }
 
 int unlink(const char *path)
 {
-	return fails(CHANGE, path) ? -1 : (int)syscall(SYS_unlink, path);
+	return fails(CHANGE, path) ? -1 : unlinkat(AT_FDCWD, path, 0);
 }

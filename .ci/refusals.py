@@ -65,7 +65,7 @@ class Case:
         for name, data in inputs.items():
             with open(f"{folder}/{name}", "wb") as file:
                 file.write(data)
-        self.names = set(os.listdir(folder)) | {"OUT", "tally"}
+        self.inputs = set(inputs)
         self.ample, _ = self.run()
 
     def put(self, name, data):
@@ -89,10 +89,9 @@ class Case:
         except subprocess.TimeoutExpired:
             answer = Answer(-1000, b"", b"it didn't end in 30 seconds", self.out())
         _, failed, path = TALLY.unpack(contents_of(f"{self.folder}/tally"))
-        beside = set(os.listdir(self.folder)) - self.names
-        if beside:
-            faults.append(f"{self.line} ({rule}): left {beside} beside OUT")
-            self.names |= beside
+        for name in set(os.listdir(self.folder)) - self.inputs - {"OUT", "tally"}:
+            faults.append(f"{self.line} ({rule}): left {name} beside OUT")
+            os.remove(f"{self.folder}/{name}")
         return answer, Met(failed, path.split(b"\0")[0].decode())
 
     def ample_over(self, old):
@@ -100,7 +99,10 @@ class Case:
         return self.ample if self.ample.out is not None else self.ample._replace(out=old)
 
     def sweep(self, kind, how, judge, endless=False, old=None):
-        """Lets the Nth call of a kind fail, for N from 1 until no call does, alone or with all behind it, and gives the number of runs."""
+        """Lets the Nth call of a kind fail, for N from 1 until no call does, alone or with all behind it, and gives the number of runs.
+
+        It is more than 1 where the command makes such calls, and the shim meets them.
+        """
         old = old if self.has_out else None
         for number in itertools.count(1):
             rule = f"{kind} {number} {ENDLESS if endless else number} {how}"
@@ -130,16 +132,18 @@ def is_cannot_write(case, answer, met, old):
     if met.path == "stderr":
         return answer[::3] == ample[::3] and answer.printed == ample.printed and ample.told.startswith(answer.told)
     out_stands = answer.out == old or (ample.out or b"").startswith(answer.out or b"")
-    told = f"error 81 CannotWrite {met.path}\n".encode()
+    told = f"error 81 CannotWrite {'stdout' if met.path == 'stdout' else 'OUT'}\n".encode()
     # Where more than one write failed, standard error may be among them.
     is_told = told.startswith(answer.told) if met.failed > 1 else answer.told == told
     return answer.status == 3 and is_told and ample.printed.startswith(answer.printed) and out_stands
 
 
 def is_cannot_open(case, answer, met, old):
-    if met.path == "OUT":
-        return is_cannot_write(case, answer, met, old)
-    return is_cannot_read(case, answer, met, old)
+    return (is_cannot_read if met.path in case.inputs else is_cannot_write)(case, answer, met, old)
+
+
+def is_ample_or_cannot_write(case, answer, met, old):
+    return is_ample(case, answer, met, old) or is_cannot_write(case, answer, met, old)
 
 
 def side_by_side(task, cases):
@@ -171,30 +175,39 @@ def inputs_of(room, filling):
     return made
 
 
+# The status where no call fails, and the command line.
 LINES = """
-compile base.dts OUT
-compile base.dts OUT --symbols
-compile overlay.dts OUT
-compile overlay.dts OUT --symbols
-overlay base.dtb overlay.dtb OUT
-dump clock.dtb
-plan clock.dtb drivers
-plan clock.dtb drivers --dot
-replay plan schedule
-probe clock.dtb drivers --workers 2
-explain 63
-compile wrong.dts OUT
-explain 300
-compile base.dts OUT --nix
---help
---version
+0 compile base.dts OUT
+0 compile base.dts OUT --symbols
+0 compile overlay.dts OUT
+0 compile overlay.dts OUT --symbols
+0 overlay base.dtb overlay.dtb OUT
+0 dump clock.dtb
+0 plan clock.dtb drivers
+0 plan clock.dtb drivers --dot
+0 replay plan schedule
+0 probe clock.dtb drivers --workers 2
+0 explain 63
+0 --help
+0 --version
+1 compile wrong.dts OUT
+1 overlay base.dtb clock.dtb OUT
+1 plan wrong.dts drivers
+1 replay plan drivers
+2 explain 300
+2 compile base.dts OUT --nix
 """.strip().splitlines()
 
 
 def cases_of(room, filling):
     os.makedirs(room)
     made = inputs_of(room, filling)
-    return [Case(line, f"{room}/{number}", made) for number, line in enumerate(LINES)]
+    cases = []
+    for number, (status, line) in enumerate(it.split(" ", 1) for it in LINES):
+        cases.append(Case(line, f"{room}/{number}", made))
+        if cases[-1].ample.status != int(status):
+            report(f"{line} (no call fails)", cases[-1].ample)
+    return cases
 
 
 def try_memory(room):
@@ -202,6 +215,8 @@ def try_memory(room):
 
     def both(case):
         alone = case.sweep("memory", errno.ENOMEM, is_ample_or_no_memory)
+        if alone == 1:
+            faults.append(f"{case.line}: no request for memory was met")
         return alone + case.sweep("memory", errno.ENOMEM, is_ample_or_no_memory, True, OLD)
 
     cases = cases_of(room, 0)
@@ -215,7 +230,10 @@ def try_threads(room):
 
     def all_ways(case):
         ways = itertools.product((errno.EAGAIN, errno.EPERM), (False, True))
-        return sum(case.sweep("thread", how, is_ample, endless) for how, endless in ways)
+        runs = [case.sweep("thread", how, is_ample, endless) for how, endless in ways]
+        if min(runs) == 1 and not case.line.endswith(" 1"):
+            faults.append(f"{case.line}: no thread was met")
+        return sum(runs)
 
     if len({case.ample for case in cases}) > 1:
         faults.append("probe: the report hangs on the number of workers")
@@ -229,13 +247,19 @@ def try_files(room):
         runs = 0
         for endless in (False, True):
             for how in (errno.EIO, errno.EINTR, errno.ENOSPC):
-                runs += case.sweep("read", how, is_cannot_read, endless, OLD)
-                runs += case.sweep("write", how, is_cannot_write, endless, OLD)
+                reads = case.sweep("read", how, is_cannot_read, endless, OLD)
+                writes = case.sweep("write", how, is_cannot_write, endless, OLD)
+                runs += reads + writes
+                has_inputs = case.ample.status != 2 and not case.inputs.isdisjoint(case.line.split())
+                if writes == 1 or (reads == 1 and has_inputs):
+                    faults.append(f"{case.line}: no read or no write was met")
             runs += sum(case.sweep("open", how, is_cannot_open, endless, OLD) for how in (errno.EIO, errno.ENOSPC, errno.EMFILE))
             runs += case.sweep("seed", errno.EIO, is_cannot_read, endless, OLD)
             runs += case.sweep("close", errno.EIO, is_ample, endless, OLD)
         # An open that was interrupted is tried again. Blanks at the end of a file say nothing.
         runs += case.sweep("open", errno.EINTR, is_ample) + case.sweep("read", GROWN, is_ample) + case.sweep("write", SHORT, is_ample)
+        # Files that are renamed, removed or forced to the disk.
+        runs += case.sweep("change", errno.EIO, is_ample_or_cannot_write, False, OLD)
         for kind in ("read", "write"):
             answer, _ = case.run(f"{kind} 1 {ENDLESS} {SHORT}")
             if answer != case.ample:
