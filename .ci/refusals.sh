@@ -5,7 +5,6 @@ set -euo pipefail
 cd "$(dirname "$0")/.."
 root=$PWD
 program=$root/bin/dtman
-examples=$root/examples
 work=$(mktemp -d)
 trap 'rm -rf "$work"' EXIT
 
@@ -23,7 +22,7 @@ fail() {
 	exit 1
 }
 
-# ends STATUS LINE WORD..: what the program must end with and say of a command line; what it prints is in the file printed
+# ends STATUS LINE WORD..: what the program must end with and say of a command line
 ends() {
 	local status=$1 line=$2 ended=0
 	shift 2
@@ -31,34 +30,41 @@ ends() {
 	[ "$ended" = "$status" ] && [ "$(cat told)" = "$line" ] || fail "dtman $* ended with $ended and said: $(cat told)"
 }
 
+# silent STATUS LINE WORD..: that, and it must print nothing
+silent() {
+	ends "$@" >printed
+	[ ! -s printed ] || fail "dtman ${*:3} printed something"
+}
+
 # same FILE FILE: the two hold the same bytes
 same() {
 	cmp -s "$1" "$2" || fail "$1 doesn't hold what $2 does"
 }
 
+cp "$root"/examples/{board.dts,sensor-board.dtb,sensor-board.drivers,planned.schedule} .
 printf '/dts-v1/; / { ocp: ocp { }; };' >base.dts
 printf '/dts-v1/; /plugin/; &ocp { d { r = <&e>; }; e: e { }; };' >overlay.dts
 printf '/dts-v1/; / {' >wrong.dts
 "$program" compile base.dts base.dtb --symbols
 "$program" compile overlay.dts overlay.dtb
 "$program" overlay base.dtb overlay.dtb both.dtb
-"$program" compile "$examples/board.dts" board.dtb
-"$program" plan "$examples/sensor-board.dtb" "$examples/sensor-board.drivers" >board.plan
+"$program" compile board.dts board.dtb
+"$program" plan sensor-board.dtb sensor-board.drivers >board.plan
 
 # The commands that print.
 printing=(
 	"dump board.dtb"
-	"plan $examples/sensor-board.dtb $examples/sensor-board.drivers"
-	"replay board.plan $examples/planned.schedule"
-	"probe $examples/sensor-board.dtb $examples/sensor-board.drivers"
+	"plan sensor-board.dtb sensor-board.drivers"
+	"replay board.plan planned.schedule"
+	"probe sensor-board.dtb sensor-board.drivers"
 	"explain 63"
 	"--help"
 	"--version"
 )
 
 # Outputs that take nothing: a full device, a pipe that nobody reads, closed standard output.
-ends 3 "error 81 CannotWrite /dev/full" compile base.dts /dev/full
-ends 3 "error 81 CannotWrite /dev/full" overlay base.dtb overlay.dtb /dev/full
+silent 3 "error 81 CannotWrite /dev/full" compile base.dts /dev/full
+silent 3 "error 81 CannotWrite /dev/full" overlay base.dtb overlay.dtb /dev/full
 mkfifo unread
 exec 5<>unread 6>unread 5<&-
 for words in "${printing[@]}"; do
@@ -77,7 +83,7 @@ ended=0
 same closed.dtb base.dtb
 
 # A file that may hold 4 KB and no more: OUT holds a beginning of the bytes, or what it held. What is told never gets into it.
-limited() (trap '' XFSZ && ulimit -f 4 && exec "$program" compile "$examples/board.dts" full.dtb)
+limited() (trap '' XFSZ && ulimit -f 4 && exec "$program" compile board.dts full.dtb)
 begins() {
 	cmp -s full.dtb base.dtb || same full.dtb <(head -c "$(stat -c %s full.dtb)" board.dtb)
 }
@@ -92,20 +98,20 @@ begins
 
 # OUT is an input: it is read whole before it is written, and stays where the input is refused.
 cp base.dts taken
-ends 0 "" compile taken taken --symbols
+silent 0 "" compile taken taken --symbols
 same taken base.dtb
 for place in 1 2; do
 	cp base.dtb taken-1
 	cp overlay.dtb taken-2
-	ends 0 "" overlay taken-1 taken-2 "taken-$place"
+	silent 0 "" overlay taken-1 taken-2 "taken-$place"
 	same "taken-$place" both.dtb
 done
 cp wrong.dts taken
-ends 1 "error 10 Syntax line 1" compile taken taken
+silent 1 "error 10 Syntax line 1" compile taken taken
 same taken wrong.dts
 cp base.dtb taken
-ends 1 "error 40 NotOverlay" overlay taken base.dtb taken
-ends 1 "error 40 NotOverlay" overlay base.dtb taken taken
+silent 1 "error 40 NotOverlay" overlay taken base.dtb taken
+silent 1 "error 40 NotOverlay" overlay base.dtb taken taken
 same taken base.dtb
 
 # OUT in a folder that isn't there, that is a file, that takes no files, or that is OUT itself.
@@ -115,26 +121,27 @@ places=(none/out.dtb base.dts/out.dtb /proc/out.dtb folder "")
 # The rights of a file don't bind root.
 [ "$(id -u)" = 0 ] || places+=(shut/out.dtb)
 for out in "${places[@]}"; do
-	ends 3 "error 81 CannotWrite $out" compile base.dts "$out"
-	ends 3 "error 81 CannotWrite $out" overlay base.dtb overlay.dtb "$out"
+	silent 3 "error 81 CannotWrite $out" compile base.dts "$out"
+	silent 3 "error 81 CannotWrite $out" overlay base.dtb overlay.dtb "$out"
 done
 
 # Inputs that aren't there, that are a folder, that come in two parts, and that have no end.
 for input in none folder base.dts/none; do
-	ends 3 "error 80 CannotRead $input" compile "$input" none.dtb
-	ends 3 "error 80 CannotRead $input" overlay base.dtb "$input" none.dtb
-	ends 3 "error 80 CannotRead $input" dump "$input"
-	ends 3 "error 80 CannotRead $input" plan base.dtb "$input"
-	ends 3 "error 80 CannotRead $input" probe "$input" none
-	ends 3 "error 80 CannotRead $input" replay board.plan "$input"
+	silent 3 "error 80 CannotRead $input" compile "$input" none.dtb
+	silent 3 "error 80 CannotRead $input" overlay base.dtb "$input" none.dtb
+	silent 3 "error 80 CannotRead $input" dump "$input"
+	silent 3 "error 80 CannotRead $input" plan base.dtb "$input"
+	silent 3 "error 80 CannotRead $input" probe "$input" none
+	silent 3 "error 80 CannotRead $input" replay board.plan "$input"
 done
 mkfifo parts
 { head -c 7 base.dts && sleep 0.2 && tail -c +8 base.dts; } >parts &
-ends 0 "" compile parts parts.dtb --symbols
+silent 0 "" compile parts parts.dtb --symbols
 same parts.dtb base.dtb
-ends 1 "error 17 TooLong line 1" compile /dev/zero none.dtb
-ends 1 "error 38 TooLarge" dump /dev/zero
-ends 3 "error 82 FileTooLong /dev/zero" replay /dev/zero "$examples/planned.schedule"
+wait
+silent 1 "error 17 TooLong line 1" compile /dev/zero none.dtb
+silent 1 "error 38 TooLarge" dump /dev/zero
+silent 3 "error 82 FileTooLong /dev/zero" replay /dev/zero planned.schedule
 [ ! -e none.dtb ] || fail "a refused compile or overlay made its OUT"
 echo "refusals of places: full, closed, unread, missing and endless ones are told, and a refused OUT is as it was"
 
