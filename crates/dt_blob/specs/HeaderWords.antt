@@ -5,7 +5,7 @@ use Rattle.dt_blob.specs.declared.error.BlobError.{BlobError}
 use Rattle.dt_blob.specs.declared.error.BlobError.TheVariants.{TooLarge, Truncated, BadMagic, BadVersion, BadLayout}
 use Rattle.dt_blob.specs.declared.read_header.Header.{Header}
 use Rattle.dt_blob.specs.Format.{magic_number, header_size, format_version}
-use Rattle.dt_blob.specs.declared.room.TheConstants.{MAX_SIZE}
+use Rattle.dt_blob.specs.Blob.{limit}
 
 -- the 32-bit number at a place
 abbrev pub word_at : ℕ → List ℕ → ℕ
@@ -43,7 +43,7 @@ fault_in h len =
 -- the first fault of the bytes that the header shows, in the order of the tests
 unfoldable pub header_fault : List ℕ → Option BlobError
 header_fault bytes =
-    if nat_lt MAX_SIZE (length bytes) then Some TooLarge
+    if nat_lt limit (length bytes) then Some TooLarge
     else (if nat_lt (length bytes) header_size then Some Truncated
     else fault_in (header_of bytes) (length bytes))
 
