@@ -7,7 +7,7 @@ use Rattle.std.specs.Str.{bytes_eq}
 use Rattle.std.proofs.lemmas.Bool.{leb-false}
 use Rattle.std.proofs.lemmas.List.{map-append}
 use Rattle.std.proofs.lemmas.List.Elements.{All-nil, All-cons, All-append}
-use Rattle.bus_plan.specs.declared.limits.TheConstants.{MAX_DEVICES}
+use Rattle.bus_plan.specs.Limits.{most_devices}
 use Rattle.bus_plan.specs.declared.error.PlanError.{PlanError}
 use Rattle.bus_plan.specs.declared.error.PlanError.TheVariants.{BadLine, DuplicateDevice, TooManyDevices}
 use Rattle.bus_plan.specs.declared.matching.Matching.{Matching}
@@ -32,7 +32,7 @@ pub record IsLawfulLine (d : DeviceLine) : Type 0 where
   pub matching : IsLawfulMatching d.matching
 
 pub record IsLawfulListing (ds : List DeviceLine) : Type 0 where
-  pub few : length ds ≤ MAX_DEVICES
+  pub few : length ds ≤ most_devices
   pub distinct : are_distinct (line_paths ds) ≡ true
   pub lines : All IsLawfulLine ds
 
@@ -100,8 +100,8 @@ lawful-line number line d e = by_test (is_line line) (is_skipped (fields line)) 
     by_test false u e = absurd (cc)
 
 -- ---- the lines
-refusal_none : (ds : List DeviceLine) (d : DeviceLine) → option_to_list (refusal_of ds d) ≡ [] → (is_among d.path (line_paths ds) ≡ false) × (nat_le MAX_DEVICES (length ds) ≡ false)
-refusal_none ds d e = by_test (is_among d.path (line_paths ds)) (nat_le MAX_DEVICES (length ds)) e
+refusal_none : (ds : List DeviceLine) (d : DeviceLine) → option_to_list (refusal_of ds d) ≡ [] → (is_among d.path (line_paths ds) ≡ false) × (nat_le most_devices (length ds) ≡ false)
+refusal_none ds d e = by_test (is_among d.path (line_paths ds)) (nat_le most_devices (length ds)) e
   where
     by_test : (t u : Bool) → option_to_list (if t then Some (DuplicateDevice d.number) else (if u then Some TooManyDevices else None)) ≡ [] → (t ≡ false) × (u ≡ false)
     by_test true u e = absurd (cc)
@@ -114,8 +114,8 @@ lawful-step ls n ds (Err e) says none lawful = absurd (cc)
 lawful-step ls n ds (Ok None) says none lawful = subst IsLawfulListing (sym (append-nil ds)) lawful
 lawful-step ls n ds (Ok (Some d)) says none lawful =
     let new = refusal_none ds d none in
-    let room : length ds < MAX_DEVICES = leb-false MAX_DEVICES (length ds) new.1 in
-    let before : length ds ≤ MAX_DEVICES = lawful.few in
+    let room : length ds < most_devices = leb-false most_devices (length ds) new.1 in
+    let before : length ds ≤ most_devices = lawful.few in
     record {
       few = omega (arith, length-append ds (d ∷ []));
       distinct = ap are_distinct (map-append (λ d. d.path) ds (d ∷ [])) ∙ distinct-more (line_paths ds) d.path lawful.distinct new.0;

@@ -5,7 +5,7 @@ use Rattle.std.specs.List.{list_all, cons_option}
 use Rattle.std.specs.Prelude.{Some, None, if◌then◌else◌}
 use Rattle.std.proofs.lemmas.List.{get_or-map, length-map}
 use Rattle.std.proofs.lemmas.List.Elements.{All-map}
-use Rattle.bus_plan.specs.declared.limits.TheConstants.{MAX_DEVICES}
+use Rattle.bus_plan.specs.Limits.{most_devices}
 use Rattle.bus_plan.specs.declared.error.PlanError.{PlanError}
 use Rattle.bus_plan.specs.declared.error.PlanError.TheVariants.{UnknownPath}
 use Rattle.bus_plan.specs.Plan.{PlannedDevice, nothing, planned, paths, is_device_path, IsLawfulDevice, IsLawful}
@@ -97,7 +97,7 @@ lawful-plan ds lawful none =
     let known_all = all-known known ds none in
     let long : length (plan_of ds) ≡ length ds = length-map ds (planned_of known) in
     let long_known : length known ≡ length ds = length-map ds (λ d. d.path) in
-    let few : length ds ≤ MAX_DEVICES = lawful.few in
+    let few : length ds ≤ most_devices = lawful.few in
     record {
       few = omega arith;
       devices = All-map IsLawfulDevice (planned_of known) ds (λ k x within. lawful-device known _ (lawful.lines k x within));

@@ -2,7 +2,7 @@
 use Rattle.std.proofs.Common.{◌≡◌, ◌∙◌, ap, ℕ, zero, suc, ◌+◌, ◌<◌, ◌≤◌, true, false, List, [], ◌∷◌, ◌++◌, length, drop, get_or, sym, arith, add-one, length-drop, ◌-◌}
 use Rattle.std.specs.Prelude.{Option, Some, None, Result, if◌then◌else◌, nat_le}
 use Rattle.std.specs.Option.{option_to_list}
-use Rattle.bus_plan.specs.declared.limits.TheConstants.{MAX_DEVICES}
+use Rattle.bus_plan.specs.Limits.{most_devices}
 use Rattle.bus_plan.specs.declared.error.PlanError.{PlanError}
 use Rattle.bus_plan.specs.declared.error.PlanError.TheVariants.{DuplicateDevice, TooManyDevices}
 use Rattle.bus_plan.specs.PlanPaths.{is_among}
@@ -11,16 +11,16 @@ use Rattle.bus_plan.specs.Private.Reading.{IsFirst}
 
 -- ---- the refusals of a further device
 pub refusal-there : (ds : List DeviceLine) (d : DeviceLine) → is_among d.path (line_paths ds) ≡ true → refusal_of ds d ≡ Some (DuplicateDevice d.number)
-refusal-there ds d there = ap (λ t. if t then Some (DuplicateDevice d.number) else (if nat_le MAX_DEVICES (length ds) then Some TooManyDevices else None)) there
+refusal-there ds d there = ap (λ t. if t then Some (DuplicateDevice d.number) else (if nat_le most_devices (length ds) then Some TooManyDevices else None)) there
 
-pub refusal-full : (ds : List DeviceLine) (d : DeviceLine) → is_among d.path (line_paths ds) ≡ false → nat_le MAX_DEVICES (length ds) ≡ true → refusal_of ds d ≡ Some TooManyDevices
+pub refusal-full : (ds : List DeviceLine) (d : DeviceLine) → is_among d.path (line_paths ds) ≡ false → nat_le most_devices (length ds) ≡ true → refusal_of ds d ≡ Some TooManyDevices
 refusal-full ds d new full =
-    ap (λ t. if t then Some (DuplicateDevice d.number) else (if nat_le MAX_DEVICES (length ds) then Some TooManyDevices else None)) new
+    ap (λ t. if t then Some (DuplicateDevice d.number) else (if nat_le most_devices (length ds) then Some TooManyDevices else None)) new
     ∙ ap (λ t. if t then Some TooManyDevices else None) full
 
-pub refusal-none : (ds : List DeviceLine) (d : DeviceLine) → is_among d.path (line_paths ds) ≡ false → nat_le MAX_DEVICES (length ds) ≡ false → refusal_of ds d ≡ None
+pub refusal-none : (ds : List DeviceLine) (d : DeviceLine) → is_among d.path (line_paths ds) ≡ false → nat_le most_devices (length ds) ≡ false → refusal_of ds d ≡ None
 refusal-none ds d new room =
-    ap (λ t. if t then Some (DuplicateDevice d.number) else (if nat_le MAX_DEVICES (length ds) then Some TooManyDevices else None)) new
+    ap (λ t. if t then Some (DuplicateDevice d.number) else (if nat_le most_devices (length ds) then Some TooManyDevices else None)) new
     ∙ ap (λ t. if t then Some TooManyDevices else None) room
 
 -- ---- a walk over the lines

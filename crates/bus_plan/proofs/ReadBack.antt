@@ -10,7 +10,7 @@ use Rattle.std.proofs.lemmas.List.{get_or-map, length-map, map-append, take_more
 use Rattle.std.proofs.lemmas.List.Elements.{filter_map-append}
 use Rattle.std.proofs.lemmas.List.Folds.{list_any_at}
 use Rattle.std.proofs.lemmas.List.Sums.{position_or_len_is}
-use Rattle.bus_plan.specs.declared.limits.TheConstants.{MAX_DEVICES}
+use Rattle.bus_plan.specs.Limits.{most_devices}
 use Rattle.bus_plan.specs.declared.error.PlanError.{PlanError}
 use Rattle.bus_plan.specs.declared.error.PlanError.TheVariants.{UnknownPath}
 use Rattle.bus_plan.specs.Laws.{PlanTextIsReadBack}
@@ -75,12 +75,12 @@ module _ (plan : List PlannedDevice) (lawful : IsLawful plan) where
 
   no-fault : (n : ℕ) → n < length plan → fault_at (texts_of plan) n ≡ None
   no-fault n within =
-      let few : length plan ≤ MAX_DEVICES = lawful.few in
+      let few : length plan ≤ most_devices = lawful.few in
       let count = length-to n in
-      let room : length (lines_to plan n) < MAX_DEVICES = omega arith in
+      let room : length (lines_to plan n) < most_devices = omega arith in
       ap (λ ds. fault_of ds (meaning_at (texts_of plan) n)) (devices-are n (omega arith))
       ∙ ap (fault_of (lines_to plan n)) (says n within)
-      ∙ refusal-none (lines_to plan n) (line_of plan (n + 1) (planned plan n)) (line-new n within) (lt-leb MAX_DEVICES (length (lines_to plan n)) room)
+      ∙ refusal-none (lines_to plan n) (line_of plan (n + 1) (planned plan n)) (line-new n within) (lt-leb most_devices (length (lines_to plan n)) room)
 
   faultless : (n : ℕ) → n ≤ length plan → faults_before (texts_of plan) n ≡ []
   faultless zero within = refl
