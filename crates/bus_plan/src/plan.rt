@@ -173,7 +173,7 @@ impl Plan {
     {
         let strings = string_set(alloc, self.index.hasher(), compatibles)?;
         let gains = gains(alloc, self.devices.as_slice(), name, &strings)?;
-        Ok(give(self.devices.as_mut_slice(), gains))
+        Ok(give(&mut self.devices, gains))
     }
 
     /// An equal plan.
