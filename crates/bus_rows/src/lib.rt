@@ -5,6 +5,10 @@
 
 #[cfg(test)]
 mod cores;
+#[cfg(test)]
+mod counting;
+#[cfg(test)]
+mod counts;
 pub mod gate;
 #[cfg(test)]
 mod keepers;

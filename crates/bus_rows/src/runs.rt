@@ -4,7 +4,7 @@ ghost use Rattle.std.specs.Prelude.{◌<◌};
 
 use crate::gate::Gate;
 use crate::replays::CLOCK_AND_UART;
-use bus_manager::{MAX_WORKERS, Prober, Ran, RunError, TableProber, run, run_locked};
+use bus_manager::{Prober, Ran, RunError, TableProber, run, run_locked};
 use bus_plan::{Device, Plan, read_plan};
 use std::alloc::Global;
 use std::hash::RandomState;
@@ -12,23 +12,26 @@ use std::process::Abort;
 use std::sync::Wait;
 use std::thread::Threads;
 
-// The two ways of a run.
+/// The two ways of a run.
 #[derive(Clone, Copy, Debug, PartialEq, Eq)]
-enum Way {
+pub(crate) enum Way {
     Board,
     Lock,
 }
 
 const WAYS: [Way; 2] = [Way::Board, Way::Lock];
 
+// The most workers that a run may have.
+const MOST: usize = 64;
+
 // Each way with one, two and the most workers.
 const LAWFUL: &[(Way, usize)] = &[
     (Way::Board, 1),
     (Way::Board, 2),
-    (Way::Board, MAX_WORKERS),
+    (Way::Board, MOST),
     (Way::Lock, 1),
     (Way::Lock, 2),
-    (Way::Lock, MAX_WORKERS),
+    (Way::Lock, MOST),
 ];
 
 // Each way with numbers of workers that are refused.
@@ -41,7 +44,8 @@ const UNLAWFUL: &[(Way, usize)] = &[
     (Way::Lock, usize::MAX),
 ];
 
-fn run_by<P: Prober, R: Threads + Wait + Sync>(
+/// A run by one of the two ways.
+pub(crate) fn run_by<P: Prober, R: Threads + Wait + Sync>(
     way: Way,
     rt: &R,
     alloc: Global,
@@ -220,7 +224,7 @@ fn round_reports<R: Threads + Wait + Sync + Abort>(
     round: usize,
     report: &[u8],
 ) {
-    let workers = 1 + round % MAX_WORKERS;
+    let workers = 1 + round % MOST;
     let way = WAYS[round % 2];
     let ran = run_by(way, rt, alloc, plan, &TableProber, workers).expect(rt, "a run");
     assert_eq!(rt; ran.report.as_slice(), report, "by {workers}");

@@ -1,7 +1,7 @@
 -- What an assembly holds: the nodes on the way from the root to the last node, each without the next, which is its last child.
 use Rattle.std.specs.Prelude.{◌≡◌, ℕ, ◌+◌, ◌≤◌, Bool, true, not, ◌==◌, List, [], ◌∷◌, length, map}
 use Rattle.std.specs.List.{list_all}
-use Rattle.dt_tree.specs.declared.limits.TheConstants.{MAX_DEPTH}
+use Rattle.dt_tree.specs.Limits.{depth_limit}
 use Rattle.dt_tree.specs.NodeData.{Siblings, none, more, NodeData, node_data, child_names, property_names, height_of}
 use Rattle.dt_tree.specs.Sound.{are_distinct}
 use Rattle.dt_meaning.specs.Paths.{Path}
@@ -51,5 +51,5 @@ AreOpen (b ∷ bs) = (are_distinct (property_names b.properties) ≡ true) × Ar
 -- one of the levels is the root's
 pub record IsAssembly (bs : List NodeData) : Type 0 where
   pub parts : AreOpen bs
-  pub shallow : height_of (chained bs) ≤ MAX_DEPTH + 1
+  pub shallow : height_of (chained bs) ≤ depth_limit + 1
   pub root : (tree_of bs).name ≡ []

@@ -10,7 +10,7 @@ abbrev pub are_apart : List Path → Bool
 are_apart [] = true
 are_apart (p ∷ ps) = not (is_listed p ps) && are_apart ps
 
--- the root isn't listed, each other node is once, and with it the one above it; no node is deeper than MAX_DEPTH
+-- the root isn't listed, each other node is once, and with it the one above it; no node is deeper than 64 levels
 pub record AreNodes (nodes : List Path) : Type 0 where
   pub once : are_apart nodes ≡ true
   pub no_root : is_listed [] nodes ≡ false

@@ -1,9 +1,8 @@
 -- The blob of a tree holds the tree.
 use Rattle.std.proofs.Common.{◌≡◌, ℕ, suc, ◌+◌, ◌%◌, ◌^◌, ◌<◌, ◌≤◌, Bool, true, false, not, ◌&&◌, ◌==◌, List, [], ◌∷◌, ◌++◌, length, take, drop, Option, Some, None, refl, ap, sym, subst, ◌∙◌, arith, append_assoc, length-append, length-drop}
-use Rattle.std.specs.Prelude.{if◌then◌else◌, nat_lt, nat_le}
+use Rattle.std.specs.Prelude.{if◌then◌else◌, nat_lt, unwrap_or}
 use Rattle.std.specs.List.{list_all}
 use Rattle.std.proofs.lemmas.List.{append-nil, take_all, take_at, drop_at, drop-append-le}
-use Rattle.std.proofs.lemmas.Bool.Decides.{nat_tests}
 use Rattle.dt_tree.specs.declared.property.Property.{Property}
 use Rattle.dt_tree.specs.Name.{is_name, is_name_byte, are_names}
 use Rattle.dt_tree.specs.NodeData.{NodeData, Siblings, none, more, child_names, property_names}
@@ -11,14 +10,14 @@ use Rattle.dt_tree.specs.Sound.{IsSoundBelow, IsSound}
 use Rattle.dt_tree.specs.TreeData.{TreeData, IsTree, AreLong, is_reserve}
 use Rattle.dt_blob.specs.BigEndian.{word, double_word}
 use Rattle.dt_blob.specs.Blob.{padding, token_bytes, structure_from, names_in, reservations, header, blob_of}
-use Rattle.dt_blob.specs.HeaderWords.{word_at, header_of, is_laid_out, header_fault, strings_of, structure_of, reserves_of}
-use Rattle.dt_blob.specs.Holds.{has_no_zero, Pads, Names, Spells, without_nops, SpellsRoot, Reserves, Holds}
+use Rattle.dt_blob.specs.HeaderWords.{word_at, structure_size_in, header_of, is_laid_out, header_fault, strings_of, structure_of, reserves_of}
+use Rattle.dt_blob.specs.Holds.{has_no_zero, Pads, Names, Spells, without_nops, SpellsRoot, is_structure_size, Reserves, Holds}
 use Rattle.dt_blob.specs.Strings.{begins, lowest_place, ended, offset_in, with_name, with_names}
 use Rattle.dt_blob.specs.Token.{Token, begin_node, end_node, property, nop, end, property_tokens, sibling_tokens, tokens_of, tree_tokens}
 use Rattle.dt_blob.proofs.Blocks.{length-header, length-reservations}
 use Rattle.dt_blob.proofs.Places.{new-place, old-place}
 use Rattle.dt_blob.proofs.Sizes.{length-padding}
-use Rattle.dt_blob.proofs.Tests.{both, equal, test_not_below}
+use Rattle.dt_blob.proofs.Tests.{both, equal, test_at_most, test_equal, test_not_below}
 use Rattle.dt_blob.proofs.Words.{word_read}
 
 -- ---- reserves
@@ -234,11 +233,15 @@ words_of boot r s t rest b l = record {
   structure_size = word_read s [] (omega arith);
 }
 
-test_at_most : (a b : ℕ) → a ≤ b → nat_le a b ≡ true
-test_at_most a b h = grind (arith, nat_tests)
+-- version 17 has the size of the structure block
+size_told : (bytes : List ℕ) (boot r s t : ℕ) → Words bytes boot r s t → structure_size_in bytes ≡ Some s
+size_told bytes boot r s t w =
+    let version = w.version in
+    let new : nat_lt (word_at 20 bytes) 17 ≡ false = test_not_below (word_at 20 bytes) 17 (omega arith) in
+    rw new (ap (λ (x : ℕ). Some x) w.structure_size)
 
-test_equal : (a b : ℕ) → a ≡ b → (a == b) ≡ true
-test_equal a b h = grind (arith, nat_tests)
+is_size : (bytes : List ℕ) (boot r s t : ℕ) → Words bytes boot r s t → is_structure_size (header_of bytes) s ≡ true
+is_size bytes boot r s t w = let told = size_told bytes boot r s t w in rw told (test_equal s s refl)
 
 all_true : (a b : Bool) → a ≡ true → b ≡ true → (a && b) ≡ true
 all_true a b e f = rw (e, f) refl
@@ -250,10 +253,10 @@ laid_out bytes boot r s t m w =
     let strings_at = w.strings_at in
     let reserves_at = w.reserves_at in
     let strings_size = w.strings_size in
-    let structure_size = w.structure_size in
+    let structure_size = ap (λ (o : Option ℕ). unwrap_or o 0) (size_told bytes boot r s t w) in
     all_true _ _ (all_true _ _ (all_true _ _ (all_true _ _
     (test_at_most 40 (word_at 4 bytes) (omega arith))
-    (test_at_most (word_at 8 bytes + word_at 36 bytes) (word_at 4 bytes) (omega arith)))
+    (test_at_most (word_at 8 bytes + unwrap_or (structure_size_in bytes) 0) (word_at 4 bytes) (omega arith)))
     (test_at_most (word_at 12 bytes + word_at 32 bytes) (word_at 4 bytes) (omega arith)))
     (test_equal (word_at 8 bytes % 4) 0 (omega arith)))
     (test_equal (word_at 16 bytes % 8) 0 (omega arith))
@@ -267,7 +270,7 @@ no_header_fault bytes boot r s t m l h w =
     let large : nat_lt (2 ^ 28) (length bytes) ≡ false = test_not_below (2 ^ 28) (length bytes) h in
     let short : nat_lt (length bytes) 40 ≡ false = test_not_below (length bytes) 40 (omega arith) in
     let magic : (word_at 0 bytes == 0xd00dfeed) ≡ true = test_equal (word_at 0 bytes) 0xd00dfeed w.magic in
-    let old : nat_lt (word_at 20 bytes) 17 ≡ false = test_not_below (word_at 20 bytes) 17 (omega arith) in
+    let old : nat_lt (word_at 20 bytes) 16 ≡ false = test_not_below (word_at 20 bytes) 16 (omega arith) in
     let new : nat_lt 17 (word_at 24 bytes) ≡ false = test_not_below 17 (word_at 24 bytes) (omega arith) in
     let whole : nat_lt (length bytes) (word_at 4 bytes) ≡ false = test_not_below (length bytes) (word_at 4 bytes) (omega arith) in
     rw (large, short, magic, old, new, whole, laid_out bytes boot r s t m w) refl
@@ -281,11 +284,10 @@ reserves_there bytes h rs ss ts boot l e w =
     ∙ ap (drop 40) (take_all (word_at 4 bytes) bytes (let size = w.size in omega arith))
     ∙ ap (drop 40) e ∙ drop_at h (rs ++ (ss ++ ts)) 40 l
 
-structure_there : (bytes h rs ss ts : List ℕ) (boot : ℕ) → length h ≡ 40 → bytes ≡ h ++ (rs ++ (ss ++ ts)) → Words bytes boot (length rs) (length ss) (length ts) → structure_of bytes ≡ ss
+structure_there : (bytes h rs ss ts : List ℕ) (boot : ℕ) → length h ≡ 40 → bytes ≡ h ++ (rs ++ (ss ++ ts)) → Words bytes boot (length rs) (length ss) (length ts) → structure_of (length ss) bytes ≡ ss
 structure_there bytes h rs ss ts boot l e w =
     let front : length (h ++ rs) ≡ 40 + length rs = omega (arith, length-append h rs) in
-    ap (λ (k : ℕ). take k (drop (word_at 8 bytes) bytes)) w.structure_size
-    ∙ ap (λ (k : ℕ). take (length ss) (drop k bytes)) w.structure_at
+    ap (λ (k : ℕ). take (length ss) (drop k bytes)) w.structure_at
     ∙ ap (λ (x : List ℕ). take (length ss) (drop (40 + length rs) x)) (e ∙ sym (append_assoc h rs (ss ++ ts)))
     ∙ ap (take (length ss)) (drop_at (h ++ rs) (ss ++ ts) (40 + length rs) front)
     ∙ take_at ss ts (length ss) refl
@@ -314,8 +316,12 @@ blob_holds tree i h =
     record {
       header = no_header_fault bytes tree.boot_cpu (length rs) (length ss) (length ts) m len h w;
       reserves = subst (Reserves tree.reserves) (sym (reserves_there bytes head rs ss ts tree.boot_cpu l refl w)) (reserves_held tree.reserves (ss ++ ts) i.no_end i.long);
-      structure = subst (λ (x : List ℕ). SpellsRoot x tree.root (structure_of bytes)) (sym (strings_there bytes head rs ss ts tree.boot_cpu l refl w))
-          (subst (SpellsRoot ts tree.root) (sym (structure_there bytes head rs ss ts tree.boot_cpu l refl w)) (root_held ts tree.root i.no_name i.sound refl (omega (arith, len, h)) (omega (arith, len, h))));
+      structure = (
+        length ss,
+        is_size bytes tree.boot_cpu (length rs) (length ss) (length ts) w,
+        subst (λ (x : List ℕ). SpellsRoot x tree.root (structure_of (length ss) bytes)) (sym (strings_there bytes head rs ss ts tree.boot_cpu l refl w))
+            (subst (SpellsRoot ts tree.root) (sym (structure_there bytes head rs ss ts tree.boot_cpu l refl w)) (root_held ts tree.root i.no_name i.sound refl (omega (arith, len, h)) (omega (arith, len, h)))),
+      );
       boot_cpu = sym w.boot_cpu;
       limits = i;
     }

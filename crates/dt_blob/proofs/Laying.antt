@@ -1,17 +1,27 @@
 -- What a header without a fault says.
-use Rattle.std.proofs.Common.{◌≡◌, ℕ, ◌+◌, ◌%◌, ◌^◌, ◌≤◌, true, not, ◌&&◌, ◌||◌, ◌==◌, List, length, Option, Some, None, sym, subst}
-use Rattle.std.specs.Prelude.{if◌then◌else◌, nat_lt, nat_le}
+use Rattle.std.proofs.Common.{◌≡◌, ℕ, ◌+◌, ◌-◌, ◌%◌, ◌^◌, ◌≤◌, true, not, ◌&&◌, ◌||◌, ◌==◌, List, length, Option, Some, None, sym, subst, arith}
+use Rattle.std.specs.Prelude.{if◌then◌else◌, nat_lt, nat_le, unwrap_or}
 use Rattle.dt_blob.specs.declared.error.BlobError.{BlobError}
 use Rattle.dt_blob.specs.declared.error.BlobError.TheVariants.{TooLarge, Truncated, BadMagic, BadVersion, BadLayout}
 use Rattle.dt_blob.specs.declared.read_header.Header.{Header}
 use Rattle.dt_blob.specs.HeaderWords.{header_of, is_laid_out, fault_in, header_fault}
+use Rattle.dt_blob.specs.Steps.Reading.{room_of}
 use Rattle.dt_blob.proofs.Tests.{not_below, at_most, both, not_false, no_fault}
 
 pub record Laid (h : Header) (len : ℕ) : Type 0 where
   pub whole : 40 ≤ len
   pub size : h.size ≤ len
-  pub structure : h.structure_at + h.structure_size ≤ h.size
+  pub structure : h.structure_at ≤ h.size
+  pub room : h.structure_at + room_of h ≤ h.size
   pub strings : h.strings_at + h.strings_size ≤ h.size
+
+begins_inside : (at size : ℕ) (o : Option ℕ) → at + unwrap_or o 0 ≤ size → at ≤ size
+begins_inside at size None h = omega arith
+begins_inside at size (Some n) h = omega arith
+
+room_inside : (at size : ℕ) (o : Option ℕ) → at + unwrap_or o 0 ≤ size → at + unwrap_or o (size - at) ≤ size
+room_inside at size None h = omega arith
+room_inside at size (Some n) h = h
 
 -- the tests from the last one back
 abbrev layout_fault : Header → Option BlobError
@@ -21,23 +31,24 @@ abbrev size_fault : Header → ℕ → Option BlobError
 size_fault h len = if nat_lt len h.size then Some Truncated else layout_fault h
 
 abbrev version_fault : Header → ℕ → Option BlobError
-version_fault h len = if nat_lt h.version 17 || nat_lt 17 h.last_compatible then Some BadVersion else size_fault h len
+version_fault h len = if nat_lt h.version 16 || nat_lt 17 h.last_compatible then Some BadVersion else size_fault h len
 
 laid_in : (h : Header) (len : ℕ) → 40 ≤ len → fault_in h len ≡ None → Laid h len
 laid_in h len w e =
     let c = no_fault (not (h.magic == 0xd00dfeed)) BadMagic (version_fault h len) e in
-    let d = no_fault (nat_lt h.version 17 || nat_lt 17 h.last_compatible) BadVersion (size_fault h len) (c.1) in
+    let d = no_fault (nat_lt h.version 16 || nat_lt 17 h.last_compatible) BadVersion (size_fault h len) (c.1) in
     let f = no_fault (nat_lt len h.size) Truncated (layout_fault h) (d.1) in
     let g = no_fault {E = BlobError} (not (is_laid_out h)) BadLayout None (f.1) in
     let all : is_laid_out h ≡ true = not_false (is_laid_out h) (g.0) in
-    let p = both (nat_le 40 h.size && nat_le (h.structure_at + h.structure_size) h.size && nat_le (h.strings_at + h.strings_size) h.size && h.structure_at % 4 == 0) (h.reserves_at % 8 == 0) all in
-    let q = both (nat_le 40 h.size && nat_le (h.structure_at + h.structure_size) h.size && nat_le (h.strings_at + h.strings_size) h.size) (h.structure_at % 4 == 0) (p.0) in
-    let r = both (nat_le 40 h.size && nat_le (h.structure_at + h.structure_size) h.size) (nat_le (h.strings_at + h.strings_size) h.size) (q.0) in
-    let s = both (nat_le 40 h.size) (nat_le (h.structure_at + h.structure_size) h.size) (r.0) in
+    let p = both (nat_le 40 h.size && nat_le (h.structure_at + unwrap_or h.structure_size 0) h.size && nat_le (h.strings_at + h.strings_size) h.size && h.structure_at % 4 == 0) (h.reserves_at % 8 == 0) all in
+    let q = both (nat_le 40 h.size && nat_le (h.structure_at + unwrap_or h.structure_size 0) h.size && nat_le (h.strings_at + h.strings_size) h.size) (h.structure_at % 4 == 0) (p.0) in
+    let r = both (nat_le 40 h.size && nat_le (h.structure_at + unwrap_or h.structure_size 0) h.size) (nat_le (h.strings_at + h.strings_size) h.size) (q.0) in
+    let s = both (nat_le 40 h.size) (nat_le (h.structure_at + unwrap_or h.structure_size 0) h.size) (r.0) in
     record {
       whole = w;
       size = not_below len h.size (f.0);
-      structure = at_most (h.structure_at + h.structure_size) h.size (s.1);
+      structure = begins_inside h.structure_at h.size h.structure_size (at_most (h.structure_at + unwrap_or h.structure_size 0) h.size (s.1));
+      room = room_inside h.structure_at h.size h.structure_size (at_most (h.structure_at + unwrap_or h.structure_size 0) h.size (s.1));
       strings = at_most (h.strings_at + h.strings_size) h.size (r.1);
     }
 

@@ -1,5 +1,5 @@
 -- The reader's loops, a turn at a time.
-use Rattle.std.proofs.Common.{◌≡◌, ℕ, zero, suc, ◌<◌, ◌≤◌, ◌^◌, true, false, ◌&&◌, ◌==◌, List, [], ◌∷◌, ◌++◌, length, drop, Option, Some, None, refl, ap, sym, ◌∙◌, arith, append_assoc, length-drop}
+use Rattle.std.proofs.Common.{◌≡◌, ℕ, zero, suc, ◌<◌, ◌≤◌, ◌^◌, Bool, true, false, ◌&&◌, ◌==◌, List, [], ◌∷◌, ◌++◌, length, drop, Option, Some, None, refl, ap, sym, ◌∙◌, arith, append_assoc, length-drop}
 use Rattle.std.specs.Prelude.{nat_lt, option_and_then, if◌then◌else◌}
 use Rattle.std.specs.Option.{option_map}
 use Rattle.std.proofs.lemmas.Bool.Decides.{nat_tests}
@@ -43,73 +43,74 @@ by_word strings bytes rest n k some read is left_is =
     λ i. if short i then None else token_by strings ((sym read ∙ is) i) (sym left_is i)
 
 -- what is left leads to the root
-pub record Leads (strings bytes : List ℕ) (s : State) (all : Option NodeData) : Type 0 where
+pub record Leads (sized : Bool) (strings bytes : List ℕ) (s : State) (all : Option NodeData) : Type 0 where
   pub fuel : ℕ
   pub enough : length bytes < fuel
-  pub leads : root_from s (tokens_in strings fuel bytes) ≡ all
+  pub leads : root_from s (tokens_in sized strings fuel bytes) ≡ all
 
-pub leads_begin : (strings bytes : List ℕ) → Leads strings bytes begun (root_from begun (tokens_at strings bytes))
+pub leads_begin : (sized : Bool) (strings bytes : List ℕ) → Leads sized strings bytes begun (root_from begun (tokens_at sized strings bytes))
 unfolding tokens_at
-leads_begin strings bytes = record { fuel = suc (length bytes); enough = omega arith; leads = refl }
+leads_begin sized strings bytes = record { fuel = suc (length bytes); enough = omega arith; leads = refl }
 
-fail_in : (strings bytes : List ℕ) (n : ℕ) (s : State) → token_at strings bytes ≡ None → length bytes < n → root_from s (tokens_in strings n bytes) ≡ None
+fail_in : (sized : Bool) (strings bytes : List ℕ) (n : ℕ) (s : State) → token_at strings bytes ≡ None → length bytes < n → root_from s (tokens_in sized strings n bytes) ≡ None
 unfolding tokens_in root_from
-fail_in strings bytes zero s e h = absurd (omega arith)
-fail_in strings bytes (suc n) s e h = rw e refl
+fail_in sized strings bytes zero s e h = absurd (omega arith)
+fail_in sized strings bytes (suc n) s e h = rw e refl
 
-pub leads_fail : (strings bytes : List ℕ) (s : State) (all : Option NodeData) → token_at strings bytes ≡ None → Leads strings bytes s all → all ≡ None
-leads_fail strings bytes s all e l = sym l.leads ∙ fail_in strings bytes l.fuel s e l.enough
+pub leads_fail : (sized : Bool) (strings bytes : List ℕ) (s : State) (all : Option NodeData) → token_at strings bytes ≡ None → Leads sized strings bytes s all → all ≡ None
+leads_fail sized strings bytes s all e l = sym l.leads ∙ fail_in sized strings bytes l.fuel s e l.enough
 
-end_in_fuel : (strings bytes rest : List ℕ) (t : Token) (n : ℕ) (s : State) → token_at strings bytes ≡ Some (t, rest) → is_end t ≡ true → length bytes < n → root_from s (tokens_in strings n bytes) ≡ root_from s (end ∷ left rest)
+end_in_fuel : (sized : Bool) (strings bytes rest : List ℕ) (t : Token) (n : ℕ) (s : State) → token_at strings bytes ≡ Some (t, rest) → is_end t ≡ true → length bytes < n → root_from s (tokens_in sized strings n bytes) ≡ root_from s (end ∷ left sized rest)
 unfolding tokens_in
-end_in_fuel strings bytes rest t zero s e is h = absurd (omega arith)
-end_in_fuel strings bytes rest end (suc n) s e is h = rw e refl
-end_in_fuel strings bytes rest (begin_node name) (suc n) s e is h = absurd (let b : false ≡ true = is in cc)
-end_in_fuel strings bytes rest end_node (suc n) s e is h = absurd (let b : false ≡ true = is in cc)
-end_in_fuel strings bytes rest (property name value) (suc n) s e is h = absurd (let b : false ≡ true = is in cc)
-end_in_fuel strings bytes rest nop (suc n) s e is h = absurd (let b : false ≡ true = is in cc)
+end_in_fuel sized strings bytes rest t zero s e is h = absurd (omega arith)
+end_in_fuel sized strings bytes rest end (suc n) s e is h = rw e refl
+end_in_fuel sized strings bytes rest (begin_node name) (suc n) s e is h = absurd (let b : false ≡ true = is in cc)
+end_in_fuel sized strings bytes rest end_node (suc n) s e is h = absurd (let b : false ≡ true = is in cc)
+end_in_fuel sized strings bytes rest (property name value) (suc n) s e is h = absurd (let b : false ≡ true = is in cc)
+end_in_fuel sized strings bytes rest nop (suc n) s e is h = absurd (let b : false ≡ true = is in cc)
 
-pub leads_end : (strings bytes rest : List ℕ) (t : Token) (s : State) (all : Option NodeData) → token_at strings bytes ≡ Some (t, rest) → is_end t ≡ true → Leads strings bytes s all → root_from s (end ∷ left rest) ≡ all
-leads_end strings bytes rest t s all e is l = sym (end_in_fuel strings bytes rest t l.fuel s e is l.enough) ∙ l.leads
+pub leads_end : (sized : Bool) (strings bytes rest : List ℕ) (t : Token) (s : State) (all : Option NodeData) → token_at strings bytes ≡ Some (t, rest) → is_end t ≡ true → Leads sized strings bytes s all → root_from s (end ∷ left sized rest) ≡ all
+leads_end sized strings bytes rest t s all e is l = sym (end_in_fuel sized strings bytes rest t l.fuel s e is l.enough) ∙ l.leads
 
-more_in : (strings bytes rest : List ℕ) (t : Token) (n : ℕ) (s : State) → token_at strings bytes ≡ Some (t, rest) → is_end t ≡ false
-    → root_from s (tokens_in strings (suc n) bytes) ≡ option_and_then (λ u. root_from u (tokens_in strings n rest)) (advance s t)
+more_in : (sized : Bool) (strings bytes rest : List ℕ) (t : Token) (n : ℕ) (s : State) → token_at strings bytes ≡ Some (t, rest) → is_end t ≡ false
+    → root_from s (tokens_in sized strings (suc n) bytes) ≡ option_and_then (λ u. root_from u (tokens_in sized strings n rest)) (advance s t)
 unfolding tokens_in root_from
-more_in strings bytes rest nop n s e is = rw e refl
-more_in strings bytes rest end n s e is = absurd (let b : true ≡ false = is in cc)
-more_in strings bytes rest (begin_node name) n s e is = rw e (assoc (advance s (begin_node name))) where
-  assoc : (o : Option State) → option_and_then root_of (option_and_then (λ u. run u (tokens_in strings n rest)) o) ≡ option_and_then (λ u. option_and_then root_of (run u (tokens_in strings n rest))) o
+more_in sized strings bytes rest nop n s e is = rw e refl
+more_in sized strings bytes rest end n s e is = absurd (let b : true ≡ false = is in cc)
+more_in sized strings bytes rest (begin_node name) n s e is = rw e (assoc (advance s (begin_node name))) where
+  assoc : (o : Option State) → option_and_then root_of (option_and_then (λ u. run u (tokens_in sized strings n rest)) o) ≡ option_and_then (λ u. option_and_then root_of (run u (tokens_in sized strings n rest))) o
   assoc None = refl
   assoc (Some u) = refl
-more_in strings bytes rest end_node n s e is = rw e (assoc (advance s end_node)) where
-  assoc : (o : Option State) → option_and_then root_of (option_and_then (λ u. run u (tokens_in strings n rest)) o) ≡ option_and_then (λ u. option_and_then root_of (run u (tokens_in strings n rest))) o
+more_in sized strings bytes rest end_node n s e is = rw e (assoc (advance s end_node)) where
+  assoc : (o : Option State) → option_and_then root_of (option_and_then (λ u. run u (tokens_in sized strings n rest)) o) ≡ option_and_then (λ u. option_and_then root_of (run u (tokens_in sized strings n rest))) o
   assoc None = refl
   assoc (Some u) = refl
-more_in strings bytes rest (property name value) n s e is = rw e (assoc (advance s (property name value))) where
-  assoc : (o : Option State) → option_and_then root_of (option_and_then (λ u. run u (tokens_in strings n rest)) o) ≡ option_and_then (λ u. option_and_then root_of (run u (tokens_in strings n rest))) o
+more_in sized strings bytes rest (property name value) n s e is = rw e (assoc (advance s (property name value))) where
+  assoc : (o : Option State) → option_and_then root_of (option_and_then (λ u. run u (tokens_in sized strings n rest)) o) ≡ option_and_then (λ u. option_and_then root_of (run u (tokens_in sized strings n rest))) o
   assoc None = refl
   assoc (Some u) = refl
 
-leads_by : (strings bytes rest : List ℕ) (t : Token) (s : State) (all : Option NodeData) (n : ℕ) → token_at strings bytes ≡ Some (t, rest) → is_end t ≡ false → length bytes < n → length rest < length bytes → root_from s (tokens_in strings n bytes) ≡ all
-    → (m : ℕ) × (length rest < m) × (option_and_then (λ u. root_from u (tokens_in strings m rest)) (advance s t) ≡ all)
-leads_by strings bytes rest t s all zero e is h k l = absurd (omega arith)
-leads_by strings bytes rest t s all (suc n) e is h k l = (n, omega arith, sym (more_in strings bytes rest t n s e is) ∙ l)
+leads_by : (sized : Bool) (strings bytes rest : List ℕ) (t : Token) (s : State) (all : Option NodeData) (n : ℕ) → token_at strings bytes ≡ Some (t, rest) → is_end t ≡ false → length bytes < n → length rest < length bytes → root_from s (tokens_in sized strings n bytes) ≡ all
+    → (m : ℕ) × (length rest < m) × (option_and_then (λ u. root_from u (tokens_in sized strings m rest)) (advance s t) ≡ all)
+leads_by sized strings bytes rest t s all zero e is h k l = absurd (omega arith)
+leads_by sized strings bytes rest t s all (suc n) e is h k l = (n, omega arith, sym (more_in sized strings bytes rest t n s e is) ∙ l)
 
-pub leads_more : (strings bytes rest : List ℕ) (t : Token) (s u : State) (all : Option NodeData) → token_at strings bytes ≡ Some (t, rest) → is_end t ≡ false → length rest < length bytes → advance s t ≡ Some u → Leads strings bytes s all → Leads strings rest u all
-leads_more strings bytes rest t s u all e is k a l =
-    let p = leads_by strings bytes rest t s all l.fuel e is l.enough k l.leads in
-    record { fuel = p.0; enough = p.1; leads = ap (λ (o : Option State). option_and_then (λ v. root_from v (tokens_in strings (p.0) rest)) o) (sym a) ∙ p.2 }
+pub leads_more : (sized : Bool) (strings bytes rest : List ℕ) (t : Token) (s u : State) (all : Option NodeData) → token_at strings bytes ≡ Some (t, rest) → is_end t ≡ false → length rest < length bytes → advance s t ≡ Some u → Leads sized strings bytes s all → Leads sized strings rest u all
+leads_more sized strings bytes rest t s u all e is k a l =
+    let p = leads_by sized strings bytes rest t s all l.fuel e is l.enough k l.leads in
+    record { fuel = p.0; enough = p.1; leads = ap (λ (o : Option State). option_and_then (λ v. root_from v (tokens_in sized strings (p.0) rest)) o) (sym a) ∙ p.2 }
 
-pub leads_refused : (strings bytes rest : List ℕ) (t : Token) (s : State) (all : Option NodeData) → token_at strings bytes ≡ Some (t, rest) → is_end t ≡ false → length rest < length bytes → advance s t ≡ None → Leads strings bytes s all → all ≡ None
-leads_refused strings bytes rest t s all e is k a l =
-    let p = leads_by strings bytes rest t s all l.fuel e is l.enough k l.leads in
-    sym (p.2) ∙ ap (λ (o : Option State). option_and_then (λ v. root_from v (tokens_in strings (p.0) rest)) o) a
+pub leads_refused : (sized : Bool) (strings bytes rest : List ℕ) (t : Token) (s : State) (all : Option NodeData) → token_at strings bytes ≡ Some (t, rest) → is_end t ≡ false → length rest < length bytes → advance s t ≡ None → Leads sized strings bytes s all → all ≡ None
+leads_refused sized strings bytes rest t s all e is k a l =
+    let p = leads_by sized strings bytes rest t s all l.fuel e is l.enough k l.leads in
+    sym (p.2) ∙ ap (λ (o : Option State). option_and_then (λ v. root_from v (tokens_in sized strings (p.0) rest)) o) a
 
-pub nothing_left : (bytes : List ℕ) → length bytes ≡ 0 → left bytes ≡ []
-nothing_left [] e = refl
-nothing_left (b ∷ bs) e = absurd (omega arith)
+pub nothing_left : (sized : Bool) (bytes : List ℕ) → (sized ≡ true → length bytes ≡ 0) → left sized bytes ≡ []
+nothing_left false bytes e = refl
+nothing_left true [] e = refl
+nothing_left true (b ∷ bs) e = absurd (omega (arith, e refl))
 
-pub some_left : (s : State) (bytes : List ℕ) → 0 < length bytes → root_from s (end ∷ left bytes) ≡ None
+pub some_left : (s : State) (bytes : List ℕ) → 0 < length bytes → root_from s (end ∷ left true bytes) ≡ None
 unfolding root_from
 some_left s [] h = absurd (omega arith)
 some_left begun (b ∷ bs) h = refl
@@ -199,6 +200,6 @@ pub end_inside : (top : Opened) (outer : List Opened) (ts : List Token) → root
 unfolding root_from
 end_inside top outer ts = refl
 
-pub end_behind : (root : NodeData) (bytes : List ℕ) → length bytes ≡ 0 → root_from (behind root) (end ∷ left bytes) ≡ Some root
+pub end_behind : (root : NodeData) (sized : Bool) (bytes : List ℕ) → (sized ≡ true → length bytes ≡ 0) → root_from (behind root) (end ∷ left sized bytes) ≡ Some root
 unfolding root_from
-end_behind root bytes h = rw (nothing_left bytes h) refl
+end_behind root sized bytes h = rw (nothing_left sized bytes h) refl

@@ -21,6 +21,12 @@ test_below a b e = grind (arith, nat_tests)
 pub test_not_below : (a b : ℕ) → b ≤ a → nat_lt a b ≡ false
 test_not_below a b e = grind (arith, nat_tests)
 
+pub test_at_most : (a b : ℕ) → a ≤ b → nat_le a b ≡ true
+test_at_most a b h = grind (arith, nat_tests)
+
+pub test_equal : (a b : ℕ) → a ≡ b → (a == b) ≡ true
+test_equal a b h = grind (arith, nat_tests)
+
 pub test_unequal : (a b : ℕ) → b < a → (a == b) ≡ false
 test_unequal a b e = grind (arith, nat_tests)
 

@@ -1,6 +1,6 @@
 -- The parts of a blob and the tree that they make.
 use Rattle.std.proofs.Common.{◌≡◌, ℕ, zero, suc, ◌^◌, ◌<◌, ◌≤◌, Bool, true, false, ◌&&◌, ◌==◌, List, [], ◌∷◌, ◌++◌, length, take, drop, Option, Some, None, refl, ap, sym, subst, ◌∙◌, arith}
-use Rattle.std.specs.Prelude.{filter, nat_lt}
+use Rattle.std.specs.Prelude.{filter, nat_lt, is_some}
 use Rattle.std.proofs.lemmas.List.{drop_all, length-take, length-drop, drop-drop}
 use Rattle.byteorder.specs.Endian.{big_number}
 use Rattle.dt_tree.specs.NodeData.{NodeData}
@@ -11,12 +11,12 @@ use Rattle.dt_blob.specs.declared.read_header.Header.{Header}
 use Rattle.dt_blob.specs.HeaderWords.{from_place, block, header_of, header_fault, strings_of, structure_of, reserves_of}
 use Rattle.dt_blob.specs.Holds.{Reserves}
 use Rattle.dt_blob.specs.Steps.Opened.{begun, root_from}
-use Rattle.dt_blob.specs.Steps.Reading.{tokens_at, with_reserve, reserves_in, reserves_at, tree_by, tree_in}
+use Rattle.dt_blob.specs.Steps.Reading.{tokens_at, room_of, structure_tokens, with_reserve, reserves_in, reserves_at, tree_by, tree_in}
 use Rattle.dt_blob.proofs.Tests.{not_below, equal, both, guarded}
 use Rattle.dt_blob.proofs.Words.{AreBytes, bytes_behind, bytes_before, double_word_spelled, double_word_small}
 
 abbrev pub root_in : List ℕ → Option NodeData
-root_in bytes = root_from begun (tokens_at (strings_of bytes) (structure_of bytes))
+root_in bytes = root_from begun (structure_tokens bytes)
 
 pub tree_of_fault : (bytes : List ℕ) (e : BlobError) → header_fault bytes ≡ Some e → tree_in bytes ≡ None
 unfolding tree_in
@@ -131,11 +131,18 @@ reserves_as bytes blob part h e b p = p ∙ ap (drop h.reserves_at) b ∙ ap (λ
 pub strings_as : (bytes part : List ℕ) (h : Header) → h ≡ header_of bytes → part ≡ block h.strings_at h.strings_size bytes → part ≡ strings_of bytes
 strings_as bytes part h e p = p ∙ ap (λ (x : Header). block x.strings_at x.strings_size bytes) e
 
-pub structure_as : (bytes part : List ℕ) (h : Header) → h ≡ header_of bytes → part ≡ block h.structure_at h.structure_size bytes → part ≡ structure_of bytes
-structure_as bytes part h e p = p ∙ ap (λ (x : Header). block x.structure_at x.structure_size bytes) e
+-- the bytes in which the structure block stands
+abbrev pub room_in : List ℕ → List ℕ
+room_in bytes = structure_of (room_of (header_of bytes)) bytes
 
-pub root_as : (bytes strings structure : List ℕ) → strings ≡ strings_of bytes → structure ≡ structure_of bytes → root_from begun (tokens_at strings structure) ≡ root_in bytes
-root_as bytes strings structure s t = ap (λ (x : List ℕ). root_from begun (tokens_at x structure)) s ∙ ap (λ (x : List ℕ). root_from begun (tokens_at (strings_of bytes) x)) t
+pub structure_as : (bytes part : List ℕ) (h : Header) (room : ℕ) → h ≡ header_of bytes → room ≡ room_of h → part ≡ block h.structure_at room bytes → part ≡ room_in bytes
+structure_as bytes part h room e r p = p ∙ ap (λ (x : ℕ). block h.structure_at x bytes) r ∙ ap (λ (x : Header). block x.structure_at (room_of x) bytes) e
+
+pub root_as : (bytes strings structure : List ℕ) (h : Header) (sized : Bool) → h ≡ header_of bytes → sized ≡ is_some h.structure_size → strings ≡ strings_of bytes → structure ≡ room_in bytes → root_from begun (tokens_at sized strings structure) ≡ root_in bytes
+root_as bytes strings structure h sized e b s t =
+    ap (λ (x : Bool). root_from begun (tokens_at x strings structure)) (b ∙ ap (λ (x : Header). is_some x.structure_size) e)
+    ∙ ap (λ (x : List ℕ). root_from begun (tokens_at (is_some (header_of bytes).structure_size) x structure)) s
+    ∙ ap (λ (x : List ℕ). root_from begun (tokens_at (is_some (header_of bytes).structure_size) (strings_of bytes) x)) t
 
 -- the tree that the parts make
 pub tree_as : (bytes : List ℕ) (h : Header) (rs : List (ℕ × ℕ)) (root : NodeData) (t : TreeData) → AreBytes (reserves_of bytes) → h ≡ header_of bytes → header_fault bytes ≡ None → reserves_at (reserves_of bytes) ≡ Some rs → root_in bytes ≡ Some root

@@ -3,15 +3,14 @@ use Rattle.std.specs.Prelude.{◌≡◌, ◌⊎◌, ℕ, ◌+◌, ◌-◌, ◌%�
 use Rattle.dt_tree.specs.TreeData.{TreeData}
 use Rattle.dt_blob.specs.declared.error.BlobError.{BlobError}
 use Rattle.dt_blob.specs.declared.error.BlobError.TheVariants.{NoMemory, TooLarge}
-use Rattle.dt_blob.specs.declared.room.TheConstants.{MAX_SIZE}
 use Rattle.dt_blob.specs.BigEndian.{word, double_word}
 use Rattle.dt_blob.specs.Format.{magic_number, header_size, format_version, compatible_version, begin_node_word, end_node_word, property_word, nop_word, end_word}
 use Rattle.dt_blob.specs.Strings.{offset_in, with_name, with_names}
 use Rattle.dt_blob.specs.Token.{Token, begin_node, end_node, property, nop, end, tree_tokens}
 
--- the most bytes of a blob or of a text
+-- the most bytes of a blob or of a text, 2 ^ 28: this project's number
 abbrev pub limit : ℕ
-limit = MAX_SIZE
+limit = 268435456
 
 -- want of memory, or a size over the limit
 abbrev pub Refuses : ℕ → BlobError → Type 0

@@ -16,6 +16,10 @@ format_version = 17
 abbrev pub compatible_version : ℕ
 compatible_version = 16
 
+-- the lowest version that is read
+abbrev pub oldest_version : ℕ
+oldest_version = 16
+
 -- the bytes of an address and a size of reserved memory (section 5.3.2)
 abbrev pub reservation_size : ℕ
 reservation_size = 16

@@ -1,8 +1,10 @@
 -- When bytes hold a tree: Devicetree Specification v0.4, chapter 5.
-use Rattle.std.specs.Prelude.{◌≡◌, ℕ, ◌+◌, ◌^◌, ◌%◌, ◌<◌, Bool, true, false, not, ◌==◌, List, [], ◌∷◌, ◌++◌, length, drop, None, IsTrue, if◌then◌else◌}
+use Rattle.std.specs.Prelude.{◌≡◌, ℕ, ◌+◌, ◌^◌, ◌%◌, ◌<◌, Bool, true, false, not, ◌==◌, nat_le, List, [], ◌∷◌, ◌++◌, length, drop, None, IsTrue, if◌then◌else◌}
 use Rattle.std.specs.List.{list_all}
+use Rattle.std.specs.Option.{option_map_or}
 use Rattle.dt_tree.specs.NodeData.{NodeData}
 use Rattle.dt_tree.specs.TreeData.{TreeData, IsTree, is_reserve}
+use Rattle.dt_blob.specs.declared.read_header.Header.{Header}
 use Rattle.dt_blob.specs.BigEndian.{word, double_word}
 use Rattle.dt_blob.specs.Format.{begin_node_word, end_node_word, property_word, nop_word, end_word}
 use Rattle.dt_blob.specs.HeaderWords.{header_of, header_fault, strings_of, structure_of, reserves_of}
@@ -51,6 +53,15 @@ without_nops (t ∷ ts) = if is_nop t then without_nops ts else t ∷ without_no
 abbrev pub SpellsRoot : List ℕ → NodeData → List ℕ → Type 0
 SpellsRoot strings root bytes = (ts : List Token) × Spells strings (ts ++ end ∷ []) bytes × (without_nops ts ≡ tokens_of root)
 
+-- the structure block may have this size: the header's, or in version 16, whose header has none, any inside the blob
+abbrev pub is_structure_size : Header → ℕ → Bool
+is_structure_size h size = option_map_or (λ n. size == n) h.structure_size (nat_le (h.structure_at + size) h.size)
+
+-- a range that may be the structure block spells a root and its end
+abbrev pub StructureSpells : List ℕ → NodeData → Type 0
+StructureSpells bytes root =
+    (size : ℕ) × IsTrue (is_structure_size (header_of bytes) size) × SpellsRoot (strings_of bytes) root (structure_of size bytes)
+
 -- the bytes begin with these pairs, none of them zeros, and a pair of zeros (section 5.3)
 abbrev pub Reserves : List (ℕ × ℕ) → List ℕ → Type 0
 Reserves [] bytes = (rest : List ℕ) × (bytes ≡ double_word 0 ++ (double_word 0 ++ rest))
@@ -64,6 +75,6 @@ HaveNoEnd bytes = (rs : List (ℕ × ℕ)) → Reserves rs bytes → ⊥
 pub record Holds (bytes : List ℕ) (tree : TreeData) : Type 0 where
   pub header : header_fault bytes ≡ None
   pub reserves : Reserves tree.reserves (reserves_of bytes)
-  pub structure : SpellsRoot (strings_of bytes) tree.root (structure_of bytes)
+  pub structure : StructureSpells bytes tree.root
   pub boot_cpu : tree.boot_cpu ≡ (header_of bytes).boot_cpu
   pub limits : IsTree tree

@@ -30,8 +30,12 @@ fn whole(alloc: Global, bytes: &[u8]) -> Result<Tree, BlobError>
     }
     let reserves = read_reserves(alloc, behind(blob, header.reserves_at as usize))?;
     let strings = block(bytes, header.strings_at, header.strings_size);
-    let structure = block(bytes, header.structure_at, header.structure_size);
-    let root = read_root(alloc, strings, structure)?;
+    let room = header
+        .structure_size
+        .unwrap_or(header.size - header.structure_at);
+    let structure = block(bytes, header.structure_at, room);
+    let is_sized = header.structure_size.is_some();
+    let root = read_root(alloc, strings, structure, is_sized)?;
     let tree = Tree::new(reserves, header.boot_cpu, root)?;
     Ok(tree)
 }
@@ -40,7 +44,8 @@ fn whole(alloc: Global, bytes: &[u8]) -> Result<Tree, BlobError>
 ///
 /// The header's tests come first, in their order; then the reservations, whose end may be missing (`BadLayout`);
 /// then the structure block from its beginning, where a value past the block comes before the name of its property,
-/// a bad token before its misplacement, and equal siblings at the end of their node. Takes memory for the tree alone.
+/// a bad token before its misplacement, and equal siblings at the end of their node. In version 16, whose header has no
+/// size of the block, it ends with its END, inside the blob. Takes memory for the tree alone.
 pub fn read(alloc: Global, bytes: &[u8]) -> Result<Tree, BlobError>
     // What is read is held.
     ensures found { IfOk result (λ tree. Holds bytes.now tree) }

@@ -167,11 +167,11 @@ fn is_end(token: BlobToken<'_>) -> bool
     matches!(token, BlobToken::End)
 }
 
-// The root, where it is whole and nothing follows the END.
-fn finish(progress: Progress, rest: &[u8]) -> Result<Node, BlobError>
-    ensures { Gives (λ n. n) result (root_from (state_of progress) (end ∷ left rest.now)) }
+// The root, where it is whole and nothing follows the END of a block whose size is told.
+fn finish(progress: Progress, rest: &[u8], is_sized: bool) -> Result<Node, BlobError>
+    ensures { Gives (λ n. n) result (root_from (state_of progress) (end ∷ left is_sized rest.now)) }
 {
-    if !rest.is_empty() {
+    if is_sized && !rest.is_empty() {
         return Err(BlobError::BadToken);
     }
     match progress {
@@ -181,11 +181,16 @@ fn finish(progress: Progress, rest: &[u8]) -> Result<Node, BlobError>
     }
 }
 
-/// The root that the structure block spells.
+/// The root that the structure block spells: all the bytes where its size is told, else those up to the END.
 ///
 /// Faults come in the order of the block; equal siblings are found at the end of their node.
-pub(crate) fn read_root(alloc: Global, strings: &[u8], structure: &[u8]) -> Result<Node, BlobError>
-    ensures { Gives (λ n. n) result (root_from begun (tokens_at strings.now structure.now)) }
+pub(crate) fn read_root(
+    alloc: Global,
+    strings: &[u8],
+    structure: &[u8],
+    is_sized: bool,
+) -> Result<Node, BlobError>
+    ensures { Gives (λ n. n) result (root_from begun (tokens_at is_sized strings.now structure.now)) }
 {
     let mut progress = Progress::Nothing;
     let mut rest = structure;
@@ -193,7 +198,7 @@ pub(crate) fn read_root(alloc: Global, strings: &[u8], structure: &[u8]) -> Resu
         let (next, behind) = token(strings, rest)?;
         rest = behind;
         if is_end(next) {
-            return finish(progress, rest);
+            return finish(progress, rest, is_sized);
         }
         progress = advance(alloc, progress, next)?;
     }

@@ -100,4 +100,6 @@ spelled_filled strings root bytes (ts, spells, same) h =
 
 pub held_bytes : (bytes : List ℕ) (t : TreeData) → IsTrue (are_bytes bytes) → Holds bytes t → HasBytes t
 held_bytes bytes t h held =
-    spelled_filled (strings_of bytes) t.root (structure_of bytes) held.structure (bytes_take (header_of bytes).structure_size (drop (header_of bytes).structure_at bytes) (bytes_drop (header_of bytes).structure_at bytes h))
+    let s = held.structure in
+    let at = (header_of bytes).structure_at in
+    spelled_filled (strings_of bytes) t.root (structure_of (s.0) bytes) (s.2) (bytes_take (s.0) (drop at bytes) (bytes_drop at bytes h))

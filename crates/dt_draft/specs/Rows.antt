@@ -161,6 +161,10 @@ HasSameChildBodies old new = (n : ℕ) (k : List ℕ) → child_body new n k ≡
 abbrev pub HasSamePropertyBodies : {V : Type 0} → Draft V → Draft V → Type 0
 HasSamePropertyBodies old new = (n : ℕ) (k : List ℕ) → property_body new n k ≡ property_body old n k
 
+-- no body has begun, so that the first gets the number 1
+abbrev pub IsUnbegun : {V : Type 0} → Draft V → Type 0
+IsUnbegun d = d.bodies ≡ 0
+
 -- no body has a number above the last
 abbrev pub IsNumbered : {V : Type 0} → Draft V → Type 0
 IsNumbered d = (n : ℕ) (k : List ℕ) → (child_body d n k ≤ d.bodies) × (property_body d n k ≤ d.bodies)

@@ -1,7 +1,7 @@
 //! An empty draft, and whether a node is in the tree.
 ghost use Rattle.std.specs.Prelude.{◌≡◌, ◌+◌, ◌-◌, ◌^◌, IfSome, IsNone, IsSome};
 ghost use Rattle.dt_meaning.specs.Edits.{empty};
-ghost use Rattle.dt_draft.specs.Rows.{HasSameChildBodies, HasSameNodes, HasSamePropertyBodies, IsDraft, IsNode, IsNumbered, is_standing, state_of};
+ghost use Rattle.dt_draft.specs.Rows.{HasSameChildBodies, HasSameNodes, HasSamePropertyBodies, IsDraft, IsNode, IsNumbered, IsUnbegun, is_standing, state_of};
 
 use crate::index::Index;
 use crate::table::Draft;
@@ -14,6 +14,7 @@ impl<'d, V: Copy> Draft<'d, V> {
         ensures sound { IsDraft result }
         ensures state { state_of result ≡ empty }
         ensures numbered { IsNumbered result }
+        ensures unbegun { IsUnbegun result }
     {
         Draft {
             nodes: Vec::new(alloc),

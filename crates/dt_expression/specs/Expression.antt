@@ -1,6 +1,5 @@
 -- Expressions in cells, and the lexemes that spell them (Devicetree Specification v0.4, section 6.3).
 use Rattle.std.specs.Prelude.{◌≡◌, ℕ, zero, suc, ◌-◌, ◌≤◌, Bool, true, false, List, [], ◌∷◌}
-use Rattle.dt_expression.specs.declared.expression.TheConstants.{MAX_NESTING}
 use Rattle.dt_lexeme.specs.declared.lexeme.Lexeme.{Lexeme}
 use Rattle.dt_lexeme.specs.declared.lexeme.Kind.{Kind}
 use Rattle.dt_lexeme.specs.declared.lexeme.Kind.TheVariants.{Literal, Less, Greater, Paren, EndParen, Slash, Question, Colon, OrOr, AndAnd, Or, Xor, And, EqualEqual, NotEqual, LessEqual, GreaterEqual, ShiftLeft, ShiftRight, Plus, Minus, Star, Percent, Tilde, Bang}
@@ -72,6 +71,10 @@ Spells depth level (Choice e f g) ts rest =
     (level ≡ 11) × (a b c d : List Lexeme) × Spells depth 10 e ts a × Begins a Question b
     × Deeper depth (λ inner. Spells inner 11 f b c × Begins c Colon d × Spells inner 11 g d rest)
 
+-- how deep parentheses, operands of prefix operators and choices nest, at most: this project's number
+abbrev pub nesting_limit : ℕ
+nesting_limit = 64
+
 -- A literal, or an expression in parentheses.
 abbrev pub IsPrimary : Expression → Type 0
 IsPrimary (Number l) = Unit {0}
@@ -82,7 +85,7 @@ IsPrimary (Choice e f g) = ⊥
 
 -- The lexemes begin with a spelling of the literal or the parentheses, nested as deep as may be, and then the rest follows.
 abbrev pub SpellsPrimary : Expression → List Lexeme → List Lexeme → Type 0
-SpellsPrimary e ts rest = IsPrimary e × Spells MAX_NESTING 0 e ts rest
+SpellsPrimary e ts rest = IsPrimary e × Spells nesting_limit 0 e ts rest
 
 -- What a reader makes of a literal, of parentheses and of operators with their operands.
 pub record Making (A : Type 0) : Type 0 where

@@ -1,10 +1,9 @@
 -- Reading an expression from left to right, by levels of nesting and of precedence.
 use Rattle.std.specs.Prelude.{◌≡◌, ℕ, zero, suc, List, [], ◌∷◌, length, Ok, Err, ◌==◌, if◌then◌else◌, Option, None, Some}
-use Rattle.dt_expression.specs.declared.expression.TheConstants.{MAX_NESTING}
 use Rattle.dt_lexeme.specs.declared.lexeme.Lexeme.{Lexeme}
 use Rattle.dt_lexeme.specs.declared.lexeme.Kind.{Kind}
 use Rattle.dt_lexeme.specs.declared.lexeme.Kind.TheVariants.{Literal, Question, Colon, Paren, EndParen}
-use Rattle.dt_expression.specs.Expression.{Expression, rank, is_prefix, SpellsPrimary, Making}
+use Rattle.dt_expression.specs.Expression.{Expression, nesting_limit, rank, is_prefix, SpellsPrimary, Making}
 use Rattle.dt_expression.specs.Values.{Value, values, value_of}
 use Rattle.dt_expression.specs.Reading.{◌>>=◌, Read, syntax_at, too_deep}
 
@@ -109,7 +108,7 @@ expr_at m depth ts = expr_with m (expr_below m depth) (unary_at m depth) ts
 
 -- a literal, or an expression in parentheses, at the front of the lexemes
 unfoldable pub primary_made : {A : Type 0} → Making A → List Lexeme → Read A
-primary_made m ts = primary_with m (expr_below m MAX_NESTING) ts
+primary_made m ts = primary_with m (expr_below m nesting_limit) ts
 
 -- its value, or its one fault, and the lexemes behind it
 unfoldable pub primary_at : List ℕ → List Lexeme → Read Value

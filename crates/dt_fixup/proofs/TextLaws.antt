@@ -1,6 +1,6 @@
 -- Texts, part by part.
-use Rattle.std.proofs.Common.{◌≡◌, ◌∙◌, ap, sym, refl, ℕ, zero, suc, ◌+◌, ◌-◌, ◌*◌, ◌<◌, ◌≤◌, ◌==◌, Bool, true, false, List, [], ◌∷◌, ◌++◌, length, take, drop, None, Some, arith, length-drop, add-one}
-use Rattle.std.specs.Prelude.{cond, nat_lt, position}
+use Rattle.std.proofs.Common.{◌≡◌, ◌∙◌, ap, sym, refl, ℕ, zero, suc, ◌+◌, ◌-◌, ◌*◌, ◌<◌, ◌≤◌, ◌==◌, Bool, true, false, List, [], ◌∷◌, ◌++◌, length, take, drop, None, Option, Some, arith, length-drop, add-one}
+use Rattle.std.specs.Prelude.{cond, nat_lt, option_map, position}
 use Rattle.std.specs.List.{slice_split, onto_first, position_or_len}
 use Rattle.std.proofs.lemmas.Bool.{eqb-true, ltb-true, ltb-false}
 use Rattle.std.proofs.lemmas.List.{take_all}
@@ -23,6 +23,21 @@ pub unended-other : (texts : List ℕ) (b : ℕ) → (b ≡ 0 → ⊥) → unend
 unended-other [] b other = rw (not-zero b (b == 0) refl other) refl
 unended-other (c ∷ []) b other = rw (unended-other [] b other) refl
 unended-other (c ∷ d ∷ ds) b other = rw (unended-other (d ∷ ds) b other) refl
+
+ended-one : (b : ℕ) (texts : List ℕ) (t : Bool) → (b == 0) ≡ t → cond t (Some []) None ≡ Some texts → b ∷ [] ≡ texts ++ 0 ∷ []
+ended-one b texts true e is = let none : texts ≡ [] = cc in rw none (ap (λ n. n ∷ []) (eqb-true b 0 e))
+ended-one b texts false e is = cc
+
+ended-more : (b : ℕ) (rest texts : List ℕ) (o : Option (List ℕ)) → ((ts : List ℕ) → o ≡ Some ts → rest ≡ ts ++ 0 ∷ [])
+    → option_map (λ bs. b ∷ bs) o ≡ Some texts → b ∷ rest ≡ texts ++ 0 ∷ []
+ended-more b rest texts None known is = cc
+ended-more b rest texts (Some ts) known is = let same : texts ≡ b ∷ ts = cc in rw same (ap (λ xs. b ∷ xs) (known ts refl))
+
+-- what stands before a last zero byte, and that byte
+pub ended-is : (value texts : List ℕ) → unended value ≡ Some texts → value ≡ texts ++ 0 ∷ []
+ended-is [] texts is = cc
+ended-is (b ∷ []) texts is = ended-one b texts (b == 0) refl is
+ended-is (b ∷ c ∷ cs) texts is = ended-more b (c ∷ cs) texts (unended (c ∷ cs)) (ended-is (c ∷ cs)) is
 
 -- ---- the first part
 split-first : (p : ℕ → Bool) (bytes : List ℕ) (at : ℕ) → position_or_len p bytes ≡ at → at < length bytes → slice_split p bytes ≡ take at bytes ∷ slice_split p (drop (suc at) bytes)

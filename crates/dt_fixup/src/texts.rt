@@ -1,5 +1,5 @@
 //! The texts of fixups and symbols.
-ghost use Rattle.std.specs.Prelude.{◌≡◌, ◌≤◌, ◌∷◌, ◌==◌, [], true, Some, None, length, IfSome, MatchOption};
+ghost use Rattle.std.specs.Prelude.{◌≡◌, ◌≤◌, ◌∷◌, ◌++◌, ◌==◌, [], true, Some, None, length, IfSome, MatchOption};
 ghost use Rattle.std.specs.List.{position, slice_split};
 ghost use Rattle.dt_tree.specs.Path.{is_path, path_names};
 ghost use Rattle.overlay_meaning.specs.Shifted.{place, place_of};
@@ -28,6 +28,8 @@ pub(crate) fn unended(value: &[u8]) -> Option<&[u8]>
 /// The path in a zero-ended string.
 pub fn ended_path(value: &[u8]) -> Option<&[u8]>
     ensures path { MatchOption result (ended_path value.now ≡ None) (λ path. ended_path value.now ≡ Some (path_names path.now)) }
+    // its text is the value without the zero byte, so `/` for the root
+    ensures text { IfSome result (λ path. value.now ≡ path.now ++ 0 ∷ []) }
 {
     match unended(value) {
         None => None,

@@ -1,7 +1,7 @@
 -- What stands behind the first byte of a lexeme, and how far it reaches.
 use Rattle.std.specs.Prelude.{◌≡◌, ℕ, ◌+◌, ◌-◌, ◌<◌, ◌≤◌, ◌==◌, nat_le, nat_lt, Bool, true, false, ◌&&◌, ◌||◌, not, List, [], ◌∷◌, length, take, Option, Some, None, if◌then◌else◌}
 use Rattle.std.specs.List.{list_all}
-use Rattle.dt_tree.specs.declared.limits.TheConstants.{MAX_NAME_LEN}
+use Rattle.dt_tree.specs.Limits.{name_limit}
 use Rattle.dt_lexeme.specs.declared.bytes.Class.{Class}
 use Rattle.dt_lexeme.specs.declared.bytes.Class.TheVariants.{Word, Name, HexDigit, Ell}
 use Rattle.dt_lexeme.specs.Bytes.{is_word, is_name, is_hex, passes}
@@ -38,17 +38,17 @@ ends p q (c ∷ s) = if q c then is_empty s else p c && ends p q s
 abbrev pub ends_label : List ℕ → Bool
 ends_label = ends is_word (λ c. c == 58)
 
--- behind the first letter of a label: with it at most MAX_NAME_LEN characters, and a colon
+-- behind the first letter of a label: with it at most 255 characters, and a colon
 abbrev pub labels : List ℕ → Bool
-labels = at_most MAX_NAME_LEN ends_label
+labels = at_most name_limit ends_label
 
--- behind the first character of a name: with it at most MAX_NAME_LEN characters
+-- behind the first character of a name: with it at most 255 characters
 abbrev pub names : List ℕ → Bool
-names = at_most (MAX_NAME_LEN - 1) (list_all (passes Name))
+names = at_most (name_limit - 1) (list_all (passes Name))
 
--- behind the first letter of a reference's label: with it at most MAX_NAME_LEN characters
+-- behind the first letter of a reference's label: with it at most 255 characters
 abbrev pub words : List ℕ → Bool
-words = at_most (MAX_NAME_LEN - 1) (list_all (passes Word))
+words = at_most (name_limit - 1) (list_all (passes Word))
 
 -- bytes that are no slash, and a slash
 abbrev pub ends_word : List ℕ → Bool
@@ -69,7 +69,7 @@ closes false (c ∷ s) = if c == 34 then is_empty s else closes (c == 92) s
 abbrev pub path_step : ℕ → ℕ → Option ℕ
 path_step n c =
     if c == 47 then (if nat_lt 0 n then Some 0 else None) else
-    (if nat_lt n MAX_NAME_LEN && is_name c then Some (n + 1) else None)
+    (if nat_lt n name_limit && is_name c then Some (n + 1) else None)
 
 -- The rest of a path and the brace behind it; so many characters of a name stand before it.
 unfoldable pub closes_path : ℕ → List ℕ → Bool
@@ -77,7 +77,7 @@ closes_path n [] = false
 closes_path n (c ∷ s) =
     if c == 125 then nat_lt 0 n && is_empty s else
     (if c == 47 then nat_lt 0 n && closes_path 0 s else
-    (nat_lt n MAX_NAME_LEN && is_name c && closes_path (n + 1) s))
+    (nat_lt n name_limit && is_name c && closes_path (n + 1) s))
 
 -- behind the path's first slash: the brace, as the path is `/`, or names
 abbrev pub path_behind : List ℕ → Bool

@@ -4,6 +4,7 @@ pub mod Gaps
 pub mod Families
 pub mod Places
 pub mod Lexemes
+pub mod Limits
 pub mod Lines
 pub mod Label
 pub mod Forms

@@ -4,9 +4,6 @@ ghost use Rattle.dt_lexeme.specs.declared.lexeme.ReadError.TheVariants.{NoMemory
 
 use std::alloc::{AllocError, AllocFailed};
 
-/// The longest text of a source, in bytes: 16 MiB.
-pub const MAX_TEXT_LEN: usize = 16_777_216;
-
 /// What a lexeme is. `Less`, `Greater` and `Slash` are punctuation outside parentheses and operators inside.
 #[derive(Clone, Copy, Debug, PartialEq, Eq)]
 pub enum Kind {

@@ -12,6 +12,6 @@ mod line;
 mod place;
 mod scanner;
 
-pub use lexeme::{Fault, FaultKind, Kind, Lexeme, MAX_TEXT_LEN, ReadError, Refusal, RefusalKind};
+pub use lexeme::{Fault, FaultKind, Kind, Lexeme, ReadError, Refusal, RefusalKind};
 pub use line::line_of;
 pub use scanner::{lexemes_are_in_order, lexemes_are_lawful, one_list, scan, scan_front};

@@ -5,6 +5,7 @@ ghost use Rattle.dt_lexeme.specs.declared.lexeme.RefusalKind.TheVariants.{Syntax
 ghost use Rattle.dt_lexeme.specs.declared.lexeme.ReadError.TheVariants.{Refused};
 ghost use Rattle.dt_lexeme.specs.Families.{Longest, kind_of};
 ghost use Rattle.dt_lexeme.specs.Lexemes.{Lexemes, HasNone, Scanned};
+ghost use Rattle.dt_lexeme.specs.Limits.{text_limit};
 ghost use Rattle.dt_lexeme.specs.Order.{OneList, LexemesAreInOrder};
 ghost use Rattle.dt_lexeme.specs.Forms.{LexemesAreLawful};
 ghost use Rattle.std.specs.Prelude.{length};
@@ -13,7 +14,7 @@ ghost use Rattle.dt_lexeme.specs.declared.lexeme.Refusal.{Refusal};
 use crate::bytes::from;
 use crate::families::{family, first_at};
 use crate::gaps::skip_gap;
-use crate::lexeme::{Kind, Lexeme, MAX_TEXT_LEN, ReadError, Refusal, RefusalKind};
+use crate::lexeme::{Kind, Lexeme, ReadError, Refusal, RefusalKind};
 use crate::place::Place;
 use std::alloc::{AllocError, Global};
 
@@ -32,7 +33,7 @@ fn next(place: Place, s: &[u8]) -> Option<(Kind, usize)>
 
 /// The lexemes of the text, or those up to the place where it breaks off, and that place.
 pub fn scan_front(alloc: Global, text: &[u8]) -> Result<(Vec<Lexeme>, Option<u32>), AllocError>
-    requires { length text.now ≤ MAX_TEXT_LEN }
+    requires { length text.now ≤ text_limit }
     ensures { IfOk result (λ r. Scanned text.now r.0.items r.1) }
 {
     let mut found = Vec::new(alloc);
@@ -62,7 +63,7 @@ pub fn scan_front(alloc: Global, text: &[u8]) -> Result<(Vec<Lexeme>, Option<u32
 
 /// The lexemes of the text, or the place where none stands.
 pub fn scan(alloc: Global, text: &[u8]) -> Result<Vec<Lexeme>, ReadError>
-    requires { length text.now ≤ MAX_TEXT_LEN }
+    requires { length text.now ≤ text_limit }
     // What is found are the text's lexemes.
     ensures found { IfOk result (λ v. Lexemes text.now v.items) }
     // The text is refused only where it has none.

@@ -8,6 +8,14 @@ mod Sizes
 mod SymbolLengths
 mod SymbolSizes
 mod SymbolSteps
+mod UnionClashes
+mod UnionFold
+mod UnionMerged
+mod UnionNames
+mod UnionPaths
+mod UnionShifted
+mod UnionSymbols
+mod UnionTrees
 pub mod Clashes
 pub mod Folded
 pub mod FragmentRows

@@ -1,2 +1,4 @@
 pub mod Applied
+pub mod Laws
 pub mod Private
+pub mod Union

@@ -5,6 +5,7 @@
 
 mod applying;
 mod fragments;
+mod laws;
 mod making;
 mod merging;
 mod part;
@@ -14,3 +15,4 @@ mod symbols;
 
 pub use applying::{apply, apply_within};
 pub use dt_fixup::OverlayError;
+pub use laws::{refusal_is_of_a_fragment, result_is_union};

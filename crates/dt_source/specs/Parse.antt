@@ -1,6 +1,6 @@
 -- What text is a source, and what parsing answers (Devicetree Specification v0.4, chapter 6).
 use Rattle.std.specs.Prelude.{◌≡◌, ℕ, ◌<◌, ◌≤◌, nat_lt, List, [], length, Option, Some, None, Result, Ok, Err, if◌then◌else◌}
-use Rattle.dt_lexeme.specs.declared.lexeme.TheConstants.{MAX_TEXT_LEN}
+use Rattle.dt_lexeme.specs.Limits.{text_limit}
 use Rattle.dt_lexeme.specs.declared.lexeme.Lexeme.{Lexeme}
 use Rattle.dt_lexeme.specs.declared.lexeme.Fault.{Fault}
 use Rattle.dt_lexeme.specs.declared.lexeme.FaultKind.{FaultKind}
@@ -22,7 +22,7 @@ use Rattle.dt_source.specs.Reading.Whole.{source_at}
 
 -- at most 16 MiB
 abbrev pub IsShort : List ℕ → Type 0
-IsShort text = length text ≤ MAX_TEXT_LEN
+IsShort text = length text ≤ text_limit
 
 -- Some lexemes of the text spell the source.
 abbrev pub IsSource : List ℕ → SourceTree → Type 0
@@ -83,7 +83,7 @@ abbrev pub Refuses : List ℕ → SourceErrorKind → ℕ → Type 0
 Refuses text kinds.NoMemory line = IsShort text × (line ≡ 0)
 Refuses text kinds.Syntax line = HasStop text Syntax line
 Refuses text kinds.TooDeep line = HasStop text TooDeep line
-Refuses text kinds.TooLong line = (MAX_TEXT_LEN < length text) × (line ≡ 1)
+Refuses text kinds.TooLong line = (text_limit < length text) × (line ≡ 1)
 Refuses text kinds.ElementRange line = HasFault text ElementRange line
 Refuses text kinds.DivideByZero line = HasFault text DivideByZero line
 Refuses text kinds.BadBits line = HasFault text BadBits line

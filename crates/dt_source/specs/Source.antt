@@ -1,6 +1,5 @@
 -- Sources, the lexemes that spell them, what they say, and their faults (Devicetree Specification v0.4, sections 6.2 and 6.3).
 use Rattle.std.specs.Prelude.{◌≡◌, ◌≢◌, ℕ, Bool, true, false, ◌||◌, List, [], ◌∷◌, ◌++◌, Option, Some, None, Result, Ok, map, flat_map, ◌⊎◌}
-use Rattle.dt_source.specs.declared.body.TheConstants.{MAX_BODY_DEPTH}
 use Rattle.dt_lexeme.specs.declared.lexeme.Lexeme.{Lexeme}
 use Rattle.dt_lexeme.specs.declared.lexeme.Fault.{Fault}
 use Rattle.dt_lexeme.specs.declared.lexeme.Kind.{Kind}
@@ -119,8 +118,12 @@ SpellsStatements depth nodes (Holds ls n body more) ts rest =
 SpellsStatements depth nodes (Drops n more) ts rest =
     (a b c : List Lexeme) × Begins ts DeleteNode a × One Name n a b × Begins b Semicolon c × SpellsStatements depth true more c rest
 
+-- how many bodies stand within one another below an item's, at most: as many levels as a tree has
+abbrev pub body_limit : ℕ
+body_limit = 64
+
 abbrev pub SpellsBody : Statements → List Lexeme → List Lexeme → Type 0
-SpellsBody s ts rest = (a b : List Lexeme) × Begins ts Brace a × SpellsStatements MAX_BODY_DEPTH false s a b × Begins b Semicolon rest
+SpellsBody s ts rest = (a b : List Lexeme) × Begins ts Brace a × SpellsStatements body_limit false s a b × Begins b Semicolon rest
 
 abbrev pub SpellsItem : ItemTree → List Lexeme → List Lexeme → Type 0
 SpellsItem (Root s) ts rest = (a : List Lexeme) × Begins ts Slash a × SpellsBody s a rest

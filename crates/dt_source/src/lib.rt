@@ -23,11 +23,10 @@ mod string;
 mod tree;
 
 pub use body::MAX_BODY_DEPTH;
-pub use dt_lexeme::MAX_TEXT_LEN as MAX_SOURCE_LEN;
 pub use error::{SourceError, SourceErrorKind};
 pub use labels::Labels;
 pub use lawful::{bodies_are_lists, says_lawful};
 pub use order::faults_are_in_order;
-pub use parser::{one_source, parse};
+pub use parser::{MAX_TEXT_LEN as MAX_SOURCE_LEN, one_source, parse};
 pub use spelling::reads_sources;
 pub use tree::{Item, Part, Reference, Source, Statement};

@@ -13,8 +13,11 @@ use crate::error::{SourceError, SourceErrorKind};
 use crate::refusals::{error_of, fault_error, refused_at};
 use crate::source::source;
 use crate::tree::{Outline, Source};
-use dt_lexeme::{Fault, MAX_TEXT_LEN, ReadError, scan_front};
+use dt_lexeme::{Fault, ReadError, scan_front};
 use std::alloc::Global;
+
+/// The longest text of a source, in bytes: 16 MiB.
+pub const MAX_TEXT_LEN: usize = 16_777_216;
 
 // What the text's source says, and the first of its faults.
 fn read<'a>(alloc: Global, text: &'a [u8]) -> Result<(Outline<'a>, Option<Fault>), ReadError>

@@ -1,6 +1,6 @@
 //! What a source says.
 ghost use Rattle.std.specs.Prelude.{◌≡◌, ◌≤◌, map, All};
-ghost use Rattle.dt_lexeme.specs.declared.lexeme.TheConstants.{MAX_TEXT_LEN};
+ghost use Rattle.dt_lexeme.specs.Limits.{text_limit};
 ghost use Rattle.dt_source.specs.Tree.{labels_view, view, views, part_view, item_view, Defines, Undefines, Child, Removes};
 ghost use Rattle.dt_source.specs.Lawful.{IsLawfulEdit};
 ghost use Rattle.dt_source.specs.Counts.{how_many};
@@ -69,7 +69,7 @@ pub struct Source<'a> {
     pub reserves: Vec<(u64, u64)>,
     pub items: Vec<Item<'a>>,
     pub ghost lawful: { All IsLawfulEdit (map item_view items.items) } by { all_once IsLawfulEdit edit_once (map item_view items.items) },
-    pub ghost few: { how_many (map item_view items.items) ≤ MAX_TEXT_LEN },
+    pub ghost few: { how_many (map item_view items.items) ≤ text_limit },
 }
 
 impl Source<'_> {
@@ -80,7 +80,7 @@ impl Source<'_> {
     /// statements and labels can be numbered by 32 bits.
     pub fn check(&self)
         ensures lawful { IsLawful (meaning self.now) }
-        ensures few { how_many (meaning self.now).items ≤ MAX_TEXT_LEN }
+        ensures few { how_many (meaning self.now).items ≤ text_limit }
     {
         let _ = &self.items;
     }

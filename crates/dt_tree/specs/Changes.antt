@@ -4,7 +4,7 @@ use Rattle.std.specs.Option.{option_map}
 use Rattle.std.specs.Str.{bytes_eq}
 use Rattle.dt_tree.specs.declared.error.TreeError.{TreeError}
 use Rattle.dt_tree.specs.declared.error.TreeError.TheVariants.{NoMemory, DuplicateNode, TooDeep, NoSuchPath}
-use Rattle.dt_tree.specs.declared.limits.TheConstants.{MAX_DEPTH}
+use Rattle.dt_tree.specs.Limits.{depth_limit}
 use Rattle.dt_tree.specs.PathMap.{PathMap, TreeMap, is_listed}
 use Rattle.dt_tree.specs.Sound.{is_among}
 
@@ -77,7 +77,7 @@ abbrev pub child_fault : {V : Type 0} → PathMap V → List (List ℕ) → List
 child_fault m path k =
     if not (m.has path) then Some NoSuchPath
     else (if is_listed k (m.children path) then Some DuplicateNode
-    else (if nat_lt (length path) MAX_DEPTH then None else Some TooDeep))
+    else (if nat_lt (length path) depth_limit then None else Some TooDeep))
 
 -- the error of a call with this fault: want of memory comes after all faults
 abbrev pub IsRefusal : Option TreeError → TreeError → Type 0

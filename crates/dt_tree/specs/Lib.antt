@@ -1,6 +1,7 @@
 pub mod Changes
 pub mod Falls
 pub mod Fault
+pub mod Limits
 pub mod Name
 pub mod Merged
 pub mod NodeCode

@@ -2,7 +2,7 @@
 use Rattle.std.specs.Prelude.{ℕ, ◌+◌, not, ◌&&◌, ◌||◌, List, ◌++◌, drop, filter, length, Option, Some, None, if◌then◌else◌, nat_lt}
 use Rattle.dt_tree.specs.declared.error.TreeError.{TreeError}
 use Rattle.dt_tree.specs.declared.error.TreeError.TheVariants.{TooDeep, NoSuchPath}
-use Rattle.dt_tree.specs.declared.limits.TheConstants.{MAX_DEPTH}
+use Rattle.dt_tree.specs.Limits.{depth_limit}
 use Rattle.dt_tree.specs.Changes.{is_within}
 use Rattle.dt_tree.specs.NodeData.{NodeData, height_of}
 use Rattle.dt_tree.specs.PathMap.{PathMap, path_map}
@@ -51,4 +51,4 @@ with_merged path b m = union m (placed path (path_map b))
 abbrev pub merge_fault : {V : Type 0} → PathMap V → List (List ℕ) → NodeData → Option TreeError
 merge_fault m path b =
     if not (m.has path) then Some NoSuchPath
-    else (if nat_lt MAX_DEPTH (length path + height_of b.children) then Some TooDeep else None)
+    else (if nat_lt depth_limit (length path + height_of b.children) then Some TooDeep else None)

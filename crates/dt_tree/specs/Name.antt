@@ -2,7 +2,7 @@
 -- One set of characters serves both, and a name has at most 255 of them.
 use Rattle.std.specs.Prelude.{ℕ, Bool, ◌&&◌, ◌||◌, nat_le, nat_lt, ◌==◌, if◌then◌else◌, false, List, length}
 use Rattle.std.specs.List.{list_all}
-use Rattle.dt_tree.specs.declared.limits.TheConstants.{MAX_NAME_LEN}
+use Rattle.dt_tree.specs.Limits.{name_limit}
 
 -- letters, digits and `, . _ + * # ? @ -`
 abbrev pub is_name_byte : ℕ → Bool
@@ -12,7 +12,7 @@ is_name_byte b =
 
 -- 1 to 255 bytes that can stand in a name
 abbrev pub is_name : List ℕ → Bool
-is_name bytes = if length bytes == 0 then false else (if nat_lt MAX_NAME_LEN (length bytes) then false else list_all is_name_byte bytes)
+is_name bytes = if length bytes == 0 then false else (if nat_lt name_limit (length bytes) then false else list_all is_name_byte bytes)
 
 abbrev pub are_names : List (List ℕ) → Bool
 are_names names = list_all is_name names

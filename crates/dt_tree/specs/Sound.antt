@@ -1,7 +1,7 @@
 -- What is true of each node: lawful names, siblings that differ, at most 64 levels below it.
 use Rattle.std.specs.Prelude.{ℕ, ◌≤◌, Bool, true, false, not, ◌&&◌, ◌||◌, ◌==◌, List, [], ◌∷◌, length, IsTrue}
 use Rattle.std.specs.Str.{bytes_eq}
-use Rattle.dt_tree.specs.declared.limits.TheConstants.{MAX_DEPTH}
+use Rattle.dt_tree.specs.Limits.{depth_limit}
 use Rattle.dt_tree.specs.declared.property.Property.{Property}
 use Rattle.dt_tree.specs.Name.{is_name, are_names}
 use Rattle.dt_tree.specs.NodeData.{Siblings, none, more, NodeData, child_names, property_names, height_of}
@@ -37,4 +37,4 @@ pub record IsSound (b : NodeData) : Type 0 where
   pub properties : AreSound b.properties
   pub siblings : AreSiblings b.children
   pub below : IsSoundBelow b.children
-  pub shallow : height_of b.children ≤ MAX_DEPTH
+  pub shallow : height_of b.children ≤ depth_limit

@@ -3,21 +3,22 @@ use Rattle.std.proofs.Common.{◌≡◌, ◌<◌, inl, inr, ℕ, Bool, List, len
 use Rattle.dt_tree.specs.PathMap.{TreeMap}
 use Rattle.dt_tree.specs.TreeData.{TreeData, IsTree}
 use Rattle.dt_tree.proofs.MapLaws.{same_tree}
-use Rattle.dt_source.specs.Parse.{IsShort, Says}
+use Rattle.dt_source.specs.Parse.{Says}
 use Rattle.dt_source.specs.Tree as said
 use Rattle.dt_edit.specs.Said.{reading}
 use Rattle.dt_meaning.specs.Syntax.{Meaning}
 use Rattle.dt_blob.specs.declared.error.BlobError.{BlobError}
-use Rattle.dt_blob.specs.Blob.{blob_of, limit}
+use Rattle.dt_blob.specs.Blob.{blob_of}
 use Rattle.dt_blob.specs.Blob as blob
 use Rattle.dt_build.specs.Built.{IsLonger, IsTreeOf}
 use Rattle.engine.specs.Compile.{CannotBuild, CannotWrite, HasLongBlob, IsBlobOf, IsCompileRefusal, IsCompiled}
 use Rattle.engine.specs.declared.fault.Fault.{Fault}
 use Rattle.engine.specs.Fault.{FaultValue, blob_fault, shown}
+use Rattle.engine.specs.Limits.{blob_limit, IsShort}
 use Rattle.engine.proofs.ValueSizes.{values-fit}
 
 -- a source whose values are too long has a blob that is too long
-pub long-blob : (symbols : Bool) (m : Meaning) → IsLonger symbols m limit → HasLongBlob symbols m
+pub long-blob : (symbols : Bool) (m : Meaning) → IsLonger symbols m blob_limit → HasLongBlob symbols m
 long-blob symbols m longer = record {
   lists = longer.lists;
   resolves = longer.resolves;
@@ -25,11 +26,11 @@ long-blob symbols m longer = record {
 }
 
 -- each tree of the source is this one
-pub long-tree : (symbols : Bool) (m : Meaning) (t : TreeData) → IsTree t → IsTreeOf symbols m t → limit < length (blob_of t) → HasLongBlob symbols m
+pub long-tree : (symbols : Bool) (m : Meaning) (t : TreeData) → IsTree t → IsTreeOf symbols m t → blob_limit < length (blob_of t) → HasLongBlob symbols m
 long-tree symbols m t is of long = record {
   lists = of.lists;
   resolves = of.resolves;
-  long = λ tree also same. subst (λ (x : TreeData). limit < length (blob_of x)) (same_tree t tree is also (of.map ∙ sym same)) long;
+  long = λ tree also same. subst (λ (x : TreeData). blob_limit < length (blob_of x)) (same_tree t tree is also (of.map ∙ sym same)) long;
 }
 
 pub written : (size : ℕ) (e : BlobError) (fault : FaultValue) → fault ≡ blob_fault e → blob.Refuses size e → CannotWrite size fault
@@ -47,7 +48,7 @@ module _ {V : Type 0} (bytes : V → List ℕ) (symbols : Bool) (text : List ℕ
   compiled (Ok blob) short says h = record { said = m; short = short; says = says; blob_is = h }
   compiled (Err fault) short says h = tt
 
-  pub in-vain : (r : Result V Fault) → Says text m → MatchResult r (λ blob. IsBlobOf symbols (reading m) (bytes blob)) (λ fault. CannotBuild symbols (reading m) (shown fault))
+  pub in-vain : (r : Result V Fault) → IsShort text → Says text m → MatchResult r (λ blob. IsBlobOf symbols (reading m) (bytes blob)) (λ fault. CannotBuild symbols (reading m) (shown fault))
       → IfErr r (λ fault. IsCompileRefusal symbols text (shown fault))
-  in-vain (Ok blob) says h = tt
-  in-vain (Err fault) says h = inr (record { said = m; says = says; cannot = h })
+  in-vain (Ok blob) short says h = tt
+  in-vain (Err fault) short says h = inr (record { said = m; short = short; says = says; cannot = h })

@@ -3,8 +3,8 @@ use Rattle.std.proofs.Common.{◌≡◌, ◌↔◌, None, ℕ, List, Bool, true,
 use Rattle.std.specs.Prelude.{⊤, ◌||◌, ◌==◌, length, nat_lt, not, IsErrOf}
 use Rattle.dt_blob.specs.declared.error.BlobError.{BlobError}
 use Rattle.dt_blob.specs.declared.error.BlobError.TheVariants.{NoMemory, Truncated, BadMagic, BadVersion, BadLayout, BadToken, BadString, PropertyAfterNode, BadTree, TooLarge}
-use Rattle.dt_blob.specs.declared.room.TheConstants.{MAX_SIZE}
-use Rattle.dt_blob.specs.Format.{format_version, header_size, magic_number}
+use Rattle.dt_blob.specs.Blob.{limit}
+use Rattle.dt_blob.specs.Format.{format_version, oldest_version, header_size, magic_number}
 use Rattle.dt_blob.specs.HeaderWords.{header_fault, header_of, is_laid_out}
 use Rattle.engine.specs.declared.fault.Fault.{Fault}
 use Rattle.engine.specs.Fault.{shown, blob_fault}
@@ -43,8 +43,8 @@ is-first : (bytes : List ℕ) → IsFirst (header_fault bytes)
 unfolding header_fault
 is-first bytes =
     let h = header_of bytes in
-    six-tests (nat_lt MAX_SIZE (length bytes)) (nat_lt (length bytes) header_size) (not (h.magic == magic_number))
-    (nat_lt h.version format_version || nat_lt format_version h.last_compatible) (nat_lt (length bytes) h.size) (not (is_laid_out h))
+    six-tests (nat_lt limit (length bytes)) (nat_lt (length bytes) header_size) (not (h.magic == magic_number))
+    (nat_lt h.version oldest_version || nat_lt format_version h.last_compatible) (nat_lt (length bytes) h.size) (not (is_laid_out h))
 
 of-header : (bytes : List ℕ) (e : BlobError) → header_fault bytes ≡ Some e → IsOfHeader e
 unfolding IsFirst

@@ -3,5 +3,6 @@ mod ChannelLemmas
 mod DumpLemmas
 mod ExplainLemmas
 mod HeaderLemmas
+mod LawLemmas
 pub mod OverlayLemmas
 pub mod ValueSizes

@@ -5,19 +5,20 @@ use Rattle.dt_tree.specs.PathMap.{TreeMap}
 use Rattle.dt_tree.specs.TreeData.{TreeData, IsTree}
 use Rattle.dt_tree.proofs.MapLaws.{same_tree}
 use Rattle.dt_blob.specs.declared.error.BlobError.{BlobError}
-use Rattle.dt_blob.specs.declared.error.BlobError.TheVariants.{TooLarge}
+use Rattle.dt_blob.specs.declared.error.BlobError.TheVariants.{NoMemory, TooLarge}
 use Rattle.dt_blob.specs.HeaderWords.{header_fault}
-use Rattle.dt_blob.specs.Blob.{blob_of, limit}
+use Rattle.dt_blob.specs.Blob.{blob_of}
 use Rattle.dt_overlay.specs.Applied.{IsApplied, IsLonger}
 use Rattle.engine.specs.declared.fault.Fault.{Fault}
 use Rattle.engine.specs.Compile.{CannotWrite}
 use Rattle.engine.specs.Dump.{Explains, IsUnread}
 use Rattle.engine.specs.Fault.{FaultValue, blob_fault, shown}
-use Rattle.engine.specs.Overlay.{CannotApply, HasLongResult, IsBlobOfApplied}
+use Rattle.engine.specs.Limits.{blob_limit}
+use Rattle.engine.specs.Overlay.{CannotApply, HasLongResult, IsBlobOfApplied, TellsOver}
 use Rattle.engine.proofs.ValueSizes.{values-fit}
 
 -- a result whose values are too long has a blob that is too long
-pub long-result : (base over : TreeData) → IsLonger base over limit → HasLongResult base over
+pub long-result : (base over : TreeData) → IsLonger base over blob_limit → HasLongResult base over
 long-result base over longer = record {
   lists = longer.lists;
   result = longer.result;
@@ -25,11 +26,11 @@ long-result base over longer = record {
 }
 
 -- each tree with the result's map is this one
-pub long-applied : (base over t : TreeData) → IsTree t → IsApplied base over t → limit < length (blob_of t) → HasLongResult base over
+pub long-applied : (base over t : TreeData) → IsTree t → IsApplied base over t → blob_limit < length (blob_of t) → HasLongResult base over
 long-applied base over t is of long = record {
   lists = of.lists;
   result = of.result;
-  long = λ tree also same. subst (λ (x : TreeData). limit < length (blob_of x)) (same_tree t tree is also (of.map ∙ sym same)) long;
+  long = λ tree also same. subst (λ (x : TreeData). blob_limit < length (blob_of x)) (same_tree t tree is also (of.map ∙ sym same)) long;
 }
 
 pub unwritten : (base over t : TreeData) (fault : FaultValue) → IsTree t → IsApplied base over t → CannotWrite (length (blob_of t)) fault → CannotApply base over fault
@@ -51,6 +52,15 @@ module _ {V : Type 0} (e : BlobError) (Bad : FaultValue → Type 0) where
   pub matched : (Good : V → Type 0) (r : Result V Fault) → IsErrAnd r (λ fault. shown fault ≡ blob_fault e) → Bad (blob_fault e) → MatchResult r Good (λ fault. Bad (shown fault))
   matched Good (Ok v) is bad = elim is [ ]
   matched Good (Err fault) is bad = subst Bad (sym is) bad
+
+-- want of memory for the base comes before the overlay's error, which is told else
+pub before-over : {V : Type 0} (x e : BlobError) (r : Result V Fault) → x ≡ NoMemory → IsErrAnd r (λ fault. shown fault ≡ blob_fault x) → IsErrAnd r (λ fault. TellsOver e (shown fault))
+before-over x e (Ok v) none is = elim is [ ]
+before-over x e (Err fault) none is = inl (is ∙ ap blob_fault none)
+
+pub told-over : {V : Type 0} (e : BlobError) (r : Result V Fault) → IsErrAnd r (λ fault. shown fault ≡ blob_fault e) → IsErrAnd r (λ fault. TellsOver e (shown fault))
+told-over e (Ok v) is = elim is [ ]
+told-over e (Err fault) is = inr is
 
 -- the trees that were read are those that the bytes hold
 pub of-held : {V : Type 0} (bytes : V → List ℕ) (r : Result V Fault) (b c o p : TreeData) → b ≡ c → o ≡ p

@@ -4,7 +4,6 @@ use Rattle.dt_tree.specs.PathMap.{tree_map}
 use Rattle.dt_tree.specs.TreeData.{TreeData, IsTree}
 use Rattle.dt_source.specs.declared.error.SourceErrorKind.{SourceErrorKind}
 use Rattle.dt_source.specs.Parse as parse
-use Rattle.dt_source.specs.Parse.{IsShort}
 use Rattle.dt_source.specs.Tree as said
 use Rattle.dt_meaning.specs.Syntax.{Meaning}
 use Rattle.dt_meaning.specs.MapOf.{tree_map_of}
@@ -13,25 +12,27 @@ use Rattle.dt_edit.specs.Said.{reading}
 use Rattle.dt_resolve.specs.declared.error.BuildError.{BuildError}
 use Rattle.dt_build.specs.Built.{IsTreeOf, Refuses}
 use Rattle.dt_blob.specs.declared.error.BlobError.TheVariants.{TooLarge}
-use Rattle.dt_blob.specs.Blob.{blob_of, limit}
+use Rattle.dt_blob.specs.Blob.{blob_of}
 use Rattle.engine.specs.Fault.{FaultValue, no_memory, blob_fault, build_fault, source_fault}
+use Rattle.engine.specs.Limits.{blob_limit, IsShort}
 
 -- the blob of the tree that a source means
 pub record IsBlobOf (symbols : Bool) (m : Meaning) (blob : List ℕ) : Type 0 where
   pub tree : TreeData
+  pub is : IsTree tree
   pub tree_is : IsTreeOf symbols m tree
   pub blob_is : blob ≡ blob_of tree
-  pub fits : length blob ≤ limit
+  pub fits : length blob ≤ blob_limit
 
 -- why a blob of so many bytes isn't written: memory is wanted, or it is too long
 abbrev pub CannotWrite : ℕ → FaultValue → Type 0
-CannotWrite size fault = (fault ≡ no_memory) ⊎ ((fault ≡ blob_fault TooLarge) × (limit < size))
+CannotWrite size fault = (fault ≡ no_memory) ⊎ ((fault ≡ blob_fault TooLarge) × (blob_limit < size))
 
 -- the blob of that tree is too long
 pub record HasLongBlob (symbols : Bool) (m : Meaning) : Type 0 where
   pub lists : Resolved
   pub resolves : resolved symbols m ≡ Ok lists
-  pub long : (tree : TreeData) → IsTree tree → tree_map tree ≡ tree_map_of m lists → limit < length (blob_of tree)
+  pub long : (tree : TreeData) → IsTree tree → tree_map tree ≡ tree_map_of m lists → blob_limit < length (blob_of tree)
 
 -- the source means no tree, for this error
 pub record MeansNone (symbols : Bool) (m : Meaning) (fault : FaultValue) : Type 0 where
@@ -61,6 +62,7 @@ pub record SaysNone (text : List ℕ) (fault : FaultValue) : Type 0 where
 -- what the text says makes no blob
 pub record SaysInVain (symbols : Bool) (text : List ℕ) (fault : FaultValue) : Type 0 where
   pub said : said.Meaning
+  pub short : IsShort text
   pub says : parse.Says text said
   pub cannot : CannotBuild symbols (reading said) fault
 

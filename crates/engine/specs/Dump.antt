@@ -4,27 +4,27 @@ use Rattle.dt_tree.specs.TreeData.{TreeData}
 use Rattle.dt_blob.specs.declared.error.BlobError.{BlobError}
 use Rattle.dt_blob.specs.declared.error.BlobError.TheVariants.{NoMemory, Truncated, BadMagic, BadVersion, BadLayout, BadToken, BadString, PropertyAfterNode, BadTree, TooLarge}
 use Rattle.dt_blob.specs.HeaderWords.{header_fault, reserves_of}
-use Rattle.dt_blob.specs.Blob.{limit}
 use Rattle.dt_blob.specs.Holds.{Holds, HaveNoEnd}
 use Rattle.dt_blob.specs.SourceText.{text_of}
 use Rattle.engine.specs.Fault.{FaultValue, no_memory, blob_fault}
+use Rattle.engine.specs.Limits.{blob_limit}
 
 -- the text is that of a tree that the bytes hold
 pub record IsDump (blob text : List ℕ) : Type 0 where
   pub tree : TreeData
   pub held : Holds blob tree
   pub text_is : text ≡ text_of tree
-  pub fits : length text ≤ limit
+  pub fits : length text ≤ blob_limit
 
 -- why a tree that is held isn't printed: memory is wanted, or its text is too long
 abbrev pub CannotPrint : TreeData → FaultValue → Type 0
-CannotPrint tree fault = (fault ≡ no_memory) ⊎ ((fault ≡ blob_fault TooLarge) × (limit < length (text_of tree)))
+CannotPrint tree fault = (fault ≡ no_memory) ⊎ ((fault ≡ blob_fault TooLarge) × (blob_limit < length (text_of tree)))
 
 -- the bytes hold a tree whose text is too long
 pub record HoldsLong (blob : List ℕ) : Type 0 where
   pub tree : TreeData
   pub held : Holds blob tree
-  pub long : limit < length (text_of tree)
+  pub long : blob_limit < length (text_of tree)
 
 -- more bytes than a blob may have came in, or would go out
 abbrev pub TooLong : List ℕ → Type 0

@@ -2,6 +2,8 @@ pub mod Compile
 pub mod Dump
 pub mod Explain
 pub mod Fault
+pub mod Laws
+pub mod Limits
 pub mod Overlay
 pub mod Plan
 pub mod Probe

@@ -1,6 +1,6 @@
 -- What `overlay_bytes` answers: the blob of *Overlay result* of the trees that two blobs hold, or why there is none
 -- (dt-object-internal, section 3).
-use Rattle.std.specs.Prelude.{◌≡◌, ◌≤◌, ◌<◌, ◌⊎◌, ℕ, List, length, Ok}
+use Rattle.std.specs.Prelude.{◌≡◌, ◌≤◌, ◌<◌, ◌⊎◌, ℕ, List, length, Some, Ok}
 use Rattle.dt_tree.specs.PathMap.{tree_map}
 use Rattle.dt_tree.specs.TreeData.{TreeData, IsTree}
 use Rattle.dt_meaning.specs.MapOf.{map_of}
@@ -10,25 +10,29 @@ use Rattle.overlay_meaning.specs.Applied.{overlay_result}
 use Rattle.dt_fixup.specs.declared.error.OverlayError.{OverlayError}
 use Rattle.dt_fixup.specs.OverlayFault.{IsFault}
 use Rattle.dt_overlay.specs.Applied.{IsApplied}
+use Rattle.dt_blob.specs.declared.error.BlobError.{BlobError}
 use Rattle.dt_blob.specs.declared.error.BlobError.TheVariants.{TooLarge}
-use Rattle.dt_blob.specs.Blob.{blob_of, limit}
+use Rattle.dt_blob.specs.Blob.{blob_of}
+use Rattle.dt_blob.specs.HeaderWords.{header_fault}
 use Rattle.dt_blob.specs.Holds.{Holds}
 use Rattle.engine.specs.Dump.{IsUnread}
 use Rattle.engine.specs.Fault.{FaultValue, no_memory, blob_fault, overlay_fault}
+use Rattle.engine.specs.Limits.{blob_limit}
 
 -- the blob of the base with the overlay applied
 pub record IsBlobOfApplied (base over : TreeData) (blob : List ℕ) : Type 0 where
   pub tree : TreeData
+  pub is : IsTree tree
   pub tree_is : IsApplied base over tree
   pub blob_is : blob ≡ blob_of tree
-  pub fits : length blob ≤ limit
+  pub fits : length blob ≤ blob_limit
 
 -- the blob of that tree is too long
 pub record HasLongResult (base over : TreeData) : Type 0 where
   pub lists : Resolved
   pub result : overlay_result (lists_of base.root) (lists_of over.root) ≡ Ok lists
   pub long :
-      (tree : TreeData) → IsTree tree → tree_map tree ≡ record { nodes = map_of lists; reserves = base.reserves; boot_cpu = base.boot_cpu } → limit < length (blob_of tree)
+      (tree : TreeData) → IsTree tree → tree_map tree ≡ record { nodes = map_of lists; reserves = base.reserves; boot_cpu = base.boot_cpu } → blob_limit < length (blob_of tree)
 
 -- the overlay isn't applied, for this error
 pub record IsUnapplied (base over : TreeData) (fault : FaultValue) : Type 0 where
@@ -54,6 +58,16 @@ pub record IsUnreadOver (base over : List ℕ) (fault : FaultValue) : Type 0 whe
   pub base_tree : TreeData
   pub base_held : Holds base base_tree
   pub unread : IsUnread over fault
+
+-- the base is held, and the overlay's header has this fault
+pub record IsBadOver (base over : List ℕ) (error : BlobError) : Type 0 where
+  pub base_tree : TreeData
+  pub base_held : Holds base base_tree
+  pub bad : header_fault over ≡ Some error
+
+-- the fault tells this error of the overlay, or memory ran out for the base, which is read before it
+abbrev pub TellsOver : BlobError → FaultValue → Type 0
+TellsOver error fault = (fault ≡ no_memory) ⊎ (fault ≡ blob_fault error)
 
 -- both are held, and make no blob
 pub record AreInVain (base over : List ℕ) (fault : FaultValue) : Type 0 where

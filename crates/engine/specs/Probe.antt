@@ -1,18 +1,19 @@
--- Why `probe_bytes` gives no end report, where there is a plan: memory is wanted, or the workers are none or too many.
+-- What `probe_bytes` answers: the end report of the plan of a blob and a driver file, or the first fault, that of the workers last.
 use Rattle.std.specs.Prelude.{◌≡◌, ◌<◌, ◌⊎◌, ℕ, List, Option, Result, Ok}
 use Rattle.dt_tree.specs.TreeData.{TreeData}
 use Rattle.bus_plan.specs.declared.error.PlanError.{PlanError}
 use Rattle.bus_plan.specs.Plan.{PlannedDevice}
 use Rattle.bus_manager.specs.Run.{IsRun}
 use Rattle.bus_manager.specs.declared.run_error.RunError.TheVariants.{TooManyWorkers}
-use Rattle.bus_manager.specs.declared.running.TheConstants.{MAX_WORKERS}
 use Rattle.engine.specs.Fault.{FaultValue, no_memory, run_fault}
-use Rattle.engine.specs.Plan.{IsPlanned, CannotPlan, planning}
+use Rattle.engine.specs.Limits.{worker_limit}
+use Rattle.engine.specs.Plan.{IsPlanned, IsPlanRefusal, CannotPlan, planning}
 
 -- the workers are none, or more than there may be
 abbrev pub AreTooMany : ℕ → Type 0
-AreTooMany workers = (workers ≡ 0) ⊎ (MAX_WORKERS < workers)
+AreTooMany workers = (workers ≡ 0) ⊎ (worker_limit < workers)
 
+-- why a plan has no end report: memory is wanted, or the workers are none or too many
 abbrev pub CannotRun : ℕ → FaultValue → Type 0
 CannotRun workers fault = (fault ≡ no_memory) ⊎ ((fault ≡ run_fault TooManyWorkers) × AreTooMany workers)
 
@@ -32,3 +33,14 @@ pub record IsProbe {N : Type 0} (attests : List PlannedDevice → ℕ → N → 
   pub plan : List PlannedDevice
   pub planned : IsPlanned blob drivers plan
   pub run : IsRun (attests plan) plan report notes
+
+-- ---- refusals
+-- there is a plan of a tree that the bytes hold, and it can't be run
+pub record IsUnrun (blob drivers : List ℕ) (workers : ℕ) (fault : FaultValue) : Type 0 where
+  pub plan : List PlannedDevice
+  pub planned : IsPlanned blob drivers plan
+  pub cannot : CannotRun workers fault
+
+-- why there is no end report at all: the blob's fault comes before the file's, that before the plan's, and the workers' last
+abbrev pub IsProbeRefusal : List ℕ → List ℕ → ℕ → FaultValue → Type 0
+IsProbeRefusal blob drivers workers fault = IsPlanRefusal blob drivers fault ⊎ IsUnrun blob drivers workers fault

@@ -1,12 +1,13 @@
 //! The blob of a source, from bytes to bytes.
 ghost use Rattle.std.specs.Prelude.{◌≡◌, ◌≤◌, length, IfOk, IfErr, MatchResult};
-ghost use Rattle.dt_source.specs.Parse.{IsShort, Says};
+ghost use Rattle.dt_source.specs.Parse.{Says};
 ghost use Rattle.dt_source.specs.Tree.{Meaning};
-ghost use Rattle.dt_blob.specs.Blob.{blob_of, limit};
+ghost use Rattle.dt_blob.specs.Blob.{blob_of};
 ghost use Rattle.dt_edit.specs.Said.{reading};
 ghost use Rattle.dt_resolve.specs.Said.{meaning_of};
 ghost use Rattle.engine.specs.Compile.{CannotBuild, CannotWrite, IsBlobOf, IsCompileRefusal, IsCompiled};
 ghost use Rattle.engine.specs.Fault.{shown};
+ghost use Rattle.engine.specs.Limits.{blob_limit, IsShort};
 
 use crate::fault::Fault;
 use crate::limits::MAX_BLOB_LEN;
@@ -61,7 +62,7 @@ fn source_blob(
 
 /// The blob of a tree.
 pub(crate) fn tree_blob(alloc: Global, hasher: RandomState, tree: &Tree) -> Result<Vec<u8>, Fault>
-    ensures { MatchResult result (λ blob. (blob.items ≡ blob_of tree.now) × (length blob.items ≤ limit)) (λ fault. CannotWrite (length (blob_of tree.now)) (shown fault)) }
+    ensures { MatchResult result (λ blob. (blob.items ≡ blob_of tree.now) × (length blob.items ≤ blob_limit)) (λ fault. CannotWrite (length (blob_of tree.now)) (shown fault)) }
 {
     match write(alloc, hasher, tree) {
         Ok(blob) => Ok(blob),

@@ -5,7 +5,7 @@ ghost use Rattle.dt_blob.specs.declared.error.BlobError.{BlobError};
 ghost use Rattle.dt_blob.specs.HeaderWords.{header_fault};
 ghost use Rattle.dt_blob.specs.Holds.{Holds};
 ghost use Rattle.engine.specs.Fault.{shown, blob_fault};
-ghost use Rattle.engine.specs.Overlay.{CannotApply, IsBlobOfApplied, IsOverlaid, IsOverlayRefusal};
+ghost use Rattle.engine.specs.Overlay.{CannotApply, IsBlobOfApplied, IsBadOver, IsOverlaid, IsOverlayRefusal, TellsOver};
 
 use crate::compiling::tree_blob;
 use crate::fault::Fault;
@@ -34,6 +34,8 @@ pub fn overlay_bytes(
     ensures refused { IfErr result (λ fault. IsOverlayRefusal base.now overlay.now (shown fault)) }
     // A fault of the base's header comes before all else.
     ensures header { (e : BlobError) → header_fault base.now ≡ Some e → IsErrAnd result (λ fault. shown fault ≡ blob_fault e) }
+    // Behind a base that is held, one of the overlay's header comes, unless memory runs out for the base.
+    ensures overlay_header { (e : BlobError) → IsBadOver base.now overlay.now e → IsErrAnd result (λ fault. TellsOver e (shown fault)) }
 {
     let base = read(alloc, base)?;
     let overlay = read(alloc, overlay)?;

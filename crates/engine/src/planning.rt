@@ -7,7 +7,7 @@ ghost use Rattle.dt_blob.specs.Holds.{Holds};
 ghost use Rattle.bus_plan.specs.PlanFile.{Answers};
 ghost use Rattle.bus_plan.specs.PlanText.{text_of};
 ghost use Rattle.engine.specs.Fault.{shown, blob_fault, no_memory};
-ghost use Rattle.engine.specs.Plan.{planning, printed, IsPlanned, IsPlanText, IsPlanRefusal, CannotPlan};
+ghost use Rattle.engine.specs.Plan.{planning, printed, HasPlan, IsPlanned, IsPlanText, IsPlanRefusal, CannotPlan};
 
 use crate::fault::Fault;
 use bus_drivers::{plan, plan_graph, read_drivers};
@@ -73,14 +73,17 @@ fn text_of(alloc: Global, plan: &Plan) -> Result<Vec<u8>, Fault>
     plan_text(alloc, plan).map_err(|_| Fault::no_memory())
 }
 
-/// The plan as a Graphviz graph in place of its text. What it draws is outside the proved clauses.
+/// The plan as a Graphviz graph in place of its text, refused as that is. What it draws is outside the proved clauses.
 pub fn graph_bytes(
     alloc: Global,
     hasher: RandomState,
     blob: &[u8],
     drivers: &[u8],
 ) -> Result<Vec<u8>, Fault>
+    // What is drawn is a plan of a tree that the bytes hold.
+    ensures answer { IfOk result (λ _. HasPlan blob.now drivers.now) }
     ensures refused { IfErr result (λ fault. IsPlanRefusal blob.now drivers.now (shown fault)) }
+    ensures header { (e : BlobError) → header_fault blob.now ≡ Some e → IsErrAnd result (λ fault. shown fault ≡ blob_fault e) }
 {
     let plan = planned(alloc, hasher, blob, drivers)?;
     plan_graph(alloc, &plan).map_err(|_| Fault::no_memory())

@@ -1,13 +1,13 @@
 //! The devices of a blob probed by workers, from bytes to the end report.
-ghost use Rattle.std.specs.Prelude.{◌≡◌, ◌⊎◌, Some, IfOk, IfErr, IsErrAnd, MatchResult};
+ghost use Rattle.std.specs.Prelude.{◌≡◌, Some, IfOk, IfErr, IsErrAnd, MatchResult};
 ghost use Rattle.bus_manager.specs.Run.{IsRun};
 ghost use Rattle.dt_tree.specs.TreeData.{TreeData};
 ghost use Rattle.dt_blob.specs.declared.error.BlobError.{BlobError};
 ghost use Rattle.dt_blob.specs.HeaderWords.{header_fault};
 ghost use Rattle.dt_blob.specs.Holds.{Holds};
 ghost use Rattle.engine.specs.Fault.{shown, blob_fault};
-ghost use Rattle.engine.specs.Plan.{planning, IsPlanRefusal};
-ghost use Rattle.engine.specs.Probe.{IsProbe, IsProbeOf, AreTooMany, CannotProbe, CannotRun};
+ghost use Rattle.engine.specs.Plan.{planning};
+ghost use Rattle.engine.specs.Probe.{IsProbe, IsProbeOf, IsProbeRefusal, AreTooMany, CannotProbe, CannotRun};
 
 use crate::fault::Fault;
 use crate::planning::planned;
@@ -36,8 +36,8 @@ pub fn probe_bytes<P: Prober, R: Threads + Wait + Sync>(
     ensures held { (tree : TreeData) → Holds blob.now tree → MatchResult result (λ ran. IsProbeOf (P.attests prober.now) (planning tree drivers.now) ran.report.items ran.notes.items) (λ fault. CannotProbe tree drivers.now workers (shown fault)) }
     // No run has no worker, or too many.
     ensures many { IfOk result (λ _. ¬ (AreTooMany workers)) }
-    // Each refusal has its reason in the bytes or in the number of workers.
-    ensures refused { IfErr result (λ fault. IsPlanRefusal blob.now drivers.now (shown fault) ⊎ CannotRun workers (shown fault)) }
+    // Each refusal has its reason in the bytes or, where they have a plan, in the number of workers.
+    ensures refused { IfErr result (λ fault. IsProbeRefusal blob.now drivers.now workers (shown fault)) }
     // A fault of the header comes before all else.
     ensures header { (e : BlobError) → header_fault blob.now ≡ Some e → IsErrAnd result (λ fault. shown fault ≡ blob_fault e) }
 {

@@ -6,11 +6,17 @@ use std::hash::RandomState;
 use std::process::Abort;
 
 /// A root with the one property `a = <1>`.
-const ONE_CELL: &[u8] =
+pub(crate) const ONE_CELL: &[u8] =
     b"\xd0\x0d\xfe\xed\x00\x00\x00\x5a\x00\x00\x00\x38\x00\x00\x00\x58\x00\x00\x00\x28\x00\x00\x00\x11\x00\x00\x00\x10\x00\x00\x00\x00\x00\x00\x00\x02\x00\x00\x00\x20\x00\x00\x00\x00\x00\x00\x00\x00\x00\x00\x00\x00\x00\x00\x00\x00\x00\x00\x00\x01\x00\x00\x00\x00\x00\x00\x00\x03\x00\x00\x00\x04\x00\x00\x00\x00\x00\x00\x00\x01\x00\x00\x00\x02\x00\x00\x00\x09\x61\x00";
 
 /// The same bytes with one word changed.
-fn changed(rt: &impl Abort, alloc: Global, blob: &[u8], at: usize, word: u32) -> Vec<u8> {
+pub(crate) fn changed(
+    rt: &impl Abort,
+    alloc: Global,
+    blob: &[u8],
+    at: usize,
+    word: u32,
+) -> Vec<u8> {
     let new = word.to_be_bytes();
     let mut bytes = Vec::new(alloc);
     for (place, byte) in blob.iter().enumerate() {
@@ -35,7 +41,7 @@ fn push_words(rt: &impl Abort, bytes: &mut Vec<u8>, words: &[u32]) {
 }
 
 /// A blob without reservations, of the words of the structure block and the strings.
-fn blob(rt: &impl Abort, alloc: Global, structure: &[u32], strings: &[u8]) -> Vec<u8> {
+pub(crate) fn blob(rt: &impl Abort, alloc: Global, structure: &[u32], strings: &[u8]) -> Vec<u8> {
     let size = (structure.len() % 1000 * 4) as u32;
     let text = (strings.len() % 1000) as u32;
     let mut bytes = Vec::new(alloc);
@@ -62,14 +68,19 @@ fn blob(rt: &impl Abort, alloc: Global, structure: &[u32], strings: &[u8]) -> Ve
 }
 
 /// The number of the refusal, or none.
-fn refusal(outcome: Result<Tree, BlobError>) -> Option<u8> {
+pub(crate) fn refusal(outcome: Result<Tree, BlobError>) -> Option<u8> {
     match outcome {
         Ok(_) => None,
         Err(e) => Some(e.number()),
     }
 }
 
-fn is_one_cell(rt: &impl Abort, alloc: Global, hasher: RandomState, bytes: &[u8]) -> bool {
+pub(crate) fn is_one_cell(
+    rt: &impl Abort,
+    alloc: Global,
+    hasher: RandomState,
+    bytes: &[u8],
+) -> bool {
     let tree = read(alloc, bytes).expect(rt, "a tree");
     let again = write(alloc, hasher, &tree).expect(rt, "a blob");
     again.as_slice() == ONE_CELL
@@ -154,7 +165,7 @@ const CHANGED: &[(usize, u32, u8)] = &[
     (0x48, 2, 35),
     (0x00, 0xd00d_feec, 31),
     (0x14, 3, 32),
-    (0x14, 16, 32),
+    (0x14, 15, 32),
     (0x18, 18, 32),
     (0x04, 0x5b, 30),
     (0x04, 0x27, 33),
@@ -253,7 +264,7 @@ fn structure_refusal(
     refusal(read(alloc, bytes.as_slice()))
 }
 
-fn is_told(rt: &impl Abort, told: Option<u8>, number: Option<u8>, name: &str) {
+pub(crate) fn is_told(rt: &impl Abort, told: Option<u8>, number: Option<u8>, name: &str) {
     assert_eq!(rt; told, number, "{name}");
 }
 

@@ -13,3 +13,5 @@ mod growing;
 mod merges;
 #[cfg(test)]
 mod trees;
+#[cfg(test)]
+mod versions;

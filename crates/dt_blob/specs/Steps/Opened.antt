@@ -1,6 +1,6 @@
 -- What has been read of the structure block: the nodes that are still open, as a list of tokens is read one by one.
 use Rattle.std.specs.Prelude.{ℕ, Bool, true, false, ◌&&◌, ◌==◌, nat_lt, List, [], ◌∷◌, ◌++◌, length, map, reverse, Option, Some, None, if◌then◌else◌, is_none, option_and_then}
-use Rattle.dt_tree.specs.declared.limits.TheConstants.{MAX_DEPTH}
+use Rattle.dt_tree.specs.Limits.{depth_limit}
 use Rattle.dt_tree.specs.declared.property.Property.{Property}
 use Rattle.dt_tree.specs.NodeData.{NodeData, node_data, siblings}
 use Rattle.dt_tree.specs.Name.{is_name}
@@ -31,7 +31,7 @@ pub data State : Type 0 where
 abbrev pub begin_in : State → List ℕ → Option State
 begin_in begun [] = Some (inside (opened [] [] []) [])
 begin_in begun (b ∷ bs) = None
-begin_in (inside top outer) name = if is_name name && nat_lt (length outer) MAX_DEPTH then Some (inside (opened name [] []) (top ∷ outer)) else None
+begin_in (inside top outer) name = if is_name name && nat_lt (length outer) depth_limit then Some (inside (opened name [] []) (top ∷ outer)) else None
 begin_in (behind root) name = None
 begin_in (ended root) name = None
 

@@ -1,11 +1,12 @@
 -- Reading a blob from left to right, as functions on lists.
-use Rattle.std.specs.Prelude.{◌≡◌, ◌⊎◌, ℕ, zero, suc, ◌+◌, ◌*◌, ◌/◌, ◌&&◌, ◌==◌, nat_lt, List, [], ◌∷◌, length, take, drop, Option, Some, None, Result, Ok, Err, if◌then◌else◌, option_and_then, is_none}
+use Rattle.std.specs.Prelude.{◌≡◌, ◌⊎◌, ℕ, zero, suc, ◌+◌, ◌-◌, ◌*◌, ◌/◌, Bool, true, false, ◌&&◌, ◌==◌, nat_lt, List, [], ◌∷◌, length, take, drop, Option, Some, None, unwrap_or, Result, Ok, Err, if◌then◌else◌, option_and_then, is_none, is_some}
 use Rattle.std.specs.Option.{option_map}
 use Rattle.byteorder.specs.Endian.{big_number}
 use Rattle.dt_tree.specs.NodeData.{NodeData}
 use Rattle.dt_tree.specs.TreeData.{TreeData}
 use Rattle.dt_blob.specs.declared.error.BlobError.{BlobError}
 use Rattle.dt_blob.specs.declared.error.BlobError.TheVariants as errors
+use Rattle.dt_blob.specs.declared.read_header.Header.{Header}
 use Rattle.dt_blob.specs.declared.read_token.BlobToken.{BlobToken}
 use Rattle.dt_blob.specs.declared.read_token.BlobToken.TheVariants as code
 use Rattle.dt_blob.specs.Format.{reservation_size, begin_node_word, end_node_word, property_word, nop_word, end_word}
@@ -80,29 +81,41 @@ token_by strings n bytes =
 unfoldable pub token_at : List ℕ → List ℕ → Option (Token × List ℕ)
 token_at strings bytes = if nat_lt (length bytes) 4 then None else token_by strings (big_number 4 bytes) (drop 4 bytes)
 
--- what stands behind the END; a NOP stands for whatever is no token
-abbrev pub left : List ℕ → List Token
-left [] = []
-left (b ∷ bs) = nop ∷ []
+-- what stands behind the END of a block whose size is told; a NOP stands for whatever is no token
+abbrev pub left : Bool → List ℕ → List Token
+left false bytes = []
+left true [] = []
+left true (b ∷ bs) = nop ∷ []
 
-abbrev pub with_token : Token → List ℕ → List Token → List Token
-with_token nop rest ts = ts
-with_token end rest ts = end ∷ left rest
-with_token (begin_node name) rest ts = begin_node name ∷ ts
-with_token end_node rest ts = end_node ∷ ts
-with_token (property name value) rest ts = property name value ∷ ts
+abbrev pub with_token : Bool → Token → List ℕ → List Token → List Token
+with_token sized nop rest ts = ts
+with_token sized end rest ts = end ∷ left sized rest
+with_token sized (begin_node name) rest ts = begin_node name ∷ ts
+with_token sized end_node rest ts = end_node ∷ ts
+with_token sized (property name value) rest ts = property name value ∷ ts
 
-abbrev pub tokens_by : Option (Token × List ℕ) → (List ℕ → List Token) → List Token
-tokens_by None f = nop ∷ []
-tokens_by (Some x) f = with_token (x.0) (x.1) (f (x.1))
+abbrev pub tokens_by : Bool → Option (Token × List ℕ) → (List ℕ → List Token) → List Token
+tokens_by sized None f = nop ∷ []
+tokens_by sized (Some x) f = with_token sized (x.0) (x.1) (f (x.1))
 
 -- at most n tokens, without the NOPs between them, up to the END
-unfoldable pub tokens_in : List ℕ → ℕ → List ℕ → List Token
-tokens_in strings zero bytes = []
-tokens_in strings (suc n) bytes = tokens_by (token_at strings bytes) (tokens_in strings n)
+unfoldable pub tokens_in : Bool → List ℕ → ℕ → List ℕ → List Token
+tokens_in sized strings zero bytes = []
+tokens_in sized strings (suc n) bytes = tokens_by sized (token_at strings bytes) (tokens_in sized strings n)
 
-unfoldable pub tokens_at : List ℕ → List ℕ → List Token
-tokens_at strings bytes = tokens_in strings (suc (length bytes)) bytes
+unfoldable pub tokens_at : Bool → List ℕ → List ℕ → List Token
+tokens_at sized strings bytes = tokens_in sized strings (suc (length bytes)) bytes
+
+-- ---- the structure block
+
+-- how many bytes it has at most: all that the blob has left, where the header tells no size
+abbrev pub room_of : Header → ℕ
+room_of h = unwrap_or h.structure_size (h.size - h.structure_at)
+
+abbrev pub structure_tokens : List ℕ → List Token
+structure_tokens bytes =
+    let h = header_of bytes in
+    tokens_at (is_some h.structure_size) (strings_of bytes) (structure_of (room_of h) bytes)
 
 -- ---- reserves
 
@@ -125,7 +138,7 @@ tree_by bytes rs root = option_and_then (λ r. option_map (λ n. record { reserv
 unfoldable pub tree_in : List ℕ → Option TreeData
 tree_in bytes =
     if is_none (header_fault bytes)
-    then tree_by bytes (reserves_at (reserves_of bytes)) (root_from begun (tokens_at (strings_of bytes) (structure_of bytes)))
+    then tree_by bytes (reserves_at (reserves_of bytes)) (root_from begun (structure_tokens bytes))
     else None
 
 -- why there is no tree: the header's first fault, the reserves, or what stands behind them

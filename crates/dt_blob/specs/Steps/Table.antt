@@ -3,7 +3,7 @@ use Rattle.std.specs.Prelude.{◌≡◌, ◌≢◌, ℕ, ◌+◌, ◌<◌, ◌�
 use Rattle.std.specs.List.{list_any}
 use Rattle.std.specs.Option.{option_or}
 use Rattle.std.specs.Str.{bytes_eq}
-use Rattle.dt_tree.specs.declared.limits.TheConstants.{MAX_NAME_LEN}
+use Rattle.dt_tree.specs.Limits.{name_limit}
 use Rattle.dt_blob.specs.Blob.{limit}
 use Rattle.dt_blob.specs.Strings.{lowest_place, ended, offset_in, with_names}
 
@@ -32,15 +32,15 @@ pub record AreNames (names : List (List ℕ)) : Type 0 where
   pub clean : All (λ name. is_clean name ≡ true) names
   pub differ : AllPairs (λ a b. a ≢ b) names
 
--- whether a name has the length of one that was seen; names of MAX_NAME_LEN bytes and more count as one length
+-- whether a name has the length of one that was seen; names of 255 bytes and more count as one length
 abbrev pub is_length_seen : List Bool → List ℕ → Bool
-is_length_seen lengths name = slice_index_or lengths (min (length name) MAX_NAME_LEN) false
+is_length_seen lengths name = slice_index_or lengths (min (length name) name_limit) false
 
 -- names, and the lengths that they have
 pub record AreKept (names : List (List ℕ)) (lengths : List Bool) : Type 0 where
   pub differ : AreNames names
   pub seen : All (λ name. is_length_seen lengths name ≡ true) names
-  pub room : length lengths ≡ MAX_NAME_LEN + 1
+  pub room : length lengths ≡ name_limit + 1
 
 -- ---- places
 -- the block is empty or ends with a zero byte

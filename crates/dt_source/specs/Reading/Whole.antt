@@ -1,6 +1,5 @@
 -- Reading a whole source.
 use Rattle.std.specs.Prelude.{ℕ, suc, Bool, true, false, ◌||◌, List, [], ◌∷◌, length, map, flat_map, fold, Option, Some, None, Result, Ok, Err}
-use Rattle.dt_source.specs.declared.body.TheConstants.{MAX_BODY_DEPTH}
 use Rattle.dt_lexeme.specs.declared.lexeme.Lexeme.{Lexeme}
 use Rattle.dt_lexeme.specs.declared.lexeme.Fault.{Fault}
 use Rattle.dt_lexeme.specs.declared.lexeme.Refusal.{Refusal}
@@ -14,7 +13,7 @@ use Rattle.dt_source.specs.Tree.{Edit, Rooted, Extends, Deletes, Meaning, Body, 
 use Rattle.dt_source.specs.Pieces.{target_of, fault_in}
 use Rattle.dt_source.specs.Words.{label_bytes}
 use Rattle.dt_source.specs.Reading.Bodies.{labels_at, stays, ended_by, body_at}
-use Rattle.dt_source.specs.Source.{both_numbers}
+use Rattle.dt_source.specs.Source.{body_limit, both_numbers}
 
 abbrev pub semicolon_kind : Kind → Lexeme → List Lexeme → Result (List Lexeme) Refusal
 semicolon_kind Semicolon t ts = Ok ts
@@ -74,7 +73,7 @@ reserves_at text ts = many stays (λ s ts. reserve_at text ts) (suc (length ts))
 
 abbrev pub brace_kind : List ℕ → Kind → Lexeme → List Lexeme → Part Body
 brace_kind text Brace t ts = do
-  y ← body_at text MAX_BODY_DEPTH ts
+  y ← body_at text body_limit ts
   ended_by (body_of y.0) y.1 y.2
 brace_kind text _ t ts = Err (syntax_at (t ∷ ts))
 

@@ -144,9 +144,9 @@ pub(super) const BAD_MAGIC: Texts = (
 
 pub(super) const BAD_VERSION: Texts = (
     "BadVersion",
-    "The blob's version is below 17, or it can be read by versions above 17 alone.",
+    "The blob's version is below 16, or it can be read by versions above 17 alone.",
     "d0 0d fe ed and 36 zero bytes",
-    "Make the blob again by a tool that writes version 17.",
+    "Make the blob again by a tool that writes version 16 or 17.",
 );
 
 pub(super) const BAD_LAYOUT: Texts = (

@@ -44,12 +44,15 @@ block-strings-requires c =
     let b = l.strings in
     omega (arith, s, b)
 
+pub overflow_sub-header : goal.overflow_sub-header
+overflow_sub-header c = (laid_as c.args.bytes.now c.in_ok-header.header c.in_ok-header.ensures.0 c.in_ok-header.ensures.1).structure
+
 pub block-structure-requires : goal.block-structure-requires
 block-structure-requires c =
     let l = laid_as c.args.bytes.now c.in_ok-header.header c.in_ok-header.ensures.0 c.in_ok-header.ensures.1 in
     let s = l.size in
-    let b = l.structure in
-    omega (arith, s, b)
+    let b = l.room in
+    omega (arith, s, b, c.unwrap_or-room.ensures)
 
 pub returns-in_err-root : goal.returns-in_err-root
 returns-in_err-root c =
@@ -57,13 +60,13 @@ returns-in_err-root c =
     let bytes = c.args.bytes.now in
     let h = c.in_ok-header.header in
     let strings = strings_as bytes c.block-strings.result.now h c.in_ok-header.ensures.0 c.block-strings.ensures in
-    let structure = structure_as bytes c.block-structure.result.now h c.in_ok-header.ensures.0 c.block-structure.ensures in
-    let root = root_as bytes c.block-strings.result.now c.block-structure.result.now strings structure in
-    rw (p.1, p.2) (inr (c.in_ok-header.ensures.1, inr (refuse c.in_err-root.field-0.0 (root_from begun (tokens_at c.block-strings.result.now c.block-structure.result.now)) (tree_in bytes) (λ n. tree_without_root bytes c.in_ok-header.ensures.1 (sym root ∙ n)) c.in_err-root.ensures)))
+    let structure = structure_as bytes c.block-structure.result.now h c.unwrap_or-room.result c.in_ok-header.ensures.0 c.unwrap_or-room.ensures c.block-structure.ensures in
+    let root = root_as bytes c.block-strings.result.now c.block-structure.result.now h c.is_some-is_sized.result c.in_ok-header.ensures.0 c.is_some-is_sized.ensures strings structure in
+    rw (p.1, p.2) (inr (c.in_ok-header.ensures.1, inr (refuse c.in_err-root.field-0.0 (root_from begun (tokens_at c.is_some-is_sized.result c.block-strings.result.now c.block-structure.result.now)) (tree_in bytes) (λ n. tree_without_root bytes c.in_ok-header.ensures.1 (sym root ∙ n)) c.in_err-root.ensures)))
 
 pub returns-in_err-tree : goal.returns-in_err-tree
 returns-in_err-tree c =
-    let read = root_sound (tokens_at c.block-strings.result.now c.block-structure.result.now) c.in_ok-root.root c.in_ok-root.ensures in
+    let read = root_sound (tokens_at c.is_some-is_sized.result c.block-strings.result.now c.block-structure.result.now) c.in_ok-root.root c.in_ok-root.ensures in
     absurd (c.in_err-tree.ensures.name.1 read.unnamed)
 
 pub returns : goal.returns
@@ -72,8 +75,8 @@ returns c =
     let h = c.in_ok-header.header in
     let part = reserves_as bytes c.first-blob.result.now c.behind.result.now h c.in_ok-header.ensures.0 c.first-blob.ensures c.behind.ensures in
     let strings = strings_as bytes c.block-strings.result.now h c.in_ok-header.ensures.0 c.block-strings.ensures in
-    let structure = structure_as bytes c.block-structure.result.now h c.in_ok-header.ensures.0 c.block-structure.ensures in
-    let root = root_as bytes c.block-strings.result.now c.block-structure.result.now strings structure in
+    let structure = structure_as bytes c.block-structure.result.now h c.unwrap_or-room.result c.in_ok-header.ensures.0 c.unwrap_or-room.ensures c.block-structure.ensures in
+    let root = root_as bytes c.block-strings.result.now c.block-structure.result.now h c.is_some-is_sized.result c.in_ok-header.ensures.0 c.is_some-is_sized.ensures strings structure in
     let all : AreBytes bytes = λ i. omega (arith, c.type_inv.bytes i) in
     tree_as bytes h c.in_ok-reserves.reserves.items c.in_ok-root.root c.in_ok-tree.tree (reserves_bytes bytes all) c.in_ok-header.ensures.0 c.in_ok-header.ensures.1
     (sym (ap reserves_at part) ∙ c.in_ok-reserves.ensures) (sym root ∙ c.in_ok-root.ensures) c.in_ok-tree.ensures.tree

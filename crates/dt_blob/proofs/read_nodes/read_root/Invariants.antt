@@ -5,7 +5,7 @@ use Rattle.dt_blob.proofs.Stepping.{Leads}
 use Rattle.dt_blob.proofs.read_nodes.read_root.Given as goal
 
 abbrev pub invariant-tokens : goal.invariant-tokens
-invariant-tokens l = Leads l.strings l.rest (state_of l.progress) (root_from begun (tokens_at l.strings l.structure))
+invariant-tokens l = Leads l.is_sized l.strings l.rest (state_of l.progress) (root_from begun (tokens_at l.is_sized l.strings l.structure))
 
 abbrev pub decreases-tokens : goal.decreases-tokens
 decreases-tokens l = length l.rest

@@ -27,4 +27,4 @@ returns-in-Ok-clause-said c =
 
 pub returns-in-Ok-clause-refused : goal.returns-in-Ok-clause-refused
 returns-in-Ok-clause-refused c =
-    in-vain (λ blob. blob.items) c.args.symbols c.args.source.now (meaning c.in-Ok.parsed) c.source_blob.result c.in-Ok.ensures.found.1 c.source_blob.ensures
+    in-vain (λ blob. blob.items) c.args.symbols c.args.source.now (meaning c.in-Ok.parsed) c.source_blob.result c.in-Ok.ensures.found.0 c.in-Ok.ensures.found.1 c.source_blob.ensures

@@ -4,7 +4,7 @@ use Rattle.engine.specs.Fault.{blob_fault}
 use Rattle.engine.specs.Overlay.{CannotApply, IsBlobOfApplied, IsOverlayRefusal}
 use Rattle.engine.proofs.DumpLemmas.{explained}
 use Rattle.engine.proofs.HeaderLemmas.{header-error, header-told, no-error}
-use Rattle.engine.proofs.OverlayLemmas.{matched, of-held, told, unread}
+use Rattle.engine.proofs.OverlayLemmas.{before-over, matched, of-held, told, told-over, unread}
 use Rattle.engine.proofs.overlaying.overlay_bytes.Goals as goal
 
 pub returns-clause-held : goal.returns-clause-held
@@ -56,3 +56,22 @@ pub returns-in_err-overlay-clause-header : goal.returns-in_err-overlay-clause-he
 returns-in_err-overlay-clause-header c =
     let r = c.in_ok-base.ensures in
     λ e is. elim (no-error c.in_ok-base.base e (header-error c.args.base.now (Ok c.in_ok-base.base) r.too_large r.truncated r.bad_magic r.bad_version r.bad_layout e is)) [ ]
+
+pub returns-clause-overlay_header : goal.returns-clause-overlay_header
+returns-clause-overlay_header c =
+    let r = c.in_ok-overlay.ensures in
+    λ e over. elim (no-error c.in_ok-overlay.overlay e (header-error c.args.overlay.now (Ok c.in_ok-overlay.overlay) r.too_large r.truncated r.bad_magic r.bad_version r.bad_layout e over.bad)) [ ]
+
+pub returns-in_err-base-clause-overlay_header : goal.returns-in_err-base-clause-overlay_header
+returns-in_err-base-clause-overlay_header c =
+    λ e over.
+    before-over c.in_err-base.field-0.0 e c.from_residual.result (c.in_err-base.ensures.only over.base_tree over.base_held) c.from_residual.ensures.1
+
+pub returns-in_err-overlay-clause-overlay_header : goal.returns-in_err-overlay-clause-overlay_header
+returns-in_err-overlay-clause-overlay_header c =
+    let r = c.in_err-overlay.ensures in
+    λ e over.
+    told-over e c.from_residual-in_err-overlay.result
+    (header-told c.in_err-overlay.field-0.0 e c.from_residual-in_err-overlay.result
+    (header-error c.args.overlay.now (Err c.in_err-overlay.field-0.0) r.too_large r.truncated r.bad_magic r.bad_version r.bad_layout e over.bad)
+    c.from_residual-in_err-overlay.ensures.1)
