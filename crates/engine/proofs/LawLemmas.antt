@@ -18,7 +18,6 @@ use Rattle.dt_blob.specs.Blob.{blob_of}
 use Rattle.dt_blob.specs.HeaderWords.{header_fault}
 use Rattle.dt_blob.specs.Holds.{Holds}
 use Rattle.dt_blob.specs.SourceText.{text_of}
-use Rattle.dt_canonical.specs.SourceOf.{source_of}
 use Rattle.engine.specs.Compile.{CannotBuild, IsCompileRefusal, HasLongBlob}
 use Rattle.engine.specs.Dump.{CannotPrint, Explains, IsDump, IsRefusal}
 use Rattle.engine.specs.Fault.{FaultValue, blob_fault, build_fault, source_fault}
