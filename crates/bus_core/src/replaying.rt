@@ -12,6 +12,17 @@ use crate::state::Core;
 use bus_plan::{Device, Plan};
 use std::alloc::Global;
 
+// What a replay answers of a refused event: its number, but none where memory was refused.
+fn refused(number: usize, refusal: Refusal) -> (usize, Refusal)
+    ensures memory { refusal ≡ NoMemory → result ≡ (0, NoMemory) }
+    ensures event { (result ≡ (0, NoMemory)) ⊎ (result ≡ (number, refusal)) }
+{
+    match refusal {
+        Refusal::NoMemory => (0, refusal),
+        _ => (number, refusal),
+    }
+}
+
 impl Core {
     // Ends the flight that the device has.
     fn finish_flight(&mut self, device: Device, report: Report) -> Result<(), Refusal>
@@ -62,8 +73,7 @@ impl Core {
         for (index, event) in events.iter().enumerate() {
             match self.take(alloc, event) {
                 Ok(()) => {}
-                Err(Refusal::NoMemory) => return Err((0, Refusal::NoMemory)),
-                Err(refusal) => return Err((index + 1, refusal)),
+                Err(refusal) => return Err(refused(index + 1, refusal)),
             }
         }
         Ok(())
