@@ -7,7 +7,6 @@ pub mod EntryWays
 pub mod Lawful
 pub mod MatchingLemmas
 pub mod Mentions
-pub mod PathSets
 pub mod PlanningLemmas
 pub mod StringsLemmas
 pub mod SuppliersLemmas
