@@ -4,6 +4,7 @@ pub mod Entries
 pub mod EntryPlaces
 pub mod EntryWalk
 pub mod EntryWays
+pub mod LateStrings
 pub mod Lawful
 pub mod MatchingLemmas
 pub mod Mentions
