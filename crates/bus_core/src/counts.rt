@@ -48,6 +48,22 @@ fn is_due(plan: &Plan, device: Device, phase: Phase, missing: usize) -> bool
     }
 }
 
+/// Each device is due or not by its phase and by what it waits for.
+pub fn mark(plan: &Plan, phases: &[Phase], missing: &[usize], due: &mut DeviceSet)
+    requires counts { length missing.now ≡ length plan.now }
+    requires places { length due.old ≡ length plan.now }
+    ensures places { length due.new ≡ length plan.now }
+    ensures due { (d : ℕ) → d < length plan.now → slice_index_or due.new d false ≡ due_with plan.now d (phase_at phases.now d) (slice_index_or missing.now d 0) }
+{
+    for (index, count) in missing.iter().enumerate() {
+        let device = Device::new(index);
+        due.put(
+            device,
+            is_due(plan, device, phase_of(phases, device), *count),
+        );
+    }
+}
+
 /// A supplier more is bound: each of its consumers waits for one less, and is due or not by what is left.
 pub fn lower(
     plan: &Plan,
