@@ -11,7 +11,7 @@ use Rattle.dt_tree.specs.TreeData.{TreeData, IsTree}
 use Rattle.dt_tree.proofs.Places.{IsSoundInside, inside, both}
 use Rattle.bus_plan.specs.declared.error.PlanError.{PlanError}
 use Rattle.bus_plan.specs.declared.error.PlanError.TheVariants.{UnknownPath, TooManyDevices}
-use Rattle.bus_plan.specs.declared.limits.TheConstants.{MAX_DEVICES}
+use Rattle.bus_plan.specs.Limits.{most_devices}
 use Rattle.bus_plan.specs.Plan.{PlannedDevice, is_device_path, is_driver_name, paths, suppliers_of, IsLawfulDevice, IsLawful}
 use Rattle.bus_plan.specs.PlanPaths.{is_among}
 use Rattle.bus_drivers.specs.Driver.{DriverData, FailData, DriverSetData, driver_names, IsDriverSet}
@@ -115,7 +115,7 @@ module _ (set : DriverSetData) (n : ℕ) where
       subst (λ (p : ℕ). SuppliersAt qs k p) same (suppliers_at ds (place + 1) qs a.1 k)
 
 -- ---- the plan
-pub lawful_plan : (root : NodeData) → IsSoundInside root → (set : DriverSetData) → IsDriverSet set → length (tree_devices root) ≤ MAX_DEVICES
+pub lawful_plan : (root : NodeData) → IsSoundInside root → (set : DriverSetData) → IsDriverSet set → length (tree_devices root) ≤ most_devices
     → (plan : List PlannedDevice) → planned_from (target_of root) set 0 (tree_devices root) ≡ Ok plan → IsLawful plan
 lawful_plan root s set named few plan e =
     let devices : List TreeDevice = tree_devices root in
@@ -150,8 +150,8 @@ within_limit m n r plan e = by_test (nat_le m n) refl where
 pub plan_of-lawful : (t : TreeData) → IsTree t → (set : DriverSetData) → IsDriverSet set → (plan : List PlannedDevice) → plan_of t.root set ≡ Ok plan → IsLawful plan
 plan_of-lawful t is set named plan e =
     let root = t.root in
-    let limit = within_limit (length (device_ways root)) MAX_DEVICES (plan_of_devices (target_of root) set (tree_devices root)) plan e in
+    let limit = within_limit (length (device_ways root)) most_devices (plan_of_devices (target_of root) set (tree_devices root)) plan e in
     let long = length-map (device_ways root) (tree_device root) in
-    let few : length (tree_devices root) ≤ MAX_DEVICES = rw long limit.0 in
+    let few : length (tree_devices root) ≤ most_devices = rw long limit.0 in
     lawful_plan root (inside root is.sound) set named few plan
     (without_fault (unknown_fail (tree_devices root) set.fails) (planned_from (target_of root) set 0 (tree_devices root)) plan limit.1)

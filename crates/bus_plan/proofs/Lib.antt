@@ -11,6 +11,9 @@ pub mod ReadingLemmas
 pub mod DeviceListsLemmas
 pub mod ConsumersLemmas
 pub mod FieldsLemmas
+pub mod StringsLemmas
+pub mod LateFaults
+pub mod LateDriverLemmas
 pub mod TextBytes
 pub mod ReadBack
 pub mod TextLines

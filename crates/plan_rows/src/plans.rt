@@ -208,6 +208,7 @@ fn planned(rt: &impl Abort, alloc: Global) -> Planned {
         Some(Name::new(alloc, b"x").expect(rt, "a name")),
         Verdict::Fails,
         Vec::from_slice(alloc, &[Device::new(1)]).expect(rt, "memory"),
+        Vec::new(alloc),
     )
 }
 
