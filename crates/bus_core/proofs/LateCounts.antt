@@ -9,7 +9,7 @@ use Rattle.bus_core.specs.declared.phase.Phase.{Phase}
 use Rattle.bus_core.specs.declared.settle.Settle.{Settle}
 use Rattle.bus_core.specs.Due.{is_due}
 use Rattle.bus_core.specs.History.{bound_in}
-use Rattle.bus_core.specs.RefinementCounts.{IsCounted, due_with, missing_count}
+use Rattle.bus_core.specs.RefinementCounts.{IsCounted, AreMarked, due_with, missing_count}
 use Rattle.bus_core.specs.RefinementPhase.{phase_at, bound_by, due_in, due_by, state_of}
 use Rattle.bus_core.specs.RefinementSound.{IsSound}
 use Rattle.bus_core.proofs.CountedLemmas.{ready-counted}
@@ -33,7 +33,7 @@ late-sound plan name strings phases h n sound =
 
 pub late-counted : (plan new : List PlannedDevice) (name : List ℕ) (strings : List (List ℕ)) (phases : List Phase) (h : List Settle) (n : ℕ) (missing : List ℕ) (due marked : List Bool) (flights : ℕ)
     → new ≡ with_driver plan name strings → IsSound plan phases h n → length marked ≡ length new
-    → ((d : ℕ) → d < length new → get_or marked d false ≡ due_with new d (phase_at phases d) (get_or missing d 0))
+    → AreMarked new phases missing marked
     → IsCounted plan (state_of phases h n) missing due flights → IsCounted new (state_of phases h n) missing marked flights
 late-counted plan new name strings phases h n missing due marked flights is sound long marks counted =
     let sound2 : IsSound new phases h n = (let P : List PlannedDevice → Type 0 = λ p. IsSound p phases h n in subst P (sym is) (late-sound plan name strings phases h n sound))

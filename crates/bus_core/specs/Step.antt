@@ -1,6 +1,6 @@
 -- What each event of the core does (Linux driver-api, deferred probing). An event is refused by the first test that it
 -- fails and then changes nothing, or it gives a new core.
-use Rattle.std.specs.Prelude.{ℕ, ◌+◌, ◌==◌, nat_lt, Bool, true, false, not, if◌then◌else◌, List, [], ◌∷◌, ◌++◌, Option, Some, None, length, take, slice_set, is_none}
+use Rattle.std.specs.Prelude.{◌≡◌, ◌⊎◌, ℕ, ◌+◌, ◌==◌, nat_lt, Bool, true, false, not, if◌then◌else◌, List, [], ◌∷◌, ◌++◌, Option, Some, None, length, take, slice_set, is_none}
 use Rattle.std.specs.List.{list_any}
 use Rattle.bus_plan.specs.LateDriver.{with_driver, is_known}
 use Rattle.bus_plan.specs.Plan.{PlannedDevice, is_matched, suppliers_of, verdict_of}
@@ -11,7 +11,7 @@ use Rattle.bus_core.specs.declared.event.Report.{Report}
 use Rattle.bus_core.specs.declared.event.Report.TheVariants.{Settled, Missing}
 use Rattle.bus_core.specs.declared.event.Ticket.{Ticket}
 use Rattle.bus_core.specs.declared.refusal.Refusal.{Refusal}
-use Rattle.bus_core.specs.declared.refusal.Refusal.TheVariants.{NotIdle, Unmatched, StaleTicket, NotReady, WasBound, TooManyEvents, NotInFlight, KnownDriver}
+use Rattle.bus_core.specs.declared.refusal.Refusal.TheVariants.{NoMemory, NotIdle, Unmatched, StaleTicket, NotReady, WasBound, TooManyEvents, NotInFlight, KnownDriver}
 use Rattle.bus_core.specs.declared.settle.Settle.{Settle}
 use Rattle.bus_core.specs.declared.settle.Outcome.{Outcome}
 use Rattle.bus_core.specs.declared.settle.Outcome.TheVariants as outcome
@@ -107,6 +107,10 @@ register_refusal plan s name =
 
 abbrev pub registered_state : CoreState → List ℕ → CoreState
 registered_state s name = with_names s (s.registered ++ name ∷ [])
+
+-- why a call that takes memory is refused: by the event's own test, or because memory was
+abbrev pub IsRefused : Option Refusal → Refusal → Type 0
+IsRefused right refusal = (refusal ≡ NoMemory) ⊎ (right ≡ Some refusal)
 
 -- the plan gains the driver where it matches a device that has none
 abbrev pub registered_core : CoreValue → List ℕ → List (List ℕ) → CoreValue

@@ -5,7 +5,7 @@ ghost use Rattle.bus_plan.specs.Plan.{is_matched, suppliers_of};
 ghost use Rattle.bus_plan.specs.Consumers.{has_supplier};
 ghost use Rattle.bus_core.specs.Due.{devices};
 ghost use Rattle.bus_core.specs.RefinementPhase.{phase_at};
-ghost use Rattle.bus_core.specs.RefinementCounts.{due_with};
+ghost use Rattle.bus_core.specs.RefinementCounts.{due_with, AreMarked};
 
 use crate::device_set::DeviceSet;
 use crate::phase::{Phase, is_matched, phase_of};
@@ -53,7 +53,7 @@ pub fn mark(plan: &Plan, phases: &[Phase], missing: &[usize], due: &mut DeviceSe
     requires counts { length missing.now ≡ length plan.now }
     requires places { length due.old ≡ length plan.now }
     ensures places { length due.new ≡ length plan.now }
-    ensures due { (d : ℕ) → d < length plan.now → slice_index_or due.new d false ≡ due_with plan.now d (phase_at phases.now d) (slice_index_or missing.now d 0) }
+    ensures due { AreMarked plan.now phases.now missing.now due.new }
 {
     for (index, count) in missing.iter().enumerate() {
         let device = Device::new(index);

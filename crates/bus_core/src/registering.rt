@@ -1,9 +1,9 @@
 //! Drivers that come late.
 
-ghost use Rattle.std.specs.Prelude.{◌≡◌, ◌⊎◌, true, None, Some, IfOk, IfErr, OnOk, OnErr};
+ghost use Rattle.std.specs.Prelude.{◌≡◌, true, None, IfOk, IfErr, OnOk, OnErr};
 ghost use Rattle.bus_plan.specs.LateDriver.{gaining};
 ghost use Rattle.bus_plan.specs.Plan.{is_driver_name};
-ghost use Rattle.bus_core.specs.Step.{register_refusal, registered_core, registers, step};
+ghost use Rattle.bus_core.specs.Step.{register_refusal, registered_core, registers, step, IsRefused};
 ghost use Rattle.bus_core.specs.declared.refusal.Refusal.TheVariants.{NoMemory};
 
 use crate::counts::mark;
@@ -23,7 +23,7 @@ impl Core {
         compatibles: &[Bytes],
     ) -> Result<usize, Refusal>
         requires { is_driver_name name.now ≡ true }
-        ensures refused { IfErr result (λ refusal. (refusal ≡ NoMemory) ⊎ (register_refusal self.old.plan self.old.state name.now ≡ Some refusal)) }
+        ensures refused { IfErr result (IsRefused (register_refusal self.old.plan self.old.state name.now)) }
         ensures allowed { OnOk result (register_refusal self.old.plan self.old.state name.now ≡ None) }
         ensures registered { OnOk result (self.new ≡ registered_core self.old name.now compatibles.now) }
         ensures gained { IfOk result (λ count. count ≡ gaining self.old.plan compatibles.now) }

@@ -1,8 +1,9 @@
 //! A plan's core after a schedule's events.
 
-ghost use Rattle.std.specs.Prelude.{◌≡◌, ◌<◌, ◌⊎◌, length, All, IfOk, IfErr, OnOk, OnErr, Ok, Err, Some, None};
+ghost use Rattle.std.specs.Prelude.{◌≡◌, ◌<◌, ◌⊎◌, length, All, IfOk, IfErr, OnOk, OnErr, Ok, Err, None};
 ghost use Rattle.std.specs.Result.{result_err};
 ghost use Rattle.bus_core.specs.Replay.{event_refusal, event_core, IsEventOf, replay_from, replay_of};
+ghost use Rattle.bus_core.specs.Step.{IsRefused};
 ghost use Rattle.bus_core.specs.declared.refusal.Refusal.TheVariants.{NoMemory};
 
 use crate::event::{Event, Report};
@@ -43,7 +44,7 @@ impl Core {
     // One event of a schedule.
     fn take(&mut self, alloc: Global, event: &Event) -> Result<(), Refusal>
         requires { IsEventOf self.old.plan event.now }
-        ensures refused { IfErr result (λ refusal. (refusal ≡ NoMemory) ⊎ (event_refusal self.old event.now ≡ Some refusal)) }
+        ensures refused { IfErr result (IsRefused (event_refusal self.old event.now)) }
         ensures allowed { OnOk result (event_refusal self.old event.now ≡ None) }
         ensures taken { OnOk result (self.new ≡ event_core self.old event.now) }
         ensures err { OnErr result (self.new ≡ self.old) }

@@ -1,5 +1,5 @@
 -- What is found once all devices are known: the first fault in line order.
-use Rattle.std.proofs.Common.{◌≡◌, ◌∙◌, ap, sym, refl, subst, ℕ, zero, suc, ◌+◌, ◌<◌, ◌≤◌, Bool, true, false, List, [], ◌∷◌, ◌++◌, append-nil, arith}
+use Rattle.std.proofs.Common.{◌≡◌, ◌∙◌, ap, sym, refl, subst, ℕ, zero, suc, ◌+◌, ◌≤◌, Bool, true, false, List, [], ◌∷◌, ◌++◌, append-nil, arith}
 use Rattle.std.specs.Prelude.{Option, Some, None, IfSome, Result, Ok, Err, if◌then◌else◌, nat_lt, codes, ◌&&◌}
 use Rattle.std.specs.Option.{option_or, option_map, option_map_or, option_to_list}
 use Rattle.std.specs.List.{slice_index_or, find}
@@ -188,10 +188,12 @@ late-step ds ls n (Ok (Some (Device d))) says late fs us ms faults devices lists
     let m : ms ≡ strings_before ls n = lists ∙ append-nil (strings_before ls n) in
     let u : first_unknown known us ≡ option_or (first_unknown known (devices_before ls n)) (option_or v None) =
     ap (first_unknown known) devices ∙ unknown-append known (devices_before ls n) (d ∷ []) in
-    rw (u, m)
-    (ap first_in faults ∙ first-append (late_faults_before ds ls n) v ∙ ap (λ t. option_or t v) late.first
-    ∙ unknown-later n d.number (first_unknown known (devices_before ls n)) (first_misfit ds (strings_before ls n)) v late.misfit (unknown-on known d) number,
-    before-more n d.number (first_unknown known (devices_before ls n)) v late.unknown (unknown-on known d) number, before-later n _ late.misfit)
+    rw (u, m) (
+      ap first_in faults ∙ first-append (late_faults_before ds ls n) v ∙ ap (λ t. option_or t v) late.first
+          ∙ unknown-later n d.number (first_unknown known (devices_before ls n)) (first_misfit ds (strings_before ls n)) v late.misfit (unknown-on known d) number,
+      before-more n d.number (first_unknown known (devices_before ls n)) v late.unknown (unknown-on known d) number,
+      before-later n _ late.misfit,
+    )
 late-step ds ls n (Ok (Some (Strings s))) says late fs us ms faults devices lists =
     let known = line_paths ds in
     let v = misfit_of ds s in
@@ -199,10 +201,12 @@ late-step ds ls n (Ok (Some (Strings s))) says late fs us ms faults devices list
     let u : us ≡ devices_before ls n = devices ∙ append-nil (devices_before ls n) in
     let m : first_misfit ds ms ≡ option_or (first_misfit ds (strings_before ls n)) (option_or v None) =
     ap (first_misfit ds) lists ∙ misfit-append ds (strings_before ls n) (s ∷ []) in
-    rw (u, m)
-    (ap first_in faults ∙ first-append (late_faults_before ds ls n) v ∙ ap (λ t. option_or t v) late.first
-    ∙ misfit-later n s.number (first_unknown known (devices_before ls n)) (first_misfit ds (strings_before ls n)) v late.unknown (misfit-on ds s) number,
-    before-later n _ late.unknown, before-more n s.number (first_misfit ds (strings_before ls n)) v late.misfit (misfit-on ds s) number)
+    rw (u, m) (
+      ap first_in faults ∙ first-append (late_faults_before ds ls n) v ∙ ap (λ t. option_or t v) late.first
+          ∙ misfit-later n s.number (first_unknown known (devices_before ls n)) (first_misfit ds (strings_before ls n)) v late.unknown (misfit-on ds s) number,
+      before-later n _ late.unknown,
+      before-more n s.number (first_misfit ds (strings_before ls n)) v late.misfit (misfit-on ds s) number,
+    )
 
 late-to : (ds : List DeviceLine) (ls : List (List ℕ)) (n : ℕ) → IsLateTo ds ls n
 late-to ds ls zero = record { first = refl; unknown = tt; misfit = tt }

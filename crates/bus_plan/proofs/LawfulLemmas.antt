@@ -10,11 +10,10 @@ use Rattle.std.proofs.lemmas.List.Elements.{All-map}
 use Rattle.bus_plan.specs.Limits.{most_devices}
 use Rattle.bus_plan.specs.declared.error.PlanError.{PlanError}
 use Rattle.bus_plan.specs.declared.error.PlanError.TheVariants.{BadLine, UnknownPath}
-use Rattle.bus_plan.specs.declared.matching.Matching.{Matching}
 use Rattle.bus_plan.specs.Plan.{PlannedDevice, nothing, planned, paths, is_device_path, is_compatible, IsLawfulDevice, IsLawful}
 use Rattle.bus_plan.specs.PlanPaths.{is_among, are_distinct, are_known, place_of}
 use Rattle.bus_plan.specs.PlanLines.{DeviceLine, StringsLine}
-use Rattle.bus_plan.specs.PlanFile.{line_paths, is_unmatched, unknown_of, misfit_of, strings_at, planned_of, plan_of}
+use Rattle.bus_plan.specs.PlanFile.{line_paths, is_unmatched, misfit_of, strings_at, planned_of, plan_of}
 use Rattle.bus_plan.specs.Private.Reading.{Listed, IsFaultless, first_unknown, first_misfit, late_fault}
 use Rattle.bus_plan.proofs.BoolLemmas.{and-left, and-right, and_false}
 use Rattle.bus_plan.proofs.DistinctLemmas.{bytes_eq-refl, bytes_eq-same, distinct-pairs, place-holds, known-here, places-within}

@@ -2,6 +2,8 @@ pub mod LineLemmas
 pub mod ListLemmas
 pub mod BoolLemmas
 pub mod PathLemmas
+pub mod PathSets
+pub mod Lookups
 pub mod ListingLemmas
 pub mod PlanLemmas
 pub mod DistinctLemmas

@@ -1,7 +1,7 @@
 -- The text of a plan is read as the same plan.
-use Rattle.std.proofs.Common.{◌≡◌, ◌≢◌, ◌∙◌, ap, sym, refl, subst, ℕ, zero, suc, ◌+◌, ◌<◌, ◌≤◌, Bool, true, false, cond, not, ◌&&◌, ◌||◌, ◌==◌, List, [], ◌∷◌, ◌++◌, length, length-append, get_or, map, take, take_all, arith, add-one, append_assoc, append-nil}
+use Rattle.std.proofs.Common.{◌≡◌, ◌≢◌, ◌∙◌, ap, sym, refl, subst, ℕ, zero, suc, ◌+◌, ◌<◌, ◌≤◌, Bool, true, false, cond, not, ◌&&◌, ◌||◌, ◌==◌, List, [], ◌∷◌, ◌++◌, length, length-append, get_or, map, take, take_all, arith, add-one, append-nil}
 use Rattle.std.specs.Prelude.{All, Option, Some, None, is_some, is_none, Result, Ok, if◌then◌else◌, filter, nat_lt}
-use Rattle.std.specs.Option.{option_or, option_map_or, option_to_list}
+use Rattle.std.specs.Option.{option_map_or, option_to_list}
 use Rattle.std.specs.List.{find}
 use Rattle.std.specs.Str.{bytes_eq}
 use Rattle.std.specs.Str.Lines.{lines}
@@ -22,7 +22,7 @@ use Rattle.bus_plan.specs.PlanLines.{DeviceLine, StringsLine}
 use Rattle.bus_plan.specs.PlanFile.{meaning, meaning_at, device_on, strings_on, devices_before, strings_before, line_paths, strings_paths, fault_of, fault_at, faults_before, is_unmatched, unknown_of, misfit_of, late_fault_of, late_faults_before, strings_at, planned_of, plan_of, first_or}
 use Rattle.bus_plan.specs.PlanText.{device_text, has_strings, strings_text, strings_lines, text_of}
 use Rattle.bus_plan.proofs.BoolLemmas.{and-left, and-right, and_both, or-left, or-right, not-true}
-use Rattle.bus_plan.proofs.DistinctLemmas.{absent, before-absent, distinct-pairs, pairs-distinct, bytes_eq-refl, bytes_eq-same}
+use Rattle.bus_plan.proofs.DistinctLemmas.{before-absent, distinct-pairs, pairs-distinct, bytes_eq-refl, bytes_eq-same}
 use Rattle.bus_plan.proofs.LawfulLemmas.{find-here}
 use Rattle.bus_plan.proofs.ListingLemmas.{refusal-none}
 use Rattle.bus_plan.proofs.TextLines.{lines-more, lines-joined}

@@ -1,6 +1,6 @@
 -- What a plan file is read as, by its lines' devices.
 use Rattle.std.proofs.Common.{◌≡◌, ◌∙◌, ◌⊎◌, inl, inr, ⊎_elim, ap, sym, ℕ, List, [], ◌++◌, length}
-use Rattle.std.specs.Prelude.{Result, Ok, Err, IfOk, IfErr}
+use Rattle.std.specs.Prelude.{Some, None, Result, Ok, Err, IfOk, IfErr}
 use Rattle.bus_plan.specs.declared.error.PlanError.{PlanError}
 use Rattle.bus_plan.specs.declared.error.PlanError.TheVariants.{NoMemory}
 use Rattle.bus_plan.specs.Lines.{lines}

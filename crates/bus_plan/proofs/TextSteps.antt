@@ -1,6 +1,6 @@
 -- A plan's text, a piece longer.
 use Rattle.std.proofs.Common.{◌≡◌, ◌∙◌, ap, sym, ℕ, ◌+◌, ◌<◌, true, false, not, ◌==◌, List, [], ◌∷◌, ◌++◌, length, get_or, map, take, append_assoc, append-nil}
-use Rattle.std.specs.Prelude.{filter, if◌then◌else◌}
+use Rattle.std.specs.Prelude.{codes, filter, if◌then◌else◌}
 use Rattle.std.specs.List.{flat_map}
 use Rattle.std.proofs.lemmas.Grind.{flat_map-append}
 use Rattle.std.proofs.lemmas.List.Elements.{filter-append}
@@ -48,3 +48,11 @@ no-line d e = ap (λ t. flat_map (λ d. strings_text d ++ 10 ∷ []) (if not t t
 
 pub one-line : (d : PlannedDevice) → (length d.compatibles == 0) ≡ false → strings_lines (d ∷ []) ≡ strings_text d ++ 10 ∷ []
 one-line d e = ap (λ t. flat_map (λ d. strings_text d ++ 10 ∷ []) (if not t then d ∷ [] else [])) e ∙ append-nil (strings_text d ++ 10 ∷ [])
+
+pub line-joined : (d : PlannedDevice) (base text : List ℕ) → (length d.compatibles == 0) ≡ false
+    → text ≡ (((base ++ codes "compatible") ++ 32 ∷ d.path) ++ spaced d.compatibles) ++ 10 ∷ [] → text ≡ base ++ strings_lines (d ∷ [])
+line-joined d base text some is =
+    let word = codes "compatible" in
+    let rest = spaced d.compatibles in
+    is ∙ ap (λ t. t ++ 10 ∷ []) (append_assoc (base ++ word) (32 ∷ d.path) rest ∙ append_assoc base word (32 ∷ d.path ++ rest))
+    ∙ append_assoc base (strings_text d) (10 ∷ []) ∙ ap (λ t. base ++ t) (sym (one-line d some))

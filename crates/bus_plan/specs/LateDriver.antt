@@ -1,6 +1,6 @@
 -- A driver that comes late, as when its module is loaded: the devices that have waited for one get it
 -- (Linux driver-api, "The Linux Kernel Device Model": a driver that is registered is tried with each device without one).
-use Rattle.std.specs.Prelude.{ℕ, Bool, ◌&&◌, false, if◌then◌else◌, List, [], map, filter, length, Option, Some, is_none}
+use Rattle.std.specs.Prelude.{ℕ, Bool, ◌&&◌, false, if◌then◌else◌, List, [], map, filter, length, Some, is_none}
 use Rattle.std.specs.Option.{option_map_or}
 use Rattle.std.specs.List.{list_any}
 use Rattle.std.specs.Str.{bytes_eq}

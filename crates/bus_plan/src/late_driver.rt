@@ -11,15 +11,6 @@ use dt_tree::{Bytes, Name};
 use std::alloc::{AllocError, Global};
 use std::hash::RandomState;
 
-fn add_string(alloc: Global, set: &mut PathIndex, string: &[u8]) -> Result<(), AllocError>
-    ensures { OnOk result ((q : List ℕ) → is_among q set.new ≡ is_among q (string.now ∷ set.old)) }
-{
-    if set.contains(string) {
-        return Ok(());
-    }
-    set.push(alloc, string)
-}
-
 /// The strings of a driver, each once.
 pub fn string_set(
     alloc: Global,
@@ -30,7 +21,7 @@ pub fn string_set(
 {
     let mut set = PathIndex::new(alloc, hasher);
     for string in strings {
-        add_string(alloc, &mut set, string.as_slice())?;
+        set.add(alloc, string.as_slice())?;
     }
     Ok(set)
 }
@@ -84,17 +75,19 @@ pub fn gains(
 }
 
 /// Gives each device what it gains, and counts those that gain something.
-pub fn give(devices: &mut [Planned], gains: Vec<Option<Name>>) -> usize
-    requires { length gains.items ≡ length devices.old }
-    ensures devices { devices.new ≡ given devices.old gains.items }
+pub fn give(devices: &mut Vec<Planned>, gains: Vec<Option<Name>>) -> usize
+    requires { length gains.items ≡ length devices.old.items }
+    ensures devices { devices.new.items ≡ given devices.old.items gains.items }
     ensures count { result ≡ length (filter is_some gains.items) }
 {
+    let mut place = 0;
     let mut count = 0;
-    for (place, gain) in gains.into_iter().enumerate() {
+    for gain in gains {
         if let Some(name) = gain {
             devices[place].take_driver(name);
             count += 1;
         }
+        place += 1;
     }
     count
 }

@@ -1,7 +1,8 @@
-ghost use Rattle.std.specs.Prelude.{◌≡◌, ◌++◌, ◌∷◌, ◌≢◌, [], AllPairs, IfOk, OnOk, OnErr, position, false};
+ghost use Rattle.std.specs.Prelude.{◌≡◌, ℕ, List, ◌++◌, ◌∷◌, ◌-◌, ◌≢◌, length, take, [], AllPairs, IfOk, OnOk, OnErr, position, false};
 ghost use Rattle.std.specs.List.{list_any};
 ghost use Rattle.std.specs.Str.{bytes_eq};
 ghost use Rattle.bus_plan.specs.Plan.{paths};
+ghost use Rattle.bus_plan.specs.PlanPaths.{is_among};
 
 use crate::planned::Planned;
 use indexmap::IndexSet;
@@ -66,6 +67,14 @@ impl PathIndex {
         self.set.contains(path)
     }
 
+    /// Takes the last path out again.
+    pub fn forget_last(&mut self)
+        ensures { self.new ≡ take (length self.old - 1) self.old }
+    {
+        let count = self.set.len().saturating_sub(1);
+        self.set.truncate(count);
+    }
+
     /// Puts a new path last.
     pub fn push(&mut self, alloc: Global, path: &[u8]) -> Result<(), AllocError>
         requires { list_any (bytes_eq path.now) self.old ≡ false }
@@ -75,5 +84,15 @@ impl PathIndex {
         let key = Vec::from_slice(alloc, path)?;
         self.set.insert(key)?;
         Ok(())
+    }
+
+    /// Puts a path last, unless it is there already.
+    pub fn add(&mut self, alloc: Global, path: &[u8]) -> Result<(), AllocError>
+        ensures { OnOk result ((q : List ℕ) → is_among q self.new ≡ is_among q (path.now ∷ self.old)) }
+    {
+        if self.contains(path) {
+            return Ok(());
+        }
+        self.push(alloc, path)
     }
 }

@@ -173,7 +173,12 @@ impl Plan {
     {
         let strings = string_set(alloc, self.index.hasher(), compatibles)?;
         let gains = gains(alloc, self.devices.as_slice(), name, &strings)?;
-        Ok(give(self.devices.as_mut_slice(), gains))
+        Ok(give(&mut self.devices, gains))
+    }
+
+    /// What its look-ups hash with.
+    pub fn hasher(&self) -> RandomState {
+        self.index.hasher()
     }
 
     /// An equal plan.

@@ -1,5 +1,6 @@
 //! Lists of strings by which drivers and devices match.
 ghost use Rattle.std.specs.Prelude.{◌≡◌, ◌++◌, IfOk, OnOk};
+ghost use Rattle.std.specs.List.{list_all};
 ghost use Rattle.bus_plan.specs.Plan.{is_compatible, is_string_byte};
 
 use crate::fields::Fields;
@@ -12,11 +13,17 @@ fn is_string_byte(byte: u8) -> bool
     b'!' <= byte && byte <= b'~'
 }
 
+fn are_string_bytes(bytes: &[u8]) -> bool
+    ensures { result ≡ list_all is_string_byte bytes.now }
+{
+    bytes.iter().all(|byte| is_string_byte(*byte))
+}
+
 /// Whether a driver may list the string: it isn't empty, and its bytes are printing characters of ASCII but no spaces.
 pub fn is_compatible(string: &[u8]) -> bool
     ensures { result ≡ is_compatible string.now }
 {
-    !string.is_empty() && string.iter().all(|byte| is_string_byte(*byte))
+    !string.is_empty() && are_string_bytes(string)
 }
 
 fn add_fields(alloc: Global, copies: &mut Vec<Bytes>, strings: Fields<'_>) -> Result<(), AllocError>
