@@ -1,6 +1,6 @@
 -- A seat is cut in two, and two seats are joined.
 use Rattle.std.proofs.Common.{◌≡◌, ◌≢◌, ◌⊎◌, ℕ, zero, suc, ◌+◌, ◌<◌, ◌≤◌, Bool, true, false, List, [], ◌∷◌, ◌++◌, length, set, Option, Some, None, refl, sym, ap, ◌∙◌, subst, inl, inr, ⊎_elim, arith, length-append, eq-eqb, ne_eqb}
-use Rattle.std.specs.Prelude.{slice_get, nat_le, if◌then◌else◌}
+use Rattle.std.specs.Prelude.{slice_get, slice_index, nat_le, if◌then◌else◌}
 use Rattle.std.proofs.lemmas.Bool.Decides.{leb_tells}
 use mathlib.Core.Logic.{dite}
 use native.Mathlib.Decide.{ℕ_discrete}
@@ -14,7 +14,7 @@ use Rattle.bus_core.specs.History.{IsBusHistory, is_settled}
 use Rattle.bus_core.specs.declared.settle.Outcome.TheVariants.{Bound}
 use Rattle.bus_core.specs.declared.settle.Settle.{Settle}
 use Rattle.bus_board.proofs.Histories.{append-nil, front_outcome, front_whole, lawful_front, none_in_front}
-use Rattle.bus_board.proofs.Openings.{opening_tells}
+use Rattle.bus_board.proofs.Openings.{opening_only, opening_tells}
 use Rattle.bus_board.proofs.Sums.{total-append, total-set}
 use Rattle.bus_board.proofs.Turns.{opened_set, set_at, times-append}
 use Rattle.bus_board.specs.Learns.{JoinedBy, Stands}
@@ -25,6 +25,7 @@ use Rattle.bus_board.specs.Rule.{Fits, Holds, Kept, SeenBySome, Tells}
 use Rattle.bus_board.specs.Views.{both, claims, flies, flies_in, newcomer, of_devices, opener, owes, spent}
 use Rattle.bus_board.specs.Words.{claimed_word}
 use Rattle.bus_board.specs.declared.view.Flight.{Flight}
+use Rattle.bus_board.specs.declared.view.Opening.{Opening}
 use Rattle.bus_board.specs.declared.view.View.{View}
 
 not-among : (d w : ℕ) → Among [] d w → ⊥
@@ -270,6 +271,18 @@ opening_holds core words first lawful begun =
         begun = λ f e'. absurd (cc);
       };
     }
+
+-- where the first seat is the only one, the rule leaves one list of words
+pub opening_pins : (core : CoreValue) (v : View) → v ≡ opener core → IsBusHistory core.plan core.state.history → (words : List ℕ) → Kept core.plan words (v ∷ []) → AreFirst core words
+opening_pins core v is lawful words kept =
+    let k : Kept core.plan words (opener core ∷ []) = subst (λ (x : View). Kept core.plan words (x ∷ [])) is kept in
+    let first : opener core ≡ k.whole.1 = get_elem_one (opener core) k.whole.1 k.whole.0 k.whole.2 in
+    let log-is : k.log ≡ core.state.history = sym k.whole.3 ∙ ap (λ (x : View). x.seen) (sym first) in
+    let opening-is : k.opening ≡ opening_of core.state = sym (k.opened 0 (opener core) refl refl) in
+    let T : ℕ → Opening → History → Type 0 = λ d o h. Tells core.plan o h (opener core ∷ []) d (slice_index words d) in (
+      omega (arith, k.wide),
+      λ d lt. opening_only core d (slice_index words d) lawful (subst (λ (h : History). T d (opening_of core.state) h) log-is (subst (λ (o : Opening). T d o k.log) opening-is (k.words_tell d lt))),
+    )
 
 in_front : (f h : History) (x : Settle) → IsFront f h → Stands f x → Stands h x
 in_front f h x t there = subst (λ (l : History). Stands l x) (sym t.1) (longer_stands f t.0 there.0 there.1)

@@ -1,16 +1,17 @@
 -- What holds of a board between any two steps, over the words and all views: the seven clauses of the board.
 -- FRESH 0, TRYING 1, WAITING 2, WOKEN 3, RETRYING 4, BOUND 5, FAILED 6, UNMATCHED 7.
-use Rattle.std.specs.Prelude.{◌≡◌, ◌≢◌, ℕ, suc, ◌+◌, ◌<◌, ◌≤◌, true, false, if◌then◌else◌, List, length, take, Option, Some, None, slice_index}
+use Rattle.std.specs.Prelude.{◌≡◌, ◌≢◌, ℕ, suc, ◌+◌, ◌<◌, ◌≤◌, true, false, if◌then◌else◌, List, [], ◌∷◌, length, take, Option, Some, None, slice_index}
 use mathlib.Core.Option.{some}
 use lib.ListN.{get_elem?}
 use Rattle.atomic_table.specs.Table.{State}
 use Rattle.bus_plan.specs.Plan.{PlannedDevice, is_matched}
 use Rattle.bus_core.specs.declared.settle.Outcome.{Outcome}
 use Rattle.bus_core.specs.declared.settle.Outcome.TheVariants.{Bound}
+use Rattle.bus_core.specs.CoreState.{CoreValue}
 use Rattle.bus_core.specs.History.{IsBusHistory, bound_in}
 use Rattle.bus_core.specs.Ready.{is_ready}
 use Rattle.bus_board.specs.Lists.{times, Among, total}
-use Rattle.bus_board.specs.Opening.{was_begun}
+use Rattle.bus_board.specs.Opening.{AreFirst, was_begun}
 use Rattle.bus_board.specs.Outcomes.{History, outcome_of, AllBound, IsFront}
 use Rattle.bus_board.specs.Views.{last_look, claims, flies, owes}
 use Rattle.bus_board.specs.Words.{settled_as, flights_of, flying_word, claimed_word, begins_of, most_retries, IsRetried}
@@ -87,6 +88,10 @@ pub record Kept (plan : List PlannedDevice) (words : List ℕ) (views : List Vie
   pub words_tell : (d : ℕ) → d < length plan → Tells plan opening log views d (slice_index words d)
   pub owned : (d : ℕ) → total (λ v. times d v.mine) views + settled_times (outcome_of opening.history d) ≡ settled_times (outcome_of log d)
   pub fits : (j : ℕ) (v : View) → get_elem? views j ≡ some v → Fits plan log words v
+
+-- the board opens with the words of the core's devices: no others keep the rule while the first seat is the only one
+abbrev pub OpensAs : CoreValue → View → Type 0
+OpensAs core v = (words : List ℕ) → Kept core.plan words (v ∷ []) → AreFirst core words
 
 -- a board's table has no slots
 abbrev pub Holds : List PlannedDevice → State (Unit {0}) View → Type 0

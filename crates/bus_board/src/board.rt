@@ -6,6 +6,7 @@ ghost use Rattle.bus_core.specs.CoreState.{first_core};
 ghost use Rattle.bus_core.specs.Parting.{has_flight};
 ghost use Rattle.bus_core.specs.declared.refusal.Refusal.TheVariants.{NoMemory};
 ghost use Rattle.bus_board.specs.Opening.{NotOpened};
+ghost use Rattle.bus_board.specs.Rule.{OpensAs};
 ghost use Rattle.bus_board.specs.Shown.{IsOf};
 ghost use Rattle.bus_board.specs.Views.{opener, newcomer};
 
@@ -70,6 +71,7 @@ impl Board {
     pub fn open_core(alloc: Global, core: Core) -> Result<(Board, Seat), (Core, Refusal)>
         ensures landed { OnOk result (has_flight core.state ≡ false) }
         ensures opened { IfOk result (λ r. (r.0.plan ≡ core.plan) × IsOf r.0 r.1 × (r.1.view ≡ opener core)) }
+        ensures words { IfOk result (λ r. OpensAs core r.1.view) }
         ensures err { IfErr result (λ r. (r.0 ≡ core) × NotOpened core.state r.1) }
     {
         if core.has_flight() {
@@ -101,6 +103,7 @@ impl Board {
 // A board over a core, and its first seat. All that they need is reserved before the plan is taken out of the core.
 fn start(alloc: Global, core: Core) -> Result<(Board, Seat), Core>
     ensures started { IfOk result (λ r. (r.0.plan ≡ core.plan) × IsOf r.0 r.1 × (r.1.view ≡ opener core)) }
+    ensures words { IfOk result (λ r. OpensAs core r.1.view) }
     ensures err { IfErr result (λ same. same ≡ core) }
 {
     match first_parts(alloc, &core) {
