@@ -1,23 +1,24 @@
 -- What the words tell at the end, and why a quiet board has bound the least set.
-use Rattle.std.proofs.Common.{◌≡◌, ℕ, zero, suc, ◌<◌, ◌≤◌, Bool, true, false, not, List, [], ◌∷◌, length, get_or, Some, None, refl, sym, ap, ◌∙◌, subst, ⊎_elim, arith, eq-eqb, eqb-true, true≢false}
-use Rattle.std.proofs.lemmas.Bool.{and_parts, cases_Bool, cases_lt}
-use Rattle.std.proofs.lemmas.List.{get_or_past}
+use Rattle.std.proofs.Common.{◌≡◌, ℕ, zero, suc, ◌<◌, ◌≤◌, Bool, true, false, not, List, [], ◌∷◌, length, get_or, Some, None, refl, sym, ap, ◌∙◌, subst, ⊎_elim, arith, true≢false}
+use Rattle.std.proofs.lemmas.Bool.{and_parts, cases_Bool}
 use mathlib.Core.Option.{some, some-injective, some-ne-none}
 use lib.ListN.{get_elem?}
 use Rattle.atomic_table.specs.Table.{Final, Seen}
 use Rattle.bus_plan.specs.Plan.{PlannedDevice, is_matched}
-use Rattle.bus_core.proofs.HistoryLemmas.{bound-settled, matched-below, ready-matched, settled-bound, settled-ready}
+use Rattle.bus_core.proofs.HistoryLemmas.{matched-below, ready-matched, settled-bound}
 use Rattle.bus_core.proofs.LeastLemmas.{bound-closed}
 use Rattle.bus_core.proofs.Lists.{list_all_in_range}
-use Rattle.bus_core.specs.History.{IsBusHistory, bound_in, is_settled}
+use Rattle.bus_core.specs.History.{is_settled}
 use Rattle.bus_core.specs.Least.{IsClosed, IsLeast}
 use Rattle.bus_core.specs.declared.settle.Outcome.TheVariants.{Failed}
-use Rattle.bus_board.proofs.Histories.{bound_outcome, outcome_bound, unsettled_none}
-use Rattle.bus_board.proofs.Moves.{settled_as-bound}
+use Rattle.bus_board.proofs.Flights.{own_flight}
+use Rattle.bus_board.proofs.Histories.{unsettled_none}
+use Rattle.bus_board.proofs.Rests.{done_quiet, quiet_rests}
+use Rattle.bus_board.proofs.Told.{Told, bound_told, told_bound}
 use Rattle.bus_board.specs.Ends.{EndsAs, is_quiet, is_still, suppliers_bound}
 use Rattle.bus_board.specs.Outcomes.{History}
 use Rattle.bus_board.specs.Rule.{Fits, Holds, Kept, Tells}
-use Rattle.bus_board.specs.Words.{is_bound_word, number_of, settled_as, word_at, word_of}
+use Rattle.bus_board.specs.Words.{IsRetried, is_bound_word, number_of, settled_as, word_at, word_of}
 use Rattle.bus_board.specs.declared.view.View.{View}
 use Rattle.bus_board.specs.declared.words.Word.{Word}
 use Rattle.bus_board.specs.declared.words.Word.TheVariants as word
@@ -38,30 +39,6 @@ pub at_get : (l : List ℕ) (i a : ℕ) → get_elem? l i ≡ some a → get_or 
 at_get [] i a e = absurd (some-ne-none a (sym e))
 at_get (x ∷ l) zero a e = some-injective x a e
 at_get (x ∷ l) (suc i) a e = at_get l i a e
-
--- The words at the end, each the word of a number that tells of the device.
-record Told (p : List PlannedDevice) (log : History) (views : List View) (words : List Word) : Type 0 where
-  pub lawful : IsBusHistory p log
-  pub long : length words ≡ length p
-  pub tells : (d : ℕ) → d < length p → Tells p log views d (number_of (word_at words d))
-
--- a BOUND word is that of a bound device
-bound_told : (p : List PlannedDevice) (log : History) (views : List View) (words : List Word) → Told p log views words → (d : ℕ) → is_bound_word (word_at words d) ≡ true → bound_in log d ≡ true
-bound_told p log views words told d is = ⊎_elim
-    (λ (inside : d < length p).
-    let five : number_of (word_at words d) ≡ 5 = eqb-true (number_of (word_at words d)) 5 is in
-    outcome_bound log d ((told.tells d inside).settled ∙ ap settled_as five))
-    (λ (past : length p ≤ d).
-    let long = told.long in
-    let none : word_at words d ≡ word.Unmatched = get_or_past words d word.Unmatched (omega arith) in
-    absurd (true≢false (sym is ∙ ap is_bound_word none)))
-    (cases_lt d (length p))
-
-told_bound : (p : List PlannedDevice) (log : History) (views : List View) (words : List Word) → Told p log views words → (d : ℕ) → bound_in log d ≡ true → is_bound_word (word_at words d) ≡ true
-told_bound p log views words told d is =
-    let inside : d < length p = matched-below p d (ready-matched p (bound_in log) d (settled-ready p log told.lawful d (bound-settled log d is))) in
-    let five : number_of (word_at words d) ≡ 5 = settled_as-bound _ (sym (told.tells d inside).settled ∙ bound_outcome p log told.lawful d is) in
-    eq-eqb (number_of (word_at words d)) 5 five
 
 -- where nothing is left to do, the BOUND devices are closed
 quiet_closed : (p : List PlannedDevice) (log : History) (views : List View) (words : List Word) → Told p log views words → is_quiet p words ≡ true → IsClosed p (λ d. is_bound_word (word_at words d))
@@ -94,6 +71,17 @@ quiet_least p log views words told quiet d = (
   λ inside. inside (λ e. is_bound_word (word_at words e)) (quiet_closed p log views words told quiet),
 )
 
+-- the word of the number 7
+unmatched_word : (x : Word) → number_of x ≡ 7 → x ≡ word.Unmatched
+unmatched_word word.Fresh e = absurd (omega (arith, e))
+unmatched_word word.Trying e = absurd (omega (arith, e))
+unmatched_word word.Waiting e = absurd (omega (arith, e))
+unmatched_word word.Woken e = absurd (omega (arith, e))
+unmatched_word word.Retrying e = absurd (omega (arith, e))
+unmatched_word word.Bound e = absurd (omega (arith, e))
+unmatched_word word.Failed e = absurd (omega (arith, e))
+unmatched_word word.Unmatched e = refl
+
 -- what the last state says of the words
 pub ends_as : (key p : List PlannedDevice) (id : ℕ) (v : View) (numbers : List ℕ) (words : List Word) (slots : List (Unit {0})) (quiet : Bool) → key ≡ p → Final (Seen (Holds key) id v) numbers slots
     → length words ≡ length p → ((d : ℕ) → d < length p → (w : ℕ) × (get_elem? numbers d ≡ some w) × (word_at words d ≡ word_of w)) → quiet ≡ is_quiet p words → EndsAs p v words quiet
@@ -114,9 +102,17 @@ ends_as key p id v numbers words slots quiet key_is final wide same is =
       log = kept.log;
       lawful = kept.lawful;
       front = fit.seen;
+      stood = record { numbers = s.words; views = s.views; kept = kept; log_is = refl; seat = (id, final.1.1); told = number };
       wide = wide;
       outcomes = λ d lt. (told.tells d lt).settled;
+      unmatched = λ d lt. ((λ is. (told.tells d lt).unmatched (ap number_of is)), (λ off. unmatched_word (word_at words d) ((told.tells d lt).matched off)));
       passed = λ d lt a fresh. fit.passed d a (number d lt ∙ ap number_of fresh);
+      claimed = λ d w lt a fresh. fit.claimed d w a (number d lt ∙ ap number_of fresh);
+      retried = λ d lt a. subst IsRetried (number d lt) (fit.retried d a);
+      trying = λ d lt a is. own_flight p s.words s.views kept id v d false lt (number d lt ∙ ap number_of is) final.1.1 a;
+      retrying = λ d lt a is. own_flight p s.words s.views kept id v d true lt (number d lt ∙ ap number_of is) final.1.1 a;
       quiet_is = is;
+      done = λ all. is ∙ done_quiet p s.words s.views kept id v words told number final.1.1 all;
       least = λ yes. quiet_least p kept.log s.views words told (sym is ∙ yes);
+      at_rest = λ yes d lt. quiet_rests p kept.log s.views words told (sym is ∙ yes) d lt;
     }

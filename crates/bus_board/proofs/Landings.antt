@@ -16,14 +16,14 @@ use Rattle.bus_core.specs.declared.settle.Outcome.{Outcome}
 use Rattle.bus_core.specs.declared.settle.Outcome.TheVariants.{Bound, Failed}
 use Rattle.bus_core.specs.declared.settle.Settle.{Settle}
 use Rattle.bus_board.proofs.Histories.{append-nil, front_outcome, front_push, front_whole, history_push, lawful_take, none_in_front, none_unsettled, outcome_push-new, outcome_push-other, ready_as, ready_bound, unbound}
-use Rattle.bus_board.proofs.Moves.{alone, flying, is_false, is_true, sees_more, settled_as-bound}
+use Rattle.bus_board.proofs.Moves.{alone, flying, flying_begun, is_false, is_true, sees_more, settled_as-bound}
 use Rattle.bus_board.proofs.Sums.{term_le, total-set}
 use Rattle.bus_board.proofs.Turns.{flies_none, flies_one, stayed, still_owed, times-append, turned, word_after}
 use Rattle.bus_board.specs.Lists.{Has, times, total}
 use Rattle.bus_board.specs.Outcomes.{AllBound, History, outcome_of}
 use Rattle.bus_board.specs.Rule.{Fits, FlightFits, Kept, Tells, settled_times}
-use Rattle.bus_board.specs.Views.{caught_up, debts_of, deferred, flies, last_look, owes, relieved, rest, settled_by}
-use Rattle.bus_board.specs.Words.{IsRetried, end_word, flights_of, flying_word, settled_as}
+use Rattle.bus_board.specs.Views.{caught_up, claims, debts_of, deferred, flies, last_look, owes, relieved, rest, settled_by}
+use Rattle.bus_board.specs.Words.{IsRetried, begins_of, end_word, flights_of, flying_word, most_retries, settled_as}
 use Rattle.bus_board.specs.declared.view.Flight.{Flight}
 use Rattle.bus_board.specs.declared.view.View.{View}
 
@@ -31,13 +31,15 @@ use Rattle.bus_board.specs.declared.view.View.{View}
 pub record Ends (o : Outcome) (new : ℕ) : Type 0 where
   pub settles : settled_as new ≡ Some o
   pub none : flights_of new ≡ 0
+  pub begun : begins_of new ≡ 1
+  pub retries : most_retries new ≡ 1
   pub bounds : (new ≢ 0) × (new ≢ 3) × (new ≢ 7) × (new ≤ 7)
   pub not_waiting : new ≢ 2
   pub retried : IsRetried new
 
 pub ends : (o : Outcome) → Ends o (end_word o)
-ends Bound = record { settles = refl; none = refl; bounds = ((λ e. absurd (omega arith)), (λ e. absurd (omega arith)), (λ e. absurd (omega arith)), omega arith); not_waiting = λ e. absurd (omega arith); retried = inr (inl refl) }
-ends Failed = record { settles = refl; none = refl; bounds = ((λ e. absurd (omega arith)), (λ e. absurd (omega arith)), (λ e. absurd (omega arith)), omega arith); not_waiting = λ e. absurd (omega arith); retried = inr (inr refl) }
+ends Bound = record { settles = refl; none = refl; begun = refl; retries = refl; bounds = ((λ e. absurd (omega arith)), (λ e. absurd (omega arith)), (λ e. absurd (omega arith)), omega arith); not_waiting = λ e. absurd (omega arith); retried = inr (inl refl) }
+ends Failed = record { settles = refl; none = refl; begun = refl; retries = refl; bounds = ((λ e. absurd (omega arith)), (λ e. absurd (omega arith)), (λ e. absurd (omega arith)), omega arith); not_waiting = λ e. absurd (omega arith); retried = inr (inr refl) }
 
 -- a list holds it where it stands in it
 pub times_has : (xs : List ℕ) (x i : ℕ) → slice_get xs i ≡ Some x → 0 < times x xs
@@ -144,11 +146,14 @@ settle_kept p words views k id v f live flies-now seen me =
       kept = turned p words views k id v w d new log' (x ∷ []) refl refl me inside lawful
           (λ e ne. outcome_push-other log x e (λ s. ne (sym s)))
           (λ e ne. sym (flies_none v.flight f e flies-now (λ s. ne (sym s))))
+          (λ e a ne. refl)
           own
           record {
             small = end.bounds.3;
             settled = now ∙ sym end.settles;
             flown = omega (arith, total-set (flies d) views id v w me, end.none);
+            begun = omega (arith, total-set (claims d 0) views id v w me, tells.begun, ap begins_of right.word, (flying_begun f.again).0, end.begun);
+            retried = omega (arith, total-set (claims d 3) views id v w me, tells.retried, ap most_retries right.word, (flying_begun f.again).1, end.retries);
             unmatched = λ e. absurd (end.bounds.2 e);
             matched = λ off. absurd (air.1 (sym right.word ∙ tells.matched off));
             woken = λ e. absurd (end.bounds.1 e);
@@ -169,6 +174,7 @@ settle_kept p words views k id v f live flies-now seen me =
             retried = λ e there. word_after words d new e IsRetried here (λ _. end.retried) (λ ne. fit.retried e there);
             passed = λ e there. word_after words d new e (λ (y : ℕ). y ≢ 0) here (λ _. end.bounds.0) (λ ne. fit.passed e there);
             flight = λ g e. absurd (cc);
+            begun = λ g e. absurd (cc);
           };
     }
 
@@ -195,11 +201,14 @@ defer_kept p words views k id v f s flies-now there missed me =
     turned p words views k id v w d 2 log [] (sym (append-nil log)) refl me inside k.lawful
     (λ e ne. refl)
     (λ e ne. sym (flies_none v.flight f e flies-now (λ s. ne (sym s))))
+    (λ e a ne. refl)
     (λ e. refl)
     record {
       small = omega arith;
       settled = tells.settled ∙ ap settled_as trying;
       flown = omega (arith, total-set (flies d) views id v w me);
+      begun = omega (arith, total-set (claims d 0) views id v w me, tells.begun, ap begins_of trying);
+      retried = omega (arith, total-set (claims d 3) views id v w me, tells.retried, ap most_retries trying);
       unmatched = λ e. absurd (omega arith);
       matched = λ off. absurd (omega (arith, tells.matched off));
       woken = λ e. absurd (omega arith);
@@ -218,6 +227,7 @@ defer_kept p words views k id v f s flies-now there missed me =
       retried = λ e there. word_after words d 2 e IsRetried here (λ same. absurd (not-again (subst (λ (y : ℕ). IsRetried (get_or words y 0)) same (fit.retried e there)))) (λ ne. fit.retried e there);
       passed = λ e there. word_after words d 2 e (λ (y : ℕ). y ≢ 0) here (λ _ z. absurd (omega arith)) (λ ne. fit.passed e there);
       flight = λ g e. absurd (cc);
+      begun = λ g e. absurd (cc);
     }
 
 relieved_times : (v : View) (h d : ℕ) (more : List ℕ) → v.owed ≡ h ∷ more → h ≢ d → times d v.owed ≡ times d (rest v.owed)
@@ -233,13 +243,14 @@ fits_relieved p log words v fit = record {
   retried = fit.retried;
   passed = fit.passed;
   flight = sees_more p log words v fit;
+  begun = fit.begun;
 }
 
 -- a debt drops where its device need not be woken now
 pub check_dropped : (p : List PlannedDevice) (words : List ℕ) (views : List View) (k : Kept p words views) (id : ℕ) (v : View) (h s : ℕ) (more : List ℕ) → get_elem? views id ≡ some v
     → v.owed ≡ h ∷ more → s < length p → Has (suppliers_of p h) s → slice_index words s ≢ 5 → Kept p words (set views id (relieved v k.log))
 check_dropped p words views k id v h s more me owed inside there unbound =
-    stayed p words views k id v (relieved v k.log) refl me (λ e. refl) (λ e. refl)
+    stayed p words views k id v (relieved v k.log) refl me (λ e. refl) (λ e a. refl) (λ e. refl)
     (λ e two all was. dite (ℕ_discrete h e)
     (λ same. let five : slice_index words s ≡ 5 = settled_as-bound _ (sym (k.words_tell s inside).settled ∙ all s (subst (λ (x : ℕ). Has (suppliers_of p x) s) same there)) in absurd (unbound five))
     (λ other. still_owed views id v (relieved v k.log) e me (omega (arith, relieved_times v h e more owed other)) was))
@@ -247,15 +258,15 @@ check_dropped p words views k id v h s more me owed inside there unbound =
 
 pub check_bound : (p : List PlannedDevice) (words : List ℕ) (views : List View) (k : Kept p words views) (id : ℕ) (v : View) → get_elem? views id ≡ some v → Kept p words (set views id (caught_up v k.log))
 check_bound p words views k id v me = let fit = fits_relieved p k.log words v (k.fits id v me) in
-    stayed p words views k id v (caught_up v k.log) refl me (λ e. refl) (λ e. refl)
+    stayed p words views k id v (caught_up v k.log) refl me (λ e. refl) (λ e a. refl) (λ e. refl)
     (λ e two all was. still_owed views id v (caught_up v k.log) e me (omega arith) was)
-    record { plan_is = fit.plan_is; seen = fit.seen; told = fit.told; mine = fit.mine; claimed = fit.claimed; retried = fit.retried; passed = fit.passed; flight = fit.flight }
+    record { plan_is = fit.plan_is; seen = fit.seen; told = fit.told; mine = fit.mine; claimed = fit.claimed; retried = fit.retried; passed = fit.passed; flight = fit.flight; begun = fit.begun }
 
 -- the wake was lost: the word isn't WAITING
 pub wake_lost : (p : List PlannedDevice) (words : List ℕ) (views : List View) (k : Kept p words views) (id : ℕ) (v : View) (h : ℕ) (more : List ℕ) → get_elem? views id ≡ some v
     → v.owed ≡ h ∷ more → slice_index words h ≢ 2 → Kept p words (set views id (relieved v k.log))
 wake_lost p words views k id v h more me owed moved =
-    stayed p words views k id v (relieved v k.log) refl me (λ e. refl) (λ e. refl)
+    stayed p words views k id v (relieved v k.log) refl me (λ e. refl) (λ e a. refl) (λ e. refl)
     (λ e two all was. dite (ℕ_discrete h e)
     (λ same. absurd (moved (ap (λ (x : ℕ). get_or words x 0) same ∙ two)))
     (λ other. still_owed views id v (relieved v k.log) e me (omega (arith, relieved_times v h e more owed other)) was))
@@ -278,11 +289,14 @@ wake_won p words views k id v h more me owed inside seen found =
     turned p words views k id v w h 3 log [] (sym (append-nil log)) refl me inside k.lawful
     (λ e ne. refl)
     (λ e ne. refl)
+    (λ e a ne. refl)
     (λ e. refl)
     record {
       small = omega arith;
       settled = tells.settled;
       flown = omega (arith, total-set (flies h) views id v w me, tells.flown);
+      begun = omega (arith, total-set (claims h 0) views id v w me, tells.begun);
+      retried = omega (arith, total-set (claims h 3) views id v w me, tells.retried);
       unmatched = λ e. absurd (omega arith);
       matched = λ off. absurd (omega (arith, tells.matched off));
       woken = λ _. ready_as p log h (is_true _ (λ off. absurd (omega (arith, tells.matched off)))) (λ s there. front_outcome v.seen log s Bound fit.seen (seen s there));
@@ -309,4 +323,5 @@ wake_won p words views k id v h more me owed inside seen found =
         missed = was.missed;
         retried = was.retried;
       };
+      begun = still.begun;
     }

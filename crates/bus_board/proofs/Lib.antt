@@ -1,12 +1,15 @@
 pub mod Allowed
 pub mod Calls
 pub mod Endings
+pub mod Flights
 pub mod Histories
 pub mod Landings
 pub mod Moves
 pub mod Paying
+pub mod Rests
 pub mod Seats
 pub mod Sums
 pub mod Tied
+pub mod Told
 pub mod Turns
 pub mod Walks

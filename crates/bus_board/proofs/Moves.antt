@@ -1,5 +1,5 @@
 -- Claims and looks keep the rule.
-use Rattle.std.proofs.Common.{◌≡◌, ◌≢◌, ◌⊎◌, ℕ, zero, suc, ◌<◌, ◌≤◌, Bool, true, false, List, [], ◌∷◌, ◌++◌, length, take, set, get_or, Option, Some, None, refl, sym, ap, ◌∙◌, subst, inl, inr, ⊎_elim, arith, get_or-set_same, eq-eqb, ne_eqb, eqb, eqb-true}
+use Rattle.std.proofs.Common.{◌≡◌, ◌≢◌, ◌⊎◌, ℕ, zero, suc, ◌+◌, ◌<◌, ◌≤◌, Bool, true, false, List, [], ◌∷◌, ◌++◌, length, take, set, get_or, Option, Some, None, refl, sym, ap, ◌∙◌, subst, inl, inr, ⊎_elim, arith, get_or-set_same, eq-eqb, ne_eqb, eqb, eqb-true, zero-add}
 use Rattle.std.proofs.lemmas.List.{set-get_or}
 use Rattle.std.specs.Prelude.{slice_get, slice_index, if◌then◌else◌}
 use mathlib.Core.Logic.{dite}
@@ -15,12 +15,12 @@ use Rattle.bus_core.specs.declared.settle.Outcome.TheVariants.{Bound, Failed}
 use Rattle.bus_board.proofs.Histories.{append-nil, front_outcome, front_whole, none_in_front, take_outcome, take_whole}
 use Rattle.bus_board.proofs.Sums.{term_le, terms_le, total-set}
 use Rattle.bus_board.proofs.Turns.{flies_none, flies_one, stayed, still_owed, turned, word_after}
-use Rattle.bus_board.specs.Lists.{Among, total}
+use Rattle.bus_board.specs.Lists.{Among, pairs, total}
 use Rattle.bus_board.specs.Outcomes.{History, outcome_of}
 use Rattle.bus_board.specs.Rule.{Fits, FlightFits, Kept, Tells, settled_times}
 use Rattle.bus_board.specs.Steps.{Sees}
-use Rattle.bus_board.specs.Views.{claimed_by, flies, flies_in, last_look, looked, looked_in, passed_all}
-use Rattle.bus_board.specs.Words.{IsRetried, flights_of, flying_word, settled_as}
+use Rattle.bus_board.specs.Views.{claimed_by, claims, flies, flies_in, last_look, looked, looked_in, passed_all}
+use Rattle.bus_board.specs.Words.{IsRetried, begins_of, claimed_word, flights_of, flying_word, most_retries, settled_as}
 use Rattle.bus_board.specs.declared.view.Flight.{Flight}
 use Rattle.bus_board.specs.declared.view.View.{View}
 
@@ -53,6 +53,13 @@ among_push (y ∷ xs) x d w a = at (λ i e. among_push xs x d w (i, e)) a.0 a.1
     at more zero e = inr (0, e)
     at more (suc i) e = ⊎_elim (λ (t : x ≡ (d, w)). inl t) (λ (t : Among xs d w). inr (suc t.0, t.1)) (more i e)
 
+-- a pair more
+pub pairs-same : (xs : List (ℕ × ℕ)) (d e a old : ℕ) → d ≡ e → pairs e a ((d, old) ∷ xs) ≡ (if eqb old a then 1 else 0) + pairs e a xs
+pairs-same xs d e a old same = ap (λ (b : Bool). (if b then (if eqb old a then 1 else 0) else 0) + pairs e a xs) (eq-eqb d e same)
+
+pub pairs-other : (xs : List (ℕ × ℕ)) (d e a old : ℕ) → d ≢ e → pairs e a ((d, old) ∷ xs) ≡ pairs e a xs
+pairs-other xs d e a old other = ap (λ (b : Bool). (if b then (if eqb old a then 1 else 0) else 0) + pairs e a xs) (ne_eqb d e other) ∙ zero-add (pairs e a xs)
+
 -- a flight stays right while its seat sees more
 pub sees_more : (p : List PlannedDevice) (log : History) (words : List ℕ) (v : View) → Fits p log words v → (f : Flight) → v.flight ≡ Some f → FlightFits p log words log f
 sees_more p log words v fit f e = let was = fit.flight f e in record {
@@ -81,6 +88,9 @@ pub record Kind (old new : ℕ) : Type 0 where
   pub retries : eqb old 3 ≡ true → IsRetried new
   pub not_retried : IsRetried old → ⊥
   pub fresh : (old ≡ 0) ⊎ (old ≡ 3)
+  pub claimed : claimed_word (eqb old 3) ≡ old
+  pub begins : begins_of new ≡ (if eqb old 0 then 1 else 0) + begins_of old
+  pub retried : (if eqb old 3 then 1 else 0) + most_retries old ≤ most_retries new
 
 pub from_fresh : Kind 0 1
 from_fresh = record {
@@ -95,6 +105,9 @@ from_fresh = record {
   retries = λ e. absurd (cc);
   not_retried = λ r. ⊎_elim (λ (e : 0 ≡ 4). absurd (omega arith)) (λ (r : (0 ≡ 5) ⊎ (0 ≡ 6)). ⊎_elim (λ (e : 0 ≡ 5). absurd (omega arith)) (λ (e : 0 ≡ 6). absurd (omega arith)) r) r;
   fresh = inl refl;
+  claimed = refl;
+  begins = refl;
+  retried = omega arith;
 }
 
 pub from_woken : Kind 3 4
@@ -110,6 +123,9 @@ from_woken = record {
   retries = λ e. inl refl;
   not_retried = λ r. ⊎_elim (λ (e : 3 ≡ 4). absurd (omega arith)) (λ (r : (3 ≡ 5) ⊎ (3 ≡ 6)). ⊎_elim (λ (e : 3 ≡ 5). absurd (omega arith)) (λ (e : 3 ≡ 6). absurd (omega arith)) r) r;
   fresh = inr refl;
+  claimed = refl;
+  begins = refl;
+  retried = omega arith;
 }
 
 -- whoever claimed a device from a word finds it no more at that word
@@ -149,11 +165,14 @@ claim_won p words views k id v d old new kind inside live idle me found =
     turned p words views k id v w d new log [] (sym (append-nil log)) refl me inside k.lawful
     (λ e ne. refl)
     (λ e ne. flies_none (Some f) f e refl (λ s. ne (sym s)) ∙ sym (ap (λ (o : Option Flight). flies_in o e) idle))
+    (λ e a ne. pairs-other v.claimed d e a old (λ s. ne (sym s)))
     (λ e. refl)
     record {
       small = kind.bounds.3;
       settled = tells.settled ∙ kind.unsettled ∙ sym kind.still_unsettled;
       flown = omega (arith, total-set (flies d) views id v w me, kind.one);
+      begun = omega (arith, total-set (claims d 0) views id v w me, pairs-same v.claimed d d 0 old refl, tells.begun, kind.begins);
+      retried = omega (arith, total-set (claims d 3) views id v w me, pairs-same v.claimed d d 3 old refl, tells.retried, kind.retried);
       unmatched = λ e. absurd (kind.bounds.2 e);
       matched = λ off. absurd (kind.matched (tells.matched off));
       woken = λ e. absurd (kind.bounds.1 e);
@@ -177,6 +196,7 @@ claim_won p words views k id v d old new kind inside live idle me found =
           (among_cons v.claimed (d, old) e 3 there);
       passed = λ e there. word_after words d new e (λ (x : ℕ). x ≢ 0) here (λ _. kind.bounds.0) (λ ne. fit.passed e there);
       flight = λ g e. subst (FlightFits p log (set words d new) log) (let same : Some f ≡ Some g = e in cc) flight;
+      begun = λ g e. subst (λ (x : Flight). Among w.claimed x.device (claimed_word x.again)) (let is : Some f ≡ Some g = e in let same : f ≡ g = cc in same) (0, ap (λ (a : ℕ). Some (d, a)) (sym kind.claimed));
     }
 
 -- a read word, or a lost claim
@@ -189,7 +209,7 @@ pub claim_lost : (p : List PlannedDevice) (words : List ℕ) (views : List View)
 claim_lost p words views k id v d old me missed =
     let w : View = passed_all v k.log ((d, old) ∷ []) in
     let fit : Fits p k.log words v = k.fits id v me in
-    stayed p words views k id v w refl me (λ e. refl) (λ e. refl) (λ e two all. still_owed views id v w e me (omega arith)) record {
+    stayed p words views k id v w refl me (λ e. refl) (λ e a. refl) (λ e. refl) (λ e two all. still_owed views id v w e me (omega arith)) record {
       plan_is = fit.plan_is;
       seen = front_whole k.log;
       told = fit.told;
@@ -201,6 +221,7 @@ claim_lost p words views k id v d old me missed =
           (λ (t : Among v.passed e 0). fit.passed e t)
           (among_push v.passed (d, old) e 0 there);
       flight = sees_more p k.log words v fit;
+      begun = fit.begun;
     }
 
 pub settled_as-bound : (w : ℕ) → settled_as w ≡ Some Bound → w ≡ 5
@@ -248,13 +269,23 @@ flies_looked : (o : Option Flight) (s : ℕ) (b : Bool) (d : ℕ) → flies_in (
 flies_looked None s b d = refl
 flies_looked (Some f) s b d = refl
 
+-- a look is of the same device
+looked_begun : (claimed : List (ℕ × ℕ)) (o : Option Flight) (s : ℕ) (b : Bool)
+    → ((f : Flight) → o ≡ Some f → Among claimed f.device (claimed_word f.again))
+    → (g : Flight) → looked_in o s b ≡ Some g → Among claimed g.device (claimed_word g.again)
+looked_begun claimed None s b was g e = absurd (cc)
+looked_begun claimed (Some f) s b was g e =
+    let h : Flight = record { device = f.device; at = f.at; again = f.again; looks = (s, b) ∷ f.looks } in
+    let is : Some h ≡ Some g = e in
+    subst (λ (x : Flight). Among claimed x.device (claimed_word x.again)) (let same : h ≡ g = cc in same) (was f refl)
+
 pub look_kept : (p : List PlannedDevice) (words : List ℕ) (views : List View) (k : Kept p words views) (id : ℕ) (v : View) (s : ℕ) → s < length p
     → get_elem? views id ≡ some v → Kept p words (set views id (looked v k.log s (eqb (get_or words s 0) 5)))
 look_kept p words views k id v s inside me =
     let b : Bool = eqb (get_or words s 0) 5 in
     let fit : Fits p k.log words v = k.fits id v me in
     let tells = k.words_tell s inside in
-    stayed p words views k id v (looked v k.log s b) refl me (λ e. flies_looked v.flight s b e) (λ e. refl) (λ e two all. still_owed views id v (looked v k.log s b) e me (omega arith)) record {
+    stayed p words views k id v (looked v k.log s b) refl me (λ e. flies_looked v.flight s b e) (λ e a. refl) (λ e. refl) (λ e two all. still_owed views id v (looked v k.log s b) e me (omega arith)) record {
       plan_is = fit.plan_is;
       seen = front_whole k.log;
       told = fit.told;
@@ -265,6 +296,7 @@ look_kept p words views k id v s inside me =
       flight = looks_right p k.log words v.flight s b (sees_more p k.log words v fit)
           (λ yes. tells.settled ∙ ap settled_as (eqb-true (get_or words s 0) 5 yes))
           (λ no. λ bound. let five : get_or words s 0 ≡ 5 = settled_as-bound _ (sym tells.settled ∙ bound) in let yes : eqb (get_or words s 0) 5 ≡ true = eq-eqb (get_or words s 0) 5 five in absurd (cc));
+      begun = looked_begun v.claimed v.flight s b fit.begun;
     }
 
 pub flights_of-small : (w : ℕ) → flights_of w ≤ 1
@@ -273,6 +305,11 @@ flights_of-small w = dite (ℕ_discrete w 1)
     (λ ne. dite (ℕ_discrete w 4)
     (λ e. omega (arith, ap {B = ℕ} (λ (b : Bool). if b then 1 else (if eqb w 4 then 1 else 0)) (ne_eqb w 1 ne), ap {B = ℕ} (λ (b : Bool). if b then 1 else 0) (eq-eqb w 4 e)))
     (λ n4. omega (arith, ap {B = ℕ} (λ (b : Bool). if b then 1 else (if eqb w 4 then 1 else 0)) (ne_eqb w 1 ne), ap {B = ℕ} (λ (b : Bool). if b then 1 else 0) (ne_eqb w 4 n4))))
+
+-- a flight's device was begun once, and claimed from WOKEN once at most
+pub flying_begun : (b : Bool) → (begins_of (flying_word b) ≡ 1) × (most_retries (flying_word b) ≤ 1)
+flying_begun true = (refl, omega arith)
+flying_begun false = (refl, omega arith)
 
 pub flying : (b : Bool) → (settled_as (flying_word b) ≡ None) × (flying_word b ≢ 7) × (flying_word b ≢ 0) × (flights_of (flying_word b) ≡ 1)
 flying true = (refl, (λ e. absurd (omega arith)), (λ e. absurd (omega arith)), refl)

@@ -1,5 +1,5 @@
 -- A seat is cut in two, and two seats are joined.
-use Rattle.std.proofs.Common.{◌≡◌, ◌≢◌, ◌⊎◌, ℕ, zero, suc, ◌<◌, ◌≤◌, Bool, true, false, List, [], ◌∷◌, ◌++◌, length, set, Option, Some, None, refl, sym, ap, ◌∙◌, subst, inl, inr, ⊎_elim, arith, length-append, eq-eqb, ne_eqb}
+use Rattle.std.proofs.Common.{◌≡◌, ◌≢◌, ◌⊎◌, ℕ, zero, suc, ◌+◌, ◌<◌, ◌≤◌, Bool, true, false, List, [], ◌∷◌, ◌++◌, length, set, Option, Some, None, refl, sym, ap, ◌∙◌, subst, inl, inr, ⊎_elim, arith, length-append, eq-eqb, ne_eqb}
 use Rattle.std.specs.Prelude.{slice_get, nat_le, if◌then◌else◌}
 use Rattle.std.proofs.lemmas.Bool.Decides.{leb_tells}
 use mathlib.Core.Logic.{dite}
@@ -16,11 +16,11 @@ use Rattle.bus_board.proofs.Histories.{append-nil, front_outcome, lawful_front, 
 use Rattle.bus_board.proofs.Sums.{total-append, total-set}
 use Rattle.bus_board.proofs.Turns.{set_at, times-append}
 use Rattle.bus_board.specs.Learns.{JoinedBy, Stands}
-use Rattle.bus_board.specs.Lists.{Among, times}
+use Rattle.bus_board.specs.Lists.{Among, pairs, times}
 use Rattle.bus_board.specs.Outcomes.{History, IsFront, longer, shorter}
 use Rattle.bus_board.specs.Rule.{Fits, Holds, Kept, SeenBySome, Tells}
-use Rattle.bus_board.specs.Views.{both, flies, flies_in, newcomer, of_devices, opener, owes, spent}
-use Rattle.bus_board.specs.Words.{AreFirst, first_word}
+use Rattle.bus_board.specs.Views.{both, claims, flies, flies_in, newcomer, of_devices, opener, owes, spent}
+use Rattle.bus_board.specs.Words.{AreFirst, claimed_word, first_word}
 use Rattle.bus_board.specs.declared.view.Flight.{Flight}
 use Rattle.bus_board.specs.declared.view.View.{View}
 
@@ -34,6 +34,18 @@ among_append (x ∷ xs) ys d w a = at (λ i e. among_append xs ys d w (i, e)) a.
     at : ((i : ℕ) → slice_get (xs ++ ys) i ≡ Some (d, w) → Among xs d w ⊎ Among ys d w) → (i : ℕ) → slice_get ((x ∷ xs) ++ ys) i ≡ Some (d, w) → Among (x ∷ xs) d w ⊎ Among ys d w
     at more zero e = inl (0, e)
     at more (suc i) e = ⊎_elim (λ (t : Among xs d w). inl (suc t.0, t.1)) (λ (t : Among ys d w). inr t) (more i e)
+
+among_left : (xs ys : List (ℕ × ℕ)) (d w : ℕ) → Among xs d w → Among (xs ++ ys) d w
+among_left [] ys d w a = absurd (not-among d w a)
+among_left (x ∷ xs) ys d w a = at (λ i e. among_left xs ys d w (i, e)) a.0 a.1
+  where
+    at : ((i : ℕ) → slice_get xs i ≡ Some (d, w) → Among (xs ++ ys) d w) → (i : ℕ) → slice_get (x ∷ xs) i ≡ Some (d, w) → Among ((x ∷ xs) ++ ys) d w
+    at more zero e = (0, e)
+    at more (suc i) e = let t = more i e in (suc t.0, t.1)
+
+pairs-append : (d w : ℕ) (xs ys : List (ℕ × ℕ)) → pairs d w (xs ++ ys) ≡ pairs d w xs + pairs d w ys
+pairs-append d w [] ys = omega arith
+pairs-append d w (x ∷ xs) ys = omega (arith, pairs-append d w xs ys)
 
 pub split_allowed : (p : List PlannedDevice) (id : ℕ) (v : View) → v.live ≡ true → Splits (Holds p) id v v (newcomer v)
 split_allowed p id v live s k me =
@@ -49,6 +61,8 @@ split_allowed p id v live s k me =
         small = was.small;
         settled = was.settled;
         flown = omega (arith, total-append (flies d) s.views (n ∷ []), was.flown);
+        begun = omega (arith, total-append (claims d 0) s.views (n ∷ []), was.begun);
+        retried = omega (arith, total-append (claims d 3) s.views (n ∷ []), was.retried);
         unmatched = was.unmatched;
         matched = was.matched;
         woken = was.woken;
@@ -66,6 +80,7 @@ split_allowed p id v live s k me =
             retried = λ d a. absurd (not-among d 3 a);
             passed = λ d a. absurd (not-among d 0 a);
             flight = λ f e'. absurd (cc);
+            begun = λ f e'. absurd (cc);
           })
           (at_snoc s.views n u j e);
     } in
@@ -162,6 +177,7 @@ join_allowed p id v other w live idle s k me apart there =
         missed = r.missed;
         retried = r.retried;
       };
+      begun = λ f e. among_left v.claimed w.claimed f.device (claimed_word f.again) (fit.begun f e);
     } in
     let fit_blank : Fits p k.log s.words spent = record {
       plan_is = λ e. absurd (cc);
@@ -172,6 +188,7 @@ join_allowed p id v other w live idle s k me apart there =
       retried = λ d a. absurd (not-among d 3 a);
       passed = λ d a. absurd (not-among d 0 a);
       flight = λ f e. absurd (cc);
+      begun = λ f e. absurd (cc);
     } in
     record {
       log = k.log;
@@ -182,6 +199,8 @@ join_allowed p id v other w live idle s k me apart there =
         small = x.small;
         settled = x.settled;
         flown = omega (arith, total-set (flies d) s.views id v b me, total-set (flies d) mid other w spent there, none-flies d, x.flown);
+        begun = omega (arith, total-set (claims d 0) s.views id v b me, total-set (claims d 0) mid other w spent there, pairs-append d 0 v.claimed w.claimed, x.begun);
+        retried = omega (arith, total-set (claims d 3) s.views id v b me, total-set (claims d 3) mid other w spent there, pairs-append d 3 v.claimed w.claimed, x.retried);
         unmatched = x.unmatched;
         matched = x.matched;
         woken = x.woken;
@@ -227,12 +246,13 @@ opening_holds p words first = record {
     retried = λ d a. absurd (not-among d 3 a);
     passed = λ d a. absurd (not-among d 0 a);
     flight = λ f e'. absurd (cc);
+    begun = λ f e'. absurd (cc);
   };
 }
   where
     tells : {d : ℕ} (b : Bool) → (is_matched p d) ≡ b → Tells p [] (opener p ∷ []) d (first_word b)
-    tells true is = record { small = omega arith; settled = refl; flown = refl; unmatched = λ e. absurd (omega arith); matched = λ off. absurd (cc); woken = λ e. absurd (omega arith); waiting = λ e _. absurd (omega arith) }
-    tells false is = record { small = omega arith; settled = refl; flown = refl; unmatched = λ e. is; matched = λ off. refl; woken = λ e. absurd (omega arith); waiting = λ e _. absurd (omega arith) }
+    tells true is = record { small = omega arith; settled = refl; flown = refl; begun = refl; retried = omega arith; unmatched = λ e. absurd (omega arith); matched = λ off. absurd (cc); woken = λ e. absurd (omega arith); waiting = λ e _. absurd (omega arith) }
+    tells false is = record { small = omega arith; settled = refl; flown = refl; begun = refl; retried = omega arith; unmatched = λ e. is; matched = λ off. refl; woken = λ e. absurd (omega arith); waiting = λ e _. absurd (omega arith) }
 
 in_front : (f h : History) (x : Settle) → IsFront f h → Stands f x → Stands h x
 in_front f h x t there = subst (λ (l : History). Stands l x) (sym t.1) (longer_stands f t.0 there.0 there.1)

@@ -73,7 +73,7 @@ none_after p h (x ∷ more) mine g known =
     (λ same. let there : outcome_of (h ++ x ∷ []) d ≡ Some x.outcome = subst (λ (y : ℕ). outcome_of (h ++ x ∷ []) y ≡ Some x.outcome) same (outcome_push-new h x out-yet) in absurd (cc))
     (λ other. known d (sym (outcome_push-other h x d other) ∙ out)))
 
-goes_on : (p : List PlannedDevice) (h f g : History) → IsHistoryAfter p h (f ++ g) → IsHistoryAfter p (h ++ f) g
+pub goes_on : (p : List PlannedDevice) (h f g : History) → IsHistoryAfter p h (f ++ g) → IsHistoryAfter p (h ++ f) g
 goes_on p h [] g t = subst (λ (l : History). IsHistoryAfter p l g) (sym (append-nil h)) t
 goes_on p h (x ∷ f) g t = subst (λ (l : History). IsHistoryAfter p l g) (append_assoc h (x ∷ []) f) (goes_on p (h ++ x ∷ []) f g t.1)
 

@@ -15,7 +15,7 @@ use Rattle.bus_board.proofs.Sums.{total-set}
 use Rattle.bus_board.specs.Lists.{times, total}
 use Rattle.bus_board.specs.Outcomes.{AllBound, History, outcome_of}
 use Rattle.bus_board.specs.Rule.{Fits, Kept, Tells, settled_times}
-use Rattle.bus_board.specs.Views.{flies, flies_in, owes}
+use Rattle.bus_board.specs.Views.{claims, flies, flies_in, owes}
 use Rattle.bus_board.specs.Words.{IsRetried}
 use Rattle.bus_board.specs.declared.view.Flight.{Flight}
 use Rattle.bus_board.specs.declared.view.View.{View}
@@ -62,6 +62,7 @@ fits_later p log more words i n u h not-fresh still apart fit = record {
         missed = λ s m. subst (λ (l : History). outcome_of l s ≢ Some Bound) (sym front) (was.missed s m);
         retried = λ a. subst (λ (l : History). is_ready p (bound_in l) f.device ≡ true) (sym front) (was.retried a);
       };
+  begun = fit.begun;
 }
 
 -- the word i becomes n, the seat's view w, and the history goes on
@@ -69,6 +70,7 @@ pub turned : (p : List PlannedDevice) (words : List ℕ) (views : List View) (k 
     → get_elem? views id ≡ some v → i < length p → IsBusHistory p log
     → ((d : ℕ) → d ≢ i → outcome_of log d ≡ outcome_of k.log d)
     → ((d : ℕ) → d ≢ i → flies d w ≡ flies d v)
+    → ((d a : ℕ) → d ≢ i → claims d a w ≡ claims d a v)
     → ((d : ℕ) → times d w.mine + settled_times (outcome_of k.log d) ≡ times d v.mine + settled_times (outcome_of log d))
     → Tells p log (set views id w) i n
     → (slice_index words i ≢ 0 → n ≢ 0) → (IsRetried (slice_index words i) → IsRetried n)
@@ -76,7 +78,7 @@ pub turned : (p : List PlannedDevice) (words : List ℕ) (views : List View) (k 
     → ((d : ℕ) → d ≢ i → d < length p → slice_index words d ≡ 2 → AllBound p log d → 0 < total (owes d) (set views id w))
     → Fits p log (set words i n) w
     → Kept p (set words i n) (set views id w)
-turned p words views k id v w i n log more grown seen me inside lawful same flown own tells not-fresh still apart owe fit =
+turned p words views k id v w i n log more grown seen me inside lawful same flown claimed own tells not-fresh still apart owe fit =
     let wide = k.wide in
     let h : i < length words = omega arith in
     record {
@@ -90,6 +92,8 @@ turned p words views k id v w i n log more grown seen me inside lawful same flow
             small = was.small;
             settled = same d ne ∙ was.settled;
             flown = omega (arith, total-set (flies d) views id v w me, flown d ne, was.flown);
+            begun = omega (arith, total-set (claims d 0) views id v w me, claimed d 0 ne, was.begun);
+            retried = omega (arith, total-set (claims d 3) views id v w me, claimed d 3 ne, was.retried);
             unmatched = was.unmatched;
             matched = was.matched;
             woken = λ e. subst (λ (l : History). is_ready p (bound_in l) d ≡ true) (sym grown) (ready_later p k.log more d k.lawful (was.woken e));
@@ -105,11 +109,11 @@ turned p words views k id v w i n log more grown seen me inside lawful same flow
 -- a word that is only read
 pub stayed : (p : List PlannedDevice) (words : List ℕ) (views : List View) (k : Kept p words views) (id : ℕ) (v w : View) → w.seen ≡ k.log
     → get_elem? views id ≡ some v
-    → ((d : ℕ) → flies d w ≡ flies d v) → ((d : ℕ) → times d w.mine ≡ times d v.mine)
+    → ((d : ℕ) → flies d w ≡ flies d v) → ((d a : ℕ) → claims d a w ≡ claims d a v) → ((d : ℕ) → times d w.mine ≡ times d v.mine)
     → ((d : ℕ) → slice_index words d ≡ 2 → AllBound p k.log d → 0 < total (owes d) views → 0 < total (owes d) (set views id w))
     → Fits p k.log words w
     → Kept p words (set views id w)
-stayed p words views k id v w seen me flown own owe fit = record {
+stayed p words views k id v w seen me flown claimed own owe fit = record {
   log = k.log;
   lawful = k.lawful;
   whole = (id, w, set_at views id v w me, seen);
@@ -118,6 +122,8 @@ stayed p words views k id v w seen me flown own owe fit = record {
     small = was.small;
     settled = was.settled;
     flown = omega (arith, total-set (flies d) views id v w me, flown d, was.flown);
+    begun = omega (arith, total-set (claims d 0) views id v w me, claimed d 0, was.begun);
+    retried = omega (arith, total-set (claims d 3) views id v w me, claimed d 3, was.retried);
     unmatched = was.unmatched;
     matched = was.matched;
     woken = was.woken;

@@ -11,8 +11,8 @@ use Rattle.bus_core.specs.History.{IsBusHistory, bound_in}
 use Rattle.bus_core.specs.Ready.{is_ready}
 use Rattle.bus_board.specs.Lists.{times, Among, total}
 use Rattle.bus_board.specs.Outcomes.{History, outcome_of, AllBound, IsFront}
-use Rattle.bus_board.specs.Views.{last_look, flies, owes}
-use Rattle.bus_board.specs.Words.{settled_as, flights_of, flying_word, IsRetried}
+use Rattle.bus_board.specs.Views.{last_look, claims, flies, owes}
+use Rattle.bus_board.specs.Words.{settled_as, flights_of, flying_word, claimed_word, begins_of, most_retries, IsRetried}
 use Rattle.bus_board.specs.declared.view.View.{View}
 use Rattle.bus_board.specs.declared.view.Flight.{Flight}
 
@@ -28,7 +28,8 @@ pub record FlightFits (plan : List PlannedDevice) (log : History) (words : List 
   pub retried : f.again ≡ true → is_ready plan (bound_in (take f.at log)) f.device ≡ true
 
 -- A view (clauses 1, 3 and 7): what it has seen is a front of the history, its own settles are among those, a device that it
--- has claimed or passed from FRESH isn't FRESH, and one claimed from WOKEN is RETRYING, BOUND or FAILED.
+-- has claimed or passed from FRESH isn't FRESH, and one claimed from WOKEN is RETRYING, BOUND or FAILED. It has claimed the
+-- device of its flight.
 pub record Fits (plan : List PlannedDevice) (log : History) (words : List ℕ) (v : View) : Type 0 where
   pub plan_is : v.live ≡ true → v.plan ≡ plan
   pub seen : IsFront v.seen log
@@ -38,14 +39,18 @@ pub record Fits (plan : List PlannedDevice) (log : History) (words : List ℕ) (
   pub retried : (d : ℕ) → Among v.claimed d 3 → IsRetried (slice_index words d)
   pub passed : (d : ℕ) → Among v.passed d 0 → slice_index words d ≢ 0
   pub flight : (f : Flight) → v.flight ≡ Some f → FlightFits plan log words v.seen f
+  pub begun : (f : Flight) → v.flight ≡ Some f → Among v.claimed f.device (claimed_word f.again)
 
--- The word of a device (clauses 1, 2, 5 and 6): it tells the device's outcome in the history, and one flight exactly where it is
--- TRYING or RETRYING; it is UNMATCHED exactly where no driver matches; a WOKEN device is ready; a WAITING one whose suppliers
--- are all bound is owed by some seat.
+-- The word of a device (clauses 1, 2, 5, 6 and 7): it tells the device's outcome in the history, and one flight exactly where it
+-- is TRYING or RETRYING; it is UNMATCHED exactly where no driver matches, and FRESH exactly where one does and no seat has begun
+-- the device, which is claimed it from FRESH; else one seat has, once. No two claim it from WOKEN. A WOKEN device is ready; a
+-- WAITING one whose suppliers are all bound is owed by some seat.
 pub record Tells (plan : List PlannedDevice) (log : History) (views : List View) (d w : ℕ) : Type 0 where
   pub small : w ≤ 7
   pub settled : outcome_of log d ≡ settled_as w
   pub flown : total (flies d) views ≡ flights_of w
+  pub begun : total (claims d 0) views ≡ begins_of w
+  pub retried : total (claims d 3) views ≤ most_retries w
   pub unmatched : w ≡ 7 → is_matched plan d ≡ false
   pub matched : is_matched plan d ≡ false → w ≡ 7
   pub woken : w ≡ 3 → is_ready plan (bound_in log) d ≡ true

@@ -4,7 +4,7 @@ use Rattle.bus_plan.specs.Plan.{PlannedDevice, verdict_of}
 use Rattle.bus_plan.specs.Consumers.{consumers_of}
 use Rattle.bus_core.specs.History.{outcome_by, is_bound}
 use Rattle.bus_core.specs.Step.{settle_of}
-use Rattle.bus_board.specs.Lists.{times}
+use Rattle.bus_board.specs.Lists.{pairs, times}
 use Rattle.bus_board.specs.Outcomes.{History, longer, shorter}
 use Rattle.bus_board.specs.declared.view.View.{View}
 use Rattle.bus_board.specs.declared.view.Flight.{Flight}
@@ -25,6 +25,10 @@ flies d v = flies_in v.flight d
 -- how often a seat owes the device
 abbrev pub owes : ℕ → View → ℕ
 owes d v = times d v.owed
+
+-- how often a seat has claimed the device from this word
+abbrev pub claims : ℕ → ℕ → View → ℕ
+claims d w v = pairs d w v.claimed
 
 -- the settles of these devices, in the order of the history
 abbrev pub of_devices : List ℕ → History → History

@@ -39,6 +39,18 @@ flights_of w = if w == 1 then 1 else (if w == 4 then 1 else 0)
 abbrev pub flying_word : Bool → ℕ
 flying_word again = if again then 4 else 1
 
+-- the word that a flight was claimed from
+abbrev pub claimed_word : Bool → ℕ
+claimed_word again = if again then 3 else 0
+
+-- how often a device was begun, which is claimed from FRESH, 0: not where its word is FRESH or UNMATCHED, 7, and else once
+abbrev pub begins_of : ℕ → ℕ
+begins_of w = if w == 0 then 0 else (if w == 7 then 0 else 1)
+
+-- how often it was claimed from WOKEN at most: once where its word is RETRYING, 4, BOUND, 5, or FAILED, 6
+abbrev pub most_retries : ℕ → ℕ
+most_retries w = if w == 4 then 1 else (if w == 5 then 1 else (if w == 6 then 1 else 0))
+
 -- RETRYING, BOUND or FAILED
 abbrev pub IsRetried : ℕ → Type 0
 IsRetried w = (w ≡ 4) ⊎ (w ≡ 5) ⊎ (w ≡ 6)

@@ -7,3 +7,4 @@ pub mod Run
 pub mod RunError
 pub mod Seen
 pub mod TableProber
+pub mod Workers

@@ -4,7 +4,7 @@ ghost use Rattle.std.specs.Prelude.{◌≡◌, ◌<◌, length, count_by, IfOk, 
 ghost use Rattle.bus_core.specs.declared.refusal.Refusal.TheVariants.{NoMemory};
 ghost use Rattle.bus_plan.specs.Plan.{PlannedDevice};
 ghost use Rattle.bus_manager.specs.Private.Counts.{is_abandon, abandons};
-ghost use Rattle.bus_manager.specs.Private.Turn.{IsTurn};
+ghost use Rattle.bus_manager.specs.Private.Turn.{IsEnded, IsTurn, tells_settled};
 
 use crate::keeper::Keeper;
 use crate::seen::Seen;
@@ -45,6 +45,7 @@ impl<J: PlanName> Kept<J> {
     fn new(keeper: Keeper) -> Self
         requires named { keeper.plan ≡ J.plan }
         requires unabandoned { abandons keeper ≡ 0 }
+        ensures { result.keeper ≡ keeper }
     {
         Kept {
             keeper,
@@ -70,12 +71,20 @@ impl<J: PlanName> Kept<J> {
     // Ends a flight, and says whether its device has settled.
     fn finish(&mut self, ticket: &Ticket, report: Report) -> bool
         requires { ticket.now.device < length J.plan }
+        ensures { IsEnded self.old.keeper self.new.keeper ticket.now report result }
     {
         match self.keeper.finish(ticket, report) {
-            Ok(reply) => matches!(reply, Reply::Bound | Reply::Failed),
+            Ok(reply) => tells_settled(reply),
             Err(_) => false,
         }
     }
+}
+
+// Whether the device of the flight has settled.
+fn tells_settled(reply: Reply) -> bool
+    ensures { result ≡ tells_settled reply }
+{
+    matches!(reply, Reply::Bound | Reply::Failed)
 }
 
 /// One lock round a keeper of the plan of this name, and a condition that each finish notifies. What holds of the keeper

@@ -4,6 +4,7 @@ ghost use Rattle.std.specs.Prelude.{◌≡◌, ◌<◌, ◌≤◌, ◌⊎◌, �
 ghost use Rattle.std.specs.Result.{result_err};
 ghost use Rattle.bus_core.specs.declared.refusal.Refusal.TheVariants.{NoMemory as OutOfMemory};
 ghost use Rattle.bus_manager.specs.Run.{IsRun};
+ghost use Rattle.bus_manager.specs.Workers.{AreRefused, most_workers};
 
 use crate::alone::{finish_alone, fresh_keeper};
 use crate::boarded::run_boarded;
@@ -23,8 +24,8 @@ use std::thread::Threads;
 pub const MAX_WORKERS: usize = 64;
 
 fn is_allowed(workers: usize) -> bool
-    ensures yes { result ≡ true → (0 < workers) × (workers ≤ MAX_WORKERS) }
-    ensures no { result ≡ false → (workers ≡ 0) ⊎ (MAX_WORKERS < workers) }
+    ensures yes { result ≡ true → (0 < workers) × (workers ≤ most_workers) }
+    ensures no { result ≡ false → AreRefused workers }
 {
     if workers == 0 {
         return false;
@@ -35,7 +36,7 @@ fn is_allowed(workers: usize) -> bool
 /// Probes the devices of a plan by so many workers, 1 to `MAX_WORKERS`, over a board: no worker waits for another. The
 /// report is the same for every interleaving. Where memory runs out for a worker it leaves, and the others, at last the
 /// caller alone, go on.
-pub fn run<P: Prober, R: Threads + Wait + Sync>(
+pub fn run<P: Prober, R: Threads + Sync>(
     rt: &R,
     alloc: Global,
     plan: &Plan,
@@ -43,7 +44,7 @@ pub fn run<P: Prober, R: Threads + Wait + Sync>(
     workers: usize,
 ) -> Result<Ran<P::Note>, RunError>
     ensures ran { IfOk result (λ ran. IsRun (P.attests prober.now plan.now) plan.now ran.report.items ran.notes.items) }
-    ensures many { (result_err result ≡ Some RunError.TooManyWorkers) ↔ ((workers ≡ 0) ⊎ (MAX_WORKERS < workers)) }
+    ensures many { (result_err result ≡ Some RunError.TooManyWorkers) ↔ AreRefused workers }
 {
     if !is_allowed(workers) {
         return Err(RunError::TooManyWorkers);
@@ -63,7 +64,7 @@ pub fn run_locked<P: Prober, R: Threads + Wait + Sync>(
     workers: usize,
 ) -> Result<Ran<P::Note>, RunError>
     ensures ran { IfOk result (λ ran. IsRun (P.attests prober.now plan.now) plan.now ran.report.items ran.notes.items) }
-    ensures many { (result_err result ≡ Some RunError.TooManyWorkers) ↔ ((workers ≡ 0) ⊎ (MAX_WORKERS < workers)) }
+    ensures many { (result_err result ≡ Some RunError.TooManyWorkers) ↔ AreRefused workers }
 {
     if !is_allowed(workers) {
         return Err(RunError::TooManyWorkers);
