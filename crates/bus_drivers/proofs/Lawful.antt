@@ -1,6 +1,7 @@
 -- The plan of a tree is lawful.
 use Rattle.std.proofs.Common.{◌≡◌, ◌≢◌, ℕ, suc, zero, ◌+◌, ◌<◌, ◌≤◌, Bool, true, false, nat_le, List, [], ◌∷◌, length, map, if◌then◌else◌, Option, Some, None, Result, Ok, Err, refl, ap, sym, ◌∙◌, subst, arith}
 use Rattle.std.specs.Option.{option_map, option_map_or, IfSome}
+use Rattle.std.specs.Prelude.{filter, is_some}
 use Rattle.std.specs.List.{All, AllPairs, Contains, find, list_all}
 use Rattle.std.proofs.lemmas.Bool.Decides.{nat_tests}
 use Rattle.std.proofs.lemmas.List.{length-map}
@@ -11,13 +12,13 @@ use Rattle.dt_tree.specs.TreeData.{TreeData, IsTree}
 use Rattle.dt_tree.proofs.Places.{IsSoundInside, inside, both}
 use Rattle.bus_plan.specs.declared.error.PlanError.{PlanError}
 use Rattle.bus_plan.specs.declared.error.PlanError.TheVariants.{UnknownPath, TooManyDevices}
-use Rattle.bus_plan.specs.declared.limits.TheConstants.{MAX_DEVICES}
-use Rattle.bus_plan.specs.Plan.{PlannedDevice, is_device_path, is_driver_name, paths, suppliers_of, IsLawfulDevice, IsLawful}
+use Rattle.bus_plan.specs.Limits.{most_devices}
+use Rattle.bus_plan.specs.Plan.{PlannedDevice, is_device_path, is_driver_name, is_compatible, paths, suppliers_of, IsLawfulDevice, IsLawful}
 use Rattle.bus_plan.specs.PlanPaths.{is_among}
 use Rattle.bus_drivers.specs.Driver.{DriverData, FailData, DriverSetData, driver_names, IsDriverSet}
 use Rattle.bus_drivers.specs.Nodes.{TreeDevice, Target, device_ways, tree_device, tree_devices, target_of}
 use Rattle.bus_drivers.specs.References.{and_then, all_references}
-use Rattle.bus_drivers.specs.TreePlan.{compatible_strings, driver_listing, driver_matching, driver_for, verdict_for, fail_paths, unknown_fail, suppliers_among, planned_device, planned_from, plan_of_devices, plan_of}
+use Rattle.bus_drivers.specs.TreePlan.{compatible_strings, driver_listing, driver_matching, driver_for, verdict_for, fail_paths, unknown_fail, late_strings, suppliers_among, planned_device, planned_from, plan_of_devices, plan_of}
 use Rattle.bus_drivers.proofs.DevicePaths.{device_paths, device_paths-apart, target_within}
 use Rattle.bus_drivers.proofs.Mentions.{AllIfOk, in_properties, suppliers_all, suppliers_apart, suppliers_others}
 
@@ -48,6 +49,26 @@ driver_named drivers named d = by_test d.available refl where
   by_test true e = rw e (matching_named drivers named (compatible_strings d))
   by_test false e = rw e tt
 
+-- ---- strings
+all_compatible : (strings : List (List ℕ)) → list_all is_compatible (filter is_compatible strings) ≡ true
+all_compatible [] = refl
+all_compatible (s ∷ strings) = by_test (is_compatible s) refl (all_compatible strings) where
+  by_test : (t : Bool) → is_compatible s ≡ t → list_all is_compatible (filter is_compatible strings) ≡ true
+      → list_all is_compatible (if t then s ∷ filter is_compatible strings else filter is_compatible strings) ≡ true
+  by_test true e rest = rw e rest
+  by_test false e rest = rest
+
+late_compatible : (driver : Option (List ℕ)) (d : TreeDevice) → list_all is_compatible (late_strings driver d) ≡ true
+late_compatible (Some name) d = refl
+late_compatible None d = by_test d.available where
+  by_test : (t : Bool) → list_all is_compatible (if t then filter is_compatible (compatible_strings d) else []) ≡ true
+  by_test true = all_compatible (compatible_strings d)
+  by_test false = refl
+
+late_matched : (driver : Option (List ℕ)) (d : TreeDevice) → is_some driver ≡ true → late_strings driver d ≡ []
+late_matched (Some name) d e = refl
+late_matched None d e = absurd (cc e)
+
 -- ---- one device
 planned_lawful : (set : DriverSetData) → IsDriverSet set → (d : TreeDevice) (suppliers : List ℕ) → is_device_path d.path ≡ true → IsLawfulDevice (planned_device set d suppliers)
 planned_lawful set s d suppliers path = record {
@@ -55,6 +76,9 @@ planned_lawful set s d suppliers path = record {
   driver = driver_named set.drivers s.named d;
   unavailable = λ e. rw e refl;
   unmatched = λ e. ap (λ (o : Option (List ℕ)). verdict_for o (is_among d.path (fail_paths set.fails))) e;
+  compatibles = late_compatible (driver_for set.drivers d) d;
+  disabled = λ e. rw e refl;
+  matched = λ e. late_matched (driver_for set.drivers d) d e;
 }
 
 -- ---- one by one
@@ -115,7 +139,7 @@ module _ (set : DriverSetData) (n : ℕ) where
       subst (λ (p : ℕ). SuppliersAt qs k p) same (suppliers_at ds (place + 1) qs a.1 k)
 
 -- ---- the plan
-pub lawful_plan : (root : NodeData) → IsSoundInside root → (set : DriverSetData) → IsDriverSet set → length (tree_devices root) ≤ MAX_DEVICES
+pub lawful_plan : (root : NodeData) → IsSoundInside root → (set : DriverSetData) → IsDriverSet set → length (tree_devices root) ≤ most_devices
     → (plan : List PlannedDevice) → planned_from (target_of root) set 0 (tree_devices root) ≡ Ok plan → IsLawful plan
 lawful_plan root s set named few plan e =
     let devices : List TreeDevice = tree_devices root in
@@ -150,8 +174,8 @@ within_limit m n r plan e = by_test (nat_le m n) refl where
 pub plan_of-lawful : (t : TreeData) → IsTree t → (set : DriverSetData) → IsDriverSet set → (plan : List PlannedDevice) → plan_of t.root set ≡ Ok plan → IsLawful plan
 plan_of-lawful t is set named plan e =
     let root = t.root in
-    let limit = within_limit (length (device_ways root)) MAX_DEVICES (plan_of_devices (target_of root) set (tree_devices root)) plan e in
+    let limit = within_limit (length (device_ways root)) most_devices (plan_of_devices (target_of root) set (tree_devices root)) plan e in
     let long = length-map (device_ways root) (tree_device root) in
-    let few : length (tree_devices root) ≤ MAX_DEVICES = rw long limit.0 in
+    let few : length (tree_devices root) ≤ most_devices = rw long limit.0 in
     lawful_plan root (inside root is.sound) set named few plan
     (without_fault (unknown_fail (tree_devices root) set.fails) (planned_from (target_of root) set 0 (tree_devices root)) plan limit.1)

@@ -4,10 +4,10 @@ pub mod Entries
 pub mod EntryPlaces
 pub mod EntryWalk
 pub mod EntryWays
+pub mod LateStrings
 pub mod Lawful
 pub mod MatchingLemmas
 pub mod Mentions
-pub mod PathSets
 pub mod PlanningLemmas
 pub mod StringsLemmas
 pub mod SuppliersLemmas

@@ -7,7 +7,7 @@ use Rattle.std.proofs.lemmas.List.{at_drop_more}
 use Rattle.dt_tree.specs.NodeData.{NodeData}
 use Rattle.bus_plan.specs.declared.error.PlanError.{PlanError}
 use Rattle.bus_plan.specs.declared.error.PlanError.TheVariants.{NoMemory, UnknownPath}
-use Rattle.bus_plan.specs.declared.limits.TheConstants.{MAX_DEVICES}
+use Rattle.bus_plan.specs.Limits.{most_devices}
 use Rattle.bus_plan.specs.Plan.{PlannedDevice}
 use Rattle.bus_plan.specs.PlanPaths.{is_among}
 use Rattle.bus_drivers.specs.Driver.{FailData, DriverSetData}
@@ -82,16 +82,16 @@ module _ (target : ℕ → Option Target) (set : DriverSetData) (devices : List 
   pub plan-known : unknown_fail devices set.fails ≡ None → plan_of_devices target set devices ≡ planned_from target set 0 devices
   plan-known none = rw none refl
 
-few-devices : (root : NodeData) (set : DriverSetData) → length (device_ways root) ≤ MAX_DEVICES
+few-devices : (root : NodeData) (set : DriverSetData) → length (device_ways root) ≤ most_devices
     → plan_of root set ≡ plan_of_devices (target_of root) set (tree_devices root)
-few-devices root set few = rw (le-leb (length (device_ways root)) MAX_DEVICES few) refl
+few-devices root set few = rw (le-leb (length (device_ways root)) most_devices few) refl
 
 -- a survey of the tree serves
-surveyed : (root survey : NodeData) (set : DriverSetData) (r : Result (List PlannedDevice) PlanError) → survey ≡ root → length (device_ways root) ≤ MAX_DEVICES
+surveyed : (root survey : NodeData) (set : DriverSetData) (r : Result (List PlannedDevice) PlanError) → survey ≡ root → length (device_ways root) ≤ most_devices
     → plan_of_devices (target_of survey) set (tree_devices survey) ≡ r → plan_of root set ≡ r
 surveyed root survey set r is few h = few-devices root set few ∙ ap (λ s. plan_of_devices (target_of s) set (tree_devices s)) (sym is) ∙ h
 
-pub surveyed-all : {D : Type 0} (root survey : NodeData) (set : DriverSetData) (items : D → List PlannedDevice) (r : Result D PlanError) → survey ≡ root → length (device_ways root) ≤ MAX_DEVICES
+pub surveyed-all : {D : Type 0} (root survey : NodeData) (set : DriverSetData) (items : D → List PlannedDevice) (r : Result D PlanError) → survey ≡ root → length (device_ways root) ≤ most_devices
     → MatchResult r (λ ds. plan_of_devices (target_of survey) set (tree_devices survey) ≡ Ok (items ds)) (λ e. (e ≡ NoMemory) ⊎ (plan_of_devices (target_of survey) set (tree_devices survey) ≡ Err e))
     → MatchResult r (λ ds. plan_of root set ≡ Ok (items ds)) (λ e. (e ≡ NoMemory) ⊎ (plan_of root set ≡ Err e))
 surveyed-all root survey set items (Ok ds) is few h = surveyed root survey set (Ok (items ds)) is few h

@@ -13,7 +13,7 @@ use Rattle.dt_tree.specs.Private.PhandleWalk.{unreserved}
 use Rattle.dt_tree.specs.TreeData.{TreeData, IsTree}
 use Rattle.bus_plan.specs.declared.error.PlanError.{PlanError}
 use Rattle.bus_plan.specs.declared.error.PlanError.TheVariants.{NoMemory, TooManyDevices}
-use Rattle.bus_plan.specs.declared.limits.TheConstants.{MAX_DEVICES}
+use Rattle.bus_plan.specs.Limits.{most_devices}
 use Rattle.bus_drivers.specs.Nodes.{is_compatible, is_okay, TreeDevice, Target, device_ways, tree_devices, target_of}
 use Rattle.bus_drivers.specs.Private.Entries.{Entry, entry, entries_among, device_count, device_here, own_properties, is_device_entry, device_of_entry, target_of_entry, devices_met, has_phandle, target_met}
 use Rattle.bus_drivers.specs.Private.Survey.{IsSurvey}
@@ -134,11 +134,11 @@ tree-count : (t : TreeData) → IsTree t → length (devices_in_tree t.root) ≡
 tree-count t is = length-devices [] (is_okay t.root.properties) (unreserved t.root.children) ∙ sym (device_count-ways t is)
 
 -- the tree has too many devices, where that stops the walk
-tree-refuses : (t : TreeData) (e : PlanError) → IsTree t → Refuses (devices_in_tree t.root) e → (e ≡ NoMemory) ⊎ ((e ≡ TooManyDevices) × (MAX_DEVICES < length (device_ways t.root)))
+tree-refuses : (t : TreeData) (e : PlanError) → IsTree t → Refuses (devices_in_tree t.root) e → (e ≡ NoMemory) ⊎ ((e ≡ TooManyDevices) × (most_devices < length (device_ways t.root)))
 tree-refuses t e is r = elim r [ inl no_memory ↦ inl no_memory | inr many ↦ inr (many.0, omega (arith, many.1, tree-count t is)) ]
 
 pub tree-refused : {S : Type 0} (r : Result S PlanError) (P : S → Type 0) (t : TreeData) (root : NodeData) (e : PlanError) → IsErrAnd r (λ d. d ≡ e) → IsTree t → root ≡ t.root → Refuses (devices_in_tree root) e
-    → MatchResult r P (λ d. (d ≡ NoMemory) ⊎ ((d ≡ TooManyDevices) × (MAX_DEVICES < length (device_ways t.root))))
+    → MatchResult r P (λ d. (d ≡ NoMemory) ⊎ ((d ≡ TooManyDevices) × (most_devices < length (device_ways t.root))))
 tree-refused (Ok x) P t root e same is at refuses = absurd same
 tree-refused (Err d) P t root e same is at refuses =
     rw same (tree-refuses t e is (subst (λ (b : NodeData). Refuses (devices_in_tree b) e) at refuses))
@@ -151,5 +151,5 @@ tree-kept t root devices target is at all_devices all_targets = record {
   all_targets = λ phandle. all_targets phandle ∙ ap (λ (b : NodeData). target_in_tree b phandle) at ∙ tree-target t is phandle ∙ ap (λ (b : NodeData). target_of b phandle) (sym at);
 }
 
-pub tree-few : (t : TreeData) (root : NodeData) (devices : List TreeDevice) → IsTree t → root ≡ t.root → devices ≡ devices_in_tree root → length devices ≤ MAX_DEVICES → length (device_ways t.root) ≤ MAX_DEVICES
+pub tree-few : (t : TreeData) (root : NodeData) (devices : List TreeDevice) → IsTree t → root ≡ t.root → devices ≡ devices_in_tree root → length devices ≤ most_devices → length (device_ways t.root) ≤ most_devices
 tree-few t root devices is at all few = omega (arith, few, ap length all, ap (λ (b : NodeData). length (devices_in_tree b)) at, tree-count t is)

@@ -9,10 +9,10 @@ use Rattle.dt_tree.specs.PathMap.{value_of}
 use Rattle.dt_tree.specs.Phandle.{or_else}
 use Rattle.bus_plan.specs.declared.error.PlanError.{PlanError}
 use Rattle.bus_plan.specs.declared.error.PlanError.TheVariants.{UnknownPath, TooManyDevices}
-use Rattle.bus_plan.specs.declared.limits.TheConstants.{MAX_DEVICES}
 use Rattle.bus_plan.specs.declared.verdict.Verdict.{Verdict}
 use Rattle.bus_plan.specs.declared.verdict.Verdict.TheVariants.{Binds, Fails}
-use Rattle.bus_plan.specs.Plan.{PlannedDevice}
+use Rattle.bus_plan.specs.Limits.{most_devices}
+use Rattle.bus_plan.specs.Plan.{PlannedDevice, is_compatible}
 use Rattle.bus_plan.specs.PlanPaths.{is_among}
 use Rattle.bus_drivers.specs.Driver.{DriverData, FailData, DriverSetData}
 use Rattle.bus_drivers.specs.Nodes.{TreeDevice, Target, device_ways, tree_devices, target_of}
@@ -61,6 +61,12 @@ fail_paths fails = map (λ f. f.path) fails
 abbrev pub unknown_fail : List TreeDevice → List FailData → Option FailData
 unknown_fail devices fails = find (λ f. not (is_among f.path (map (λ d. d.path) devices))) fails
 
+-- ---- strings
+-- those by which a late driver may match a device: it is available and has no driver, and a driver may list them
+abbrev pub late_strings : Option (List ℕ) → TreeDevice → List (List ℕ)
+late_strings None d = if d.available then filter is_compatible (compatible_strings d) else []
+late_strings (Some driver) d = []
+
 -- ---- suppliers
 -- each device once, where it is first mentioned
 abbrev pub first_mentions : List ℕ → List ℕ
@@ -80,6 +86,7 @@ planned_device set d suppliers =
       driver = driver;
       verdict = verdict_for driver (is_among d.path (fail_paths set.fails));
       suppliers = suppliers;
+      compatibles = late_strings driver d;
     }
 
 -- these devices planned, the first of which has this place, or the first fault of their properties
@@ -98,5 +105,5 @@ plan_of_devices target set devices =
 -- the plan of a tree, by its root, or the first refusal: too many devices before all else
 abbrev pub plan_of : NodeData → DriverSetData → Result (List PlannedDevice) PlanError
 plan_of root set =
-    if nat_le (length (device_ways root)) MAX_DEVICES then plan_of_devices (target_of root) set (tree_devices root)
+    if nat_le (length (device_ways root)) most_devices then plan_of_devices (target_of root) set (tree_devices root)
     else Err TooManyDevices

@@ -8,7 +8,9 @@ ghost use Rattle.bus_drivers.specs.Private.Matching.{IsMatcher, driver_found, fo
 use crate::driver::Driver;
 use crate::driver_set::DriverSet;
 use crate::fail_line::FailLine;
+use crate::late_strings::late_strings;
 use crate::path_sets::{add_devices, add_fails};
+use crate::strings::next_string;
 use crate::tree_device::TreeDevice;
 use bus_plan::{Device, PathIndex, PlanError, Planned, Verdict};
 use dt_tree::{Name, Path};
@@ -35,24 +37,6 @@ impl<'d> Model for Matcher<'d> {
     ghost view = { λ matcher. matcher.set.now };
 
     ghost invariant = { λ matcher. IsMatcher matcher.set.now matcher.first.entries matcher.fails };
-}
-
-fn zero_place(bytes: &[u8]) -> Option<usize>
-    ensures { result ≡ position is_zero bytes.now }
-{
-    bytes.iter().position(|byte| *byte == 0)
-}
-
-// The first string and the bytes behind its zero byte.
-fn next_string(bytes: &[u8]) -> Option<(&[u8], &[u8])>
-    ensures string { MatchOption result (strings bytes.now ≡ [])
-        (λ next. strings bytes.now ≡ next.0.now ∷ strings next.1.now) }
-    ensures fewer { IfSome result (λ next. length next.1.now < length bytes.now) }
-{
-    let Some(end) = zero_place(bytes) else {
-        return None;
-    };
-    Some((&bytes[..end], &bytes[end + 1..]))
 }
 
 type Found<'d> = IndexMap<&'d [u8], &'d Name, RandomState>;
@@ -211,7 +195,7 @@ impl<'d> Matcher<'d> {
         Ok((path, driver))
     }
 
-    /// A device with its driver and its verdict.
+    /// A device with its driver, its verdict and the strings by which a late driver may match it.
     pub fn planned(
         &self,
         alloc: Global,
@@ -222,7 +206,15 @@ impl<'d> Matcher<'d> {
     {
         let (path, driver) = self.matched(alloc, device)?;
         let verdict = verdict_of(&driver, self.fails.contains(path.as_bytes()));
-        Ok(Planned::new(path, device.available(), driver, verdict, suppliers))
+        let compatibles = late_strings(alloc, &driver, device)?;
+        Ok(Planned::new(
+            path,
+            device.available(),
+            driver,
+            verdict,
+            suppliers,
+            compatibles,
+        ))
     }
 
     /// Refused with the first `fail` line whose path is no device's.

@@ -1,5 +1,5 @@
 //! Paths that are looked up many times.
-ghost use Rattle.std.specs.Prelude.{◌≡◌, ◌∷◌, [], ℕ, List, OnOk};
+ghost use Rattle.std.specs.Prelude.{◌≡◌, [], ℕ, List, OnOk};
 ghost use Rattle.bus_plan.specs.PlanPaths.{is_among};
 ghost use Rattle.bus_drivers.specs.Private.Matching.{device_paths};
 ghost use Rattle.bus_drivers.specs.TreePlan.{fail_paths};
@@ -9,22 +9,13 @@ use crate::tree_device::TreeDevice;
 use bus_plan::PathIndex;
 use std::alloc::{AllocError, Global};
 
-fn add_path(alloc: Global, index: &mut PathIndex, path: &[u8]) -> Result<(), AllocError>
-    ensures { OnOk result ((q : List ℕ) → is_among q index.new ≡ is_among q (path.now ∷ index.old)) }
-{
-    if index.contains(path) {
-        return Ok(());
-    }
-    index.push(alloc, path)
-}
-
 /// Adds the paths of the `fail` lines.
 pub fn add_fails(alloc: Global, index: &mut PathIndex, fails: &[FailLine]) -> Result<(), AllocError>
     requires { index.old ≡ [] }
     ensures { OnOk result ((q : List ℕ) → is_among q index.new ≡ is_among q (fail_paths fails.now)) }
 {
     for fail in fails {
-        add_path(alloc, index, fail.path().as_bytes())?;
+        index.add(alloc, fail.path().as_bytes())?;
     }
     Ok(())
 }
@@ -39,7 +30,7 @@ pub fn add_devices(
     ensures { OnOk result ((q : List ℕ) → is_among q index.new ≡ is_among q (device_paths devices.now)) }
 {
     for device in devices {
-        add_path(alloc, index, device.path().as_bytes())?;
+        index.add(alloc, device.path().as_bytes())?;
     }
     Ok(())
 }

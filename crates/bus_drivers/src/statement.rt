@@ -6,7 +6,7 @@ ghost use Rattle.bus_drivers.specs.DriverFile.{driver_of, fail_of, statement_of,
 
 use crate::driver::Driver;
 use crate::fail_line::FailLine;
-use bus_plan::{Fields, PlanError};
+use bus_plan::{Fields, PlanError, copy_fields, is_driver_name};
 use dt_tree::{Bytes, Name, Path, is_name, is_path};
 use std::alloc::{AllocError, Global};
 
@@ -17,31 +17,6 @@ pub enum Statement {
     Matches(Driver),
     /// `fail PATH`
     Fails(FailLine),
-}
-
-fn is_driver_name(bytes: &[u8]) -> bool
-    ensures { result ≡ is_driver_name bytes.now }
-{
-    is_name(bytes) && bytes != b"-".as_slice()
-}
-
-fn add_copies(alloc: Global, copies: &mut Vec<Bytes>, strings: Fields<'_>) -> Result<(), AllocError>
-    ensures { OnOk result (copies.new.items ≡ copies.old.items ++ strings.entry) }
-{
-    for string in strings {
-        copies.push(Bytes::from_vec(Vec::from_slice(alloc, string)?))?;
-    }
-    Ok(())
-}
-
-// The strings that are left of a line, each copied.
-fn copies_of(alloc: Global, strings: Fields<'_>) -> Result<Vec<Bytes>, AllocError>
-    ensures { IfOk result (λ copies. copies.items ≡ strings.entry) }
-{
-    let mut copies = Vec::new(alloc);
-    add_copies(alloc, &mut copies, strings)?;
-    copies.shrink_to_fit();
-    Ok(copies)
 }
 
 fn driver_of(
@@ -55,7 +30,7 @@ fn driver_of(
     if !is_driver_name(name) {
         return Ok(None);
     }
-    let compatibles = copies_of(alloc, compatibles)?;
+    let compatibles = copy_fields(alloc, compatibles)?;
     if compatibles.is_empty() {
         return Ok(None);
     }

@@ -1,6 +1,6 @@
 ghost use Rattle.std.specs.Prelude.{◌≡◌, ◌<◌, ◌≤◌, ◌⊎◌, MatchResult, length};
 ghost use Rattle.bus_plan.specs.declared.error.PlanError.TheVariants.{NoMemory, TooManyDevices};
-ghost use Rattle.bus_plan.specs.declared.limits.TheConstants.{MAX_DEVICES};
+ghost use Rattle.bus_plan.specs.Limits.{most_devices};
 ghost use Rattle.bus_drivers.specs.Nodes.{device_ways};
 
 use crate::target::Target;
@@ -45,8 +45,8 @@ impl<'t> Survey<'t> {
     /// Refused where the tree has more devices than a plan may have.
     pub fn of(alloc: Global, hasher: RandomState, tree: &'t Tree) -> Result<Self, PlanError>
         ensures { MatchResult result
-            (λ survey. (survey ≡ tree.now.root) × (length (device_ways tree.now.root) ≤ MAX_DEVICES))
-            (λ e. (e ≡ NoMemory) ⊎ ((e ≡ TooManyDevices) × (MAX_DEVICES < length (device_ways tree.now.root)))) }
+            (λ survey. (survey ≡ tree.now.root) × (length (device_ways tree.now.root) ≤ most_devices))
+            (λ e. (e ≡ NoMemory) ⊎ ((e ≡ TooManyDevices) × (most_devices < length (device_ways tree.now.root)))) }
     {
         tree.check();
         let root = tree.root();

@@ -1,7 +1,7 @@
 //! One walk over a tree, from the root down.
 ghost use Rattle.std.specs.Prelude.{◌≡◌, ◌≤◌, ◌⊎◌, ◌&&◌, ◌∷◌, ◌++◌, [], ℕ, nat_eq, nat_lt, length, IfOk, IfErr, OnOk, MatchResult};
 ghost use Rattle.bus_plan.specs.declared.error.PlanError.TheVariants.{NoMemory};
-ghost use Rattle.bus_plan.specs.declared.limits.TheConstants.{MAX_DEVICES};
+ghost use Rattle.bus_plan.specs.Limits.{most_devices};
 ghost use Rattle.dt_tree.specs.Phandle.{or_else};
 ghost use Rattle.indexmap.specs.IndexMap.{get};
 ghost use Rattle.bus_drivers.specs.Nodes.{is_compatible, is_okay};
@@ -61,7 +61,7 @@ fn path_of(alloc: Global, way: &[u8]) -> Result<Path, PlanError>
 }
 
 fn has_room(count: usize) -> bool
-    ensures { result ≡ nat_lt count MAX_DEVICES }
+    ensures { result ≡ nat_lt count most_devices }
 {
     count < MAX_DEVICES
 }
@@ -74,10 +74,10 @@ fn keep_device<'t>(
     available: bool,
     node: &'t Node,
 ) -> Result<usize, PlanError>
-    requires { length devices.old.items ≤ MAX_DEVICES }
+    requires { length devices.old.items ≤ most_devices }
     ensures place { IfOk result (λ place. place ≡ length devices.old.items) }
     ensures devices { OnOk result (devices.new.items ≡ devices.old.items ++ record { path = way.now; available = available; properties = node.now.properties } ∷ []) }
-    ensures few { OnOk result (length devices.new.items ≤ MAX_DEVICES) }
+    ensures few { OnOk result (length devices.new.items ≤ most_devices) }
     ensures err { IfErr result (Refuses (devices.old.items ++ record { path = way.now; available = available; properties = node.now.properties } ∷ [])) }
 {
     if !has_room(devices.len()) {
@@ -127,10 +127,10 @@ impl<'t> Walk<'t> {
         available: bool,
         above: &Above,
     ) -> Result<Option<usize>, PlanError>
-        requires { length self.old.devices.items ≤ MAX_DEVICES }
+        requires { length self.old.devices.items ≤ most_devices }
         ensures device { IfOk result (λ device. device ≡ device_here node.now.properties (length self.old.devices.items) above.now.device) }
         ensures devices { OnOk result (self.new.devices.items ≡ self.old.devices.items ++ own_device self.old.way.items available node.now.properties) }
-        ensures few { OnOk result (length self.new.devices.items ≤ MAX_DEVICES) }
+        ensures few { OnOk result (length self.new.devices.items ≤ most_devices) }
         ensures way { OnOk result (self.new.way ≡ self.old.way) }
         ensures targets { OnOk result (self.new.targets ≡ self.old.targets) }
         ensures err { IfErr result (Refuses (self.old.devices.items ++ own_device self.old.way.items available node.now.properties)) }
@@ -150,11 +150,11 @@ impl<'t> Walk<'t> {
 
     // Keeps the node at the end of the way, and tells what is above the nodes below it.
     fn meet(&mut self, alloc: Global, node: &'t Node, above: &Above) -> Result<Above, PlanError>
-        requires { length self.old.devices.items ≤ MAX_DEVICES }
+        requires { length self.old.devices.items ≤ most_devices }
         ensures available { IfOk result (λ here. here.available ≡ (above.now.available && is_okay node.now.properties)) }
         ensures device { IfOk result (λ here. here.device ≡ device_here node.now.properties (length self.old.devices.items) above.now.device) }
         ensures devices { OnOk result (self.new.devices.items ≡ self.old.devices.items ++ own_device self.old.way.items (above.now.available && is_okay node.now.properties) node.now.properties) }
-        ensures few { OnOk result (length self.new.devices.items ≤ MAX_DEVICES) }
+        ensures few { OnOk result (length self.new.devices.items ≤ most_devices) }
         ensures way { OnOk result (self.new.way ≡ self.old.way) }
         ensures targets { OnOk result ((phandle : ℕ) → get nat_eq self.new.targets phandle ≡ or_else (get nat_eq self.old.targets phandle) (own_target node.now.properties (device_here node.now.properties (length self.old.devices.items) above.now.device) phandle)) }
         ensures err { IfErr result (Refuses (self.old.devices.items ++ own_device self.old.way.items (above.now.available && is_okay node.now.properties) node.now.properties)) }
@@ -168,9 +168,9 @@ impl<'t> Walk<'t> {
 
     // Keeps a node and all below it. The way is longer meanwhile.
     fn visit(&mut self, alloc: Global, node: &'t Node, above: &Above) -> Result<(), PlanError>
-        requires { length self.old.devices.items ≤ MAX_DEVICES }
+        requires { length self.old.devices.items ≤ most_devices }
         ensures devices { OnOk result (self.new.devices.items ≡ self.old.devices.items ++ devices_at self.old.way.items above.now.available node.now) }
-        ensures few { OnOk result (length self.new.devices.items ≤ MAX_DEVICES) }
+        ensures few { OnOk result (length self.new.devices.items ≤ most_devices) }
         ensures way { OnOk result (self.new.way.items ≡ self.old.way.items) }
         ensures targets { OnOk result ((phandle : ℕ) → get nat_eq self.new.targets phandle ≡ or_else (get nat_eq self.old.targets phandle) (target_at above.now.device (length self.old.devices.items) node.now phandle)) }
         ensures err { IfErr result (Refuses (self.old.devices.items ++ devices_at self.old.way.items above.now.available node.now)) }
@@ -191,7 +191,7 @@ impl<'t> Walk<'t> {
         requires devices { self.old.devices.items ≡ [] }
         requires targets { (phandle : ℕ) → get nat_eq self.old.targets phandle ≡ None }
         ensures devices { OnOk result (self.new.devices.items ≡ devices_in_tree root.now) }
-        ensures few { OnOk result (length self.new.devices.items ≤ MAX_DEVICES) }
+        ensures few { OnOk result (length self.new.devices.items ≤ most_devices) }
         ensures targets { OnOk result ((phandle : ℕ) → get nat_eq self.new.targets phandle ≡ target_in_tree root.now phandle) }
         ensures err { IfErr result (Refuses (devices_in_tree root.now)) }
     {
@@ -212,7 +212,7 @@ impl<'t> Walk<'t> {
     /// The walk over the tree below this root, but for its reserved nodes.
     pub fn over(alloc: Global, hasher: RandomState, root: &'t Node) -> Result<Self, PlanError>
         ensures devices { IfOk result (λ walk. walk.devices.items ≡ devices_in_tree root.now) }
-        ensures few { IfOk result (λ walk. length walk.devices.items ≤ MAX_DEVICES) }
+        ensures few { IfOk result (λ walk. length walk.devices.items ≤ most_devices) }
         ensures targets { IfOk result (λ walk. (phandle : ℕ) → get nat_eq walk.targets phandle ≡ target_in_tree root.now phandle) }
         ensures err { IfErr result (Refuses (devices_in_tree root.now)) }
     {

@@ -2,6 +2,8 @@ pub mod LineLemmas
 pub mod ListLemmas
 pub mod BoolLemmas
 pub mod PathLemmas
+pub mod PathSets
+pub mod Lookups
 pub mod ListingLemmas
 pub mod PlanLemmas
 pub mod DistinctLemmas
@@ -11,6 +13,9 @@ pub mod ReadingLemmas
 pub mod DeviceListsLemmas
 pub mod ConsumersLemmas
 pub mod FieldsLemmas
+pub mod StringsLemmas
+pub mod LateFaults
+pub mod LateDriverLemmas
 pub mod TextBytes
 pub mod ReadBack
 pub mod TextLines

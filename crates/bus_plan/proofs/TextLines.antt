@@ -66,7 +66,16 @@ lines-first l rest h =
     ∙ lines-cons l (slice_split is_feed rest) (parts-some is_feed rest)
     ∙ ap (λ x. x ∷ lines rest) (strip-none l h)
 
--- a line for each element
+-- a line for each element, and what stands behind them
+pub lines-more : {A : Type 0} (text : A → List ℕ) (xs : List A) (rest : List ℕ) → All (λ x. is_line (text x) ≡ true) xs
+    → lines (flat_map (λ x. text x ++ 10 ∷ []) xs ++ rest) ≡ map text xs ++ lines rest
+lines-more text [] rest h = refl
+lines-more text (x ∷ xs) rest h =
+    let more = flat_map (λ x. text x ++ 10 ∷ []) xs in
+    ap lines (append_assoc (text x ++ 10 ∷ []) more rest ∙ append_assoc (text x) (10 ∷ []) (more ++ rest))
+    ∙ lines-first (text x) (more ++ rest) (h 0 x (omega arith))
+    ∙ ap (λ ls. text x ∷ ls) (lines-more text xs rest (λ k d within. h (suc k) d (omega arith)))
+
 pub lines-joined : {A : Type 0} (text : A → List ℕ) (xs : List A) → All (λ x. is_line (text x) ≡ true) xs → lines (flat_map (λ x. text x ++ 10 ∷ []) xs) ≡ map text xs
 lines-joined text [] h = refl
 lines-joined text (x ∷ xs) h =

@@ -1,8 +1,9 @@
--- A line of a plan's text means its device.
-use Rattle.std.proofs.Common.{◌≡◌, ◌≢◌, ◌∙◌, ap, sym, refl, ℕ, suc, ◌<◌, ◌≤◌, Bool, true, false, not, ◌==◌, List, [], ◌∷◌, length, get_or, map, arith}
-use Rattle.std.specs.Prelude.{All, AllPairs, IsTrue, IfSome, Option, Some, None, Ok, Err, if◌then◌else◌, nat_lt, slice_index}
+-- A line of a plan's text means its device, or the strings of one.
+use Rattle.std.proofs.Common.{◌≡◌, ◌≢◌, ◌∙◌, ap, sym, refl, ℕ, zero, suc, ◌<◌, ◌≤◌, Bool, true, false, not, ◌==◌, List, [], ◌∷◌, length, get_or, map, arith}
+use Rattle.std.specs.Prelude.{All, AllPairs, IsTrue, IfSome, Option, Some, None, Ok, Err, codes, if◌then◌else◌, nat_lt, slice_index}
 use Rattle.std.specs.Option.{option_map}
 use Rattle.std.specs.List.{list_all}
+use Rattle.std.specs.Str.{bytes_eq}
 use Rattle.std.proofs.lemmas.Bool.{ltb-true, ltb-false}
 use Rattle.std.proofs.lemmas.List.{get_or-map, length-map}
 use Rattle.std.proofs.lemmas.List.Elements.{All-cons, All-map}
@@ -12,11 +13,13 @@ use Rattle.bus_plan.specs.declared.matching.Matching.{Matching}
 use Rattle.bus_plan.specs.declared.verdict.Verdict.{Verdict}
 use Rattle.bus_plan.specs.declared.verdict.Verdict.TheVariants.{Binds, Fails}
 use Rattle.bus_plan.specs.Lines.{is_line, fields, is_skipped}
-use Rattle.bus_plan.specs.Plan.{PlannedDevice, nothing, planned, path_of, suppliers_of, paths, is_device_path, is_driver_name, IsLawful}
+use Rattle.bus_plan.specs.Plan.{PlannedDevice, nothing, planned, path_of, suppliers_of, paths, is_device_path, is_driver_name, is_string_byte, is_compatible, IsLawful}
 use Rattle.bus_plan.specs.PlanPaths.{is_among, are_distinct}
-use Rattle.bus_plan.specs.PlanFile.{DeviceLine, matching_of, device_of, read_device, meaning}
-use Rattle.bus_plan.specs.PlanText.{driver_field, verdict_field, fields_behind, device_text}
-use Rattle.bus_plan.proofs.BoolLemmas.{and-left, and_both}
+use Rattle.bus_plan.specs.declared.plan_line.PlanLine.TheVariants.{Device, Strings}
+use Rattle.bus_plan.specs.PlanLines.{DeviceLine, StringsLine}
+use Rattle.bus_plan.specs.PlanFile.{matching_of, device_of, strings_of, said_by, stated, meaning}
+use Rattle.bus_plan.specs.PlanText.{driver_field, verdict_field, fields_behind, device_text, has_strings, strings_text}
+use Rattle.bus_plan.proofs.BoolLemmas.{and-left, and-right, and_both}
 use Rattle.bus_plan.proofs.DistinctLemmas.{absent, pairs-distinct}
 use Rattle.bus_plan.proofs.TextBytes.{IsWord, word-name, word-path, first-path}
 use Rattle.bus_plan.proofs.TextLines.{fields-spaced, line-spaced}
@@ -55,6 +58,31 @@ word-verdict : (driver : Option (List ℕ)) (verdict : Verdict) → IsWord (verd
 word-verdict (Some name) Binds = record { some = omega arith; graphic = refl }
 word-verdict (Some name) Fails = record { some = omega arith; graphic = refl }
 word-verdict None verdict = record { some = omega arith; graphic = refl }
+
+-- ---- the first field
+path-other : (path : List ℕ) → is_path path ≡ true → bytes_eq path (codes "compatible") ≡ false
+path-other [] h = absurd (cc)
+path-other (b ∷ rest) h = ap (λ x. bytes_eq (x ∷ rest) (codes "compatible")) (first-path b rest h)
+
+-- ---- strings
+abbrev pub list_of : ℕ → PlannedDevice → StringsLine
+list_of n d = record { number = n; path = d.path; strings = d.compatibles }
+
+some-of : (f : List ℕ) → not (length f == 0) ≡ true → 0 < length f
+some-of [] h = absurd (cc)
+some-of (b ∷ f) h = omega arith
+
+words-compatible : (strings : List (List ℕ)) → list_all is_compatible strings ≡ true → All IsWord strings
+words-compatible [] h k d within = absurd (omega arith)
+words-compatible (x ∷ xs) h zero d within =
+    let own : is_compatible x ≡ true = and-left _ _ h in
+    record { some = some-of x (and-left _ _ own); graphic = and-right (not (length x == 0)) (list_all is_string_byte x) own }
+words-compatible (x ∷ xs) h (suc k) d within = words-compatible xs (and-right (is_compatible x) _ h) k d (omega arith)
+
+strings-said : (n : ℕ) (path : List ℕ) (strings : List (List ℕ)) → is_device_path path ≡ true → not (length strings == 0) ≡ true
+    → strings_of n (path ∷ strings) ≡ Some (record { number = n; path = path; strings = strings })
+strings-said n path [] lawful some = absurd (cc)
+strings-said n path (x ∷ xs) lawful some = ap (λ t. if t then Some (record { number = n; path = path; strings = x ∷ xs }) else None) lawful
 
 -- ---- a device's line
 skipped-path : (path : List ℕ) → is_path path ≡ true → (slice_index path 0 == 35) ≡ false
@@ -137,17 +165,42 @@ module _ (plan : List PlannedDevice) (lawful : IsLawful plan) where
       (and_both _ _ (path-lawful k within) (and_both _ _ (paths-lawful d.suppliers (lawful.suppliers k)) (line-distinct k within)))
       ∙ ap (option_map make) (fields-mean d.available d.driver d.verdict own.driver own.unavailable own.unmatched)
 
-  pub line-means : (n k : ℕ) → k < length plan → meaning n (device_text plan (planned plan k)) ≡ Ok (Some (line_of plan n (planned plan k)))
+  pub line-means : (n k : ℕ) → k < length plan → meaning n (device_text plan (planned plan k)) ≡ Ok (Some (Device (line_of plan n (planned plan k))))
   line-means n k within =
       let text = device_text plan (planned plan k) in
-      let fs = path_of plan k ∷ fields_behind plan (planned plan k) in
-      let cut : fields text ≡ fs = fields-spaced (path_of plan k) (fields_behind plan (planned plan k)) (words k within) in
-      let line : is_line text ≡ true = line-spaced (path_of plan k) (fields_behind plan (planned plan k)) (words k within) in
-      let kept : is_skipped fs ≡ false = skipped-path (path_of plan k) (and-left _ _ (path-lawful k within)) in
-      ap (λ t. if t then (if is_skipped (fields text) then Ok None else read_device n (device_of n (fields text))) else Err (BadLine n)) line
-      ∙ ap (λ f. if is_skipped f then Ok None else read_device n (device_of n f)) cut
-      ∙ ap (λ t. if t then Ok None else read_device n (device_of n fs)) kept
-      ∙ ap (read_device n) (device-means n k within)
+      let more = fields_behind plan (planned plan k) in
+      let fs = path_of plan k ∷ more in
+      let cut : fields text ≡ fs = fields-spaced (path_of plan k) more (words k within) in
+      let line : is_line text ≡ true = line-spaced (path_of plan k) more (words k within) in
+      let path : is_path (path_of plan k) ≡ true = and-left _ _ (path-lawful k within) in
+      let kept : is_skipped fs ≡ false = skipped-path (path_of plan k) path in
+      ap (λ t. if t then (if is_skipped (fields text) then Ok None else stated n (said_by n (fields text))) else Err (BadLine n)) line
+      ∙ ap (λ f. if is_skipped f then Ok None else stated n (said_by n f)) cut
+      ∙ ap (λ t. if t then Ok None else stated n (said_by n fs)) kept
+      ∙ ap (λ t. stated n (if t then option_map Strings (strings_of n more) else option_map Device (device_of n fs))) (path-other (path_of plan k) path)
+      ∙ ap (λ d. stated n (option_map Device d)) (device-means n k within)
 
   pub text-lines : (k : ℕ) → k < length plan → is_line (device_text plan (planned plan k)) ≡ true
   text-lines k within = line-spaced (path_of plan k) (fields_behind plan (planned plan k)) (words k within)
+
+  words-strings : (k : ℕ) → k < length plan → All IsWord (codes "compatible" ∷ path_of plan k ∷ (planned plan k).compatibles)
+  words-strings k within =
+      let d = planned plan k in
+      let own = lawful.devices k nothing within in
+      All-cons IsWord (codes "compatible") (d.path ∷ d.compatibles) (record { some = omega arith; graphic = refl })
+      (All-cons IsWord d.path d.compatibles (word-path d.path (and-left _ _ own.path)) (words-compatible d.compatibles own.compatibles))
+
+  pub strings-mean : (n k : ℕ) → k < length plan → has_strings (planned plan k) ≡ true → meaning n (strings_text (planned plan k)) ≡ Ok (Some (Strings (list_of n (planned plan k))))
+  strings-mean n k within some =
+      let d = planned plan k in
+      let text = strings_text d in
+      let more = d.path ∷ d.compatibles in
+      let fs = codes "compatible" ∷ more in
+      let cut : fields text ≡ fs = fields-spaced (codes "compatible") more (words-strings k within) in
+      let line : is_line text ≡ true = line-spaced (codes "compatible") more (words-strings k within) in
+      ap (λ t. if t then (if is_skipped (fields text) then Ok None else stated n (said_by n (fields text))) else Err (BadLine n)) line
+      ∙ ap (λ f. if is_skipped f then Ok None else stated n (said_by n f)) cut
+      ∙ ap (λ s. stated n (option_map Strings s)) (strings-said n d.path d.compatibles (path-lawful k within) some)
+
+  pub strings-lines : (k : ℕ) → k < length plan → is_line (strings_text (planned plan k)) ≡ true
+  strings-lines k within = line-spaced (codes "compatible") ((planned plan k).path ∷ (planned plan k).compatibles) (words-strings k within)

@@ -1,8 +1,11 @@
 pub mod Lines
+pub mod Limits
 pub mod Plan
 pub mod PlanError
 pub mod Consumers
+pub mod LateDriver
 pub mod PlanPaths
+pub mod PlanLines
 pub mod PlanFile
 pub mod PlanText
 pub mod Laws

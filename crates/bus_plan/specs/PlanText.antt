@@ -1,5 +1,5 @@
--- The text of a plan: a line a device, with one space between fields.
-use Rattle.std.specs.Prelude.{ℕ, Bool, true, false, codes, List, [], ◌∷◌, ◌++◌, map, Option, Some, None}
+-- The text of a plan: a line a device, and then a line for each device that has strings, with one space between fields.
+use Rattle.std.specs.Prelude.{ℕ, Bool, true, false, not, ◌==◌, codes, List, [], ◌∷◌, ◌++◌, map, filter, length, Option, Some, None}
 use Rattle.std.specs.List.{flat_map}
 use Rattle.bus_plan.specs.declared.verdict.Verdict.{Verdict}
 use Rattle.bus_plan.specs.declared.verdict.Verdict.TheVariants.{Binds, Fails}
@@ -36,5 +36,16 @@ device_text plan d = d.path ++ spaced (fields_behind plan d)
 abbrev pub lines_text : List PlannedDevice → List PlannedDevice → List ℕ
 lines_text plan devices = flat_map (λ d. device_text plan d ++ 10 ∷ []) devices
 
+-- the strings by which a late driver may match a device
+abbrev pub has_strings : PlannedDevice → Bool
+has_strings d = not (length d.compatibles == 0)
+
+abbrev pub strings_text : PlannedDevice → List ℕ
+strings_text d = codes "compatible" ++ spaced (d.path ∷ d.compatibles)
+
+-- the lines of the strings of those devices that have some
+abbrev pub strings_lines : List PlannedDevice → List ℕ
+strings_lines devices = flat_map (λ d. strings_text d ++ 10 ∷ []) (filter has_strings devices)
+
 abbrev pub text_of : List PlannedDevice → List ℕ
-text_of plan = lines_text plan plan
+text_of plan = lines_text plan plan ++ strings_lines plan

@@ -2,4 +2,5 @@
 pub mod DeviceLists
 pub mod FieldsLeft
 pub mod Indexed
+pub mod Late
 pub mod Reading

@@ -1,4 +1,4 @@
-ghost use Rattle.std.specs.Prelude.{◌≡◌, ◌⊎◌, IfOk, IfErr, [], map, None, Some, true, false};
+ghost use Rattle.std.specs.Prelude.{◌≡◌, ◌⊎◌, ◌∷◌, IfOk, IfErr, [], map, None, Some, true, false};
 ghost use Rattle.std.specs.BTreeSet.{IsEmpty};
 ghost use Rattle.bus_plan.specs.Plan.{is_device_path};
 ghost use Rattle.bus_plan.specs.PlanPaths.{are_known, place_of};
@@ -10,7 +10,7 @@ use crate::fields::Fields;
 use crate::matching::Matching;
 use crate::paths::PathIndex;
 use crate::planned::Planned;
-use dt_tree::{Path, TreeError, is_path};
+use dt_tree::{Bytes, Path, TreeError, is_path};
 use std::alloc::{AllocError, Global};
 use std::collections::BTreeSet;
 use std::marker::Model;
@@ -26,7 +26,7 @@ pub struct DeviceLine<'a> {
 
 impl<'a> Model for DeviceLine<'a> {
     ghost use Rattle.std.specs.Prelude.{map};
-    ghost use Rattle.bus_plan.specs.PlanFile.{DeviceLine as Line};
+    ghost use Rattle.bus_plan.specs.PlanLines.{DeviceLine as Line};
 
     ghost Value = { Line };
 
@@ -38,7 +38,8 @@ impl<'a> Model for DeviceLine<'a> {
     } };
 }
 
-fn is_device_path(path: &[u8]) -> bool
+/// Whether it is the path of a device: any but `/`.
+pub fn is_device_path(path: &[u8]) -> bool
     ensures { result ≡ is_device_path path.now }
 {
     is_path(path) && path != b"/".as_slice()
@@ -106,6 +107,18 @@ fn supplier_paths<'a>(
     }
 }
 
+// Whether each of these paths is among those of an index.
+fn are_known(index: &PathIndex, paths: &[&[u8]]) -> bool
+    ensures { result ≡ are_known index.now (map (λ path. path.now) paths.now) }
+{
+    for path in paths {
+        if !index.contains(*path) {
+            return false;
+        }
+    }
+    true
+}
+
 // The places of the suppliers of the device of a line.
 fn places_of(
     alloc: Global,
@@ -145,15 +158,20 @@ impl<'a> DeviceLine<'a> {
         self.number
     }
 
-    ghost use Rattle.bus_plan.specs.PlanFile.{device_of, meaning, Answers, unknown_of, planned_of};
+    ghost use Rattle.bus_plan.specs.PlanFile.{device_of, unknown_of};
+    ghost use Rattle.bus_plan.specs.Private.Reading.{planned_with};
 
-    /// The device of a line with these fields.
-    fn of(alloc: Global, number: usize, mut fields: Fields<'a>) -> Result<Self, PlanError>
-        ensures ok { IfOk result (λ d. device_of number fields.entry ≡ Some d) }
+    /// The device of a line with this path and these fields behind it.
+    pub fn of(
+        alloc: Global,
+        number: usize,
+        path: &'a [u8],
+        mut fields: Fields<'a>,
+    ) -> Result<Self, PlanError>
+        ensures ok { IfOk result (λ d. device_of number (path.now ∷ fields.entry) ≡ Some d) }
         ensures err { IfErr result (λ e. (e ≡ PlanError.NoMemory)
-            ⊎ ((e ≡ PlanError.BadLine number) × (device_of number fields.entry ≡ None))) }
+            ⊎ ((e ≡ PlanError.BadLine number) × (device_of number (path.now ∷ fields.entry) ≡ None))) }
     {
-        let path = fields.next().ok_or(PlanError::BadLine(number))?;
         let driver = fields.next().ok_or(PlanError::BadLine(number))?;
         let word = fields.next().ok_or(PlanError::BadLine(number))?;
         let own = device_path(alloc, number, path)?;
@@ -167,19 +185,33 @@ impl<'a> DeviceLine<'a> {
         })
     }
 
-    /// What a line says: a device, or nothing where it is skipped.
-    pub fn read(alloc: Global, number: usize, line: &'a [u8]) -> Result<Option<Self>, PlanError>
-        ensures { Answers (meaning number line.now) result }
+    ghost use Rattle.bus_plan.specs.PlanFile.{is_unmatched};
+
+    /// Whether it is available and has no driver.
+    pub fn is_unmatched(&self) -> bool
+        ensures { result ≡ is_unmatched self.now }
     {
-        match Fields::read(number, line)? {
-            Some(fields) => Ok(Some(Self::of(alloc, number, fields)?)),
-            None => Ok(None),
-        }
+        self.matching.available && self.matching.driver.is_none()
     }
 
-    /// The device with its suppliers found.
-    pub fn plan(self, alloc: Global, index: &PathIndex) -> Result<Planned, PlanError>
-        ensures ok { IfOk result (λ d. (d ≡ planned_of index.now self.entry)
+    /// The fault of a device with a supplier that is no device.
+    pub fn unknown(&self, index: &PathIndex) -> Option<PlanError>
+        ensures { result ≡ unknown_of index.now self.now }
+    {
+        if are_known(index, self.suppliers.as_slice()) {
+            return None;
+        }
+        Some(PlanError::UnknownPath(self.number))
+    }
+
+    /// The device with its suppliers found, and with these strings.
+    pub fn plan(
+        self,
+        alloc: Global,
+        index: &PathIndex,
+        compatibles: Vec<Bytes>,
+    ) -> Result<Planned, PlanError>
+        ensures ok { IfOk result (λ d. (d ≡ planned_with index.now self.entry compatibles.items)
             × (unknown_of index.now self.entry ≡ None)) }
         ensures err { IfErr result (λ e. (e ≡ PlanError.NoMemory)
             ⊎ (unknown_of index.now self.entry ≡ Some e)) }
@@ -190,6 +222,13 @@ impl<'a> DeviceLine<'a> {
             driver,
             verdict,
         } = self.matching;
-        Ok(Planned::new(self.path, available, driver, verdict, suppliers))
+        Ok(Planned::new(
+            self.path,
+            available,
+            driver,
+            verdict,
+            suppliers,
+            compatibles,
+        ))
     }
 }

@@ -1,70 +1,109 @@
 ghost use Rattle.std.specs.Prelude.{◌≡◌, ◌<◌, ◌⊎◌, ◌++◌, ◌∷◌, [], length, None, Some, IfOk, IfErr, OnOk, OnErr, MatchResult, map};
 ghost use Rattle.std.specs.Vec.{vec_len, vec_capacity};
-ghost use Rattle.bus_plan.specs.PlanFile.{line_paths, refusal_of, unknowns_in, planned_of};
-ghost use Rattle.bus_plan.specs.Private.Reading.{IsFirst};
+ghost use Rattle.bus_plan.specs.PlanFile.{line_paths, strings_paths, refusal_of, repeat_of, strings_at, planned_of, unknown_of};
+ghost use Rattle.bus_plan.specs.Private.Reading.{first_unknown};
 
 use crate::device_line::DeviceLine;
 use crate::error::PlanError;
+use crate::late_faults::late_fault;
 use crate::limits::MAX_DEVICES;
 use crate::lines::lines_of;
 use crate::paths::PathIndex;
 use crate::plan::Plan;
+use crate::plan_line::PlanLine;
 use crate::planned::Planned;
-use std::alloc::Global;
+use crate::strings::copy_strings;
+use crate::strings_line::StringsLine;
+use dt_tree::Bytes;
+use std::alloc::{AllocError, Global};
 use std::hash::RandomState;
 use std::marker::Model;
 
-/// The devices that the lines of a plan file list.
+/// What the lines of a plan file list: devices, and the strings of those without a driver.
 #[derive(Drop)]
 pub struct Listing<'a> {
     devices: Vec<DeviceLine<'a>>,
     index: PathIndex,
+    lists: Vec<StringsLine<'a>>,
+    described: PathIndex,
 }
 
 impl<'a> Model for Listing<'a> {
-    ghost use Rattle.std.specs.Prelude.{◌≡◌, List};
-    ghost use Rattle.bus_plan.specs.PlanFile.{DeviceLine as Line, line_paths};
+    ghost use Rattle.std.specs.Prelude.{◌≡◌};
+    ghost use Rattle.bus_plan.specs.PlanFile.{line_paths, strings_paths};
+    ghost use Rattle.bus_plan.specs.Private.Reading.{Listed};
 
-    ghost Value = { List Line };
+    ghost Value = { Listed };
 
-    ghost view = { λ listing. listing.devices.items };
+    ghost view = { λ listing. record { devices = listing.devices.items; lists = listing.lists.items } };
 
-    ghost invariant = { λ listing. listing.index ≡ line_paths listing.devices.items };
+    ghost invariant = { λ listing. (listing.index ≡ line_paths listing.devices.items)
+        × (listing.described ≡ strings_paths listing.lists.items) };
 }
 
 impl<'a> Listing<'a> {
     ghost use Rattle.std.specs.Option.{option_to_list};
-    ghost use Rattle.bus_plan.specs.PlanFile.{meaning, device_on, fault_of, devices_before, faults_before, unknowns, plan_of};
-    ghost use Rattle.bus_plan.specs.Private.Reading.{IsFirst, IsFaultless};
+    ghost use Rattle.bus_plan.specs.PlanFile.{meaning, device_on, strings_on, fault_of, faults_before, plan_of};
+    ghost use Rattle.bus_plan.specs.Private.Reading.{IsFirst, IsFaultless, listed_before, late_fault};
     ghost use Rattle.bus_plan.specs.Lines.{lines};
 
     fn new(alloc: Global, hasher: RandomState) -> Self
-        ensures { result ≡ [] }
+        ensures { result ≡ record { devices = []; lists = [] } }
     {
         Self {
             devices: Vec::new(alloc),
             index: PathIndex::new(alloc, hasher),
+            lists: Vec::new(alloc),
+            described: PathIndex::new(alloc, hasher),
         }
     }
 
-    // One line more: its device is put last.
-    fn read_line(&mut self, alloc: Global, number: usize, line: &'a [u8]) -> Result<(), PlanError>
-        ensures ok { OnOk result ((fault_of self.old (meaning number line.now) ≡ None)
-            × (self.new ≡ self.old ++ option_to_list (device_on (meaning number line.now)))) }
-        ensures err { IfErr result (λ e. (e ≡ PlanError.NoMemory)
-            ⊎ (fault_of self.old (meaning number line.now) ≡ Some e)) }
+    fn add_device(&mut self, alloc: Global, device: DeviceLine<'a>) -> Result<(), PlanError>
+        ensures ok { OnOk result ((refusal_of self.old.devices device.entry ≡ None)
+            × (self.new.devices ≡ self.old.devices ++ device.entry ∷ []) × (self.new.lists ≡ self.old.lists)) }
+        ensures err { IfErr result (λ e. (e ≡ PlanError.NoMemory) ⊎ (refusal_of self.old.devices device.entry ≡ Some e)) }
     {
-        if let Some(device) = DeviceLine::read(alloc, number, line)? {
-            admit(alloc, &mut self.devices, &mut self.index, &device)?;
-            self.devices.push(device).unwrap();
+        admit(alloc, &mut self.devices, &mut self.index, &device)?;
+        self.devices.push(device).unwrap();
+        Ok(())
+    }
+
+    fn add_strings(&mut self, alloc: Global, list: StringsLine<'a>) -> Result<(), PlanError>
+        ensures ok { OnOk result ((repeat_of self.old.lists list.entry ≡ None)
+            × (self.new.devices ≡ self.old.devices) × (self.new.lists ≡ self.old.lists ++ list.entry ∷ [])) }
+        ensures err { IfErr result (λ e. (e ≡ PlanError.NoMemory) ⊎ (repeat_of self.old.lists list.entry ≡ Some e)) }
+    {
+        if self.described.contains(list.path()) {
+            return Err(PlanError::DuplicateDevice(list.number()));
+        }
+        self.lists.reserve(1)?;
+        self.described.push(alloc, list.path())?;
+        self.lists.push(list).unwrap();
+        Ok(())
+    }
+
+    // One line more: what it says is put last.
+    fn read_line(&mut self, alloc: Global, number: usize, line: &'a [u8]) -> Result<(), PlanError>
+        ensures fault { OnOk result (fault_of self.old.devices self.old.lists (meaning number line.now) ≡ None) }
+        ensures devices { OnOk result
+            (self.new.devices ≡ self.old.devices ++ option_to_list (device_on (meaning number line.now))) }
+        ensures lists { OnOk result
+            (self.new.lists ≡ self.old.lists ++ option_to_list (strings_on (meaning number line.now))) }
+        ensures err { IfErr result (λ e. (e ≡ PlanError.NoMemory)
+            ⊎ (fault_of self.old.devices self.old.lists (meaning number line.now) ≡ Some e)) }
+    {
+        match PlanLine::read(alloc, number, line)? {
+            None => {}
+            Some(PlanLine::Device(device)) => self.add_device(alloc, device)?,
+            Some(PlanLine::Strings(list)) => self.add_strings(alloc, list)?,
         }
         Ok(())
     }
 
     fn read_lines(&mut self, alloc: Global, text: &'a [u8]) -> Result<(), PlanError>
-        requires { self.old ≡ [] }
+        requires { self.old ≡ record { devices = []; lists = [] } }
         ensures ok { OnOk result (let ls = lines text.now in
-            (self.new ≡ devices_before ls (length ls)) × (faults_before ls (length ls) ≡ [])) }
+            (self.new ≡ listed_before ls (length ls)) × (faults_before ls (length ls) ≡ [])) }
         ensures err { IfErr result (λ e. let ls = lines text.now in
             (e ≡ PlanError.NoMemory) ⊎ IsFirst (faults_before ls (length ls)) e) }
     {
@@ -76,10 +115,10 @@ impl<'a> Listing<'a> {
         Ok(())
     }
 
-    /// The devices of a text, or its first line's fault.
+    /// What a text lists, or its first line's fault.
     pub fn read(alloc: Global, hasher: RandomState, text: &'a [u8]) -> Result<Self, PlanError>
         ensures ok { IfOk result (λ listing. let ls = lines text.now in
-            (listing ≡ devices_before ls (length ls)) × (faults_before ls (length ls) ≡ [])) }
+            (listing ≡ listed_before ls (length ls)) × (faults_before ls (length ls) ≡ [])) }
         ensures err { IfErr result (λ e. let ls = lines text.now in
             (e ≡ PlanError.NoMemory) ⊎ IsFirst (faults_before ls (length ls)) e) }
     {
@@ -88,13 +127,23 @@ impl<'a> Listing<'a> {
         Ok(listing)
     }
 
-    /// The plan of the devices, or the first line with a supplier that is no device.
+    /// The plan of the devices, or the first line that doesn't fit the others.
     pub fn plan(self, alloc: Global) -> Result<Plan, PlanError>
         requires { IsFaultless self }
-        ensures ok { IfOk result (λ plan. (plan ≡ plan_of self.entry) × (unknowns self.entry ≡ [])) }
-        ensures err { IfErr result (λ e. (e ≡ PlanError.NoMemory) ⊎ IsFirst (unknowns self.entry) e) }
+        ensures ok { IfOk result (λ plan. (plan ≡ plan_of self.entry.devices self.entry.lists)
+            × (late_fault self.entry ≡ None)) }
+        ensures err { IfErr result (λ e. (e ≡ PlanError.NoMemory) ⊎ (late_fault self.entry ≡ Some e)) }
     {
-        let devices = plan_all(alloc, self.devices, &self.index)?;
+        if let Some(fault) = late_fault(&self.devices, &self.index, &self.lists) {
+            return Err(fault);
+        }
+        let devices = plan_all(
+            alloc,
+            self.devices,
+            &self.index,
+            &self.lists,
+            &self.described,
+        )?;
         Ok(Plan::with_index(alloc, devices, self.index)?)
     }
 }
@@ -140,20 +189,53 @@ fn admit<'a>(
     Ok(())
 }
 
+// A copy of the strings of the device at a path.
+fn strings_for(
+    alloc: Global,
+    path: &[u8],
+    lists: &[StringsLine<'_>],
+    described: &PathIndex,
+) -> Result<Vec<Bytes>, AllocError>
+    requires { described.now ≡ strings_paths lists.now }
+    ensures { IfOk result (λ strings. strings.items ≡ strings_at lists.now path.now) }
+{
+    match described.position(path) {
+        None => Ok(Vec::new(alloc)),
+        Some(place) => copy_strings(alloc, lists[place].strings()),
+    }
+}
+
+fn plan_one(
+    alloc: Global,
+    line: DeviceLine<'_>,
+    index: &PathIndex,
+    lists: &[StringsLine<'_>],
+    described: &PathIndex,
+) -> Result<Planned, PlanError>
+    requires { described.now ≡ strings_paths lists.now }
+    ensures ok { IfOk result (λ d. (d ≡ planned_of index.now lists.now line.entry)
+        × (unknown_of index.now line.entry ≡ None)) }
+    ensures err { IfErr result (λ e. (e ≡ PlanError.NoMemory) ⊎ (unknown_of index.now line.entry ≡ Some e)) }
+{
+    let strings = strings_for(alloc, line.path().as_bytes(), lists, described)?;
+    line.plan(alloc, index, strings)
+}
+
 fn plan_all<'a>(
     alloc: Global,
     lines: Vec<DeviceLine<'a>>,
     index: &PathIndex,
+    lists: &[StringsLine<'_>],
+    described: &PathIndex,
 ) -> Result<Vec<Planned>, PlanError>
-    ensures ok { IfOk result (λ devices.
-        (devices.items ≡ map (planned_of index.now) lines.entry.items)
-        × (unknowns_in index.now lines.entry.items ≡ [])) }
+    requires { described.now ≡ strings_paths lists.now }
+    ensures ok { IfOk result (λ devices. devices.items ≡ map (planned_of index.now lists.now) lines.entry.items) }
     ensures err { IfErr result (λ e. (e ≡ PlanError.NoMemory)
-        ⊎ IsFirst (unknowns_in index.now lines.entry.items) e) }
+        ⊎ (first_unknown index.now lines.entry.items ≡ Some e)) }
 {
     let mut devices = Vec::new(alloc);
     for line in lines {
-        devices.push(line.plan(alloc, index)?)?;
+        devices.push(plan_one(alloc, line, index, lists, described)?)?;
     }
     Ok(devices)
 }

@@ -15,7 +15,8 @@ pub struct Matching {
     pub verdict: Verdict,
 }
 
-fn is_driver_name(bytes: &[u8]) -> bool
+/// Whether it is the name of a driver: any but `-`.
+pub fn is_driver_name(bytes: &[u8]) -> bool
     ensures { result ≡ is_driver_name bytes.now }
 {
     is_name(bytes) && bytes != b"-".as_slice()

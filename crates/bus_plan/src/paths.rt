@@ -1,7 +1,8 @@
-ghost use Rattle.std.specs.Prelude.{◌≡◌, ◌++◌, ◌∷◌, ◌≢◌, [], AllPairs, IfOk, OnOk, OnErr, position, false};
+ghost use Rattle.std.specs.Prelude.{◌≡◌, ℕ, List, ◌++◌, ◌∷◌, ◌≢◌, [], AllPairs, IfOk, OnOk, OnErr, position, false};
 ghost use Rattle.std.specs.List.{list_any};
 ghost use Rattle.std.specs.Str.{bytes_eq};
 ghost use Rattle.bus_plan.specs.Plan.{paths};
+ghost use Rattle.bus_plan.specs.PlanPaths.{is_among};
 
 use crate::planned::Planned;
 use indexmap::IndexSet;
@@ -75,5 +76,15 @@ impl PathIndex {
         let key = Vec::from_slice(alloc, path)?;
         self.set.insert(key)?;
         Ok(())
+    }
+
+    /// Puts a path last, unless it is there already.
+    pub fn add(&mut self, alloc: Global, path: &[u8]) -> Result<(), AllocError>
+        ensures { OnOk result ((q : List ℕ) → is_among q self.new ≡ is_among q (path.now ∷ self.old)) }
+    {
+        if self.contains(path) {
+            return Ok(());
+        }
+        self.push(alloc, path)
     }
 }

@@ -1,13 +1,14 @@
-ghost use Rattle.std.specs.Prelude.{◌≡◌, ◌<◌, ◌↔◌, [], IsTrue, IfOk, length};
+ghost use Rattle.std.specs.Prelude.{◌≡◌, ◌<◌, ◌↔◌, [], true, IsTrue, IfOk, OnOk, OnErr, length};
 ghost use Rattle.std.specs.Option.{option_copied};
 
 use crate::consumers::consumer_lists;
 use crate::device::Device;
 use crate::device_lists::DeviceLists;
+use crate::late_driver::{gains, give, string_set};
 use crate::paths::PathIndex;
 use crate::planned::Planned;
 use crate::verdict::Verdict;
-use dt_tree::{Name, Path};
+use dt_tree::{Bytes, Name, Path};
 use std::alloc::{AllocError, Global};
 use std::hash::RandomState;
 use std::marker::Model;
@@ -137,6 +138,42 @@ impl Plan {
         ensures { result ≡ device_at self.now path.now }
     {
         self.index.position(path).map(Device::new)
+    }
+
+    ghost use Rattle.bus_plan.specs.Plan.{compatibles_of, is_driver_name};
+    ghost use Rattle.bus_plan.specs.LateDriver.{with_driver, gaining, is_known};
+
+    /// The strings by which a late driver may match a device, in the order of its `compatible`.
+    pub fn compatibles(&self, device: Device) -> &[Bytes]
+        requires { device < length self.now }
+        ensures { result.now ≡ compatibles_of self.now device }
+    {
+        self.devices[device.index()].compatibles()
+    }
+
+    /// Whether some device has a driver of this name.
+    pub fn knows(&self, name: &Name) -> bool
+        ensures { result ≡ is_known self.now name.now }
+    {
+        self.devices.iter().any(|device| device.has_driver(name))
+    }
+
+    /// Registers a driver that comes late: each available device without a driver gets it where one of its strings is among
+    /// those of the driver. Answers how many did.
+    pub fn register(
+        &mut self,
+        alloc: Global,
+        name: &Name,
+        compatibles: &[Bytes],
+    ) -> Result<usize, AllocError>
+        requires { is_driver_name name.now ≡ true }
+        ensures ok { OnOk result (self.new ≡ with_driver self.old name.now compatibles.now) }
+        ensures count { IfOk result (λ count. count ≡ gaining self.old compatibles.now) }
+        ensures err { OnErr result (self.new ≡ self.old) }
+    {
+        let strings = string_set(alloc, self.index.hasher(), compatibles)?;
+        let gains = gains(alloc, self.devices.as_slice(), name, &strings)?;
+        Ok(give(&mut self.devices, gains))
     }
 
     /// An equal plan.

@@ -2,12 +2,14 @@ ghost use Rattle.std.specs.Prelude.{◌≡◌, IfOk};
 ghost use Rattle.std.specs.Option.{option_copied};
 
 use crate::device::Device;
+use crate::strings::copy_strings;
 use crate::verdict::Verdict;
-use dt_tree::{Name, Path};
+use dt_tree::{Bytes, Name, Path};
 use std::alloc::{AllocError, Global};
 use std::marker::Model;
 
-/// A device of a plan: its path, whether it may be used, its driver, what that driver does, and the devices that it needs.
+/// A device of a plan: its path, whether it may be used, its driver, what that driver does, the devices that it needs, and
+/// the strings by which a late driver may match it.
 #[derive(Debug, Drop)]
 pub struct Planned {
     path: Path,
@@ -15,6 +17,7 @@ pub struct Planned {
     driver: Option<Name>,
     verdict: Verdict,
     suppliers: Vec<Device>,
+    compatibles: Vec<Bytes>,
 }
 
 impl Model for Planned {
@@ -28,6 +31,7 @@ impl Model for Planned {
       driver = d.driver;
       verdict = d.verdict;
       suppliers = d.suppliers.items;
+      compatibles = d.compatibles.items;
     } };
 }
 
@@ -39,6 +43,7 @@ impl Planned {
         driver: Option<Name>,
         verdict: Verdict,
         suppliers: Vec<Device>,
+        compatibles: Vec<Bytes>,
     ) -> Self
         ensures { result ≡ record {
           path = path;
@@ -46,6 +51,7 @@ impl Planned {
           driver = driver;
           verdict = verdict;
           suppliers = suppliers.items;
+          compatibles = compatibles.items;
         } }
     {
         Self {
@@ -54,6 +60,7 @@ impl Planned {
             driver,
             verdict,
             suppliers,
+            compatibles,
         }
     }
 
@@ -92,6 +99,34 @@ impl Planned {
         self.suppliers.as_slice()
     }
 
+    /// The strings by which a late driver may match it: none where it isn't available or has a driver.
+    pub fn compatibles(&self) -> &[Bytes]
+        ensures { result.now ≡ self.now.compatibles }
+    {
+        self.compatibles.as_slice()
+    }
+
+    ghost use Rattle.bus_plan.specs.LateDriver.{driven_by, has_driver};
+
+    /// Whether it has a driver of this name.
+    pub fn has_driver(&self, name: &Name) -> bool
+        ensures { result ≡ has_driver name.now self.now }
+    {
+        match self.driver() {
+            None => false,
+            Some(driver) => name.as_bytes() == driver.as_bytes(),
+        }
+    }
+
+    /// Gives it a driver, whose verdict is ok.
+    pub fn take_driver(&mut self, name: Name)
+        ensures { self.new ≡ driven_by name self.old }
+    {
+        self.driver = Some(name);
+        self.verdict = Verdict::Binds;
+        self.compatibles.clear();
+    }
+
     /// An equal device.
     pub fn copy(&self, alloc: Global) -> Result<Self, AllocError>
         ensures { IfOk result (λ copy. copy ≡ self.now) }
@@ -99,12 +134,14 @@ impl Planned {
         let path = self.path.copy(alloc)?;
         let driver = copy_driver(alloc, self.driver.as_ref())?;
         let suppliers = Vec::from_slice(alloc, self.suppliers.as_slice())?;
+        let compatibles = copy_strings(alloc, self.compatibles.as_slice())?;
         Ok(Self {
             path,
             available: self.available,
             driver,
             verdict: self.verdict,
             suppliers,
+            compatibles,
         })
     }
 }

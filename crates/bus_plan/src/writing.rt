@@ -1,12 +1,12 @@
 ghost use Rattle.std.specs.Prelude.{◌≡◌, ◌<◌, ◌++◌, ◌∷◌, [], length, map, All, IfOk, OnOk};
 ghost use Rattle.std.specs.Option.{option_copied};
 ghost use Rattle.bus_plan.specs.Plan.{planned, path_of};
-ghost use Rattle.bus_plan.specs.PlanText.{text_of, device_text, spaced, driver_field, verdict_field};
+ghost use Rattle.bus_plan.specs.PlanText.{text_of, device_text, lines_text, strings_lines, spaced, driver_field, verdict_field};
 
 use crate::device::Device;
 use crate::plan::Plan;
 use crate::verdict::Verdict;
-use dt_tree::Name;
+use dt_tree::{Bytes, Name};
 use std::alloc::{AllocError, Global};
 
 fn driver_field<'a>(available: bool, driver: Option<&'a Name>) -> &'a [u8]
@@ -69,13 +69,55 @@ fn write_device(text: &mut Vec<u8>, plan: &Plan, device: Device) -> Result<(), A
     Ok(())
 }
 
+fn write_devices(text: &mut Vec<u8>, plan: &Plan) -> Result<(), AllocError>
+    ensures { OnOk result (text.new.items ≡ text.old.items ++ lines_text plan.now plan.now) }
+{
+    for index in 0..plan.len() {
+        write_device(text, plan, Device::new(index))?;
+    }
+    Ok(())
+}
+
+fn write_strings(text: &mut Vec<u8>, strings: &[Bytes]) -> Result<(), AllocError>
+    ensures { OnOk result (text.new.items ≡ text.old.items ++ spaced strings.now) }
+{
+    for string in strings {
+        write_field(text, string.as_slice())?;
+    }
+    Ok(())
+}
+
+// The line of a device's strings, if it has some.
+fn write_compatibles(text: &mut Vec<u8>, plan: &Plan, device: Device) -> Result<(), AllocError>
+    requires { device < length plan.now }
+    ensures { OnOk result (text.new.items ≡ text.old.items ++ strings_lines (planned plan.now device ∷ [])) }
+{
+    let strings = plan.compatibles(device);
+    if strings.is_empty() {
+        return Ok(());
+    }
+    text.extend_from_slice(b"compatible")?;
+    write_field(text, plan.path(device).as_bytes())?;
+    write_strings(text, strings)?;
+    text.push(b'\n')?;
+    Ok(())
+}
+
+fn write_all_compatibles(text: &mut Vec<u8>, plan: &Plan) -> Result<(), AllocError>
+    ensures { OnOk result (text.new.items ≡ text.old.items ++ strings_lines plan.now) }
+{
+    for index in 0..plan.len() {
+        write_compatibles(text, plan, Device::new(index))?;
+    }
+    Ok(())
+}
+
 /// The text of a plan, as a plan file. It is read as the same plan.
 pub fn plan_text(alloc: Global, plan: &Plan) -> Result<Vec<u8>, AllocError>
     ensures { IfOk result (λ text. text.items ≡ text_of plan.now) }
 {
     let mut text = Vec::new(alloc);
-    for index in 0..plan.len() {
-        write_device(&mut text, plan, Device::new(index))?;
-    }
+    write_devices(&mut text, plan)?;
+    write_all_compatibles(&mut text, plan)?;
     Ok(text)
 }

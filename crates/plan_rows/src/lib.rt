@@ -11,6 +11,8 @@ mod drivers;
 #[cfg(test)]
 mod graphs;
 #[cfg(test)]
+mod late_drivers;
+#[cfg(test)]
 mod plans;
 #[cfg(test)]
 mod plans_of_trees;

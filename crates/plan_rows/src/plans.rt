@@ -48,6 +48,14 @@ fn plans_are_read_and_written(rt: HostRuntime) {
             b"/s ! -\n/soc/d@0 y fail /s /t\n/t - - /s\n",
         ),
         (b"/a - -\t/b\n/b # ok\n", b"/a - - /b\n/b # ok\n"),
+        (
+            b"compatible\t/b  s t s\r\n/a x ok\n/b - - /a",
+            b"/a x ok\n/b - - /a\ncompatible /b s t s\n",
+        ),
+        (
+            b"/b - -\n/a - -\ncompatible /a #t\ncompatible /b s\n",
+            b"/b - -\n/a - -\ncompatible /b s\ncompatible /a #t\n",
+        ),
     ];
     let hasher = RandomState::new(&rt).expect(&rt, "a seed");
     plan_text_is_read_back();
@@ -87,6 +95,33 @@ fn faults_are_named_in_line_order(rt: HostRuntime) {
         (b"/a x ok /c\n/b x ok /d\n", PlanError::UnknownPath(1)),
         (b"/a x ok /c\n/a x ok\n", PlanError::DuplicateDevice(2)),
         (b"/a x ok /c\n/a x ok /\n", PlanError::BadLine(2)),
+        (b"compatible\n", PlanError::BadLine(1)),
+        (b"/a - -\ncompatible /a\n", PlanError::BadLine(2)),
+        (b"compatible / s\n", PlanError::BadLine(1)),
+        (b"compatible a s\n", PlanError::BadLine(1)),
+        (
+            b"/a - -\ncompatible /a s\ncompatible /a t\n",
+            PlanError::DuplicateDevice(3),
+        ),
+        (
+            b"compatible /a s\ncompatible /a s\n",
+            PlanError::DuplicateDevice(2),
+        ),
+        (b"\ncompatible /a s\n", PlanError::UnknownPath(2)),
+        (b"/a x ok\ncompatible /a s\n", PlanError::BadLine(2)),
+        (b"compatible /a s\n/a x fail\n", PlanError::BadLine(1)),
+        (b"/a ! -\ncompatible /a s\n", PlanError::BadLine(2)),
+        (b"/a x ok /c\ncompatible /d s\n", PlanError::UnknownPath(1)),
+        (b"compatible /d s\n/a x ok /c\n", PlanError::UnknownPath(1)),
+        (
+            b"/a - -\n/b x ok\ncompatible /b s\n/d x ok /c\n",
+            PlanError::BadLine(3),
+        ),
+        (
+            b"/b x ok\n/d x ok /c\ncompatible /b s\n",
+            PlanError::UnknownPath(2),
+        ),
+        (b"compatible /d s\n/a x ok /\n", PlanError::BadLine(2)),
     ];
     let hasher = RandomState::new(&rt).expect(&rt, "a seed");
     for (text, error) in ROWS {
@@ -208,6 +243,7 @@ fn planned(rt: &impl Abort, alloc: Global) -> Planned {
         Some(Name::new(alloc, b"x").expect(rt, "a name")),
         Verdict::Fails,
         Vec::from_slice(alloc, &[Device::new(1)]).expect(rt, "memory"),
+        Vec::new(alloc),
     )
 }
 

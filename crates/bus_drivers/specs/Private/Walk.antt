@@ -9,7 +9,7 @@ use Rattle.dt_tree.specs.Phandle.{or_else, phandle_of}
 use Rattle.dt_tree.specs.Private.PhandleWalk.{unreserved}
 use Rattle.bus_plan.specs.declared.error.PlanError.{PlanError}
 use Rattle.bus_plan.specs.declared.error.PlanError.TheVariants.{NoMemory, TooManyDevices}
-use Rattle.bus_plan.specs.declared.limits.TheConstants.{MAX_DEVICES}
+use Rattle.bus_plan.specs.Limits.{most_devices}
 use Rattle.bus_drivers.specs.Nodes.{is_compatible, is_okay, TreeDevice, Target}
 use Rattle.bus_drivers.specs.Private.Entries.{device_count, device_here}
 
@@ -58,4 +58,4 @@ target_in_tree root phandle = or_else (own_target root.properties None phandle) 
 -- ---- refusals
 -- why a walk that meets these devices stops
 abbrev pub Refuses : List TreeDevice → PlanError → Type 0
-Refuses devices e = (e ≡ NoMemory) ⊎ ((e ≡ TooManyDevices) × (MAX_DEVICES < length devices))
+Refuses devices e = (e ≡ NoMemory) ⊎ ((e ≡ TooManyDevices) × (most_devices < length devices))

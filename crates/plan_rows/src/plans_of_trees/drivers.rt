@@ -1,7 +1,7 @@
 //! Drivers and verdicts.
 use super::{ROOT, Worked};
 
-pub const DRIVERS: [Worked; 11] = [
+pub const DRIVERS: [Worked; 12] = [
     (
         "clock-and-uart",
         &[
@@ -40,7 +40,7 @@ pub const DRIVERS: [Worked; 11] = [
         "a string ends with a zero byte",
         &[ROOT, (1, "d", &[("compatible", b"x\0d")])],
         "driver x d\n",
-        "/d - -\n",
+        "/d - -\ncompatible /d x\n",
     ),
     ("no device", &[ROOT, (1, "d", &[])], "driver x d\n", ""),
     (
@@ -92,7 +92,23 @@ pub const DRIVERS: [Worked; 11] = [
             (1, "b", &[("compatible", b"e\0")]),
         ],
         "driver x d\nfail /b\nfail /a\nfail /a\n",
-        "/a x fail\n/b - -\n",
+        "/a x fail\n/b - -\ncompatible /b e\n",
+    ),
+    (
+        "the strings of a device without a driver that one may list",
+        &[
+            ROOT,
+            (
+                1,
+                "a",
+                &[("compatible", b"v,new\0\0v old\0v,\x7f\0v,new\0v,old")],
+            ),
+            (1, "b", &[("compatible", b"\0 \0")]),
+            (2, "c", &[("compatible", b"v,new\0"), ("status", b"fail\0")]),
+            (1, "d", &[("compatible", b"v,new\0d\0")]),
+        ],
+        "driver x d\n",
+        "/a - -\n/b - -\n/b/c ! -\n/d x ok\ncompatible /a v,new v,new\n",
     ),
     (
         "lines before references",

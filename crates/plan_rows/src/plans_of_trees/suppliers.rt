@@ -149,7 +149,7 @@ pub const SUPPLIERS: [Worked; 22] = [
             ),
         ],
         "",
-        "/pmic - -\n/u - - /pmic\n",
+        "/pmic - -\n/u - - /pmic\ncompatible /pmic p\ncompatible /u u\n",
     ),
     (
         "supplier-above: of itself",
@@ -164,7 +164,7 @@ pub const SUPPLIERS: [Worked; 22] = [
             (3, "ldo", &[("phandle", b"\0\0\0\x01")]),
         ],
         "",
-        "/pmic - -\n",
+        "/pmic - -\ncompatible /pmic p\n",
     ),
     (
         "interrupts-extended with two parents",
@@ -201,7 +201,7 @@ pub const SUPPLIERS: [Worked; 22] = [
             ),
         ],
         "",
-        "/gic - -\n/gpio - -\n/u - - /gpio /gic\n",
+        "/gic - -\n/gpio - -\n/u - - /gpio /gic\ncompatible /gic g\ncompatible /gpio h\ncompatible /u u\n",
     ),
     (
         "-gpios with an empty entry",
@@ -238,7 +238,7 @@ pub const SUPPLIERS: [Worked; 22] = [
             ),
         ],
         "",
-        "/gpio - -\n/mux - -\n/u - - /gpio /mux\n",
+        "/gpio - -\n/mux - -\n/u - - /gpio /mux\ncompatible /gpio g\ncompatible /mux h\ncompatible /u u\n",
     ),
     (
         "nr-gpios is a count",
@@ -256,7 +256,7 @@ pub const SUPPLIERS: [Worked; 22] = [
             (1, "v", &[("compatible", b"u\0"), ("gpios", b"\0\0\0\x07")]),
         ],
         "",
-        "/u - -\n/v - -\n",
+        "/u - -\n/v - -\ncompatible /u u\ncompatible /v u\n",
     ),
     (
         "reset-gpio is a reference",
@@ -289,7 +289,7 @@ pub const SUPPLIERS: [Worked; 22] = [
             ),
         ],
         "",
-        "/pins - -\n/pads - -\n/u - - /pads /pins\n",
+        "/pins - -\n/pads - -\n/u - - /pads /pins\ncompatible /pins p\ncompatible /pads q\ncompatible /u u\n",
     ),
     (
         "a supplier that is disabled, of a device that is",
@@ -367,7 +367,7 @@ pub const SUPPLIERS: [Worked; 22] = [
             ),
         ],
         "",
-        "/a - -\n/b - -\n/u - - /b /a\n",
+        "/a - -\n/b - -\n/u - - /b /a\ncompatible /a c\ncompatible /b c\ncompatible /u u\n",
     ),
     (
         "the first node in preorder that has a phandle",
@@ -391,7 +391,7 @@ pub const SUPPLIERS: [Worked; 22] = [
             ),
         ],
         "",
-        "/a - -\n/b - -\n/u - - /a\n",
+        "/a - -\n/b - -\n/u - - /a\ncompatible /a c\ncompatible /b c\ncompatible /u u\n",
     ),
     (
         "a supplier behind its consumer, and a cycle",
@@ -443,7 +443,7 @@ pub const SUPPLIERS: [Worked; 22] = [
             ),
         ],
         "",
-        "/gpio - -\n/leds - -\n",
+        "/gpio - -\n/leds - -\ncompatible /gpio g\ncompatible /leds gpio-leds\n",
     ),
     (
         "a phandle that is none",

@@ -1,5 +1,5 @@
 -- A device more, or its fault.
-use Rattle.std.proofs.Common.{◌∙◌, ap, sym, ℕ, ◌+◌, ◌++◌, inl, inr, ⊎_elim, drop, append-nil, Ok}
+use Rattle.std.proofs.Common.{◌∙◌, ap, sym, ◌+◌, inl, inr, ⊎_elim, drop, append-nil, Ok}
 use Rattle.std.proofs.lemmas.List.{at_drop_all}
 use Rattle.std.proofs.lemmas.Result.{err_from_is_err_and}
 use Rattle.bus_drivers.specs.Nodes.{target_of}

@@ -7,4 +7,4 @@ abbrev pub invariant-loop-line : goal.invariant-loop-line
 invariant-loop-line l =
     (goal.iterator-loop-line).can_next l.line-iterator ×
     (goal.iterator-loop-line).is_finite l.line-iterator ×
-    IsPlannedTo l.index l.fn.lines.items (into_iter_items l.line-iterator) l.devices.items
+    IsPlannedTo l.index l.lists l.fn.lines.items (into_iter_items l.line-iterator) l.devices.items

@@ -1,4 +1,4 @@
-use Rattle.std.proofs.Common.{◌≡◌, ◌∷◌, ◌++◌, ℕ, ◌+◌, ◌<◌, Bool, ◌&&◌, if◌then◌else◌, Option, Vec, Global, nat_eq, length, take, drop, refl, ap, sym, subst, ◌∙◌, List, length-append, append_assoc, append-nil, arith}
+use Rattle.std.proofs.Common.{◌≡◌, ◌∷◌, ◌++◌, ℕ, ◌+◌, Bool, ◌&&◌, if◌then◌else◌, Option, Vec, Global, nat_eq, length, take, drop, refl, ap, sym, subst, ◌∙◌, List, length-append, append_assoc, append-nil, arith}
 use Rattle.std.proofs.lemmas.List.{at_drop_all, take_at}
 use Rattle.std.proofs.lemmas.Result.{err_from_is_err_and}
 use Rattle.dt_tree.specs.NodeData.{Siblings, more, NodeData, siblings}

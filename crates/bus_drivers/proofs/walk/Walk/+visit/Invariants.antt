@@ -1,6 +1,6 @@
 -- what is met so far and what is left is what the node gives
 use Rattle.std.proofs.Common.{◌≡◌, ◌≤◌, ◌∷◌, ◌++◌, ℕ, nat_eq, length, drop}
-use Rattle.bus_plan.specs.declared.limits.TheConstants.{MAX_DEVICES}
+use Rattle.bus_plan.specs.Limits.{most_devices}
 use Rattle.dt_tree.specs.NodeData.{siblings}
 use Rattle.dt_tree.specs.Phandle.{or_else}
 use Rattle.indexmap.specs.IndexMap.{get}
@@ -10,7 +10,7 @@ use Rattle.bus_drivers.proofs.walk.Walk.+visit.Given as goal
 abbrev pub invariant-loop-child : goal.invariant-loop-child
 invariant-loop-child l = record {
   devices : l.self.devices.items ++ devices_among l.self.way.items l.here.available (siblings (drop l.child-index l.child-items)) ≡ l.fn.self.devices.items ++ devices_at l.fn.self.way.items l.above.available l.node;
-  few : length l.self.devices.items ≤ MAX_DEVICES;
+  few : length l.self.devices.items ≤ most_devices;
   way : l.self.way.items ≡ l.fn.self.way.items ++ 47 ∷ l.node.name;
   targets : (phandle : ℕ) → or_else (get nat_eq l.self.targets phandle) (target_among l.here.device (length l.self.devices.items) (siblings (drop l.child-index l.child-items)) phandle)
       ≡ or_else (get nat_eq l.fn.self.targets phandle) (target_at l.above.device (length l.fn.self.devices.items) l.node phandle);

@@ -1,8 +1,7 @@
 -- Each line is read behind those before it.
-use Rattle.std.proofs.Common.{inl, inr, ⊎_elim, sym, subst, ◌+◌}
+use Rattle.std.proofs.Common.{inl, inr, ⊎_elim}
 use Rattle.std.proofs.lemmas.Result.{err_from_is_err_and}
-use Rattle.bus_plan.specs.Lines.{lines}
-use Rattle.bus_plan.proofs.ListingLemmas.{IsReadTo, IsReadTo-at, read-line, read-fault, read-all}
+use Rattle.bus_plan.proofs.ListingLemmas.{IsReadTo-at, read-line, read-fault, read-all}
 use Rattle.bus_plan.proofs.listing.Listing.read_lines.Goals as goal
 
 pub returns-in_err-read_line-clause-err : goal.returns-in_err-read_line-clause-err
@@ -15,9 +14,8 @@ returns-in_err-read_line-clause-err c =
 pub loop-line-preserved : goal.loop-line-preserved
 loop-line-preserved c =
     let walk = IsReadTo-at _ _ _ _ _ c.loop-line.invariant c.in-Some.ensures.steps in
-    let read = c.in_ok-read_line.ensures.ok in
-    subst (IsReadTo (lines c.args.text.now) (c.loop-line.number + 1) c.next.new.self) (sym read.1)
-    (read-line _ _ _ _ _ walk read.0)
+    let read = c.in_ok-read_line.ensures in
+    read-line _ _ _ _ _ _ walk read.fault read.devices read.lists
 
 pub returns-clause-ok : goal.returns-clause-ok
 returns-clause-ok c = read-all _ _ _ (IsReadTo-at _ _ _ _ _ c.loop-line.invariant c.in-None.ensures.steps.0)

@@ -1,5 +1,5 @@
 use Rattle.std.proofs.Common.{◌≡◌, ◌++◌}
-use Rattle.bus_drivers.proofs.statement.add_copies.Given as goal
+use Rattle.bus_plan.proofs.strings.add_fields.Given as goal
 
 -- the strings so far are copied behind those from before, and the others are left
 abbrev pub invariant-loop-string : goal.invariant-loop-string

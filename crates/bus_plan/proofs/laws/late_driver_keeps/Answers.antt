@@ -1,0 +1,5 @@
+use Rattle.bus_plan.proofs.LateDriverLemmas.{late_driver_keeps}
+use Rattle.bus_plan.proofs.laws.late_driver_keeps.Goals as goal
+
+pub returns : goal.returns
+returns c = late_driver_keeps

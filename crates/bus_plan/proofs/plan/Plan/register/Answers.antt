@@ -1,0 +1,41 @@
+-- Each device gets what it gains, and nothing else changes.
+use Rattle.std.proofs.Common.{◌∙◌, ap, sym, subst, map, length}
+use Rattle.std.specs.Prelude.{filter, is_some}
+use Rattle.bus_plan.specs.LateDriver.{with_driver, gaining}
+use Rattle.bus_plan.specs.Private.Indexed.{IsIndexed}
+use Rattle.bus_plan.specs.Private.Late.{gain_of, given}
+use Rattle.bus_plan.proofs.LateDriverLemmas.{given-is, gaining-is, gathered-stays, index-stays, late_driver_is_lawful}
+use Rattle.bus_plan.proofs.plan.Plan.register.Goals as goal
+
+pub invariant_of-self : goal.invariant_of-self
+invariant_of-self c =
+    let old = c.self.inside.devices.items in
+    let name = c.args.name.now in
+    let strings = c.args.compatibles.now in
+    let gains_are = c.in_ok-gains.ensures ∙ ap (map (gain_of name c.in_ok-strings.strings)) c.as_slice.ensures.value in
+    let is = c.give.ensures.devices ∙ ap (given old) gains_are ∙ given-is name strings c.in_ok-strings.strings old c.in_ok-strings.ensures in
+    let lists = c.self.inside.consumers in
+    subst (λ ds. IsIndexed ds c.self.inside.index lists) (sym is)
+    (record {
+      lawful = late_driver_is_lawful old name strings c.self.invariant.lawful c.requires;
+      agrees = index-stays name strings old c.self.inside.index c.self.invariant.agrees;
+      gathered = gathered-stays name strings old lists c.self.invariant.gathered;
+    })
+
+pub returns-clause-ok : goal.returns-clause-ok
+returns-clause-ok c =
+    let old = c.self.inside.devices.items in
+    let name = c.args.name.now in
+    let strings = c.args.compatibles.now in
+    let gains_are = c.in_ok-gains.ensures ∙ ap (map (gain_of name c.in_ok-strings.strings)) c.as_slice.ensures.value in
+    c.give.ensures.devices ∙ ap (given old) gains_are ∙ given-is name strings c.in_ok-strings.strings old c.in_ok-strings.ensures
+    ∙ ap (λ ds. with_driver ds name strings) c.self.view_is
+
+pub returns-clause-count : goal.returns-clause-count
+returns-clause-count c =
+    let old = c.self.inside.devices.items in
+    let name = c.args.name.now in
+    let strings = c.args.compatibles.now in
+    let gains_are = c.in_ok-gains.ensures ∙ ap (map (gain_of name c.in_ok-strings.strings)) c.as_slice.ensures.value in
+    c.give.ensures.count ∙ ap (λ gs. length (filter is_some gs)) gains_are ∙ gaining-is name strings c.in_ok-strings.strings old c.in_ok-strings.ensures
+    ∙ ap (λ ds. gaining ds strings) c.self.view_is

@@ -1,0 +1,23 @@
+-- How the devices that a late driver matches get it.
+use Rattle.std.specs.Prelude.{◌≡◌, ℕ, if◌then◌else◌, List, [], ◌∷◌, Option, Some, None}
+use Rattle.bus_plan.specs.LateDriver.{gets_driver, driven_by}
+use Rattle.bus_plan.specs.Plan.{PlannedDevice}
+use Rattle.bus_plan.specs.PlanPaths.{is_among}
+
+-- a set has the same strings as a list
+abbrev pub AreStrings : List (List ℕ) → List (List ℕ) → Type 0
+AreStrings set strings = (q : List ℕ) → is_among q set ≡ is_among q strings
+
+-- the name that a device gets, if it gets the driver
+abbrev pub gain_of : List ℕ → List (List ℕ) → PlannedDevice → Option (List ℕ)
+gain_of name strings d = if gets_driver d strings then Some name else None
+
+abbrev pub gained : PlannedDevice → Option (List ℕ) → PlannedDevice
+gained d None = d
+gained d (Some name) = driven_by name d
+
+-- each device with what it gains, in order
+abbrev pub given : List PlannedDevice → List (Option (List ℕ)) → List PlannedDevice
+given [] gains = []
+given (d ∷ ds) [] = d ∷ ds
+given (d ∷ ds) (gain ∷ gains) = gained d gain ∷ given ds gains
