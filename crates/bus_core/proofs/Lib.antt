@@ -1,6 +1,8 @@
 pub mod CountLemmas
 pub mod CountedLemmas
 pub mod HistoryLemmas
+pub mod LateCounts
+pub mod LateLemmas
 pub mod LeastLemmas
 pub mod Lists
 pub mod QuietLemmas

@@ -3,6 +3,7 @@ pub mod Due
 pub mod History
 pub mod Laws
 pub mod Least
+pub mod Limits
 pub mod Ready
 pub mod RefinementCounts
 pub mod RefinementPhase
