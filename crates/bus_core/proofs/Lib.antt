@@ -5,6 +5,7 @@ pub mod LateCounts
 pub mod LateLemmas
 pub mod LeastLemmas
 pub mod Lists
+pub mod PartingLemmas
 pub mod QuietLemmas
 pub mod ReachedLemmas
 pub mod ReplayLaws

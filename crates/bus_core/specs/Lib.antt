@@ -4,6 +4,7 @@ pub mod History
 pub mod Laws
 pub mod Least
 pub mod Limits
+pub mod Parting
 pub mod Ready
 pub mod RefinementCounts
 pub mod RefinementPhase

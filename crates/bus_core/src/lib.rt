@@ -9,6 +9,7 @@ mod due;
 mod event;
 mod laws;
 mod limits;
+mod parting;
 mod phase;
 mod refusal;
 mod registering;
