@@ -65,7 +65,7 @@ fn prepared_tree(
     ensures { MatchResult result (λ tree. IsBuilt symbols (meaning_of source.now) limit tree) (λ e. Refuses symbols (meaning_of source.now) e) }
 {
     // behind the edits only the mirror of a node is deeper than the node
-    if is_mirror_too_deep(prepared, symbols) {
+    if is_mirror_too_deep(prepared) {
         return Err(BuildError::TooDeep);
     }
     let tree = fitting_tree(alloc, source, prepared, symbols, limit)?;

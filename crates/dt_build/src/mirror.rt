@@ -1,5 +1,5 @@
 //! The places of a plugin's own phandles, as a mirror of its nodes below the root's child `__local_fixups__`.
-ghost use Rattle.std.specs.Prelude.{◌≡◌, ◌-◌, ◌^◌, ℕ, [], IfSome, min};
+ghost use Rattle.std.specs.Prelude.{◌≡◌, ◌-◌, ◌^◌, ℕ, [], Bool, IfSome, min};
 ghost use Rattle.std.specs.List.{list_any};
 ghost use Rattle.dt_meaning.specs.Fixups.{local_fixups};
 ghost use Rattle.dt_meaning.specs.Paths.{Path};
@@ -57,9 +57,10 @@ fn is_spot_too_deep(prepared: &Prepared<'_, '_>, spot: Option<Spot<'_>>) -> bool
 }
 
 /// Whether the mirror of a node would be deeper than a node may be. Takes no memory.
-pub(crate) fn is_mirror_too_deep(prepared: &Prepared<'_, '_>, symbols: bool) -> bool
+pub(crate) fn is_mirror_too_deep(prepared: &Prepared<'_, '_>) -> bool
     requires { IsReady prepared.now }
-    ensures { result ≡ list_any is_too_deep (lists symbols prepared.now).nodes }
+    // symbols are properties of a child of the root, so no node is deeper with them
+    ensures { (symbols : Bool) → result ≡ list_any is_too_deep (lists symbols prepared.now).nodes }
 {
     let mut at = whole_walk(prepared);
     while !at.properties.is_empty() {

@@ -11,6 +11,8 @@ mod compiling;
 #[cfg(test)]
 mod engines;
 #[cfg(test)]
+mod long_values;
+#[cfg(test)]
 mod overlaying;
 #[cfg(test)]
 mod plugins;

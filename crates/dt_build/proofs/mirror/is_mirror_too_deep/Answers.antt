@@ -7,15 +7,15 @@ use Rattle.dt_build.proofs.TextSizes.{none-left}
 use Rattle.dt_build.proofs.mirror.is_mirror_too_deep.Goals as goal
 
 pub returns-then-is_spot_too_deep : goal.returns-then-is_spot_too_deep
-returns-then-is_spot_too_deep c =
+returns-then-is_spot_too_deep c symbols =
     let p = c.args.prepared.now in
     let at = c.loop-at.at in
-    deep-found c.args.symbols p c.requires (left p at) c.loop-at.invariant.deep (shown (node_path p.draft) c.spot_at.result) (left_behind p at) c.spot_at.ensures.left
+    deep-found symbols p c.requires (left p at) c.loop-at.invariant.deep (shown (node_path p.draft) c.spot_at.result) (left_behind p at) c.spot_at.ensures.left
     (sym c.if-is_spot_too_deep.true ∙ c.is_spot_too_deep.ensures)
 
 pub returns : goal.returns
-returns c =
+returns c symbols =
     let p = c.args.prepared.now in
     let at = c.loop-at.at in
     let none : length at.properties.now ≡ 0 = grind (arith, nat_tests, c.is_empty.ensures, c.loop-at-test.false) in
-    none-deep c.args.symbols p c.requires (left p at) c.loop-at.invariant.deep (none-left p at none)
+    none-deep symbols p c.requires (left p at) c.loop-at.invariant.deep (none-left p at none)
