@@ -1,12 +1,11 @@
 -- A replay and the library's events, one after another.
 use Rattle.std.proofs.Common.{◌≡◌, ◌∙◌, ℕ, ◌+◌, not, cond, List, [], ◌∷◌, ◌++◌, Option, Some, None, Result, Ok, Err, length, refl, sym, ap, subst, true≢false, eq-eqb, arith}
 use Rattle.std.specs.Prelude.{is_some, is_none, is_ok}
-use Rattle.bus_plan.specs.Plan.{PlannedDevice}
 use Rattle.bus_core.specs.declared.event.Event.{Event}
 use Rattle.bus_core.specs.declared.event.Event.TheVariants.{Begin, Finish, Abandon, Register}
 use Rattle.bus_core.specs.declared.refusal.Refusal.{Refusal}
 use Rattle.bus_core.specs.declared.refusal.Refusal.TheVariants.{NotInFlight, StaleTicket}
-use Rattle.bus_core.specs.CoreState.{CoreState, CoreValue, Flight, flight_of, first_core, with_state}
+use Rattle.bus_core.specs.CoreState.{CoreValue, Flight, flight_of, first_core, with_state}
 use Rattle.bus_core.specs.History.{IsBusHistory}
 use Rattle.bus_core.specs.Laws.{ReplayIsAfter, ReplayKeepsHistory, ReplayGoesOn, ReplayStops}
 use Rattle.bus_core.specs.Replay.{event_refusal, event_core, or_refused, replay_from, attempt_of, core_event, core_events}

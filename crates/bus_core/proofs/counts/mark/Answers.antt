@@ -1,4 +1,4 @@
-use Rattle.std.proofs.Common.{◌≡◌, ◌∙◌, ◌<◌, Bool, get_or, set, length, ap, arith, length-set}
+use Rattle.std.proofs.Common.{◌≡◌, ◌∙◌, ◌<◌, get_or, set, length, ap, arith, length-set}
 use Rattle.bus_core.specs.RefinementPhase.{phase_at}
 use Rattle.bus_core.specs.RefinementCounts.{due_with}
 use Rattle.bus_core.proofs.CountLemmas.{mark-step}

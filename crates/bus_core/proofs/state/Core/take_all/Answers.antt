@@ -1,6 +1,5 @@
-use Rattle.std.proofs.Common.{◌≡◌, ◌+◌, ◌∙◌, inl, inr, Err, drop, get_or, length, subst, ap, sym, arith}
+use Rattle.std.proofs.Common.{◌≡◌, ◌+◌, ◌∙◌, inl, inr, Err, drop, length, subst, ap, sym}
 use Rattle.std.proofs.lemmas.List.Elements.{All-get_or}
-use Rattle.bus_core.specs.declared.event.Event.{Event}
 use Rattle.bus_core.specs.Replay.{event_core, replay_from, IsEventOf}
 use Rattle.bus_core.proofs.ReplayLemmas.{replay-more, replay-stops, replay-ends, event-long, event-same}
 use Rattle.bus_core.proofs.state.Core.take_all.Goals as goal
