@@ -1,5 +1,5 @@
 -- The words that a board begins with tell of the devices of its core.
-use Rattle.std.proofs.Common.{◌≡◌, ◌≢◌, ◌⊎◌, inl, inr, ℕ, zero, suc, ◌+◌, ◌≤◌, Bool, true, false, not, ◌&&◌, List, [], ◌∷◌, Option, Some, None, refl, sym, ap, ◌∙◌, arith, true≢false}
+use Rattle.std.proofs.Common.{◌≡◌, ◌≢◌, ◌⊎◌, inl, inr, ℕ, zero, suc, ◌≤◌, Bool, true, false, not, ◌&&◌, List, [], ◌∷◌, Option, Some, None, refl, sym, ap, ◌∙◌, arith, true≢false}
 use Rattle.std.specs.Prelude.{if◌then◌else◌}
 use Rattle.bus_plan.specs.Plan.{PlannedDevice, is_matched}
 use Rattle.bus_core.proofs.HistoryLemmas.{bound-settled, ready-matched, settled-ready}
@@ -7,18 +7,16 @@ use Rattle.bus_core.specs.CoreState as state
 use Rattle.bus_core.specs.CoreState.{CoreState, CoreValue}
 use Rattle.bus_core.specs.History.{IsBusHistory, bound_in, is_settled}
 use Rattle.bus_core.specs.Ready.{is_ready}
-use Rattle.bus_core.specs.Report.{status_of}
 use Rattle.bus_core.specs.declared.settle.Outcome.{Outcome}
 use Rattle.bus_core.specs.declared.settle.Outcome.TheVariants.{Bound, Failed}
 use Rattle.bus_board.proofs.Histories.{bound_outcome, none_unsettled, outcome_bound, ready_as, ready_bound, unsettled_none}
 use Rattle.bus_board.proofs.Moves.{settled_as-bound}
 use Rattle.bus_board.specs.Lists.{total}
-use Rattle.bus_board.specs.Opening.{idle_word, opening_of, opening_word}
-use Rattle.bus_board.specs.Outcomes.{AllBound, History, outcome_of}
+use Rattle.bus_board.specs.Opening.{opening_of, opening_word}
+use Rattle.bus_board.specs.Outcomes.{History, outcome_of}
 use Rattle.bus_board.specs.Rule.{Tells, begins_before}
 use Rattle.bus_board.specs.Views.{claims, opener}
 use Rattle.bus_board.specs.Words.{begins_of, flights_of, number_of, settled_as}
-use Rattle.bus_board.specs.declared.view.View.{View}
 use Rattle.bus_board.specs.declared.words.Word.{Word}
 use Rattle.bus_board.specs.declared.words.Word.TheVariants as word
 

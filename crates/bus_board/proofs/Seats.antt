@@ -21,7 +21,7 @@ use Rattle.bus_board.specs.Learns.{JoinedBy, Stands}
 use Rattle.bus_board.specs.Lists.{Among, pairs, times}
 use Rattle.bus_board.specs.Opening.{AreFirst, opening_of}
 use Rattle.bus_board.specs.Outcomes.{History, IsFront, longer, shorter}
-use Rattle.bus_board.specs.Rule.{Fits, Holds, Kept, SeenBySome, Tells}
+use Rattle.bus_board.specs.Rule.{Fits, Holds, Kept, OpensAs, SeenBySome, Tells}
 use Rattle.bus_board.specs.Views.{both, claims, flies, flies_in, newcomer, of_devices, opener, owes, spent}
 use Rattle.bus_board.specs.Words.{claimed_word}
 use Rattle.bus_board.specs.declared.view.Flight.{Flight}
@@ -273,7 +273,7 @@ opening_holds core words first lawful begun =
     }
 
 -- where the first seat is the only one, the rule leaves one list of words
-pub opening_pins : (core : CoreValue) (v : View) → v ≡ opener core → IsBusHistory core.plan core.state.history → (words : List ℕ) → Kept core.plan words (v ∷ []) → AreFirst core words
+opening_pins : (core : CoreValue) (v : View) → v ≡ opener core → IsBusHistory core.plan core.state.history → (words : List ℕ) → Kept core.plan words (v ∷ []) → AreFirst core words
 opening_pins core v is lawful words kept =
     let k : Kept core.plan words (opener core ∷ []) = subst (λ (x : View). Kept core.plan words (x ∷ [])) is kept in
     let first : opener core ≡ k.whole.1 = get_elem_one (opener core) k.whole.1 k.whole.0 k.whole.2 in
@@ -283,6 +283,13 @@ opening_pins core v is lawful words kept =
       omega (arith, k.wide),
       λ d lt. opening_only core d (slice_index words d) lawful (subst (λ (h : History). T d (opening_of core.state) h) log-is (subst (λ (o : Opening). T d o k.log) opening-is (k.words_tell d lt))),
     )
+
+pub opens_as : (core : CoreValue) (v : View) → v ≡ opener core → IsBusHistory core.plan core.state.history
+    → ((d : ℕ) → is_settled core.state.history d ≡ true → was_begun core.state d ≡ true) → OpensAs core v
+opens_as core v is lawful begun words = (
+  opening_pins core v is lawful words,
+  λ first. subst (λ (x : View). Kept core.plan words (x ∷ [])) (sym is) (opening_holds core words first lawful begun),
+)
 
 in_front : (f h : History) (x : Settle) → IsFront f h → Stands f x → Stands h x
 in_front f h x t there = subst (λ (l : History). Stands l x) (sym t.1) (longer_stands f t.0 there.0 there.1)

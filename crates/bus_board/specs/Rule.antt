@@ -1,6 +1,6 @@
 -- What holds of a board between any two steps, over the words and all views: the seven clauses of the board.
 -- FRESH 0, TRYING 1, WAITING 2, WOKEN 3, RETRYING 4, BOUND 5, FAILED 6, UNMATCHED 7.
-use Rattle.std.specs.Prelude.{◌≡◌, ◌≢◌, ℕ, suc, ◌+◌, ◌<◌, ◌≤◌, true, false, if◌then◌else◌, List, [], ◌∷◌, length, take, Option, Some, None, slice_index}
+use Rattle.std.specs.Prelude.{◌≡◌, ◌≢◌, ◌↔◌, ℕ, suc, ◌+◌, ◌<◌, ◌≤◌, true, false, if◌then◌else◌, List, [], ◌∷◌, length, take, Option, Some, None, slice_index}
 use mathlib.Core.Option.{some}
 use lib.ListN.{get_elem?}
 use Rattle.atomic_table.specs.Table.{State}
@@ -89,9 +89,9 @@ pub record Kept (plan : List PlannedDevice) (words : List ℕ) (views : List Vie
   pub owned : (d : ℕ) → total (λ v. times d v.mine) views + settled_times (outcome_of opening.history d) ≡ settled_times (outcome_of log d)
   pub fits : (j : ℕ) (v : View) → get_elem? views j ≡ some v → Fits plan log words v
 
--- the board opens with the words of the core's devices: no others keep the rule while the first seat is the only one
+-- the board opens with the words of the core's devices: those and no others keep the rule while the first seat is the only one
 abbrev pub OpensAs : CoreValue → View → Type 0
-OpensAs core v = (words : List ℕ) → Kept core.plan words (v ∷ []) → AreFirst core words
+OpensAs core v = (words : List ℕ) → Kept core.plan words (v ∷ []) ↔ AreFirst core words
 
 -- a board's table has no slots
 abbrev pub Holds : List PlannedDevice → State (Unit {0}) View → Type 0

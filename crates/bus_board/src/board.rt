@@ -57,6 +57,7 @@ impl Board {
     /// A board on which nothing was begun, and its first seat.
     pub fn open(alloc: Global, plan: Plan) -> Result<(Board, Seat), Refusal>
         ensures opened { IfOk result (λ r. (r.0.plan ≡ plan) × IsOf r.0 r.1 × (r.1.view ≡ opener (first_core plan))) }
+        ensures words { IfOk result (λ r. OpensAs (first_core plan) r.1.view) }
         ensures err { IfErr result (λ refusal. refusal ≡ NoMemory) }
     {
         let core = Core::new(alloc, plan)?;
@@ -109,6 +110,7 @@ fn start(alloc: Global, core: Core) -> Result<(Board, Seat), Core>
     match first_parts(alloc, &core) {
         Ok((table, token, room, owed)) => {
             core.check();
+            core.check_settled();
             let plan = core.into_plan();
             let most_suppliers = most_suppliers(&plan);
             let board = Board {

@@ -6,7 +6,7 @@ use crate::boards::{UART_AND_CLOCK, clk, uart};
 use crate::seats::{closes, looks, settles, takes, wakes};
 use bus_board::{Board, Seat, Word};
 use bus_core::{Core, Refusal, Reply, Status, read_schedule, replay};
-use bus_plan::read_plan;
+use bus_plan::{Device, read_plan};
 use std::alloc::Global;
 use std::hash::RandomState;
 use std::process::Abort;
@@ -73,6 +73,13 @@ fn a_core_waits(rt: HostRuntime) {
     closes(&rt, board, seat, &[Word::Bound, Word::Bound], true);
 }
 
+// The device's flight is open, and is abandoned.
+fn drops_flight(rt: &impl Abort, core: &mut Core, device: Device) {
+    assert!(rt; device.index() < core.plan().len(), "no such device");
+    assert_eq!(rt; core.status(device), Status::Probing);
+    assert!(rt; core.abandon(device).is_ok(), "no flight is open");
+}
+
 /// With a flight open the same core comes back, and once the flight is gone it opens: its device was begun and is ready.
 #[test]
 fn a_core_with_a_flight(rt: HostRuntime) {
@@ -83,8 +90,7 @@ fn a_core_with_a_flight(rt: HostRuntime) {
         .expect(&rt, "a board over a flight");
     assert_eq!(&rt; refusal, Refusal::NotIdle);
     assert_eq!(&rt; refusal.number(), 60);
-    assert_eq!(&rt; core.status(clk()), Status::Probing);
-    assert!(&rt; core.abandon(clk()).is_ok(), "the flight is still open");
+    drops_flight(&rt, &mut core, clk());
     let (board, seat) = opens(&rt, rt.alloc(), core);
     closes(&rt, board, seat, &[Word::Fresh, Word::Woken], false);
 }
