@@ -8,6 +8,8 @@ mod cores;
 pub mod gate;
 #[cfg(test)]
 mod keepers;
+#[cfg(test)]
+mod late;
 pub mod replays;
 #[cfg(test)]
 mod runs;
