@@ -11,7 +11,7 @@ use Rattle.bus_core.proofs.Lists.{list_all_in_range}
 use Rattle.bus_core.specs.History.{is_settled}
 use Rattle.bus_core.specs.Least.{IsClosed, IsLeast}
 use Rattle.bus_core.specs.declared.settle.Outcome.TheVariants.{Failed}
-use Rattle.bus_board.proofs.Flights.{own_flight}
+use Rattle.bus_board.proofs.Flights.{begun_before, own_flight}
 use Rattle.bus_board.proofs.Histories.{unsettled_none}
 use Rattle.bus_board.proofs.Rests.{done_quiet, quiet_rests}
 use Rattle.bus_board.proofs.Told.{Told, bound_told, told_bound}
@@ -52,7 +52,7 @@ quiet_closed p log views words told quiet d ready binds =
     settled : is_settled log d ≡ true → is_bound_word (word_at words d) ≡ true
     settled is = told_bound p log views words told d (settled-bound p log told.lawful d is binds)
 
-    at : is_matched p d ≡ true → Tells p log views d (number_of (word_at words d)) → (x : Word) → word_at words d ≡ x → is_still x (suppliers_bound p words d) ≡ true → is_bound_word (word_at words d) ≡ true
+    at : is_matched p d ≡ true → Tells p told.opening log views d (number_of (word_at words d)) → (x : Word) → word_at words d ≡ x → is_still x (suppliers_bound p words d) ≡ true → is_bound_word (word_at words d) ≡ true
     at matched tells word.Fresh is still = absurd (true≢false (sym still))
     at matched tells word.Trying is still = absurd (true≢false (sym still))
     at matched tells word.Waiting is still = absurd (true≢false (sym still ∙ ap not (and_parts (is_matched p d) (suppliers_bound p words d) ready).1))
@@ -83,9 +83,9 @@ unmatched_word word.Failed e = absurd (omega (arith, e))
 unmatched_word word.Unmatched e = refl
 
 -- what the last state says of the words
-pub ends_as : (key p : List PlannedDevice) (id : ℕ) (v : View) (numbers : List ℕ) (words : List Word) (slots : List (Unit {0})) (quiet : Bool) → key ≡ p → Final (Seen (Holds key) id v) numbers slots
+pub ends_as : (key p : List PlannedDevice) (id : ℕ) (v : View) (numbers : List ℕ) (words : List Word) (slots : List (Unit {0})) (quiet : Bool) → key ≡ p → Final (Seen (Holds key) id v) numbers slots → v.live ≡ true
     → length words ≡ length p → ((d : ℕ) → d < length p → (w : ℕ) × (get_elem? numbers d ≡ some w) × (word_at words d ≡ word_of w)) → quiet ≡ is_quiet p words → EndsAs p v words quiet
-ends_as key p id v numbers words slots quiet key_is final wide same is =
+ends_as key p id v numbers words slots quiet key_is final live wide same is =
     let s = final.0 in
     let kept : Kept p s.words s.views = subst (λ (q : List PlannedDevice). Kept q s.words s.views) key_is final.1.0 in
     let fit : Fits p kept.log s.words v = kept.fits id v final.1.1 in
@@ -94,9 +94,10 @@ ends_as key p id v numbers words slots quiet key_is final wide same is =
     let now : get_or s.words d 0 ≡ t.0 = ap (λ (l : List ℕ). get_or l d 0) final.2 ∙ at_get numbers d t.0 t.1 in
     now ∙ sym (ap number_of t.2 ∙ number_word t.0 (subst (λ (w : ℕ). w ≤ 7) now (kept.words_tell d lt).small)) in
     let told : Told p kept.log s.views words = record {
+      opening = kept.opening;
       lawful = kept.lawful;
       long = wide;
-      tells = λ d lt. subst (Tells p kept.log s.views d) (number d lt) (kept.words_tell d lt);
+      tells = λ d lt. subst (Tells p kept.opening kept.log s.views d) (number d lt) (kept.words_tell d lt);
     } in
     record {
       log = kept.log;
@@ -106,13 +107,14 @@ ends_as key p id v numbers words slots quiet key_is final wide same is =
       wide = wide;
       outcomes = λ d lt. (told.tells d lt).settled;
       unmatched = λ d lt. ((λ is. (told.tells d lt).unmatched (ap number_of is)), (λ off. unmatched_word (word_at words d) ((told.tells d lt).matched off)));
+      begun = λ d lt was fresh. begun_before p s.words s.views kept id v d lt final.1.1 live was (number d lt ∙ ap number_of fresh);
       passed = λ d lt a fresh. fit.passed d a (number d lt ∙ ap number_of fresh);
       claimed = λ d w lt a fresh. fit.claimed d w a (number d lt ∙ ap number_of fresh);
       retried = λ d lt a. subst IsRetried (number d lt) (fit.retried d a);
       trying = λ d lt a is. own_flight p s.words s.views kept id v d false lt (number d lt ∙ ap number_of is) final.1.1 a;
       retrying = λ d lt a is. own_flight p s.words s.views kept id v d true lt (number d lt ∙ ap number_of is) final.1.1 a;
       quiet_is = is;
-      done = λ all. is ∙ done_quiet p s.words s.views kept id v words told number final.1.1 all;
+      done = λ all. is ∙ done_quiet p s.words s.views kept id v words told number final.1.1 live all;
       least = λ yes. quiet_least p kept.log s.views words told (sym is ∙ yes);
       at_rest = λ yes d lt. quiet_rests p kept.log s.views words told (sym is ∙ yes) d lt;
     }

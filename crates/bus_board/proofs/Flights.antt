@@ -1,5 +1,5 @@
 -- Whose flight a TRYING or RETRYING word tells of.
-use Rattle.std.proofs.Common.{◌≡◌, ℕ, zero, suc, ◌<◌, ◌≤◌, Bool, true, false, List, [], ◌∷◌, length, Option, Some, None, refl, sym, ap, ◌∙◌, subst, arith, eq-eqb}
+use Rattle.std.proofs.Common.{◌≡◌, ◌≢◌, ℕ, zero, suc, ◌<◌, ◌≤◌, Bool, true, false, List, [], ◌∷◌, length, Option, Some, None, refl, sym, ap, ◌∙◌, subst, arith, eq-eqb}
 use Rattle.std.specs.Prelude.{slice_get, slice_index, if◌then◌else◌}
 use mathlib.Core.Logic.{dite}
 use mathlib.Core.Option.{some, some-injective}
@@ -7,13 +7,15 @@ use native.Mathlib.Decide.{ℕ_discrete}
 use lib.ListN.{get_elem?}
 use Rattle.bus_plan.specs.Plan.{PlannedDevice}
 use Rattle.bus_board.proofs.Moves.{flying, pairs-same}
-use Rattle.bus_board.proofs.Sums.{terms_le}
+use Rattle.bus_board.proofs.Sums.{term_le, terms_le}
 use Rattle.bus_board.proofs.Turns.{flies_none, flies_one}
 use Rattle.bus_board.specs.Lists.{Among, pairs, total}
-use Rattle.bus_board.specs.Rule.{FlightFits, Kept}
+use Rattle.bus_board.specs.Opening.{was_begun}
+use Rattle.bus_board.specs.Rule.{FlightFits, Kept, begins_before}
 use Rattle.bus_board.specs.Views.{claims, flies, flies_in}
 use Rattle.bus_board.specs.Words.{begins_of, claimed_word, flights_of, flying_word, most_retries}
 use Rattle.bus_board.specs.declared.view.Flight.{Flight}
+use Rattle.bus_board.specs.declared.view.Opening.{Opening}
 use Rattle.bus_board.specs.declared.view.View.{View}
 
 -- a sum that isn't 0 has a term that isn't
@@ -62,6 +64,14 @@ claims_once : (p : List PlannedDevice) (words : List ℕ) (views : List View) (k
 claims_once p words views k d true inside is = omega (arith, (k.words_tell d inside).retried, ap most_retries is)
 claims_once p words views k d false inside is = omega (arith, (k.words_tell d inside).begun, ap begins_of is)
 
+-- the seat of a flight has claimed its device from the word before
+claimed_of : (p : List PlannedDevice) (words : List ℕ) (views : List View) (k : Kept p words views) (d : ℕ) (again : Bool) (u : View) (j : ℕ) (f : Flight)
+    → get_elem? views j ≡ some u → u.flight ≡ Some f → f.device ≡ d → slice_index words d ≡ flying_word again → Among u.claimed d (claimed_word again)
+claimed_of p words views k d again u j f at flight device is =
+    let fits : FlightFits p k.log words u.seen f = (k.fits j u at).flight f flight in
+    let same : f.again ≡ again = again_is f.again again (sym fits.word ∙ ap (λ (e : ℕ). slice_index words e) device ∙ is) in
+    subst (λ (a : Bool). Among u.claimed d (claimed_word a)) same (subst (λ (e : ℕ). Among u.claimed e (claimed_word f.again)) device ((k.fits j u at).begun f flight))
+
 -- a seat that claimed the device from the word before has the flight
 pub own_flight : (p : List PlannedDevice) (words : List ℕ) (views : List View) (k : Kept p words views) (id : ℕ) (v : View) (d : ℕ) (again : Bool) → d < length p → slice_index words d ≡ flying_word again
     → get_elem? views id ≡ some v → Among v.claimed d (claimed_word again) → flies d v ≡ 1
@@ -69,10 +79,29 @@ own_flight p words views k id v d again inside is me mine =
     let t = flight_of p words views k d again inside is in
     let u : View = t.1 in
     let f : Flight = t.2 in
-    let fits : FlightFits p k.log words u.seen f = (k.fits t.0 u t.3).flight f t.4 in
-    let same : f.again ≡ again = again_is f.again again (sym fits.word ∙ ap (λ (e : ℕ). slice_index words e) t.5 ∙ is) in
-    let theirs : Among u.claimed d (claimed_word again) = subst (λ (a : Bool). Among u.claimed d (claimed_word a)) same (subst (λ (e : ℕ). Among u.claimed e (claimed_word f.again)) t.5 ((k.fits t.0 u t.3).begun f t.4)) in
+    let theirs : Among u.claimed d (claimed_word again) = claimed_of p words views k d again u t.0 f t.3 t.4 t.5 is in
     let w : ℕ = claimed_word again in
     dite (ℕ_discrete t.0 id)
     (λ here. subst (λ (x : View). flies d x ≡ 1) (some-injective u v (sym t.3 ∙ ap (get_elem? views) here ∙ me)) (flies_one u.flight f d t.4 t.5))
     (λ apart. absurd (omega (arith, terms_le (claims d w) views id t.0 v u apart me t.3, pairs_among v.claimed d w mine, pairs_among u.claimed d w theirs, claims_once p words views k d again inside is)))
+
+-- how often a device was begun before, as a seat knows it
+begun_once : (p : List PlannedDevice) (words : List ℕ) (views : List View) (k : Kept p words views) (id : ℕ) (v : View) (d : ℕ) → get_elem? views id ≡ some v → v.live ≡ true
+    → was_begun p v.opening d ≡ true → begins_before p k.opening d ≡ 1
+begun_once p words views k id v d me live before =
+    ap (λ (o : Opening). begins_before p o d) (sym (k.opened id v me live)) ∙ ap {B = ℕ} (λ (b : Bool). if b then 1 else 0) before
+
+-- a device that was begun before isn't FRESH
+pub begun_before : (p : List PlannedDevice) (words : List ℕ) (views : List View) (k : Kept p words views) (id : ℕ) (v : View) (d : ℕ) → d < length p → get_elem? views id ≡ some v → v.live ≡ true
+    → was_begun p v.opening d ≡ true → slice_index words d ≢ 0
+begun_before p words views k id v d inside me live before fresh =
+    omega (arith, (k.words_tell d inside).begun, ap begins_of fresh, begun_once p words views k id v d me live before)
+
+-- nor TRYING
+pub not_tried : (p : List PlannedDevice) (words : List ℕ) (views : List View) (k : Kept p words views) (id : ℕ) (v : View) (d : ℕ) → d < length p → get_elem? views id ≡ some v → v.live ≡ true
+    → was_begun p v.opening d ≡ true → slice_index words d ≢ 1
+not_tried p words views k id v d inside me live before trying =
+    let t = flight_of p words views k d false inside trying in
+    let u : View = t.1 in
+    let theirs : Among u.claimed d 0 = claimed_of p words views k d false u t.0 t.2 t.3 t.4 t.5 trying in
+    omega (arith, (k.words_tell d inside).begun, ap begins_of trying, begun_once p words views k id v d me live before, term_le (claims d 0) views t.0 u t.3, pairs_among u.claimed d 0 theirs)

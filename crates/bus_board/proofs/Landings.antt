@@ -127,7 +127,7 @@ settle_kept p words views k id v f live flies-now seen me =
     let same_plan : v.plan ≡ p = fit.plan_is live in
     let right : FlightFits p log words v.seen f = fit.flight f flies-now in
     let inside : d < length p = right.within in
-    let tells : Tells p log views d (slice_index words d) = k.words_tell d inside in
+    let tells : Tells p k.opening log views d (slice_index words d) = k.words_tell d inside in
     let air = flying f.again in
     let open-yet : outcome_of log d ≡ None = tells.settled ∙ ap settled_as right.word ∙ air.0 in
     let ready-now : is_ready p (bound_in log) d ≡ true = ready_as p log d right.matched (λ s there. front_outcome v.seen log s Bound fit.seen (right.bound s (seen s there))) in
@@ -143,7 +143,7 @@ settle_kept p words views k id v f live flies-now seen me =
     (λ other. omega (arith, ap {B = ℕ} (λ (b : Bool). (if b then 1 else 0)) (ne_eqb d e other), ap settled_times (outcome_push-other log x e other))) in
     record {
       follows = follows;
-      kept = turned p words views k id v w d new log' (x ∷ []) refl refl me inside lawful
+      kept = turned p words views k id v w d new log' (x ∷ []) refl refl me (refl, refl) inside lawful
           (λ e ne. outcome_push-other log x e (λ s. ne (sym s)))
           (λ e ne. sym (flies_none v.flight f e flies-now (λ s. ne (sym s))))
           (λ e a ne. refl)
@@ -161,7 +161,7 @@ settle_kept p words views k id v f live flies-now seen me =
           }
           (λ _. end.bounds.0)
           (λ _. end.retried)
-          (alone p log words views id v f tells me flies-now)
+          (alone p k.opening log words views id v f tells me flies-now)
           (λ e ne lt two all. settle_owes p words views k id v d e me same_plan now lt two all)
           record {
             plan_is = fit.plan_is;
@@ -189,7 +189,7 @@ defer_kept p words views k id v f s flies-now there missed me =
     let fit : Fits p log words v = k.fits id v me in
     let right : FlightFits p log words v.seen f = fit.flight f flies-now in
     let inside : d < length p = right.within in
-    let tells : Tells p log views d (slice_index words d) = k.words_tell d inside in
+    let tells : Tells p k.opening log views d (slice_index words d) = k.words_tell d inside in
     let first : f.again ≡ false = is_false f.again (λ again. right.missed s missed (ready_bound p (take f.at log) d (lawful_take p f.at [] log k.lawful) (right.retried again) s there)) in
     let trying : slice_index words d ≡ 1 = right.word ∙ ap flying_word first in
     let wide = k.wide in
@@ -198,7 +198,7 @@ defer_kept p words views k id v f s flies-now there missed me =
     let sum : total (flies d) views ≡ 1 = tells.flown ∙ ap flights_of trying in
     let not-again : IsRetried (slice_index words d) → ⊥ = λ r. let r' : IsRetried 1 = subst IsRetried trying r in
     ⊎_elim (λ (e : 1 ≡ 4). absurd (omega arith)) (λ (r : (1 ≡ 5) ⊎ (1 ≡ 6)). ⊎_elim (λ (e : 1 ≡ 5). absurd (omega arith)) (λ (e : 1 ≡ 6). absurd (omega arith)) r) r' in
-    turned p words views k id v w d 2 log [] (sym (append-nil log)) refl me inside k.lawful
+    turned p words views k id v w d 2 log [] (sym (append-nil log)) refl me (refl, refl) inside k.lawful
     (λ e ne. refl)
     (λ e ne. sym (flies_none v.flight f e flies-now (λ s. ne (sym s))))
     (λ e a ne. refl)
@@ -216,7 +216,7 @@ defer_kept p words views k id v f s flies-now there missed me =
     }
     (λ _ e. absurd (omega arith))
     (λ r. absurd (not-again r))
-    (alone p log words views id v f tells me flies-now)
+    (alone p k.opening log words views id v f tells me flies-now)
     (λ e ne lt two all. still_owed views id v w e me (omega (arith, times-append e v.owed (d ∷ []))) ((k.words_tell e lt).waiting two all))
     record {
       plan_is = fit.plan_is;
@@ -250,7 +250,7 @@ fits_relieved p log words v fit = record {
 pub check_dropped : (p : List PlannedDevice) (words : List ℕ) (views : List View) (k : Kept p words views) (id : ℕ) (v : View) (h s : ℕ) (more : List ℕ) → get_elem? views id ≡ some v
     → v.owed ≡ h ∷ more → s < length p → Has (suppliers_of p h) s → slice_index words s ≢ 5 → Kept p words (set views id (relieved v k.log))
 check_dropped p words views k id v h s more me owed inside there unbound =
-    stayed p words views k id v (relieved v k.log) refl me (λ e. refl) (λ e a. refl) (λ e. refl)
+    stayed p words views k id v (relieved v k.log) refl me (refl, refl) (λ e. refl) (λ e a. refl) (λ e. refl)
     (λ e two all was. dite (ℕ_discrete h e)
     (λ same. let five : slice_index words s ≡ 5 = settled_as-bound _ (sym (k.words_tell s inside).settled ∙ all s (subst (λ (x : ℕ). Has (suppliers_of p x) s) same there)) in absurd (unbound five))
     (λ other. still_owed views id v (relieved v k.log) e me (omega (arith, relieved_times v h e more owed other)) was))
@@ -258,7 +258,7 @@ check_dropped p words views k id v h s more me owed inside there unbound =
 
 pub check_bound : (p : List PlannedDevice) (words : List ℕ) (views : List View) (k : Kept p words views) (id : ℕ) (v : View) → get_elem? views id ≡ some v → Kept p words (set views id (caught_up v k.log))
 check_bound p words views k id v me = let fit = fits_relieved p k.log words v (k.fits id v me) in
-    stayed p words views k id v (caught_up v k.log) refl me (λ e. refl) (λ e a. refl) (λ e. refl)
+    stayed p words views k id v (caught_up v k.log) refl me (refl, refl) (λ e. refl) (λ e a. refl) (λ e. refl)
     (λ e two all was. still_owed views id v (caught_up v k.log) e me (omega arith) was)
     record { plan_is = fit.plan_is; seen = fit.seen; told = fit.told; mine = fit.mine; claimed = fit.claimed; retried = fit.retried; passed = fit.passed; flight = fit.flight; begun = fit.begun }
 
@@ -266,7 +266,7 @@ check_bound p words views k id v me = let fit = fits_relieved p k.log words v (k
 pub wake_lost : (p : List PlannedDevice) (words : List ℕ) (views : List View) (k : Kept p words views) (id : ℕ) (v : View) (h : ℕ) (more : List ℕ) → get_elem? views id ≡ some v
     → v.owed ≡ h ∷ more → slice_index words h ≢ 2 → Kept p words (set views id (relieved v k.log))
 wake_lost p words views k id v h more me owed moved =
-    stayed p words views k id v (relieved v k.log) refl me (λ e. refl) (λ e a. refl) (λ e. refl)
+    stayed p words views k id v (relieved v k.log) refl me (refl, refl) (λ e. refl) (λ e a. refl) (λ e. refl)
     (λ e two all was. dite (ℕ_discrete h e)
     (λ same. absurd (moved (ap (λ (x : ℕ). get_or words x 0) same ∙ two)))
     (λ other. still_owed views id v (relieved v k.log) e me (omega (arith, relieved_times v h e more owed other)) was))
@@ -280,13 +280,13 @@ wake_won p words views k id v h more me owed inside seen found =
     let w : View = relieved v k.log in
     let log : History = k.log in
     let fit : Fits p log words v = k.fits id v me in
-    let tells : Tells p log views h 2 = subst (Tells p log views h) found (k.words_tell h inside) in
+    let tells : Tells p k.opening log views h 2 = subst (Tells p k.opening log views h) found (k.words_tell h inside) in
     let wide = k.wide in
     let here : h < length words = omega arith in
     let not-again : IsRetried (slice_index words h) → ⊥ = λ r. let r' : IsRetried 2 = subst IsRetried found r in
     ⊎_elim (λ (e : 2 ≡ 4). absurd (omega arith)) (λ (r : (2 ≡ 5) ⊎ (2 ≡ 6)). ⊎_elim (λ (e : 2 ≡ 5). absurd (omega arith)) (λ (e : 2 ≡ 6). absurd (omega arith)) r) r' in
     let still = fits_relieved p log words v fit in
-    turned p words views k id v w h 3 log [] (sym (append-nil log)) refl me inside k.lawful
+    turned p words views k id v w h 3 log [] (sym (append-nil log)) refl me (refl, refl) inside k.lawful
     (λ e ne. refl)
     (λ e ne. refl)
     (λ e a ne. refl)

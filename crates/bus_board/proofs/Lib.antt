@@ -5,6 +5,7 @@ pub mod Flights
 pub mod Histories
 pub mod Landings
 pub mod Moves
+pub mod Openings
 pub mod Paying
 pub mod Rests
 pub mod Seats

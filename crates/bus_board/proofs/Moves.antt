@@ -22,6 +22,7 @@ use Rattle.bus_board.specs.Steps.{Sees}
 use Rattle.bus_board.specs.Views.{claimed_by, claims, flies, flies_in, last_look, looked, looked_in, passed_all}
 use Rattle.bus_board.specs.Words.{IsRetried, begins_of, claimed_word, flights_of, flying_word, most_retries, settled_as}
 use Rattle.bus_board.specs.declared.view.Flight.{Flight}
+use Rattle.bus_board.specs.declared.view.Opening.{Opening}
 use Rattle.bus_board.specs.declared.view.View.{View}
 
 abbrev M : Type 0
@@ -144,7 +145,7 @@ claim_won p words views k id v d old new kind inside live idle me found =
     let w : View = claimed_by v k.log d old in
     let log : History = k.log in
     let fit : Fits p log words v = k.fits id v me in
-    let tells : Tells p log views d old = subst (Tells p log views d) found (k.words_tell d inside) in
+    let tells : Tells p k.opening log views d old = subst (Tells p k.opening log views d) found (k.words_tell d inside) in
     let f : Flight = record { device = d; at = length log; again = eqb old 3; looks = [] } in
     let wide = k.wide in
     let here : d < length words = omega arith in
@@ -162,7 +163,7 @@ claim_won p words views k id v d old new kind inside live idle me found =
       missed = λ s b. absurd (cc);
       retried = λ again. subst (λ (l : History). is_ready p (bound_in l) d ≡ true) (sym whole) (tells.woken (eqb-true old 3 again));
     } in
-    turned p words views k id v w d new log [] (sym (append-nil log)) refl me inside k.lawful
+    turned p words views k id v w d new log [] (sym (append-nil log)) refl me (refl, refl) inside k.lawful
     (λ e ne. refl)
     (λ e ne. flies_none (Some f) f e refl (λ s. ne (sym s)) ∙ sym (ap (λ (o : Option Flight). flies_in o e) idle))
     (λ e a ne. pairs-other v.claimed d e a old (λ s. ne (sym s)))
@@ -209,7 +210,7 @@ pub claim_lost : (p : List PlannedDevice) (words : List ℕ) (views : List View)
 claim_lost p words views k id v d old me missed =
     let w : View = passed_all v k.log ((d, old) ∷ []) in
     let fit : Fits p k.log words v = k.fits id v me in
-    stayed p words views k id v w refl me (λ e. refl) (λ e a. refl) (λ e. refl) (λ e two all. still_owed views id v w e me (omega arith)) record {
+    stayed p words views k id v w refl me (refl, refl) (λ e. refl) (λ e a. refl) (λ e. refl) (λ e two all. still_owed views id v w e me (omega arith)) record {
       plan_is = fit.plan_is;
       seen = front_whole k.log;
       told = fit.told;
@@ -285,7 +286,7 @@ look_kept p words views k id v s inside me =
     let b : Bool = eqb (get_or words s 0) 5 in
     let fit : Fits p k.log words v = k.fits id v me in
     let tells = k.words_tell s inside in
-    stayed p words views k id v (looked v k.log s b) refl me (λ e. flies_looked v.flight s b e) (λ e a. refl) (λ e. refl) (λ e two all. still_owed views id v (looked v k.log s b) e me (omega arith)) record {
+    stayed p words views k id v (looked v k.log s b) refl me (refl, refl) (λ e. flies_looked v.flight s b e) (λ e a. refl) (λ e. refl) (λ e two all. still_owed views id v (looked v k.log s b) e me (omega arith)) record {
       plan_is = fit.plan_is;
       seen = front_whole k.log;
       told = fit.told;
@@ -316,10 +317,10 @@ flying true = (refl, (λ e. absurd (omega arith)), (λ e. absurd (omega arith)),
 flying false = (refl, (λ e. absurd (omega arith)), (λ e. absurd (omega arith)), refl)
 
 -- no other seat has the flight
-pub alone : (p : List PlannedDevice) (log : History) (words : List ℕ) (views : List View) (id : ℕ) (v : View) (f : Flight) → Tells p log views f.device (slice_index words f.device)
+pub alone : (p : List PlannedDevice) (o : Opening) (log : History) (words : List ℕ) (views : List View) (id : ℕ) (v : View) (f : Flight) → Tells p o log views f.device (slice_index words f.device)
     → get_elem? views id ≡ some v → v.flight ≡ Some f
     → (j : ℕ) (u : View) → j ≢ id → get_elem? views j ≡ some u → (g : Flight) → u.flight ≡ Some g → g.device ≢ f.device
-alone p log words views id v f tells me flight j u apart e g theirs same =
+alone p o log words views id v f tells me flight j u apart e g theirs same =
     omega (arith, terms_le (flies f.device) views id j v u apart me e, flies_one v.flight f f.device flight refl, flies_one u.flight g f.device theirs same, tells.flown, flights_of-small (slice_index words f.device))
 
 settled_as-times : (o : Option Outcome) → settled_times o ≤ 1

@@ -1,5 +1,5 @@
 -- What the words of a quiet board are, and when a board is quiet.
-use Rattle.std.proofs.Common.{◌≡◌, ℕ, zero, suc, ◌+◌, ◌<◌, ◌≤◌, Bool, true, false, not, List, [], ◌∷◌, ◌++◌, length, take, Option, Some, None, refl, sym, ap, ◌∙◌, subst, inl, inr, arith, get_or, true≢false}
+use Rattle.std.proofs.Common.{◌≡◌, ◌⊎◌, ℕ, zero, suc, ◌+◌, ◌<◌, ◌≤◌, Bool, true, false, not, List, [], ◌∷◌, ◌++◌, length, take, Option, Some, None, refl, sym, ap, ◌∙◌, subst, inl, inr, arith, get_or, true≢false}
 use Rattle.std.proofs.lemmas.Bool.{and_from, and_parts, cases_Bool}
 use Rattle.std.specs.List.{list_all, range_with_len}
 use Rattle.std.specs.Prelude.{if◌then◌else◌}
@@ -11,18 +11,20 @@ use Rattle.bus_core.proofs.Lists.{list_all_in_range}
 use Rattle.bus_core.specs.History.{IsBusHistory, IsHistoryAfter, bound_in, is_settled}
 use Rattle.bus_core.specs.Ready.{is_ready}
 use Rattle.bus_core.specs.declared.settle.Outcome.TheVariants.{Bound, Failed}
-use Rattle.bus_board.proofs.Flights.{again_is, flight_of, own_flight}
+use Rattle.bus_board.proofs.Flights.{again_is, begun_before, flight_of, not_tried, own_flight}
 use Rattle.bus_board.proofs.Histories.{append-nil, lawful_take, none_unsettled, ready_as, ready_bound, take_outcome, unsettled_none}
 use Rattle.bus_board.proofs.Moves.{is_false, is_true}
 use Rattle.bus_board.proofs.Tied.{goes_on}
 use Rattle.bus_board.proofs.Told.{Told, bound_told, told_bound}
 use Rattle.bus_board.specs.Ends.{IsDone, is_quiet, is_still, rest_word, suppliers_bound}
 use Rattle.bus_board.specs.Lists.{Among}
+use Rattle.bus_board.specs.Opening.{was_begun}
 use Rattle.bus_board.specs.Outcomes.{History, IsFront, outcome_of}
 use Rattle.bus_board.specs.Rule.{Fits, FlightFits, Kept, Tells}
 use Rattle.bus_board.specs.Views.{flies, flies_in}
 use Rattle.bus_board.specs.Words.{is_bound_word, number_of, settled_as, word_at}
 use Rattle.bus_board.specs.declared.view.Flight.{Flight}
+use Rattle.bus_board.specs.declared.view.Opening.{Opening}
 use Rattle.bus_board.specs.declared.view.View.{View}
 use Rattle.bus_board.specs.declared.words.Word.{Word}
 use Rattle.bus_board.specs.declared.words.Word.TheVariants as word
@@ -36,7 +38,7 @@ rest_is : (p : List PlannedDevice) (bound : ℕ → Bool) (d : ℕ) (m b r : Boo
 rest_is p bound d m b r em eb er = λ i. if em i then (if eb i then word.Bound else (if er i then word.Failed else word.Waiting)) else word.Unmatched
 
 -- the device of such a word has a driver
-matched_as : (p : List PlannedDevice) (log : History) (views : List View) (d w x : ℕ) → Tells p log views d w → w ≡ x → x < 7 → is_matched p d ≡ true
+matched_as : {o : Opening} (p : List PlannedDevice) (log : History) (views : List View) (d w x : ℕ) → Tells p o log views d w → w ≡ x → x < 7 → is_matched p d ≡ true
 matched_as p log views d w x tells is below = is_true _ (λ off. absurd (omega (arith, tells.matched off, is)))
 
 pub quiet_rests : (p : List PlannedDevice) (log : History) (views : List View) (words : List Word) → Told p log views words → is_quiet p words ≡ true → (d : ℕ) → d < length p
@@ -44,7 +46,7 @@ pub quiet_rests : (p : List PlannedDevice) (log : History) (views : List View) (
 quiet_rests p log views words told quiet d inside =
     at (told.tells d inside) (word_at words d) refl (list_all_in_range (λ e. is_still (word_at words e) (suppliers_bound p words e)) (length p) 0 d quiet (omega arith) (omega arith))
   where
-    at : Tells p log views d (number_of (word_at words d)) → (x : Word) → word_at words d ≡ x → is_still x (suppliers_bound p words d) ≡ true → word_at words d ≡ rest_word p (bound_by words) d
+    at : Tells p told.opening log views d (number_of (word_at words d)) → (x : Word) → word_at words d ≡ x → is_still x (suppliers_bound p words d) ≡ true → word_at words d ≡ rest_word p (bound_by words) d
     at tells word.Fresh is still = absurd (true≢false (sym still))
     at tells word.Trying is still = absurd (true≢false (sym still))
     at tells word.Woken is still = absurd (true≢false (sym still))
@@ -77,8 +79,8 @@ saw_whole p v log done front lawful =
     sym (front.1 ∙ ap (λ (r : History). v.seen ++ r) (none_more p v.seen rest done.settled after) ∙ append-nil v.seen)
 
 pub done_quiet : (p : List PlannedDevice) (numbers : List ℕ) (views : List View) (k : Kept p numbers views) (id : ℕ) (v : View) (words : List Word) → Told p k.log views words
-    → ((d : ℕ) → d < length p → get_or numbers d 0 ≡ number_of (word_at words d)) → get_elem? views id ≡ some v → IsDone p v → is_quiet p words ≡ true
-done_quiet p numbers views k id v words told same me done =
+    → ((d : ℕ) → d < length p → get_or numbers d 0 ≡ number_of (word_at words d)) → get_elem? views id ≡ some v → v.live ≡ true → IsDone p v → is_quiet p words ≡ true
+done_quiet p numbers views k id v words told same me live done =
     all_in_range (λ e. is_still (word_at words e) (suppliers_bound p words e)) (length p) 0 (λ d _ below. at d (omega arith) (told.tells d (omega arith)) (word_at words d) refl)
   where
     fit : Fits p k.log numbers v
@@ -93,14 +95,20 @@ done_quiet p numbers views k id v words told same me done =
         let all : is_settled k.log d ≡ true = subst (λ (h : History). is_ready p (bound_in h) d ≡ true → is_settled h d ≡ true) log-is (done.settled d) ready in
         true≢false (sym all ∙ none_unsettled k.log d out)
 
-    begun : (d : ℕ) → d < length p → Tells p k.log views d (number_of (word_at words d)) → (x : Word) → word_at words d ≡ x → number_of x < 7 → Among v.claimed d 0
+    begun : (d : ℕ) → d < length p → Tells p told.opening k.log views d (number_of (word_at words d)) → (x : Word) → word_at words d ≡ x → number_of x < 7 → (was_begun p v.opening d ≡ true) ⊎ Among v.claimed d 0
     begun d inside tells x is below = done.begun d (matched_as p k.log views d _ (number_of x) tells (ap number_of is) below)
 
-    at : (d : ℕ) → d < length p → Tells p k.log views d (number_of (word_at words d)) → (x : Word) → word_at words d ≡ x → is_still (word_at words d) (suppliers_bound p words d) ≡ true
-    at d inside tells word.Fresh is = absurd (fit.claimed d 0 (begun d inside tells word.Fresh is (omega arith)) (same d inside ∙ ap number_of is))
-    at d inside tells word.Trying is =
-        let own : flies d v ≡ 1 = own_flight p numbers views k id v d false inside (same d inside ∙ ap number_of is) me (begun d inside tells word.Trying is (omega arith)) in
-        absurd (omega (arith, own, ap (λ (o : Option Flight). flies_in o d) done.idle))
+    at : (d : ℕ) → d < length p → Tells p told.opening k.log views d (number_of (word_at words d)) → (x : Word) → word_at words d ≡ x → is_still (word_at words d) (suppliers_bound p words d) ≡ true
+    at d inside tells word.Fresh is = elim (begun d inside tells word.Fresh is (omega arith)) [
+      | inl before ↦ absurd (begun_before p numbers views k id v d inside me live before (same d inside ∙ ap number_of is))
+      | inr mine ↦ absurd (fit.claimed d 0 mine (same d inside ∙ ap number_of is))
+    ]
+    at d inside tells word.Trying is = elim (begun d inside tells word.Trying is (omega arith)) [
+      | inl before ↦ absurd (not_tried p numbers views k id v d inside me live before (same d inside ∙ ap number_of is))
+      | inr mine ↦
+          let own : flies d v ≡ 1 = own_flight p numbers views k id v d false inside (same d inside ∙ ap number_of is) me mine in
+          absurd (omega (arith, own, ap (λ (o : Option Flight). flies_in o d) done.idle))
+    ]
     at d inside tells word.Waiting is = elim (cases_Bool (suppliers_bound p words d)) [
       | inl all ↦
           let matched : is_matched p d ≡ true = matched_as p k.log views d _ 2 tells (ap number_of is) (omega arith) in

@@ -8,19 +8,22 @@ use mathlib.Core.Option.{some, some-injective, some-ne-none}
 use lib.ListN.{get_elem?}
 use Rattle.atomic_table.proofs.Lists.{at_longer, at_set, at_snoc, set_again, set_else}
 use Rattle.atomic_table.specs.Table.{Joins, Splits}
-use Rattle.bus_plan.specs.Plan.{PlannedDevice, is_matched}
-use Rattle.bus_core.specs.History.{IsBusHistory}
+use Rattle.bus_plan.specs.Plan.{PlannedDevice}
+use Rattle.bus_core.specs.CoreState.{CoreValue, was_begun}
+use Rattle.bus_core.specs.History.{IsBusHistory, is_settled}
 use Rattle.bus_core.specs.declared.settle.Outcome.TheVariants.{Bound}
 use Rattle.bus_core.specs.declared.settle.Settle.{Settle}
-use Rattle.bus_board.proofs.Histories.{append-nil, front_outcome, lawful_front, none_in_front}
+use Rattle.bus_board.proofs.Histories.{append-nil, front_outcome, front_whole, lawful_front, none_in_front}
+use Rattle.bus_board.proofs.Openings.{opening_tells}
 use Rattle.bus_board.proofs.Sums.{total-append, total-set}
-use Rattle.bus_board.proofs.Turns.{set_at, times-append}
+use Rattle.bus_board.proofs.Turns.{opened_set, set_at, times-append}
 use Rattle.bus_board.specs.Learns.{JoinedBy, Stands}
 use Rattle.bus_board.specs.Lists.{Among, pairs, times}
+use Rattle.bus_board.specs.Opening.{AreFirst, opening_of}
 use Rattle.bus_board.specs.Outcomes.{History, IsFront, longer, shorter}
 use Rattle.bus_board.specs.Rule.{Fits, Holds, Kept, SeenBySome, Tells}
 use Rattle.bus_board.specs.Views.{both, claims, flies, flies_in, newcomer, of_devices, opener, owes, spent}
-use Rattle.bus_board.specs.Words.{AreFirst, claimed_word, first_word}
+use Rattle.bus_board.specs.Words.{claimed_word}
 use Rattle.bus_board.specs.declared.view.Flight.{Flight}
 use Rattle.bus_board.specs.declared.view.View.{View}
 
@@ -53,8 +56,14 @@ split_allowed p id v live s k me =
     let n : View = newcomer v in
     let fit : Fits p k.log s.words v = k.fits id v me in
     let kept : Kept p s.words (s.views ++ n ∷ []) = record {
+      opening = k.opening;
       log = k.log;
       lawful = k.lawful;
+      later = k.later;
+      opened = λ j u e l. ⊎_elim
+          (λ (t : get_elem? s.views j ≡ some u). k.opened j u t l)
+          (λ (t : n ≡ u). subst (λ (x : View). x.opening ≡ k.opening) t (k.opened id v me live))
+          (at_snoc s.views n u j e);
       whole = (k.whole.0, k.whole.1, at_longer s.views (n ∷ []) k.whole.0 k.whole.1 k.whole.2, k.whole.3);
       wide = k.wide;
       words_tell = λ d lt. let was = k.words_tell d lt in record {
@@ -191,8 +200,14 @@ join_allowed p id v other w live idle s k me apart there =
       begun = λ f e. absurd (cc);
     } in
     record {
+      opening = k.opening;
       log = k.log;
       lawful = k.lawful;
+      later = k.later;
+      opened = λ j u e l. ⊎_elim
+          (λ (t : (j ≡ other) × (spent ≡ u)). let off : false ≡ true = ap (λ (x : View). x.live) t.1 ∙ l in absurd (cc))
+          (λ (t : (j ≢ other) × (get_elem? mid j ≡ some u)). opened_set s.views k.opening id v b me (refl, refl) k.opened j u t.1 l)
+          (at_set mid other j spent u e);
       whole = join_whole s.views id v other w k.log me was (λ x. apart x) fit.seen theirs.seen k.whole;
       wide = k.wide;
       words_tell = λ d lt. let x = k.words_tell d lt in record {
@@ -229,30 +244,32 @@ get_elem_one : (v u : View) (j : ℕ) → get_elem? (v ∷ []) j ≡ some u → 
 get_elem_one v u zero e = some-injective v u e
 get_elem_one v u (suc j) e = absurd (some-ne-none u (sym e))
 
-pub opening_holds : (p : List PlannedDevice) (words : List ℕ) → AreFirst p words → Kept p words (opener p ∷ [])
-opening_holds p words first = record {
-  log = [];
-  lawful = tt;
-  whole = (0, opener p, refl, refl);
-  wide = omega (arith, first.0);
-  words_tell = λ d lt. subst (Tells p [] (opener p ∷ []) d) (sym (first.1 d lt)) (tells (is_matched p d) refl);
-  owned = λ d. refl;
-  fits = λ j u e. subst (Fits p [] words) (get_elem_one (opener p) u j e) record {
-    plan_is = λ _. refl;
-    seen = ([], refl);
-    told = ([], refl);
-    mine = λ d _. refl;
-    claimed = λ d w a. absurd (not-among d w a);
-    retried = λ d a. absurd (not-among d 3 a);
-    passed = λ d a. absurd (not-among d 0 a);
-    flight = λ f e'. absurd (cc);
-    begun = λ f e'. absurd (cc);
-  };
-}
-  where
-    tells : {d : ℕ} (b : Bool) → (is_matched p d) ≡ b → Tells p [] (opener p ∷ []) d (first_word b)
-    tells true is = record { small = omega arith; settled = refl; flown = refl; begun = refl; retried = omega arith; unmatched = λ e. absurd (omega arith); matched = λ off. absurd (cc); woken = λ e. absurd (omega arith); waiting = λ e _. absurd (omega arith) }
-    tells false is = record { small = omega arith; settled = refl; flown = refl; begun = refl; retried = omega arith; unmatched = λ e. is; matched = λ off. refl; woken = λ e. absurd (omega arith); waiting = λ e _. absurd (omega arith) }
+pub opening_holds : (core : CoreValue) (words : List ℕ) → AreFirst core words → IsBusHistory core.plan core.state.history
+    → ((d : ℕ) → is_settled core.state.history d ≡ true → was_begun core.state d ≡ true) → Kept core.plan words (opener core ∷ [])
+opening_holds core words first lawful begun =
+    let h : History = core.state.history in
+    record {
+      opening = opening_of core.state;
+      log = h;
+      lawful = lawful;
+      later = front_whole h;
+      opened = λ j u e _. ap (λ (x : View). x.opening) (sym (get_elem_one (opener core) u j e));
+      whole = (0, opener core, refl, refl);
+      wide = omega (arith, first.0);
+      words_tell = λ d lt. subst (Tells core.plan (opening_of core.state) h (opener core ∷ []) d) (sym (first.1 d lt)) (opening_tells core d lawful begun);
+      owned = λ d. omega arith;
+      fits = λ j u e. subst (Fits core.plan h words) (get_elem_one (opener core) u j e) record {
+        plan_is = λ _. refl;
+        seen = front_whole h;
+        told = (h, refl);
+        mine = λ d _. refl;
+        claimed = λ d w a. absurd (not-among d w a);
+        retried = λ d a. absurd (not-among d 3 a);
+        passed = λ d a. absurd (not-among d 0 a);
+        flight = λ f e'. absurd (cc);
+        begun = λ f e'. absurd (cc);
+      };
+    }
 
 in_front : (f h : History) (x : Settle) → IsFront f h → Stands f x → Stands h x
 in_front f h x t there = subst (λ (l : History). Stands l x) (sym t.1) (longer_stands f t.0 there.0 there.1)

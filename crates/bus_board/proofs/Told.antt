@@ -10,15 +10,17 @@ use Rattle.bus_board.proofs.Moves.{settled_as-bound}
 use Rattle.bus_board.specs.Outcomes.{History}
 use Rattle.bus_board.specs.Rule.{Tells}
 use Rattle.bus_board.specs.Words.{is_bound_word, number_of, settled_as, word_at}
+use Rattle.bus_board.specs.declared.view.Opening.{Opening}
 use Rattle.bus_board.specs.declared.view.View.{View}
 use Rattle.bus_board.specs.declared.words.Word.{Word}
 use Rattle.bus_board.specs.declared.words.Word.TheVariants as word
 
 -- The words at the end, each the word of a number that tells of the device.
 pub record Told (p : List PlannedDevice) (log : History) (views : List View) (words : List Word) : Type 0 where
+  pub opening : Opening
   pub lawful : IsBusHistory p log
   pub long : length words ≡ length p
-  pub tells : (d : ℕ) → d < length p → Tells p log views d (number_of (word_at words d))
+  pub tells : (d : ℕ) → d < length p → Tells p opening log views d (number_of (word_at words d))
 
 -- a BOUND word is that of a bound device
 pub bound_told : (p : List PlannedDevice) (log : History) (views : List View) (words : List Word) → Told p log views words → (d : ℕ) → is_bound_word (word_at words d) ≡ true → bound_in log d ≡ true

@@ -13,11 +13,12 @@ use Rattle.bus_core.specs.declared.settle.Outcome.TheVariants.{Bound}
 use Rattle.bus_board.proofs.Histories.{front_push, ready_later, take_front}
 use Rattle.bus_board.proofs.Sums.{total-set}
 use Rattle.bus_board.specs.Lists.{times, total}
-use Rattle.bus_board.specs.Outcomes.{AllBound, History, outcome_of}
-use Rattle.bus_board.specs.Rule.{Fits, Kept, Tells, settled_times}
+use Rattle.bus_board.specs.Outcomes.{AllBound, History, IsFront, outcome_of}
+use Rattle.bus_board.specs.Rule.{Fits, Kept, KnowOpening, Tells, settled_times}
 use Rattle.bus_board.specs.Views.{claims, flies, flies_in, owes}
 use Rattle.bus_board.specs.Words.{IsRetried}
 use Rattle.bus_board.specs.declared.view.Flight.{Flight}
+use Rattle.bus_board.specs.declared.view.Opening.{Opening}
 use Rattle.bus_board.specs.declared.view.View.{View}
 
 pub set_at : {A : Type 0} (l : List A) (i : ℕ) (v w : A) → get_elem? l i ≡ some v → get_elem? (set l i w) i ≡ some w
@@ -65,29 +66,42 @@ fits_later p log more words i n u h not-fresh still apart fit = record {
   begun = fit.begun;
 }
 
+-- a seat's step leaves it a seat, and with what the board was opened
+abbrev pub Alike : View → View → Type 0
+Alike v w = (w.live ≡ v.live) × (w.opening ≡ v.opening)
+
+pub opened_set : (views : List View) (o : Opening) (id : ℕ) (v w : View) → get_elem? views id ≡ some v → Alike v w → KnowOpening views o → KnowOpening (set views id w) o
+opened_set views o id v w me alike known j u e = ⊎_elim
+    (λ (t : (j ≡ id) × (w ≡ u)). subst (λ (x : View). x.live ≡ true → x.opening ≡ o) t.1 (λ live. alike.1 ∙ known id v me (sym alike.0 ∙ live)))
+    (λ (t : (j ≢ id) × (get_elem? views j ≡ some u)). known j u t.1)
+    (at_set views id j w u e)
+
 -- the word i becomes n, the seat's view w, and the history goes on
 pub turned : (p : List PlannedDevice) (words : List ℕ) (views : List View) (k : Kept p words views) (id : ℕ) (v w : View) (i n : ℕ) (log more : History) → log ≡ k.log ++ more → w.seen ≡ log
-    → get_elem? views id ≡ some v → i < length p → IsBusHistory p log
+    → get_elem? views id ≡ some v → Alike v w → i < length p → IsBusHistory p log
     → ((d : ℕ) → d ≢ i → outcome_of log d ≡ outcome_of k.log d)
     → ((d : ℕ) → d ≢ i → flies d w ≡ flies d v)
     → ((d a : ℕ) → d ≢ i → claims d a w ≡ claims d a v)
     → ((d : ℕ) → times d w.mine + settled_times (outcome_of k.log d) ≡ times d v.mine + settled_times (outcome_of log d))
-    → Tells p log (set views id w) i n
+    → Tells p k.opening log (set views id w) i n
     → (slice_index words i ≢ 0 → n ≢ 0) → (IsRetried (slice_index words i) → IsRetried n)
     → ((j : ℕ) (u : View) → j ≢ id → get_elem? views j ≡ some u → (f : Flight) → u.flight ≡ Some f → f.device ≢ i)
     → ((d : ℕ) → d ≢ i → d < length p → slice_index words d ≡ 2 → AllBound p log d → 0 < total (owes d) (set views id w))
     → Fits p log (set words i n) w
     → Kept p (set words i n) (set views id w)
-turned p words views k id v w i n log more grown seen me inside lawful same flown claimed own tells not-fresh still apart owe fit =
+turned p words views k id v w i n log more grown seen me alike inside lawful same flown claimed own tells not-fresh still apart owe fit =
     let wide = k.wide in
     let h : i < length words = omega arith in
     record {
+      opening = k.opening;
       log = log;
       lawful = lawful;
+      later = subst (IsFront k.opening.history) (sym grown) (front_push k.opening.history k.log more k.later);
+      opened = opened_set views k.opening id v w me alike k.opened;
       whole = (id, w, set_at views id v w me, seen);
       wide = length-set words i n ∙ k.wide;
-      words_tell = λ d lt. word_after words i n d (λ (x : ℕ). Tells p log (set views id w) d x) h
-          (λ e. subst (λ (x : ℕ). Tells p log (set views id w) x n) (sym e) tells)
+      words_tell = λ d lt. word_after words i n d (λ (x : ℕ). Tells p k.opening log (set views id w) d x) h
+          (λ e. subst (λ (x : ℕ). Tells p k.opening log (set views id w) x n) (sym e) tells)
           (λ ne. let was = k.words_tell d lt in record {
             small = was.small;
             settled = same d ne ∙ was.settled;
@@ -108,14 +122,17 @@ turned p words views k id v w i n log more grown seen me inside lawful same flow
 
 -- a word that is only read
 pub stayed : (p : List PlannedDevice) (words : List ℕ) (views : List View) (k : Kept p words views) (id : ℕ) (v w : View) → w.seen ≡ k.log
-    → get_elem? views id ≡ some v
+    → get_elem? views id ≡ some v → Alike v w
     → ((d : ℕ) → flies d w ≡ flies d v) → ((d a : ℕ) → claims d a w ≡ claims d a v) → ((d : ℕ) → times d w.mine ≡ times d v.mine)
     → ((d : ℕ) → slice_index words d ≡ 2 → AllBound p k.log d → 0 < total (owes d) views → 0 < total (owes d) (set views id w))
     → Fits p k.log words w
     → Kept p words (set views id w)
-stayed p words views k id v w seen me flown claimed own owe fit = record {
+stayed p words views k id v w seen me alike flown claimed own owe fit = record {
+  opening = k.opening;
   log = k.log;
   lawful = k.lawful;
+  later = k.later;
+  opened = opened_set views k.opening id v w me alike k.opened;
   whole = (id, w, set_at views id v w me, seen);
   wide = k.wide;
   words_tell = λ d lt. let was = k.words_tell d lt in record {

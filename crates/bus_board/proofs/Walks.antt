@@ -48,7 +48,7 @@ walk_start m live idle lawful = record {
 }
   where
     passed_none : (v : View) → v ≡ passed_all v v.seen []
-    passed_none v = λ i. record { live = v.live; plan = v.plan; seen = v.seen; told = v.told; mine = v.mine; flight = v.flight; claimed = v.claimed; passed = sym (pairs-nil v.passed) i; owed = v.owed }
+    passed_none v = λ i. record { live = v.live; plan = v.plan; opening = v.opening; seen = v.seen; told = v.told; mine = v.mine; flight = v.flight; claimed = v.claimed; passed = sym (pairs-nil v.passed) i; owed = v.owed }
 
 pub walk_claims : (key : List PlannedDevice) (slots id : ℕ) (v : View) (m : M) (lost : List (ℕ × ℕ)) (d old new : ℕ) → Kind old new → Walk v m lost → d < length key
     → Allows (Holds key) slots id m d (λ n. either (eqb n old) new n) (Claims (step slots d old new none) m)
@@ -62,6 +62,7 @@ walk_lost v m n slots d old new r lost w told miss =
     let whole : passed_all (passed_all v w.log lost) told.log ((d, old) ∷ []) ≡ passed_all v told.log (lost ++ (d, old) ∷ []) = λ i. record {
       live = v.live;
       plan = v.plan;
+      opening = v.opening;
       seen = told.log;
       told = v.told;
       mine = v.mine;

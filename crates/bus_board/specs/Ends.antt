@@ -1,5 +1,5 @@
 -- How a board ends.
-use Rattle.std.specs.Prelude.{◌≡◌, ◌≢◌, ◌↔◌, ℕ, ◌<◌, Bool, true, false, not, if◌then◌else◌, List, length, None, slice_index}
+use Rattle.std.specs.Prelude.{◌≡◌, ◌≢◌, ◌↔◌, ◌⊎◌, ℕ, ◌<◌, Bool, true, false, not, if◌then◌else◌, List, length, None, slice_index}
 use Rattle.std.specs.List.{list_all}
 use mathlib.Core.Option.{some}
 use lib.ListN.{get_elem?}
@@ -9,6 +9,7 @@ use Rattle.bus_core.specs.History.{IsBusHistory, bound_in, is_settled}
 use Rattle.bus_core.specs.Least.{IsLeast}
 use Rattle.bus_core.specs.Ready.{is_ready}
 use Rattle.bus_board.specs.Lists.{Among}
+use Rattle.bus_board.specs.Opening.{was_begun}
 use Rattle.bus_board.specs.Outcomes.{History, outcome_of, IsFront}
 use Rattle.bus_board.specs.Rule.{Kept}
 use Rattle.bus_board.specs.Views.{flies}
@@ -50,17 +51,18 @@ pub record Stood (plan : List PlannedDevice) (log : History) (v : View) (words :
   pub seat : (j : ℕ) × (get_elem? views j ≡ some v)
   pub told : (d : ℕ) → d < length plan → slice_index numbers d ≡ number_of (word_at words d)
 
--- As far as the seat knows nothing is left to do: it has begun each device with a driver, itself or by a seat that was given back
--- to it, it has no flight, and each device that is ready for what it has seen has settled there.
+-- As far as the seat knows nothing is left to do: each device with a driver was begun before the board was opened, or by the seat
+-- itself or one that was given back to it; it has no flight, and each device that is ready for what it has seen has settled there.
 pub record IsDone (plan : List PlannedDevice) (v : View) : Type 0 where
-  pub begun : (d : ℕ) → is_matched plan d ≡ true → Among v.claimed d 0
+  pub begun : (d : ℕ) → is_matched plan d ≡ true → (was_begun plan v.opening d ≡ true) ⊎ Among v.claimed d 0
   pub idle : v.flight ≡ None
   pub settled : (d : ℕ) → is_ready plan (bound_in v.seen) d ≡ true → is_settled v.seen d ≡ true
 
 -- The words at the end keep the rule of the board, and tell the outcomes of a history of the bus that begins with what the seat
--- has seen; the devices without a driver are UNMATCHED. No device that the seat passed from FRESH or claimed is FRESH. One that it
--- claimed from WOKEN is RETRYING, BOUND or FAILED. What it claimed is in no other seat's flight. The board is quiet where the seat
--- knows that nothing is left to do; and where it is quiet, the BOUND devices are the least set, and each word follows from them.
+-- has seen; the devices without a driver are UNMATCHED. No device is FRESH that was begun before the board was opened, or that the
+-- seat passed from FRESH or claimed. One that it claimed from WOKEN is RETRYING, BOUND or FAILED. What it claimed is in no other
+-- seat's flight. The board is quiet where the seat knows that nothing is left to do; and where it is quiet, the BOUND devices are
+-- the least set, and each word follows from them.
 pub record EndsAs (plan : List PlannedDevice) (v : View) (words : List Word) (quiet : Bool) : Type 0 where
   pub log : History
   pub lawful : IsBusHistory plan log
@@ -69,6 +71,7 @@ pub record EndsAs (plan : List PlannedDevice) (v : View) (words : List Word) (qu
   pub wide : length words ≡ length plan
   pub outcomes : (d : ℕ) → d < length plan → outcome_of log d ≡ settled_as (number_of (word_at words d))
   pub unmatched : (d : ℕ) → d < length plan → (word_at words d ≡ Unmatched) ↔ (is_matched plan d ≡ false)
+  pub begun : (d : ℕ) → d < length plan → was_begun plan v.opening d ≡ true → word_at words d ≢ Fresh
   pub passed : (d : ℕ) → d < length plan → Among v.passed d 0 → word_at words d ≢ Fresh
   pub claimed : (d w : ℕ) → d < length plan → Among v.claimed d w → word_at words d ≢ Fresh
   pub retried : (d : ℕ) → d < length plan → Among v.claimed d 3 → IsRetried (number_of (word_at words d))

@@ -5,7 +5,7 @@ use Rattle.bus_core.specs.History.{IsBusHistory, bound_in, outcome_by}
 use Rattle.bus_core.specs.Step.{settle_of, settled_reply}
 use Rattle.bus_core.specs.declared.event.Reply.{Reply}
 use Rattle.bus_core.specs.declared.refusal.Refusal.{Refusal}
-use Rattle.bus_core.specs.declared.refusal.Refusal.TheVariants.{NoMemory, NotIdle, Unmatched, StaleTicket, NotReady, WasBound, TooManyEvents, NotInFlight}
+use Rattle.bus_core.specs.declared.refusal.Refusal.TheVariants.{NoMemory, NotIdle, Unmatched, StaleTicket, NotReady, WasBound, TooManyEvents, NotInFlight, KnownDriver}
 use Rattle.bus_core.specs.declared.settle.Settle.{Settle}
 use Rattle.bus_board.specs.Lists.{Has, Among}
 use Rattle.bus_board.specs.Outcomes.{History, IsFront}
@@ -51,6 +51,7 @@ NotTaken v NotReady = ⊥
 NotTaken v WasBound = ⊥
 NotTaken v TooManyEvents = ⊥
 NotTaken v NotInFlight = ⊥
+NotTaken v KnownDriver = ⊥
 
 -- `look` answered whether the supplier's word was BOUND
 pub record LookedAt (v w : View) (s : ℕ) (b : Bool) : Type 0 where
@@ -74,6 +75,7 @@ NotLooked v s Unmatched = ⊥
 NotLooked v s StaleTicket = ⊥
 NotLooked v s NotReady = ⊥
 NotLooked v s TooManyEvents = ⊥
+NotLooked v s KnownDriver = ⊥
 
 -- the flight's last look at each supplier found it BOUND
 abbrev pub HasSeenAll : List PlannedDevice → Flight → Type 0
@@ -100,6 +102,7 @@ NotSettled v Unmatched = ⊥
 NotSettled v StaleTicket = ⊥
 NotSettled v WasBound = ⊥
 NotSettled v TooManyEvents = ⊥
+NotSettled v KnownDriver = ⊥
 
 -- `defer` ended the flight: its device waits, and is owed
 pub record DeferredOn (v w : View) (s : ℕ) : Type 0 where
@@ -122,6 +125,7 @@ NotDeferred v s Unmatched = ⊥
 NotDeferred v s StaleTicket = ⊥
 NotDeferred v s NotReady = ⊥
 NotDeferred v s TooManyEvents = ⊥
+NotDeferred v s KnownDriver = ⊥
 
 -- Debts were dropped, each by a step of its own, and these are left.
 pub record Paid (v w : View) (left : List ℕ) : Type 0 where

@@ -1,6 +1,7 @@
 pub mod Ends
 pub mod Learns
 pub mod Lists
+pub mod Opening
 pub mod Outcomes
 pub mod Private
 pub mod Rule

@@ -1,6 +1,6 @@
 -- What holds of a board between any two steps, over the words and all views: the seven clauses of the board.
 -- FRESH 0, TRYING 1, WAITING 2, WOKEN 3, RETRYING 4, BOUND 5, FAILED 6, UNMATCHED 7.
-use Rattle.std.specs.Prelude.{◌≡◌, ◌≢◌, ℕ, suc, ◌<◌, ◌≤◌, true, false, List, length, take, Option, Some, None, slice_index}
+use Rattle.std.specs.Prelude.{◌≡◌, ◌≢◌, ℕ, suc, ◌+◌, ◌<◌, ◌≤◌, true, false, if◌then◌else◌, List, length, take, Option, Some, None, slice_index}
 use mathlib.Core.Option.{some}
 use lib.ListN.{get_elem?}
 use Rattle.atomic_table.specs.Table.{State}
@@ -10,9 +10,11 @@ use Rattle.bus_core.specs.declared.settle.Outcome.TheVariants.{Bound}
 use Rattle.bus_core.specs.History.{IsBusHistory, bound_in}
 use Rattle.bus_core.specs.Ready.{is_ready}
 use Rattle.bus_board.specs.Lists.{times, Among, total}
+use Rattle.bus_board.specs.Opening.{was_begun}
 use Rattle.bus_board.specs.Outcomes.{History, outcome_of, AllBound, IsFront}
 use Rattle.bus_board.specs.Views.{last_look, claims, flies, owes}
 use Rattle.bus_board.specs.Words.{settled_as, flights_of, flying_word, claimed_word, begins_of, most_retries, IsRetried}
+use Rattle.bus_board.specs.declared.view.Opening.{Opening}
 use Rattle.bus_board.specs.declared.view.View.{View}
 use Rattle.bus_board.specs.declared.view.Flight.{Flight}
 
@@ -41,15 +43,19 @@ pub record Fits (plan : List PlannedDevice) (log : History) (words : List ℕ) (
   pub flight : (f : Flight) → v.flight ≡ Some f → FlightFits plan log words v.seen f
   pub begun : (f : Flight) → v.flight ≡ Some f → Among v.claimed f.device (claimed_word f.again)
 
+-- how often the device was begun before the board was opened
+abbrev pub begins_before : List PlannedDevice → Opening → ℕ → ℕ
+begins_before plan opening d = if was_begun plan opening d then 1 else 0
+
 -- The word of a device (clauses 1, 2, 5, 6 and 7): it tells the device's outcome in the history, and one flight exactly where it
--- is TRYING or RETRYING; it is UNMATCHED exactly where no driver matches, and FRESH exactly where one does and no seat has begun
--- the device, which is claimed it from FRESH; else one seat has, once. No two claim it from WOKEN. A WOKEN device is ready; a
--- WAITING one whose suppliers are all bound is owed by some seat.
-pub record Tells (plan : List PlannedDevice) (log : History) (views : List View) (d w : ℕ) : Type 0 where
+-- is TRYING or RETRYING; it is UNMATCHED exactly where no driver matches, and FRESH exactly where one does and the device wasn't
+-- begun, neither before the board was opened nor by a seat, which is claimed it from FRESH; else it was, once. No two seats claim
+-- it from WOKEN. A WOKEN device is ready; a WAITING one whose suppliers are all bound is owed by some seat.
+pub record Tells (plan : List PlannedDevice) (opening : Opening) (log : History) (views : List View) (d w : ℕ) : Type 0 where
   pub small : w ≤ 7
   pub settled : outcome_of log d ≡ settled_as w
   pub flown : total (flies d) views ≡ flights_of w
-  pub begun : total (claims d 0) views ≡ begins_of w
+  pub begun : total (claims d 0) views + begins_before plan opening d ≡ begins_of w
   pub retried : total (claims d 3) views ≤ most_retries w
   pub unmatched : w ≡ 7 → is_matched plan d ≡ false
   pub matched : is_matched plan d ≡ false → w ≡ 7
@@ -64,14 +70,22 @@ settled_times (Some o) = 1
 abbrev pub SeenBySome : List View → History → Type 0
 SeenBySome views log = (j : ℕ) × (v : View) × (get_elem? views j ≡ some v) × (v.seen ≡ log)
 
--- The words and the views show a state of the core, whose history is one of the sequential bus; each settle is one seat's own.
+-- each seat knows with what the board was opened
+abbrev pub KnowOpening : List View → Opening → Type 0
+KnowOpening views opening = (j : ℕ) (v : View) → get_elem? views j ≡ some v → v.live ≡ true → v.opening ≡ opening
+
+-- The words and the views show a state of the core, whose history is one of the sequential bus and goes on from that with which
+-- the board was opened, as each seat knows it. Each settle after those is one seat's own.
 pub record Kept (plan : List PlannedDevice) (words : List ℕ) (views : List View) : Type 0 where
+  pub opening : Opening
   pub log : History
   pub lawful : IsBusHistory plan log
+  pub later : IsFront opening.history log
+  pub opened : KnowOpening views opening
   pub whole : SeenBySome views log
   pub wide : length words ≡ suc (length plan)
-  pub words_tell : (d : ℕ) → d < length plan → Tells plan log views d (slice_index words d)
-  pub owned : (d : ℕ) → total (λ v. times d v.mine) views ≡ settled_times (outcome_of log d)
+  pub words_tell : (d : ℕ) → d < length plan → Tells plan opening log views d (slice_index words d)
+  pub owned : (d : ℕ) → total (λ v. times d v.mine) views + settled_times (outcome_of opening.history d) ≡ settled_times (outcome_of log d)
   pub fits : (j : ℕ) (v : View) → get_elem? views j ≡ some v → Fits plan log words v
 
 -- a board's table has no slots

@@ -2,9 +2,11 @@
 use Rattle.std.specs.Prelude.{◌==◌, ℕ, Bool, true, false, if◌then◌else◌, List, [], ◌∷◌, ◌++◌, length, Option, Some, None}
 use Rattle.bus_plan.specs.Plan.{PlannedDevice, verdict_of}
 use Rattle.bus_plan.specs.Consumers.{consumers_of}
+use Rattle.bus_core.specs.CoreState.{CoreValue}
 use Rattle.bus_core.specs.History.{outcome_by, is_bound}
 use Rattle.bus_core.specs.Step.{settle_of}
 use Rattle.bus_board.specs.Lists.{pairs, times}
+use Rattle.bus_board.specs.Opening.{opening_of, nothing_before}
 use Rattle.bus_board.specs.Outcomes.{History, longer, shorter}
 use Rattle.bus_board.specs.declared.view.View.{View}
 use Rattle.bus_board.specs.declared.view.Flight.{Flight}
@@ -39,19 +41,31 @@ of_devices mine (s ∷ h) = if times s.device mine == 0 then of_devices mine h e
 abbrev pub made : View → History
 made v = of_devices v.mine v.seen
 
--- the first seat
-abbrev pub opener : List PlannedDevice → View
-opener plan = record { live = true; plan = plan; seen = []; told = []; mine = []; flight = None; claimed = []; passed = []; owed = [] }
+-- the first seat of a board over a core: it has seen what settled before
+abbrev pub opener : CoreValue → View
+opener core = record {
+  live = true;
+  plan = core.plan;
+  opening = opening_of core.state;
+  seen = core.state.history;
+  told = [];
+  mine = [];
+  flight = None;
+  claimed = [];
+  passed = [];
+  owed = [];
+}
 
 -- a further seat, which has seen what the given one has
 abbrev pub newcomer : View → View
-newcomer v = record { live = true; plan = v.plan; seen = v.seen; told = []; mine = []; flight = None; claimed = []; passed = []; owed = [] }
+newcomer v = record { live = true; plan = v.plan; opening = v.opening; seen = v.seen; told = []; mine = []; flight = None; claimed = []; passed = []; owed = [] }
 
 -- both seats' views: the longer front is seen, and the shorter one is noted
 abbrev pub both : View → View → View
 both v w = record {
   live = v.live;
   plan = v.plan;
+  opening = v.opening;
   seen = longer v.seen w.seen;
   told = shorter v.seen w.seen;
   mine = v.mine ++ w.mine;
@@ -63,17 +77,18 @@ both v w = record {
 
 -- what a seat leaves that was given back
 abbrev pub spent : View
-spent = record { live = false; plan = []; seen = []; told = []; mine = []; flight = None; claimed = []; passed = []; owed = [] }
+spent = record { live = false; plan = []; opening = nothing_before; seen = []; told = []; mine = []; flight = None; claimed = []; passed = []; owed = [] }
 
 -- it has seen this history
 abbrev pub caught_up : View → History → View
-caught_up v log = record { live = v.live; plan = v.plan; seen = log; told = v.told; mine = v.mine; flight = v.flight; claimed = v.claimed; passed = v.passed; owed = v.owed }
+caught_up v log = record { live = v.live; plan = v.plan; opening = v.opening; seen = log; told = v.told; mine = v.mine; flight = v.flight; claimed = v.claimed; passed = v.passed; owed = v.owed }
 
 -- a claim of the device from the word w was won
 abbrev pub claimed_by : View → History → ℕ → ℕ → View
 claimed_by v log d w = record {
   live = v.live;
   plan = v.plan;
+  opening = v.opening;
   seen = log;
   told = v.told;
   mine = v.mine;
@@ -85,7 +100,7 @@ claimed_by v log d w = record {
 
 -- these claims were lost
 abbrev pub passed_all : View → History → List (ℕ × ℕ) → View
-passed_all v log lost = record { live = v.live; plan = v.plan; seen = log; told = v.told; mine = v.mine; flight = v.flight; claimed = v.claimed; passed = v.passed ++ lost; owed = v.owed }
+passed_all v log lost = record { live = v.live; plan = v.plan; opening = v.opening; seen = log; told = v.told; mine = v.mine; flight = v.flight; claimed = v.claimed; passed = v.passed ++ lost; owed = v.owed }
 
 abbrev pub looked_in : Option Flight → ℕ → Bool → Option Flight
 looked_in None s b = None
@@ -93,7 +108,7 @@ looked_in (Some f) s b = Some (record { device = f.device; at = f.at; again = f.
 
 -- the flight looked at a supplier, and found it BOUND or not
 abbrev pub looked : View → History → ℕ → Bool → View
-looked v log s b = record { live = v.live; plan = v.plan; seen = log; told = v.told; mine = v.mine; flight = looked_in v.flight s b; claimed = v.claimed; passed = v.passed; owed = v.owed }
+looked v log s b = record { live = v.live; plan = v.plan; opening = v.opening; seen = log; told = v.told; mine = v.mine; flight = looked_in v.flight s b; claimed = v.claimed; passed = v.passed; owed = v.owed }
 
 -- what a settle of the device makes its seat owe: all consumers, where it bound
 abbrev pub debts_of : List PlannedDevice → ℕ → List ℕ
@@ -104,6 +119,7 @@ abbrev pub settled_by : View → History → ℕ → View
 settled_by v log d = record {
   live = v.live;
   plan = v.plan;
+  opening = v.opening;
   seen = log ++ settle_of v.plan d ∷ [];
   told = v.told;
   mine = d ∷ v.mine;
@@ -115,7 +131,7 @@ settled_by v log d = record {
 
 -- the flight ended, and its device waits
 abbrev pub deferred : View → History → ℕ → View
-deferred v log d = record { live = v.live; plan = v.plan; seen = log; told = v.told; mine = v.mine; flight = None; claimed = v.claimed; passed = v.passed; owed = v.owed ++ d ∷ [] }
+deferred v log d = record { live = v.live; plan = v.plan; opening = v.opening; seen = log; told = v.told; mine = v.mine; flight = None; claimed = v.claimed; passed = v.passed; owed = v.owed ++ d ∷ [] }
 
 abbrev pub rest : List ℕ → List ℕ
 rest [] = []
@@ -123,7 +139,7 @@ rest (x ∷ xs) = xs
 
 -- these debts are left
 abbrev pub with_debts : View → History → List ℕ → View
-with_debts v log left = record { live = v.live; plan = v.plan; seen = log; told = v.told; mine = v.mine; flight = v.flight; claimed = v.claimed; passed = v.passed; owed = left }
+with_debts v log left = record { live = v.live; plan = v.plan; opening = v.opening; seen = log; told = v.told; mine = v.mine; flight = v.flight; claimed = v.claimed; passed = v.passed; owed = left }
 
 -- the first debt dropped
 abbrev pub relieved : View → History → View

@@ -1,6 +1,5 @@
 -- The words of the devices, and what each tells.
-use Rattle.std.specs.Prelude.{◌≡◌, ◌==◌, ◌⊎◌, ℕ, ◌+◌, ◌<◌, Bool, if◌then◌else◌, List, length, Option, Some, None, slice_index, slice_index_or}
-use Rattle.bus_plan.specs.Plan.{PlannedDevice, is_matched}
+use Rattle.std.specs.Prelude.{◌≡◌, ◌==◌, ◌⊎◌, ℕ, Bool, if◌then◌else◌, List, Option, Some, None, slice_index_or}
 use Rattle.bus_core.specs.declared.settle.Outcome.{Outcome}
 use Rattle.bus_core.specs.declared.settle.Outcome.TheVariants as outcome
 use Rattle.bus_board.specs.declared.words.Word.{Word}
@@ -59,14 +58,6 @@ IsRetried w = (w ≡ 4) ⊎ (w ≡ 5) ⊎ (w ≡ 6)
 abbrev pub end_word : Outcome → ℕ
 end_word outcome.Bound = 5
 end_word outcome.Failed = 6
-
--- FRESH, or UNMATCHED where the device isn't available or has no driver
-abbrev pub first_word : Bool → ℕ
-first_word matched = if matched then 0 else 7
-
--- the words at the start: one for each device, and one to spare
-abbrev pub AreFirst : List PlannedDevice → List ℕ → Type 0
-AreFirst plan words = (length words ≡ length plan + 1) × ((d : ℕ) → d < length plan → slice_index words d ≡ first_word (is_matched plan d))
 
 -- the word of a device at the end
 abbrev pub word_at : List Word → ℕ → Word

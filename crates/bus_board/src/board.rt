@@ -1,24 +1,27 @@
 //! A board and its first seats.
 
-ghost use Rattle.std.specs.Prelude.{◌≡◌, ◌<◌, ◌≤◌, ◌+◌, ℕ, [], length, vec_capacity, IfOk, IfErr};
-ghost use Rattle.bus_plan.specs.Plan.{suppliers_of, is_matched};
+ghost use Rattle.std.specs.Prelude.{◌≡◌, ◌≤◌, ◌+◌, ℕ, [], false, length, vec_capacity, IfOk, IfErr, OnOk};
+ghost use Rattle.bus_plan.specs.Plan.{suppliers_of};
+ghost use Rattle.bus_core.specs.CoreState.{first_core};
+ghost use Rattle.bus_core.specs.Parting.{has_flight};
 ghost use Rattle.bus_core.specs.declared.refusal.Refusal.TheVariants.{NoMemory};
+ghost use Rattle.bus_board.specs.Opening.{NotOpened};
 ghost use Rattle.bus_board.specs.Shown.{IsOf};
 ghost use Rattle.bus_board.specs.Views.{opener, newcomer};
-ghost use Rattle.bus_board.specs.Words.{AreFirst};
 
+use crate::opening::first_words;
 use crate::order::{Further, Order};
 use crate::seat::{Seat, Token};
 use crate::view::View;
-use crate::words::{FRESH, Word, first_word};
+use crate::words::Word;
 use atomic_table::Table;
-use bus_core::Refusal;
+use bus_core::{Core, Refusal};
 use bus_plan::{Device, Plan};
 use std::alloc::{AllocError, Global};
 use std::marker::Model;
 
 /// The words of a board, one a device.
-pub type Words = Table<(), View, Plan, Order, Global>;
+pub type Words = Table<(), View, Core, Order, Global>;
 
 /// A plan, and a word for each of its devices that any number of seats step on at once. No call of it waits.
 #[derive(Drop)]
@@ -41,7 +44,7 @@ impl Model for Board {
     ghost view = { λ b. record { table = b.table.shared.table_id; plan = b.plan } };
 
     ghost invariant = { λ b.
-        (b.table.shared.key ≡ b.plan)
+        (b.table.shared.key.plan ≡ b.plan)
         × (b.table.shared.table_id.words ≡ length b.plan + 1)
         × (b.table.shared.table_id.slots ≡ 0)
         × (b.room.items ≡ [])
@@ -52,26 +55,29 @@ impl Model for Board {
 impl Board {
     /// A board on which nothing was begun, and its first seat.
     pub fn open(alloc: Global, plan: Plan) -> Result<(Board, Seat), Refusal>
-        ensures opened { IfOk result (λ r. (r.0.plan ≡ plan) × IsOf r.0 r.1 × (r.1.view ≡ opener plan)) }
+        ensures opened { IfOk result (λ r. (r.0.plan ≡ plan) × IsOf r.0 r.1 × (r.1.view ≡ opener (first_core plan))) }
         ensures err { IfErr result (λ refusal. refusal ≡ NoMemory) }
     {
-        match first_parts(alloc, &plan) {
-            Ok((table, token, room, owed)) => {
-                let most_suppliers = most_suppliers(&plan);
-                let board = Board {
-                    table,
-                    plan,
-                    most_suppliers,
-                    room,
-                };
-                let seat = Seat {
-                    token,
-                    flight: None,
-                    owed,
-                };
-                Ok((board, seat))
-            }
+        let core = Core::new(alloc, plan)?;
+        match start(alloc, core) {
+            Ok(started) => Ok(started),
             Err(_) => Err(Refusal::NoMemory),
+        }
+    }
+
+    /// A board that goes on from a core with no open flight, and its first seat, which has seen what settled there. The same
+    /// core comes back from a refusal.
+    pub fn open_core(alloc: Global, core: Core) -> Result<(Board, Seat), (Core, Refusal)>
+        ensures landed { OnOk result (has_flight core.state ≡ false) }
+        ensures opened { IfOk result (λ r. (r.0.plan ≡ core.plan) × IsOf r.0 r.1 × (r.1.view ≡ opener core)) }
+        ensures err { IfErr result (λ r. (r.0 ≡ core) × NotOpened core.state r.1) }
+    {
+        if core.has_flight() {
+            return Err((core, Refusal::NotIdle));
+        }
+        match start(alloc, core) {
+            Ok(started) => Ok(started),
+            Err(core) => Err((core, Refusal::NoMemory)),
         }
     }
 
@@ -92,39 +98,57 @@ impl Board {
     }
 }
 
-// What a board and its first seat have beside the plan, which is lent, so that no way out has to drop it.
+// A board over a core, and its first seat. All that they need is reserved before the plan is taken out of the core.
+fn start(alloc: Global, core: Core) -> Result<(Board, Seat), Core>
+    ensures started { IfOk result (λ r. (r.0.plan ≡ core.plan) × IsOf r.0 r.1 × (r.1.view ≡ opener core)) }
+    ensures err { IfErr result (λ same. same ≡ core) }
+{
+    match first_parts(alloc, &core) {
+        Ok((table, token, room, owed)) => {
+            core.check();
+            let plan = core.into_plan();
+            let most_suppliers = most_suppliers(&plan);
+            let board = Board {
+                table,
+                plan,
+                most_suppliers,
+                room,
+            };
+            let seat = Seat {
+                token,
+                flight: None,
+                owed,
+            };
+            Ok((board, seat))
+        }
+        Err(_) => Err(core),
+    }
+}
+
+// What a board and its first seat have beside the plan. The core is lent, so that it can come back.
 fn first_parts(
     alloc: Global,
-    plan: &Plan,
+    core: &Core,
 ) -> Result<(Words, Token, Vec<Word>, Vec<Device>), AllocError>
-    ensures table { IfOk result (λ parts. (parts.0.shared.table_id.words ≡ length plan.now + 1) × (parts.0.shared.table_id.slots ≡ 0) × (parts.0.shared.key ≡ plan.now) × (parts.1.table_id ≡ parts.0.shared.table_id) × (parts.1.me ≡ (opener plan.now, []))) }
-    ensures room { IfOk result (λ parts. (parts.2.items ≡ []) × (length plan.now ≤ vec_capacity parts.2)) }
+    ensures table { IfOk result (λ parts. (parts.0.shared.table_id.words ≡ length core.now.plan + 1) × (parts.0.shared.table_id.slots ≡ 0) × (parts.0.shared.key ≡ core.now) × (parts.1.table_id ≡ parts.0.shared.table_id) × (parts.1.me ≡ (opener core.now, []))) }
+    ensures room { IfOk result (λ parts. (parts.2.items ≡ []) × (length core.now.plan ≤ vec_capacity parts.2)) }
     ensures owed { IfOk result (λ parts. parts.3.items ≡ []) }
 {
-    let room = Vec::with_capacity(alloc, plan.len())?;
-    let owed = Vec::with_capacity(alloc, plan.len())?;
-    let (table, token) = first_table(alloc, plan)?;
+    let count = core.plan().len();
+    let room = Vec::with_capacity(alloc, count)?;
+    let owed = Vec::with_capacity(alloc, count)?;
+    let (table, token) = first_table(alloc, core)?;
     Ok((table, token, room, owed))
 }
 
 // The words at the start, and the token of the first seat.
-fn first_table(alloc: Global, plan: &Plan) -> Result<(Words, Token), AllocError>
-    ensures { IfOk result (λ t. (t.0.shared.table_id.words ≡ length plan.now + 1) × (t.0.shared.table_id.slots ≡ 0) × (t.0.shared.key ≡ plan.now) × (t.1.table_id ≡ t.0.shared.table_id) × (t.1.me ≡ (opener plan.now, []))) }
+fn first_table(alloc: Global, core: &Core) -> Result<(Words, Token), AllocError>
+    ensures { IfOk result (λ t. (t.0.shared.table_id.words ≡ length core.now.plan + 1) × (t.0.shared.table_id.slots ≡ 0) × (t.0.shared.key ≡ core.now) × (t.1.table_id ≡ t.0.shared.table_id) × (t.1.me ≡ (opener core.now, []))) }
 {
-    let words = first_words(alloc, plan)?;
-    Words::of_words(alloc, &words, plan)
-}
-
-// The words at the start: one for each device, and one to spare, as a load needs one where there is no device.
-fn first_words(alloc: Global, plan: &Plan) -> Result<Vec<u64>, AllocError>
-    ensures { IfOk result (λ words. AreFirst plan.now words.items) }
-{
-    let mut words = Vec::new(alloc);
-    for index in 0..plan.len() {
-        words.push(first_word(is_matched(plan, Device::new(index))))?;
-    }
-    words.push(FRESH)?;
-    Ok(words)
+    let words = first_words(alloc, core)?;
+    core.check();
+    core.check_settled();
+    Words::of_words(alloc, &words, core)
 }
 
 // The most suppliers that a device has.
@@ -142,15 +166,4 @@ fn greater(a: usize, b: usize) -> usize
     ensures { (a ≤ result) × (b ≤ result) }
 {
     if a < b { b } else { a }
-}
-
-// Whether the device is available and has a driver.
-fn is_matched(plan: &Plan, device: Device) -> bool
-    requires { device < length plan.now }
-    ensures { result ≡ is_matched plan.now device }
-{
-    if !plan.available(device) {
-        return false;
-    }
-    plan.driver(device).is_some()
 }

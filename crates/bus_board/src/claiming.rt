@@ -41,7 +41,7 @@ impl Board {
 
 // Tries each device in turn, from FRESH and from WOKEN, until a claim is won.
 fn claim_any(table: &Words, plan: &Plan, token: &mut Token) -> Option<Device>
-    requires table { (token.old.table_id ≡ table.now.shared.table_id) × (table.now.shared.key ≡ plan.now) × (table.now.shared.table_id.words ≡ length plan.now + 1) }
+    requires table { (token.old.table_id ≡ table.now.shared.table_id) × (table.now.shared.key.plan ≡ plan.now) × (table.now.shared.table_id.words ≡ length plan.now + 1) }
     requires seat { (token.old.me.0.plan ≡ plan.now) × (token.old.me.0.live ≡ true) × (token.old.me.0.flight ≡ None) × IsBusHistory token.old.me.0.plan token.old.me.0.seen }
     ensures same { (token.new.table_id ≡ token.old.table_id) × (token.new.me.1 ≡ token.old.me.1) }
     ensures claimed { IfSome result (λ d. Claimed token.old.me.0 token.new.me.0 d) }

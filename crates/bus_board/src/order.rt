@@ -6,12 +6,12 @@ ghost use Rattle.bus_board.specs.Views.{opener, newcomer, both, spent};
 
 use crate::view::View;
 use atomic_table::{Join, Play, Split, TableRule};
-use bus_plan::Plan;
+use bus_core::Core;
 
 pub struct Order;
 
-impl TableRule<(), View, Plan> for Order {
-    ghost holds = { Holds };
+impl TableRule<(), View, Core> for Order {
+    ghost holds = { λ core. Holds core.plan };
 
     ghost first = { opener };
 }

@@ -13,11 +13,19 @@ pub struct Flight {
     pub looks: LinkedList<(Device, bool)>,
 }
 
+/// What had happened before a board was opened: the devices that had settled, in their order, and which were begun.
+pub struct Opening {
+    pub history: LinkedList<Settle>,
+    /// Whether each device was.
+    pub begun: LinkedList<bool>,
+}
+
 /// A seat's view of its board.
 pub struct View {
     /// Whether it is a seat's: a seat that was given back leaves a view that isn't.
     pub live: bool,
     pub plan: Plan,
+    pub opening: Opening,
     /// The settles that it has seen, the first ones of the board's history.
     pub seen: LinkedList<Settle>,
     /// What another seat had seen that was given back to it, where that was less.

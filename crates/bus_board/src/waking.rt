@@ -27,7 +27,7 @@ impl Board {
 
 // Wakes each owed device.
 fn wake_all(table: &Words, plan: &Plan, token: &mut Token, owed: &[Device])
-    requires table { (token.old.table_id ≡ table.now.shared.table_id) × (table.now.shared.key ≡ plan.now) × (table.now.shared.table_id.words ≡ length plan.now + 1) }
+    requires table { (token.old.table_id ≡ table.now.shared.table_id) × (table.now.shared.key.plan ≡ plan.now) × (table.now.shared.table_id.words ≡ length plan.now + 1) }
     requires seat { (token.old.me.0.plan ≡ plan.now) × (token.old.me.0.live ≡ true) × IsBusHistory token.old.me.0.plan token.old.me.0.seen }
     requires owed { (token.old.me.0.owed ≡ owed.now) × ((i : ℕ) → i < length owed.now → slice_index owed.now i < length plan.now) }
     ensures same { (token.new.table_id ≡ token.old.table_id) × (token.new.me.1 ≡ token.old.me.1) }
@@ -40,7 +40,7 @@ fn wake_all(table: &Words, plan: &Plan, token: &mut Token, owed: &[Device])
 
 // Checks the suppliers of the first owed device, and wakes it where each is BOUND. The debt drops.
 fn wake_one(table: &Words, plan: &Plan, token: &mut Token, device: Device)
-    requires table { (token.old.table_id ≡ table.now.shared.table_id) × (table.now.shared.key ≡ plan.now) × (table.now.shared.table_id.words ≡ length plan.now + 1) }
+    requires table { (token.old.table_id ≡ table.now.shared.table_id) × (table.now.shared.key.plan ≡ plan.now) × (table.now.shared.table_id.words ≡ length plan.now + 1) }
     requires seat { (token.old.me.0.plan ≡ plan.now) × (token.old.me.0.live ≡ true) × IsBusHistory token.old.me.0.plan token.old.me.0.seen }
     requires owed { (device < length plan.now) × ((more : List ℕ) × (token.old.me.0.owed ≡ device ∷ more)) }
     ensures same { (token.new.table_id ≡ token.old.table_id) × (token.new.me.1 ≡ token.old.me.1) }

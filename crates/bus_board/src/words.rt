@@ -1,7 +1,7 @@
 //! The words of the devices.
 
 ghost use Rattle.std.specs.Prelude.{◌≡◌};
-ghost use Rattle.bus_board.specs.Words.{word_of, number_of, end_word, first_word};
+ghost use Rattle.bus_board.specs.Words.{word_of, number_of, end_word};
 
 use bus_core::Outcome;
 
@@ -72,13 +72,6 @@ impl Word {
             Word::Unmatched => UNMATCHED,
         }
     }
-}
-
-/// The word of a device before its first flight.
-pub fn first_word(matched: bool) -> u64
-    ensures { result ≡ first_word matched }
-{
-    if matched { FRESH } else { UNMATCHED }
 }
 
 /// The word of a settled device.

@@ -239,3 +239,11 @@ no-supplier n s [] all past = refl
 no-supplier n s (x ∷ xs) all past =
     let first : x < n = All-head (λ x. x < n) x xs all
     in ap₂ (λ a b. a || b) (ne_eqb x s (λ e. absurd (omega arith))) (no-supplier n s xs (All-tail (λ x. x < n) x xs all) past)
+
+-- ---- marks of all devices, one after another
+pub mark-step : (due new : List Bool) (f : ℕ → Bool) (i : ℕ) (b : Bool) → i < length due → new ≡ set due i b → b ≡ f i
+    → ((d : ℕ) → d < i → get_or due d false ≡ f d) → (d : ℕ) → d < i + 1 → get_or new d false ≡ f d
+mark-step due new f i b within put is before d below = ap (λ x. get_or x d false) put ∙ elim (cases_eq d i) [
+  | inl same ↦ ap (λ k. get_or (set due i b) k false) same ∙ get_or-set_same due i b false within ∙ is ∙ ap f (sym same)
+  | inr other ↦ get_or-set_other due i d b false other ∙ before d (omega (arith, below, other))
+]

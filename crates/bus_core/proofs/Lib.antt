@@ -1,8 +1,11 @@
 pub mod CountLemmas
 pub mod CountedLemmas
 pub mod HistoryLemmas
+pub mod LateCounts
+pub mod LateLemmas
 pub mod LeastLemmas
 pub mod Lists
+pub mod PartingLemmas
 pub mod QuietLemmas
 pub mod ReachedLemmas
 pub mod ReplayLaws

@@ -7,13 +7,14 @@ use Rattle.bus_plan.specs.Plan.{PlannedDevice, is_matched}
 use Rattle.bus_core.specs.declared.event.Report.{Report}
 use Rattle.bus_core.specs.declared.event.Report.TheVariants.{Settled, Missing}
 use Rattle.bus_core.specs.declared.refusal.Refusal.{Refusal}
-use Rattle.bus_core.specs.CoreState.{CoreState, Flight, flight_of, is_in_flight, first_state}
+use Rattle.bus_core.specs.CoreState.{CoreState, CoreValue, Flight, flight_of, is_in_flight, first_core, with_state}
 use Rattle.bus_core.specs.Due.{is_idle}
 use Rattle.bus_core.specs.History.{bound_in, is_settled, IsBusHistory}
 use Rattle.bus_core.specs.Laws.{EventsKeepHistory}
 use Rattle.bus_core.specs.Ready.{is_ready}
-use Rattle.bus_core.specs.Step.{begin_refusal, begin_state, without_flight, abandon_refusal, report_refusal, is_attempt, finish_refusal, finish_state, settle_of, CoreEvent, begins, finishes, abandons, step, after}
+use Rattle.bus_core.specs.Step.{begin_refusal, begin_state, without_flight, abandon_refusal, report_refusal, is_attempt, finish_refusal, finish_state, settle_of, register_refusal, registered_core, CoreEvent, begins, finishes, abandons, registers, step, after}
 use Rattle.bus_core.proofs.HistoryLemmas.{history-push, is_settled-push}
+use Rattle.bus_core.proofs.LateLemmas.{history-late}
 use Rattle.bus_core.proofs.Lists.{filled-emptied, filled-filled}
 
 -- what every event keeps: the history is the bus's, and no device in flight has settled
@@ -57,26 +58,32 @@ pub report-reached : (plan : List PlannedDevice) (s : CoreState) (d : ℕ) (repo
 report-reached plan s d Settled flying passed reached = settled-reached plan s d flying (passed-first (is_ready plan (bound_in s.history) d) _ _ passed).0 reached
 report-reached plan s d (Missing supplier) flying passed reached = landed-reached plan s d reached
 
--- the state after a test, as both outcomes keep it
-pub cond-reached : (plan : List PlannedDevice) (test : Bool) (new old : CoreState) → (test ≡ true → IsReached plan new) → IsReached plan old → IsReached plan (cond test new old)
-cond-reached plan true new old then else = then refl
-cond-reached plan false new old then else = else
+-- a driver comes late
+late-reached : (core : CoreValue) (name : List ℕ) (strings : List (List ℕ)) → IsReached core.plan core.state → IsReached (registered_core core name strings).plan (registered_core core name strings).state
+late-reached core name strings reached = record { lawful = history-late core.plan name strings core.state.history reached.lawful; apart = reached.apart }
 
-pub step-reached : (plan : List PlannedDevice) (s : CoreState) (e : CoreEvent) → IsReached plan s → IsReached plan (step plan s e)
-step-reached plan s (begins d) reached =
-    cond-reached plan (is_none (begin_refusal plan s d)) (begin_state s d) s
-    (λ passed. begin-reached plan s d (passed-first (is_idle s d) _ _ (passed-first (is_matched plan d) _ _ passed).1).0 reached) reached
-step-reached plan s (finishes ticket report) reached =
-    cond-reached plan (is_none (finish_refusal plan s ticket report)) (finish_state plan s ticket.device report) s
+-- the core after a test, as both outcomes keep it
+cond-reached : (test : Bool) (new old : CoreValue) → (test ≡ true → IsReached new.plan new.state) → IsReached old.plan old.state → IsReached (cond test new old).plan (cond test new old).state
+cond-reached true new old then else = then refl
+cond-reached false new old then else = else
+
+pub step-reached : (core : CoreValue) (e : CoreEvent) → IsReached core.plan core.state → IsReached (step core e).plan (step core e).state
+step-reached core (begins d) reached =
+    cond-reached (is_none (begin_refusal core.plan core.state d)) (with_state core (begin_state core.state d)) core
+    (λ passed. begin-reached core.plan core.state d (passed-first (is_idle core.state d) _ _ (passed-first (is_matched core.plan d) _ _ passed).1).0 reached) reached
+step-reached core (finishes ticket report) reached =
+    cond-reached (is_none (finish_refusal core.plan core.state ticket report)) (with_state core (finish_state core.plan core.state ticket.device report)) core
     (λ passed.
-    let parts = passed-first (is_attempt (flight_of s ticket.device) ticket.attempt) _ _ passed
-    in report-reached plan s ticket.device report (attempt-flying (flight_of s ticket.device) ticket.attempt parts.0) parts.1 reached) reached
-step-reached plan s (abandons d) reached =
-    cond-reached plan (is_none (abandon_refusal s d)) (without_flight s d) s (λ passed. landed-reached plan s d reached) reached
+    let parts = passed-first (is_attempt (flight_of core.state ticket.device) ticket.attempt) _ _ passed
+    in report-reached core.plan core.state ticket.device report (attempt-flying (flight_of core.state ticket.device) ticket.attempt parts.0) parts.1 reached) reached
+step-reached core (abandons d) reached =
+    cond-reached (is_none (abandon_refusal core.state d)) (with_state core (without_flight core.state d)) core (λ passed. landed-reached core.plan core.state d reached) reached
+step-reached core (registers name strings) reached =
+    cond-reached (is_none (register_refusal core.plan core.state name)) (registered_core core name strings) core (λ passed. late-reached core name strings reached) reached
 
-pub after-reached : (plan : List PlannedDevice) (s : CoreState) (events : List CoreEvent) → IsReached plan s → IsReached plan (after plan s events)
-after-reached plan s [] reached = reached
-after-reached plan s (e ∷ events) reached = after-reached plan (step plan s e) events (step-reached plan s e reached)
+pub after-reached : (core : CoreValue) (events : List CoreEvent) → IsReached core.plan core.state → IsReached (after core events).plan (after core events).state
+after-reached core [] reached = reached
+after-reached core (e ∷ events) reached = after-reached (step core e) events (step-reached core e reached)
 
 abbrev pub no_flight : Option Flight
 no_flight = None
@@ -89,4 +96,4 @@ none-filled n d = elim (cases_lt d n) [
 
 pub events-keep : EventsKeepHistory
 events-keep plan events =
-    (after-reached plan (first_state plan) events (record { lawful = tt; apart = λ d flying. absurd (true≢false (sym flying ∙ none-filled (length plan) d)) })).lawful
+    (after-reached (first_core plan) events (record { lawful = tt; apart = λ d flying. absurd (true≢false (sym flying ∙ none-filled (length plan) d)) })).lawful

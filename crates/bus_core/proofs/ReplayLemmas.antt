@@ -1,34 +1,49 @@
 -- A replay goes on by an event, or stops at it; a schedule's lines are read one after another.
-use Rattle.std.proofs.Common.{◌≡◌, ◌∙◌, ℕ, ◌+◌, ◌<◌, ◌≤◌, true, List, [], ◌∷◌, ◌++◌, Option, Some, None, Result, Ok, Err, length, get_or, drop, refl, sym, ap, true≢false, append-nil, append_assoc}
+use Rattle.std.proofs.Common.{◌≡◌, ◌∙◌, ℕ, ◌+◌, ◌<◌, ◌≤◌, true, List, [], ◌∷◌, ◌++◌, Option, Some, None, Result, Ok, Err, length, get_or, drop, refl, sym, ap, true≢false, append-nil, append_assoc, arith}
 use Rattle.std.specs.Prelude.{is_ok, IfSome, All, option_to_list}
 use Rattle.std.proofs.lemmas.List.Elements.{All-nil, All-cons, All-append, All-same}
 use Rattle.std.proofs.lemmas.List.{drop_more, drop_all}
 use Rattle.bus_plan.specs.declared.error.PlanError.{PlanError}
 use Rattle.bus_plan.specs.Plan.{PlannedDevice}
 use Rattle.bus_core.specs.declared.event.Event.{Event}
+use Rattle.bus_core.specs.declared.event.Event.TheVariants.{Begin, Finish, Abandon, Register}
 use Rattle.bus_core.specs.declared.refusal.Refusal.{Refusal}
-use Rattle.bus_core.specs.CoreState.{CoreState}
-use Rattle.bus_core.specs.Replay.{event_refusal, event_state, or_refused, replay_from}
+use Rattle.bus_core.specs.CoreState.{CoreValue}
+use Rattle.bus_core.specs.Replay.{event_refusal, event_core, IsEventOf, or_refused, replay_from}
+use Rattle.bus_core.proofs.LateLemmas.{late-long}
 use Rattle.bus_core.specs.Schedule.{line_meaning, behind, with_line, events_on, schedule_behind}
 
 -- what is left begins with this event
-pub replay-at : (plan : List PlannedDevice) (events : List Event) (i : ℕ) (e : Event) (s : CoreState) → i < length events → e ≡ get_or events i e
-    → replay_from plan i s (drop i events) ≡ or_refused (event_refusal plan s e) (i + 1) (replay_from plan (i + 1) (event_state plan s e) (drop (i + 1) events))
-replay-at plan events i e s within is =
-    ap (replay_from plan i s) (drop_more events i e within ∙ ap (λ x. x ∷ drop (i + 1) events) (sym is))
+pub replay-at : (events : List Event) (i : ℕ) (e : Event) (s : CoreValue) → i < length events → e ≡ get_or events i e
+    → replay_from i s (drop i events) ≡ or_refused (event_refusal s e) (i + 1) (replay_from (i + 1) (event_core s e) (drop (i + 1) events))
+replay-at events i e s within is =
+    ap (replay_from i s) (drop_more events i e within ∙ ap (λ x. x ∷ drop (i + 1) events) (sym is))
 
-pub replay-more : (plan : List PlannedDevice) (events : List Event) (i : ℕ) (e : Event) (s : CoreState) → i < length events → e ≡ get_or events i e → event_refusal plan s e ≡ None
-    → replay_from plan i s (drop i events) ≡ replay_from plan (i + 1) (event_state plan s e) (drop (i + 1) events)
-replay-more plan events i e s within is passed =
-    replay-at plan events i e s within is ∙ ap (λ r. or_refused r (i + 1) (replay_from plan (i + 1) (event_state plan s e) (drop (i + 1) events))) passed
+pub replay-more : (events : List Event) (i : ℕ) (e : Event) (s : CoreValue) → i < length events → e ≡ get_or events i e → event_refusal s e ≡ None
+    → replay_from i s (drop i events) ≡ replay_from (i + 1) (event_core s e) (drop (i + 1) events)
+replay-more events i e s within is passed =
+    replay-at events i e s within is ∙ ap (λ r. or_refused r (i + 1) (replay_from (i + 1) (event_core s e) (drop (i + 1) events))) passed
 
-pub replay-stops : (plan : List PlannedDevice) (events : List Event) (i : ℕ) (e : Event) (s : CoreState) (r : Refusal) → i < length events → e ≡ get_or events i e → event_refusal plan s e ≡ Some r
-    → replay_from plan i s (drop i events) ≡ Err (i + 1, r)
-replay-stops plan events i e s r within is refused =
-    replay-at plan events i e s within is ∙ ap (λ r. or_refused r (i + 1) (replay_from plan (i + 1) (event_state plan s e) (drop (i + 1) events))) refused
+pub replay-stops : (events : List Event) (i : ℕ) (e : Event) (s : CoreValue) (r : Refusal) → i < length events → e ≡ get_or events i e → event_refusal s e ≡ Some r
+    → replay_from i s (drop i events) ≡ Err (i + 1, r)
+replay-stops events i e s r within is refused =
+    replay-at events i e s within is ∙ ap (λ r. or_refused r (i + 1) (replay_from (i + 1) (event_core s e) (drop (i + 1) events))) refused
 
-pub replay-ends : (plan : List PlannedDevice) (events : List Event) (i : ℕ) (s : CoreState) → length events ≤ i → replay_from plan i s (drop i events) ≡ Ok s
-replay-ends plan events i s past = ap (replay_from plan i s) (drop_all i events past)
+pub replay-ends : (events : List Event) (i : ℕ) (s : CoreValue) → length events ≤ i → replay_from i s (drop i events) ≡ Ok s
+replay-ends events i s past = ap (replay_from i s) (drop_all i events past)
+
+-- ---- the plan of a core keeps its length, and its events stay the plan's
+pub event-long : (core : CoreValue) (e : Event) → length (event_core core e).plan ≡ length core.plan
+event-long core (Begin d) = refl
+event-long core (Finish d report) = refl
+event-long core (Abandon d) = refl
+event-long core (Register name strings) = late-long core.plan name strings
+
+pub event-same : (plan new : List PlannedDevice) (e : Event) → length new ≡ length plan → IsEventOf plan e → IsEventOf new e
+event-same plan new (Begin d) long within = omega (arith, long, within)
+event-same plan new (Finish d report) long within = omega (arith, long, within)
+event-same plan new (Abandon d) long within = omega (arith, long, within)
+event-same plan new (Register name strings) long named = named
 
 -- ---- a schedule
 behind-behind : (xs ys : List Event) (rest : Result (List Event) PlanError) → behind xs (behind ys rest) ≡ behind (xs ++ ys) rest

@@ -3,14 +3,13 @@ use Rattle.std.proofs.Common.{◌≡◌, ℕ, ◌<◌, ◌≤◌, true, false, c
 use Rattle.std.specs.Prelude.{is_some, is_none, OnOk, OnErr}
 use Rattle.std.specs.Result.{result_err}
 use Rattle.bus_plan.specs.declared.verdict.Verdict.{Verdict}
-use Rattle.bus_plan.specs.Plan.{PlannedDevice, verdict_of}
-use Rattle.bus_core.specs.declared.event.Reply.{Reply}
+use Rattle.bus_plan.specs.Plan.{verdict_of}
 use Rattle.bus_core.specs.declared.phase.Phase.{Phase}
 use Rattle.bus_core.specs.declared.phase.Phase.TheVariants.{Fresh, Begun, InFlight, Bound, Failed}
 use Rattle.bus_core.specs.declared.refusal.Refusal.{Refusal}
 use Rattle.bus_core.specs.declared.settle.Outcome.{Outcome}
 use Rattle.bus_core.specs.declared.state.Core.TheInside.{Inside}
-use Rattle.bus_core.specs.CoreState.{CoreState, CoreValue, flight_of, is_in_flight}
+use Rattle.bus_core.specs.CoreState.{CoreValue, flight_of, is_in_flight}
 use Rattle.bus_core.specs.History.{outcome_by, bound_in}
 use Rattle.bus_core.specs.Ready.{is_ready}
 use Rattle.bus_core.specs.RefinementPhase.{phase_at, flight_in, bound_by}
@@ -84,8 +83,7 @@ flight-read core v d phases phase view all is =
     sym (λ i. flight_of (view i).state d) ∙ flight-phase core.phases.items core.history.items core.begins d ∙ ap flight_in (sym (is ∙ ap (λ x. phase_at x d) all))
 
 -- what a call that may be refused leaves
-pub step-left : (result : Result Reply Refusal) (refusal : Option Refusal) (plan : List PlannedDevice) (done old : CoreState) (new : CoreValue)
-    → result_err result ≡ refusal → OnOk result (new ≡ record { plan = plan; state = done }) → OnErr result (new ≡ record { plan = plan; state = old })
-    → new ≡ record { plan = plan; state = cond (is_none refusal) done old }
-step-left (Ok reply) refusal plan done old new says ok err = ok ∙ (λ i. record { plan = plan; state = cond (is_none (says i)) done old })
-step-left (Err e) refusal plan done old new says ok err = err ∙ (λ i. record { plan = plan; state = cond (is_none (says i)) done old })
+pub step-left : {A : Type 0} (result : Result A Refusal) (refusal : Option Refusal) (done old new : CoreValue)
+    → result_err result ≡ refusal → OnOk result (new ≡ done) → OnErr result (new ≡ old) → new ≡ cond (is_none refusal) done old
+step-left (Ok answer) refusal done old new says ok err = ok ∙ (λ i. cond (is_none (says i)) done old)
+step-left (Err e) refusal done old new says ok err = err ∙ (λ i. cond (is_none (says i)) done old)

@@ -237,7 +237,7 @@ map-replicate f zero x = refl
 map-replicate f (suc n) x = ap (λ xs. f x ∷ xs) (map-replicate f n x)
 
 pub first-view : (plan : List PlannedDevice) → state_of (replicate (length plan) Fresh) [] 0 ≡ first_state plan
-first-view plan = λ i. record { history = []; flights = map-replicate flight_in (length plan) Fresh i; begun = map-replicate begun_in (length plan) Fresh i; begins = 0 }
+first-view plan = λ i. record { history = []; flights = map-replicate flight_in (length plan) Fresh i; begun = map-replicate begun_in (length plan) Fresh i; begins = 0; registered = [] }
 
 -- the same of phases and a history that equal the first ones
 pub first-sound_at : (plan : List PlannedDevice) (phases : List Phase) (h : List Settle) → phases ≡ replicate (length plan) Fresh → h ≡ [] → IsSound plan phases h 0
@@ -276,6 +276,7 @@ begun-view phases h n d e k same long =
       flights = map-set flight_in phases d (InFlight (n + 1) (length h)) i;
       begun = map-set begun_in phases d (InFlight (n + 1) (length h)) i;
       begins = n + 1;
+      registered = [];
     })
 
 -- a flight that ends without a settle, as the phases keep it
@@ -308,6 +309,7 @@ landed-view phases h n d e same within flying =
       flights = map-set flight_in phases d Begun i;
       begun = begun-same phases d Begun within flying refl i;
       begins = n;
+      registered = [];
     })
 
 -- a settle, as the phases and the history keep it
@@ -341,6 +343,7 @@ settled-view plan phases h n d e k o phase new same within flying by settles add
       flights = (map-set flight_in phases d (settled_phase k o) ∙ ap (set (map flight_in phases) d) (settled-landed k o)) i;
       begun = begun-same phases d (settled_phase k o) within flying (settled-begun k o) i;
       begins = n;
+      registered = [];
     })
 
 -- the device in flight, from what a caller knows of the state

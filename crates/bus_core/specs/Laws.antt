@@ -1,11 +1,12 @@
 -- The laws of the definitions, each stated by a public function.
-use Rattle.std.specs.Prelude.{◌≡◌, ℕ, ◌+◌, true, List, [], ◌∷◌, ◌++◌, length, Ok, Err}
+use Rattle.std.specs.Prelude.{◌≡◌, ℕ, Bool, ◌+◌, true, List, [], ◌∷◌, ◌++◌, length, Ok, Err}
 use Rattle.std.specs.List.{list_all}
+use Rattle.bus_plan.specs.LateDriver.{with_driver}
 use Rattle.bus_plan.specs.Plan.{PlannedDevice, suppliers_of}
 use Rattle.bus_core.specs.declared.event.Event.{Event}
 use Rattle.bus_core.specs.declared.refusal.Refusal.{Refusal}
 use Rattle.bus_core.specs.declared.settle.Settle.{Settle}
-use Rattle.bus_core.specs.CoreState.{CoreState, first_state}
+use Rattle.bus_core.specs.CoreState.{CoreState, CoreValue, first_core}
 use Rattle.bus_core.specs.Due.{is_quiet}
 use Rattle.bus_core.specs.History.{IsBusHistory, bound_in}
 use Rattle.bus_core.specs.Least.{IsLeast}
@@ -13,9 +14,23 @@ use Rattle.bus_core.specs.Report.{report_text, IsEndReport}
 use Rattle.bus_core.specs.Replay.{event_refusal, or_refused, replay_of, core_event, core_events}
 use Rattle.bus_core.specs.Step.{CoreEvent, step, after}
 
--- every list of events leads to a history of the sequential bus
+-- every list of events leads to a history of the sequential bus, under the drivers so far
 abbrev pub EventsKeepHistory : Type 0
-EventsKeepHistory = (plan : List PlannedDevice) (events : List CoreEvent) → IsBusHistory plan (after plan (first_state plan) events).history
+EventsKeepHistory =
+    (plan : List PlannedDevice) (events : List CoreEvent)
+    → let core = after (first_core plan) events in IsBusHistory core.plan core.state.history
+
+-- a history that was lawful stays so when a driver comes late
+abbrev pub HistoryStays : Type 0
+HistoryStays =
+    (plan : List PlannedDevice) (name : List ℕ) (strings : List (List ℕ)) (history : List Settle)
+    → IsBusHistory plan history → IsBusHistory (with_driver plan name strings) history
+
+-- the least set over more drivers has all that the least set over fewer has
+abbrev pub LeastGrows : Type 0
+LeastGrows =
+    (plan : List PlannedDevice) (name : List ℕ) (strings : List (List ℕ)) (bound grown : ℕ → Bool)
+    → IsLeast plan bound → IsLeast (with_driver plan name strings) grown → (d : ℕ) → bound d ≡ true → grown d ≡ true
 
 -- where nothing is due or in flight, the bound devices are the least set
 abbrev pub QuietIsLeast : Type 0
@@ -38,20 +53,22 @@ EndReportIsOne = (plan : List PlannedDevice) (one other : List ℕ) → IsEndRep
 -- a replay that isn't refused leads where the library's events lead
 abbrev pub ReplayIsAfter : Type 0
 ReplayIsAfter =
-    (plan : List PlannedDevice) (events : List Event) (s : CoreState)
-    → replay_of plan events ≡ Ok s → s ≡ after plan (first_state plan) (core_events plan (first_state plan) events)
+    (plan : List PlannedDevice) (events : List Event) (core : CoreValue)
+    → replay_of plan events ≡ Ok core → core ≡ after (first_core plan) (core_events (first_core plan) events)
 
--- its settled devices are a history of the sequential bus
+-- its settled devices are a history of the sequential bus, under the drivers so far
 abbrev pub ReplayKeepsHistory : Type 0
 ReplayKeepsHistory =
-    (plan : List PlannedDevice) (events : List Event) (s : CoreState) → replay_of plan events ≡ Ok s → IsBusHistory plan s.history
+    (plan : List PlannedDevice) (events : List Event) (core : CoreValue)
+    → replay_of plan events ≡ Ok core → IsBusHistory core.plan core.state.history
 
 -- one event more is the step of that event, or refused as it is
 abbrev pub ReplayGoesOn : Type 0
 ReplayGoesOn =
-    (plan : List PlannedDevice) (events : List Event) (e : Event) (s : CoreState)
-    → replay_of plan events ≡ Ok s
-    → replay_of plan (events ++ e ∷ []) ≡ or_refused (event_refusal plan s e) (length events + 1) (Ok (step plan s (core_event s e)))
+    (plan : List PlannedDevice) (events : List Event) (e : Event) (core : CoreValue)
+    → replay_of plan events ≡ Ok core
+    → replay_of plan (events ++ e ∷ [])
+    ≡ or_refused (event_refusal core e) (length events + 1) (Ok (step core (core_event core.state e)))
 
 -- a refused replay stays refused
 abbrev pub ReplayStops : Type 0

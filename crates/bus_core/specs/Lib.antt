@@ -3,6 +3,8 @@ pub mod Due
 pub mod History
 pub mod Laws
 pub mod Least
+pub mod Limits
+pub mod Parting
 pub mod Ready
 pub mod RefinementCounts
 pub mod RefinementPhase

@@ -1,12 +1,12 @@
 -- What a core keeps so that it need not walk the plan: how many suppliers of each device aren't bound, which devices are
 -- due, and how many flights are open. No public clause cites it.
-use Rattle.std.specs.Prelude.{◌≡◌, ◌==◌, ℕ, Bool, false, not, ◌&&◌, is_some, List, length, slice_index_or, count_by}
+use Rattle.std.specs.Prelude.{◌≡◌, ◌<◌, ◌==◌, ℕ, Bool, false, not, ◌&&◌, is_some, List, length, slice_index_or, count_by}
 use Rattle.bus_plan.specs.Plan.{PlannedDevice, is_matched, suppliers_of}
 use Rattle.bus_core.specs.declared.phase.Phase.{Phase}
 use Rattle.bus_core.specs.CoreState.{CoreState}
 use Rattle.bus_core.specs.Due.{is_due}
 use Rattle.bus_core.specs.History.{bound_in}
-use Rattle.bus_core.specs.RefinementPhase.{due_in}
+use Rattle.bus_core.specs.RefinementPhase.{phase_at, due_in}
 
 -- how many suppliers of a device aren't in the set
 abbrev pub missing_count : List PlannedDevice → (ℕ → Bool) → ℕ → ℕ
@@ -22,3 +22,9 @@ pub record IsCounted (plan : List PlannedDevice) (s : CoreState) (missing : List
 -- whether a device in this phase is due that waits for so many suppliers
 abbrev pub due_with : List PlannedDevice → ℕ → Phase → ℕ → Bool
 due_with plan d phase missing = due_in phase (is_matched plan d) (is_matched plan d && missing == 0)
+
+-- each device of the plan is marked as due or not, by its phase and by what it waits for
+abbrev pub AreMarked : List PlannedDevice → List Phase → List ℕ → List Bool → Type 0
+AreMarked plan phases missing due =
+    (d : ℕ) → d < length plan
+    → slice_index_or due d false ≡ due_with plan d (phase_at phases d) (slice_index_or missing d 0)

@@ -1,5 +1,5 @@
 -- What the core keeps of one device, and how contracts see it. No public clause cites it.
-use Rattle.std.specs.Prelude.{ℕ, Bool, true, false, nat_lt, not, ◌||◌, is_some, if◌then◌else◌, List, Option, Some, None, slice_index_or, map}
+use Rattle.std.specs.Prelude.{ℕ, Bool, true, false, nat_lt, not, ◌||◌, is_some, if◌then◌else◌, List, [], Option, Some, None, slice_index_or, map}
 use Rattle.bus_plan.specs.Plan.{PlannedDevice, is_available, is_matched}
 use Rattle.bus_core.specs.declared.phase.Phase.{Phase}
 use Rattle.bus_core.specs.declared.phase.Phase.TheVariants.{Fresh, Begun, InFlight, Bound, Failed}
@@ -92,6 +92,7 @@ status_in Failed available matched due = status.Failed
 abbrev pub status_by : List PlannedDevice → List Phase → ℕ → Status
 status_by plan phases d = status_in (phase_at phases d) (is_available plan d) (is_matched plan d) (due_by plan phases d)
 
+-- the state that the phases and the history tell, but for the names registered
 abbrev pub state_of : List Phase → List Settle → ℕ → CoreState
 state_of phases history begins =
-    record { history = history; flights = map flight_in phases; begun = map begun_in phases; begins = begins }
+    record { history = history; flights = map flight_in phases; begun = map begun_in phases; begins = begins; registered = [] }

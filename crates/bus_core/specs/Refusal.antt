@@ -1,7 +1,7 @@
 -- The number and the name of each refusal.
 use Rattle.std.specs.Prelude.{ℕ, List, codes}
 use Rattle.bus_core.specs.declared.refusal.Refusal.{Refusal}
-use Rattle.bus_core.specs.declared.refusal.Refusal.TheVariants.{NoMemory, NotIdle, Unmatched, StaleTicket, NotReady, WasBound, TooManyEvents, NotInFlight}
+use Rattle.bus_core.specs.declared.refusal.Refusal.TheVariants.{NoMemory, NotIdle, Unmatched, StaleTicket, NotReady, WasBound, TooManyEvents, NotInFlight, KnownDriver}
 
 abbrev pub number_of : Refusal → ℕ
 number_of NoMemory = 0
@@ -12,6 +12,7 @@ number_of NotReady = 63
 number_of WasBound = 64
 number_of TooManyEvents = 65
 number_of NotInFlight = 66
+number_of KnownDriver = 67
 
 abbrev pub name_of : Refusal → List ℕ
 name_of NoMemory = codes "NoMemory"
@@ -22,3 +23,4 @@ name_of NotReady = codes "NotReady"
 name_of WasBound = codes "WasBound"
 name_of TooManyEvents = codes "TooManyEvents"
 name_of NotInFlight = codes "NotInFlight"
+name_of KnownDriver = codes "KnownDriver"

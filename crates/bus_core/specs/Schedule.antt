@@ -5,9 +5,9 @@ use Rattle.dt_tree.specs.Path.{is_path}
 use Rattle.bus_plan.specs.declared.error.PlanError.{PlanError}
 use Rattle.bus_plan.specs.declared.error.PlanError.TheVariants.{BadLine, UnknownPath}
 use Rattle.bus_plan.specs.Lines.{lines, is_line, fields, is_skipped}
-use Rattle.bus_plan.specs.Plan.{PlannedDevice, device_at}
+use Rattle.bus_plan.specs.Plan.{PlannedDevice, device_at, is_driver_name}
 use Rattle.bus_core.specs.declared.event.Event.{Event}
-use Rattle.bus_core.specs.declared.event.Event.TheVariants.{Begin, Finish, Abandon}
+use Rattle.bus_core.specs.declared.event.Event.TheVariants.{Begin, Finish, Abandon, Register}
 use Rattle.bus_core.specs.declared.event.Report.TheVariants.{Settled, Missing}
 
 -- ---- a line's fields
@@ -53,13 +53,25 @@ event_of_four plan number word path said supplier =
     else (if not (bytes_eq said (codes "missing")) then Err (BadLine number)
     else missing_of number (device_at plan path) (device_at plan supplier))))
 
+-- a word and what stands behind it, of the lines that name a device
+abbrev pub device_event : List PlannedDevice → ℕ → List ℕ → List (List ℕ) → Result Event PlanError
+device_event plan number word [] = Err (BadLine number)
+device_event plan number word (path ∷ []) = event_of_two plan number word path
+device_event plan number word (path ∷ said ∷ []) = event_of_three plan number word path said
+device_event plan number word (path ∷ said ∷ supplier ∷ []) = event_of_four plan number word path said supplier
+device_event plan number word (path ∷ said ∷ supplier ∷ more ∷ rest) = Err (BadLine number)
+
+-- `driver NAME COMPATIBLE..`, as in a driver file: what stands behind the word
+abbrev pub driver_event : ℕ → List (List ℕ) → Result Event PlanError
+driver_event number [] = Err (BadLine number)
+driver_event number (name ∷ []) = Err (BadLine number)
+driver_event number (name ∷ string ∷ strings) =
+    if is_driver_name name then Ok (Register name (string ∷ strings)) else Err (BadLine number)
+
 abbrev pub event_of : List PlannedDevice → ℕ → List (List ℕ) → Result Event PlanError
 event_of plan number [] = Err (BadLine number)
-event_of plan number (word ∷ []) = Err (BadLine number)
-event_of plan number (word ∷ path ∷ []) = event_of_two plan number word path
-event_of plan number (word ∷ path ∷ said ∷ []) = event_of_three plan number word path said
-event_of plan number (word ∷ path ∷ said ∷ supplier ∷ []) = event_of_four plan number word path said supplier
-event_of plan number (word ∷ path ∷ said ∷ supplier ∷ more ∷ rest) = Err (BadLine number)
+event_of plan number (word ∷ rest) =
+    if bytes_eq word (codes "driver") then driver_event number rest else device_event plan number word rest
 
 -- ---- a line
 abbrev pub some_event : Result Event PlanError → Result (Option Event) PlanError

@@ -1,22 +1,24 @@
 -- What each event of the core does (Linux driver-api, deferred probing). An event is refused by the first test that it
--- fails and then changes nothing, or it gives a new state.
-use Rattle.std.specs.Prelude.{ℕ, ◌+◌, ◌==◌, nat_lt, Bool, true, false, not, if◌then◌else◌, List, [], ◌∷◌, ◌++◌, Option, Some, None, length, take, slice_set, is_none}
+-- fails and then changes nothing, or it gives a new core.
+use Rattle.std.specs.Prelude.{◌≡◌, ◌⊎◌, ℕ, ◌+◌, ◌==◌, nat_lt, Bool, true, false, not, if◌then◌else◌, List, [], ◌∷◌, ◌++◌, Option, Some, None, length, take, slice_set, is_none}
 use Rattle.std.specs.List.{list_any}
+use Rattle.bus_plan.specs.LateDriver.{with_driver, is_known}
 use Rattle.bus_plan.specs.Plan.{PlannedDevice, is_matched, suppliers_of, verdict_of}
+use Rattle.bus_plan.specs.PlanPaths.{is_among}
 use Rattle.bus_core.specs.declared.event.Reply.{Reply}
 use Rattle.bus_core.specs.declared.event.Reply.TheVariants as reply
 use Rattle.bus_core.specs.declared.event.Report.{Report}
 use Rattle.bus_core.specs.declared.event.Report.TheVariants.{Settled, Missing}
 use Rattle.bus_core.specs.declared.event.Ticket.{Ticket}
 use Rattle.bus_core.specs.declared.refusal.Refusal.{Refusal}
-use Rattle.bus_core.specs.declared.refusal.Refusal.TheVariants.{NotIdle, Unmatched, StaleTicket, NotReady, WasBound, TooManyEvents, NotInFlight}
+use Rattle.bus_core.specs.declared.refusal.Refusal.TheVariants.{NoMemory, NotIdle, Unmatched, StaleTicket, NotReady, WasBound, TooManyEvents, NotInFlight, KnownDriver}
 use Rattle.bus_core.specs.declared.settle.Settle.{Settle}
 use Rattle.bus_core.specs.declared.settle.Outcome.{Outcome}
 use Rattle.bus_core.specs.declared.settle.Outcome.TheVariants as outcome
-use Rattle.bus_core.specs.declared.limits.TheConstants.{MAX_BEGINS}
-use Rattle.bus_core.specs.CoreState.{CoreState, Flight, flight_of, is_in_flight}
+use Rattle.bus_core.specs.CoreState.{CoreState, CoreValue, Flight, flight_of, is_in_flight, with_names, with_state}
 use Rattle.bus_core.specs.Due.{is_due, is_idle}
 use Rattle.bus_core.specs.History.{bound_in, outcome_by}
+use Rattle.bus_core.specs.Limits.{begin_limit}
 use Rattle.bus_core.specs.Ready.{is_ready}
 
 -- Begin: the device has a driver, is idle, and the begins aren't used up.
@@ -24,7 +26,7 @@ abbrev pub begin_refusal : List PlannedDevice → CoreState → ℕ → Option R
 begin_refusal plan s d =
     if not (is_matched plan d) then Some Unmatched
     else (if not (is_idle s d) then Some NotIdle
-    else (if not (nat_lt s.begins MAX_BEGINS) then Some TooManyEvents
+    else (if not (nat_lt s.begins begin_limit) then Some TooManyEvents
     else None))
 
 abbrev pub begin_state : CoreState → ℕ → CoreState
@@ -34,11 +36,13 @@ begin_state s d =
       flights = slice_set s.flights d (Some (record { attempt = s.begins + 1; settled = length s.history }));
       begun = slice_set s.begun d true;
       begins = s.begins + 1;
+      registered = s.registered;
     }
 
 -- the state without the device's flight
 abbrev pub without_flight : CoreState → ℕ → CoreState
-without_flight s d = record { history = s.history; flights = slice_set s.flights d None; begun = s.begun; begins = s.begins }
+without_flight s d =
+    record { history = s.history; flights = slice_set s.flights d None; begun = s.begun; begins = s.begins; registered = s.registered }
 
 -- Abandon: the device is in flight.
 abbrev pub abandon_refusal : CoreState → ℕ → Option Refusal
@@ -76,7 +80,13 @@ settle_of plan d = record { device = d; outcome = outcome_by (verdict_of plan d)
 
 abbrev pub finish_state : List PlannedDevice → CoreState → ℕ → Report → CoreState
 finish_state plan s d Settled =
-    record { history = s.history ++ settle_of plan d ∷ []; flights = slice_set s.flights d None; begun = s.begun; begins = s.begins }
+    record {
+      history = s.history ++ settle_of plan d ∷ [];
+      flights = slice_set s.flights d None;
+      begun = s.begun;
+      begins = s.begins;
+      registered = s.registered;
+    }
 finish_state plan s d (Missing supplier) = without_flight s d
 
 -- the reply, by the outcome or by what is due in the new state
@@ -88,19 +98,47 @@ abbrev pub finish_reply : List PlannedDevice → CoreState → ℕ → Report �
 finish_reply plan new d Settled = settled_reply (outcome_by (verdict_of plan d))
 finish_reply plan new d (Missing supplier) = if is_due plan new d then reply.Again else reply.Waiting
 
--- An event of the library, where a finish names its flight by a ticket.
+-- Register: no device has a driver of this name so far, and none was registered before.
+abbrev pub register_refusal : List PlannedDevice → CoreState → List ℕ → Option Refusal
+register_refusal plan s name =
+    if is_known plan name then Some KnownDriver
+    else (if is_among name s.registered then Some KnownDriver
+    else None)
+
+abbrev pub registered_state : CoreState → List ℕ → CoreState
+registered_state s name = with_names s (s.registered ++ name ∷ [])
+
+-- why a call that takes memory is refused: by the event's own test, or because memory was
+abbrev pub IsRefused : Option Refusal → Refusal → Type 0
+IsRefused right refusal = (refusal ≡ NoMemory) ⊎ (right ≡ Some refusal)
+
+-- the plan gains the driver where it matches a device that has none
+abbrev pub registered_core : CoreValue → List ℕ → List (List ℕ) → CoreValue
+registered_core core name strings =
+    record { plan = with_driver core.plan name strings; state = registered_state core.state name }
+
+-- An event of the library, where a finish names its flight by a ticket, and a driver comes late by its name and the
+-- `compatible` strings that it matches.
 pub data CoreEvent : Type 0 where
   begins : ℕ → CoreEvent
   finishes : Ticket → Report → CoreEvent
   abandons : ℕ → CoreEvent
+  registers : List ℕ → List (List ℕ) → CoreEvent
 
--- the state after an event, which is the old one where the event is refused
-abbrev pub step : List PlannedDevice → CoreState → CoreEvent → CoreState
-step plan s (begins d) = if is_none (begin_refusal plan s d) then begin_state s d else s
-step plan s (finishes ticket report) = if is_none (finish_refusal plan s ticket report) then finish_state plan s ticket.device report else s
-step plan s (abandons d) = if is_none (abandon_refusal s d) then without_flight s d else s
+-- the core after an event, which is the old one where the event is refused
+abbrev pub step : CoreValue → CoreEvent → CoreValue
+step core (begins d) =
+    if is_none (begin_refusal core.plan core.state d) then with_state core (begin_state core.state d) else core
+step core (finishes ticket report) =
+    if is_none (finish_refusal core.plan core.state ticket report)
+    then with_state core (finish_state core.plan core.state ticket.device report)
+    else core
+step core (abandons d) =
+    if is_none (abandon_refusal core.state d) then with_state core (without_flight core.state d) else core
+step core (registers name strings) =
+    if is_none (register_refusal core.plan core.state name) then registered_core core name strings else core
 
--- the state after a list of events, from the first state
-abbrev pub after : List PlannedDevice → CoreState → List CoreEvent → CoreState
-after plan s [] = s
-after plan s (e ∷ es) = after plan (step plan s e) es
+-- the core after a list of events
+abbrev pub after : CoreValue → List CoreEvent → CoreValue
+after core [] = core
+after core (e ∷ es) = after (step core e) es

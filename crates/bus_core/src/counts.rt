@@ -5,7 +5,7 @@ ghost use Rattle.bus_plan.specs.Plan.{is_matched, suppliers_of};
 ghost use Rattle.bus_plan.specs.Consumers.{has_supplier};
 ghost use Rattle.bus_core.specs.Due.{devices};
 ghost use Rattle.bus_core.specs.RefinementPhase.{phase_at};
-ghost use Rattle.bus_core.specs.RefinementCounts.{due_with};
+ghost use Rattle.bus_core.specs.RefinementCounts.{due_with, AreMarked};
 
 use crate::device_set::DeviceSet;
 use crate::phase::{Phase, is_matched, phase_of};
@@ -45,6 +45,22 @@ fn is_due(plan: &Plan, device: Device, phase: Phase, missing: usize) -> bool
         Phase::Fresh => is_matched(plan, device),
         Phase::Begun => is_matched(plan, device) && missing == 0,
         _ => false,
+    }
+}
+
+/// Each device is due or not by its phase and by what it waits for.
+pub fn mark(plan: &Plan, phases: &[Phase], missing: &[usize], due: &mut DeviceSet)
+    requires counts { length missing.now ≡ length plan.now }
+    requires places { length due.old ≡ length plan.now }
+    ensures places { length due.new ≡ length plan.now }
+    ensures due { AreMarked plan.now phases.now missing.now due.new }
+{
+    for (index, count) in missing.iter().enumerate() {
+        let device = Device::new(index);
+        due.put(
+            device,
+            is_due(plan, device, phase_of(phases, device), *count),
+        );
     }
 }
 

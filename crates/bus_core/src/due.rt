@@ -18,8 +18,8 @@ impl Core {
         is_bound(&self.phases, device)
     }
 
-    // Whether a device is matched and all its suppliers are bound.
-    pub(crate) fn is_ready(&self, device: Device) -> bool
+    /// Whether a device is matched and all its suppliers are bound.
+    pub fn is_ready(&self, device: Device) -> bool
         requires { device < length self.now.plan }
         ensures { result ≡ is_ready self.now.plan (bound_in self.now.state.history) device }
     {

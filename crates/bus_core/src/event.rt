@@ -1,4 +1,6 @@
+use crate::compatibles::Compatibles;
 use bus_plan::Device;
+use dt_tree::Name;
 
 /// One flight of a device. Attempts are numbered over all begins of a core, from 1.
 #[derive(Clone, Copy, Debug, PartialEq, Eq)]
@@ -28,9 +30,11 @@ pub enum Reply {
 }
 
 /// An event of a schedule. A finish is that of the flight which its device has.
-#[derive(Debug, Drop, PartialEq, Eq)]
+#[derive(Debug, Drop)]
 pub enum Event {
     Begin(Device),
     Finish(Device, Report),
     Abandon(Device),
+    /// A driver comes late, by its name and the strings that it matches.
+    Register(Name, Compatibles),
 }

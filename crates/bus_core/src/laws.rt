@@ -1,10 +1,20 @@
 //! The laws of the bus, over all plans, states and events.
 
-ghost use Rattle.bus_core.specs.Laws.{EventsKeepHistory, QuietIsLeast, SuppliersComeFirst, QuietReportIsTheEnd, EndReportIsOne, ReplayIsAfter, ReplayKeepsHistory, ReplayGoesOn, ReplayStops};
+ghost use Rattle.bus_core.specs.Laws.{EventsKeepHistory, HistoryStays, LeastGrows, QuietIsLeast, SuppliersComeFirst, QuietReportIsTheEnd, EndReportIsOne, ReplayIsAfter, ReplayKeepsHistory, ReplayGoesOn, ReplayStops};
 
-/// Every list of begins, finishes and abandons leads to a history of the sequential bus.
+/// Every list of begins, finishes, abandons and late drivers leads to a history of the sequential bus.
 pub fn events_keep_history()
     ensures { EventsKeepHistory }
+{}
+
+/// A history of the sequential bus stays one when a driver comes late.
+pub fn history_stays()
+    ensures { HistoryStays }
+{}
+
+/// The least set after a late driver has each device of the least set before it.
+pub fn least_grows()
+    ensures { LeastGrows }
 {}
 
 /// Where nothing is due or in flight after a history of the sequential bus, the bound devices are the least set that is

@@ -2,7 +2,7 @@
 
 ghost use Rattle.std.specs.Prelude.{◌≡◌, ◌<◌, length, is_some};
 ghost use Rattle.bus_plan.specs.Plan.{is_matched};
-ghost use Rattle.bus_core.specs.RefinementPhase.{phase_at, bound_before, bound_by, idle_in, flight_in};
+ghost use Rattle.bus_core.specs.RefinementPhase.{phase_at, begun_in, bound_before, bound_by, idle_in, flight_in};
 
 use bus_plan::{Device, Plan};
 
@@ -26,6 +26,13 @@ impl Phase {
         ensures { result ≡ idle_in self }
     {
         matches!(self, Phase::Fresh | Phase::Begun)
+    }
+
+    /// Whether the device was ever begun.
+    pub fn is_begun(self) -> bool
+        ensures { result ≡ begun_in self }
+    {
+        !matches!(self, Phase::Fresh)
     }
 
     /// Whether the device is in flight.

@@ -24,6 +24,8 @@ pub enum Refusal {
     TooManyEvents,
     #[error("the device isn't in flight")]
     NotInFlight,
+    #[error("a driver of this name is known")]
+    KnownDriver,
 }
 
 impl Refusal {
@@ -40,6 +42,7 @@ impl Refusal {
             Refusal::WasBound => 64,
             Refusal::TooManyEvents => 65,
             Refusal::NotInFlight => 66,
+            Refusal::KnownDriver => 67,
         }
     }
 
@@ -56,6 +59,7 @@ impl Refusal {
             Refusal::WasBound => "WasBound",
             Refusal::TooManyEvents => "TooManyEvents",
             Refusal::NotInFlight => "NotInFlight",
+            Refusal::KnownDriver => "KnownDriver",
         }
     }
 }

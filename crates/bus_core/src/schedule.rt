@@ -2,9 +2,11 @@
 
 ghost use Rattle.std.specs.Prelude.{◌≡◌, ◌<◌, ◌++◌, ◌⊎◌, length, option_to_list, All, IfOk, IfSome, OnOk, MatchResult};
 ghost use Rattle.bus_plan.specs.Plan.{device_at};
+ghost use Rattle.bus_plan.specs.PlanFile.{Answers};
 ghost use Rattle.bus_core.specs.Replay.{IsEventOf};
-ghost use Rattle.bus_core.specs.Schedule.{event_of_two, event_of_three, event_of_four, event_of, line_meaning, schedule_of};
+ghost use Rattle.bus_core.specs.Schedule.{event_of_two, event_of_three, event_of_four, device_event, event_of, line_meaning, schedule_of};
 
+use crate::driver_line::driver_event;
 use crate::event::{Event, Report};
 use bus_plan::{Device, Fields, Plan, PlanError, lines_of};
 use dt_tree::is_path;
@@ -88,12 +90,17 @@ fn event_of_four(
     Ok(Event::Finish(device, Report::Missing(supplier)))
 }
 
-// The event of a line with these fields: two, three or four of them. A fifth is the last that is asked for.
-fn event_of(plan: &Plan, number: usize, mut fields: Fields<'_>) -> Result<Event, PlanError>
-    ensures event { result ≡ event_of plan.now number fields.entry }
+// The event of a line that names a device, by its word and the one, two or three fields behind it. A fourth is the last
+// that is asked for.
+fn device_event(
+    plan: &Plan,
+    number: usize,
+    word: &[u8],
+    mut fields: Fields<'_>,
+) -> Result<Event, PlanError>
+    ensures event { result ≡ device_event plan.now number word.now fields.entry }
     ensures within { IfOk result (IsEventOf plan.now) }
 {
-    let word = fields.next().ok_or(PlanError::BadLine(number))?;
     let path = fields.next().ok_or(PlanError::BadLine(number))?;
     let Some(said) = fields.next() else {
         return event_of_two(plan, number, word, path);
@@ -107,14 +114,38 @@ fn event_of(plan: &Plan, number: usize, mut fields: Fields<'_>) -> Result<Event,
     }
 }
 
-fn read_line(plan: &Plan, number: usize, line: &[u8]) -> Result<Option<Event>, PlanError>
-    ensures line { result ≡ line_meaning plan.now number line.now }
+// The event of a line with these fields.
+fn event_of(
+    alloc: Global,
+    plan: &Plan,
+    number: usize,
+    mut fields: Fields<'_>,
+) -> Result<Event, PlanError>
+    ensures event { Answers (event_of plan.now number fields.entry) result }
+    ensures within { IfOk result (IsEventOf plan.now) }
+{
+    let Some(word) = fields.next() else {
+        return Err(PlanError::BadLine(number));
+    };
+    if word == b"driver".as_slice() {
+        return driver_event(alloc, number, fields);
+    }
+    device_event(plan, number, word, fields)
+}
+
+fn read_line(
+    alloc: Global,
+    plan: &Plan,
+    number: usize,
+    line: &[u8],
+) -> Result<Option<Event>, PlanError>
+    ensures line { Answers (line_meaning plan.now number line.now) result }
     ensures within { IfOk result (λ event. IfSome event (IsEventOf plan.now)) }
 {
     let Some(fields) = Fields::read(number, line)? else {
         return Ok(None);
     };
-    match event_of(plan, number, fields) {
+    match event_of(alloc, plan, number, fields) {
         Ok(event) => Ok(Some(event)),
         Err(error) => Err(error),
     }
@@ -135,8 +166,8 @@ fn append(events: &mut Vec<Event>, event: Option<Event>) -> Result<(), AllocErro
     }
 }
 
-/// The events of a schedule: `begin PATH`, `finish PATH settled`, `finish PATH missing SUPPLIER` and `abandon PATH`, a
-/// line each. A line of another form is refused with `BadLine`, a path that no device of the plan has with
+/// The events of a schedule: `begin PATH`, `finish PATH settled`, `finish PATH missing SUPPLIER`, `abandon PATH` and
+/// `driver NAME COMPATIBLE..`, a line each. A line of another form is refused with `BadLine`, a path that no device of the plan has with
 /// `UnknownPath`, by the first such line.
 pub fn read_schedule(alloc: Global, plan: &Plan, text: &[u8]) -> Result<Vec<Event>, PlanError>
     ensures schedule { MatchResult result (λ events. schedule_of plan.now text.now ≡ Ok events.items) (λ e. (e ≡ PlanError.NoMemory) ⊎ (schedule_of plan.now text.now ≡ Err e)) }
@@ -147,7 +178,7 @@ pub fn read_schedule(alloc: Global, plan: &Plan, text: &[u8]) -> Result<Vec<Even
     let mut number = 0;
     for line in lines_of(text) {
         number += 1;
-        append(&mut events, read_line(plan, number, line)?)?;
+        append(&mut events, read_line(alloc, plan, number, line)?)?;
     }
     Ok(events)
 }

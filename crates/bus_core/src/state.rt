@@ -1,7 +1,7 @@
 //! The core.
 
 ghost use Rattle.std.specs.Prelude.{◌≡◌, IfOk};
-ghost use Rattle.bus_core.specs.CoreState.{first_state};
+ghost use Rattle.bus_core.specs.CoreState.{first_core};
 ghost use Rattle.bus_core.specs.History.{IsBusHistory};
 ghost use Rattle.bus_core.specs.declared.refusal.Refusal.TheVariants.{NoMemory};
 ghost use Rattle.std.specs.Prelude.{MatchResult, replicate, ◌≤◌, ℕ, [], false, length, map, slice_index_or, vec_capacity};
@@ -13,7 +13,7 @@ use crate::device_set::DeviceSet;
 use crate::phase::Phase;
 use crate::refusal::Refusal;
 use crate::settle::Settle;
-use bus_plan::Plan;
+use bus_plan::{PathIndex, Plan};
 use std::alloc::{AllocError, Global};
 use std::marker::Model;
 
@@ -31,6 +31,8 @@ pub struct Core {
     pub(crate) due: DeviceSet,
     /// How many flights are open.
     pub(crate) flights: usize,
+    /// The names of the drivers that came late.
+    pub(crate) registered: PathIndex,
 }
 
 impl Model for Core {
@@ -78,20 +80,24 @@ fn first_kept(alloc: Global, plan: &Plan) -> Result<Kept, AllocError>
 }
 
 impl Core {
-    /// Nothing begun. It makes the room for all settles, so that nothing later takes memory.
+    /// Nothing begun. It makes the room for all settles, so that none of the devices' events takes memory.
     pub fn new(alloc: Global, plan: Plan) -> Result<Core, Refusal>
-        ensures { MatchResult result (λ core. core ≡ record { plan = plan; state = first_state plan }) (λ refusal. refusal ≡ NoMemory) }
+        ensures { MatchResult result (λ core. core ≡ first_core plan) (λ refusal. refusal ≡ NoMemory) }
     {
         match first_kept(alloc, &plan) {
-            Ok((history, phases, missing, due)) => Ok(Core {
-                plan,
-                phases,
-                history,
-                begins: 0,
-                missing,
-                due,
-                flights: 0,
-            }),
+            Ok((history, phases, missing, due)) => {
+                let registered = PathIndex::new(alloc, plan.hasher());
+                Ok(Core {
+                    plan,
+                    phases,
+                    history,
+                    begins: 0,
+                    missing,
+                    due,
+                    flights: 0,
+                    registered,
+                })
+            }
             Err(_) => Err(Refusal::NoMemory),
         }
     }
@@ -110,7 +116,7 @@ impl Core {
         let _ = &self.phases;
     }
 
-    /// The plan.
+    /// The plan, with the drivers so far.
     pub fn plan(&self) -> &Plan
         ensures { result.now ≡ self.now.plan }
     {

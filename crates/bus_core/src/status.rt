@@ -1,7 +1,9 @@
 //! How the devices of a core stand.
 
 ghost use Rattle.std.specs.Prelude.{◌≡◌, ◌<◌, length};
-ghost use Rattle.bus_plan.specs.Plan.{is_available, is_matched};
+ghost use Rattle.std.specs.Option.{option_copied};
+ghost use Rattle.bus_plan.specs.Plan.{driver_of, is_available, is_matched};
+ghost use Rattle.bus_core.specs.CoreState.{was_begun};
 ghost use Rattle.bus_core.specs.Due.{is_due};
 ghost use Rattle.bus_core.specs.RefinementPhase.{idle_status};
 ghost use Rattle.bus_core.specs.Report.{status_of};
@@ -9,6 +11,7 @@ ghost use Rattle.bus_core.specs.Report.{status_of};
 use crate::phase::{Phase, is_matched, phase_of};
 use crate::state::Core;
 use bus_plan::Device;
+use dt_tree::Name;
 
 /// How a device stands.
 #[derive(Clone, Copy, Debug, PartialEq, Eq)]
@@ -39,6 +42,21 @@ impl Core {
             Phase::InFlight(_, _) => Status::Probing,
             _ => self.idle_status(device),
         }
+    }
+
+    /// The driver that a device has so far.
+    pub fn driver(&self, device: Device) -> Option<&Name>
+        requires { device < length self.now.plan }
+        ensures { option_copied result ≡ driver_of self.now.plan device }
+    {
+        self.plan.driver(device)
+    }
+
+    /// Whether a device was ever begun.
+    pub fn begun(&self, device: Device) -> bool
+        ensures { result ≡ was_begun self.now.state device }
+    {
+        phase_of(&self.phases, device).is_begun()
     }
 
     // How a device stands that is neither in flight nor settled.

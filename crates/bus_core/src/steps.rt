@@ -1,4 +1,4 @@
-//! The events of a core. None takes memory: the room of every settle was made with the core.
+//! The events of devices. None takes memory: the room of every settle was made with the core.
 
 ghost use Rattle.std.specs.Prelude.{◌≡◌, ◌<◌, ◌+◌, ◌++◌, ◌∷◌, [], length, IfOk, IfNone, OnOk, OnErr, Some, None, vec_len, vec_capacity, ◌≤◌, ◌==◌, true};
 ghost use Rattle.std.specs.List.{list_any};
@@ -7,9 +7,9 @@ ghost use Rattle.bus_plan.specs.Plan.{verdict_of};
 ghost use Rattle.bus_core.specs.CoreState.{CoreValue, flight_of, is_in_flight};
 ghost use Rattle.bus_core.specs.Due.{is_idle};
 ghost use Rattle.bus_core.specs.History.{outcome_by, bound_in};
+ghost use Rattle.bus_core.specs.Limits.{begin_limit};
 ghost use Rattle.bus_core.specs.Ready.{is_ready};
 ghost use Rattle.bus_core.specs.Step.{begin_refusal, begin_state, finish_refusal, finish_state, finish_reply, report_refusal, abandon_refusal, without_flight, settled_reply, is_supplier, settled_at_begin, begins, finishes, abandons, step};
-ghost use Rattle.bus_core.specs.Replay.{event_refusal, event_state, device_of};
 
 use crate::counts::lower;
 use crate::event::{Reply, Report, Ticket};
@@ -53,7 +53,7 @@ impl Core {
         ensures ticket { IfOk result (λ ticket. ticket ≡ record { device = device; attempt = self.old.state.begins + 1 }) }
         ensures begun { OnOk result (self.new ≡ record { plan = self.old.plan; state = begin_state self.old.state device }) }
         ensures err { OnErr result (self.new ≡ self.old) }
-        ensures step { self.new ≡ record { plan = self.old.plan; state = step self.old.plan self.old.state (begins device) } }
+        ensures step { self.new ≡ step self.old (begins device) }
     {
         match self.begin_refusal(device) {
             Some(refusal) => Err(refusal),
@@ -66,7 +66,7 @@ impl Core {
         requires { device < length self.now.plan }
         ensures refusal { result ≡ begin_refusal self.now.plan self.now.state device }
         ensures idle { IfNone result (is_idle self.now.state device ≡ true) }
-        ensures few { IfNone result (self.now.state.begins < MAX_BEGINS) }
+        ensures few { IfNone result (self.now.state.begins < begin_limit) }
     {
         if !is_matched(&self.plan, device) {
             return Some(Refusal::Unmatched);
@@ -84,7 +84,7 @@ impl Core {
     fn open_flight(&mut self, device: Device) -> Ticket
         requires within { device < length self.old.plan }
         requires idle { is_idle self.old.state device ≡ true }
-        requires few { self.old.state.begins < MAX_BEGINS }
+        requires few { self.old.state.begins < begin_limit }
         ensures ticket { result ≡ record { device = device; attempt = self.old.state.begins + 1 } }
         ensures begun { self.new ≡ record { plan = self.old.plan; state = begin_state self.old.state device } }
     {
@@ -116,7 +116,7 @@ impl Core {
         ensures refused { result_err result ≡ abandon_refusal self.old.state device }
         ensures abandoned { OnOk result (self.new ≡ record { plan = self.old.plan; state = without_flight self.old.state device }) }
         ensures err { OnErr result (self.new ≡ self.old) }
-        ensures step { self.new ≡ record { plan = self.old.plan; state = step self.old.plan self.old.state (abandons device) } }
+        ensures step { self.new ≡ step self.old (abandons device) }
     {
         if !phase_of(&self.phases, device).is_in_flight() {
             return Err(Refusal::NotInFlight);
@@ -132,7 +132,7 @@ impl Core {
         ensures reply { IfOk result (λ reply. reply ≡ finish_reply self.new.plan self.new.state ticket.now.device report) }
         ensures finished { OnOk result (self.new ≡ record { plan = self.old.plan; state = finish_state self.old.plan self.old.state ticket.now.device report }) }
         ensures err { OnErr result (self.new ≡ self.old) }
-        ensures step { self.new ≡ record { plan = self.old.plan; state = step self.old.plan self.old.state (finishes ticket.now report) } }
+        ensures step { self.new ≡ step self.old (finishes ticket.now report) }
     {
         match phase_of(&self.phases, ticket.device) {
             Phase::InFlight(attempt, settled) if attempt == ticket.attempt => self.land(

@@ -1,4 +1,4 @@
-ghost use Rattle.std.specs.Prelude.{◌≡◌, ℕ, List, ◌++◌, ◌∷◌, ◌≢◌, [], AllPairs, IfOk, OnOk, OnErr, position, false};
+ghost use Rattle.std.specs.Prelude.{◌≡◌, ℕ, List, ◌++◌, ◌∷◌, ◌-◌, ◌≢◌, length, take, [], AllPairs, IfOk, OnOk, OnErr, position, false};
 ghost use Rattle.std.specs.List.{list_any};
 ghost use Rattle.std.specs.Str.{bytes_eq};
 ghost use Rattle.bus_plan.specs.Plan.{paths};
@@ -65,6 +65,14 @@ impl PathIndex {
         ensures { result ≡ list_any (bytes_eq path.now) self.now }
     {
         self.set.contains(path)
+    }
+
+    /// Takes the last path out again.
+    pub fn forget_last(&mut self)
+        ensures { self.new ≡ take (length self.old - 1) self.old }
+    {
+        let count = self.set.len().saturating_sub(1);
+        self.set.truncate(count);
     }
 
     /// Puts a new path last.

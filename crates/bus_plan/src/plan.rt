@@ -176,6 +176,11 @@ impl Plan {
         Ok(give(&mut self.devices, gains))
     }
 
+    /// What its look-ups hash with.
+    pub fn hasher(&self) -> RandomState {
+        self.index.hasher()
+    }
+
     /// An equal plan.
     pub fn copy(&self, alloc: Global) -> Result<Self, AllocError>
         ensures { IfOk result (λ plan. plan ≡ self.now) }

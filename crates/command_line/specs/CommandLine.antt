@@ -2,7 +2,7 @@
 use Rattle.std.specs.Prelude.{◌≡◌, ◌≤◌, ℕ, Bool, false, List, Option, Some, None, codes}
 use Rattle.std.specs.Str.{bytes_eq}
 use Rattle.std.specs.Str.Parse.{IsNumeral, digits_value, without_leading_plus}
-use Rattle.bus_manager.specs.declared.running.TheConstants.{MAX_WORKERS}
+use Rattle.bus_manager.specs.Workers.{most_workers}
 use Rattle.clap.specs.Words.{Row, Text, first_of, one_of, subcommand_of}
 use Rattle.command_line.specs.declared.subcommand.Command.{Command}
 use Rattle.command_line.specs.declared.subcommand.Command.TheVariants.{Compile, Overlay, Dump, Plan, Replay, Probe, Explain}
@@ -18,6 +18,15 @@ abbrev pub IsNumber : Option Text → ℕ → Type 0
 IsNumber None n = ⊥
 IsNumber (Some text) n = IsNumeral 10 (without_leading_plus text) × (n ≡ digits_value 10 (without_leading_plus text))
 
+-- so many workers were asked for, as many as there may be
+abbrev pub AreWorkers : ℕ → List Row → Type 0
+AreWorkers n rows = IsNumber (one_of (codes "workers") rows) n × (1 ≤ n) × (n ≤ most_workers)
+
+-- so many, or none were asked for
+abbrev pub AreAsked : Option ℕ → List Row → Type 0
+AreAsked None rows = first_of (codes "workers") rows ≡ None
+AreAsked (Some n) rows = AreWorkers n rows
+
 -- the subcommand that was met, with the values of its arguments
 abbrev pub IsMet : Command → Text → List Row → Type 0
 IsMet (Compile source out symbols) name rows =
@@ -29,8 +38,10 @@ IsMet (Plan blob drivers dot) name rows =
     (name ≡ codes "plan") × (first_of (codes "BLOB") rows ≡ Some blob.now) × (first_of (codes "DRIVERS") rows ≡ Some drivers.now) × (dot ≡ is_on (first_of (codes "dot") rows))
 IsMet (Probe blob drivers workers) name rows =
     (name ≡ codes "probe") × (first_of (codes "BLOB") rows ≡ Some blob.now) × (first_of (codes "DRIVERS") rows ≡ Some drivers.now)
-    × IsNumber (one_of (codes "workers") rows) workers × (1 ≤ workers) × (workers ≤ MAX_WORKERS)
-IsMet (Replay plan schedule) name rows = (name ≡ codes "replay") × (first_of (codes "PLAN") rows ≡ Some plan.now) × (first_of (codes "SCHEDULE") rows ≡ Some schedule.now)
+    × AreWorkers workers rows
+IsMet (Replay plan schedule workers) name rows =
+    (name ≡ codes "replay") × (first_of (codes "PLAN") rows ≡ Some plan.now) × (first_of (codes "SCHEDULE") rows ≡ Some schedule.now)
+    × AreAsked workers rows
 IsMet (Explain number) name rows = (name ≡ codes "explain") × (first_of (codes "NUMBER") rows ≡ Some number.now)
 
 pub record Meets (command : Command) (met : Option (Text × List Row)) : Type 0 where

@@ -1,6 +1,6 @@
 -- What the command line may say: each subcommand with its arguments, as clap's definitions have them.
 use Rattle.std.specs.Prelude.{ℕ, [], ◌∷◌, Some, true, codes}
-use Rattle.bus_manager.specs.declared.running.TheConstants.{MAX_WORKERS}
+use Rattle.bus_manager.specs.Workers.{most_workers}
 use Rattle.clap.specs.declared.builder.action.ArgAction.TheVariants.{SetTrue}
 use Rattle.clap.specs.declared.builder.value_parser.ValueParser.TheVariants.{Unsigned}
 use Rattle.clap.specs.Words.{App, Rule, Text, new_app, new_rule, with_rule, with_subcommand}
@@ -16,7 +16,11 @@ dump = with_rule (new_app (codes "dump")) (required (codes "IN"))
 abbrev pub flag : Text → Rule
 flag id = record (new_rule id) { long = Some id; action = Some SetTrue }
 
--- an option with a number from 1 to the most, and the number where it isn't given
+-- an option with a number from 1 to the most
+abbrev pub asked_number : Text → ℕ → Rule
+asked_number id most = record (new_rule id) { long = Some id; parser = Some (Unsigned 1 most) }
+
+-- the same, and the number where it isn't given
 abbrev pub number : Text → ℕ → Text → Rule
 number id most default = record (new_rule id) { long = Some id; parser = Some (Unsigned 1 most); defaults = default ∷ [] }
 
@@ -30,10 +34,12 @@ abbrev pub plan : App
 plan = with_rule (with_rule (with_rule (new_app (codes "plan")) (required (codes "BLOB"))) (required (codes "DRIVERS"))) (flag (codes "dot"))
 
 abbrev pub replay : App
-replay = with_rule (with_rule (new_app (codes "replay")) (required (codes "PLAN"))) (required (codes "SCHEDULE"))
+replay =
+    with_rule (with_rule (with_rule (new_app (codes "replay")) (required (codes "PLAN"))) (required (codes "SCHEDULE")))
+    (asked_number (codes "workers") most_workers)
 
 abbrev pub probe : App
-probe = with_rule (with_rule (with_rule (new_app (codes "probe")) (required (codes "BLOB"))) (required (codes "DRIVERS"))) (number (codes "workers") MAX_WORKERS (codes "4"))
+probe = with_rule (with_rule (with_rule (new_app (codes "probe")) (required (codes "BLOB"))) (required (codes "DRIVERS"))) (number (codes "workers") most_workers (codes "4"))
 
 abbrev pub explain : App
 explain = with_rule (new_app (codes "explain")) (required (codes "NUMBER"))

@@ -18,11 +18,12 @@ more); 2 the command line is no command; 3 a file can't be read or written (80, 
 Limits: a source has at most 16,777,216 bytes; a blob and its printed source have at most 268,435,456, and so does each
 text file of the bus; nodes are nested at most 64 deep; a plan has at most 512 devices, a schedule at most 500,000 begins.
 
-Workers of `probe` are 1 to 64, 4 where none are named.
+Workers are 1 to 64: of `probe` 4 where none are named; `replay` binds what is left by workers only where they are named.
 
-Formats: a driver file's line is `driver NAME COMPATIBLE..` or `fail PATH`. A plan's line is `PATH DRIVER ok|fail SUPPLIER..`, `PATH - - SUPPLIER..` (no driver) or `PATH ! - SUPPLIER..`
-(switched off). A schedule's is `begin PATH`, `finish PATH settled`, `finish PATH missing SUPPLIER` or `abandon PATH`.
-Lines that begin with # are skipped.";
+Formats: a driver file's line is `driver NAME COMPATIBLE..` or `fail PATH`. A plan's line is `PATH DRIVER ok|fail
+SUPPLIER..`, `PATH - - SUPPLIER..` (no driver), `PATH ! - SUPPLIER..` (switched off) or `compatible PATH COMPATIBLE..`
+(what a late driver may match). A schedule's is `begin PATH`, `finish PATH settled`, `finish PATH missing SUPPLIER`,
+`abandon PATH` or `driver NAME COMPATIBLE..` (a driver that comes late). Lines that begin with # are skipped.";
 
 /// What the program takes.
 pub fn grammar<'a>(alloc: Global) -> Result<Command<'a>, AllocError>
@@ -125,11 +126,14 @@ fn replay<'a>(alloc: Global) -> Result<Command<'a>, AllocError>
     ensures { IfOk result (λ c. (app_of c ≡ spec.replay) × ((out-Command c).has_globals ≡ false)) }
 {
     let about = "Replays a schedule of probe events over a plan and prints the report";
+    let workers = "How many bind what is left behind the last event, 1 to 64";
+    let most = MAX_WORKERS as u64;
     let command = named(alloc, "replay", about).arg(required(alloc, "PLAN", "The plan file"));
-    add_argument(
+    let command = add_argument(
         command,
         required(alloc, "SCHEDULE", "The schedule of events"),
-    )
+    );
+    add_argument(command, asked_number(alloc, "workers", most, workers))
 }
 
 fn probe<'a>(alloc: Global) -> Result<Command<'a>, AllocError>
@@ -164,6 +168,16 @@ fn flag<'a>(alloc: Global, name: &'a str, about: &'a str) -> Arg<'a>
     Arg::new(alloc, name)
         .long(name)
         .action(ArgAction::SetTrue)
+        .help(about)
+}
+
+fn asked_number<'a>(alloc: Global, name: &'a str, most: u64, about: &'a str) -> Arg<'a>
+    ensures rule { rule_of result ≡ spec.asked_number name.now most }
+    ensures local { result.global ≡ false }
+{
+    Arg::new(alloc, name)
+        .long(name)
+        .value_parser(ValueParser::unsigned(1, most))
         .help(about)
 }
 

@@ -1,9 +1,9 @@
 //! The command line, read by `clap`.
-ghost use Rattle.std.specs.Prelude.{◌≡◌, ◌≤◌, IfOk, IfSome, codes, map};
-ghost use Rattle.clap.specs.Words.{app_of, first_of, one_of, found_of, rows_of};
+ghost use Rattle.std.specs.Prelude.{◌≡◌, IfOk, IfSome, codes, map};
+ghost use Rattle.clap.specs.Words.{app_of, first_of, found_of, rows_of};
 ghost use Rattle.clap.specs.Simple.{subcommand_rows_of};
 ghost use Rattle.command_line.specs.Grammar.{dtman};
-ghost use Rattle.command_line.specs.CommandLine.{IsMet, Meets, Says, is_on, IsNumber};
+ghost use Rattle.command_line.specs.CommandLine.{AreAsked, AreWorkers, IsMet, Meets, Says, is_on};
 
 use crate::grammar::grammar;
 use crate::subcommand::Command;
@@ -111,6 +111,7 @@ fn replay<'a>(given: &ArgMatches<'a>) -> Option<Command<'a>>
     Some(Command::Replay {
         plan: given.get_str("PLAN")?,
         schedule: given.get_str("SCHEDULE")?,
+        workers: asked_workers(given)?.number,
     })
 }
 
@@ -135,7 +136,7 @@ fn is_on(given: &ArgMatches<'_>, name: &str) -> bool
 /// The number of workers. That it is in the range of the grammar is tested here once more, as the range of an option is
 /// said of a parse and not of what its getters answer.
 fn workers(given: &ArgMatches<'_>) -> Option<u8>
-    ensures { IfSome result (λ number. IsNumber (one_of (codes "workers") (rows_of (found_of given.now))) number × (1 ≤ number) × (number ≤ MAX_WORKERS)) }
+    ensures { IfSome result (λ number. AreWorkers number (rows_of (found_of given.now))) }
 {
     let number = given.get_one::<u8>("workers")?;
     if number < 1 {
@@ -145,4 +146,20 @@ fn workers(given: &ArgMatches<'_>) -> Option<u8>
         return None;
     }
     Some(number)
+}
+
+/// The workers that an option asks for, if it is there.
+#[derive(Clone, Copy)]
+struct Asked {
+    number: Option<u8>,
+}
+
+fn asked_workers(given: &ArgMatches<'_>) -> Option<Asked>
+    ensures { IfSome result (λ asked. AreAsked asked.number (rows_of (found_of given.now))) }
+{
+    let number = match given.get_str("workers") {
+        None => None,
+        Some(_) => Some(workers(given)?),
+    };
+    Some(Asked { number })
 }

@@ -26,6 +26,8 @@ pub enum Command<'a> {
     Replay {
         plan: &'a str,
         schedule: &'a str,
+        /// From 1 to `MAX_WORKERS`, where the run is to go on by workers.
+        workers: Option<u8>,
     },
     Probe {
         blob: &'a str,

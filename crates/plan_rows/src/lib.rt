@@ -7,6 +7,8 @@
 #[cfg(test)]
 mod boards;
 #[cfg(test)]
+mod core_boards;
+#[cfg(test)]
 mod drivers;
 #[cfg(test)]
 mod graphs;

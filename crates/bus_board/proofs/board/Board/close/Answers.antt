@@ -47,7 +47,7 @@ returns c =
     let p = c.self.inside.plan in
     let words = c.loop-index.room.items in
     let quiet : c.is_quiet-quiet.result ≡ is_quiet p words = c.is_quiet-quiet.ensures ∙ ap (is_quiet p) c.deref.ensures.value in
-    let t = ends_as c.self.inside.table.shared.key p _ c.seat.inside.token.me.0 _ words _ c.is_quiet-quiet.result inv.0 c.close_with-closed.ensures.values.2
+    let t = ends_as c.self.inside.table.shared.key.plan p _ c.seat.inside.token.me.0 _ words _ c.is_quiet-quiet.result inv.0 c.close_with-closed.ensures.values.2 c.seat.invariant.live
     (omega (arith, i.0, c.len-index-end.ensures, c.loop-index-test.false, c.loop-index.auto.index-end))
     (λ d lt. i.3 d (omega (arith, c.len-index-end.ensures, c.loop-index-test.false))) quiet in
     subst (λ (b : Posted). EndsAs b.plan c.args.seat.view words c.is_quiet-quiet.result) c.self.view_is (subst (λ (s : Seated). EndsAs p s.view words c.is_quiet-quiet.result) c.seat.view_is t)

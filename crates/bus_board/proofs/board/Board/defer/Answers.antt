@@ -35,7 +35,7 @@ store-requires c =
     let f = found_look _ _ t c.deref.result.now c.deref.ensures.value c.args.supplier _ c.in-Some-find_look.ensures in
     let plan_is : m.0.plan ≡ c.self.inside.plan = ap (λ (x : Seated). x.view.plan) c.seat.view_is ∙ c.requires.1 ∙ sym (ap (λ (x : Posted). x.plan) c.self.view_is) in
     let inv = c.self.invariant in
-    let key = c.self.inside.table.shared.key in
+    let key = c.self.inside.table.shared.key.plan in
     let slots = c.self.inside.table.shared.table_id.slots in (
       ap (λ (x : Seated). x.table) c.seat.view_is ∙ c.requires.0 ∙ sym (ap (λ (x : Posted). x.table) c.self.view_is),
       omega (arith, t.within, t.device, ap (length {A = PlannedDevice}) plan_is, inv.1, c.index.ensures),

@@ -31,7 +31,7 @@ load-found-requires c =
     let f = found_look _ _ t c.deref.result.now c.deref.ensures.value c.args.supplier _ c.in-Some-find_look.ensures in
     let plan_is : m.0.plan ≡ c.self.inside.plan = ap (λ (x : Seated). x.view.plan) c.seat.view_is ∙ c.requires.1 ∙ sym (ap (λ (x : Posted). x.plan) c.self.view_is) in
     let inv = c.self.invariant in
-    let key = c.self.inside.table.shared.key in
+    let key = c.self.inside.table.shared.key.plan in
     let slots = c.self.inside.table.shared.table_id.slots in
     let inside : c.args.supplier < length c.self.inside.plan = supplier_within c.self.inside.plan c.check.ensures t.flight.device c.args.supplier
     (subst (λ (p : List PlannedDevice). Has (suppliers_of p t.flight.device) c.args.supplier) plan_is f.0) in (

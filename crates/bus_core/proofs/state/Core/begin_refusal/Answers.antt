@@ -1,9 +1,9 @@
 use Rattle.std.proofs.Common.{◌≡◌, not, cond, true, Some, None, ap, sym, ◌∙◌, lt-ltb, arith}
 use Rattle.std.specs.Prelude.{nat_lt}
 use Rattle.bus_plan.specs.Plan.{is_matched}
-use Rattle.bus_core.specs.declared.limits.TheConstants.{MAX_BEGINS}
 use Rattle.bus_core.specs.declared.refusal.Refusal.TheVariants.{NotIdle, Unmatched, TooManyEvents}
 use Rattle.bus_core.specs.Due.{is_idle}
+use Rattle.bus_core.specs.Limits.{begin_limit}
 use Rattle.bus_core.specs.RefinementPhase.{phase_at, idle_in}
 use Rattle.bus_core.specs.Step.{begin_refusal}
 use Rattle.bus_core.proofs.SoundLemmas.{idle-same}
@@ -23,7 +23,7 @@ returns-clause-refusal c =
     let matched : is_matched c.args.self.now.plan c.args.device ≡ true =
     sym (c.is_matched.ensures ∙ (λ i. is_matched (c.self.view_is i).plan c.args.device)) ∙ c.if-not-is_matched.false
     in let idle : is_idle c.args.self.now.state c.args.device ≡ true = returns-clause-idle c
-    in let short : nat_lt c.args.self.now.state.begins MAX_BEGINS ≡ true = lt-ltb c.args.self.now.state.begins MAX_BEGINS (omega (arith, ap (λ v. v.state.begins) c.self.view_is))
+    in let short : nat_lt c.args.self.now.state.begins begin_limit ≡ true = lt-ltb c.args.self.now.state.begins begin_limit (omega (arith, ap (λ v. v.state.begins) c.self.view_is))
     in let none : begin_refusal c.args.self.now.plan c.args.self.now.state c.args.device ≡ None =
     λ i. cond (not (matched i)) (Some Unmatched) (cond (not (idle i)) (Some NotIdle) (cond (not (short i)) (Some TooManyEvents) None))
     in sym none

@@ -1,6 +1,7 @@
 use Rattle.std.proofs.Common.{◌≡◌, ◌-◌, ℕ, Bool, cond, set, refl, ap, sym, ◌∙◌, arith}
 use Rattle.bus_core.specs.declared.phase.Phase.TheVariants.{Begun}
 use Rattle.bus_core.specs.RefinementPhase.{phase_at, bound_by, state_of}
+use Rattle.bus_core.specs.CoreState.{with_names}
 use Rattle.bus_core.specs.Ready.{is_ready}
 use Rattle.bus_core.specs.RefinementCounts.{IsCounted}
 use Rattle.bus_core.specs.Step.{without_flight}
@@ -41,6 +42,7 @@ returns c =
     let now = in-flight c.self.inside _ c.args.device c.self.view_is c.self.invariant c.requires.within c.requires.flying in
     (λ i. record {
       plan = c.self.inside.plan;
-      state = landed-view c.self.inside.phases.items c.self.inside.history.items c.self.inside.begins c.args.device c.index.result c.index.ensures now.inside now.flying i;
+      state = with_names (landed-view c.self.inside.phases.items c.self.inside.history.items c.self.inside.begins c.args.device c.index.result c.index.ensures now.inside now.flying i)
+          c.self.inside.registered;
     })
     ∙ (λ i. record { plan = (c.self.view_is i).plan; state = without_flight (c.self.view_is i).state c.args.device })

@@ -1,4 +1,5 @@
 use Rattle.std.proofs.Common.{◌≡◌, ◌-◌, ℕ, Bool, cond, length, set, refl, ap, sym, ◌∙◌, arith}
+use Rattle.bus_core.specs.CoreState.{with_names}
 use Rattle.bus_core.specs.RefinementCounts.{IsCounted}
 use Rattle.bus_core.specs.declared.event.Report.TheVariants.{Settled}
 use Rattle.bus_core.specs.declared.phase.Phase.TheVariants.{Failed}
@@ -43,7 +44,7 @@ returns c =
     let now = settling c.self.inside _ c.args.device _ c.self.view_is c.self.invariant c.requires.within c.requires.flying c.requires.ready c.requires.fails in
     (λ i. record {
       plan = c.self.inside.plan;
-      state = settled-view c.self.inside.plan c.self.inside.phases.items c.self.inside.history.items c.self.inside.begins c.args.device c.index.result (length c.self.inside.history.items)
-          outcome.Failed (Failed) c.push_in_room.new.list.items c.index.ensures now.inside now.flying now.outcome_is refl c.push_in_room.ensures.items i;
+      state = with_names (settled-view c.self.inside.plan c.self.inside.phases.items c.self.inside.history.items c.self.inside.begins c.args.device c.index.result (length c.self.inside.history.items)
+          outcome.Failed (Failed) c.push_in_room.new.list.items c.index.ensures now.inside now.flying now.outcome_is refl c.push_in_room.ensures.items i) c.self.inside.registered;
     })
     ∙ (λ i. record { plan = (c.self.view_is i).plan; state = finish_state (c.self.view_is i).plan (c.self.view_is i).state c.args.device Settled })

@@ -1,6 +1,6 @@
 use Rattle.std.proofs.Common.{◌≡◌, not, cond, true, Some, ap, sym, ◌∙◌, eq-eqb}
 use Rattle.bus_core.specs.declared.refusal.Refusal.TheVariants.{StaleTicket}
-use Rattle.bus_core.specs.CoreState.{flight_of}
+use Rattle.bus_core.specs.CoreState.{flight_of, with_state}
 use Rattle.bus_core.specs.RefinementPhase.{flight_in}
 use Rattle.bus_core.specs.Step.{is_attempt, report_refusal, finish_refusal, finish_state}
 use Rattle.std.specs.Result.{result_err}
@@ -23,6 +23,6 @@ returns-in-InFlight-clause-refused c = refused c
 
 pub returns-in-InFlight-clause-step : goal.returns-in-InFlight-clause-step
 returns-in-InFlight-clause-step c =
-    step-left c.land.result (finish_refusal c.args.self.now.plan c.args.self.now.state c.args.ticket.now c.args.report) c.args.self.now.plan
-    (finish_state c.args.self.now.plan c.args.self.now.state c.args.ticket.now.device c.args.report) c.args.self.now.state c.land.new.self
+    step-left c.land.result (finish_refusal c.args.self.now.plan c.args.self.now.state c.args.ticket.now c.args.report)
+    (with_state c.args.self.now (finish_state c.args.self.now.plan c.args.self.now.state c.args.ticket.now.device c.args.report)) c.args.self.now c.land.new.self
     (refused c) c.land.ensures.finished c.land.ensures.err

@@ -1,6 +1,7 @@
 use Rattle.std.proofs.Common.{◌≡◌, ◌<◌, ◌+◌, true, length, set, refl, ap, sym, ◌∙◌, arith}
 use Rattle.bus_core.specs.declared.limits.TheConstants.{MAX_BEGINS}
 use Rattle.bus_core.specs.declared.phase.Phase.TheVariants.{InFlight}
+use Rattle.bus_core.specs.CoreState.{with_names}
 use Rattle.bus_core.specs.Due.{is_idle}
 use Rattle.bus_core.specs.RefinementPhase.{phase_at, idle_in, state_of}
 use Rattle.bus_core.specs.RefinementCounts.{IsCounted}
@@ -42,7 +43,7 @@ pub returns-clause-begun : goal.returns-clause-begun
 returns-clause-begun c =
     (λ i. record {
       plan = c.self.inside.plan;
-      state = begun-view c.self.inside.phases.items c.self.inside.history.items c.self.inside.begins c.args.device c.index.result c.len.result
-          c.index.ensures (c.len.ensures ∙ c.self.inside.history.ok.0) i;
+      state = with_names (begun-view c.self.inside.phases.items c.self.inside.history.items c.self.inside.begins c.args.device c.index.result c.len.result
+          c.index.ensures (c.len.ensures ∙ c.self.inside.history.ok.0) i) c.self.inside.registered;
     })
     ∙ (λ i. record { plan = (c.self.view_is i).plan; state = begin_state (c.self.view_is i).state c.args.device })
