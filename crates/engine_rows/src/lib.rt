@@ -11,6 +11,8 @@ mod compiling;
 #[cfg(test)]
 mod engines;
 #[cfg(test)]
+mod late_drivers;
+#[cfg(test)]
 mod overlaying;
 #[cfg(test)]
 mod plugins;
