@@ -5,4 +5,5 @@ mod ExplainLemmas
 mod HeaderLemmas
 mod LawLemmas
 pub mod OverlayLemmas
+mod RunLemmas
 pub mod ValueSizes

@@ -28,7 +28,7 @@ abbrev pub text_numbers : List ℕ
 text_numbers = 50 ∷ 51 ∷ 52 ∷ 53 ∷ 54 ∷ 55 ∷ 56 ∷ []
 
 abbrev pub event_numbers : List ℕ
-event_numbers = 60 ∷ 61 ∷ 62 ∷ 63 ∷ 64 ∷ 65 ∷ 66 ∷ []
+event_numbers = 60 ∷ 61 ∷ 62 ∷ 63 ∷ 64 ∷ 65 ∷ 66 ∷ 67 ∷ []
 
 abbrev pub run_numbers : List ℕ
 run_numbers = 70 ∷ []

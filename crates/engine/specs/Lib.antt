@@ -8,4 +8,5 @@ pub mod Overlay
 pub mod Plan
 pub mod Probe
 pub mod Replay
+pub mod ReplayRun
 pub mod Transfer

@@ -170,6 +170,7 @@ fn of_event(number: u8) -> Option<Texts>
         64 => Some(texts::WAS_BOUND),
         65 => Some(texts::TOO_MANY_EVENTS),
         66 => Some(texts::NOT_IN_FLIGHT),
+        67 => Some(texts::KNOWN_DRIVER),
         _ => None,
     }
 }

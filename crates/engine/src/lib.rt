@@ -13,6 +13,7 @@ mod overlaying;
 mod planning;
 mod probing;
 mod replay;
+mod replay_run;
 mod streams;
 mod transfer;
 
@@ -28,5 +29,6 @@ pub use overlaying::overlay_bytes;
 pub use planning::{graph_bytes, plan_bytes};
 pub use probing::probe_bytes;
 pub use replay::replay_bytes;
+pub use replay_run::replay_run_bytes;
 pub use streams::{FileChannel, OutputChannel};
 pub use transfer::{WriteFault, read_all, read_within, write_out};

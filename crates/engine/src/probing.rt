@@ -15,13 +15,12 @@ use bus_manager::{Prober, Ran, run};
 use bus_plan::Plan;
 use std::alloc::Global;
 use std::hash::RandomState;
-use std::sync::Wait;
 use std::thread::Threads;
 
 /// Plans a blob by the drivers of a file, and probes its devices by so many workers, 1 to 64.
 ///
 /// The faults of `plan_bytes` come first, then `TooManyWorkers`.
-pub fn probe_bytes<P: Prober, R: Threads + Wait + Sync>(
+pub fn probe_bytes<P: Prober, R: Threads + Sync>(
     rt: &R,
     alloc: Global,
     hasher: RandomState,
@@ -45,7 +44,7 @@ pub fn probe_bytes<P: Prober, R: Threads + Wait + Sync>(
     plan_run(rt, alloc, &plan, prober, workers)
 }
 
-fn plan_run<P: Prober, R: Threads + Wait + Sync>(
+fn plan_run<P: Prober, R: Threads + Sync>(
     rt: &R,
     alloc: Global,
     plan: &Plan,

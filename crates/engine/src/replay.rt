@@ -1,22 +1,37 @@
 //! A schedule replayed over a plan, from bytes to the report.
-ghost use Rattle.std.specs.Prelude.{◌≡◌, ◌⊎◌, All, IfOk, MatchResult, Ok, Err};
-ghost use Rattle.bus_core.specs.Replay.{IsEventOf, replay_of};
-ghost use Rattle.bus_core.specs.History.{IsBusHistory};
+ghost use Rattle.std.specs.Prelude.{◌≡◌, ◌⊎◌, IfOk, MatchResult, Ok, Err};
 ghost use Rattle.bus_core.specs.Report.{report_text};
-ghost use Rattle.bus_core.specs.Schedule.{schedule_of};
 ghost use Rattle.engine.specs.Fault.{shown, no_memory};
-ghost use Rattle.engine.specs.Replay.{replay_answer, after_events, after_schedule, ReportsEvents, ReportsHistory, ReportsSchedule};
+ghost use Rattle.engine.specs.Replay.{replaying, replay_answer, ReportsHistory};
 
 use crate::fault::Fault;
-use bus_core::{Core, Event, read_schedule, replay};
-use bus_plan::{Plan, read_plan};
+use bus_core::{Core, read_schedule, replay};
+use bus_plan::read_plan;
 use std::alloc::Global;
 use std::hash::RandomState;
 
-/// The report after all events of a schedule: one line a device, then `quiet` or `busy`.
+/// The core after all events of a schedule.
 ///
 /// The plan file's fault comes first, then the schedule's, each with its line, then the first refused event with its
 /// number.
+pub(crate) fn replayed(
+    alloc: Global,
+    hasher: RandomState,
+    plan: &[u8],
+    schedule: &[u8],
+) -> Result<Core, Fault>
+    ensures { MatchResult result
+        (λ core. replaying plan.now schedule.now ≡ Ok core)
+        (λ fault. (shown fault ≡ no_memory) ⊎ (replaying plan.now schedule.now ≡ Err (shown fault))) }
+{
+    let plan = read_plan(alloc, hasher, plan)?;
+    let events = read_schedule(alloc, &plan, schedule)?;
+    let core = replay(alloc, plan, events.as_slice())?;
+    Ok(core)
+}
+
+/// The report after all events of a schedule: one line a device, then `quiet` or `busy`. Drivers that came late have
+/// their devices.
 pub fn replay_bytes(
     alloc: Global,
     hasher: RandomState,
@@ -28,9 +43,7 @@ pub fn replay_bytes(
         (λ fault. (shown fault ≡ no_memory) ⊎ (replay_answer plan.now schedule.now ≡ Err (shown fault))) }
     ensures history { IfOk result (λ report. ReportsHistory plan.now schedule.now report.items) }
 {
-    let plan = read_plan(alloc, hasher, plan)?;
-    let events = read_schedule(alloc, &plan, schedule)?;
-    let core = replay(alloc, plan, events.as_slice())?;
+    let core = replayed(alloc, hasher, plan, schedule)?;
     core.check();
     report_of(alloc, &core)
 }

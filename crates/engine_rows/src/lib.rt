@@ -11,6 +11,7 @@ mod compiling;
 #[cfg(test)]
 mod engines;
 #[cfg(test)]
+mod late_drivers;
 mod long_values;
 #[cfg(test)]
 mod overlaying;

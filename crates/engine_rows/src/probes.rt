@@ -7,7 +7,6 @@ use engine::{graph_bytes, plan_bytes, probe_bytes};
 use std::alloc::Global;
 use std::hash::RandomState;
 use std::process::Abort;
-use std::sync::Wait;
 use std::thread::Threads;
 
 // `/ { clk: clk { compatible = "fixed-clock"; #clock-cells = <0>; }; uart { compatible = "ns16550a"; clocks = <&clk>; }; };`
@@ -45,7 +44,11 @@ fn is_planned(
 fn plans_blobs(rt: HostRuntime) {
     const ROWS: &[(&[u8], &str, &str)] = &[
         (CLOCK_AND_UART, DRIVERS, "/clk fixed ok\n/uart ns ok /clk\n"),
-        (TWO_ALONE, "", "/a - -\n/b - -\n"),
+        (
+            TWO_ALONE,
+            "",
+            "/a - -\n/b - -\ncompatible /a x\ncompatible /b y\n",
+        ),
         // The blob's fault comes first, then the driver file's, then the plan's.
         (b"", "driver - x\n", "error 30 Truncated"),
         (
@@ -73,7 +76,7 @@ fn draws_blobs(rt: HostRuntime) {
     assert!(rt; text.starts_with(b"digraph"));
 }
 
-fn is_probed<P: Prober, R: Threads + Wait + Sync + Abort>(
+fn is_probed<P: Prober, R: Threads + Sync + Abort>(
     rt: &R,
     alloc: Global,
     hasher: RandomState,

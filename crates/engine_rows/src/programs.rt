@@ -3,6 +3,7 @@ mod clock_and_uart;
 mod compiling;
 mod overlaying;
 mod probing;
+mod replaying;
 mod runs;
 mod shelf;
 mod statuses;

@@ -8,7 +8,7 @@ use command_line::{Command, command};
 use engine::{
     Channel, Failed, Fault, MAX_BLOB_LEN, MAX_SOURCE_LEN, MAX_TEXT_LEN, OutputChannel,
     compile_bytes, dump_bytes, explain, graph_bytes, overlay_bytes, plan_bytes, probe_bytes,
-    read_all, read_within, replay_bytes, write_out,
+    read_all, read_within, replay_bytes, replay_run_bytes, write_out,
 };
 use std::alloc::Global;
 use std::hash::RandomState;
@@ -16,7 +16,6 @@ use std::io::ErrorKind;
 use std::process::ExitCode;
 use std::random::RandomSource;
 use std::rt::{Env, Files};
-use std::sync::Wait;
 use std::thread::Threads;
 use std::{env, io};
 
@@ -55,7 +54,7 @@ impl From<Fault> for Failure<'_> {
 }
 
 /// Reads the arguments, runs the command, and answers the exit status.
-pub fn run<R: Env + Files + RandomSource + Print + Eprint + AllocGlobal + Threads + Wait + Sync>(
+pub fn run<R: Env + Files + RandomSource + Print + Eprint + AllocGlobal + Threads + Sync>(
     rt: &R,
 ) -> ExitCode {
     let mut output = OutputChannel::new(io::writer(rt));
@@ -98,7 +97,7 @@ fn arguments<R: Env + AllocGlobal>(rt: &R) -> io::Result<Vec<String>> {
 /// Runs the command that the words name, over any files and any standard output, and answers the exit status.
 ///
 /// Where that isn't 0, nothing was written to standard output, unless that is what failed.
-pub fn run_words<S: Surroundings, O: Channel, E: Eprint, T: Threads + Wait + Sync>(
+pub fn run_words<S: Surroundings, O: Channel, E: Eprint, T: Threads + Sync>(
     alloc: Global,
     surroundings: &mut S,
     threads: &T,
@@ -138,7 +137,7 @@ fn tell<O: Channel, E: Eprint>(alloc: Global, output: &mut O, errors: &E, asked:
     }
 }
 
-fn perform<'a, S: Surroundings, O: Channel, T: Threads + Wait + Sync>(
+fn perform<'a, S: Surroundings, O: Channel, T: Threads + Sync>(
     alloc: Global,
     surroundings: &mut S,
     threads: &T,
@@ -166,12 +165,11 @@ fn perform<'a, S: Surroundings, O: Channel, T: Threads + Wait + Sync>(
             drivers,
             workers,
         } => probed(alloc, surroundings, threads, blob, drivers, workers)?,
-        Command::Replay { plan, schedule } => {
-            let plan = text_at(alloc, surroundings, plan)?;
-            let schedule = text_at(alloc, surroundings, schedule)?;
-            let hasher = seed(surroundings)?;
-            replay_bytes(alloc, hasher, plan.as_slice(), schedule.as_slice())?
-        }
+        Command::Replay {
+            plan,
+            schedule,
+            workers,
+        } => replayed(alloc, surroundings, threads, plan, schedule, workers)?,
         Command::Explain { number } => explained(alloc, number)?,
     };
     print(output, answer.as_slice())
@@ -225,7 +223,7 @@ fn planned<'a, S: Surroundings>(
 }
 
 /// The end report of a blob's devices, probed by the plan alone.
-fn probed<'a, S: Surroundings, T: Threads + Wait + Sync>(
+fn probed<'a, S: Surroundings, T: Threads + Sync>(
     alloc: Global,
     surroundings: &mut S,
     threads: &T,
@@ -242,6 +240,35 @@ fn probed<'a, S: Surroundings, T: Threads + Wait + Sync>(
         hasher,
         blob.as_slice(),
         drivers.as_slice(),
+        &TableProber,
+        workers as usize,
+    )?;
+    Ok(ran.report)
+}
+
+/// The report after a schedule's events or, where workers are asked for, the end report of the run that they go on with,
+/// probed by the plan alone.
+fn replayed<'a, S: Surroundings, T: Threads + Sync>(
+    alloc: Global,
+    surroundings: &mut S,
+    threads: &T,
+    plan: &'a str,
+    schedule: &'a str,
+    workers: Option<u8>,
+) -> Result<Vec<u8>, Failure<'a>> {
+    let plan = text_at(alloc, surroundings, plan)?;
+    let schedule = text_at(alloc, surroundings, schedule)?;
+    let hasher = seed(surroundings)?;
+    let (plan, schedule) = (plan.as_slice(), schedule.as_slice());
+    let Some(workers) = workers else {
+        return Ok(replay_bytes(alloc, hasher, plan, schedule)?);
+    };
+    let ran = replay_run_bytes(
+        threads,
+        alloc,
+        hasher,
+        plan,
+        schedule,
         &TableProber,
         workers as usize,
     )?;

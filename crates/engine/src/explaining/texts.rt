@@ -244,7 +244,7 @@ pub(super) const BAD_LINE: Texts = (
     "BadLine",
     "A line of a driver, plan or schedule file has no lawful form, or a byte that isn't printable.",
     "a plan file with the line `/a`",
-    "A plan's line is `PATH DRIVER ok SUPPLIER..`, or has `fail`, `- -` or `! -` there; a schedule's is `begin PATH`, `finish PATH settled`, `finish PATH missing SUPPLIER` or `abandon PATH`; a driver file's is `driver NAME COMPATIBLE..` or `fail PATH`.",
+    "A plan's line is `PATH DRIVER ok SUPPLIER..`, or has `fail`, `- -` or `! -` there, or it is `compatible PATH STRING..` of a device whose line has `- -`; a schedule's is `begin PATH`, `finish PATH settled`, `finish PATH missing SUPPLIER`, `abandon PATH` or `driver NAME COMPATIBLE..`; a driver file's is `driver NAME COMPATIBLE..` or `fail PATH`.",
 );
 
 pub(super) const DUPLICATE_DRIVER: Texts = (
@@ -256,14 +256,14 @@ pub(super) const DUPLICATE_DRIVER: Texts = (
 
 pub(super) const DUPLICATE_DEVICE: Texts = (
     "DuplicateDevice",
-    "Two lines of a plan file name one device.",
+    "Two lines of a plan file begin with one path, or two of its `compatible` lines name one.",
     "a plan file with the line `/a - -` twice",
     "Keep one of them.",
 );
 
 pub(super) const UNKNOWN_LINE_PATH: Texts = (
     "UnknownPath",
-    "A line names a path that is no device's.",
+    "A line of a driver, plan or schedule file names a path that is no device's, a supplier's or that of a `compatible` line too.",
     "a plan file with the line `/a - - /b`",
     "A device is a node that has `compatible`: name its path from the root, as `dtman dump` shows it.",
 );
@@ -300,7 +300,7 @@ pub(super) const UNMATCHED: Texts = (
     "Unmatched",
     "A begin of a device that has no driver or is switched off.",
     "the plan `/a - -` and `begin /a`",
-    "Give the device a driver, or take the event out.",
+    "Give the device a driver, in the plan or by a `driver` line before the event, or take the event out.",
 );
 
 pub(super) const STALE_TICKET: Texts = (
@@ -336,6 +336,13 @@ pub(super) const NOT_IN_FLIGHT: Texts = (
     "A finish or an abandon of a device that isn't in flight.",
     "the plan `/a x ok` and `abandon /a`",
     "Begin the device first.",
+);
+
+pub(super) const KNOWN_DRIVER: Texts = (
+    "KnownDriver",
+    "A driver comes late under a name that a device's driver has, or that came late before.",
+    "the plan `/a x ok` and `driver x b`",
+    "Take the line out, or give the driver another name; put all strings of a driver on one line.",
 );
 
 pub(super) const TOO_MANY_WORKERS: Texts = (

@@ -151,6 +151,7 @@ fn plans_and_events_are_refused(rt: HostRuntime) {
             "error 64 WasBound event 2",
         ),
         (66, "/a x ok", "abandon /a", "error 66 NotInFlight event 1"),
+        (67, "/a x ok", "driver x b", "error 67 KnownDriver event 1"),
     ];
     let hasher = RandomState::new(&rt).expect(&rt, "a seed");
     for &(number, plan, schedule, line) in ROWS {
@@ -262,7 +263,7 @@ fn numbers_are_explained(rt: HostRuntime) {
         &[30, 31, 32, 33, 34, 35, 36, 37, 38],
         &[40, 41, 42, 43, 44, 45, 46],
         &[50, 51, 52, 53, 54, 55, 56],
-        &[60, 61, 62, 63, 64, 65, 66],
+        &[60, 61, 62, 63, 64, 65, 66, 67],
         &[70],
         &[80, 81, 82],
     ];

@@ -5,7 +5,6 @@ use engine::Memory;
 use program::run_words;
 use std::hash::RandomState;
 use std::process::Abort;
-use std::sync::Wait;
 use std::thread::Threads;
 
 /// Files by their paths.
@@ -26,7 +25,7 @@ pub struct Traces {
 }
 
 /// Runs the program over the files, where a call on standard output may fail.
-pub fn run_over<R: AllocGlobal + Threads + Wait + Sync>(
+pub fn run_over<R: AllocGlobal + Threads + Sync>(
     rt: &R,
     words: &[&str],
     shelf: &mut Shelf<'_>,
@@ -53,7 +52,7 @@ fn are_left(rt: &impl Abort, traces: &Traces, status: u8, printed: &str, told: &
 }
 
 /// That a run over the shelf ends with this status, prints this, and tells this on standard error.
-pub fn ends<R: AllocGlobal + Threads + Wait + Sync + Abort>(
+pub fn ends<R: AllocGlobal + Threads + Sync + Abort>(
     rt: &R,
     words: &[&str],
     shelf: &mut Shelf<'_>,
@@ -66,7 +65,7 @@ pub fn ends<R: AllocGlobal + Threads + Wait + Sync + Abort>(
 }
 
 /// That the row's run over the files ends as it tells.
-pub fn row_ends<R: AllocGlobal + Threads + Wait + Sync + Abort>(
+pub fn row_ends<R: AllocGlobal + Threads + Sync + Abort>(
     rt: &R,
     files: Files,
     hasher: RandomState,
@@ -78,7 +77,7 @@ pub fn row_ends<R: AllocGlobal + Threads + Wait + Sync + Abort>(
 }
 
 /// That the row's run over the files ends as it tells, and leaves the file OUT so.
-pub fn row_writes<R: AllocGlobal + Threads + Wait + Sync + Abort>(
+pub fn row_writes<R: AllocGlobal + Threads + Sync + Abort>(
     rt: &R,
     files: &[(&str, &[u8])],
     hasher: RandomState,

@@ -5,7 +5,6 @@ use super::runs::{Files, Row, ends, row_ends, run_over};
 use super::shelf::Shelf;
 use std::hash::RandomState;
 use std::process::Abort;
-use std::sync::Wait;
 use std::thread::Threads;
 
 /// The files of all rows.
@@ -75,7 +74,7 @@ fn tells_refusals_on_standard_error_alone(rt: HostRuntime) {
 }
 
 // That the words are a mistake, told on standard error, or ask for a page, which is printed.
-fn is_answered<R: AllocGlobal + Threads + Wait + Sync + Abort>(
+fn is_answered<R: AllocGlobal + Threads + Sync + Abort>(
     rt: &R,
     hasher: RandomState,
     words: &[&str],
@@ -110,7 +109,7 @@ fn tells_help_on_standard_output_and_mistakes_on_standard_error(rt: HostRuntime)
     }
 }
 
-fn read_fails<R: AllocGlobal + Threads + Wait + Sync + Abort>(
+fn read_fails<R: AllocGlobal + Threads + Sync + Abort>(
     rt: &R,
     hasher: RandomState,
     call: usize,
@@ -136,11 +135,7 @@ fn tells_a_read_that_fails(rt: HostRuntime) {
     }
 }
 
-fn write_fails<R: AllocGlobal + Threads + Wait + Sync + Abort>(
-    rt: &R,
-    hasher: RandomState,
-    call: usize,
-)
+fn write_fails<R: AllocGlobal + Threads + Sync + Abort>(rt: &R, hasher: RandomState, call: usize)
     requires { call < 7 }
 {
     let mut shelf = Shelf::new(rt.alloc(), FILES, hasher);

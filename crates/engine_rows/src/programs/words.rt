@@ -21,7 +21,8 @@ fn reads_the_command_line(rt: HostRuntime) {
             replay,
             Ok(Command::Replay {
                 plan: "board.plan",
-                schedule: "boot.schedule"
+                schedule: "boot.schedule",
+                workers: None
             })
         )
     );
@@ -79,56 +80,50 @@ fn reads_plan_with_its_option(rt: HostRuntime) {
     );
 }
 
-/// The workers that a command line of `probe` names, or the kind of its mistake.
-fn workers_of(alloc: Global, option: &[&str]) -> Result<u8, ErrorKind> {
-    let words = match option {
-        [name, number] => [
-            "dtman",
-            "probe",
-            "board.dtb",
-            "board.drivers",
-            *name,
-            *number,
-        ],
-        _ => [
-            "dtman",
-            "probe",
-            "board.dtb",
-            "board.drivers",
-            "--workers",
-            "4",
-        ],
-    };
+/// The workers that a command line names, if it does, or the kind of its mistake.
+fn workers_of(alloc: Global, command: &str, option: (&str, &str)) -> Result<Option<u8>, ErrorKind> {
+    let (name, number) = option;
+    let words = ["dtman", command, "board", "beside", name, number];
     match read(alloc, words.as_slice())? {
         Command::Probe {
-            blob: "board.dtb",
-            drivers: "board.drivers",
+            blob: "board",
+            drivers: "beside",
+            workers,
+        } => Ok(Some(workers)),
+        Command::Replay {
+            plan: "board",
+            schedule: "beside",
             workers,
         } => Ok(workers),
-        _ => Ok(0),
+        _ => Ok(None),
+    }
+}
+
+const WORKERS: &[(&str, Result<Option<u8>, ErrorKind>)] = &[
+    ("1", Ok(Some(1))),
+    ("64", Ok(Some(64))),
+    ("+4", Ok(Some(4))),
+    ("04", Ok(Some(4))),
+    ("0", Err(ErrorKind::ValueValidation)),
+    ("65", Err(ErrorKind::ValueValidation)),
+    ("many", Err(ErrorKind::ValueValidation)),
+];
+
+#[test]
+fn reads_probe_with_its_workers(rt: HostRuntime) {
+    let words = ["dtman", "probe", "board.dtb", "board.drivers"];
+    let four = read(rt.alloc(), words.as_slice());
+    assert!(rt; matches!(four, Ok(Command::Probe { workers: 4, .. })));
+    for &(number, workers) in WORKERS {
+        let read = workers_of(rt.alloc(), "probe", ("--workers", number));
+        assert_eq!(rt; read, workers, "{number}");
     }
 }
 
 #[test]
-fn reads_probe_with_its_workers(rt: HostRuntime) {
-    const ROWS: &[(&str, Result<u8, ErrorKind>)] = &[
-        ("1", Ok(1)),
-        ("64", Ok(64)),
-        ("+4", Ok(4)),
-        ("04", Ok(4)),
-        ("0", Err(ErrorKind::ValueValidation)),
-        ("65", Err(ErrorKind::ValueValidation)),
-        ("many", Err(ErrorKind::ValueValidation)),
-    ];
-    let words = ["dtman", "probe", "board.dtb", "board.drivers"];
-    let four = read(rt.alloc(), words.as_slice());
-    assert!(rt; matches!(four, Ok(Command::Probe { workers: 4, .. })));
-    for &(number, workers) in ROWS {
-        let option = ["--workers", number];
-        assert_eq!(rt;
-            workers_of(rt.alloc(), option.as_slice()),
-            workers,
-            "{number}"
-        );
+fn reads_replay_with_its_workers(rt: HostRuntime) {
+    for &(number, workers) in WORKERS {
+        let read = workers_of(rt.alloc(), "replay", ("--workers", number));
+        assert_eq!(rt; read, workers, "{number}");
     }
 }

@@ -2,11 +2,11 @@
 use Rattle.std.proofs.Common.{◌≡◌, ◌⊎◌, Ok, Err, rules}
 use Rattle.bus_core.specs.Replay.{replay_of}
 use Rattle.bus_core.specs.declared.refusal.Refusal.TheVariants.{NoMemory}
-use Rattle.engine.proofs.replay.replay_bytes.Goals as goal
+use Rattle.engine.proofs.replay.replayed.Goals as goal
 
 pub returns : goal.returns
 returns c =
-    let replayed : replay_of c.in_ok-plan.plan c.as_slice.result.now ≡ Ok c.in_ok-core.core.state =
+    let replayed : replay_of c.in_ok-plan.plan c.as_slice.result.now ≡ Ok c.in_ok-core.core =
     c.in_ok-core.ensures.replayed in
     search rules
 
