@@ -12,6 +12,7 @@ mod compiling;
 mod engines;
 #[cfg(test)]
 mod late_drivers;
+#[cfg(test)]
 mod long_values;
 #[cfg(test)]
 mod overlaying;
