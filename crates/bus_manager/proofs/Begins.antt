@@ -4,9 +4,10 @@ use Rattle.std.specs.Prelude.{count_by, All}
 use Rattle.std.proofs.lemmas.Bool.{cases_eq}
 use Rattle.std.proofs.lemmas.List.Sums.{sum_by-append, sum_by-cons}
 use Rattle.std.proofs.lemmas.List.Elements.{All-head, All-tail}
+use Rattle.bus_plan.specs.Plan.{PlannedDevice}
 use Rattle.bus_core.specs.declared.event.Event.{Event}
-use Rattle.bus_core.specs.declared.event.Event.TheVariants.{Begin, Finish, Abandon}
-use Rattle.bus_core.specs.Replay.{device_of}
+use Rattle.bus_core.specs.declared.event.Event.TheVariants.{Begin, Finish, Abandon, Register}
+use Rattle.bus_core.specs.Replay.{IsEventOf}
 use Rattle.bus_manager.specs.Events.{is_begin, is_begin_of, is_abandon_of}
 use Rattle.bus_manager.specs.Private.Counts.{is_abandon}
 use Rattle.bus_manager.specs.Keeper.{KeeperValue, IsKept}
@@ -63,30 +64,32 @@ below-zero zero = refl
 below-zero (suc n) = let e = below-zero n in omega arith
 
 -- a test of events by their device, counted for all devices
-counted-all : (p : ℕ → Event → Bool) (q : Event → Bool) (n : ℕ)
-    → ((x : Event) → device_of x < n → below (λ d. cond (p d x) 1 0) n ≡ cond (q x) 1 0)
-    → (events : List Event) → All (λ e. device_of e < n) events → below (λ d. count_by (p d) events) n ≡ count_by q events
-counted-all p q n one [] within = below-zero n
-counted-all p q n one (x ∷ events) within =
+counted-all : (plan : List PlannedDevice) (p : ℕ → Event → Bool) (q : Event → Bool) (n : ℕ)
+    → ((x : Event) → IsEventOf plan x → below (λ d. cond (p d x) 1 0) n ≡ cond (q x) 1 0)
+    → (events : List Event) → All (IsEventOf plan) events → below (λ d. count_by (p d) events) n ≡ count_by q events
+counted-all plan p q n one [] within = below-zero n
+counted-all plan p q n one (x ∷ events) within =
     below-same (λ d. count_by (p d) (x ∷ events)) (λ d. cond (p d x) 1 0 + count_by (p d) events) (λ d. sum_by-cons (λ y. cond (p d y) 1 0) x events) n
     ∙ below-add (λ d. cond (p d x) 1 0) (λ d. count_by (p d) events) n
-    ∙ ap₂ (λ a b. a + b) (one x (All-head (λ e. device_of e < n) x events within)) (counted-all p q n one events (All-tail (λ e. device_of e < n) x events within))
+    ∙ ap₂ (λ a b. a + b) (one x (All-head (IsEventOf plan) x events within)) (counted-all plan p q n one events (All-tail (IsEventOf plan) x events within))
     ∙ sym (sum_by-cons (λ y. cond (q y) 1 0) x events)
 
-one-begin : (n : ℕ) (x : Event) → device_of x < n → below (λ d. cond (is_begin_of d x) 1 0) n ≡ cond (is_begin x) 1 0
-one-begin n (Begin d) within = below-one d n within
-one-begin n (Finish d report) within = below-zero n
-one-begin n (Abandon d) within = below-zero n
+one-begin : (plan : List PlannedDevice) (x : Event) → IsEventOf plan x → below (λ d. cond (is_begin_of d x) 1 0) (length plan) ≡ cond (is_begin x) 1 0
+one-begin plan (Begin d) within = below-one d (length plan) within
+one-begin plan (Finish d report) within = below-zero (length plan)
+one-begin plan (Abandon d) within = below-zero (length plan)
+one-begin plan (Register name strings) within = below-zero (length plan)
 
-one-abandon : (n : ℕ) (x : Event) → device_of x < n → below (λ d. cond (is_abandon_of d x) 1 0) n ≡ cond (is_abandon x) 1 0
-one-abandon n (Begin d) within = below-zero n
-one-abandon n (Finish d report) within = below-zero n
-one-abandon n (Abandon d) within = below-one d n within
+one-abandon : (plan : List PlannedDevice) (x : Event) → IsEventOf plan x → below (λ d. cond (is_abandon_of d x) 1 0) (length plan) ≡ cond (is_abandon x) 1 0
+one-abandon plan (Begin d) within = below-zero (length plan)
+one-abandon plan (Finish d report) within = below-zero (length plan)
+one-abandon plan (Abandon d) within = below-one d (length plan) within
+one-abandon plan (Register name strings) within = below-zero (length plan)
 
 -- a keeper's begins: at most two a device, and one more for each abandon
 pub few-begins : (k : KeeperValue) → IsKept k → k.state.begins ≤ 2 * length k.plan + count_by is_abandon k.events
 few-begins k kept =
-    let begins = counted-all is_begin_of is_begin (length k.plan) (one-begin (length k.plan)) k.events kept.within
-    in let abandons = counted-all is_abandon_of is_abandon (length k.plan) (one-abandon (length k.plan)) k.events kept.within
-    in let le = below-le (λ d. count_by (is_begin_of d) k.events) (λ d. count_by (is_abandon_of d) k.events) kept.begins (length k.plan)
-    in omega (arith, begins, abandons, le, kept.counted)
+    let begins = counted-all k.first is_begin_of is_begin (length k.first) (one-begin k.first) k.events kept.within
+    in let abandons = counted-all k.first is_abandon_of is_abandon (length k.first) (one-abandon k.first) k.events kept.within
+    in let le = below-le (λ d. count_by (is_begin_of d) k.events) (λ d. count_by (is_abandon_of d) k.events) kept.begins (length k.first)
+    in omega (arith, begins, abandons, le, kept.counted, kept.long)

@@ -4,26 +4,28 @@ use Rattle.std.specs.Prelude.{is_some}
 use Rattle.std.specs.List.{list_any, list_all}
 use Rattle.std.proofs.lemmas.Bool.{and_parts, and_from, or_cases, or_parts, or_from, or_left, or_right, cases_lt, cases_eq, not-true, false_from_ne_true}
 use Rattle.std.proofs.lemmas.List.{get_or-set_same, get_or-set_other, take-append-le, length_push}
+use Rattle.bus_plan.specs.LateDriver.{with_driver}
 use Rattle.bus_plan.specs.Plan.{PlannedDevice, is_matched, suppliers_of}
 use Rattle.bus_core.specs.declared.event.Event.{Event}
-use Rattle.bus_core.specs.declared.event.Event.TheVariants.{Begin, Finish, Abandon}
+use Rattle.bus_core.specs.declared.event.Event.TheVariants.{Begin, Finish, Abandon, Register}
 use Rattle.bus_core.specs.declared.event.Report.TheVariants.{Settled, Missing}
 use Rattle.bus_core.specs.declared.settle.Settle.{Settle}
 use Rattle.bus_core.specs.CoreState.{CoreState, Flight, flight_of, is_in_flight, was_begun}
 use Rattle.bus_core.specs.Due.{is_due, is_idle}
 use Rattle.bus_core.specs.History.{bound_in, is_settled}
 use Rattle.bus_core.specs.Ready.{is_ready}
-use Rattle.bus_core.specs.Step.{begin_state, without_flight, finish_state, report_refusal, is_supplier, bound_at_begin, settled_at_begin, settle_of}
+use Rattle.bus_core.specs.Step.{begin_state, without_flight, registered_state, finish_state, report_refusal, is_supplier, bound_at_begin, settled_at_begin, settle_of}
+use Rattle.bus_core.proofs.LateLemmas.{late-ready}
 use Rattle.bus_core.proofs.HistoryLemmas.{ready-weaker, bound-stays, is_settled-push}
 use Rattle.bus_manager.specs.Events.{is_begin_of, is_abandon_of}
 use Rattle.bus_manager.specs.Private.KeeperView.{is_late, IsBounded}
 use Rattle.bus_manager.proofs.Begins.{count-push, no-count, one-count}
 
 -- an event that is no begin of the device, after which it is late if it was before
-kept-bounded : (plan : List PlannedDevice) (s t : CoreState) (events : List Event) (x : Event) (d : ℕ)
-    → (is_late plan t d ≡ false → is_late plan s d ≡ false) → was_begun t d ≡ was_begun s d → is_begin_of d x ≡ false
-    → IsBounded plan s events d → IsBounded plan t (events ++ x ∷ []) d
-kept-bounded plan s t events x d late begun other bounded =
+kept-bounded : (plan new : List PlannedDevice) (s t : CoreState) (events : List Event) (x : Event) (d : ℕ)
+    → (is_late new t d ≡ false → is_late plan s d ≡ false) → was_begun t d ≡ was_begun s d → is_begin_of d x ≡ false
+    → IsBounded plan s events d → IsBounded new t (events ++ x ∷ []) d
+kept-bounded plan new s t events x d late begun other bounded =
     let b = count-push (is_begin_of d) events x
     in let none = no-count (is_begin_of d x) other
     in let a = count-push (is_abandon_of d) events x
@@ -50,7 +52,7 @@ pub begin-bounded : (plan : List PlannedDevice) (s : CoreState) (events : List E
     → d < length s.flights → d < length s.begun → is_due plan s d ≡ true → IsBounded plan s events e → IsBounded plan (begin_state s d) (events ++ Begin d ∷ []) e
 begin-bounded plan s events d e within within' due bounded = elim (cases_eq d e) [
   | inr other ↦
-      kept-bounded plan s (begin_state s d) events (Begin d) e
+      kept-bounded plan plan s (begin_state s d) events (Begin d) e
       (λ late. sym (ap (λ f. late_by plan s.history f e) (get_or-set_other s.flights d e (Some (record { attempt = s.begins + 1; settled = length s.history })) None (λ q. other (sym q)))) ∙ late)
       (get_or-set_other s.begun d e true false (λ q. other (sym q))) (ne_eqb d e other) bounded
   | inl same ↦
@@ -82,7 +84,7 @@ begin-bounded plan s events d e within within' due bounded = elim (cases_eq d e)
 pub abandon-bounded : (plan : List PlannedDevice) (s : CoreState) (events : List Event) (d e : ℕ) → IsBounded plan s events e → IsBounded plan (without_flight s d) (events ++ Abandon d ∷ []) e
 abandon-bounded plan s events d e bounded = elim (cases_eq d e) [
   | inr other ↦
-      kept-bounded plan s (without_flight s d) events (Abandon d) e
+      kept-bounded plan plan s (without_flight s d) events (Abandon d) e
       (λ late. sym (ap (λ f. late_by plan s.history f e) (get_or-set_other s.flights d e None None (λ q. other (sym q)))) ∙ late) refl refl bounded
   | inl same ↦
       let b = count-push (is_begin_of e) events (Abandon d)
@@ -122,7 +124,7 @@ missing-bounded plan s events d supplier e allowed bounded =
     in let second = cond-none' (bound_at_begin s d supplier) _ _ first.1
     in let unready : is_ready plan (bound_at_begin s d) d ≡ false = false_from_ne_true (is_ready plan (bound_at_begin s d) d)
     (λ ready. true≢false (sym (supplier-fails (bound_at_begin s d) (suppliers_of plan d) supplier first.0 (and_parts (is_matched plan d) (list_all (bound_at_begin s d) (suppliers_of plan d)) ready).1) ∙ second.0))
-    in kept-bounded plan s (without_flight s d) events (Finish d (Missing supplier)) e
+    in kept-bounded plan plan s (without_flight s d) events (Finish d (Missing supplier)) e
     (λ late. elim (cases_eq d e) [
       | inr other ↦ sym (ap (λ f. late_by plan s.history f e) (get_or-set_other s.flights d e None None (λ q. other (sym q)))) ∙ late
       | inl same ↦
@@ -146,7 +148,7 @@ settled-bounded plan s events d e bounded =
     let t = finish_state plan s d Settled
     in let stays : is_settled s.history e ≡ true → is_settled t.history e ≡ true
     = λ h. is_settled-push s.history (settle_of plan d) e ∙ or_left (is_settled s.history e) (eqb d e) h
-    in kept-bounded plan s t events (Finish d Settled) e
+    in kept-bounded plan plan s t events (Finish d Settled) e
     (λ late. false_from_ne_true (is_late plan s e) (λ before.
     let none = or_parts (is_settled t.history e) (is_in_flight t e && is_ready plan (bound_at_begin t e) e) late
     in elim (cases_eq d e) [
@@ -163,4 +165,19 @@ settled-bounded plan s events d e bounded =
             ∙ and_from (is_in_flight s e) (is_ready plan (bound_in (take (settled_at_begin (flight_of s e)) t.history)) e) parts.0 ready
             in true≢false (sym now ∙ none.1)
       ]
+    ])) refl refl bounded
+
+-- a driver comes late: a flight that began with its device ready is still one
+pub registered-bounded : (plan : List PlannedDevice) (s : CoreState) (events : List Event) (name : List ℕ) (strings : List (List ℕ)) (e : ℕ)
+    → IsBounded plan s events e → IsBounded (with_driver plan name strings) (registered_state s name) (events ++ Register name strings ∷ []) e
+registered-bounded plan s events name strings e bounded =
+    let new = with_driver plan name strings
+    in kept-bounded plan new s (registered_state s name) events (Register name strings) e
+    (λ late. false_from_ne_true (is_late plan s e) (λ before.
+    let none = or_parts (is_settled s.history e) (is_in_flight s e && is_ready new (bound_at_begin s e) e) late
+    in elim (or_cases (is_settled s.history e) (is_in_flight s e && is_ready plan (bound_at_begin s e) e) before) [
+      | inl settled ↦ true≢false (sym settled ∙ none.0)
+      | inr flying ↦
+          let parts = and_parts (is_in_flight s e) (is_ready plan (bound_at_begin s e) e) flying
+          in true≢false (sym (and_from (is_in_flight s e) (is_ready new (bound_at_begin s e) e) parts.0 (late-ready plan name strings (bound_at_begin s e) e parts.1)) ∙ none.1)
     ])) refl refl bounded

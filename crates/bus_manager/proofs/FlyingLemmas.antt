@@ -8,7 +8,7 @@ use Rattle.std.proofs.lemmas.Option.{slice_get_within}
 use Rattle.bus_plan.specs.Plan.{PlannedDevice, suppliers_of}
 use Rattle.bus_core.specs.Step.{is_supplier}
 use Rattle.bus_core.specs.declared.refusal.Refusal.{Refusal}
-use Rattle.bus_core.specs.declared.refusal.Refusal.TheVariants.{NoMemory, NotIdle, Unmatched, StaleTicket, NotReady, WasBound, TooManyEvents, NotInFlight}
+use Rattle.bus_core.specs.declared.refusal.Refusal.TheVariants.{NoMemory, NotIdle, Unmatched, StaleTicket, NotReady, WasBound, TooManyEvents, NotInFlight, KnownDriver}
 use Rattle.bus_board.specs.Learns.{Claimed, Passed, LookedAt, NotLooked, NotSettled, NotDeferred, JoinedBy, Paid}
 use Rattle.bus_board.specs.Lists.{Has}
 use Rattle.bus_board.specs.Shown.{Posted, Seated, IsOf}
@@ -88,6 +88,7 @@ look-allowed v plan d s n seen same h here NotInFlight none = not-flying v h.fli
 look-allowed v plan d s n seen same h here WasBound t = t.2 (moved-back v plan d s t.0 h.flight same (flight-same v t.0 h.flight t.1 h.open_was) h.device (n, here))
 look-allowed v plan d s n seen same h here NoMemory never = never
 look-allowed v plan d s n seen same h here NotIdle never = never
+look-allowed v plan d s n seen same h here KnownDriver never = never
 look-allowed v plan d s n seen same h here Unmatched never = never
 look-allowed v plan d s n seen same h here StaleTicket never = never
 look-allowed v plan d s n seen same h here NotReady never = never
@@ -107,6 +108,7 @@ settle-allowed v plan d seen same h all Unmatched never = never
 settle-allowed v plan d seen same h all StaleTicket never = never
 settle-allowed v plan d seen same h all WasBound never = never
 settle-allowed v plan d seen same h all TooManyEvents never = never
+settle-allowed v plan d seen same h all KnownDriver never = never
 
 -- one that missed a supplier may be deferred on it
 pub defer-allowed : (v : View) (plan : List PlannedDevice) (d s : ℕ) (seen : List Bool) → v.plan ≡ plan → HasLooked v d seen (suppliers_of plan d) (length (suppliers_of plan d))
@@ -122,6 +124,7 @@ defer-allowed v plan d s seen same h supplier unbound Unmatched never = never
 defer-allowed v plan d s seen same h supplier unbound StaleTicket never = never
 defer-allowed v plan d s seen same h supplier unbound NotReady never = never
 defer-allowed v plan d s seen same h supplier unbound TooManyEvents never = never
+defer-allowed v plan d s seen same h supplier unbound KnownDriver never = never
 
 -- a seat that took a device, and one that found none
 pub taken : (board : Posted) (old new : Seated) (d : ℕ) → IsFree board old → IsOf board new → Claimed old.view new.view d → HasTaken board new d

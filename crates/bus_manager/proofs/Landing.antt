@@ -50,7 +50,7 @@ unflown-quiet k none undue =
     in landed-quiet k (λ d within. none-flying k.state.flights d (omega (arith, no))) undue
 
 -- the flights after one has ended
-emptied : (flights : List (Option Flight)) (d e : ℕ) → (e ≢ d → is_some (get_or flights e None) ≡ false) → is_some (get_or (set flights d None) e None) ≡ false
+pub emptied : (flights : List (Option Flight)) (d e : ℕ) → (e ≢ d → is_some (get_or flights e None) ≡ false) → is_some (get_or (set flights d None) e None) ≡ false
 emptied flights d e others = elim (cases_eq e d) [
   | inl same ↦ ap (λ k. is_some (get_or (set flights d None) k None)) same ∙ ap is_some (emptied-get flights d)
   | inr other ↦ ap is_some (get_or-set_other flights d e None None other) ∙ others other
@@ -95,7 +95,7 @@ dropped old new d is =
       few = omega (arith, one);
     })
 
-not-flying : (flying : Bool) (r : Refusal) → Some r ≡ cond (not flying) (Some NotInFlight) None → flying ≡ false
+pub not-flying : (flying : Bool) (r : Refusal) → Some r ≡ cond (not flying) (Some NotInFlight) None → flying ≡ false
 not-flying false r e = refl
 not-flying true r e = let no : ⊥ = cc in absurd no
 

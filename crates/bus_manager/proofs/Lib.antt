@@ -7,5 +7,6 @@ pub mod MissingSupplier
 pub mod Few
 pub mod Accepted
 pub mod Landing
+pub mod ResumedLemmas
 pub mod NotesLemmas
 pub mod Ended

@@ -5,5 +5,6 @@ pub mod Counts
 pub mod Flying
 pub mod KeeperView
 pub mod Notes
+pub mod Resumed
 pub mod Seen
 pub mod Turn

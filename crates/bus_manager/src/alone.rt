@@ -7,11 +7,13 @@ ghost use Rattle.bus_core.specs.declared.refusal.Refusal.TheVariants.{NoMemory};
 ghost use Rattle.bus_manager.specs.Private.Alone.{IsLanded, IsDropped, IsDriven};
 ghost use Rattle.bus_manager.specs.Private.Counts.{abandons};
 ghost use Rattle.bus_manager.specs.Private.Notes.{AreNotes};
-ghost use Rattle.bus_manager.specs.Run.{IsRun};
+ghost use Rattle.bus_manager.specs.Seen.{sees};
+ghost use Rattle.bus_manager.specs.Run.{IsRunAfter};
 
 use crate::keeper::Keeper;
 use crate::notes::{Ran, put, settle_notes};
 use crate::prober::Prober;
+use crate::seen::Seen;
 use bus_core::{Refusal, Reply};
 use bus_plan::{Device, Plan};
 use std::alloc::Global;
@@ -95,24 +97,25 @@ fn drain<P: Prober>(
     Ok(())
 }
 
-// Drops the flights that are left, probes what is due, leaves a note of each settled device, and gives the report. The
-// keeper and the notes are lent, so that no way out has to drop them.
+// Drops the flights that are left, probes what is due, leaves a note of each device that has settled and hadn't before, and
+// gives the report. The keeper and the notes are lent, so that no way out has to drop them.
 fn end_alone<P: Prober>(
     alloc: Global,
     plan: &Plan,
     prober: &P,
+    before: &Seen,
     keeper: &mut Keeper,
     notes: &mut Vec<Option<P::Note>>,
 ) -> Result<Vec<u8>, Refusal>
     requires plan { keeper.old.plan ≡ plan.now }
     requires unabandoned { abandons keeper.old ≡ 0 }
     requires notes { AreNotes (P.attests prober.now plan.now) plan.now notes.old.items }
-    ensures ran { IfOk result (λ report. IsRun (P.attests prober.now plan.now) plan.now report.items notes.new.items) }
+    ensures ran { IfOk result (λ report. IsRunAfter (P.attests prober.now plan.now) (sees before.now) plan.now report.items notes.new.items) }
     ensures err { IfErr result (λ refusal. refusal ≡ NoMemory) }
 {
     drop_flights(keeper, plan.len());
     drain(keeper, plan, prober, notes)?;
-    settle_notes(keeper, plan, prober, notes);
+    settle_notes(keeper, plan, prober, before, notes);
     keeper.core().check();
     let report = keeper.report(alloc)?;
     Ok(report)
@@ -125,21 +128,23 @@ pub fn fresh_keeper(alloc: Global, plan: &Plan) -> Result<Keeper, Refusal>
     Keeper::new(alloc, plan.copy(alloc)?)
 }
 
-/// Ends a run: drops the flights that are left, probes what is due, and leaves a note of each settled device.
+/// Ends a run: drops the flights that are left, probes what is due, and leaves a note of each device that has settled and
+/// hadn't before.
 pub fn finish_alone<P: Prober>(
     alloc: Global,
     plan: &Plan,
     prober: &P,
+    before: &Seen,
     mut keeper: Keeper,
     mut notes: Vec<Option<P::Note>>,
 ) -> Result<Ran<P::Note>, Refusal>
     requires plan { keeper.plan ≡ plan.now }
     requires unabandoned { abandons keeper ≡ 0 }
     requires notes { AreNotes (P.attests prober.now plan.now) plan.now notes.items }
-    ensures ran { IfOk result (λ ran. IsRun (P.attests prober.now plan.now) plan.now ran.report.items ran.notes.items) }
+    ensures ran { IfOk result (λ ran. IsRunAfter (P.attests prober.now plan.now) (sees before.now) plan.now ran.report.items ran.notes.items) }
     ensures err { IfErr result (λ refusal. refusal ≡ NoMemory) }
 {
-    let ended = end_alone(alloc, plan, prober, &mut keeper, &mut notes);
+    let ended = end_alone(alloc, plan, prober, before, &mut keeper, &mut notes);
     drop(keeper);
     match ended {
         Ok(report) => Ok(Ran { report, notes }),

@@ -1,20 +1,21 @@
 //! What the caller of a run over a board does, before and after its workers.
 
-ghost use Rattle.std.specs.Prelude.{◌≡◌, ◌<◌, ℕ, true, length, All, IfOk, IfErr};
+ghost use Rattle.std.specs.Prelude.{◌≡◌, ◌<◌, ℕ, true, length, IfOk, IfErr};
 ghost use Rattle.bus_core.specs.Report.{end_status};
 ghost use Rattle.bus_core.specs.declared.refusal.Refusal.TheVariants.{NoMemory};
 ghost use Rattle.bus_board.specs.Ends.{EndsAs};
 ghost use Rattle.bus_board.specs.declared.view.View.{View};
 ghost use Rattle.bus_manager.specs.Private.BoardEnd.{bound_by_words};
 ghost use Rattle.bus_manager.specs.Private.Flying.{IsFree};
-ghost use Rattle.bus_manager.specs.Notes.{has_settled, has_note};
+ghost use Rattle.bus_manager.specs.Notes.{leaves_note, has_note};
 ghost use Rattle.bus_manager.specs.Private.Notes.{AreNotes};
-ghost use Rattle.bus_manager.specs.Run.{IsRun};
+ghost use Rattle.bus_manager.specs.Seen.{sees};
+ghost use Rattle.bus_manager.specs.Run.{IsRun, IsRunAfter};
 
 use crate::alone::{finish_alone, fresh_keeper};
 use crate::end_report::{end_report, end_status, is_bound};
 use crate::flying::work;
-use crate::notes::{Ran, has_settled, no_notes, place_some, settle_note};
+use crate::notes::{Ran, leaves_note, no_notes, place_some, settle_note};
 use crate::prober::Prober;
 use crate::seats::{gather, land_all, seats};
 use crate::seen::Seen;
@@ -35,21 +36,23 @@ fn bound_devices(plan: &Plan, words: &[Word]) -> Seen {
     seen
 }
 
-// Leaves a note of each device that has settled.
+// Leaves a note of each device that has settled and hadn't before the run.
 fn settle_by_words<P: Prober>(
     plan: &Plan,
     prober: &P,
     words: &[Word],
+    before: &Seen,
     notes: &mut Vec<Option<P::Note>>,
 )
     requires notes { AreNotes (P.attests prober.now plan.now) plan.now notes.old.items }
     ensures notes { AreNotes (P.attests prober.now plan.now) plan.now notes.new.items }
-    ensures noted { (d : ℕ) → d < length plan.now → has_note notes.new.items d ≡ has_settled (end_status plan.now (bound_by_words words.now) d) }
+    ensures noted { (d : ℕ) → d < length plan.now → has_note notes.new.items d ≡ leaves_note (sees before.now d) (end_status plan.now (bound_by_words words.now) d) }
 {
     let seen = bound_devices(plan, words);
     for index in 0..plan.len() {
         let device = Device::new(index);
-        let settled = has_settled(end_status(plan, words, device));
+        let status = end_status(plan, words, device);
+        let settled = leaves_note(before.contains(device), status);
         settle_note(plan, prober, notes, device, settled, &seen);
     }
 }
@@ -59,15 +62,16 @@ fn finish_quiet<P: Prober>(
     alloc: Global,
     plan: &Plan,
     prober: &P,
+    before: &Seen,
     words: &[Word],
     mut notes: Vec<Option<P::Note>>,
 ) -> Result<Ran<P::Note>, Refusal>
     requires ends { (v : View) × EndsAs plan.now v words.now true }
     requires notes { AreNotes (P.attests prober.now plan.now) plan.now notes.items }
-    ensures ran { IfOk result (λ ran. IsRun (P.attests prober.now plan.now) plan.now ran.report.items ran.notes.items) }
+    ensures ran { IfOk result (λ ran. IsRunAfter (P.attests prober.now plan.now) (sees before.now) plan.now ran.report.items ran.notes.items) }
     ensures err { IfErr result (λ refusal. refusal ≡ NoMemory) }
 {
-    settle_by_words(plan, prober, words, &mut notes);
+    settle_by_words(plan, prober, words, before, &mut notes);
     let report = end_report(alloc, plan, words)?;
     Ok(Ran { report, notes })
 }
@@ -77,6 +81,7 @@ fn finish<P: Prober>(
     alloc: Global,
     plan: &Plan,
     prober: &P,
+    before: &Seen,
     board: Board,
     own: Seat,
     notes: Vec<Option<P::Note>>,
@@ -84,34 +89,43 @@ fn finish<P: Prober>(
     requires plan { board.plan ≡ plan.now }
     requires own { IsFree board own }
     requires notes { AreNotes (P.attests prober.now plan.now) plan.now notes.items }
-    ensures ran { IfOk result (λ ran. IsRun (P.attests prober.now plan.now) plan.now ran.report.items ran.notes.items) }
+    ensures ran { IfOk result (λ ran. IsRunAfter (P.attests prober.now plan.now) (sees before.now) plan.now ran.report.items ran.notes.items) }
     ensures err { IfErr result (λ refusal. refusal ≡ NoMemory) }
 {
     let end = board.close(own);
     if end.quiet {
-        return finish_quiet(alloc, plan, prober, &end.words, notes);
+        return finish_quiet(alloc, plan, prober, before, &end.words, notes);
     }
     let keeper = fresh_keeper(alloc, plan)?;
-    finish_alone(alloc, plan, prober, keeper, notes)
+    finish_alone(alloc, plan, prober, before, keeper, notes)
 }
 
-// A board of a copy of the plan, its first seat, and so many further ones.
-fn fresh_seats(
+/// A run over an open board by so many workers, and then by the caller alone. The devices of the set had settled before.
+pub fn run_opened<P: Prober, R: Threads + Sync>(
+    rt: &R,
     alloc: Global,
     plan: &Plan,
-    count: usize,
-) -> Result<(Board, Seat, Vec<Seat>), Refusal>
-    ensures plan { IfOk result (λ r. r.0.plan ≡ plan.now) }
-    ensures own { IfOk result (λ r. IsFree r.0 r.1) }
-    ensures seats { IfOk result (λ r. All (IsFree r.0) r.2.items) }
+    prober: &P,
+    before: &Seen,
+    opened: (Board, Seat),
+    workers: usize,
+) -> Result<Ran<P::Note>, Refusal>
+    requires plan { opened.0.plan ≡ plan.now }
+    requires own { IsFree opened.0 opened.1 }
+    ensures ran { IfOk result (λ ran. IsRunAfter (P.attests prober.now plan.now) (sees before.now) plan.now ran.report.items ran.notes.items) }
     ensures err { IfErr result (λ refusal. refusal ≡ NoMemory) }
 {
-    let (board, mut own) = Board::open(alloc, plan.copy(alloc)?)?;
-    let seats = seats(alloc, &board, &mut own, count)?;
-    Ok((board, own, seats))
+    let (board, mut own) = opened;
+    let mut notes = no_notes::<P::Note>(alloc, plan.len())?;
+    let seats = seats(alloc, &board, &mut own, workers)?;
+    let left = gather(rt, alloc, &board, plan, prober, seats);
+    land_all(&board, plan, prober, &mut own, &mut notes, left);
+    let found = work(alloc, &board, plan, prober, &mut own);
+    place_some(plan, prober, &mut notes, found);
+    finish(alloc, plan, prober, before, board, own, notes)
 }
 
-/// A run over a board by so many workers, and then by the caller alone.
+/// A run of a plan over a board on which nothing was begun.
 pub fn run_boarded<P: Prober, R: Threads + Sync>(
     rt: &R,
     alloc: Global,
@@ -122,11 +136,14 @@ pub fn run_boarded<P: Prober, R: Threads + Sync>(
     ensures ran { IfOk result (λ ran. IsRun (P.attests prober.now plan.now) plan.now ran.report.items ran.notes.items) }
     ensures err { IfErr result (λ refusal. refusal ≡ NoMemory) }
 {
-    let mut notes = no_notes::<P::Note>(alloc, plan.len())?;
-    let (board, mut own, seats) = fresh_seats(alloc, plan, workers)?;
-    let left = gather(rt, alloc, &board, plan, prober, seats);
-    land_all(&board, plan, prober, &mut own, &mut notes, left);
-    let found = work(alloc, &board, plan, prober, &mut own);
-    place_some(plan, prober, &mut notes, found);
-    finish(alloc, plan, prober, board, own, notes)
+    let opened = Board::open(alloc, plan.copy(alloc)?)?;
+    run_opened(
+        rt,
+        alloc,
+        plan,
+        prober,
+        &Seen::new(),
+        opened,
+        workers,
+    )
 }

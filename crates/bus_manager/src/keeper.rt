@@ -1,24 +1,30 @@
 //! A core that keeps the events that it accepted.
 
-ghost use Rattle.std.specs.Prelude.{◌≡◌, ◌<◌, ◌≤◌, ◌++◌, ◌∷◌, [], ℕ, false, true, nat_lt, length, vec_len, vec_capacity, MatchResult, IfOk, IfErr, OnOk, OnErr, IfNone, IfSome};
+ghost use Rattle.std.specs.Prelude.{◌≡◌, ◌<◌, ◌≤◌, ◌++◌, ◌∷◌, [], ℕ, false, true, nat_lt, length, vec_len, vec_capacity, MatchResult, IfOk, IfErr, OnOk, OnErr, IfNone, IfSome, None};
 ghost use Rattle.std.specs.Result.{result_err};
+ghost use Rattle.bus_plan.specs.LateDriver.{gaining};
+ghost use Rattle.bus_plan.specs.Plan.{is_driver_name};
 ghost use Rattle.bus_core.specs.Due.{is_due};
 ghost use Rattle.bus_core.specs.Report.{report_text};
-ghost use Rattle.bus_core.specs.Step.{finish_refusal, finish_reply, abandon_refusal};
+ghost use Rattle.bus_core.specs.Step.{finish_refusal, finish_reply, abandon_refusal, register_refusal, IsRefused};
 ghost use Rattle.bus_core.specs.declared.refusal.Refusal.TheVariants.{NoMemory};
-ghost use Rattle.bus_manager.specs.Keeper.{IsKept, first_keeper, finished_keeper, abandoned_keeper, IsTaken, IsTakeRefused};
+ghost use Rattle.bus_manager.specs.Keeper.{IsKept, first_keeper, finished_keeper, abandoned_keeper, registered_keeper, IsTaken, IsTakeRefused};
 ghost use Rattle.bus_manager.specs.Private.Counts.{open_flights};
 ghost use Rattle.bus_manager.specs.Private.Seen.{seen_after};
 
 use crate::seen::Seen;
-use bus_core::{Core, Event, Refusal, Reply, Report, Ticket};
-use bus_plan::{Device, Plan};
-use std::alloc::Global;
+use bus_core::{Compatibles, Core, Event, Refusal, Reply, Report, Ticket};
+use bus_plan::{Device, Plan, copy_strings};
+use dt_tree::{Bytes, Name};
+use std::alloc::{AllocError, Global};
 use std::marker::Model;
+use std::snapshot::Snapshot;
 
 /// A core with the events that it accepted, of which it is the replay. It has room for the end of each open flight.
 #[derive(Drop)]
 pub struct Keeper {
+    // the plan that the core began with, which takes no bytes
+    first: Snapshot<Plan>,
     core: Core,
     events: Vec<Event>,
     // the devices that are bound, and how many flights are open
@@ -43,7 +49,9 @@ impl Keeper {
     pub fn new(alloc: Global, plan: Plan) -> Result<Keeper, Refusal>
         ensures { MatchResult result (λ keeper. keeper ≡ first_keeper plan) (λ refusal. refusal ≡ NoMemory) }
     {
+        let first = Snapshot::of(&plan);
         Ok(Keeper {
+            first,
             core: Core::new(alloc, plan)?,
             events: Vec::new(alloc),
             bound: Seen::new(),
@@ -121,6 +129,29 @@ impl Keeper {
         Ok(())
     }
 
+    /// A driver comes late, by its name and the `compatible` strings that it matches: each available device without a
+    /// driver that has one of them gets it, and is due. It tells how many did.
+    pub fn register(
+        &mut self,
+        alloc: Global,
+        name: &Name,
+        compatibles: &[Bytes],
+    ) -> Result<usize, Refusal>
+        requires { is_driver_name name.now ≡ true }
+        ensures refused { IfErr result (IsRefused (register_refusal self.old.plan self.old.state name.now)) }
+        ensures allowed { OnOk result (register_refusal self.old.plan self.old.state name.now ≡ None) }
+        ensures registered { OnOk result (self.new ≡ registered_keeper self.old name.now compatibles.now) }
+        ensures gained { IfOk result (λ count. count ≡ gaining self.old.plan compatibles.now) }
+        ensures err { OnErr result (self.new ≡ self.old) }
+    {
+        let event = register_event(alloc, name, compatibles)?;
+        // room for this event, and for the end of each flight
+        self.events.reserve(self.flying + 1)?;
+        let count = self.core.register(alloc, name, compatibles)?;
+        append(&mut self.events, event);
+        Ok(count)
+    }
+
     /// The report text.
     pub fn report(&self, alloc: Global) -> Result<Vec<u8>, Refusal>
         ensures text { IfOk result (λ text. text.items ≡ report_text self.now.plan self.now.state) }
@@ -177,6 +208,18 @@ pub(crate) fn append<T: Drop>(items: &mut Vec<T>, item: T)
         Ok(()) => {}
         Err(_) => unreachable!(),
     }
+}
+
+// The event of a driver that comes late.
+fn register_event(
+    alloc: Global,
+    name: &Name,
+    compatibles: &[Bytes],
+) -> Result<Event, AllocError>
+    ensures { IfOk result (λ event. event ≡ Event.Register name.now compatibles.now) }
+{
+    let strings = copy_strings(alloc, compatibles)?;
+    Ok(Event::Register(name.copy(alloc)?, Compatibles::new(strings)))
 }
 
 fn store_begin(events: &mut Vec<Event>, device: Device)

@@ -2,7 +2,8 @@
 
 ghost use Rattle.std.specs.Prelude.{◌≡◌, ◌<◌, ℕ, length, replicate, slice_set, All, IfOk, None};
 ghost use Rattle.bus_core.specs.Report.{status_of};
-ghost use Rattle.bus_manager.specs.Notes.{has_settled, has_note};
+ghost use Rattle.bus_manager.specs.Notes.{has_settled, leaves_note, has_note};
+ghost use Rattle.bus_manager.specs.Seen.{sees};
 ghost use Rattle.bus_manager.specs.Private.Notes.{AreNotes, IsNoted};
 
 use crate::keeper::Keeper;
@@ -13,7 +14,8 @@ use bus_core::Status;
 use bus_plan::{Device, Plan};
 use std::alloc::{AllocError, Global};
 
-/// The end report of a run, and for each device its note where the report has it bound or failed.
+/// The end report of a run, and for each device its note where the report has it bound or failed and it hadn't settled before
+/// the run.
 #[derive(Drop)]
 pub struct Ran<N> {
     pub report: Vec<u8>,
@@ -87,6 +89,16 @@ fn place_one<P: Prober>(
     }
 }
 
+/// Whether a run leaves a note of a device that ends with this status.
+pub fn leaves_note(before: bool, status: Status) -> bool
+    ensures { result ≡ leaves_note before status }
+{
+    if before {
+        return false;
+    }
+    has_settled(status)
+}
+
 /// Whether it is bound or failed.
 pub fn has_settled(status: Status) -> bool
     ensures { result ≡ has_settled status }
@@ -94,7 +106,7 @@ pub fn has_settled(status: Status) -> bool
     matches!(status, Status::Bound | Status::Failed)
 }
 
-/// Leaves a note of a device that has settled, by a probe where none came, and none of another.
+/// Leaves a note of a device that has settled by the run, by a probe where none came, and none of another.
 pub fn settle_note<P: Prober>(
     plan: &Plan,
     prober: &P,
@@ -119,22 +131,24 @@ pub fn settle_note<P: Prober>(
     put(notes, device, Some(note));
 }
 
-/// Leaves a note of each device that has settled.
+/// Leaves a note of each device that has settled and hadn't before the run.
 pub fn settle_notes<P: Prober>(
     keeper: &Keeper,
     plan: &Plan,
     prober: &P,
+    before: &Seen,
     notes: &mut Vec<Option<P::Note>>,
 )
     requires plan { keeper.now.plan ≡ plan.now }
     requires notes { AreNotes (P.attests prober.now plan.now) plan.now notes.old.items }
     ensures notes { AreNotes (P.attests prober.now plan.now) plan.now notes.new.items }
-    ensures noted { (d : ℕ) → d < length plan.now → has_note notes.new.items d ≡ has_settled (status_of plan.now keeper.now.state d) }
+    ensures noted { (d : ℕ) → d < length plan.now → has_note notes.new.items d ≡ leaves_note (sees before.now d) (status_of plan.now keeper.now.state d) }
 {
     let seen = keeper.seen();
     for index in 0..plan.len() {
         let device = Device::new(index);
-        let settled = has_settled(keeper.core().status(device));
+        let status = keeper.core().status(device);
+        let settled = leaves_note(before.contains(device), status);
         settle_note(plan, prober, notes, device, settled, &seen);
     }
 }

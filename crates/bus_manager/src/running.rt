@@ -3,7 +3,7 @@
 ghost use Rattle.std.specs.Prelude.{◌≡◌, ◌<◌, ◌≤◌, ◌⊎◌, ◌↔◌, true, false, IfOk, IfErr, Some};
 ghost use Rattle.std.specs.Result.{result_err};
 ghost use Rattle.bus_core.specs.declared.refusal.Refusal.TheVariants.{NoMemory as OutOfMemory};
-ghost use Rattle.bus_manager.specs.Run.{IsRun};
+ghost use Rattle.bus_manager.specs.Run.{IsRun, IsRunOf};
 ghost use Rattle.bus_manager.specs.Workers.{AreRefused, most_workers};
 
 use crate::alone::{finish_alone, fresh_keeper};
@@ -11,9 +11,11 @@ use crate::boarded::run_boarded;
 use crate::manager::{Manager, PlanName};
 use crate::notes::{Ran, no_notes, place};
 use crate::prober::Prober;
+use crate::resumed::run_resumed;
 use crate::run_error::RunError;
+use crate::seen::Seen;
 use crate::worker::gather;
-use bus_core::Refusal;
+use bus_core::{Core, Refusal};
 use bus_plan::Plan;
 use std::alloc::Global;
 use std::marker::Brand;
@@ -55,7 +57,28 @@ pub fn run<P: Prober, R: Threads + Sync>(
     }
 }
 
-/// The same with one lock round the core, on which a worker may wait for another to finish.
+/// Goes on from a core, by so many workers over a board: its open flights are dropped, and what isn't settled is probed under
+/// the drivers that it has so far. A device that had settled leaves no note. After a refusal the core is dropped.
+pub fn run_core<P: Prober, R: Threads + Sync>(
+    rt: &R,
+    alloc: Global,
+    core: Core,
+    prober: &P,
+    workers: usize,
+) -> Result<Ran<P::Note>, RunError>
+    ensures ran { IfOk result (λ ran. IsRunOf (P.attests prober.now core.plan) core ran.report.items ran.notes.items) }
+    ensures many { (result_err result ≡ Some RunError.TooManyWorkers) ↔ AreRefused workers }
+{
+    if !is_allowed(workers) {
+        return Err(RunError::TooManyWorkers);
+    }
+    match run_resumed(rt, alloc, core, prober, workers) {
+        Ok(ran) => Ok(ran),
+        Err(refusal) => Err(by_memory(refusal)),
+    }
+}
+
+/// The same as `run` with one lock round the core, on which a worker may wait for another to finish.
 pub fn run_locked<P: Prober, R: Threads + Wait + Sync>(
     rt: &R,
     alloc: Global,
@@ -100,5 +123,12 @@ fn run_named<J: PlanName + Send + Sync, P: Prober, R: Threads + Wait + Sync>(
     let manager = Manager::<J>::new(keeper);
     let found = gather(rt, alloc, &manager, plan, prober, workers);
     place(plan, prober, &mut notes, found);
-    finish_alone(alloc, plan, prober, manager.into_keeper(), notes)
+    finish_alone(
+        alloc,
+        plan,
+        prober,
+        &Seen::new(),
+        manager.into_keeper(),
+        notes,
+    )
 }

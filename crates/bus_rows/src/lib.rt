@@ -12,6 +12,8 @@ mod counts;
 pub mod gate;
 #[cfg(test)]
 mod keepers;
+#[cfg(test)]
+mod late;
 pub mod replays;
 #[cfg(test)]
 mod runs;

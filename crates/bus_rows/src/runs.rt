@@ -97,7 +97,8 @@ fn are_noted(notes: &[Option<Device>], settled: &[bool]) -> bool {
             == is_settled.then_some(Device::new(index)))
 }
 
-fn has_run(rt: &impl Abort, name: &str, ran: &Ran<Device>, report: &str, settled: &[bool]) {
+// What a run answered.
+pub fn has_run(rt: &impl Abort, name: &str, ran: &Ran<Device>, report: &str, settled: &[bool]) {
     assert!(rt; are_noted(ran.notes.as_slice(), settled), "{name}");
     assert_eq!(rt; ran.report.as_slice(), report.as_bytes(), "{name}");
 }

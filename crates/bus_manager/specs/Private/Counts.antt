@@ -1,7 +1,7 @@
 -- How many flights a keeper has dropped, and how many are open.
 use Rattle.std.specs.Prelude.{ℕ, Bool, true, false, is_some, count_by}
 use Rattle.bus_core.specs.declared.event.Event.{Event}
-use Rattle.bus_core.specs.declared.event.Event.TheVariants.{Begin, Finish, Abandon}
+use Rattle.bus_core.specs.declared.event.Event.TheVariants.{Begin, Finish, Abandon, Register}
 use Rattle.bus_core.specs.CoreState.{CoreState}
 use Rattle.bus_manager.specs.Keeper.{KeeperValue}
 
@@ -9,6 +9,7 @@ abbrev pub is_abandon : Event → Bool
 is_abandon (Begin d) = false
 is_abandon (Finish d report) = false
 is_abandon (Abandon d) = true
+is_abandon (Register name strings) = false
 
 abbrev pub abandons : KeeperValue → ℕ
 abandons k = count_by is_abandon k.events
