@@ -1,24 +1,19 @@
--- Where a core was replayed, what its run refuses is said of it; where none was, the replay's fault is the answer.
-use Rattle.std.proofs.Common.{◌≡◌, ◌⊎◌, inl, inr, ℕ, List, Result, Ok, Err, IfErr, MatchResult, refl, sym, subst}
+-- Where a core was replayed, what its run refuses is said of it.
+use Rattle.std.proofs.Common.{◌≡◌, inr, ℕ, List, Result, Ok, Err, IfErr, MatchResult, sym, subst}
 use Rattle.bus_core.specs.CoreState.{CoreValue}
 use Rattle.engine.specs.declared.fault.Fault.{Fault}
-use Rattle.engine.specs.Fault.{FaultValue, no_memory, shown}
+use Rattle.engine.specs.Fault.{FaultValue, shown}
 use Rattle.engine.specs.Probe.{CannotRun}
 use Rattle.engine.specs.Replay.{replaying}
 use Rattle.engine.specs.ReplayRun.{CannotGoOn, IsReplayRunRefusal}
 use Rattle.engine.proofs.replay_run.replay_run_bytes.Goals as goal
 
-module _ (plan_file schedule : List ℕ) (workers : ℕ) where
-  unrun : {V : Type 0} (core : CoreValue) (Good : V → Type 0) (r : Result V Fault) → replaying plan_file schedule ≡ Ok core
-      → MatchResult r Good (λ fault. CannotRun workers (shown fault)) → IfErr r (λ fault. IsReplayRunRefusal plan_file schedule workers (shown fault))
-  unrun core Good (Ok ran) replayed h = tt
-  unrun core Good (Err fault) replayed h =
-      inr (subst (λ (r : Result CoreValue FaultValue). CannotGoOn r workers (shown fault)) (sym replayed) h)
-
-  unreplayed : (fault : FaultValue) → (fault ≡ no_memory) ⊎ (replaying plan_file schedule ≡ Err fault) → IsReplayRunRefusal plan_file schedule workers fault
-  unreplayed fault (inl none) = inl none
-  unreplayed fault (inr first) =
-      inr (subst (λ (r : Result CoreValue FaultValue). CannotGoOn r workers fault) (sym first) refl)
+unrun : {V : Type 0} (plan_file schedule : List ℕ) (workers : ℕ) (core : CoreValue) (Good : V → Type 0) (r : Result V Fault)
+    → replaying plan_file schedule ≡ Ok core → MatchResult r Good (λ fault. CannotRun workers (shown fault))
+    → IfErr r (λ fault. IsReplayRunRefusal plan_file schedule workers (shown fault))
+unrun plan_file schedule workers core Good (Ok ran) replayed h = tt
+unrun plan_file schedule workers core Good (Err fault) replayed h =
+    inr (subst (λ (r : Result CoreValue FaultValue). CannotGoOn r workers (shown fault)) (sym replayed) h)
 
 pub returns-clause-refused : goal.returns-clause-refused
 returns-clause-refused g c =
