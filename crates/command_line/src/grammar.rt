@@ -77,7 +77,7 @@ fn top<'a>(alloc: Global) -> Command<'a>
 {
     Command::new(alloc, "dtman")
         .about("Devicetree compiler and driver-binding manager")
-        .version("0.1")
+        .version("0.2")
         .after_help(STATUSES)
         .subcommand_required(true)
 }
