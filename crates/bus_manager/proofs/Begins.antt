@@ -89,7 +89,7 @@ one-abandon plan (Register name strings) within = below-zero (length plan)
 -- a keeper's begins: at most two a device, and one more for each abandon
 pub few-begins : (k : KeeperValue) → IsKept k → k.state.begins ≤ 2 * length k.plan + count_by is_abandon k.events
 few-begins k kept =
-    let begins = counted-all k.first is_begin_of is_begin (length k.first) (one-begin k.first) k.events kept.within
-    in let abandons = counted-all k.first is_abandon_of is_abandon (length k.first) (one-abandon k.first) k.events kept.within
-    in let le = below-le (λ d. count_by (is_begin_of d) k.events) (λ d. count_by (is_abandon_of d) k.events) kept.begins (length k.first)
+    let begins = counted-all kept.first is_begin_of is_begin (length kept.first) (one-begin kept.first) k.events kept.within
+    in let abandons = counted-all kept.first is_abandon_of is_abandon (length kept.first) (one-abandon kept.first) k.events kept.within
+    in let le = below-le (λ d. count_by (is_begin_of d) k.events) (λ d. count_by (is_abandon_of d) k.events) kept.begins (length kept.first)
     in omega (arith, begins, abandons, le, kept.counted, kept.long)

@@ -40,7 +40,7 @@ use Rattle.bus_manager.proofs.ReplayEnd.{replay-push, due-push}
 abbrev pub with_event : KeeperValue → Event → KeeperValue
 with_event k e =
     let core = event_core (core_of k) e
-    in record { first = k.first; plan = core.plan; state = core.state; events = k.events ++ e ∷ [] }
+    in record { plan = core.plan; state = core.state; events = k.events ++ e ∷ [] }
 
 -- an event other than a late driver keeps the plan
 plan-stays : (core : CoreValue) (e : Event) → cond {A = ℕ} (is_register e) 1 0 ≡ 0 → (event_core core e).plan ≡ core.plan
@@ -50,28 +50,29 @@ plan-stays core (Abandon d) none = refl
 plan-stays core (Register name strings) none = absurd (omega (arith, none))
 
 -- an event that the core accepts
-pub event-kept : (k : KeeperValue) (e : Event) → event_refusal (core_of k) e ≡ None → is_of_due (core_of k) e ≡ true → IsEventOf k.first e
+pub event-kept : (k : KeeperValue) (e : Event) (kept : IsKept k) → event_refusal (core_of k) e ≡ None → is_of_due (core_of k) e ≡ true → IsEventOf kept.first e
     → ((d : ℕ) → IsBounded (event_core (core_of k) e).plan (event_core (core_of k) e).state (k.events ++ e ∷ []) d)
     → (event_core (core_of k) e).state.begins ≡ k.state.begins + cond {A = ℕ} (is_begin e) 1 0
     → length (event_core (core_of k) e).state.flights ≡ length k.state.flights
-    → IsKept k → IsKept (with_event k e)
-event-kept k e allowed due within bounded counted long kept =
+    → IsKept (with_event k e)
+event-kept k e kept allowed due within bounded counted long =
     let same = event-long (core_of k) e
     in record {
-      replayed = replay-push 0 (first_core k.first) (core_of k) k.events e kept.replayed allowed;
-      due = due-push 0 (first_core k.first) (core_of k) k.events e kept.replayed kept.due due;
+      first = kept.first;
+      replayed = replay-push 0 (first_core kept.first) (core_of k) k.events e kept.replayed allowed;
+      due = due-push 0 (first_core kept.first) (core_of k) k.events e kept.replayed kept.due due;
       begins = λ d. (bounded d).top;
       unregistered = λ none.
           let n = count-push is_register k.events e
           in plan-stays (core_of k) e (omega (arith, n, none)) ∙ kept.unregistered (omega (arith, n, none));
       long = same ∙ kept.long;
-      within = All-push (IsEventOf k.first) k.events e kept.within within;
+      within = All-push (IsEventOf kept.first) k.events e kept.within within;
       counted = counted ∙ ap (λ n. n + cond {A = ℕ} (is_begin e) 1 0) kept.counted ∙ sym (count-push is_begin k.events e);
       places = long ∙ kept.places ∙ sym same;
     }
 
 pub first-kept : (plan : List PlannedDevice) → IsKept (first_keeper plan)
-first-kept plan = record { replayed = refl; due = refl; begins = λ d. omega arith; unregistered = λ _. refl; long = refl; within = All-nil (IsEventOf plan); counted = refl; places = length-replicate (length plan) None }
+first-kept plan = record { first = plan; replayed = refl; due = refl; begins = λ d. omega arith; unregistered = λ _. refl; long = refl; within = All-nil (IsEventOf plan); counted = refl; places = length-replicate (length plan) None }
 
 pub first-bounded : (plan : List PlannedDevice) (d : ℕ) → IsBounded plan (first_state plan) [] d
 first-bounded plan d = record { top = omega arith; low = λ _. omega arith; fresh = λ _. refl }
@@ -90,8 +91,8 @@ pub flights-set : (flights : List (Option Flight)) (d : ℕ) (x : Option Flight)
     → count_by is_some (set flights d x) + cond {A = ℕ} (is_some (get_or flights d None)) 1 0 ≡ count_by is_some flights + cond {A = ℕ} (is_some x) 1 0
 flights-set flights d x within = sum_by-set weight flights d x None within
 
-pub first-sound : (plan : List PlannedDevice) (core : CoreValue) (events : List Event) (bound : List Bool) → core ≡ record { plan = plan; state = first_state plan } → events ≡ [] → bound ≡ replicate MAX_DEVICES false → IsSoundKeeper plan core events bound 0
-first-sound plan core events bound core-is none empty = coe 1 0 (i. IsSoundKeeper plan (core-is i) (none i) (empty i) 0) (record {
+pub first-sound : (plan : List PlannedDevice) (core : CoreValue) (events : List Event) (bound : List Bool) → core ≡ record { plan = plan; state = first_state plan } → events ≡ [] → bound ≡ replicate MAX_DEVICES false → IsSoundKeeper core events bound 0
+first-sound plan core events bound core-is none empty = coe 1 0 (i. IsSoundKeeper (core-is i) (none i) (empty i) 0) (record {
   kept = first-kept plan;
   bounded = first-bounded plan;
   bound_is = λ d. none-in MAX_DEVICES d;
@@ -100,10 +101,10 @@ first-sound plan core events bound core-is none empty = coe 1 0 (i. IsSoundKeepe
   flying_is = sym (sum_by-replicate weight (length plan) None ∙ omega arith);
 })
 
-pub begun-sound : (first : List PlannedDevice) (core : CoreValue) (events : List Event) (bound : List Bool) (flying d : ℕ)
-    → is_due core.plan core.state d ≡ true → begin_refusal core.plan core.state d ≡ None → IsSoundKeeper first core events bound flying
-    → IsSoundKeeper first (record { plan = core.plan; state = begin_state core.state d }) (events ++ Begin d ∷ []) bound (flying + 1)
-begun-sound first core events bound flying d due allowed sound =
+pub begun-sound : (core : CoreValue) (events : List Event) (bound : List Bool) (flying d : ℕ)
+    → is_due core.plan core.state d ≡ true → begin_refusal core.plan core.state d ≡ None → IsSoundKeeper core events bound flying
+    → IsSoundKeeper (record { plan = core.plan; state = begin_state core.state d }) (events ++ Begin d ∷ []) bound (flying + 1)
+begun-sound core events bound flying d due allowed sound =
     let parts = and_parts (is_matched core.plan d) (is_idle core.state d && (not (was_begun core.state d) || is_ready core.plan (bound_in core.state.history) d)) due
     in let within : d < length core.plan = matched-below core.plan d parts.0
     in let idle = or_parts (is_in_flight core.state d) (is_settled core.state.history d) (not-true (is_in_flight core.state d || is_settled core.state.history d)
@@ -111,7 +112,7 @@ begun-sound first core events bound flying d due allowed sound =
     in let bounded = λ (e : ℕ). begin-bounded core.plan core.state events d e (omega (arith, sound.kept.places)) (omega (arith, sound.begun)) due (sound.bounded e)
     in let flight : Option Flight = Some (record { attempt = core.state.begins + 1; settled = length core.state.history })
     in record {
-      kept = event-kept (record { first = first; plan = core.plan; state = core.state; events = events }) (Begin d) allowed due (omega (arith, within, sound.kept.long)) bounded (omega arith) (length-set core.state.flights d flight) sound.kept;
+      kept = event-kept (record { plan = core.plan; state = core.state; events = events }) (Begin d) sound.kept allowed due (omega (arith, within, sound.kept.long)) bounded (omega arith) (length-set core.state.flights d flight);
       bounded = bounded;
       bound_is = sound.bound_is;
       places = sound.places;
@@ -129,14 +130,14 @@ landed flights d n within flying is =
     in let one = one-count (is_some (get_or flights d None)) flying
     in omega (arith, e, one, is)
 
-pub abandoned-sound : (first : List PlannedDevice) (core : CoreValue) (events : List Event) (bound : List Bool) (flying d : ℕ)
-    → d < length core.plan → abandon_refusal core.state d ≡ None → IsSoundKeeper first core events bound flying
-    → IsSoundKeeper first (record { plan = core.plan; state = without_flight core.state d }) (events ++ Abandon d ∷ []) bound (flying - 1)
-abandoned-sound first core events bound flying d within allowed sound =
+pub abandoned-sound : (core : CoreValue) (events : List Event) (bound : List Bool) (flying d : ℕ)
+    → d < length core.plan → abandon_refusal core.state d ≡ None → IsSoundKeeper core events bound flying
+    → IsSoundKeeper (record { plan = core.plan; state = without_flight core.state d }) (events ++ Abandon d ∷ []) bound (flying - 1)
+abandoned-sound core events bound flying d within allowed sound =
     let aloft = (cond-none (is_in_flight core.state d) _ _ allowed).0
     in let bounded = λ (e : ℕ). abandon-bounded core.plan core.state events d e (sound.bounded e)
     in record {
-      kept = event-kept (record { first = first; plan = core.plan; state = core.state; events = events }) (Abandon d) allowed refl (omega (arith, within, sound.kept.long)) bounded (omega arith) (length-set core.state.flights d None) sound.kept;
+      kept = event-kept (record { plan = core.plan; state = core.state; events = events }) (Abandon d) sound.kept allowed refl (omega (arith, within, sound.kept.long)) bounded (omega arith) (length-set core.state.flights d None);
       bounded = bounded;
       bound_is = sound.bound_is;
       places = sound.places;
@@ -164,26 +165,26 @@ seen-waiting bound d false = refl
 pub finish-allowed : (plan : List PlannedDevice) (s : CoreState) (d : ℕ) (report : Report) → is_in_flight s d ≡ true → report_refusal plan s d report ≡ None → event_refusal (record { plan = plan; state = s }) (Finish d report) ≡ None
 finish-allowed plan s d report aloft allowed = ap (λ b. cond (not b) (Some NotInFlight) (report_refusal plan s d report)) aloft ∙ allowed
 
-finished-by : (first : List PlannedDevice) (core : CoreValue) (events : List Event) (bound : List Bool) (flying d : ℕ) (report : Report)
-    → d < length core.plan → length core.plan ≤ MAX_DEVICES → is_in_flight core.state d ≡ true → report_refusal core.plan core.state d report ≡ None → IsSoundKeeper first core events bound flying
-    → IsSoundKeeper first (record { plan = core.plan; state = finish_state core.plan core.state d report }) (events ++ Finish d report ∷ [])
+finished-by : (core : CoreValue) (events : List Event) (bound : List Bool) (flying d : ℕ) (report : Report)
+    → d < length core.plan → length core.plan ≤ MAX_DEVICES → is_in_flight core.state d ≡ true → report_refusal core.plan core.state d report ≡ None → IsSoundKeeper core events bound flying
+    → IsSoundKeeper (record { plan = core.plan; state = finish_state core.plan core.state d report }) (events ++ Finish d report ∷ [])
     (seen_after bound d (finish_reply core.plan (finish_state core.plan core.state d report) d report)) (flying - 1)
-finished-by first core events bound flying d Settled within few aloft allowed sound =
+finished-by core events bound flying d Settled within few aloft allowed sound =
     let o = outcome_by (verdict_of core.plan d)
     in let bounded = λ (e : ℕ). settled-bounded core.plan core.state events d e (sound.bounded e)
     in record {
-      kept = event-kept (record { first = first; plan = core.plan; state = core.state; events = events }) (Finish d Settled) (finish-allowed core.plan core.state d Settled aloft allowed) refl (omega (arith, within, sound.kept.long)) bounded (omega arith) (length-set core.state.flights d None) sound.kept;
+      kept = event-kept (record { plan = core.plan; state = core.state; events = events }) (Finish d Settled) sound.kept (finish-allowed core.plan core.state d Settled aloft allowed) refl (omega (arith, within, sound.kept.long)) bounded (omega arith) (length-set core.state.flights d None);
       bounded = bounded;
       bound_is = λ e. seen-settled bound d e o (omega (arith, sound.places)) ∙ ap (λ b. b || (is_bound o && eqb d e)) (sound.bound_is e) ∙ sym (bound_in-push core.state.history (settle_of core.plan d) e);
       places = length-after bound d o ∙ sound.places;
       begun = sound.begun;
       flying_is = landed core.state.flights d flying (omega (arith, sound.kept.places)) aloft sound.flying_is;
     }
-finished-by first core events bound flying d (Missing supplier) within few aloft allowed sound =
+finished-by core events bound flying d (Missing supplier) within few aloft allowed sound =
     let bounded = λ (e : ℕ). missing-bounded core.plan core.state events d supplier e allowed (sound.bounded e)
     in let same = seen-waiting bound d (is_due core.plan (without_flight core.state d) d)
     in record {
-      kept = event-kept (record { first = first; plan = core.plan; state = core.state; events = events }) (Finish d (Missing supplier)) (finish-allowed core.plan core.state d (Missing supplier) aloft allowed) refl (omega (arith, within, sound.kept.long)) bounded (omega arith) (length-set core.state.flights d None) sound.kept;
+      kept = event-kept (record { plan = core.plan; state = core.state; events = events }) (Finish d (Missing supplier)) sound.kept (finish-allowed core.plan core.state d (Missing supplier) aloft allowed) refl (omega (arith, within, sound.kept.long)) bounded (omega arith) (length-set core.state.flights d None);
       bounded = bounded;
       bound_is = λ e. ap (λ b. sees b e) same ∙ sound.bound_is e;
       places = ap length same ∙ sound.places;
@@ -191,21 +192,21 @@ finished-by first core events bound flying d (Missing supplier) within few aloft
       flying_is = landed core.state.flights d flying (omega (arith, sound.kept.places)) aloft sound.flying_is;
     }
 
-pub finished-sound : (first : List PlannedDevice) (core : CoreValue) (events : List Event) (bound : List Bool) (flying : ℕ) (ticket : Ticket) (report : Report)
-    → ticket.device < length core.plan → length core.plan ≤ MAX_DEVICES → finish_refusal core.plan core.state ticket report ≡ None → IsSoundKeeper first core events bound flying
-    → IsSoundKeeper first (record { plan = core.plan; state = finish_state core.plan core.state ticket.device report }) (events ++ Finish ticket.device report ∷ [])
+pub finished-sound : (core : CoreValue) (events : List Event) (bound : List Bool) (flying : ℕ) (ticket : Ticket) (report : Report)
+    → ticket.device < length core.plan → length core.plan ≤ MAX_DEVICES → finish_refusal core.plan core.state ticket report ≡ None → IsSoundKeeper core events bound flying
+    → IsSoundKeeper (record { plan = core.plan; state = finish_state core.plan core.state ticket.device report }) (events ++ Finish ticket.device report ∷ [])
     (seen_after bound ticket.device (finish_reply core.plan (finish_state core.plan core.state ticket.device report) ticket.device report)) (flying - 1)
-finished-sound first core events bound flying ticket report within few allowed sound =
+finished-sound core events bound flying ticket report within few allowed sound =
     let parts = cond-none (is_attempt (flight_of core.state ticket.device) ticket.attempt) _ _ allowed
-    in finished-by first core events bound flying ticket.device report within few (attempt-flying (flight_of core.state ticket.device) ticket.attempt parts.0) parts.1 sound
+    in finished-by core events bound flying ticket.device report within few (attempt-flying (flight_of core.state ticket.device) ticket.attempt parts.0) parts.1 sound
 
-pub registered-sound : (first : List PlannedDevice) (core : CoreValue) (events : List Event) (bound : List Bool) (flying : ℕ) (name : List ℕ) (strings : List (List ℕ))
-    → is_driver_name name ≡ true → register_refusal core.plan core.state name ≡ None → IsSoundKeeper first core events bound flying
-    → IsSoundKeeper first (registered_core core name strings) (events ++ Register name strings ∷ []) bound flying
-registered-sound first core events bound flying name strings named allowed sound =
+pub registered-sound : (core : CoreValue) (events : List Event) (bound : List Bool) (flying : ℕ) (name : List ℕ) (strings : List (List ℕ))
+    → is_driver_name name ≡ true → register_refusal core.plan core.state name ≡ None → IsSoundKeeper core events bound flying
+    → IsSoundKeeper (registered_core core name strings) (events ++ Register name strings ∷ []) bound flying
+registered-sound core events bound flying name strings named allowed sound =
     let bounded = λ (e : ℕ). registered-bounded core.plan core.state events name strings e (sound.bounded e)
     in record {
-      kept = event-kept (record { first = first; plan = core.plan; state = core.state; events = events }) (Register name strings) allowed refl named bounded (omega arith) refl sound.kept;
+      kept = event-kept (record { plan = core.plan; state = core.state; events = events }) (Register name strings) sound.kept allowed refl named bounded (omega arith) refl;
       bounded = bounded;
       bound_is = sound.bound_is;
       places = sound.places;

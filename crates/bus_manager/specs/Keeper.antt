@@ -16,9 +16,8 @@ use Rattle.bus_core.specs.Step.{begin_refusal, begin_state, finish_state, withou
 use Rattle.bus_manager.specs.Events.{is_begin, is_register, is_begin_of, is_abandon_of, are_of_due}
 use Rattle.bus_manager.specs.Seen.{sees}
 
--- the plan that a core began with, its plan with the drivers so far, its state, and the events that it accepted
+-- a core's plan with the drivers so far, its state, and the events that it accepted
 pub record KeeperValue : Type 0 where
-  pub first : List PlannedDevice
   pub plan : List PlannedDevice
   pub state : CoreState
   pub events : List Event
@@ -26,36 +25,36 @@ pub record KeeperValue : Type 0 where
 abbrev pub core_of : KeeperValue → CoreValue
 core_of k = record { plan = k.plan; state = k.state }
 
--- Its core is the replay of its events; each begin was of a device that was due then; a device has at most two begins
--- more than abandons of it; where no driver came late the plan is the first one. The others say the same of counts and
+-- Its core is the replay of its events over the plan that it began with; each begin was of a device that was due then; a device has at most two begins
+-- more than abandons of it; where no driver came late that is its plan. The others say the same of counts and
 -- places, for those who add up.
 pub record IsKept (k : KeeperValue) : Type 0 where
-  pub replayed : replay_of k.first k.events ≡ Ok (core_of k)
-  pub due : are_of_due (first_core k.first) k.events ≡ true
+  pub first : List PlannedDevice
+  pub replayed : replay_of first k.events ≡ Ok (core_of k)
+  pub due : are_of_due (first_core first) k.events ≡ true
   pub begins : (d : ℕ) → count_by (is_begin_of d) k.events ≤ 2 + count_by (is_abandon_of d) k.events
-  pub unregistered : count_by is_register k.events ≡ 0 → k.plan ≡ k.first
-  pub long : length k.plan ≡ length k.first
-  pub within : All (IsEventOf k.first) k.events
+  pub unregistered : count_by is_register k.events ≡ 0 → k.plan ≡ first
+  pub long : length k.plan ≡ length first
+  pub within : All (IsEventOf first) k.events
   pub counted : k.state.begins ≡ count_by is_begin k.events
   pub places : length k.state.flights ≡ length k.plan
 
 -- the keepers before any event, and after each kind of event
 abbrev pub first_keeper : List PlannedDevice → KeeperValue
-first_keeper plan = record { first = plan; plan = plan; state = first_state plan; events = [] }
+first_keeper plan = record { plan = plan; state = first_state plan; events = [] }
 
 abbrev pub begun_keeper : KeeperValue → ℕ → KeeperValue
-begun_keeper k d = record { first = k.first; plan = k.plan; state = begin_state k.state d; events = k.events ++ Begin d ∷ [] }
+begun_keeper k d = record { plan = k.plan; state = begin_state k.state d; events = k.events ++ Begin d ∷ [] }
 
 abbrev pub finished_keeper : KeeperValue → ℕ → Report → KeeperValue
-finished_keeper k d report = record { first = k.first; plan = k.plan; state = finish_state k.plan k.state d report; events = k.events ++ Finish d report ∷ [] }
+finished_keeper k d report = record { plan = k.plan; state = finish_state k.plan k.state d report; events = k.events ++ Finish d report ∷ [] }
 
 abbrev pub abandoned_keeper : KeeperValue → ℕ → KeeperValue
-abandoned_keeper k d = record { first = k.first; plan = k.plan; state = without_flight k.state d; events = k.events ++ Abandon d ∷ [] }
+abandoned_keeper k d = record { plan = k.plan; state = without_flight k.state d; events = k.events ++ Abandon d ∷ [] }
 
 -- the plan gains the driver where it matches a device that has none
 abbrev pub registered_keeper : KeeperValue → List ℕ → List (List ℕ) → KeeperValue
 registered_keeper k name strings = record {
-  first = k.first;
   plan = with_driver k.plan name strings;
   state = registered_state k.state name;
   events = k.events ++ Register name strings ∷ [];

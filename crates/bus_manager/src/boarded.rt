@@ -137,13 +137,5 @@ pub fn run_boarded<P: Prober, R: Threads + Sync>(
     ensures err { IfErr result (λ refusal. refusal ≡ NoMemory) }
 {
     let opened = Board::open(alloc, plan.copy(alloc)?)?;
-    run_opened(
-        rt,
-        alloc,
-        plan,
-        prober,
-        &Seen::new(),
-        opened,
-        workers,
-    )
+    run_opened(rt, alloc, plan, prober, &Seen::new(), opened, workers)
 }

@@ -18,13 +18,10 @@ use bus_plan::{Device, Plan, copy_strings};
 use dt_tree::{Bytes, Name};
 use std::alloc::{AllocError, Global};
 use std::marker::Model;
-use std::snapshot::Snapshot;
 
 /// A core with the events that it accepted, of which it is the replay. It has room for the end of each open flight.
 #[derive(Drop)]
 pub struct Keeper {
-    // the plan that the core began with, which takes no bytes
-    first: Snapshot<Plan>,
     core: Core,
     events: Vec<Event>,
     // the devices that are bound, and how many flights are open
@@ -49,9 +46,7 @@ impl Keeper {
     pub fn new(alloc: Global, plan: Plan) -> Result<Keeper, Refusal>
         ensures { MatchResult result (λ keeper. keeper ≡ first_keeper plan) (λ refusal. refusal ≡ NoMemory) }
     {
-        let first = Snapshot::of(&plan);
         Ok(Keeper {
-            first,
             core: Core::new(alloc, plan)?,
             events: Vec::new(alloc),
             bound: Seen::new(),
@@ -211,11 +206,7 @@ pub(crate) fn append<T: Drop>(items: &mut Vec<T>, item: T)
 }
 
 // The event of a driver that comes late.
-fn register_event(
-    alloc: Global,
-    name: &Name,
-    compatibles: &[Bytes],
-) -> Result<Event, AllocError>
+fn register_event(alloc: Global, name: &Name, compatibles: &[Bytes]) -> Result<Event, AllocError>
     ensures { IfOk result (λ event. event ≡ Event.Register name.now compatibles.now) }
 {
     let strings = copy_strings(alloc, compatibles)?;

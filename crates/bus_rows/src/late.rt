@@ -180,7 +180,9 @@ fn binds(rt: &impl Abort, keeper: &mut Keeper) {
         .expect(rt, "a take")
         .expect(rt, "a device due");
     is_of_plan(rt, keeper, &ticket);
-    let _reply = keeper.finish(&ticket, Report::Settled).expect(rt, "a reply");
+    let _reply = keeper
+        .finish(&ticket, Report::Settled)
+        .expect(rt, "a reply");
 }
 
 fn the_driver_comes_late(rt: &impl Abort, alloc: Global, keeper: &mut Keeper) {

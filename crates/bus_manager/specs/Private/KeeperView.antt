@@ -24,9 +24,9 @@ pub record IsBounded (plan : List PlannedDevice) (s : CoreState) (events : List 
   pub low : is_late plan s d ≡ false → count_by (is_begin_of d) events ≤ 1 + count_by (is_abandon_of d) events
   pub fresh : was_begun s d ≡ false → count_by (is_begin_of d) events ≡ 0
 
--- the plan that a core began with, the core, the events that it accepted, the set of its bound devices, and the number of its open flights
-pub record IsSoundKeeper (first : List PlannedDevice) (core : CoreValue) (events : List Event) (bound : List Bool) (flying : ℕ) : Type 0 where
-  pub kept : IsKept (record { first = first; plan = core.plan; state = core.state; events = events })
+-- a core, the events that it accepted, the set of its bound devices, and the number of its open flights
+pub record IsSoundKeeper (core : CoreValue) (events : List Event) (bound : List Bool) (flying : ℕ) : Type 0 where
+  pub kept : IsKept (record { plan = core.plan; state = core.state; events = events })
   pub bounded : (d : ℕ) → IsBounded core.plan core.state events d
   pub bound_is : (d : ℕ) → sees bound d ≡ bound_in core.state.history d
   pub places : length bound ≡ MAX_DEVICES
@@ -34,9 +34,9 @@ pub record IsSoundKeeper (first : List PlannedDevice) (core : CoreValue) (events
   pub flying_is : flying ≡ open_flights core.state
 
 abbrev pub keeper_value : Inside → KeeperValue
-keeper_value k = record { first = k.first.value; plan = k.core.plan; state = k.core.state; events = k.events.items }
+keeper_value k = record { plan = k.core.plan; state = k.core.state; events = k.events.items }
 
 -- there is room for the end of each flight
 pub record IsKeeper (k : Inside) : Type 0 where
-  pub sound : IsSoundKeeper k.first.value k.core k.events.items k.bound k.flying
+  pub sound : IsSoundKeeper k.core k.events.items k.bound k.flying
   pub room : vec_len k.events + k.flying ≤ vec_capacity k.events

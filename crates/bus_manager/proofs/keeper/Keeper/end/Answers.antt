@@ -21,7 +21,7 @@ invariant_of-self-2 c =
     in let reply : c.in_ok-reply.reply ≡ finish_reply k.core.plan (finish_state k.core.plan k.core.state t.device r) t.device r = c.in_ok-reply.ensures.reply ∙ ap (λ v. finish_reply v.plan v.state t.device r) core
     in let bound : c.note_reply.new.bound ≡ seen_after k.bound t.device (finish_reply k.core.plan (finish_state k.core.plan k.core.state t.device r) t.device r) = c.note_reply.ensures ∙ ap (seen_after k.bound t.device) reply
     in record {
-      sound = coe 1 0 (i. IsSoundKeeper k.first.value (core i) (events i) (bound i) (k.flying - 1)) (finished-sound k.first.value k.core k.events.items k.bound k.flying t r within few allowed c.self.invariant.sound);
+      sound = coe 1 0 (i. IsSoundKeeper (core i) (events i) (bound i) (k.flying - 1)) (finished-sound k.core k.events.items k.bound k.flying t r within few allowed c.self.invariant.sound);
       room = omega (arith, ap length events, length_push k.events.items (Finish t.device r), c.append.new.items.ok.0, k.events.ok.0, c.self.invariant.room, c.append.ensures.room);
     }
 
