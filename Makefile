@@ -1,6 +1,9 @@
 # dtman: build, try and prove. `rt` is the toolchain's command.
 
-.PHONY: build demo test clean toolchain
+.PHONY: build demo test install uninstall dist deb clean toolchain
+
+PREFIX ?= /usr/local
+export PREFIX DESTDIR MAINTAINER
 
 # Proves and builds the program, and leaves it at bin/dtman.
 build: toolchain
@@ -14,6 +17,20 @@ demo: toolchain
 # processors: further jobs of one check would take a third more of their time.
 test: toolchain
 	RT_JOBS=$$(nproc) .ci/lanes.py rt ci
+
+# Puts what bin/ has, with man pages and completions, below DESTDIR/PREFIX; takes it away again.
+install: bin/dtman
+	@install/install.sh install
+
+uninstall:
+	@install/install.sh uninstall
+
+# A tar ball with the built program and its checksum, a Debian package: into out/dist.
+dist deb: bin/dtman
+	@install/install.sh $@
+
+bin/dtman:
+	@$(MAKE) build
 
 toolchain:
 	@command -v rt >/dev/null || { \

@@ -3,7 +3,7 @@
 import re
 import sys
 
-TESTED = "crates/source_rows/src/sources/board.rt"
+TESTED = "crates/source_tests/src/sources/board.rt"
 ESCAPES = {"n": "\n", "t": "\t", '"': '"', "\\": "\\"}
 
 

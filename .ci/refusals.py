@@ -127,23 +127,23 @@ def is_cannot_read(_case, answer, met, old):
 
 
 def is_cannot_write(case, answer, met, old):
-    """What was printed, and OUT, are beginnings, or OUT is as before. A fault on standard error changes no status."""
+    """What was printed is a beginning, and OUT is as before. A fault on standard error changes no status."""
     ample = case.ample_over(old)
     if met.path == "stderr":
         return answer[::3] == ample[::3] and answer.printed == ample.printed and ample.told.startswith(answer.told)
-    out_stands = answer.out == old or (ample.out or b"").startswith(answer.out or b"")
     told = f"error 81 CannotWrite {'stdout' if met.path == 'stdout' else 'OUT'}\n".encode()
     # Where more than one write failed, standard error may be among them.
     is_told = told.startswith(answer.told) if met.failed > 1 else answer.told == told
-    return answer.status == 3 and is_told and ample.printed.startswith(answer.printed) and out_stands
-
-
-def is_cannot_open(case, answer, met, old):
-    return (is_cannot_read if met.path in case.inputs else is_cannot_write)(case, answer, met, old)
+    return answer.status == 3 and is_told and ample.printed.startswith(answer.printed) and answer.out == old
 
 
 def is_ample_or_cannot_write(case, answer, met, old):
     return is_ample(case, answer, met, old) or is_cannot_write(case, answer, met, old)
+
+
+def is_cannot_open(case, answer, met, old):
+    """Where no new file can be made beside OUT, it is written where it is."""
+    return (is_cannot_read if met.path in case.inputs else is_ample_or_cannot_write)(case, answer, met, old)
 
 
 def side_by_side(task, cases):

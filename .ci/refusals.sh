@@ -62,7 +62,7 @@ printing=(
 	"--version"
 )
 
-# Outputs that take nothing: a full device, a pipe that nobody reads, closed standard output.
+# Outputs that take nothing: a full device, a pipe that nobody reads (which isn't told), closed standard output.
 silent 3 "error 81 CannotWrite /dev/full" compile base.dts /dev/full
 silent 3 "error 81 CannotWrite /dev/full" overlay base.dtb overlay.dtb /dev/full
 mkfifo unread
@@ -70,10 +70,11 @@ exec 5<>unread 6>unread 5<&-
 for words in "${printing[@]}"; do
 	read -ra words <<<"$words"
 	ends 3 "error 81 CannotWrite stdout" "${words[@]}" >/dev/full
-	ends 3 "error 81 CannotWrite stdout" "${words[@]}" >&6
+	ends 3 "" "${words[@]}" >&6
 	ends 3 "error 81 CannotWrite stdout" "${words[@]}" >&-
 	ends 3 "error 81 CannotWrite stdout" "${words[@]}" <&- >&-
 done
+ends 3 "" compile base.dts - >&6
 exec 6>&-
 "$program" compile base.dts closed.dtb --symbols <&- >&- 2>&-
 same closed.dtb base.dtb
@@ -82,19 +83,57 @@ ended=0
 [ "$ended" = 1 ] || fail "with nothing open a wrong source ended with $ended"
 same closed.dtb base.dtb
 
-# A file that may hold 4 KB and no more: OUT holds a beginning of the bytes, or what it held. What is told never gets into it.
+# A file that may hold 4 KB and no more: OUT holds what it held, or isn't there. What is told never gets into it. Where it has a
+# second name it is written where it is, and holds a beginning of the bytes.
 limited() (trap '' XFSZ && ulimit -f 4 && exec "$program" compile board.dts full.dtb)
-begins() {
-	cmp -s full.dtb base.dtb || same full.dtb <(head -c "$(stat -c %s full.dtb)" board.dtb)
+full() {
+	local ended=0
+	limited 2>told || ended=$?
+	[ "$ended" = 3 ] && [ "$(cat told)" = "error 81 CannotWrite full.dtb" ] || fail "a full file ended with $ended and: $(cat told)"
 }
+full
+[ ! -e full.dtb ] || fail "a failed write made OUT"
 cp base.dtb full.dtb
-ended=0
-limited 2>told || ended=$?
-[ "$ended" = 3 ] && [ "$(cat told)" = "error 81 CannotWrite full.dtb" ] || fail "a full file ended with $ended and: $(cat told)"
-begins
-cp base.dtb full.dtb
+full
+same full.dtb base.dtb
 limited 2>&- && fail "a full file was written whole"
-begins
+same full.dtb base.dtb
+ln full.dtb second.dtb
+full
+same full.dtb <(head -c "$(stat -c %s full.dtb)" board.dtb)
+same second.dtb full.dtb
+
+# A new file takes the place of a regular OUT and has its rights; a link, a pipe, a file of two names and one in a folder that takes
+# no new files are written where they are, and one that may not be written stays. A file that a killed program left is passed over.
+cp base.dtb regular.dtb
+chmod 640 regular.dtb
+before=$(stat -c %i regular.dtb)
+echo left >regular.dtb.0.part
+silent 0 "" compile board.dts regular.dtb
+same regular.dtb board.dtb
+[ "$(stat -c %a regular.dtb)" = 640 ] && [ "$(stat -c %i regular.dtb)" != "$before" ] || fail "OUT wasn't replaced by a file with its rights"
+[ "$(cat regular.dtb.0.part)" = left ] && rm regular.dtb.0.part || fail "a file beside OUT was taken for one of this run's"
+ln -s linked.dtb link.dtb
+silent 0 "" compile base.dts link.dtb --symbols
+[ -L link.dtb ] && same linked.dtb base.dtb || fail "a link was replaced"
+ln linked.dtb second-linked.dtb
+silent 0 "" compile board.dts linked.dtb
+same second-linked.dtb board.dtb
+mkfifo out.pipe
+cat out.pipe >piped.dtb &
+silent 0 "" compile base.dts out.pipe --symbols
+wait
+same piped.dtb base.dtb
+mkdir closed-folder
+cp board.dtb closed-folder/out.dtb
+chmod 555 closed-folder
+silent 0 "" compile base.dts closed-folder/out.dtb --symbols
+same closed-folder/out.dtb base.dtb
+if [ "$(id -u)" != 0 ]; then
+	chmod 444 regular.dtb
+	silent 3 "error 81 CannotWrite regular.dtb" compile base.dts regular.dtb
+	same regular.dtb board.dtb
+fi
 
 # OUT is an input: it is read whole before it is written, and stays where the input is refused.
 cp base.dts taken
@@ -134,6 +173,24 @@ for input in none folder base.dts/none; do
 	silent 3 "error 80 CannotRead $input" probe "$input" none
 	silent 3 "error 80 CannotRead $input" replay board.plan "$input"
 done
+
+# Standard input and standard output as paths: what the files of these names give. A file named - is written ./-.
+"$program" compile - - --symbols <base.dts >dashed
+same dashed base.dtb
+"$program" overlay base.dtb - - <overlay.dtb >dashed
+same dashed both.dtb
+cp base.dts ./-
+silent 0 "" compile ./- dashed --symbols </dev/null
+same dashed base.dtb
+silent 0 "" compile base.dts ./- --symbols
+same ./- base.dtb
+cat board.plan | "$program" replay - planned.schedule >dashed
+same dashed <("$program" replay board.plan planned.schedule)
+silent 1 "error 10 Syntax line 1" compile - dashed </dev/null
+silent 3 "error 80 CannotRead stdin" dump - <&-
+silent 3 "error 80 CannotRead stdin" dump - <folder
+silent 1 "error 38 TooLarge" dump - </dev/zero
+silent 3 "error 82 FileTooLong stdin" plan base.dtb - </dev/zero
 mkfifo parts
 { head -c 7 base.dts && sleep 0.2 && tail -c +8 base.dts; } >parts &
 silent 0 "" compile parts parts.dtb --symbols
@@ -143,8 +200,9 @@ silent 1 "error 17 TooLong line 1" compile /dev/zero none.dtb
 silent 1 "error 38 TooLarge" dump /dev/zero
 silent 3 "error 82 FileTooLong /dev/zero" replay /dev/zero planned.schedule
 [ ! -e none.dtb ] || fail "a refused compile or overlay made its OUT"
+[ -z "$(find . -name '*.part')" ] || fail "a file was left beside OUT: $(find . -name '*.part')"
 echo "refusals of places: full, closed, unread, missing and endless ones are told, and a refused OUT is as it was"
 
 cd "$root"
 python3 bench/stack/needs.py check
-echo "stacks: the deepest inputs take at most 512 KB of stack in compile, and 64 KB in the other commands"
+echo "stacks: the deepest inputs take at most 256 KB of stack in compile, and 64 KB in the other commands"

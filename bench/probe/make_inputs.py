@@ -1,10 +1,12 @@
 #!/usr/bin/env python3
-"""Writes plans of 64 and 512 devices to a folder.
+"""Writes plans of 64, 512 and 4096 devices to a folder.
 
 chain   each device needs the one before it, so that one probe at most can settle at a time
 back    each device needs the one behind it, so that nearly all are deferred once
 fan     all need the first
 flat    none needs another
+slow-root   all need the first, whose driver `slow` takes as long as 1,000 others
+late-root   the same with that device last in plan order
 board   the shape of a board: a clock, a power supply and a pin controller, buses that need these, and devices that need
         their bus, a clock of a controller and at times a device of another bus, some of them named before what they need
 """
@@ -28,6 +30,14 @@ def flat(count):
     return [[] for _ in range(count)]
 
 
+def slow_root(count):
+    return fan(count)
+
+
+def late_root(count):
+    return [[] if number == count - 1 else [count - 1] for number in range(count)]
+
+
 def board(count):
     roots, buses = 4, count // 16
     plan = [[], [], [0], [0, 1]]
@@ -43,14 +53,19 @@ def board(count):
     return plan
 
 
+SLOW = {"slow-root": 0, "late-root": -1}
+
+
 def main(folder):
     os.makedirs(folder, exist_ok=True)
-    for shape in (chain, back, fan, flat, board):
-        for count in (64, 512):
-            with open(os.path.join(folder, f"{shape.__name__}-{count}.plan"), "w") as file:
+    for shape in (chain, back, fan, flat, board, slow_root, late_root):
+        name = shape.__name__.replace("_", "-")
+        for count in (64, 512, 4096):
+            slow = SLOW[name] % count if name in SLOW else None
+            with open(os.path.join(folder, f"{name}-{count}.plan"), "w") as file:
                 for number, needs in enumerate(shape(count)):
                     suppliers = "".join(f" /device@{other}" for other in needs)
-                    file.write(f"/device@{number} driver ok{suppliers}\n")
+                    file.write(f"/device@{number} {'slow' if number == slow else 'driver'} ok{suppliers}\n")
 
 
 if __name__ == "__main__":

@@ -1,57 +1,80 @@
 #!/usr/bin/env python3
-"""Times runs: the devices of a plan that settle in a second, how many times one worker's that is, and the processor time
-that they take, again by one worker's.
+"""Times runs: milliseconds a run by 1, 4 and 64 workers, and how many times the ideal that is.
 
-Each plan is run over the board, and then with the lock. A probe does nothing, or counts for about 10 microseconds or a
-millisecond; how many turns these are is measured first. The best of several short runs is taken, without the program's
-start, so that other work on the machine counts for little.
+Each plan is run over the board, and then with the lock. A probe does nothing, or counts for about 10 or 70 microseconds; how
+many turns these are is measured first. The best of several short runs is taken, without the program's start, so that other
+work on the machine counts for little. The ideal is what as many processors would need that take no time between probes, probe
+each device once, as soon as its suppliers are bound, and never more of them than the machine has.
 """
+import heapq
 import os
-import resource
 import subprocess
 import sys
 import time
 
-WORKERS = (1, 2, 4, 16, 64)
+WORKERS = (1, 4, 64)
 SECONDS = 0.1
-REPEATS = 9
+REPEATS = 7
+SLOW = 1000
 
 
 def once(program, plan, workers, rounds, turns, way):
-    used = resource.getrusage(resource.RUSAGE_CHILDREN)
     before = time.monotonic()
     said = subprocess.run([program, plan, str(workers), str(rounds), str(turns), *way], capture_output=True, text=True, check=True).stdout
     passed = time.monotonic() - before
     if not said.startswith("devices "):
         sys.exit(f"{plan} by {workers}: {said}")
-    then = resource.getrusage(resource.RUSAGE_CHILDREN)
-    return passed, then.ru_utime + then.ru_stime - used.ru_utime - used.ru_stime
-
-
-def best(program, plan, workers, rounds, turns, way):
-    """The least time that passed, and the least processor time."""
-    found = [once(program, plan, workers, rounds, turns, way) for _ in range(REPEATS)]
-    return min(passed for passed, _ in found), min(used for _, used in found)
+    return passed
 
 
 def measured(program, plan, workers, rounds, turns, way=()):
-    whole, start = best(program, plan, workers, rounds, turns, way), best(program, plan, workers, 0, turns, way)
-    return tuple(max(a - b, 1e-6) for a, b in zip(whole, start))
+    """Seconds a run."""
+    whole = min(once(program, plan, workers, rounds, turns, way) for _ in range(REPEATS))
+    start = min(once(program, plan, workers, 0, turns, way) for _ in range(REPEATS))
+    return max(whole - start, 1e-6) / rounds
+
+
+def read(path):
+    """The length of each device's probe, counted in probes, and the devices that need it; and how many suppliers each has."""
+    lines = [line.split() for line in open(path)]
+    places = {line[0]: number for number, line in enumerate(lines)}
+    consumers = [[] for _ in lines]
+    for number, line in enumerate(lines):
+        for supplier in line[3:]:
+            consumers[places[supplier]].append(number)
+    return [SLOW if line[1] == "slow" else 1 for line in lines], consumers, [len(line) - 3 for line in lines]
+
+
+def ideal(path, workers):
+    """How many probes long a run is at least."""
+    lengths, consumers, lacks = read(path)
+    ready, running, now = [number for number, lack in enumerate(lacks) if lack == 0], [], 0
+    while ready or running:
+        while ready and len(running) < workers:
+            device = ready.pop()
+            heapq.heappush(running, (now + lengths[device], device))
+        now, device = heapq.heappop(running)
+        for consumer in consumers[device]:
+            lacks[consumer] -= 1
+            if lacks[consumer] == 0:
+                ready.append(consumer)
+    return now
 
 
 def main(program, folder):
     flat = os.path.join(folder, "flat-64.plan")
-    pace = 100_000 * 64 / 1e6 / measured(program, flat, 1, 1, 100_000)[1]
-    print(f"{'plan':<10} {'way':>6} {'a probe':>8} " + " ".join(f"{workers:>8} {'':>6} {'':>6}" for workers in WORKERS))
+    pace = 1e5 * 64 / measured(program, flat, 1, 1, 100_000) / 1e6
+    print(f"{'plan':<14} {'way':>6} {'a probe':>8} " + " ".join(f"{f'by {workers}, ms':>11} {'ideal':>6}" for workers in WORKERS))
     for name in sorted(os.listdir(folder)):
-        plan, devices = os.path.join(folder, name), int(name.split("-")[1].split(".")[0])
-        for label, turns in (("nothing", 0), ("10 us", int(10 * pace)), ("1 ms", int(1000 * pace))):
-            rounds = max(1, min(100, int(SECONDS / measured(program, plan, 1, 1, turns)[0])))
+        plan = os.path.join(folder, name)
+        least = [ideal(plan, min(workers, os.cpu_count())) for workers in WORKERS]
+        for label, length in (("nothing", 0), ("10 us", 10), ("70 us", 70)):
+            turns = int(length * pace)
+            rounds = max(1, min(100, int(SECONDS / measured(program, plan, 1, 1, turns))))
             for said, way in (("board", ()), ("locked", ("locked",))):
                 found = [measured(program, plan, workers, rounds, turns, way) for workers in WORKERS]
-                rates = [devices * rounds / passed for passed, _ in found]
-                cells = " ".join(f"{rate:8.0f} {rate / rates[0]:5.2f}x {used / found[0][1]:5.2f}c" for rate, (_, used) in zip(rates, found))
-                print(f"{name[:-5]:<10} {said:>6} {label:>8} {cells}", flush=True)
+                cells = " ".join(f"{passed * 1e3:11.2f} {f'{passed * 1e6 / (probes * length):5.2f}x' if length else '':>6}" for passed, probes in zip(found, least))
+                print(f"{name[:-5]:<14} {said:>6} {label:>8} {cells}", flush=True)
 
 
 if __name__ == "__main__":

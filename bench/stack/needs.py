@@ -10,7 +10,7 @@ import tempfile
 
 PROGRAM = os.path.abspath("bin/dtman")
 AMPLE = 8192
-README_SIZES = {"compile": 512}
+README_SIZES = {"compile": 256}
 OTHERS = 64
 
 # An operator of each rank, each binding more tightly than the one before it.

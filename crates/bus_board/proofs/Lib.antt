@@ -4,6 +4,7 @@ pub mod Endings
 pub mod Flights
 pub mod Histories
 pub mod Landings
+pub mod LookPlaces
 pub mod Moves
 pub mod Openings
 pub mod Paying

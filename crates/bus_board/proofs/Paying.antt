@@ -1,14 +1,18 @@
 -- The checks and the wake that pay a debt.
-use Rattle.std.proofs.Common.{◌≡◌, ◌≢◌, ℕ, List, [], ◌∷◌, length, Some, Option, ◌≤◌, arith, refl, sym, ap, ◌∙◌, subst}
+use Rattle.std.proofs.Common.{◌≡◌, ◌≢◌, ℕ, ◌+◌, ◌<◌, true, List, [], ◌∷◌, length, get_or, Some, Option, ◌≤◌, arith, refl, sym, ap, ◌∙◌, subst, ⊎_elim}
+use Rattle.std.proofs.lemmas.Bool.{cases_lt}
+use mathlib.Core.Logic.{dite}
+use native.Mathlib.Decide.{ℕ_discrete}
 use mathlib.Core.Option.{none}
 use Rattle.atomic_table.specs.Table.{Me, step}
 use Rattle.bus_plan.specs.Plan.{PlannedDevice}
 use Rattle.bus_core.specs.History.{IsBusHistory}
 use Rattle.bus_core.specs.declared.settle.Outcome.TheVariants.{Bound}
-use Rattle.bus_board.proofs.Histories.{front_trans, front_whole}
+use Rattle.bus_board.proofs.Histories.{front_outcome, front_trans, front_whole}
 use Rattle.bus_board.proofs.Tied.{same_made}
 use Rattle.bus_board.specs.Learns.{Paid}
 use Rattle.bus_board.specs.Outcomes.{History, IsFront, outcome_of}
+use Rattle.bus_board.specs.Private.Checks.{HasChecked}
 use Rattle.bus_board.specs.Private.Ties.{Carries, IsTied}
 use Rattle.bus_board.specs.Steps.{Checks, Wakes}
 use Rattle.bus_board.specs.Views.{caught_up, made, relieved, rest, with_debts}
@@ -87,3 +91,62 @@ paid_tie m n open_flight owed left count room less was same p none-left fewer = 
   within = λ i lt. absurd (omega (arith, ap (length {A = ℕ}) none-left));
   roomy = λ flying. omega (arith, was.roomy flying, ap (λ (v : View). length v.plan) p.view);
 }
+
+-- checks that found suppliers BOUND, before and after
+pub paid_again : (v u w : View) → Paid v u v.owed → Paid u w u.owed → Paid v w v.owed
+paid_again v u w p r = record {
+  log = r.log;
+  view = r.view ∙ ap (λ (x : View). with_debts x r.log x.owed) p.view;
+  front = front_trans v.seen u.seen r.log (subst (IsFront v.seen) (sym (ap (λ (x : View). x.seen) p.view)) p.front) r.front;
+  lawful = subst (λ (q : List PlannedDevice). IsBusHistory q r.log) (ap (λ (x : View). x.plan) p.view) r.lawful;
+  made = r.made ∙ p.made;
+}
+
+-- and one that did not
+pub paid_then : (v u w : View) → Paid v u v.owed → Paid u w (rest u.owed) → Paid v w (rest v.owed)
+paid_then v u w p r = record {
+  log = r.log;
+  view = r.view ∙ ap (λ (x : View). with_debts x r.log (rest x.owed)) p.view;
+  front = front_trans v.seen u.seen r.log (subst (IsFront v.seen) (sym (ap (λ (x : View). x.seen) p.view)) p.front) r.front;
+  lawful = subst (λ (q : List PlannedDevice). IsBusHistory q r.log) (ap (λ (x : View). x.plan) p.view) r.lawful;
+  made = r.made ∙ p.made;
+}
+
+pub checked_start : (m : M) (ss : List ℕ) (from : ℕ) → IsBusHistory m.0.plan m.0.seen → HasChecked m.0 m.0 ss from from
+checked_start m ss from lawful = record { paid = debt_start m lawful; later = front_whole m.0.seen; bound = λ i ge lt. absurd (omega (arith, ge, lt)) }
+
+-- a supplier more was found BOUND
+pub checked_more : (v : View) (m n : M) (slots s r from place : ℕ) (ss : List ℕ) → HasChecked v m.0 ss from place → get_or ss place 0 ≡ s → Checks (step slots s 0 0 none) m r n → r ≡ 5
+    → HasChecked v n.0 ss from (place + 1)
+checked_more v m n slots s r from place ss h is told five =
+    let t = debt_bound v m n slots s r h.paid told five in
+    record {
+      paid = t.0;
+      later = front_trans v.seen m.0.seen n.0.seen h.later t.2;
+      bound = λ i ge lt. dite (ℕ_discrete i place)
+          (λ same. subst (λ (x : ℕ). outcome_of n.0.seen x ≡ Some Bound) (sym (ap (λ (k : ℕ). get_or ss k 0) same ∙ is)) t.1)
+          (λ other. front_outcome m.0.seen n.0.seen (get_or ss i 0) Bound t.2 (h.bound i ge (omega (arith, lt, other))));
+    }
+
+-- a seat whose checks found suppliers BOUND is as before, but for what it has seen
+pub record Owing (p : List PlannedDevice) (owed : List ℕ) (m : View) : Type 0 where
+  pub plan : m.plan ≡ p
+  pub live : m.live ≡ true
+  pub lawful : IsBusHistory m.plan m.seen
+  pub owes : m.owed ≡ owed
+
+pub checked_owing : (p : List PlannedDevice) (owed : List ℕ) (v u : View) → Paid v u v.owed → v.plan ≡ p → v.live ≡ true → v.owed ≡ owed → Owing p owed u
+checked_owing p owed v u t plan live owes = record {
+  plan = ap (λ (x : View). x.plan) t.view ∙ plan;
+  live = ap (λ (x : View). x.live) t.view ∙ live;
+  lawful = paid_seen v u v.owed t;
+  owes = ap (λ (x : View). x.owed) t.view ∙ owes;
+}
+
+-- two rounds of checks together find all suppliers BOUND
+pub all_checked : (v u w : View) (ss : List ℕ) (start count : ℕ) → HasChecked v u ss start count → HasChecked u w ss 0 start → length ss ≤ count
+    → (i : ℕ) → i < length ss → outcome_of w.seen (get_or ss i 0) ≡ Some Bound
+all_checked v u w ss start count first second long i lt = ⊎_elim
+    (λ (early : i < start). second.bound i (omega arith) early)
+    (λ (late : start ≤ i). front_outcome u.seen w.seen (get_or ss i 0) Bound second.later (first.bound i late (omega (arith, lt, long))))
+    (cases_lt i start)

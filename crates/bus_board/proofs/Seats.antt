@@ -39,13 +39,17 @@ among_append (x ∷ xs) ys d w a = at (λ i e. among_append xs ys d w (i, e)) a.
     at more zero e = inl (0, e)
     at more (suc i) e = ⊎_elim (λ (t : Among xs d w). inl (suc t.0, t.1)) (λ (t : Among ys d w). inr t) (more i e)
 
-among_left : (xs ys : List (ℕ × ℕ)) (d w : ℕ) → Among xs d w → Among (xs ++ ys) d w
+pub among_left : (xs ys : List (ℕ × ℕ)) (d w : ℕ) → Among xs d w → Among (xs ++ ys) d w
 among_left [] ys d w a = absurd (not-among d w a)
 among_left (x ∷ xs) ys d w a = at (λ i e. among_left xs ys d w (i, e)) a.0 a.1
   where
     at : ((i : ℕ) → slice_get xs i ≡ Some (d, w) → Among (xs ++ ys) d w) → (i : ℕ) → slice_get (x ∷ xs) i ≡ Some (d, w) → Among ((x ∷ xs) ++ ys) d w
     at more zero e = (0, e)
     at more (suc i) e = let t = more i e in (suc t.0, t.1)
+
+pub among_right : (xs ys : List (ℕ × ℕ)) (d w : ℕ) → Among ys d w → Among (xs ++ ys) d w
+among_right [] ys d w a = a
+among_right (x ∷ xs) ys d w a = let t = among_right xs ys d w a in (suc t.0, t.1)
 
 pairs-append : (d w : ℕ) (xs ys : List (ℕ × ℕ)) → pairs d w (xs ++ ys) ≡ pairs d w xs + pairs d w ys
 pairs-append d w [] ys = omega arith

@@ -1,6 +1,8 @@
 -- The claims of one walk over the devices.
-use Rattle.std.proofs.Common.{◌≡◌, ◌≢◌, ℕ, suc, ◌+◌, ◌<◌, ◌≤◌, true, List, [], ◌∷◌, ◌++◌, length, Option, Some, None, refl, sym, ap, ◌∙◌, subst, arith, append_assoc, eqb}
+use Rattle.std.proofs.Common.{◌≡◌, ◌≢◌, ℕ, zero, suc, ◌+◌, ◌<◌, ◌≤◌, true, List, [], ◌∷◌, ◌++◌, length, Option, Some, None, refl, sym, ap, ◌∙◌, subst, arith, append_assoc, eqb}
+use mathlib.Core.Logic.{dite}
 use mathlib.Core.Option.{none}
+use native.Mathlib.Decide.{ℕ_discrete}
 use prog.Atomic.{either}
 use Rattle.atomic_table.specs.Table.{Allows, Me, step}
 use Rattle.bus_plan.specs.Plan.{PlannedDevice, suppliers_of}
@@ -8,11 +10,13 @@ use Rattle.bus_core.specs.History.{IsBusHistory}
 use Rattle.bus_board.proofs.Allowed.{claim_allowed}
 use Rattle.bus_board.proofs.Histories.{front_trans, front_whole}
 use Rattle.bus_board.proofs.Moves.{Kind}
+use Rattle.bus_board.proofs.Seats.{among_left, among_right}
 use Rattle.bus_board.proofs.Tied.{same_made}
-use Rattle.bus_board.specs.Learns.{Claimed, Passed, tries, tries_before}
+use Rattle.bus_board.specs.Learns.{Claimed, Passed}
 use Rattle.bus_board.specs.Lists.{Among}
 use Rattle.bus_board.specs.Outcomes.{History, IsFront}
 use Rattle.bus_board.specs.Private.Ties.{Carries, IsTied, looks_at}
+use Rattle.bus_board.specs.Private.Tries.{HasTried}
 use Rattle.bus_board.specs.Rule.{Holds}
 use Rattle.bus_board.specs.Steps.{Claims}
 use Rattle.bus_board.specs.Views.{claimed_by, made, passed_all}
@@ -21,6 +25,11 @@ use Rattle.bus_board.specs.declared.view.View.{View}
 
 abbrev M : Type 0
 M = Me (Unit {0}) View
+
+-- the claims that a walk over the first n devices tries: each from FRESH, 0, and then from WOKEN, 3
+abbrev pub tries : ℕ → List (ℕ × ℕ)
+tries zero = []
+tries (suc d) = tries d ++ (d, 0) ∷ (d, 3) ∷ []
 
 -- how far a walk has come: these claims were lost, and nothing else changed
 pub record Walk (v : View) (m : M) (lost : List (ℕ × ℕ)) : Type 0 where
@@ -82,12 +91,13 @@ walk_lost v m n slots d old new r lost w told miss =
     }
 
 -- the claim was won
-pub walk_won : (v : View) (m n : M) (slots d old new r : ℕ) → Kind old new → d < length v.plan → Walk v m (tries_before d old) → Claims (step slots d old new none) m r n → r ≡ old → Claimed v n.0 d
-walk_won v m n slots d old new r kind inside w told hit =
+pub walk_won : (v : View) (m n : M) (slots d old new r : ℕ) (lost : List (ℕ × ℕ)) → Kind old new → d < length v.plan → Walk v m lost → Claims (step slots d old new none) m r n → r ≡ old → Claimed v n.0 d
+walk_won v m n slots d old new r lost kind inside w told hit =
     let is : n.0 ≡ claimed_by m.0 told.log d old = told.won hit in
-    let was : m.0 ≡ passed_all v w.log (tries_before d old) = w.view in
+    let was : m.0 ≡ passed_all v w.log lost = w.view in
     record {
       log = told.log;
+      lost = lost;
       from = old;
       from_is = kind.fresh;
       inside = inside;
@@ -102,8 +112,101 @@ walk_won v m n slots d old new r kind inside w told hit =
 pub walk_on : (v : View) (m : M) (d : ℕ) → Walk v m ((tries d ++ (d, 0) ∷ []) ++ (d, 3) ∷ []) → Walk v m (tries (d + 1))
 walk_on v m d w = subst (Walk v m) (append_assoc (tries d) ((d, 0) ∷ []) ((d, 3) ∷ []) ∙ ap tries (let e : suc d ≡ d + 1 = omega arith in e)) w
 
+among_here : (xs ys : List (ℕ × ℕ)) (d w : ℕ) → Among (xs ++ (d, w) ∷ ys) d w
+among_here xs ys d w = among_right xs ((d, w) ∷ ys) d w (0, refl)
+
+-- each device before is among the tries
+tries_all : (n d : ℕ) → d < n → Among (tries n) d 0 × Among (tries n) d 3
+tries_all zero d lt = absurd (omega arith)
+tries_all (suc n) d lt = dite (ℕ_discrete d n)
+    (λ same. subst (λ (k : ℕ). Among (tries (suc n)) k 0 × Among (tries (suc n)) k 3) (sym same)
+    (among_here (tries n) ((n, 3) ∷ []) n 0, among_right (tries n) ((n, 0) ∷ (n, 3) ∷ []) n 3 (1, refl)))
+    (λ other.
+    let t = tries_all n d (omega arith) in
+    (among_left (tries n) ((n, 0) ∷ (n, 3) ∷ []) d 0 t.0, among_left (tries n) ((n, 0) ∷ (n, 3) ∷ []) d 3 t.1))
+
 pub walk_end : (v : View) (m : M) (n : ℕ) → Walk v m (tries n) → n ≡ length v.plan → Passed v m.0
-walk_end v m n w all = record { log = w.log; view = w.view ∙ ap (λ (k : ℕ). passed_all v w.log (tries k)) all; front = w.front; lawful = w.lawful; made = w.same_made }
+walk_end v m n w all = record { log = w.log; lost = tries n; all = λ d lt. tries_all n d (omega (arith, all, lt)); view = w.view; front = w.front; lawful = w.lawful; made = w.same_made }
+
+-- claims were lost on a walk
+pub walk_tried : (v : View) (m : M) (lost : List (ℕ × ℕ)) → Walk v m lost → HasTried v m.0
+walk_tried v m lost w = record { log = w.log; lost = lost; view = w.view; front = w.front; lawful = w.lawful; made = w.same_made }
+
+pub tried_start : (m : M) → m.0.live ≡ true → m.0.flight ≡ None → IsBusHistory m.0.plan m.0.seen → HasTried m.0 m.0
+tried_start m live idle lawful = walk_tried m.0 m [] (walk_start m live idle lawful)
+
+-- what was lost before and after is lost together
+passed_twice : (v : View) (first log : History) (before after : List (ℕ × ℕ)) → passed_all (passed_all v first before) log after ≡ passed_all v log (before ++ after)
+passed_twice v first log before after = λ i. record {
+  live = v.live;
+  plan = v.plan;
+  opening = v.opening;
+  seen = log;
+  told = v.told;
+  mine = v.mine;
+  flight = v.flight;
+  claimed = v.claimed;
+  passed = append_assoc v.passed before after i;
+  owed = v.owed;
+}
+
+later_front : (v u : View) (log : History) → (t : HasTried v u) → IsFront u.seen log → IsFront v.seen log
+later_front v u log t front = front_trans v.seen u.seen log (subst (IsFront v.seen) (sym (ap (λ (x : View). x.seen) t.view)) t.front) front
+
+same_plan : (v u : View) (log : History) → HasTried v u → IsBusHistory u.plan log → IsBusHistory v.plan log
+same_plan v u log t lawful = subst (λ (p : List PlannedDevice). IsBusHistory p log) (ap (λ (x : View). x.plan) t.view) lawful
+
+pub tried_more : (v u w : View) → HasTried v u → HasTried u w → HasTried v w
+tried_more v u w t s = record {
+  log = s.log;
+  lost = t.lost ++ s.lost;
+  view = s.view ∙ ap (λ (x : View). passed_all x s.log s.lost) t.view ∙ passed_twice v t.log s.log t.lost s.lost;
+  front = later_front v u s.log t s.front;
+  lawful = same_plan v u s.log t s.lawful;
+  made = s.made ∙ t.made;
+}
+
+pub tried_claimed : (v u w : View) (d : ℕ) → HasTried v u → Claimed u w d → Claimed v w d
+tried_claimed v u w d t c = record {
+  log = c.log;
+  lost = t.lost ++ c.lost;
+  from = c.from;
+  from_is = c.from_is;
+  inside = omega (arith, c.inside, ap (λ (x : View). length x.plan) t.view);
+  new = subst (λ (x : View). ¬ Among x.claimed d c.from) t.view c.new;
+  view = c.view ∙ ap (λ (x : View). claimed_by (passed_all x c.log c.lost) c.log d c.from) t.view ∙ ap (λ (x : View). claimed_by x c.log d c.from) (passed_twice v t.log c.log t.lost c.lost);
+  front = later_front v u c.log t c.front;
+  lawful = same_plan v u c.log t c.lawful;
+  made = c.made ∙ t.made;
+}
+
+pub tried_passed : (v u w : View) → HasTried v u → Passed u w → Passed v w
+tried_passed v u w t c = record {
+  log = c.log;
+  lost = t.lost ++ c.lost;
+  all = λ d lt.
+      let both = c.all d (omega (arith, lt, ap (λ (x : View). length x.plan) t.view)) in
+      (among_right t.lost c.lost d 0 both.0, among_right t.lost c.lost d 3 both.1);
+  view = c.view ∙ ap (λ (x : View). passed_all x c.log c.lost) t.view ∙ passed_twice v t.log c.log t.lost c.lost;
+  front = later_front v u c.log t c.front;
+  lawful = same_plan v u c.log t c.lawful;
+  made = c.made ∙ t.made;
+}
+
+-- the seat is as before, but for what it has seen and passed
+pub record Ready (p : List PlannedDevice) (m : View) : Type 0 where
+  pub plan : m.plan ≡ p
+  pub live : m.live ≡ true
+  pub idle : m.flight ≡ None
+  pub lawful : IsBusHistory m.plan m.seen
+
+pub tried_ready : (p : List PlannedDevice) (v u : View) → HasTried v u → v.plan ≡ p → v.live ≡ true → v.flight ≡ None → Ready p u
+tried_ready p v u t plan live idle = record {
+  plan = ap (λ (x : View). x.plan) t.view ∙ plan;
+  live = ap (λ (x : View). x.live) t.view ∙ live;
+  idle = ap (λ (x : View). x.flight) t.view ∙ idle;
+  lawful = subst (λ (x : View). IsBusHistory x.plan x.seen) (sym t.view) t.lawful;
+}
 
 -- the flight of a claim, and the seat's fields for it
 pub claimed_tie : (m n : M) (d : ℕ) (x : Open) (p : List PlannedDevice) (open_flight : Option Open) (owed : List ℕ) (count room more : ℕ) → IsTied m open_flight owed count room → m.0.plan ≡ p → n.1 ≡ m.1

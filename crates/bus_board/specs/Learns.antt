@@ -1,5 +1,5 @@
 -- What the callers of a board learn: the answers and refusals of its calls, and what becomes of a seat's view.
-use Rattle.std.specs.Prelude.{◌≡◌, ◌≢◌, ◌⊎◌, ◌==◌, ℕ, zero, suc, ◌<◌, Bool, true, false, if◌then◌else◌, List, [], ◌∷◌, ◌++◌, length, Some, None, slice_get}
+use Rattle.std.specs.Prelude.{◌≡◌, ◌≢◌, ◌⊎◌, ℕ, ◌<◌, Bool, true, false, List, [], ◌∷◌, ◌++◌, length, Some, None, slice_get}
 use Rattle.bus_plan.specs.Plan.{PlannedDevice, suppliers_of, verdict_of}
 use Rattle.bus_core.specs.History.{IsBusHistory, bound_in, outcome_by}
 use Rattle.bus_core.specs.Step.{settle_of, settled_reply}
@@ -13,31 +13,25 @@ use Rattle.bus_board.specs.Views.{last_look, made, claimed_by, passed_all, looke
 use Rattle.bus_board.specs.declared.view.View.{View}
 use Rattle.bus_board.specs.declared.view.Flight.{Flight}
 
--- The claims that a walk over the first n devices tries: each from FRESH, 0, and then from WOKEN, 3.
-abbrev pub tries : ℕ → List (ℕ × ℕ)
-tries zero = []
-tries (suc d) = tries d ++ (d, 0) ∷ (d, 3) ∷ []
-
--- those before the claim of a device from a word
-abbrev pub tries_before : ℕ → ℕ → List (ℕ × ℕ)
-tries_before d w = if w == 3 then (tries d ++ (d, 0) ∷ []) else tries d
-
--- `take` answered None: every claim was tried, in plan order, and lost
+-- `take` answered None: claims were tried and lost, among them each device's from FRESH, 0, and from WOKEN, 3
 pub record Passed (v w : View) : Type 0 where
   pub log : History
-  pub view : w ≡ passed_all v log (tries (length v.plan))
+  pub lost : List (ℕ × ℕ)
+  pub all : (d : ℕ) → d < length v.plan → Among lost d 0 × Among lost d 3
+  pub view : w ≡ passed_all v log lost
   pub front : IsFront v.seen log
   pub lawful : IsBusHistory v.plan log
   pub made : made w ≡ made v
 
--- `take` answered the device: the claims before it were lost, and the seat hadn't claimed it from this word before
+-- `take` answered the device: claims before it may have been lost, and the seat hadn't claimed it from this word before
 pub record Claimed (v w : View) (d : ℕ) : Type 0 where
   pub log : History
+  pub lost : List (ℕ × ℕ)
   pub from : ℕ
   pub from_is : (from ≡ 0) ⊎ (from ≡ 3)
   pub inside : d < length v.plan
   pub new : ¬ Among v.claimed d from
-  pub view : w ≡ claimed_by (passed_all v log (tries_before d from)) log d from
+  pub view : w ≡ claimed_by (passed_all v log lost) log d from
   pub front : IsFront v.seen log
   pub lawful : IsBusHistory v.plan log
   pub made : made w ≡ made v

@@ -1,2 +1,4 @@
+pub mod Checks
 pub mod Looks
 pub mod Ties
+pub mod Tries

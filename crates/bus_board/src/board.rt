@@ -10,6 +10,7 @@ ghost use Rattle.bus_board.specs.Rule.{OpensAs};
 ghost use Rattle.bus_board.specs.Shown.{IsOf};
 ghost use Rattle.bus_board.specs.Views.{opener, newcomer};
 
+use crate::hints::Hints;
 use crate::opening::first_words;
 use crate::order::{Further, Order};
 use crate::seat::{Seat, Token};
@@ -29,6 +30,7 @@ pub type Words = Table<(), View, Core, Order, Global>;
 pub struct Board {
     pub(crate) table: Words,
     pub(crate) plan: Plan,
+    pub(crate) hints: Hints,
     /// No device has more suppliers.
     pub(crate) most_suppliers: usize,
     /// For the words at the end.
@@ -107,6 +109,9 @@ fn start(alloc: Global, core: Core) -> Result<(Board, Seat), Core>
     ensures words { IfOk result (λ r. OpensAs core r.1.view) }
     ensures err { IfErr result (λ same. same ≡ core) }
 {
+    let Ok(hints) = Hints::new(alloc, core.plan().len()) else {
+        return Err(core);
+    };
     match first_parts(alloc, &core) {
         Ok((table, token, room, owed)) => {
             core.check();
@@ -116,6 +121,7 @@ fn start(alloc: Global, core: Core) -> Result<(Board, Seat), Core>
             let board = Board {
                 table,
                 plan,
+                hints,
                 most_suppliers,
                 room,
             };

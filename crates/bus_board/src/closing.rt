@@ -27,6 +27,7 @@ impl Board {
         let Board {
             table,
             plan,
+            hints: _,
             most_suppliers: _,
             mut room,
         } = self;

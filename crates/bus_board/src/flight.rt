@@ -1,7 +1,7 @@
 //! The flight that a seat has, and its looks.
 
-ghost use Rattle.std.specs.Prelude.{◌≡◌, ◌≢◌, ◌≤◌, ℕ, true, false, [], Some, length, vec_capacity, slice_get, MatchOption};
-ghost use Rattle.bus_board.specs.Private.Looks.{noted, noted_looks};
+ghost use Rattle.std.specs.Prelude.{◌≡◌, ◌≢◌, ◌≤◌, ℕ, true, false, [], Some, length, vec_capacity, slice_get, IfSome, MatchOption};
+ghost use Rattle.bus_board.specs.Private.Looks.{IsOnlyAt, noted_looks};
 ghost use Rattle.bus_board.specs.Private.Ties.{FlightAfter, looks_at};
 
 use bus_plan::Device;
@@ -11,6 +11,8 @@ use bus_plan::Device;
 pub struct Open {
     pub device: Device,
     pub looks: Vec<(Device, Option<bool>)>,
+    /// Where the next look is expected: behind the last one.
+    pub next: usize,
 }
 
 /// Each supplier, with no look yet.
@@ -73,34 +75,60 @@ pub fn missed(look: Option<bool>) -> bool
     }
 }
 
-/// The flight after a look at a supplier.
-pub fn after_look(flight: Option<Open>, supplier: Device, bound: bool) -> Option<Open>
+/// The place of a supplier among these: it is looked for where the next look is expected, and then from the first on.
+pub fn find_place(looks: &[(Device, Option<bool>)], next: usize, supplier: Device) -> Option<usize>
+    ensures { MatchOption result ((i : ℕ) (x : _) → slice_get looks.now i ≡ Some x → x.0 ≢ supplier) (λ i. (r : _) × (slice_get looks.now i ≡ Some (supplier, r))) }
+{
+    if is_at(looks, next, supplier) {
+        return Some(next);
+    }
+    for place in 0..looks.len() {
+        if is_at(looks, place, supplier) {
+            return Some(place);
+        }
+    }
+    None
+}
+
+// Whether the supplier has this place.
+fn is_at(looks: &[(Device, Option<bool>)], place: usize, supplier: Device) -> bool
+    ensures yes { result ≡ true → (r : _) × (slice_get looks.now place ≡ Some (supplier, r)) }
+    ensures no { result ≡ false → (x : _) → slice_get looks.now place ≡ Some x → x.0 ≢ supplier }
+{
+    if place < looks.len() {
+        return looks[place].0.index() == supplier.index();
+    }
+    false
+}
+
+/// The flight after a look at the supplier that has this place.
+pub fn after_look(flight: Option<Open>, place: usize, supplier: Device, bound: bool) -> Option<Open>
+    requires { IfSome flight (λ x. IsOnlyAt x.looks.items place supplier) }
     ensures { FlightAfter supplier bound flight result }
 {
     match flight {
-        Some(Open { device, mut looks }) => {
-            note_look(looks.as_mut_slice(), supplier, bound);
-            Some(Open { device, looks })
+        Some(
+            Open {
+                device,
+                mut looks,
+                next: _,
+            },
+        ) => {
+            note_look(looks.as_mut_slice(), place, supplier, bound);
+            Some(Open {
+                device,
+                looks,
+                next: place.saturating_add(1),
+            })
         }
         None => None,
     }
 }
 
 // Notes the look in the supplier's place.
-fn note_look(looks: &mut [(Device, Option<bool>)], supplier: Device, bound: bool)
+fn note_look(looks: &mut [(Device, Option<bool>)], place: usize, supplier: Device, bound: bool)
+    requires { IsOnlyAt looks.old place supplier }
     ensures { looks.new ≡ noted_looks supplier bound looks.old }
 {
-    for look in looks.iter_mut() {
-        *look = with_look(*look, supplier, bound);
-    }
-}
-
-fn with_look(look: (Device, Option<bool>), supplier: Device, bound: bool) -> (Device, Option<bool>)
-    ensures { result ≡ noted supplier bound look }
-{
-    if look.0.index() == supplier.index() {
-        (look.0, Some(bound))
-    } else {
-        look
-    }
+    looks[place] = (supplier, Some(bound));
 }

@@ -6,6 +6,7 @@ mod claiming;
 mod closing;
 mod debts;
 mod flight;
+mod hints;
 mod looking;
 mod opening;
 mod order;

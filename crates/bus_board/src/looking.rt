@@ -5,7 +5,7 @@ ghost use Rattle.bus_board.specs.Learns.{LookedAt, NotLooked};
 ghost use Rattle.bus_board.specs.Shown.{IsOf};
 
 use crate::board::Board;
-use crate::flight::{after_look, find_look};
+use crate::flight::{after_look, find_place};
 use crate::order::Look;
 use crate::seat::Seat;
 use crate::words::BOUND;
@@ -23,14 +23,14 @@ impl Board {
         let Some(open) = &seat.flight else {
             return Err(Refusal::NotInFlight);
         };
-        let Some(_) = find_look(&open.looks, supplier) else {
+        let Some(place) = find_place(&open.looks, open.next, supplier) else {
             return Err(Refusal::WasBound);
         };
         self.plan.check();
         let shared = &self.table.shared;
         let found = shared.load::<Look>(&mut seat.token, supplier.index());
         let bound = found == BOUND;
-        seat.flight = after_look(seat.flight.take(), supplier, bound);
+        seat.flight = after_look(seat.flight.take(), place, supplier, bound);
         Ok(bound)
     }
 }

@@ -1,3 +1,4 @@
+mod PathLemmas
 pub mod CountLemmas
 pub mod CountedLemmas
 pub mod HistoryLemmas

@@ -1,10 +1,11 @@
 //! The text of a schedule.
 
-ghost use Rattle.std.specs.Prelude.{◌≡◌, ◌<◌, ◌++◌, ◌⊎◌, length, option_to_list, All, IfOk, IfSome, OnOk, MatchResult};
+ghost use Rattle.std.specs.Prelude.{◌≡◌, ◌<◌, ◌++◌, ◌⊎◌, length, option_to_list, All, IfOk, IfSome, OnOk, MatchResult, true, false};
+ghost use Rattle.dt_tree.specs.Path.{is_path};
 ghost use Rattle.bus_plan.specs.Plan.{device_at};
 ghost use Rattle.bus_plan.specs.PlanFile.{Answers};
 ghost use Rattle.bus_core.specs.Replay.{IsEventOf};
-ghost use Rattle.bus_core.specs.Schedule.{event_of_two, event_of_three, event_of_four, device_event, event_of, line_meaning, schedule_of};
+ghost use Rattle.bus_core.specs.Schedule.{event_of_two, event_of_three, event_of_four, device_event, event_of, line_meaning, missing_of, schedule_of};
 
 use crate::driver_line::driver_event;
 use crate::event::{Event, Report};
@@ -12,10 +13,25 @@ use bus_plan::{Device, Fields, Plan, PlanError, lines_of};
 use dt_tree::is_path;
 use std::alloc::{AllocError, Global};
 
-fn device_at(plan: &Plan, number: usize, path: &[u8]) -> Result<Device, PlanError>
-    ensures { MatchResult result (λ d. (device_at plan.now path.now ≡ Some d) × (d < length plan.now)) (λ e. (device_at plan.now path.now ≡ None) × (e ≡ PlanError.UnknownPath number)) }
+// The device at a line's field, which has to be a path. What a device has is one, so few fields are tested.
+fn found_at(plan: &Plan, number: usize, path: &[u8]) -> Result<Option<Device>, PlanError>
+    ensures { MatchResult result
+        (λ found. (found ≡ device_at plan.now path.now) × (is_path path.now ≡ true) × IfSome found (λ d. d < length plan.now))
+        (λ e. (is_path path.now ≡ false) × (e ≡ PlanError.BadLine number)) }
 {
+    plan.check();
     match plan.device(path) {
+        Some(device) => Ok(Some(device)),
+        None if is_path(path) => Ok(None),
+        None => Err(PlanError::BadLine(number)),
+    }
+}
+
+// The device that was found at a line's path.
+fn known(found: Option<Device>, number: usize) -> Result<Device, PlanError>
+    ensures { MatchResult result (λ d. found ≡ Some d) (λ e. (found ≡ None) × (e ≡ PlanError.UnknownPath number)) }
+{
+    match found {
         Some(device) => Ok(device),
         None => Err(PlanError::UnknownPath(number)),
     }
@@ -26,16 +42,14 @@ fn event_of_two(plan: &Plan, number: usize, word: &[u8], path: &[u8]) -> Result<
     ensures event { result ≡ event_of_two plan.now number word.now path.now }
     ensures within { IfOk result (IsEventOf plan.now) }
 {
-    if !is_path(path) {
-        return Err(PlanError::BadLine(number));
-    }
+    let found = found_at(plan, number, path)?;
     if word == b"begin".as_slice() {
-        return Ok(Event::Begin(device_at(plan, number, path)?));
+        return Ok(Event::Begin(known(found, number)?));
     }
     if word != b"abandon".as_slice() {
         return Err(PlanError::BadLine(number));
     }
-    Ok(Event::Abandon(device_at(plan, number, path)?))
+    Ok(Event::Abandon(known(found, number)?))
 }
 
 // `finish PATH settled`
@@ -49,16 +63,30 @@ fn event_of_three(
     ensures event { result ≡ event_of_three plan.now number word.now path.now said.now }
     ensures within { IfOk result (IsEventOf plan.now) }
 {
-    if !is_path(path) {
-        return Err(PlanError::BadLine(number));
-    }
+    let found = found_at(plan, number, path)?;
     if word != b"finish".as_slice() {
         return Err(PlanError::BadLine(number));
     }
     if said != b"settled".as_slice() {
         return Err(PlanError::BadLine(number));
     }
-    Ok(Event::Finish(device_at(plan, number, path)?, Report::Settled))
+    Ok(Event::Finish(known(found, number)?, Report::Settled))
+}
+
+fn missing_of(
+    plan: &Plan,
+    number: usize,
+    found: Option<Device>,
+    supplier: Option<Device>,
+) -> Result<Event, PlanError>
+    requires { IfSome found (λ d. d < length plan.now) }
+    ensures event { result ≡ missing_of number found supplier }
+    ensures within { IfOk result (IsEventOf plan.now) }
+{
+    match (found, supplier) {
+        (Some(device), Some(supplier)) => Ok(Event::Finish(device, Report::Missing(supplier))),
+        _ => Err(PlanError::UnknownPath(number)),
+    }
 }
 
 // `finish PATH missing SUPPLIER`
@@ -73,21 +101,15 @@ fn event_of_four(
     ensures event { result ≡ event_of_four plan.now number word.now path.now said.now supplier.now }
     ensures within { IfOk result (IsEventOf plan.now) }
 {
-    if !is_path(path) {
-        return Err(PlanError::BadLine(number));
-    }
-    if !is_path(supplier) {
-        return Err(PlanError::BadLine(number));
-    }
+    let found = found_at(plan, number, path)?;
+    let found_supplier = found_at(plan, number, supplier)?;
     if word != b"finish".as_slice() {
         return Err(PlanError::BadLine(number));
     }
     if said != b"missing".as_slice() {
         return Err(PlanError::BadLine(number));
     }
-    let device = device_at(plan, number, path)?;
-    let supplier = device_at(plan, number, supplier)?;
-    Ok(Event::Finish(device, Report::Missing(supplier)))
+    missing_of(plan, number, found, found_supplier)
 }
 
 // The event of a line that names a device, by its word and the one, two or three fields behind it. A fourth is the last

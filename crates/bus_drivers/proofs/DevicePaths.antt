@@ -17,64 +17,64 @@ use Rattle.dt_tree.proofs.PathTexts.{is_path-path_text, path_names-path_text}
 use Rattle.dt_tree.proofs.Places.{IsSoundInside, names_at, some_inj}
 use Rattle.dt_tree.proofs.PreorderLaws.{all_stand}
 use Rattle.bus_plan.specs.Plan.{is_device_path}
-use Rattle.bus_drivers.specs.Nodes.{properties_of, ways_down, is_compatible, is_device, ways_eq, device_ways, tree_device, tree_devices, TreeDevice, last_device, nearest_device, way_with, target_of, Target}
+use Rattle.bus_drivers.specs.Nodes.{properties_of, node_paths_down, is_compatible, is_device, node_paths_eq, device_nodes, tree_device, tree_devices, TreeDevice, last_device, nearest_device, path_with, target_of, Target}
 use Rattle.bus_drivers.proofs.Entries.{apart_devices}
-use Rattle.bus_drivers.proofs.EntryWays.{Way}
+use Rattle.bus_drivers.proofs.EntryPaths.{NodePath}
 
--- ---- the way to a device
+-- ---- the path of a device
 first_of_three : (a b c : Bool) → (a && b && c) ≡ true → a ≡ true
 first_of_three true b c e = refl
 first_of_three false b c e = e
 
-below_root : (root : NodeData) (way : Way) → is_device root way ≡ true → not (length way == 0) ≡ true
-below_root root way e = first_of_three (not (length way == 0)) (not (is_reserved way)) (is_compatible (properties_of root way)) e
+below_root : (root : NodeData) (node_path : NodePath) → is_device root node_path ≡ true → not (length node_path == 0) ≡ true
+below_root root node_path e = first_of_three (not (length node_path == 0)) (not (is_reserved node_path)) (is_compatible (properties_of root node_path)) e
 
-device_names : (root : NodeData) → IsSoundInside root → All (λ way. are_names way ≡ true) (device_ways root)
-device_names root s = λ k d lt. names_at (get_or (device_ways root) k d) root s (All-filter (is_device root) (λ way. is_some (node_at root way) ≡ true) (preorder root) (all_stand root s) k d lt)
+device_names : (root : NodeData) → IsSoundInside root → All (λ node_path. are_names node_path ≡ true) (device_nodes root)
+device_names root s = λ k d lt. names_at (get_or (device_nodes root) k d) root s (All-filter (is_device root) (λ node_path. is_some (node_at root node_path) ≡ true) (preorder root) (all_stand root s) k d lt)
 
 -- ---- its path
-same_text : (v w : Way) → are_names v ≡ true → are_names w ≡ true → path_text v ≡ path_text w → v ≡ w
+same_text : (v w : NodePath) → are_names v ≡ true → are_names w ≡ true → path_text v ≡ path_text w → v ≡ w
 same_text v w a b e = sym (path_names-path_text v a) ∙ ap path_names e ∙ path_names-path_text w b
 
-not_slash : (way : Way) → are_names way ≡ true → not (length way == 0) ≡ true → (t : Bool) → bytes_eq (path_text way) (47 ∷ []) ≡ t → bytes_eq (path_text way) (47 ∷ []) ≡ false
-not_slash way a below true e =
-    let same : path_text way ≡ 47 ∷ [] = (bytes_eq-Decides (path_text way) (47 ∷ [])).0 e in
-    let root : way ≡ [] = same_text way [] a refl same in
-    absurd (let bad : false ≡ true = subst (λ (w : Way). not (length w == 0) ≡ true) root below in cc bad)
-not_slash way a below false e = e
+not_slash : (node_path : NodePath) → are_names node_path ≡ true → not (length node_path == 0) ≡ true → (t : Bool) → bytes_eq (path_text node_path) (47 ∷ []) ≡ t → bytes_eq (path_text node_path) (47 ∷ []) ≡ false
+not_slash node_path a below true e =
+    let same : path_text node_path ≡ 47 ∷ [] = (bytes_eq-Decides (path_text node_path) (47 ∷ [])).0 e in
+    let root : node_path ≡ [] = same_text node_path [] a refl same in
+    absurd (let bad : false ≡ true = subst (λ (w : NodePath). not (length w == 0) ≡ true) root below in cc bad)
+not_slash node_path a below false e = e
 
-path_lawful : (root : NodeData) (way : Way) → are_names way ≡ true → is_device root way ≡ true → is_device_path (path_text way) ≡ true
-path_lawful root way a e = rw (is_path-path_text way a, not_slash way a (below_root root way e) _ refl) refl
+path_lawful : (root : NodeData) (node_path : NodePath) → are_names node_path ≡ true → is_device root node_path ≡ true → is_device_path (path_text node_path) ≡ true
+path_lawful root node_path a e = rw (is_path-path_text node_path a, not_slash node_path a (below_root root node_path e) _ refl) refl
 
 -- each is the path of a device
 pub device_paths : (root : NodeData) → IsSoundInside root → All (λ d. is_device_path d.path ≡ true) (tree_devices root)
 device_paths root s =
-    All-map (λ (d : TreeDevice). is_device_path d.path ≡ true) (tree_device root) (device_ways root)
-    (λ k d lt. path_lawful root (get_or (device_ways root) k d) (device_names root s k d lt) (filter_passes (is_device root) (preorder root) k d lt))
+    All-map (λ (d : TreeDevice). is_device_path d.path ≡ true) (tree_device root) (device_nodes root)
+    (λ k d lt. path_lawful root (get_or (device_nodes root) k d) (device_names root s k d lt) (filter_passes (is_device root) (preorder root) k d lt))
 
 -- no two are the same
 pub device_paths-apart : (root : NodeData) → IsSoundInside root → AllPairs (λ p q. p ≢ q) (map (λ (d : TreeDevice). d.path) (tree_devices root))
 device_paths-apart root s = λ i j d lt within same.
-    let ways : List Way = device_ways root in
+    let node_paths : List NodePath = device_nodes root in
     let devices : List TreeDevice = tree_devices root in
-    let long : length devices ≡ length ways = length-map ways (tree_device root) in
+    let long : length devices ≡ length node_paths = length-map node_paths (tree_device root) in
     let longer : length (map (λ (x : TreeDevice). x.path) devices) ≡ length devices = length-map devices (λ (x : TreeDevice). x.path) in
-    let in_j : j < length ways = omega arith in
-    let in_i : i < length ways = omega arith in
-    let text_i : get_or (map (λ (x : TreeDevice). x.path) devices) i d ≡ path_text (get_or ways i []) =
-    get_or-map (λ (x : TreeDevice). x.path) devices i (tree_device root []) d (omega arith) ∙ ap (λ (x : TreeDevice). x.path) (get_or-map (tree_device root) ways i [] (tree_device root []) in_i) in
-    let text_j : get_or (map (λ (x : TreeDevice). x.path) devices) j d ≡ path_text (get_or ways j []) =
-    get_or-map (λ (x : TreeDevice). x.path) devices j (tree_device root []) d (omega arith) ∙ ap (λ (x : TreeDevice). x.path) (get_or-map (tree_device root) ways j [] (tree_device root []) in_j) in
-    apart_devices root s i j [] lt in_j (same_text (get_or ways i []) (get_or ways j []) (device_names root s i [] in_i) (device_names root s j [] in_j) (sym text_i ∙ same ∙ text_j))
+    let in_j : j < length node_paths = omega arith in
+    let in_i : i < length node_paths = omega arith in
+    let text_i : get_or (map (λ (x : TreeDevice). x.path) devices) i d ≡ path_text (get_or node_paths i []) =
+    get_or-map (λ (x : TreeDevice). x.path) devices i (tree_device root []) d (omega arith) ∙ ap (λ (x : TreeDevice). x.path) (get_or-map (tree_device root) node_paths i [] (tree_device root []) in_i) in
+    let text_j : get_or (map (λ (x : TreeDevice). x.path) devices) j d ≡ path_text (get_or node_paths j []) =
+    get_or-map (λ (x : TreeDevice). x.path) devices j (tree_device root []) d (omega arith) ∙ ap (λ (x : TreeDevice). x.path) (get_or-map (tree_device root) node_paths j [] (tree_device root []) in_j) in
+    apart_devices root s i j [] lt in_j (same_text (get_or node_paths i []) (get_or node_paths j []) (device_names root s i [] in_i) (device_names root s j [] in_j) (sym text_i ∙ same ∙ text_j))
 
--- ---- places
-place_within : (root : NodeData) (way : Way) (d : ℕ) → nearest_device root way ≡ Some d → d < length (tree_devices root)
-place_within root way d e =
-    option_and_then_some (λ (w : Way). position (ways_eq w) (device_ways root)) (last_device root (ways_down way)) d e
-    (λ w _ at. let found = position-Some (ways_eq w) (device_ways root) d w at in let long = length-map (device_ways root) (tree_device root) in omega (arith, found, long))
+-- ---- fixup sites
+place_within : (root : NodeData) (node_path : NodePath) (d : ℕ) → nearest_device root node_path ≡ Some d → d < length (tree_devices root)
+place_within root node_path d e =
+    option_and_then_some (λ (w : NodePath). position (node_paths_eq w) (device_nodes root)) (last_device root (node_paths_down node_path)) d e
+    (λ w _ at. let found = position-Some (node_paths_eq w) (device_nodes root) d w at in let long = length-map (device_nodes root) (tree_device root) in omega (arith, found, long))
 
 -- the device of a target is one of the tree's
 pub target_within : (root : NodeData) (phandle : ℕ) (t : Target) → target_of root phandle ≡ Some t → (d : ℕ) → t.device ≡ Some d → d < length (tree_devices root)
 target_within root phandle t e d is =
-    option_and_then_some (λ (w : Way). Some (record { properties = properties_of root w; device = nearest_device root w })) (way_with root phandle) t e
+    option_and_then_some (λ (w : NodePath). Some (record { properties = properties_of root w; device = nearest_device root w })) (path_with root phandle) t e
     (λ w _ at. place_within root w d (ap (λ (x : Target). x.device) (some_inj (record { properties = properties_of root w; device = nearest_device root w }) t at) ∙ is))

@@ -19,11 +19,11 @@ use Rattle.dt_tree.proofs.PhandleLaws.{IsApart, apart}
 use Rattle.dt_tree.proofs.Places.{IsSoundInside, inside}
 use Rattle.dt_tree.proofs.PreorderLaws.{all_once}
 use Rattle.dt_tree.proofs.ReservedLaws.{apart-unreserved}
-use Rattle.bus_drivers.specs.Nodes.{properties_of, ways_down, is_okay, is_compatible, is_device, nearest_device, device_ways, tree_device, tree_devices, way_with, target_of}
+use Rattle.bus_drivers.specs.Nodes.{properties_of, node_paths_down, is_okay, is_compatible, is_device, nearest_device, device_nodes, tree_device, tree_devices, path_with, target_of}
 use Rattle.bus_drivers.specs.Private.Entries.{Entry, entries, device_count, own_properties, is_device_entry, device_of_entry, target_of_entry, devices_met, has_phandle, target_met}
 use Rattle.bus_drivers.proofs.EntryPlaces.{entry_at, IsMet}
 use Rattle.bus_drivers.proofs.EntryWalk.{count_from, entries_from}
-use Rattle.bus_drivers.proofs.EntryWays.{Way, ways_from, ways_from-root, is_free, free_paths, filter_both, filter_map, find_filter, find_map, map_map, map_same, own_last}
+use Rattle.bus_drivers.proofs.EntryPaths.{NodePath, node_paths_from, node_paths_from-root, is_free, free_paths, filter_both, filter_map, find_filter, find_map, map_map, map_same, own_last}
 
 -- ---- the root's children that aren't reserved
 free_name : (f : Siblings) (y : List ℕ) → is_among y (child_names (unreserved f)) ≡ true → is_reserved_name y ≡ false
@@ -65,34 +65,34 @@ and_again true false c = refl
 and_again false true c = refl
 and_again false false c = refl
 
-devices_first : (root : NodeData) → device_ways root ≡ filter (is_device root) (ways_from [] (unreserved root.children))
+devices_first : (root : NodeData) → device_nodes root ≡ filter (is_device root) (node_paths_from [] (unreserved root.children))
 devices_first root =
-    sym (filter_both (is_device root) is_free (is_device root) (λ way. and_again (not (length way == 0)) (is_free way) (is_compatible (properties_of root way))) (paths_among root.children))
-    ∙ ap (λ (ws : List Way). filter (is_device root) ws) (free_paths root.children ∙ sym (ways_from-root (unreserved root.children)))
+    sym (filter_both (is_device root) is_free (is_device root) (λ node_path. and_again (not (length node_path == 0)) (is_free node_path) (is_compatible (properties_of root node_path))) (paths_among root.children))
+    ∙ ap (λ (ws : List NodePath). filter (is_device root) ws) (free_paths root.children ∙ sym (node_paths_from-root (unreserved root.children)))
 
 apart_children : (root : NodeData) → IsSoundInside root → IsApart (unreserved root.children)
 apart_children root s = apart-unreserved root.children (apart root.children s.siblings.distinct s.below)
 
-pub apart_devices : (root : NodeData) → IsSoundInside root → AllPairs (λ p q. p ≢ q) (device_ways root)
+pub apart_devices : (root : NodeData) → IsSoundInside root → AllPairs (λ p q. p ≢ q) (device_nodes root)
 apart_devices root s = AllPairs-filter (λ p q. p ≢ q) (is_device root) (preorder root) (all_once root s)
 
 -- ---- the laws
 met_in_preorder : (root : NodeData) → IsSoundInside root → entries root ≡ map (entry_at root) (filter is_free (preorder root))
 met_in_preorder root s =
     let walked = entries_from root (apart_devices root s) (unreserved root.children) [] (root.properties ∷ []) None 0 [] [] (apart_children root s) (met_first root) refl refl
-    (devices_first root ∙ sym (append-nil (filter (is_device root) (ways_from [] (unreserved root.children))))) refl in
-    ap (λ (es : List Entry). entry_at root [] ∷ es) (walked ∙ ap (λ (ws : List Way). map (entry_at root) ws) (ways_from-root (unreserved root.children) ∙ sym (free_paths root.children)))
+    (devices_first root ∙ sym (append-nil (filter (is_device root) (node_paths_from [] (unreserved root.children))))) refl in
+    ap (λ (es : List Entry). entry_at root [] ∷ es) (walked ∙ ap (λ (ws : List NodePath). map (entry_at root) ws) (node_paths_from-root (unreserved root.children) ∙ sym (free_paths root.children)))
 
 -- each node that isn't reserved is met, once and in preorder
-pub entries-preorder : (t : TreeData) → IsTree t → entries t.root ≡ map (entry_at t.root) (filter (λ way. not (is_reserved way)) (preorder t.root))
+pub entries-preorder : (t : TreeData) → IsTree t → entries t.root ≡ map (entry_at t.root) (filter (λ node_path. not (is_reserved node_path)) (preorder t.root))
 entries-preorder t is = met_in_preorder t.root (inside t.root is.sound)
 
 -- ---- what is read off an entry
-own_at : (root : NodeData) (way : Way) → own_properties (map (properties_of root) (ways_down way)) ≡ properties_of root way
-own_at root way = own_last way (properties_of root)
+own_at : (root : NodeData) (node_path : NodePath) → own_properties (map (properties_of root) (node_paths_down node_path)) ≡ properties_of root node_path
+own_at root node_path = own_last node_path (properties_of root)
 
-met_device : (root : NodeData) (way : Way) → device_of_entry (entry_at root way) ≡ tree_device root way
-met_device root way = λ i. record { path = path_text way; available = list_all-map is_okay (properties_of root) (ways_down way) i; properties = own_at root way i }
+met_device : (root : NodeData) (node_path : NodePath) → device_of_entry (entry_at root node_path) ≡ tree_device root node_path
+met_device root node_path = λ i. record { path = path_text node_path; available = list_all-map is_okay (properties_of root) (node_paths_down node_path) i; properties = own_at root node_path i }
 
 and_swap : (a b c : Bool) → (a && b && c) ≡ (b && (a && c))
 and_swap true true c = refl
@@ -100,55 +100,55 @@ and_swap true false c = refl
 and_swap false true c = refl
 and_swap false false c = refl
 
-met_is_device : (root : NodeData) (way : Way) → is_device root way ≡ (is_free way && is_device_entry (entry_at root way))
-met_is_device root way =
-    and_swap (not (length way == 0)) (is_free way) (is_compatible (properties_of root way))
-    ∙ ap (λ (ps : List Property). is_free way && (not (length way == 0) && is_compatible ps)) (sym (own_at root way))
+met_is_device : (root : NodeData) (node_path : NodePath) → is_device root node_path ≡ (is_free node_path && is_device_entry (entry_at root node_path))
+met_is_device root node_path =
+    and_swap (not (length node_path == 0)) (is_free node_path) (is_compatible (properties_of root node_path))
+    ∙ ap (λ (ps : List Property). is_free node_path && (not (length node_path == 0) && is_compatible ps)) (sym (own_at root node_path))
 
 -- the devices that are met are those of the tree
 pub tree_devices-met : (t : TreeData) → IsTree t → tree_devices t.root ≡ devices_met (entries t.root)
 tree_devices-met t is =
     let root = t.root in
-    let at : Way → Entry = entry_at root in
-    let free : List Way = filter is_free (preorder root) in
-    let all : filter (λ (w : Way). is_device_entry (at w)) free ≡ device_ways root = filter_both (λ (w : Way). is_device_entry (at w)) is_free (is_device root) (met_is_device root) (preorder root) in
+    let at : NodePath → Entry = entry_at root in
+    let free : List NodePath = filter is_free (preorder root) in
+    let all : filter (λ (w : NodePath). is_device_entry (at w)) free ≡ device_nodes root = filter_both (λ (w : NodePath). is_device_entry (at w)) is_free (is_device root) (met_is_device root) (preorder root) in
     sym (ap devices_met (entries-preorder t is)
     ∙ ap (λ (es : List Entry). map device_of_entry es) (filter_map is_device_entry at free)
-    ∙ map_map device_of_entry at (filter (λ (w : Way). is_device_entry (at w)) free)
-    ∙ ap (λ (ws : List Way). map (λ (w : Way). device_of_entry (at w)) ws) all
-    ∙ map_same (λ (w : Way). device_of_entry (at w)) (tree_device root) (met_device root) (device_ways root))
+    ∙ map_map device_of_entry at (filter (λ (w : NodePath). is_device_entry (at w)) free)
+    ∙ ap (λ (ws : List NodePath). map (λ (w : NodePath). device_of_entry (at w)) ws) all
+    ∙ map_same (λ (w : NodePath). device_of_entry (at w)) (tree_device root) (met_device root) (device_nodes root))
 
 phandle_in_own : (o : Option (List Property)) → option_and_then phandle_in (option_and_then (λ ps. value_of ps (codes "phandle")) o) ≡ phandle_of (unwrap_or o [])
 phandle_in_own None = refl
 phandle_in_own (Some ps) = refl
 
-met_has_phandle : (root : NodeData) (phandle : ℕ) (way : Way) → option_map_or (nat_eq phandle) (phandle_at (path_map root) way) false ≡ (is_free way && has_phandle phandle (entry_at root way))
-met_has_phandle root phandle way = by_name (is_reserved way) refl where
-  by_name : (t : Bool) → is_reserved way ≡ t → option_map_or (nat_eq phandle) (phandle_at (path_map root) way) false ≡ (is_free way && has_phandle phandle (entry_at root way))
+met_has_phandle : (root : NodeData) (phandle : ℕ) (node_path : NodePath) → option_map_or (nat_eq phandle) (phandle_at (path_map root) node_path) false ≡ (is_free node_path && has_phandle phandle (entry_at root node_path))
+met_has_phandle root phandle node_path = by_name (is_reserved node_path) refl where
+  by_name : (t : Bool) → is_reserved node_path ≡ t → option_map_or (nat_eq phandle) (phandle_at (path_map root) node_path) false ≡ (is_free node_path && has_phandle phandle (entry_at root node_path))
   by_name true e = rw e refl
   by_name false e =
-      rw e (ap (λ (o : Option ℕ). option_map_or (nat_eq phandle) o false) (phandle_in_own (properties_at root way))
-      ∙ ap (λ (ps : List Property). option_map_or (nat_eq phandle) (phandle_of ps) false) (sym (own_at root way)))
+      rw e (ap (λ (o : Option ℕ). option_map_or (nat_eq phandle) o false) (phandle_in_own (properties_at root node_path))
+      ∙ ap (λ (ps : List Property). option_map_or (nat_eq phandle) (phandle_of ps) false) (sym (own_at root node_path)))
 
-met_target : (root : NodeData) (o : Option Way) → option_map target_of_entry (option_map (entry_at root) o) ≡ option_map (λ way. record { properties = properties_of root way; device = nearest_device root way }) o
+met_target : (root : NodeData) (o : Option NodePath) → option_map target_of_entry (option_map (entry_at root) o) ≡ option_map (λ node_path. record { properties = properties_of root node_path; device = nearest_device root node_path }) o
 met_target root None = refl
-met_target root (Some way) = λ i. Some (record { properties = own_at root way i; device = nearest_device root way })
+met_target root (Some node_path) = λ i. Some (record { properties = own_at root node_path i; device = nearest_device root node_path })
 
 -- and so are the targets of phandles
 pub target_of-met : (t : TreeData) → IsTree t → (phandle : ℕ) → target_of t.root phandle ≡ target_met (entries t.root) phandle
 target_of-met t is phandle =
     let root = t.root in
-    let at : Way → Entry = entry_at root in
-    let free : List Way = filter is_free (preorder root) in
-    let found : find (λ (w : Way). has_phandle phandle (at w)) free ≡ way_with root phandle =
-    find_filter (λ (w : Way). has_phandle phandle (at w)) is_free (λ (w : Way). option_map_or (nat_eq phandle) (phandle_at (path_map root) w) false) (met_has_phandle root phandle) (preorder root) in
+    let at : NodePath → Entry = entry_at root in
+    let free : List NodePath = filter is_free (preorder root) in
+    let found : find (λ (w : NodePath). has_phandle phandle (at w)) free ≡ path_with root phandle =
+    find_filter (λ (w : NodePath). has_phandle phandle (at w)) is_free (λ (w : NodePath). option_map_or (nat_eq phandle) (phandle_at (path_map root) w) false) (met_has_phandle root phandle) (preorder root) in
     sym (ap (λ (es : List Entry). target_met es phandle) (entries-preorder t is)
     ∙ ap (λ (o : Option Entry). option_map target_of_entry o) (find_map (has_phandle phandle) at free)
-    ∙ ap (λ (o : Option Way). option_map target_of_entry (option_map at o)) found
-    ∙ met_target root (way_with root phandle))
+    ∙ ap (λ (o : Option NodePath). option_map target_of_entry (option_map at o)) found
+    ∙ met_target root (path_with root phandle))
 
 -- and there are as many as the walk counts
-pub device_count-ways : (t : TreeData) → IsTree t → length (device_ways t.root) ≡ device_count (unreserved t.root.children)
-device_count-ways t is =
+pub device_count-node_paths : (t : TreeData) → IsTree t → length (device_nodes t.root) ≡ device_count (unreserved t.root.children)
+device_count-node_paths t is =
     let s = inside t.root is.sound in
     ap length (devices_first t.root) ∙ count_from t.root (unreserved t.root.children) [] (apart_children t.root s) (met_first t.root)

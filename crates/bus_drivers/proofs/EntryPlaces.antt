@@ -14,44 +14,44 @@ use Rattle.dt_tree.specs.Phandle.{is_reserved, or_else}
 use Rattle.dt_tree.specs.Sound.{is_among}
 use Rattle.dt_tree.proofs.PhandleLaws.{among_apart}
 use Rattle.dt_tree.proofs.Places.{bytes_eq-refl, node_at-append, both}
-use Rattle.bus_drivers.specs.Nodes.{properties_of, ways_down, is_compatible, is_device, device_ways, ways_eq, last_device, nearest_device}
+use Rattle.bus_drivers.specs.Nodes.{properties_of, node_paths_down, is_compatible, is_device, device_nodes, node_paths_eq, last_device, nearest_device}
 use Rattle.bus_drivers.specs.Private.Entries.{Entry, entry, device_here}
-use Rattle.bus_drivers.proofs.EntryWays.{Way, reserved_below, not_root, ways_down-push}
+use Rattle.bus_drivers.proofs.EntryPaths.{NodePath, reserved_below, not_root, node_paths_down-push}
 
--- what is met at the end of a way
-abbrev pub entry_at : NodeData → Way → Entry
-entry_at root way = entry way (map (properties_of root) (ways_down way)) (nearest_device root way)
+-- what is met at a path
+abbrev pub entry_at : NodeData → NodePath → Entry
+entry_at root node_path = entry node_path (map (properties_of root) (node_paths_down node_path)) (nearest_device root node_path)
 
--- ---- equal ways
-pub ways_eq-same : (x y : Way) → ways_eq x y ≡ true → x ≡ y
-ways_eq-same [] [] e = refl
-ways_eq-same [] (m ∷ ms) e = absurd (let bad : false ≡ true = e in cc bad)
-ways_eq-same (n ∷ ns) [] e = absurd (let bad : false ≡ true = e in cc bad)
-ways_eq-same (n ∷ ns) (m ∷ ms) e =
-    let parts = both (bytes_eq n m) (ways_eq ns ms) e in
+-- ---- equal paths
+pub node_paths_eq-same : (x y : NodePath) → node_paths_eq x y ≡ true → x ≡ y
+node_paths_eq-same [] [] e = refl
+node_paths_eq-same [] (m ∷ ms) e = absurd (let bad : false ≡ true = e in cc bad)
+node_paths_eq-same (n ∷ ns) [] e = absurd (let bad : false ≡ true = e in cc bad)
+node_paths_eq-same (n ∷ ns) (m ∷ ms) e =
+    let parts = both (bytes_eq n m) (node_paths_eq ns ms) e in
     let first : n ≡ m = (bytes_eq-Decides n m).0 parts.0 in
-    let rest = ways_eq-same ns ms parts.1 in
+    let rest = node_paths_eq-same ns ms parts.1 in
     λ i. first i ∷ rest i
 
-pub ways_eq-refl : (x : Way) → ways_eq x x ≡ true
-ways_eq-refl [] = refl
-ways_eq-refl (n ∷ ns) = rw (bytes_eq-refl n) (ways_eq-refl ns)
+pub node_paths_eq-refl : (x : NodePath) → node_paths_eq x x ≡ true
+node_paths_eq-refl [] = refl
+node_paths_eq-refl (n ∷ ns) = rw (bytes_eq-refl n) (node_paths_eq-refl ns)
 
-ways_differ : (x y : Way) → (x ≢ y) → (t : Bool) → ways_eq y x ≡ t → ways_eq y x ≡ false
-ways_differ x y apart true e = absurd (apart (sym (ways_eq-same y x e)))
-ways_differ x y apart false e = e
+node_paths_differ : (x y : NodePath) → (x ≢ y) → (t : Bool) → node_paths_eq y x ≡ t → node_paths_eq y x ≡ false
+node_paths_differ x y apart true e = absurd (apart (sym (node_paths_eq-same y x e)))
+node_paths_differ x y apart false e = e
 
--- the place of a way among ways that differ
-pub place_after : (done later : List Way) (way : Way) → AllPairs (λ p q. p ≢ q) (done ++ way ∷ later) → position (ways_eq way) (done ++ way ∷ later) ≡ Some (length done)
-place_after done later way apart =
-    let all : List Way = done ++ way ∷ later in
-    let long : length all ≡ length done + length (way ∷ later) = length-append done (way ∷ later) in
-    let here : get_or all (length done) way ≡ way = get_or_at done way later way (length done) refl in
+-- the place of a path among paths that differ
+pub place_after : (done later : List NodePath) (node_path : NodePath) → AllPairs (λ p q. p ≢ q) (done ++ node_path ∷ later) → position (node_paths_eq node_path) (done ++ node_path ∷ later) ≡ Some (length done)
+place_after done later node_path apart =
+    let all : List NodePath = done ++ node_path ∷ later in
+    let long : length all ≡ length done + length (node_path ∷ later) = length-append done (node_path ∷ later) in
+    let here : get_or all (length done) node_path ≡ node_path = get_or_at done node_path later node_path (length done) refl in
     let within : length done < length all = omega (arith, long) in
-    let place : position_or_len (ways_eq way) all ≡ length done =
-    position_or_len_is (ways_eq way) all (length done) way (omega arith)
-    (λ k lt. ways_differ (get_or all k way) way (subst (λ (w : Way). get_or all k way ≢ w) here (apart k (length done) way lt within)) _ refl)
-    (λ lt. ap (ways_eq way) here ∙ ways_eq-refl way) in
+    let place : position_or_len (node_paths_eq node_path) all ≡ length done =
+    position_or_len_is (node_paths_eq node_path) all (length done) node_path (omega arith)
+    (λ k lt. node_paths_differ (get_or all k node_path) node_path (subst (λ (w : NodePath). get_or all k node_path ≢ w) here (apart k (length done) node_path lt within)) _ refl)
+    (λ lt. ap (node_paths_eq node_path) here ∙ node_paths_eq-refl node_path) in
     let inside : nat_lt (length done) (length all) ≡ true = grind (arith, nat_tests) in
     rw (place, inside) refl
 
@@ -64,55 +64,55 @@ or_else_assoc : {A : Type 0} (a b c : Option A) → or_else (or_else a b) c ≡ 
 or_else_assoc None b c = refl
 or_else_assoc (Some x) b c = refl
 
-pub last_device-push : (root : NodeData) (ws : List Way) (w : Way) → last_device root (ws ++ w ∷ []) ≡ or_else (if is_device root w then Some w else None) (last_device root ws)
+pub last_device-push : (root : NodeData) (ws : List NodePath) (w : NodePath) → last_device root (ws ++ w ∷ []) ≡ or_else (if is_device root w then Some w else None) (last_device root ws)
 last_device-push root [] w = sym (or_else_none (if is_device root w then Some w else None))
 last_device-push root (v ∷ vs) w =
-    ap (λ (o : Option Way). or_else o (if is_device root v then Some v else None)) (last_device-push root vs w)
+    ap (λ (o : Option NodePath). or_else o (if is_device root v then Some v else None)) (last_device-push root vs w)
     ∙ or_else_assoc (if is_device root w then Some w else None) (last_device root vs) (if is_device root v then Some v else None)
 
-module _ (root : NodeData) (way : Way) (n : List ℕ) (p : List Property) (met : ℕ) (above : Option ℕ) where
-  abbrev here : Way
-  here = way ++ n ∷ []
+module _ (root : NodeData) (node_path : NodePath) (n : List ℕ) (p : List Property) (met : ℕ) (above : Option ℕ) where
+  abbrev here : NodePath
+  here = node_path ++ n ∷ []
 
-  abbrev place : Way → Option ℕ
-  place d = position (ways_eq d) (device_ways root)
+  abbrev place : NodePath → Option ℕ
+  place d = position (node_paths_eq d) (device_nodes root)
 
-  here_or_above : (t : Bool) → is_compatible p ≡ t → is_device root here ≡ is_compatible p → (is_compatible p ≡ true → place here ≡ Some met) → above ≡ nearest_device root way
-      → device_here p met above ≡ option_and_then place (or_else (if is_device root here then Some here else None) (last_device root (ways_down way)))
+  here_or_above : (t : Bool) → is_compatible p ≡ t → is_device root here ≡ is_compatible p → (is_compatible p ≡ true → place here ≡ Some met) → above ≡ nearest_device root node_path
+      → device_here p met above ≡ option_and_then place (or_else (if is_device root here then Some here else None) (last_device root (node_paths_down node_path)))
   here_or_above true e is at_place up = rw (is, e) (sym (at_place e))
   here_or_above false e is at_place up = rw (is, e) up
 
-  pub nearest_below : is_device root here ≡ is_compatible p → (is_compatible p ≡ true → place here ≡ Some met) → above ≡ nearest_device root way → device_here p met above ≡ nearest_device root here
+  pub nearest_below : is_device root here ≡ is_compatible p → (is_compatible p ≡ true → place here ≡ Some met) → above ≡ nearest_device root node_path → device_here p met above ≡ nearest_device root here
   nearest_below is at_place up =
       here_or_above (is_compatible p) refl is at_place up
-      ∙ ap (λ (o : Option Way). option_and_then place o) (sym (last_device-push root (ways_down way) here))
-      ∙ ap (λ (ws : List Way). option_and_then place (last_device root ws)) (sym (ways_down-push way n))
+      ∙ ap (λ (o : Option NodePath). option_and_then place o) (sym (last_device-push root (node_paths_down node_path) here))
+      ∙ ap (λ (ws : List NodePath). option_and_then place (last_device root ws)) (sym (node_paths_down-push node_path n))
 
--- ---- what stands below a way
-pub record IsMet (root : NodeData) (way : Way) (f : Siblings) : Type 0 where
-  pub stands : (y : List ℕ) → is_among y (child_names f) ≡ true → node_at root (way ++ y ∷ []) ≡ child_named f y
-  pub free : (y : List ℕ) → is_among y (child_names f) ≡ true → is_reserved (way ++ y ∷ []) ≡ false
+-- ---- what stands below a path
+pub record IsMet (root : NodeData) (node_path : NodePath) (f : Siblings) : Type 0 where
+  pub stands : (y : List ℕ) → is_among y (child_names f) ≡ true → node_at root (node_path ++ y ∷ []) ≡ child_named f y
+  pub free : (y : List ℕ) → is_among y (child_names f) ≡ true → is_reserved (node_path ++ y ∷ []) ≡ false
 
-module _ (root : NodeData) (way : Way) (n : List ℕ) (p : List Property) (c rest : Siblings) (m : IsMet root way (more n p c rest)) where
+module _ (root : NodeData) (node_path : NodePath) (n : List ℕ) (p : List Property) (c rest : Siblings) (m : IsMet root node_path (more n p c rest)) where
   among_first : is_among n (n ∷ child_names rest) ≡ true
   among_first = rw (bytes_eq-refl n) refl
 
-  first_stands : node_at root (way ++ n ∷ []) ≡ Some (node_data n p c)
+  first_stands : node_at root (node_path ++ n ∷ []) ≡ Some (node_data n p c)
   first_stands = m.stands n among_first ∙ rw (bytes_eq-refl n) refl
 
-  pub own_properties_of : properties_of root (way ++ n ∷ []) ≡ p
+  pub own_properties_of : properties_of root (node_path ++ n ∷ []) ≡ p
   own_properties_of = ap (λ (o : Option NodeData). unwrap_or (option_map (λ (x : NodeData). x.properties) o) []) first_stands
 
-  pub own_device : is_device root (way ++ n ∷ []) ≡ is_compatible p
-  own_device = rw (not_root way n, m.free n among_first) (ap is_compatible own_properties_of)
+  pub own_device : is_device root (node_path ++ n ∷ []) ≡ is_compatible p
+  own_device = rw (not_root node_path n, m.free n among_first) (ap is_compatible own_properties_of)
 
-  pub met_below : IsMet root (way ++ n ∷ []) c
+  pub met_below : IsMet root (node_path ++ n ∷ []) c
   met_below = record {
-    stands = λ y e. node_at-append (way ++ n ∷ []) root y ∙ ap (λ (o : Option NodeData). option_and_then (λ (x : NodeData). child_named x.children y) o) first_stands;
-    free = λ y e. reserved_below way n (y ∷ []) ∙ m.free n among_first;
+    stands = λ y e. node_at-append (node_path ++ n ∷ []) root y ∙ ap (λ (o : Option NodeData). option_and_then (λ (x : NodeData). child_named x.children y) o) first_stands;
+    free = λ y e. reserved_below node_path n (y ∷ []) ∙ m.free n among_first;
   }
 
-  pub met_beside : is_among n (child_names rest) ≡ false → IsMet root way rest
+  pub met_beside : is_among n (child_names rest) ≡ false → IsMet root node_path rest
   met_beside alone = record {
     stands = λ y e. let other = among_apart n y (child_names rest) alone e _ refl in m.stands y (rw other e) ∙ rw other refl;
     free = λ y e. let other = among_apart n y (child_names rest) alone e _ refl in m.free y (rw other e);

@@ -16,9 +16,9 @@ use Rattle.bus_plan.specs.Limits.{most_devices}
 use Rattle.bus_plan.specs.Plan.{PlannedDevice, is_device_path, is_driver_name, is_compatible, paths, suppliers_of, IsLawfulDevice, IsLawful}
 use Rattle.bus_plan.specs.PlanPaths.{is_among}
 use Rattle.bus_drivers.specs.Driver.{DriverData, FailData, DriverSetData, driver_names, IsDriverSet}
-use Rattle.bus_drivers.specs.Nodes.{TreeDevice, Target, device_ways, tree_device, tree_devices, target_of}
+use Rattle.bus_drivers.specs.Nodes.{TreeDevice, Target, device_nodes, tree_device, tree_devices, target_of}
 use Rattle.bus_drivers.specs.References.{and_then, all_references}
-use Rattle.bus_drivers.specs.TreePlan.{compatible_strings, driver_listing, driver_matching, driver_for, verdict_for, fail_paths, unknown_fail, late_strings, suppliers_among, planned_device, planned_from, plan_of_devices, plan_of}
+use Rattle.bus_drivers.specs.TreePlan.{compatible_strings, driver_naming, driver_matching, driver_for, verdict_for, fail_paths, unknown_fail, late_strings, suppliers_among, planned_device, planned_from, plan_of_devices, plan_of}
 use Rattle.bus_drivers.proofs.DevicePaths.{device_paths, device_paths-apart, target_within}
 use Rattle.bus_drivers.proofs.Mentions.{AllIfOk, in_properties, suppliers_all, suppliers_apart, suppliers_others}
 
@@ -41,7 +41,7 @@ either_named (Some name) b h k = h
 matching_named : (drivers : List DriverData) → list_all is_driver_name (driver_names drivers) ≡ true → (strings : List (List ℕ)) → IsNamed (driver_matching drivers strings)
 matching_named drivers named [] = tt
 matching_named drivers named (string ∷ more) =
-    either_named (driver_listing drivers string) (driver_matching drivers more) (found_named (λ d. is_among string d.compatibles) drivers named) (matching_named drivers named more)
+    either_named (driver_naming drivers string) (driver_matching drivers more) (found_named (λ d. is_among string d.compatibles) drivers named) (matching_named drivers named more)
 
 driver_named : (drivers : List DriverData) → list_all is_driver_name (driver_names drivers) ≡ true → (d : TreeDevice) → IsNamed (driver_for drivers d)
 driver_named drivers named d = by_test d.available refl where
@@ -174,8 +174,8 @@ within_limit m n r plan e = by_test (nat_le m n) refl where
 pub plan_of-lawful : (t : TreeData) → IsTree t → (set : DriverSetData) → IsDriverSet set → (plan : List PlannedDevice) → plan_of t.root set ≡ Ok plan → IsLawful plan
 plan_of-lawful t is set named plan e =
     let root = t.root in
-    let limit = within_limit (length (device_ways root)) most_devices (plan_of_devices (target_of root) set (tree_devices root)) plan e in
-    let long = length-map (device_ways root) (tree_device root) in
+    let limit = within_limit (length (device_nodes root)) most_devices (plan_of_devices (target_of root) set (tree_devices root)) plan e in
+    let long = length-map (device_nodes root) (tree_device root) in
     let few : length (tree_devices root) ≤ most_devices = rw long limit.0 in
     lawful_plan root (inside root is.sound) set named few plan
     (without_fault (unknown_fail (tree_devices root) set.fails) (planned_from (target_of root) set 0 (tree_devices root)) plan limit.1)

@@ -1,9 +1,9 @@
+pub mod BuilderLemmas
 pub mod DevicePaths
-pub mod DraftLemmas
 pub mod Entries
+pub mod EntryPaths
 pub mod EntryPlaces
 pub mod EntryWalk
-pub mod EntryWays
 pub mod LateStrings
 pub mod Lawful
 pub mod MatchingLemmas

@@ -11,7 +11,7 @@ use Rattle.bus_plan.specs.Limits.{most_devices}
 use Rattle.bus_plan.specs.Plan.{PlannedDevice}
 use Rattle.bus_plan.specs.PlanPaths.{is_among}
 use Rattle.bus_drivers.specs.Driver.{FailData, DriverSetData}
-use Rattle.bus_drivers.specs.Nodes.{TreeDevice, Target, device_ways, tree_devices, target_of}
+use Rattle.bus_drivers.specs.Nodes.{TreeDevice, Target, device_nodes, tree_devices, target_of}
 use Rattle.bus_drivers.specs.References.{and_then, followed_by, all_references}
 use Rattle.bus_drivers.specs.TreePlan.{suppliers_among, planned_device, unknown_fail, planned_from, plan_of_devices, plan_of}
 use Rattle.bus_drivers.specs.Private.Matching.{unknown_among}
@@ -82,17 +82,17 @@ module _ (target : ℕ → Option Target) (set : DriverSetData) (devices : List 
   pub plan-known : unknown_fail devices set.fails ≡ None → plan_of_devices target set devices ≡ planned_from target set 0 devices
   plan-known none = rw none refl
 
-few-devices : (root : NodeData) (set : DriverSetData) → length (device_ways root) ≤ most_devices
+few-devices : (root : NodeData) (set : DriverSetData) → length (device_nodes root) ≤ most_devices
     → plan_of root set ≡ plan_of_devices (target_of root) set (tree_devices root)
-few-devices root set few = rw (le-leb (length (device_ways root)) most_devices few) refl
+few-devices root set few = rw (le-leb (length (device_nodes root)) most_devices few) refl
 
--- a survey of the tree serves
-surveyed : (root survey : NodeData) (set : DriverSetData) (r : Result (List PlannedDevice) PlanError) → survey ≡ root → length (device_ways root) ≤ most_devices
-    → plan_of_devices (target_of survey) set (tree_devices survey) ≡ r → plan_of root set ≡ r
-surveyed root survey set r is few h = few-devices root set few ∙ ap (λ s. plan_of_devices (target_of s) set (tree_devices s)) (sym is) ∙ h
+-- a phandle index of the tree serves
+indexed : (root phandle_index : NodeData) (set : DriverSetData) (r : Result (List PlannedDevice) PlanError) → phandle_index ≡ root → length (device_nodes root) ≤ most_devices
+    → plan_of_devices (target_of phandle_index) set (tree_devices phandle_index) ≡ r → plan_of root set ≡ r
+indexed root phandle_index set r is few h = few-devices root set few ∙ ap (λ s. plan_of_devices (target_of s) set (tree_devices s)) (sym is) ∙ h
 
-pub surveyed-all : {D : Type 0} (root survey : NodeData) (set : DriverSetData) (items : D → List PlannedDevice) (r : Result D PlanError) → survey ≡ root → length (device_ways root) ≤ most_devices
-    → MatchResult r (λ ds. plan_of_devices (target_of survey) set (tree_devices survey) ≡ Ok (items ds)) (λ e. (e ≡ NoMemory) ⊎ (plan_of_devices (target_of survey) set (tree_devices survey) ≡ Err e))
+pub indexed-all : {D : Type 0} (root phandle_index : NodeData) (set : DriverSetData) (items : D → List PlannedDevice) (r : Result D PlanError) → phandle_index ≡ root → length (device_nodes root) ≤ most_devices
+    → MatchResult r (λ ds. plan_of_devices (target_of phandle_index) set (tree_devices phandle_index) ≡ Ok (items ds)) (λ e. (e ≡ NoMemory) ⊎ (plan_of_devices (target_of phandle_index) set (tree_devices phandle_index) ≡ Err e))
     → MatchResult r (λ ds. plan_of root set ≡ Ok (items ds)) (λ e. (e ≡ NoMemory) ⊎ (plan_of root set ≡ Err e))
-surveyed-all root survey set items (Ok ds) is few h = surveyed root survey set (Ok (items ds)) is few h
-surveyed-all root survey set items (Err e) is few h = ⊎_elim (λ none. inl none) (λ fault. inr (surveyed root survey set (Err e) is few fault)) h
+indexed-all root phandle_index set items (Ok ds) is few h = indexed root phandle_index set (Ok (items ds)) is few h
+indexed-all root phandle_index set items (Err e) is few h = ⊎_elim (λ none. inl none) (λ fault. inr (indexed root phandle_index set (Err e) is few fault)) h

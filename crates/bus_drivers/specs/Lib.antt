@@ -1,8 +1,8 @@
 pub mod Driver
-pub mod Draft
 pub mod DriverFile
+pub mod DriverSetBuilder
 pub mod Nodes
-pub mod SupplierTable
-pub mod References
-pub mod TreePlan
 pub mod Private
+pub mod References
+pub mod SupplierTable
+pub mod TreePlan

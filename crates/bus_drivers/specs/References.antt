@@ -3,6 +3,7 @@
 use Rattle.std.specs.Prelude.{ℕ, ◌-◌, ◌%◌, Bool, ◌==◌, if◌then◌else◌, List, [], ◌∷◌, ◌++◌, length, Option, Some, None, option_and_then, Result, Ok, Err}
 use Rattle.std.specs.Option.{option_map_or, option_to_list}
 use Rattle.std.specs.Int.{from_be_bytes, w32}
+use Rattle.dt_tree.specs.Cell.{cell_in}
 use Rattle.dt_tree.specs.declared.property.Property.{Property}
 use Rattle.dt_tree.specs.PathMap.{value_of}
 use Rattle.bus_plan.specs.declared.error.PlanError.{PlanError}
@@ -21,10 +22,6 @@ abbrev pub followed_by : {A : Type 0} → Result (List A) PlanError → Result (
 followed_by first second = and_then first (λ xs. and_then second (λ ys. Ok (xs ++ ys)))
 
 -- ---- one reference
--- a value of four bytes as a number, the greatest byte first (section 2.2.4)
-abbrev pub cell_in : List ℕ → Option ℕ
-cell_in value = if length value == 4 then Some (from_be_bytes w32 value) else None
-
 -- how many cells stand behind a phandle that leads to this node
 abbrev pub cells_behind : Form → Target → Option ℕ
 cells_behind (counted name) node = option_and_then cell_in (value_of node.properties name)

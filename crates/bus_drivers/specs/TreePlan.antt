@@ -15,7 +15,7 @@ use Rattle.bus_plan.specs.Limits.{most_devices}
 use Rattle.bus_plan.specs.Plan.{PlannedDevice, is_compatible}
 use Rattle.bus_plan.specs.PlanPaths.{is_among}
 use Rattle.bus_drivers.specs.Driver.{DriverData, FailData, DriverSetData}
-use Rattle.bus_drivers.specs.Nodes.{TreeDevice, Target, device_ways, tree_devices, target_of}
+use Rattle.bus_drivers.specs.Nodes.{TreeDevice, Target, device_nodes, tree_devices, target_of}
 use Rattle.bus_drivers.specs.References.{and_then, all_references}
 
 -- ---- drivers
@@ -36,13 +36,13 @@ abbrev pub compatible_strings : TreeDevice → List (List ℕ)
 compatible_strings d = strings (unwrap_or (value_of d.properties (codes "compatible")) [])
 
 -- the first driver in the file that lists a string
-abbrev pub driver_listing : List DriverData → List ℕ → Option (List ℕ)
-driver_listing drivers string = option_map (λ d. d.name) (find (λ d. is_among string d.compatibles) drivers)
+abbrev pub driver_naming : List DriverData → List ℕ → Option (List ℕ)
+driver_naming drivers string = option_map (λ d. d.name) (find (λ d. is_among string d.compatibles) drivers)
 
 -- the driver for the earliest of these strings that one lists
 abbrev pub driver_matching : List DriverData → List (List ℕ) → Option (List ℕ)
 driver_matching drivers [] = None
-driver_matching drivers (string ∷ more) = or_else (driver_listing drivers string) (driver_matching drivers more)
+driver_matching drivers (string ∷ more) = or_else (driver_naming drivers string) (driver_matching drivers more)
 
 -- a device that isn't available gets none
 abbrev pub driver_for : List DriverData → TreeDevice → Option (List ℕ)
@@ -105,5 +105,5 @@ plan_of_devices target set devices =
 -- the plan of a tree, by its root, or the first refusal: too many devices before all else
 abbrev pub plan_of : NodeData → DriverSetData → Result (List PlannedDevice) PlanError
 plan_of root set =
-    if nat_le (length (device_ways root)) most_devices then plan_of_devices (target_of root) set (tree_devices root)
+    if nat_le (length (device_nodes root)) most_devices then plan_of_devices (target_of root) set (tree_devices root)
     else Err TooManyDevices

@@ -2,14 +2,15 @@
 #![tactic(auto)]
 
 mod cycles;
-mod draft;
 mod driver;
 mod driver_set;
+mod driver_set_builder;
 mod fail_line;
 mod graph;
 mod late_strings;
 mod matching;
 mod path_sets;
+mod phandle_index;
 mod planning;
 mod reading;
 mod reference;
@@ -18,7 +19,6 @@ mod status;
 mod strings;
 mod supplier_table;
 mod suppliers;
-mod survey;
 mod target;
 mod tree_device;
 mod walk;

@@ -2,7 +2,7 @@ ghost use Rattle.std.specs.Prelude.{◌≡◌, ◌⊎◌, ◌<◌, ◌∷◌, []
 ghost use Rattle.std.specs.Option.{option_copied, option_map};
 ghost use Rattle.dt_tree.specs.Phandle.{or_else};
 ghost use Rattle.bus_plan.specs.declared.error.PlanError.TheVariants.{NoMemory, UnknownPath};
-ghost use Rattle.bus_drivers.specs.TreePlan.{driver_listing, driver_matching, driver_for, is_zero, strings, verdict_for, planned_device, unknown_fail};
+ghost use Rattle.bus_drivers.specs.TreePlan.{driver_naming, driver_matching, driver_for, is_zero, strings, verdict_for, planned_device, unknown_fail};
 ghost use Rattle.bus_drivers.specs.Private.Matching.{IsMatcher, driver_found, found_with, unknown_among};
 
 use crate::driver::Driver;
@@ -13,7 +13,7 @@ use crate::path_sets::{add_devices, add_fails};
 use crate::strings::next_string;
 use crate::tree_device::TreeDevice;
 use bus_plan::{Device, PathIndex, PlanError, Planned, Verdict};
-use dt_tree::{Name, Path};
+use dt_tree::{Name, Path, copy_name};
 use indexmap::IndexMap;
 use std::alloc::{AllocError, Global};
 use std::hash::RandomState;
@@ -61,7 +61,7 @@ fn add_driver<'d>(found: &mut Found<'d>, driver: &'d Driver) -> Result<(), Alloc
 }
 
 fn add_drivers<'d>(found: &mut Found<'d>, drivers: &'d [Driver]) -> Result<(), AllocError>
-    ensures { OnOk result ((q : List ℕ) → driver_found found.new.entries q ≡ or_else (driver_found found.old.entries q) (driver_listing drivers.now q)) }
+    ensures { OnOk result ((q : List ℕ) → driver_found found.new.entries q ≡ or_else (driver_found found.old.entries q) (driver_naming drivers.now q)) }
 {
     for driver in drivers {
         add_driver(found, driver)?;
@@ -97,15 +97,6 @@ fn verdict_of(driver: &Option<Name>, fails: bool) -> Verdict
                 Verdict::Binds
             }
         }
-    }
-}
-
-fn copy_of(alloc: Global, name: Option<&Name>) -> Result<Option<Name>, AllocError>
-    ensures { IfOk result (λ copy. copy ≡ option_copied name.entry) }
-{
-    match name {
-        None => Ok(None),
-        Some(name) => Ok(Some(name.copy(alloc)?)),
     }
 }
 
@@ -147,8 +138,8 @@ impl<'d> Matcher<'d> {
     }
 
     // The first driver that lists a string.
-    fn listing(&self, string: &[u8]) -> Option<&'d Name>
-        ensures { option_copied result ≡ driver_listing self.now.drivers string.now }
+    fn naming(&self, string: &[u8]) -> Option<&'d Name>
+        ensures { option_copied result ≡ driver_naming self.now.drivers string.now }
     {
         match self.first.get(string) {
             None => None,
@@ -163,7 +154,7 @@ impl<'d> Matcher<'d> {
         let mut rest = compatible;
         while let Some((string, behind)) = next_string(rest) {
             rest = behind;
-            if let Some(name) = self.listing(string) {
+            if let Some(name) = self.naming(string) {
                 return Some(name);
             }
         }
@@ -191,7 +182,7 @@ impl<'d> Matcher<'d> {
         ensures { IfOk result (λ matched. (matched.0 ≡ device.now.path) × (matched.1 ≡ driver_for self.now.drivers device.now)) }
     {
         let path = device.path().copy(alloc)?;
-        let driver = copy_of(alloc, self.driver_for(device))?;
+        let driver = copy_name(alloc, self.driver_for(device))?;
         Ok((path, driver))
     }
 

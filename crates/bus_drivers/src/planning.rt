@@ -7,8 +7,8 @@ ghost use Rattle.bus_drivers.specs.Private.Planning.{planned_at};
 
 use crate::driver_set::DriverSet;
 use crate::matching::Matcher;
+use crate::phandle_index::PhandleIndex;
 use crate::suppliers::suppliers_of;
-use crate::survey::Survey;
 use crate::tree_device::TreeDevice;
 use bus_plan::{Device, Plan, PlanError, Planned};
 use dt_tree::Tree;
@@ -18,30 +18,37 @@ use std::hash::RandomState;
 fn planned_device(
     alloc: Global,
     hasher: RandomState,
-    survey: &Survey<'_>,
+    phandle_index: &PhandleIndex<'_>,
     matcher: &Matcher<'_>,
     place: Device,
     device: &TreeDevice<'_>,
 ) -> Result<Planned, PlanError>
-    ensures { Answers (planned_at (target_of survey.now) matcher.now place device.now) result }
+    ensures { Answers (planned_at (target_of phandle_index.now) matcher.now place device.now) result }
 {
     let properties = device.node().properties();
-    let suppliers = suppliers_of(alloc, hasher, survey, place, properties)?;
+    let suppliers = suppliers_of(alloc, hasher, phandle_index, place, properties)?;
     Ok(matcher.planned(alloc, device, suppliers)?)
 }
 
 fn planned_devices(
     alloc: Global,
     hasher: RandomState,
-    survey: &Survey<'_>,
+    phandle_index: &PhandleIndex<'_>,
     matcher: &Matcher<'_>,
 ) -> Result<Vec<Planned>, PlanError>
-    ensures { let planned = planned_from (target_of survey.now) matcher.now 0 (tree_devices survey.now) in
+    ensures { let planned = planned_from (target_of phandle_index.now) matcher.now 0 (tree_devices phandle_index.now) in
         MatchResult result (λ devices. planned ≡ Ok devices.items) (λ e. (e ≡ NoMemory) ⊎ (planned ≡ Err e)) }
 {
-    let mut planned = Vec::with_capacity(alloc, survey.devices().len())?;
-    for (place, device) in survey.devices().iter().enumerate() {
-        let device = planned_device(alloc, hasher, survey, matcher, Device::new(place), device)?;
+    let mut planned = Vec::with_capacity(alloc, phandle_index.devices().len())?;
+    for (place, device) in phandle_index.devices().iter().enumerate() {
+        let device = planned_device(
+            alloc,
+            hasher,
+            phandle_index,
+            matcher,
+            Device::new(place),
+            device,
+        )?;
         planned.push(device)?;
     }
     Ok(planned)
@@ -51,27 +58,27 @@ fn planned_devices(
 fn matched_devices(
     alloc: Global,
     hasher: RandomState,
-    survey: &Survey<'_>,
+    phandle_index: &PhandleIndex<'_>,
     matcher: &Matcher<'_>,
 ) -> Result<Vec<Planned>, PlanError>
-    ensures { let planned = plan_of_devices (target_of survey.now) matcher.now (tree_devices survey.now) in
+    ensures { let planned = plan_of_devices (target_of phandle_index.now) matcher.now (tree_devices phandle_index.now) in
         MatchResult result (λ devices. planned ≡ Ok devices.items) (λ e. (e ≡ NoMemory) ⊎ (planned ≡ Err e)) }
 {
-    matcher.check_fails(alloc, hasher, survey.devices())?;
-    planned_devices(alloc, hasher, survey, matcher)
+    matcher.check_fails(alloc, hasher, phandle_index.devices())?;
+    planned_devices(alloc, hasher, phandle_index, matcher)
 }
 
 fn plan_devices(
     alloc: Global,
     hasher: RandomState,
-    survey: &Survey<'_>,
+    phandle_index: &PhandleIndex<'_>,
     drivers: &DriverSet,
 ) -> Result<Vec<Planned>, PlanError>
-    ensures { let planned = plan_of_devices (target_of survey.now) drivers.now (tree_devices survey.now) in
+    ensures { let planned = plan_of_devices (target_of phandle_index.now) drivers.now (tree_devices phandle_index.now) in
         MatchResult result (λ devices. planned ≡ Ok devices.items) (λ e. (e ≡ NoMemory) ⊎ (planned ≡ Err e)) }
 {
     let matcher = Matcher::of(alloc, hasher, drivers)?;
-    matched_devices(alloc, hasher, survey, &matcher)
+    matched_devices(alloc, hasher, phandle_index, &matcher)
 }
 
 // The devices of the plan of a tree.
@@ -84,8 +91,8 @@ fn devices_of(
     ensures { let plan = plan_of tree.now.root drivers.now in
         MatchResult result (λ devices. plan ≡ Ok devices.items) (λ e. (e ≡ NoMemory) ⊎ (plan ≡ Err e)) }
 {
-    let survey = Survey::of(alloc, hasher, tree)?;
-    plan_devices(alloc, hasher, &survey, drivers)
+    let phandle_index = PhandleIndex::of(alloc, hasher, tree)?;
+    plan_devices(alloc, hasher, &phandle_index, drivers)
 }
 
 /// The plan of a tree: its devices with their drivers and suppliers, or the first refusal.

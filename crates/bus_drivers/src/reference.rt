@@ -1,29 +1,19 @@
 ghost use Rattle.std.specs.Prelude.{◌≡◌};
 ghost use Rattle.bus_drivers.specs.Nodes.{target_of};
-ghost use Rattle.bus_drivers.specs.References.{cell_in, cells_behind, reference_of};
+ghost use Rattle.bus_drivers.specs.References.{cells_behind, reference_of};
 ghost use Rattle.bus_drivers.specs.Private.TableRows.{form_data};
 
+use crate::phandle_index::PhandleIndex;
 use crate::supplier_table::Form;
-use crate::survey::Survey;
 use crate::target::Target;
 use bus_plan::{Device, PlanError};
+use dt_tree::cell_in;
 
 /// A reference: the device that it refers to, and how many cells stand behind its phandle.
 #[derive(Clone, Copy, Debug)]
 pub struct Reference {
     pub device: Option<Device>,
     pub cells: u32,
-}
-
-fn cell_in(value: &[u8]) -> Option<u32>
-    ensures { result ≡ cell_in value.now }
-{
-    if value.len() != 4 {
-        return None;
-    }
-    let mut cell = [0; 4];
-    cell.copy_from_slice(value);
-    Some(u32::from_be_bytes(cell))
 }
 
 fn cells_behind(form: Form, target: &Target<'_>) -> Option<u32>
@@ -40,8 +30,8 @@ fn cells_behind(form: Form, target: &Target<'_>) -> Option<u32>
 
 impl Reference {
     /// The reference that begins with this phandle; 0 is one that is left empty.
-    pub fn of(survey: &Survey<'_>, form: Form, phandle: u32) -> Result<Self, PlanError>
-        ensures { result ≡ reference_of (target_of survey.now) (form_data form) phandle }
+    pub fn of(phandle_index: &PhandleIndex<'_>, form: Form, phandle: u32) -> Result<Self, PlanError>
+        ensures { result ≡ reference_of (target_of phandle_index.now) (form_data form) phandle }
     {
         if phandle == 0 {
             return Ok(Self {
@@ -49,7 +39,7 @@ impl Reference {
                 cells: 0,
             });
         }
-        let Some(target) = survey.target(phandle) else {
+        let Some(target) = phandle_index.target(phandle) else {
             return Err(PlanError::DanglingPhandle);
         };
         let Some(cells) = cells_behind(form, &target) else {

@@ -6,9 +6,9 @@ ghost use Rattle.bus_drivers.specs.TreePlan.{suppliers_among};
 ghost use Rattle.bus_drivers.specs.Private.Suppliers.{with_mention, IsAdded};
 ghost use Rattle.bus_drivers.specs.Private.TableRows.{form_data};
 
+use crate::phandle_index::PhandleIndex;
 use crate::reference::Reference;
 use crate::supplier_table::Form;
-use crate::survey::Survey;
 use bus_plan::{Device, PlanError};
 use dt_tree::{Node, Property};
 use indexmap::IndexSet;
@@ -63,8 +63,13 @@ impl Suppliers {
     }
 
     /// Adds what a value refers to.
-    fn add_value(&mut self, survey: &Survey<'_>, form: Form, value: &[u8]) -> Result<(), PlanError>
-        ensures { IsAdded (references (target_of survey.now) (form_data form) value.now) self.old result self.new }
+    fn add_value(
+        &mut self,
+        phandle_index: &PhandleIndex<'_>,
+        form: Form,
+        value: &[u8],
+    ) -> Result<(), PlanError>
+        ensures { IsAdded (references (target_of phandle_index.now) (form_data form) value.now) self.old result self.new }
     {
         if !form.is_length(value.len()) {
             return Err(PlanError::BadSpecifier);
@@ -77,7 +82,7 @@ impl Suppliers {
                 left -= 1;
                 continue;
             }
-            let reference = Reference::of(survey, form, cell)?;
+            let reference = Reference::of(phandle_index, form, cell)?;
             if let Some(device) = reference.device {
                 self.add(device)?;
             }
@@ -90,24 +95,28 @@ impl Suppliers {
     }
 
     /// Adds what a property refers to: nothing, where the table doesn't have it.
-    fn add_property(&mut self, survey: &Survey<'_>, property: &Property) -> Result<(), PlanError>
-        ensures { IsAdded (property_references (target_of survey.now) property.now) self.old result self.new }
+    fn add_property(
+        &mut self,
+        phandle_index: &PhandleIndex<'_>,
+        property: &Property,
+    ) -> Result<(), PlanError>
+        ensures { IsAdded (property_references (target_of phandle_index.now) property.now) self.old result self.new }
     {
         match Form::of(property.name.as_bytes()) {
             None => Ok(()),
-            Some(form) => self.add_value(survey, form, property.value.as_slice()),
+            Some(form) => self.add_value(phandle_index, form, property.value.as_slice()),
         }
     }
 
     fn add_properties(
         &mut self,
-        survey: &Survey<'_>,
+        phandle_index: &PhandleIndex<'_>,
         properties: &[Property],
     ) -> Result<(), PlanError>
-        ensures { IsAdded (all_references (target_of survey.now) properties.now) self.old result self.new }
+        ensures { IsAdded (all_references (target_of phandle_index.now) properties.now) self.old result self.new }
     {
         for property in properties {
-            self.add_property(survey, property)?;
+            self.add_property(phandle_index, property)?;
         }
         Ok(())
     }
@@ -126,17 +135,17 @@ impl Suppliers {
 // Adds what these properties refer to, and gives the devices, where none was added before.
 fn all_of(
     alloc: Global,
-    survey: &Survey<'_>,
+    phandle_index: &PhandleIndex<'_>,
     suppliers: &mut Suppliers,
     properties: &[Property],
 ) -> Result<Vec<Device>, PlanError>
     requires { suppliers.old.found ≡ [] }
-    ensures { let mentioned = all_references (target_of survey.now) properties.now in
+    ensures { let mentioned = all_references (target_of phandle_index.now) properties.now in
         MatchResult result
         (λ devices. and_then mentioned (λ ds. Ok (suppliers_among suppliers.old.own ds)) ≡ Ok devices.items)
         (λ e. (e ≡ NoMemory) ⊎ (and_then mentioned (λ ds. Ok (suppliers_among suppliers.old.own ds)) ≡ Err e)) }
 {
-    suppliers.add_properties(survey, properties)?;
+    suppliers.add_properties(phandle_index, properties)?;
     Ok(suppliers.devices(alloc)?)
 }
 
@@ -144,15 +153,15 @@ fn all_of(
 pub fn suppliers_of(
     alloc: Global,
     hasher: RandomState,
-    survey: &Survey<'_>,
+    phandle_index: &PhandleIndex<'_>,
     own: Device,
     properties: &[Property],
 ) -> Result<Vec<Device>, PlanError>
-    ensures { let mentioned = all_references (target_of survey.now) properties.now in
+    ensures { let mentioned = all_references (target_of phandle_index.now) properties.now in
         MatchResult result
         (λ suppliers. and_then mentioned (λ ds. Ok (suppliers_among own ds)) ≡ Ok suppliers.items)
         (λ e. (e ≡ NoMemory) ⊎ (and_then mentioned (λ ds. Ok (suppliers_among own ds)) ≡ Err e)) }
 {
     let mut suppliers = Suppliers::new(alloc, hasher, own);
-    all_of(alloc, survey, &mut suppliers, properties)
+    all_of(alloc, phandle_index, &mut suppliers, properties)
 }

@@ -35,26 +35,26 @@ impl Above {
     }
 }
 
-/// A walk: the way to where it is, each name behind a slash, the devices so far, and the first node with each phandle.
+/// A walk: the path of where it is, each name behind a slash, the devices so far, and the first node with each phandle.
 #[derive(Drop)]
 pub struct Walk<'t> {
-    way: Vec<u8>,
+    node_path: Vec<u8>,
     pub devices: Vec<TreeDevice<'t>>,
     pub targets: IndexMap<u32, Target<'t>, RandomState>,
 }
 
-fn lengthen(way: &mut Vec<u8>, name: &[u8]) -> Result<(), AllocError>
-    ensures { OnOk result (way.new.items ≡ way.old.items ++ 47 ∷ name.now) }
+fn lengthen(node_path: &mut Vec<u8>, name: &[u8]) -> Result<(), AllocError>
+    ensures { OnOk result (node_path.new.items ≡ node_path.old.items ++ 47 ∷ name.now) }
 {
-    way.push(b'/')?;
-    way.extend_from_slice(name)
+    node_path.push(b'/')?;
+    node_path.extend_from_slice(name)
 }
 
-// The text of a way is a path, so that only memory can be missing.
-fn path_of(alloc: Global, way: &[u8]) -> Result<Path, PlanError>
-    ensures { MatchResult result (λ path. path ≡ way.now) (λ e. e ≡ NoMemory) }
+// The text of names behind slashes is a path, so that only memory can be missing.
+fn path_of(alloc: Global, node_path: &[u8]) -> Result<Path, PlanError>
+    ensures { MatchResult result (λ path. path ≡ node_path.now) (λ e. e ≡ NoMemory) }
 {
-    let Ok(path) = Path::parse(alloc, way) else {
+    let Ok(path) = Path::parse(alloc, node_path) else {
         return Err(PlanError::NoMemory);
     };
     Ok(path)
@@ -70,21 +70,21 @@ fn has_room(count: usize) -> bool
 fn keep_device<'t>(
     alloc: Global,
     devices: &mut Vec<TreeDevice<'t>>,
-    way: &[u8],
+    node_path: &[u8],
     available: bool,
     node: &'t Node,
 ) -> Result<usize, PlanError>
     requires { length devices.old.items ≤ most_devices }
     ensures place { IfOk result (λ place. place ≡ length devices.old.items) }
-    ensures devices { OnOk result (devices.new.items ≡ devices.old.items ++ record { path = way.now; available = available; properties = node.now.properties } ∷ []) }
+    ensures devices { OnOk result (devices.new.items ≡ devices.old.items ++ record { path = node_path.now; available = available; properties = node.now.properties } ∷ []) }
     ensures few { OnOk result (length devices.new.items ≤ most_devices) }
-    ensures err { IfErr result (Refuses (devices.old.items ++ record { path = way.now; available = available; properties = node.now.properties } ∷ [])) }
+    ensures err { IfErr result (Refuses (devices.old.items ++ record { path = node_path.now; available = available; properties = node.now.properties } ∷ [])) }
 {
     if !has_room(devices.len()) {
         return Err(PlanError::TooManyDevices);
     }
     let place = devices.len();
-    devices.push(TreeDevice::new(path_of(alloc, way)?, available, node))?;
+    devices.push(TreeDevice::new(path_of(alloc, node_path)?, available, node))?;
     Ok(place)
 }
 
@@ -108,18 +108,18 @@ fn keep_target<'t>(
 
 impl<'t> Walk<'t> {
     fn new(alloc: Global, hasher: RandomState) -> Self
-        ensures way { result.way.items ≡ [] }
+        ensures node_path { result.node_path.items ≡ [] }
         ensures devices { result.devices.items ≡ [] }
         ensures targets { (phandle : ℕ) → get nat_eq result.targets phandle ≡ None }
     {
         Self {
-            way: Vec::new(alloc),
+            node_path: Vec::new(alloc),
             devices: Vec::new(alloc),
             targets: IndexMap::with_hasher(alloc, hasher),
         }
     }
 
-    // The device that the node at the end of the way belongs to, which is kept where it is the node itself.
+    // The device that the node at the path belongs to, which is kept where it is the node itself.
     fn device_of(
         &mut self,
         alloc: Global,
@@ -129,11 +129,11 @@ impl<'t> Walk<'t> {
     ) -> Result<Option<usize>, PlanError>
         requires { length self.old.devices.items ≤ most_devices }
         ensures device { IfOk result (λ device. device ≡ device_here node.now.properties (length self.old.devices.items) above.now.device) }
-        ensures devices { OnOk result (self.new.devices.items ≡ self.old.devices.items ++ own_device self.old.way.items available node.now.properties) }
+        ensures devices { OnOk result (self.new.devices.items ≡ self.old.devices.items ++ own_device self.old.node_path.items available node.now.properties) }
         ensures few { OnOk result (length self.new.devices.items ≤ most_devices) }
-        ensures way { OnOk result (self.new.way ≡ self.old.way) }
+        ensures node_path { OnOk result (self.new.node_path ≡ self.old.node_path) }
         ensures targets { OnOk result (self.new.targets ≡ self.old.targets) }
-        ensures err { IfErr result (Refuses (self.old.devices.items ++ own_device self.old.way.items available node.now.properties)) }
+        ensures err { IfErr result (Refuses (self.old.devices.items ++ own_device self.old.node_path.items available node.now.properties)) }
     {
         if !is_compatible(node) {
             return Ok(above.device);
@@ -141,23 +141,23 @@ impl<'t> Walk<'t> {
         let device = keep_device(
             alloc,
             &mut self.devices,
-            self.way.as_slice(),
+            self.node_path.as_slice(),
             available,
             node,
         )?;
         Ok(Some(device))
     }
 
-    // Keeps the node at the end of the way, and tells what is above the nodes below it.
+    // Keeps the node at the path, and tells what is above the nodes below it.
     fn meet(&mut self, alloc: Global, node: &'t Node, above: &Above) -> Result<Above, PlanError>
         requires { length self.old.devices.items ≤ most_devices }
         ensures available { IfOk result (λ here. here.available ≡ (above.now.available && is_okay node.now.properties)) }
         ensures device { IfOk result (λ here. here.device ≡ device_here node.now.properties (length self.old.devices.items) above.now.device) }
-        ensures devices { OnOk result (self.new.devices.items ≡ self.old.devices.items ++ own_device self.old.way.items (above.now.available && is_okay node.now.properties) node.now.properties) }
+        ensures devices { OnOk result (self.new.devices.items ≡ self.old.devices.items ++ own_device self.old.node_path.items (above.now.available && is_okay node.now.properties) node.now.properties) }
         ensures few { OnOk result (length self.new.devices.items ≤ most_devices) }
-        ensures way { OnOk result (self.new.way ≡ self.old.way) }
+        ensures node_path { OnOk result (self.new.node_path ≡ self.old.node_path) }
         ensures targets { OnOk result ((phandle : ℕ) → get nat_eq self.new.targets phandle ≡ or_else (get nat_eq self.old.targets phandle) (own_target node.now.properties (device_here node.now.properties (length self.old.devices.items) above.now.device) phandle)) }
-        ensures err { IfErr result (Refuses (self.old.devices.items ++ own_device self.old.way.items (above.now.available && is_okay node.now.properties) node.now.properties)) }
+        ensures err { IfErr result (Refuses (self.old.devices.items ++ own_device self.old.node_path.items (above.now.available && is_okay node.now.properties) node.now.properties)) }
     {
         let available = above.available && is_okay(node);
         let device = self.device_of(alloc, node, available, above)?;
@@ -166,28 +166,28 @@ impl<'t> Walk<'t> {
         Ok(here)
     }
 
-    // Keeps a node and all below it. The way is longer meanwhile.
+    // Keeps a node and all below it. The path is longer meanwhile.
     fn visit(&mut self, alloc: Global, node: &'t Node, above: &Above) -> Result<(), PlanError>
         requires { length self.old.devices.items ≤ most_devices }
-        ensures devices { OnOk result (self.new.devices.items ≡ self.old.devices.items ++ devices_at self.old.way.items above.now.available node.now) }
+        ensures devices { OnOk result (self.new.devices.items ≡ self.old.devices.items ++ devices_at self.old.node_path.items above.now.available node.now) }
         ensures few { OnOk result (length self.new.devices.items ≤ most_devices) }
-        ensures way { OnOk result (self.new.way.items ≡ self.old.way.items) }
+        ensures node_path { OnOk result (self.new.node_path.items ≡ self.old.node_path.items) }
         ensures targets { OnOk result ((phandle : ℕ) → get nat_eq self.new.targets phandle ≡ or_else (get nat_eq self.old.targets phandle) (target_at above.now.device (length self.old.devices.items) node.now phandle)) }
-        ensures err { IfErr result (Refuses (self.old.devices.items ++ devices_at self.old.way.items above.now.available node.now)) }
+        ensures err { IfErr result (Refuses (self.old.devices.items ++ devices_at self.old.node_path.items above.now.available node.now)) }
     {
-        let len = self.way.len();
-        lengthen(&mut self.way, node.name_bytes())?;
+        let len = self.node_path.len();
+        lengthen(&mut self.node_path, node.name_bytes())?;
         let here = self.meet(alloc, node, above)?;
         for child in node.children() {
             self.visit(alloc, child, &here)?;
         }
-        self.way.truncate(len);
+        self.node_path.truncate(len);
         Ok(())
     }
 
     // Keeps the nodes of a tree, but for the reserved ones.
     fn keep_tree(&mut self, alloc: Global, root: &'t Node) -> Result<(), PlanError>
-        requires way { self.old.way.items ≡ [] }
+        requires node_path { self.old.node_path.items ≡ [] }
         requires devices { self.old.devices.items ≡ [] }
         requires targets { (phandle : ℕ) → get nat_eq self.old.targets phandle ≡ None }
         ensures devices { OnOk result (self.new.devices.items ≡ devices_in_tree root.now) }

@@ -33,7 +33,7 @@ report-allowed plan s d (Missing supplier) flight matched lawful =
 abbrev flight_begun : CoreState → Flight
 flight_begun s = record { attempt = s.begins + 1; settled = length s.history }
 
-by-state : (plan : List PlannedDevice) (s : CoreState) (ticket : Ticket) (seen : List Bool) (report : Report)
+by-state : (plan : List PlannedDevice) (s : CoreState) (ticket : Ticket) (seen : List ℕ) (report : Report)
     → length s.flights ≡ length plan → is_due plan s ticket.device ≡ true → ticket.attempt ≡ s.begins + 1 → ((d : ℕ) → sees seen d ≡ bound_in s.history d)
     → IsLawfulReport plan (sees seen) ticket.device report → finish_refusal plan (begin_state s ticket.device) ticket report ≡ None
 by-state plan s ticket seen report long due attempt seen-is lawful =
@@ -46,7 +46,7 @@ by-state plan s ticket seen report long due attempt seen-is lawful =
     in ap (λ b. cond (not b) (Some StaleTicket) (report_refusal plan (begin_state s d) d report)) tried
     ∙ report-allowed plan s d report flight matched (coe 0 1 (i. P (fun_ext seen-is i)) lawful)
 
-pub lawful-accepted : (old new : KeeperValue) (ticket : Ticket) (seen : List Bool) (report : Report)
+pub lawful-accepted : (old new : KeeperValue) (ticket : Ticket) (seen : List ℕ) (report : Report)
     → length old.state.flights ≡ length old.plan → IsTaken old new ticket seen → IsLawfulReport old.plan (sees seen) ticket.device report
     → finish_refusal new.plan new.state ticket report ≡ None
 lawful-accepted old new ticket seen report long taken lawful =

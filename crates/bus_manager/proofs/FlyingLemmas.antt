@@ -3,7 +3,6 @@ use Rattle.std.proofs.Common.{◌≡◌, ◌≢◌, inl, inr, ℕ, suc, ◌+◌,
 use Rattle.std.specs.Prelude.{slice_get, ◌⊎◌}
 use Rattle.std.specs.List.{list_all, list_any}
 use Rattle.std.proofs.lemmas.Bool.{cases_eq, cases_lt}
-use Rattle.std.proofs.lemmas.List.{get_or-set_same, get_or-set_other}
 use Rattle.std.proofs.lemmas.Option.{slice_get_within}
 use Rattle.bus_plan.specs.Plan.{PlannedDevice, suppliers_of}
 use Rattle.bus_core.specs.Step.{is_supplier}
@@ -17,6 +16,7 @@ use Rattle.bus_board.specs.declared.view.View.{View}
 use Rattle.bus_board.specs.declared.view.Flight.{Flight}
 use Rattle.bus_board.proofs.Histories.{has_all}
 use Rattle.bus_manager.specs.Private.Flying.{HasLooked, HasTaken, IsFree}
+use Rattle.bus_manager.specs.Private.Seen.{IsPut}
 use Rattle.bus_manager.specs.Seen.{sees}
 
 flight-same : (v : View) (f g : Flight) → v.flight ≡ Some f → v.flight ≡ Some g → f ≡ g
@@ -30,24 +30,24 @@ not-flying v f flying none =
     in cc
 
 -- before the first look nothing is said of the suppliers
-pub none-looked : (v : View) (d : ℕ) (one other : List Bool) (xs ys : List ℕ) → HasLooked v d one xs 0 → HasLooked v d other ys 0
+pub none-looked : (v : View) (d : ℕ) (one other : List ℕ) (xs ys : List ℕ) → HasLooked v d one xs 0 → HasLooked v d other ys 0
 none-looked v d one other xs ys h = record { flight = h.flight; open_was = h.open_was; device = h.device; saw = λ i s lt there. absurd (omega (arith, lt)) }
 
 -- one look more
-pub look-more : (v w : View) (d s n : ℕ) (b : Bool) (seen new : List Bool) (xs : List ℕ)
-    → HasLooked v d seen xs n → LookedAt v w s b → slice_get xs n ≡ Some s → s < length seen → new ≡ set seen s b → HasLooked w d new xs (n + 1)
-look-more v w d s n b seen new xs h l here within is = record {
+pub look-more : (v w : View) (d s n : ℕ) (b : Bool) (seen new : List ℕ) (xs : List ℕ)
+    → HasLooked v d seen xs n → LookedAt v w s b → slice_get xs n ≡ Some s → IsPut seen new s b → HasLooked w d new xs (n + 1)
+look-more v w d s n b seen new xs h l here put = record {
   flight = record { device = h.flight.device; at = h.flight.at; again = h.flight.again; looks = (s, b) ∷ h.flight.looks };
   open_was = ap (λ (x : View). x.flight) l.view ∙ ap (λ (o : Option Flight). looked_in o s b) h.open_was;
   device = h.device;
   saw = λ i t lt there. elim (cases_eq s t) [
     | inl same ↦
         ap (λ (x : Bool). cond x (Some b) (last_look h.flight.looks t)) (eq-eqb s t same)
-        ∙ ap (λ (x : Bool). Some x) (sym (ap (λ (k : List Bool). get_or k t false) is ∙ ap (λ (k : ℕ). get_or (set seen s b) k false) (sym same) ∙ get_or-set_same seen s b false within))
+        ∙ ap (λ (x : Bool). Some x) (sym (ap (sees new) (sym same) ∙ put.here))
     | inr other ↦
         ap (λ (x : Bool). cond x (Some b) (last_look h.flight.looks t)) (ne_eqb s t other)
         ∙ before i t lt there other
-        ∙ ap (λ (x : Bool). Some x) (sym (ap (λ (k : List Bool). get_or k t false) is ∙ get_or-set_other seen s t b false (λ q. other (sym q))))
+        ∙ ap (λ (x : Bool). Some x) (sym (put.others t (λ q. other (sym q))))
   ];
 }
   where
@@ -61,7 +61,7 @@ look-more v w d s n b seen new xs h l here within is = record {
           in absurd (other same)
     ]
 
-last-found : (v : View) (d : ℕ) (seen : List Bool) (xs : List ℕ) (h : HasLooked v d seen xs (length xs)) (s : ℕ) → Has xs s → last_look h.flight.looks s ≡ Some (sees seen s)
+last-found : (v : View) (d : ℕ) (seen : List ℕ) (xs : List ℕ) (h : HasLooked v d seen xs (length xs)) (s : ℕ) → Has xs s → last_look h.flight.looks s ≡ Some (sees seen s)
 last-found v d seen xs h s there = h.saw there.0 s (slice_get_within xs there.0 s there.1) there.1
 
 pub any-has : (xs : List ℕ) (d : ℕ) → list_any (λ s. eqb s d) xs ≡ true → Has xs d
@@ -82,7 +82,7 @@ moved-back v plan d s f g same is at there =
     subst (λ (p : List PlannedDevice). Has (suppliers_of p f.device) s) (sym same) (subst (λ (e : ℕ). Has (suppliers_of plan e) s) (sym (ap (λ (x : Flight). x.device) is ∙ at)) there)
 
 -- a supplier's look is not refused
-pub look-allowed : (v : View) (plan : List PlannedDevice) (d s n : ℕ) (seen : List Bool) → v.plan ≡ plan → HasLooked v d seen (suppliers_of plan d) n
+pub look-allowed : (v : View) (plan : List PlannedDevice) (d s n : ℕ) (seen : List ℕ) → v.plan ≡ plan → HasLooked v d seen (suppliers_of plan d) n
     → slice_get (suppliers_of plan d) n ≡ Some s → (r : Refusal) → NotLooked v s r → ⊥
 look-allowed v plan d s n seen same h here NotInFlight none = not-flying v h.flight h.open_was none
 look-allowed v plan d s n seen same h here WasBound t = t.2 (moved-back v plan d s t.0 h.flight same (flight-same v t.0 h.flight t.1 h.open_was) h.device (n, here))
@@ -95,7 +95,7 @@ look-allowed v plan d s n seen same h here NotReady never = never
 look-allowed v plan d s n seen same h here TooManyEvents never = never
 
 -- a flight that found all suppliers bound may settle
-pub settle-allowed : (v : View) (plan : List PlannedDevice) (d : ℕ) (seen : List Bool) → v.plan ≡ plan → HasLooked v d seen (suppliers_of plan d) (length (suppliers_of plan d))
+pub settle-allowed : (v : View) (plan : List PlannedDevice) (d : ℕ) (seen : List ℕ) → v.plan ≡ plan → HasLooked v d seen (suppliers_of plan d) (length (suppliers_of plan d))
     → list_all (sees seen) (suppliers_of plan d) ≡ true → (r : Refusal) → NotSettled v r → ⊥
 settle-allowed v plan d seen same h all NotInFlight none = not-flying v h.flight h.open_was none
 settle-allowed v plan d seen same h all NotReady t =
@@ -111,7 +111,7 @@ settle-allowed v plan d seen same h all TooManyEvents never = never
 settle-allowed v plan d seen same h all KnownDriver never = never
 
 -- one that missed a supplier may be deferred on it
-pub defer-allowed : (v : View) (plan : List PlannedDevice) (d s : ℕ) (seen : List Bool) → v.plan ≡ plan → HasLooked v d seen (suppliers_of plan d) (length (suppliers_of plan d))
+pub defer-allowed : (v : View) (plan : List PlannedDevice) (d s : ℕ) (seen : List ℕ) → v.plan ≡ plan → HasLooked v d seen (suppliers_of plan d) (length (suppliers_of plan d))
     → is_supplier plan d s ≡ true → sees seen s ≡ false → (r : Refusal) → NotDeferred v s r → ⊥
 defer-allowed v plan d s seen same h supplier unbound NotInFlight none = not-flying v h.flight h.open_was none
 defer-allowed v plan d s seen same h supplier unbound WasBound t =

@@ -79,7 +79,7 @@ driven-by old d report kept small few landed =
       limit = omega (arith, begins, few-begins old kept);
     }
 
-pub driven : (old mid new : KeeperValue) (ticket : Ticket) (seen : List Bool) (report : Report) → IsKept old → length old.plan ≤ MAX_DEVICES → abandons old ≤ length old.plan → IsLanded old
+pub driven : (old mid new : KeeperValue) (ticket : Ticket) (seen : List ℕ) (report : Report) → IsKept old → length old.plan ≤ MAX_DEVICES → abandons old ≤ length old.plan → IsLanded old
     → IsTaken old mid ticket seen → new ≡ finished_keeper mid ticket.device report → IsDriven old new
 driven old mid new ticket seen report kept small few landed taken finished =
     coe 1 0 (i. IsDriven old ((finished ∙ ap (λ k. finished_keeper k ticket.device report) taken.begun) i)) (driven-by old ticket.device report kept small few landed)

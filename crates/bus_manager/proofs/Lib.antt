@@ -2,6 +2,7 @@ pub mod FlyingLemmas
 pub mod ReplayEnd
 pub mod Begins
 pub mod Bounds
+pub mod SeenLemmas
 pub mod Steps
 pub mod MissingSupplier
 pub mod Few

@@ -1,10 +1,8 @@
 -- A core's flights end, and a run goes on from what had settled.
 use Rattle.std.proofs.Common.{◌≡◌, inl, inr, ℕ, suc, ◌+◌, ◌<◌, Bool, true, false, not, List, [], ◌∷◌, Option, Some, None, length, cond, set, get_or, refl, sym, ap, ◌∙◌, arith}
-use Rattle.std.specs.Prelude.{is_some, replicate, Result, Ok, Err, IfOk}
+use Rattle.std.specs.Prelude.{is_some, Result, Ok, Err, IfOk}
 use Rattle.std.specs.List.{list_any}
 use Rattle.std.proofs.lemmas.Bool.{cases_eq, or_from}
-use Rattle.std.proofs.lemmas.List.{get_or-set_same, get_or-set_other}
-use Rattle.bus_plan.specs.declared.limits.TheConstants.{MAX_DEVICES}
 use Rattle.bus_plan.specs.Plan.{PlannedDevice, is_available, is_matched}
 use Rattle.bus_core.specs.declared.refusal.Refusal.{Refusal}
 use Rattle.bus_core.specs.declared.refusal.Refusal.TheVariants as refusal
@@ -22,8 +20,8 @@ use Rattle.bus_board.specs.Opening.{NotOpened}
 use Rattle.bus_manager.specs.Notes.{leaves_note, has_settled}
 use Rattle.bus_manager.specs.Private.Resumed.{IsEased}
 use Rattle.bus_manager.specs.Run.{IsRun, IsRunAfter, IsRunOf}
+use Rattle.bus_manager.specs.Private.Seen.{IsPut}
 use Rattle.bus_manager.specs.Seen.{sees}
-use Rattle.bus_manager.proofs.Steps.{none-in}
 use Rattle.bus_manager.proofs.Landing.{emptied, not-flying}
 
 -- an abandon
@@ -80,11 +78,11 @@ status-settled plan s d = at (bound_in s.history d) (is_settled s.history d) (bo
     at false false law = unsettled (is_in_flight s d) (is_available plan d) (is_matched plan d) (is_due plan s d)
 
 -- a place of the set is written
-pub put-more : (h : List Settle) (old new : List Bool) (n m : ℕ) (b : Bool) → new ≡ set old m b → m ≡ n → m < length old → b ≡ is_settled h m
+pub put-more : (h : List Settle) (old new : List ℕ) (n m : ℕ) (b : Bool) → IsPut old new m b → m ≡ n → b ≡ is_settled h m
     → ((d : ℕ) → d < n → sees old d ≡ is_settled h d) → (d : ℕ) → d < n + 1 → sees new d ≡ is_settled h d
-put-more h old new n m b is at inside says before d within = elim (cases_eq d m) [
-  | inl same ↦ ap (sees new) same ∙ ap (λ xs. get_or xs m false) is ∙ get_or-set_same old m b false inside ∙ says ∙ ap (is_settled h) (sym same)
-  | inr other ↦ ap (λ xs. get_or xs d false) is ∙ get_or-set_other old m d b false other ∙ before d (omega arith)
+put-more h old new n m b put at says before d within = elim (cases_eq d m) [
+  | inl same ↦ ap (sees new) same ∙ put.here ∙ says ∙ ap (is_settled h) (sym same)
+  | inr other ↦ put.others d other ∙ before d (omega arith)
 ]
 
 -- two tests that agree on the plan's devices
@@ -99,10 +97,10 @@ run-before attests before other plan report notes same ran = record {
 }
 
 -- nothing had settled before a run from nothing
-pub run-fresh : {N : Type 0} (attests : ℕ → N → Type 0) (before : List Bool) (plan : List PlannedDevice) (report : List ℕ) (notes : List (Option N))
-    → before ≡ replicate MAX_DEVICES false → IsRunAfter attests (sees before) plan report notes → IsRun attests plan report notes
+pub run-fresh : {N : Type 0} (attests : ℕ → N → Type 0) (before : List ℕ) (plan : List PlannedDevice) (report : List ℕ) (notes : List (Option N))
+    → ((d : ℕ) → sees before d ≡ false) → IsRunAfter attests (sees before) plan report notes → IsRun attests plan report notes
 run-fresh attests before plan report notes empty ran =
-    run-before attests (sees before) (λ d. false) plan report notes (λ d within. ap (λ xs. sees xs d) empty ∙ none-in MAX_DEVICES d) ran
+    run-before attests (sees before) (λ d. false) plan report notes (λ d within. empty d) ran
 
 pub ok-weaker : {X E : Type 0} (P Q : X → Type 0) → ((x : X) → P x → Q x) → (r : Result X E) → IfOk r P → IfOk r Q
 ok-weaker P Q weaker (Ok x) held = weaker x held

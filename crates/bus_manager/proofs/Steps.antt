@@ -1,12 +1,11 @@
 -- What a keeper's events keep.
 use Rattle.std.proofs.Common.{◌≡◌, inl, inr, ℕ, ◌+◌, ◌-◌, ◌<◌, ◌≤◌, Bool, true, false, not, ◌&&◌, ◌||◌, List, [], ◌∷◌, ◌++◌, Option, Some, None, length, eqb, cond, set, get_or, refl, sym, ap, ◌∙◌, eq-eqb, ne_eqb, arith, length-set}
-use Rattle.std.specs.Prelude.{is_some, count_by, replicate}
-use Rattle.std.proofs.lemmas.Bool.{and_parts, or_parts, not-true, or_right, cases_eq, cases_lt}
-use Rattle.std.proofs.lemmas.List.{length-replicate, get_or-replicate, get_or_past, get_or-set_same, get_or-set_other}
+use Rattle.std.specs.Prelude.{is_some, count_by}
+use Rattle.std.proofs.lemmas.Bool.{and_parts, or_parts, not-true, or_right, cases_eq}
+use Rattle.std.proofs.lemmas.List.{length-replicate, get_or-set_same, get_or-set_other}
 use Rattle.std.proofs.lemmas.List.Sums.{sum_by-set}
 use Rattle.std.proofs.lemmas.List.Folds.{sum_by-replicate}
 use Rattle.std.proofs.lemmas.List.Elements.{All-push, All-nil}
-use Rattle.bus_plan.specs.declared.limits.TheConstants.{MAX_DEVICES}
 use Rattle.bus_plan.specs.Plan.{PlannedDevice, is_matched, is_driver_name}
 use Rattle.bus_core.specs.declared.event.Event.{Event}
 use Rattle.bus_core.specs.declared.event.Event.TheVariants.{Begin, Finish, Abandon, Register}
@@ -32,7 +31,7 @@ use Rattle.bus_manager.specs.Events.{is_begin, is_register, is_of_due}
 use Rattle.bus_manager.specs.Keeper.{KeeperValue, IsKept, core_of, first_keeper}
 use Rattle.bus_manager.specs.Private.KeeperView.{IsBounded, IsSoundKeeper}
 use Rattle.bus_manager.specs.Seen.{sees}
-use Rattle.bus_manager.specs.Private.Seen.{seen_after}
+use Rattle.bus_manager.specs.Private.Seen.{IsSeenAfter}
 use Rattle.bus_manager.proofs.Bounds.{begin-bounded, abandon-bounded, missing-bounded, settled-bounded, registered-bounded, or-false, cond-none}
 use Rattle.bus_manager.proofs.Begins.{count-push, no-count, one-count}
 use Rattle.bus_manager.proofs.ReplayEnd.{replay-push, due-push}
@@ -77,12 +76,6 @@ first-kept plan = record { first = plan; replayed = refl; due = refl; begins = �
 pub first-bounded : (plan : List PlannedDevice) (d : ℕ) → IsBounded plan (first_state plan) [] d
 first-bounded plan d = record { top = omega arith; low = λ _. omega arith; fresh = λ _. refl }
 
-pub none-in : (n d : ℕ) → get_or (replicate n false) d false ≡ false
-none-in n d = elim (cases_lt d n) [
-  | inl within ↦ get_or-replicate n d false false within
-  | inr past ↦ get_or_past (replicate n false) d false (rw (length-replicate n false) past)
-]
-
 abbrev weight : Option Flight → ℕ
 weight flight = cond (is_some flight) 1 0
 
@@ -91,17 +84,16 @@ pub flights-set : (flights : List (Option Flight)) (d : ℕ) (x : Option Flight)
     → count_by is_some (set flights d x) + cond {A = ℕ} (is_some (get_or flights d None)) 1 0 ≡ count_by is_some flights + cond {A = ℕ} (is_some x) 1 0
 flights-set flights d x within = sum_by-set weight flights d x None within
 
-pub first-sound : (plan : List PlannedDevice) (core : CoreValue) (events : List Event) (bound : List Bool) → core ≡ record { plan = plan; state = first_state plan } → events ≡ [] → bound ≡ replicate MAX_DEVICES false → IsSoundKeeper core events bound 0
-first-sound plan core events bound core-is none empty = coe 1 0 (i. IsSoundKeeper (core-is i) (none i) (empty i) 0) (record {
+pub first-sound : (plan : List PlannedDevice) (core : CoreValue) (events : List Event) (bound : List ℕ) → core ≡ record { plan = plan; state = first_state plan } → events ≡ [] → ((d : ℕ) → sees bound d ≡ false) → IsSoundKeeper core events bound 0
+first-sound plan core events bound core-is none empty = coe 1 0 (i. IsSoundKeeper (core-is i) (none i) bound 0) (record {
   kept = first-kept plan;
   bounded = first-bounded plan;
-  bound_is = λ d. none-in MAX_DEVICES d;
-  places = length-replicate MAX_DEVICES false;
+  bound_is = empty;
   begun = length-replicate (length plan) false;
   flying_is = sym (sum_by-replicate weight (length plan) None ∙ omega arith);
 })
 
-pub begun-sound : (core : CoreValue) (events : List Event) (bound : List Bool) (flying d : ℕ)
+pub begun-sound : (core : CoreValue) (events : List Event) (bound : List ℕ) (flying d : ℕ)
     → is_due core.plan core.state d ≡ true → begin_refusal core.plan core.state d ≡ None → IsSoundKeeper core events bound flying
     → IsSoundKeeper (record { plan = core.plan; state = begin_state core.state d }) (events ++ Begin d ∷ []) bound (flying + 1)
 begun-sound core events bound flying d due allowed sound =
@@ -115,7 +107,6 @@ begun-sound core events bound flying d due allowed sound =
       kept = event-kept (record { plan = core.plan; state = core.state; events = events }) (Begin d) sound.kept allowed due (omega (arith, within, sound.kept.long)) bounded (omega arith) (length-set core.state.flights d flight);
       bounded = bounded;
       bound_is = sound.bound_is;
-      places = sound.places;
       begun = length-set core.state.begun d true ∙ sound.begun;
       flying_is =
           let e = flights-set core.state.flights d flight (omega (arith, sound.kept.places))
@@ -130,7 +121,7 @@ landed flights d n within flying is =
     in let one = one-count (is_some (get_or flights d None)) flying
     in omega (arith, e, one, is)
 
-pub abandoned-sound : (core : CoreValue) (events : List Event) (bound : List Bool) (flying d : ℕ)
+pub abandoned-sound : (core : CoreValue) (events : List Event) (bound : List ℕ) (flying d : ℕ)
     → d < length core.plan → abandon_refusal core.state d ≡ None → IsSoundKeeper core events bound flying
     → IsSoundKeeper (record { plan = core.plan; state = without_flight core.state d }) (events ++ Abandon d ∷ []) bound (flying - 1)
 abandoned-sound core events bound flying d within allowed sound =
@@ -140,67 +131,58 @@ abandoned-sound core events bound flying d within allowed sound =
       kept = event-kept (record { plan = core.plan; state = core.state; events = events }) (Abandon d) sound.kept allowed refl (omega (arith, within, sound.kept.long)) bounded (omega arith) (length-set core.state.flights d None);
       bounded = bounded;
       bound_is = sound.bound_is;
-      places = sound.places;
       begun = sound.begun;
       flying_is = landed core.state.flights d flying (omega (arith, sound.kept.places)) aloft sound.flying_is;
     }
 
 -- the set after a settle
-seen-settled : (bound : List Bool) (d e : ℕ) (o : Outcome) → d < length bound → sees (seen_after bound d (settled_reply o)) e ≡ (sees bound e || (is_bound o && eqb d e))
-seen-settled bound d e outcome.Failed within = sym (or-false (sees bound e) false refl)
-seen-settled bound d e outcome.Bound within = elim (cases_eq d e) [
-  | inl same ↦ ap (λ k. sees (set bound d true) k) (sym same) ∙ get_or-set_same bound d true false within ∙ sym (or_right (sees bound e) (eqb d e) (eq-eqb d e same))
-  | inr other ↦ get_or-set_other bound d e true false (λ q. other (sym q)) ∙ sym (or-false (sees bound e) (eqb d e) (ne_eqb d e other))
+seen-settled : (bound after : List ℕ) (d e : ℕ) (o : Outcome) → IsSeenAfter bound after d (settled_reply o) → sees after e ≡ (sees bound e || (is_bound o && eqb d e))
+seen-settled bound after d e outcome.Failed same = ap (λ s. sees s e) same ∙ sym (or-false (sees bound e) false refl)
+seen-settled bound after d e outcome.Bound put = elim (cases_eq d e) [
+  | inl same ↦ ap (sees after) (sym same) ∙ put.here ∙ sym (or_right (sees bound e) (eqb d e) (eq-eqb d e same))
+  | inr other ↦ put.others e (λ q. other (sym q)) ∙ sym (or-false (sees bound e) (eqb d e) (ne_eqb d e other))
 ]
 
-length-after : (bound : List Bool) (d : ℕ) (o : Outcome) → length (seen_after bound d (settled_reply o)) ≡ length bound
-length-after bound d outcome.Bound = length-set bound d true
-length-after bound d outcome.Failed = refl
-
-seen-waiting : (bound : List Bool) (d : ℕ) (due : Bool) → seen_after bound d (cond due reply.Again reply.Waiting) ≡ bound
-seen-waiting bound d true = refl
-seen-waiting bound d false = refl
+seen-waiting : (bound after : List ℕ) (d : ℕ) (due : Bool) → IsSeenAfter bound after d (cond due reply.Again reply.Waiting) → after ≡ bound
+seen-waiting bound after d true same = same
+seen-waiting bound after d false same = same
 
 -- a finish is an event of a schedule
 pub finish-allowed : (plan : List PlannedDevice) (s : CoreState) (d : ℕ) (report : Report) → is_in_flight s d ≡ true → report_refusal plan s d report ≡ None → event_refusal (record { plan = plan; state = s }) (Finish d report) ≡ None
 finish-allowed plan s d report aloft allowed = ap (λ b. cond (not b) (Some NotInFlight) (report_refusal plan s d report)) aloft ∙ allowed
 
-finished-by : (core : CoreValue) (events : List Event) (bound : List Bool) (flying d : ℕ) (report : Report)
-    → d < length core.plan → length core.plan ≤ MAX_DEVICES → is_in_flight core.state d ≡ true → report_refusal core.plan core.state d report ≡ None → IsSoundKeeper core events bound flying
-    → IsSoundKeeper (record { plan = core.plan; state = finish_state core.plan core.state d report }) (events ++ Finish d report ∷ [])
-    (seen_after bound d (finish_reply core.plan (finish_state core.plan core.state d report) d report)) (flying - 1)
-finished-by core events bound flying d Settled within few aloft allowed sound =
+finished-by : (core : CoreValue) (events : List Event) (bound after : List ℕ) (flying d : ℕ) (report : Report)
+    → d < length core.plan → is_in_flight core.state d ≡ true → report_refusal core.plan core.state d report ≡ None → IsSeenAfter bound after d (finish_reply core.plan (finish_state core.plan core.state d report) d report)
+    → IsSoundKeeper core events bound flying → IsSoundKeeper (record { plan = core.plan; state = finish_state core.plan core.state d report }) (events ++ Finish d report ∷ []) after (flying - 1)
+finished-by core events bound after flying d Settled within aloft allowed seen sound =
     let o = outcome_by (verdict_of core.plan d)
     in let bounded = λ (e : ℕ). settled-bounded core.plan core.state events d e (sound.bounded e)
     in record {
       kept = event-kept (record { plan = core.plan; state = core.state; events = events }) (Finish d Settled) sound.kept (finish-allowed core.plan core.state d Settled aloft allowed) refl (omega (arith, within, sound.kept.long)) bounded (omega arith) (length-set core.state.flights d None);
       bounded = bounded;
-      bound_is = λ e. seen-settled bound d e o (omega (arith, sound.places)) ∙ ap (λ b. b || (is_bound o && eqb d e)) (sound.bound_is e) ∙ sym (bound_in-push core.state.history (settle_of core.plan d) e);
-      places = length-after bound d o ∙ sound.places;
+      bound_is = λ e. seen-settled bound after d e o seen ∙ ap (λ b. b || (is_bound o && eqb d e)) (sound.bound_is e) ∙ sym (bound_in-push core.state.history (settle_of core.plan d) e);
       begun = sound.begun;
       flying_is = landed core.state.flights d flying (omega (arith, sound.kept.places)) aloft sound.flying_is;
     }
-finished-by core events bound flying d (Missing supplier) within few aloft allowed sound =
+finished-by core events bound after flying d (Missing supplier) within aloft allowed seen sound =
     let bounded = λ (e : ℕ). missing-bounded core.plan core.state events d supplier e allowed (sound.bounded e)
-    in let same = seen-waiting bound d (is_due core.plan (without_flight core.state d) d)
+    in let same = seen-waiting bound after d (is_due core.plan (without_flight core.state d) d) seen
     in record {
       kept = event-kept (record { plan = core.plan; state = core.state; events = events }) (Finish d (Missing supplier)) sound.kept (finish-allowed core.plan core.state d (Missing supplier) aloft allowed) refl (omega (arith, within, sound.kept.long)) bounded (omega arith) (length-set core.state.flights d None);
       bounded = bounded;
       bound_is = λ e. ap (λ b. sees b e) same ∙ sound.bound_is e;
-      places = ap length same ∙ sound.places;
       begun = sound.begun;
       flying_is = landed core.state.flights d flying (omega (arith, sound.kept.places)) aloft sound.flying_is;
     }
 
-pub finished-sound : (core : CoreValue) (events : List Event) (bound : List Bool) (flying : ℕ) (ticket : Ticket) (report : Report)
-    → ticket.device < length core.plan → length core.plan ≤ MAX_DEVICES → finish_refusal core.plan core.state ticket report ≡ None → IsSoundKeeper core events bound flying
-    → IsSoundKeeper (record { plan = core.plan; state = finish_state core.plan core.state ticket.device report }) (events ++ Finish ticket.device report ∷ [])
-    (seen_after bound ticket.device (finish_reply core.plan (finish_state core.plan core.state ticket.device report) ticket.device report)) (flying - 1)
-finished-sound core events bound flying ticket report within few allowed sound =
+pub finished-sound : (core : CoreValue) (events : List Event) (bound after : List ℕ) (flying : ℕ) (ticket : Ticket) (report : Report)
+    → ticket.device < length core.plan → finish_refusal core.plan core.state ticket report ≡ None → IsSeenAfter bound after ticket.device (finish_reply core.plan (finish_state core.plan core.state ticket.device report) ticket.device report)
+    → IsSoundKeeper core events bound flying → IsSoundKeeper (record { plan = core.plan; state = finish_state core.plan core.state ticket.device report }) (events ++ Finish ticket.device report ∷ []) after (flying - 1)
+finished-sound core events bound after flying ticket report within allowed seen sound =
     let parts = cond-none (is_attempt (flight_of core.state ticket.device) ticket.attempt) _ _ allowed
-    in finished-by core events bound flying ticket.device report within few (attempt-flying (flight_of core.state ticket.device) ticket.attempt parts.0) parts.1 sound
+    in finished-by core events bound after flying ticket.device report within (attempt-flying (flight_of core.state ticket.device) ticket.attempt parts.0) parts.1 seen sound
 
-pub registered-sound : (core : CoreValue) (events : List Event) (bound : List Bool) (flying : ℕ) (name : List ℕ) (strings : List (List ℕ))
+pub registered-sound : (core : CoreValue) (events : List Event) (bound : List ℕ) (flying : ℕ) (name : List ℕ) (strings : List (List ℕ))
     → is_driver_name name ≡ true → register_refusal core.plan core.state name ≡ None → IsSoundKeeper core events bound flying
     → IsSoundKeeper (registered_core core name strings) (events ++ Register name strings ∷ []) bound flying
 registered-sound core events bound flying name strings named allowed sound =
@@ -209,7 +191,6 @@ registered-sound core events bound flying name strings named allowed sound =
       kept = event-kept (record { plan = core.plan; state = core.state; events = events }) (Register name strings) sound.kept allowed refl named bounded (omega arith) refl;
       bounded = bounded;
       bound_is = sound.bound_is;
-      places = sound.places;
       begun = sound.begun ∙ sym (late-long core.plan name strings);
       flying_is = sound.flying_is;
     }

@@ -61,7 +61,7 @@ registered_keeper k name strings = record {
 }
 
 -- a due device was begun, and this is its ticket, with the devices that were bound then
-pub record IsTaken (old new : KeeperValue) (ticket : Ticket) (seen : List Bool) : Type 0 where
+pub record IsTaken (old new : KeeperValue) (ticket : Ticket) (seen : List ℕ) : Type 0 where
   pub due : is_due old.plan old.state ticket.device ≡ true
   pub allowed : begin_refusal old.plan old.state ticket.device ≡ None
   pub attempt : ticket.attempt ≡ old.state.begins + 1

@@ -1,6 +1,6 @@
 //! What the caller of a run over a board does, before and after its workers.
 
-ghost use Rattle.std.specs.Prelude.{◌≡◌, ◌<◌, ℕ, true, length, IfOk, IfErr};
+ghost use Rattle.std.specs.Prelude.{◌≡◌, ◌<◌, ℕ, true, length, All, IfOk, IfErr};
 ghost use Rattle.bus_core.specs.Report.{end_status};
 ghost use Rattle.bus_core.specs.declared.refusal.Refusal.TheVariants.{NoMemory};
 ghost use Rattle.bus_board.specs.Ends.{EndsAs};
@@ -13,11 +13,11 @@ ghost use Rattle.bus_manager.specs.Seen.{sees};
 ghost use Rattle.bus_manager.specs.Run.{IsRun, IsRunAfter};
 
 use crate::alone::{finish_alone, fresh_keeper};
+use crate::crew::Crew;
 use crate::end_report::{end_report, end_status, is_bound};
-use crate::flying::work;
 use crate::notes::{Ran, leaves_note, no_notes, place_some, settle_note};
 use crate::prober::Prober;
-use crate::seats::{gather, land_all, seats};
+use crate::seats::{MAX_FORKS, Worked, work};
 use crate::seen::Seen;
 use bus_board::{Board, Seat, Word};
 use bus_core::Refusal;
@@ -100,7 +100,29 @@ fn finish<P: Prober>(
     finish_alone(alloc, plan, prober, before, keeper, notes)
 }
 
-/// A run over an open board by so many workers, and then by the caller alone. The devices of the set had settled before.
+// Where memory was refused to a worker, the caller goes on alone with what is left.
+fn again<P: Prober, R: Threads + Sync>(
+    rt: &R,
+    alloc: Global,
+    board: &Board,
+    plan: &Plan,
+    prober: &P,
+    crew: &Crew,
+    done: Worked<P::Note>,
+) -> Worked<P::Note>
+    requires plan { board.now.plan ≡ plan.now }
+    requires free { IsFree board.now done.seat }
+    requires notes { All (λ n. P.attests prober.now plan.now n.device n.note) done.notes.items }
+    ensures free { IsFree board.now result.seat }
+    ensures notes { All (λ n. P.attests prober.now plan.now n.device n.note) result.notes.items }
+{
+    if !crew.is_short() {
+        return done;
+    }
+    work(rt, alloc, board, plan, prober, crew, done, 0)
+}
+
+/// A run over an open board by so many workers, the caller among them, and then by the caller alone. The devices of the set had settled before.
 pub fn run_opened<P: Prober, R: Threads + Sync>(
     rt: &R,
     alloc: Global,
@@ -115,14 +137,17 @@ pub fn run_opened<P: Prober, R: Threads + Sync>(
     ensures ran { IfOk result (λ ran. IsRunAfter (P.attests prober.now plan.now) (sees before.now) plan.now ran.report.items ran.notes.items) }
     ensures err { IfErr result (λ refusal. refusal ≡ NoMemory) }
 {
-    let (board, mut own) = opened;
+    let (board, seat) = opened;
     let mut notes = no_notes::<P::Note>(alloc, plan.len())?;
-    let seats = seats(alloc, &board, &mut own, workers)?;
-    let left = gather(rt, alloc, &board, plan, prober, seats);
-    land_all(&board, plan, prober, &mut own, &mut notes, left);
-    let found = work(alloc, &board, plan, prober, &mut own);
+    let crew = Crew::new(workers);
+    let own = Worked {
+        seat,
+        notes: Vec::new(alloc),
+    };
+    let done = work(rt, alloc, &board, plan, prober, &crew, own, MAX_FORKS);
+    let Worked { seat, notes: found } = again(rt, alloc, &board, plan, prober, &crew, done);
     place_some(plan, prober, &mut notes, found);
-    finish(alloc, plan, prober, before, board, own, notes)
+    finish(alloc, plan, prober, before, board, seat, notes)
 }
 
 /// A run of a plan over a board on which nothing was begun.

@@ -1,14 +1,16 @@
 //! The flights of one seat of a board: each looks at its device's suppliers, probes it, and ends.
 
-ghost use Rattle.std.specs.Prelude.{◌≡◌, ◌<◌, ◌+◌, All, IfSome, IfNone, Some, None, [], length, slice_get};
+ghost use Rattle.std.specs.Prelude.{◌≡◌, ◌<◌, ◌+◌, All, IfSome, IfNone, Some, None, true, [], length, slice_get, vec_len, vec_capacity};
 ghost use Rattle.bus_plan.specs.Plan.{suppliers_of};
 ghost use Rattle.bus_board.specs.Shown.{IsOf};
 ghost use Rattle.bus_manager.specs.Private.Flying.{HasLooked, HasTaken, IsFree};
 ghost use Rattle.bus_manager.specs.Prober.{IsLawfulReport};
 ghost use Rattle.bus_manager.specs.Seen.{sees};
 
+use crate::crew::Crew;
 use crate::keeper::append;
 use crate::prober::Prober;
+use crate::seats::Worked;
 use crate::seen::Seen;
 use crate::worker::Noted;
 use bus_board::{Board, Seat};
@@ -30,11 +32,10 @@ fn look_at(
     requires of { IsOf board.now seat.old }
     requires looked { HasLooked seat.old.view device seen.old (suppliers_of plan.now device) index }
     requires next { slice_get (suppliers_of plan.now device) index ≡ Some supplier }
-    requires room { (length seen.old ≡ MAX_DEVICES) × (supplier < MAX_DEVICES) }
+    requires room { supplier < MAX_DEVICES }
     ensures of { IsOf board.now seat.new }
     ensures looked { HasLooked seat.new.view device seen.new (suppliers_of plan.now device) (index + 1) }
     ensures owed { seat.new.view.owed ≡ seat.old.view.owed }
-    ensures room { length seen.new ≡ MAX_DEVICES }
 {
     match board.look(seat, supplier) {
         Ok(bound) => seen.put(supplier, bound),
@@ -116,7 +117,7 @@ fn fly<P: Prober>(
 }
 
 // The device that the seat takes. None where nothing is left to take, or memory is refused.
-fn take(alloc: Global, board: &Board, seat: &mut Seat) -> Option<Device>
+fn take(alloc: Global, board: &Board, crew: &Crew, seat: &mut Seat) -> Option<Device>
     requires { IsFree board.now seat.old }
     ensures some { IfSome result (λ device. HasTaken board.now seat.new device) }
     ensures none { IfNone result (IsFree board.now seat.new) }
@@ -124,40 +125,70 @@ fn take(alloc: Global, board: &Board, seat: &mut Seat) -> Option<Device>
     match board.take(alloc, seat) {
         Ok(Some(device)) => Some(device),
         Ok(None) => None,
-        Err(_) => None,
+        Err(_) => {
+            crew.run_short();
+            None
+        }
     }
 }
 
-/// One seat's flights, until nothing is left to take or memory is refused. It gives the notes of the devices that settled
-/// by it.
-pub fn work<P: Prober>(
+// Probes the device that the worker has taken. Where it settles its note goes into room that is there.
+fn fly_once<P: Prober>(
+    board: &Board,
+    plan: &Plan,
+    prober: &P,
+    own: &mut Worked<P::Note>,
+    device: Device,
+)
+    requires plan { board.now.plan ≡ plan.now }
+    requires taken { HasTaken board.now own.old.seat device }
+    requires room { vec_len own.old.notes < vec_capacity own.old.notes }
+    requires notes { All (λ n. P.attests prober.now plan.now n.device n.note) own.old.notes.items }
+    ensures free { IsFree board.now own.new.seat }
+    ensures notes { All (λ n. P.attests prober.now plan.now n.device n.note) own.new.notes.items }
+{
+    let Some(note) = fly(board, plan, prober, &mut own.seat, device) else {
+        return;
+    };
+    append(&mut own.notes, Noted { device, note });
+}
+
+/// One seat's flights, until nothing is left to take, memory is refused, or there is work for a further worker that may begin.
+/// It says whether that is so. Each device that settles by it leaves its note.
+pub fn fly_on<P: Prober>(
     alloc: Global,
     board: &Board,
     plan: &Plan,
     prober: &P,
-    seat: &mut Seat,
-) -> Vec<Noted<P::Note>>
+    crew: &Crew,
+    forks: usize,
+    own: &mut Worked<P::Note>,
+) -> bool
     requires plan { board.now.plan ≡ plan.now }
-    requires free { IsFree board.now seat.old }
-    ensures free { IsFree board.now seat.new }
-    ensures notes { All (λ n. P.attests prober.now plan.now n.device n.note) result.items }
+    requires free { IsFree board.now own.old.seat }
+    requires notes { All (λ n. P.attests prober.now plan.now n.device n.note) own.old.notes.items }
+    ensures free { IsFree board.now own.new.seat }
+    ensures notes { All (λ n. P.attests prober.now plan.now n.device n.note) own.new.notes.items }
+    ensures forks { result ≡ true → 0 < forks }
 {
     plan.check();
-    let mut notes = Vec::new(alloc);
     // a device is claimed twice at most, so the last take finds nothing
     for _flight in 0..2 * plan.len() + 1 {
-        // the note's room first, so that no flight is left for want of it
-        match notes.reserve(1) {
-            Ok(()) => {}
-            Err(_) => break,
+        if forks > 0 && crew.has_room() && board.has_spare() && crew.enlist() {
+            return true;
         }
-        let Some(device) = take(alloc, board, seat) else {
+        // the note's room first, so that no flight is left for want of it
+        match own.notes.reserve(1) {
+            Ok(()) => {}
+            Err(_) => {
+                crew.run_short();
+                break;
+            }
+        }
+        let Some(device) = take(alloc, board, crew, &mut own.seat) else {
             break;
         };
-        match fly(board, plan, prober, seat, device) {
-            Some(note) => append(&mut notes, Noted { device, note }),
-            None => {}
-        }
+        fly_once(board, plan, prober, own, device);
     }
-    notes
+    false
 }

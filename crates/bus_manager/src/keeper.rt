@@ -10,11 +10,11 @@ ghost use Rattle.bus_core.specs.Step.{finish_refusal, finish_reply, abandon_refu
 ghost use Rattle.bus_core.specs.declared.refusal.Refusal.TheVariants.{NoMemory};
 ghost use Rattle.bus_manager.specs.Keeper.{IsKept, first_keeper, finished_keeper, abandoned_keeper, registered_keeper, IsTaken, IsTakeRefused};
 ghost use Rattle.bus_manager.specs.Private.Counts.{open_flights};
-ghost use Rattle.bus_manager.specs.Private.Seen.{seen_after};
+ghost use Rattle.bus_manager.specs.Private.Seen.{IsSeenAfter};
 
 use crate::seen::Seen;
 use bus_core::{Compatibles, Core, Event, Refusal, Reply, Report, Ticket};
-use bus_plan::{Device, Plan, copy_strings};
+use bus_plan::{Device, MAX_DEVICES, Plan, copy_strings};
 use dt_tree::{Bytes, Name};
 use std::alloc::{AllocError, Global};
 use std::marker::Model;
@@ -185,8 +185,8 @@ impl Keeper {
 
 // The set of bound devices after a reply.
 fn note_reply(bound: &mut Seen, device: Device, reply: Reply)
-    requires { device < length bound.old }
-    ensures { bound.new ≡ seen_after bound.old device reply }
+    requires { device < MAX_DEVICES }
+    ensures { IsSeenAfter bound.old bound.new device reply }
 {
     if matches!(reply, Reply::Bound) {
         bound.insert(device);

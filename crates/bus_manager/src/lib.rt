@@ -3,6 +3,7 @@
 
 mod alone;
 mod boarded;
+mod crew;
 mod end_report;
 mod flying;
 mod keeper;

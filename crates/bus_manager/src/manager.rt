@@ -68,6 +68,11 @@ impl<J: PlanName> Kept<J> {
         }
     }
 
+    // Whether a further device is due.
+    fn has_due(&self) -> bool {
+        self.keeper.core().next().is_some()
+    }
+
     // Ends a flight, and says whether its device has settled.
     fn finish(&mut self, ticket: &Ticket, report: Report) -> bool
         requires { ticket.now.device < length J.plan }
@@ -87,11 +92,12 @@ fn tells_settled(reply: Reply) -> bool
     matches!(reply, Reply::Bound | Reply::Failed)
 }
 
-/// One lock round a keeper of the plan of this name, and a condition that each finish notifies. What holds of the keeper
+/// One lock round a keeper of the plan of this name, and a condition on which workers wait. Who takes a device wakes one more
+/// where another is due, and who finds all quiet wakes all, so as many are awake as there is work for. What holds of the keeper
 /// holds whenever the lock is free; what a call did to it under the lock no clause can say.
 pub struct Manager<J: PlanName> {
     kept: Mutex<Kept<J>>,
-    finished: Condvar,
+    changed: Condvar,
 }
 
 impl<J: PlanName> Manager<J> {
@@ -102,7 +108,7 @@ impl<J: PlanName> Manager<J> {
     {
         Manager {
             kept: Mutex::new(Kept::new(keeper)),
-            finished: Condvar::new(),
+            changed: Condvar::new(),
         }
     }
 
@@ -113,22 +119,33 @@ impl<J: PlanName> Manager<J> {
         let mut kept = self.kept.lock(rt);
         for _ in rt.forever() {
             match kept.turn() {
-                Ok(Turn::Flight(ticket, seen)) => return Some((ticket, seen)),
+                Ok(Turn::Flight(ticket, seen)) => {
+                    if kept.has_due() {
+                        self.changed.notify_one();
+                    }
+                    return Some((ticket, seen));
+                }
                 Ok(Turn::Wait) => {}
-                Ok(Turn::Quiet) | Err(_) => return None,
+                Ok(Turn::Quiet) | Err(_) => {
+                    self.changed.notify_all();
+                    return None;
+                }
             }
-            kept = self.finished.wait(rt, kept);
+            kept = self.changed.wait(rt, kept);
         }
         None
     }
 
-    /// Ends a flight, and says whether its device has settled. Whoever waits looks again.
+    /// Ends a flight, and says whether its device has settled. Its worker looks next, so it wakes nobody.
     pub(crate) fn finish<R: Wait>(&self, rt: &R, ticket: &Ticket, report: Report) -> bool
         requires { ticket.now.device < length J.plan }
     {
-        let is_settled = self.kept.lock(rt).finish(ticket, report);
-        self.finished.notify_all();
-        is_settled
+        self.kept.lock(rt).finish(ticket, report)
+    }
+
+    /// A worker leaves that may have been the one to look next: whoever waits looks again.
+    pub(crate) fn leave(&self) {
+        self.changed.notify_all();
     }
 }
 
@@ -138,8 +155,8 @@ impl<J: PlanName> Manager<J> {
         ensures named { result.plan ≡ J.plan }
         ensures unabandoned { abandons result ≡ 0 }
     {
-        let Manager { kept, finished } = self;
-        drop(finished);
+        let Manager { kept, changed } = self;
+        drop(changed);
         let Kept { keeper, of: _ } = kept.into_inner();
         keeper
     }

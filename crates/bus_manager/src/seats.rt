@@ -1,130 +1,135 @@
-//! The seats of a run, each with a worker in a thread of its own.
+//! The workers of a run over a board, each with a seat of its own. A worker that finds more to take than it can do lets a
+//! further one begin, while fewer are at work than were asked for: at the start, and again where a device's bind wakes many and
+//! the others have left.
 
-ghost use Rattle.std.specs.Prelude.{◌≡◌, All, IfOk, IfErr};
-ghost use Rattle.bus_core.specs.declared.refusal.Refusal.TheVariants.{NoMemory};
+ghost use Rattle.std.specs.Prelude.{◌≡◌, [], All, IfSome};
+ghost use Rattle.std.specs.Thread.{IsSync};
 ghost use Rattle.bus_manager.specs.Private.Flying.{IsFree};
-ghost use Rattle.bus_manager.specs.Private.Notes.{AreNotes};
 
-use crate::flying::work;
-use crate::notes::place_some;
+use crate::crew::Crew;
+use crate::flying::fly_on;
 use crate::prober::Prober;
 use crate::worker::Noted;
 use bus_board::{Board, Seat};
-use bus_core::Refusal;
 use bus_plan::Plan;
 use std::alloc::Global;
 use std::thread;
 use std::thread::Threads;
 
-/// What a worker leaves: its seat, and the notes of the devices that settled by it.
+/// How often a worker and those that it lets begin may let further ones begin, one after the other.
+pub const MAX_FORKS: usize = 256;
+
+/// What a worker has and leaves: its seat, and the notes of the devices that settled by it.
 #[derive(Drop)]
 pub struct Worked<N> {
     pub seat: Seat,
     pub notes: Vec<Noted<N>>,
 }
 
-/// So many further seats.
-pub fn seats(
-    alloc: Global,
-    board: &Board,
-    own: &mut Seat,
-    count: usize,
-) -> Result<Vec<Seat>, Refusal>
-    requires { IsFree board.now own.old }
-    ensures own { IsFree board.now own.new }
-    ensures seats { IfOk result (λ seats. All (IsFree board.now) seats.items) }
-    ensures err { IfErr result (λ refusal. refusal ≡ NoMemory) }
+// A further worker, which has done nothing yet. None where memory for its seat is refused.
+fn further<N: Drop>(alloc: Global, board: &Board, crew: &Crew, seat: &mut Seat) -> Option<Worked<N>>
+    requires { IsFree board.now seat.old }
+    ensures seat { IsFree board.now seat.new }
+    ensures free { IfSome result (λ worked. IsFree board.now worked.seat) }
+    ensures notes { IfSome result (λ worked. worked.notes.items ≡ []) }
 {
-    let mut seats = Vec::with_capacity(alloc, count)?;
-    for _seat in 0..count {
-        seats.push(board.seat(alloc, own)?)?;
+    match board.seat(alloc, seat) {
+        Ok(seat) => Some(Worked {
+            seat,
+            notes: Vec::new(alloc),
+        }),
+        Err(_) => {
+            crew.leave();
+            crew.run_short();
+            None
+        }
     }
-    Ok(seats)
 }
 
-// One worker.
-fn work_at<P: Prober>(
-    alloc: Global,
+// One worker out of two: the other's seat is given back to the first one's, and its notes go behind the first one's, or are
+// lost where memory for them is refused.
+fn land<P: Prober>(
     board: &Board,
     plan: &Plan,
     prober: &P,
-    mut seat: Seat,
+    own: Worked<P::Note>,
+    other: Worked<P::Note>,
 ) -> Worked<P::Note>
-    requires plan { board.now.plan ≡ plan.now }
-    requires free { IsFree board.now seat }
+    requires own { IsFree board.now own.seat }
+    requires other { IsFree board.now other.seat }
+    requires own_notes { All (λ n. P.attests prober.now plan.now n.device n.note) own.notes.items }
+    requires other_notes { All (λ n. P.attests prober.now plan.now n.device n.note) other.notes.items }
     ensures free { IsFree board.now result.seat }
     ensures notes { All (λ n. P.attests prober.now plan.now n.device n.note) result.notes.items }
 {
-    let notes = work(alloc, board, plan, prober, &mut seat);
+    let Worked {
+        mut seat,
+        mut notes,
+    } = own;
+    let Worked {
+        seat: left,
+        notes: found,
+    } = other;
+    match board.give_back(&mut seat, left) {
+        Ok(()) => {}
+        Err(_) => unreachable!(),
+    }
+    add_notes(plan, prober, &mut notes, found);
     Worked { seat, notes }
 }
 
-/// What the workers left, each after a thread of its own. It is nothing where memory for it is refused.
-pub fn gather<P: Prober, R: Threads + Sync>(
+// The other notes go behind these, or are lost where memory for them is refused.
+fn add_notes<P: Prober>(
+    plan: &Plan,
+    prober: &P,
+    notes: &mut Vec<Noted<P::Note>>,
+    mut found: Vec<Noted<P::Note>>,
+)
+    requires notes { All (λ n. P.attests prober.now plan.now n.device n.note) notes.old.items }
+    requires found { All (λ n. P.attests prober.now plan.now n.device n.note) found.items }
+    ensures { All (λ n. P.attests prober.now plan.now n.device n.note) notes.new.items }
+{
+    match notes.append(&mut found) {
+        Ok(()) => {}
+        Err(_) => {}
+    }
+}
+
+/// One worker, and those that it lets begin. The number of times that each of them still may falls, which bounds how deep they
+/// stand in one another.
+#[cycle(workers)]
+pub fn work<P: Prober, R: Threads + Sync>(
     rt: &R,
     alloc: Global,
     board: &Board,
     plan: &Plan,
     prober: &P,
-    seats: Vec<Seat>,
-) -> Vec<Worked<P::Note>>
+    crew: &Crew,
+    mut own: Worked<P::Note>,
+    forks: usize,
+) -> Worked<P::Note>
     requires plan { board.now.plan ≡ plan.now }
-    requires free { All (IsFree board.now) seats.items }
-    ensures { All (λ w. IsFree board.now w.seat × All (λ n. P.attests prober.now plan.now n.device n.note) w.notes.items) result.items }
+    requires free { IsFree board.now own.seat }
+    requires notes { All (λ n. P.attests prober.now plan.now n.device n.note) own.notes.items }
+    ensures free { IsFree board.now result.seat }
+    ensures notes { All (λ n. P.attests prober.now plan.now n.device n.note) result.notes.items }
 {
-    match thread::map_vec(
-        rt,
-        seats,
-        &|seat: Seat| -> Worked<P::Note>
-            requires { (board.now.plan ≡ plan.now) × IsFree board.now seat }
-            ensures { IsFree board.entry.now result.seat × All (λ n. P.attests prober.entry.now plan.entry.now n.device n.note) result.notes.items }
-        { work_at(alloc, board, plan, prober, seat) },
-    ) {
-        Ok(found) => found,
-        Err(_) => Vec::new(alloc),
+    if !fly_on(alloc, board, plan, prober, crew, forks, &mut own) {
+        crew.leave();
+        return own;
     }
-}
-
-// Takes a worker's seat back, and puts its notes into their places.
-fn land<P: Prober>(
-    board: &Board,
-    plan: &Plan,
-    prober: &P,
-    own: &mut Seat,
-    notes: &mut Vec<Option<P::Note>>,
-    left: Worked<P::Note>,
-)
-    requires own { IsFree board.now own.old }
-    requires notes { AreNotes (P.attests prober.now plan.now) plan.now notes.old.items }
-    requires seat { IsFree board.now left.seat }
-    requires found { All (λ n. P.attests prober.now plan.now n.device n.note) left.notes.items }
-    ensures own { IsFree board.now own.new }
-    ensures notes { AreNotes (P.attests prober.now plan.now) plan.now notes.new.items }
-{
-    let Worked { seat, notes: found } = left;
-    match board.give_back(own, seat) {
-        Ok(()) => {}
-        Err(_) => unreachable!(),
-    }
-    place_some(plan, prober, notes, found);
-}
-
-/// Takes all seats back, and puts the notes into their places.
-pub fn land_all<P: Prober>(
-    board: &Board,
-    plan: &Plan,
-    prober: &P,
-    own: &mut Seat,
-    notes: &mut Vec<Option<P::Note>>,
-    mut left: Vec<Worked<P::Note>>,
-)
-    requires own { IsFree board.now own.old }
-    requires notes { AreNotes (P.attests prober.now plan.now) plan.now notes.old.items }
-    requires left { All (λ w. IsFree board.now w.seat × All (λ n. P.attests prober.now plan.now n.device n.note) w.notes.items) left.items }
-    ensures own { IsFree board.now own.new }
-    ensures notes { AreNotes (P.attests prober.now plan.now) plan.now notes.new.items }
-{
-    'landing: while let Some(one) = left.pop() {
-        land(board, plan, prober, own, notes, one);
-    }
+    let fewer = forks - 1;
+    let Some(other) = further(alloc, board, crew, &mut own.seat) else {
+        return work(rt, alloc, board, plan, prober, crew, own, fewer);
+    };
+    let second = move || -> Worked<P::Note>
+        requires { IsSync R.row × (board.now.plan ≡ plan.now) × IsFree board.now other.seat × All (λ n. P.attests prober.now plan.now n.device n.note) other.notes.items }
+        ensures { IsFree board.entry.now result.seat × All (λ n. P.attests prober.entry.now plan.entry.now n.device n.note) result.notes.items }
+    { work(rt, alloc, board, plan, prober, crew, other, fewer) };
+    let first = move || -> Worked<P::Note>
+        requires { IsSync R.row × (board.now.plan ≡ plan.now) × IsFree board.now own.seat × All (λ n. P.attests prober.now plan.now n.device n.note) own.notes.items }
+        ensures { IsFree board.entry.now result.seat × All (λ n. P.attests prober.entry.now plan.entry.now n.device n.note) result.notes.items }
+    { work(rt, alloc, board, plan, prober, crew, own, fewer) };
+    let (theirs, mine) = thread::join(rt, second, first);
+    land(board, plan, prober, mine, theirs)
 }

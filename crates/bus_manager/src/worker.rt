@@ -34,7 +34,10 @@ fn work<J: PlanName, P: Prober, R: Wait>(
         // the note's room first, so that no flight is left for want of it
         match notes.reserve(1) {
             Ok(()) => {}
-            Err(_) => break,
+            Err(_) => {
+                manager.leave();
+                break;
+            }
         }
         let Some((ticket, seen)) = manager.take(rt) else {
             break;

@@ -1,12 +1,14 @@
 -- Paths that differ, and their places.
-use Rattle.std.proofs.Common.{◌≡◌, ◌≢◌, ◌∙◌, ap, sym, refl, ℕ, zero, suc, ◌<◌, Bool, true, false, not, List, [], ◌∷◌, length, get_or, map, take, arith}
-use Rattle.std.specs.Prelude.{AllPairs, All}
+use Rattle.std.proofs.Common.{◌≡◌, ◌≢◌, ◌∙◌, ap, sym, refl, ℕ, zero, suc, ◌<◌, Bool, true, false, cond, not, List, [], ◌∷◌, length, get_or, map, take, arith}
+use Rattle.std.specs.List.{position_or_len}
+use Rattle.std.specs.Prelude.{AllPairs, All, Some, None, nat_lt, position}
 use Rattle.std.specs.Cmp.Lexicographic.{same_text, nat_list_eq_equiv}
 use Rattle.std.specs.Str.{bytes_eq}
-use Rattle.std.proofs.lemmas.Bool.{ltb-true}
-use Rattle.std.proofs.lemmas.List.{get_or-take, get_or_default, length-take-le}
+use Rattle.std.proofs.lemmas.Bool.{lt-ltb, ltb-true}
+use Rattle.std.proofs.lemmas.List.{get_or-map, get_or-take, get_or_default, length-map, length-take-le}
 use Rattle.std.proofs.lemmas.List.Folds.{list_any_at, Any-from_list_any}
-use Rattle.std.proofs.lemmas.List.Sums.{passes_at_first}
+use Rattle.std.proofs.lemmas.List.Sums.{passes_at_first, position_or_len_is}
+use Rattle.bus_plan.specs.Plan.{PlannedDevice, paths, device_at}
 use Rattle.bus_plan.specs.PlanPaths.{is_among, are_distinct, are_known, place_of}
 use Rattle.bus_plan.proofs.BoolLemmas.{and-left, and-right, and_both, not-true}
 use Rattle.bus_plan.proofs.PathLemmas.{found-is}
@@ -68,3 +70,25 @@ before-absent xs i e pairs within =
     let lt : j < i = omega arith in
     pairs j i d lt within (sym (get_or-take i xs j d lt) ∙ sym same ∙ get_or_default xs i e d within))
     (is_among (get_or xs i e) (take i xs)) refl
+
+-- where no two places hold one path, a path stands at the one place that holds it
+differs : (x y : List ℕ) → x ≢ y → bytes_eq x y ≡ false
+differs x y apart = by_test (bytes_eq x y) refl
+  where
+    by_test : (t : Bool) → bytes_eq x y ≡ t → t ≡ false
+    by_test true e = absurd (apart (bytes_eq-same x y e))
+    by_test false e = refl
+
+place-is : (xs : List (List ℕ)) (i : ℕ) (d q : List ℕ) → AllPairs (λ a b. a ≢ b) xs → i < length xs → get_or xs i d ≡ q → position (bytes_eq q) xs ≡ Some i
+place-is xs i d q pairs within here =
+    let place : position_or_len (bytes_eq q) xs ≡ i =
+    position_or_len_is (bytes_eq q) xs i d (omega arith)
+    (λ k below. differs q (get_or xs k d) (λ same. pairs k i d below within (sym same ∙ sym here)))
+    (λ inside. ap (bytes_eq q) here ∙ bytes_eq-refl q) in
+    ap (λ n. cond (nat_lt n (length xs)) (Some n) None) place ∙ ap (λ t. cond t (Some i) None) (lt-ltb i (length xs) within)
+
+pub device-is : (plan : List PlannedDevice) (i : ℕ) (d : PlannedDevice) (q : List ℕ) → AllPairs (λ a b. a ≢ b) (paths plan) → i < length plan → d ≡ get_or plan i d
+    → d.path ≡ q → device_at plan q ≡ Some i
+device-is plan i d q pairs within at is =
+    let long : length (paths plan) ≡ length plan = length-map plan (λ x. x.path) in
+    place-is (paths plan) i [] q pairs (omega arith) (get_or-map (λ x. x.path) plan i d [] within ∙ ap (λ x. x.path) (sym at) ∙ is)

@@ -14,6 +14,12 @@ use Rattle.bus_plan.specs.Consumers.{devices, has_supplier, consumers_of}
 use Rattle.bus_plan.specs.Private.Late.{AreStrings, gain_of, gained, given}
 use Rattle.bus_plan.proofs.BoolLemmas.{and-left, and_false}
 
+pub any-same : (listed strings : List (List ℕ)) → AreStrings listed strings → (xs : List (List ℕ))
+    → list_any (λ s. is_among s listed) xs ≡ list_any (λ s. is_among s strings) xs
+any-same listed strings same [] = refl
+any-same listed strings same (x ∷ xs) =
+    ap (λ t. t || list_any (λ s. is_among s listed) xs) (same x) ∙ ap (λ t. is_among x strings || t) (any-same listed strings same xs)
+
 module _ (name : List ℕ) (strings : List (List ℕ)) where
   -- ---- a device
   path-stays : (d : PlannedDevice) → (device_with name strings d).path ≡ d.path
@@ -124,12 +130,8 @@ module _ (name : List ℕ) (strings : List (List ℕ)) where
   index-stays plan index is = is ∙ sym (paths-stay plan)
 
   -- ---- the devices get what they gain
-  gets-by : (listed : List (List ℕ)) → AreStrings listed strings → (d : PlannedDevice) → gets_driver d listed ≡ gets_driver d strings
-  gets-by listed same d = ap (λ t. (d.available && is_none d.driver) && t) (any-same d.compatibles)
-    where
-      any-same : (xs : List (List ℕ)) → list_any (λ s. is_among s listed) xs ≡ list_any (λ s. is_among s strings) xs
-      any-same [] = refl
-      any-same (x ∷ xs) = ap (λ t. t || list_any (λ s. is_among s listed) xs) (same x) ∙ ap (λ t. is_among x strings || t) (any-same xs)
+  pub gets-by : (listed : List (List ℕ)) → AreStrings listed strings → (d : PlannedDevice) → gets_driver d listed ≡ gets_driver d strings
+  gets-by listed same d = ap (λ t. (d.available && is_none d.driver) && t) (any-same listed strings same d.compatibles)
 
   gained-is : (d : PlannedDevice) (t : Bool) → gained d (if t then Some name else None) ≡ (if t then driven_by name d else d)
   gained-is d true = refl

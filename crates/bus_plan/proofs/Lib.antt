@@ -16,6 +16,7 @@ pub mod FieldsLemmas
 pub mod StringsLemmas
 pub mod LateFaults
 pub mod LateDriverLemmas
+pub mod WantedLemmas
 pub mod TextBytes
 pub mod ReadBack
 pub mod TextLines

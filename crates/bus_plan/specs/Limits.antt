@@ -3,4 +3,4 @@ use Rattle.std.specs.Prelude.{ℕ}
 
 -- the most devices of a plan
 abbrev pub most_devices : ℕ
-most_devices = 512
+most_devices = 4096

@@ -7,6 +7,7 @@ ghost use Rattle.bus_plan.specs.Private.Late.{AreStrings, gain_of, given};
 
 use crate::paths::PathIndex;
 use crate::planned::Planned;
+use crate::wanted::add_strings;
 use dt_tree::{Bytes, Name};
 use std::alloc::{AllocError, Global};
 use std::hash::RandomState;
@@ -20,13 +21,12 @@ pub fn string_set(
     ensures { IfOk result (λ set. AreStrings set strings.now) }
 {
     let mut set = PathIndex::new(alloc, hasher);
-    for string in strings {
-        set.add(alloc, string.as_slice())?;
-    }
+    add_strings(alloc, &mut set, strings)?;
     Ok(set)
 }
 
-fn is_listed(strings: &[Bytes], listed: &PathIndex) -> bool
+/// Whether some string is listed.
+pub fn is_listed(strings: &[Bytes], listed: &PathIndex) -> bool
     ensures { result ≡ list_any (λ string. is_among string listed.now) strings.now }
 {
     for string in strings {
@@ -37,7 +37,8 @@ fn is_listed(strings: &[Bytes], listed: &PathIndex) -> bool
     false
 }
 
-fn gets_driver(device: &Planned, listed: &PathIndex) -> bool
+/// Whether a device gets the driver.
+pub fn gets_driver(device: &Planned, listed: &PathIndex) -> bool
     ensures { result ≡ gets_driver device.now listed.now }
 {
     device.available() && device.driver().is_none() && is_listed(device.compatibles(), listed)

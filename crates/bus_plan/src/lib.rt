@@ -7,6 +7,7 @@ mod device_line;
 mod device_lists;
 mod error;
 mod fields;
+mod hints;
 mod late_driver;
 mod late_faults;
 mod laws;
@@ -22,6 +23,7 @@ mod reading;
 mod strings;
 mod strings_line;
 mod verdict;
+mod wanted;
 mod writing;
 
 pub use device::Device;

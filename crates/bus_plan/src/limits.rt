@@ -1,2 +1,2 @@
 /// The most devices of a plan.
-pub const MAX_DEVICES: usize = 512;
+pub const MAX_DEVICES: usize = 4096;

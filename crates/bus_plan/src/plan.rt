@@ -1,13 +1,15 @@
-ghost use Rattle.std.specs.Prelude.{◌≡◌, ◌<◌, ◌↔◌, [], true, IsTrue, IfOk, OnOk, OnErr, length};
+ghost use Rattle.std.specs.Prelude.{◌≡◌, ◌<◌, ◌↔◌, [], true, IsTrue, IfOk, OnOk, OnErr, length, Some};
 ghost use Rattle.std.specs.Option.{option_copied};
 
 use crate::consumers::consumer_lists;
 use crate::device::Device;
 use crate::device_lists::DeviceLists;
-use crate::late_driver::{gains, give, string_set};
+use crate::hints::PathHints;
+use crate::late_driver::{gains, give, is_listed, string_set};
 use crate::paths::PathIndex;
 use crate::planned::Planned;
 use crate::verdict::Verdict;
+use crate::wanted::{all_wanted, left_wanted};
 use dt_tree::{Bytes, Name, Path};
 use std::alloc::{AllocError, Global};
 use std::hash::RandomState;
@@ -19,6 +21,9 @@ pub struct Plan {
     devices: Vec<Planned>,
     index: PathIndex,
     consumers: DeviceLists,
+    /// The strings by which devices wait for a driver.
+    wanted: PathIndex,
+    hints: PathHints,
 }
 
 impl Model for Plan {
@@ -30,7 +35,7 @@ impl Model for Plan {
 
     ghost view = { λ plan. plan.devices.items };
 
-    ghost invariant = { λ plan. IsIndexed plan.devices.items plan.index plan.consumers };
+    ghost invariant = { λ plan. IsIndexed plan.devices.items plan.index plan.consumers plan.wanted };
 }
 
 impl Plan {
@@ -57,10 +62,14 @@ impl Plan {
         ensures { IfOk result (λ plan. plan ≡ devices.items) }
     {
         let consumers = consumer_lists(alloc, devices.as_slice())?;
+        let wanted = all_wanted(alloc, index.hasher(), devices.as_slice())?;
+        let hints = PathHints::of(alloc, devices.as_slice())?;
         Ok(Self {
             devices,
             index,
             consumers,
+            wanted,
+            hints,
         })
     }
 
@@ -137,7 +146,21 @@ impl Plan {
     pub fn device(&self, path: &[u8]) -> Option<Device>
         ensures { result ≡ device_at self.now path.now }
     {
+        let guess = self.hints.guess(path);
+        if self.is_at(guess, path) {
+            return Some(Device::new(guess));
+        }
         self.index.position(path).map(Device::new)
+    }
+
+    // Whether the device at a place has this path.
+    fn is_at(&self, place: usize, path: &[u8]) -> bool
+        ensures { IsTrue result → device_at self.now path.now ≡ Some place }
+    {
+        if place >= self.devices.len() {
+            return false;
+        }
+        self.devices[place].path().as_bytes() == path
     }
 
     ghost use Rattle.bus_plan.specs.Plan.{compatibles_of, is_driver_name};
@@ -171,8 +194,14 @@ impl Plan {
         ensures count { IfOk result (λ count. count ≡ gaining self.old compatibles.now) }
         ensures err { OnErr result (self.new ≡ self.old) }
     {
-        let strings = string_set(alloc, self.index.hasher(), compatibles)?;
+        if !is_listed(compatibles, &self.wanted) {
+            return Ok(0);
+        }
+        let hasher = self.index.hasher();
+        let strings = string_set(alloc, hasher, compatibles)?;
+        let wanted = left_wanted(alloc, hasher, self.devices.as_slice(), &strings)?;
         let gains = gains(alloc, self.devices.as_slice(), name, &strings)?;
+        self.wanted = wanted;
         Ok(give(&mut self.devices, gains))
     }
 

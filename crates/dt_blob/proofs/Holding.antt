@@ -10,9 +10,9 @@ use Rattle.dt_blob.specs.BigEndian.{double_word}
 use Rattle.dt_blob.specs.HeaderWords.{header_of, header_fault, strings_of, structure_of, reserves_of}
 use Rattle.dt_blob.specs.Holds.{Reserves, SpellsRoot, StructureSpells, Holds}
 use Rattle.dt_blob.specs.Token.{tokens_of, tree_tokens}
-use Rattle.dt_blob.specs.Steps.Opened.{begun, root_from}
+use Rattle.dt_blob.specs.Steps.NodeBuilders.{begun, root_from}
 use Rattle.dt_blob.specs.Steps.Reading.{room_of, tokens_at, structure_tokens, reserves_in, reserves_at, tree_in}
-use Rattle.dt_blob.proofs.Laying.{laid}
+use Rattle.dt_blob.proofs.Laying.{in_place}
 use Rattle.dt_blob.proofs.TokenLists.{Spelling, root_spelled, root_lexed}
 use Rattle.dt_blob.proofs.Sizes.{length-double_word}
 use Rattle.dt_blob.proofs.States.{root_sound, root_again}
@@ -103,7 +103,7 @@ front_is k front rest d e =
 structure_held : (bytes : List ℕ) (root : NodeData) → header_fault bytes ≡ None → Spelling (is_some (header_of bytes).structure_size) (strings_of bytes) (room_in bytes) (tokens_of root) → StructureSpells bytes root
 structure_held bytes root f s =
     let h = header_of bytes in
-    let l = laid bytes f in
+    let l = in_place bytes f in
     let d : List ℕ = drop h.structure_at bytes in
     let same : structure_of (length s.front) bytes ≡ s.front = front_is (room_of h) s.front s.rest d s.is in (
       length s.front,

@@ -8,7 +8,7 @@ use Rattle.dt_blob.specs.HeaderWords.{header_of, is_laid_out, fault_in, header_f
 use Rattle.dt_blob.specs.Steps.Reading.{room_of}
 use Rattle.dt_blob.proofs.Tests.{not_below, at_most, both, not_false, no_fault}
 
-pub record Laid (h : Header) (len : ℕ) : Type 0 where
+pub record AreInPlace (h : Header) (len : ℕ) : Type 0 where
   pub whole : 40 ≤ len
   pub size : h.size ≤ len
   pub structure : h.structure_at ≤ h.size
@@ -33,8 +33,8 @@ size_fault h len = if nat_lt len h.size then Some Truncated else layout_fault h
 abbrev version_fault : Header → ℕ → Option BlobError
 version_fault h len = if nat_lt h.version 16 || nat_lt 17 h.last_compatible then Some BadVersion else size_fault h len
 
-laid_in : (h : Header) (len : ℕ) → 40 ≤ len → fault_in h len ≡ None → Laid h len
-laid_in h len w e =
+in_place_in : (h : Header) (len : ℕ) → 40 ≤ len → fault_in h len ≡ None → AreInPlace h len
+in_place_in h len w e =
     let c = no_fault (not (h.magic == 0xd00dfeed)) BadMagic (version_fault h len) e in
     let d = no_fault (nat_lt h.version 16 || nat_lt 17 h.last_compatible) BadVersion (size_fault h len) (c.1) in
     let f = no_fault (nat_lt len h.size) Truncated (layout_fault h) (d.1) in
@@ -52,13 +52,13 @@ laid_in h len w e =
       strings = at_most (h.strings_at + h.strings_size) h.size (r.1);
     }
 
-pub laid : (bytes : List ℕ) → header_fault bytes ≡ None → Laid (header_of bytes) (length bytes)
+pub in_place : (bytes : List ℕ) → header_fault bytes ≡ None → AreInPlace (header_of bytes) (length bytes)
 unfolding header_fault
-laid bytes e =
+in_place bytes e =
     let a = no_fault (nat_lt (2 ^ 28) (length bytes)) TooLarge (if nat_lt (length bytes) 40 then Some Truncated else fault_in (header_of bytes) (length bytes)) e in
     let b = no_fault (nat_lt (length bytes) 40) Truncated (fault_in (header_of bytes) (length bytes)) (a.1) in
-    laid_in (header_of bytes) (length bytes) (not_below (length bytes) 40 (b.0)) (b.1)
+    in_place_in (header_of bytes) (length bytes) (not_below (length bytes) 40 (b.0)) (b.1)
 
 -- the same of a header that was read
-pub laid_as : (bytes : List ℕ) (h : Header) → h ≡ header_of bytes → header_fault bytes ≡ None → Laid h (length bytes)
-laid_as bytes h e f = subst (λ (x : Header). Laid x (length bytes)) (sym e) (laid bytes f)
+pub in_place_as : (bytes : List ℕ) (h : Header) → h ≡ header_of bytes → header_fault bytes ≡ None → AreInPlace h (length bytes)
+in_place_as bytes h e f = subst (λ (x : Header). AreInPlace x (length bytes)) (sym e) (in_place bytes f)

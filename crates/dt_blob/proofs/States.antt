@@ -8,15 +8,15 @@ use Rattle.dt_tree.specs.Name.{is_name, are_names}
 use Rattle.dt_tree.specs.Sound.{are_distinct, AreSound, AreSiblings, IsSoundBelow, IsSound}
 use Rattle.dt_tree.specs.Fault.{fault_of, are_named}
 use Rattle.dt_blob.specs.Token.{Token, begin_node, end_node, property, nop, end, property_tokens, sibling_tokens, tokens_of, tree_tokens}
-use Rattle.dt_blob.specs.Steps.Opened.{Opened, opened, State, begun, inside, behind, ended, begin_in, property_in, behind_node, node_of, end_in, close_in, step, run, root_of, root_from}
+use Rattle.dt_blob.specs.Steps.NodeBuilders.{NodeSoFar, node_so_far, State, begun, inside, behind, ended, begin_in, property_in, behind_node, node_of, end_in, close_in, step, run, root_of, root_from}
 use Rattle.dt_blob.proofs.Tests.{both, equal, test_below, test_not_below, test_unequal}
 
 -- ---- what has been read
 
-abbrev opened_tokens : Opened → List Token
+abbrev opened_tokens : NodeSoFar → List Token
 opened_tokens o = begin_node o.name ∷ (property_tokens o.properties ++ sibling_tokens (siblings o.children))
 
-abbrev outer_tokens : List Opened → List Token
+abbrev outer_tokens : List NodeSoFar → List Token
 outer_tokens [] = []
 outer_tokens (o ∷ os) = outer_tokens os ++ opened_tokens o
 
@@ -41,7 +41,7 @@ children_push (m ∷ ns) n =
     ∙ ap (λ (x : List Token). begin_node m.name ∷ x) (ap (λ (x : List Token). ps ++ x) (sym (append_assoc inner (end_node ∷ rest) (tokens_of n))) ∙ sym (append_assoc ps (inner ++ end_node ∷ rest) (tokens_of n)))
 
 -- a child goes behind the children
-node_put : (node : NodeData) (outer : List Opened) → so_far (behind_node node outer) ≡ outer_tokens outer ++ tokens_of node
+node_put : (node : NodeData) (outer : List NodeSoFar) → so_far (behind_node node outer) ≡ outer_tokens outer ++ tokens_of node
 node_put node [] = refl
 node_put node (o ∷ os) =
     let ps : List Token = property_tokens o.properties in
@@ -56,14 +56,14 @@ pushed : (s u v : State) (t : Token) → Some v ≡ Some u → so_far v ≡ so_f
 pushed s u v t e is = subst (λ (x : State). so_far x ≡ so_far s ++ t ∷ []) (some_same v u e) is
 
 begin_sound : (s u : State) (name : List ℕ) → begin_in s name ≡ Some u → so_far u ≡ so_far s ++ begin_node name ∷ []
-begin_sound begun u [] e = pushed begun u (inside (opened [] [] []) []) (begin_node []) e refl
+begin_sound begun u [] e = pushed begun u (inside (node_so_far [] [] []) []) (begin_node []) e refl
 begin_sound begun u (b ∷ bs) e = absurd (cc e)
 begin_sound (inside top outer) u name e = by_test _ refl e where
   by_test : (t : Bool) → (is_name name && nat_lt (length outer) 64) ≡ t → begin_in (inside top outer) name ≡ Some u → so_far u ≡ so_far (inside top outer) ++ begin_node name ∷ []
   by_test false f e = absurd (let bad : None ≡ Some u = (rw f at e) in cc)
   by_test true f e =
-      let now : Some (inside (opened name [] []) (top ∷ outer)) ≡ Some u = (rw f at e) in
-      pushed (inside top outer) u (inside (opened name [] []) (top ∷ outer)) (begin_node name) now refl
+      let now : Some (inside (node_so_far name [] []) (top ∷ outer)) ≡ Some u = (rw f at e) in
+      pushed (inside top outer) u (inside (node_so_far name [] []) (top ∷ outer)) (begin_node name) now refl
 begin_sound (behind root) u name e = absurd (cc e)
 begin_sound (ended root) u name e = absurd (cc e)
 
@@ -74,16 +74,16 @@ no_children (n ∷ ns) e = let none : length (n ∷ ns) ≡ 0 = equal (length (n
 abbrev the_property : List ℕ → List ℕ → Property
 the_property name value = record { name = name; value = value }
 
-abbrev after_property : Opened → List ℕ → List ℕ → List NodeData → Opened
-after_property top name value ns = opened top.name (top.properties ++ the_property name value ∷ []) ns
+abbrev after_property : NodeSoFar → List ℕ → List ℕ → List NodeData → NodeSoFar
+after_property top name value ns = node_so_far top.name (top.properties ++ the_property name value ∷ []) ns
 
-abbrev node_at : Opened → NodeData
+abbrev node_at : NodeSoFar → NodeData
 node_at top = node_data top.name top.properties (siblings top.children)
 
 property_sound : (s u : State) (name value : List ℕ) → property_in s name value ≡ Some u → so_far u ≡ so_far s ++ property name value ∷ []
 property_sound begun u name value e = absurd (cc e)
 property_sound (inside top outer) u name value e = by_test _ refl e where
-  flat : so_far (inside (after_property top name value []) outer) ≡ so_far (inside (opened top.name top.properties []) outer) ++ property name value ∷ []
+  flat : so_far (inside (after_property top name value []) outer) ≡ so_far (inside (node_so_far top.name top.properties []) outer) ++ property name value ∷ []
   flat =
       let ps : List Token = property_tokens top.properties in
       ap (λ (x : List Token). outer_tokens outer ++ begin_node top.name ∷ (x ++ [])) (properties_push top.properties (the_property name value))
@@ -96,7 +96,7 @@ property_sound (inside top outer) u name value e = by_test _ refl e where
       let now : Some (inside (after_property top name value top.children) outer) ≡ Some u = (rw f at e) in
       let empty = no_children top.children ((both (is_name name) (length top.children == 0) f).1) in
       pushed (inside top outer) u (inside (after_property top name value top.children) outer) (property name value) now
-      (subst (λ (ns : List NodeData). so_far (inside (after_property top name value ns) outer) ≡ so_far (inside (opened top.name top.properties ns) outer) ++ property name value ∷ []) (sym empty) flat)
+      (subst (λ (ns : List NodeData). so_far (inside (after_property top name value ns) outer) ≡ so_far (inside (node_so_far top.name top.properties ns) outer) ++ property name value ∷ []) (sym empty) flat)
 property_sound (behind root) u name value e = absurd (cc e)
 property_sound (ended root) u name value e = absurd (cc e)
 
@@ -141,7 +141,7 @@ run_sound (t ∷ ts) s u e = by_step _ refl e (λ v h. run_sound ts v u h) where
 
 -- ---- the root has no name
 
-abbrev outermost : Opened → List Opened → Opened
+abbrev outermost : NodeSoFar → List NodeSoFar → NodeSoFar
 outermost o [] = o
 outermost o (p ∷ ps) = outermost p ps
 
@@ -151,20 +151,20 @@ Unnamed (inside top outer) = (outermost top outer).name ≡ []
 Unnamed (behind root) = root.name ≡ []
 Unnamed (ended root) = root.name ≡ []
 
-unnamed_push : (top o : Opened) (outer : List Opened) → (outermost top (o ∷ outer)).name ≡ (outermost o outer).name
+unnamed_push : (top o : NodeSoFar) (outer : List NodeSoFar) → (outermost top (o ∷ outer)).name ≡ (outermost o outer).name
 unnamed_push top o outer = refl
 
 -- the outermost node's name doesn't depend on what else it holds
-outer_name : (outer : List Opened) (a b : Opened) → a.name ≡ b.name → (outermost a outer).name ≡ (outermost b outer).name
+outer_name : (outer : List NodeSoFar) (a b : NodeSoFar) → a.name ≡ b.name → (outermost a outer).name ≡ (outermost b outer).name
 outer_name [] a b e = e
 outer_name (o ∷ outer) a b e = refl
 
-unnamed_node : (node : NodeData) (top : Opened) (outer : List Opened) → node.name ≡ top.name → (outermost top outer).name ≡ [] → Unnamed (behind_node node outer)
+unnamed_node : (node : NodeData) (top : NodeSoFar) (outer : List NodeSoFar) → node.name ≡ top.name → (outermost top outer).name ≡ [] → Unnamed (behind_node node outer)
 unnamed_node node top [] e h = e ∙ h
-unnamed_node node top (o ∷ os) e h = outer_name os (opened o.name o.properties (o.children ++ node ∷ [])) o refl ∙ h
+unnamed_node node top (o ∷ os) e h = outer_name os (node_so_far o.name o.properties (o.children ++ node ∷ [])) o refl ∙ h
 
 unnamed_step : (s u : State) (t : Token) → step s t ≡ Some u → Unnamed s → Unnamed u
-unnamed_step begun u (begin_node []) e h = subst Unnamed (some_same (inside (opened [] [] []) []) u e) refl
+unnamed_step begun u (begin_node []) e h = subst Unnamed (some_same (inside (node_so_far [] [] []) []) u e) refl
 unnamed_step begun u (begin_node (b ∷ bs)) e h = absurd (cc e)
 unnamed_step begun u end_node e h = absurd (cc e)
 unnamed_step begun u (property name value) e h = absurd (cc e)
@@ -173,7 +173,7 @@ unnamed_step begun u end e h = absurd (cc e)
 unnamed_step (inside top outer) u (begin_node name) e h = by_test _ refl e where
   by_test : (t : Bool) → (is_name name && nat_lt (length outer) 64) ≡ t → begin_in (inside top outer) name ≡ Some u → Unnamed u
   by_test false f e = absurd (let bad : None ≡ Some u = (rw f at e) in cc)
-  by_test true f e = let now : Some (inside (opened name [] []) (top ∷ outer)) ≡ Some u = (rw f at e) in subst Unnamed (some_same (inside (opened name [] []) (top ∷ outer)) u now) h
+  by_test true f e = let now : Some (inside (node_so_far name [] []) (top ∷ outer)) ≡ Some u = (rw f at e) in subst Unnamed (some_same (inside (node_so_far name [] []) (top ∷ outer)) u now) h
 unnamed_step (inside top outer) u end_node e h = by_test _ refl e where
   by_test : (t : Bool) → is_none (fault_of top.properties top.children) ≡ t → end_in (inside top outer) ≡ Some u → Unnamed u
   by_test false f e = absurd (let bad : None ≡ Some u = (rw f at e) in cc)
@@ -235,15 +235,15 @@ step_then s u t ts e = rw e refl
 names_head : (n : List ℕ) (ns : List (List ℕ)) → are_names (n ∷ ns) ≡ true → (is_name n ≡ true) × (are_names ns ≡ true)
 names_head n ns e = both (is_name n) (are_names ns) e
 
-run_properties : (qs ps : List Property) (name : List ℕ) (outer : List Opened) → are_names (property_names qs) ≡ true
-    → run (inside (opened name ps []) outer) (property_tokens qs) ≡ Some (inside (opened name (ps ++ qs) []) outer)
-run_properties [] ps name outer h = ap (λ (x : List Property). Some (inside (opened name x []) outer)) (sym (append-nil ps))
+run_properties : (qs ps : List Property) (name : List ℕ) (outer : List NodeSoFar) → are_names (property_names qs) ≡ true
+    → run (inside (node_so_far name ps []) outer) (property_tokens qs) ≡ Some (inside (node_so_far name (ps ++ qs) []) outer)
+run_properties [] ps name outer h = ap (λ (x : List Property). Some (inside (node_so_far name x []) outer)) (sym (append-nil ps))
 run_properties (q ∷ qs) ps name outer h =
     let n = names_head q.name (property_names qs) h in
-    let first : property_in (inside (opened name ps []) outer) q.name q.value ≡ Some (inside (opened name (ps ++ q ∷ []) []) outer) = rw (n.0) refl in
-    step_then (inside (opened name ps []) outer) (inside (opened name (ps ++ q ∷ []) []) outer) (property q.name q.value) (property_tokens qs) first
+    let first : property_in (inside (node_so_far name ps []) outer) q.name q.value ≡ Some (inside (node_so_far name (ps ++ q ∷ []) []) outer) = rw (n.0) refl in
+    step_then (inside (node_so_far name ps []) outer) (inside (node_so_far name (ps ++ q ∷ []) []) outer) (property q.name q.value) (property_tokens qs) first
     ∙ run_properties qs (ps ++ q ∷ []) name outer (n.1)
-    ∙ ap (λ (x : List Property). Some (inside (opened name x []) outer)) (append_assoc ps (q ∷ []) qs)
+    ∙ ap (λ (x : List Property). Some (inside (node_so_far name x []) outer)) (append_assoc ps (q ∷ []) qs)
 
 pub siblings-nodes : (f : Siblings) → siblings (nodes_of f) ≡ f
 siblings-nodes none = refl
@@ -267,35 +267,35 @@ no_fault_of p c s t h =
     rw (named, first, second, third) refl
 
 -- the node that its tokens leave
-closed : (n : List ℕ) (p : List Property) (c : Siblings) → fault_of p (nodes_of c) ≡ None → node_of (opened n p (nodes_of c)) ≡ Some (node_data n p c)
+closed : (n : List ℕ) (p : List Property) (c : Siblings) → fault_of p (nodes_of c) ≡ None → node_of (node_so_far n p (nodes_of c)) ≡ Some (node_data n p c)
 closed n p c e = rw (e, siblings-nodes c) refl
 
 -- reads the properties, the children and the end of a node
-inner_read : (n : List ℕ) (p : List Property) (c : Siblings) (outer : List Opened) → AreSound p → AreSiblings c → height_of c ≤ 64
-    → run (inside (opened n p []) outer) (sibling_tokens c) ≡ Some (inside (opened n p (nodes_of c)) outer)
-    → run (inside (opened n [] []) outer) (property_tokens p ++ (sibling_tokens c ++ end_node ∷ [])) ≡ Some (behind_node (node_data n p c) outer)
+inner_read : (n : List ℕ) (p : List Property) (c : Siblings) (outer : List NodeSoFar) → AreSound p → AreSiblings c → height_of c ≤ 64
+    → run (inside (node_so_far n p []) outer) (sibling_tokens c) ≡ Some (inside (node_so_far n p (nodes_of c)) outer)
+    → run (inside (node_so_far n [] []) outer) (property_tokens p ++ (sibling_tokens c ++ end_node ∷ [])) ≡ Some (behind_node (node_data n p c) outer)
 inner_read n p c outer s t h e =
-    let close : end_in (inside (opened n p (nodes_of c)) outer) ≡ Some (behind_node (node_data n p c) outer) = rw (closed n p c (no_fault_of p c s t h)) refl in
-    run_append (property_tokens p) (sibling_tokens c ++ end_node ∷ []) (inside (opened n [] []) outer) (inside (opened n p []) outer) (run_properties p [] n outer s.named)
-    ∙ run_append (sibling_tokens c) (end_node ∷ []) (inside (opened n p []) outer) (inside (opened n p (nodes_of c)) outer) e
-    ∙ step_then (inside (opened n p (nodes_of c)) outer) (behind_node (node_data n p c) outer) end_node [] close
+    let close : end_in (inside (node_so_far n p (nodes_of c)) outer) ≡ Some (behind_node (node_data n p c) outer) = rw (closed n p c (no_fault_of p c s t h)) refl in
+    run_append (property_tokens p) (sibling_tokens c ++ end_node ∷ []) (inside (node_so_far n [] []) outer) (inside (node_so_far n p []) outer) (run_properties p [] n outer s.named)
+    ∙ run_append (sibling_tokens c) (end_node ∷ []) (inside (node_so_far n p []) outer) (inside (node_so_far n p (nodes_of c)) outer) e
+    ∙ step_then (inside (node_so_far n p (nodes_of c)) outer) (behind_node (node_data n p c) outer) end_node [] close
 
-run_siblings : (f : Siblings) (top : Opened) (outer : List Opened) → are_names (child_names f) ≡ true → IsSoundBelow f → height_of f + length outer ≤ 64
-    → run (inside top outer) (sibling_tokens f) ≡ Some (inside (opened top.name top.properties (top.children ++ nodes_of f)) outer)
-run_siblings none top outer a s h = ap (λ (x : List NodeData). Some (inside (opened top.name top.properties x) outer)) (sym (append-nil top.children))
+run_siblings : (f : Siblings) (top : NodeSoFar) (outer : List NodeSoFar) → are_names (child_names f) ≡ true → IsSoundBelow f → height_of f + length outer ≤ 64
+    → run (inside top outer) (sibling_tokens f) ≡ Some (inside (node_so_far top.name top.properties (top.children ++ nodes_of f)) outer)
+run_siblings none top outer a s h = ap (λ (x : List NodeData). Some (inside (node_so_far top.name top.properties x) outer)) (sym (append-nil top.children))
 run_siblings (more n p c rest) top outer a s h =
     let name = names_head n (child_names rest) a in
     let deep : nat_lt (length outer) 64 ≡ true = test_below (length outer) 64 (omega arith) in
-    let first : begin_in (inside top outer) n ≡ Some (inside (opened n [] []) (top ∷ outer)) = rw (name.0, deep) refl in
+    let first : begin_in (inside top outer) n ≡ Some (inside (node_so_far n [] []) (top ∷ outer)) = rw (name.0, deep) refl in
     let child : NodeData = node_data n p c in
-    let next : Opened = opened top.name top.properties (top.children ++ child ∷ []) in
-    let below = run_siblings c (opened n p []) (top ∷ outer) s.1.named s.2 (omega arith) in
+    let next : NodeSoFar = node_so_far top.name top.properties (top.children ++ child ∷ []) in
+    let below = run_siblings c (node_so_far n p []) (top ∷ outer) s.1.named s.2 (omega arith) in
     let inner = inner_read n p c (top ∷ outer) s.0 s.1 (omega arith) below in
-    step_then (inside top outer) (inside (opened n [] []) (top ∷ outer)) (begin_node n) (property_tokens p ++ (sibling_tokens c ++ end_node ∷ sibling_tokens rest)) first
-    ∙ ap (run (inside (opened n [] []) (top ∷ outer))) (regrouped (property_tokens p) (sibling_tokens c) (sibling_tokens rest))
-    ∙ run_append (property_tokens p ++ (sibling_tokens c ++ end_node ∷ [])) (sibling_tokens rest) (inside (opened n [] []) (top ∷ outer)) (inside next outer) inner
+    step_then (inside top outer) (inside (node_so_far n [] []) (top ∷ outer)) (begin_node n) (property_tokens p ++ (sibling_tokens c ++ end_node ∷ sibling_tokens rest)) first
+    ∙ ap (run (inside (node_so_far n [] []) (top ∷ outer))) (regrouped (property_tokens p) (sibling_tokens c) (sibling_tokens rest))
+    ∙ run_append (property_tokens p ++ (sibling_tokens c ++ end_node ∷ [])) (sibling_tokens rest) (inside (node_so_far n [] []) (top ∷ outer)) (inside next outer) inner
     ∙ run_siblings rest next outer (name.1) s.3 (omega arith)
-    ∙ ap (λ (x : List NodeData). Some (inside (opened top.name top.properties x) outer)) (append_assoc top.children (child ∷ []) (nodes_of rest)) where
+    ∙ ap (λ (x : List NodeData). Some (inside (node_so_far top.name top.properties x) outer)) (append_assoc top.children (child ∷ []) (nodes_of rest)) where
       regrouped : (a b d : List Token) → a ++ (b ++ end_node ∷ d) ≡ (a ++ (b ++ end_node ∷ [])) ++ d
       regrouped a b d = ap (λ (x : List Token). a ++ x) (sym (append_assoc b (end_node ∷ []) d)) ∙ sym (append_assoc a (b ++ end_node ∷ []) d)
 
@@ -304,9 +304,9 @@ unfolding root_from
 root_again root s e =
     let p : List Property = root.properties in
     let c : Siblings = root.children in
-    let below = run_siblings c (opened [] p []) [] s.siblings.named s.below (let h = s.shallow in omega (arith, h)) in
+    let below = run_siblings c (node_so_far [] p []) [] s.siblings.named s.below (let h = s.shallow in omega (arith, h)) in
     let inner = inner_read [] p c [] s.properties s.siblings s.shallow below in
     let all : run begun (tree_tokens (node_data [] p c)) ≡ Some (ended (node_data [] p c)) =
-    run_append (property_tokens p ++ (sibling_tokens c ++ end_node ∷ [])) (end ∷ []) (inside (opened [] [] []) []) (behind (node_data [] p c)) inner in
+    run_append (property_tokens p ++ (sibling_tokens c ++ end_node ∷ [])) (end ∷ []) (inside (node_so_far [] [] []) []) (behind (node_data [] p c)) inner in
     let same : node_data [] p c ≡ root = ap (λ (x : List ℕ). node_data x p c) (sym e) in
     subst (λ (x : NodeData). option_and_then root_of (run begun (tree_tokens x)) ≡ Some x) same (rw all refl)

@@ -9,7 +9,7 @@ use Rattle.dt_blob.specs.declared.error.BlobError.{BlobError}
 use Rattle.dt_blob.specs.declared.error.BlobError.TheVariants as errors
 use Rattle.dt_blob.specs.HeaderWords.{header_of, fault_in, header_fault}
 use Rattle.dt_blob.specs.Token.{Token, begin_node, end_node, property, nop, end}
-use Rattle.dt_blob.specs.Steps.Opened.{State, Opened, begun, inside, behind, ended, run, advance, is_end, root_of, root_from}
+use Rattle.dt_blob.specs.Steps.NodeBuilders.{State, NodeSoFar, begun, inside, behind, ended, run, advance, is_end, root_of, root_from}
 use Rattle.dt_blob.specs.Steps.Reading.{Refuses, token_by, token_at, tokens_in, tokens_at, left, reserves_in, reserves_at}
 
 -- ---- the header
@@ -196,7 +196,7 @@ pub end_begun : (ts : List Token) → root_from begun (end ∷ ts) ≡ None
 unfolding root_from
 end_begun ts = refl
 
-pub end_inside : (top : Opened) (outer : List Opened) (ts : List Token) → root_from (inside top outer) (end ∷ ts) ≡ None
+pub end_inside : (top : NodeSoFar) (outer : List NodeSoFar) (ts : List Token) → root_from (inside top outer) (end ∷ ts) ≡ None
 unfolding root_from
 end_inside top outer ts = refl
 

@@ -5,7 +5,7 @@ use Rattle.dt_tree.specs.declared.property.Property.{Property}
 use Rattle.dt_tree.specs.NodeData.{NodeData, Siblings, none, more}
 use Rattle.dt_blob.specs.Token.{Token, begin_node, end_node, property, nop, end, property_tokens, sibling_tokens, tokens_of}
 use Rattle.dt_blob.specs.Holds.{SpellsToken, Spells, is_nop, without_nops, SpellsRoot}
-use Rattle.dt_blob.specs.Steps.Opened.{is_end}
+use Rattle.dt_blob.specs.Steps.NodeBuilders.{is_end}
 use Rattle.dt_blob.specs.Steps.Reading.{token_at, left, tokens_by, tokens_in, tokens_at}
 use Rattle.dt_blob.proofs.Spelled.{Found, token_sound, token_again, token_long}
 use Rattle.dt_blob.proofs.Words.{AreBytes, bytes_right}

@@ -10,7 +10,7 @@ use Rattle.dt_blob.specs.BigEndian.{double_word}
 use Rattle.dt_blob.specs.declared.read_header.Header.{Header}
 use Rattle.dt_blob.specs.HeaderWords.{from_place, block, header_of, header_fault, strings_of, structure_of, reserves_of}
 use Rattle.dt_blob.specs.Holds.{Reserves}
-use Rattle.dt_blob.specs.Steps.Opened.{begun, root_from}
+use Rattle.dt_blob.specs.Steps.NodeBuilders.{begun, root_from}
 use Rattle.dt_blob.specs.Steps.Reading.{tokens_at, room_of, structure_tokens, with_reserve, reserves_in, reserves_at, tree_by, tree_in}
 use Rattle.dt_blob.proofs.Tests.{not_below, equal, both, guarded}
 use Rattle.dt_blob.proofs.Words.{AreBytes, bytes_behind, bytes_before, double_word_spelled, double_word_small}

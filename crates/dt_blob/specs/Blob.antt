@@ -62,11 +62,11 @@ header boot_cpu reserved structure strings =
     ++ (word format_version ++ (word compatible_version ++ (word boot_cpu ++ (word strings ++ word structure))))))))
 
 -- the blocks in order, without gaps
-abbrev pub assembled : ℕ → List ℕ → List ℕ → List ℕ → List ℕ
-assembled boot_cpu reserved structure strings =
+abbrev pub blob_made : ℕ → List ℕ → List ℕ → List ℕ → List ℕ
+blob_made boot_cpu reserved structure strings =
     header boot_cpu (length reserved) (length structure) (length strings) ++ (reserved ++ (structure ++ strings))
 
 abbrev pub blob_of : TreeData → List ℕ
 blob_of tree =
     let tokens = tree_tokens tree.root in
-    assembled tree.boot_cpu (reservations tree.reserves) (structure_from [] tokens) (with_names [] (names_in tokens))
+    blob_made tree.boot_cpu (reservations tree.reserves) (structure_from [] tokens) (with_names [] (names_in tokens))

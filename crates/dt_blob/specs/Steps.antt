@@ -1,5 +1,5 @@
 -- What private contracts cite: how far the code has come. No public clause rests on it, so that a reader need not believe it.
-pub mod Opened
+pub mod NodeBuilders
 pub mod Printed
 pub mod Reading
 pub mod Table

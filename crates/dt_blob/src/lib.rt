@@ -1,7 +1,6 @@
 //! Flattened devicetree blobs: made of a tree, read into one, and a tree printed as a source.
 #![tactic(auto)]
 
-mod assembly;
 mod bytes;
 mod error;
 mod header;
@@ -21,10 +20,11 @@ mod token_words;
 mod value_form;
 mod value_text;
 mod writer;
+mod writing;
 
-pub use assembly::write;
 pub use error::BlobError;
 pub use printing::source_text;
 pub use read_blob::read;
 pub use read_laws::{blob_holds, one_tree};
 pub use room::MAX_SIZE;
+pub use writing::write;

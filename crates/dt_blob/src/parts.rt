@@ -1,5 +1,5 @@
-//! Numbers in bytes, and bytes before and behind a place.
-ghost use Rattle.std.specs.Prelude.{◌≡◌, ◌≤◌, length, take, drop};
+//! Numbers in bytes, and the first bytes.
+ghost use Rattle.std.specs.Prelude.{◌≡◌, ◌≤◌, length, take};
 ghost use Rattle.byteorder.specs.Endian.{big_number};
 
 use byteorder::{BigEndian, ByteOrder};
@@ -9,13 +9,6 @@ pub(crate) fn word(bytes: &[u8]) -> u32
     ensures { result ≡ big_number 4 bytes.now }
 {
     BigEndian::read_u32(bytes)
-}
-
-pub(crate) fn behind(bytes: &[u8], count: usize) -> &[u8]
-    requires { count ≤ length bytes.now }
-    ensures { result.now ≡ drop count bytes.now }
-{
-    &bytes[count..]
 }
 
 pub(crate) fn first(bytes: &[u8], count: usize) -> &[u8]

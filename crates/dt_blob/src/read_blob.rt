@@ -6,11 +6,11 @@ ghost use Rattle.dt_blob.specs.Holds.{HaveNoEnd, Holds};
 ghost use Rattle.dt_blob.specs.Steps.Reading.{RefusesAll, tree_in};
 
 use crate::error::BlobError;
-use crate::parts::{behind, first};
+use crate::parts::first;
 use crate::read_header::read_header;
 use crate::read_nodes::read_root;
 use crate::read_reserves::read_reserves;
-use dt_tree::Tree;
+use dt_tree::{Tree, behind};
 use std::alloc::Global;
 
 fn block(bytes: &[u8], place: u32, size: u32) -> &[u8]

@@ -5,8 +5,9 @@ ghost use Rattle.dt_blob.specs.HeaderWords.{word_at, structure_size_in, header_o
 
 use crate::error::BlobError;
 use crate::header::{HEADER_SIZE, MAGIC, VERSION};
-use crate::parts::{behind, word};
+use crate::parts::word;
 use crate::room::MAX_SIZE;
+use dt_tree::behind;
 
 /// The lowest version that is read.
 const OLDEST_VERSION: u32 = 16;

@@ -2,7 +2,7 @@
 ghost use Rattle.std.specs.Prelude.{◌≡◌, List, [], ◌∷◌, map, reverse, Some, None, if◌then◌else◌};
 ghost use Rattle.dt_tree.specs.NodeView.{name_bytes};
 ghost use Rattle.dt_tree.specs.Name.{is_name};
-ghost use Rattle.dt_blob.specs.Steps.Opened.{Opened, inside, opened, opened_of, state_of, begin_in, property_in, node_of, end_in, is_end, advance, begun, root_from};
+ghost use Rattle.dt_blob.specs.Steps.NodeBuilders.{NodeSoFar, inside, node_so_far, so_far_of, state_of, begin_in, property_in, node_of, end_in, is_end, advance, begun, root_from};
 ghost use Rattle.dt_blob.specs.Steps.Reading.{Gives, token_of, tokens_at, left};
 ghost use Rattle.dt_blob.specs.Token.{end};
 
@@ -14,7 +14,7 @@ use std::mem;
 
 /// A node whose end hasn't come.
 #[derive(Drop)]
-pub(crate) struct OpenNode {
+pub(crate) struct NodeBuilder {
     name: Option<Name>,
     properties: Vec<Property>,
     children: Vec<Node>,
@@ -24,14 +24,14 @@ pub(crate) struct OpenNode {
 #[derive(Drop)]
 pub(crate) enum Progress {
     Nothing,
-    Inside(OpenNode, Vec<OpenNode>),
+    Inside(NodeBuilder, Vec<NodeBuilder>),
     Behind(Node),
 }
 
-fn open(alloc: Global, name: Option<Name>) -> OpenNode
-    ensures { opened_of result ≡ opened (name_bytes name) [] [] }
+fn open(alloc: Global, name: Option<Name>) -> NodeBuilder
+    ensures { so_far_of result ≡ node_so_far (name_bytes name) [] [] }
 {
-    OpenNode {
+    NodeBuilder {
         name,
         properties: Vec::new(alloc),
         children: Vec::new(alloc),
@@ -47,11 +47,11 @@ fn lawful(alloc: Global, name: &[u8]) -> Result<Name, BlobError>
 // A child's beginning, in the node at hand and those round it.
 fn begin_child(
     alloc: Global,
-    top: &mut OpenNode,
-    outer: &mut Vec<OpenNode>,
+    top: &mut NodeBuilder,
+    outer: &mut Vec<NodeBuilder>,
     name: &[u8],
 ) -> Result<(), BlobError>
-    ensures { Gives (λ _. inside (opened_of top.new) (reverse (map opened_of outer.new.items))) result (begin_in (inside (opened_of top.old) (reverse (map opened_of outer.old.items))) name.now) }
+    ensures { Gives (λ _. inside (so_far_of top.new) (reverse (map so_far_of outer.new.items))) result (begin_in (inside (so_far_of top.old) (reverse (map so_far_of outer.old.items))) name.now) }
 {
     if outer.len() >= MAX_DEPTH {
         return Err(BlobError::BadTree);
@@ -88,8 +88,8 @@ fn property(alloc: Global, name: &[u8], value: &[u8]) -> Result<Property, BlobEr
     Ok(Property { name, value })
 }
 
-fn add(alloc: Global, top: &mut OpenNode, name: &[u8], value: &[u8]) -> Result<(), BlobError>
-    ensures { (outer : List Opened) → Gives (λ _. inside (opened_of top.new) outer) result (property_in (inside (opened_of top.old) outer) name.now value.now) }
+fn add(alloc: Global, top: &mut NodeBuilder, name: &[u8], value: &[u8]) -> Result<(), BlobError>
+    ensures { (outer : List NodeSoFar) → Gives (λ _. inside (so_far_of top.new) outer) result (property_in (inside (so_far_of top.old) outer) name.now value.now) }
 {
     let children = top.children.len();
     if children > 0 {
@@ -136,10 +136,10 @@ fn end(alloc: Global, progress: Progress) -> Result<Progress, BlobError>
 }
 
 // The node without the spare room that its lists grew by.
-fn closed(alloc: Global, top: OpenNode) -> Result<Node, BlobError>
-    ensures { Gives (λ n. n) result (node_of (opened_of top)) }
+fn closed(alloc: Global, top: NodeBuilder) -> Result<Node, BlobError>
+    ensures { Gives (λ n. n) result (node_of (so_far_of top)) }
 {
-    let OpenNode {
+    let NodeBuilder {
         name,
         mut properties,
         mut children,

@@ -3,8 +3,9 @@ ghost use Rattle.std.specs.Prelude.{◌≡◌, ◌≤◌, ◌⊎◌, length, Mat
 ghost use Rattle.dt_blob.specs.Steps.Reading.{HasNoEnd, reserves_at};
 
 use crate::error::BlobError;
-use crate::parts::{behind, long};
+use crate::parts::long;
 use crate::sizing::RESERVATION_SIZE;
+use dt_tree::behind;
 use std::alloc::Global;
 
 /// The addresses and sizes before the first pair of zeros; `BadLayout` where none comes.

@@ -3,9 +3,10 @@ ghost use Rattle.std.specs.Prelude.{◌≡◌, ◌≤◌, ◌<◌, ◌^◌, leng
 ghost use Rattle.dt_blob.specs.Steps.Reading.{Gives, token_of, zero_in, padded, begin_at, string_at, value_at, property_at, token_at};
 
 use crate::error::BlobError;
-use crate::parts::{behind, first, word};
+use crate::parts::{first, word};
 use crate::token_words::{BEGIN_NODE_WORD, END_NODE_WORD, END_WORD, NOP_WORD, PROPERTY_WORD};
 use bstr::ByteSlice;
+use dt_tree::behind;
 
 /// A token whose texts the blob lends.
 #[derive(Clone, Copy)]

@@ -4,7 +4,8 @@ ghost use Rattle.std.specs.List.{list_all};
 ghost use Rattle.dt_blob.specs.SourceText.{is_printable, are_strings};
 ghost use Rattle.dt_blob.specs.Steps.Printed.{form_of};
 
-use crate::parts::{behind, first};
+use crate::parts::first;
+use dt_tree::behind;
 use memchr::memchr;
 
 /// Strings, cells of four bytes, or single bytes: the first that fits.

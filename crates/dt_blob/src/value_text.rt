@@ -4,8 +4,9 @@ ghost use Rattle.dt_blob.specs.Blob.{limit};
 ghost use Rattle.dt_blob.specs.SourceText.{hex_digit, hex_of, space, strings_text, cells_text, pairs_text, value_text};
 ghost use Rattle.dt_blob.specs.Steps.Printed.{form_of, is_mark, mark_text};
 
-use crate::parts::{behind, first};
+use crate::parts::first;
 use crate::value_form::ValueForm;
+use dt_tree::behind;
 use memchr::memchr3;
 use std::alloc::AllocError;
 

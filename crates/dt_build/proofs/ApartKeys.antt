@@ -7,10 +7,10 @@ use Rattle.dt_tree.specs.Sound.{is_among, are_distinct}
 use Rattle.dt_meaning.specs.Paths.{Path, same_path, is_listed}
 use Rattle.dt_meaning.specs.Edits.{Definition, is_of, Label}
 use Rattle.dt_meaning.specs.References.{held}
-use Rattle.dt_draft.proofs.PathTests.{same-itself, same-is}
-use Rattle.dt_layout.proofs.Each.{Each, each-append, each-more}
-use Rattle.dt_assembly.specs.Standing.{are_apart}
-use Rattle.dt_assembly.proofs.PathFacts.{not-both, not-true, listed-next}
+use Rattle.dt_live.proofs.PathTests.{same-itself, same-is}
+use Rattle.dt_live.proofs.Each.{Each, each-append, each-more}
+use Rattle.dt_tree_builder.specs.Standing.{are_apart}
+use Rattle.dt_tree_builder.proofs.PathFacts.{not-both, not-true, listed-next}
 use Rattle.dt_build.proofs.ApartLists.{InPairs, each-passed, pairs-kept, pairs-behind}
 use Rattle.dt_build.proofs.NamedEdits.{HasOtherKey, IsOtherWord}
 

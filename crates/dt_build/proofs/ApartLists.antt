@@ -1,7 +1,7 @@
 -- What is true of each element of a list, or of each two.
 use Rattle.std.proofs.Common.{◌≡◌, Bool, true, false, List, [], ◌∷◌, ◌++◌, map, refl}
 use Rattle.std.specs.List.{filter}
-use Rattle.dt_layout.proofs.Each.{Each, each-append, each-kept, each-more, each-same}
+use Rattle.dt_live.proofs.Each.{Each, each-append, each-kept, each-more, each-same}
 
 -- each stands so to all behind it
 abbrev pub InPairs : {A : Type 0} → (A → A → Type 0) → List A → Type 0

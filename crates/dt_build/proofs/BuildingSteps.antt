@@ -54,11 +54,11 @@ module _ (symbols : Bool) (source : Source) (es : List (Definition (List Found))
   pub prepared-ready : IsLawful (said.meaning source) → IsReady p
   prepared-ready lawful =
       ready symbols source es p is lawful
-      (walked-founds p.plugin (tree_of p.draft) (founds p) (standing-all symbols (meaning_of source) es p is) (found-all symbols (meaning_of source) es p is))
+      (walked-founds p.plugin (tree_of p.live) (founds p) (standing-all symbols (meaning_of source) es p is) (found-all symbols (meaning_of source) es p is))
 
   -- no node has a name that is kept
-  pub prepared-free : names_taken symbols p.plugin (tree_of p.draft) ≡ false
-  prepared-free = ap (λ b. names_taken symbols b (tree_of p.draft)) is.plugin ∙ is.resolved.free
+  pub prepared-free : names_taken symbols p.plugin (tree_of p.live) ≡ false
+  prepared-free = ap (λ b. names_taken symbols b (tree_of p.live)) is.plugin ∙ is.resolved.free
 
   pub built : IsLawful (said.meaning source) → list_any is_too_deep (lists symbols p).nodes ≡ false → (limit : ℕ) (tree : Option TreeData) → IsFitting symbols (meaning_of source) p limit tree
       → IsBuilt symbols (meaning_of source) limit tree

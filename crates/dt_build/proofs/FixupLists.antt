@@ -8,9 +8,9 @@ use Rattle.dt_meaning.specs.Names.{fixups_name}
 use Rattle.dt_meaning.specs.Paths.{Path, same_path}
 use Rattle.dt_meaning.specs.Edits.{Definition, definition, is_of}
 use Rattle.dt_meaning.specs.References.{held}
-use Rattle.dt_meaning.specs.Fixups.{Place, appended, fixup, fixups, place_text}
-use Rattle.dt_draft.proofs.PathTests.{same-is}
-use Rattle.dt_layout.proofs.Each.{Each, each-more}
+use Rattle.dt_meaning.specs.Fixups.{Site, appended, fixup, fixups, site_text}
+use Rattle.dt_live.proofs.PathTests.{same-is}
+use Rattle.dt_live.proofs.Each.{Each, each-more}
 use Rattle.dt_build.proofs.ApartLists.{InPairs}
 use Rattle.dt_build.proofs.ApartKeys.{distinct-held}
 use Rattle.dt_build.proofs.MoreLists.{IsUnder, under-at}
@@ -45,34 +45,34 @@ module _ (p : Path) (n : List ℕ) (v : List ℕ) where
     by_key true is rest = (each-apart (e.value ++ v) e es is h.0, h.1)
     by_key false is rest = (appended-each (HasOtherKey e) es (λ w. is) h.0, rest)
 
--- ---- the fixups of places
--- the label of a place of a node elsewhere is so
+-- ---- the fixups of sites
+-- the label of a site of a node elsewhere is so
 abbrev pub IsOfLabel : (List ℕ → Type 0) → Option (List ℕ) → Type 0
 IsOfLabel N None = Unit {0}
 IsOfLabel N (Some l) = N l
 
 module _ (P : Definition (List ℕ) → Type 0) where
-  abbrev pub IsFixupSo : Place → Type 0
+  abbrev pub IsFixupSo : Site → Type 0
   IsFixupSo x = IsOfLabel (λ l. (w : List ℕ) → P (definition (fixups_name ∷ []) l w)) x.label
 
-  fixup-each : (o : Option (List ℕ)) (x : Place) (es : Properties) → IsOfLabel (λ l. (w : List ℕ) → P (definition (fixups_name ∷ []) l w)) o → Each P es → Each P (fixup o x es)
+  fixup-each : (o : Option (List ℕ)) (x : Site) (es : Properties) → IsOfLabel (λ l. (w : List ℕ) → P (definition (fixups_name ∷ []) l w)) o → Each P es → Each P (fixup o x es)
   fixup-each None x es h hs = hs
-  fixup-each (Some l) x es h hs = appended-each (fixups_name ∷ []) l (place_text x) P es h hs
+  fixup-each (Some l) x es h hs = appended-each (fixups_name ∷ []) l (site_text x) P es h hs
 
-  pub fixups-each : (xs : List Place) (es : Properties) → Each IsFixupSo xs → Each P es → Each P (fixups xs es)
+  pub fixups-each : (xs : List Site) (es : Properties) → Each IsFixupSo xs → Each P es → Each P (fixups xs es)
   fixups-each [] es h hs = hs
   fixups-each (x ∷ xs) es h hs = fixups-each xs (fixup x.label x es) h.1 (fixup-each x.label x es h.0 hs)
 
-fixup-keys : (o : Option (List ℕ)) (x : Place) (es : Properties) → InPairs HasOtherKey es → InPairs HasOtherKey (fixup o x es)
+fixup-keys : (o : Option (List ℕ)) (x : Site) (es : Properties) → InPairs HasOtherKey es → InPairs HasOtherKey (fixup o x es)
 fixup-keys None x es h = h
-fixup-keys (Some l) x es h = appended-keys (fixups_name ∷ []) l (place_text x) es h
+fixup-keys (Some l) x es h = appended-keys (fixups_name ∷ []) l (site_text x) es h
 
 -- no two have one node and one name
-pub fixups-keys : (xs : List Place) (es : Properties) → InPairs HasOtherKey es → InPairs HasOtherKey (fixups xs es)
+pub fixups-keys : (xs : List Site) (es : Properties) → InPairs HasOtherKey es → InPairs HasOtherKey (fixups xs es)
 fixups-keys [] es h = h
 fixups-keys (x ∷ xs) es h = fixups-keys xs (fixup x.label x es) (fixup-keys x.label x es h)
 
-any-place : (P : Definition (List ℕ) → Type 0) (xs : List Place) → ((l w : List ℕ) → P (definition (fixups_name ∷ []) l w)) → Each (IsFixupSo P) xs
+any-place : (P : Definition (List ℕ) → Type 0) (xs : List Site) → ((l w : List ℕ) → P (definition (fixups_name ∷ []) l w)) → Each (IsFixupSo P) xs
 any-place P [] h = tt
 any-place P (x ∷ xs) h = (by_label x.label, any-place P xs h) where
   by_label : (o : Option (List ℕ)) → IsOfLabel (λ l. (w : List ℕ) → P (definition (fixups_name ∷ []) l w)) o
@@ -80,18 +80,18 @@ any-place P (x ∷ xs) h = (by_label x.label, any-place P xs h) where
   by_label (Some l) = h l
 
 -- all stand at one node
-pub fixups-at : (xs : List Place) → Each (λ e. e.path ≡ fixups_name ∷ []) (fixups xs [])
+pub fixups-at : (xs : List Site) → Each (λ e. e.path ≡ fixups_name ∷ []) (fixups xs [])
 fixups-at xs = fixups-each (λ e. e.path ≡ fixups_name ∷ []) xs [] (any-place (λ e. e.path ≡ fixups_name ∷ []) xs (λ l w. refl)) tt
 
-pub fixups-under : (xs : List Place) → Each (λ e. IsUnder fixups_name e.path) (fixups xs [])
+pub fixups-under : (xs : List Site) → Each (λ e. IsUnder fixups_name e.path) (fixups xs [])
 fixups-under xs = each-more (λ e. e.path ≡ fixups_name ∷ []) (λ e. IsUnder fixups_name e.path) (fixups xs []) (λ e at. under-at fixups_name e.path at) (fixups-at xs)
 
 -- their names are the labels of the places
-pub fixups-names : (N : List ℕ → Type 0) (xs : List Place) → Each (λ x. IsOfLabel N x.label) xs → Each (λ e. N e.name) (fixups xs [])
+pub fixups-names : (N : List ℕ → Type 0) (xs : List Site) → Each (λ x. IsOfLabel N x.label) xs → Each (λ e. N e.name) (fixups xs [])
 fixups-names N xs h = fixups-each (λ e. N e.name) xs [] (each-more (λ x. IsOfLabel N x.label) (IsFixupSo (λ e. N e.name)) xs (λ x k. by_label x.label k) h) tt where
   by_label : (o : Option (List ℕ)) → IsOfLabel N o → IsOfLabel (λ l. (w : List ℕ) → N l) o
   by_label None k = tt
   by_label (Some l) k = λ w. k
 
-pub fixups-distinct : (xs : List Place) (q : Path) → are_distinct (map (λ e. e.name) (held (fixups xs []) q)) ≡ true
+pub fixups-distinct : (xs : List Site) (q : Path) → are_distinct (map (λ e. e.name) (held (fixups xs []) q)) ≡ true
 fixups-distinct xs q = distinct-held q (fixups xs []) (fixups-keys xs [] tt)

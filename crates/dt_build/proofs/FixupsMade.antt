@@ -1,4 +1,4 @@
--- The node of fixups, made of the places by label.
+-- The node of fixups, made of the sites by label.
 use Rattle.std.proofs.Common.{◌≡◌, ℕ, ◌<◌, Bool, true, false, List, [], ◌∷◌, ◌++◌, length, map, refl, sym, ap, ap₂, ◌∙◌, append_assoc, arith}
 use Rattle.dt_tree.specs.declared.property.Property.{Property}
 use Rattle.dt_tree.specs.NodeData.{NodeData, property_names}
@@ -7,19 +7,19 @@ use Rattle.dt_meaning.specs.Names.{fixups_name}
 use Rattle.dt_meaning.specs.Paths.{Path, is_listed}
 use Rattle.dt_meaning.specs.Edits.{Definition, definition}
 use Rattle.dt_meaning.specs.References.{held}
-use Rattle.dt_meaning.specs.Fixups.{fixups, places}
+use Rattle.dt_meaning.specs.Fixups.{fixups, sites}
 use Rattle.dt_meaning.specs.Resolved.{names_taken, when, with_more}
-use Rattle.dt_layout.proofs.Each.{Each}
-use Rattle.dt_assembly.specs.Lists.{defined_at, with_last}
-use Rattle.dt_assembly.specs.OpenNodes.{assembled}
-use Rattle.dt_assembly.specs.Standing.{walked}
-use Rattle.dt_assembly.proofs.Orders.{there-same}
-use Rattle.dt_assembly.proofs.MakingWalk.{names-defined, one-more}
+use Rattle.dt_live.proofs.Each.{Each}
+use Rattle.dt_tree_builder.specs.Lists.{defined_at, with_last}
+use Rattle.dt_tree_builder.specs.Builders.{built_lists}
+use Rattle.dt_tree_builder.specs.Standing.{walked}
+use Rattle.dt_tree_builder.proofs.Orders.{there-same}
+use Rattle.dt_tree_builder.proofs.MakingWalk.{names-defined, one-more}
 use Rattle.dt_edit.specs.Said.{tree_of}
 use Rattle.dt_resolve.specs.declared.prepared.Prepared.{Prepared}
-use Rattle.dt_build.specs.declared.groups.Group.{Group}
-use Rattle.dt_build.specs.Private.Groups.{fixups_path, given}
-use Rattle.dt_build.specs.Private.Made.{all_numbers, fixup_lists, founds, made_places, symbol_lists}
+use Rattle.dt_build.specs.declared.fixups_by_label.LabelFixups.{LabelFixups}
+use Rattle.dt_build.specs.Private.ByLabel.{fixups_path, given}
+use Rattle.dt_build.specs.Private.Made.{all_phandles, fixup_lists, founds, made_sites, symbol_lists}
 use Rattle.dt_build.specs.Private.Ready.{IsReady}
 use Rattle.dt_build.proofs.FixupLists.{fixups-at, fixups-distinct}
 use Rattle.dt_build.proofs.ListsOfPrepared.{fixups-new, symbols-whole}
@@ -27,10 +27,10 @@ use Rattle.dt_build.proofs.MoreWalked.{child-walked}
 use Rattle.dt_build.proofs.SizeOfWalk.{held-own}
 use Rattle.dt_build.proofs.SymbolsLast.{with-none}
 
--- ---- a property of each group
-pub group-put : (old new : List Property) (x : Property) (left rest : List Group) (g : Group) (whole : List (Definition (List ℕ))) → left ≡ g ∷ rest → new ≡ old ++ x ∷ [] → x.name ≡ g.label.now → x.value ≡ g.text.items
+-- ---- a property of each label
+pub label_fixups-put : (old new : List Property) (x : Property) (left rest : List LabelFixups) (g : LabelFixups) (whole : List (Definition (List ℕ))) → left ≡ g ∷ rest → new ≡ old ++ x ∷ [] → x.name ≡ g.label.now → x.value ≡ g.text.items
     → defined_at fixups_path old ++ given left ≡ whole → defined_at fixups_path new ++ given rest ≡ whole
-group-put old new x left rest g whole first more name value so =
+label_fixups-put old new x left rest g whole first more name value so =
     ap (λ ps. defined_at fixups_path ps ++ given rest) more
     ∙ ap (λ es. es ++ given rest) (one-more fixups_path old x)
     ∙ append_assoc (defined_at fixups_path old) (definition fixups_path x.name x.value ∷ []) (given rest)
@@ -42,35 +42,35 @@ held-all : (q : Path) (es : List (Definition (List ℕ))) → Each (λ e. e.path
 held-all q [] at = refl
 held-all q (e ∷ es) at = held-own e es q at.0 ∙ ap (λ ds. e ∷ ds) (held-all q es at.1)
 
-module _ (p : Prepared) (ps : List Property) (is : defined_at fixups_path ps ≡ fixups (made_places p) []) where
+module _ (p : Prepared) (ps : List Property) (is : defined_at fixups_path ps ≡ fixups (made_sites p) []) where
   pub distinct-labels : are_distinct (property_names ps) ≡ true
   distinct-labels =
-      ap are_distinct (names-defined fixups_path ps ∙ ap (map (λ e. e.name)) (is ∙ sym (held-all fixups_path (fixups (made_places p) []) (fixups-at (made_places p)))))
-      ∙ fixups-distinct (made_places p) fixups_path
+      ap are_distinct (names-defined fixups_path ps ∙ ap (map (λ e. e.name)) (is ∙ sym (held-all fixups_path (fixups (made_sites p) []) (fixups-at (made_sites p)))))
+      ∙ fixups-distinct (made_sites p) fixups_path
 
   -- only a plugin has fixups
   of-plugin : 0 < length ps → p.plugin ≡ true
   of-plugin some = by_plugin p.plugin ps is some where
-    by_plugin : (b : Bool) (qs : List Property) → defined_at fixups_path qs ≡ fixups (when b (places (all_numbers p) (founds p))) [] → 0 < length qs → b ≡ true
+    by_plugin : (b : Bool) (qs : List Property) → defined_at fixups_path qs ≡ fixups (when b (sites (all_phandles p) (founds p))) [] → 0 < length qs → b ≡ true
     by_plugin true qs is some = refl
     by_plugin false [] is some = absurd (omega arith)
     by_plugin false (q ∷ qs) is some = absurd (cc)
 
-  module _ (symbols : Bool) (ready : IsReady p) (free : names_taken symbols p.plugin (tree_of p.draft) ≡ false) (bs : List NodeData) (made : assembled bs ≡ walked (symbol_lists symbols p)) where
-    pub node-new : 0 < length ps → (name : List ℕ) → name ≡ fixups_name → is_listed (name ∷ []) (assembled bs).nodes ≡ false
+  module _ (symbols : Bool) (ready : IsReady p) (free : names_taken symbols p.plugin (tree_of p.live) ≡ false) (bs : List NodeData) (made : built_lists bs ≡ walked (symbol_lists symbols p)) where
+    pub node-new : 0 < length ps → (name : List ℕ) → name ≡ fixups_name → is_listed (name ∷ []) (built_lists bs).nodes ≡ false
     node-new some name named =
-        ap (λ n. is_listed (n ∷ []) (assembled bs).nodes) named ∙ ap (λ l. is_listed (fixups_name ∷ []) l.nodes) made
+        ap (λ n. is_listed (n ∷ []) (built_lists bs).nodes) named ∙ ap (λ l. is_listed (fixups_name ∷ []) l.nodes) made
         ∙ sym (there-same (symbol_lists symbols p) (symbols-whole symbols p ready free).nodes (fixups_name ∷ [])) ∙ fixups-new symbols p ready free (of-plugin some)
 
-    pub no-fixups : ps ≡ [] → assembled bs ≡ walked (fixup_lists symbols p)
+    pub no-fixups : ps ≡ [] → built_lists bs ≡ walked (fixup_lists symbols p)
     no-fixups none =
         made ∙ ap walked (sym (ap (λ es. with_more es (symbol_lists symbols p)) (sym is ∙ ap (defined_at fixups_path) none) ∙ with-none (symbol_lists symbols p)))
 
-    pub whole-fixups : 0 < length ps → with_last fixups_path ps (assembled bs) ≡ walked (fixup_lists symbols p)
+    pub whole-fixups : 0 < length ps → with_last fixups_path ps (built_lists bs) ≡ walked (fixup_lists symbols p)
     whole-fixups some =
         ap (with_last fixups_path ps) made
         ∙ ap (λ es. record { nodes = (walked (symbol_lists symbols p)).nodes ++ fixups_path ∷ []; properties = (walked (symbol_lists symbols p)).properties ++ es }) is
-        ∙ sym (by_list (of-plugin some) ps (fixups (made_places p) []) is some (fixups-at (made_places p))) where
+        ∙ sym (by_list (of-plugin some) ps (fixups (made_sites p) []) is some (fixups-at (made_sites p))) where
           by_list : p.plugin ≡ true → (qs : List Property) (es : List (Definition (List ℕ))) → defined_at fixups_path qs ≡ es → 0 < length qs → Each (λ e. e.path ≡ fixups_path) es
               → walked (with_more es (symbol_lists symbols p))
               ≡ record { nodes = (walked (symbol_lists symbols p)).nodes ++ fixups_path ∷ []; properties = (walked (symbol_lists symbols p)).properties ++ es }

@@ -6,8 +6,8 @@ use Rattle.dt_meaning.specs.Paths.{Path, same_path}
 use Rattle.dt_meaning.specs.Syntax.{OfLabel, OfPath, Piece, Plain, PhandleOf, PathOf}
 use Rattle.dt_meaning.specs.Edits.{Definition, definition, State, label_path}
 use Rattle.dt_meaning.specs.Statements.{ReservedName, then_do, found}
-use Rattle.dt_meaning.specs.References.{Found, Bytes, Cell, Open, Way, cell_at, cell_of, cell_of_label, each, found_in, found_value, held, in_order, preorder, references}
-use Rattle.dt_layout.proofs.Each.{Each, each-all, each-flat, each-kept, each-more}
+use Rattle.dt_meaning.specs.References.{Found, Bytes, Cell, Open, PathText, cell_at, cell_of, cell_of_label, each, found_in, found_value, held, in_order, preorder, references}
+use Rattle.dt_live.proofs.Each.{Each, each-all, each-flat, each-kept, each-more}
 use Rattle.dt_build.specs.Private.Ready.{IsNamedFound}
 use Rattle.dt_build.proofs.ApartLists.{each-any}
 use Rattle.dt_build.proofs.NamedEdits.{IsNamedPiece, IsNamedValue, did, not-refused, ok-is}
@@ -32,8 +32,8 @@ module _ (plugin : Bool) (s : State (List Piece)) where
   piece-so : (v : Piece) (f : Found) → IsNamedPiece IsName v → found_in plugin s v ≡ Ok f → IsNamedFound f
   piece-so (Plain b) f h e = subst IsNamedFound (ok-is (Bytes b) f e) tt
   piece-so (PathOf t) f h e =
-      let a = did (found t s) (λ p. Ok (Way p)) f e in
-      subst IsNamedFound (ok-is (Way a.0) f a.2) tt
+      let a = did (found t s) (λ p. Ok (PathText p)) f e in
+      subst IsNamedFound (ok-is (PathText a.0) f a.2) tt
   piece-so (PhandleOf (OfLabel l)) f h e = label-so plugin l (label_path l s.labels) f h e
   piece-so (PhandleOf (OfPath t)) f h e = path-so plugin s t f e
 

@@ -12,50 +12,50 @@ use Rattle.dt_meaning.specs.Syntax.{Meaning}
 use Rattle.dt_meaning.specs.Edits.{Definition, Label}
 use Rattle.dt_meaning.specs.Statements.{TooDeep, then_do}
 use Rattle.dt_meaning.specs.References.{Found, held, preorder}
-use Rattle.dt_meaning.specs.Fixups.{places, fixups, local_fixups}
+use Rattle.dt_meaning.specs.Fixups.{sites, fixups, local_fixups}
 use Rattle.dt_meaning.specs.Resolved.{Resolved, is_too_deep, names_taken, phandle_property, put_together, resolved, resolved_state, shallow, symbol, when, with_bytes, with_more}
 use Rattle.dt_meaning.specs.MapOf.{map_of}
-use Rattle.dt_draft.specs.declared.table.NodeRow.{NodeRow}
-use Rattle.dt_draft.specs.Rows.{path_of, stands, standing}
-use Rattle.dt_draft.proofs.WaysDown.{node-listed}
-use Rattle.dt_layout.proofs.Each.{Each, each-all, each-append, each-more, each-same}
+use Rattle.dt_live.specs.declared.live_tree.NodeRow.{NodeRow}
+use Rattle.dt_live.specs.Rows.{path_of, stands, standing}
+use Rattle.dt_live.proofs.PathsDown.{node-listed}
+use Rattle.dt_live.proofs.Each.{Each, each-all, each-append, each-more, each-same}
 use Rattle.dt_edit.specs.Said.{tree_of}
-use Rattle.dt_resolve.specs.declared.numbers.Numbered.{Numbered}
+use Rattle.dt_resolve.specs.declared.node_phandles.NodePhandle.{NodePhandle}
 use Rattle.dt_resolve.specs.declared.prepared.Prepared.{Prepared}
-use Rattle.dt_resolve.specs.Numbers.{AreStanding, number_at}
+use Rattle.dt_resolve.specs.NodePhandles.{AreStanding, path_phandle_of}
 use Rattle.dt_resolve.specs.Prepared.{IsPrepared}
-use Rattle.dt_assembly.specs.Standing.{AreNodes, behind_root, walked}
-use Rattle.dt_assembly.specs.Sizes.{size_in, size_below}
-use Rattle.dt_assembly.proofs.Orders.{map-walked}
-use Rattle.dt_assembly.proofs.PathFacts.{same-is, listed-first, listed-next}
-use Rattle.dt_assembly.proofs.SizesOfMaps.{once-by_names, sizes-of-lists}
-use Rattle.dt_build.specs.Private.Made.{all_numbers, fixup_lists, founds, given_numbers, lists, made_places, made_properties, new_numbers, own, plain_lists, symbol_lists}
+use Rattle.dt_tree_builder.specs.Standing.{AreNodes, behind_root, walked}
+use Rattle.dt_tree_builder.specs.Sizes.{size_in, size_below}
+use Rattle.dt_tree_builder.proofs.Orders.{map-walked}
+use Rattle.dt_tree_builder.proofs.PathFacts.{same-is, listed-first, listed-next}
+use Rattle.dt_tree_builder.proofs.SizesOfMaps.{once-by_names, sizes-of-lists}
+use Rattle.dt_build.specs.Private.Made.{all_phandles, fixup_lists, founds, given_phandles, lists, made_sites, made_properties, new_phandles, own, plain_lists, symbol_lists}
 use Rattle.dt_build.specs.Private.Ready.{IsReady}
 use Rattle.dt_build.proofs.FixupLists.{fixups-at, fixups-distinct, fixups-under}
-use Rattle.dt_build.proofs.MirrorLists.{local_fixups-distinct, local_fixups-under}
+use Rattle.dt_build.proofs.LocalLists.{local_fixups-distinct, local_fixups-under}
 use Rattle.dt_build.proofs.MoreLists.{AllUnder, IsUnder, IsWhole, other-child, shallow-child, under-at, whole-more, whole-none}
 use Rattle.dt_build.proofs.Ready.{founds-are}
-use Rattle.dt_build.proofs.Shallow.{fixups-free, mirror-free, put-by, state-resolved, symbols-free}
+use Rattle.dt_build.proofs.Shallow.{fixups-free, local-free, put-by, state-resolved, symbols-free}
 use Rattle.dt_build.proofs.SymbolsLast.{symbols_path, symbols-elsewhere, symbols-held, symbols-walked, with-none}
 use Rattle.dt_build.proofs.WalkOrder.{AllAt, AreOrdered, in-walk, walk-ordered}
 
 -- ---- the resolved tree
 module _ (symbols : Bool) (m : Meaning) (es : List (Definition (List Found))) (p : Prepared) (is : IsPrepared symbols m es p) where
-  prepared-shown : resolved symbols m ≡ shallow (lists symbols p)
-  prepared-shown =
-      let s = tree_of p.draft in
+  prepared-site_list : resolved symbols m ≡ shallow (lists symbols p)
+  prepared-site_list =
+      let s = tree_of p.live in
       let all = is.resolved in
       ap (λ r. then_do r (resolved_state symbols m.plugin)) is.edited
-      ∙ state-resolved symbols m.plugin is.fragments s es (given_numbers p) all.free all.given all.found
-      ∙ ap₂ (λ b ns. shallow (put_together symbols b s es (given_numbers p) ns)) (sym is.plugin) (sym all.new)
-      ∙ ap (λ fs. shallow (put_together symbols p.plugin s fs (given_numbers p) (new_numbers p))) (sym (founds-are symbols m es p is))
-      ∙ ap shallow (put-by symbols p.plugin s (founds p) (given_numbers p) (new_numbers p))
+      ∙ state-resolved symbols m.plugin is.fragments s es (given_phandles p) all.free all.given all.found
+      ∙ ap₂ (λ b ns. shallow (put_together symbols b s es (given_phandles p) ns)) (sym is.plugin) (sym all.new)
+      ∙ ap (λ fs. shallow (put_together symbols p.plugin s fs (given_phandles p) (new_phandles p))) (sym (founds-are symbols m es p is))
+      ∙ ap shallow (put-by symbols p.plugin s (founds p) (given_phandles p) (new_phandles p))
 
   pub prepared-resolved : list_any is_too_deep (lists symbols p).nodes ≡ false → resolved symbols m ≡ Ok (lists symbols p)
-  prepared-resolved fits = prepared-shown ∙ ap (λ t. if t then Err TooDeep else Ok (lists symbols p)) fits
+  prepared-resolved fits = prepared-site_list ∙ ap (λ t. if t then Err TooDeep else Ok (lists symbols p)) fits
 
   pub prepared-too_deep : list_any is_too_deep (lists symbols p).nodes ≡ true → resolved symbols m ≡ Err TooDeep
-  prepared-too_deep deep = prepared-shown ∙ ap (λ t. if t then Err TooDeep else Ok (lists symbols p)) deep
+  prepared-too_deep deep = prepared-site_list ∙ ap (λ t. if t then Err TooDeep else Ok (lists symbols p)) deep
 
 abbrev pub IsAt : {V : Type 0} → List Path → Definition V → Type 0
 IsAt nodes e = is_listed e.path nodes ≡ true
@@ -78,26 +78,26 @@ module _ {V : Type 0} where
       each-more (IsAt (preorder nodes)) (IsAt ([] ∷ nodes)) es (λ e there. sym (in-walk nodes are e.path) ∙ there)
       (ordered-there (preorder nodes) es (subst (λ (ds : List (Definition V)). AreOrdered (preorder nodes) ds) same (walk-ordered es (preorder nodes))))
 
--- ---- numbers of nodes are at nodes
-numbered-there : (rows : List NodeRow) (xs : List Numbered) → AreStanding rows xs → Each (IsAt ([] ∷ standing (path_of rows) (stands rows) (length rows))) (map phandle_property (map (number_at rows) xs))
-numbered-there rows [] up = tt
-numbered-there rows (x ∷ xs) up = (
+-- ---- phandles of nodes are at nodes
+assigned-there : (rows : List NodeRow) (xs : List NodePhandle) → AreStanding rows xs → Each (IsAt ([] ∷ standing (path_of rows) (stands rows) (length rows))) (map phandle_property (map (path_phandle_of rows) xs))
+assigned-there rows [] up = tt
+assigned-there rows (x ∷ xs) up = (
   node-listed rows x.node (up.known 0 x (omega arith)) (up.stand 0 x (omega arith)),
-  numbered-there rows xs (record { known = λ i y below. up.known (suc i) y (omega arith); stand = λ i y below. up.stand (suc i) y (omega arith) }),
+  assigned-there rows xs (record { known = λ i y below. up.known (suc i) y (omega arith); stand = λ i y below. up.stand (suc i) y (omega arith) }),
 )
 
-module _ (p : Prepared) (are : AreNodes (tree_of p.draft).nodes) (same : flat_map (held (founds p)) (preorder (tree_of p.draft).nodes) ≡ founds p) (up : AreStanding p.draft.nodes.items p.resolution.new.items) where
+module _ (p : Prepared) (are : AreNodes (tree_of p.live).nodes) (same : flat_map (held (founds p)) (preorder (tree_of p.live).nodes) ≡ founds p) (up : AreStanding p.live.nodes.items p.resolution.new.items) where
   abbrev there : List Path
-  there = [] ∷ (tree_of p.draft).nodes
+  there = [] ∷ (tree_of p.live).nodes
 
   made-each : Each (IsAt there) (made_properties p)
   made-each =
-      each-append (IsAt there) (map (with_bytes (all_numbers p)) (founds p)) (map phandle_property (new_numbers p))
-      (each-same (IsAt there) (with_bytes (all_numbers p)) (founds p) (walk-there (tree_of p.draft).nodes are (founds p) same))
-      (numbered-there p.draft.nodes.items p.resolution.new.items up)
+      each-append (IsAt there) (map (with_bytes (all_phandles p)) (founds p)) (map phandle_property (new_phandles p))
+      (each-same (IsAt there) (with_bytes (all_phandles p)) (founds p) (walk-there (tree_of p.live).nodes are (founds p) same))
+      (assigned-there p.live.nodes.items p.resolution.new.items up)
 
   -- each property that is made is at a node
-  pub made-there : All (λ e. is_listed e.path ([] ∷ (tree_of p.draft).nodes) ≡ true) (made_properties p)
+  pub made-there : All (λ e. is_listed e.path ([] ∷ (tree_of p.live).nodes) ≡ true) (made_properties p)
   made-there = each-all (IsAt there) (made_properties p) made-each
 
 -- ---- symbols
@@ -125,39 +125,39 @@ symbols-distinct ls labels q = by_same (same_path q symbols_path) refl where
   by_same false other = ap (λ es. are_distinct (map (λ e. e.name) es)) (symbols-elsewhere ls q other)
 
 -- ---- the lists
-module _ (symbols : Bool) (p : Prepared) (ready : IsReady p) (free : names_taken symbols p.plugin (tree_of p.draft) ≡ false) where
+module _ (symbols : Bool) (p : Prepared) (ready : IsReady p) (free : names_taken symbols p.plugin (tree_of p.live) ≡ false) where
   abbrev labels : List Label
-  labels = (tree_of p.draft).labels
+  labels = (tree_of p.live).labels
 
   plain-whole : IsWhole (plain_lists p)
   plain-whole = record { nodes = ready.standing; there = made-there p ready.standing ready.walked ready.new; apart = ready.apart }
 
   pub symbols-whole : IsWhole (symbol_lists symbols p)
   symbols-whole = by_symbols symbols free where
-    by_symbols : (t : Bool) → names_taken t p.plugin (tree_of p.draft) ≡ false → IsWhole (with_more (when t (map symbol labels)) (plain_lists p))
+    by_symbols : (t : Bool) → names_taken t p.plugin (tree_of p.live) ≡ false → IsWhole (with_more (when t (map symbol labels)) (plain_lists p))
     by_symbols false free = whole-none (plain_lists p) plain-whole
     by_symbols true free =
-        whole-more (plain_lists p) symbols_name (map symbol labels) (symbols-free p.plugin (tree_of p.draft) free) (symbols-under labels) plain-whole (symbols-distinct labels ready.labels_apart)
+        whole-more (plain_lists p) symbols_name (map symbol labels) (symbols-free p.plugin (tree_of p.live) free) (symbols-under labels) plain-whole (symbols-distinct labels ready.labels_apart)
         (shallow-child (plain_lists p) symbols_name (map symbol labels) ready.standing.shallow (symbols-at labels))
 
-  -- the nodes of fixups and of their mirror are new, where they are made
+  -- the nodes of fixups and of local fixups are new, where they are made
   pub fixups-new : p.plugin ≡ true → is_listed (fixups_name ∷ []) (symbol_lists symbols p).nodes ≡ false
   fixups-new plugin =
       other-child (plain_lists p) symbols_name (when symbols (map symbol labels)) (when-under symbols labels) fixups_name refl
-      (fixups-free symbols (tree_of p.draft) (ap (λ b. names_taken symbols b (tree_of p.draft)) (sym plugin) ∙ free))
+      (fixups-free symbols (tree_of p.live) (ap (λ b. names_taken symbols b (tree_of p.live)) (sym plugin) ∙ free))
 
-  pub mirror-new : p.plugin ≡ true → is_listed (local_fixups_name ∷ []) (fixup_lists symbols p).nodes ≡ false
-  mirror-new plugin =
-      other-child (symbol_lists symbols p) fixups_name (fixups (made_places p) []) (fixups-under (made_places p)) local_fixups_name refl
+  pub local-new : p.plugin ≡ true → is_listed (local_fixups_name ∷ []) (fixup_lists symbols p).nodes ≡ false
+  local-new plugin =
+      other-child (symbol_lists symbols p) fixups_name (fixups (made_sites p) []) (fixups-under (made_sites p)) local_fixups_name refl
       (other-child (plain_lists p) symbols_name (when symbols (map symbol labels)) (when-under symbols labels) local_fixups_name refl
-      (mirror-free symbols (tree_of p.draft) (ap (λ b. names_taken symbols b (tree_of p.draft)) (sym plugin) ∙ free)))
+      (local-free symbols (tree_of p.live) (ap (λ b. names_taken symbols b (tree_of p.live)) (sym plugin) ∙ free)))
 
   pub fixups-whole : IsWhole (fixup_lists symbols p)
   fixups-whole = by_plugin p.plugin refl where
-    by_plugin : (b : Bool) → p.plugin ≡ b → IsWhole (with_more (fixups (when b (places (all_numbers p) (founds p))) []) (symbol_lists symbols p))
+    by_plugin : (b : Bool) → p.plugin ≡ b → IsWhole (with_more (fixups (when b (sites (all_phandles p) (founds p))) []) (symbol_lists symbols p))
     by_plugin false is = whole-none (symbol_lists symbols p) symbols-whole
     by_plugin true is =
-        let xs = places (all_numbers p) (founds p) in
+        let xs = sites (all_phandles p) (founds p) in
         whole-more (symbol_lists symbols p) fixups_name (fixups xs []) (fixups-new is) (fixups-under xs) symbols-whole (fixups-distinct xs)
         (shallow-child (symbol_lists symbols p) fixups_name (fixups xs []) symbols-whole.nodes.shallow (fixups-at xs))
 
@@ -165,12 +165,12 @@ module _ (symbols : Bool) (p : Prepared) (ready : IsReady p) (free : names_taken
   module _ (fits : list_any is_too_deep (lists symbols p).nodes ≡ false) where
     pub lists-whole : IsWhole (lists symbols p)
     lists-whole = by_plugin p.plugin refl fits where
-      by_plugin : (b : Bool) → p.plugin ≡ b → list_any is_too_deep (with_more (local_fixups (when b (places (all_numbers p) (founds p))) []) (fixup_lists symbols p)).nodes ≡ false
-          → IsWhole (with_more (local_fixups (when b (places (all_numbers p) (founds p))) []) (fixup_lists symbols p))
+      by_plugin : (b : Bool) → p.plugin ≡ b → list_any is_too_deep (with_more (local_fixups (when b (sites (all_phandles p) (founds p))) []) (fixup_lists symbols p)).nodes ≡ false
+          → IsWhole (with_more (local_fixups (when b (sites (all_phandles p) (founds p))) []) (fixup_lists symbols p))
       by_plugin false is fits = whole-none (fixup_lists symbols p) fixups-whole
       by_plugin true is fits =
-          let xs = places (all_numbers p) (founds p) in
-          whole-more (fixup_lists symbols p) local_fixups_name (local_fixups xs []) (mirror-new is) (local_fixups-under xs) fixups-whole (local_fixups-distinct xs) fits
+          let xs = sites (all_phandles p) (founds p) in
+          whole-more (fixup_lists symbols p) local_fixups_name (local_fixups xs []) (local-new is) (local_fixups-under xs) fixups-whole (local_fixups-distinct xs) fits
 
     -- no tree with this map has shorter values
     pub lists-within : (b : NodeData) → IsSound b → path_map b ≡ map_of (lists symbols p) → size_in (lists symbols p).properties ≤ size_below b
@@ -181,26 +181,26 @@ module _ (symbols : Bool) (p : Prepared) (ready : IsReady p) (free : names_taken
     map-lists_walked = sym (map-walked (lists symbols p) lists-whole.nodes)
 
 -- ---- the symbols in the order of the walk
-pub walked-lists : (p : Prepared) → IsReady p → names_taken true p.plugin (tree_of p.draft) ≡ false → (l : Label) (ls : List Label) → (tree_of p.draft).labels ≡ l ∷ ls
+pub walked-lists : (p : Prepared) → IsReady p → names_taken true p.plugin (tree_of p.live) ≡ false → (l : Label) (ls : List Label) → (tree_of p.live).labels ≡ l ∷ ls
     → walked (symbol_lists true p)
     ≡ record {
-      nodes = behind_root (preorder (tree_of p.draft).nodes) ++ (symbols_name ∷ []) ∷ [];
-      properties = flat_map (own p) (preorder (tree_of p.draft).nodes) ++ map symbol (tree_of p.draft).labels;
+      nodes = behind_root (preorder (tree_of p.live).nodes) ++ (symbols_name ∷ []) ∷ [];
+      properties = flat_map (own p) (preorder (tree_of p.live).nodes) ++ map symbol (tree_of p.live).labels;
     }
 walked-lists p ready free l ls are =
-    let s = tree_of p.draft in
+    let s = tree_of p.live in
     ap walked (ap (λ xs. with_more (map symbol xs) (plain_lists p)) are)
     ∙ symbols-walked (plain_lists p) ready.standing (symbols-free p.plugin s free) (made-there p ready.standing ready.walked ready.new) l ls
     ∙ ap (λ (xs : List Label). with_last xs) (sym are) where
       with_last : List Label → Resolved
-      with_last xs = record { nodes = behind_root (preorder (tree_of p.draft).nodes) ++ (symbols_name ∷ []) ∷ []; properties = flat_map (own p) (preorder (tree_of p.draft).nodes) ++ map symbol xs }
+      with_last xs = record { nodes = behind_root (preorder (tree_of p.live).nodes) ++ (symbols_name ∷ []) ∷ []; properties = flat_map (own p) (preorder (tree_of p.live).nodes) ++ map symbol xs }
 
 -- without symbols, or without labels, there is nothing more
-pub lists-bare : (symbols : Bool) (p : Prepared) → when symbols (map symbol (tree_of p.draft).labels) ≡ [] → symbol_lists symbols p ≡ plain_lists p
+pub lists-bare : (symbols : Bool) (p : Prepared) → when symbols (map symbol (tree_of p.live).labels) ≡ [] → symbol_lists symbols p ≡ plain_lists p
 lists-bare symbols p none = ap (λ es. with_more es (plain_lists p)) none ∙ with-none (plain_lists p)
 
 -- an ordinary source has no fixups
 pub lists-ordinary : (symbols : Bool) (p : Prepared) → p.plugin ≡ false → lists symbols p ≡ symbol_lists symbols p
 lists-ordinary symbols p ordinary =
-    ap (λ b. let xs = when b (places (all_numbers p) (founds p)) in with_more (local_fixups xs []) (with_more (fixups xs []) (symbol_lists symbols p))) ordinary
+    ap (λ b. let xs = when b (sites (all_phandles p) (founds p)) in with_more (local_fixups xs []) (with_more (fixups xs []) (symbol_lists symbols p))) ordinary
     ∙ with-none (with_more [] (symbol_lists symbols p)) ∙ with-none (symbol_lists symbols p)

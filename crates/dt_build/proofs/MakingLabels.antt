@@ -10,13 +10,13 @@ use Rattle.dt_meaning.specs.Names.{symbols_name}
 use Rattle.dt_meaning.specs.Paths.{Path}
 use Rattle.dt_meaning.specs.Edits.{Definition, definition, Label, labelled_at}
 use Rattle.dt_meaning.specs.Resolved.{symbol}
-use Rattle.dt_draft.specs.declared.table.LabelRow.{LabelRow}
-use Rattle.dt_draft.specs.Rows.{label_at, worn}
-use Rattle.dt_draft.proofs.Worn.{worn-append}
-use Rattle.dt_layout.proofs.Each.{Each}
-use Rattle.dt_assembly.specs.Lists.{defined_at}
-use Rattle.dt_assembly.specs.Sizes.{size_in}
-use Rattle.dt_assembly.proofs.MakingWalk.{names-defined}
+use Rattle.dt_live.specs.declared.live_tree.LabelRow.{LabelRow}
+use Rattle.dt_live.specs.Rows.{label_at, worn}
+use Rattle.dt_live.proofs.Worn.{worn-append}
+use Rattle.dt_live.proofs.Each.{Each}
+use Rattle.dt_tree_builder.specs.Lists.{defined_at}
+use Rattle.dt_tree_builder.specs.Sizes.{size_in}
+use Rattle.dt_tree_builder.proofs.MakingWalk.{names-defined}
 
 defined-append : (q : Path) (xs ys : List Property) → defined_at q (xs ++ ys) ≡ defined_at q xs ++ defined_at q ys
 defined-append q [] ys = refl

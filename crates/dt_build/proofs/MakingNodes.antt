@@ -8,15 +8,15 @@ use Rattle.dt_tree.specs.Name.{is_name}
 use Rattle.dt_tree.specs.NodeData.{property_names}
 use Rattle.dt_tree.specs.Sound.{are_distinct}
 use Rattle.dt_meaning.specs.Paths.{Path, same_path, is_listed}
-use Rattle.dt_draft.specs.declared.table.NodeRow.{NodeRow}
-use Rattle.dt_draft.specs.Rows.{climb, row_at, path_of, stands}
-use Rattle.dt_draft.proofs.Shown.{listed-standing}
-use Rattle.dt_assembly.specs.Lists.{defined_at}
-use Rattle.dt_assembly.proofs.MakingWalk.{names-defined}
-use Rattle.dt_assembly.proofs.PathFacts.{same-is, not-both}
-use Rattle.dt_layout.proofs.BlankRows.{blank_row}
-use Rattle.dt_layout.proofs.Each.{Each, each-of}
-use Rattle.dt_layout.proofs.MakingNodes.{AreInOrder, at, before, row-is, row-known}
+use Rattle.dt_live.specs.declared.live_tree.NodeRow.{NodeRow}
+use Rattle.dt_live.specs.Rows.{climb, row_at, path_of, stands}
+use Rattle.dt_live.proofs.StandingProperties.{listed-standing}
+use Rattle.dt_tree_builder.specs.Lists.{defined_at}
+use Rattle.dt_tree_builder.proofs.MakingWalk.{names-defined}
+use Rattle.dt_tree_builder.proofs.PathFacts.{same-is, not-both}
+use Rattle.dt_live.proofs.BlankRows.{blank_row}
+use Rattle.dt_live.proofs.Each.{Each, each-of}
+use Rattle.dt_live.proofs.MakingNodes.{AreInOrder, at, before, row-is, row-known}
 use Rattle.dt_edit.specs.Said.{tree_of}
 use Rattle.dt_resolve.specs.declared.prepared.Prepared.{Prepared}
 use Rattle.dt_build.specs.Private.Made.{own, plain_lists}
@@ -36,19 +36,19 @@ last-name (x ∷ xs) n e = last-name xs n (and_parts (is_name x) (list_all is_na
 
 -- ---- one node
 module _ (p : Prepared) (r : IsReady p) where
-  pub order-of : AreInOrder p.draft p.layout.nodes.items (plain_lists p)
+  pub order-of : AreInOrder p.live p.in_preorder.nodes.items (plain_lists p)
   order-of = record { order = r.nodes; standing = r.standing; known = r.known }
 
   pub distinct-own : (q : Path) (ps : List Property) → defined_at q ps ≡ own p q → are_distinct (property_names ps) ≡ true
   distinct-own q ps e = ap are_distinct (names-defined q ps ∙ ap (map (λ x. x.name)) e) ∙ r.apart q
 
-  module _ (k : ℕ) (some : 1 ≤ k) (below : k < length p.layout.nodes.items) (n : ℕ) (there : n ≡ slice_index_or p.layout.nodes.items k n) where
+  module _ (k : ℕ) (some : 1 ≤ k) (below : k < length p.in_preorder.nodes.items) (n : ℕ) (there : n ≡ slice_index_or p.in_preorder.nodes.items k n) where
     abbrev rows : List NodeRow
-    rows = p.draft.nodes.items
+    rows = p.live.nodes.items
 
     lawful : is_name (row_at rows (n - 1)).name.now ≡ true
     lawful =
-        let nodes = (tree_of p.draft).nodes in
+        let nodes = (tree_of p.live).nodes in
         let up : stands rows (suc (n - 1)) ≡ true = ap (stands rows) (sym (before order-of k some below n there) ∙ at order-of k some below n there) ∙ r.there k 0 below in
         last-name (climb (n - 1) rows (row_at rows (n - 1)).parent) (row_at rows (n - 1)).name.now
         (listed-is (λ q. list_all is_name q ≡ true) (path_of rows (suc (n - 1))) nodes (each-of (λ q. list_all is_name q ≡ true) nodes r.named.nodes)

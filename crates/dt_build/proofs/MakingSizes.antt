@@ -5,17 +5,17 @@ use Rattle.std.proofs.lemmas.List.{take_more, take_all}
 use Rattle.std.proofs.lemmas.List.Concat.{flat_map-append}
 use Rattle.dt_meaning.specs.Paths.{Path}
 use Rattle.dt_meaning.specs.References.{held, preorder}
-use Rattle.dt_meaning.specs.Fixups.{fixups, local_fixups, places}
+use Rattle.dt_meaning.specs.Fixups.{fixups, local_fixups, sites}
 use Rattle.dt_meaning.specs.Resolved.{symbol, when, with_more}
-use Rattle.dt_assembly.specs.Sizes.{size_in}
-use Rattle.dt_assembly.proofs.InTurn.{each-once}
-use Rattle.dt_assembly.proofs.SizesOfMaps.{size-append}
+use Rattle.dt_tree_builder.specs.Sizes.{size_in}
+use Rattle.dt_tree_builder.proofs.InTurn.{each-once}
+use Rattle.dt_tree_builder.proofs.SizesOfMaps.{size-append}
 use Rattle.dt_edit.specs.Said.{tree_of}
 use Rattle.dt_resolve.specs.declared.prepared.Prepared.{Prepared}
-use Rattle.dt_build.specs.Private.Made.{all_numbers, fixup_lists, founds, lists, made_places, made_properties, own, symbol_lists}
-use Rattle.dt_build.specs.Private.Places.{path_at}
+use Rattle.dt_build.specs.Private.Made.{all_phandles, fixup_lists, founds, lists, made_sites, made_properties, own, symbol_lists}
+use Rattle.dt_build.specs.Private.Cursors.{path_at}
 use Rattle.dt_build.specs.Private.Ready.{IsReady}
-use Rattle.dt_layout.proofs.MakingNodes.{at-path, count}
+use Rattle.dt_live.proofs.MakingNodes.{at-path, count}
 use Rattle.dt_build.proofs.MakingNodes.{order-of}
 use Rattle.dt_build.proofs.ListsOfPrepared.{made-there}
 use Rattle.dt_build.proofs.SizeOfWalk.{size-of-walk}
@@ -24,46 +24,46 @@ use Rattle.dt_build.proofs.WalkOrder.{in-walk}
 
 module _ (p : Prepared) (r : IsReady p) where
   abbrev order : List Path
-  order = preorder (tree_of p.draft).nodes
+  order = preorder (tree_of p.live).nodes
 
   -- the properties of so many nodes
   abbrev pub size_behind : ℕ → ℕ
-  size_behind k = size_in (flat_map (held (made_properties p)) (take k (preorder (tree_of p.draft).nodes)))
+  size_behind k = size_in (flat_map (held (made_properties p)) (take k (preorder (tree_of p.live).nodes)))
 
-  pub size-next : (k : ℕ) → k < length p.layout.nodes.items → size_behind (k + 1) ≡ size_behind k + size_in (own p (path_at p k))
+  pub size-next : (k : ℕ) → k < length p.in_preorder.nodes.items → size_behind (k + 1) ≡ size_behind k + size_in (own p (path_at p k))
   size-next k below =
-      let more : take (k + 1) (preorder (tree_of p.draft).nodes) ≡ take k (preorder (tree_of p.draft).nodes) ++ path_at p k ∷ [] =
-      take_more (preorder (tree_of p.draft).nodes) k [] (omega (arith, count (order-of p r))) ∙ ap (λ q. take k (preorder (tree_of p.draft).nodes) ++ q ∷ []) (at-path (order-of p r) k below) in
+      let more : take (k + 1) (preorder (tree_of p.live).nodes) ≡ take k (preorder (tree_of p.live).nodes) ++ path_at p k ∷ [] =
+      take_more (preorder (tree_of p.live).nodes) k [] (omega (arith, count (order-of p r))) ∙ ap (λ q. take k (preorder (tree_of p.live).nodes) ++ q ∷ []) (at-path (order-of p r) k below) in
       ap (λ qs. size_in (flat_map (held (made_properties p)) qs)) more
-      ∙ ap size_in (flat_map-append (held (made_properties p)) (take k (preorder (tree_of p.draft).nodes)) (path_at p k ∷ [])
-      ∙ ap (λ es. flat_map (held (made_properties p)) (take k (preorder (tree_of p.draft).nodes)) ++ es) (append-nil (own p (path_at p k))))
-      ∙ size-append (flat_map (held (made_properties p)) (take k (preorder (tree_of p.draft).nodes))) (own p (path_at p k))
+      ∙ ap size_in (flat_map-append (held (made_properties p)) (take k (preorder (tree_of p.live).nodes)) (path_at p k ∷ [])
+      ∙ ap (λ es. flat_map (held (made_properties p)) (take k (preorder (tree_of p.live).nodes)) ++ es) (append-nil (own p (path_at p k))))
+      ∙ size-append (flat_map (held (made_properties p)) (take k (preorder (tree_of p.live).nodes))) (own p (path_at p k))
 
-  pub size-whole : (k : ℕ) → length p.layout.nodes.items ≤ k → size_behind k ≡ size_in (made_properties p)
+  pub size-whole : (k : ℕ) → length p.in_preorder.nodes.items ≤ k → size_behind k ≡ size_in (made_properties p)
   size-whole k all =
-      ap (λ qs. size_in (flat_map (held (made_properties p)) qs)) (take_all k (preorder (tree_of p.draft).nodes) (omega (arith, count (order-of p r))))
-      ∙ size-of-walk (preorder (tree_of p.draft).nodes) (each-once (tree_of p.draft).nodes r.standing) (made_properties p)
-      (λ i e below. in-walk (tree_of p.draft).nodes r.standing (get_or (made_properties p) i e).path ∙ made-there p r.standing r.walked r.new i e below)
+      ap (λ qs. size_in (flat_map (held (made_properties p)) qs)) (take_all k (preorder (tree_of p.live).nodes) (omega (arith, count (order-of p r))))
+      ∙ size-of-walk (preorder (tree_of p.live).nodes) (each-once (tree_of p.live).nodes r.standing) (made_properties p)
+      (λ i e below. in-walk (tree_of p.live).nodes r.standing (get_or (made_properties p) i e).path ∙ made-there p r.standing r.walked r.new i e below)
 
 -- ---- with what is added
 pub size-plain : (p : Prepared) → size_in (symbol_lists false p).properties ≡ size_in (made_properties p)
 size-plain p = ap size_in (append-nil (made_properties p))
 
-pub size-symbols : (p : Prepared) → size_in (symbol_lists true p).properties ≡ size_in (made_properties p) + size_in (map symbol (tree_of p.draft).labels)
-size-symbols p = size-append (made_properties p) (map symbol (tree_of p.draft).labels)
+pub size-symbols : (p : Prepared) → size_in (symbol_lists true p).properties ≡ size_in (made_properties p) + size_in (map symbol (tree_of p.live).labels)
+size-symbols p = size-append (made_properties p) (map symbol (tree_of p.live).labels)
 
 -- an ordinary source has no places
 pub size-ordinary : (symbols : Bool) (p : Prepared) → p.plugin ≡ false → size_in (lists symbols p).properties ≡ size_in (symbol_lists symbols p).properties
 size-ordinary symbols p ordinary =
     let r = symbol_lists symbols p in
-    ap (λ b. let xs = when b (places (all_numbers p) (founds p)) in size_in (with_more (local_fixups xs []) (with_more (fixups xs []) r)).properties) ordinary
+    ap (λ b. let xs = when b (sites (all_phandles p) (founds p)) in size_in (with_more (local_fixups xs []) (with_more (fixups xs []) r)).properties) ordinary
     ∙ ap (λ l. size_in l.properties) (with-none (with_more [] r) ∙ with-none r)
 
 pub size-fixups : (symbols : Bool) (p : Prepared)
-    → size_in (lists symbols p).properties ≡ size_in (symbol_lists symbols p).properties + size_in (fixups (made_places p) []) + size_in (local_fixups (made_places p) [])
+    → size_in (lists symbols p).properties ≡ size_in (symbol_lists symbols p).properties + size_in (fixups (made_sites p) []) + size_in (local_fixups (made_sites p) [])
 size-fixups symbols p =
-    size-append (fixup_lists symbols p).properties (local_fixups (made_places p) [])
-    ∙ ap (λ n. n + size_in (local_fixups (made_places p) [])) (size-append (symbol_lists symbols p).properties (fixups (made_places p) []))
+    size-append (fixup_lists symbols p).properties (local_fixups (made_sites p) [])
+    ∙ ap (λ n. n + size_in (local_fixups (made_sites p) [])) (size-append (symbol_lists symbols p).properties (fixups (made_sites p) []))
 
 -- sums as far as numbers reach
 pub sum-capped : (whole x y size more sum : ℕ) → whole ≡ x + y → size ≡ min x (2 ^ 64 - 1) → more ≡ min y (2 ^ 64 - 1) → sum ≡ min (size + more) (2 ^ 64 - 1) → sum ≡ min whole (2 ^ 64 - 1)

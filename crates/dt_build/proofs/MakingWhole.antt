@@ -8,10 +8,10 @@ use Rattle.dt_meaning.specs.Paths.{is_listed}
 use Rattle.dt_meaning.specs.Edits.{Label}
 use Rattle.dt_meaning.specs.References.{preorder}
 use Rattle.dt_meaning.specs.Resolved.{names_taken, symbol}
-use Rattle.dt_assembly.specs.Lists.{defined_at, with_last}
-use Rattle.dt_assembly.specs.OpenNodes.{assembled}
-use Rattle.dt_assembly.specs.Standing.{behind_root, walked}
-use Rattle.dt_assembly.proofs.Orders.{there-same}
+use Rattle.dt_tree_builder.specs.Lists.{defined_at, with_last}
+use Rattle.dt_tree_builder.specs.Builders.{built_lists}
+use Rattle.dt_tree_builder.specs.Standing.{behind_root, walked}
+use Rattle.dt_tree_builder.proofs.Orders.{there-same}
 use Rattle.dt_edit.specs.Said.{tree_of}
 use Rattle.dt_resolve.specs.declared.prepared.Prepared.{Prepared}
 use Rattle.dt_build.specs.Private.Made.{own, plain_lists, symbol_lists}
@@ -20,31 +20,31 @@ use Rattle.dt_build.proofs.ListsOfPrepared.{lists-bare, walked-lists}
 use Rattle.dt_build.proofs.Shallow.{symbols-free}
 
 -- ---- the labels' node
-module _ (p : Prepared) (r : IsReady p) (free : names_taken true p.plugin (tree_of p.draft) ≡ false) (bs : List NodeData) (made : assembled bs ≡ walked (plain_lists p)) where
+module _ (p : Prepared) (r : IsReady p) (free : names_taken true p.plugin (tree_of p.live) ≡ false) (bs : List NodeData) (made : built_lists bs ≡ walked (plain_lists p)) where
   abbrev labels : List Label
-  labels = (tree_of p.draft).labels
+  labels = (tree_of p.live).labels
 
-  pub symbols-new : (name : List ℕ) → name ≡ symbols_name → is_listed (name ∷ []) (assembled bs).nodes ≡ false
+  pub symbols-new : (name : List ℕ) → name ≡ symbols_name → is_listed (name ∷ []) (built_lists bs).nodes ≡ false
   symbols-new name is =
-      ap (λ n. is_listed (n ∷ []) (assembled bs).nodes) is ∙ ap (λ l. is_listed (symbols_name ∷ []) l.nodes) made
-      ∙ sym (there-same (plain_lists p) r.standing (symbols_name ∷ [])) ∙ symbols-free p.plugin (tree_of p.draft) free
+      ap (λ n. is_listed (n ∷ []) (built_lists bs).nodes) is ∙ ap (λ l. is_listed (symbols_name ∷ []) l.nodes) made
+      ∙ sym (there-same (plain_lists p) r.standing (symbols_name ∷ [])) ∙ symbols-free p.plugin (tree_of p.live) free
 
-  pub no-symbols : (ps : List Property) → defined_at (symbols_name ∷ []) ps ≡ map symbol labels → ps ≡ [] → assembled bs ≡ walked (symbol_lists true p)
+  pub no-symbols : (ps : List Property) → defined_at (symbols_name ∷ []) ps ≡ map symbol labels → ps ≡ [] → built_lists bs ≡ walked (symbol_lists true p)
   no-symbols ps is none = made ∙ ap walked (sym (lists-bare true p (sym is ∙ ap (defined_at (symbols_name ∷ [])) none)))
 
-  pub whole : (ps : List Property) → defined_at (symbols_name ∷ []) ps ≡ map symbol labels → 0 < length ps → with_last (symbols_name ∷ []) ps (assembled bs) ≡ walked (symbol_lists true p)
+  pub whole : (ps : List Property) → defined_at (symbols_name ∷ []) ps ≡ map symbol labels → 0 < length ps → with_last (symbols_name ∷ []) ps (built_lists bs) ≡ walked (symbol_lists true p)
   whole ps is some =
       ap (with_last (symbols_name ∷ []) ps) made
       ∙ ap (λ es. record {
-        nodes = behind_root (preorder (tree_of p.draft).nodes) ++ (symbols_name ∷ []) ∷ [];
-        properties = flat_map (own p) (preorder (tree_of p.draft).nodes) ++ es;
+        nodes = behind_root (preorder (tree_of p.live).nodes) ++ (symbols_name ∷ []) ∷ [];
+        properties = flat_map (own p) (preorder (tree_of p.live).nodes) ++ es;
       }) is
       ∙ sym (by_labels ps labels is some refl) where
-        by_labels : (qs : List Property) (ls : List Label) → defined_at (symbols_name ∷ []) qs ≡ map symbol ls → 0 < length qs → (tree_of p.draft).labels ≡ ls
+        by_labels : (qs : List Property) (ls : List Label) → defined_at (symbols_name ∷ []) qs ≡ map symbol ls → 0 < length qs → (tree_of p.live).labels ≡ ls
             → walked (symbol_lists true p)
             ≡ record {
-              nodes = behind_root (preorder (tree_of p.draft).nodes) ++ (symbols_name ∷ []) ∷ [];
-              properties = flat_map (own p) (preorder (tree_of p.draft).nodes) ++ map symbol (tree_of p.draft).labels;
+              nodes = behind_root (preorder (tree_of p.live).nodes) ++ (symbols_name ∷ []) ∷ [];
+              properties = flat_map (own p) (preorder (tree_of p.live).nodes) ++ map symbol (tree_of p.live).labels;
             }
         by_labels [] ls e some are = absurd (omega arith)
         by_labels (q ∷ qs) [] e some are = absurd (cc)

@@ -11,12 +11,12 @@ use Rattle.dt_meaning.specs.Edits.{Definition}
 use Rattle.dt_meaning.specs.References.{held}
 use Rattle.dt_meaning.specs.Phandles.{new_ones}
 use Rattle.dt_meaning.specs.Resolved.{Resolved, fronts, is_too_deep, with_more}
-use Rattle.dt_layout.proofs.Each.{Each, each-all, each-append, each-flat, each-more, each-of}
-use Rattle.dt_assembly.specs.Standing.{are_apart, AreNodes}
-use Rattle.dt_assembly.proofs.Orders.{held-append}
-use Rattle.dt_assembly.proofs.PathFacts.{by_last, bytes-itself, listed-first, not-both, not-true, or-false, same-is}
-use Rattle.dt_assembly.proofs.Standing.{listed-both}
-use Rattle.dt_build.proofs.ApartNumbers.{apart-of, ones-apart, ones-so}
+use Rattle.dt_live.proofs.Each.{Each, each-all, each-append, each-flat, each-more, each-of}
+use Rattle.dt_tree_builder.specs.Standing.{are_apart, AreNodes}
+use Rattle.dt_tree_builder.proofs.Orders.{held-append}
+use Rattle.dt_tree_builder.proofs.PathFacts.{by_last, bytes-itself, listed-first, not-both, not-true, or-false, same-is}
+use Rattle.dt_tree_builder.proofs.Standing.{listed-both}
+use Rattle.dt_build.proofs.ApartPhandles.{apart-of, ones-apart, ones-so}
 use Rattle.dt_build.proofs.SizeOfWalk.{held-other}
 use Rattle.dt_build.proofs.SymbolsLast.{none-held, with-none}
 

@@ -10,13 +10,13 @@ use Rattle.dt_meaning.specs.Edits.{Definition}
 use Rattle.dt_meaning.specs.References.{walk, preorder, held}
 use Rattle.dt_meaning.specs.Phandles.{new_ones}
 use Rattle.dt_meaning.specs.Resolved.{Resolved, fronts, with_more}
-use Rattle.dt_layout.proofs.Each.{Each, each-flat, each-more}
-use Rattle.dt_assembly.specs.Standing.{are_apart, behind_root, walked}
-use Rattle.dt_assembly.proofs.Orders.{behind}
-use Rattle.dt_assembly.proofs.PathFacts.{child-is, listed-first, listed-next, not-both, not-true, same-is, same-itself}
-use Rattle.dt_assembly.proofs.Standing.{listed-both}
+use Rattle.dt_live.proofs.Each.{Each, each-flat, each-more}
+use Rattle.dt_tree_builder.specs.Standing.{are_apart, behind_root, walked}
+use Rattle.dt_tree_builder.proofs.Orders.{behind}
+use Rattle.dt_tree_builder.proofs.PathFacts.{child-is, listed-first, listed-next, not-both, not-true, same-is, same-itself}
+use Rattle.dt_tree_builder.proofs.Standing.{listed-both}
 use Rattle.dt_build.proofs.ApartLists.{each-passed}
-use Rattle.dt_build.proofs.ApartNumbers.{apart-of, ones-apart}
+use Rattle.dt_build.proofs.ApartPhandles.{apart-of, ones-apart}
 use Rattle.dt_build.proofs.MoreLists.{AllUnder, IsUnder, IsWhole, fronts_of, fronts-under, held-before, held-under, listed-fronts, listed-new, under-at, under-new}
 use Rattle.dt_build.proofs.SizeOfWalk.{held-own}
 use Rattle.dt_build.proofs.SymbolsLast.{kept-both, none-kept, same-kept, same-listed}

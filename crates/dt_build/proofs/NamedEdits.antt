@@ -13,13 +13,13 @@ use Rattle.dt_meaning.specs.Paths.{Path, same_path, is_within, is_listed}
 use Rattle.dt_meaning.specs.Syntax.{Target, OfLabel, OfPath, Piece, Plain, PhandleOf, PathOf, Entry, Defines, Undefines, Child, Removes, Body, Done, Then, Edit, Rooted, Extends, Deletes, Meaning}
 use Rattle.dt_meaning.specs.Edits.{Definition, definition, Label, labelled_at, State, empty, counted, has_node, with_node, without_node, is_of, put, with_property, without_property, label_path, with_label}
 use Rattle.dt_meaning.specs.Statements.{Fault, UnknownLabel, UnknownPath, DuplicateLabel, DuplicateInBody, ReservedName, TooDeep, then_do, ok_or, give_label, give_labels, is_made, Progress, progress, begun, child_fault, unless, after_entry, after_body, found, target_name, target_value, with_fragment, after_fragment, makes_fragment, after_item, after_items, edited}
-use Rattle.dt_draft.proofs.PathTests.{same-is}
-use Rattle.dt_layout.proofs.Each.{Each, each-append, each-kept}
+use Rattle.dt_live.proofs.PathTests.{same-is}
+use Rattle.dt_live.proofs.Each.{Each, each-append, each-kept}
 use Rattle.dt_build.proofs.ApartLists.{InPairs, pairs-kept, pairs-last}
 
--- the names on the way are so, and there are at most 64
-abbrev pub IsWay : (List ℕ → Type 0) → Path → Type 0
-IsWay N q = Each N q × (length q ≤ 64)
+-- the names of the path are so, and there are at most 64
+abbrev pub IsNamedPath : (List ℕ → Type 0) → Path → Type 0
+IsNamedPath N q = Each N q × (length q ≤ 64)
 
 -- the later property has another node or another name
 abbrev pub HasOtherKey : {V : Type 0} → Definition V → Definition V → Type 0
@@ -31,9 +31,9 @@ IsOtherWord l x = bytes_eq x.label l.label ≡ false
 
 -- N is true of each name, and W of each value
 pub record IsNamed {V : Type 0} (N : List ℕ → Type 0) (W : V → Type 0) (s : State V) : Type 0 where
-  pub nodes : Each (IsWay N) s.nodes
+  pub nodes : Each (IsNamedPath N) s.nodes
   pub properties : Each (λ e. N e.name × W e.value) s.properties
-  pub labels : Each (λ l. N l.label × IsWay N l.path) s.labels
+  pub labels : Each (λ l. N l.label × IsNamedPath N l.path) s.labels
   pub keys : InPairs HasOtherKey s.properties
   pub words : InPairs IsOtherWord s.labels
 
@@ -147,31 +147,31 @@ path-found true q p e = (refl, ok-is q p e)
 path-found false q p e = absurd (cc)
 
 module _ (N : List ℕ → Type 0) where
-  further : (p : Path) (n : List ℕ) → IsWay N p → N n → length p ≤ 63 → IsWay N (p ++ n ∷ [])
-  further p n way name few = (each-append N p (n ∷ []) way.0 (name, tt), omega (arith, length-append p (n ∷ []), way.1))
+  further : (p : Path) (n : List ℕ) → IsNamedPath N p → N n → length p ≤ 63 → IsNamedPath N (p ++ n ∷ [])
+  further p n named_path name few = (each-append N p (n ∷ []) named_path.0 (name, tt), omega (arith, length-append p (n ∷ []), named_path.1))
 
-  label-way : (l : List ℕ) (ls : List Label) (p : Path) → Each (λ x. N x.label × IsWay N x.path) ls → label_path l ls ≡ Some p → IsWay N p
-  label-way l [] p h e = absurd (cc)
-  label-way l (x ∷ xs) p h e = by-word (bytes_eq l x.label) e (label-way l xs p h.1) where
-    by-word : (b : Bool) → (if b then Some x.path else label_path l xs) ≡ Some p → (label_path l xs ≡ Some p → IsWay N p) → IsWay N p
-    by-word true e rest = let is : x.path ≡ p = cc in subst (IsWay N) is h.0.1
+  label-named_path : (l : List ℕ) (ls : List Label) (p : Path) → Each (λ x. N x.label × IsNamedPath N x.path) ls → label_path l ls ≡ Some p → IsNamedPath N p
+  label-named_path l [] p h e = absurd (cc)
+  label-named_path l (x ∷ xs) p h e = by-word (bytes_eq l x.label) e (label-named_path l xs p h.1) where
+    by-word : (b : Bool) → (if b then Some x.path else label_path l xs) ≡ Some p → (label_path l xs ≡ Some p → IsNamedPath N p) → IsNamedPath N p
+    by-word true e rest = let is : x.path ≡ p = cc in subst (IsNamedPath N) is h.0.1
     by-word false e rest = rest e
 
-  root-way : IsWay N []
-  root-way = (tt, omega arith)
+  root-named_path : IsNamedPath N []
+  root-named_path = (tt, omega arith)
 
 module _ {V : Type 0} (N : List ℕ → Type 0) (W : V → Type 0) where
-  node-added : (p : Path) (s : State V) → IsWay N p → IsNamed N W s → IsNamed N W (with_node p s)
-  node-added p s way k = record {
+  node-added : (p : Path) (s : State V) → IsNamedPath N p → IsNamed N W s → IsNamed N W (with_node p s)
+  node-added p s named_path k = record {
     nodes = by-listed (is_listed p s.nodes);
     properties = k.properties;
     labels = k.labels;
     keys = k.keys;
     words = k.words;
   } where
-    by-listed : (b : Bool) → Each (IsWay N) (if b then s.nodes else s.nodes ++ p ∷ [])
+    by-listed : (b : Bool) → Each (IsNamedPath N) (if b then s.nodes else s.nodes ++ p ∷ [])
     by-listed true = k.nodes
-    by-listed false = each-append (IsWay N) s.nodes (p ∷ []) k.nodes (way, tt)
+    by-listed false = each-append (IsNamedPath N) s.nodes (p ∷ []) k.nodes (named_path, tt)
 
   node-removed : (p : Path) (s : State V) → IsNamed N W s → IsNamed N W (without_node p s)
   node-removed p s k = by-listed (is_listed p s.nodes) where
@@ -180,9 +180,9 @@ module _ {V : Type 0} (N : List ℕ → Type 0) (W : V → Type 0) where
 
     by-listed : (b : Bool) → IsNamed N W (if b then gone else s)
     by-listed true = record {
-      nodes = each-kept (IsWay N) (λ q. not (is_within p q)) s.nodes k.nodes;
+      nodes = each-kept (IsNamedPath N) (λ q. not (is_within p q)) s.nodes k.nodes;
       properties = each-kept (λ e. N e.name × W e.value) (λ e. not (is_within p e.path)) s.properties k.properties;
-      labels = each-kept (λ l. N l.label × IsWay N l.path) (λ l. not (is_within p l.path)) s.labels k.labels;
+      labels = each-kept (λ l. N l.label × IsNamedPath N l.path) (λ l. not (is_within p l.path)) s.labels k.labels;
       keys = pairs-kept HasOtherKey (λ e. not (is_within p e.path)) s.properties k.keys;
       words = pairs-kept IsOtherWord (λ l. not (is_within p l.path)) s.labels k.words;
     }
@@ -206,57 +206,57 @@ module _ {V : Type 0} (N : List ℕ → Type 0) (W : V → Type 0) where
     words = k.words;
   }
 
-  label-given : (l : List ℕ) (p : Path) (o : Option Path) (s t : State V) → label_path l s.labels ≡ o → N l → IsWay N p → IsNamed N W s → give_label l p o s ≡ Ok t → IsNamed N W t
-  label-given l p None s t is name way k e = subst (IsNamed N W) (ok-is (with_label l p s) t e) (record {
+  label-given : (l : List ℕ) (p : Path) (o : Option Path) (s t : State V) → label_path l s.labels ≡ o → N l → IsNamedPath N p → IsNamed N W s → give_label l p o s ≡ Ok t → IsNamed N W t
+  label-given l p None s t is name named_path k e = subst (IsNamed N W) (ok-is (with_label l p s) t e) (record {
     nodes = k.nodes;
     properties = k.properties;
-    labels = each-append (λ l. N l.label × IsWay N l.path) s.labels (labelled_at l p ∷ []) k.labels ((name, way), tt);
+    labels = each-append (λ l. N l.label × IsNamedPath N l.path) s.labels (labelled_at l p ∷ []) k.labels ((name, named_path), tt);
     keys = k.keys;
     words = pairs-last IsOtherWord s.labels (labelled_at l p) k.words (new-word l s.labels is);
   })
-  label-given l p (Some q) s t is name way k e = by-same (same_path p q) e where
+  label-given l p (Some q) s t is name named_path k e = by-same (same_path p q) e where
     by-same : (b : Bool) → (if b then Ok s else Err DuplicateLabel) ≡ Ok t → IsNamed N W t
     by-same true e = subst (IsNamed N W) (ok-is s t e) k
     by-same false e = absurd (cc)
 
-  labels-given : (ls : List (List ℕ)) (p : Path) (s t : State V) → Each N ls → IsWay N p → IsNamed N W s → give_labels ls p s ≡ Ok t → IsNamed N W t
-  labels-given [] p s t names way k e = subst (IsNamed N W) (ok-is s t e) k
-  labels-given (l ∷ ls) p s t names way k e =
+  labels-given : (ls : List (List ℕ)) (p : Path) (s t : State V) → Each N ls → IsNamedPath N p → IsNamed N W s → give_labels ls p s ≡ Ok t → IsNamed N W t
+  labels-given [] p s t names named_path k e = subst (IsNamed N W) (ok-is s t e) k
+  labels-given (l ∷ ls) p s t names named_path k e =
       let a = did (give_label l p (label_path l s.labels) s) (give_labels ls p) t e in
-      labels-given ls p a.0 t names.1 way (label-given l p (label_path l s.labels) s a.0 refl names.0 way k a.1) a.2
+      labels-given ls p a.0 t names.1 named_path (label-given l p (label_path l s.labels) s a.0 refl names.0 named_path k a.1) a.2
 
   -- ---- statements
   mutual
-    entry-kept : (e : Entry V) (p : Path) (x y : Progress V) → IsNamedEntry N W e → IsWay N p → IsNamed N W x.state → after_entry e p x ≡ Ok y → IsNamed N W y.state
-    entry-kept (Defines n v) p x y names way k e =
+    entry-kept : (e : Entry V) (p : Path) (x y : Progress V) → IsNamedEntry N W e → IsNamedPath N p → IsNamed N W x.state → after_entry e p x ≡ Ok y → IsNamed N W y.state
+    entry-kept (Defines n v) p x y names named_path k e =
         let z = progress (n ∷ x.properties) x.children (with_property p n v x.state) in
         subst (λ (w : Progress V). IsNamed N W w.state) (ok-is z y (not-refused (is_among n x.properties) DuplicateInBody (Ok z) y e).1) (property-added p n v x.state names.0 names.1 k)
-    entry-kept (Undefines n) p x y names way k e =
+    entry-kept (Undefines n) p x y names named_path k e =
         subst (λ (w : Progress V). IsNamed N W w.state) (ok-is (progress x.properties x.children (without_property p n x.state)) y e) (property-removed p n x.state k)
-    entry-kept (Removes n) p x y names way k e =
+    entry-kept (Removes n) p x y names named_path k e =
         subst (λ (w : Progress V). IsNamed N W w.state) (ok-is (progress x.properties x.children (without_node (p ++ n ∷ []) x.state)) y e) (node-removed (p ++ n ∷ []) x.state k)
-    entry-kept (Child ls n body) p x y names way k e =
+    entry-kept (Child ls n body) p x y names named_path k e =
         let q = p ++ n ∷ [] in
         let inner : State V → Result (Progress V) Fault = λ s. then_do (after_body body q (begun (with_node q s))) (λ t. Ok (progress x.properties (n ∷ x.children) t)) in
         let a = did (give_labels ls q x.state) (λ s. unless (child_fault p n x.children s) (inner s)) y e in
         let fits = no-fault (child_fault p n x.children a.0) (inner a.0) y a.2 in
-        let on = further N p n way names.1 (short p n x.children a.0 fits.0) in
+        let on = further N p n named_path names.1 (short p n x.children a.0 fits.0) in
         let b = did (after_body body q (begun (with_node q a.0))) (λ t. Ok (progress x.properties (n ∷ x.children) t)) y fits.1 in
         subst (λ (w : Progress V). IsNamed N W w.state) (ok-is (progress x.properties (n ∷ x.children) b.0) y b.2)
         (body-kept body q (begun (with_node q a.0)) b.0 names.2 on (node-added q a.0 on (labels-given ls q x.state a.0 names.0 on k a.1)) b.1)
 
-    body-kept : (b : Body V) (p : Path) (x : Progress V) (t : State V) → IsNamedBody N W b → IsWay N p → IsNamed N W x.state → after_body b p x ≡ Ok t → IsNamed N W t
-    body-kept Done p x t names way k e = subst (IsNamed N W) (ok-is x.state t e) k
-    body-kept (Then first others) p x t names way k e =
+    body-kept : (b : Body V) (p : Path) (x : Progress V) (t : State V) → IsNamedBody N W b → IsNamedPath N p → IsNamed N W x.state → after_body b p x ≡ Ok t → IsNamed N W t
+    body-kept Done p x t names named_path k e = subst (IsNamed N W) (ok-is x.state t e) k
+    body-kept (Then first others) p x t names named_path k e =
         let a = did (after_entry first p x) (after_body others p) t e in
-        body-kept others p a.0 t names.1 way (entry-kept first p x a.0 names.0 way k a.1) a.2
+        body-kept others p a.0 t names.1 named_path (entry-kept first p x a.0 names.0 named_path k a.1) a.2
 
   -- ---- items
-  found-way : (t : Target) (s : State V) (p : Path) → IsNamed N W s → found t s ≡ Ok p → IsWay N p
-  found-way (OfLabel l) s p k e = label-way N l s.labels p k.labels (label-found (label_path l s.labels) p e)
-  found-way (OfPath t) s p k e =
+  found-named_path : (t : Target) (s : State V) (p : Path) → IsNamed N W s → found t s ≡ Ok p → IsNamedPath N p
+  found-named_path (OfLabel l) s p k e = label-named_path N l s.labels p k.labels (label-found (label_path l s.labels) p e)
+  found-named_path (OfPath t) s p k e =
       let f = path-found (has_node (path_names t) s) (path_names t) p e in
-      subst (IsWay N) f.1 (listed-so (IsWay N) (path_names t) ([] ∷ s.nodes) (root-way N, k.nodes) f.0)
+      subst (IsNamedPath N) f.1 (listed-so (IsNamedPath N) (path_names t) ([] ∷ s.nodes) (root-named_path N, k.nodes) f.0)
 
 -- the names that fragments bring
 pub record HasFragmentNames (N : List ℕ → Type 0) : Type 0 where
@@ -284,7 +284,7 @@ module _ (N : List ℕ → Type 0) where
         let said = with_property (f ∷ []) (target_name t) (target_value t) own in
         node-added N (IsNamedValue N) (f ∷ overlay_name ∷ []) said (two-names f name) (property-added N (IsNamedValue N) (f ∷ []) (target_name t) (target_value t) own (brings.target t) (value-named t named)
         (node-added N (IsNamedValue N) (f ∷ []) one ((name, tt), omega arith) (named-counted (s.fragments + 1) s k))) where
-          two-names : (f : List ℕ) → N f → IsWay N (f ∷ overlay_name ∷ [])
+          two-names : (f : List ℕ) → N f → IsNamedPath N (f ∷ overlay_name ∷ [])
           two-names f name = ((name, (brings.overlay, tt)), omega arith)
 
     fragment-kept : (f : List ℕ) (target : Target) (body : Body (List Piece)) (s t : State (List Piece)) → N f → IsNamedTarget N target → IsNamedBody N (IsNamedValue N) body → IsNamed N (IsNamedValue N) s → after_fragment target body f s ≡ Ok t → IsNamed N (IsNamedValue N) t
@@ -296,12 +296,12 @@ module _ (N : List ℕ → Type 0) where
         → then_do (found target s) (λ p. then_do (give_labels ls p s) (λ u. after_body body p (begun u))) ≡ Ok t → IsNamed N (IsNamedValue N) t
     node-extended ls target body s t words names k e =
         let a = did (found target s) (λ p. then_do (give_labels ls p s) (λ u. after_body body p (begun u))) t e in
-        let way = found-way N (IsNamedValue N) target s a.0 k a.1 in
+        let named_path = found-named_path N (IsNamedValue N) target s a.0 k a.1 in
         let b = did (give_labels ls a.0 s) (λ u. after_body body a.0 (begun u)) t a.2 in
-        body-kept N (IsNamedValue N) body a.0 (begun b.0) t names way (labels-given N (IsNamedValue N) ls a.0 s b.0 words way k b.1) b.2
+        body-kept N (IsNamedValue N) body a.0 (begun b.0) t names named_path (labels-given N (IsNamedValue N) ls a.0 s b.0 words named_path k b.1) b.2
 
     item-kept : (plugin : Bool) (i : Edit) (s t : State (List Piece)) → IsNamedEdit N i → IsNamed N (IsNamedValue N) s → after_item plugin i s ≡ Ok t → IsNamed N (IsNamedValue N) t
-    item-kept plugin (Rooted body) s t names k e = body-kept N (IsNamedValue N) body [] (begun s) t names (root-way N) k e
+    item-kept plugin (Rooted body) s t names k e = body-kept N (IsNamedValue N) body [] (begun s) t names (root-named_path N) k e
     item-kept plugin (Deletes target) s t names k e =
         let a = did (found target s) (λ p. if same_path p [] then Err ReservedName else Ok (without_node p s)) t e in
         subst (IsNamed N (IsNamedValue N)) (ok-is (without_node a.0 s) t (not-refused (same_path a.0 []) ReservedName (Ok (without_node a.0 s)) t a.2).1) (node-removed N (IsNamedValue N) a.0 s k)

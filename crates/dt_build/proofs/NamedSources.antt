@@ -13,10 +13,10 @@ use Rattle.dt_meaning.specs.Edits.{State, counted}
 use Rattle.dt_meaning.specs.Statements.{edited}
 use Rattle.dt_meaning.specs.Resolved.{is_too_deep}
 use Rattle.dt_edit.specs.Said.{target_of, piece_of, entry_of, body_of, item_of}
-use Rattle.dt_layout.proofs.Each.{Each, each-more, each-of, each-same}
+use Rattle.dt_live.proofs.Each.{Each, each-more, each-of, each-same}
 use Rattle.dt_build.proofs.ApartLists.{each-any}
 use Rattle.dt_build.proofs.FragmentNames.{fragment-named, overlay-named, target-named}
-use Rattle.dt_build.proofs.NamedEdits.{HasFragmentNames, IsWay, IsNamedTarget, IsNamedPiece, IsNamedValue, IsNamedEntry, IsNamedBody, IsNamedEdit, edits-named}
+use Rattle.dt_build.proofs.NamedEdits.{HasFragmentNames, IsNamedPath, IsNamedTarget, IsNamedPiece, IsNamedValue, IsNamedEntry, IsNamedBody, IsNamedEdit, edits-named}
 
 abbrev pub IsName : List ℕ → Type 0
 IsName n = is_name n ≡ true
@@ -68,7 +68,7 @@ not-deep q few = by-test (is_too_deep q) refl where
   by-test true e = grind (arith, nat_tests)
   by-test false e = refl
 
-pub shallow-of : (N : List ℕ → Type 0) (qs : List Path) → Each (IsWay N) qs → list_any is_too_deep qs ≡ false
+pub shallow-of : (N : List ℕ → Type 0) (qs : List Path) → Each (IsNamedPath N) qs → list_any is_too_deep qs ≡ false
 shallow-of N [] h = refl
 shallow-of N (q ∷ qs) h = ap₂ (λ a b. a || b) (not-deep q h.0.1) (shallow-of N qs h.1)
 
@@ -107,9 +107,9 @@ pub edits-shallow : (m : Meaning) (n : ℕ) (s : State (List Piece)) → edited 
 edits-shallow m n s e = shallow-of IsAny s.nodes (edits-named IsAny any-brought m n s (each-any (IsNamedEdit IsAny) m.items item-any) e).nodes
 
 -- ---- each name is a name
-pub way-named : (q : Path) → Each IsName q → list_all is_name q ≡ true
-way-named [] h = refl
-way-named (n ∷ ns) h = and_from (is_name n) (list_all is_name ns) h.0 (way-named ns h.1)
+pub named_path-named : (q : Path) → Each IsName q → list_all is_name q ≡ true
+named_path-named [] h = refl
+named_path-named (n ∷ ns) h = and_from (is_name n) (list_all is_name ns) h.0 (named_path-named ns h.1)
 
 pub names-brought : HasFragmentNames IsName
 names-brought = record { fragment = fragment-named; overlay = overlay-named; target = target-named }

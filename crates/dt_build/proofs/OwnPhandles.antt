@@ -9,27 +9,27 @@ use Rattle.dt_tree.specs.Sound.{is_among, are_distinct}
 use Rattle.dt_meaning.specs.Paths.{Path, same_path, is_listed}
 use Rattle.dt_meaning.specs.Edits.{Definition, definition}
 use Rattle.dt_meaning.specs.References.{Found, held}
-use Rattle.dt_meaning.specs.Phandles.{Number}
-use Rattle.dt_meaning.specs.Fixups.{number_of}
+use Rattle.dt_meaning.specs.Phandles.{PathPhandle}
+use Rattle.dt_meaning.specs.Fixups.{phandle_of}
 use Rattle.dt_meaning.specs.Resolved.{with_bytes, phandle_property}
-use Rattle.dt_draft.specs.Index.{row_of}
-use Rattle.dt_draft.specs.Rows.{IsNode, is_standing, node_path}
-use Rattle.dt_assembly.specs.Lists.{defined_at}
-use Rattle.dt_assembly.specs.Sizes.{size_in}
-use Rattle.dt_assembly.proofs.Orders.{held-append}
-use Rattle.dt_assembly.proofs.SizesOfMaps.{size-append}
-use Rattle.dt_assembly.proofs.PathFacts.{not-both, or-false, not-true, same-is, bytes-itself}
-use Rattle.dt_assembly.proofs.MakingWalk.{one-more}
+use Rattle.dt_live.specs.Index.{row_of}
+use Rattle.dt_live.specs.Rows.{IsNode, is_standing, node_path}
+use Rattle.dt_tree_builder.specs.Lists.{defined_at}
+use Rattle.dt_tree_builder.specs.Sizes.{size_in}
+use Rattle.dt_tree_builder.proofs.Orders.{held-append}
+use Rattle.dt_tree_builder.proofs.SizesOfMaps.{size-append}
+use Rattle.dt_tree_builder.proofs.PathFacts.{not-both, or-false, not-true, same-is, bytes-itself}
+use Rattle.dt_tree_builder.proofs.MakingWalk.{one-more}
 use Rattle.dt_resolve.specs.declared.prepared.Prepared.{Prepared}
-use Rattle.dt_resolve.proofs.PathNumbers.{given-same}
-use Rattle.dt_build.specs.declared.numbering.Numbering.{Numbering}
-use Rattle.dt_build.specs.Private.Made.{founds, given_numbers, new_numbers, all_numbers, own}
-use Rattle.dt_build.specs.Private.Places.{IsNumbering}
+use Rattle.dt_resolve.proofs.PathPhandles.{given-same}
+use Rattle.dt_build.specs.declared.node_phandles.NodePhandles.{NodePhandles}
+use Rattle.dt_build.specs.Private.Made.{founds, given_phandles, new_phandles, all_phandles, own}
+use Rattle.dt_build.specs.Private.Cursors.{AreNodePhandles}
 use Rattle.dt_build.specs.Private.Ready.{IsReady}
-use Rattle.dt_resolve.proofs.PathNumbers.{each-numbered}
+use Rattle.dt_resolve.proofs.PathPhandles.{each-assigned}
 
 -- ---- the properties of the source
-pub held-bytes : (ns : List Number) (es : List (Definition (List Found))) (q : Path) → held (map (with_bytes ns) es) q ≡ map (with_bytes ns) (held es q)
+pub held-bytes : (ns : List PathPhandle) (es : List (Definition (List Found))) (q : Path) → held (map (with_bytes ns) es) q ≡ map (with_bytes ns) (held es q)
 held-bytes ns [] q = refl
 held-bytes ns (e ∷ es) q = by_test (same_path q e.path) (held-bytes ns es q) where
   by_test : (t : Bool) → held (map (with_bytes ns) es) q ≡ map (with_bytes ns) (held es q)
@@ -45,11 +45,11 @@ abbrev names_in : List (Definition (List ℕ)) → List (List ℕ)
 names_in es = map (λ e. e.name) es
 
 module _ (q : Path) where
-  abbrev phandles : List Number → List (Definition (List ℕ))
+  abbrev phandles : List PathPhandle → List (Definition (List ℕ))
   phandles xs = held (map phandle_property xs) q
 
   -- a second one would have the name of the first
-  none-more : (xs : List Number) → is_among phandle_name (names_in (phandles xs)) ≡ false → phandles xs ≡ []
+  none-more : (xs : List PathPhandle) → is_among phandle_name (names_in (phandles xs)) ≡ false → phandles xs ≡ []
   none-more [] e = refl
   none-more (x ∷ xs) e = by_test (same_path q x.path) e (none-more xs) where
     by_test : (t : Bool) → is_among phandle_name (names_in (cond t (phandle_property x ∷ phandles xs) (phandles xs))) ≡ false
@@ -57,17 +57,17 @@ module _ (q : Path) where
     by_test true e ih = not-both (bytes_eq phandle_name phandle_name) (bytes-itself phandle_name) (or-false (bytes_eq phandle_name phandle_name) (is_among phandle_name (names_in (phandles xs))) e).0
     by_test false e ih = ih e
 
-  one-phandle : (xs : List Number) → are_distinct (names_in (phandles xs)) ≡ true
-      → phandles xs ≡ (if is_listed q (map (λ x. x.path) xs) then definition q phandle_name (to_be_bytes w32 (number_of xs q)) ∷ [] else [])
+  one-phandle : (xs : List PathPhandle) → are_distinct (names_in (phandles xs)) ≡ true
+      → phandles xs ≡ (if is_listed q (map (λ x. x.path) xs) then definition q phandle_name (to_be_bytes w32 (phandle_of xs q)) ∷ [] else [])
   one-phandle [] d = refl
   one-phandle (x ∷ xs) d = by_test (same_path q x.path) refl d (one-phandle xs) where
     by_test : (t : Bool) → same_path q x.path ≡ t → are_distinct (names_in (cond t (phandle_property x ∷ phandles xs) (phandles xs))) ≡ true
-        → (are_distinct (names_in (phandles xs)) ≡ true → phandles xs ≡ (if is_listed q (map (λ x. x.path) xs) then definition q phandle_name (to_be_bytes w32 (number_of xs q)) ∷ [] else []))
+        → (are_distinct (names_in (phandles xs)) ≡ true → phandles xs ≡ (if is_listed q (map (λ x. x.path) xs) then definition q phandle_name (to_be_bytes w32 (phandle_of xs q)) ∷ [] else []))
         → cond t (phandle_property x ∷ phandles xs) (phandles xs)
-        ≡ (if t || is_listed q (map (λ x. x.path) xs) then definition q phandle_name (to_be_bytes w32 (if t then x.number else number_of xs q)) ∷ [] else [])
+        ≡ (if t || is_listed q (map (λ x. x.path) xs) then definition q phandle_name (to_be_bytes w32 (if t then x.phandle else phandle_of xs q)) ∷ [] else [])
     by_test true same d ih =
         let parts = and_parts (not (is_among phandle_name (names_in (phandles xs)))) (are_distinct (names_in (phandles xs))) d in
-        ap₂ (λ p es. definition p phandle_name (to_be_bytes w32 x.number) ∷ es) (sym (same-is q x.path same)) (none-more xs (not-true (is_among phandle_name (names_in (phandles xs))) parts.0))
+        ap₂ (λ p es. definition p phandle_name (to_be_bytes w32 x.phandle) ∷ es) (sym (same-is q x.path same)) (none-more xs (not-true (is_among phandle_name (names_in (phandles xs))) parts.0))
     by_test false same d ih = ih d
 
 distinct-behind : (ms ns : List (List ℕ)) → are_distinct (ms ++ ns) ≡ true → are_distinct ns ≡ true
@@ -75,70 +75,70 @@ distinct-behind [] ns d = d
 distinct-behind (m ∷ ms) ns d = distinct-behind ms ns (and_parts (not (is_among m (ms ++ ns))) (are_distinct (ms ++ ns)) d).1
 
 -- a number that isn't given
-number-behind : (q : Path) (xs ys : List Number) → is_listed q (map (λ x. x.path) xs) ≡ false → number_of (xs ++ ys) q ≡ number_of ys q
+number-behind : (q : Path) (xs ys : List PathPhandle) → is_listed q (map (λ x. x.path) xs) ≡ false → phandle_of (xs ++ ys) q ≡ phandle_of ys q
 number-behind q [] ys gone = refl
 number-behind q (x ∷ xs) ys gone =
     let parts = or-false (same_path q x.path) (is_listed q (map (λ x. x.path) xs)) gone in
-    ap (λ t. if t then x.number else number_of (xs ++ ys) q) parts.0 ∙ number-behind q xs ys parts.1
+    ap (λ t. if t then x.phandle else phandle_of (xs ++ ys) q) parts.0 ∙ number-behind q xs ys parts.1
 
 -- ---- of a source that is prepared
-module _ (p : Prepared) (ready : IsReady p) (numbering : Numbering) (is : IsNumbering p numbering) (n : ℕ) (known : IsNode p.draft n) (up : is_standing p.draft n ≡ true) where
+module _ (p : Prepared) (ready : IsReady p) (node_phandles : NodePhandles) (is : AreNodePhandles p node_phandles) (n : ℕ) (known : IsNode p.live n) (up : is_standing p.live n ≡ true) where
   abbrev q : Path
-  q = node_path p.draft n
+  q = node_path p.live n
 
-  abbrev laid : List (Definition (List ℕ))
-  laid = map (with_bytes (all_numbers p)) (held (founds p) q)
+  abbrev node_property : List (Definition (List ℕ))
+  node_property = map (with_bytes (all_phandles p)) (held (founds p) q)
 
   abbrev phandle : List (Definition (List ℕ))
-  phandle = definition q phandle_name (to_be_bytes w32 (get_or numbering.phandles.items n 0)) ∷ []
+  phandle = definition q phandle_name (to_be_bytes w32 (get_or node_phandles.phandles.items n 0)) ∷ []
 
-  whole : own p q ≡ laid ++ held (map phandle_property (new_numbers p)) q
+  whole : own p q ≡ node_property ++ held (map phandle_property (new_phandles p)) q
   whole =
-      held-append q (map (with_bytes (all_numbers p)) (founds p)) (map phandle_property (new_numbers p))
-      ∙ ap (λ es. es ++ held (map phandle_property (new_numbers p)) q) (held-bytes (all_numbers p) (founds p) q)
+      held-append q (map (with_bytes (all_phandles p)) (founds p)) (map phandle_property (new_phandles p))
+      ∙ ap (λ es. es ++ held (map phandle_property (new_phandles p)) q) (held-bytes (all_phandles p) (founds p) q)
 
-  apart : are_distinct (names_in (held (map phandle_property (new_numbers p)) q)) ≡ true
+  apart : are_distinct (names_in (held (map phandle_property (new_phandles p)) q)) ≡ true
   apart =
-      distinct-behind (names_in laid) (names_in (held (map phandle_property (new_numbers p)) q))
-      (ap are_distinct (sym (map-append (λ e. e.name) laid (held (map phandle_property (new_numbers p)) q)) ∙ ap names_in (sym whole)) ∙ ready.apart q)
+      distinct-behind (names_in node_property) (names_in (held (map phandle_property (new_phandles p)) q))
+      (ap are_distinct (sym (map-append (λ e. e.name) node_property (held (map phandle_property (new_phandles p)) q)) ∙ ap names_in (sym whole)) ∙ ready.apart q)
 
-  marked : get_or numbering.new.items n false ≡ is_listed q (map (λ x. x.path) (new_numbers p))
+  marked : get_or node_phandles.new.items n false ≡ is_listed q (map (λ x. x.path) (new_phandles p))
   marked =
       is.new n
-      ∙ given-same p.draft.nodes.items (row_of p.draft.node_rows) ready.sound.grown ready.sound.nodes p.resolution.new.items (each-numbered p.draft.nodes.items p.resolution.new.items ready.new.stand) n up
+      ∙ given-same p.live.nodes.items (row_of p.live.node_rows) ready.sound.grown ready.sound.nodes p.resolution.new.items (each-assigned p.live.nodes.items p.resolution.new.items ready.new.stand) n up
 
-  by_mark : (b : Bool) → is_listed q (map (λ x. x.path) (new_numbers p)) ≡ b
-      → (if b then definition q phandle_name (to_be_bytes w32 (number_of (new_numbers p) q)) ∷ [] else []) ≡ (if b then phandle else [])
+  by_mark : (b : Bool) → is_listed q (map (λ x. x.path) (new_phandles p)) ≡ b
+      → (if b then definition q phandle_name (to_be_bytes w32 (phandle_of (new_phandles p) q)) ∷ [] else []) ≡ (if b then phandle else [])
   by_mark true new =
       ap (λ bs. definition q phandle_name bs ∷ [])
-      (ap (to_be_bytes w32) (sym (number-behind q (given_numbers p) (new_numbers p) (ready.new_free q new))) ∙ sym (is.phandles n known up))
+      (ap (to_be_bytes w32) (sym (number-behind q (given_phandles p) (new_phandles p) (ready.new_free q new))) ∙ sym (is.phandles n known up))
   by_mark false new = refl
 
-  own-is : (b : Bool) → get_or numbering.new.items n false ≡ b → own p q ≡ laid ++ (if b then phandle else [])
+  own-is : (b : Bool) → get_or node_phandles.new.items n false ≡ b → own p q ≡ node_property ++ (if b then phandle else [])
   own-is b mark =
       whole
-      ∙ ap (λ es. laid ++ es)
-      (one-phandle q (new_numbers p) apart
-      ∙ ap (λ t. if t then definition q phandle_name (to_be_bytes w32 (number_of (new_numbers p) q)) ∷ [] else []) (sym marked ∙ mark)
+      ∙ ap (λ es. node_property ++ es)
+      (one-phandle q (new_phandles p) apart
+      ∙ ap (λ t. if t then definition q phandle_name (to_be_bytes w32 (phandle_of (new_phandles p) q)) ∷ [] else []) (sym marked ∙ mark)
       ∙ by_mark b (sym marked ∙ mark))
 
-  pub properties-new : (old new : List Property) (x : Property) → get_or numbering.new.items n false ≡ true → new ≡ old ++ x ∷ [] → x.name ≡ codes "phandle" → x.value ≡ to_be_bytes w32 (get_or numbering.phandles.items n 0)
-      → defined_at q old ≡ laid → defined_at q new ≡ own p q
+  pub properties-new : (old new : List Property) (x : Property) → get_or node_phandles.new.items n false ≡ true → new ≡ old ++ x ∷ [] → x.name ≡ codes "phandle" → x.value ≡ to_be_bytes w32 (get_or node_phandles.phandles.items n 0)
+      → defined_at q old ≡ node_property → defined_at q new ≡ own p q
   properties-new old new x mark step name value so =
       ap (defined_at q) step ∙ one-more q old x ∙ ap (λ es. es ++ definition q x.name x.value ∷ []) so
-      ∙ ap₂ (λ m v. laid ++ definition q m v ∷ []) name value ∙ sym (own-is true mark)
+      ∙ ap₂ (λ m v. node_property ++ definition q m v ∷ []) name value ∙ sym (own-is true mark)
 
-  pub properties-old : (old : List Property) → get_or numbering.new.items n false ≡ false → defined_at q old ≡ laid → defined_at q old ≡ own p q
-  properties-old old mark so = so ∙ sym (append-nil laid) ∙ sym (own-is false mark)
+  pub properties-old : (old : List Property) → get_or node_phandles.new.items n false ≡ false → defined_at q old ≡ node_property → defined_at q old ≡ own p q
+  properties-old old mark so = so ∙ sym (append-nil node_property) ∙ sym (own-is false mark)
 
-  pub size-new : (size sum : ℕ) → get_or numbering.new.items n false ≡ true → sum ≡ min (size + 4) (2 ^ 64 - 1) → size ≡ min (size_in laid) (2 ^ 64 - 1) → sum ≡ min (size_in (own p q)) (2 ^ 64 - 1)
+  pub size-new : (size sum : ℕ) → get_or node_phandles.new.items n false ≡ true → sum ≡ min (size + 4) (2 ^ 64 - 1) → size ≡ min (size_in node_property) (2 ^ 64 - 1) → sum ≡ min (size_in (own p q)) (2 ^ 64 - 1)
   size-new size sum mark a b =
-      let all : size_in (own p q) ≡ size_in laid + 4 = ap size_in (own-is true mark) ∙ size-append laid phandle in
+      let all : size_in (own p q) ≡ size_in node_property + 4 = ap size_in (own-is true mark) ∙ size-append node_property phandle in
       omega arith
 
-  pub size-old : (size sum : ℕ) → get_or numbering.new.items n false ≡ false → sum ≡ min (size + 0) (2 ^ 64 - 1) → size ≡ min (size_in laid) (2 ^ 64 - 1) → sum ≡ min (size_in (own p q)) (2 ^ 64 - 1)
+  pub size-old : (size sum : ℕ) → get_or node_phandles.new.items n false ≡ false → sum ≡ min (size + 0) (2 ^ 64 - 1) → size ≡ min (size_in node_property) (2 ^ 64 - 1) → sum ≡ min (size_in (own p q)) (2 ^ 64 - 1)
   size-old size sum mark a b =
-      let all : size_in (own p q) ≡ size_in laid = ap size_in (own-is false mark ∙ append-nil laid) in
+      let all : size_in (own p q) ≡ size_in node_property = ap size_in (own-is false mark ∙ append-nil node_property) in
       omega arith
 
 -- what an index reads

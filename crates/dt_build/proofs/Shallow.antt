@@ -5,10 +5,10 @@ use Rattle.dt_meaning.specs.Paths.{is_listed}
 use Rattle.dt_meaning.specs.Syntax.{Piece}
 use Rattle.dt_meaning.specs.Edits.{Definition, State, counted}
 use Rattle.dt_meaning.specs.References.{Found, in_order, references}
-use Rattle.dt_meaning.specs.Phandles.{Number, given_of, numbered, wanted}
-use Rattle.dt_meaning.specs.Fixups.{places, fixups, local_fixups}
+use Rattle.dt_meaning.specs.Phandles.{PathPhandle, given_of, assigned, wanted}
+use Rattle.dt_meaning.specs.Fixups.{sites, fixups, local_fixups}
 use Rattle.dt_meaning.specs.Resolved.{Resolved, has_child, names_taken, phandle_property, put_together, resolved_state, shallow, symbol, when, with_bytes, with_more}
-use Rattle.dt_assembly.proofs.PathFacts.{or-false}
+use Rattle.dt_tree_builder.proofs.PathFacts.{or-false}
 use Rattle.dt_resolve.proofs.Counted.{counted-resolved}
 
 -- ---- no node has a name that is kept for what is added
@@ -22,22 +22,22 @@ module _ {V : Type 0} (symbols : Bool) (s : State V) where
   pub fixups-free : names_taken symbols true s ≡ false → is_listed (fixups_name ∷ []) s.nodes ≡ false
   fixups-free free = (or-false (has_child s fixups_name) (has_child s local_fixups_name) (plugin-free free)).0
 
-  pub mirror-free : names_taken symbols true s ≡ false → is_listed (local_fixups_name ∷ []) s.nodes ≡ false
-  mirror-free free = (or-false (has_child s fixups_name) (has_child s local_fixups_name) (plugin-free free)).1
+  pub local-free : names_taken symbols true s ≡ false → is_listed (local_fixups_name ∷ []) s.nodes ≡ false
+  local-free free = (or-false (has_child s fixups_name) (has_child s local_fixups_name) (plugin-free free)).1
 
 -- ---- the whole
-module _ (symbols plugin : Bool) (n : ℕ) (s : State (List Piece)) (es : List (Definition (List Found))) (given : List Number) (free : names_taken symbols plugin s ≡ false)
-    (numbers : given_of (in_order s) [] ≡ Ok given) (found : references plugin s ≡ Ok es) where
+module _ (symbols plugin : Bool) (n : ℕ) (s : State (List Piece)) (es : List (Definition (List Found))) (given : List PathPhandle) (free : names_taken symbols plugin s ≡ false)
+    (phandles : given_of (in_order s) [] ≡ Ok given) (found : references plugin s ≡ Ok es) where
   abbrev all : Resolved
-  all = put_together symbols plugin s es given (numbered given 0 (wanted symbols s given es))
+  all = put_together symbols plugin s es given (assigned given 0 (wanted symbols s given es))
 
   pub state-resolved : resolved_state symbols plugin (counted n s) ≡ shallow all
-  state-resolved = counted-resolved n s symbols plugin ∙ rw free (rw numbers (rw found refl))
+  state-resolved = counted-resolved n s symbols plugin ∙ rw free (rw phandles (rw found refl))
 
 -- the properties that are added, where they are of a plugin
-pub put-by : (symbols plugin : Bool) (s : State (List Piece)) (es : List (Definition (List Found))) (given new : List Number)
+pub put-by : (symbols plugin : Bool) (s : State (List Piece)) (es : List (Definition (List Found))) (given new : List PathPhandle)
     → put_together symbols plugin s es given new
-    ≡ with_more (local_fixups (when plugin (places (given ++ new) es)) []) (with_more (fixups (when plugin (places (given ++ new) es)) [])
+    ≡ with_more (local_fixups (when plugin (sites (given ++ new) es)) []) (with_more (fixups (when plugin (sites (given ++ new) es)) [])
     (with_more (when symbols (map symbol s.labels)) (record { nodes = s.nodes; properties = map (with_bytes (given ++ new)) es ++ map phandle_property new })))
 put-by symbols true s es given new = refl
 put-by symbols false s es given new = refl

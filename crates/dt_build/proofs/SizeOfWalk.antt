@@ -6,10 +6,10 @@ use Rattle.std.proofs.lemmas.Bool.{and_parts}
 use Rattle.dt_meaning.specs.Paths.{Path, same_path, is_listed}
 use Rattle.dt_meaning.specs.Edits.{Definition}
 use Rattle.dt_meaning.specs.References.{held}
-use Rattle.dt_assembly.specs.Standing.{are_apart}
-use Rattle.dt_assembly.specs.Sizes.{size_in}
-use Rattle.dt_assembly.proofs.PathFacts.{not-true, or-false, other-way, same-itself, same-is}
-use Rattle.dt_assembly.proofs.SizesOfMaps.{size-append}
+use Rattle.dt_tree_builder.specs.Standing.{are_apart}
+use Rattle.dt_tree_builder.specs.Sizes.{size_in}
+use Rattle.dt_tree_builder.proofs.PathFacts.{not-true, or-false, other-side, same-itself, same-is}
+use Rattle.dt_tree_builder.proofs.SizesOfMaps.{size-append}
 
 -- ---- the properties of one node
 module _ {V : Type 0} where
@@ -24,7 +24,7 @@ module _ {V : Type 0} where
   walk-without e es [] gone = refl
   walk-without e es (x ∷ xs) gone =
       let parts = or-false (same_path e.path x) (is_listed e.path xs) gone in
-      ap₂ (λ a b. a ++ b) (held-other e es x (other-way e.path x parts.0)) (walk-without e es xs parts.1)
+      ap₂ (λ a b. a ++ b) (held-other e es x (other-side e.path x parts.0)) (walk-without e es xs parts.1)
 
 -- ---- sizes
 met-once : (e : Definition (List ℕ)) (es : List (Definition (List ℕ))) (order : List Path) → are_apart order ≡ true → is_listed e.path order ≡ true
@@ -40,7 +40,7 @@ met-once e es (x ∷ xs) apart there =
           let is : e.path ≡ x = same-is e.path x same in
           ap₂ (λ a b. size_in (a ++ b)) (held-own e es x is) (walk-without e es xs (ap (λ p. is_listed p xs) is ∙ gone))
       by_same e es x xs false same gone there ih =
-          ap (λ a. size_in (a ++ flat_map (held (e ∷ es)) xs)) (held-other e es x (other-way e.path x same))
+          ap (λ a. size_in (a ++ flat_map (held (e ∷ es)) xs)) (held-other e es x (other-side e.path x same))
           ∙ omega (arith, ih there, size-append (held es x) (flat_map (held (e ∷ es)) xs), size-append (held es x) (flat_map (held es) xs))
 
 -- in whatever order the nodes come

@@ -10,9 +10,9 @@ use Rattle.dt_meaning.specs.Edits.{Definition, Label}
 use Rattle.dt_meaning.specs.References.{walk, preorder, held}
 use Rattle.dt_meaning.specs.Phandles.{new_ones}
 use Rattle.dt_meaning.specs.Resolved.{Resolved, fronts, symbol, with_more}
-use Rattle.dt_assembly.specs.Standing.{AreNodes, walked, behind_root}
-use Rattle.dt_assembly.proofs.Orders.{behind, held-append, there-same, no-below}
-use Rattle.dt_assembly.proofs.PathFacts.{not-both, same-itself, child-is, listed-first, listed-next, listed-other, other-way}
+use Rattle.dt_tree_builder.specs.Standing.{AreNodes, walked, behind_root}
+use Rattle.dt_tree_builder.proofs.Orders.{behind, held-append, there-same, no-below}
+use Rattle.dt_tree_builder.proofs.PathFacts.{not-both, same-itself, child-is, listed-first, listed-next, listed-other, other-side}
 use Rattle.dt_build.proofs.SizeOfWalk.{held-other}
 
 -- ---- children that are kept of a list
@@ -138,7 +138,7 @@ module _ (r : Resolved) (are : AreNodes r.nodes) (new : is_listed symbols_path r
 
     met-before : (x : Path) → is_listed x (preorder r.nodes) ≡ true → same_path x symbols_path ≡ false
     met-before x there =
-        other-way symbols_path x
+        other-side symbols_path x
         (listed-other symbols_path x ([] ∷ r.nodes) new (there-same r are x ∙ ap (is_listed x) (behind r are) ∙ there))
 
     pub symbols-walked : (l : Label) (ls : List Label)

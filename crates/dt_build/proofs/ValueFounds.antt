@@ -13,10 +13,10 @@ use Rattle.dt_meaning.specs.Paths.{Path}
 use Rattle.dt_meaning.specs.Syntax.{OfPath, Piece}
 use Rattle.dt_meaning.specs.Edits.{Definition, definition, State, label_path}
 use Rattle.dt_meaning.specs.Statements.{Fault, ReservedName, then_do, found}
-use Rattle.dt_meaning.specs.References.{Found, Bytes, Cell, Open, Way, cell_at, cell_of, cell_of_label, each, found_in}
+use Rattle.dt_meaning.specs.References.{Found, Bytes, Cell, Open, PathText, cell_at, cell_of, cell_of_label, each, found_in}
 use Rattle.dt_edit.specs.Said.{piece_of, target_of}
 use Rattle.dt_resolve.specs.Targets.{target_path}
-use Rattle.dt_build.specs.Private.Values.{uses, all_uses, label_in, cell_for, way_for, found_of, founds_of}
+use Rattle.dt_build.specs.Private.Values.{uses, all_uses, label_in, cell_for, text_for, found_of, founds_of}
 
 -- ---- what was found
 by_kept : (q : Path) (f : Found) (b : Bool) → (if b then Err ReservedName else Ok (Cell q)) ≡ Ok f → (p : Path) × (f ≡ Cell p)
@@ -27,9 +27,9 @@ cell-is : (r : Result Path Fault) (f : Found) → then_do r cell_at ≡ Ok f →
 cell-is (Err e) f h = absurd (cc)
 cell-is (Ok q) f h = by_kept q f (is_reserved q) h
 
-way-is : (r : Result Path Fault) (f : Found) → then_do r (λ q. Ok (Way q)) ≡ Ok f → (q : Path) × (f ≡ Way q)
-way-is (Err e) f h = absurd (cc)
-way-is (Ok q) f h = let e : f ≡ Way q = cc in (q, e)
+path-is : (r : Result Path Fault) (f : Found) → then_do r (λ q. Ok (PathText q)) ≡ Ok f → (q : Path) × (f ≡ PathText q)
+path-is (Err e) f h = absurd (cc)
+path-is (Ok q) f h = let e : f ≡ PathText q = cc in (q, e)
 
 pub each-split : {A : Type 0} (r : Result A Fault) (rs : Result (List A) Fault) (xs : List A) → then_do r (λ b. then_do rs (λ bs. Ok (b ∷ bs))) ≡ Ok xs
     → (b : A) × (bs : List A) × (r ≡ Ok b) × (rs ≡ Ok bs) × (xs ≡ b ∷ bs)
@@ -73,10 +73,10 @@ module _ (path : ℕ → Path) where
       let n = first-none ts rest (at ∙ ap (λ g. target_path g ++ rest) is) in
       (ap (cell_for path t) n.0 ∙ sym is, n.1)
 
-  way-first : (f : Found) (q : (p : Path) × (f ≡ Way p)) (ts : List (Option ℕ)) (rest : List (Option Path)) → map (option_map path) ts ≡ target_path f ++ rest → IsFirst (way_for path) f ts rest
-  way-first f q ts rest at =
+  path-first : (f : Found) (q : (p : Path) × (f ≡ PathText p)) (ts : List (Option ℕ)) (rest : List (Option Path)) → map (option_map path) ts ≡ target_path f ++ rest → IsFirst (text_for path) f ts rest
+  path-first f q ts rest at =
       let n = first-some ts q.0 rest (at ∙ ap (λ g. target_path g ++ rest) q.1) in
-      (ap (way_for path) n.1 ∙ ap Way n.2 ∙ sym q.1, n.3)
+      (ap (text_for path) n.1 ∙ ap PathText n.2 ∙ sym q.1, n.3)
 
 module _ (plugin : Bool) (s : State (List Piece)) (path : ℕ → Path) where
   by_label : (t : Reference) (plugin : Bool) (o : Option Path) (f : Found) (ts : List (Option ℕ)) (rest : List (Option Path)) → cell_of_label plugin (label_in t) o ≡ Ok f → map (option_map path) ts ≡ target_path f ++ rest
@@ -101,7 +101,7 @@ module _ (plugin : Bool) (s : State (List Piece)) (path : ℕ → Path) where
       let e : f ≡ Bytes b.items = cc in
       (sym e, at ∙ ap (λ g. target_path g ++ rest) e)
   part-found (parts.Phandle t) f ts rest h at = cell-found t f ts rest h at
-  part-found (parts.Path t) f ts rest h at = way-first path f (way-is (found (target_of (target_view t)) s) f h) ts rest at
+  part-found (parts.Path t) f ts rest h at = path-first path f (path-is (found (target_of (target_view t)) s) f h) ts rest at
 
   -- a value, and the targets behind its own
   pub value-found : (v : List Part) (fs : List Found) (ts : List (Option ℕ)) (rest : List (Option Path)) → each (found_in plugin s) (map piece_of (map part_view v)) ≡ Ok fs

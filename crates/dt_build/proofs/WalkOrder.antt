@@ -8,11 +8,11 @@ use Rattle.dt_meaning.specs.Edits.{Definition, definition, State}
 use Rattle.dt_meaning.specs.Statements.{Fault, then_do}
 use Rattle.dt_meaning.specs.Resolved.{Resolved}
 use Rattle.dt_meaning.specs.References.{Found, each, found_in, found_value, held, in_order, preorder, references}
-use Rattle.dt_layout.proofs.Each.{Each}
-use Rattle.dt_assembly.specs.Standing.{are_apart, AreNodes}
-use Rattle.dt_assembly.proofs.InTurn.{each-once}
-use Rattle.dt_assembly.proofs.Orders.{held-append, behind, there-same}
-use Rattle.dt_assembly.proofs.PathFacts.{not-true, same-is, or-false, other-way}
+use Rattle.dt_live.proofs.Each.{Each}
+use Rattle.dt_tree_builder.specs.Standing.{are_apart, AreNodes}
+use Rattle.dt_tree_builder.proofs.InTurn.{each-once}
+use Rattle.dt_tree_builder.proofs.Orders.{held-append, behind, there-same}
+use Rattle.dt_tree_builder.proofs.PathFacts.{not-true, same-is, or-false, other-side}
 use Rattle.dt_build.proofs.SizeOfWalk.{held-other, held-own}
 
 -- ---- the walk meets what is listed
@@ -66,7 +66,7 @@ module _ {V : Type 0} where
   walk-others x first es (y ∷ ys) at gone =
       let parts = or-false (same_path x y) (is_listed x ys) gone in
       ap₂ (λ a b. a ++ b)
-      (held-append y first es ∙ ap (λ zs. zs ++ held es y) (held-no x y first at (other-way x y parts.0)))
+      (held-append y first es ∙ ap (λ zs. zs ++ held es y) (held-no x y first at (other-side x y parts.0)))
       (walk-others x first es ys at parts.1)
 
   pub walk-again : (order : List Path) → are_apart order ≡ true → (es : List (Definition V)) → AreOrdered order es → flat_map (held es) order ≡ es

@@ -8,7 +8,7 @@ use Rattle.dt_tree.specs.TreeData.{TreeData}
 use Rattle.dt_meaning.specs.Syntax.{Meaning}
 use Rattle.dt_meaning.specs.MapOf.{map_of, tree_map_of}
 use Rattle.dt_meaning.specs.Resolved.{Resolved, resolved}
-use Rattle.dt_assembly.specs.Sizes.{size_in, size_below}
+use Rattle.dt_tree_builder.specs.Sizes.{size_in, size_below}
 use Rattle.dt_resolve.specs.declared.error.BuildError.{BuildError}
 use Rattle.dt_resolve.specs.declared.error.BuildError.TheVariants.{NoMemory, UnknownLabel, DuplicateLabel, UnknownPath, BadPhandle, DuplicatePhandle, DuplicateInBody, PathInPlugin, ReservedName, TooDeep}
 use Rattle.dt_resolve.specs.BuildFault.{IsFault}

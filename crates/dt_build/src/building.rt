@@ -15,9 +15,9 @@ ghost use Rattle.dt_build.specs.Private.Fitting.{IsFitting};
 ghost use Rattle.dt_build.specs.Private.Made.{lists};
 ghost use Rattle.dt_build.specs.Private.Ready.{IsReady};
 
+use crate::local_sizes::is_local_too_deep;
 use crate::making::make;
-use crate::mirror::is_mirror_too_deep;
-use crate::numbering::number;
+use crate::node_phandles::number;
 use crate::sizes::total_size;
 use dt_edit::{Fragments, fragments_of};
 use dt_resolve::{BuildError, Prepared, prepare};
@@ -35,15 +35,15 @@ fn fitting_tree(
     limit: usize,
 ) -> Result<Option<Tree>, AllocError>
     requires ready { IsReady prepared.now }
-    requires free { names_taken symbols prepared.now.plugin (tree_of prepared.now.draft) ≡ false }
+    requires free { names_taken symbols prepared.now.plugin (tree_of prepared.now.live) ≡ false }
     requires shallow { list_any is_too_deep (lists symbols prepared.now).nodes ≡ false }
     ensures { IfOk result (λ tree. IsFitting symbols (meaning_of source.now) prepared.now limit tree) }
 {
-    let numbering = number(alloc, prepared)?;
-    if total_size(prepared, &numbering, symbols) > limit {
+    let node_phandles = number(alloc, prepared)?;
+    if total_size(prepared, &node_phandles, symbols) > limit {
         return Ok(None);
     }
-    let root = make(alloc, prepared, &numbering, symbols)?;
+    let root = make(alloc, prepared, &node_phandles, symbols)?;
     let reserves = Vec::from_slice(alloc, source.reserves.as_slice())?;
     match Tree::new(reserves, 0, root) {
         Ok(tree) => Ok(Some(tree)),
@@ -64,8 +64,8 @@ fn prepared_tree(
     requires prepared { (es : List (Definition (List Found))) × IsPrepared symbols (meaning_of source.now) es prepared.now }
     ensures { MatchResult result (λ tree. IsBuilt symbols (meaning_of source.now) limit tree) (λ e. Refuses symbols (meaning_of source.now) e) }
 {
-    // behind the edits only the mirror of a node is deeper than the node
-    if is_mirror_too_deep(prepared) {
+    // behind the edits only the local fixups of a node is deeper than the node
+    if is_local_too_deep(prepared) {
         return Err(BuildError::TooDeep);
     }
     let tree = fitting_tree(alloc, source, prepared, symbols, limit)?;
@@ -93,7 +93,7 @@ fn source_tree<'d, 't>(
 
 /// The tree of a source, or None where its values are longer together than the limit, in bytes: sizes are counted before any
 /// value is made. With symbols the root gets `__symbols__`, with the path of each labelled node; a plugin's root gets `__fixups__` and
-/// `__local_fixups__`, with the places of its phandles.
+/// `__local_fixups__`, with the sites of its phandles.
 pub fn build_within(
     alloc: Global,
     hasher: RandomState,

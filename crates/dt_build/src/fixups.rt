@@ -1,55 +1,55 @@
-//! The places that a plugin leaves to its base, as properties of the root's child `__fixups__`.
+//! The sites that a plugin leaves to its base, as properties of the root's child `__fixups__`.
 ghost use Rattle.std.specs.Prelude.{◌≡◌, ◌-◌, ◌^◌, [], false, IfOk, IfSome, min};
 ghost use Rattle.dt_meaning.specs.Fixups.{fixups};
 ghost use Rattle.dt_meaning.specs.Resolved.{names_taken};
-ghost use Rattle.dt_draft.specs.Rows.{IsNode, node_path};
+ghost use Rattle.dt_live.specs.Rows.{IsNode, node_path};
 ghost use Rattle.dt_edit.specs.Said.{tree_of};
-ghost use Rattle.dt_assembly.specs.Lists.{defined_at};
-ghost use Rattle.dt_assembly.specs.OpenNodes.{assembled};
-ghost use Rattle.dt_assembly.specs.Standing.{walked};
-ghost use Rattle.dt_assembly.specs.Sizes.{size_in};
-ghost use Rattle.dt_build.specs.Private.Groups.{fixups_path};
-ghost use Rattle.dt_build.specs.Private.Made.{fixup_lists, made_places, symbol_lists};
+ghost use Rattle.dt_tree_builder.specs.Lists.{defined_at};
+ghost use Rattle.dt_tree_builder.specs.Builders.{built_lists};
+ghost use Rattle.dt_tree_builder.specs.Standing.{walked};
+ghost use Rattle.dt_tree_builder.specs.Sizes.{size_in};
+ghost use Rattle.dt_build.specs.Private.ByLabel.{fixups_path};
+ghost use Rattle.dt_build.specs.Private.Made.{fixup_lists, made_sites, symbol_lists};
 ghost use Rattle.dt_build.specs.Private.Ready.{IsReady};
-ghost use Rattle.dt_build.specs.Private.Spots.{shown, texts_size};
+ghost use Rattle.dt_build.specs.Private.FixupSites.{site_list, texts_size};
 
 use crate::digits::digits_size;
-use crate::groups::grouped;
-use crate::spots::{Spot, spot_at, walk_behind, whole_walk};
-use crate::value::way_size;
-use dt_assembly::{Assembly, lawful_name};
+use crate::fixup_sites::{FixupSite, site_at, walk_behind, whole_walk};
+use crate::fixups_by_label::collect_by_label;
+use dt_live::path_size;
 use dt_resolve::Prepared;
-use dt_tree::{Bytes, Name, Property};
+use dt_tree::{Bytes, Name, Property, lawful_name};
+use dt_tree_builder::TreeBuilder;
 use std::alloc::{AllocError, Global};
 
-/// How many bytes the text of a place has, where it has an open label, or the greatest number where there are more.
-pub(crate) fn text_size(prepared: &Prepared<'_, '_>, spot: Option<Spot<'_>>) -> usize
+/// How many bytes the text of a site has, where it has an open label, or the greatest number where there are more.
+pub(crate) fn text_size(prepared: &Prepared<'_, '_>, site: Option<FixupSite<'_>>) -> usize
     requires ready { IsReady prepared.now }
-    requires known { IfSome spot (λ s. IsNode prepared.now.draft s.node) }
-    ensures { result ≡ min (texts_size (shown (node_path prepared.now.draft) spot.entry)) (2 ^ 64 - 1) }
+    requires known { IfSome site (λ s. IsNode prepared.now.live s.node) }
+    ensures { result ≡ min (texts_size (site_list (node_path prepared.now.live) site.entry)) (2 ^ 64 - 1) }
 {
-    let spot = match spot {
-        Some(spot) => spot,
+    let site = match site {
+        Some(site) => site,
         None => return 0,
     };
-    if spot.label.is_none() {
+    if site.label.is_none() {
         return 0;
     }
     // with its zero byte
-    let way = way_size(prepared.draft.nodes(), spot.node);
-    let name = spot.name.len().saturating_add(2 + digits_size(spot.offset));
-    way.saturating_add(name)
+    let path_bytes = path_size(prepared.live.nodes(), site.node);
+    let name = site.name.len().saturating_add(2 + digits_size(site.offset));
+    path_bytes.saturating_add(name)
 }
 
 /// How many bytes the fixups have together, or the greatest number where there are more. Takes no memory.
 pub(crate) fn fixups_size(prepared: &Prepared<'_, '_>) -> usize
     requires { IsReady prepared.now }
-    ensures { result ≡ min (size_in (fixups (made_places prepared.now) [])) (2 ^ 64 - 1) }
+    ensures { result ≡ min (size_in (fixups (made_sites prepared.now) [])) (2 ^ 64 - 1) }
 {
     let mut size: usize = 0;
     let mut at = whole_walk(prepared);
     while !at.properties.is_empty() {
-        size = size.saturating_add(text_size(prepared, spot_at(prepared, at)));
+        size = size.saturating_add(text_size(prepared, site_at(prepared, at)));
         at = walk_behind(prepared, at);
     }
     size
@@ -69,14 +69,14 @@ pub(crate) fn label_name(alloc: Global, label: &[u8]) -> Result<Name, AllocError
 // One property a label that no node has.
 fn fixups_of(alloc: Global, prepared: &Prepared<'_, '_>) -> Result<Vec<Property>, AllocError>
     requires { IsReady prepared.now }
-    ensures { IfOk result (λ made. defined_at fixups_path made.items ≡ fixups (made_places prepared.now) []) }
+    ensures { IfOk result (λ made. defined_at fixups_path made.items ≡ fixups (made_sites prepared.now) []) }
 {
-    let groups = grouped(alloc, prepared)?.groups;
-    let mut properties = Vec::with_capacity(alloc, groups.len())?;
-    for group in groups {
+    let by_label = collect_by_label(alloc, prepared)?.labels;
+    let mut properties = Vec::with_capacity(alloc, by_label.len())?;
+    for label_fixups in by_label {
         properties.push(Property {
-            name: label_name(alloc, group.label)?,
-            value: Bytes::from_vec(group.text),
+            name: label_name(alloc, label_fixups.label)?,
+            value: Bytes::from_vec(label_fixups.text),
         })?;
     }
     Ok(properties)
@@ -87,17 +87,17 @@ pub(crate) fn with_fixups(
     alloc: Global,
     prepared: &Prepared<'_, '_>,
     symbols: bool,
-    assembly: Assembly,
-) -> Result<Assembly, AllocError>
+    builder: TreeBuilder,
+) -> Result<TreeBuilder, AllocError>
     requires ready { IsReady prepared.now }
-    requires free { names_taken symbols prepared.now.plugin (tree_of prepared.now.draft) ≡ false }
-    requires made { assembled assembly ≡ walked (symbol_lists symbols prepared.now) }
-    ensures { IfOk result (λ whole. assembled whole ≡ walked (fixup_lists symbols prepared.now)) }
+    requires free { names_taken symbols prepared.now.plugin (tree_of prepared.now.live) ≡ false }
+    requires made { built_lists builder ≡ walked (symbol_lists symbols prepared.now) }
+    ensures { IfOk result (λ whole. built_lists whole ≡ walked (fixup_lists symbols prepared.now)) }
 {
     let properties = fixups_of(alloc, prepared)?;
     if properties.is_empty() {
-        return Ok(assembly);
+        return Ok(builder);
     }
     let name = lawful_name(alloc, b"__fixups__".as_slice())?;
-    assembly.push(alloc, 1, name, properties)
+    builder.push(alloc, 1, name, properties)
 }

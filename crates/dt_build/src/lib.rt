@@ -4,18 +4,18 @@
 #![tactic(auto)]
 
 mod building;
+mod cursor;
 mod digits;
+mod fixup_sites;
 mod fixups;
-mod groups;
+mod fixups_by_label;
+mod local_nodes;
+mod local_properties;
+mod local_sizes;
 mod making;
-mod mirror;
-mod mirrored;
-mod mirroring;
-mod numbering;
+mod node_phandles;
 mod own;
-mod place;
 mod sizes;
-mod spots;
 mod symbols;
 mod value;
 

@@ -5,97 +5,97 @@ ghost use Rattle.dt_tree.specs.PathMap.{path_map};
 ghost use Rattle.dt_meaning.specs.MapOf.{map_of};
 ghost use Rattle.dt_meaning.specs.Resolved.{is_too_deep, names_taken};
 ghost use Rattle.dt_edit.specs.Said.{tree_of};
-ghost use Rattle.dt_assembly.specs.OpenNodes.{assembled};
-ghost use Rattle.dt_assembly.specs.Private.Making.{IsMade};
-ghost use Rattle.dt_assembly.specs.Standing.{walked};
+ghost use Rattle.dt_tree_builder.specs.Builders.{built_lists};
+ghost use Rattle.dt_tree_builder.specs.Private.Making.{IsMade};
+ghost use Rattle.dt_tree_builder.specs.Standing.{walked};
 ghost use Rattle.dt_build.specs.Private.Made.{lists, plain_lists, symbol_lists};
-ghost use Rattle.dt_build.specs.Private.Places.{IsNumbering, IsPlace};
+ghost use Rattle.dt_build.specs.Private.Cursors.{AreNodePhandles, IsCursor};
 ghost use Rattle.dt_build.specs.Private.Ready.{IsReady};
 
+use crate::cursor::Cursor;
 use crate::fixups::with_fixups;
-use crate::mirroring::with_mirror;
-use crate::numbering::Numbering;
+use crate::local_nodes::with_local_fixups;
+use crate::node_phandles::NodePhandles;
 use crate::own::own_properties;
-use crate::place::Place;
 use crate::symbols::with_symbols;
-use dt_assembly::{Assembly, lawful_name};
 use dt_resolve::Prepared;
-use dt_tree::Node;
+use dt_tree::{Node, lawful_name};
+use dt_tree_builder::TreeBuilder;
 use std::alloc::{AllocError, Global};
 
-// The root alone, and the place behind it.
+// The root alone, and the cursor behind it.
 fn root_of(
     alloc: Global,
     prepared: &Prepared<'_, '_>,
-    numbering: &Numbering,
-) -> Result<(Assembly, Place), AllocError>
+    node_phandles: &NodePhandles,
+) -> Result<(TreeBuilder, Cursor), AllocError>
     requires ready { IsReady prepared.now }
-    requires numbering { IsNumbering prepared.now numbering.now }
+    requires node_phandles { AreNodePhandles prepared.now node_phandles.now }
     ensures made { IfOk result (λ x. IsMade (plain_lists prepared.now) x.1.node x.0) }
-    ensures place { IfOk result (λ x. IsPlace prepared.now x.1) }
+    ensures cursor { IfOk result (λ x. IsCursor prepared.now x.1) }
 {
-    let (properties, behind) = own_properties(alloc, prepared, numbering, Place::start())?;
-    Ok((Assembly::new(alloc, properties), behind))
+    let (properties, behind) = own_properties(alloc, prepared, node_phandles, Cursor::start())?;
+    Ok((TreeBuilder::new(alloc, properties), behind))
 }
 
-// The node at a place behind all before it, and the place behind it.
+// The node at a cursor behind all before it, and the cursor behind it.
 fn with_node(
     alloc: Global,
     prepared: &Prepared<'_, '_>,
-    numbering: &Numbering,
-    place: Place,
-    assembly: Assembly,
-) -> Result<(Assembly, Place), AllocError>
+    node_phandles: &NodePhandles,
+    cursor: Cursor,
+    builder: TreeBuilder,
+) -> Result<(TreeBuilder, Cursor), AllocError>
     requires ready { IsReady prepared.now }
-    requires numbering { IsNumbering prepared.now numbering.now }
-    requires place { IsPlace prepared.now place }
-    requires more { place.node < length prepared.now.layout.nodes.items }
-    requires made { IsMade (plain_lists prepared.now) place.node assembly }
+    requires node_phandles { AreNodePhandles prepared.now node_phandles.now }
+    requires cursor { IsCursor prepared.now cursor }
+    requires more { cursor.node < length prepared.now.in_preorder.nodes.items }
+    requires made { IsMade (plain_lists prepared.now) cursor.node builder }
     ensures made { IfOk result (λ x. IsMade (plain_lists prepared.now) x.1.node x.0) }
-    ensures place { IfOk result (λ x. IsPlace prepared.now x.1) }
-    ensures node { IfOk result (λ x. x.1.node ≡ place.node + 1) }
+    ensures cursor { IfOk result (λ x. IsCursor prepared.now x.1) }
+    ensures node { IfOk result (λ x. x.1.node ≡ cursor.node + 1) }
 {
-    let node = prepared.layout.nodes[place.node];
-    let row = prepared.draft.nodes()[node - 1];
+    let node = prepared.in_preorder.nodes[cursor.node];
+    let row = prepared.live.nodes()[node - 1];
     let name = lawful_name(alloc, row.name)?;
-    let depth = prepared.draft.depth(node);
-    let (properties, behind) = own_properties(alloc, prepared, numbering, place)?;
-    let assembly = assembly.push(alloc, depth, name, properties)?;
-    Ok((assembly, behind))
+    let depth = prepared.live.depth(node);
+    let (properties, behind) = own_properties(alloc, prepared, node_phandles, cursor)?;
+    let builder = builder.push(alloc, depth, name, properties)?;
+    Ok((builder, behind))
 }
 
 // All nodes but that of the labels.
 fn with_nodes(
     alloc: Global,
     prepared: &Prepared<'_, '_>,
-    numbering: &Numbering,
-) -> Result<Assembly, AllocError>
+    node_phandles: &NodePhandles,
+) -> Result<TreeBuilder, AllocError>
     requires ready { IsReady prepared.now }
-    requires numbering { IsNumbering prepared.now numbering.now }
-    ensures { IfOk result (λ assembly. assembled assembly ≡ walked (plain_lists prepared.now)) }
+    requires node_phandles { AreNodePhandles prepared.now node_phandles.now }
+    ensures { IfOk result (λ builder. built_lists builder ≡ walked (plain_lists prepared.now)) }
 {
-    let (mut assembly, mut place) = root_of(alloc, prepared, numbering)?;
-    while place.node < prepared.layout.nodes.len() {
-        let (more, behind) = with_node(alloc, prepared, numbering, place, assembly)?;
-        assembly = more;
-        place = behind;
+    let (mut builder, mut cursor) = root_of(alloc, prepared, node_phandles)?;
+    while cursor.node < prepared.in_preorder.nodes.len() {
+        let (more, behind) = with_node(alloc, prepared, node_phandles, cursor, builder)?;
+        builder = more;
+        cursor = behind;
     }
-    Ok(assembly)
+    Ok(builder)
 }
 
 // The nodes of the source, with symbols the labels' node last.
 fn with_labels(
     alloc: Global,
     prepared: &Prepared<'_, '_>,
-    numbering: &Numbering,
+    node_phandles: &NodePhandles,
     symbols: bool,
-) -> Result<Assembly, AllocError>
+) -> Result<TreeBuilder, AllocError>
     requires ready { IsReady prepared.now }
-    requires numbering { IsNumbering prepared.now numbering.now }
-    requires free { names_taken symbols prepared.now.plugin (tree_of prepared.now.draft) ≡ false }
-    ensures { IfOk result (λ assembly. assembled assembly ≡ walked (symbol_lists symbols prepared.now)) }
+    requires node_phandles { AreNodePhandles prepared.now node_phandles.now }
+    requires free { names_taken symbols prepared.now.plugin (tree_of prepared.now.live) ≡ false }
+    ensures { IfOk result (λ builder. built_lists builder ≡ walked (symbol_lists symbols prepared.now)) }
 {
-    let nodes = with_nodes(alloc, prepared, numbering)?;
+    let nodes = with_nodes(alloc, prepared, node_phandles)?;
     if !symbols {
         return Ok(nodes);
     }
@@ -106,36 +106,36 @@ fn with_labels(
 fn with_all(
     alloc: Global,
     prepared: &Prepared<'_, '_>,
-    numbering: &Numbering,
+    node_phandles: &NodePhandles,
     symbols: bool,
-) -> Result<Assembly, AllocError>
+) -> Result<TreeBuilder, AllocError>
     requires ready { IsReady prepared.now }
-    requires numbering { IsNumbering prepared.now numbering.now }
-    requires free { names_taken symbols prepared.now.plugin (tree_of prepared.now.draft) ≡ false }
+    requires node_phandles { AreNodePhandles prepared.now node_phandles.now }
+    requires free { names_taken symbols prepared.now.plugin (tree_of prepared.now.live) ≡ false }
     requires shallow { list_any is_too_deep (lists symbols prepared.now).nodes ≡ false }
-    ensures { IfOk result (λ assembly. assembled assembly ≡ walked (lists symbols prepared.now)) }
+    ensures { IfOk result (λ builder. built_lists builder ≡ walked (lists symbols prepared.now)) }
 {
-    let assembly = with_labels(alloc, prepared, numbering, symbols)?;
+    let builder = with_labels(alloc, prepared, node_phandles, symbols)?;
     if !prepared.plugin {
-        return Ok(assembly);
+        return Ok(builder);
     }
-    let assembly = with_fixups(alloc, prepared, symbols, assembly)?;
-    with_mirror(alloc, prepared, symbols, assembly)
+    let builder = with_fixups(alloc, prepared, symbols, builder)?;
+    with_local_fixups(alloc, prepared, symbols, builder)
 }
 
 /// The root with all below it: the nodes of the source, with symbols the labels' node, and a plugin's fixups last.
 pub(crate) fn make(
     alloc: Global,
     prepared: &Prepared<'_, '_>,
-    numbering: &Numbering,
+    node_phandles: &NodePhandles,
     symbols: bool,
 ) -> Result<Node, AllocError>
     requires ready { IsReady prepared.now }
-    requires numbering { IsNumbering prepared.now numbering.now }
-    requires free { names_taken symbols prepared.now.plugin (tree_of prepared.now.draft) ≡ false }
+    requires node_phandles { AreNodePhandles prepared.now node_phandles.now }
+    requires free { names_taken symbols prepared.now.plugin (tree_of prepared.now.live) ≡ false }
     requires shallow { list_any is_too_deep (lists symbols prepared.now).nodes ≡ false }
     ensures name { IfOk result (λ root. root.name ≡ []) }
     ensures map { IfOk result (λ root. path_map root ≡ map_of (lists symbols prepared.now)) }
 {
-    with_all(alloc, prepared, numbering, symbols)?.finish()
+    with_all(alloc, prepared, node_phandles, symbols)?.finish()
 }

@@ -4,37 +4,36 @@ ghost use Rattle.dt_tree.specs.Name.{is_name};
 ghost use Rattle.dt_meaning.specs.Edits.{labelled_at};
 ghost use Rattle.dt_meaning.specs.Names.{symbols_name};
 ghost use Rattle.dt_meaning.specs.Resolved.{names_taken, symbol};
-ghost use Rattle.dt_draft.specs.Rows.{IsDraft, IsNode, node_path};
+ghost use Rattle.dt_live.specs.Rows.{IsLiveTree, IsNode, node_path};
 ghost use Rattle.dt_edit.specs.Said.{tree_of};
-ghost use Rattle.dt_assembly.specs.Lists.{defined_at};
-ghost use Rattle.dt_assembly.specs.OpenNodes.{assembled};
-ghost use Rattle.dt_assembly.specs.Standing.{walked};
-ghost use Rattle.dt_assembly.specs.Sizes.{size_in};
+ghost use Rattle.dt_tree_builder.specs.Lists.{defined_at};
+ghost use Rattle.dt_tree_builder.specs.Builders.{built_lists};
+ghost use Rattle.dt_tree_builder.specs.Standing.{walked};
+ghost use Rattle.dt_tree_builder.specs.Sizes.{size_in};
 ghost use Rattle.dt_build.specs.Private.Made.{plain_lists, symbol_lists};
 ghost use Rattle.dt_build.specs.Private.Ready.{IsReady};
 
-use crate::value::{append_way, way_size};
-use dt_assembly::{Assembly, lawful_name};
-use dt_draft::{Draft, LabelRow};
+use dt_live::{LabelRow, LiveTree, append_path, path_size};
 use dt_resolve::Prepared;
 use dt_source::Part;
-use dt_tree::{Bytes, Property};
+use dt_tree::{Bytes, Property, lawful_name};
+use dt_tree_builder::TreeBuilder;
 use std::alloc::{AllocError, Global};
 
 // A label's property: the path of its node.
 fn symbol_of<'t>(
     alloc: Global,
-    draft: &Draft<'t, &'_ [Part<'t>]>,
+    live: &LiveTree<'t, &'_ [Part<'t>]>,
     row: &LabelRow<'t>,
 ) -> Result<Property, AllocError>
-    requires sound { IsDraft draft.now }
-    requires known { IsNode draft.now row.now.node }
+    requires sound { IsLiveTree live.now }
+    requires known { IsNode live.now row.now.node }
     requires named { is_name row.now.label.now ≡ true }
-    ensures { IfOk result (λ made. defined_at (symbols_name ∷ []) (made ∷ []) ≡ symbol (labelled_at row.now.label.now (node_path draft.now row.now.node)) ∷ []) }
+    ensures { IfOk result (λ made. defined_at (symbols_name ∷ []) (made ∷ []) ≡ symbol (labelled_at row.now.label.now (node_path live.now row.now.node)) ∷ []) }
 {
-    let nodes = draft.nodes();
-    let mut value = Vec::with_capacity(alloc, way_size(nodes, row.node))?;
-    append_way(&mut value, nodes, row.node)?;
+    let nodes = live.nodes();
+    let mut value = Vec::with_capacity(alloc, path_size(nodes, row.node))?;
+    append_path(&mut value, nodes, row.node)?;
     Ok(Property {
         name: lawful_name(alloc, row.label)?,
         value: Bytes::from_vec(value),
@@ -44,13 +43,13 @@ fn symbol_of<'t>(
 // The labels of nodes that stand, in order of definition.
 fn symbols_of(alloc: Global, prepared: &Prepared<'_, '_>) -> Result<Vec<Property>, AllocError>
     requires { IsReady prepared.now }
-    ensures { IfOk result (λ made. defined_at (symbols_name ∷ []) made.items ≡ map symbol (tree_of prepared.now.draft).labels) }
+    ensures { IfOk result (λ made. defined_at (symbols_name ∷ []) made.items ≡ map symbol (tree_of prepared.now.live).labels) }
 {
-    let draft = &prepared.draft;
+    let live = &prepared.live;
     let mut symbols = Vec::new(alloc);
-    for row in draft.labels() {
-        if draft.is_in_tree(row.node) {
-            symbols.push(symbol_of(alloc, draft, row)?)?;
+    for row in live.labels() {
+        if live.is_in_tree(row.node) {
+            symbols.push(symbol_of(alloc, live, row)?)?;
         }
     }
     Ok(symbols)
@@ -59,13 +58,13 @@ fn symbols_of(alloc: Global, prepared: &Prepared<'_, '_>) -> Result<Vec<Property
 /// How many bytes the labels' properties have together, or the greatest number where there are more. Takes no memory.
 pub(crate) fn symbols_size(prepared: &Prepared<'_, '_>) -> usize
     requires { IsReady prepared.now }
-    ensures { result ≡ min (size_in (map symbol (tree_of prepared.now.draft).labels)) (2 ^ 64 - 1) }
+    ensures { result ≡ min (size_in (map symbol (tree_of prepared.now.live).labels)) (2 ^ 64 - 1) }
 {
-    let draft = &prepared.draft;
+    let live = &prepared.live;
     let mut size: usize = 0;
-    for label in draft.labels() {
-        if draft.is_in_tree(label.node) {
-            size = size.saturating_add(way_size(draft.nodes(), label.node));
+    for label in live.labels() {
+        if live.is_in_tree(label.node) {
+            size = size.saturating_add(path_size(live.nodes(), label.node));
         }
     }
     size
@@ -75,17 +74,17 @@ pub(crate) fn symbols_size(prepared: &Prepared<'_, '_>) -> usize
 pub(crate) fn with_symbols(
     alloc: Global,
     prepared: &Prepared<'_, '_>,
-    assembly: Assembly,
-) -> Result<Assembly, AllocError>
+    builder: TreeBuilder,
+) -> Result<TreeBuilder, AllocError>
     requires ready { IsReady prepared.now }
-    requires free { names_taken true prepared.now.plugin (tree_of prepared.now.draft) ≡ false }
-    requires made { assembled assembly ≡ walked (plain_lists prepared.now) }
-    ensures { IfOk result (λ whole. assembled whole ≡ walked (symbol_lists true prepared.now)) }
+    requires free { names_taken true prepared.now.plugin (tree_of prepared.now.live) ≡ false }
+    requires made { built_lists builder ≡ walked (plain_lists prepared.now) }
+    ensures { IfOk result (λ whole. built_lists whole ≡ walked (symbol_lists true prepared.now)) }
 {
     let symbols = symbols_of(alloc, prepared)?;
     if symbols.is_empty() {
-        return Ok(assembly);
+        return Ok(builder);
     }
     let name = lawful_name(alloc, b"__symbols__".as_slice())?;
-    assembly.push(alloc, 1, name, symbols)
+    builder.push(alloc, 1, name, symbols)
 }

@@ -16,8 +16,8 @@ use Rattle.dt_meaning.specs.Syntax.{Piece}
 use Rattle.dt_meaning.specs.Edits.{Definition, definition, State, with_node, is_of, put}
 use Rattle.dt_meaning.specs.Statements.{DuplicateInBody, ReservedName, TooDeep, then_do, is_made, progress, begun, child_fault, unless, after_body, edited}
 use Rattle.dt_edit.specs.Said.{piece_of, body_of, reading}
-use Rattle.dt_layout.proofs.Each.{Each, each-append, each-more}
-use Rattle.dt_assembly.proofs.PathFacts.{or-right, bytes-itself}
+use Rattle.dt_live.proofs.Each.{Each, each-append, each-more}
+use Rattle.dt_tree_builder.proofs.PathFacts.{or-right, bytes-itself}
 use Rattle.dt_canonical.specs.SourceOf.{value_of, with_properties, nodes_of, source_of}
 
 -- ---- what is made

@@ -13,11 +13,11 @@ use Rattle.dt_meaning.specs.Edits.{Definition, definition}
 use Rattle.dt_meaning.specs.MapOf.{map_of, value_in}
 use Rattle.dt_meaning.specs.References.{held, preorder}
 use Rattle.dt_meaning.specs.Resolved.{Resolved}
-use Rattle.dt_assembly.specs.Lists.{defined_at, below_child, defined_among, lists_of}
-use Rattle.dt_assembly.specs.Standing.{walked}
-use Rattle.dt_assembly.proofs.Orders.{map-walked}
-use Rattle.dt_assembly.proofs.TreeLists.{map-lists}
-use Rattle.dt_assembly.proofs.TreeNodes.{below-root, map-map, paths-more, paths_below, tree-nodes}
+use Rattle.dt_tree_builder.specs.Lists.{defined_at, below_child, defined_among, lists_of}
+use Rattle.dt_tree_builder.specs.Standing.{walked}
+use Rattle.dt_tree_builder.proofs.Orders.{map-walked}
+use Rattle.dt_tree_builder.proofs.TreeLists.{map-lists}
+use Rattle.dt_tree_builder.proofs.TreeNodes.{below-root, map-map, paths-more, paths_below, tree-nodes}
 use Rattle.dt_canonical.proofs.MeaningEdits.{parts_of, said_at, nodes_below, said_below}
 
 -- ---- the nodes

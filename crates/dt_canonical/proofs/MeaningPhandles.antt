@@ -1,4 +1,4 @@
--- The phandles that a canonical source gives are the tree's, so that no reference is left and no number is missing.
+-- The phandles that a canonical source gives are the tree's, so that no reference is left and no phandle is missing.
 use Rattle.std.proofs.Common.{◌≡◌, ℕ, ◌==◌, Bool, true, false, not, ◌&&◌, ◌||◌, List, [], ◌∷◌, ◌++◌, map, Option, Some, None, is_some, option_and_then, Ok, Err, if◌then◌else◌, refl, sym, ap, ap₂, ◌∙◌, true≢false, arith, codes}
 use Rattle.std.specs.List.{flat_map}
 use Rattle.std.specs.Str.{bytes_eq}
@@ -15,18 +15,18 @@ use Rattle.dt_tree.proofs.Places.{distinct_head, distinct_tail, inside, is_path_
 use Rattle.dt_meaning.specs.Paths.{Path, same_path, is_listed}
 use Rattle.dt_meaning.specs.Edits.{is_of}
 use Rattle.dt_meaning.specs.MapOf.{value_in}
-use Rattle.dt_meaning.specs.Phandles.{Number, numbered_at, has_number, is_phandle, number_in, given_one, given_of}
+use Rattle.dt_meaning.specs.Phandles.{PathPhandle, path_phandle, has_phandle, is_phandle, phandle_value, given_one, given_of}
 use Rattle.dt_meaning.specs.References.{held, preorder}
 use Rattle.dt_meaning.specs.Resolved.{Resolved}
 use Rattle.dt_meaning.specs.Statements.{DuplicatePhandle, then_do}
-use Rattle.dt_layout.proofs.Each.{Each, each-more}
-use Rattle.dt_assembly.specs.Lists.{lists_of}
-use Rattle.dt_assembly.specs.Standing.{are_apart}
-use Rattle.dt_assembly.proofs.InTurn.{each-once}
-use Rattle.dt_assembly.proofs.Orders.{behind, there-same}
-use Rattle.dt_assembly.proofs.PathFacts.{not-both, not-true, or-false, same-is, same-itself, bytes-itself, listed-first, listed-next}
-use Rattle.dt_assembly.proofs.TreeLists.{map-lists}
-use Rattle.dt_assembly.proofs.TreeNodes.{tree-nodes}
+use Rattle.dt_live.proofs.Each.{Each, each-more}
+use Rattle.dt_tree_builder.specs.Lists.{lists_of}
+use Rattle.dt_tree_builder.specs.Standing.{are_apart}
+use Rattle.dt_tree_builder.proofs.InTurn.{each-once}
+use Rattle.dt_tree_builder.proofs.Orders.{behind, there-same}
+use Rattle.dt_tree_builder.proofs.PathFacts.{not-both, not-true, or-false, same-is, same-itself, bytes-itself, listed-first, listed-next}
+use Rattle.dt_tree_builder.proofs.TreeLists.{map-lists}
+use Rattle.dt_tree_builder.proofs.TreeNodes.{tree-nodes}
 use Rattle.dt_build.proofs.ApartKeys.{held-here, held-listed}
 use Rattle.dt_build.proofs.ApartLists.{InPairs, pairs-behind}
 use Rattle.dt_canonical.specs.Conditions.{HasSourcePhandles}
@@ -113,42 +113,42 @@ module _ (b : NodeData) (sound : IsSound b) where
 -- ---- phandles
 pub record Gives (h : ℕ) (e : Placed) : Type 0 where
   pub named : is_phandle e ≡ true
-  pub number : phandle_in e.value ≡ Some h
+  pub phandle : phandle_in e.value ≡ Some h
 
-number-said : (v : List ℕ) → number_in (parts_of v) ≡ phandle_in v
-number-said [] = refl
-number-said (b ∷ bs) = refl
+phandle-said : (v : List ℕ) → phandle_value (parts_of v) ≡ phandle_in v
+phandle-said [] = refl
+phandle-said (b ∷ bs) = refl
 
-pub given-all : (xs : List Placed) (gs : List Number) → Each (λ e. is_phandle e ≡ true → (h : ℕ) × (phandle_in e.value ≡ Some h)) xs
-    → InPairs (λ e x. (h : ℕ) → Gives h e → Gives h x → ⊥) xs → Each (λ e. (h : ℕ) → Gives h e → has_number h gs ≡ false) xs
-    → (given : List Number) × (given_of (map said_of xs) gs ≡ Ok given)
+pub given-all : (xs : List Placed) (gs : List PathPhandle) → Each (λ e. is_phandle e ≡ true → (h : ℕ) × (phandle_in e.value ≡ Some h)) xs
+    → InPairs (λ e x. (h : ℕ) → Gives h e → Gives h x → ⊥) xs → Each (λ e. (h : ℕ) → Gives h e → has_phandle h gs ≡ false) xs
+    → (given : List PathPhandle) × (given_of (map said_of xs) gs ≡ Ok given)
 given-all [] gs lawful apart new = (gs, refl)
 given-all (x ∷ xs) gs lawful apart new = by_name (is_phandle x) refl (λ hs n. given-all xs hs lawful.1 apart.1 n) where
-  later : (h : ℕ) → Gives h x → (ys : List Placed) → Each (λ y. (k : ℕ) → Gives k x → Gives k y → ⊥) ys → Each (λ e. (k : ℕ) → Gives k e → has_number k gs ≡ false) ys
-      → Each (λ e. (k : ℕ) → Gives k e → has_number k (gs ++ numbered_at x.path h ∷ []) ≡ false) ys
+  later : (h : ℕ) → Gives h x → (ys : List Placed) → Each (λ y. (k : ℕ) → Gives k x → Gives k y → ⊥) ys → Each (λ e. (k : ℕ) → Gives k e → has_phandle k gs ≡ false) ys
+      → Each (λ e. (k : ℕ) → Gives k e → has_phandle k (gs ++ path_phandle x.path h ∷ []) ≡ false) ys
   later h g [] a n = tt
   later h g (y ∷ ys) a n = (
     λ k gives.
-        list_any-append (λ z. z.number == k) gs (numbered_at x.path h ∷ [])
+        list_any-append (λ z. z.phandle == k) gs (path_phandle x.path h ∷ [])
         ∙ ap₂ (λ s t. s || (t || false)) (n.0 k gives) (by_number k gives (h == k) refl),
     later h g ys a.1 n.1,
   ) where
     by_number : (k : ℕ) → Gives k y → (t : Bool) → (h == k) ≡ t → t ≡ false
     by_number k gives true e =
         let same : h ≡ k = grind (arith, nat_tests) in
-        absurd (a.0 k (record { named = g.named; number = g.number ∙ ap (λ z. Some z) same }) gives)
+        absurd (a.0 k (record { named = g.named; phandle = g.phandle ∙ ap (λ z. Some z) same }) gives)
     by_number k gives false e = refl
 
   by_name : (t : Bool) → is_phandle x ≡ t
-      → ((hs : List Number) → Each (λ e. (h : ℕ) → Gives h e → has_number h hs ≡ false) xs → (given : List Number) × (given_of (map said_of xs) hs ≡ Ok given))
-      → (given : List Number) × ((if t then then_do (given_one x.path (number_in (parts_of x.value)) gs) (given_of (map said_of xs)) else given_of (map said_of xs) gs) ≡ Ok given)
+      → ((hs : List PathPhandle) → Each (λ e. (h : ℕ) → Gives h e → has_phandle h hs ≡ false) xs → (given : List PathPhandle) × (given_of (map said_of xs) hs ≡ Ok given))
+      → (given : List PathPhandle) × ((if t then then_do (given_one x.path (phandle_value (parts_of x.value)) gs) (given_of (map said_of xs)) else given_of (map said_of xs) gs) ≡ Ok given)
   by_name true named others =
       let h = lawful.0 named in
-      let g : Gives h.0 x = record { named = named; number = h.1 } in
-      let rest = others (gs ++ numbered_at x.path h.0 ∷ []) (later h.0 g xs apart.0 new.1) in (
+      let g : Gives h.0 x = record { named = named; phandle = h.1 } in
+      let rest = others (gs ++ path_phandle x.path h.0 ∷ []) (later h.0 g xs apart.0 new.1) in (
         rest.0,
-        ap (λ o. then_do (given_one x.path o gs) (given_of (map said_of xs))) (number-said x.value ∙ h.1)
-            ∙ ap (λ t. then_do (if t then Err DuplicatePhandle else Ok (gs ++ numbered_at x.path h.0 ∷ [])) (given_of (map said_of xs))) (new.0 h.0 g)
+        ap (λ o. then_do (given_one x.path o gs) (given_of (map said_of xs))) (phandle-said x.value ∙ h.1)
+            ∙ ap (λ t. then_do (if t then Err DuplicatePhandle else Ok (gs ++ path_phandle x.path h.0 ∷ [])) (given_of (map said_of xs))) (new.0 h.0 g)
             ∙ rest.1,
       )
   by_name false named others = others gs new.1
@@ -181,7 +181,7 @@ module _ (b : NodeData) (sound : IsSound b) (has : HasSourcePhandles (path_map b
 
   two-numbers : (e x : Placed) → m.value e.path e.name ≡ Some e.value → m.value x.path x.name ≡ Some x.value → HasOtherKey e x → (h : ℕ) → Gives h e → Gives h x → ⊥
   two-numbers e x f g other h a c =
-      let same : e.path ≡ x.path = has.apart e.path x.path h (phandle-there e a.named f ∙ a.number) (phandle-there x c.named g ∙ c.number) in
+      let same : e.path ≡ x.path = has.apart e.path x.path h (phandle-there e a.named f ∙ a.phandle) (phandle-there x c.named g ∙ c.phandle) in
       let names : x.name ≡ e.name = (phandle-name x c.named).0 ∙ sym (phandle-name e a.named).0 in
       not-both (is_of x.path x.name e)
       (ap₂ (λ p n. is_of p n e) (sym same) names ∙ and_from (same_path e.path e.path) (bytes_eq e.name e.name) (same-itself e.path) (bytes-itself e.name)) other
@@ -193,8 +193,8 @@ module _ (b : NodeData) (sound : IsSound b) (has : HasSourcePhandles (path_map b
     against [] f o = tt
     against (y ∷ ys) f o = (two-numbers x y found.0 f.0 o.0, against ys f.1 o.1)
 
-  pub phandles-given : (given : List Number) × (given_of (map said_of (all b sound)) [] ≡ Ok given)
+  pub phandles-given : (given : List PathPhandle) × (given_of (map said_of (all b sound)) [] ≡ Ok given)
   phandles-given =
       let found = all-found b sound in
       given-all (all b sound) [] (lawful-all (all b sound) found) (numbers-apart (all b sound) found (all-apart b sound))
-      (each-more (λ e. m.value e.path e.name ≡ Some e.value) (λ e. (h : ℕ) → Gives h e → has_number h [] ≡ false) (all b sound) (λ e f h g. refl) found)
+      (each-more (λ e. m.value e.path e.name ≡ Some e.value) (λ e. (h : ℕ) → Gives h e → has_phandle h [] ≡ false) (all b sound) (λ e f h g. refl) found)

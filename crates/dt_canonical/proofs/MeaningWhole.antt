@@ -9,14 +9,14 @@ use Rattle.dt_meaning.specs.Syntax.{Piece}
 use Rattle.dt_meaning.specs.Edits.{Definition, definition, State}
 use Rattle.dt_meaning.specs.Fixups.{value_bytes}
 use Rattle.dt_meaning.specs.MapOf.{tree_map_of}
-use Rattle.dt_meaning.specs.Phandles.{Number, named_in_cells, new_ones, numbered, given_of}
+use Rattle.dt_meaning.specs.Phandles.{PathPhandle, named_in_cells, new_ones, assigned, given_of}
 use Rattle.dt_meaning.specs.References.{Found, Bytes, each, found_in, found_value, held, in_order, preorder}
 use Rattle.dt_meaning.specs.Resolved.{Resolved, is_too_deep, put_together, resolved, resolved_state, shallow, with_bytes}
 use Rattle.dt_meaning.specs.Statements.{Fault, TooDeep, then_do}
 use Rattle.dt_edit.specs.Said.{reading}
-use Rattle.dt_assembly.specs.Lists.{lists_of}
-use Rattle.dt_assembly.proofs.TreeNodes.{tree-nodes}
-use Rattle.dt_assembly.proofs.Walks.{filter-all}
+use Rattle.dt_tree_builder.specs.Lists.{lists_of}
+use Rattle.dt_tree_builder.proofs.TreeNodes.{tree-nodes}
+use Rattle.dt_tree_builder.proofs.Walks.{filter-all}
 use Rattle.dt_canonical.specs.Conditions.{IsSourceTree}
 use Rattle.dt_canonical.specs.SourceOf.{source_of}
 use Rattle.dt_canonical.proofs.MeaningEdits.{parts_of, made, source-made}
@@ -60,16 +60,16 @@ no-cells (e ∷ es) = by_value e.value (no-cells es) where
   by_value [] ih = ih
   by_value (b ∷ bs) ih = ih
 
-same-bytes : (xs : List Number) (v : List ℕ) → value_bytes xs (founds_of v) ≡ v
+same-bytes : (xs : List PathPhandle) (v : List ℕ) → value_bytes xs (founds_of v) ≡ v
 same-bytes xs [] = refl
 same-bytes xs (b ∷ bs) = append-nil (b ∷ bs)
 
-all-bytes : (xs : List Number) (es : List Placed) → map (with_bytes xs) (map found_of es) ≡ es
+all-bytes : (xs : List PathPhandle) (es : List Placed) → map (with_bytes xs) (map found_of es) ≡ es
 all-bytes xs [] = refl
 all-bytes xs (e ∷ es) = ap₂ (λ v ds. definition e.path e.name v ∷ ds) (same-bytes xs e.value) (all-bytes xs es)
 
 -- ---- nothing is added
-module _ (ns : List Path) (ps : List (Definition (List Piece))) (es : List Placed) (given : List Number) where
+module _ (ns : List Path) (ps : List (Definition (List Piece))) (es : List Placed) (given : List PathPhandle) where
   abbrev s : State (List Piece)
   s = made ns ps
 
@@ -88,12 +88,12 @@ module _ (ns : List Path) (ps : List (Definition (List Piece))) (es : List Place
 
   resolved-plain : list_any is_too_deep ns ≡ false → in_order s ≡ map said_of es → given_of (map said_of es) [] ≡ Ok given → resolved_state false false s ≡ Ok plain
   resolved-plain flat order gives =
-      let last : List Number → List (Definition (List Found)) → Result Resolved Fault =
-      λ gs ds. shallow (put_together false false s ds gs (numbered gs 0 (new_ones (map (λ x. x.path) gs) (named_in_cells ds ++ [])))) in
+      let last : List PathPhandle → List (Definition (List Found)) → Result Resolved Fault =
+      λ gs ds. shallow (put_together false false s ds gs (assigned gs 0 (new_ones (map (λ x. x.path) gs) (named_in_cells ds ++ [])))) in
       ap₂ (λ a b. then_do a (λ gs. then_do b (last gs)))
       (ap (λ xs. given_of xs []) order ∙ gives)
       (ap (each (found_value false s)) order ∙ all-found s es)
-      ∙ ap (λ ws. shallow (put_together false false s (map found_of es) given (numbered given 0 (new_ones (map (λ x. x.path) given) (ws ++ []))))) (no-cells es)
+      ∙ ap (λ ws. shallow (put_together false false s (map found_of es) given (assigned given 0 (new_ones (map (λ x. x.path) given) (ws ++ []))))) (no-cells es)
       ∙ ap shallow together
       ∙ ap (λ t. if t then Err TooDeep else Ok plain) flat
 

@@ -1,4 +1,4 @@
--- A child is let into a draft.
+-- A child is let into a live tree.
 use Rattle.std.proofs.Common.{◌≡◌, ℕ, zero, suc, ◌-◌, ◌<◌, Bool, true, false, ◌&&◌, ◌||◌, ◌==◌, List, [], ◌∷◌, ◌++◌, length, Option, Some, None, Result, Ok, Err, if◌then◌else◌, nat_lt, refl, sym, ap, ap₂, ◌∙◌, subst, true≢false, arith}
 use Rattle.std.specs.Str.{bytes_eq}
 use Rattle.std.proofs.lemmas.Bool.{eqb-true, ltb-true}
@@ -9,15 +9,15 @@ use Rattle.dt_meaning.specs.Names.{is_fragment}
 use Rattle.dt_meaning.specs.Syntax.{Piece, Child, Body}
 use Rattle.dt_meaning.specs.Edits.{with_node}
 use Rattle.dt_meaning.specs.Statements.{Fault, DuplicateLabel, DuplicateInBody, ReservedName, TooDeep, progress, begun, then_do, unless, child_fault, is_made, give_labels, after_entry, after_body}
-use Rattle.dt_draft.specs.declared.table.Draft.{Draft}
-use Rattle.dt_draft.specs.Index.{is_key}
-use Rattle.dt_draft.specs.Rows.{IsDraft, IsNode, IsKept, HasSamePropertyBodies, node_path, child_body, property_body, state_of}
-use Rattle.dt_draft.proofs.Keeping.{kept-then, kept-in-child}
+use Rattle.dt_live.specs.declared.live_tree.LiveTree.{LiveTree}
+use Rattle.dt_live.specs.Index.{is_key}
+use Rattle.dt_live.specs.Rows.{IsLiveTree, IsNode, IsKept, HasSamePropertyStamps, node_path, child_stamp, property_stamp, state_of}
+use Rattle.dt_live.proofs.Keeping.{kept-then, kept-in-child}
 use Rattle.dt_edit.specs.Private.Admitted.{admitted}
 use Rattle.dt_edit.specs.Private.Progress.{IsAt, HasMarks}
 use Rattle.dt_edit.specs.Said.{Parts}
 use Rattle.dt_edit.proofs.ItemSteps.{not-root}
-use Rattle.dt_edit.proofs.Reading.{shown, give_labels-kept, showing-keeps, with_node-keeps}
+use Rattle.dt_edit.proofs.Reading.{read_state, give_labels-kept, showing-keeps, with_node-keeps}
 use Rattle.dt_edit.proofs.Steps.{Tree, At, mark-one, unmarked, outside-child, not-in-own-child}
 
 -- ---- labels of a child that is there already
@@ -30,7 +30,7 @@ err-before f (Ok s) z e = absurd (cc)
 err-before f (Err a) z e = cc
 
 -- ---- the root has the empty path
-at-root : (d : Draft Parts) → IsDraft d → (node : ℕ) (b : Bool) → (node == 0) ≡ b → same_path (node_path d node) [] ≡ b
+at-root : (d : LiveTree Parts) → IsLiveTree d → (node : ℕ) (b : Bool) → (node == 0) ≡ b → same_path (node_path d node) [] ≡ b
 at-root d sound node true e = ap (λ n. same_path (node_path d n) []) (eqb-true node 0 e)
 at-root d sound node false e =
     let some : node ≡ suc (node - 1) = one-more node e in
@@ -39,17 +39,17 @@ at-root d sound node false e =
       one-more zero e = absurd (true≢false e)
       one-more (suc n) e = omega arith
 
-pub taken-at : (d : Draft Parts) → IsDraft d → (node made : ℕ) (name : List ℕ) → (same_path (node_path d node) [] && is_fragment made name) ≡ ((node == 0) && is_fragment made name)
+pub taken-at : (d : LiveTree Parts) → IsLiveTree d → (node made : ℕ) (name : List ℕ) → (same_path (node_path d node) [] && is_fragment made name) ≡ ((node == 0) && is_fragment made name)
 taken-at d sound node made name = ap (λ b. b && is_fragment made name) (at-root d sound node (node == 0) refl)
 
 -- ---- a child is defined
-module _ (x : At) (old one two : Draft Parts) (node number made : ℕ) (ls : List (List ℕ)) (name : List ℕ) (at : IsAt x old node number made)
+module _ (x : At) (old one two : LiveTree Parts) (node stamp made : ℕ) (ls : List (List ℕ)) (name : List ℕ) (at : IsAt x old node stamp made)
     (added : state_of one ≡ with_node (node_path old node ++ name ∷ []) (state_of old)) where
   abbrev admits : Tree → Result Tree Fault
   admits s = unless (child_fault (node_path old node) name x.children s) (Ok (with_node (node_path old node ++ name ∷ []) s))
 
-  labels-said : give_labels ls (node_path old node ++ name ∷ []) x.state ≡ then_do (give_labels ls (node_path old node ++ name ∷ []) (state_of old)) (λ t. Ok (shown made t))
-  labels-said = ap (λ s. give_labels ls (node_path old node ++ name ∷ []) s) at.state ∙ give_labels-kept (shown made) (showing-keeps made) ls (node_path old node ++ name ∷ []) (state_of old)
+  labels-said : give_labels ls (node_path old node ++ name ∷ []) x.state ≡ then_do (give_labels ls (node_path old node ++ name ∷ []) (state_of old)) (λ t. Ok (read_state made t))
+  labels-said = ap (λ s. give_labels ls (node_path old node ++ name ∷ []) s) at.state ∙ give_labels-kept (read_state made) (showing-keeps made) ls (node_path old node ++ name ∷ []) (state_of old)
 
   labels-done : give_labels ls (node_path old node ++ name ∷ []) (state_of one) ≡ then_do (give_labels ls (node_path old node ++ name ∷ []) (state_of old)) (λ t. Ok (with_node (node_path old node ++ name ∷ []) t))
   labels-done = ap (λ s. give_labels ls (node_path old node ++ name ∷ []) s) added ∙ give_labels-kept (with_node (node_path old node ++ name ∷ [])) (with_node-keeps (node_path old node ++ name ∷ [])) ls (node_path old node ++ name ∷ []) (state_of old)
@@ -57,14 +57,14 @@ module _ (x : At) (old one two : Draft Parts) (node number made : ℕ) (ls : Lis
   pub label-taken : give_labels ls (node_path old node ++ name ∷ []) (state_of one) ≡ Err DuplicateLabel → admitted ls name (node_path old node) x ≡ Err DuplicateLabel
   label-taken refused =
       let none = err-before (with_node (node_path old node ++ name ∷ [])) (give_labels ls (node_path old node ++ name ∷ []) (state_of old)) DuplicateLabel (sym labels-done ∙ refused) in
-      ap (λ r. then_do r admits) (labels-said ∙ ap (λ r. then_do r (λ t. Ok (shown made t))) none)
+      ap (λ r. then_do r admits) (labels-said ∙ ap (λ r. then_do r (λ t. Ok (read_state made t))) none)
 
   module _ (given : give_labels ls (node_path old node ++ name ∷ []) (state_of one) ≡ Ok (state_of two)) where
     -- where the labels are given, the rest follows
-    labels-given : (s : Tree) × (admitted ls name (node_path old node) x ≡ admits s) × (with_node (node_path old node ++ name ∷ []) s ≡ shown made (state_of two)) × (s.fragments ≡ made)
+    labels-given : (s : Tree) × (admitted ls name (node_path old node) x ≡ admits s) × (with_node (node_path old node ++ name ∷ []) s ≡ read_state made (state_of two)) × (s.fragments ≡ made)
     labels-given =
         let o = ok-before (with_node (node_path old node ++ name ∷ [])) (give_labels ls (node_path old node ++ name ∷ []) (state_of old)) (state_of two) (sym labels-done ∙ given) in
-        (shown made o.0, ap (λ r. then_do r admits) (labels-said ∙ ap (λ r. then_do r (λ t. Ok (shown made t))) o.1), ap (shown made) o.2, refl)
+        (read_state made o.0, ap (λ r. then_do r admits) (labels-said ∙ ap (λ r. then_do r (λ t. Ok (read_state made t))) o.1), ap (read_state made) o.2, refl)
 
     fault-is : (s : Tree) (a b c : Bool) → is_among name x.children ≡ a → s.fragments ≡ made → (same_path (node_path old node) [] && is_fragment made name) ≡ b → nat_lt 63 (length (node_path old node)) ≡ c
         → child_fault (node_path old node) name x.children s ≡ (if a then Some DuplicateInBody else (if b then Some ReservedName else (if c then Some TooDeep else None)))
@@ -73,28 +73,28 @@ module _ (x : At) (old one two : Draft Parts) (node number made : ℕ) (ls : Lis
         ∙ ap₂ (λ t u. if a then Some DuplicateInBody else (if t then Some ReservedName else (if u then Some TooDeep else None)))
         (ap (λ n. same_path (node_path old node) [] && is_fragment n name) many ∙ taken) deep
 
-    judged : (a b c : Bool) → (child_body old node name == number) ≡ a → (same_path (node_path old node) [] && is_fragment made name) ≡ b → nat_lt 63 (length (node_path old node)) ≡ c
-        → admitted ls name (node_path old node) x ≡ unless (if a then Some DuplicateInBody else (if b then Some ReservedName else (if c then Some TooDeep else None))) (Ok (shown made (state_of two)))
+    judged : (a b c : Bool) → (child_stamp old node name == stamp) ≡ a → (same_path (node_path old node) [] && is_fragment made name) ≡ b → nat_lt 63 (length (node_path old node)) ≡ c
+        → admitted ls name (node_path old node) x ≡ unless (if a then Some DuplicateInBody else (if b then Some ReservedName else (if c then Some TooDeep else None))) (Ok (read_state made (state_of two)))
     judged a b c met taken deep =
         let g = labels-given in
         g.1 ∙ ap₂ (λ f s. unless f (Ok s)) (fault-is g.0 a b c (at.children name ∙ met) g.3 taken deep) g.2
 
-    pub child-twice : (child_body old node name == number) ≡ true → admitted ls name (node_path old node) x ≡ Err DuplicateInBody
+    pub child-twice : (child_stamp old node name == stamp) ≡ true → admitted ls name (node_path old node) x ≡ Err DuplicateInBody
     child-twice met = judged true (same_path (node_path old node) [] && is_fragment made name) (nat_lt 63 (length (node_path old node))) met refl refl
 
-    pub child-taken : (child_body old node name == number) ≡ false → (same_path (node_path old node) [] && is_fragment made name) ≡ true → admitted ls name (node_path old node) x ≡ Err ReservedName
+    pub child-taken : (child_stamp old node name == stamp) ≡ false → (same_path (node_path old node) [] && is_fragment made name) ≡ true → admitted ls name (node_path old node) x ≡ Err ReservedName
     child-taken met taken = judged false true (nat_lt 63 (length (node_path old node))) met taken refl
 
-    pub child-deep : (child_body old node name == number) ≡ false → (same_path (node_path old node) [] && is_fragment made name) ≡ false → nat_lt 63 (length (node_path old node)) ≡ true
+    pub child-deep : (child_stamp old node name == stamp) ≡ false → (same_path (node_path old node) [] && is_fragment made name) ≡ false → nat_lt 63 (length (node_path old node)) ≡ true
         → admitted ls name (node_path old node) x ≡ Err TooDeep
     child-deep met free deep = judged false false true met free deep
 
-    pub child-in : (child_body old node name == number) ≡ false → (same_path (node_path old node) [] && is_fragment made name) ≡ false → nat_lt 63 (length (node_path old node)) ≡ false
-        → admitted ls name (node_path old node) x ≡ Ok (shown made (state_of two))
+    pub child-in : (child_stamp old node name == stamp) ≡ false → (same_path (node_path old node) [] && is_fragment made name) ≡ false → nat_lt 63 (length (node_path old node)) ≡ false
+        → admitted ls name (node_path old node) x ≡ Ok (read_state made (state_of two))
     child-in met free shallow = judged false false false met free shallow
 
 -- ---- the child's body
-module _ (x : At) (old two : Draft Parts) (node number made : ℕ) (ls : List (List ℕ)) (name : List ℕ) (body : Body (List Piece)) (at : IsAt x old node number made) where
+module _ (x : At) (old two : LiveTree Parts) (node stamp made : ℕ) (ls : List (List ℕ)) (name : List ℕ) (body : Body (List Piece)) (at : IsAt x old node stamp made) where
   abbrev ended : Tree → Result At Fault
   ended t = Ok (progress x.properties (name ∷ x.children) t)
 
@@ -114,27 +114,27 @@ module _ (x : At) (old two : Draft Parts) (node number made : ℕ) (ls : List (L
   entering : after_entry (Child ls name body) (node_path old node) x ≡ then_do (admitted ls name (node_path old node) x) entered
   entering = by-labels (give_labels ls (node_path old node ++ name ∷ []) x.state)
 
-  module _ (let_in : admitted ls name (node_path old node) x ≡ Ok (shown made (state_of two))) where
-    within : after_entry (Child ls name body) (node_path old node) x ≡ then_do (after_body body (node_path old node ++ name ∷ []) (begun (shown made (state_of two)))) ended
+  module _ (let_in : admitted ls name (node_path old node) x ≡ Ok (read_state made (state_of two))) where
+    within : after_entry (Child ls name body) (node_path old node) x ≡ then_do (after_body body (node_path old node ++ name ∷ []) (begun (read_state made (state_of two)))) ended
     within = entering ∙ ap (λ r. then_do r entered) let_in
 
-    pub child-done : (three : Draft Parts) → after_body body (node_path old node ++ name ∷ []) (begun (shown made (state_of two))) ≡ Ok (shown made (state_of three))
-        → ((k : List ℕ) → property_body three node k ≡ property_body old node k) → ((k : List ℕ) → child_body three node k ≡ (if is_key node name node k then number else child_body old node k))
-        → (y : At) × (after_entry (Child ls name body) (node_path old node) x ≡ Ok y) × IsAt y three node number made
+    pub child-done : (three : LiveTree Parts) → after_body body (node_path old node ++ name ∷ []) (begun (read_state made (state_of two))) ≡ Ok (read_state made (state_of three))
+        → ((k : List ℕ) → property_stamp three node k ≡ property_stamp old node k) → ((k : List ℕ) → child_stamp three node k ≡ (if is_key node name node k then stamp else child_stamp old node k))
+        → (y : At) × (after_entry (Child ls name body) (node_path old node) x ≡ Ok y) × IsAt y three node stamp made
     child-done three done same marked = (
-      progress x.properties (name ∷ x.children) (shown made (state_of three)),
+      progress x.properties (name ∷ x.children) (read_state made (state_of three)),
       within ∙ ap (λ r. then_do r ended) done,
       record {
         state = refl;
-        properties = λ k. at.properties k ∙ ap (λ m. m == number) (sym (same k));
+        properties = λ k. at.properties k ∙ ap (λ m. m == stamp) (sym (same k));
         children = λ k.
-            ap (λ b. bytes_eq name k || b) (at.children k) ∙ mark-one node number (child_body old node k) (bytes_eq name k)
-            ∙ ap (λ m. m == number) (sym (marked k));
+            ap (λ b. bytes_eq name k || b) (at.children k) ∙ mark-one node stamp (child_stamp old node k) (bytes_eq name k)
+            ∙ ap (λ m. m == stamp) (sym (marked k));
       },
     )
 
 -- ---- what a child's body keeps
-module _ (old two three : Draft Parts) (node child number : ℕ) (name : List ℕ) (kept : (r : Path) → IsKept r old two) (path : node_path two child ≡ node_path old node ++ name ∷ []) where
+module _ (old two three : LiveTree Parts) (node child stamp : ℕ) (name : List ℕ) (kept : (r : Path) → IsKept r old two) (path : node_path two child ≡ node_path old node ++ name ∷ []) where
   pub child-keeps : IsKept (node_path two child) two three → IsKept (node_path old node) old three
   child-keeps below =
       kept-then (node_path old node) old.nodes.items two.nodes.items three.nodes.items (kept (node_path old node))
@@ -143,7 +143,7 @@ module _ (old two three : Draft Parts) (node child number : ℕ) (name : List �
   still-node : (n : ℕ) → IsNode old n → IsNode two n
   still-node n known = omega (arith, (kept (node_path old node)).more, known)
 
-  module _ (defined : (n : ℕ) (k : List ℕ) → child_body two n k ≡ (if is_key node name n k then number else child_body old n k)) (unset : HasSamePropertyBodies old two)
+  module _ (defined : (n : ℕ) (k : List ℕ) → child_stamp two n k ≡ (if is_key node name n k then stamp else child_stamp old n k)) (unset : HasSamePropertyStamps old two)
       (marks : HasMarks (node_path two child) two three) where
     outside-of : (n : ℕ) → IsNode old n → is_within (node_path old node ++ name ∷ []) (node_path old n) ≡ false → is_within (node_path two child) (node_path two n) ≡ false
     outside-of n known out = ap₂ (λ q r. is_within q r) path ((kept (node_path old node)).paths n known) ∙ out
@@ -152,15 +152,15 @@ module _ (old two three : Draft Parts) (node child number : ℕ) (name : List �
     child-marks = record {
       children = λ n k known out.
           marks.children n k (still-node n known) (outside-of n known (outside-child (node_path old node) (node_path old n) name out))
-          ∙ defined n k ∙ unmarked old node n name k number (child_body old n k) out;
+          ∙ defined n k ∙ unmarked old node n name k stamp (child_stamp old n k) out;
       properties = λ n k known out.
           marks.properties n k (still-node n known) (outside-of n known (outside-child (node_path old node) (node_path old n) name out)) ∙ unset n k;
     }
 
-    pub own-children : IsNode old node → (k : List ℕ) → child_body three node k ≡ (if is_key node name node k then number else child_body old node k)
+    pub own-children : IsNode old node → (k : List ℕ) → child_stamp three node k ≡ (if is_key node name node k then stamp else child_stamp old node k)
     own-children known k = marks.children node k (still-node node known) (outside-of node known (not-in-own-child (node_path old node) name)) ∙ defined node k
 
-    pub own-properties : IsNode old node → (k : List ℕ) → property_body three node k ≡ property_body old node k
+    pub own-properties : IsNode old node → (k : List ℕ) → property_stamp three node k ≡ property_stamp old node k
     own-properties known k = marks.properties node k (still-node node known) (outside-of node known (not-in-own-child (node_path old node) name)) ∙ unset node k
 
 pub shallow : (n : ℕ) (b : Bool) → nat_lt 63 n ≡ b → n < MAX_DEPTH → b ≡ false

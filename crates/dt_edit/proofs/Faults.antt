@@ -4,8 +4,8 @@ use Rattle.dt_meaning.specs.Statements.{Fault, then_do}
 use Rattle.dt_edit.specs.declared.error.EditError.{EditError}
 use Rattle.dt_edit.specs.declared.error.EditError.TheVariants.{NoMemory, UnknownLabel, DuplicateLabel, UnknownPath, DuplicateInBody, ReservedName, TooDeep}
 use Rattle.dt_meaning.specs.Statements as meaning
-use Rattle.dt_draft.specs.declared.labels.LabelError.{LabelError}
-use Rattle.dt_draft.specs.declared.labels.LabelError.TheVariants as labels
+use Rattle.dt_live.specs.declared.labels.LabelError.{LabelError}
+use Rattle.dt_live.specs.declared.labels.LabelError.TheVariants as labels
 use Rattle.dt_edit.specs.EditFault.{IsFault}
 use Rattle.dt_edit.specs.Private.LabelFault.{edit_error}
 

@@ -1,17 +1,17 @@
--- A fragment is made in a draft.
+-- A fragment is made in a live tree.
 use Rattle.std.proofs.Common.{◌≡◌, ℕ, ◌+◌, ◌-◌, Bool, true, false, List, [], ◌∷◌, ◌++◌, length, Option, Some, None, is_some, Err, if◌then◌else◌, refl, sym, ap, ap₂, ◌∙◌, true≢false}
 use Rattle.dt_meaning.specs.Paths.{Path, is_listed}
 use Rattle.dt_meaning.specs.Names.{fragment_name, overlay_name}
 use Rattle.dt_meaning.specs.Syntax.{Piece, Target, OfLabel, OfPath, Body, Extends}
 use Rattle.dt_meaning.specs.Edits.{State, with_node, with_property, counted}
 use Rattle.dt_meaning.specs.Statements.{ReservedName, target_name, target_value, with_fragment, after_fragment, after_body, after_item, begun, makes_fragment}
-use Rattle.dt_draft.specs.declared.table.Draft.{Draft}
-use Rattle.dt_draft.specs.Rows.{IsDraft, child_of, path_of, stands, node_path, state_of}
-use Rattle.dt_draft.specs.Index.{row_of}
-use Rattle.dt_draft.proofs.NodeRows.{not-listed, child-of}
-use Rattle.dt_draft.proofs.Shown.{listed-standing}
+use Rattle.dt_live.specs.declared.live_tree.LiveTree.{LiveTree}
+use Rattle.dt_live.specs.Rows.{IsLiveTree, child_of, path_of, stands, node_path, state_of}
+use Rattle.dt_live.specs.Index.{row_of}
+use Rattle.dt_live.proofs.NodeRows.{not-listed, child-of}
+use Rattle.dt_live.proofs.StandingProperties.{listed-standing}
 use Rattle.dt_edit.specs.Said.{Parts, pieces, tree_of}
-use Rattle.dt_edit.proofs.Reading.{shown, with_property-read}
+use Rattle.dt_edit.proofs.Reading.{read_state, with_property-read}
 
 -- ---- whether the root has the child
 some-of : {A : Type 0} (o : Option A) → is_some o ≡ true → (a : A) × (o ≡ Some a)
@@ -22,19 +22,19 @@ none-of : {A : Type 0} (o : Option A) → is_some o ≡ false → o ≡ None
 none-of None e = refl
 none-of (Some a) e = absurd (true≢false e)
 
-pub child-listed : (d : Draft Parts) → IsDraft d → (name : List ℕ) → is_some (child_of d 0 name) ≡ true → is_listed (name ∷ []) (state_of d).nodes ≡ true
+pub child-listed : (d : LiveTree Parts) → IsLiveTree d → (name : List ℕ) → is_some (child_of d 0 name) ≡ true → is_listed (name ∷ []) (state_of d).nodes ≡ true
 child-listed d sound name has =
     let rows = d.nodes.items in
     let found = some-of (child_of d 0 name) has in
     let c = child-of rows (row_of d.node_rows) found.0 0 name sound.grown sound.nodes found.1 refl in
     ap (λ p. is_listed p (state_of d).nodes) (sym c.path_is) ∙ listed-standing (path_of rows) (stands rows) (length rows) (found.0 - 1) c.within c.there
 
-pub child-unlisted : (d : Draft Parts) → IsDraft d → (name : List ℕ) → is_some (child_of d 0 name) ≡ false → is_listed (name ∷ []) (state_of d).nodes ≡ false
+pub child-unlisted : (d : LiveTree Parts) → IsLiveTree d → (name : List ℕ) → is_some (child_of d 0 name) ≡ false → is_listed (name ∷ []) (state_of d).nodes ≡ false
 child-unlisted d sound name none =
     not-listed d.nodes.items (row_of d.node_rows) sound.grown sound.nodes 0 name refl (none-of (child_of d 0 name) none)
 
 -- ---- its node, its target and its overlay
-pub fragment-defined : (made : ℕ) (old one two three : Draft Parts) (f name overlay : List ℕ) (t : Target) (v : Parts) (node : ℕ)
+pub fragment-defined : (made : ℕ) (old one two three : LiveTree Parts) (f name overlay : List ℕ) (t : Target) (v : Parts) (node : ℕ)
     → state_of one ≡ with_node (f ∷ []) (state_of old) → node_path one node ≡ f ∷ [] → node_path two node ≡ f ∷ []
     → name ≡ target_name t → pieces v ≡ target_value t → overlay ≡ overlay_name
     → state_of two ≡ with_property (node_path one node) name v (state_of one)
@@ -43,13 +43,13 @@ pub fragment-defined : (made : ℕ) (old one two three : Draft Parts) (f name ov
 fragment-defined made old one two three f name overlay t v node first path path' named valued over second third =
     let n = made + 1 in
     let q : Path = f ∷ overlay_name ∷ [] in
-    ap₂ (λ k w. with_node q (with_property (f ∷ []) k w (shown n (with_node (f ∷ []) (state_of old))))) (sym named) (sym valued)
-    ∙ ap (λ s. with_node q (with_property (f ∷ []) name (pieces v) (shown n s))) (sym first)
+    ap₂ (λ k w. with_node q (with_property (f ∷ []) k w (read_state n (with_node (f ∷ []) (state_of old))))) (sym named) (sym valued)
+    ∙ ap (λ s. with_node q (with_property (f ∷ []) name (pieces v) (read_state n s))) (sym first)
     ∙ ap (λ s. with_node q (counted n s)) (with_property-read (f ∷ []) name v (state_of one))
-    ∙ ap (λ p. with_node q (shown n (with_property p name v (state_of one)))) (sym path)
-    ∙ ap (λ s. with_node q (shown n s)) (sym second)
-    ∙ ap₂ (λ p o. shown n (with_node (p ++ o ∷ []) (state_of two))) (sym path') (sym over)
-    ∙ ap (shown n) (sym third)
+    ∙ ap (λ p. with_node q (read_state n (with_property p name v (state_of one)))) (sym path)
+    ∙ ap (λ s. with_node q (read_state n s)) (sym second)
+    ∙ ap₂ (λ p o. read_state n (with_node (p ++ o ∷ []) (state_of two))) (sym path') (sym over)
+    ∙ ap (read_state n) (sym third)
 
 -- ---- all of it
 module _ (t : Target) (body : Body (List Piece)) (f : List ℕ) (s : State (List Piece)) where

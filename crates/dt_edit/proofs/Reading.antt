@@ -74,8 +74,8 @@ pub with_node-keeps : {A : Type 0} (q : Path) → KeepsLabels {A = A} {B = A} (w
 with_node-keeps q = record { labels = λ s. refl; given = λ l p s. refl }
 
 -- ---- the same, after so many fragments
-abbrev pub shown : ℕ → State Parts → State (List Piece)
-shown made s = counted made (read s)
+abbrev pub read_state : ℕ → State Parts → State (List Piece)
+read_state made s = counted made (read s)
 
 pub without_node-counted : {V : Type 0} (made : ℕ) (p : Path) (s : State V) → without_node p (counted made s) ≡ counted made (without_node p s)
 without_node-counted {V} made p s = by-listed (is_listed p s.nodes) where
@@ -86,8 +86,8 @@ without_node-counted {V} made p s = by-listed (is_listed p s.nodes) where
   by-listed true = refl
   by-listed false = refl
 
-pub without_node-shown : (made : ℕ) (p : Path) (s : State Parts) → without_node p (shown made s) ≡ shown made (without_node p s)
-without_node-shown made p s = without_node-counted made p (read s) ∙ ap (counted made) (without_node-read p s)
+pub without_node-read_state : (made : ℕ) (p : Path) (s : State Parts) → without_node p (read_state made s) ≡ read_state made (without_node p s)
+without_node-read_state made p s = without_node-counted made p (read s) ∙ ap (counted made) (without_node-read p s)
 
-pub showing-keeps : (made : ℕ) → KeepsLabels (shown made)
+pub showing-keeps : (made : ℕ) → KeepsLabels (read_state made)
 showing-keeps made = record { labels = λ s. refl; given = λ l p s. refl }

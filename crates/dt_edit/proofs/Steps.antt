@@ -1,4 +1,4 @@
--- One statement of a body, done to a draft.
+-- One statement of a body, done to a live tree.
 use Rattle.std.proofs.Common.{◌≡◌, inl, inr, ℕ, ◌+◌, ◌≤◌, Bool, true, false, not, ◌&&◌, ◌||◌, ◌==◌, List, [], ◌∷◌, ◌++◌, Ok, Err, if◌then◌else◌, refl, sym, ap, ◌∙◌, subst, true≢false, arith}
 use Rattle.std.specs.Str.{bytes_eq}
 use Rattle.std.proofs.lemmas.Bool.{and_parts, eqb-true, eq-eqb}
@@ -6,15 +6,15 @@ use Rattle.dt_meaning.specs.Paths.{Path, same_path, is_within, is_below}
 use Rattle.dt_meaning.specs.Syntax.{Piece, Entry, Defines, Undefines, Removes, Body, Then}
 use Rattle.dt_meaning.specs.Edits.{State, counted, without_node, with_property, without_property}
 use Rattle.dt_meaning.specs.Statements.{DuplicateInBody, Progress, progress, begun, then_do, after_entry, after_body}
-use Rattle.dt_draft.specs.declared.table.Draft.{Draft}
-use Rattle.dt_draft.specs.Index.{is_key}
-use Rattle.dt_draft.specs.Rows.{IsDraft, IsNumbered, IsNode, IsKept, HasSameChildBodies, HasSamePropertyBodies, node_path, child_body, property_body, state_of}
-use Rattle.dt_draft.proofs.Keeping.{below-not-itself, child-below, kept-itself, kept-then}
-use Rattle.dt_draft.proofs.Keys.{key-cases}
-use Rattle.dt_draft.proofs.PathTests.{within-itself}
+use Rattle.dt_live.specs.declared.live_tree.LiveTree.{LiveTree}
+use Rattle.dt_live.specs.Index.{is_key}
+use Rattle.dt_live.specs.Rows.{IsLiveTree, IsStamped, IsNode, IsKept, HasSameChildStamps, HasSamePropertyStamps, node_path, child_stamp, property_stamp, state_of}
+use Rattle.dt_live.proofs.Keeping.{below-not-itself, child-below, kept-itself, kept-then}
+use Rattle.dt_live.proofs.Keys.{key-cases}
+use Rattle.dt_live.proofs.PathTests.{within-itself}
 use Rattle.dt_edit.specs.Private.Progress.{IsAt, HasMarks}
 use Rattle.dt_edit.specs.Said.{Parts, pieces}
-use Rattle.dt_edit.proofs.Reading.{shown, with_property-read, without_property-read, without_node-shown}
+use Rattle.dt_edit.proofs.Reading.{read_state, with_property-read, without_property-read, without_node-read_state}
 
 abbrev pub Tree : Type 0
 Tree = State (List Piece)
@@ -22,105 +22,105 @@ Tree = State (List Piece)
 abbrev pub At : Type 0
 At = Progress (List Piece)
 
--- ---- numbers
-not-number : (m n : ℕ) → (m ≡ n → ⊥) → (b : Bool) → (m == n) ≡ b → b ≡ false
-not-number m n other true e = absurd (other (eqb-true m n e))
-not-number m n other false e = refl
+-- ---- stamps
+not-stamp : (m n : ℕ) → (m ≡ n → ⊥) → (b : Bool) → (m == n) ≡ b → b ≡ false
+not-stamp m n other true e = absurd (other (eqb-true m n e))
+not-stamp m n other false e = refl
 
 -- a name that is marked is among those that were met
-pub mark-one : (node number m : ℕ) (b : Bool) → (b || (m == number)) ≡ ((if (node == node) && b then number else m) == number)
-mark-one node number m b = mark-by b ∙ ap (λ t. (if t && b then number else m) == number) (sym (eq-eqb node node refl)) where
-  mark-by : (c : Bool) → (c || (m == number)) ≡ ((if true && c then number else m) == number)
-  mark-by true = sym (eq-eqb number number refl)
+pub mark-one : (node stamp m : ℕ) (b : Bool) → (b || (m == stamp)) ≡ ((if (node == node) && b then stamp else m) == stamp)
+mark-one node stamp m b = mark-by b ∙ ap (λ t. (if t && b then stamp else m) == stamp) (sym (eq-eqb node node refl)) where
+  mark-by : (c : Bool) → (c || (m == stamp)) ≡ ((if true && c then stamp else m) == stamp)
+  mark-by true = sym (eq-eqb stamp stamp refl)
   mark-by false = refl
 
 -- ---- a body begins
-pub record IsUnderWay (x : At) (old draft : Draft Parts) (node number made : ℕ) (whole rest : Body (List Piece)) : Type 0 where
-  pub sound : IsDraft draft
-  pub numbered : IsNumbered draft
-  pub counted : number ≤ draft.bodies
-  pub older : old.bodies ≤ draft.bodies
-  pub kept : IsKept (node_path old node) old draft
-  pub marks : HasMarks (node_path old node) old draft
-  pub at : IsAt x draft node number made
-  pub same : after_body rest (node_path old node) x ≡ after_body whole (node_path old node) (begun (shown made (state_of old)))
+pub record IsUnderWay (x : At) (old live : LiveTree Parts) (node stamp made : ℕ) (whole rest : Body (List Piece)) : Type 0 where
+  pub sound : IsLiveTree live
+  pub stamped : IsStamped live
+  pub counted : stamp ≤ live.stamps
+  pub older : old.stamps ≤ live.stamps
+  pub kept : IsKept (node_path old node) old live
+  pub marks : HasMarks (node_path old node) old live
+  pub at : IsAt x live node stamp made
+  pub same : after_body rest (node_path old node) x ≡ after_body whole (node_path old node) (begun (read_state made (state_of old)))
 
-pub body-begun : (old new : Draft Parts) (node made : ℕ) (whole : Body (List Piece)) → new ≡ record old { bodies = new.bodies } → new.bodies ≡ old.bodies + 1 → IsDraft old → IsNumbered old
-    → IsUnderWay (begun (shown made (state_of old))) old new node new.bodies made whole whole
-body-begun old new node made whole is more sound numbered =
-    let b = new.bodies in
-    let moved : Draft Parts = record old { bodies = b } in
-    let U : Draft Parts → Type 0 = λ d. IsUnderWay (begun (shown made (state_of old))) old d node b made whole whole in
-    let later : (n : ℕ) (k : List ℕ) → property_body old n k ≡ b → ⊥ = λ n k e. absurd (omega (arith, e, more, (numbered n k).1)) in
-    let later' : (n : ℕ) (k : List ℕ) → child_body old n k ≡ b → ⊥ = λ n k e. absurd (omega (arith, e, more, (numbered n k).0)) in
+pub body-begun : (old new : LiveTree Parts) (node made : ℕ) (whole : Body (List Piece)) → new ≡ record old { stamps = new.stamps } → new.stamps ≡ old.stamps + 1 → IsLiveTree old → IsStamped old
+    → IsUnderWay (begun (read_state made (state_of old))) old new node new.stamps made whole whole
+body-begun old new node made whole is more sound stamped =
+    let b = new.stamps in
+    let moved : LiveTree Parts = record old { stamps = b } in
+    let U : LiveTree Parts → Type 0 = λ d. IsUnderWay (begun (read_state made (state_of old))) old d node b made whole whole in
+    let later : (n : ℕ) (k : List ℕ) → property_stamp old n k ≡ b → ⊥ = λ n k e. absurd (omega (arith, e, more, (stamped n k).1)) in
+    let later' : (n : ℕ) (k : List ℕ) → child_stamp old n k ≡ b → ⊥ = λ n k e. absurd (omega (arith, e, more, (stamped n k).0)) in
     subst U (sym is) (record {
       sound = sound;
-      numbered = λ n k. (omega (arith, (numbered n k).0, more), omega (arith, (numbered n k).1, more));
+      stamped = λ n k. (omega (arith, (stamped n k).0, more), omega (arith, (stamped n k).1, more));
       counted = omega arith;
       older = omega (arith, more);
       kept = kept-itself (node_path old node) old.nodes.items;
       marks = record { children = λ n k known out. refl; properties = λ n k known out. refl };
       at = record {
         state = refl;
-        properties = λ k. sym (not-number (property_body old node k) b (later node k) (property_body old node k == b) refl);
-        children = λ k. sym (not-number (child_body old node k) b (later' node k) (child_body old node k == b) refl);
+        properties = λ k. sym (not-stamp (property_stamp old node k) b (later node k) (property_stamp old node k == b) refl);
+        children = λ k. sym (not-stamp (child_stamp old node k) b (later' node k) (child_stamp old node k == b) refl);
       };
       same = refl;
     })
 
 -- ---- a property is defined
-module _ (x : At) (old : Draft Parts) (node number made : ℕ) (at : IsAt x old node number made) where
-  pub property-set : (new : Draft Parts) (name : List ℕ) (v : Parts) → (property_body old node name == number) ≡ false
+module _ (x : At) (old : LiveTree Parts) (node stamp made : ℕ) (at : IsAt x old node stamp made) where
+  pub property-set : (new : LiveTree Parts) (name : List ℕ) (v : Parts) → (property_stamp old node name == stamp) ≡ false
       → state_of new ≡ with_property (node_path old node) name v (state_of old)
-      → ((n : ℕ) (k : List ℕ) → property_body new n k ≡ (if is_key node name n k then number else property_body old n k)) → HasSameChildBodies old new
-      → (y : At) × (after_entry (Defines name (pieces v)) (node_path old node) x ≡ Ok y) × IsAt y new node number made
+      → ((n : ℕ) (k : List ℕ) → property_stamp new n k ≡ (if is_key node name n k then stamp else property_stamp old n k)) → HasSameChildStamps old new
+      → (y : At) × (after_entry (Defines name (pieces v)) (node_path old node) x ≡ Ok y) × IsAt y new node stamp made
   property-set new name v met state marked others =
       let p = node_path old node in
       let y = progress (name ∷ x.properties) x.children (with_property p name (pieces v) x.state) in (
         y,
         ap (λ b. if b then Err DuplicateInBody else Ok y) (at.properties name ∙ met),
         record {
-          state = ap (λ s. with_property p name (pieces v) s) at.state ∙ ap (counted made) (with_property-read p name v (state_of old)) ∙ ap (shown made) (sym state);
+          state = ap (λ s. with_property p name (pieces v) s) at.state ∙ ap (counted made) (with_property-read p name v (state_of old)) ∙ ap (read_state made) (sym state);
           properties = λ k.
-              ap (λ b. bytes_eq name k || b) (at.properties k) ∙ mark-one node number (property_body old node k) (bytes_eq name k)
-              ∙ ap (λ m. m == number) (sym (marked node k));
-          children = λ k. at.children k ∙ ap (λ m. m == number) (sym (others node k));
+              ap (λ b. bytes_eq name k || b) (at.properties k) ∙ mark-one node stamp (property_stamp old node k) (bytes_eq name k)
+              ∙ ap (λ m. m == stamp) (sym (marked node k));
+          children = λ k. at.children k ∙ ap (λ m. m == stamp) (sym (others node k));
         },
       )
 
-  pub property-removed : (new : Draft Parts) (name : List ℕ) → state_of new ≡ without_property (node_path old node) name (state_of old)
-      → HasSamePropertyBodies old new → HasSameChildBodies old new
-      → (y : At) × (after_entry (Undefines name) (node_path old node) x ≡ Ok y) × IsAt y new node number made
+  pub property-removed : (new : LiveTree Parts) (name : List ℕ) → state_of new ≡ without_property (node_path old node) name (state_of old)
+      → HasSamePropertyStamps old new → HasSameChildStamps old new
+      → (y : At) × (after_entry (Undefines name) (node_path old node) x ≡ Ok y) × IsAt y new node stamp made
   property-removed new name state same others =
       let p = node_path old node in (
         progress x.properties x.children (without_property p name x.state),
         refl,
         record {
-          state = ap (λ s. without_property p name s) at.state ∙ ap (counted made) (without_property-read p name (state_of old)) ∙ ap (shown made) (sym state);
-          properties = λ k. at.properties k ∙ ap (λ m. m == number) (sym (same node k));
-          children = λ k. at.children k ∙ ap (λ m. m == number) (sym (others node k));
+          state = ap (λ s. without_property p name s) at.state ∙ ap (counted made) (without_property-read p name (state_of old)) ∙ ap (read_state made) (sym state);
+          properties = λ k. at.properties k ∙ ap (λ m. m == stamp) (sym (same node k));
+          children = λ k. at.children k ∙ ap (λ m. m == stamp) (sym (others node k));
         },
       )
 
-  pub child-removed : (new : Draft Parts) (name : List ℕ) → state_of new ≡ without_node (node_path old node ++ name ∷ []) (state_of old)
-      → HasSameChildBodies old new → HasSamePropertyBodies old new
-      → (y : At) × (after_entry (Removes name) (node_path old node) x ≡ Ok y) × IsAt y new node number made
+  pub child-removed : (new : LiveTree Parts) (name : List ℕ) → state_of new ≡ without_node (node_path old node ++ name ∷ []) (state_of old)
+      → HasSameChildStamps old new → HasSamePropertyStamps old new
+      → (y : At) × (after_entry (Removes name) (node_path old node) x ≡ Ok y) × IsAt y new node stamp made
   child-removed new name state same others =
       let q = node_path old node ++ name ∷ [] in (
         progress x.properties x.children (without_node q x.state),
         refl,
         record {
-          state = ap (λ s. without_node q s) at.state ∙ without_node-shown made q (state_of old) ∙ ap (shown made) (sym state);
-          properties = λ k. at.properties k ∙ ap (λ m. m == number) (sym (others node k));
-          children = λ k. at.children k ∙ ap (λ m. m == number) (sym (same node k));
+          state = ap (λ s. without_node q s) at.state ∙ without_node-read_state made q (state_of old) ∙ ap (read_state made) (sym state);
+          properties = λ k. at.properties k ∙ ap (λ m. m == stamp) (sym (others node k));
+          children = λ k. at.children k ∙ ap (λ m. m == stamp) (sym (same node k));
         },
       )
 
 -- ---- what other nodes keep
-outside : (d : Draft Parts) (node n : ℕ) → is_within (node_path d node) (node_path d n) ≡ false → node ≡ n → ⊥
+outside : (d : LiveTree Parts) (node n : ℕ) → is_within (node_path d node) (node_path d n) ≡ false → node ≡ n → ⊥
 outside d node n out same = true≢false (sym (within-itself (node_path d node)) ∙ ap (λ m. is_within (node_path d node) (node_path d m)) same ∙ out)
 
-pub unmarked : (d : Draft Parts) (node n : ℕ) (name k : List ℕ) (x y : ℕ) → is_within (node_path d node) (node_path d n) ≡ false → (if is_key node name n k then x else y) ≡ y
+pub unmarked : (d : LiveTree Parts) (node n : ℕ) (name k : List ℕ) (x y : ℕ) → is_within (node_path d node) (node_path d n) ≡ false → (if is_key node name n k then x else y) ≡ y
 unmarked d node n name k x y out = elim (key-cases node name n k) [
   | inl same ↦ absurd (outside d node n out same.1)
   | inr other ↦ ap (λ b. if b then x else y) other
@@ -140,7 +140,7 @@ pub not-in-own-child : (p : Path) (n : List ℕ) → is_within (p ++ n ∷ []) p
 not-in-own-child p n =
     by-false (is_within (p ++ n ∷ []) p) (is_below p p) (child-below p p n) (below-not-itself p)
 
-pub marks-then : (p : Path) (old mid new : Draft Parts) → IsKept p old mid → HasMarks p old mid → HasMarks p mid new → HasMarks p old new
+pub marks-then : (p : Path) (old mid new : LiveTree Parts) → IsKept p old mid → HasMarks p old mid → HasMarks p mid new → HasMarks p old new
 marks-then p old mid new kept a b = record {
   children = λ n k known out. b.children n k (omega (arith, kept.more, known)) (ap (λ q. is_within p q) (kept.paths n known) ∙ out) ∙ a.children n k known out;
   properties = λ n k known out. b.properties n k (omega (arith, kept.more, known)) (ap (λ q. is_within p q) (kept.paths n known) ∙ out) ∙ a.properties n k known out;
@@ -151,21 +151,21 @@ not-false true e = refl
 not-false false e = absurd (true≢false e)
 
 -- ---- the next statement of a body
-pub body-goes-on : (x y : At) (old draft new : Draft Parts) (node number made : ℕ) (whole rest : Body (List Piece)) (e : Entry (List Piece)) → IsNode old node
-    → IsUnderWay x old draft node number made whole (Then e rest) → IsDraft new → IsNumbered new → draft.bodies ≤ new.bodies
-    → IsKept (node_path draft node) draft new → HasMarks (node_path draft node) draft new → after_entry e (node_path draft node) x ≡ Ok y → IsAt y new node number made
-    → IsUnderWay y old new node number made whole rest
-body-goes-on x y old draft new node number made whole rest e known u sound numbered counted kept marks step at =
-    let path : node_path draft node ≡ node_path old node = u.kept.paths node known in
-    let kept' : IsKept (node_path old node) draft new = subst (λ (q : Path). IsKept q draft new) path kept in
-    let marks' : HasMarks (node_path old node) draft new = subst (λ (q : Path). HasMarks q draft new) path marks in
+pub body-goes-on : (x y : At) (old live new : LiveTree Parts) (node stamp made : ℕ) (whole rest : Body (List Piece)) (e : Entry (List Piece)) → IsNode old node
+    → IsUnderWay x old live node stamp made whole (Then e rest) → IsLiveTree new → IsStamped new → live.stamps ≤ new.stamps
+    → IsKept (node_path live node) live new → HasMarks (node_path live node) live new → after_entry e (node_path live node) x ≡ Ok y → IsAt y new node stamp made
+    → IsUnderWay y old new node stamp made whole rest
+body-goes-on x y old live new node stamp made whole rest e known u sound stamped counted kept marks step at =
+    let path : node_path live node ≡ node_path old node = u.kept.paths node known in
+    let kept' : IsKept (node_path old node) live new = subst (λ (q : Path). IsKept q live new) path kept in
+    let marks' : HasMarks (node_path old node) live new = subst (λ (q : Path). HasMarks q live new) path marks in
     record {
       sound = sound;
-      numbered = numbered;
+      stamped = stamped;
       counted = omega (arith, u.counted, counted);
       older = omega (arith, u.older, counted);
-      kept = kept-then (node_path old node) old.nodes.items draft.nodes.items new.nodes.items u.kept kept';
-      marks = marks-then (node_path old node) old draft new u.kept u.marks marks';
+      kept = kept-then (node_path old node) old.nodes.items live.nodes.items new.nodes.items u.kept kept';
+      marks = marks-then (node_path old node) old live new u.kept u.marks marks';
       at = at;
       same = sym (ap (λ r. then_do r (after_body rest (node_path old node))) (ap (λ q. after_entry e q x) (sym path) ∙ step)) ∙ u.same;
     }

@@ -5,8 +5,8 @@ use Rattle.dt_source.specs.declared.tree.Part.{Part}
 use Rattle.dt_source.specs.Tree as said
 use Rattle.dt_meaning.specs.Syntax.{Target, OfLabel, OfPath, Piece, Plain, PhandleOf, PathOf, Entry, Defines, Undefines, Child, Removes, Body, Done, Then, Edit, Rooted, Extends, Deletes, Meaning}
 use Rattle.dt_meaning.specs.Edits.{State, Definition, definition}
-use Rattle.dt_draft.specs.declared.table.Draft.{Draft}
-use Rattle.dt_draft.specs.Rows.{state_of}
+use Rattle.dt_live.specs.declared.live_tree.LiveTree.{LiveTree}
+use Rattle.dt_live.specs.Rows.{state_of}
 
 abbrev pub target_of : said.Target → Target
 target_of (said.OfLabel l) = OfLabel l
@@ -51,6 +51,6 @@ read_definition e = definition e.path e.name (pieces e.value)
 abbrev pub read : State Parts → State (List Piece)
 read s = record { nodes = s.nodes; properties = map read_definition s.properties; labels = s.labels; fragments = s.fragments }
 
--- the tree that a draft shows
-abbrev pub tree_of : Draft Parts → State (List Piece)
+-- the tree that a live tree shows
+abbrev pub tree_of : LiveTree Parts → State (List Piece)
 tree_of d = read (state_of d)

@@ -4,7 +4,7 @@ ghost use Rattle.dt_meaning.specs.Edits.{counted};
 ghost use Rattle.dt_meaning.specs.Names.{fragment_name, overlay_name};
 ghost use Rattle.dt_meaning.specs.Statements.{after_fragment, makes_fragment, target_name, target_value, with_fragment};
 ghost use Rattle.dt_source.specs.Tree.{labels_view, part_view, target_view, views};
-ghost use Rattle.dt_draft.specs.Rows.{IsDraft, IsNode, IsNumbered, is_standing, node_path};
+ghost use Rattle.dt_live.specs.Rows.{IsLiveTree, IsNode, IsStamped, is_standing, node_path};
 ghost use Rattle.dt_edit.specs.EditFault.{IsFault};
 ghost use Rattle.dt_edit.specs.Private.Made.{IsExact};
 ghost use Rattle.dt_edit.specs.Said as said;
@@ -13,22 +13,22 @@ ghost use Rattle.dt_edit.specs.Said.{body_of, piece_of, tree_of};
 use crate::body::edit_body;
 use crate::error::EditError;
 use crate::made::Made;
-use dt_draft::Draft;
+use dt_live::LiveTree;
 use dt_source::{Labels, Part, Reference, Statement};
 use std::alloc::AllocError;
 
-// no body of the text has this number
+// no body of the text has this stamp
 const NO_BODY: usize = 0;
 
 /// Whether an extension makes a fragment: in a plugin that of a path, or of a label that no node has, where it has no labels itself.
 pub(crate) fn makes_fragment<'d, 't>(
     plugin: bool,
-    draft: &Draft<'d, &'d [Part<'t>]>,
+    live: &LiveTree<'d, &'d [Part<'t>]>,
     labels: &'d Labels<'t>,
     target: &'d Reference<'t>,
 ) -> bool
-    requires sound { IsDraft draft.now }
-    ensures { result ≡ makes_fragment plugin (labels_view labels.now) (said.target_of (target_view target.now)) (tree_of draft.now) }
+    requires sound { IsLiveTree live.now }
+    ensures { result ≡ makes_fragment plugin (labels_view labels.now) (said.target_of (target_view target.now)) (tree_of live.now) }
 {
     if !plugin {
         return false;
@@ -38,7 +38,7 @@ pub(crate) fn makes_fragment<'d, 't>(
     }
     match target {
         Reference::Path(_) => true,
-        Reference::Label(label) => draft.labelled(*label).is_none(),
+        Reference::Label(label) => live.labelled(*label).is_none(),
     }
 }
 
@@ -53,55 +53,55 @@ fn target_name<'t>(target: &Reference<'t>) -> &'static [u8]
 
 /// Puts a fragment with what it extends into the tree, and answers the node of its overlay.
 fn define_fragment<'d, 't>(
-    draft: &mut Draft<'d, &'d [Part<'t>]>,
+    live: &mut LiveTree<'d, &'d [Part<'t>]>,
     name: &'d [u8],
     target: &'d Reference<'t>,
     value: &'d [Part<'t>],
 ) -> Result<usize, AllocError>
-    requires sound { IsDraft draft.old }
-    requires numbered { IsNumbered draft.old }
+    requires sound { IsLiveTree live.old }
+    requires stamped { IsStamped live.old }
     requires value { map piece_of (map part_view value.now) ≡ target_value (said.target_of (target_view target.now)) }
-    ensures sound { OnOk result (IsDraft draft.new) }
-    ensures numbered { OnOk result (IsNumbered draft.new) }
-    ensures path { IfOk result (λ overlay. node_path draft.new overlay ≡ name.now ∷ overlay_name ∷ []) }
-    ensures there { IfOk result (λ overlay. is_standing draft.new overlay ≡ true) }
-    ensures known { IfOk result (λ overlay. IsNode draft.new overlay) }
-    ensures tree { OnOk result ((n : ℕ) → with_fragment name.now (said.target_of (target_view target.now)) (counted n (tree_of draft.old)) ≡ counted (n + 1) (tree_of draft.new)) }
+    ensures sound { OnOk result (IsLiveTree live.new) }
+    ensures stamped { OnOk result (IsStamped live.new) }
+    ensures path { IfOk result (λ overlay. node_path live.new overlay ≡ name.now ∷ overlay_name ∷ []) }
+    ensures there { IfOk result (λ overlay. is_standing live.new overlay ≡ true) }
+    ensures known { IfOk result (λ overlay. IsNode live.new overlay) }
+    ensures tree { OnOk result ((n : ℕ) → with_fragment name.now (said.target_of (target_view target.now)) (counted n (tree_of live.old)) ≡ counted (n + 1) (tree_of live.new)) }
 {
-    let (fragment, _) = draft.define_child(0, name, NO_BODY)?;
-    draft.set_property(fragment, target_name(target), value, NO_BODY)?;
-    let (overlay, _) = draft.define_child(fragment, b"__overlay__".as_slice(), NO_BODY)?;
+    let (fragment, _) = live.define_child(0, name, NO_BODY)?;
+    live.set_property(fragment, target_name(target), value, NO_BODY)?;
+    let (overlay, _) = live.define_child(fragment, b"__overlay__".as_slice(), NO_BODY)?;
     Ok(overlay)
 }
 
 /// Makes the fragment of this name with what the body of its extension says.
 pub(crate) fn add_fragment<'d, 't>(
-    draft: &mut Draft<'d, &'d [Part<'t>]>,
+    live: &mut LiveTree<'d, &'d [Part<'t>]>,
     made: &mut Made<'d>,
     name: &'d [u8],
     target: &'d Reference<'t>,
     value: &'d [Part<'t>],
     body: &'d [Statement<'t>],
 ) -> Result<(), EditError>
-    requires sound { IsDraft draft.old }
-    requires numbered { IsNumbered draft.old }
+    requires sound { IsLiveTree live.old }
+    requires stamped { IsStamped live.old }
     requires exact { IsExact made.old }
     requires few { made.old.count < 2 ^ 64 - 1 }
     requires name { name.now ≡ fragment_name made.old.count }
     requires value { map piece_of (map part_view value.now) ≡ target_value (said.target_of (target_view target.now)) }
-    ensures sound { OnOk result (IsDraft draft.new) }
-    ensures numbered { OnOk result (IsNumbered draft.new) }
+    ensures sound { OnOk result (IsLiveTree live.new) }
+    ensures stamped { OnOk result (IsStamped live.new) }
     ensures exact { OnOk result (IsExact made.new) }
     ensures count { OnOk result (made.new.count ≡ made.old.count + 1) }
-    ensures item { MatchResult result (λ _. after_fragment (said.target_of (target_view target.now)) (body_of (views body.now)) name.now (counted made.old.count (tree_of draft.old)) ≡ Ok (counted made.new.count (tree_of draft.new))) (λ e. IsFault e (after_fragment (said.target_of (target_view target.now)) (body_of (views body.now)) name.now (counted made.old.count (tree_of draft.old)))) }
+    ensures item { MatchResult result (λ _. after_fragment (said.target_of (target_view target.now)) (body_of (views body.now)) name.now (counted made.old.count (tree_of live.old)) ≡ Ok (counted made.new.count (tree_of live.new))) (λ e. IsFault e (after_fragment (said.target_of (target_view target.now)) (body_of (views body.now)) name.now (counted made.old.count (tree_of live.old)))) }
 {
-    if draft.child(0, name).is_some() {
+    if live.child(0, name).is_some() {
         return Err(EditError::ReservedName);
     }
     // its own name is taken while its body runs
     made.add(name)?;
-    let overlay = define_fragment(draft, name, target, value)?;
-    match edit_body(draft, made, overlay, 2, body) {
+    let overlay = define_fragment(live, name, target, value)?;
+    match edit_body(live, made, overlay, 2, body) {
         Ok(()) => Ok(()),
         Err(error) => Err(error),
     }

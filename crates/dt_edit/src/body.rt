@@ -6,8 +6,8 @@ ghost use Rattle.dt_meaning.specs.Paths.{Path};
 ghost use Rattle.dt_meaning.specs.Syntax.{Child, Piece};
 ghost use Rattle.dt_meaning.specs.Statements.{Progress, after_body, after_entry, begun};
 ghost use Rattle.dt_source.specs.Tree.{view, views};
-ghost use Rattle.dt_draft.specs.Index.{is_key};
-ghost use Rattle.dt_draft.specs.Rows.{HasSamePropertyBodies, IsDraft, IsKept, IsNode, IsNumbered, child_body, is_standing, node_path};
+ghost use Rattle.dt_live.specs.Index.{is_key};
+ghost use Rattle.dt_live.specs.Rows.{HasSamePropertyStamps, IsLiveTree, IsKept, IsNode, IsStamped, child_stamp, is_standing, node_path};
 ghost use Rattle.dt_edit.specs.EditFault.{IsFault};
 ghost use Rattle.dt_edit.specs.Private.Admitted.{admitted};
 ghost use Rattle.dt_edit.specs.Private.Made.{IsExact};
@@ -16,44 +16,44 @@ ghost use Rattle.dt_edit.specs.Said.{body_of, entry_of, tree_of};
 
 use crate::error::EditError;
 use crate::made::Made;
-use dt_draft::Draft;
+use dt_live::LiveTree;
 use dt_source::{Part, Statement};
 use dt_tree::MAX_DEPTH;
 
 /// Lets a child with its labels into the tree, unless this body has it already, or it can't stand there.
 fn admit_child<'d, 't>(
-    draft: &mut Draft<'d, &'d [Part<'t>]>,
+    live: &mut LiveTree<'d, &'d [Part<'t>]>,
     made: &Made<'d>,
     node: usize,
     depth: usize,
-    number: usize,
+    stamp: usize,
     labels: &'d [&'t [u8]],
     name: &'t [u8],
 ) -> Result<usize, EditError>
-    requires sound { IsDraft draft.old }
-    requires numbered { IsNumbered draft.old }
-    requires counted { number ≤ draft.old.bodies }
-    requires known { IsNode draft.old node }
-    requires stands { is_standing draft.old node ≡ true }
-    requires depth { depth ≡ length (node_path draft.old node) }
+    requires sound { IsLiveTree live.old }
+    requires stamped { IsStamped live.old }
+    requires counted { stamp ≤ live.old.stamps }
+    requires known { IsNode live.old node }
+    requires stands { is_standing live.old node ≡ true }
+    requires depth { depth ≡ length (node_path live.old node) }
     requires exact { IsExact made.now }
-    ensures sound { OnOk result (IsDraft draft.new) }
-    ensures numbered { OnOk result (IsNumbered draft.new) }
-    ensures count { OnOk result (draft.new.bodies ≡ draft.old.bodies) }
-    ensures path { IfOk result (λ child. node_path draft.new child ≡ node_path draft.old node ++ name.now ∷ []) }
-    ensures there { IfOk result (λ child. is_standing draft.new child ≡ true) }
-    ensures known { IfOk result (λ child. IsNode draft.new child) }
-    ensures kept { OnOk result ((p : Path) → IsKept p draft.old draft.new) }
-    ensures children { OnOk result ((n : ℕ) (k : List ℕ) → child_body draft.new n k ≡ (if is_key node name.now n k then number else child_body draft.old n k)) }
-    ensures properties { OnOk result (HasSamePropertyBodies draft.old draft.new) }
+    ensures sound { OnOk result (IsLiveTree live.new) }
+    ensures stamped { OnOk result (IsStamped live.new) }
+    ensures count { OnOk result (live.new.stamps ≡ live.old.stamps) }
+    ensures path { IfOk result (λ child. node_path live.new child ≡ node_path live.old node ++ name.now ∷ []) }
+    ensures there { IfOk result (λ child. is_standing live.new child ≡ true) }
+    ensures known { IfOk result (λ child. IsNode live.new child) }
+    ensures kept { OnOk result ((p : Path) → IsKept p live.old live.new) }
+    ensures children { OnOk result ((n : ℕ) (k : List ℕ) → child_stamp live.new n k ≡ (if is_key node name.now n k then stamp else child_stamp live.old n k)) }
+    ensures properties { OnOk result (HasSamePropertyStamps live.old live.new) }
     ensures shallow { OnOk result (depth < MAX_DEPTH) }
-    ensures step { (x : Progress (List Piece)) → IsAt x draft.old node number made.now.count → MatchResult result (λ _. admitted (map (λ l. l.now) labels.now) name.now (node_path draft.old node) x ≡ Ok (counted made.now.count (tree_of draft.new))) (λ e. IsFault e (admitted (map (λ l. l.now) labels.now) name.now (node_path draft.old node) x)) }
+    ensures step { (x : Progress (List Piece)) → IsAt x live.old node stamp made.now.count → MatchResult result (λ _. admitted (map (λ l. l.now) labels.now) name.now (node_path live.old node) x ≡ Ok (counted made.now.count (tree_of live.new))) (λ e. IsFault e (admitted (map (λ l. l.now) labels.now) name.now (node_path live.old node) x)) }
 {
-    // the draft holds them for as long as it lives itself
+    // the live tree holds them for as long as it lives itself
     let name: &'d [u8] = name;
     let labels: &'d [&'d [u8]] = labels;
-    let (child, first) = draft.define_child(node, name, number)?;
-    if let Err(error) = draft.give_labels(labels, child) {
+    let (child, first) = live.define_child(node, name, stamp)?;
+    if let Err(error) = live.give_labels(labels, child) {
         return Err(EditError::of_label(error));
     }
     if !first {
@@ -70,79 +70,79 @@ fn admit_child<'d, 't>(
 
 #[cycle(edits)]
 fn edit_child<'d, 't>(
-    draft: &mut Draft<'d, &'d [Part<'t>]>,
+    live: &mut LiveTree<'d, &'d [Part<'t>]>,
     made: &Made<'d>,
     node: usize,
     depth: usize,
-    number: usize,
+    stamp: usize,
     labels: &'d [&'t [u8]],
     name: &'t [u8],
     body: &'d [Statement<'t>],
 ) -> Result<(), EditError>
-    requires sound { IsDraft draft.old }
-    requires numbered { IsNumbered draft.old }
-    requires counted { number ≤ draft.old.bodies }
-    requires known { IsNode draft.old node }
-    requires stands { is_standing draft.old node ≡ true }
-    requires depth { depth ≡ length (node_path draft.old node) }
+    requires sound { IsLiveTree live.old }
+    requires stamped { IsStamped live.old }
+    requires counted { stamp ≤ live.old.stamps }
+    requires known { IsNode live.old node }
+    requires stands { is_standing live.old node ≡ true }
+    requires depth { depth ≡ length (node_path live.old node) }
     requires exact { IsExact made.now }
-    ensures sound { OnOk result (IsDraft draft.new) }
-    ensures numbered { OnOk result (IsNumbered draft.new) }
-    ensures counted { OnOk result (draft.old.bodies ≤ draft.new.bodies) }
-    ensures kept { OnOk result (IsKept (node_path draft.old node) draft.old draft.new) }
-    ensures marks { OnOk result (HasMarks (node_path draft.old node) draft.old draft.new) }
-    ensures step { (x : Progress (List Piece)) → IsAt x draft.old node number made.now.count → MatchResult result (λ _. (y : Progress (List Piece)) × (after_entry (Child (map (λ l. l.now) labels.now) name.now (body_of (views body.now))) (node_path draft.old node) x ≡ Ok y) × IsAt y draft.new node number made.now.count) (λ e. IsFault e (after_entry (Child (map (λ l. l.now) labels.now) name.now (body_of (views body.now))) (node_path draft.old node) x)) }
+    ensures sound { OnOk result (IsLiveTree live.new) }
+    ensures stamped { OnOk result (IsStamped live.new) }
+    ensures counted { OnOk result (live.old.stamps ≤ live.new.stamps) }
+    ensures kept { OnOk result (IsKept (node_path live.old node) live.old live.new) }
+    ensures marks { OnOk result (HasMarks (node_path live.old node) live.old live.new) }
+    ensures step { (x : Progress (List Piece)) → IsAt x live.old node stamp made.now.count → MatchResult result (λ _. (y : Progress (List Piece)) × (after_entry (Child (map (λ l. l.now) labels.now) name.now (body_of (views body.now))) (node_path live.old node) x ≡ Ok y) × IsAt y live.new node stamp made.now.count) (λ e. IsFault e (after_entry (Child (map (λ l. l.now) labels.now) name.now (body_of (views body.now))) (node_path live.old node) x)) }
 {
-    let child = admit_child(draft, made, node, depth, number, labels, name)?;
-    edit_body(draft, made, child, depth + 1, body)?;
+    let child = admit_child(live, made, node, depth, stamp, labels, name)?;
+    edit_body(live, made, child, depth + 1, body)?;
     Ok(())
 }
 
 #[cycle(edits)]
 fn edit<'d, 't>(
-    draft: &mut Draft<'d, &'d [Part<'t>]>,
+    live: &mut LiveTree<'d, &'d [Part<'t>]>,
     made: &Made<'d>,
     node: usize,
     depth: usize,
-    number: usize,
+    stamp: usize,
     statement: &'d Statement<'t>,
 ) -> Result<(), EditError>
-    requires sound { IsDraft draft.old }
-    requires numbered { IsNumbered draft.old }
-    requires counted { number ≤ draft.old.bodies }
-    requires known { IsNode draft.old node }
-    requires stands { is_standing draft.old node ≡ true }
-    requires depth { depth ≡ length (node_path draft.old node) }
+    requires sound { IsLiveTree live.old }
+    requires stamped { IsStamped live.old }
+    requires counted { stamp ≤ live.old.stamps }
+    requires known { IsNode live.old node }
+    requires stands { is_standing live.old node ≡ true }
+    requires depth { depth ≡ length (node_path live.old node) }
     requires exact { IsExact made.now }
-    ensures sound { OnOk result (IsDraft draft.new) }
-    ensures numbered { OnOk result (IsNumbered draft.new) }
-    ensures counted { OnOk result (draft.old.bodies ≤ draft.new.bodies) }
-    ensures kept { OnOk result (IsKept (node_path draft.old node) draft.old draft.new) }
-    ensures marks { OnOk result (HasMarks (node_path draft.old node) draft.old draft.new) }
-    ensures step { (x : Progress (List Piece)) → IsAt x draft.old node number made.now.count → MatchResult result (λ _. (y : Progress (List Piece)) × (after_entry (entry_of (view statement.now)) (node_path draft.old node) x ≡ Ok y) × IsAt y draft.new node number made.now.count) (λ e. IsFault e (after_entry (entry_of (view statement.now)) (node_path draft.old node) x)) }
+    ensures sound { OnOk result (IsLiveTree live.new) }
+    ensures stamped { OnOk result (IsStamped live.new) }
+    ensures counted { OnOk result (live.old.stamps ≤ live.new.stamps) }
+    ensures kept { OnOk result (IsKept (node_path live.old node) live.old live.new) }
+    ensures marks { OnOk result (HasMarks (node_path live.old node) live.old live.new) }
+    ensures step { (x : Progress (List Piece)) → IsAt x live.old node stamp made.now.count → MatchResult result (λ _. (y : Progress (List Piece)) × (after_entry (entry_of (view statement.now)) (node_path live.old node) x ≡ Ok y) × IsAt y live.new node stamp made.now.count) (λ e. IsFault e (after_entry (entry_of (view statement.now)) (node_path live.old node) x)) }
 {
     match statement {
         Statement::Property { name, value } => {
-            if !draft.set_property(node, *name, value.as_slice(), number)? {
+            if !live.set_property(node, *name, value.as_slice(), stamp)? {
                 return Err(EditError::DuplicateInBody);
             }
             Ok(())
         }
         Statement::DeleteProperty { name } => {
-            draft.remove_property(node, *name);
+            live.remove_property(node, *name);
             Ok(())
         }
         Statement::DeleteNode { name } => {
-            draft.remove_child(node, *name);
+            live.remove_child(node, *name);
             Ok(())
         }
         Statement::Node { labels, name, body } => {
             edit_child(
-                draft,
+                live,
                 made,
                 node,
                 depth,
-                number,
+                stamp,
                 labels.as_slice(),
                 *name,
                 body.as_slice(),
@@ -152,35 +152,35 @@ fn edit<'d, 't>(
     }
 }
 
-/// Does what the statements of a body say to a node. After a refusal the draft is of no more use.
+/// Does what the statements of a body say to a node. After a refusal the live tree is of no more use.
 #[cycle(edits)]
 pub(crate) fn edit_body<'d, 't>(
-    draft: &mut Draft<'d, &'d [Part<'t>]>,
+    live: &mut LiveTree<'d, &'d [Part<'t>]>,
     made: &Made<'d>,
     node: usize,
     depth: usize,
     body: &'d [Statement<'t>],
 ) -> Result<(), EditError>
-    requires sound { IsDraft draft.old }
-    requires numbered { IsNumbered draft.old }
-    requires known { IsNode draft.old node }
-    requires stands { is_standing draft.old node ≡ true }
-    requires depth { depth ≡ length (node_path draft.old node) }
+    requires sound { IsLiveTree live.old }
+    requires stamped { IsStamped live.old }
+    requires known { IsNode live.old node }
+    requires stands { is_standing live.old node ≡ true }
+    requires depth { depth ≡ length (node_path live.old node) }
     requires exact { IsExact made.now }
-    ensures sound { OnOk result (IsDraft draft.new) }
-    ensures numbered { OnOk result (IsNumbered draft.new) }
-    ensures counted { OnOk result (draft.old.bodies ≤ draft.new.bodies) }
-    ensures kept { OnOk result (IsKept (node_path draft.old node) draft.old draft.new) }
-    ensures marks { OnOk result (HasMarks (node_path draft.old node) draft.old draft.new) }
-    ensures body { MatchResult result (λ _. after_body (body_of (views body.now)) (node_path draft.old node) (begun (counted made.now.count (tree_of draft.old))) ≡ Ok (counted made.now.count (tree_of draft.new))) (λ e. IsFault e (after_body (body_of (views body.now)) (node_path draft.old node) (begun (counted made.now.count (tree_of draft.old))))) }
+    ensures sound { OnOk result (IsLiveTree live.new) }
+    ensures stamped { OnOk result (IsStamped live.new) }
+    ensures counted { OnOk result (live.old.stamps ≤ live.new.stamps) }
+    ensures kept { OnOk result (IsKept (node_path live.old node) live.old live.new) }
+    ensures marks { OnOk result (HasMarks (node_path live.old node) live.old live.new) }
+    ensures body { MatchResult result (λ _. after_body (body_of (views body.now)) (node_path live.old node) (begun (counted made.now.count (tree_of live.old))) ≡ Ok (counted made.now.count (tree_of live.new))) (λ e. IsFault e (after_body (body_of (views body.now)) (node_path live.old node) (begun (counted made.now.count (tree_of live.old))))) }
 {
-    let number = match draft.begin_body() {
-        Some(number) => number,
+    let stamp = match live.new_stamp() {
+        Some(stamp) => stamp,
         // 2^64 bodies don't fit into memory
         None => return Err(EditError::NoMemory),
     };
     for statement in body {
-        edit(draft, made, node, depth, number, statement)?;
+        edit(live, made, node, depth, stamp, statement)?;
     }
     Ok(())
 }

@@ -2,7 +2,7 @@
 ghost use Rattle.std.specs.Prelude.{◌≡◌};
 ghost use Rattle.dt_edit.specs.Private.LabelFault.{edit_error};
 
-use dt_draft::LabelError;
+use dt_live::LabelError;
 use std::alloc::AllocError;
 
 /// Why the edits of a source stop.

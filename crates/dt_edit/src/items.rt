@@ -3,7 +3,7 @@ ghost use Rattle.std.specs.Prelude.{◌≡◌, ◌+◌, ◌≤◌, ◌∷◌, �
 ghost use Rattle.dt_meaning.specs.Syntax.{Deletes, Edit, Extends};
 ghost use Rattle.dt_meaning.specs.Statements.{after_item, after_items};
 ghost use Rattle.dt_source.specs.Tree.{item_view, labels_view, target_view, views};
-ghost use Rattle.dt_draft.specs.Rows.{IsDraft, IsNumbered};
+ghost use Rattle.dt_live.specs.Rows.{IsLiveTree, IsStamped};
 ghost use Rattle.dt_edit.specs.EditFault.{IsFault};
 ghost use Rattle.dt_edit.specs.Fragments.{AreFragments, target_values};
 ghost use Rattle.dt_meaning.specs.Edits.{counted};
@@ -18,48 +18,48 @@ use crate::error::EditError;
 use crate::fragments::Fragments;
 use crate::made::Made;
 use crate::targets::target_of;
-use dt_draft::Draft;
+use dt_live::LiveTree;
 use dt_source::{Item, Labels, Part, Reference, Statement};
 use std::alloc::Global;
 
 fn delete<'d, 't>(
-    draft: &mut Draft<'d, &'d [Part<'t>]>,
+    live: &mut LiveTree<'d, &'d [Part<'t>]>,
     target: &'d Reference<'t>,
 ) -> Result<(), EditError>
-    requires sound { IsDraft draft.old }
-    requires numbered { IsNumbered draft.old }
-    ensures sound { OnOk result (IsDraft draft.new) }
-    ensures numbered { OnOk result (IsNumbered draft.new) }
-    ensures item { (n : ℕ) → MatchResult result (λ _. after_item false (Deletes (said.target_of (target_view target.now))) (counted n (tree_of draft.old)) ≡ Ok (counted n (tree_of draft.new))) (λ e. IsFault e (after_item false (Deletes (said.target_of (target_view target.now))) (counted n (tree_of draft.old)))) }
+    requires sound { IsLiveTree live.old }
+    requires stamped { IsStamped live.old }
+    ensures sound { OnOk result (IsLiveTree live.new) }
+    ensures stamped { OnOk result (IsStamped live.new) }
+    ensures item { (n : ℕ) → MatchResult result (λ _. after_item false (Deletes (said.target_of (target_view target.now))) (counted n (tree_of live.old)) ≡ Ok (counted n (tree_of live.new))) (λ e. IsFault e (after_item false (Deletes (said.target_of (target_view target.now))) (counted n (tree_of live.old)))) }
 {
-    let node = target_of(draft, target)?;
+    let node = target_of(live, target)?;
     if node == 0 {
         return Err(EditError::ReservedName);
     }
-    draft.remove_node(node);
+    live.remove_node(node);
     Ok(())
 }
 
 fn extend<'d, 't>(
-    draft: &mut Draft<'d, &'d [Part<'t>]>,
+    live: &mut LiveTree<'d, &'d [Part<'t>]>,
     made: &Made<'d>,
     labels: &'d Labels<'t>,
     target: &'d Reference<'t>,
     body: &'d [Statement<'t>],
 ) -> Result<(), EditError>
-    requires sound { IsDraft draft.old }
-    requires numbered { IsNumbered draft.old }
+    requires sound { IsLiveTree live.old }
+    requires stamped { IsStamped live.old }
     requires exact { IsExact made.now }
-    ensures sound { OnOk result (IsDraft draft.new) }
-    ensures numbered { OnOk result (IsNumbered draft.new) }
-    ensures item { MatchResult result (λ _. after_item false (Extends (labels_view labels.now) (said.target_of (target_view target.now)) (body_of (views body.now))) (counted made.now.count (tree_of draft.old)) ≡ Ok (counted made.now.count (tree_of draft.new))) (λ e. IsFault e (after_item false (Extends (labels_view labels.now) (said.target_of (target_view target.now)) (body_of (views body.now))) (counted made.now.count (tree_of draft.old)))) }
+    ensures sound { OnOk result (IsLiveTree live.new) }
+    ensures stamped { OnOk result (IsStamped live.new) }
+    ensures item { MatchResult result (λ _. after_item false (Extends (labels_view labels.now) (said.target_of (target_view target.now)) (body_of (views body.now))) (counted made.now.count (tree_of live.old)) ≡ Ok (counted made.now.count (tree_of live.new))) (λ e. IsFault e (after_item false (Extends (labels_view labels.now) (said.target_of (target_view target.now)) (body_of (views body.now))) (counted made.now.count (tree_of live.old)))) }
 {
-    let node = target_of(draft, target)?;
-    if let Err(error) = draft.give_labels(labels.as_slice(), node) {
+    let node = target_of(live, target)?;
+    if let Err(error) = live.give_labels(labels.as_slice(), node) {
         return Err(EditError::of_label(error));
     }
-    let depth = draft.depth(node);
-    match edit_body(draft, made, node, depth, body) {
+    let depth = live.depth(node);
+    match edit_body(live, made, node, depth, body) {
         Ok(()) => Ok(()),
         Err(error) => Err(error),
     }
@@ -77,31 +77,31 @@ fn extensions_in<'t>(item: &Item<'t>) -> usize
 }
 
 fn edit_item<'d, 't>(
-    draft: &mut Draft<'d, &'d [Part<'t>]>,
+    live: &mut LiveTree<'d, &'d [Part<'t>]>,
     made: &mut Made<'d>,
     plugin: bool,
     fragments: &'d Fragments<'t>,
     extension: usize,
     item: &'d Item<'t>,
 ) -> Result<(), EditError>
-    requires sound { IsDraft draft.old }
-    requires numbered { IsNumbered draft.old }
+    requires sound { IsLiveTree live.old }
+    requires stamped { IsStamped live.old }
     requires exact { IsExact made.old }
     requires counted { made.old.count ≤ extension }
     requires ready { (rest : List Edit) × IsReady fragments.now extension (item_of (item_view item.now) ∷ rest) }
-    ensures sound { OnOk result (IsDraft draft.new) }
-    ensures numbered { OnOk result (IsNumbered draft.new) }
+    ensures sound { OnOk result (IsLiveTree live.new) }
+    ensures stamped { OnOk result (IsStamped live.new) }
     ensures exact { OnOk result (IsExact made.new) }
     ensures counted { OnOk result (made.new.count ≤ extension + length (target_values (item_of (item_view item.now)))) }
-    ensures item { MatchResult result (λ _. after_item plugin (item_of (item_view item.now)) (counted made.old.count (tree_of draft.old)) ≡ Ok (counted made.new.count (tree_of draft.new))) (λ e. IsFault e (after_item plugin (item_of (item_view item.now)) (counted made.old.count (tree_of draft.old)))) }
+    ensures item { MatchResult result (λ _. after_item plugin (item_of (item_view item.now)) (counted made.old.count (tree_of live.old)) ≡ Ok (counted made.new.count (tree_of live.new))) (λ e. IsFault e (after_item plugin (item_of (item_view item.now)) (counted made.old.count (tree_of live.old)))) }
 {
     match item {
         Item::Root(body) => {
-            edit_body(draft, made, 0, 0, body.as_slice())?;
+            edit_body(live, made, 0, 0, body.as_slice())?;
             Ok(())
         }
         Item::Delete(target) => {
-            delete(draft, target)?;
+            delete(live, target)?;
             Ok(())
         }
         Item::Extend {
@@ -109,41 +109,41 @@ fn edit_item<'d, 't>(
             target,
             body,
         } => {
-            if makes_fragment(plugin, draft, labels, target) {
+            if makes_fragment(plugin, live, labels, target) {
                 let name = fragments.names[made.count].as_slice();
                 let value = fragments.targets[extension].as_slice();
-                match add_fragment(draft, made, name, target, value, body.as_slice()) {
+                match add_fragment(live, made, name, target, value, body.as_slice()) {
                     Ok(()) => Ok(()),
                     Err(error) => Err(error),
                 }
             } else {
-                extend(draft, made, labels, target, body.as_slice())?;
+                extend(live, made, labels, target, body.as_slice())?;
                 Ok(())
             }
         }
     }
 }
 
-/// Does what the items of a source say, in their order. After a refusal the draft is of no more use.
+/// Does what the items of a source say, in their order. After a refusal the live tree is of no more use.
 pub fn edit_items<'d, 't>(
     alloc: Global,
-    draft: &mut Draft<'d, &'d [Part<'t>]>,
+    live: &mut LiveTree<'d, &'d [Part<'t>]>,
     plugin: bool,
     fragments: &'d Fragments<'t>,
     items: &'d [Item<'t>],
 ) -> Result<(), EditError>
-    requires sound { IsDraft draft.old }
-    requires numbered { IsNumbered draft.old }
-    requires unmade { (tree_of draft.old).fragments ≡ 0 }
+    requires sound { IsLiveTree live.old }
+    requires stamped { IsStamped live.old }
+    requires unmade { (tree_of live.old).fragments ≡ 0 }
     requires fragments { AreFragments (map item_of (map item_view items.now)) fragments.now }
-    ensures sound { OnOk result (IsDraft draft.new) }
-    ensures numbered { OnOk result (IsNumbered draft.new) }
-    ensures items { MatchResult result (λ _. (n : ℕ) × (after_items plugin (map item_of (map item_view items.now)) (tree_of draft.old) ≡ Ok (counted n (tree_of draft.new)))) (λ e. IsFault e (after_items plugin (map item_of (map item_view items.now)) (tree_of draft.old))) }
+    ensures sound { OnOk result (IsLiveTree live.new) }
+    ensures stamped { OnOk result (IsStamped live.new) }
+    ensures items { MatchResult result (λ _. (n : ℕ) × (after_items plugin (map item_of (map item_view items.now)) (tree_of live.old) ≡ Ok (counted n (tree_of live.new)))) (λ e. IsFault e (after_items plugin (map item_of (map item_view items.now)) (tree_of live.old))) }
 {
     let mut made = Made::new(alloc);
     let mut extensions = 0;
     for item in items {
-        if let Err(error) = edit_item(draft, &mut made, plugin, fragments, extensions, item) {
+        if let Err(error) = edit_item(live, &mut made, plugin, fragments, extensions, item) {
             return Err(error);
         }
         extensions += extensions_in(item);

@@ -1,4 +1,4 @@
-//! The items and statements of a source, done to a draft in the order of the text.
+//! The items and statements of a source, done to a live tree in the order of the text.
 //!
 //! The Devicetree Specification v0.4, sections 6.3 and 6.4, says what they mean.
 #![tactic(auto)]

@@ -12,7 +12,7 @@ abbrev pub Stops : ℕ → List Lexeme → Type 0
 Stops level [] = Unit {0}
 Stops level (t ∷ ts) = (rank t.kind ≡ 0) ⊎ (level < rank t.kind)
 
-stops_less : (low high : ℕ) (ts : List Lexeme) → low ≤ high → Stops high ts → Stops low ts
+pub stops_less : (low high : ℕ) (ts : List Lexeme) → low ≤ high → Stops high ts → Stops low ts
 stops_less low high [] le s = tt
 stops_less low high (t ∷ ts) le (inl z) = inl z
 stops_less low high (t ∷ ts) le (inr h) = inr (omega arith)
@@ -29,7 +29,7 @@ no_operator level [] le s = refl
 no_operator level (t ∷ ts) le (inl z) = let e : eqb (rank t.kind) level ≡ false = eqb_false _ _ (λ k. omega arith) in rw e refl
 no_operator level (t ∷ ts) le (inr h) = let e : eqb (rank t.kind) level ≡ false = eqb_false _ _ (λ k. omega arith) in rw e refl
 
-more_done : {A : Type 0} (m : Making A) (lower : Reader A) (level n : ℕ) (v : A) (ts : List Lexeme) → 1 ≤ level → Stops level ts → more m lower level n v ts ≡ Ok (v, ts)
+pub more_done : {A : Type 0} (m : Making A) (lower : Reader A) (level n : ℕ) (v : A) (ts : List Lexeme) → 1 ≤ level → Stops level ts → more m lower level n v ts ≡ Ok (v, ts)
 unfolding more
 more_done m lower level zero v ts le s = refl
 more_done m lower level (suc n) v ts le s = rw (no_operator level ts le s) refl
@@ -37,7 +37,7 @@ more_done m lower level (suc n) v ts le s = rw (no_operator level ts le s) refl
 eqb_same : (m n : ℕ) → m ≡ n → eqb m n ≡ true
 eqb_same m n e = search (rules, e)
 
-more_again : {A : Type 0} (m : Making A) (lower : Reader A) (level n : ℕ) (v : A) (t : Lexeme) (ts : List Lexeme) (x : A) (rest : List Lexeme) → rank t.kind ≡ level → lower ts ≡ Ok (x, rest) → more m lower level (suc n) v (t ∷ ts) ≡ more m lower level n (m.joined t v x) rest
+pub more_again : {A : Type 0} (m : Making A) (lower : Reader A) (level n : ℕ) (v : A) (t : Lexeme) (ts : List Lexeme) (x : A) (rest : List Lexeme) → rank t.kind ≡ level → lower ts ≡ Ok (x, rest) → more m lower level (suc n) v (t ∷ ts) ≡ more m lower level n (m.joined t v x) rest
 unfolding more
 more_again m lower level n v t ts x rest e h =
     let b : eqb (rank t.kind) level ≡ true = eqb_same _ _ e in

@@ -7,7 +7,7 @@ use Rattle.dt_lexeme.specs.declared.lexeme.Kind.{Kind}
 use Rattle.dt_lexeme.specs.declared.lexeme.Kind.TheVariants.{Literal, Question, Colon, Paren, EndParen}
 use Rattle.dt_expression.specs.Expression.{Expression, Number, Grouped, Prefixed, Infix, Choice, rank, is_prefix, Deeper, Begins, Takes, Spells, IsPrimary, Making, made}
 use Rattle.dt_expression.specs.Reading.{◌>>=◌}
-use Rattle.dt_expression.specs.ReadingExpressions.{Reader, closed, closed_by, primary_by, prefixed_by, unary_with, operator_at, with_operator, more, levels, otherwise, otherwise_by, chosen, chosen_by, expr_with, expr_below, unary_below, primary_made}
+use Rattle.dt_expression.specs.ReadingExpressions.{Reader, closed, closed_by, primary_by, prefixed_by, unary_with, operator_at, with_operator, more, levels, otherwise, otherwise_by, chosen, chosen_by, expr_with, expr_below, unary_below, unary_at, primary_made}
 
 -- the value of a step that did not fail
 pub bind_ok : {A B : Type 0} (r : Result A Refusal) (f : A → Result B Refusal) (y : B) → (r >>= f) ≡ Ok y → (x : A) × (r ≡ Ok x) × (f x ≡ Ok y)
@@ -155,7 +155,7 @@ more_sound m d level lower small s start (suc n) v ts w rest f e =
 found_looser : {A : Type 0} (m : Making A) (d low high : ℕ) (ts : List Lexeme) (v : A) (rest : List Lexeme) → low ≤ 10 → low ≤ high → Found m d low ts v rest → Found m d high ts v rest
 found_looser m d low high ts v rest small le f = record { tree = f.tree; spells = looser d low high f.tree ts rest small le f.spells; value = f.value }
 
-levels_sound : {A : Type 0} (m : Making A) (d : ℕ) (unary : Reader A) → Sound m d 0 unary → (level : ℕ) → level ≤ 10 → Sound m d level (levels m unary level)
+pub levels_sound : {A : Type 0} (m : Making A) (d : ℕ) (unary : Reader A) → Sound m d 0 unary → (level : ℕ) → level ≤ 10 → Sound m d level (levels m unary level)
 unfolding levels
 levels_sound m d unary s zero small = record { by = λ ts v rest e. s.by ts v rest e }
 levels_sound m d unary s (suc level) small =
@@ -225,6 +225,10 @@ below_sound m (suc d) =
     let u = unary_sound m d (expr_below m d) (unary_below m d) below.0 below.1 in
     let x = expr_sound m d (expr_below m d) (unary_with m (expr_below m d) (unary_below m d)) below.0 u in
     (record { by = λ t ts v rest e. deeper m d 11 ts v rest (x.by ts v rest e) }, record { by = λ t ts v rest e. deeper m d 0 ts v rest (u.by ts v rest e) })
+
+pub unary_at_sound : {A : Type 0} (m : Making A) (d : ℕ) → Sound m d 0 (unary_at m d)
+unfolding unary_at
+unary_at_sound m d = let below = below_sound m d in let u = unary_sound m d (expr_below m d) (unary_below m d) below.0 below.1 in record { by = λ ts v rest e. u.by ts v rest e }
 
 -- A literal or parentheses that are read are spelled so.
 pub primary_takes : {A : Type 0} (m : Making A) (ts : List Lexeme) (v : A) (rest : List Lexeme) → primary_made m ts ≡ Ok (v, rest) → FoundPrimary m 64 ts v rest

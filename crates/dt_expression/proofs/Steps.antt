@@ -1,11 +1,11 @@
 -- Reading by depth and by rank, a step at a time.
-use Rattle.std.proofs.Common.{◌≡◌, ◌⊎◌, inl, inr, subst, ◌+◌, ℕ, zero, suc, ◌-◌, ◌<◌, ◌≤◌, List, length, Ok, Err, Some, None, refl, sym, ◌∙◌, arith}
+use Rattle.std.proofs.Common.{◌≡◌, ◌⊎◌, inl, inr, subst, ℕ, zero, suc, ◌-◌, ◌<◌, ◌≤◌, List, length, Err, refl, arith}
 use Rattle.std.proofs.lemmas.Bool.{cases_lt}
 use Rattle.dt_lexeme.specs.declared.lexeme.Lexeme.{Lexeme}
 use Rattle.dt_lexeme.specs.declared.lexeme.Refusal.{Refusal}
 use Rattle.dt_expression.specs.Expression.{Making}
-use Rattle.dt_expression.specs.Reading.{◌>>=◌, Read, too_deep}
-use Rattle.dt_expression.specs.ReadingExpressions.{Reader, operator_at, more, levels, expr_below, unary_below, expr_at, unary_at}
+use Rattle.dt_expression.specs.Reading.{◌>>=◌, too_deep}
+use Rattle.dt_expression.specs.ReadingExpressions.{Reader, more, levels, expr_below, unary_below, expr_at, unary_at}
 
 pub expr_below_none : {A : Type 0} (m : Making A) (d : ℕ) (t : Lexeme) (ts : List Lexeme) → d ≡ 0 → expr_below m d t ts ≡ Err (too_deep t)
 unfolding expr_below
@@ -47,35 +47,3 @@ levels_refused m unary (suc q) r ts e h f = go (cases_lt q r) (levels_refused m 
     go : (q < r) ⊎ (r ≤ q) → (r ≤ q → levels m unary r ts ≡ Err e → levels m unary q ts ≡ Err e) → levels m unary (suc q) ts ≡ Err e
     go (inr le) at = let below : levels m unary q ts ≡ Err e = at le f in rw below refl
     go (inl lt) at = let same : r ≡ suc q = omega arith in subst (λ (x : ℕ). levels m unary x ts ≡ Err e) same f
-
--- the next rank, behind an operand of this one
-pub levels_next : {A : Type 0} (m : Making A) (unary : Reader A) (r : ℕ) (ts left : List Lexeme) (v : A) → levels m unary r ts ≡ Ok (v, left) → levels m unary (r + 1) ts ≡ more m (levels m unary (r + 1 - 1)) (r + 1) (length left) v left
-levels_next m unary r ts left v e =
-    let one : r ≡ r + 1 - 1 = omega arith in
-    let below : levels m unary (r + 1 - 1) ts ≡ Ok (v, left) = subst (λ (x : ℕ). levels m unary x ts ≡ Ok (v, left)) one e in
-    levels_some m unary (r + 1) ts (omega arith) ∙ rw below refl
-
--- one more operand
-pub more_goes_on : {A : Type 0} (m : Making A) (lower : Reader A) (level n : ℕ) (v : A) (ts : List Lexeme) (t : Lexeme) (rest : List Lexeme) (x : A) (after : List Lexeme) (total : Read A)
-    → operator_at level ts ≡ Some (t, rest) → length rest < length ts → lower rest ≡ Ok (x, after) → length after < length rest → length ts ≤ n → more m lower level n v ts ≡ total
-    → (fuel : ℕ) × (length after ≤ fuel) × (more m lower level fuel (m.joined t v x) after ≡ total)
-unfolding more
-more_goes_on m lower level zero v ts t rest x after total e s f g h k = absurd (omega arith)
-more_goes_on m lower level (suc n) v ts t rest x after total e s f g h k =
-    let one : more m lower level (suc n) v ts ≡ more m lower level n (m.joined t v x) after = rw (e, f) refl in
-    (n, omega arith, sym one ∙ k)
-
-pub more_fails : {A : Type 0} (m : Making A) (lower : Reader A) (level n : ℕ) (v : A) (ts : List Lexeme) (t : Lexeme) (rest : List Lexeme) (e : Refusal) (total : Read A)
-    → operator_at level ts ≡ Some (t, rest) → length rest < length ts → lower rest ≡ Err e → length ts ≤ n → more m lower level n v ts ≡ total → total ≡ Err e
-unfolding more
-more_fails m lower level zero v ts t rest r total e s f h k = absurd (omega arith)
-more_fails m lower level (suc n) v ts t rest r total e s f h k =
-    let one : more m lower level (suc n) v ts ≡ Err r = rw (e, f) refl in
-    sym k ∙ one
-
-pub more_stops : {A : Type 0} (m : Making A) (lower : Reader A) (level n : ℕ) (v : A) (ts : List Lexeme) (total : Read A) → operator_at level ts ≡ None → more m lower level n v ts ≡ total → total ≡ Ok (v, ts)
-unfolding more
-more_stops m lower level zero v ts total e k = sym k
-more_stops m lower level (suc n) v ts total e k =
-    let one : more m lower level (suc n) v ts ≡ Ok (v, ts) = rw e refl in
-    sym k ∙ one

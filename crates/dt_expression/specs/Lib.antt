@@ -2,4 +2,5 @@ pub mod Expression
 pub mod Values
 pub mod Reading
 pub mod ReadingExpressions
+pub mod ReadingOperators
 pub mod Element

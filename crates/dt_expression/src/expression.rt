@@ -2,12 +2,14 @@
 ghost use Rattle.std.specs.Prelude.{◌≡◌, ◌≤◌, ◌<◌, ◌-◌, length, IfOk, IfSome, option_map};
 ghost use Rattle.dt_expression.specs.Expression.{rank, is_prefix};
 ghost use Rattle.dt_expression.specs.Reading.{Gives};
+ghost use Rattle.dt_expression.specs.ReadingOperators.{is_infix, infix_at};
 ghost use Rattle.dt_expression.specs.Values.{values};
-ghost use Rattle.dt_expression.specs.ReadingExpressions.{unary_at, levels, more, expr_at, expr_below, unary_below, operator_at, closed, chosen, otherwise, primary_with, primary_at, ReadsWhatIsSpelled, ReadsAllThatIsSpelled, SpellsOne};
+ghost use Rattle.dt_expression.specs.ReadingExpressions.{unary_at, levels, expr_at, expr_below, unary_below, closed, chosen, otherwise, primary_with, primary_at, ReadsWhatIsSpelled, ReadsAllThatIsSpelled, SpellsOne};
 
 use crate::numeral::literal;
 use crate::refusals::{syntax_at, too_deep};
-use crate::value::{both, choice, prefixed};
+use crate::value::{choice, prefixed};
+use crate::waiting::Waiting;
 use dt_lexeme::{Fault, Kind, Lexeme, Refusal};
 
 /// How many levels of parentheses, operands of unary operators and choices may stand in one another.
@@ -33,6 +35,13 @@ fn rank_of(kind: Kind) -> u8
     }
 }
 
+fn is_infix(kind: Kind) -> bool
+    ensures { result ≡ is_infix kind }
+{
+    let rank = rank_of(kind);
+    1 <= rank && rank <= 10
+}
+
 fn is_prefix(kind: Kind) -> bool
     ensures { result ≡ is_prefix kind }
 {
@@ -42,13 +51,13 @@ fn is_prefix(kind: Kind) -> bool
     }
 }
 
-// An operator of this rank, and what follows it.
-fn operator<'a>(rank: u8, lexemes: &'a [Lexeme]) -> Option<(Lexeme, &'a [Lexeme])>
-    ensures gives { option_map (λ x. (x.0, x.1.now)) result ≡ operator_at rank lexemes.now }
+// An operator between two operands, and what follows it.
+fn infix<'a>(lexemes: &'a [Lexeme]) -> Option<(Lexeme, &'a [Lexeme])>
+    ensures gives { option_map (λ x. (x.0, x.1.now)) result ≡ infix_at lexemes.now }
     ensures shorter { IfSome result (λ x. length x.1.now < length lexemes.now) }
 {
     match lexemes {
-        [first, rest @ ..] if rank_of(first.kind) == rank => Some((*first, rest)),
+        [first, rest @ ..] if is_infix(first.kind) => Some((*first, rest)),
         _ => None,
     }
 }
@@ -145,49 +154,27 @@ fn unary<'a>(
     }
 }
 
-// Further operands of operators of this rank, behind a first one.
+// Operands with operators between them: each operator waits while what binds more tightly is read behind it.
 #[cycle(expression)]
-fn further<'a>(
+fn operands<'a>(
     text: &[u8],
     depth: u8,
-    rank: u8,
-    first: Result<u64, Fault>,
     lexemes: &'a [Lexeme],
 ) -> Result<(Result<u64, Fault>, &'a [Lexeme]), Refusal>
-    requires some { 1 ≤ rank }
-    requires most { rank ≤ 10 }
-    ensures gives { Gives (λ x. (x.0, x.1.now)) result (more (values text.now) (levels (values text.now) (unary_at (values text.now) depth) (rank - 1)) rank (length lexemes.now) first lexemes.now) }
-    ensures shorter { IfOk result (λ x. length x.1.now ≤ length lexemes.now) }
-{
-    let mut value = first;
-    let mut left = lexemes;
-    while let Some((t, rest)) = operator(rank, left) {
-        let (next, after) = level(text, depth, rank - 1, rest)?;
-        value = both(t, value, next);
-        left = after;
-    }
-    Ok((value, left))
-}
-
-// An operand, and further ones of each rank in turn.
-#[cycle(expression)]
-fn level<'a>(
-    text: &[u8],
-    depth: u8,
-    rank: u8,
-    lexemes: &'a [Lexeme],
-) -> Result<(Result<u64, Fault>, &'a [Lexeme]), Refusal>
-    requires { rank ≤ 10 }
-    ensures gives { Gives (λ x. (x.0, x.1.now)) result (levels (values text.now) (unary_at (values text.now) depth) rank lexemes.now) }
+    ensures gives { Gives (λ x. (x.0, x.1.now)) result (levels (values text.now) (unary_at (values text.now) depth) 10 lexemes.now) }
     ensures shorter { IfOk result (λ x. length x.1.now < length lexemes.now) }
 {
+    let mut waiting = Waiting::none();
     let (mut value, mut left) = unary(text, depth, lexemes)?;
-    for below in 0..rank {
-        let (more, after) = further(text, depth, below + 1, value, left)?;
-        value = more;
+    while let Some((operator, rest)) = infix(left) {
+        let rank = rank_of(operator.kind);
+        let before = waiting.end_up_to(rank, value);
+        waiting.put(rank, operator, before);
+        let (next, after) = unary(text, depth, rest)?;
+        value = next;
         left = after;
     }
-    Ok((value, left))
+    Ok((waiting.end_up_to(10, value), left))
 }
 
 #[cycle(expression)]
@@ -200,7 +187,7 @@ fn expr<'a>(
     ensures gives { Gives (λ x. (x.0, x.1.now)) result (expr_at (values text.now) depth lexemes.now) }
     ensures shorter { IfOk result (λ x. length x.1.now < length lexemes.now) }
 {
-    let (test, left) = level(text, depth, 10, lexemes)?;
+    let (test, left) = operands(text, depth, lexemes)?;
     choose(text, depth, test, left)
 }
 

@@ -8,6 +8,7 @@ mod expression;
 mod numeral;
 mod refusals;
 mod value;
+mod waiting;
 
 pub use elements::{Width, element, push_low_bytes, width_of};
 pub use expression::{MAX_NESTING, primary, reads_the_grammar};

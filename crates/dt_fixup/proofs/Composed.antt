@@ -2,21 +2,21 @@
 use Rattle.std.proofs.Common.{◌≡◌, ℕ, true, false, List, [], ◌∷◌, Result, Ok, Err, refl, ap, sym, ◌∙◌, true≢false}
 use Rattle.std.specs.List.{filter}
 use Rattle.dt_meaning.specs.Resolved.{Resolved}
-use Rattle.overlay_meaning.specs.Steps.{Fault, NotOverlay, then_do, fold}
-use Rattle.overlay_meaning.specs.Shifted.{Shifting, Value, fragments, is_fixups, is_mirror, raise_places, shift, shifted_overlay, some_of, with_fixups, with_phandles}
+use Rattle.dt_overlay_meaning.specs.Steps.{Fault, NotOverlay, then_do, fold}
+use Rattle.dt_overlay_meaning.specs.Shifted.{Shifting, Value, fragments, is_fixups, is_local_fixup, raise_sites, shift, shifted_overlay, some_of, with_fixups, with_phandles}
 use Rattle.dt_fixup.specs.declared.error.OverlayError.{OverlayError}
-use Rattle.dt_fixup.specs.declared.sheet.Sheet.{Sheet}
+use Rattle.dt_fixup.specs.declared.patched_overlay.PatchedOverlay.{PatchedOverlay}
 use Rattle.dt_fixup.specs.OverlayFault.{IsFault}
-use Rattle.dt_fixup.specs.Sheet.{change_at, shown}
+use Rattle.dt_fixup.specs.PatchedOverlay.{change_at, patched_lists}
 use Rattle.dt_fixup.specs.Private.Fragments.{are_some}
 use Rattle.dt_fixup.specs.Private.Steps.{IsAt, is_marked}
 use Rattle.dt_fixup.proofs.Raised.{fault-by}
 
 -- the state when the phandles have been raised
 abbrev pub raised_at : List Value → Shifting
-raised_at es = record { properties = es; places = [] }
+raised_at es = record { properties = es; sites = [] }
 
-pub starts-at : (s : Sheet) → ((k i : ℕ) → is_marked (change_at s k) i ≡ false) → IsAt (raised_at (shown s).properties) s
+pub starts-at : (s : PatchedOverlay) → ((k i : ℕ) → is_marked (change_at s k) i ≡ false) → IsAt (raised_at (patched_lists s).properties) s
 starts-at s unmarked = record { properties = refl; marks = λ k i below. unmarked k i }
 
 some-by : (fs : List (List ℕ)) → are_some fs ≡ true → some_of fs ≡ Ok fs
@@ -38,7 +38,7 @@ module _ (base over : Resolved) where
   fixed x = then_do (with_fixups base (filter is_fixups over.properties) x) (λ fs. Ok (whole fs))
 
   abbrev moved : List Value → Result Resolved Fault
-  moved es = then_do (fold (raise_places s) (filter is_mirror over.properties) (raised_at es)) fixed
+  moved es = then_do (fold (raise_sites s) (filter is_local_fixup over.properties) (raised_at es)) fixed
 
   pub fragments-refused : (e : OverlayError) → IsFault e (some_of (fragments over)) → IsFault e (shifted_overlay base over)
   fragments-refused e fault = fault-by e (some_of (fragments over)) (shifted_overlay base over) (λ f is. ap (λ r. then_do r (λ _. then_do (with_phandles s over.properties) moved)) is) fault
@@ -54,21 +54,21 @@ module _ (base over : Resolved) where
   raised some es ok = begun some ∙ ap (λ r. then_do r moved) ok
 
   pub local-refused : are_some (fragments over) ≡ true → (es : List Value) → with_phandles s over.properties ≡ Ok es → (e : OverlayError)
-      → IsFault e (fold (raise_places s) (filter is_mirror over.properties) (raised_at es)) → IsFault e (shifted_overlay base over)
+      → IsFault e (fold (raise_sites s) (filter is_local_fixup over.properties) (raised_at es)) → IsFault e (shifted_overlay base over)
   local-refused some es ok e fault =
-      fault-by e (fold (raise_places s) (filter is_mirror over.properties) (raised_at es)) (shifted_overlay base over) (λ f is. raised some es ok ∙ ap (λ r. then_do r fixed) is) fault
+      fault-by e (fold (raise_sites s) (filter is_local_fixup over.properties) (raised_at es)) (shifted_overlay base over) (λ f is. raised some es ok ∙ ap (λ r. then_do r fixed) is) fault
 
   local-done : are_some (fragments over) ≡ true → (es : List Value) → with_phandles s over.properties ≡ Ok es → (y : Shifting)
-      → fold (raise_places s) (filter is_mirror over.properties) (raised_at es) ≡ Ok y → shifted_overlay base over ≡ fixed y
+      → fold (raise_sites s) (filter is_local_fixup over.properties) (raised_at es) ≡ Ok y → shifted_overlay base over ≡ fixed y
   local-done some es ok y done = raised some es ok ∙ ap (λ r. then_do r fixed) done
 
   pub fixups-refused : are_some (fragments over) ≡ true → (es : List Value) → with_phandles s over.properties ≡ Ok es → (y : Shifting)
-      → fold (raise_places s) (filter is_mirror over.properties) (raised_at es) ≡ Ok y → (e : OverlayError) → IsFault e (with_fixups base (filter is_fixups over.properties) y)
+      → fold (raise_sites s) (filter is_local_fixup over.properties) (raised_at es) ≡ Ok y → (e : OverlayError) → IsFault e (with_fixups base (filter is_fixups over.properties) y)
       → IsFault e (shifted_overlay base over)
   fixups-refused some es ok y done e fault =
       fault-by e (with_fixups base (filter is_fixups over.properties) y) (shifted_overlay base over) (λ f is. local-done some es ok y done ∙ ap (λ r. then_do r (λ fs. Ok (whole fs))) is) fault
 
   pub all-done : are_some (fragments over) ≡ true → (es : List Value) → with_phandles s over.properties ≡ Ok es → (y : Shifting)
-      → fold (raise_places s) (filter is_mirror over.properties) (raised_at es) ≡ Ok y → (fs : List Value) → with_fixups base (filter is_fixups over.properties) y ≡ Ok fs
+      → fold (raise_sites s) (filter is_local_fixup over.properties) (raised_at es) ≡ Ok y → (fs : List Value) → with_fixups base (filter is_fixups over.properties) y ≡ Ok fs
       → shifted_overlay base over ≡ Ok (whole fs)
   all-done some es ok y done fs fixups = local-done some es ok y done ∙ ap (λ r. then_do r (λ xs. Ok (whole xs))) fixups

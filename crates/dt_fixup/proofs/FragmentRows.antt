@@ -3,14 +3,14 @@ use Rattle.std.proofs.Common.{◌≡◌, ℕ, zero, suc, ◌+◌, ◌-◌, ◌<�
 use Rattle.std.specs.List.{flat_map}
 use Rattle.dt_meaning.specs.Names.{overlay_name}
 use Rattle.dt_meaning.specs.Paths.{Path, is_listed}
-use Rattle.dt_draft.specs.declared.table.Draft.{Draft}
-use Rattle.dt_draft.specs.declared.table.NodeRow.{NodeRow}
-use Rattle.dt_draft.specs.Rows.{child_of, node_path, path_of, row_at, stands}
-use Rattle.dt_draft.proofs.Climbs.{path-step}
-use Rattle.dt_draft.proofs.NodeRows.{child-of, not-listed}
-use Rattle.dt_draft.proofs.Shown.{listed-standing}
-use Rattle.dt_listing.specs.Listed.{Lent, IsOrdered, IsWhole, lists, nodes_from}
-use Rattle.overlay_meaning.specs.Shifted.{fragment_at, fragments}
+use Rattle.dt_live.specs.declared.live_tree.LiveTree.{LiveTree}
+use Rattle.dt_live.specs.declared.live_tree.NodeRow.{NodeRow}
+use Rattle.dt_live.specs.Rows.{child_of, node_path, path_of, row_at, stands}
+use Rattle.dt_live.proofs.Climbs.{path-step}
+use Rattle.dt_live.proofs.NodeRows.{child-of, not-listed}
+use Rattle.dt_live.proofs.StandingProperties.{listed-standing}
+use Rattle.dt_live.specs.Flattened.{Lent, IsOrdered, IsWhole, lists, nodes_from}
+use Rattle.dt_overlay_meaning.specs.Shifted.{fragment_at, fragments}
 use Rattle.dt_fixup.specs.Private.Fragments.{are_some}
 
 far-down : (xs : Path) (a b : List ℕ) (nodes : List Path) → false ≡ are_some (fragment_at ((xs ++ a ∷ []) ++ b ∷ []) nodes)
@@ -22,7 +22,7 @@ one-listed : (n : List ℕ) (t : Bool) → t ≡ are_some (if t then n ∷ [] el
 one-listed n true = refl
 one-listed n false = refl
 
-module _ (d : Draft Lent) (whole : IsWhole d) where
+module _ (d : LiveTree Lent) (whole : IsWhole d) where
   abbrev rows : List NodeRow
   rows = d.nodes.items
 
@@ -65,7 +65,7 @@ module _ (d : Draft Lent) (whole : IsWhole d) where
 
 -- ---- one row after the other
 -- the fragments of so many rows from one on
-abbrev pub fragments_from : Draft Lent → ℕ → ℕ → List (List ℕ)
+abbrev pub fragments_from : LiveTree Lent → ℕ → ℕ → List (List ℕ)
 fragments_from d k m = flat_map (λ p. fragment_at p (lists d).nodes) (map (path_of d.nodes.items) (nodes_from (k + 1) m))
 
 none-before : (xs ys : List (List ℕ)) → are_some xs ≡ false → are_some (xs ++ ys) ≡ are_some ys
@@ -76,11 +76,11 @@ some-before : (xs ys : List (List ℕ)) → are_some xs ≡ true → are_some (x
 some-before [] ys some = absurd (true≢false (sym some))
 some-before (x ∷ xs) ys some = refl
 
-pub from-ordered : (d : Draft Lent) → IsOrdered d → are_some (fragments_from d 0 (length d.nodes.items)) ≡ are_some (fragments (lists d))
+pub from-ordered : (d : LiveTree Lent) → IsOrdered d → are_some (fragments_from d 0 (length d.nodes.items)) ≡ are_some (fragments (lists d))
 from-ordered d ordered = ap (λ ps. are_some (flat_map (λ p. fragment_at p (lists d).nodes) ps)) (sym ordered.nodes)
 
-pub row-skipped : (d : Draft Lent) (k m : ℕ) → are_some (fragment_at (node_path d (k + 1)) (lists d).nodes) ≡ false → are_some (fragments_from d (k + 1) m) ≡ are_some (fragments_from d k (suc m))
+pub row-skipped : (d : LiveTree Lent) (k m : ℕ) → are_some (fragment_at (node_path d (k + 1)) (lists d).nodes) ≡ false → are_some (fragments_from d (k + 1) m) ≡ are_some (fragments_from d k (suc m))
 row-skipped d k m none = sym (none-before (fragment_at (node_path d (k + 1)) (lists d).nodes) (fragments_from d (k + 1) m) none)
 
-pub row-found : (d : Draft Lent) (k m : ℕ) → are_some (fragment_at (node_path d (k + 1)) (lists d).nodes) ≡ true → are_some (fragments_from d k (suc m)) ≡ true
+pub row-found : (d : LiveTree Lent) (k m : ℕ) → are_some (fragment_at (node_path d (k + 1)) (lists d).nodes) ≡ true → are_some (fragments_from d k (suc m)) ≡ true
 row-found d k m some = some-before (fragment_at (node_path d (k + 1)) (lists d).nodes) (fragments_from d (k + 1) m) some

@@ -5,18 +5,18 @@ use Rattle.std.proofs.lemmas.Bool.{and_parts, and_from}
 use Rattle.std.proofs.lemmas.Slice.Eq.{bytes_eq-Decides}
 use Rattle.dt_meaning.specs.Paths.{Path, same_path}
 use Rattle.dt_meaning.specs.MapOf.{value_in}
-use Rattle.dt_draft.specs.declared.table.NodeRow.{NodeRow}
-use Rattle.dt_draft.specs.declared.table.PropertyRow.{PropertyRow}
-use Rattle.dt_draft.specs.declared.table.Draft.{Draft}
-use Rattle.dt_draft.specs.Rows.{child_of, no_property, path_of, property_at, property_of}
-use Rattle.dt_draft.proofs.NodeRows.{absent-present, some-is}
-use Rattle.dt_draft.proofs.PathTests.{same-is, same-itself, snoc-some}
-use Rattle.dt_listing.specs.ByRow.{lent}
-use Rattle.dt_listing.specs.Listed.{IsWhole, Lent, lists}
-use Rattle.dt_listing.proofs.LookUps.{listed-found}
-use Rattle.dt_listing.proofs.WholeDrafts.{all-entries, one-number}
-use Rattle.dt_fixup.specs.Sheet.{shown_from}
-use Rattle.dt_fixup.proofs.Listing.{from-listed}
+use Rattle.dt_live.specs.declared.live_tree.NodeRow.{NodeRow}
+use Rattle.dt_live.specs.declared.live_tree.PropertyRow.{PropertyRow}
+use Rattle.dt_live.specs.declared.live_tree.LiveTree.{LiveTree}
+use Rattle.dt_live.specs.Rows.{child_of, no_property, path_of, property_at, property_of}
+use Rattle.dt_live.proofs.NodeRows.{absent-present, some-is}
+use Rattle.dt_live.proofs.PathTests.{same-is, same-itself, snoc-some}
+use Rattle.dt_live.specs.ByRow.{lent}
+use Rattle.dt_live.specs.Flattened.{IsWhole, Lent, lists}
+use Rattle.dt_live.proofs.LookUps.{listed-found}
+use Rattle.dt_live.proofs.WholeTrees.{all-entries, one-number}
+use Rattle.dt_fixup.specs.PatchedOverlay.{patched_from}
+use Rattle.dt_fixup.proofs.Flattening.{from-listed}
 
 -- whether a row is that of the property of a name at a path
 abbrev pub is_row : (ℕ → Path) → Path → List ℕ → PropertyRow Lent → Bool
@@ -24,14 +24,14 @@ is_row path q n r = same_path q (path r.node) && bytes_eq n r.name.now
 
 -- ---- in the list
 pub value-nowhere : (path : ℕ → Path) (value : ℕ → List ℕ) (k : ℕ) (rs : List (PropertyRow Lent)) (q : Path) (n : List ℕ)
-    → ((j : ℕ) → j < length rs → is_row path q n (property_at rs j) ≡ false) → value_in (shown_from path value k rs) q n ≡ None
+    → ((j : ℕ) → j < length rs → is_row path q n (property_at rs j) ≡ false) → value_in (patched_from path value k rs) q n ≡ None
 value-nowhere path value k [] q n apart = refl
 value-nowhere path value k (r ∷ rs) q n apart =
     rw (apart 0 (omega arith)) (value-nowhere path value (k + 1) rs q n (λ j below. apart (suc j) (omega arith)))
 
 pub value-somewhere : (path : ℕ → Path) (value : ℕ → List ℕ) (k : ℕ) (rs : List (PropertyRow Lent)) (q : Path) (n : List ℕ) (i : ℕ) → i < length rs
     → is_row path q n (property_at rs i) ≡ true → ((j : ℕ) → j < i → is_row path q n (property_at rs j) ≡ false)
-    → value_in (shown_from path value k rs) q n ≡ Some (value (k + i))
+    → value_in (patched_from path value k rs) q n ≡ Some (value (k + i))
 value-somewhere path value k [] q n i below there apart = absurd (omega arith)
 value-somewhere path value k (r ∷ rs) q n zero below there apart =
     let at : k ≡ k + 0 = omega arith in
@@ -41,8 +41,8 @@ value-somewhere path value k (r ∷ rs) q n (suc i) below there apart =
     rw (apart 0 (omega arith))
     (value-somewhere path value (k + 1) rs q n i (omega arith) there (λ j under. apart (suc j) (omega arith)) ∙ ap (λ m. Some (value m)) at)
 
--- ---- a whole draft
-module _ (d : Draft Lent) (whole : IsWhole d) where
+-- ---- a whole live tree
+module _ (d : LiveTree Lent) (whole : IsWhole d) where
   abbrev rows : List NodeRow
   rows = d.nodes.items
 
@@ -52,7 +52,7 @@ module _ (d : Draft Lent) (whole : IsWhole d) where
   abbrev path : ℕ → Path
   path = path_of rows
 
-  pub listed-values : (lists d).properties ≡ shown_from path (λ k. lent (property_at ps k).value) 0 ps
+  pub listed-values : (lists d).properties ≡ patched_from path (λ k. lent (property_at ps k).value) 0 ps
   listed-values =
       all-entries d whole.sound whole.stand whole.valued
       ∙ sym (from-listed path (λ k. lent (property_at ps k).value) 0 ps (λ j below. let e : 0 + j ≡ j = omega arith in ap (λ m. lent (property_at ps m).value) e))
@@ -96,15 +96,15 @@ module _ (d : Draft Lent) (whole : IsWhole d) where
       (λ a b. other (some-is j i (sym (found-row node n known j below a b) ∙ found)))
 
   -- ---- any values of its rows
-  pub value-none : (value : ℕ → List ℕ) (node : ℕ) (n : List ℕ) → node ≤ length rows → property_of d node n ≡ None → value_in (shown_from path value 0 ps) (path node) n ≡ None
+  pub value-none : (value : ℕ → List ℕ) (node : ℕ) (n : List ℕ) → node ≤ length rows → property_of d node n ≡ None → value_in (patched_from path value 0 ps) (path node) n ≡ None
   value-none value node n known none = value-nowhere path value 0 ps (path node) n (no-row node n known none)
 
-  pub value-some : (value : ℕ → List ℕ) (node : ℕ) (n : List ℕ) (i : ℕ) → node ≤ length rows → property_of d node n ≡ Some i → value_in (shown_from path value 0 ps) (path node) n ≡ Some (value i)
+  pub value-some : (value : ℕ → List ℕ) (node : ℕ) (n : List ℕ) (i : ℕ) → node ≤ length rows → property_of d node n ≡ Some i → value_in (patched_from path value 0 ps) (path node) n ≡ Some (value i)
   value-some value node n i known found =
       let f = row-there node n i found in
       let at : 0 + i ≡ i = omega arith in
       value-somewhere path value 0 ps (path node) n i f.0 (row-is node n i found) (λ j under. row-only node n i known found j (omega (arith, f.0)) (λ e. absurd (omega (arith, e))))
       ∙ ap (λ m. Some (value m)) at
 
-  pub value-no-node : (value : ℕ → List ℕ) (q : Path) (n : List ℕ) → ((m : ℕ) → m ≤ length rows → q ≡ path m → ⊥) → value_in (shown_from path value 0 ps) q n ≡ None
+  pub value-no-node : (value : ℕ → List ℕ) (q : Path) (n : List ℕ) → ((m : ℕ) → m ≤ length rows → q ≡ path m → ⊥) → value_in (patched_from path value 0 ps) q n ≡ None
   value-no-node value q n nowhere = value-nowhere path value 0 ps q n (λ j below. no-node q n nowhere j)

@@ -7,18 +7,18 @@ use Rattle.std.proofs.lemmas.List.{map-append}
 use Rattle.std.proofs.lemmas.Nat.{from_be_bytes-to_be_bytes_4}
 use Rattle.dt_tree.specs.Phandle.{phandle_from, phandle_in}
 use Rattle.dt_meaning.specs.Paths.{Path}
-use Rattle.dt_meaning.specs.Phandles.{Number, numbered_at, has_number, is_phandle}
-use Rattle.dt_draft.specs.declared.table.PropertyRow.{PropertyRow}
-use Rattle.dt_draft.specs.Rows.{property_at}
-use Rattle.dt_listing.specs.Listed.{Lent}
-use Rattle.dt_listing.proofs.WholeRows.{entry}
-use Rattle.overlay_meaning.specs.Steps.{Fault, then_do, each}
-use Rattle.overlay_meaning.specs.Steps as meaning
-use Rattle.overlay_meaning.specs.Shifted.{Value, differ, numbered, phandle_of, phandles, raised_number, raised_phandle, with_phandles, with_value}
+use Rattle.dt_meaning.specs.Phandles.{PathPhandle, path_phandle, has_phandle, is_phandle}
+use Rattle.dt_live.specs.declared.live_tree.PropertyRow.{PropertyRow}
+use Rattle.dt_live.specs.Rows.{property_at}
+use Rattle.dt_live.specs.Flattened.{Lent}
+use Rattle.dt_live.proofs.WholeRows.{entry}
+use Rattle.dt_overlay_meaning.specs.Steps.{Fault, then_do, each}
+use Rattle.dt_overlay_meaning.specs.Steps as meaning
+use Rattle.dt_overlay_meaning.specs.Shifted.{Value, differ, path_phandles, phandle_of, phandles, raised_number, raised_phandle, with_phandles, with_value}
 use Rattle.dt_fixup.specs.declared.error.OverlayError.{OverlayError}
 use Rattle.dt_fixup.specs.declared.error.OverlayError.TheVariants.{NoMemory, NotOverlay, NoTarget, UnknownSymbol, BadFixup, PhandleOverflow, PhandleClash as Clash, TooDeep}
 use Rattle.dt_fixup.specs.OverlayFault.{IsFault}
-use Rattle.dt_fixup.specs.Sheet.{shown_from}
+use Rattle.dt_fixup.specs.PatchedOverlay.{patched_from}
 
 -- ---- faults are carried on
 pub fault-by : {A B : Type 0} (e : OverlayError) (r : Result A Fault) (q : Result B Fault) → ((f : Fault) → r ≡ Err f → q ≡ Err f) → IsFault e r → IsFault e q
@@ -37,10 +37,10 @@ each-step f a as' b bs one more = ap (λ r. then_do r (λ x. then_do (each f as'
 
 pub each-listed : (f : Value → Result Value Fault) (path : ℕ → Path) (value : ℕ → List ℕ) (k : ℕ) (rs : List (PropertyRow Lent))
     → ((i : ℕ) → i < length rs → f (entry path (property_at rs i)) ≡ Ok (with_value (entry path (property_at rs i)) (value (k + i))))
-    → each f (map (entry path) rs) ≡ Ok (shown_from path value k rs)
+    → each f (map (entry path) rs) ≡ Ok (patched_from path value k rs)
 each-listed f path value k [] all = refl
 each-listed f path value k (r ∷ rs) all =
-    each-step f (entry path r) (map (entry path) rs) (with_value (entry path r) (value k)) (shown_from path value (k + 1) rs)
+    each-step f (entry path r) (map (entry path) rs) (with_value (entry path r) (value k)) (patched_from path value (k + 1) rs)
     (all 0 (omega arith) ∙ ap (λ j. Ok (with_value (entry path r) (value j))) (omega arith))
     (each-listed f path value (k + 1) rs (λ i below. all (suc i) (omega (arith, below)) ∙ ap (λ j. Ok (with_value (entry path (property_at rs i)) (value j))) (omega arith)))
 
@@ -103,15 +103,15 @@ is-phandle : (t : Bool) (o : Option ℕ) (n : ℕ) → (if t then o else None) �
 is-phandle true o n e = (refl, e)
 is-phandle false o n e = absurd (absent-present None n refl e)
 
-abbrev up : ℕ → Number → Number
-up s x = numbered_at x.path (x.number + s)
+abbrev up : ℕ → PathPhandle → PathPhandle
+up s x = path_phandle x.path (x.phandle + s)
 
 lt-true : (m k : ℕ) → nat_lt m k ≡ true → m < k
 lt-true m k e = grind (arith, nat_tests)
 
 some-raised : (s : ℕ) (e : Value) (n : ℕ) → phandle_of e ≡ Some n → (t : Bool) → nat_lt (n + s) 4294967295 ≡ t → (f : Value)
     → then_do (if t then Ok (to_be_bytes w32 (n + s)) else Err meaning.PhandleOverflow) (λ v. Ok (with_value e v)) ≡ Ok f
-    → numbered f.path (phandle_of f) ≡ map (up s) (numbered e.path (phandle_of e))
+    → path_phandles f.path (phandle_of f) ≡ map (up s) (path_phandles e.path (phandle_of e))
 some-raised s e n is false t f ok = absurd (not-done meaning.PhandleOverflow f ok)
 some-raised s e n is true t f ok =
     let v = to_be_bytes w32 (n + s) in
@@ -119,12 +119,12 @@ some-raised s e n is true t f ok =
     let new : phandle_of (with_value e v) ≡ Some (n + s) =
     ap (λ b. if b then phandle_in v else None) parts.0
     ∙ bytes-phandle (n + s) (λ z. positive e.value n parts.1 (omega (arith, z))) (lt-true (n + s) 4294967295 t) in
-    ap (λ x. numbered x.path (phandle_of x)) (sym (done-is (with_value e v) f ok))
-    ∙ ap (numbered e.path) new ∙ sym (ap (λ o. map (up s) (numbered e.path o)) is)
+    ap (λ x. path_phandles x.path (phandle_of x)) (sym (done-is (with_value e v) f ok))
+    ∙ ap (path_phandles e.path) new ∙ sym (ap (λ o. map (up s) (path_phandles e.path o)) is)
 
-row-raised : (s : ℕ) (e f : Value) (o : Option ℕ) → phandle_of e ≡ o → raised_number s e o ≡ Ok f → numbered f.path (phandle_of f) ≡ map (up s) (numbered e.path (phandle_of e))
+row-raised : (s : ℕ) (e f : Value) (o : Option ℕ) → phandle_of e ≡ o → raised_number s e o ≡ Ok f → path_phandles f.path (phandle_of f) ≡ map (up s) (path_phandles e.path (phandle_of e))
 row-raised s e f None is ok =
-    ap (λ x. numbered x.path (phandle_of x)) (sym (done-is e f ok)) ∙ ap (numbered e.path) is ∙ sym (ap (λ o. map (up s) (numbered e.path o)) is)
+    ap (λ x. path_phandles x.path (phandle_of x)) (sym (done-is e f ok)) ∙ ap (path_phandles e.path) is ∙ sym (ap (λ o. map (up s) (path_phandles e.path o)) is)
 row-raised s e f (Some n) is ok = some-raised s e n is (nat_lt (n + s) 4294967295) refl f ok
 
 rows-by : (s : ℕ) (e : Value) (es : List Value) (r : Result Value Fault) (q : Result (List Value) Fault) (fs : List Value) → raised_phandle s e ≡ r
@@ -135,7 +135,7 @@ rows-by s e es (Ok b) (Err x) fs is more ok = absurd (not-done x fs ok)
 rows-by s e es (Ok b) (Ok bs) fs is more ok =
     ap phandles (sym (done-is (b ∷ bs) fs ok))
     ∙ ap₂ (λ xs ys. xs ++ ys) (row-raised s e b (phandle_of e) refl is) (more bs refl)
-    ∙ sym (map-append (up s) (numbered e.path (phandle_of e)) (phandles es))
+    ∙ sym (map-append (up s) (path_phandles e.path (phandle_of e)) (phandles es))
 
 phandles-raised : (s : ℕ) (es fs : List Value) → each (raised_phandle s) es ≡ Ok fs → phandles fs ≡ map (up s) (phandles es)
 phandles-raised s [] fs ok = ap phandles (sym (done-is [] fs ok))
@@ -147,13 +147,13 @@ sum-by a b s false false e f = refl
 sum-by a b s true false e f = let same : a + s ≡ b + s = eqb-true (a + s) (b + s) e in absurd (true≢false (sym (eq-eqb a b (omega (arith, same))) ∙ f))
 sum-by a b s false true e f = absurd (true≢false (sym (eq-eqb (a + s) (b + s) (ap (λ n. n + s) (eqb-true a b f))) ∙ e))
 
-has-up : (s n : ℕ) (xs : List Number) → has_number (n + s) (map (up s) xs) ≡ has_number n xs
+has-up : (s n : ℕ) (xs : List PathPhandle) → has_phandle (n + s) (map (up s) xs) ≡ has_phandle n xs
 has-up s n [] = refl
-has-up s n (x ∷ xs) = ap₂ (λ a b. a || b) (sum-by x.number n s (x.number + s == n + s) (x.number == n) refl refl) (has-up s n xs)
+has-up s n (x ∷ xs) = ap₂ (λ a b. a || b) (sum-by x.phandle n s (x.phandle + s == n + s) (x.phandle == n) refl refl) (has-up s n xs)
 
-differ-up : (s : ℕ) (xs : List Number) → differ (map (up s) xs) ≡ differ xs
+differ-up : (s : ℕ) (xs : List PathPhandle) → differ (map (up s) xs) ≡ differ xs
 differ-up s [] = refl
-differ-up s (x ∷ xs) = ap₂ (λ a b. not a && b) (has-up s x.number xs) (differ-up s xs)
+differ-up s (x ∷ xs) = ap₂ (λ a b. not a && b) (has-up s x.phandle xs) (differ-up s xs)
 
 -- ---- all phandles
 tested : (s : ℕ) (es fs : List Value) → each (raised_phandle s) es ≡ Ok fs

@@ -3,12 +3,12 @@ use Rattle.std.proofs.Common.{◌≡◌, ℕ, ◌+◌, ◌<◌, ◌≤◌, Bool,
 use Rattle.std.specs.Prelude.{Result}
 use Rattle.std.specs.List.{filter, flat_map}
 use Rattle.std.proofs.lemmas.List.{append-nil, at_drop_more, at_drop_all}
-use Rattle.dt_draft.specs.declared.table.Draft.{Draft}
-use Rattle.dt_listing.specs.ByRow.{row_property}
-use Rattle.dt_listing.specs.Listed.{Lent}
-use Rattle.overlay_meaning.specs.Steps.{Fault, BadFixup, each, then_do}
-use Rattle.overlay_meaning.specs.Shifted.{Fixup, Place, Value, fixup_in, fixups_in, is_fixups, place_of}
-use Rattle.overlay_meaning.specs.Texts.{parts}
+use Rattle.dt_live.specs.declared.live_tree.LiveTree.{LiveTree}
+use Rattle.dt_live.specs.ByRow.{row_property}
+use Rattle.dt_live.specs.Flattened.{Lent}
+use Rattle.dt_overlay_meaning.specs.Steps.{Fault, BadFixup, each, then_do}
+use Rattle.dt_overlay_meaning.specs.Shifted.{Fixup, Site, Value, fixup_in, fixups_in, is_fixups, site_of}
+use Rattle.dt_overlay_meaning.specs.Texts.{parts}
 use Rattle.dt_fixup.specs.declared.error.OverlayError.{OverlayError}
 use Rattle.dt_fixup.specs.OverlayFault.{IsFault}
 use Rattle.dt_fixup.specs.Private.Fixing.{gathered, row_fixups}
@@ -69,21 +69,21 @@ one-gathered e = by (fixups_in e) where
   by (Err f) = refl
   by (Ok a) = ap (λ xs. Ok xs) (append-nil a)
 
-pub row-fixups : (d : Draft Lent) (k : ℕ) → is_fixups (row_property d k) ≡ true → row_fixups d k ≡ fixups_in (row_property d k)
+pub row-fixups : (d : LiveTree Lent) (k : ℕ) → is_fixups (row_property d k) ≡ true → row_fixups d k ≡ fixups_in (row_property d k)
 row-fixups d k is = rw is (one-gathered (row_property d k))
 
-pub row-none : (d : Draft Lent) (k : ℕ) → is_fixups (row_property d k) ≡ false → row_fixups d k ≡ Ok []
+pub row-none : (d : LiveTree Lent) (k : ℕ) → is_fixups (row_property d k) ≡ false → row_fixups d k ≡ Ok []
 row-none d k other = rw other refl
 
 rows-split : (e : Value) (es : List Value) (b : Bool) → is_fixups e ≡ b → gathered (filter is_fixups (e ∷ es)) ≡ then_do (gathered (filter is_fixups (e ∷ []))) (λ gs. then_do (gathered (filter is_fixups es)) (λ hs. Ok (gs ++ hs)))
 rows-split e es true t = rw t (gathered-step e (filter is_fixups es) ∙ ap (λ r. then_do r (λ gs. then_do (gathered (filter is_fixups es)) (λ hs. Ok (gs ++ hs)))) (sym (one-gathered e)))
 rows-split e es false t = rw t (then-ok (gathered (filter is_fixups es)))
 
-pub rows-more : (d : Draft Lent) (k : ℕ) → k < length d.properties.items
+pub rows-more : (d : LiveTree Lent) (k : ℕ) → k < length d.properties.items
     → gathered (filter is_fixups (definitions d k)) ≡ then_do (row_fixups d k) (λ gs. then_do (gathered (filter is_fixups (definitions d (k + 1)))) (λ hs. Ok (gs ++ hs)))
 rows-more d k below' = ap (λ es. gathered (filter is_fixups es)) (definitions-step d k below') ∙ rows-split (row_property d k) (definitions d (k + 1)) (is_fixups (row_property d k)) refl
 
-pub rows-end : (d : Draft Lent) (k : ℕ) → length d.properties.items ≤ k → gathered (filter is_fixups (definitions d k)) ≡ Ok []
+pub rows-end : (d : LiveTree Lent) (k : ℕ) → length d.properties.items ≤ k → gathered (filter is_fixups (definitions d k)) ≡ Ok []
 rows-end d k past = ap (λ es. gathered (filter is_fixups es)) (definitions-end d k past)
 
 -- ---- texts
@@ -98,8 +98,8 @@ pub texts-end : (f : List ℕ → Result Fixup Fault) (all : List (List ℕ)) (i
 texts-end f all i past = at_drop_all (each f) all i past
 
 -- ---- one text
-pub text-place : (l text : List ℕ) (a : Place) → place_of (parts 58 text) ≡ Some a → fixup_in l text ≡ Ok (record { symbol = l; at = a })
-text-place l text a some = rw some refl
+pub text-site : (l text : List ℕ) (a : Site) → site_of (parts 58 text) ≡ Some a → fixup_in l text ≡ Ok (record { symbol = l; at = a })
+text-site l text a some = rw some refl
 
-pub text-none : (l text : List ℕ) → place_of (parts 58 text) ≡ None → fixup_in l text ≡ Err BadFixup
+pub text-none : (l text : List ℕ) → site_of (parts 58 text) ≡ None → fixup_in l text ≡ Err BadFixup
 text-none l text none = rw none refl

@@ -6,8 +6,8 @@ use Rattle.std.proofs.lemmas.Bool.{eqb-true, ltb-true, ltb-false}
 use Rattle.std.proofs.lemmas.List.{take_all}
 use Rattle.std.specs.List.{count_by}
 use Rattle.std.proofs.lemmas.List.Splits.{length-slice_split}
-use Rattle.overlay_meaning.specs.Shifted.{place_of}
-use Rattle.overlay_meaning.specs.Texts.{parts, unended}
+use Rattle.dt_overlay_meaning.specs.Shifted.{site_of}
+use Rattle.dt_overlay_meaning.specs.Texts.{parts, unended}
 
 -- ---- what stands before a last zero byte
 pub unended-zero : (texts : List ℕ) (b : ℕ) → b ≡ 0 → unended (texts ++ b ∷ []) ≡ Some texts
@@ -61,24 +61,24 @@ split-none p (b ∷ bytes) far = by_test (p b) refl (split-none p bytes) where
   by_test true e rest = absurd (let at : length (b ∷ bytes) ≤ 0 = rw e at far in omega arith)
   by_test false e rest = rw e (ap (λ ps. onto_first b ps) (rest (let at : length (b ∷ bytes) ≤ 1 + position_or_len p bytes = rw e at far in omega arith)))
 
-place-is : (p n at : ℕ) (t : Bool) → nat_lt p n ≡ t → cond t (Some p) None ≡ Some at → (p ≡ at) × (p < n)
-place-is p n at true e h = (cc, ltb-true p n e)
-place-is p n at false e h = cc
+site-is : (p n at : ℕ) (t : Bool) → nat_lt p n ≡ t → cond t (Some p) None ≡ Some at → (p ≡ at) × (p < n)
+site-is p n at true e h = (cc, ltb-true p n e)
+site-is p n at false e h = cc
 
-no-place : (p n : ℕ) (t : Bool) → nat_lt p n ≡ t → cond t (Some p) None ≡ None → n ≤ p
-no-place p n true e h = cc
-no-place p n false e h = ltb-false p n e
+no-site : (p n : ℕ) (t : Bool) → nat_lt p n ≡ t → cond t (Some p) None ≡ None → n ≤ p
+no-site p n true e h = cc
+no-site p n false e h = ltb-false p n e
 
 pub first-part : (p : ℕ → Bool) (bytes : List ℕ) (at : ℕ) → position p bytes ≡ Some at
     → slice_split p bytes ≡ take at bytes ∷ slice_split p (take (length bytes - (at + 1)) (drop (at + 1) bytes))
 first-part p bytes at found =
-    let is = place-is (position_or_len p bytes) (length bytes) at _ refl found in
+    let is = site-is (position_or_len p bytes) (length bytes) at _ refl found in
     let within : at < length bytes = rw is.0 at is.1 in
     rw (take_all (length bytes - (at + 1)) (drop (at + 1) bytes) (simp length-drop (omega arith)))
     (rw add-one (split-first p bytes at is.0 within))
 
 pub no-part : (p : ℕ → Bool) (bytes : List ℕ) → position p bytes ≡ None → slice_split p bytes ≡ bytes ∷ []
-no-part p bytes none = split-none p bytes (no-place (position_or_len p bytes) (length bytes) _ refl none)
+no-part p bytes none = split-none p bytes (no-site (position_or_len p bytes) (length bytes) _ refl none)
 
 -- ---- how great a number of so many digits is
 abbrev pub tens : ℕ → ℕ
@@ -98,9 +98,9 @@ pub tens-most : (k : ℕ) → k ≤ 9 → tens k ≤ 1000000000
 tens-most k le = tens-more k (9 - k) 9 (omega arith)
 
 -- ---- more than three parts name no place
-more-parts : (p n d : List ℕ) (ps : List (List ℕ)) (k : ℕ) → length ps ≡ k + 1 → place_of (p ∷ n ∷ d ∷ ps) ≡ None
+more-parts : (p n d : List ℕ) (ps : List (List ℕ)) (k : ℕ) → length ps ≡ k + 1 → site_of (p ∷ n ∷ d ∷ ps) ≡ None
 more-parts p n d [] k e = absurd (omega arith)
 more-parts p n d (x ∷ xs) k e = refl
 
-pub no-fourth : (p n d more : List ℕ) → place_of (p ∷ n ∷ d ∷ parts 58 more) ≡ None
+pub no-fourth : (p n d more : List ℕ) → site_of (p ∷ n ∷ d ∷ parts 58 more) ≡ None
 no-fourth p n d more = more-parts p n d (parts 58 more) (count_by (λ b. b == 58) more) (length-slice_split (λ b. b == 58) more)

@@ -5,28 +5,28 @@ use Rattle.std.specs.Int.{to_be_bytes, w32}
 use Rattle.std.specs.List.{flat_map}
 use Rattle.std.proofs.lemmas.List.{drop_all}
 use Rattle.dt_meaning.specs.Resolved.{Resolved}
-use Rattle.dt_draft.specs.declared.table.Draft.{Draft}
-use Rattle.dt_listing.specs.Listed.{Lent}
-use Rattle.overlay_meaning.specs.Steps.{Fault, UnknownSymbol, each, fold, then_do}
-use Rattle.overlay_meaning.specs.Shifted.{Fixup, Shifting, Value, fixups_in, resolve, symbol_phandle, with_fixups, write_at}
+use Rattle.dt_live.specs.declared.live_tree.LiveTree.{LiveTree}
+use Rattle.dt_live.specs.Flattened.{Lent}
+use Rattle.dt_overlay_meaning.specs.Steps.{Fault, UnknownSymbol, each, fold, then_do}
+use Rattle.dt_overlay_meaning.specs.Shifted.{Fixup, Shifting, Value, fixups_in, resolve, symbol_phandle, with_fixups, write_at}
 use Rattle.dt_fixup.specs.declared.error.OverlayError.{OverlayError}
 use Rattle.dt_fixup.specs.OverlayFault.{IsFault}
 use Rattle.dt_fixup.proofs.LocalSteps.{fault-then}
-use Rattle.dt_fixup.specs.declared.opening.Opened.{Opened}
+use Rattle.dt_fixup.specs.declared.taken_sites.TakenSite.{TakenSite}
 use Rattle.dt_fixup.specs.Private.Fixing.{gathered}
-use Rattle.dt_fixup.specs.Private.Opening.{opening}
-use Rattle.dt_fixup.proofs.OpeningLaws.{takes}
+use Rattle.dt_fixup.specs.Private.TakenSites.{fixup_taken}
+use Rattle.dt_fixup.proofs.TakenSiteLaws.{takes}
 
--- ---- one place
+-- ---- one site
 abbrev pub writes : Resolved → List Fixup → List Value → Result (List Value) Fault
 writes base fs es = fold (resolve base) fs es
 
-pub writes-more : (base : Resolved) (d : Draft Lent) (all : List Opened) (i : ℕ) (o : Opened) → i < length all → o ≡ get_or all i o → (es : List Value)
-    → writes base (map (opening d) (drop i all)) es ≡ then_do (resolve base (opening d o) es) (writes base (map (opening d) (drop (i + 1) all)))
-writes-more base d all i o below is es = ap (λ os. writes base (map (opening d) os) es) (drop-cons all i o below ∙ ap₂ (λ g m. g ∷ drop m all) (sym is) (sym (add-one i)))
+pub writes-more : (base : Resolved) (d : LiveTree Lent) (all : List TakenSite) (i : ℕ) (o : TakenSite) → i < length all → o ≡ get_or all i o → (es : List Value)
+    → writes base (map (fixup_taken d) (drop i all)) es ≡ then_do (resolve base (fixup_taken d o) es) (writes base (map (fixup_taken d) (drop (i + 1) all)))
+writes-more base d all i o below is es = ap (λ os. writes base (map (fixup_taken d) os) es) (drop-cons all i o below ∙ ap₂ (λ g m. g ∷ drop m all) (sym is) (sym (add-one i)))
 
-pub writes-end : (base : Resolved) (d : Draft Lent) (all : List Opened) (i : ℕ) → length all ≤ i → (es : List Value) → writes base (map (opening d) (drop i all)) es ≡ Ok es
-writes-end base d all i past es = ap (λ os. writes base (map (opening d) os) es) (drop_all i all past)
+pub writes-end : (base : Resolved) (d : LiveTree Lent) (all : List TakenSite) (i : ℕ) → length all ≤ i → (es : List Value) → writes base (map (fixup_taken d) (drop i all)) es ≡ Ok es
+writes-end base d all i past es = ap (λ os. writes base (map (fixup_taken d) os) es) (drop_all i all past)
 
 pub resolve-none : (base : Resolved) (f : Fixup) (es : List Value) → symbol_phandle base f.symbol ≡ None → resolve base f es ≡ Err UnknownSymbol
 resolve-none base f es none = rw none refl

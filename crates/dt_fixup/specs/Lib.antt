@@ -1,4 +1,4 @@
 pub mod OverlayError
 pub mod OverlayFault
+pub mod PatchedOverlay
 pub mod Private
-pub mod Sheet

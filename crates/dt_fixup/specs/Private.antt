@@ -1,9 +1,9 @@
 -- What private contracts cite. No public clause rests on it.
-pub mod Fragments
+pub mod FixedNodes
 pub mod Fixing
+pub mod Fragments
 pub mod Marks
-pub mod Opening
 pub mod Rows
 pub mod Steps
-pub mod Twins
+pub mod TakenSites
 pub mod Walk

@@ -1,11 +1,11 @@
-//! A value that was changed, and the bytes of its places.
+//! A value that was changed, and the bytes of its fixup sites.
 ghost use Rattle.std.specs.Prelude.{◌≡◌, ◌+◌, ◌≤◌, ◌||◌, ℕ, Some, length, OnOk, OnErr};
 ghost use Rattle.std.specs.Int.{to_be_bytes, w32};
-ghost use Rattle.overlay_meaning.specs.Shifted.{written};
+ghost use Rattle.dt_overlay_meaning.specs.Shifted.{written};
 ghost use Rattle.dt_fixup.specs.Private.Marks as marks;
 ghost use Rattle.dt_fixup.specs.Private.Steps.{is_marked};
 
-use crate::sheet::Change;
+use crate::patched_overlay::Change;
 use std::alloc::AllocError;
 
 impl Change {
@@ -27,7 +27,7 @@ impl Change {
         false
     }
 
-    /// Whether one of the four bytes at an offset is that of a place.
+    /// Whether one of the four bytes at an offset is that of a site.
     pub(crate) fn is_taken(&self, offset: usize) -> bool
         requires { offset + 4 ≤ length self.now.bytes.items }
         ensures { result ≡ marks.is_taken (Some self.now) offset }
@@ -51,7 +51,7 @@ impl Change {
         Ok(())
     }
 
-    /// Marks the four bytes at an offset as those of a place.
+    /// Marks the four bytes at an offset as those of a site.
     pub(crate) fn mark(&mut self, offset: usize) -> Result<(), AllocError>
         requires { offset + 4 ≤ length self.old.bytes.items }
         ensures bytes { self.new.bytes ≡ self.old.bytes }

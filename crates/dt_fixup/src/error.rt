@@ -16,7 +16,7 @@ pub enum OverlayError {
     NoTarget,
     #[error("the base has no such symbol, or its node has no phandle")]
     UnknownSymbol,
-    #[error("a fixup that names no place for a phandle")]
+    #[error("a fixup that names no site for a phandle")]
     BadFixup,
     #[error("a phandle would be 0xffffffff or more")]
     PhandleOverflow,

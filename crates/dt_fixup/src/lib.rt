@@ -1,27 +1,27 @@
 //! Overlays with their phandles above those of a base, and with their fixups resolved.
 //!
-//! dtc's dt-object-internal, sections 2 and 3, and `overlay_meaning` say what is done.
+//! dtc's dt-object-internal, sections 2 and 3, and `dt_overlay_meaning` say what is done.
 #![tactic(auto)]
 
 mod change;
 mod error;
+mod fixed_nodes;
 mod fixups;
 mod fragments;
 mod local;
-mod opening;
+mod patched_overlay;
 mod phandle;
-mod placing;
 mod raising;
 mod reading;
-mod sheet;
 mod shifting;
+mod sites;
 mod symbols;
+mod taken_sites;
 mod texts;
-mod twins;
 mod writing;
 
 pub use error::OverlayError;
+pub use patched_overlay::{Change, PatchedOverlay};
 pub use phandle::row_phandle;
-pub use sheet::{Change, Sheet};
 pub use shifting::shift;
 pub use texts::ended_path;

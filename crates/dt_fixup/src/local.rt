@@ -1,94 +1,95 @@
-//! Local fixups: the places of an overlay's own phandles.
+//! Local fixups: the sites of an overlay's own phandles.
 ghost use Rattle.std.specs.Prelude.{◌≡◌, ◌<◌, ◌∷◌, [], true, drop, length};
 ghost use Rattle.std.specs.List.{filter};
-ghost use Rattle.dt_listing.specs.ByRow.{lent};
-ghost use Rattle.dt_listing.specs.Listed.{lists};
+ghost use Rattle.dt_live.specs.ByRow.{lent};
+ghost use Rattle.dt_live.specs.Flattened.{lists};
 ghost use Rattle.dt_meaning.specs.Edits.{definition};
 ghost use Rattle.dt_meaning.specs.Names.{local_fixups_name};
 ghost use Rattle.dt_meaning.specs.Paths.{is_within};
-ghost use Rattle.dt_draft.specs.Rows.{IsNode, node_path, property_at};
-ghost use Rattle.overlay_meaning.specs.Steps.{fold};
-ghost use Rattle.overlay_meaning.specs.Shifted.{is_mirror, place, raise_at, raise_places};
-ghost use Rattle.dt_fixup.specs.Sheet.{IsSheet};
-ghost use Rattle.dt_fixup.specs.Private.Twins.{IsTwin};
+ghost use Rattle.dt_live.specs.Rows.{IsNode, node_path, property_at};
+ghost use Rattle.dt_overlay_meaning.specs.Steps.{fold};
+ghost use Rattle.dt_overlay_meaning.specs.Shifted.{is_local_fixup, site, raise_at, raise_sites};
+ghost use Rattle.dt_fixup.specs.PatchedOverlay.{IsPatched};
+ghost use Rattle.dt_fixup.specs.Private.FixedNodes.{IsFixedNode};
 ghost use Rattle.dt_fixup.specs.Private.Walk.{IsStep, property_step};
 
 use crate::error::OverlayError;
-use crate::placing::take_place;
+use crate::fixed_nodes::{FixedNode, all_fixed_nodes};
+use crate::patched_overlay::PatchedOverlay;
 use crate::raising::raised;
-use crate::sheet::{Sheet, number_in};
-use crate::twins::{Twin, all_twins};
+use crate::sites::take_site;
+use dt_tree::cell_at;
 use std::alloc::Global;
 
-/// Raises the number at a place.
+/// Raises the phandle at a site.
 fn raise_in<'t>(
-    sheet: &mut Sheet<'t>,
+    patched: &mut PatchedOverlay<'t>,
     node: usize,
     name: &'t [u8],
     offset: usize,
     shift: usize,
 ) -> Result<(), OverlayError>
-    requires sound { IsSheet sheet.old }
-    requires known { IsNode sheet.old.draft node }
-    ensures sound { IsSheet sheet.new }
-    ensures draft { sheet.new.draft ≡ sheet.old.draft }
-    ensures step { IsStep (raise_at shift (place (node_path sheet.old.draft node) name.now offset)) sheet.old sheet.new result }
+    requires sound { IsPatched patched.old }
+    requires known { IsNode patched.old.live node }
+    ensures sound { IsPatched patched.new }
+    ensures live { patched.new.live ≡ patched.old.live }
+    ensures step { IsStep (raise_at shift (site (node_path patched.old.live node) name.now offset)) patched.old patched.new result }
 {
-    let row = take_place(sheet, node, name, offset)?;
-    let number = match raised(sheet.number_at(row, offset), shift) {
+    let row = take_site(patched, node, name, offset)?;
+    let number = match raised(patched.number_at(row, offset), shift) {
         Ok(number) => number,
         Err(error) => return Err(error),
     };
-    sheet.write(row, offset, number)?;
+    patched.write(row, offset, number)?;
     Ok(())
 }
 
-/// Raises the number at a place that a local fixup names.
-fn raise_mirrored<'t>(
-    sheet: &mut Sheet<'t>,
-    mirror: usize,
-    twin: Twin,
+/// Raises the phandle at a site that a local fixup names.
+fn raise_site<'t>(
+    patched: &mut PatchedOverlay<'t>,
+    local_node: usize,
+    fixed_node: FixedNode,
     name: &'t [u8],
     offset: usize,
     shift: usize,
 ) -> Result<(), OverlayError>
-    requires sound { IsSheet sheet.old }
-    requires twin { IsTwin sheet.old.draft.nodes.items (node_path sheet.old.draft mirror) twin }
-    requires mirror { is_within (local_fixups_name ∷ []) (node_path sheet.old.draft mirror) ≡ true }
-    ensures sound { IsSheet sheet.new }
-    ensures draft { sheet.new.draft ≡ sheet.old.draft }
-    ensures step { IsStep (raise_at shift (place (drop 1 (node_path sheet.old.draft mirror)) name.now offset)) sheet.old sheet.new result }
+    requires sound { IsPatched patched.old }
+    requires fixed_node { IsFixedNode patched.old.live.nodes.items (node_path patched.old.live local_node) fixed_node }
+    requires local_node { is_within (local_fixups_name ∷ []) (node_path patched.old.live local_node) ≡ true }
+    ensures sound { IsPatched patched.new }
+    ensures live { patched.new.live ≡ patched.old.live }
+    ensures step { IsStep (raise_at shift (site (drop 1 (node_path patched.old.live local_node)) name.now offset)) patched.old patched.new result }
 {
-    let Twin::Node(node) = twin else {
+    let FixedNode::Node(node) = fixed_node else {
         return Err(OverlayError::BadFixup);
     };
-    raise_in(sheet, node, name, offset, shift)?;
+    raise_in(patched, node, name, offset, shift)?;
     Ok(())
 }
 
-/// Raises the numbers at the places that one property's local fixup names.
+/// Raises the phandles at the sites that one property's local fixup names.
 fn raise_value<'t>(
-    sheet: &mut Sheet<'t>,
-    mirror: usize,
-    twin: Twin,
+    patched: &mut PatchedOverlay<'t>,
+    local_node: usize,
+    fixed_node: FixedNode,
     name: &'t [u8],
     value: &[u8],
     shift: usize,
 ) -> Result<(), OverlayError>
-    requires sound { IsSheet sheet.old }
-    requires twin { IsTwin sheet.old.draft.nodes.items (node_path sheet.old.draft mirror) twin }
-    requires mirror { is_within (local_fixups_name ∷ []) (node_path sheet.old.draft mirror) ≡ true }
-    ensures sound { IsSheet sheet.new }
-    ensures draft { sheet.new.draft ≡ sheet.old.draft }
-    ensures step { IsStep (raise_places shift (definition (node_path sheet.old.draft mirror) name.now value.now)) sheet.old sheet.new result }
+    requires sound { IsPatched patched.old }
+    requires fixed_node { IsFixedNode patched.old.live.nodes.items (node_path patched.old.live local_node) fixed_node }
+    requires local_node { is_within (local_fixups_name ∷ []) (node_path patched.old.live local_node) ≡ true }
+    ensures sound { IsPatched patched.new }
+    ensures live { patched.new.live ≡ patched.old.live }
+    ensures step { IsStep (raise_sites shift (definition (node_path patched.old.live local_node) name.now value.now)) patched.old patched.new result }
 {
     let count = value.len() / 4;
     if count * 4 != value.len() {
         return Err(OverlayError::BadFixup);
     }
     for k in 0..count {
-        let offset = number_in(value, k * 4) as usize;
-        if let Err(error) = raise_mirrored(sheet, mirror, twin, name, offset, shift) {
+        let offset = cell_at(value, k * 4) as usize;
+        if let Err(error) = raise_site(patched, local_node, fixed_node, name, offset, shift) {
             return Err(error);
         }
     }
@@ -105,42 +106,49 @@ pub(crate) fn lent<'t>(value: Option<&'t [u8]>) -> &'t [u8]
 }
 
 /// Raises what a property's local fixup names, where it is one.
-fn raise_row<'t>(
-    sheet: &mut Sheet<'t>,
-    twin: Twin,
+fn raise_local_fixup<'t>(
+    patched: &mut PatchedOverlay<'t>,
+    fixed_node: FixedNode,
     row: usize,
     shift: usize,
 ) -> Result<(), OverlayError>
-    requires sound { IsSheet sheet.old }
-    requires known { row < length sheet.old.draft.properties.items }
-    requires twin { IsTwin sheet.old.draft.nodes.items (node_path sheet.old.draft (property_at sheet.old.draft.properties.items row).node) twin }
-    ensures sound { IsSheet sheet.new }
-    ensures draft { sheet.new.draft ≡ sheet.old.draft }
-    ensures step { IsStep (property_step shift sheet.old.draft row) sheet.old sheet.new result }
+    requires sound { IsPatched patched.old }
+    requires known { row < length patched.old.live.properties.items }
+    requires fixed_node { IsFixedNode patched.old.live.nodes.items (node_path patched.old.live (property_at patched.old.live.properties.items row).node) fixed_node }
+    ensures sound { IsPatched patched.new }
+    ensures live { patched.new.live ≡ patched.old.live }
+    ensures step { IsStep (property_step shift patched.old.live row) patched.old patched.new result }
 {
-    let property = sheet.draft.properties()[row];
-    if let Twin::NoMirror = twin {
+    let property = patched.live.properties()[row];
+    if let FixedNode::NotLocal = fixed_node {
         return Ok(());
     }
     let value = lent(property.value);
-    raise_value(sheet, property.node, twin, property.name, value, shift)
+    raise_value(
+        patched,
+        property.node,
+        fixed_node,
+        property.name,
+        value,
+        shift,
+    )
 }
 
-/// Raises the numbers at the places that the local fixups name, in order of these.
+/// Raises the phandles at the sites that the local fixups name, in order of these.
 pub(crate) fn raise_local<'t>(
     alloc: Global,
-    sheet: &mut Sheet<'t>,
+    patched: &mut PatchedOverlay<'t>,
     shift: usize,
 ) -> Result<(), OverlayError>
-    requires sound { IsSheet sheet.old }
-    ensures sound { IsSheet sheet.new }
-    ensures draft { sheet.new.draft ≡ sheet.old.draft }
-    ensures step { IsStep (fold (raise_places shift) (filter is_mirror (lists sheet.old.draft).properties)) sheet.old sheet.new result }
+    requires sound { IsPatched patched.old }
+    ensures sound { IsPatched patched.new }
+    ensures live { patched.new.live ≡ patched.old.live }
+    ensures step { IsStep (fold (raise_sites shift) (filter is_local_fixup (lists patched.old.live).properties)) patched.old patched.new result }
 {
-    let twins = all_twins(alloc, &sheet.draft)?;
-    for row in 0..sheet.draft.properties().len() {
-        let node = sheet.draft.properties()[row].node;
-        if let Err(error) = raise_row(sheet, twins[node], row, shift) {
+    let fixed_nodes = all_fixed_nodes(alloc, &patched.live)?;
+    for row in 0..patched.live.properties().len() {
+        let node = patched.live.properties()[row].node;
+        if let Err(error) = raise_local_fixup(patched, fixed_nodes[node], row, shift) {
             return Err(error);
         }
     }

@@ -1,52 +1,51 @@
 //! The fixups that an overlay's texts name.
 ghost use Rattle.std.specs.Prelude.{◌<◌, [], length, map};
 ghost use Rattle.std.specs.List.{filter};
-ghost use Rattle.dt_listing.specs.Listed.{IsWhole, lists};
+ghost use Rattle.dt_live.specs.Flattened.{IsWhole, lists};
 ghost use Rattle.dt_meaning.specs.Edits.{definition};
-ghost use Rattle.overlay_meaning.specs.Steps.{each};
-ghost use Rattle.overlay_meaning.specs.Shifted as meaning;
-ghost use Rattle.overlay_meaning.specs.Shifted.{fixup_in, fixups_in};
-ghost use Rattle.overlay_meaning.specs.Texts.{parts};
-ghost use Rattle.dt_fixup.specs.Private.Fixing.{Adds, gathered, named, row_fixups};
+ghost use Rattle.dt_overlay_meaning.specs.Steps.{each};
+ghost use Rattle.dt_overlay_meaning.specs.Shifted as meaning;
+ghost use Rattle.dt_overlay_meaning.specs.Shifted.{fixup_in, fixups_in};
+ghost use Rattle.dt_overlay_meaning.specs.Texts.{parts};
+ghost use Rattle.dt_fixup.specs.Private.Fixing.{Adds, gathered, fixup_named, row_fixups};
 
 use crate::error::OverlayError;
 use crate::local::lent;
-use crate::texts::{PlaceText, place_in, unended};
-use dt_draft::Draft;
-use dt_layout::is_root_child;
+use crate::texts::{SiteText, site_in, unended};
+use dt_live::{LiveTree, is_root_child};
 use std::alloc::Global;
 
 /// A fixup as its text names it, with the name of the symbol.
 #[derive(Clone, Copy)]
-pub(crate) struct Named<'t> {
+pub(crate) struct NamedSite<'t> {
     pub symbol: &'t [u8],
-    pub place: PlaceText<'t>,
+    pub site: SiteText<'t>,
 }
 
 /// Adds the fixups of texts between zero bytes.
 fn read_texts<'t>(
-    found: &mut Vec<Named<'t>>,
+    found: &mut Vec<NamedSite<'t>>,
     symbol: &'t [u8],
     texts: &'t [u8],
 ) -> Result<(), OverlayError>
-    ensures { Adds (each (fixup_in symbol.now) (parts 0 texts.now)) (map named found.old.items) (map named found.new.items) result }
+    ensures { Adds (each (fixup_in symbol.now) (parts 0 texts.now)) (map fixup_named found.old.items) (map fixup_named found.new.items) result }
 {
     for text in texts.split(|byte| *byte == 0) {
-        let Some(place) = place_in(text) else {
+        let Some(site) = site_in(text) else {
             return Err(OverlayError::BadFixup);
         };
-        found.push(Named { symbol, place })?;
+        found.push(NamedSite { symbol, site })?;
     }
     Ok(())
 }
 
 /// Adds the fixups of a property.
 fn read_value<'t>(
-    found: &mut Vec<Named<'t>>,
+    found: &mut Vec<NamedSite<'t>>,
     symbol: &'t [u8],
     value: &'t [u8],
 ) -> Result<(), OverlayError>
-    ensures { Adds (fixups_in (definition [] symbol.now value.now)) (map named found.old.items) (map named found.new.items) result }
+    ensures { Adds (fixups_in (definition [] symbol.now value.now)) (map fixup_named found.old.items) (map fixup_named found.new.items) result }
 {
     match unended(value) {
         None => Err(OverlayError::BadFixup),
@@ -56,16 +55,16 @@ fn read_value<'t>(
 
 /// Adds the fixups of a property's row, where it has some.
 fn read_row<'t>(
-    found: &mut Vec<Named<'t>>,
-    draft: &Draft<'t, &'t [u8]>,
+    found: &mut Vec<NamedSite<'t>>,
+    live: &LiveTree<'t, &'t [u8]>,
     row: usize,
 ) -> Result<(), OverlayError>
-    requires whole { IsWhole draft.now }
-    requires known { row < length draft.now.properties.items }
-    ensures { Adds (row_fixups draft.now row) (map named found.old.items) (map named found.new.items) result }
+    requires whole { IsWhole live.now }
+    requires known { row < length live.now.properties.items }
+    ensures { Adds (row_fixups live.now row) (map fixup_named found.old.items) (map fixup_named found.new.items) result }
 {
-    let property = draft.properties()[row];
-    if !is_root_child(draft.nodes(), property.node, b"__fixups__".as_slice()) {
+    let property = live.properties()[row];
+    if !is_root_child(live.nodes(), property.node, b"__fixups__".as_slice()) {
         return Ok(());
     }
     read_value(found, property.name, lent(property.value))
@@ -73,14 +72,14 @@ fn read_row<'t>(
 
 /// Adds all fixups of an overlay, in order.
 pub(crate) fn read_fixups<'t>(
-    found: &mut Vec<Named<'t>>,
-    draft: &Draft<'t, &'t [u8]>,
+    found: &mut Vec<NamedSite<'t>>,
+    live: &LiveTree<'t, &'t [u8]>,
 ) -> Result<(), OverlayError>
-    requires whole { IsWhole draft.now }
-    ensures { Adds (gathered (filter meaning.is_fixups (lists draft.now).properties)) (map named found.old.items) (map named found.new.items) result }
+    requires whole { IsWhole live.now }
+    ensures { Adds (gathered (filter meaning.is_fixups (lists live.now).properties)) (map fixup_named found.old.items) (map fixup_named found.new.items) result }
 {
-    for row in 0..draft.properties().len() {
-        if let Err(error) = read_row(found, draft, row) {
+    for row in 0..live.properties().len() {
+        if let Err(error) = read_row(found, live, row) {
             return Err(error);
         }
     }

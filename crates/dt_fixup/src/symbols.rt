@@ -1,18 +1,18 @@
 //! The phandles of the nodes that a base's symbols name.
 ghost use Rattle.std.specs.Prelude.{◌≡◌, ◌<◌, ◌∷◌, [], None, Some, length, unwrap_or, MatchOption};
 ghost use Rattle.dt_tree.specs.Path.{path_names};
-ghost use Rattle.dt_listing.specs.ByRow.{lent};
-ghost use Rattle.dt_listing.specs.Listed.{IsWhole, lists};
+ghost use Rattle.dt_live.specs.ByRow.{lent};
+ghost use Rattle.dt_live.specs.Flattened.{IsWhole, lists};
 ghost use Rattle.dt_meaning.specs.MapOf.{value_in};
 ghost use Rattle.dt_meaning.specs.Names.{symbols_name};
-ghost use Rattle.dt_draft.specs.Rows.{property_at};
-ghost use Rattle.overlay_meaning.specs.Shifted as meaning;
-ghost use Rattle.overlay_meaning.specs.Texts as texts;
+ghost use Rattle.dt_live.specs.Rows.{property_at};
+ghost use Rattle.dt_overlay_meaning.specs.Shifted as meaning;
+ghost use Rattle.dt_overlay_meaning.specs.Texts as texts;
 
 use crate::local::lent;
 use crate::phandle::row_phandle;
 use crate::texts::ended_path;
-use dt_draft::{Draft, PropertyRow};
+use dt_live::{LiveTree, PropertyRow};
 
 fn row_value<'t>(rows: &[PropertyRow<'t, &'t [u8]>], row: usize) -> &'t [u8]
     requires { row < length rows.now }
@@ -22,7 +22,7 @@ fn row_value<'t>(rows: &[PropertyRow<'t, &'t [u8]>], row: usize) -> &'t [u8]
 }
 
 /// The path that a symbol names.
-fn symbol_path<'t>(base: &Draft<'t, &'t [u8]>, symbol: &'t [u8]) -> Option<&'t [u8]>
+fn symbol_path<'t>(base: &LiveTree<'t, &'t [u8]>, symbol: &'t [u8]) -> Option<&'t [u8]>
     requires { IsWhole base.now }
     ensures { MatchOption result (texts.ended_path (unwrap_or (value_in (lists base.now).properties (symbols_name ∷ []) symbol.now) []) ≡ None) (λ path. texts.ended_path (unwrap_or (value_in (lists base.now).properties (symbols_name ∷ []) symbol.now) []) ≡ Some (path_names path.now)) }
 {
@@ -37,7 +37,7 @@ fn symbol_path<'t>(base: &Draft<'t, &'t [u8]>, symbol: &'t [u8]) -> Option<&'t [
 }
 
 /// The phandle of the node that a symbol names.
-pub(crate) fn symbol_phandle<'t>(base: &Draft<'t, &'t [u8]>, symbol: &'t [u8]) -> Option<u32>
+pub(crate) fn symbol_phandle<'t>(base: &LiveTree<'t, &'t [u8]>, symbol: &'t [u8]) -> Option<u32>
     requires { IsWhole base.now }
     ensures { result ≡ meaning.symbol_phandle (lists base.now) symbol.now }
 {

@@ -2,14 +2,14 @@
 ghost use Rattle.std.specs.Prelude.{◌≡◌, ◌≤◌, ◌∷◌, ◌++◌, ◌==◌, [], true, Some, None, length, IfSome, MatchOption};
 ghost use Rattle.std.specs.List.{position, slice_split};
 ghost use Rattle.dt_tree.specs.Path.{is_path, path_names};
-ghost use Rattle.overlay_meaning.specs.Shifted.{place, place_of};
-ghost use Rattle.overlay_meaning.specs.Texts.{ended_path, offset_in, parts, unended};
+ghost use Rattle.dt_overlay_meaning.specs.Shifted.{site, site_of};
+ghost use Rattle.dt_overlay_meaning.specs.Texts.{ended_path, offset_in, parts, unended};
 
 use dt_tree::{is_name, is_path};
 
-/// A place as a text names it: the path of a node, the name of a property, an offset in its value.
+/// A fixup site as a text names it: the path of a node, the name of a property, an offset in its value.
 #[derive(Clone, Copy)]
-pub(crate) struct PlaceText<'t> {
+pub(crate) struct SiteText<'t> {
     pub path: &'t [u8],
     pub name: &'t [u8],
     pub offset: usize,
@@ -73,9 +73,9 @@ fn first_part(text: &[u8]) -> Option<(&[u8], &[u8])>
     Some((&text[..end], &text[end + 1..]))
 }
 
-/// The place that a text `path:property:offset` names.
-pub(crate) fn place_in<'t>(text: &'t [u8]) -> Option<PlaceText<'t>>
-    ensures { MatchOption result (place_of (parts 58 text.now) ≡ None) (λ found. place_of (parts 58 text.now) ≡ Some (place (path_names found.path.now) found.name.now found.offset)) }
+/// The fixup site that a text `path:property:offset` names.
+pub(crate) fn site_in<'t>(text: &'t [u8]) -> Option<SiteText<'t>>
+    ensures { MatchOption result (site_of (parts 58 text.now) ≡ None) (λ found. site_of (parts 58 text.now) ≡ Some (site (path_names found.path.now) found.name.now found.offset)) }
 {
     let Some((path, behind)) = first_part(text) else {
         return None;
@@ -95,5 +95,5 @@ pub(crate) fn place_in<'t>(text: &'t [u8]) -> Option<PlaceText<'t>>
     if !is_name(name) {
         return None;
     }
-    Some(PlaceText { path, name, offset })
+    Some(SiteText { path, name, offset })
 }

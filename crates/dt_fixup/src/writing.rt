@@ -1,24 +1,24 @@
-//! The phandles that are written at the places of fixups.
+//! The phandles that are written at fixup sites.
 ghost use Rattle.std.specs.Prelude.{◌≡◌, ◌∷◌, [], ℕ, All, Some, Ok, map, length, IfSome, MatchResult, OnOk};
-ghost use Rattle.dt_listing.specs.Listed.{IsWhole, lists};
-ghost use Rattle.overlay_meaning.specs.Steps.{fold};
-ghost use Rattle.overlay_meaning.specs.Shifted as meaning;
-ghost use Rattle.overlay_meaning.specs.Shifted.{resolve, write_at};
+ghost use Rattle.dt_live.specs.Flattened.{IsWhole, lists};
+ghost use Rattle.dt_overlay_meaning.specs.Steps.{fold};
+ghost use Rattle.dt_overlay_meaning.specs.Shifted as meaning;
+ghost use Rattle.dt_overlay_meaning.specs.Shifted.{resolve, write_at};
 ghost use Rattle.std.specs.Int.{to_be_bytes, w32};
 ghost use Rattle.dt_fixup.specs.OverlayFault.{IsFault};
-ghost use Rattle.dt_fixup.specs.Sheet.{IsSheet, shown, value_at};
-ghost use Rattle.dt_fixup.specs.Private.Opening.{IsInside, opening};
+ghost use Rattle.dt_fixup.specs.PatchedOverlay.{IsPatched, patched_lists, value_at};
+ghost use Rattle.dt_fixup.specs.Private.TakenSites.{IsInside, fixup_taken};
 
 use crate::error::OverlayError;
-use crate::opening::Opened;
-use crate::sheet::Sheet;
+use crate::patched_overlay::PatchedOverlay;
 use crate::symbols::symbol_phandle;
-use dt_draft::Draft;
+use crate::taken_sites::TakenSite;
+use dt_live::LiveTree;
 use std::alloc::AllocError;
 
 /// The phandle of a symbol that was looked up last, else looks it up.
 fn known_phandle<'t>(
-    base: &Draft<'t, &'t [u8]>,
+    base: &LiveTree<'t, &'t [u8]>,
     last: Option<(&'t [u8], u32)>,
     symbol: &'t [u8],
 ) -> Option<u32>
@@ -34,39 +34,43 @@ fn known_phandle<'t>(
     symbol_phandle(base, symbol)
 }
 
-/// Writes the phandle of a symbol's node at a place.
-fn write_place<'t>(sheet: &mut Sheet<'t>, place: Opened<'t>, phandle: u32) -> Result<(), AllocError>
-    requires sound { IsSheet sheet.old }
-    requires inside { IsInside sheet.old place }
-    ensures sound { IsSheet sheet.new }
-    ensures draft { sheet.new.draft ≡ sheet.old.draft }
-    ensures lengths { OnOk result ((k : ℕ) → length (value_at sheet.new k) ≡ length (value_at sheet.old k)) }
-    ensures written { OnOk result ((shown sheet.new).properties ≡ write_at (opening sheet.old.draft place.entry).at (to_be_bytes w32 phandle) (shown sheet.old).properties) }
+/// Writes the phandle of a symbol's node at a site.
+fn write_site<'t>(
+    patched: &mut PatchedOverlay<'t>,
+    site: TakenSite<'t>,
+    phandle: u32,
+) -> Result<(), AllocError>
+    requires sound { IsPatched patched.old }
+    requires inside { IsInside patched.old site }
+    ensures sound { IsPatched patched.new }
+    ensures live { patched.new.live ≡ patched.old.live }
+    ensures lengths { OnOk result ((k : ℕ) → length (value_at patched.new k) ≡ length (value_at patched.old k)) }
+    ensures written { OnOk result ((patched_lists patched.new).properties ≡ write_at (fixup_taken patched.old.live site.entry).at (to_be_bytes w32 phandle) (patched_lists patched.old).properties) }
 {
-    sheet.write(place.row, place.offset, phandle)?;
+    patched.write(site.row, site.offset, phandle)?;
     Ok(())
 }
 
-/// Writes the phandles of the symbols' nodes at the places, in order. A symbol is looked up once for places in a row.
-pub(crate) fn write_places<'t>(
-    base: &Draft<'t, &'t [u8]>,
-    sheet: &mut Sheet<'t>,
-    places: &[Opened<'t>],
+/// Writes the phandles of the symbols' nodes at the sites, in order. A symbol is looked up once for sites in a row.
+pub(crate) fn write_sites<'t>(
+    base: &LiveTree<'t, &'t [u8]>,
+    patched: &mut PatchedOverlay<'t>,
+    sites: &[TakenSite<'t>],
 ) -> Result<(), OverlayError>
     requires base { IsWhole base.now }
-    requires sound { IsSheet sheet.old }
-    requires inside { All (IsInside sheet.old) places.now }
-    ensures sound { IsSheet sheet.new }
-    ensures draft { sheet.new.draft ≡ sheet.old.draft }
-    ensures written { MatchResult result (λ _. fold (resolve (lists base.now)) (map (opening sheet.old.draft) places.now) (shown sheet.old).properties ≡ Ok (shown sheet.new).properties) (λ e. IsFault e (fold (resolve (lists base.now)) (map (opening sheet.old.draft) places.now) (shown sheet.old).properties)) }
+    requires sound { IsPatched patched.old }
+    requires inside { All (IsInside patched.old) sites.now }
+    ensures sound { IsPatched patched.new }
+    ensures live { patched.new.live ≡ patched.old.live }
+    ensures written { MatchResult result (λ _. fold (resolve (lists base.now)) (map (fixup_taken patched.old.live) sites.now) (patched_lists patched.old).properties ≡ Ok (patched_lists patched.new).properties) (λ e. IsFault e (fold (resolve (lists base.now)) (map (fixup_taken patched.old.live) sites.now) (patched_lists patched.old).properties)) }
 {
     let mut last = None;
-    for place in places {
-        let Some(phandle) = known_phandle(base, last, place.symbol) else {
+    for site in sites {
+        let Some(phandle) = known_phandle(base, last, site.symbol) else {
             return Err(OverlayError::UnknownSymbol);
         };
-        last = Some((place.symbol, phandle));
-        write_place(sheet, *place, phandle)?;
+        last = Some((site.symbol, phandle));
+        write_site(patched, *site, phandle)?;
     }
     Ok(())
 }

@@ -1,4 +1,4 @@
--- The path of a node as the list of the names below the root, on the way to it (Devicetree Specification v0.4, section 2.2.3).
+-- The path of a node as the list of the names from below the root down to it (Devicetree Specification v0.4, section 2.2.3).
 use Rattle.std.specs.Prelude.{ℕ, Bool, true, false, ◌&&◌, ◌||◌, not, List, [], ◌∷◌, Option, Some, None, if◌then◌else◌}
 use Rattle.std.specs.Str.{bytes_eq}
 

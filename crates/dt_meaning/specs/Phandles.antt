@@ -7,45 +7,45 @@ use Rattle.dt_meaning.specs.Paths.{Path, same_path, is_listed}
 use Rattle.dt_meaning.specs.Syntax.{Piece, Plain, PhandleOf, PathOf}
 use Rattle.dt_meaning.specs.Edits.{Definition, State}
 use Rattle.dt_meaning.specs.Statements.{Fault, BadPhandle, DuplicatePhandle, then_do}
-use Rattle.dt_meaning.specs.References.{preorder, Found, Bytes, Cell, Open, Way}
+use Rattle.dt_meaning.specs.References.{preorder, Found, Bytes, Cell, Open, PathText}
 
 -- the phandle of a node
-pub record Number : Type 0 where
+pub record PathPhandle : Type 0 where
   pub path : Path
-  pub number : ℕ
+  pub phandle : ℕ
 
-abbrev pub numbered_at : Path → ℕ → Number
-numbered_at p n = record { path = p; number = n }
+abbrev pub path_phandle : Path → ℕ → PathPhandle
+path_phandle p n = record { path = p; phandle = n }
 
-abbrev pub has_number : ℕ → List Number → Bool
-has_number n xs = list_any (λ x. x.number == n) xs
+abbrev pub has_phandle : ℕ → List PathPhandle → Bool
+has_phandle n xs = list_any (λ x. x.phandle == n) xs
 
 -- ---- given: the properties `phandle` outside the reserved nodes
 abbrev pub is_phandle : {V : Type 0} → Definition V → Bool
 is_phandle e = bytes_eq e.name (codes "phandle") && not (is_reserved e.path)
 
 -- only four plain bytes give a phandle
-abbrev pub number_in : List Piece → Option ℕ
-number_in [] = None
-number_in (Plain b ∷ []) = phandle_in b
-number_in (Plain b ∷ v ∷ vs) = None
-number_in (PhandleOf t ∷ vs) = None
-number_in (PathOf t ∷ vs) = None
+abbrev pub phandle_value : List Piece → Option ℕ
+phandle_value [] = None
+phandle_value (Plain b ∷ []) = phandle_in b
+phandle_value (Plain b ∷ v ∷ vs) = None
+phandle_value (PhandleOf t ∷ vs) = None
+phandle_value (PathOf t ∷ vs) = None
 
-abbrev pub given_one : Path → Option ℕ → List Number → Result (List Number) Fault
+abbrev pub given_one : Path → Option ℕ → List PathPhandle → Result (List PathPhandle) Fault
 given_one p None xs = Err BadPhandle
-given_one p (Some n) xs = if has_number n xs then Err DuplicatePhandle else Ok (xs ++ numbered_at p n ∷ [])
+given_one p (Some n) xs = if has_phandle n xs then Err DuplicatePhandle else Ok (xs ++ path_phandle p n ∷ [])
 
-abbrev pub given_of : List (Definition (List Piece)) → List Number → Result (List Number) Fault
+abbrev pub given_of : List (Definition (List Piece)) → List PathPhandle → Result (List PathPhandle) Fault
 given_of [] xs = Ok xs
-given_of (e ∷ es) xs = if is_phandle e then then_do (given_one e.path (number_in e.value) xs) (given_of es) else given_of es xs
+given_of (e ∷ es) xs = if is_phandle e then then_do (given_one e.path (phandle_value e.value) xs) (given_of es) else given_of es xs
 
 -- ---- wanted: the nodes without one that are named in cells, and with symbols the labelled ones
 abbrev pub cell_path : Found → List Path
 cell_path (Cell p) = p ∷ []
 cell_path (Bytes b) = []
 cell_path (Open l) = []
-cell_path (Way p) = []
+cell_path (PathText p) = []
 
 abbrev pub named_in_cells : List (Definition (List Found)) → List Path
 named_in_cells es = flat_map (λ e. flat_map cell_path e.value) es
@@ -58,16 +58,16 @@ abbrev pub new_ones : List Path → List Path → List Path
 new_ones seen [] = []
 new_ones seen (p ∷ ps) = if is_listed p seen then new_ones seen ps else p ∷ new_ones (p ∷ seen) ps
 
-abbrev pub wanted : {V : Type 0} → Bool → State V → List Number → List (Definition (List Found)) → List Path
+abbrev pub wanted : {V : Type 0} → Bool → State V → List PathPhandle → List (Definition (List Found)) → List Path
 wanted symbols s given es = new_ones (map (λ x. x.path) given) (named_in_cells es ++ (if symbols then labelled s else []))
 
 -- ---- the k-th wanted node gets the k-th positive number that isn't given
 -- the first number above n that isn't given; one of so many and one more is
-abbrev pub next_free : ℕ → List Number → ℕ → ℕ
+abbrev pub next_free : ℕ → List PathPhandle → ℕ → ℕ
 next_free zero given n = n + 1
-next_free (suc tries) given n = if has_number (n + 1) given then next_free tries given (n + 1) else n + 1
+next_free (suc tries) given n = if has_phandle (n + 1) given then next_free tries given (n + 1) else n + 1
 
 -- the numbers above n, in order
-abbrev pub numbered : List Number → ℕ → List Path → List Number
-numbered given n [] = []
-numbered given n (p ∷ ps) = let m = next_free (length given) given n in numbered_at p m ∷ numbered given m ps
+abbrev pub assigned : List PathPhandle → ℕ → List Path → List PathPhandle
+assigned given n [] = []
+assigned given n (p ∷ ps) = let m = next_free (length given) given n in path_phandle p m ∷ assigned given m ps

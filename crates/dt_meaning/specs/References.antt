@@ -30,7 +30,7 @@ pub data Found : Type 0 where
   Bytes : List ℕ → Found
   Cell : Path → Found
   Open : List ℕ → Found
-  Way : Path → Found
+  PathText : Path → Found
 
 abbrev pub cell_at : Path → Result Found Fault
 cell_at p = if is_reserved p then Err ReservedName else Ok (Cell p)
@@ -48,7 +48,7 @@ cell_of false s (OfPath t) = then_do (found (OfPath t) s) cell_at
 
 abbrev pub found_in : {V : Type 0} → Bool → State V → Piece → Result Found Fault
 found_in plugin s (Plain b) = Ok (Bytes b)
-found_in plugin s (PathOf t) = then_do (found t s) (λ p. Ok (Way p))
+found_in plugin s (PathOf t) = then_do (found t s) (λ p. Ok (PathText p))
 found_in plugin s (PhandleOf t) = cell_of plugin s t
 
 abbrev pub each : {A B : Type 0} → (A → Result B Fault) → List A → Result (List B) Fault

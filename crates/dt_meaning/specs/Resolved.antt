@@ -10,8 +10,8 @@ use Rattle.dt_meaning.specs.Syntax.{Piece, Meaning}
 use Rattle.dt_meaning.specs.Edits.{Definition, definition, Label, State}
 use Rattle.dt_meaning.specs.Statements.{Fault, ReservedName, TooDeep, then_do, edited}
 use Rattle.dt_meaning.specs.References.{Found, in_order, references}
-use Rattle.dt_meaning.specs.Phandles.{Number, given_of, new_ones, wanted, numbered}
-use Rattle.dt_meaning.specs.Fixups.{value_bytes, places, fixups, local_fixups}
+use Rattle.dt_meaning.specs.Phandles.{PathPhandle, given_of, new_ones, wanted, assigned}
+use Rattle.dt_meaning.specs.Fixups.{value_bytes, sites, fixups, local_fixups}
 
 -- a tree whose values are bytes: its nodes below the root and its properties, each in order of definition
 pub record Resolved : Type 0 where
@@ -28,11 +28,11 @@ abbrev pub with_more : List (Definition (List ℕ)) → Resolved → Resolved
 with_more es r = record { nodes = r.nodes ++ new_ones [] (flat_map (λ e. fronts e.path) es); properties = r.properties ++ es }
 
 -- ---- what is added
-abbrev pub with_bytes : List Number → Definition (List Found) → Definition (List ℕ)
+abbrev pub with_bytes : List PathPhandle → Definition (List Found) → Definition (List ℕ)
 with_bytes xs e = definition e.path e.name (value_bytes xs e.value)
 
-abbrev pub phandle_property : Number → Definition (List ℕ)
-phandle_property x = definition x.path (codes "phandle") (to_be_bytes w32 x.number)
+abbrev pub phandle_property : PathPhandle → Definition (List ℕ)
+phandle_property x = definition x.path (codes "phandle") (to_be_bytes w32 x.phandle)
 
 abbrev pub symbol : Label → Definition (List ℕ)
 symbol l = definition (symbols_name ∷ []) l.label (path_text l.path ++ 0 ∷ [])
@@ -42,10 +42,10 @@ when true xs = xs
 when false xs = []
 
 -- all, where `xs` are the phandles given and `new` those that nodes get
-abbrev pub put_together : Bool → Bool → State (List Piece) → List (Definition (List Found)) → List Number → List Number → Resolved
+abbrev pub put_together : Bool → Bool → State (List Piece) → List (Definition (List Found)) → List PathPhandle → List PathPhandle → Resolved
 put_together symbols plugin s es xs new =
-    with_more (when plugin (local_fixups (places (xs ++ new) es) []))
-    (with_more (when plugin (fixups (places (xs ++ new) es) []))
+    with_more (when plugin (local_fixups (sites (xs ++ new) es) []))
+    (with_more (when plugin (fixups (sites (xs ++ new) es) []))
     (with_more (when symbols (map symbol s.labels))
     (record { nodes = s.nodes; properties = map (with_bytes (xs ++ new)) es ++ map phandle_property new })))
 
@@ -70,7 +70,7 @@ resolved_state symbols plugin s =
     if names_taken symbols plugin s then Err ReservedName
     else then_do (given_of (in_order s) []) (λ given.
     then_do (references plugin s) (λ es.
-    shallow (put_together symbols plugin s es given (numbered given 0 (wanted symbols s given es)))))
+    shallow (put_together symbols plugin s es given (assigned given 0 (wanted symbols s given es)))))
 
 abbrev pub resolved : Bool → Meaning → Result Resolved Fault
 resolved symbols m = then_do (edited m) (resolved_state symbols m.plugin)

@@ -151,16 +151,16 @@ fragment = codes "fragment@0" ∷ []
 abbrev over : Path
 over = codes "fragment@0" ∷ overlay_name ∷ []
 
-abbrev mirror : Path
-mirror = local_fixups_name ∷ over
+abbrev local : Path
+local = local_fixups_name ∷ over
 
 abbrev pub compiled_overlay : Resolved
 compiled_overlay = record {
   nodes = fragment ∷ over ∷ (over ++ d ∷ []) ∷ (over ++ e ∷ []) ∷ (fixups_name ∷ []) ∷ (local_fixups_name ∷ [])
-      ∷ (local_fixups_name ∷ fragment) ∷ mirror ∷ (mirror ++ d ∷ []) ∷ [];
+      ∷ (local_fixups_name ∷ fragment) ∷ local ∷ (local ++ d ∷ []) ∷ [];
   properties = definition fragment (codes "target") (255 ∷ 255 ∷ 255 ∷ 255 ∷ []) ∷ definition (over ++ d ∷ []) r (cell 1)
       ∷ definition (over ++ e ∷ []) phandle (cell 1)
-      ∷ definition (fixups_name ∷ []) (codes "ocp") (codes "/fragment@0:target:0" ++ 0 ∷ []) ∷ definition (mirror ++ d ∷ []) r (cell 0) ∷ [];
+      ∷ definition (fixups_name ∷ []) (codes "ocp") (codes "/fragment@0:target:0" ++ 0 ∷ []) ∷ definition (local ++ d ∷ []) r (cell 0) ∷ [];
 }
 
 -- ---- target-path

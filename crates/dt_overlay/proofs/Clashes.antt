@@ -6,15 +6,15 @@ use Rattle.std.proofs.lemmas.Slice.Eq.{bytes_eq-Decides}
 use Rattle.dt_meaning.specs.MapOf.{value_in}
 use Rattle.dt_meaning.specs.Paths.{Path, same_path}
 use Rattle.dt_meaning.specs.Edits.{Definition, definition, is_of}
-use Rattle.dt_draft.specs.declared.table.Draft.{Draft}
-use Rattle.dt_draft.specs.declared.table.PropertyRow.{PropertyRow}
-use Rattle.dt_draft.specs.Rows.{IsDraft, is_standing, node_path, path_of, property_at, property_of, shown, stands, valued}
-use Rattle.dt_draft.specs.Index.{row_of}
-use Rattle.dt_draft.proofs.NodeRows.{absent-present}
-use Rattle.dt_draft.proofs.PathTests.{same-is, same-itself}
-use Rattle.dt_draft.proofs.PropertyRows.{rows-apart, some-of}
-use Rattle.dt_draft.proofs.Shown.{IsApart}
-use Rattle.dt_listing.specs.Listed.{Lent, lists, plain}
+use Rattle.dt_live.specs.declared.live_tree.LiveTree.{LiveTree}
+use Rattle.dt_live.specs.declared.live_tree.PropertyRow.{PropertyRow}
+use Rattle.dt_live.specs.Rows.{IsLiveTree, is_standing, node_path, path_of, property_at, property_of, standing_properties, stands, valued}
+use Rattle.dt_live.specs.Index.{row_of}
+use Rattle.dt_live.proofs.NodeRows.{absent-present}
+use Rattle.dt_live.proofs.PathTests.{same-is, same-itself}
+use Rattle.dt_live.proofs.PropertyRows.{rows-apart, some-of}
+use Rattle.dt_live.proofs.StandingProperties.{IsApart}
+use Rattle.dt_live.specs.Flattened.{Lent, lists, plain}
 
 has : List (Definition Lent) → Path → List ℕ → Bool
 has es q n = is_some (value_in (map plain es) q n)
@@ -34,9 +34,9 @@ module _ (p : ℕ → Path) (g : ℕ → Bool) (q : Path) (n : List ℕ) where
       let e = definition (p r.node) r.name.now v in
       ap (λ b. is_some (if b then Some v.now else value_in (map plain rest) q n)) (apart-test e (is_of q n e) refl (λ paths names. apart gb v rw' paths names))
 
-  pub nowhere : (rs : List (PropertyRow Lent)) → ((i : ℕ) → i < length rs → IsApart p g q n (property_at rs i)) → is_some (value_in (map plain (shown p g rs)) q n) ≡ false
+  pub nowhere : (rs : List (PropertyRow Lent)) → ((i : ℕ) → i < length rs → IsApart p g q n (property_at rs i)) → is_some (value_in (map plain (standing_properties p g rs)) q n) ≡ false
   nowhere [] apart = refl
-  nowhere (r ∷ rs) apart = past r (g r.node) r.value (shown p g rs) refl refl (apart 0 (omega arith)) ∙ nowhere rs (λ i lt. apart (suc i) (omega arith))
+  nowhere (r ∷ rs) apart = past r (g r.node) r.value (standing_properties p g rs) refl refl (apart 0 (omega arith)) ∙ nowhere rs (λ i lt. apart (suc i) (omega arith))
 
   either : (t : Bool) (v : List ℕ) (o : Option (List ℕ)) → is_some o ≡ true → is_some (if t then Some v else o) ≡ true
   either true v o e = refl
@@ -49,19 +49,19 @@ module _ (p : ℕ → Path) (g : ℕ → Bool) (q : Path) (n : List ℕ) where
   before r true (Some v) rest e = either (is_of q n (definition (p r.node) r.name.now v)) v.now (value_in (map plain rest) q n) e
 
   pub somewhere : (rs : List (PropertyRow Lent)) (i : ℕ) → i < length rs → g (property_at rs i).node ≡ true → q ≡ p (property_at rs i).node → n ≡ (property_at rs i).name.now → IsSome (property_at rs i).value
-      → is_some (value_in (map plain (shown p g rs)) q n) ≡ true
+      → is_some (value_in (map plain (standing_properties p g rs)) q n) ≡ true
   somewhere [] i lt there paths names some = absurd (omega arith)
   somewhere (r ∷ rs) zero lt there paths names some =
       let w = some-of r.value some in
       let hit : is_of q n (definition (p r.node) r.name.now w.0) ≡ true =
       and_from (same_path q (p r.node)) (bytes_eq n r.name.now) (ap (same_path q) (sym paths) ∙ same-itself q) ((bytes_eq-Decides n r.name.now).1 names) in
-      ap₂ (λ b o. is_some (value_in (map plain ((if b then valued (p r.node) r.name.now o else []) ++ shown p g rs)) q n)) there w.1
-      ∙ ap (λ b. is_some (if b then Some w.0.now else value_in (map plain (shown p g rs)) q n)) hit
+      ap₂ (λ b o. is_some (value_in (map plain ((if b then valued (p r.node) r.name.now o else []) ++ standing_properties p g rs)) q n)) there w.1
+      ∙ ap (λ b. is_some (if b then Some w.0.now else value_in (map plain (standing_properties p g rs)) q n)) hit
   somewhere (r ∷ rs) (suc i) lt there paths names some =
-      before r (g r.node) r.value (shown p g rs) (somewhere rs i (omega arith) there paths names some)
+      before r (g r.node) r.value (standing_properties p g rs) (somewhere rs i (omega arith) there paths names some)
 
 -- the property is found where the list has it
-pub look-up : (d : Draft Lent) → IsDraft d → (node : ℕ) (name : List ℕ) → is_standing d node ≡ true → (o : Option ℕ) → property_of d node name ≡ o
+pub look-up : (d : LiveTree Lent) → IsLiveTree d → (node : ℕ) (name : List ℕ) → is_standing d node ≡ true → (o : Option ℕ) → property_of d node name ≡ o
     → is_some o ≡ is_some (value_in (lists d).properties (node_path d node) name)
 look-up d sound node name there None e =
     sym (nowhere (path_of d.nodes.items) (stands d.nodes.items) (node_path d node) name d.properties.items

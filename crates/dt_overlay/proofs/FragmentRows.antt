@@ -8,44 +8,44 @@ use Rattle.std.specs.Ordering.{nat_cmp}
 use Rattle.dt_meaning.specs.Edits.{has_node}
 use Rattle.dt_meaning.specs.Names.{overlay_name}
 use Rattle.dt_meaning.specs.Paths.{Path, is_listed}
-use Rattle.dt_draft.specs.declared.table.Draft.{Draft}
-use Rattle.dt_draft.specs.Rows.{IsNode, child_of, node_path, path_of, row_at, state_of}
-use Rattle.dt_draft.proofs.Climbs.{path-step}
-use Rattle.dt_listing.specs.ByRow.{row_property}
-use Rattle.dt_listing.specs.Listed.{IsOrdered, IsWhole, Lent, lists, nodes_from}
-use Rattle.dt_listing.proofs.LookUps.{child-found}
-use Rattle.dt_fixup.specs.declared.sheet.Sheet.{Sheet}
-use Rattle.dt_fixup.specs.Sheet.{shown}
+use Rattle.dt_live.specs.declared.live_tree.LiveTree.{LiveTree}
+use Rattle.dt_live.specs.Rows.{IsNode, child_of, node_path, path_of, row_at, state_of}
+use Rattle.dt_live.proofs.Climbs.{path-step}
+use Rattle.dt_live.specs.ByRow.{row_property}
+use Rattle.dt_live.specs.Flattened.{IsOrdered, IsWhole, Lent, lists, nodes_from}
+use Rattle.dt_live.proofs.LookUps.{child-found}
+use Rattle.dt_fixup.specs.declared.patched_overlay.PatchedOverlay.{PatchedOverlay}
+use Rattle.dt_fixup.specs.PatchedOverlay.{patched_lists}
 use Rattle.dt_fixup.proofs.Phandles.{at-row, phandles_from, whole-phandles}
-use Rattle.overlay_meaning.specs.Shifted.{fragment_at, fragments, numbered, phandle_of, phandles}
-use Rattle.overlay_meaning.specs.Applied.{first_with, standing, target_by}
+use Rattle.dt_overlay_meaning.specs.Shifted.{fragment_at, fragments, path_phandles, phandle_of, phandles}
+use Rattle.dt_overlay_meaning.specs.Applied.{first_with, standing, target_by}
 use Rattle.dt_overlay.specs.declared.fragments.Fragment.{Fragment}
 use Rattle.dt_overlay.specs.Private.Fragments.{AreFragments, ArePhandles, IsBody, IsFragment, IsTarget}
 
 -- ---- targets
-pub known-target : (base : Draft Lent) (o : Option ℕ) → IfSome o (λ n. IsNode base n) → IsTarget base o
+pub known-target : (base : LiveTree Lent) (o : Option ℕ) → IfSome o (λ n. IsNode base n) → IsTarget base o
 known-target base None known = tt
 known-target base (Some n) known = known
 
-pub path-target : (base : Draft Lent) (q : Path) (o : Option ℕ) → MatchOption o (has_node q (state_of base) ≡ false) (λ n. (has_node q (state_of base) ≡ true) × (q ≡ node_path base n))
+pub path-target : (base : LiveTree Lent) (q : Path) (o : Option ℕ) → MatchOption o (has_node q (state_of base) ≡ false) (λ n. (has_node q (state_of base) ≡ true) × (q ≡ node_path base n))
     → option_map (node_path base) o ≡ standing (lists base) (Some q)
 path-target base q None e = rw e refl
 path-target base q (Some n) e = rw e.0 (ap Some (sym e.1))
 
-phandle-by : (base : Draft Lent) (found : BTreeMap ℕ ℕ) (n : ℕ) (b : Bool) → ArePhandles base found
+phandle-by : (base : LiveTree Lent) (found : BTreeMap ℕ ℕ) (n : ℕ) (b : Bool) → ArePhandles base found
     → option_map (node_path base) (if b then get nat_cmp found n else None) ≡ (if b then first_with n (phandles (lists base).properties) else None)
 phandle-by base found n true are = (are n).0
 phandle-by base found n false are = refl
 
-pub phandle-target : (base : Draft Lent) (found : BTreeMap ℕ ℕ) (v : List ℕ) (w : Option (List ℕ)) (o : Option ℕ) → ArePhandles base found
+pub phandle-target : (base : LiveTree Lent) (found : BTreeMap ℕ ℕ) (v : List ℕ) (w : Option (List ℕ)) (o : Option ℕ) → ArePhandles base found
     → o ≡ (if length v == 4 then get nat_cmp found (from_be_bytes w32 v) else None) → option_map (node_path base) o ≡ target_by (lists base) (Some v) w
 phandle-target base found v w o are is = ap (option_map (node_path base)) is ∙ phandle-by base found (from_be_bytes w32 v) (length v == 4) are
 
-known-by : (base : Draft Lent) (found : BTreeMap ℕ ℕ) (n : ℕ) (b : Bool) → ArePhandles base found → IsTarget base (if b then get nat_cmp found n else None)
+known-by : (base : LiveTree Lent) (found : BTreeMap ℕ ℕ) (n : ℕ) (b : Bool) → ArePhandles base found → IsTarget base (if b then get nat_cmp found n else None)
 known-by base found n true are = (are n).1
 known-by base found n false are = tt
 
-pub phandle-known : (base : Draft Lent) (found : BTreeMap ℕ ℕ) (v : List ℕ) (o : Option ℕ) → ArePhandles base found
+pub phandle-known : (base : LiveTree Lent) (found : BTreeMap ℕ ℕ) (v : List ℕ) (o : Option ℕ) → ArePhandles base found
     → o ≡ (if length v == 4 then get nat_cmp found (from_be_bytes w32 v) else None) → IsTarget base o
 phandle-known base found v o are is = subst (IsTarget base) (sym is) (known-by base found (from_be_bytes w32 v) (length v == 4) are)
 
@@ -55,13 +55,13 @@ abbrev pub first_of : Option Path → Option Path → Option Path
 first_of None left = left
 first_of (Some p) left = Some p
 
-abbrev pub HasFirsts : Draft Lent → (ℕ → Option ℕ) → ℕ → Type 0
+abbrev pub HasFirsts : LiveTree Lent → (ℕ → Option ℕ) → ℕ → Type 0
 HasFirsts base found k = (n : ℕ) → (first_of (option_map (node_path base) (found n)) (first_with n (phandles_from base k)) ≡ first_with n (phandles (lists base).properties)) × IsTarget base (found n)
 
 abbrev pub more_found : (ℕ → Option ℕ) → ℕ → ℕ → ℕ → Option ℕ
 more_found found number node n = if is_some (found n) then found n else (if n == number then Some node else None)
 
-put-by : (base : Draft Lent) (o : Option ℕ) (t u : Bool) (node : ℕ) (p : Path) (left : Option Path) → t ≡ u → node_path base node ≡ p
+put-by : (base : LiveTree Lent) (o : Option ℕ) (t u : Bool) (node : ℕ) (p : Path) (left : Option Path) → t ≡ u → node_path base node ≡ p
     → first_of (option_map (node_path base) (if is_some o then o else (if t then Some node else None))) left ≡ first_of (option_map (node_path base) o) (if u then Some p else left)
 put-by base (Some m) t u node p left same at = refl
 put-by base None true true node p left same at = ap Some at
@@ -69,7 +69,7 @@ put-by base None false false node p left same at = refl
 put-by base None true false node p left same at = absurd (true≢false same)
 put-by base None false true node p left same at = absurd (true≢false (sym same))
 
-known-put : (base : Draft Lent) (o : Option ℕ) (t : Bool) (node : ℕ) → IsTarget base o → IsNode base node → IsTarget base (if is_some o then o else (if t then Some node else None))
+known-put : (base : LiveTree Lent) (o : Option ℕ) (t : Bool) (node : ℕ) → IsTarget base o → IsNode base node → IsTarget base (if is_some o then o else (if t then Some node else None))
 known-put base (Some m) t node was known = was
 known-put base None true node was known = known
 known-put base None false node was known = tt
@@ -77,23 +77,23 @@ known-put base None false node was known = tt
 eqb-swap : (a b : ℕ) → (a == b) ≡ (b == a)
 eqb-swap a b = grind arith
 
-pub firsts-put : (base : Draft Lent) (found found' : ℕ → Option ℕ) (k number node : ℕ) → k < length base.properties.items → HasFirsts base found k → Some number ≡ phandle_of (row_property base k) → node_path base node ≡ (row_property base k).path
+pub firsts-put : (base : LiveTree Lent) (found found' : ℕ → Option ℕ) (k number node : ℕ) → k < length base.properties.items → HasFirsts base found k → Some number ≡ phandle_of (row_property base k) → node_path base node ≡ (row_property base k).path
     → IsNode base node → ((n : ℕ) → found' n ≡ more_found found number node n) → HasFirsts base found' (k + 1)
 firsts-put base found found' k number node lt has is at known more n =
     let p = (row_property base k).path in
     let left = first_with n (phandles_from base (k + 1)) in
     let here : first_with n (phandles_from base k) ≡ (if number == n then Some p else left) =
-    ap (first_with n) (at-row base k lt ∙ ap (λ o. numbered p o ++ phandles_from base (k + 1)) (sym is)) in (
+    ap (first_with n) (at-row base k lt ∙ ap (λ o. path_phandles p o ++ phandles_from base (k + 1)) (sym is)) in (
       ap (λ o. first_of (option_map (node_path base) o) left) (more n)
           ∙ put-by base (found n) (n == number) (number == n) node p left (eqb-swap n number) at
           ∙ ap (first_of (option_map (node_path base) (found n))) (sym here) ∙ (has n).0,
       subst (IsTarget base) (sym (more n)) (known-put base (found n) (n == number) node (has n).1 known),
     )
 
-pub firsts-same : (base : Draft Lent) (found : ℕ → Option ℕ) (k : ℕ) → k < length base.properties.items → HasFirsts base found k → None ≡ phandle_of (row_property base k) → HasFirsts base found (k + 1)
+pub firsts-same : (base : LiveTree Lent) (found : ℕ → Option ℕ) (k : ℕ) → k < length base.properties.items → HasFirsts base found k → None ≡ phandle_of (row_property base k) → HasFirsts base found (k + 1)
 firsts-same base found k lt has is n =
     let p = (row_property base k).path in (
-      ap (λ xs. first_of (option_map (node_path base) (found n)) (first_with n xs)) (sym (at-row base k lt ∙ ap (λ o. numbered p o ++ phandles_from base (k + 1)) (sym is)))
+      ap (λ xs. first_of (option_map (node_path base) (found n)) (first_with n xs)) (sym (at-row base k lt ∙ ap (λ o. path_phandles p o ++ phandles_from base (k + 1)) (sym is)))
           ∙ (has n).0,
       (has n).1,
     )
@@ -102,14 +102,14 @@ first-all : (o : Option Path) → o ≡ first_of o None
 first-all None = refl
 first-all (Some p) = refl
 
-pub firsts-all : (base : Draft Lent) (found : ℕ → Option ℕ) (k : ℕ) → phandles_from base k ≡ [] → HasFirsts base found k
+pub firsts-all : (base : LiveTree Lent) (found : ℕ → Option ℕ) (k : ℕ) → phandles_from base k ≡ [] → HasFirsts base found k
     → (n : ℕ) → (option_map (node_path base) (found n) ≡ first_with n (phandles (lists base).properties)) × IsTarget base (found n)
 firsts-all base found k none has n =
     (first-all (option_map (node_path base) (found n)) ∙ ap (λ xs. first_of (option_map (node_path base) (found n)) (first_with n xs)) (sym none) ∙ (has n).0, (has n).1)
 
 -- ---- fragments
 -- those of so many rows from one on
-abbrev pub fragments_from : Draft Lent → ℕ → ℕ → List (List ℕ)
+abbrev pub fragments_from : LiveTree Lent → ℕ → ℕ → List (List ℕ)
 fragments_from d k m = flat_map (λ p. fragment_at p (lists d).nodes) (map (path_of d.nodes.items) (nodes_from (k + 1) m))
 
 far-down : (xs : Path) (a b : List ℕ) (nodes : List Path) → fragment_at ((xs ++ a ∷ []) ++ b ∷ []) nodes ≡ []
@@ -117,7 +117,7 @@ far-down [] a b nodes = refl
 far-down (x ∷ []) a b nodes = refl
 far-down (x ∷ y ∷ ys) a b nodes = refl
 
-module _ (d : Draft Lent) (whole : IsWhole d) where
+module _ (d : LiveTree Lent) (whole : IsWhole d) where
   next : (k : ℕ) → k + 1 ≡ suc k
   next k = omega arith
 
@@ -136,7 +136,7 @@ module _ (d : Draft Lent) (whole : IsWhole d) where
 
   -- a child of the root is one where it has the child
   pub top-fragment : (k : ℕ) → k < length d.nodes.items → (row_at d.nodes.items k).parent ≡ 0 → (o : Option ℕ) → child_of d (k + 1) overlay_name ≡ o
-      → MatchOption o (fragment_at (node_path d (k + 1)) (lists d).nodes ≡ []) (λ place. IsBody d k place)
+      → MatchOption o (fragment_at (node_path d (k + 1)) (lists d).nodes ≡ []) (λ body_node. IsBody d k body_node)
   top-fragment k lt top None is =
       let rows = d.nodes.items in
       let name = (row_at rows k).name.now in
@@ -160,44 +160,44 @@ module _ (d : Draft Lent) (whole : IsWhole d) where
       }
 
 -- ---- those found so far
-pub record AreSoFar (base : Draft Lent) (s : Sheet) (list : List Fragment) (k m : ℕ) : Type 0 where
+pub record AreSoFar (base : LiveTree Lent) (s : PatchedOverlay) (list : List Fragment) (k m : ℕ) : Type 0 where
   pub names : List (List ℕ)
   pub found : AreFragments base s names list
-  pub rest : names ++ fragments_from s.draft k m ≡ fragments (shown s)
+  pub rest : names ++ fragments_from s.live k m ≡ fragments (patched_lists s)
 
-more-fragments : (base : Draft Lent) (s : Sheet) (names : List (List ℕ)) (list : List Fragment) (name : List ℕ) (f : Fragment) → AreFragments base s names list → IsFragment base s name f
+more-fragments : (base : LiveTree Lent) (s : PatchedOverlay) (names : List (List ℕ)) (list : List Fragment) (name : List ℕ) (f : Fragment) → AreFragments base s names list → IsFragment base s name f
     → AreFragments base s (names ++ name ∷ []) (list ++ f ∷ [])
 more-fragments base s [] [] name f are is = (is, tt)
 more-fragments base s [] (g ∷ gs) name f are is = absurd are
 more-fragments base s (n ∷ ns) [] name f are is = absurd are
 more-fragments base s (n ∷ ns) (g ∷ gs) name f are is = (are.0, more-fragments base s ns gs name f are.1 is)
 
-pub none-found : (base : Draft Lent) (s : Sheet) → IsOrdered s.draft → AreSoFar base s [] 0 (length s.draft.nodes.items)
-none-found base s ordered = record { names = []; found = tt; rest = ap (flat_map (λ p. fragment_at p (lists s.draft).nodes)) (sym ordered.nodes) }
+pub none-found : (base : LiveTree Lent) (s : PatchedOverlay) → IsOrdered s.live → AreSoFar base s [] 0 (length s.live.nodes.items)
+none-found base s ordered = record { names = []; found = tt; rest = ap (flat_map (λ p. fragment_at p (lists s.live).nodes)) (sym ordered.nodes) }
 
-pub row-skipped : (base : Draft Lent) (s : Sheet) (list : List Fragment) (k m : ℕ) → fragment_at (node_path s.draft (k + 1)) (lists s.draft).nodes ≡ [] → AreSoFar base s list k (suc m) → AreSoFar base s list (k + 1) m
+pub row-skipped : (base : LiveTree Lent) (s : PatchedOverlay) (list : List Fragment) (k m : ℕ) → fragment_at (node_path s.live (k + 1)) (lists s.live).nodes ≡ [] → AreSoFar base s list k (suc m) → AreSoFar base s list (k + 1) m
 row-skipped base s list k m none so = record {
   names = so.names;
   found = so.found;
-  rest = ap (λ xs. so.names ++ (xs ++ fragments_from s.draft (k + 1) m)) (sym none) ∙ so.rest;
+  rest = ap (λ xs. so.names ++ (xs ++ fragments_from s.live (k + 1) m)) (sym none) ∙ so.rest;
 }
 
-pub row-found : (base : Draft Lent) (s : Sheet) (list : List Fragment) (k m : ℕ) (f : Fragment) (place : ℕ) (b : IsBody s.draft k place) → IsFragment base s b.name f → AreSoFar base s list k (suc m) → AreSoFar base s (list ++ f ∷ []) (k + 1) m
-row-found base s list k m f place b is so = record {
+pub row-found : (base : LiveTree Lent) (s : PatchedOverlay) (list : List Fragment) (k m : ℕ) (f : Fragment) (body_node : ℕ) (b : IsBody s.live k body_node) → IsFragment base s b.name f → AreSoFar base s list k (suc m) → AreSoFar base s (list ++ f ∷ []) (k + 1) m
+row-found base s list k m f body_node b is so = record {
   names = so.names ++ b.name ∷ [];
   found = more-fragments base s so.names list b.name f so.found is;
   rest =
-      append_assoc so.names (b.name ∷ []) (fragments_from s.draft (k + 1) m)
-      ∙ ap (λ xs. so.names ++ (xs ++ fragments_from s.draft (k + 1) m)) (sym b.fragment) ∙ so.rest;
+      append_assoc so.names (b.name ∷ []) (fragments_from s.live (k + 1) m)
+      ∙ ap (λ xs. so.names ++ (xs ++ fragments_from s.live (k + 1) m)) (sym b.fragment) ∙ so.rest;
 }
 
-pub all-found : (base : Draft Lent) (s : Sheet) (list : List Fragment) (k m : ℕ) → m ≡ 0 → AreSoFar base s list k m → AreFragments base s (fragments (shown s)) list
+pub all-found : (base : LiveTree Lent) (s : PatchedOverlay) (list : List Fragment) (k m : ℕ) → m ≡ 0 → AreSoFar base s list k m → AreFragments base s (fragments (patched_lists s)) list
 all-found base s list k m none so =
     subst (λ (ns : List (List ℕ)). AreFragments base s ns list)
-    (sym (append-nil so.names) ∙ ap (λ j. so.names ++ fragments_from s.draft k j) (sym none) ∙ so.rest) so.found
+    (sym (append-nil so.names) ∙ ap (λ j. so.names ++ fragments_from s.live k j) (sym none) ∙ so.rest) so.found
 
 -- in an empty map
-pub nothing-found : (base : Draft Lent) → IsWhole base → (found : BTreeMap ℕ ℕ) → found.entries ≡ [] → HasFirsts base (get nat_cmp found) 0
+pub nothing-found : (base : LiveTree Lent) → IsWhole base → (found : BTreeMap ℕ ℕ) → found.entries ≡ [] → HasFirsts base (get nat_cmp found) 0
 nothing-found base whole found empty n =
     let none : get nat_cmp found n ≡ None = rw empty refl in (
       ap (λ o. first_of (option_map (node_path base) o) (first_with n (phandles_from base 0))) none ∙ ap (first_with n) (sym (whole-phandles base whole)),

@@ -8,17 +8,17 @@ use Rattle.dt_tree.specs.Name.{is_name, are_names}
 use Rattle.dt_meaning.specs.Paths.{Path, is_listed}
 use Rattle.dt_meaning.specs.Edits.{Definition, definition, is_of, put}
 use Rattle.dt_meaning.specs.Resolved.{Resolved, is_too_deep}
-use Rattle.dt_draft.specs.declared.table.Draft.{Draft}
-use Rattle.dt_draft.specs.declared.table.PropertyRow.{PropertyRow}
-use Rattle.dt_draft.specs.Rows.{no_property, no_row, node_path, path_of, row_at}
-use Rattle.dt_draft.proofs.Climbs.{path-step}
-use Rattle.dt_listing.specs.ByRow.{is_named}
-use Rattle.dt_listing.specs.Listed.{IsWhole, Lent, lists}
-use Rattle.dt_listing.proofs.WholeDrafts.{whole-nodes-named, whole-properties-named}
-use Rattle.dt_fixup.specs.declared.sheet.Sheet.{Sheet}
-use Rattle.dt_fixup.specs.Sheet.{IsSheet, shown, shown_from, value_at}
-use Rattle.overlay_meaning.specs.Steps.{Fault, PhandleClash, TooDeep}
-use Rattle.overlay_meaning.specs.Applied.{clashes, merged, moved, moved_value, with_node, with_nodes, with_values}
+use Rattle.dt_live.specs.declared.live_tree.LiveTree.{LiveTree}
+use Rattle.dt_live.specs.declared.live_tree.PropertyRow.{PropertyRow}
+use Rattle.dt_live.specs.Rows.{no_property, no_row, node_path, path_of, row_at}
+use Rattle.dt_live.proofs.Climbs.{path-step}
+use Rattle.dt_live.specs.ByRow.{is_named}
+use Rattle.dt_live.specs.Flattened.{IsWhole, Lent, lists}
+use Rattle.dt_live.proofs.WholeTrees.{whole-nodes-named, whole-properties-named}
+use Rattle.dt_fixup.specs.declared.patched_overlay.PatchedOverlay.{PatchedOverlay}
+use Rattle.dt_fixup.specs.PatchedOverlay.{IsPatched, patched_lists, patched_from, value_at}
+use Rattle.dt_overlay_meaning.specs.Steps.{Fault, PhandleClash, TooDeep}
+use Rattle.dt_overlay_meaning.specs.Applied.{clashes, merged, moved, moved_value, with_node, with_nodes, with_values}
 use Rattle.dt_overlay.specs.Private.Merging.{merged_at, part_below}
 
 abbrev Value : Type 0
@@ -124,7 +124,7 @@ merged-at-lawful over b None t r ol named tl e = absurd (cc)
 merged-at-lawful over b (Some p) t r ol named tl e = merged-lawful (part_below over b p) t r (part-lawful over b p ol (named p refl)) tl e
 
 -- ---- rows
-module _ (d : Draft Lent) (whole : IsWhole d) where
+module _ (d : LiveTree Lent) (whole : IsWhole d) where
   pub path-named : (f n : ℕ) → n ≤ f → n ≤ length d.nodes.items → are_names (node_path d n) ≡ true
   path-named f zero le known = refl
   path-named zero (suc k) le known = absurd (omega arith)
@@ -137,13 +137,13 @@ module _ (d : Draft Lent) (whole : IsWhole d) where
   pub whole-lawful : IsLawful (lists d)
   whole-lawful = record { nodes = whole-nodes-named d whole; properties = whole-properties-named d whole }
 
-shown-named : (path : ℕ → Path) (value : ℕ → List ℕ) (k : ℕ) (rs : List (PropertyRow Lent)) → All (λ r. is_name r.name.now ≡ true) rs → list_all is_named (shown_from path value k rs) ≡ true
-shown-named path value k [] all = refl
-shown-named path value k (r ∷ rs) all =
-    and_from (is_name r.name.now) (list_all is_named (shown_from path value (k + 1) rs)) (all 0 no_property (omega arith)) (shown-named path value (k + 1) rs (λ j x lt. all (suc j) x (omega arith)))
+patched_lists-named : (path : ℕ → Path) (value : ℕ → List ℕ) (k : ℕ) (rs : List (PropertyRow Lent)) → All (λ r. is_name r.name.now ≡ true) rs → list_all is_named (patched_from path value k rs) ≡ true
+patched_lists-named path value k [] all = refl
+patched_lists-named path value k (r ∷ rs) all =
+    and_from (is_name r.name.now) (list_all is_named (patched_from path value (k + 1) rs)) (all 0 no_property (omega arith)) (patched_lists-named path value (k + 1) rs (λ j x lt. all (suc j) x (omega arith)))
 
-pub sheet-lawful : (s : Sheet) → IsSheet s → IsLawful (shown s)
-sheet-lawful s sound = record {
-  nodes = (whole-lawful s.draft sound.whole).nodes;
-  properties = shown-named (path_of s.draft.nodes.items) (value_at s) 0 s.draft.properties.items sound.whole.named_properties;
+pub patched-lawful : (s : PatchedOverlay) → IsPatched s → IsLawful (patched_lists s)
+patched-lawful s sound = record {
+  nodes = (whole-lawful s.live sound.whole).nodes;
+  properties = patched_lists-named (path_of s.live.nodes.items) (value_at s) 0 s.live.properties.items sound.whole.named_properties;
 }

@@ -1,13 +1,25 @@
 mod ApplySteps
+pub mod Clashes
+pub mod Folded
+pub mod FragmentRows
+pub mod Lawful
 mod MakingApart
 mod MakingNodes
 mod MakingRuns
 mod MakingSteps
+pub mod PartLists
+pub mod PartNodes
+pub mod PartSteps
+pub mod PartValues
 mod Shallows
 mod Sizes
+pub mod SymbolLeads
 mod SymbolLengths
+pub mod SymbolRows
 mod SymbolSizes
 mod SymbolSteps
+pub mod SymbolTexts
+pub mod SymbolsFound
 mod UnionClashes
 mod UnionFold
 mod UnionMerged
@@ -16,15 +28,3 @@ mod UnionPaths
 mod UnionShifted
 mod UnionSymbols
 mod UnionTrees
-pub mod Clashes
-pub mod Folded
-pub mod FragmentRows
-pub mod Lawful
-pub mod PartLists
-pub mod PartNodes
-pub mod PartSteps
-pub mod PartValues
-pub mod SymbolLeads
-pub mod SymbolRows
-pub mod SymbolTexts
-pub mod SymbolsFound

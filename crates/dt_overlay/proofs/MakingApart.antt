@@ -7,17 +7,17 @@ use Rattle.dt_tree.specs.Sound.{is_among, are_distinct}
 use Rattle.dt_meaning.specs.Paths.{Path, same_path}
 use Rattle.dt_meaning.specs.Edits.{Definition}
 use Rattle.dt_meaning.specs.References.{held}
-use Rattle.dt_draft.specs.declared.table.Draft.{Draft}
-use Rattle.dt_draft.specs.declared.table.PropertyRow.{PropertyRow}
-use Rattle.dt_draft.specs.Index.{row_of}
-use Rattle.dt_draft.specs.Rows.{no_property, property_at}
-use Rattle.dt_draft.proofs.PathTests.{same-is}
-use Rattle.dt_listing.specs.ByRow.{defined_by}
-use Rattle.dt_listing.specs.Listed.{IsWhole, Lent}
-use Rattle.dt_listing.proofs.WholeDrafts.{all-entries, one-number}
+use Rattle.dt_live.specs.declared.live_tree.LiveTree.{LiveTree}
+use Rattle.dt_live.specs.declared.live_tree.PropertyRow.{PropertyRow}
+use Rattle.dt_live.specs.Index.{row_of}
+use Rattle.dt_live.specs.Rows.{no_property, property_at}
+use Rattle.dt_live.proofs.PathTests.{same-is}
+use Rattle.dt_live.specs.ByRow.{defined_by}
+use Rattle.dt_live.specs.Flattened.{IsWhole, Lent}
+use Rattle.dt_live.proofs.WholeTrees.{all-entries, one-number}
 use Rattle.dt_overlay.specs.Private.Making.{own}
 
-module _ (d : Draft Lent) (w : IsWhole d) (q : Path) where
+module _ (d : LiveTree Lent) (w : IsWhole d) (q : Path) where
   abbrev rows : List (PropertyRow Lent)
   rows = d.properties.items
 

@@ -1,4 +1,4 @@
--- The node at a place of a whole draft.
+-- The node at a place of a whole live tree.
 use Rattle.std.proofs.Common.{◌≡◌, ℕ, ◌-◌, ◌≤◌, ◌<◌, true, List, length, map, ap, ◌∙◌}
 use Rattle.std.specs.Prelude.{slice_index_or}
 use Rattle.dt_tree.specs.declared.property.Property.{Property}
@@ -6,19 +6,19 @@ use Rattle.dt_tree.specs.Name.{is_name}
 use Rattle.dt_tree.specs.NodeData.{property_names}
 use Rattle.dt_tree.specs.Sound.{are_distinct}
 use Rattle.dt_meaning.specs.Paths.{Path}
-use Rattle.dt_draft.specs.declared.table.Draft.{Draft}
-use Rattle.dt_draft.specs.declared.table.NodeRow.{NodeRow}
-use Rattle.dt_draft.specs.Rows.{no_row}
-use Rattle.dt_assembly.specs.Lists.{defined_at}
-use Rattle.dt_assembly.proofs.MakingWalk.{names-defined}
-use Rattle.dt_layout.specs.declared.layout.Layout.{Layout}
-use Rattle.dt_layout.proofs.BlankRows.{blank_row}
-use Rattle.dt_layout.proofs.MakingNodes.{AreInOrder, row-is, row-known}
-use Rattle.dt_listing.specs.Listed.{Lent, lists}
-use Rattle.dt_overlay.specs.Private.Making.{IsLaid, own}
+use Rattle.dt_live.specs.declared.live_tree.LiveTree.{LiveTree}
+use Rattle.dt_live.specs.declared.live_tree.NodeRow.{NodeRow}
+use Rattle.dt_live.specs.Rows.{no_row}
+use Rattle.dt_tree_builder.specs.Lists.{defined_at}
+use Rattle.dt_tree_builder.proofs.MakingWalk.{names-defined}
+use Rattle.dt_live.specs.declared.preorder.Preorder.{Preorder}
+use Rattle.dt_live.proofs.BlankRows.{blank_row}
+use Rattle.dt_live.proofs.MakingNodes.{AreInOrder, row-is, row-known}
+use Rattle.dt_live.specs.Flattened.{Lent, lists}
+use Rattle.dt_overlay.specs.Private.Making.{IsInPreorder, own}
 use Rattle.dt_overlay.proofs.MakingApart.{own-apart}
 
-module _ (d : Draft Lent) (y : Layout Lent) (r : IsLaid d y) where
+module _ (d : LiveTree Lent) (y : Preorder Lent) (r : IsInPreorder d y) where
   pub order-of : AreInOrder d y.nodes.items (lists d)
   order-of = record { order = r.nodes; standing = r.standing; known = r.known }
 

@@ -7,14 +7,14 @@ use Rattle.std.proofs.lemmas.Bool.Decides.{nat_tests}
 use Rattle.std.proofs.lemmas.List.{get_or_default}
 use Rattle.dt_meaning.specs.Paths.{Path, is_within}
 use Rattle.dt_meaning.specs.Edits.{Definition, definition}
-use Rattle.dt_draft.specs.declared.table.Draft.{Draft}
-use Rattle.dt_draft.specs.declared.table.PropertyRow.{PropertyRow}
-use Rattle.dt_draft.specs.Rows.{no_property, node_path, path_of, property_at}
-use Rattle.dt_listing.specs.Listed.{IsOrdered, IsWhole, Lent, lists, nodes_from}
-use Rattle.dt_listing.proofs.Steps.{left-item}
-use Rattle.dt_fixup.specs.declared.sheet.Sheet.{Sheet}
-use Rattle.dt_fixup.specs.Sheet.{IsSheet, shown, shown_from, value_at}
-use Rattle.overlay_meaning.specs.Applied.{moved, moved_value}
+use Rattle.dt_live.specs.declared.live_tree.LiveTree.{LiveTree}
+use Rattle.dt_live.specs.declared.live_tree.PropertyRow.{PropertyRow}
+use Rattle.dt_live.specs.Rows.{no_property, node_path, path_of, property_at}
+use Rattle.dt_live.specs.Flattened.{IsOrdered, IsWhole, Lent, lists, nodes_from}
+use Rattle.dt_live.proofs.Steps.{left-item}
+use Rattle.dt_fixup.specs.declared.patched_overlay.PatchedOverlay.{PatchedOverlay}
+use Rattle.dt_fixup.specs.PatchedOverlay.{IsPatched, patched_lists, patched_from, value_at}
+use Rattle.dt_overlay_meaning.specs.Applied.{moved, moved_value}
 use Rattle.dt_overlay.specs.declared.part.Part.{Part}
 use Rattle.dt_overlay.specs.Private.Merging.{IsInside, IsPart, IsPartOf, part_below}
 use Rattle.dt_overlay.proofs.PartNodes.{all-deeper, all-inside, none-before, none-behind}
@@ -41,10 +41,10 @@ abbrev pub is_part : Path → Path → Bool
 is_part p q = is_within p q && nat_lt 2 (length q)
 
 -- the nodes of the part of node b from node n on
-abbrev pub nodes_left : Draft Lent → ℕ → Path → ℕ → List Path
+abbrev pub nodes_left : LiveTree Lent → ℕ → Path → ℕ → List Path
 nodes_left d b t n = map (moved t) (filter (is_part (node_path d b)) (map (node_path d) (nodes_from n (suc (length d.nodes.items) - n))))
 
-module _ (d : Draft Lent) (whole : IsWhole d) (ordered : IsOrdered d) (b : ℕ) (known : b ≤ length d.nodes.items) (top : length (node_path d b) ≡ 2) (t : Path) where
+module _ (d : LiveTree Lent) (whole : IsWhole d) (ordered : IsOrdered d) (b : ℕ) (known : b ≤ length d.nodes.items) (top : length (node_path d b) ≡ 2) (t : Path) where
   abbrev path : ℕ → Path
   path n = node_path d n
 
@@ -97,17 +97,17 @@ module _ (d : Draft Lent) (whole : IsWhole d) (ordered : IsOrdered d) (b : ℕ) 
 
 -- ---- properties
 skip-values : (test : Path → Bool) (path : ℕ → Path) (value : ℕ → List ℕ) (j k : ℕ) (rs : List (PropertyRow Lent)) → j ≤ length rs → ((i : ℕ) → i < j → test (path (property_at rs i).node) ≡ false)
-    → filter (λ e. test e.path) (shown_from path value k rs) ≡ filter (λ e. test e.path) (shown_from path value (k + j) (drop j rs))
-skip-values test path value zero k rs le none = let from : k ≡ k + 0 = omega arith in ap (λ a. filter (λ e. test e.path) (shown_from path value a rs)) from
+    → filter (λ e. test e.path) (patched_from path value k rs) ≡ filter (λ e. test e.path) (patched_from path value (k + j) (drop j rs))
+skip-values test path value zero k rs le none = let from : k ≡ k + 0 = omega arith in ap (λ a. filter (λ e. test e.path) (patched_from path value a rs)) from
 skip-values test path value (suc j) k [] le none = absurd (omega arith)
 skip-values test path value (suc j) k (r ∷ rs) le none =
     let from : (k + 1) + j ≡ k + suc j = omega arith in
     rw (none 0 (omega arith))
     (skip-values test path value j (k + 1) rs (omega arith) (λ i lt. none (suc i) (omega arith))
-    ∙ ap (λ a. filter (λ e. test e.path) (shown_from path value a (drop j rs))) from)
+    ∙ ap (λ a. filter (λ e. test e.path) (patched_from path value a (drop j rs))) from)
 
 no-values : (test : Path → Bool) (path : ℕ → Path) (value : ℕ → List ℕ) (k : ℕ) (rs : List (PropertyRow Lent)) → ((i : ℕ) → i < length rs → test (path (property_at rs i).node) ≡ false)
-    → filter (λ e. test e.path) (shown_from path value k rs) ≡ []
+    → filter (λ e. test e.path) (patched_from path value k rs) ≡ []
 no-values test path value k [] none = refl
 no-values test path value k (r ∷ rs) none = rw (none 0 (omega arith)) (no-values test path value (k + 1) rs (λ i lt. none (suc i) (omega arith)))
 
@@ -122,28 +122,28 @@ drop-length (suc j) [] le = absurd (omega arith)
 drop-length (suc j) (r ∷ rs) le = let h = drop-length j rs (omega arith) in omega (arith, h)
 
 -- the properties of the part of node b from row j on
-abbrev pub values_left : Sheet → ℕ → Path → ℕ → List (Definition (List ℕ))
-values_left s b t j = map (moved_value t) (filter (λ e. is_within (node_path s.draft b) e.path) (shown_from (path_of s.draft.nodes.items) (value_at s) j (drop j s.draft.properties.items)))
+abbrev pub values_left : PatchedOverlay → ℕ → Path → ℕ → List (Definition (List ℕ))
+values_left s b t j = map (moved_value t) (filter (λ e. is_within (node_path s.live b) e.path) (patched_from (path_of s.live.nodes.items) (value_at s) j (drop j s.live.properties.items)))
 
-module _ (s : Sheet) (sound : IsSheet s) (ordered : IsOrdered s.draft) (p : Part) (part : IsPartOf s.draft p) (t : Path) where
-  abbrev over : Draft Lent
-  over = s.draft
+module _ (s : PatchedOverlay) (sound : IsPatched s) (ordered : IsOrdered s.live) (p : Part) (part : IsPartOf s.live p) (t : Path) where
+  abbrev over : LiveTree Lent
+  over = s.live
 
   abbrev ps : List (PropertyRow Lent)
-  ps = s.draft.properties.items
+  ps = s.live.properties.items
 
   abbrev at_b : Path → Bool
-  at_b = is_within (node_path s.draft p.body)
+  at_b = is_within (node_path s.live p.body)
 
   node-known : (j : ℕ) → (property_at ps j).node ≤ length over.nodes.items
   node-known j = sound.whole.sound.known j
 
-  pub values-start : (part_below (shown s) (node_path s.draft p.body) t).properties ≡ values_left s p.body t p.first
+  pub values-start : (part_below (patched_lists s) (node_path s.live p.body) t).properties ≡ values_left s p.body t p.first
   values-start =
       let from : 0 + p.first ≡ p.first = omega arith in
       ap (map (moved_value t)) (skip-values at_b (path_of over.nodes.items) (value_at s) p.first 0 ps part.first.known
       (λ i lt. none-before over sound.whole ordered p.body part.known part.top (property_at ps i).node (property_at ps i).node (omega arith) (part.first.before i lt)))
-      ∙ ap (λ k. map (moved_value t) (filter (λ e. at_b e.path) (shown_from (path_of over.nodes.items) (value_at s) k (drop p.first ps)))) from
+      ∙ ap (λ k. map (moved_value t) (filter (λ e. at_b e.path) (patched_from (path_of over.nodes.items) (value_at s) k (drop p.first ps)))) from
 
   pub values-step : (j : ℕ) (r : PropertyRow Lent) → p.first ≤ j → j < p.last → r ≡ property_at ps j
       → values_left s p.body t j ≡ moved_value t (definition (node_path over r.node) r.name.now (value_at s j)) ∷ values_left s p.body t (j + 1)
@@ -154,10 +154,10 @@ module _ (s : Sheet) (sound : IsSheet s) (ordered : IsOrdered s.draft) (p : Part
       let high = part.last.before j lt in
       let in' : at_b (node_path over r.node) ≡ true = ap (λ x. at_b (node_path over x.node)) at
       ∙ all-inside over sound.whole ordered p.body part.known part.top p.end part.nodes.known part.nodes.inside (property_at ps j).node (property_at ps j).node (omega arith) low high in
-      ap (λ rs. map (moved_value t) (filter (λ e. at_b e.path) (shown_from (path_of over.nodes.items) (value_at s) j rs))) item
+      ap (λ rs. map (moved_value t) (filter (λ e. at_b e.path) (patched_from (path_of over.nodes.items) (value_at s) j rs))) item
       ∙ ap (λ x. map (moved_value t) (if x then definition (node_path over r.node) r.name.now (value_at s j) ∷ rest else rest)) in' where
         rest : List (Definition (List ℕ))
-        rest = filter (λ e. at_b e.path) (shown_from (path_of over.nodes.items) (value_at s) (j + 1) (drop (j + 1) ps))
+        rest = filter (λ e. at_b e.path) (patched_from (path_of over.nodes.items) (value_at s) (j + 1) (drop (j + 1) ps))
 
   pub values-end : values_left s p.body t p.last ≡ []
   values-end =

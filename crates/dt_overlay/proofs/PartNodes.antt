@@ -4,14 +4,14 @@ use Rattle.std.specs.Str.{bytes_eq}
 use Rattle.std.proofs.lemmas.Bool.{and_parts, cases_eq}
 use Rattle.std.proofs.lemmas.List.{length_push}
 use Rattle.dt_meaning.specs.Paths.{Path, same_path, is_within}
-use Rattle.dt_assembly.specs.Standing.{AreFollowed, Follows}
-use Rattle.dt_draft.specs.declared.table.Draft.{Draft}
-use Rattle.dt_draft.specs.declared.table.NodeRow.{NodeRow}
-use Rattle.dt_draft.specs.Rows.{node_path, row_at}
-use Rattle.dt_draft.proofs.Climbs.{path-step}
-use Rattle.dt_draft.proofs.PathTests.{same-is, within-itself, within-snoc}
-use Rattle.dt_listing.specs.Listed.{IsOrdered, IsWhole, Lent, nodes_from}
-use Rattle.dt_listing.proofs.WholeDrafts.{one-number}
+use Rattle.dt_tree_builder.specs.Standing.{AreFollowed, Follows}
+use Rattle.dt_live.specs.declared.live_tree.LiveTree.{LiveTree}
+use Rattle.dt_live.specs.declared.live_tree.NodeRow.{NodeRow}
+use Rattle.dt_live.specs.Rows.{node_path, row_at}
+use Rattle.dt_live.proofs.Climbs.{path-step}
+use Rattle.dt_live.proofs.PathTests.{same-is, within-itself, within-snoc}
+use Rattle.dt_live.specs.Flattened.{IsOrdered, IsWhole, Lent, nodes_from}
+use Rattle.dt_live.proofs.WholeTrees.{one-number}
 use Rattle.dt_overlay.specs.Private.Merging.{IsInside, IsPart}
 
 -- ---- tests of paths
@@ -50,7 +50,7 @@ followed-at path k (suc (suc m)) f n le lt = elim (cases_eq k n) [
   | inr other ↦ followed-at path (k + 1) (suc m) f.1 n (omega (arith, other)) (omega arith)
 ]
 
-module _ (d : Draft Lent) (whole : IsWhole d) (ordered : IsOrdered d) (b : ℕ) (known : b ≤ length d.nodes.items) (top : length (node_path d b) ≡ 2) where
+module _ (d : LiveTree Lent) (whole : IsWhole d) (ordered : IsOrdered d) (b : ℕ) (known : b ≤ length d.nodes.items) (top : length (node_path d b) ≡ 2) where
   abbrev rows : List NodeRow
   rows = d.nodes.items
 

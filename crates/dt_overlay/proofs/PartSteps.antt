@@ -9,14 +9,14 @@ use Rattle.dt_tree.specs.declared.limits.TheConstants.{MAX_DEPTH}
 use Rattle.dt_meaning.specs.Edits as edits
 use Rattle.dt_meaning.specs.Paths.{Path}
 use Rattle.dt_meaning.specs.Resolved.{is_too_deep}
-use Rattle.dt_draft.specs.declared.table.Draft.{Draft}
-use Rattle.dt_draft.specs.declared.table.NodeRow.{NodeRow}
-use Rattle.dt_draft.specs.Rows.{IsNode, is_standing, no_row, node_path, row_at, state_of}
-use Rattle.dt_draft.proofs.Climbs.{path-step}
-use Rattle.dt_draft.proofs.Keeping.{below-not-itself}
-use Rattle.dt_listing.specs.Listed.{IsOrdered, IsWhole, Lent, lists}
-use Rattle.overlay_meaning.specs.Applied.{moved, with_node, with_nodes}
-use Rattle.dt_overlay.specs.Private.Merging.{AreKept, ArePlaces, IsInside, IsPlace}
+use Rattle.dt_live.specs.declared.live_tree.LiveTree.{LiveTree}
+use Rattle.dt_live.specs.declared.live_tree.NodeRow.{NodeRow}
+use Rattle.dt_live.specs.Rows.{IsNode, is_standing, no_row, node_path, row_at, state_of}
+use Rattle.dt_live.proofs.Climbs.{path-step}
+use Rattle.dt_live.proofs.Keeping.{below-not-itself}
+use Rattle.dt_live.specs.Flattened.{IsOrdered, IsWhole, Lent, lists}
+use Rattle.dt_overlay_meaning.specs.Applied.{moved, with_node, with_nodes}
+use Rattle.dt_overlay.specs.Private.Merging.{AreKept, AreBaseNodes, IsInside, IsBaseNode}
 use Rattle.dt_overlay.proofs.PartNodes.{deeper}
 use Rattle.dt_overlay.proofs.PartLists.{nodes-step, nodes_left}
 
@@ -37,42 +37,42 @@ moved-snoc t [] n two = absurd (omega arith)
 moved-snoc t (x ∷ []) n two = absurd (omega arith)
 moved-snoc t (x ∷ y ∷ q) n two = append_assoc t q (n ∷ [])
 
--- ---- places
-pub kept-place : (over d d' : Draft Lent) (t : Path) (n place : ℕ) → AreKept d d' → IsPlace over d t n place → IsPlace over d' t n place
-kept-place over d d' t n place kept p =
+-- ---- fixup sites
+pub kept-base_node : (over d d' : LiveTree Lent) (t : Path) (n base_node : ℕ) → AreKept d d' → IsBaseNode over d t n base_node → IsBaseNode over d' t n base_node
+kept-base_node over d d' t n base_node kept p =
     let more = (kept []).more in
     let was = p.known in
     record {
       known = omega (arith, more, was);
-      stands = (kept (node_path d place)).stand place was p.stands (below-not-itself (node_path d place));
-      path = (kept []).paths place was ∙ p.path;
+      stands = (kept (node_path d base_node)).stand base_node was p.stands (below-not-itself (node_path d base_node));
+      path = (kept []).paths base_node was ∙ p.path;
     }
 
-pub first-places : (over d : Draft Lent) (b : ℕ) (places : List ℕ) → length (node_path over b) ≡ 2 → IsNode d (get_or places b 0) → is_standing d (get_or places b 0) ≡ true
-    → ArePlaces over d (node_path d (get_or places b 0)) b (b + 1) places
-first-places over d b places two known stands n from lt =
+pub first-base_nodes : (over d : LiveTree Lent) (b : ℕ) (base_nodes : List ℕ) → length (node_path over b) ≡ 2 → IsNode d (get_or base_nodes b 0) → is_standing d (get_or base_nodes b 0) ≡ true
+    → AreBaseNodes over d (node_path d (get_or base_nodes b 0)) b (b + 1) base_nodes
+first-base_nodes over d b base_nodes two known stands n from lt =
     let same : b ≡ n = omega (arith, from, lt) in
-    let t = node_path d (get_or places b 0) in
-    let here : IsPlace over d t b (get_or places b 0) = record { known = known; stands = stands; path = moved-top t (node_path over b) two } in
-    subst (λ (m : ℕ). IsPlace over d t m (get_or places m 0)) same here
+    let t = node_path d (get_or base_nodes b 0) in
+    let here : IsBaseNode over d t b (get_or base_nodes b 0) = record { known = known; stands = stands; path = moved-top t (node_path over b) two } in
+    subst (λ (m : ℕ). IsBaseNode over d t m (get_or base_nodes m 0)) same here
 
--- the body's own place stands at the path below which the others are
-pub own-path : (over d : Draft Lent) (t : Path) (b e : ℕ) (places : List ℕ) → length (node_path over b) ≡ 2 → b < e → ArePlaces over d t b e places → t ≡ node_path d (get_or places b 0)
-own-path over d t b e places two more placed = moved-top t (node_path over b) two ∙ sym (placed b (omega arith) more).path
+-- the body's own base node stands at the path below which the others are
+pub own-path : (over d : LiveTree Lent) (t : Path) (b e : ℕ) (base_nodes : List ℕ) → length (node_path over b) ≡ 2 → b < e → AreBaseNodes over d t b e base_nodes → t ≡ node_path d (get_or base_nodes b 0)
+own-path over d t b e base_nodes two more placed = moved-top t (node_path over b) two ∙ sym (placed b (omega arith) more).path
 
-pub own-places : (over d : Draft Lent) (t : Path) (b e : ℕ) (places : List ℕ) → length (node_path over b) ≡ 2 → b < e → ArePlaces over d t b e places
-    → ArePlaces over d (node_path d (get_or places b 0)) b e places
-own-places over d t b e places two more placed = subst (λ (u : Path). ArePlaces over d u b e places) (own-path over d t b e places two more placed) placed
+pub own-base_nodes : (over d : LiveTree Lent) (t : Path) (b e : ℕ) (base_nodes : List ℕ) → length (node_path over b) ≡ 2 → b < e → AreBaseNodes over d t b e base_nodes
+    → AreBaseNodes over d (node_path d (get_or base_nodes b 0)) b e base_nodes
+own-base_nodes over d t b e base_nodes two more placed = subst (λ (u : Path). AreBaseNodes over d u b e base_nodes) (own-path over d t b e base_nodes two more placed) placed
 
-pub more-places : (over d d' : Draft Lent) (t : Path) (b n : ℕ) (places : List ℕ) (place : ℕ) → AreKept d d' → ArePlaces over d t b n places → n < length places → IsPlace over d' t n place
-    → ArePlaces over d' t b (n + 1) (slice_set places n place)
-more-places over d d' t b n places place kept placed room new m from lt = elim (cases_eq m n) [
+pub more-base_nodes : (over d d' : LiveTree Lent) (t : Path) (b n : ℕ) (base_nodes : List ℕ) (base_node : ℕ) → AreKept d d' → AreBaseNodes over d t b n base_nodes → n < length base_nodes → IsBaseNode over d' t n base_node
+    → AreBaseNodes over d' t b (n + 1) (slice_set base_nodes n base_node)
+more-base_nodes over d d' t b n base_nodes base_node kept placed room new m from lt = elim (cases_eq m n) [
   | inl same ↦
-      subst (λ (j : ℕ). IsPlace over d' t j (get_or (slice_set places n place) j 0)) (sym same)
-      (subst (λ (x : ℕ). IsPlace over d' t n x) (sym (get_or-set_same places n place 0 room)) new)
+      subst (λ (j : ℕ). IsBaseNode over d' t j (get_or (slice_set base_nodes n base_node) j 0)) (sym same)
+      (subst (λ (x : ℕ). IsBaseNode over d' t n x) (sym (get_or-set_same base_nodes n base_node 0 room)) new)
   | inr other ↦
-      subst (λ (x : ℕ). IsPlace over d' t m x) (sym (get_or-set_other places n m place 0 other))
-      (kept-place over d d' t m (get_or places m 0) kept (placed m from (omega (arith, lt, other))))
+      subst (λ (x : ℕ). IsBaseNode over d' t m x) (sym (get_or-set_other base_nodes n m base_node 0 other))
+      (kept-base_node over d d' t m (get_or base_nodes m 0) kept (placed m from (omega (arith, lt, other))))
 ]
 
 -- ---- one more that lies too deep, or not
@@ -100,10 +100,10 @@ deep-else x x' n p new deep same =
     let e : nat_lt MAX_DEPTH (length p) ≡ false = grind (arith, nat_tests) in
     new ∙ or-false x ∙ ap (λ b. x || b) (sym e)
 
--- ---- the node of row k, with its place
-module _ (over : Draft Lent) (whole : IsWhole over) (ordered : IsOrdered over) (b : ℕ) (known : b ≤ length over.nodes.items) (top : length (node_path over b) ≡ 2) (t : Path)
-    (d : Draft Lent) (places : List ℕ) (n k : ℕ) (at : n ≡ suc k) (r : NodeRow) (row : r ≡ row_at over.nodes.items k) (from : b < n) (lt : k < length over.nodes.items)
-    (inside : IsInside over.nodes.items b n) (placed : ArePlaces over d t b n places) (low : b ≤ r.parent) where
+-- ---- the node of row k, with its base node
+module _ (over : LiveTree Lent) (whole : IsWhole over) (ordered : IsOrdered over) (b : ℕ) (known : b ≤ length over.nodes.items) (top : length (node_path over b) ≡ 2) (t : Path)
+    (d : LiveTree Lent) (base_nodes : List ℕ) (n k : ℕ) (at : n ≡ suc k) (r : NodeRow) (row : r ≡ row_at over.nodes.items k) (from : b < n) (lt : k < length over.nodes.items)
+    (inside : IsInside over.nodes.items b n) (placed : AreBaseNodes over d t b n base_nodes) (low : b ≤ r.parent) where
   up : r.parent ≤ k
   up = let h = whole.sound.grown k in omega (arith, h, ap (λ x. x.parent) row)
 
@@ -116,12 +116,12 @@ module _ (over : Draft Lent) (whole : IsWhole over) (ordered : IsOrdered over) (
   inside-suc : IsInside over.nodes.items b (suc (suc k))
   inside-suc j high below = inside-more j high (omega (arith, below, at))
 
-  pub parent-place : IsPlace over d t r.parent (get_or places r.parent 0)
-  parent-place = placed r.parent low (omega (arith, up, at))
+  pub parent-base_node : IsBaseNode over d t r.parent (get_or base_nodes r.parent 0)
+  parent-base_node = placed r.parent low (omega (arith, up, at))
 
-  pub path-new : node_path d (get_or places r.parent 0) ++ r.name.now ∷ [] ≡ moved t (node_path over n)
+  pub path-new : node_path d (get_or base_nodes r.parent 0) ++ r.name.now ∷ [] ≡ moved t (node_path over n)
   path-new =
-      ap (λ q. q ++ r.name.now ∷ []) parent-place.path
+      ap (λ q. q ++ r.name.now ∷ []) parent-base_node.path
       ∙ moved-snoc t (node_path over r.parent) r.name.now (deeper over whole ordered b known top (suc (suc k)) (omega (arith, lt)) inside-suc r.parent r.parent (omega arith) low (omega (arith, up)))
       ∙ ap (moved t) (ap (λ x. node_path over x.parent ++ x.name.now ∷ []) row ∙ sym (path-step over.nodes.items whole.sound.grown k) ∙ ap (node_path over) (sym at))
 
@@ -131,7 +131,7 @@ module _ (over : Draft Lent) (whole : IsWhole over) (ordered : IsOrdered over) (
       ∙ nodes-step over whole ordered b known top t k (omega (arith, from, at)) lt inside-suc
       ∙ ap (λ m. moved t (node_path over m) ∷ nodes_left over b t (m + 1)) (sym at)
 
-  pub rest-more : (d' : Draft Lent) → state_of d' ≡ edits.with_node (node_path d (get_or places r.parent 0) ++ r.name.now ∷ []) (state_of d)
+  pub rest-more : (d' : LiveTree Lent) → state_of d' ≡ edits.with_node (node_path d (get_or base_nodes r.parent 0) ++ r.name.now ∷ []) (state_of d)
       → with_nodes (nodes_left over b t (n + 1)) (lists d').nodes ≡ with_nodes (nodes_left over b t n) (lists d).nodes
   rest-more d' state =
       ap (with_nodes (nodes_left over b t (n + 1))) (ap (λ s. s.nodes) state ∙ ap (λ p. with_node p (lists d).nodes) path-new)
@@ -144,5 +144,5 @@ module _ (over : Draft Lent) (whole : IsWhole over) (ordered : IsOrdered over) (
       ∙ or-assoc x (is_too_deep p) (list_any is_too_deep (nodes_left over b t (n + 1)))
       ∙ ap (λ ps. x || list_any is_too_deep ps) (sym left-more)
 
-  pub new-place : (d' : Draft Lent) (place : ℕ) → IsNode d' place → is_standing d' place ≡ true → node_path d' place ≡ node_path d (get_or places r.parent 0) ++ r.name.now ∷ [] → IsPlace over d' t n place
-  new-place d' place there stands made = record { known = there; stands = stands; path = made ∙ path-new }
+  pub new-base_node : (d' : LiveTree Lent) (base_node : ℕ) → IsNode d' base_node → is_standing d' base_node ≡ true → node_path d' base_node ≡ node_path d (get_or base_nodes r.parent 0) ++ r.name.now ∷ [] → IsBaseNode over d' t n base_node
+  new-base_node d' base_node there stands made = record { known = there; stands = stands; path = made ∙ path-new }

@@ -1,22 +1,22 @@
--- The nodes that a whole draft shows are the nodes of a tree; and an overlay's nodes are no deeper than they may be.
+-- The nodes that a whole live tree shows are the nodes of a tree; and an overlay's nodes are no deeper than they may be.
 use Rattle.std.proofs.Common.{◌≡◌, ℕ, Bool, true, false, ◌||◌, List, [], ◌∷◌, ◌++◌, length, Option, Some, None, Result, Ok, Err, if◌then◌else◌, refl, sym, ap, ap₂, ◌∙◌}
 use Rattle.std.specs.List.{list_any}
 use Rattle.dt_meaning.specs.Paths.{Path, is_listed}
 use Rattle.dt_meaning.specs.Names.{symbols_name}
 use Rattle.dt_meaning.specs.Resolved.{Resolved, is_too_deep}
-use Rattle.overlay_meaning.specs.Steps.{Fault, PhandleClash, TooDeep, NoTarget, fold, ok_or, then_do}
-use Rattle.overlay_meaning.specs.Shifted.{Value}
-use Rattle.overlay_meaning.specs.Texts.{ended_path}
-use Rattle.overlay_meaning.specs.Applied.{clashes, merged, part_of, symbol_path, target, with_fragment, with_node, with_nodes, with_symbol_at, with_symbols, with_values}
-use Rattle.dt_draft.specs.declared.table.Draft.{Draft}
-use Rattle.dt_draft.specs.Index.{row_of}
-use Rattle.dt_layout.proofs.NodesStanding.{are-nodes}
-use Rattle.dt_listing.specs.Listed.{IsWhole, Lent, lists}
-use Rattle.dt_assembly.specs.Standing.{AreNodes}
-use Rattle.dt_assembly.proofs.PathFacts.{or-false}
+use Rattle.dt_overlay_meaning.specs.Steps.{Fault, PhandleClash, TooDeep, NoTarget, fold, ok_or, then_do}
+use Rattle.dt_overlay_meaning.specs.Shifted.{Value}
+use Rattle.dt_overlay_meaning.specs.Texts.{ended_path}
+use Rattle.dt_overlay_meaning.specs.Applied.{clashes, merged, part_of, symbol_path, target, with_fragment, with_node, with_nodes, with_symbol_at, with_symbols, with_values}
+use Rattle.dt_live.specs.declared.live_tree.LiveTree.{LiveTree}
+use Rattle.dt_live.specs.Index.{row_of}
+use Rattle.dt_live.proofs.NodesStanding.{are-nodes}
+use Rattle.dt_live.specs.Flattened.{IsWhole, Lent, lists}
+use Rattle.dt_tree_builder.specs.Standing.{AreNodes}
+use Rattle.dt_tree_builder.proofs.PathFacts.{or-false}
 
--- ---- the nodes of a whole draft
-module _ (d : Draft Lent) (w : IsWhole d) where
+-- ---- the nodes of a whole live tree
+module _ (d : LiveTree Lent) (w : IsWhole d) where
   pub whole-nodes : list_any is_too_deep (lists d).nodes ≡ false → AreNodes (lists d).nodes
   whole-nodes shallow = are-nodes d.nodes.items (row_of d.node_rows) w.sound.grown w.sound.nodes (length d.nodes.items) shallow
 

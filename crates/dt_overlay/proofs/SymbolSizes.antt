@@ -11,26 +11,26 @@ use Rattle.dt_meaning.specs.Names.{symbols_name}
 use Rattle.dt_meaning.specs.Edits.{definition, is_of, put}
 use Rattle.dt_meaning.specs.Resolved.{Resolved}
 use Rattle.dt_meaning.specs.MapOf.{value_in}
-use Rattle.dt_assembly.proofs.PathFacts.{not-true, or-false, same-itself, same-is}
-use Rattle.dt_draft.specs.declared.table.Draft.{Draft}
-use Rattle.dt_draft.specs.declared.table.PropertyRow.{PropertyRow}
-use Rattle.dt_draft.specs.Rows.{path_of}
-use Rattle.dt_assembly.specs.Sizes.{size_in}
-use Rattle.dt_assembly.proofs.SizesOfMaps.{are_once, of-comm, of-is, of-itself, once-by_names, sizes-by_values, sizes-of-lists}
-use Rattle.dt_listing.specs.ByRow.{defined_by}
-use Rattle.dt_listing.specs.Listed.{IsWhole, Lent, lists}
-use Rattle.dt_listing.proofs.WholeDrafts.{all-entries}
-use Rattle.dt_fixup.specs.declared.sheet.Sheet.{Sheet}
-use Rattle.dt_fixup.specs.Sheet.{IsSheet, shown, shown_from, value_at}
-use Rattle.overlay_meaning.specs.Applied.{symbol_path, with_fragment, with_node}
-use Rattle.overlay_meaning.specs.Shifted.{Value, fragments}
-use Rattle.overlay_meaning.specs.Steps.{fold}
-use Rattle.overlay_meaning.specs.Texts.{ended_path}
+use Rattle.dt_tree_builder.proofs.PathFacts.{not-true, or-false, same-itself, same-is}
+use Rattle.dt_live.specs.declared.live_tree.LiveTree.{LiveTree}
+use Rattle.dt_live.specs.declared.live_tree.PropertyRow.{PropertyRow}
+use Rattle.dt_live.specs.Rows.{path_of}
+use Rattle.dt_tree_builder.specs.Sizes.{size_in}
+use Rattle.dt_tree_builder.proofs.SizesOfMaps.{are_once, of-comm, of-is, of-itself, once-by_names, sizes-by_values, sizes-of-lists}
+use Rattle.dt_live.specs.ByRow.{defined_by}
+use Rattle.dt_live.specs.Flattened.{IsWhole, Lent, lists}
+use Rattle.dt_live.proofs.WholeTrees.{all-entries}
+use Rattle.dt_fixup.specs.declared.patched_overlay.PatchedOverlay.{PatchedOverlay}
+use Rattle.dt_fixup.specs.PatchedOverlay.{IsPatched, patched_lists, patched_from, value_at}
+use Rattle.dt_overlay_meaning.specs.Applied.{symbol_path, with_fragment, with_node}
+use Rattle.dt_overlay_meaning.specs.Shifted.{Value, fragments}
+use Rattle.dt_overlay_meaning.specs.Steps.{fold}
+use Rattle.dt_overlay_meaning.specs.Texts.{ended_path}
 use Rattle.dt_overlay.specs.Private.Applying.{HasSymbols}
 use Rattle.dt_overlay.specs.Private.Symbols.{symbol_at, symbols_of, with_all, with_symbol}
-use Rattle.dt_overlay.proofs.ApplySteps.{laid-is}
+use Rattle.dt_overlay.proofs.ApplySteps.{applied-is}
 use Rattle.dt_overlay.proofs.MakingApart.{own-apart}
-use Rattle.dt_overlay.proofs.Sizes.{draft-there}
+use Rattle.dt_overlay.proofs.Sizes.{live-there}
 
 abbrev S : Path
 S = symbols_name ∷ []
@@ -212,40 +212,40 @@ module _ (g : Value → Option Path) where
         by_path None ih none = ih
         by_path (Some p) ih none = and_from (not (list_any (is_of S e.name) (made es))) (are_once (made es)) (ap not none) ih
 
--- names in a sheet are those of its draft
-module _ (d : Draft Lent) (value : ℕ → List ℕ) where
+-- names in a patched overlay are those of its live tree
+module _ (d : LiveTree Lent) (value : ℕ → List ℕ) where
   abbrev own_of : List Value → List Value
   own_of es = filter (λ e. same_path S e.path) es
 
-  names-shown : (k : ℕ) (rs : List (PropertyRow Lent)) → map (λ e. e.name) (own_of (shown_from (path_of d.nodes.items) value k rs)) ≡ map (λ e. e.name) (own_of (map (defined_by d) rs))
-  names-shown k [] = refl
-  names-shown k (r ∷ rs) = by_test (same_path S (path_of d.nodes.items r.node)) (names-shown (k + 1) rs) where
-    by_test : (t : Bool) → map (λ e. e.name) (own_of (shown_from (path_of d.nodes.items) value (k + 1) rs)) ≡ map (λ e. e.name) (own_of (map (defined_by d) rs))
-        → map (λ e. e.name) (cond t (definition (path_of d.nodes.items r.node) r.name.now (value k) ∷ own_of (shown_from (path_of d.nodes.items) value (k + 1) rs)) (own_of (shown_from (path_of d.nodes.items) value (k + 1) rs)))
+  names-patched_lists : (k : ℕ) (rs : List (PropertyRow Lent)) → map (λ e. e.name) (own_of (patched_from (path_of d.nodes.items) value k rs)) ≡ map (λ e. e.name) (own_of (map (defined_by d) rs))
+  names-patched_lists k [] = refl
+  names-patched_lists k (r ∷ rs) = by_test (same_path S (path_of d.nodes.items r.node)) (names-patched_lists (k + 1) rs) where
+    by_test : (t : Bool) → map (λ e. e.name) (own_of (patched_from (path_of d.nodes.items) value (k + 1) rs)) ≡ map (λ e. e.name) (own_of (map (defined_by d) rs))
+        → map (λ e. e.name) (cond t (definition (path_of d.nodes.items r.node) r.name.now (value k) ∷ own_of (patched_from (path_of d.nodes.items) value (k + 1) rs)) (own_of (patched_from (path_of d.nodes.items) value (k + 1) rs)))
         ≡ map (λ e. e.name) (cond t (defined_by d r ∷ own_of (map (defined_by d) rs)) (own_of (map (defined_by d) rs)))
     by_test true ih = ap (λ ns. r.name.now ∷ ns) ih
     by_test false ih = ih
 
-pub sheet-apart : (s : Sheet) → IsSheet s → are_distinct (map (λ e. e.name) (filter (λ e. same_path S e.path) (shown s).properties)) ≡ true
-sheet-apart s is =
-    let d = s.draft in
+pub patched-apart : (s : PatchedOverlay) → IsPatched s → are_distinct (map (λ e. e.name) (filter (λ e. same_path S e.path) (patched_lists s).properties)) ≡ true
+patched-apart s is =
+    let d = s.live in
     let w = is.whole in
-    ap are_distinct (names-shown d (value_at s) 0 d.properties.items ∙ ap (λ es. map (λ e. e.name) (filter (λ e. same_path S e.path) es)) (sym (all-entries d w.sound w.stand w.valued)))
+    ap are_distinct (names-patched_lists d (value_at s) 0 d.properties.items ∙ ap (λ es. map (λ e. e.name) (filter (λ e. same_path S e.path) es)) (sym (all-entries d w.sound w.stand w.valued)))
     ∙ own-apart d w S
 
 -- ---- the base's rows with the fragments merged
-pub has-symbols : (base : Resolved) (s : Sheet) → IsSheet s → (d : Draft Lent) → IsWhole d → fold (with_fragment base (shown s)) (fragments (shown s)) base ≡ Ok (lists d) → HasSymbols base (shown s)
+pub has-symbols : (base : Resolved) (s : PatchedOverlay) → IsPatched s → (d : LiveTree Lent) → IsWhole d → fold (with_fragment base (patched_lists s)) (fragments (patched_lists s)) base ≡ Ok (lists d) → HasSymbols base (patched_lists s)
 has-symbols base s is d w folded =
-    let o = shown s in
+    let o = patched_lists s in
     let es = symbols_of base o in
     let r = with_all es (lists d) in
     let path : Value → Option Path = λ e. symbol_path base o (ended_path e.value) in
     let given = filter (λ e. same_path S e.path) o.properties in
     let once : are_once r.properties ≡ true = all-once es (lists d) (once-by_names (lists d).properties (own-apart d w)) in
-    let there = each-there ([] ∷ r.nodes) r.properties (all-there es (lists d) (there-each ([] ∷ (lists d).nodes) (lists d).properties (draft-there d w))) in
+    let there = each-there ([] ∷ r.nodes) r.properties (all-there es (lists d) (there-each ([] ∷ (lists d).nodes) (lists d).properties (live-there d w))) in
     record {
       lists = r;
-      result = laid-is base o (lists d) r es folded refl refl;
-      symbols = symbols-within es (lists d) (made-once path given (sheet-apart s is)) (made-symbols path given);
+      result = applied-is base o (lists d) r es folded refl refl;
+      symbols = symbols-within es (lists d) (made-once path given (patched-apart s is)) (made-symbols path given);
       trees = λ b sound same. sizes-of-lists b r sound same once there;
     }

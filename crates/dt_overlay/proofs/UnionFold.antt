@@ -6,15 +6,15 @@ use Rattle.dt_tree.specs.Merged.{placed, union}
 use Rattle.dt_meaning.specs.Paths.{Path}
 use Rattle.dt_meaning.specs.Resolved.{Resolved, is_too_deep}
 use Rattle.dt_meaning.specs.MapOf.{is_there, map_of}
-use Rattle.overlay_meaning.specs.Steps.{Fault, NoTarget, PhandleClash, TooDeep, ok_or, then_do, fold}
-use Rattle.overlay_meaning.specs.Applied.{clashes, merged, part_of, target, with_fragment}
-use Rattle.dt_overlay.specs.Union.{Map, AreLaid, Fits, IsPlaced, IsWhy, overlay_map, united}
-use Rattle.dt_overlay.proofs.UnionMerged.{IsTidy, IsDistinct, clash-hidden, clash-shown, deep-hidden, deep-shown, map-result, result, there-result, tidy-result}
+use Rattle.dt_overlay_meaning.specs.Steps.{Fault, NoTarget, PhandleClash, TooDeep, ok_or, then_do, fold}
+use Rattle.dt_overlay_meaning.specs.Applied.{clashes, merged, part_of, target, with_fragment}
+use Rattle.dt_overlay.specs.Union.{Map, AreStacked, Fits, IsPlaced, IsWhy, overlay_map, united}
+use Rattle.dt_overlay.proofs.UnionMerged.{IsTidy, IsDistinct, clash-hidden, clash-patched_lists, deep-hidden, deep-patched_lists, map-result, result, there-result, tidy-result}
 use Rattle.dt_overlay.proofs.UnionShifted.{ok, ok-same}
 
 pub record Unites (base over : Resolved) (fs : List (List ℕ)) (t r : Resolved) : Type 0 where
   pub maps : List Map
-  pub are_laid : AreLaid base over fs (map_of t) maps
+  pub are_stacked : AreStacked base over fs (map_of t) maps
   pub all : map_of r ≡ united (map_of t) maps
   pub tidy : IsTidy r
 
@@ -24,7 +24,7 @@ pub record Refuses (base over : Resolved) (fs : List (List ℕ)) (t : Resolved) 
   pub behind : List (List ℕ)
   pub names : fs ≡ before ++ refused ∷ behind
   pub maps : List Map
-  pub are_laid : AreLaid base over before (map_of t) maps
+  pub are_stacked : AreStacked base over before (map_of t) maps
   pub why : IsWhy base over refused (united (map_of t) maps) e
 
 abbrev pub Outcome : Resolved → Resolved → List (List ℕ) → Resolved → Result Resolved Fault → Type 0
@@ -49,12 +49,12 @@ module _ (base o : Resolved) (tidy_o : IsTidy o) (distinct : IsDistinct o) (know
   module _ (f : List ℕ) (fs : List (List ℕ)) (later : Left fs) (t : Resolved) (tidy : IsTidy t) (grown : (q : Path) → is_there base q ≡ true → is_there t q ≡ true) where
     refused-now : (e : Fault) → IsWhy base o f (map_of t) e → (r : Result Resolved Fault) → failed e ≡ r → Outcome base o (f ∷ fs) t r
     refused-now e why (Ok r) is = absurd (cc)
-    refused-now e why (Err x) is = record { before = []; refused = f; behind = fs; names = refl; maps = []; are_laid = tt; why = subst (IsWhy base o f (map_of t)) (err-same e x is) why }
+    refused-now e why (Err x) is = record { before = []; refused = f; behind = fs; names = refl; maps = []; are_stacked = tt; why = subst (IsWhy base o f (map_of t)) (err-same e x is) why }
 
     goes-on : (g : Map) → IsPlaced base o f g → Fits (map_of t) g → (u : Resolved) → map_of u ≡ union (map_of t) g → (r : Result Resolved Fault) → Outcome base o fs u r → Outcome base o (f ∷ fs) t r
     goes-on g is fits u same (Ok r) rest = record {
       maps = g ∷ rest.maps;
-      are_laid = (is, fits, subst (λ m. AreLaid base o fs m rest.maps) same rest.are_laid);
+      are_stacked = (is, fits, subst (λ m. AreStacked base o fs m rest.maps) same rest.are_stacked);
       all = rest.all ∙ ap (λ m. united m rest.maps) same;
       tidy = rest.tidy;
     }
@@ -64,7 +64,7 @@ module _ (base o : Resolved) (tidy_o : IsTidy o) (distinct : IsDistinct o) (know
       behind = rest.behind;
       names = ap (λ ns. f ∷ ns) rest.names;
       maps = g ∷ rest.maps;
-      are_laid = (is, fits, subst (λ m. AreLaid base o rest.before m rest.maps) same rest.are_laid);
+      are_stacked = (is, fits, subst (λ m. AreStacked base o rest.before m rest.maps) same rest.are_stacked);
       why = subst (λ m. IsWhy base o rest.refused (united m rest.maps) e) same rest.why;
     }
 
@@ -83,10 +83,10 @@ module _ (base o : Resolved) (tidy_o : IsTidy o) (distinct : IsDistinct o) (know
 
       by_tests : (a b : Bool) → list_any (clashes t.properties) (part_of o f p).properties ≡ a → list_any is_too_deep (part_of o f p).nodes ≡ b → (r : Result Resolved Fault)
           → then_do (if a then Err PhandleClash else (if b then Err TooDeep else ok (result t o f p tidy tidy_o distinct there))) (fold (with_fragment base o) fs) ≡ r → Outcome base o (f ∷ fs) t r
-      by_tests true b hit e' r e = refused-now PhandleClash (over, is-placed, clash-shown t o f p tidy tidy_o distinct there hit) r e
+      by_tests true b hit e' r e = refused-now PhandleClash (over, is-placed, clash-patched_lists t o f p tidy tidy_o distinct there hit) r e
       by_tests false true miss deep r e =
           refused-now TooDeep
-          (over, is-placed, (λ c. unlike (list_any (clashes t.properties) (part_of o f p).properties) miss (clash-hidden t o f p tidy tidy_o distinct there c)), deep-shown t o f p tidy tidy_o distinct there deep) r e
+          (over, is-placed, (λ c. unlike (list_any (clashes t.properties) (part_of o f p).properties) miss (clash-hidden t o f p tidy tidy_o distinct there c)), deep-patched_lists t o f p tidy tidy_o distinct there deep) r e
       by_tests false false miss shallow r e =
           let fits : Fits (map_of t) over = record {
             phandles = λ c. unlike (list_any (clashes t.properties) (part_of o f p).properties) miss (clash-hidden t o f p tidy tidy_o distinct there c);
@@ -100,7 +100,7 @@ module _ (base o : Resolved) (tidy_o : IsTidy o) (distinct : IsDistinct o) (know
     by_target (Some p) at r e = by_tests p at (list_any (clashes t.properties) (part_of o f p).properties) (list_any is_too_deep (part_of o f p).nodes) refl refl r e
 
   nothing-left : (t : Resolved) → IsTidy t → (r : Result Resolved Fault) → ok t ≡ r → Outcome base o [] t r
-  nothing-left t tidy (Ok r) e = let same = ok-same t r e in record { maps = []; are_laid = tt; all = ap map_of (sym same); tidy = subst IsTidy same tidy }
+  nothing-left t tidy (Ok r) e = let same = ok-same t r e in record { maps = []; are_stacked = tt; all = ap map_of (sym same); tidy = subst IsTidy same tidy }
   nothing-left t tidy (Err x) e = absurd (cc)
 
   pub all-put : (fs : List (List ℕ)) → Left fs

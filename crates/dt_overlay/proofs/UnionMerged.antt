@@ -11,8 +11,8 @@ use Rattle.dt_meaning.specs.Paths.{Path, same_path, is_within, is_listed, name_b
 use Rattle.dt_meaning.specs.References.{held}
 use Rattle.dt_meaning.specs.Resolved.{Resolved, is_too_deep}
 use Rattle.dt_meaning.specs.MapOf.{is_there, value_in, map_of}
-use Rattle.dt_assembly.proofs.PathFacts.{or-false}
-use Rattle.overlay_meaning.specs.Applied.{clashes, part_of, with_nodes, with_values}
+use Rattle.dt_tree_builder.proofs.PathFacts.{or-false}
+use Rattle.dt_overlay_meaning.specs.Applied.{clashes, part_of, with_nodes, with_values}
 use Rattle.dt_overlay.specs.Union.{Clashes, IsTooDeep, overlay_map}
 use Rattle.dt_overlay.proofs.UnionClashes.{at-clash, at-deep, clash-at, deep-at}
 use Rattle.dt_overlay.proofs.UnionPaths.{named, named-held, within-drop, has_rest, part-kids, part-listed, part-named, part-value}
@@ -122,24 +122,24 @@ module _ (t o : Resolved) (f : List ℕ) (p : Path) (tidy : IsTidy t) (tidy_o : 
     gated true b v = refl
     gated false b v = refl
 
-    names-shown : (if is_there result q then Some (map (λ e. e.name) (held result.properties q)) else None)
+    names-patched_lists : (if is_there result q then Some (map (λ e. e.name) (held result.properties q)) else None)
         ≡ joined (if is_there t q then Some (map (λ e. e.name) (held t.properties q)) else None) (if is_within p q then (if is_there o at then Some (map (λ e. e.name) (held o.properties at)) else None) else None)
-    names-shown =
+    names-patched_lists =
         ap₂ (λ b ns. if b then Some ns else None) has-result (named-held result.properties q ∙ names-result)
         ∙ both-joined (is_there t q) inside (named t.properties q) part_names (tidy.properties q) empty-names
         ∙ ap₂ (λ ns v. joined (if is_there t q then Some ns else None) v) (sym (named-held t.properties q))
         (gates (is_within p q) (is_there o at) (named o.properties at) [] ∙ ap (λ ns. if is_within p q then (if is_there o at then Some ns else None) else None) (sym (named-held o.properties at)))
 
-    kids-shown : (if is_there result q then Some (filter_map (name_below q) result.nodes) else None)
+    kids-patched_lists : (if is_there result q then Some (filter_map (name_below q) result.nodes) else None)
         ≡ joined (if is_there t q then Some (filter_map (name_below q) t.nodes) else None) (if is_within p q then (if is_there o at then Some (filter_map (name_below at) o.nodes) else None) else None)
-    kids-shown =
+    kids-patched_lists =
         ap₂ (λ b ns. if b then Some ns else None) has-result kids-result
         ∙ both-joined (is_there t q) inside (filter_map (name_below q) t.nodes) part_kids (tidy.children q) empty-kids
         ∙ ap (joined (if is_there t q then Some (filter_map (name_below q) t.nodes) else None)) (gates (is_within p q) (is_there o at) (filter_map (name_below at) o.nodes) [])
 
-    value-shown : (j : List ℕ) → (if is_there result q then value_in result.properties q j else None)
+    value-patched_lists : (j : List ℕ) → (if is_there result q then value_in result.properties q j else None)
         ≡ first_of (if is_within p q then (if is_there o at then value_in o.properties at j else None) else None) (if is_there t q then value_in t.properties q j else None)
-    value-shown j =
+    value-patched_lists j =
         ap₂ (λ b v. if b then v else None) has-result (value-result j)
         ∙ both-first (is_there t q) inside (value_in t.properties q j) (part_value j) (tidy-value t tidy q j) (empty-value j)
         ∙ ap (λ v. first_of v (if is_there t q then value_in t.properties q j else None)) (gated (is_within p q) (is_there o at) (value_in o.properties at j))
@@ -160,9 +160,9 @@ module _ (t o : Resolved) (f : List ℕ) (p : Path) (tidy : IsTidy t) (tidy_o : 
   pub map-result : map_of result ≡ union (map_of t) (placed p (overlay_map o f))
   map-result = λ i. record {
     has = λ q. has-result q i;
-    properties = λ q. names-shown q i;
-    children = λ q. kids-shown q i;
-    value = λ q j. value-shown q j i;
+    properties = λ q. names-patched_lists q i;
+    children = λ q. kids-patched_lists q i;
+    value = λ q j. value-patched_lists q j i;
   }
 
   pub tidy-result : IsTidy result
@@ -184,30 +184,30 @@ module _ (t o : Resolved) (f : List ℕ) (p : Path) (tidy : IsTidy t) (tidy_o : 
     by_test true none = some
     by_test false none = absurd (true≢false (sym some ∙ ap is_some (none refl)))
 
-  shown-by : (b : Bool) (v : Option (List ℕ)) → is_some (if b then v else None) ≡ true → (b ≡ true) × (is_some v ≡ true)
-  shown-by true v e = (refl, e)
-  shown-by false v e = absurd (true≢false (sym e))
+  patched_lists-by : (b : Bool) (v : Option (List ℕ)) → is_some (if b then v else None) ≡ true → (b ≡ true) × (is_some v ≡ true)
+  patched_lists-by true v e = (refl, e)
+  patched_lists-by false v e = absurd (true≢false (sym e))
 
   over-shows : (q : Path) → is_some (value_in (part_of o f p).properties q phandle) ≡ true → is_some (over.value q phandle) ≡ true
   over-shows q some =
       let e = sym (ap is_some (part-value f p q o.properties phandle)) ∙ some in
-      let parts = shown-by (is_within p q) (value_in o.properties (at q) phandle) e in
+      let parts = patched_lists-by (is_within p q) (value_in o.properties (at q) phandle) e in
       ap (λ b. is_some (if b then (map_of o).value (at q) phandle else None)) parts.0 ∙ shows o tidy_o (at q) parts.1
 
   part-shows : (q : Path) → is_some (over.value q phandle) ≡ true → is_some (value_in (part_of o f p).properties q phandle) ≡ true
   part-shows q some =
-      let parts = shown-by (is_within p q) ((map_of o).value (at q) phandle) some in
-      let own = shown-by (is_there o (at q)) (value_in o.properties (at q) phandle) parts.1 in
+      let parts = patched_lists-by (is_within p q) ((map_of o).value (at q) phandle) some in
+      let own = patched_lists-by (is_there o (at q)) (value_in o.properties (at q) phandle) parts.1 in
       ap is_some (part-value f p q o.properties phandle) ∙ ap (λ b. is_some (if b then value_in o.properties (at q) phandle else None)) parts.0 ∙ own.1
 
-  pub clash-shown : list_any (clashes t.properties) (part_of o f p).properties ≡ true → Clashes (map_of t) over
-  clash-shown e = let c = clash-at t.properties (part_of o f p).properties e in (c.0, shows t tidy c.0 c.1, over-shows c.0 c.2)
+  pub clash-patched_lists : list_any (clashes t.properties) (part_of o f p).properties ≡ true → Clashes (map_of t) over
+  clash-patched_lists e = let c = clash-at t.properties (part_of o f p).properties e in (c.0, shows t tidy c.0 c.1, over-shows c.0 c.2)
 
   pub clash-hidden : Clashes (map_of t) over → list_any (clashes t.properties) (part_of o f p).properties ≡ true
-  clash-hidden c = at-clash t.properties c.0 (shown-by (is_there t c.0) (value_in t.properties c.0 phandle) c.1).1 (part_of o f p).properties (part-shows c.0 c.2)
+  clash-hidden c = at-clash t.properties c.0 (patched_lists-by (is_there t c.0) (value_in t.properties c.0 phandle) c.1).1 (part_of o f p).properties (part-shows c.0 c.2)
 
-  pub deep-shown : list_any is_too_deep (part_of o f p).nodes ≡ true → IsTooDeep over
-  deep-shown e =
+  pub deep-patched_lists : list_any is_too_deep (part_of o f p).nodes ≡ true → IsTooDeep over
+  deep-patched_lists e =
       let d = deep-at (part_of o f p).nodes e in
       let b = and_parts (is_within p d.0) (has_rest (drop (length p) d.0) && is_listed (at d.0) o.nodes) (sym (part-listed f p d.0 o.nodes) ∙ d.1) in
       (d.0, and_from (is_within p d.0) (is_listed (at d.0) o.nodes) b.0 (and_parts (has_rest (drop (length p) d.0)) (is_listed (at d.0) o.nodes) b.1).1, d.2)

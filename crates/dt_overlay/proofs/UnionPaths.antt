@@ -10,10 +10,10 @@ use Rattle.dt_meaning.specs.Names.{overlay_name}
 use Rattle.dt_meaning.specs.Paths.{Path, same_path, is_within, is_listed, name_below}
 use Rattle.dt_meaning.specs.References.{held}
 use Rattle.dt_meaning.specs.MapOf.{value_in}
-use Rattle.dt_assembly.proofs.Orders.{no-below}
-use Rattle.dt_assembly.proofs.PathFacts.{bytes-itself, within-is}
-use Rattle.overlay_meaning.specs.Shifted.{Value}
-use Rattle.overlay_meaning.specs.Applied.{body, moved, moved_value}
+use Rattle.dt_tree_builder.proofs.Orders.{no-below}
+use Rattle.dt_tree_builder.proofs.PathFacts.{bytes-itself, within-is}
+use Rattle.dt_overlay_meaning.specs.Shifted.{Value}
+use Rattle.dt_overlay_meaning.specs.Applied.{body, moved, moved_value}
 
 -- ---- the names of a node's properties
 abbrev pub named : List Value → Path → List (List ℕ)

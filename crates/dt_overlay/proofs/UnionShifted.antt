@@ -7,8 +7,8 @@ use Rattle.dt_tree.specs.Sound.{are_distinct}
 use Rattle.dt_meaning.specs.Paths.{Path, same_path, is_listed, name_below}
 use Rattle.dt_meaning.specs.Edits.{definition, is_of}
 use Rattle.dt_meaning.specs.Resolved.{Resolved}
-use Rattle.overlay_meaning.specs.Steps.{Fault, BadFixup, PhandleClash, UnknownSymbol, then_do, ok_or, each, fold}
-use Rattle.overlay_meaning.specs.Shifted.{Value, Place, Shifting, Fixup, cells, differ, fixups_in, fragments, is_fixups, is_mirror, is_place, number_at, phandle_of, phandles, place, raise_at, raise_places, raised, raised_number, raised_phandle, resolve, shift, shifted_overlay, some_of, symbol_phandle, take_place, with_fixups, with_phandles, with_value, write_at, written}
+use Rattle.dt_overlay_meaning.specs.Steps.{Fault, BadFixup, PhandleClash, UnknownSymbol, then_do, ok_or, each, fold}
+use Rattle.dt_overlay_meaning.specs.Shifted.{Value, Site, Shifting, Fixup, cells, differ, fixups_in, fragments, is_fixups, is_local_fixup, is_site, number_at, phandle_of, phandles, site, raise_at, raise_sites, raised, raised_number, raised_phandle, resolve, shift, shifted_overlay, some_of, symbol_phandle, take_site, with_fixups, with_phandles, with_value, write_at, written}
 use Rattle.dt_overlay.proofs.UnionPaths.{named}
 use Rattle.dt_overlay.proofs.UnionMerged.{IsTidy, IsDistinct}
 
@@ -46,34 +46,34 @@ each-bare s (e ∷ es) fs is =
     let r = did (each (raised_phandle s) es) (λ bs. ok (d.0 ∷ bs)) fs d.2 in
     ap (map bare) (sym (ok-same (d.0 ∷ r.0) fs r.2)) ∙ ap₂ (λ x xs. x ∷ xs) (one-bare s e d.0 (phandle_of e) d.1) (each-bare s es r.0 r.1)
 
-write-bare : (a : Place) (b : List ℕ) (es : List Value) → map bare (write_at a b es) ≡ map bare es
+write-bare : (a : Site) (b : List ℕ) (es : List Value) → map bare (write_at a b es) ≡ map bare es
 write-bare a b [] = refl
 write-bare a b (e ∷ es) = by_test (is_of a.path a.name e) (write-bare a b es) where
   by_test : (t : Bool) → map bare (write_at a b es) ≡ map bare es → map bare (if t then with_value e (written a.offset b e.value) ∷ es else e ∷ write_at a b es) ≡ bare e ∷ map bare es
   by_test true ih = refl
   by_test false ih = ap (λ xs. bare e ∷ xs) ih
 
-take-same : (a : Place) (x y : Shifting) → take_place a x ≡ ok y → y.properties ≡ x.properties
-take-same a x y = by_test (is_place a x) where
-  by_test : (t : Bool) → (if t then Ok (record x { places = a ∷ x.places }) else Err BadFixup) ≡ ok y → y.properties ≡ x.properties
-  by_test true e = ap (λ (z : Shifting). z.properties) (sym (ok-same (record x { places = a ∷ x.places }) y e))
+take-same : (a : Site) (x y : Shifting) → take_site a x ≡ ok y → y.properties ≡ x.properties
+take-same a x y = by_test (is_site a x) where
+  by_test : (t : Bool) → (if t then Ok (record x { sites = a ∷ x.sites }) else Err BadFixup) ≡ ok y → y.properties ≡ x.properties
+  by_test true e = ap (λ (z : Shifting). z.properties) (sym (ok-same (record x { sites = a ∷ x.sites }) y e))
   by_test false e = absurd (cc)
 
 module _ (all : List Value) where
   abbrev Keeps : Shifting → Type 0
   Keeps x = map bare x.properties ≡ all
 
-  raise-keeps : (s : ℕ) (a : Place) (x y : Shifting) → raise_at s a x ≡ ok y → Keeps x → Keeps y
+  raise-keeps : (s : ℕ) (a : Site) (x y : Shifting) → raise_at s a x ≡ ok y → Keeps x → Keeps y
   raise-keeps s a x y e h =
-      let d = did (take_place a x) (λ z. then_do (raised s (number_at a z.properties)) (λ b. ok (record z { properties = write_at a b z.properties }))) y e in
+      let d = did (take_site a x) (λ z. then_do (raised s (number_at a z.properties)) (λ b. ok (record z { properties = write_at a b z.properties }))) y e in
       let r = did (raised s (number_at a d.0.properties)) (λ b. ok (record d.0 { properties = write_at a b d.0.properties })) y d.2 in
       ap (λ (z : Shifting). map bare z.properties) (sym (ok-same (record d.0 { properties = write_at a r.0 d.0.properties }) y r.2))
       ∙ write-bare a r.0 d.0.properties ∙ ap (map bare) (take-same a x d.0 d.1) ∙ h
 
-  places-keep : (s : ℕ) (e : Value) (x y : Shifting) → raise_places s e x ≡ ok y → Keeps x → Keeps y
-  places-keep s e x y is h =
-      let d = did (ok_or BadFixup (cells e.value)) (λ os. fold (λ o. raise_at s (place (drop 1 e.path) e.name o)) os x) y is in
-      fold-keeps Keeps (λ o. raise_at s (place (drop 1 e.path) e.name o)) (λ o u v. raise-keeps s (place (drop 1 e.path) e.name o) u v) d.0 x y d.2 h
+  sites-keep : (s : ℕ) (e : Value) (x y : Shifting) → raise_sites s e x ≡ ok y → Keeps x → Keeps y
+  sites-keep s e x y is h =
+      let d = did (ok_or BadFixup (cells e.value)) (λ os. fold (λ o. raise_at s (site (drop 1 e.path) e.name o)) os x) y is in
+      fold-keeps Keeps (λ o. raise_at s (site (drop 1 e.path) e.name o)) (λ o u v. raise-keeps s (site (drop 1 e.path) e.name o) u v) d.0 x y d.2 h
 
   resolve-keeps : (base : Resolved) (f : Fixup) (es fs : List Value) → resolve base f es ≡ ok fs → map bare es ≡ all → map bare fs ≡ all
   resolve-keeps base f es fs e h =
@@ -82,10 +82,10 @@ module _ (all : List Value) where
 
   fixups-keep : (base : Resolved) (es : List Value) (x : Shifting) (fs : List Value) → with_fixups base es x ≡ ok fs → Keeps x → map bare fs ≡ all
   fixups-keep base es x fs e h =
-      let d = did (each fixups_in es) (λ fss. then_do (fold (λ f. take_place f.at) (flat_map (λ f. f) fss) x) (λ y. fold (resolve base) (flat_map (λ f. f) fss) y.properties)) fs e in
-      let r = did (fold (λ f. take_place f.at) (flat_map (λ f. f) d.0) x) (λ y. fold (resolve base) (flat_map (λ f. f) d.0) y.properties) fs d.2 in
+      let d = did (each fixups_in es) (λ fss. then_do (fold (λ f. take_site f.at) (flat_map (λ f. f) fss) x) (λ y. fold (resolve base) (flat_map (λ f. f) fss) y.properties)) fs e in
+      let r = did (fold (λ f. take_site f.at) (flat_map (λ f. f) d.0) x) (λ y. fold (resolve base) (flat_map (λ f. f) d.0) y.properties) fs d.2 in
       fold-keeps (λ gs. map bare gs ≡ all) (resolve base) (resolve-keeps base) (flat_map (λ f. f) d.0) r.0.properties fs r.2
-      (fold-keeps Keeps (λ f. take_place f.at) (λ f u v is k. ap (map bare) (take-same f.at u v is) ∙ k) (flat_map (λ f. f) d.0) x r.0 r.1 h)
+      (fold-keeps Keeps (λ f. take_site f.at) (λ f u v is k. ap (map bare) (take-same f.at u v is) ∙ k) (flat_map (λ f. f) d.0) x r.0 r.1 h)
 
 -- ---- all together
 pub record AreAlike (over o : Resolved) : Type 0 where
@@ -101,7 +101,7 @@ phandles-bare s es fs e =
       by_test gs false e = absurd (cc)
 
 abbrev shifting : List Value → Shifting
-shifting es = record { properties = es; places = [] }
+shifting es = record { properties = es; sites = [] }
 
 abbrev valued : Resolved → List Value → Resolved
 valued over fs = record { nodes = over.nodes; properties = fs }
@@ -116,18 +116,18 @@ abbrev with_fixed : Resolved → Resolved → Shifting → Result Resolved Fault
 with_fixed base over x = then_do (with_fixups base (filter is_fixups over.properties) x) (λ fs. ok (valued over fs))
 
 abbrev with_raised : Resolved → Resolved → List Value → Result Resolved Fault
-with_raised base over es = then_do (fold (raise_places (shift base)) (filter is_mirror over.properties) (shifting es)) (with_fixed base over)
+with_raised base over es = then_do (fold (raise_sites (shift base)) (filter is_local_fixup over.properties) (shifting es)) (with_fixed base over)
 
 pub shifted-alike : (base over o : Resolved) → shifted_overlay base over ≡ ok o → AreAlike over o
 shifted-alike base over o e =
     let a = did (some_of (fragments over)) (λ _. then_do (with_phandles (shift base) over.properties) (with_raised base over)) o e in
     let b = did (with_phandles (shift base) over.properties) (with_raised base over) o a.2 in
-    let c = did (fold (raise_places (shift base)) (filter is_mirror over.properties) (shifting b.0)) (with_fixed base over) o b.2 in
+    let c = did (fold (raise_sites (shift base)) (filter is_local_fixup over.properties) (shifting b.0)) (with_fixed base over) o b.2 in
     let d = did (with_fixups base (filter is_fixups over.properties) c.0) (λ fs. ok (valued over fs)) o c.2 in
     let all = map bare over.properties in
     alike-by over o d.0 (ok-same (valued over d.0) o d.2)
     (fixups-keep all base (filter is_fixups over.properties) c.0 d.0 d.1
-    (fold-keeps (Keeps all) (raise_places (shift base)) (places-keep all (shift base)) (filter is_mirror over.properties) (shifting b.0) c.0 c.1
+    (fold-keeps (Keeps all) (raise_sites (shift base)) (sites-keep all (shift base)) (filter is_local_fixup over.properties) (shifting b.0) c.0 c.1
     (phandles-bare (shift base) over.properties b.0 b.1)))
 
 pub tidy-alike : (over o : Resolved) → AreAlike over o → IsTidy over → IsTidy o

@@ -13,11 +13,11 @@ use Rattle.dt_meaning.specs.References.{held}
 use Rattle.dt_meaning.specs.Resolved.{Resolved}
 use Rattle.dt_meaning.specs.MapOf.{is_there, value_in, map_of}
 use Rattle.std.proofs.lemmas.List.Elements.{filter_map-append}
-use Rattle.dt_assembly.proofs.PathFacts.{or-false, same-is, same-itself}
-use Rattle.dt_assembly.proofs.Standing.{listed-both}
-use Rattle.overlay_meaning.specs.Shifted.{Value}
-use Rattle.overlay_meaning.specs.Applied.{symbol_path, with_node, with_symbol_at, with_symbols}
-use Rattle.overlay_meaning.specs.Texts.{ended_path}
+use Rattle.dt_tree_builder.proofs.PathFacts.{or-false, same-is, same-itself}
+use Rattle.dt_tree_builder.proofs.Standing.{listed-both}
+use Rattle.dt_overlay_meaning.specs.Shifted.{Value}
+use Rattle.dt_overlay_meaning.specs.Applied.{symbol_path, with_node, with_symbol_at, with_symbols}
+use Rattle.dt_overlay_meaning.specs.Texts.{ended_path}
 use Rattle.dt_overlay.specs.Union.{Map, with_symbol, with_symbols_node}
 use Rattle.dt_overlay.specs.Union as union
 use Rattle.dt_overlay.proofs.UnionPaths.{named, named-held}
@@ -164,9 +164,9 @@ module _ (t : Resolved) (tidy : IsTidy t) (there : is_there t symbols ≡ true) 
     by_test q gone true same = absurd (true≢false (sym (known q same) ∙ gone))
     by_test q gone false other = tidy.properties q gone
 
-  names-shown : (q : Path) → (if is_there t q then Some (map (λ e. e.name) (held given.properties q)) else None)
+  names-patched_lists : (q : Path) → (if is_there t q then Some (map (λ e. e.name) (held given.properties q)) else None)
       ≡ (if same_path symbols q then option_map (with_name n) (if is_there t q then Some (map (λ e. e.name) (held t.properties q)) else None) else (if is_there t q then Some (map (λ e. e.name) (held t.properties q)) else None))
-  names-shown q =
+  names-patched_lists q =
       ap (λ ns. if is_there t q then Some ns else None) (named-held given.properties q ∙ named-given q)
       ∙ by_test (same_path symbols q) (is_there t q) (named t.properties q)
       ∙ ap (λ ns. if same_path symbols q then option_map (with_name n) (if is_there t q then Some ns else None) else (if is_there t q then Some ns else None)) (sym (named-held t.properties q)) where
@@ -175,8 +175,8 @@ module _ (t : Resolved) (tidy : IsTidy t) (there : is_there t symbols ≡ true) 
         by_test true false ns = refl
         by_test false h ns = refl
 
-  value-shown : (q : Path) (j : List ℕ) → (if is_there t q then value_in given.properties q j else None) ≡ (if same_path symbols q && bytes_eq n j then Some v else (if is_there t q then value_in t.properties q j else None))
-  value-shown q j =
+  value-patched_lists : (q : Path) (j : List ℕ) → (if is_there t q then value_in given.properties q j else None) ≡ (if same_path symbols q && bytes_eq n j then Some v else (if is_there t q then value_in t.properties q j else None))
+  value-patched_lists q j =
       ap (λ o. if is_there t q then o else None) (value-put q symbols n v j t.properties ∙ ap₂ (λ a b. if a && b then Some v else value_in t.properties q j) (same-comm q symbols) (bytes_eq-comm j n))
       ∙ by_test (same_path symbols q) (is_there t q) (known q) (bytes_eq n j) where
         by_test : (s h : Bool) → (s ≡ true → h ≡ true) → (b : Bool) → (if h then (if s && b then Some v else value_in t.properties q j) else None) ≡ (if s && b then Some v else (if h then value_in t.properties q j else None))
@@ -187,9 +187,9 @@ module _ (t : Resolved) (tidy : IsTidy t) (there : is_there t symbols ≡ true) 
   map-given : map_of given ≡ with_property symbols n v (map_of t)
   map-given = λ i. record {
     has = λ q. is_there t q;
-    properties = λ q. names-shown q i;
+    properties = λ q. names-patched_lists q i;
     children = λ q. if is_there t q then Some (filter_map (name_below q) t.nodes) else None;
-    value = λ q j. value-shown q j i;
+    value = λ q j. value-patched_lists q j i;
   }
 
 -- ---- all of them

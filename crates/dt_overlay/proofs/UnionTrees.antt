@@ -15,17 +15,17 @@ use Rattle.dt_meaning.specs.Paths.{Path, same_path, is_listed, name_below}
 use Rattle.dt_meaning.specs.References.{held}
 use Rattle.dt_meaning.specs.Resolved.{Resolved}
 use Rattle.dt_meaning.specs.MapOf.{is_there, map_of, value_in}
-use Rattle.dt_assembly.specs.Lists.{below_child, defined_among, defined_at, lists_of}
-use Rattle.dt_assembly.proofs.PathFacts.{child-is, not-deep, or-false, or-right, same-itself}
-use Rattle.dt_assembly.proofs.Standing.{listed-both}
-use Rattle.dt_assembly.proofs.TreeLists.{map-lists}
-use Rattle.dt_assembly.proofs.TreeNodes.{tree-nodes}
-use Rattle.overlay_meaning.specs.Steps.{Fault, fold, then_do}
-use Rattle.overlay_meaning.specs.Shifted.{Value, fragments, numbered, phandle_of, phandles, shifted_overlay}
-use Rattle.overlay_meaning.specs.Applied.{first_with, overlay_result, standing, target, target_by, with_fragment, with_symbols}
-use Rattle.overlay_meaning.specs.Texts.{ended_path}
+use Rattle.dt_tree_builder.specs.Lists.{below_child, defined_among, defined_at, lists_of}
+use Rattle.dt_tree_builder.proofs.PathFacts.{child-is, not-deep, or-false, or-right, same-itself}
+use Rattle.dt_tree_builder.proofs.Standing.{listed-both}
+use Rattle.dt_tree_builder.proofs.TreeLists.{map-lists}
+use Rattle.dt_tree_builder.proofs.TreeNodes.{tree-nodes}
+use Rattle.dt_overlay_meaning.specs.Steps.{Fault, fold, then_do}
+use Rattle.dt_overlay_meaning.specs.Shifted.{Value, fragments, path_phandles, phandle_of, phandles, shifted_overlay}
+use Rattle.dt_overlay_meaning.specs.Applied.{first_with, overlay_result, standing, target, target_by, with_fragment, with_symbols}
+use Rattle.dt_overlay_meaning.specs.Texts.{ended_path}
 use Rattle.dt_overlay.specs.Applied.{IsApplied}
-use Rattle.dt_overlay.specs.Union.{AreLaid, IsRefused, IsUnion, IsWhy, symbols_in, united}
+use Rattle.dt_overlay.specs.Union.{AreStacked, IsRefused, IsUnion, IsWhy, symbols_in, united}
 use Rattle.dt_overlay.specs.Union as union
 use Rattle.dt_overlay.proofs.UnionPaths.{named, named-held}
 use Rattle.dt_overlay.proofs.UnionFold.{IsKnown, Outcome, Refuses, Unites, all-put, err-same}
@@ -153,7 +153,7 @@ with-phandle n (x ∷ xs) p e empty = by_phandle (phandle_of x) e (with-phandle 
   by_number m true e ih = own (same_path p x.path) (ap (same_path p) (some-same x.path p e) ∙ same-itself p) empty
   by_number m false e ih = ih e (others (same_path p x.path) empty)
 
-  by_phandle : (o : Option ℕ) → first_with n (numbered x.path o ++ phandles xs) ≡ Some p → (first_with n (phandles xs) ≡ Some p → named xs p ≢ []) → ⊥
+  by_phandle : (o : Option ℕ) → first_with n (path_phandles x.path o ++ phandles xs) ≡ Some p → (first_with n (phandles xs) ≡ Some p → named xs p ≢ []) → ⊥
   by_phandle None e ih = ih e (others (same_path p x.path) empty)
   by_phandle (Some m) e ih = by_number m (m == n) e ih
 
@@ -209,7 +209,7 @@ module _ (base over : NodeData) (sound : IsSound base) (sound_over : IsSound ove
       shifted = o;
       is_shifted = is;
       maps = all.maps;
-      are_laid = subst (λ m. AreLaid bs o (fragments o) m all.maps) (sym (map-lists base sound)) all.are_laid;
+      are_stacked = subst (λ m. AreStacked bs o (fragments o) m all.maps) (sym (map-lists base sound)) all.are_stacked;
       map = ap map_of (sym same) ∙ map-symbols bs o (symbols_in o) t all.tidy ∙ ap (union.with_symbols bs o (symbols_in o)) (all.all ∙ ap (λ m. united m all.maps) (sym (map-lists base sound)));
     }
 
@@ -222,7 +222,7 @@ module _ (base over : NodeData) (sound : IsSound base) (sound_over : IsSound ove
       behind = r.behind;
       names = r.names;
       maps = r.maps;
-      are_laid = subst (λ m. AreLaid bs o r.before m r.maps) (sym (map-lists base sound)) r.are_laid;
+      are_stacked = subst (λ m. AreStacked bs o r.before m r.maps) (sym (map-lists base sound)) r.are_stacked;
       why = subst (λ m. IsWhy bs o r.refused (united m r.maps) e) (sym (map-lists base sound)) r.why;
     }
 
@@ -231,16 +231,16 @@ module _ (base over : NodeData) (sound : IsSound base) (sound_over : IsSound ove
     of-fragments (Err x) e at is = refuses e (subst (Refuses bs o (fragments o) bs) (err-same x e is) (outcome (Err x) at))
 
   -- what follows the shift
-  abbrev laid : Resolved → Result Resolved Fault
-  laid o = then_do (fold (with_fragment bs o) (fragments o) bs) (with_all o)
+  abbrev all_applied : Resolved → Result Resolved Fault
+  all_applied o = then_do (fold (with_fragment bs o) (fragments o) bs) (with_all o)
 
   pub result-union : (r : Resolved) → overlay_result bs os ≡ ok r → IsUnion base over (map_of r)
   result-union r e =
-      let s = did (shifted_overlay bs os) laid r e in
+      let s = did (shifted_overlay bs os) all_applied r e in
       let m = did (fold (with_fragment bs s.0) (fragments s.0) bs) (with_all s.0) r s.2 in
       unites s.0 s.1 m.0 r (outcome s.0 s.1 (Ok m.0) m.1) (ok-same (with_symbols bs s.0 (symbols_in s.0) m.0) r m.2)
 
-  by-shift : (r : Result Resolved Fault) (e : Fault) → shifted_overlay bs os ≡ r → then_do r laid ≡ Err e → (shifted_overlay bs os ≡ Err e) ⊎ IsRefused base over e
+  by-shift : (r : Result Resolved Fault) (e : Fault) → shifted_overlay bs os ≡ r → then_do r all_applied ≡ Err e → (shifted_overlay bs os ≡ Err e) ⊎ IsRefused base over e
   by-shift (Ok o) e at is = inr (of-fragments o at (fold (with_fragment bs o) (fragments o) bs) e refl is)
   by-shift (Err x) e at is = inl (at ∙ is)
 

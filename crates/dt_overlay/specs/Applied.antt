@@ -7,9 +7,9 @@ use Rattle.dt_tree.specs.Sound.{IsSound}
 use Rattle.dt_tree.specs.TreeData.{TreeData}
 use Rattle.dt_meaning.specs.MapOf.{map_of}
 use Rattle.dt_meaning.specs.Resolved.{Resolved}
-use Rattle.dt_assembly.specs.Lists.{lists_of}
-use Rattle.dt_assembly.specs.Sizes.{size_in, size_below}
-use Rattle.overlay_meaning.specs.Applied.{overlay_result}
+use Rattle.dt_tree_builder.specs.Lists.{lists_of}
+use Rattle.dt_tree_builder.specs.Sizes.{size_in, size_below}
+use Rattle.dt_overlay_meaning.specs.Applied.{overlay_result}
 
 -- the tree is the base with the overlay applied; its reservations and its processor are the base's
 pub record IsApplied (base over t : TreeData) : Type 0 where

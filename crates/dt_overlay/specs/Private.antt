@@ -4,5 +4,5 @@ pub mod Applying
 pub mod Fragments
 pub mod Making
 pub mod Merging
-pub mod Symbols
 pub mod SymbolTargets
+pub mod Symbols

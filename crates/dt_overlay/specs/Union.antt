@@ -12,11 +12,11 @@ use Rattle.dt_meaning.specs.MapOf.{map_of}
 use Rattle.dt_meaning.specs.Names.{overlay_name, symbols_name}
 use Rattle.dt_meaning.specs.Paths.{Path, same_path}
 use Rattle.dt_meaning.specs.Resolved.{Resolved}
-use Rattle.dt_assembly.specs.Lists.{lists_of}
-use Rattle.overlay_meaning.specs.Applied.{symbol_path, target}
-use Rattle.overlay_meaning.specs.Steps.{Fault, NoTarget, PhandleClash, TooDeep}
-use Rattle.overlay_meaning.specs.Shifted.{Value, fragments, shifted_overlay}
-use Rattle.overlay_meaning.specs.Texts.{ended_path}
+use Rattle.dt_tree_builder.specs.Lists.{lists_of}
+use Rattle.dt_overlay_meaning.specs.Applied.{symbol_path, target}
+use Rattle.dt_overlay_meaning.specs.Steps.{Fault, NoTarget, PhandleClash, TooDeep}
+use Rattle.dt_overlay_meaning.specs.Shifted.{Value, fragments, shifted_overlay}
+use Rattle.dt_overlay_meaning.specs.Texts.{ended_path}
 
 abbrev pub Map : Type 0
 Map = PathMap (List ℕ)
@@ -51,11 +51,11 @@ united m [] = m
 united m (g ∷ gs) = united (union m g) gs
 
 -- the fragments' maps, in order: each may be put over the map and those before it
-abbrev pub AreLaid : Resolved → Resolved → List (List ℕ) → Map → List Map → Type 0
-AreLaid base over [] m [] = Unit {0}
-AreLaid base over [] m (g ∷ gs) = ⊥
-AreLaid base over (f ∷ fs) m [] = ⊥
-AreLaid base over (f ∷ fs) m (g ∷ gs) = IsPlaced base over f g × Fits m g × AreLaid base over fs (union m g) gs
+abbrev pub AreStacked : Resolved → Resolved → List (List ℕ) → Map → List Map → Type 0
+AreStacked base over [] m [] = Unit {0}
+AreStacked base over [] m (g ∷ gs) = ⊥
+AreStacked base over (f ∷ fs) m [] = ⊥
+AreStacked base over (f ∷ fs) m (g ∷ gs) = IsPlaced base over f g × Fits m g × AreStacked base over fs (union m g) gs
 
 -- why a fragment isn't put over a map: 41, 45, 46
 abbrev pub IsWhy : Resolved → Resolved → List ℕ → Map → Fault → Type 0
@@ -87,7 +87,7 @@ pub record IsUnion (base over : NodeData) (m : Map) : Type 0 where
   pub shifted : Resolved
   pub is_shifted : shifted_overlay (lists_of base) (lists_of over) ≡ Ok shifted
   pub maps : List Map
-  pub are_laid : AreLaid (lists_of base) shifted (fragments shifted) (path_map base) maps
+  pub are_stacked : AreStacked (lists_of base) shifted (fragments shifted) (path_map base) maps
   pub map : m ≡ with_symbols (lists_of base) shifted (symbols_in shifted) (united (path_map base) maps)
 
 -- a fragment of the shifted overlay can't be put over the union of the base and the fragments before it
@@ -99,5 +99,5 @@ pub record IsRefused (base over : NodeData) (e : Fault) : Type 0 where
   pub behind : List (List ℕ)
   pub names : fragments shifted ≡ before ++ refused ∷ behind
   pub maps : List Map
-  pub are_laid : AreLaid (lists_of base) shifted before (path_map base) maps
+  pub are_stacked : AreStacked (lists_of base) shifted before (path_map base) maps
   pub why : IsWhy (lists_of base) shifted refused (united (path_map base) maps) e

@@ -1,20 +1,20 @@
 //! An overlay, applied to a base.
 ghost use Rattle.std.specs.Prelude.{◌≡◌, ◌<◌, ◌≤◌, ◌-◌, ◌^◌, [], IfOk, MatchOption, MatchResult, Ok};
-ghost use Rattle.overlay_meaning.specs.Applied.{overlay_result};
-ghost use Rattle.overlay_meaning.specs.Shifted.{fragments, shifted_overlay};
+ghost use Rattle.dt_overlay_meaning.specs.Applied.{overlay_result};
+ghost use Rattle.dt_overlay_meaning.specs.Shifted.{fragments, shifted_overlay};
 ghost use Rattle.dt_tree.specs.PathMap.{path_map};
 ghost use Rattle.dt_meaning.specs.MapOf.{map_of};
-ghost use Rattle.dt_assembly.specs.Lists.{lists_of};
-ghost use Rattle.dt_assembly.specs.Standing.{AreNodes};
-ghost use Rattle.dt_assembly.specs.Sizes.{size_in};
-ghost use Rattle.dt_listing.specs.Listed.{IsOrdered, IsWhole, lists};
+ghost use Rattle.dt_tree_builder.specs.Lists.{lists_of};
+ghost use Rattle.dt_tree_builder.specs.Standing.{AreNodes};
+ghost use Rattle.dt_tree_builder.specs.Sizes.{size_in};
+ghost use Rattle.dt_live.specs.Flattened.{IsOrdered, IsWhole, lists};
 ghost use Rattle.dt_fixup.specs.OverlayFault.{IsFault};
-ghost use Rattle.dt_fixup.specs.Sheet.{IsSheet, shown};
+ghost use Rattle.dt_fixup.specs.PatchedOverlay.{IsPatched, patched_lists};
 ghost use Rattle.dt_overlay.specs.Applied.{IsApplied, IsAppliedOrLonger};
 ghost use Rattle.dt_overlay.specs.Private.Additions.{AreSymbols};
 ghost use Rattle.dt_overlay.specs.Private.Applying.{IsRootOrTooLong};
 ghost use Rattle.dt_overlay.specs.Private.Fragments.{AreFragments};
-ghost use Rattle.dt_overlay.specs.Private.Symbols.{laid_over, symbols_of};
+ghost use Rattle.dt_overlay.specs.Private.Symbols.{applied_over, symbols_of};
 
 use crate::fragments::{Fragment, find_fragments};
 use crate::making::{make, total_size};
@@ -22,9 +22,8 @@ use crate::merging::merge_fragments;
 use crate::symbol_sizes::symbols_size;
 use crate::symbol_target::row_targets;
 use crate::symbols::{Symbol, find_symbols, put_symbols};
-use dt_draft::Draft;
-use dt_fixup::{OverlayError, Sheet, shift};
-use dt_listing::list_tree;
+use dt_fixup::{OverlayError, PatchedOverlay, shift};
+use dt_live::{LiveTree, flatten};
 use dt_tree::{Node, Tree};
 use std::alloc::{AllocError, Global};
 use std::hash::RandomState;
@@ -36,117 +35,117 @@ struct Additions<'t> {
     symbols: Option<Vec<Symbol<'t>>>,
 }
 
-// What a sheet puts into the base's rows. Symbols that are too long aren't made.
+// What a patched overlay puts into the base's rows. Symbols that are too long aren't made.
 fn find_additions<'t>(
     alloc: Global,
-    rows: &Draft<'t, &'t [u8]>,
-    sheet: &Sheet<'t>,
+    rows: &LiveTree<'t, &'t [u8]>,
+    patched: &PatchedOverlay<'t>,
     limit: usize,
 ) -> Result<Additions<'t>, AllocError>
     requires base { IsWhole rows.now }
-    requires sheet { IsSheet sheet.now }
-    requires ordered { IsOrdered sheet.now.draft }
-    ensures fragments { IfOk result (λ additions. AreFragments rows.now sheet.now (fragments (shown sheet.now)) additions.list.items) }
-    ensures symbols { IfOk result (λ additions. AreSymbols (symbols_of (lists rows.now) (shown sheet.now)) limit additions.symbols) }
+    requires patched { IsPatched patched.now }
+    requires ordered { IsOrdered patched.now.live }
+    ensures fragments { IfOk result (λ additions. AreFragments rows.now patched.now (fragments (patched_lists patched.now)) additions.list.items) }
+    ensures symbols { IfOk result (λ additions. AreSymbols (symbols_of (lists rows.now) (patched_lists patched.now)) limit additions.symbols) }
 {
-    let list = find_fragments(alloc, rows, sheet)?;
-    let targets = row_targets(alloc, sheet, list.as_slice())?;
-    if symbols_size(rows, sheet, targets.as_slice()) > limit {
+    let list = find_fragments(alloc, rows, patched)?;
+    let targets = row_targets(alloc, patched, list.as_slice())?;
+    if symbols_size(rows, patched, targets.as_slice()) > limit {
         return Ok(Additions {
             list,
             symbols: None,
         });
     }
-    let symbols = find_symbols(alloc, rows, sheet, targets.as_slice())?;
+    let symbols = find_symbols(alloc, rows, patched, targets.as_slice())?;
     Ok(Additions {
         list,
         symbols: Some(symbols),
     })
 }
 
-// The root of a draft's tree, or None where its values are longer together than the limit.
+// The root of a live tree's tree, or None where its values are longer together than the limit.
 fn root_within<'d>(
     alloc: Global,
-    draft: &Draft<'d, &'d [u8]>,
+    live: &LiveTree<'d, &'d [u8]>,
     limit: usize,
 ) -> Result<Option<Node>, AllocError>
-    requires whole { IsWhole draft.now }
-    requires nodes { AreNodes (lists draft.now).nodes }
-    ensures name { IfOk result (λ found. MatchOption found (limit < size_in (lists draft.now).properties) (λ root. root.name ≡ [])) }
-    ensures map { IfOk result (λ found. MatchOption found (limit < size_in (lists draft.now).properties) (λ root. path_map root ≡ map_of (lists draft.now))) }
-    ensures fits { IfOk result (λ found. MatchOption found (limit < size_in (lists draft.now).properties) (λ _. limit < 2 ^ 64 - 1 → size_in (lists draft.now).properties ≤ limit)) }
+    requires whole { IsWhole live.now }
+    requires nodes { AreNodes (lists live.now).nodes }
+    ensures name { IfOk result (λ found. MatchOption found (limit < size_in (lists live.now).properties) (λ root. root.name ≡ [])) }
+    ensures map { IfOk result (λ found. MatchOption found (limit < size_in (lists live.now).properties) (λ root. path_map root ≡ map_of (lists live.now))) }
+    ensures fits { IfOk result (λ found. MatchOption found (limit < size_in (lists live.now).properties) (λ _. limit < 2 ^ 64 - 1 → size_in (lists live.now).properties ≤ limit)) }
 {
-    if total_size(draft) > limit {
+    if total_size(live) > limit {
         return Ok(None);
     }
-    let root = make(alloc, draft)?;
+    let root = make(alloc, live)?;
     Ok(Some(root))
 }
 
 // Puts what was found over the base's rows, and makes the root, or none where its values are too long. All that refuses the
 // fragments comes first.
-fn laid_root<'s, 't>(
+fn merged_root<'s, 't>(
     alloc: Global,
-    draft: &mut Draft<'s, &'s [u8]>,
-    sheet: &'s Sheet<'t>,
+    live: &mut LiveTree<'s, &'s [u8]>,
+    patched: &'s PatchedOverlay<'t>,
     additions: &'s Additions<'t>,
     limit: usize,
 ) -> Result<Option<Node>, OverlayError>
-    requires base { IsWhole draft.old }
-    requires nodes { AreNodes (lists draft.old).nodes }
-    requires sheet { IsSheet sheet.now }
-    requires ordered { IsOrdered sheet.now.draft }
-    requires fragments { AreFragments draft.old sheet.now (fragments (shown sheet.now)) additions.now.list.items }
-    requires symbols { AreSymbols (symbols_of (lists draft.old) (shown sheet.now)) limit additions.now.symbols }
-    ensures { MatchResult result (λ root. IsRootOrTooLong (laid_over (lists draft.old) (shown sheet.now)) limit root) (λ e. IsFault e (laid_over (lists draft.old) (shown sheet.now))) }
+    requires base { IsWhole live.old }
+    requires nodes { AreNodes (lists live.old).nodes }
+    requires patched { IsPatched patched.now }
+    requires ordered { IsOrdered patched.now.live }
+    requires fragments { AreFragments live.old patched.now (fragments (patched_lists patched.now)) additions.now.list.items }
+    requires symbols { AreSymbols (symbols_of (lists live.old) (patched_lists patched.now)) limit additions.now.symbols }
+    ensures { MatchResult result (λ root. IsRootOrTooLong (applied_over (lists live.old) (patched_lists patched.now)) limit root) (λ e. IsFault e (applied_over (lists live.old) (patched_lists patched.now))) }
 {
-    merge_fragments(alloc, draft, sheet, additions.list.as_slice())?;
+    merge_fragments(alloc, live, patched, additions.list.as_slice())?;
     let symbols = match &additions.symbols {
         Some(symbols) => symbols.as_slice(),
         None => return Ok(None),
     };
-    put_symbols(draft, symbols)?;
-    let root = root_within(alloc, draft, limit)?;
+    put_symbols(live, symbols)?;
+    let root = root_within(alloc, live, limit)?;
     Ok(root)
 }
 
 // The same with rows that live as long as what is put there.
 fn rows_root<'s, 't>(
     alloc: Global,
-    rows: Draft<'s, &'s [u8]>,
-    sheet: &'s Sheet<'t>,
+    rows: LiveTree<'s, &'s [u8]>,
+    patched: &'s PatchedOverlay<'t>,
     additions: &'s Additions<'t>,
     limit: usize,
 ) -> Result<Option<Node>, OverlayError>
     requires base { IsWhole rows }
     requires nodes { AreNodes (lists rows).nodes }
-    requires sheet { IsSheet sheet.now }
-    requires ordered { IsOrdered sheet.now.draft }
-    requires fragments { AreFragments rows sheet.now (fragments (shown sheet.now)) additions.now.list.items }
-    requires symbols { AreSymbols (symbols_of (lists rows) (shown sheet.now)) limit additions.now.symbols }
-    ensures { MatchResult result (λ root. IsRootOrTooLong (laid_over (lists rows.entry) (shown sheet.now)) limit root) (λ e. IsFault e (laid_over (lists rows.entry) (shown sheet.now))) }
+    requires patched { IsPatched patched.now }
+    requires ordered { IsOrdered patched.now.live }
+    requires fragments { AreFragments rows patched.now (fragments (patched_lists patched.now)) additions.now.list.items }
+    requires symbols { AreSymbols (symbols_of (lists rows) (patched_lists patched.now)) limit additions.now.symbols }
+    ensures { MatchResult result (λ root. IsRootOrTooLong (applied_over (lists rows.entry) (patched_lists patched.now)) limit root) (λ e. IsFault e (applied_over (lists rows.entry) (patched_lists patched.now))) }
 {
-    let mut draft = rows;
-    let root = laid_root(alloc, &mut draft, sheet, additions, limit);
-    drop(draft);
+    let mut live = rows;
+    let root = merged_root(alloc, &mut live, patched, additions, limit);
+    drop(live);
     root
 }
 
-// The root of the base with what a sheet puts there, or None where its values are too long.
-fn sheet_root<'t>(
+// The root of the base with what a patched overlay puts there, or None where its values are too long.
+fn patched_root<'t>(
     alloc: Global,
-    rows: Draft<'t, &'t [u8]>,
-    sheet: &Sheet<'t>,
+    rows: LiveTree<'t, &'t [u8]>,
+    patched: &PatchedOverlay<'t>,
     limit: usize,
 ) -> Result<Option<Node>, OverlayError>
     requires base { IsWhole rows }
     requires nodes { AreNodes (lists rows).nodes }
-    requires sheet { IsSheet sheet.now }
-    requires ordered { IsOrdered sheet.now.draft }
-    ensures { MatchResult result (λ root. IsRootOrTooLong (laid_over (lists rows.entry) (shown sheet.now)) limit root) (λ e. IsFault e (laid_over (lists rows.entry) (shown sheet.now))) }
+    requires patched { IsPatched patched.now }
+    requires ordered { IsOrdered patched.now.live }
+    ensures { MatchResult result (λ root. IsRootOrTooLong (applied_over (lists rows.entry) (patched_lists patched.now)) limit root) (λ e. IsFault e (applied_over (lists rows.entry) (patched_lists patched.now))) }
 {
-    match find_additions(alloc, &rows, sheet, limit) {
-        Ok(additions) => rows_root(alloc, rows, sheet, &additions, limit),
+    match find_additions(alloc, &rows, patched, limit) {
+        Ok(additions) => rows_root(alloc, rows, patched, &additions, limit),
         Err(refused) => {
             drop(rows);
             Err(OverlayError::from(refused))
@@ -155,18 +154,18 @@ fn sheet_root<'t>(
 }
 
 // The rows of an overlay above those of its base.
-fn overlay_sheet<'t>(
+fn patched_overlay<'t>(
     alloc: Global,
     hasher: RandomState,
-    rows: &Draft<'t, &'t [u8]>,
+    rows: &LiveTree<'t, &'t [u8]>,
     overlay: &'t Tree,
-) -> Result<Sheet<'t>, OverlayError>
+) -> Result<PatchedOverlay<'t>, OverlayError>
     requires { IsWhole rows.now }
-    ensures sheet { MatchResult result (λ sheet. shifted_overlay (lists rows.now) (lists_of overlay.now.root) ≡ Ok (shown sheet)) (λ e. IsFault e (shifted_overlay (lists rows.now) (lists_of overlay.now.root))) }
-    ensures sound { IfOk result (λ sheet. IsSheet sheet) }
-    ensures ordered { IfOk result (λ sheet. IsOrdered sheet.draft) }
+    ensures patched { MatchResult result (λ patched. shifted_overlay (lists rows.now) (lists_of overlay.now.root) ≡ Ok (patched_lists patched)) (λ e. IsFault e (shifted_overlay (lists rows.now) (lists_of overlay.now.root))) }
+    ensures sound { IfOk result (λ patched. IsPatched patched) }
+    ensures ordered { IfOk result (λ patched. IsOrdered patched.live) }
 {
-    let over = list_tree(alloc, hasher, overlay)?;
+    let over = flatten(alloc, hasher, overlay)?;
     shift(alloc, rows, over)
 }
 
@@ -180,11 +179,11 @@ fn applied_root<'t>(
 ) -> Result<Option<Node>, OverlayError>
     ensures { MatchResult result (λ root. IsRootOrTooLong (overlay_result (lists_of base.now.root) (lists_of overlay.now.root)) limit root) (λ e. IsFault e (overlay_result (lists_of base.now.root) (lists_of overlay.now.root))) }
 {
-    let rows = list_tree(alloc, hasher, base)?;
-    match overlay_sheet(alloc, hasher, &rows, overlay) {
-        Ok(sheet) => {
-            let root = sheet_root(alloc, rows, &sheet, limit);
-            drop(sheet);
+    let rows = flatten(alloc, hasher, base)?;
+    match patched_overlay(alloc, hasher, &rows, overlay) {
+        Ok(patched) => {
+            let root = patched_root(alloc, rows, &patched, limit);
+            drop(patched);
             root
         }
         Err(error) => {

@@ -4,16 +4,17 @@ ghost use Rattle.std.specs.BTreeMap.{get};
 ghost use Rattle.std.specs.Int.{from_be_bytes, w32};
 ghost use Rattle.std.specs.Ordering.{nat_cmp};
 ghost use Rattle.dt_meaning.specs.MapOf.{value_in};
-ghost use Rattle.dt_draft.specs.Rows.{IsNode, node_path};
-ghost use Rattle.dt_listing.specs.Listed.{IsOrdered, IsWhole, lists};
-ghost use Rattle.overlay_meaning.specs.Applied.{standing, target_by};
-ghost use Rattle.overlay_meaning.specs.Texts.{ended_path};
-ghost use Rattle.overlay_meaning.specs.Shifted.{fragment_at, fragments};
-ghost use Rattle.dt_fixup.specs.Sheet.{IsSheet, shown};
+ghost use Rattle.dt_live.specs.Rows.{IsNode, node_path};
+ghost use Rattle.dt_live.specs.Flattened.{IsOrdered, IsWhole, lists};
+ghost use Rattle.dt_overlay_meaning.specs.Applied.{standing, target_by};
+ghost use Rattle.dt_overlay_meaning.specs.Texts.{ended_path};
+ghost use Rattle.dt_overlay_meaning.specs.Shifted.{fragment_at, fragments};
+ghost use Rattle.dt_fixup.specs.PatchedOverlay.{IsPatched, patched_lists};
 ghost use Rattle.dt_overlay.specs.Private.Fragments.{AreFragments, ArePhandles, IsBody, IsTarget};
 
-use dt_draft::Draft;
-use dt_fixup::{Sheet, ended_path, row_phandle};
+use dt_fixup::{PatchedOverlay, ended_path, row_phandle};
+use dt_live::LiveTree;
+use dt_tree::cell_in;
 use std::alloc::{AllocError, Global};
 use std::collections::BTreeMap;
 
@@ -28,20 +29,20 @@ pub(crate) struct Fragment {
 /// The fragments of an overlay, in order. Each look-up of a target goes through a map that is made once.
 pub(crate) fn find_fragments<'t>(
     alloc: Global,
-    base: &Draft<'t, &'t [u8]>,
-    sheet: &Sheet<'t>,
+    base: &LiveTree<'t, &'t [u8]>,
+    patched: &PatchedOverlay<'t>,
 ) -> Result<Vec<Fragment>, AllocError>
     requires base { IsWhole base.now }
-    requires sheet { IsSheet sheet.now }
-    requires ordered { IsOrdered sheet.now.draft }
-    ensures { IfOk result (λ list. AreFragments base.now sheet.now (fragments (shown sheet.now)) list.items) }
+    requires patched { IsPatched patched.now }
+    requires ordered { IsOrdered patched.now.live }
+    ensures { IfOk result (λ list. AreFragments base.now patched.now (fragments (patched_lists patched.now)) list.items) }
 {
     let phandles = phandle_nodes(alloc, base)?;
     let mut list = Vec::new(alloc);
-    for row in 0..sheet.draft.nodes().len() {
-        if let Some(body) = fragment_body(&sheet.draft, row) {
+    for row in 0..patched.live.nodes().len() {
+        if let Some(body) = fragment_body(&patched.live, row) {
             let node = row + 1;
-            let target = find_target(base, sheet, &phandles, node);
+            let target = find_target(base, patched, &phandles, node);
             list.push(Fragment { node, body, target })?;
         }
     }
@@ -49,7 +50,7 @@ pub(crate) fn find_fragments<'t>(
 }
 
 // The `__overlay__` of a row's node, where that is a fragment.
-pub(crate) fn fragment_body<'t>(over: &Draft<'t, &'t [u8]>, row: usize) -> Option<usize>
+pub(crate) fn fragment_body<'t>(over: &LiveTree<'t, &'t [u8]>, row: usize) -> Option<usize>
     requires whole { IsWhole over.now }
     requires known { row < length over.now.nodes.items }
     ensures { MatchOption result (fragment_at (node_path over.now (row + 1)) (lists over.now).nodes ≡ []) (λ body. IsBody over.now row body) }
@@ -63,7 +64,7 @@ pub(crate) fn fragment_body<'t>(over: &Draft<'t, &'t [u8]>, row: usize) -> Optio
 // The first node of each phandle.
 fn phandle_nodes<'t>(
     alloc: Global,
-    base: &Draft<'t, &'t [u8]>,
+    base: &LiveTree<'t, &'t [u8]>,
 ) -> Result<BTreeMap<u32, usize>, AllocError>
     requires { IsWhole base.now }
     ensures { IfOk result (λ found. ArePhandles base.now found) }
@@ -89,22 +90,22 @@ fn put_first(found: &mut BTreeMap<u32, usize>, number: u32, node: usize) -> Resu
 
 // The base's node that a fragment targets.
 fn find_target<'t>(
-    base: &Draft<'t, &'t [u8]>,
-    sheet: &Sheet<'t>,
+    base: &LiveTree<'t, &'t [u8]>,
+    patched: &PatchedOverlay<'t>,
     phandles: &BTreeMap<u32, usize>,
     fragment: usize,
 ) -> Option<usize>
     requires base { IsWhole base.now }
-    requires sheet { IsSheet sheet.now }
+    requires patched { IsPatched patched.now }
     requires phandles { ArePhandles base.now phandles.now }
-    requires known { IsNode sheet.now.draft fragment }
-    ensures target { option_map (node_path base.now) result ≡ target_by (lists base.now) (value_in (shown sheet.now).properties (node_path sheet.now.draft fragment) (codes "target")) (value_in (shown sheet.now).properties (node_path sheet.now.draft fragment) (codes "target-path")) }
+    requires known { IsNode patched.now.live fragment }
+    ensures target { option_map (node_path base.now) result ≡ target_by (lists base.now) (value_in (patched_lists patched.now).properties (node_path patched.now.live fragment) (codes "target")) (value_in (patched_lists patched.now).properties (node_path patched.now.live fragment) (codes "target-path")) }
     ensures known { IsTarget base.now result }
 {
-    match sheet.draft.property(fragment, b"target".as_slice()) {
-        Some(row) => by_phandle(phandles, sheet.value(row)),
-        None => match sheet.draft.property(fragment, b"target-path".as_slice()) {
-            Some(row) => by_path(base, sheet.value(row)),
+    match patched.live.property(fragment, b"target".as_slice()) {
+        Some(row) => by_phandle(phandles, patched.value(row)),
+        None => match patched.live.property(fragment, b"target-path".as_slice()) {
+            Some(row) => by_path(base, patched.value(row)),
             None => None,
         },
     }
@@ -113,15 +114,13 @@ fn find_target<'t>(
 fn by_phandle(phandles: &BTreeMap<u32, usize>, value: &[u8]) -> Option<usize>
     ensures { result ≡ (if length value.now == 4 then get nat_cmp phandles.now (from_be_bytes w32 value.now) else None) }
 {
-    if value.len() != 4 {
-        return None;
+    match cell_in(value) {
+        None => None,
+        Some(phandle) => phandles.get(&phandle).copied(),
     }
-    let mut word = [0; 4];
-    word.copy_from_slice(value);
-    phandles.get(&u32::from_be_bytes(word)).copied()
 }
 
-fn by_path<'t>(base: &Draft<'t, &'t [u8]>, value: &'t [u8]) -> Option<usize>
+fn by_path<'t>(base: &LiveTree<'t, &'t [u8]>, value: &'t [u8]) -> Option<usize>
     requires { IsWhole base.now }
     ensures target { option_map (node_path base.now) result ≡ standing (lists base.now) (ended_path value.now) }
     ensures known { IsTarget base.now result }

@@ -1,6 +1,6 @@
 //! Overlays, applied to trees.
 //!
-//! dtc's dt-object-internal, section 3, and `overlay_meaning` say what is made.
+//! dtc's dt-object-internal, section 3, and `dt_overlay_meaning` say what is made.
 #![tactic(auto)]
 
 mod applying;

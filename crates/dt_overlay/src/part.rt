@@ -3,57 +3,57 @@ ghost use Rattle.std.specs.Prelude.{◌≡◌, ◌<◌, ◌≤◌, ◌+◌, ◌&
 ghost use Rattle.std.specs.List.{list_any};
 ghost use Rattle.std.specs.Str.{bytes_eq};
 ghost use Rattle.dt_meaning.specs.MapOf.{value_in};
-ghost use Rattle.dt_draft.specs.Rows.{HasSameNodes, IsDraft, IsNode, is_standing, node_path, property_at, state_of};
+ghost use Rattle.dt_live.specs.Rows.{HasSameNodes, IsLiveTree, IsNode, is_standing, node_path, property_at, state_of};
 ghost use Rattle.dt_meaning.specs.Resolved.{is_too_deep};
-ghost use Rattle.dt_listing.specs.Listed.{IsOrdered, lists};
-ghost use Rattle.dt_fixup.specs.Sheet.{IsSheet, shown};
+ghost use Rattle.dt_live.specs.Flattened.{IsOrdered, lists};
+ghost use Rattle.dt_fixup.specs.PatchedOverlay.{IsPatched, patched_lists};
 ghost use Rattle.dt_fixup.specs.OverlayFault.{IsFault};
-ghost use Rattle.overlay_meaning.specs.Applied.{clashes, merged, with_nodes, with_values};
-ghost use Rattle.dt_overlay.specs.Private.Merging.{AreKept, ArePlaces, IsFirst, IsPart, IsPartOf, part_below};
+ghost use Rattle.dt_overlay_meaning.specs.Applied.{clashes, merged, with_nodes, with_values};
+ghost use Rattle.dt_overlay.specs.Private.Merging.{AreKept, AreBaseNodes, IsFirst, IsPart, IsPartOf, part_below};
 
-use dt_draft::{Draft, PropertyRow};
-use dt_fixup::{OverlayError, Sheet};
+use dt_fixup::{OverlayError, PatchedOverlay};
+use dt_live::{LiveTree, PropertyRow};
 use dt_tree::MAX_DEPTH;
 use std::alloc::AllocError;
 
 /// What overlays add, as the one body that defines all rows.
-const BODY: usize = 1;
+const STAMP: usize = 1;
 
-/// Defines the nodes below the node `body` of the overlay, below the place of `body`, and notes the place of each. Answers the
+/// Defines the nodes below the node `body` of the overlay, below the base node of `body`, and notes the base node of each. Answers the
 /// node behind them, and whether one of them lies too deep.
 pub(crate) fn define_nodes<'s, 't>(
-    draft: &mut Draft<'s, &'s [u8]>,
-    sheet: &'s Sheet<'t>,
+    live: &mut LiveTree<'s, &'s [u8]>,
+    patched: &'s PatchedOverlay<'t>,
     body: usize,
-    places: &mut [usize],
+    base_nodes: &mut [usize],
 ) -> Result<(usize, bool), AllocError>
-    requires sheet { IsSheet sheet.now }
-    requires ordered { IsOrdered sheet.now.draft }
-    requires body { IsNode sheet.now.draft body }
-    requires top { length (node_path sheet.now.draft body) ≡ 2 }
-    requires room { length places.old ≡ length sheet.now.draft.nodes.items + 1 }
-    requires sound { IsDraft draft.old }
-    requires target { IsNode draft.old (slice_index_or places.old body 0) }
-    requires stands { is_standing draft.old (slice_index_or places.old body 0) ≡ true }
-    ensures sound { OnOk result (IsDraft draft.new) }
-    ensures kept { OnOk result (AreKept draft.old draft.new) }
-    ensures labels { OnOk result ((state_of draft.new).labels ≡ (state_of draft.old).labels) }
-    ensures nodes { OnOk result ((lists draft.new).nodes ≡ with_nodes (part_below (shown sheet.now) (node_path sheet.now.draft body) (node_path draft.old (slice_index_or places.old body 0))).nodes (lists draft.old).nodes) }
-    ensures properties { OnOk result ((lists draft.new).properties ≡ (lists draft.old).properties) }
-    ensures part { IfOk result (λ x. IsPart sheet.now.draft.nodes.items body x.0) }
-    ensures deep { IfOk result (λ x. x.1 ≡ list_any is_too_deep (part_below (shown sheet.now) (node_path sheet.now.draft body) (node_path draft.old (slice_index_or places.old body 0))).nodes) }
-    ensures places { IfOk result (λ x. ArePlaces sheet.now.draft draft.new (node_path draft.old (slice_index_or places.old body 0)) body x.0 places.new) }
+    requires patched { IsPatched patched.now }
+    requires ordered { IsOrdered patched.now.live }
+    requires body { IsNode patched.now.live body }
+    requires top { length (node_path patched.now.live body) ≡ 2 }
+    requires room { length base_nodes.old ≡ length patched.now.live.nodes.items + 1 }
+    requires sound { IsLiveTree live.old }
+    requires target { IsNode live.old (slice_index_or base_nodes.old body 0) }
+    requires stands { is_standing live.old (slice_index_or base_nodes.old body 0) ≡ true }
+    ensures sound { OnOk result (IsLiveTree live.new) }
+    ensures kept { OnOk result (AreKept live.old live.new) }
+    ensures labels { OnOk result ((state_of live.new).labels ≡ (state_of live.old).labels) }
+    ensures nodes { OnOk result ((lists live.new).nodes ≡ with_nodes (part_below (patched_lists patched.now) (node_path patched.now.live body) (node_path live.old (slice_index_or base_nodes.old body 0))).nodes (lists live.old).nodes) }
+    ensures properties { OnOk result ((lists live.new).properties ≡ (lists live.old).properties) }
+    ensures part { IfOk result (λ x. IsPart patched.now.live.nodes.items body x.0) }
+    ensures deep { IfOk result (λ x. x.1 ≡ list_any is_too_deep (part_below (patched_lists patched.now) (node_path patched.now.live body) (node_path live.old (slice_index_or base_nodes.old body 0))).nodes) }
+    ensures base_nodes { IfOk result (λ x. AreBaseNodes patched.now.live live.new (node_path live.old (slice_index_or base_nodes.old body 0)) body x.0 base_nodes.new) }
 {
-    let nodes = sheet.draft.nodes();
+    let nodes = patched.live.nodes();
     let mut is_deep = false;
     for node in body + 1..nodes.len() + 1 {
         let row = nodes[node - 1];
         if row.parent < body {
             return Ok((node, is_deep));
         }
-        let (place, _) = draft.define_child(places[row.parent], row.name, BODY)?;
-        places[node] = place;
-        if draft.depth(place) > MAX_DEPTH {
+        let (base_node, _) = live.define_child(base_nodes[row.parent], row.name, STAMP)?;
+        base_nodes[node] = base_node;
+        if live.depth(base_node) > MAX_DEPTH {
             is_deep = true;
         }
     }
@@ -78,104 +78,104 @@ pub(crate) struct Part {
 }
 
 // Whether the name is `phandle`, and the node has such a property.
-fn is_clash<'s>(draft: &Draft<'s, &'s [u8]>, node: usize, name: &'s [u8]) -> bool
-    requires sound { IsDraft draft.now }
-    requires stands { is_standing draft.now node ≡ true }
-    ensures { result ≡ (bytes_eq name.now (codes "phandle") && is_some (value_in (lists draft.now).properties (node_path draft.now node) name.now)) }
+fn is_clash<'s>(live: &LiveTree<'s, &'s [u8]>, node: usize, name: &'s [u8]) -> bool
+    requires sound { IsLiveTree live.now }
+    requires stands { is_standing live.now node ≡ true }
+    ensures { result ≡ (bytes_eq name.now (codes "phandle") && is_some (value_in (lists live.now).properties (node_path live.now node) name.now)) }
 {
     if name == b"phandle".as_slice() {
-        return draft.property(node, name).is_some();
+        return live.property(node, name).is_some();
     }
     false
 }
 
 /// Whether a property `phandle` of the part would stand over one that is there.
 pub(crate) fn has_clash<'s, 't>(
-    draft: &Draft<'s, &'s [u8]>,
-    sheet: &'s Sheet<'t>,
+    live: &LiveTree<'s, &'s [u8]>,
+    patched: &'s PatchedOverlay<'t>,
     part: Part,
-    places: &[usize],
+    base_nodes: &[usize],
 ) -> bool
-    requires sheet { IsSheet sheet.now }
-    requires ordered { IsOrdered sheet.now.draft }
-    requires part { IsPartOf sheet.now.draft part }
-    requires room { length places.now ≡ length sheet.now.draft.nodes.items + 1 }
-    requires sound { IsDraft draft.now }
-    requires places { ArePlaces sheet.now.draft draft.now (node_path draft.now (slice_index_or places.now part.body 0)) part.body part.end places.now }
-    ensures { result ≡ list_any (clashes (lists draft.now).properties) (part_below (shown sheet.now) (node_path sheet.now.draft part.body) (node_path draft.now (slice_index_or places.now part.body 0))).properties }
+    requires patched { IsPatched patched.now }
+    requires ordered { IsOrdered patched.now.live }
+    requires part { IsPartOf patched.now.live part }
+    requires room { length base_nodes.now ≡ length patched.now.live.nodes.items + 1 }
+    requires sound { IsLiveTree live.now }
+    requires base_nodes { AreBaseNodes patched.now.live live.now (node_path live.now (slice_index_or base_nodes.now part.body 0)) part.body part.end base_nodes.now }
+    ensures { result ≡ list_any (clashes (lists live.now).properties) (part_below (patched_lists patched.now) (node_path patched.now.live part.body) (node_path live.now (slice_index_or base_nodes.now part.body 0))).properties }
 {
-    let rows = sheet.draft.properties();
+    let rows = patched.live.properties();
     for at in part.first..part.last {
         let row = rows[at];
-        if is_clash(draft, places[row.node], row.name) {
+        if is_clash(live, base_nodes[row.node], row.name) {
             return true;
         }
     }
     false
 }
 
-/// Sets the properties of the part at the places of their nodes.
+/// Sets the properties of the part at the base nodes of theirs.
 pub(crate) fn set_properties<'s, 't>(
-    draft: &mut Draft<'s, &'s [u8]>,
-    sheet: &'s Sheet<'t>,
+    live: &mut LiveTree<'s, &'s [u8]>,
+    patched: &'s PatchedOverlay<'t>,
     part: Part,
-    places: &[usize],
+    base_nodes: &[usize],
 ) -> Result<(), AllocError>
-    requires sheet { IsSheet sheet.now }
-    requires ordered { IsOrdered sheet.now.draft }
-    requires part { IsPartOf sheet.now.draft part }
-    requires room { length places.now ≡ length sheet.now.draft.nodes.items + 1 }
-    requires sound { IsDraft draft.old }
-    requires places { ArePlaces sheet.now.draft draft.old (node_path draft.old (slice_index_or places.now part.body 0)) part.body part.end places.now }
-    ensures sound { OnOk result (IsDraft draft.new) }
-    ensures kept { OnOk result (HasSameNodes draft.old draft.new) }
-    ensures labels { OnOk result ((state_of draft.new).labels ≡ (state_of draft.old).labels) }
-    ensures properties { OnOk result ((lists draft.new).properties ≡ with_values (part_below (shown sheet.now) (node_path sheet.now.draft part.body) (node_path draft.old (slice_index_or places.now part.body 0))).properties (lists draft.old).properties) }
+    requires patched { IsPatched patched.now }
+    requires ordered { IsOrdered patched.now.live }
+    requires part { IsPartOf patched.now.live part }
+    requires room { length base_nodes.now ≡ length patched.now.live.nodes.items + 1 }
+    requires sound { IsLiveTree live.old }
+    requires base_nodes { AreBaseNodes patched.now.live live.old (node_path live.old (slice_index_or base_nodes.now part.body 0)) part.body part.end base_nodes.now }
+    ensures sound { OnOk result (IsLiveTree live.new) }
+    ensures kept { OnOk result (HasSameNodes live.old live.new) }
+    ensures labels { OnOk result ((state_of live.new).labels ≡ (state_of live.old).labels) }
+    ensures properties { OnOk result ((lists live.new).properties ≡ with_values (part_below (patched_lists patched.now) (node_path patched.now.live part.body) (node_path live.old (slice_index_or base_nodes.now part.body 0))).properties (lists live.old).properties) }
 {
-    let rows = sheet.draft.properties();
+    let rows = patched.live.properties();
     for at in part.first..part.last {
         let row = rows[at];
-        draft.set_property(places[row.node], row.name, sheet.value(at), BODY)?;
+        live.set_property(base_nodes[row.node], row.name, patched.value(at), STAMP)?;
     }
     Ok(())
 }
 
-/// Merges what stands below the node `body` of the overlay into a node of the draft. There is room for the place of each node.
+/// Merges what stands below the node `body` of the overlay into a node of the live tree. There is room for the base node of each node.
 pub(crate) fn merge_part<'s, 't>(
-    draft: &mut Draft<'s, &'s [u8]>,
-    sheet: &'s Sheet<'t>,
+    live: &mut LiveTree<'s, &'s [u8]>,
+    patched: &'s PatchedOverlay<'t>,
     target: usize,
     body: usize,
-    places: &mut [usize],
+    base_nodes: &mut [usize],
 ) -> Result<(), OverlayError>
-    requires sheet { IsSheet sheet.now }
-    requires ordered { IsOrdered sheet.now.draft }
-    requires body { IsNode sheet.now.draft body }
-    requires top { length (node_path sheet.now.draft body) ≡ 2 }
-    requires room { length places.old ≡ length sheet.now.draft.nodes.items + 1 }
-    requires sound { IsDraft draft.old }
-    requires target { IsNode draft.old target }
-    requires stands { is_standing draft.old target ≡ true }
-    ensures sound { OnOk result (IsDraft draft.new) }
-    ensures kept { OnOk result (AreKept draft.old draft.new) }
-    ensures labels { OnOk result ((state_of draft.new).labels ≡ (state_of draft.old).labels) }
-    ensures merged { MatchResult result (λ _. merged (part_below (shown sheet.now) (node_path sheet.now.draft body) (node_path draft.old target)) (lists draft.old) ≡ Ok (lists draft.new)) (λ e. IsFault e (merged (part_below (shown sheet.now) (node_path sheet.now.draft body) (node_path draft.old target)) (lists draft.old))) }
+    requires patched { IsPatched patched.now }
+    requires ordered { IsOrdered patched.now.live }
+    requires body { IsNode patched.now.live body }
+    requires top { length (node_path patched.now.live body) ≡ 2 }
+    requires room { length base_nodes.old ≡ length patched.now.live.nodes.items + 1 }
+    requires sound { IsLiveTree live.old }
+    requires target { IsNode live.old target }
+    requires stands { is_standing live.old target ≡ true }
+    ensures sound { OnOk result (IsLiveTree live.new) }
+    ensures kept { OnOk result (AreKept live.old live.new) }
+    ensures labels { OnOk result ((state_of live.new).labels ≡ (state_of live.old).labels) }
+    ensures merged { MatchResult result (λ _. merged (part_below (patched_lists patched.now) (node_path patched.now.live body) (node_path live.old target)) (lists live.old) ≡ Ok (lists live.new)) (λ e. IsFault e (merged (part_below (patched_lists patched.now) (node_path patched.now.live body) (node_path live.old target)) (lists live.old))) }
 {
-    places[body] = target;
-    let (end, is_deep) = define_nodes(draft, sheet, body, places)?;
-    let rows = sheet.draft.properties();
+    base_nodes[body] = target;
+    let (end, is_deep) = define_nodes(live, patched, body, base_nodes)?;
+    let rows = patched.live.properties();
     let part = Part {
         body,
         end,
         first: first_property(rows, body),
         last: first_property(rows, end),
     };
-    if has_clash(draft, sheet, part, places) {
+    if has_clash(live, patched, part, base_nodes) {
         return Err(OverlayError::PhandleClash);
     }
     if is_deep {
         return Err(OverlayError::TooDeep);
     }
-    set_properties(draft, sheet, part, places)?;
+    set_properties(live, patched, part, base_nodes)?;
     Ok(())
 }

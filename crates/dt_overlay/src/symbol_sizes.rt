@@ -3,35 +3,34 @@ ghost use Rattle.std.specs.Prelude.{◌≡◌, ◌-◌, ◌^◌, ◌<◌, ◌≤
 ghost use Rattle.dt_tree.specs.Path.{behind_slashes, text_or_root};
 ghost use Rattle.dt_meaning.specs.Names.{symbols_name};
 ghost use Rattle.dt_meaning.specs.Paths.{same_path};
-ghost use Rattle.dt_draft.specs.Rows.{IsGrown, path_of};
-ghost use Rattle.dt_assembly.specs.Sizes.{size_in};
-ghost use Rattle.dt_listing.specs.Listed.{IsWhole, lists};
-ghost use Rattle.overlay_meaning.specs.Applied.{symbol_path};
-ghost use Rattle.overlay_meaning.specs.Texts.{ended_path};
-ghost use Rattle.dt_fixup.specs.Sheet.{IsSheet, shown, value_at};
+ghost use Rattle.dt_live.specs.Rows.{IsGrown, path_of};
+ghost use Rattle.dt_tree_builder.specs.Sizes.{size_in};
+ghost use Rattle.dt_live.specs.Flattened.{IsWhole, lists};
+ghost use Rattle.dt_overlay_meaning.specs.Applied.{symbol_path};
+ghost use Rattle.dt_overlay_meaning.specs.Texts.{ended_path};
+ghost use Rattle.dt_fixup.specs.PatchedOverlay.{IsPatched, patched_lists, value_at};
 ghost use Rattle.dt_overlay.specs.Private.Symbols.{symbol_at, symbols_of};
 ghost use Rattle.dt_overlay.specs.Private.SymbolTargets.{AreTargets};
 
 use crate::symbol_target::symbol_target;
-use dt_draft::{Draft, NodeRow};
-use dt_fixup::Sheet;
-use dt_layout::{is_root_child, names_size};
+use dt_fixup::PatchedOverlay;
+use dt_live::{LiveTree, NodeRow, is_root_child, names_size};
 
 /// How many bytes the symbols' values have together, or the greatest number where there are more. Takes no memory.
 pub(crate) fn symbols_size<'t>(
-    base: &Draft<'t, &'t [u8]>,
-    sheet: &Sheet<'t>,
+    base: &LiveTree<'t, &'t [u8]>,
+    patched: &PatchedOverlay<'t>,
     targets: &[Option<usize>],
 ) -> usize
     requires base { IsWhole base.now }
-    requires sheet { IsSheet sheet.now }
-    requires targets { AreTargets base.now sheet.now targets.now }
-    ensures { result ≡ min (size_in (symbols_of (lists base.now) (shown sheet.now))) (2 ^ 64 - 1) }
+    requires patched { IsPatched patched.now }
+    requires targets { AreTargets base.now patched.now targets.now }
+    ensures { result ≡ min (size_in (symbols_of (lists base.now) (patched_lists patched.now))) (2 ^ 64 - 1) }
 {
     let mut size: usize = 0;
-    for row in 0..sheet.draft.properties().len() {
-        if is_symbols_node(sheet.draft.nodes(), sheet.draft.properties()[row].node) {
-            size = size.saturating_add(symbol_size(base, sheet, targets, row));
+    for row in 0..patched.live.properties().len() {
+        if is_symbols_node(patched.live.nodes(), patched.live.properties()[row].node) {
+            size = size.saturating_add(symbol_size(base, patched, targets, row));
         }
     }
     size
@@ -48,18 +47,18 @@ pub(crate) fn is_symbols_node(nodes: &[NodeRow<'_>], node: usize) -> bool
 
 // How many bytes the value of a symbol has that a row is for, or the greatest number where there are more.
 fn symbol_size<'t>(
-    base: &Draft<'t, &'t [u8]>,
-    sheet: &Sheet<'t>,
+    base: &LiveTree<'t, &'t [u8]>,
+    patched: &PatchedOverlay<'t>,
     targets: &[Option<usize>],
     row: usize,
 ) -> usize
     requires base { IsWhole base.now }
-    requires sheet { IsSheet sheet.now }
-    requires targets { AreTargets base.now sheet.now targets.now }
-    requires known { row < length sheet.now.draft.properties.items }
-    ensures { result ≡ min (size_in (symbol_at [] (symbol_path (lists base.now) (shown sheet.now) (ended_path (value_at sheet.now row))))) (2 ^ 64 - 1) }
+    requires patched { IsPatched patched.now }
+    requires targets { AreTargets base.now patched.now targets.now }
+    requires known { row < length patched.now.live.properties.items }
+    ensures { result ≡ min (size_in (symbol_at [] (symbol_path (lists base.now) (patched_lists patched.now) (ended_path (value_at patched.now row))))) (2 ^ 64 - 1) }
 {
-    match symbol_target(sheet, targets, sheet.value(row)) {
+    match symbol_target(patched, targets, patched.value(row)) {
         None => 0,
         Some((node, rest)) => text_size(base.nodes(), node, rest),
     }

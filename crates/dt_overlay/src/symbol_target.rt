@@ -2,34 +2,34 @@
 ghost use Rattle.std.specs.Prelude.{◌≡◌, ◌∷◌, length, slice_index_or, IfOk, MatchOption};
 ghost use Rattle.std.specs.List.{slice_split};
 ghost use Rattle.dt_tree.specs.Path.{behind_slashes, is_slash, path_names};
-ghost use Rattle.dt_draft.specs.declared.table.Draft.{Draft};
-ghost use Rattle.dt_listing.specs.Listed.{IsOrdered, IsWhole, Lent, lists};
-ghost use Rattle.overlay_meaning.specs.Applied.{symbol_path};
-ghost use Rattle.overlay_meaning.specs.Shifted.{fragments};
-ghost use Rattle.overlay_meaning.specs.Texts.{ended_path};
-ghost use Rattle.dt_fixup.specs.Sheet.{IsSheet, shown};
+ghost use Rattle.dt_live.specs.declared.live_tree.LiveTree.{LiveTree};
+ghost use Rattle.dt_live.specs.Flattened.{IsOrdered, IsWhole, Lent, lists};
+ghost use Rattle.dt_overlay_meaning.specs.Applied.{symbol_path};
+ghost use Rattle.dt_overlay_meaning.specs.Shifted.{fragments};
+ghost use Rattle.dt_overlay_meaning.specs.Texts.{ended_path};
+ghost use Rattle.dt_fixup.specs.PatchedOverlay.{IsPatched, patched_lists};
 ghost use Rattle.dt_overlay.specs.Private.Fragments.{AreFragments};
 ghost use Rattle.dt_overlay.specs.Private.SymbolTargets.{AreTargets, IsInside, IsOutside, IsSymbolTarget, names_after, no_fragment};
 
 use crate::fragments::{Fragment, fragment_body};
-use dt_fixup::{Sheet, ended_path};
+use dt_fixup::{PatchedOverlay, ended_path};
 use std::alloc::{AllocError, Global};
 
 /// The base's nodes that fragments target, by the fragments' rows in the overlay.
 pub(crate) fn row_targets<'t>(
     alloc: Global,
-    sheet: &Sheet<'t>,
+    patched: &PatchedOverlay<'t>,
     list: &[Fragment],
 ) -> Result<Vec<Option<usize>>, AllocError>
-    requires sheet { IsSheet sheet.now }
-    requires ordered { IsOrdered sheet.now.draft }
-    ensures { IfOk result (λ targets. (base : Draft Lent) → AreFragments base sheet.now (fragments (shown sheet.now)) list.now → AreTargets base sheet.now targets.items) }
+    requires patched { IsPatched patched.now }
+    requires ordered { IsOrdered patched.now.live }
+    ensures { IfOk result (λ targets. (base : LiveTree Lent) → AreFragments base patched.now (fragments (patched_lists patched.now)) list.now → AreTargets base patched.now targets.items) }
 {
-    let count = sheet.draft.nodes().len();
+    let count = patched.live.nodes().len();
     let mut targets = Vec::with_capacity(alloc, count)?;
     let mut used = 0;
     for row in 0..count {
-        if fragment_body(&sheet.draft, row).is_some() {
+        if fragment_body(&patched.live, row).is_some() {
             targets.push(target_of(list, used))?;
             used += 1;
         } else {
@@ -80,16 +80,16 @@ fn split_body(path: &[u8]) -> Option<(&[u8], &[u8])>
 
 /// The base's node that the fragment at the head of a symbol's path targets, and what stands in the path behind the body's name.
 pub(crate) fn symbol_target<'v>(
-    sheet: &Sheet<'v>,
+    patched: &PatchedOverlay<'v>,
     targets: &[Option<usize>],
     value: &'v [u8],
 ) -> Option<(usize, &'v [u8])>
-    requires sheet { IsSheet sheet.now }
-    requires count { length targets.now ≡ length sheet.now.draft.nodes.items }
-    ensures { (base : Draft Lent) → AreTargets base sheet.now targets.now → MatchOption result (symbol_path (lists base) (shown sheet.now) (ended_path value.now) ≡ None) (λ found. IsSymbolTarget base (symbol_path (lists base) (shown sheet.now) (ended_path value.now)) found.0 found.1.now) }
+    requires patched { IsPatched patched.now }
+    requires count { length targets.now ≡ length patched.now.live.nodes.items }
+    ensures { (base : LiveTree Lent) → AreTargets base patched.now targets.now → MatchOption result (symbol_path (lists base) (patched_lists patched.now) (ended_path value.now) ≡ None) (λ found. IsSymbolTarget base (symbol_path (lists base) (patched_lists patched.now) (ended_path value.now)) found.0 found.1.now) }
 {
     let (fragment, rest) = split_body(ended_path(value)?)?;
-    let node = sheet.draft.child(0, fragment)?;
+    let node = patched.live.child(0, fragment)?;
     let target = targets[node - 1]?;
     Some((target, rest))
 }

@@ -3,21 +3,19 @@ ghost use Rattle.std.specs.Prelude.{◌≡◌, ◌≤◌, ◌<◌, ◌++◌, [],
 ghost use Rattle.dt_meaning.specs.Names.{symbols_name};
 ghost use Rattle.dt_meaning.specs.Edits.{definition};
 ghost use Rattle.dt_tree.specs.Name.{is_name};
-ghost use Rattle.dt_draft.specs.Rows.{IsDraft, IsGrown, path_of, property_at, state_of};
+ghost use Rattle.dt_live.specs.Rows.{IsLiveTree, IsGrown, path_of, property_at, state_of};
 ghost use Rattle.dt_tree.specs.Path.{behind_slashes, text_or_root};
-ghost use Rattle.dt_listing.specs.Listed.{IsWhole, lists};
-ghost use Rattle.dt_fixup.specs.Sheet.{IsSheet, shown, value_at};
-ghost use Rattle.overlay_meaning.specs.Applied.{symbol_path};
-ghost use Rattle.overlay_meaning.specs.Texts.{ended_path};
+ghost use Rattle.dt_live.specs.Flattened.{IsWhole, lists};
+ghost use Rattle.dt_fixup.specs.PatchedOverlay.{IsPatched, patched_lists, value_at};
+ghost use Rattle.dt_overlay_meaning.specs.Applied.{symbol_path};
+ghost use Rattle.dt_overlay_meaning.specs.Texts.{ended_path};
 ghost use Rattle.dt_overlay.specs.Private.SymbolTargets.{AreTargets};
 ghost use Rattle.dt_overlay.specs.Private.Symbols.{symbol_at, symbol_value, symbols_of, values_in, with_all, with_symbol};
 
 use crate::symbol_sizes::{is_symbols_node, text_size};
 use crate::symbol_target::symbol_target;
-use dt_draft::{Draft, NodeRow};
-use dt_fixup::Sheet;
-use dt_layout::append_names;
-use dt_listing::has_all_rows;
+use dt_fixup::PatchedOverlay;
+use dt_live::{LiveTree, NodeRow, append_names, has_all_rows};
 use std::alloc::{AllocError, Global};
 
 /// A symbol and the path of its node, with a zero byte.
@@ -30,20 +28,20 @@ pub(crate) struct Symbol<'t> {
 /// The symbols of an overlay whose paths begin in a fragment, in order, each with its path in the base.
 pub(crate) fn find_symbols<'t>(
     alloc: Global,
-    base: &Draft<'t, &'t [u8]>,
-    sheet: &Sheet<'t>,
+    base: &LiveTree<'t, &'t [u8]>,
+    patched: &PatchedOverlay<'t>,
     targets: &[Option<usize>],
 ) -> Result<Vec<Symbol<'t>>, AllocError>
     requires base { IsWhole base.now }
-    requires sheet { IsSheet sheet.now }
-    requires targets { AreTargets base.now sheet.now targets.now }
+    requires patched { IsPatched patched.now }
+    requires targets { AreTargets base.now patched.now targets.now }
     ensures named { IfOk result (λ symbols. All (λ s. is_name s.name.now ≡ true) symbols.items) }
-    ensures symbols { IfOk result (λ symbols. map symbol_value symbols.items ≡ symbols_of (lists base.now) (shown sheet.now)) }
+    ensures symbols { IfOk result (λ symbols. map symbol_value symbols.items ≡ symbols_of (lists base.now) (patched_lists patched.now)) }
 {
     let mut symbols = Vec::new(alloc);
-    for row in 0..sheet.draft.properties().len() {
-        if is_symbols_node(sheet.draft.nodes(), sheet.draft.properties()[row].node) {
-            if let Some(symbol) = symbol_of(alloc, base, sheet, targets, row)? {
+    for row in 0..patched.live.properties().len() {
+        if is_symbols_node(patched.live.nodes(), patched.live.properties()[row].node) {
+            if let Some(symbol) = symbol_of(alloc, base, patched, targets, row)? {
                 symbols.push(symbol)?;
             }
         }
@@ -75,61 +73,61 @@ fn symbol_text(
 // The symbol of a row with its path in the base, none where that begins in no fragment.
 fn symbol_of<'t>(
     alloc: Global,
-    base: &Draft<'t, &'t [u8]>,
-    sheet: &Sheet<'t>,
+    base: &LiveTree<'t, &'t [u8]>,
+    patched: &PatchedOverlay<'t>,
     targets: &[Option<usize>],
     row: usize,
 ) -> Result<Option<Symbol<'t>>, AllocError>
     requires base { IsWhole base.now }
-    requires sheet { IsSheet sheet.now }
-    requires targets { AreTargets base.now sheet.now targets.now }
-    requires known { row < length sheet.now.draft.properties.items }
-    ensures value { IfOk result (λ found. values_in found ≡ symbol_at (property_at sheet.now.draft.properties.items row).name.now (symbol_path (lists base.now) (shown sheet.now) (ended_path (value_at sheet.now row)))) }
+    requires patched { IsPatched patched.now }
+    requires targets { AreTargets base.now patched.now targets.now }
+    requires known { row < length patched.now.live.properties.items }
+    ensures value { IfOk result (λ found. values_in found ≡ symbol_at (property_at patched.now.live.properties.items row).name.now (symbol_path (lists base.now) (patched_lists patched.now) (ended_path (value_at patched.now row)))) }
     ensures named { IfOk result (λ found. IfSome found (λ symbol. is_name symbol.name.now ≡ true)) }
 {
-    match symbol_target(&*sheet, targets, sheet.value(row)) {
+    match symbol_target(&*patched, targets, patched.value(row)) {
         None => Ok(None),
         Some((node, rest)) => {
             let value = symbol_text(alloc, base.nodes(), node, rest)?;
-            let name = sheet.draft.properties()[row].name;
+            let name = patched.live.properties()[row].name;
             Ok(Some(Symbol { name, value }))
         }
     }
 }
 
-// The number of the body that defines symbols: a draft takes all bodies for different ones, and here none is asked for.
-const BODY: usize = 1;
+// The stamp of what defines symbols: none is asked for here.
+const STAMP: usize = 1;
 
-// Puts a symbol over those of a draft.
+// Puts a symbol over those of a live tree.
 fn put_symbol<'s>(
-    draft: &mut Draft<'s, &'s [u8]>,
+    live: &mut LiveTree<'s, &'s [u8]>,
     name: &'s [u8],
     value: &'s [u8],
 ) -> Result<(), AllocError>
-    requires { IsDraft draft.old }
-    ensures sound { OnOk result (IsDraft draft.new) }
-    ensures labels { OnOk result ((state_of draft.new).labels ≡ (state_of draft.old).labels) }
-    ensures put { OnOk result (lists draft.new ≡ with_symbol (definition (symbols_name ∷ []) name.now value.now) (lists draft.old)) }
+    requires { IsLiveTree live.old }
+    ensures sound { OnOk result (IsLiveTree live.new) }
+    ensures labels { OnOk result ((state_of live.new).labels ≡ (state_of live.old).labels) }
+    ensures put { OnOk result (lists live.new ≡ with_symbol (definition (symbols_name ∷ []) name.now value.now) (lists live.old)) }
 {
-    let (node, _) = draft.define_child(0, b"__symbols__".as_slice(), BODY)?;
-    draft.set_property(node, name, value, BODY)?;
+    let (node, _) = live.define_child(0, b"__symbols__".as_slice(), STAMP)?;
+    live.set_property(node, name, value, STAMP)?;
     Ok(())
 }
 
-/// Puts the symbols over those of a draft, whose node is made where there is one. After a refusal the draft is of no more use.
+/// Puts the symbols over those of a live tree, whose node is made where there is one. After a refusal the live tree is of no more use.
 pub(crate) fn put_symbols<'s, 't>(
-    draft: &mut Draft<'s, &'s [u8]>,
+    live: &mut LiveTree<'s, &'s [u8]>,
     symbols: &'s [Symbol<'t>],
 ) -> Result<(), AllocError>
-    requires whole { IsWhole draft.old }
+    requires whole { IsWhole live.old }
     requires named { All (λ s. is_name s.name.now ≡ true) symbols.now }
-    ensures whole { OnOk result (IsWhole draft.new) }
-    ensures put { OnOk result (lists draft.new ≡ with_all (map symbol_value symbols.now) (lists draft.old)) }
+    ensures whole { OnOk result (IsWhole live.new) }
+    ensures put { OnOk result (lists live.new ≡ with_all (map symbol_value symbols.now) (lists live.old)) }
 {
     for symbol in symbols {
-        put_symbol(draft, symbol.name, symbol.value.as_slice())?;
+        put_symbol(live, symbol.name, symbol.value.as_slice())?;
     }
-    if !has_all_rows(draft) {
+    if !has_all_rows(live) {
         return Err(AllocError);
     }
     Ok(())

@@ -3,8 +3,8 @@ use Rattle.std.proofs.Common.{◌≡◌, ℕ, Bool, true, false, List, [], Ok, E
 use Rattle.dt_meaning.specs.Syntax.{Target, OfLabel, OfPath, Piece, Plain, PhandleOf, PathOf}
 use Rattle.dt_meaning.specs.Edits.{State, counted, definition}
 use Rattle.dt_meaning.specs.Statements.{ReservedName, then_do, found}
-use Rattle.dt_meaning.specs.References.{Way, cell_of, each, found_in, in_order, references}
-use Rattle.dt_meaning.specs.Phandles.{given_of, numbered, wanted}
+use Rattle.dt_meaning.specs.References.{PathText, cell_of, each, found_in, in_order, references}
+use Rattle.dt_meaning.specs.Phandles.{given_of, assigned, wanted}
 use Rattle.dt_meaning.specs.Resolved.{names_taken, put_together, resolved_state, shallow}
 
 module _ (n : ℕ) (s : State (List Piece)) where
@@ -19,7 +19,7 @@ module _ (n : ℕ) (s : State (List Piece)) where
 
   counted-part : (plugin : Bool) (v : Piece) → found_in plugin (counted n s) v ≡ found_in plugin s v
   counted-part plugin (Plain b) = refl
-  counted-part plugin (PathOf t) = ap (λ r. then_do r (λ p. Ok (Way p))) (counted-found t)
+  counted-part plugin (PathOf t) = ap (λ r. then_do r (λ p. Ok (PathText p))) (counted-found t)
   counted-part plugin (PhandleOf t) = counted-cell plugin t
 
   counted-parts : (plugin : Bool) → found_in plugin (counted n s) ≡ found_in plugin s
@@ -33,5 +33,5 @@ module _ (n : ℕ) (s : State (List Piece)) where
       ap (λ r.
       if names_taken symbols plugin s then Err ReservedName
       else then_do (given_of (in_order s) []) (λ given.
-      then_do r (λ es. shallow (put_together symbols plugin s es given (numbered given 0 (wanted symbols s given es))))))
+      then_do r (λ es. shallow (put_together symbols plugin s es given (assigned given 0 (wanted symbols s given es))))))
       (counted-references plugin)

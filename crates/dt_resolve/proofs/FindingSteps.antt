@@ -6,10 +6,10 @@ use Rattle.dt_meaning.specs.Paths.{Path}
 use Rattle.dt_meaning.specs.Syntax.{Target, OfLabel, OfPath, Piece, PathOf}
 use Rattle.dt_meaning.specs.Edits.{Definition, definition, State, label_path}
 use Rattle.dt_meaning.specs.Statements.{UnknownLabel, then_do, ok_or, found}
-use Rattle.dt_meaning.specs.References.{Found, Bytes, Open, Way, each, cell_at, cell_of, cell_of_label, found_in, found_value}
+use Rattle.dt_meaning.specs.References.{Found, Bytes, Open, PathText, each, cell_at, cell_of, cell_of_label, found_in, found_value}
 use Rattle.dt_meaning.specs.Phandles.{cell_path}
-use Rattle.dt_draft.specs.declared.table.Draft.{Draft}
-use Rattle.dt_draft.specs.Rows.{node_path}
+use Rattle.dt_live.specs.declared.live_tree.LiveTree.{LiveTree}
+use Rattle.dt_live.specs.Rows.{node_path}
 use Rattle.dt_edit.specs.declared.error.EditError.{EditError}
 use Rattle.dt_edit.specs.EditFault as edit
 use Rattle.dt_edit.specs.Said.{Parts}
@@ -32,24 +32,24 @@ cell-found s (OfLabel l) = label-cell l (label_path l s.labels)
 cell-found s (OfPath p) = refl
 
 module _ (plugin : Bool) (s : State (List Piece)) (t : Target) where
-  pub way-found : (p : Path) → found t s ≡ Ok p → found_in plugin s (PathOf t) ≡ Ok (Way p)
-  way-found p at = ap (λ r. then_do r (λ q. Ok (Way q))) at
+  pub text-found : (p : Path) → found t s ≡ Ok p → found_in plugin s (PathOf t) ≡ Ok (PathText p)
+  text-found p at = ap (λ r. then_do r (λ q. Ok (PathText q))) at
 
-  pub way-fault : (a : EditError) → edit.IsFault a (found t s) → IsFault (build_error a) (found_in plugin s (PathOf t))
-  way-fault a fault = fault-then (build_error a) (found t s) (λ q. Ok (Way q)) (edit-fault a (found t s) fault)
+  pub text-fault : (a : EditError) → edit.IsFault a (found t s) → IsFault (build_error a) (found_in plugin s (PathOf t))
+  text-fault a fault = fault-then (build_error a) (found t s) (λ q. Ok (PathText q)) (edit-fault a (found t s) fault)
 
 module _ (plugin : Bool) (s : State (List Piece)) where
   pub cell-open : (l : List ℕ) → plugin ≡ true → label_path l s.labels ≡ None → cell_of plugin s (OfLabel l) ≡ Ok (Open l)
   cell-open l is at = ap₂ (λ b o. cell_of_label b l o) is at
 
 -- ---- lists of targets
-pub adds-none : (d : Draft Parts) (t : Targets) → Adds d [] t t
+pub adds-none : (d : LiveTree Parts) (t : Targets) → Adds d [] t t
 adds-none d t = record { all = sym (append-nil (map (option_map (node_path d)) t.all.items)); cells = sym (append-nil (map (node_path d) t.cells.items)) }
 
-pub adds-bytes : (d : Draft Parts) (b : List ℕ) (t : Targets) → Adds d (Bytes b ∷ []) t t
+pub adds-bytes : (d : LiveTree Parts) (b : List ℕ) (t : Targets) → Adds d (Bytes b ∷ []) t t
 adds-bytes d b t = record { all = sym (append-nil (map (option_map (node_path d)) t.all.items)); cells = sym (append-nil (map (node_path d) t.cells.items)) }
 
-pub adds-then : (d : Draft Parts) (fs gs : List Found) (old mid new : Targets) → Adds d fs old mid → Adds d gs mid new → Adds d (fs ++ gs) old new
+pub adds-then : (d : LiveTree Parts) (fs gs : List Found) (old mid new : Targets) → Adds d fs old mid → Adds d gs mid new → Adds d (fs ++ gs) old new
 adds-then d fs gs old mid new a b = record {
   all = b.all ∙ ap (λ ps. ps ++ flat_map target_path gs) a.all ∙ append_assoc (map (option_map (node_path d)) old.all.items) (flat_map target_path fs) (flat_map target_path gs)
       ∙ ap (λ ps. map (option_map (node_path d)) old.all.items ++ ps) (sym (flat_map-append target_path fs gs));
@@ -63,10 +63,10 @@ all_in e = flat_map target_path e.value
 abbrev cells_in : Definition (List Found) → List Path
 cells_in e = flat_map cell_path e.value
 
-pub found-none : (d : Draft Parts) (t : Targets) → t.all.items ≡ [] → t.cells.items ≡ [] → AreFound d [] t
+pub found-none : (d : LiveTree Parts) (t : Targets) → t.all.items ≡ [] → t.cells.items ≡ [] → AreFound d [] t
 found-none d t a b = record { all = ap (map (option_map (node_path d))) a; cells = ap (map (node_path d)) b }
 
-pub found-more : (d : Draft Parts) (es : List (Definition (List Found))) (p : Path) (n : List ℕ) (fs : List Found) (mid new : Targets) → AreFound d es mid → Adds d fs mid new → AreFound d (es ++ definition p n fs ∷ []) new
+pub found-more : (d : LiveTree Parts) (es : List (Definition (List Found))) (p : Path) (n : List ℕ) (fs : List Found) (mid new : Targets) → AreFound d es mid → Adds d fs mid new → AreFound d (es ++ definition p n fs ∷ []) new
 found-more d es p n fs mid new a b =
     let e = definition p n fs in
     record {
@@ -81,13 +81,13 @@ value-found plugin s e fs at = ap (λ r. then_do r (λ v. Ok (definition e.path 
 pub value-fault : (plugin : Bool) (s : State (List Piece)) (e : Definition (List Piece)) (b : BuildError) → IsFault b (each (found_in plugin s) e.value) → IsFault b (found_value plugin s e)
 value-fault plugin s e b fault = fault-then b (each (found_in plugin s) e.value) (λ v. Ok (definition e.path e.name v)) fault
 
--- ---- on the way
-pub record IsFinding (plugin : Bool) (d : Draft Parts) (s : State (List Piece)) (fs : List Found) (left all : List Piece) (old now : Targets) : Type 0 where
+-- ---- so far
+pub record IsFinding (plugin : Bool) (d : LiveTree Parts) (s : State (List Piece)) (fs : List Found) (left all : List Piece) (old now : Targets) : Type 0 where
   pub known : AreTargets d now
   pub so_far : IsSoFar (found_in plugin s) fs left all
   pub adds : Adds d fs old now
 
-pub record IsWalking (plugin : Bool) (d : Draft Parts) (s : State (List Piece)) (es : List (Definition (List Found))) (left all : List (Definition (List Piece))) (now : Targets) : Type 0 where
+pub record IsWalking (plugin : Bool) (d : LiveTree Parts) (s : State (List Piece)) (es : List (Definition (List Found))) (left all : List (Definition (List Piece))) (now : Targets) : Type 0 where
   pub known : AreTargets d now
   pub so_far : IsSoFar (found_value plugin s) es left all
   pub found : AreFound d es now

@@ -1,72 +1,72 @@
--- Numbers and targets together.
+-- Phandles and targets together.
 use Rattle.std.proofs.Common.{◌≡◌, ℕ, ◌==◌, ◌++◌, ◌&&◌, ◌||◌, not, Bool, true, false, if◌then◌else◌, List, [], ◌∷◌, length, map, Result, Ok, Err, refl, sym, ap, ap₂, ◌∙◌, subst}
 use Rattle.std.specs.List.{list_any}
 use Rattle.std.specs.Prelude.{All}
 use Rattle.std.proofs.lemmas.List.{length-map}
 use Rattle.dt_meaning.specs.Edits.{Definition}
 use Rattle.dt_meaning.specs.Statements.{Fault, ReservedName, then_do}
-use Rattle.dt_meaning.specs.Phandles.{Number, has_number, new_ones, numbered, labelled, wanted}
+use Rattle.dt_meaning.specs.Phandles.{PathPhandle, has_phandle, new_ones, assigned, labelled, wanted}
 use Rattle.dt_meaning.specs.References.{Found, preorder}
-use Rattle.dt_draft.specs.declared.table.Draft.{Draft}
-use Rattle.dt_draft.specs.Index.{row_of}
-use Rattle.dt_draft.specs.Rows.{IsDraft, IsNode, is_standing, node_path, path_of, state_of}
+use Rattle.dt_live.specs.declared.live_tree.LiveTree.{LiveTree}
+use Rattle.dt_live.specs.Index.{row_of}
+use Rattle.dt_live.specs.Rows.{IsLiveTree, IsNode, is_standing, node_path, path_of, state_of}
 use Rattle.dt_edit.specs.Said.{Parts, tree_of}
 use Rattle.dt_resolve.specs.declared.error.BuildError.{BuildError}
-use Rattle.dt_resolve.specs.declared.numbers.Numbered.{Numbered}
+use Rattle.dt_resolve.specs.declared.node_phandles.NodePhandle.{NodePhandle}
 use Rattle.dt_resolve.specs.declared.references.Targets.{Targets}
 use Rattle.dt_resolve.specs.BuildFault.{IsFault}
-use Rattle.dt_resolve.specs.Numbers.{AreStanding, number_at}
+use Rattle.dt_resolve.specs.NodePhandles.{AreStanding, path_phandle_of}
 use Rattle.dt_resolve.specs.Targets.{AreFound}
 use Rattle.dt_resolve.specs.Private.Targets.{AreTargets}
-use Rattle.dt_resolve.specs.Private.Wanted.{free_after, labelled_rows, new_rows, numbered_rows}
-use Rattle.dt_layout.proofs.Each.{Each, each-all, each-append, each-kept, each-of, each-when}
+use Rattle.dt_resolve.specs.Private.Wanted.{free_after, labelled_rows, new_rows, assigned_rows}
+use Rattle.dt_live.proofs.Each.{Each, each-all, each-append, each-kept, each-of, each-when}
 use Rattle.dt_tree.specs.Phandle.{is_reserved}
 use Rattle.std.specs.List.{filter}
 use Rattle.std.proofs.lemmas.List.{map-append}
 use Rattle.dt_meaning.specs.Paths.{same_path}
 use Rattle.dt_resolve.proofs.LabelledPaths.{labelled-same}
 use Rattle.dt_resolve.proofs.Faults.{fault-same}
-use Rattle.dt_resolve.proofs.PathNumbers.{EachStands, each-numbered, given-same, news-same, numbers-same}
+use Rattle.dt_resolve.proofs.PathPhandles.{EachStands, each-assigned, given-same, news-same, phandles-same}
 
 -- what is named is a node
-pub named-within : (P : ℕ → Type 0) (d : Draft Parts) (symbols : Bool) (cells order : List ℕ) → All P cells → All P order → Each P (cells ++ (if symbols then labelled_rows d order else []))
+pub named-within : (P : ℕ → Type 0) (d : LiveTree Parts) (symbols : Bool) (cells order : List ℕ) → All P cells → All P order → Each P (cells ++ (if symbols then labelled_rows d order else []))
 named-within P d symbols cells order a b =
     each-append P cells (if symbols then labelled_rows d order else []) (each-of P cells a)
     (each-when P symbols (labelled_rows d order) (each-kept P (λ n. list_any (λ r. r.node == n) d.labels.items && not (is_reserved (node_path d n))) order (each-of P order b)))
 
-when-labelled : (d : Draft Parts) → IsDraft d → (symbols : Bool) (order : List ℕ) → EachStands d.nodes.items order → map (node_path d) order ≡ preorder (state_of d).nodes
+when-labelled : (d : LiveTree Parts) → IsLiveTree d → (symbols : Bool) (order : List ℕ) → EachStands d.nodes.items order → map (node_path d) order ≡ preorder (state_of d).nodes
     → map (node_path d) (if symbols then labelled_rows d order else []) ≡ (if symbols then labelled (tree_of d) else [])
 when-labelled d sound true order up at =
     labelled-same d.nodes.items (row_of d.node_rows) sound.grown sound.nodes d.labels.items order up
     ∙ ap (filter (λ p. list_any (λ l. same_path p l.path) (state_of d).labels && not (is_reserved p))) at
 when-labelled d sound false order up at = refl
 
-module _ (d : Draft Parts) (sound : IsDraft d) (given : List Numbered) (up : AreStanding d.nodes.items given) (es : List (Definition (List Found))) (t : Targets) (at : AreFound d es t) (known : AreTargets d t)
-    (taken : ℕ → Bool) (same : (n : ℕ) → taken n ≡ has_number n (map (number_at d.nodes.items) given))
+module _ (d : LiveTree Parts) (sound : IsLiveTree d) (given : List NodePhandle) (up : AreStanding d.nodes.items given) (es : List (Definition (List Found))) (t : Targets) (at : AreFound d es t) (known : AreTargets d t)
+    (taken : ℕ → Bool) (same : (n : ℕ) → taken n ≡ has_phandle n (map (path_phandle_of d.nodes.items) given))
     (symbols : Bool) (order : List ℕ) (there : All (λ n. is_standing d n ≡ true) order) (nodes : map (node_path d) order ≡ preorder (state_of d).nodes) where
   abbrev named : List ℕ
   named = t.cells.items ++ (if symbols then labelled_rows d order else [])
 
-  abbrev xs : List Number
-  xs = map (number_at d.nodes.items) given
+  abbrev xs : List PathPhandle
+  xs = map (path_phandle_of d.nodes.items) given
 
   wanted-same : map (path_of d.nodes.items) (new_rows (λ n. list_any (λ x. x.node == n) given) named) ≡ wanted symbols (tree_of d) xs es
   wanted-same =
       news-same d.nodes.items (row_of d.node_rows) sound.grown sound.nodes (λ n. list_any (λ x. x.node == n) given) (map (λ x. x.path) xs)
-      (given-same d.nodes.items (row_of d.node_rows) sound.grown sound.nodes given (each-numbered d.nodes.items given up.stand)) named
+      (given-same d.nodes.items (row_of d.node_rows) sound.grown sound.nodes given (each-assigned d.nodes.items given up.stand)) named
       (named-within (λ n. is_standing d n ≡ true) d symbols t.cells.items order known.there there)
       ∙ ap (new_ones (map (λ x. x.path) xs))
       (map-append (node_path d) t.cells.items (if symbols then labelled_rows d order else [])
       ∙ ap₂ (λ a b. a ++ b) at.cells (when-labelled d sound symbols order (each-of (λ n. is_standing d n ≡ true) order there) nodes))
 
-  pub all-numbered : (new : List Numbered) → new ≡ numbered_rows taken (length given) 0 (new_rows (λ n. list_any (λ x. x.node == n) given) named)
-      → map (number_at d.nodes.items) new ≡ numbered xs 0 (wanted symbols (tree_of d) xs es)
-  all-numbered new is =
-      ap (map (number_at d.nodes.items)) is
-      ∙ numbers-same d.nodes.items taken xs (length given) same (sym (length-map given (number_at d.nodes.items))) 0 (new_rows (λ n. list_any (λ x. x.node == n) given) named)
-      ∙ ap (numbered xs 0) wanted-same
+  pub all-assigned : (new : List NodePhandle) → new ≡ assigned_rows taken (length given) 0 (new_rows (λ n. list_any (λ x. x.node == n) given) named)
+      → map (path_phandle_of d.nodes.items) new ≡ assigned xs 0 (wanted symbols (tree_of d) xs es)
+  all-assigned new is =
+      ap (map (path_phandle_of d.nodes.items)) is
+      ∙ phandles-same d.nodes.items taken xs (length given) same (sym (length-map given (path_phandle_of d.nodes.items))) 0 (new_rows (λ n. list_any (λ x. x.node == n) given) named)
+      ∙ ap (assigned xs 0) wanted-same
 
--- ---- each that is numbered is a node of the tree
+-- ---- each that has a phandle is a node of the tree
 new-by : (P : ℕ → Type 0) (known : ℕ → Bool) (n : ℕ) (ns : List ℕ) (b : Bool) → P n → Each P (new_rows known ns) → Each P (new_rows (λ m. (m == n) || known m) ns)
     → Each P (if b then new_rows known ns else n ∷ new_rows (λ m. (m == n) || known m) ns)
 new-by P known n ns true h old more = old
@@ -76,27 +76,27 @@ each-new : (P : ℕ → Type 0) (known : ℕ → Bool) (ns : List ℕ) → Each 
 each-new P known [] h = tt
 each-new P known (n ∷ ns) h = new-by P known n ns (known n) h.0 (each-new P known ns h.1) (each-new P (λ m. (m == n) || known m) ns h.1)
 
-each-row : (P : ℕ → Type 0) (taken : ℕ → Bool) (tries n : ℕ) (ks : List ℕ) → Each P ks → Each (λ (x : Numbered). P x.node) (numbered_rows taken tries n ks)
+each-row : (P : ℕ → Type 0) (taken : ℕ → Bool) (tries n : ℕ) (ks : List ℕ) → Each P ks → Each (λ (x : NodePhandle). P x.node) (assigned_rows taken tries n ks)
 each-row P taken tries n [] h = tt
 each-row P taken tries n (k ∷ ks) h = (h.0, each-row P taken tries (free_after taken tries n) ks h.1)
 
-pub new-standing : (d : Draft Parts) (t : Targets) → AreTargets d t → (symbols : Bool) (order : List ℕ) → All (λ n. IsNode d n) order → All (λ n. is_standing d n ≡ true) order
-    → (known taken : ℕ → Bool) (tries : ℕ) (new : List Numbered) → new ≡ numbered_rows taken tries 0 (new_rows known (t.cells.items ++ (if symbols then labelled_rows d order else [])))
+pub new-standing : (d : LiveTree Parts) (t : Targets) → AreTargets d t → (symbols : Bool) (order : List ℕ) → All (λ n. IsNode d n) order → All (λ n. is_standing d n ≡ true) order
+    → (known taken : ℕ → Bool) (tries : ℕ) (new : List NodePhandle) → new ≡ assigned_rows taken tries 0 (new_rows known (t.cells.items ++ (if symbols then labelled_rows d order else [])))
     → AreStanding d.nodes.items new
 new-standing d t at symbols order within there known taken tries new is =
     let named = t.cells.items ++ (if symbols then labelled_rows d order else []) in
     let wants = new_rows known named in
-    let rows = numbered_rows taken tries 0 wants in
-    subst (λ (xs : List Numbered). AreStanding d.nodes.items xs) (sym is) (record {
-      known = each-all (λ (x : Numbered). IsNode d x.node) rows
+    let rows = assigned_rows taken tries 0 wants in
+    subst (λ (xs : List NodePhandle). AreStanding d.nodes.items xs) (sym is) (record {
+      known = each-all (λ (x : NodePhandle). IsNode d x.node) rows
           (each-row (λ n. IsNode d n) taken tries 0 wants (each-new (λ n. IsNode d n) known named (named-within (λ n. IsNode d n) d symbols t.cells.items order at.known within)));
-      stand = each-all (λ (x : Numbered). is_standing d x.node ≡ true) rows
+      stand = each-all (λ (x : NodePhandle). is_standing d x.node ≡ true) rows
           (each-row (λ n. is_standing d n ≡ true) taken tries 0 wants
           (each-new (λ n. is_standing d n ≡ true) known named (named-within (λ n. is_standing d n ≡ true) d symbols t.cells.items order at.there there)));
     })
 
--- a fault of the references, where the numbers have none
-pub fault-behind : (e : BuildError) (r : Result (List Number) Fault) (q : Result (List (Definition (List Found))) Fault) (given : List Number) → r ≡ Ok given → IsFault e q → IsFault e (then_do r (λ _. q))
+-- a fault of the references, where the phandles have none
+pub fault-behind : (e : BuildError) (r : Result (List PathPhandle) Fault) (q : Result (List (Definition (List Found))) Fault) (given : List PathPhandle) → r ≡ Ok given → IsFault e q → IsFault e (then_do r (λ _. q))
 fault-behind e r q given is fault = fault-same e q (then_do r (λ _. q)) (ap (λ x. then_do x (λ _. q)) is) fault
 
 -- behind a name that is free

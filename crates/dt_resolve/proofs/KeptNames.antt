@@ -2,14 +2,14 @@
 use Rattle.std.proofs.Common.{◌≡◌, ℕ, true, false, List, length, Some, None, refl, sym, ap, ◌∙◌, arith}
 use Rattle.dt_meaning.specs.Paths.{is_listed}
 use Rattle.dt_meaning.specs.Resolved.{has_child}
-use Rattle.dt_draft.specs.declared.table.Draft.{Draft}
-use Rattle.dt_draft.specs.Index.{row_of}
-use Rattle.dt_draft.specs.Rows.{IsDraft, path_of, stands, standing}
-use Rattle.dt_draft.proofs.NodeRows.{not-listed, found-child}
-use Rattle.dt_draft.proofs.Shown.{listed-standing}
+use Rattle.dt_live.specs.declared.live_tree.LiveTree.{LiveTree}
+use Rattle.dt_live.specs.Index.{row_of}
+use Rattle.dt_live.specs.Rows.{IsLiveTree, path_of, stands, standing}
+use Rattle.dt_live.proofs.NodeRows.{not-listed, found-child}
+use Rattle.dt_live.proofs.StandingProperties.{listed-standing}
 use Rattle.dt_edit.specs.Said.{Parts, tree_of}
 
-module _ (d : Draft Parts) (sound : IsDraft d) where
+module _ (d : LiveTree Parts) (sound : IsLiveTree d) where
   pub child-there : (name : List ℕ) (m : ℕ) → row_of d.node_rows 0 name ≡ Some m → has_child (tree_of d) name ≡ true
   child-there name m e =
       let rows = d.nodes.items in

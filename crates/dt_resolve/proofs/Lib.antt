@@ -7,7 +7,7 @@ pub mod Joined
 pub mod KeptNames
 pub mod LabelledPaths
 pub mod Orders
-pub mod PathNumbers
+pub mod PathPhandles
 pub mod PreparedFaults
 pub mod ReadOrder
 pub mod WantedSteps

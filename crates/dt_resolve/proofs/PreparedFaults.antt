@@ -1,11 +1,11 @@
--- A fault of the numbers or the references, where the edits have none, is a fault of the whole.
+-- A fault of the phandles or the references, where the edits have none, is a fault of the whole.
 use Rattle.std.proofs.Common.{◌≡◌, ℕ, Bool, List, [], Ok, Err, if◌then◌else◌, sym, ap, ◌∙◌}
 use Rattle.dt_meaning.specs.Syntax.{Meaning, Piece}
 use Rattle.dt_meaning.specs.Edits.{State, counted}
 use Rattle.dt_meaning.specs.Statements as meaning
 use Rattle.dt_meaning.specs.Statements.{ReservedName, then_do}
 use Rattle.dt_meaning.specs.References.{in_order, references}
-use Rattle.dt_meaning.specs.Phandles.{given_of, numbered, wanted}
+use Rattle.dt_meaning.specs.Phandles.{given_of, assigned, wanted}
 use Rattle.dt_meaning.specs.Resolved.{names_taken, put_together, resolved, resolved_state, shallow}
 use Rattle.dt_resolve.specs.declared.error.BuildError.{BuildError}
 use Rattle.dt_resolve.specs.BuildFault.{IsFault}
@@ -22,4 +22,4 @@ pub references-stop : (e : BuildError) (symbols plugin : Bool) (m : Meaning) (n 
 references-stop e symbols plugin m n s done is fault =
     fault-same e (resolved_state symbols plugin s) (resolved symbols m) (resolved-counted symbols plugin m n s done is)
     (fault-second e (names_taken symbols plugin s) ReservedName (given_of (in_order s) []) (references plugin s)
-    (λ given es. shallow (put_together symbols plugin s es given (numbered given 0 (wanted symbols s given es)))) fault)
+    (λ given es. shallow (put_together symbols plugin s es given (assigned given 0 (wanted symbols s given es)))) fault)

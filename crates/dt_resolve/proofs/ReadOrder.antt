@@ -5,13 +5,13 @@ use Rattle.std.proofs.lemmas.List.{map-append}
 use Rattle.dt_meaning.specs.Paths.{Path, same_path}
 use Rattle.dt_meaning.specs.Edits.{Definition}
 use Rattle.dt_meaning.specs.References.{held, preorder, in_order}
-use Rattle.dt_draft.specs.declared.table.Draft.{Draft}
-use Rattle.dt_draft.specs.Rows.{state_of}
-use Rattle.dt_layout.specs.declared.properties.Laid.{Laid}
-use Rattle.dt_layout.specs.Order.{laid_definition}
+use Rattle.dt_live.specs.declared.live_tree.LiveTree.{LiveTree}
+use Rattle.dt_live.specs.Rows.{state_of}
+use Rattle.dt_live.specs.declared.preorder.properties.NodeProperty.{NodeProperty}
+use Rattle.dt_live.specs.Preorder.{definition_of}
 use Rattle.dt_edit.specs.Said.{Parts, read_definition, tree_of}
 use Rattle.dt_edit.proofs.Reading.{filter-read}
-use Rattle.dt_resolve.specs.Private.Laid.{read_laid}
+use Rattle.dt_resolve.specs.Private.ReadProperty.{read_property}
 
 held-read : (es : List (Definition Parts)) (ps : List Path) → map read_definition (flat_map (held es) ps) ≡ flat_map (held (map read_definition es)) ps
 held-read es [] = refl
@@ -19,10 +19,10 @@ held-read es (p ∷ ps) =
     map-append read_definition (held es p) (flat_map (held es) ps)
     ∙ ap₂ (λ a b. a ++ b) (sym (filter-read read_definition (λ e. same_path p e.path) es)) (held-read es ps)
 
-read-each : (d : Draft Parts) (xs : List (Laid Parts)) → map (read_laid d.nodes.items) xs ≡ map read_definition (map (laid_definition d) xs)
+read-each : (d : LiveTree Parts) (xs : List (NodeProperty Parts)) → map (read_property d.nodes.items) xs ≡ map read_definition (map (definition_of d) xs)
 read-each d [] = refl
-read-each d (x ∷ xs) = ap (λ es. read_laid d.nodes.items x ∷ es) (read-each d xs)
+read-each d (x ∷ xs) = ap (λ es. read_property d.nodes.items x ∷ es) (read-each d xs)
 
--- what was laid out is the order of the tree as it is read
-pub read-order : (d : Draft Parts) (xs : List (Laid Parts)) → map (laid_definition d) xs ≡ in_order (state_of d) → map (read_laid d.nodes.items) xs ≡ in_order (tree_of d)
+-- the preorder is the order of the tree as it is read
+pub read-order : (d : LiveTree Parts) (xs : List (NodeProperty Parts)) → map (definition_of d) xs ≡ in_order (state_of d) → map (read_property d.nodes.items) xs ≡ in_order (tree_of d)
 read-order d xs e = read-each d xs ∙ ap (map read_definition) e ∙ held-read (state_of d).properties (preorder (state_of d).nodes)

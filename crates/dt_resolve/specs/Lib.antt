@@ -1,6 +1,6 @@
 pub mod BuildError
 pub mod BuildFault
-pub mod Numbers
+pub mod NodePhandles
 pub mod Prepared
 pub mod Private
 pub mod Resolution

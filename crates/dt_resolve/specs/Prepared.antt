@@ -4,28 +4,28 @@ use Rattle.dt_meaning.specs.Syntax.{Meaning}
 use Rattle.dt_meaning.specs.Edits.{Definition, counted}
 use Rattle.dt_meaning.specs.Statements as meaning
 use Rattle.dt_meaning.specs.References.{Found, in_order, preorder}
-use Rattle.dt_draft.specs.Rows.{IsDraft, IsNode, is_standing, node_path, state_of}
-use Rattle.dt_layout.specs.Order.{laid_definition}
+use Rattle.dt_live.specs.Rows.{IsLiveTree, IsNode, is_standing, node_path, state_of}
+use Rattle.dt_live.specs.Preorder.{definition_of}
 use Rattle.dt_edit.specs.Said.{tree_of}
 use Rattle.dt_resolve.specs.declared.prepared.Prepared.{Prepared}
-use Rattle.dt_resolve.specs.Numbers.{AreStanding}
+use Rattle.dt_resolve.specs.NodePhandles.{AreStanding}
 use Rattle.dt_resolve.specs.Resolution.{IsResolved}
 use Rattle.dt_resolve.specs.Targets.{IsKnown, IsThere}
 
--- the edits made the tree; it is laid out in the order of the walk; its references were found and its nodes numbered
+-- the edits made the tree; it is in preorder; its references were found and its nodes have their phandles
 pub record IsPrepared (symbols : Bool) (m : Meaning) (es : List (Definition (List Found))) (p : Prepared) : Type 0 where
   pub plugin : p.plugin ≡ m.plugin
-  pub sound : IsDraft p.draft
+  pub sound : IsLiveTree p.live
   pub fragments : ℕ
-  pub edited : meaning.edited m ≡ Ok (counted fragments (tree_of p.draft))
-  pub nodes : map (node_path p.draft) p.layout.nodes.items ≡ preorder (state_of p.draft).nodes
-  pub known : All (λ n. IsNode p.draft n) p.layout.nodes.items
-  pub there : All (λ n. is_standing p.draft n ≡ true) p.layout.nodes.items
-  pub owners : All (λ x. IsNode p.draft x.node) p.layout.properties.items
-  pub stand : All (λ x. is_standing p.draft x.node ≡ true) p.layout.properties.items
-  pub laid : map (laid_definition p.draft) p.layout.properties.items ≡ in_order (state_of p.draft)
-  pub resolved : IsResolved symbols m.plugin p.draft es p.resolution
-  pub targets_known : All (IsKnown p.draft) p.resolution.targets.all.items
-  pub targets_there : All (IsThere p.draft) p.resolution.targets.all.items
-  pub given : AreStanding p.draft.nodes.items p.resolution.given.numbers.items
-  pub new : AreStanding p.draft.nodes.items p.resolution.new.items
+  pub edited : meaning.edited m ≡ Ok (counted fragments (tree_of p.live))
+  pub nodes : map (node_path p.live) p.in_preorder.nodes.items ≡ preorder (state_of p.live).nodes
+  pub known : All (λ n. IsNode p.live n) p.in_preorder.nodes.items
+  pub there : All (λ n. is_standing p.live n ≡ true) p.in_preorder.nodes.items
+  pub owners : All (λ x. IsNode p.live x.node) p.in_preorder.properties.items
+  pub stand : All (λ x. is_standing p.live x.node ≡ true) p.in_preorder.properties.items
+  pub properties : map (definition_of p.live) p.in_preorder.properties.items ≡ in_order (state_of p.live)
+  pub resolved : IsResolved symbols m.plugin p.live es p.resolution
+  pub targets_known : All (IsKnown p.live) p.resolution.targets.all.items
+  pub targets_there : All (IsThere p.live) p.resolution.targets.all.items
+  pub given : AreStanding p.live.nodes.items p.resolution.given.phandles.items
+  pub new : AreStanding p.live.nodes.items p.resolution.new.items

@@ -1,4 +1,4 @@
 -- What private contracts cite. No public clause rests on it.
-pub mod Laid
+pub mod ReadProperty
 pub mod Targets
 pub mod Wanted

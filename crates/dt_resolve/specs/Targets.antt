@@ -3,10 +3,10 @@ use Rattle.std.specs.Prelude.{◌≡◌, ℕ, true, List, [], ◌∷◌, map, Op
 use Rattle.std.specs.List.{flat_map}
 use Rattle.dt_meaning.specs.Paths.{Path}
 use Rattle.dt_meaning.specs.Edits.{Definition}
-use Rattle.dt_meaning.specs.References.{Found, Bytes, Cell, Open, Way}
+use Rattle.dt_meaning.specs.References.{Found, Bytes, Cell, Open, PathText}
 use Rattle.dt_meaning.specs.Phandles.{named_in_cells}
-use Rattle.dt_draft.specs.declared.table.Draft.{Draft}
-use Rattle.dt_draft.specs.Rows.{IsNode, is_standing, node_path}
+use Rattle.dt_live.specs.declared.live_tree.LiveTree.{LiveTree}
+use Rattle.dt_live.specs.Rows.{IsNode, is_standing, node_path}
 use Rattle.dt_edit.specs.Said.{Parts}
 use Rattle.dt_resolve.specs.declared.references.Targets.{Targets}
 
@@ -15,18 +15,18 @@ abbrev pub target_path : Found → List (Option Path)
 target_path (Bytes b) = []
 target_path (Cell p) = Some p ∷ []
 target_path (Open l) = None ∷ []
-target_path (Way p) = Some p ∷ []
+target_path (PathText p) = Some p ∷ []
 
 -- the nodes that all references name, and those named in cells
-pub record AreFound (d : Draft Parts) (es : List (Definition (List Found))) (t : Targets) : Type 0 where
+pub record AreFound (d : LiveTree Parts) (es : List (Definition (List Found))) (t : Targets) : Type 0 where
   pub all : map (option_map (node_path d)) t.all.items ≡ flat_map (λ e. flat_map target_path e.value) es
   pub cells : map (node_path d) t.cells.items ≡ named_in_cells es
 
 -- a target is a node of the tree, where there is one
-abbrev pub IsKnown : Draft Parts → Option ℕ → Type 0
+abbrev pub IsKnown : LiveTree Parts → Option ℕ → Type 0
 IsKnown d None = Unit {0}
 IsKnown d (Some n) = IsNode d n
 
-abbrev pub IsThere : Draft Parts → Option ℕ → Type 0
+abbrev pub IsThere : LiveTree Parts → Option ℕ → Type 0
 IsThere d None = Unit {0}
 IsThere d (Some n) = is_standing d n ≡ true

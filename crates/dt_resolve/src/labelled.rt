@@ -1,11 +1,10 @@
 //! The nodes that have labels.
 ghost use Rattle.std.specs.Prelude.{◌≡◌, ◌<◌, ◌==◌, ◌++◌, [], ℕ, false, All, IfOk, if◌then◌else◌, length, slice_index_or};
 ghost use Rattle.std.specs.List.{list_any};
-ghost use Rattle.dt_draft.specs.Rows.{IsDraft, IsNode};
+ghost use Rattle.dt_live.specs.Rows.{IsLiveTree, IsNode};
 ghost use Rattle.dt_resolve.specs.Private.Wanted.{labelled_rows};
 
-use dt_draft::{Draft, LabelRow};
-use dt_layout::is_reserved;
+use dt_live::{LabelRow, LiveTree, is_reserved};
 use dt_source::Part;
 use std::alloc::{AllocError, Global};
 
@@ -29,18 +28,18 @@ fn label_marks(
 /// The nodes of a list that have labels, without the reserved ones.
 pub(crate) fn labelled_nodes<'d, 't>(
     alloc: Global,
-    draft: &Draft<'d, &'d [Part<'t>]>,
+    live: &LiveTree<'d, &'d [Part<'t>]>,
     order: &[usize],
 ) -> Result<Vec<usize>, AllocError>
-    requires sound { IsDraft draft.now }
-    requires known { All (λ n. IsNode draft.now n) order.now }
-    ensures { IfOk result (λ nodes. nodes.items ≡ labelled_rows draft.now order.now) }
+    requires sound { IsLiveTree live.now }
+    requires known { All (λ n. IsNode live.now n) order.now }
+    ensures { IfOk result (λ nodes. nodes.items ≡ labelled_rows live.now order.now) }
 {
-    let marks = label_marks(alloc, draft.nodes().len() + 1, draft.labels())?;
+    let marks = label_marks(alloc, live.nodes().len() + 1, live.labels())?;
     let mut nodes = Vec::new(alloc);
     for node in order {
         if marks[*node] {
-            if !is_reserved(draft.nodes(), *node) {
+            if !is_reserved(live.nodes(), *node) {
                 nodes.push(*node)?;
             }
         }
@@ -51,18 +50,18 @@ pub(crate) fn labelled_nodes<'d, 't>(
 /// The nodes that are named in cells, and with symbols the labelled ones behind them.
 pub(crate) fn named_nodes<'d, 't>(
     alloc: Global,
-    draft: &Draft<'d, &'d [Part<'t>]>,
+    live: &LiveTree<'d, &'d [Part<'t>]>,
     order: &[usize],
     cells: &[usize],
     symbols: bool,
 ) -> Result<Vec<usize>, AllocError>
-    requires sound { IsDraft draft.now }
-    requires known { All (λ n. IsNode draft.now n) order.now }
-    ensures { IfOk result (λ named. named.items ≡ cells.now ++ (if symbols then labelled_rows draft.now order.now else [])) }
+    requires sound { IsLiveTree live.now }
+    requires known { All (λ n. IsNode live.now n) order.now }
+    ensures { IfOk result (λ named. named.items ≡ cells.now ++ (if symbols then labelled_rows live.now order.now else [])) }
 {
     let mut named = Vec::from_slice(alloc, cells)?;
     if symbols {
-        let labelled = labelled_nodes(alloc, draft, order)?;
+        let labelled = labelled_nodes(alloc, live, order)?;
         named.extend_from_slice(labelled.as_slice())?;
     }
     Ok(named)

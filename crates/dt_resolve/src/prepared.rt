@@ -5,7 +5,7 @@ ghost use Rattle.dt_meaning.specs.References.{Found};
 ghost use Rattle.dt_meaning.specs.Resolved.{resolved};
 ghost use Rattle.dt_meaning.specs.Statements as meaning;
 ghost use Rattle.dt_meaning.specs.Syntax.{Meaning};
-ghost use Rattle.dt_draft.specs.Rows.{IsDraft, IsNumbered, state_of};
+ghost use Rattle.dt_live.specs.Rows.{IsLiveTree, IsStamped, state_of};
 ghost use Rattle.dt_edit.specs.Fragments.{AreFragments};
 ghost use Rattle.dt_edit.specs.Said.{tree_of};
 ghost use Rattle.dt_resolve.specs.BuildFault.{IsFault};
@@ -15,63 +15,62 @@ ghost use Rattle.dt_resolve.specs.Said.{meaning_of};
 use crate::edits::do_edits;
 use crate::error::BuildError;
 use crate::resolving::{Resolution, resolve};
-use dt_draft::Draft;
 use dt_edit::Fragments;
-use dt_layout::{Layout, lay_out};
+use dt_live::{LiveTree, Preorder, preorder_of};
 use dt_source::{Part, Source};
 use std::alloc::Global;
 use std::hash::RandomState;
 
-/// The tree that the edits made, its order, and its numbers and targets.
+/// The tree that the edits made, its order, and its phandles and targets.
 #[derive(Drop)]
 pub struct Prepared<'d, 't> {
     pub plugin: bool,
-    pub draft: Draft<'d, &'d [Part<'t>]>,
-    pub layout: Layout<'d, &'d [Part<'t>]>,
+    pub live: LiveTree<'d, &'d [Part<'t>]>,
+    pub in_preorder: Preorder<'d, &'d [Part<'t>]>,
     pub resolution: Resolution,
 }
 
-// The order of the tree that edits made, and its numbers and targets.
+// The order of the tree that edits made, and its phandles and targets.
 fn order_and_resolution<'d, 't>(
     alloc: Global,
-    draft: &Draft<'d, &'d [Part<'t>]>,
+    live: &LiveTree<'d, &'d [Part<'t>]>,
     symbols: bool,
     plugin: bool,
-) -> Result<(Layout<'d, &'d [Part<'t>]>, Resolution), BuildError>
-    requires sound { IsDraft draft.now }
-    ensures { (m : Meaning) (n : ℕ) → meaning.edited m ≡ Ok (counted n (tree_of draft.now)) → plugin ≡ m.plugin → MatchResult result (λ x. (es : List (Definition (List Found))) × IsPrepared symbols m es (record { plugin = plugin; draft = draft.now; layout = x.0; resolution = x.1 })) (λ e. IsFault e (resolved symbols m)) }
+) -> Result<(Preorder<'d, &'d [Part<'t>]>, Resolution), BuildError>
+    requires sound { IsLiveTree live.now }
+    ensures { (m : Meaning) (n : ℕ) → meaning.edited m ≡ Ok (counted n (tree_of live.now)) → plugin ≡ m.plugin → MatchResult result (λ x. (es : List (Definition (List Found))) × IsPrepared symbols m es (record { plugin = plugin; live = live.now; in_preorder = x.0; resolution = x.1 })) (λ e. IsFault e (resolved symbols m)) }
 {
-    let layout = lay_out(alloc, draft)?;
-    let nodes = layout.nodes.as_slice();
-    let properties = layout.properties.as_slice();
-    let resolution = match resolve(alloc, draft, nodes, properties, symbols, plugin) {
+    let in_preorder = preorder_of(alloc, live)?;
+    let nodes = in_preorder.nodes.as_slice();
+    let properties = in_preorder.properties.as_slice();
+    let resolution = match resolve(alloc, live, nodes, properties, symbols, plugin) {
         Ok(resolution) => resolution,
         Err(error) => return Err(error),
     };
-    Ok((layout, resolution))
+    Ok((in_preorder, resolution))
 }
 
-// Does the edits of a source in an empty draft, lays the tree out, and finds and numbers what is referenced.
+// Does the edits of a source in an empty live tree, puts it into preorder, finds what is referenced and gives it phandles.
 fn fill<'d, 't>(
     alloc: Global,
-    draft: &mut Draft<'d, &'d [Part<'t>]>,
+    live: &mut LiveTree<'d, &'d [Part<'t>]>,
     source: &'d Source<'t>,
     fragments: &'d Fragments<'t>,
     symbols: bool,
-) -> Result<(Layout<'d, &'d [Part<'t>]>, Resolution), BuildError>
-    requires sound { IsDraft draft.old }
-    requires numbered { IsNumbered draft.old }
-    requires empty { state_of draft.old ≡ empty }
+) -> Result<(Preorder<'d, &'d [Part<'t>]>, Resolution), BuildError>
+    requires sound { IsLiveTree live.old }
+    requires assigned { IsStamped live.old }
+    requires empty { state_of live.old ≡ empty }
     requires fragments { AreFragments (meaning_of source.now).items fragments.now }
-    ensures { MatchResult result (λ x. (es : List (Definition (List Found))) × IsPrepared symbols (meaning_of source.now) es (record { plugin = source.now.plugin; draft = draft.new; layout = x.0; resolution = x.1 })) (λ e. IsFault e (resolved symbols (meaning_of source.now))) }
+    ensures { MatchResult result (λ x. (es : List (Definition (List Found))) × IsPrepared symbols (meaning_of source.now) es (record { plugin = source.now.plugin; live = live.new; in_preorder = x.0; resolution = x.1 })) (λ e. IsFault e (resolved symbols (meaning_of source.now))) }
 {
-    match do_edits(alloc, draft, source, fragments) {
-        Ok(()) => order_and_resolution(alloc, draft, symbols, source.plugin),
+    match do_edits(alloc, live, source, fragments) {
+        Ok(()) => order_and_resolution(alloc, live, symbols, source.plugin),
         Err(error) => Err(error),
     }
 }
 
-/// Does the edits of a source, lays its tree out, and finds and numbers what is referenced. The fragments are those of the
+/// Does the edits of a source, puts its tree into preorder, finds what is referenced and gives it phandles. The fragments are those of the
 /// source's items.
 pub fn prepare<'d, 't>(
     alloc: Global,
@@ -83,12 +82,12 @@ pub fn prepare<'d, 't>(
     requires { AreFragments (meaning_of source.now).items fragments.now }
     ensures { MatchResult result (λ prepared. (es : List (Definition (List Found))) × IsPrepared symbols (meaning_of source.now) es prepared) (λ e. IsFault e (resolved symbols (meaning_of source.now))) }
 {
-    let mut draft = Draft::new(alloc, hasher);
-    match fill(alloc, &mut draft, source, fragments, symbols) {
-        Ok((layout, resolution)) => Ok(Prepared {
+    let mut live = LiveTree::new(alloc, hasher);
+    match fill(alloc, &mut live, source, fragments, symbols) {
+        Ok((in_preorder, resolution)) => Ok(Prepared {
             plugin: source.plugin,
-            draft,
-            layout,
+            live,
+            in_preorder,
             resolution,
         }),
         Err(error) => Err(error),

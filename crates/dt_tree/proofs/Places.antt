@@ -78,7 +78,7 @@ found_at (k ∷ ks) b c s e = through b c k ks s _ refl e (λ d. found_at ks d c
   through b c k ks s None is e ih = absurd (cc e)
   through b c k ks s (Some d) is e ih = ih d (found_child b.children s.below k d is) e
 
--- the names on the way to a node are names
+-- the names of a node's path are names
 pub names_at : (path : List (List ℕ)) (b : NodeData) → IsSoundInside b → is_some (node_at b path) ≡ true → are_names path ≡ true
 names_at [] b s e = refl
 names_at (k ∷ ks) b s e = through b k ks s _ refl e (λ d. names_at ks d) where

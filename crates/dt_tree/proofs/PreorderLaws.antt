@@ -15,8 +15,8 @@ use Rattle.dt_tree.proofs.OrderLaws.{has_distinct, precedes-apart, among_some}
 use Rattle.dt_tree.proofs.PhandleLaws.{IsApart, apart, only_children, among_apart, lifted, named_first, precedes_in_child}
 use Rattle.dt_tree.proofs.Places.{IsSoundInside, is_path_map, bytes_eq-refl}
 
-abbrev Way : Type 0
-Way = List (List ℕ)
+abbrev PathNames : Type 0
+PathNames = List (List ℕ)
 
 -- ---- pairs of a list
 module _ {X : Type 0} (R : X → X → Type 0) where
@@ -40,11 +40,11 @@ pairs_map {Y = Y} R f (y ∷ ys) h =
 
 -- ---- the paths of children
 -- a child, or a node below one, stands at the path
-abbrev StandsIn : Siblings → Way → Type 0
+abbrev StandsIn : Siblings → PathNames → Type 0
 StandsIn f [] = ⊥
 StandsIn f (y ∷ ys) = is_some (node_at (only_children f) (y ∷ ys)) ≡ true
 
-abbrev Precede : Siblings → Way → Way → Type 0
+abbrev Precede : Siblings → PathNames → PathNames → Type 0
 Precede f p q = precedes (path_map (only_children f)) p q ≡ true
 
 module _ (n : List ℕ) (p : List Property) (c rest : Siblings) where
@@ -54,19 +54,19 @@ module _ (n : List ℕ) (p : List Property) (c rest : Siblings) where
   first_stands : is_some (node_at (only_children all) (n ∷ [])) ≡ true
   first_stands = rw (bytes_eq-refl n) refl
 
-  below_stands : (q : Way) → StandsIn c q → StandsIn all (n ∷ q)
+  below_stands : (q : PathNames) → StandsIn c q → StandsIn all (n ∷ q)
   below_stands [] h = absurd h
   below_stands (y ∷ ys) h = rw (bytes_eq-refl n) h
 
   module _ (alone : is_among n (child_names rest) ≡ false) where
-    other : (y : List ℕ) (ys : Way) → StandsIn rest (y ∷ ys) → bytes_eq n y ≡ false
+    other : (y : List ℕ) (ys : PathNames) → StandsIn rest (y ∷ ys) → bytes_eq n y ≡ false
     other y ys h = among_apart n y (child_names rest) alone (among_some (only_children rest) y ys h) _ refl
 
-    other_stands : (q : Way) → StandsIn rest q → StandsIn all q
+    other_stands : (q : PathNames) → StandsIn rest q → StandsIn all q
     other_stands [] h = h
     other_stands (y ∷ ys) h = rw (other y ys h) h
 
-    other_precedes : (q r : Way) → StandsIn rest q → Precede rest q r → Precede all q r
+    other_precedes : (q r : PathNames) → StandsIn rest q → Precede rest q r → Precede all q r
     other_precedes [] r s h = absurd s
     other_precedes (y ∷ ys) [] s h = h
     other_precedes (y ∷ ys) (z ∷ zs) s h =
@@ -74,67 +74,67 @@ module _ (n : List ℕ) (p : List Property) (c rest : Siblings) where
         let same : child_named rest y ≡ child_named all y = rw apart_y refl in
         lifted rest all y z ys zs same (λ e. rw apart_y e) h
 
-    first_before_other : (q r : Way) → StandsIn rest r → Precede all (n ∷ q) r
+    first_before_other : (q r : PathNames) → StandsIn rest r → Precede all (n ∷ q) r
     first_before_other q [] s = absurd s
     first_before_other q (y ∷ ys) s = rw (other y ys s, bytes_eq-refl n) (among_some (only_children rest) y ys s)
 
-  first_before_below : (q : Way) → StandsIn c q → Precede all (n ∷ []) (n ∷ q)
+  first_before_below : (q : PathNames) → StandsIn c q → Precede all (n ∷ []) (n ∷ q)
   first_before_below [] s = absurd s
   first_before_below (y ∷ ys) s = rw (bytes_eq-refl n) refl
 
 -- what a node is besides its children changes no order below it
-same_order : (b : NodeData) (q r : Way) → precedes (path_map b) q r ≡ precedes (path_map (only_children b.children)) q r
+same_order : (b : NodeData) (q r : PathNames) → precedes (path_map b) q r ≡ precedes (path_map (only_children b.children)) q r
 same_order b [] [] = refl
 same_order b [] (z ∷ zs) = refl
 same_order b (y ∷ ys) [] = refl
 same_order b (y ∷ ys) (z ∷ zs) = refl
 
-below_precedes : (n : List ℕ) (p : List Property) (c rest : Siblings) (q r : Way) → Precede c q r → Precede (more n p c rest) (n ∷ q) (n ∷ r)
+below_precedes : (n : List ℕ) (p : List Property) (c rest : Siblings) (q r : PathNames) → Precede c q r → Precede (more n p c rest) (n ∷ q) (n ∷ r)
 below_precedes n p c rest q r h = precedes_in_child (only_children (more n p c rest)) (node_data n p c) n q r (named_first n p c rest) (same_order (node_data n p c) q r ∙ h)
 
 stand : (f : Siblings) → IsApart f → All (StandsIn f) (paths_among f)
 stand none a = All-nil (StandsIn none)
 stand (more n p c rest) a =
     let f = more n p c rest in
-    All-append (StandsIn f) (map (λ (q : Way). n ∷ q) ([] ∷ paths_among c)) (paths_among rest)
-    (All-map (StandsIn f) (λ (q : Way). n ∷ q) ([] ∷ paths_among c)
-    (All-cons (λ (q : Way). StandsIn f (n ∷ q)) [] (paths_among c) (first_stands n p c rest)
-    (All-weaker (StandsIn c) (λ (q : Way). StandsIn f (n ∷ q)) (below_stands n p c rest) (paths_among c) (stand c a.1))))
+    All-append (StandsIn f) (map (λ (q : PathNames). n ∷ q) ([] ∷ paths_among c)) (paths_among rest)
+    (All-map (StandsIn f) (λ (q : PathNames). n ∷ q) ([] ∷ paths_among c)
+    (All-cons (λ (q : PathNames). StandsIn f (n ∷ q)) [] (paths_among c) (first_stands n p c rest)
+    (All-weaker (StandsIn c) (λ (q : PathNames). StandsIn f (n ∷ q)) (below_stands n p c rest) (paths_among c) (stand c a.1))))
     (All-weaker (StandsIn rest) (StandsIn f) (other_stands n p c rest a.0) (paths_among rest) (stand rest a.2))
 
 -- ---- each path of the tree is listed
 contains_first : {X : Type 0} (x : X) (xs : List X) → Contains (x ∷ xs) x
 contains_first x xs = (0, omega arith, refl)
 
-contains_map : (n : List ℕ) (qs : List Way) (q : Way) → Contains qs q → Contains (map (λ (r : Way). n ∷ r) qs) (n ∷ q)
+contains_map : (n : List ℕ) (qs : List PathNames) (q : PathNames) → Contains qs q → Contains (map (λ (r : PathNames). n ∷ r) qs) (n ∷ q)
 contains_map n qs q h =
     let lt = h.1 in
-    let long = length-map qs (λ (r : Way). n ∷ r) in
-    (h.0, omega arith, get_or-map (λ (r : Way). n ∷ r) qs h.0 q (n ∷ q) lt ∙ ap (λ (r : Way). n ∷ r) h.2)
+    let long = length-map qs (λ (r : PathNames). n ∷ r) in
+    (h.0, omega arith, get_or-map (λ (r : PathNames). n ∷ r) qs h.0 q (n ∷ q) lt ∙ ap (λ (r : PathNames). n ∷ r) h.2)
 
-listed : (f : Siblings) (y : List ℕ) (ys : Way) → StandsIn f (y ∷ ys) → Contains (paths_among f) (y ∷ ys)
+listed : (f : Siblings) (y : List ℕ) (ys : PathNames) → StandsIn f (y ∷ ys) → Contains (paths_among f) (y ∷ ys)
 listed none y ys s = absurd (let bad : false ≡ true = s in cc bad)
 listed (more n p c rest) y ys s = by_name _ refl s (listed c) (listed rest y ys) where
-  in_child : (ys : Way) → is_some (node_at (node_data n p c) ys) ≡ true → ((z : List ℕ) (zs : Way) → StandsIn c (z ∷ zs) → Contains (paths_among c) (z ∷ zs)) → Contains ([] ∷ paths_among c) ys
+  in_child : (ys : PathNames) → is_some (node_at (node_data n p c) ys) ≡ true → ((z : List ℕ) (zs : PathNames) → StandsIn c (z ∷ zs) → Contains (paths_among c) (z ∷ zs)) → Contains ([] ∷ paths_among c) ys
   in_child [] s below = contains_first [] (paths_among c)
   in_child (z ∷ zs) s below = Contains-append_right ([] ∷ []) (paths_among c) (z ∷ zs) (below z zs s)
 
-  by_name : (t : Bool) → bytes_eq n y ≡ t → StandsIn (more n p c rest) (y ∷ ys) → ((z : List ℕ) (zs : Way) → StandsIn c (z ∷ zs) → Contains (paths_among c) (z ∷ zs)) → (StandsIn rest (y ∷ ys) → Contains (paths_among rest) (y ∷ ys))
+  by_name : (t : Bool) → bytes_eq n y ≡ t → StandsIn (more n p c rest) (y ∷ ys) → ((z : List ℕ) (zs : PathNames) → StandsIn c (z ∷ zs) → Contains (paths_among c) (z ∷ zs)) → (StandsIn rest (y ∷ ys) → Contains (paths_among rest) (y ∷ ys))
       → Contains (paths_among (more n p c rest)) (y ∷ ys)
   by_name true e s below beside =
       let same : n ≡ y = (bytes_eq-Decides n y).0 e in
       let there : is_some (node_at (node_data n p c) ys) ≡ true = rw e at s in
-      Contains-append_left (map (λ (q : Way). n ∷ q) ([] ∷ paths_among c)) (paths_among rest) (y ∷ ys)
-      (subst (λ (z : List ℕ). Contains (map (λ (q : Way). n ∷ q) ([] ∷ paths_among c)) (z ∷ ys)) same (contains_map n ([] ∷ paths_among c) ys (in_child ys there below)))
-  by_name false e s below beside = Contains-append_right (map (λ (q : Way). n ∷ q) ([] ∷ paths_among c)) (paths_among rest) (y ∷ ys) (beside (rw e at s))
+      Contains-append_left (map (λ (q : PathNames). n ∷ q) ([] ∷ paths_among c)) (paths_among rest) (y ∷ ys)
+      (subst (λ (z : List ℕ). Contains (map (λ (q : PathNames). n ∷ q) ([] ∷ paths_among c)) (z ∷ ys)) same (contains_map n ([] ∷ paths_among c) ys (in_child ys there below)))
+  by_name false e s below beside = Contains-append_right (map (λ (q : PathNames). n ∷ q) ([] ∷ paths_among c)) (paths_among rest) (y ∷ ys) (beside (rw e at s))
 
 -- ---- their order
 ordered : (f : Siblings) → IsApart f → AllPairs (Precede f) (paths_among f)
 ordered none a = λ i j d lt within. absurd (omega arith)
 ordered (more n p c rest) a =
-    let R : Way → Way → Type 0 = Precede (more n p c rest) in
-    let down : Way → Way = λ q. n ∷ q in
-    let S : Way → Way → Type 0 = λ q r. R (down q) (down r) in
+    let R : PathNames → PathNames → Type 0 = Precede (more n p c rest) in
+    let down : PathNames → PathNames = λ q. n ∷ q in
+    let S : PathNames → PathNames → Type 0 = λ q r. R (down q) (down r) in
     pairs_append R (map down ([] ∷ paths_among c)) (paths_among rest)
     (pairs_map R down ([] ∷ paths_among c)
     (AllPairs-cons S [] (paths_among c) (All-weaker (StandsIn c) (S []) (first_before_below n p c rest) (paths_among c) (stand c a.1))
@@ -146,28 +146,28 @@ ordered (more n p c rest) a =
 -- ---- the whole tree
 pub all_stand : (b : NodeData) → IsSoundInside b → All (λ q. is_some (node_at b q) ≡ true) (preorder b)
 all_stand b s = All-cons (λ q. is_some (node_at b q) ≡ true) [] (paths_among b.children) refl (All-weaker (StandsIn b.children) (λ q. is_some (node_at b q) ≡ true) there (paths_among b.children) (stand b.children (apart b.children s.siblings.distinct s.below))) where
-  there : (q : Way) → StandsIn b.children q → is_some (node_at b q) ≡ true
+  there : (q : PathNames) → StandsIn b.children q → is_some (node_at b q) ≡ true
   there [] h = absurd h
   there (y ∷ ys) h = h
 
-pub all_listed : (b : NodeData) (q : Way) → is_some (node_at b q) ≡ true → Contains (preorder b) q
+pub all_listed : (b : NodeData) (q : PathNames) → is_some (node_at b q) ≡ true → Contains (preorder b) q
 all_listed b [] e = contains_first [] (paths_among b.children)
 all_listed b (y ∷ ys) e = Contains-append_right ([] ∷ []) (paths_among b.children) (y ∷ ys) (listed b.children y ys e)
 
 pub all_ordered : (b : NodeData) → IsSoundInside b → AllPairs (λ q r. precedes (path_map b) q r ≡ true) (preorder b)
 all_ordered b s =
     let a = apart b.children s.siblings.distinct s.below in
-    let R : Way → Way → Type 0 = λ q r. precedes (path_map b) q r ≡ true in
+    let R : PathNames → PathNames → Type 0 = λ q r. precedes (path_map b) q r ≡ true in
     AllPairs-cons R [] (paths_among b.children) (All-weaker (StandsIn b.children) (R []) before (paths_among b.children) (stand b.children a))
     (λ i j d lt within. same_order b (get_or (paths_among b.children) i d) (get_or (paths_among b.children) j d) ∙ ordered b.children a i j d lt within) where
-      before : (q : Way) → StandsIn b.children q → precedes (path_map b) [] q ≡ true
+      before : (q : PathNames) → StandsIn b.children q → precedes (path_map b) [] q ≡ true
       before [] h = absurd h
       before (y ∷ ys) h = refl
 
-not_itself : (b : NodeData) → IsSoundInside b → (q r : Way) → precedes (path_map b) q r ≡ true → q ≢ r
+not_itself : (b : NodeData) → IsSoundInside b → (q r : PathNames) → precedes (path_map b) q r ≡ true → q ≢ r
 not_itself b s q r h same =
     let back : precedes (path_map b) r q ≡ false = precedes-apart (path_map b) (has_distinct (path_map b) (is_path_map b s)) q r h in
-    let here : precedes (path_map b) r q ≡ true = subst (λ (x : Way). precedes (path_map b) r x ≡ true) (sym same) (subst (λ (x : Way). precedes (path_map b) x r ≡ true) same h) in
+    let here : precedes (path_map b) r q ≡ true = subst (λ (x : PathNames). precedes (path_map b) r x ≡ true) (sym same) (subst (λ (x : PathNames). precedes (path_map b) x r ≡ true) same h) in
     let bad : true ≡ false = sym here ∙ back in cc bad
 
 pub all_once : (b : NodeData) → IsSoundInside b → AllPairs (λ q r. q ≢ r) (preorder b)

@@ -11,15 +11,15 @@ use Rattle.dt_tree.specs.NodeData.{Siblings, none, more, NodeData, node_data, ch
 use Rattle.dt_tree.specs.Path.{is_path, path_names, path_text, behind_slashes, text_or_root}
 use Rattle.dt_tree.specs.PathMap.{child_named, node_at, value_of, path_map}
 use Rattle.dt_tree.specs.Phandle.{phandle_in, phandle_at, is_reserved_name, IsFirstWith, IsNowhere, phandle_of}
-use Rattle.dt_tree.specs.Private.PhandleWalk.{unreserved, way_in_tree}
+use Rattle.dt_tree.specs.Private.PhandleWalk.{unreserved, path_in_tree}
 use Rattle.dt_tree.specs.Preorder.{is_earlier, precedes}
 use Rattle.dt_tree.specs.Sound.{is_among}
 use Rattle.dt_tree.proofs.PathTexts.{is_path-path_text, path_names-path_text}
-use Rattle.dt_tree.proofs.PhandleLaws.{IsApart, apart, phandle_there, IsWay, IsFirstIn, lifted, way_below-is, way_among-is}
+use Rattle.dt_tree.proofs.PhandleLaws.{IsApart, apart, phandle_there, IsPathTo, IsFirstIn, lifted, path_below-is, path_among-is}
 use Rattle.dt_tree.proofs.Places.{IsSoundInside, some_inj, names_at}
 
-abbrev Way : Type 0
-Way = List (List ℕ)
+abbrev PathNames : Type 0
+PathNames = List (List ℕ)
 
 -- the tree without them
 abbrev pub outside : NodeData → NodeData
@@ -90,23 +90,23 @@ value-there None = refl
 value-there (Some c) = refl
 
 -- the phandle below a child
-abbrev below : Way → Option NodeData → Option ℕ
+abbrev below : PathNames → Option NodeData → Option ℕ
 below ys o = option_and_then (λ (n : NodeData). phandle_of n.properties) (option_and_then (λ (d : NodeData). node_at d ys) o)
 
-pub there-outside : (b : NodeData) (path : Way) → phandle_at (path_map b) path ≡ phandle_there (outside b) path
+pub there-outside : (b : NodeData) (path : PathNames) → phandle_at (path_map b) path ≡ phandle_there (outside b) path
 there-outside b [] = refl
 there-outside b (y ∷ ys) = by_name (is_reserved_name y) refl where
   by_name : (t : Bool) → is_reserved_name y ≡ t → phandle_at (path_map b) (y ∷ ys) ≡ phandle_there (outside b) (y ∷ ys)
   by_name true e = rw e (sym (ap (below ys) (child-reserved b.children y e)))
   by_name false e = rw e (value-there (node_at b (y ∷ ys)) ∙ ap (below ys) (sym (child-unreserved b.children y e)))
 
-not_reserved : (b : NodeData) (x : List ℕ) (xs : Way) (h : ℕ) → phandle_there (outside b) (x ∷ xs) ≡ Some h → is_reserved_name x ≡ false
+not_reserved : (b : NodeData) (x : List ℕ) (xs : PathNames) (h : ℕ) → phandle_there (outside b) (x ∷ xs) ≡ Some h → is_reserved_name x ≡ false
 not_reserved b x xs h e = by_name (is_reserved_name x) refl where
   by_name : (t : Bool) → is_reserved_name x ≡ t → is_reserved_name x ≡ false
   by_name true r = absurd (let bad : None ≡ Some h = sym (ap (below xs) (child-reserved b.children x r)) ∙ e in cc bad)
   by_name false r = r
 
-precedes-inside : (b : NodeData) (h : ℕ) (p q : Way) → phandle_there (outside b) p ≡ Some h → precedes (path_map (outside b)) p q ≡ true → precedes (path_map b) p q ≡ true
+precedes-inside : (b : NodeData) (h : ℕ) (p q : PathNames) → phandle_there (outside b) p ≡ Some h → precedes (path_map (outside b)) p q ≡ true → precedes (path_map b) p q ≡ true
 precedes-inside b h [] [] e w = w
 precedes-inside b h [] (y ∷ ys) e w = refl
 precedes-inside b h (x ∷ xs) [] e w = w
@@ -115,61 +115,61 @@ precedes-inside b h (x ∷ xs) (y ∷ ys) e w =
     lifted (unreserved b.children) b.children x y xs ys (child-unreserved b.children x u) (earlier-unreserved b.children x y u) w
 
 -- ---- the answers for the whole tree
-abbrev pub IsTreeWay : NodeData → ℕ → Option Way → Type 0
-IsTreeWay b h None = IsNowhere (path_map b) h
-IsTreeWay b h (Some path) = IsFirstWith (path_map b) h path
+abbrev pub IsTreePath : NodeData → ℕ → Option PathNames → Type 0
+IsTreePath b h None = IsNowhere (path_map b) h
+IsTreePath b h (Some path) = IsFirstWith (path_map b) h path
 
-lift_first : (b : NodeData) (h : ℕ) (path : Way) → IsFirstIn (outside b) h path → IsFirstWith (path_map b) h path
+lift_first : (b : NodeData) (h : ℕ) (path : PathNames) → IsFirstIn (outside b) h path → IsFirstWith (path_map b) h path
 lift_first b h path w = record { has = there-outside b path ∙ w.has; first = λ other e. place other (w.first other (sym (there-outside b other) ∙ e)) } where
-  place : (other : Way) → (other ≡ path) ⊎ (precedes (path_map (outside b)) path other ≡ true) → (other ≡ path) ⊎ (precedes (path_map b) path other ≡ true)
+  place : (other : PathNames) → (other ≡ path) ⊎ (precedes (path_map (outside b)) path other ≡ true) → (other ≡ path) ⊎ (precedes (path_map b) path other ≡ true)
   place other (inl e) = inl e
   place other (inr e) = inr (precedes-inside b h path other w.has e)
 
-lift_way : (b : NodeData) (h : ℕ) (o : Option Way) → IsWay (outside b) h o → IsTreeWay b h o
-lift_way b h None w = λ path e. w path (sym (there-outside b path) ∙ e)
-lift_way b h (Some path) w = lift_first b h path w
+lift_path : (b : NodeData) (h : ℕ) (o : Option PathNames) → IsPathTo (outside b) h o → IsTreePath b h o
+lift_path b h None w = λ path e. w path (sym (there-outside b path) ∙ e)
+lift_path b h (Some path) w = lift_first b h path w
 
-pub tree_way : (b : NodeData) → IsSoundInside b → (h : ℕ) → IsTreeWay b h (way_in_tree b h)
-tree_way b s h =
+pub tree_path : (b : NodeData) → IsSoundInside b → (h : ℕ) → IsTreePath b h (path_in_tree b h)
+tree_path b s h =
     let a = apart-unreserved b.children (apart b.children s.siblings.distinct s.below) in
-    lift_way b h (way_in_tree b h) (way_below-is b.name b.properties (unreserved b.children) h (way_among-is (unreserved b.children) a h))
+    lift_path b h (path_in_tree b h) (path_below-is b.name b.properties (unreserved b.children) h (path_among-is (unreserved b.children) a h))
 
 there_from : (t : Bool) (o : Option NodeData) (h : ℕ) → (if t then None else option_and_then phandle_in (option_and_then (λ ps. value_of ps (codes "phandle")) (option_map (λ (n : NodeData). n.properties) o))) ≡ Some h → is_some o ≡ true
 there_from true o h e = absurd (cc e)
 there_from false None h e = absurd (cc e)
 there_from false (Some c) h e = refl
 
-pub way_names : (b : NodeData) → IsSoundInside b → (h : ℕ) (path : Way) → IsFirstWith (path_map b) h path → are_names path ≡ true
-way_names b s h [] w = refl
-way_names b s h (x ∷ xs) w = names_at (x ∷ xs) b s (there_from (is_reserved_name x) (node_at b (x ∷ xs)) h w.has)
+pub path_has_names : (b : NodeData) → IsSoundInside b → (h : ℕ) (path : PathNames) → IsFirstWith (path_map b) h path → are_names path ≡ true
+path_has_names b s h [] w = refl
+path_has_names b s h (x ∷ xs) w = names_at (x ∷ xs) b s (there_from (is_reserved_name x) (node_at b (x ∷ xs)) h w.has)
 
 -- ---- the text of an answer
-text_or_root-behind : (ns : Way) → text_or_root (behind_slashes ns) ≡ path_text ns
+text_or_root-behind : (ns : PathNames) → text_or_root (behind_slashes ns) ≡ path_text ns
 text_or_root-behind [] = refl
 text_or_root-behind (n ∷ ns) = grind (arith, nat_tests)
 
-pub record IsTextOf (text : List ℕ) (o : Option Way) : Type 0 where
+pub record IsTextOf (text : List ℕ) (o : Option PathNames) : Type 0 where
   pub lawful : is_path (text_or_root text) ≡ true
   pub names : Some (path_names (text_or_root text)) ≡ o
 
-text_of_some : (ns : Way) → are_names ns ≡ true → IsTextOf (behind_slashes ns) (Some ns)
+text_of_some : (ns : PathNames) → are_names ns ≡ true → IsTextOf (behind_slashes ns) (Some ns)
 text_of_some ns a = record {
   lawful = ap is_path (text_or_root-behind ns) ∙ is_path-path_text ns a;
-  names = ap (λ (t : List ℕ). Some (path_names t)) (text_or_root-behind ns) ∙ ap (λ (x : Way). Some x) (path_names-path_text ns a);
+  names = ap (λ (t : List ℕ). Some (path_names t)) (text_or_root-behind ns) ∙ ap (λ (x : PathNames). Some x) (path_names-path_text ns a);
 }
 
-text_of_way : (b : NodeData) → IsSoundInside b → (h : ℕ) (text : List ℕ) (o : Option Way) → IsTreeWay b h o → Some text ≡ option_map behind_slashes o → IsTextOf text o
-text_of_way b s h text None w e = absurd (cc e)
-text_of_way b s h text (Some ns) w e =
+text_of_path : (b : NodeData) → IsSoundInside b → (h : ℕ) (text : List ℕ) (o : Option PathNames) → IsTreePath b h o → Some text ≡ option_map behind_slashes o → IsTextOf text o
+text_of_path b s h text None w e = absurd (cc e)
+text_of_path b s h text (Some ns) w e =
     let is : text ≡ behind_slashes ns = some_inj text (behind_slashes ns) e in
-    subst (λ (t : List ℕ). IsTextOf t (Some ns)) (sym is) (text_of_some ns (way_names b s h ns w))
+    subst (λ (t : List ℕ). IsTextOf t (Some ns)) (sym is) (text_of_some ns (path_has_names b s h ns w))
 
-pub text_of_tree_way : (b : NodeData) → IsSoundInside b → (h : ℕ) (text : List ℕ) → Some text ≡ option_map behind_slashes (way_in_tree b h) → IsTextOf text (way_in_tree b h)
-text_of_tree_way b s h text e = text_of_way b s h text (way_in_tree b h) (tree_way b s h) e
+pub text_of_tree_path : (b : NodeData) → IsSoundInside b → (h : ℕ) (text : List ℕ) → Some text ≡ option_map behind_slashes (path_in_tree b h) → IsTextOf text (path_in_tree b h)
+text_of_tree_path b s h text e = text_of_path b s h text (path_in_tree b h) (tree_path b s h) e
 
 -- the answer for the whole tree, by the path's text
-pub answered : (b : NodeData) → IsSoundInside b → (h : ℕ) (r : Result (Option (List ℕ)) AllocError) → IfOk r (λ found. option_map path_names found ≡ way_in_tree b h)
+pub answered : (b : NodeData) → IsSoundInside b → (h : ℕ) (r : Result (Option (List ℕ)) AllocError) → IfOk r (λ found. option_map path_names found ≡ path_in_tree b h)
     → IfOk r (λ found. MatchOption found (IsNowhere (path_map b) h) (λ path. IsFirstWith (path_map b) h (path_names path)))
 answered b s h (Err _) e = tt
-answered b s h (Ok None) e = subst (IsTreeWay b h) (sym e) (tree_way b s h)
-answered b s h (Ok (Some path)) e = subst (IsTreeWay b h) (sym e) (tree_way b s h)
+answered b s h (Ok None) e = subst (IsTreePath b h) (sym e) (tree_path b s h)
+answered b s h (Ok (Some path)) e = subst (IsTreePath b h) (sym e) (tree_path b s h)

@@ -1,3 +1,4 @@
+pub mod Cell
 pub mod Changes
 pub mod Falls
 pub mod Fault

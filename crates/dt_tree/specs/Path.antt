@@ -11,7 +11,7 @@ is_slash b = b == 47
 abbrev pub names_behind : List ℕ → List (List ℕ)
 names_behind rest = if length rest == 0 then [] else slice_split is_slash rest
 
--- the names below the root, on the way to the node
+-- the names of the node's path
 abbrev pub path_names : List ℕ → List (List ℕ)
 path_names [] = []
 path_names (b ∷ rest) = names_behind rest

@@ -4,6 +4,7 @@
 #![tactic(auto)]
 
 mod bytes;
+mod cells;
 mod error;
 mod finding;
 mod laws;
@@ -15,18 +16,21 @@ mod path;
 mod phandle;
 mod property;
 mod reserved;
+mod slices;
 mod tree;
 
 pub use bytes::Bytes;
+pub use cells::{cell_at, cell_in};
 pub use error::TreeError;
 pub use laws::{
     map_of_a_tree, path_texts_and_names, paths_in_preorder, preorder_of_a_tree, same_map_same_tree,
 };
 pub use limits::{MAX_DEPTH, MAX_NAME_LEN};
-pub use name::{Name, is_name};
+pub use name::{Name, copy_name, is_name, lawful_name};
 pub use node::Node;
 pub use path::{Path, is_path};
 pub use phandle::phandle_in;
 pub use property::Property;
 pub use reserved::is_reserved_name;
+pub use slices::behind;
 pub use tree::Tree;

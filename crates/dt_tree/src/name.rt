@@ -1,5 +1,6 @@
 ghost use Rattle.std.specs.Prelude.{◌≡◌, ◌↔◌, IfOk, IsTrue, IsErrOf, IsOk, OnErr, ◌⊎◌, false, true};
 ghost use Rattle.std.specs.List.{list_all};
+ghost use Rattle.std.specs.Option.{option_copied};
 ghost use Rattle.dt_tree.specs.Name.{is_name, is_name_byte};
 
 use crate::error::TreeError;
@@ -86,6 +87,26 @@ impl Name {
         Ok(Self {
             bytes: Vec::from_slice(alloc, self.bytes.as_slice())?,
         })
+    }
+}
+
+/// A copy of bytes that are known to be a name: only memory can lack.
+pub fn lawful_name(alloc: Global, bytes: &[u8]) -> Result<Name, AllocError>
+    requires { is_name bytes.now ≡ true }
+    ensures { IfOk result (λ name. name ≡ bytes.now) }
+{
+    Ok(Name {
+        bytes: Vec::from_slice(alloc, bytes)?,
+    })
+}
+
+/// An equal name, where there is one.
+pub fn copy_name(alloc: Global, name: Option<&Name>) -> Result<Option<Name>, AllocError>
+    ensures { IfOk result (λ copied. copied ≡ option_copied name.entry) }
+{
+    match name {
+        None => Ok(None),
+        Some(name) => Ok(Some(name.copy(alloc)?)),
     }
 }
 

@@ -15,7 +15,7 @@ use crate::bytes::Bytes;
 use crate::error::TreeError;
 use crate::limits::MAX_DEPTH;
 use crate::making::{are_named, check_name, check_nodes, check_parts, check_properties};
-use crate::name::Name;
+use crate::name::{Name, copy_name};
 use crate::property::Property;
 use std::alloc::{AllocError, Global};
 use std::marker::Model;
@@ -166,7 +166,7 @@ impl Node {
         requires { IsSound (node_data self.now.name self.now.properties (siblings children.items)) }
         ensures { IfOk result (λ node. node ≡ node_data self.now.name self.now.properties (siblings children.items)) }
     {
-        let name = copy_name(alloc, &self.name)?;
+        let name = copy_name(alloc, self.name.as_ref())?;
         let properties = copy_properties(alloc, self.properties.as_slice())?;
         Ok(Node {
             name,
@@ -186,15 +186,6 @@ impl Node {
                 true
             }
         }
-    }
-}
-
-fn copy_name(alloc: Global, name: &Option<Name>) -> Result<Option<Name>, AllocError>
-    ensures { IfOk result (λ copied. copied ≡ name.now) }
-{
-    match name {
-        None => Ok(None),
-        Some(name) => Ok(Some(name.copy(alloc)?)),
     }
 }
 

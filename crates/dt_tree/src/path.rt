@@ -9,7 +9,7 @@ use crate::name::{Name, is_name};
 use std::alloc::{AllocError, Global};
 use std::marker::Model;
 
-/// The way from the root to a node: `/`, or one or more times `/` and a name.
+/// The path from the root to a node: `/`, or one or more times `/` and a name.
 #[derive(Debug, Drop)]
 pub struct Path {
     text: Vec<u8>,

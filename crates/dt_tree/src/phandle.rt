@@ -3,9 +3,10 @@ ghost use Rattle.std.specs.Prelude.{◌≡◌, ◌∷◌, ◌++◌, IfOk};
 ghost use Rattle.std.specs.Option.{option_map};
 ghost use Rattle.dt_tree.specs.Path.{behind_slashes};
 ghost use Rattle.dt_tree.specs.Phandle.{phandle_from, phandle_in, phandle_of};
-ghost use Rattle.dt_tree.specs.Private.PhandleWalk.{has_phandle, phandle_or_zero, greatest_below, way_below};
+ghost use Rattle.dt_tree.specs.Private.PhandleWalk.{has_phandle, phandle_or_zero, greatest_below, path_below};
 
 use crate::bytes::Bytes;
+use crate::cells::cell_in;
 use crate::node::Node;
 use std::alloc::{AllocError, Global};
 
@@ -25,12 +26,10 @@ fn phandle_from(number: u32) -> Option<u32>
 pub fn phandle_in(bytes: &[u8]) -> Option<u32>
     ensures { result ≡ phandle_in bytes.now }
 {
-    if bytes.len() != 4 {
-        return None;
+    match cell_in(bytes) {
+        None => None,
+        Some(cell) => phandle_from(cell),
     }
-    let mut word = [0; 4];
-    word.copy_from_slice(bytes);
-    phandle_from(u32::from_be_bytes(word))
 }
 
 impl Bytes {
@@ -81,19 +80,19 @@ impl Node {
         most
     }
 
-    /// The names on the way from this node to the first with a phandle, each behind a slash.
-    pub(crate) fn way_below(
+    /// The names from this node down to the first with a phandle, each behind a slash.
+    pub(crate) fn path_below(
         &self,
         alloc: Global,
         phandle: u32,
     ) -> Result<Option<Vec<u8>>, AllocError>
-        ensures { IfOk result (λ found. option_map (λ text. text.items) found ≡ option_map behind_slashes (way_below self.now phandle)) }
+        ensures { IfOk result (λ found. option_map (λ text. text.items) found ≡ option_map behind_slashes (path_below self.now phandle)) }
     {
         if self.has_phandle(phandle) {
             return Ok(Some(Vec::new(alloc)));
         }
         for child in self.children() {
-            if let Some(below) = child.way_below(alloc, phandle)? {
+            if let Some(below) = child.path_below(alloc, phandle)? {
                 return Ok(Some(behind_name(alloc, child.name_bytes(), below)?));
             }
         }
@@ -101,7 +100,7 @@ impl Node {
     }
 }
 
-/// The text of a way, with one more name in front.
+/// The text of a path, with one more name in front.
 pub(crate) fn behind_name(alloc: Global, name: &[u8], below: Vec<u8>) -> Result<Vec<u8>, AllocError>
     ensures { IfOk result (λ text. text.items ≡ 47 ∷ (name.now ++ below.items)) }
 {

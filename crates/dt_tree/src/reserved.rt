@@ -3,7 +3,7 @@ ghost use Rattle.std.specs.Prelude.{◌≡◌, IfOk};
 ghost use Rattle.std.specs.Option.{option_map};
 ghost use Rattle.dt_tree.specs.Path.{behind_slashes, path_names};
 ghost use Rattle.dt_tree.specs.Phandle.{is_reserved_name};
-ghost use Rattle.dt_tree.specs.Private.PhandleWalk.{greatest_in_tree, way_in_tree};
+ghost use Rattle.dt_tree.specs.Private.PhandleWalk.{greatest_in_tree, path_in_tree};
 
 use crate::node::Node;
 use crate::path::Path;
@@ -33,16 +33,16 @@ impl Node {
         most
     }
 
-    /// The names on the way to the first node of the tree with a phandle, each behind a slash.
-    fn way_in_tree(&self, alloc: Global, phandle: u32) -> Result<Option<Vec<u8>>, AllocError>
-        ensures { IfOk result (λ found. option_map (λ text. text.items) found ≡ option_map behind_slashes (way_in_tree self.now phandle)) }
+    /// The names of the path of the first node of the tree with a phandle, each behind a slash.
+    fn path_in_tree(&self, alloc: Global, phandle: u32) -> Result<Option<Vec<u8>>, AllocError>
+        ensures { IfOk result (λ found. option_map (λ text. text.items) found ≡ option_map behind_slashes (path_in_tree self.now phandle)) }
     {
         if self.has_phandle(phandle) {
             return Ok(Some(Vec::new(alloc)));
         }
         for top in self.children() {
             if !is_reserved_name(top.name_bytes()) {
-                if let Some(below) = top.way_below(alloc, phandle)? {
+                if let Some(below) = top.path_below(alloc, phandle)? {
                     return Ok(Some(behind_name(alloc, top.name_bytes(), below)?));
                 }
             }
@@ -52,10 +52,10 @@ impl Node {
 
     /// The path to the first node of the tree with a phandle.
     pub(crate) fn path_to(&self, alloc: Global, phandle: u32) -> Result<Option<Path>, AllocError>
-        ensures { IfOk result (λ found. option_map path_names found ≡ way_in_tree self.now phandle) }
+        ensures { IfOk result (λ found. option_map path_names found ≡ path_in_tree self.now phandle) }
     {
         self.check();
-        match self.way_in_tree(alloc, phandle)? {
+        match self.path_in_tree(alloc, phandle)? {
             None => Ok(None),
             Some(text) => Ok(Some(Path::from_text(text)?)),
         }

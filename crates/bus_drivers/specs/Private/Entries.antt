@@ -1,4 +1,4 @@
--- What a walk over the tree meets, node by node, reserved nodes left out: the way to the node, the properties of the nodes from
+-- What a walk over the tree meets, node by node, reserved nodes left out: the path of the node, the properties of the nodes from
 -- the root down to it, and the nearest device at or above it. The laws in `proofs/Entries.antt` tie it to `Nodes`.
 use Rattle.std.specs.Prelude.{ℕ, ◌+◌, Bool, false, not, ◌&&◌, ◌==◌, nat_eq, if◌then◌else◌, List, [], ◌∷◌, ◌++◌, map, filter, length, Option, Some, None}
 use Rattle.std.specs.Option.{option_map, option_map_or}
@@ -12,12 +12,12 @@ use Rattle.bus_drivers.specs.Nodes.{is_compatible, is_okay, TreeDevice, Target}
 
 -- the node's own properties are the last of its chain, and its device is named by its place among the devices
 pub record Entry : Type 0 where
-  pub way : List (List ℕ)
+  pub node_path : List (List ℕ)
   pub chain : List (List Property)
   pub device : Option ℕ
 
 abbrev pub entry : List (List ℕ) → List (List Property) → Option ℕ → Entry
-entry way chain device = record { way = way; chain = chain; device = device }
+entry node_path chain device = record { node_path = node_path; chain = chain; device = device }
 
 -- how many devices there are among nodes side by side and those below them
 abbrev pub device_count : Siblings → ℕ
@@ -30,11 +30,11 @@ device_here p met above = if is_compatible p then Some met else above
 
 -- the nodes side by side below a node, each before those below it; so many devices were met before
 abbrev pub entries_among : List (List ℕ) → List (List Property) → Option ℕ → ℕ → Siblings → List Entry
-entries_among way chain above met none = []
-entries_among way chain above met (more n p kids rest) =
-    entry (way ++ n ∷ []) (chain ++ p ∷ []) (device_here p met above)
-    ∷ (entries_among (way ++ n ∷ []) (chain ++ p ∷ []) (device_here p met above) ((if is_compatible p then 1 else 0) + met) kids
-    ++ entries_among way chain above (((if is_compatible p then 1 else 0) + device_count kids) + met) rest)
+entries_among node_path chain above met none = []
+entries_among node_path chain above met (more n p kids rest) =
+    entry (node_path ++ n ∷ []) (chain ++ p ∷ []) (device_here p met above)
+    ∷ (entries_among (node_path ++ n ∷ []) (chain ++ p ∷ []) (device_here p met above) ((if is_compatible p then 1 else 0) + met) kids
+    ++ entries_among node_path chain above (((if is_compatible p then 1 else 0) + device_count kids) + met) rest)
 
 -- the nodes of a tree that aren't reserved, the root first, which is no device
 abbrev pub entries : NodeData → List Entry
@@ -48,10 +48,10 @@ own_properties (p ∷ []) = p
 own_properties (p ∷ q ∷ ps) = own_properties (q ∷ ps)
 
 abbrev pub is_device_entry : Entry → Bool
-is_device_entry e = not (length e.way == 0) && is_compatible (own_properties e.chain)
+is_device_entry e = not (length e.node_path == 0) && is_compatible (own_properties e.chain)
 
 abbrev pub device_of_entry : Entry → TreeDevice
-device_of_entry e = record { path = path_text e.way; available = list_all is_okay e.chain; properties = own_properties e.chain }
+device_of_entry e = record { path = path_text e.node_path; available = list_all is_okay e.chain; properties = own_properties e.chain }
 
 abbrev pub target_of_entry : Entry → Target
 target_of_entry e = record { properties = own_properties e.chain; device = e.device }

@@ -9,7 +9,7 @@ use Rattle.dt_tree.specs.Phandle.{or_else}
 use Rattle.bus_plan.specs.PlanPaths.{is_among}
 use Rattle.bus_drivers.specs.Driver.{FailData, DriverSetData}
 use Rattle.bus_drivers.specs.Nodes.{TreeDevice}
-use Rattle.bus_drivers.specs.TreePlan.{driver_listing, fail_paths}
+use Rattle.bus_drivers.specs.TreePlan.{driver_naming, fail_paths}
 
 -- what entries have at a string
 abbrev pub driver_found : List (Bor (List ℕ) × Bor (List ℕ)) → List ℕ → Option (List ℕ)
@@ -21,7 +21,7 @@ found_with before name strings string = or_else before (if is_among string strin
 
 -- what is true of a matcher: each string has the first driver that lists it, and the paths of the `fail` lines are known
 pub record IsMatcher (set : DriverSetData) (entries : List (Bor (List ℕ) × Bor (List ℕ))) (fails : List (List ℕ)) : Type 0 where
-  pub drivers : (string : List ℕ) → driver_found entries string ≡ driver_listing set.drivers string
+  pub drivers : (string : List ℕ) → driver_found entries string ≡ driver_naming set.drivers string
   pub fails_known : (path : List ℕ) → is_among path fails ≡ is_among path (fail_paths set.fails)
 
 -- ---- paths

@@ -1,4 +1,4 @@
--- What a walk keeps of the nodes that it meets: the devices, and what each phandle leads to. It knows the way to a node by its text,
+-- What a walk keeps of the nodes that it meets: the devices, and what each phandle leads to. It knows a node's path by its text,
 -- each name behind a slash, and of the nodes above it whether all are okay and which device they belong to. The laws in
 -- `proofs/WalkLaws.antt` tie it to `Entries`.
 use Rattle.std.specs.Prelude.{◌≡◌, ◌<◌, ◌⊎◌, ℕ, ◌+◌, Bool, false, ◌&&◌, nat_eq, if◌then◌else◌, List, [], ◌∷◌, ◌++◌, length, Option, Some, None}

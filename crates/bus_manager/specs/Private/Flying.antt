@@ -1,5 +1,5 @@
 -- What a worker's seat has while it probes a device, and when it leaves.
-use Rattle.std.specs.Prelude.{◌≡◌, ℕ, ◌<◌, Bool, List, [], length, Some, None, slice_get}
+use Rattle.std.specs.Prelude.{◌≡◌, ℕ, ◌<◌, List, [], length, Some, None, slice_get}
 use Rattle.bus_board.specs.Shown.{Posted, Seated, IsOf}
 use Rattle.bus_board.specs.Views.{last_look}
 use Rattle.bus_board.specs.declared.view.View.{View}
@@ -7,7 +7,7 @@ use Rattle.bus_board.specs.declared.view.Flight.{Flight}
 use Rattle.bus_manager.specs.Seen.{sees}
 
 -- a flight of the device, whose last look at each of the first n of these suppliers found what the set says
-pub record HasLooked (v : View) (d : ℕ) (seen : List Bool) (suppliers : List ℕ) (n : ℕ) : Type 0 where
+pub record HasLooked (v : View) (d : ℕ) (seen : List ℕ) (suppliers : List ℕ) (n : ℕ) : Type 0 where
   pub flight : Flight
   pub open_was : v.flight ≡ Some flight
   pub device : flight.device ≡ d

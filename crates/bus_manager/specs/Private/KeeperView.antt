@@ -1,7 +1,6 @@
 -- How contracts see a keeper, and what holds of its fields.
 use Rattle.std.specs.Prelude.{◌≡◌, ◌≤◌, ◌+◌, ℕ, Bool, false, ◌&&◌, ◌||◌, List, length, count_by, vec_len, vec_capacity}
 use Rattle.bus_plan.specs.Plan.{PlannedDevice}
-use Rattle.bus_plan.specs.declared.limits.TheConstants.{MAX_DEVICES}
 use Rattle.bus_core.specs.CoreState.{CoreState, CoreValue, is_in_flight, was_begun}
 use Rattle.bus_core.specs.History.{bound_in, is_settled}
 use Rattle.bus_core.specs.Ready.{is_ready}
@@ -25,11 +24,10 @@ pub record IsBounded (plan : List PlannedDevice) (s : CoreState) (events : List 
   pub fresh : was_begun s d ≡ false → count_by (is_begin_of d) events ≡ 0
 
 -- a core, the events that it accepted, the set of its bound devices, and the number of its open flights
-pub record IsSoundKeeper (core : CoreValue) (events : List Event) (bound : List Bool) (flying : ℕ) : Type 0 where
+pub record IsSoundKeeper (core : CoreValue) (events : List Event) (bound : List ℕ) (flying : ℕ) : Type 0 where
   pub kept : IsKept (record { plan = core.plan; state = core.state; events = events })
   pub bounded : (d : ℕ) → IsBounded core.plan core.state events d
   pub bound_is : (d : ℕ) → sees bound d ≡ bound_in core.state.history d
-  pub places : length bound ≡ MAX_DEVICES
   pub begun : length core.state.begun ≡ length core.plan
   pub flying_is : flying ≡ open_flights core.state
 

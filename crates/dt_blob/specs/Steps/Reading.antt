@@ -12,7 +12,7 @@ use Rattle.dt_blob.specs.declared.read_token.BlobToken.TheVariants as code
 use Rattle.dt_blob.specs.Format.{reservation_size, begin_node_word, end_node_word, property_word, nop_word, end_word}
 use Rattle.dt_blob.specs.HeaderWords.{header_of, header_fault, strings_of, structure_of, reserves_of}
 use Rattle.dt_blob.specs.Token.{Token, begin_node, end_node, property, nop, end}
-use Rattle.dt_blob.specs.Steps.Opened.{begun, root_from}
+use Rattle.dt_blob.specs.Steps.NodeBuilders.{begun, root_from}
 
 -- What a function of the structure block returned, seen by view, is what reading gives, unless memory ran out. The
 -- refusals of the header and of the reserves aren't given there.

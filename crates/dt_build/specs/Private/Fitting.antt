@@ -4,7 +4,7 @@ use Rattle.dt_tree.specs.PathMap.{tree_map}
 use Rattle.dt_tree.specs.TreeData.{TreeData}
 use Rattle.dt_meaning.specs.Syntax.{Meaning}
 use Rattle.dt_meaning.specs.MapOf.{tree_map_of}
-use Rattle.dt_assembly.specs.Sizes.{size_in}
+use Rattle.dt_tree_builder.specs.Sizes.{size_in}
 use Rattle.dt_resolve.specs.declared.prepared.Prepared.{Prepared}
 use Rattle.dt_build.specs.Private.Made.{lists}
 

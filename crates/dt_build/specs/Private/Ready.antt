@@ -4,47 +4,47 @@ use Rattle.std.specs.List.{list_all, flat_map}
 use Rattle.dt_tree.specs.Name.{is_name}
 use Rattle.dt_tree.specs.Sound.{are_distinct}
 use Rattle.dt_meaning.specs.Paths.{Path, is_listed}
-use Rattle.dt_meaning.specs.References.{Found, Bytes, Cell, Open, Way, held, in_order, preorder, references}
-use Rattle.dt_draft.specs.Rows.{IsDraft, IsNode, is_standing, node_path, state_of}
-use Rattle.dt_layout.specs.Order.{laid_definition}
-use Rattle.dt_assembly.specs.Standing.{AreNodes}
+use Rattle.dt_meaning.specs.References.{Found, Bytes, Cell, Open, PathText, held, in_order, preorder, references}
+use Rattle.dt_live.specs.Rows.{IsLiveTree, IsNode, is_standing, node_path, state_of}
+use Rattle.dt_live.specs.Preorder.{definition_of}
+use Rattle.dt_tree_builder.specs.Standing.{AreNodes}
 use Rattle.dt_edit.specs.Said.{tree_of}
 use Rattle.dt_resolve.specs.declared.prepared.Prepared.{Prepared}
-use Rattle.dt_resolve.specs.Numbers.{AreStanding}
+use Rattle.dt_resolve.specs.NodePhandles.{AreStanding}
 use Rattle.dt_resolve.specs.Targets.{AreFound, IsKnown, IsThere}
-use Rattle.dt_build.specs.Private.Made.{founds, own, given_numbers, new_numbers}
+use Rattle.dt_build.specs.Private.Made.{founds, own, given_phandles, new_phandles}
 
 -- the label of a node elsewhere is a name
 abbrev pub IsNamedFound : Found → Type 0
 IsNamedFound (Open l) = is_name l ≡ true
 IsNamedFound (Bytes b) = Unit {0}
 IsNamedFound (Cell q) = Unit {0}
-IsNamedFound (Way q) = Unit {0}
+IsNamedFound (PathText q) = Unit {0}
 
--- each name on the way to a node is a name, and so are those of properties and labels
+-- each name of a node's path is a name, and so are those of properties and labels
 pub record AreNamed (p : Prepared) : Type 0 where
-  pub nodes : All (λ q. list_all is_name q ≡ true) (tree_of p.draft).nodes
-  pub properties : All (λ e. is_name e.name ≡ true) (tree_of p.draft).properties
-  pub labels : All (λ l. is_name l.label ≡ true) (tree_of p.draft).labels
+  pub nodes : All (λ q. list_all is_name q ≡ true) (tree_of p.live).nodes
+  pub properties : All (λ e. is_name e.name ≡ true) (tree_of p.live).properties
+  pub labels : All (λ l. is_name l.label ≡ true) (tree_of p.live).labels
   pub elsewhere : All (λ e. All IsNamedFound e.value) (founds p)
 
 pub record IsReady (p : Prepared) : Type 0 where
-  pub sound : IsDraft p.draft
-  pub nodes : map (node_path p.draft) p.layout.nodes.items ≡ preorder (tree_of p.draft).nodes
-  pub known : All (λ n. IsNode p.draft n) p.layout.nodes.items
-  pub there : All (λ n. is_standing p.draft n ≡ true) p.layout.nodes.items
-  pub owners : All (λ x. IsNode p.draft x.node) p.layout.properties.items
-  pub stand : All (λ x. is_standing p.draft x.node ≡ true) p.layout.properties.items
-  pub laid : map (laid_definition p.draft) p.layout.properties.items ≡ in_order (state_of p.draft)
-  pub found : references p.plugin (tree_of p.draft) ≡ Ok (founds p)
-  pub targets : AreFound p.draft (founds p) p.resolution.targets
-  pub targets_known : All (IsKnown p.draft) p.resolution.targets.all.items
-  pub targets_there : All (IsThere p.draft) p.resolution.targets.all.items
-  pub given : AreStanding p.draft.nodes.items p.resolution.given.numbers.items
-  pub new : AreStanding p.draft.nodes.items p.resolution.new.items
-  pub new_free : (q : Path) → is_listed q (map (λ x. x.path) (new_numbers p)) ≡ true → is_listed q (map (λ x. x.path) (given_numbers p)) ≡ false
-  pub standing : AreNodes (tree_of p.draft).nodes
+  pub sound : IsLiveTree p.live
+  pub nodes : map (node_path p.live) p.in_preorder.nodes.items ≡ preorder (tree_of p.live).nodes
+  pub known : All (λ n. IsNode p.live n) p.in_preorder.nodes.items
+  pub there : All (λ n. is_standing p.live n ≡ true) p.in_preorder.nodes.items
+  pub owners : All (λ x. IsNode p.live x.node) p.in_preorder.properties.items
+  pub stand : All (λ x. is_standing p.live x.node ≡ true) p.in_preorder.properties.items
+  pub properties : map (definition_of p.live) p.in_preorder.properties.items ≡ in_order (state_of p.live)
+  pub found : references p.plugin (tree_of p.live) ≡ Ok (founds p)
+  pub targets : AreFound p.live (founds p) p.resolution.targets
+  pub targets_known : All (IsKnown p.live) p.resolution.targets.all.items
+  pub targets_there : All (IsThere p.live) p.resolution.targets.all.items
+  pub given : AreStanding p.live.nodes.items p.resolution.given.phandles.items
+  pub new : AreStanding p.live.nodes.items p.resolution.new.items
+  pub new_free : (q : Path) → is_listed q (map (λ x. x.path) (new_phandles p)) ≡ true → is_listed q (map (λ x. x.path) (given_phandles p)) ≡ false
+  pub standing : AreNodes (tree_of p.live).nodes
   pub named : AreNamed p
   pub apart : (q : Path) → are_distinct (map (λ e. e.name) (own p q)) ≡ true
-  pub labels_apart : are_distinct (map (λ l. l.label) (tree_of p.draft).labels) ≡ true
-  pub walked : flat_map (held (founds p)) (preorder (tree_of p.draft).nodes) ≡ founds p
+  pub labels_apart : are_distinct (map (λ l. l.label) (tree_of p.live).labels) ≡ true
+  pub walked : flat_map (held (founds p)) (preorder (tree_of p.live).nodes) ≡ founds p

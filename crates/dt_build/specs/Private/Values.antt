@@ -6,10 +6,10 @@ use Rattle.dt_source.specs.declared.tree.Reference.{Reference}
 use Rattle.dt_source.specs.declared.tree.Reference.TheVariants as references
 use Rattle.dt_meaning.specs.Paths.{Path}
 use Rattle.dt_meaning.specs.Edits.{Definition, definition}
-use Rattle.dt_meaning.specs.References.{Found, Bytes, Cell, Open, Way}
+use Rattle.dt_meaning.specs.References.{Found, Bytes, Cell, Open, PathText}
 use Rattle.dt_meaning.specs.Fixups.{value_bytes}
-use Rattle.dt_meaning.specs.Phandles.{Number}
-use Rattle.dt_layout.specs.declared.properties.Laid.{Laid}
+use Rattle.dt_meaning.specs.Phandles.{PathPhandle}
+use Rattle.dt_live.specs.declared.preorder.properties.NodeProperty.{NodeProperty}
 use Rattle.dt_edit.specs.Said.{Parts}
 
 -- how many targets a part has, and a value
@@ -33,14 +33,14 @@ cell_for path t None = Open (label_in t)
 cell_for path t (Some n) = Cell (path n)
 
 -- the text of a path always has its node
-abbrev pub way_for : (ℕ → Path) → Option ℕ → Found
-way_for path None = Bytes []
-way_for path (Some n) = Way (path n)
+abbrev pub text_for : (ℕ → Path) → Option ℕ → Found
+text_for path None = Bytes []
+text_for path (Some n) = PathText (path n)
 
 abbrev pub found_of : (ℕ → Path) → Part → Option ℕ → Found
 found_of path (parts.Bytes b) n = Bytes b.items
 found_of path (parts.Phandle t) n = cell_for path t n
-found_of path (parts.Path t) n = way_for path n
+found_of path (parts.Path t) n = text_for path n
 
 -- a value whose targets are the first of these
 abbrev pub founds_of : (ℕ → Path) → List Part → List (Option ℕ) → List Found
@@ -48,11 +48,11 @@ founds_of path [] ts = []
 founds_of path (x ∷ xs) ts = found_of path x (slice_index_or ts 0 None) ∷ founds_of path xs (drop (uses x) ts)
 
 -- the properties of one node, with their bytes
-abbrev pub run_of : List Number → (ℕ → Path) → Path → List (Laid Parts) → List (Option ℕ) → List (Definition (List ℕ))
+abbrev pub run_of : List PathPhandle → (ℕ → Path) → Path → List (NodeProperty Parts) → List (Option ℕ) → List (Definition (List ℕ))
 run_of ns path q [] ts = []
 run_of ns path q (x ∷ xs) ts = definition q x.name.now (value_bytes ns (founds_of path x.value.now ts)) ∷ run_of ns path q xs (drop (all_uses x.value.now) ts)
 
 -- how many targets they have
-abbrev pub run_uses : List (Laid Parts) → ℕ
+abbrev pub run_uses : List (NodeProperty Parts) → ℕ
 run_uses [] = 0
 run_uses (x ∷ xs) = all_uses x.value.now + run_uses xs

@@ -11,7 +11,7 @@ use Rattle.dt_lexeme.specs.Families.{kind_of, first_at, slashed}
 use Rattle.dt_lexeme.specs.Places.{start, step}
 use Rattle.dt_canonical.proofs.Lexing.Segments.{Ends, Here}
 
--- ---- places
+-- ---- fixup sites
 
 abbrev pub at_value : ℕ → Place
 at_value n = record { braces = n; parens = 0; mode = modes.Value }

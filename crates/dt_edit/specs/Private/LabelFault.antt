@@ -1,6 +1,6 @@
 -- A label that isn't given stops the edits.
-use Rattle.dt_draft.specs.declared.labels.LabelError.{LabelError}
-use Rattle.dt_draft.specs.declared.labels.LabelError.TheVariants as labels
+use Rattle.dt_live.specs.declared.labels.LabelError.{LabelError}
+use Rattle.dt_live.specs.declared.labels.LabelError.TheVariants as labels
 use Rattle.dt_edit.specs.declared.error.EditError.{EditError}
 use Rattle.dt_edit.specs.declared.error.EditError.TheVariants.{NoMemory, DuplicateLabel}
 

@@ -1,6 +1,6 @@
--- The bytes of a place, and whether one of them was taken before (dt-object-internal, section 2).
+-- The bytes of a fixup site, and whether one of them was taken before (dt-object-internal, section 2).
 use Rattle.std.specs.Prelude.{ℕ, ◌+◌, Bool, ◌&&◌, ◌||◌, Option, nat_le, nat_lt}
-use Rattle.dt_fixup.specs.declared.sheet.Change.{Change}
+use Rattle.dt_fixup.specs.declared.patched_overlay.Change.{Change}
 use Rattle.dt_fixup.specs.Private.Steps.{is_marked}
 
 -- byte i is one of the four at an offset

@@ -2,8 +2,8 @@
 use Rattle.std.specs.Prelude.{◌≡◌, ◌<◌, ℕ, true, List, Option, Some, None, All, map, Vec}
 use Rattle.std.specs.Global.{Global}
 use Rattle.dt_tree.specs.Name.{is_name}
-use Rattle.dt_assembly.specs.Sizes.{size_in}
-use Rattle.overlay_meaning.specs.Shifted.{Value}
+use Rattle.dt_tree_builder.specs.Sizes.{size_in}
+use Rattle.dt_overlay_meaning.specs.Shifted.{Value}
 use Rattle.dt_overlay.specs.declared.symbols.Symbol.{Symbol}
 use Rattle.dt_overlay.specs.Private.Symbols.{symbol_value}
 

@@ -5,9 +5,9 @@ use Rattle.dt_tree.specs.PathMap.{path_map}
 use Rattle.dt_tree.specs.Sound.{IsSound}
 use Rattle.dt_meaning.specs.MapOf.{map_of}
 use Rattle.dt_meaning.specs.Resolved.{Resolved}
-use Rattle.dt_assembly.specs.Sizes.{size_below, size_in}
-use Rattle.overlay_meaning.specs.Steps.{Fault}
-use Rattle.dt_overlay.specs.Private.Symbols.{laid_over, symbols_of}
+use Rattle.dt_tree_builder.specs.Sizes.{size_below, size_in}
+use Rattle.dt_overlay_meaning.specs.Steps.{Fault}
+use Rattle.dt_overlay.specs.Private.Symbols.{applied_over, symbols_of}
 
 -- a root with the map that is meant, whose values fit
 pub record IsRoot (wanted : Result Resolved Fault) (limit : ℕ) (root : NodeData) : Type 0 where
@@ -31,6 +31,6 @@ IsRootOrTooLong wanted limit None = IsTooLong wanted limit
 -- nothing is refused, and the result is no shorter than its symbols' values, nor is a tree with its map
 pub record HasSymbols (base over : Resolved) : Type 0 where
   pub lists : Resolved
-  pub result : laid_over base over ≡ Ok lists
+  pub result : applied_over base over ≡ Ok lists
   pub symbols : size_in (symbols_of base over) ≤ size_in lists.properties
   pub trees : (b : NodeData) → IsSound b → path_map b ≡ map_of lists → size_in lists.properties ≤ size_below b

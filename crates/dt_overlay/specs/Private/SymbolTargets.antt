@@ -5,18 +5,18 @@ use Rattle.dt_tree.specs.Path.{behind_slashes, is_slash, path_text, text_or_root
 use Rattle.dt_meaning.specs.Names.{overlay_name}
 use Rattle.dt_meaning.specs.Paths.{Path, is_listed}
 use Rattle.dt_meaning.specs.Resolved.{Resolved}
-use Rattle.dt_draft.specs.declared.table.Draft.{Draft}
-use Rattle.dt_draft.specs.Rows.{IsNode, node_path}
-use Rattle.dt_listing.specs.Listed.{Lent, lists}
-use Rattle.overlay_meaning.specs.Applied.{body, symbol_path, target}
-use Rattle.dt_fixup.specs.declared.sheet.Sheet.{Sheet}
-use Rattle.dt_fixup.specs.Sheet.{shown}
+use Rattle.dt_live.specs.declared.live_tree.LiveTree.{LiveTree}
+use Rattle.dt_live.specs.Rows.{IsNode, node_path}
+use Rattle.dt_live.specs.Flattened.{Lent, lists}
+use Rattle.dt_overlay_meaning.specs.Applied.{body, symbol_path, target}
+use Rattle.dt_fixup.specs.declared.patched_overlay.PatchedOverlay.{PatchedOverlay}
+use Rattle.dt_fixup.specs.PatchedOverlay.{patched_lists}
 use Rattle.dt_overlay.specs.declared.fragments.Fragment.{Fragment}
 use Rattle.dt_overlay.specs.Private.Fragments.{IsTarget}
 
 -- the base's node that a node of the overlay targets, where that is a fragment
-pub record IsRowTarget (base : Draft Lent) (s : Sheet) (n : ℕ) (t : Option ℕ) : Type 0 where
-  pub path : (f : List ℕ) → node_path s.draft n ≡ f ∷ [] → option_map (node_path base) t ≡ (if is_listed (body f) (shown s).nodes then target (lists base) (shown s) f else None)
+pub record IsRowTarget (base : LiveTree Lent) (s : PatchedOverlay) (n : ℕ) (t : Option ℕ) : Type 0 where
+  pub path : (f : List ℕ) → node_path s.live n ≡ f ∷ [] → option_map (node_path base) t ≡ (if is_listed (body f) (patched_lists s).nodes then target (lists base) (patched_lists s) f else None)
   pub known : IsTarget base t
 
 -- what stands behind the last fragment
@@ -24,12 +24,12 @@ abbrev pub no_fragment : Fragment
 no_fragment = record { node = 0; body = 0; target = None }
 
 -- those of all rows
-pub record AreTargets (base : Draft Lent) (s : Sheet) (targets : List (Option ℕ)) : Type 0 where
-  pub count : length targets ≡ length s.draft.nodes.items
+pub record AreTargets (base : LiveTree Lent) (s : PatchedOverlay) (targets : List (Option ℕ)) : Type 0 where
+  pub count : length targets ≡ length s.live.nodes.items
   pub each : (k : ℕ) → k < length targets → IsRowTarget base s (k + 1) (slice_index_or targets k None)
 
 -- a symbol's path: that of a node, and names that a text has behind slashes
-pub record IsSymbolTarget (base : Draft Lent) (p : Option Path) (n : ℕ) (rest : List ℕ) : Type 0 where
+pub record IsSymbolTarget (base : LiveTree Lent) (p : Option Path) (n : ℕ) (rest : List ℕ) : Type 0 where
   pub names : Path
   pub path : p ≡ Some (node_path base n ++ names)
   pub known : IsNode base n

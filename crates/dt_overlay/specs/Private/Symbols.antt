@@ -6,10 +6,10 @@ use Rattle.dt_meaning.specs.Paths.{Path, same_path}
 use Rattle.dt_meaning.specs.Names.{symbols_name}
 use Rattle.dt_meaning.specs.Edits.{definition, put}
 use Rattle.dt_meaning.specs.Resolved.{Resolved}
-use Rattle.overlay_meaning.specs.Applied.{symbol_path, with_fragment, with_node, with_symbols}
-use Rattle.overlay_meaning.specs.Steps.{Fault, fold, then_do}
-use Rattle.overlay_meaning.specs.Shifted.{Value, fragments}
-use Rattle.overlay_meaning.specs.Texts.{ended_path}
+use Rattle.dt_overlay_meaning.specs.Applied.{symbol_path, with_fragment, with_node, with_symbols}
+use Rattle.dt_overlay_meaning.specs.Steps.{Fault, fold, then_do}
+use Rattle.dt_overlay_meaning.specs.Shifted.{Value, fragments}
+use Rattle.dt_overlay_meaning.specs.Texts.{ended_path}
 use Rattle.dt_overlay.specs.declared.symbols.Symbol.{Symbol}
 
 -- a symbol's property, where its path begins in a fragment
@@ -38,7 +38,7 @@ with_all [] t = t
 with_all (e ∷ es) t = with_all es (with_symbol e t)
 
 -- all but what is changed by phandles and fixups
-abbrev pub laid_over : Resolved → Resolved → Result Resolved Fault
-laid_over base over =
+abbrev pub applied_over : Resolved → Resolved → Result Resolved Fault
+applied_over base over =
     then_do (fold (with_fragment base over) (fragments over) base) (λ t.
     Ok (with_symbols base over (filter (λ e. same_path (symbols_name ∷ []) e.path) over.properties) t))

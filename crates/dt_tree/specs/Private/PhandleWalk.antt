@@ -28,13 +28,13 @@ greatest_in_tree root = max (phandle_or_zero root.properties) (greatest_among (u
 abbrev pub has_phandle : List Property → ℕ → Bool
 has_phandle ps h = option_map_or (λ g. g == h) (phandle_of ps) false
 
--- the names on the way to the first node with this phandle
-abbrev pub way_among : Siblings → ℕ → Option (List (List ℕ))
-way_among none h = None
-way_among (more n p c rest) h = or_else (option_map (λ q. n ∷ q) (if has_phandle p h then Some [] else way_among c h)) (way_among rest h)
+-- the names of the path of the first node with this phandle
+abbrev pub path_among : Siblings → ℕ → Option (List (List ℕ))
+path_among none h = None
+path_among (more n p c rest) h = or_else (option_map (λ q. n ∷ q) (if has_phandle p h then Some [] else path_among c h)) (path_among rest h)
 
-abbrev pub way_below : NodeData → ℕ → Option (List (List ℕ))
-way_below b h = if has_phandle b.properties h then Some [] else way_among b.children h
+abbrev pub path_below : NodeData → ℕ → Option (List (List ℕ))
+path_below b h = if has_phandle b.properties h then Some [] else path_among b.children h
 
-abbrev pub way_in_tree : NodeData → ℕ → Option (List (List ℕ))
-way_in_tree root h = if has_phandle root.properties h then Some [] else way_among (unreserved root.children) h
+abbrev pub path_in_tree : NodeData → ℕ → Option (List (List ℕ))
+path_in_tree root h = if has_phandle root.properties h then Some [] else path_among (unreserved root.children) h

@@ -17,8 +17,9 @@ ghost use Rattle.dt_tree.specs.Private.Merging.{
 use crate::bytes::Bytes;
 use crate::error::TreeError;
 use crate::limits::MAX_DEPTH;
+use crate::name::copy_name;
 use crate::node::changing::{place_of_child, split_first_name};
-use crate::node::{Node, copy_name, push_copy, push_property};
+use crate::node::{Node, push_copy, push_property};
 use crate::property::Property;
 use std::alloc::{AllocError, Global};
 use std::collections::BTreeMap;
@@ -187,7 +188,7 @@ impl Node {
     {
         self.check();
         other.check();
-        let name = copy_name(alloc, &self.name)?;
+        let name = copy_name(alloc, self.name.as_ref())?;
         let properties = merge_properties(
             alloc,
             self.properties.as_slice(),

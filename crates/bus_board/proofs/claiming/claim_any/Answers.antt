@@ -23,7 +23,7 @@ returns-then-compare_exchange-eq-FRESH-clause-same c =
 pub returns-then-compare_exchange-eq-FRESH-clause-claimed : goal.returns-then-compare_exchange-eq-FRESH-clause-claimed
 returns-then-compare_exchange-eq-FRESH-clause-claimed c =
     let i = c.loop-index.invariant in
-    subst (Claimed c.args.token.now.me.0 c.compare_exchange.new.seat.me.0) (sym c.new.ensures) (walk_won _ c.loop-index.token.me c.compare_exchange.new.seat.me _ c.loop-index.index 0 1 c.compare_exchange.result from_fresh
+    subst (Claimed c.args.token.now.me.0 c.compare_exchange.new.seat.me.0) (sym c.new.ensures) (walk_won _ c.loop-index.token.me c.compare_exchange.new.seat.me _ c.loop-index.index 0 1 c.compare_exchange.result _ from_fresh
     (omega (arith, c.len-index-end.ensures, c.loop-index-test.true, ap (length {A = PlannedDevice}) c.requires.seat.0)) i.2 c.compare_exchange.ensures.2 c.if-compare_exchange-eq-FRESH.true)
 
 pub compare_exchange-requires-in-loop-index : goal.compare_exchange-requires-in-loop-index
@@ -44,7 +44,7 @@ pub returns-then-compare_exchange-eq-WOKEN-clause-claimed : goal.returns-then-co
 returns-then-compare_exchange-eq-WOKEN-clause-claimed c =
     let i = c.loop-index.invariant in let e = c.compare_exchange.ensures in
     let lost = walk_lost _ c.loop-index.token.me c.compare_exchange.new.seat.me _ c.loop-index.index 0 1 c.compare_exchange.result _ i.2 e.2 c.if-compare_exchange-eq-FRESH.false in
-    subst (Claimed c.args.token.now.me.0 c.compare_exchange-in-loop-index.new.seat.me.0) (sym c.new-then-compare_exchange-eq-WOKEN.ensures) (walk_won _ c.compare_exchange.new.seat.me c.compare_exchange-in-loop-index.new.seat.me _ c.loop-index.index 3 4 c.compare_exchange-in-loop-index.result from_woken
+    subst (Claimed c.args.token.now.me.0 c.compare_exchange-in-loop-index.new.seat.me.0) (sym c.new-then-compare_exchange-eq-WOKEN.ensures) (walk_won _ c.compare_exchange.new.seat.me c.compare_exchange-in-loop-index.new.seat.me _ c.loop-index.index 3 4 c.compare_exchange-in-loop-index.result _ from_woken
     (omega (arith, c.len-index-end.ensures, c.loop-index-test.true, ap (length {A = PlannedDevice}) c.requires.seat.0)) lost c.compare_exchange-in-loop-index.ensures.2 c.if-compare_exchange-eq-WOKEN.true)
 
 pub loop-index-preserved : goal.loop-index-preserved

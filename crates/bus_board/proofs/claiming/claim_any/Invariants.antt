@@ -1,6 +1,5 @@
 use Rattle.std.proofs.Common.{◌≡◌}
-use Rattle.bus_board.specs.Learns.{tries}
-use Rattle.bus_board.proofs.Walks.{Walk}
+use Rattle.bus_board.proofs.Walks.{Walk, tries}
 use Rattle.bus_board.proofs.claiming.claim_any.Given as goal
 
 abbrev pub invariant-loop-index : goal.invariant-loop-index

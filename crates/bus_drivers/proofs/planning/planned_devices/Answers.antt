@@ -14,7 +14,7 @@ loop-place-init c = none-before c.in_ok-planned.planned.items _ c.in_ok-planned.
 
 pub loop-place-preserved : goal.loop-place-preserved
 loop-place-preserved c =
-    let target = target_of c.args.survey.now in
+    let target = target_of c.args.phandle_index.now in
     let set = c.args.matcher.now in
     let all = c.devices-device-items.result.now in
     let place = c.loop-place.place in
@@ -25,7 +25,7 @@ loop-place-preserved c =
 
 pub returns-in_err-device : goal.returns-in_err-device
 returns-in_err-device c =
-    let target = target_of c.args.survey.now in
+    let target = target_of c.args.phandle_index.now in
     let set = c.args.matcher.now in
     let d = c.device-item.result in
     let p = err_from_is_err_and c.from_residual-in_err-device.result c.from_residual-in_err-device.ensures.1 in
@@ -38,7 +38,7 @@ returns-in_err-device c =
 
 pub returns : goal.returns
 returns c =
-    let target = target_of c.args.survey.now in
+    let target = target_of c.args.phandle_index.now in
     let set = c.args.matcher.now in
     let planned = c.loop-place.planned.items in
     ap (λ ds. planned_from target set 0 ds) (sym c.devices-device-items.ensures) ∙ sym c.loop-place.invariant

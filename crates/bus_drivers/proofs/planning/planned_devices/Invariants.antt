@@ -7,5 +7,5 @@ use Rattle.bus_drivers.proofs.planning.planned_devices.Given as goal
 -- the devices so far, and then the plan of those that are left, are the plan of all
 abbrev pub invariant-loop-place : goal.invariant-loop-place
 invariant-loop-place l =
-    followed_by (Ok l.planned.items) (planned_from (target_of l.survey) l.matcher l.place (drop l.place l.device-items))
-    ≡ planned_from (target_of l.survey) l.matcher 0 l.device-items
+    followed_by (Ok l.planned.items) (planned_from (target_of l.phandle_index) l.matcher l.place (drop l.place l.device-items))
+    ≡ planned_from (target_of l.phandle_index) l.matcher 0 l.device-items

@@ -8,6 +8,6 @@ use Rattle.bus_drivers.proofs.suppliers.all_of.Goals as goal
 
 pub returns : goal.returns
 returns c =
-    let mentioned = all_references (target_of c.args.survey.now) c.args.properties.now in
+    let mentioned = all_references (target_of c.args.phandle_index.now) c.args.properties.now in
     let own = c.args.suppliers.now.own in
     suppliers-all own mentioned _ _ (ap (λ (found : List ℕ). adding (record { own = own; found = found }) mentioned) (sym c.requires) ∙ c.in_ok-add_properties.ensures) c.in_ok-devices.ensures

@@ -3,6 +3,6 @@ use Rattle.std.specs.Prelude.{replicate}
 use Rattle.bus_manager.proofs.NotesLemmas.{no-notes}
 use Rattle.bus_manager.proofs.boarded.run_opened.Goals as goal
 
-pub land_all-requires-clause-notes : goal.land_all-requires-clause-notes
-land_all-requires-clause-notes g c =
+pub place_some-requires-clause-notes : goal.place_some-requires-clause-notes
+place_some-requires-clause-notes g c =
     λ _ _. no-notes (g.P.Prober.attests c.args.prober.now c.args.plan.now) c.args.plan.now c.in_ok-notes.notes.items (c.in_ok-notes.ensures ∙ ap (λ n. replicate n None) c.len.ensures)

@@ -1,4 +1,3 @@
-use Rattle.std.proofs.Common.{arith}
 use Rattle.bus_plan.specs.Plan.{suppliers_of}
 use Rattle.bus_manager.proofs.FlyingLemmas.{look-more}
 use Rattle.bus_manager.proofs.flying.look_at.Goals as goal
@@ -6,4 +5,4 @@ use Rattle.bus_manager.proofs.flying.look_at.Goals as goal
 pub returns-clause-looked : goal.returns-clause-looked
 returns-clause-looked c =
     look-more c.args.seat.now.view c.look.new.seat.view c.args.device c.args.supplier c.args.index c.in-Ok.bound c.args.seen.now c.put.new.self (suppliers_of c.args.plan.now c.args.device)
-    c.requires.looked c.in-Ok.ensures.ok c.requires.next (omega (arith, c.requires.room.0, c.requires.room.1)) c.put.ensures
+    c.requires.looked c.in-Ok.ensures.ok c.requires.next c.put.ensures

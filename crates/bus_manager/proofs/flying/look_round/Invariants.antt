@@ -1,6 +1,5 @@
-use Rattle.std.proofs.Common.{◌≡◌, [], length}
+use Rattle.std.proofs.Common.{◌≡◌, []}
 use Rattle.bus_plan.specs.Plan.{suppliers_of}
-use Rattle.bus_plan.specs.declared.limits.TheConstants.{MAX_DEVICES}
 use Rattle.bus_board.specs.Shown.{IsOf}
 use Rattle.bus_manager.specs.Private.Flying.{HasLooked}
 use Rattle.bus_manager.proofs.flying.look_round.Given as goal
@@ -10,5 +9,4 @@ invariant-loop-index l = record {
   of : IsOf l.board l.seat;
   looked : HasLooked l.seat.view l.device l.seen (suppliers_of l.plan l.device) l.index;
   owed : l.seat.view.owed ≡ [];
-  room : length l.seen ≡ MAX_DEVICES;
 }

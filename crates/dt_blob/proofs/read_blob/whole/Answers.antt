@@ -1,9 +1,9 @@
 use Rattle.std.proofs.Common.{refl, length, sym, ap, ◌∙◌, arith, inl, inr}
 use Rattle.std.proofs.lemmas.List.{length-take}
 use Rattle.std.proofs.lemmas.Result.{err_from_is_err_and}
-use Rattle.dt_blob.specs.Steps.Opened.{begun, root_from}
+use Rattle.dt_blob.specs.Steps.NodeBuilders.{begun, root_from}
 use Rattle.dt_blob.specs.Steps.Reading.{reserves_at, tokens_at, tree_in}
-use Rattle.dt_blob.proofs.Laying.{laid_as}
+use Rattle.dt_blob.proofs.Laying.{in_place_as}
 use Rattle.dt_blob.proofs.Refusals.{reserves_refused}
 use Rattle.dt_blob.proofs.States.{root_sound}
 use Rattle.dt_blob.proofs.Stepping.{refuse}
@@ -17,18 +17,12 @@ returns-in_err-header c =
     rw (p.1, p.2) (inl c.in_err-header.ensures)
 
 pub first-blob-requires : goal.first-blob-requires
-first-blob-requires c = (laid_as c.args.bytes.now c.in_ok-header.header c.in_ok-header.ensures.0 c.in_ok-header.ensures.1).size
+first-blob-requires c = (in_place_as c.args.bytes.now c.in_ok-header.header c.in_ok-header.ensures.0 c.in_ok-header.ensures.1).size
 
 pub returns-then-header : goal.returns-then-header
 returns-then-header c =
     let bytes = c.args.bytes.now in
     inr (c.in_ok-header.ensures.1, inl (refl, outside_as bytes c.in_ok-header.header c.in_ok-header.ensures.0 c.if-header.true))
-
-pub behind-requires : goal.behind-requires
-behind-requires c =
-    let l = laid_as c.args.bytes.now c.in_ok-header.header c.in_ok-header.ensures.0 c.in_ok-header.ensures.1 in
-    let s = l.size in
-    omega (arith, s, c.if-header.false, ap length c.first-blob.ensures, length-take c.in_ok-header.header.size c.args.bytes.now)
 
 pub returns-in_err-reserves : goal.returns-in_err-reserves
 returns-in_err-reserves c =
@@ -39,17 +33,17 @@ returns-in_err-reserves c =
 
 pub block-strings-requires : goal.block-strings-requires
 block-strings-requires c =
-    let l = laid_as c.args.bytes.now c.in_ok-header.header c.in_ok-header.ensures.0 c.in_ok-header.ensures.1 in
+    let l = in_place_as c.args.bytes.now c.in_ok-header.header c.in_ok-header.ensures.0 c.in_ok-header.ensures.1 in
     let s = l.size in
     let b = l.strings in
     omega (arith, s, b)
 
 pub overflow_sub-header : goal.overflow_sub-header
-overflow_sub-header c = (laid_as c.args.bytes.now c.in_ok-header.header c.in_ok-header.ensures.0 c.in_ok-header.ensures.1).structure
+overflow_sub-header c = (in_place_as c.args.bytes.now c.in_ok-header.header c.in_ok-header.ensures.0 c.in_ok-header.ensures.1).structure
 
 pub block-structure-requires : goal.block-structure-requires
 block-structure-requires c =
-    let l = laid_as c.args.bytes.now c.in_ok-header.header c.in_ok-header.ensures.0 c.in_ok-header.ensures.1 in
+    let l = in_place_as c.args.bytes.now c.in_ok-header.header c.in_ok-header.ensures.0 c.in_ok-header.ensures.1 in
     let s = l.size in
     let b = l.room in
     omega (arith, s, b, c.unwrap_or-room.ensures)

@@ -1,6 +1,6 @@
 use Rattle.std.proofs.Common.{◌≡◌, Bool, true, false, ◌∷◌, length, ◌<◌, ap, sym, ◌∙◌, arith}
 use Rattle.std.proofs.lemmas.Bool.Decides.{nat_tests}
-use Rattle.dt_blob.specs.Steps.Opened.{state_of, root_from}
+use Rattle.dt_blob.specs.Steps.NodeBuilders.{state_of, root_from}
 use Rattle.dt_blob.specs.Steps.Reading.{left}
 use Rattle.dt_blob.specs.Token.{end}
 use Rattle.dt_blob.proofs.Stepping.{some_left, end_begun, end_inside, end_behind}

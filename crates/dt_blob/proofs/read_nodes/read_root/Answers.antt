@@ -1,7 +1,7 @@
 use Rattle.std.proofs.Common.{sym, ◌∙◌, subst, Option}
 use Rattle.std.proofs.lemmas.Result.{err_from_is_err_and}
 use Rattle.dt_tree.specs.NodeData.{NodeData}
-use Rattle.dt_blob.specs.Steps.Opened.{state_of, advance, begun, root_from}
+use Rattle.dt_blob.specs.Steps.NodeBuilders.{state_of, advance, begun, root_from}
 use Rattle.dt_blob.specs.Steps.Reading.{Gives, token_of, token_at, tokens_at}
 use Rattle.dt_blob.proofs.Stepping.{leads_begin, leads_fail, leads_end, leads_more, leads_refused, refuse}
 use Rattle.dt_blob.proofs.read_nodes.read_root.Goals as goal

@@ -1,5 +1,5 @@
 use Rattle.std.proofs.Common.{length}
-use Rattle.dt_blob.specs.Steps.Opened.{state_of, begun, root_from}
+use Rattle.dt_blob.specs.Steps.NodeBuilders.{state_of, begun, root_from}
 use Rattle.dt_blob.specs.Steps.Reading.{tokens_at}
 use Rattle.dt_blob.proofs.Stepping.{Leads}
 use Rattle.dt_blob.proofs.read_nodes.read_root.Given as goal

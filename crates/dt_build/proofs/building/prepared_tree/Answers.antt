@@ -2,12 +2,12 @@ use Rattle.std.proofs.Common.{sym, ◌∙◌}
 use Rattle.dt_build.proofs.BuildingSteps.{built, prepared-free, prepared-ready, too-deep}
 use Rattle.dt_build.proofs.building.prepared_tree.Goals as goal
 
-pub is_mirror_too_deep-requires : goal.is_mirror_too_deep-requires
-is_mirror_too_deep-requires c = prepared-ready c.args.symbols c.args.source.now c.requires.prepared.0 c.args.prepared.now c.requires.prepared.1 c.requires.lawful
+pub is_local_too_deep-requires : goal.is_local_too_deep-requires
+is_local_too_deep-requires c = prepared-ready c.args.symbols c.args.source.now c.requires.prepared.0 c.args.prepared.now c.requires.prepared.1 c.requires.lawful
 
-pub returns-then-is_mirror_too_deep : goal.returns-then-is_mirror_too_deep
-returns-then-is_mirror_too_deep c =
-    too-deep c.args.symbols c.args.source.now c.requires.prepared.0 c.args.prepared.now c.requires.prepared.1 (sym (c.is_mirror_too_deep.ensures c.args.symbols) ∙ c.if-is_mirror_too_deep.true)
+pub returns-then-is_local_too_deep : goal.returns-then-is_local_too_deep
+returns-then-is_local_too_deep c =
+    too-deep c.args.symbols c.args.source.now c.requires.prepared.0 c.args.prepared.now c.requires.prepared.1 (sym (c.is_local_too_deep.ensures c.args.symbols) ∙ c.if-is_local_too_deep.true)
 
 pub fitting_tree-requires-clause-ready : goal.fitting_tree-requires-clause-ready
 fitting_tree-requires-clause-ready c = prepared-ready c.args.symbols c.args.source.now c.requires.prepared.0 c.args.prepared.now c.requires.prepared.1 c.requires.lawful
@@ -16,9 +16,9 @@ pub fitting_tree-requires-clause-free : goal.fitting_tree-requires-clause-free
 fitting_tree-requires-clause-free c = prepared-free c.args.symbols c.args.source.now c.requires.prepared.0 c.args.prepared.now c.requires.prepared.1
 
 pub fitting_tree-requires-clause-shallow : goal.fitting_tree-requires-clause-shallow
-fitting_tree-requires-clause-shallow c = sym (c.is_mirror_too_deep.ensures c.args.symbols) ∙ c.if-is_mirror_too_deep.false
+fitting_tree-requires-clause-shallow c = sym (c.is_local_too_deep.ensures c.args.symbols) ∙ c.if-is_local_too_deep.false
 
 pub returns : goal.returns
 returns c =
-    built c.args.symbols c.args.source.now c.requires.prepared.0 c.args.prepared.now c.requires.prepared.1 c.requires.lawful (sym (c.is_mirror_too_deep.ensures c.args.symbols) ∙ c.if-is_mirror_too_deep.false)
+    built c.args.symbols c.args.source.now c.requires.prepared.0 c.args.prepared.now c.requires.prepared.1 c.requires.lawful (sym (c.is_local_too_deep.ensures c.args.symbols) ∙ c.if-is_local_too_deep.false)
     c.args.limit c.in_ok-tree.tree c.in_ok-tree.ensures

@@ -1,17 +1,17 @@
 use Rattle.std.proofs.Common.{◌≡◌, ◌+◌, sym, ap, ◌∙◌, arith}
-use Rattle.dt_assembly.specs.Lists.{defined_at}
-use Rattle.dt_assembly.proofs.MakingWalk.{some-node}
+use Rattle.dt_tree_builder.specs.Lists.{defined_at}
+use Rattle.dt_tree_builder.proofs.MakingWalk.{some-node}
 use Rattle.dt_edit.specs.Said.{tree_of}
 use Rattle.dt_build.specs.Private.Made.{own}
-use Rattle.dt_build.specs.Private.Places.{path_at}
-use Rattle.dt_layout.proofs.MakingNodes.{count, first-made}
+use Rattle.dt_build.specs.Private.Cursors.{path_at}
+use Rattle.dt_live.proofs.MakingNodes.{count, first-made}
 use Rattle.dt_build.proofs.MakingNodes.{distinct-own, order-of}
 use Rattle.dt_build.proofs.making.root_of.Goals as goal
 
 pub own_properties-requires-clause-more : goal.own_properties-requires-clause-more
 own_properties-requires-clause-more c =
     let p = c.args.prepared.now in
-    omega (arith, ap (λ x. x.node) c.start.ensures, count (order-of p c.requires.ready), some-node (tree_of p.draft).nodes)
+    omega (arith, ap (λ x. x.node) c.start.ensures, count (order-of p c.requires.ready), some-node (tree_of p.live).nodes)
 
 pub new-requires : goal.new-requires
 new-requires c =
@@ -25,4 +25,4 @@ returns-clause-made c =
     first-made (order-of p c.requires.ready) c.new.result ps c.in_ok-properties.behind.node
     (c.in_ok-properties.ensures.node ∙ ap (λ k. k + 1) start)
     (ap (λ k. defined_at (path_at p k) ps) (sym start) ∙ c.in_ok-properties.ensures.properties ∙ ap (λ k. own p (path_at p k)) start)
-    c.new.ensures.nodes c.new.ensures.properties c.new.ensures.way
+    c.new.ensures.nodes c.new.ensures.properties c.new.ensures.last_node

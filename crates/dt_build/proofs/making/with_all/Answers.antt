@@ -1,13 +1,13 @@
 use Rattle.std.proofs.Common.{sym, ap, ◌∙◌, rules}
-use Rattle.dt_assembly.specs.Standing.{walked}
+use Rattle.dt_tree_builder.specs.Standing.{walked}
 use Rattle.dt_build.proofs.ListsOfPrepared.{lists-ordinary}
 use Rattle.dt_build.proofs.making.with_all.Goals as goal
 
 pub returns-then-not-prepared : goal.returns-then-not-prepared
-returns-then-not-prepared c = c.in_ok-assembly.ensures ∙ ap walked (sym (lists-ordinary c.args.symbols c.args.prepared.now c.if-not-prepared.true))
+returns-then-not-prepared c = c.in_ok-builder.ensures ∙ ap walked (sym (lists-ordinary c.args.symbols c.args.prepared.now c.if-not-prepared.true))
 
-pub with_mirror-requires-clause-made : goal.with_mirror-requires-clause-made
-with_mirror-requires-clause-made c = search rules
+pub with_local_fixups-requires-clause-made : goal.with_local_fixups-requires-clause-made
+with_local_fixups-requires-clause-made c = search rules
 
 pub returns : goal.returns
-returns c = c.with_mirror.ensures
+returns c = c.with_local_fixups.ensures

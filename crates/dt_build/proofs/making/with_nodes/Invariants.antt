@@ -1,14 +1,14 @@
 use Rattle.std.proofs.Common.{◌-◌, length}
-use Rattle.dt_assembly.specs.Private.Making.{IsMade}
+use Rattle.dt_tree_builder.specs.Private.Making.{IsMade}
 use Rattle.dt_build.specs.Private.Made.{plain_lists}
-use Rattle.dt_build.specs.Private.Places.{IsPlace}
+use Rattle.dt_build.specs.Private.Cursors.{IsCursor}
 use Rattle.dt_build.proofs.making.with_nodes.Given as goal
 
-abbrev pub invariant-loop-place : goal.invariant-loop-place
-invariant-loop-place l = record {
-  place : IsPlace l.prepared l.place;
-  made : IsMade (plain_lists l.prepared) l.place.node l.assembly;
+abbrev pub invariant-loop-cursor : goal.invariant-loop-cursor
+invariant-loop-cursor l = record {
+  cursor : IsCursor l.prepared l.cursor;
+  made : IsMade (plain_lists l.prepared) l.cursor.node l.builder;
 }
 
-abbrev pub decreases-loop-place : goal.decreases-loop-place
-decreases-loop-place l = length l.prepared.layout.nodes.items - l.place.node
+abbrev pub decreases-loop-cursor : goal.decreases-loop-cursor
+decreases-loop-cursor l = length l.prepared.in_preorder.nodes.items - l.cursor.node

@@ -1,6 +1,6 @@
 use Rattle.std.proofs.Common.{◌-◌, ◌^◌, map, min, ap, ◌∙◌, sym}
 use Rattle.dt_meaning.specs.Resolved.{symbol}
-use Rattle.dt_assembly.specs.Sizes.{size_in}
+use Rattle.dt_tree_builder.specs.Sizes.{size_in}
 use Rattle.dt_edit.specs.Said.{tree_of}
 use Rattle.dt_build.specs.Private.Made.{made_properties, symbol_lists}
 use Rattle.dt_build.proofs.MakingSizes.{size-plain, size-symbols, sum-capped}
@@ -14,5 +14,5 @@ returns-then-not-symbols c =
 pub returns : goal.returns
 returns c =
     let p = c.args.prepared.now in
-    sum-capped (size_in (symbol_lists c.args.symbols p).properties) (size_in (made_properties p)) (size_in (map symbol (tree_of p.draft).labels)) c.nodes_size-size.result c.symbols_size.result c.saturating_add.result
+    sum-capped (size_in (symbol_lists c.args.symbols p).properties) (size_in (made_properties p)) (size_in (map symbol (tree_of p.live).labels)) c.nodes_size-size.result c.symbols_size.result c.saturating_add.result
     (ap (λ s. size_in (symbol_lists s p).properties) c.if-not-symbols.false ∙ size-symbols p) c.nodes_size-size.ensures c.symbols_size.ensures c.saturating_add.ensures

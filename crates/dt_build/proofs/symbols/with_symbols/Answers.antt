@@ -1,9 +1,9 @@
 use Rattle.std.proofs.Common.{◌≡◌, ◌<◌, ◌∷◌, [], ◌-◌, ◌++◌, true, length, take, ap, ◌∙◌, arith}
 use Rattle.std.proofs.lemmas.Bool.Decides.{nat_tests}
-use Rattle.dt_assembly.specs.Lists.{with_last}
-use Rattle.dt_assembly.specs.OpenNodes.{assembled, way_of}
-use Rattle.dt_assembly.specs.Standing.{walked}
-use Rattle.dt_assembly.proofs.MakingWalk.{ok-more}
+use Rattle.dt_tree_builder.specs.Lists.{with_last}
+use Rattle.dt_tree_builder.specs.Builders.{built_lists, last_path}
+use Rattle.dt_tree_builder.specs.Standing.{walked}
+use Rattle.dt_tree_builder.proofs.MakingWalk.{ok-more}
 use Rattle.dt_edit.specs.Said.{tree_of}
 use Rattle.dt_build.specs.Private.Made.{symbol_lists}
 use Rattle.dt_build.proofs.MakingLabels.{distinct-symbols}
@@ -12,18 +12,18 @@ use Rattle.dt_build.proofs.symbols.with_symbols.Goals as goal
 
 pub push-requires-clause-new : goal.push-requires-clause-new
 push-requires-clause-new c =
-    symbols-new c.args.prepared.now c.requires.ready c.requires.free c.args.assembly c.requires.made c.in_ok-name.name (c.in_ok-name.ensures ∙ c.as_slice.ensures)
+    symbols-new c.args.prepared.now c.requires.ready c.requires.free c.args.builder c.requires.made c.in_ok-name.name (c.in_ok-name.ensures ∙ c.as_slice.ensures)
 
 pub push-requires-clause-properties : goal.push-requires-clause-properties
 push-requires-clause-properties c =
-    distinct-symbols (tree_of c.args.prepared.now.draft).labels c.in_ok-symbols.symbols.items c.requires.ready.labels_apart c.in_ok-symbols.ensures
+    distinct-symbols (tree_of c.args.prepared.now.live).labels c.in_ok-symbols.symbols.items c.requires.ready.labels_apart c.in_ok-symbols.ensures
 
 pub returns : goal.returns
 returns c =
     let p = c.args.prepared.now in
     let ps = c.in_ok-symbols.symbols.items in
-    let bs = c.args.assembly in
+    let bs = c.args.builder in
     let some : 0 < length ps = grind (arith, nat_tests, c.is_empty.ensures, c.if-is_empty.false) in
-    ok-more (λ a. assembled a ≡ with_last (take (1 - 1) (way_of bs) ++ c.in_ok-name.name ∷ []) ps (assembled bs)) (λ a. assembled a ≡ walked (symbol_lists true p))
-    (λ a e. e ∙ ap (λ n. with_last (n ∷ []) ps (assembled bs)) (c.in_ok-name.ensures ∙ c.as_slice.ensures) ∙ whole p c.requires.ready c.requires.free bs c.requires.made ps c.in_ok-symbols.ensures some)
+    ok-more (λ a. built_lists a ≡ with_last (take (1 - 1) (last_path bs) ++ c.in_ok-name.name ∷ []) ps (built_lists bs)) (λ a. built_lists a ≡ walked (symbol_lists true p))
+    (λ a e. e ∙ ap (λ n. with_last (n ∷ []) ps (built_lists bs)) (c.in_ok-name.ensures ∙ c.as_slice.ensures) ∙ whole p c.requires.ready c.requires.free bs c.requires.made ps c.in_ok-symbols.ensures some)
     c.push.result c.push.ensures.nodes

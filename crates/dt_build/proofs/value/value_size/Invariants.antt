@@ -1,7 +1,7 @@
 use Rattle.std.proofs.Common.{◌≡◌, ◌+◌, ◌-◌, ◌^◌, ◌≤◌, drop, length, min}
 use Rattle.dt_meaning.specs.Fixups.{value_bytes}
-use Rattle.dt_draft.specs.Rows.{node_path}
-use Rattle.dt_build.specs.Private.Made.{all_numbers}
+use Rattle.dt_live.specs.Rows.{node_path}
+use Rattle.dt_build.specs.Private.Made.{all_phandles}
 use Rattle.dt_build.specs.Private.Values.{founds_of}
 use Rattle.dt_build.proofs.value.value_size.Given as goal
 
@@ -9,6 +9,6 @@ abbrev pub invariant-loop-part : goal.invariant-loop-part
 invariant-loop-part l = record {
   fits : l.size ≤ 2 ^ 64 - 1;
   few : l.used ≤ l.part-index;
-  size : min (l.size + length (value_bytes (all_numbers l.prepared) (founds_of (node_path l.prepared.draft) (drop l.part-index l.value) (drop l.used l.targets)))) (2 ^ 64 - 1)
-      ≡ min (length (value_bytes (all_numbers l.prepared) (founds_of (node_path l.prepared.draft) l.value l.targets))) (2 ^ 64 - 1);
+  size : min (l.size + length (value_bytes (all_phandles l.prepared) (founds_of (node_path l.prepared.live) (drop l.part-index l.value) (drop l.used l.targets)))) (2 ^ 64 - 1)
+      ≡ min (length (value_bytes (all_phandles l.prepared) (founds_of (node_path l.prepared.live) l.value l.targets))) (2 ^ 64 - 1);
 }

@@ -4,9 +4,9 @@ use Rattle.dt_meaning.specs.Edits.{counted}
 use Rattle.dt_source.specs.Tree.{view, views, part_view}
 use Rattle.dt_meaning.specs.Syntax.{Defines, Child}
 use Rattle.dt_meaning.specs.Statements.{begun, after_entry, after_body}
-use Rattle.dt_draft.specs.Rows.{node_path, property_body}
-use Rattle.dt_draft.proofs.Climbs.{not-true}
-use Rattle.dt_draft.proofs.Keeping.{below-not-itself}
+use Rattle.dt_live.specs.Rows.{node_path, property_stamp}
+use Rattle.dt_live.proofs.Climbs.{not-true}
+use Rattle.dt_live.proofs.Keeping.{below-not-itself}
 use Rattle.dt_edit.specs.Said.{body_of, entry_of, piece_of, tree_of}
 use Rattle.dt_edit.proofs.Admission.{child-done, child-keeps, child-marks, own-children, own-properties}
 use Rattle.dt_edit.proofs.Steps.{IsUnderWay, body-begun, body-goes-on, property-set, property-removed, child-removed, unmarked}
@@ -15,21 +15,21 @@ use Rattle.dt_edit.proofs.body.+edits.Goals as goal
 
 pub edit-returns-else-not-branch-clause-marks : goal.edit-returns-else-not-branch-clause-marks
 edit-returns-else-not-branch-clause-marks t c =
-    let old = c.args.draft.now in
+    let old = c.args.live.now in
     let e = c.in_ok-set_property-in-Property.ensures in
     record {
       children = λ n k known out. e.others n k;
-      properties = λ n k known out. e.bodies n k ∙ unmarked old c.args.node n c.in-Property.name.now k c.args.number (property_body old n k) out;
+      properties = λ n k known out. e.stamps n k ∙ unmarked old c.args.node n c.in-Property.name.now k c.args.stamp (property_stamp old n k) out;
     }
 
 pub edit-returns-else-not-branch-clause-step : goal.edit-returns-else-not-branch-clause-step
 edit-returns-else-not-branch-clause-step t c x at =
-    let old = c.args.draft.now in
+    let old = c.args.live.now in
     let p = node_path old c.args.node in
     let e = c.in_ok-set_property-in-Property.ensures in
     let name = c.in-Property.name.now in
-    let r = property-set x old c.args.node c.args.number c.args.made.now.count at c.set_property.new.self name c.as_slice.result
-    (not-true (property_body old c.args.node name == c.args.number) (sym e.first ∙ c.if-not-branch.false)) e.state e.bodies e.others in (
+    let r = property-set x old c.args.node c.args.stamp c.args.made.now.count at c.set_property.new.self name c.as_slice.result
+    (not-true (property_stamp old c.args.node name == c.args.stamp) (sym e.first ∙ c.if-not-branch.false)) e.state e.stamps e.others in (
       r.0,
       ap (λ s. after_entry (entry_of (view s)) p x) c.in-Property.is ∙ ap (λ s. after_entry (entry_of s) p x) (view-defines c.in-Property.name c.in-Property.value)
           ∙ ap (λ ps. after_entry (Defines name (map piece_of (map part_view ps))) p x) (sym c.as_slice.ensures.value)
@@ -39,21 +39,21 @@ edit-returns-else-not-branch-clause-step t c x at =
 
 pub edit-returns-in-DeleteProperty-clause-step : goal.edit-returns-in-DeleteProperty-clause-step
 edit-returns-in-DeleteProperty-clause-step t c x at =
-    let old = c.args.draft.now in
+    let old = c.args.live.now in
     let e = c.remove_property.ensures in
-    let r = property-removed x old c.args.node c.args.number c.args.made.now.count at c.remove_property.new.self c.in-DeleteProperty.name.now e.state e.bodies e.others in
+    let r = property-removed x old c.args.node c.args.stamp c.args.made.now.count at c.remove_property.new.self c.in-DeleteProperty.name.now e.state e.stamps e.others in
     (r.0, ap (λ s. after_entry (entry_of (view s)) (node_path old c.args.node) x) c.in-DeleteProperty.is ∙ ap (λ s. after_entry (entry_of s) (node_path old c.args.node) x) (view-undefines c.in-DeleteProperty.name) ∙ r.1, r.2)
 
 pub edit-returns-in-DeleteNode-clause-step : goal.edit-returns-in-DeleteNode-clause-step
 edit-returns-in-DeleteNode-clause-step t c x at =
-    let old = c.args.draft.now in
+    let old = c.args.live.now in
     let e = c.remove_child.ensures in
-    let r = child-removed x old c.args.node c.args.number c.args.made.now.count at c.remove_child.new.self c.in-DeleteNode.name.now e.state e.bodies e.others in
+    let r = child-removed x old c.args.node c.args.stamp c.args.made.now.count at c.remove_child.new.self c.in-DeleteNode.name.now e.state e.stamps e.others in
     (r.0, ap (λ s. after_entry (entry_of (view s)) (node_path old c.args.node) x) c.in-DeleteNode.is ∙ ap (λ s. after_entry (entry_of s) (node_path old c.args.node) x) (view-removes c.in-DeleteNode.name) ∙ r.1, r.2)
 
 pub edit-returns-in_ok-edit_child-in-Node-clause-step : goal.edit-returns-in_ok-edit_child-in-Node-clause-step
 edit-returns-in_ok-edit_child-in-Node-clause-step t c x at =
-    let p = node_path c.args.draft.now c.args.node in
+    let p = node_path c.args.live.now c.args.node in
     let name = c.in-Node.name.now in
     let r = c.in_ok-edit_child-in-Node.ensures.step x at in (
       r.0,
@@ -65,13 +65,13 @@ edit-returns-in_ok-edit_child-in-Node-clause-step t c x at =
 
 pub edit_body-loop-statement-init : goal.edit_body-loop-statement-init
 edit_body-loop-statement-init t c =
-    let old = c.args.draft.now in
+    let old = c.args.live.now in
     let e = c.in-Some.ensures in
     let made = c.args.made.now.count in
     let whole = body_of (views c.args.body.now) in (
       begun (counted made (tree_of old)),
-      subst (λ (n : ℕ). IsUnderWay (begun (counted made (tree_of old))) old c.begin_body.new.self c.args.node n made whole whole) (sym e.number)
-          (body-begun old c.begin_body.new.self c.args.node made whole e.rest (e.new refl) c.requires.sound c.requires.numbered),
+      subst (λ (n : ℕ). IsUnderWay (begun (counted made (tree_of old))) old c.new_stamp.new.self c.args.node n made whole whole) (sym e.stamp)
+          (body-begun old c.new_stamp.new.self c.args.node made whole e.rest (e.new refl) c.requires.sound c.requires.stamped),
     )
 
 pub edit_body-loop-statement-preserved : goal.edit_body-loop-statement-preserved
@@ -85,9 +85,9 @@ edit_body-loop-statement-preserved t c =
     let next : drop at body ≡ c.statement-item.result ∷ drop (at + 1) body =
     drop-cons body at c.statement-item.result within ∙ ap₂ (λ a n. a ∷ drop n body) (sym c.statement-item.is) (sym (add-one at)) in (
       r.0,
-      body-goes-on i.0 r.0 c.args.draft.now c.loop-statement.draft c.edit.new.draft c.args.node c.in-Some.number c.args.made.now.count (body_of (views c.args.body.now))
+      body-goes-on i.0 r.0 c.args.live.now c.loop-statement.live c.edit.new.live c.args.node c.in-Some.stamp c.args.made.now.count (body_of (views c.args.body.now))
           (body_of (views (drop (c.loop-statement.statement-index + 1) c.args.body.now))) (entry_of (view c.statement-item.result)) c.requires.known
-          (subst (λ ss. IsUnderWay i.0 c.args.draft.now c.loop-statement.draft c.args.node c.in-Some.number c.args.made.now.count (body_of (views body)) (body_of (views ss))) next i.1) e.sound e.numbered e.counted e.kept e.marks r.1 r.2,
+          (subst (λ ss. IsUnderWay i.0 c.args.live.now c.loop-statement.live c.args.node c.in-Some.stamp c.args.made.now.count (body_of (views body)) (body_of (views ss))) next i.1) e.sound e.stamped e.counted e.kept e.marks r.1 r.2,
     )
 
 pub edit_body-edit-requires : goal.edit_body-edit-requires
@@ -98,13 +98,13 @@ edit_body-edit-requires t c =
       (
         u.sound,
         (
-          u.numbered,
+          u.stamped,
           (
             u.counted,
             (
               omega (arith, u.kept.more, c.requires.known),
               (
-                u.kept.stand c.args.node c.requires.known c.requires.stands (below-not-itself (node_path c.args.draft.now c.args.node)),
+                u.kept.stand c.args.node c.requires.known c.requires.stands (below-not-itself (node_path c.args.live.now c.args.node)),
                 (c.requires.depth ∙ ap length (sym (u.kept.paths c.args.node c.requires.known)), c.requires.exact),
               ),
             ),
@@ -117,24 +117,24 @@ edit_body-edit-requires t c =
 pub edit_child-returns-clause-kept : goal.edit_child-returns-clause-kept
 edit_child-returns-clause-kept t c =
     let e = c.in_ok-child.ensures in
-    child-keeps c.args.draft.now c.admit_child.new.draft c.edit_body.new.draft c.args.node c.in_ok-child.child c.args.number c.args.name.now e.kept e.path c.in_ok-edit_body.ensures.kept
+    child-keeps c.args.live.now c.admit_child.new.live c.edit_body.new.live c.args.node c.in_ok-child.child c.args.stamp c.args.name.now e.kept e.path c.in_ok-edit_body.ensures.kept
 
 pub edit_child-returns-clause-marks : goal.edit_child-returns-clause-marks
 edit_child-returns-clause-marks t c =
     let e = c.in_ok-child.ensures in
-    child-marks c.args.draft.now c.admit_child.new.draft c.edit_body.new.draft c.args.node c.in_ok-child.child c.args.number c.args.name.now e.kept e.path
+    child-marks c.args.live.now c.admit_child.new.live c.edit_body.new.live c.args.node c.in_ok-child.child c.args.stamp c.args.name.now e.kept e.path
     e.children e.properties c.in_ok-edit_body.ensures.marks
 
 pub edit_child-returns-clause-step : goal.edit_child-returns-clause-step
 edit_child-returns-clause-step t c x at =
-    let old = c.args.draft.now in
-    let two = c.admit_child.new.draft in
-    let three = c.edit_body.new.draft in
+    let old = c.args.live.now in
+    let two = c.admit_child.new.live in
+    let three = c.edit_body.new.live in
     let e = c.in_ok-child.ensures in
     let ls = map (λ l. l.now) c.args.labels.now in
     let body = body_of (views c.args.body.now) in
     let made = c.args.made.now.count in
-    child-done x old two c.args.node c.args.number made ls c.args.name.now body at (e.step x at) three
+    child-done x old two c.args.node c.args.stamp made ls c.args.name.now body at (e.step x at) three
     (ap (λ r. after_body body r (begun (counted made (tree_of two)))) (sym e.path) ∙ c.in_ok-edit_body.ensures.body)
-    (own-properties old two three c.args.node c.in_ok-child.child c.args.number c.args.name.now e.kept e.path e.children e.properties c.in_ok-edit_body.ensures.marks c.requires.known)
-    (own-children old two three c.args.node c.in_ok-child.child c.args.number c.args.name.now e.kept e.path e.children e.properties c.in_ok-edit_body.ensures.marks c.requires.known)
+    (own-properties old two three c.args.node c.in_ok-child.child c.args.stamp c.args.name.now e.kept e.path e.children e.properties c.in_ok-edit_body.ensures.marks c.requires.known)
+    (own-children old two three c.args.node c.in_ok-child.child c.args.stamp c.args.name.now e.kept e.path e.children e.properties c.in_ok-edit_body.ensures.marks c.requires.known)

@@ -9,7 +9,7 @@ use Rattle.dt_edit.proofs.body.+edits.Given as goal
 
 abbrev pub invariant-edit_body-loop-statement : goal.invariant-edit_body-loop-statement
 invariant-edit_body-loop-statement l =
-    (x : Progress (List Piece)) × IsUnderWay x l.fn.draft l.draft l.node l.number l.made.count (body_of (views l.body)) (body_of (views (drop l.statement-index l.body)))
+    (x : Progress (List Piece)) × IsUnderWay x l.fn.live l.live l.node l.stamp l.made.count (body_of (views l.body)) (body_of (views (drop l.statement-index l.body)))
 
 -- each body is one level deeper, down to MAX_DEPTH
 abbrev pub decreases-edit : goal.decreases-edit

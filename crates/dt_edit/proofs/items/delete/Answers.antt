@@ -1,13 +1,13 @@
 use Rattle.std.proofs.Common.{◌≡◌, ◌-◌, suc, arith, rules}
 use Rattle.dt_source.specs.Tree.{target_view}
-use Rattle.dt_draft.specs.Rows.{node_path}
+use Rattle.dt_live.specs.Rows.{node_path}
 use Rattle.dt_edit.specs.Said as said
 use Rattle.dt_edit.proofs.ItemSteps.{node-deleted, not-root}
 use Rattle.dt_edit.proofs.items.delete.Goals as goal
 
 pub returns-clause-item : goal.returns-clause-item
 returns-clause-item c n =
-    let old = c.args.draft.now in
+    let old = c.args.live.now in
     let node = c.in_ok-node.node in
     let at : node ≡ suc (node - 1) = omega (arith, c.if-node-eq0.false) in
     node-deleted n old c.remove_node.new.self (said.target_of (target_view c.args.target.now)) (node_path old node) c.in_ok-node.ensures.node

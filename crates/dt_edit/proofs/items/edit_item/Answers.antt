@@ -57,7 +57,7 @@ returns-in-Ok-clause-item c =
     let t = said.target_of (target_view c.in-Extend.target) in
     let body = body_of (views c.in-Extend.body.items) in
     let next = target-ready f met c.requires.ready.0 ls t body (subst (λ (i : Item). IsReady f met (item_of (item_view i) ∷ c.requires.ready.0)) c.in-Extend.is c.requires.ready.1) in
-    let s = tree_of c.args.draft.now in
+    let s = tree_of c.args.live.now in
     let named = name-ready f met made left c.requires.ready.1 (omega (arith, next.0, c.requires.counted)) c.as_slice-name.result.now c.index.result.now (c.as_slice-name.ensures.value ∙ ap (λ v. v.items) c.index.ensures) in
     ap (λ i. after_item c.args.plugin (item_of (item_view i)) (counted made s)) c.in-Extend.is
     ∙ item-adds c.args.plugin ls t body made s c.as_slice-name.result.now (sym c.makes_fragment.ensures ∙ c.if-makes_fragment.true) named
@@ -74,7 +74,7 @@ returns-in-Err-clause-item c =
     let t = said.target_of (target_view c.in-Extend.target) in
     let body = body_of (views c.in-Extend.body.items) in
     let next = target-ready f met c.requires.ready.0 ls t body (subst (λ (i : Item). IsReady f met (item_of (item_view i) ∷ c.requires.ready.0)) c.in-Extend.is c.requires.ready.1) in
-    let s = tree_of c.args.draft.now in
+    let s = tree_of c.args.live.now in
     let named = name-ready f met made left c.requires.ready.1 (omega (arith, next.0, c.requires.counted)) c.as_slice-name.result.now c.index.result.now (c.as_slice-name.ensures.value ∙ ap (λ v. v.items) c.index.ensures) in
     fault-same c.in-Err.error _ _
     (ap (λ i. after_item c.args.plugin (item_of (item_view i)) (counted made s)) c.in-Extend.is

@@ -27,13 +27,13 @@ loop-item-preserved c =
     let ready = subst (λ (xs : List Item). IsReady f c.loop-item.extensions (map item_of (map item_view xs))) next i.ready in
     record {
       sound = e.sound;
-      numbered = e.numbered;
+      stamped = e.stamped;
       exact = e.exact;
       count = omega (arith, e.counted, more);
       ready = subst (λ (n : ℕ). IsReady f (c.loop-item.extensions + n) left) (sym more) (ready-next f c.loop-item.extensions item left ready);
-      rest = items-go-on c.args.plugin item left (counted c.loop-item.made.count (tree_of c.loop-item.draft)) (counted c.edit_item.new.made.count (tree_of c.edit_item.new.draft))
-          (after_items c.args.plugin (map item_of (map item_view items)) (tree_of c.args.draft.now))
-          (sym (ap (λ xs. after_items c.args.plugin (map item_of (map item_view xs)) (counted c.loop-item.made.count (tree_of c.loop-item.draft))) next) ∙ i.rest) e.item;
+      rest = items-go-on c.args.plugin item left (counted c.loop-item.made.count (tree_of c.loop-item.live)) (counted c.edit_item.new.made.count (tree_of c.edit_item.new.live))
+          (after_items c.args.plugin (map item_of (map item_view items)) (tree_of c.args.live.now))
+          (sym (ap (λ xs. after_items c.args.plugin (map item_of (map item_view xs)) (counted c.loop-item.made.count (tree_of c.loop-item.live))) next) ∙ i.rest) e.item;
     }
 
 pub edit_item-requires-clause-ready : goal.edit_item-requires-clause-ready
@@ -48,7 +48,7 @@ returns-clause-items c =
     let made = c.loop-item.made.count in (
       made,
       sym c.loop-item.invariant.rest
-          ∙ at_drop_all (λ (xs : List Item). after_items c.args.plugin (map item_of (map item_view xs)) (counted made (tree_of c.loop-item.draft))) c.args.items.now c.loop-item.item-index c.loop-item-test.false,
+          ∙ at_drop_all (λ (xs : List Item). after_items c.args.plugin (map item_of (map item_view xs)) (counted made (tree_of c.loop-item.live))) c.args.items.now c.loop-item.item-index c.loop-item-test.false,
     )
 
 pub returns-in-Err-clause-items : goal.returns-in-Err-clause-items
@@ -58,8 +58,8 @@ returns-in-Err-clause-items c =
     let items = c.args.items.now in
     let item = item_of (item_view c.item-item.result) in
     let left = map item_of (map item_view (drop (at + 1) items)) in
-    let state = counted c.loop-item.made.count (tree_of c.loop-item.draft) in
+    let state = counted c.loop-item.made.count (tree_of c.loop-item.live) in
     let next : drop at items ≡ c.item-item.result ∷ drop (at + 1) items = drop-cons items at c.item-item.result c.loop-item-test.true ∙ ap₂ (λ a n. a ∷ drop n items) (sym c.item-item.is) (sym (add-one at)) in
-    fault-same c.in-Err.error (then_do (after_item plugin item state) (after_items plugin left)) (after_items plugin (map item_of (map item_view items)) (tree_of c.args.draft.now))
+    fault-same c.in-Err.error (then_do (after_item plugin item state) (after_items plugin left)) (after_items plugin (map item_of (map item_view items)) (tree_of c.args.live.now))
     (sym c.loop-item.invariant.rest ∙ ap (λ xs. after_items plugin (map item_of (map item_view xs)) state) next)
     (fault-then c.in-Err.error (after_item plugin item state) (after_items plugin left) c.in-Err.ensures.item)

@@ -2,7 +2,7 @@ use Rattle.std.proofs.Common.{◌≡◌, ◌≤◌, map, drop}
 use Rattle.dt_source.specs.Tree.{item_view}
 use Rattle.dt_meaning.specs.Edits.{counted}
 use Rattle.dt_meaning.specs.Statements.{after_items}
-use Rattle.dt_draft.specs.Rows.{IsDraft, IsNumbered}
+use Rattle.dt_live.specs.Rows.{IsLiveTree, IsStamped}
 use Rattle.dt_edit.specs.Private.Made.{IsExact}
 use Rattle.dt_edit.specs.Private.Ready.{IsReady}
 use Rattle.dt_edit.specs.Said.{item_of, tree_of}
@@ -10,11 +10,11 @@ use Rattle.dt_edit.proofs.items.edit_items.Given as goal
 
 abbrev pub invariant-loop-item : goal.invariant-loop-item
 invariant-loop-item l = record {
-  sound : IsDraft l.draft;
-  numbered : IsNumbered l.draft;
+  sound : IsLiveTree l.live;
+  stamped : IsStamped l.live;
   exact : IsExact l.made;
   count : l.made.count ≤ l.extensions;
   ready : IsReady l.fragments l.extensions (map item_of (map item_view (drop l.item-index l.items)));
-  rest : after_items l.plugin (map item_of (map item_view (drop l.item-index l.items))) (counted l.made.count (tree_of l.draft))
-      ≡ after_items l.plugin (map item_of (map item_view l.items)) (tree_of l.fn.draft);
+  rest : after_items l.plugin (map item_of (map item_view (drop l.item-index l.items))) (counted l.made.count (tree_of l.live))
+      ≡ after_items l.plugin (map item_of (map item_view l.items)) (tree_of l.fn.live);
 }

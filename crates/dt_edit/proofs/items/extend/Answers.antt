@@ -4,7 +4,7 @@ use Rattle.dt_meaning.specs.Edits.{counted}
 use Rattle.dt_meaning.specs.Statements as meaning
 use Rattle.dt_meaning.specs.Statements.{after_body, after_item, begun}
 use Rattle.dt_meaning.specs.Syntax.{Extends}
-use Rattle.dt_draft.specs.Rows.{node_path, path_of, state_of}
+use Rattle.dt_live.specs.Rows.{node_path, path_of, state_of}
 use Rattle.dt_edit.specs.Said as said
 use Rattle.dt_edit.specs.Said.{body_of, tree_of}
 use Rattle.dt_edit.proofs.Faults.{fault-same, fault-error, label-says}
@@ -13,7 +13,7 @@ use Rattle.dt_edit.proofs.items.extend.Goals as goal
 
 pub returns-in-Err-clause-item : goal.returns-in-Err-clause-item
 returns-in-Err-clause-item c =
-    let old = c.args.draft.now in
+    let old = c.args.live.now in
     let made = c.args.made.now.count in
     let t = said.target_of (target_view c.args.target.now) in
     let ls = labels_view c.args.labels.now in
@@ -26,7 +26,7 @@ returns-in-Err-clause-item c =
 
 pub returns-in-Err-edit_body-clause-item : goal.returns-in-Err-edit_body-clause-item
 returns-in-Err-edit_body-clause-item c =
-    let old = c.args.draft.now in
+    let old = c.args.live.now in
     let made = c.args.made.now.count in
     let mid = c.give_labels.new.self in
     let t = said.target_of (target_view c.args.target.now) in
@@ -41,7 +41,7 @@ returns-in-Err-edit_body-clause-item c =
 
 pub returns-in-Ok-clause-item : goal.returns-in-Ok-clause-item
 returns-in-Ok-clause-item c =
-    let old = c.args.draft.now in
+    let old = c.args.live.now in
     let made = c.args.made.now.count in
     let mid = c.give_labels.new.self in
     let t = said.target_of (target_view c.args.target.now) in

@@ -1,4 +1,4 @@
-use Rattle.std.proofs.Common.{◌≡◌, ◌<◌, ◌≤◌, ◌+◌, ◌-◌, ℕ, false, List, [], ◌∷◌, length, get_or, take, drop, Ok, Err, arith, sym, ap, refl, ◌∙◌}
+use Rattle.std.proofs.Common.{◌≡◌, ◌<◌, ◌≤◌, ◌-◌, ℕ, false, List, [], ◌∷◌, length, get_or, take, drop, Ok, Err, arith, sym, ap, refl, ◌∙◌}
 use Rattle.std.proofs.lemmas.List.{take_rest}
 use Rattle.std.proofs.lemmas.Result.{err_from_is_err_and}
 use Rattle.dt_lexeme.specs.declared.lexeme.Lexeme.{Lexeme}
@@ -8,7 +8,8 @@ use Rattle.dt_expression.specs.Expression.{is_prefix, Making}
 use Rattle.dt_expression.specs.Values.{values}
 use Rattle.dt_expression.specs.ReadingExpressions.{Reader, primary_by, primary_with, unary_at, levels, otherwise_by, otherwise, chosen_by, chosen, expr_below, expr_at}
 use Rattle.dt_expression.specs.Reading.{◌>>=◌, syntax_at}
-use Rattle.dt_expression.proofs.Steps.{expr_below_none, unary_below_none, expr_below_some, unary_below_some, levels_none, levels_refused, levels_next, more_goes_on, more_fails, more_stops}
+use Rattle.dt_expression.proofs.Steps.{expr_below_none, unary_below_none, expr_below_some, unary_below_some, levels_none, levels_refused}
+use Rattle.dt_expression.proofs.Operators.{nothing_waits, next_refused, next_taken, none_left}
 use Rattle.dt_expression.proofs.expression.+expression.Goals as goal
 
 pub expr_deeper-returns-then-depth-eq0-clause-gives : goal.expr_deeper-returns-then-depth-eq0-clause-gives
@@ -23,49 +24,30 @@ expr_deeper-returns-clause-gives t c = let h : 0 < c.args.depth = omega arith in
 pub unary_deeper-returns-clause-gives : goal.unary_deeper-returns-clause-gives
 unary_deeper-returns-clause-gives t c = let h : 0 < c.args.depth = omega arith in rw (unary_below_some (values c.args.text.now) _ _ _ h) c.unary.ensures.gives
 
-pub further-loop-t-init : goal.further-loop-t-init
-further-loop-t-init t c = record { left_shorter = omega arith; so_far = (length c.args.lexemes.now, omega arith, refl) }
-
-pub further-returns-in_err-next-clause-gives : goal.further-returns-in_err-next-clause-gives
-further-returns-in_err-next-clause-gives t c =
+pub operands-returns-in_err-value-clause-gives : goal.operands-returns-in_err-value-clause-gives
+operands-returns-in_err-value-clause-gives t c =
     let p = err_from_is_err_and c.from_residual.result c.from_residual.ensures.1 in
-    let so_far = c.loop-t.invariant.so_far in
-    rw (p.1, p.2) (more_fails (values c.args.text.now) (levels (values c.args.text.now) (unary_at (values c.args.text.now) c.args.depth) (c.args.rank - 1)) c.args.rank so_far.0 c.loop-t.value c.loop-t.left.now c.in-Some.t c.in-Some.rest.now c.in_err-next.field-0.0 _ (sym c.in-Some.ensures.gives) c.in-Some.ensures.shorter c.in_err-next.ensures.gives so_far.1 so_far.2)
+    rw (p.1, p.2) (levels_refused (values c.args.text.now) (unary_at (values c.args.text.now) c.args.depth) 10 0 c.args.lexemes.now c.in_err-value.field-0.0 (omega arith) (levels_none (values c.args.text.now) (unary_at (values c.args.text.now) c.args.depth) 0 c.args.lexemes.now refl ∙ c.in_err-value.ensures.gives))
 
-pub further-loop-t-preserved : goal.further-loop-t-preserved
-further-loop-t-preserved t c =
-    let so_far = c.loop-t.invariant.so_far in
-    record {
-      left_shorter = omega (arith, c.in-Some.ensures.shorter, c.in_ok-next.ensures.shorter);
-      so_far = rw c.both-value.ensures (more_goes_on (values c.args.text.now) (levels (values c.args.text.now) (unary_at (values c.args.text.now) c.args.depth) (c.args.rank - 1)) c.args.rank so_far.0 c.loop-t.value c.loop-t.left.now c.in-Some.t c.in-Some.rest.now c.in_ok-next.next c.in_ok-next.after.now _ (sym c.in-Some.ensures.gives) c.in-Some.ensures.shorter c.in_ok-next.ensures.gives c.in_ok-next.ensures.shorter so_far.1 so_far.2);
-    }
-
-pub further-returns-clause-gives : goal.further-returns-clause-gives
-further-returns-clause-gives t c =
-    let so_far = c.loop-t.invariant.so_far in
-    more_stops (values c.args.text.now) (levels (values c.args.text.now) (unary_at (values c.args.text.now) c.args.depth) (c.args.rank - 1)) c.args.rank so_far.0 c.loop-t.value c.loop-t.left.now _ (sym c.in_default.ensures.gives) so_far.2
-
-pub level-returns-in_err-value-clause-gives : goal.level-returns-in_err-value-clause-gives
-level-returns-in_err-value-clause-gives t c =
-    let p = err_from_is_err_and c.from_residual.result c.from_residual.ensures.1 in
-    rw (p.1, p.2) (levels_refused (values c.args.text.now) (unary_at (values c.args.text.now) c.args.depth) c.args.rank 0 c.args.lexemes.now c.in_err-value.field-0.0 (omega arith) (levels_none (values c.args.text.now) (unary_at (values c.args.text.now) c.args.depth) 0 c.args.lexemes.now refl ∙ c.in_err-value.ensures.gives))
-
-pub level-loop-below-init : goal.level-loop-below-init
-level-loop-below-init t c = record {
+pub operands-loop-operator-init : goal.operands-loop-operator-init
+operands-loop-operator-init t c = record {
   left_shorter = c.in_ok-value.ensures.shorter;
-  so_far = levels_none (values c.args.text.now) (unary_at (values c.args.text.now) c.args.depth) 0 c.args.lexemes.now refl ∙ c.in_ok-value.ensures.gives;
+  so_far = nothing_waits c.args.text.now (unary_at (values c.args.text.now) c.args.depth) c.none-waiting.result.of_rank 10 c.args.lexemes.now c.in_ok-value.left.now c.in_ok-value.value c.none-waiting.ensures c.in_ok-value.ensures.gives;
 }
 
-pub level-returns-in_err-more-clause-gives : goal.level-returns-in_err-more-clause-gives
-level-returns-in_err-more-clause-gives t c =
-    let p = err_from_is_err_and c.from_residual-in_err-more.result c.from_residual-in_err-more.ensures.1 in
-    rw (p.1, p.2) (levels_refused (values c.args.text.now) (unary_at (values c.args.text.now) c.args.depth) c.args.rank (c.loop-below.below + 1) c.args.lexemes.now c.in_err-more.field-0.0 (omega arith) (levels_next (values c.args.text.now) (unary_at (values c.args.text.now) c.args.depth) c.loop-below.below c.args.lexemes.now c.loop-below.left.now c.loop-below.value c.loop-below.invariant.so_far ∙ c.in_err-more.ensures.gives))
+pub operands-returns-in_err-next-clause-gives : goal.operands-returns-in_err-next-clause-gives
+operands-returns-in_err-next-clause-gives t c =
+    let p = err_from_is_err_and c.from_residual-in_err-next.result c.from_residual-in_err-next.ensures.1 in
+    rw (p.1, p.2) (next_refused c.args.text.now c.args.depth c.loop-operator.waiting.of_rank c.loop-operator.value c.loop-operator.left.now c.in-Some.rest.now c.in-Some.operator c.in_err-next.field-0.0 _ (sym c.in-Some.ensures.gives) c.in_err-next.ensures.gives c.loop-operator.invariant.so_far)
 
-pub level-loop-below-preserved : goal.level-loop-below-preserved
-level-loop-below-preserved t c = record {
-  left_shorter = omega (arith, c.in_ok-more.ensures.shorter, c.loop-below.invariant.left_shorter);
-  so_far = levels_next (values c.args.text.now) (unary_at (values c.args.text.now) c.args.depth) c.loop-below.below c.args.lexemes.now c.loop-below.left.now c.loop-below.value c.loop-below.invariant.so_far ∙ c.in_ok-more.ensures.gives;
+pub operands-loop-operator-preserved : goal.operands-loop-operator-preserved
+operands-loop-operator-preserved t c = record {
+  left_shorter = omega (arith, c.in-Some.ensures.shorter, c.in_ok-next.ensures.shorter, c.loop-operator.invariant.left_shorter);
+  so_far = next_taken c.args.text.now c.args.depth c.loop-operator.waiting.of_rank c.end_up_to-before.new.self.of_rank c.put.new.self.of_rank c.rank_of-rank.result c.loop-operator.value c.end_up_to-before.result c.in_ok-next.next c.loop-operator.left.now c.in-Some.rest.now c.in_ok-next.after.now c.in-Some.operator _ (sym c.in-Some.ensures.gives) c.rank_of-rank.ensures c.end_up_to-before.ensures.value c.end_up_to-before.ensures.ended c.end_up_to-before.ensures.others c.put.ensures.begun c.put.ensures.others c.in_ok-next.ensures.gives c.loop-operator.invariant.so_far;
 }
+
+pub operands-returns-clause-gives : goal.operands-returns-clause-gives
+operands-returns-clause-gives t c = none_left c.args.text.now c.args.depth c.loop-operator.waiting.of_rank c.loop-operator.value c.end_up_to.result c.loop-operator.left.now _ (sym c.in_default.ensures.gives) c.end_up_to.ensures.value c.loop-operator.invariant.so_far
 
 -- ---- operands behind a lexeme
 
@@ -165,6 +147,3 @@ choose-returns-in_default-clause-gives t c = no_second (values c.args.text.now) 
 
 pub otherwise-returns-in_default-clause-gives : goal.otherwise-returns-in_default-clause-gives
 otherwise-returns-in_default-clause-gives t c = rw c.syntax_at-in_default.ensures (no_third (values c.args.text.now) (expr_below (values c.args.text.now) c.args.depth) c.args.test c.args.yes c.args.lexemes.now _ c.in-len1-up.len_at_least c.in_default.not-Colon)
-
-pub further-level-requires : goal.further-level-requires
-further-level-requires t c = (omega (arith, c.decreases, c.requires.some), omega (arith, c.requires.most))

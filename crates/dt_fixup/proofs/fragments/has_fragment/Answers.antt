@@ -4,7 +4,7 @@ use Rattle.dt_fixup.proofs.fragments.has_fragment.Goals as goal
 
 pub returns-then-is_fragment : goal.returns-then-is_fragment
 returns-then-is_fragment c =
-    let d = c.args.draft.now in
+    let d = c.args.live.now in
     let k = c.loop-row.row in
     let within : k < length d.nodes.items = omega (arith, c.loop-row-test.true, ap length c.nodes-row-end.ensures) in
     let m = length d.nodes.items - (k + 1) in
@@ -12,7 +12,7 @@ returns-then-is_fragment c =
 
 pub loop-row-preserved : goal.loop-row-preserved
 loop-row-preserved c =
-    let d = c.args.draft.now in
+    let d = c.args.live.now in
     let k = c.loop-row.row in
     record {
       rest = λ m e. row-skipped d k m (sym c.is_fragment.ensures ∙ c.if-is_fragment.false) ∙ c.loop-row.invariant.rest (suc m) (omega (arith, e));

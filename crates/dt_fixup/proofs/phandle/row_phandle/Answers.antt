@@ -1,5 +1,5 @@
 use Rattle.std.proofs.Common.{length, slice_index_or, ap, arith}
-use Rattle.dt_draft.specs.Rows.{no_property}
+use Rattle.dt_live.specs.Rows.{no_property}
 use Rattle.dt_fixup.proofs.phandle.row_phandle.Goals as goal
 
 pub is_reserved-requires-clause-known : goal.is_reserved-requires-clause-known

@@ -1,7 +1,7 @@
 use Rattle.std.proofs.Common.{◌≡◌, ◌<◌, ◌&&◌, Bool, true, false, not, length, refl, ap, sym, ◌∙◌, ◌+◌, arith, true≢false, nat_cmp}
 use Rattle.std.specs.List.{list_any}
 use Rattle.std.specs.BTreeMap.{is_at}
-use Rattle.overlay_meaning.specs.Shifted.{differ}
+use Rattle.dt_overlay_meaning.specs.Shifted.{differ}
 use Rattle.dt_fixup.specs.Private.Rows.{is_met}
 use Rattle.dt_fixup.proofs.Phandles.{are_new, phandles_from, distinct-start, distinct-more, distinct-same, distinct-stops, distinct-end, whole-phandles}
 use Rattle.dt_fixup.proofs.raising.are_distinct.Goals as goal
@@ -18,11 +18,11 @@ was-new b true e f = absurd (true≢false (sym f ∙ e))
 pub loop-property-init : goal.loop-property-init
 loop-property-init c =
     let e = c.new-met.ensures.empty in
-    record { rest = distinct-start c.args.draft.now (is_met c.new-met.result) (λ n. ap (λ ks. list_any (is_at (nat_cmp n)) ks) e) }
+    record { rest = distinct-start c.args.live.now (is_met c.new-met.result) (λ n. ap (λ ks. list_any (is_at (nat_cmp n)) ks) e) }
 
 pub returns-then-not-branch : goal.returns-then-not-branch
 returns-then-not-branch c =
-    let d = c.args.draft.now in
+    let d = c.args.live.now in
     distinct-stops d c.loop-property.property c.in-Some.number (is_met c.loop-property.met) (differ (phandles_from d 0))
     (omega (arith, c.loop-property-test.true, ap length c.properties-property-end.ensures)) c.in-Some.ensures
     (was-met c.in_ok-meet.field-0 (is_met c.loop-property.met c.in-Some.number) c.in_ok-meet.ensures.new c.if-not-branch.true) c.loop-property.invariant.rest
@@ -30,7 +30,7 @@ returns-then-not-branch c =
 
 pub loop-property-preserved : goal.loop-property-preserved
 loop-property-preserved c =
-    let d = c.args.draft.now in
+    let d = c.args.live.now in
     let i = c.loop-property.property in
     let met = c.loop-property.met in
     let within : i < length d.properties.items = omega (arith, c.loop-property-test.true, ap length c.properties-property-end.ensures) in
@@ -50,7 +50,7 @@ loop-property-preserved c =
 
 pub returns : goal.returns
 returns c =
-    let d = c.args.draft.now in
+    let d = c.args.live.now in
     distinct-end d c.loop-property.property (is_met c.loop-property.met) (differ (phandles_from d 0))
     (omega (arith, c.loop-property-test.false, ap length c.properties-property-end.ensures)) c.loop-property.invariant.rest
     ∙ sym (ap differ (whole-phandles d c.requires))

@@ -3,12 +3,12 @@ use Rattle.std.proofs.lemmas.List.{length_push, map-append}
 use Rattle.std.proofs.lemmas.Iterator.Consumers.{YieldsList-turn, YieldsList-end}
 use Rattle.std.proofs.lemmas.Iterator.Splits.{YieldsList-from_slice_split}
 use Rattle.dt_tree.specs.Path.{path_names}
-use Rattle.overlay_meaning.specs.Steps.{each, then_do}
-use Rattle.overlay_meaning.specs.Shifted.{Fixup, fixup_in, place}
-use Rattle.overlay_meaning.specs.Texts.{parts}
+use Rattle.dt_overlay_meaning.specs.Steps.{each, then_do}
+use Rattle.dt_overlay_meaning.specs.Shifted.{Fixup, fixup_in, site}
+use Rattle.dt_overlay_meaning.specs.Texts.{parts}
 use Rattle.dt_fixup.specs.declared.error.OverlayError.TheVariants.{BadFixup}
-use Rattle.dt_fixup.specs.Private.Fixing.{named}
-use Rattle.dt_fixup.proofs.ReadingLaws.{so-far-end, so-far-fault, so-far-more, text-none, text-place, texts-end, texts-more}
+use Rattle.dt_fixup.specs.Private.Fixing.{fixup_named}
+use Rattle.dt_fixup.proofs.ReadingLaws.{so-far-end, so-far-fault, so-far-more, text-none, text-site, texts-end, texts-more}
 use Rattle.dt_fixup.proofs.reading.read_texts.Goals as goal
 
 pub returns-in_default : goal.returns-in_default
@@ -19,7 +19,7 @@ returns-in_default c =
     let all = parts 0 c.args.texts.now in
     let i = length c.loop-text.yielded in
     so-far-fault BadFixup (each f all) (each f (drop i all)) (then_do (f c.in-Some.text.now) (λ a. Ok (a ∷ []))) (each f (drop (i + 1) all))
-    (map named c.args.found.now.items) (map named c.loop-text.found.items) c.loop-text.invariant (texts-more f all i c.in-Some.text.now turn)
+    (map fixup_named c.args.found.now.items) (map fixup_named c.loop-text.found.items) c.loop-text.invariant (texts-more f all i c.in-Some.text.now turn)
     (ap (λ r. then_do r (λ a. Ok (a ∷ []))) (text-none c.args.symbol.now c.in-Some.text.now c.in_default.ensures))
 
 pub loop-text-preserved : goal.loop-text-preserved
@@ -29,13 +29,13 @@ loop-text-preserved c =
     let f = fixup_in c.args.symbol.now in
     let all = parts 0 c.args.texts.now in
     let i = length c.loop-text.yielded in
-    let p = c.in-Some-place_in.place in
-    let one : Fixup = record { symbol = c.args.symbol.now; at = place (path_names p.path.now) p.name.now p.offset } in
+    let p = c.in-Some-site_in.site in
+    let one : Fixup = record { symbol = c.args.symbol.now; at = site (path_names p.path.now) p.name.now p.offset } in
     let pushed = c.in_ok-push.ensures.items in
-    let added : map named c.push.new.self.items ≡ map named c.loop-text.found.items ++ one ∷ [] = ap (map named) pushed ∙ map-append named c.loop-text.found.items (_ ∷ []) in
+    let added : map fixup_named c.push.new.self.items ≡ map fixup_named c.loop-text.found.items ++ one ∷ [] = ap (map fixup_named) pushed ∙ map-append fixup_named c.loop-text.found.items (_ ∷ []) in
     rw length_push (so-far-more (each f all) (each f (drop i all)) (then_do (f c.in-Some.text.now) (λ a. Ok (a ∷ []))) (each f (drop (i + 1) all))
-    (map named c.args.found.now.items) (map named c.loop-text.found.items) (map named c.push.new.self.items) c.loop-text.invariant (texts-more f all i c.in-Some.text.now turn)
-    (one ∷ [], ap (λ r. then_do r (λ a. Ok (a ∷ []))) (text-place c.args.symbol.now c.in-Some.text.now one.at c.in-Some-place_in.ensures), added))
+    (map fixup_named c.args.found.now.items) (map fixup_named c.loop-text.found.items) (map fixup_named c.push.new.self.items) c.loop-text.invariant (texts-more f all i c.in-Some.text.now turn)
+    (one ∷ [], ap (λ r. then_do r (λ a. Ok (a ∷ []))) (text-site c.args.symbol.now c.in-Some.text.now one.at c.in-Some-site_in.ensures), added))
 
 pub returns : goal.returns
 returns c =
@@ -43,5 +43,5 @@ returns c =
     c.loop-text.yielded _ c.loop-text.yielded_by _ _ c.in-None.is c.next.ensures.steps in
     let f = fixup_in c.args.symbol.now in
     let all = parts 0 c.args.texts.now in
-    so-far-end (each f all) (each f (drop (length c.loop-text.yielded) all)) (map named c.args.found.now.items) (map named c.loop-text.found.items) c.loop-text.invariant
+    so-far-end (each f all) (each f (drop (length c.loop-text.yielded) all)) (map fixup_named c.args.found.now.items) (map fixup_named c.loop-text.found.items) c.loop-text.invariant
     (texts-end f all (length c.loop-text.yielded) (omega (arith, t.1)))

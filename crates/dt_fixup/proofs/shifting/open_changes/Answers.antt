@@ -1,10 +1,10 @@
 use Rattle.std.proofs.Common.{◌≡◌, ◌∙◌, ◌++◌, ◌∷◌, [], ℕ, List, Option, None, length, ap, sym, arith}
 use Rattle.std.proofs.lemmas.List.{replicate_more}
-use Rattle.dt_listing.specs.Listed.{lists}
-use Rattle.overlay_meaning.specs.Shifted.{fragments}
-use Rattle.dt_fixup.specs.declared.sheet.Change.{Change}
+use Rattle.dt_live.specs.Flattened.{lists}
+use Rattle.dt_overlay_meaning.specs.Shifted.{fragments}
+use Rattle.dt_fixup.specs.declared.patched_overlay.Change.{Change}
 use Rattle.dt_fixup.proofs.Composed.{none-by}
-use Rattle.dt_fixup.proofs.Listing.{nones}
+use Rattle.dt_fixup.proofs.Flattening.{nones}
 use Rattle.dt_fixup.proofs.shifting.open_changes.Goals as goal
 
 pub returns-then-not-has_fragment-clause-some : goal.returns-then-not-has_fragment-clause-some

@@ -3,11 +3,11 @@ use Rattle.std.specs.Prelude.{MatchOption}
 use Rattle.dt_tree.specs.Path.{path_names}
 use Rattle.dt_meaning.specs.Paths.{Path}
 use Rattle.dt_meaning.specs.Names.{symbols_name}
-use Rattle.dt_draft.specs.declared.table.PropertyRow.{PropertyRow}
-use Rattle.dt_draft.specs.Rows.{child_of, property_at, property_of}
-use Rattle.dt_listing.specs.ByRow.{lent}
-use Rattle.dt_listing.specs.Listed.{Lent}
-use Rattle.overlay_meaning.specs.Texts.{ended_path}
+use Rattle.dt_live.specs.declared.live_tree.PropertyRow.{PropertyRow}
+use Rattle.dt_live.specs.Rows.{child_of, property_at, property_of}
+use Rattle.dt_live.specs.ByRow.{lent}
+use Rattle.dt_live.specs.Flattened.{Lent}
+use Rattle.dt_overlay_meaning.specs.Texts.{ended_path}
 use Rattle.dt_fixup.proofs.LookUps.{row-there}
 use Rattle.dt_fixup.proofs.SymbolLaws.{no-symbols, no-symbol, symbol-text}
 use Rattle.dt_fixup.proofs.symbols.symbol_path.Goals as goal

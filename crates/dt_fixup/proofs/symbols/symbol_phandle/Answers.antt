@@ -1,7 +1,7 @@
 use Rattle.std.proofs.Common.{◌≡◌, ◌∙◌, Some, None, sym, ap, rules}
 use Rattle.std.specs.Prelude.{codes}
 use Rattle.dt_tree.specs.Path.{path_names}
-use Rattle.dt_draft.specs.Rows.{property_of}
+use Rattle.dt_live.specs.Rows.{property_of}
 use Rattle.dt_fixup.proofs.LookUps.{row-there}
 use Rattle.dt_fixup.proofs.SymbolLaws.{path-nowhere, phandle-nowhere, phandle-missing, phandle-there}
 use Rattle.dt_fixup.proofs.symbols.symbol_phandle.Goals as goal

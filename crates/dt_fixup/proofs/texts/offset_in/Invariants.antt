@@ -1,6 +1,6 @@
 use Rattle.std.proofs.Common.{◌≡◌, ◌<◌, drop}
 use Rattle.std.specs.List.{list_all}
-use Rattle.overlay_meaning.specs.Texts.{is_digit, read_onto}
+use Rattle.dt_overlay_meaning.specs.Texts.{is_digit, read_onto}
 use Rattle.dt_fixup.proofs.TextLaws.{tens}
 use Rattle.dt_fixup.proofs.texts.offset_in.Given as goal
 

@@ -1,5 +1,5 @@
 use Rattle.std.proofs.Common.{◌≡◌, ◌∙◌, ◌++◌, ◌∷◌, [], ap}
-use Rattle.overlay_meaning.specs.Texts.{unended}
+use Rattle.dt_overlay_meaning.specs.Texts.{unended}
 use Rattle.dt_fixup.proofs.TextLaws.{unended-zero, unended-other}
 use Rattle.dt_fixup.proofs.texts.unended.Goals as goal
 

@@ -2,9 +2,9 @@ use Rattle.std.proofs.Common.{List, suc, ◌+◌, ◌<◌, length, refl, sym, ap
 use Rattle.std.specs.Prelude.{codes}
 use Rattle.dt_meaning.specs.MapOf.{value_in}
 use Rattle.dt_meaning.specs.Paths.{Path}
-use Rattle.dt_listing.specs.Listed.{lists}
-use Rattle.dt_fixup.specs.Sheet.{shown}
-use Rattle.overlay_meaning.specs.Applied.{target_by}
+use Rattle.dt_live.specs.Flattened.{lists}
+use Rattle.dt_fixup.specs.PatchedOverlay.{patched_lists}
+use Rattle.dt_overlay_meaning.specs.Applied.{target_by}
 use Rattle.dt_overlay.specs.declared.fragments.Fragment.{Fragment}
 use Rattle.dt_overlay.specs.Private.Fragments.{IsFragment}
 use Rattle.dt_overlay.proofs.FragmentRows.{AreSoFar, all-found, row-found, row-skipped}
@@ -14,8 +14,8 @@ use Rattle.dt_overlay.proofs.fragments.find_fragments.Goals.{in-Some+in_ok-push,
 pub loop-row-preserved : goal.loop-row-preserved
 loop-row-preserved c =
     let base = c.args.base.now in
-    let s = c.args.sheet.now in
-    let over = s.draft in
+    let s = c.args.patched.now in
+    let over = s.live in
     let k = c.loop-row.row in
     let lt : k < length over.nodes.items = omega (arith, c.loop-row-test.true, ap length c.nodes-row-end.ensures) in
     elim c.match-fragment_body.branch [
@@ -29,7 +29,7 @@ loop-row-preserved c =
             body = b.body_path;
             body_known = b.body_known;
             target = t.ensures.target
-                ∙ ap (λ (p : Path). target_by (lists base) (value_in (shown s).properties p (codes "target")) (value_in (shown s).properties p (codes "target-path"))) b.path;
+                ∙ ap (λ (p : Path). target_by (lists base) (value_in (patched_lists s).properties p (codes "target")) (value_in (patched_lists s).properties p (codes "target-path"))) b.path;
             target_known = t.ensures.known;
           } in
           record {
@@ -45,5 +45,5 @@ loop-row-preserved c =
 
 pub returns : goal.returns
 returns c =
-    let s = c.args.sheet.now in
+    let s = c.args.patched.now in
     all-found c.args.base.now s c.loop-row.list.items c.loop-row.row 0 refl (c.loop-row.invariant.so_far 0 (omega (arith, c.loop-row-test.false, c.loop-row.auto.row-end, ap length c.nodes-row-end.ensures)))

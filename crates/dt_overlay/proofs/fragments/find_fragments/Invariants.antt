@@ -3,4 +3,4 @@ use Rattle.dt_overlay.proofs.FragmentRows.{AreSoFar}
 use Rattle.dt_overlay.proofs.fragments.find_fragments.Given as goal
 
 abbrev pub invariant-loop-row : goal.invariant-loop-row
-invariant-loop-row l = record { so_far : (m : ℕ) → l.row + m ≡ length l.sheet.draft.nodes.items → AreSoFar l.base l.sheet l.list.items l.row m }
+invariant-loop-row l = record { so_far : (m : ℕ) → l.row + m ≡ length l.patched.live.nodes.items → AreSoFar l.base l.patched l.list.items l.row m }

@@ -1,13 +1,13 @@
 use Rattle.std.proofs.Common.{◌-◌, ◌^◌, map, min, sym, ap, ◌∙◌}
-use Rattle.dt_assembly.specs.Sizes.{size_in}
-use Rattle.dt_listing.specs.ByRow.{defined_by}
-use Rattle.dt_listing.proofs.WholeDrafts.{all-entries}
+use Rattle.dt_tree_builder.specs.Sizes.{size_in}
+use Rattle.dt_live.specs.ByRow.{defined_by}
+use Rattle.dt_live.proofs.WholeTrees.{all-entries}
 use Rattle.dt_overlay.proofs.MakingSteps.{sizes-all}
 use Rattle.dt_overlay.proofs.making.total_size.Goals as goal
 
 pub returns : goal.returns
 returns c =
-    let d = c.args.draft.now in
+    let d = c.args.live.now in
     let w = c.requires in
     sizes-all (defined_by d) c.properties-row-items.result.now c.loop-row.row-index c.loop-row.size _ c.loop-row-test.false c.loop-row.invariant.fits
     c.loop-row.invariant.size

@@ -1,17 +1,17 @@
 use Rattle.std.proofs.Common.{◌≡◌, ◌<◌, ◌≤◌, ◌-◌, ◌+◌, ◌||◌, ℕ, suc, List, length, get_or, slice_index_or, map}
 use Rattle.std.proofs.Common.{refl, sym, ap, ◌∙◌, arith}
 use Rattle.std.specs.List.{list_any}
-use Rattle.dt_draft.specs.declared.table.NodeRow.{NodeRow}
-use Rattle.dt_draft.specs.Rows.{IsGrown, node_path}
-use Rattle.dt_draft.proofs.Keeping.{kept-itself, kept-then}
+use Rattle.dt_live.specs.declared.live_tree.NodeRow.{NodeRow}
+use Rattle.dt_live.specs.Rows.{IsGrown, node_path}
+use Rattle.dt_live.proofs.Keeping.{kept-itself, kept-then}
 use Rattle.dt_meaning.specs.Resolved.{is_too_deep}
 use Rattle.std.proofs.lemmas.List.{length-set}
-use Rattle.dt_listing.specs.Listed.{lists, plain}
-use Rattle.overlay_meaning.specs.Applied.{moved, with_nodes}
+use Rattle.dt_live.specs.Flattened.{lists, plain}
+use Rattle.dt_overlay_meaning.specs.Applied.{moved, with_nodes}
 use Rattle.dt_overlay.specs.Private.Merging.{IsInside, IsPart}
 use Rattle.dt_overlay.proofs.PartLists.{nodes-start, nodes-end}
-use Rattle.dt_layout.proofs.BlankRows.{blank_row}
-use Rattle.dt_overlay.proofs.PartSteps.{deep-else, deep-more, deep-then, first-places, inside-more, more-places, new-place, or-false, parent-place, rest-more, row-is}
+use Rattle.dt_live.proofs.BlankRows.{blank_row}
+use Rattle.dt_overlay.proofs.PartSteps.{deep-else, deep-more, deep-then, first-base_nodes, inside-more, more-base_nodes, new-base_node, or-false, parent-base_node, rest-more, row-is}
 use Rattle.dt_overlay.proofs.part.define_nodes.Goals as goal
 use Rattle.dt_overlay.proofs.part.define_nodes.Goals.{then-depth-gt-MAX_DEPTH, else-depth-gt-MAX_DEPTH}
 
@@ -35,11 +35,11 @@ parent-known rows given b n same grown low within =
 
 pub loop-node-init : goal.loop-node-init
 loop-node-init c =
-    let over = c.args.sheet.now.draft in
-    let d = c.args.draft.now in
+    let over = c.args.patched.now.live in
+    let d = c.args.live.now in
     let b = c.args.body in
-    let t = node_path d (slice_index_or c.args.places.now b 0) in
-    let start = nodes-start over c.requires.sheet.whole c.requires.ordered b c.requires.body c.requires.top t in
+    let t = node_path d (slice_index_or c.args.base_nodes.now b 0) in
+    let start = nodes-start over c.requires.patched.whole c.requires.ordered b c.requires.body c.requires.top t in
     record {
       low = omega arith;
       high = let h = c.requires.body in omega (arith, h, ap length c.nodes-nodes.ensures);
@@ -48,7 +48,7 @@ loop-node-init c =
       labels = refl;
       room = refl;
       inside = λ k from lt. absurd (omega (arith, from, lt));
-      places = first-places over d b c.args.places.now c.requires.top c.requires.target c.requires.stands;
+      base_nodes = first-base_nodes over d b c.args.base_nodes.now c.requires.top c.requires.target c.requires.stands;
       rest = ap (λ ps. with_nodes ps (lists d).nodes) (sym start);
       properties = refl;
       deep = ap (list_any is_too_deep) (sym start);
@@ -57,32 +57,32 @@ loop-node-init c =
 pub returns-then-row-body-clause-nodes : goal.returns-then-row-body-clause-nodes
 returns-then-row-body-clause-nodes c =
     let i = c.loop-node.invariant in
-    let over = c.args.sheet.now.draft in
+    let over = c.args.patched.now.live in
     let b = c.args.body in
     let n = c.loop-node.node in
-    let t = node_path c.args.draft.now (slice_index_or c.args.places.now b 0) in
+    let t = node_path c.args.live.now (slice_index_or c.args.base_nodes.now b 0) in
     let same = c.nodes-nodes.ensures in
     let known : n ≤ suc (length over.nodes.items) = omega (arith, c.loop-node-test.true, ap length same) in
     let part = ended over.nodes.items c.nodes-nodes.result.now b n same i.low known i.inside c.if-row-body.true in
-    ap (λ ps. with_nodes ps (lists c.loop-node.draft).nodes) (sym (nodes-end over c.requires.sheet.whole c.requires.ordered b c.requires.body c.requires.top t n part)) ∙ i.rest
+    ap (λ ps. with_nodes ps (lists c.loop-node.live).nodes) (sym (nodes-end over c.requires.patched.whole c.requires.ordered b c.requires.body c.requires.top t n part)) ∙ i.rest
 
 pub returns-then-row-body-clause-deep : goal.returns-then-row-body-clause-deep
 returns-then-row-body-clause-deep c =
     let i = c.loop-node.invariant in
-    let over = c.args.sheet.now.draft in
+    let over = c.args.patched.now.live in
     let b = c.args.body in
     let n = c.loop-node.node in
-    let t = node_path c.args.draft.now (slice_index_or c.args.places.now b 0) in
+    let t = node_path c.args.live.now (slice_index_or c.args.base_nodes.now b 0) in
     let same = c.nodes-nodes.ensures in
     let known : n ≤ suc (length over.nodes.items) = omega (arith, c.loop-node-test.true, ap length same) in
     let part = ended over.nodes.items c.nodes-nodes.result.now b n same i.low known i.inside c.if-row-body.true in
     or-false c.loop-node.is_deep
-    ∙ ap (λ ps. c.loop-node.is_deep || list_any is_too_deep ps) (sym (nodes-end over c.requires.sheet.whole c.requires.ordered b c.requires.body c.requires.top t n part)) ∙ i.deep
+    ∙ ap (λ ps. c.loop-node.is_deep || list_any is_too_deep ps) (sym (nodes-end over c.requires.patched.whole c.requires.ordered b c.requires.body c.requires.top t n part)) ∙ i.deep
 
 pub returns-then-row-body-clause-part : goal.returns-then-row-body-clause-part
 returns-then-row-body-clause-part c =
     let i = c.loop-node.invariant in
-    let rows = c.args.sheet.now.draft.nodes.items in
+    let rows = c.args.patched.now.live.nodes.items in
     let n = c.loop-node.node in
     let same = c.nodes-nodes.ensures in
     let known : n ≤ suc (length rows) = omega (arith, c.loop-node-test.true, ap length same) in
@@ -98,65 +98,65 @@ returns-clause-part c =
       behind = λ k at lt. absurd (omega (arith, at, lt, ap length c.nodes-nodes.ensures));
     }
 
-pub bounds-places-row : goal.bounds-places-row
-bounds-places-row c =
+pub bounds-base_nodes-row : goal.bounds-base_nodes-row
+bounds-base_nodes-row c =
     let i = c.loop-node.invariant in
-    let known = parent-known c.args.sheet.now.draft.nodes.items c.nodes-nodes.result.now c.args.body c.loop-node.node
-    c.nodes-nodes.ensures c.requires.sheet.whole.sound.grown i.low c.loop-node-test.true in
+    let known = parent-known c.args.patched.now.live.nodes.items c.nodes-nodes.result.now c.args.body c.loop-node.node
+    c.nodes-nodes.ensures c.requires.patched.whole.sound.grown i.low c.loop-node-test.true in
     omega (arith, known, i.room, c.requires.room)
 
-pub offset_bounds-places-row : goal.offset_bounds-places-row
-offset_bounds-places-row c =
+pub offset_bounds-base_nodes-row : goal.offset_bounds-base_nodes-row
+offset_bounds-base_nodes-row c =
     let i = c.loop-node.invariant in
-    let known = parent-known c.args.sheet.now.draft.nodes.items c.nodes-nodes.result.now c.args.body c.loop-node.node
-    c.nodes-nodes.ensures c.requires.sheet.whole.sound.grown i.low c.loop-node-test.true in
+    let known = parent-known c.args.patched.now.live.nodes.items c.nodes-nodes.result.now c.args.body c.loop-node.node
+    c.nodes-nodes.ensures c.requires.patched.whole.sound.grown i.low c.loop-node-test.true in
     omega (arith, known, i.room, c.requires.room)
 
 pub define_child-requires-clause-known : goal.define_child-requires-clause-known
 define_child-requires-clause-known c =
     let i = c.loop-node.invariant in
-    let over = c.args.sheet.now.draft in
+    let over = c.args.patched.now.live in
     let n = c.loop-node.node in
     let k = n - 1 in
     let at : n ≡ suc k = omega (arith, i.low) in
     let lt : k < length over.nodes.items = omega (arith, at, c.loop-node-test.true, ap length c.nodes-nodes.ensures) in
     let row = row-is c.nodes-nodes.result.now over.nodes.items n k blank_row c.nodes-nodes.ensures at lt in
-    (parent-place over c.requires.sheet.whole c.requires.ordered c.args.body c.requires.body c.requires.top _ c.loop-node.draft c.loop-node.places n k at (get_or c.nodes-nodes.result.now (n - 1) blank_row) row i.low lt i.inside i.places (omega (arith, c.if-row-body.false))).known
+    (parent-base_node over c.requires.patched.whole c.requires.ordered c.args.body c.requires.body c.requires.top _ c.loop-node.live c.loop-node.base_nodes n k at (get_or c.nodes-nodes.result.now (n - 1) blank_row) row i.low lt i.inside i.base_nodes (omega (arith, c.if-row-body.false))).known
 
 pub define_child-requires-clause-stands : goal.define_child-requires-clause-stands
 define_child-requires-clause-stands c =
     let i = c.loop-node.invariant in
-    let over = c.args.sheet.now.draft in
+    let over = c.args.patched.now.live in
     let n = c.loop-node.node in
     let k = n - 1 in
     let at : n ≡ suc k = omega (arith, i.low) in
     let lt : k < length over.nodes.items = omega (arith, at, c.loop-node-test.true, ap length c.nodes-nodes.ensures) in
     let row = row-is c.nodes-nodes.result.now over.nodes.items n k blank_row c.nodes-nodes.ensures at lt in
-    (parent-place over c.requires.sheet.whole c.requires.ordered c.args.body c.requires.body c.requires.top _ c.loop-node.draft c.loop-node.places n k at (get_or c.nodes-nodes.result.now (n - 1) blank_row) row i.low lt i.inside i.places (omega (arith, c.if-row-body.false))).stands
+    (parent-base_node over c.requires.patched.whole c.requires.ordered c.args.body c.requires.body c.requires.top _ c.loop-node.live c.loop-node.base_nodes n k at (get_or c.nodes-nodes.result.now (n - 1) blank_row) row i.low lt i.inside i.base_nodes (omega (arith, c.if-row-body.false))).stands
 
 pub loop-node-preserved : goal.loop-node-preserved
 loop-node-preserved c =
     let i = c.loop-node.invariant in
-    let over = c.args.sheet.now.draft in
+    let over = c.args.patched.now.live in
     let b = c.args.body in
     let n = c.loop-node.node in
     let k = n - 1 in
-    let t = node_path c.args.draft.now (slice_index_or c.args.places.now b 0) in
+    let t = node_path c.args.live.now (slice_index_or c.args.base_nodes.now b 0) in
     let at : n ≡ suc k = omega (arith, i.low) in
     let lt : k < length over.nodes.items = omega (arith, at, c.loop-node-test.true, ap length c.nodes-nodes.ensures) in
     let row = row-is c.nodes-nodes.result.now over.nodes.items n k blank_row c.nodes-nodes.ensures at lt in
     let low : b ≤ (get_or c.nodes-nodes.result.now (n - 1) blank_row).parent = omega (arith, c.if-row-body.false) in
-    let old = c.args.draft.now in
-    let d = c.loop-node.draft in
+    let old = c.args.live.now in
+    let d = c.loop-node.live in
     let new = c.define_child.new.self in
-    let e = c.in_ok-place.ensures in
-    let place = c.in_ok-place.place in
-    let whole = c.requires.sheet.whole in
+    let e = c.in_ok-base_node.ensures in
+    let base_node = c.in_ok-base_node.base_node in
+    let whole = c.requires.patched.whole in
     let ordered = c.requires.ordered in
     let known = c.requires.body in
     let top = c.requires.top in
-    let places = c.loop-node.places in
-    let here = new-place over whole ordered b known top t d places n k at (get_or c.nodes-nodes.result.now (n - 1) blank_row) row i.low lt i.inside i.places low new place e.known e.there e.made in
+    let base_nodes = c.loop-node.base_nodes in
+    let here = new-base_node over whole ordered b known top t d base_nodes n k at (get_or c.nodes-nodes.result.now (n - 1) blank_row) row i.low lt i.inside i.base_nodes low new base_node e.known e.there e.made in
     let length-here : c.depth.result ≡ length (moved t (node_path over n)) = c.depth.ensures ∙ ap length here.path in
     let noted : c.if-depth-gt-MAX_DEPTH.is_deep ≡ (c.loop-node.is_deep || is_too_deep (moved t (node_path over n))) = elim c.if-depth-gt-MAX_DEPTH.branch [
       | then-depth-gt-MAX_DEPTH w ↦ deep-then c.loop-node.is_deep c.if-depth-gt-MAX_DEPTH.is_deep c.depth.result (moved t (node_path over n)) w.is_deep-is w.if-depth-gt-MAX_DEPTH.true length-here
@@ -169,10 +169,10 @@ loop-node-preserved c =
       sound = e.sound;
       kept = λ p. kept-then p old.nodes.items d.nodes.items new.nodes.items (i.kept p) (e.kept p);
       labels = ap (λ s. s.labels) e.state ∙ i.labels;
-      room = length-set places n place ∙ i.room;
-      inside = inside-more over whole ordered b known top t d places n k at (get_or c.nodes-nodes.result.now (n - 1) blank_row) row i.low lt i.inside i.places low;
-      places = more-places over d new t b n places place e.kept i.places (omega (arith, i.room, c.requires.room, c.loop-node-test.true, ap length c.nodes-nodes.ensures)) here;
-      rest = rest-more over whole ordered b known top t d places n k at (get_or c.nodes-nodes.result.now (n - 1) blank_row) row i.low lt i.inside i.places low new e.state ∙ i.rest;
+      room = length-set base_nodes n base_node ∙ i.room;
+      inside = inside-more over whole ordered b known top t d base_nodes n k at (get_or c.nodes-nodes.result.now (n - 1) blank_row) row i.low lt i.inside i.base_nodes low;
+      base_nodes = more-base_nodes over d new t b n base_nodes base_node e.kept i.base_nodes (omega (arith, i.room, c.requires.room, c.loop-node-test.true, ap length c.nodes-nodes.ensures)) here;
+      rest = rest-more over whole ordered b known top t d base_nodes n k at (get_or c.nodes-nodes.result.now (n - 1) blank_row) row i.low lt i.inside i.base_nodes low new e.state ∙ i.rest;
       properties = ap (λ s. map plain s.properties) e.state ∙ i.properties;
-      deep = deep-more over whole ordered b known top t d places n k at (get_or c.nodes-nodes.result.now (n - 1) blank_row) row i.low lt i.inside i.places low c.loop-node.is_deep c.if-depth-gt-MAX_DEPTH.is_deep noted ∙ i.deep;
+      deep = deep-more over whole ordered b known top t d base_nodes n k at (get_or c.nodes-nodes.result.now (n - 1) blank_row) row i.low lt i.inside i.base_nodes low c.loop-node.is_deep c.if-depth-gt-MAX_DEPTH.is_deep noted ∙ i.deep;
     }

@@ -1,6 +1,6 @@
 use Rattle.std.proofs.Common.{ltb, ltb-true, ltb-false, arith, rules}
 use Rattle.std.proofs.lemmas.List.Sorted.{IsNonDecreasingBy-from_default, IsPartitionPoint-from_clause, IsPartitionedBy-ltb}
-use Rattle.dt_draft.specs.Rows.{no_property}
+use Rattle.dt_live.specs.Rows.{no_property}
 use Rattle.dt_overlay.proofs.part.first_property.Goals as goal
 
 pub returns : goal.returns

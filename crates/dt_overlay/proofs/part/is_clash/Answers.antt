@@ -2,14 +2,14 @@ use Rattle.std.proofs.Common.{◌≡◌, ◌&&◌, true, false, is_some, refl, s
 use Rattle.std.specs.Prelude.{codes}
 use Rattle.std.specs.Str.{bytes_eq}
 use Rattle.dt_meaning.specs.MapOf.{value_in}
-use Rattle.dt_draft.specs.Rows.{node_path, property_of}
-use Rattle.dt_listing.specs.Listed.{lists}
+use Rattle.dt_live.specs.Rows.{node_path, property_of}
+use Rattle.dt_live.specs.Flattened.{lists}
 use Rattle.dt_overlay.proofs.Clashes.{look-up}
 use Rattle.dt_overlay.proofs.part.is_clash.Goals as goal
 
 pub returns-then-eq : goal.returns-then-eq
 returns-then-eq c =
-    let d = c.args.draft.now in
+    let d = c.args.live.now in
     let phandle : c.as_slice.result.now ≡ codes "phandle" = c.as_slice.ensures in
     let there : bytes_eq c.args.name.now (codes "phandle") ≡ true =
     ap (bytes_eq c.args.name.now) (sym phandle) ∙ sym c.eq.ensures ∙ c.if-eq.true in
@@ -19,7 +19,7 @@ returns-then-eq c =
 
 pub returns : goal.returns
 returns c =
-    let d = c.args.draft.now in
+    let d = c.args.live.now in
     let phandle : c.as_slice.result.now ≡ codes "phandle" = c.as_slice.ensures in
     let other : bytes_eq c.args.name.now (codes "phandle") ≡ false =
     ap (bytes_eq c.args.name.now) (sym phandle) ∙ sym c.eq.ensures ∙ c.if-eq.false in

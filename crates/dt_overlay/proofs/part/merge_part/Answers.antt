@@ -1,26 +1,26 @@
 use Rattle.std.proofs.Common.{◌≤◌, ◌<◌, ℕ, List, length, sym, subst}
-use Rattle.dt_draft.specs.Rows.{property_at}
-use Rattle.dt_draft.specs.declared.table.PropertyRow.{PropertyRow}
-use Rattle.dt_listing.specs.Listed.{Lent}
-use Rattle.dt_draft.proofs.Keeping.{kept-same, kept-then}
-use Rattle.dt_overlay.proofs.PartSteps.{own-places}
+use Rattle.dt_live.specs.Rows.{property_at}
+use Rattle.dt_live.specs.declared.live_tree.PropertyRow.{PropertyRow}
+use Rattle.dt_live.specs.Flattened.{Lent}
+use Rattle.dt_live.proofs.Keeping.{kept-same, kept-then}
+use Rattle.dt_overlay.proofs.PartSteps.{own-base_nodes}
 use Rattle.dt_overlay.proofs.part.merge_part.Goals as goal
 
-pub has_clash-requires-clause-places : goal.has_clash-requires-clause-places
-has_clash-requires-clause-places c =
+pub has_clash-requires-clause-base_nodes : goal.has_clash-requires-clause-base_nodes
+has_clash-requires-clause-base_nodes c =
     let e = c.in_ok-end.ensures in
-    own-places c.args.sheet.now.draft c.define_nodes.new.draft _ c.args.body c.in_ok-end.end c.define_nodes.new.places c.requires.top e.part.more e.places
+    own-base_nodes c.args.patched.now.live c.define_nodes.new.live _ c.args.body c.in_ok-end.end c.define_nodes.new.base_nodes c.requires.top e.part.more e.base_nodes
 
-pub set_properties-requires-clause-places : goal.set_properties-requires-clause-places
-set_properties-requires-clause-places c =
+pub set_properties-requires-clause-base_nodes : goal.set_properties-requires-clause-base_nodes
+set_properties-requires-clause-base_nodes c =
     let e = c.in_ok-end.ensures in
-    own-places c.args.sheet.now.draft c.define_nodes.new.draft _ c.args.body c.in_ok-end.end c.define_nodes.new.places c.requires.top e.part.more e.places
+    own-base_nodes c.args.patched.now.live c.define_nodes.new.live _ c.args.body c.in_ok-end.end c.define_nodes.new.base_nodes c.requires.top e.part.more e.base_nodes
 
 pub returns-clause-kept : goal.returns-clause-kept
 returns-clause-kept c =
     let e = c.in_ok-end.ensures in
     let f = c.in_ok-set_properties.ensures in
-    λ p. kept-then p c.args.draft.now.nodes.items c.define_nodes.new.draft.nodes.items c.set_properties.new.draft.nodes.items (e.kept p) (kept-same p _ _ f.kept)
+    λ p. kept-then p c.args.live.now.nodes.items c.define_nodes.new.live.nodes.items c.set_properties.new.live.nodes.items (e.kept p) (kept-same p _ _ f.kept)
 
 pub first_property-requires : goal.first_property-requires
 first_property-requires c =

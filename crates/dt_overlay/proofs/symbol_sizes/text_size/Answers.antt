@@ -1,6 +1,6 @@
 use Rattle.std.proofs.Common.{◌+◌, ◌-◌, ◌^◌, length, min, ap, ◌∙◌}
 use Rattle.dt_tree.specs.Path.{behind_slashes}
-use Rattle.dt_draft.specs.Rows.{path_of}
+use Rattle.dt_live.specs.Rows.{path_of}
 use Rattle.dt_overlay.proofs.SymbolLengths.{text-below, text-root}
 use Rattle.dt_overlay.proofs.symbol_sizes.text_size.Goals as goal
 

@@ -1,35 +1,35 @@
 use Rattle.std.proofs.Common.{◌≡◌, ◌+◌, ◌-◌, [], ◌<◌, length, None, sym, ap, ◌∙◌, subst, length-append, arith}
-use Rattle.dt_draft.specs.Rows.{node_path}
-use Rattle.dt_listing.specs.Listed.{lists}
-use Rattle.overlay_meaning.specs.Shifted.{fragment_at}
+use Rattle.dt_live.specs.Rows.{node_path}
+use Rattle.dt_live.specs.Flattened.{lists}
+use Rattle.dt_overlay_meaning.specs.Shifted.{fragment_at}
 use Rattle.dt_overlay.specs.Private.SymbolTargets.{IsRowTarget}
-use Rattle.dt_overlay.proofs.SymbolRows.{AreLeft, first-more, found-place, left-none, left-some, missed-place, row-none, target-some}
+use Rattle.dt_overlay.proofs.SymbolRows.{AreLeft, first-more, found-body_node, left-none, left-some, missed-body_node, row-none, target-some}
 use Rattle.dt_overlay.proofs.symbol_target.row_targets.Goals as goal
 use Rattle.dt_overlay.proofs.symbol_target.row_targets.Goals.{then-is_some+in_ok-push, else-is_some+in_ok-push-2}
 
 pub loop-row-preserved : goal.loop-row-preserved
 loop-row-preserved c =
-    let s = c.args.sheet.now in
+    let s = c.args.patched.now in
     let k = c.loop-row.row in
     let list = c.args.list.now in
     let inv = c.loop-row.invariant in
     let old = c.loop-row.targets.items in
     let new = c.if-is_some.targets.items in
-    let lt : k < length s.draft.nodes.items = omega (arith, c.loop-row-test.true, ap length c.nodes-count.ensures) in
-    let more : (k + 1) + (length s.draft.nodes.items - (k + 1)) ≡ length s.draft.nodes.items = omega (arith, lt) in
+    let lt : k < length s.live.nodes.items = omega (arith, c.loop-row-test.true, ap length c.nodes-count.ensures) in
+    let more : (k + 1) + (length s.live.nodes.items - (k + 1)) ≡ length s.live.nodes.items = omega (arith, lt) in
     elim c.if-is_some.branch [
       | then-is_some+in_ok-push w ↦
-          let b = found-place s.draft k (fragment_at (node_path s.draft (k + 1)) (lists s.draft).nodes ≡ []) c.fragment_body.result (sym c.is_some.ensures ∙ w.if-is_some.true) c.fragment_body.ensures in
+          let b = found-body_node s.live k (fragment_at (node_path s.live (k + 1)) (lists s.live).nodes ≡ []) c.fragment_body.result (sym c.is_some.ensures ∙ w.if-is_some.true) c.fragment_body.ensures in
           let made = ap (λ v. v.items) w.targets-is ∙ w.in_ok-push.ensures.items in
           record {
             count = ap length made ∙ length-append old _ ∙ omega (arith, inv.count);
             few = omega (arith, inv.few, w.used-is);
             left = λ base are. subst (AreLeft base s list (k + 1)) (sym w.used-is) (left-some base s k list c.loop-row.used b.0 b.1 (inv.left base are));
             first = λ base are. first-more base s old new k w.target_of.result inv.count made
-                (subst (IsRowTarget base s (k + 1)) (sym w.target_of.ensures) (target-some base s k list c.loop-row.used b.0 b.1 (inv.left base are) (length s.draft.nodes.items - (k + 1)) more)) (inv.first base are);
+                (subst (IsRowTarget base s (k + 1)) (sym w.target_of.ensures) (target-some base s k list c.loop-row.used b.0 b.1 (inv.left base are) (length s.live.nodes.items - (k + 1)) more)) (inv.first base are);
           }
       | else-is_some+in_ok-push-2 w ↦
-          let none = missed-place s.draft k (fragment_at (node_path s.draft (k + 1)) (lists s.draft).nodes ≡ []) c.fragment_body.result (sym c.is_some.ensures ∙ w.if-is_some.false) c.fragment_body.ensures in
+          let none = missed-body_node s.live k (fragment_at (node_path s.live (k + 1)) (lists s.live).nodes ≡ []) c.fragment_body.result (sym c.is_some.ensures ∙ w.if-is_some.false) c.fragment_body.ensures in
           let made = ap (λ v. v.items) w.targets-is ∙ w.in_ok-push-2.ensures.items in
           record {
             count = ap length made ∙ length-append old _ ∙ omega (arith, inv.count);
@@ -42,7 +42,7 @@ loop-row-preserved c =
 pub returns : goal.returns
 returns c base are =
     let inv = c.loop-row.invariant in
-    let all : length c.loop-row.targets.items ≡ length c.args.sheet.now.draft.nodes.items =
+    let all : length c.loop-row.targets.items ≡ length c.args.patched.now.live.nodes.items =
     omega (arith, inv.count, c.loop-row-test.false, c.loop-row.auto.row-end, ap length c.nodes-count.ensures) in
     record {
       count = all;

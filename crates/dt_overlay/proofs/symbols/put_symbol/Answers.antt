@@ -2,10 +2,10 @@ use Rattle.std.proofs.Common.{◌≡◌, [], ◌∷◌, ap, ◌∙◌, refl}
 use Rattle.dt_tree.specs.declared.property.Property.{Property}
 use Rattle.dt_meaning.specs.Edits as edits
 use Rattle.dt_meaning.specs.Names.{symbols_name}
-use Rattle.dt_draft.specs.Rows.{node_path, state_of}
-use Rattle.dt_listing.specs.Private.Listing.{with_value}
-use Rattle.dt_listing.specs.Listed.{lists}
-use Rattle.dt_listing.proofs.Steps.{node-more, property-more}
+use Rattle.dt_live.specs.Rows.{node_path, state_of}
+use Rattle.dt_live.specs.Private.Flattening.{with_value}
+use Rattle.dt_live.specs.Flattened.{lists}
+use Rattle.dt_live.proofs.Steps.{node-more, property-more}
 use Rattle.dt_overlay.proofs.symbols.put_symbol.Goals as goal
 
 pub returns-clause-put : goal.returns-clause-put
@@ -17,4 +17,4 @@ returns-clause-put c =
     property-more mid new (node_path mid c.in_ok-node.node) x c.args.value refl c.in_ok-set_property.ensures.state
     ∙ ap (λ p. with_value p x (lists mid)) (c.in_ok-node.ensures.made ∙ named)
     ∙ ap (λ l. with_value (symbols_name ∷ []) x l)
-    (node-more c.args.draft.now mid (symbols_name ∷ []) (c.in_ok-node.ensures.state ∙ ap (λ p. edits.with_node p (state_of c.args.draft.now)) named))
+    (node-more c.args.live.now mid (symbols_name ∷ []) (c.in_ok-node.ensures.state ∙ ap (λ p. edits.with_node p (state_of c.args.live.now)) named))

@@ -1,7 +1,7 @@
 use Rattle.std.proofs.Common.{map, refl, sym, ap, ◌∙◌}
 use Rattle.std.proofs.Math.ListN.{drop_of_length-le}
-use Rattle.dt_listing.specs.Listed.{lists}
-use Rattle.dt_listing.proofs.WholeDrafts.{whole-bare, whole-rows}
+use Rattle.dt_live.specs.Flattened.{lists}
+use Rattle.dt_live.proofs.WholeTrees.{whole-bare, whole-rows}
 use Rattle.dt_overlay.specs.Private.Symbols.{symbol_value, with_all}
 use Rattle.dt_overlay.proofs.Lawful.{whole-lawful}
 use Rattle.dt_overlay.proofs.SymbolSteps.{lawful-more, left-more}
@@ -9,14 +9,14 @@ use Rattle.dt_overlay.proofs.symbols.put_symbols.Goals as goal
 
 pub loop-symbol-init : goal.loop-symbol-init
 loop-symbol-init c =
-    let d = c.args.draft.now in
+    let d = c.args.live.now in
     let w = c.requires.whole in
     record { sound = w.sound; labels = whole-bare d w; lawful = whole-lawful d w; rest = refl }
 
 pub loop-symbol-preserved : goal.loop-symbol-preserved
 loop-symbol-preserved c =
-    let old = c.loop-symbol.draft in
-    let new = c.put_symbol.new.draft in
+    let old = c.loop-symbol.live in
+    let new = c.put_symbol.new.live in
     let inv = c.loop-symbol.invariant in
     let i = c.loop-symbol.symbol-index in
     let x = c.symbol-item.result in
@@ -30,11 +30,11 @@ loop-symbol-preserved c =
 
 pub returns-clause-whole : goal.returns-clause-whole
 returns-clause-whole c =
-    let d = c.loop-symbol.draft in
+    let d = c.loop-symbol.live in
     let inv = c.loop-symbol.invariant in
     whole-rows d inv.sound (sym c.has_all_rows.ensures ∙ c.if-not-has_all_rows.false) inv.labels inv.lawful.nodes inv.lawful.properties
 
 pub returns-clause-put : goal.returns-clause-put
 returns-clause-put c =
-    let d = c.loop-symbol.draft in
+    let d = c.loop-symbol.live in
     sym (ap (λ xs. with_all (map symbol_value xs) (lists d)) (drop_of_length-le c.args.symbols.now c.loop-symbol-test.false)) ∙ c.loop-symbol.invariant.rest

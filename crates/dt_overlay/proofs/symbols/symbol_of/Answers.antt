@@ -1,7 +1,7 @@
 use Rattle.std.proofs.Common.{◌≡◌, ◌≤◌, [], ◌∷◌, ◌++◌, length, subst, sym, rules}
 use Rattle.dt_tree.specs.Path.{behind_slashes, text_or_root}
-use Rattle.dt_draft.specs.declared.table.NodeRow.{NodeRow}
-use Rattle.dt_draft.specs.Rows.{path_of}
+use Rattle.dt_live.specs.declared.live_tree.NodeRow.{NodeRow}
+use Rattle.dt_live.specs.Rows.{path_of}
 use Rattle.std.proofs.Common.{List}
 use Rattle.dt_overlay.proofs.symbols.symbol_of.Goals as goal
 

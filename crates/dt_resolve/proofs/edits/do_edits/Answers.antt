@@ -22,7 +22,7 @@ pub returns-in-Ok-clause-tree : goal.returns-in-Ok-clause-tree
 returns-in-Ok-clause-tree c =
     let source = c.args.source.now in
     let items : map item_of (map item_view c.as_slice-items.result.now) ≡ (meaning_of source).items = ap (λ xs. map item_of (map item_view xs)) c.as_slice-items.ensures.value in
-    let begun : tree_of c.args.draft.now ≡ empty = ap read c.requires.empty in
+    let begun : tree_of c.args.live.now ≡ empty = ap read c.requires.empty in
     let e = c.in-Ok.ensures.items in
     (e.0, ap₂ (after_items source.plugin) (sym items) (sym begun) ∙ e.1)
 
@@ -31,7 +31,7 @@ returns-in-Err-clause-tree c =
     let source = c.args.source.now in
     let e = c.in-Err.error in
     let items : map item_of (map item_view c.as_slice-items.result.now) ≡ (meaning_of source).items = ap (λ xs. map item_of (map item_view xs)) c.as_slice-items.ensures.value in
-    let begun : tree_of c.args.draft.now ≡ empty = ap read c.requires.empty in
+    let begun : tree_of c.args.live.now ≡ empty = ap read c.requires.empty in
     let r = edited (meaning_of source) in
     let fault = fault-same e _ r (ap₂ (after_items source.plugin) (sym items) (sym begun)) c.in-Err.ensures.items in
     subst (λ (b : BuildError). IsFault b r) (sym c.from.ensures) (edit-fault e r fault)

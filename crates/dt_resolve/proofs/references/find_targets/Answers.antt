@@ -4,15 +4,15 @@ use Rattle.dt_meaning.specs.Syntax.{Piece}
 use Rattle.dt_meaning.specs.Edits.{Definition, definition}
 use Rattle.dt_meaning.specs.References.{found_value}
 use Rattle.dt_edit.specs.Said.{tree_of}
-use Rattle.dt_resolve.specs.Private.Laid.{read_laid}
+use Rattle.dt_resolve.specs.Private.ReadProperty.{read_property}
 use Rattle.dt_resolve.proofs.EachSteps.{IsSoFar, so-far-all, so-far-more, so-far-stops, left-read}
 use Rattle.dt_resolve.proofs.FindingSteps.{found-more, value-fault, value-found}
 use Rattle.dt_resolve.proofs.references.find_targets.Goals as goal
 
 pub loop-property-preserved : goal.loop-property-preserved
 loop-property-preserved c =
-    let d = c.args.draft.now in
-    let read = read_laid d.nodes.items in
+    let d = c.args.live.now in
+    let read = read_property d.nodes.items in
     let properties = c.args.properties.now in
     let k = c.loop-property.property-index in
     let x = c.property-item.result in
@@ -34,8 +34,8 @@ loop-property-preserved c =
 
 pub returns-clause-targets : goal.returns-clause-targets
 returns-clause-targets c =
-    let d = c.args.draft.now in
-    let read = read_laid d.nodes.items in
+    let d = c.args.live.now in
+    let read = read_property d.nodes.items in
     let properties = c.args.properties.now in
     let f = found_value c.args.plugin (tree_of d) in
     let i = c.loop-property.invariant in
@@ -44,8 +44,8 @@ returns-clause-targets c =
 
 pub returns-in-Err-clause-targets : goal.returns-in-Err-clause-targets
 returns-in-Err-clause-targets c =
-    let d = c.args.draft.now in
-    let read = read_laid d.nodes.items in
+    let d = c.args.live.now in
+    let read = read_property d.nodes.items in
     let properties = c.args.properties.now in
     let k = c.loop-property.property-index in
     let x = c.property-item.result in

@@ -9,7 +9,7 @@ use Rattle.dt_resolve.proofs.references.find_value.Goals as goal
 
 pub loop-part-preserved : goal.loop-part-preserved
 loop-part-preserved c =
-    let d = c.args.draft.now in
+    let d = c.args.live.now in
     let value = c.args.value.now in
     let k = c.loop-part.part-index in
     let x = c.part-item.result in

@@ -7,4 +7,4 @@ use Rattle.dt_resolve.proofs.references.find_value.Given as goal
 
 abbrev pub invariant-loop-part : goal.invariant-loop-part
 invariant-loop-part l =
-    (fs : List Found) × IsFinding l.plugin l.draft (tree_of l.draft) fs (map piece_of (map part_view (drop l.part-index l.value))) (map piece_of (map part_view l.value)) l.fn.targets l.targets
+    (fs : List Found) × IsFinding l.plugin l.live (tree_of l.live) fs (map piece_of (map part_view (drop l.part-index l.value))) (map piece_of (map part_view l.value)) l.fn.targets l.targets

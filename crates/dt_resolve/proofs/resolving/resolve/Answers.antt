@@ -1,91 +1,91 @@
 use Rattle.std.proofs.Common.{◌≡◌, ◌∙◌, ◌==◌, ◌++◌, if◌then◌else◌, [], ℕ, List, map, length, Ok, sym, ap, ap₂, subst, arith}
 use Rattle.std.specs.List.{list_any}
-use Rattle.dt_meaning.specs.Phandles.{given_of, has_number}
+use Rattle.dt_meaning.specs.Phandles.{given_of, has_phandle}
 use Rattle.dt_meaning.specs.References.{each, found_value, in_order, references}
 use Rattle.dt_meaning.specs.Resolved.{names_taken}
 use Rattle.dt_meaning.specs.Statements.{then_do}
-use Rattle.dt_draft.specs.declared.table.NodeRow.{NodeRow}
-use Rattle.dt_draft.specs.Rows.{IsNode}
-use Rattle.dt_layout.proofs.Each.{Each, each-all}
+use Rattle.dt_live.specs.declared.live_tree.NodeRow.{NodeRow}
+use Rattle.dt_live.specs.Rows.{IsNode}
+use Rattle.dt_live.proofs.Each.{Each, each-all}
 use Rattle.dt_edit.specs.Said.{tree_of}
-use Rattle.dt_resolve.specs.declared.numbers.Numbered.{Numbered}
-use Rattle.dt_resolve.specs.Numbers.{AreStanding, number_at}
-use Rattle.dt_resolve.specs.Private.Wanted.{is_taken, labelled_rows, new_rows, numbered_rows}
-use Rattle.dt_resolve.specs.Private.Laid.{read_laid}
+use Rattle.dt_resolve.specs.declared.node_phandles.NodePhandle.{NodePhandle}
+use Rattle.dt_resolve.specs.NodePhandles.{AreStanding, path_phandle_of}
+use Rattle.dt_resolve.specs.Private.Wanted.{is_taken, labelled_rows, new_rows, assigned_rows}
+use Rattle.dt_resolve.specs.Private.ReadProperty.{read_property}
 use Rattle.dt_resolve.proofs.Faults.{fault-then, fault-same}
-use Rattle.dt_resolve.proofs.Joined.{all-numbered, fault-behind, free-fault, named-within, new-standing}
+use Rattle.dt_resolve.proofs.Joined.{all-assigned, fault-behind, free-fault, named-within, new-standing}
 use Rattle.dt_resolve.proofs.ReadOrder.{read-order}
 use Rattle.dt_resolve.proofs.resolving.resolve.Goals as goal
 
 pub returns-in-Err-clause-resolved : goal.returns-in-Err-clause-resolved
 returns-in-Err-clause-resolved c =
-    let d = c.args.draft.now in
+    let d = c.args.live.now in
     let e = c.in-Err.error in
     let xs = c.args.properties.now in
-    let order : map (read_laid c.nodes.result.now) xs ≡ in_order (tree_of d) = ap (λ rows. map (read_laid rows) xs) c.nodes.ensures ∙ read-order d xs c.requires.laid in
+    let order : map (read_property c.nodes.result.now) xs ≡ in_order (tree_of d) = ap (λ rows. map (read_property rows) xs) c.nodes.ensures ∙ read-order d xs c.requires.definitions in
     free-fault e (names_taken c.args.symbols c.args.plugin (tree_of d)) (then_do (given_of (in_order (tree_of d)) []) (λ _. references c.args.plugin (tree_of d))) (sym c.is_name_taken.ensures ∙ c.if-is_name_taken.false)
     (fault-then e (given_of (in_order (tree_of d)) []) (λ _. references c.args.plugin (tree_of d))
-    (fault-same e (given_of (map (read_laid c.nodes.result.now) xs) []) (given_of (in_order (tree_of d)) []) (ap (λ es. given_of es []) (sym order)) c.in-Err.ensures.numbers))
+    (fault-same e (given_of (map (read_property c.nodes.result.now) xs) []) (given_of (in_order (tree_of d)) []) (ap (λ es. given_of es []) (sym order)) c.in-Err.ensures.phandles))
 
 pub returns-in-Err-find_targets-clause-resolved : goal.returns-in-Err-find_targets-clause-resolved
 returns-in-Err-find_targets-clause-resolved c =
-    let d = c.args.draft.now in
+    let d = c.args.live.now in
     let e = c.in-Err-find_targets.error in
     let xs = c.args.properties.now in
-    let order = read-order d xs c.requires.laid in
-    let numbers = map (number_at c.nodes.result.now) c.in-Ok.given.numbers.items in
-    let given : given_of (in_order (tree_of d)) [] ≡ Ok numbers =
-    ap (λ es. given_of es []) (sym (ap (λ rows. map (read_laid rows) xs) c.nodes.ensures ∙ order)) ∙ c.in-Ok.ensures.numbers in
+    let order = read-order d xs c.requires.definitions in
+    let phandles = map (path_phandle_of c.nodes.result.now) c.in-Ok.given.phandles.items in
+    let given : given_of (in_order (tree_of d)) [] ≡ Ok phandles =
+    ap (λ es. given_of es []) (sym (ap (λ rows. map (read_property rows) xs) c.nodes.ensures ∙ order)) ∙ c.in-Ok.ensures.phandles in
     free-fault e (names_taken c.args.symbols c.args.plugin (tree_of d)) (then_do (given_of (in_order (tree_of d)) []) (λ _. references c.args.plugin (tree_of d))) (sym c.is_name_taken.ensures ∙ c.if-is_name_taken.false)
-    (fault-behind e (given_of (in_order (tree_of d)) []) (references c.args.plugin (tree_of d)) numbers given
-    (fault-same e (each (found_value c.args.plugin (tree_of d)) (map (read_laid d.nodes.items) xs)) (references c.args.plugin (tree_of d)) (ap (each (found_value c.args.plugin (tree_of d))) (sym order)) c.in-Err-find_targets.ensures.targets))
+    (fault-behind e (given_of (in_order (tree_of d)) []) (references c.args.plugin (tree_of d)) phandles given
+    (fault-same e (each (found_value c.args.plugin (tree_of d)) (map (read_property d.nodes.items) xs)) (references c.args.plugin (tree_of d)) (ap (each (found_value c.args.plugin (tree_of d))) (sym order)) c.in-Err-find_targets.ensures.targets))
 
 pub wanting-requires-clause-named : goal.wanting-requires-clause-named
 wanting-requires-clause-named c k x below =
-    let d = c.args.draft.now in
+    let d = c.args.live.now in
     let named = c.as_slice-3.ensures.value ∙ c.in_ok-named.ensures ∙ ap (λ (ns : List ℕ). ns ++ (if c.args.symbols then labelled_rows d c.args.order.now else [])) c.as_slice.ensures.value in
     let all = subst (λ (ns : List ℕ). Each (λ n. IsNode d n) ns) (sym named)
     (named-within (λ n. IsNode d n) d c.args.symbols c.in-Ok-find_targets.targets.cells.items c.args.order.now c.in-Ok-find_targets.ensures.known.known c.requires.known) in
     omega (arith, ap length c.nodes-2.ensures, each-all (λ n. IsNode d n) c.as_slice-3.result.now all k x below)
 
 pub returns-clause-given : goal.returns-clause-given
-returns-clause-given c = subst (λ (rows : List NodeRow). AreStanding rows c.in-Ok.given.numbers.items) c.nodes.ensures c.in-Ok.ensures.owners
+returns-clause-given c = subst (λ (rows : List NodeRow). AreStanding rows c.in-Ok.given.phandles.items) c.nodes.ensures c.in-Ok.ensures.owners
 
 pub returns-clause-new : goal.returns-clause-new
 returns-clause-new c =
-    let d = c.args.draft.now in
-    let given = c.in-Ok.given.numbers.items in
+    let d = c.args.live.now in
+    let given = c.in-Ok.given.phandles.items in
     let taken = is_taken c.in-Ok.given.taken in
     let t = c.in-Ok-find_targets.targets in
     let order = c.args.order.now in
     let named = c.as_slice-3.ensures.value ∙ c.in_ok-named.ensures ∙ ap (λ (ns : List ℕ). ns ++ (if c.args.symbols then labelled_rows d order else [])) c.as_slice.ensures.value in
     let nodes = c.as_slice-4.ensures.value ∙ c.in_ok-nodes.ensures
-    ∙ ap₂ (λ (gs : List Numbered) (ns : List ℕ). new_rows (λ n. list_any (λ x. x.node == n) gs) ns) c.as_slice-2.ensures.value named in
+    ∙ ap₂ (λ (gs : List NodePhandle) (ns : List ℕ). new_rows (λ n. list_any (λ x. x.node == n) gs) ns) c.as_slice-2.ensures.value named in
     new-standing d t c.in-Ok-find_targets.ensures.known c.args.symbols order c.requires.known c.requires.there (λ n. list_any (λ x. x.node == n) given) taken (length given) c.in_ok-new.new.items
-    (c.in_ok-new.ensures ∙ ap (numbered_rows taken (length given) 0) nodes)
+    (c.in_ok-new.ensures ∙ ap (assigned_rows taken (length given) 0) nodes)
 
 pub returns-clause-resolved : goal.returns-clause-resolved
 returns-clause-resolved c =
-    let d = c.args.draft.now in
+    let d = c.args.live.now in
     let xs = c.args.properties.now in
-    let order = read-order d xs c.requires.laid in
-    let given = c.in-Ok.given.numbers.items in
+    let order = read-order d xs c.requires.definitions in
+    let given = c.in-Ok.given.phandles.items in
     let taken = is_taken c.in-Ok.given.taken in
     let t = c.in-Ok-find_targets.targets in
     let found = c.in-Ok-find_targets.ensures.targets in
     let up = subst (λ (rows : List NodeRow). AreStanding rows given) c.nodes.ensures c.in-Ok.ensures.owners in
     let named = c.as_slice-3.ensures.value ∙ c.in_ok-named.ensures ∙ ap (λ (ns : List ℕ). ns ++ (if c.args.symbols then labelled_rows d c.args.order.now else [])) c.as_slice.ensures.value in
     let nodes = c.as_slice-4.ensures.value ∙ c.in_ok-nodes.ensures
-    ∙ ap₂ (λ (gs : List Numbered) (ns : List ℕ). new_rows (λ n. list_any (λ x. x.node == n) gs) ns) c.as_slice-2.ensures.value named in (
+    ∙ ap₂ (λ (gs : List NodePhandle) (ns : List ℕ). new_rows (λ n. list_any (λ x. x.node == n) gs) ns) c.as_slice-2.ensures.value named in (
       found.0,
       record {
         free = sym c.is_name_taken.ensures ∙ c.if-is_name_taken.false;
-        given = ap (λ es. given_of es []) (sym (ap (λ rows. map (read_laid rows) xs) c.nodes.ensures ∙ order)) ∙ c.in-Ok.ensures.numbers
-            ∙ ap (λ (rows : List NodeRow). Ok (map (number_at rows) given)) c.nodes.ensures;
+        given = ap (λ es. given_of es []) (sym (ap (λ rows. map (read_property rows) xs) c.nodes.ensures ∙ order)) ∙ c.in-Ok.ensures.phandles
+            ∙ ap (λ (rows : List NodeRow). Ok (map (path_phandle_of rows) given)) c.nodes.ensures;
         found = ap (each (found_value c.args.plugin (tree_of d))) (sym order) ∙ found.1;
         targets = found.2;
-        new = all-numbered d c.requires.sound given up found.0 t found.2 c.in-Ok-find_targets.ensures.known taken
-            (λ n. c.in-Ok.ensures.taken n ∙ ap (λ (rows : List NodeRow). has_number n (map (number_at rows) given)) c.nodes.ensures) c.args.symbols c.args.order.now c.requires.there c.requires.nodes c.in_ok-new.new.items
-            (c.in_ok-new.ensures ∙ ap (numbered_rows taken (length given) 0) nodes);
+        new = all-assigned d c.requires.sound given up found.0 t found.2 c.in-Ok-find_targets.ensures.known taken
+            (λ n. c.in-Ok.ensures.taken n ∙ ap (λ (rows : List NodeRow). has_phandle n (map (path_phandle_of rows) given)) c.nodes.ensures) c.args.symbols c.args.order.now c.requires.there c.requires.nodes c.in_ok-new.new.items
+            (c.in_ok-new.ensures ∙ ap (assigned_rows taken (length given) 0) nodes);
       },
     )

@@ -49,8 +49,8 @@ tied_claimed m n e x d owed new count room count2 room2 won slots same device lo
   roomy = λ _. subst (λ (w : View). count2 + length w.plan ≤ room2) (sym won.view) roomy;
 }
 
-pub claim_any-requires-clause-seat : goal.claim_any-requires-clause-seat
-claim_any-requires-clause-seat c = (
+pub claim-requires-clause-seat : goal.claim-requires-clause-seat
+claim-requires-clause-seat c = (
   ap (λ (x : Seated). x.view.plan) c.seat.view_is ∙ c.requires.1 ∙ sym (ap (λ (x : Posted). x.plan) c.self.view_is),
   c.seat.invariant.live,
   idle_seat c.seat.inside.token.me _ _ _ _ c.seat.invariant (none_open c.seat.inside.flight c.if-is_some.ensures),
@@ -70,14 +70,14 @@ invariant_of-seat c =
 pub invariant_of-seat-in_default : goal.invariant_of-seat-in_default
 invariant_of-seat-in_default c =
     let idle : c.seat.inside.flight ≡ None = none_open c.seat.inside.flight c.if-is_some.ensures in
-    tied_in c.claim_any.new.token.me c.seat.inside.flight c.seat.inside.owed.items c.reserve.new.self.items _ _ _ _ c.in_ok-reserve.ensures.items idle
-    (tied_passed c.seat.inside.token.me c.claim_any.new.token.me c.seat.inside.flight c.seat.inside.owed.items _ _ c.in_default.ensures.none c.in_default.ensures.same.1 c.seat.invariant idle)
+    tied_in c.claim.new.token.me c.seat.inside.flight c.seat.inside.owed.items c.reserve.new.self.items _ _ _ _ c.in_ok-reserve.ensures.items idle
+    (tied_passed c.seat.inside.token.me c.claim.new.token.me c.seat.inside.flight c.seat.inside.owed.items _ _ c.in_default.ensures.none c.in_default.ensures.same.1 c.seat.invariant idle)
 
 pub invariant_of-seat-2 : goal.invariant_of-seat-2
 invariant_of-seat-2 c =
     let m = c.seat.inside.token.me in
     let plan_is : m.0.plan ≡ c.self.inside.plan = ap (λ (x : Seated). x.view.plan) c.seat.view_is ∙ c.requires.1 ∙ sym (ap (λ (x : Posted). x.plan) c.self.view_is) in
-    tied_claimed m c.claim_any.new.token.me c.seat.inside.flight _ c.in-Some.device c.seat.inside.owed.items c.reserve.new.self.items _ _ _ _ c.in-Some.ensures.claimed c.in-Some.ensures.same.1 c.in_ok-reserve.ensures.items
+    tied_claimed m c.claim.new.token.me c.seat.inside.flight _ c.in-Some.device c.seat.inside.owed.items c.reserve.new.self.items _ _ _ _ c.in-Some.ensures.claimed c.in-Some.ensures.same.1 c.in_ok-reserve.ensures.items
     refl (c.first_looks-looks.ensures ∙ ap (looks_at []) (c.suppliers.ensures ∙ ap (λ (p : List PlannedDevice). suppliers_of p c.in-Some.device) (sym plan_is)))
     (omega (arith, c.in_ok-reserve.ensures.ok, c.len.ensures, ap (length {A = PlannedDevice}) plan_is)) c.seat.invariant
 

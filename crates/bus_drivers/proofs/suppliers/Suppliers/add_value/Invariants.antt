@@ -8,8 +8,8 @@ use Rattle.bus_drivers.proofs.suppliers.Suppliers.add_value.Given as goal
 -- what the cells that are left add makes what all cells add
 abbrev pub invariant-loop-cell : goal.invariant-loop-cell
 invariant-loop-cell l =
-    adding l.self (devices_in (target_of l.survey) (form_data l.form) l.left (cells_of l.rest))
-    ≡ adding l.fn.self (devices_in (target_of l.survey) (form_data l.form) 0 (cells_of l.value))
+    adding l.self (devices_in (target_of l.phandle_index) (form_data l.form) l.left (cells_of l.rest))
+    ≡ adding l.fn.self (devices_in (target_of l.phandle_index) (form_data l.form) 0 (cells_of l.value))
 
 abbrev pub decreases-loop-cell : goal.decreases-loop-cell
 decreases-loop-cell l = length l.rest

@@ -10,9 +10,9 @@ use Rattle.bus_drivers.proofs.walk.Walk.keep_tree.Goals as goal
 
 pub loop-top-init : goal.loop-top-init
 loop-top-init c = record {
-  devices = begin-devices c.args.root.now c.args.self.now.devices.items c.args.self.now.way.items c.is_okay.result c.children-top-items.result.now c.requires.devices c.requires.way c.is_okay.ensures c.children-top-items.ensures.nodes;
+  devices = begin-devices c.args.root.now c.args.self.now.devices.items c.args.self.now.node_path.items c.is_okay.result c.children-top-items.result.now c.requires.devices c.requires.node_path c.is_okay.ensures c.children-top-items.ensures.nodes;
   few = omega (arith, ap length c.requires.devices);
-  way = c.requires.way;
+  node_path = c.requires.node_path;
   targets = λ phandle.
       begin-target c.args.root.now c.args.self.now.devices.items _ (get nat_eq c.keep_target.new.targets phandle) c.children-top-items.result.now phandle c.requires.devices (c.requires.targets phandle)
       (c.in_ok-keep_target.ensures.targets phandle) c.children-top-items.ensures.nodes;
@@ -25,9 +25,9 @@ loop-top-preserved-then-is_reserved_name c =
     let reserved : is_reserved_name b.name ≡ true = ap is_reserved_name (sym c.name_bytes.ensures) ∙ sym c.is_reserved_name.ensures ∙ c.if-is_reserved_name.true in
     let next = sym (next-reserved all c.loop-top.top-index b c.loop-top-test.true c.top-item.is reserved) in
     record {
-      devices = ap (λ f. c.loop-top.self.devices.items ++ devices_among c.loop-top.self.way.items c.is_okay.result f) next ∙ c.loop-top.invariant.devices;
+      devices = ap (λ f. c.loop-top.self.devices.items ++ devices_among c.loop-top.self.node_path.items c.is_okay.result f) next ∙ c.loop-top.invariant.devices;
       few = c.loop-top.invariant.few;
-      way = c.loop-top.invariant.way;
+      node_path = c.loop-top.invariant.node_path;
       targets = λ phandle.
           ap (λ f. or_else (get nat_eq c.loop-top.self.targets phandle) (target_among None (length c.loop-top.self.devices.items) f phandle)) next ∙ c.loop-top.invariant.targets phandle;
     }
@@ -38,7 +38,7 @@ returns-in_err-visit-clause-err c =
     let i = c.loop-top.top-index in
     let b = c.top-item.result in
     let before = c.loop-top.self.devices.items in
-    let text = c.loop-top.self.way.items in
+    let text = c.loop-top.self.node_path.items in
     let available = c.is_okay.result in
     let rest = unreserved (siblings (drop (i + 1) all)) in
     let lasting : is_reserved_name b.name ≡ false = ap is_reserved_name (sym c.name_bytes.ensures) ∙ sym c.is_reserved_name.ensures ∙ c.if-is_reserved_name.false in
@@ -53,7 +53,7 @@ loop-top-preserved c =
     let all = c.children-top-items.result.now in
     let i = c.loop-top.top-index in
     let b = c.top-item.result in
-    let text = c.loop-top.self.way.items in
+    let text = c.loop-top.self.node_path.items in
     let available = c.is_okay.result in
     let before = c.loop-top.self.devices.items in
     let lasting : is_reserved_name b.name ≡ false = ap is_reserved_name (sym c.name_bytes.ensures) ∙ sym c.is_reserved_name.ensures ∙ c.if-is_reserved_name.false in
@@ -63,17 +63,17 @@ loop-top-preserved c =
     ap length c.in_ok-visit.ensures.devices ∙ length-append before (devices_at text available b) in
     record {
       devices =
-          ap (λ (w : List ℕ). c.visit.new.self.devices.items ++ devices_among w available (unreserved (siblings (drop (i + 1) all)))) c.in_ok-visit.ensures.way
+          ap (λ (w : List ℕ). c.visit.new.self.devices.items ++ devices_among w available (unreserved (siblings (drop (i + 1) all)))) c.in_ok-visit.ensures.node_path
           ∙ next-devices before c.visit.new.self.devices.items _ text available (unreserved (siblings (drop i all))) (unreserved (siblings (drop (i + 1) all))) b next c.in_ok-visit.ensures.devices c.loop-top.invariant.devices;
       few = c.in_ok-visit.ensures.few;
-      way = c.in_ok-visit.ensures.way ∙ c.loop-top.invariant.way;
+      node_path = c.in_ok-visit.ensures.node_path ∙ c.loop-top.invariant.node_path;
       targets = λ phandle.
           next-target (get nat_eq c.loop-top.self.targets phandle) (get nat_eq c.visit.new.self.targets phandle) _ None (length before) (length c.visit.new.self.devices.items) text available
           (unreserved (siblings (drop i all))) (unreserved (siblings (drop (i + 1) all))) b phandle next met (c.in_ok-visit.ensures.targets phandle) (c.loop-top.invariant.targets phandle);
     }
 
 pub returns-clause-devices : goal.returns-clause-devices
-returns-clause-devices c = last-devices c.loop-top.self.devices.items _ c.loop-top.self.way.items c.is_okay.result c.children-top-items.result.now c.loop-top.top-index c.loop-top-test.false c.loop-top.invariant.devices
+returns-clause-devices c = last-devices c.loop-top.self.devices.items _ c.loop-top.self.node_path.items c.is_okay.result c.children-top-items.result.now c.loop-top.top-index c.loop-top-test.false c.loop-top.invariant.devices
 
 pub returns-clause-few : goal.returns-clause-few
 returns-clause-few c = c.loop-top.invariant.few

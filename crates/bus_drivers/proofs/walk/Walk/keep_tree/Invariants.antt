@@ -10,9 +10,9 @@ use Rattle.bus_drivers.proofs.walk.Walk.keep_tree.Given as goal
 
 abbrev pub invariant-loop-top : goal.invariant-loop-top
 invariant-loop-top l = record {
-  devices : l.self.devices.items ++ devices_among l.self.way.items l.here.available (unreserved (siblings (drop l.top-index l.top-items))) ≡ devices_in_tree l.root;
+  devices : l.self.devices.items ++ devices_among l.self.node_path.items l.here.available (unreserved (siblings (drop l.top-index l.top-items))) ≡ devices_in_tree l.root;
   few : length l.self.devices.items ≤ most_devices;
-  way : l.self.way.items ≡ [];
+  node_path : l.self.node_path.items ≡ [];
   targets : (phandle : ℕ) → or_else (get nat_eq l.self.targets phandle) (target_among l.here.device (length l.self.devices.items) (unreserved (siblings (drop l.top-index l.top-items))) phandle)
       ≡ target_in_tree l.root phandle;
 }

@@ -1,0 +1,134 @@
+#!/usr/bin/env bash
+# Installs what bin/ has into a folder, and tries it there: the pages against --help and mandoc, the completions in their shells, the C
+# examples, what stays after `make uninstall`, the tar ball and the Debian package. Where a tool isn't there, it says what wasn't tried.
+set -euo pipefail
+cd "$(dirname "$0")/.."
+root=$PWD
+work=$(mktemp -d)
+trap 'rm -rf "$work"' EXIT
+
+# fail WORD..: says what went wrong, and ends
+fail() {
+	echo "install: $*" >&2
+	exit 1
+}
+
+# has TOOL WHAT: whether a tool is there; else it says what isn't tried
+has() {
+	command -v "$1" >/dev/null && return
+	echo "install: $1 isn't here, so $2" >&2
+	return 1
+}
+
+make -s install PREFIX=/usr DESTDIR="$work"
+python3 .ci/pages.py
+
+for words in "" compile overlay dump plan replay probe explain; do
+	# shellcheck disable=SC2086
+	bin/dtman $words --help | awk 'length > 80 { exit 1 }' || fail "dtman $words --help has a line of more than 80 columns"
+done
+
+try_pages() {
+	local page said name section
+	cd "$work/usr/share/man"
+	for page in man?/*; do
+		# mandoc looks for pages that are named where this machine keeps its own
+		said=$(mandoc -T lint "$page" | grep -v 'referenced manual not found: Xr dtman' || true)
+		[ -z "$said" ] || fail "$said"
+		while read -r name section; do
+			[ -e "man$section/$name.$section" ] || fail "$page names $name($section), which isn't there"
+		done < <(sed -n 's/^\.\(It \)\?Xr \([^ ]*\) \([0-9]\).*/\2 \3/p' "$page")
+		! has man "pages aren't shown" || said=$(MANWIDTH=80 man --warnings -l "$page" 2>&1 >/dev/null)
+		[ -z "$said" ] || fail "$said"
+	done
+	echo "pages: $(find . -type f | wc -l), of which mandoc has nothing to say"
+}
+if has mandoc "man pages aren't looked at"; then (try_pages); fi
+
+# What each shell offers behind a line, in a folder with a file of each kind.
+mkdir "$work/folder" "$work/folder/sub"
+cd "$work/folder"
+touch board.dts board.dtb hat.dtbo board.drivers board.plan boot.schedule README
+# The line, and what is offered; folders are offered beside files.
+offers="
+c|compile
+compile |board.dts sub
+compile board.dts |board.dtb hat.dtbo sub
+compile --s|--symbols
+overlay board.dtb |board.dtb hat.dtbo sub
+plan board.dtb |board.drivers sub
+plan --dot |board.dtb hat.dtbo sub
+replay board.plan --workers 4 |boot.schedule sub
+probe board.dtb board.drivers --w|--workers
+explain 6|60 61 62 63 64 65 66 67
+"
+
+bash_offers() {
+	# shellcheck source=/dev/null
+	. "$work/usr/share/bash-completion/completions/dtman"
+	read -ra COMP_WORDS <<<"dtman $1"
+	[[ $1 != *" " ]] || COMP_WORDS+=("")
+	COMP_CWORD=$((${#COMP_WORDS[@]} - 1))
+	_dtman
+	printf '%s\n' "${COMPREPLY[@]}"
+}
+
+zsh_offers() {
+	zsh -f "$root/.ci/offers.zsh" "$work/usr/share/zsh/site-functions" "dtman $1"
+}
+
+fish_offers() {
+	fish -c "source '$work/usr/share/fish/vendor_completions.d/dtman.fish'; complete -C 'dtman $1'" | cut -f1
+}
+
+for shell in bash zsh fish; do
+	has "$shell" "its completions aren't tried" || continue
+	while IFS='|' read -r line wanted; do
+		[ -n "$line" ] || continue
+		offered=$("${shell}_offers" "$line" | sed 's|/$||' | LC_ALL=C sort -u | tr '\n' ' ')
+		[ "$offered" = "$wanted " ] || fail "$shell offers '$offered' behind 'dtman $line', and not '$wanted'"
+	done <<<"$offers"
+	echo "completions: $shell offers commands, options and files as it should"
+done
+cd "$root"
+
+# The C examples, over what was installed.
+try_c() {
+	local run=() built=$work/c
+	cp -r examples/c "$built"
+	export PKG_CONFIG_PATH=$work/usr/lib/pkgconfig
+	make -s -C "$built" LIBRARY=installed CC="$1" ${2:+CFLAGS="$2"}
+	[ -n "${2:-}" ] || ! has valgrind "C examples run without it" || run=(valgrind -q --leak-check=full --error-exitcode=9)
+	"${run[@]}" "$built/calls" | diff examples/c/calls.txt - || fail "examples/c/calls says something else"
+	for name in board hat; do bin/dtman compile "examples/$name.dts" "$built/$name.dtb" --symbols; done
+	bin/dtman compile examples/c/boot-arguments.dts "$built/arguments.dtbo"
+	"${run[@]}" "$built/boot_step" "$built/board.dtb" "$built/hat.dtb" "$built/arguments.dtbo" /chosen bootargs "$built/out.dtb" >"$built/said"
+	[ "$(tr -d '\0' <"$built/said")" = "console=ttyS0,115200 root=/dev/mmcblk0p2 quiet" ] || fail "boot_step found $(cat "$built/said")"
+	bin/dtman overlay "$built/board.dtb" "$built/hat.dtb" - | bin/dtman overlay - "$built/arguments.dtbo" - | cmp - "$built/out.dtb"
+	rm -rf "$built"
+	echo "C: the examples do what the program does, built by $1${2:+ with $2}${run[*]:+, under valgrind}"
+}
+if [ ! -e bin/libdtman.a ]; then
+	echo "install: bin/libdtman.a isn't here, so the C examples aren't tried" >&2
+elif has pkg-config "the C examples aren't tried"; then
+	! has cc "the C examples aren't built by it" || try_c cc
+	! has clang "the C examples aren't tried with its sanitizers" || try_c clang "-g -O1 -fsanitize=address,undefined"
+fi
+
+make -s uninstall PREFIX=/usr DESTDIR="$work"
+left=$(find "$work/usr" -type f)
+[ -z "$left" ] || fail "make uninstall leaves $left"
+
+# What is packed.
+make -s dist >/dev/null
+(cd out/dist && for sum in *.tar.gz.sha256; do sha256sum -c --quiet "$sum"; done)
+tar -C "$work" -xzf out/dist/dtman-*.tar.gz --strip-components=1
+(cd "$work" && sha256sum -c --quiet SHA256SUMS) || fail "the tar ball's files aren't those of SHA256SUMS"
+"$work/bin/dtman" explain 63 | cmp - <(bin/dtman explain 63)
+if has dpkg-deb "no Debian package is made" && has objdump "no Debian package is made"; then
+	package=$(make -s deb)
+	dpkg-deb -x "$package" "$work/package"
+	"$work/package/usr/bin/dtman" explain 63 | cmp - <(bin/dtman explain 63)
+	! has lintian "the Debian package isn't looked at" || lintian --allow-root --fail-on error,warning "$package" || fail "lintian has something to say"
+fi
+echo "install: what was installed works, is gone again, and is packed"

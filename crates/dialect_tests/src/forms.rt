@@ -1,0 +1,143 @@
+//! What each form of the dialect becomes in the profile, worked by hand from dtc's pages and its edits.
+
+use dtc_dialect::{DialectError, Options, Profile, profile_text, rewrite, user_place};
+use std::alloc::{AllocError, Global};
+use std::hash::RandomState;
+use std::process::Abort;
+
+/// A source behind `/dts-v1/;`, and what stands there in the profile.
+type Row = (&'static str, &'static str);
+
+fn options(symbols: bool) -> Options<'static> {
+    Options { file: b"", symbols }
+}
+
+/// Puts the header in front, which the text has too.
+fn headed(rt: &impl Abort, alloc: Global, source: &str) -> String {
+    format!(in alloc; "/dts-v1/;{source}").expect(rt, "memory")
+}
+
+fn becomes(rt: &impl Abort, alloc: Global, hasher: RandomState, row: &Row) {
+    let source = headed(rt, alloc, row.0);
+    let wanted = headed(rt, alloc, row.1);
+    match rewrite(alloc, hasher, options(false), source.as_bytes()) {
+        Ok(said) => assert_eq!(rt; said.as_slice(), wanted.as_bytes()),
+        Err(_) => panic!(rt; "refused"),
+    }
+}
+
+#[test]
+fn forms(rt: HostRuntime) {
+    const ROWS: &[Row] = &[
+        (
+            " / { a = <'A' '\\n' '\\x41' '\\101'>; };",
+            " / { a = <65 10 65 65>; };\n",
+        ),
+        (
+            " / { a: a { x; }; }; &a { y = <1>; z; y = <2>; };",
+            " / { a: a { x; y = <2>; z; }; };\n",
+        ),
+        (
+            " / { a { b { x; }; }; }; / { a { b { y; }; b { z; }; }; };",
+            " / { a { b { x; y; z; }; }; };\n",
+        ),
+        (
+            " / { /omit-if-no-ref/ a: a { }; /omit-if-no-ref/ b: b { }; c { r = <&b>; }; };",
+            " / { b: b { phandle = <1>; }; c { r = <&b>; }; };\n",
+        ),
+        (
+            " / { l: a { }; }; / { l: b { }; c { r = <&l>; }; /delete-node/ a; };",
+            " / { l: b { }; c { r = <&l>; }; };\n",
+        ),
+        (
+            " / { a { x; y; }; b { }; }; /delete-node/ &{/a}; / { a { y; }; };",
+            " / { a { y; }; b { }; };\n",
+        ),
+        (
+            " / { a: a { phandle = <&a>; }; };",
+            " / { a: a { phandle = <1>; }; };\n",
+        ),
+        (
+            " / { x: y: a { }; }; z: &x { };",
+            " / { z: x: y: a { }; };\n",
+        ),
+        (
+            " / { a@1 { name = \"a\"; name2 = \"a\"; }; };",
+            " / { a@1 { name2 = \"a\"; }; };\n",
+        ),
+        (
+            " / { s { r; /delete-property/ r; }; };",
+            " / { s { r; }; };\n",
+        ),
+        (
+            " /plugin/; &x { y; };",
+            " /plugin/; / { fragment@0 { target = <&x>; __overlay__ { y; }; }; };\n",
+        ),
+        ("\n# 5 \"f\"\n/ {\n\tx;\n};", "\n# 5 \"f\"\n/ {\nx; };\n"),
+    ];
+    let hasher = RandomState::new(&rt).expect(&rt, "a seed");
+    for row in ROWS {
+        becomes(&rt, rt.alloc(), hasher, row);
+    }
+}
+
+/// A source behind `/dts-v1/;`, and the number and line of its refusal.
+type Refused = (&'static str, u8, usize);
+
+fn is_refused(rt: &impl Abort, alloc: Global, hasher: RandomState, row: &Refused) {
+    let source = headed(rt, alloc, row.0);
+    match rewrite(alloc, hasher, options(false), source.as_bytes()) {
+        Err(DialectError::Refused(refusal)) => {
+            assert_eq!(rt; refusal.mistake as u8, row.1);
+            assert_eq!(rt; refusal.place.line, row.2);
+        }
+        _ => panic!(rt; "not refused"),
+    }
+}
+
+#[test]
+fn refusals(rt: HostRuntime) {
+    const ROWS: &[Refused] = &[
+        (" / { };\n&a { };", 20, 2),
+        (" / { };\n&{/a} { };", 22, 2),
+        (" / { }; /delete-node/ &{/};", 27, 1),
+        ("\n/ {\n x\n", 10, 3),
+        (" / { a = <''>; };", 10, 1),
+        ("\n# 7 \"f\"\n/ { a b; };", 10, 7),
+    ];
+    let hasher = RandomState::new(&rt).expect(&rt, "a seed");
+    for row in ROWS {
+        is_refused(&rt, rt.alloc(), hasher, row);
+    }
+}
+
+/// A profile that takes one text alone.
+#[derive(Clone, Copy)]
+struct One;
+
+impl Profile for One {
+    ghost use Rattle.std.specs.Prelude.{◌≡◌, [], ◌∷◌};
+
+    ghost takes = { λ text. text ≡ 120 ∷ [] };
+
+    fn is_taken(&mut self, text: &[u8]) -> Result<bool, AllocError> {
+        Ok(text == b"x".as_slice())
+    }
+}
+
+#[test]
+fn what_the_profile_takes_stays(rt: HostRuntime) {
+    let hasher = RandomState::new(&rt).expect(&rt, "a seed");
+    let said = profile_text(rt.alloc(), hasher, &mut One, options(false), b"x");
+    match said {
+        Ok(said) => assert_eq!(&rt; said.as_slice(), b"x".as_slice()),
+        Err(_) => panic!(&rt; "refused"),
+    }
+}
+
+#[test]
+fn lines_by_markers(rt: HostRuntime) {
+    let place = user_place(b"a", b"x\n# 9 \"b\"\ny\nz", 4);
+    assert_eq!(&rt; place.line, 10);
+    assert_eq!(&rt; place.file, b"b".as_slice());
+}

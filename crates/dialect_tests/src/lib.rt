@@ -1,0 +1,7 @@
+//! Tests of dtc's dialect and of dtc's command line.
+#![tactic(auto)]
+
+#[cfg(test)]
+mod forms;
+#[cfg(test)]
+mod runs;

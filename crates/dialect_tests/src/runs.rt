@@ -1,0 +1,163 @@
+//! Runs of dtc over files in memory, with a compiler whose blob is the text behind a header of zeros.
+
+use dtman_dtc::{Compiler, Fault, Host, Unread, Unwritten, run_dtc, run_fdtoverlay};
+use std::alloc::Global;
+use std::hash::RandomState;
+use std::process::Abort;
+
+/// Files to read, and what was written last.
+#[derive(Drop)]
+struct Desk {
+    hasher: RandomState,
+    files: &'static [(&'static str, &'static [u8])],
+    written: Vec<u8>,
+}
+
+impl Host for Desk {
+    fn read(&mut self, alloc: Global, path: &str) -> Result<Vec<u8>, Unread> {
+        for (name, bytes) in self.files {
+            if *name == path {
+                return Vec::from_slice(alloc, *bytes).map_err(|_| Unread);
+            }
+        }
+        Err(Unread)
+    }
+
+    fn write(&mut self, _path: &str, bytes: &[u8]) -> Result<(), Unwritten> {
+        self.written.clear();
+        self.written.extend_from_slice(bytes).map_err(|_| Unwritten)
+    }
+
+    fn report(&mut self, text: &[u8]) {
+        self.written.clear();
+        let _ = self.written.extend_from_slice(text);
+    }
+
+    fn seed(&mut self) -> Result<RandomState, Unread> {
+        Ok(self.hasher)
+    }
+}
+
+const HEADER: &[u8] = &[0; 40];
+
+/// Puts the text behind a header, and takes it from there; applies an overlay by putting it behind the base.
+#[derive(Clone, Copy)]
+struct Copier;
+
+fn refused<T>() -> Result<T, Fault> {
+    Err(Fault {
+        number: 0,
+        name: "NoMemory",
+        line: None,
+    })
+}
+
+impl Compiler for Copier {
+    fn compile(
+        &mut self,
+        alloc: Global,
+        hasher: RandomState,
+        text: &[u8],
+        _symbols: bool,
+    ) -> Result<Vec<u8>, Fault> {
+        self.overlay(alloc, hasher, HEADER, text)
+    }
+
+    fn dump(&mut self, alloc: Global, blob: &[u8]) -> Result<Vec<u8>, Fault> {
+        let text = blob.get(HEADER.len()..blob.len()).unwrap_or(b"");
+        match Vec::from_slice(alloc, text) {
+            Ok(bytes) => Ok(bytes),
+            Err(_) => refused(),
+        }
+    }
+
+    fn overlay(
+        &mut self,
+        alloc: Global,
+        _hasher: RandomState,
+        base: &[u8],
+        overlay: &[u8],
+    ) -> Result<Vec<u8>, Fault> {
+        let Ok(mut bytes) = Vec::from_slice(alloc, base) else {
+            return refused();
+        };
+        match bytes.extend_from_slice(overlay) {
+            Ok(()) => Ok(bytes),
+            Err(_) => refused(),
+        }
+    }
+}
+
+/// The words behind the program's name, the exit status, and what was written last.
+type Row = (&'static [&'static str], u8, &'static str);
+
+const FILES: &[(&str, &[u8])] = &[
+    ("a.dts", b"/dts-v1/; / { /include/ \"b.dtsi\" };"),
+    ("in/b.dtsi", b"x = /incbin/(\"c\", 1, 2);"),
+    ("in/c", b"\x00\x1f\xff\x00"),
+    ("bad.dts", b"/dts-v1/;\n&x { };"),
+];
+
+fn make_desk(alloc: Global, hasher: RandomState) -> Desk {
+    Desk {
+        hasher,
+        files: FILES,
+        written: Vec::new(alloc),
+    }
+}
+
+fn runs(rt: &impl Abort, alloc: Global, hasher: RandomState, row: &Row) {
+    let mut desk = make_desk(alloc, hasher);
+    let status = run_dtc(alloc, &mut desk, &mut Copier, row.0);
+    assert_eq!(rt; status, row.1);
+    assert_eq!(rt; desk.written.as_slice(), row.2.as_bytes());
+}
+
+#[test]
+fn dtc(rt: HostRuntime) {
+    const ROWS: &[Row] = &[
+        (&["-v"], 0, "Version: DTC 1.6.1 (dtman)\n"),
+        (&["-Z"], 1, "Error: unknown option -Z\n"),
+        (
+            &["-s", "a.dts"],
+            1,
+            "Error: dtc's option -s isn't there in dtman\n",
+        ),
+        (&["-qo"], 1, "Error: option -qo requires an argument\n"),
+        (
+            &["-p", "1", "-S", "2"],
+            1,
+            "FATAL ERROR: Can't set both -p and -S\n",
+        ),
+        (
+            &["-a", "3", "a.dts"],
+            1,
+            "Error: option -a doesn't take 3\n",
+        ),
+        (
+            &["none.dts"],
+            1,
+            "FATAL ERROR: Couldn't open \"none.dts\": error 80 CannotRead\n",
+        ),
+        (&["bad.dts"], 1, "FATAL ERROR: Unable to parse input tree\n"),
+        (
+            &["-i", "in", "-O", "dts", "--out=x", "-d", "y", "a.dts"],
+            0,
+            "/dts-v1/;\n# 1 \"a.dts\"\n/ {\n# 1 \"in/b.dtsi\"\nx = [1fff]; };\n",
+        ),
+    ];
+    let hasher = RandomState::new(&rt).expect(&rt, "a seed");
+    for row in ROWS {
+        runs(&rt, rt.alloc(), hasher, row);
+    }
+}
+
+#[test]
+fn fdtoverlay(rt: HostRuntime) {
+    let hasher = RandomState::new(&rt).expect(&rt, "a seed");
+    let mut desk = make_desk(rt.alloc(), hasher);
+    let words = ["-i", "in/c", "-o", "x", "in/c", "in/c"];
+    let status = run_fdtoverlay(rt.alloc(), &mut desk, &mut Copier, words.as_slice());
+    assert_eq!(&rt; status, 0);
+    assert_eq!(&rt; desk.written.len(), 12);
+}

@@ -1,5 +1,0 @@
-pub mod Lists
-pub mod OpenNodes
-pub mod Private
-pub mod Sizes
-pub mod Standing

@@ -1,3 +1,0 @@
--- What private contracts cite: the fields of an assembly, and how far a tree is made, for the crates above. No public clause rests on it.
-pub mod Making
-pub mod Opened

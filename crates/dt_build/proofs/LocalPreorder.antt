@@ -1,0 +1,89 @@
+-- The walk over the nodes of local fixups of a plugin that is ready, and which nodes have some.
+use Rattle.std.proofs.Common.{◌≡◌, ℕ, zero, suc, ◌+◌, Bool, true, false, ◌&&◌, ◌||◌, List, [], ◌∷◌, length, map, Option, Some, None, is_none, is_some, cond, refl, sym, ap, ap₂, ◌∙◌, length-append, arith}
+use Rattle.std.specs.List.{filter, list_any}
+use Rattle.dt_meaning.specs.Names.{local_fixups_name}
+use Rattle.dt_meaning.specs.Paths.{Path, is_within, is_listed, name_below}
+use Rattle.dt_meaning.specs.References.{walk, preorder}
+use Rattle.dt_meaning.specs.Phandles.{new_ones}
+use Rattle.dt_meaning.specs.Fixups.{Site, local_fixups}
+use Rattle.dt_meaning.specs.Resolved.{is_too_deep}
+use Rattle.dt_tree_builder.proofs.PathFacts.{bytes-itself, child-is, not-deep, or-false}
+use Rattle.dt_tree_builder.proofs.Standing.{listed-both}
+use Rattle.dt_tree_builder.proofs.Walks.{flat-none}
+use Rattle.dt_edit.specs.Said.{tree_of}
+use Rattle.dt_resolve.specs.declared.prepared.Prepared.{Prepared}
+use Rattle.dt_build.specs.Private.Made.{fixup_lists, lists, made_sites}
+use Rattle.dt_build.specs.Private.Ready.{IsReady}
+use Rattle.dt_build.proofs.LocalFronts.{brought, brought_by, local-fronts}
+use Rattle.dt_build.proofs.LocalOrder.{listed-kept}
+use Rattle.dt_build.proofs.LocalWalk.{walk-local}
+use Rattle.dt_build.proofs.LocalWhole.{kept-flat, local-ready}
+use Rattle.dt_build.proofs.MoreLists.{deep-both, fronts_of, listed-fronts, listed-new}
+use Rattle.dt_build.proofs.MoreWalked.{walk_of}
+use Rattle.dt_build.proofs.SymbolsLast.{same-kept}
+
+-- ---- which nodes have local fixups
+-- the nodes that local fixups bring
+abbrev pub locals_of : List Site → List Path
+locals_of xs = new_ones [] (fronts_of (local_fixups xs []))
+
+-- a place at the node or below it holds a phandle of the source's own
+abbrev pub is_own_within : Path → Site → Bool
+is_own_within q x = is_none x.label && is_within q x.path
+
+one-brought : (q p : Path) (o : Option (List ℕ)) → is_listed (local_fixups_name ∷ q) (brought o p) ≡ (is_none o && is_within q p)
+one-brought q p None = listed-fronts (local_fixups_name ∷ q) (local_fixups_name ∷ p) ∙ ap (λ t. t && is_within q p) (bytes-itself local_fixups_name)
+one-brought q p (Some l) = refl
+
+listed-brought : (q : Path) (xs : List Site) → is_listed (local_fixups_name ∷ q) (brought_by xs) ≡ list_any (is_own_within q) xs
+listed-brought q [] = refl
+listed-brought q (x ∷ xs) =
+    listed-both (local_fixups_name ∷ q) (brought x.label x.path) (brought_by xs) ∙ ap₂ (λ a b. a || b) (one-brought q x.path x.label) (listed-brought q xs)
+
+pub locals-by : (xs : List Site) (q : Path) → is_listed (local_fixups_name ∷ q) (locals_of xs) ≡ list_any (is_own_within q) xs
+locals-by xs q = ap (is_listed (local_fixups_name ∷ q)) (local-fronts xs) ∙ listed-new (local_fixups_name ∷ q) (brought_by xs) ∙ listed-brought q xs
+
+-- ---- the walk over nodes that have local fixups, one level deeper
+module _ (n : List ℕ) (nodes news : List Path) (shallow : list_any is_too_deep news ≡ false) where
+  abbrev is_local : Path → Bool
+  is_local q = is_listed (n ∷ q) news
+
+  abbrev children : Path → List Path
+  children p = filter (λ q. is_some (name_below p q)) nodes
+
+  too-low : (c : Path) → length c ≡ 64 → is_local c ≡ false
+  too-low c low = by_test (is_local c) refl where
+    by_test : (t : Bool) → is_local c ≡ t → t ≡ false
+    by_test true l = absurd (omega (arith, low, not-deep news (n ∷ c) shallow l))
+    by_test false l = refl
+
+  child-length : (p c : Path) → is_some (name_below p c) ≡ true → length c ≡ suc (length p)
+  child-length p c child = let m = child-is p c child in omega (arith, ap length m.1, length-append p (m.0 ∷ []))
+
+  deeper : (k : ℕ) (p : Path) → k + length p ≡ 63 → filter is_local (walk k nodes p) ≡ filter is_local (walk (suc k) nodes p)
+  deeper zero p low =
+      ap (λ ys. cond (is_local p) (p ∷ ys) ys)
+      (sym (kept-flat is_local (walk zero nodes) (children p)
+      ∙ flat-none (λ c. filter is_local (walk zero nodes c)) (children p)
+      (λ c l. ap (λ t. cond t (c ∷ []) []) (too-low c (omega (arith, low, child-length p c (listed-kept (λ q. is_some (name_below p q)) c nodes l)))))))
+  deeper (suc k) p low =
+      ap (λ ys. cond (is_local p) (p ∷ ys) ys)
+      (kept-flat is_local (walk k nodes) (children p)
+      ∙ same-kept (λ q. is_some (name_below p q)) (λ c. filter is_local (walk k nodes c)) (λ c. filter is_local (walk (suc k) nodes c)) nodes (λ c child. deeper k c (omega (arith, low, child-length p c child)))
+      ∙ sym (kept-flat is_local (walk (suc k) nodes) (children p)))
+
+  pub kept-preorder : filter is_local (walk 63 nodes []) ≡ filter is_local (preorder nodes)
+  unfolding preorder
+  kept-preorder = deeper 63 [] refl
+
+-- ---- of a source that is prepared
+-- where there are local fixups, the walk below their node is that over the nodes that have local fixups
+pub local-walked : (symbols : Bool) (p : Prepared) → IsReady p → list_any is_too_deep (lists symbols p).nodes ≡ false → is_listed (local_fixups_name ∷ []) (locals_of (made_sites p)) ≡ true
+    → walk_of local_fixups_name (local_fixups (made_sites p) []) ≡ map (λ c. local_fixups_name ∷ c) (filter (λ q. is_listed (local_fixups_name ∷ q) (locals_of (made_sites p))) (preorder (tree_of p.live).nodes))
+local-walked symbols p ready shallow there =
+    let nodes = (tree_of p.live).nodes in
+    let news = locals_of (made_sites p) in
+    walk-local local_fixups_name nodes news (local-ready p ready) 63 [] there
+    ∙ ap (map (λ c. local_fixups_name ∷ c))
+    (kept-preorder local_fixups_name nodes news
+    (or-false (list_any is_too_deep (fixup_lists symbols p).nodes) (list_any is_too_deep news) (sym (deep-both (fixup_lists symbols p).nodes news) ∙ shallow)).1)

@@ -1,0 +1,45 @@
+-- The phandles of nodes by their rows, and their bytes.
+use Rattle.std.proofs.Common.{◌≡◌, ℕ, ◌==◌, Bool, true, false, List, [], ◌∷◌, ◌++◌, map, if◌then◌else◌, refl, sym, ap, ◌∙◌, append-nil}
+use Rattle.std.specs.Int.{to_be_bytes, w32}
+use Rattle.dt_meaning.specs.Phandles.{PathPhandle}
+use Rattle.dt_meaning.specs.Fixups.{phandle_of}
+use Rattle.dt_live.specs.declared.live_tree.NodeRow.{NodeRow}
+use Rattle.dt_live.specs.Index.{row_of}
+use Rattle.dt_live.specs.Rows.{Found, is_standing, node_path, path_of, stands, IsGrown, IsNodeIndex}
+use Rattle.dt_live.proofs.StandingRows.{same-node}
+use Rattle.dt_resolve.specs.declared.node_phandles.NodePhandle.{NodePhandle}
+use Rattle.dt_resolve.specs.declared.prepared.Prepared.{Prepared}
+use Rattle.dt_resolve.specs.NodePhandles.{path_phandle_of}
+use Rattle.dt_resolve.proofs.PathPhandles.{EachStands, each-assigned}
+use Rattle.dt_build.specs.Private.Made.{all_phandles, new_phandles}
+use Rattle.dt_build.specs.Private.FirstPhandle.{first_phandle}
+use Rattle.dt_build.specs.Private.Ready.{IsReady}
+
+module _ (rows : List NodeRow) (index : Found) (grown : IsGrown rows) (indexed : IsNodeIndex rows index) where
+  one-by : (x : NodePhandle) (first : ℕ) (xs : List PathPhandle) (k : ℕ) (b : Bool) → to_be_bytes w32 first ≡ to_be_bytes w32 (phandle_of xs (path_of rows k))
+      → to_be_bytes w32 (if b then x.phandle else first) ≡ to_be_bytes w32 (if b then x.phandle else phandle_of xs (path_of rows k))
+  one-by x first xs k true e = refl
+  one-by x first xs k false e = e
+
+  -- in front of other numbers
+  pub first-is : (xs : List NodePhandle) → EachStands rows (map (λ x. x.node) xs) → (k d : ℕ) (ys : List PathPhandle) → stands rows k ≡ true
+      → to_be_bytes w32 d ≡ to_be_bytes w32 (phandle_of ys (path_of rows k))
+      → to_be_bytes w32 (first_phandle xs k d) ≡ to_be_bytes w32 (phandle_of (map (path_phandle_of rows) xs ++ ys) (path_of rows k))
+  first-is [] each k d ys up e = e
+  first-is (x ∷ xs) each k d ys up e =
+      one-by x (first_phandle xs k d) (map (path_phandle_of rows) xs ++ ys) k (k == x.node) (first-is xs each.1 k d ys up e)
+      ∙ ap (λ b. to_be_bytes w32 (if b then x.phandle else phandle_of (map (path_phandle_of rows) xs ++ ys) (path_of rows k))) (sym (same-node rows index grown indexed k x.node up each.0))
+
+-- ---- of a source that is prepared
+module _ (p : Prepared) (ready : IsReady p) (k : ℕ) (up : is_standing p.live k ≡ true) where
+  new-is : to_be_bytes w32 (first_phandle p.resolution.new.items k 4294967295) ≡ to_be_bytes w32 (phandle_of (new_phandles p) (node_path p.live k))
+  new-is =
+      first-is p.live.nodes.items (row_of p.live.node_rows) ready.sound.grown ready.sound.nodes p.resolution.new.items (each-assigned p.live.nodes.items p.resolution.new.items ready.new.stand) k 4294967295 [] up refl
+      ∙ ap (λ ys. to_be_bytes w32 (phandle_of ys (node_path p.live k))) (append-nil (new_phandles p))
+
+  pub number-is : (n m : ℕ) → n ≡ first_phandle p.resolution.given.phandles.items k m → m ≡ first_phandle p.resolution.new.items k 4294967295
+      → to_be_bytes w32 n ≡ to_be_bytes w32 (phandle_of (all_phandles p) (node_path p.live k))
+  number-is n m a b =
+      ap (to_be_bytes w32) (a ∙ ap (first_phandle p.resolution.given.phandles.items k) b)
+      ∙ first-is p.live.nodes.items (row_of p.live.node_rows) ready.sound.grown ready.sound.nodes p.resolution.given.phandles.items
+      (each-assigned p.live.nodes.items p.resolution.given.phandles.items ready.given.stand) k (first_phandle p.resolution.new.items k 4294967295) (new_phandles p) up new-is

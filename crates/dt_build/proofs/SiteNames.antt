@@ -1,0 +1,95 @@
+-- The places of phandles are at nodes of the tree, and their names and labels are names.
+use Rattle.std.proofs.Common.{◌≡◌, ◌+◌, ℕ, Bool, true, false, List, [], ◌∷◌, length, map, Option, sym, subst}
+use Rattle.std.specs.Prelude.{All}
+use Rattle.dt_meaning.specs.Paths.{Path, is_listed}
+use Rattle.dt_meaning.specs.Edits.{Definition}
+use Rattle.dt_meaning.specs.References.{Found, Bytes, Cell, Open, PathText, in_order}
+use Rattle.dt_meaning.specs.Phandles.{PathPhandle}
+use Rattle.dt_meaning.specs.Fixups.{Site, bytes_of, label_found, sites, sites_in}
+use Rattle.dt_meaning.specs.Resolved.{when}
+use Rattle.dt_edit.specs.Said.{tree_of}
+use Rattle.dt_live.proofs.Each.{Each, each-append, each-flat, each-more, each-of, each-same}
+use Rattle.dt_resolve.specs.declared.prepared.Prepared.{Prepared}
+use Rattle.dt_build.specs.Private.Made.{all_phandles, founds, made_sites}
+use Rattle.dt_build.specs.Private.Ready.{IsNamedFound, IsReady}
+use Rattle.dt_build.proofs.ApartLists.{each-from}
+use Rattle.dt_build.proofs.ApartPhandles.{bare, keys-found}
+use Rattle.dt_build.proofs.FixupLists.{IsOfLabel}
+use Rattle.dt_build.proofs.FoundNames.{each-walked}
+use Rattle.dt_build.proofs.ListsOfPrepared.{walk-there}
+use Rattle.dt_build.proofs.NamedSources.{IsName}
+
+-- ---- what is true of the path and the name of each property, and of the labels in it
+module _ (ns : List PathPhandle) (P : Site → Type 0) where
+  one-place : (p : Path) (n : List ℕ) (at : ℕ) (ls : List (Option (List ℕ))) → Each (λ l. P (record { label = l; path = p; name = n; offset = at })) ls
+      → Each P (map (λ l. record { label = l; path = p; name = n; offset = at }) ls)
+  one-place p n at [] h = tt
+  one-place p n at (l ∷ ls) h = (h.0, one-place p n at ls h.1)
+
+  sites_in-each : (p : Path) (n : List ℕ) (at : ℕ) (fs : List Found) → Each (λ f. Each (λ l. (k : ℕ) → P (record { label = l; path = p; name = n; offset = k })) (label_found f)) fs
+      → Each P (sites_in ns p n at fs)
+  sites_in-each p n at [] h = tt
+  sites_in-each p n at (f ∷ fs) h =
+      each-append P (map (λ l. record { label = l; path = p; name = n; offset = at }) (label_found f)) (sites_in ns p n (at + length (bytes_of ns f)) fs)
+      (one-place p n at (label_found f)
+      (each-more (λ l. (k : ℕ) → P (record { label = l; path = p; name = n; offset = k })) (λ l. P (record { label = l; path = p; name = n; offset = at })) (label_found f) (λ l k. k at) h.0))
+      (sites_in-each p n (at + length (bytes_of ns f)) fs h.1)
+
+  pub sites-each : (es : List (Definition (List Found))) → Each (λ e. Each (λ f. Each (λ l. (k : ℕ) → P (record { label = l; path = e.path; name = e.name; offset = k })) (label_found f)) e.value) es
+      → Each P (sites ns es)
+  sites-each es h =
+      each-flat (λ e. Each (λ f. Each (λ l. (k : ℕ) → P (record { label = l; path = e.path; name = e.name; offset = k })) (label_found f)) e.value) P
+      (λ e. sites_in ns e.path e.name 0 e.value) es (λ e k. sites_in-each e.path e.name 0 e.value k) h
+
+every : {A : Type 0} (P : A → Type 0) (xs : List A) → ((x : A) → P x) → Each P xs
+every P [] h = tt
+every P (x ∷ xs) h = (h x, every P xs h)
+
+pub sites-so : (ns : List PathPhandle) (Q : Path → List ℕ → Type 0) (es : List (Definition (List Found))) → Each (λ e. Q e.path e.name) es → Each (λ x. Q x.path x.name) (sites ns es)
+sites-so ns Q es h =
+    sites-each ns (λ x. Q x.path x.name) es
+    (each-more (λ e. Q e.path e.name) (λ e. Each (λ f. Each (λ l. (k : ℕ) → Q e.path e.name) (label_found f)) e.value) es
+    (λ e q. every (λ f. Each (λ l. (k : ℕ) → Q e.path e.name) (label_found f)) e.value (λ f. every (λ l. (k : ℕ) → Q e.path e.name) (label_found f) (λ l k. q))) h)
+
+label-named : (f : Found) → IsNamedFound f → Each (λ l. (k : ℕ) → IsOfLabel IsName l) (label_found f)
+label-named (Open l) h = ((λ k. h), tt)
+label-named (Cell p) h = ((λ k. tt), tt)
+label-named (Bytes b) h = tt
+label-named (PathText p) h = tt
+
+pub sites-labelled : (ns : List PathPhandle) (es : List (Definition (List Found))) → Each (λ e. Each IsNamedFound e.value) es → Each (λ x. IsOfLabel IsName x.label) (sites ns es)
+sites-labelled ns es h =
+    sites-each ns (λ x. IsOfLabel IsName x.label) es
+    (each-more (λ e. Each IsNamedFound e.value) (λ e. Each (λ f. Each (λ l. (k : ℕ) → IsOfLabel IsName l) (label_found f)) e.value) es
+    (λ e k. each-more IsNamedFound (λ f. Each (λ l. (j : ℕ) → IsOfLabel IsName l) (label_found f)) e.value label-named k) h)
+
+-- ---- of a source that is prepared
+each-when : {A : Type 0} (P : A → Type 0) (b : Bool) (xs : List A) → Each P xs → Each P (when b xs)
+each-when P true xs h = h
+each-when P false xs h = tt
+
+module _ (p : Prepared) (ready : IsReady p) where
+  founds-labelled : Each (λ e. Each IsNamedFound e.value) (founds p)
+  founds-labelled =
+      each-more (λ e. All IsNamedFound e.value) (λ e. Each IsNamedFound e.value) (founds p) (λ e k. each-of IsNamedFound e.value k) (each-of (λ e. All IsNamedFound e.value) (founds p) ready.named.elsewhere)
+
+  founds-names : Each (λ e. IsName e.name) (founds p)
+  founds-names =
+      let s = tree_of p.live in
+      each-from (λ e. IsName e.name) bare (founds p)
+      (subst (Each (λ e. IsName e.name)) (sym (keys-found p.plugin s (in_order s) (founds p) ready.found))
+      (each-same (λ e. IsName e.name) bare (in_order s) (each-walked (λ e. IsName e.name) s (each-of (λ e. IsName e.name) s.properties ready.named.properties))))
+
+  -- the label of a place is a name
+  pub made-labelled : Each (λ x. IsOfLabel IsName x.label) (made_sites p)
+  made-labelled = each-when (λ x. IsOfLabel IsName x.label) p.plugin (sites (all_phandles p) (founds p)) (sites-labelled (all_phandles p) (founds p) founds-labelled)
+
+  -- so is the property's
+  pub made-names : Each (λ x. IsName x.name) (made_sites p)
+  made-names = each-when (λ x. IsName x.name) p.plugin (sites (all_phandles p) (founds p)) (sites-so (all_phandles p) (λ q n. IsName n) (founds p) founds-names)
+
+  -- and its node is one of the tree
+  pub made-nodes : Each (λ x. is_listed x.path ([] ∷ (tree_of p.live).nodes) ≡ true) (made_sites p)
+  made-nodes =
+      each-when (λ x. is_listed x.path ([] ∷ (tree_of p.live).nodes) ≡ true) p.plugin (sites (all_phandles p) (founds p))
+      (sites-so (all_phandles p) (λ q n. is_listed q ([] ∷ (tree_of p.live).nodes) ≡ true) (founds p) (walk-there (tree_of p.live).nodes ready.standing (founds p) ready.walked))

@@ -1,0 +1,17 @@
+use Rattle.std.proofs.Common.{◌≡◌, ◌≤◌, ◌||◌, ℕ, true, false, length, slice_index_or}
+use Rattle.dt_meaning.specs.Paths.{is_listed}
+use Rattle.dt_meaning.specs.Resolved.{fronts}
+use Rattle.dt_live.specs.Rows.{is_standing, node_path}
+use Rattle.dt_build.proofs.local_nodes.mark.Given as goal
+
+abbrev pub invariant-up : goal.invariant-up
+invariant-up l = record {
+  known : l.at ≤ length l.prepared.live.nodes.items;
+  there : is_standing l.prepared.live l.at ≡ true;
+  count : length l.marks.items ≡ length l.fn.marks.items;
+  marks : (k : ℕ) → is_standing l.prepared.live k ≡ true → (slice_index_or l.marks.items k false || is_listed (node_path l.prepared.live k) (fronts (node_path l.prepared.live l.at)))
+      ≡ (slice_index_or l.fn.marks.items k false || is_listed (node_path l.prepared.live k) (fronts (node_path l.prepared.live l.fn.node)));
+}
+
+abbrev pub decreases-up : goal.decreases-up
+decreases-up l = l.at

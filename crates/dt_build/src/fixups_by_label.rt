@@ -1,0 +1,179 @@
+//! A plugin's fixups by label.
+ghost use Rattle.std.specs.Prelude.{◌≡◌, ◌<◌, ◌++◌, [], IfOk, IfSome, OnOk, Some, length};
+ghost use Rattle.dt_meaning.specs.Fixups.{appended, fixups, site_text};
+ghost use Rattle.dt_live.specs.Rows.{IsNode, node_path};
+ghost use Rattle.dt_build.specs.Private.ByLabel.{AreFine, AreIndexed, fixups_path, given, index_of};
+ghost use Rattle.dt_build.specs.Private.Made.{made_sites};
+ghost use Rattle.dt_build.specs.Private.Ready.{IsReady};
+ghost use Rattle.dt_build.specs.Private.FixupSites.{site_of, site_list};
+
+use crate::digits::append_digits;
+use crate::fixup_sites::{FixupSite, site_at, walk_behind, whole_walk};
+use crate::fixups::text_size;
+use dt_live::append_path;
+use dt_resolve::Prepared;
+use std::alloc::{AllocError, Global};
+use std::collections::BTreeMap;
+
+/// A label that no node of the source has, and the texts of its sites.
+#[derive(Drop)]
+pub(crate) struct LabelFixups<'d> {
+    pub(crate) label: &'d [u8],
+    pub(crate) text: Vec<u8>,
+}
+
+/// The labels in order of first reference, and the index of each among them.
+#[derive(Drop)]
+pub(crate) struct FixupsByLabel<'d> {
+    pub(crate) labels: Vec<LabelFixups<'d>>,
+    pub(crate) slots: BTreeMap<&'d [u8], usize>,
+}
+
+// Counts the text of a site among those of its label, where it has one.
+fn count_site<'d>(
+    sizes: &mut BTreeMap<&'d [u8], usize>,
+    prepared: &Prepared<'_, '_>,
+    site: Option<FixupSite<'d>>,
+) -> Result<(), AllocError>
+    requires ready { IsReady prepared.now }
+    requires known { IfSome site (λ s. IsNode prepared.now.live s.node) }
+{
+    let size = text_size(prepared, site);
+    let site = match site {
+        Some(site) => site,
+        None => return Ok(()),
+    };
+    let label = match site.label {
+        Some(label) => label,
+        None => return Ok(()),
+    };
+    let sum = room_of(sizes, label).saturating_add(size);
+    sizes.insert(label, sum)?;
+    Ok(())
+}
+
+// How long the texts of each label are together: room is taken once for them.
+fn label_sizes<'d>(
+    alloc: Global,
+    prepared: &Prepared<'d, 'd>,
+) -> Result<BTreeMap<&'d [u8], usize>, AllocError>
+    requires { IsReady prepared.now }
+{
+    let mut sizes = BTreeMap::new(alloc);
+    let mut at = whole_walk(prepared);
+    while !at.properties.is_empty() {
+        count_site(&mut sizes, prepared, site_at(prepared, at))?;
+        at = walk_behind(prepared, at);
+    }
+    Ok(sizes)
+}
+
+fn room_of<'d>(sizes: &BTreeMap<&'d [u8], usize>, label: &'d [u8]) -> usize {
+    match sizes.get(&label) {
+        Some(size) => *size,
+        None => 0,
+    }
+}
+
+// The index of a label's fixups, which are begun where there are none.
+fn index_of_label<'d>(
+    alloc: Global,
+    by_label: &mut FixupsByLabel<'d>,
+    label: &'d [u8],
+    room: usize,
+) -> Result<usize, AllocError>
+    requires { AreIndexed by_label.old }
+    ensures indexed { OnOk result (AreIndexed by_label.new) }
+    ensures given { OnOk result (given by_label.new.labels.items ≡ appended fixups_path label.now [] (given by_label.old.labels.items)) }
+    ensures slot { IfOk result (λ slot. index_of label.now by_label.new.labels.items ≡ Some slot) }
+    ensures within { IfOk result (λ slot. slot < length by_label.new.labels.items) }
+{
+    if let Some(slot) = by_label.slots.get(&label) {
+        return Ok(*slot);
+    }
+    let slot = by_label.labels.len();
+    by_label.slots.insert(label, slot)?;
+    let text = Vec::with_capacity(alloc, room)?;
+    by_label.labels.push(LabelFixups { label, text })?;
+    Ok(slot)
+}
+
+// Puts the text of a site behind others.
+fn append_text(
+    text: &mut Vec<u8>,
+    prepared: &Prepared<'_, '_>,
+    site: &FixupSite<'_>,
+) -> Result<(), AllocError>
+    requires ready { IsReady prepared.now }
+    requires known { IsNode prepared.now.live site.now.node }
+    ensures { OnOk result (text.new.items ≡ text.old.items ++ site_text (site_of (node_path prepared.now.live) site.now)) }
+{
+    append_path(text, prepared.live.nodes(), site.node)?;
+    // its zero byte
+    text.pop();
+    text.push(b':')?;
+    text.extend_from_slice(site.name)?;
+    text.push(b':')?;
+    append_digits(text, site.offset)?;
+    text.push(0)?;
+    Ok(())
+}
+
+// Puts a site among the fixups of its label, where it has one.
+fn put_site<'d>(
+    alloc: Global,
+    prepared: &Prepared<'_, '_>,
+    sizes: &BTreeMap<&'d [u8], usize>,
+    by_label: &mut FixupsByLabel<'d>,
+    site: Option<FixupSite<'d>>,
+) -> Result<(), AllocError>
+    requires ready { IsReady prepared.now }
+    requires known { IfSome site (λ s. IsNode prepared.now.live s.node) }
+    requires indexed { AreIndexed by_label.old }
+    ensures indexed { OnOk result (AreIndexed by_label.new) }
+    ensures given { OnOk result (given by_label.new.labels.items ≡ fixups (site_list (node_path prepared.now.live) site.entry) (given by_label.old.labels.items)) }
+    ensures fine { OnOk result (AreFine (site_list (node_path prepared.now.live) site.entry)) }
+{
+    let site = match site {
+        Some(site) => site,
+        None => return Ok(()),
+    };
+    let label = match site.label {
+        Some(label) => label,
+        None => return Ok(()),
+    };
+    // values of 2^64 bytes don't fit into memory
+    if site.offset == usize::MAX {
+        return Err(AllocError);
+    }
+    let slot = index_of_label(alloc, by_label, label, room_of(sizes, label))?;
+    append_text(&mut by_label.labels[slot].text, prepared, &site)?;
+    Ok(())
+}
+
+/// All fixups by label, in order of first reference.
+pub(crate) fn collect_by_label<'d>(
+    alloc: Global,
+    prepared: &Prepared<'d, 'd>,
+) -> Result<FixupsByLabel<'d>, AllocError>
+    requires { IsReady prepared.now }
+    ensures { IfOk result (λ by_label. given by_label.labels.items ≡ fixups (made_sites prepared.now) []) }
+{
+    let sizes = label_sizes(alloc, prepared)?;
+    let mut by_label = FixupsByLabel {
+        labels: Vec::new(alloc),
+        slots: BTreeMap::new(alloc),
+    };
+    let mut at = whole_walk(prepared);
+    while !at.properties.is_empty() {
+        put_site(
+            alloc,
+            prepared,
+            &sizes,
+            &mut by_label,
+            site_at(prepared, at),
+        )?;
+        at = walk_behind(prepared, at);
+    }
+    Ok(by_label)
+}

@@ -1,0 +1,125 @@
+//! The local fixups of a plugin's nodes below the root's child `__local_fixups__`.
+ghost use Rattle.std.specs.Prelude.{◌≡◌, ◌+◌, ◌||◌, ◌∷◌, ℕ, [], true, false, All, IfOk, length, map, replicate, slice_index_or};
+ghost use Rattle.std.specs.List.{list_any};
+ghost use Rattle.dt_meaning.specs.Names.{local_fixups_name};
+ghost use Rattle.dt_meaning.specs.Fixups.{local_fixups};
+ghost use Rattle.dt_meaning.specs.Paths.{is_listed};
+ghost use Rattle.dt_meaning.specs.References.{held};
+ghost use Rattle.dt_meaning.specs.Resolved.{fronts, is_too_deep, names_taken};
+ghost use Rattle.dt_live.specs.Rows.{is_standing, node_path};
+ghost use Rattle.dt_edit.specs.Said.{tree_of};
+ghost use Rattle.dt_tree_builder.specs.Lists.{defined_at};
+ghost use Rattle.dt_tree_builder.specs.Builders.{built_lists, last_path};
+ghost use Rattle.dt_tree_builder.specs.Standing.{walked};
+ghost use Rattle.dt_build.specs.Private.Made.{fixup_lists, lists, made_sites};
+ghost use Rattle.dt_build.specs.Private.LocalFixups.{IsAtNode, local_definitions, local_path};
+ghost use Rattle.dt_build.specs.Private.Ready.{IsReady};
+
+use crate::local_properties::{LocalFixup, local_properties};
+use dt_resolve::Prepared;
+use dt_tree::{Property, lawful_name};
+use dt_tree_builder::TreeBuilder;
+use std::alloc::{AllocError, Global};
+use std::mem;
+
+// Marks a node and all above it but the root.
+fn mark(marks: &mut Vec<bool>, prepared: &Prepared<'_, '_>, node: usize)
+    requires ready { IsReady prepared.now }
+    requires node { IsAtNode prepared.now node }
+    requires count { length marks.old.items ≡ length prepared.now.live.nodes.items + 1 }
+    ensures count { length marks.new.items ≡ length marks.old.items }
+    ensures marks { (k : ℕ) → is_standing prepared.now.live k ≡ true → slice_index_or marks.new.items k false ≡ (slice_index_or marks.old.items k false || is_listed (node_path prepared.now.live k) (fronts (node_path prepared.now.live node))) }
+{
+    let rows = prepared.live.nodes();
+    let mut at = node;
+    'up: while at != 0 {
+        marks[at] = true;
+        at = rows[at - 1].parent;
+    }
+}
+
+// Whether each node but the root, or one below it, is that of a local fixup.
+fn local_marks(
+    alloc: Global,
+    prepared: &Prepared<'_, '_>,
+    locals: &[LocalFixup],
+) -> Result<Vec<bool>, AllocError>
+    requires ready { IsReady prepared.now }
+    requires nodes { All (λ x. IsAtNode prepared.now x.node) locals.now }
+    ensures count { IfOk result (λ marks. length marks.items ≡ length prepared.now.live.nodes.items + 1) }
+    ensures marks { IfOk result (λ marks. (k : ℕ) → is_standing prepared.now.live k ≡ true → slice_index_or marks.items k false ≡ list_any (λ x. is_listed (node_path prepared.now.live k) (fronts (node_path prepared.now.live x.node))) locals.now) }
+{
+    let mut marks = vec![in alloc; false; prepared.live.nodes().len() + 1]?;
+    for one in locals {
+        mark(&mut marks, prepared, one.node);
+    }
+    Ok(marks)
+}
+
+// An empty list for each.
+fn empty_lists(alloc: Global, count: usize) -> Result<Vec<Vec<Property>>, AllocError>
+    ensures { IfOk result (λ lists. map (λ list. list.items) lists.items ≡ replicate count []) }
+{
+    let mut lists = Vec::with_capacity(alloc, count)?;
+    for _ in 0..count {
+        lists.push(Vec::new(alloc))?;
+    }
+    Ok(lists)
+}
+
+// The local fixups of each node.
+fn local_lists(
+    alloc: Global,
+    prepared: &Prepared<'_, '_>,
+    locals: Vec<LocalFixup>,
+) -> Result<Vec<Vec<Property>>, AllocError>
+    requires ready { IsReady prepared.now }
+    requires nodes { All (λ x. IsAtNode prepared.now x.node) locals.items }
+    ensures count { IfOk result (λ lists. length lists.items ≡ length prepared.now.live.nodes.items + 1) }
+    ensures lists { IfOk result (λ lists. (k : ℕ) → is_standing prepared.now.live k ≡ true → defined_at (local_path (node_path prepared.now.live k)) (slice_index_or (map (λ list. list.items) lists.items) k []) ≡ held (local_definitions (node_path prepared.now.live) locals.items) (local_path (node_path prepared.now.live k))) }
+{
+    let mut lists = empty_lists(alloc, prepared.live.nodes().len() + 1)?;
+    for one in locals {
+        lists[one.node].push(one.property)?;
+    }
+    Ok(lists)
+}
+
+/// The tree with the local fixups behind all other nodes, where the plugin has a phandle of its own in cells.
+pub(crate) fn with_local_fixups(
+    alloc: Global,
+    prepared: &Prepared<'_, '_>,
+    symbols: bool,
+    builder: TreeBuilder,
+) -> Result<TreeBuilder, AllocError>
+    requires ready { IsReady prepared.now }
+    requires free { names_taken symbols prepared.now.plugin (tree_of prepared.now.live) ≡ false }
+    requires shallow { list_any is_too_deep (lists symbols prepared.now).nodes ≡ false }
+    requires made { built_lists builder ≡ walked (fixup_lists symbols prepared.now) }
+    ensures { IfOk result (λ whole. built_lists whole ≡ walked (lists symbols prepared.now)) }
+{
+    if !prepared.plugin {
+        return Ok(builder);
+    }
+    let locals = local_properties(alloc, prepared)?;
+    if locals.is_empty() {
+        return Ok(builder);
+    }
+    let marks = local_marks(alloc, prepared, locals.as_slice())?;
+    let mut lists = local_lists(alloc, prepared, locals)?;
+    let name = lawful_name(alloc, b"__local_fixups__".as_slice())?;
+    let properties = mem::replace(&mut lists[0], Vec::new(alloc));
+    let mut builder = builder.push(alloc, 1, name, properties)?;
+    let mut place = 1;
+    'each: while place < prepared.in_preorder.nodes.len() {
+        let node = prepared.in_preorder.nodes[place];
+        if marks[node] {
+            let name = lawful_name(alloc, prepared.live.nodes()[node - 1].name)?;
+            let properties = mem::replace(&mut lists[node], Vec::new(alloc));
+            let depth = prepared.live.depth(node) + 1;
+            builder = builder.push(alloc, depth, name, properties)?;
+        }
+        place += 1;
+    }
+    Ok(builder)
+}

@@ -1,0 +1,44 @@
+//! The phandle of each node.
+ghost use Rattle.std.specs.Prelude.{◌≡◌, ◌<◌, ℕ, All, length, slice_index_or, IfOk};
+ghost use Rattle.dt_build.specs.Private.FirstPhandle.{first_phandle};
+ghost use Rattle.dt_build.specs.Private.Cursors.{AreNodePhandles};
+ghost use Rattle.dt_build.specs.Private.Ready.{IsReady};
+
+use dt_resolve::{NodePhandle, Prepared, nodes_with_phandles};
+use std::alloc::{AllocError, Global};
+
+/// The phandle of each node, the number that is no phandle where it has none; and whether it is a new one.
+#[derive(Drop)]
+pub(crate) struct NodePhandles {
+    pub(crate) phandles: Vec<u32>,
+    pub(crate) new: Vec<bool>,
+}
+
+// Writes the phandles from last to first, so that a node keeps its first one.
+fn put_phandles(phandles: &mut Vec<u32>, list: &[NodePhandle])
+    requires { All (λ x. x.node < length phandles.old.items) list.now }
+    ensures count { length phandles.new.items ≡ length phandles.old.items }
+    ensures list { (n : ℕ) → slice_index_or phandles.new.items n 0 ≡ first_phandle list.now n (slice_index_or phandles.old.items n 0) }
+{
+    let mut left = list.len();
+    'back: while left > 0 {
+        left -= 1;
+        let one = list[left];
+        phandles[one.node] = one.phandle;
+    }
+}
+
+/// The phandles of all nodes.
+pub(crate) fn number(alloc: Global, prepared: &Prepared<'_, '_>) -> Result<NodePhandles, AllocError>
+    requires { IsReady prepared.now }
+    ensures { IfOk result (λ node_phandles. AreNodePhandles prepared.now node_phandles) }
+{
+    let count = prepared.live.nodes().len() + 1;
+    let given = prepared.resolution.given.phandles.as_slice();
+    let added = prepared.resolution.new.as_slice();
+    let new = nodes_with_phandles(alloc, count, added)?;
+    let mut phandles = vec![in alloc; u32::MAX; count]?;
+    put_phandles(&mut phandles, added);
+    put_phandles(&mut phandles, given);
+    Ok(NodePhandles { phandles, new })
+}

@@ -1,0 +1,63 @@
+//! Operators that wait for their second operand while what binds more tightly is read.
+ghost use Rattle.std.specs.Prelude.{◌≡◌, ◌≢◌, ◌≤◌, ◌-◌, ℕ, Some, None, slice_index_or};
+ghost use Rattle.dt_expression.specs.ReadingOperators.{joined, joined_up_to, NothingUpTo};
+
+use crate::value::both;
+use dt_lexeme::{Fault, Lexeme};
+
+/// An operator, and the value of what stands before it.
+#[derive(Clone, Copy)]
+pub(crate) struct Begun {
+    pub(crate) operator: Lexeme,
+    pub(crate) left: Result<u64, Fault>,
+}
+
+fn joined(begun: Option<Begun>, right: Result<u64, Fault>) -> Result<u64, Fault>
+    ensures { result ≡ joined begun right }
+{
+    match begun {
+        Some(begun) => both(begun.operator, begun.left, right),
+        None => right,
+    }
+}
+
+/// The operators that wait: one of a rank at most, since each ends those before it that bind as tightly or more.
+#[derive(Clone, Copy)]
+pub(crate) struct Waiting {
+    pub(crate) of_rank: [Option<Begun>; 10],
+}
+
+impl Waiting {
+    pub(crate) fn none() -> Waiting
+        ensures { NothingUpTo result.of_rank 10 }
+    {
+        Waiting {
+            of_rank: [None; 10],
+        }
+    }
+
+    /// Ends those up to this rank with the operand behind them, the tightest first.
+    pub(crate) fn end_up_to(&mut self, rank: u8, operand: Result<u64, Fault>) -> Result<u64, Fault>
+        requires { rank ≤ 10 }
+        ensures value { result ≡ joined_up_to self.old.of_rank rank operand }
+        ensures ended { NothingUpTo self.new.of_rank rank }
+        ensures others { (k : ℕ) → rank ≤ k → slice_index_or self.new.of_rank k None ≡ slice_index_or self.old.of_rank k None }
+    {
+        let mut value = operand;
+        for place in 0..rank as usize {
+            value = joined(self.of_rank[place], value);
+            self.of_rank[place] = None;
+        }
+        value
+    }
+
+    /// Has an operator of this rank wait.
+    pub(crate) fn put(&mut self, rank: u8, operator: Lexeme, left: Result<u64, Fault>)
+        requires some { 1 ≤ rank }
+        requires most { rank ≤ 10 }
+        ensures begun { slice_index_or self.new.of_rank (rank - 1) None ≡ Some (record { operator = operator; left = left }) }
+        ensures others { (k : ℕ) → k ≢ rank - 1 → slice_index_or self.new.of_rank k None ≡ slice_index_or self.old.of_rank k None }
+    {
+        self.of_rank[rank as usize - 1] = Some(Begun { operator, left });
+    }
+}

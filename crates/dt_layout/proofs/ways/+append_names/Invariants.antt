@@ -1,4 +1,0 @@
-use Rattle.dt_layout.proofs.ways.+append_names.Given as goal
-
-abbrev pub decreases-append_names : goal.decreases-append_names
-decreases-append_names l = l.node

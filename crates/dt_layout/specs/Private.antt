@@ -1,3 +1,0 @@
--- What private contracts cite: how far the code has come. No public clause rests on it.
-pub mod Lists
-pub mod Walks

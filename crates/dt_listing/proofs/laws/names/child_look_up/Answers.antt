@@ -1,7 +1,0 @@
-use Rattle.std.proofs.Common.{refl}
-use Rattle.dt_draft.specs.Rows.{child_of}
-use Rattle.dt_listing.proofs.LookUps.{child-found}
-use Rattle.dt_listing.proofs.laws.names.child_look_up.Goals as goal
-
-pub returns : goal.returns
-returns c = λ d whole n k known. child-found d whole n k known (child_of d n k) refl

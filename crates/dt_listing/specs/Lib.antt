@@ -1,4 +1,0 @@
-pub mod ByRow
-pub mod Listed
-pub mod Private
-pub mod Runs

@@ -1,0 +1,5 @@
+-- What private contracts cite: how far the code has come. No public clause rests on it.
+pub mod Flattening
+pub mod Following
+pub mod Lists
+pub mod Walks

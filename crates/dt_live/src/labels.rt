@@ -1,0 +1,106 @@
+//! The labels of nodes.
+ghost use Rattle.std.specs.Prelude.{◌≡◌, true, map, Ok, Err, Some, None, IfSome, OnOk, IsErrOf, MatchOption};
+ghost use Rattle.dt_meaning.specs.Edits.{label_path};
+ghost use Rattle.dt_meaning.specs.Statements as meaning;
+ghost use Rattle.dt_live.specs.Rows.{HasSameChildStamps, HasSameNodes, HasSamePropertyStamps, IsLiveTree, IsNode, is_standing, node_path, state_of};
+
+use crate::live_tree::{LabelRow, LiveTree};
+use std::alloc::{AllocError, AllocFailed};
+
+/// Why a label wasn't given.
+#[derive(Debug, Clone, Copy, PartialEq, Eq, Drop)]
+pub enum LabelError {
+    NoMemory,
+    DuplicateLabel,
+}
+
+impl From<AllocError> for LabelError {
+    ghost use Rattle.std.specs.Prelude.{◌≡◌};
+    ghost use Rattle.dt_live.specs.declared.labels.LabelError.TheVariants.{NoMemory};
+
+    ghost from_gives = { λ _ e. e ≡ NoMemory };
+
+    fn from(_e: AllocError) -> LabelError {
+        LabelError::NoMemory
+    }
+}
+
+impl<T: Drop> From<AllocFailed<T>> for LabelError {
+    ghost use Rattle.std.specs.Prelude.{◌≡◌};
+    ghost use Rattle.dt_live.specs.declared.labels.LabelError.TheVariants.{NoMemory};
+
+    ghost from_gives = { λ _ e. e ≡ NoMemory };
+
+    fn from(_e: AllocFailed<T>) -> LabelError {
+        LabelError::NoMemory
+    }
+}
+
+impl<'d, V: Copy> LiveTree<'d, V> {
+    /// The node that has this label.
+    pub fn labelled(&self, label: &'d [u8]) -> Option<usize>
+        requires sound { IsLiveTree self.now }
+        ensures path { MatchOption result (label_path label.now (state_of self.now).labels ≡ None) (λ node. label_path label.now (state_of self.now).labels ≡ Some (node_path self.now node)) }
+        ensures known { IfSome result (λ node. IsNode self.now node) }
+        ensures there { IfSome result (λ node. is_standing self.now node ≡ true) }
+    {
+        match self.label_rows.get(0, label) {
+            None => None,
+            Some(row) => {
+                let node = self.labels[row].node;
+                if self.is_in_tree(node) {
+                    Some(node)
+                } else {
+                    None
+                }
+            }
+        }
+    }
+
+    /// Gives a label to a node, unless another one has it.
+    pub fn give_label(&mut self, label: &'d [u8], node: usize) -> Result<(), LabelError>
+        requires sound { IsLiveTree self.old }
+        requires known { IsNode self.old node }
+        requires stands { is_standing self.old node ≡ true }
+        ensures sound { OnOk result (IsLiveTree self.new) }
+        ensures kept { HasSameNodes self.old self.new }
+        ensures given { OnOk result (meaning.give_label label.now (node_path self.old node) (label_path label.now (state_of self.old).labels) (state_of self.old) ≡ Ok (state_of self.new)) }
+        ensures refused { IsErrOf result LabelError.DuplicateLabel → meaning.give_label label.now (node_path self.old node) (label_path label.now (state_of self.old).labels) (state_of self.old) ≡ Err meaning.DuplicateLabel }
+        ensures children { HasSameChildStamps self.old self.new }
+        ensures properties { HasSamePropertyStamps self.old self.new }
+        ensures count { self.new.stamps ≡ self.old.stamps }
+    {
+        match self.labelled(label) {
+            Some(other) => {
+                if other != node {
+                    return Err(LabelError::DuplicateLabel);
+                }
+            }
+            None => {
+                let row = self.labels.len();
+                self.labels.push(LabelRow { label, node })?;
+                self.label_rows.insert(0, label, row)?;
+            }
+        }
+        Ok(())
+    }
+
+    /// Gives labels to a node, in order, up to the first that another node has.
+    pub fn give_labels(&mut self, labels: &[&'d [u8]], node: usize) -> Result<(), LabelError>
+        requires sound { IsLiveTree self.old }
+        requires known { IsNode self.old node }
+        requires stands { is_standing self.old node ≡ true }
+        ensures sound { OnOk result (IsLiveTree self.new) }
+        ensures kept { HasSameNodes self.old self.new }
+        ensures given { OnOk result (meaning.give_labels (map (λ l. l.now) labels.now) (node_path self.old node) (state_of self.old) ≡ Ok (state_of self.new)) }
+        ensures refused { IsErrOf result LabelError.DuplicateLabel → meaning.give_labels (map (λ l. l.now) labels.now) (node_path self.old node) (state_of self.old) ≡ Err meaning.DuplicateLabel }
+        ensures children { HasSameChildStamps self.old self.new }
+        ensures properties { HasSamePropertyStamps self.old self.new }
+        ensures count { self.new.stamps ≡ self.old.stamps }
+    {
+        for label in labels {
+            self.give_label(*label, node)?;
+        }
+        Ok(())
+    }
+}

@@ -1,0 +1,14 @@
+use Rattle.std.proofs.Common.{subst}
+use Rattle.std.proofs.Common.{◌≡◌}
+use Rattle.std.specs.Prelude.{MatchResult, Ok}
+use Rattle.dt_meaning.specs.Resolved.{Resolved}
+use Rattle.dt_live.specs.Flattened.{lists}
+use Rattle.dt_overlay_meaning.specs.Shifted.{shifted_overlay}
+use Rattle.dt_fixup.specs.OverlayFault.{IsFault}
+use Rattle.dt_fixup.specs.PatchedOverlay.{patched_lists}
+use Rattle.dt_overlay.proofs.applying.patched_overlay.Goals as goal
+
+pub returns-clause-patched : goal.returns-clause-patched
+returns-clause-patched c =
+    subst (λ (over : Resolved). MatchResult c.shift.result (λ patched. shifted_overlay (lists c.args.rows.now) over ≡ Ok (patched_lists patched)) (λ e. IsFault e (shifted_overlay (lists c.args.rows.now) over)))
+    c.in_ok-over.ensures.lists c.shift.ensures.patched

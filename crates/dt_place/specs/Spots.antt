@@ -1,0 +1,26 @@
+-- What a lexeme names, and where it stands (Devicetree Specification v0.4, section 6.2).
+use Rattle.std.specs.Prelude.{◌≡◌, ℕ, ◌+◌, ◌-◌, ◌<◌, ◌≤◌, List, length, slice_get, slice_range, Some}
+use Rattle.dt_lexeme.specs.declared.lexeme.Lexeme.{Lexeme}
+use Rattle.dt_lexeme.specs.declared.lexeme.Kind.{Kind}
+use Rattle.dt_lexeme.specs.declared.lexeme.Kind.TheVariants.{Label, Reference, PathReference}
+use Rattle.dt_place.specs.declared.spot.Spot.{Spot}
+use Rattle.dt_place.specs.Positions.{site_at, site_of}
+
+-- A label without its colon, what a reference names without `&` and braces, or else the whole lexeme.
+abbrev pub name_between : Kind → List ℕ → ℕ → ℕ → List ℕ
+name_between Label text i j = slice_range text i (j - 1)
+name_between Reference text i j = slice_range text (i + 1) j
+name_between PathReference text i j = slice_range text (i + 2) (j - 1)
+name_between _ text i j = slice_range text i j
+
+abbrev pub name_in : List ℕ → Lexeme → List ℕ
+name_in text lexeme = name_between lexeme.kind text lexeme.start lexeme.end
+
+-- The spot is that of this lexeme: it lies inside the text, the name is the lexeme's, and file, line and column are
+-- those of its first byte.
+pub record IsSpot (text : List ℕ) (lexemes : List Lexeme) (index : ℕ) (spot : Spot) : Type 0 where
+  pub lexeme : slice_get lexemes index ≡ Some spot.lexeme
+  pub some : spot.lexeme.start < spot.lexeme.end
+  pub inside : spot.lexeme.end ≤ length text
+  pub name : spot.name.now ≡ name_in text spot.lexeme
+  pub site : site_of spot.position ≡ site_at text spot.lexeme.start

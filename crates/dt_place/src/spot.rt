@@ -1,0 +1,73 @@
+//! Lexemes with what they name and where they came from.
+ghost use Rattle.std.specs.Prelude.{◌≡◌, ◌≤◌, ◌<◌, IfSome, slice_get, slice_range, Some};
+ghost use Rattle.dt_place.specs.Spots.{IsSpot, name_in};
+
+use crate::position::{Position, position_of};
+use dt_lexeme::{Kind, Lexeme};
+
+/// A lexeme of a text: what it names, and where its first byte came from.
+#[derive(Clone, Copy, Debug)]
+pub struct Spot<'a> {
+    pub lexeme: Lexeme,
+    pub name: &'a [u8],
+    pub position: Position<'a>,
+}
+
+// The bytes between two places, as far as they are there.
+fn between(text: &[u8], start: usize, end: usize) -> &[u8]
+    ensures { result.now ≡ slice_range text.now start end }
+{
+    let end = end.min(text.len());
+    if start < end {
+        &text[start..end]
+    } else {
+        &text[..0]
+    }
+}
+
+/// What a lexeme names: a label without its colon, a reference's label or path, or else its bytes.
+pub fn named<'a>(text: &'a [u8], lexeme: Lexeme) -> &'a [u8]
+    ensures { result.now ≡ name_in text.now lexeme }
+{
+    let start = lexeme.start as usize;
+    let end = lexeme.end as usize;
+    match lexeme.kind {
+        Kind::Label => between(text, start, end.saturating_sub(1)),
+        Kind::Reference => between(text, start + 1, end),
+        Kind::PathReference => between(text, start + 2, end.saturating_sub(1)),
+        _ => between(text, start, end),
+    }
+}
+
+/// The spot of the lexeme with this index, if there is one and it lies inside the text.
+pub fn spot_of<'a>(text: &'a [u8], lexemes: &[Lexeme], index: usize) -> Option<Spot<'a>>
+    ensures { IfSome result (λ spot. IsSpot text.now lexemes.now index spot) }
+{
+    if index >= lexemes.len() {
+        return None;
+    }
+    let lexeme = lexemes[index];
+    if lexeme.start >= lexeme.end {
+        return None;
+    }
+    if lexeme.end as usize > text.len() {
+        return None;
+    }
+    Some(Spot {
+        lexeme,
+        name: named(text, lexeme),
+        position: position_of(text, lexeme.start as usize),
+    })
+}
+
+/// The index of the lexeme that a place of the text lies in.
+pub fn lexeme_at(lexemes: &[Lexeme], place: usize) -> Option<usize>
+    ensures { IfSome result (λ i. IfSome (slice_get lexemes.now i) (λ l. (l.start ≤ place) × (place < l.end))) }
+{
+    for (i, lexeme) in lexemes.iter().enumerate() {
+        if lexeme.start as usize <= place && place < lexeme.end as usize {
+            return Some(i);
+        }
+    }
+    None
+}

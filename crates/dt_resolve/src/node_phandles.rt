@@ -1,0 +1,97 @@
+//! The phandles that a source gives.
+ghost use Rattle.std.specs.Prelude.{true, ◌≡◌, ◌≤◌, ◌∷◌, ◌==◌, [], ℕ, not, All, map, length, Ok, IfOk, OnOk, MatchResult, ◌||◌};
+ghost use Rattle.dt_meaning.specs.Phandles.{given_of, has_phandle};
+ghost use Rattle.dt_live.specs.Rows.{IsGrown, stands};
+ghost use Rattle.dt_resolve.specs.BuildFault.{IsFault};
+ghost use Rattle.dt_resolve.specs.NodePhandles.{AreStanding, path_phandle_of};
+ghost use Rattle.dt_resolve.specs.Private.Wanted.{is_taken};
+ghost use Rattle.dt_resolve.specs.Private.ReadProperty.{read_property};
+
+use crate::error::BuildError;
+use crate::phandle::phandle_value;
+use dt_live::{NodeProperty, NodeRow, is_reserved};
+use dt_source::Part;
+use std::alloc::{AllocError, Global};
+use std::collections::BTreeSet;
+
+/// A node and its phandle.
+#[derive(Clone, Copy)]
+pub struct NodePhandle {
+    pub node: usize,
+    pub phandle: u32,
+}
+
+/// The phandles that properties give, in the order of the walk, and as a set.
+#[derive(Drop)]
+pub struct Given {
+    pub phandles: Vec<NodePhandle>,
+    pub taken: BTreeSet<u32>,
+}
+
+/// Adds a phandle, and answers whether it is new.
+fn take(taken: &mut BTreeSet<u32>, phandle: u32) -> Result<bool, AllocError>
+    ensures new { IfOk result (λ new. new ≡ not (is_taken taken.old phandle)) }
+    ensures taken { OnOk result ((n : ℕ) → is_taken taken.new n ≡ ((phandle == n) || is_taken taken.old n)) }
+{
+    Ok(taken.insert(phandle)?)
+}
+
+fn note<'d, 't>(
+    given: &mut Given,
+    nodes: &[NodeRow<'t>],
+    property: &NodeProperty<'d, &'d [Part<'t>]>,
+) -> Result<(), BuildError>
+    requires grown { IsGrown nodes.now }
+    requires known { property.now.node ≤ length nodes.now }
+    requires stands { stands nodes.now property.now.node ≡ true }
+    requires owners { AreStanding nodes.now given.old.phandles.items }
+    requires taken { (n : ℕ) → is_taken given.old.taken n ≡ has_phandle n (map (path_phandle_of nodes.now) given.old.phandles.items) }
+    ensures owners { OnOk result (AreStanding nodes.now given.new.phandles.items) }
+    ensures taken { OnOk result ((n : ℕ) → is_taken given.new.taken n ≡ has_phandle n (map (path_phandle_of nodes.now) given.new.phandles.items)) }
+    ensures step { MatchResult result (λ _. given_of (read_property nodes.now property.now ∷ []) (map (path_phandle_of nodes.now) given.old.phandles.items) ≡ Ok (map (path_phandle_of nodes.now) given.new.phandles.items)) (λ e. IsFault e (given_of (read_property nodes.now property.now ∷ []) (map (path_phandle_of nodes.now) given.old.phandles.items))) }
+{
+    if property.name != b"phandle".as_slice() {
+        return Ok(());
+    }
+    if is_reserved(nodes, property.node) {
+        return Ok(());
+    }
+    let phandle = match phandle_value(property.value) {
+        Some(phandle) => phandle,
+        None => return Err(BuildError::BadPhandle),
+    };
+    given.phandles.reserve(1)?;
+    if !take(&mut given.taken, phandle)? {
+        return Err(BuildError::DuplicatePhandle);
+    }
+    given.phandles.push(NodePhandle {
+        node: property.node,
+        phandle,
+    })?;
+    Ok(())
+}
+
+/// The phandles that the properties `phandle` give outside the reserved nodes.
+pub(crate) fn given_phandles<'d, 't>(
+    alloc: Global,
+    nodes: &[NodeRow<'t>],
+    properties: &[NodeProperty<'d, &'d [Part<'t>]>],
+) -> Result<Given, BuildError>
+    requires grown { IsGrown nodes.now }
+    requires known { All (λ x. x.node ≤ length nodes.now) properties.now }
+    requires stand { All (λ x. stands nodes.now x.node ≡ true) properties.now }
+    ensures owners { IfOk result (λ given. AreStanding nodes.now given.phandles.items) }
+    ensures taken { IfOk result (λ given. (n : ℕ) → is_taken given.taken n ≡ has_phandle n (map (path_phandle_of nodes.now) given.phandles.items)) }
+    ensures phandles { MatchResult result (λ given. given_of (map (read_property nodes.now) properties.now) [] ≡ Ok (map (path_phandle_of nodes.now) given.phandles.items)) (λ e. IsFault e (given_of (map (read_property nodes.now) properties.now) [])) }
+{
+    let mut given = Given {
+        phandles: Vec::new(alloc),
+        taken: BTreeSet::new(alloc),
+    };
+    for property in properties {
+        if let Err(error) = note(&mut given, nodes, property) {
+            return Err(error);
+        }
+    }
+    Ok(given)
+}

@@ -1,0 +1,288 @@
+//! The nodes, properties and labels that a text defined so far. Node 0 is the root.
+
+use dt_tree::MAX_DEPTH;
+use std::alloc::{AllocError, Global};
+use std::collections::{BTreeMap, BTreeSet};
+
+/// A name in a node.
+#[derive(Clone, Copy, PartialEq, Eq, PartialOrd, Ord, Drop)]
+pub(crate) struct Key<'t> {
+    pub node: usize,
+    pub name: &'t [u8],
+}
+
+/// A node: its first definition is this lexeme.
+#[derive(Clone, Copy)]
+pub(crate) struct Node<'t> {
+    pub parent: usize,
+    pub name: &'t [u8],
+    pub depth: usize,
+    pub lexeme: usize,
+    pub is_removed: bool,
+}
+
+/// A property: its last definition is this lexeme.
+#[derive(Clone, Copy)]
+pub(crate) struct Property<'t> {
+    pub node: usize,
+    pub name: &'t [u8],
+    pub lexeme: usize,
+    pub is_removed: bool,
+}
+
+/// A row, whether it is still there, and the body and lexeme that defined it last.
+#[derive(Clone, Copy, Drop)]
+pub(crate) struct Entry {
+    pub row: usize,
+    pub body: usize,
+    pub lexeme: usize,
+    is_there: bool,
+}
+
+// The row of an entry that is still there.
+fn standing(entry: Option<Entry>) -> Option<usize> {
+    match entry {
+        Some(entry) if entry.is_there => Some(entry.row),
+        _ => None,
+    }
+}
+
+// Where a body defined this before.
+fn defined_in(entry: Option<Entry>, body: usize) -> Option<usize> {
+    match entry {
+        Some(entry) if entry.body == body => Some(entry.lexeme),
+        _ => None,
+    }
+}
+
+/// The node that a label names, and the lexeme that says so.
+#[derive(Clone, Copy, Drop)]
+pub(crate) struct Labelled {
+    pub node: usize,
+    pub lexeme: usize,
+}
+
+/// What a text defined so far.
+#[derive(Drop)]
+pub(crate) struct Table<'t> {
+    pub nodes: Vec<Node<'t>>,
+    pub properties: Vec<Property<'t>>,
+    children: BTreeMap<Key<'t>, Entry>,
+    names: BTreeMap<Key<'t>, Entry>,
+    pub labels: BTreeMap<&'t [u8], Labelled>,
+    fragments: BTreeSet<&'t [u8]>,
+}
+
+impl<'t> Table<'t> {
+    /// A tree with a root alone.
+    pub fn new(alloc: Global) -> Result<Self, AllocError> {
+        let mut nodes = Vec::with_capacity(alloc, 1)?;
+        nodes.push(Node {
+            parent: 0,
+            name: b"".as_slice(),
+            depth: 0,
+            lexeme: 0,
+            is_removed: false,
+        })?;
+        Ok(Table {
+            nodes,
+            properties: Vec::new(alloc),
+            children: BTreeMap::new(alloc),
+            names: BTreeMap::new(alloc),
+            labels: BTreeMap::new(alloc),
+            fragments: BTreeSet::new(alloc),
+        })
+    }
+
+    fn depth(&self, node: usize) -> usize {
+        match self.nodes.get(node) {
+            Some(row) => row.depth,
+            None => 0,
+        }
+    }
+
+    /// Whether a child can't be so deep.
+    pub fn is_deepest(&self, node: usize) -> bool {
+        self.depth(node) >= MAX_DEPTH
+    }
+
+    /// Whether a node and all above it are there.
+    pub fn stands(&self, node: usize) -> bool {
+        let mut above = node;
+        for _ in 0..MAX_DEPTH + 2 {
+            match self.nodes.get(above) {
+                None => return false,
+                Some(row) => {
+                    if row.is_removed {
+                        return false;
+                    }
+                    if row.parent == above {
+                        return true;
+                    }
+                    above = row.parent;
+                }
+            }
+        }
+        false
+    }
+
+    fn child_entry(&self, node: usize, name: &'t [u8]) -> Option<Entry> {
+        self.children.get(&Key { node, name }).copied()
+    }
+
+    /// The child of this name.
+    pub fn child(&self, node: usize, name: &'t [u8]) -> Option<usize> {
+        standing(self.child_entry(node, name))
+    }
+
+    /// Where a body defined the child of this name before, even if it was taken out since.
+    pub fn child_in(&self, node: usize, name: &'t [u8], body: usize) -> Option<usize> {
+        defined_in(self.child_entry(node, name), body)
+    }
+
+    /// The node that a label names.
+    pub fn labelled(&self, label: &'t [u8]) -> Option<Labelled> {
+        let found = self.labels.get(&label).copied()?;
+        if self.stands(found.node) {
+            Some(found)
+        } else {
+            None
+        }
+    }
+
+    /// Gives a label to a node.
+    pub fn give_label(
+        &mut self,
+        label: &'t [u8],
+        node: usize,
+        lexeme: usize,
+    ) -> Result<(), AllocError> {
+        self.labels.insert(label, Labelled { node, lexeme })?;
+        Ok(())
+    }
+
+    /// Whether a fragment had this name.
+    pub fn is_fragment(&self, node: usize, name: &'t [u8]) -> bool {
+        node == 0 && self.fragments.contains(&name)
+    }
+
+    /// Takes the name of a fragment.
+    pub fn take_fragment(&mut self, name: &'t [u8]) -> Result<(), AllocError> {
+        self.fragments.insert(name)?;
+        Ok(())
+    }
+
+    /// A node without a parent, for what can't be found.
+    pub fn add_loose(&mut self, name: &'t [u8], lexeme: usize) -> Result<usize, AllocError> {
+        let row = self.nodes.len();
+        self.nodes.push(Node {
+            parent: row,
+            name,
+            depth: 0,
+            lexeme,
+            is_removed: false,
+        })?;
+        Ok(row)
+    }
+
+    /// The child of this name, made where it isn't there.
+    pub fn define_child(
+        &mut self,
+        node: usize,
+        name: &'t [u8],
+        body: usize,
+        lexeme: usize,
+    ) -> Result<usize, AllocError> {
+        let row = match self.child(node, name) {
+            Some(row) => row,
+            None => {
+                let depth = self.depth(node).saturating_add(1);
+                let row = self.nodes.len();
+                self.nodes.push(Node {
+                    parent: node,
+                    name,
+                    depth,
+                    lexeme,
+                    is_removed: false,
+                })?;
+                row
+            }
+        };
+        let entry = Entry {
+            row,
+            body,
+            lexeme,
+            is_there: true,
+        };
+        self.children.insert(Key { node, name }, entry)?;
+        Ok(row)
+    }
+
+    /// Takes a node out, if it isn't the root.
+    pub fn remove_node(&mut self, node: usize) {
+        let Some(row) = self.nodes.get_mut(node) else {
+            return;
+        };
+        row.is_removed = true;
+        let key = Key {
+            node: row.parent,
+            name: row.name,
+        };
+        if let Some(entry) = self.children.get_mut(&key) {
+            entry.is_there = false;
+        }
+    }
+
+    /// Takes the child of this name out.
+    pub fn remove_child(&mut self, node: usize, name: &'t [u8]) {
+        if let Some(child) = self.child(node, name) {
+            self.remove_node(child);
+        }
+    }
+
+    /// Takes the property of this name out.
+    pub fn remove_property(&mut self, node: usize, name: &'t [u8]) {
+        if let Some(entry) = self.names.get_mut(&Key { node, name }) {
+            entry.is_there = false;
+            if let Some(row) = self.properties.get_mut(entry.row) {
+                row.is_removed = true;
+            }
+        }
+    }
+
+    /// Defines a property, and answers its definition in the same body.
+    pub fn define_property(
+        &mut self,
+        node: usize,
+        name: &'t [u8],
+        body: usize,
+        lexeme: usize,
+    ) -> Result<Option<usize>, AllocError> {
+        let key = Key { node, name };
+        let known = self.names.get(&key).copied();
+        let row = match standing(known) {
+            Some(row) => row,
+            None => {
+                let row = self.properties.len();
+                self.properties.push(Property {
+                    node,
+                    name,
+                    lexeme,
+                    is_removed: false,
+                })?;
+                row
+            }
+        };
+        if let Some(property) = self.properties.get_mut(row) {
+            property.lexeme = lexeme;
+        }
+        let entry = Entry {
+            row,
+            body,
+            lexeme,
+            is_there: true,
+        };
+        self.names.insert(key, entry)?;
+        Ok(defined_in(known, body))
+    }
+}

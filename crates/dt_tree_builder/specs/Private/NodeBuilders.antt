@@ -1,0 +1,13 @@
+-- The nodes of a tree builder as contracts see them.
+use Rattle.std.specs.Prelude.{List, [], ◌∷◌, ◌++◌, map}
+use Rattle.dt_tree.specs.NodeData.{NodeData, node_data, siblings}
+use Rattle.dt_tree.specs.NodeView.{name_bytes}
+use Rattle.dt_tree_builder.specs.declared.node_builder.NodeBuilder.{NodeBuilder}
+use Rattle.dt_tree_builder.specs.declared.tree_builder.TreeBuilder.TheInside.{Inside}
+
+abbrev pub node_so_far : NodeBuilder → NodeData
+node_so_far o = node_data (name_bytes o.name) o.properties.items (siblings o.children.items)
+
+-- the root first
+abbrev pub builder_nodes : Inside → List NodeData
+builder_nodes a = map node_so_far a.above.items ++ node_so_far a.last ∷ []

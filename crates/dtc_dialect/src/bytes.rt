@@ -1,0 +1,90 @@
+//! Classes of bytes, runs of them, and parts of a text.
+
+/// Bytes that stand in one run.
+#[derive(Clone, Copy)]
+pub(crate) enum Class {
+    /// of a label
+    Word,
+    /// of a name
+    Name,
+    Digit,
+    HexDigit,
+    Blank,
+    /// of a line
+    Line,
+    /// of a keyword
+    Keyword,
+}
+
+pub(crate) fn is_letter(c: u8) -> bool {
+    c >= b'A' && c <= b'Z' || c >= b'a' && c <= b'z' || c == b'_'
+}
+
+pub(crate) fn is_digit(c: u8) -> bool {
+    c >= b'0' && c <= b'9'
+}
+
+fn is_name(c: u8) -> bool {
+    is_letter(c) || is_digit(c) || b",._+*#?@-".contains(&c)
+}
+
+pub(crate) fn is_blank(c: u8) -> bool {
+    c == b' ' || c >= 9 && c <= 13
+}
+
+fn passes(class: Class, c: u8) -> bool {
+    match class {
+        Class::Word => is_letter(c) || is_digit(c),
+        Class::Name => is_name(c),
+        Class::Digit => is_digit(c),
+        Class::HexDigit => c.is_ascii_hexdigit(),
+        Class::Blank => is_blank(c),
+        Class::Line => c != b'\n',
+        Class::Keyword => c >= b'a' && c <= b'z' || is_digit(c) || c == b'-',
+    }
+}
+
+/// How many bytes of this class stand at the front.
+pub(crate) fn run_len(class: Class, s: &[u8]) -> usize {
+    for (i, c) in s.iter().enumerate() {
+        if !passes(class, *c) {
+            return i;
+        }
+    }
+    s.len()
+}
+
+/// What stands behind the first `n` bytes.
+pub(crate) fn behind(s: &[u8], n: usize) -> &[u8] {
+    if n < s.len() { &s[n..] } else { b"" }
+}
+
+/// The first `n` bytes, or all where there are fewer.
+pub(crate) fn front(s: &[u8], n: usize) -> &[u8] {
+    if n < s.len() { &s[..n] } else { s }
+}
+
+/// How many lines end in these bytes.
+pub(crate) fn line_ends(s: &[u8]) -> usize {
+    s.iter().filter(|c| **c == b'\n').count()
+}
+
+/// Whether a byte stands at the front.
+pub(crate) fn begins(s: &[u8], c: u8) -> bool {
+    match s {
+        [d, ..] => *d == c,
+        [] => false,
+    }
+}
+
+/// How long a text between quotes is, with both, where it ends.
+pub(crate) fn quoted_len(quote: u8, s: &[u8]) -> Option<usize> {
+    let mut escaped = true;
+    for (i, c) in s.iter().enumerate() {
+        if !escaped && *c == quote {
+            return Some(i + 1);
+        }
+        escaped = !escaped && *c == b'\\';
+    }
+    None
+}

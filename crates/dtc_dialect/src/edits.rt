@@ -1,0 +1,445 @@
+//! The statements of a source, done to the table in the order of the text as dtc does them.
+
+use crate::error::{DialectError, Mistake, refused};
+use crate::head::{Action, Head};
+use crate::table::{Fragment, MAX_DEPTH, NodeRow, PropertyRow, ROOT, Table, Tokens};
+use crate::token::{Kind, Token};
+use std::alloc::Global;
+use std::hash::RandomState;
+
+/// A body that is open. In one that its node begins with, dtc looks for nothing that is there already.
+#[derive(Clone, Copy)]
+struct Body {
+    node: usize,
+    is_new: bool,
+    has_nodes: bool,
+}
+
+/// What was read of a source.
+#[derive(Drop)]
+pub(crate) struct Edited<'t> {
+    pub table: Table<'t>,
+    pub reserves: Vec<Tokens>,
+    pub is_plugin: bool,
+    has_version: bool,
+    has_root: bool,
+    fragments: usize,
+    bodies: Vec<Body>,
+    head: Head<'t>,
+}
+
+/// The table after all statements.
+pub(crate) fn edit<'t>(
+    alloc: Global,
+    hasher: RandomState,
+    tokens: &[Token<'t>],
+) -> Result<Edited<'t>, DialectError<'t>> {
+    let mut edited = Edited {
+        table: Table::new(alloc, hasher)?,
+        reserves: Vec::new(alloc),
+        is_plugin: false,
+        has_version: false,
+        has_root: false,
+        fragments: 0,
+        bodies: Vec::new(alloc),
+        head: Head::new(alloc),
+    };
+    for (at, token) in tokens.iter().enumerate() {
+        step(&mut edited, at, token)?;
+    }
+    end(&edited, tokens)?;
+    Ok(edited)
+}
+
+/// A source ends behind a statement, with a header and an item.
+fn end<'t>(edited: &Edited<'t>, tokens: &[Token<'t>]) -> Result<(), DialectError<'t>> {
+    let Some(last) = tokens.last() else {
+        return Err(refused(Mistake::Syntax, crate::token::Place { file: b"", line: 1 }));
+    };
+    let is_whole = edited.bodies.is_empty() && edited.head.start.is_none() && !edited.head.is_end;
+    if !is_whole || !edited.has_version || !edited.has_root {
+        return Err(refused(Mistake::Syntax, last.place));
+    }
+    Ok(())
+}
+
+fn step<'t>(edited: &mut Edited<'t>, at: usize, token: &Token<'t>) -> Result<(), DialectError<'t>> {
+    match token.kind {
+        Kind::Semicolon => end_statement(edited, at, token),
+        _ if edited.head.value.is_some() => Ok(()),
+        Kind::Equals if edited.head.key.is_some() => {
+            edited.head.value = Some(at.saturating_add(1));
+            Ok(())
+        }
+        Kind::Brace => open_body(edited, at.saturating_add(2), token),
+        Kind::EndBrace => close_body(edited, token),
+        _ => edited.head.put(at, token),
+    }
+}
+
+fn end_statement<'t>(
+    edited: &mut Edited<'t>,
+    at: usize,
+    token: &Token<'t>,
+) -> Result<(), DialectError<'t>> {
+    let syntax = refused(Mistake::Syntax, token.place);
+    // The root is made at 1.
+    let time = at.saturating_add(2);
+    let value = match edited.head.value {
+        Some(start) => Some(Tokens { start, end: at }),
+        None => None,
+    };
+    match (edited.head.action, edited.head.key) {
+        (Some(Action::Version), None) => edited.has_version = true,
+        (Some(Action::Plugin), None) => edited.is_plugin = true,
+        (Some(Action::Reserve), None) => edited.reserves.push(Tokens {
+            start: edited.head.start.unwrap_or(at),
+            end: at,
+        })?,
+        (Some(Action::DeleteNode), Some(key)) => delete_node(edited, time, &key)?,
+        (Some(Action::DeleteProperty), Some(key)) => delete_property(edited, time, &key)?,
+        (None, Some(key)) => define(edited, time, &key, value)?,
+        (None, None) => {
+            if !edited.head.is_end {
+                return Err(syntax);
+            }
+        }
+        _ => return Err(syntax),
+    }
+    edited.head.clear();
+    Ok(())
+}
+
+/// A property, or `/omit-if-no-ref/ &node;`.
+fn define<'t>(
+    edited: &mut Edited<'t>,
+    time: usize,
+    key: &Token<'t>,
+    value: Option<Tokens>,
+) -> Result<(), DialectError<'t>> {
+    match (edited.bodies.last().copied(), key.kind) {
+        (Some(body), Kind::Name) if !edited.head.omits => {
+            if body.has_nodes {
+                return Err(refused(Mistake::Syntax, key.place));
+            }
+            define_property(edited, time, body, key, value)
+        }
+        (None, Kind::Reference) if edited.head.omits => {
+            let node = referred(edited, key)?;
+            if let Some(row) = edited.table.nodes.get_mut(node) {
+                row.omit = true;
+            }
+            Ok(())
+        }
+        _ => Err(refused(Mistake::Syntax, key.place)),
+    }
+}
+
+fn define_property<'t>(
+    edited: &mut Edited<'t>,
+    time: usize,
+    body: Body,
+    key: &Token<'t>,
+    value: Option<Tokens>,
+) -> Result<(), DialectError<'t>> {
+    if !body.is_new {
+        if let Some(property) = edited.table.property(body.node, key.text) {
+            if let Some(row) = edited.table.properties.get_mut(property) {
+                row.value = value;
+                row.place = key.place;
+                row.made = time;
+            }
+            return Ok(());
+        }
+    }
+    edited.table.add_property(PropertyRow {
+        node: body.node,
+        name: key.text,
+        place: key.place,
+        value,
+        made: time,
+        deleted: 0,
+    })?;
+    Ok(())
+}
+
+fn delete_property<'t>(
+    edited: &mut Edited<'t>,
+    time: usize,
+    key: &Token<'t>,
+) -> Result<(), DialectError<'t>> {
+    let Some(body) = edited.bodies.last().copied() else {
+        return Err(refused(Mistake::Syntax, key.place));
+    };
+    if key.kind != Kind::Name {
+        return Err(refused(Mistake::Syntax, key.place));
+    }
+    match edited.table.property(body.node, key.text) {
+        Some(_) if body.is_new => {}
+        Some(property) => {
+            if let Some(row) = edited.table.properties.get_mut(property) {
+                row.deleted = time;
+            }
+        }
+        // dtc keeps its place for one that comes later.
+        None if body.is_new => edited.table.add_property(PropertyRow {
+            node: body.node,
+            name: key.text,
+            place: key.place,
+            value: None,
+            made: 0,
+            deleted: time,
+        })?,
+        None => {}
+    }
+    Ok(())
+}
+
+/// The node of a reference, or the refusal where it names none.
+fn referred<'t>(edited: &Edited<'t>, key: &Token<'t>) -> Result<usize, DialectError<'t>> {
+    match edited.table.referred(key.text) {
+        Some(node) => Ok(node),
+        None => Err(refused(unknown(key.text), key.place)),
+    }
+}
+
+fn unknown(reference: &[u8]) -> Mistake {
+    match reference {
+        [_, b'{', ..] => Mistake::NoPath,
+        _ => Mistake::NoLabel,
+    }
+}
+
+fn delete_node<'t>(
+    edited: &mut Edited<'t>,
+    time: usize,
+    key: &Token<'t>,
+) -> Result<(), DialectError<'t>> {
+    let found = match (edited.bodies.last().copied(), key.kind) {
+        (None, Kind::Reference) => Some(referred(edited, key)?),
+        (Some(body), Kind::Name) => {
+            let found = edited.table.child(body.node, key.text);
+            match found {
+                Some(_) if body.is_new => return Ok(()),
+                None if body.is_new => {
+                    add_child(edited, body.node, 0, key)?;
+                    return Ok(());
+                }
+                _ => found,
+            }
+        }
+        _ => return Err(refused(Mistake::Syntax, key.place)),
+    };
+    let Some(node) = found else {
+        return Ok(());
+    };
+    if node == ROOT {
+        return Err(refused(Mistake::Reserved, key.place));
+    }
+    if let Some(row) = edited.table.nodes.get_mut(node) {
+        row.deleted = time;
+    }
+    Ok(())
+}
+
+/// A new child, made at a time.
+fn add_child<'t>(
+    edited: &mut Edited<'t>,
+    parent: usize,
+    made: usize,
+    key: &Token<'t>,
+) -> Result<usize, DialectError<'t>> {
+    let depth = match edited.table.nodes.get(parent) {
+        Some(row) => row.depth.saturating_add(1),
+        None => 1,
+    };
+    if depth > MAX_DEPTH {
+        return Err(refused(Mistake::DeepNode, key.place));
+    }
+    Ok(
+        edited.table.add_node(NodeRow {
+            name: key.text,
+            parent,
+            depth,
+            place: key.place,
+            made,
+            deleted: 0,
+            omit: false,
+            fragment: None,
+        })?,
+    )
+}
+
+fn open_body<'t>(
+    edited: &mut Edited<'t>,
+    time: usize,
+    token: &Token<'t>,
+) -> Result<(), DialectError<'t>> {
+    let Some(key) = edited.head.key else {
+        return Err(refused(Mistake::Syntax, token.place));
+    };
+    if edited.head.action.is_some() {
+        return Err(refused(Mistake::Syntax, token.place));
+    }
+    if edited.bodies.len() > MAX_DEPTH {
+        return Err(refused(Mistake::TooDeep, token.place));
+    }
+    let body = match (edited.bodies.last().copied(), key.kind) {
+        (Some(body), Kind::Name) => child_body(edited, time, body, &key)?,
+        (None, Kind::Slash) => root_body(edited, &key),
+        (None, Kind::Reference) => extension_body(edited, time, &key)?,
+        _ => return Err(refused(Mistake::Syntax, key.place)),
+    };
+    if let Some(outer) = edited.bodies.last_mut() {
+        outer.has_nodes = true;
+    }
+    edited.bodies.push(body)?;
+    edited.head.clear();
+    Ok(())
+}
+
+fn close_body<'t>(edited: &mut Edited<'t>, token: &Token<'t>) -> Result<(), DialectError<'t>> {
+    if edited.head.start.is_some() || edited.head.is_end || edited.bodies.pop().is_none() {
+        return Err(refused(Mistake::Syntax, token.place));
+    }
+    edited.head.clear();
+    edited.head.is_end = true;
+    Ok(())
+}
+
+fn root_body<'t>(edited: &mut Edited<'t>, key: &Token<'t>) -> Body {
+    let is_new = !edited.has_root;
+    if let Some(row) = edited.table.nodes.get_mut(ROOT) {
+        row.place = if is_new { key.place } else { row.place };
+    }
+    edited.has_root = true;
+    Body {
+        node: ROOT,
+        is_new,
+        has_nodes: false,
+    }
+}
+
+fn child_body<'t>(
+    edited: &mut Edited<'t>,
+    time: usize,
+    outer: Body,
+    key: &Token<'t>,
+) -> Result<Body, DialectError<'t>> {
+    let found = if outer.is_new {
+        None
+    } else {
+        edited.table.child(outer.node, key.text)
+    };
+    let (node, is_new) = match found {
+        Some(node) => {
+            if let Some(row) = edited.table.nodes.get_mut(node) {
+                row.made = time;
+            }
+            (node, false)
+        }
+        None => {
+            let node = add_child(edited, outer.node, time, key)?;
+            if let Some(row) = edited.table.nodes.get_mut(node) {
+                row.omit = edited.head.omits;
+            }
+            (node, true)
+        }
+    };
+    give_labels(edited, time, node, is_new)?;
+    Ok(Body {
+        node,
+        is_new,
+        has_nodes: false,
+    })
+}
+
+/// dtc puts each label in front: of a node that is new the first one in the text comes first, of another one the last.
+fn give_labels<'t>(
+    edited: &mut Edited<'t>,
+    time: usize,
+    node: usize,
+    is_new: bool,
+) -> Result<(), DialectError<'t>> {
+    let Edited { table, head, .. } = edited;
+    let mut given = true;
+    if is_new {
+        for label in head.labels.iter().rev() {
+            given = table.give_label(node, *label, time)? && given;
+        }
+    } else {
+        for label in head.labels.iter() {
+            given = table.give_label(node, *label, time)? && given;
+        }
+    }
+    match (given, head.key) {
+        (false, Some(key)) => Err(refused(Mistake::LabelTwice, key.place)),
+        _ => Ok(()),
+    }
+}
+
+/// `&node { .. }`: a fragment in a plugin where it names no node of the text so far, or names one by its path.
+fn extension_body<'t>(
+    edited: &mut Edited<'t>,
+    time: usize,
+    key: &Token<'t>,
+) -> Result<Body, DialectError<'t>> {
+    let is_first = !edited.has_root;
+    let is_path = unknown(key.text) == Mistake::NoPath;
+    let has_labels = !edited.head.labels.is_empty();
+    let found = match edited.is_plugin && is_path && !has_labels || is_first {
+        true => None,
+        false => edited.table.referred(key.text),
+    };
+    let Some(node) = found else {
+        if !edited.is_plugin || has_labels {
+            return Err(refused(unknown(key.text), key.place));
+        }
+        edited.has_root = true;
+        return fragment_body(edited, time, key);
+    };
+    if let Some(row) = edited.table.nodes.get_mut(node) {
+        row.made = time;
+    }
+    give_labels(edited, time, node, false)?;
+    Ok(Body {
+        node,
+        is_new: false,
+        has_nodes: false,
+    })
+}
+
+fn fragment_body<'t>(
+    edited: &mut Edited<'t>,
+    time: usize,
+    key: &Token<'t>,
+) -> Result<Body, DialectError<'t>> {
+    let number = edited.fragments;
+    edited.fragments = number.saturating_add(1);
+    let row = NodeRow {
+        name: b"",
+        parent: ROOT,
+        depth: 1,
+        place: key.place,
+        made: time,
+        deleted: 0,
+        omit: false,
+        fragment: Some(Fragment {
+            number,
+            target: *key,
+        }),
+    };
+    let fragment = edited.table.add_node(row)?;
+    let overlay = edited.table.add_node(NodeRow {
+        name: b"__overlay__",
+        parent: fragment,
+        depth: 2,
+        fragment: None,
+        ..row
+    })?;
+    Ok(Body {
+        node: overlay,
+        is_new: true,
+        has_nodes: false,
+    })
+}

@@ -1,0 +1,105 @@
+//! The tokens of a statement up to its body, its value or its end.
+
+use crate::error::{DialectError, Mistake, refused};
+use crate::token::{Kind, Token};
+use std::alloc::Global;
+
+/// What a statement does, where it doesn't define.
+#[derive(Clone, Copy, Debug, PartialEq, Eq)]
+pub(crate) enum Action {
+    DeleteNode,
+    DeleteProperty,
+    Reserve,
+    Version,
+    Plugin,
+}
+
+/// What was met of a statement.
+#[derive(Drop)]
+pub(crate) struct Head<'t> {
+    pub labels: Vec<&'t [u8]>,
+    pub omits: bool,
+    pub action: Option<Action>,
+    /// The name, the reference, or the slash of the root.
+    pub key: Option<Token<'t>>,
+    /// The token that the statement begins with.
+    pub start: Option<usize>,
+    /// The first token of the value.
+    pub value: Option<usize>,
+    /// It stands behind a body, whose end it is.
+    pub is_end: bool,
+}
+
+impl<'t> Head<'t> {
+    pub fn new(alloc: Global) -> Head<'t> {
+        Head {
+            labels: Vec::new(alloc),
+            omits: false,
+            action: None,
+            key: None,
+            start: None,
+            value: None,
+            is_end: false,
+        }
+    }
+
+    /// A statement begins.
+    pub fn clear(&mut self) {
+        self.labels.clear();
+        self.omits = false;
+        self.action = None;
+        self.key = None;
+        self.start = None;
+        self.value = None;
+        self.is_end = false;
+    }
+
+    /// One token more.
+    pub fn put(&mut self, at: usize, token: &Token<'t>) -> Result<(), DialectError<'t>> {
+        if self.is_end {
+            return Err(refused(Mistake::Syntax, token.place));
+        }
+        if self.start.is_none() {
+            self.start = Some(at);
+        }
+        match self.action {
+            Some(Action::Reserve) => Ok(()),
+            _ => self.put_word(token),
+        }
+    }
+
+    fn put_word(&mut self, token: &Token<'t>) -> Result<(), DialectError<'t>> {
+        if self.key.is_some() {
+            return Err(refused(Mistake::Syntax, token.place));
+        }
+        match token.kind {
+            Kind::Label => {
+                let len = token.text.len().saturating_sub(1);
+                self.labels.push(crate::bytes::front(token.text, len))?;
+                Ok(())
+            }
+            Kind::Name | Kind::Reference | Kind::Slash => {
+                self.key = Some(*token);
+                Ok(())
+            }
+            Kind::OmitIfNoRef => {
+                self.omits = true;
+                Ok(())
+            }
+            Kind::DeleteNode => self.act(Action::DeleteNode, token),
+            Kind::DeleteProperty => self.act(Action::DeleteProperty, token),
+            Kind::MemReserve => self.act(Action::Reserve, token),
+            Kind::Version => self.act(Action::Version, token),
+            Kind::Plugin => self.act(Action::Plugin, token),
+            _ => Err(refused(Mistake::Syntax, token.place)),
+        }
+    }
+
+    fn act(&mut self, action: Action, token: &Token<'t>) -> Result<(), DialectError<'t>> {
+        if self.action.is_some() {
+            return Err(refused(Mistake::Syntax, token.place));
+        }
+        self.action = Some(action);
+        Ok(())
+    }
+}

@@ -1,0 +1,30 @@
+//! dtc's dialect: a source as dtc 1.6 takes it in, said again in the profile that the compiler takes.
+//!
+//! The manual of dtc (Documentation/manual.txt) and its page on the source format (Documentation/dts-format.txt) say what it takes.
+#![tactic(auto)]
+
+mod bytes;
+mod character;
+mod edits;
+mod error;
+mod gaps;
+mod head;
+mod inclusion;
+mod keeping;
+mod layout;
+mod numbers;
+mod places;
+mod printer;
+mod printing;
+mod reader;
+mod references;
+mod rewriting;
+mod table;
+mod token;
+
+pub use error::{DialectError, Mistake, Refusal};
+pub use inclusion::{Files, Found, Incomplete, MAX_INCLUDES, included};
+pub use keeping::{Profile, profile_text};
+pub use places::{plain, user_place};
+pub use rewriting::{Options, rewrite};
+pub use token::Place;

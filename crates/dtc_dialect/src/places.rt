@@ -1,0 +1,101 @@
+//! Lines of the user's files, by the line markers of a text.
+
+use crate::bytes::{Class, behind, front, run_len};
+use crate::gaps::{Marker, read_marker};
+use crate::token::Place;
+use std::alloc::{AllocError, Global};
+
+/// The line of the user's file at a place of a text.
+#[derive(Drop)]
+pub(crate) struct Line {
+    file: Vec<u8>,
+    line: usize,
+}
+
+impl Line {
+    /// The first line of a file. A name that no line marker can hold is left out.
+    pub fn first(alloc: Global, path: &[u8]) -> Result<Line, AllocError> {
+        Ok(Line {
+            file: Vec::from_slice(alloc, plain(path))?,
+            line: 1,
+        })
+    }
+
+    /// Behind more text.
+    pub fn advance(&mut self, text: &[u8]) -> Result<(), AllocError> {
+        let mut is_first = true;
+        let mut marker: Option<Marker<'_>> = None;
+        for (i, c) in text.iter().enumerate() {
+            if is_first && *c == b'#' {
+                marker = line_marker(behind(text, i));
+            }
+            is_first = *c == b'\n';
+            if is_first {
+                self.end_line(marker)?;
+                marker = None;
+            }
+        }
+        Ok(())
+    }
+
+    fn end_line(&mut self, marker: Option<Marker<'_>>) -> Result<(), AllocError> {
+        match marker {
+            None => self.line = self.line.saturating_add(1),
+            Some(marker) => {
+                self.line = marker.line;
+                if let Some(file) = marker.file {
+                    self.file.clear();
+                    self.file.extend_from_slice(file)?;
+                }
+            }
+        }
+        Ok(())
+    }
+
+    /// Puts a line marker.
+    pub fn mark(&self, alloc: Global, text: &mut Vec<u8>) -> Result<(), AllocError> {
+        let line = self.line;
+        let words = format!(in alloc; "\n# {line} \"")?;
+        text.extend_from_slice(words.as_bytes())?;
+        text.extend_from_slice(self.file.as_slice())?;
+        text.extend_from_slice(b"\"\n")
+    }
+}
+
+/// The marker that a line begins with.
+fn line_marker<'t>(s: &'t [u8]) -> Option<Marker<'t>> {
+    match front(s, run_len(Class::Line, s)) {
+        [b'#', line @ ..] => read_marker(line),
+        _ => None,
+    }
+}
+
+/// A file's name as a line marker holds it, or nothing.
+pub fn plain(path: &[u8]) -> &[u8] {
+    if path
+        .iter()
+        .any(|c| *c == b'"' || *c == b'\\' || *c == b'\n')
+    {
+        b""
+    } else {
+        path
+    }
+}
+
+/// The line of the user's file that a line of a text stands for.
+pub fn user_place<'t>(file: &'t [u8], text: &'t [u8], line: usize) -> Place<'t> {
+    let mut place = Place { file, line: 1 };
+    let mut left = text;
+    for _ in 1..line {
+        let len = run_len(Class::Line, left);
+        match line_marker(left) {
+            None => place.line = place.line.saturating_add(1),
+            Some(marker) => {
+                place.line = marker.line;
+                place.file = marker.file.unwrap_or(place.file);
+            }
+        }
+        left = behind(left, len.saturating_add(1));
+    }
+    place
+}

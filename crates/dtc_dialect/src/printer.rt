@@ -1,0 +1,69 @@
+//! Text that is put behind other text, with its places.
+
+use crate::bytes::line_ends;
+use crate::token::Place;
+use std::alloc::{AllocError, Global};
+
+/// How many empty lines are printed in place of a line marker.
+const FEW: usize = 4;
+
+/// A text, and the place in the user's files that its end stands for.
+#[derive(Drop)]
+pub(crate) struct Printer<'t> {
+    pub text: Vec<u8>,
+    place: Place<'t>,
+}
+
+impl<'t> Printer<'t> {
+    pub fn new(alloc: Global) -> Printer<'t> {
+        Printer {
+            text: Vec::new(alloc),
+            place: Place { file: b"", line: 1 },
+        }
+    }
+
+    /// Puts bytes behind the text.
+    pub fn put(&mut self, bytes: &[u8]) -> Result<(), AllocError> {
+        self.text.extend_from_slice(bytes)?;
+        self.place.line = self.place.line.saturating_add(line_ends(bytes));
+        Ok(())
+    }
+
+    /// Puts a number in decimal behind the text.
+    pub fn put_number(&mut self, alloc: Global, number: u64) -> Result<(), AllocError> {
+        let digits = format!(in alloc; "{number}")?;
+        self.put(digits.as_bytes())
+    }
+
+    /// What is put next stands at a place; where it stands there already, a blank at most is put in between.
+    pub fn move_to(
+        &mut self,
+        alloc: Global,
+        place: Place<'t>,
+        gap: bool,
+    ) -> Result<(), AllocError> {
+        let ahead = place.line.saturating_sub(self.place.line);
+        let is_behind = place.line < self.place.line;
+        if is_behind || ahead > FEW || place.file != self.place.file {
+            return self.mark(alloc, place);
+        }
+        if ahead == 0 {
+            return if gap { self.put(b" ") } else { Ok(()) };
+        }
+        for _ in 0..ahead {
+            self.put(b"\n")?;
+        }
+        Ok(())
+    }
+
+    /// Puts a line marker.
+    fn mark(&mut self, alloc: Global, place: Place<'t>) -> Result<(), AllocError> {
+        self.put(b"\n# ")?;
+        self.put_number(alloc, place.line as u64)?;
+        self.put(b" \"")?;
+        self.put(place.file)?;
+        self.put(b"\"\n")?;
+        self.place = place;
+        Ok(())
+    }
+}

@@ -1,0 +1,293 @@
+//! The table said as one body in the profile: what is there, in dtc's order.
+
+use crate::bytes::{behind, front};
+use crate::character::character;
+use crate::edits::Edited;
+use crate::error::{DialectError, Mistake, refused};
+use crate::layout::{Stop, part};
+use crate::numbers::{Cells, Known, Numbers, View};
+use crate::printer::Printer;
+use crate::table::{NodeRow, PropertyRow, ROOT};
+use crate::token::{Kind, Token};
+use std::alloc::Global;
+
+/// What is printed: a source, and the numbers where they are to be written out.
+#[derive(Clone, Copy)]
+pub(crate) struct Printed<'a, 't> {
+    pub view: View<'a, 't>,
+    pub numbers: Option<&'a Numbers>,
+}
+
+/// The text of a source.
+pub(crate) fn print_source<'t>(
+    alloc: Global,
+    source: &Edited<'t>,
+    what: Printed<'_, 't>,
+) -> Result<Vec<u8>, DialectError<'t>> {
+    let mut printer = Printer::new(alloc);
+    printer.put(b"/dts-v1/;")?;
+    if source.is_plugin {
+        printer.put(b" /plugin/;")?;
+    }
+    for reserve in source.reserves.iter() {
+        put_tokens(alloc, &mut printer, what, part(what.view.tokens, *reserve))?;
+        printer.put(b";")?;
+    }
+    put_nodes(alloc, &mut printer, what)?;
+    put_root_labels(alloc, &mut printer, what)?;
+    printer.put(b"\n")?;
+    Ok(printer.text)
+}
+
+fn put_nodes<'t>(
+    alloc: Global,
+    printer: &mut Printer<'t>,
+    what: Printed<'_, 't>,
+) -> Result<(), DialectError<'t>> {
+    let mut open = 0;
+    for stop in what.view.layout.stops.iter() {
+        close(printer, open, stop.depth)?;
+        put_node(alloc, printer, what, stop)?;
+        open = stop.depth.saturating_add(1);
+    }
+    close(printer, open, 0)
+}
+
+/// Ends the bodies that are deeper.
+fn close<'t>(printer: &mut Printer<'t>, open: usize, depth: usize) -> Result<(), DialectError<'t>> {
+    for _ in depth..open {
+        printer.put(b" };")?;
+    }
+    Ok(())
+}
+
+fn put_node<'t>(
+    alloc: Global,
+    printer: &mut Printer<'t>,
+    what: Printed<'_, 't>,
+    stop: &Stop,
+) -> Result<(), DialectError<'t>> {
+    let Some(row) = what.view.table.nodes.get(stop.node) else {
+        return Ok(());
+    };
+    printer.move_to(alloc, row.place, true)?;
+    if stop.node == ROOT {
+        printer.put(b"/ {")?;
+    } else {
+        put_labels(alloc, printer, what, stop.node)?;
+        put_name(alloc, printer, row)?;
+    }
+    for property in what.view.layout.properties_of(stop) {
+        if let Some(row) = what.view.table.properties.get(*property) {
+            put_property(alloc, printer, what, row)?;
+        }
+    }
+    put_phandle(alloc, printer, what, stop.node)
+}
+
+fn put_labels<'t>(
+    alloc: Global,
+    printer: &mut Printer<'t>,
+    what: Printed<'_, 't>,
+    node: usize,
+) -> Result<(), DialectError<'t>> {
+    let labels = what.view.layout.labels_of(alloc, what.view.table, node)?;
+    for label in labels.iter() {
+        printer.put(*label)?;
+        printer.put(b": ")?;
+    }
+    Ok(())
+}
+
+fn put_name<'t>(
+    alloc: Global,
+    printer: &mut Printer<'t>,
+    row: &NodeRow<'t>,
+) -> Result<(), DialectError<'t>> {
+    let Some(fragment) = row.fragment else {
+        printer.put(row.name)?;
+        printer.put(b" {")?;
+        return Ok(());
+    };
+    printer.put(b"fragment@")?;
+    printer.put_number(alloc, fragment.number as u64)?;
+    let target = fragment.target.text;
+    match target {
+        [_, b'{', path @ ..] => {
+            printer.put(b" { target-path = \"")?;
+            printer.put(front(path, path.len().saturating_sub(1)))?;
+            printer.put(b"\";")?;
+        }
+        _ => {
+            printer.put(b" { target = <")?;
+            printer.put(target)?;
+            printer.put(b">;")?;
+        }
+    }
+    Ok(())
+}
+
+fn put_property<'t>(
+    alloc: Global,
+    printer: &mut Printer<'t>,
+    what: Printed<'_, 't>,
+    row: &PropertyRow<'t>,
+) -> Result<(), DialectError<'t>> {
+    if repeats_name(what, row) {
+        return Ok(());
+    }
+    printer.move_to(alloc, row.place, true)?;
+    printer.put(row.name)?;
+    if row.value.is_none() {
+        printer.put(b";")?;
+        return Ok(());
+    }
+    printer.put(b" =")?;
+    match asked(what, row) {
+        Some(number) => {
+            printer.put(b" <")?;
+            printer.put_number(alloc, number)?;
+            printer.put(b">")?;
+        }
+        None => put_tokens(alloc, printer, what, what.view.value_of(row))?,
+    }
+    printer.put(b";")?;
+    Ok(())
+}
+
+/// Whether this is a property `name` that says its node's name once more, up to the `@`: dtc drops it.
+fn repeats_name<'t>(what: Printed<'_, 't>, row: &PropertyRow<'t>) -> bool {
+    if row.name != b"name".as_slice() {
+        return false;
+    }
+    match (what.view.table.nodes.get(row.node), what.view.value_of(row)) {
+        (Some(node), [token]) => is_quoted(base_name(node.name), token.text),
+        _ => false,
+    }
+}
+
+fn is_quoted(name: &[u8], text: &[u8]) -> bool {
+    match text {
+        [b'"', inside @ ..] => front(inside, inside.len().saturating_sub(1)) == name,
+        _ => false,
+    }
+}
+
+/// A node's name without its address.
+fn base_name(name: &[u8]) -> &[u8] {
+    for (i, c) in name.iter().enumerate() {
+        if *c == b'@' {
+            return front(name, i);
+        }
+    }
+    name
+}
+
+/// The number of a property `phandle` that refers to its own node.
+fn asked<'t>(what: Printed<'_, 't>, row: &PropertyRow<'t>) -> Option<u64> {
+    let known = known(what, row.node)?;
+    if known.asks && row.name == b"phandle".as_slice() {
+        known.number
+    } else {
+        None
+    }
+}
+
+fn known(what: Printed<'_, '_>, node: usize) -> Option<Known> {
+    what.numbers?.known.get(node).copied()
+}
+
+fn put_tokens<'t>(
+    alloc: Global,
+    printer: &mut Printer<'t>,
+    what: Printed<'_, 't>,
+    tokens: &[Token<'t>],
+) -> Result<(), DialectError<'t>> {
+    let mut cells = Cells::none();
+    for token in tokens {
+        cells.step(token.kind);
+        printer.move_to(alloc, token.place, token.has_gap)?;
+        match token.kind {
+            Kind::Character => put_character(alloc, printer, token)?,
+            Kind::Reference if cells.are_open => put_reference(alloc, printer, what, token)?,
+            _ => printer.put(token.text)?,
+        }
+    }
+    Ok(())
+}
+
+fn put_character<'t>(
+    alloc: Global,
+    printer: &mut Printer<'t>,
+    token: &Token<'t>,
+) -> Result<(), DialectError<'t>> {
+    let inside = behind(front(token.text, token.text.len().saturating_sub(1)), 1);
+    let Some(number) = character(inside) else {
+        return Err(refused(Mistake::Syntax, token.place));
+    };
+    printer.put_number(alloc, number as u64)?;
+    Ok(())
+}
+
+/// A reference in cells. A node that has its number by `linux,phandle` alone is named by it.
+fn put_reference<'t>(
+    alloc: Global,
+    printer: &mut Printer<'t>,
+    what: Printed<'_, 't>,
+    token: &Token<'t>,
+) -> Result<(), DialectError<'t>> {
+    let known = match what.view.table.referred(token.text) {
+        Some(node) if what.numbers.is_some() => known(what, node),
+        _ => None,
+    };
+    match known {
+        Some(
+            Known {
+                is_legacy: true,
+                given: Some(number),
+                ..
+            },
+        ) => printer.put_number(alloc, number)?,
+        _ => printer.put(token.text)?,
+    }
+    Ok(())
+}
+
+/// The number that a node gets, where it is to be written out.
+fn put_phandle<'t>(
+    alloc: Global,
+    printer: &mut Printer<'t>,
+    what: Printed<'_, 't>,
+    node: usize,
+) -> Result<(), DialectError<'t>> {
+    let Some(known) = known(what, node) else {
+        return Ok(());
+    };
+    if let Some(number) = known.number {
+        if !known.asks {
+            printer.put(b" phandle = <")?;
+            printer.put_number(alloc, number)?;
+            printer.put(b">;")?;
+        }
+    }
+    Ok(())
+}
+
+/// The labels of the root, which stand before no slash.
+fn put_root_labels<'t>(
+    alloc: Global,
+    printer: &mut Printer<'t>,
+    what: Printed<'_, 't>,
+) -> Result<(), DialectError<'t>> {
+    let labels = what.view.layout.labels_of(alloc, what.view.table, ROOT)?;
+    if labels.is_empty() {
+        return Ok(());
+    }
+    for label in labels.iter() {
+        printer.put(b" ")?;
+        printer.put(*label)?;
+        printer.put(b":")?;
+    }
+    printer.put(b" &{/} { };")?;
+    Ok(())
+}

@@ -1,0 +1,134 @@
+//! The nodes that references name in the tree so far.
+
+use crate::bytes::{behind, front};
+use crate::table::{MAX_DEPTH, MAX_SAME_LABEL, ROOT, Table};
+
+impl<'t> Table<'t> {
+    /// When the node or one above it was last deleted, where the node is there.
+    pub fn last_deletion(&self, node: usize) -> Option<usize> {
+        let mut at = node;
+        let mut first_made = usize::MAX;
+        let mut deletion = 0;
+        for _ in 0..=MAX_DEPTH {
+            let row = self.nodes.get(at)?;
+            first_made = first_made.min(row.made);
+            deletion = deletion.max(row.deleted);
+            if first_made <= row.deleted {
+                return None;
+            }
+            if at == ROOT {
+                return Some(deletion);
+            }
+            at = row.parent;
+        }
+        None
+    }
+
+    /// The node that `&label`, `&{/path}` or `&{label/path}` names.
+    pub fn referred(&self, reference: &'t [u8]) -> Option<usize> {
+        match reference {
+            [b'&', b'{', inside @ ..] => self.by_path(front(
+                inside,
+                inside.len().saturating_sub(1),
+            )),
+            [b'&', label @ ..] => self.labelled(label),
+            _ => None,
+        }
+    }
+
+    fn by_path(&self, path: &'t [u8]) -> Option<usize> {
+        let (first, rest) = first_name(path);
+        let mut node = if first.is_empty() {
+            ROOT
+        } else {
+            self.labelled(first)?
+        };
+        let mut left = rest;
+        for _ in 0..=MAX_DEPTH {
+            if left.is_empty() {
+                return Some(node);
+            }
+            let (name, rest) = first_name(left);
+            node = self.child(node, name)?;
+            self.last_deletion(node)?;
+            left = rest;
+        }
+        None
+    }
+
+    /// The node that has a label, and of several the first in preorder.
+    pub fn labelled(&self, label: &'t [u8]) -> Option<usize> {
+        let mut at = self.last_label(label);
+        let mut found: Option<usize> = None;
+        for _ in 0..MAX_SAME_LABEL {
+            let Some(row) = at else {
+                return found;
+            };
+            let row = self.labels.get(row)?;
+            if let Some(deletion) = self.last_deletion(row.node) {
+                if row.made > deletion {
+                    found = match found {
+                        Some(other) if self.is_before(other, row.node) => Some(other),
+                        _ => Some(row.node),
+                    };
+                }
+            }
+            at = row.earlier;
+        }
+        found
+    }
+
+    fn depth(&self, node: usize) -> usize {
+        match self.nodes.get(node) {
+            Some(row) => row.depth,
+            None => 0,
+        }
+    }
+
+    fn parent(&self, node: usize) -> usize {
+        match self.nodes.get(node) {
+            Some(row) => row.parent,
+            None => ROOT,
+        }
+    }
+
+    /// The node at a depth above or at this one.
+    fn lifted(&self, node: usize, depth: usize) -> usize {
+        let mut at = node;
+        for _ in 0..MAX_DEPTH {
+            if self.depth(at) <= depth {
+                return at;
+            }
+            at = self.parent(at);
+        }
+        at
+    }
+
+    /// Whether a node comes before another in preorder: siblings stand in the order of their rows.
+    fn is_before(&self, one: usize, other: usize) -> bool {
+        let depth = self.depth(one).min(self.depth(other));
+        let mut a = self.lifted(one, depth);
+        let mut b = self.lifted(other, depth);
+        if a == b {
+            return self.depth(one) < self.depth(other);
+        }
+        for _ in 0..MAX_DEPTH {
+            if self.parent(a) == self.parent(b) {
+                return a < b;
+            }
+            a = self.parent(a);
+            b = self.parent(b);
+        }
+        a < b
+    }
+}
+
+/// A path's first name, and what stands behind the slash.
+fn first_name(path: &[u8]) -> (&[u8], &[u8]) {
+    for (i, c) in path.iter().enumerate() {
+        if *c == b'/' {
+            return (front(path, i), behind(path, i + 1));
+        }
+    }
+    (path, b"")
+}

@@ -1,0 +1,78 @@
+//! A source in dtc's dialect, said in the profile.
+
+use crate::edits::edit;
+use crate::error::DialectError;
+use crate::layout::{Layout, lay_out};
+use crate::numbers::{Numbers, View, number_nodes};
+use crate::printing::{Printed, print_source};
+use crate::reader::tokens;
+use crate::table::Table;
+use std::alloc::Global;
+use std::hash::RandomState;
+
+/// What decides how a source is said.
+#[derive(Clone, Copy, Debug)]
+pub struct Options<'t> {
+    /// The file's name.
+    pub file: &'t [u8],
+    /// Symbols are wanted: dtc then omits no node that has a label.
+    pub symbols: bool,
+}
+
+/// The text that says in the profile what the text of a file says in dtc's dialect.
+pub fn rewrite<'t>(
+    alloc: Global,
+    hasher: RandomState,
+    options: Options<'t>,
+    text: &'t [u8],
+) -> Result<Vec<u8>, DialectError<'t>> {
+    let tokens = tokens(alloc, options.file, text)?;
+    let mut source = edit(alloc, hasher, tokens.as_slice())?;
+    let found = lay_out(alloc, &source.table)?;
+    let known = number_nodes(
+        alloc,
+        hasher,
+        View {
+            tokens: tokens.as_slice(),
+            table: &source.table,
+            layout: &found,
+        },
+    )?;
+    let omits = omit(&mut source.table, &found, &known, options.symbols);
+    let left = lay_out(alloc, &source.table)?;
+    let view = View {
+        tokens: tokens.as_slice(),
+        table: &source.table,
+        layout: &left,
+    };
+    let numbers = if omits
+        || known
+            .known
+            .iter()
+            .any(|known| known.asks || known.is_legacy)
+    {
+        Some(&known)
+    } else {
+        None
+    };
+    print_source(alloc, &source, Printed { view, numbers })
+}
+
+/// Deletes the nodes under `/omit-if-no-ref/` that no reference names. Answers whether there were any.
+fn omit(table: &mut Table<'_>, layout: &Layout, numbers: &Numbers, symbols: bool) -> bool {
+    let mut omits = false;
+    for stop in layout.stops.iter() {
+        let is_kept = symbols && layout.was_labelled(stop.node);
+        let is_referred = numbers
+            .known
+            .get(stop.node)
+            .is_some_and(|known| known.is_referred);
+        if let Some(row) = table.nodes.get_mut(stop.node) {
+            if row.omit && !is_kept && !is_referred {
+                row.deleted = usize::MAX;
+                omits = true;
+            }
+        }
+    }
+    omits
+}

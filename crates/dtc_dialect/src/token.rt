@@ -1,0 +1,54 @@
+//! The tokens of a source in dtc's dialect, with their places in the files of the user.
+
+/// A line of a file.
+#[derive(Clone, Copy, Debug)]
+pub struct Place<'t> {
+    /// The file's name, as it stands in the line marker.
+    pub file: &'t [u8],
+    /// From 1.
+    pub line: usize,
+}
+
+/// What a token is. What no edit depends on is `Other`: the compiler judges it.
+#[derive(Clone, Copy, Debug, PartialEq, Eq)]
+pub(crate) enum Kind {
+    /// `/dts-v1/`
+    Version,
+    /// `/plugin/`
+    Plugin,
+    /// `/memreserve/`
+    MemReserve,
+    /// `/delete-node/`
+    DeleteNode,
+    /// `/delete-property/`
+    DeleteProperty,
+    /// `/omit-if-no-ref/`
+    OmitIfNoRef,
+    /// `label:`
+    Label,
+    /// a name, or a number in a value
+    Name,
+    /// `'A'`
+    Character,
+    /// `&label`, `&{/path}`
+    Reference,
+    Slash,
+    Brace,
+    EndBrace,
+    Equals,
+    Semicolon,
+    Less,
+    Greater,
+    Paren,
+    EndParen,
+    Other,
+}
+
+/// A token, whether a gap stands before it, and where it begins.
+#[derive(Clone, Copy, Debug)]
+pub(crate) struct Token<'t> {
+    pub kind: Kind,
+    pub text: &'t [u8],
+    pub has_gap: bool,
+    pub place: Place<'t>,
+}

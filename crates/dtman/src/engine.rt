@@ -1,0 +1,47 @@
+//! The engines as dtc's command line calls them.
+
+use dtman_dtc::{Compiler, Fault};
+use dtman_engine::{Place, compile_bytes, dump_bytes, overlay_bytes};
+use std::alloc::Global;
+use std::hash::RandomState;
+
+/// The compiler of the profile.
+#[derive(Clone, Copy)]
+pub struct Engine;
+
+impl Compiler for Engine {
+    fn compile(
+        &mut self,
+        alloc: Global,
+        hasher: RandomState,
+        text: &[u8],
+        symbols: bool,
+    ) -> Result<Vec<u8>, Fault> {
+        compile_bytes(alloc, hasher, text, symbols).map_err(|fault| shown(fault))
+    }
+
+    fn dump(&mut self, alloc: Global, blob: &[u8]) -> Result<Vec<u8>, Fault> {
+        dump_bytes(alloc, blob).map_err(|fault| shown(fault))
+    }
+
+    fn overlay(
+        &mut self,
+        alloc: Global,
+        hasher: RandomState,
+        base: &[u8],
+        overlay: &[u8],
+    ) -> Result<Vec<u8>, Fault> {
+        overlay_bytes(alloc, hasher, base, overlay).map_err(|fault| shown(fault))
+    }
+}
+
+fn shown(fault: dtman_engine::Fault) -> Fault {
+    Fault {
+        number: fault.number,
+        name: fault.name,
+        line: match fault.place {
+            Place::Line(line) => Some(line),
+            _ => None,
+        },
+    }
+}

@@ -1,0 +1,56 @@
+//! `dtman` in the place of dtc and fdtoverlay: by `dtman dtc ..`, `dtman fdtoverlay ..`, or by a link of that name.
+
+use crate::engine::Engine;
+use crate::files::System;
+use dtman_dtc::{run_dtc, run_fdtoverlay};
+use std::env;
+use std::random::RandomSource;
+use std::rt::{Env, Files};
+
+/// A program in whose place this one stands.
+#[derive(Clone, Copy)]
+enum Tool {
+    Dtc,
+    Fdtoverlay,
+}
+
+/// Runs a tool where the words ask for one, and answers its exit status.
+pub fn stand_in<R: Env + Files + RandomSource + Input + Print + Eprint + AllocGlobal>(
+    rt: &R,
+) -> Option<u8> {
+    let words: Vec<String> = env::args(rt).ok()?.collect(rt.alloc()).ok()?;
+    let words: Vec<&str> = words
+        .iter()
+        .map(|word| word.as_str())
+        .collect(rt.alloc())
+        .ok()?;
+    let (tool, rest) = asked(words.as_slice())?;
+    let mut system = System { rt };
+    let mut engine = Engine;
+    Some(match tool {
+        Tool::Dtc => run_dtc(rt.alloc(), &mut system, &mut engine, rest),
+        Tool::Fdtoverlay => run_fdtoverlay(rt.alloc(), &mut system, &mut engine, rest),
+    })
+}
+
+/// The tool that the program's name or its first word names, and the words behind that.
+fn asked<'a, 'b>(words: &'b [&'a str]) -> Option<(Tool, &'b [&'a str])> {
+    let (program, rest) = words.split_first()?;
+    let name = match program.rsplit_once("/") {
+        Some((_, name)) => name,
+        None => *program,
+    };
+    if let Some(tool) = tool_of(name) {
+        return Some((tool, rest));
+    }
+    let (first, rest) = rest.split_first()?;
+    Some((tool_of(*first)?, rest))
+}
+
+fn tool_of(name: &str) -> Option<Tool> {
+    match name {
+        "dtc" => Some(Tool::Dtc),
+        "fdtoverlay" => Some(Tool::Fdtoverlay),
+        _ => None,
+    }
+}

@@ -1,0 +1,55 @@
+-- What a subcommand says, by the definition of the command line and the words.
+use Rattle.std.specs.Prelude.{◌≡◌, ◌≤◌, ℕ, Bool, false, List, Option, Some, None, codes}
+use Rattle.std.specs.Str.{bytes_eq}
+use Rattle.std.specs.Str.Parse.{IsNumeral, digits_value, without_leading_plus}
+use Rattle.bus_manager.specs.Workers.{most_workers}
+use Rattle.clap.specs.Words.{Row, Text, first_of, one_of, subcommand_of}
+use Rattle.dtman_cli.specs.declared.subcommand.Command.{Command}
+use Rattle.dtman_cli.specs.declared.subcommand.Command.TheVariants.{Compile, Overlay, Dump, Plan, Replay, Probe, Explain}
+use Rattle.dtman_cli.specs.Grammar.{dtman}
+
+-- whether an option without a value was given
+abbrev pub is_on : Option Text → Bool
+is_on None = false
+is_on (Some text) = bytes_eq text (codes "true")
+
+-- the number that clap's number parser reads of an option's text
+abbrev pub IsNumber : Option Text → ℕ → Type 0
+IsNumber None n = ⊥
+IsNumber (Some text) n = IsNumeral 10 (without_leading_plus text) × (n ≡ digits_value 10 (without_leading_plus text))
+
+-- so many workers were asked for, as many as there may be
+abbrev pub AreWorkers : ℕ → List Row → Type 0
+AreWorkers n rows = IsNumber (one_of (codes "workers") rows) n × (1 ≤ n) × (n ≤ most_workers)
+
+-- so many, or none were asked for
+abbrev pub AreAsked : Option ℕ → List Row → Type 0
+AreAsked None rows = first_of (codes "workers") rows ≡ None
+AreAsked (Some n) rows = AreWorkers n rows
+
+-- the subcommand that was met, with the values of its arguments
+abbrev pub IsMet : Command → Text → List Row → Type 0
+IsMet (Compile source out symbols) name rows =
+    (name ≡ codes "compile") × (first_of (codes "IN") rows ≡ Some source.now) × (first_of (codes "OUT") rows ≡ Some out.now) × (symbols ≡ is_on (first_of (codes "symbols") rows))
+IsMet (Overlay base overlay out) name rows =
+    (name ≡ codes "overlay") × (first_of (codes "BASE") rows ≡ Some base.now) × (first_of (codes "OVERLAY") rows ≡ Some overlay.now) × (first_of (codes "OUT") rows ≡ Some out.now)
+IsMet (Dump blob) name rows = (name ≡ codes "dump") × (first_of (codes "IN") rows ≡ Some blob.now)
+IsMet (Plan blob drivers dot) name rows =
+    (name ≡ codes "plan") × (first_of (codes "BLOB") rows ≡ Some blob.now) × (first_of (codes "DRIVERS") rows ≡ Some drivers.now) × (dot ≡ is_on (first_of (codes "dot") rows))
+IsMet (Probe blob drivers workers) name rows =
+    (name ≡ codes "probe") × (first_of (codes "BLOB") rows ≡ Some blob.now) × (first_of (codes "DRIVERS") rows ≡ Some drivers.now)
+    × AreWorkers workers rows
+IsMet (Replay plan schedule workers) name rows =
+    (name ≡ codes "replay") × (first_of (codes "PLAN") rows ≡ Some plan.now) × (first_of (codes "SCHEDULE") rows ≡ Some schedule.now)
+    × AreAsked workers rows
+IsMet (Explain number) name rows = (name ≡ codes "explain") × (first_of (codes "NUMBER") rows ≡ Some number.now)
+
+pub record Meets (command : Command) (met : Option (Text × List Row)) : Type 0 where
+  pub name : Text
+  pub rows : List Row
+  pub given : met ≡ Some (name, rows)
+  pub is_met : IsMet command name rows
+
+-- what the words say, the first of which is the program's name
+abbrev pub Says : Command → List Text → Type 0
+Says command words = Meets command (subcommand_of dtman words)

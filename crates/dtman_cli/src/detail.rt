@@ -1,0 +1,76 @@
+//! How much is told of a refusal, and the lines of one.
+
+use crate::failure::Failure;
+use dtman_diagnosis::{Diagnosis, text_of};
+use dtman_engine::{Fault, Place};
+use std::alloc::{AllocError, Global};
+
+/// How much is told of a refusal.
+#[derive(Clone, Copy, Debug, PartialEq, Eq)]
+pub enum Detail {
+    /// its one line
+    Line,
+    /// where and what, too
+    Verbose,
+}
+
+/// The words of a command line without those that ask for detail, which stand before or behind any others up to `--`.
+#[derive(Drop)]
+pub struct Asked<'a> {
+    pub words: Vec<&'a str>,
+    pub detail: Detail,
+}
+
+/// Takes the words that ask for detail out, and lets `explain` alone ask for all errors.
+pub fn asked_for<'a>(alloc: Global, words: &[&'a str]) -> Result<Asked<'a>, AllocError> {
+    let mut asked = Asked {
+        words: Vec::with_capacity(alloc, words.len().saturating_add(1))?,
+        detail: Detail::Line,
+    };
+    let mut options = true;
+    for word in words {
+        if *word == "--" {
+            options = false;
+        }
+        if options && (*word == "-v" || *word == "--verbose") {
+            asked.detail = Detail::Verbose;
+        } else {
+            asked.words.push(*word)?;
+        }
+    }
+    if asked.words.len() == 2 && asked.words.last().copied() == Some("explain") {
+        asked.words.push("all")?;
+    }
+    Ok(asked)
+}
+
+/// A refusal with its lines. Where there is no memory for them, it has its one line.
+pub fn refusal<'a>(
+    alloc: Global,
+    fault: Fault,
+    diagnosis: Result<Diagnosis, AllocError>,
+) -> Failure<'a> {
+    if fault.number == 0 {
+        return Failure::Refused(fault);
+    }
+    match diagnosis {
+        Ok(diagnosis) => match lines_of(alloc, fault, &diagnosis) {
+            Ok(lines) => Failure::Told(lines),
+            Err(_) => Failure::Refused(fault),
+        },
+        Err(_) => Failure::Refused(fault),
+    }
+}
+
+fn lines_of(alloc: Global, fault: Fault, diagnosis: &Diagnosis) -> Result<String, AllocError> {
+    let first = format!(in alloc; "{fault}")?;
+    text_of(alloc, first.as_str(), diagnosis)
+}
+
+/// The line of a text file that a fault tells.
+pub fn line_in(fault: Fault) -> Option<usize> {
+    match fault.place {
+        Place::Line(line) => Some(line),
+        _ => None,
+    }
+}

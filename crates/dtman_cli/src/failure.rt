@@ -1,0 +1,41 @@
+//! Why a command ends without its output, and the one line that tells it.
+
+use crate::running::{COMMAND_LINE, FILE, REFUSED};
+use dtman_engine::Fault;
+
+/// Why a command ended without its output.
+#[derive(Debug, Drop)]
+pub enum Failure<'a> {
+    Refused(Fault),
+    /// A refusal with the lines that say where and what.
+    Told(String),
+    /// A fault of the file at a path.
+    File(Fault, &'a str),
+    /// Nobody reads the output any more. That isn't told.
+    Unread,
+    /// A number that no error has.
+    NoSuchNumber(&'a str),
+}
+
+impl From<Fault> for Failure<'_> {
+    fn from(fault: Fault) -> Self {
+        Failure::Refused(fault)
+    }
+}
+
+/// Prints the line of a failure, or its lines, and answers its exit status.
+pub fn fail<E: Eprint>(errors: &E, failure: Failure<'_>) -> u8 {
+    let (printed, status) = match failure {
+        Failure::Refused(fault) => (eprintln!(errors; "{fault}"), REFUSED),
+        Failure::Told(lines) => (eprint!(errors; "{lines}"), REFUSED),
+        Failure::File(fault, path) => (eprintln!(errors; "{fault} {path}"), FILE),
+        Failure::Unread => (Ok(()), FILE),
+        Failure::NoSuchNumber(number) => (
+            eprintln!(errors; "error: no error has the number {number}"),
+            COMMAND_LINE,
+        ),
+    };
+    // Standard error is the last place to say anything: the status stands alone where it is closed.
+    let _ = printed;
+    status
+}

@@ -1,0 +1,207 @@
+//! What the command line may say, as `clap` reads it.
+ghost use Rattle.std.specs.Prelude.{◌≡◌, false, IfOk};
+ghost use Rattle.clap.specs.Words.{App, Rule, app_of, new_app, rule_of, with_rule, with_subcommand};
+ghost use Rattle.clap.specs.declared.builder.command.Command.TheViews.{out-Command};
+ghost use Rattle.dtman_cli.specs.Grammar as spec;
+ghost use Rattle.dtman_cli.specs.Making.{Makes};
+
+use bus_manager::MAX_WORKERS;
+use clap::builder::ValueParser;
+use clap::{Arg, ArgAction, Command};
+use std::alloc::{AllocError, Global};
+
+/// What `--help` says behind the commands.
+const STATUSES: &str = "\
+Files: `-` is standard input, or standard output in the place of OUT; `./-` is a
+file of that name.
+
+Statuses: 0 done; 1 refused, with `error NUMBER NAME` and its place on standard
+error (`dtman explain NUMBER` says more); 2 the command line is no command; 3 a
+file can't be read or written (80, 81) or is too long (82), or nobody reads the
+output any more, which isn't told.
+
+With -v or --verbose before or behind any command, or DTMAN_VERBOSE=1 in the
+environment, further lines of a refusal say where it is and of what.
+
+Limits: a source has at most 16,777,216 bytes; a blob and its printed source
+have at most 268,435,456, and so does each text file of the bus; nodes are
+nested at most 64 deep; a plan has at most 4,096 devices, a schedule at
+most 500,000 begins.
+
+Workers are 1 to 64: of `probe` 4 where none are named; `replay` binds what is
+left by workers only where they are named.
+
+Formats: a driver file's line is `driver NAME COMPATIBLE..` or `fail PATH`. A
+plan's line is `PATH DRIVER ok|fail SUPPLIER..`, `PATH - - SUPPLIER..` (no
+driver), `PATH ! - SUPPLIER..` (switched off) or `compatible PATH COMPATIBLE..`
+(what a late driver may match). A schedule's is `begin PATH`, `finish PATH
+settled`, `finish PATH missing SUPPLIER`, `abandon PATH` or `driver NAME
+COMPATIBLE..` (a driver that comes late). Lines that begin with # are skipped.";
+
+/// What the program takes.
+pub fn grammar<'a>(alloc: Global) -> Result<Command<'a>, AllocError>
+    ensures { IfOk result (λ c. (app_of c ≡ spec.dtman) × ((out-Command c).has_globals ≡ false)) }
+{
+    let app = add_subcommand(Ok(top(alloc)), compile(alloc));
+    let app = add_subcommand(app, overlay(alloc));
+    let app = add_subcommand(app, dump(alloc));
+    let app = add_subcommand(app, plan(alloc));
+    let app = add_subcommand(app, replay(alloc));
+    let app = add_subcommand(app, probe(alloc));
+    add_subcommand(app, explain(alloc))
+}
+
+/// Adds a subcommand, unless memory was refused. It takes what may be refused, so that its callers have one way out.
+fn add_subcommand<'a>(
+    command: Result<Command<'a>, AllocError>,
+    subcommand: Result<Command<'a>, AllocError>,
+) -> Result<Command<'a>, AllocError>
+    ensures { (app : App) (other : App) → Makes command.entry app → Makes subcommand.entry other → Makes result (with_subcommand app other.top) }
+{
+    let command = command?;
+    let subcommand = subcommand?;
+    command.subcommand(subcommand)
+}
+
+/// Adds an argument, unless memory was refused.
+fn add_argument<'a>(
+    command: Result<Command<'a>, AllocError>,
+    argument: Arg<'a>,
+) -> Result<Command<'a>, AllocError>
+    requires { argument.global ≡ false }
+    ensures { (app : App) (rule : Rule) → Makes command.entry app → rule_of argument.entry ≡ rule → Makes result (with_rule app rule) }
+{
+    let command = command?;
+    command.arg(argument)
+}
+
+/// A command without arguments.
+fn named<'a>(alloc: Global, name: &'a str, about: &'a str) -> Command<'a>
+    ensures shape { app_of result ≡ new_app name.now }
+    ensures globals { (out-Command result).has_globals ≡ false }
+{
+    Command::new(alloc, name).about(about)
+}
+
+/// The program without its subcommands.
+fn top<'a>(alloc: Global) -> Command<'a>
+    ensures shape { app_of result ≡ spec.top }
+    ensures globals { (out-Command result).has_globals ≡ false }
+{
+    Command::new(alloc, "dtman")
+        .about("Devicetree compiler and driver-binding manager")
+        .version("0.2")
+        .after_help(STATUSES)
+        .subcommand_required(true)
+}
+
+fn compile<'a>(alloc: Global) -> Result<Command<'a>, AllocError>
+    ensures { IfOk result (λ c. (app_of c ≡ spec.compile) × ((out-Command c).has_globals ≡ false)) }
+{
+    let about = "Compiles a source to a blob";
+    let out = "The blob, which is written once all of it is ready";
+    let symbols = "Adds the paths of all labelled nodes";
+    let command = named(alloc, "compile", about).arg(required(alloc, "IN", "The source"));
+    let command = add_argument(command, required(alloc, "OUT", out));
+    add_argument(command, flag(alloc, "symbols", symbols))
+}
+
+fn overlay<'a>(alloc: Global) -> Result<Command<'a>, AllocError>
+    ensures { IfOk result (λ c. (app_of c ≡ spec.overlay) × ((out-Command c).has_globals ≡ false)) }
+{
+    let about = "Applies an overlay to a base";
+    let out = "The blob, which is written once all of it is ready";
+    let command = named(alloc, "overlay", about).arg(required(alloc, "BASE", "The base's blob"));
+    let command = add_argument(command, required(alloc, "OVERLAY", "The overlay's blob"));
+    add_argument(command, required(alloc, "OUT", out))
+}
+
+fn dump<'a>(alloc: Global) -> Result<Command<'a>, AllocError>
+    ensures { IfOk result (λ c. (app_of c ≡ spec.dump) × ((out-Command c).has_globals ≡ false)) }
+{
+    let about = "Prints a blob as a canonical source";
+    named(alloc, "dump", about).arg(required(alloc, "IN", "The blob"))
+}
+
+fn plan<'a>(alloc: Global) -> Result<Command<'a>, AllocError>
+    ensures { IfOk result (λ c. (app_of c ≡ spec.plan) × ((out-Command c).has_globals ≡ false)) }
+{
+    let about = "Prints the plan of a blob: its devices, their drivers and suppliers";
+    let command = named(alloc, "plan", about).arg(required(alloc, "BLOB", "The blob"));
+    let command = add_argument(command, required(alloc, "DRIVERS", "The driver file"));
+    add_argument(
+        command,
+        flag(alloc, "dot", "Prints a Graphviz graph instead"),
+    )
+}
+
+fn replay<'a>(alloc: Global) -> Result<Command<'a>, AllocError>
+    ensures { IfOk result (λ c. (app_of c ≡ spec.replay) × ((out-Command c).has_globals ≡ false)) }
+{
+    let about = "Replays a schedule of probe events over a plan and prints the report";
+    let workers = "How many bind what the schedule leaves, 1 to 64";
+    let most = MAX_WORKERS as u64;
+    let command = named(alloc, "replay", about).arg(required(alloc, "PLAN", "The plan file"));
+    let command = add_argument(
+        command,
+        required(alloc, "SCHEDULE", "The schedule of events"),
+    );
+    add_argument(command, asked_number(alloc, "workers", most, workers))
+}
+
+fn probe<'a>(alloc: Global) -> Result<Command<'a>, AllocError>
+    ensures { IfOk result (λ c. (app_of c ≡ spec.probe) × ((out-Command c).has_globals ≡ false)) }
+{
+    let about = "Binds the devices of a blob by workers and prints the end report";
+    let workers = "How many probe at once, 1 to 64";
+    let most = MAX_WORKERS as u64;
+    let command = named(alloc, "probe", about).arg(required(alloc, "BLOB", "The blob"));
+    let command = add_argument(command, required(alloc, "DRIVERS", "The driver file"));
+    add_argument(command, number(alloc, "workers", most, "4", workers))
+}
+
+fn explain<'a>(alloc: Global) -> Result<Command<'a>, AllocError>
+    ensures { IfOk result (λ c. (app_of c ≡ spec.explain) × ((out-Command c).has_globals ≡ false)) }
+{
+    let about = "Says what an error means and what to do; alone it lists all";
+    let word = "The number behind `error`, or the name";
+    named(alloc, "explain", about).arg(required(alloc, "NUMBER", word))
+}
+
+fn required<'a>(alloc: Global, name: &'a str, about: &'a str) -> Arg<'a>
+    ensures rule { rule_of result ≡ spec.required name.now }
+    ensures local { result.global ≡ false }
+{
+    Arg::new(alloc, name).required(true).help(about)
+}
+
+fn flag<'a>(alloc: Global, name: &'a str, about: &'a str) -> Arg<'a>
+    ensures rule { rule_of result ≡ spec.flag name.now }
+    ensures local { result.global ≡ false }
+{
+    Arg::new(alloc, name)
+        .long(name)
+        .action(ArgAction::SetTrue)
+        .help(about)
+}
+
+fn asked_number<'a>(alloc: Global, name: &'a str, most: u64, about: &'a str) -> Arg<'a>
+    ensures rule { rule_of result ≡ spec.asked_number name.now most }
+    ensures local { result.global ≡ false }
+{
+    Arg::new(alloc, name)
+        .long(name)
+        .value_parser(ValueParser::unsigned(1, most))
+        .help(about)
+}
+
+fn number<'a>(alloc: Global, name: &'a str, most: u64, default: &'a str, about: &'a str) -> Arg<'a>
+    ensures rule { rule_of result ≡ spec.number name.now most default.now }
+    ensures local { result.global ≡ false }
+{
+    Arg::new(alloc, name)
+        .long(name)
+        .value_parser(ValueParser::unsigned(1, most))
+        .default_value(default)
+        .help(about)
+}

@@ -1,0 +1,165 @@
+//! The command line, read by `clap`.
+ghost use Rattle.std.specs.Prelude.{◌≡◌, IfOk, IfSome, codes, map};
+ghost use Rattle.clap.specs.Words.{app_of, first_of, found_of, rows_of};
+ghost use Rattle.clap.specs.Simple.{subcommand_rows_of};
+ghost use Rattle.dtman_cli.specs.Grammar.{dtman};
+ghost use Rattle.dtman_cli.specs.CommandLine.{AreAsked, AreWorkers, IsMet, Meets, Says, is_on};
+
+use crate::grammar::grammar;
+use crate::subcommand::Command;
+use bus_manager::MAX_WORKERS;
+use clap::error::ErrorKind;
+use clap::{ArgMatches, Error};
+use std::alloc::Global;
+
+/// Reads the words of a command line, of which the first is the program's name.
+pub fn command<'a>(alloc: Global, words: &'a [&'a str]) -> Result<Command<'a>, Error>
+    ensures { IfOk result (λ command. Says command (map (λ word. word.now) words.entry.now)) }
+{
+    let mut grammar = grammar(alloc)?;
+    read(&mut grammar, words)
+}
+
+/// Reads words by a grammar, which it borrows, so that no way out drops it.
+fn read<'a>(grammar: &mut clap::Command<'a>, words: &'a [&'a str]) -> Result<Command<'a>, Error>
+    requires { app_of grammar.old ≡ dtman }
+    ensures { IfOk result (λ command. Says command (map (λ word. word.now) words.entry.now)) }
+{
+    let matches = grammar.try_get_matches_from_mut(words)?;
+    match chosen(&matches) {
+        Some(command) => Ok(command),
+        None => Err(no_subcommand(grammar)),
+    }
+}
+
+/// The error of words without a subcommand, or the want of memory for it.
+fn no_subcommand(grammar: &mut clap::Command<'_>) -> Error {
+    match grammar.error(ErrorKind::MissingSubcommand, "a subcommand is required") {
+        Ok(error) => error,
+        Err(refused) => Error::from(refused),
+    }
+}
+
+/// The subcommand that was met. A parse that succeeds has one, with its paths.
+fn chosen<'a>(matches: &ArgMatches<'a>) -> Option<Command<'a>>
+    ensures { IfSome result (λ command. Meets command (subcommand_rows_of matches.now)) }
+{
+    let (name, given) = matches.subcommand()?;
+    match name {
+        "compile" => compile(given),
+        "overlay" => overlay(given),
+        "dump" => dump(given),
+        "plan" => plan(given),
+        "probe" => probe(given),
+        "replay" => replay(given),
+        "explain" => explain(given),
+        _ => None,
+    }
+}
+
+fn compile<'a>(given: &ArgMatches<'a>) -> Option<Command<'a>>
+    ensures { IfSome result (λ command. IsMet command (codes "compile") (rows_of (found_of given.now))) }
+{
+    Some(Command::Compile {
+        source: given.get_str("IN")?,
+        out: given.get_str("OUT")?,
+        symbols: is_on(given, "symbols"),
+    })
+}
+
+fn overlay<'a>(given: &ArgMatches<'a>) -> Option<Command<'a>>
+    ensures { IfSome result (λ command. IsMet command (codes "overlay") (rows_of (found_of given.now))) }
+{
+    Some(Command::Overlay {
+        base: given.get_str("BASE")?,
+        overlay: given.get_str("OVERLAY")?,
+        out: given.get_str("OUT")?,
+    })
+}
+
+fn dump<'a>(given: &ArgMatches<'a>) -> Option<Command<'a>>
+    ensures { IfSome result (λ command. IsMet command (codes "dump") (rows_of (found_of given.now))) }
+{
+    Some(Command::Dump {
+        blob: given.get_str("IN")?,
+    })
+}
+
+fn plan<'a>(given: &ArgMatches<'a>) -> Option<Command<'a>>
+    ensures { IfSome result (λ command. IsMet command (codes "plan") (rows_of (found_of given.now))) }
+{
+    Some(Command::Plan {
+        blob: given.get_str("BLOB")?,
+        drivers: given.get_str("DRIVERS")?,
+        dot: is_on(given, "dot"),
+    })
+}
+
+fn probe<'a>(given: &ArgMatches<'a>) -> Option<Command<'a>>
+    ensures { IfSome result (λ command. IsMet command (codes "probe") (rows_of (found_of given.now))) }
+{
+    Some(Command::Probe {
+        blob: given.get_str("BLOB")?,
+        drivers: given.get_str("DRIVERS")?,
+        workers: workers(given)?,
+    })
+}
+
+fn replay<'a>(given: &ArgMatches<'a>) -> Option<Command<'a>>
+    ensures { IfSome result (λ command. IsMet command (codes "replay") (rows_of (found_of given.now))) }
+{
+    Some(Command::Replay {
+        plan: given.get_str("PLAN")?,
+        schedule: given.get_str("SCHEDULE")?,
+        workers: asked_workers(given)?.number,
+    })
+}
+
+fn explain<'a>(given: &ArgMatches<'a>) -> Option<Command<'a>>
+    ensures { IfSome result (λ command. IsMet command (codes "explain") (rows_of (found_of given.now))) }
+{
+    Some(Command::Explain {
+        number: given.get_str("NUMBER")?,
+    })
+}
+
+/// Whether an option without a value was given.
+fn is_on(given: &ArgMatches<'_>, name: &str) -> bool
+    ensures { result ≡ is_on (first_of name.now (rows_of (found_of given.now))) }
+{
+    match given.get_str(name) {
+        Some(text) => text == "true",
+        None => false,
+    }
+}
+
+/// The number of workers. That it is in the range of the grammar is tested here once more, as the range of an option is
+/// said of a parse and not of what its getters answer.
+fn workers(given: &ArgMatches<'_>) -> Option<u8>
+    ensures { IfSome result (λ number. AreWorkers number (rows_of (found_of given.now))) }
+{
+    let number = given.get_one::<u8>("workers")?;
+    if number < 1 {
+        return None;
+    }
+    if number as usize > MAX_WORKERS {
+        return None;
+    }
+    Some(number)
+}
+
+/// The workers that an option asks for, if it is there.
+#[derive(Clone, Copy)]
+struct Asked {
+    number: Option<u8>,
+}
+
+fn asked_workers(given: &ArgMatches<'_>) -> Option<Asked>
+    ensures { IfSome result (λ asked. AreAsked asked.number (rows_of (found_of given.now))) }
+{
+    let number = match given.get_str("workers") {
+        None => None,
+        Some(_) => Some(workers(given)?),
+    };
+    Some(Asked { number })
+}

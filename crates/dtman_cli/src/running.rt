@@ -1,0 +1,179 @@
+//! The program: the words of a command line in, its exit status out.
+ghost use Rattle.std.specs.Prelude.{◌≡◌, false};
+
+use crate::detail::{Detail, asked_for};
+use crate::failure::{Failure, fail};
+use crate::files::{INPUT, SEED, print};
+use crate::performing::perform;
+use crate::reading::command;
+use crate::surroundings::Surroundings;
+use clap::error::ErrorKind as Mistake;
+use dtman_engine::{Channel, Fault, OutputChannel};
+use std::alloc::{AllocError, Global};
+use std::io::ErrorKind;
+use std::process::ExitCode;
+use std::random::RandomSource;
+use std::rt::{Env, Files};
+use std::thread::Threads;
+use std::{env, io};
+
+/// The exit status of a command that was done.
+pub const DONE: u8 = 0;
+
+/// The exit status of a refusal.
+pub const REFUSED: u8 = 1;
+
+/// The exit status of a command line that is no command.
+pub const COMMAND_LINE: u8 = 2;
+
+/// The exit status of a file that can't be read or written.
+pub const FILE: u8 = 3;
+
+/// Reads the arguments, runs the command, and answers the exit status.
+pub fn run<R: Env + Files + Input + RandomSource + Print + Eprint + AllocGlobal + Threads + Sync>(
+    rt: &R,
+) -> ExitCode {
+    let mut output = OutputChannel::new(io::writer(rt));
+    let mut host = rt;
+    let status = match arguments(rt) {
+        Ok(words) => {
+            match listed(rt.alloc(), words.as_slice(), wants_detail(rt)) {
+                Ok(words) => run_words(
+                    rt.alloc(),
+                    &mut host,
+                    rt,
+                    &mut output,
+                    rt,
+                    words.as_slice(),
+                ),
+                Err(_) => fail(rt, Failure::Refused(Fault::no_memory())),
+            }
+        }
+        Err(error) if error.kind() == ErrorKind::OutOfMemory => fail(
+            rt,
+            Failure::Refused(Fault::no_memory()),
+        ),
+        Err(_) => {
+            let _ = eprintln!(rt; "error: an argument is not text");
+            COMMAND_LINE
+        }
+    };
+    ExitCode::from(status)
+}
+
+// Whether `DTMAN_VERBOSE=1` stands in the environment.
+fn wants_detail<R: Env + AllocGlobal>(rt: &R) -> bool {
+    match env::var(rt, "DTMAN_VERBOSE") {
+        Ok(value) => value.as_str() == "1",
+        Err(_) => false,
+    }
+}
+
+// The words, in front of them one that asks for detail where it is wanted.
+fn listed(alloc: Global, words: &[String], detail: bool) -> Result<Vec<&str>, AllocError> {
+    let mut list = Vec::with_capacity(alloc, words.len())?;
+    if detail {
+        list.push("--verbose")?;
+    }
+    for word in words {
+        list.push(word.as_str())?;
+    }
+    Ok(list)
+}
+
+fn arguments<R: Env + AllocGlobal>(rt: &R) -> io::Result<Vec<String>> {
+    let words: Vec<String> = env::args(rt)?.collect(rt.alloc())?;
+    Ok(words)
+}
+
+/// Runs the command that the words name, over any files and any standard output, and answers the exit status.
+///
+/// Where that isn't 0, nothing was written to standard output, unless that is what failed. The words `-v` and `--verbose`
+/// ask for detail, before or behind the others.
+pub fn run_words<S: Surroundings, O: Channel, E: Eprint, T: Threads + Sync>(
+    alloc: Global,
+    surroundings: &mut S,
+    threads: &T,
+    output: &mut O,
+    errors: &E,
+    words: &[&str],
+) -> u8
+    requires { O.has_failed output.old ≡ false }
+{
+    let asked = match asked_for(alloc, words) {
+        Ok(asked) => asked,
+        Err(_) => return fail(errors, Failure::Refused(Fault::no_memory())),
+    };
+    run_command(
+        alloc,
+        surroundings,
+        threads,
+        output,
+        errors,
+        asked.words.as_slice(),
+        asked.detail,
+    )
+}
+
+fn run_command<S: Surroundings, O: Channel, E: Eprint, T: Threads + Sync>(
+    alloc: Global,
+    surroundings: &mut S,
+    threads: &T,
+    output: &mut O,
+    errors: &E,
+    words: &[&str],
+    detail: Detail,
+) -> u8
+    requires { O.has_failed output.old ≡ false }
+{
+    match command(alloc, words) {
+        Ok(command) => match perform(alloc, surroundings, threads, output, command, detail) {
+            Ok(()) => DONE,
+            Err(Failure::File(fault, path)) if detail == Detail::Verbose => {
+                fail_file(surroundings, errors, fault, path)
+            }
+            Err(failure) => fail(errors, failure),
+        },
+        Err(error) => match error.kind() {
+            Mistake::OutOfMemory => fail(errors, Failure::Refused(Fault::no_memory())),
+            Mistake::DisplayHelp | Mistake::DisplayVersion => tell(alloc, output, errors, &error),
+            _ => {
+                let _ = errors.eprint(&error);
+                COMMAND_LINE
+            }
+        },
+    }
+}
+
+// A fault of a file, with what the system says where it can't be opened.
+fn fail_file<S: Surroundings, E: Eprint>(
+    surroundings: &mut S,
+    errors: &E,
+    fault: Fault,
+    path: &str,
+) -> u8 {
+    let reason = if fault.number == 80 && path != INPUT && path != SEED {
+        surroundings.reason(path)
+    } else {
+        None
+    };
+    let status = fail(errors, Failure::File(fault, path));
+    if let Some(error) = reason {
+        let _ = eprintln!(errors; "{path}: {error}");
+    }
+    status
+}
+
+/// Prints what the words asked `clap` for.
+fn tell<O: Channel, E: Eprint>(alloc: Global, output: &mut O, errors: &E, asked: &clap::Error) -> u8
+    requires { O.has_failed output.old ≡ false }
+{
+    let printed = match format!(in alloc; "{asked}") {
+        Ok(text) => print(output, text.as_bytes()),
+        Err(_) => Err(Failure::Refused(Fault::no_memory())),
+    };
+    match printed {
+        Ok(()) => DONE,
+        Err(failure) => fail(errors, failure),
+    }
+}

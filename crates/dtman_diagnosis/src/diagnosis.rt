@@ -1,0 +1,104 @@
+//! A diagnosis as data.
+
+use std::alloc::{AllocError, Global};
+
+/// Where a fault is.
+#[derive(Debug, Drop)]
+pub enum Place {
+    Nowhere,
+    /// A file as a whole.
+    File {
+        file: Vec<u8>,
+    },
+    /// Bytes of a text: the file and line that they came from, the line's text, and how many bytes of it are meant from
+    /// the column on.
+    Text {
+        file: Vec<u8>,
+        line: usize,
+        column: usize,
+        text: Vec<u8>,
+        marked: usize,
+    },
+    /// A byte of a blob.
+    Offset {
+        file: Vec<u8>,
+        offset: usize,
+    },
+}
+
+/// What else there is to say.
+#[derive(Debug, Drop)]
+pub enum Note {
+    /// The node in which it stands, and the property.
+    In {
+        path: Vec<u8>,
+        property: Option<Vec<u8>>,
+    },
+    /// Names that are spelled alike, the nearest first.
+    Alike(Vec<Vec<u8>>),
+    /// Where that stands which it meets.
+    Earlier(Place),
+    /// Where a bracket stands that isn't closed.
+    Unclosed(Place),
+    /// What must stand there, and the word that does.
+    Wanted {
+        wanted: &'static str,
+        found: Option<u32>,
+    },
+    /// The entry of `__fixups__`.
+    Fixup(Vec<u8>),
+    /// The phandle that a fragment targets.
+    Target(u32),
+    /// By how much phandles of the overlay are raised.
+    Shift(u32),
+    /// How a device stands, as a report's line.
+    Stands(Vec<u8>),
+    /// How many devices there are.
+    Count(usize),
+    /// An entry of a property, from 1, and its phandle.
+    Entry {
+        entry: usize,
+        phandle: u32,
+    },
+    /// How many bytes a value has.
+    Length(usize),
+    /// The node that an entry names, and the property that counts its cells.
+    Cells {
+        path: Vec<u8>,
+        name: &'static [u8],
+        count: Option<u32>,
+    },
+    /// What is said in words.
+    Words(&'static str),
+}
+
+/// What is meant.
+#[derive(Clone, Copy, Debug, PartialEq, Eq)]
+pub enum Subject {
+    Nothing,
+    Label,
+    Path,
+    Name,
+    Literal,
+    Escape,
+    Punctuation,
+    Unclosed,
+    End,
+}
+
+/// A refusal by its number, where it is, what it is of, and what else there is to say.
+#[derive(Debug, Drop)]
+pub struct Diagnosis {
+    pub number: u8,
+    pub place: Place,
+    pub kind: Subject,
+    pub subject: Vec<u8>,
+    pub notes: Vec<Note>,
+}
+
+/// A copy of bytes.
+pub fn copied(alloc: Global, bytes: &[u8]) -> Result<Vec<u8>, AllocError> {
+    let mut copy = Vec::with_capacity(alloc, bytes.len())?;
+    copy.extend_from_slice(bytes)?;
+    Ok(copy)
+}

@@ -1,0 +1,103 @@
+//! What is told of the examples of `explain` in detail, line by line as `--verbose` prints it.
+
+/// The lines that `--verbose` prints for the example of an error, if it has one.
+pub fn example_of(number: u8) -> Option<&'static str> {
+    match number {
+        0..=19 => of_text(number),
+        20..=29 => of_meaning(number),
+        _ => of_bus(number),
+    }
+}
+
+fn of_text(number: u8) -> Option<&'static str> {
+    match number {
+        10 => Some("error 10 Syntax line 1\nIN: the text ends, and more must follow\n = in /\n"),
+        11 => Some(
+            "error 11 ElementRange line 1\nIN:1:15: the element `0x100000000` doesn't fit its width\n  |\n1 | /dts-v1/;/{a=<0x100000000>;};\n  |               ^^^^^^^^^^^\n  = in /, property a\n",
+        ),
+        12 => Some(
+            "error 12 DivideByZero line 1\nIN:1:17: `/` divides by zero\n  |\n1 | /dts-v1/;/{a=<(1/0)>;};\n  |                 ^\n  = in /, property a\n",
+        ),
+        13 => Some(
+            "error 13 BadBits line 1\nIN:1:21: the width `9` isn't 8, 16, 32 or 64\n  |\n1 | /dts-v1/;/{a=/bits/ 9<1>;};\n  |                     ^\n  = in /, property a\n",
+        ),
+        14 => Some(
+            "error 14 LiteralRange line 1\nIN:1:15: `08` is no number below 2^64\n  |\n1 | /dts-v1/;/{a=<08>;};\n  |               ^^\n  = in /, property a\n",
+        ),
+        15 => Some(
+            "error 15 BadEscape line 1\nIN:1:15: `\\x` is no escape\n  |\n1 | /dts-v1/;/{a=\"\\x\";};\n  |               ^^\n  = in /, property a\n",
+        ),
+        16 => Some(
+            "error 16 TooDeep line 1\nIN:1:79: `(` nests deeper than 64\n  |\n1 | /dts-v1/;/{a=<(((((((((((((((((((((((((((((((((((((((((((((((((((((((((((((((((\n  |                                                                               ^\n  = in /, property a\n  = the bracket isn't closed that stands at IN:1:78\n",
+        ),
+        17 => Some("error 17 TooLong line 1\nIN: a source has at most 16,777,216 bytes\n"),
+        _ => None,
+    }
+}
+
+fn of_meaning(number: u8) -> Option<&'static str> {
+    match number {
+        20 => Some(
+            "error 20 UnknownLabel\nIN:1:15: no node has the label `b`\n  |\n1 | /dts-v1/;/{a=<&b>;};\n  |               ^^\n  = in /, property a\n",
+        ),
+        21 => Some(
+            "error 21 DuplicateLabel\nIN:1:22: the label `a` is another node's\n  |\n1 | /dts-v1/;/{a: x { }; a: y { };};\n  |                      ^^\n  = in /\n  = the other one stands at IN:1:12\n",
+        ),
+        22 => Some(
+            "error 22 UnknownPath\nIN:1:14: no node has the path `/b`\n  |\n1 | /dts-v1/;/{a=&{/b};};\n  |              ^^^^^\n  = in /, property a\n",
+        ),
+        23 => Some(
+            "error 23 BadPhandle\nIN:1:12: a phandle is four plain bytes, and neither 0 nor 0xffffffff\n  |\n1 | /dts-v1/;/{phandle=<0>;};\n  |            ^^^^^^^\n  = in /, property phandle\n",
+        ),
+        24 => Some(
+            "error 24 DuplicatePhandle\nIN:1:27: another node has this phandle\n  |\n1 | /dts-v1/;/{phandle=<1>; a{phandle=<1>;};};\n  |                           ^^^^^^^\n  = in /a, property phandle\n  = the other one stands at IN:1:12\n",
+        ),
+        25 => Some(
+            "error 25 DuplicateInBody\nIN:1:15: the body defines `a` twice\n  |\n1 | /dts-v1/;/{a; a;};\n  |               ^\n  = in /\n  = the other one stands at IN:1:12\n",
+        ),
+        26 => Some(
+            "error 26 PathInPlugin\nIN:1:25: cells of a plugin can't refer to the path `/b`\n  |\n1 | /dts-v1/;/plugin/;&a{r=<&{/b}>;};\n  |                         ^^^^^\n  = in /fragment@0/__overlay__, property r\n",
+        ),
+        27 => Some(
+            "error 27 ReservedName\nIN:1:15: a reference can't name `/__symbols__` here\n  |\n1 | /dts-v1/;/{a=<&{/__symbols__}>; __symbols__{};};\n  |               ^^^^^^^^^^^^^^^\n  = in /, property a\n  = the compiler writes this node, so cells can't refer to it\n",
+        ),
+        28 => Some(
+            "error 28 TooDeep\nIN:2:4: `c` lies deeper than 64 levels\n  |\n2 | &l{c{};};\n  |    ^\n  = in /n/n/n/n/n/n/n/n/n/n/n/n/n/n/n/n/n/n/n/n/n/n/n/n/n/n/n/n/n/n/n/n/n/n/n/n/n/n/n/n/n/n/n/n/n/n/n/n/n/n/n/n/n/n/n/n/n/n/n/n/n/n/n/n\n",
+        ),
+        _ => None,
+    }
+}
+
+fn of_bus(number: u8) -> Option<&'static str> {
+    match number {
+        50 => Some(
+            "error 50 BadLine line 1\nPLAN:1:1: the line has no lawful form\n  |\n1 | /a\n  | ^^\n",
+        ),
+        52 => Some(
+            "error 52 DuplicateDevice line 2\nPLAN:2:1: a line before has this path\n  |\n2 | /a - -\n  | ^^^^^^\n",
+        ),
+        53 => Some(
+            "error 53 UnknownPath line 1\nPLAN:1:1: the line names a path that no device has\n  |\n1 | /a - - /b\n  | ^^^^^^^^^\n",
+        ),
+        56 => Some("error 56 TooManyDevices\nPLAN: there are more devices than a plan may have\n"),
+        60 => Some(
+            "error 60 NotIdle event 2\nSCHEDULE:2:1: the device is in flight or has settled\n  |\n2 | begin /a\n  | ^^^^^^^^\n  = before it: /a probing\n",
+        ),
+        61 => Some(
+            "error 61 Unmatched event 1\nSCHEDULE:1:1: the device has no driver, or is switched off\n  |\n1 | begin /a\n  | ^^^^^^^^\n  = before it: /a unmatched\n",
+        ),
+        63 => Some(
+            "error 63 NotReady event 2\nSCHEDULE:2:1: a supplier of the device isn't bound\n  |\n2 | finish /a settled\n  | ^^^^^^^^^^^^^^^^^\n  = before it: /a probing\n",
+        ),
+        64 => Some(
+            "error 64 WasBound event 2\nSCHEDULE:2:1: the device named is no supplier, or was bound at the begin\n  |\n2 | finish /a missing /b\n  | ^^^^^^^^^^^^^^^^^^^^\n  = before it: /a probing\n",
+        ),
+        66 => Some(
+            "error 66 NotInFlight event 1\nSCHEDULE:1:1: the device isn't in flight\n  |\n1 | abandon /a\n  | ^^^^^^^^^^\n  = before it: /a due\n",
+        ),
+        67 => Some(
+            "error 67 KnownDriver event 1\nSCHEDULE:1:1: a driver has this name\n  |\n1 | driver x b\n  | ^^^^^^^^^^\n",
+        ),
+        _ => None,
+    }
+}

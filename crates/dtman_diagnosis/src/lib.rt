@@ -1,0 +1,21 @@
+//! What a refusal is of and where: a diagnosis as data, and its text.
+//!
+//! It is made once a refusal is there, from the files and the fault; what is answered for without one never comes here.
+#![tactic(auto)]
+
+mod alike;
+mod diagnosis;
+mod escaping;
+mod examples;
+mod plans;
+mod refused;
+mod sentences;
+mod sources;
+mod text;
+
+pub use alike::nearest;
+pub use diagnosis::{Diagnosis, Note, Place, Subject, copied};
+pub use examples::example_of;
+pub use plans::{before_event, diagnose_event, diagnose_text};
+pub use sources::diagnose_source;
+pub use text::text_of;

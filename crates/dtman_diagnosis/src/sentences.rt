@@ -1,0 +1,152 @@
+//! One sentence a refusal.
+
+use crate::diagnosis::{Diagnosis, Subject};
+use crate::escaping::push_shown;
+use std::alloc::AllocError;
+
+/// What is said before and behind the subject. Where there is nothing behind, the subject isn't told.
+#[derive(Clone, Copy)]
+struct Sentence {
+    before: &'static str,
+    behind: Option<&'static str>,
+}
+
+fn plain(before: &'static str) -> Sentence {
+    Sentence {
+        before,
+        behind: None,
+    }
+}
+
+fn of(before: &'static str, behind: &'static str) -> Sentence {
+    Sentence {
+        before,
+        behind: Some(behind),
+    }
+}
+
+fn syntax(kind: Subject) -> Sentence {
+    match kind {
+        Subject::End => plain("the text ends, and more must follow"),
+        Subject::Unclosed => plain("what begins here isn't closed"),
+        Subject::Nothing => plain("no lexeme begins here"),
+        _ => of("", " can't stand here"),
+    }
+}
+
+fn bits(kind: Subject) -> Sentence {
+    match kind {
+        Subject::Label | Subject::Path => {
+            of(
+                "the reference to ",
+                " stands among elements that aren't 32 bits wide",
+            )
+        }
+        _ => of("the width ", " isn't 8, 16, 32 or 64"),
+    }
+}
+
+fn reserved(kind: Subject) -> Sentence {
+    match kind {
+        Subject::Name => of("the name ", " is kept for the compiler"),
+        _ => of("a reference can't name ", " here"),
+    }
+}
+
+fn of_source(number: u8, kind: Subject) -> Sentence {
+    match number {
+        10 => syntax(kind),
+        11 => of("the element ", " doesn't fit its width"),
+        12 => of("", " divides by zero"),
+        13 => bits(kind),
+        14 => of("", " is no number below 2^64"),
+        15 => of("", " is no escape"),
+        16 => of("", " nests deeper than 64"),
+        17 => plain("a source has at most 16,777,216 bytes"),
+        20 => of("no node has the label ", ""),
+        21 => of("the label ", " is another node's"),
+        22 => of("no node has the path ", ""),
+        23 => plain("a phandle is four plain bytes, and neither 0 nor 0xffffffff"),
+        24 => plain("another node has this phandle"),
+        25 => of("the body defines ", " twice"),
+        26 => of("cells of a plugin can't refer to the path ", ""),
+        27 => reserved(kind),
+        28 => of("", " lies deeper than 64 levels"),
+        _ => of_blob(number),
+    }
+}
+
+fn of_blob(number: u8) -> Sentence {
+    match number {
+        30 => plain("the blob is cut"),
+        31 => plain("this is no blob"),
+        32 => plain("the version isn't one that can be read"),
+        33 => plain("a block doesn't lie where it can"),
+        34 => plain("the structure breaks off here"),
+        35 => plain("a name doesn't end here, or isn't there"),
+        36 => plain("a property stands behind a child"),
+        37 => plain("the nodes make no tree"),
+        38 => plain("a blob or a text has at most 268,435,456 bytes"),
+        _ => plain("this is refused"),
+    }
+}
+
+fn of_overlay(number: u8, kind: Subject) -> Sentence {
+    match number {
+        40 => plain("this is no overlay"),
+        41 => match kind {
+            Subject::Path => of("the base has no node at ", ""),
+            _ => plain("the base has no node that a fragment targets"),
+        },
+        42 => of(
+            "the base has no symbol ",
+            " that leads to a node with a phandle",
+        ),
+        43 => match kind {
+            Subject::Label => of("an entry of the label ", " can't be used"),
+            _ => plain("an entry can't be used"),
+        },
+        44 => plain("a raised phandle is 0xffffffff or more"),
+        45 => plain("a node would get a second phandle, or two nodes have one"),
+        _ => plain("a node would lie deeper than 64 levels"),
+    }
+}
+
+fn of_bus(number: u8) -> Sentence {
+    match number {
+        50 => plain("the line has no lawful form"),
+        51 => plain("a line before names this driver"),
+        52 => plain("a line before has this path"),
+        53 => plain("the line names a path that no device has"),
+        54 => plain("no node has the phandle of an entry"),
+        55 => plain("an entry isn't as its provider wants it"),
+        56 => plain("there are more devices than a plan may have"),
+        60 => plain("the device is in flight or has settled"),
+        61 => plain("the device has no driver, or is switched off"),
+        62 => plain("the flight is gone"),
+        63 => plain("a supplier of the device isn't bound"),
+        64 => plain("the device named is no supplier, or was bound at the begin"),
+        65 => plain("there were 500,000 begins before"),
+        66 => plain("the device isn't in flight"),
+        67 => plain("a driver has this name"),
+        _ => plain("this is refused"),
+    }
+}
+
+/// Writes the sentence of a diagnosis.
+pub(crate) fn push_sentence(out: &mut String, diagnosis: &Diagnosis) -> Result<(), AllocError> {
+    let sentence = match diagnosis.number {
+        0..=29 => of_source(diagnosis.number, diagnosis.kind),
+        30..=39 => of_blob(diagnosis.number),
+        40..=49 => of_overlay(diagnosis.number, diagnosis.kind),
+        _ => of_bus(diagnosis.number),
+    };
+    out.push_str(sentence.before)?;
+    if let Some(behind) = sentence.behind {
+        out.push_str("`")?;
+        push_shown(out, diagnosis.subject.as_slice())?;
+        out.push_str("`")?;
+        out.push_str(behind)?;
+    }
+    Ok(())
+}

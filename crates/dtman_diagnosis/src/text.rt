@@ -1,0 +1,212 @@
+//! The text of a diagnosis.
+
+use crate::diagnosis::{Diagnosis, Note, Place};
+use crate::escaping::{push_blank, push_mark, push_shown};
+use crate::sentences::push_sentence;
+use std::alloc::{AllocError, Global};
+
+/// How much of a line is shown before the mark, and how much in all.
+const BEFORE: usize = 80;
+
+const SHOWN: usize = 160;
+
+/// The lines of a refusal: its own first line, and what the diagnosis says, each ended.
+pub fn text_of(alloc: Global, first: &str, diagnosis: &Diagnosis) -> Result<String, AllocError> {
+    let mut out = format!(in alloc; "{first}\n")?;
+    push_place(&mut out, &diagnosis.place)?;
+    push_sentence(&mut out, diagnosis)?;
+    out.push_str("\n")?;
+    let width = push_excerpt(alloc, &mut out, &diagnosis.place)?;
+    for note in &diagnosis.notes {
+        push_spaces(&mut out, width)?;
+        out.push_str("= ")?;
+        push_note(&mut out, note)?;
+        out.push_str("\n")?;
+    }
+    Ok(out)
+}
+
+// The place in front of a sentence.
+fn push_place(out: &mut String, place: &Place) -> Result<(), AllocError> {
+    match place {
+        Place::Nowhere => {}
+        Place::File { file } => {
+            push_shown(out, file.as_slice())?;
+            out.push_str(": ")?;
+        }
+        Place::Text {
+            file,
+            line,
+            column,
+            ..
+        } => {
+            push_shown(out, file.as_slice())?;
+            write!(out, ":{line}:{column}: ")?;
+        }
+        Place::Offset { file, offset } => {
+            push_shown(out, file.as_slice())?;
+            write!(out, ":0x{offset:x}: ")?;
+        }
+    }
+    Ok(())
+}
+
+fn push_spaces(out: &mut String, count: usize) -> Result<(), AllocError> {
+    for _ in 0..count {
+        out.push_str(" ")?;
+    }
+    Ok(())
+}
+
+// The line with a mark under what is meant, and how wide its number is, with a blank.
+fn push_excerpt(alloc: Global, out: &mut String, place: &Place) -> Result<usize, AllocError> {
+    let Place::Text {
+        line,
+        column,
+        text,
+        marked,
+        ..
+    } = place
+    else {
+        return Ok(1);
+    };
+    let number = format!(in alloc; "{line}")?;
+    let width = number.len().saturating_add(1);
+    let begin = (*column).saturating_sub(1);
+    let from = if begin > BEFORE { begin - BEFORE } else { 0 };
+    let text = text.as_slice();
+    let shown = text.get(from..).unwrap_or(&[]);
+    let shown = shown.get(..SHOWN).unwrap_or(shown);
+    let before = shown.get(..begin.saturating_sub(from)).unwrap_or(shown);
+    let behind = shown.get(before.len()..).unwrap_or(&[]);
+    let marked = behind.get(..*marked).unwrap_or(behind);
+    push_spaces(out, width)?;
+    out.push_str("|\n")?;
+    out.push_str(number.as_str())?;
+    out.push_str(" | ")?;
+    push_shown(out, shown)?;
+    out.push_str("\n")?;
+    push_spaces(out, width)?;
+    out.push_str("| ")?;
+    push_blank(out, before)?;
+    push_mark(out, marked)?;
+    out.push_str("\n")?;
+    Ok(width)
+}
+
+fn push_note(out: &mut String, note: &Note) -> Result<(), AllocError> {
+    match note {
+        Note::In { path, property } => push_around(out, path, property),
+        Note::Alike(names) => push_alike(out, names),
+        Note::Earlier(place) => push_there(out, "the other one stands at ", place),
+        Note::Unclosed(place) => push_there(out, "the bracket isn't closed that stands at ", place),
+        Note::Fixup(entry) => push_quoted(out, "its entry in __fixups__ is ", entry),
+        Note::Stands(line) => {
+            out.push_str("before it: ")?;
+            push_shown(out, line.as_slice())
+        }
+        Note::Cells { path, name, count } => push_cells(out, path, *name, *count),
+        Note::Words(words) => out.push_str(*words),
+        _ => push_number(out, note),
+    }
+}
+
+// A note that tells a number.
+fn push_number(out: &mut String, note: &Note) -> Result<(), AllocError> {
+    match note {
+        Note::Wanted { wanted, found } => {
+            out.push_str("wanted is ")?;
+            out.push_str(*wanted)?;
+            match found {
+                Some(word) => write!(out, ", and 0x{word:08x} stands there"),
+                None => Ok(()),
+            }
+        }
+        Note::Target(phandle) => write!(out, "the target is phandle 0x{phandle:x}"),
+        Note::Shift(shift) => write!(out, "phandles of the overlay are raised by 0x{shift:x}"),
+        Note::Count(count) => write!(out, "there are {count} devices"),
+        Note::Entry { entry, phandle } => write!(out, "entry {entry} is phandle 0x{phandle:x}"),
+        Note::Length(length) => write!(out, "the value has {length} bytes"),
+        _ => Ok(()),
+    }
+}
+
+fn push_around(
+    out: &mut String,
+    path: &Vec<u8>,
+    property: &Option<Vec<u8>>,
+) -> Result<(), AllocError> {
+    out.push_str("in ")?;
+    push_shown(out, path.as_slice())?;
+    match property {
+        Some(name) => {
+            out.push_str(", property ")?;
+            push_shown(out, name.as_slice())
+        }
+        None => Ok(()),
+    }
+}
+
+fn push_alike(out: &mut String, names: &Vec<Vec<u8>>) -> Result<(), AllocError> {
+    out.push_str("labels spelled alike: ")?;
+    for (i, name) in names.iter().enumerate() {
+        if i > 0 {
+            out.push_str(", ")?;
+        }
+        push_shown(out, name.as_slice())?;
+    }
+    Ok(())
+}
+
+fn push_quoted(out: &mut String, words: &str, text: &Vec<u8>) -> Result<(), AllocError> {
+    out.push_str(words)?;
+    out.push_str("`")?;
+    push_shown(out, text.as_slice())?;
+    out.push_str("`")
+}
+
+// The node that an entry names, and how many cells it wants.
+fn push_cells(
+    out: &mut String,
+    path: &Vec<u8>,
+    name: &[u8],
+    count: Option<u32>,
+) -> Result<(), AllocError> {
+    out.push_str("that is ")?;
+    push_shown(out, path.as_slice())?;
+    match count {
+        Some(count) => {
+            out.push_str(", whose ")?;
+            push_shown(out, name)?;
+            write!(out, " is {count}")
+        }
+        None => {
+            out.push_str(", which has no ")?;
+            push_shown(out, name)?;
+            out.push_str(" of 4 bytes")
+        }
+    }
+}
+
+// A place within a note.
+fn push_there(out: &mut String, words: &str, place: &Place) -> Result<(), AllocError> {
+    out.push_str(words)?;
+    match place {
+        Place::Nowhere => {}
+        Place::File { file } => push_shown(out, file.as_slice())?,
+        Place::Text {
+            file,
+            line,
+            column,
+            ..
+        } => {
+            push_shown(out, file.as_slice())?;
+            write!(out, ":{line}:{column}")?;
+        }
+        Place::Offset { file, offset } => {
+            push_shown(out, file.as_slice())?;
+            write!(out, ":0x{offset:x}")?;
+        }
+    }
+    Ok(())
+}

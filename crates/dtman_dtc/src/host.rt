@@ -1,0 +1,56 @@
+//! What dtc's command line asks of its surroundings.
+
+use std::alloc::Global;
+use std::hash::RandomState;
+
+/// A file can't be read, or there is none.
+#[derive(Clone, Copy, Debug, PartialEq, Eq)]
+pub struct Unread;
+
+/// A file can't be written.
+#[derive(Clone, Copy, Debug, PartialEq, Eq)]
+pub struct Unwritten;
+
+/// A refusal of the compiler: its number and name, and its line in the text that was given.
+#[derive(Clone, Copy, Debug)]
+pub struct Fault {
+    pub number: u8,
+    pub name: &'static str,
+    pub line: Option<usize>,
+}
+
+/// Files, the standard streams, and a seed.
+pub trait Host {
+    /// The bytes of a file; of standard input where the path is `-`.
+    fn read(&mut self, alloc: Global, path: &str) -> Result<Vec<u8>, Unread>;
+
+    /// Makes or empties a file and writes it; standard output where the path is `-`.
+    fn write(&mut self, path: &str, bytes: &[u8]) -> Result<(), Unwritten>;
+
+    /// Puts a text on standard error, where it is open.
+    fn report(&mut self, text: &[u8]);
+
+    /// What hashing of what comes from strangers begins with.
+    fn seed(&mut self) -> Result<RandomState, Unread>;
+}
+
+/// What makes blobs of texts in the profile, texts of blobs, and one blob of two.
+pub trait Compiler {
+    fn compile(
+        &mut self,
+        alloc: Global,
+        hasher: RandomState,
+        text: &[u8],
+        symbols: bool,
+    ) -> Result<Vec<u8>, Fault>;
+
+    fn dump(&mut self, alloc: Global, blob: &[u8]) -> Result<Vec<u8>, Fault>;
+
+    fn overlay(
+        &mut self,
+        alloc: Global,
+        hasher: RandomState,
+        base: &[u8],
+        overlay: &[u8],
+    ) -> Result<Vec<u8>, Fault>;
+}

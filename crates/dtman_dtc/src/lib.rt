@@ -1,0 +1,18 @@
+//! dtc's command line and that of `fdtoverlay`, over any files and any compiler.
+//!
+//! dtc's manual (Documentation/manual.txt, section 'Command-line arguments') says what the options are.
+#![tactic(auto)]
+
+mod blob;
+mod booting;
+mod host;
+mod options;
+mod overlaying;
+mod reports;
+mod running;
+mod searching;
+
+pub use host::{Compiler, Fault, Host, Unread, Unwritten};
+pub use options::{Asked, BadWord, Format, Options, Room, read_words};
+pub use overlaying::run_fdtoverlay;
+pub use running::{DONE, FAILED, run_dtc};

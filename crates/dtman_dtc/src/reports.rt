@@ -1,0 +1,166 @@
+//! What is said on standard error, in dtc's way.
+
+use crate::host::{Fault, Host};
+use crate::options::BadWord;
+use dtc_dialect::{DialectError, Incomplete, Mistake, Place, user_place};
+use std::alloc::{AllocError, AllocFailed, Global};
+
+/// Why a run ended without its output.
+#[derive(Drop)]
+pub(crate) enum Failure<'a> {
+    NoMemory,
+    NoInput(&'a str),
+    NoOutput(&'a str),
+    NoSeed,
+    Word(BadWord<'a>),
+    /// What a source takes in isn't there.
+    Incomplete(Incomplete),
+    /// It was said already.
+    Said,
+    /// A blob over 2^32 bytes.
+    TooLong,
+}
+
+impl From<AllocError> for Failure<'_> {
+    fn from(_error: AllocError) -> Self {
+        Failure::NoMemory
+    }
+}
+
+impl<T: Drop> From<AllocFailed<T>> for Failure<'_> {
+    fn from(_error: AllocFailed<T>) -> Self {
+        Failure::NoMemory
+    }
+}
+
+/// The name of a mistake, as the compiler has it.
+fn name_of(mistake: Mistake) -> &'static str {
+    match mistake {
+        Mistake::Syntax => "Syntax",
+        Mistake::TooDeep | Mistake::DeepNode => "TooDeep",
+        Mistake::NoLabel => "UnknownLabel",
+        Mistake::LabelTwice => "DuplicateLabel",
+        Mistake::NoPath => "UnknownPath",
+        Mistake::Reserved => "ReservedName",
+    }
+}
+
+/// Says that a source isn't taken, and where.
+pub(crate) fn report_dialect<H: Host>(
+    alloc: Global,
+    host: &mut H,
+    error: &DialectError<'_>,
+) -> Failure<'static> {
+    match error {
+        DialectError::NoMemory => Failure::NoMemory,
+        DialectError::Refused(refusal) => {
+            let number = refusal.mistake as u8;
+            let name = name_of(refusal.mistake);
+            said(report_at(alloc, host, Some(refusal.place), number, name))
+        }
+    }
+}
+
+/// Says a refusal of the compiler, at its line of the user's file.
+pub(crate) fn report_fault<H: Host>(
+    alloc: Global,
+    host: &mut H,
+    file: &[u8],
+    text: &[u8],
+    fault: &Fault,
+) -> Failure<'static> {
+    if fault.number == 0 {
+        return Failure::NoMemory;
+    }
+    let place = match fault.line {
+        Some(line) => Some(user_place(file, text, line)),
+        None => None,
+    };
+    said(report_at(alloc, host, place, fault.number, fault.name))
+}
+
+fn said(reported: Result<(), AllocError>) -> Failure<'static> {
+    match reported {
+        Ok(()) => Failure::Said,
+        Err(_) => Failure::NoMemory,
+    }
+}
+
+/// `Error: FILE:LINE error NUMBER NAME`
+fn report_at<H: Host>(
+    alloc: Global,
+    host: &mut H,
+    place: Option<Place<'_>>,
+    number: u8,
+    name: &str,
+) -> Result<(), AllocError> {
+    let mut line = Vec::from_slice(alloc, b"Error: ")?;
+    if let Some(place) = place {
+        line.extend_from_slice(place.file)?;
+        let at = place.line;
+        line.extend_from_slice(format!(in alloc; ":{at} ")?.as_bytes())?;
+    }
+    let words = format!(in alloc; "error {number} {name}\n")?;
+    line.extend_from_slice(words.as_bytes())?;
+    host.report(line.as_slice());
+    Ok(())
+}
+
+/// Says why a run ended, and answers its exit status.
+pub(crate) fn fail<H: Host>(alloc: Global, host: &mut H, failure: &Failure<'_>) -> u8 {
+    // Where there is no memory for the words, the status stands alone.
+    if let Ok(words) = words_of(alloc, failure) {
+        host.report(words.as_bytes());
+    }
+    1
+}
+
+fn words_of(alloc: Global, failure: &Failure<'_>) -> Result<String, AllocError> {
+    match failure {
+        Failure::NoMemory => format!(in alloc; "FATAL ERROR: error 0 NoMemory\n"),
+        Failure::NoInput(path) => {
+            format!(in alloc; "FATAL ERROR: Couldn't open \"{path}\": error 80 CannotRead\n")
+        }
+        Failure::NoOutput(path) => format!(in alloc;
+            "FATAL ERROR: Couldn't open output file {path}: error 81 CannotWrite\n"
+        ),
+        Failure::NoSeed => format!(in alloc; "FATAL ERROR: error 80 CannotRead random\n"),
+        Failure::Word(word) => bad_word(alloc, word),
+        Failure::Incomplete(reason) => incomplete(alloc, reason),
+        Failure::Said => format!(in alloc; "FATAL ERROR: Unable to parse input tree\n"),
+        Failure::TooLong => format!(in alloc; "FATAL ERROR: error 38 TooLarge\n"),
+    }
+}
+
+fn bad_word(alloc: Global, word: &BadWord<'_>) -> Result<String, AllocError> {
+    match word {
+        BadWord::NoMemory => format!(in alloc; "FATAL ERROR: error 0 NoMemory\n"),
+        BadWord::Unknown(word) => format!(in alloc; "Error: unknown option {word}\n"),
+        BadWord::Missing(word) => {
+            format!(in alloc; "Error: dtc's option {word} isn't there in dtman\n")
+        }
+        BadWord::NoArgument(word) => format!(in alloc;
+            "Error: option {word} requires an argument\n"
+        ),
+        BadWord::BadArgument(word, argument) => {
+            format!(in alloc; "Error: option {word} doesn't take {argument}\n")
+        }
+        BadWord::Extra(word) => format!(in alloc; "Error: more than one input: {word}\n"),
+        BadWord::Both(one, other) => format!(in alloc;
+            "FATAL ERROR: Can't set both {one} and {other}\n"
+        ),
+    }
+}
+
+fn incomplete(alloc: Global, reason: &Incomplete) -> Result<String, AllocError> {
+    match reason {
+        Incomplete::NoMemory => format!(in alloc; "FATAL ERROR: error 0 NoMemory\n"),
+        Incomplete::NoFile(name) => {
+            let name = std::str::from_utf8(name.as_slice()).unwrap_or("?");
+            format!(in alloc; "FATAL ERROR: Couldn't open \"{name}\": error 80 CannotRead\n")
+        }
+        Incomplete::TooDeep => format!(in alloc; "FATAL ERROR: Includes nested too deeply\n"),
+        Incomplete::TooLong => format!(in alloc; "FATAL ERROR: error 17 TooLong\n"),
+        Incomplete::Syntax => format!(in alloc; "FATAL ERROR: error 10 Syntax in an inclusion\n"),
+    }
+}

@@ -1,0 +1,234 @@
+//! A run of dtc: one input, one output.
+
+use crate::blob::{Word, set_boot_cpu, with_room, word_at};
+use crate::booting::boot_cpu_of;
+use crate::host::{Compiler, Host};
+use crate::options::{Asked, Format, Options, read_words};
+use crate::reports::{Failure, fail, report_dialect, report_fault};
+use crate::searching::Searching;
+use dtc_dialect::{included, plain, rewrite};
+use std::alloc::Global;
+
+/// The exit status of a run that gave its output.
+pub const DONE: u8 = 0;
+
+/// The exit status of one that didn't.
+pub const FAILED: u8 = 1;
+
+/// What `-v` says. Builds look at the number: what they may ask of dtc 1.6.1 is there.
+const VERSION: &[u8] = b"Version: DTC 1.6.1 (dtman)\n";
+
+const HELP: &[u8] = b"Usage: dtc [options] <input file>\n
+Options: -[qI:O:o:d:R:S:p:a:fb:i:W:E:@hv]
+  -q, --quiet                 say less
+  -I, --in-format <arg>       dts or dtb
+  -o, --out <arg>             the output file, - for standard output
+  -O, --out-format <arg>      dtb or dts (canonical)
+  -d, --out-dependency <arg>  writes the files that were read, for make
+  -R, --reserve <number>      empty entries of the memory reservations
+  -S, --space <bytes>         the least size of the blob
+  -p, --pad <bytes>           bytes behind the blob
+  -a, --align <bytes>         what the blob's size is a multiple of
+  -b, --boot-cpu <number>     the processor that boots
+  -i, --include <folder>      where files are looked for
+  -f, --force, -W, --warning <arg>, -E, --error <arg>
+                              taken, without effect: there are no warnings
+  -@, --symbols               adds the paths of all labelled nodes
+  -h, --help                  this text
+  -v, --version               the version\n";
+
+/// Runs dtc by the words behind its name, and answers the exit status.
+pub fn run_dtc<H: Host, C: Compiler>(
+    alloc: Global,
+    host: &mut H,
+    compiler: &mut C,
+    words: &[&str],
+) -> u8 {
+    let asked = match read_words(alloc, words) {
+        Ok(asked) => asked,
+        Err(word) => return fail(alloc, host, &Failure::Word(word)),
+    };
+    let done = match &asked {
+        Asked::Help => show(host, HELP),
+        Asked::Version => show(host, VERSION),
+        Asked::Conversion(options) => convert(alloc, host, compiler, options),
+    };
+    match done {
+        Ok(()) => DONE,
+        Err(failure) => fail(alloc, host, &failure),
+    }
+}
+
+fn show<H: Host>(host: &mut H, text: &[u8]) -> Result<(), Failure<'static>> {
+    host.write("-", text).map_err(|_| Failure::NoOutput("-"))
+}
+
+fn convert<'a, H: Host, C: Compiler>(
+    alloc: Global,
+    host: &mut H,
+    compiler: &mut C,
+    options: &Options<'a>,
+) -> Result<(), Failure<'a>> {
+    let bytes = match host.read(alloc, options.input) {
+        Ok(bytes) => bytes,
+        Err(_) => return Err(Failure::NoInput(options.input)),
+    };
+    let from = options.from.unwrap_or(guessed(bytes.as_slice()));
+    let to = options.to.unwrap_or(other(from));
+    let mut found = Vec::new(alloc);
+    let blob = match from {
+        Format::Dts => compiled(alloc, host, compiler, options, bytes.as_slice(), &mut found)?,
+        Format::Dtb => copied(alloc, host, compiler, options, to, bytes)?,
+    };
+    let output = match to {
+        Format::Dts => dumped(alloc, host, compiler, options, blob.as_slice())?,
+        Format::Dtb => widened(alloc, options, blob.as_slice())?,
+    };
+    if let Some(path) = options.dependencies {
+        put_dependencies(alloc, host, options, path, found.as_slice())?;
+    }
+    match host.write(options.output, output.as_slice()) {
+        Ok(()) => Ok(()),
+        Err(_) => Err(Failure::NoOutput(options.output)),
+    }
+}
+
+/// What bytes seem to be: a blob where they begin as one.
+fn guessed(bytes: &[u8]) -> Format {
+    match bytes {
+        [0xd0, 0x0d, 0xfe, 0xed, ..] => Format::Dtb,
+        _ => Format::Dts,
+    }
+}
+
+fn other(format: Format) -> Format {
+    match format {
+        Format::Dts => Format::Dtb,
+        Format::Dtb => Format::Dts,
+    }
+}
+
+/// The blob of a source, with the processor that boots.
+fn compiled<H: Host, C: Compiler>(
+    alloc: Global,
+    host: &mut H,
+    compiler: &mut C,
+    options: &Options<'_>,
+    source: &[u8],
+    found: &mut Vec<Vec<u8>>,
+) -> Result<Vec<u8>, Failure<'static>> {
+    let Ok(hasher) = host.seed() else {
+        return Err(Failure::NoSeed);
+    };
+    let file = match options.input {
+        "-" => b"<stdin>".as_slice(),
+        path => plain(path.as_bytes()),
+    };
+    let whole = whole(alloc, host, options, file, source, found)?;
+    let wanted = dtc_dialect::Options {
+        file,
+        symbols: options.symbols,
+    };
+    let text = match rewrite(alloc, hasher, wanted, whole.as_slice()) {
+        Ok(text) => text,
+        Err(error) => return Err(report_dialect(alloc, host, &error)),
+    };
+    match compiler.compile(alloc, hasher, text.as_slice(), options.symbols) {
+        Ok(mut blob) => {
+            let boot_cpu = match options.boot_cpu {
+                Some(number) => number,
+                None => boot_cpu_of(blob.as_slice()),
+            };
+            set_boot_cpu(&mut blob, boot_cpu);
+            Ok(blob)
+        }
+        Err(fault) => Err(report_fault(alloc, host, file, text.as_slice(), &fault)),
+    }
+}
+
+/// A source with all that it takes in from other files.
+fn whole<H: Host>(
+    alloc: Global,
+    host: &mut H,
+    options: &Options<'_>,
+    file: &[u8],
+    source: &[u8],
+    found: &mut Vec<Vec<u8>>,
+) -> Result<Vec<u8>, Failure<'static>> {
+    let mut files = Searching {
+        host,
+        folders: options.folders.as_slice(),
+        found,
+    };
+    included(alloc, &mut files, file, source).map_err(|reason| Failure::Incomplete(reason))
+}
+
+/// A blob as it is, or laid out anew where a blob is asked for.
+fn copied<H: Host, C: Compiler>(
+    alloc: Global,
+    host: &mut H,
+    compiler: &mut C,
+    options: &Options<'_>,
+    to: Format,
+    bytes: Vec<u8>,
+) -> Result<Vec<u8>, Failure<'static>> {
+    if to == Format::Dts {
+        return Ok(bytes);
+    }
+    let text = dumped(alloc, host, compiler, options, bytes.as_slice())?;
+    let Ok(hasher) = host.seed() else {
+        return Err(Failure::NoSeed);
+    };
+    match compiler.compile(alloc, hasher, text.as_slice(), false) {
+        Ok(mut blob) => {
+            let number = word_at(bytes.as_slice(), Word::BootCpu as usize).unwrap_or(0);
+            set_boot_cpu(&mut blob, options.boot_cpu.unwrap_or(number));
+            Ok(blob)
+        }
+        Err(fault) => Err(report_fault(alloc, host, b"", b"", &fault)),
+    }
+}
+
+/// The canonical source of a blob.
+fn dumped<H: Host, C: Compiler>(
+    alloc: Global,
+    host: &mut H,
+    compiler: &mut C,
+    options: &Options<'_>,
+    blob: &[u8],
+) -> Result<Vec<u8>, Failure<'static>> {
+    match compiler.dump(alloc, blob) {
+        Ok(text) => Ok(text),
+        Err(fault) => Err(report_fault(alloc, host, options.input.as_bytes(), b"", &fault)),
+    }
+}
+
+/// The blob with the room that is asked for.
+fn widened(alloc: Global, options: &Options<'_>, blob: &[u8]) -> Result<Vec<u8>, Failure<'static>> {
+    match with_room(alloc, blob, &options.room)? {
+        Some(blob) => Ok(blob),
+        None => Err(Failure::TooLong),
+    }
+}
+
+/// Writes `OUT: FILE ..` for make.
+fn put_dependencies<'a, H: Host>(
+    alloc: Global,
+    host: &mut H,
+    options: &Options<'a>,
+    path: &'a str,
+    found: &[Vec<u8>],
+) -> Result<(), Failure<'a>> {
+    let mut line = Vec::from_slice(alloc, options.output.as_bytes())?;
+    line.extend_from_slice(b": ")?;
+    line.extend_from_slice(options.input.as_bytes())?;
+    for file in found {
+        line.extend_from_slice(b" ")?;
+        line.extend_from_slice(file.as_slice())?;
+    }
+    line.extend_from_slice(b"\n")?;
+    match host.write(path, line.as_slice()) {
+        Ok(()) => Ok(()),
+        Err(_) => Err(Failure::NoOutput(path)),
+    }
+}

@@ -1,0 +1,37 @@
+-- Why a refusal of the reader is explained by the bytes.
+use Rattle.std.proofs.Common.{◌≡◌, ◌↔◌, ◌⊎◌, None, ℕ, List, Result, Ok, Err, Some, IfErr, IsErrAnd, refl}
+use Rattle.std.specs.Prelude.{IsErrOf}
+use Rattle.dt_tree.specs.TreeData.{TreeData}
+use Rattle.dt_blob.specs.declared.error.BlobError.{BlobError}
+use Rattle.dt_blob.specs.declared.error.BlobError.TheVariants.{NoMemory, Truncated, BadMagic, BadVersion, BadLayout, BadToken, BadString, PropertyAfterNode, BadTree, TooLarge}
+use Rattle.dt_blob.specs.HeaderWords.{header_fault, reserves_of}
+use Rattle.dt_blob.specs.Holds.{Holds, HaveNoEnd}
+use Rattle.dtman_engine.specs.declared.fault.Fault.{Fault}
+use Rattle.dtman_engine.specs.Dump.{Explains, IsRefusal}
+use Rattle.dtman_engine.specs.Fault.{fault_value, blob_fault}
+use Rattle.std.proofs.Common.{inl}
+
+-- what the reader promises of an error
+pub explained : {T : Type 0} (blob : List ℕ) (e : BlobError)
+    → ((tree : TreeData) → Holds blob tree → e ≡ NoMemory)
+    → (IsErrOf {T = T} (Err e) TooLarge ↔ (header_fault blob ≡ Some TooLarge))
+    → (IsErrOf {T = T} (Err e) Truncated ↔ (header_fault blob ≡ Some Truncated))
+    → (IsErrOf {T = T} (Err e) BadMagic ↔ (header_fault blob ≡ Some BadMagic))
+    → (IsErrOf {T = T} (Err e) BadVersion ↔ (header_fault blob ≡ Some BadVersion))
+    → (IsErrOf {T = T} (Err e) BadLayout → (header_fault blob ≡ Some BadLayout) ⊎ ((header_fault blob ≡ None) × HaveNoEnd (reserves_of blob)))
+    → Explains blob e
+explained blob NoMemory only large cut magic version layout = tt
+explained blob Truncated only large cut magic version layout = cut.0 refl
+explained blob BadMagic only large cut magic version layout = magic.0 refl
+explained blob BadVersion only large cut magic version layout = version.0 refl
+explained blob BadLayout only large cut magic version layout = layout refl
+explained blob BadToken only large cut magic version layout = λ tree held. let same = only tree held in cc
+explained blob BadString only large cut magic version layout = λ tree held. let same = only tree held in cc
+explained blob PropertyAfterNode only large cut magic version layout = λ tree held. let same = only tree held in cc
+explained blob BadTree only large cut magic version layout = λ tree held. let same = only tree held in cc
+explained blob TooLarge only large cut magic version layout = inl (large.0 refl)
+
+pub refused : {T : Type 0} (blob : List ℕ) (e : BlobError) (result : Result T Fault)
+    → IsErrAnd result (λ fault. fault_value fault ≡ blob_fault e) → Explains blob e → IfErr result (λ fault. IsRefusal blob (fault_value fault))
+refused blob e (Ok x) told why = tt
+refused blob e (Err fault) told why = record { error = e; told = told; explained = why }

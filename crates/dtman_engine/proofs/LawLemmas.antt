@@ -1,0 +1,102 @@
+-- A blob comes back from its dump, by the laws of the crates below.
+use Rattle.std.proofs.Common.{◌≡◌, ◌<◌, ◌≤◌, inl, inr, ℕ, false, List, length, None, Some, Result, Ok, Err, refl, ap, ◌∙◌, subst, arith}
+use Rattle.dt_tree.specs.TreeData.{TreeData, IsTree}
+use Rattle.dt_source.specs.declared.error.SourceErrorKind.{SourceErrorKind}
+use Rattle.dt_source.specs.declared.error.SourceErrorKind.TheVariants as kinds
+use Rattle.dt_source.specs.Parse as parse
+use Rattle.dt_source.specs.Parse.{IsShort, Says}
+use Rattle.dt_source.specs.Tree.{Meaning}
+use Rattle.dt_meaning.specs.MapOf.{tree_map_of}
+use Rattle.dt_meaning.specs.Resolved.{Resolved, resolved}
+use Rattle.dt_edit.specs.Said.{reading}
+use Rattle.dt_resolve.specs.declared.error.BuildError.{BuildError}
+use Rattle.dt_resolve.specs.declared.error.BuildError.TheVariants as builds
+use Rattle.dt_build.specs.Built.{IsTreeOf, Refuses}
+use Rattle.dt_blob.specs.declared.error.BlobError.{BlobError}
+use Rattle.dt_blob.specs.declared.error.BlobError.TheVariants.{NoMemory, Truncated, BadMagic, BadVersion, BadLayout, BadToken, BadString, PropertyAfterNode, BadTree, TooLarge}
+use Rattle.dt_blob.specs.Blob.{blob_of}
+use Rattle.dt_blob.specs.HeaderWords.{header_fault}
+use Rattle.dt_blob.specs.Holds.{Holds}
+use Rattle.dt_blob.specs.SourceText.{text_of}
+use Rattle.dtman_engine.specs.Compile.{CannotBuild, IsCompileRefusal, HasLongBlob}
+use Rattle.dtman_engine.specs.Dump.{CannotPrint, Explains, IsDump, IsRefusal}
+use Rattle.dtman_engine.specs.Fault.{FaultValue, blob_fault, build_fault, source_fault}
+use Rattle.dtman_engine.specs.Laws.{CannotCompile}
+use Rattle.dtman_engine.specs.Limits.{blob_limit}
+
+no-fault : (bytes : List ℕ) (t : TreeData) (e : BlobError) → Holds bytes t → header_fault bytes ≡ Some e → ⊥
+no-fault bytes t e held bad = let none : header_fault bytes ≡ None = held.header in cc
+
+not-both : {A B : Type 0} (r : Result A B) (x : A) (y : B) → r ≡ Ok x → r ≡ Err y → ⊥
+not-both r x y one other = cc
+
+same-lists : {A B : Type 0} (r : Result A B) (x y : A) → r ≡ Ok x → r ≡ Ok y → x ≡ y
+same-lists r x y one other = cc
+
+-- ---- bytes that hold a tree, and at most one
+module _ (one : (bytes : List ℕ) (tree other : TreeData) → Holds bytes tree → Holds bytes other → tree ≡ other) (bytes : List ℕ) (t : TreeData) (held : Holds bytes t) where
+  pub dumped : (text : List ℕ) → IsDump bytes text → text ≡ text_of t
+  dumped text dump = dump.text_is ∙ ap text_of (one bytes dump.tree t dump.held held)
+
+  unprinted : (e : BlobError) (fault : FaultValue) → fault ≡ blob_fault e → Explains bytes e → CannotPrint t fault
+  unprinted NoMemory fault told why = inl told
+  unprinted Truncated fault told why = elim (no-fault bytes t Truncated held why) [ ]
+  unprinted BadMagic fault told why = elim (no-fault bytes t BadMagic held why) [ ]
+  unprinted BadVersion fault told why = elim (no-fault bytes t BadVersion held why) [ ]
+  unprinted BadLayout fault told (inl bad) = elim (no-fault bytes t BadLayout held bad) [ ]
+  unprinted BadLayout fault told (inr endless) = elim (endless.1 t.reserves held.reserves) [ ]
+  unprinted BadToken fault told why = elim (why t held) [ ]
+  unprinted BadString fault told why = elim (why t held) [ ]
+  unprinted PropertyAfterNode fault told why = elim (why t held) [ ]
+  unprinted BadTree fault told why = elim (why t held) [ ]
+  unprinted TooLarge fault told (inl bad) = elim (no-fault bytes t TooLarge held bad) [ ]
+  unprinted TooLarge fault told (inr holds) =
+      inr (told, subst (λ (x : TreeData). blob_limit < length (text_of x)) (one bytes holds.tree t holds.held held) holds.long)
+
+  pub undumped : (fault : FaultValue) → IsRefusal bytes fault → CannotPrint t fault
+  undumped fault refusal = unprinted refusal.error fault refusal.told refusal.explained
+
+-- ---- a source that means a tree is refused for want of memory alone
+built : (m : Meaning) (lists : Resolved) (e : BuildError) → resolved false (reading m) ≡ Ok lists → Refuses false (reading m) e → e ≡ builds.NoMemory
+built m lists builds.NoMemory is why = refl
+built m lists builds.UnknownLabel is why = elim (not-both _ _ _ is why) [ ]
+built m lists builds.DuplicateLabel is why = elim (not-both _ _ _ is why) [ ]
+built m lists builds.UnknownPath is why = elim (not-both _ _ _ is why) [ ]
+built m lists builds.BadPhandle is why = elim (not-both _ _ _ is why) [ ]
+built m lists builds.DuplicatePhandle is why = elim (not-both _ _ _ is why) [ ]
+built m lists builds.DuplicateInBody is why = elim (not-both _ _ _ is why) [ ]
+built m lists builds.PathInPlugin is why = elim (not-both _ _ _ is why) [ ]
+built m lists builds.ReservedName is why = elim (not-both _ _ _ is why) [ ]
+built m lists builds.TooDeep is why = elim (not-both _ _ _ is why) [ ]
+
+fits-not : (m : Meaning) (t : TreeData) → IsTree t → IsTreeOf false (reading m) t → length (blob_of t) ≤ blob_limit → HasLongBlob false (reading m) → ⊥
+fits-not m t is of fits long =
+    let same : of.lists ≡ long.lists = same-lists (resolved false (reading m)) of.lists long.lists of.resolves long.resolves in
+    let over : blob_limit < length (blob_of t) = long.long t is (of.map ∙ ap (tree_map_of (reading m)) same) in
+    omega (arith, fits, over)
+
+-- ---- a text that says what means the tree
+module _ (accepted : (text : List ℕ) (m : Meaning) (k : SourceErrorKind) (line : ℕ) → IsShort text → Says text m → parse.Refuses text k line → k ≡ kinds.NoMemory) (meaning : (text : List ℕ) (m n : Meaning) → Says text m → Says text n → m ≡ n) (text : List ℕ) (s : Meaning) (t : TreeData) (is : IsTree t) (says : Says text s) (of : IsTreeOf false (reading s) t) (fits : length (blob_of t) ≤ blob_limit) where
+  wanted : (k : SourceErrorKind) (line : ℕ) (fault : FaultValue) → fault ≡ source_fault k line → IsShort text → parse.Refuses text k line → CannotCompile text fault
+  wanted k line fault told short why = inl (told ∙ ap (λ (x : SourceErrorKind). source_fault x line) (accepted text s k line short says why))
+
+  unsaid : (k : SourceErrorKind) (line : ℕ) (fault : FaultValue) → fault ≡ source_fault k line → parse.Refuses text k line → CannotCompile text fault
+  unsaid kinds.NoMemory line fault told why = inl told
+  unsaid kinds.TooLong line fault told why = inr (told ∙ ap (source_fault kinds.TooLong) why.1, why.0)
+  unsaid kinds.Syntax line fault told why = wanted kinds.Syntax line fault told why.0 why
+  unsaid kinds.TooDeep line fault told why = wanted kinds.TooDeep line fault told why.0 why
+  unsaid kinds.ElementRange line fault told why = wanted kinds.ElementRange line fault told why.0 why
+  unsaid kinds.DivideByZero line fault told why = wanted kinds.DivideByZero line fault told why.0 why
+  unsaid kinds.BadBits line fault told why = wanted kinds.BadBits line fault told why.0 why
+  unsaid kinds.LiteralRange line fault told why = wanted kinds.LiteralRange line fault told why.0 why
+  unsaid kinds.BadEscape line fault told why = wanted kinds.BadEscape line fault told why.0 why
+
+  unbuilt : (m : Meaning) (fault : FaultValue) → IsTreeOf false (reading m) t → CannotBuild false (reading m) fault → CannotCompile text fault
+  unbuilt m fault also (inl none) = inl none
+  unbuilt m fault also (inr (inl none)) = inl (none.told ∙ ap build_fault (built m also.lists none.error also.resolves none.refuses))
+  unbuilt m fault also (inr (inr long)) = elim (fits-not m t is also fits long.1) [ ]
+
+  pub uncompiled : (fault : FaultValue) → IsCompileRefusal false text fault → CannotCompile text fault
+  uncompiled fault (inl none) = unsaid none.kind none.line fault none.told none.refuses
+  uncompiled fault (inr vain) =
+      unbuilt vain.said fault (subst (λ (x : Meaning). IsTreeOf false (reading x) t) (meaning text s vain.said says vain.says) of) vain.cannot

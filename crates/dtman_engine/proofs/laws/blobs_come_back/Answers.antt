@@ -1,0 +1,24 @@
+-- The canonical source says what means the tree, and nothing that it says means another; the blob holds the tree, and no other.
+use Rattle.std.proofs.Common.{ap, ◌∙◌}
+use Rattle.dt_blob.specs.Blob.{blob_of}
+use Rattle.dt_blob.specs.SourceText.{text_of}
+use Rattle.dt_canonical.specs.SourceOf.{source_of}
+use Rattle.dtman_engine.proofs.LawLemmas.{dumped, uncompiled, undumped}
+use Rattle.dtman_engine.proofs.laws.blobs_come_back.Goals as goal
+
+pub returns : goal.returns
+returns c =
+    λ t has.
+    let held = c.blob_holds.ensures t has.is has.fits in
+    let canonical = c.canonical_source.ensures in
+    let said = canonical.says t has.is has.bytes has.source in
+    let source = c.one_source.ensures in
+    record {
+      dumped = dumped c.one_tree.ensures (blob_of t) t held;
+      undumped = undumped c.one_tree.ensures (blob_of t) t held;
+      compiled =
+          λ blob made.
+          let b = made.blob_is in
+          b.blob_is ∙ ap blob_of (canonical.no_other t has.is has.bytes has.source made.said made.says b.tree b.is b.tree_is);
+      uncompiled = uncompiled source.accepted source.meaning (text_of t) (source_of t) t has.is said.0 said.1 has.fits;
+    }

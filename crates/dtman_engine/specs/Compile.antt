@@ -1,0 +1,70 @@
+-- What `compile_bytes` answers: the blob of the tree that the source in a text means, or why there is none.
+use Rattle.std.specs.Prelude.{◌≡◌, ◌≤◌, ◌<◌, ◌⊎◌, ℕ, Bool, List, length, Ok}
+use Rattle.dt_tree.specs.PathMap.{tree_map}
+use Rattle.dt_tree.specs.TreeData.{TreeData, IsTree}
+use Rattle.dt_source.specs.declared.error.SourceErrorKind.{SourceErrorKind}
+use Rattle.dt_source.specs.Parse as parse
+use Rattle.dt_source.specs.Tree as said
+use Rattle.dt_meaning.specs.Syntax.{Meaning}
+use Rattle.dt_meaning.specs.MapOf.{tree_map_of}
+use Rattle.dt_meaning.specs.Resolved.{Resolved, resolved}
+use Rattle.dt_edit.specs.Said.{reading}
+use Rattle.dt_resolve.specs.declared.error.BuildError.{BuildError}
+use Rattle.dt_build.specs.Built.{IsTreeOf, Refuses}
+use Rattle.dt_blob.specs.declared.error.BlobError.TheVariants.{TooLarge}
+use Rattle.dt_blob.specs.Blob.{blob_of}
+use Rattle.dtman_engine.specs.Fault.{FaultValue, no_memory, blob_fault, build_fault, source_fault}
+use Rattle.dtman_engine.specs.Limits.{blob_limit, IsShort}
+
+-- the blob of the tree that a source means
+pub record IsBlobOf (symbols : Bool) (m : Meaning) (blob : List ℕ) : Type 0 where
+  pub tree : TreeData
+  pub is : IsTree tree
+  pub tree_is : IsTreeOf symbols m tree
+  pub blob_is : blob ≡ blob_of tree
+  pub fits : length blob ≤ blob_limit
+
+-- why a blob of so many bytes isn't written: memory is wanted, or it is too long
+abbrev pub CannotWrite : ℕ → FaultValue → Type 0
+CannotWrite size fault = (fault ≡ no_memory) ⊎ ((fault ≡ blob_fault TooLarge) × (blob_limit < size))
+
+-- the blob of that tree is too long
+pub record HasLongBlob (symbols : Bool) (m : Meaning) : Type 0 where
+  pub lists : Resolved
+  pub resolves : resolved symbols m ≡ Ok lists
+  pub long : (tree : TreeData) → IsTree tree → tree_map tree ≡ tree_map_of m lists → blob_limit < length (blob_of tree)
+
+-- the source means no tree, for this error
+pub record MeansNone (symbols : Bool) (m : Meaning) (fault : FaultValue) : Type 0 where
+  pub error : BuildError
+  pub told : fault ≡ build_fault error
+  pub refuses : Refuses symbols m error
+
+-- why what a source says makes no blob: memory is wanted, it means no tree, or the blob is too long
+abbrev pub CannotBuild : Bool → Meaning → FaultValue → Type 0
+CannotBuild symbols m fault = (fault ≡ no_memory) ⊎ MeansNone symbols m fault ⊎ ((fault ≡ blob_fault TooLarge) × HasLongBlob symbols m)
+
+-- the text says something, and this is its blob
+pub record IsCompiled (symbols : Bool) (text blob : List ℕ) : Type 0 where
+  pub said : said.Meaning
+  pub short : IsShort text
+  pub says : parse.Says text said
+  pub blob_is : IsBlobOf symbols (reading said) blob
+
+-- ---- refusals
+-- the text says nothing, for this kind of error in this line
+pub record SaysNone (text : List ℕ) (fault : FaultValue) : Type 0 where
+  pub kind : SourceErrorKind
+  pub line : ℕ
+  pub told : fault ≡ source_fault kind line
+  pub refuses : parse.Refuses text kind line
+
+-- what the text says makes no blob
+pub record SaysInVain (symbols : Bool) (text : List ℕ) (fault : FaultValue) : Type 0 where
+  pub said : said.Meaning
+  pub short : IsShort text
+  pub says : parse.Says text said
+  pub cannot : CannotBuild symbols (reading said) fault
+
+abbrev pub IsCompileRefusal : Bool → List ℕ → FaultValue → Type 0
+IsCompileRefusal symbols text fault = SaysNone text fault ⊎ SaysInVain symbols text fault

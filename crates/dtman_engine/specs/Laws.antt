@@ -1,0 +1,35 @@
+-- What the engines keep together, over all that their clauses let them answer.
+use Rattle.std.specs.Prelude.{◌≡◌, ◌<◌, ◌≤◌, ◌⊎◌, ℕ, false, List, length}
+use Rattle.dt_tree.specs.TreeData.{TreeData, IsTree}
+use Rattle.dt_source.specs.declared.error.SourceErrorKind.TheVariants.{TooLong}
+use Rattle.dt_blob.specs.Blob.{blob_of}
+use Rattle.dt_blob.specs.SourceText.{text_of}
+use Rattle.dt_canonical.specs.Bytes.{HasBytes}
+use Rattle.dt_canonical.specs.Conditions.{IsSourceTree}
+use Rattle.dtman_engine.specs.Compile.{IsCompiled, IsCompileRefusal}
+use Rattle.dtman_engine.specs.Dump.{CannotPrint, IsDump, IsRefusal}
+use Rattle.dtman_engine.specs.Fault.{FaultValue, no_memory, source_fault}
+use Rattle.dtman_engine.specs.Limits.{blob_limit, source_limit}
+
+-- a tree with canonical source, whose blob is written: no processor but 0 boots, and its phandles are those of a source
+pub record HasCanonicalSource (tree : TreeData) : Type 0 where
+  pub is : IsTree tree
+  pub bytes : HasBytes tree
+  pub source : IsSourceTree tree
+  pub fits : length (blob_of tree) ≤ blob_limit
+
+-- why a text isn't compiled, though it means a tree whose blob fits: memory is wanted, or it is over 16 MiB
+abbrev pub CannotCompile : List ℕ → FaultValue → Type 0
+CannotCompile text fault = (fault ≡ no_memory) ⊎ ((fault ≡ source_fault TooLong 1) × (source_limit < length text))
+
+-- the blob of the tree comes back: `dump_bytes` of it is the tree's text, and `compile_bytes` of that text, without
+-- symbols, is the blob, unless memory is wanted or the text is too long
+pub record ComesBack (tree : TreeData) : Type 0 where
+  pub dumped : (text : List ℕ) → IsDump (blob_of tree) text → text ≡ text_of tree
+  pub undumped : (fault : FaultValue) → IsRefusal (blob_of tree) fault → CannotPrint tree fault
+  pub compiled : (blob : List ℕ) → IsCompiled false (text_of tree) blob → blob ≡ blob_of tree
+  pub uncompiled : (fault : FaultValue) → IsCompileRefusal false (text_of tree) fault → CannotCompile (text_of tree) fault
+
+-- each blob of a tree with canonical source comes back
+abbrev pub BlobsComeBack : Type 0
+BlobsComeBack = (tree : TreeData) → HasCanonicalSource tree → ComesBack tree

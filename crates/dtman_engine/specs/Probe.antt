@@ -1,0 +1,46 @@
+-- What `probe_bytes` answers: the end report of the plan of a blob and a driver file, or the first fault, that of the workers last.
+use Rattle.std.specs.Prelude.{◌≡◌, ◌<◌, ◌⊎◌, ℕ, List, Option, Result, Ok}
+use Rattle.dt_tree.specs.TreeData.{TreeData}
+use Rattle.bus_plan.specs.declared.error.PlanError.{PlanError}
+use Rattle.bus_plan.specs.Plan.{PlannedDevice}
+use Rattle.bus_manager.specs.Run.{IsRun}
+use Rattle.bus_manager.specs.declared.run_error.RunError.TheVariants.{TooManyWorkers}
+use Rattle.dtman_engine.specs.Fault.{FaultValue, no_memory, run_fault}
+use Rattle.dtman_engine.specs.Limits.{worker_limit}
+use Rattle.dtman_engine.specs.Plan.{IsPlanned, IsPlanRefusal, CannotPlan, planning}
+
+-- the workers are none, or more than there may be
+abbrev pub AreTooMany : ℕ → Type 0
+AreTooMany workers = (workers ≡ 0) ⊎ (worker_limit < workers)
+
+-- why a plan has no end report: memory is wanted, or the workers are none or too many
+abbrev pub CannotRun : ℕ → FaultValue → Type 0
+CannotRun workers fault = (fault ≡ no_memory) ⊎ ((fault ≡ run_fault TooManyWorkers) × AreTooMany workers)
+
+-- why there is no end report of a tree: it has no plan, or its plan can't be run
+abbrev pub CannotProbe : TreeData → List ℕ → ℕ → FaultValue → Type 0
+CannotProbe tree drivers workers fault =
+    CannotPlan tree drivers fault ⊎ ((plan : List PlannedDevice) × (planning tree drivers ≡ Ok plan) × CannotRun workers fault)
+
+-- a run of the plan of a tree and a driver file
+pub record IsProbeOf {N : Type 0} (attests : List PlannedDevice → ℕ → N → Type 0) (planned : Result (List PlannedDevice) PlanError) (report : List ℕ) (notes : List (Option N)) : Type 0 where
+  pub plan : List PlannedDevice
+  pub is_planned : planned ≡ Ok plan
+  pub run : IsRun (attests plan) plan report notes
+
+-- a run of the plan of a tree that the bytes hold: its one end report, and a note of each device that it has settled
+pub record IsProbe {N : Type 0} (attests : List PlannedDevice → ℕ → N → Type 0) (blob drivers report : List ℕ) (notes : List (Option N)) : Type 0 where
+  pub plan : List PlannedDevice
+  pub planned : IsPlanned blob drivers plan
+  pub run : IsRun (attests plan) plan report notes
+
+-- ---- refusals
+-- there is a plan of a tree that the bytes hold, and it can't be run
+pub record IsUnrun (blob drivers : List ℕ) (workers : ℕ) (fault : FaultValue) : Type 0 where
+  pub plan : List PlannedDevice
+  pub planned : IsPlanned blob drivers plan
+  pub cannot : CannotRun workers fault
+
+-- why there is no end report at all: the blob's fault comes before the file's, that before the plan's, and the workers' last
+abbrev pub IsProbeRefusal : List ℕ → List ℕ → ℕ → FaultValue → Type 0
+IsProbeRefusal blob drivers workers fault = IsPlanRefusal blob drivers fault ⊎ IsUnrun blob drivers workers fault

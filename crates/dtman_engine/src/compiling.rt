@@ -1,0 +1,71 @@
+//! The blob of a source, from bytes to bytes.
+ghost use Rattle.std.specs.Prelude.{◌≡◌, ◌≤◌, length, IfOk, IfErr, MatchResult};
+ghost use Rattle.dt_source.specs.Parse.{Says};
+ghost use Rattle.dt_source.specs.Tree.{Meaning};
+ghost use Rattle.dt_blob.specs.Blob.{blob_of};
+ghost use Rattle.dt_edit.specs.Said.{reading};
+ghost use Rattle.dt_resolve.specs.Said.{meaning_of};
+ghost use Rattle.dtman_engine.specs.Compile.{CannotBuild, CannotWrite, IsBlobOf, IsCompileRefusal, IsCompiled};
+ghost use Rattle.dtman_engine.specs.Fault.{fault_value};
+ghost use Rattle.dtman_engine.specs.Limits.{blob_limit, IsShort};
+
+use crate::fault::Fault;
+use crate::limits::MAX_BLOB_LEN;
+use dt_blob::{BlobError, write};
+use dt_build::build_within;
+use dt_source::{Source, one_source, parse};
+use dt_tree::Tree;
+use std::alloc::Global;
+use std::hash::RandomState;
+
+/// The blob of the tree that the source in a text means.
+///
+/// The text's fault comes first, with its line, then that of what it says, then a blob that is too long: sizes are counted before
+/// any value is made.
+pub fn compile_bytes(
+    alloc: Global,
+    hasher: RandomState,
+    source: &[u8],
+    symbols: bool,
+) -> Result<Vec<u8>, Fault>
+    // What is answered is the blob of the tree that the text means.
+    ensures answer { IfOk result (λ blob. IsCompiled symbols source.now blob.items) }
+    // What a text says is answered, or why it makes no blob.
+    ensures said { (m : Meaning) → IsShort source.now → Says source.now m → MatchResult result (λ blob. IsBlobOf symbols (reading m) blob.items) (λ fault. CannotBuild symbols (reading m) (fault_value fault)) }
+    // Each refusal has its reason in the text.
+    ensures refused { IfErr result (λ fault. IsCompileRefusal symbols source.now (fault_value fault)) }
+{
+    one_source();
+    match parse(alloc, source) {
+        Err(error) => Err(Fault::from(error)),
+        Ok(parsed) => source_blob(alloc, hasher, &parsed, symbols),
+    }
+}
+
+fn source_blob(
+    alloc: Global,
+    hasher: RandomState,
+    source: &Source<'_>,
+    symbols: bool,
+) -> Result<Vec<u8>, Fault>
+    ensures { MatchResult result (λ blob. IsBlobOf symbols (meaning_of source.now) blob.items) (λ fault. CannotBuild symbols (meaning_of source.now) (fault_value fault)) }
+{
+    match build_within(alloc, hasher, source, symbols, MAX_BLOB_LEN) {
+        Err(error) => Err(Fault::from(error)),
+        Ok(None) => Err(Fault::from(BlobError::TooLarge)),
+        Ok(Some(tree)) => {
+            tree.check();
+            tree_blob(alloc, hasher, &tree)
+        }
+    }
+}
+
+/// The blob of a tree.
+pub(crate) fn tree_blob(alloc: Global, hasher: RandomState, tree: &Tree) -> Result<Vec<u8>, Fault>
+    ensures { MatchResult result (λ blob. (blob.items ≡ blob_of tree.now) × (length blob.items ≤ blob_limit)) (λ fault. CannotWrite (length (blob_of tree.now)) (fault_value fault)) }
+{
+    match write(alloc, hasher, tree) {
+        Ok(blob) => Ok(blob),
+        Err(error) => Err(Fault::from(error)),
+    }
+}

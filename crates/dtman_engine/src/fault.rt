@@ -1,0 +1,200 @@
+//! A refusal as the program prints it.
+ghost use Rattle.std.specs.Prelude.{◌≡◌};
+ghost use Rattle.dtman_engine.specs.Fault.{fault_value, no_memory, cannot_read, cannot_write, file_too_long, text_fault, event_fault, blob_fault, build_fault, overlay_fault, run_fault, source_fault};
+
+use bus_core::Refusal;
+use bus_manager::RunError;
+use bus_plan::PlanError;
+use dt_blob::BlobError;
+use dt_build::BuildError;
+use dt_overlay::OverlayError;
+use dt_source::{SourceError, SourceErrorKind};
+use std::alloc::AllocError;
+use std::fmt;
+
+/// Where a fault was found.
+#[derive(Clone, Copy, Debug, PartialEq, Eq)]
+pub enum Place {
+    Nowhere,
+    /// A line of a text file, from 1.
+    Line(usize),
+    /// An event of a schedule, from 1.
+    Event(usize),
+}
+
+/// The number, name and place of a refusal. Numbers and names are those of the crate that refused.
+#[derive(Clone, Copy, Debug)]
+pub struct Fault {
+    pub number: u8,
+    pub name: &'static str,
+    pub place: Place,
+}
+
+impl Fault {
+    /// A growth was refused.
+    pub fn no_memory() -> Fault
+        ensures { fault_value result ≡ no_memory }
+    {
+        Fault {
+            number: 0,
+            name: "NoMemory",
+            place: Place::Nowhere,
+        }
+    }
+
+    /// A file can't be read.
+    pub fn cannot_read() -> Fault
+        ensures { fault_value result ≡ cannot_read }
+    {
+        Fault {
+            number: 80,
+            name: "CannotRead",
+            place: Place::Nowhere,
+        }
+    }
+
+    /// A file can't be written.
+    pub fn cannot_write() -> Fault
+        ensures { fault_value result ≡ cannot_write }
+    {
+        Fault {
+            number: 81,
+            name: "CannotWrite",
+            place: Place::Nowhere,
+        }
+    }
+
+    /// A text file of the bus has more bytes than are read.
+    pub fn file_too_long() -> Fault
+        ensures { fault_value result ≡ file_too_long }
+    {
+        Fault {
+            number: 82,
+            name: "FileTooLong",
+            place: Place::Nowhere,
+        }
+    }
+}
+
+impl From<AllocError> for Fault {
+    ghost from_gives = { λ _ fault. fault_value fault ≡ no_memory };
+
+    fn from(_error: AllocError) -> Fault {
+        Fault::no_memory()
+    }
+}
+
+impl From<PlanError> for Fault {
+    ghost from_gives = { λ error fault. fault_value fault ≡ text_fault error };
+
+    fn from(error: PlanError) -> Fault {
+        Fault {
+            number: error.number(),
+            name: error.name(),
+            place: match error.line() {
+                Some(line) => Place::Line(line),
+                None => Place::Nowhere,
+            },
+        }
+    }
+}
+
+/// The line is that of the text. Want of memory is no line's.
+impl From<SourceError> for Fault {
+    ghost from_gives = { λ error fault. fault_value fault ≡ source_fault error.kind error.line };
+
+    fn from(error: SourceError) -> Fault {
+        Fault {
+            number: error.number(),
+            name: error.name(),
+            place: match error.kind {
+                SourceErrorKind::NoMemory => Place::Nowhere,
+                _ => Place::Line(error.line),
+            },
+        }
+    }
+}
+
+impl From<BuildError> for Fault {
+    ghost from_gives = { λ error fault. fault_value fault ≡ build_fault error };
+
+    fn from(error: BuildError) -> Fault {
+        Fault {
+            number: error.number(),
+            name: error.name(),
+            place: Place::Nowhere,
+        }
+    }
+}
+
+impl From<OverlayError> for Fault {
+    ghost from_gives = { λ error fault. fault_value fault ≡ overlay_fault error };
+
+    fn from(error: OverlayError) -> Fault {
+        Fault {
+            number: error.number(),
+            name: error.name(),
+            place: Place::Nowhere,
+        }
+    }
+}
+
+impl From<BlobError> for Fault {
+    ghost from_gives = { λ error fault. fault_value fault ≡ blob_fault error };
+
+    fn from(error: BlobError) -> Fault {
+        Fault {
+            number: error.number(),
+            name: error.name(),
+            place: Place::Nowhere,
+        }
+    }
+}
+
+impl From<RunError> for Fault {
+    ghost from_gives = { λ error fault. fault_value fault ≡ run_fault error };
+
+    fn from(error: RunError) -> Fault {
+        Fault {
+            number: error.number(),
+            name: error.name(),
+            place: Place::Nowhere,
+        }
+    }
+}
+
+/// The refusal of the event with this number. Want of memory is no event's.
+impl From<(usize, Refusal)> for Fault {
+    ghost from_gives = { λ refused fault. fault_value fault ≡ event_fault refused.0 refused.1 };
+
+    fn from((number, refusal): (usize, Refusal)) -> Fault {
+        Fault {
+            number: refusal.number(),
+            name: refusal.name(),
+            place: match refusal {
+                Refusal::NoMemory => Place::Nowhere,
+                _ => Place::Event(number),
+            },
+        }
+    }
+}
+
+impl fmt::Display for Fault {
+    ghost use Rattle.std.specs.Prelude.{Some};
+    ghost use Rattle.dtman_engine.specs.Fault.{fault_line};
+
+    ghost output = { λ fault. Some (fault_line fault) };
+
+    fn fmt<W: fmt::Write>(&self, f: &mut fmt::Formatter<W>) -> fmt::Result {
+        let Fault {
+            number,
+            name,
+            place,
+        } = *self;
+        match place {
+            Place::Nowhere => write!(f, "error {number} {name}"),
+            Place::Line(line) => write!(f, "error {number} {name} line {line}"),
+            Place::Event(event) => write!(f, "error {number} {name} event {event}"),
+        }
+    }
+}

@@ -1,0 +1,34 @@
+//! The engines: each from the bytes of files to the bytes of an answer, or to the first fault.
+#![tactic(auto)]
+
+mod channel;
+mod compiling;
+mod dump;
+mod explaining;
+mod fault;
+mod laws;
+mod limits;
+mod memory;
+mod overlaying;
+mod planning;
+mod probing;
+mod replay;
+mod replay_run;
+mod streams;
+mod transfer;
+
+pub use channel::{Channel, Failed};
+pub use compiling::compile_bytes;
+pub use dump::dump_bytes;
+pub use explaining::{Explanation, explain};
+pub use fault::{Fault, Place};
+pub use laws::{blobs_come_back, limits_stand};
+pub use limits::{MAX_BLOB_LEN, MAX_SOURCE_LEN, MAX_TEXT_LEN};
+pub use memory::Memory;
+pub use overlaying::overlay_bytes;
+pub use planning::{graph_bytes, plan_bytes};
+pub use probing::probe_bytes;
+pub use replay::replay_bytes;
+pub use replay_run::replay_run_bytes;
+pub use streams::{FileChannel, InputChannel, OutputChannel};
+pub use transfer::{WriteFault, read_all, read_within, write_out};

@@ -1,0 +1,90 @@
+//! The plan of a blob and a driver file, from bytes to bytes.
+ghost use Rattle.std.specs.Prelude.{◌≡◌, Some, Ok, IfOk, IfErr, IsErrAnd, MatchResult};
+ghost use Rattle.dt_tree.specs.TreeData.{TreeData};
+ghost use Rattle.dt_blob.specs.declared.error.BlobError.{BlobError};
+ghost use Rattle.dt_blob.specs.HeaderWords.{header_fault};
+ghost use Rattle.dt_blob.specs.Holds.{Holds};
+ghost use Rattle.bus_plan.specs.PlanFile.{Answers};
+ghost use Rattle.bus_plan.specs.PlanText.{text_of};
+ghost use Rattle.dtman_engine.specs.Fault.{fault_value, blob_fault, no_memory};
+ghost use Rattle.dtman_engine.specs.Plan.{planning, printed, HasPlan, IsPlanned, IsPlanText, IsPlanRefusal, CannotPlan};
+
+use crate::fault::Fault;
+use bus_drivers::{plan, plan_graph, read_drivers};
+use bus_plan::{Plan, PlanError, plan_text};
+use dt_blob::read;
+use dt_tree::Tree;
+use std::alloc::Global;
+use std::hash::RandomState;
+
+/// The plan of the tree that a blob holds, by the drivers of a file.
+///
+/// The blob's fault comes first, then the driver file's with its line, then the plan's.
+pub(crate) fn planned(
+    alloc: Global,
+    hasher: RandomState,
+    blob: &[u8],
+    drivers: &[u8],
+) -> Result<Plan, Fault>
+    ensures answer { IfOk result (IsPlanned blob.now drivers.now) }
+    ensures held { (tree : TreeData) → Holds blob.now tree → MatchResult result (λ plan. planning tree drivers.now ≡ Ok plan) (λ fault. CannotPlan tree drivers.now (fault_value fault)) }
+    ensures refused { IfErr result (λ fault. IsPlanRefusal blob.now drivers.now (fault_value fault)) }
+    ensures header { (e : BlobError) → header_fault blob.now ≡ Some e → IsErrAnd result (λ fault. fault_value fault ≡ blob_fault e) }
+{
+    let tree = read(alloc, blob)?;
+    Ok(plan_tree(alloc, hasher, &tree, drivers)?)
+}
+
+fn plan_tree(
+    alloc: Global,
+    hasher: RandomState,
+    tree: &Tree,
+    drivers: &[u8],
+) -> Result<Plan, PlanError>
+    ensures { Answers (planning tree.now drivers.now) result }
+{
+    let drivers = read_drivers(alloc, hasher, drivers)?;
+    plan(alloc, hasher, tree, &drivers)
+}
+
+/// The text of the plan of the tree that a blob holds, by the drivers of a file. A plan file's reader takes it.
+pub fn plan_bytes(
+    alloc: Global,
+    hasher: RandomState,
+    blob: &[u8],
+    drivers: &[u8],
+) -> Result<Vec<u8>, Fault>
+    // What is printed is the plan of a tree that the bytes hold.
+    ensures answer { IfOk result (λ text. IsPlanText blob.now drivers.now text.items) }
+    // The plan of a tree that the bytes hold is printed, or its first fault told.
+    ensures held { (tree : TreeData) → Holds blob.now tree → MatchResult result (λ text. printed (planning tree drivers.now) ≡ Ok text.items) (λ fault. CannotPlan tree drivers.now (fault_value fault)) }
+    // Each refusal has its reason in the bytes.
+    ensures refused { IfErr result (λ fault. IsPlanRefusal blob.now drivers.now (fault_value fault)) }
+    // A fault of the header comes before all else.
+    ensures header { (e : BlobError) → header_fault blob.now ≡ Some e → IsErrAnd result (λ fault. fault_value fault ≡ blob_fault e) }
+{
+    let plan = planned(alloc, hasher, blob, drivers)?;
+    text_of(alloc, &plan)
+}
+
+fn text_of(alloc: Global, plan: &Plan) -> Result<Vec<u8>, Fault>
+    ensures { MatchResult result (λ text. text.items ≡ text_of plan.now) (λ fault. fault_value fault ≡ no_memory) }
+{
+    plan_text(alloc, plan).map_err(|_| Fault::no_memory())
+}
+
+/// The plan as a Graphviz graph in place of its text, refused as that is. What it draws is outside the proved clauses.
+pub fn graph_bytes(
+    alloc: Global,
+    hasher: RandomState,
+    blob: &[u8],
+    drivers: &[u8],
+) -> Result<Vec<u8>, Fault>
+    // What is drawn is a plan of a tree that the bytes hold.
+    ensures answer { IfOk result (λ _. HasPlan blob.now drivers.now) }
+    ensures refused { IfErr result (λ fault. IsPlanRefusal blob.now drivers.now (fault_value fault)) }
+    ensures header { (e : BlobError) → header_fault blob.now ≡ Some e → IsErrAnd result (λ fault. fault_value fault ≡ blob_fault e) }
+{
+    let plan = planned(alloc, hasher, blob, drivers)?;
+    plan_graph(alloc, &plan).map_err(|_| Fault::no_memory())
+}

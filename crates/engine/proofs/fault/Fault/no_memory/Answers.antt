@@ -1,5 +1,0 @@
-use Rattle.std.proofs.Common.{refl}
-use Rattle.engine.proofs.fault.Fault.no_memory.Goals as goal
-
-pub returns : goal.returns
-returns c = refl

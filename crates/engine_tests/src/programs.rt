@@ -1,0 +1,13 @@
+//! What the command line means, and what the program does with files and standard output over memory.
+mod clock_and_uart;
+mod compiling;
+mod help;
+mod overlaying;
+mod probing;
+mod replaying;
+mod runs;
+mod shelf;
+mod standard;
+mod statuses;
+mod verbose;
+mod words;

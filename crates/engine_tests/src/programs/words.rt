@@ -1,0 +1,129 @@
+//! The command line.
+
+use clap::error::ErrorKind;
+use dtman_cli::{Command, command};
+use std::alloc::Global;
+
+/// The command that the words name, or the kind of their mistake.
+fn read<'a>(alloc: Global, words: &'a [&'a str]) -> Result<Command<'a>, ErrorKind> {
+    match command(alloc, words) {
+        Ok(command) => Ok(command),
+        Err(error) => Err(error.kind()),
+    }
+}
+
+#[test]
+fn reads_the_command_line(rt: HostRuntime) {
+    let words = ["dtman", "replay", "board.plan", "boot.schedule"];
+    let replay = read(rt.alloc(), words.as_slice());
+    assert!(rt;
+        matches!(
+            replay,
+            Ok(Command::Replay {
+                plan: "board.plan",
+                schedule: "boot.schedule",
+                workers: None
+            })
+        )
+    );
+    let words = ["dtman", "dump", "board.dtb"];
+    let dump = read(rt.alloc(), words.as_slice());
+    assert!(rt; matches!(dump, Ok(Command::Dump { blob: "board.dtb" })));
+    let words = ["dtman", "overlay", "base.dtb", "over.dtbo", "out.dtb"];
+    let overlay = read(rt.alloc(), words.as_slice());
+    assert!(rt;
+        matches!(
+            overlay,
+            Ok(Command::Overlay {
+                base: "base.dtb",
+                overlay: "over.dtbo",
+                out: "out.dtb"
+            })
+        )
+    );
+    let words = ["dtman", "explain", "64"];
+    let explain = read(rt.alloc(), words.as_slice());
+    assert!(rt; matches!(explain, Ok(Command::Explain { number: "64" })));
+    let words = ["dtman", "--version"];
+    let version = read(rt.alloc(), words.as_slice());
+    assert!(rt; matches!(version, Err(ErrorKind::DisplayVersion)));
+    let words = ["dtman", "bind", "board.dtb"];
+    let unknown = read(rt.alloc(), words.as_slice());
+    assert!(rt; matches!(unknown, Err(ErrorKind::InvalidSubcommand)));
+}
+
+#[test]
+fn reads_plan_with_its_option(rt: HostRuntime) {
+    let words = ["dtman", "plan", "board.dtb", "board.drivers"];
+    let plan = read(rt.alloc(), words.as_slice());
+    assert!(rt;
+        matches!(
+            plan,
+            Ok(Command::Plan {
+                blob: "board.dtb",
+                drivers: "board.drivers",
+                dot: false
+            })
+        )
+    );
+    let words = ["dtman", "plan", "--dot", "board.dtb", "board.drivers"];
+    let graph = read(rt.alloc(), words.as_slice());
+    assert!(rt;
+        matches!(
+            graph,
+            Ok(Command::Plan {
+                blob: "board.dtb",
+                drivers: "board.drivers",
+                dot: true
+            })
+        )
+    );
+}
+
+/// The workers that a command line names, if it does, or the kind of its mistake.
+fn workers_of(alloc: Global, command: &str, option: (&str, &str)) -> Result<Option<u8>, ErrorKind> {
+    let (name, number) = option;
+    let words = ["dtman", command, "board", "beside", name, number];
+    match read(alloc, words.as_slice())? {
+        Command::Probe {
+            blob: "board",
+            drivers: "beside",
+            workers,
+        } => Ok(Some(workers)),
+        Command::Replay {
+            plan: "board",
+            schedule: "beside",
+            workers,
+        } => Ok(workers),
+        _ => Ok(None),
+    }
+}
+
+const WORKERS: &[(&str, Result<Option<u8>, ErrorKind>)] = &[
+    ("1", Ok(Some(1))),
+    ("64", Ok(Some(64))),
+    ("+4", Ok(Some(4))),
+    ("04", Ok(Some(4))),
+    ("0", Err(ErrorKind::ValueValidation)),
+    ("65", Err(ErrorKind::ValueValidation)),
+    ("many", Err(ErrorKind::ValueValidation)),
+];
+
+#[test]
+fn reads_probe_with_its_workers(rt: HostRuntime) {
+    let words = ["dtman", "probe", "board.dtb", "board.drivers"];
+    let four = read(rt.alloc(), words.as_slice());
+    assert!(rt; matches!(four, Ok(Command::Probe { workers: 4, .. })));
+    for &(number, workers) in WORKERS {
+        let read = workers_of(rt.alloc(), "probe", ("--workers", number));
+        assert_eq!(rt; read, workers, "{number}");
+    }
+}
+
+#[test]
+fn reads_replay_with_its_workers(rt: HostRuntime) {
+    for &(number, workers) in WORKERS {
+        let read = workers_of(rt.alloc(), "replay", ("--workers", number));
+        assert_eq!(rt; read, workers, "{number}");
+    }
+}

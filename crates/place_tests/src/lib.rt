@@ -1,0 +1,13 @@
+//! The worked rows of diagnoses: what is said of a refusal, and where it is, worked by hand.
+#![tactic(auto)]
+
+#[cfg(test)]
+mod examples;
+#[cfg(test)]
+mod places;
+#[cfg(test)]
+mod schedules;
+#[cfg(test)]
+mod shown;
+#[cfg(test)]
+mod sources;

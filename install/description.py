@@ -1,0 +1,248 @@
+"""The one description of the program that its man pages and completions are made of.
+
+`.ci/pages.py` holds it against `--help`: the commands, their operands and options and what is said of each have to be the same.
+In prose, what stands between backticks is shown as it is typed.
+"""
+from dataclasses import dataclass
+
+# The day that the pages tell.
+DATE = "November 26, 2026"
+
+
+@dataclass(frozen=True)
+class Operand:
+    """A word that a command wants, with the kind of what it names."""
+
+    name: str
+    kind: str
+    about: str
+
+
+@dataclass(frozen=True)
+class Option:
+    """An option, with the name of its value where it has one, and what --help says of a default."""
+
+    names: str
+    about: str
+    value: str = ""
+    default: str = ""
+
+
+@dataclass(frozen=True)
+class Command:
+    name: str
+    about: str
+    operands: tuple
+    options: tuple
+    prose: tuple
+    examples: tuple
+    refusals: str
+
+
+# The endings of files of a kind, where the kind is one of files.
+KINDS = {
+    "source": (".dts",),
+    "blob": (".dtb", ".dtbo"),
+    "drivers": (".drivers",),
+    "plan": (".plan",),
+    "schedule": (".schedule",),
+}
+
+HELP = Option("-h, --help", "Print help")
+VERSION = Option("-V, --version", "Print version")
+# Before or behind any command. The program takes it from the words before clap sees them, so that no page of help lists it.
+VERBOSE = Option("-v, --verbose", "Tells of a refusal where it is and of what, in further lines")
+
+OUT = Operand("OUT", "blob", "The blob, which is written once all of it is ready")
+DRIVERS = Operand("DRIVERS", "drivers", "The driver file")
+
+COMMANDS = (
+    Command(
+        "compile",
+        "Compiles a source to a blob",
+        (Operand("IN", "source", "The source"), OUT),
+        (Option("--symbols", "Adds the paths of all labelled nodes"),),
+        (
+            "Compiles a devicetree source, as the C preprocessor leaves it, to a flattened blob of version 17. A source with the tag"
+            " `/plugin/` becomes an overlay, with its `__fixups__` and `__local_fixups__`.",
+            "With `--symbols` the blob has the path of each labelled node, as the base of an overlay needs it.",
+            "OUT is opened only when all of its bytes are ready, so a refused source leaves an old blob as it was.",
+        ),
+        (
+            ("A board and the overlay of a HAT", "dtman compile board.dts board.dtb --symbols\ndtman compile hat.dts hat.dtbo"),
+            ("A source with includes, as kernels do", "cpp -nostdinc -undef -D__DTS__ -x assembler-with-cpp board.dts |\n\tdtman compile - board.dtb"),
+        ),
+        "10 to 17 with the line of the source, 20 to 28, and 38",
+    ),
+    Command(
+        "overlay",
+        "Applies an overlay to a base",
+        (Operand("BASE", "blob", "The base's blob"), Operand("OVERLAY", "blob", "The overlay's blob"), OUT),
+        (),
+        (
+            "Applies one blob to another, as a boot loader does with the overlay of a HAT: phandles are raised above the base's, fixups are"
+            " resolved by the base's symbols, and each fragment is merged into its target. What is there keeps its place and takes the new"
+            " value; what is new goes last.",
+            "OUT is opened only when all of its bytes are ready.",
+        ),
+        (("Two overlays, one behind the other", "dtman overlay board.dtb hat.dtbo - | dtman overlay - display.dtbo both.dtb"),),
+        "30 to 38, of the base before those of the overlay, and 40 to 46",
+    ),
+    Command(
+        "dump",
+        "Prints a blob as a canonical source",
+        (Operand("IN", "blob", "The blob"),),
+        (),
+        (
+            "Prints a blob as a canonical source: the same tree always gives the same text, so that two boards can be compared by `diff`."
+            " Compiled again, the text gives the same tree. The number of the processor that boots isn't in a source.",
+        ),
+        (("What an overlay changed", "dtman dump board.dtb >before; dtman dump both.dtb | diff before -"),),
+        "30 to 38",
+    ),
+    Command(
+        "plan",
+        "Prints the plan of a blob: its devices, their drivers and suppliers",
+        (Operand("BLOB", "blob", "The blob"), DRIVERS),
+        (Option("--dot", "Prints a Graphviz graph instead"),),
+        (
+            "Prints what the bus would do with a board: its devices in the order of the tree, each with the driver that matches it and the"
+            " devices that have to be bound before it. The answer is a plan file, which can be read, kept, edited and replayed.",
+            "With `--dot` the answer is a Graphviz graph, in which the arrows of a cycle are red.",
+        ),
+        (
+            ("The plan of a board", "dtman plan board.dtb board.drivers >board.plan"),
+            ("A picture of it", "dtman plan board.dtb board.drivers --dot | dot -Tsvg >board.svg"),
+        ),
+        "30 to 38, 50 and 51 with the line of the driver file, and 53 to 56",
+    ),
+    Command(
+        "replay",
+        "Replays a schedule of probe events over a plan and prints the report",
+        (Operand("PLAN", "plan", "The plan file"), Operand("SCHEDULE", "schedule", "The schedule of events")),
+        (Option("--workers", "How many bind what the schedule leaves, 1 to 64", "workers"),),
+        (
+            "Does the events of a schedule, one after the other, to the devices of a plan, and prints where each device stands after the last:"
+            " a line a device, then `quiet` where nothing is in flight and nothing is left to do, or `busy`.",
+            "With `--workers` the run goes on by so many threads from where the schedule left it, without the probes that it left open, until"
+            " all that can be bound is bound.",
+        ),
+        (("Where a boot stands after these events", "dtman replay board.plan boot.schedule"),),
+        "50 to 53 and 56 with the line of a file, and 60 to 67 with the event",
+    ),
+    Command(
+        "probe",
+        "Binds the devices of a blob by workers and prints the end report",
+        (Operand("BLOB", "blob", "The blob"), DRIVERS),
+        (Option("--workers", "How many probe at once, 1 to 64", "workers", "4"),),
+        (
+            "Plans the blob and binds its devices by 1 to 64 threads, each of which claims a device, looks at its suppliers, probes it, and"
+            " defers it where a supplier wasn't there yet. Drivers settle by the plan alone. The report is the same for any number of workers.",
+        ),
+        (("Whether all devices of a board can be bound", "dtman probe board.dtb board.drivers | grep -v ' bound '"),),
+        "30 to 38, 50 and 51 with the line of the driver file, and 53 to 56",
+    ),
+    Command(
+        "explain",
+        "Says what an error means and what to do; alone it lists all",
+        (Operand("NUMBER", "number", "The number behind `error`, or the name"),),
+        (),
+        ("Says what an error means, the smallest input that gives it, what to do, and what --verbose tells of that input.",),
+        (("What an error means", "dtman explain 63"),),
+        "none",
+    ),
+)
+
+STATUSES = (
+    ("0", "Done."),
+    ("1", "Refused. One line on standard error tells it: `error NUMBER NAME`, with ` line L` or ` event N` where there is one. With `-v` or `--verbose` before or behind any"
+        " command, or `DTMAN_VERBOSE=1` in the environment, further lines say where it is and of what."),
+    ("2", "The command line is no command."),
+    ("3", "A file can't be read (80) or written (81), or is too long (82), or nobody reads the output any more, which isn't told."),
+)
+
+FILES = (
+    "Where a file is named, `-` is standard input, or standard output in the place of OUT. A file of that name is written `./-`."
+    " Standard output and standard input are `stdout` and `stdin` in what is told of them."
+)
+
+LIMITS = (
+    "A source has at most 16,777,216 bytes; a blob and its printed source have at most 268,435,456, and so does each text file of the bus."
+    " Nodes are nested at most 64 deep. A plan has at most 4,096 devices, a schedule at most 500,000 begins."
+)
+
+TOOLS = (
+    "`dtman dtc` and `dtman fdtoverlay`, or links of these names to the program, take the words of dtc and of fdtoverlay in their place."
+)
+
+VERBOSITY = "A variable `DTMAN_VERBOSE` with the value 1 in the environment asks for the same as `--verbose`."
+
+LINES = (
+    "In all three kinds of files a line ends with a line feed, with or without a carriage return before it; it has no bytes but tabs and those"
+    " from space to tilde; its fields are separated by spaces and tabs. A line without fields, or whose first field begins with `#`, says"
+    " nothing. The first fault in the order of the lines is told, with its line."
+)
+
+
+@dataclass(frozen=True)
+class Format:
+    """A kind of file: its lines, each with what it says."""
+
+    title: str
+    prose: str
+    lines: tuple
+    example: str
+
+
+FORMATS = (
+    Format(
+        "Driver files",
+        "The drivers that there are. Where several list a string of a device, its earliest string decides, and then the first line.",
+        (
+            ("driver NAME COMPATIBLE..", "A driver, with the strings that it matches. NAME is a name other than `-` that no other line has."),
+            ("fail PATH", "The driver of the device at this path fails."),
+        ),
+        "driver fixed regulator-fixed\ndriver serial ns16550a ns16550\nfail /soc/i2c@60000/accelerometer@1d",
+    ),
+    Format(
+        "Plan files",
+        "The devices of a board, one a line, with what has to be bound before each. A supplier may stand on a later line."
+        " `dtman plan` prints such a file.",
+        (
+            ("PATH DRIVER ok SUPPLIER..", "A device with its driver and the paths of its suppliers."),
+            ("PATH DRIVER fail SUPPLIER..", "The same, where the driver fails."),
+            ("PATH - - SUPPLIER..", "A device that no driver matches."),
+            ("PATH ! - SUPPLIER..", "A device that is switched off."),
+            ("compatible PATH COMPATIBLE..", "The strings by which a driver that comes late may match a device without one."),
+        ),
+        "/clk fixed ok\n/uart - - /clk\ncompatible /uart ns16550a",
+    ),
+    Format(
+        "Schedules",
+        "The probe events of a run, one a line, in their order.",
+        (
+            ("begin PATH", "The probe of a device begins."),
+            ("finish PATH settled", "It ends, and all suppliers were bound: the device is bound, or failed where its driver fails."),
+            ("finish PATH missing SUPPLIER", "It ends, and this supplier wasn't bound: the device is deferred."),
+            ("abandon PATH", "It is given up."),
+            ("driver NAME COMPATIBLE..", "A driver comes late, as when its module is loaded, and gets each device without one that it matches."),
+        ),
+        "begin /clk\nfinish /clk settled\ndriver serial ns16550a\nbegin /uart\nfinish /uart settled",
+    ),
+    Format(
+        "Reports",
+        "What `dtman replay` and `dtman probe` print: a line a device, in the order of the plan, and one for the whole.",
+        (
+            ("PATH bound DRIVER", "The device is bound."),
+            ("PATH failed DRIVER", "Its driver failed."),
+            ("PATH probing", "Its probe has begun and hasn't ended."),
+            ("PATH due", "It can be probed now."),
+            ("PATH waiting SUPPLIER", "It waits; this is the first of its suppliers that isn't bound."),
+            ("PATH unmatched", "No driver matches it."),
+            ("PATH disabled", "It is switched off."),
+            ("quiet", "No probe is open, and no device is due."),
+            ("busy", "Something is left to do."),
+        ),
+        "/clk bound fixed\n/uart bound serial\nquiet",
+    ),
+)

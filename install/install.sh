@@ -1,0 +1,148 @@
+#!/usr/bin/env bash
+# install.sh install|uninstall|dist|deb: puts what bin/ has where it belongs (PREFIX, DESTDIR), takes it away, or packs it into out/dist.
+# `make` builds bin/ first where it isn't there. Nothing here needs the toolchain.
+set -euo pipefail
+cd "$(dirname "$0")/.."
+prefix=${PREFIX-/usr/local}
+root=${DESTDIR:-}
+version=$(sed -n 's/.*\.version("\([^"]*\)").*/\1/p' crates/dtman_cli/src/grammar.rt)
+# Debian's zsh looks for what packages bring elsewhere.
+zsh_folder=${ZSH_FOLDER:-share/zsh/site-functions}
+
+# A line for each file that is installed: its mode, where it comes from, where it goes to below the prefix.
+listed() {
+	local file
+	echo 755 bin/dtman bin/dtman
+	for file in out/pages/man?/*; do echo 644 "$file" "share/man/${file#out/pages/}"; done
+	echo 644 out/pages/bash/dtman share/bash-completion/completions/dtman
+	echo 644 out/pages/zsh/_dtman "$zsh_folder/_dtman"
+	echo 644 out/pages/fish/dtman.fish share/fish/vendor_completions.d/dtman.fish
+	if [ -e bin/libdtman.a ]; then
+		echo 644 bin/libdtman.a lib/libdtman.a
+		echo 644 install/dtman.h include/dtman.h
+		echo 644 out/pages/dtman.pc lib/pkgconfig/dtman.pc
+		for file in examples/c/*; do echo 644 "$file" "share/doc/dtman/examples/c/${file##*/}"; done
+	fi
+	for file in README.md CHANGELOG.md docs/errors.md docs/promises.md; do echo 644 "$file" "share/doc/dtman/${file##*/}"; done
+	for file in examples/*.{dts,dtb,drivers,plan,schedule}; do echo 644 "$file" "share/doc/dtman/examples/${file##*/}"; done
+}
+
+# The pages and completions are made anew, since they are made in a moment.
+make_pages() {
+	rm -rf out/pages
+	python3 install/pages.py out/pages
+	cat >out/pages/dtman.pc <<END
+prefix=\${pcfiledir}/../..
+Name: dtman
+Description: devicetree compiler and probing core over the caller's bytes
+Version: $version
+Cflags: -I\${prefix}/include
+Libs: -L\${prefix}/lib -ldtman
+END
+}
+
+put() {
+	local mode source target
+	make_pages
+	[ -e bin/libdtman.a ] || echo "install: bin/libdtman.a isn't there, so the C library is left out" >&2
+	listed | while read -r mode source target; do install -D -m "$mode" "$source" "$root$prefix/$target"; done
+}
+
+take_away() {
+	local target
+	make_pages
+	listed | while read -r _ _ target; do rm -f "$root$prefix/$target"; done
+	rm -f "$root$prefix"/{lib/libdtman.a,include/dtman.h,lib/pkgconfig/dtman.pc}
+	rm -rf "$root$prefix/share/doc/dtman"
+}
+
+# A tar ball that unpacks to bin/, lib/, include/ and share/, and its checksum. The same files give the same bytes.
+dist() {
+	local name stage
+	name=dtman-$version-$(uname -m)-$(uname -s | tr '[:upper:]' '[:lower:]')
+	stage=$(mktemp -d)
+	PREFIX='' DESTDIR=$stage/$name "$0" install
+	(cd "$stage/$name" && find . -type f ! -name SHA256SUMS -printf '%P\n' | LC_ALL=C sort | xargs sha256sum >SHA256SUMS)
+	mkdir -p out/dist
+	tar -C "$stage" --sort=name --mtime=@0 --owner=0 --group=0 --numeric-owner -cf - "$name" | gzip -9n >"out/dist/$name.tar.gz"
+	(cd out/dist && sha256sum "$name.tar.gz" >"$name.tar.gz.sha256")
+	rm -rf "$stage"
+	echo "out/dist/$name.tar.gz"
+}
+
+# The oldest C library that has what the program asks of it.
+needed_libc() {
+	objdump -T bin/dtman | grep -o 'GLIBC_[0-9.]*' | sed 's/GLIBC_//' | sort -uV | tail -1
+}
+
+# A Debian package. Its maintainer is MAINTAINER, or who git says commits here.
+deb() {
+	local arch stage doc name
+	arch=$(dpkg --print-architecture)
+	stage=$(mktemp -d)
+	name=out/dist/dtman_${version}_$arch.deb
+	PREFIX=/usr DESTDIR=$stage ZSH_FOLDER=share/zsh/vendor-completions "$0" install
+	doc=$stage/usr/share/doc/dtman
+	mv "$doc/CHANGELOG.md" "$doc/NEWS.md"
+	strip --strip-unneeded -R .comment -R .note "$stage/usr/bin/dtman"
+	[ ! -e "$stage/usr/lib/libdtman.a" ] || strip --strip-debug -R .comment -R .note "$stage/usr/lib/libdtman.a"
+	find "$stage/usr/share/man" -type f -exec gzip -9n {} +
+	debian_words "$stage" "$arch" "${MAINTAINER:-$(git log -1 --format='%an <%ae>')}"
+	gzip -9n "$doc/NEWS.md" "$doc/README.md" "$doc/errors.md" "$doc/promises.md" "$doc/changelog"
+	(cd "$stage" && find usr -type f -print0 | LC_ALL=C sort -z | xargs -0 md5sum >DEBIAN/md5sums)
+	chmod -R u=rwX,go=rX "$stage"
+	mkdir -p out/dist
+	dpkg-deb --root-owner-group -Zxz --build "$stage" "$name" >/dev/null
+	rm -rf "$stage"
+	echo "$name"
+}
+
+# What Debian wants to know of the package.
+debian_words() {
+	local stage=$1 arch=$2 maintainer=$3
+	mkdir -p "$stage/DEBIAN"
+	cat >"$stage/DEBIAN/control" <<END
+Package: dtman
+Version: $version
+Architecture: $arch
+Maintainer: $maintainer
+Installed-Size: $(du -ks --exclude=DEBIAN "$stage" | cut -f1)
+Depends: libc6 (>= $(needed_libc))
+Section: devel
+Priority: optional
+Description: devicetree compiler and driver-binding manager
+ dtman compiles devicetree sources to blobs, applies overlays, prints blobs as
+ canonical sources, plans the devices of a blob, replays schedules of probe
+ events over plans, and binds the devices of a board by several threads. A C
+ library, libdtman.a, does the same over the bytes of its caller.
+ .
+ Each function was proved to meet its contract before it was built.
+END
+	cat >"$stage/usr/share/doc/dtman/copyright" <<END
+Format: https://www.debian.org/doc/packaging-manuals/copyright-format/1.0/
+Upstream-Name: dtman
+
+Files: *
+Copyright: 2026 the authors of dtman
+License: unstated
+ The repository states no licence.
+END
+	cat >"$stage/usr/share/doc/dtman/changelog" <<END
+dtman ($version) unstable; urgency=medium
+
+  * What users see of each version stands in NEWS.md.
+
+ -- $maintainer  $(date -R -d "@$(git log -1 --format=%ct)")
+END
+}
+
+case ${1:-} in
+install) put ;;
+uninstall) take_away ;;
+dist) dist ;;
+deb) deb ;;
+*)
+	echo "install.sh knows install, uninstall, dist and deb" >&2
+	exit 2
+	;;
+esac
