@@ -3,6 +3,7 @@
 
 mod beside;
 mod detail;
+mod diagnosing;
 mod explaining;
 mod failure;
 mod files;

@@ -1,19 +1,20 @@
 //! What each command does: its files in, one engine's bytes out.
 ghost use Rattle.std.specs.Prelude.{◌≡◌, false};
 
-use crate::detail::{Detail, line_in, refusal};
+use crate::detail::{Detail, refusal};
+use crate::diagnosing::{given, unplanned, unreplayed};
 use crate::explaining::explained;
 use crate::failure::Failure;
 use crate::files::{print, read_at, seed, text_at, write_at};
 use crate::subcommand::Command;
 use crate::surroundings::Surroundings;
 use bus_manager::TableProber;
-use dtman_diagnosis::{Diagnosis, before_event, diagnose_event, diagnose_source, diagnose_text};
+use dtman_diagnosis::{diagnose_blob, diagnose_overlay, diagnose_source};
 use dtman_engine::{
-    Channel, Fault, MAX_BLOB_LEN, MAX_SOURCE_LEN, Place, compile_bytes, dump_bytes, graph_bytes,
+    Channel, Fault, MAX_BLOB_LEN, MAX_SOURCE_LEN, compile_bytes, dump_bytes, graph_bytes,
     overlay_bytes, plan_bytes, probe_bytes, replay_bytes, replay_run_bytes,
 };
-use std::alloc::{AllocError, Global};
+use std::alloc::Global;
 use std::hash::RandomState;
 use std::thread::Threads;
 
@@ -35,18 +36,25 @@ pub fn perform<'a, S: Surroundings, O: Channel, T: Threads + Sync>(
             symbols,
         } => return compiled(alloc, surroundings, output, source, out, symbols, detail),
         Command::Overlay { base, overlay, out } => {
-            return overlaid(alloc, surroundings, output, base, overlay, out);
+            return overlaid(alloc, surroundings, output, base, overlay, out, detail);
         }
-        Command::Dump { blob } => {
-            let blob = read_at(alloc, surroundings, blob, MAX_BLOB_LEN)?;
-            dump_bytes(alloc, blob.as_slice())?
+        Command::Dump { blob } => dumped(alloc, surroundings, blob, detail)?,
+        Command::Plan { blob, drivers, dot } => {
+            planned(alloc, surroundings, blob, drivers, dot, detail)?
         }
-        Command::Plan { blob, drivers, dot } => planned(alloc, surroundings, blob, drivers, dot)?,
         Command::Probe {
             blob,
             drivers,
             workers,
-        } => probed(alloc, surroundings, threads, blob, drivers, workers)?,
+        } => probed(
+            alloc,
+            surroundings,
+            threads,
+            blob,
+            drivers,
+            workers,
+            detail,
+        )?,
         Command::Replay {
             plan,
             schedule,
@@ -97,35 +105,77 @@ fn overlaid<'a, S: Surroundings, O: Channel>(
     alloc: Global,
     surroundings: &mut S,
     output: &mut O,
-    base: &'a str,
-    overlay: &'a str,
+    base_path: &'a str,
+    overlay_path: &'a str,
     out: &'a str,
+    detail: Detail,
 ) -> Result<(), Failure<'a>>
     requires { O.has_failed output.old ≡ false }
 {
-    let base = read_at(alloc, surroundings, base, MAX_BLOB_LEN)?;
-    let overlay = read_at(alloc, surroundings, overlay, MAX_BLOB_LEN)?;
+    let base = read_at(alloc, surroundings, base_path, MAX_BLOB_LEN)?;
+    let overlay = read_at(alloc, surroundings, overlay_path, MAX_BLOB_LEN)?;
     let hasher = seed(surroundings)?;
-    let blob = overlay_bytes(alloc, hasher, base.as_slice(), overlay.as_slice())?;
-    write_at(alloc, surroundings, output, out, blob.as_slice())
+    let (base, overlay) = (base.as_slice(), overlay.as_slice());
+    match overlay_bytes(alloc, hasher, base, overlay) {
+        Ok(blob) => write_at(alloc, surroundings, output, out, blob.as_slice()),
+        Err(fault) => {
+            if detail == Detail::Line {
+                return Err(Failure::Refused(fault));
+            }
+            let (base_file, file) = (base_path.as_bytes(), overlay_path.as_bytes());
+            let diagnosis = diagnose_overlay(alloc, base_file, base, file, overlay, fault.number);
+            Err(refusal(alloc, fault, diagnosis))
+        }
+    }
+}
+
+/// The canonical source of a blob.
+fn dumped<'a, S: Surroundings>(
+    alloc: Global,
+    surroundings: &mut S,
+    path: &'a str,
+    detail: Detail,
+) -> Result<Vec<u8>, Failure<'a>> {
+    let blob = read_at(alloc, surroundings, path, MAX_BLOB_LEN)?;
+    match dump_bytes(alloc, blob.as_slice()) {
+        Ok(text) => Ok(text),
+        Err(fault) => {
+            if detail == Detail::Line {
+                return Err(Failure::Refused(fault));
+            }
+            let diagnosis = diagnose_blob(alloc, path.as_bytes(), blob.as_slice(), fault.number);
+            Err(refusal(alloc, fault, diagnosis))
+        }
+    }
 }
 
 /// The plan of a blob and a driver file, as a plan file or as a graph.
 fn planned<'a, S: Surroundings>(
     alloc: Global,
     surroundings: &mut S,
-    blob: &'a str,
-    drivers: &'a str,
+    blob_path: &'a str,
+    drivers_path: &'a str,
     dot: bool,
+    detail: Detail,
 ) -> Result<Vec<u8>, Failure<'a>> {
-    let blob = read_at(alloc, surroundings, blob, MAX_BLOB_LEN)?;
-    let drivers = text_at(alloc, surroundings, drivers)?;
+    let blob = read_at(alloc, surroundings, blob_path, MAX_BLOB_LEN)?;
+    let drivers = text_at(alloc, surroundings, drivers_path)?;
     let hasher = seed(surroundings)?;
     let answer = match dot {
-        true => graph_bytes(alloc, hasher, blob.as_slice(), drivers.as_slice())?,
-        false => plan_bytes(alloc, hasher, blob.as_slice(), drivers.as_slice())?,
+        true => graph_bytes(alloc, hasher, blob.as_slice(), drivers.as_slice()),
+        false => plan_bytes(alloc, hasher, blob.as_slice(), drivers.as_slice()),
     };
-    Ok(answer)
+    match answer {
+        Ok(text) => Ok(text),
+        Err(fault) => {
+            if detail == Detail::Line {
+                return Err(Failure::Refused(fault));
+            }
+            let blob = given(blob_path, &blob);
+            let drivers = given(drivers_path, &drivers);
+            Err(refusal(alloc, fault, unplanned(alloc, blob, drivers, fault)))
+        }
+    }
 }
 
 /// The end report of a blob's devices, probed by the plan alone.
@@ -133,12 +183,13 @@ fn probed<'a, S: Surroundings, T: Threads + Sync>(
     alloc: Global,
     surroundings: &mut S,
     threads: &T,
-    blob: &'a str,
-    drivers: &'a str,
+    blob_path: &'a str,
+    drivers_path: &'a str,
     workers: u8,
+    detail: Detail,
 ) -> Result<Vec<u8>, Failure<'a>> {
-    let blob = read_at(alloc, surroundings, blob, MAX_BLOB_LEN)?;
-    let drivers = text_at(alloc, surroundings, drivers)?;
+    let blob = read_at(alloc, surroundings, blob_path, MAX_BLOB_LEN)?;
+    let drivers = text_at(alloc, surroundings, drivers_path)?;
     let hasher = seed(surroundings)?;
     let ran = probe_bytes(
         threads,
@@ -148,8 +199,18 @@ fn probed<'a, S: Surroundings, T: Threads + Sync>(
         drivers.as_slice(),
         &TableProber,
         workers as usize,
-    )?;
-    Ok(ran.report)
+    );
+    match ran {
+        Ok(ran) => Ok(ran.report),
+        Err(fault) => {
+            if detail == Detail::Line {
+                return Err(Failure::Refused(fault));
+            }
+            let blob = given(blob_path, &blob);
+            let drivers = given(drivers_path, &drivers);
+            Err(refusal(alloc, fault, unplanned(alloc, blob, drivers, fault)))
+        }
+    }
 }
 
 /// The report after a schedule's events or, where workers are asked for, the end report of the run that they go on with,
@@ -158,63 +219,24 @@ fn replayed<'a, S: Surroundings, T: Threads + Sync>(
     alloc: Global,
     surroundings: &mut S,
     threads: &T,
-    plan: &'a str,
-    schedule: &'a str,
+    plan_path: &'a str,
+    schedule_path: &'a str,
     workers: Option<u8>,
     detail: Detail,
 ) -> Result<Vec<u8>, Failure<'a>> {
-    let (plan_file, schedule_file) = (plan.as_bytes(), schedule.as_bytes());
-    let plan = text_at(alloc, surroundings, plan)?;
-    let schedule = text_at(alloc, surroundings, schedule)?;
+    let plan = text_at(alloc, surroundings, plan_path)?;
+    let schedule = text_at(alloc, surroundings, schedule_path)?;
     let hasher = seed(surroundings)?;
-    let (plan, schedule) = (plan.as_slice(), schedule.as_slice());
-    match report_of(alloc, hasher, threads, plan, schedule, workers) {
+    let (plan, schedule) = (given(plan_path, &plan), given(schedule_path, &schedule));
+    match report_of(alloc, hasher, threads, plan.bytes, schedule.bytes, workers) {
         Ok(report) => Ok(report),
         Err(fault) => {
             if detail == Detail::Line {
                 return Err(Failure::Refused(fault));
             }
-            let diagnosis = unreplayed(
-                alloc,
-                hasher,
-                plan_file,
-                plan,
-                schedule_file,
-                schedule,
-                fault,
-            );
+            let diagnosis = unreplayed(alloc, hasher, plan, schedule, fault);
             Err(refusal(alloc, fault, diagnosis))
         }
-    }
-}
-
-// What a replay refuses: of the plan's file, of the schedule's, or of an event.
-fn unreplayed(
-    alloc: Global,
-    hasher: RandomState,
-    plan_file: &[u8],
-    plan: &[u8],
-    schedule_file: &[u8],
-    schedule: &[u8],
-    fault: Fault,
-) -> Result<Diagnosis, AllocError> {
-    let (number, line) = (fault.number, line_in(fault));
-    let Place::Event(event) = fault.place else {
-        return match replay_bytes(alloc, hasher, plan, b"".as_slice()) {
-            Err(_) => diagnose_text(alloc, plan_file, plan, number, line),
-            Ok(_) => diagnose_text(alloc, schedule_file, schedule, number, line),
-        };
-    };
-    match replay_bytes(alloc, hasher, plan, before_event(schedule, event)) {
-        Ok(report) => diagnose_event(
-            alloc,
-            schedule_file,
-            schedule,
-            event,
-            report.as_slice(),
-            number,
-        ),
-        Err(_) => diagnose_text(alloc, schedule_file, schedule, number, line),
     }
 }
 

@@ -47,6 +47,15 @@ pub enum Note {
     },
     /// The entry of `__fixups__`.
     Fixup(Vec<u8>),
+    /// The offset that an entry of `__local_fixups__` names.
+    Site(usize),
+    /// A node, and what it is.
+    Node {
+        words: &'static str,
+        path: Vec<u8>,
+    },
+    /// A node's phandle.
+    Phandle(u32),
     /// The phandle that a fragment targets.
     Target(u32),
     /// By how much phandles of the overlay are raised.

@@ -5,6 +5,8 @@ pub fn example_of(number: u8) -> Option<&'static str> {
     match number {
         0..=19 => of_text(number),
         20..=29 => of_meaning(number),
+        30..=39 => of_blob(number),
+        40..=49 => of_overlay(number),
         _ => of_bus(number),
     }
 }
@@ -63,6 +65,64 @@ fn of_meaning(number: u8) -> Option<&'static str> {
         ),
         28 => Some(
             "error 28 TooDeep\nIN:2:4: `c` lies deeper than 64 levels\n  |\n2 | &l{c{};};\n  |    ^\n  = in /n/n/n/n/n/n/n/n/n/n/n/n/n/n/n/n/n/n/n/n/n/n/n/n/n/n/n/n/n/n/n/n/n/n/n/n/n/n/n/n/n/n/n/n/n/n/n/n/n/n/n/n/n/n/n/n/n/n/n/n/n/n/n/n\n",
+        ),
+        _ => None,
+    }
+}
+
+fn of_blob(number: u8) -> Option<&'static str> {
+    match number {
+        30 => Some(
+            "error 30 Truncated\nBLOB:0x0: the blob is cut\n = wanted is a header of 40 bytes\n",
+        ),
+        31 => Some(
+            "error 31 BadMagic\nBLOB:0x0: this is no blob\n = wanted is the magic number 0xd00dfeed, and 0x00000000 stands there\n",
+        ),
+        32 => Some(
+            "error 32 BadVersion\nBLOB:0x14: the version isn't one that can be read\n = wanted is version 16 or above, and 0x00000000 stands there\n",
+        ),
+        33 => Some(
+            "error 33 BadLayout\nBLOB:0x4: a block doesn't lie where it can\n = wanted is a size of 40 or more, and 0x00000000 stands there\n",
+        ),
+        34 => Some(
+            "error 34 BadToken\nBLOB:0x28: the structure breaks off here\n = wanted is a token before the structure block ends, and 0x00000000 stands there\n = in /\n",
+        ),
+        35 => Some(
+            "error 35 BadString\nBLOB:0x3c: a name doesn't end here, or isn't there\n = wanted is a node's name, which ends with a zero byte, and 0x61616161 stands there\n = in /\n",
+        ),
+        36 => Some(
+            "error 36 PropertyAfterNode\nBLOB:0x4c: a property stands behind a child\n = wanted is BEGIN_NODE, 1, or END_NODE, 2, behind a child, and 0x00000003 stands there\n = in /\n",
+        ),
+        37 => Some(
+            "error 37 BadTree\nBLOB:0x3c: the nodes make no tree\n = wanted is a root without a name, and 0x61000000 stands there\n = in /\n",
+        ),
+        38 => Some("error 38 TooLarge\nBLOB: a blob or a text has at most 268,435,456 bytes\n"),
+        _ => None,
+    }
+}
+
+fn of_overlay(number: u8) -> Option<&'static str> {
+    match number {
+        40 => Some(
+            "error 40 NotOverlay\nOVERLAY: this is no overlay\n = no child of the root has a child `__overlay__`\n",
+        ),
+        41 => Some(
+            "error 41 NoTarget\nOVERLAY: the base has no node at `/b`\n = in /f, property target-path\n",
+        ),
+        42 => Some(
+            "error 42 UnknownSymbol\nOVERLAY: the base has no symbol `b` that leads to a node with a phandle\n = in /fragment@0, property target\n = its entry in __fixups__ is `/fragment@0:target:0`\n = labels spelled alike: a\n",
+        ),
+        43 => Some(
+            "error 43 BadFixup\nOVERLAY: an entry of the label `b` can't be used\n = in /__fixups__, property b\n = its entry in __fixups__ is `/f:target`\n = an entry is `PATH:PROPERTY:OFFSET`\n",
+        ),
+        44 => Some(
+            "error 44 PhandleOverflow\nOVERLAY: a raised phandle is 0xffffffff or more\n = in /f/__overlay__, property phandle\n = the phandle is 0xfffffffe\n = phandles of the overlay are raised by 0x2\n",
+        ),
+        45 => Some(
+            "error 45 PhandleClash\nOVERLAY: a node would get a second phandle, or two nodes have one\n = in /f/__overlay__, property phandle\n = the node that has one is /a\n",
+        ),
+        46 => Some(
+            "error 46 TooDeep\nOVERLAY: a node would lie deeper than 64 levels\n = in /f/__overlay__/c\n = its fragment targets /n/n/n/n/n/n/n/n/n/n/n/n/n/n/n/n/n/n/n/n/n/n/n/n/n/n/n/n/n/n/n/n/n/n/n/n/n/n/n/n/n/n/n/n/n/n/n/n/n/n/n/n/n/n/n/n/n/n/n/n/n/n/n/n\n",
         ),
         _ => None,
     }

@@ -4,9 +4,11 @@
 #![tactic(auto)]
 
 mod alike;
+mod blobs;
 mod diagnosis;
 mod escaping;
 mod examples;
+mod overlays;
 mod plans;
 mod refused;
 mod sentences;
@@ -14,8 +16,10 @@ mod sources;
 mod text;
 
 pub use alike::nearest;
+pub use blobs::diagnose_blob;
 pub use diagnosis::{Diagnosis, Note, Place, Subject, copied};
 pub use examples::example_of;
+pub use overlays::diagnose_overlay;
 pub use plans::{before_event, diagnose_event, diagnose_text};
 pub use sources::diagnose_source;
 pub use text::text_of;

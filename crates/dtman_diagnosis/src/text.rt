@@ -106,6 +106,10 @@ fn push_note(out: &mut String, note: &Note) -> Result<(), AllocError> {
             push_shown(out, line.as_slice())
         }
         Note::Cells { path, name, count } => push_cells(out, path, *name, *count),
+        Note::Node { words, path } => {
+            out.push_str(*words)?;
+            push_shown(out, path.as_slice())
+        }
         Note::Words(words) => out.push_str(*words),
         _ => push_number(out, note),
     }
@@ -122,6 +126,8 @@ fn push_number(out: &mut String, note: &Note) -> Result<(), AllocError> {
                 None => Ok(()),
             }
         }
+        Note::Site(offset) => write!(out, "its entry is the offset {offset}"),
+        Note::Phandle(phandle) => write!(out, "the phandle is 0x{phandle:x}"),
         Note::Target(phandle) => write!(out, "the target is phandle 0x{phandle:x}"),
         Note::Shift(shift) => write!(out, "phandles of the overlay are raised by 0x{shift:x}"),
         Note::Count(count) => write!(out, "there are {count} devices"),

@@ -15,6 +15,8 @@ mod late_drivers;
 #[cfg(test)]
 mod long_values;
 #[cfg(test)]
+mod overlay_places;
+#[cfg(test)]
 mod overlaying;
 #[cfg(test)]
 mod plugins;

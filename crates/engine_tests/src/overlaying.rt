@@ -11,7 +11,7 @@ use std::hash::RandomState;
 use std::process::Abort;
 
 /// The base of all tables, which is compiled with symbols: /ocp has the phandle 1.
-const BASE: &str = "/dts-v1/; / { ocp: ocp { }; };";
+pub(crate) const BASE: &str = "/dts-v1/; / { ocp: ocp { }; };";
 
 /// What the overlay's source applied to the base's gives: the blob as a canonical source, or the line of the refusal.
 fn applied(
@@ -333,7 +333,7 @@ fn answers_for_other_bases(rt: HostRuntime) {
 }
 
 /// An overlay whose one fragment has 62 nodes one below the other, the deepest that a blob can have there.
-fn deep_overlay(rt: &impl Abort, alloc: Global, target: &str) -> String {
+pub(crate) fn deep_overlay(rt: &impl Abort, alloc: Global, target: &str) -> String {
     let mut source = String::new(alloc);
     source
         .push_str("/dts-v1/; / { fragment@0 { target-path = \"")

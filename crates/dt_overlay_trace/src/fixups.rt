@@ -1,0 +1,138 @@
+//! Fixups: the sites of the phandles of a base's nodes.
+
+use crate::culprit::{Culprit, Fault, Reason};
+use crate::flat_tree::{FlatTree, PropertyRow};
+use crate::paths::at_path;
+use crate::sites::{Site, Sites};
+use crate::symbols::symbol_phandle;
+use crate::texts::{SiteText, site_in, unended};
+use std::alloc::{AllocError, Global};
+
+/// An entry of a label's property in `__fixups__`, which stands in a node.
+#[derive(Clone, Copy)]
+struct Entry<'t> {
+    node: usize,
+    label: &'t [u8],
+    text: &'t [u8],
+    site: SiteText<'t>,
+}
+
+/// An entry whose site was taken, in this node of the overlay.
+#[derive(Clone, Copy)]
+struct Taken<'t> {
+    entry: Entry<'t>,
+    node: usize,
+    site: Site,
+}
+
+/// The first fixup that can't be used, else the first whose symbol names no phandle. Takes the sites.
+pub(crate) fn find_fixup<'t>(
+    alloc: Global,
+    base: &FlatTree<'t>,
+    over: &FlatTree<'t>,
+    sites: &mut Sites,
+) -> Result<Option<Culprit<'t>>, AllocError> {
+    let mut entries = Vec::new(alloc);
+    if let Some(culprit) = read_entries(over, &mut entries)? {
+        return Ok(Some(culprit));
+    }
+    let mut taken = Vec::with_capacity(alloc, entries.len())?;
+    if let Some(culprit) = take_entries(over, entries.as_slice(), sites, &mut taken)? {
+        return Ok(Some(culprit));
+    }
+    find_symbol(base, taken.as_slice(), sites)
+}
+
+fn read_entries<'t>(
+    over: &FlatTree<'t>,
+    entries: &mut Vec<Entry<'t>>,
+) -> Result<Option<Culprit<'t>>, AllocError> {
+    let fixups = over.child(0, b"__fixups__".as_slice());
+    for property in &over.properties {
+        if fixups == Some(property.node) {
+            if let Some(culprit) = read_value(*property, entries)? {
+                return Ok(Some(culprit));
+            }
+        }
+    }
+    Ok(None)
+}
+
+fn read_value<'t>(
+    property: PropertyRow<'t>,
+    entries: &mut Vec<Entry<'t>>,
+) -> Result<Option<Culprit<'t>>, AllocError> {
+    let Some(texts) = unended(property.value) else {
+        return Ok(Some(of_property(property, Reason::NoTexts)));
+    };
+    for text in texts.split(|byte| *byte == 0) {
+        let Some(site) = site_in(text) else {
+            let mut culprit = of_property(property, Reason::NoSite);
+            culprit.entry = Some(text);
+            return Ok(Some(culprit));
+        };
+        entries.push(Entry {
+            node: property.node,
+            label: property.name,
+            text,
+            site,
+        })?;
+    }
+    Ok(None)
+}
+
+fn of_property<'t>(property: PropertyRow<'t>, reason: Reason) -> Culprit<'t> {
+    let mut culprit = Culprit::new(Fault::BadFixup, reason, property.node);
+    culprit.property = Some(property.name);
+    culprit.subject = Some(property.name);
+    culprit
+}
+
+fn take_entries<'t>(
+    over: &FlatTree<'t>,
+    entries: &[Entry<'t>],
+    sites: &mut Sites,
+    taken: &mut Vec<Taken<'t>>,
+) -> Result<Option<Culprit<'t>>, AllocError> {
+    for entry in entries {
+        let entry = *entry;
+        let Some(node) = at_path(over, entry.site.path) else {
+            return Ok(Some(of_entry(entry, Reason::SiteNode)));
+        };
+        match sites.take(over, node, entry.site.name, entry.site.offset)? {
+            Ok(site) => taken.push(Taken { entry, node, site })?,
+            Err(reason) => return Ok(Some(of_entry(entry, reason))),
+        }
+    }
+    Ok(None)
+}
+
+fn of_entry<'t>(entry: Entry<'t>, reason: Reason) -> Culprit<'t> {
+    let mut culprit = Culprit::new(Fault::BadFixup, reason, entry.node);
+    culprit.property = Some(entry.label);
+    culprit.subject = Some(entry.label);
+    culprit.entry = Some(entry.text);
+    culprit
+}
+
+fn find_symbol<'t>(
+    base: &FlatTree<'t>,
+    taken: &[Taken<'t>],
+    sites: &mut Sites,
+) -> Result<Option<Culprit<'t>>, AllocError> {
+    for fixup in taken {
+        match symbol_phandle(base, fixup.entry.label) {
+            Ok(phandle) => sites.write(fixup.site, phandle)?,
+            Err(reason) => return Ok(Some(unknown(*fixup, reason))),
+        }
+    }
+    Ok(None)
+}
+
+fn unknown<'t>(fixup: Taken<'t>, reason: Reason) -> Culprit<'t> {
+    let mut culprit = Culprit::new(Fault::UnknownSymbol, reason, fixup.node);
+    culprit.property = Some(fixup.entry.site.name);
+    culprit.subject = Some(fixup.entry.label);
+    culprit.entry = Some(fixup.entry.text);
+    culprit
+}

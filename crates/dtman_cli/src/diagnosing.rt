@@ -1,0 +1,70 @@
+//! What each command's refusal is of, by the files that it was given.
+
+use crate::detail::line_in;
+use dtman_diagnosis::{Diagnosis, before_event, diagnose_blob, diagnose_event, diagnose_text};
+use dtman_engine::{Fault, Place, replay_bytes};
+use std::alloc::{AllocError, Global};
+use std::hash::RandomState;
+
+/// A file's name and its bytes.
+#[derive(Clone, Copy)]
+pub struct Given<'a> {
+    pub name: &'a [u8],
+    pub bytes: &'a [u8],
+}
+
+/// A file that was read, by its path.
+pub fn given<'a>(path: &'a str, bytes: &'a Vec<u8>) -> Given<'a> {
+    Given {
+        name: path.as_bytes(),
+        bytes: bytes.as_slice(),
+    }
+}
+
+/// What a plan refuses: of the blob, or of the driver file.
+pub fn unplanned(
+    alloc: Global,
+    blob: Given<'_>,
+    drivers: Given<'_>,
+    fault: Fault,
+) -> Result<Diagnosis, AllocError> {
+    match fault.number {
+        50..=53 => diagnose_text(
+            alloc,
+            drivers.name,
+            drivers.bytes,
+            fault.number,
+            line_in(fault),
+        ),
+        _ => diagnose_blob(alloc, blob.name, blob.bytes, fault.number),
+    }
+}
+
+/// What a replay refuses: of the plan's file, of the schedule's, or of an event.
+pub fn unreplayed(
+    alloc: Global,
+    hasher: RandomState,
+    plan: Given<'_>,
+    schedule: Given<'_>,
+    fault: Fault,
+) -> Result<Diagnosis, AllocError> {
+    let (number, line) = (fault.number, line_in(fault));
+    let Place::Event(event) = fault.place else {
+        return match replay_bytes(alloc, hasher, plan.bytes, b"".as_slice()) {
+            Err(_) => diagnose_text(alloc, plan.name, plan.bytes, number, line),
+            Ok(_) => diagnose_text(alloc, schedule.name, schedule.bytes, number, line),
+        };
+    };
+    let before = before_event(schedule.bytes, event);
+    match replay_bytes(alloc, hasher, plan.bytes, before) {
+        Ok(report) => diagnose_event(
+            alloc,
+            schedule.name,
+            schedule.bytes,
+            event,
+            report.as_slice(),
+            number,
+        ),
+        Err(_) => diagnose_text(alloc, schedule.name, schedule.bytes, number, line),
+    }
+}

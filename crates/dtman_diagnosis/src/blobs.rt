@@ -1,0 +1,57 @@
+//! Refusals of blobs.
+
+use crate::diagnosis::{Diagnosis, Note, Place, Subject, copied};
+use dt_blob_trace::{Fault, trace_blob};
+use std::alloc::{AllocError, Global};
+
+/// A diagnosis of a file as a whole.
+pub(crate) fn of_file(alloc: Global, file: &[u8], number: u8) -> Result<Diagnosis, AllocError> {
+    Ok(Diagnosis {
+        number,
+        place: Place::File {
+            file: copied(alloc, file)?,
+        },
+        kind: Subject::Nothing,
+        subject: Vec::new(alloc),
+        notes: Vec::new(alloc),
+    })
+}
+
+/// What is refused of the blob in the file of this name by this number, 30 to 38.
+pub fn diagnose_blob(
+    alloc: Global,
+    file: &[u8],
+    blob: &[u8],
+    number: u8,
+) -> Result<Diagnosis, AllocError> {
+    match trace_blob(alloc, blob)? {
+        // a place says nothing of what is too long
+        Some(fault) if fault.number == number && number != 38 => of_word(alloc, file, &fault),
+        _ => of_file(alloc, file, number),
+    }
+}
+
+/// Whether a file is a blob.
+pub(crate) fn is_blob(alloc: Global, bytes: &[u8]) -> Result<bool, AllocError> {
+    let found = trace_blob(alloc, bytes)?;
+    Ok(found.is_none())
+}
+
+fn of_word(alloc: Global, file: &[u8], fault: &Fault) -> Result<Diagnosis, AllocError> {
+    let mut diagnosis = of_file(alloc, file, fault.number)?;
+    diagnosis.place = Place::Offset {
+        file: copied(alloc, file)?,
+        offset: fault.offset,
+    };
+    diagnosis.notes.push(Note::Wanted {
+        wanted: fault.wanted,
+        found: fault.found,
+    })?;
+    if let Some(path) = &fault.path {
+        diagnosis.notes.push(Note::In {
+            path: copied(alloc, path.as_slice())?,
+            property: None,
+        })?;
+    }
+    Ok(diagnosis)
+}

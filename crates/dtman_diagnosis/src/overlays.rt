@@ -1,0 +1,199 @@
+//! Refusals of overlays.
+
+use crate::alike::nearest;
+use crate::blobs::{diagnose_blob, is_blob, of_file};
+use crate::diagnosis::{Diagnosis, Note, Place, Subject, copied};
+use dt_blob::read;
+use dt_overlay_trace::{Culprit, Fault, Reason, Trace, trace_overlay};
+use dt_tree::Tree;
+use std::alloc::{AllocError, Global};
+
+/// What `overlay` refuses by this number of the blobs in the files of these names.
+pub fn diagnose_overlay(
+    alloc: Global,
+    base_file: &[u8],
+    base: &[u8],
+    overlay_file: &[u8],
+    overlay: &[u8],
+    number: u8,
+) -> Result<Diagnosis, AllocError> {
+    if number >= 40 {
+        return of_both(alloc, base, overlay_file, overlay, number);
+    }
+    if !is_blob(alloc, base)? {
+        return diagnose_blob(alloc, base_file, base, number);
+    }
+    if !is_blob(alloc, overlay)? {
+        return diagnose_blob(alloc, overlay_file, overlay, number);
+    }
+    let mut diagnosis = of_file(alloc, overlay_file, number)?;
+    diagnosis.place = Place::Nowhere;
+    Ok(diagnosis)
+}
+
+// What is refused of an overlay on a base, once both are trees.
+fn of_both(
+    alloc: Global,
+    base: &[u8],
+    file: &[u8],
+    overlay: &[u8],
+    number: u8,
+) -> Result<Diagnosis, AllocError> {
+    let Ok(base) = read(alloc, base) else {
+        return of_file(alloc, file, number);
+    };
+    match read(alloc, overlay) {
+        Ok(overlay) => of_trees(alloc, &base, file, &overlay, number),
+        Err(_) => of_file(alloc, file, number),
+    }
+}
+
+fn of_trees(
+    alloc: Global,
+    base: &Tree,
+    file: &[u8],
+    overlay: &Tree,
+    number: u8,
+) -> Result<Diagnosis, AllocError> {
+    match trace_overlay(alloc, base, overlay)? {
+        Some(trace) if trace.culprit.fault as u8 == number => traced(alloc, file, &trace),
+        _ => of_file(alloc, file, number),
+    }
+}
+
+fn traced(alloc: Global, file: &[u8], trace: &Trace<'_>) -> Result<Diagnosis, AllocError> {
+    let culprit = trace.culprit;
+    let mut diagnosis = of_file(alloc, file, culprit.fault as u8)?;
+    if let Some(subject) = culprit.subject {
+        diagnosis.kind = kind_of(culprit.fault);
+        diagnosis.subject = copied(alloc, subject)?;
+    }
+    if culprit.fault != Fault::NotOverlay {
+        diagnosis.notes.push(Note::In {
+            path: copied(alloc, trace.path.as_slice())?,
+            property: name_of(alloc, culprit.property)?,
+        })?;
+    }
+    add_entry(alloc, &mut diagnosis, culprit)?;
+    add_phandle(&mut diagnosis, culprit, trace.rise)?;
+    add_nodes(alloc, &mut diagnosis, trace)?;
+    if let Some(words) = words_of(culprit.reason) {
+        diagnosis.notes.push(Note::Words(words))?;
+    }
+    add_alike(alloc, &mut diagnosis, trace)?;
+    Ok(diagnosis)
+}
+
+fn name_of(alloc: Global, name: Option<&[u8]>) -> Result<Option<Vec<u8>>, AllocError> {
+    match name {
+        Some(name) => Ok(Some(copied(alloc, name)?)),
+        None => Ok(None),
+    }
+}
+
+fn kind_of(fault: Fault) -> Subject {
+    match fault {
+        Fault::NoTarget => Subject::Path,
+        _ => Subject::Label,
+    }
+}
+
+fn add_entry(
+    alloc: Global,
+    diagnosis: &mut Diagnosis,
+    culprit: Culprit<'_>,
+) -> Result<(), AllocError> {
+    if let Some(entry) = culprit.entry {
+        diagnosis.notes.push(Note::Fixup(copied(alloc, entry)?))?;
+    }
+    if let Some(offset) = culprit.offset {
+        diagnosis.notes.push(Note::Site(offset))?;
+    }
+    Ok(())
+}
+
+fn add_phandle(
+    diagnosis: &mut Diagnosis,
+    culprit: Culprit<'_>,
+    rise: u32,
+) -> Result<(), AllocError> {
+    if let Some(phandle) = culprit.phandle {
+        let note = match culprit.fault {
+            Fault::NoTarget => Note::Target(phandle),
+            _ => Note::Phandle(phandle),
+        };
+        diagnosis.notes.push(note)?;
+    }
+    if culprit.fault == Fault::PhandleOverflow {
+        diagnosis.notes.push(Note::Shift(rise))?;
+    }
+    Ok(())
+}
+
+// The other node of the overlay, and the one of the base.
+fn add_nodes(
+    alloc: Global,
+    diagnosis: &mut Diagnosis,
+    trace: &Trace<'_>,
+) -> Result<(), AllocError> {
+    if let Some(path) = &trace.other {
+        diagnosis.notes.push(Note::Node {
+            words: "the other node is ",
+            path: copied(alloc, path.as_slice())?,
+        })?;
+    }
+    if let Some(path) = &trace.base_path {
+        let words = match trace.culprit.fault {
+            Fault::TooDeep => "its fragment targets ",
+            _ => "the node that has one is ",
+        };
+        diagnosis.notes.push(Note::Node {
+            words,
+            path: copied(alloc, path.as_slice())?,
+        })?;
+    }
+    Ok(())
+}
+
+fn add_alike(
+    alloc: Global,
+    diagnosis: &mut Diagnosis,
+    trace: &Trace<'_>,
+) -> Result<(), AllocError> {
+    let label = trace.culprit.subject.unwrap_or(&[]);
+    if trace.culprit.reason == Reason::NoSymbol && !trace.symbols.is_empty() {
+        let alike = nearest(alloc, label, trace.symbols.as_slice())?;
+        diagnosis.notes.push(Note::Alike(alike))?;
+    }
+    Ok(())
+}
+
+// What is wrong, where the other notes don't say it.
+fn words_of(reason: Reason) -> Option<&'static str> {
+    match reason {
+        Reason::NoFragment => Some("no child of the root has a child `__overlay__`"),
+        Reason::NeitherTarget => Some("it has neither `target` nor `target-path`"),
+        Reason::TargetLength => Some("a `target` has four bytes"),
+        Reason::NoPath => Some("a `target-path` is a path with a zero byte"),
+        Reason::NoSymbols => Some("the base has no `__symbols__`: it was compiled without `--symbols`"),
+        Reason::SymbolPath => Some("the base's symbol is no path with a zero byte"),
+        Reason::SymbolNode => Some("the base's symbol leads to no node"),
+        Reason::SymbolPhandle => Some("the node of the base's symbol has no phandle"),
+        _ => words_of_site(reason),
+    }
+}
+
+fn words_of_site(reason: Reason) -> Option<&'static str> {
+    match reason {
+        Reason::NoCells => Some("local fixups are cells, an offset each"),
+        Reason::NoTexts => Some("fixups are texts, each with a zero byte"),
+        Reason::NoSite => Some("an entry is `PATH:PROPERTY:OFFSET`"),
+        Reason::SiteNode => Some("the overlay has no such node"),
+        Reason::SiteProperty => Some("the node has no such property"),
+        Reason::SiteOffset => Some("four bytes don't lie there in the value"),
+        Reason::SiteReserved => Some("nothing is written into reserved nodes"),
+        Reason::SitePhandle => Some("nothing is written into a property `phandle`"),
+        Reason::SiteTaken => Some("another entry is for one of these bytes"),
+        _ => None,
+    }
+}
