@@ -12,7 +12,7 @@ EXAMPLE = re.compile(rf"(\d+) => Some\(\s*({TEXT}),?\s*\)")
 ENTRY = re.compile(rf"const (\w+): Texts = \(\s*({TEXT}),\s*({TEXT}),\s*({TEXT}),\s*({TEXT}),\s*\);")
 HEAD = """# Errors
 
-`dtman` tells a refusal in one line on standard error, `error NUMBER NAME`, behind it the line, the event or the path where there is one. `dtman explain NUMBER` prints its entry. This page is made by `.ci/errors.py` from the same texts; the inputs are tried by tests: most in `crates/engine_tests/src/engines/errors.rt`, 28 and 46 beside them in `compiling.rt` and `overlaying.rt`, 51, 54, 55, 62 and 70 in `plan_tests` and `bus_tests`, 80 and 81 in `crates/engine_tests/src/programs/statuses.rt`, and the greatest (17, 38, 65, 82) by `.ci/limits.sh`. Behind an entry stands what `--verbose` prints for the input, kept true by `crates/place_tests/src/examples.rt`; `docs/model/places.md` says how places are found.
+`dtman` tells a refusal in one line on standard error, `error NUMBER NAME`, behind it the line, the event or the path where there is one. `dtman explain NUMBER` prints its entry. This page is made by `.ci/errors.py` from the same texts; the inputs are tried by tests: most in `crates/engine_tests/src/engines/errors.rt`, 28 and 46 beside them in `compiling.rt` and `overlaying.rt`, 51, 54, 55, 62 and 70 in `plan_tests` and `bus_tests`, 80 and 81 in `crates/engine_tests/src/programs/statuses.rt`, and the greatest (17, 38, 65, 82) by `.ci/limits.sh`. Behind an entry stands what `--verbose` prints for the input, kept true by `examples.rt` and `blobs.rt` in `crates/place_tests/src` and by `crates/engine_tests/src/overlay_places.rt`; `docs/model/places.md` says how places are found.
 """
 
 

@@ -12,6 +12,13 @@ const FILES: Files = &[
     ("early.schedule", b"begin /uart\nfinish /uart settled\n"),
     ("late.schedule", b"begin /clk\n"),
     ("short.dtb", b"\xd0\x0d\xfe\xed"),
+    ("bad.drivers", b"driver ns ns16550a\ndriver\n"),
+    // the blob of `/ { };`
+    (
+        "empty.dtb",
+        b"\xd0\x0d\xfe\xed\0\0\0\x48\0\0\0\x38\0\0\0\x48\0\0\0\x28\0\0\0\x11\0\0\0\x10\0\0\0\0\0\0\0\0\0\0\0\x10\
+\0\0\0\0\0\0\0\0\0\0\0\0\0\0\0\0\0\0\0\x01\0\0\0\0\0\0\0\x02\0\0\0\x09",
+    ),
 ];
 
 const UNKNOWN: &str =
@@ -20,7 +27,14 @@ const UNKNOWN: &str =
 const NOT_READY: &str =
     "error 63 NotReady event 2\nearly.schedule:2:1: a supplier of the device isn't bound\n  |\n2 | finish /uart settled\n  | ^^^^^^^^^^^^^^^^^^^^\n  = before it: /uart probing\n";
 
-const SHORT: &str = "error 30 Truncated\n";
+const SHORT: &str =
+    "error 30 Truncated\nshort.dtb:0x4: the blob is cut\n = wanted is a header of 40 bytes\n";
+
+const NO_OVERLAY: &str =
+    "error 40 NotOverlay\nempty.dtb: this is no overlay\n = no child of the root has a child `__overlay__`\n";
+
+const BAD_DRIVERS: &str =
+    "error 50 BadLine line 2\nbad.drivers:2:1: the line has no lawful form\n  |\n2 | driver\n  | ^^^^^^\n";
 
 #[test]
 fn tells_more_of_a_refusal(rt: HostRuntime) {
@@ -50,6 +64,48 @@ fn tells_more_of_a_refusal(rt: HostRuntime) {
             NOT_READY,
         ),
         (&["dtman", "-v", "dump", "short.dtb"], 1, "", SHORT),
+        (
+            &["dtman", "dump", "short.dtb"],
+            1,
+            "",
+            "error 30 Truncated\n",
+        ),
+        (
+            &["dtman", "-v", "overlay", "empty.dtb", "short.dtb", "out"],
+            1,
+            "",
+            SHORT,
+        ),
+        (
+            &["dtman", "-v", "overlay", "empty.dtb", "empty.dtb", "out"],
+            1,
+            "",
+            NO_OVERLAY,
+        ),
+        (
+            &["dtman", "-v", "plan", "short.dtb", "bad.drivers"],
+            1,
+            "",
+            SHORT,
+        ),
+        (
+            &["dtman", "-v", "plan", "empty.dtb", "bad.drivers"],
+            1,
+            "",
+            BAD_DRIVERS,
+        ),
+        (
+            &["dtman", "-v", "probe", "empty.dtb", "bad.drivers"],
+            1,
+            "",
+            BAD_DRIVERS,
+        ),
+        (
+            &["dtman", "probe", "empty.dtb", "bad.drivers"],
+            1,
+            "",
+            "error 50 BadLine line 2\n",
+        ),
         (
             &["dtman", "-v", "dump", "nix.dtb"],
             3,
