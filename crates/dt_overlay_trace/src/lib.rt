@@ -12,8 +12,10 @@ mod paths;
 mod phandles;
 mod sites;
 mod symbols;
+mod targets;
 mod texts;
 mod tracing;
 
 pub use culprit::{Culprit, Fault, Reason};
+pub use targets::Target;
 pub use tracing::{Trace, trace_overlay};

@@ -9,6 +9,7 @@ use crate::paths::path_of;
 use crate::phandles::{find_phandle, rise_above};
 use crate::sites::Sites;
 use crate::symbols::all_symbols;
+use crate::targets::{Target, target_round};
 use dt_tree::Tree;
 use std::alloc::{AllocError, Global};
 
@@ -18,6 +19,8 @@ pub struct Trace<'t> {
     pub culprit: Culprit<'t>,
     /// The path of its node in the overlay.
     pub path: Vec<u8>,
+    /// What the fragment targets that the node lies in.
+    pub target: Option<Target<'t>>,
     /// The path of the other node of the overlay.
     pub other: Option<Vec<u8>>,
     /// The path of the node of the base.
@@ -89,6 +92,7 @@ fn traced<'t>(
     Ok(Trace {
         culprit,
         path: path_of(alloc, over, culprit.node)?,
+        target: target_round(over, culprit.node),
         other: path_in(alloc, over, culprit.other)?,
         base_path: path_in(alloc, base, culprit.base_node)?,
         rise,

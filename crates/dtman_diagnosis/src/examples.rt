@@ -119,7 +119,7 @@ fn of_overlay(number: u8) -> Option<&'static str> {
             "error 44 PhandleOverflow\nOVERLAY: a raised phandle is 0xffffffff or more\n = in /f/__overlay__, property phandle\n = the phandle is 0xfffffffe\n = phandles of the overlay are raised by 0x2\n",
         ),
         45 => Some(
-            "error 45 PhandleClash\nOVERLAY: a node would get a second phandle, or two nodes have one\n = in /f/__overlay__, property phandle\n = the node that has one is /a\n",
+            "error 45 PhandleClash\nOVERLAY: a node would get a second phandle, or two nodes have one\n = in /f/__overlay__, property phandle\n = its fragment targets /a\n = the node that has one is /a\n",
         ),
         46 => Some(
             "error 46 TooDeep\nOVERLAY: a node would lie deeper than 64 levels\n = in /f/__overlay__/c\n = its fragment targets /n/n/n/n/n/n/n/n/n/n/n/n/n/n/n/n/n/n/n/n/n/n/n/n/n/n/n/n/n/n/n/n/n/n/n/n/n/n/n/n/n/n/n/n/n/n/n/n/n/n/n/n/n/n/n/n/n/n/n/n/n/n/n/n\n",

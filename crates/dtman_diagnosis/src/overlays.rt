@@ -4,7 +4,7 @@ use crate::alike::nearest;
 use crate::blobs::{diagnose_blob, is_blob, of_file};
 use crate::diagnosis::{Diagnosis, Note, Place, Subject, copied};
 use dt_blob::read;
-use dt_overlay_trace::{Culprit, Fault, Reason, Trace, trace_overlay};
+use dt_overlay_trace::{Culprit, Fault, Reason, Target, Trace, trace_overlay};
 use dt_tree::Tree;
 use std::alloc::{AllocError, Global};
 
@@ -74,6 +74,7 @@ fn traced(alloc: Global, file: &[u8], trace: &Trace<'_>) -> Result<Diagnosis, Al
             property: name_of(alloc, culprit.property)?,
         })?;
     }
+    add_target(alloc, &mut diagnosis, trace)?;
     add_entry(alloc, &mut diagnosis, culprit)?;
     add_phandle(&mut diagnosis, culprit, trace.rise)?;
     add_nodes(alloc, &mut diagnosis, trace)?;
@@ -96,6 +97,34 @@ fn kind_of(fault: Fault) -> Subject {
         Fault::NoTarget => Subject::Path,
         _ => Subject::Label,
     }
+}
+
+// What the fragment targets, where the refusal isn't of that.
+fn add_target(
+    alloc: Global,
+    diagnosis: &mut Diagnosis,
+    trace: &Trace<'_>,
+) -> Result<(), AllocError> {
+    let (words, text) = match trace.target {
+        Some(Target::Label(label)) => ("its fragment targets the label ", label),
+        Some(Target::Path(path)) => ("its fragment targets ", path),
+        None => return Ok(()),
+    };
+    if tells_target(trace.culprit) {
+        return Ok(());
+    }
+    diagnosis.notes.push(Note::Node {
+        words,
+        path: copied(alloc, text)?,
+    })?;
+    Ok(())
+}
+
+// Whether a culprit is of its fragment's target.
+fn tells_target(culprit: Culprit<'_>) -> bool {
+    culprit.fault == Fault::NoTarget
+        || culprit.fault == Fault::TooDeep
+        || culprit.property == Some(b"target".as_slice())
 }
 
 fn add_entry(

@@ -111,7 +111,7 @@ const FRAGMENTS: &[Row] = &[
         symbols: true,
         overlay: "/dts-v1/; / { fragment@0 { target-path = \"/ocp\"; __overlay__ { e { phandle = <1>; }; }; }; fragment@1 { target-path = \"/ocp\"; __overlay__ { e { phandle = <2>; }; }; }; };",
         number: 45,
-        lines: "error 45 PhandleClash\no.dtbo: a node would get a second phandle, or two nodes have one\n = in /fragment@1/__overlay__/e, property phandle\n = the node that has one is /ocp/e\n",
+        lines: "error 45 PhandleClash\no.dtbo: a node would get a second phandle, or two nodes have one\n = in /fragment@1/__overlay__/e, property phandle\n = its fragment targets /ocp\n = the node that has one is /ocp/e\n",
     },
 ];
 
@@ -122,7 +122,7 @@ const SYMBOLS: &[Row] = &[
         symbols: true,
         overlay: "/dts-v1/; /plugin/; &g1 { }; &spi0 { d { reset-gpios = <&g7 3 0>, <&g7 4 0>; }; };",
         number: 42,
-        lines: "error 42 UnknownSymbol\no.dtbo: the base has no symbol `g7` that leads to a node with a phandle\n = in /fragment@1/__overlay__/d, property reset-gpios\n = its entry in __fixups__ is `/fragment@1/__overlay__/d:reset-gpios:0`\n = labels spelled alike: g1, g2, uart\n",
+        lines: "error 42 UnknownSymbol\no.dtbo: the base has no symbol `g7` that leads to a node with a phandle\n = in /fragment@1/__overlay__/d, property reset-gpios\n = its fragment targets the label spi0\n = its entry in __fixups__ is `/fragment@1/__overlay__/d:reset-gpios:0`\n = labels spelled alike: g1, g2, spi0\n",
     },
     Row {
         base: BASE,
@@ -225,14 +225,14 @@ const FIXUPS: &[Row] = &[
         symbols: true,
         overlay: "/dts-v1/; / { fragment@0 { target-path = \"/ocp\"; __overlay__ { e { phandle = <0xfffffffd>; }; }; }; };",
         number: 44,
-        lines: "error 44 PhandleOverflow\no.dtbo: a raised phandle is 0xffffffff or more\n = in /fragment@0/__overlay__/e, property phandle\n = the phandle is 0xfffffffd\n = phandles of the overlay are raised by 0x2\n",
+        lines: "error 44 PhandleOverflow\no.dtbo: a raised phandle is 0xffffffff or more\n = in /fragment@0/__overlay__/e, property phandle\n = its fragment targets /ocp\n = the phandle is 0xfffffffd\n = phandles of the overlay are raised by 0x2\n",
     },
     Row {
         base: BASE,
         symbols: true,
         overlay: "/dts-v1/; / { fragment@0 { target-path = \"/ocp\"; __overlay__ { r = <5 0xfffffffd>; }; }; __local_fixups__ { fragment@0 { __overlay__ { r = <4>; }; }; }; };",
         number: 44,
-        lines: "error 44 PhandleOverflow\no.dtbo: a raised phandle is 0xffffffff or more\n = in /fragment@0/__overlay__, property r\n = the phandle is 0xfffffffd\n = phandles of the overlay are raised by 0x2\n",
+        lines: "error 44 PhandleOverflow\no.dtbo: a raised phandle is 0xffffffff or more\n = in /fragment@0/__overlay__, property r\n = its fragment targets /ocp\n = the phandle is 0xfffffffd\n = phandles of the overlay are raised by 0x2\n",
     },
 ];
 
