@@ -73,30 +73,30 @@ fn of_meaning(number: u8) -> Option<&'static str> {
 fn of_blob(number: u8) -> Option<&'static str> {
     match number {
         30 => Some(
-            "error 30 Truncated\nBLOB:0x0: the blob is cut\n = wanted is a header of 40 bytes\n",
+            "error 30 Truncated\nIN:0x0: the blob is cut\n = wanted is a header of 40 bytes\n",
         ),
         31 => Some(
-            "error 31 BadMagic\nBLOB:0x0: this is no blob\n = wanted is the magic number 0xd00dfeed, and 0x00000000 stands there\n",
+            "error 31 BadMagic\nIN:0x0: this is no blob\n = wanted is the magic number 0xd00dfeed, and 0x00000000 stands there\n",
         ),
         32 => Some(
-            "error 32 BadVersion\nBLOB:0x14: the version isn't one that can be read\n = wanted is version 16 or above, and 0x00000000 stands there\n",
+            "error 32 BadVersion\nIN:0x14: the version isn't one that can be read\n = wanted is version 16 or above, and 0x00000000 stands there\n",
         ),
         33 => Some(
-            "error 33 BadLayout\nBLOB:0x4: a block doesn't lie where it can\n = wanted is a size of 40 or more, and 0x00000000 stands there\n",
+            "error 33 BadLayout\nIN:0x4: a block doesn't lie where it can\n = wanted is a size of 40 or more, and 0x00000000 stands there\n",
         ),
         34 => Some(
-            "error 34 BadToken\nBLOB:0x28: the structure breaks off here\n = wanted is a token before the structure block ends, and 0x00000000 stands there\n = in /\n",
+            "error 34 BadToken\nIN:0x28: the structure breaks off here\n = wanted is a token before the structure block ends, and 0x00000000 stands there\n = in /\n",
         ),
         35 => Some(
-            "error 35 BadString\nBLOB:0x3c: a name doesn't end here, or isn't there\n = wanted is a node's name, which ends with a zero byte, and 0x61616161 stands there\n = in /\n",
+            "error 35 BadString\nIN:0x3c: a name doesn't end here, or isn't there\n = wanted is a node's name, which ends with a zero byte, and 0x61616161 stands there\n = in /\n",
         ),
         36 => Some(
-            "error 36 PropertyAfterNode\nBLOB:0x4c: a property stands behind a child\n = wanted is BEGIN_NODE, 1, or END_NODE, 2, behind a child, and 0x00000003 stands there\n = in /\n",
+            "error 36 PropertyAfterNode\nIN:0x4c: a property stands behind a child\n = wanted is BEGIN_NODE, 1, or END_NODE, 2, behind a child, and 0x00000003 stands there\n = in /\n",
         ),
         37 => Some(
-            "error 37 BadTree\nBLOB:0x3c: the nodes make no tree\n = wanted is a root without a name, and 0x61000000 stands there\n = in /\n",
+            "error 37 BadTree\nIN:0x3c: the nodes make no tree\n = wanted is a root without a name, and 0x61000000 stands there\n = in /\n",
         ),
-        38 => Some("error 38 TooLarge\nBLOB: a blob or a text has at most 268,435,456 bytes\n"),
+        38 => Some("error 38 TooLarge\nIN: a blob or a text has at most 268,435,456 bytes\n"),
         _ => None,
     }
 }
@@ -132,6 +132,9 @@ fn of_bus(number: u8) -> Option<&'static str> {
     match number {
         50 => Some(
             "error 50 BadLine line 1\nPLAN:1:1: the line has no lawful form\n  |\n1 | /a\n  | ^^\n",
+        ),
+        51 => Some(
+            "error 51 DuplicateDriver line 2\nDRIVERS:2:1: a line before names this driver\n  |\n2 | driver a c\n  | ^^^^^^^^^^\n",
         ),
         52 => Some(
             "error 52 DuplicateDevice line 2\nPLAN:2:1: a line before has this path\n  |\n2 | /a - -\n  | ^^^^^^\n",

@@ -313,7 +313,7 @@ const EXAMPLES: &[(u8, &[u32], &[u8])] = &[
 fn example_shows<R: Abort + AllocGlobal>(rt: &R, row: &(u8, &[u32], &[u8])) {
     let (number, words, behind) = row;
     let blob = blob(rt, rt.alloc(), *words, *behind);
-    let diagnosis = diagnose_blob(rt.alloc(), b"BLOB".as_slice(), blob.as_slice(), *number);
+    let diagnosis = diagnose_blob(rt.alloc(), b"IN".as_slice(), blob.as_slice(), *number);
     let lines = example_of(*number).expect(rt, "an example");
     shows(rt, rt.alloc(), diagnosis, lines);
 }
@@ -328,7 +328,7 @@ fn examples(rt: HostRuntime) {
 /// What is too long has no place.
 #[test]
 fn too_long(rt: HostRuntime) {
-    let file = b"BLOB".as_slice();
+    let file = b"IN".as_slice();
     let diagnosis = diagnose_blob(rt.alloc(), file, b"".as_slice(), 38);
     let lines = example_of(38).expect(&rt, "an example");
     shows(&rt, rt.alloc(), diagnosis, lines);

@@ -66,6 +66,7 @@ fn depth(rt: HostRuntime) {
 /// A number, a text of the bus, its file, and the line.
 const LINES: &[(u8, &str, &str, Option<usize>)] = &[
     (50, "/a\n", "PLAN", Some(1)),
+    (51, "driver a b\ndriver a c\n", "DRIVERS", Some(2)),
     (52, "/a - -\n/a - -\n", "PLAN", Some(2)),
     (53, "/a - - /b\n", "PLAN", Some(1)),
     (56, "", "PLAN", None),
