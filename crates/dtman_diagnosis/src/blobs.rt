@@ -4,17 +4,21 @@ use crate::diagnosis::{Diagnosis, Note, Place, Subject, copied};
 use dt_blob_trace::{Fault, trace_blob};
 use std::alloc::{AllocError, Global};
 
-/// A diagnosis of a file as a whole.
-pub(crate) fn of_file(alloc: Global, file: &[u8], number: u8) -> Result<Diagnosis, AllocError> {
-    Ok(Diagnosis {
+/// A diagnosis of a place with nothing more to say.
+pub(crate) fn of_place(alloc: Global, place: Place, number: u8) -> Diagnosis {
+    Diagnosis {
         number,
-        place: Place::File {
-            file: copied(alloc, file)?,
-        },
+        place,
         kind: Subject::Nothing,
         subject: Vec::new(alloc),
         notes: Vec::new(alloc),
-    })
+    }
+}
+
+/// A diagnosis of a file as a whole.
+pub(crate) fn of_file(alloc: Global, file: &[u8], number: u8) -> Result<Diagnosis, AllocError> {
+    let file = copied(alloc, file)?;
+    Ok(of_place(alloc, Place::File { file }, number))
 }
 
 /// What is refused of the blob in the file of this name by this number, 30 to 38.
@@ -38,20 +42,34 @@ pub(crate) fn is_blob(alloc: Global, bytes: &[u8]) -> Result<bool, AllocError> {
 }
 
 fn of_word(alloc: Global, file: &[u8], fault: &Fault) -> Result<Diagnosis, AllocError> {
-    let mut diagnosis = of_file(alloc, file, fault.number)?;
-    diagnosis.place = Place::Offset {
-        file: copied(alloc, file)?,
-        offset: fault.offset,
-    };
-    diagnosis.notes.push(Note::Wanted {
+    Ok(Diagnosis {
+        number: fault.number,
+        place: Place::Offset {
+            file: copied(alloc, file)?,
+            offset: fault.offset,
+        },
+        kind: Subject::Nothing,
+        subject: Vec::new(alloc),
+        notes: notes_of(alloc, fault)?,
+    })
+}
+
+fn notes_of(alloc: Global, fault: &Fault) -> Result<Vec<Note>, AllocError> {
+    let mut notes = Vec::new(alloc);
+    add_notes(alloc, &mut notes, fault)?;
+    Ok(notes)
+}
+
+fn add_notes(alloc: Global, notes: &mut Vec<Note>, fault: &Fault) -> Result<(), AllocError> {
+    notes.push(Note::Wanted {
         wanted: fault.wanted,
         found: fault.found,
     })?;
     if let Some(path) = &fault.path {
-        diagnosis.notes.push(Note::In {
+        notes.push(Note::In {
             path: copied(alloc, path.as_slice())?,
             property: None,
         })?;
     }
-    Ok(diagnosis)
+    Ok(())
 }

@@ -1,7 +1,7 @@
 //! Refusals of overlays.
 
 use crate::alike::nearest;
-use crate::blobs::{diagnose_blob, is_blob, of_file};
+use crate::blobs::{diagnose_blob, is_blob, of_file, of_place};
 use crate::diagnosis::{Diagnosis, Note, Place, Subject, copied};
 use dt_blob::read;
 use dt_overlay_trace::{Culprit, Fault, Reason, Target, Trace, trace_overlay};
@@ -26,9 +26,7 @@ pub fn diagnose_overlay(
     if !is_blob(alloc, overlay)? {
         return diagnose_blob(alloc, overlay_file, overlay, number);
     }
-    let mut diagnosis = of_file(alloc, overlay_file, number)?;
-    diagnosis.place = Place::Nowhere;
-    Ok(diagnosis)
+    Ok(of_place(alloc, Place::Nowhere, number))
 }
 
 // What is refused of an overlay on a base, once both are trees.
@@ -63,26 +61,39 @@ fn of_trees(
 
 fn traced(alloc: Global, file: &[u8], trace: &Trace<'_>) -> Result<Diagnosis, AllocError> {
     let culprit = trace.culprit;
-    let mut diagnosis = of_file(alloc, file, culprit.fault as u8)?;
-    if let Some(subject) = culprit.subject {
-        diagnosis.kind = kind_of(culprit.fault);
-        diagnosis.subject = copied(alloc, subject)?;
-    }
+    Ok(Diagnosis {
+        number: culprit.fault as u8,
+        place: Place::File {
+            file: copied(alloc, file)?,
+        },
+        kind: kind_of(culprit),
+        subject: copied(alloc, culprit.subject.unwrap_or(&[]))?,
+        notes: notes_of(alloc, trace)?,
+    })
+}
+
+fn notes_of(alloc: Global, trace: &Trace<'_>) -> Result<Vec<Note>, AllocError> {
+    let mut notes = Vec::new(alloc);
+    add_notes(alloc, &mut notes, trace)?;
+    Ok(notes)
+}
+
+fn add_notes(alloc: Global, notes: &mut Vec<Note>, trace: &Trace<'_>) -> Result<(), AllocError> {
+    let culprit = trace.culprit;
     if culprit.fault != Fault::NotOverlay {
-        diagnosis.notes.push(Note::In {
+        notes.push(Note::In {
             path: copied(alloc, trace.path.as_slice())?,
             property: name_of(alloc, culprit.property)?,
         })?;
     }
-    add_target(alloc, &mut diagnosis, trace)?;
-    add_entry(alloc, &mut diagnosis, culprit)?;
-    add_phandle(&mut diagnosis, culprit, trace.rise)?;
-    add_nodes(alloc, &mut diagnosis, trace)?;
+    add_target(alloc, notes, trace)?;
+    add_entry(alloc, notes, culprit)?;
+    add_phandle(notes, culprit, trace.rise)?;
+    add_nodes(alloc, notes, trace)?;
     if let Some(words) = words_of(culprit.reason) {
-        diagnosis.notes.push(Note::Words(words))?;
+        notes.push(Note::Words(words))?;
     }
-    add_alike(alloc, &mut diagnosis, trace)?;
-    Ok(diagnosis)
+    add_alike(alloc, notes, trace)
 }
 
 fn name_of(alloc: Global, name: Option<&[u8]>) -> Result<Option<Vec<u8>>, AllocError> {
@@ -92,17 +103,20 @@ fn name_of(alloc: Global, name: Option<&[u8]>) -> Result<Option<Vec<u8>>, AllocE
     }
 }
 
-fn kind_of(fault: Fault) -> Subject {
-    match fault {
-        Fault::NoTarget => Subject::Path,
-        _ => Subject::Label,
+fn kind_of(culprit: Culprit<'_>) -> Subject {
+    if culprit.subject.is_none() {
+        Subject::Nothing
+    } else if culprit.fault == Fault::NoTarget {
+        Subject::Path
+    } else {
+        Subject::Label
     }
 }
 
 // What the fragment targets, where the refusal isn't of that.
 fn add_target(
     alloc: Global,
-    diagnosis: &mut Diagnosis,
+    notes: &mut Vec<Note>,
     trace: &Trace<'_>,
 ) -> Result<(), AllocError> {
     let (words, text) = match trace.target {
@@ -113,7 +127,7 @@ fn add_target(
     if tells_target(trace.culprit) {
         return Ok(());
     }
-    diagnosis.notes.push(Note::Node {
+    notes.push(Note::Node {
         words,
         path: copied(alloc, text)?,
     })?;
@@ -129,20 +143,20 @@ fn tells_target(culprit: Culprit<'_>) -> bool {
 
 fn add_entry(
     alloc: Global,
-    diagnosis: &mut Diagnosis,
+    notes: &mut Vec<Note>,
     culprit: Culprit<'_>,
 ) -> Result<(), AllocError> {
     if let Some(entry) = culprit.entry {
-        diagnosis.notes.push(Note::Fixup(copied(alloc, entry)?))?;
+        notes.push(Note::Fixup(copied(alloc, entry)?))?;
     }
     if let Some(offset) = culprit.offset {
-        diagnosis.notes.push(Note::Site(offset))?;
+        notes.push(Note::Site(offset))?;
     }
     Ok(())
 }
 
 fn add_phandle(
-    diagnosis: &mut Diagnosis,
+    notes: &mut Vec<Note>,
     culprit: Culprit<'_>,
     rise: u32,
 ) -> Result<(), AllocError> {
@@ -151,10 +165,10 @@ fn add_phandle(
             Fault::NoTarget => Note::Target(phandle),
             _ => Note::Phandle(phandle),
         };
-        diagnosis.notes.push(note)?;
+        notes.push(note)?;
     }
     if culprit.fault == Fault::PhandleOverflow {
-        diagnosis.notes.push(Note::Shift(rise))?;
+        notes.push(Note::Shift(rise))?;
     }
     Ok(())
 }
@@ -162,11 +176,11 @@ fn add_phandle(
 // The other node of the overlay, and the one of the base.
 fn add_nodes(
     alloc: Global,
-    diagnosis: &mut Diagnosis,
+    notes: &mut Vec<Note>,
     trace: &Trace<'_>,
 ) -> Result<(), AllocError> {
     if let Some(path) = &trace.other {
-        diagnosis.notes.push(Note::Node {
+        notes.push(Note::Node {
             words: "the other node is ",
             path: copied(alloc, path.as_slice())?,
         })?;
@@ -176,7 +190,7 @@ fn add_nodes(
             Fault::TooDeep => "its fragment targets ",
             _ => "the node that has one is ",
         };
-        diagnosis.notes.push(Note::Node {
+        notes.push(Note::Node {
             words,
             path: copied(alloc, path.as_slice())?,
         })?;
@@ -186,13 +200,13 @@ fn add_nodes(
 
 fn add_alike(
     alloc: Global,
-    diagnosis: &mut Diagnosis,
+    notes: &mut Vec<Note>,
     trace: &Trace<'_>,
 ) -> Result<(), AllocError> {
     let label = trace.culprit.subject.unwrap_or(&[]);
     if trace.culprit.reason == Reason::NoSymbol && !trace.symbols.is_empty() {
         let alike = nearest(alloc, label, trace.symbols.as_slice())?;
-        diagnosis.notes.push(Note::Alike(alike))?;
+        notes.push(Note::Alike(alike))?;
     }
     Ok(())
 }
