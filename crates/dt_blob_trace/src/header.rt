@@ -102,11 +102,7 @@ fn check_blocks(header: Header) -> Result<(), Stop> {
         return Err(stop_at(33, SIZE_AT, "a size of 40 or more"));
     }
     if header.structure > size {
-        return Err(stop_at(
-            33,
-            STRUCTURE_AT,
-            "a structure block inside the blob",
-        ));
+        return Err(stop_at(33, STRUCTURE_AT, "a structure block inside the blob"));
     }
     if header.structure_end > size {
         return Err(stop_at(
@@ -131,11 +127,7 @@ fn check_blocks(header: Header) -> Result<(), Stop> {
 // That the blocks begin where they may.
 fn check_places(header: Header) -> Result<(), Stop> {
     if header.structure % 4 != 0 {
-        return Err(stop_at(
-            33,
-            STRUCTURE_AT,
-            "a structure block on a multiple of 4",
-        ));
+        return Err(stop_at(33, STRUCTURE_AT, "a structure block on a multiple of 4"));
     }
     if header.reserves % 8 != 0 {
         return Err(stop_at(33, RESERVES_AT, "reservations on a multiple of 8"));

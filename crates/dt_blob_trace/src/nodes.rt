@@ -73,11 +73,7 @@ impl<'t> Nodes<'t> {
             }
         } else {
             if self.open.len() > MAX_DEPTH {
-                return Ok(Some(stop_at(
-                    37,
-                    at,
-                    "a node at most 64 levels below the root",
-                )));
+                return Ok(Some(stop_at(37, at, "a node at most 64 levels below the root")));
             }
             if !is_name(name) {
                 return Ok(Some(stop_at(37, name_at, "a lawful name of a node")));
@@ -123,11 +119,7 @@ impl<'t> Nodes<'t> {
             return Ok(Some(self.misplaced(at)));
         };
         if top.has_children {
-            return Ok(Some(stop_at(
-                36,
-                at,
-                "BEGIN_NODE, 1, or END_NODE, 2, behind a child",
-            )));
+            return Ok(Some(stop_at(36, at, "BEGIN_NODE, 1, or END_NODE, 2, behind a child")));
         }
         let name_at = at.saturating_add(8);
         if !is_name(name) {
@@ -142,11 +134,7 @@ impl<'t> Nodes<'t> {
             return Some(self.misplaced(at));
         };
         if let Some(twice) = top.twice {
-            return Some(stop_at(
-                37,
-                twice,
-                "another name than those before it in the node",
-            ));
+            return Some(stop_at(37, twice, "another name than those before it in the node"));
         }
         self.open.pop();
         self.is_behind = self.open.is_empty();
@@ -159,11 +147,7 @@ impl<'t> Nodes<'t> {
         } else if self.open.is_empty() {
             Some(self.misplaced(at))
         } else {
-            Some(stop_at(
-                34,
-                at,
-                "END_NODE, 2, of each node before END",
-            ))
+            Some(stop_at(34, at, "END_NODE, 2, of each node before END"))
         }
     }
 

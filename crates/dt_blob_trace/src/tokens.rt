@@ -32,9 +32,7 @@ pub(crate) struct Blocks<'t> {
 pub(crate) fn blocks_of<'t>(bytes: &'t [u8], header: Header) -> Blocks<'t> {
     Blocks {
         structure: bytes.get(..header.structure_end).unwrap_or(bytes),
-        strings: bytes
-            .get(header.strings..header.strings_end)
-            .unwrap_or(&[]),
+        strings: bytes.get(header.strings..header.strings_end).unwrap_or(&[]),
     }
 }
 
@@ -73,11 +71,7 @@ fn ended(text: &[u8]) -> Option<&[u8]> {
 fn begin<'t>(blocks: Blocks<'t>, at: usize) -> Result<Token<'t>, Stop> {
     let start = at.saturating_add(4);
     let Some(name) = ended(blocks.structure.get(start..).unwrap_or(&[])) else {
-        return Err(stop_at(
-            35,
-            start,
-            "a node's name, which ends with a zero byte",
-        ));
+        return Err(stop_at(35, start, "a node's name, which ends with a zero byte"));
     };
     let next = start.saturating_add(padded(name.len().saturating_add(1)));
     if next > blocks.structure.len() {
@@ -128,10 +122,6 @@ fn property_name<'t>(blocks: Blocks<'t>, at: usize) -> Result<&'t [u8], Stop> {
     };
     match ended(text) {
         Some(name) => Ok(name),
-        None => Err(stop_at(
-            35,
-            at,
-            "the place of a name, which ends with a zero byte",
-        )),
+        None => Err(stop_at(35, at, "the place of a name, which ends with a zero byte")),
     }
 }

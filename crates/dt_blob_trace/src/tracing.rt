@@ -48,11 +48,7 @@ fn find_token<'t>(
             Err(stop) => return Ok(Some(stop)),
         };
         if is_end(token) && header.is_sized && token.next != header.structure_end {
-            return Ok(Some(stop_at(
-                34,
-                token.next,
-                "the end of the structure block behind END",
-            )));
+            return Ok(Some(stop_at(34, token.next, "the end of the structure block behind END")));
         }
         if let Some(stop) = nodes.step(token)? {
             return Ok(Some(stop));

@@ -87,11 +87,7 @@ fn target_of<'t>(
     }
     match over.value(fragment, b"target-path".as_slice()) {
         Some(value) => by_path(base, targets, fragment, value),
-        None => Err(Culprit::new(
-            Fault::NoTarget,
-            Reason::NeitherTarget,
-            fragment,
-        )),
+        None => Err(Culprit::new(Fault::NoTarget, Reason::NeitherTarget, fragment)),
     }
 }
 
@@ -107,11 +103,7 @@ fn by_phandle<'t>(
         None => None,
     };
     let Some(number) = value else {
-        return Err(no_target(
-            fragment,
-            b"target".as_slice(),
-            Reason::TargetLength,
-        ));
+        return Err(no_target(fragment, b"target".as_slice(), Reason::TargetLength));
     };
     let phandle = sites.phandle(row).unwrap_or(number);
     if let Some(node) = targets.phandles.get(&phandle) {
@@ -129,20 +121,12 @@ fn by_path<'t>(
     value: &'t [u8],
 ) -> Result<usize, Culprit<'t>> {
     let Some(path) = ended_path(value) else {
-        return Err(no_target(
-            fragment,
-            b"target-path".as_slice(),
-            Reason::NoPath,
-        ));
+        return Err(no_target(fragment, b"target-path".as_slice(), Reason::NoPath));
     };
     match at_path(base, path) {
         Some(node) if node < targets.count => Ok(node),
         _ => {
-            let mut culprit = no_target(
-                fragment,
-                b"target-path".as_slice(),
-                Reason::TargetPath,
-            );
+            let mut culprit = no_target(fragment, b"target-path".as_slice(), Reason::TargetPath);
             culprit.subject = Some(path);
             Err(culprit)
         }

@@ -63,12 +63,7 @@ fn too_great<'t>(over: &FlatTree<'t>, rise: u32) -> Option<Culprit<'t>> {
     for property in &over.properties {
         if let Some(number) = over.phandle(*property) {
             if raised(number, rise).is_none() {
-                return Some(of_phandle(
-                    Fault::PhandleOverflow,
-                    Reason::Raised,
-                    *property,
-                    number,
-                ));
+                return Some(of_phandle(Fault::PhandleOverflow, Reason::Raised, *property, number));
             }
         }
     }

@@ -53,11 +53,7 @@ fn find_first<'t>(
     rise: u32,
 ) -> Result<Option<Culprit<'t>>, AllocError> {
     if !has_fragment(over) {
-        return Ok(Some(Culprit::new(
-            Fault::NotOverlay,
-            Reason::NoFragment,
-            0,
-        )));
+        return Ok(Some(Culprit::new(Fault::NotOverlay, Reason::NoFragment, 0)));
     }
     if let Some(culprit) = find_phandle(alloc, over, rise)? {
         return Ok(Some(culprit));

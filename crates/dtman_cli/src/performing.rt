@@ -46,15 +46,7 @@ pub fn perform<'a, S: Surroundings, O: Channel, T: Threads + Sync>(
             blob,
             drivers,
             workers,
-        } => probed(
-            alloc,
-            surroundings,
-            threads,
-            blob,
-            drivers,
-            workers,
-            detail,
-        )?,
+        } => probed(alloc, surroundings, threads, blob, drivers, workers, detail)?,
         Command::Replay {
             plan,
             schedule,

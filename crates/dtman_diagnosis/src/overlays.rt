@@ -114,11 +114,7 @@ fn kind_of(culprit: Culprit<'_>) -> Subject {
 }
 
 // What the fragment targets, where the refusal isn't of that.
-fn add_target(
-    alloc: Global,
-    notes: &mut Vec<Note>,
-    trace: &Trace<'_>,
-) -> Result<(), AllocError> {
+fn add_target(alloc: Global, notes: &mut Vec<Note>, trace: &Trace<'_>) -> Result<(), AllocError> {
     let (words, text) = match trace.target {
         Some(Target::Label(label)) => ("its fragment targets the label ", label),
         Some(Target::Path(path)) => ("its fragment targets ", path),
@@ -141,11 +137,7 @@ fn tells_target(culprit: Culprit<'_>) -> bool {
         || culprit.property == Some(b"target".as_slice())
 }
 
-fn add_entry(
-    alloc: Global,
-    notes: &mut Vec<Note>,
-    culprit: Culprit<'_>,
-) -> Result<(), AllocError> {
+fn add_entry(alloc: Global, notes: &mut Vec<Note>, culprit: Culprit<'_>) -> Result<(), AllocError> {
     if let Some(entry) = culprit.entry {
         notes.push(Note::Fixup(copied(alloc, entry)?))?;
     }
@@ -155,11 +147,7 @@ fn add_entry(
     Ok(())
 }
 
-fn add_phandle(
-    notes: &mut Vec<Note>,
-    culprit: Culprit<'_>,
-    rise: u32,
-) -> Result<(), AllocError> {
+fn add_phandle(notes: &mut Vec<Note>, culprit: Culprit<'_>, rise: u32) -> Result<(), AllocError> {
     if let Some(phandle) = culprit.phandle {
         let note = match culprit.fault {
             Fault::NoTarget => Note::Target(phandle),
@@ -174,11 +162,7 @@ fn add_phandle(
 }
 
 // The other node of the overlay, and the one of the base.
-fn add_nodes(
-    alloc: Global,
-    notes: &mut Vec<Note>,
-    trace: &Trace<'_>,
-) -> Result<(), AllocError> {
+fn add_nodes(alloc: Global, notes: &mut Vec<Note>, trace: &Trace<'_>) -> Result<(), AllocError> {
     if let Some(path) = &trace.other {
         notes.push(Note::Node {
             words: "the other node is ",
@@ -198,11 +182,7 @@ fn add_nodes(
     Ok(())
 }
 
-fn add_alike(
-    alloc: Global,
-    notes: &mut Vec<Note>,
-    trace: &Trace<'_>,
-) -> Result<(), AllocError> {
+fn add_alike(alloc: Global, notes: &mut Vec<Note>, trace: &Trace<'_>) -> Result<(), AllocError> {
     let label = trace.culprit.subject.unwrap_or(&[]);
     if trace.culprit.reason == Reason::NoSymbol && !trace.symbols.is_empty() {
         let alike = nearest(alloc, label, trace.symbols.as_slice())?;
@@ -218,7 +198,9 @@ fn words_of(reason: Reason) -> Option<&'static str> {
         Reason::NeitherTarget => Some("it has neither `target` nor `target-path`"),
         Reason::TargetLength => Some("a `target` has four bytes"),
         Reason::NoPath => Some("a `target-path` is a path with a zero byte"),
-        Reason::NoSymbols => Some("the base has no `__symbols__`: it was compiled without `--symbols`"),
+        Reason::NoSymbols => Some(
+            "the base has no `__symbols__`: it was compiled without `--symbols`",
+        ),
         Reason::SymbolPath => Some("the base's symbol is no path with a zero byte"),
         Reason::SymbolNode => Some("the base's symbol leads to no node"),
         Reason::SymbolPhandle => Some("the node of the base's symbol has no phandle"),

@@ -263,11 +263,21 @@ fn fixups(rt: HostRuntime) {
 // That what is told of a deep overlay of this target begins and ends so.
 fn deep_shows(rt: &impl Abort, alloc: Global, hasher: RandomState, target: &str, end: &str) {
     let overlay = deep_overlay(rt, alloc, target);
-    let base = compiled(rt, alloc, hasher, "/dts-v1/; / { a { b { c { }; }; }; };", true);
+    let base = compiled(
+        rt,
+        alloc,
+        hasher,
+        "/dts-v1/; / { a { b { c { }; }; }; };",
+        true,
+    );
     let overlay = compiled(rt, alloc, hasher, overlay.as_str(), false);
     let (base, overlay) = (base.as_slice(), overlay.as_slice());
     let text = lines_of(rt, alloc, FILES, base, overlay, "error 46 TooDeep", 46);
-    assert!(rt; text.as_str().starts_with("error 46 TooDeep\no.dtbo: a node would lie deeper than 64 levels\n = in /fragment@0/__overlay__/n/n/n"));
+    assert!(rt;
+        text.as_str().starts_with(
+            "error 46 TooDeep\no.dtbo: a node would lie deeper than 64 levels\n = in /fragment@0/__overlay__/n/n/n"
+        )
+    );
     assert!(rt; text.as_str().ends_with(end));
 }
 
@@ -284,10 +294,7 @@ const EXAMPLE_BASE: &str = "/dts-v1/; / { a: a { }; };";
 /// A number, and an overlay.
 const EXAMPLES: &[(u8, &str)] = &[
     (40, "/dts-v1/;/{};"),
-    (
-        41,
-        "/dts-v1/;/{f{target-path=\"/b\"; __overlay__{};};};",
-    ),
+    (41, "/dts-v1/;/{f{target-path=\"/b\"; __overlay__{};};};"),
     (42, "/dts-v1/;/plugin/;&b{};"),
     (
         43,
@@ -347,7 +354,12 @@ fn repeated(rt: &impl Abort, alloc: Global, texts: [&str; 5], count: usize) -> S
 #[test]
 fn deepest_target(rt: HostRuntime) {
     let hasher = RandomState::new(&rt).expect(&rt, "a seed");
-    let base = repeated(&rt, rt.alloc(), ["/dts-v1/; / { ", "n { ", "", "}; ", "};"], 64);
+    let base = repeated(
+        &rt,
+        rt.alloc(),
+        ["/dts-v1/; / { ", "n { ", "", "}; ", "};"],
+        64,
+    );
     let overlay = repeated(
         &rt,
         rt.alloc(),
@@ -370,7 +382,10 @@ fn blobs(rt: HostRuntime) {
     let base = compiled(&rt, rt.alloc(), hasher, BASE, true);
     let short = b"\xd0\x0d\xfe\xed".as_slice();
     let text = lines_of(&rt, rt.alloc(), FILES, short, b"", "error 30 Truncated", 30);
-    assert_eq!(rt; text.as_str(), "error 30 Truncated\nb.dtb:0x4: the blob is cut\n = wanted is a header of 40 bytes\n");
+    assert_eq!(rt;
+        text.as_str(),
+        "error 30 Truncated\nb.dtb:0x4: the blob is cut\n = wanted is a header of 40 bytes\n"
+    );
     let text = lines_of(
         &rt,
         rt.alloc(),
@@ -380,5 +395,8 @@ fn blobs(rt: HostRuntime) {
         "error 30 Truncated",
         30,
     );
-    assert_eq!(rt; text.as_str(), "error 30 Truncated\no.dtbo:0x4: the blob is cut\n = wanted is a header of 40 bytes\n");
+    assert_eq!(rt;
+        text.as_str(),
+        "error 30 Truncated\no.dtbo:0x4: the blob is cut\n = wanted is a header of 40 bytes\n"
+    );
 }
