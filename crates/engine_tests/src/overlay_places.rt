@@ -335,44 +335,44 @@ fn examples(rt: HostRuntime) {
     }
 }
 
-// A text with so many more of another one behind it, and an end.
-fn repeated(rt: &impl Abort, alloc: Global, texts: [&str; 5], count: usize) -> String {
-    let [head, before, middle, behind, end] = texts;
-    let mut text = String::from_str(alloc, head).expect(rt, "memory");
+// Writes a piece so many times.
+fn push_times(rt: &impl Abort, text: &mut String, piece: &str, count: usize) {
     for _ in 0..count {
-        text.push_str(before).expect(rt, "memory");
+        text.push_str(piece).expect(rt, "memory");
     }
-    text.push_str(middle).expect(rt, "memory");
-    for _ in 0..count {
-        text.push_str(behind).expect(rt, "memory");
-    }
-    text.push_str(end).expect(rt, "memory");
-    text
+}
+
+fn nested_base(rt: &impl Abort, alloc: Global) -> String {
+    let mut source = String::from_str(alloc, "/dts-v1/; / { ").expect(rt, "memory");
+    push_times(rt, &mut source, "n { ", 64);
+    push_times(rt, &mut source, "}; ", 65);
+    source
+}
+
+fn nested_target(rt: &impl Abort, alloc: Global) -> String {
+    let head = "/dts-v1/; / { f { target-path = \"";
+    let mut source = String::from_str(alloc, head).expect(rt, "memory");
+    push_times(rt, &mut source, "/n", 64);
+    source
+        .push_str("\"; __overlay__ { c { }; }; }; };")
+        .expect(rt, "memory");
+    source
 }
 
 /// The target of the example of 46 lies at level 64.
 #[test]
 fn deepest_target(rt: HostRuntime) {
     let hasher = RandomState::new(&rt).expect(&rt, "a seed");
-    let base = repeated(
+    let base = nested_base(&rt, rt.alloc());
+    let overlay = nested_target(&rt, rt.alloc());
+    example_shows(
         &rt,
         rt.alloc(),
-        ["/dts-v1/; / { ", "n { ", "", "}; ", "};"],
-        64,
+        hasher,
+        46,
+        base.as_str(),
+        overlay.as_str(),
     );
-    let overlay = repeated(
-        &rt,
-        rt.alloc(),
-        [
-            "/dts-v1/; / { f { target-path = \"",
-            "/n",
-            "\"; __overlay__ { c { }; }; }; };",
-            "",
-            "",
-        ],
-        64,
-    );
-    example_shows(&rt, rt.alloc(), hasher, 46, base.as_str(), overlay.as_str());
 }
 
 /// Which of the two files is no blob.
