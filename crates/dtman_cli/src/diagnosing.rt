@@ -14,7 +14,7 @@ pub struct Given<'a> {
 }
 
 /// A file that was read, by its path.
-pub fn given<'a>(path: &'a str, bytes: &'a Vec<u8>) -> Given<'a> {
+pub fn file_of<'a>(path: &'a str, bytes: &'a Vec<u8>) -> Given<'a> {
     Given {
         name: path.as_bytes(),
         bytes: bytes.as_slice(),

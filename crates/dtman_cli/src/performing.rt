@@ -2,7 +2,7 @@
 ghost use Rattle.std.specs.Prelude.{◌≡◌, false};
 
 use crate::detail::{Detail, refusal};
-use crate::diagnosing::{given, unplanned, unreplayed};
+use crate::diagnosing::{file_of, unplanned, unreplayed};
 use crate::explaining::explained;
 use crate::failure::Failure;
 use crate::files::{print, read_at, seed, text_at, write_at};
@@ -163,8 +163,8 @@ fn planned<'a, S: Surroundings>(
             if detail == Detail::Line {
                 return Err(Failure::Refused(fault));
             }
-            let blob = given(blob_path, &blob);
-            let drivers = given(drivers_path, &drivers);
+            let blob = file_of(blob_path, &blob);
+            let drivers = file_of(drivers_path, &drivers);
             Err(refusal(alloc, fault, unplanned(alloc, blob, drivers, fault)))
         }
     }
@@ -198,8 +198,8 @@ fn probed<'a, S: Surroundings, T: Threads + Sync>(
             if detail == Detail::Line {
                 return Err(Failure::Refused(fault));
             }
-            let blob = given(blob_path, &blob);
-            let drivers = given(drivers_path, &drivers);
+            let blob = file_of(blob_path, &blob);
+            let drivers = file_of(drivers_path, &drivers);
             Err(refusal(alloc, fault, unplanned(alloc, blob, drivers, fault)))
         }
     }
@@ -219,7 +219,7 @@ fn replayed<'a, S: Surroundings, T: Threads + Sync>(
     let plan = text_at(alloc, surroundings, plan_path)?;
     let schedule = text_at(alloc, surroundings, schedule_path)?;
     let hasher = seed(surroundings)?;
-    let (plan, schedule) = (given(plan_path, &plan), given(schedule_path, &schedule));
+    let (plan, schedule) = (file_of(plan_path, &plan), file_of(schedule_path, &schedule));
     match report_of(alloc, hasher, threads, plan.bytes, schedule.bytes, workers) {
         Ok(report) => Ok(report),
         Err(fault) => {

@@ -365,14 +365,7 @@ fn deepest_target(rt: HostRuntime) {
     let hasher = RandomState::new(&rt).expect(&rt, "a seed");
     let base = nested_base(&rt, rt.alloc());
     let overlay = nested_target(&rt, rt.alloc());
-    example_shows(
-        &rt,
-        rt.alloc(),
-        hasher,
-        46,
-        base.as_str(),
-        overlay.as_str(),
-    );
+    example_shows(&rt, rt.alloc(), hasher, 46, base.as_str(), overlay.as_str());
 }
 
 /// Which of the two files is no blob.
