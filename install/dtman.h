@@ -13,7 +13,7 @@
  * Faults. A refusal has a number, the same as that of the program dtman: `dtman explain NUMBER` and docs/errors.md say what each means.
  *
  * The seed. Calls that look names up hash them. No answer depends on the seed, and any number will do; take one that whoever made the
- * input can't guess (of getrandom(2) or of the board's generator) where an input may be made to slow the call down.
+ * input can't guess (of getrandom or of the board's generator) where an input may be made to slow the call down.
  *
  * Memory. A call takes memory by malloc, realloc and free, and has given all of it back when it returns. Where malloc has none the call
  * is refused with the number 0. The three are of one allocator, which aligns a block to each power of two up to 16 that divides its
@@ -73,7 +73,10 @@ struct dtman_answer dtman_overlay(const uint8_t *base, size_t base_length, const
 /* The canonical source of a blob. Refused: 30 to 38. */
 struct dtman_answer dtman_dump(const uint8_t *blob, size_t blob_length, uint8_t *out, size_t room);
 
-/* The plan of a blob's devices by a driver file, as text (dtman-plan(5)). Refused: 30 to 38, and 50 to 56 with the line of the driver file. */
+/*
+ * The plan of a blob's devices by a driver file, as text; dtman-plan(5) tells of its form. Refused: 30 to 38, and 50 to 56 with the line
+ * of the driver file.
+ */
 struct dtman_answer dtman_plan(const uint8_t *blob, size_t blob_length, const uint8_t *drivers, size_t drivers_length, uint64_t seed, uint8_t *out,
 			       size_t room);
 

@@ -13,7 +13,10 @@ zsh_folder=${ZSH_FOLDER:-share/zsh/site-functions}
 listed() {
 	local file
 	echo 755 bin/dtman bin/dtman
-	for file in out/pages/man?/*; do echo 644 "$file" "share/man/${file#out/pages/}"; done
+	for file in out/pages/man?/*; do
+		[[ $file != */man3/* || -e bin/libdtman.a ]] || continue
+		echo 644 "$file" "share/man/${file#out/pages/}"
+	done
 	echo 644 out/pages/bash/dtman share/bash-completion/completions/dtman
 	echo 644 out/pages/zsh/_dtman "$zsh_folder/_dtman"
 	echo 644 out/pages/fish/dtman.fish share/fish/vendor_completions.d/dtman.fish
@@ -52,7 +55,7 @@ take_away() {
 	local target
 	make_pages
 	listed | while read -r _ _ target; do rm -f "$root$prefix/$target"; done
-	rm -f "$root$prefix"/{lib/libdtman.a,include/dtman.h,lib/pkgconfig/dtman.pc}
+	rm -f "$root$prefix"/{lib/libdtman.a,include/dtman.h,lib/pkgconfig/dtman.pc,share/man/man3/libdtman.3}
 	rm -rf "$root$prefix/share/doc/dtman"
 }
 
