@@ -9,9 +9,9 @@ export PREFIX DESTDIR MAINTAINER
 build: toolchain
 	@.ci/build
 
-# The C library, at bin/libdtman.a.
+# Proves and builds the C library, and leaves it at bin/libdtman.a.
 library: toolchain
-	@.ci/library
+	@.ci/build library
 
 # The commands over the example boards, before anything is proved.
 demo: toolchain
