@@ -19,6 +19,7 @@ static const char board[] = "/dts-v1/;\n"
 			    "\tclk: clock { compatible = \"fixed-clock\"; #clock-cells = <0>; };\n"
 			    "\tuart: serial { compatible = \"ns16550a\"; clocks = <&clk>; };\n"
 			    "};\n";
+static const char unlawful[] = "/dts-v1/;\n/ {\n\ta = <(1 / 0)>;\n};\n";
 static const char hat[] = "/dts-v1/;\n/plugin/;\n&uart { status = \"okay\"; };\n";
 static const char drivers[] = "driver clock fixed-clock\ndriver serial ns16550a\n";
 static const char twice[] = "driver clock fixed-clock\ndriver clock fixed-clock\n";
@@ -49,7 +50,7 @@ static void make_calls(FILE *to)
 	tell(to, "compile, no room", b, NULL);
 	b = dtman_compile(BYTES(board), true, SEED, base, b.length);
 	tell(to, "compile, that much room", b, NULL);
-	tell(to, "compile, a source without an end", dtman_compile(BYTES("/dts-v1/;\n/ {\n"), false, SEED, text, ROOM), NULL);
+	tell(to, "compile, a division by zero", dtman_compile(BYTES(unlawful), false, SEED, text, ROOM), NULL);
 
 	o = dtman_compile(BYTES(hat), false, SEED, overlay, ROOM);
 	x = dtman_overlay(base, b.length, overlay, o.length, SEED, both, ROOM);
