@@ -24,7 +24,7 @@ listed() {
 		echo 644 bin/libdtman.a lib/libdtman.a
 		echo 644 install/dtman.h include/dtman.h
 		echo 644 out/pages/dtman.pc lib/pkgconfig/dtman.pc
-		for file in examples/c/*; do echo 644 "$file" "share/doc/dtman/examples/c/${file##*/}"; done
+		for file in examples/c/Makefile examples/c/*.{c,h,dts,txt,md}; do echo 644 "$file" "share/doc/dtman/examples/c/${file##*/}"; done
 	fi
 	for file in README.md CHANGELOG.md docs/errors.md docs/promises.md; do echo 644 "$file" "share/doc/dtman/${file##*/}"; done
 	for file in examples/*.{dts,dtb,drivers,plan,schedule}; do echo 644 "$file" "share/doc/dtman/examples/${file##*/}"; done
