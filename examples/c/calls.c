@@ -41,6 +41,26 @@ static void tell(FILE *to, const char *what, struct dtman_answer answer, const u
 		fwrite(text, 1, answer.length, to);
 }
 
+/* A text so many times over, behind what is there. */
+static void put(char *text, const char *piece, int times)
+{
+	while (times--)
+		strcat(text, piece);
+}
+
+/* A source with an expression in sixty parentheses, below sixty nodes. */
+static void nest(char *text)
+{
+	strcpy(text, "/dts-v1/; / {");
+	put(text, " n {", 60);
+	put(text, " a = <", 1);
+	put(text, "(", 60);
+	put(text, "1", 1);
+	put(text, ")", 60);
+	put(text, ">;", 1);
+	put(text, " };", 61);
+}
+
 static void make_calls(FILE *to)
 {
 	uint8_t base[ROOM], overlay[ROOM], both[ROOM], text[ROOM], plan[ROOM];
@@ -51,6 +71,8 @@ static void make_calls(FILE *to)
 	b = dtman_compile(BYTES(board), true, SEED, base, b.length);
 	tell(to, "compile, that much room", b, NULL);
 	tell(to, "compile, a division by zero", dtman_compile(BYTES(unlawful), false, SEED, text, ROOM), NULL);
+	nest((char *)text);
+	tell(to, "compile, sixty deep", dtman_compile(text, strlen((char *)text), false, SEED, both, ROOM), NULL);
 
 	o = dtman_compile(BYTES(hat), false, SEED, overlay, ROOM);
 	x = dtman_overlay(base, b.length, overlay, o.length, SEED, both, ROOM);
