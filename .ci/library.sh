@@ -38,6 +38,10 @@ bin/dtman compile "$work/setting.dts" "$work/setting.dtb"
 cp "$work/board.dtb" "$work/wanted.dtb"
 for name in hat arguments setting; do bin/dtman overlay "$work/wanted.dtb" "$work/$name.dtb" "$work/wanted.dtb"; done
 
+# The report of a run by the program's own threads.
+echo '# nothing happened yet' >"$work/empty.schedule"
+bin/dtman replay examples/sensor-board.plan "$work/empty.schedule" --workers 4 >"$work/report"
+
 # try_c NAME COMPILER FLAGS [RUNNER..]: builds the examples, runs them, and compares what they print and write
 try_c() {
 	local name=$1 built=$work/$1 compiler=$2 flags=$3
@@ -46,6 +50,7 @@ try_c() {
 	make -s -C examples/c OUT="$built" CC="$compiler" CFLAGS="$flags" || fail "$name: the examples aren't built"
 	"$@" "$built/calls" | diff examples/c/calls.txt - || fail "$name: examples/c/calls says something else"
 	"$@" "$built/boot" "${step[@]}" "$built/out.dtb" | diff "$work/said" - || fail "$name: examples/c/boot says something else"
+	"$@" "$built/bus" examples/sensor-board.plan | diff "$work/report" - || fail "$name: examples/c/bus ends with another report"
 	cmp "$built/out.dtb" "$work/wanted.dtb" || fail "$name: examples/c/boot makes another blob than the program"
 	echo "library: $name: the examples do what they should"
 }
