@@ -17,9 +17,10 @@
  *
  * Memory. A call takes memory by malloc, realloc and free, and has given all of it back when it returns. Where malloc has none the call
  * is refused with the number 0. The three are of one allocator, which aligns a block to each power of two up to 16 that divides its
- * size. Besides them the library wants memcpy, memmove, memset, memcmp and bcmp. It opens no file, makes no system call and starts no thread.
+ * size. Besides them the library wants memcpy, memmove, memset, memcmp and bcmp. It opens no file, makes no system call and starts no
+ * thread.
  *
- * Stack. Nesting of the input takes stack, and nothing else of it: 256 KB are enough for every input, nested to the limits of docs/errors.md.
+ * Stack. How deep an input is nested takes stack, how long it is doesn't: 256 KB are enough for every input.
  *
  * Threads. The library has no state of its own: any number of threads may be in its calls at a time, each with an `out` of its own. An
  * input may be shared by calls while no one writes it. No call may be made from a signal handler, or in the forked child of a process
@@ -55,20 +56,20 @@ struct dtman_answer {
 /* No bytes. */
 #define DTMAN_NONE ((uint8_t *)"")
 
-/* The most bytes of a blob or of its printed source, of a source, and of a text file of the bus. */
+/* The most bytes of a blob and of its printed source (38 above it), and of a source (17 above it). */
 #define DTMAN_MAX_BLOB 268435456
 #define DTMAN_MAX_SOURCE 16777216
-#define DTMAN_MAX_TEXT 268435456
 
 /*
  * The blob of a source, as the C preprocessor leaves it. With `symbols` it has the paths of all labelled nodes, as the base of an overlay
  * needs it. A source with the tag /plugin/ becomes an overlay. Refused: 10 to 17 with the line, 20 to 28, 38.
  */
-struct dtman_answer dtman_compile(const uint8_t *source, size_t source_length, bool symbols, uint64_t seed, uint8_t *out, size_t room);
+struct dtman_answer dtman_compile(const uint8_t *source, size_t source_length, bool symbols, uint64_t seed,
+	uint8_t *out, size_t room);
 
 /* The blob of a base with an overlay applied. Refused: 30 to 38, of the base before those of the overlay, and 40 to 46. */
-struct dtman_answer dtman_overlay(const uint8_t *base, size_t base_length, const uint8_t *overlay, size_t overlay_length, uint64_t seed, uint8_t *out,
-				  size_t room);
+struct dtman_answer dtman_overlay(const uint8_t *base, size_t base_length, const uint8_t *overlay,
+	size_t overlay_length, uint64_t seed, uint8_t *out, size_t room);
 
 /* The canonical source of a blob. Refused: 30 to 38. */
 struct dtman_answer dtman_dump(const uint8_t *blob, size_t blob_length, uint8_t *out, size_t room);
@@ -77,15 +78,15 @@ struct dtman_answer dtman_dump(const uint8_t *blob, size_t blob_length, uint8_t 
  * The plan of a blob's devices by a driver file, as text; dtman-plan(5) tells of its form. Refused: 30 to 38, and 50 to 56 with the line
  * of the driver file.
  */
-struct dtman_answer dtman_plan(const uint8_t *blob, size_t blob_length, const uint8_t *drivers, size_t drivers_length, uint64_t seed, uint8_t *out,
-			       size_t room);
+struct dtman_answer dtman_plan(const uint8_t *blob, size_t blob_length, const uint8_t *drivers,
+	size_t drivers_length, uint64_t seed, uint8_t *out, size_t room);
 
 /*
  * The report of the bus after a schedule over a plan, as text. Refused: 50 to 56 with the line of the plan or of the schedule, and 60 to 67
  * with the event.
  */
-struct dtman_answer dtman_replay(const uint8_t *plan, size_t plan_length, const uint8_t *schedule, size_t schedule_length, uint64_t seed, uint8_t *out,
-				 size_t room);
+struct dtman_answer dtman_replay(const uint8_t *plan, size_t plan_length, const uint8_t *schedule,
+	size_t schedule_length, uint64_t seed, uint8_t *out, size_t room);
 
 /* The name of the fault with a number, with no NUL behind it: no name has more than 24 bytes. Takes no memory. */
 struct dtman_answer dtman_name(uint8_t number, uint8_t *out, size_t room);

@@ -65,7 +65,7 @@ pub record IsPlanAnswer (blob drivers : List ℕ) (result : Result (List ℕ) Fa
 pub record IsReplayAnswer (plan_file schedule : List ℕ) (result : Result (List ℕ) FaultValue) : Type 0 where
   pub answer :
       MatchResult
-        result
-        (λ report. replay.replay_answer plan_file schedule ≡ Ok report)
-        (λ fault. (fault ≡ no_memory) ⊎ (replay.replay_answer plan_file schedule ≡ Err fault))
+      result
+      (λ report. replay.replay_answer plan_file schedule ≡ Ok report)
+      (λ fault. (fault ≡ no_memory) ⊎ (replay.replay_answer plan_file schedule ≡ Err fault))
   pub history : IfOk result (λ report. replay.ReportsHistory plan_file schedule report)

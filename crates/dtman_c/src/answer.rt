@@ -19,7 +19,7 @@ const UNNAMED: u32 = 3;
 
 /// How a call ended.
 #[repr(C)]
-#[derive(Clone, Copy, Debug)]
+#[derive(Clone, Copy)]
 pub struct Answer {
     pub status: u32,
     /// The fault's number.
@@ -57,7 +57,7 @@ pub(crate) fn put(bytes: &[u8], out: &mut [u8]) -> Answer
 }
 
 /// No fault has the number.
-pub(crate) fn unknown() -> Answer
+pub(crate) fn unnamed() -> Answer
     ensures { result ≡ unnamed }
 {
     told(UNNAMED, 0)

@@ -1,7 +1,7 @@
 //! The names of faults.
 ghost use Rattle.dtman_c.specs.Naming.{IsNameGiven};
 
-use crate::answer::{Answer, put, unknown};
+use crate::answer::{Answer, put, unnamed};
 use dtman_engine::explain;
 
 /// The name of the fault with a number.
@@ -11,6 +11,6 @@ pub extern "C" fn dtman_name(number: u8, out: &mut [u8]) -> Answer
 {
     match explain(number) {
         Some(explanation) => put(explanation.name.as_bytes(), out),
-        None => unknown(),
+        None => unnamed(),
     }
 }
