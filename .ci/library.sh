@@ -44,7 +44,7 @@ bin/dtman replay examples/sensor-board.plan "$work/empty.schedule" --workers 4 >
 
 # try_c NAME COMPILER FLAGS [RUNNER..]: builds the examples, runs them, and compares what they print and write
 try_c() {
-	local name=$1 built=$work/$1 compiler=$2 flags=$3
+	local name=$1 built=$work/${1// /-} compiler=$2 flags=$3
 	shift 3
 	mkdir -p "$built"
 	make -s -C examples/c OUT="$built" CC="$compiler" CFLAGS="$flags" || fail "$name: the examples aren't built"

@@ -61,10 +61,13 @@ static int stands(const struct bus *bus, const char *path, const char *word)
 	const char *line = (const char *)bus->report.at;
 	size_t length = strlen(path);
 
-	for (; line; line = strchr(line, '\n'), line += line != NULL)
-		if (!strncmp(line, path, length) && !strncmp(line + length, word, strlen(word)))
-			return 1;
-	return 0;
+	while (strncmp(line, path, length) || strncmp(line + length, word, strlen(word))) {
+		line = strchr(line, '\n');
+		if (!line)
+			return 0;
+		line++;
+	}
+	return 1;
 }
 
 /* The first device of the report that is due. */
