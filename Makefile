@@ -1,6 +1,6 @@
 # dtman: build, try and prove. `rt` is the toolchain's command.
 
-.PHONY: build demo test install uninstall dist deb clean toolchain
+.PHONY: build library demo test install uninstall dist deb clean toolchain
 
 PREFIX ?= /usr/local
 export PREFIX DESTDIR MAINTAINER
@@ -8,6 +8,10 @@ export PREFIX DESTDIR MAINTAINER
 # Proves and builds the program, and leaves it at bin/dtman.
 build: toolchain
 	@.ci/build
+
+# Proves and builds the C library, and leaves it at bin/libdtman.a.
+library: toolchain
+	@.ci/build library
 
 # The commands over the example boards, before anything is proved.
 demo: toolchain

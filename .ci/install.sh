@@ -92,27 +92,25 @@ for shell in bash zsh fish; do
 done
 cd "$root"
 
-# The C examples, over what was installed.
+# The C examples, over what was installed. `.ci/library.sh` tries more of them.
 try_c() {
-	local run=() built=$work/c
+	local built=$work/c
 	cp -r examples/c "$built"
 	export PKG_CONFIG_PATH=$work/usr/lib/pkgconfig
-	make -s -C "$built" LIBRARY=installed CC="$1" ${2:+CFLAGS="$2"}
-	[ -n "${2:-}" ] || ! has valgrind "C examples run without it" || run=(valgrind -q --leak-check=full --error-exitcode=9)
-	"${run[@]}" "$built/calls" | diff examples/c/calls.txt - || fail "examples/c/calls says something else"
+	make -s -C "$built" LIBRARY=installed CC="$1"
+	"$built/calls" | diff examples/c/calls.txt - || fail "examples/c/calls says something else"
 	for name in board hat; do bin/dtman compile "examples/$name.dts" "$built/$name.dtb" --symbols; done
-	bin/dtman compile examples/c/boot-arguments.dts "$built/arguments.dtbo"
-	"${run[@]}" "$built/boot_step" "$built/board.dtb" "$built/hat.dtb" "$built/arguments.dtbo" /chosen bootargs "$built/out.dtb" >"$built/said"
-	[ "$(tr -d '\0' <"$built/said")" = "console=ttyS0,115200 root=/dev/mmcblk0p2 quiet" ] || fail "boot_step found $(cat "$built/said")"
-	bin/dtman overlay "$built/board.dtb" "$built/hat.dtb" - | bin/dtman overlay - "$built/arguments.dtbo" - | cmp - "$built/out.dtb"
+	bin/dtman compile examples/c/boot-arguments.dts "$built/arguments.dtb"
+	"$built/boot" "$built/board.dtb" "$built/hat.dtb" "$built/arguments.dtb" /chosen bootargs quiet "$built/out.dtb" | tail -1 >"$built/said"
+	[ "$(cat "$built/said")" = '/chosen: bootargs = "quiet"' ] || fail "boot found $(cat "$built/said")"
+	bin/dtman dump "$built/out.dtb" | grep -q 'bootargs = "quiet";' || fail "boot wrote something else"
 	rm -rf "$built"
-	echo "C: the examples do what the program does, built by $1${2:+ with $2}${run[*]:+, under valgrind}"
+	echo "C: the examples do what they should over what was installed, built by $1"
 }
 if [ ! -e bin/libdtman.a ]; then
 	echo "install: bin/libdtman.a isn't here, so the C examples aren't tried" >&2
 elif has pkg-config "the C examples aren't tried"; then
-	! has cc "the C examples aren't built by it" || try_c cc
-	! has clang "the C examples aren't tried with its sanitizers" || try_c clang "-g -O1 -fsanitize=address,undefined"
+	! has cc "the C examples aren't built" || try_c cc
 fi
 
 make -s uninstall PREFIX=/usr DESTDIR="$work"

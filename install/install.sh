@@ -8,20 +8,25 @@ root=${DESTDIR:-}
 version=$(sed -n 's/.*\.version("\([^"]*\)").*/\1/p' crates/dtman_cli/src/grammar.rt)
 # Debian's zsh looks for what packages bring elsewhere.
 zsh_folder=${ZSH_FOLDER:-share/zsh/site-functions}
+# So do its compilers, in a folder for each kind of machine.
+library_folder=${LIBRARY_FOLDER:-lib}
 
 # A line for each file that is installed: its mode, where it comes from, where it goes to below the prefix.
 listed() {
 	local file
 	echo 755 bin/dtman bin/dtman
-	for file in out/pages/man?/*; do echo 644 "$file" "share/man/${file#out/pages/}"; done
+	for file in out/pages/man?/*; do
+		[[ $file != */man3/* || -e bin/libdtman.a ]] || continue
+		echo 644 "$file" "share/man/${file#out/pages/}"
+	done
 	echo 644 out/pages/bash/dtman share/bash-completion/completions/dtman
 	echo 644 out/pages/zsh/_dtman "$zsh_folder/_dtman"
 	echo 644 out/pages/fish/dtman.fish share/fish/vendor_completions.d/dtman.fish
 	if [ -e bin/libdtman.a ]; then
-		echo 644 bin/libdtman.a lib/libdtman.a
+		echo 644 bin/libdtman.a "$library_folder/libdtman.a"
 		echo 644 install/dtman.h include/dtman.h
-		echo 644 out/pages/dtman.pc lib/pkgconfig/dtman.pc
-		for file in examples/c/*; do echo 644 "$file" "share/doc/dtman/examples/c/${file##*/}"; done
+		echo 644 out/pages/dtman.pc "$library_folder/pkgconfig/dtman.pc"
+		for file in examples/c/Makefile examples/c/*.{c,h,dts,txt,md}; do echo 644 "$file" "share/doc/dtman/examples/c/${file##*/}"; done
 	fi
 	for file in README.md CHANGELOG.md docs/errors.md docs/promises.md; do echo 644 "$file" "share/doc/dtman/${file##*/}"; done
 	for file in examples/*.{dts,dtb,drivers,plan,schedule}; do echo 644 "$file" "share/doc/dtman/examples/${file##*/}"; done
@@ -32,12 +37,12 @@ make_pages() {
 	rm -rf out/pages
 	python3 install/pages.py out/pages
 	cat >out/pages/dtman.pc <<END
-prefix=\${pcfiledir}/../..
+prefix=\${pcfiledir}/$(sed 's#[^/]*#..#g' <<<"$library_folder/pkgconfig")
 Name: dtman
 Description: devicetree compiler and probing core over the caller's bytes
 Version: $version
 Cflags: -I\${prefix}/include
-Libs: -L\${prefix}/lib -ldtman
+Libs: -L\${prefix}/$library_folder -ldtman
 END
 }
 
@@ -52,7 +57,7 @@ take_away() {
 	local target
 	make_pages
 	listed | while read -r _ _ target; do rm -f "$root$prefix/$target"; done
-	rm -f "$root$prefix"/{lib/libdtman.a,include/dtman.h,lib/pkgconfig/dtman.pc}
+	rm -f "$root$prefix"/{"$library_folder"/libdtman.a,include/dtman.h,"$library_folder"/pkgconfig/dtman.pc,share/man/man3/libdtman.3}
 	rm -rf "$root$prefix/share/doc/dtman"
 }
 
@@ -77,15 +82,16 @@ needed_libc() {
 
 # A Debian package. Its maintainer is MAINTAINER, or who git says commits here.
 deb() {
-	local arch stage doc name
+	local arch stage doc name libraries
+	libraries=lib/$(uname -m)-linux-gnu
 	arch=$(dpkg --print-architecture)
 	stage=$(mktemp -d)
 	name=out/dist/dtman_${version}_$arch.deb
-	PREFIX=/usr DESTDIR=$stage ZSH_FOLDER=share/zsh/vendor-completions "$0" install
+	PREFIX=/usr DESTDIR=$stage ZSH_FOLDER=share/zsh/vendor-completions LIBRARY_FOLDER=$libraries "$0" install
 	doc=$stage/usr/share/doc/dtman
 	mv "$doc/CHANGELOG.md" "$doc/NEWS.md"
 	strip --strip-unneeded -R .comment -R .note "$stage/usr/bin/dtman"
-	[ ! -e "$stage/usr/lib/libdtman.a" ] || strip --strip-debug -R .comment -R .note "$stage/usr/lib/libdtman.a"
+	[ ! -e "$stage/usr/$libraries/libdtman.a" ] || strip --strip-debug -R .comment -R .note "$stage/usr/$libraries/libdtman.a"
 	find "$stage/usr/share/man" -type f -exec gzip -9n {} +
 	debian_words "$stage" "$arch" "${MAINTAINER:-$(git log -1 --format='%an <%ae>')}"
 	gzip -9n "$doc/NEWS.md" "$doc/README.md" "$doc/errors.md" "$doc/promises.md" "$doc/changelog"

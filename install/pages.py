@@ -147,6 +147,36 @@ def plan_page():
     return page("dtman-plan", 5, "plans, drivers, schedules and reports of a bus", sections)
 
 
+def unwrapped(comment):
+    """The paragraphs of a comment in C."""
+    text = "\n".join(line.strip().removeprefix("*").removeprefix(" ") for line in comment.strip().splitlines())
+    return [" ".join(it.split()) for it in re.split(r"\n\n+", text.strip())]
+
+
+def library_page():
+    """What install/dtman.h says, as a page."""
+    header = text_of("install/dtman.h")
+    about, *told_first = unwrapped(re.match(r"/\*(.*?)\*/", header, re.DOTALL)[1])
+    calls = re.findall(r"/\*((?:(?!\*/).)*)\*/\nstruct dtman_answer (\w+)\((.*?)\);", header, re.DOTALL)
+    answers = re.search(r"^/\* How a call ended\..*?^};\n\nstruct.*?^};", header, re.DOTALL | re.MULTILINE)[0]
+    synopsis = [".In dtman.h"]
+    for _, name, parameters in calls:
+        given = " ".join(f'"{" ".join(it.split())}"' for it in parameters.split(","))
+        synopsis.append(f'.Ft "struct dtman_answer"\n.Fn {name} {given}')
+    body = [prose(about.partition(": ")[2].capitalize()), f".Ss Calls\n.Bl -tag -width Ds"]
+    body += [f".It Fn {name}\n{paragraphs(unwrapped(comment))}" for comment, name, _ in calls]
+    body.append(".El\n.Ss Answers\n" + display(answers.replace("\t", "    ")))
+    for paragraph in told_first:
+        title, _, text = paragraph.partition(". ")
+        body.append(f".Ss {title}\n{prose(text)}")
+    sections = [
+        ("SYNOPSIS", "\n".join(synopsis)),
+        ("DESCRIPTION", "\n".join(body)),
+        ("SEE ALSO", ".Xr dtman 1 ,\n.Xr dtman-plan 5"),
+    ]
+    return page("libdtman", 3, "devicetree sources, overlays, blobs and plans over the caller's bytes", sections)
+
+
 # ---- completions
 
 
@@ -328,7 +358,7 @@ def main():
         print("usage: pages.py FOLDER", file=sys.stderr)
         return 2
     made = {f"man1/dtman-{it.name}.1": command_page(it) for it in told.COMMANDS}
-    made.update({"man1/dtman.1": program_page(), "man5/dtman-plan.5": plan_page()})
+    made.update({"man1/dtman.1": program_page(), "man3/libdtman.3": library_page(), "man5/dtman-plan.5": plan_page()})
     made.update({"bash/dtman": bash(), "zsh/_dtman": zsh(), "fish/dtman.fish": fish()})
     for name, text in made.items():
         path = f"{sys.argv[1]}/{name}"

@@ -62,9 +62,9 @@ module _ (a b : NodeData) (base : Resolved) (ea : base ≡ lists_of a) where
 pub root-of : (wanted : Result Resolved Fault) (limit : ℕ) (d : LiveTree Lent) → IsWhole d → wanted ≡ Ok (lists d) → (found : Option NodeData)
     → MatchOption found (limit < size_in (lists d).properties) (λ root. root.name ≡ [])
     → MatchOption found (limit < size_in (lists d).properties) (λ root. path_map root ≡ map_of (lists d))
-    → MatchOption found (limit < size_in (lists d).properties) (λ _. limit < 2 ^ 64 - 1 → size_in (lists d).properties ≤ limit)
+    → MatchOption found (limit < 2 ^ 64 - 1) (λ _. limit < 2 ^ 64 - 1 → size_in (lists d).properties ≤ limit)
     → IsRootOrTooLong wanted limit found
-root-of wanted limit d w is None a b c = record { lists = lists d; result = is; longer = a; trees = live-longer d w }
+root-of wanted limit d w is None a b c = record { lists = lists d; result = is; longer = a; passable = c; trees = live-longer d w }
 root-of wanted limit d w is (Some root) a b c = record { lists = lists d; result = is; name = a; map = b; fits = c }
 
 pub root-all : (a b : NodeData) (base : Resolved) → base ≡ lists_of a → (o : Resolved) → shifted_overlay base (lists_of b) ≡ Ok o → (limit : ℕ) (found : Option NodeData)

@@ -22,11 +22,12 @@ pub record IsAppliedWithin (base over : TreeData) (limit : ℕ) (t : TreeData) :
   pub applied : IsApplied base over t
   pub fits : limit < 2 ^ 64 - 1 → size_in applied.lists.properties ≤ limit
 
--- its values have more bytes together than this, and so has each tree with its map
+-- its values have more bytes together than this limit, which numbers can pass, and so has each tree with its map
 pub record IsLonger (base over : TreeData) (limit : ℕ) : Type 0 where
   pub lists : Resolved
   pub result : overlay_result (lists_of base.root) (lists_of over.root) ≡ Ok lists
   pub longer : limit < size_in lists.properties
+  pub passable : limit < 2 ^ 64 - 1
   pub trees : (b : NodeData) → IsSound b → path_map b ≡ map_of lists → size_in lists.properties ≤ size_below b
 
 -- there is a tree, unless its values are too long

@@ -73,7 +73,7 @@ fn root_within<'d>(
     requires nodes { AreNodes (lists live.now).nodes }
     ensures name { IfOk result (λ found. MatchOption found (limit < size_in (lists live.now).properties) (λ root. root.name ≡ [])) }
     ensures map { IfOk result (λ found. MatchOption found (limit < size_in (lists live.now).properties) (λ root. path_map root ≡ map_of (lists live.now))) }
-    ensures fits { IfOk result (λ found. MatchOption found (limit < size_in (lists live.now).properties) (λ _. limit < 2 ^ 64 - 1 → size_in (lists live.now).properties ≤ limit)) }
+    ensures fits { IfOk result (λ found. MatchOption found (limit < 2 ^ 64 - 1) (λ _. limit < 2 ^ 64 - 1 → size_in (lists live.now).properties ≤ limit)) }
 {
     if total_size(live) > limit {
         return Ok(None);
@@ -210,8 +210,8 @@ pub fn apply_within(
             let reserves = Vec::from_slice(alloc, base.reserves())?;
             match Tree::new(reserves, base.boot_cpu(), root) {
                 Ok(tree) => Ok(Some(tree)),
-                // never: the root has no name
-                Err(_) => Err(OverlayError::NoMemory),
+                // the root has no name
+                Err(_) => unreachable!(),
             }
         }
         Ok(None) => Ok(None),
@@ -230,8 +230,8 @@ pub fn apply(
 {
     match apply_within(alloc, hasher, base, overlay, usize::MAX) {
         Ok(Some(tree)) => Ok(tree),
-        // values of 2^64 bytes don't fit into memory
-        Ok(None) => Err(OverlayError::NoMemory),
+        // no size is counted beyond this limit
+        Ok(None) => unreachable!(),
         Err(error) => Err(error),
     }
 }

@@ -17,11 +17,12 @@ pub record IsRoot (wanted : Result Resolved Fault) (limit : ℕ) (root : NodeDat
   pub map : path_map root ≡ map_of lists
   pub fits : limit < 2 ^ 64 - 1 → size_in lists.properties ≤ limit
 
--- its values would be too long
+-- its values would be longer than a limit that numbers can pass
 pub record IsTooLong (wanted : Result Resolved Fault) (limit : ℕ) : Type 0 where
   pub lists : Resolved
   pub result : wanted ≡ Ok lists
   pub longer : limit < size_in lists.properties
+  pub passable : limit < 2 ^ 64 - 1
   pub trees : (b : NodeData) → IsSound b → path_map b ≡ map_of lists → size_in lists.properties ≤ size_below b
 
 abbrev pub IsRootOrTooLong : Result Resolved Fault → ℕ → Option NodeData → Type 0

@@ -21,7 +21,7 @@ run-held : {V : Type 0} (Good Wanted : V → Type 0) (r : Result V Fault) (tree 
     → planning tree drivers ≡ Ok plan → MatchResult r Good (λ fault. CannotRun workers (fault_value fault)) → ((v : V) → Good v → Wanted v)
     → MatchResult r Wanted (λ fault. CannotProbe tree drivers workers (fault_value fault))
 run-held Good Wanted (Ok ran) tree drivers workers plan is h turn = turn ran h
-run-held Good Wanted (Err fault) tree drivers workers plan is h turn = inr (plan, (is, h))
+run-held Good Wanted (Err fault) tree drivers workers plan is h turn = inr (plan, is, h)
 
 pub returns-clause-held : goal.returns-clause-held
 returns-clause-held g c =

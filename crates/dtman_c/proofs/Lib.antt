@@ -1,0 +1,2 @@
+mod EngineLemmas
+mod NamingLemmas

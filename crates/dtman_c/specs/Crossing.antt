@@ -1,0 +1,58 @@
+-- What crosses to a caller in C: how a call ended, and what its buffer has then.
+use Rattle.std.specs.Prelude.{◌≡◌, ◌≤◌, ◌<◌, ◌++◌, ◌⊎◌, ℕ, List, length, drop, Result, Ok, Err}
+use Rattle.dtman_engine.specs.Fault.{FaultValue, no_memory}
+use Rattle.dtman_engine.specs.declared.fault.Place.{Place}
+use Rattle.dtman_engine.specs.declared.fault.Place.TheVariants.{Nowhere, Line, Event}
+use Rattle.dtman_c.specs.declared.answer.Answer.{Answer}
+
+-- so many bytes are in the buffer
+abbrev pub written : ℕ → Answer
+written size = record { status = 0; number = 0; length = size; line = 0; event = 0 }
+
+-- so many bytes have no room in the buffer
+abbrev pub short : ℕ → Answer
+short size = record { status = 1; number = 0; length = size; line = 0; event = 0 }
+
+-- no fault has the number
+abbrev pub unnamed : Answer
+unnamed = record { status = 3; number = 0; length = 0; line = 0; event = 0 }
+
+-- a line from 1, and 0 where there is none
+abbrev pub line_of : Place → ℕ
+line_of Nowhere = 0
+line_of (Line line) = line
+line_of (Event event) = 0
+
+-- an event from 1, and 0 where there is none
+abbrev pub event_of : Place → ℕ
+event_of Nowhere = 0
+event_of (Line line) = 0
+event_of (Event event) = event
+
+-- there are no bytes, for this fault
+abbrev pub refused : FaultValue → Answer
+refused fault = record { status = 2; number = fault.number; length = 0; line = line_of fault.place; event = event_of fault.place }
+
+-- the buffer begins with the bytes, and is behind them as it was
+abbrev pub over : List ℕ → List ℕ → List ℕ
+over bytes before = bytes ++ drop (length bytes) before
+
+-- bytes that fit are in the buffer, and no others touch it; how many they are is told in either case
+pub record IsPut (bytes before after : List ℕ) (told : Answer) : Type 0 where
+  pub fits : length bytes ≤ length before → (told ≡ written (length bytes)) × (after ≡ over bytes before)
+  pub is_short : length before < length bytes → (told ≡ short (length bytes)) × (after ≡ before)
+
+-- what a caller gets of an engine's answer
+abbrev pub Crosses : Result (List ℕ) FaultValue → List ℕ → List ℕ → Answer → Type 0
+Crosses (Ok bytes) before after told = IsPut bytes before after told
+Crosses (Err fault) before after told = (told ≡ refused fault) × (after ≡ before)
+
+-- what a caller gets is an answer that may be given
+pub record IsGiven (MayBe : Result (List ℕ) FaultValue → Type 0) (before after : List ℕ) (told : Answer) : Type 0 where
+  pub given : Result (List ℕ) FaultValue
+  pub may_be : MayBe given
+  pub crosses : Crosses given before after told
+
+-- so it is where memory is wanted before the engine begins, too
+abbrev pub OrNoMemory : (Result (List ℕ) FaultValue → Type 0) → Result (List ℕ) FaultValue → Type 0
+OrNoMemory MayBe given = MayBe given ⊎ (given ≡ Err no_memory)

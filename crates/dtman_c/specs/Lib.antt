@@ -1,0 +1,3 @@
+pub mod Crossing
+pub mod Engines
+pub mod Naming
