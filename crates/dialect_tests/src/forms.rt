@@ -1,6 +1,8 @@
 //! What each form of the dialect becomes in the profile, worked by hand from dtc's pages and its edits.
 
-use dtc_dialect::{DialectError, Options, Profile, profile_text, rewrite, user_place};
+use dtc_dialect::{
+    DialectError, Options, Profile, Span, columns_of, line_of, profile_text, rewrite, user_place,
+};
 use std::alloc::{AllocError, Global};
 use std::hash::RandomState;
 use std::process::Abort;
@@ -32,6 +34,10 @@ fn forms(rt: HostRuntime) {
         (
             " / { a = <'A' '\\n' '\\x41' '\\101'>; };",
             " / { a = <65 10 65 65>; };\n",
+        ),
+        (
+            " / { a = <'\\x4' '\\7' '\\777' '\\q' '\\''>; };",
+            " / { a = <4 7 255 113 39>; };\n",
         ),
         (
             " / { a: a { x; }; }; &a { y = <1>; z; y = <2>; };",
@@ -81,8 +87,9 @@ fn forms(rt: HostRuntime) {
     }
 }
 
-/// A source behind `/dts-v1/;`, and the number and line of its refusal.
-type Refused = (&'static str, u8, usize);
+/// A source behind `/dts-v1/;`, the number and the line of its refusal, and the columns of what is refused: the first, and the
+/// one behind the last.
+type Refused = (&'static str, u8, usize, (usize, usize));
 
 fn is_refused(rt: &impl Abort, alloc: Global, hasher: RandomState, row: &Refused) {
     let source = headed(rt, alloc, row.0);
@@ -90,6 +97,9 @@ fn is_refused(rt: &impl Abort, alloc: Global, hasher: RandomState, row: &Refused
         Err(DialectError::Refused(refusal)) => {
             assert_eq!(rt; refusal.mistake as u8, row.1);
             assert_eq!(rt; refusal.place.line, row.2);
+            let span = refusal.place.span.expect(rt, "a span");
+            let columns = columns_of(source.as_bytes(), span);
+            assert_eq!(rt; (columns.start, columns.end), row.3);
         }
         _ => panic!(rt; "not refused"),
     }
@@ -98,12 +108,16 @@ fn is_refused(rt: &impl Abort, alloc: Global, hasher: RandomState, row: &Refused
 #[test]
 fn refusals(rt: HostRuntime) {
     const ROWS: &[Refused] = &[
-        (" / { };\n&a { };", 20, 2),
-        (" / { };\n&{/a} { };", 22, 2),
-        (" / { }; /delete-node/ &{/};", 27, 1),
-        ("\n/ {\n x\n", 10, 3),
-        (" / { a = <''>; };", 10, 1),
-        ("\n# 7 \"f\"\n/ { a b; };", 10, 7),
+        (" / { };\n&a { };", 20, 2, (1, 3)),
+        (" / { };\n&{/a} { };", 22, 2, (1, 6)),
+        (" / { }; /delete-node/ &{/};", 27, 1, (32, 36)),
+        ("\n/ {\n x\n", 10, 3, (2, 3)),
+        (" / { a = <''>; };", 10, 1, (20, 22)),
+        (" / { a = <'\\x'>; };", 10, 1, (20, 24)),
+        (" / { a = <'\\1010'>; };", 10, 1, (20, 27)),
+        (" / { a = <'AB'>; };", 10, 1, (20, 24)),
+        ("\n# 7 \"f\"\n/ { a b; };", 10, 7, (7, 8)),
+        ("\n/ { /* a\n};", 10, 2, (5, 7)),
     ];
     let hasher = RandomState::new(&rt).expect(&rt, "a seed");
     for row in ROWS {
@@ -140,4 +154,13 @@ fn lines_by_markers(rt: HostRuntime) {
     let place = user_place(b"a", b"x\n# 9 \"b\"\ny\nz", 4);
     assert_eq!(&rt; place.line, 10);
     assert_eq!(&rt; place.file, b"b".as_slice());
+}
+
+#[test]
+fn lines_of_bytes(rt: HostRuntime) {
+    let text = b"ab\n cde\n";
+    let span = Span { start: 4, end: 7 };
+    assert_eq!(&rt; line_of(text, span), b" cde".as_slice());
+    let columns = columns_of(text, span);
+    assert_eq!(&rt; (columns.start, columns.end), (2, 5));
 }

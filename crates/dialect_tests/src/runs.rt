@@ -5,7 +5,7 @@ use std::alloc::Global;
 use std::hash::RandomState;
 use std::process::Abort;
 
-/// Files to read, and what was written last.
+/// Files to read, and what was written last, or reported.
 #[derive(Drop)]
 struct Desk {
     hasher: RandomState,
@@ -29,7 +29,6 @@ impl Host for Desk {
     }
 
     fn report(&mut self, text: &[u8]) {
-        self.written.clear();
         let _ = self.written.extend_from_slice(text);
     }
 
@@ -139,7 +138,11 @@ fn dtc(rt: HostRuntime) {
             1,
             "FATAL ERROR: Couldn't open \"none.dts\": error 80 CannotRead\n",
         ),
-        (&["bad.dts"], 1, "FATAL ERROR: Unable to parse input tree\n"),
+        (
+            &["bad.dts"],
+            1,
+            "Error: bad.dts:2.1-3 error 20 UnknownLabel\nFATAL ERROR: Unable to parse input tree\n",
+        ),
         (
             &["-i", "in", "-O", "dts", "--out=x", "-d", "y", "a.dts"],
             0,

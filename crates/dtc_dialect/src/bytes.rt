@@ -1,4 +1,5 @@
 //! Classes of bytes, runs of them, and parts of a text.
+ghost use Rattle.std.specs.Prelude.{◌≡◌, ◌==◌, ◌↔◌, IsTrue, Some, count_by, drop, slice_get, take};
 
 /// Bytes that stand in one run.
 #[derive(Clone, Copy)]
@@ -55,22 +56,30 @@ pub(crate) fn run_len(class: Class, s: &[u8]) -> usize {
 }
 
 /// What stands behind the first `n` bytes.
-pub(crate) fn behind(s: &[u8], n: usize) -> &[u8] {
+pub(crate) fn behind(s: &[u8], n: usize) -> &[u8]
+    ensures { result.now ≡ drop n s.now }
+{
     if n < s.len() { &s[n..] } else { b"" }
 }
 
 /// The first `n` bytes, or all where there are fewer.
-pub(crate) fn front(s: &[u8], n: usize) -> &[u8] {
+pub(crate) fn front(s: &[u8], n: usize) -> &[u8]
+    ensures { result.now ≡ take n s.now }
+{
     if n < s.len() { &s[..n] } else { s }
 }
 
 /// How many lines end in these bytes.
-pub(crate) fn line_ends(s: &[u8]) -> usize {
+pub(crate) fn line_ends(s: &[u8]) -> usize
+    ensures { result ≡ count_by (λ c. c == 10) s.now }
+{
     s.iter().filter(|c| **c == b'\n').count()
 }
 
 /// Whether a byte stands at the front.
-pub(crate) fn begins(s: &[u8], c: u8) -> bool {
+pub(crate) fn begins(s: &[u8], c: u8) -> bool
+    ensures { IsTrue result ↔ (slice_get s.now 0 ≡ Some c) }
+{
     match s {
         [d, ..] => *d == c,
         [] => false,

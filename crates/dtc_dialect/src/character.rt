@@ -1,8 +1,11 @@
 //! Character literals.
-ghost use Rattle.std.specs.Prelude.{◌<◌, IfSome};
+ghost use Rattle.std.specs.Prelude.{◌≡◌, ◌≤◌};
+ghost use Rattle.dtc_dialect.specs.Character.{alone_of, byte_of, character_of, control_of, digit_in, escape_of};
 
 /// The number of a character literal, which stands between quotes.
-pub(crate) fn character(inside: &[u8]) -> Option<u8> {
+pub(crate) fn character(inside: &[u8]) -> Option<u8>
+    ensures { result ≡ character_of inside.now }
+{
     match inside {
         [b'\\', escape @ ..] => escaped(escape),
         [c] => Some(*c),
@@ -11,49 +14,70 @@ pub(crate) fn character(inside: &[u8]) -> Option<u8> {
 }
 
 /// What stands behind a backslash: one escape, and nothing behind it.
-fn escaped(s: &[u8]) -> Option<u8> {
-    match s {
-        [b'x', digits @ ..] if !digits.is_empty() && digits.len() <= 2 => hex(digits),
-        [c] if *c < b'0' || *c > b'7' => Some(control(*c)),
-        [_] | [_, _] | [_, _, _] => octal(s),
-        _ => None,
-    }
-}
-
-/// The number of hex digits. Bits above the eighth are lost.
-fn hex(digits: &[u8]) -> Option<u8> {
-    let mut number: u16 = 0;
-    for c in digits {
-        number = (number * 16 + digit_of(*c)?) % 256;
-    }
-    Some(number as u8)
-}
-
-/// The number of octal digits. Bits above the eighth are lost.
-fn octal(digits: &[u8]) -> Option<u8> {
-    let mut number: u16 = 0;
-    for c in digits {
-        if *c < b'0' || *c > b'7' {
-            return None;
-        }
-        number = (number * 8 + (*c - b'0') as u16) % 256;
-    }
-    Some(number as u8)
-}
-
-fn digit_of(c: u8) -> Option<u16>
-    ensures { IfSome result (λ digit. digit < 16) }
+fn escaped(s: &[u8]) -> Option<u8>
+    ensures { result ≡ escape_of s.now }
 {
-    match c {
-        b'0'..=b'9' => Some((c - b'0') as u16),
-        b'A'..=b'F' => Some((c - b'A') as u16 + 10),
-        b'a'..=b'f' => Some((c - b'a') as u16 + 10),
+    match s {
+        [b'x', digits @ ..] => hex(digits),
+        [c, ..] => match digit(*c, 8) {
+            Some(_) => octal(s),
+            None => alone(s),
+        },
+        [] => None,
+    }
+}
+
+/// A byte that stands for itself or for one of C's, with nothing behind it.
+fn alone(s: &[u8]) -> Option<u8>
+    ensures { result ≡ alone_of s.now }
+{
+    match s {
+        [c] => Some(control(*c)),
         _ => None,
+    }
+}
+
+/// One or two hex digits.
+fn hex(digits: &[u8]) -> Option<u8>
+    ensures { result ≡ byte_of 16 2 digits.now }
+{
+    match digits {
+        [low] => digit(*low, 16),
+        [high, low] => Some(digit(*high, 16)? * 16 + digit(*low, 16)?),
+        _ => None,
+    }
+}
+
+/// One to three octal digits. Bits above the eighth are lost.
+fn octal(digits: &[u8]) -> Option<u8>
+    ensures { result ≡ byte_of 8 3 digits.now }
+{
+    match digits {
+        [low] => digit(*low, 8),
+        [high, low] => Some(digit(*high, 8)? * 8 + digit(*low, 8)?),
+        [high, middle, low] => {
+            let number = digit(*high, 8)? as u16 * 64 + digit(*middle, 8)? as u16 * 8;
+            Some(((number + digit(*low, 8)? as u16) % 256) as u8)
+        }
+        _ => None,
+    }
+}
+
+fn digit(c: u8, radix: u32) -> Option<u8>
+    requires least { 2 ≤ radix }
+    requires most { radix ≤ 36 }
+    ensures { result ≡ digit_in radix c }
+{
+    match char::from(c).to_digit(radix) {
+        Some(digit) => Some(digit as u8),
+        None => None,
     }
 }
 
 /// What a backslash before this byte stands for, where it is no digit.
-fn control(c: u8) -> u8 {
+fn control(c: u8) -> u8
+    ensures { result ≡ control_of c }
+{
     match c {
         b'a' => 7,
         b'b' => 8,

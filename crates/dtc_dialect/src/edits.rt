@@ -3,7 +3,7 @@
 use crate::error::{DialectError, Mistake, refused};
 use crate::head::{Action, Head};
 use crate::table::{Fragment, MAX_DEPTH, NodeRow, PropertyRow, ROOT, Table, Tokens};
-use crate::token::{Kind, Token};
+use crate::token::{Kind, Place, Token};
 use std::alloc::Global;
 use std::hash::RandomState;
 
@@ -54,7 +54,7 @@ pub(crate) fn edit<'t>(
 /// A source ends behind a statement, with a header and an item.
 fn end<'t>(edited: &Edited<'t>, tokens: &[Token<'t>]) -> Result<(), DialectError<'t>> {
     let Some(last) = tokens.last() else {
-        return Err(refused(Mistake::Syntax, crate::token::Place { file: b"", line: 1 }));
+        return Err(refused(Mistake::Syntax, Place::first(b"")));
     };
     let is_whole = edited.bodies.is_empty() && edited.head.start.is_none() && !edited.head.is_end;
     if !is_whole || !edited.has_version || !edited.has_root {

@@ -22,6 +22,20 @@ pub enum Mistake {
     DeepNode = 28,
 }
 
+impl Mistake {
+    /// Its name, as the compiler has it.
+    pub fn name(self) -> &'static str {
+        match self {
+            Mistake::Syntax => "Syntax",
+            Mistake::TooDeep | Mistake::DeepNode => "TooDeep",
+            Mistake::NoLabel => "UnknownLabel",
+            Mistake::LabelTwice => "DuplicateLabel",
+            Mistake::NoPath => "UnknownPath",
+            Mistake::Reserved => "ReservedName",
+        }
+    }
+}
+
 /// A mistake, and where it shows.
 #[derive(Clone, Copy, Debug)]
 pub struct Refusal<'t> {

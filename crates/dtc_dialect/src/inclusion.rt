@@ -1,4 +1,7 @@
 //! What a source takes in from other files: `/include/ "FILE"` and `/incbin/("FILE"[, OFFSET, LENGTH])`.
+ghost use Rattle.std.specs.Prelude.{◌≡◌, ◌<◌, ◌++◌, OnOk};
+ghost use Rattle.std.specs.Char.{digit_char};
+ghost use Rattle.dtc_dialect.specs.Inclusion.{byte_string_of, part_of};
 
 use crate::bytes::{Class, begins, behind, front, quoted_len, run_len};
 use crate::gaps::{Gap, gap_at};
@@ -172,7 +175,9 @@ fn take_turn<F: Files>(
 }
 
 /// The part of a file that is wanted, as far as the file goes.
-fn wanted(bytes: &[u8], part: Part) -> &[u8] {
+fn wanted(bytes: &[u8], part: Part) -> &[u8]
+    ensures { result.now ≡ part_of part.offset part.length bytes.now }
+{
     let rest = behind(bytes, short(part.offset));
     match part.length {
         Some(length) => front(rest, short(length)),
@@ -180,12 +185,16 @@ fn wanted(bytes: &[u8], part: Part) -> &[u8] {
     }
 }
 
-fn short(number: u64) -> usize {
+fn short(number: u64) -> usize
+    ensures { result ≡ number }
+{
     number as usize
 }
 
 /// Puts bytes as pairs of hex digits.
-fn put_binary(whole: &mut Vec<u8>, bytes: &[u8]) -> Result<(), Incomplete> {
+fn put_binary(whole: &mut Vec<u8>, bytes: &[u8]) -> Result<(), Incomplete>
+    ensures { OnOk result (whole.new.items ≡ whole.old.items ++ byte_string_of bytes.now) }
+{
     if bytes.len() > MAX_TEXT {
         return Err(Incomplete::TooLong);
     }
@@ -198,11 +207,14 @@ fn put_binary(whole: &mut Vec<u8>, bytes: &[u8]) -> Result<(), Incomplete> {
     Ok(())
 }
 
-fn digit(number: u8) -> u8 {
+fn digit(number: u8) -> u8
+    requires { number < 16 }
+    ensures { result ≡ digit_char number }
+{
     if number < 10 {
         b'0' + number
     } else {
-        b'a'.saturating_add(number.saturating_sub(10))
+        b'a' - 10 + number
     }
 }
 

@@ -19,12 +19,14 @@ mod printing;
 mod reader;
 mod references;
 mod rewriting;
+mod searching;
 mod table;
 mod token;
 
 pub use error::{DialectError, Mistake, Refusal};
 pub use inclusion::{Files, Found, Incomplete, MAX_INCLUDES, included};
 pub use keeping::{Profile, profile_text};
-pub use places::{plain, user_place};
+pub use places::{columns_of, line_of, plain, user_place};
 pub use rewriting::{Options, rewrite};
-pub use token::Place;
+pub use searching::{Reads, search};
+pub use token::{Place, Span};

@@ -2,7 +2,7 @@
 
 use crate::bytes::{Class, behind, front, run_len};
 use crate::gaps::{Marker, read_marker};
-use crate::token::Place;
+use crate::token::{Place, Span};
 use std::alloc::{AllocError, Global};
 
 /// The line of the user's file at a place of a text.
@@ -82,9 +82,38 @@ pub fn plain(path: &[u8]) -> &[u8] {
     }
 }
 
+/// The line of a text in which bytes begin.
+pub fn line_of(text: &[u8], span: Span) -> &[u8] {
+    let rest = behind(text, line_start(text, span.start));
+    front(rest, run_len(Class::Line, rest))
+}
+
+/// The columns of bytes in the line in which they begin, from 1: the first, and the one behind the last.
+pub fn columns_of(text: &[u8], span: Span) -> Span {
+    let start = line_start(text, span.start);
+    let len = line_of(text, span).len();
+    let first = span.start.saturating_sub(start).min(len);
+    let last = span.end.saturating_sub(start).min(len);
+    Span {
+        start: first.saturating_add(1),
+        end: last.saturating_add(1),
+    }
+}
+
+/// Where the line begins that has a byte.
+fn line_start(text: &[u8], at: usize) -> usize {
+    let mut start = 0;
+    for (i, c) in front(text, at).iter().enumerate() {
+        if *c == b'\n' {
+            start = i + 1;
+        }
+    }
+    start
+}
+
 /// The line of the user's file that a line of a text stands for.
 pub fn user_place<'t>(file: &'t [u8], text: &'t [u8], line: usize) -> Place<'t> {
-    let mut place = Place { file, line: 1 };
+    let mut place = Place::first(file);
     let mut left = text;
     for _ in 1..line {
         let len = run_len(Class::Line, left);

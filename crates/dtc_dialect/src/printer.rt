@@ -18,7 +18,7 @@ impl<'t> Printer<'t> {
     pub fn new(alloc: Global) -> Printer<'t> {
         Printer {
             text: Vec::new(alloc),
-            place: Place { file: b"", line: 1 },
+            place: Place::first(b""),
         }
     }
 

@@ -3,13 +3,15 @@
 use crate::bytes::{Class, begins, behind, front, is_letter, line_ends, quoted_len, run_len};
 use crate::error::{DialectError, Mistake, refused};
 use crate::gaps::{Gap, gap_at};
-use crate::token::{Kind, Place, Token};
+use crate::token::{Kind, Place, Span, Token};
 use std::alloc::Global;
 
 /// What is left of a text, and where that stands.
 #[derive(Drop)]
 struct Reader<'t> {
     left: &'t [u8],
+    /// How many bytes were taken.
+    taken: usize,
     place: Place<'t>,
     /// Between `=` and `;`.
     in_value: bool,
@@ -24,7 +26,8 @@ pub(crate) fn tokens<'t>(
     let mut found = Vec::new(alloc);
     let mut reader = Reader {
         left: text,
-        place: Place { file, line: 1 },
+        taken: 0,
+        place: Place::first(file),
         in_value: false,
     };
     // Each token has a byte or more.
@@ -41,8 +44,20 @@ pub(crate) fn tokens<'t>(
 fn take<'t>(reader: &mut Reader<'t>, n: usize) -> &'t [u8] {
     let text = front(reader.left, n);
     reader.left = behind(reader.left, n);
+    reader.taken = reader.taken.saturating_add(n);
     reader.place.line = reader.place.line.saturating_add(line_ends(text));
     text
+}
+
+/// The place of the next bytes.
+fn here<'t>(reader: &Reader<'t>, len: usize) -> Place<'t> {
+    Place {
+        span: Some(Span {
+            start: reader.taken,
+            end: reader.taken.saturating_add(len),
+        }),
+        ..reader.place
+    }
 }
 
 /// Skips blanks, comments and line markers. Answers whether there were any.
@@ -51,7 +66,7 @@ fn skip_gap<'t>(reader: &mut Reader<'t>) -> Result<bool, DialectError<'t>> {
     for _ in 0..most {
         match gap_at(reader.left) {
             Gap::Nothing => return Ok(reader.left.len() < most),
-            Gap::Unclosed => return Err(refused(Mistake::Syntax, reader.place)),
+            Gap::Unclosed => return Err(refused(Mistake::Syntax, here(reader, 2))),
             Gap::Skipped(n) => {
                 take(reader, n);
             }
@@ -74,13 +89,13 @@ fn next<'t>(reader: &mut Reader<'t>) -> Result<Option<Token<'t>>, DialectError<'
     if reader.left.is_empty() {
         return Ok(None);
     }
-    let place = reader.place;
     if !reader.in_value && begins(reader.left, b'\\') {
         take(reader, 1);
     }
     let Some((kind, len)) = front_token(reader.in_value, reader.left) else {
-        return Err(refused(Mistake::Syntax, place));
+        return Err(refused(Mistake::Syntax, here(reader, 1)));
     };
+    let place = here(reader, len);
     match kind {
         Kind::Equals => reader.in_value = true,
         Kind::Semicolon => reader.in_value = false,

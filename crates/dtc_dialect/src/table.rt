@@ -92,7 +92,7 @@ impl<'t> Table<'t> {
             name: b"",
             parent: ROOT,
             depth: 0,
-            place: Place { file: b"", line: 1 },
+            place: Place::first(b""),
             made: 1,
             deleted: 0,
             omit: false,

@@ -1,5 +1,12 @@
 //! The tokens of a source in dtc's dialect, with their places in the files of the user.
 
+/// Bytes of a text: the first, and the one behind the last.
+#[derive(Clone, Copy, Debug)]
+pub struct Span {
+    pub start: usize,
+    pub end: usize,
+}
+
 /// A line of a file.
 #[derive(Clone, Copy, Debug)]
 pub struct Place<'t> {
@@ -7,6 +14,19 @@ pub struct Place<'t> {
     pub file: &'t [u8],
     /// From 1.
     pub line: usize,
+    /// The bytes of the text that are meant, where they are known.
+    pub span: Option<Span>,
+}
+
+impl<'t> Place<'t> {
+    /// The first line of a file.
+    pub fn first(file: &'t [u8]) -> Place<'t> {
+        Place {
+            file,
+            line: 1,
+            span: None,
+        }
+    }
 }
 
 /// What a token is. What no edit depends on is `Other`: the compiler judges it.

@@ -2,7 +2,7 @@
 
 use crate::host::{Fault, Host};
 use crate::options::BadWord;
-use dtc_dialect::{DialectError, Incomplete, Mistake, Place, user_place};
+use dtc_dialect::{DialectError, Incomplete, Place, columns_of, user_place};
 use std::alloc::{AllocError, AllocFailed, Global};
 
 /// Why a run ended without its output.
@@ -33,30 +33,20 @@ impl<T: Drop> From<AllocFailed<T>> for Failure<'_> {
     }
 }
 
-/// The name of a mistake, as the compiler has it.
-fn name_of(mistake: Mistake) -> &'static str {
-    match mistake {
-        Mistake::Syntax => "Syntax",
-        Mistake::TooDeep | Mistake::DeepNode => "TooDeep",
-        Mistake::NoLabel => "UnknownLabel",
-        Mistake::LabelTwice => "DuplicateLabel",
-        Mistake::NoPath => "UnknownPath",
-        Mistake::Reserved => "ReservedName",
-    }
-}
-
-/// Says that a source isn't taken, and where.
+/// Says that a source isn't taken, and where in its text.
 pub(crate) fn report_dialect<H: Host>(
     alloc: Global,
     host: &mut H,
+    text: &[u8],
     error: &DialectError<'_>,
 ) -> Failure<'static> {
     match error {
         DialectError::NoMemory => Failure::NoMemory,
         DialectError::Refused(refusal) => {
             let number = refusal.mistake as u8;
-            let name = name_of(refusal.mistake);
-            said(report_at(alloc, host, Some(refusal.place), number, name))
+            let name = refusal.mistake.name();
+            let place = Some(refusal.place);
+            said(report_at(alloc, host, text, place, number, name))
         }
     }
 }
@@ -76,7 +66,7 @@ pub(crate) fn report_fault<H: Host>(
         Some(line) => Some(user_place(file, text, line)),
         None => None,
     };
-    said(report_at(alloc, host, place, fault.number, fault.name))
+    said(report_at(alloc, host, text, place, fault.number, fault.name))
 }
 
 fn said(reported: Result<(), AllocError>) -> Failure<'static> {
@@ -86,10 +76,12 @@ fn said(reported: Result<(), AllocError>) -> Failure<'static> {
     }
 }
 
-/// `Error: FILE:LINE error NUMBER NAME`
+/// `Error: FILE:LINE.COLUMN-COLUMN error NUMBER NAME`, with the columns where they are known: the first, and the one behind
+/// the last.
 fn report_at<H: Host>(
     alloc: Global,
     host: &mut H,
+    text: &[u8],
     place: Option<Place<'_>>,
     number: u8,
     name: &str,
@@ -98,7 +90,13 @@ fn report_at<H: Host>(
     if let Some(place) = place {
         line.extend_from_slice(place.file)?;
         let at = place.line;
-        line.extend_from_slice(format!(in alloc; ":{at} ")?.as_bytes())?;
+        line.extend_from_slice(format!(in alloc; ":{at}")?.as_bytes())?;
+        if let Some(span) = place.span {
+            let columns = columns_of(text, span);
+            let (first, behind) = (columns.start, columns.end);
+            line.extend_from_slice(format!(in alloc; ".{first}-{behind}")?.as_bytes())?;
+        }
+        line.extend_from_slice(b" ")?;
     }
     let words = format!(in alloc; "error {number} {name}\n")?;
     line.extend_from_slice(words.as_bytes())?;

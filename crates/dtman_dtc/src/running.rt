@@ -131,7 +131,7 @@ fn compiled<H: Host, C: Compiler>(
     };
     let text = match rewrite(alloc, hasher, wanted, whole.as_slice()) {
         Ok(text) => text,
-        Err(error) => return Err(report_dialect(alloc, host, &error)),
+        Err(error) => return Err(report_dialect(alloc, host, whole.as_slice(), &error)),
     };
     match compiler.compile(alloc, hasher, text.as_slice(), options.symbols) {
         Ok(mut blob) => {
