@@ -34,14 +34,20 @@ struct Run {
     printed: &'static [u8],
 }
 
-fn prints<R: AllocGlobal + Threads + Sync + Abort>(rt: &R, hasher: RandomState, run: &Run) {
+/// That a run with something on standard input prints this, and writes no file.
+fn prints<R: AllocGlobal + Threads + Sync + Abort>(
+    rt: &R,
+    hasher: RandomState,
+    words: &[&str],
+    input: &[u8],
+    printed: &[u8],
+) {
     let mut shelf = Shelf::new(rt.alloc(), FILES, hasher);
-    shelf.input = run.input;
-    let traces = run_over(rt, run.words, &mut shelf, None);
+    shelf.input = input;
+    let traces = run_over(rt, words, &mut shelf, None);
     assert_eq!(rt; traces.errors.as_str(), "");
     assert_eq!(rt; traces.status, 0);
-    assert_eq!(rt; traces.output.as_slice(), run.printed);
-    // No file was written.
+    assert_eq!(rt; traces.output.as_slice(), printed);
     assert!(rt; shelf.has_written("", b""));
 }
 
@@ -96,7 +102,7 @@ fn reads_and_writes_what_a_dash_stands_for(rt: HostRuntime) {
     ];
     let hasher = RandomState::new(&rt).expect(&rt, "a seed");
     for run in RUNS {
-        prints(&rt, hasher, run);
+        prints(&rt, hasher, run.words, run.input, run.printed);
     }
 }
 
