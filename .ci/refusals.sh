@@ -205,4 +205,4 @@ echo "refusals of places: full, closed, unread, missing and endless ones are tol
 
 cd "$root"
 python3 bench/stack/needs.py check
-echo "stacks: the deepest inputs take at most 256 KB of stack in compile, and 64 KB in the other commands"
+echo "stacks: the deepest inputs take at most 256 KB of stack in compile, 512 KB in probe, and 96 KB in the other commands"

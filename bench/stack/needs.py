@@ -10,8 +10,8 @@ import tempfile
 
 PROGRAM = os.path.abspath("bin/dtman")
 AMPLE = 8192
-README_SIZES = {"compile": 256}
-OTHERS = 64
+README_SIZES = {"compile": 256, "probe": 512}
+OTHERS = 96
 
 # An operator of each rank, each binding more tightly than the one before it.
 RISING = "1 || 1 && 1 | 1 ^ 1 & 1 == 1 < 1 << 1 + 1 * "
