@@ -13,7 +13,7 @@ use Rattle.bus_board.specs.Opening.{was_begun}
 use Rattle.bus_board.specs.Outcomes.{History, outcome_of, IsFront}
 use Rattle.bus_board.specs.Rule.{Kept}
 use Rattle.bus_board.specs.Views.{flies}
-use Rattle.bus_board.specs.Words.{number_of, word_at, is_bound_word, settled_as, IsRetried}
+use Rattle.bus_board.specs.Words.{FRESH, WOKEN, number_of, word_at, is_bound_word, settled_as, IsRetried}
 use Rattle.bus_board.specs.declared.view.View.{View}
 use Rattle.bus_board.specs.declared.words.Word.{Word}
 use Rattle.bus_board.specs.declared.words.Word.TheVariants.{Fresh, Trying, Waiting, Woken, Retrying, Bound, Failed, Unmatched}
@@ -54,7 +54,7 @@ pub record Stood (plan : List PlannedDevice) (log : History) (v : View) (words :
 -- As far as the seat knows nothing is left to do: each device with a driver was begun before the board was opened, or by the seat
 -- itself or one that was given back to it; it has no flight, and each device that is ready for what it has seen has settled there.
 pub record IsDone (plan : List PlannedDevice) (v : View) : Type 0 where
-  pub begun : (d : ℕ) → is_matched plan d ≡ true → (was_begun plan v.opening d ≡ true) ⊎ Among v.claimed d 0
+  pub begun : (d : ℕ) → is_matched plan d ≡ true → (was_begun plan v.opening d ≡ true) ⊎ Among v.claimed d FRESH
   pub idle : v.flight ≡ None
   pub settled : (d : ℕ) → is_ready plan (bound_in v.seen) d ≡ true → is_settled v.seen d ≡ true
 
@@ -72,11 +72,11 @@ pub record EndsAs (plan : List PlannedDevice) (v : View) (words : List Word) (qu
   pub outcomes : (d : ℕ) → d < length plan → outcome_of log d ≡ settled_as (number_of (word_at words d))
   pub unmatched : (d : ℕ) → d < length plan → (word_at words d ≡ Unmatched) ↔ (is_matched plan d ≡ false)
   pub begun : (d : ℕ) → d < length plan → was_begun plan v.opening d ≡ true → word_at words d ≢ Fresh
-  pub passed : (d : ℕ) → d < length plan → Among v.passed d 0 → word_at words d ≢ Fresh
+  pub passed : (d : ℕ) → d < length plan → Among v.passed d FRESH → word_at words d ≢ Fresh
   pub claimed : (d w : ℕ) → d < length plan → Among v.claimed d w → word_at words d ≢ Fresh
-  pub retried : (d : ℕ) → d < length plan → Among v.claimed d 3 → IsRetried (number_of (word_at words d))
-  pub trying : (d : ℕ) → d < length plan → Among v.claimed d 0 → word_at words d ≡ Trying → flies d v ≡ 1
-  pub retrying : (d : ℕ) → d < length plan → Among v.claimed d 3 → word_at words d ≡ Retrying → flies d v ≡ 1
+  pub retried : (d : ℕ) → d < length plan → Among v.claimed d WOKEN → IsRetried (number_of (word_at words d))
+  pub trying : (d : ℕ) → d < length plan → Among v.claimed d FRESH → word_at words d ≡ Trying → flies d v ≡ 1
+  pub retrying : (d : ℕ) → d < length plan → Among v.claimed d WOKEN → word_at words d ≡ Retrying → flies d v ≡ 1
   pub quiet_is : quiet ≡ is_quiet plan words
   pub done : IsDone plan v → quiet ≡ true
   pub least : quiet ≡ true → IsLeast plan (λ d. is_bound_word (word_at words d))

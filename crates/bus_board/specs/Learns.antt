@@ -9,15 +9,16 @@ use Rattle.bus_core.specs.declared.refusal.Refusal.TheVariants.{NoMemory, NotIdl
 use Rattle.bus_core.specs.declared.settle.Settle.{Settle}
 use Rattle.bus_board.specs.Lists.{Has, Among}
 use Rattle.bus_board.specs.Outcomes.{History, IsFront}
+use Rattle.bus_board.specs.Words.{FRESH, WOKEN}
 use Rattle.bus_board.specs.Views.{last_look, made, claimed_by, passed_all, looked, settled_by, deferred, with_debts, both}
 use Rattle.bus_board.specs.declared.view.View.{View}
 use Rattle.bus_board.specs.declared.view.Flight.{Flight}
 
--- `take` answered None: claims were tried and lost, among them each device's from FRESH, 0, and from WOKEN, 3
+-- `take` answered None: claims were tried and lost, among them each device's from FRESH and from WOKEN
 pub record Passed (v w : View) : Type 0 where
   pub log : History
   pub lost : List (ℕ × ℕ)
-  pub all : (d : ℕ) → d < length v.plan → Among lost d 0 × Among lost d 3
+  pub all : (d : ℕ) → d < length v.plan → Among lost d FRESH × Among lost d WOKEN
   pub view : w ≡ passed_all v log lost
   pub front : IsFront v.seen log
   pub lawful : IsBusHistory v.plan log
@@ -28,7 +29,7 @@ pub record Claimed (v w : View) (d : ℕ) : Type 0 where
   pub log : History
   pub lost : List (ℕ × ℕ)
   pub from : ℕ
-  pub from_is : (from ≡ 0) ⊎ (from ≡ 3)
+  pub from_is : (from ≡ FRESH) ⊎ (from ≡ WOKEN)
   pub inside : d < length v.plan
   pub new : ¬ Among v.claimed d from
   pub view : w ≡ claimed_by (passed_all v log lost) log d from

@@ -1,5 +1,4 @@
 -- What holds of a board between any two steps, over the words and all views: the seven clauses of the board.
--- FRESH 0, TRYING 1, WAITING 2, WOKEN 3, RETRYING 4, BOUND 5, FAILED 6, UNMATCHED 7.
 use Rattle.std.specs.Prelude.{◌≡◌, ◌≢◌, ◌↔◌, ℕ, suc, ◌+◌, ◌<◌, ◌≤◌, true, false, if◌then◌else◌, List, [], ◌∷◌, length, take, Option, Some, None, slice_index}
 use mathlib.Core.Option.{some}
 use lib.ListN.{get_elem?}
@@ -14,7 +13,7 @@ use Rattle.bus_board.specs.Lists.{times, Among, total}
 use Rattle.bus_board.specs.Opening.{AreFirst, was_begun}
 use Rattle.bus_board.specs.Outcomes.{History, outcome_of, AllBound, IsFront}
 use Rattle.bus_board.specs.Views.{last_look, claims, flies, owes}
-use Rattle.bus_board.specs.Words.{settled_as, flights_of, flying_word, claimed_word, begins_of, most_retries, IsRetried}
+use Rattle.bus_board.specs.Words.{FRESH, WAITING, WOKEN, UNMATCHED, settled_as, flights_of, flying_word, claimed_word, begins_of, most_retries, IsRetried}
 use Rattle.bus_board.specs.declared.view.Opening.{Opening}
 use Rattle.bus_board.specs.declared.view.View.{View}
 use Rattle.bus_board.specs.declared.view.Flight.{Flight}
@@ -38,9 +37,9 @@ pub record Fits (plan : List PlannedDevice) (log : History) (words : List ℕ) (
   pub seen : IsFront v.seen log
   pub told : IsFront v.told log
   pub mine : (d : ℕ) → outcome_of v.seen d ≡ None → times d v.mine ≡ 0
-  pub claimed : (d w : ℕ) → Among v.claimed d w → slice_index words d ≢ 0
-  pub retried : (d : ℕ) → Among v.claimed d 3 → IsRetried (slice_index words d)
-  pub passed : (d : ℕ) → Among v.passed d 0 → slice_index words d ≢ 0
+  pub claimed : (d w : ℕ) → Among v.claimed d w → slice_index words d ≢ FRESH
+  pub retried : (d : ℕ) → Among v.claimed d WOKEN → IsRetried (slice_index words d)
+  pub passed : (d : ℕ) → Among v.passed d FRESH → slice_index words d ≢ FRESH
   pub flight : (f : Flight) → v.flight ≡ Some f → FlightFits plan log words v.seen f
   pub begun : (f : Flight) → v.flight ≡ Some f → Among v.claimed f.device (claimed_word f.again)
 
@@ -53,15 +52,15 @@ begins_before plan opening d = if was_begun plan opening d then 1 else 0
 -- begun, neither before the board was opened nor by a seat, which is claimed it from FRESH; else it was, once. No two seats claim
 -- it from WOKEN. A WOKEN device is ready; a WAITING one whose suppliers are all bound is owed by some seat.
 pub record Tells (plan : List PlannedDevice) (opening : Opening) (log : History) (views : List View) (d w : ℕ) : Type 0 where
-  pub small : w ≤ 7
+  pub small : w ≤ UNMATCHED
   pub settled : outcome_of log d ≡ settled_as w
   pub flown : total (flies d) views ≡ flights_of w
-  pub begun : total (claims d 0) views + begins_before plan opening d ≡ begins_of w
-  pub retried : total (claims d 3) views ≤ most_retries w
-  pub unmatched : w ≡ 7 → is_matched plan d ≡ false
-  pub matched : is_matched plan d ≡ false → w ≡ 7
-  pub woken : w ≡ 3 → is_ready plan (bound_in log) d ≡ true
-  pub waiting : w ≡ 2 → AllBound plan log d → 0 < total (owes d) views
+  pub begun : total (claims d FRESH) views + begins_before plan opening d ≡ begins_of w
+  pub retried : total (claims d WOKEN) views ≤ most_retries w
+  pub unmatched : w ≡ UNMATCHED → is_matched plan d ≡ false
+  pub matched : is_matched plan d ≡ false → w ≡ UNMATCHED
+  pub woken : w ≡ WOKEN → is_ready plan (bound_in log) d ≡ true
+  pub waiting : w ≡ WAITING → AllBound plan log d → 0 < total (owes d) views
 
 abbrev pub settled_times : Option Outcome → ℕ
 settled_times None = 0

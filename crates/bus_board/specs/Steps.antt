@@ -7,6 +7,7 @@ use Rattle.bus_core.specs.History.{IsBusHistory, IsBusStep}
 use Rattle.bus_core.specs.Step.{settle_of}
 use Rattle.bus_board.specs.Lists.{times, Among}
 use Rattle.bus_board.specs.Outcomes.{History, outcome_of, IsFront}
+use Rattle.bus_board.specs.Words.{BOUND}
 use Rattle.bus_board.specs.Views.{claimed_by, passed_all, looked, settled_by, deferred, caught_up, relieved}
 use Rattle.bus_board.specs.declared.view.View.{View}
 
@@ -34,9 +35,9 @@ pub record Looks (st : Step (Unit {0})) (m : Sat) (r : ℕ) (n : Sat) : Type 0 w
   pub log : History
   pub sees : Sees m.0 log
   pub slots : n.1 ≡ m.1
-  pub view : n.0 ≡ looked m.0 log st.word (r == 5)
-  pub bound : r ≡ 5 → outcome_of log st.word ≡ Some Bound
-  pub not_bound : r ≢ 5 → outcome_of m.0.seen st.word ≢ Some Bound
+  pub view : n.0 ≡ looked m.0 log st.word (r == BOUND)
+  pub bound : r ≡ BOUND → outcome_of log st.word ≡ Some Bound
+  pub not_bound : r ≢ BOUND → outcome_of m.0.seen st.word ≢ Some Bound
 
 -- 3 and 4, a bind and a fail: a store, TRYING or RETRYING to BOUND or FAILED
 pub record Settles (st : Step (Unit {0})) (m : Sat) (r : ℕ) (n : Sat) : Type 0 where
@@ -58,8 +59,8 @@ pub record Checks (st : Step (Unit {0})) (m : Sat) (r : ℕ) (n : Sat) : Type 0 
   pub log : History
   pub sees : Sees m.0 log
   pub slots : n.1 ≡ m.1
-  pub bound : r ≡ 5 → (n.0 ≡ caught_up m.0 log) × (outcome_of log st.word ≡ Some Bound)
-  pub dropped : r ≢ 5 → n.0 ≡ relieved m.0 log
+  pub bound : r ≡ BOUND → (n.0 ≡ caught_up m.0 log) × (outcome_of log st.word ≡ Some Bound)
+  pub dropped : r ≢ BOUND → n.0 ≡ relieved m.0 log
 
 -- 7, a wake: a compare-exchange of the first owed device's word, WAITING to WOKEN
 pub record Wakes (st : Step (Unit {0})) (m : Sat) (r : ℕ) (n : Sat) : Type 0 where

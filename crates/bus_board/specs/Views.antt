@@ -8,6 +8,7 @@ use Rattle.bus_core.specs.Step.{settle_of}
 use Rattle.bus_board.specs.Lists.{pairs, times}
 use Rattle.bus_board.specs.Opening.{opening_of, nothing_before}
 use Rattle.bus_board.specs.Outcomes.{History, longer, shorter}
+use Rattle.bus_board.specs.Words.{WOKEN}
 use Rattle.bus_board.specs.declared.view.View.{View}
 use Rattle.bus_board.specs.declared.view.Flight.{Flight}
 
@@ -92,7 +93,7 @@ claimed_by v log d w = record {
   seen = log;
   told = v.told;
   mine = v.mine;
-  flight = Some (record { device = d; at = length log; again = w == 3; looks = [] });
+  flight = Some (record { device = d; at = length log; again = w == WOKEN; looks = [] });
   claimed = (d, w) ∷ v.claimed;
   passed = v.passed;
   owed = v.owed;

@@ -5,63 +5,87 @@ use Rattle.bus_core.specs.declared.settle.Outcome.TheVariants as outcome
 use Rattle.bus_board.specs.declared.words.Word.{Word}
 use Rattle.bus_board.specs.declared.words.Word.TheVariants.{Fresh, Trying, Waiting, Woken, Retrying, Bound, Failed, Unmatched}
 
+abbrev pub FRESH : ℕ
+FRESH = 0
+
+abbrev pub TRYING : ℕ
+TRYING = 1
+
+abbrev pub WAITING : ℕ
+WAITING = 2
+
+abbrev pub WOKEN : ℕ
+WOKEN = 3
+
+abbrev pub RETRYING : ℕ
+RETRYING = 4
+
+abbrev pub BOUND : ℕ
+BOUND = 5
+
+abbrev pub FAILED : ℕ
+FAILED = 6
+
+abbrev pub UNMATCHED : ℕ
+UNMATCHED = 7
+
 abbrev pub number_of : Word → ℕ
-number_of Fresh = 0
-number_of Trying = 1
-number_of Waiting = 2
-number_of Woken = 3
-number_of Retrying = 4
-number_of Bound = 5
-number_of Failed = 6
-number_of Unmatched = 7
+number_of Fresh = FRESH
+number_of Trying = TRYING
+number_of Waiting = WAITING
+number_of Woken = WOKEN
+number_of Retrying = RETRYING
+number_of Bound = BOUND
+number_of Failed = FAILED
+number_of Unmatched = UNMATCHED
 
 abbrev pub word_of : ℕ → Word
 word_of w =
-    if w == 0 then Fresh
-    else (if w == 1 then Trying
-    else (if w == 2 then Waiting
-    else (if w == 3 then Woken
-    else (if w == 4 then Retrying
-    else (if w == 5 then Bound
-    else (if w == 6 then Failed
+    if w == FRESH then Fresh
+    else (if w == TRYING then Trying
+    else (if w == WAITING then Waiting
+    else (if w == WOKEN then Woken
+    else (if w == RETRYING then Retrying
+    else (if w == BOUND then Bound
+    else (if w == FAILED then Failed
     else Unmatched))))))
 
--- the outcome that a word tells of: BOUND is 5, FAILED 6
+-- the outcome that a word tells of
 abbrev pub settled_as : ℕ → Option Outcome
-settled_as w = if w == 5 then Some outcome.Bound else (if w == 6 then Some outcome.Failed else None)
+settled_as w = if w == BOUND then Some outcome.Bound else (if w == FAILED then Some outcome.Failed else None)
 
--- how many flights a word tells of: one where it is TRYING, 1, or RETRYING, 4
+-- how many flights a word tells of: one where it is TRYING or RETRYING
 abbrev pub flights_of : ℕ → ℕ
-flights_of w = if w == 1 then 1 else (if w == 4 then 1 else 0)
+flights_of w = if w == TRYING then 1 else (if w == RETRYING then 1 else 0)
 
 -- the word of a flight, by whether it was claimed from WOKEN
 abbrev pub flying_word : Bool → ℕ
-flying_word again = if again then 4 else 1
+flying_word again = if again then RETRYING else TRYING
 
 -- the word that a flight was claimed from
 abbrev pub claimed_word : Bool → ℕ
-claimed_word again = if again then 3 else 0
+claimed_word again = if again then WOKEN else FRESH
 
--- how often a device was begun, which is claimed from FRESH, 0: not where its word is FRESH or UNMATCHED, 7, and else once
+-- how often a device was begun, which is claimed from FRESH: not where its word is FRESH or UNMATCHED, and else once
 abbrev pub begins_of : ℕ → ℕ
-begins_of w = if w == 0 then 0 else (if w == 7 then 0 else 1)
+begins_of w = if w == FRESH then 0 else (if w == UNMATCHED then 0 else 1)
 
--- how often it was claimed from WOKEN at most: once where its word is RETRYING, 4, BOUND, 5, or FAILED, 6
+-- how often it was claimed from WOKEN at most: once where its word is RETRYING, BOUND or FAILED
 abbrev pub most_retries : ℕ → ℕ
-most_retries w = if w == 4 then 1 else (if w == 5 then 1 else (if w == 6 then 1 else 0))
+most_retries w = if w == RETRYING then 1 else (if w == BOUND then 1 else (if w == FAILED then 1 else 0))
 
 -- RETRYING, BOUND or FAILED
 abbrev pub IsRetried : ℕ → Type 0
-IsRetried w = (w ≡ 4) ⊎ (w ≡ 5) ⊎ (w ≡ 6)
+IsRetried w = (w ≡ RETRYING) ⊎ (w ≡ BOUND) ⊎ (w ≡ FAILED)
 
 -- BOUND or FAILED
 abbrev pub end_word : Outcome → ℕ
-end_word outcome.Bound = 5
-end_word outcome.Failed = 6
+end_word outcome.Bound = BOUND
+end_word outcome.Failed = FAILED
 
 -- the word of a device at the end
 abbrev pub word_at : List Word → ℕ → Word
 word_at words d = slice_index_or words d Unmatched
 
 abbrev pub is_bound_word : Word → Bool
-is_bound_word w = number_of w == 5
+is_bound_word w = number_of w == BOUND

@@ -43,7 +43,7 @@ abbrev IsLawfulSaid : PlanLine → Type 0
 IsLawfulSaid (Device d) = IsLawfulLine d
 IsLawfulSaid (Strings s) = IsLawfulStrings s
 
-pub record IsLawfulListing (ds : List DeviceLine) : Type 0 where
+pub record AreLawfulLines (ds : List DeviceLine) : Type 0 where
   pub few : length ds ≤ most_devices
   pub distinct : are_distinct (line_paths ds) ≡ true
   pub lines : All IsLawfulLine ds
@@ -148,10 +148,10 @@ refusal_none ds d e = by_test (is_among d.path (line_paths ds)) (nat_le most_dev
     by_test false false e = (refl, refl)
 
 lawful-step : (ls : List (List ℕ)) (n : ℕ) (ds : List DeviceLine) (ss : List StringsLine) (m : Result (Option PlanLine) PlanError)
-    → meaning_at ls n ≡ m → option_to_list (fault_of ds ss m) ≡ [] → IsLawfulListing ds → IsLawfulListing (ds ++ option_to_list (device_on m))
+    → meaning_at ls n ≡ m → option_to_list (fault_of ds ss m) ≡ [] → AreLawfulLines ds → AreLawfulLines (ds ++ option_to_list (device_on m))
 lawful-step ls n ds ss (Err e) says none lawful = absurd (cc)
-lawful-step ls n ds ss (Ok None) says none lawful = subst IsLawfulListing (sym (append-nil ds)) lawful
-lawful-step ls n ds ss (Ok (Some (Strings s))) says none lawful = subst IsLawfulListing (sym (append-nil ds)) lawful
+lawful-step ls n ds ss (Ok None) says none lawful = subst AreLawfulLines (sym (append-nil ds)) lawful
+lawful-step ls n ds ss (Ok (Some (Strings s))) says none lawful = subst AreLawfulLines (sym (append-nil ds)) lawful
 lawful-step ls n ds ss (Ok (Some (Device d))) says none lawful =
     let new = refusal_none ds d none in
     let room : length ds < most_devices = leb-false most_devices (length ds) new.1 in
@@ -180,7 +180,7 @@ append-empty : (xs ys : List PlanError) → xs ++ ys ≡ [] → (xs ≡ []) × (
 append-empty [] ys e = (refl, e)
 append-empty (x ∷ xs) ys e = absurd (cc)
 
-pub lawful-before : (ls : List (List ℕ)) (n : ℕ) → faults_before ls n ≡ [] → IsLawfulListing (devices_before ls n)
+pub lawful-before : (ls : List (List ℕ)) (n : ℕ) → faults_before ls n ≡ [] → AreLawfulLines (devices_before ls n)
 lawful-before ls zero none = record { few = omega arith; distinct = refl; lines = All-nil IsLawfulLine }
 lawful-before ls (suc n) none =
     let parts = append-empty (faults_before ls n) (option_to_list (fault_at ls n)) none in

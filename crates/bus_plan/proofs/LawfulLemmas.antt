@@ -17,7 +17,7 @@ use Rattle.bus_plan.specs.PlanFile.{line_paths, is_unmatched, misfit_of, strings
 use Rattle.bus_plan.specs.Private.Reading.{Listed, IsFaultless, first_unknown, first_misfit, late_fault}
 use Rattle.bus_plan.proofs.BoolLemmas.{and-left, and-right, and_false}
 use Rattle.bus_plan.proofs.DistinctLemmas.{bytes_eq-refl, bytes_eq-same, distinct-pairs, place-holds, known-here, places-within}
-use Rattle.bus_plan.proofs.FaultlessLemmas.{IsLawfulLine, IsLawfulStrings, IsLawfulListing, lawful-before, lawful-strings_before}
+use Rattle.bus_plan.proofs.FaultlessLemmas.{IsLawfulLine, IsLawfulStrings, AreLawfulLines, lawful-before, lawful-strings_before}
 use Rattle.bus_plan.proofs.LateFaults.{none-late}
 
 -- ---- every supplier is known
@@ -161,7 +161,7 @@ no-supplier : (k : ℕ) → Contains [] k → ⊥
 no-supplier k found = let within : found.0 < 0 = found.1 in absurd (omega arith)
 
 -- ---- the plan
-lawful-plan : (ds : List DeviceLine) (ss : List StringsLine) → IsLawfulListing ds → All IsLawfulStrings ss
+lawful-plan : (ds : List DeviceLine) (ss : List StringsLine) → AreLawfulLines ds → All IsLawfulStrings ss
     → first_unknown (line_paths ds) ds ≡ None → first_misfit ds ss ≡ None → IsLawful (plan_of ds ss)
 lawful-plan ds ss lawful strings none fit =
     let known = line_paths ds in
@@ -193,10 +193,10 @@ lawful-plan ds ss lawful strings none fit =
 -- the plan of what lines list
 pub lawful-listed : (l : Listed) (plan : List PlannedDevice) → IsFaultless l → late_fault l ≡ None → plan ≡ plan_of l.devices l.lists → IsLawful plan
 lawful-listed l plan faultless none is =
-    let listing : IsLawfulListing l.devices = subst (λ k. IsLawfulListing k.devices) (sym faultless.2) (lawful-before faultless.0 faultless.1 faultless.3) in
+    let file : AreLawfulLines l.devices = subst (λ k. AreLawfulLines k.devices) (sym faultless.2) (lawful-before faultless.0 faultless.1 faultless.3) in
     let strings : All IsLawfulStrings l.lists = subst (λ k. All IsLawfulStrings k.lists) (sym faultless.2) (lawful-strings_before faultless.0 faultless.1) in
     let both = none-late l none in
-    subst IsLawful (sym is) (lawful-plan l.devices l.lists listing strings both.0 both.1)
+    subst IsLawful (sym is) (lawful-plan l.devices l.lists file strings both.0 both.1)
 
 pub paths-listed : (ds : List DeviceLine) (ss : List StringsLine) (plan : List PlannedDevice) (index : List (List ℕ)) → plan ≡ plan_of ds ss → index ≡ line_paths ds → index ≡ paths plan
 paths-listed ds ss plan index is agrees = agrees ∙ sym (ap paths is ∙ paths-planned (line_paths ds) ss ds)

@@ -4,7 +4,7 @@ pub mod BoolLemmas
 pub mod PathLemmas
 pub mod PathSets
 pub mod Lookups
-pub mod ListingLemmas
+pub mod PlanFileLemmas
 pub mod PlanLemmas
 pub mod DistinctLemmas
 pub mod FaultlessLemmas

@@ -24,7 +24,7 @@ use Rattle.bus_plan.specs.PlanText.{device_text, has_strings, strings_text, stri
 use Rattle.bus_plan.proofs.BoolLemmas.{and-left, and-right, and_both, or-left, or-right, not-true}
 use Rattle.bus_plan.proofs.DistinctLemmas.{before-absent, distinct-pairs, pairs-distinct, bytes_eq-refl, bytes_eq-same}
 use Rattle.bus_plan.proofs.LawfulLemmas.{find-here}
-use Rattle.bus_plan.proofs.ListingLemmas.{refusal-none}
+use Rattle.bus_plan.proofs.PlanFileLemmas.{refusal-none}
 use Rattle.bus_plan.proofs.TextLines.{lines-more, lines-joined}
 use Rattle.bus_plan.proofs.TextMeaning.{line_of, list_of, path-at, path-injective, line-means, text-lines, strings-mean, strings-lines}
 

@@ -1,8 +1,8 @@
 ghost use Rattle.bus_plan.specs.PlanFile.{reading, Answers};
 
 use crate::error::PlanError;
-use crate::listing::Listing;
 use crate::plan::Plan;
+use crate::plan_file::PlanFile;
 use std::alloc::Global;
 use std::hash::RandomState;
 
@@ -10,6 +10,6 @@ use std::hash::RandomState;
 pub fn read_plan(alloc: Global, hasher: RandomState, text: &[u8]) -> Result<Plan, PlanError>
     ensures { Answers (reading text.now) result }
 {
-    let listing = Listing::read(alloc, hasher, text)?;
-    listing.plan(alloc)
+    let file = PlanFile::read(alloc, hasher, text)?;
+    file.plan(alloc)
 }

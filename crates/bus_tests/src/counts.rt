@@ -2,7 +2,7 @@
 //! run that loses a worker's notes or goes on alone from nothing probes more.
 
 use crate::counting::Counting;
-use crate::runs::{Way, run_by};
+use crate::runs::{Sharing, run_by};
 use bus_plan::{Device, Plan, read_plan};
 use std::alloc::Global;
 use std::hash::RandomState;
@@ -38,17 +38,17 @@ const SHAPES: &[Shape] = &[
     Shape::Cycle,
 ];
 
-const RUNS: &[(Way, usize)] = &[
-    (Way::Board, 1),
-    (Way::Board, 2),
-    (Way::Board, 4),
-    (Way::Board, 16),
-    (Way::Board, 64),
-    (Way::Lock, 1),
-    (Way::Lock, 2),
-    (Way::Lock, 4),
-    (Way::Lock, 16),
-    (Way::Lock, 64),
+const RUNS: &[(Sharing, usize)] = &[
+    (Sharing::Board, 1),
+    (Sharing::Board, 2),
+    (Sharing::Board, 4),
+    (Sharing::Board, 16),
+    (Sharing::Board, 64),
+    (Sharing::Lock, 1),
+    (Sharing::Lock, 2),
+    (Sharing::Lock, 4),
+    (Sharing::Lock, 16),
+    (Sharing::Lock, 64),
 ];
 
 const DEVICES: u32 = 48;
@@ -125,11 +125,11 @@ fn counted_run<R: Threads + Wait + Sync + Abort>(
     alloc: Global,
     shape: Shape,
     plan: &Plan,
-    way: Way,
+    sharing: Sharing,
     workers: usize,
 ) {
     let prober = Counting::new(alloc, plan.len()).expect(rt, "room");
-    let _ran = run_by(way, rt, alloc, plan, &prober, workers).expect(rt, "a run");
+    let _ran = run_by(sharing, rt, alloc, plan, &prober, workers).expect(rt, "a run");
     for device in 0..DEVICES {
         is_probed(rt, &prober, shape, device, workers);
     }
@@ -143,8 +143,8 @@ fn counted_runs<R: Threads + Wait + Sync + Abort>(
 ) {
     let text = plan_text(rt, alloc, shape);
     let plan = read_plan(alloc, hasher, text.as_str().as_bytes()).expect(rt, "a plan");
-    for (way, workers) in RUNS {
-        counted_run(rt, alloc, shape, &plan, *way, *workers);
+    for (sharing, workers) in RUNS {
+        counted_run(rt, alloc, shape, &plan, *sharing, *workers);
     }
 }
 

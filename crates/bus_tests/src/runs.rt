@@ -12,50 +12,50 @@ use std::process::Abort;
 use std::sync::Wait;
 use std::thread::Threads;
 
-/// The two ways of a run.
+/// How the workers of a run share its bus.
 #[derive(Clone, Copy, Debug, PartialEq, Eq)]
-pub(crate) enum Way {
+pub(crate) enum Sharing {
     Board,
     Lock,
 }
 
-const WAYS: [Way; 2] = [Way::Board, Way::Lock];
+const SHARINGS: [Sharing; 2] = [Sharing::Board, Sharing::Lock];
 
 // The most workers that a run may have.
 const MOST: usize = 64;
 
-// Each way with one, two and the most workers.
-const LAWFUL: &[(Way, usize)] = &[
-    (Way::Board, 1),
-    (Way::Board, 2),
-    (Way::Board, MOST),
-    (Way::Lock, 1),
-    (Way::Lock, 2),
-    (Way::Lock, MOST),
+// Each sharing with one, two and the most workers.
+const LAWFUL: &[(Sharing, usize)] = &[
+    (Sharing::Board, 1),
+    (Sharing::Board, 2),
+    (Sharing::Board, MOST),
+    (Sharing::Lock, 1),
+    (Sharing::Lock, 2),
+    (Sharing::Lock, MOST),
 ];
 
-// Each way with numbers of workers that are refused.
-const UNLAWFUL: &[(Way, usize)] = &[
-    (Way::Board, 0),
-    (Way::Board, 65),
-    (Way::Board, usize::MAX),
-    (Way::Lock, 0),
-    (Way::Lock, 65),
-    (Way::Lock, usize::MAX),
+// Each sharing with numbers of workers that are refused.
+const UNLAWFUL: &[(Sharing, usize)] = &[
+    (Sharing::Board, 0),
+    (Sharing::Board, 65),
+    (Sharing::Board, usize::MAX),
+    (Sharing::Lock, 0),
+    (Sharing::Lock, 65),
+    (Sharing::Lock, usize::MAX),
 ];
 
-/// A run by one of the two ways.
+/// A run whose workers share its bus so.
 pub(crate) fn run_by<P: Prober, R: Threads + Wait + Sync>(
-    way: Way,
+    sharing: Sharing,
     rt: &R,
     alloc: Global,
     plan: &Plan,
     prober: &P,
     workers: usize,
 ) -> Result<Ran<P::Note>, RunError> {
-    match way {
-        Way::Board => run(rt, alloc, plan, prober, workers),
-        Way::Lock => run_locked(rt, alloc, plan, prober, workers),
+    match sharing {
+        Sharing::Board => run(rt, alloc, plan, prober, workers),
+        Sharing::Lock => run_locked(rt, alloc, plan, prober, workers),
     }
 }
 
@@ -104,7 +104,7 @@ pub fn has_run(rt: &impl Abort, name: &str, ran: &Ran<Device>, report: &str, set
 }
 
 fn runs_by<R: Threads + Wait + Sync + Abort>(
-    way: Way,
+    sharing: Sharing,
     rt: &R,
     alloc: Global,
     plan: &Plan,
@@ -112,7 +112,7 @@ fn runs_by<R: Threads + Wait + Sync + Abort>(
     row: &Row,
 ) {
     let (name, _, report, settled) = row;
-    let ran = run_by(way, rt, alloc, plan, &TableProber, workers).expect(rt, "a run");
+    let ran = run_by(sharing, rt, alloc, plan, &TableProber, workers).expect(rt, "a run");
     has_run(rt, *name, &ran, *report, *settled);
 }
 
@@ -124,8 +124,8 @@ fn row_runs<R: Threads + Wait + Sync + Abort>(
 ) {
     let (_, text, ..) = row;
     let plan = read_plan(alloc, hasher, text.as_bytes()).expect(rt, "a plan");
-    for (way, workers) in LAWFUL {
-        runs_by(*way, rt, alloc, &plan, *workers, row);
+    for (sharing, workers) in LAWFUL {
+        runs_by(*sharing, rt, alloc, &plan, *workers, row);
     }
 }
 
@@ -138,13 +138,13 @@ fn runs(rt: HostRuntime) {
 }
 
 fn is_refused<R: Threads + Wait + Sync + Abort>(
-    way: Way,
+    sharing: Sharing,
     rt: &R,
     alloc: Global,
     plan: &Plan,
     workers: usize,
 ) {
-    let answer = run_by(way, rt, alloc, plan, &TableProber, workers);
+    let answer = run_by(sharing, rt, alloc, plan, &TableProber, workers);
     let refusal = answer.err().expect(rt, "it ran");
     assert_eq!(rt; refusal, RunError::TooManyWorkers);
     assert_eq!(rt; (refusal.number(), refusal.name()), (70, "TooManyWorkers"));
@@ -154,14 +154,19 @@ fn is_refused<R: Threads + Wait + Sync + Abort>(
 fn refuses_other_numbers_of_workers(rt: HostRuntime) {
     let hasher = RandomState::new(&rt).expect(&rt, "a seed");
     let plan = read_plan(rt.alloc(), hasher, b"/a x ok\n").expect(&rt, "a plan");
-    for (way, workers) in UNLAWFUL {
-        is_refused(*way, &rt, rt.alloc(), &plan, *workers);
+    for (sharing, workers) in UNLAWFUL {
+        is_refused(*sharing, &rt, rt.alloc(), &plan, *workers);
     }
 }
 
-fn probes_overlap<R: Threads + Wait + Sync + Abort>(way: Way, rt: &R, alloc: Global, plan: &Plan) {
+fn probes_overlap<R: Threads + Wait + Sync + Abort>(
+    sharing: Sharing,
+    rt: &R,
+    alloc: Global,
+    plan: &Plan,
+) {
     let gate = Gate::new();
-    let ran = run_by(way, rt, alloc, plan, &gate, 2).expect(rt, "a run");
+    let ran = run_by(sharing, rt, alloc, plan, &gate, 2).expect(rt, "a run");
     let report = "/a bound x\n/b bound y\nquiet\n";
     assert_eq!(rt; ran.report.as_slice(), report.as_bytes());
     assert!(rt; gate.has_overlapped(), "the probes overlap");
@@ -171,8 +176,8 @@ fn probes_overlap<R: Threads + Wait + Sync + Abort>(way: Way, rt: &R, alloc: Glo
 fn gate_two_probes(rt: HostRuntime) {
     let hasher = RandomState::new(&rt).expect(&rt, "a seed");
     let plan = read_plan(rt.alloc(), hasher, b"/a x ok\n/b y ok\n").expect(&rt, "a plan");
-    for way in &WAYS {
-        probes_overlap(*way, &rt, rt.alloc(), &plan);
+    for sharing in &SHARINGS {
+        probes_overlap(*sharing, &rt, rt.alloc(), &plan);
     }
 }
 
@@ -226,8 +231,8 @@ fn round_reports<R: Threads + Wait + Sync + Abort>(
     report: &[u8],
 ) {
     let workers = 1 + round % MOST;
-    let way = WAYS[round % 2];
-    let ran = run_by(way, rt, alloc, plan, &TableProber, workers).expect(rt, "a run");
+    let sharing = SHARINGS[round % 2];
+    let ran = run_by(sharing, rt, alloc, plan, &TableProber, workers).expect(rt, "a run");
     assert_eq!(rt; ran.report.as_slice(), report, "by {workers}");
 }
 

@@ -3,9 +3,9 @@
 //! The C preprocessor's manual, section 9, says what its line markers mean.
 #![tactic(auto)]
 
+mod located;
 mod marker;
 mod position;
-mod spot;
 
+pub use located::{LocatedLexeme, lexeme_at, locate, named};
 pub use position::{Position, position_of};
-pub use spot::{Spot, lexeme_at, named, spot_of};

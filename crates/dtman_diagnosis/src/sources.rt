@@ -4,7 +4,7 @@ use crate::alike::nearest;
 use crate::diagnosis::{Diagnosis, Note, Place, Subject, copied};
 use crate::refused::{Stop, stop_of};
 use dt_lexeme::{Kind, Lexeme, scan_front};
-use dt_place::{position_of, spot_of};
+use dt_place::{locate, position_of};
 use dt_source::MAX_SOURCE_LEN;
 use dt_trace::{Around, Culprit, Trace, fragment_names, trace_source, whereabouts};
 use std::alloc::{AllocError, Global};
@@ -111,23 +111,26 @@ impl<'a> Refused<'a> {
         stop: Stop,
         lexeme: Lexeme,
     ) -> Result<Diagnosis, AllocError> {
-        let Some(spot) = spot_of(self.text, lexemes, stop.index) else {
+        let Some(found) = locate(self.text, lexemes, stop.index) else {
             return self.whole(alloc);
         };
         let place = (lexeme.start as usize).saturating_add(stop.offset);
         let (start, end) = match self.number {
-            11 => (spot.lexeme.start as usize, element_end(lexemes, stop.index)),
+            11 => (
+                found.lexeme.start as usize,
+                element_end(lexemes, stop.index),
+            ),
             15 => (place, place.saturating_add(2)),
-            _ => (spot.lexeme.start as usize, spot.lexeme.end as usize),
+            _ => (found.lexeme.start as usize, found.lexeme.end as usize),
         };
         let subject = match self.number {
-            13 => spot.name,
+            13 => found.name,
             _ => self.text.get(start..end).unwrap_or(&[]),
         };
         Ok(Diagnosis {
             number: self.number,
             place: self.place(alloc, start, end)?,
-            kind: subject_of(spot.lexeme.kind),
+            kind: subject_of(found.lexeme.kind),
             subject: copied(alloc, subject)?,
             notes: Vec::new(alloc),
         })
@@ -189,8 +192,8 @@ impl<'a> Refused<'a> {
         lexemes: &[Lexeme],
     ) -> Result<(), AllocError> {
         let property = match around.property {
-            Some(index) => match spot_of(self.text, lexemes, index) {
-                Some(spot) => Some(copied(alloc, spot.name)?),
+            Some(index) => match locate(self.text, lexemes, index) {
+                Some(found) => Some(copied(alloc, found.name)?),
                 None => None,
             },
             None => None,
@@ -226,14 +229,18 @@ impl<'a> Refused<'a> {
         lexemes: &[Lexeme],
         trace: &Trace<'_>,
     ) -> Result<Diagnosis, AllocError> {
-        let Some(spot) = spot_of(self.text, lexemes, trace.culprit.lexeme) else {
+        let Some(found) = locate(self.text, lexemes, trace.culprit.lexeme) else {
             return self.whole(alloc);
         };
         let mut diagnosis = Diagnosis {
             number: self.number,
-            place: self.place(alloc, spot.lexeme.start as usize, spot.lexeme.end as usize)?,
-            kind: subject_of(spot.lexeme.kind),
-            subject: copied(alloc, spot.name)?,
+            place: self.place(
+                alloc,
+                found.lexeme.start as usize,
+                found.lexeme.end as usize,
+            )?,
+            kind: subject_of(found.lexeme.kind),
+            subject: copied(alloc, found.name)?,
             notes: Vec::new(alloc),
         };
         self.add_around(alloc, &mut diagnosis, &trace.around, lexemes)?;
@@ -242,14 +249,14 @@ impl<'a> Refused<'a> {
             diagnosis.notes.push(Note::Earlier(place))?;
         }
         if self.number == 27 {
-            let words = match spot.lexeme.kind {
-                Kind::Name => kept_for(spot.name),
+            let words = match found.lexeme.kind {
+                Kind::Name => kept_for(found.name),
                 _ => barred(&trace.culprit),
             };
             diagnosis.notes.push(Note::Words(words))?;
         }
         if self.number == 20 && !trace.labels.is_empty() {
-            let alike = nearest(alloc, spot.name, trace.labels.as_slice())?;
+            let alike = nearest(alloc, found.name, trace.labels.as_slice())?;
             diagnosis.notes.push(Note::Alike(alike))?;
         }
         Ok(diagnosis)

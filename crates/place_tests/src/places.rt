@@ -1,7 +1,7 @@
 //! Where a byte came from, and what a lexeme names.
 
 use dt_lexeme::{Lexeme, scan};
-use dt_place::{lexeme_at, named, position_of, spot_of};
+use dt_place::{lexeme_at, locate, named, position_of};
 use std::process::Abort;
 
 /// A text before a byte, and the file, line and column of that.
@@ -78,23 +78,23 @@ const NAMES: &[(usize, &str)] = &[
 
 fn is_named(rt: &impl Abort, lexemes: &[Lexeme], row: &(usize, &str)) {
     let (index, name) = row;
-    let spot = spot_of(TEXT, lexemes, *index).expect(rt, "a spot");
-    assert_eq!(rt; spot.name, name.as_bytes());
-    assert_eq!(rt; named(TEXT, spot.lexeme), name.as_bytes());
+    let here = locate(TEXT, lexemes, *index).expect(rt, "a lexeme");
+    assert_eq!(rt; here.name, name.as_bytes());
+    assert_eq!(rt; named(TEXT, here.lexeme), name.as_bytes());
     assert_eq!(rt;
-        lexeme_at(lexemes, spot.lexeme.start as usize),
+        lexeme_at(lexemes, here.lexeme.start as usize),
         Some(*index)
     );
-    assert_eq!(rt; spot.position.file, Some(b"a.dtsi".as_slice()));
+    assert_eq!(rt; here.position.file, Some(b"a.dtsi".as_slice()));
 }
 
 #[test]
-fn spots(rt: HostRuntime) {
+fn lexemes_are_located(rt: HostRuntime) {
     let Ok(lexemes) = scan(rt.alloc(), TEXT) else {
         panic!(rt; "lexemes");
     };
     for row in NAMES {
         is_named(&rt, lexemes.as_slice(), row);
     }
-    assert!(rt; spot_of(TEXT, lexemes.as_slice(), lexemes.len()).is_none());
+    assert!(rt; locate(TEXT, lexemes.as_slice(), lexemes.len()).is_none());
 }

@@ -1,6 +1,6 @@
 use Rattle.std.specs.Vec.Iter.{into_iter_items}
 use Rattle.bus_plan.proofs.PlanLemmas.{IsPlannedTo}
-use Rattle.bus_plan.proofs.listing.plan_all.Given as goal
+use Rattle.bus_plan.proofs.plan_file.plan_all.Given as goal
 
 -- the lines so far are planned
 abbrev pub invariant-loop-line : goal.invariant-loop-line

@@ -1,13 +1,13 @@
 //! Lexemes with what they name and where they came from.
 ghost use Rattle.std.specs.Prelude.{◌≡◌, ◌≤◌, ◌<◌, IfSome, slice_get, slice_range, Some};
-ghost use Rattle.dt_place.specs.Spots.{IsSpot, name_in};
+ghost use Rattle.dt_place.specs.Located.{IsLocated, name_in};
 
 use crate::position::{Position, position_of};
 use dt_lexeme::{Kind, Lexeme};
 
 /// A lexeme of a text: what it names, and where its first byte came from.
 #[derive(Clone, Copy, Debug)]
-pub struct Spot<'a> {
+pub struct LocatedLexeme<'a> {
     pub lexeme: Lexeme,
     pub name: &'a [u8],
     pub position: Position<'a>,
@@ -39,9 +39,9 @@ pub fn named<'a>(text: &'a [u8], lexeme: Lexeme) -> &'a [u8]
     }
 }
 
-/// The spot of the lexeme with this index, if there is one and it lies inside the text.
-pub fn spot_of<'a>(text: &'a [u8], lexemes: &[Lexeme], index: usize) -> Option<Spot<'a>>
-    ensures { IfSome result (λ spot. IsSpot text.now lexemes.now index spot) }
+/// The lexeme with this index, if there is one and it lies inside the text, with what it names and where it came from.
+pub fn locate<'a>(text: &'a [u8], lexemes: &[Lexeme], index: usize) -> Option<LocatedLexeme<'a>>
+    ensures { IfSome result (λ here. IsLocated text.now lexemes.now index here) }
 {
     if index >= lexemes.len() {
         return None;
@@ -53,7 +53,7 @@ pub fn spot_of<'a>(text: &'a [u8], lexemes: &[Lexeme], index: usize) -> Option<S
     if lexeme.end as usize > text.len() {
         return None;
     }
-    Some(Spot {
+    Some(LocatedLexeme {
         lexeme,
         name: named(text, lexeme),
         position: position_of(text, lexeme.start as usize),

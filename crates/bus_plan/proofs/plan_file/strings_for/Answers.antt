@@ -5,7 +5,7 @@ use Rattle.std.specs.Option.{option_map_or}
 use Rattle.std.specs.Str.{bytes_eq}
 use Rattle.bus_plan.specs.PlanFile.{strings_paths, strings_at}
 use Rattle.bus_plan.proofs.Lookups.{found-at, not-found}
-use Rattle.bus_plan.proofs.listing.strings_for.Goals as goal
+use Rattle.bus_plan.proofs.plan_file.strings_for.Goals as goal
 
 pub returns-in-None : goal.returns-in-None
 returns-in-None c =

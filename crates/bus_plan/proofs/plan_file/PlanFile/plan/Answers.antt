@@ -1,11 +1,11 @@
--- The listing's lines are planned by its own paths.
+-- The file's lines are planned by its own paths.
 use Rattle.std.proofs.Common.{◌≡◌, ◌∙◌, ap, sym, ℕ, List, map}
 use Rattle.bus_plan.specs.Plan.{PlannedDevice}
 use Rattle.bus_plan.specs.PlanLines.{DeviceLine, StringsLine}
 use Rattle.bus_plan.specs.PlanFile.{line_paths, planned_of, plan_of}
 use Rattle.bus_plan.specs.Private.Reading.{Listed, late_fault}
 use Rattle.bus_plan.proofs.LawfulLemmas.{lawful-listed, paths-listed}
-use Rattle.bus_plan.proofs.listing.Listing.plan.Goals as goal
+use Rattle.bus_plan.proofs.plan_file.PlanFile.plan.Goals as goal
 
 -- what was planned is the plan of what is listed
 planned-is : (l : Listed) (devices : List DeviceLine) (lists read : List StringsLine) (index : List (List ℕ)) (out : List PlannedDevice)

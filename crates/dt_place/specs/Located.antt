@@ -3,7 +3,7 @@ use Rattle.std.specs.Prelude.{◌≡◌, ℕ, ◌+◌, ◌-◌, ◌<◌, ◌≤�
 use Rattle.dt_lexeme.specs.declared.lexeme.Lexeme.{Lexeme}
 use Rattle.dt_lexeme.specs.declared.lexeme.Kind.{Kind}
 use Rattle.dt_lexeme.specs.declared.lexeme.Kind.TheVariants.{Label, Reference, PathReference}
-use Rattle.dt_place.specs.declared.spot.Spot.{Spot}
+use Rattle.dt_place.specs.declared.located.LocatedLexeme.{LocatedLexeme}
 use Rattle.dt_place.specs.Positions.{site_at, site_of}
 
 -- A label without its colon, what a reference names without `&` and braces, or else the whole lexeme.
@@ -16,11 +16,11 @@ name_between _ text i j = slice_range text i j
 abbrev pub name_in : List ℕ → Lexeme → List ℕ
 name_in text lexeme = name_between lexeme.kind text lexeme.start lexeme.end
 
--- The spot is that of this lexeme: it lies inside the text, the name is the lexeme's, and file, line and column are
+-- This is the lexeme of the text with this index: it lies inside the text, the name is the lexeme's, and file, line and column are
 -- those of its first byte.
-pub record IsSpot (text : List ℕ) (lexemes : List Lexeme) (index : ℕ) (spot : Spot) : Type 0 where
-  pub lexeme : slice_get lexemes index ≡ Some spot.lexeme
-  pub some : spot.lexeme.start < spot.lexeme.end
-  pub inside : spot.lexeme.end ≤ length text
-  pub name : spot.name.now ≡ name_in text spot.lexeme
-  pub site : site_of spot.position ≡ site_at text spot.lexeme.start
+pub record IsLocated (text : List ℕ) (lexemes : List Lexeme) (index : ℕ) (here : LocatedLexeme) : Type 0 where
+  pub lexeme : slice_get lexemes index ≡ Some here.lexeme
+  pub some : here.lexeme.start < here.lexeme.end
+  pub inside : here.lexeme.end ≤ length text
+  pub name : here.name.now ≡ name_in text here.lexeme
+  pub site : site_of here.position ≡ site_at text here.lexeme.start

@@ -21,27 +21,27 @@ use std::marker::Model;
 
 /// What the lines of a plan file list: devices, and the strings of those without a driver.
 #[derive(Drop)]
-pub struct Listing<'a> {
+pub struct PlanFile<'a> {
     devices: Vec<DeviceLine<'a>>,
     index: PathIndex,
     lists: Vec<StringsLine<'a>>,
     described: PathIndex,
 }
 
-impl<'a> Model for Listing<'a> {
+impl<'a> Model for PlanFile<'a> {
     ghost use Rattle.std.specs.Prelude.{◌≡◌};
     ghost use Rattle.bus_plan.specs.PlanFile.{line_paths, strings_paths};
     ghost use Rattle.bus_plan.specs.Private.Reading.{Listed};
 
     ghost Value = { Listed };
 
-    ghost view = { λ listing. record { devices = listing.devices.items; lists = listing.lists.items } };
+    ghost view = { λ file. record { devices = file.devices.items; lists = file.lists.items } };
 
-    ghost invariant = { λ listing. (listing.index ≡ line_paths listing.devices.items)
-        × (listing.described ≡ strings_paths listing.lists.items) };
+    ghost invariant = { λ file. (file.index ≡ line_paths file.devices.items)
+        × (file.described ≡ strings_paths file.lists.items) };
 }
 
-impl<'a> Listing<'a> {
+impl<'a> PlanFile<'a> {
     ghost use Rattle.std.specs.Option.{option_to_list};
     ghost use Rattle.bus_plan.specs.PlanFile.{meaning, device_on, strings_on, fault_of, faults_before, plan_of};
     ghost use Rattle.bus_plan.specs.Private.Reading.{IsFirst, IsFaultless, listed_before, late_fault};
@@ -117,14 +117,14 @@ impl<'a> Listing<'a> {
 
     /// What a text lists, or its first line's fault.
     pub fn read(alloc: Global, hasher: RandomState, text: &'a [u8]) -> Result<Self, PlanError>
-        ensures ok { IfOk result (λ listing. let ls = lines text.now in
-            (listing ≡ listed_before ls (length ls)) × (faults_before ls (length ls) ≡ [])) }
+        ensures ok { IfOk result (λ file. let ls = lines text.now in
+            (file ≡ listed_before ls (length ls)) × (faults_before ls (length ls) ≡ [])) }
         ensures err { IfErr result (λ e. let ls = lines text.now in
             (e ≡ PlanError.NoMemory) ⊎ IsFirst (faults_before ls (length ls)) e) }
     {
-        let mut listing = Self::new(alloc, hasher);
-        listing.read_lines(alloc, text)?;
-        Ok(listing)
+        let mut file = Self::new(alloc, hasher);
+        file.read_lines(alloc, text)?;
+        Ok(file)
     }
 
     /// The plan of the devices, or the first line that doesn't fit the others.

@@ -1,8 +1,8 @@
 -- Each line is read behind those before it.
 use Rattle.std.proofs.Common.{inl, inr, ⊎_elim}
 use Rattle.std.proofs.lemmas.Result.{err_from_is_err_and}
-use Rattle.bus_plan.proofs.ListingLemmas.{IsReadTo-at, read-line, read-fault, read-all}
-use Rattle.bus_plan.proofs.listing.Listing.read_lines.Goals as goal
+use Rattle.bus_plan.proofs.PlanFileLemmas.{IsReadTo-at, read-line, read-fault, read-all}
+use Rattle.bus_plan.proofs.plan_file.PlanFile.read_lines.Goals as goal
 
 pub returns-in_err-read_line-clause-err : goal.returns-in_err-read_line-clause-err
 returns-in_err-read_line-clause-err c =

@@ -6,8 +6,8 @@ use Rattle.bus_plan.specs.declared.limits.TheConstants.{MAX_DEVICES}
 use Rattle.bus_plan.specs.declared.error.PlanError.TheVariants.{DuplicateDevice}
 use Rattle.bus_plan.specs.PlanPaths.{is_among}
 use Rattle.bus_plan.specs.PlanFile.{line_paths}
-use Rattle.bus_plan.proofs.ListingLemmas.{refusal-there, refusal-full, refusal-none}
-use Rattle.bus_plan.proofs.listing.check_new.Goals as goal
+use Rattle.bus_plan.proofs.PlanFileLemmas.{refusal-there, refusal-full, refusal-none}
+use Rattle.bus_plan.proofs.plan_file.check_new.Goals as goal
 
 pub returns-then-contains : goal.returns-then-contains
 returns-then-contains c =
