@@ -157,15 +157,17 @@ def library_page():
     """What install/dtman.h says, as a page."""
     header = text_of("install/dtman.h")
     about, *told_first = unwrapped(re.match(r"/\*(.*?)\*/", header, re.DOTALL)[1])
-    calls = re.findall(r"/\*((?:(?!\*/).)*)\*/\nstruct dtman_answer (\w+)\((.*?)\);", header, re.DOTALL)
+    calls = re.findall(r"/\*((?:(?!\*/).)*)\*/\n(struct \w+) (\w+)\((.*?)\);", header, re.DOTALL)
     answers = re.search(r"^/\* How a call ended\..*?^};\n\nstruct.*?^};", header, re.DOTALL | re.MULTILINE)[0]
+    board, seats = re.search(r"/\*((?:(?!\*/).)*)\*/\n(struct dtman_seat \{.*?^struct dtman_told \{.*?^};)", header, re.DOTALL | re.MULTILINE).groups()
     synopsis = [".In dtman.h"]
-    for _, name, parameters in calls:
+    for _, answer, name, parameters in calls:
         given = " ".join(f'"{" ".join(it.split())}"' for it in parameters.split(","))
-        synopsis.append(f'.Ft "struct dtman_answer"\n.Fn {name} {given}')
+        synopsis.append(f'.Ft "{answer}"\n.Fn {name} {given}')
     body = [prose(about.partition(": ")[2].capitalize()), f".Ss Calls\n.Bl -tag -width Ds"]
-    body += [f".It Fn {name}\n{paragraphs(unwrapped(comment))}" for comment, name, _ in calls]
+    body += [f".It Fn {name}\n{paragraphs(unwrapped(comment))}" for comment, _, name, _ in calls]
     body.append(".El\n.Ss Answers\n" + display(answers.replace("\t", "    ")))
+    body.append(f".Ss The board\n{paragraphs(unwrapped(board.replace('The board: t', 'T')))}\n" + display(seats.replace("\t", "    ")))
     for paragraph in told_first:
         title, _, text = paragraph.partition(". ")
         body.append(f".Ss {title}\n{prose(text)}")

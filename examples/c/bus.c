@@ -1,8 +1,8 @@
 /*
- * A bus whose devices four threads probe: bus PLAN
+ * A bus whose devices four threads probe over a board: bus PLAN
  *
- * What has happened so far is a schedule, under a lock of the caller's own, and dtman_replay says where each device stands then. Prints
- * the report at the end, which is the same in whatever order the threads come.
+ * Each thread has a seat of its own, and waits for no other. Prints the report at the end, which is the same in whatever order the threads
+ * come.
  */
 #include <pthread.h>
 #include <sched.h>
@@ -15,136 +15,171 @@
 
 #define SEED 0
 #define THREADS 4
-#define LINE 4096
+#define BLANK " \t"
 
-/* Its texts end with a NUL, which isn't counted. */
-struct bus {
-	pthread_mutex_t lock;
-	pthread_cond_t changed;
-	struct bytes plan, schedule, report;
+/* A line of the plan: a device is named by how many stand before it. */
+struct device {
+	char *path, *driver;
+	size_t *suppliers, count;
 };
 
-static void append(struct bytes *text, const char *piece)
-{
-	size_t length = strlen(piece);
+struct bus {
+	struct device *devices;
+	size_t count;
+};
 
-	text->at = realloc(text->at, text->length + length + 1);
-	if (!text->at)
+struct worker {
+	pthread_t thread;
+	const struct bus *bus;
+	struct dtman_seat seat;
+};
+
+static void *grow(void *old, size_t count, size_t size)
+{
+	void *new = realloc(old, count * size);
+
+	if (!new)
 		abort();
-	memcpy(text->at + text->length, piece, length + 1);
-	text->length += length;
+	return new;
 }
 
-/* Where each device stands, after an event more. */
-static void note(struct bus *bus, const char *event, const char *path, const char *end, const char *supplier)
+/* What the call told, which has to be done. */
+static struct dtman_told done(const char *what, struct dtman_told told)
 {
-	struct dtman_answer answer = { .status = DTMAN_SHORT, .length = bus->report.length };
-	char line[3 * LINE];
+	if (told.status != DTMAN_DONE)
+		refuse(what, (struct dtman_answer){ .number = told.number });
+	return told;
+}
 
-	snprintf(line, sizeof line, "%s %s%s%s\n", event, path, end, supplier);
-	append(&bus->schedule, line);
-	while (answer.status == DTMAN_SHORT) {
-		free(bus->report.at);
-		bus->report = make_room(answer.length + 1);
-		answer = dtman_replay(bus->plan.at, bus->plan.length, bus->schedule.at, bus->schedule.length, SEED, bus->report.at, answer.length);
+static size_t find(const struct bus *bus, const char *path)
+{
+	for (size_t i = 0; i < bus->count; i++)
+		if (!strcmp(bus->devices[i].path, path))
+			return i;
+	abort(); /* no plan that the board takes names another path */
+}
+
+/* The devices of a plan's lines, with how each line goes on behind the verdict. */
+static void list_devices(struct bus *bus, char *text, char ***rests)
+{
+	char *lines, *fields;
+
+	for (char *line = strtok_r(text, "\n", &lines); line; line = strtok_r(NULL, "\n", &lines)) {
+		char *path = strtok_r(line, BLANK, &fields);
+
+		if (!path || path[0] != '/')
+			continue; /* a remark, or what a device without a driver is compatible with */
+		bus->devices = grow(bus->devices, bus->count + 1, sizeof *bus->devices);
+		*rests = grow(*rests, bus->count + 1, sizeof **rests);
+		bus->devices[bus->count] = (struct device){ .path = path, .driver = strtok_r(NULL, BLANK, &fields) };
+		strtok_r(NULL, BLANK, &fields);
+		(*rests)[bus->count++] = fields;
 	}
-	if (answer.status != DTMAN_WRITTEN)
-		refuse(line, answer);
-	bus->report.length = answer.length;
-	bus->report.at[answer.length] = 0;
-	pthread_cond_broadcast(&bus->changed);
 }
 
-/* Whether the report has a line of a device that begins so behind its path. */
-static int stands(const struct bus *bus, const char *path, const char *word)
+static void read_plan(struct bus *bus, char *text)
 {
-	const char *line = (const char *)bus->report.at;
-	size_t length = strlen(path);
+	char **rests = NULL, *fields;
 
-	while (strncmp(line, path, length) || strncmp(line + length, word, strlen(word))) {
-		line = strchr(line, '\n');
-		if (!line)
-			return 0;
-		line++;
+	list_devices(bus, text, &rests);
+	for (size_t i = 0; i < bus->count; i++) {
+		struct device *device = &bus->devices[i];
+
+		for (char *path = strtok_r(rests[i], BLANK, &fields); path; path = strtok_r(NULL, BLANK, &fields)) {
+			device->suppliers = grow(device->suppliers, device->count + 1, sizeof *device->suppliers);
+			device->suppliers[device->count++] = find(bus, path);
+		}
 	}
-	return 1;
+	free(rests);
 }
 
-/* The first device of the report that is due. */
-static int find_due(const struct bus *bus, char *path)
+/* Probes the device that the seat has taken. */
+static void probe(struct worker *worker, const struct device *device)
 {
-	const char *line = (const char *)bus->report.at;
+	const size_t *missing = NULL;
 
-	for (; *line; line = strchr(line, '\n') + 1)
-		if (sscanf(line, "%4095s", path) == 1 && !strncmp(line + strlen(path), " due\n", 5))
-			return 1;
-	return 0;
+	for (size_t i = 0; i < device->count; i++)
+		if (!done("look", dtman_board_look(&worker->seat, device->suppliers[i])).number && !missing)
+			missing = &device->suppliers[i];
+	sched_yield(); /* here a driver probes its device */
+	if (missing)
+		done("defer", dtman_board_defer(&worker->seat, *missing));
+	else
+		done("settle", dtman_board_settle(&worker->seat));
+	done("wake_owed", dtman_board_wake_owed(&worker->seat));
 }
 
-/* The first supplier of a device, by the plan, that isn't bound; nothing where all are. */
-static void find_missing(const struct bus *bus, const char *path, char *supplier)
-{
-	char *plan = strdup((const char *)bus->plan.at), *lines, *fields, *field;
-
-	if (!plan)
-		abort();
-	supplier[0] = 0;
-	for (char *line = strtok_r(plan, "\n", &lines); line; line = strtok_r(NULL, "\n", &lines)) {
-		field = strtok_r(line, " \t", &fields);
-		if (!field || strcmp(field, path))
-			continue;
-		strtok_r(NULL, " \t", &fields);
-		strtok_r(NULL, " \t", &fields);
-		while ((field = strtok_r(NULL, " \t", &fields)) && stands(bus, field, " bound "))
-			;
-		snprintf(supplier, LINE, "%s", field ? field : "");
-		break;
-	}
-	free(plan);
-}
-
+/* Who wakes a device takes again, so each may leave that finds nothing to take. */
 static void *work(void *given)
 {
-	struct bus *bus = given;
-	char path[LINE], supplier[LINE];
+	struct worker *worker = given;
+	struct dtman_told told;
 
-	pthread_mutex_lock(&bus->lock);
-	while (!stands(bus, "quiet", "\n")) {
-		if (!find_due(bus, path)) {
-			pthread_cond_wait(&bus->changed, &bus->lock);
-			continue;
-		}
-		note(bus, "begin", path, "", "");
-		pthread_mutex_unlock(&bus->lock);
-		sched_yield(); /* here a driver probes its device */
-		pthread_mutex_lock(&bus->lock);
-		find_missing(bus, path, supplier);
-		note(bus, "finish", path, supplier[0] ? " missing " : " settled", supplier);
-	}
-	pthread_mutex_unlock(&bus->lock);
+	while ((told = dtman_board_take(&worker->seat)).status != DTMAN_NOTHING)
+		probe(worker, &worker->bus->devices[done("take", told).device]);
 	return NULL;
+}
+
+static void print(const struct bus *bus, const uint8_t *words, int quiet)
+{
+	for (size_t i = 0; i < bus->count; i++) {
+		const struct device *device = &bus->devices[i];
+		size_t missing = 0;
+
+		while (missing < device->count && words[device->suppliers[missing]] == DTMAN_BOUND)
+			missing++;
+		if (words[i] == DTMAN_BOUND || words[i] == DTMAN_FAILED)
+			printf("%s %s %s\n", device->path, words[i] == DTMAN_BOUND ? "bound" : "failed", device->driver);
+		else if (words[i] == DTMAN_UNMATCHED)
+			printf("%s %s\n", device->path, strcmp(device->driver, "!") ? "unmatched" : "disabled");
+		else
+			printf("%s waiting %s\n", device->path, bus->devices[device->suppliers[missing]].path);
+	}
+	puts(quiet ? "quiet" : "busy");
+}
+
+static void run(struct worker *workers)
+{
+	for (int i = 1; i < THREADS; i++)
+		done("seat", dtman_board_seat(&workers[0].seat, &workers[i].seat));
+	for (int i = 0; i < THREADS; i++)
+		if (pthread_create(&workers[i].thread, NULL, work, &workers[i]))
+			abort();
+	for (int i = 0; i < THREADS; i++)
+		pthread_join(workers[i].thread, NULL);
+	for (int i = 1; i < THREADS; i++)
+		done("give_back", dtman_board_give_back(&workers[0].seat, &workers[i].seat));
 }
 
 int main(int count, char **words)
 {
-	struct bus bus = { .lock = PTHREAD_MUTEX_INITIALIZER, .changed = PTHREAD_COND_INITIALIZER };
-	pthread_t threads[THREADS];
+	struct bus bus = { 0 };
+	struct worker workers[THREADS] = { 0 };
+	struct dtman_answer answer;
+	struct bytes plan, ends;
+	char *text;
 
 	if (count != 2) {
 		fprintf(stderr, "usage: bus PLAN\n");
 		return 2;
 	}
-	bus.plan = read_file(words[1]);
-	append(&bus.plan, "");
-	note(&bus, "#", "what happened", "", "");
+	plan = read_file(words[1]);
+	answer = dtman_board_open(plan.at, plan.length, SEED, &workers[0].seat);
+	if (answer.status != DTMAN_DONE)
+		refuse(words[1], answer);
+	text = memcpy(make_room(plan.length + 1).at, plan.at, plan.length);
+	text[plan.length] = 0;
+	read_plan(&bus, text);
 	for (int i = 0; i < THREADS; i++)
-		if (pthread_create(&threads[i], NULL, work, &bus))
-			return 1;
-	for (int i = 0; i < THREADS; i++)
-		pthread_join(threads[i], NULL);
-	fputs((const char *)bus.report.at, stdout);
-	free(bus.plan.at);
-	free(bus.schedule.at);
-	free(bus.report.at);
+		workers[i].bus = &bus;
+	run(workers);
+	ends = make_room(answer.length);
+	print(&bus, ends.at, done("close", dtman_board_close(&workers[0].seat, ends.at, ends.length)).number);
+	for (size_t i = 0; i < bus.count; i++)
+		free(bus.devices[i].suppliers);
+	free(bus.devices);
+	free(text);
+	free(plan.at);
+	free(ends.at);
 	return 0;
 }

@@ -41,6 +41,18 @@ static void tell(FILE *to, const char *what, struct dtman_answer answer, const u
 		fwrite(text, 1, answer.length, to);
 }
 
+/* What a call of a seat told. */
+static void tell_seat(FILE *to, const char *what, struct dtman_told told)
+{
+	static const char *const ends[] = { "done", "short", "refused", NULL, "nothing", "no seat", "occupied", "shared" };
+	uint8_t name[24];
+
+	fprintf(to, "%s: %s, number %u, device %zu", what, ends[told.status], told.number, told.device);
+	if (told.status == DTMAN_REFUSED)
+		fprintf(to, ", %.*s", (int)dtman_name(told.number, name, sizeof name).length, (char *)name);
+	fputc('\n', to);
+}
+
 /* A text so many times over, behind what is there. */
 static void put(char *text, const char *piece, int times)
 {
@@ -59,6 +71,47 @@ static void nest(char *text)
 	put(text, ")", 60);
 	put(text, ">;", 1);
 	put(text, " };", 61);
+}
+
+/* One seat settles the clock while another is at the serial port, which so waits. */
+static void make_first_flights(FILE *to, struct dtman_seat *one, struct dtman_seat *two)
+{
+	tell_seat(to, "take", dtman_board_take(one));
+	tell_seat(to, "take, with a flight", dtman_board_take(one));
+	tell_seat(to, "take, another seat", dtman_board_take(two));
+	tell_seat(to, "look", dtman_board_look(two, 0));
+	tell_seat(to, "look, at no supplier", dtman_board_look(two, 1));
+	tell_seat(to, "settle, with a supplier that isn't bound", dtman_board_settle(two));
+	tell_seat(to, "settle", dtman_board_settle(one));
+	tell_seat(to, "defer", dtman_board_defer(two, 0));
+	tell_seat(to, "defer, without a flight", dtman_board_defer(two, 0));
+	tell_seat(to, "give back, with a wake owed", dtman_board_give_back(one, two));
+	tell_seat(to, "wake", dtman_board_wake_owed(one));
+	tell_seat(to, "wake, another seat", dtman_board_wake_owed(two));
+}
+
+static void make_board_calls(FILE *to, const uint8_t *plan, size_t length)
+{
+	struct dtman_seat one = DTMAN_EMPTY_SEAT, two = DTMAN_EMPTY_SEAT;
+	uint8_t words[2];
+
+	tell(to, "open, no plan", dtman_board_open(BYTES(drivers), SEED, &one), NULL);
+	tell_seat(to, "take, no seat", dtman_board_take(&one));
+	fprintf(to, "open: %zu devices\n", dtman_board_open(plan, length, SEED, &one).length);
+	fprintf(to, "open, into a seat: %u\n", dtman_board_open(plan, length, SEED, &one).status);
+	tell_seat(to, "seat", dtman_board_seat(&one, &two));
+	tell_seat(to, "seat, into a seat", dtman_board_seat(&one, &two));
+	make_first_flights(to, &one, &two);
+	tell_seat(to, "take, what was woken", dtman_board_take(&two));
+	tell_seat(to, "look, again", dtman_board_look(&two, 0));
+	tell_seat(to, "settle, again", dtman_board_settle(&two));
+	tell_seat(to, "take, nothing left", dtman_board_take(&one));
+	tell_seat(to, "close, with another seat", dtman_board_close(&one, words, 2));
+	tell_seat(to, "give back", dtman_board_give_back(&one, &two));
+	tell_seat(to, "close, too little room", dtman_board_close(&one, words, 1));
+	tell_seat(to, "close", dtman_board_close(&one, words, 2));
+	fprintf(to, "the words: %u %u\n", words[0], words[1]);
+	tell_seat(to, "close, no seat", dtman_board_close(&one, words, 2));
 }
 
 static void make_calls(FILE *to)
@@ -90,6 +143,8 @@ static void make_calls(FILE *to)
 
 	tell(to, "replay", dtman_replay(plan, p.length, BYTES(schedule), SEED, text, ROOM), text);
 	tell(to, "replay, a device that is begun twice", dtman_replay(plan, p.length, BYTES(early), SEED, text, ROOM), NULL);
+
+	make_board_calls(to, plan, p.length);
 
 	tell(to, "name", dtman_name(63, text, ROOM), text);
 	fputc('\n', to);

@@ -1,12 +1,13 @@
 //! What a call tells its caller.
 ghost use Rattle.std.specs.Prelude.{◌≡◌, Ok, Err, MatchResult};
 ghost use Rattle.dtman_engine.specs.Fault.{fault_value};
+ghost use Rattle.dtman_c.specs.Boards.{occupied};
 ghost use Rattle.dtman_c.specs.Crossing.{Crosses, IsPut, refused, unnamed};
 
 use dtman_engine::{Fault, Place};
 
 /// The bytes are in the buffer.
-const WRITTEN: u32 = 0;
+pub(crate) const WRITTEN: u32 = 0;
 
 /// The buffer has too little room, and is as it was.
 const SHORT: u32 = 1;
@@ -16,6 +17,9 @@ const REFUSED: u32 = 2;
 
 /// No fault has the number whose name is asked for. The buffer is as it was.
 const UNNAMED: u32 = 3;
+
+/// The handle to be filled isn't empty.
+const OCCUPIED: u32 = 6;
 
 /// How a call ended.
 #[repr(C)]
@@ -63,7 +67,14 @@ pub(crate) fn unnamed() -> Answer
     told(UNNAMED, 0)
 }
 
-fn told(status: u32, length: usize) -> Answer
+/// The handle to be filled isn't empty.
+pub(crate) fn occupied() -> Answer
+    ensures { result ≡ occupied }
+{
+    told(OCCUPIED, 0)
+}
+
+pub(crate) fn told(status: u32, length: usize) -> Answer
     ensures { result ≡ record { status = status; number = 0; length = length; line = 0; event = 0 } }
 {
     Answer {
@@ -75,7 +86,7 @@ fn told(status: u32, length: usize) -> Answer
     }
 }
 
-fn refusal(fault: &Fault) -> Answer
+pub(crate) fn refusal(fault: &Fault) -> Answer
     ensures { result ≡ refused (fault_value fault.now) }
 {
     let (line, event) = match fault.place {

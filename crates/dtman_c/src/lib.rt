@@ -5,6 +5,7 @@
 
 mod answer;
 mod blobs;
+mod board;
 mod bus;
 mod naming;
 mod seed;

@@ -1,0 +1,84 @@
+//! How a board ends with its last seat.
+
+ghost use Rattle.std.specs.Prelude.{◌≡◌, ◌≤◌, ℕ, length, map, true, if◌then◌else◌, IfOk, IfErr};
+ghost use Rattle.bus_board.specs.Ends.{EndsAs};
+ghost use Rattle.bus_board.specs.Words.{number_of};
+ghost use Rattle.bus_seat.specs.Calls.{Closes, with_words};
+ghost use Rattle.bus_seat.specs.Handles.{seated};
+
+use crate::handle::{Lifted, SeatHandle};
+use crate::place::Place;
+use crate::told::{Told, done, no_seat, shared, short};
+use bus_board::{End, Word};
+use std::alloc::Global;
+use std::sync::Arc;
+
+/// Ends the board with its last seat, empties the handle, and puts the number of each device's word into the buffer.
+pub fn close(alloc: Global, handle: &mut SeatHandle, out: &mut [u8]) -> Told
+    ensures { Closes (seated handle.old) out.old (seated handle.new) out.new result }
+{
+    let Some(lifted) = handle.lift(alloc) else {
+        return no_seat();
+    };
+    let Lifted { block, place } = lifted;
+    let devices = place.devices();
+    if out.len() < devices {
+        handle.put(Lifted { block, place });
+        return short(devices);
+    }
+    match end(place) {
+        Ok(End { words, quiet }) => {
+            write_words(&words, out);
+            done(u32::from(quiet), devices)
+        }
+        Err(place) => {
+            handle.put(Lifted { block, place });
+            shared()
+        }
+    }
+}
+
+// The end of the board, where this is its only seat.
+fn end(place: Place) -> Result<End, Place>
+    ensures ok { IfOk result (λ end. EndsAs place.board.plan place.seat.view end.words.items end.quiet) }
+    ensures err { IfErr result (λ same. same ≡ place) }
+{
+    let Place {
+        board,
+        seat,
+        devices,
+    } = place;
+    match Arc::try_unwrap(board) {
+        Ok(board) => Ok(board.close(seat)),
+        Err(board) => Err(Place {
+            board,
+            seat,
+            devices,
+        }),
+    }
+}
+
+// Puts the number of each word into the buffer.
+fn write_words(words: &[Word], out: &mut [u8])
+    requires { length words.now ≤ length out.old }
+    ensures { out.new ≡ with_words words.now out.old }
+{
+    for index in 0..words.len() {
+        out[index] = byte_of(words[index]);
+    }
+}
+
+fn byte_of(word: Word) -> u8
+    ensures { result ≡ number_of word }
+{
+    match word {
+        Word::Fresh => 0,
+        Word::Trying => 1,
+        Word::Waiting => 2,
+        Word::Woken => 3,
+        Word::Retrying => 4,
+        Word::Bound => 5,
+        Word::Failed => 6,
+        Word::Unmatched => 7,
+    }
+}

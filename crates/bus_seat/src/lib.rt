@@ -1,0 +1,21 @@
+//! A seat of a board behind a pointer that a caller in C may have. Each call takes the seat out, lets it do what the board's call
+//! does, and puts it back.
+#![tactic(auto)]
+
+mod calls;
+mod closing;
+mod handle;
+mod held;
+mod lifting;
+mod opening;
+mod parts;
+mod place;
+mod told;
+
+pub use calls::{defer, give_back, look, seat, settle, take, wake_owed};
+pub use closing::close;
+pub use handle::SeatHandle;
+pub use held::Held;
+pub use opening::open;
+pub use place::{Place, Slot};
+pub use told::Told;

@@ -1,0 +1,45 @@
+//! How a board gets its first seat.
+
+ghost use Rattle.std.specs.Prelude.{◌≡◌, ◌+◌, None, OnOk, IfOk, IfErr};
+ghost use Rattle.bus_core.specs.CoreState.{first_core};
+ghost use Rattle.bus_core.specs.declared.refusal.Refusal.TheVariants.{NoMemory};
+ghost use Rattle.bus_board.specs.Rule.{OpensAs};
+ghost use Rattle.bus_board.specs.Views.{opener};
+ghost use Rattle.bus_seat.specs.Calls.{IsOpened};
+ghost use Rattle.bus_seat.specs.Handles.{seated};
+
+use crate::handle::{Lifted, SeatHandle};
+use crate::place::{Place, Slot};
+use bus_board::Board;
+use bus_core::Refusal;
+use bus_plan::Plan;
+use std::alloc::Global;
+use std::sync::Arc;
+
+/// A board of the plan on which nothing was begun: its first seat goes into the handle, which is empty.
+pub fn open(alloc: Global, plan: Plan, handle: &mut SeatHandle) -> Result<(), Refusal>
+    requires { seated handle.old ≡ None }
+    ensures opened { OnOk result (IsOpened plan (seated handle.new)) }
+    ensures err { IfErr result (λ refusal. (refusal ≡ NoMemory) × (seated handle.new ≡ None)) }
+{
+    let block = Box::new(alloc, Slot { place: None })?;
+    let place = first_place(alloc, plan)?;
+    handle.put(Lifted { block, place });
+    Ok(())
+}
+
+fn first_place(alloc: Global, plan: Plan) -> Result<Place, Refusal>
+    ensures plan { IfOk result (λ p. p.board.plan ≡ plan) }
+    ensures view { IfOk result (λ p. p.seat.view ≡ opener (first_core plan)) }
+    ensures words { IfOk result (λ p. OpensAs (first_core plan) p.seat.view) }
+    ensures err { IfErr result (λ refusal. refusal ≡ NoMemory) }
+{
+    let devices = plan.len();
+    let (board, seat) = Board::open(alloc, plan)?;
+    let board = Arc::new(alloc, board)?;
+    Ok(Place {
+        board,
+        seat,
+        devices,
+    })
+}
