@@ -1,5 +1,5 @@
 -- What stands at the front, by the tests of its first bytes.
-use Rattle.std.proofs.Common.{◌≡◌, ℕ, ◌+◌, ◌<◌, Bool, true, false, eqb, is_some, is_none, List, [], ◌∷◌, take, drop, Option, Some, None, refl, sym, ap, ◌∙◌, arith}
+use Rattle.std.proofs.Common.{◌≡◌, ℕ, ◌+◌, ◌<◌, Bool, true, false, eqb, List, [], ◌∷◌, take, drop, Some, None, refl, sym, ap, ◌∙◌, arith}
 use Rattle.std.specs.Prelude.{◌&&◌}
 use Rattle.std.proofs.lemmas.Bool.{eqb-true, lt-ltb}
 use Rattle.dtc_dialect.specs.Bytes.{run_of, starts}
@@ -18,16 +18,7 @@ unclosed_there s comment len = rw (comment, len) refl
 pub line_there : (s : List ℕ) (n : ℕ) → run_of Blank s ≡ 0 → begins_comment s ≡ false → begins_line_comment s ≡ true → n ≡ run_of Line s → gap_len s ≡ n
 line_there s n blank comment line is = rw (blank, comment, line) (sym is)
 
-pub marker_there : (s : List ℕ) (n : ℕ) → run_of Blank s ≡ 0 → begins_comment s ≡ false → begins_line_comment s ≡ false → begins_marker s ≡ true → n ≡ run_of Line s → gap_len s ≡ n
-marker_there s n blank comment line marker is = rw (blank, comment, line, marker) (sym is)
-
-pub nothing_there : (s : List ℕ) → run_of Blank s ≡ 0 → begins_comment s ≡ false → begins_line_comment s ≡ false → begins_marker s ≡ false → gap_len s ≡ 0
-nothing_there s blank comment line marker = rw (blank, comment, line, marker) refl
-
-pub no_comment_there : (s : List ℕ) → begins_comment s ≡ false → is_unclosed s ≡ false
-no_comment_there s comment = rw comment refl
-
--- ---- what begins with // or # has a byte in its line
+-- ---- what begins with // has a byte in its line
 
 left : (a b : Bool) → (a && b) ≡ true → a ≡ true
 left true b e = refl
@@ -37,13 +28,6 @@ pub line_some : (s : List ℕ) → begins_line_comment s ≡ true → 0 < run_of
 line_some [] e = absurd cc
 line_some (c ∷ []) e = absurd cc
 line_some (c ∷ d ∷ s) e = let f : c ≡ 47 = eqb-true c 47 (left (eqb c 47) (eqb d 47) e) in rw f (omega arith)
-
-starts_some : (s : List ℕ) → starts 35 s ≡ true → 0 < run_of Line s
-starts_some [] e = absurd cc
-starts_some (c ∷ s) e = let f : c ≡ 35 = eqb-true c 35 e in rw f (omega arith)
-
-pub marker_some : (s : List ℕ) → begins_marker s ≡ true → 0 < run_of Line s
-marker_some s e = starts_some s (left (starts 35 s) (is_marker (take (run_of Line (drop 1 s)) (drop 1 s))) e)
 
 -- ---- a marker
 

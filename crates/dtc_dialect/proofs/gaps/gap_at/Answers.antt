@@ -1,6 +1,6 @@
 use Rattle.std.proofs.Common.{sym, ap, ◌∙◌, arith}
 use Rattle.dtc_dialect.specs.Gaps.{comment_len}
-use Rattle.dtc_dialect.proofs.GapHere.{blanks_here, comment_there, line_some, line_there, marker_some, marker_there, no_comment_there, nothing_there, unclosed_there}
+use Rattle.dtc_dialect.proofs.GapHere.{blanks_here, comment_there, line_some, line_there, unclosed_there}
 use Rattle.dtc_dialect.proofs.gaps.gap_at.Goals as goal
 
 pub returns-then-blanks-gt0 : goal.returns-then-blanks-gt0
