@@ -64,6 +64,22 @@ fn forms(rt: HostRuntime) {
             " / { a: a { phandle = <1>; }; };\n",
         ),
         (
+            " / { /omit-if-no-ref/ b { }; a: a { linux,phandle = <0x1fUL>; }; c { r = <&a>; }; };",
+            " / { a: a { linux,phandle = <0x1fUL>; }; c { r = <31>; }; };\n",
+        ),
+        (
+            " / { a: a { linux,phandle = <017>; }; c { r = <&a>; }; };",
+            " / { a: a { linux,phandle = <017>; }; c { r = <15>; }; };\n",
+        ),
+        (
+            " / { a: a { linux,phandle = <08>; }; c { r = <&a>; }; };",
+            " / { a: a { linux,phandle = <08>; }; c { r = <&a>; }; };\n",
+        ),
+        (
+            " /**/ / { // a\n#line 2 \"\"\n/* * / **/ x; };",
+            " / {\nx; };\n",
+        ),
+        (
             " / { x: y: a { }; }; z: &x { };",
             " / { z: x: y: a { }; };\n",
         ),

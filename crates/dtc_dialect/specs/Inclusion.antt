@@ -1,7 +1,11 @@
--- What `/incbin/` takes in (dtc 1.6, Documentation/dts-format.txt).
-use Rattle.std.specs.Prelude.{ℕ, ◌/◌, ◌%◌, List, [], ◌∷◌, ◌++◌, Option, Some, None, take, drop}
+-- What `/include/` and `/incbin/` take in (dtc 1.6, Documentation/manual.txt, section 4.1).
+use Rattle.std.specs.Prelude.{ℕ, ◌/◌, ◌%◌, ◌≤◌, List, [], ◌∷◌, ◌++◌, Option, Some, None, take, drop}
 use Rattle.std.specs.Char.{digit_char}
 use Rattle.std.specs.List.{flat_map}
+
+-- whether a file may be taken in where so many are open, the user's own among them: then 200 at most are nested in that one
+abbrev pub MayNest : ℕ → Type 0
+MayNest opened = opened ≤ 200
 
 -- the part of a file from an offset on, so many bytes of it as there are
 abbrev pub part_of : ℕ → Option ℕ → List ℕ → List ℕ

@@ -1,5 +1,7 @@
 //! Classes of bytes, runs of them, and parts of a text.
 ghost use Rattle.std.specs.Prelude.{◌≡◌, ◌==◌, ◌↔◌, IsTrue, Some, count_by, drop, slice_get, take};
+ghost use Rattle.std.specs.Char.{digit_value};
+ghost use Rattle.dtc_dialect.specs.Bytes.{is_blank, is_decimal, is_letter, is_name, passes, run_of, starts};
 
 /// Bytes that stand in one run.
 #[derive(Clone, Copy)]
@@ -8,8 +10,8 @@ pub(crate) enum Class {
     Word,
     /// of a name
     Name,
-    Digit,
-    HexDigit,
+    /// of a number in this base
+    Digit(u8),
     Blank,
     /// of a line
     Line,
@@ -17,28 +19,58 @@ pub(crate) enum Class {
     Keyword,
 }
 
-pub(crate) fn is_letter(c: u8) -> bool {
+pub(crate) fn is_letter(c: u8) -> bool
+    ensures { result ≡ is_letter c }
+{
     c >= b'A' && c <= b'Z' || c >= b'a' && c <= b'z' || c == b'_'
 }
 
-pub(crate) fn is_digit(c: u8) -> bool {
+pub(crate) fn is_digit(c: u8) -> bool
+    ensures { result ≡ is_decimal c }
+{
     c >= b'0' && c <= b'9'
 }
 
-fn is_name(c: u8) -> bool {
-    is_letter(c) || is_digit(c) || b",._+*#?@-".contains(&c)
+fn is_name(c: u8) -> bool
+    ensures { result ≡ is_name c }
+{
+    is_letter(c)
+        || is_digit(c)
+        || c == b','
+        || c == b'.'
+        || c == b'+'
+        || c == b'*'
+        || c == b'#'
+        || c == b'?'
+        || c == b'@'
+        || c == b'-'
 }
 
-pub(crate) fn is_blank(c: u8) -> bool {
+/// The value of a digit or a letter, 36 of any other byte.
+pub(crate) fn digit_value(c: u8) -> u8
+    ensures { result ≡ digit_value c }
+{
+    match c {
+        b'0'..=b'9' => c - b'0',
+        b'A'..=b'Z' => c - b'A' + 10,
+        b'a'..=b'z' => c - b'a' + 10,
+        _ => 36,
+    }
+}
+
+pub(crate) fn is_blank(c: u8) -> bool
+    ensures { result ≡ is_blank c }
+{
     c == b' ' || c >= 9 && c <= 13
 }
 
-fn passes(class: Class, c: u8) -> bool {
+fn passes(class: Class, c: u8) -> bool
+    ensures { result ≡ passes class c }
+{
     match class {
         Class::Word => is_letter(c) || is_digit(c),
         Class::Name => is_name(c),
-        Class::Digit => is_digit(c),
-        Class::HexDigit => c.is_ascii_hexdigit(),
+        Class::Digit(base) => digit_value(c) < base,
         Class::Blank => is_blank(c),
         Class::Line => c != b'\n',
         Class::Keyword => c >= b'a' && c <= b'z' || is_digit(c) || c == b'-',
@@ -46,7 +78,9 @@ fn passes(class: Class, c: u8) -> bool {
 }
 
 /// How many bytes of this class stand at the front.
-pub(crate) fn run_len(class: Class, s: &[u8]) -> usize {
+pub(crate) fn run_len(class: Class, s: &[u8]) -> usize
+    ensures { result ≡ run_of class s.now }
+{
     for (i, c) in s.iter().enumerate() {
         if !passes(class, *c) {
             return i;
@@ -78,7 +112,8 @@ pub(crate) fn line_ends(s: &[u8]) -> usize
 
 /// Whether a byte stands at the front.
 pub(crate) fn begins(s: &[u8], c: u8) -> bool
-    ensures { IsTrue result ↔ (slice_get s.now 0 ≡ Some c) }
+    ensures first { IsTrue result ↔ (slice_get s.now 0 ≡ Some c) }
+    ensures value { result ≡ starts c s.now }
 {
     match s {
         [d, ..] => *d == c,

@@ -1,6 +1,9 @@
 //! What stands between tokens: blanks, comments and line markers.
+ghost use Rattle.std.specs.Prelude.{◌≡◌, ◌≤◌, IfSome, is_some, length, true};
+ghost use Rattle.dtc_dialect.specs.Gaps.{begins_comment, begins_line_comment, begins_marker, behind_word, comment_len, ends_comment, is_marker};
+ghost use Rattle.dtc_dialect.specs.GapAt.{Tells};
 
-use crate::bytes::{Class, begins, behind, front, is_digit, quoted_len, run_len};
+use crate::bytes::{Class, begins, behind, front, quoted_len, run_len};
 
 /// A line marker: what it says of the next line.
 #[derive(Clone, Copy)]
@@ -20,55 +23,113 @@ pub(crate) enum Gap<'t> {
 }
 
 /// What stands at the front that is no token.
-pub(crate) fn gap_at<'t>(s: &'t [u8]) -> Gap<'t> {
+pub(crate) fn gap_at<'t>(s: &'t [u8]) -> Gap<'t>
+    ensures { Tells s.now result }
+{
     let blanks = run_len(Class::Blank, s);
     if blanks > 0 {
         return Gap::Skipped(blanks);
     }
-    match s {
-        [b'/', b'/', ..] => Gap::Skipped(run_len(Class::Line, s)),
-        [b'/', b'*', inside @ ..] => match comment_end(inside) {
-            Some(n) => Gap::Skipped(n.saturating_add(2)),
+    if begins_comment(s) {
+        return match comment_end(behind(s, 2)) {
+            Some(n) => Gap::Skipped(n + 2),
             None => Gap::Unclosed,
-        },
-        [b'#', line @ ..] => match read_marker(front(line, run_len(Class::Line, line))) {
-            Some(marker) => Gap::Marker(run_len(Class::Line, s), marker),
-            None => Gap::Nothing,
-        },
-        _ => Gap::Nothing,
+        };
+    }
+    if begins_line_comment(s) {
+        return Gap::Skipped(run_len(Class::Line, s));
+    }
+    match marker_at(s) {
+        Some(marker) => Gap::Marker(run_len(Class::Line, s), marker),
+        None => Gap::Nothing,
     }
 }
 
+fn begins_comment(s: &[u8]) -> bool
+    ensures value { result ≡ begins_comment s.now }
+    ensures long { result ≡ true → 2 ≤ length s.now }
+{
+    match s {
+        [c, d, ..] => *c == b'/' && *d == b'*',
+        _ => false,
+    }
+}
+
+fn begins_line_comment(s: &[u8]) -> bool
+    ensures { result ≡ begins_line_comment s.now }
+{
+    match s {
+        [c, d, ..] => *c == b'/' && *d == b'/',
+        _ => false,
+    }
+}
+
+/// The line marker at the front.
+fn marker_at<'t>(s: &'t [u8]) -> Option<Marker<'t>>
+    ensures { is_some result ≡ begins_marker s.now }
+{
+    if !begins(s, b'#') {
+        return None;
+    }
+    let rest = behind(s, 1);
+    let len = run_len(Class::Line, rest);
+    let line = front(rest, len);
+    read_marker(line)
+}
+
 /// How far the end of a comment is, with it.
-fn comment_end(s: &[u8]) -> Option<usize> {
-    let mut star = false;
-    for (i, c) in s.iter().enumerate() {
-        if star && *c == b'/' {
-            return Some(i + 1);
+fn comment_end(s: &[u8]) -> Option<usize>
+    ensures value { result ≡ comment_len s.now }
+    ensures within { IfSome result (λ n. n ≤ length s.now) }
+{
+    for i in 0..s.len() {
+        if ends_comment(behind(s, i)) {
+            return Some(i + 2);
         }
-        star = *c == b'*';
     }
     None
 }
 
+fn ends_comment(s: &[u8]) -> bool
+    ensures value { result ≡ ends_comment s.now }
+    ensures long { result ≡ true → 2 ≤ length s.now }
+{
+    match s {
+        [c, d, ..] => *c == b'*' && *d == b'/',
+        _ => false,
+    }
+}
+
 /// What a line says behind `#`: `[line] NUMBER ["FILE" ..]`.
-pub(crate) fn read_marker<'t>(line: &'t [u8]) -> Option<Marker<'t>> {
-    let line = match line {
-        [b'l', b'i', b'n', b'e', rest @ ..] => rest,
-        _ => line,
-    };
-    let blanks = run_len(Class::Blank, line);
-    let number = behind(line, blanks);
-    if blanks == 0 || !number.first().is_some_and(|c| is_digit(*c)) {
+pub(crate) fn read_marker<'t>(line: &'t [u8]) -> Option<Marker<'t>>
+    ensures { is_some result ≡ is_marker line.now }
+{
+    let rest = behind_word(line);
+    let blanks = run_len(Class::Blank, rest);
+    if blanks == 0 {
         return None;
     }
-    let digits = run_len(Class::Digit, number);
+    let number = behind(rest, blanks);
+    let digits = run_len(Class::Digit(10), number);
+    if digits == 0 {
+        return None;
+    }
     let name = behind(number, digits);
     let name = behind(name, run_len(Class::Blank, name));
     Some(Marker {
         line: decimal(front(number, digits)),
         file: quoted(name),
     })
+}
+
+/// A line without the word `line`.
+fn behind_word(line: &[u8]) -> &[u8]
+    ensures { result.now ≡ behind_word line.now }
+{
+    match line {
+        [b'l', b'i', b'n', b'e', rest @ ..] => rest,
+        _ => line,
+    }
 }
 
 /// What stands between the quotes.

@@ -1,11 +1,11 @@
 //! What a source takes in from other files: `/include/ "FILE"` and `/incbin/("FILE"[, OFFSET, LENGTH])`.
-ghost use Rattle.std.specs.Prelude.{◌≡◌, ◌<◌, ◌++◌, OnOk};
+ghost use Rattle.std.specs.Prelude.{◌≡◌, ◌<◌, ◌↔◌, ◌++◌, [], ◌∷◌, OnOk, vec_len};
 ghost use Rattle.std.specs.Char.{digit_char};
-ghost use Rattle.dtc_dialect.specs.Inclusion.{byte_string_of, part_of};
+ghost use Rattle.dtc_dialect.specs.Inclusion.{MayNest, byte_string_of, part_of};
 
 use crate::bytes::{Class, begins, behind, front, quoted_len, run_len};
 use crate::gaps::{Gap, gap_at};
-use crate::numbers::literal;
+use crate::integer::integer;
 use crate::places::Line;
 use std::alloc::{AllocError, AllocFailed, Global};
 
@@ -108,17 +108,17 @@ pub fn included<F: Files>(
             Turn::Again => frames.push(frame)?,
             Turn::Into(found) => {
                 frames.push(frame)?;
-                if frames.len() > MAX_INCLUDES {
-                    return Err(Incomplete::TooDeep);
-                }
                 let line = Line::first(alloc, found.path.as_slice())?;
                 line.mark(alloc, &mut whole)?;
-                frames.push(Frame {
-                    path: found.path,
-                    bytes: found.bytes,
-                    taken: 0,
-                    line,
-                })?;
+                enter(
+                    &mut frames,
+                    Frame {
+                        path: found.path,
+                        bytes: found.bytes,
+                        taken: 0,
+                        line,
+                    },
+                )?;
             }
         }
         if whole.len() > MAX_TEXT {
@@ -126,6 +126,21 @@ pub fn included<F: Files>(
         }
     }
     Err(Incomplete::TooLong)
+}
+
+/// Opens a file within those that are open.
+fn enter(frames: &mut Vec<Frame>, frame: Frame) -> Result<(), Incomplete>
+    ensures ok { OnOk result (frames.new.items ≡ frames.old.items ++ frame ∷ []) }
+    ensures nested { OnOk result (MayNest (vec_len frames.old)) }
+    ensures deep { (result ≡ Err Incomplete.TooDeep) ↔ ¬ MayNest (vec_len frames.old) }
+{
+    if frames.len() > MAX_INCLUDES {
+        return Err(Incomplete::TooDeep);
+    }
+    match frames.push(frame) {
+        Ok(()) => Ok(()),
+        Err(_) => Err(Incomplete::NoMemory),
+    }
 }
 
 /// What one turn comes to.
@@ -349,10 +364,9 @@ impl<'t> Words<'t> {
 
     fn number(&mut self) -> Result<u64, Incomplete> {
         self.skip_gap();
-        let len = run_len(Class::Name, self.left);
-        let digits = run_len(Class::Word, self.left).min(len);
-        let number = literal(front(self.left, digits));
-        self.left = behind(self.left, digits);
+        let len = run_len(Class::Word, self.left);
+        let number = integer(front(self.left, len));
+        self.left = behind(self.left, len);
         number.ok_or(Incomplete::Syntax)
     }
 }

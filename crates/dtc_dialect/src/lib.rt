@@ -10,6 +10,7 @@ mod error;
 mod gaps;
 mod head;
 mod inclusion;
+mod integer;
 mod keeping;
 mod layout;
 mod numbers;

@@ -1,6 +1,6 @@
 //! Phandles: which nodes are referred to, and by what numbers where dtc gives them before it omits nodes.
 
-use crate::bytes::{Class, front, is_digit, run_len};
+use crate::integer::integer;
 use crate::layout::{Layout, part};
 use crate::table::{PropertyRow, Table, Tokens};
 use crate::token::{Kind, Token};
@@ -147,7 +147,7 @@ fn number_of(value: &[Token<'_>]) -> Option<u64> {
         [open, number, close]
             if open.kind == Kind::Less
                 && number.kind == Kind::Name
-                && close.kind == Kind::Greater => { literal(number.text) }
+                && close.kind == Kind::Greater => { integer(number.text) }
         _ => None,
     }
 }
@@ -161,30 +161,6 @@ fn refers<'t>(view: View<'_, 't>, value: &[Token<'t>]) -> Option<usize> {
                 && close.kind == Kind::Greater => { view.table.referred(reference.text) }
         _ => None,
     }
-}
-
-/// A literal's number, in its base; its suffix is left out.
-pub(crate) fn literal(text: &[u8]) -> Option<u64> {
-    match text {
-        [b'0', b'x' | b'X', hex @ ..] => based(16, front(hex, run_len(Class::HexDigit, hex))),
-        [b'0', octal @ ..] => based(8, front(octal, run_len(Class::Digit, octal))),
-        [c, ..] if is_digit(*c) => based(10, front(text, run_len(Class::Digit, text))),
-        _ => None,
-    }
-}
-
-fn based(base: u64, digits: &[u8]) -> Option<u64> {
-    let mut number: u64 = 0;
-    for c in digits {
-        let digit = match *c {
-            b'0'..=b'9' => *c - b'0',
-            b'a'..=b'f' => *c - b'a' + 10,
-            b'A'..=b'F' => *c - b'A' + 10,
-            _ => return None,
-        };
-        number = number.checked_mul(base)?.checked_add(digit as u64)?;
-    }
-    Some(number)
 }
 
 fn note_references<'t>(numbers: &mut Numbers, view: View<'_, 't>, row: &PropertyRow<'t>) {

@@ -1,8 +1,10 @@
 //! The tokens of a text.
+ghost use Rattle.std.specs.Prelude.{◌≡◌, ◌<◌, ◌↔◌, IfOk, IsTrue, OnErr, OnOk, drop, length, take};
+ghost use Rattle.dtc_dialect.specs.Gaps.{BreaksOff, IsGap};
 
 use crate::bytes::{Class, begins, behind, front, is_letter, line_ends, quoted_len, run_len};
 use crate::error::{DialectError, Mistake, refused};
-use crate::gaps::{Gap, gap_at};
+use crate::gaps::{Gap, Marker, gap_at};
 use crate::token::{Kind, Place, Span, Token};
 use std::alloc::Global;
 
@@ -41,7 +43,10 @@ pub(crate) fn tokens<'t>(
 }
 
 /// The first bytes, with their lines counted.
-fn take<'t>(reader: &mut Reader<'t>, n: usize) -> &'t [u8] {
+fn take<'t>(reader: &mut Reader<'t>, n: usize) -> &'t [u8]
+    ensures taken { result.now ≡ take n reader.old.left.now }
+    ensures left { reader.new.left.now ≡ drop n reader.old.left.now }
+{
     let text = front(reader.left, n);
     reader.left = behind(reader.left, n);
     reader.taken = reader.taken.saturating_add(n);
@@ -61,26 +66,33 @@ fn here<'t>(reader: &Reader<'t>, len: usize) -> Place<'t> {
 }
 
 /// Skips blanks, comments and line markers. Answers whether there were any.
-fn skip_gap<'t>(reader: &mut Reader<'t>) -> Result<bool, DialectError<'t>> {
+fn skip_gap<'t>(reader: &mut Reader<'t>) -> Result<bool, DialectError<'t>>
+    ensures skips { OnOk result (IsGap reader.old.left.now reader.new.left.now) }
+    ensures any { IfOk result (λ any. IsTrue any ↔ (length reader.new.left.now < length reader.old.left.now)) }
+    ensures breaks { OnErr result (BreaksOff reader.old.left.now reader.new.left.now) }
+{
     let most = reader.left.len();
-    for _ in 0..most {
+    'gaps: loop {
         match gap_at(reader.left) {
             Gap::Nothing => return Ok(reader.left.len() < most),
             Gap::Unclosed => return Err(refused(Mistake::Syntax, here(reader, 2))),
             Gap::Skipped(n) => {
                 take(reader, n);
             }
-            Gap::Marker(n, marker) => {
-                take(reader, n);
-                // The marker names the line behind its own.
-                reader.place.line = marker.line.saturating_sub(1);
-                if let Some(file) = marker.file {
-                    reader.place.file = file;
-                }
-            }
+            Gap::Marker(n, marker) => skip_marker(reader, n, marker),
         }
     }
-    Ok(true)
+}
+
+/// Skips a line marker, which names the line behind its own.
+fn skip_marker<'t>(reader: &mut Reader<'t>, n: usize, marker: Marker<'t>)
+    ensures { reader.new.left.now ≡ drop n reader.old.left.now }
+{
+    take(reader, n);
+    reader.place.line = marker.line.saturating_sub(1);
+    if let Some(file) = marker.file {
+        reader.place.file = file;
+    }
 }
 
 /// The next token, or none at the end.

@@ -1,12 +1,14 @@
 //! A source in dtc's dialect, said in the profile.
+ghost use Rattle.std.specs.Prelude.{◌↔◌, IsTrue};
+ghost use Rattle.dtc_dialect.specs.Omission.{IsOmitted};
 
 use crate::edits::edit;
 use crate::error::DialectError;
 use crate::layout::{Layout, lay_out};
-use crate::numbers::{Numbers, View, number_nodes};
+use crate::numbers::{Known, Numbers, View, number_nodes};
 use crate::printing::{Printed, print_source};
 use crate::reader::tokens;
-use crate::table::Table;
+use crate::table::{NodeRow, Table};
 use std::alloc::Global;
 use std::hash::RandomState;
 
@@ -62,17 +64,23 @@ pub fn rewrite<'t>(
 fn omit(table: &mut Table<'_>, layout: &Layout, numbers: &Numbers, symbols: bool) -> bool {
     let mut omits = false;
     for stop in layout.stops.iter() {
-        let is_kept = symbols && layout.was_labelled(stop.node);
-        let is_referred = numbers
-            .known
-            .get(stop.node)
-            .is_some_and(|known| known.is_referred);
+        let Some(known) = numbers.known.get(stop.node) else {
+            continue;
+        };
+        let has_symbol = symbols && layout.was_labelled(stop.node);
         if let Some(row) = table.nodes.get_mut(stop.node) {
-            if row.omit && !is_kept && !is_referred {
+            if is_omitted(row, known, has_symbol) {
                 row.deleted = usize::MAX;
                 omits = true;
             }
         }
     }
     omits
+}
+
+/// Whether a node isn't there at the end.
+fn is_omitted(row: &NodeRow<'_>, known: &Known, has_symbol: bool) -> bool
+    ensures { IsTrue result ↔ IsOmitted row.now known.now has_symbol }
+{
+    row.omit && !known.is_referred && !has_symbol
 }

@@ -1,0 +1,5 @@
+mod Comments
+mod GapEnds
+mod GapHere
+mod Integers
+mod Markers
