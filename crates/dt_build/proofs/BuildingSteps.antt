@@ -46,6 +46,9 @@ fits-within size limit counted is less small = omega (arith, is, less, small)
 pub too-long : (size limit counted : ℕ) → counted ≡ min size (2 ^ 64 - 1) → limit < counted → limit < size
 too-long size limit counted is more = omega (arith, is, more)
 
+pub passed : (size limit counted : ℕ) → counted ≡ min size (2 ^ 64 - 1) → limit < counted → limit < 2 ^ 64 - 1
+passed size limit counted is more = omega (arith, is, more)
+
 pub tree-made : (symbols : Bool) (source : Source) (p : Prepared) (rs : List (ℕ × ℕ)) (root : NodeData) (t : TreeData) → t ≡ tree_data (filter is_reserve rs) 0 root → rs ≡ source.reserves.items
     → path_map root ≡ map_of (lists symbols p) → tree_map t ≡ tree_map_of (meaning_of source) (lists symbols p)
 tree-made symbols source p rs root t is same made = ap tree_map is ∙ (λ i. record { nodes = made i; reserves = filter is_reserve (same i); boot_cpu = 0 })
@@ -69,7 +72,8 @@ module _ (symbols : Bool) (source : Source) (es : List (Definition (List Found))
   built lawful fits limit None h = record {
     lists = lists symbols p;
     resolves = prepared-resolved symbols (meaning_of source) es p is fits;
-    longer = h;
+    longer = h.0;
+    passable = h.1;
     trees = λ b sound same. lists-within symbols p (prepared-ready lawful) prepared-free fits b sound same;
   }
 

@@ -1,5 +1,5 @@
 -- The node of fixups, made of the sites by label.
-use Rattle.std.proofs.Common.{◌≡◌, ℕ, ◌<◌, Bool, true, false, List, [], ◌∷◌, ◌++◌, length, map, refl, sym, ap, ap₂, ◌∙◌, append_assoc, arith}
+use Rattle.std.proofs.Common.{◌≡◌, ℕ, ◌<◌, Bool, true, false, List, [], ◌∷◌, ◌++◌, length, map, refl, sym, ap, ap₂, ◌∙◌, subst, append_assoc, arith}
 use Rattle.dt_tree.specs.declared.property.Property.{Property}
 use Rattle.dt_tree.specs.NodeData.{NodeData, property_names}
 use Rattle.dt_tree.specs.Sound.{are_distinct}
@@ -21,9 +21,11 @@ use Rattle.dt_build.specs.declared.fixups_by_label.LabelFixups.{LabelFixups}
 use Rattle.dt_build.specs.Private.ByLabel.{fixups_path, given}
 use Rattle.dt_build.specs.Private.Made.{all_phandles, fixup_lists, founds, made_sites, symbol_lists}
 use Rattle.dt_build.specs.Private.Ready.{IsReady}
-use Rattle.dt_build.proofs.FixupLists.{fixups-at, fixups-distinct}
+use Rattle.dt_build.proofs.FixupLists.{fixups-at, fixups-distinct, fixups-names}
 use Rattle.dt_build.proofs.ListsOfPrepared.{fixups-new, symbols-whole}
 use Rattle.dt_build.proofs.MoreWalked.{child-walked}
+use Rattle.dt_build.proofs.NamedSources.{IsName}
+use Rattle.dt_build.proofs.SiteNames.{made-labelled}
 use Rattle.dt_build.proofs.SizeOfWalk.{held-own}
 use Rattle.dt_build.proofs.SymbolsLast.{with-none}
 
@@ -36,6 +38,16 @@ label_fixups-put old new x left rest g whole first more name value so =
     ∙ append_assoc (defined_at fixups_path old) (definition fixups_path x.name x.value ∷ []) (given rest)
     ∙ ap₂ (λ n v. defined_at fixups_path old ++ definition fixups_path n v ∷ given rest) name value
     ∙ ap (λ gs. defined_at fixups_path old ++ given gs) (sym first) ∙ so
+
+-- its label is a name
+label-of : (es : List (Definition (List ℕ))) (g : LabelFixups) (gs : List LabelFixups) → Each (λ e. IsName e.name) (es ++ given (g ∷ gs)) → IsName g.label.now
+label-of [] g gs h = h.0
+label-of (e ∷ es) g gs h = label-of es g gs h.1
+
+pub label_fixups-named : (p : Prepared) → IsReady p → (old : List Property) (left rest : List LabelFixups) (g : LabelFixups) → left ≡ g ∷ rest → defined_at fixups_path old ++ given left ≡ fixups (made_sites p) [] → IsName g.label.now
+label_fixups-named p ready old left rest g first so =
+    label-of (defined_at fixups_path old) g rest
+    (subst (Each (λ e. IsName e.name)) (sym so ∙ ap (λ gs. defined_at fixups_path old ++ given gs) first) (fixups-names IsName (made_sites p) (made-labelled p ready)))
 
 -- ---- no name stands twice
 held-all : (q : Path) (es : List (Definition (List ℕ))) → Each (λ e. e.path ≡ q) es → held es q ≡ es

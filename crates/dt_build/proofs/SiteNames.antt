@@ -1,5 +1,5 @@
 -- The places of phandles are at nodes of the tree, and their names and labels are names.
-use Rattle.std.proofs.Common.{◌≡◌, ◌+◌, ℕ, Bool, true, false, List, [], ◌∷◌, length, map, Option, sym, subst}
+use Rattle.std.proofs.Common.{◌≡◌, ◌+◌, ◌<◌, ℕ, Bool, true, false, List, [], ◌∷◌, length, get_or, map, Option, sym, subst}
 use Rattle.std.specs.Prelude.{All}
 use Rattle.dt_meaning.specs.Paths.{Path, is_listed}
 use Rattle.dt_meaning.specs.Edits.{Definition}
@@ -7,9 +7,12 @@ use Rattle.dt_meaning.specs.References.{Found, Bytes, Cell, Open, PathText, in_o
 use Rattle.dt_meaning.specs.Phandles.{PathPhandle}
 use Rattle.dt_meaning.specs.Fixups.{Site, bytes_of, label_found, sites, sites_in}
 use Rattle.dt_meaning.specs.Resolved.{when}
-use Rattle.dt_edit.specs.Said.{tree_of}
-use Rattle.dt_live.proofs.Each.{Each, each-append, each-flat, each-more, each-of, each-same}
+use Rattle.dt_edit.specs.Said.{Parts, tree_of}
+use Rattle.dt_live.specs.declared.preorder.properties.NodeProperty.{NodeProperty}
+use Rattle.dt_live.proofs.Each.{Each, each-all, each-append, each-flat, each-more, each-of, each-same}
 use Rattle.dt_resolve.specs.declared.prepared.Prepared.{Prepared}
+use Rattle.dt_resolve.specs.Private.ReadProperty.{read_property}
+use Rattle.dt_resolve.proofs.ReadOrder.{read-order}
 use Rattle.dt_build.specs.Private.Made.{all_phandles, founds, made_sites}
 use Rattle.dt_build.specs.Private.Ready.{IsNamedFound, IsReady}
 use Rattle.dt_build.proofs.ApartLists.{each-from}
@@ -73,12 +76,21 @@ module _ (p : Prepared) (ready : IsReady p) where
   founds-labelled =
       each-more (λ e. All IsNamedFound e.value) (λ e. Each IsNamedFound e.value) (founds p) (λ e k. each-of IsNamedFound e.value k) (each-of (λ e. All IsNamedFound e.value) (founds p) ready.named.elsewhere)
 
+  walk-names : Each (λ e. IsName e.name) (in_order (tree_of p.live))
+  walk-names = each-walked (λ e. IsName e.name) (tree_of p.live) (each-of (λ e. IsName e.name) (tree_of p.live).properties ready.named.properties)
+
   founds-names : Each (λ e. IsName e.name) (founds p)
   founds-names =
       let s = tree_of p.live in
       each-from (λ e. IsName e.name) bare (founds p)
-      (subst (Each (λ e. IsName e.name)) (sym (keys-found p.plugin s (in_order s) (founds p) ready.found))
-      (each-same (λ e. IsName e.name) bare (in_order s) (each-walked (λ e. IsName e.name) s (each-of (λ e. IsName e.name) s.properties ready.named.properties))))
+      (subst (Each (λ e. IsName e.name)) (sym (keys-found p.plugin s (in_order s) (founds p) ready.found)) (each-same (λ e. IsName e.name) bare (in_order s) walk-names))
+
+  -- the name of each property in preorder is one
+  pub property-named : (i : ℕ) (x : NodeProperty Parts) → i < length p.in_preorder.properties.items → x ≡ get_or p.in_preorder.properties.items i x → IsName x.name.now
+  property-named i x below at =
+      let xs = p.in_preorder.properties.items in
+      let read = each-from (λ e. IsName e.name) (read_property p.live.nodes.items) xs (subst (Each (λ e. IsName e.name)) (sym (read-order p.live xs ready.properties)) walk-names) in
+      subst (λ (y : NodeProperty Parts). IsName y.name.now) (sym at) (each-all (λ y. IsName y.name.now) xs read i x below)
 
   -- the label of a place is a name
   pub made-labelled : Each (λ x. IsOfLabel IsName x.label) (made_sites p)

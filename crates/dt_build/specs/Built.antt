@@ -19,11 +19,12 @@ pub record IsTreeOf (symbols : Bool) (m : Meaning) (t : TreeData) : Type 0 where
   pub resolves : resolved symbols m ≡ Ok lists
   pub map : tree_map t ≡ tree_map_of m lists
 
--- the values of the resolved tree have more bytes together than this, and so has each tree with its map
+-- the values of the resolved tree have more bytes together than this limit, which numbers can pass, and so has each tree with its map
 pub record IsLonger (symbols : Bool) (m : Meaning) (limit : ℕ) : Type 0 where
   pub lists : Resolved
   pub resolves : resolved symbols m ≡ Ok lists
   pub longer : limit < size_in lists.properties
+  pub passable : limit < 2 ^ 64 - 1
   pub trees : (b : NodeData) → IsSound b → path_map b ≡ map_of lists → size_in lists.properties ≤ size_below b
 
 -- the tree is the resolved one, and its values have no more bytes together than a limit below the greatest number

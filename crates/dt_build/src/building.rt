@@ -47,8 +47,8 @@ fn fitting_tree(
     let reserves = Vec::from_slice(alloc, source.reserves.as_slice())?;
     match Tree::new(reserves, 0, root) {
         Ok(tree) => Ok(Some(tree)),
-        // never: the root has no name
-        Err(_) => Err(AllocError),
+        // the root has no name
+        Err(_) => unreachable!(),
     }
 }
 
@@ -119,8 +119,8 @@ pub fn build(
 {
     match build_within(alloc, hasher, source, symbols, usize::MAX) {
         Ok(Some(tree)) => Ok(tree),
-        // values of 2^64 bytes don't fit into memory
-        Ok(None) => Err(BuildError::NoMemory),
+        // no size is counted beyond this limit
+        Ok(None) => unreachable!(),
         Err(error) => Err(error),
     }
 }

@@ -18,7 +18,7 @@ use crate::fixup_sites::{FixupSite, site_at, walk_behind, whole_walk};
 use crate::fixups_by_label::collect_by_label;
 use dt_live::path_size;
 use dt_resolve::Prepared;
-use dt_tree::{Bytes, Name, Property, lawful_name};
+use dt_tree::{Bytes, Property, lawful_name};
 use dt_tree_builder::TreeBuilder;
 use std::alloc::{AllocError, Global};
 
@@ -55,17 +55,6 @@ pub(crate) fn fixups_size(prepared: &Prepared<'_, '_>) -> usize
     size
 }
 
-/// A copy of a label.
-pub(crate) fn label_name(alloc: Global, label: &[u8]) -> Result<Name, AllocError>
-    ensures { IfOk result (λ name. name ≡ label.now) }
-{
-    match Name::new(alloc, label) {
-        Ok(name) => Ok(name),
-        // of memory alone: the labels of a lawful source are names
-        Err(_) => Err(AllocError),
-    }
-}
-
 // One property a label that no node has.
 fn fixups_of(alloc: Global, prepared: &Prepared<'_, '_>) -> Result<Vec<Property>, AllocError>
     requires { IsReady prepared.now }
@@ -75,7 +64,7 @@ fn fixups_of(alloc: Global, prepared: &Prepared<'_, '_>) -> Result<Vec<Property>
     let mut properties = Vec::with_capacity(alloc, by_label.len())?;
     for label_fixups in by_label {
         properties.push(Property {
-            name: label_name(alloc, label_fixups.label)?,
+            name: lawful_name(alloc, label_fixups.label)?,
             value: Bytes::from_vec(label_fixups.text),
         })?;
     }

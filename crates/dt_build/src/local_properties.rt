@@ -4,6 +4,7 @@ ghost use Rattle.std.specs.List.{list_any};
 ghost use Rattle.dt_meaning.specs.Edits.{is_of};
 ghost use Rattle.dt_meaning.specs.Fixups.{bytes_of, label_found, local_fixups, sites_in};
 ghost use Rattle.dt_meaning.specs.Paths.{Path};
+ghost use Rattle.dt_tree.specs.Name.{is_name};
 ghost use Rattle.dt_live.specs.Rows.{node_path};
 ghost use Rattle.dt_resolve.specs.Targets.{IsKnown};
 ghost use Rattle.dt_build.specs.Private.Made.{all_phandles, made_sites};
@@ -11,12 +12,11 @@ ghost use Rattle.dt_build.specs.Private.LocalFixups.{IsAtNode, cells_at, cells_o
 ghost use Rattle.dt_build.specs.Private.Ready.{IsReady};
 ghost use Rattle.dt_build.specs.Private.Values.{found_of, founds_of};
 
-use crate::fixups::label_name;
 use crate::value::{part_size, target_at, target_count, targets_behind};
 use dt_live::NodeProperty;
 use dt_resolve::Prepared;
 use dt_source::Part;
-use dt_tree::{Bytes, Property};
+use dt_tree::{Bytes, Property, lawful_name};
 use std::alloc::{AllocError, Global};
 
 /// A property of the local fixups of a node.
@@ -98,6 +98,7 @@ fn put_local(
 ) -> Result<(), AllocError>
     requires ready { IsReady prepared.now }
     requires known { All (IsKnown prepared.now.live) targets.now }
+    requires named { is_name node_property.now.name.now ≡ true }
     requires lacks { list_any (is_of (local_path (node_path prepared.now.live node_property.now.node)) node_property.now.name.now) (local_definitions (node_path prepared.now.live) locals.old.items) ≡ false }
     requires node { IsAtNode prepared.now node_property.now.node }
     requires nodes { All (λ x. IsAtNode prepared.now x.node) locals.old.items }
@@ -111,7 +112,7 @@ fn put_local(
     locals.push(LocalFixup {
         node: node_property.node,
         property: Property {
-            name: label_name(alloc, node_property.name)?,
+            name: lawful_name(alloc, node_property.name)?,
             value: Bytes::from_vec(cells),
         },
     })?;

@@ -1,3 +1,4 @@
+pub mod AllRows
 pub mod Behind
 pub mod BlankRows
 pub mod Climbs

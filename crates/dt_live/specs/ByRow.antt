@@ -1,9 +1,10 @@
 -- The rows of a live tree as nodes and properties of its tree (Devicetree Specification v0.4, sections 2.2 and 5.4).
-use Rattle.std.specs.Prelude.{ℕ, Bool, not, ◌&&◌, List, [], Option, Some, None, is_some}
+use Rattle.std.specs.Prelude.{◌≡◌, ℕ, Bool, true, not, ◌&&◌, List, [], Option, Some, None, is_some}
 use Rattle.std.specs.List.{list_all}
 use Rattle.dt_tree.specs.Name.{is_name}
 use Rattle.dt_meaning.specs.Edits.{Definition, definition}
 use Rattle.dt_live.specs.declared.live_tree.LiveTree.{LiveTree}
+use Rattle.dt_live.specs.declared.live_tree.NodeRow.{NodeRow}
 use Rattle.dt_live.specs.declared.live_tree.PropertyRow.{PropertyRow}
 use Rattle.dt_live.specs.Rows.{node_path, property_at}
 use Rattle.dt_live.specs.Flattened.{Lent}
@@ -22,8 +23,15 @@ abbrev pub row_property : LiveTree Lent → ℕ → Definition (List ℕ)
 row_property d k = defined_by d (property_at d.properties.items k)
 
 -- no row was removed
-abbrev pub has_all_rows : LiveTree Lent → Bool
-has_all_rows d = list_all (λ r. not r.removed) d.nodes.items && list_all (λ r. is_some r.value) d.properties.items
+abbrev pub have_all_rows : {V : Type 0} → List NodeRow → List (PropertyRow V) → Bool
+have_all_rows nodes properties = list_all (λ r. not r.removed) nodes && list_all (λ r. is_some r.value) properties
+
+abbrev pub has_all_rows : {V : Type 0} → LiveTree V → Bool
+has_all_rows d = have_all_rows d.nodes.items d.properties.items
+
+-- an edit removes no row: a live tree that had all of its rows has all
+abbrev pub KeepsRows : {V : Type 0} → LiveTree V → LiveTree V → Type 0
+KeepsRows old new = has_all_rows old ≡ true → has_all_rows new ≡ true
 
 -- the property's name is lawful
 abbrev pub is_named : Definition (List ℕ) → Bool

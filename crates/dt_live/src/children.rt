@@ -2,6 +2,7 @@
 ghost use Rattle.std.specs.Prelude.{◌≡◌, ◌<◌, ◌++◌, ◌∷◌, ◌==◌, [], ℕ, List, not, true, IfOk, OnOk, if◌then◌else◌};
 ghost use Rattle.dt_meaning.specs.Edits.{with_node, without_node};
 ghost use Rattle.dt_meaning.specs.Paths.{Path};
+ghost use Rattle.dt_live.specs.ByRow.{KeepsRows};
 ghost use Rattle.dt_live.specs.Index.{is_key};
 ghost use Rattle.dt_live.specs.Rows.{HasSameChildStamps, HasSamePropertyStamps, IsLiveTree, IsKept, IsNode, child_stamp, child_of, is_standing, node_path, state_of};
 
@@ -32,6 +33,7 @@ impl<'d, V: Copy> LiveTree<'d, V> {
         ensures there { IfOk result (λ x. is_standing self.new x.0 ≡ true) }
         ensures known { IfOk result (λ x. IsNode self.new x.0) }
         ensures kept { OnOk result ((p : Path) → IsKept p self.old self.new) }
+        ensures rows { OnOk result (KeepsRows self.old self.new) }
         ensures state { OnOk result (state_of self.new ≡ with_node (node_path self.old parent ++ name.now ∷ []) (state_of self.old)) }
         ensures first { IfOk result (λ x. x.1 ≡ not (child_stamp self.old parent name.now == stamp)) }
         ensures stamps { OnOk result ((n : ℕ) (k : List ℕ) → child_stamp self.new n k ≡ (if is_key parent name.now n k then stamp else child_stamp self.old n k)) }

@@ -2,12 +2,12 @@
 ghost use Rattle.std.specs.Prelude.{◌≡◌, true, IfOk, OnOk};
 ghost use Rattle.dt_meaning.specs.Edits.{empty};
 ghost use Rattle.dt_meaning.specs.Paths.{Path};
+ghost use Rattle.dt_live.specs.ByRow.{KeepsRows, has_all_rows};
 ghost use Rattle.dt_live.specs.Rows.{HasSameNodes, IsLiveTree, IsKept, IsNode, is_standing, node_path, state_of};
 ghost use Rattle.dt_live.specs.Flattened.{IsFlattened, lists};
 ghost use Rattle.dt_live.specs.Private.Flattening.{with_tree, with_values};
 
 use crate::live_tree::LiveTree;
-use crate::whole::has_all_rows;
 use dt_tree::{Node, Property, Tree};
 use std::alloc::{AllocError, Global};
 use std::hash::RandomState;
@@ -35,15 +35,12 @@ pub fn flatten<'t>(
 fn fill<'t>(live: &mut LiveTree<'t, &'t [u8]>, tree: &'t Tree) -> Result<(), AllocError>
     requires sound { IsLiveTree live.old }
     requires empty { state_of live.old ≡ empty }
+    requires rows { has_all_rows live.old ≡ true }
     ensures { OnOk result (IsFlattened live.new tree.now.root) }
 {
     let root = tree.root();
     root.check();
     flatten_node(live, 0, root)?;
-    // never so: a live tree's contracts are silent on rows that were removed, and here none was
-    if !has_all_rows(live) {
-        return Err(AllocError);
-    }
     Ok(())
 }
 
@@ -58,6 +55,7 @@ fn flatten_properties<'t>(
     requires stands { is_standing live.old node ≡ true }
     ensures sound { OnOk result (IsLiveTree live.new) }
     ensures kept { OnOk result (HasSameNodes live.old live.new) }
+    ensures rows { OnOk result (KeepsRows live.old live.new) }
     ensures labels { OnOk result ((state_of live.new).labels ≡ (state_of live.old).labels) }
     ensures lists { OnOk result (lists live.new ≡ with_values (node_path live.old node) properties.now (lists live.old)) }
 {
@@ -79,6 +77,7 @@ fn flatten_node<'t>(
     requires stands { is_standing live.old number ≡ true }
     ensures sound { OnOk result (IsLiveTree live.new) }
     ensures kept { OnOk result ((p : Path) → IsKept p live.old live.new) }
+    ensures rows { OnOk result (KeepsRows live.old live.new) }
     ensures labels { OnOk result ((state_of live.new).labels ≡ (state_of live.old).labels) }
     ensures lists { OnOk result (lists live.new ≡ with_tree (node_path live.old number) node.now (lists live.old)) }
 {

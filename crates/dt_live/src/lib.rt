@@ -18,7 +18,6 @@ mod preorder;
 mod properties;
 mod reserved;
 mod rows;
-mod whole;
 
 pub use flattening::flatten;
 pub use labels::LabelError;
@@ -30,4 +29,3 @@ pub use live_tree::{LabelRow, LiveTree, NodeRow, PropertyRow};
 pub use path_text::{append_names, append_path, is_root_child, names_size, path_size};
 pub use preorder::{NodeProperty, Preorder, preorder_of};
 pub use reserved::is_reserved;
-pub use whole::has_all_rows;

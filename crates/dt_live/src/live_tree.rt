@@ -1,6 +1,7 @@
 //! A live tree: tables of rows in order of definition, and an index of each.
-ghost use Rattle.std.specs.Prelude.{◌≡◌, ◌+◌, ◌-◌, ◌^◌, IfSome, IsNone, IsSome};
+ghost use Rattle.std.specs.Prelude.{◌≡◌, ◌+◌, ◌-◌, ◌^◌, true, IfSome, IsNone, IsSome};
 ghost use Rattle.dt_meaning.specs.Edits.{empty};
+ghost use Rattle.dt_live.specs.ByRow.{has_all_rows};
 ghost use Rattle.dt_live.specs.Rows.{HasSameChildStamps, HasSameNodes, HasSamePropertyStamps, IsLiveTree, IsNode, IsStamped, IsUnbegun, is_standing, state_of};
 
 use crate::index::Index;
@@ -49,6 +50,7 @@ impl<'d, V: Copy> LiveTree<'d, V> {
     pub fn new(alloc: Global, hasher: RandomState) -> Self
         ensures sound { IsLiveTree result }
         ensures state { state_of result ≡ empty }
+        ensures rows { has_all_rows result ≡ true }
         ensures stamped { IsStamped result }
         ensures unbegun { IsUnbegun result }
     {

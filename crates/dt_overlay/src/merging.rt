@@ -1,5 +1,6 @@
 //! The fragments of an overlay, merged into the base.
 ghost use Rattle.std.specs.Prelude.{◌≡◌, ◌+◌, Ok, OnOk, MatchResult, length, option_map};
+ghost use Rattle.dt_live.specs.ByRow.{KeepsRows};
 ghost use Rattle.dt_live.specs.Rows.{IsLiveTree, node_path, state_of};
 ghost use Rattle.dt_overlay_meaning.specs.Applied.{with_fragment};
 ghost use Rattle.dt_overlay_meaning.specs.Shifted.{fragments};
@@ -13,7 +14,7 @@ ghost use Rattle.dt_overlay.specs.Private.Merging.{AreKept, IsMergeable, merged_
 use crate::fragments::Fragment;
 use crate::part::merge_part;
 use dt_fixup::{OverlayError, PatchedOverlay};
-use dt_live::{LiveTree, has_all_rows};
+use dt_live::LiveTree;
 use std::alloc::Global;
 
 /// Merges all fragments into the base, in order. After a refusal the live tree is of no more use.
@@ -34,9 +35,6 @@ pub(crate) fn merge_fragments<'s, 't>(
     for fragment in list {
         merge_fragment(live, patched, *fragment, base_nodes.as_mut_slice())?;
     }
-    if !has_all_rows(live) {
-        return Err(OverlayError::NoMemory);
-    }
     Ok(())
 }
 
@@ -54,6 +52,7 @@ fn merge_fragment<'s, 't>(
     requires room { length base_nodes.old ≡ length patched.now.live.nodes.items + 1 }
     ensures sound { OnOk result (IsLiveTree live.new) }
     ensures kept { OnOk result (AreKept live.old live.new) }
+    ensures rows { OnOk result (KeepsRows live.old live.new) }
     ensures labels { OnOk result ((state_of live.new).labels ≡ (state_of live.old).labels) }
     ensures merged { MatchResult result (λ _. merged_at (patched_lists patched.now) (node_path patched.now.live fragment.body) (option_map (node_path live.old) fragment.target) (lists live.old) ≡ Ok (lists live.new)) (λ e. IsFault e (merged_at (patched_lists patched.now) (node_path patched.now.live fragment.body) (option_map (node_path live.old) fragment.target) (lists live.old))) }
 {

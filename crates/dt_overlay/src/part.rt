@@ -3,6 +3,7 @@ ghost use Rattle.std.specs.Prelude.{◌≡◌, ◌<◌, ◌≤◌, ◌+◌, ◌&
 ghost use Rattle.std.specs.List.{list_any};
 ghost use Rattle.std.specs.Str.{bytes_eq};
 ghost use Rattle.dt_meaning.specs.MapOf.{value_in};
+ghost use Rattle.dt_live.specs.ByRow.{KeepsRows};
 ghost use Rattle.dt_live.specs.Rows.{HasSameNodes, IsLiveTree, IsNode, is_standing, node_path, property_at, state_of};
 ghost use Rattle.dt_meaning.specs.Resolved.{is_too_deep};
 ghost use Rattle.dt_live.specs.Flattened.{IsOrdered, lists};
@@ -37,6 +38,7 @@ pub(crate) fn define_nodes<'s, 't>(
     requires stands { is_standing live.old (slice_index_or base_nodes.old body 0) ≡ true }
     ensures sound { OnOk result (IsLiveTree live.new) }
     ensures kept { OnOk result (AreKept live.old live.new) }
+    ensures rows { OnOk result (KeepsRows live.old live.new) }
     ensures labels { OnOk result ((state_of live.new).labels ≡ (state_of live.old).labels) }
     ensures nodes { OnOk result ((lists live.new).nodes ≡ with_nodes (part_below (patched_lists patched.now) (node_path patched.now.live body) (node_path live.old (slice_index_or base_nodes.old body 0))).nodes (lists live.old).nodes) }
     ensures properties { OnOk result ((lists live.new).properties ≡ (lists live.old).properties) }
@@ -129,6 +131,7 @@ pub(crate) fn set_properties<'s, 't>(
     requires base_nodes { AreBaseNodes patched.now.live live.old (node_path live.old (slice_index_or base_nodes.now part.body 0)) part.body part.end base_nodes.now }
     ensures sound { OnOk result (IsLiveTree live.new) }
     ensures kept { OnOk result (HasSameNodes live.old live.new) }
+    ensures rows { OnOk result (KeepsRows live.old live.new) }
     ensures labels { OnOk result ((state_of live.new).labels ≡ (state_of live.old).labels) }
     ensures properties { OnOk result ((lists live.new).properties ≡ with_values (part_below (patched_lists patched.now) (node_path patched.now.live part.body) (node_path live.old (slice_index_or base_nodes.now part.body 0))).properties (lists live.old).properties) }
 {
@@ -158,6 +161,7 @@ pub(crate) fn merge_part<'s, 't>(
     requires stands { is_standing live.old target ≡ true }
     ensures sound { OnOk result (IsLiveTree live.new) }
     ensures kept { OnOk result (AreKept live.old live.new) }
+    ensures rows { OnOk result (KeepsRows live.old live.new) }
     ensures labels { OnOk result ((state_of live.new).labels ≡ (state_of live.old).labels) }
     ensures merged { MatchResult result (λ _. merged (part_below (patched_lists patched.now) (node_path patched.now.live body) (node_path live.old target)) (lists live.old) ≡ Ok (lists live.new)) (λ e. IsFault e (merged (part_below (patched_lists patched.now) (node_path patched.now.live body) (node_path live.old target)) (lists live.old))) }
 {

@@ -3,6 +3,7 @@ ghost use Rattle.std.specs.Prelude.{◌≡◌, ◌≤◌, ◌<◌, ◌++◌, [],
 ghost use Rattle.dt_meaning.specs.Names.{symbols_name};
 ghost use Rattle.dt_meaning.specs.Edits.{definition};
 ghost use Rattle.dt_tree.specs.Name.{is_name};
+ghost use Rattle.dt_live.specs.ByRow.{KeepsRows};
 ghost use Rattle.dt_live.specs.Rows.{IsLiveTree, IsGrown, path_of, property_at, state_of};
 ghost use Rattle.dt_tree.specs.Path.{behind_slashes, text_or_root};
 ghost use Rattle.dt_live.specs.Flattened.{IsWhole, lists};
@@ -15,7 +16,7 @@ ghost use Rattle.dt_overlay.specs.Private.Symbols.{symbol_at, symbol_value, symb
 use crate::symbol_sizes::{is_symbols_node, text_size};
 use crate::symbol_target::symbol_target;
 use dt_fixup::PatchedOverlay;
-use dt_live::{LiveTree, NodeRow, append_names, has_all_rows};
+use dt_live::{LiveTree, NodeRow, append_names};
 use std::alloc::{AllocError, Global};
 
 /// A symbol and the path of its node, with a zero byte.
@@ -106,6 +107,7 @@ fn put_symbol<'s>(
 ) -> Result<(), AllocError>
     requires { IsLiveTree live.old }
     ensures sound { OnOk result (IsLiveTree live.new) }
+    ensures rows { OnOk result (KeepsRows live.old live.new) }
     ensures labels { OnOk result ((state_of live.new).labels ≡ (state_of live.old).labels) }
     ensures put { OnOk result (lists live.new ≡ with_symbol (definition (symbols_name ∷ []) name.now value.now) (lists live.old)) }
 {
@@ -126,9 +128,6 @@ pub(crate) fn put_symbols<'s, 't>(
 {
     for symbol in symbols {
         put_symbol(live, symbol.name, symbol.value.as_slice())?;
-    }
-    if !has_all_rows(live) {
-        return Err(AllocError);
     }
     Ok(())
 }

@@ -13,6 +13,7 @@ pub record IsFittingTree (symbols : Bool) (m : Meaning) (p : Prepared) (limit : 
   pub map : tree_map t ≡ tree_map_of m (lists symbols p)
   pub fits : limit < 2 ^ 64 - 1 → size_in (lists symbols p).properties ≤ limit
 
+-- or none, as its values are longer than such a limit
 abbrev pub IsFitting : Bool → Meaning → Prepared → ℕ → Option TreeData → Type 0
 IsFitting symbols m p limit (Some t) = IsFittingTree symbols m p limit t
-IsFitting symbols m p limit None = limit < size_in (lists symbols p).properties
+IsFitting symbols m p limit None = (limit < size_in (lists symbols p).properties) × (limit < 2 ^ 64 - 1)

@@ -14,6 +14,7 @@ use Rattle.dt_build.specs.Private.FixupSites.{all_left}
 use Rattle.dt_build.specs.Private.Values.{all_uses}
 use Rattle.dt_build.proofs.LocalKeys.{AreOthers, first-lacks, node_property-apart, local_list-next, none-yet, others-next}
 use Rattle.dt_build.proofs.OwnSteps.{all-drop}
+use Rattle.dt_build.proofs.SiteNames.{property-named}
 use Rattle.dt_build.proofs.SitesOfFounds.{all-sites}
 use Rattle.dt_build.proofs.local_properties.local_properties.Goals as goal
 
@@ -30,6 +31,15 @@ loop-node_property-init c =
       all = ap₂ (λ (ts : List (Option ℕ)) (xs : List LocalFixup). local_fixups (all_left (all_phandles p) path p.in_preorder.properties.items ts) (local_definitions path xs)) c.as_slice-targets.ensures.value none
           ∙ ap (λ xs. local_fixups xs []) (all-sites p r ∙ ap (λ t. when t (sites (all_phandles p) (founds p))) (sym c.requires.plugin));
     }
+
+pub put_local-requires-clause-named : goal.put_local-requires-clause-named
+put_local-requires-clause-named c =
+    let p = c.args.prepared.now in
+    let x = c.node_property-item.result in
+    let i = c.loop-node_property.node_property-index in
+    let same = c.as_slice-node_property-items.ensures.value in
+    let below : i < length p.in_preorder.properties.items = omega (arith, c.loop-node_property-test.true, ap length same) in
+    property-named p c.requires.ready i x below (c.node_property-item.is ∙ ap (λ (ys : List (NodeProperty Parts)). get_or ys i x) same)
 
 pub put_local-requires-clause-lacks : goal.put_local-requires-clause-lacks
 put_local-requires-clause-lacks c =

@@ -21,4 +21,4 @@ returns-clause-all c =
     let x = c.args.node_property.now in
     let some : 0 < length c.in_ok-cells.cells.items = grind (arith, nat_tests, c.is_empty.ensures, c.if-is_empty.false) in
     one-put (all_phandles p) path (path x.node) x.name.now (founds_of path x.value.now c.args.targets.now) c.args.locals.now.items c.requires.lacks c.in_ok-cells.cells.items (c.in_ok-cells.ensures (path x.node) x.name.now)
-    c.push.new.self.items _ some c.in_ok-push.ensures.items refl c.in_ok-label_name.ensures c.from_vec.ensures
+    c.push.new.self.items _ some c.in_ok-push.ensures.items refl c.in_ok-lawful_name.ensures c.from_vec.ensures

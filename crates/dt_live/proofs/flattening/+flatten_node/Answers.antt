@@ -14,6 +14,7 @@ loop-child-init t c =
     record {
       sound = e.sound;
       kept = all-kept c.args.live.now c.flatten_properties.new.live e.kept;
+      rows = e.rows;
       labels = e.labels;
       rest =
           ap (λ f. with_siblings p f (lists c.flatten_properties.new.live)) c.children-child-items.ensures.nodes
@@ -47,6 +48,7 @@ loop-child-preserved t c =
     record {
       sound = e.sound;
       kept = all-then old before c.flatten_node.new.live i.kept (all-then before one c.flatten_node.new.live d.kept e.kept);
+      rows = λ all. e.rows (d.rows (i.rows all));
       labels = e.labels ∙ ap (λ s. s.labels) d.state ∙ i.labels;
       rest =
           ap (with_siblings p (siblings (drop (at + 1) items)))

@@ -1,4 +1,4 @@
-use Rattle.std.proofs.Common.{◌≡◌, sym, ap, ap₂, ◌∙◌, [], subst}
+use Rattle.std.proofs.Common.{◌≡◌, ap, ap₂, ◌∙◌, [], subst}
 use Rattle.dt_tree.specs.Sound.{IsSound}
 use Rattle.dt_tree_builder.specs.Lists.{lists_of}
 use Rattle.dt_live.specs.Flattened.{lists}
@@ -15,4 +15,4 @@ returns c =
     let e = c.in_ok-flatten_node.ensures in
     let root = c.root-root.ensures in
     let same : lists d ≡ lists_of b = e.lists ∙ ap₂ (λ t s. with_tree [] t (seen s)) root c.requires.empty ∙ tree-listed b (subst IsSound root c.check.ensures) in
-    flattening d b e.sound (subst IsSound root c.check.ensures) (sym c.has_all_rows.ensures ∙ c.if-not-has_all_rows.false) (e.labels ∙ ap (λ s. s.labels) c.requires.empty) same
+    flattening d b e.sound (subst IsSound root c.check.ensures) (e.rows c.requires.rows) (e.labels ∙ ap (λ s. s.labels) c.requires.empty) same

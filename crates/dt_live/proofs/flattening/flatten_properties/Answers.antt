@@ -20,6 +20,7 @@ loop-property-preserved c =
     record {
       sound = e.sound;
       kept = e.kept ∙ i.kept;
+      rows = λ all. e.rows (i.rows all);
       labels = ap (λ s. s.labels) e.state ∙ i.labels;
       rest =
           ap (with_values p (drop (at + 1) ps)) (property-more before c.set_property.new.self p x c.as_slice.result c.as_slice.ensures state)

@@ -3,7 +3,7 @@ use Rattle.std.proofs.lemmas.Result.{err_from_is_err_and}
 use Rattle.dt_live.specs.Rows.{node_path}
 use Rattle.dt_live.proofs.Keeping.{kept-itself, kept-then}
 use Rattle.dt_live.specs.Flattened.{lists}
-use Rattle.dt_live.proofs.WholeTrees.{whole-bare, whole-rows}
+use Rattle.dt_live.proofs.WholeTrees.{whole-all, whole-bare, whole-rows}
 use Rattle.dt_fixup.specs.PatchedOverlay.{patched_lists}
 use Rattle.dt_overlay_meaning.specs.Steps.{fold, then_do}
 use Rattle.dt_overlay_meaning.specs.Shifted.{fragments}
@@ -18,6 +18,7 @@ loop-fragment-init c =
       room = omega (arith, c.in_ok-base_nodes.ensures.len, ap length c.nodes.ensures);
       sound = c.requires.base.sound;
       kept = λ p. kept-itself p d.nodes.items;
+      rows = whole-all d c.requires.base;
       labels = whole-bare d c.requires.base;
       lawful = whole-lawful d c.requires.base;
       rest = refl;
@@ -62,6 +63,7 @@ loop-fragment-preserved c =
       room = same-room c.loop-fragment.base_nodes.len c.merge_fragment.new.base_nodes c.loop-fragment.base_nodes.items (search rules) (search rules) ∙ inv.room;
       sound = e.sound;
       kept = λ p. kept-then p base.nodes.items d.nodes.items new.nodes.items (inv.kept p) (e.kept p);
+      rows = e.rows inv.rows;
       labels = e.labels ∙ inv.labels;
       lawful = merged-at-lawful (patched_lists s) (node_path s.live f.body) _ (lists d) (lists new) (patched-lawful s c.requires.patched) (target-named base c.requires.base s is.0 f is.1) inv.lawful made;
       rest =
@@ -74,7 +76,7 @@ pub returns-clause-whole : goal.returns-clause-whole
 returns-clause-whole c =
     let d = c.loop-fragment.live in
     let inv = c.loop-fragment.invariant in
-    whole-rows d inv.sound (sym c.has_all_rows.ensures ∙ c.if-not-has_all_rows.false) inv.labels inv.lawful.nodes inv.lawful.properties
+    whole-rows d inv.sound inv.rows inv.labels inv.lawful.nodes inv.lawful.properties
 
 pub returns-clause-merged : goal.returns-clause-merged
 returns-clause-merged c =

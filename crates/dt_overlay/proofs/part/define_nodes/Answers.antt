@@ -45,6 +45,7 @@ loop-node-init c =
       high = let h = c.requires.body in omega (arith, h, ap length c.nodes-nodes.ensures);
       sound = c.requires.sound;
       kept = λ p. kept-itself p d.nodes.items;
+      rows = λ all. all;
       labels = refl;
       room = refl;
       inside = λ k from lt. absurd (omega (arith, from, lt));
@@ -168,6 +169,7 @@ loop-node-preserved c =
       high = omega (arith, c.loop-node-test.true);
       sound = e.sound;
       kept = λ p. kept-then p old.nodes.items d.nodes.items new.nodes.items (i.kept p) (e.kept p);
+      rows = λ all. e.rows (i.rows all);
       labels = ap (λ s. s.labels) e.state ∙ i.labels;
       room = length-set base_nodes n base_node ∙ i.room;
       inside = inside-more over whole ordered b known top t d base_nodes n k at (get_or c.nodes-nodes.result.now (n - 1) blank_row) row i.low lt i.inside i.base_nodes low;

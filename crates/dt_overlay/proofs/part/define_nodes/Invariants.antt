@@ -1,5 +1,6 @@
 use Rattle.std.proofs.Common.{◌≡◌, ◌<◌, ◌≤◌, ◌||◌, length, slice_index_or}
 use Rattle.std.specs.List.{list_any}
+use Rattle.dt_live.specs.ByRow.{KeepsRows}
 use Rattle.dt_live.specs.Rows.{IsLiveTree, node_path, state_of}
 use Rattle.dt_meaning.specs.Resolved.{is_too_deep}
 use Rattle.dt_live.specs.Flattened.{lists}
@@ -15,6 +16,7 @@ invariant-loop-node l = record {
   high : l.node ≤ l.node-end;
   sound : IsLiveTree l.live;
   kept : AreKept l.fn.live l.live;
+  rows : KeepsRows l.fn.live l.live;
   labels : (state_of l.live).labels ≡ (state_of l.fn.live).labels;
   room : length l.base_nodes ≡ length l.fn.base_nodes;
   inside : IsInside l.patched.live.nodes.items l.body l.node;

@@ -22,6 +22,9 @@ returns-clause-kept c =
     let f = c.in_ok-set_properties.ensures in
     λ p. kept-then p c.args.live.now.nodes.items c.define_nodes.new.live.nodes.items c.set_properties.new.live.nodes.items (e.kept p) (kept-same p _ _ f.kept)
 
+pub returns-clause-rows : goal.returns-clause-rows
+returns-clause-rows c all = c.in_ok-set_properties.ensures.rows (c.in_ok-end.ensures.rows all)
+
 pub first_property-requires : goal.first_property-requires
 first_property-requires c =
     record { ordered = subst (λ (rs : List (PropertyRow Lent)). (i j : ℕ) → i ≤ j → j < length rs → (property_at rs i).node ≤ (property_at rs j).node) (sym c.properties-rows.ensures) c.requires.ordered.properties }

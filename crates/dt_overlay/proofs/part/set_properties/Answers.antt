@@ -16,6 +16,7 @@ loop-at-init c =
       high = first-last c.args.patched.now.live p c.requires.part;
       sound = c.requires.sound;
       kept = refl;
+      rows = λ all. all;
       labels = refl;
       rest = ap (λ xs. with_values xs (lists d).properties) (sym (values-start c.args.patched.now c.requires.patched c.requires.ordered p c.requires.part t));
     }
@@ -46,6 +47,7 @@ loop-at-preserved c =
       high = omega (arith, c.loop-at-test.true);
       sound = e.sound;
       kept = e.kept ∙ i.kept;
+      rows = λ all. e.rows (i.rows all);
       labels = ap (λ x. x.labels) e.state ∙ i.labels;
       rest = put-step s c.requires.patched c.requires.ordered p c.requires.part t d c.args.base_nodes.now c.requires.base_nodes at i.low c.loop-at-test.true (property_at c.properties-rows.result.now at) row
           c.loop-at.live c.set_property.new.self c.value.result i.kept c.value.ensures e.state

@@ -1,4 +1,5 @@
 use Rattle.std.proofs.Common.{◌≡◌, ◌≤◌, slice_index_or}
+use Rattle.dt_live.specs.ByRow.{KeepsRows}
 use Rattle.dt_live.specs.Rows.{HasSameNodes, IsLiveTree, node_path, state_of}
 use Rattle.dt_live.specs.Flattened.{lists}
 use Rattle.dt_fixup.specs.PatchedOverlay.{patched_lists}
@@ -13,6 +14,7 @@ invariant-loop-at l = record {
   high : l.at ≤ l.fn.part.last;
   sound : IsLiveTree l.live;
   kept : HasSameNodes l.fn.live l.live;
+  rows : KeepsRows l.fn.live l.live;
   labels : (state_of l.live).labels ≡ (state_of l.fn.live).labels;
   rest : with_values (values_left l.patched l.fn.part.body (node_path l.fn.live (slice_index_or l.base_nodes l.fn.part.body 0)) l.at) (lists l.live).properties
       ≡ with_values (part_below (patched_lists l.patched) (node_path l.patched.live l.fn.part.body) (node_path l.fn.live (slice_index_or l.base_nodes l.fn.part.body 0))).properties (lists l.fn.live).properties;

@@ -8,6 +8,9 @@ use Rattle.dt_live.specs.Flattened.{lists}
 use Rattle.dt_live.proofs.Steps.{node-more, property-more}
 use Rattle.dt_overlay.proofs.symbols.put_symbol.Goals as goal
 
+pub returns-clause-rows : goal.returns-clause-rows
+returns-clause-rows c all = c.in_ok-set_property.ensures.rows (c.in_ok-node.ensures.rows all)
+
 pub returns-clause-put : goal.returns-clause-put
 returns-clause-put c =
     let mid = c.define_child.new.self in

@@ -3,8 +3,10 @@ use Rattle.std.proofs.lemmas.List.{length_push}
 use Rattle.dt_meaning.specs.Edits.{with_node}
 use Rattle.dt_live.specs.declared.live_tree.NodeRow.{NodeRow}
 use Rattle.dt_live.specs.declared.index.IndexEntry.{IndexEntry}
+use Rattle.dt_live.specs.ByRow.{have_all_rows}
 use Rattle.dt_live.specs.Index.{row_of}
 use Rattle.dt_live.specs.Rows.{Found, AreTables, Kept, path_of, stands, state_in}
+use Rattle.dt_live.proofs.AllRows.{node-behind}
 use Rattle.dt_live.proofs.Keeping.{kept-pushed}
 use Rattle.dt_live.proofs.NodeRows.{pushed, new-path, new-stands, node-added, found-child, with-listed}
 use Rattle.dt_live.proofs.StandingProperties.{listed-standing}
@@ -29,6 +31,7 @@ returns-in-Some g c =
       there = ap (λ xs. stands xs c.in-Some.child) e ∙ ap (λ n. stands rows n) f.1 ∙ child.1;
       known = omega (arith, f.1, f.2, ap length e);
       kept = search rules;
+      rows = λ all. ap (λ xs. have_all_rows xs d.properties.items) e ∙ all;
       state =
           ap (λ xs. state_in xs d.properties.items d.labels.items) e
           ∙ with-listed (path_of rows (suc f.0)) (state_in rows d.properties.items d.labels.items) (listed-standing (path_of rows) (stands rows) (length rows) f.0 (omega (arith, f.2)) child.1)
@@ -58,6 +61,7 @@ returns-in_ok-push-in-None g c =
       there = ap (λ rows. stands rows (c.len-node.result + 1)) e ∙ ap (λ n. stands (pushed old r) n) at ∙ new-stands old r c.requires.sound.grown c.requires.known refl c.requires.stands;
       known = omega (arith, at, ap length e, length_push old r);
       kept = λ p. subst (λ (rows : List NodeRow). Kept p old rows) (sym e) (kept-pushed p old r c.requires.sound.grown);
+      rows = λ all. ap (λ xs. have_all_rows xs d.properties.items) e ∙ node-behind old d.properties.items all r refl;
       state =
           ap (λ rows. state_in rows d.properties.items d.labels.items) e
           ∙ node-added old r found d.properties.items d.labels.items c.requires.sound.grown c.requires.sound.nodes c.requires.sound.known c.requires.sound.known_labels

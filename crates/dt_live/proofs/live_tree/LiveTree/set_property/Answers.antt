@@ -2,8 +2,10 @@ use Rattle.std.proofs.Common.{◌≡◌, ◌++◌, ◌∷◌, [], List, Some, le
 use Rattle.std.proofs.lemmas.List.{get_or_default}
 use Rattle.dt_live.specs.declared.live_tree.PropertyRow.{PropertyRow}
 use Rattle.dt_live.specs.declared.index.IndexEntry.{IndexEntry}
+use Rattle.dt_live.specs.ByRow.{have_all_rows}
 use Rattle.dt_live.specs.Index.{row_of}
 use Rattle.dt_live.specs.Rows.{Found, AreTables, no_property, state_in}
+use Rattle.dt_live.proofs.AllRows.{property-behind, property-put}
 use Rattle.dt_live.proofs.Tables.{redefined, newly, tables-put, tables-more, state-put, state-more}
 use Rattle.dt_live.proofs.live_tree.LiveTree.set_property.Goals as goal
 
@@ -30,6 +32,7 @@ returns-in-Some g c =
           (subst (λ (f : Found). AreTables d.nodes.items (slice_set ps i r) d.labels.items (row_of d.node_rows) f (row_of d.label_rows)) (sym same)
           (tables-put d.nodes.items ps d.labels.items (row_of d.node_rows) found (row_of d.label_rows) c.requires.sound i r f.0 (ap (λ x. x.node) was) (ap (λ x. x.name.now) was) f.3 refl));
       kept = search rules;
+      rows = λ all. ap (λ xs. have_all_rows d.nodes.items (slice_set xs i r)) e ∙ property-put d.nodes.items ps all i r refl;
       state =
           ap (λ xs. state_in d.nodes.items (slice_set xs i r) d.labels.items) e
           ∙ state-put d.nodes.items ps d.labels.items (row_of d.node_rows) found (row_of d.label_rows) c.requires.sound i r c.args.node c.args.name.now c.args.value
@@ -55,6 +58,7 @@ returns-in_ok-push-in-None g c =
           (tables-more d.nodes.items ps d.labels.items (row_of d.node_rows) found (row_of d.label_rows) c.requires.sound r (row_of c.define.new.self) c.requires.known refl none
           (newly found (row_of c.define.new.self) c.args.node c.args.name.now c.len-row.result (length ps) none at c.in_ok-entry.ensures.rows));
       kept = search rules;
+      rows = λ all. ap (λ xs. have_all_rows d.nodes.items xs) e ∙ property-behind d.nodes.items ps all r refl;
       state =
           ap (λ xs. state_in d.nodes.items xs d.labels.items) e
           ∙ state-more d.nodes.items ps d.labels.items (row_of d.node_rows) found (row_of d.label_rows) c.requires.sound r c.args.value c.requires.stands none refl;
