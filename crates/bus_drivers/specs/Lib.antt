@@ -4,5 +4,6 @@ pub mod DriverSetBuilder
 pub mod Nodes
 pub mod Private
 pub mod References
+pub mod SupplierForm
 pub mod SupplierTable
 pub mod TreePlan

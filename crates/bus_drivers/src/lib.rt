@@ -29,3 +29,4 @@ pub use fail_line::FailLine;
 pub use graph::plan_graph;
 pub use planning::plan;
 pub use reading::read_drivers;
+pub use supplier_table::Form;

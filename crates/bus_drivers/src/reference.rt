@@ -1,7 +1,7 @@
 ghost use Rattle.std.specs.Prelude.{◌≡◌};
 ghost use Rattle.bus_drivers.specs.Nodes.{target_of};
 ghost use Rattle.bus_drivers.specs.References.{cells_behind, reference_of};
-ghost use Rattle.bus_drivers.specs.Private.TableRows.{form_data};
+ghost use Rattle.bus_drivers.specs.SupplierForm.{form_data};
 
 use crate::phandle_index::PhandleIndex;
 use crate::supplier_table::Form;

@@ -4,7 +4,7 @@ ghost use Rattle.bus_drivers.specs.Nodes.{target_of};
 ghost use Rattle.bus_drivers.specs.References.{and_then, cells_of, references, property_references, all_references};
 ghost use Rattle.bus_drivers.specs.TreePlan.{suppliers_among};
 ghost use Rattle.bus_drivers.specs.Private.Suppliers.{with_mention, IsAdded};
-ghost use Rattle.bus_drivers.specs.Private.TableRows.{form_data};
+ghost use Rattle.bus_drivers.specs.SupplierForm.{form_data};
 
 use crate::phandle_index::PhandleIndex;
 use crate::reference::Reference;

@@ -1,7 +1,9 @@
 //! What each command's refusal is of, by the files that it was given.
 
 use crate::detail::line_in;
-use dtman_diagnosis::{Diagnosis, before_event, diagnose_blob, diagnose_event, diagnose_text};
+use dtman_diagnosis::{
+    Diagnosis, before_event, diagnose_blob, diagnose_event, diagnose_plan, diagnose_text,
+};
 use dtman_engine::{Fault, Place, replay_bytes};
 use std::alloc::{AllocError, Global};
 use std::hash::RandomState;
@@ -36,6 +38,7 @@ pub fn unplanned(
             fault.number,
             line_in(fault),
         ),
+        54..=56 => diagnose_plan(alloc, blob.name, blob.bytes, fault.number),
         _ => diagnose_blob(alloc, blob.name, blob.bytes, fault.number),
     }
 }

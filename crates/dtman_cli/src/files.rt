@@ -18,7 +18,7 @@ pub const INPUT: &str = "stdin";
 const OUTPUT: &str = "stdout";
 
 /// The source of the random seed as the path of a fault.
-pub const SEED: &str = "random";
+const SEED: &str = "random";
 
 /// A source or a blob, or as much of a file as shows that it is too long for one.
 pub fn read_at<'a, S: Surroundings>(

@@ -8,6 +8,7 @@ mod explaining;
 mod failure;
 mod files;
 mod grammar;
+mod noted;
 mod performing;
 mod reading;
 mod running;

@@ -3,13 +3,15 @@ ghost use Rattle.std.specs.Prelude.{◌≡◌, false};
 
 use crate::detail::{Detail, asked_for};
 use crate::failure::{Failure, fail};
-use crate::files::{INPUT, SEED, print};
+use crate::files::{INPUT, print};
+use crate::noted::Noted;
 use crate::performing::perform;
 use crate::reading::command;
-use crate::surroundings::Surroundings;
+use crate::surroundings::{Surroundings, System};
 use clap::error::ErrorKind as Mistake;
-use dtman_engine::{Channel, Fault, OutputChannel};
+use dtman_engine::{Channel, Fault, MAX_TEXT_LEN, OutputChannel};
 use std::alloc::{AllocError, Global};
+use std::cell::Cell;
 use std::io::ErrorKind;
 use std::process::ExitCode;
 use std::random::RandomSource;
@@ -33,14 +35,18 @@ pub const FILE: u8 = 3;
 pub fn run<R: Env + Files + Input + RandomSource + Print + Eprint + AllocGlobal + Threads + Sync>(
     rt: &R,
 ) -> ExitCode {
-    let mut output = OutputChannel::new(io::writer(rt));
-    let mut host = rt;
+    let reason = Cell::new(None);
+    let mut output = OutputChannel::new(Noted::new(io::writer(rt), &reason));
+    let mut system = System {
+        rt,
+        reason: &reason,
+    };
     let status = match arguments(rt) {
         Ok(words) => {
             match listed(rt.alloc(), words.as_slice(), wants_detail(rt)) {
                 Ok(words) => run_words(
                     rt.alloc(),
-                    &mut host,
+                    &mut system,
                     rt,
                     &mut output,
                     rt,
@@ -145,23 +151,36 @@ fn run_command<S: Surroundings, O: Channel, E: Eprint, T: Threads + Sync>(
     }
 }
 
-// A fault of a file, with what the system says where it can't be opened.
+// A fault of a file, with what the system says of it.
 fn fail_file<S: Surroundings, E: Eprint>(
     surroundings: &mut S,
     errors: &E,
     fault: Fault,
     path: &str,
 ) -> u8 {
-    let reason = if fault.number == 80 && path != INPUT && path != SEED {
-        surroundings.reason(path)
-    } else {
-        None
-    };
     let status = fail(errors, Failure::File(fault, path));
-    if let Some(error) = reason {
+    if fault.number == 82 {
+        tell_length(surroundings, errors, path);
+    } else if let Some(error) = surroundings.reason() {
         let _ = eprintln!(errors; "{path}: {error}");
     }
     status
+}
+
+// How long a file is that is too long, where that is known.
+fn tell_length<S: Surroundings, E: Eprint>(surroundings: &mut S, errors: &E, path: &str) {
+    let len = if path == INPUT {
+        None
+    } else {
+        surroundings.len(path)
+    };
+    let limit = MAX_TEXT_LEN as u64;
+    let _ = match len {
+        Some(len) if len > limit => {
+            eprintln!(errors; "{path}: the file has {len} bytes; at most {limit} are read")
+        }
+        _ => eprintln!(errors; "{path}: at most {limit} bytes are read"),
+    };
 }
 
 /// Prints what the words asked `clap` for.

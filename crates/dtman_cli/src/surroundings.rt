@@ -2,6 +2,7 @@
 ghost use Rattle.std.specs.Prelude.{◌≡◌, false, IfOk, IfSome};
 
 use crate::beside::{Beside, create_beside};
+use crate::noted::{Noted, Reason, noting};
 use dtman_engine::{Channel, Failed, FileChannel, InputChannel};
 use std::alloc::Global;
 use std::hash::RandomState;
@@ -40,64 +41,88 @@ pub trait Surroundings {
 
     fn seed(&mut self) -> io::Result<RandomState>;
 
-    /// Why a file can't be opened, by a further try.
-    fn reason(&mut self, _path: &str) -> Option<io::Error> {
+    /// Why the last call failed, where the system told it.
+    fn reason(&mut self) -> Option<io::Error> {
+        None
+    }
+
+    /// How many bytes the file at a path has, where that can be told.
+    fn len(&mut self, _path: &str) -> Option<u64> {
         None
     }
 }
 
-/// The files of the system, its standard input, and its source of random bytes.
-impl<R: Files + Input + RandomSource> Surroundings for &R {
-    type File = FileChannel<R::File>;
+/// The files of the system, its standard input, and its source of random bytes, with why the last call on them failed.
+pub struct System<'a, R> {
+    pub rt: &'a R,
+    pub reason: &'a Reason,
+}
 
-    type Input = InputChannel<R::Reader>;
+impl<R> Drop for System<'_, R> {
+    fn drop(self) {
+        let System { rt: _, reason: _ } = self;
+    }
+}
 
-    fn open(&mut self, path: &str) -> Result<FileChannel<R::File>, Failed> {
-        match fs::open(*self, path) {
-            Ok(file) => Ok(FileChannel::new(file)),
+impl<'a, R: Files + Input + RandomSource> Surroundings for System<'a, R> {
+    type File = FileChannel<Noted<'a, R::File>>;
+
+    type Input = InputChannel<Noted<'a, R::Reader>>;
+
+    fn open(&mut self, path: &str) -> Result<FileChannel<Noted<'a, R::File>>, Failed> {
+        match noting(self.reason, fs::open(self.rt, path)) {
+            Ok(file) => Ok(FileChannel::new(Noted::new(file, self.reason))),
             Err(_) => Err(Failed::Fault),
         }
     }
 
-    fn create(&mut self, path: &str) -> Result<FileChannel<R::File>, Failed> {
-        match fs::create(*self, path) {
-            Ok(file) => Ok(FileChannel::new(file)),
+    fn create(&mut self, path: &str) -> Result<FileChannel<Noted<'a, R::File>>, Failed> {
+        match noting(self.reason, fs::create(self.rt, path)) {
+            Ok(file) => Ok(FileChannel::new(Noted::new(file, self.reason))),
             Err(_) => Err(Failed::Fault),
         }
     }
 
-    fn create_beside(&mut self, alloc: Global, path: &str) -> Option<Beside<FileChannel<R::File>>> {
-        match create_beside(*self, alloc, path) {
+    fn create_beside(
+        &mut self,
+        alloc: Global,
+        path: &str,
+    ) -> Option<Beside<FileChannel<Noted<'a, R::File>>>> {
+        match create_beside(self.rt, alloc, path) {
             Some(Beside { path, file }) => Some(Beside {
                 path,
-                file: FileChannel::new(file),
+                file: FileChannel::new(Noted::new(file, self.reason)),
             }),
             None => None,
         }
     }
 
-    fn input(&mut self) -> InputChannel<R::Reader> {
-        InputChannel::new(self.reader())
+    fn input(&mut self) -> InputChannel<Noted<'a, R::Reader>> {
+        InputChannel::new(Noted::new(self.rt.reader(), self.reason))
     }
 
-    fn close(&mut self, _path: &str, _file: FileChannel<R::File>) {}
+    fn close(&mut self, _path: &str, _file: FileChannel<Noted<'a, R::File>>) {}
 
     fn replace(&mut self, beside: &str, path: &str) -> Result<(), Failed> {
-        fs::rename(*self, beside, path).map_err(|_| Failed::Fault)
+        noting(self.reason, fs::rename(self.rt, beside, path)).map_err(|_| Failed::Fault)
     }
 
     fn remove(&mut self, path: &str) {
-        let _ = fs::remove_file(*self, path);
+        let _ = fs::remove_file(self.rt, path);
     }
 
     fn seed(&mut self) -> io::Result<RandomState> {
-        RandomState::new(*self)
+        noting(self.reason, RandomState::new(self.rt))
     }
 
-    fn reason(&mut self, path: &str) -> Option<io::Error> {
-        match fs::open(*self, path) {
-            Ok(_) => None,
-            Err(error) => Some(error),
+    fn reason(&mut self) -> Option<io::Error> {
+        self.reason.get()
+    }
+
+    fn len(&mut self, path: &str) -> Option<u64> {
+        match fs::metadata(self.rt, path) {
+            Ok(found) => Some(found.len()),
+            Err(_) => None,
         }
     }
 }

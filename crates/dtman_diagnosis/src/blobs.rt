@@ -21,6 +21,18 @@ pub(crate) fn of_file(alloc: Global, file: &[u8], number: u8) -> Result<Diagnosi
     Ok(of_place(alloc, Place::File { file }, number))
 }
 
+/// A diagnosis of a file as a whole, and words.
+pub(crate) fn of_file_with(
+    alloc: Global,
+    file: &[u8],
+    number: u8,
+    words: &'static str,
+) -> Result<Diagnosis, AllocError> {
+    let mut diagnosis = of_file(alloc, file, number)?;
+    diagnosis.notes.push(Note::Words(words))?;
+    Ok(diagnosis)
+}
+
 /// What is refused of the blob in the file of this name by this number, 30 to 38.
 pub fn diagnose_blob(
     alloc: Global,
@@ -30,7 +42,11 @@ pub fn diagnose_blob(
 ) -> Result<Diagnosis, AllocError> {
     match trace_blob(alloc, blob)? {
         // a place says nothing of what is too long
-        Some(fault) if fault.number == number && number != 38 => of_word(alloc, file, &fault),
+        Some(fault) if number == 38 && fault.number == 38 => {
+            of_file_with(alloc, file, number, "the file has more")
+        }
+        None if number == 38 => of_file_with(alloc, file, number, "its text would have more"),
+        Some(fault) if fault.number == number => of_word(alloc, file, &fault),
         _ => of_file(alloc, file, number),
     }
 }

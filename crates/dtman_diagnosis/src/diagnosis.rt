@@ -62,8 +62,11 @@ pub enum Note {
     Shift(u32),
     /// How a device stands, as a report's line.
     Stands(Vec<u8>),
-    /// How many devices there are.
-    Count(usize),
+    /// How many devices there are, and how many a plan may have.
+    Count {
+        devices: usize,
+        most: usize,
+    },
     /// An entry of a property, from 1, and its phandle.
     Entry {
         entry: usize,
@@ -77,6 +80,8 @@ pub enum Note {
         name: &'static [u8],
         count: Option<u32>,
     },
+    /// How many cells stand behind an entry's phandle.
+    Left(usize),
     /// What is said in words.
     Words(&'static str),
 }

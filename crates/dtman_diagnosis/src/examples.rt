@@ -7,7 +7,8 @@ pub fn example_of(number: u8) -> Option<&'static str> {
         20..=29 => of_meaning(number),
         30..=39 => of_blob(number),
         40..=49 => of_overlay(number),
-        _ => of_bus(number),
+        50..=79 => of_bus(number),
+        _ => of_file(number),
     }
 }
 
@@ -96,7 +97,9 @@ fn of_blob(number: u8) -> Option<&'static str> {
         37 => Some(
             "error 37 BadTree\nIN:0x3c: the nodes make no tree\n = wanted is a root without a name, and 0x61000000 stands there\n = in /\n",
         ),
-        38 => Some("error 38 TooLarge\nIN: a blob or a text has at most 268,435,456 bytes\n"),
+        38 => Some(
+            "error 38 TooLarge\nIN: a blob or a text has at most 268,435,456 bytes\n = the file has more\n",
+        ),
         _ => None,
     }
 }
@@ -142,7 +145,15 @@ fn of_bus(number: u8) -> Option<&'static str> {
         53 => Some(
             "error 53 UnknownPath line 1\nPLAN:1:1: the line names a path that no device has\n  |\n1 | /a - - /b\n  | ^^^^^^^^^\n",
         ),
-        56 => Some("error 56 TooManyDevices\nPLAN: there are more devices than a plan may have\n"),
+        54 => Some(
+            "error 54 DanglingPhandle\nBLOB: no node has the phandle of an entry\n = in /a, property clocks\n = entry 1 is phandle 0x7\n",
+        ),
+        55 => Some(
+            "error 55 BadSpecifier\nBLOB: a property doesn't list its suppliers as they want it\n = in /a, property clocks\n = entry 1 is phandle 0x1\n = that is /b, whose #clock-cells is 1\n = cells behind it: 0\n",
+        ),
+        56 => Some(
+            "error 56 TooManyDevices\nPLAN: there are more devices than a plan may have\n = there are 4097 devices; a plan has at most 4096\n",
+        ),
         60 => Some(
             "error 60 NotIdle event 2\nSCHEDULE:2:1: the device is in flight or has settled\n  |\n2 | begin /a\n  | ^^^^^^^^\n  = before it: /a probing\n",
         ),
@@ -155,11 +166,25 @@ fn of_bus(number: u8) -> Option<&'static str> {
         64 => Some(
             "error 64 WasBound event 2\nSCHEDULE:2:1: the device named is no supplier, or was bound at the begin\n  |\n2 | finish /a missing /b\n  | ^^^^^^^^^^^^^^^^^^^^\n  = before it: /a probing\n",
         ),
+        65 => Some(
+            "error 65 TooManyEvents event 1000001\nSCHEDULE:1000001:1: there were 500,000 begins before\n        |\n1000001 | begin /a\n        | ^^^^^^^^\n        = before it: /a due\n",
+        ),
         66 => Some(
             "error 66 NotInFlight event 1\nSCHEDULE:1:1: the device isn't in flight\n  |\n1 | abandon /a\n  | ^^^^^^^^^^\n  = before it: /a due\n",
         ),
         67 => Some(
             "error 67 KnownDriver event 1\nSCHEDULE:1:1: a driver has this name\n  |\n1 | driver x b\n  | ^^^^^^^^^^\n",
+        ),
+        _ => None,
+    }
+}
+
+fn of_file(number: u8) -> Option<&'static str> {
+    match number {
+        80 => Some("error 80 CannotRead IN\nIN: No such file or directory (os error 2)\n"),
+        81 => Some("error 81 CannotWrite stdout\nstdout: Bad file descriptor (os error 9)\n"),
+        82 => Some(
+            "error 82 FileTooLong IN\nIN: the file has 268435457 bytes; at most 268435456 are read\n",
         ),
         _ => None,
     }

@@ -13,6 +13,7 @@ mod plans;
 mod refused;
 mod sentences;
 mod sources;
+mod suppliers;
 mod text;
 
 pub use alike::nearest;
@@ -22,4 +23,5 @@ pub use examples::example_of;
 pub use overlays::diagnose_overlay;
 pub use plans::{before_event, diagnose_event, diagnose_text};
 pub use sources::diagnose_source;
+pub use suppliers::diagnose_plan;
 pub use text::text_of;

@@ -26,7 +26,12 @@ pub fn diagnose_overlay(
     if !is_blob(alloc, overlay)? {
         return diagnose_blob(alloc, overlay_file, overlay, number);
     }
-    Ok(of_place(alloc, Place::Nowhere, number))
+    let mut diagnosis = of_place(alloc, Place::Nowhere, number);
+    if number == 38 {
+        let words = "the tree that the overlay makes would have more";
+        diagnosis.notes.push(Note::Words(words))?;
+    }
+    Ok(diagnosis)
 }
 
 // What is refused of an overlay on a base, once both are trees.

@@ -1,6 +1,8 @@
 //! Refusals of text files of the bus, and of events.
 
+use crate::blobs::of_file;
 use crate::diagnosis::{Diagnosis, Note, Place, Subject, copied};
+use crate::suppliers::add_devices;
 use std::alloc::{AllocError, Global};
 
 /// A line of a text, without its end, its number, and where it begins.
@@ -91,16 +93,22 @@ fn of_line(
     })
 }
 
-fn of_file(alloc: Global, file: &[u8], number: u8) -> Result<Diagnosis, AllocError> {
-    Ok(Diagnosis {
-        number,
-        place: Place::File {
-            file: copied(alloc, file)?,
-        },
-        kind: Subject::Nothing,
-        subject: Vec::new(alloc),
-        notes: Vec::new(alloc),
-    })
+// How many devices a plan has, each in a line that begins with its path.
+fn devices_in(plan: &[u8]) -> usize {
+    let mut devices: usize = 0;
+    for line in plan.split(|b| *b == b'\n') {
+        if line.iter().find(|b| !is_blank(**b)).copied() == Some(b'/') {
+            devices = devices.saturating_add(1);
+        }
+    }
+    devices
+}
+
+// A plan of too many devices.
+fn of_devices(alloc: Global, file: &[u8], plan: &[u8]) -> Result<Diagnosis, AllocError> {
+    let mut diagnosis = of_file(alloc, file, 56)?;
+    add_devices(&mut diagnosis.notes, devices_in(plan))?;
+    Ok(diagnosis)
 }
 
 /// What is refused of a text file by this number, in a line where it tells one, in the file of this name.
@@ -113,6 +121,7 @@ pub fn diagnose_text(
 ) -> Result<Diagnosis, AllocError> {
     match line {
         Some(line) => of_line(alloc, file, line_of(text, line), number),
+        None if number == 56 => of_devices(alloc, file, text),
         None => of_file(alloc, file, number),
     }
 }

@@ -119,7 +119,7 @@ fn of_bus(number: u8) -> Sentence {
         52 => plain("a line before has this path"),
         53 => plain("the line names a path that no device has"),
         54 => plain("no node has the phandle of an entry"),
-        55 => plain("an entry isn't as its provider wants it"),
+        55 => plain("a property doesn't list its suppliers as they want it"),
         56 => plain("there are more devices than a plan may have"),
         60 => plain("the device is in flight or has settled"),
         61 => plain("the device has no driver, or is switched off"),

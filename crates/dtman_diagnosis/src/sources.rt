@@ -1,6 +1,7 @@
 //! Refusals of sources.
 
 use crate::alike::nearest;
+use crate::blobs::of_file_with;
 use crate::diagnosis::{Diagnosis, Note, Place, Subject, copied};
 use crate::refused::{Stop, stop_of};
 use dt_lexeme::{Kind, Lexeme, scan_front};
@@ -33,6 +34,7 @@ pub fn diagnose_source(
     match number {
         10..=16 => refused.spelling(alloc, lexemes.as_slice(), broken),
         20..=28 => refused.meaning(alloc, lexemes.as_slice(), symbols),
+        38 => of_file_with(alloc, file, number, "its blob would have more"),
         _ => refused.whole(alloc),
     }
 }

@@ -130,9 +130,15 @@ fn push_number(out: &mut String, note: &Note) -> Result<(), AllocError> {
         Note::Phandle(phandle) => write!(out, "the phandle is 0x{phandle:x}"),
         Note::Target(phandle) => write!(out, "the target is phandle 0x{phandle:x}"),
         Note::Shift(shift) => write!(out, "phandles of the overlay are raised by 0x{shift:x}"),
-        Note::Count(count) => write!(out, "there are {count} devices"),
+        Note::Count { devices, most } => {
+            write!(
+                out,
+                "there are {devices} devices; a plan has at most {most}"
+            )
+        }
         Note::Entry { entry, phandle } => write!(out, "entry {entry} is phandle 0x{phandle:x}"),
         Note::Length(length) => write!(out, "the value has {length} bytes"),
+        Note::Left(cells) => write!(out, "cells behind it: {cells}"),
         _ => Ok(()),
     }
 }

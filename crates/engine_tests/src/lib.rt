@@ -19,6 +19,8 @@ mod overlay_places;
 #[cfg(test)]
 mod overlaying;
 #[cfg(test)]
+mod plan_places;
+#[cfg(test)]
 mod plugins;
 #[cfg(test)]
 mod probes;

@@ -447,11 +447,13 @@ fn examples(rt: HostRuntime) {
     }
 }
 
-/// What is too long has no place.
+/// What would be too long has no place.
 #[test]
 fn too_long(rt: HostRuntime) {
     let file = b"IN".as_slice();
-    let diagnosis = diagnose_blob(rt.alloc(), file, b"".as_slice(), 38);
-    let lines = example_of(38).expect(&rt, "an example");
+    let blob = blob(&rt, rt.alloc(), WORDS, b"a\0");
+    let diagnosis = diagnose_blob(rt.alloc(), file, blob.as_slice(), 38);
+    let lines =
+        "error 38 TooLarge\nIN: a blob or a text has at most 268,435,456 bytes\n = its text would have more\n";
     shows(&rt, rt.alloc(), diagnosis, lines);
 }

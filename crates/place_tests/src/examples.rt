@@ -69,7 +69,6 @@ const LINES: &[(u8, &str, &str, Option<usize>)] = &[
     (51, "driver a b\ndriver a c\n", "DRIVERS", Some(2)),
     (52, "/a - -\n/a - -\n", "PLAN", Some(2)),
     (53, "/a - - /b\n", "PLAN", Some(1)),
-    (56, "", "PLAN", None),
 ];
 
 fn line_shows<R: Abort + AllocGlobal>(rt: &R, row: &(u8, &str, &str, Option<usize>)) {
@@ -84,6 +83,21 @@ fn lines(rt: HostRuntime) {
     for row in LINES {
         line_shows(&rt, row);
     }
+}
+
+// A plan of so many devices, and a line of the strings of one.
+fn plan_of(rt: &impl Abort, alloc: Global, count: usize) -> String {
+    let mut plan = String::from_str(alloc, "# a plan\ncompatible /d0 x\n").expect(rt, "memory");
+    for place in 0..count {
+        writeln!(plan, " /d{place} - -").expect(rt, "memory");
+    }
+    plan
+}
+
+#[test]
+fn devices(rt: HostRuntime) {
+    let plan = plan_of(&rt, rt.alloc(), 4_097);
+    line_shows(&rt, &(56, plan.as_str(), "PLAN", None));
 }
 
 /// A number, a schedule, its event, and the report of what is before that.

@@ -11,6 +11,8 @@ mod core_boards;
 #[cfg(test)]
 mod drivers;
 #[cfg(test)]
+mod forms;
+#[cfg(test)]
 mod graphs;
 #[cfg(test)]
 mod handles;

@@ -1,19 +1,13 @@
-use Rattle.bus_drivers.specs.SupplierTable.{Pattern as P, named, ending, ending_but, Form as F, counted, bare, single, SupplierRow, row}
+use Rattle.bus_drivers.specs.SupplierForm.{form_data}
+use Rattle.bus_drivers.specs.SupplierTable.{Pattern as P, named, ending, ending_but, SupplierRow, row}
 use Rattle.bus_drivers.specs.declared.supplier_table.Pattern.{Pattern}
 use Rattle.bus_drivers.specs.declared.supplier_table.Pattern.TheVariants.{Named, Ending, EndingBut}
-use Rattle.bus_drivers.specs.declared.supplier_table.Form.{Form}
-use Rattle.bus_drivers.specs.declared.supplier_table.Form.TheVariants.{Counted, Bare, Single}
 use Rattle.bus_drivers.specs.declared.supplier_table.Row.{Row}
 
 abbrev pub pattern_data : Pattern → P
 pattern_data (Named n) = named n.now
 pattern_data (Ending e) = ending e.now
 pattern_data (EndingBut e o) = ending_but e.now o.now
-
-abbrev pub form_data : Form → F
-form_data (Counted c) = counted c.now
-form_data Bare = bare
-form_data Single = single
 
 abbrev pub row_data : Row → SupplierRow
 row_data r = row (pattern_data r.pattern) (form_data r.form)

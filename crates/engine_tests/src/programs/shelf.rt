@@ -23,6 +23,8 @@ pub struct Shelf<'a> {
     pub pace: usize,
     /// The path and the bytes of the last file that was created and closed.
     pub closed: Option<(Vec<u8>, Vec<u8>)>,
+    /// Why a call failed, where that is told.
+    pub reason: Option<io::Error>,
 }
 
 impl<'a> Shelf<'a> {
@@ -35,6 +37,7 @@ impl<'a> Shelf<'a> {
             fails_at: None,
             pace: 7,
             closed: None,
+            reason: None,
         }
     }
 
@@ -105,6 +108,10 @@ impl<'a> Surroundings for Shelf<'a> {
 
     fn seed(&mut self) -> io::Result<RandomState> {
         self.seed.ok_or(io::Error::from(io::ErrorKind::Other))
+    }
+
+    fn reason(&mut self) -> Option<io::Error> {
+        self.reason
     }
 }
 

@@ -1,7 +1,13 @@
 //! Refusals in detail: the lines behind the first.
 
-use super::runs::{Files, Row, row_ends};
+use super::runs::{Files, Row, ends, row_ends, run_over};
+use super::shelf::Shelf;
+use crate::compiling::compiled;
+use dtman_diagnosis::example_of;
 use std::hash::RandomState;
+use std::io;
+use std::process::Abort;
+use std::thread::Threads;
 
 const FILES: Files = &[
     (
@@ -130,5 +136,44 @@ fn tells_more_of_a_refusal(rt: HostRuntime) {
     };
     for row in ROWS {
         row_ends(&rt, FILES, hasher, row);
+    }
+}
+
+// That a run in which standard output fails at once tells the example of a number, where the system says this of it.
+fn fails_so<R: AllocGlobal + Threads + Sync + Abort>(
+    rt: &R,
+    hasher: RandomState,
+    words: &[&str],
+    number: u8,
+    reason: i32,
+) {
+    let mut shelf = Shelf::new(rt.alloc(), FILES, hasher);
+    shelf.reason = Some(io::Error::from_raw_os_error(reason));
+    let traces = run_over(rt, words, &mut shelf, Some(0));
+    let lines = example_of(number).expect(rt, "an example");
+    assert_eq!(rt; traces.errors.as_str(), lines);
+    assert_eq!(rt; traces.status, 3);
+}
+
+/// ENOENT and EBADF, as the examples of 80 and 81 have them.
+#[test]
+fn tells_what_the_system_says(rt: HostRuntime) {
+    let hasher = RandomState::new(&rt).expect(&rt, "a seed");
+    fails_so(&rt, hasher, &["dtman", "-v", "dump", "IN"], 80, 2);
+    fails_so(&rt, hasher, &["dtman", "-v", "dump", "empty.dtb"], 81, 9);
+}
+
+/// The example of 54, by each command that makes a plan of a tree.
+#[test]
+fn tells_a_supplier(rt: HostRuntime) {
+    let hasher = RandomState::new(&rt).expect(&rt, "a seed");
+    let source = "/dts-v1/;/{a{compatible=\"x\"; clocks=<7>;};};";
+    let blob = compiled(&rt, rt.alloc(), hasher, source, false);
+    let files = [("BLOB", blob.as_slice()), ("none", b"".as_slice())];
+    let lines = example_of(54).expect(&rt, "an example");
+    let mut shelf = Shelf::new(rt.alloc(), &files, hasher);
+    for command in ["plan", "probe"] {
+        let words = ["dtman", "-v", command, "BLOB", "none"];
+        ends(&rt, &words, &mut shelf, 1, "", lines);
     }
 }

@@ -2,7 +2,7 @@ use Rattle.std.proofs.Common.{◌≡◌, length}
 use Rattle.bus_drivers.specs.Nodes.{target_of}
 use Rattle.bus_drivers.specs.References.{cells_of, devices_in}
 use Rattle.bus_drivers.specs.Private.Suppliers.{adding}
-use Rattle.bus_drivers.specs.Private.TableRows.{form_data}
+use Rattle.bus_drivers.specs.SupplierForm.{form_data}
 use Rattle.bus_drivers.proofs.suppliers.Suppliers.add_value.Given as goal
 
 -- what the cells that are left add makes what all cells add
