@@ -55,6 +55,9 @@ c|compile
 compile |board.dts sub
 compile board.dts |board.dtb hat.dtbo sub
 compile --s|--symbols
+compile --d|--dtc
+compile --dtc -i |sub
+compile --dtc -i sub -i sub |board.dts sub
 overlay board.dtb |board.dtb hat.dtbo sub
 plan board.dtb |board.drivers sub
 plan --dot |board.dtb hat.dtbo sub

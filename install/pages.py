@@ -70,7 +70,7 @@ def small(about):
 
 
 def synopsis(command):
-    options = "".join(f"\n.Op Fl {it.names.removeprefix('-')}{f' Ar {it.value}' if it.value else ''}" for it in command.options)
+    options = "".join(f"\n.Op Fl {words_of([it])[0].removeprefix('-')}{f' Ar {it.value}' if it.value else ''}" for it in command.options)
     operands = "".join(f"\n.Ar {it.name}" for it in command.operands)
     return f".Nm dtman {command.name}{options}{operands}"
 
@@ -79,12 +79,17 @@ def paragraphs(texts):
     return "\n.Pp\n".join(prose(it) for it in texts)
 
 
+def flags(option):
+    """The names of an option behind the first `Fl`."""
+    return option.names.replace(", -", " , Fl ").removeprefix("-")
+
+
 def options_of(command):
     entries = []
     for it in command.options:
         value = f" Ar {it.value}" if it.value else ""
         default = f" The default is {it.default}." if it.default else ""
-        entries.append(f".It Fl {it.names.removeprefix('-')}{value}\n{prose(it.about + '.' + default)}")
+        entries.append(f".It Fl {flags(it)}{value}\n{prose(it.about + '.' + default)}")
     return ".Bl -tag -width Ds\n" + "\n".join(entries) + "\n.El"
 
 
@@ -115,7 +120,7 @@ def command_page(command):
 
 def program_page():
     entries = "\n".join(f".It Xr dtman-{it.name} 1\n{prose(it.about + '.')}" for it in told.COMMANDS)
-    globals_ = "\n".join(f".It Fl {it.names.replace(', -', ' , Fl ').removeprefix('-')}\n{prose(it.about + '.')}" for it in GLOBALS)
+    globals_ = "\n".join(f".It Fl {flags(it)}\n{prose(it.about + '.')}" for it in GLOBALS)
     body = (
         prose("Compiles the devicetree that a board boots with, and tells what comes of it: what a blob says, which devices have drivers, which"
               " of them wait for which, and whether all that can be bound is bound in the end.")
@@ -191,8 +196,10 @@ def bash():
     cases = []
     for it in told.COMMANDS:
         kinds = " ".join(operand.kind for operand in it.operands)
-        taking = " ".join(word for option in it.options if option.value for word in words_of([option]))
-        cases.append(f'\t{it.name}) kinds="{kinds}" options="{" ".join(words_of((*it.options, told.HELP, told.VERBOSE)))}" taking="{taking}" ;;')
+        taking = " ".join(words_of(option for option in it.options if option.value))
+        folders = " ".join(words_of(option for option in it.options if option.takes_folder))
+        options = " ".join(words_of((*it.options, told.HELP, told.VERBOSE)))
+        cases.append(f'\t{it.name}) kinds="{kinds}" options="{options}" taking="{taking}" folders="{folders}" ;;')
     endings = [f'\t{kind}) endings="{"|".join(its)}" ;;' for kind, its in told.KINDS.items()]
     return BASH.format(
         commands=" ".join(it.name for it in told.COMMANDS),
@@ -205,7 +212,7 @@ def bash():
 
 BASH = """# Completions of dtman for bash. Made of install/description.py.
 _dtman() {{
-	local word=${{COMP_WORDS[COMP_CWORD]}} command="" kinds="" options="" taking="" endings="" place=0 it
+	local word=${{COMP_WORDS[COMP_CWORD]}} command="" kinds="" options="" taking="" folders="" endings="" place=0 it
 	COMPREPLY=()
 	for it in "${{COMP_WORDS[@]:1:COMP_CWORD-1}}"; do
 		# `--workers=4` comes as three words
@@ -225,10 +232,18 @@ _dtman() {{
 		return
 	fi
 	# The value of an option that takes one is no file, and counts for none behind it.
-	for it in $taking; do
-		if [[ ${{COMP_WORDS[COMP_CWORD - 1]}} == @("$it"|"=") ]]; then return; fi
-		if [[ " ${{COMP_WORDS[*]:1:COMP_CWORD-1}} " == *" $it "* ]]; then place=$((place - 1)); fi
+	for it in "${{COMP_WORDS[@]:1:COMP_CWORD-1}}"; do
+		if [[ -n $it && " $taking " == *" $it "* ]]; then place=$((place - 1)); fi
 	done
+	it=${{COMP_WORDS[COMP_CWORD - 1]}}
+	if [[ $it == "=" ]]; then it=${{COMP_WORDS[COMP_CWORD - 2]}}; fi
+	if [[ -n $it && " $taking " == *" $it "* ]]; then
+		if [[ " $folders " == *" $it "* ]]; then
+			compopt -o filenames 2>/dev/null
+			mapfile -t COMPREPLY < <(compgen -d -- "$word")
+		fi
+		return
+	fi
 	kinds=($kinds)
 	case ${{kinds[place]}} in
 {endings}
@@ -255,16 +270,27 @@ def zsh_glob(endings):
 
 
 def zsh_option(option):
-    """An option with two names, either of which stands for the other."""
+    """An option with two names, either of which stands for the other, unless it may be given again with one more folder."""
     names = words_of([option])
+    if option.takes_folder:
+        names = [it + "=" if it.startswith("--") else it for it in names]
+        return f"'*'{{{','.join(names)}}}'[{quoted(option.about)}]:{option.value}:_files -/'"
     return f"'({' '.join(names)})'{{{','.join(names)}}}'[{quoted(option.about)}]'"
+
+
+def zsh_spec(option):
+    """An option of a command, with its value."""
+    if option.takes_folder:
+        return zsh_option(option)
+    value = f"=[{quoted(option.about)}]:{option.value}: " if option.value else f"[{quoted(option.about)}]"
+    return f"'({option.names}){option.names}{value}'"
 
 
 def zsh():
     commands = "\n".join(f"\t\t'{it.name}:{quoted(it.about)}'" for it in told.COMMANDS)
     cases = []
     for it in told.COMMANDS:
-        specs = [f"'({option.names}){option.names}{f'=[{quoted(option.about)}]:{option.value}: ' if option.value else f'[{quoted(option.about)}]'}'" for option in it.options]
+        specs = [zsh_spec(option) for option in it.options]
         specs += [zsh_option(told.HELP), zsh_option(told.VERBOSE)]
         for operand in it.operands:
             action = "_dtman_numbers" if operand.kind == "number" else f"_files -g {zsh_glob(told.KINDS[operand.kind])}"
@@ -345,7 +371,8 @@ def fish():
         seen = f"-n '__fish_seen_subcommand_from {it.name}'"
         for option in (*it.options, told.HELP):
             names = "".join(f" -l {word[2:]}" if word.startswith("--") else f" -s {word[1:]}" for word in words_of([option]))
-            lines.append(f"complete -c dtman {seen}{names}{' -x' if option.value else ''} -d '{quoted(option.about)}'")
+            value = " -x -a '(__fish_complete_directories)'" if option.takes_folder else " -x" if option.value else ""
+            lines.append(f"complete -c dtman {seen}{names}{value} -d '{quoted(option.about)}'")
         for place, operand in enumerate(it.operands, 1):
             wants = f"-n '__dtman_wants {it.name} {place}'"
             if operand.kind == "number":

@@ -1,2 +1,3 @@
+mod Kept
 mod MetLemmas
 pub mod Making

@@ -1,16 +1,16 @@
 -- The subcommand that a parse met, from what its getters answer.
-use Rattle.std.proofs.Common.{◌≡◌, ℕ, List, Option, Some, None, Result, Ok, option_map, sym, ◌∙◌, subst, true, refl}
+use Rattle.std.proofs.Common.{◌≡◌, ℕ, List, [], Option, Some, None, Result, Ok, option_map, unwrap_or, ap, sym, ◌∙◌, subst, true, refl}
 use Rattle.std.specs.Str.Parse.{ParsesUnsigned}
 use Rattle.std.specs.Prelude.{Box, IfSome}
 use Rattle.std.specs.Box.{box_value}
 use Rattle.clap.specs.Words.{ReadsOne, Row, Text, first_of, first_value, is_simple, one_of, one_text, rows_of}
-use Rattle.clap.specs.Matches.{subcommand_name_of, found_of}
+use Rattle.clap.specs.Matches.{subcommand_name_of, found_of, matched_of, raw_values}
 use Rattle.clap.specs.Simple.{subcommand_rows, subcommand_rows_of}
 use Rattle.clap.specs.declared.parser.matches.ArgMatches.{ArgMatches}
 use Rattle.clap.specs.declared.parser.matches.ArgMatches.TheViews.{out-ArgMatches, out-SubCommand}
 use Rattle.clap.specs.declared.parser.matches.SubCommand.{SubCommand}
-use Rattle.clap.proofs.WalkLemmas.{first_value-rows, one_text-rows}
-use Rattle.dtman_cli.specs.CommandLine.{IsMet, IsNumber, Meets}
+use Rattle.clap.proofs.WalkLemmas.{first_value-rows, one_text-rows, raw_values-rows}
+use Rattle.dtman_cli.specs.CommandLine.{IsMet, IsNumber, Meets, texts_of}
 use Rattle.dtman_cli.specs.declared.subcommand.Command.{Command}
 use Rattle.dtman_cli.specs.Grammar.{dtman}
 
@@ -69,3 +69,11 @@ number gives m id n read parses is none some = subst (λ (o : Option Text). IsNu
 pub dtman_is_simple : is_simple dtman ≡ true
 unfolding dtman
 dtman_is_simple = refl
+
+-- all values of it
+pub all_values : (m : ArgMatches) (id : Text) (texts : List Text) → Some texts ≡ option_map raw_values (matched_of (found_of m) id) → texts ≡ texts_of id (rows_of (found_of m))
+all_values m id texts e = ap (λ (o : Option (List Text)). unwrap_or o []) (e ∙ raw_values-rows (found_of m) id)
+
+-- no value of it at all
+pub no_values : (m : ArgMatches) (id : Text) → None ≡ option_map raw_values (matched_of (found_of m) id) → [] ≡ texts_of id (rows_of (found_of m))
+no_values m id e = ap (λ (o : Option (List Text)). unwrap_or o []) (e ∙ raw_values-rows (found_of m) id)

@@ -1,11 +1,13 @@
 -- What a subcommand says, by the definition of the command line and the words.
-use Rattle.std.specs.Prelude.{◌≡◌, ◌≤◌, ℕ, Bool, false, List, Option, Some, None, codes}
+use Rattle.std.specs.Prelude.{◌≡◌, ◌≤◌, ℕ, Bool, false, true, List, [], Option, Some, None, codes, map, unwrap_or}
 use Rattle.std.specs.Str.{bytes_eq}
 use Rattle.std.specs.Str.Parse.{IsNumeral, digits_value, without_leading_plus}
 use Rattle.bus_manager.specs.Workers.{most_workers}
-use Rattle.clap.specs.Words.{Row, Text, first_of, one_of, subcommand_of}
+use Rattle.clap.specs.Words.{Row, Text, all_of, first_of, one_of, subcommand_of}
 use Rattle.dtman_cli.specs.declared.subcommand.Command.{Command}
 use Rattle.dtman_cli.specs.declared.subcommand.Command.TheVariants.{Compile, Overlay, Dump, Plan, Replay, Probe, Explain}
+use Rattle.dtman_cli.specs.declared.subcommand.Profile.{Profile}
+use Rattle.dtman_cli.specs.declared.subcommand.Profile.TheVariants.{Specification, Dialect}
 use Rattle.dtman_cli.specs.Grammar.{dtman}
 
 -- whether an option without a value was given
@@ -27,10 +29,21 @@ abbrev pub AreAsked : Option ℕ → List Row → Type 0
 AreAsked None rows = first_of (codes "workers") rows ≡ None
 AreAsked (Some n) rows = AreWorkers n rows
 
+-- the texts of an option that may be given again and again, in their order
+abbrev pub texts_of : Text → List Row → List Text
+texts_of id rows = unwrap_or (all_of id rows) []
+
+-- dtc's dialect is asked for, with all folders that are named, or it isn't
+abbrev pub IsProfile : Profile → List Row → Type 0
+IsProfile Specification rows = is_on (first_of (codes "dtc") rows) ≡ false
+IsProfile (Dialect folders) rows =
+    (is_on (first_of (codes "dtc") rows) ≡ true) × (map (λ folder. folder.now) folders.items ≡ texts_of (codes "include") rows)
+
 -- the subcommand that was met, with the values of its arguments
 abbrev pub IsMet : Command → Text → List Row → Type 0
-IsMet (Compile source out symbols) name rows =
+IsMet (Compile source out symbols profile) name rows =
     (name ≡ codes "compile") × (first_of (codes "IN") rows ≡ Some source.now) × (first_of (codes "OUT") rows ≡ Some out.now) × (symbols ≡ is_on (first_of (codes "symbols") rows))
+    × IsProfile profile rows
 IsMet (Overlay base overlay out) name rows =
     (name ≡ codes "overlay") × (first_of (codes "BASE") rows ≡ Some base.now) × (first_of (codes "OVERLAY") rows ≡ Some overlay.now) × (first_of (codes "OUT") rows ≡ Some out.now)
 IsMet (Dump blob) name rows = (name ≡ codes "dump") × (first_of (codes "IN") rows ≡ Some blob.now)

@@ -1,7 +1,7 @@
 -- What the command line may say: each subcommand with its arguments, as clap's definitions have them.
-use Rattle.std.specs.Prelude.{ℕ, [], ◌∷◌, Some, true, codes}
+use Rattle.std.specs.Prelude.{ℕ, [], ◌∷◌, Some, true, false, codes}
 use Rattle.bus_manager.specs.Workers.{most_workers}
-use Rattle.clap.specs.declared.builder.action.ArgAction.TheVariants.{SetTrue}
+use Rattle.clap.specs.declared.builder.action.ArgAction.TheVariants.{SetTrue, Append}
 use Rattle.clap.specs.declared.builder.value_parser.ValueParser.TheVariants.{Unsigned}
 use Rattle.clap.specs.Words.{App, Rule, Text, new_app, new_rule, with_rule, with_subcommand}
 
@@ -24,8 +24,15 @@ asked_number id most = record (new_rule id) { long = Some id; parser = Some (Uns
 abbrev pub number : Text → ℕ → Text → Rule
 number id most default = record (new_rule id) { long = Some id; parser = Some (Unsigned 1 most); defaults = default ∷ [] }
 
+-- an option that has a short name too, may be given again and again, with a value each time, and wants another beside it
+abbrev pub repeated : Text → ℕ → Rule
+repeated id short = record (new_rule id) { long = Some id; short = Some short; action = Some Append; value_names = 1; is_free = false }
+
 abbrev pub compile : App
-compile = with_rule (with_rule (with_rule (new_app (codes "compile")) (required (codes "IN"))) (required (codes "OUT"))) (flag (codes "symbols"))
+compile =
+    with_rule
+    (with_rule (with_rule (with_rule (with_rule (new_app (codes "compile")) (required (codes "IN"))) (required (codes "OUT"))) (flag (codes "symbols"))) (flag (codes "dtc")))
+    (repeated (codes "include") 105)
 
 abbrev pub overlay : App
 overlay = with_rule (with_rule (with_rule (new_app (codes "overlay")) (required (codes "BASE"))) (required (codes "OVERLAY"))) (required (codes "OUT"))

@@ -1,3 +1,5 @@
 pub mod CommandLine
+pub mod Dialect
 pub mod Grammar
 pub mod Making
+pub mod Translation

@@ -2,6 +2,7 @@
 
 use crate::running::{COMMAND_LINE, FILE, REFUSED};
 use dtman_engine::Fault;
+use std::{io, str};
 
 /// Why a command ended without its output.
 #[derive(Debug, Drop)]
@@ -11,6 +12,8 @@ pub enum Failure<'a> {
     Told(String),
     /// A fault of the file at a path.
     File(Fault, &'a str),
+    /// A file of this name that a source takes in can't be read.
+    Lost(Vec<u8>),
     /// Nobody reads the output any more. That isn't told.
     Unread,
     /// A number that no error has.
@@ -29,6 +32,7 @@ pub fn fail<E: Eprint>(errors: &E, failure: Failure<'_>) -> u8 {
         Failure::Refused(fault) => (eprintln!(errors; "{fault}"), REFUSED),
         Failure::Told(lines) => (eprint!(errors; "{lines}"), REFUSED),
         Failure::File(fault, path) => (eprintln!(errors; "{fault} {path}"), FILE),
+        Failure::Lost(name) => (lost(errors, name.as_slice()), FILE),
         Failure::Unread => (Ok(()), FILE),
         Failure::NoSuchNumber(number) => (
             eprintln!(errors; "error: no error has the number {number}"),
@@ -38,4 +42,19 @@ pub fn fail<E: Eprint>(errors: &E, failure: Failure<'_>) -> u8 {
     // Standard error is the last place to say anything: the status stands alone where it is closed.
     let _ = printed;
     status
+}
+
+// The line of a file that a source takes in.
+fn lost<E: Eprint>(errors: &E, name: &[u8]) -> io::Result<()> {
+    let fault = Fault::cannot_read();
+    let name = shown(name);
+    eprintln!(errors; "{fault} {name}")
+}
+
+// A name out of a source, or a question mark for one that a terminal might obey or that is no text.
+fn shown(name: &[u8]) -> &str {
+    if name.iter().any(|c| c.is_ascii_control()) {
+        return "?";
+    }
+    str::from_utf8(name).unwrap_or("?")
 }

@@ -31,6 +31,9 @@ most 500,000 begins.
 Workers are 1 to 64: of `probe` 4 where none are named; `replay` binds what is
 left by workers only where they are named.
 
+`dtman dtc` and `dtman fdtoverlay`, or links of these names to the program, take
+the words of dtc and of fdtoverlay; `dtman dtc -h` says which.
+
 Formats: a driver file's line is `driver NAME COMPATIBLE..` or `fail PATH`. A
 plan's line is `PATH DRIVER ok|fail SUPPLIER..`, `PATH - - SUPPLIER..` (no
 driver), `PATH ! - SUPPLIER..` (switched off) or `compatible PATH COMPATIBLE..`
@@ -101,9 +104,14 @@ fn compile<'a>(alloc: Global) -> Result<Command<'a>, AllocError>
     let about = "Compiles a source to a blob";
     let out = "The blob, which is written once all of it is ready";
     let symbols = "Adds the paths of all labelled nodes";
+    let dtc = "Takes dtc's dialect, too";
+    let folder = "Looks for the dialect's files there, too";
+    let include = repeated(alloc, "include", 'i', "DIR", "dtc", folder)?;
     let command = named(alloc, "compile", about).arg(required(alloc, "IN", "The source"));
     let command = add_argument(command, required(alloc, "OUT", out));
-    add_argument(command, flag(alloc, "symbols", symbols))
+    let command = add_argument(command, flag(alloc, "symbols", symbols));
+    let command = add_argument(command, flag(alloc, "dtc", dtc));
+    add_argument(command, include)
 }
 
 fn overlay<'a>(alloc: Global) -> Result<Command<'a>, AllocError>
@@ -183,6 +191,26 @@ fn flag<'a>(alloc: Global, name: &'a str, about: &'a str) -> Arg<'a>
         .long(name)
         .action(ArgAction::SetTrue)
         .help(about)
+}
+
+/// An option with a value, which wants another beside it.
+fn repeated<'a>(
+    alloc: Global,
+    name: &'a str,
+    short: char,
+    value: &'a str,
+    beside: &'a str,
+    about: &'a str,
+) -> Result<Arg<'a>, AllocError>
+    ensures { IfOk result (λ a. (rule_of a ≡ spec.repeated name.now short) × (a.global ≡ false)) }
+{
+    Arg::new(alloc, name)
+        .long(name)
+        .short(short)
+        .action(ArgAction::Append)
+        .value_name(value)
+        .help(about)
+        .requires_arg(beside)
 }
 
 fn asked_number<'a>(alloc: Global, name: &'a str, most: u64, about: &'a str) -> Arg<'a>

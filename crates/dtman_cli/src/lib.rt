@@ -2,11 +2,14 @@
 #![tactic(auto)]
 
 mod beside;
+mod compiling;
 mod detail;
 mod diagnosing;
+mod dialect;
 mod explaining;
 mod failure;
 mod files;
+mod folders;
 mod grammar;
 mod noted;
 mod performing;
@@ -14,9 +17,13 @@ mod reading;
 mod running;
 mod subcommand;
 mod surroundings;
+mod translating;
+mod unsaid;
 
 pub use beside::Beside;
+pub use dialect::{Outcome, compile_dialect};
 pub use reading::command;
 pub use running::{COMMAND_LINE, DONE, FILE, REFUSED, run, run_words};
-pub use subcommand::Command;
+pub use subcommand::{Command, Profile};
 pub use surroundings::Surroundings;
+pub use unsaid::Unsaid;

@@ -1,18 +1,19 @@
 //! What each command does: its files in, one engine's bytes out.
 ghost use Rattle.std.specs.Prelude.{◌≡◌, false};
 
+use crate::compiling::{Manner, dialect_blob, profile_blob};
 use crate::detail::{Detail, refusal};
 use crate::diagnosing::{file_of, unplanned, unreplayed};
 use crate::explaining::explained;
 use crate::failure::Failure;
 use crate::files::{print, read_at, seed, text_at, write_at};
-use crate::subcommand::Command;
+use crate::subcommand::{Command, Profile};
 use crate::surroundings::Surroundings;
 use bus_manager::TableProber;
-use dtman_diagnosis::{diagnose_blob, diagnose_overlay, diagnose_source};
+use dtman_diagnosis::{diagnose_blob, diagnose_overlay};
 use dtman_engine::{
-    Channel, Fault, MAX_BLOB_LEN, MAX_SOURCE_LEN, compile_bytes, dump_bytes, graph_bytes,
-    overlay_bytes, plan_bytes, probe_bytes, replay_bytes, replay_run_bytes,
+    Channel, Fault, MAX_BLOB_LEN, MAX_SOURCE_LEN, dump_bytes, graph_bytes, overlay_bytes,
+    plan_bytes, probe_bytes, replay_bytes, replay_run_bytes,
 };
 use std::alloc::Global;
 use std::hash::RandomState;
@@ -34,7 +35,11 @@ pub fn perform<'a, S: Surroundings, O: Channel, T: Threads + Sync>(
             source,
             out,
             symbols,
-        } => return compiled(alloc, surroundings, output, source, out, symbols, detail),
+            profile,
+        } => {
+            let manner = Manner { symbols, detail };
+            return compiled(alloc, surroundings, output, source, out, &profile, manner);
+        }
         Command::Overlay { base, overlay, out } => {
             return overlaid(alloc, surroundings, output, base, overlay, out, detail);
         }
@@ -72,24 +77,28 @@ fn compiled<'a, S: Surroundings, O: Channel>(
     output: &mut O,
     source: &'a str,
     out: &'a str,
-    symbols: bool,
-    detail: Detail,
+    profile: &Profile<'_>,
+    manner: Manner,
 ) -> Result<(), Failure<'a>>
     requires { O.has_failed output.old ≡ false }
 {
     let text = read_at(alloc, surroundings, source, MAX_SOURCE_LEN)?;
     let hasher = seed(surroundings)?;
-    match compile_bytes(alloc, hasher, text.as_slice(), symbols) {
-        Ok(blob) => write_at(alloc, surroundings, output, out, blob.as_slice()),
-        Err(fault) => {
-            if detail == Detail::Line {
-                return Err(Failure::Refused(fault));
-            }
-            let file = source.as_bytes();
-            let diagnosis = diagnose_source(alloc, file, text.as_slice(), symbols, fault.number);
-            Err(refusal(alloc, fault, diagnosis))
+    let text = file_of(source, &text);
+    let blob = match profile {
+        Profile::Specification => profile_blob(alloc, hasher, text, manner)?,
+        Profile::Dialect { folders } => {
+            dialect_blob(
+                alloc,
+                hasher,
+                surroundings,
+                folders.as_slice(),
+                text,
+                manner,
+            )?
         }
-    }
+    };
+    write_at(alloc, surroundings, output, out, blob.as_slice())
 }
 
 /// Writes the blob of a base with an overlay applied: the file is opened once all bytes are there.

@@ -3,30 +3,34 @@ ghost use Rattle.std.specs.Prelude.{◌≡◌, IfOk, IfSome, codes, map};
 ghost use Rattle.clap.specs.Words.{app_of, first_of, found_of, rows_of};
 ghost use Rattle.clap.specs.Simple.{subcommand_rows_of};
 ghost use Rattle.dtman_cli.specs.Grammar.{dtman};
-ghost use Rattle.dtman_cli.specs.CommandLine.{AreAsked, AreWorkers, IsMet, Meets, Says, is_on};
+ghost use Rattle.dtman_cli.specs.CommandLine.{AreAsked, AreWorkers, IsMet, IsProfile, Meets, Says, is_on, texts_of};
 
 use crate::grammar::grammar;
-use crate::subcommand::Command;
+use crate::subcommand::{Command, Profile};
 use bus_manager::MAX_WORKERS;
 use clap::error::ErrorKind;
 use clap::{ArgMatches, Error};
-use std::alloc::Global;
+use std::alloc::{AllocError, Global};
 
 /// Reads the words of a command line, of which the first is the program's name.
 pub fn command<'a>(alloc: Global, words: &'a [&'a str]) -> Result<Command<'a>, Error>
     ensures { IfOk result (λ command. Says command (map (λ word. word.now) words.entry.now)) }
 {
     let mut grammar = grammar(alloc)?;
-    read(&mut grammar, words)
+    read(alloc, &mut grammar, words)
 }
 
 /// Reads words by a grammar, which it borrows, so that no way out drops it.
-fn read<'a>(grammar: &mut clap::Command<'a>, words: &'a [&'a str]) -> Result<Command<'a>, Error>
+fn read<'a>(
+    alloc: Global,
+    grammar: &mut clap::Command<'a>,
+    words: &'a [&'a str],
+) -> Result<Command<'a>, Error>
     requires { app_of grammar.old ≡ dtman }
     ensures { IfOk result (λ command. Says command (map (λ word. word.now) words.entry.now)) }
 {
     let matches = grammar.try_get_matches_from_mut(words)?;
-    match chosen(&matches) {
+    match chosen(alloc, &matches)? {
         Some(command) => Ok(command),
         None => Err(no_subcommand(grammar)),
     }
@@ -41,30 +45,62 @@ fn no_subcommand(grammar: &mut clap::Command<'_>) -> Error {
 }
 
 /// The subcommand that was met. A parse that succeeds has one, with its paths.
-fn chosen<'a>(matches: &ArgMatches<'a>) -> Option<Command<'a>>
-    ensures { IfSome result (λ command. Meets command (subcommand_rows_of matches.now)) }
+fn chosen<'a>(alloc: Global, matches: &ArgMatches<'a>) -> Result<Option<Command<'a>>, AllocError>
+    ensures { IfOk result (λ chosen. IfSome chosen (λ command. Meets command (subcommand_rows_of matches.now))) }
 {
-    let (name, given) = matches.subcommand()?;
+    let Some((name, given)) = matches.subcommand() else {
+        return Ok(None);
+    };
     match name {
-        "compile" => compile(given),
-        "overlay" => overlay(given),
-        "dump" => dump(given),
-        "plan" => plan(given),
-        "probe" => probe(given),
-        "replay" => replay(given),
-        "explain" => explain(given),
-        _ => None,
+        "compile" => compile(alloc, given),
+        "overlay" => Ok(overlay(given)),
+        "dump" => Ok(dump(given)),
+        "plan" => Ok(plan(given)),
+        "probe" => Ok(probe(given)),
+        "replay" => Ok(replay(given)),
+        "explain" => Ok(explain(given)),
+        _ => Ok(None),
     }
 }
 
-fn compile<'a>(given: &ArgMatches<'a>) -> Option<Command<'a>>
+fn compile<'a>(alloc: Global, given: &ArgMatches<'a>) -> Result<Option<Command<'a>>, AllocError>
+    ensures { IfOk result (λ met. IfSome met (λ command. IsMet command (codes "compile") (rows_of (found_of given.now)))) }
+{
+    let profile = profile(alloc, given)?;
+    Ok(compile_by(profile, given))
+}
+
+fn compile_by<'a>(profile: Profile<'a>, given: &ArgMatches<'a>) -> Option<Command<'a>>
+    requires { IsProfile profile (rows_of (found_of given.now)) }
     ensures { IfSome result (λ command. IsMet command (codes "compile") (rows_of (found_of given.now))) }
 {
     Some(Command::Compile {
         source: given.get_str("IN")?,
         out: given.get_str("OUT")?,
         symbols: is_on(given, "symbols"),
+        profile,
     })
+}
+
+/// The profile that is asked for, with the folders of its options.
+fn profile<'a>(alloc: Global, given: &ArgMatches<'a>) -> Result<Profile<'a>, AllocError>
+    ensures { IfOk result (λ profile. IsProfile profile (rows_of (found_of given.now))) }
+{
+    if !is_on(given, "dtc") {
+        return Ok(Profile::Specification);
+    }
+    let folders = folders(alloc, given)?;
+    Ok(Profile::Dialect { folders })
+}
+
+/// The folders that are named for the dialect's files.
+fn folders<'a>(alloc: Global, given: &ArgMatches<'a>) -> Result<Vec<&'a str>, AllocError>
+    ensures { IfOk result (λ folders. map (λ folder. folder.now) folders.items ≡ texts_of (codes "include") (rows_of (found_of given.now))) }
+{
+    match given.get_strs("include") {
+        Some(folders) => Ok(Vec::from_slice(alloc, folders)?),
+        None => Ok(Vec::new(alloc)),
+    }
 }
 
 fn overlay<'a>(given: &ArgMatches<'a>) -> Option<Command<'a>>

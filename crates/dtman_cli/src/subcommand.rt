@@ -1,13 +1,24 @@
 //! What the command line asks for.
 
+/// Which sources are taken.
+#[derive(Debug, Drop)]
+pub enum Profile<'a> {
+    /// Those of the profile alone.
+    Specification,
+    /// Those of dtc's dialect, too. Files that they take in are looked for in these folders, behind the folder of the file that
+    /// names them.
+    Dialect { folders: Vec<&'a str> },
+}
+
 /// A subcommand with its paths and options.
-#[derive(Clone, Copy, Debug)]
+#[derive(Debug, Drop)]
 pub enum Command<'a> {
     Compile {
         source: &'a str,
         out: &'a str,
         /// Add the node of symbols.
         symbols: bool,
+        profile: Profile<'a>,
     },
     Overlay {
         base: &'a str,

@@ -1,7 +1,7 @@
 //! The command line.
 
 use clap::error::ErrorKind;
-use dtman_cli::{Command, command};
+use dtman_cli::{Command, Profile, command};
 use std::alloc::Global;
 
 /// The command that the words name, or the kind of their mistake.
@@ -50,6 +50,41 @@ fn reads_the_command_line(rt: HostRuntime) {
     let words = ["dtman", "bind", "board.dtb"];
     let unknown = read(rt.alloc(), words.as_slice());
     assert!(rt; matches!(unknown, Err(ErrorKind::InvalidSubcommand)));
+}
+
+/// The folders that a command line names for dtc's dialect, or none where it doesn't ask for it.
+fn folders_of<'a>(alloc: Global, words: &'a [&'a str]) -> Result<Option<Vec<&'a str>>, ErrorKind> {
+    match read(alloc, words)? {
+        Command::Compile {
+            profile: Profile::Dialect { folders },
+            ..
+        } => Ok(Some(folders)),
+        _ => Ok(None),
+    }
+}
+
+#[test]
+fn reads_compile_with_its_folders(rt: HostRuntime) {
+    let words = [
+        "dtman",
+        "compile",
+        "--dtc",
+        "in",
+        "-i",
+        "a",
+        "out",
+        "--include=b",
+    ];
+    match folders_of(rt.alloc(), words.as_slice()) {
+        Ok(Some(folders)) => assert_eq!(&rt; folders.as_slice(), ["a", "b"].as_slice()),
+        _ => panic!(&rt; "no folders"),
+    }
+    let words = ["dtman", "compile", "in", "out"];
+    let none = folders_of(rt.alloc(), words.as_slice());
+    assert!(rt; matches!(none, Ok(None)));
+    let words = ["dtman", "compile", "-i", "a", "in", "out"];
+    let alone = folders_of(rt.alloc(), words.as_slice());
+    assert!(rt; matches!(alone, Err(ErrorKind::MissingRequiredArgument)));
 }
 
 #[test]

@@ -4,4 +4,7 @@ use Rattle.dtman_cli.proofs.grammar.compile.Goals as goal
 pub returns : goal.returns
 returns c =
     let first = first_argument c.named.result c.required.result c.arg-command.result _ _ c.named.ensures.shape c.named.ensures.globals c.required.ensures.local c.arg-command.ensures c.required.ensures.rule in
-    c.add_argument.ensures _ _ (c.add_argument-command.ensures _ _ first c.required-2.ensures.rule) c.flag.ensures.rule
+    let out = c.add_argument-command.ensures _ _ first c.required-2.ensures.rule in
+    let symbols = c.add_argument-command-2.ensures _ _ out c.flag.ensures.rule in
+    let dtc = c.add_argument-command-3.ensures _ _ symbols c.flag-2.ensures.rule in
+    c.add_argument.ensures _ _ dtc c.in_ok-include.ensures.0

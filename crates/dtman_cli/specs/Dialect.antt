@@ -1,0 +1,50 @@
+-- What `compile --dtc` answers of a source: what the profile answers of it, and where that is a refusal that dtc's dialect may lift, what the
+-- profile answers of the text by which the source is said without the dialect (dtc 1.6, Documentation/dts-format.txt).
+use Rattle.std.specs.Prelude.{◌≡◌, ℕ, Bool, false, true, List, Result, Ok, Err, IfOk, IfErr, MatchResult, Vec}
+use Rattle.std.specs.declared.alloc.Global.{Global}
+use Rattle.dt_source.specs.Parse.{Says}
+use Rattle.dt_source.specs.Tree.{Meaning}
+use Rattle.dt_edit.specs.Said.{reading}
+use Rattle.dtman_engine.specs.declared.fault.Fault.{Fault}
+use Rattle.dtman_engine.specs.Compile.{CannotBuild, IsBlobOf, IsCompileRefusal, IsCompiled}
+use Rattle.dtman_engine.specs.Fault.{fault_value, no_memory}
+use Rattle.dtman_engine.specs.Limits.{IsShort}
+use Rattle.dtman_cli.specs.Translation.{is_dialect_number, may_lift}
+use Rattle.dtman_cli.specs.declared.dialect.Outcome.{Outcome}
+use Rattle.dtman_cli.specs.declared.dialect.Outcome.TheVariants.{Plain, Said, Refused, Lost}
+
+-- the bytes of a blob, or why there is none
+abbrev pub Answer : Type 0
+Answer = Result (Vec ℕ Global) Fault
+
+-- what the profile answers of a text: all that `compile_bytes` says of it
+pub record IsAnswer (symbols : Bool) (text : List ℕ) (given : Answer) : Type 0 where
+  pub answer : IfOk given (λ blob. IsCompiled symbols text blob.items)
+  pub said : (m : Meaning) → IsShort text → Says text m → MatchResult given (λ blob. IsBlobOf symbols (reading m) blob.items) (λ fault. CannotBuild symbols (reading m) (fault_value fault))
+  pub refused : IfErr given (λ fault. IsCompileRefusal symbols text (fault_value fault))
+
+-- the answer is a refusal that the dialect may lift
+abbrev pub is_lifted : Answer → Bool
+is_lifted (Ok blob) = false
+is_lifted (Err fault) = may_lift fault.number
+
+-- the profile refuses the text, and the dialect may lift that
+pub record IsLifted (symbols : Bool) (text : List ℕ) : Type 0 where
+  pub given : Answer
+  pub is : IsAnswer symbols text given
+  pub lifted : is_lifted given ≡ true
+
+-- the profile's answer of the source stays, where it is a blob or a refusal that isn't lifted; a refusal that is comes to the profile's answer
+-- of the text by which the source is said, to the dialect's own refusal, or to a file that isn't there
+abbrev pub IsOutcome : Bool → List ℕ → Outcome → Type 0
+IsOutcome symbols source (Plain given) = IsAnswer symbols source given × (is_lifted given ≡ false)
+IsOutcome symbols source (Said text given) = IsLifted symbols source × IsAnswer symbols text.items given
+IsOutcome symbols source (Refused unsaid) = IsLifted symbols source × (is_dialect_number unsaid.fault.number ≡ true)
+IsOutcome symbols source (Lost name) = IsLifted symbols source
+
+-- a blob of the source, or want of memory
+abbrev pub IsKept : Bool → List ℕ → Outcome → Type 0
+IsKept symbols source (Plain given) = MatchResult given (λ blob. IsCompiled symbols source blob.items) (λ fault. fault_value fault ≡ no_memory)
+IsKept symbols source (Said text given) = ⊥
+IsKept symbols source (Refused unsaid) = ⊥
+IsKept symbols source (Lost name) = ⊥

@@ -1,0 +1,169 @@
+//! Why a source in dtc's dialect isn't said in the profile, and where.
+ghost use Rattle.std.specs.Prelude.{◌≡◌, true, IfOk};
+ghost use Rattle.dtman_cli.specs.Translation.{is_dialect_number};
+
+use dtc_dialect::{Incomplete, Mistake, Refusal, columns_of, line_of};
+use dtman_diagnosis::{Diagnosis, Note, Place, Subject, copied};
+use dtman_engine::Fault;
+use std::alloc::{AllocError, Global};
+
+/// A refusal of the dialect, and what is told of it in detail.
+#[derive(Debug, Drop)]
+pub struct Unsaid {
+    pub fault: Fault,
+    pub diagnosis: Diagnosis,
+}
+
+/// A refusal in a text, at its place in the user's files.
+pub fn refused(alloc: Global, text: &[u8], refusal: Refusal<'_>) -> Result<Unsaid, AllocError>
+    ensures { IfOk result (λ unsaid. is_dialect_number unsaid.fault.number ≡ true) }
+{
+    let number = number_of(refusal.mistake);
+    let fault = Fault {
+        number,
+        name: refusal.mistake.name(),
+        place: match refusal.mistake {
+            Mistake::Syntax | Mistake::TooDeep => dtman_engine::Place::Line(refusal.place.line),
+            _ => dtman_engine::Place::Nowhere,
+        },
+    };
+    let diagnosis = diagnosis_at(alloc, text, refusal.place, number)?;
+    Ok(Unsaid { fault, diagnosis })
+}
+
+/// The profile's number of a mistake.
+fn number_of(mistake: Mistake) -> u8
+    ensures { is_dialect_number result ≡ true }
+{
+    match mistake {
+        Mistake::Syntax => 10,
+        Mistake::TooDeep => 16,
+        Mistake::NoLabel => 20,
+        Mistake::LabelTwice => 21,
+        Mistake::NoPath => 22,
+        Mistake::Reserved => 27,
+        Mistake::DeepNode => 28,
+    }
+}
+
+fn diagnosis_at(
+    alloc: Global,
+    text: &[u8],
+    place: dtc_dialect::Place<'_>,
+    number: u8,
+) -> Result<Diagnosis, AllocError> {
+    let Some(span) = place.span else {
+        return whole(alloc, place.file, number, b"");
+    };
+    let words = text.get(span.start..span.end).unwrap_or(&[]);
+    let columns = columns_of(text, span);
+    let mut diagnosis = Diagnosis {
+        number,
+        place: Place::Text {
+            file: copied(alloc, place.file)?,
+            line: place.line,
+            column: columns.start,
+            text: copied(alloc, line_of(text, span))?,
+            marked: columns.end.saturating_sub(columns.start),
+        },
+        kind: kind_of(number, words),
+        subject: copied(alloc, subject_of(number, words))?,
+        notes: Vec::new(alloc),
+    };
+    if number == 10 && is_blank(text.get(span.end..).unwrap_or(&[])) {
+        diagnosis
+            .notes
+            .push(Note::Words("the text ends behind it"))?;
+    }
+    Ok(diagnosis)
+}
+
+fn kind_of(number: u8, words: &[u8]) -> Subject {
+    match words {
+        [b'/', b'*'] | [b'"'] | [b'\''] => Subject::Unclosed,
+        _ if number == 10 => Subject::Punctuation,
+        [b'&', b'{', ..] => Subject::Path,
+        _ => Subject::Label,
+    }
+}
+
+/// The name that a refusal is of: of a reference or a label without what is written round it.
+fn subject_of(number: u8, words: &[u8]) -> &[u8] {
+    match words {
+        _ if number == 10 => words,
+        [b'&', b'{', path @ .., b'}'] => path,
+        [b'&', label @ ..] => label,
+        [label @ .., b':'] => label,
+        _ => words,
+    }
+}
+
+fn is_blank(text: &[u8]) -> bool {
+    text.iter().all(|c| c.is_ascii_whitespace())
+}
+
+/// Why a source isn't whole, by its file.
+pub fn incomplete(alloc: Global, file: &[u8], reason: &Incomplete) -> Result<Unsaid, AllocError>
+    ensures { IfOk result (λ unsaid. is_dialect_number unsaid.fault.number ≡ true) }
+{
+    match reason {
+        Incomplete::NoMemory => Err(AllocError),
+        Incomplete::TooDeep => unwhole(
+            alloc,
+            file,
+            nowhere(16, "TooDeep"),
+            "files take in files at most 200 deep",
+        ),
+        Incomplete::TooLong => unwhole(
+            alloc,
+            file,
+            nowhere(17, "TooLong"),
+            "all that it takes in counts, too",
+        ),
+        Incomplete::NoFile(_) | Incomplete::Syntax => unwhole(
+            alloc,
+            file,
+            nowhere(10, "Syntax"),
+            "a file's name between quotes must follow, and numbers behind it in pairs",
+        ),
+    }
+}
+
+fn nowhere(number: u8, name: &'static str) -> Fault
+    ensures { result.number ≡ number }
+{
+    Fault {
+        number,
+        name,
+        place: dtman_engine::Place::Nowhere,
+    }
+}
+
+/// A refusal of what a file takes in.
+fn unwhole(
+    alloc: Global,
+    file: &[u8],
+    fault: Fault,
+    note: &'static str,
+) -> Result<Unsaid, AllocError>
+    ensures { IfOk result (λ unsaid. unsaid.fault ≡ fault) }
+{
+    // The words that take a file in can't stand there, unless the text is too long.
+    let told = if fault.number == 17 { 17 } else { 10 };
+    let mut diagnosis = whole(alloc, file, told, b"/include/")?;
+    diagnosis.notes.push(Note::Words(note))?;
+    Ok(Unsaid { fault, diagnosis })
+}
+
+/// What is told of a file as a whole.
+fn whole(alloc: Global, file: &[u8], number: u8, subject: &[u8]) -> Result<Diagnosis, AllocError> {
+    Ok(Diagnosis {
+        number,
+        place: Place::File {
+            file: copied(alloc, file)?,
+        },
+        kind: Subject::Punctuation,
+        subject: copied(alloc, subject)?,
+        notes: Vec::new(alloc),
+    })
+}
