@@ -1,5 +1,5 @@
 -- What the calls do to the seats of handles. `Option Placed` is the seat behind a handle, None where it is empty.
-use Rattle.std.specs.Prelude.{◌≡◌, ◌⊎◌, ◌<◌, ◌++◌, ℕ, Bool, true, false, if◌then◌else◌, List, [], map, drop, length, Option, Some, None, Result, ⊤}
+use Rattle.std.specs.Prelude.{◌≡◌, ◌⊎◌, ◌<◌, ◌++◌, ℕ, Bool, if◌then◌else◌, List, [], map, drop, length, Option, Some, None, Result, ⊤}
 use Rattle.bus_plan.specs.Plan.{PlannedDevice}
 use Rattle.bus_core.specs.CoreState.{first_core}
 use Rattle.bus_core.specs.declared.event.Reply.{Reply}

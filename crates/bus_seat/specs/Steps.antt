@@ -1,5 +1,5 @@
 -- What the board's calls do to a seat's view, by what they answer: the board's own clauses.
-use Rattle.std.specs.Prelude.{◌≡◌, ◌≢◌, ◌⊎◌, ℕ, Bool, [], Option, Some, None, Result, IfOk, IfErr, IfSome, IfNone, OnOk}
+use Rattle.std.specs.Prelude.{◌≡◌, ◌≢◌, ◌⊎◌, ℕ, Bool, [], Option, None, Result, IfOk, IfErr, IfSome, IfNone, OnOk}
 use Rattle.bus_core.specs.declared.event.Reply.{Reply}
 use Rattle.bus_core.specs.declared.refusal.Refusal.{Refusal}
 use Rattle.bus_core.specs.declared.refusal.Refusal.TheVariants.{NotIdle}

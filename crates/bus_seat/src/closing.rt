@@ -1,6 +1,6 @@
 //! How a board ends with its last seat.
 
-ghost use Rattle.std.specs.Prelude.{◌≡◌, ◌≤◌, ℕ, length, map, true, if◌then◌else◌, IfOk, IfErr};
+ghost use Rattle.std.specs.Prelude.{◌≡◌, ◌≤◌, length, IfOk, IfErr};
 ghost use Rattle.bus_board.specs.Ends.{EndsAs};
 ghost use Rattle.bus_board.specs.Words.{number_of};
 ghost use Rattle.bus_seat.specs.Calls.{Closes, with_words};
@@ -13,27 +13,29 @@ use bus_board::{End, Word};
 use std::alloc::Global;
 use std::sync::Arc;
 
-/// Ends the board with its last seat, empties the handle, and puts the number of each device's word into the buffer.
-pub fn close(alloc: Global, handle: &mut SeatHandle, out: &mut [u8]) -> Told
-    ensures { Closes (seated handle.old) out.old (seated handle.new) out.new result }
-{
-    let Some(lifted) = handle.lift(alloc) else {
-        return no_seat();
-    };
-    let Lifted { block, place } = lifted;
-    let devices = place.devices();
-    if out.len() < devices {
-        handle.put(Lifted { block, place });
-        return short(devices);
-    }
-    match end(place) {
-        Ok(End { words, quiet }) => {
-            write_words(&words, out);
-            done(u32::from(quiet), devices)
+impl SeatHandle {
+    /// Ends the board with its last seat, empties the handle, and puts the number of each device's word into the buffer.
+    pub fn close(&mut self, alloc: Global, out: &mut [u8]) -> Told
+        ensures { Closes (seated self.old) out.old (seated self.new) out.new result }
+    {
+        let Some(lifted) = self.lift(alloc) else {
+            return no_seat();
+        };
+        let Lifted { block, place } = lifted;
+        let devices = place.devices();
+        if out.len() < devices {
+            self.put(Lifted { block, place });
+            return short(devices);
         }
-        Err(place) => {
-            handle.put(Lifted { block, place });
-            shared()
+        match end(place) {
+            Ok(End { words, quiet }) => {
+                write_words(&words, out);
+                done(u32::from(quiet), devices)
+            }
+            Err(place) => {
+                self.put(Lifted { block, place });
+                shared()
+            }
         }
     }
 }

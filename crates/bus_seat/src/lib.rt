@@ -12,10 +12,7 @@ mod parts;
 mod place;
 mod told;
 
-pub use calls::{defer, give_back, look, seat, settle, take, wake_owed};
-pub use closing::close;
 pub use handle::SeatHandle;
 pub use held::Held;
-pub use opening::open;
 pub use place::{Place, Slot};
 pub use told::Told;

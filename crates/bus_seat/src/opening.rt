@@ -1,6 +1,6 @@
 //! How a board gets its first seat.
 
-ghost use Rattle.std.specs.Prelude.{◌≡◌, ◌+◌, None, OnOk, IfOk, IfErr};
+ghost use Rattle.std.specs.Prelude.{◌≡◌, None, OnOk, IfOk, IfErr};
 ghost use Rattle.bus_core.specs.CoreState.{first_core};
 ghost use Rattle.bus_core.specs.declared.refusal.Refusal.TheVariants.{NoMemory};
 ghost use Rattle.bus_board.specs.Rule.{OpensAs};
@@ -16,18 +16,21 @@ use bus_plan::Plan;
 use std::alloc::Global;
 use std::sync::Arc;
 
-/// A board of the plan on which nothing was begun: its first seat goes into the handle, which is empty.
-pub fn open(alloc: Global, plan: Plan, handle: &mut SeatHandle) -> Result<(), Refusal>
-    requires { seated handle.old ≡ None }
-    ensures opened { OnOk result (IsOpened plan (seated handle.new)) }
-    ensures err { IfErr result (λ refusal. (refusal ≡ NoMemory) × (seated handle.new ≡ None)) }
-{
-    let block = Box::new(alloc, Slot { place: None })?;
-    let place = first_place(alloc, plan)?;
-    handle.put(Lifted { block, place });
-    Ok(())
+impl SeatHandle {
+    /// A board of the plan on which nothing was begun: its first seat goes into this handle, which is empty.
+    pub fn open(&mut self, alloc: Global, plan: Plan) -> Result<(), Refusal>
+        requires { seated self.old ≡ None }
+        ensures opened { OnOk result (IsOpened plan (seated self.new)) }
+        ensures err { IfErr result (λ refusal. (refusal ≡ NoMemory) × (seated self.new ≡ None)) }
+    {
+        let block = Box::new(alloc, Slot { place: None })?;
+        let place = first_place(alloc, plan)?;
+        self.put(Lifted { block, place });
+        Ok(())
+    }
 }
 
+// The first seat of a board of the plan.
 fn first_place(alloc: Global, plan: Plan) -> Result<Place, Refusal>
     ensures plan { IfOk result (λ p. p.board.plan ≡ plan) }
     ensures view { IfOk result (λ p. p.seat.view ≡ opener (first_core plan)) }

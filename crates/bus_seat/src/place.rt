@@ -1,6 +1,6 @@
 //! A seat, and the board that it is of, which it shares with the other seats.
 
-ghost use Rattle.std.specs.Prelude.{◌≡◌, ◌+◌, ◌≤◌, [], IfOk, IfErr, MatchResult, length, OnOk};
+ghost use Rattle.std.specs.Prelude.{◌≡◌, [], IfOk, IfErr, length, OnOk};
 ghost use Rattle.bus_core.specs.declared.refusal.Refusal.TheVariants.{NoMemory};
 ghost use Rattle.bus_board.specs.Learns.{Paid};
 ghost use Rattle.bus_board.specs.Views.{newcomer};

@@ -1,7 +1,7 @@
 //! What a call of a seat tells its caller.
 
 ghost use Rattle.std.specs.Prelude.{◌≡◌};
-ghost use Rattle.bus_seat.specs.Told.{done, nothing, refused, no_seat, is_occupied, is_shared, is_short, take_told, look_told, settle_told, step_told};
+ghost use Rattle.bus_seat.specs.Told.{done, refused, no_seat, is_occupied, is_shared, is_short, take_told, look_told, settle_told, step_told};
 
 use bus_core::{Refusal, Reply};
 use bus_plan::Device;

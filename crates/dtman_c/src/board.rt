@@ -1,6 +1,5 @@
 //! The board, for kernels that probe on threads of their own: a seat behind a handle in the caller's memory, and each call the board's.
 ghost use Rattle.std.specs.Prelude.{◌≡◌, None, IfOk, IfErr};
-ghost use Rattle.bus_plan.specs.PlanFile.{reading};
 ghost use Rattle.bus_seat.specs.Calls.{AreOfOne, Closes, Defers, GivesBack, Looks, OnSeat, Seats, Settles, Takes, WakesOwed};
 ghost use Rattle.bus_seat.specs.Handles.{seated};
 ghost use Rattle.dtman_engine.specs.Fault.{fault_value};
@@ -48,7 +47,7 @@ fn open(alloc: Global, plan: Plan, seat: &mut SeatHandle) -> Answer
     ensures { OpensPlan plan (seated seat.new) result }
 {
     let devices = plan.len();
-    match bus_seat::open(alloc, plan, seat) {
+    match seat.open(alloc, plan) {
         Ok(()) => told(WRITTEN, devices),
         Err(_) => refusal(&Fault::no_memory()),
     }
@@ -64,7 +63,7 @@ pub extern "C" fn dtman_board_seat(
     ensures same { seated from.new ≡ seated from.old }
     ensures new { Seats (seated from.old) (seated seat.old) (seated seat.new) result }
 {
-    bus_seat::seat(alloc, from, seat)
+    from.seat(alloc, seat)
 }
 
 /// Claims a device to probe.
@@ -72,7 +71,7 @@ pub extern "C" fn dtman_board_seat(
 pub extern "C" fn dtman_board_take(alloc: Global, seat: &mut SeatHandle) -> Told
     ensures { OnSeat Takes (seated seat.old) (seated seat.new) result }
 {
-    bus_seat::take(alloc, seat)
+    seat.take(alloc)
 }
 
 /// Whether a supplier of the flight's device is bound.
@@ -80,7 +79,7 @@ pub extern "C" fn dtman_board_take(alloc: Global, seat: &mut SeatHandle) -> Told
 pub extern "C" fn dtman_board_look(alloc: Global, seat: &mut SeatHandle, supplier: usize) -> Told
     ensures { OnSeat (Looks supplier) (seated seat.old) (seated seat.new) result }
 {
-    bus_seat::look(alloc, seat, Device::new(supplier))
+    seat.look(alloc, Device::new(supplier))
 }
 
 /// Ends the flight: its device binds or fails.
@@ -88,7 +87,7 @@ pub extern "C" fn dtman_board_look(alloc: Global, seat: &mut SeatHandle, supplie
 pub extern "C" fn dtman_board_settle(alloc: Global, seat: &mut SeatHandle) -> Told
     ensures { OnSeat Settles (seated seat.old) (seated seat.new) result }
 {
-    bus_seat::settle(alloc, seat)
+    seat.settle(alloc)
 }
 
 /// Ends the flight, as this supplier wasn't bound.
@@ -96,7 +95,7 @@ pub extern "C" fn dtman_board_settle(alloc: Global, seat: &mut SeatHandle) -> To
 pub extern "C" fn dtman_board_defer(alloc: Global, seat: &mut SeatHandle, supplier: usize) -> Told
     ensures { OnSeat (Defers supplier) (seated seat.old) (seated seat.new) result }
 {
-    bus_seat::defer(alloc, seat, Device::new(supplier))
+    seat.defer(alloc, Device::new(supplier))
 }
 
 /// Wakes what the seat owes a wake.
@@ -104,7 +103,7 @@ pub extern "C" fn dtman_board_defer(alloc: Global, seat: &mut SeatHandle, suppli
 pub extern "C" fn dtman_board_wake_owed(alloc: Global, seat: &mut SeatHandle) -> Told
     ensures { OnSeat WakesOwed (seated seat.old) (seated seat.new) result }
 {
-    bus_seat::wake_owed(alloc, seat)
+    seat.wake_owed(alloc)
 }
 
 /// Gives a seat back to another one of its board.
@@ -117,7 +116,7 @@ pub extern "C" fn dtman_board_give_back(
     requires { AreOfOne (seated into.old) (seated seat.old) }
     ensures { GivesBack (seated into.old) (seated seat.old) (seated into.new) (seated seat.new) result }
 {
-    bus_seat::give_back(alloc, into, seat)
+    into.give_back(alloc, seat)
 }
 
 /// Ends the board with its last seat.
@@ -125,5 +124,5 @@ pub extern "C" fn dtman_board_give_back(
 pub extern "C" fn dtman_board_close(alloc: Global, seat: &mut SeatHandle, out: &mut [u8]) -> Told
     ensures { Closes (seated seat.old) out.old (seated seat.new) out.new result }
 {
-    bus_seat::close(alloc, seat, out)
+    seat.close(alloc, out)
 }

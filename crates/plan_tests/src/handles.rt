@@ -6,9 +6,7 @@ ghost use Rattle.bus_seat.specs.Handles.{seated};
 
 use crate::boards::{UART_AND_CLOCK, clk};
 use bus_plan::read_plan;
-use bus_seat::{
-    SeatHandle, Told, close, defer, give_back, look, open, seat, settle, take, wake_owed,
-};
+use bus_seat::{SeatHandle, Told};
 use std::alloc::Global;
 use std::hash::RandomState;
 use std::process::Abort;
@@ -38,7 +36,7 @@ fn ends(rt: &impl Abort, told: Told, status: u32, number: u32, device: usize) {
 fn opened(rt: &impl Abort, alloc: Global, hasher: RandomState) -> SeatHandle {
     let plan = read_plan(alloc, hasher, UART_AND_CLOCK.as_bytes()).expect(rt, "a plan");
     let mut one = SeatHandle::empty(alloc);
-    open(alloc, plan, &mut one).expect(rt, "a board");
+    one.open(alloc, plan).expect(rt, "a board");
     one
 }
 
@@ -47,29 +45,29 @@ fn further(rt: &impl Abort, alloc: Global, one: &mut SeatHandle) -> SeatHandle
     ensures { AreOfOne (seated one.new) (seated result) }
 {
     let mut two = SeatHandle::empty(alloc);
-    ends(rt, seat(alloc, one, &mut two), DONE, 0, 0);
+    ends(rt, one.seat(alloc, &mut two), DONE, 0, 0);
     two
 }
 
 // The uart misses its clock, and waits.
 fn uart_is_deferred(rt: &impl Abort, alloc: Global, one: &mut SeatHandle) {
-    ends(rt, take(alloc, one), DONE, 0, 0);
-    ends(rt, take(alloc, one), REFUSED, 60, 0);
-    ends(rt, look(alloc, one, clk()), DONE, 0, 0);
-    ends(rt, settle(alloc, one), REFUSED, 63, 0);
-    ends(rt, defer(alloc, one, clk()), DONE, 0, 0);
-    ends(rt, wake_owed(alloc, one), DONE, 0, 0);
+    ends(rt, one.take(alloc), DONE, 0, 0);
+    ends(rt, one.take(alloc), REFUSED, 60, 0);
+    ends(rt, one.look(alloc, clk()), DONE, 0, 0);
+    ends(rt, one.settle(alloc), REFUSED, 63, 0);
+    ends(rt, one.defer(alloc, clk()), DONE, 0, 0);
+    ends(rt, one.wake_owed(alloc), DONE, 0, 0);
 }
 
 // The clock binds, and wakes the uart, which binds too.
 fn both_bind(rt: &impl Abort, alloc: Global, one: &mut SeatHandle) {
-    ends(rt, take(alloc, one), DONE, 0, 1);
-    ends(rt, settle(alloc, one), DONE, 5, 0);
-    ends(rt, wake_owed(alloc, one), DONE, 0, 0);
-    ends(rt, take(alloc, one), DONE, 0, 0);
-    ends(rt, look(alloc, one, clk()), DONE, 1, 0);
-    ends(rt, settle(alloc, one), DONE, 5, 0);
-    ends(rt, take(alloc, one), NOTHING, 0, 0);
+    ends(rt, one.take(alloc), DONE, 0, 1);
+    ends(rt, one.settle(alloc), DONE, 5, 0);
+    ends(rt, one.wake_owed(alloc), DONE, 0, 0);
+    ends(rt, one.take(alloc), DONE, 0, 0);
+    ends(rt, one.look(alloc, clk()), DONE, 1, 0);
+    ends(rt, one.settle(alloc), DONE, 5, 0);
+    ends(rt, one.take(alloc), NOTHING, 0, 0);
 }
 
 /// Row board-left-waiting with its wake, by one seat, beside one that is given back.
@@ -80,10 +78,10 @@ fn handle_of_a_board(rt: HostRuntime) {
     let mut one = opened(&rt, rt.alloc(), hasher);
     uart_is_deferred(&rt, rt.alloc(), &mut one);
     let mut two = further(&rt, rt.alloc(), &mut one);
-    ends(&rt, give_back(rt.alloc(), &mut one, &mut two), DONE, 0, 0);
+    ends(&rt, one.give_back(rt.alloc(), &mut two), DONE, 0, 0);
     both_bind(&rt, rt.alloc(), &mut one);
-    ends(&rt, close(rt.alloc(), &mut one, &mut words[..1]), SHORT, 0, 2);
-    ends(&rt, close(rt.alloc(), &mut one, &mut words), DONE, 1, 2);
+    ends(&rt, one.close(rt.alloc(), &mut words[..1]), SHORT, 0, 2);
+    ends(&rt, one.close(rt.alloc(), &mut words), DONE, 1, 2);
     assert_eq!(&rt; words, [5, 5, 9]);
 }
 
@@ -94,9 +92,9 @@ fn handles_that_are_filled(rt: HostRuntime) {
     let mut words = [9; 2];
     let mut one = opened(&rt, rt.alloc(), hasher);
     let mut two = further(&rt, rt.alloc(), &mut one);
-    ends(&rt, close(rt.alloc(), &mut one, &mut words), SHARED, 0, 0);
-    ends(&rt, seat(rt.alloc(), &mut one, &mut two), OCCUPIED, 0, 0);
-    ends(&rt, close(rt.alloc(), &mut two, &mut words), SHARED, 0, 0);
+    ends(&rt, one.close(rt.alloc(), &mut words), SHARED, 0, 0);
+    ends(&rt, one.seat(rt.alloc(), &mut two), OCCUPIED, 0, 0);
+    ends(&rt, two.close(rt.alloc(), &mut words), SHARED, 0, 0);
     assert_eq!(&rt; words, [9, 9]);
 }
 
@@ -106,13 +104,13 @@ fn handles_that_are_empty(rt: HostRuntime) {
     let alloc = rt.alloc();
     let mut none = SeatHandle::empty(alloc);
     let mut other = SeatHandle::empty(alloc);
-    ends(&rt, seat(alloc, &mut none, &mut other), NO_SEAT, 0, 0);
-    ends(&rt, take(alloc, &mut none), NO_SEAT, 0, 0);
-    ends(&rt, look(alloc, &mut none, clk()), NO_SEAT, 0, 0);
-    ends(&rt, settle(alloc, &mut none), NO_SEAT, 0, 0);
-    ends(&rt, defer(alloc, &mut none, clk()), NO_SEAT, 0, 0);
-    ends(&rt, wake_owed(alloc, &mut none), NO_SEAT, 0, 0);
-    ends(&rt, close(alloc, &mut none, &mut []), NO_SEAT, 0, 0);
+    ends(&rt, none.seat(alloc, &mut other), NO_SEAT, 0, 0);
+    ends(&rt, none.take(alloc), NO_SEAT, 0, 0);
+    ends(&rt, none.look(alloc, clk()), NO_SEAT, 0, 0);
+    ends(&rt, none.settle(alloc), NO_SEAT, 0, 0);
+    ends(&rt, none.defer(alloc, clk()), NO_SEAT, 0, 0);
+    ends(&rt, none.wake_owed(alloc), NO_SEAT, 0, 0);
+    ends(&rt, none.close(alloc, &mut []), NO_SEAT, 0, 0);
 }
 
 /// A handle goes to another thread and comes back.
@@ -123,10 +121,10 @@ fn handle_of_another_thread(rt: HostRuntime) {
     let mut words = [9; 2];
     let mut one = opened(&rt, alloc, hasher);
     let there = move || -> SeatHandle {
-        take(alloc, &mut one);
+        one.take(alloc);
         one
     };
     let (mut one, _) = thread::join(&rt, there, || {});
-    ends(&rt, close(alloc, &mut one, &mut words), DONE, 0, 2);
+    ends(&rt, one.close(alloc, &mut words), DONE, 0, 2);
     assert_eq!(&rt; words, [1, 0]);
 }
