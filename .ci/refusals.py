@@ -24,7 +24,7 @@ OLD = b"what stood there before\n"
 
 BASE = b"/dts-v1/; / { ocp: ocp { }; };"
 OVERLAY = b"/dts-v1/; /plugin/; &ocp { d { r = <&e>; }; e: e { }; };"
-DIALECT = b'/dts-v1/; / { b = <\'B\'>; c = /incbin/("drivers"); /omit-if-no-ref/ a: a { }; };'
+DIALECT = b'/dts-v1/; / { b = <\'B\'>; c = /incbin/("drivers", 1, 6); /omit-if-no-ref/ a: a { }; };'
 CLOCK = b'/dts-v1/; / { clk: clk { compatible = "fixed-clock"; #clock-cells = <0>; }; uart { compatible = "ns16550a"; clocks = <&clk>; }; };'
 DRIVERS = b"driver fixed fixed-clock\ndriver ns ns16550a\n"
 SCHEDULE = b"begin /uart\nbegin /clk\nfinish /clk settled\nfinish /uart missing /clk\n"
