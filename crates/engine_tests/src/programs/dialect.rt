@@ -13,7 +13,7 @@ const FILES: Files = &[
     ("whole.dts", b"/dts-v1/;\n/include/ \"root.dtsi\"\n"),
     ("in/root.dtsi", b"/ { /omit-if-no-ref/ gone: gone { }; };\n"),
     ("far.dts", b"/dts-v1/;\n/include/ \"low.dtsi\"\n"),
-    ("in/low.dtsi", b"/ {\n\ta = <&b>;\n};\n"),
+    ("in/low.dtsi", b"/ {\n\ta = <&b>;\n\tc;\n};\n"),
     (
         "bad.dts",
         b"# 3 \"b.dts\"\n/dts-v1/;\n/ {\n\ta = <'A'>;\n\tb c;\n};\n",
