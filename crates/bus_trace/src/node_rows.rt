@@ -1,8 +1,9 @@
 //! A tree's nodes as rows, in the order in which it is read, without the reserved ones. Node 0 is the root.
 
-use dt_tree::{MAX_DEPTH, Node, Tree, cell_in, is_reserved_name};
+use dt_tree::{Node, Tree, cell_in, is_reserved_name};
 use std::alloc::{AllocError, Global};
 use std::collections::BTreeMap;
+use trace_paths::Parents;
 
 /// A node, and the one above it.
 #[derive(Clone, Copy)]
@@ -81,22 +82,6 @@ impl<'t> NodeRows<'t> {
         }
         devices
     }
-
-    /// The path of a node as text.
-    pub fn path_of(&self, alloc: Global, node: usize) -> Result<Vec<u8>, AllocError> {
-        let mut names = Vec::new(alloc);
-        let mut below = node;
-        for _ in 0..MAX_DEPTH + 2 {
-            match self.rows.get(below) {
-                Some(row) if below > 0 => {
-                    names.push(row.node.name_bytes())?;
-                    below = row.parent;
-                }
-                _ => break,
-            }
-        }
-        joined(alloc, names.as_slice())
-    }
 }
 
 /// Whether the node of a row is a device.
@@ -104,15 +89,16 @@ pub(crate) fn is_device(node: usize, row: &NodeRow<'_>) -> bool {
     node > 0 && row.node.value(b"compatible".as_slice()).is_some()
 }
 
-// Names from the last to the first, each behind a slash.
-fn joined(alloc: Global, names: &[&[u8]]) -> Result<Vec<u8>, AllocError> {
-    let mut path = Vec::new(alloc);
-    for name in names.iter().rev() {
-        path.push(b'/')?;
-        path.extend_from_slice(*name)?;
+impl<'t> Parents<'t> for NodeRows<'t> {
+    fn name(&self, node: usize) -> Option<&'t [u8]> {
+        let row = self.rows.get(node)?;
+        Some(row.node.name_bytes())
     }
-    if path.is_empty() {
-        path.push(b'/')?;
+
+    fn parent(&self, node: usize) -> usize {
+        match self.rows.get(node) {
+            Some(row) => row.parent,
+            None => node,
+        }
     }
-    Ok(path)
 }

@@ -7,6 +7,7 @@ use bus_drivers::Form;
 use bus_plan::MAX_DEVICES;
 use dt_tree::{Property, Tree};
 use std::alloc::{AllocError, Global};
+use trace_paths::path_of;
 
 /// What a tree has no plan for.
 #[derive(Drop)]
@@ -91,12 +92,12 @@ fn traced<'t>(
     culprit: Culprit<'t>,
 ) -> Result<Trace<'t>, AllocError> {
     let provider = match culprit.reason {
-        Reason::Specifier(_, provider) => Some(nodes.path_of(alloc, provider.node)?),
+        Reason::Specifier(_, provider) => Some(path_of(alloc, nodes, provider.node)?),
         _ => None,
     };
     Ok(Trace::Property {
         culprit,
-        device: nodes.path_of(alloc, culprit.device)?,
+        device: path_of(alloc, nodes, culprit.device)?,
         provider,
     })
 }

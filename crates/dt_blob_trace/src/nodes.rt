@@ -8,7 +8,7 @@ use std::collections::BTreeSet;
 
 /// A node whose end hasn't come: its number, and where a name stands that stood in it before.
 #[derive(Clone, Copy)]
-struct OpenNode<'t> {
+struct Unended<'t> {
     number: usize,
     name: &'t [u8],
     has_children: bool,
@@ -26,7 +26,7 @@ struct Key<'t> {
 /// How far the tokens have come: the open nodes, the outermost first, or behind the root.
 #[derive(Drop)]
 pub(crate) struct Nodes<'t> {
-    open: Vec<OpenNode<'t>>,
+    open: Vec<Unended<'t>>,
     is_behind: bool,
     count: usize,
     names: BTreeSet<Key<'t>>,
@@ -87,7 +87,7 @@ impl<'t> Nodes<'t> {
     fn push(&mut self, name: &'t [u8]) -> Result<(), AllocError> {
         let number = self.count;
         self.count = number.saturating_add(1);
-        self.open.push(OpenNode {
+        self.open.push(Unended {
             number,
             name,
             has_children: false,

@@ -2,11 +2,11 @@
 
 use crate::culprit::{Culprit, Fault, Reason};
 use crate::flat_tree::{FlatTree, PropertyRow};
-use crate::paths::at_path;
 use crate::sites::{Site, Sites};
 use crate::symbols::symbol_phandle;
 use crate::texts::{SiteText, site_in, unended};
 use std::alloc::{AllocError, Global};
+use trace_paths::{Children, at_path};
 
 /// An entry of a label's property in `__fixups__`, which stands in a node.
 #[derive(Clone, Copy)]

@@ -3,6 +3,7 @@
 use dt_tree::{Node, Property, Tree, is_reserved_name, phandle_in};
 use std::alloc::{AllocError, Global};
 use std::collections::BTreeMap;
+use trace_paths::{Children, Parents};
 
 /// A name in a node.
 #[derive(Clone, Copy, PartialEq, Eq, PartialOrd, Ord, Drop)]
@@ -112,11 +113,6 @@ impl<'t> FlatTree<'t> {
         Ok(())
     }
 
-    /// The child of this name.
-    pub fn child(&self, node: usize, name: &'t [u8]) -> Option<usize> {
-        self.children.get(&Key { node, name }).copied()
-    }
-
     /// The row of the property of this name.
     pub fn property(&self, node: usize, name: &'t [u8]) -> Option<usize> {
         self.names.get(&Key { node, name }).copied()
@@ -150,5 +146,25 @@ impl<'t> FlatTree<'t> {
             return None;
         }
         phandle_in(property.value)
+    }
+}
+
+impl<'t> Children<'t> for FlatTree<'t> {
+    fn child(&self, node: usize, name: &'t [u8]) -> Option<usize> {
+        self.children.get(&Key { node, name }).copied()
+    }
+}
+
+impl<'t> Parents<'t> for FlatTree<'t> {
+    fn name(&self, node: usize) -> Option<&'t [u8]> {
+        let row = self.nodes.get(node)?;
+        Some(row.name)
+    }
+
+    fn parent(&self, node: usize) -> usize {
+        match self.nodes.get(node) {
+            Some(row) => row.parent,
+            None => node,
+        }
     }
 }

@@ -2,13 +2,13 @@
 
 use crate::culprit::{Culprit, Fault, Reason};
 use crate::flat_tree::FlatTree;
-use crate::paths::at_path;
 use crate::phandles::phandle_nodes;
 use crate::sites::Sites;
 use crate::texts::ended_path;
 use dt_tree::{MAX_DEPTH, cell_in};
 use std::alloc::{AllocError, Global};
 use std::collections::BTreeMap;
+use trace_paths::{Children, at_path};
 
 /// A fragment: its node, and its `__overlay__`.
 #[derive(Clone, Copy)]

@@ -8,7 +8,6 @@ mod fixups;
 mod flat_tree;
 mod fragments;
 mod locals;
-mod paths;
 mod phandles;
 mod sites;
 mod symbols;

@@ -6,6 +6,7 @@ use crate::phandles::raised;
 use crate::sites::{Site, Sites};
 use dt_tree::cell_in;
 use std::alloc::{AllocError, Global};
+use trace_paths::Children;
 
 /// What the local fixups of a node are of: of nothing where it isn't below `/__local_fixups__`, else of the node at the
 /// path behind that name, which may be missing.

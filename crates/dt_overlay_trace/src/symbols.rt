@@ -2,9 +2,9 @@
 
 use crate::culprit::Reason;
 use crate::flat_tree::FlatTree;
-use crate::paths::at_path;
 use crate::texts::ended_path;
 use std::alloc::{AllocError, Global};
+use trace_paths::{Children, at_path};
 
 /// The phandle of the node that a symbol names, or why there is none.
 pub(crate) fn symbol_phandle<'t>(base: &FlatTree<'t>, label: &'t [u8]) -> Result<u32, Reason> {

@@ -1,9 +1,9 @@
 //! What a fragment targets, as its text says it.
 
 use crate::flat_tree::{FlatTree, PropertyRow};
-use crate::paths::at_path;
 use crate::texts::{ended_path, site_in, unended};
 use dt_tree::MAX_DEPTH;
+use trace_paths::{Children, at_path};
 
 /// The label or the path of a fragment's target.
 #[derive(Clone, Copy, Debug)]

@@ -5,13 +5,13 @@ use crate::fixups::find_fixup;
 use crate::flat_tree::FlatTree;
 use crate::fragments::{find_fragment, has_fragment};
 use crate::locals::find_local;
-use crate::paths::path_of;
 use crate::phandles::{find_phandle, rise_above};
 use crate::sites::Sites;
 use crate::symbols::all_symbols;
 use crate::targets::{Target, target_round};
 use dt_tree::Tree;
 use std::alloc::{AllocError, Global};
+use trace_paths::path_of;
 
 /// The culprit of an overlay, and what its rows are.
 #[derive(Drop)]

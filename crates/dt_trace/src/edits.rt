@@ -1,11 +1,11 @@
 //! The walk over lexemes: bodies, statements and their edits, in the order of the text.
 
 use crate::culprit::{Culprit, Fault};
-use crate::paths::at_path;
 use crate::table::Table;
 use dt_lexeme::{Kind, Lexeme};
 use dt_place::named;
 use std::alloc::{AllocError, Global};
+use trace_paths::{Children, at_path};
 
 /// A body that is open: the node that it is of, and its number.
 #[derive(Clone, Copy)]

@@ -6,7 +6,6 @@
 mod culprit;
 mod edits;
 mod order;
-mod paths;
 mod references;
 mod table;
 mod tracing;

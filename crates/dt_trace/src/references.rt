@@ -3,7 +3,6 @@
 use crate::culprit::{Culprit, Fault};
 use crate::edits::{Walk, unknown};
 use crate::order::in_order;
-use crate::paths::at_path;
 use crate::table::{Property, Table};
 use dt_expression::primary;
 use dt_lexeme::{Kind, Lexeme};
@@ -11,6 +10,7 @@ use dt_place::named;
 use dt_tree::MAX_DEPTH;
 use std::alloc::{AllocError, Global};
 use std::collections::BTreeMap;
+use trace_paths::{Children, at_path};
 
 /// The first fault of a source whose edits are done, in the order of the walk.
 pub(crate) fn resolve<'t>(
@@ -273,16 +273,16 @@ fn target<'t>(walk: &Walk<'t>, name: &'t [u8], is_path: bool) -> Option<usize> {
     }
 }
 
-// ---- the mirror of local references
+// ---- local fixups
 
-// A resolved reference in cells so deep that its mirror can't stand.
+// A resolved reference in cells so deep that no node of local fixups can stand for its node.
 fn too_deep<'t>(walk: &Walk<'t>, lexemes: &[Lexeme], rows: &[usize]) -> Option<Culprit> {
     if !walk.plugin {
         return None;
     }
     for row in rows {
         if let Some(property) = walk.table.properties.get(*row) {
-            if walk.table.is_deepest(property.node) && is_mirrored(walk, lexemes, property) {
+            if walk.table.is_deepest(property.node) && has_local_fixup(walk, lexemes, property) {
                 return Some(at_name(Fault::TooDeep, property, None));
             }
         }
@@ -291,7 +291,7 @@ fn too_deep<'t>(walk: &Walk<'t>, lexemes: &[Lexeme], rows: &[usize]) -> Option<C
 }
 
 // Whether a property has a resolved reference in cells.
-fn is_mirrored<'t>(walk: &Walk<'t>, lexemes: &[Lexeme], property: &Property<'t>) -> bool {
+fn has_local_fixup<'t>(walk: &Walk<'t>, lexemes: &[Lexeme], property: &Property<'t>) -> bool {
     let mut inside = Inside {
         cells: false,
         parens: 0,

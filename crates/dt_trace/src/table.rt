@@ -3,6 +3,7 @@
 use dt_tree::MAX_DEPTH;
 use std::alloc::{AllocError, Global};
 use std::collections::{BTreeMap, BTreeSet};
+use trace_paths::{Children, Parents};
 
 /// A name in a node.
 #[derive(Clone, Copy, PartialEq, Eq, PartialOrd, Ord, Drop)]
@@ -128,11 +129,6 @@ impl<'t> Table<'t> {
 
     fn child_entry(&self, node: usize, name: &'t [u8]) -> Option<Entry> {
         self.children.get(&Key { node, name }).copied()
-    }
-
-    /// The child of this name.
-    pub fn child(&self, node: usize, name: &'t [u8]) -> Option<usize> {
-        standing(self.child_entry(node, name))
     }
 
     /// Where a body defined the child of this name before, even if it was taken out since.
@@ -284,5 +280,25 @@ impl<'t> Table<'t> {
         };
         self.names.insert(key, entry)?;
         Ok(defined_in(known, body))
+    }
+}
+
+impl<'t> Children<'t> for Table<'t> {
+    fn child(&self, node: usize, name: &'t [u8]) -> Option<usize> {
+        standing(self.child_entry(node, name))
+    }
+}
+
+impl<'t> Parents<'t> for Table<'t> {
+    fn name(&self, node: usize) -> Option<&'t [u8]> {
+        let row = self.nodes.get(node)?;
+        Some(row.name)
+    }
+
+    fn parent(&self, node: usize) -> usize {
+        match self.nodes.get(node) {
+            Some(row) => row.parent,
+            None => node,
+        }
     }
 }

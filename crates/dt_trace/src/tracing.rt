@@ -2,10 +2,10 @@
 
 use crate::culprit::Culprit;
 use crate::edits::Walk;
-use crate::paths::path_of;
 use crate::references::resolve;
 use dt_lexeme::{Kind, Lexeme};
 use std::alloc::{AllocError, Global};
+use trace_paths::path_of;
 
 /// Whereabouts a lexeme stands: the path of the node, and the name of the property there, by its lexeme.
 #[derive(Drop)]

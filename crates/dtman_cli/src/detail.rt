@@ -1,5 +1,6 @@
 //! How much is told of a refusal, and the lines of one.
 
+use crate::diagnosing::{Inputs, diagnosed};
 use crate::failure::Failure;
 use dtman_diagnosis::{Diagnosis, text_of};
 use dtman_engine::{Fault, Place};
@@ -42,6 +43,14 @@ pub fn asked_for<'a>(alloc: Global, words: &[&'a str]) -> Result<Asked<'a>, Allo
         asked.words.push("all")?;
     }
     Ok(asked)
+}
+
+/// A refusal of what a command read, as it is told: by its line, or in detail.
+pub fn told<'a>(alloc: Global, detail: Detail, fault: Fault, inputs: Inputs<'_>) -> Failure<'a> {
+    if detail == Detail::Line {
+        return Failure::Refused(fault);
+    }
+    refusal(alloc, fault, diagnosed(alloc, inputs, fault))
 }
 
 /// A refusal with its lines. Where there is no memory for them, it has its one line.

@@ -2,7 +2,8 @@
 
 use crate::detail::line_in;
 use dtman_diagnosis::{
-    Diagnosis, before_event, diagnose_blob, diagnose_event, diagnose_plan, diagnose_text,
+    Diagnosis, before_event, diagnose_blob, diagnose_event, diagnose_overlay, diagnose_plan,
+    diagnose_source, diagnose_text,
 };
 use dtman_engine::{Fault, Place, replay_bytes};
 use std::alloc::{AllocError, Global};
@@ -23,8 +24,56 @@ pub fn file_of<'a>(path: &'a str, bytes: &'a Vec<u8>) -> Given<'a> {
     }
 }
 
+/// What a command read, of which its refusal is.
+#[derive(Clone, Copy)]
+pub enum Inputs<'a> {
+    Source {
+        text: Given<'a>,
+        symbols: bool,
+    },
+    Overlay {
+        base: Given<'a>,
+        overlay: Given<'a>,
+    },
+    Blob(Given<'a>),
+    Plan {
+        blob: Given<'a>,
+        drivers: Given<'a>,
+    },
+    Replay {
+        plan: Given<'a>,
+        schedule: Given<'a>,
+        hasher: RandomState,
+    },
+}
+
+/// What a refusal is of.
+pub fn diagnosed(alloc: Global, inputs: Inputs<'_>, fault: Fault) -> Result<Diagnosis, AllocError> {
+    let number = fault.number;
+    match inputs {
+        Inputs::Source { text, symbols } => {
+            diagnose_source(alloc, text.name, text.bytes, symbols, number)
+        }
+        Inputs::Overlay { base, overlay } => diagnose_overlay(
+            alloc,
+            base.name,
+            base.bytes,
+            overlay.name,
+            overlay.bytes,
+            number,
+        ),
+        Inputs::Blob(blob) => diagnose_blob(alloc, blob.name, blob.bytes, number),
+        Inputs::Plan { blob, drivers } => unplanned(alloc, blob, drivers, fault),
+        Inputs::Replay {
+            plan,
+            schedule,
+            hasher,
+        } => unreplayed(alloc, hasher, plan, schedule, fault),
+    }
+}
+
 /// What a plan refuses: of the blob, or of the driver file.
-pub fn unplanned(
+fn unplanned(
     alloc: Global,
     blob: Given<'_>,
     drivers: Given<'_>,
@@ -44,7 +93,7 @@ pub fn unplanned(
 }
 
 /// What a replay refuses: of the plan's file, of the schedule's, or of an event.
-pub fn unreplayed(
+fn unreplayed(
     alloc: Global,
     hasher: RandomState,
     plan: Given<'_>,

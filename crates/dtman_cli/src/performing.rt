@@ -2,15 +2,14 @@
 ghost use Rattle.std.specs.Prelude.{◌≡◌, false};
 
 use crate::compiling::{Manner, dialect_blob, profile_blob};
-use crate::detail::{Detail, refusal};
-use crate::diagnosing::{file_of, unplanned, unreplayed};
+use crate::detail::{Detail, told};
+use crate::diagnosing::{Inputs, file_of};
 use crate::explaining::explained;
 use crate::failure::Failure;
 use crate::files::{print, read_at, seed, text_at, write_at};
 use crate::subcommand::{Command, Profile};
 use crate::surroundings::Surroundings;
 use bus_manager::TableProber;
-use dtman_diagnosis::{diagnose_blob, diagnose_overlay};
 use dtman_engine::{
     Channel, Fault, MAX_BLOB_LEN, MAX_SOURCE_LEN, dump_bytes, graph_bytes, overlay_bytes,
     plan_bytes, probe_bytes, replay_bytes, replay_run_bytes,
@@ -116,17 +115,10 @@ fn overlaid<'a, S: Surroundings, O: Channel>(
     let base = read_at(alloc, surroundings, base_path, MAX_BLOB_LEN)?;
     let overlay = read_at(alloc, surroundings, overlay_path, MAX_BLOB_LEN)?;
     let hasher = seed(surroundings)?;
-    let (base, overlay) = (base.as_slice(), overlay.as_slice());
-    match overlay_bytes(alloc, hasher, base, overlay) {
+    let (base, overlay) = (file_of(base_path, &base), file_of(overlay_path, &overlay));
+    match overlay_bytes(alloc, hasher, base.bytes, overlay.bytes) {
         Ok(blob) => write_at(alloc, surroundings, output, out, blob.as_slice()),
-        Err(fault) => {
-            if detail == Detail::Line {
-                return Err(Failure::Refused(fault));
-            }
-            let (base_file, file) = (base_path.as_bytes(), overlay_path.as_bytes());
-            let diagnosis = diagnose_overlay(alloc, base_file, base, file, overlay, fault.number);
-            Err(refusal(alloc, fault, diagnosis))
-        }
+        Err(fault) => Err(told(alloc, detail, fault, Inputs::Overlay { base, overlay })),
     }
 }
 
@@ -140,13 +132,7 @@ fn dumped<'a, S: Surroundings>(
     let blob = read_at(alloc, surroundings, path, MAX_BLOB_LEN)?;
     match dump_bytes(alloc, blob.as_slice()) {
         Ok(text) => Ok(text),
-        Err(fault) => {
-            if detail == Detail::Line {
-                return Err(Failure::Refused(fault));
-            }
-            let diagnosis = diagnose_blob(alloc, path.as_bytes(), blob.as_slice(), fault.number);
-            Err(refusal(alloc, fault, diagnosis))
-        }
+        Err(fault) => Err(told(alloc, detail, fault, Inputs::Blob(file_of(path, &blob)))),
     }
 }
 
@@ -162,20 +148,14 @@ fn planned<'a, S: Surroundings>(
     let blob = read_at(alloc, surroundings, blob_path, MAX_BLOB_LEN)?;
     let drivers = text_at(alloc, surroundings, drivers_path)?;
     let hasher = seed(surroundings)?;
+    let (blob, drivers) = (file_of(blob_path, &blob), file_of(drivers_path, &drivers));
     let answer = match dot {
-        true => graph_bytes(alloc, hasher, blob.as_slice(), drivers.as_slice()),
-        false => plan_bytes(alloc, hasher, blob.as_slice(), drivers.as_slice()),
+        true => graph_bytes(alloc, hasher, blob.bytes, drivers.bytes),
+        false => plan_bytes(alloc, hasher, blob.bytes, drivers.bytes),
     };
     match answer {
         Ok(text) => Ok(text),
-        Err(fault) => {
-            if detail == Detail::Line {
-                return Err(Failure::Refused(fault));
-            }
-            let blob = file_of(blob_path, &blob);
-            let drivers = file_of(drivers_path, &drivers);
-            Err(refusal(alloc, fault, unplanned(alloc, blob, drivers, fault)))
-        }
+        Err(fault) => Err(told(alloc, detail, fault, Inputs::Plan { blob, drivers })),
     }
 }
 
@@ -192,25 +172,19 @@ fn probed<'a, S: Surroundings, T: Threads + Sync>(
     let blob = read_at(alloc, surroundings, blob_path, MAX_BLOB_LEN)?;
     let drivers = text_at(alloc, surroundings, drivers_path)?;
     let hasher = seed(surroundings)?;
+    let (blob, drivers) = (file_of(blob_path, &blob), file_of(drivers_path, &drivers));
     let ran = probe_bytes(
         threads,
         alloc,
         hasher,
-        blob.as_slice(),
-        drivers.as_slice(),
+        blob.bytes,
+        drivers.bytes,
         &TableProber,
         workers as usize,
     );
     match ran {
         Ok(ran) => Ok(ran.report),
-        Err(fault) => {
-            if detail == Detail::Line {
-                return Err(Failure::Refused(fault));
-            }
-            let blob = file_of(blob_path, &blob);
-            let drivers = file_of(drivers_path, &drivers);
-            Err(refusal(alloc, fault, unplanned(alloc, blob, drivers, fault)))
-        }
+        Err(fault) => Err(told(alloc, detail, fault, Inputs::Plan { blob, drivers })),
     }
 }
 
@@ -232,11 +206,12 @@ fn replayed<'a, S: Surroundings, T: Threads + Sync>(
     match report_of(alloc, hasher, threads, plan.bytes, schedule.bytes, workers) {
         Ok(report) => Ok(report),
         Err(fault) => {
-            if detail == Detail::Line {
-                return Err(Failure::Refused(fault));
-            }
-            let diagnosis = unreplayed(alloc, hasher, plan, schedule, fault);
-            Err(refusal(alloc, fault, diagnosis))
+            let inputs = Inputs::Replay {
+                plan,
+                schedule,
+                hasher,
+            };
+            Err(told(alloc, detail, fault, inputs))
         }
     }
 }

@@ -13,7 +13,7 @@ const SHOWN: usize = 160;
 /// The lines of a refusal: its own first line, and what the diagnosis says, each ended.
 pub fn text_of(alloc: Global, first: &str, diagnosis: &Diagnosis) -> Result<String, AllocError> {
     let mut out = format!(in alloc; "{first}\n")?;
-    push_place(&mut out, &diagnosis.place)?;
+    push_front(&mut out, &diagnosis.place)?;
     push_sentence(&mut out, diagnosis)?;
     out.push_str("\n")?;
     let width = push_excerpt(alloc, &mut out, &diagnosis.place)?;
@@ -26,14 +26,11 @@ pub fn text_of(alloc: Global, first: &str, diagnosis: &Diagnosis) -> Result<Stri
     Ok(out)
 }
 
-// The place in front of a sentence.
+// A place as text: nothing where it is nowhere.
 fn push_place(out: &mut String, place: &Place) -> Result<(), AllocError> {
     match place {
         Place::Nowhere => {}
-        Place::File { file } => {
-            push_shown(out, file.as_slice())?;
-            out.push_str(": ")?;
-        }
+        Place::File { file } => push_shown(out, file.as_slice())?,
         Place::Text {
             file,
             line,
@@ -41,14 +38,23 @@ fn push_place(out: &mut String, place: &Place) -> Result<(), AllocError> {
             ..
         } => {
             push_shown(out, file.as_slice())?;
-            write!(out, ":{line}:{column}: ")?;
+            write!(out, ":{line}:{column}")?;
         }
         Place::Offset { file, offset } => {
             push_shown(out, file.as_slice())?;
-            write!(out, ":0x{offset:x}: ")?;
+            write!(out, ":0x{offset:x}")?;
         }
     }
     Ok(())
+}
+
+// The place in front of a sentence.
+fn push_front(out: &mut String, place: &Place) -> Result<(), AllocError> {
+    if matches!(place, Place::Nowhere) {
+        return Ok(());
+    }
+    push_place(out, place)?;
+    out.push_str(": ")
 }
 
 fn push_spaces(out: &mut String, count: usize) -> Result<(), AllocError> {
@@ -203,22 +209,5 @@ fn push_cells(
 // A place within a note.
 fn push_there(out: &mut String, words: &str, place: &Place) -> Result<(), AllocError> {
     out.push_str(words)?;
-    match place {
-        Place::Nowhere => {}
-        Place::File { file } => push_shown(out, file.as_slice())?,
-        Place::Text {
-            file,
-            line,
-            column,
-            ..
-        } => {
-            push_shown(out, file.as_slice())?;
-            write!(out, ":{line}:{column}")?;
-        }
-        Place::Offset { file, offset } => {
-            push_shown(out, file.as_slice())?;
-            write!(out, ":0x{offset:x}")?;
-        }
-    }
-    Ok(())
+    push_place(out, place)
 }

@@ -70,61 +70,62 @@ fn is_refused(rt: &impl Abort, alloc: Global, hasher: RandomState, text: &[u8], 
 }
 
 /// Texts that are refused, with the line at fault: the first fault in line order, and unknown suppliers behind all others.
+const FAULTS: &[(&[u8], PlanError)] = &[
+    (b"/a", PlanError::BadLine(1)),
+    (b"/a x", PlanError::BadLine(1)),
+    (b"/ x ok\n", PlanError::BadLine(1)),
+    (b"a x ok\n", PlanError::BadLine(1)),
+    (b"/a x ok /\n", PlanError::BadLine(1)),
+    (b"/a x ok b\n", PlanError::BadLine(1)),
+    (b"/a x maybe\n", PlanError::BadLine(1)),
+    (b"/a - ok\n", PlanError::BadLine(1)),
+    (b"/a x -\n", PlanError::BadLine(1)),
+    (b"/a ! ok\n", PlanError::BadLine(1)),
+    (b"/a x ok /a\n", PlanError::BadLine(1)),
+    (b"/b - -\n/a x ok /b /b\n", PlanError::BadLine(2)),
+    (b"/a x ok /b /c /b\n", PlanError::BadLine(1)),
+    (b"/a x ok /b /c c\n/c\n", PlanError::BadLine(1)),
+    (b"# \x7f\n", PlanError::BadLine(1)),
+    (b"\n# \x00", PlanError::BadLine(2)),
+    (b"/a x ok\r\r\n", PlanError::BadLine(1)),
+    (b"/a x ok\r", PlanError::BadLine(1)),
+    (b"/a x ok\n/a x ok\n", PlanError::DuplicateDevice(2)),
+    (b"/a x ok /c\n/b x ok /d\n", PlanError::UnknownPath(1)),
+    (b"/a x ok /c\n/a x ok\n", PlanError::DuplicateDevice(2)),
+    (b"/a x ok /c\n/a x ok /\n", PlanError::BadLine(2)),
+    (b"compatible\n", PlanError::BadLine(1)),
+    (b"/a - -\ncompatible /a\n", PlanError::BadLine(2)),
+    (b"compatible / s\n", PlanError::BadLine(1)),
+    (b"compatible a s\n", PlanError::BadLine(1)),
+    (
+        b"/a - -\ncompatible /a s\ncompatible /a t\n",
+        PlanError::DuplicateDevice(3),
+    ),
+    (
+        b"compatible /a s\ncompatible /a s\n",
+        PlanError::DuplicateDevice(2),
+    ),
+    (b"\ncompatible /a s\n", PlanError::UnknownPath(2)),
+    (b"/a x ok\ncompatible /a s\n", PlanError::BadLine(2)),
+    (b"compatible /a s\n/a x fail\n", PlanError::BadLine(1)),
+    (b"/a ! -\ncompatible /a s\n", PlanError::BadLine(2)),
+    (b"/a x ok /c\ncompatible /d s\n", PlanError::UnknownPath(1)),
+    (b"compatible /d s\n/a x ok /c\n", PlanError::UnknownPath(1)),
+    (
+        b"/a - -\n/b x ok\ncompatible /b s\n/d x ok /c\n",
+        PlanError::BadLine(3),
+    ),
+    (
+        b"/b x ok\n/d x ok /c\ncompatible /b s\n",
+        PlanError::UnknownPath(2),
+    ),
+    (b"compatible /d s\n/a x ok /\n", PlanError::BadLine(2)),
+];
+
 #[test]
 fn faults_are_named_in_line_order(rt: HostRuntime) {
-    const ROWS: &[(&[u8], PlanError)] = &[
-        (b"/a", PlanError::BadLine(1)),
-        (b"/a x", PlanError::BadLine(1)),
-        (b"/ x ok\n", PlanError::BadLine(1)),
-        (b"a x ok\n", PlanError::BadLine(1)),
-        (b"/a x ok /\n", PlanError::BadLine(1)),
-        (b"/a x ok b\n", PlanError::BadLine(1)),
-        (b"/a x maybe\n", PlanError::BadLine(1)),
-        (b"/a - ok\n", PlanError::BadLine(1)),
-        (b"/a x -\n", PlanError::BadLine(1)),
-        (b"/a ! ok\n", PlanError::BadLine(1)),
-        (b"/a x ok /a\n", PlanError::BadLine(1)),
-        (b"/b - -\n/a x ok /b /b\n", PlanError::BadLine(2)),
-        (b"/a x ok /b /c /b\n", PlanError::BadLine(1)),
-        (b"/a x ok /b /c c\n/c\n", PlanError::BadLine(1)),
-        (b"# \x7f\n", PlanError::BadLine(1)),
-        (b"\n# \x00", PlanError::BadLine(2)),
-        (b"/a x ok\r\r\n", PlanError::BadLine(1)),
-        (b"/a x ok\r", PlanError::BadLine(1)),
-        (b"/a x ok\n/a x ok\n", PlanError::DuplicateDevice(2)),
-        (b"/a x ok /c\n/b x ok /d\n", PlanError::UnknownPath(1)),
-        (b"/a x ok /c\n/a x ok\n", PlanError::DuplicateDevice(2)),
-        (b"/a x ok /c\n/a x ok /\n", PlanError::BadLine(2)),
-        (b"compatible\n", PlanError::BadLine(1)),
-        (b"/a - -\ncompatible /a\n", PlanError::BadLine(2)),
-        (b"compatible / s\n", PlanError::BadLine(1)),
-        (b"compatible a s\n", PlanError::BadLine(1)),
-        (
-            b"/a - -\ncompatible /a s\ncompatible /a t\n",
-            PlanError::DuplicateDevice(3),
-        ),
-        (
-            b"compatible /a s\ncompatible /a s\n",
-            PlanError::DuplicateDevice(2),
-        ),
-        (b"\ncompatible /a s\n", PlanError::UnknownPath(2)),
-        (b"/a x ok\ncompatible /a s\n", PlanError::BadLine(2)),
-        (b"compatible /a s\n/a x fail\n", PlanError::BadLine(1)),
-        (b"/a ! -\ncompatible /a s\n", PlanError::BadLine(2)),
-        (b"/a x ok /c\ncompatible /d s\n", PlanError::UnknownPath(1)),
-        (b"compatible /d s\n/a x ok /c\n", PlanError::UnknownPath(1)),
-        (
-            b"/a - -\n/b x ok\ncompatible /b s\n/d x ok /c\n",
-            PlanError::BadLine(3),
-        ),
-        (
-            b"/b x ok\n/d x ok /c\ncompatible /b s\n",
-            PlanError::UnknownPath(2),
-        ),
-        (b"compatible /d s\n/a x ok /\n", PlanError::BadLine(2)),
-    ];
     let hasher = RandomState::new(&rt).expect(&rt, "a seed");
-    for (text, error) in ROWS {
+    for (text, error) in FAULTS {
         is_refused(&rt, rt.alloc(), hasher, *text, *error);
     }
 }

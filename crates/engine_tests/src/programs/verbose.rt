@@ -42,99 +42,100 @@ const NO_OVERLAY: &str =
 const BAD_DRIVERS: &str =
     "error 50 BadLine line 2\nbad.drivers:2:1: the line has no lawful form\n  |\n2 | driver\n  | ^^^^^^\n";
 
+const REFUSALS: &[Row] = &[
+    (
+        &["dtman", "compile", "board.i", "out"],
+        1,
+        "",
+        "error 20 UnknownLabel\n",
+    ),
+    (
+        &["dtman", "compile", "-v", "board.i", "out"],
+        1,
+        "",
+        UNKNOWN,
+    ),
+    (
+        &["dtman", "--verbose", "compile", "board.i", "out"],
+        1,
+        "",
+        UNKNOWN,
+    ),
+    (
+        &["dtman", "replay", "board.plan", "early.schedule", "-v"],
+        1,
+        "",
+        NOT_READY,
+    ),
+    (&["dtman", "-v", "dump", "short.dtb"], 1, "", SHORT),
+    (
+        &["dtman", "dump", "short.dtb"],
+        1,
+        "",
+        "error 30 Truncated\n",
+    ),
+    (
+        &["dtman", "-v", "overlay", "empty.dtb", "short.dtb", "out"],
+        1,
+        "",
+        SHORT,
+    ),
+    (
+        &["dtman", "-v", "overlay", "empty.dtb", "empty.dtb", "out"],
+        1,
+        "",
+        NO_OVERLAY,
+    ),
+    (
+        &["dtman", "-v", "plan", "short.dtb", "bad.drivers"],
+        1,
+        "",
+        SHORT,
+    ),
+    (
+        &["dtman", "-v", "plan", "empty.dtb", "bad.drivers"],
+        1,
+        "",
+        BAD_DRIVERS,
+    ),
+    (
+        &["dtman", "-v", "probe", "empty.dtb", "bad.drivers"],
+        1,
+        "",
+        BAD_DRIVERS,
+    ),
+    (
+        &["dtman", "probe", "empty.dtb", "bad.drivers"],
+        1,
+        "",
+        "error 50 BadLine line 2\n",
+    ),
+    (
+        &["dtman", "-v", "dump", "nix.dtb"],
+        3,
+        "",
+        "error 80 CannotRead nix.dtb\n",
+    ),
+    (
+        &["dtman", "-v", "replay", "board.plan", "late.schedule"],
+        0,
+        "/clk probing\n/uart due\nbusy\n",
+        "",
+    ),
+    (
+        &["dtman", "dump", "--", "-v"],
+        3,
+        "",
+        "error 80 CannotRead -v\n",
+    ),
+];
+
 #[test]
 fn tells_more_of_a_refusal(rt: HostRuntime) {
-    const ROWS: &[Row] = &[
-        (
-            &["dtman", "compile", "board.i", "out"],
-            1,
-            "",
-            "error 20 UnknownLabel\n",
-        ),
-        (
-            &["dtman", "compile", "-v", "board.i", "out"],
-            1,
-            "",
-            UNKNOWN,
-        ),
-        (
-            &["dtman", "--verbose", "compile", "board.i", "out"],
-            1,
-            "",
-            UNKNOWN,
-        ),
-        (
-            &["dtman", "replay", "board.plan", "early.schedule", "-v"],
-            1,
-            "",
-            NOT_READY,
-        ),
-        (&["dtman", "-v", "dump", "short.dtb"], 1, "", SHORT),
-        (
-            &["dtman", "dump", "short.dtb"],
-            1,
-            "",
-            "error 30 Truncated\n",
-        ),
-        (
-            &["dtman", "-v", "overlay", "empty.dtb", "short.dtb", "out"],
-            1,
-            "",
-            SHORT,
-        ),
-        (
-            &["dtman", "-v", "overlay", "empty.dtb", "empty.dtb", "out"],
-            1,
-            "",
-            NO_OVERLAY,
-        ),
-        (
-            &["dtman", "-v", "plan", "short.dtb", "bad.drivers"],
-            1,
-            "",
-            SHORT,
-        ),
-        (
-            &["dtman", "-v", "plan", "empty.dtb", "bad.drivers"],
-            1,
-            "",
-            BAD_DRIVERS,
-        ),
-        (
-            &["dtman", "-v", "probe", "empty.dtb", "bad.drivers"],
-            1,
-            "",
-            BAD_DRIVERS,
-        ),
-        (
-            &["dtman", "probe", "empty.dtb", "bad.drivers"],
-            1,
-            "",
-            "error 50 BadLine line 2\n",
-        ),
-        (
-            &["dtman", "-v", "dump", "nix.dtb"],
-            3,
-            "",
-            "error 80 CannotRead nix.dtb\n",
-        ),
-        (
-            &["dtman", "-v", "replay", "board.plan", "late.schedule"],
-            0,
-            "/clk probing\n/uart due\nbusy\n",
-            "",
-        ),
-        (
-            &["dtman", "dump", "--", "-v"],
-            3,
-            "",
-            "error 80 CannotRead -v\n",
-        ),
-    ];
     let Ok(hasher) = RandomState::new(&rt) else {
         panic!(rt; "a seed");
     };
-    for row in ROWS {
+    for row in REFUSALS {
         row_ends(&rt, FILES, hasher, row);
     }
 }

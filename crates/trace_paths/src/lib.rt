@@ -1,0 +1,10 @@
+//! Paths in the tables that traces keep: of the nodes of a source, of an overlay, of a plan's tree.
+#![tactic(auto)]
+
+mod finding;
+mod nodes;
+mod writing;
+
+pub use finding::at_path;
+pub use nodes::{Children, Parents};
+pub use writing::path_of;
