@@ -4,6 +4,7 @@ pub mod BoardEnd
 pub mod Counts
 pub mod Flying
 pub mod KeeperView
+pub mod Locked
 pub mod Notes
 pub mod Resumed
 pub mod Seen

@@ -2,6 +2,7 @@
 #![tactic(auto)]
 
 mod alone;
+mod baton;
 mod boarded;
 mod crew;
 mod end_report;

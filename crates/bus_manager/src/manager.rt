@@ -1,16 +1,17 @@
-//! One lock round a keeper, and what its workers wait on.
+//! One lock round a keeper, and the turns of its workers.
 
-ghost use Rattle.std.specs.Prelude.{◌≡◌, ◌<◌, length, count_by, IfOk, IfErr, IfSome, List, []};
+ghost use Rattle.std.specs.Prelude.{◌≡◌, ◌<◌, true, length, count_by, IfOk, IfErr, IfSome, List, []};
 ghost use Rattle.bus_core.specs.declared.refusal.Refusal.TheVariants.{NoMemory};
 ghost use Rattle.bus_plan.specs.Plan.{PlannedDevice};
 ghost use Rattle.bus_manager.specs.Private.Counts.{is_abandon, abandons};
-ghost use Rattle.bus_manager.specs.Private.Turn.{IsEnded, IsTurn, tells_settled};
+ghost use Rattle.bus_manager.specs.Private.Turn.{IsEnded, IsMoreDue, IsTurn, tells_settled};
 
+use crate::baton::Baton;
 use crate::keeper::Keeper;
 use crate::seen::Seen;
 use bus_core::{Refusal, Reply, Report, Ticket};
 use std::marker::{Brand, PhantomData};
-use std::sync::{Condvar, Mutex, Wait};
+use std::sync::{Mutex, Wait};
 
 /// The name of a plan, which a manager's type carries: so what lies under a lock is known to be of that plan.
 pub trait PlanName {
@@ -21,11 +22,19 @@ impl PlanName for Brand {
     ghost plan = { [] };
 }
 
+/// A flight that was begun, and whether a further device is due behind its own.
+#[derive(Drop)]
+pub(crate) struct Flight {
+    pub ticket: Ticket,
+    pub seen: Seen,
+    pub more: bool,
+}
+
 /// What a worker does next.
 #[derive(Drop)]
 pub(crate) enum Turn {
-    /// It probes the device of the ticket.
-    Flight(Ticket, Seen),
+    /// It probes the device of the flight.
+    Fly(Flight),
     /// Nothing is due, but a flight is open: its end may make something due.
     Wait,
     /// Nothing is due and no flight is open.
@@ -61,15 +70,21 @@ impl<J: PlanName> Kept<J> {
         self.keeper.check();
         self.keeper.core().plan().check();
         match self.keeper.take() {
-            Ok(Some((ticket, seen))) => Ok(Turn::Flight(ticket, seen)),
+            Ok(Some((ticket, seen))) => Ok(Turn::Fly(Flight {
+                ticket,
+                seen,
+                more: self.has_due(),
+            })),
             Ok(None) if self.keeper.is_flying() => Ok(Turn::Wait),
             Ok(None) => Ok(Turn::Quiet),
             Err(refusal) => Err(refusal),
         }
     }
 
-    // Whether a further device is due.
-    fn has_due(&self) -> bool {
+    // Whether a device is due.
+    fn has_due(&self) -> bool
+        ensures { IsMoreDue self.now.keeper result }
+    {
         self.keeper.core().next().is_some()
     }
 
@@ -92,46 +107,41 @@ fn tells_settled(reply: Reply) -> bool
     matches!(reply, Reply::Bound | Reply::Failed)
 }
 
-/// One lock round a keeper of the plan of this name, and a condition on which workers wait. Who takes a device wakes one more
-/// where another is due, and who finds all quiet wakes all, so as many are awake as there is work for. What holds of the keeper
-/// holds whenever the lock is free; what a call did to it under the lock no clause can say.
+/// One lock round a keeper of the plan of this name, and the baton of its workers: who takes a device sends one more to look
+/// where another is due, and who finds all quiet wakes all. What holds of the keeper holds whenever the lock is free; what a
+/// call did to it under the lock no clause can say.
 pub struct Manager<J: PlanName> {
     kept: Mutex<Kept<J>>,
-    changed: Condvar,
+    baton: Baton,
 }
 
 impl<J: PlanName> Manager<J> {
-    /// A lock round a keeper of the plan of this name.
-    pub(crate) fn new(keeper: Keeper) -> Self
+    /// A lock round a keeper of the plan of this name, for a worker of so many that were asked for.
+    pub(crate) fn new(keeper: Keeper, workers: usize) -> Self
         requires named { keeper.plan ≡ J.plan }
         requires unabandoned { abandons keeper ≡ 0 }
     {
         Manager {
             kept: Mutex::new(Kept::new(keeper)),
-            changed: Condvar::new(),
+            baton: Baton::new(workers),
         }
     }
 
     /// A due device's flight, as soon as there is one. None where there will be none, or memory is refused.
-    pub(crate) fn take<R: Wait>(&self, rt: &R) -> Option<(Ticket, Seen)>
-        ensures { IfSome result (λ t. t.0.device < length J.plan) }
+    pub(crate) fn take<R: Wait>(&self, rt: &R) -> Option<Flight>
+        ensures { IfSome result (λ flight. flight.ticket.device < length J.plan) }
     {
         let mut kept = self.kept.lock(rt);
         for _ in rt.forever() {
             match kept.turn() {
-                Ok(Turn::Flight(ticket, seen)) => {
-                    if kept.has_due() {
-                        self.changed.notify_one();
-                    }
-                    return Some((ticket, seen));
-                }
+                Ok(Turn::Fly(flight)) => return Some(flight),
                 Ok(Turn::Wait) => {}
                 Ok(Turn::Quiet) | Err(_) => {
-                    self.changed.notify_all();
+                    self.baton.wake_all();
                     return None;
                 }
             }
-            kept = self.changed.wait(rt, kept);
+            kept = self.baton.wait(rt, kept);
         }
         None
     }
@@ -143,9 +153,22 @@ impl<J: PlanName> Manager<J> {
         self.kept.lock(rt).finish(ticket, report)
     }
 
+    /// Sends one to look for the device that is due behind the flight's own, if one is. It says whether a further worker
+    /// begins for it, which a worker can let begin so often.
+    pub(crate) fn pass_on(&self, flight: &Flight, forks: usize) -> bool
+        ensures { result ≡ true → 0 < forks }
+    {
+        flight.more && self.baton.pass_on(forks)
+    }
+
+    /// A worker begins.
+    pub(crate) fn arrive(&self) {
+        self.baton.arrive();
+    }
+
     /// A worker leaves that may have been the one to look next: whoever waits looks again.
     pub(crate) fn leave(&self) {
-        self.changed.notify_all();
+        self.baton.wake_all();
     }
 }
 
@@ -155,8 +178,8 @@ impl<J: PlanName> Manager<J> {
         ensures named { result.plan ≡ J.plan }
         ensures unabandoned { abandons result ≡ 0 }
     {
-        let Manager { kept, changed } = self;
-        drop(changed);
+        let Manager { kept, baton } = self;
+        drop(baton);
         let Kept { keeper, of: _ } = kept.into_inner();
         keeper
     }

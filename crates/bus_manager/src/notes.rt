@@ -41,23 +41,24 @@ pub fn put<N: Drop>(notes: &mut Vec<Option<N>>, device: Device, note: Option<N>)
     notes[device.index()] = note;
 }
 
-/// Puts what the workers found into its places.
-pub fn place<P: Prober>(
+/// The other notes go behind these, or are lost where memory for them is refused.
+pub fn add_notes<P: Prober>(
     plan: &Plan,
     prober: &P,
-    notes: &mut Vec<Option<P::Note>>,
-    mut found: Vec<Vec<Noted<P::Note>>>,
+    notes: &mut Vec<Noted<P::Note>>,
+    mut found: Vec<Noted<P::Note>>,
 )
-    requires notes { AreNotes (P.attests prober.now plan.now) plan.now notes.old.items }
-    requires found { All (λ some. All (λ n. P.attests prober.now plan.now n.device n.note) some.items) found.items }
-    ensures { AreNotes (P.attests prober.now plan.now) plan.now notes.new.items }
+    requires notes { All (λ n. P.attests prober.now plan.now n.device n.note) notes.old.items }
+    requires found { All (λ n. P.attests prober.now plan.now n.device n.note) found.items }
+    ensures { All (λ n. P.attests prober.now plan.now n.device n.note) notes.new.items }
 {
-    'placing: while let Some(some) = found.pop() {
-        place_some(plan, prober, notes, some);
+    match notes.append(&mut found) {
+        Ok(()) => {}
+        Err(_) => {}
     }
 }
 
-/// Puts what one worker found into its places.
+/// Puts what the workers found into its places.
 pub fn place_some<P: Prober>(
     plan: &Plan,
     prober: &P,

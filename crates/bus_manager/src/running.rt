@@ -1,6 +1,6 @@
 //! Runs by many workers, over a board or with a lock.
 
-ghost use Rattle.std.specs.Prelude.{◌≡◌, ◌<◌, ◌≤◌, ◌⊎◌, ◌↔◌, true, false, IfOk, IfErr, Some};
+ghost use Rattle.std.specs.Prelude.{◌≡◌, ◌<◌, ◌≤◌, ◌⊎◌, ◌↔◌, IfOk, IfErr, OnOk, Ok, Some};
 ghost use Rattle.std.specs.Result.{result_err};
 ghost use Rattle.bus_core.specs.declared.refusal.Refusal.TheVariants.{NoMemory as OutOfMemory};
 ghost use Rattle.bus_manager.specs.Run.{IsRun, IsRunOf};
@@ -9,12 +9,12 @@ ghost use Rattle.bus_manager.specs.Workers.{AreRefused, most_workers};
 use crate::alone::{finish_alone, fresh_keeper};
 use crate::boarded::run_boarded;
 use crate::manager::{Manager, PlanName};
-use crate::notes::{Ran, no_notes, place};
+use crate::notes::{Ran, no_notes, place_some};
 use crate::prober::Prober;
 use crate::resumed::run_resumed;
 use crate::run_error::RunError;
 use crate::seen::Seen;
-use crate::worker::gather;
+use crate::worker::work;
 use bus_core::{Core, Refusal};
 use bus_plan::Plan;
 use std::alloc::Global;
@@ -25,14 +25,30 @@ use std::thread::Threads;
 /// The most workers of a run.
 pub const MAX_WORKERS: usize = 64;
 
-fn is_allowed(workers: usize) -> bool
-    ensures yes { result ≡ true → (0 < workers) × (workers ≤ most_workers) }
-    ensures no { result ≡ false → AreRefused workers }
+// Whether a run may have so many workers.
+fn allow(workers: usize) -> Result<(), RunError>
+    ensures ok { OnOk result ((0 < workers) × (workers ≤ most_workers)) }
+    ensures err { IfErr result (λ refusal. (refusal ≡ RunError.TooManyWorkers) × AreRefused workers) }
 {
     if workers == 0 {
-        return false;
+        return Err(RunError::TooManyWorkers);
     }
-    workers <= MAX_WORKERS
+    if workers > MAX_WORKERS {
+        return Err(RunError::TooManyWorkers);
+    }
+    Ok(())
+}
+
+// What a run answered. It is refused nothing but memory: a keeper's begins are far from used up.
+fn answered<N: Drop>(ran: Result<Ran<N>, Refusal>) -> Result<Ran<N>, RunError>
+    requires { IfErr ran (λ refusal. refusal ≡ OutOfMemory) }
+    ensures ok { IfOk result (λ answer. ran ≡ Ok answer) }
+    ensures err { IfErr result (λ refusal. refusal ≡ RunError.NoMemory) }
+{
+    match ran {
+        Ok(ran) => Ok(ran),
+        Err(_) => Err(RunError::NoMemory),
+    }
 }
 
 /// Probes the devices of a plan by so many workers, 1 to `MAX_WORKERS`, over a board: no worker waits for another. The
@@ -48,13 +64,8 @@ pub fn run<P: Prober, R: Threads + Sync>(
     ensures ran { IfOk result (λ ran. IsRun (P.attests prober.now plan.now) plan.now ran.report.items ran.notes.items) }
     ensures many { (result_err result ≡ Some RunError.TooManyWorkers) ↔ AreRefused workers }
 {
-    if !is_allowed(workers) {
-        return Err(RunError::TooManyWorkers);
-    }
-    match run_boarded(rt, alloc, plan, prober, workers) {
-        Ok(ran) => Ok(ran),
-        Err(refusal) => Err(by_memory(refusal)),
-    }
+    allow(workers)?;
+    answered(run_boarded(rt, alloc, plan, prober, workers))
 }
 
 /// Goes on from a core, by so many workers over a board: its open flights are dropped, and what isn't settled is probed under
@@ -69,13 +80,8 @@ pub fn run_core<P: Prober, R: Threads + Sync>(
     ensures ran { IfOk result (λ ran. IsRunOf (P.attests prober.now core.plan) core ran.report.items ran.notes.items) }
     ensures many { (result_err result ≡ Some RunError.TooManyWorkers) ↔ AreRefused workers }
 {
-    if !is_allowed(workers) {
-        return Err(RunError::TooManyWorkers);
-    }
-    match run_resumed(rt, alloc, core, prober, workers) {
-        Ok(ran) => Ok(ran),
-        Err(refusal) => Err(by_memory(refusal)),
-    }
+    allow(workers)?;
+    answered(run_resumed(rt, alloc, core, prober, workers))
 }
 
 /// The same as `run` with one lock round the core, on which a worker may wait for another to finish.
@@ -89,21 +95,8 @@ pub fn run_locked<P: Prober, R: Threads + Wait + Sync>(
     ensures ran { IfOk result (λ ran. IsRun (P.attests prober.now plan.now) plan.now ran.report.items ran.notes.items) }
     ensures many { (result_err result ≡ Some RunError.TooManyWorkers) ↔ AreRefused workers }
 {
-    if !is_allowed(workers) {
-        return Err(RunError::TooManyWorkers);
-    }
-    match run_named::<Brand, P, R>(rt, alloc, plan, prober, workers) {
-        Ok(ran) => Ok(ran),
-        Err(refusal) => Err(by_memory(refusal)),
-    }
-}
-
-// A run is refused nothing else: a keeper's begins are far from used up.
-fn by_memory(_refusal: Refusal) -> RunError
-    requires { _refusal ≡ OutOfMemory }
-    ensures { result ≡ RunError.NoMemory }
-{
-    RunError::NoMemory
+    allow(workers)?;
+    answered(run_named::<Brand, P, R>(rt, alloc, plan, prober, workers))
 }
 
 // A run with a lock, over the plan of this name.
@@ -120,9 +113,18 @@ fn run_named<J: PlanName + Send + Sync, P: Prober, R: Threads + Wait + Sync>(
 {
     let mut notes = no_notes::<P::Note>(alloc, plan.len())?;
     let keeper = fresh_keeper(alloc, plan)?;
-    let manager = Manager::<J>::new(keeper);
-    let found = gather(rt, alloc, &manager, plan, prober, workers);
-    place(plan, prober, &mut notes, found);
+    let manager = Manager::<J>::new(keeper, workers);
+    let found = work(
+        rt,
+        alloc,
+        &manager,
+        plan,
+        prober,
+        None,
+        Vec::new(alloc),
+        workers,
+    );
+    place_some(plan, prober, &mut notes, found);
     finish_alone(
         alloc,
         plan,

@@ -8,6 +8,7 @@ ghost use Rattle.bus_manager.specs.Private.Flying.{IsFree};
 
 use crate::crew::Crew;
 use crate::flying::fly_on;
+use crate::notes::add_notes;
 use crate::prober::Prober;
 use crate::worker::Noted;
 use bus_board::{Board, Seat};
@@ -76,23 +77,6 @@ fn land<P: Prober>(
     }
     add_notes(plan, prober, &mut notes, found);
     Worked { seat, notes }
-}
-
-// The other notes go behind these, or are lost where memory for them is refused.
-fn add_notes<P: Prober>(
-    plan: &Plan,
-    prober: &P,
-    notes: &mut Vec<Noted<P::Note>>,
-    mut found: Vec<Noted<P::Note>>,
-)
-    requires notes { All (λ n. P.attests prober.now plan.now n.device n.note) notes.old.items }
-    requires found { All (λ n. P.attests prober.now plan.now n.device n.note) found.items }
-    ensures { All (λ n. P.attests prober.now plan.now n.device n.note) notes.new.items }
-{
-    match notes.append(&mut found) {
-        Ok(()) => {}
-        Err(_) => {}
-    }
 }
 
 /// One worker, and those that it lets begin. The number of times that each of them still may falls, which bounds how deep they

@@ -1,9 +1,14 @@
-//! The workers: each takes under the lock, probes without it, and finishes under it.
+//! The workers of a run with a lock: each takes under the lock, probes without it, and finishes under it. A worker that leaves a
+//! due device behind wakes one that waits; where none waits it lets a further one begin, while fewer are at work than were asked
+//! for.
 
-ghost use Rattle.std.specs.Prelude.{◌≡◌, All};
+ghost use Rattle.std.specs.Prelude.{◌≡◌, ◌<◌, All, IfSome, Some, length, vec_len, vec_capacity};
+ghost use Rattle.std.specs.Thread.{IsSync};
+ghost use Rattle.bus_manager.specs.Private.Locked.{HasRoom};
 
 use crate::keeper::append;
-use crate::manager::{Manager, PlanName};
+use crate::manager::{Flight, Manager, PlanName};
+use crate::notes::add_notes;
 use crate::prober::Prober;
 use bus_plan::{Device, Plan};
 use std::alloc::Global;
@@ -18,18 +23,69 @@ pub struct Noted<N> {
     pub note: N,
 }
 
-// One worker. It gives the notes of the devices that settled by it, and leaves early where memory is refused.
-fn work<J: PlanName, P: Prober, R: Wait>(
+// Probes the device of a flight and ends it. Where the device settles its note goes into room that is there.
+fn fly<J: PlanName, P: Prober, R: Wait>(
     rt: &R,
-    alloc: Global,
     manager: &Manager<J>,
     plan: &Plan,
     prober: &P,
-) -> Vec<Noted<P::Note>>
-    requires { plan.now ≡ J.plan }
-    ensures { All (λ n. P.attests prober.now plan.now n.device n.note) result.items }
+    flight: Flight,
+    notes: &mut Vec<Noted<P::Note>>,
+)
+    requires plan { plan.now ≡ J.plan }
+    requires within { flight.ticket.device < length plan.now }
+    requires room { vec_len notes.old < vec_capacity notes.old }
+    requires notes { All (λ n. P.attests prober.now plan.now n.device n.note) notes.old.items }
+    ensures { All (λ n. P.attests prober.now plan.now n.device n.note) notes.new.items }
 {
-    let mut notes = Vec::new(alloc);
+    let Flight {
+        ticket,
+        seen,
+        more: _,
+    } = flight;
+    let device = ticket.device;
+    let (report, note) = prober.probe(plan, device, &seen);
+    if manager.finish(rt, &ticket, report) {
+        append(notes, Noted { device, note });
+    }
+}
+
+// What a worker does first: it flies what it has taken already, or it has just begun.
+fn begin<J: PlanName, P: Prober, R: Wait>(
+    rt: &R,
+    manager: &Manager<J>,
+    plan: &Plan,
+    prober: &P,
+    flight: Option<Flight>,
+    notes: &mut Vec<Noted<P::Note>>,
+)
+    requires plan { plan.now ≡ J.plan }
+    requires room { HasRoom plan.now flight (vec_len notes.old) (vec_capacity notes.old) }
+    requires notes { All (λ n. P.attests prober.now plan.now n.device n.note) notes.old.items }
+    ensures { All (λ n. P.attests prober.now plan.now n.device n.note) notes.new.items }
+{
+    match flight {
+        Some(flight) => fly(rt, manager, plan, prober, flight, notes),
+        None => manager.arrive(),
+    }
+}
+
+// One worker's flights, until there will be none, memory is refused, or a further worker begins: it gives the flight that it
+// has taken then. Each device that settles by it leaves its note.
+fn fly_on<J: PlanName, P: Prober, R: Wait>(
+    rt: &R,
+    manager: &Manager<J>,
+    plan: &Plan,
+    prober: &P,
+    forks: usize,
+    notes: &mut Vec<Noted<P::Note>>,
+) -> Option<Flight>
+    requires plan { plan.now ≡ J.plan }
+    requires notes { All (λ n. P.attests prober.now plan.now n.device n.note) notes.old.items }
+    ensures room { HasRoom plan.now result (vec_len notes.new) (vec_capacity notes.new) }
+    ensures notes { All (λ n. P.attests prober.now plan.now n.device n.note) notes.new.items }
+    ensures forks { IfSome result (λ flight. 0 < forks) }
+{
     for _ in rt.forever() {
         // the note's room first, so that no flight is left for want of it
         match notes.reserve(1) {
@@ -39,40 +95,61 @@ fn work<J: PlanName, P: Prober, R: Wait>(
                 break;
             }
         }
-        let Some((ticket, seen)) = manager.take(rt) else {
+        let Some(flight) = manager.take(rt) else {
             break;
         };
-        let device = ticket.device;
-        let (report, note) = prober.probe(plan, device, &seen);
-        if manager.finish(rt, &ticket, report) {
-            append(&mut notes, Noted { device, note });
+        if manager.pass_on(&flight, forks) {
+            return Some(flight);
         }
+        fly(rt, manager, plan, prober, flight, notes);
     }
-    notes
+    None
 }
 
-/// What so many workers found, each in a thread of its own. It is nothing where memory for it is refused.
-pub fn gather<J: PlanName + Send + Sync, P: Prober, R: Threads + Wait + Sync>(
+/// One worker, who may have taken a flight, and those that it lets begin: the notes of the devices that settled by them. The
+/// number of times that each of them may let one begin falls, which bounds how deep they stand in one another. Where no thread
+/// can be made the worker with the flight goes on first.
+#[cycle(workers)]
+pub fn work<J: PlanName + Send + Sync, P: Prober, R: Threads + Wait + Sync>(
     rt: &R,
     alloc: Global,
     manager: &Manager<J>,
     plan: &Plan,
     prober: &P,
-    workers: usize,
-) -> Vec<Vec<Noted<P::Note>>>
-    requires { plan.now ≡ J.plan }
-    ensures { All (λ notes. All (λ n. P.attests prober.now plan.now n.device n.note) notes.items) result.items }
+    flight: Option<Flight>,
+    mut notes: Vec<Noted<P::Note>>,
+    forks: usize,
+) -> Vec<Noted<P::Note>>
+    requires plan { plan.now ≡ J.plan }
+    requires room { HasRoom plan.now flight (vec_len notes) (vec_capacity notes) }
+    requires notes { All (λ n. P.attests prober.now plan.now n.device n.note) notes.items }
+    ensures { All (λ n. P.attests prober.now plan.now n.device n.note) result.items }
 {
-    match thread::map_indices(
-        rt,
-        alloc,
-        workers,
-        &|_index: usize| -> Vec<Noted<P::Note>>
-            requires { plan.now ≡ J.plan }
-            ensures { All (λ n. P.attests prober.entry.now plan.entry.now n.device n.note) result.items }
-        { work(rt, alloc, manager, plan, prober) },
-    ) {
-        Ok(found) => found,
-        Err(_) => Vec::new(alloc),
-    }
+    begin(rt, manager, plan, prober, flight, &mut notes);
+    let Some(flight) = fly_on(rt, manager, plan, prober, forks, &mut notes) else {
+        return notes;
+    };
+    let fewer = forks - 1;
+    let second = move || -> Vec<Noted<P::Note>>
+        requires { IsSync R.row × IsSync J.row × (plan.now ≡ J.plan) }
+        ensures { All (λ n. P.attests prober.entry.now plan.entry.now n.device n.note) result.items }
+    {
+        work(
+            rt,
+            alloc,
+            manager,
+            plan,
+            prober,
+            None,
+            Vec::new(alloc),
+            fewer,
+        )
+    };
+    let first = move || -> Vec<Noted<P::Note>>
+        requires { IsSync R.row × IsSync J.row × (plan.now ≡ J.plan) × HasRoom plan.now (Some flight) (vec_len notes) (vec_capacity notes) × All (λ n. P.attests prober.now plan.now n.device n.note) notes.items }
+        ensures { All (λ n. P.attests prober.entry.now plan.entry.now n.device n.note) result.items }
+    { work(rt, alloc, manager, plan, prober, Some(flight), notes, fewer) };
+    let (theirs, mut mine) = thread::join(rt, second, first);
+    add_notes(plan, prober, &mut mine, theirs);
+    mine
 }

@@ -8,13 +8,19 @@ use Rattle.bus_core.specs.declared.event.Report.{Report}
 use Rattle.bus_core.specs.declared.event.Report.TheVariants.{Settled, Missing}
 use Rattle.bus_core.specs.declared.event.Ticket.{Ticket}
 use Rattle.bus_manager.specs.declared.manager.Turn.{Turn}
-use Rattle.bus_manager.specs.declared.manager.Turn.TheVariants.{Flight, Wait, Quiet}
+use Rattle.bus_manager.specs.declared.manager.Turn.TheVariants.{Fly, Wait, Quiet}
 use Rattle.bus_manager.specs.Keeper.{KeeperValue, IsTaken, finished_keeper}
 use Rattle.bus_manager.specs.Private.Counts.{open_flights}
 
--- It probes a due device; it waits only where nothing is due and a flight is open; it leaves only where all is quiet.
+-- whether a device is due
+abbrev pub IsMoreDue : KeeperValue → Bool → Type 0
+IsMoreDue k true = (d : ℕ) × (is_due k.plan k.state d ≡ true)
+IsMoreDue k false = (d : ℕ) → is_due k.plan k.state d ≡ false
+
+-- It probes a due device, and is told whether another is due behind it; it waits only where nothing is due and a flight is
+-- open; it leaves only where all is quiet.
 abbrev pub IsTurn : KeeperValue → KeeperValue → Turn → Type 0
-IsTurn old new (Flight ticket seen) = IsTaken old new ticket seen
+IsTurn old new (Fly flight) = IsTaken old new flight.ticket flight.seen × IsMoreDue new flight.more
 IsTurn old new Wait = (new ≡ old) × ((d : ℕ) → is_due old.plan old.state d ≡ false) × (0 < open_flights old.state)
 IsTurn old new Quiet = (new ≡ old) × (is_quiet old.plan old.state ≡ true)
 

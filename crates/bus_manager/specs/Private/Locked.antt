@@ -1,0 +1,8 @@
+-- What a worker of a run with a lock has, where it has taken a flight.
+use Rattle.std.specs.Prelude.{◌<◌, ℕ, List, Option, IfSome, length}
+use Rattle.bus_plan.specs.Plan.{PlannedDevice}
+use Rattle.bus_manager.specs.declared.manager.Flight.{Flight}
+
+-- the flight is of a device of the plan, and there is room for its note behind these
+abbrev pub HasRoom : List PlannedDevice → Option Flight → ℕ → ℕ → Type 0
+HasRoom plan flight count capacity = IfSome flight (λ f. (f.ticket.device < length plan) × (count < capacity))
