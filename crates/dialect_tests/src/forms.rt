@@ -96,6 +96,10 @@ fn forms(rt: HostRuntime) {
             " /plugin/; / { fragment@0 { target = <&x>; __overlay__ { y; }; }; };\n",
         ),
         ("\n# 5 \"f\"\n/ {\n\tx;\n};", "\n# 5 \"f\"\n/ {\nx; };\n"),
+        (
+            " / { #a; #b;# 1 \"f\"\n#c; };",
+            " / { #a; #b;\n# 1 \"f\"\n#c; };\n",
+        ),
     ];
     let hasher = RandomState::new(&rt).expect(&rt, "a seed");
     for row in ROWS {
@@ -134,6 +138,8 @@ fn refusals(rt: HostRuntime) {
         (" / { a = <'AB'>; };", 10, 1, (20, 24)),
         ("\n# 7 \"f\"\n/ { a b; };", 10, 7, (7, 8)),
         ("\n/ { /* a\n};", 10, 2, (5, 7)),
+        ("\n/ {\n#\n5; };", 10, 4, (1, 2)),
+        (" / { };\n&{/a b} { };", 10, 2, (1, 2)),
     ];
     let hasher = RandomState::new(&rt).expect(&rt, "a seed");
     for row in ROWS {
