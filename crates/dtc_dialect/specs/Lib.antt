@@ -7,4 +7,5 @@ pub mod Gaps
 pub mod Inclusion
 pub mod Integer
 pub mod Omission
+pub mod Statements
 pub mod Tokens
