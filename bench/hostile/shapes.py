@@ -289,6 +289,8 @@ SHAPES = [
     ("local fixups of one property", "compile 0 OUT", lambda: [repeated(SOURCE, HEAD + "/plugin/;&b{p=<", "&a ", ">;a: a{};};")]),
     ("fixups of one label", "compile 0 OUT", lambda: [repeated(SOURCE, HEAD + "/plugin/;&b{p=<", "&a ", ">;};")]),
     ("names of 255 bytes with 250 tails", "compile 0 OUT", lambda: [filled(SOURCE, HEAD + "/{", tailed_names(), "};")]),
+    ("names of 50 bytes that begin with `#`, in one line", "compile 0 OUT --dtc", lambda: [repeated(SOURCE, HEAD + "/{/omit-if-no-ref/ x: x{", "#" + "a" * 49 + ";", "};};")]),
+    ("references whose brace doesn't close", "compile 0 OUT --dtc", lambda: [repeated(SOURCE, HEAD + "/{p=<", "&{" + "a" * 48 + " ")]),
     ("a million fixups of one place", "overlay 0 1 OUT", one_place_again),
     ("a million symbols' fixups of one place", "overlay 0 1 OUT", one_place_by_many),
     ("a million symbols that lead to one node", "overlay 0 1 OUT", symbols_of_one_node),

@@ -96,6 +96,18 @@ fn forms(rt: HostRuntime) {
             " /plugin/; / { fragment@0 { target = <&x>; __overlay__ { y; }; }; };\n",
         ),
         ("\n# 5 \"f\"\n/ {\n\tx;\n};", "\n# 5 \"f\"\n/ {\nx; };\n"),
+        (
+            " / { a; b { }; }; / { l: /delete-property/ a; m: /omit-if-no-ref/ /delete-node/ b; };",
+            " / { };\n",
+        ),
+        (
+            " l: /memreserve/ 1 2; / { };",
+            " l: /memreserve/ 1 2; / { };\n",
+        ),
+        (
+            " / { #a; #b;# 1 \"f\"\n#c; };",
+            " / { #a; #b;\n# 1 \"f\"\n#c; };\n",
+        ),
     ];
     let hasher = RandomState::new(&rt).expect(&rt, "a seed");
     for row in ROWS {
@@ -134,6 +146,25 @@ fn refusals(rt: HostRuntime) {
         (" / { a = <'AB'>; };", 10, 1, (20, 24)),
         ("\n# 7 \"f\"\n/ { a b; };", 10, 7, (7, 8)),
         ("\n/ { /* a\n};", 10, 2, (5, 7)),
+        ("\n/ {\n#\n5; };", 10, 4, (1, 2)),
+        (" / { };\n&{/a b} { };", 10, 2, (1, 2)),
+        ("\nl: / { };", 10, 2, (6, 7)),
+        (
+            " / { a; };\n/ { /delete-property/ a = <1>; };",
+            10,
+            2,
+            (25, 26),
+        ),
+        (
+            " / { a { }; };\n/ { /delete-node/ l: a; };",
+            10,
+            2,
+            (19, 21),
+        ),
+        (" / { a: a { }; };\nl: /delete-node/ &a;", 10, 2, (20, 21)),
+        (" / { a: a { }; };\nx: y: &a { };", 10, 2, (10, 11)),
+        ("\n/ { /dts-v1/; };", 10, 2, (13, 14)),
+        ("\n/ { /delete-node/ x; b; };", 10, 2, (22, 23)),
     ];
     let hasher = RandomState::new(&rt).expect(&rt, "a seed");
     for row in ROWS {

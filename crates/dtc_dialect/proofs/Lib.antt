@@ -1,5 +1,11 @@
 mod Comments
+mod Cutting
+mod Fronts
 mod GapEnds
 mod GapHere
+mod GapOnce
 mod Integers
+mod Lines
 mod Markers
+mod TokenFirsts
+mod TokenKinds

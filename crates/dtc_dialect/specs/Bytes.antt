@@ -3,7 +3,7 @@ use Rattle.std.specs.Prelude.{ℕ, ◌==◌, nat_le, Bool, false, not, ◌&&◌,
 use Rattle.std.specs.Char.{is_digit}
 use Rattle.std.specs.List.{prefix_len}
 use Rattle.dtc_dialect.specs.declared.bytes.Class.{Class}
-use Rattle.dtc_dialect.specs.declared.bytes.Class.TheVariants.{Word, Name, Digit, Blank, Line, Keyword}
+use Rattle.dtc_dialect.specs.declared.bytes.Class.TheVariants.{Word, Name, Digit, Blank, Space, Line, Path, Keyword}
 
 -- the first byte of a label
 abbrev pub is_letter : ℕ → Bool
@@ -26,7 +26,9 @@ passes Word c = is_letter c || is_decimal c
 passes Name c = is_name c
 passes (Digit base) c = is_digit c base
 passes Blank c = is_blank c
+passes Space c = is_blank c && not (c == 10)
 passes Line c = not (c == 10)
+passes Path c = is_name c || c == 47
 passes Keyword c = nat_le 97 c && nat_le c 122 || is_decimal c || c == 45
 
 -- how many bytes of a class stand at the front
@@ -37,3 +39,8 @@ run_of class s = prefix_len (passes class) s
 abbrev pub starts : ℕ → List ℕ → Bool
 starts b [] = false
 starts b (c ∷ s) = c == b
+
+-- whether a letter stands at the front
+abbrev pub starts_letter : List ℕ → Bool
+starts_letter [] = false
+starts_letter (c ∷ s) = is_letter c

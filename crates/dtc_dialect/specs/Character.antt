@@ -1,6 +1,6 @@
 -- Character literals: C's, with the escapes that strings have (dtc 1.6, Documentation/dts-format.txt; the escapes are those of
 -- the Devicetree Specification v0.4, section 6.2). Of a number above 255 dtc keeps the low eight bits.
-use Rattle.std.specs.Prelude.{ℕ, ◌+◌, ◌%◌, ◌==◌, ◌&&◌, List, [], ◌∷◌, length, Option, Some, None, if◌then◌else◌, nat_lt, nat_le, option_map}
+use Rattle.std.specs.Prelude.{ℕ, ◌%◌, ◌==◌, ◌&&◌, List, [], ◌∷◌, length, Option, Some, None, if◌then◌else◌, nat_lt, nat_le, option_map}
 use Rattle.std.specs.Char.{digit_value, is_digit}
 use Rattle.std.specs.List.{list_all}
 use Rattle.std.specs.Str.Parse.{digits_value}

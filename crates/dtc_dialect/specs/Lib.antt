@@ -1,7 +1,11 @@
 pub mod Bytes
 pub mod Character
+pub mod Cuts
+pub mod Fronts
 pub mod GapAt
 pub mod Gaps
 pub mod Inclusion
 pub mod Integer
 pub mod Omission
+pub mod Statements
+pub mod Tokens

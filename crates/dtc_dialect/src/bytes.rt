@@ -1,7 +1,8 @@
 //! Classes of bytes, runs of them, and parts of a text.
-ghost use Rattle.std.specs.Prelude.{◌≡◌, ◌==◌, ◌↔◌, IsTrue, Some, count_by, drop, slice_get, take};
+ghost use Rattle.std.specs.Prelude.{◌≡◌, ◌==◌, ◌&&◌, ◌↔◌, IsTrue, Some, count_by, drop, not, slice_get, take, true};
 ghost use Rattle.std.specs.Char.{digit_value};
-ghost use Rattle.dtc_dialect.specs.Bytes.{is_blank, is_decimal, is_letter, is_name, passes, run_of, starts};
+ghost use Rattle.dtc_dialect.specs.Bytes.{is_blank, is_decimal, is_letter, is_name, passes, run_of, starts, starts_letter};
+ghost use Rattle.dtc_dialect.specs.Fronts.{Front, closes};
 
 /// Bytes that stand in one run.
 #[derive(Clone, Copy)]
@@ -13,8 +14,12 @@ pub(crate) enum Class {
     /// of a number in this base
     Digit(u8),
     Blank,
+    /// a blank within a line
+    Space,
     /// of a line
     Line,
+    /// of a path
+    Path,
     /// of a keyword
     Keyword,
 }
@@ -72,7 +77,9 @@ fn passes(class: Class, c: u8) -> bool
         Class::Name => is_name(c),
         Class::Digit(base) => digit_value(c) < base,
         Class::Blank => is_blank(c),
+        Class::Space => is_blank(c) && c != b'\n',
         Class::Line => c != b'\n',
+        Class::Path => is_name(c) || c == b'/',
         Class::Keyword => c >= b'a' && c <= b'z' || is_digit(c) || c == b'-',
     }
 }
@@ -121,14 +128,33 @@ pub(crate) fn begins(s: &[u8], c: u8) -> bool
     }
 }
 
+/// Whether a letter stands at the front.
+pub(crate) fn begins_letter(s: &[u8]) -> bool
+    ensures { result ≡ starts_letter s.now }
+{
+    match s {
+        [c, ..] => is_letter(*c),
+        [] => false,
+    }
+}
+
 /// How long a text between quotes is, with both, where it ends.
-pub(crate) fn quoted_len(quote: u8, s: &[u8]) -> Option<usize> {
+pub(crate) fn quoted_len(quote: u8, s: &[u8]) -> Option<usize>
+    ensures { Front (closes quote true) s.now result }
+{
     let mut escaped = true;
     for (i, c) in s.iter().enumerate() {
-        if !escaped && *c == quote {
+        if is_plain(escaped, quote, *c) {
             return Some(i + 1);
         }
-        escaped = !escaped && *c == b'\\';
+        escaped = is_plain(escaped, b'\\', *c);
     }
     None
+}
+
+/// Whether a byte is this one, with no backslash before it.
+fn is_plain(escaped: bool, byte: u8, c: u8) -> bool
+    ensures { result ≡ not escaped && c == byte }
+{
+    !escaped && c == byte
 }

@@ -1,7 +1,8 @@
 //! The statements of a source, done to the table in the order of the text as dtc does them.
 
 use crate::error::{DialectError, Mistake, refused};
-use crate::head::{Action, Head};
+use crate::head::Head;
+use crate::statements::{Edit, Opening};
 use crate::table::{Fragment, MAX_DEPTH, NodeRow, PropertyRow, ROOT, Table, Tokens};
 use crate::token::{Kind, Place, Token};
 use std::alloc::Global;
@@ -67,7 +68,7 @@ fn step<'t>(edited: &mut Edited<'t>, at: usize, token: &Token<'t>) -> Result<(),
     match token.kind {
         Kind::Semicolon => end_statement(edited, at, token),
         _ if edited.head.value.is_some() => Ok(()),
-        Kind::Equals if edited.head.key.is_some() => {
+        Kind::Equals if edited.head.takes_value(!edited.bodies.is_empty()) => {
             edited.head.value = Some(at.saturating_add(1));
             Ok(())
         }
@@ -82,66 +83,58 @@ fn end_statement<'t>(
     at: usize,
     token: &Token<'t>,
 ) -> Result<(), DialectError<'t>> {
-    let syntax = refused(Mistake::Syntax, token.place);
+    let Some(change) = edited.head.edit_of(!edited.bodies.is_empty()) else {
+        return Err(refused(Mistake::Syntax, token.place));
+    };
     // The root is made at 1.
     let time = at.saturating_add(2);
-    let value = match edited.head.value {
-        Some(start) => Some(Tokens { start, end: at }),
-        None => None,
-    };
-    match (edited.head.action, edited.head.key) {
-        (Some(Action::Version), None) => edited.has_version = true,
-        (Some(Action::Plugin), None) => edited.is_plugin = true,
-        (Some(Action::Reserve), None) => edited.reserves.push(Tokens {
+    match change {
+        Edit::EndBody => {}
+        Edit::Version => edited.has_version = true,
+        Edit::Plugin => edited.is_plugin = true,
+        Edit::Reserve => edited.reserves.push(Tokens {
             start: edited.head.start.unwrap_or(at),
             end: at,
         })?,
-        (Some(Action::DeleteNode), Some(key)) => delete_node(edited, time, &key)?,
-        (Some(Action::DeleteProperty), Some(key)) => delete_property(edited, time, &key)?,
-        (None, Some(key)) => define(edited, time, &key, value)?,
-        (None, None) => {
-            if !edited.head.is_end {
-                return Err(syntax);
-            }
+        Edit::DeleteNode(key) => delete_node(edited, time, &key)?,
+        Edit::DeleteProperty(key) => delete_property(edited, time, &key)?,
+        Edit::SetProperty(key) => {
+            let value = match edited.head.value {
+                Some(start) => Some(Tokens { start, end: at }),
+                None => None,
+            };
+            set_property(edited, time, &key, value)?
         }
-        _ => return Err(syntax),
+        Edit::Omit(key) => mark_omitted(edited, &key)?,
     }
     edited.head.clear();
     Ok(())
 }
 
-/// A property, or `/omit-if-no-ref/ &node;`.
-fn define<'t>(
-    edited: &mut Edited<'t>,
-    time: usize,
-    key: &Token<'t>,
-    value: Option<Tokens>,
-) -> Result<(), DialectError<'t>> {
-    match (edited.bodies.last().copied(), key.kind) {
-        (Some(body), Kind::Name) if !edited.head.omits => {
-            if body.has_nodes {
-                return Err(refused(Mistake::Syntax, key.place));
-            }
-            define_property(edited, time, body, key, value)
-        }
-        (None, Kind::Reference) if edited.head.omits => {
-            let node = referred(edited, key)?;
-            if let Some(row) = edited.table.nodes.get_mut(node) {
-                row.omit = true;
-            }
-            Ok(())
-        }
+/// `/omit-if-no-ref/ &node;`
+fn mark_omitted<'t>(edited: &mut Edited<'t>, key: &Token<'t>) -> Result<(), DialectError<'t>> {
+    let node = referred(edited, key)?;
+    if let Some(row) = edited.table.nodes.get_mut(node) {
+        row.omit = true;
+    }
+    Ok(())
+}
+
+/// The body in which a property's statement stands: dtc takes none behind a node.
+fn property_body<'t>(edited: &Edited<'t>, key: &Token<'t>) -> Result<Body, DialectError<'t>> {
+    match edited.bodies.last() {
+        Some(body) if !body.has_nodes => Ok(*body),
         _ => Err(refused(Mistake::Syntax, key.place)),
     }
 }
 
-fn define_property<'t>(
+fn set_property<'t>(
     edited: &mut Edited<'t>,
     time: usize,
-    body: Body,
     key: &Token<'t>,
     value: Option<Tokens>,
 ) -> Result<(), DialectError<'t>> {
+    let body = property_body(edited, key)?;
     if !body.is_new {
         if let Some(property) = edited.table.property(body.node, key.text) {
             if let Some(row) = edited.table.properties.get_mut(property) {
@@ -168,12 +161,7 @@ fn delete_property<'t>(
     time: usize,
     key: &Token<'t>,
 ) -> Result<(), DialectError<'t>> {
-    let Some(body) = edited.bodies.last().copied() else {
-        return Err(refused(Mistake::Syntax, key.place));
-    };
-    if key.kind != Kind::Name {
-        return Err(refused(Mistake::Syntax, key.place));
-    }
+    let body = property_body(edited, key)?;
     match edited.table.property(body.node, key.text) {
         Some(_) if body.is_new => {}
         Some(property) => {
@@ -215,9 +203,11 @@ fn delete_node<'t>(
     time: usize,
     key: &Token<'t>,
 ) -> Result<(), DialectError<'t>> {
-    let found = match (edited.bodies.last().copied(), key.kind) {
-        (None, Kind::Reference) => Some(referred(edited, key)?),
-        (Some(body), Kind::Name) => {
+    let found = match edited.bodies.last_mut() {
+        None => Some(referred(edited, key)?),
+        Some(body) => {
+            body.has_nodes = true;
+            let body = *body;
             let found = edited.table.child(body.node, key.text);
             match found {
                 Some(_) if body.is_new => return Ok(()),
@@ -228,7 +218,6 @@ fn delete_node<'t>(
                 _ => found,
             }
         }
-        _ => return Err(refused(Mistake::Syntax, key.place)),
     };
     let Some(node) = found else {
         return Ok(());
@@ -275,20 +264,18 @@ fn open_body<'t>(
     time: usize,
     token: &Token<'t>,
 ) -> Result<(), DialectError<'t>> {
-    let Some(key) = edited.head.key else {
+    let outer = edited.bodies.last().copied();
+    let Some(opening) = edited.head.opening_of(outer.is_some()) else {
         return Err(refused(Mistake::Syntax, token.place));
     };
-    if edited.head.action.is_some() {
-        return Err(refused(Mistake::Syntax, token.place));
-    }
     if edited.bodies.len() > MAX_DEPTH {
         return Err(refused(Mistake::TooDeep, token.place));
     }
-    let body = match (edited.bodies.last().copied(), key.kind) {
-        (Some(body), Kind::Name) => child_body(edited, time, body, &key)?,
-        (None, Kind::Slash) => root_body(edited, &key),
-        (None, Kind::Reference) => extension_body(edited, time, &key)?,
-        _ => return Err(refused(Mistake::Syntax, key.place)),
+    let body = match (opening, outer) {
+        (Opening::Child(key), Some(outer)) => child_body(edited, time, outer, &key)?,
+        (Opening::Root(key), None) => root_body(edited, &key),
+        (Opening::Extension(key), None) => extension_body(edited, time, &key)?,
+        _ => return Err(refused(Mistake::Syntax, token.place)),
     };
     if let Some(outer) = edited.bodies.last_mut() {
         outer.has_nodes = true;

@@ -64,17 +64,34 @@ fn begins_line_comment(s: &[u8]) -> bool
     }
 }
 
-/// The line marker at the front.
+/// The line marker at the front. A name may begin with `#` too, so the line is measured only where a marker begins.
 fn marker_at<'t>(s: &'t [u8]) -> Option<Marker<'t>>
     ensures { is_some result ≡ begins_marker s.now }
 {
-    if !begins(s, b'#') {
+    if !begins_marker(s) {
         return None;
     }
     let rest = behind(s, 1);
     let len = run_len(Class::Line, rest);
     let line = front(rest, len);
     read_marker(line)
+}
+
+/// Whether a line marker begins, by its first bytes: `#`, the word `line` or none, blanks of this line, a digit.
+fn begins_marker(s: &[u8]) -> bool
+    ensures { result ≡ begins_marker s.now }
+{
+    if !begins(s, b'#') {
+        return false;
+    }
+    let rest = behind(s, 1);
+    let words = behind_word(rest);
+    let blanks = run_len(Class::Space, words);
+    if blanks == 0 {
+        return false;
+    }
+    let number = behind(words, blanks);
+    run_len(Class::Digit(10), number) > 0
 }
 
 /// How far the end of a comment is, with it.

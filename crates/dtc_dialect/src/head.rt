@@ -56,7 +56,7 @@ impl<'t> Head<'t> {
 
     /// One token more.
     pub fn put(&mut self, at: usize, token: &Token<'t>) -> Result<(), DialectError<'t>> {
-        if self.is_end {
+        if !self.may_follow(token.kind) {
             return Err(refused(Mistake::Syntax, token.place));
         }
         if self.start.is_none() {
@@ -69,37 +69,19 @@ impl<'t> Head<'t> {
     }
 
     fn put_word(&mut self, token: &Token<'t>) -> Result<(), DialectError<'t>> {
-        if self.key.is_some() {
-            return Err(refused(Mistake::Syntax, token.place));
-        }
         match token.kind {
             Kind::Label => {
                 let len = token.text.len().saturating_sub(1);
                 self.labels.push(crate::bytes::front(token.text, len))?;
-                Ok(())
             }
-            Kind::Name | Kind::Reference | Kind::Slash => {
-                self.key = Some(*token);
-                Ok(())
-            }
-            Kind::OmitIfNoRef => {
-                self.omits = true;
-                Ok(())
-            }
-            Kind::DeleteNode => self.act(Action::DeleteNode, token),
-            Kind::DeleteProperty => self.act(Action::DeleteProperty, token),
-            Kind::MemReserve => self.act(Action::Reserve, token),
-            Kind::Version => self.act(Action::Version, token),
-            Kind::Plugin => self.act(Action::Plugin, token),
-            _ => Err(refused(Mistake::Syntax, token.place)),
+            Kind::OmitIfNoRef => self.omits = true,
+            Kind::DeleteNode => self.action = Some(Action::DeleteNode),
+            Kind::DeleteProperty => self.action = Some(Action::DeleteProperty),
+            Kind::MemReserve => self.action = Some(Action::Reserve),
+            Kind::Version => self.action = Some(Action::Version),
+            Kind::Plugin => self.action = Some(Action::Plugin),
+            _ => self.key = Some(*token),
         }
-    }
-
-    fn act(&mut self, action: Action, token: &Token<'t>) -> Result<(), DialectError<'t>> {
-        if self.action.is_some() {
-            return Err(refused(Mistake::Syntax, token.place));
-        }
-        self.action = Some(action);
         Ok(())
     }
 }

@@ -21,6 +21,7 @@ mod reader;
 mod references;
 mod rewriting;
 mod searching;
+mod statements;
 mod table;
 mod token;
 

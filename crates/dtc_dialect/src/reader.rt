@@ -1,8 +1,13 @@
 //! The tokens of a text.
-ghost use Rattle.std.specs.Prelude.{◌≡◌, ◌<◌, ◌↔◌, IfOk, IsTrue, OnErr, OnOk, drop, length, take};
+ghost use Rattle.std.specs.Prelude.{◌≡◌, Err, ◌<◌, ◌+◌, ◌^◌, ◌↔◌, IfOk, IsTrue, OnErr, OnOk, Some, drop, length, false, option_map, take, true};
+ghost use Rattle.dtc_dialect.specs.Bytes.{run_of, starts};
+ghost use Rattle.dtc_dialect.specs.Cuts.{Breaks, Cut, Cuts, IsUncut, after, bare, step};
 ghost use Rattle.dtc_dialect.specs.Gaps.{BreaksOff, IsGap};
+ghost use Rattle.dtc_dialect.specs.declared.error.DialectError.TheVariants.{Refused};
+ghost use Rattle.dtc_dialect.specs.declared.error.Refusal.{Refusal};
+ghost use Rattle.dtc_dialect.specs.Tokens.{Longest, ampersand, keyword_of, kind_of, named, sign_of, solidus};
 
-use crate::bytes::{Class, begins, behind, front, is_letter, line_ends, quoted_len, run_len};
+use crate::bytes::{Class, begins, begins_letter, behind, front, line_ends, quoted_len, run_len};
 use crate::error::{DialectError, Mistake, refused};
 use crate::gaps::{Gap, Marker, gap_at};
 use crate::token::{Kind, Place, Span, Token};
@@ -24,7 +29,11 @@ pub(crate) fn tokens<'t>(
     alloc: Global,
     file: &'t [u8],
     text: &'t [u8],
-) -> Result<Vec<Token<'t>>, DialectError<'t>> {
+) -> Result<Vec<Token<'t>>, DialectError<'t>>
+    ensures cut { IfOk result (λ found. Cut false text.now found.items) }
+    // The text is refused only where no list of tokens is it.
+    ensures only { (r : Refusal) → result ≡ Err (Refused r) → IsUncut false text.now }
+{
     let mut found = Vec::new(alloc);
     let mut reader = Reader {
         left: text,
@@ -32,20 +41,22 @@ pub(crate) fn tokens<'t>(
         place: Place::first(file),
         in_value: false,
     };
-    // Each token has a byte or more.
-    for _ in 0..text.len() {
+    'tokens: loop {
         match next(&mut reader)? {
-            Some(token) => found.push(token)?,
+            Some(token) => match found.push(token) {
+                Ok(()) => {}
+                Err(_) => return Err(DialectError::NoMemory),
+            },
             None => return Ok(found),
         }
     }
-    Ok(found)
 }
 
 /// The first bytes, with their lines counted.
 fn take<'t>(reader: &mut Reader<'t>, n: usize) -> &'t [u8]
     ensures taken { result.now ≡ take n reader.old.left.now }
     ensures left { reader.new.left.now ≡ drop n reader.old.left.now }
+    ensures same { reader.new.in_value ≡ reader.old.in_value }
 {
     let text = front(reader.left, n);
     reader.left = behind(reader.left, n);
@@ -70,6 +81,7 @@ fn skip_gap<'t>(reader: &mut Reader<'t>) -> Result<bool, DialectError<'t>>
     ensures skips { OnOk result (IsGap reader.old.left.now reader.new.left.now) }
     ensures any { IfOk result (λ any. IsTrue any ↔ (length reader.new.left.now < length reader.old.left.now)) }
     ensures breaks { OnErr result (BreaksOff reader.old.left.now reader.new.left.now) }
+    ensures same { reader.new.in_value ≡ reader.old.in_value }
 {
     let most = reader.left.len();
     'gaps: loop {
@@ -86,7 +98,8 @@ fn skip_gap<'t>(reader: &mut Reader<'t>) -> Result<bool, DialectError<'t>>
 
 /// Skips a line marker, which names the line behind its own.
 fn skip_marker<'t>(reader: &mut Reader<'t>, n: usize, marker: Marker<'t>)
-    ensures { reader.new.left.now ≡ drop n reader.old.left.now }
+    ensures left { reader.new.left.now ≡ drop n reader.old.left.now }
+    ensures same { reader.new.in_value ≡ reader.old.in_value }
 {
     take(reader, n);
     reader.place.line = marker.line.saturating_sub(1);
@@ -95,24 +108,43 @@ fn skip_marker<'t>(reader: &mut Reader<'t>, n: usize, marker: Marker<'t>)
     }
 }
 
+/// Outside of values a name may stand behind a backslash.
+fn skip_backslash<'t>(reader: &mut Reader<'t>)
+    ensures left { reader.new.left.now ≡ bare reader.old.in_value reader.old.left.now }
+    ensures same { reader.new.in_value ≡ reader.old.in_value }
+{
+    if !reader.in_value && begins(reader.left, b'\\') {
+        take(reader, 1);
+    }
+}
+
+/// Whether a value is open behind a token.
+fn step(in_value: bool, kind: Kind) -> bool
+    ensures { result ≡ step in_value kind }
+{
+    match kind {
+        Kind::Equals => true,
+        Kind::Semicolon => false,
+        _ => in_value,
+    }
+}
+
 /// The next token, or none at the end.
-fn next<'t>(reader: &mut Reader<'t>) -> Result<Option<Token<'t>>, DialectError<'t>> {
+fn next<'t>(reader: &mut Reader<'t>) -> Result<Option<Token<'t>>, DialectError<'t>>
+    ensures cut { IfOk result (λ token. Cuts reader.old.in_value reader.old.left.now token reader.new.left.now) }
+    ensures value { IfOk result (λ token. reader.new.in_value ≡ after reader.old.in_value token) }
+    ensures breaks { OnErr result (Breaks reader.old.in_value reader.old.left.now) }
+{
     let has_gap = skip_gap(reader)?;
     if reader.left.is_empty() {
         return Ok(None);
     }
-    if !reader.in_value && begins(reader.left, b'\\') {
-        take(reader, 1);
-    }
+    skip_backslash(reader);
     let Some((kind, len)) = front_token(reader.in_value, reader.left) else {
         return Err(refused(Mistake::Syntax, here(reader, 1)));
     };
     let place = here(reader, len);
-    match kind {
-        Kind::Equals => reader.in_value = true,
-        Kind::Semicolon => reader.in_value = false,
-        _ => {}
-    }
+    reader.in_value = step(reader.in_value, kind);
     let text = take(reader, len);
     Ok(Some(Token {
         kind,
@@ -122,53 +154,94 @@ fn next<'t>(reader: &mut Reader<'t>) -> Result<Option<Token<'t>>, DialectError<'
     }))
 }
 
-/// The kind and the length of what stands at the front.
-fn front_token(in_value: bool, s: &[u8]) -> Option<(Kind, usize)> {
+/// The longest token that stands at the front: its kind, and its length.
+fn front_token(in_value: bool, s: &[u8]) -> Option<(Kind, usize)>
+    ensures { Longest (kind_of in_value) s.now result }
+{
     match s {
         [] => None,
-        [b'"', ..] => Some((Kind::Other, quoted_len(b'"', s)?)),
-        [b'\'', ..] => Some((Kind::Character, quoted_len(b'\'', s)?)),
-        [b'&', rest @ ..] => Some(reference(rest)),
-        [b'/', rest @ ..] => Some(solidus(rest)),
-        [c, ..] => {
-            let name = run_len(Class::Name, s);
-            if name > 0 {
-                return Some(word(s, name));
-            }
-            Some((sign(in_value, *c), 1))
-        }
+        [first, ..] => token_from(in_value, *first, s),
     }
 }
 
-/// `&label`, `&{path}`, or the sign alone.
-fn reference(rest: &[u8]) -> (Kind, usize) {
-    match rest {
-        [b'{', inside @ ..] => {
-            for (i, c) in inside.iter().enumerate() {
-                if *c == b'}' {
-                    return (Kind::Reference, i.saturating_add(3));
-                }
-            }
-            (Kind::Other, 1)
-        }
-        [c, ..] if is_letter(*c) => (
-            Kind::Reference,
-            run_len(Class::Word, rest).saturating_add(1),
-        ),
-        _ => (Kind::Other, 1),
+/// The longest token at the front, by the byte that it begins with.
+fn token_from(in_value: bool, first: u8, s: &[u8]) -> Option<(Kind, usize)>
+    requires { starts first s.now ≡ true }
+    ensures { Longest (kind_of in_value) s.now result }
+{
+    if first == b'"' {
+        return with_kind(Kind::Other, quoted_len(b'"', s));
+    }
+    if first == b'\'' {
+        return with_kind(Kind::Character, quoted_len(b'\'', s));
+    }
+    if first == b'&' {
+        return Some(behind_one(reference(behind(s, 1))));
+    }
+    if first == b'/' {
+        return Some(behind_one(solidus(behind(s, 1))));
+    }
+    let name = run_len(Class::Name, s);
+    if name > 0 {
+        return Some(word(s, name));
+    }
+    Some((sign(in_value, first), 1))
+}
+
+fn with_kind(kind: Kind, len: Option<usize>) -> Option<(Kind, usize)>
+    ensures { result ≡ option_map (λ n. (kind, n)) len }
+{
+    match len {
+        Some(n) => Some((kind, n)),
+        None => None,
     }
 }
 
-/// A keyword, or the sign alone.
-fn solidus(rest: &[u8]) -> (Kind, usize) {
+/// With one byte more in front.
+fn behind_one(token: (Kind, usize)) -> (Kind, usize)
+    requires { token.1 < 2 ^ 63 }
+    ensures { result ≡ (token.0, token.1 + 1) }
+{
+    (token.0, token.1 + 1)
+}
+
+/// Behind `&`: a label, a path in braces, or nothing.
+fn reference(rest: &[u8]) -> (Kind, usize)
+    ensures { Longest ampersand rest.now (Some result) }
+{
+    if begins(rest, b'{') {
+        let inside = behind(rest, 1);
+        let path = run_len(Class::Path, inside);
+        if begins(behind(inside, path), b'}') {
+            return (Kind::Reference, path + 2);
+        }
+        return (Kind::Other, 0);
+    }
+    if begins_letter(rest) {
+        return (Kind::Reference, run_len(Class::Word, rest));
+    }
+    (Kind::Other, 0)
+}
+
+/// Behind a slash: a word and a slash, or nothing.
+fn solidus(rest: &[u8]) -> (Kind, usize)
+    ensures { Longest solidus rest.now (Some result) }
+{
     let len = run_len(Class::Keyword, rest);
-    if len == 0 || !begins(behind(rest, len), b'/') {
-        return (Kind::Slash, 1);
+    if len == 0 {
+        return (Kind::Slash, 0);
     }
-    (keyword(front(rest, len)), len.saturating_add(2))
+    let end = behind(rest, len);
+    if !begins(end, b'/') {
+        return (Kind::Slash, 0);
+    }
+    let word = front(rest, len);
+    (keyword(word), len + 1)
 }
 
-fn keyword(word: &[u8]) -> Kind {
+fn keyword(word: &[u8]) -> Kind
+    ensures { result ≡ keyword_of word.now }
+{
     if word == b"dts-v1".as_slice() {
         Kind::Version
     } else if word == b"plugin".as_slice() {
@@ -187,15 +260,26 @@ fn keyword(word: &[u8]) -> Kind {
 }
 
 /// A label, where a colon follows its letters, or a name.
-fn word(s: &[u8], name: usize) -> (Kind, usize) {
+fn word(s: &[u8], name: usize) -> (Kind, usize)
+    requires run { name ≡ run_of Class.Name s.now }
+    requires some { 0 < name }
+    ensures longest { Longest named s.now (Some result) }
+    ensures some { 0 < result.1 }
+{
+    if !begins_letter(s) {
+        return (Kind::Name, name);
+    }
     let letters = run_len(Class::Word, s);
-    if s.first().is_some_and(|c| is_letter(*c)) && begins(behind(s, letters), b':') {
-        return (Kind::Label, letters.saturating_add(1));
+    let rest = behind(s, letters);
+    if begins(rest, b':') {
+        return (Kind::Label, letters + 1);
     }
     (Kind::Name, name)
 }
 
-fn sign(in_value: bool, c: u8) -> Kind {
+fn sign(in_value: bool, c: u8) -> Kind
+    ensures { result ≡ sign_of in_value c }
+{
     match c {
         b';' => Kind::Semicolon,
         b'{' => Kind::Brace,
