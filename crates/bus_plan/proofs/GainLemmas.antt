@@ -1,5 +1,5 @@
 -- Which devices get a late driver, and how they do.
-use Rattle.std.proofs.Common.{◌≡◌, ◌≢◌, ◌∙◌, ap, sym, refl, subst, ℕ, zero, suc, ◌+◌, ◌<◌, Bool, true, false, not, ◌&&◌, ◌||◌, List, [], ◌∷◌, length, get_or, set, map, arith}
+use Rattle.std.proofs.Common.{◌≡◌, ◌≢◌, ◌∙◌, ap, sym, refl, subst, ℕ, zero, suc, ◌+◌, ◌<◌, Bool, true, false, ◌&&◌, ◌||◌, List, [], ◌∷◌, length, get_or, set, map, arith}
 use Rattle.std.specs.Prelude.{All, Option, Some, None, is_none, if◌then◌else◌, filter, ◌==◌, nat_lt}
 use Rattle.std.specs.List.{list_any}
 use Rattle.std.specs.Option.{option_map_or}
@@ -66,7 +66,7 @@ module _ (name : List ℕ) (strings : List (List ℕ)) where
   gets d = gets_driver d strings
 
   -- ---- those that get it are listed by its strings
-  pub gets-listed : (plan : List PlannedDevice) (w : WaitingDevices) → AreListed plan w
+  gets-listed : (plan : List PlannedDevice) (w : WaitingDevices) → AreListed plan w
       → (d : ℕ) → (is_listed w strings d && is_unmatched (planned plan d)) ≡ gets_driver (planned plan d) strings
   gets-listed plan w listed d =
       let has : (is_listed w strings d && is_unmatched (planned plan d)) ≡ list_any (λ x. is_among x strings) (compatibles_of plan d) =
@@ -194,6 +194,11 @@ module _ (name : List ℕ) (strings : List (List ℕ)) where
       All-map (λ gain. gain.device < length plan) (gain_of name) places
       (λ k d within. gets-within plan (get_or places k d) (sym (are (get_or places k d))
       ∙ list_any_at (λ p. get_or places k d == p) places k d within (eq-eqb (get_or places k d) (get_or places k d) refl)))
+
+  pub gaining-of : (plan devices : List PlannedDevice) (w : WaitingDevices) (places : List ℕ) → devices ≡ plan → AreListed plan w
+      → ((d : ℕ) → is_in d places ≡ (is_listed w strings d && is_unmatched (planned devices d))) → AreGaining plan places
+  gaining-of plan devices w places same listed found d =
+      found d ∙ ap (λ ds. is_listed w strings d && is_unmatched (planned ds d)) same ∙ gets-listed plan w listed d
 
   -- ---- the names of the drivers
   undriven-has : (q : List ℕ) (driver : Option (List ℕ)) → is_none driver ≡ true → option_map_or (bytes_eq q) driver false ≡ false

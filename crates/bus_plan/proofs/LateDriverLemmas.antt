@@ -1,14 +1,13 @@
 -- What a late driver leaves of a plan.
-use Rattle.std.proofs.Common.{◌≡◌, ◌≢◌, ◌∙◌, ap, sym, refl, subst, ℕ, zero, suc, ◌+◌, ◌<◌, ◌≤◌, Bool, true, false, ◌&&◌, ◌||◌, ◌==◌, List, [], ◌∷◌, ◌++◌, length, length-append, get_or, set, map, arith, append_assoc}
+use Rattle.std.proofs.Common.{◌≡◌, ◌≢◌, ◌∙◌, ap, sym, refl, subst, ℕ, zero, suc, ◌<◌, ◌≤◌, Bool, true, false, ◌&&◌, ◌==◌, List, [], ◌∷◌, length, get_or, map, arith}
 use Rattle.std.specs.Prelude.{All, AllPairs, Contains, Option, Some, None, is_some, is_none, if◌then◌else◌, filter}
 use Rattle.std.specs.List.{list_any, range_with_len}
-use Rattle.std.proofs.Math.Seq.{get_or-append_seam, set-append_seam}
-use Rattle.std.proofs.lemmas.List.{length-map, get_or_default}
+use Rattle.std.proofs.lemmas.List.{length-map}
 use Rattle.std.proofs.lemmas.List.Elements.{All-map}
 use Rattle.bus_plan.specs.Laws.{LateDriverIsLawful, LateDriverKeeps, IsKept}
-use Rattle.bus_plan.specs.LateDriver.{gets_driver, driven_by, device_with, with_driver, gaining}
+use Rattle.bus_plan.specs.LateDriver.{gets_driver, driven_by, device_with, with_driver}
 use Rattle.bus_plan.specs.Limits.{most_devices}
-use Rattle.bus_plan.specs.Plan.{PlannedDevice, nothing, planned, driver_of, suppliers_of, paths, is_driver_name, IsLawfulDevice, IsLawful}
+use Rattle.bus_plan.specs.Plan.{PlannedDevice, planned, driver_of, suppliers_of, paths, is_driver_name, IsLawfulDevice, IsLawful}
 use Rattle.bus_plan.specs.PlanPaths.{is_among}
 use Rattle.bus_plan.specs.Consumers.{devices, has_supplier, consumers_of}
 use Rattle.bus_plan.proofs.BoolLemmas.{and-left, and_false}

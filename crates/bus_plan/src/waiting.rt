@@ -15,8 +15,8 @@ use std::alloc::{AllocError, Global};
 use std::hash::RandomState;
 use std::marker::Model;
 
-/// The devices that wait for a driver, listed by each of their strings. One that gets a driver by another string stays in
-/// a list.
+/// The devices that wait for a driver, listed by each of their strings. One that gets a driver by another string stays in a
+/// list.
 #[derive(Drop)]
 pub struct Waiting {
     strings: PathIndex,
@@ -49,7 +49,8 @@ fn put(list: &mut Vec<Device>, device: Device) -> Result<(), AllocError>
 impl Waiting {
     /// The devices of a plan.
     pub fn of(alloc: Global, hasher: RandomState, devices: &[Planned]) -> Result<Self, AllocError>
-        ensures { IfOk result (λ w. (d : ℕ) (s : List ℕ) → is_in d (listed_by w s) ≡ is_among s (compatibles_of devices.now d)) }
+        ensures { IfOk result (λ w. (d : ℕ) (s : List ℕ) → is_in d (listed_by w s)
+            ≡ is_among s (compatibles_of devices.now d)) }
     {
         let mut waiting = Self {
             strings: PathIndex::new(alloc, hasher),
@@ -92,7 +93,9 @@ impl Waiting {
             return Ok(place);
         }
         let place = self.lists.len();
-        self.lists.push(Vec::new(alloc))?;
+        // most strings are those of one device
+        let list = Vec::with_capacity(alloc, 1)?;
+        self.lists.push(list)?;
         match self.strings.push(alloc, string) {
             Ok(()) => Ok(place),
             Err(error) => {

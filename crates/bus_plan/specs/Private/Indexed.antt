@@ -10,9 +10,10 @@ use Rattle.bus_plan.specs.Private.Waiting.{WaitingDevices, AreListed}
 abbrev pub AreDrivers : List PlannedDevice → List (List ℕ) → Type 0
 AreDrivers plan names = (name : List ℕ) → is_among name names ≡ is_known plan name
 
--- the plan is lawful, the index has its paths and the lists have the consumers of its devices, both in its order; the names
--- are those of its drivers, and the devices that wait for one are listed by their strings
-pub record IsIndexed (plan : List PlannedDevice) (index consumers names : List (List ℕ)) (waiting : WaitingDevices) : Type 0 where
+-- the plan is lawful, the index has its paths and the lists have the consumers of its devices, both in its order; the
+-- names are those of its drivers, and the devices that wait for one are listed by their strings
+pub record IsIndexed (plan : List PlannedDevice) (index consumers names : List (List ℕ)) (waiting : WaitingDevices)
+    : Type 0 where
   pub lawful : IsLawful plan
   pub agrees : index ≡ paths plan
   pub gathered : consumers ≡ map (consumers_of plan) (devices plan)

@@ -28,4 +28,5 @@ is_unmatched d = d.available && is_none d.driver
 
 -- of the devices that are listed by a string those that have no driver by now are those that have the string
 abbrev pub AreListed : List PlannedDevice → WaitingDevices → Type 0
-AreListed plan w = (d : ℕ) (s : List ℕ) → (is_in d (listed_by w s) && is_unmatched (planned plan d)) ≡ is_among s (compatibles_of plan d)
+AreListed plan w =
+    (d : ℕ) (s : List ℕ) → (is_in d (listed_by w s) && is_unmatched (planned plan d)) ≡ is_among s (compatibles_of plan d)

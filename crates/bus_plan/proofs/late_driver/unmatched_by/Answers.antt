@@ -1,5 +1,5 @@
 -- The lists that the strings have are walked over one by one.
-use Rattle.std.proofs.Common.{◌∙◌, ap, sym, ℕ, Bool, ◌&&◌, ◌||◌, [], get_or, take}
+use Rattle.std.proofs.Common.{◌∙◌, ap, sym, ℕ, ◌&&◌, ◌||◌, [], get_or, take}
 use Rattle.std.proofs.lemmas.List.{take_all}
 use Rattle.std.proofs.lemmas.List.Folds.{list_any_more}
 use Rattle.bus_plan.specs.Plan.{planned}

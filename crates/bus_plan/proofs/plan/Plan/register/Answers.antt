@@ -1,15 +1,13 @@
 -- Each device gets what it gains, and nothing else changes.
-use Rattle.std.proofs.Common.{◌≡◌, ◌∙◌, ap, sym, subst, ◌<◌, Bool, true, ◌&&◌, ◌||◌, map, length}
+use Rattle.std.proofs.Common.{◌∙◌, ap, sym, subst, ◌<◌, ◌&&◌, ◌||◌, map, length}
 use Rattle.std.specs.Prelude.{All, nat_lt}
 use Rattle.std.specs.Str.{bytes_eq}
 use Rattle.std.proofs.lemmas.List.{length-map}
 use Rattle.bus_plan.specs.LateDriver.{with_driver, gaining}
-use Rattle.bus_plan.specs.Plan.{planned}
 use Rattle.bus_plan.specs.PlanPaths.{is_among}
 use Rattle.bus_plan.specs.Private.Indexed.{IsIndexed}
 use Rattle.bus_plan.specs.Private.Late.{gain_of, given}
-use Rattle.bus_plan.specs.Private.Waiting.{is_listed, is_unmatched}
-use Rattle.bus_plan.proofs.GainLemmas.{AreGaining, gets-listed, listed-with, given-with, given-count, gains-within, drivers-with}
+use Rattle.bus_plan.proofs.GainLemmas.{gaining-of, listed-with, given-with, given-count, gains-within, drivers-with}
 use Rattle.bus_plan.proofs.LateDriverLemmas.{gathered-stays, index-stays, late_driver_is_lawful}
 use Rattle.bus_plan.proofs.plan.Plan.register.Goals as goal
 
@@ -19,9 +17,7 @@ give-requires c =
     let name = c.args.name.now in
     let strings = c.args.compatibles.now in
     let places = c.in_ok-gaining.gaining in
-    let are : AreGaining name strings old places =
-    λ d. c.in_ok-gaining.ensures d ∙ ap (λ ds. is_listed c.self.inside.waiting strings d && is_unmatched (planned ds d)) c.as_slice-devices.ensures.value
-    ∙ gets-listed name strings old c.self.inside.waiting c.self.invariant.listed d in
+    let are = gaining-of name strings old c.as_slice-devices.result.now c.self.inside.waiting places c.as_slice-devices.ensures.value c.self.invariant.listed c.in_ok-gaining.ensures in
     subst (All (λ gain. gain.device < length old)) (sym (c.in_ok-gains.ensures ∙ ap (map (gain_of name)) c.as_slice.ensures.places))
     (gains-within name strings places old are)
 
@@ -31,9 +27,7 @@ invariant_of-self-2 c =
     let name = c.args.name.now in
     let strings = c.args.compatibles.now in
     let places = c.in_ok-gaining.gaining in
-    let are : AreGaining name strings old places =
-    λ d. c.in_ok-gaining.ensures d ∙ ap (λ ds. is_listed c.self.inside.waiting strings d && is_unmatched (planned ds d)) c.as_slice-devices.ensures.value
-    ∙ gets-listed name strings old c.self.inside.waiting c.self.invariant.listed d in
+    let are = gaining-of name strings old c.as_slice-devices.result.now c.self.inside.waiting places c.as_slice-devices.ensures.value c.self.invariant.listed c.in_ok-gaining.ensures in
     let is = c.give.ensures ∙ ap (given old) (c.in_ok-gains.ensures ∙ ap (map (gain_of name)) c.as_slice.ensures.places)
     ∙ given-with name strings places old c.as_slice.ensures.once are in
     subst (λ ds. IsIndexed ds c.self.inside.index c.self.inside.consumers c.add_name.new.names c.empty_all.new.self) (sym is)
@@ -53,9 +47,7 @@ returns-clause-ok c =
     let name = c.args.name.now in
     let strings = c.args.compatibles.now in
     let places = c.in_ok-gaining.gaining in
-    let are : AreGaining name strings old places =
-    λ d. c.in_ok-gaining.ensures d ∙ ap (λ ds. is_listed c.self.inside.waiting strings d && is_unmatched (planned ds d)) c.as_slice-devices.ensures.value
-    ∙ gets-listed name strings old c.self.inside.waiting c.self.invariant.listed d in
+    let are = gaining-of name strings old c.as_slice-devices.result.now c.self.inside.waiting places c.as_slice-devices.ensures.value c.self.invariant.listed c.in_ok-gaining.ensures in
     c.give.ensures ∙ ap (given old) (c.in_ok-gains.ensures ∙ ap (map (gain_of name)) c.as_slice.ensures.places)
     ∙ given-with name strings places old c.as_slice.ensures.once are ∙ ap (λ ds. with_driver ds name strings) c.self.view_is
 
@@ -65,8 +57,6 @@ returns-clause-count c =
     let name = c.args.name.now in
     let strings = c.args.compatibles.now in
     let places = c.in_ok-gaining.gaining in
-    let are : AreGaining name strings old places =
-    λ d. c.in_ok-gaining.ensures d ∙ ap (λ ds. is_listed c.self.inside.waiting strings d && is_unmatched (planned ds d)) c.as_slice-devices.ensures.value
-    ∙ gets-listed name strings old c.self.inside.waiting c.self.invariant.listed d in
+    let are = gaining-of name strings old c.as_slice-devices.result.now c.self.inside.waiting places c.as_slice-devices.ensures.value c.self.invariant.listed c.in_ok-gaining.ensures in
     c.len-count.ensures ∙ c.in_ok-gains.gains.ok.0 ∙ ap length (c.in_ok-gains.ensures ∙ ap (map (gain_of name)) c.as_slice.ensures.places)
     ∙ length-map places (gain_of name) ∙ given-count name strings places old c.as_slice.ensures.once are ∙ ap (λ ds. gaining ds strings) c.self.view_is

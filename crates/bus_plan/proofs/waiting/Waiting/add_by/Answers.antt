@@ -1,6 +1,6 @@
 -- The device stands in the list of the string, and in no list more.
-use Rattle.std.proofs.Common.{◌≡◌, ◌∙◌, ap, sym, ◌<◌, Bool, true, ◌&&◌, ◌||◌, [], length, get_or, set, map, arith}
-use Rattle.std.specs.Prelude.{if◌then◌else◌, ◌==◌}
+use Rattle.std.proofs.Common.{◌≡◌, ◌∙◌, ap, sym, ◌<◌, true, ◌&&◌, ◌||◌, [], length, get_or, set, map, arith}
+use Rattle.std.specs.Prelude.{◌==◌}
 use Rattle.std.specs.Str.{bytes_eq}
 use Rattle.std.proofs.lemmas.List.{map-set, get_or-map, length-map}
 use Rattle.bus_plan.specs.PlanPaths.{is_among, place_of}

@@ -33,7 +33,7 @@ returns-in-Ok-clause-same c s =
     let lists = map (λ list. list.items) vs in
     let even : length lists ≡ length strings = length-map vs (λ list. list.items) ∙ c.self.invariant in
     let lists_are : map (λ list. list.items) c.push.new.self.items ≡ lists ++ [] ∷ [] =
-    ap (map (λ list. list.items)) c.in_ok-push.ensures.items ∙ map-append (λ list. list.items) vs _ ∙ ap (λ l. lists ++ l ∷ []) c.new.ensures.items in
+    ap (map (λ list. list.items)) c.in_ok-push.ensures.items ∙ map-append (λ list. list.items) vs _ ∙ ap (λ l. lists ++ l ∷ []) c.in_ok-list.ensures.items in
     ap (λ ls. get_or ls (place_of c.push-2.new.self s) []) lists_are
     ∙ ap (λ ss. get_or (lists ++ [] ∷ []) (place_of ss s) []) c.in-Ok.ensures.ok
     ∙ listed-new strings lists even c.args.string.now s ∙ ap (λ (w : WaitingDevices). listed_by w s) c.self.view_is
