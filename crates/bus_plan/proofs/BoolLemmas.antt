@@ -40,3 +40,21 @@ not-true false h = refl
 pub not-false : (a : Bool) → not a ≡ false → a ≡ true
 not-false true h = refl
 not-false false h = absurd (cc)
+
+pub and_true : (a : Bool) → (a && true) ≡ a
+and_true true = refl
+and_true false = refl
+
+pub or-shift : (a b c : Bool) → ((a || b) || c) ≡ (a || (b || c))
+or-shift true b c = refl
+or-shift false b c = refl
+
+pub or-again : (a b : Bool) → ((a || b) || a) ≡ (a || b)
+or-again true b = refl
+or-again false b = or_false b
+
+-- a test of both sides
+pub or-and : (a b u : Bool) → ((a && u) || (b && u)) ≡ ((a || b) && u)
+or-and true b true = refl
+or-and true b false = and_false b
+or-and false b u = refl

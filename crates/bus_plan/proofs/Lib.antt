@@ -16,7 +16,9 @@ pub mod FieldsLemmas
 pub mod StringsLemmas
 pub mod LateFaults
 pub mod LateDriverLemmas
-pub mod WantedLemmas
+pub mod GainLemmas
+pub mod PlacesLemmas
+pub mod WaitingLemmas
 pub mod TextBytes
 pub mod ReadBack
 pub mod TextLines

@@ -3,4 +3,6 @@ pub mod DeviceLists
 pub mod FieldsLeft
 pub mod Indexed
 pub mod Late
+pub mod Places
 pub mod Reading
+pub mod Waiting

@@ -4,12 +4,13 @@ ghost use Rattle.std.specs.Option.{option_copied};
 use crate::consumers::consumer_lists;
 use crate::device::Device;
 use crate::device_lists::DeviceLists;
+use crate::driver_names::{add_name, driver_names};
 use crate::hints::PathHints;
-use crate::late_driver::{gains, give, is_listed, string_set};
+use crate::late_driver::{gains, give, unmatched_by};
 use crate::paths::PathIndex;
 use crate::planned::Planned;
 use crate::verdict::Verdict;
-use crate::wanted::{all_wanted, left_wanted};
+use crate::waiting::Waiting;
 use dt_tree::{Bytes, Name, Path};
 use std::alloc::{AllocError, Global};
 use std::hash::RandomState;
@@ -21,8 +22,9 @@ pub struct Plan {
     devices: Vec<Planned>,
     index: PathIndex,
     consumers: DeviceLists,
-    /// The strings by which devices wait for a driver.
-    wanted: PathIndex,
+    /// The names of the drivers that devices have.
+    drivers: PathIndex,
+    waiting: Waiting,
     hints: PathHints,
 }
 
@@ -35,7 +37,7 @@ impl Model for Plan {
 
     ghost view = { λ plan. plan.devices.items };
 
-    ghost invariant = { λ plan. IsIndexed plan.devices.items plan.index plan.consumers plan.wanted };
+    ghost invariant = { λ plan. IsIndexed plan.devices.items plan.index plan.consumers plan.drivers plan.waiting };
 }
 
 impl Plan {
@@ -62,13 +64,15 @@ impl Plan {
         ensures { IfOk result (λ plan. plan ≡ devices.items) }
     {
         let consumers = consumer_lists(alloc, devices.as_slice())?;
-        let wanted = all_wanted(alloc, index.hasher(), devices.as_slice())?;
+        let drivers = driver_names(alloc, index.hasher(), devices.as_slice())?;
+        let waiting = Waiting::of(alloc, index.hasher(), devices.as_slice())?;
         let hints = PathHints::of(alloc, devices.as_slice())?;
         Ok(Self {
             devices,
             index,
             consumers,
-            wanted,
+            drivers,
+            waiting,
             hints,
         })
     }
@@ -178,7 +182,7 @@ impl Plan {
     pub fn knows(&self, name: &Name) -> bool
         ensures { result ≡ is_known self.now name.now }
     {
-        self.devices.iter().any(|device| device.has_driver(name))
+        self.drivers.contains(name.as_bytes())
     }
 
     /// Registers a driver that comes late: each available device without a driver gets it where one of its strings is among
@@ -194,15 +198,15 @@ impl Plan {
         ensures count { IfOk result (λ count. count ≡ gaining self.old compatibles.now) }
         ensures err { OnErr result (self.new ≡ self.old) }
     {
-        if !is_listed(compatibles, &self.wanted) {
-            return Ok(0);
-        }
         let hasher = self.index.hasher();
-        let strings = string_set(alloc, hasher, compatibles)?;
-        let wanted = left_wanted(alloc, hasher, self.devices.as_slice(), &strings)?;
-        let gains = gains(alloc, self.devices.as_slice(), name, &strings)?;
-        self.wanted = wanted;
-        Ok(give(&mut self.devices, gains))
+        let devices = self.devices.as_slice();
+        let gaining = unmatched_by(alloc, hasher, devices, &self.waiting, compatibles)?;
+        let gains = gains(alloc, gaining.as_slice(), name)?;
+        add_name(alloc, &mut self.drivers, name, gaining.as_slice())?;
+        let count = gains.len();
+        self.waiting.empty_all(compatibles);
+        give(&mut self.devices, gains);
+        Ok(count)
     }
 
     /// What its look-ups hash with.

@@ -107,6 +107,7 @@ impl Planned {
     }
 
     ghost use Rattle.bus_plan.specs.LateDriver.{driven_by, has_driver};
+    ghost use Rattle.bus_plan.specs.Private.Waiting.{is_unmatched};
 
     /// Whether it has a driver of this name.
     pub fn has_driver(&self, name: &Name) -> bool
@@ -116,6 +117,13 @@ impl Planned {
             None => false,
             Some(driver) => name.as_bytes() == driver.as_bytes(),
         }
+    }
+
+    /// Whether it is available and has no driver.
+    pub fn is_unmatched(&self) -> bool
+        ensures { result ≡ is_unmatched self.now }
+    {
+        self.available && self.driver.is_none()
     }
 
     /// Gives it a driver, whose verdict is ok.

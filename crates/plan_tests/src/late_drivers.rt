@@ -45,8 +45,31 @@ const ROWS: &[Row] = &[
         1,
         b"/a - -\n/b x ok\n/c y fail\n/d ! -\ncompatible /a s t\n",
     ),
+    (
+        BOARD,
+        b"x",
+        b"t u s",
+        2,
+        b"/a x ok\n/b x ok\n/c y fail\n/d ! -\n",
+    ),
     (BOARD, b"x", b"", 0, BOARD),
 ];
+
+/// A further driver: its name and its strings, how many devices get it, and whether it is known then.
+type Further = (&'static [u8], &'static [u8], usize, bool);
+
+/// They come one after the other, to a board of three devices with two strings each.
+const FURTHER: &[Further] = &[
+    (b"x", b"q", 0, false),
+    (b"x", b"t", 2, true),
+    (b"y", b"t", 0, false),
+    (b"z", b"s t", 0, false),
+    (b"x", b"v u", 1, true),
+    (b"z", b"s t u v", 0, false),
+];
+
+const THREE: &[u8] =
+    b"/a - -\n/b - -\n/c - -\ncompatible /a s t\ncompatible /b t u\ncompatible /c u v\n";
 
 fn strings_of(rt: &impl Abort, alloc: Global, text: &[u8]) -> Vec<Bytes> {
     copy_fields(alloc, Fields::of(text)).expect(rt, "memory")
@@ -80,6 +103,29 @@ fn late_drivers_match(rt: HostRuntime) {
     for row in ROWS {
         gives(&rt, rt.alloc(), hasher, row);
     }
+}
+
+fn comes(rt: &impl Abort, alloc: Global, plan: &mut Plan, driver: &Further) {
+    let (name, strings, count, known) = driver;
+    let name = Name::new(alloc, *name).expect(rt, "a name");
+    let gaining = register(rt, alloc, plan, &name, *strings);
+    assert_eq!(rt; gaining, *count);
+    assert_eq!(rt; plan.knows(&name), *known);
+}
+
+/// A string finds nothing once a driver has taken it, and a device that has a driver is passed over.
+#[test]
+fn late_drivers_come_one_after_the_other(rt: HostRuntime) {
+    let hasher = RandomState::new(&rt).expect(&rt, "a seed");
+    let mut plan = read_plan(rt.alloc(), hasher, THREE).expect(&rt, "a plan");
+    for driver in FURTHER {
+        comes(&rt, rt.alloc(), &mut plan, driver);
+    }
+    let written = plan_text(rt.alloc(), &plan).expect(&rt, "a text");
+    assert_eq!(&rt;
+        written.as_slice(),
+        b"/a x ok\n/b x ok\n/c x ok\n".as_slice()
+    );
 }
 
 fn has_strings(rt: &impl Abort, alloc: Global, plan: &Plan, place: usize, wanted: &[u8]) {
