@@ -39,14 +39,11 @@ module _ (p : Prepared) (r : IsReady p) where
   pub order-of : AreInOrder p.live p.in_preorder.nodes.items (plain_lists p)
   order-of = record { order = r.nodes; standing = r.standing; known = r.known }
 
-  pub distinct-own : (q : Path) (ps : List Property) → defined_at q ps ≡ own p q → are_distinct (property_names ps) ≡ true
-  distinct-own q ps e = ap are_distinct (names-defined q ps ∙ ap (map (λ x. x.name)) e) ∙ r.apart q
-
   module _ (k : ℕ) (some : 1 ≤ k) (below : k < length p.in_preorder.nodes.items) (n : ℕ) (there : n ≡ slice_index_or p.in_preorder.nodes.items k n) where
     abbrev rows : List NodeRow
     rows = p.live.nodes.items
 
-    lawful : is_name (row_at rows (n - 1)).name.now ≡ true
+    pub lawful : is_name (row_at rows (n - 1)).name.now ≡ true
     lawful =
         let nodes = (tree_of p.live).nodes in
         let up : stands rows (suc (n - 1)) ≡ true = ap (stands rows) (sym (before order-of k some below n there) ∙ at order-of k some below n there) ∙ r.there k 0 below in

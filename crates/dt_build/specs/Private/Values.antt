@@ -5,11 +5,9 @@ use Rattle.dt_source.specs.declared.tree.Part.TheVariants as parts
 use Rattle.dt_source.specs.declared.tree.Reference.{Reference}
 use Rattle.dt_source.specs.declared.tree.Reference.TheVariants as references
 use Rattle.dt_meaning.specs.Paths.{Path}
-use Rattle.dt_meaning.specs.Edits.{Definition, definition}
 use Rattle.dt_meaning.specs.References.{Found, Bytes, Cell, Open, PathText}
 use Rattle.dt_meaning.specs.Fixups.{value_bytes}
 use Rattle.dt_meaning.specs.Phandles.{PathPhandle}
-use Rattle.dt_live.specs.declared.preorder.properties.NodeProperty.{NodeProperty}
 use Rattle.dt_edit.specs.Said.{Parts}
 
 -- how many targets a part has, and a value
@@ -47,12 +45,7 @@ abbrev pub founds_of : (ℕ → Path) → List Part → List (Option ℕ) → Li
 founds_of path [] ts = []
 founds_of path (x ∷ xs) ts = found_of path x (slice_index_or ts 0 None) ∷ founds_of path xs (drop (uses x) ts)
 
--- the properties of one node, with their bytes
-abbrev pub run_of : List PathPhandle → (ℕ → Path) → Path → List (NodeProperty Parts) → List (Option ℕ) → List (Definition (List ℕ))
-run_of ns path q [] ts = []
-run_of ns path q (x ∷ xs) ts = definition q x.name.now (value_bytes ns (founds_of path x.value.now ts)) ∷ run_of ns path q xs (drop (all_uses x.value.now) ts)
-
--- how many targets they have
-abbrev pub run_uses : List (NodeProperty Parts) → ℕ
-run_uses [] = 0
-run_uses (x ∷ xs) = all_uses x.value.now + run_uses xs
+-- the bytes of values whose targets are the first of these
+abbrev pub values_of : List PathPhandle → (ℕ → Path) → List Parts → List (Option ℕ) → List (List ℕ)
+values_of ns path [] ts = []
+values_of ns path (v ∷ vs) ts = value_bytes ns (founds_of path v.now ts) ∷ values_of ns path vs (drop (all_uses v.now) ts)
