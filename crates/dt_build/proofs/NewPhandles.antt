@@ -1,26 +1,21 @@
 -- A new phandle stands behind a node's other properties.
-use Rattle.std.proofs.Common.{◌≡◌, ℕ, ◌+◌, ◌-◌, ◌^◌, ◌<◌, min, Bool, true, false, not, ◌||◌, List, [], ◌∷◌, ◌++◌, length, get_or, map, if◌then◌else◌, cond, codes, refl, sym, ap, ap₂, ◌∙◌, append-nil, arith}
+use Rattle.std.proofs.Common.{◌≡◌, ℕ, Bool, true, false, not, ◌||◌, List, [], ◌∷◌, ◌++◌, get_or, map, if◌then◌else◌, cond, codes, refl, sym, ap, ap₂, ◌∙◌}
 use Rattle.std.specs.Int.{to_be_bytes, w32}
 use Rattle.std.specs.Prelude.{None, Some}
 use Rattle.std.specs.Str.{bytes_eq}
 use Rattle.std.proofs.lemmas.Bool.{and_parts}
-use Rattle.std.proofs.lemmas.List.{map-append, get_or_default}
-use Rattle.dt_tree.specs.declared.property.Property.{Property}
+use Rattle.std.proofs.lemmas.List.{map-append}
 use Rattle.dt_tree.specs.Sound.{is_among, are_distinct}
 use Rattle.dt_meaning.specs.Paths.{Path, same_path, is_listed}
 use Rattle.dt_meaning.specs.Edits.{Definition, definition}
-use Rattle.dt_meaning.specs.References.{Found, held}
+use Rattle.dt_meaning.specs.References.{held}
 use Rattle.dt_meaning.specs.Phandles.{PathPhandle}
 use Rattle.dt_meaning.specs.Fixups.{phandle_of}
-use Rattle.dt_meaning.specs.Resolved.{with_bytes, phandle_property}
+use Rattle.dt_meaning.specs.Resolved.{phandle_property}
 use Rattle.dt_live.specs.Index.{row_of}
 use Rattle.dt_live.specs.Rows.{IsNode, is_standing, node_path}
-use Rattle.dt_tree_builder.specs.Lists.{defined_at}
-use Rattle.dt_tree_builder.specs.Sizes.{size_in}
 use Rattle.dt_tree_builder.proofs.Orders.{held-append}
-use Rattle.dt_tree_builder.proofs.SizesOfMaps.{size-append}
 use Rattle.dt_tree_builder.proofs.PathFacts.{not-both, or-false, not-true, same-is, bytes-itself}
-use Rattle.dt_tree_builder.proofs.MakingWalk.{one-more}
 use Rattle.dt_resolve.specs.declared.prepared.Prepared.{Prepared}
 use Rattle.dt_resolve.proofs.PathPhandles.{given-same}
 use Rattle.dt_making.specs.Made.{phandle_at}

@@ -1,15 +1,9 @@
 -- The properties of one node, where one is put in front.
-use Rattle.std.proofs.Common.{◌≡◌, ℕ, suc, ◌+◌, Bool, true, false, not, ◌||◌, List, [], ◌∷◌, ◌++◌, length, cond, refl, sym, ap, ap₂, ◌∙◌, true≢false, arith}
-use Rattle.std.specs.Prelude.{All}
-use Rattle.std.specs.List.{flat_map}
-use Rattle.std.proofs.lemmas.Bool.{and_parts}
-use Rattle.dt_meaning.specs.Paths.{Path, same_path, is_listed}
+use Rattle.std.proofs.Common.{◌≡◌, false, List, ◌∷◌, cond, ap, ◌∙◌}
+use Rattle.dt_meaning.specs.Paths.{Path, same_path}
 use Rattle.dt_meaning.specs.Edits.{Definition}
 use Rattle.dt_meaning.specs.References.{held}
-use Rattle.dt_tree_builder.specs.Standing.{are_apart}
-use Rattle.dt_tree_builder.specs.Sizes.{size_in}
-use Rattle.dt_tree_builder.proofs.PathFacts.{not-true, or-false, other-side, same-itself, same-is}
-use Rattle.dt_tree_builder.proofs.SizesOfMaps.{size-append}
+use Rattle.dt_tree_builder.proofs.PathFacts.{same-itself}
 
 -- ---- the properties of one node
 module _ {V : Type 0} where

@@ -27,7 +27,7 @@ use Rattle.dt_build.specs.Private.Cursors.{AreNodePhandles}
 use Rattle.dt_build.specs.Private.Made.{all_phandles, founds, plain_properties}
 use Rattle.dt_build.specs.Private.Ready.{IsReady}
 use Rattle.dt_build.specs.Private.SourceValues.{source_made}
-use Rattle.dt_build.specs.Private.Values.{all_uses, founds_of, values_of}
+use Rattle.dt_build.specs.Private.Values.{all_uses, values_of}
 use Rattle.dt_build.proofs.MakingNodes.{lawful}
 use Rattle.dt_build.proofs.NewPhandles.{own-is}
 use Rattle.dt_build.proofs.ValueFounds.{each-split, value-is, value-found}

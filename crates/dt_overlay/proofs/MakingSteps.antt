@@ -1,15 +1,9 @@
 -- One value more.
-use Rattle.std.proofs.Common.{◌≡◌, ℕ, ◌+◌, ◌-◌, ◌^◌, ◌<◌, ◌≤◌, min, List, [], ◌∷◌, ◌++◌, length, get_or, drop, map, sym, ap, ap₂, ◌∙◌, append_assoc, append-nil, arith}
+use Rattle.std.proofs.Common.{◌≡◌, ℕ, ◌+◌, ◌-◌, ◌^◌, ◌<◌, ◌≤◌, min, List, length, get_or, drop, map, sym, ap, ◌∙◌, arith}
 use Rattle.std.proofs.Math.ListN.{drop_of_length-le}
 use Rattle.std.proofs.lemmas.List.{at_drop_more}
-use Rattle.dt_tree.specs.declared.property.Property.{Property}
-use Rattle.dt_meaning.specs.Paths.{Path}
-use Rattle.dt_meaning.specs.Edits.{Definition, definition}
-use Rattle.dt_tree_builder.specs.Lists.{defined_at}
+use Rattle.dt_meaning.specs.Edits.{Definition}
 use Rattle.dt_tree_builder.specs.Sizes.{size_in}
-use Rattle.dt_tree_builder.proofs.MakingWalk.{one-more}
-use Rattle.dt_live.specs.declared.preorder.properties.NodeProperty.{NodeProperty}
-use Rattle.dt_live.specs.Flattened.{Lent}
 
 module _ {R : Type 0} (f : R → Definition (List ℕ)) (xs : List R) where
   pub sizes-more : (i : ℕ) (x : R) → i < length xs → x ≡ get_or xs i x → (size part sum whole : ℕ) → part ≡ length (f x).value → sum ≡ min (size + part) (2 ^ 64 - 1)
