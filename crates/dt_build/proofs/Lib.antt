@@ -35,10 +35,8 @@ pub mod MoreLists
 pub mod MoreWalked
 pub mod NamedEdits
 pub mod NamedSources
+pub mod NewPhandles
 pub mod NodePhandleSteps
-pub mod OwnPhandles
-pub mod OwnRuns
-pub mod OwnSteps
 pub mod Ready
 pub mod Shallow
 pub mod SiteNames
@@ -46,6 +44,8 @@ pub mod SiteSteps
 pub mod SiteTexts
 pub mod SitesOfFounds
 pub mod SizeOfWalk
+pub mod SourceOrder
+pub mod SourceSteps
 pub mod SymbolsLast
 pub mod TextSizes
 pub mod ValueFounds

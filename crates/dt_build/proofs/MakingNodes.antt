@@ -1,25 +1,20 @@
 -- The node at a place of a source that is prepared.
-use Rattle.std.proofs.Common.{◌≡◌, ℕ, suc, ◌-◌, ◌≤◌, ◌<◌, Bool, true, false, ◌||◌, List, [], ◌∷◌, ◌++◌, length, map, refl, sym, ap, ◌∙◌, subst, arith}
+use Rattle.std.proofs.Common.{◌≡◌, ℕ, suc, ◌-◌, ◌≤◌, ◌<◌, Bool, true, false, ◌||◌, List, [], ◌∷◌, ◌++◌, length, refl, sym, ap, ◌∙◌, subst, arith}
 use Rattle.std.specs.Prelude.{slice_index_or}
 use Rattle.std.specs.List.{list_all}
 use Rattle.std.proofs.lemmas.Bool.{and_parts}
-use Rattle.dt_tree.specs.declared.property.Property.{Property}
 use Rattle.dt_tree.specs.Name.{is_name}
-use Rattle.dt_tree.specs.NodeData.{property_names}
-use Rattle.dt_tree.specs.Sound.{are_distinct}
 use Rattle.dt_meaning.specs.Paths.{Path, same_path, is_listed}
 use Rattle.dt_live.specs.declared.live_tree.NodeRow.{NodeRow}
 use Rattle.dt_live.specs.Rows.{climb, row_at, path_of, stands}
 use Rattle.dt_live.proofs.StandingProperties.{listed-standing}
-use Rattle.dt_tree_builder.specs.Lists.{defined_at}
-use Rattle.dt_tree_builder.proofs.MakingWalk.{names-defined}
 use Rattle.dt_tree_builder.proofs.PathFacts.{same-is, not-both}
 use Rattle.dt_live.proofs.BlankRows.{blank_row}
 use Rattle.dt_live.proofs.Each.{Each, each-of}
 use Rattle.dt_live.proofs.MakingNodes.{AreInOrder, at, before, row-is, row-known}
 use Rattle.dt_edit.specs.Said.{tree_of}
 use Rattle.dt_resolve.specs.declared.prepared.Prepared.{Prepared}
-use Rattle.dt_build.specs.Private.Made.{own, plain_lists}
+use Rattle.dt_build.specs.Private.Made.{plain_lists}
 use Rattle.dt_build.specs.Private.Ready.{IsReady}
 
 -- ---- lists
@@ -39,14 +34,11 @@ module _ (p : Prepared) (r : IsReady p) where
   pub order-of : AreInOrder p.live p.in_preorder.nodes.items (plain_lists p)
   order-of = record { order = r.nodes; standing = r.standing; known = r.known }
 
-  pub distinct-own : (q : Path) (ps : List Property) → defined_at q ps ≡ own p q → are_distinct (property_names ps) ≡ true
-  distinct-own q ps e = ap are_distinct (names-defined q ps ∙ ap (map (λ x. x.name)) e) ∙ r.apart q
-
   module _ (k : ℕ) (some : 1 ≤ k) (below : k < length p.in_preorder.nodes.items) (n : ℕ) (there : n ≡ slice_index_or p.in_preorder.nodes.items k n) where
     abbrev rows : List NodeRow
     rows = p.live.nodes.items
 
-    lawful : is_name (row_at rows (n - 1)).name.now ≡ true
+    pub lawful : is_name (row_at rows (n - 1)).name.now ≡ true
     lawful =
         let nodes = (tree_of p.live).nodes in
         let up : stands rows (suc (n - 1)) ≡ true = ap (stands rows) (sym (before order-of k some below n there) ∙ at order-of k some below n there) ∙ r.there k 0 below in

@@ -1,49 +1,27 @@
--- How long the values are that the walk has met.
-use Rattle.std.proofs.Common.{◌≡◌, ℕ, ◌+◌, ◌-◌, ◌^◌, ◌≤◌, ◌<◌, min, Bool, true, false, List, [], ◌∷◌, ◌++◌, length, get_or, map, take, ap, ◌∙◌, append-nil, arith}
-use Rattle.std.specs.List.{flat_map}
-use Rattle.std.proofs.lemmas.List.{take_more, take_all}
-use Rattle.std.proofs.lemmas.List.Concat.{flat_map-append}
-use Rattle.dt_meaning.specs.Paths.{Path}
-use Rattle.dt_meaning.specs.References.{held, preorder}
+-- How long the values are together.
+use Rattle.std.proofs.Common.{◌≡◌, ℕ, ◌+◌, ◌*◌, ◌-◌, ◌^◌, min, Bool, true, false, List, [], ◌∷◌, length, map, refl, ap, ◌∙◌, append-nil, arith}
+use Rattle.std.specs.Int.{to_be_bytes, w32}
+use Rattle.std.proofs.lemmas.List.{length-map}
 use Rattle.dt_meaning.specs.Fixups.{fixups, local_fixups, sites}
-use Rattle.dt_meaning.specs.Resolved.{symbol, when, with_more}
+use Rattle.dt_meaning.specs.Phandles.{PathPhandle}
+use Rattle.dt_meaning.specs.Resolved.{phandle_property, symbol, when, with_more}
 use Rattle.dt_tree_builder.specs.Sizes.{size_in}
-use Rattle.dt_tree_builder.proofs.InTurn.{each-once}
 use Rattle.dt_tree_builder.proofs.SizesOfMaps.{size-append}
 use Rattle.dt_edit.specs.Said.{tree_of}
 use Rattle.dt_resolve.specs.declared.prepared.Prepared.{Prepared}
-use Rattle.dt_build.specs.Private.Made.{all_phandles, fixup_lists, founds, lists, made_sites, made_properties, own, symbol_lists}
-use Rattle.dt_build.specs.Private.Cursors.{path_at}
-use Rattle.dt_build.specs.Private.Ready.{IsReady}
-use Rattle.dt_live.proofs.MakingNodes.{at-path, count}
-use Rattle.dt_build.proofs.MakingNodes.{order-of}
-use Rattle.dt_build.proofs.ListsOfPrepared.{made-there}
-use Rattle.dt_build.proofs.SizeOfWalk.{size-of-walk}
+use Rattle.dt_resolve.specs.NodePhandles.{path_phandle_of}
+use Rattle.dt_build.specs.Private.Made.{all_phandles, fixup_lists, founds, lists, made_properties, made_sites, new_phandles, plain_properties, symbol_lists}
 use Rattle.dt_build.proofs.SymbolsLast.{with-none}
-use Rattle.dt_build.proofs.WalkOrder.{in-walk}
 
-module _ (p : Prepared) (r : IsReady p) where
-  abbrev order : List Path
-  order = preorder (tree_of p.live).nodes
+phandles-long : (xs : List PathPhandle) → size_in (map phandle_property xs) ≡ 4 * length xs
+phandles-long [] = refl
+phandles-long (x ∷ xs) = let four : length (to_be_bytes w32 x.phandle) ≡ 4 = refl in omega (arith, phandles-long xs, four)
 
-  -- the properties of so many nodes
-  abbrev pub size_behind : ℕ → ℕ
-  size_behind k = size_in (flat_map (held (made_properties p)) (take k (preorder (tree_of p.live).nodes)))
-
-  pub size-next : (k : ℕ) → k < length p.in_preorder.nodes.items → size_behind (k + 1) ≡ size_behind k + size_in (own p (path_at p k))
-  size-next k below =
-      let more : take (k + 1) (preorder (tree_of p.live).nodes) ≡ take k (preorder (tree_of p.live).nodes) ++ path_at p k ∷ [] =
-      take_more (preorder (tree_of p.live).nodes) k [] (omega (arith, count (order-of p r))) ∙ ap (λ q. take k (preorder (tree_of p.live).nodes) ++ q ∷ []) (at-path (order-of p r) k below) in
-      ap (λ qs. size_in (flat_map (held (made_properties p)) qs)) more
-      ∙ ap size_in (flat_map-append (held (made_properties p)) (take k (preorder (tree_of p.live).nodes)) (path_at p k ∷ [])
-      ∙ ap (λ es. flat_map (held (made_properties p)) (take k (preorder (tree_of p.live).nodes)) ++ es) (append-nil (own p (path_at p k))))
-      ∙ size-append (flat_map (held (made_properties p)) (take k (preorder (tree_of p.live).nodes))) (own p (path_at p k))
-
-  pub size-whole : (k : ℕ) → length p.in_preorder.nodes.items ≤ k → size_behind k ≡ size_in (made_properties p)
-  size-whole k all =
-      ap (λ qs. size_in (flat_map (held (made_properties p)) qs)) (take_all k (preorder (tree_of p.live).nodes) (omega (arith, count (order-of p r))))
-      ∙ size-of-walk (preorder (tree_of p.live).nodes) (each-once (tree_of p.live).nodes r.standing) (made_properties p)
-      (λ i e below. in-walk (tree_of p.live).nodes r.standing (get_or (made_properties p) i e).path ∙ made-there p r.standing r.walked r.new i e below)
+pub size-made : (p : Prepared) → size_in (made_properties p) ≡ size_in (plain_properties p) + 4 * length p.resolution.new.items
+size-made p =
+    size-append (plain_properties p) (map phandle_property (new_phandles p))
+    ∙ ap (λ n. size_in (plain_properties p) + n)
+    (phandles-long (new_phandles p) ∙ ap (λ n. 4 * n) (length-map p.resolution.new.items (path_phandle_of p.live.nodes.items)))
 
 -- ---- with what is added
 pub size-plain : (p : Prepared) → size_in (symbol_lists false p).properties ≡ size_in (made_properties p)

@@ -7,4 +7,5 @@ pub mod FixupSites
 pub mod LocalFixups
 pub mod Made
 pub mod Ready
+pub mod SourceValues
 pub mod Values

@@ -39,10 +39,10 @@ fn fitting_tree(
     requires shallow { list_any is_too_deep (lists symbols prepared.now).nodes ≡ false }
     ensures { IfOk result (λ tree. IsFitting symbols (meaning_of source.now) prepared.now limit tree) }
 {
-    let node_phandles = number(alloc, prepared)?;
-    if total_size(prepared, &node_phandles, symbols) > limit {
+    if total_size(prepared, symbols) > limit {
         return Ok(None);
     }
+    let node_phandles = number(alloc, prepared)?;
     let root = make(alloc, prepared, &node_phandles, symbols)?;
     let reserves = Vec::from_slice(alloc, source.reserves.as_slice())?;
     match Tree::new(reserves, 0, root) {

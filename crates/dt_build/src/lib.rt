@@ -4,7 +4,6 @@
 #![tactic(auto)]
 
 mod building;
-mod cursor;
 mod digits;
 mod fixup_sites;
 mod fixups;
@@ -14,8 +13,8 @@ mod local_properties;
 mod local_sizes;
 mod making;
 mod node_phandles;
-mod own;
 mod sizes;
+mod source_values;
 mod symbols;
 mod value;
 

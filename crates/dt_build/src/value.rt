@@ -1,12 +1,9 @@
 //! The bytes of values whose references have targets.
 ghost use Rattle.std.specs.Prelude.{◌≡◌, ◌≤◌, ◌^◌, ◌-◌, ◌++◌, ◌∷◌, [], None, All, IfOk, OnOk, drop, length, min, slice_index_or};
-ghost use Rattle.dt_meaning.specs.Fixups.{bytes_of, value_bytes as bytes_of_all};
-ghost use Rattle.dt_live.specs.Rows.{node_path};
 ghost use Rattle.dt_resolve.specs.Targets.{IsKnown, IsThere};
-ghost use Rattle.dt_build.specs.Private.Made.{all_phandles};
 ghost use Rattle.dt_build.specs.Private.Cursors.{AreNodePhandles};
 ghost use Rattle.dt_build.specs.Private.Ready.{IsReady};
-ghost use Rattle.dt_build.specs.Private.Values.{all_uses, found_of, founds_of, uses};
+ghost use Rattle.dt_build.specs.Private.Values.{all_uses, bytes_for, part_bytes, uses};
 
 use crate::node_phandles::NodePhandles;
 use dt_live::{append_path, path_size};
@@ -60,7 +57,7 @@ pub(crate) fn part_size(
 ) -> usize
     requires ready { IsReady prepared.now }
     requires known { IsKnown prepared.now.live target }
-    ensures { result ≡ min (length (bytes_of (all_phandles prepared.now) (found_of (node_path prepared.now.live) part.now target))) (2 ^ 64 - 1) }
+    ensures { result ≡ min (length (part_bytes prepared.now part.now target)) (2 ^ 64 - 1) }
 {
     match (part, target) {
         (Part::Bytes(bytes), _) => bytes.len(),
@@ -79,7 +76,7 @@ pub(crate) fn value_size(
 ) -> usize
     requires ready { IsReady prepared.now }
     requires known { All (IsKnown prepared.now.live) targets.now }
-    ensures { result ≡ min (length (bytes_of_all (all_phandles prepared.now) (founds_of (node_path prepared.now.live) value.now targets.now))) (2 ^ 64 - 1) }
+    ensures { result ≡ min (length (bytes_for prepared.now value.now targets.now)) (2 ^ 64 - 1) }
 {
     let mut size: usize = 0;
     let mut used = 0;
@@ -103,7 +100,7 @@ fn append_part(
     requires node_phandles { AreNodePhandles prepared.now node_phandles.now }
     requires known { IsKnown prepared.now.live target }
     requires there { IsThere prepared.now.live target }
-    ensures { OnOk result (value.new.items ≡ value.old.items ++ bytes_of (all_phandles prepared.now) (found_of (node_path prepared.now.live) part.now target)) }
+    ensures { OnOk result (value.new.items ≡ value.old.items ++ part_bytes prepared.now part.now target) }
 {
     match (part, target) {
         (Part::Bytes(bytes), _) => value.extend_from_slice(bytes)?,
@@ -130,7 +127,7 @@ pub(crate) fn value_bytes(
     requires node_phandles { AreNodePhandles prepared.now node_phandles.now }
     requires known { All (IsKnown prepared.now.live) targets.now }
     requires there { All (IsThere prepared.now.live) targets.now }
-    ensures { IfOk result (λ bytes. bytes ≡ bytes_of_all (all_phandles prepared.now) (founds_of (node_path prepared.now.live) value.now targets.now)) }
+    ensures { IfOk result (λ bytes. bytes ≡ bytes_for prepared.now value.now targets.now) }
 {
     let mut bytes = Vec::with_capacity(alloc, value_size(prepared, value, targets))?;
     let mut used = 0;

@@ -4,8 +4,7 @@ pub mod Folded
 pub mod FragmentRows
 pub mod Lawful
 mod MakingApart
-mod MakingNodes
-mod MakingRuns
+mod MakingOrder
 mod MakingSteps
 pub mod PartLists
 pub mod PartNodes

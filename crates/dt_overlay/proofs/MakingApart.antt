@@ -13,9 +13,8 @@ use Rattle.dt_live.specs.Index.{row_of}
 use Rattle.dt_live.specs.Rows.{no_property, property_at}
 use Rattle.dt_live.proofs.PathTests.{same-is}
 use Rattle.dt_live.specs.ByRow.{defined_by}
-use Rattle.dt_live.specs.Flattened.{IsWhole, Lent}
+use Rattle.dt_live.specs.Flattened.{IsWhole, Lent, lists}
 use Rattle.dt_live.proofs.WholeTrees.{all-entries, one-number}
-use Rattle.dt_overlay.specs.Private.Making.{own}
 
 module _ (d : LiveTree Lent) (w : IsWhole d) (q : Path) where
   abbrev rows : List (PropertyRow Lent)
@@ -67,7 +66,7 @@ module _ (d : LiveTree Lent) (w : IsWhole d) (q : Path) where
             (ap not (not-among r.name.now rs (λ j lt at. other 0 (suc j) (omega arith) (omega arith) owns at))) rest)
         by-owner false owns rest = rw owns rest
 
-  pub own-apart : are_distinct (map (λ e. e.name) (own d q)) ≡ true
+  pub own-apart : are_distinct (map (λ e. e.name) (held (lists d).properties q)) ≡ true
   own-apart =
       ap (λ es. are_distinct (names es)) (all-entries d w.sound w.stand w.valued)
       ∙ all-apart rows (λ i j lt below a b named. omega (arith, one-row i j (omega arith) (omega arith) a b named, lt))

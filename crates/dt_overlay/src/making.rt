@@ -1,22 +1,16 @@
 //! The tree of a live tree.
-ghost use Rattle.std.specs.Prelude.{◌≡◌, ◌+◌, ◌<◌, ◌-◌, ◌^◌, [], All, IfOk, length, map, min, true};
-ghost use Rattle.dt_tree.specs.Name.{is_name};
+ghost use Rattle.std.specs.Prelude.{◌≡◌, ◌-◌, ◌^◌, [], IfOk, length, map, min};
 ghost use Rattle.dt_tree.specs.PathMap.{path_map};
-ghost use Rattle.dt_meaning.specs.Edits.{definition};
 ghost use Rattle.dt_meaning.specs.MapOf.{map_of};
-ghost use Rattle.dt_meaning.specs.Paths.{Path};
-ghost use Rattle.dt_tree_builder.specs.Lists.{defined_at};
-ghost use Rattle.dt_tree_builder.specs.Builders.{built_lists};
-ghost use Rattle.dt_tree_builder.specs.Private.Making.{IsMade};
-ghost use Rattle.dt_tree_builder.specs.Standing.{AreNodes, walked};
+ghost use Rattle.dt_tree_builder.specs.Standing.{AreNodes};
 ghost use Rattle.dt_tree_builder.specs.Sizes.{size_in};
 ghost use Rattle.dt_live.specs.ByRow.{lent};
 ghost use Rattle.dt_live.specs.Flattened.{IsWhole, lists};
-ghost use Rattle.dt_overlay.specs.Private.Making.{IsInPreorder, IsRest};
+ghost use Rattle.dt_overlay.specs.Private.Making.{copied};
 
-use dt_live::{LiveTree, NodeProperty, Preorder, PropertyRow, preorder_of};
-use dt_tree::{Bytes, Node, Property, lawful_name};
-use dt_tree_builder::TreeBuilder;
+use dt_live::{LiveTree, PropertyRow, preorder_of};
+use dt_making::{Values, make_nodes};
+use dt_tree::{Bytes, Node};
 use std::alloc::{AllocError, Global};
 
 // ---- sizes
@@ -41,96 +35,27 @@ pub(crate) fn total_size(live: &LiveTree<'_, &[u8]>) -> usize
     size
 }
 
-// ---- the properties of one node
-fn made_property(
-    alloc: Global,
-    node_property: &NodeProperty<'_, &[u8]>,
-) -> Result<Property, AllocError>
-    requires { is_name node_property.now.name.now ≡ true }
-    ensures name { IfOk result (λ property. property.name ≡ node_property.now.name.now) }
-    ensures value { IfOk result (λ property. property.value ≡ node_property.now.value.now) }
-{
-    Ok(Property {
-        name: lawful_name(alloc, node_property.name)?,
-        value: Bytes::from_vec(Vec::from_slice(alloc, node_property.value)?),
-    })
-}
-
-// The properties of a run, in exact room.
-fn run_properties(
-    alloc: Global,
-    run: &[NodeProperty<'_, &[u8]>],
-) -> Result<Vec<Property>, AllocError>
-    requires { All (λ x. is_name x.name.now ≡ true) run.now }
-    ensures { IfOk result (λ properties. (q : Path) → defined_at q properties.items ≡ map (λ x. definition q x.name.now x.value.now) run.now) }
-{
-    let mut properties = Vec::with_capacity(alloc, run.len())?;
-    for node_property in run {
-        properties.push(made_property(alloc, node_property)?)?;
-    }
-    Ok(properties)
-}
-
 // ---- nodes
-// The root alone, and the place behind its properties.
-fn root_of<'d>(
-    alloc: Global,
-    live: &LiveTree<'d, &'d [u8]>,
-    in_preorder: &Preorder<'d, &'d [u8]>,
-) -> Result<(TreeBuilder, usize), AllocError>
-    requires order { IsInPreorder live.now in_preorder.now }
-    ensures made { IfOk result (λ x. IsMade (lists live.now) 1 x.0) }
-    ensures rest { IfOk result (λ x. IsRest live.now in_preorder.now 1 x.1) }
-{
-    let run = in_preorder.run_of(0, 0);
-    let properties = run_properties(alloc, run)?;
-    Ok((TreeBuilder::new(alloc, properties), run.len()))
+// Values of a live tree that are copied.
+#[derive(Drop)]
+struct Copies<'l, 'd> {
+    live: &'l LiveTree<'d, &'d [u8]>,
 }
 
-// The node at a place behind all before it, and the place behind its properties.
-fn with_node<'d>(
-    alloc: Global,
-    live: &LiveTree<'d, &'d [u8]>,
-    in_preorder: &Preorder<'d, &'d [u8]>,
-    place: usize,
-    property: usize,
-    builder: TreeBuilder,
-) -> Result<(TreeBuilder, usize), AllocError>
-    requires order { IsInPreorder live.now in_preorder.now }
-    requires more { place < length in_preorder.now.nodes.items }
-    requires made { IsMade (lists live.now) place builder }
-    requires rest { IsRest live.now in_preorder.now place property }
-    ensures made { IfOk result (λ x. IsMade (lists live.now) (place + 1) x.0) }
-    ensures rest { IfOk result (λ x. IsRest live.now in_preorder.now (place + 1) x.1) }
-{
-    let node = in_preorder.nodes[place];
-    let row = live.nodes()[node - 1];
-    let name = lawful_name(alloc, row.name)?;
-    let depth = live.depth(node);
-    let run = in_preorder.run_of(node, property);
-    let properties = run_properties(alloc, run)?;
-    let behind = property + run.len();
-    let builder = builder.push(alloc, depth, name, properties)?;
-    Ok((builder, behind))
-}
+impl<'l, 'd> Values<&'d [u8]> for Copies<'l, 'd> {
+    ghost made = { λ s. copied s.live.now };
 
-fn with_nodes<'d>(
-    alloc: Global,
-    live: &LiveTree<'d, &'d [u8]>,
-    in_preorder: &Preorder<'d, &'d [u8]>,
-) -> Result<TreeBuilder, AllocError>
-    requires { IsInPreorder live.now in_preorder.now }
-    ensures { IfOk result (λ builder. built_lists builder ≡ walked (lists live.now)) }
-{
-    let (mut builder, mut property) = root_of(alloc, live, in_preorder)?;
-    let mut place = 1;
-    while place < in_preorder.nodes.len() {
-        let (more, behind) = with_node(alloc, live, in_preorder, place, property, builder)?;
-        builder = more;
-        property = behind;
-        place += 1;
+    ghost is_ready = { λ _. Unit {0} };
+
+    ghost bytes_of = { λ _ vs. map (λ v. v.now) vs };
+
+    fn next(&mut self, alloc: Global, value: &'d [u8]) -> Result<Bytes, AllocError> {
+        Ok(Bytes::from_vec(Vec::from_slice(alloc, value)?))
     }
-    Ok(builder)
+
+    fn new_phandle(&self, _node: usize) -> Option<u32> {
+        None
+    }
 }
 
 /// The root of the tree that a live tree shows, each node made once.
@@ -141,6 +66,6 @@ pub(crate) fn make<'d>(alloc: Global, live: &LiveTree<'d, &'d [u8]>) -> Result<N
     ensures map { IfOk result (λ root. path_map root ≡ map_of (lists live.now)) }
 {
     let in_preorder = preorder_of(alloc, live)?;
-    let builder = with_nodes(alloc, live, &in_preorder)?;
-    builder.finish()
+    let mut values = Copies { live };
+    make_nodes(alloc, live, &in_preorder, &mut values)?.finish()
 }

@@ -28,9 +28,13 @@ new_phandles p = map (path_phandle_of p.live.nodes.items) p.resolution.new.items
 abbrev pub all_phandles : Prepared → List PathPhandle
 all_phandles p = given_phandles p ++ new_phandles p
 
--- the properties with their bytes, and the new phandles behind them
+-- the properties with their bytes
+abbrev pub plain_properties : Prepared → List (Definition (List ℕ))
+plain_properties p = map (with_bytes (all_phandles p)) (founds p)
+
+-- and the new phandles behind them
 abbrev pub made_properties : Prepared → List (Definition (List ℕ))
-made_properties p = map (with_bytes (all_phandles p)) (founds p) ++ map phandle_property (new_phandles p)
+made_properties p = plain_properties p ++ map phandle_property (new_phandles p)
 
 -- those of the node at a path
 abbrev pub own : Prepared → Path → List (Definition (List ℕ))

@@ -5,12 +5,13 @@ use Rattle.dt_source.specs.declared.tree.Part.TheVariants as parts
 use Rattle.dt_source.specs.declared.tree.Reference.{Reference}
 use Rattle.dt_source.specs.declared.tree.Reference.TheVariants as references
 use Rattle.dt_meaning.specs.Paths.{Path}
-use Rattle.dt_meaning.specs.Edits.{Definition, definition}
 use Rattle.dt_meaning.specs.References.{Found, Bytes, Cell, Open, PathText}
-use Rattle.dt_meaning.specs.Fixups.{value_bytes}
+use Rattle.dt_meaning.specs.Fixups.{bytes_of, value_bytes}
 use Rattle.dt_meaning.specs.Phandles.{PathPhandle}
-use Rattle.dt_live.specs.declared.preorder.properties.NodeProperty.{NodeProperty}
+use Rattle.dt_live.specs.Rows.{node_path}
 use Rattle.dt_edit.specs.Said.{Parts}
+use Rattle.dt_resolve.specs.declared.prepared.Prepared.{Prepared}
+use Rattle.dt_build.specs.Private.Made.{all_phandles}
 
 -- how many targets a part has, and a value
 abbrev pub uses : Part → ℕ
@@ -47,12 +48,14 @@ abbrev pub founds_of : (ℕ → Path) → List Part → List (Option ℕ) → Li
 founds_of path [] ts = []
 founds_of path (x ∷ xs) ts = found_of path x (slice_index_or ts 0 None) ∷ founds_of path xs (drop (uses x) ts)
 
--- the properties of one node, with their bytes
-abbrev pub run_of : List PathPhandle → (ℕ → Path) → Path → List (NodeProperty Parts) → List (Option ℕ) → List (Definition (List ℕ))
-run_of ns path q [] ts = []
-run_of ns path q (x ∷ xs) ts = definition q x.name.now (value_bytes ns (founds_of path x.value.now ts)) ∷ run_of ns path q xs (drop (all_uses x.value.now) ts)
+-- of a source that is prepared: the bytes of a part with its target, and of a value whose targets are the first of these
+abbrev pub part_bytes : Prepared → Part → Option ℕ → List ℕ
+part_bytes p x t = bytes_of (all_phandles p) (found_of (node_path p.live) x t)
 
--- how many targets they have
-abbrev pub run_uses : List (NodeProperty Parts) → ℕ
-run_uses [] = 0
-run_uses (x ∷ xs) = all_uses x.value.now + run_uses xs
+abbrev pub bytes_for : Prepared → List Part → List (Option ℕ) → List ℕ
+bytes_for p v ts = value_bytes (all_phandles p) (founds_of (node_path p.live) v ts)
+
+-- the bytes of values whose targets are the first of these
+abbrev pub values_of : List PathPhandle → (ℕ → Path) → List Parts → List (Option ℕ) → List (List ℕ)
+values_of ns path [] ts = []
+values_of ns path (v ∷ vs) ts = value_bytes ns (founds_of path v.now ts) ∷ values_of ns path vs (drop (all_uses v.now) ts)

@@ -13,7 +13,7 @@ use Rattle.dt_build.specs.Private.LocalFixups.{IsAtNode, local_definitions}
 use Rattle.dt_build.specs.Private.FixupSites.{all_left}
 use Rattle.dt_build.specs.Private.Values.{all_uses}
 use Rattle.dt_build.proofs.LocalKeys.{AreOthers, first-lacks, node_property-apart, local_list-next, none-yet, others-next}
-use Rattle.dt_build.proofs.OwnSteps.{all-drop}
+use Rattle.dt_build.proofs.SourceSteps.{all-drop}
 use Rattle.dt_build.proofs.SiteNames.{property-named}
 use Rattle.dt_build.proofs.SitesOfFounds.{all-sites}
 use Rattle.dt_build.proofs.local_properties.local_properties.Goals as goal

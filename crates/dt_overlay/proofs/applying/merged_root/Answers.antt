@@ -1,7 +1,6 @@
-use Rattle.std.proofs.Common.{◌≡◌, ◌<◌, List, Option, true, map, Vec, Global, ap, subst, sym, ◌∙◌, arith}
+use Rattle.std.proofs.Common.{◌≡◌, List, Option, true, map, Vec, Global, ap, subst, sym, ◌∙◌, arith}
 use Rattle.std.specs.Prelude.{All}
 use Rattle.dt_tree.specs.Name.{is_name}
-use Rattle.dt_tree_builder.specs.Sizes.{size_in}
 use Rattle.dt_live.specs.Flattened.{lists}
 use Rattle.dt_fixup.specs.PatchedOverlay.{patched_lists}
 use Rattle.dt_overlay.specs.declared.symbols.Symbol.{Symbol}

@@ -1,0 +1,24 @@
+-- What a tree is made of: the values of a source that is prepared, with the phandles of its nodes.
+use Rattle.std.specs.Prelude.{false, All, Some, None, if◌then◌else◌, slice_index_or}
+use Rattle.dt_making.specs.Made.{Made}
+use Rattle.dt_resolve.specs.declared.prepared.Prepared.{Prepared}
+use Rattle.dt_resolve.specs.Targets.{IsKnown, IsThere}
+use Rattle.dt_build.specs.declared.node_phandles.NodePhandles.{NodePhandles}
+use Rattle.dt_build.specs.declared.source_values.SourceValues.{SourceValues}
+use Rattle.dt_build.specs.Private.Cursors.{AreNodePhandles}
+use Rattle.dt_build.specs.Private.Made.{plain_lists, plain_properties}
+use Rattle.dt_build.specs.Private.Ready.{IsReady}
+
+abbrev pub source_made : Prepared → NodePhandles → Made
+source_made p n = record {
+  lists = plain_lists p;
+  plain = plain_properties p;
+  new_phandle = λ k. if slice_index_or n.new.items k false then Some (slice_index_or n.phandles.items k 0) else None;
+}
+
+-- each target is a node that stands, and each node has its phandle
+pub record AreReady (s : SourceValues) : Type 0 where
+  pub ready : IsReady s.prepared.now
+  pub node_phandles : AreNodePhandles s.prepared.now s.node_phandles.now
+  pub known : All (IsKnown s.prepared.now.live) s.targets.now
+  pub there : All (IsThere s.prepared.now.live) s.targets.now

@@ -1,0 +1,65 @@
+//! The values of a source's properties, in the order of the walk.
+ghost use Rattle.std.specs.Prelude.{◌≡◌, ◌-◌, ◌^◌, min};
+ghost use Rattle.dt_live.specs.Rows.{node_path};
+ghost use Rattle.dt_tree_builder.specs.Sizes.{size_in};
+ghost use Rattle.dt_build.specs.Private.Made.{all_phandles, plain_properties};
+ghost use Rattle.dt_build.specs.Private.Ready.{IsReady};
+ghost use Rattle.dt_build.specs.Private.SourceValues.{AreReady, source_made};
+ghost use Rattle.dt_build.specs.Private.Values.{values_of};
+
+use crate::node_phandles::NodePhandles;
+use crate::value::{targets_behind, value_bytes, value_size};
+use dt_making::Values;
+use dt_resolve::Prepared;
+use dt_source::Part;
+use dt_tree::Bytes;
+use std::alloc::{AllocError, Global};
+
+/// Values that are made, and the targets of those that come next.
+#[derive(Drop)]
+pub(crate) struct SourceValues<'p, 'd, 't> {
+    pub(crate) prepared: &'p Prepared<'d, 't>,
+    pub(crate) node_phandles: &'p NodePhandles,
+    pub(crate) targets: &'p [Option<usize>],
+}
+
+impl<'p, 'd, 't> Values<&'d [Part<'t>]> for SourceValues<'p, 'd, 't> {
+    ghost made = { λ s. source_made s.prepared.now s.node_phandles.now };
+
+    ghost is_ready = { AreReady };
+
+    ghost bytes_of = { λ s vs. values_of (all_phandles s.prepared.now) (node_path s.prepared.now.live) vs s.targets.now };
+
+    fn next(&mut self, alloc: Global, value: &'d [Part<'t>]) -> Result<Bytes, AllocError> {
+        let bytes = value_bytes(
+            alloc,
+            self.prepared,
+            self.node_phandles,
+            value,
+            self.targets,
+        )?;
+        self.targets = targets_behind(value, self.targets);
+        Ok(bytes)
+    }
+
+    fn new_phandle(&self, node: usize) -> Option<u32> {
+        match self.node_phandles.new.get(node) {
+            Some(true) => Some(self.node_phandles.phandles[node]),
+            _ => None,
+        }
+    }
+}
+
+/// How many bytes the values have together, or the greatest number where there are more. Takes no memory.
+pub(crate) fn values_size(prepared: &Prepared<'_, '_>) -> usize
+    requires { IsReady prepared.now }
+    ensures { result ≡ min (size_in (plain_properties prepared.now)) (2 ^ 64 - 1) }
+{
+    let mut size: usize = 0;
+    let mut left = prepared.resolution.targets.all.as_slice();
+    for node_property in prepared.in_preorder.properties.as_slice() {
+        size = size.saturating_add(value_size(prepared, node_property.value, left));
+        left = targets_behind(node_property.value, left);
+    }
+    size
+}

@@ -1,0 +1,27 @@
+-- How far a tree is made (Devicetree Specification v0.4, section 6.3).
+use Rattle.std.specs.Prelude.{◌≡◌, ◌++◌, ℕ, List, length, Option, Vec}
+use Rattle.std.specs.Global.{Global}
+use Rattle.dt_tree.specs.declared.property.Property.{Property}
+use Rattle.dt_meaning.specs.Paths.{Path}
+use Rattle.dt_tree_builder.specs.Lists.{defined_at}
+use Rattle.dt_tree_builder.specs.Private.Making.{IsMade}
+use Rattle.dt_live.specs.declared.live_tree.LiveTree.{LiveTree}
+use Rattle.dt_live.specs.declared.preorder.Preorder.{Preorder}
+use Rattle.dt_live.specs.declared.preorder.properties.NodeProperty.{NodeProperty}
+use Rattle.dt_making.specs.Made.{IsRest, Made, entries, phandle_at, values_in}
+use Rattle.dt_making.specs.declared.making.Walk.{Walk}
+
+-- so many values are next, and these are their bytes
+abbrev pub AreNext : {V : Type 0} → (List V → List (List ℕ)) → (List V → List (List ℕ)) → List (NodeProperty V) → List (List ℕ) → Type 0
+AreNext {V} old new run bs = (vs : List V) → old (values_in run ++ vs) ≡ bs ++ new vs
+
+-- the properties of a node whose run this is, with a new phandle last
+pub record AreOfNode {V : Type 0} (old new : List V → List (List ℕ)) (run : List (NodeProperty V)) (phandle : Option ℕ) (list : Vec Property Global) : Type 0 where
+  pub values : List (List ℕ)
+  pub count : length values ≡ length run
+  pub next : AreNext old new run values
+  pub properties : (q : Path) → defined_at q list.items ≡ entries (λ _. q) run values ++ phandle_at q phandle
+
+pub record IsWalk {V : Type 0} (d : LiveTree V) (y : Preorder V) (m : Made) (bytes_of : List V → List (List ℕ)) (walk : Walk) : Type 0 where
+  pub made : IsMade m.lists walk.node walk.builder
+  pub rest : IsRest d y m bytes_of walk.node walk.property
