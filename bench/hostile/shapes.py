@@ -272,6 +272,13 @@ def wanting(count, size):
     return "".join(itertools.chain(device, wants))
 
 
+def sharing(count):
+    """A plan of unmatched devices that all have one string."""
+    device = (f"/{number:x} - -\n" for number in range(count))
+    wants = (f"compatible /{number:x} s\n" for number in range(count))
+    return "".join(itertools.chain(device, wants))
+
+
 def events(kind):
     return kind * 500_000
 
@@ -312,6 +319,7 @@ SHAPES = [
     ("500,000 deferrals where all name all others", "replay 0 1", lambda: [planned(others), events("begin /0\nfinish /0 missing /fff\n")]),
     ("late drivers that match nothing", "replay 0 1", lambda: [wanting(MOST, 10), late_drivers(lambda number: f"t{number}")]),
     ("late drivers that each match a device of 100 strings", "replay 0 1", lambda: [wanting(MOST, 100), late_drivers(lambda number: f"s{number}-99")]),
+    ("late drivers of the one string that all devices have", "replay 0 1", lambda: [sharing(MOST), late_drivers(lambda number: "s")]),
     ("4,096 devices that all name all others", "probe 0 1 --workers 64", lambda: [all_name_all(MOST, others), X_DRIVER]),
     ("4,096 devices that all name all behind them", "probe 0 1 --workers 64", lambda: [all_name_all(MOST, later), X_DRIVER]),
     ("the same, by one worker", "probe 0 1 --workers 1", lambda: [all_name_all(MOST, later), X_DRIVER]),

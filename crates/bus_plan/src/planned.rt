@@ -120,7 +120,7 @@ impl Planned {
     }
 
     /// Whether it is available and has no driver.
-    pub fn is_unmatched(&self) -> bool
+    pub(crate) fn is_unmatched(&self) -> bool
         ensures { result ≡ is_unmatched self.now }
     {
         self.available && self.driver.is_none()
