@@ -10,10 +10,8 @@ pub mod FixupsMade
 pub mod FoundNames
 pub mod FragmentNames
 pub mod ListsOfPrepared
-pub mod LocalCells
 pub mod LocalDepth
 pub mod LocalFronts
-pub mod LocalHeld
 pub mod LocalKeys
 pub mod LocalLists
 pub mod LocalLoop
@@ -22,9 +20,8 @@ pub mod LocalMarks
 pub mod LocalOrder
 pub mod LocalPreorder
 pub mod LocalPushes
+pub mod LocalPuts
 pub mod LocalSteps
-pub mod LocalTests
-pub mod LocalValues
 pub mod LocalWalk
 pub mod LocalWhole
 pub mod MakingLabels
@@ -42,12 +39,12 @@ pub mod OwnSteps
 pub mod Ready
 pub mod Shallow
 pub mod SiteNames
-pub mod SiteSteps
+pub mod SiteSizes
 pub mod SiteTexts
+pub mod Sites
 pub mod SitesOfFounds
 pub mod SizeOfWalk
 pub mod SymbolsLast
-pub mod TextSizes
 pub mod ValueFounds
 pub mod ValueSteps
 pub mod WalkOrder
