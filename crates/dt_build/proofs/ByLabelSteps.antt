@@ -1,5 +1,5 @@
 -- Fixups by label, one site more.
-use Rattle.std.proofs.Common.{◌≡◌, ℕ, zero, suc, ◌-◌, ◌^◌, ◌<◌, min, Bool, true, false, ◌&&◌, List, [], ◌∷◌, ◌++◌, length, get_or, set, map, Option, Some, None, cond, if◌then◌else◌, refl, sym, ap, ap₂, ◌∙◌, append-nil, arith}
+use Rattle.std.proofs.Common.{◌≡◌, ℕ, zero, suc, ◌<◌, Bool, true, false, ◌&&◌, List, [], ◌∷◌, ◌++◌, length, get_or, set, Option, Some, None, cond, if◌then◌else◌, refl, sym, ap, ap₂, ◌∙◌, append-nil, arith}
 use Rattle.std.specs.BTreeMap as tree
 use Rattle.std.specs.BTreeMap.{BTreeMap}
 use Rattle.std.specs.Cmp.Lexicographic.{slice_cmp}
@@ -13,11 +13,10 @@ use denote.Ref.{Bor}
 use Rattle.dt_tree.proofs.SeenNames.{bytes_eq-comm}
 use Rattle.dt_meaning.specs.Paths.{Path, same_path}
 use Rattle.dt_meaning.specs.Edits.{Definition, definition, is_of}
-use Rattle.dt_meaning.specs.Fixups.{Site, appended, fixup, fixups}
+use Rattle.dt_meaning.specs.Fixups.{appended}
 use Rattle.dt_tree_builder.proofs.PathFacts.{same-itself, bytes-itself}
 use Rattle.dt_build.specs.declared.fixups_by_label.LabelFixups.{LabelFixups}
-use Rattle.dt_build.specs.Private.ByLabel.{AreFine, IsFine, fixups_path, given, index_of}
-use Rattle.dt_build.specs.Private.FixupSites.{capped}
+use Rattle.dt_build.specs.Private.ByLabel.{fixups_path, given, index_of}
 
 -- ---- the fixups of a label
 some-suc : (o : Option ℕ) (k : ℕ) → option_map suc o ≡ Some k → (j : ℕ) × (o ≡ Some j) × (k ≡ suc j)
@@ -119,22 +118,6 @@ pub map-more : (l : List ℕ) (old new : BTreeMap (Bor (List ℕ)) ℕ) (gs hs :
     → (m : List ℕ) → tree.get_by (λ k. slice_cmp nat_cmp m k.now) new ≡ index_of m hs
 map-more l old new gs hs g updates indexed none more label m =
     btree_map_updates_str l old new (Some (length gs)) updates m ∙ ap (cond (bytes_eq l m) (Some (length gs))) (indexed m) ∙ sym (index-new l m gs hs g none more label)
-
--- ---- fixup sites
-pub fixups-both : (xs ys : List Site) (es : List (Definition (List ℕ))) → fixups (xs ++ ys) es ≡ fixups ys (fixups xs es)
-fixups-both [] ys es = refl
-fixups-both (x ∷ xs) ys es = fixups-both xs ys (fixup x.label x es)
-
-pub fine-both : (xs ys : List Site) → AreFine xs → AreFine ys → AreFine (xs ++ ys)
-fine-both [] ys a b = b
-fine-both (x ∷ xs) ys a b = (a.0, fine-both xs ys a.1 b)
-
-pub fixups-capped : (xs : List Site) (es : List (Definition (List ℕ))) → AreFine (map capped xs) → fixups (map capped xs) es ≡ fixups xs es
-fixups-capped [] es fine = refl
-fixups-capped (x ∷ xs) es fine = fixups-capped xs (fixup x.label (capped x) es) fine.1 ∙ ap (fixups xs) (by_label x.label fine.0) where
-  by_label : (l : Option (List ℕ)) → IsFine l (min x.offset (2 ^ 64 - 1)) → fixup l (capped x) es ≡ fixup l x es
-  by_label None fine = refl
-  by_label (Some l) fine = let same : min x.offset (2 ^ 64 - 1) ≡ x.offset = omega (arith, fine) in ap (λ o. fixup (Some l) (record { label = x.label; path = x.path; name = x.name; offset = o }) es) same
 
 -- ---- a label with more text
 pub index-set : (l : List ℕ) (gs : List LabelFixups) (k : ℕ) (g h : LabelFixups) → k < length gs → g ≡ get_or gs k g → h.label.now ≡ g.label.now → index_of l (set gs k h) ≡ index_of l gs

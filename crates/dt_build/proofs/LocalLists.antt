@@ -1,4 +1,4 @@
--- The properties that local fixups make differ in node or name, and stand below one child of the root at the paths of the sites.
+-- The properties that local fixups make differ in node or name, and stand below one child of the root.
 use Rattle.std.proofs.Common.{◌≡◌, ℕ, true, List, [], ◌∷◌, map, Option, Some, None, refl}
 use Rattle.std.specs.Int.{to_be_bytes, w32}
 use Rattle.std.specs.Str.{bytes_eq}
@@ -10,7 +10,7 @@ use Rattle.dt_meaning.specs.Edits.{Definition, definition}
 use Rattle.dt_meaning.specs.References.{held}
 use Rattle.dt_meaning.specs.Fixups.{Site, local_fixup, local_fixups}
 use Rattle.dt_tree_builder.proofs.PathFacts.{bytes-itself}
-use Rattle.dt_live.proofs.Each.{Each, each-more}
+use Rattle.dt_live.proofs.Each.{Each}
 use Rattle.dt_build.proofs.ApartLists.{InPairs, each-any}
 use Rattle.dt_build.proofs.ApartKeys.{distinct-held}
 use Rattle.dt_build.proofs.FixupLists.{Properties, appended-each, appended-keys}
@@ -47,21 +47,6 @@ under-first n q = and_from (bytes_eq n n) true (bytes-itself n) refl
 pub local_fixups-under : (xs : List Site) → Each (λ e. IsUnder local_fixups_name e.path) (local_fixups xs [])
 local_fixups-under xs =
     local_fixups-each (λ e. IsUnder local_fixups_name e.path) xs [] (each-any (IsLocalSo (λ e. IsUnder local_fixups_name e.path)) xs (λ x w. under-first local_fixups_name x.path)) tt
-
--- their names are those of the sites' properties
-pub local_fixups-names : (N : List ℕ → Type 0) (xs : List Site) → Each (λ x. N x.name) xs → Each (λ e. N e.name) (local_fixups xs [])
-local_fixups-names N xs h = local_fixups-each (λ e. N e.name) xs [] (each-more (λ x. N x.name) (IsLocalSo (λ e. N e.name)) xs (λ x k w. k) h) tt
-
--- each is of a node that is so
-pub record IsLocalOf (Q : Path → Type 0) (q : Path) : Type 0 where
-  pub node : Path
-  pub path : q ≡ local_fixups_name ∷ node
-  pub so : Q node
-
-pub local_fixups-paths : (Q : Path → Type 0) (xs : List Site) → Each (λ x. Q x.path) xs → Each (λ e. IsLocalOf Q e.path) (local_fixups xs [])
-local_fixups-paths Q xs h =
-    local_fixups-each (λ e. IsLocalOf Q e.path) xs []
-    (each-more (λ x. Q x.path) (IsLocalSo (λ e. IsLocalOf Q e.path)) xs (λ x k w. record { node = x.path; path = refl; so = k }) h) tt
 
 pub local_fixups-distinct : (xs : List Site) (q : Path) → are_distinct (map (λ e. e.name) (held (local_fixups xs []) q)) ≡ true
 local_fixups-distinct xs q = distinct-held q (local_fixups xs []) (local_fixups-keys xs [] tt)

@@ -1,8 +1,9 @@
 -- One node of the local fixups, as code makes it.
-use Rattle.std.proofs.Common.{◌≡◌, ℕ, ◌+◌, ◌-◌, ◌≤◌, ◌<◌, ◌==◌, Bool, true, false, List, [], ◌∷◌, ◌++◌, length, get_or, set, take, if◌then◌else◌, refl, sym, ap, ◌∙◌, subst, arith}
+use Rattle.std.proofs.Common.{◌≡◌, ℕ, ◌+◌, ◌-◌, ◌≤◌, ◌<◌, ◌==◌, Bool, true, false, List, [], ◌∷◌, ◌++◌, length, get_or, set, take, Result, Ok, Err, if◌then◌else◌, refl, sym, ap, ◌∙◌, subst, arith}
+use Rattle.std.specs.Prelude.{IfOk}
 use Rattle.std.specs.List.{list_any}
 use Rattle.std.proofs.lemmas.Bool.{eqb-true}
-use Rattle.std.proofs.lemmas.List.{get_or_default}
+use Rattle.std.proofs.lemmas.List.{get_or_default, length-set}
 use Rattle.dt_tree.specs.declared.property.Property.{Property}
 use Rattle.dt_tree.specs.NodeData.{NodeData}
 use Rattle.dt_meaning.specs.Paths.{Path, is_listed}
@@ -19,13 +20,18 @@ use Rattle.dt_edit.specs.Said.{tree_of}
 use Rattle.dt_resolve.specs.declared.prepared.Prepared.{Prepared}
 use Rattle.dt_build.specs.declared.local_properties.LocalFixup.{LocalFixup}
 use Rattle.dt_build.specs.Private.Made.{lists}
-use Rattle.dt_build.specs.Private.LocalFixups.{all_local, first_local, has_local, local_definitions, local_path, nodes_with, with_locals}
+use Rattle.dt_build.specs.Private.FixupSites.{key_at}
+use Rattle.dt_build.specs.Private.LocalFixups.{AreListsFrom, AreMadeTo, AreMarks, all_local, has_local, local_definitions, local_path}
 use Rattle.dt_build.specs.Private.Cursors.{path_at}
 use Rattle.dt_build.specs.Private.Ready.{IsReady}
 use Rattle.dt_live.proofs.MakingNodes.{count, deep, name-read, parts, path-is}
 use Rattle.dt_build.proofs.MakingNodes.{order-of}
 use Rattle.dt_build.proofs.LocalMarks.{at-set}
-use Rattle.dt_build.proofs.LocalPushes.{mark-is, local-more, local-next, last_node-more}
+use Rattle.dt_build.proofs.LocalPushes.{mark-is, local-more, local-next, last_node-more, other-node}
+
+pub ok-both : {A E : Type 0} (P Q R : A → Type 0) → ((a : A) → P a → Q a → R a) → (r : Result A E) → IfOk r P → IfOk r Q → IfOk r R
+ok-both P Q R f (Ok a) h k = f a h k
+ok-both P Q R f (Err e) h k = tt
 
 pub lists-kept : (ls : List (List Property)) (i n : ℕ) (e : List Property) → i < length ls → (n == i) ≡ false → get_or (set ls i e) n [] ≡ get_or ls n []
 lists-kept ls i n e within other = at-set ls i n e [] within ∙ ap (λ t. if t then e else get_or ls n []) other
@@ -39,6 +45,13 @@ not-zero n some = by_test (n == 0) refl where
 pub first-node : (p : Prepared) → IsReady p → 1 ≤ length p.in_preorder.nodes.items
 first-node p ready = omega (arith, count (order-of p ready), some-node (tree_of p.live).nodes)
 
+pub marks-are : (p : Prepared) (marks : List Bool) (xs ys : List LocalFixup) → local_definitions p xs ≡ all_local p → ys ≡ xs → length marks ≡ length p.live.nodes.items + 1
+    → ((j : ℕ) → is_standing p.live j ≡ true → get_or marks j false ≡ list_any (λ x. is_listed (node_path p.live j) (fronts (key_at p x.property).path)) ys) → AreMarks p marks
+marks-are p marks xs ys are same long all = record {
+  count = long;
+  marks = λ n some there. mark-is p (node_path p.live n) some xs are (get_or marks n false) (all n there ∙ ap (list_any (λ x. is_listed (node_path p.live n) (fronts (key_at p x.property).path))) same);
+}
+
 module _ (p : Prepared) (ready : IsReady p) (k : ℕ) (some : 1 ≤ k) (below : k < length p.in_preorder.nodes.items) (n : ℕ) (there : n ≡ get_or p.in_preorder.nodes.items k n) where
   pub node-is : n ≡ get_or p.in_preorder.nodes.items k 0
   node-is = there ∙ get_or_default p.in_preorder.nodes.items k n 0 below
@@ -49,18 +62,27 @@ module _ (p : Prepared) (ready : IsReady p) (k : ℕ) (some : 1 ≤ k) (below : 
   pub node-stands : is_standing p.live n ≡ true
   node-stands = ap (is_standing p.live) node-is ∙ ready.there k 0 below
 
-  pub mark-read : (marks : List Bool) (xs ys : List LocalFixup) → length marks ≡ length p.live.nodes.items + 1 → local_definitions (node_path p.live) xs ≡ all_local p → ys ≡ xs
-      → ((j : ℕ) → is_standing p.live j ≡ true → get_or marks j false ≡ list_any (λ x. is_listed (node_path p.live j) (fronts (node_path p.live x.node))) ys)
-      → (t : Bool) → t ≡ get_or marks n t → t ≡ has_local p (path_at p k)
-  mark-read marks xs ys long are same all t read =
-      let path : path_at p k ≡ path_of p.live.nodes.items n = path-is (order-of p ready) k some below n there in
-      mark-is (node_path p.live) (path_of p.live.nodes.items n) (deep (order-of p ready) k some below n there) p xs are t
-      (read ∙ get_or_default marks n t false (omega (arith, long, node-known)) ∙ all n node-stands
-      ∙ ap (list_any (λ x. is_listed (node_path p.live n) (fronts (node_path p.live x.node)))) same)
-      ∙ ap (has_local p) (sym path)
+  pub mark-read : (marks : List Bool) → AreMarks p marks → get_or marks n false ≡ has_local p (path_at p k)
+  mark-read marks are = are.marks n (deep (order-of p ready) k some below n there) node-stands ∙ ap (has_local p) (sym (path-is (order-of p ready) k some below n there))
+
+  pub own-read : (ls : List (List Property)) (ps : List Property) → AreListsFrom k p ls → ps ≡ get_or ls n [] → defined_at (local_path (path_at p k)) ps ≡ held (all_local p) (local_path (path_at p k))
+  own-read ls ps h is = ap (defined_at (local_path (path_at p k))) (is ∙ ap (λ m. get_or ls m []) node-is) ∙ h.lists k (omega arith) below
+
+  -- the properties of the node are taken out
+  pub lists-next : (symbols : Bool) → names_taken symbols p.plugin (tree_of p.live) ≡ false → list_any is_too_deep (lists symbols p).nodes ≡ false → p.plugin ≡ true → (ls new : List (List Property)) (taken : List Property)
+      → new ≡ set ls n taken → AreListsFrom k p ls → AreListsFrom (k + 1) p new
+  lists-next symbols free shallow plugin ls new taken put h = record {
+    count = ap length put ∙ length-set ls n taken ∙ h.count;
+    lists = λ j past less.
+        let m = get_or p.in_preorder.nodes.items j 0 in
+        let other = other-node symbols p ready free shallow plugin k j (omega (arith, past)) less in
+        ap (λ (vs : List (List Property)). defined_at (local_path (path_at p j)) (get_or vs m [])) put
+        ∙ ap (defined_at (local_path (path_at p j))) (lists-kept ls n m taken (omega (arith, h.count, node-known)) (ap (λ i. m == i) node-is ∙ other))
+        ∙ h.lists j (omega (arith, past)) less;
+  }
 
   module _ (symbols : Bool) (free : names_taken symbols p.plugin (tree_of p.live) ≡ false) (shallow : list_any is_too_deep (lists symbols p).nodes ≡ false) (plugin : p.plugin ≡ true) (on : has_local p (path_at p k) ≡ true)
-      (bs : List NodeData) (made : built_lists bs ≡ with_locals symbols p (first_local p k)) (last_node : last_path bs ≡ get_or ([] ∷ nodes_with symbols p (first_local p k)) (length (nodes_with symbols p (first_local p k))) [])
+      (bs : List NodeData) (made : AreMadeTo symbols p k bs)
       (all : List NodeRow) (same : all ≡ p.live.nodes.items) (name : List ℕ) (read : name ≡ (get_or all (n - 1) blank_row).name.now) (depth : ℕ) (depth_is : depth ≡ length (path_of p.live.nodes.items n)) where
     pub fits : IsNext (last_path bs) (built_lists bs).nodes (depth + 1) name (local_path (path_at p k))
     fits =
@@ -68,15 +90,14 @@ module _ (p : Prepared) (ready : IsReady p) (k : ℕ) (some : 1 ≤ k) (below : 
         let above : Path = climb (n - 1) rows (row_at rows (n - 1)).parent in
         let path : path_at p k ≡ path_of rows n = path-is (order-of p ready) k some below n there in
         let is : path_at p k ≡ above ++ name ∷ [] = path ∙ parts (order-of p ready) k some below n there ∙ ap (λ m. above ++ m ∷ []) (sym (name-read (order-of p ready) k some below n there all same name read)) in
-        subst (λ (before : List Path). IsNext (last_path bs) before (depth + 1) name (local_path (path_at p k))) (sym (ap (λ r. r.nodes) made))
-        (local-next symbols p ready free shallow plugin k below on (last_path bs) above name (depth + 1) last_node is (omega (arith, depth_is, ap length path)))
+        subst (λ (before : List Path). IsNext (last_path bs) before (depth + 1) name (local_path (path_at p k))) (sym (ap (λ r. r.nodes) made.made))
+        (local-next symbols p ready free shallow plugin k below on (last_path bs) above name (depth + 1) made.last_node is (omega (arith, depth_is, ap length path)))
 
     pub pushed : (new : List NodeData) (ps : List Property) → defined_at (local_path (path_at p k)) ps ≡ held (all_local p) (local_path (path_at p k))
-        → built_lists new ≡ with_last (take (depth + 1 - 1) (last_path bs) ++ name ∷ []) ps (built_lists bs) → built_lists new ≡ with_locals symbols p (first_local p (k + 1))
-    pushed new ps own is =
-        is ∙ ap (λ q. with_last q ps (built_lists bs)) fits.at ∙ ap (with_last (local_path (path_at p k)) ps) made
-        ∙ local-more symbols p ready free shallow plugin k below on ps own
-
-    pub last_node-pushed : (new : List NodeData) → last_path new ≡ take (depth + 1 - 1) (last_path bs) ++ name ∷ []
-        → last_path new ≡ get_or ([] ∷ nodes_with symbols p (first_local p (k + 1))) (length (nodes_with symbols p (first_local p (k + 1)))) []
-    last_node-pushed new is = is ∙ fits.at ∙ last_node-more symbols p ready free shallow plugin k below on
+        → built_lists new ≡ with_last (take (depth + 1 - 1) (last_path bs) ++ name ∷ []) ps (built_lists bs) → last_path new ≡ take (depth + 1 - 1) (last_path bs) ++ name ∷ []
+        → AreMadeTo symbols p (k + 1) new
+    pushed new ps own is last_is = record {
+      made = is ∙ ap (λ q. with_last q ps (built_lists bs)) fits.at ∙ ap (with_last (local_path (path_at p k)) ps) made.made
+          ∙ local-more symbols p ready free shallow plugin k below on ps own;
+      last_node = last_is ∙ fits.at ∙ last_node-more symbols p ready free shallow plugin k below on;
+    }

@@ -1,5 +1,5 @@
 -- The nodes that have local fixups, and the properties of each.
-use Rattle.std.proofs.Common.{◌≡◌, ◌≢◌, ℕ, suc, ◌+◌, ◌-◌, ◌<◌, Bool, true, false, not, ◌==◌, ◌&&◌, ◌||◌, List, [], ◌∷◌, ◌++◌, length, get_or, set, cond, if◌then◌else◌, refl, sym, ap, ◌∙◌, append_assoc, arith}
+use Rattle.std.proofs.Common.{◌≡◌, ◌≢◌, ℕ, suc, ◌+◌, ◌-◌, ◌<◌, Bool, true, false, not, ◌==◌, ◌&&◌, ◌||◌, List, [], ◌∷◌, ◌++◌, length, get_or, set, cond, if◌then◌else◌, refl, sym, ap, ap₂, ◌∙◌, subst, append_assoc, arith}
 use Rattle.std.proofs.lemmas.Bool.{and_parts, eqb-true, eq-eqb}
 use Rattle.std.proofs.lemmas.List.{get_or-set_same, get_or-set_other, get_or_default}
 use Rattle.dt_tree.specs.declared.property.Property.{Property}
@@ -9,8 +9,10 @@ use Rattle.dt_meaning.specs.Edits.{Definition, definition}
 use Rattle.dt_meaning.specs.References.{held}
 use Rattle.dt_meaning.specs.Resolved.{fronts}
 use Rattle.dt_live.specs.declared.live_tree.NodeRow.{NodeRow}
+use Rattle.dt_live.specs.declared.preorder.properties.NodeProperty.{NodeProperty}
+use Rattle.dt_edit.specs.Said.{Parts}
 use Rattle.dt_live.specs.Index.{row_of}
-use Rattle.dt_live.specs.Rows.{no_row, path_of, row_at, stands}
+use Rattle.dt_live.specs.Rows.{IsNode, no_row, path_of, row_at, stands}
 use Rattle.dt_live.proofs.Climbs.{path-step, stands-step}
 use Rattle.dt_live.proofs.PathTests.{within-snoc}
 use Rattle.dt_live.proofs.StandingRows.{same-node}
@@ -19,7 +21,8 @@ use Rattle.dt_tree_builder.specs.Lists.{defined_at}
 use Rattle.dt_tree_builder.proofs.PathFacts.{bytes-itself}
 use Rattle.dt_tree_builder.proofs.MakingWalk.{one-more}
 use Rattle.dt_build.specs.declared.local_properties.LocalFixup.{LocalFixup}
-use Rattle.dt_build.specs.Private.LocalFixups.{local_definitions, local_path}
+use Rattle.dt_build.specs.Private.FixupSites.{key_at}
+use Rattle.dt_build.specs.Private.LocalFixups.{IsAtNode, local_definitions, local_path}
 use Rattle.dt_build.specs.Private.Ready.{IsReady}
 use Rattle.dt_build.proofs.MoreLists.{listed-fronts}
 
@@ -45,6 +48,13 @@ module _ (p : Prepared) (ready : IsReady p) where
   -- nodes that stand have one path where they are one
   one-path : (k m : ℕ) → stands rows k ≡ true → stands rows m ≡ true → same_path (path_of rows k) (path_of rows m) ≡ (k == m)
   one-path k m a b = same-node rows (row_of p.live.node_rows) ready.sound.grown ready.sound.nodes k m a b
+
+  -- the node of a property stands
+  pub node-stands : (i : ℕ) (x : NodeProperty Parts) → i < length p.in_preorder.properties.items → x ≡ get_or p.in_preorder.properties.items i x → IsAtNode p x.node
+  node-stands i x below at = record {
+    known = subst (λ (y : NodeProperty Parts). IsNode p.live y.node) (sym at) (ready.owners i x below);
+    there = ap (λ (y : NodeProperty Parts). stands rows y.node) at ∙ ready.stand i x below;
+  }
 
   -- ---- one level up
   module _ (all : List NodeRow) (same : all ≡ rows) (at : ℕ) (d : NodeRow) (some : at ≢ 0) (known : at < length rows + 1) (up : stands rows at ≡ true) where
@@ -94,32 +104,33 @@ module _ (p : Prepared) (ready : IsReady p) where
     no-more false = refl
 
   -- ---- a property of a node
-  module _ (x : LocalFixup) (up : stands rows x.node ≡ true) (rest : List LocalFixup) (old : List (List Property)) (within : x.node < length old) where
-    module _ (k : ℕ) (there : stands rows k ≡ true) where
-      abbrev q : Path
-      q = local_path (path_of rows k)
+  module _ (x : LocalFixup) (n : ℕ) (up : stands rows n ≡ true) (at : (key_at p x.property).path ≡ path_of rows n) (y : Property) (name : y.name ≡ (key_at p x.property).name) (value : y.value ≡ x.cells.items)
+      (rest : List LocalFixup) (old : List (List Property)) (within : n < length old) (k : ℕ) (there : stands rows k ≡ true) where
+    abbrev q : Path
+    q = local_path (path_of rows k)
 
-      abbrev more : List (Definition (List ℕ))
-      more = held (local_definitions (path_of rows) rest) q
+    abbrev more : List (Definition (List ℕ))
+    more = held (local_definitions p rest) q
 
-      same : same_path q (local_path (path_of rows x.node)) ≡ (k == x.node)
-      same = ap (λ b. b && same_path (path_of rows k) (path_of rows x.node)) (bytes-itself local_fixups_name) ∙ one-path k x.node there up
+    same : same_path q (local_path (key_at p x.property).path) ≡ (k == n)
+    same = ap (λ r. same_path q (local_path r)) at ∙ ap (λ b. b && same_path (path_of rows k) (path_of rows n)) (bytes-itself local_fixups_name) ∙ one-path k n there up
 
-      by_test : (t : Bool) → (k == x.node) ≡ t
-          → defined_at q (if t then get_or old x.node [] ++ x.property ∷ [] else get_or old k []) ++ more
-          ≡ defined_at q (get_or old k []) ++ cond t (definition (local_path (path_of rows x.node)) x.property.name x.property.value ∷ more) more
-      by_test true e =
-          let n : k ≡ x.node = eqb-true k x.node e in
-          ap (λ j. defined_at q (get_or old j [] ++ x.property ∷ []) ++ more) (sym n)
-          ∙ ap (λ ds. ds ++ more) (one-more q (get_or old k []) x.property)
-          ∙ append_assoc (defined_at q (get_or old k [])) (definition q x.property.name x.property.value ∷ []) more
-          ∙ ap (λ j. defined_at q (get_or old k []) ++ definition (local_path (path_of rows j)) x.property.name x.property.value ∷ more) n
-      by_test false e = refl
+    by_test : (t : Bool) → (k == n) ≡ t
+        → defined_at q (if t then get_or old n [] ++ y ∷ [] else get_or old k []) ++ more
+        ≡ defined_at q (get_or old k []) ++ cond t (definition (local_path (key_at p x.property).path) (key_at p x.property).name x.cells.items ∷ more) more
+    by_test true e =
+        let m : k ≡ n = eqb-true k n e in
+        ap (λ j. defined_at q (get_or old j [] ++ y ∷ []) ++ more) (sym m)
+        ∙ ap (λ ds. ds ++ more) (one-more q (get_or old k []) y)
+        ∙ append_assoc (defined_at q (get_or old k [])) (definition q y.name y.value ∷ []) more
+        ∙ ap (λ r. defined_at q (get_or old k []) ++ definition (local_path r) y.name y.value ∷ more) (ap (path_of rows) m ∙ sym at)
+        ∙ ap₂ (λ a b. defined_at q (get_or old k []) ++ definition (local_path (key_at p x.property).path) a b ∷ more) name value
+    by_test false e = refl
 
-      pub list-more : (new : List (List Property)) (left : List LocalFixup) (whole : List (Definition (List ℕ))) → left ≡ x ∷ rest → new ≡ set old x.node (get_or old x.node [] ++ x.property ∷ [])
-          → defined_at q (get_or old k []) ++ held (local_definitions (path_of rows) left) q ≡ whole → defined_at q (get_or new k []) ++ more ≡ whole
-      list-more new left whole first put so =
-          ap (λ (ls : List (List Property)). defined_at q (get_or ls k []) ++ more) put ∙ ap (λ ps. defined_at q ps ++ more) (at-set old x.node k (get_or old x.node [] ++ x.property ∷ []) [] within)
-          ∙ by_test (k == x.node) refl
-          ∙ ap (λ t. defined_at q (get_or old k []) ++ cond t (definition (local_path (path_of rows x.node)) x.property.name x.property.value ∷ more) more) (sym same)
-          ∙ ap (λ ms. defined_at q (get_or old k []) ++ held (local_definitions (path_of rows) ms) q) (sym first) ∙ so
+    pub list-more : (new : List (List Property)) (left : List LocalFixup) (whole : List (Definition (List ℕ))) → left ≡ x ∷ rest → new ≡ set old n (get_or old n [] ++ y ∷ [])
+        → defined_at q (get_or old k []) ++ held (local_definitions p left) q ≡ whole → defined_at q (get_or new k []) ++ more ≡ whole
+    list-more new left whole first put so =
+        ap (λ (ls : List (List Property)). defined_at q (get_or ls k []) ++ more) put ∙ ap (λ ps. defined_at q ps ++ more) (at-set old n k (get_or old n [] ++ y ∷ []) [] within)
+        ∙ by_test (k == n) refl
+        ∙ ap (λ t. defined_at q (get_or old k []) ++ cond t (definition (local_path (key_at p x.property).path) (key_at p x.property).name x.cells.items ∷ more) more) (sym same)
+        ∙ ap (λ ms. defined_at q (get_or old k []) ++ held (local_definitions p ms) q) (sym first) ∙ so

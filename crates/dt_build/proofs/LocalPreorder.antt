@@ -1,47 +1,28 @@
 -- The walk over the nodes of local fixups of a plugin that is ready, and which nodes have some.
-use Rattle.std.proofs.Common.{◌≡◌, ℕ, zero, suc, ◌+◌, Bool, true, false, ◌&&◌, ◌||◌, List, [], ◌∷◌, length, map, Option, Some, None, is_none, is_some, cond, refl, sym, ap, ap₂, ◌∙◌, length-append, arith}
+use Rattle.std.proofs.Common.{◌≡◌, ℕ, zero, suc, ◌+◌, Bool, true, false, List, [], ◌∷◌, length, map, is_some, cond, refl, sym, ap, ◌∙◌, length-append, arith}
 use Rattle.std.specs.List.{filter, list_any}
 use Rattle.dt_meaning.specs.Names.{local_fixups_name}
-use Rattle.dt_meaning.specs.Paths.{Path, is_within, is_listed, name_below}
+use Rattle.dt_meaning.specs.Paths.{Path, is_listed, name_below}
 use Rattle.dt_meaning.specs.References.{walk, preorder}
 use Rattle.dt_meaning.specs.Phandles.{new_ones}
 use Rattle.dt_meaning.specs.Fixups.{Site, local_fixups}
 use Rattle.dt_meaning.specs.Resolved.{is_too_deep}
-use Rattle.dt_tree_builder.proofs.PathFacts.{bytes-itself, child-is, not-deep, or-false}
-use Rattle.dt_tree_builder.proofs.Standing.{listed-both}
+use Rattle.dt_tree_builder.proofs.PathFacts.{child-is, not-deep, or-false}
 use Rattle.dt_tree_builder.proofs.Walks.{flat-none}
 use Rattle.dt_edit.specs.Said.{tree_of}
 use Rattle.dt_resolve.specs.declared.prepared.Prepared.{Prepared}
 use Rattle.dt_build.specs.Private.Made.{fixup_lists, lists, made_sites}
 use Rattle.dt_build.specs.Private.Ready.{IsReady}
-use Rattle.dt_build.proofs.LocalFronts.{brought, brought_by, local-fronts}
 use Rattle.dt_build.proofs.LocalOrder.{listed-kept}
 use Rattle.dt_build.proofs.LocalWalk.{walk-local}
 use Rattle.dt_build.proofs.LocalWhole.{kept-flat, local-ready}
-use Rattle.dt_build.proofs.MoreLists.{deep-both, fronts_of, listed-fronts, listed-new}
+use Rattle.dt_build.proofs.MoreLists.{deep-both, fronts_of}
 use Rattle.dt_build.proofs.MoreWalked.{walk_of}
 use Rattle.dt_build.proofs.SymbolsLast.{same-kept}
 
--- ---- which nodes have local fixups
 -- the nodes that local fixups bring
 abbrev pub locals_of : List Site → List Path
 locals_of xs = new_ones [] (fronts_of (local_fixups xs []))
-
--- a place at the node or below it holds a phandle of the source's own
-abbrev pub is_own_within : Path → Site → Bool
-is_own_within q x = is_none x.label && is_within q x.path
-
-one-brought : (q p : Path) (o : Option (List ℕ)) → is_listed (local_fixups_name ∷ q) (brought o p) ≡ (is_none o && is_within q p)
-one-brought q p None = listed-fronts (local_fixups_name ∷ q) (local_fixups_name ∷ p) ∙ ap (λ t. t && is_within q p) (bytes-itself local_fixups_name)
-one-brought q p (Some l) = refl
-
-listed-brought : (q : Path) (xs : List Site) → is_listed (local_fixups_name ∷ q) (brought_by xs) ≡ list_any (is_own_within q) xs
-listed-brought q [] = refl
-listed-brought q (x ∷ xs) =
-    listed-both (local_fixups_name ∷ q) (brought x.label x.path) (brought_by xs) ∙ ap₂ (λ a b. a || b) (one-brought q x.path x.label) (listed-brought q xs)
-
-pub locals-by : (xs : List Site) (q : Path) → is_listed (local_fixups_name ∷ q) (locals_of xs) ≡ list_any (is_own_within q) xs
-locals-by xs q = ap (is_listed (local_fixups_name ∷ q)) (local-fronts xs) ∙ listed-new (local_fixups_name ∷ q) (brought_by xs) ∙ listed-brought q xs
 
 -- ---- the walk over nodes that have local fixups, one level deeper
 module _ (n : List ℕ) (nodes news : List Path) (shallow : list_any is_too_deep news ≡ false) where

@@ -10,9 +10,8 @@ use Rattle.dt_tree.specs.Sound.{are_distinct}
 use Rattle.dt_meaning.specs.Names.{local_fixups_name}
 use Rattle.dt_meaning.specs.Paths.{Path, same_path, is_listed, is_within}
 use Rattle.dt_meaning.specs.Edits.{Definition}
-use Rattle.dt_meaning.specs.Fixups.{local_fixups, sites}
 use Rattle.dt_meaning.specs.References.{held, preorder}
-use Rattle.dt_meaning.specs.Resolved.{fronts, is_too_deep, names_taken, when, with_more}
+use Rattle.dt_meaning.specs.Resolved.{fronts, is_too_deep, names_taken, with_more}
 use Rattle.dt_tree_builder.specs.Lists.{defined_at, with_last}
 use Rattle.dt_tree_builder.specs.Builders.{built_lists}
 use Rattle.dt_tree_builder.specs.Standing.{AreNodes, behind_root, walked}
@@ -21,22 +20,21 @@ use Rattle.dt_tree_builder.proofs.Orders.{behind, there-same}
 use Rattle.dt_tree_builder.proofs.PathFacts.{bytes-itself, not-both, same-itself}
 use Rattle.dt_tree_builder.proofs.Pushes.{IsNext, next-fits}
 use Rattle.dt_tree_builder.proofs.Standing.{listed-both}
-use Rattle.dt_tree_builder.proofs.Walks.{flat-same}
 use Rattle.dt_live.specs.Rows.{node_path}
 use Rattle.dt_tree_builder.proofs.MakingWalk.{names-defined}
 use Rattle.dt_edit.specs.Said.{tree_of}
 use Rattle.dt_resolve.specs.declared.prepared.Prepared.{Prepared}
 use Rattle.dt_build.specs.declared.local_properties.LocalFixup.{LocalFixup}
-use Rattle.dt_build.specs.Private.Made.{all_phandles, fixup_lists, founds, lists, made_sites}
+use Rattle.dt_build.specs.Private.Made.{fixup_lists, lists, made_sites}
+use Rattle.dt_build.specs.Private.FixupSites.{key_at}
 use Rattle.dt_build.specs.Private.LocalFixups.{all_local, first_local, has_local, local_definitions, local_path, nodes_with, with_locals}
 use Rattle.dt_build.specs.Private.Cursors.{path_at}
 use Rattle.dt_build.specs.Private.Ready.{IsReady}
 use Rattle.dt_build.proofs.ListsOfPrepared.{fixups-whole, lists-whole, local-new}
 use Rattle.dt_live.proofs.MakingNodes.{at-path, count}
 use Rattle.dt_build.proofs.MakingNodes.{order-of}
-use Rattle.dt_build.proofs.LocalHeld.{held-local}
 use Rattle.dt_build.proofs.LocalLists.{local_fixups-distinct}
-use Rattle.dt_build.proofs.LocalMade.{local-made, local_properties_at, there}
+use Rattle.dt_build.proofs.LocalMade.{local-made, local_paths, nothing-behind, of-plugin, there}
 use Rattle.dt_build.proofs.MoreLists.{fronts_of, listed-fronts, listed-new}
 use Rattle.dt_build.proofs.SymbolsLast.{kept-both, with-none}
 
@@ -73,7 +71,7 @@ listed-taken (x ∷ xs) (suc i) (suc j) less below = later (same_path (get_or xs
   later false e = e
 
 -- ---- marks
-module _ (path : ℕ → Path) (q : Path) (some : 1 ≤ length q) where
+module _ (p : Prepared) (q : Path) (some : 1 ≤ length q) where
   one-mark : (x : Path) → is_listed (local_path q) (fronts (local_path x)) ≡ is_listed q (fronts x)
   one-mark x =
       listed-fronts (local_path q) (local_path x) ∙ ap (λ t. t && is_within q x) (bytes-itself local_fixups_name)
@@ -82,23 +80,24 @@ module _ (path : ℕ → Path) (q : Path) (some : 1 ≤ length q) where
         by_first [] le = absurd (omega (arith, le))
         by_first (y ∷ ys) le = refl
 
-  all-marks : (xs : List LocalFixup) → list_any (λ x. is_listed q (fronts (path x.node))) xs ≡ is_listed (local_path q) (fronts_of (local_definitions path xs))
+  all-marks : (xs : List LocalFixup) → list_any (λ x. is_listed q (fronts (key_at p x.property).path)) xs ≡ is_listed (local_path q) (fronts_of (local_definitions p xs))
   all-marks [] = refl
-  all-marks (x ∷ xs) = ap₂ (λ a b. a || b) (sym (one-mark (path x.node))) (all-marks xs) ∙ sym (listed-both (local_path q) (fronts (local_path (path x.node))) (fronts_of (local_definitions path xs)))
+  all-marks (x ∷ xs) = ap₂ (λ a b. a || b) (sym (one-mark (key_at p x.property).path)) (all-marks xs) ∙ sym (listed-both (local_path q) (fronts (local_path (key_at p x.property).path)) (fronts_of (local_definitions p xs)))
 
-  pub mark-is : (p : Prepared) (xs : List LocalFixup) → local_definitions path xs ≡ all_local p → (t : Bool) → t ≡ list_any (λ x. is_listed q (fronts (path x.node))) xs → t ≡ has_local p q
-  mark-is p xs are t is = is ∙ all-marks xs ∙ ap (λ es. is_listed (local_path q) (fronts_of es)) are ∙ sym (listed-new (local_path q) (fronts_of (all_local p)))
+  pub mark-is : (xs : List LocalFixup) → local_definitions p xs ≡ all_local p → (t : Bool) → t ≡ list_any (λ x. is_listed q (fronts (key_at p x.property).path)) xs → t ≡ has_local p q
+  mark-is xs are t is = is ∙ all-marks xs ∙ ap (λ es. is_listed (local_path q) (fronts_of es)) are ∙ sym (listed-new (local_path q) (fronts_of (all_local p)))
 
 -- ---- none
 pub no-local : (symbols : Bool) (p : Prepared) (bs : List NodeData) → built_lists bs ≡ walked (fixup_lists symbols p) → all_local p ≡ [] → built_lists bs ≡ walked (lists symbols p)
 no-local symbols p bs made none = made ∙ ap walked (sym (ap (λ es. with_more es (fixup_lists symbols p)) none ∙ with-none (fixup_lists symbols p)))
 
-pub no-plugin : (p : Prepared) → p.plugin ≡ false → all_local p ≡ []
-no-plugin p off = ap (λ b. local_fixups (when b (sites (all_phandles p) (founds p))) []) off
+pub plugin-locals : (p : Prepared) (xs : List LocalFixup) → local_definitions p xs ≡ all_local p → 0 < length xs → p.plugin ≡ true
+plugin-locals p [] are some = absurd (omega (arith, some))
+plugin-locals p (x ∷ xs) are some = of-plugin p _ _ (sym are)
 
-pub none-locals : (path : ℕ → Path) (p : Prepared) (xs : List LocalFixup) → local_definitions path xs ≡ all_local p → length xs ≡ 0 → all_local p ≡ []
-none-locals path p [] are none = sym are
-none-locals path p (x ∷ xs) are none = absurd (omega (arith, none))
+pub none-locals : (p : Prepared) (xs : List LocalFixup) → local_definitions p xs ≡ all_local p → length xs ≡ 0 → all_local p ≡ []
+none-locals p [] are none = sym are
+none-locals p (x ∷ xs) are none = absurd (omega (arith, none))
 
 -- no name stands twice
 pub distinct-local : (p : Prepared) (q : Path) (ps : List Property) → defined_at (local_path q) ps ≡ held (all_local p) (local_path q) → are_distinct (property_names ps) ≡ true
@@ -110,17 +109,13 @@ module _ (symbols : Bool) (p : Prepared) (ready : IsReady p) (free : names_taken
   order = preorder (tree_of p.live).nodes
 
   abbrev all : List Path
-  all = filter (has_local p) order
+  all = local_paths p
 
   abbrev so_far : ℕ → List Path
   so_far k = nodes_with symbols p (first_local p k)
 
   whole-is : walked (lists symbols p) ≡ with_locals symbols p all
-  whole-is =
-      local-made symbols p ready free shallow
-      ∙ ap (λ ds. record { nodes = nodes_with symbols p all; properties = (walked (fixup_lists symbols p)).properties ++ ds })
-      (flat-same (local_properties_at p) (λ q. held (all_local p) (local_path q)) all
-      (λ q. sym (ap (λ b. held (local_fixups (when b (sites (all_phandles p) (founds p))) []) (local_path q)) plugin ∙ held-local (all_phandles p) q (founds p))))
+  whole-is = local-made symbols p ready free shallow
 
   are : AreNodes (lists symbols p).nodes
   are = (lists-whole symbols p ready free shallow).nodes
@@ -218,11 +213,11 @@ module _ (symbols : Bool) (p : Prepared) (ready : IsReady p) (free : names_taken
 
   -- ---- the first
   pub local-none : walked (fixup_lists symbols p) ≡ with_locals symbols p (first_local p 0)
-  local-none = λ i. record { nodes = sym (append-nil (walked (fixup_lists symbols p)).nodes) i; properties = sym (append-nil (walked (fixup_lists symbols p)).properties) i }
+  local-none = nothing-behind (walked (fixup_lists symbols p))
 
   pub top-new : is_listed (local_path []) (walked (fixup_lists symbols p)).nodes ≡ false
   top-new = sym (there-same (fixup_lists symbols p) (fixups-whole symbols p ready free).nodes (local_path [])) ∙ local-new symbols p ready free plugin
 
-  pub top-there : (path : ℕ → Path) (xs : List LocalFixup) → local_definitions path xs ≡ all_local p → 0 < length xs → has_local p [] ≡ true
-  top-there path [] is some = absurd (omega (arith, some))
-  top-there path (x ∷ xs) is some = there symbols p ready free shallow _ _ (sym is)
+  pub top-there : (xs : List LocalFixup) → local_definitions p xs ≡ all_local p → 0 < length xs → has_local p [] ≡ true
+  top-there [] is some = absurd (omega (arith, some))
+  top-there (x ∷ xs) is some = there symbols p ready free shallow _ _ (sym is)

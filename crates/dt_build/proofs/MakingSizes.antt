@@ -2,16 +2,17 @@
 use Rattle.std.proofs.Common.{◌≡◌, ℕ, ◌+◌, ◌*◌, ◌-◌, ◌^◌, min, Bool, true, false, List, [], ◌∷◌, length, map, refl, ap, ◌∙◌, append-nil, arith}
 use Rattle.std.specs.Int.{to_be_bytes, w32}
 use Rattle.std.proofs.lemmas.List.{length-map}
-use Rattle.dt_meaning.specs.Fixups.{fixups, local_fixups, sites}
+use Rattle.dt_meaning.specs.Fixups.{fixups, local_fixups}
 use Rattle.dt_meaning.specs.Phandles.{PathPhandle}
-use Rattle.dt_meaning.specs.Resolved.{phandle_property, symbol, when, with_more}
+use Rattle.dt_meaning.specs.Resolved.{phandle_property, symbol}
 use Rattle.dt_tree_builder.specs.Sizes.{size_in}
 use Rattle.dt_tree_builder.proofs.SizesOfMaps.{size-append}
 use Rattle.dt_edit.specs.Said.{tree_of}
 use Rattle.dt_resolve.specs.declared.prepared.Prepared.{Prepared}
 use Rattle.dt_resolve.specs.NodePhandles.{path_phandle_of}
-use Rattle.dt_build.specs.Private.Made.{all_phandles, fixup_lists, founds, lists, made_properties, made_sites, new_phandles, plain_properties, symbol_lists}
-use Rattle.dt_build.proofs.SymbolsLast.{with-none}
+use Rattle.dt_build.specs.Private.FixupSites.{sites_size}
+use Rattle.dt_build.specs.Private.Made.{fixup_lists, lists, made_properties, made_sites, new_phandles, plain_properties, symbol_lists}
+use Rattle.dt_build.proofs.SiteSizes.{sizes-of-sites}
 
 phandles-long : (xs : List PathPhandle) → size_in (map phandle_property xs) ≡ 4 * length xs
 phandles-long [] = refl
@@ -30,18 +31,12 @@ size-plain p = ap size_in (append-nil (made_properties p))
 pub size-symbols : (p : Prepared) → size_in (symbol_lists true p).properties ≡ size_in (made_properties p) + size_in (map symbol (tree_of p.live).labels)
 size-symbols p = size-append (made_properties p) (map symbol (tree_of p.live).labels)
 
--- an ordinary source has no places
-pub size-ordinary : (symbols : Bool) (p : Prepared) → p.plugin ≡ false → size_in (lists symbols p).properties ≡ size_in (symbol_lists symbols p).properties
-size-ordinary symbols p ordinary =
-    let r = symbol_lists symbols p in
-    ap (λ b. let xs = when b (sites (all_phandles p) (founds p)) in size_in (with_more (local_fixups xs []) (with_more (fixups xs []) r)).properties) ordinary
-    ∙ ap (λ l. size_in l.properties) (with-none (with_more [] r) ∙ with-none r)
-
-pub size-fixups : (symbols : Bool) (p : Prepared)
-    → size_in (lists symbols p).properties ≡ size_in (symbol_lists symbols p).properties + size_in (fixups (made_sites p) []) + size_in (local_fixups (made_sites p) [])
-size-fixups symbols p =
+pub size-lists : (symbols : Bool) (p : Prepared) → size_in (lists symbols p).properties ≡ size_in (symbol_lists symbols p).properties + sites_size (made_sites p)
+size-lists symbols p =
+    let sizes = sizes-of-sites (made_sites p) [] [] in
     size-append (fixup_lists symbols p).properties (local_fixups (made_sites p) [])
     ∙ ap (λ n. n + size_in (local_fixups (made_sites p) [])) (size-append (symbol_lists symbols p).properties (fixups (made_sites p) []))
+    ∙ omega (arith, sizes)
 
 -- sums as far as numbers reach
 pub sum-capped : (whole x y size more sum : ℕ) → whole ≡ x + y → size ≡ min x (2 ^ 64 - 1) → more ≡ min y (2 ^ 64 - 1) → sum ≡ min (size + more) (2 ^ 64 - 1) → sum ≡ min whole (2 ^ 64 - 1)

@@ -1,7 +1,7 @@
--- The places of phandles are at nodes of the tree, and their names and labels are names.
+-- The names of the properties that hold phandles, and the labels there, are names.
 use Rattle.std.proofs.Common.{◌≡◌, ◌+◌, ◌<◌, ℕ, Bool, true, false, List, [], ◌∷◌, length, get_or, map, Option, sym, subst}
 use Rattle.std.specs.Prelude.{All}
-use Rattle.dt_meaning.specs.Paths.{Path, is_listed}
+use Rattle.dt_meaning.specs.Paths.{Path}
 use Rattle.dt_meaning.specs.Edits.{Definition}
 use Rattle.dt_meaning.specs.References.{Found, Bytes, Cell, Open, PathText, in_order}
 use Rattle.dt_meaning.specs.Phandles.{PathPhandle}
@@ -9,17 +9,15 @@ use Rattle.dt_meaning.specs.Fixups.{Site, bytes_of, label_found, sites, sites_in
 use Rattle.dt_meaning.specs.Resolved.{when}
 use Rattle.dt_edit.specs.Said.{Parts, tree_of}
 use Rattle.dt_live.specs.declared.preorder.properties.NodeProperty.{NodeProperty}
-use Rattle.dt_live.proofs.Each.{Each, each-all, each-append, each-flat, each-more, each-of, each-same}
+use Rattle.dt_live.proofs.Each.{Each, each-all, each-append, each-flat, each-more, each-of}
 use Rattle.dt_resolve.specs.declared.prepared.Prepared.{Prepared}
 use Rattle.dt_resolve.specs.Private.ReadProperty.{read_property}
 use Rattle.dt_resolve.proofs.ReadOrder.{read-order}
 use Rattle.dt_build.specs.Private.Made.{all_phandles, founds, made_sites}
 use Rattle.dt_build.specs.Private.Ready.{IsNamedFound, IsReady}
 use Rattle.dt_build.proofs.ApartLists.{each-from}
-use Rattle.dt_build.proofs.ApartPhandles.{bare, keys-found}
 use Rattle.dt_build.proofs.FixupLists.{IsOfLabel}
 use Rattle.dt_build.proofs.FoundNames.{each-walked}
-use Rattle.dt_build.proofs.ListsOfPrepared.{walk-there}
 use Rattle.dt_build.proofs.NamedSources.{IsName}
 
 -- ---- what is true of the path and the name of each property, and of the labels in it
@@ -79,12 +77,6 @@ module _ (p : Prepared) (ready : IsReady p) where
   walk-names : Each (λ e. IsName e.name) (in_order (tree_of p.live))
   walk-names = each-walked (λ e. IsName e.name) (tree_of p.live) (each-of (λ e. IsName e.name) (tree_of p.live).properties ready.named.properties)
 
-  founds-names : Each (λ e. IsName e.name) (founds p)
-  founds-names =
-      let s = tree_of p.live in
-      each-from (λ e. IsName e.name) bare (founds p)
-      (subst (Each (λ e. IsName e.name)) (sym (keys-found p.plugin s (in_order s) (founds p) ready.found)) (each-same (λ e. IsName e.name) bare (in_order s) walk-names))
-
   -- the name of each property in preorder is one
   pub property-named : (i : ℕ) (x : NodeProperty Parts) → i < length p.in_preorder.properties.items → x ≡ get_or p.in_preorder.properties.items i x → IsName x.name.now
   property-named i x below at =
@@ -95,13 +87,3 @@ module _ (p : Prepared) (ready : IsReady p) where
   -- the label of a place is a name
   pub made-labelled : Each (λ x. IsOfLabel IsName x.label) (made_sites p)
   made-labelled = each-when (λ x. IsOfLabel IsName x.label) p.plugin (sites (all_phandles p) (founds p)) (sites-labelled (all_phandles p) (founds p) founds-labelled)
-
-  -- so is the property's
-  pub made-names : Each (λ x. IsName x.name) (made_sites p)
-  made-names = each-when (λ x. IsName x.name) p.plugin (sites (all_phandles p) (founds p)) (sites-so (all_phandles p) (λ q n. IsName n) (founds p) founds-names)
-
-  -- and its node is one of the tree
-  pub made-nodes : Each (λ x. is_listed x.path ([] ∷ (tree_of p.live).nodes) ≡ true) (made_sites p)
-  made-nodes =
-      each-when (λ x. is_listed x.path ([] ∷ (tree_of p.live).nodes) ≡ true) p.plugin (sites (all_phandles p) (founds p))
-      (sites-so (all_phandles p) (λ q n. is_listed q ([] ∷ (tree_of p.live).nodes) ≡ true) (founds p) (walk-there (tree_of p.live).nodes ready.standing (founds p) ready.walked))

@@ -1,16 +1,13 @@
 -- The fixup sites of all values that were found are those of a walk over the properties and the targets.
-use Rattle.std.proofs.Common.{◌≡◌, ℕ, Bool, true, false, List, [], ◌∷◌, ◌++◌, map, Option, Ok, sym, ap, ap₂, ◌∙◌, append_assoc, append-nil, drop, length, arith}
+use Rattle.std.proofs.Common.{◌≡◌, ℕ, Bool, List, [], ◌∷◌, ◌++◌, map, Option, Ok, sym, ap, ap₂, ◌∙◌, append_assoc, append-nil}
 use Rattle.std.specs.List.{flat_map}
 use Rattle.std.specs.Option.{option_map}
-use Rattle.std.proofs.Math.ListN.{drop_of_length-le}
-use Rattle.dt_source.specs.declared.tree.Part.{Part}
 use Rattle.dt_meaning.specs.Paths.{Path}
 use Rattle.dt_meaning.specs.Syntax.{Piece}
 use Rattle.dt_meaning.specs.Edits.{Definition, State}
 use Rattle.dt_meaning.specs.References.{Found, each, found_in, found_value}
 use Rattle.dt_meaning.specs.Phandles.{PathPhandle}
 use Rattle.dt_meaning.specs.Fixups.{sites, sites_in}
-use Rattle.dt_meaning.specs.Resolved.{when}
 use Rattle.dt_live.specs.declared.live_tree.NodeRow.{NodeRow}
 use Rattle.dt_live.specs.Rows.{node_path, path_of}
 use Rattle.dt_live.specs.declared.preorder.properties.NodeProperty.{NodeProperty}
@@ -19,10 +16,9 @@ use Rattle.dt_resolve.specs.declared.prepared.Prepared.{Prepared}
 use Rattle.dt_resolve.specs.Private.ReadProperty.{read_property}
 use Rattle.dt_resolve.specs.Targets.{target_path}
 use Rattle.dt_resolve.proofs.ReadOrder.{read-order}
-use Rattle.dt_build.specs.Private.Made.{founds, all_phandles, made_sites}
+use Rattle.dt_build.specs.Private.Made.{founds, all_phandles}
 use Rattle.dt_build.specs.Private.Ready.{IsReady}
-use Rattle.dt_build.specs.Private.FixupSites.{all_left, capped, first_value, sites_left}
-use Rattle.dt_build.proofs.SiteSteps.{left-first}
+use Rattle.dt_build.specs.Private.FixupSites.{all_left}
 use Rattle.dt_build.proofs.ValueFounds.{each-split, value-is, value-found}
 
 abbrev targets_of : List (Definition (List Found)) → List (Option Path)
@@ -51,19 +47,3 @@ module _ (p : Prepared) (ready : IsReady p) where
       read-sites (all_phandles p) p.plugin (tree_of p.live) p.live.nodes.items p.in_preorder.properties.items (founds p) p.resolution.targets.all.items []
       (ap (each (found_value p.plugin (tree_of p.live))) (read-order p.live p.in_preorder.properties.items ready.properties) ∙ ready.found)
       (ready.targets.all ∙ sym (append-nil (targets_of (founds p))))
-
-  -- as the code takes them
-  pub sites-taken : (all xs : List (NodeProperty Parts)) (ps : List Part) (ts : List (Option ℕ)) (skipped : ℕ) → all ≡ p.in_preorder.properties.items → ts ≡ p.resolution.targets.all.items → xs ≡ drop skipped all → ps ≡ first_value xs
-      → p.plugin ≡ true → skipped ≡ 0 → map capped (sites_left (all_phandles p) (node_path p.live) xs ps ts 0) ≡ map capped (made_sites p)
-  sites-taken all xs ps ts skipped whole targets taken first on none =
-      let here : xs ≡ p.in_preorder.properties.items = taken ∙ ap₂ (λ k ys. drop k ys) none whole in
-      ap₂ (λ us vs. map capped (sites_left (all_phandles p) (node_path p.live) xs us vs 0)) first targets
-      ∙ ap (λ ys. map capped (sites_left (all_phandles p) (node_path p.live) ys (first_value ys) p.resolution.targets.all.items 0)) here
-      ∙ ap (map capped) (left-first (all_phandles p) (node_path p.live) p.in_preorder.properties.items p.resolution.targets.all.items ∙ all-sites)
-      ∙ ap (λ t. map capped (when t (sites (all_phandles p) (founds p)))) (sym on)
-
-pub no-sites : (p : Prepared) (all xs : List (NodeProperty Parts)) (ps : List Part) (ts : List (Option ℕ)) (skipped : ℕ) → xs ≡ drop skipped all → p.plugin ≡ false → skipped ≡ length all
-    → map capped (sites_left (all_phandles p) (node_path p.live) xs ps ts 0) ≡ map capped (made_sites p)
-no-sites p all xs ps ts skipped taken off long =
-    ap (λ ys. map capped (sites_left (all_phandles p) (node_path p.live) ys ps ts 0)) (taken ∙ drop_of_length-le all (omega (arith, long)))
-    ∙ ap (λ t. map capped (when t (sites (all_phandles p) (founds p)))) (sym off)

@@ -11,11 +11,13 @@ ghost use Rattle.dt_edit.specs.Said.{tree_of};
 ghost use Rattle.dt_resolve.specs.Prepared.{IsPrepared};
 ghost use Rattle.dt_resolve.specs.Said.{meaning_of};
 ghost use Rattle.dt_build.specs.Built.{IsBuilt, IsTreeOf, Refuses};
+ghost use Rattle.dt_build.specs.Private.FixupSites.{AreSites};
 ghost use Rattle.dt_build.specs.Private.Fitting.{IsFitting};
 ghost use Rattle.dt_build.specs.Private.Made.{lists};
 ghost use Rattle.dt_build.specs.Private.Ready.{IsReady};
 
-use crate::local_sizes::is_local_too_deep;
+use crate::fixup_sites::{FixupSite, find_sites};
+use crate::local_depth::is_local_too_deep;
 use crate::making::make;
 use crate::node_phandles::number;
 use crate::sizes::total_size;
@@ -31,19 +33,21 @@ fn fitting_tree(
     alloc: Global,
     source: &Source<'_>,
     prepared: &Prepared<'_, '_>,
+    sites: &[FixupSite<'_>],
     symbols: bool,
     limit: usize,
 ) -> Result<Option<Tree>, AllocError>
     requires ready { IsReady prepared.now }
+    requires sites { AreSites prepared.now sites.now }
     requires free { names_taken symbols prepared.now.plugin (tree_of prepared.now.live) ≡ false }
     requires shallow { list_any is_too_deep (lists symbols prepared.now).nodes ≡ false }
     ensures { IfOk result (λ tree. IsFitting symbols (meaning_of source.now) prepared.now limit tree) }
 {
-    if total_size(prepared, symbols) > limit {
+    if total_size(prepared, sites, symbols) > limit {
         return Ok(None);
     }
     let node_phandles = number(alloc, prepared)?;
-    let root = make(alloc, prepared, &node_phandles, symbols)?;
+    let root = make(alloc, prepared, &node_phandles, sites, symbols)?;
     let reserves = Vec::from_slice(alloc, source.reserves.as_slice())?;
     match Tree::new(reserves, 0, root) {
         Ok(tree) => Ok(Some(tree)),
@@ -64,11 +68,12 @@ fn prepared_tree(
     requires prepared { (es : List (Definition (List Found))) × IsPrepared symbols (meaning_of source.now) es prepared.now }
     ensures { MatchResult result (λ tree. IsBuilt symbols (meaning_of source.now) limit tree) (λ e. Refuses symbols (meaning_of source.now) e) }
 {
+    let sites = find_sites(alloc, prepared)?;
     // behind the edits only the local fixups of a node is deeper than the node
-    if is_local_too_deep(prepared) {
+    if is_local_too_deep(prepared, sites.as_slice()) {
         return Err(BuildError::TooDeep);
     }
-    let tree = fitting_tree(alloc, source, prepared, symbols, limit)?;
+    let tree = fitting_tree(alloc, source, prepared, sites.as_slice(), symbols, limit)?;
     Ok(tree)
 }
 

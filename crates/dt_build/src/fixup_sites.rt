@@ -1,63 +1,27 @@
-//! The fixup sites in a plugin's values, one after the other in the order of the walk.
-ghost use Rattle.std.specs.Prelude.{◌≡◌, ◌<◌, ◌++◌, ℕ, IfSome, length, map};
-ghost use Rattle.dt_meaning.specs.Fixups.{label_found};
+//! The fixup sites of a plugin, found once: one for each phandle in its values, in the order of the walk.
+ghost use Rattle.std.specs.Prelude.{◌≡◌, ◌<◌, ◌+◌, ◌++◌, ℕ, All, IfOk, OnOk, length, map};
+ghost use Rattle.dt_meaning.specs.Fixups.{bytes_of, label_found, sites_in};
 ghost use Rattle.dt_meaning.specs.Paths.{Path};
-ghost use Rattle.dt_live.specs.Rows.{IsNode, node_path};
-ghost use Rattle.dt_build.specs.Private.Made.{made_sites};
+ghost use Rattle.dt_live.specs.Rows.{node_path};
+ghost use Rattle.dt_resolve.specs.Targets.{IsKnown};
+ghost use Rattle.dt_resolve.specs.declared.prepared.Prepared.{Prepared};
+ghost use Rattle.dt_build.specs.Private.Made.{all_phandles};
 ghost use Rattle.dt_build.specs.Private.Ready.{IsReady};
-ghost use Rattle.dt_build.specs.Private.FixupSites.{IsWalk, capped, first_value, left, left_behind, site_with, site_list, weight};
-ghost use Rattle.dt_build.specs.Private.Values.{found_of, label_in};
+ghost use Rattle.dt_build.specs.Private.FixupSites.{AreBetween, AreSites, key_at, site_of, site_with};
+ghost use Rattle.dt_build.specs.Private.Values.{found_of, founds_of, label_in};
 
-use crate::value::{part_size, target_at, target_count};
-use dt_live::NodeProperty;
+use crate::value::{part_size, target_at, target_count, targets_behind};
 use dt_resolve::Prepared;
 use dt_source::{Part, Reference};
-use dt_tree::behind;
+use std::alloc::{AllocError, Global};
 
-/// The site of a phandle in a property's value, with the label where no node of the source has it. An offset ends at the
-/// greatest number.
+/// A phandle in a value: the place of its property in preorder, the label where no node of the source has it, and how many bytes
+/// of the value stand before it.
 #[derive(Clone, Copy)]
 pub(crate) struct FixupSite<'d> {
-    pub(crate) node: usize,
-    pub(crate) name: &'d [u8],
+    pub(crate) property: usize,
     pub(crate) label: Option<&'d [u8]>,
     pub(crate) offset: usize,
-}
-
-/// What is left of a walk over values: the properties from that of the next part on, the parts of its value that are left, the
-/// targets of these and of all behind them, and how many bytes stand before the next part.
-#[derive(Clone, Copy)]
-pub(crate) struct Walk<'p, 'd, 't> {
-    pub(crate) properties: &'p [NodeProperty<'d, &'d [Part<'t>]>],
-    pub(crate) parts: &'d [Part<'t>],
-    pub(crate) targets: &'p [Option<usize>],
-    pub(crate) offset: usize,
-}
-
-fn first_parts<'d, 't>(properties: &[NodeProperty<'d, &'d [Part<'t>]>]) -> &'d [Part<'t>]
-    ensures { result.now ≡ first_value properties.now }
-{
-    if properties.is_empty() {
-        return &[];
-    }
-    properties[0].value
-}
-
-/// The walk over all values of a plugin. Another source has no sites.
-pub(crate) fn whole_walk<'p, 'd, 't>(prepared: &'p Prepared<'d, 't>) -> Walk<'p, 'd, 't>
-    requires { IsReady prepared.now }
-    ensures sound { IsWalk prepared.now result }
-    ensures left { left prepared.now result ≡ map capped (made_sites prepared.now) }
-{
-    let all = prepared.in_preorder.properties.as_slice();
-    let skipped = if prepared.plugin { 0 } else { all.len() };
-    let properties = behind(all, skipped);
-    Walk {
-        properties,
-        parts: first_parts(properties),
-        targets: prepared.resolution.targets.all.as_slice(),
-        offset: 0,
-    }
 }
 
 fn label_of<'t>(reference: &Reference<'t>) -> &'t [u8]
@@ -69,80 +33,94 @@ fn label_of<'t>(reference: &Reference<'t>) -> &'t [u8]
     }
 }
 
-// The site of a part's phandle, where the part is one.
-fn site_of_part<'d>(
-    node_property: &NodeProperty<'d, &'d [Part<'d>]>,
+// Puts the site of a part behind the others, where it is a phandle.
+fn put_site<'d>(
+    sites: &mut Vec<FixupSite<'d>>,
+    property: usize,
     part: &Part<'d>,
     target: Option<usize>,
     offset: usize,
-) -> Option<FixupSite<'d>>
-    ensures place { (path : ℕ → Path) → site_list path result ≡ map (site_with (path node_property.now.node) node_property.now.name.now offset) (label_found (found_of path part.now target)) }
-    ensures node { IfSome result (λ site. site.node ≡ node_property.now.node) }
+) -> Result<(), AllocError>
+    requires places { AreBetween 0 (property + 1) sites.old.items }
+    ensures places { OnOk result (AreBetween 0 (property + 1) sites.new.items) }
+    ensures sites { (p : Prepared) (path : ℕ → Path) → OnOk result (map (site_of p) sites.new.items ≡ map (site_of p) sites.old.items ++ map (site_with (key_at p property).path (key_at p property).name offset) (label_found (found_of path part.now target))) }
 {
     let label = match (part, target) {
         (Part::Phandle(_), Some(_)) => None,
         (Part::Phandle(reference), None) => Some(label_of(reference)),
-        (Part::Bytes(_), _) => return None,
-        (Part::Path(_), _) => return None,
+        (Part::Bytes(_), _) => return Ok(()),
+        (Part::Path(_), _) => return Ok(()),
     };
-    Some(FixupSite {
-        node: node_property.node,
-        name: node_property.name,
+    sites.push(FixupSite {
+        property,
         label,
         offset,
-    })
+    })?;
+    Ok(())
 }
 
-/// The site of the next part's phandle, where a part is left and is one.
-pub(crate) fn site_at<'d>(
+// Where the next part of a value begins.
+fn offset_behind(
     prepared: &Prepared<'_, '_>,
-    at: Walk<'_, 'd, 'd>,
-) -> Option<FixupSite<'d>>
-    requires sound { IsWalk prepared.now at }
-    requires more { 0 < length at.properties.now }
-    ensures left { left prepared.now at.entry ≡ site_list (node_path prepared.now.live) result ++ left_behind prepared.now at.entry }
-    ensures known { IfSome result (λ site. IsNode prepared.now.live site.node) }
+    part: &Part<'_>,
+    target: Option<usize>,
+    offset: usize,
+) -> Result<usize, AllocError>
+    requires ready { IsReady prepared.now }
+    requires known { IsKnown prepared.now.live target }
+    ensures { IfOk result (λ next. next ≡ offset + length (bytes_of (all_phandles prepared.now) (found_of (node_path prepared.now.live) part.now target))) }
 {
-    let _prepared = prepared;
-    match at.parts.get(0) {
-        None => None,
-        Some(part) => {
-            let node_property = at.properties[0];
-            site_of_part(&node_property, part, target_at(at.targets, 0), at.offset)
-        }
+    let next = offset.saturating_add(part_size(prepared, part, target));
+    // a value of so many bytes doesn't fit into memory
+    if next == usize::MAX {
+        return Err(AllocError);
     }
+    Ok(next)
 }
 
-/// The walk behind the next part, or at the next property's value where no part is left.
-pub(crate) fn walk_behind<'p, 'd, 't>(
-    prepared: &Prepared<'d, 't>,
-    at: Walk<'p, 'd, 't>,
-) -> Walk<'p, 'd, 't>
+// Puts the sites of a property's value behind the others.
+fn put_sites<'d>(
+    sites: &mut Vec<FixupSite<'d>>,
+    prepared: &Prepared<'_, '_>,
+    property: usize,
+    value: &[Part<'d>],
+    targets: &[Option<usize>],
+) -> Result<(), AllocError>
     requires ready { IsReady prepared.now }
-    requires sound { IsWalk prepared.now at }
-    requires more { 0 < length at.properties.now }
-    ensures sound { IsWalk prepared.now result }
-    ensures left { left prepared.now result ≡ left_behind prepared.now at.entry }
-    ensures shorter { weight result < weight at.entry }
+    requires known { All (IsKnown prepared.now.live) targets.now }
+    requires places { AreBetween 0 (property + 1) sites.old.items }
+    ensures places { OnOk result (AreBetween 0 (property + 1) sites.new.items) }
+    ensures sites { OnOk result (map (site_of prepared.now) sites.new.items ≡ map (site_of prepared.now) sites.old.items ++ sites_in (all_phandles prepared.now) (key_at prepared.now property).path (key_at prepared.now property).name 0 (founds_of (node_path prepared.now.live) value.now targets.now)) }
 {
-    match at.parts.get(0) {
-        None => {
-            let properties = behind(at.properties, 1);
-            Walk {
-                properties,
-                parts: first_parts(properties),
-                targets: at.targets,
-                offset: 0,
-            }
-        }
-        Some(part) => {
-            let size = part_size(prepared, part, target_at(at.targets, 0));
-            Walk {
-                properties: at.properties,
-                parts: behind(at.parts, 1),
-                targets: behind(at.targets, target_count(part)),
-                offset: at.offset.saturating_add(size),
-            }
-        }
+    let mut used = 0;
+    let mut offset = 0;
+    for part in value {
+        let target = target_at(targets, used);
+        put_site(sites, property, part, target, offset)?;
+        offset = offset_behind(prepared, part, target, offset)?;
+        used += target_count(part);
     }
+    Ok(())
+}
+
+/// All sites of a plugin. Another source has none.
+pub(crate) fn find_sites<'d>(
+    alloc: Global,
+    prepared: &Prepared<'d, 'd>,
+) -> Result<Vec<FixupSite<'d>>, AllocError>
+    requires { IsReady prepared.now }
+    ensures { IfOk result (λ sites. AreSites prepared.now sites.items) }
+{
+    if !prepared.plugin {
+        return Ok(Vec::new(alloc));
+    }
+    let mut targets = prepared.resolution.targets.all.as_slice();
+    // each site has a target
+    let mut sites = Vec::with_capacity(alloc, targets.len())?;
+    let properties = prepared.in_preorder.properties.as_slice();
+    for (property, node_property) in properties.iter().enumerate() {
+        put_sites(&mut sites, prepared, property, node_property.value, targets)?;
+        targets = targets_behind(node_property.value, targets);
+    }
+    Ok(sites)
 }

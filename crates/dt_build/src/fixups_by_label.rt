@@ -1,16 +1,14 @@
 //! A plugin's fixups by label.
-ghost use Rattle.std.specs.Prelude.{◌≡◌, ◌<◌, ◌++◌, [], IfOk, IfSome, OnOk, Some, length};
-ghost use Rattle.dt_meaning.specs.Fixups.{appended, fixups, site_text};
-ghost use Rattle.dt_live.specs.Rows.{IsNode, node_path};
-ghost use Rattle.dt_build.specs.Private.ByLabel.{AreFine, AreIndexed, fixups_path, given, index_of};
+ghost use Rattle.std.specs.Prelude.{◌≡◌, ◌<◌, ◌-◌, ◌^◌, ◌++◌, [], IfOk, OnOk, Some, length, min};
+ghost use Rattle.dt_meaning.specs.Fixups.{appended, fixup, fixups, site_text};
+ghost use Rattle.dt_build.specs.Private.ByLabel.{AreIndexed, fixups_path, given, index_of};
 ghost use Rattle.dt_build.specs.Private.Made.{made_sites};
 ghost use Rattle.dt_build.specs.Private.Ready.{IsReady};
-ghost use Rattle.dt_build.specs.Private.FixupSites.{site_of, site_list};
+ghost use Rattle.dt_build.specs.Private.FixupSites.{AreSites, site_of};
 
-use crate::digits::append_digits;
-use crate::fixup_sites::{FixupSite, site_at, walk_behind, whole_walk};
-use crate::fixups::text_size;
-use dt_live::append_path;
+use crate::digits::{append_digits, digits_size};
+use crate::fixup_sites::FixupSite;
+use dt_live::{append_path, path_size};
 use dt_resolve::Prepared;
 use std::alloc::{AllocError, Global};
 use std::collections::BTreeMap;
@@ -29,25 +27,36 @@ pub(crate) struct FixupsByLabel<'d> {
     pub(crate) slots: BTreeMap<&'d [u8], usize>,
 }
 
+/// How many bytes the text of a site has, or the greatest number where there are more.
+pub(crate) fn text_size(prepared: &Prepared<'_, '_>, site: FixupSite<'_>) -> usize
+    requires ready { IsReady prepared.now }
+    requires place { site.property < length prepared.now.in_preorder.properties.items }
+    ensures { result ≡ min (length (site_text (site_of prepared.now site.entry))) (2 ^ 64 - 1) }
+{
+    let property = prepared.in_preorder.properties[site.property];
+    // with its zero byte
+    let path_bytes = path_size(prepared.live.nodes(), property.node);
+    let name = property
+        .name
+        .len()
+        .saturating_add(2 + digits_size(site.offset));
+    path_bytes.saturating_add(name)
+}
+
 // Counts the text of a site among those of its label, where it has one.
 fn count_site<'d>(
     sizes: &mut BTreeMap<&'d [u8], usize>,
     prepared: &Prepared<'_, '_>,
-    site: Option<FixupSite<'d>>,
+    site: FixupSite<'d>,
 ) -> Result<(), AllocError>
     requires ready { IsReady prepared.now }
-    requires known { IfSome site (λ s. IsNode prepared.now.live s.node) }
+    requires place { site.property < length prepared.now.in_preorder.properties.items }
 {
-    let size = text_size(prepared, site);
-    let site = match site {
-        Some(site) => site,
-        None => return Ok(()),
-    };
     let label = match site.label {
         Some(label) => label,
         None => return Ok(()),
     };
-    let sum = room_of(sizes, label).saturating_add(size);
+    let sum = room_of(sizes, label).saturating_add(text_size(prepared, site));
     sizes.insert(label, sum)?;
     Ok(())
 }
@@ -55,15 +64,15 @@ fn count_site<'d>(
 // How long the texts of each label are together: room is taken once for them.
 fn label_sizes<'d>(
     alloc: Global,
-    prepared: &Prepared<'d, 'd>,
+    prepared: &Prepared<'_, '_>,
+    sites: &[FixupSite<'d>],
 ) -> Result<BTreeMap<&'d [u8], usize>, AllocError>
-    requires { IsReady prepared.now }
+    requires ready { IsReady prepared.now }
+    requires sites { AreSites prepared.now sites.now }
 {
     let mut sizes = BTreeMap::new(alloc);
-    let mut at = whole_walk(prepared);
-    while !at.properties.is_empty() {
-        count_site(&mut sizes, prepared, site_at(prepared, at))?;
-        at = walk_behind(prepared, at);
+    for site in sites {
+        count_site(&mut sizes, prepared, *site)?;
     }
     Ok(sizes)
 }
@@ -102,17 +111,18 @@ fn index_of_label<'d>(
 fn append_text(
     text: &mut Vec<u8>,
     prepared: &Prepared<'_, '_>,
-    site: &FixupSite<'_>,
+    site: FixupSite<'_>,
 ) -> Result<(), AllocError>
     requires ready { IsReady prepared.now }
-    requires known { IsNode prepared.now.live site.now.node }
-    ensures { OnOk result (text.new.items ≡ text.old.items ++ site_text (site_of (node_path prepared.now.live) site.now)) }
+    requires place { site.property < length prepared.now.in_preorder.properties.items }
+    ensures { OnOk result (text.new.items ≡ text.old.items ++ site_text (site_of prepared.now site.entry)) }
 {
-    append_path(text, prepared.live.nodes(), site.node)?;
+    let property = prepared.in_preorder.properties[site.property];
+    append_path(text, prepared.live.nodes(), property.node)?;
     // its zero byte
     text.pop();
     text.push(b':')?;
-    text.extend_from_slice(site.name)?;
+    text.extend_from_slice(property.name)?;
     text.push(b':')?;
     append_digits(text, site.offset)?;
     text.push(0)?;
@@ -120,60 +130,45 @@ fn append_text(
 }
 
 // Puts a site among the fixups of its label, where it has one.
-fn put_site<'d>(
+fn put_text<'d>(
     alloc: Global,
     prepared: &Prepared<'_, '_>,
     sizes: &BTreeMap<&'d [u8], usize>,
     by_label: &mut FixupsByLabel<'d>,
-    site: Option<FixupSite<'d>>,
+    site: FixupSite<'d>,
 ) -> Result<(), AllocError>
     requires ready { IsReady prepared.now }
-    requires known { IfSome site (λ s. IsNode prepared.now.live s.node) }
+    requires place { site.property < length prepared.now.in_preorder.properties.items }
     requires indexed { AreIndexed by_label.old }
     ensures indexed { OnOk result (AreIndexed by_label.new) }
-    ensures given { OnOk result (given by_label.new.labels.items ≡ fixups (site_list (node_path prepared.now.live) site.entry) (given by_label.old.labels.items)) }
-    ensures fine { OnOk result (AreFine (site_list (node_path prepared.now.live) site.entry)) }
+    ensures given { OnOk result (given by_label.new.labels.items ≡ fixup (site_of prepared.now site.entry).label (site_of prepared.now site.entry) (given by_label.old.labels.items)) }
 {
-    let site = match site {
-        Some(site) => site,
-        None => return Ok(()),
-    };
     let label = match site.label {
         Some(label) => label,
         None => return Ok(()),
     };
-    // values of 2^64 bytes don't fit into memory
-    if site.offset == usize::MAX {
-        return Err(AllocError);
-    }
     let slot = index_of_label(alloc, by_label, label, room_of(sizes, label))?;
-    append_text(&mut by_label.labels[slot].text, prepared, &site)?;
+    append_text(&mut by_label.labels[slot].text, prepared, site)?;
     Ok(())
 }
 
 /// All fixups by label, in order of first reference.
 pub(crate) fn collect_by_label<'d>(
     alloc: Global,
-    prepared: &Prepared<'d, 'd>,
+    prepared: &Prepared<'_, '_>,
+    sites: &[FixupSite<'d>],
 ) -> Result<FixupsByLabel<'d>, AllocError>
-    requires { IsReady prepared.now }
+    requires ready { IsReady prepared.now }
+    requires sites { AreSites prepared.now sites.now }
     ensures { IfOk result (λ by_label. given by_label.labels.items ≡ fixups (made_sites prepared.now) []) }
 {
-    let sizes = label_sizes(alloc, prepared)?;
+    let sizes = label_sizes(alloc, prepared, sites)?;
     let mut by_label = FixupsByLabel {
         labels: Vec::new(alloc),
         slots: BTreeMap::new(alloc),
     };
-    let mut at = whole_walk(prepared);
-    while !at.properties.is_empty() {
-        put_site(
-            alloc,
-            prepared,
-            &sizes,
-            &mut by_label,
-            site_at(prepared, at),
-        )?;
-        at = walk_behind(prepared, at);
+    for site in sites {
+        put_text(alloc, prepared, &sizes, &mut by_label, *site)?;
     }
     Ok(by_label)
 }

@@ -1,23 +1,23 @@
 //! The local fixups of a plugin's nodes below the root's child `__local_fixups__`.
-ghost use Rattle.std.specs.Prelude.{◌≡◌, ◌+◌, ◌||◌, ◌∷◌, ℕ, [], true, false, All, IfOk, length, map, replicate, slice_index_or};
+ghost use Rattle.std.specs.Prelude.{◌≡◌, ◌≤◌, ◌<◌, ◌+◌, ◌||◌, ℕ, [], true, false, All, IfOk, OnOk, length, map, replicate, slice_index_or};
 ghost use Rattle.std.specs.List.{list_any};
-ghost use Rattle.dt_meaning.specs.Names.{local_fixups_name};
-ghost use Rattle.dt_meaning.specs.Fixups.{local_fixups};
 ghost use Rattle.dt_meaning.specs.Paths.{is_listed};
 ghost use Rattle.dt_meaning.specs.References.{held};
 ghost use Rattle.dt_meaning.specs.Resolved.{fronts, is_too_deep, names_taken};
 ghost use Rattle.dt_live.specs.Rows.{is_standing, node_path};
 ghost use Rattle.dt_edit.specs.Said.{tree_of};
 ghost use Rattle.dt_tree_builder.specs.Lists.{defined_at};
-ghost use Rattle.dt_tree_builder.specs.Builders.{built_lists, last_path};
+ghost use Rattle.dt_tree_builder.specs.Builders.{built_lists};
 ghost use Rattle.dt_tree_builder.specs.Standing.{walked};
-ghost use Rattle.dt_build.specs.Private.Made.{fixup_lists, lists, made_sites};
-ghost use Rattle.dt_build.specs.Private.LocalFixups.{IsAtNode, local_definitions, local_path};
+ghost use Rattle.dt_build.specs.Private.Made.{fixup_lists, lists as lists_of};
+ghost use Rattle.dt_build.specs.Private.FixupSites.{AreSites, key_at};
+ghost use Rattle.dt_build.specs.Private.LocalFixups.{AreListsFrom, AreMadeTo, AreMarks, IsAtNode, local_definitions, local_path};
 ghost use Rattle.dt_build.specs.Private.Ready.{IsReady};
 
+use crate::fixup_sites::FixupSite;
 use crate::local_properties::{LocalFixup, local_properties};
 use dt_resolve::Prepared;
-use dt_tree::{Property, lawful_name};
+use dt_tree::{Bytes, Property, lawful_name};
 use dt_tree_builder::TreeBuilder;
 use std::alloc::{AllocError, Global};
 use std::mem;
@@ -45,13 +45,14 @@ fn local_marks(
     locals: &[LocalFixup],
 ) -> Result<Vec<bool>, AllocError>
     requires ready { IsReady prepared.now }
-    requires nodes { All (λ x. IsAtNode prepared.now x.node) locals.now }
+    requires places { All (λ x. x.property < length prepared.now.in_preorder.properties.items) locals.now }
     ensures count { IfOk result (λ marks. length marks.items ≡ length prepared.now.live.nodes.items + 1) }
-    ensures marks { IfOk result (λ marks. (k : ℕ) → is_standing prepared.now.live k ≡ true → slice_index_or marks.items k false ≡ list_any (λ x. is_listed (node_path prepared.now.live k) (fronts (node_path prepared.now.live x.node))) locals.now) }
+    ensures marks { IfOk result (λ marks. (k : ℕ) → is_standing prepared.now.live k ≡ true → slice_index_or marks.items k false ≡ list_any (λ x. is_listed (node_path prepared.now.live k) (fronts (key_at prepared.now x.property).path)) locals.now) }
 {
     let mut marks = vec![in alloc; false; prepared.live.nodes().len() + 1]?;
     for one in locals {
-        mark(&mut marks, prepared, one.node);
+        let property = prepared.in_preorder.properties[one.property];
+        mark(&mut marks, prepared, property.node);
     }
     Ok(marks)
 }
@@ -74,34 +75,69 @@ fn local_lists(
     locals: Vec<LocalFixup>,
 ) -> Result<Vec<Vec<Property>>, AllocError>
     requires ready { IsReady prepared.now }
-    requires nodes { All (λ x. IsAtNode prepared.now x.node) locals.items }
+    requires places { All (λ x. x.property < length prepared.now.in_preorder.properties.items) locals.items }
     ensures count { IfOk result (λ lists. length lists.items ≡ length prepared.now.live.nodes.items + 1) }
-    ensures lists { IfOk result (λ lists. (k : ℕ) → is_standing prepared.now.live k ≡ true → defined_at (local_path (node_path prepared.now.live k)) (slice_index_or (map (λ list. list.items) lists.items) k []) ≡ held (local_definitions (node_path prepared.now.live) locals.items) (local_path (node_path prepared.now.live k))) }
+    ensures lists { IfOk result (λ lists. (k : ℕ) → is_standing prepared.now.live k ≡ true → defined_at (local_path (node_path prepared.now.live k)) (slice_index_or (map (λ list. list.items) lists.items) k []) ≡ held (local_definitions prepared.now locals.items) (local_path (node_path prepared.now.live k))) }
 {
     let mut lists = empty_lists(alloc, prepared.live.nodes().len() + 1)?;
     for one in locals {
-        lists[one.node].push(one.property)?;
+        let property = prepared.in_preorder.properties[one.property];
+        lists[property.node].push(Property {
+            name: lawful_name(alloc, property.name)?,
+            value: Bytes::from_vec(one.cells),
+        })?;
     }
     Ok(lists)
+}
+
+// The tree with the node at a place in preorder behind all others, where it or one below it has local fixups.
+fn with_local_node(
+    alloc: Global,
+    prepared: &Prepared<'_, '_>,
+    symbols: bool,
+    place: usize,
+    marks: &[bool],
+    lists: &mut Vec<Vec<Property>>,
+    builder: TreeBuilder,
+) -> Result<TreeBuilder, AllocError>
+    requires ready { IsReady prepared.now }
+    requires free { names_taken symbols prepared.now.plugin (tree_of prepared.now.live) ≡ false }
+    requires shallow { list_any is_too_deep (lists_of symbols prepared.now).nodes ≡ false }
+    requires plugin { prepared.now.plugin ≡ true }
+    requires some { 1 ≤ place }
+    requires below { place < length prepared.now.in_preorder.nodes.items }
+    requires marks { AreMarks prepared.now marks.now }
+    requires lists { AreListsFrom place prepared.now (map (λ list. list.items) lists.old.items) }
+    requires made { AreMadeTo symbols prepared.now place builder }
+    ensures lists { OnOk result (AreListsFrom (place + 1) prepared.now (map (λ list. list.items) lists.new.items)) }
+    ensures made { IfOk result (λ more. AreMadeTo symbols prepared.now (place + 1) more) }
+{
+    let node = prepared.in_preorder.nodes[place];
+    if !marks[node] {
+        return Ok(builder);
+    }
+    let name = lawful_name(alloc, prepared.live.nodes()[node - 1].name)?;
+    let properties = mem::replace(&mut lists[node], Vec::new(alloc));
+    let depth = prepared.live.depth(node) + 1;
+    builder.push(alloc, depth, name, properties)
 }
 
 /// The tree with the local fixups behind all other nodes, where the plugin has a phandle of its own in cells.
 pub(crate) fn with_local_fixups(
     alloc: Global,
     prepared: &Prepared<'_, '_>,
+    sites: &[FixupSite<'_>],
     symbols: bool,
     builder: TreeBuilder,
 ) -> Result<TreeBuilder, AllocError>
     requires ready { IsReady prepared.now }
+    requires sites { AreSites prepared.now sites.now }
     requires free { names_taken symbols prepared.now.plugin (tree_of prepared.now.live) ≡ false }
-    requires shallow { list_any is_too_deep (lists symbols prepared.now).nodes ≡ false }
+    requires shallow { list_any is_too_deep (lists_of symbols prepared.now).nodes ≡ false }
     requires made { built_lists builder ≡ walked (fixup_lists symbols prepared.now) }
-    ensures { IfOk result (λ whole. built_lists whole ≡ walked (lists symbols prepared.now)) }
+    ensures { IfOk result (λ whole. built_lists whole ≡ walked (lists_of symbols prepared.now)) }
 {
-    if !prepared.plugin {
-        return Ok(builder);
-    }
-    let locals = local_properties(alloc, prepared)?;
+    let locals = local_properties(alloc, prepared, sites)?;
     if locals.is_empty() {
         return Ok(builder);
     }
@@ -112,13 +148,15 @@ pub(crate) fn with_local_fixups(
     let mut builder = builder.push(alloc, 1, name, properties)?;
     let mut place = 1;
     'each: while place < prepared.in_preorder.nodes.len() {
-        let node = prepared.in_preorder.nodes[place];
-        if marks[node] {
-            let name = lawful_name(alloc, prepared.live.nodes()[node - 1].name)?;
-            let properties = mem::replace(&mut lists[node], Vec::new(alloc));
-            let depth = prepared.live.depth(node) + 1;
-            builder = builder.push(alloc, depth, name, properties)?;
-        }
+        builder = with_local_node(
+            alloc,
+            prepared,
+            symbols,
+            place,
+            marks.as_slice(),
+            &mut lists,
+            builder,
+        )?;
         place += 1;
     }
     Ok(builder)

@@ -9,8 +9,10 @@ ghost use Rattle.dt_tree_builder.specs.Builders.{built_lists};
 ghost use Rattle.dt_tree_builder.specs.Standing.{walked};
 ghost use Rattle.dt_build.specs.Private.Made.{lists, plain_lists, symbol_lists};
 ghost use Rattle.dt_build.specs.Private.Cursors.{AreNodePhandles};
+ghost use Rattle.dt_build.specs.Private.FixupSites.{AreSites};
 ghost use Rattle.dt_build.specs.Private.Ready.{IsReady};
 
+use crate::fixup_sites::FixupSite;
 use crate::fixups::with_fixups;
 use crate::local_nodes::with_local_fixups;
 use crate::node_phandles::NodePhandles;
@@ -64,10 +66,12 @@ fn with_all(
     alloc: Global,
     prepared: &Prepared<'_, '_>,
     node_phandles: &NodePhandles,
+    sites: &[FixupSite<'_>],
     symbols: bool,
 ) -> Result<TreeBuilder, AllocError>
     requires ready { IsReady prepared.now }
     requires node_phandles { AreNodePhandles prepared.now node_phandles.now }
+    requires sites { AreSites prepared.now sites.now }
     requires free { names_taken symbols prepared.now.plugin (tree_of prepared.now.live) ≡ false }
     requires shallow { list_any is_too_deep (lists symbols prepared.now).nodes ≡ false }
     ensures { IfOk result (λ builder. built_lists builder ≡ walked (lists symbols prepared.now)) }
@@ -76,8 +80,8 @@ fn with_all(
     if !prepared.plugin {
         return Ok(builder);
     }
-    let builder = with_fixups(alloc, prepared, symbols, builder)?;
-    with_local_fixups(alloc, prepared, symbols, builder)
+    let builder = with_fixups(alloc, prepared, sites, symbols, builder)?;
+    with_local_fixups(alloc, prepared, sites, symbols, builder)
 }
 
 /// The root with all below it: the nodes of the source, with symbols the labels' node, and a plugin's fixups last.
@@ -85,14 +89,16 @@ pub(crate) fn make(
     alloc: Global,
     prepared: &Prepared<'_, '_>,
     node_phandles: &NodePhandles,
+    sites: &[FixupSite<'_>],
     symbols: bool,
 ) -> Result<Node, AllocError>
     requires ready { IsReady prepared.now }
     requires node_phandles { AreNodePhandles prepared.now node_phandles.now }
+    requires sites { AreSites prepared.now sites.now }
     requires free { names_taken symbols prepared.now.plugin (tree_of prepared.now.live) ≡ false }
     requires shallow { list_any is_too_deep (lists symbols prepared.now).nodes ≡ false }
     ensures name { IfOk result (λ root. root.name ≡ []) }
     ensures map { IfOk result (λ root. path_map root ≡ map_of (lists symbols prepared.now)) }
 {
-    with_all(alloc, prepared, node_phandles, symbols)?.finish()
+    with_all(alloc, prepared, node_phandles, sites, symbols)?.finish()
 }

@@ -1,5 +1,5 @@
 -- A plugin's fixups by label (dt-object-internal, section 2).
-use Rattle.std.specs.Prelude.{◌≡◌, ℕ, suc, ◌-◌, ◌^◌, ◌<◌, List, [], ◌∷◌, Option, None, Some, option_map, if◌then◌else◌}
+use Rattle.std.specs.Prelude.{◌≡◌, ℕ, suc, List, [], ◌∷◌, Option, None, Some, option_map, if◌then◌else◌}
 use Rattle.std.specs.BTreeMap.{get_by}
 use Rattle.std.specs.Cmp.Lexicographic.{slice_cmp}
 use Rattle.std.specs.Ordering.{nat_cmp}
@@ -7,7 +7,6 @@ use Rattle.std.specs.Str.{bytes_eq}
 use Rattle.dt_meaning.specs.Names.{fixups_name}
 use Rattle.dt_meaning.specs.Paths.{Path}
 use Rattle.dt_meaning.specs.Edits.{Definition, definition}
-use Rattle.dt_meaning.specs.Fixups.{Site}
 use Rattle.dt_build.specs.declared.fixups_by_label.LabelFixups.{LabelFixups}
 use Rattle.dt_build.specs.declared.fixups_by_label.FixupsByLabel.{FixupsByLabel}
 
@@ -27,12 +26,3 @@ index_of l (g ∷ gs) = if bytes_eq l g.label.now then Some 0 else option_map su
 -- the map has the index of each label
 abbrev pub AreIndexed : FixupsByLabel → Type 0
 AreIndexed x = (l : List ℕ) → get_by (λ k. slice_cmp nat_cmp l k.now) x.slots ≡ index_of l x.labels.items
-
--- a site of an open label has an offset below the greatest number
-abbrev pub IsFine : Option (List ℕ) → ℕ → Type 0
-IsFine None o = Unit {0}
-IsFine (Some l) o = o < 2 ^ 64 - 1
-
-abbrev pub AreFine : List Site → Type 0
-AreFine [] = Unit {0}
-AreFine (x ∷ xs) = IsFine x.label x.offset × AreFine xs

@@ -1,45 +1,50 @@
 -- A plugin's local fixups, as properties of copies of its nodes (dt-object-internal, section 2).
-use Rattle.std.specs.Prelude.{◌≡◌, ℕ, Bool, true, List, [], ◌∷◌, ◌++◌, map, take, Option, None, Some}
+use Rattle.std.specs.Prelude.{◌≡◌, ◌≤◌, ◌<◌, ◌+◌, ◌==◌, ℕ, Bool, true, false, List, [], ◌∷◌, ◌++◌, length, map, take, slice_index_or, All}
 use Rattle.std.specs.List.{filter, flat_map}
-use Rattle.std.specs.Int.{to_be_bytes, w32}
 use Rattle.dt_meaning.specs.Names.{local_fixups_name}
 use Rattle.dt_meaning.specs.Paths.{Path, is_listed}
 use Rattle.dt_meaning.specs.Edits.{Definition, definition}
-use Rattle.dt_meaning.specs.Fixups.{Site, local_fixups}
+use Rattle.dt_meaning.specs.Fixups.{local_fixups}
 use Rattle.dt_meaning.specs.Phandles.{new_ones}
 use Rattle.dt_meaning.specs.References.{held, preorder}
 use Rattle.dt_meaning.specs.Resolved.{Resolved, fronts}
-use Rattle.dt_live.specs.Rows.{IsNode, is_standing}
+use Rattle.dt_live.specs.Rows.{IsNode, is_standing, node_path}
 use Rattle.dt_resolve.specs.declared.prepared.Prepared.{Prepared}
+use Rattle.dt_tree.specs.declared.property.Property.{Property}
+use Rattle.dt_tree.specs.NodeData.{NodeData}
+use Rattle.dt_tree_builder.specs.Lists.{defined_at}
+use Rattle.dt_tree_builder.specs.Builders.{built_lists, last_path}
 use Rattle.dt_tree_builder.specs.Standing.{walked}
 use Rattle.dt_edit.specs.Said.{tree_of}
+use Rattle.dt_build.specs.Private.Cursors.{path_at}
+use Rattle.dt_build.specs.Private.FixupSites.{key_at}
 use Rattle.dt_build.specs.Private.Made.{fixup_lists, made_sites}
 use Rattle.dt_build.specs.declared.local_properties.LocalFixup.{LocalFixup}
-
--- the offset of a site of a phandle of the source's own
-abbrev pub cell_bytes : Option (List ℕ) → ℕ → List ℕ
-cell_bytes None o = to_be_bytes w32 o
-cell_bytes (Some l) o = []
-
-abbrev pub cells_of : List Site → List ℕ
-cells_of [] = []
-cells_of (x ∷ xs) = cell_bytes x.label x.offset ++ cells_of xs
-
--- the same for sites at one offset
-abbrev pub cells_at : List (Option (List ℕ)) → ℕ → List ℕ
-cells_at [] o = []
-cells_at (l ∷ ls) o = cell_bytes l o ++ cells_at ls o
 
 -- the path of a node's local fixups
 abbrev pub local_path : Path → Path
 local_path q = local_fixups_name ∷ q
 
 -- the properties of local fixups
-abbrev pub local_definitions : (ℕ → Path) → List LocalFixup → List (Definition (List ℕ))
-local_definitions path [] = []
-local_definitions path (x ∷ xs) = definition (local_path (path x.node)) x.property.name x.property.value ∷ local_definitions path xs
+abbrev pub local_definitions : Prepared → List LocalFixup → List (Definition (List ℕ))
+local_definitions p [] = []
+local_definitions p (x ∷ xs) = definition (local_path (key_at p x.property).path) (key_at p x.property).name x.cells.items ∷ local_definitions p xs
 
--- the node of a local fixup stands
+-- the places of theirs
+abbrev pub places : List LocalFixup → List ℕ
+places xs = map (λ x. x.property) xs
+
+-- places in order, no two the same, all below n
+abbrev pub AreBelow : ℕ → List ℕ → Type 0
+AreBelow n [] = Unit {0}
+AreBelow n (i ∷ is) = (i < n) × All (λ j. i < j) is × AreBelow n is
+
+abbrev pub ends_with : ℕ → List ℕ → Bool
+ends_with n [] = false
+ends_with n (i ∷ []) = i == n
+ends_with n (i ∷ j ∷ js) = ends_with n (j ∷ js)
+
+-- a node that stands
 pub record IsAtNode (p : Prepared) (n : ℕ) : Type 0 where
   pub known : IsNode p.live n
   pub there : is_standing p.live n ≡ true
@@ -65,3 +70,19 @@ with_locals symbols p qs = record {
   nodes = nodes_with symbols p qs;
   properties = (walked (fixup_lists symbols p)).properties ++ flat_map (λ q. held (all_local p) (local_path q)) qs;
 }
+
+-- the tree in the making has the local fixups of the first k nodes
+pub record AreMadeTo (symbols : Bool) (p : Prepared) (k : ℕ) (bs : List NodeData) : Type 0 where
+  pub made : built_lists bs ≡ with_locals symbols p (first_local p k)
+  pub last_node : last_path bs ≡ slice_index_or ([] ∷ nodes_with symbols p (first_local p k)) (length (nodes_with symbols p (first_local p k))) []
+
+-- whether each node but the root, or one below it, has local fixups
+pub record AreMarks (p : Prepared) (ms : List Bool) : Type 0 where
+  pub count : length ms ≡ length p.live.nodes.items + 1
+  pub marks : (n : ℕ) → 1 ≤ length (node_path p.live n) → is_standing p.live n ≡ true → slice_index_or ms n false ≡ has_local p (node_path p.live n)
+
+-- the properties of the local fixups of the k-th node in preorder and of all behind it
+pub record AreListsFrom (k : ℕ) (p : Prepared) (ls : List (List Property)) : Type 0 where
+  pub count : length ls ≡ length p.live.nodes.items + 1
+  pub lists : (j : ℕ) → k ≤ j → j < length p.in_preorder.nodes.items
+      → defined_at (local_path (path_at p j)) (slice_index_or ls (slice_index_or p.in_preorder.nodes.items j 0) []) ≡ held (all_local p) (local_path (path_at p j))

@@ -2,8 +2,11 @@ use Rattle.std.proofs.Common.{sym, ◌∙◌}
 use Rattle.dt_build.proofs.BuildingSteps.{built, prepared-free, prepared-ready, too-deep}
 use Rattle.dt_build.proofs.building.prepared_tree.Goals as goal
 
-pub is_local_too_deep-requires : goal.is_local_too_deep-requires
-is_local_too_deep-requires c = prepared-ready c.args.symbols c.args.source.now c.requires.prepared.0 c.args.prepared.now c.requires.prepared.1 c.requires.lawful
+pub find_sites-requires : goal.find_sites-requires
+find_sites-requires c = prepared-ready c.args.symbols c.args.source.now c.requires.prepared.0 c.args.prepared.now c.requires.prepared.1 c.requires.lawful
+
+pub is_local_too_deep-requires-clause-ready : goal.is_local_too_deep-requires-clause-ready
+is_local_too_deep-requires-clause-ready c = prepared-ready c.args.symbols c.args.source.now c.requires.prepared.0 c.args.prepared.now c.requires.prepared.1 c.requires.lawful
 
 pub returns-then-is_local_too_deep : goal.returns-then-is_local_too_deep
 returns-then-is_local_too_deep c =

@@ -1,16 +1,16 @@
-use Rattle.std.proofs.Common.{◌≡◌, ◌++◌, ◌+◌, ℕ, [], true, length, map, slice_index_or}
+use Rattle.std.proofs.Common.{◌≡◌, ◌<◌, ◌++◌, ◌+◌, ℕ, [], true, length, map, slice_index_or}
 use Rattle.std.specs.Prelude.{All}
 use Rattle.dt_meaning.specs.References.{held}
 use Rattle.dt_live.specs.Rows.{is_standing, node_path}
 use Rattle.dt_tree_builder.specs.Lists.{defined_at}
-use Rattle.dt_build.specs.Private.LocalFixups.{IsAtNode, local_definitions, local_path}
+use Rattle.dt_build.specs.Private.LocalFixups.{local_definitions, local_path}
 use Rattle.dt_build.proofs.local_nodes.local_lists.Given as goal
 
 abbrev pub invariant-loop-one : goal.invariant-loop-one
 invariant-loop-one l = record {
   count : length l.lists.items ≡ length l.prepared.live.nodes.items + 1;
-  nodes : All (λ x. IsAtNode l.prepared x.node) l.one-iterator.rest.items;
+  places : All (λ x. x.property < length l.prepared.in_preorder.properties.items) l.one-iterator.rest.items;
   lists : (k : ℕ) → is_standing l.prepared.live k ≡ true
-      → defined_at (local_path (node_path l.prepared.live k)) (slice_index_or (map (λ list. list.items) l.lists.items) k []) ++ held (local_definitions (node_path l.prepared.live) l.one-iterator.rest.items) (local_path (node_path l.prepared.live k))
-      ≡ held (local_definitions (node_path l.prepared.live) l.fn.locals.items) (local_path (node_path l.prepared.live k));
+      → defined_at (local_path (node_path l.prepared.live k)) (slice_index_or (map (λ list. list.items) l.lists.items) k []) ++ held (local_definitions l.prepared l.one-iterator.rest.items) (local_path (node_path l.prepared.live k))
+      ≡ held (local_definitions l.prepared l.fn.locals.items) (local_path (node_path l.prepared.live k));
 }

@@ -1,4 +1,4 @@
-use Rattle.std.proofs.Common.{◌≡◌, ◌+◌, ◌||◌, ◌∙◌, ℕ, zero, suc, Bool, false, List, length, get_or, replicate, take, refl, sym, ap, subst}
+use Rattle.std.proofs.Common.{◌≡◌, ◌<◌, ◌+◌, ◌||◌, ◌∙◌, ℕ, zero, suc, Bool, false, List, length, get_or, replicate, take, refl, sym, ap, subst, arith}
 use Rattle.std.specs.List.{list_any}
 use Rattle.std.proofs.lemmas.List.{length-replicate, take_all}
 use Rattle.std.proofs.lemmas.List.Folds.{list_any_more}
@@ -6,7 +6,9 @@ use Rattle.dt_meaning.specs.Paths.{is_listed}
 use Rattle.dt_meaning.specs.Resolved.{fronts}
 use Rattle.dt_live.specs.Rows.{node_path}
 use Rattle.dt_build.specs.declared.local_properties.LocalFixup.{LocalFixup}
-use Rattle.dt_build.specs.Private.LocalFixups.{IsAtNode}
+use Rattle.dt_build.specs.Private.FixupSites.{key_at}
+use Rattle.dt_build.proofs.LocalMarks.{node-stands}
+use Rattle.dt_build.proofs.Sites.{key-read}
 use Rattle.dt_build.proofs.local_nodes.local_marks.Goals as goal
 
 none-marked : (n k : ℕ) → get_or (replicate n false) k false ≡ false
@@ -23,25 +25,35 @@ loop-one-init c =
       marks = λ k there. ap (λ (xs : List Bool). get_or xs k false) filled ∙ none-marked count k;
     }
 
+pub index-property-requires : goal.index-property-requires
+index-property-requires c =
+    let p = c.args.prepared.now in
+    let known = subst (λ (x : LocalFixup). x.property < length p.in_preorder.properties.items) (sym c.one-item.is) (c.requires.places c.loop-one.one-index c.one-item.result c.loop-one-test.true) in
+    omega (arith, known, p.in_preorder.properties.ok.0)
+
 pub mark-requires-clause-node : goal.mark-requires-clause-node
 mark-requires-clause-node c =
-    subst (λ (x : LocalFixup). IsAtNode c.args.prepared.now x.node) (sym c.one-item.is) (c.requires.nodes c.loop-one.one-index c.one-item.result c.loop-one-test.true)
+    let below = subst (λ (x : LocalFixup). x.property < length c.args.prepared.now.in_preorder.properties.items) (sym c.one-item.is) (c.requires.places c.loop-one.one-index c.one-item.result c.loop-one-test.true) in
+    node-stands c.args.prepared.now c.requires.ready c.one-item.result.property c.index-property.result.now below c.index-property.ensures
 
 pub loop-one-preserved : goal.loop-one-preserved
 loop-one-preserved c =
-    let path = node_path c.args.prepared.now.live in
+    let p = c.args.prepared.now in
     let xs = c.args.locals.now in
     let i = c.loop-one.one-index in
     let x = c.one-item.result in
+    let below = subst (λ (y : LocalFixup). y.property < length p.in_preorder.properties.items) (sym c.one-item.is) (c.requires.places i x c.loop-one-test.true) in
+    let key = key-read p x.property c.index-property.result.now below c.index-property.ensures in
     record {
       count = c.mark.ensures.count ∙ c.loop-one.invariant.count;
       marks = λ k there.
-          let marked = λ (y : LocalFixup). is_listed (path k) (fronts (path y.node)) in
-          c.mark.ensures.marks k there ∙ ap (λ b. b || marked x) (c.loop-one.invariant.marks k there)
+          let marked = λ (y : LocalFixup). is_listed (node_path p.live k) (fronts (key_at p y.property).path) in
+          c.mark.ensures.marks k there ∙ ap (λ e. get_or c.loop-one.marks.items k false || is_listed (node_path p.live k) (fronts e.path)) (sym key) ∙ ap (λ b. b || marked x) (c.loop-one.invariant.marks k there)
           ∙ ap (λ (y : LocalFixup). list_any marked (take i xs) || marked y) c.one-item.is ∙ sym (list_any_more marked xs i x c.loop-one-test.true);
     }
 
 pub returns-clause-marks : goal.returns-clause-marks
 returns-clause-marks c k there =
-    let path = node_path c.args.prepared.now.live in
-    c.loop-one.invariant.marks k there ∙ ap (list_any (λ (y : LocalFixup). is_listed (path k) (fronts (path y.node)))) (take_all c.loop-one.one-index c.args.locals.now c.loop-one-test.false)
+    let p = c.args.prepared.now in
+    c.loop-one.invariant.marks k there
+    ∙ ap (list_any (λ (y : LocalFixup). is_listed (node_path p.live k) (fronts (key_at p y.property).path))) (take_all c.loop-one.one-index c.args.locals.now c.loop-one-test.false)

@@ -3,10 +3,11 @@ use Rattle.std.specs.List.{list_any}
 use Rattle.dt_meaning.specs.Paths.{is_listed}
 use Rattle.dt_meaning.specs.Resolved.{fronts}
 use Rattle.dt_live.specs.Rows.{is_standing, node_path}
+use Rattle.dt_build.specs.Private.FixupSites.{key_at}
 use Rattle.dt_build.proofs.local_nodes.local_marks.Given as goal
 
 abbrev pub invariant-loop-one : goal.invariant-loop-one
 invariant-loop-one l = record {
   count : length l.marks.items ≡ length l.prepared.live.nodes.items + 1;
-  marks : (k : ℕ) → is_standing l.prepared.live k ≡ true → slice_index_or l.marks.items k false ≡ list_any (λ x. is_listed (node_path l.prepared.live k) (fronts (node_path l.prepared.live x.node))) (take l.one-index l.locals);
+  marks : (k : ℕ) → is_standing l.prepared.live k ≡ true → slice_index_or l.marks.items k false ≡ list_any (λ x. is_listed (node_path l.prepared.live k) (fronts (key_at l.prepared x.property).path)) (take l.one-index l.locals);
 }

@@ -1,0 +1,14 @@
+use Rattle.std.proofs.Common.{◌≡◌, ◌++◌, drop, map}
+use Rattle.std.specs.Prelude.{All}
+use Rattle.dt_live.specs.Rows.{node_path}
+use Rattle.dt_resolve.specs.Targets.{IsKnown}
+use Rattle.dt_build.specs.Private.FixupSites.{AreBetween, all_left, site_of}
+use Rattle.dt_build.specs.Private.Made.{all_phandles, made_sites}
+use Rattle.dt_build.proofs.fixup_sites.find_sites.Given as goal
+
+abbrev pub invariant-loop-property : goal.invariant-loop-property
+invariant-loop-property l = record {
+  known : All (IsKnown l.prepared.live) l.targets;
+  places : AreBetween 0 l.property l.sites.items;
+  sites : map (site_of l.prepared) l.sites.items ++ all_left (all_phandles l.prepared) (node_path l.prepared.live) (drop l.property l.prepared.in_preorder.properties.items) l.targets ≡ made_sites l.prepared;
+}
