@@ -105,6 +105,10 @@ fn forms(rt: HostRuntime) {
             " l: /memreserve/ 1 2; / { };\n",
         ),
         (
+            " / { /delete-node/ a; l: a { }; }; &{/a} { x; };",
+            " / { l: a { x; }; };\n",
+        ),
+        (
             " / { #a; #b;# 1 \"f\"\n#c; };",
             " / { #a; #b;\n# 1 \"f\"\n#c; };\n",
         ),

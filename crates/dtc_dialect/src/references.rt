@@ -49,11 +49,21 @@ impl<'t> Table<'t> {
                 return Some(node);
             }
             let (name, rest) = first_name(left);
-            node = self.child(node, name)?;
-            self.last_deletion(node)?;
+            node = self.child_there(node, name)?;
             left = rest;
         }
         None
+    }
+
+    /// The first child of a name that is there.
+    fn child_there(&self, parent: usize, name: &'t [u8]) -> Option<usize> {
+        let first = self.child(parent, name)?;
+        if self.last_deletion(first).is_some() {
+            return Some(first);
+        }
+        let second = self.second_child(parent, name)?;
+        self.last_deletion(second)?;
+        Some(second)
     }
 
     /// The node that has a label, and of several the first in preorder.

@@ -71,6 +71,8 @@ pub(crate) struct Table<'t> {
     pub properties: Vec<PropertyRow<'t>>,
     pub labels: Vec<LabelRow<'t>>,
     children: HashMap<(usize, &'t [u8]), usize, RandomState>,
+    /// The second child of a name: the first was deleted before it was made.
+    seconds: HashMap<(usize, &'t [u8]), usize, RandomState>,
     names: HashMap<(usize, &'t [u8]), usize, RandomState>,
     given: HashMap<(usize, &'t [u8]), usize, RandomState>,
     last: HashMap<&'t [u8], usize, RandomState>,
@@ -84,6 +86,7 @@ impl<'t> Table<'t> {
             properties: Vec::new(alloc),
             labels: Vec::new(alloc),
             children: HashMap::with_hasher(alloc, hasher),
+            seconds: HashMap::with_hasher(alloc, hasher),
             names: HashMap::with_hasher(alloc, hasher),
             given: HashMap::with_hasher(alloc, hasher),
             last: HashMap::with_hasher(alloc, hasher),
@@ -106,11 +109,18 @@ impl<'t> Table<'t> {
         self.children.get(&(parent, name)).copied()
     }
 
+    /// The second child of a name.
+    pub fn second_child(&self, parent: usize, name: &'t [u8]) -> Option<usize> {
+        self.seconds.get(&(parent, name)).copied()
+    }
+
     /// A new child, behind the others.
     pub fn add_node(&mut self, row: NodeRow<'t>) -> Result<usize, AllocError> {
         let node = self.nodes.len();
         if self.child(row.parent, row.name).is_none() {
             self.children.insert((row.parent, row.name), node)?;
+        } else if self.second_child(row.parent, row.name).is_none() {
+            self.seconds.insert((row.parent, row.name), node)?;
         }
         self.nodes.push(row)?;
         Ok(node)
