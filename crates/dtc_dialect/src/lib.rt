@@ -21,13 +21,17 @@ mod reader;
 mod references;
 mod rewriting;
 mod searching;
+mod site;
 mod table;
 mod token;
+mod watch;
+mod words;
 
 pub use error::{DialectError, Mistake, Refusal};
 pub use inclusion::{Files, Found, Incomplete, MAX_INCLUDES, included};
 pub use keeping::{Profile, profile_text};
 pub use places::{columns_of, line_of, plain, user_place};
-pub use rewriting::{Options, rewrite};
+pub use rewriting::{Options, origin_of, rewrite};
 pub use searching::{Reads, search};
+pub use site::{Shortfall, Site};
 pub use token::{Place, Span};
