@@ -73,12 +73,7 @@ fn said<'t>(
         table: &source.table,
         layout: &left,
     };
-    let numbers = if omits
-        || known
-            .known
-            .iter()
-            .any(|known| known.asks || known.is_legacy)
-    {
+    let numbers = if omits || are_written(&known) {
         Some(&known)
     } else {
         None
@@ -93,6 +88,14 @@ fn said<'t>(
             asked,
         },
     )
+}
+
+/// Whether numbers are written out where no node is omitted.
+fn are_written(numbers: &Numbers) -> bool {
+    numbers
+        .known
+        .iter()
+        .any(|known| known.asks || known.is_legacy)
 }
 
 /// Deletes the nodes under `/omit-if-no-ref/` that no reference names. Answers whether there were any.
