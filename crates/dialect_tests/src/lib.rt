@@ -4,4 +4,6 @@
 #[cfg(test)]
 mod forms;
 #[cfg(test)]
+mod origins;
 mod runs;
+mod shortfalls;

@@ -1,5 +1,6 @@
 //! Runs of dtc over files in memory, with a compiler whose blob is the text behind a header of zeros.
 
+use dtc_dialect::Span;
 use dtman_dtc::{Compiler, Fault, Host, Unread, Unwritten, run_dtc, run_fdtoverlay};
 use std::alloc::Global;
 use std::hash::RandomState;
@@ -39,7 +40,8 @@ impl Host for Desk {
 
 const HEADER: &[u8] = &[0; 40];
 
-/// Puts the text behind a header, and takes it from there; applies an overlay by putting it behind the base.
+/// Puts the text behind a header, and takes it from there; applies an overlay by putting it behind the base. A text that refers to
+/// `&unknown` is refused there.
 #[derive(Clone, Copy)]
 struct Copier;
 
@@ -48,7 +50,18 @@ fn refused<T>() -> Result<T, Fault> {
         number: 0,
         name: "NoMemory",
         line: None,
+        bytes: None,
     })
+}
+
+/// Where words stand in a text.
+fn place_of(text: &[u8], words: &[u8]) -> Option<usize> {
+    for start in 0..text.len() {
+        if text.get(start..start.saturating_add(words.len())) == Some(words) {
+            return Some(start);
+        }
+    }
+    None
 }
 
 impl Compiler for Copier {
@@ -59,6 +72,17 @@ impl Compiler for Copier {
         text: &[u8],
         _symbols: bool,
     ) -> Result<Vec<u8>, Fault> {
+        if let Some(start) = place_of(text, b"&unknown") {
+            return Err(Fault {
+                number: 20,
+                name: "UnknownLabel",
+                line: None,
+                bytes: Some(Span {
+                    start,
+                    end: start.saturating_add(8),
+                }),
+            });
+        }
         self.overlay(alloc, hasher, HEADER, text)
     }
 
@@ -95,6 +119,17 @@ const FILES: &[(&str, &[u8])] = &[
     ("in/b.dtsi", b"x = /incbin/(\"c\", 1, 2);"),
     ("in/c", b"\x00\x1f\xff\x00"),
     ("bad.dts", b"/dts-v1/;\n&x { };"),
+    (
+        "unknown.dts",
+        b"/dts-v1/;\n/ {\n\tx = <1\n\t\t&unknown>;\n};",
+    ),
+    ("lost.dts", b"/dts-v1/;\n /include/ \"none.dtsi\"\n"),
+    ("five.dts", b"/dts-v1/;\n/include/ 5;\n"),
+    ("deep.dts", b"\n/include/ \"deep.dts\""),
+    (
+        "part.dts",
+        b"/dts-v1/; / { x = /incbin/(\"in/c\", 1, z); };",
+    ),
 ];
 
 fn make_desk(alloc: Global, hasher: RandomState) -> Desk {
@@ -142,6 +177,31 @@ fn dtc(rt: HostRuntime) {
             &["bad.dts"],
             1,
             "Error: bad.dts:2.1-3 error 20 UnknownLabel\nFATAL ERROR: Unable to parse input tree\n",
+        ),
+        (
+            &["unknown.dts"],
+            1,
+            "Error: unknown.dts:4.3-11 error 20 UnknownLabel\nFATAL ERROR: Unable to parse input tree\n",
+        ),
+        (
+            &["lost.dts"],
+            1,
+            "Error: lost.dts:2.2-23 error 80 CannotRead\nFATAL ERROR: Couldn't open \"none.dtsi\": error 80 CannotRead\n",
+        ),
+        (
+            &["five.dts"],
+            1,
+            "Error: five.dts:2.11-12 error 10 Syntax\nFATAL ERROR: error 10 Syntax in an inclusion\n",
+        ),
+        (
+            &["deep.dts"],
+            1,
+            "Error: deep.dts:2.1-21 error 16 TooDeep\nFATAL ERROR: Includes nested too deeply\n",
+        ),
+        (
+            &["part.dts"],
+            1,
+            "Error: part.dts:1.39-40 error 10 Syntax\nFATAL ERROR: error 10 Syntax in an inclusion\n",
         ),
         (
             &["-i", "in", "-O", "dts", "--out=x", "-d", "y", "a.dts"],

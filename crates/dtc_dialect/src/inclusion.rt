@@ -3,10 +3,11 @@ ghost use Rattle.std.specs.Prelude.{◌≡◌, ◌<◌, ◌↔◌, ◌++◌, [],
 ghost use Rattle.std.specs.Char.{digit_char};
 ghost use Rattle.dtc_dialect.specs.Inclusion.{MayNest, byte_string_of, part_of};
 
-use crate::bytes::{Class, begins, behind, front, quoted_len, run_len};
-use crate::gaps::{Gap, gap_at};
-use crate::integer::integer;
+use crate::bytes::{behind, front};
 use crate::places::Line;
+use crate::site::{Shortfall, Site};
+use crate::token::Span;
+use crate::words::{Inclusion, Next, Part, next_inclusion};
 use std::alloc::{AllocError, AllocFailed, Global};
 
 /// How deep files may take in files.
@@ -59,28 +60,17 @@ impl<T: Drop> From<AllocFailed<T>> for Incomplete {
     }
 }
 
-/// What is to be taken in, and how long its words are.
-#[derive(Clone, Copy)]
-enum Inclusion<'t> {
-    Source(&'t [u8], usize),
-    Binary(&'t [u8], Part, usize),
-}
-
-/// The bytes of a file that are wanted.
-#[derive(Clone, Copy)]
-struct Part {
-    offset: u64,
-    length: Option<u64>,
-}
-
-/// A file that is open: its bytes, how many were taken, and the line of the user's file there.
+/// A file that is open: its bytes, those of the last words of it that were taken, and the line of the user's file in which they begin.
 #[derive(Drop)]
 struct Frame {
     path: Vec<u8>,
     bytes: Vec<u8>,
-    taken: usize,
+    words: Span,
     line: Line,
 }
+
+/// Before the first words.
+const NO_WORDS: Span = Span { start: 0, end: 0 };
 
 /// The text with all that it takes in, with line markers where files change.
 pub fn included<F: Files>(
@@ -88,13 +78,13 @@ pub fn included<F: Files>(
     files: &mut F,
     path: &[u8],
     text: &[u8],
-) -> Result<Vec<u8>, Incomplete> {
+) -> Result<Vec<u8>, Shortfall> {
     let mut whole = Vec::new(alloc);
     let mut frames = Vec::new(alloc);
     frames.push(Frame {
         path: Vec::from_slice(alloc, path)?,
         bytes: Vec::from_slice(alloc, text)?,
-        taken: 0,
+        words: NO_WORDS,
         line: Line::first(alloc, path)?,
     })?;
     // Each turn takes words or ends a file, and each file that is begun puts a line marker.
@@ -102,30 +92,78 @@ pub fn included<F: Files>(
         let Some(mut frame) = frames.pop() else {
             return Ok(whole);
         };
-        let next = take_turn(alloc, files, &mut frame, &mut whole)?;
-        match next {
-            Turn::End => {}
-            Turn::Again => frames.push(frame)?,
-            Turn::Into(found) => {
-                frames.push(frame)?;
-                let line = Line::first(alloc, found.path.as_slice())?;
-                line.mark(alloc, &mut whole)?;
-                enter(
-                    &mut frames,
-                    Frame {
-                        path: found.path,
-                        bytes: found.bytes,
-                        taken: 0,
-                        line,
-                    },
-                )?;
-            }
-        }
+        let turn = match take_turn(alloc, files, &mut frame, &mut whole) {
+            Ok(turn) => turn,
+            Err(reason) => return Err(stopped(alloc, frame, reason)),
+        };
         if whole.len() > MAX_TEXT {
-            return Err(Incomplete::TooLong);
+            return Err(too_long(alloc, frame, frames));
+        }
+        if let Err(reason) = go_on(alloc, &mut frames, frame, turn, &mut whole) {
+            return Err(stopped_within(alloc, frames, reason));
         }
     }
-    Err(Incomplete::TooLong)
+    Err(stopped_within(alloc, frames, Incomplete::TooLong))
+}
+
+/// Goes on behind a turn: within the file, or in the one that is taken in.
+fn go_on(
+    alloc: Global,
+    frames: &mut Vec<Frame>,
+    frame: Frame,
+    turn: Turn,
+    whole: &mut Vec<u8>,
+) -> Result<(), Incomplete> {
+    match turn {
+        Turn::End => {}
+        Turn::Again => frames.push(frame)?,
+        Turn::Into(found) => {
+            frames.push(frame)?;
+            let line = Line::first(alloc, found.path.as_slice())?;
+            line.mark(alloc, whole)?;
+            enter(
+                frames,
+                Frame {
+                    path: found.path,
+                    bytes: found.bytes,
+                    words: NO_WORDS,
+                    line,
+                },
+            )?;
+        }
+    }
+    Ok(())
+}
+
+/// A text stops short at the last words of a file.
+fn stopped(alloc: Global, frame: Frame, reason: Incomplete) -> Shortfall {
+    match Site::new(alloc, &frame.line, frame.bytes.as_slice(), frame.words) {
+        Ok(site) => Shortfall {
+            reason,
+            site: Some(site),
+        },
+        Err(_) => Shortfall {
+            reason: Incomplete::NoMemory,
+            site: None,
+        },
+    }
+}
+
+/// A text stops short at the last words of the innermost file that is open.
+fn stopped_within(alloc: Global, frames: Vec<Frame>, reason: Incomplete) -> Shortfall {
+    let mut frames = frames;
+    match frames.pop() {
+        Some(frame) => stopped(alloc, frame, reason),
+        None => Shortfall { reason, site: None },
+    }
+}
+
+/// A text gets too long in a file: at its last words, or else at those that took it in.
+fn too_long(alloc: Global, frame: Frame, outer: Vec<Frame>) -> Shortfall {
+    if frame.words.end > 0 {
+        return stopped(alloc, frame, Incomplete::TooLong);
+    }
+    stopped_within(alloc, outer, Incomplete::TooLong)
 }
 
 /// Opens a file within those that are open.
@@ -159,34 +197,73 @@ fn take_turn<F: Files>(
     frame: &mut Frame,
     whole: &mut Vec<u8>,
 ) -> Result<Turn, Incomplete> {
-    if frame.taken > 0 {
-        frame.line.mark(alloc, whole)?;
+    pass_words(alloc, frame, whole)?;
+    let Frame {
+        path,
+        bytes,
+        words,
+        line,
+    } = frame;
+    let taken = words.end;
+    let rest = behind(bytes.as_slice(), taken);
+    let (inclusion, found) = match next_inclusion(rest) {
+        Next::Words(inclusion, found) => (Some(inclusion), found),
+        Next::Broken(found) => (None, found),
+        Next::Nothing => {
+            whole.extend_from_slice(rest)?;
+            return Ok(Turn::End);
+        }
+    };
+    let before = front(rest, found.start);
+    line.advance(before)?;
+    *words = Span {
+        start: taken.saturating_add(found.start),
+        end: taken.saturating_add(found.end),
+    };
+    let Some(inclusion) = inclusion else {
+        return Err(Incomplete::Syntax);
+    };
+    whole.extend_from_slice(before)?;
+    take_in(alloc, files, path.as_slice(), inclusion, whole)
+}
+
+/// Passes the words that were taken last: behind them a line marker stands.
+fn pass_words(alloc: Global, frame: &mut Frame, whole: &mut Vec<u8>) -> Result<(), AllocError> {
+    let Frame {
+        bytes,
+        words,
+        line,
+        ..
+    } = frame;
+    if words.end == 0 {
+        return Ok(());
     }
-    let rest = behind(frame.bytes.as_slice(), frame.taken);
-    let Some((at, inclusion)) = next_inclusion(rest)? else {
-        whole.extend_from_slice(rest)?;
-        return Ok(Turn::End);
+    line.advance(behind(front(bytes.as_slice(), words.end), words.start))?;
+    line.mark(alloc, whole)
+}
+
+/// Finds what words name, and puts it where it is binary.
+fn take_in<F: Files>(
+    alloc: Global,
+    files: &mut F,
+    beside: &[u8],
+    inclusion: Inclusion<'_>,
+    whole: &mut Vec<u8>,
+) -> Result<Turn, Incomplete> {
+    let name = match inclusion {
+        Inclusion::Source(name) | Inclusion::Binary(name, _) => name,
     };
-    whole.extend_from_slice(front(rest, at))?;
-    let (name, len) = match inclusion {
-        Inclusion::Source(name, len) => (name, len),
-        Inclusion::Binary(name, _, len) => (name, len),
-    };
-    let taken = at.saturating_add(len);
-    frame.line.advance(front(rest, taken))?;
-    let found = match files.find(alloc, frame.path.as_slice(), name)? {
+    let found = match files.find(alloc, beside, name)? {
         Some(found) => found,
         None => return Err(Incomplete::NoFile(Vec::from_slice(alloc, name)?)),
     };
-    let next = match inclusion {
-        Inclusion::Source(_, _) => Turn::Into(found),
-        Inclusion::Binary(_, part, _) => {
+    match inclusion {
+        Inclusion::Source(_) => Ok(Turn::Into(found)),
+        Inclusion::Binary(_, part) => {
             put_binary(whole, wanted(found.bytes.as_slice(), part))?;
-            Turn::Again
+            Ok(Turn::Again)
         }
-    };
-    frame.taken = frame.taken.saturating_add(taken);
-    Ok(next)
+    }
 }
 
 /// The part of a file that is wanted, as far as the file goes.
@@ -230,143 +307,5 @@ fn digit(number: u8) -> u8
         b'0' + number
     } else {
         b'a' - 10 + number
-    }
-}
-
-/// The next words that take something in, and where they stand. In strings and comments there are none.
-fn next_inclusion<'t>(s: &'t [u8]) -> Result<Option<(usize, Inclusion<'t>)>, Incomplete> {
-    let mut resume = 0;
-    for (i, c) in s.iter().enumerate() {
-        if i < resume {
-            continue;
-        }
-        let rest = behind(s, i);
-        if *c == b'"' || *c == b'\'' {
-            match quoted_len(*c, rest) {
-                Some(len) => resume = i.saturating_add(len),
-                None => return Ok(None),
-            }
-        } else if *c == b'/' {
-            match read_slash(rest)? {
-                Slash::Found(inclusion) => return Ok(Some((i, inclusion))),
-                Slash::Gap(len) => resume = i.saturating_add(len),
-                Slash::Unclosed => return Ok(None),
-                Slash::Other => {}
-            }
-        }
-    }
-    Ok(None)
-}
-
-/// What begins with a slash.
-#[derive(Clone, Copy)]
-enum Slash<'t> {
-    Found(Inclusion<'t>),
-    Gap(usize),
-    Unclosed,
-    Other,
-}
-
-fn read_slash<'t>(s: &'t [u8]) -> Result<Slash<'t>, Incomplete> {
-    match gap_at(s) {
-        Gap::Skipped(len) => return Ok(Slash::Gap(len)),
-        Gap::Unclosed => return Ok(Slash::Unclosed),
-        _ => {}
-    }
-    match s {
-        [
-            b'/',
-            b'i',
-            b'n',
-            b'c',
-            b'l',
-            b'u',
-            b'd',
-            b'e',
-            b'/',
-            rest @ ..,
-        ] => {
-            let mut words = Words { left: rest };
-            let name = words.quoted()?;
-            let len = s.len().saturating_sub(words.left.len());
-            Ok(Slash::Found(Inclusion::Source(name, len)))
-        }
-        [b'/', b'i', b'n', b'c', b'b', b'i', b'n', b'/', rest @ ..] => {
-            let mut words = Words { left: rest };
-            let (name, part) = binary(&mut words)?;
-            let len = s.len().saturating_sub(words.left.len());
-            Ok(Slash::Found(Inclusion::Binary(name, part, len)))
-        }
-        _ => Ok(Slash::Other),
-    }
-}
-
-/// `("FILE"[, OFFSET, LENGTH])`
-fn binary<'t>(words: &mut Words<'t>) -> Result<(&'t [u8], Part), Incomplete> {
-    words.sign(b'(')?;
-    let name = words.quoted()?;
-    let mut part = Part {
-        offset: 0,
-        length: None,
-    };
-    if words.begins(b',') {
-        words.sign(b',')?;
-        part.offset = words.number()?;
-        words.sign(b',')?;
-        part.length = Some(words.number()?);
-    }
-    words.sign(b')')?;
-    Ok((name, part))
-}
-
-/// What is left behind a keyword.
-#[derive(Drop)]
-struct Words<'t> {
-    left: &'t [u8],
-}
-
-impl<'t> Words<'t> {
-    fn skip_gap(&mut self) {
-        for _ in 0..self.left.len() {
-            match gap_at(self.left) {
-                Gap::Skipped(len) => self.left = behind(self.left, len),
-                Gap::Marker(len, _) => self.left = behind(self.left, len),
-                _ => return,
-            }
-        }
-    }
-
-    fn begins(&mut self, c: u8) -> bool {
-        self.skip_gap();
-        begins(self.left, c)
-    }
-
-    fn sign(&mut self, c: u8) -> Result<(), Incomplete> {
-        if !self.begins(c) {
-            return Err(Incomplete::Syntax);
-        }
-        self.left = behind(self.left, 1);
-        Ok(())
-    }
-
-    /// What stands between quotes.
-    fn quoted(&mut self) -> Result<&'t [u8], Incomplete> {
-        if !self.begins(b'"') {
-            return Err(Incomplete::Syntax);
-        }
-        let Some(len) = quoted_len(b'"', self.left) else {
-            return Err(Incomplete::Syntax);
-        };
-        let name = behind(front(self.left, len.saturating_sub(1)), 1);
-        self.left = behind(self.left, len);
-        Ok(name)
-    }
-
-    fn number(&mut self) -> Result<u64, Incomplete> {
-        self.skip_gap();
-        let len = run_len(Class::Word, self.left);
-        let number = integer(front(self.left, len));
-        self.left = behind(self.left, len);
-        number.ok_or(Incomplete::Syntax)
     }
 }

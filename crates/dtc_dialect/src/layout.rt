@@ -1,6 +1,6 @@
 //! The nodes and properties that are there when all is read, in preorder.
 
-use crate::table::{ROOT, Table, Tokens};
+use crate::table::{LabelRow, ROOT, Table, Tokens};
 use std::alloc::{AllocError, Global};
 
 /// A node that is there, and its properties among those of all.
@@ -209,24 +209,24 @@ impl Layout {
         alloc: Global,
         table: &Table<'t>,
         node: usize,
-    ) -> Result<Vec<&'t [u8]>, AllocError> {
-        let mut names = Vec::new(alloc);
+    ) -> Result<Vec<LabelRow<'t>>, AllocError> {
+        let mut labels = Vec::new(alloc);
         let Some(deletion) = table.last_deletion(node) else {
-            return Ok(names);
+            return Ok(labels);
         };
         let mut next = at(&self.first_label, node);
         for _ in 0..table.labels.len() {
             let Some(row) = next else {
-                return Ok(names);
+                return Ok(labels);
             };
             if let Some(label) = table.labels.get(row) {
                 if label.made > deletion {
-                    names.push(label.name)?;
+                    labels.push(*label)?;
                 }
             }
             next = at(&self.next_label, row);
         }
-        Ok(names)
+        Ok(labels)
     }
 
     /// Whether a node ever had a label.

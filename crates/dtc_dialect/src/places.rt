@@ -8,8 +8,8 @@ use std::alloc::{AllocError, Global};
 /// The line of the user's file at a place of a text.
 #[derive(Drop)]
 pub(crate) struct Line {
-    file: Vec<u8>,
-    line: usize,
+    pub file: Vec<u8>,
+    pub line: usize,
 }
 
 impl Line {

@@ -1,24 +1,38 @@
 //! Text that is put behind other text, with its places.
 
 use crate::bytes::line_ends;
-use crate::token::Place;
+use crate::token::{Place, Span};
+use crate::watch::{Watch, Word};
 use std::alloc::{AllocError, Global};
 
 /// How many empty lines are printed in place of a line marker.
 const FEW: usize = 4;
 
-/// A text, and the place in the user's files that its end stands for.
+/// A text, the place in the user's files that its end stands for, and the part of it that is asked for.
 #[derive(Drop)]
 pub(crate) struct Printer<'t> {
     pub text: Vec<u8>,
+    pub watch: Option<Watch<'t>>,
     place: Place<'t>,
 }
 
 impl<'t> Printer<'t> {
-    pub fn new(alloc: Global) -> Printer<'t> {
+    pub fn new(alloc: Global, asked: Option<Span>) -> Printer<'t> {
         Printer {
             text: Vec::new(alloc),
+            watch: match asked {
+                Some(part) => Some(Watch::new(part)),
+                None => None,
+            },
             place: Place::first(b""),
+        }
+    }
+
+    /// What is put next is a word of the user's.
+    pub fn note(&mut self, word: Word<'t>) {
+        let at = self.text.len();
+        if let Some(watch) = &mut self.watch {
+            watch.note(at, word);
         }
     }
 

@@ -8,35 +8,69 @@ use crate::layout::{Stop, part};
 use crate::numbers::{Cells, Known, Numbers, View};
 use crate::printer::Printer;
 use crate::table::{NodeRow, PropertyRow, ROOT};
-use crate::token::{Kind, Token};
+use crate::token::{Kind, Place, Span, Token};
+use crate::watch::{Texts, Word};
 use std::alloc::Global;
 
-/// What is printed: a source, and the numbers where they are to be written out.
+/// What is printed: a source, the numbers where they are to be written out, and the part of the text that is asked for.
 #[derive(Clone, Copy)]
 pub(crate) struct Printed<'a, 't> {
     pub view: View<'a, 't>,
     pub numbers: Option<&'a Numbers>,
+    pub asked: Option<Span>,
 }
 
-/// The text of a source.
+/// The text of a source, and what of the user's stands at the part that is asked for.
+#[derive(Drop)]
+pub(crate) struct Said<'t> {
+    pub text: Vec<u8>,
+    pub asked: Option<Place<'t>>,
+}
+
+/// Prints a source, which was read of a text of the user's.
 pub(crate) fn print_source<'t>(
     alloc: Global,
+    user: &'t [u8],
     source: &Edited<'t>,
     what: Printed<'_, 't>,
-) -> Result<Vec<u8>, DialectError<'t>> {
-    let mut printer = Printer::new(alloc);
+) -> Result<Said<'t>, DialectError<'t>> {
+    let mut printer = Printer::new(alloc, what.asked);
     printer.put(b"/dts-v1/;")?;
     if source.is_plugin {
         printer.put(b" /plugin/;")?;
     }
     for reserve in source.reserves.iter() {
         put_tokens(alloc, &mut printer, what, part(what.view.tokens, *reserve))?;
-        printer.put(b";")?;
+        put_end(alloc, &mut printer, what, reserve.end)?;
     }
     put_nodes(alloc, &mut printer, what)?;
     put_root_labels(alloc, &mut printer, what)?;
     printer.put(b"\n")?;
-    Ok(printer.text)
+    let Printer { text, watch, .. } = printer;
+    let asked = match watch {
+        Some(watch) => watch.place(Texts {
+            user,
+            tokens: what.view.tokens,
+            printed: text.as_slice(),
+        }),
+        None => None,
+    };
+    Ok(Said { text, asked })
+}
+
+/// Puts the semicolon that is a token.
+fn put_end<'t>(
+    alloc: Global,
+    printer: &mut Printer<'t>,
+    what: Printed<'_, 't>,
+    token: usize,
+) -> Result<(), DialectError<'t>> {
+    if let Some(token) = what.view.tokens.get(token) {
+        printer.move_to(alloc, token.place, false)?;
+        printer.note(Word::At(token.place));
+    }
+    printer.put(b";")?;
+    Ok(())
 }
 
 fn put_nodes<'t>(
@@ -72,9 +106,11 @@ fn put_node<'t>(
     };
     printer.move_to(alloc, row.place, true)?;
     if stop.node == ROOT {
+        printer.note(Word::At(row.place));
         printer.put(b"/ {")?;
     } else {
         put_labels(alloc, printer, what, stop.node)?;
+        printer.note(Word::At(row.place));
         put_name(alloc, printer, row)?;
     }
     for property in what.view.layout.properties_of(stop) {
@@ -93,7 +129,8 @@ fn put_labels<'t>(
 ) -> Result<(), DialectError<'t>> {
     let labels = what.view.layout.labels_of(alloc, what.view.table, node)?;
     for label in labels.iter() {
-        printer.put(*label)?;
+        printer.note(Word::Label(*label));
+        printer.put(label.name)?;
         printer.put(b": ")?;
     }
     Ok(())
@@ -114,12 +151,15 @@ fn put_name<'t>(
     let target = fragment.target.text;
     match target {
         [_, b'{', path @ ..] => {
-            printer.put(b" { target-path = \"")?;
+            printer.put(b" { ")?;
+            printer.note(Word::At(fragment.target.place));
+            printer.put(b"target-path = \"")?;
             printer.put(front(path, path.len().saturating_sub(1)))?;
             printer.put(b"\";")?;
         }
         _ => {
             printer.put(b" { target = <")?;
+            printer.note(Word::At(fragment.target.place));
             printer.put(target)?;
             printer.put(b">;")?;
         }
@@ -137,11 +177,12 @@ fn put_property<'t>(
         return Ok(());
     }
     printer.move_to(alloc, row.place, true)?;
+    printer.note(Word::At(row.place));
     printer.put(row.name)?;
-    if row.value.is_none() {
+    let Some(value) = row.value else {
         printer.put(b";")?;
         return Ok(());
-    }
+    };
     printer.put(b" =")?;
     match asked(what, row) {
         Some(number) => {
@@ -151,8 +192,7 @@ fn put_property<'t>(
         }
         None => put_tokens(alloc, printer, what, what.view.value_of(row))?,
     }
-    printer.put(b";")?;
-    Ok(())
+    put_end(alloc, printer, what, value.end)
 }
 
 /// Whether this is a property `name` that says its node's name once more, up to the `@`: dtc drops it.
@@ -207,6 +247,7 @@ fn put_tokens<'t>(
     for token in tokens {
         cells.step(token.kind);
         printer.move_to(alloc, token.place, token.has_gap)?;
+        printer.note(Word::At(token.place));
         match token.kind {
             Kind::Character => put_character(alloc, printer, token)?,
             Kind::Reference if cells.are_open => put_reference(alloc, printer, what, token)?,
@@ -253,6 +294,13 @@ fn put_reference<'t>(
     Ok(())
 }
 
+/// What is put next is made up for a node.
+fn note_node<'t>(printer: &mut Printer<'t>, what: Printed<'_, 't>, node: usize) {
+    if let Some(row) = what.view.table.nodes.get(node) {
+        printer.note(Word::At(row.place));
+    }
+}
+
 /// The number that a node gets, where it is to be written out.
 fn put_phandle<'t>(
     alloc: Global,
@@ -265,6 +313,7 @@ fn put_phandle<'t>(
     };
     if let Some(number) = known.number {
         if !known.asks {
+            note_node(printer, what, node);
             printer.put(b" phandle = <")?;
             printer.put_number(alloc, number)?;
             printer.put(b">;")?;
@@ -285,7 +334,8 @@ fn put_root_labels<'t>(
     }
     for label in labels.iter() {
         printer.put(b" ")?;
-        printer.put(*label)?;
+        printer.note(Word::Label(*label));
+        printer.put(label.name)?;
         printer.put(b":")?;
     }
     printer.put(b" &{/} { };")?;

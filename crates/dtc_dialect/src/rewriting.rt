@@ -6,9 +6,10 @@ use crate::edits::edit;
 use crate::error::DialectError;
 use crate::layout::{Layout, lay_out};
 use crate::numbers::{Known, Numbers, View, number_nodes};
-use crate::printing::{Printed, print_source};
+use crate::printing::{Printed, Said, print_source};
 use crate::reader::tokens;
 use crate::table::{NodeRow, Table};
+use crate::token::{Place, Span};
 use std::alloc::Global;
 use std::hash::RandomState;
 
@@ -28,6 +29,31 @@ pub fn rewrite<'t>(
     options: Options<'t>,
     text: &'t [u8],
 ) -> Result<Vec<u8>, DialectError<'t>> {
+    let Said { text, .. } = said(alloc, hasher, options, text, None)?;
+    Ok(text)
+}
+
+/// Which bytes of a text stand at a part of the text that says it in the profile: where that part is in no word of the user's,
+/// the nearest word before it.
+pub fn origin_of<'t>(
+    alloc: Global,
+    hasher: RandomState,
+    options: Options<'t>,
+    text: &'t [u8],
+    part: Span,
+) -> Result<Option<Place<'t>>, DialectError<'t>> {
+    let Said { asked, .. } = said(alloc, hasher, options, text, Some(part))?;
+    Ok(asked)
+}
+
+/// Says a text, and where the part of what is said comes from that is asked for.
+fn said<'t>(
+    alloc: Global,
+    hasher: RandomState,
+    options: Options<'t>,
+    text: &'t [u8],
+    asked: Option<Span>,
+) -> Result<Said<'t>, DialectError<'t>> {
     let tokens = tokens(alloc, options.file, text)?;
     let mut source = edit(alloc, hasher, tokens.as_slice())?;
     let found = lay_out(alloc, &source.table)?;
@@ -47,17 +73,29 @@ pub fn rewrite<'t>(
         table: &source.table,
         layout: &left,
     };
-    let numbers = if omits
-        || known
-            .known
-            .iter()
-            .any(|known| known.asks || known.is_legacy)
-    {
+    let numbers = if omits || are_written(&known) {
         Some(&known)
     } else {
         None
     };
-    print_source(alloc, &source, Printed { view, numbers })
+    print_source(
+        alloc,
+        text,
+        &source,
+        Printed {
+            view,
+            numbers,
+            asked,
+        },
+    )
+}
+
+/// Whether numbers are written out where no node is omitted.
+fn are_written(numbers: &Numbers) -> bool {
+    numbers
+        .known
+        .iter()
+        .any(|known| known.asks || known.is_legacy)
 }
 
 /// Deletes the nodes under `/omit-if-no-ref/` that no reference names. Answers whether there were any.

@@ -1,5 +1,6 @@
 //! The engines as dtc's command line calls them.
 
+use dtman_cli::refused_bytes;
 use dtman_dtc::{Compiler, Fault};
 use dtman_engine::{Place, compile_bytes, dump_bytes, overlay_bytes};
 use std::alloc::Global;
@@ -17,7 +18,14 @@ impl Compiler for Engine {
         text: &[u8],
         symbols: bool,
     ) -> Result<Vec<u8>, Fault> {
-        compile_bytes(alloc, hasher, text, symbols).map_err(|fault| shown(fault))
+        match compile_bytes(alloc, hasher, text, symbols) {
+            Ok(blob) => Ok(blob),
+            Err(fault) => Err(Fault {
+                // Where there is no memory to find them, the line stands alone.
+                bytes: refused_bytes(alloc, text, symbols, fault.number).unwrap_or(None),
+                ..shown(fault)
+            }),
+        }
     }
 
     fn dump(&mut self, alloc: Global, blob: &[u8]) -> Result<Vec<u8>, Fault> {
@@ -43,5 +51,6 @@ fn shown(fault: dtman_engine::Fault) -> Fault {
             Place::Line(line) => Some(line),
             _ => None,
         },
+        bytes: None,
     }
 }

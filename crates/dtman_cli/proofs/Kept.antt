@@ -62,6 +62,6 @@ unlifted symbols text blob c l = not_lifted symbols text l.given (answered symbo
 -- the dialect leaves it
 pub kept : (symbols : Bool) (text blob : List ℕ) (outcome : Outcome) → IsOutcome symbols text outcome → IsCompiled symbols text blob → IsKept symbols text outcome
 kept symbols text blob (Plain given) is c = answered symbols text blob given c is.0
-kept symbols text blob (Said said given) is c = absurd (unlifted symbols text blob c is.0)
+kept symbols text blob (Said saying given) is c = absurd (unlifted symbols text blob c is.0)
 kept symbols text blob (Refused unsaid) is c = absurd (unlifted symbols text blob c is.0)
-kept symbols text blob (Lost name) is c = absurd (unlifted symbols text blob c is)
+kept symbols text blob (Lost missing) is c = absurd (unlifted symbols text blob c is)

@@ -38,13 +38,13 @@ pub record IsLifted (symbols : Bool) (text : List ℕ) : Type 0 where
 -- of the text by which the source is said, to the dialect's own refusal, or to a file that isn't there
 abbrev pub IsOutcome : Bool → List ℕ → Outcome → Type 0
 IsOutcome symbols source (Plain given) = IsAnswer symbols source given × (is_lifted given ≡ false)
-IsOutcome symbols source (Said text given) = IsLifted symbols source × IsAnswer symbols text.items given
+IsOutcome symbols source (Said saying given) = IsLifted symbols source × IsAnswer symbols saying.text.items given
 IsOutcome symbols source (Refused unsaid) = IsLifted symbols source × (is_dialect_number unsaid.fault.number ≡ true)
-IsOutcome symbols source (Lost name) = IsLifted symbols source
+IsOutcome symbols source (Lost missing) = IsLifted symbols source
 
 -- a blob of the source, or want of memory
 abbrev pub IsKept : Bool → List ℕ → Outcome → Type 0
 IsKept symbols source (Plain given) = MatchResult given (λ blob. IsCompiled symbols source blob.items) (λ fault. fault_value fault ≡ no_memory)
-IsKept symbols source (Said text given) = ⊥
+IsKept symbols source (Said saying given) = ⊥
 IsKept symbols source (Refused unsaid) = ⊥
-IsKept symbols source (Lost name) = ⊥
+IsKept symbols source (Lost missing) = ⊥

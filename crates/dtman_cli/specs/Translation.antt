@@ -14,6 +14,6 @@ is_dialect_number number = may_lift number || number == 17
 
 -- a text, a refusal by such a number, or a file that isn't there
 abbrev pub IsTranslation : Translation → Type 0
-IsTranslation (Text said) = Unit {0}
+IsTranslation (Text saying) = Unit {0}
 IsTranslation (Refused unsaid) = is_dialect_number unsaid.fault.number ≡ true
-IsTranslation (Lost name) = Unit {0}
+IsTranslation (Lost missing) = Unit {0}

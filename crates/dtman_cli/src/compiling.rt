@@ -3,14 +3,16 @@
 use crate::detail::{Detail, refusal};
 use crate::diagnosing::Given;
 use crate::dialect::{Outcome, compile_dialect};
-use crate::failure::Failure;
+use crate::failure::{Failure, lost_line};
 use crate::folders::Folders;
+use crate::origins::{Source, diagnose_said};
 use crate::surroundings::Surroundings;
-use crate::unsaid::Unsaid;
-use dtc_dialect::{plain, user_place};
-use dtman_diagnosis::diagnose_source;
+use crate::translating::Missing;
+use crate::unsaid::{Unsaid, unfound};
+use dtc_dialect::{Options, Site, plain, user_place};
+use dtman_diagnosis::{diagnose_source, text_of};
 use dtman_engine::{Fault, Place, compile_bytes};
-use std::alloc::Global;
+use std::alloc::{AllocError, Global};
 use std::hash::RandomState;
 
 /// How a source is compiled.
@@ -62,41 +64,45 @@ pub fn dialect_blob<'a, S: Surroundings>(
     };
     let (name, text) = (source.name, source.bytes);
     match compile_dialect(alloc, hasher, &mut files, name, text, manner.symbols) {
-        Ok(outcome) => blob_of(alloc, source, manner, outcome),
+        Ok(outcome) => blob_of(alloc, hasher, source, manner, outcome),
         Err(_) => Err(Failure::Refused(Fault::no_memory())),
     }
 }
 
 fn blob_of<'a>(
     alloc: Global,
+    hasher: RandomState,
     source: Given<'_>,
     manner: Manner,
     outcome: Outcome,
 ) -> Result<Vec<u8>, Failure<'a>> {
     match outcome {
         Outcome::Plain(answer) => blob_or_refusal(alloc, source, manner, answer),
-        Outcome::Said(text, answer) => said_blob(alloc, source, manner, text, answer),
+        Outcome::Said(_, Ok(blob)) => Ok(blob),
+        Outcome::Said(saying, Err(fault)) => {
+            let said = Source {
+                hasher,
+                options: Options {
+                    file: plain(source.name),
+                    symbols: manner.symbols,
+                },
+                whole: saying.whole.as_slice(),
+                text: saying.text.as_slice(),
+            };
+            Err(unsaid_blob(alloc, said, manner, fault))
+        }
         Outcome::Refused(unsaid) => refused(alloc, manner, unsaid),
-        Outcome::Lost(name) => lost(name),
+        Outcome::Lost(missing) => Err(lost(alloc, manner, missing)),
     }
 }
 
-/// The blob of the front's text, or what is told of its refusal.
-fn said_blob<'a>(
-    alloc: Global,
-    source: Given<'_>,
-    manner: Manner,
-    text: Vec<u8>,
-    answer: Result<Vec<u8>, Fault>,
-) -> Result<Vec<u8>, Failure<'a>> {
-    let said = Given {
-        name: plain(source.name),
-        bytes: text.as_slice(),
-    };
-    match answer {
-        Ok(blob) => Ok(blob),
-        Err(fault) => Err(uncompiled(alloc, said, manner, in_user_file(said, fault))),
+/// What is told of a source of which the profile refuses the text that says it.
+fn unsaid_blob<'a>(alloc: Global, source: Source<'_>, manner: Manner, fault: Fault) -> Failure<'a> {
+    let fault = in_user_file(source, fault);
+    if manner.detail == Detail::Line {
+        return Failure::Refused(fault);
     }
+    refusal(alloc, fault, diagnose_said(alloc, source, fault.number))
 }
 
 /// What is told of a source that the dialect doesn't take.
@@ -109,15 +115,31 @@ fn refused<'a>(alloc: Global, manner: Manner, unsaid: Unsaid) -> Result<Vec<u8>,
 }
 
 /// What is told of a file that can't be read.
-fn lost<'a>(name: Vec<u8>) -> Result<Vec<u8>, Failure<'a>> {
-    Err(Failure::Lost(name))
+fn lost<'a>(alloc: Global, manner: Manner, missing: Missing) -> Failure<'a> {
+    let Missing { name, site } = missing;
+    let Some(site) = site else {
+        return Failure::Lost(name);
+    };
+    if manner.detail == Detail::Line {
+        return Failure::Lost(name);
+    }
+    match lost_lines(alloc, name.as_slice(), site) {
+        Ok(lines) => Failure::LostAt(lines),
+        Err(_) => Failure::Lost(name),
+    }
 }
 
-/// A refusal in a text with line markers, at the line of the user's file.
-fn in_user_file(text: Given<'_>, fault: Fault) -> Fault {
+fn lost_lines(alloc: Global, name: &[u8], site: Site) -> Result<String, AllocError> {
+    let first = lost_line(alloc, name)?;
+    let diagnosis = unfound(alloc, name, site)?;
+    text_of(alloc, first.as_str(), &diagnosis)
+}
+
+/// A refusal of the text that says a source, at the line of the user's file.
+fn in_user_file(source: Source<'_>, fault: Fault) -> Fault {
     match fault.place {
         Place::Line(line) => Fault {
-            place: Place::Line(user_place(text.name, text.bytes, line).line),
+            place: Place::Line(user_place(source.options.file, source.text, line).line),
             ..fault
         },
         _ => fault,

@@ -3,7 +3,7 @@ ghost use Rattle.std.specs.Prelude.{◌≡◌, ℕ, List, IfOk};
 ghost use Rattle.dtman_engine.specs.Compile.{IsCompiled};
 ghost use Rattle.dtman_cli.specs.Dialect.{IsKept, IsLifted, IsOutcome, is_lifted};
 
-use crate::translating::{Translation, translated};
+use crate::translating::{Missing, Saying, Translation, translated};
 use crate::unsaid::Unsaid;
 use dtc_dialect::Files;
 use dtman_engine::{Fault, compile_bytes};
@@ -15,12 +15,12 @@ use std::hash::RandomState;
 pub enum Outcome {
     /// The profile's answer of the source itself: dtc's dialect changes nothing.
     Plain(Result<Vec<u8>, Fault>),
-    /// The text of the profile by which the source is said, and the profile's answer of that.
-    Said(Vec<u8>, Result<Vec<u8>, Fault>),
+    /// The text of the profile by which the source is said, and the profile's answer of it.
+    Said(Saying, Result<Vec<u8>, Fault>),
     /// The dialect doesn't take the source, either.
     Refused(Unsaid),
-    /// A file of this name that the source takes in can't be read.
-    Lost(Vec<u8>),
+    /// A file that the source takes in can't be read.
+    Lost(Missing),
 }
 
 /// Compiles the text of a file of this name, which takes in files that are found by their names.
@@ -68,11 +68,11 @@ fn lifted<F: Files>(
     ensures { IfOk result (λ outcome. IsOutcome symbols text.now outcome) }
 {
     match translated(alloc, hasher, files, name, text, symbols)? {
-        Translation::Text(said) => {
-            let answer = compile_bytes(alloc, hasher, said.as_slice(), symbols);
-            Ok(Outcome::Said(said, answer))
+        Translation::Text(saying) => {
+            let answer = compile_bytes(alloc, hasher, saying.text.as_slice(), symbols);
+            Ok(Outcome::Said(saying, answer))
         }
         Translation::Refused(unsaid) => Ok(Outcome::Refused(unsaid)),
-        Translation::Lost(name) => Ok(Outcome::Lost(name)),
+        Translation::Lost(missing) => Ok(Outcome::Lost(missing)),
     }
 }

@@ -2,6 +2,7 @@
 
 use crate::running::{COMMAND_LINE, FILE, REFUSED};
 use dtman_engine::Fault;
+use std::alloc::{AllocError, Global};
 use std::{io, str};
 
 /// Why a command ended without its output.
@@ -14,6 +15,8 @@ pub enum Failure<'a> {
     File(Fault, &'a str),
     /// A file of this name that a source takes in can't be read.
     Lost(Vec<u8>),
+    /// The same, with the lines that say where.
+    LostAt(String),
     /// Nobody reads the output any more. That isn't told.
     Unread,
     /// A number that no error has.
@@ -33,6 +36,7 @@ pub fn fail<E: Eprint>(errors: &E, failure: Failure<'_>) -> u8 {
         Failure::Told(lines) => (eprint!(errors; "{lines}"), REFUSED),
         Failure::File(fault, path) => (eprintln!(errors; "{fault} {path}"), FILE),
         Failure::Lost(name) => (lost(errors, name.as_slice()), FILE),
+        Failure::LostAt(lines) => (eprint!(errors; "{lines}"), FILE),
         Failure::Unread => (Ok(()), FILE),
         Failure::NoSuchNumber(number) => (
             eprintln!(errors; "error: no error has the number {number}"),
@@ -49,6 +53,13 @@ fn lost<E: Eprint>(errors: &E, name: &[u8]) -> io::Result<()> {
     let fault = Fault::cannot_read();
     let name = shown(name);
     eprintln!(errors; "{fault} {name}")
+}
+
+/// The same line, for others to follow.
+pub fn lost_line(alloc: Global, name: &[u8]) -> Result<String, AllocError> {
+    let fault = Fault::cannot_read();
+    let name = shown(name);
+    format!(in alloc; "{fault} {name}")
 }
 
 // A name out of a source, or a question mark for one that a terminal might obey or that is no text.

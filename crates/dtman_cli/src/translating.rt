@@ -3,18 +3,32 @@ ghost use Rattle.std.specs.Prelude.{IfOk};
 ghost use Rattle.dtman_cli.specs.Translation.{IsTranslation};
 
 use crate::unsaid::{Unsaid, incomplete, refused};
-use dtc_dialect::{DialectError, Files, Incomplete, Options, included, plain, rewrite};
+use dtc_dialect::{
+    DialectError, Files, Incomplete, Options, Shortfall, Site, included, plain, rewrite,
+};
 use std::alloc::{AllocError, Global};
 use std::hash::RandomState;
+
+/// A source with all that it takes in, and the text of the profile that says it.
+#[derive(Drop)]
+pub struct Saying {
+    pub whole: Vec<u8>,
+    pub text: Vec<u8>,
+}
+
+/// A file that can't be read: its name, and where that stands.
+#[derive(Drop)]
+pub struct Missing {
+    pub name: Vec<u8>,
+    pub site: Option<Site>,
+}
 
 /// What is made of a source.
 #[derive(Drop)]
 pub enum Translation {
-    /// The text of the profile that says it.
-    Text(Vec<u8>),
+    Text(Saying),
     Refused(Unsaid),
-    /// A file of this name can't be read.
-    Lost(Vec<u8>),
+    Lost(Missing),
 }
 
 /// Takes in what a source names, and says all of it in the profile.
@@ -30,10 +44,20 @@ pub fn translated<F: Files>(
 {
     let whole = match included(alloc, files, name, text) {
         Ok(whole) => whole,
-        Err(Incomplete::NoFile(lost)) => return Ok(Translation::Lost(lost)),
-        Err(reason) => return Ok(Translation::Refused(incomplete(alloc, name, &reason)?)),
+        Err(shortfall) => return fallen_short(alloc, name, shortfall),
     };
-    said(alloc, hasher, name, whole.as_slice(), symbols)
+    said(alloc, hasher, name, whole, symbols)
+}
+
+/// What is made of a source that isn't whole.
+fn fallen_short(alloc: Global, file: &[u8], shortfall: Shortfall) -> Result<Translation, AllocError>
+    ensures { IfOk result (λ made. IsTranslation made) }
+{
+    let Shortfall { reason, site } = shortfall;
+    match reason {
+        Incomplete::NoFile(name) => Ok(Translation::Lost(Missing { name, site })),
+        reason => Ok(Translation::Refused(incomplete(alloc, file, &reason, site)?)),
+    }
 }
 
 /// Says a whole source in the profile.
@@ -41,7 +65,7 @@ fn said(
     alloc: Global,
     hasher: RandomState,
     name: &[u8],
-    whole: &[u8],
+    whole: Vec<u8>,
     symbols: bool,
 ) -> Result<Translation, AllocError>
     ensures { IfOk result (λ made. IsTranslation made) }
@@ -50,11 +74,11 @@ fn said(
         file: plain(name),
         symbols,
     };
-    match rewrite(alloc, hasher, options, whole) {
-        Ok(said) => Ok(Translation::Text(said)),
+    match rewrite(alloc, hasher, options, whole.as_slice()) {
+        Ok(text) => Ok(Translation::Text(Saying { whole, text })),
         Err(DialectError::NoMemory) => Err(AllocError),
         Err(DialectError::Refused(refusal)) => {
-            Ok(Translation::Refused(refused(alloc, whole, refusal)?))
+            Ok(Translation::Refused(refused(alloc, whole.as_slice(), refusal)?))
         }
     }
 }

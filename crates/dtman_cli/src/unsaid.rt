@@ -2,7 +2,8 @@
 ghost use Rattle.std.specs.Prelude.{◌≡◌, true, IfOk};
 ghost use Rattle.dtman_cli.specs.Translation.{is_dialect_number};
 
-use dtc_dialect::{Incomplete, Mistake, Refusal, columns_of, line_of};
+use crate::user_places::{site_place, text_place, words_of};
+use dtc_dialect::{Incomplete, Mistake, Refusal, Site};
 use dtman_diagnosis::{Diagnosis, Note, Place, Subject, copied};
 use dtman_engine::Fault;
 use std::alloc::{AllocError, Global};
@@ -56,16 +57,9 @@ fn diagnosis_at(
         return whole(alloc, place.file, number, b"");
     };
     let words = text.get(span.start..span.end).unwrap_or(&[]);
-    let columns = columns_of(text, span);
     let mut diagnosis = Diagnosis {
         number,
-        place: Place::Text {
-            file: copied(alloc, place.file)?,
-            line: place.line,
-            column: columns.start,
-            text: copied(alloc, line_of(text, span))?,
-            marked: columns.end.saturating_sub(columns.start),
-        },
+        place: text_place(alloc, text, place, span)?,
         kind: kind_of(number, words),
         subject: copied(alloc, subject_of(number, words))?,
         notes: Vec::new(alloc),
@@ -102,40 +96,54 @@ fn is_blank(text: &[u8]) -> bool {
     text.iter().all(|c| c.is_ascii_whitespace())
 }
 
-/// Why a source isn't whole, by its file.
-pub fn incomplete(alloc: Global, file: &[u8], reason: &Incomplete) -> Result<Unsaid, AllocError>
+/// Why a source isn't whole, at its words in the user's files, where they are known.
+pub fn incomplete(
+    alloc: Global,
+    file: &[u8],
+    reason: &Incomplete,
+    site: Option<Site>,
+) -> Result<Unsaid, AllocError>
     ensures { IfOk result (λ unsaid. is_dialect_number unsaid.fault.number ≡ true) }
 {
     match reason {
         Incomplete::NoMemory => Err(AllocError),
-        Incomplete::TooDeep => unwhole(
-            alloc,
-            file,
-            nowhere(16, "TooDeep"),
-            "files take in files at most 200 deep",
-        ),
-        Incomplete::TooLong => unwhole(
-            alloc,
-            file,
-            nowhere(17, "TooLong"),
-            "all that it takes in counts, too",
-        ),
-        Incomplete::NoFile(_) | Incomplete::Syntax => unwhole(
-            alloc,
-            file,
-            nowhere(10, "Syntax"),
-            "a file's name between quotes must follow, and numbers behind it in pairs",
-        ),
+        Incomplete::TooDeep => {
+            let fault = fault_at(16, "TooDeep", &site);
+            unwhole(
+                alloc,
+                file,
+                site,
+                fault,
+                "a file that takes itself in never ends",
+            )
+        }
+        Incomplete::TooLong => {
+            let fault = fault_at(17, "TooLong", &None);
+            unwhole(alloc, file, site, fault, "all that it takes in counts, too")
+        }
+        Incomplete::NoFile(_) | Incomplete::Syntax => {
+            let fault = fault_at(10, "Syntax", &site);
+            unwhole(
+                alloc,
+                file,
+                site,
+                fault,
+                "a file's name between quotes must follow, and numbers behind it in pairs",
+            )
+        }
     }
 }
 
-fn nowhere(number: u8, name: &'static str) -> Fault
+fn fault_at(number: u8, name: &'static str, site: &Option<Site>) -> Fault
     ensures { result.number ≡ number }
 {
     Fault {
         number,
         name,
-        place: dtman_engine::Place::Nowhere,
+        place: match site {
+            Some(site) => dtman_engine::Place::Line(site.line),
+            None => dtman_engine::Place::Nowhere,
+        },
     }
 }
 
@@ -143,16 +151,44 @@ fn nowhere(number: u8, name: &'static str) -> Fault
 fn unwhole(
     alloc: Global,
     file: &[u8],
+    site: Option<Site>,
     fault: Fault,
     note: &'static str,
 ) -> Result<Unsaid, AllocError>
     ensures { IfOk result (λ unsaid. unsaid.fault ≡ fault) }
 {
-    // The words that take a file in can't stand there, unless the text is too long.
-    let told = if fault.number == 17 { 17 } else { 10 };
-    let mut diagnosis = whole(alloc, file, told, b"/include/")?;
+    let mut diagnosis = match site {
+        Some(site) => words_at(alloc, site, fault.number)?,
+        None => whole(alloc, file, fault.number, b"/include/")?,
+    };
     diagnosis.notes.push(Note::Words(note))?;
     Ok(Unsaid { fault, diagnosis })
+}
+
+/// A refusal of words that take something in.
+fn words_at(alloc: Global, site: Site, number: u8) -> Result<Diagnosis, AllocError> {
+    let subject = copied(alloc, words_of(&site))?;
+    Ok(Diagnosis {
+        number,
+        kind: match number {
+            16 => Subject::Inclusion,
+            _ => kind_of(number, subject.as_slice()),
+        },
+        place: site_place(site),
+        subject,
+        notes: Vec::new(alloc),
+    })
+}
+
+/// What is told of a file that can't be read, where its name stands.
+pub fn unfound(alloc: Global, name: &[u8], site: Site) -> Result<Diagnosis, AllocError> {
+    Ok(Diagnosis {
+        number: 80,
+        place: site_place(site),
+        kind: Subject::Nothing,
+        subject: copied(alloc, name)?,
+        notes: Vec::new(alloc),
+    })
 }
 
 /// What is told of a file as a whole.

@@ -97,6 +97,8 @@ pub enum Subject {
     Escape,
     Punctuation,
     Unclosed,
+    /// Words that take in a file.
+    Inclusion,
     End,
 }
 

@@ -46,6 +46,13 @@ fn bits(kind: Subject) -> Sentence {
     }
 }
 
+fn depth(kind: Subject) -> Sentence {
+    match kind {
+        Subject::Inclusion => of("", " nests files deeper than 200"),
+        _ => of("", " nests deeper than 64"),
+    }
+}
+
 fn reserved(kind: Subject) -> Sentence {
     match kind {
         Subject::Name => of("the name ", " is kept for the compiler"),
@@ -61,7 +68,7 @@ fn of_source(number: u8, kind: Subject) -> Sentence {
         13 => bits(kind),
         14 => of("", " is no number below 2^64"),
         15 => of("", " is no escape"),
-        16 => of("", " nests deeper than 64"),
+        16 => depth(kind),
         17 => plain("a source has at most 16,777,216 bytes"),
         20 => of("no node has the label ", ""),
         21 => of("the label ", " is another node's"),
@@ -139,6 +146,7 @@ pub(crate) fn push_sentence(out: &mut String, diagnosis: &Diagnosis) -> Result<(
         0..=29 => of_source(diagnosis.number, diagnosis.kind),
         30..=39 => of_blob(diagnosis.number),
         40..=49 => of_overlay(diagnosis.number, diagnosis.kind),
+        80 => of("no file can be read that is named ", ""),
         _ => of_bus(diagnosis.number),
     };
     out.push_str(sentence.before)?;

@@ -1,5 +1,6 @@
 //! What dtc's command line asks of its surroundings.
 
+use dtc_dialect::Span;
 use std::alloc::Global;
 use std::hash::RandomState;
 
@@ -11,12 +12,13 @@ pub struct Unread;
 #[derive(Clone, Copy, Debug, PartialEq, Eq)]
 pub struct Unwritten;
 
-/// A refusal of the compiler: its number and name, and its line in the text that was given.
+/// A refusal of the compiler: its number and name, its line in the text that was given, and the bytes of that which are refused.
 #[derive(Clone, Copy, Debug)]
 pub struct Fault {
     pub number: u8,
     pub name: &'static str,
     pub line: Option<usize>,
+    pub bytes: Option<Span>,
 }
 
 /// Files, the standard streams, and a seed.

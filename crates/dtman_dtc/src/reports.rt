@@ -2,8 +2,11 @@
 
 use crate::host::{Fault, Host};
 use crate::options::BadWord;
-use dtc_dialect::{DialectError, Incomplete, Place, columns_of, user_place};
+use dtc_dialect::{
+    DialectError, Incomplete, Options, Place, Shortfall, Span, columns_of, origin_of, user_place,
+};
 use std::alloc::{AllocError, AllocFailed, Global};
+use std::hash::RandomState;
 
 /// Why a run ended without its output.
 #[derive(Drop)]
@@ -45,9 +48,39 @@ pub(crate) fn report_dialect<H: Host>(
         DialectError::Refused(refusal) => {
             let number = refusal.mistake as u8;
             let name = refusal.mistake.name();
-            let place = Some(refusal.place);
-            said(report_at(alloc, host, text, place, number, name))
+            let at = located(text, refusal.place);
+            said(report_at(alloc, host, Some(at), number, name))
         }
+    }
+}
+
+/// A source as the dialect reads it, and the text by which that says it.
+#[derive(Clone, Copy)]
+pub(crate) struct Source<'t> {
+    pub hasher: RandomState,
+    pub options: Options<'t>,
+    pub whole: &'t [u8],
+    pub text: &'t [u8],
+}
+
+/// Says a refusal of the compiler in the text of a source, where it shows in the user's files.
+pub(crate) fn report_source<H: Host>(
+    alloc: Global,
+    host: &mut H,
+    source: &Source<'_>,
+    fault: &Fault,
+) -> Failure<'static> {
+    let (file, text) = (source.options.file, source.text);
+    let Some(bytes) = fault.bytes else {
+        return report_fault(alloc, host, file, text, fault);
+    };
+    match origin_of(alloc, source.hasher, source.options, source.whole, bytes) {
+        Ok(Some(place)) => {
+            let at = located(source.whole, place);
+            said(report_at(alloc, host, Some(at), fault.number, fault.name))
+        }
+        Err(DialectError::NoMemory) => Failure::NoMemory,
+        _ => report_fault(alloc, host, file, text, fault),
     }
 }
 
@@ -62,11 +95,31 @@ pub(crate) fn report_fault<H: Host>(
     if fault.number == 0 {
         return Failure::NoMemory;
     }
-    let place = match fault.line {
-        Some(line) => Some(user_place(file, text, line)),
+    let at = match fault.line {
+        Some(line) => Some(located(text, user_place(file, text, line))),
         None => None,
     };
-    said(report_at(alloc, host, text, place, fault.number, fault.name))
+    said(report_at(alloc, host, at, fault.number, fault.name))
+}
+
+/// A line of a file, and columns where they are known: the first, and the one behind the last.
+#[derive(Clone, Copy)]
+struct Shown<'a> {
+    file: &'a [u8],
+    line: usize,
+    columns: Option<Span>,
+}
+
+/// A place of a text.
+fn located<'a>(text: &[u8], place: Place<'a>) -> Shown<'a> {
+    Shown {
+        file: place.file,
+        line: place.line,
+        columns: match place.span {
+            Some(span) => Some(columns_of(text, span)),
+            None => None,
+        },
+    }
 }
 
 fn said(reported: Result<(), AllocError>) -> Failure<'static> {
@@ -76,23 +129,20 @@ fn said(reported: Result<(), AllocError>) -> Failure<'static> {
     }
 }
 
-/// `Error: FILE:LINE.COLUMN-COLUMN error NUMBER NAME`, with the columns where they are known: the first, and the one behind
-/// the last.
+/// `Error: FILE:LINE.COLUMN-COLUMN error NUMBER NAME`, as far as the place is known.
 fn report_at<H: Host>(
     alloc: Global,
     host: &mut H,
-    text: &[u8],
-    place: Option<Place<'_>>,
+    at: Option<Shown<'_>>,
     number: u8,
     name: &str,
 ) -> Result<(), AllocError> {
     let mut line = Vec::from_slice(alloc, b"Error: ")?;
-    if let Some(place) = place {
-        line.extend_from_slice(place.file)?;
-        let at = place.line;
-        line.extend_from_slice(format!(in alloc; ":{at}")?.as_bytes())?;
-        if let Some(span) = place.span {
-            let columns = columns_of(text, span);
+    if let Some(at) = at {
+        line.extend_from_slice(at.file)?;
+        let number = at.line;
+        line.extend_from_slice(format!(in alloc; ":{number}")?.as_bytes())?;
+        if let Some(columns) = at.columns {
             let (first, behind) = (columns.start, columns.end);
             line.extend_from_slice(format!(in alloc; ".{first}-{behind}")?.as_bytes())?;
         }
@@ -102,6 +152,34 @@ fn report_at<H: Host>(
     line.extend_from_slice(words.as_bytes())?;
     host.report(line.as_slice());
     Ok(())
+}
+
+/// Says where a text stops short that takes in others.
+pub(crate) fn report_shortfall<H: Host>(
+    alloc: Global,
+    host: &mut H,
+    shortfall: Shortfall,
+) -> Failure<'static> {
+    let Shortfall { reason, site } = shortfall;
+    let Some(site) = site else {
+        return Failure::Incomplete(reason);
+    };
+    let at = Some(Shown {
+        file: site.file.as_slice(),
+        line: site.line,
+        columns: Some(site.columns),
+    });
+    let reported = match reason {
+        Incomplete::NoMemory => Ok(()),
+        Incomplete::NoFile(_) => report_at(alloc, host, at, 80, "CannotRead"),
+        Incomplete::TooDeep => report_at(alloc, host, at, 16, "TooDeep"),
+        Incomplete::TooLong => report_at(alloc, host, at, 17, "TooLong"),
+        Incomplete::Syntax => report_at(alloc, host, at, 10, "Syntax"),
+    };
+    match reported {
+        Ok(()) => Failure::Incomplete(reason),
+        Err(_) => Failure::NoMemory,
+    }
 }
 
 /// Says why a run ended, and answers its exit status.

@@ -4,7 +4,9 @@ use crate::blob::{Word, set_boot_cpu, with_room, word_at};
 use crate::booting::boot_cpu_of;
 use crate::host::{Compiler, Host};
 use crate::options::{Asked, Format, Options, read_words};
-use crate::reports::{Failure, fail, report_dialect, report_fault};
+use crate::reports::{
+    Failure, Source, fail, report_dialect, report_fault, report_shortfall, report_source,
+};
 use crate::searching::Searching;
 use dtc_dialect::{included, plain, rewrite};
 use std::alloc::Global;
@@ -135,14 +137,19 @@ fn compiled<H: Host, C: Compiler>(
     };
     match compiler.compile(alloc, hasher, text.as_slice(), options.symbols) {
         Ok(mut blob) => {
-            let boot_cpu = match options.boot_cpu {
-                Some(number) => number,
-                None => boot_cpu_of(blob.as_slice()),
-            };
-            set_boot_cpu(&mut blob, boot_cpu);
+            let guessed = boot_cpu_of(blob.as_slice());
+            set_boot_cpu(&mut blob, options.boot_cpu.unwrap_or(guessed));
             Ok(blob)
         }
-        Err(fault) => Err(report_fault(alloc, host, file, text.as_slice(), &fault)),
+        Err(fault) => {
+            let source = Source {
+                hasher,
+                options: wanted,
+                whole: whole.as_slice(),
+                text: text.as_slice(),
+            };
+            Err(report_source(alloc, host, &source, &fault))
+        }
     }
 }
 
@@ -160,7 +167,12 @@ fn whole<H: Host>(
         folders: options.folders.as_slice(),
         found,
     };
-    included(alloc, &mut files, file, source).map_err(|reason| Failure::Incomplete(reason))
+    let whole = included(alloc, &mut files, file, source);
+    drop(files);
+    match whole {
+        Ok(whole) => Ok(whole),
+        Err(shortfall) => Err(report_shortfall(alloc, host, shortfall)),
+    }
 }
 
 /// A blob as it is, or laid out anew where a blob is asked for.
