@@ -1,7 +1,7 @@
 //! Phandles: which nodes are referred to, and by what numbers where dtc gives them before it omits nodes.
 
 use crate::integer::integer;
-use crate::layout::{Layout, part};
+use crate::preorder::{Preorder, part};
 use crate::table::{PropertyRow, Table, Tokens};
 use crate::token::{Kind, Token};
 use std::alloc::{AllocError, Global};
@@ -13,7 +13,7 @@ use std::hash::RandomState;
 pub(crate) struct View<'a, 't> {
     pub tokens: &'a [Token<'t>],
     pub table: &'a Table<'t>,
-    pub layout: &'a Layout,
+    pub preorder: &'a Preorder,
 }
 
 /// What is known of a node's phandle.
@@ -96,12 +96,12 @@ pub(crate) fn number_nodes(
         taken: HashSet::with_hasher(alloc, hasher),
         next: 1,
     };
-    for property in view.layout.properties.iter() {
+    for property in view.preorder.properties.iter() {
         if let Some(row) = view.table.properties.get(*property) {
             note_given(&mut numbers, view, row)?;
         }
     }
-    for property in view.layout.properties.iter() {
+    for property in view.preorder.properties.iter() {
         if let Some(row) = view.table.properties.get(*property) {
             note_references(&mut numbers, view, row);
         }

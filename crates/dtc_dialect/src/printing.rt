@@ -4,8 +4,8 @@ use crate::bytes::{behind, front};
 use crate::character::character;
 use crate::edits::Edited;
 use crate::error::{DialectError, Mistake, refused};
-use crate::layout::{Stop, part};
 use crate::numbers::{Cells, Known, Numbers, View};
+use crate::preorder::{Stop, part};
 use crate::printer::Printer;
 use crate::table::{NodeRow, PropertyRow, ROOT};
 use crate::token::{Kind, Place, Span, Token};
@@ -79,7 +79,7 @@ fn put_nodes<'t>(
     what: Printed<'_, 't>,
 ) -> Result<(), DialectError<'t>> {
     let mut open = 0;
-    for stop in what.view.layout.stops.iter() {
+    for stop in what.view.preorder.stops.iter() {
         close(printer, open, stop.depth)?;
         put_node(alloc, printer, what, stop)?;
         open = stop.depth.saturating_add(1);
@@ -113,7 +113,7 @@ fn put_node<'t>(
         printer.note(Word::At(row.place));
         put_name(alloc, printer, row)?;
     }
-    for property in what.view.layout.properties_of(stop) {
+    for property in what.view.preorder.properties_of(stop) {
         if let Some(row) = what.view.table.properties.get(*property) {
             put_property(alloc, printer, what, row)?;
         }
@@ -127,7 +127,7 @@ fn put_labels<'t>(
     what: Printed<'_, 't>,
     node: usize,
 ) -> Result<(), DialectError<'t>> {
-    let labels = what.view.layout.labels_of(alloc, what.view.table, node)?;
+    let labels = what.view.preorder.labels_of(alloc, what.view.table, node)?;
     for label in labels.iter() {
         printer.note(Word::Label(*label));
         printer.put(label.name)?;
@@ -328,7 +328,7 @@ fn put_root_labels<'t>(
     printer: &mut Printer<'t>,
     what: Printed<'_, 't>,
 ) -> Result<(), DialectError<'t>> {
-    let labels = what.view.layout.labels_of(alloc, what.view.table, ROOT)?;
+    let labels = what.view.preorder.labels_of(alloc, what.view.table, ROOT)?;
     if labels.is_empty() {
         return Ok(());
     }

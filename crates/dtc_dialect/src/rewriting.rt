@@ -4,8 +4,8 @@ ghost use Rattle.dtc_dialect.specs.Omission.{IsOmitted};
 
 use crate::edits::edit;
 use crate::error::DialectError;
-use crate::layout::{Layout, lay_out};
 use crate::numbers::{Known, Numbers, View, number_nodes};
+use crate::preorder::{Preorder, preorder_of};
 use crate::printing::{Printed, Said, print_source};
 use crate::reader::tokens;
 use crate::table::{NodeRow, Table};
@@ -56,22 +56,22 @@ fn said<'t>(
 ) -> Result<Said<'t>, DialectError<'t>> {
     let tokens = tokens(alloc, options.file, text)?;
     let mut source = edit(alloc, hasher, tokens.as_slice())?;
-    let found = lay_out(alloc, &source.table)?;
+    let found = preorder_of(alloc, &source.table)?;
     let known = number_nodes(
         alloc,
         hasher,
         View {
             tokens: tokens.as_slice(),
             table: &source.table,
-            layout: &found,
+            preorder: &found,
         },
     )?;
     let omits = omit(&mut source.table, &found, &known, options.symbols);
-    let left = lay_out(alloc, &source.table)?;
+    let left = preorder_of(alloc, &source.table)?;
     let view = View {
         tokens: tokens.as_slice(),
         table: &source.table,
-        layout: &left,
+        preorder: &left,
     };
     let numbers = if omits || are_written(&known) {
         Some(&known)
@@ -99,13 +99,13 @@ fn are_written(numbers: &Numbers) -> bool {
 }
 
 /// Deletes the nodes under `/omit-if-no-ref/` that no reference names. Answers whether there were any.
-fn omit(table: &mut Table<'_>, layout: &Layout, numbers: &Numbers, symbols: bool) -> bool {
+fn omit(table: &mut Table<'_>, preorder: &Preorder, numbers: &Numbers, symbols: bool) -> bool {
     let mut omits = false;
-    for stop in layout.stops.iter() {
+    for stop in preorder.stops.iter() {
         let Some(known) = numbers.known.get(stop.node) else {
             continue;
         };
-        let has_symbol = symbols && layout.was_labelled(stop.node);
+        let has_symbol = symbols && preorder.was_labelled(stop.node);
         if let Some(row) = table.nodes.get_mut(stop.node) {
             if is_omitted(row, known, has_symbol) {
                 row.deleted = usize::MAX;

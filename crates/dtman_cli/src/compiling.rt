@@ -1,7 +1,7 @@
 //! The blob of a source, or what is told of its refusal.
 
-use crate::detail::{Detail, refusal};
-use crate::diagnosing::Given;
+use crate::detail::{Detail, refusal, told};
+use crate::diagnosing::{Given, Inputs};
 use crate::dialect::{Outcome, compile_dialect};
 use crate::failure::{Failure, lost_line};
 use crate::folders::Folders;
@@ -10,7 +10,7 @@ use crate::surroundings::Surroundings;
 use crate::translating::Missing;
 use crate::unsaid::{Unsaid, unfound};
 use dtc_dialect::{Options, Site, plain, user_place};
-use dtman_diagnosis::{diagnose_source, text_of};
+use dtman_diagnosis::text_of;
 use dtman_engine::{Fault, Place, compile_bytes};
 use std::alloc::{AllocError, Global};
 use std::hash::RandomState;
@@ -44,7 +44,11 @@ fn blob_or_refusal<'a>(
 ) -> Result<Vec<u8>, Failure<'a>> {
     match answer {
         Ok(blob) => Ok(blob),
-        Err(fault) => Err(uncompiled(alloc, text, manner, fault)),
+        Err(fault) => {
+            let symbols = manner.symbols;
+            let inputs = Inputs::Source { text, symbols };
+            Err(told(alloc, manner.detail, fault, inputs))
+        }
     }
 }
 
@@ -144,14 +148,4 @@ fn in_user_file(source: Source<'_>, fault: Fault) -> Fault {
         },
         _ => fault,
     }
-}
-
-/// What is told of a text that is refused.
-fn uncompiled<'a>(alloc: Global, text: Given<'_>, manner: Manner, fault: Fault) -> Failure<'a> {
-    if manner.detail == Detail::Line {
-        return Failure::Refused(fault);
-    }
-    let symbols = manner.symbols;
-    let diagnosis = diagnose_source(alloc, text.name, text.bytes, symbols, fault.number);
-    refusal(alloc, fault, diagnosis)
 }

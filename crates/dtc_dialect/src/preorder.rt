@@ -13,7 +13,7 @@ pub(crate) struct Stop {
 
 /// Nodes and properties in preorder, and the labels of nodes.
 #[derive(Drop)]
-pub(crate) struct Layout {
+pub(crate) struct Preorder {
     pub stops: Vec<Stop>,
     pub properties: Vec<usize>,
     first_label: Vec<Option<usize>>,
@@ -97,8 +97,8 @@ fn at(chain: &Vec<Option<usize>>, row: usize) -> Option<usize> {
 }
 
 /// What is there of a table.
-pub(crate) fn lay_out(alloc: Global, table: &Table<'_>) -> Result<Layout, AllocError> {
-    let mut layout = Layout {
+pub(crate) fn preorder_of(alloc: Global, table: &Table<'_>) -> Result<Preorder, AllocError> {
+    let mut preorder = Preorder {
         stops: Vec::new(alloc),
         properties: Vec::new(alloc),
         first_label: vec![in alloc; None; table.nodes.len()]?,
@@ -115,18 +115,18 @@ pub(crate) fn lay_out(alloc: Global, table: &Table<'_>) -> Result<Layout, AllocE
         let Some(next) = waiting.pop() else {
             break;
         };
-        visit(table, &chains, next, &mut waiting, &mut layout)?;
+        visit(table, &chains, next, &mut waiting, &mut preorder)?;
     }
-    chain_labels(table, &mut layout);
-    Ok(layout)
+    chain_labels(table, &mut preorder);
+    Ok(preorder)
 }
 
 /// The last label stands first.
-fn chain_labels(table: &Table<'_>, layout: &mut Layout) {
+fn chain_labels(table: &Table<'_>, preorder: &mut Preorder) {
     for (label, row) in table.labels.iter().enumerate() {
         put_in_front(
-            &mut layout.first_label,
-            &mut layout.next_label,
+            &mut preorder.first_label,
+            &mut preorder.next_label,
             row.node,
             label,
         );
@@ -138,7 +138,7 @@ fn visit(
     chains: &Chains,
     next: Waiting,
     waiting: &mut Vec<Waiting>,
-    layout: &mut Layout,
+    preorder: &mut Preorder,
 ) -> Result<(), AllocError> {
     let Some(row) = table.nodes.get(next.node) else {
         return Ok(());
@@ -160,14 +160,14 @@ fn visit(
             depth: next.depth.saturating_add(1),
         })?;
     }
-    let start = layout.properties.len();
-    put_properties(table, chains, next.node, deletion, &mut layout.properties)?;
-    layout.stops.push(Stop {
+    let start = preorder.properties.len();
+    put_properties(table, chains, next.node, deletion, &mut preorder.properties)?;
+    preorder.stops.push(Stop {
         node: next.node,
         depth: next.depth,
         properties: Tokens {
             start,
-            end: layout.properties.len(),
+            end: preorder.properties.len(),
         },
     })?;
     Ok(())
@@ -197,7 +197,7 @@ fn put_properties(
     Ok(())
 }
 
-impl Layout {
+impl Preorder {
     /// The properties of a node that is there.
     pub fn properties_of(&self, stop: &Stop) -> &[usize] {
         part(self.properties.as_slice(), stop.properties)
