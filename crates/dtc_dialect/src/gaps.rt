@@ -5,6 +5,9 @@ ghost use Rattle.dtc_dialect.specs.GapAt.{Tells};
 
 use crate::bytes::{Class, begins, behind, front, quoted_len, run_len};
 
+/// The longest path of a file that a line marker names, with its quotes: no system opens a longer one.
+const MAX_PATH: usize = 4096;
+
 /// A line marker: what it says of the next line.
 #[derive(Clone, Copy)]
 pub(crate) struct Marker<'t> {
@@ -149,12 +152,15 @@ fn behind_word(line: &[u8]) -> &[u8]
     }
 }
 
-/// What stands between the quotes.
+/// What stands between the quotes, unless no path is so long.
 fn quoted<'t>(s: &'t [u8]) -> Option<&'t [u8]> {
     if !begins(s, b'"') {
         return None;
     }
     let len = quoted_len(b'"', s)?;
+    if len > MAX_PATH {
+        return None;
+    }
     Some(behind(front(s, len.saturating_sub(1)), 1))
 }
 

@@ -14,7 +14,7 @@ use std::alloc::{AllocError, AllocFailed, Global};
 pub const MAX_INCLUDES: usize = 200;
 
 /// The most bytes that a text may come to.
-const MAX_TEXT: usize = 1 << 24;
+pub(crate) const MAX_TEXT: usize = 1 << 24;
 
 /// A file that was found, and where.
 #[derive(Drop)]

@@ -1,6 +1,7 @@
 //! Text that is put behind other text, with its places.
 
 use crate::bytes::line_ends;
+use crate::inclusion::MAX_TEXT;
 use crate::token::{Place, Span};
 use crate::watch::{Watch, Word};
 use std::alloc::{AllocError, Global};
@@ -36,8 +37,11 @@ impl<'t> Printer<'t> {
         }
     }
 
-    /// Puts bytes behind the text.
+    /// Puts bytes behind the text, unless that is longer already than any that is compiled.
     pub fn put(&mut self, bytes: &[u8]) -> Result<(), AllocError> {
+        if self.text.len() > MAX_TEXT {
+            return Ok(());
+        }
         self.text.extend_from_slice(bytes)?;
         self.place.line = self.place.line.saturating_add(line_ends(bytes));
         Ok(())

@@ -201,26 +201,21 @@ fn repeats_name<'t>(what: Printed<'_, 't>, row: &PropertyRow<'t>) -> bool {
         return false;
     }
     match (what.view.table.nodes.get(row.node), what.view.value_of(row)) {
-        (Some(node), [token]) => is_quoted(base_name(node.name), token.text),
+        (Some(node), [token]) => is_base_name(node.name, token.text),
         _ => false,
     }
 }
 
-fn is_quoted(name: &[u8], text: &[u8]) -> bool {
+/// Whether a string is a node's name without its address. It takes as long as the string, whatever the name's length.
+fn is_base_name(name: &[u8], text: &[u8]) -> bool {
     match text {
-        [b'"', inside @ ..] => front(inside, inside.len().saturating_sub(1)) == name,
+        [b'"', said @ .., b'"'] => {
+            front(name, said.len()) == said
+                && !said.contains(&b'@')
+                && matches!(behind(name, said.len()), [] | [b'@', ..])
+        }
         _ => false,
     }
-}
-
-/// A node's name without its address.
-fn base_name(name: &[u8]) -> &[u8] {
-    for (i, c) in name.iter().enumerate() {
-        if *c == b'@' {
-            return front(name, i);
-        }
-    }
-    name
 }
 
 /// The number of a property `phandle` that refers to its own node.
