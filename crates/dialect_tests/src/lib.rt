@@ -5,5 +5,7 @@
 mod forms;
 #[cfg(test)]
 mod origins;
+#[cfg(test)]
 mod runs;
+#[cfg(test)]
 mod shortfalls;
