@@ -11,4 +11,7 @@ pub returns-clause-answer : goal.returns-clause-answer
 returns-clause-answer c = drawn c.args.blob.now c.args.drivers.now c.map_err.result (c.in_ok-plan.plan, c.in_ok-plan.ensures.answer)
 
 pub returns-clause-refused : goal.returns-clause-refused
-returns-clause-refused c = search rules
+returns-clause-refused c =
+    let drawn = c.plan_graph in
+    let told = c.map_err in
+    search rules

@@ -14,7 +14,11 @@ pub returns-in_err-plan : goal.returns-in_err-plan
 returns-in_err-plan c = search rules
 
 pub returns-in_err-events : goal.returns-in_err-events
-returns-in_err-events c = search rules
+returns-in_err-events c =
+    let read = c.in_ok-plan.ensures in
+    let refused = c.in_err-events.ensures.schedule in
+    let told = c.from_residual-in_err-events in
+    search rules
 
 pub returns-in_err-core : goal.returns-in_err-core
 returns-in_err-core c =
