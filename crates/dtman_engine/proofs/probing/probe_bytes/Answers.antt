@@ -1,5 +1,5 @@
 -- Where there is a plan, what its run gives or refuses is said of it.
-use Rattle.std.proofs.Common.{◌≡◌, inr, ℕ, List, Result, Ok, Err, IfErr, MatchResult}
+use Rattle.std.proofs.Common.{◌≡◌, inr, ℕ, List, Result, Ok, Err, IfOk, IfErr, MatchResult}
 use Rattle.dt_tree.specs.TreeData.{TreeData}
 use Rattle.bus_plan.specs.Plan.{PlannedDevice}
 use Rattle.dtman_engine.specs.declared.fault.Fault.{Fault}
@@ -28,3 +28,11 @@ returns-clause-held g c =
     λ tree held.
     run-held _ _ c.plan_run.result tree c.args.drivers.now c.args.workers c.in_ok-plan.plan (c.in_ok-plan.ensures.held tree held) c.plan_run.ensures.run
     (λ ran run. record { plan = c.in_ok-plan.plan; is_planned = c.in_ok-plan.ensures.held tree held; run = run })
+
+run-probes : {V : Type 0} (Good Wanted : V → Type 0) (Bad : Fault → Type 0) (r : Result V Fault) → MatchResult r Good Bad → ((v : V) → Good v → Wanted v) → IfOk r Wanted
+run-probes Good Wanted Bad (Ok ran) h turn = turn ran h
+run-probes Good Wanted Bad (Err fault) h turn = tt
+
+pub returns-clause-answer : goal.returns-clause-answer
+returns-clause-answer g c =
+    run-probes _ _ _ c.plan_run.result c.plan_run.ensures.run (λ ran run. record { plan = c.in_ok-plan.plan; planned = c.in_ok-plan.ensures.answer; run = run })
