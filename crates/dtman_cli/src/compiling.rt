@@ -7,7 +7,7 @@ use crate::failure::{Failure, lost_line};
 use crate::folders::Folders;
 use crate::origins::{Source, diagnose_said};
 use crate::surroundings::Surroundings;
-use crate::translating::Missing;
+use crate::translating::{Missing, Saying};
 use crate::unsaid::{Unsaid, unfound};
 use dtc_dialect::{Options, Site, plain, user_place};
 use dtman_diagnosis::text_of;
@@ -82,8 +82,26 @@ fn blob_of<'a>(
 ) -> Result<Vec<u8>, Failure<'a>> {
     match outcome {
         Outcome::Plain(answer) => blob_or_refusal(alloc, source, manner, answer),
-        Outcome::Said(_, Ok(blob)) => Ok(blob),
-        Outcome::Said(saying, Err(fault)) => {
+        Outcome::Said(saying, answer) => {
+            said_blob(alloc, hasher, source, manner, saying, answer)
+        }
+        Outcome::Refused(unsaid) => refused(alloc, manner, unsaid),
+        Outcome::Lost(missing) => lost(alloc, manner, missing),
+    }
+}
+
+/// The blob of the text that says a source, or what is told of its refusal.
+fn said_blob<'a>(
+    alloc: Global,
+    hasher: RandomState,
+    source: Given<'_>,
+    manner: Manner,
+    saying: Saying,
+    answer: Result<Vec<u8>, Fault>,
+) -> Result<Vec<u8>, Failure<'a>> {
+    match answer {
+        Ok(blob) => Ok(blob),
+        Err(fault) => {
             let said = Source {
                 hasher,
                 options: Options {
@@ -95,8 +113,6 @@ fn blob_of<'a>(
             };
             Err(unsaid_blob(alloc, said, manner, fault))
         }
-        Outcome::Refused(unsaid) => refused(alloc, manner, unsaid),
-        Outcome::Lost(missing) => Err(lost(alloc, manner, missing)),
     }
 }
 
@@ -119,17 +135,17 @@ fn refused<'a>(alloc: Global, manner: Manner, unsaid: Unsaid) -> Result<Vec<u8>,
 }
 
 /// What is told of a file that can't be read.
-fn lost<'a>(alloc: Global, manner: Manner, missing: Missing) -> Failure<'a> {
+fn lost<'a>(alloc: Global, manner: Manner, missing: Missing) -> Result<Vec<u8>, Failure<'a>> {
     let Missing { name, site } = missing;
     let Some(site) = site else {
-        return Failure::Lost(name);
+        return Err(Failure::Lost(name));
     };
     if manner.detail == Detail::Line {
-        return Failure::Lost(name);
+        return Err(Failure::Lost(name));
     }
     match lost_lines(alloc, name.as_slice(), site) {
-        Ok(lines) => Failure::LostAt(lines),
-        Err(_) => Failure::Lost(name),
+        Ok(lines) => Err(Failure::LostAt(lines)),
+        Err(_) => Err(Failure::Lost(name)),
     }
 }
 
