@@ -28,93 +28,94 @@ fn becomes(rt: &impl Abort, alloc: Global, hasher: RandomState, row: &Row) {
     }
 }
 
+const FORMS: &[Row] = &[
+    (
+        " / { a = <'A' '\\n' '\\x41' '\\101'>; };",
+        " / { a = <65 10 65 65>; };\n",
+    ),
+    (
+        " / { a = <'\\x4' '\\7' '\\777' '\\q' '\\''>; };",
+        " / { a = <4 7 255 113 39>; };\n",
+    ),
+    (
+        " / { a: a { x; }; }; &a { y = <1>; z; y = <2>; };",
+        " / { a: a { x; y = <2>; z; }; };\n",
+    ),
+    (
+        " / { a { b { x; }; }; }; / { a { b { y; }; b { z; }; }; };",
+        " / { a { b { x; y; z; }; }; };\n",
+    ),
+    (
+        " / { /omit-if-no-ref/ a: a { }; /omit-if-no-ref/ b: b { }; c { r = <&b>; }; };",
+        " / { b: b { phandle = <1>; }; c { r = <&b>; }; };\n",
+    ),
+    (
+        " / { l: a { }; }; / { l: b { }; c { r = <&l>; }; /delete-node/ a; };",
+        " / { l: b { }; c { r = <&l>; }; };\n",
+    ),
+    (
+        " / { a { x; y; }; b { }; }; /delete-node/ &{/a}; / { a { y; }; };",
+        " / { a { y; }; b { }; };\n",
+    ),
+    (
+        " / { a: a { phandle = <&a>; }; };",
+        " / { a: a { phandle = <1>; }; };\n",
+    ),
+    (
+        " / { /omit-if-no-ref/ b { }; a: a { linux,phandle = <0x1fUL>; }; c { r = <&a>; }; };",
+        " / { a: a { linux,phandle = <0x1fUL>; }; c { r = <31>; }; };\n",
+    ),
+    (
+        " / { a: a { linux,phandle = <017>; }; c { r = <&a>; }; };",
+        " / { a: a { linux,phandle = <017>; }; c { r = <15>; }; };\n",
+    ),
+    (
+        " / { a: a { linux,phandle = <08>; }; c { r = <&a>; }; };",
+        " / { a: a { linux,phandle = <08>; }; c { r = <&a>; }; };\n",
+    ),
+    (
+        " /**/ / { // a\n#line 2 \"\"\n/* * / **/ x; };",
+        " / {\nx; };\n",
+    ),
+    (
+        " / { x: y: a { }; }; z: &x { };",
+        " / { z: x: y: a { }; };\n",
+    ),
+    (
+        " / { a@1 { name = \"a\"; name2 = \"a\"; }; };",
+        " / { a@1 { name2 = \"a\"; }; };\n",
+    ),
+    (
+        " / { s { r; /delete-property/ r; }; };",
+        " / { s { r; }; };\n",
+    ),
+    (
+        " /plugin/; &x { y; };",
+        " /plugin/; / { fragment@0 { target = <&x>; __overlay__ { y; }; }; };\n",
+    ),
+    ("\n# 5 \"f\"\n/ {\n\tx;\n};", "\n# 5 \"f\"\n/ {\nx; };\n"),
+    (
+        " / { a; b { }; }; / { l: /delete-property/ a; m: /omit-if-no-ref/ /delete-node/ b; };",
+        " / { };\n",
+    ),
+    (
+        " l: /memreserve/ 1 2; / { };",
+        " l: /memreserve/ 1 2; / { };\n",
+    ),
+    (
+        " / { /delete-node/ a; l: a { }; }; &{/a} { x; };",
+        " / { l: a { x; }; };\n",
+    ),
+    (
+        " / { #a; #b;# 1 \"f\"\n#c; };",
+        " / { #a; #b;\n# 1 \"f\"\n#c; };\n",
+    ),
+];
+
 #[test]
 fn forms(rt: HostRuntime) {
-    const ROWS: &[Row] = &[
-        (
-            " / { a = <'A' '\\n' '\\x41' '\\101'>; };",
-            " / { a = <65 10 65 65>; };\n",
-        ),
-        (
-            " / { a = <'\\x4' '\\7' '\\777' '\\q' '\\''>; };",
-            " / { a = <4 7 255 113 39>; };\n",
-        ),
-        (
-            " / { a: a { x; }; }; &a { y = <1>; z; y = <2>; };",
-            " / { a: a { x; y = <2>; z; }; };\n",
-        ),
-        (
-            " / { a { b { x; }; }; }; / { a { b { y; }; b { z; }; }; };",
-            " / { a { b { x; y; z; }; }; };\n",
-        ),
-        (
-            " / { /omit-if-no-ref/ a: a { }; /omit-if-no-ref/ b: b { }; c { r = <&b>; }; };",
-            " / { b: b { phandle = <1>; }; c { r = <&b>; }; };\n",
-        ),
-        (
-            " / { l: a { }; }; / { l: b { }; c { r = <&l>; }; /delete-node/ a; };",
-            " / { l: b { }; c { r = <&l>; }; };\n",
-        ),
-        (
-            " / { a { x; y; }; b { }; }; /delete-node/ &{/a}; / { a { y; }; };",
-            " / { a { y; }; b { }; };\n",
-        ),
-        (
-            " / { a: a { phandle = <&a>; }; };",
-            " / { a: a { phandle = <1>; }; };\n",
-        ),
-        (
-            " / { /omit-if-no-ref/ b { }; a: a { linux,phandle = <0x1fUL>; }; c { r = <&a>; }; };",
-            " / { a: a { linux,phandle = <0x1fUL>; }; c { r = <31>; }; };\n",
-        ),
-        (
-            " / { a: a { linux,phandle = <017>; }; c { r = <&a>; }; };",
-            " / { a: a { linux,phandle = <017>; }; c { r = <15>; }; };\n",
-        ),
-        (
-            " / { a: a { linux,phandle = <08>; }; c { r = <&a>; }; };",
-            " / { a: a { linux,phandle = <08>; }; c { r = <&a>; }; };\n",
-        ),
-        (
-            " /**/ / { // a\n#line 2 \"\"\n/* * / **/ x; };",
-            " / {\nx; };\n",
-        ),
-        (
-            " / { x: y: a { }; }; z: &x { };",
-            " / { z: x: y: a { }; };\n",
-        ),
-        (
-            " / { a@1 { name = \"a\"; name2 = \"a\"; }; };",
-            " / { a@1 { name2 = \"a\"; }; };\n",
-        ),
-        (
-            " / { s { r; /delete-property/ r; }; };",
-            " / { s { r; }; };\n",
-        ),
-        (
-            " /plugin/; &x { y; };",
-            " /plugin/; / { fragment@0 { target = <&x>; __overlay__ { y; }; }; };\n",
-        ),
-        ("\n# 5 \"f\"\n/ {\n\tx;\n};", "\n# 5 \"f\"\n/ {\nx; };\n"),
-        (
-            " / { a; b { }; }; / { l: /delete-property/ a; m: /omit-if-no-ref/ /delete-node/ b; };",
-            " / { };\n",
-        ),
-        (
-            " l: /memreserve/ 1 2; / { };",
-            " l: /memreserve/ 1 2; / { };\n",
-        ),
-        (
-            " / { /delete-node/ a; l: a { }; }; &{/a} { x; };",
-            " / { l: a { x; }; };\n",
-        ),
-        (
-            " / { #a; #b;# 1 \"f\"\n#c; };",
-            " / { #a; #b;\n# 1 \"f\"\n#c; };\n",
-        ),
-    ];
     let hasher = RandomState::new(&rt).expect(&rt, "a seed");
-    for row in ROWS {
+    for row in FORMS {
         becomes(&rt, rt.alloc(), hasher, row);
     }
 }

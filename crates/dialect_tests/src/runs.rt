@@ -147,70 +147,71 @@ fn runs(rt: &impl Abort, alloc: Global, hasher: RandomState, row: &Row) {
     assert_eq!(rt; desk.written.as_slice(), row.2.as_bytes());
 }
 
+const DTC_RUNS: &[Row] = &[
+    (&["-v"], 0, "Version: DTC 1.6.1 (dtman)\n"),
+    (&["-Z"], 1, "Error: unknown option -Z\n"),
+    (
+        &["-s", "a.dts"],
+        1,
+        "Error: dtc's option -s isn't there in dtman\n",
+    ),
+    (&["-qo"], 1, "Error: option -qo requires an argument\n"),
+    (
+        &["-p", "1", "-S", "2"],
+        1,
+        "FATAL ERROR: Can't set both -p and -S\n",
+    ),
+    (
+        &["-a", "3", "a.dts"],
+        1,
+        "Error: option -a doesn't take 3\n",
+    ),
+    (
+        &["none.dts"],
+        1,
+        "FATAL ERROR: Couldn't open \"none.dts\": error 80 CannotRead\n",
+    ),
+    (
+        &["bad.dts"],
+        1,
+        "Error: bad.dts:2.1-3 error 20 UnknownLabel\nFATAL ERROR: Unable to parse input tree\n",
+    ),
+    (
+        &["unknown.dts"],
+        1,
+        "Error: unknown.dts:4.3-11 error 20 UnknownLabel\nFATAL ERROR: Unable to parse input tree\n",
+    ),
+    (
+        &["lost.dts"],
+        1,
+        "Error: lost.dts:2.2-23 error 80 CannotRead\nFATAL ERROR: Couldn't open \"none.dtsi\": error 80 CannotRead\n",
+    ),
+    (
+        &["five.dts"],
+        1,
+        "Error: five.dts:2.11-12 error 10 Syntax\nFATAL ERROR: error 10 Syntax in an inclusion\n",
+    ),
+    (
+        &["deep.dts"],
+        1,
+        "Error: deep.dts:2.1-21 error 16 TooDeep\nFATAL ERROR: Includes nested too deeply\n",
+    ),
+    (
+        &["part.dts"],
+        1,
+        "Error: part.dts:1.39-40 error 10 Syntax\nFATAL ERROR: error 10 Syntax in an inclusion\n",
+    ),
+    (
+        &["-i", "in", "-O", "dts", "--out=x", "-d", "y", "a.dts"],
+        0,
+        "/dts-v1/;\n# 1 \"a.dts\"\n/ {\n# 1 \"in/b.dtsi\"\nx = [1fff]; };\n",
+    ),
+];
+
 #[test]
 fn dtc(rt: HostRuntime) {
-    const ROWS: &[Row] = &[
-        (&["-v"], 0, "Version: DTC 1.6.1 (dtman)\n"),
-        (&["-Z"], 1, "Error: unknown option -Z\n"),
-        (
-            &["-s", "a.dts"],
-            1,
-            "Error: dtc's option -s isn't there in dtman\n",
-        ),
-        (&["-qo"], 1, "Error: option -qo requires an argument\n"),
-        (
-            &["-p", "1", "-S", "2"],
-            1,
-            "FATAL ERROR: Can't set both -p and -S\n",
-        ),
-        (
-            &["-a", "3", "a.dts"],
-            1,
-            "Error: option -a doesn't take 3\n",
-        ),
-        (
-            &["none.dts"],
-            1,
-            "FATAL ERROR: Couldn't open \"none.dts\": error 80 CannotRead\n",
-        ),
-        (
-            &["bad.dts"],
-            1,
-            "Error: bad.dts:2.1-3 error 20 UnknownLabel\nFATAL ERROR: Unable to parse input tree\n",
-        ),
-        (
-            &["unknown.dts"],
-            1,
-            "Error: unknown.dts:4.3-11 error 20 UnknownLabel\nFATAL ERROR: Unable to parse input tree\n",
-        ),
-        (
-            &["lost.dts"],
-            1,
-            "Error: lost.dts:2.2-23 error 80 CannotRead\nFATAL ERROR: Couldn't open \"none.dtsi\": error 80 CannotRead\n",
-        ),
-        (
-            &["five.dts"],
-            1,
-            "Error: five.dts:2.11-12 error 10 Syntax\nFATAL ERROR: error 10 Syntax in an inclusion\n",
-        ),
-        (
-            &["deep.dts"],
-            1,
-            "Error: deep.dts:2.1-21 error 16 TooDeep\nFATAL ERROR: Includes nested too deeply\n",
-        ),
-        (
-            &["part.dts"],
-            1,
-            "Error: part.dts:1.39-40 error 10 Syntax\nFATAL ERROR: error 10 Syntax in an inclusion\n",
-        ),
-        (
-            &["-i", "in", "-O", "dts", "--out=x", "-d", "y", "a.dts"],
-            0,
-            "/dts-v1/;\n# 1 \"a.dts\"\n/ {\n# 1 \"in/b.dtsi\"\nx = [1fff]; };\n",
-        ),
-    ];
     let hasher = RandomState::new(&rt).expect(&rt, "a seed");
-    for row in ROWS {
+    for row in DTC_RUNS {
         runs(&rt, rt.alloc(), hasher, row);
     }
 }
