@@ -7,7 +7,7 @@ use Rattle.std.proofs.lemmas.Bool.{eqb-true, cases_eq, cases_lt}
 use Rattle.dt_lexeme.specs.declared.lexeme.Kind.{Kind}
 use Rattle.dt_lexeme.specs.declared.lexeme.Kind.TheVariants.{Label, Name, Literal, Reference, PathReference, Pair, Slash, And}
 use Rattle.dt_lexeme.specs.declared.bytes.Class.TheVariants as classes
-use Rattle.dt_lexeme.specs.declared.place.Place.{Place}
+use Rattle.dt_lexeme.specs.declared.context.Context.{Context}
 use Rattle.dt_lexeme.specs.declared.families.First.{First}
 use Rattle.dt_lexeme.specs.declared.families.First.TheVariants as firsts
 use Rattle.dt_lexeme.specs.Bytes.{is_word, is_name, is_letter, is_hex, begins, begins_letter}
@@ -229,24 +229,24 @@ pub split_front : (s : List ℕ) → 1 ≤ length s → s ≡ get_or s 0 0 ∷ d
 split_front [] le = absurd (omega arith)
 split_front (c ∷ s) le = refl
 
-next_some : (place : Place) (c : ℕ) (s : List ℕ) (k : Kind) (n : ℕ) → IsLongest (kind_by (first_at place c)) s k n → IsLongest (kind_of place) (c ∷ s) k (n + 1)
+next_some : (context : Context) (c : ℕ) (s : List ℕ) (k : Kind) (n : ℕ) → IsLongest (kind_by (first_at context c)) s k n → IsLongest (kind_of context) (c ∷ s) k (n + 1)
 unfolding kind_of
-next_some place c s k n h = kind_more (kind_of place) (kind_by (first_at place c)) c s k n (λ u. refl) h
+next_some context c s k n h = kind_more (kind_of context) (kind_by (first_at context c)) c s k n (λ u. refl) h
 
-next_none : (place : Place) (c : ℕ) (s : List ℕ) → Longest (kind_by (first_at place c)) s None → Longest (kind_of place) (c ∷ s) None
+next_none : (context : Context) (c : ℕ) (s : List ℕ) → Longest (kind_by (first_at context c)) s None → Longest (kind_of context) (c ∷ s) None
 unfolding kind_of
-next_none place c s h = kind_none (kind_of place) (kind_by (first_at place c)) c s refl (λ u. refl) h
+next_none context c s h = kind_none (kind_of context) (kind_by (first_at context c)) c s refl (λ u. refl) h
 
-pub next_empty : (place : Place) (s : List ℕ) → length s < 1 → Longest (kind_of place) s None
+pub next_empty : (context : Context) (s : List ℕ) → length s < 1 → Longest (kind_of context) s None
 unfolding kind_of
-next_empty place [] lt zero le = refl
-next_empty place [] lt (suc m) le = refl
-next_empty place (c ∷ s) lt m le = absurd (omega arith)
+next_empty context [] lt zero le = refl
+next_empty context [] lt (suc m) le = refl
+next_empty context (c ∷ s) lt m le = absurd (omega arith)
 
-pub next_found : (place : Place) (s t : List ℕ) (f : First) (k : Kind) (n : ℕ) → 1 ≤ length s → f ≡ first_at place (get_or s 0 0) → t ≡ drop 1 s → IsLongest (kind_by f) t k n → IsLongest (kind_of place) s k (n + 1)
-next_found place s t f k n le e d h =
-    subst (λ (t : List ℕ). IsLongest (kind_of place) t k (n + 1)) (sym (split_front s le)) (next_some place (get_or s 0 0) (drop 1 s) k n (subst (λ (u : List ℕ). IsLongest (kind_by (first_at place (get_or s 0 0))) u k n) d (subst (λ (g : First). IsLongest (kind_by g) t k n) e h)))
+pub next_found : (context : Context) (s t : List ℕ) (f : First) (k : Kind) (n : ℕ) → 1 ≤ length s → f ≡ first_at context (get_or s 0 0) → t ≡ drop 1 s → IsLongest (kind_by f) t k n → IsLongest (kind_of context) s k (n + 1)
+next_found context s t f k n le e d h =
+    subst (λ (t : List ℕ). IsLongest (kind_of context) t k (n + 1)) (sym (split_front s le)) (next_some context (get_or s 0 0) (drop 1 s) k n (subst (λ (u : List ℕ). IsLongest (kind_by (first_at context (get_or s 0 0))) u k n) d (subst (λ (g : First). IsLongest (kind_by g) t k n) e h)))
 
-pub next_lost : (place : Place) (s t : List ℕ) (f : First) → 1 ≤ length s → f ≡ first_at place (get_or s 0 0) → t ≡ drop 1 s → Longest (kind_by f) t None → Longest (kind_of place) s None
-next_lost place s t f le e d h =
-    subst (λ (t : List ℕ). Longest (kind_of place) t None) (sym (split_front s le)) (next_none place (get_or s 0 0) (drop 1 s) (subst (λ (u : List ℕ). Longest (kind_by (first_at place (get_or s 0 0))) u None) d (subst (λ (g : First). Longest (kind_by g) t None) e h)))
+pub next_lost : (context : Context) (s t : List ℕ) (f : First) → 1 ≤ length s → f ≡ first_at context (get_or s 0 0) → t ≡ drop 1 s → Longest (kind_by f) t None → Longest (kind_of context) s None
+next_lost context s t f le e d h =
+    subst (λ (t : List ℕ). Longest (kind_of context) t None) (sym (split_front s le)) (next_none context (get_or s 0 0) (drop 1 s) (subst (λ (u : List ℕ). Longest (kind_by (first_at context (get_or s 0 0))) u None) d (subst (λ (g : First). Longest (kind_by g) t None) e h)))

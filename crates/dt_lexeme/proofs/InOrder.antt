@@ -2,8 +2,8 @@
 use Rattle.std.proofs.Common.{ℕ, ◌-◌, ◌≤◌, List, [], ◌∷◌, length, drop, subst, arith}
 use Rattle.std.proofs.lemmas.List.{length-drop}
 use Rattle.dt_lexeme.specs.declared.lexeme.Lexeme.{Lexeme}
-use Rattle.dt_lexeme.specs.declared.place.Place.{Place}
-use Rattle.dt_lexeme.specs.Places.{start, step}
+use Rattle.dt_lexeme.specs.declared.context.Context.{Context}
+use Rattle.dt_lexeme.specs.Contexts.{start, step}
 use Rattle.dt_lexeme.specs.Lexemes.{Left, Lexemes}
 use Rattle.dt_lexeme.specs.Order.{Above}
 use Rattle.dt_lexeme.proofs.GapEnds.{gap_shorter}
@@ -14,15 +14,15 @@ unfolding Above
 above_lower p q [] le h = tt
 above_lower p q (l ∷ ls) le h = (omega (arith, h.0), h.1, h.2)
 
-left_above : (total : ℕ) (place : Place) (text : List ℕ) (ls : List Lexeme) → length text ≤ total → Left total place text ls → Above (total - length text) ls
+left_above : (total : ℕ) (context : Context) (text : List ℕ) (ls : List Lexeme) → length text ≤ total → Left total context text ls → Above (total - length text) ls
 unfolding Left Above
-left_above total place text [] le h = tt
-left_above total place text (l ∷ ls) le (s, n, gap, longest, from, to, more) =
+left_above total context text [] le h = tt
+left_above total context text (l ∷ ls) le (s, n, gap, longest, from, to, more) =
     let shorter = gap_shorter text s gap in
-    let some = some_byte place s l.kind n longest in
+    let some = some_byte context s l.kind n longest in
     let within = longest.within in
     let left = length-drop n s in
-    let next = left_above total (step place l.kind) (drop n s) ls (omega (arith, left, shorter)) more in
+    let next = left_above total (step context l.kind) (drop n s) ls (omega (arith, left, shorter)) more in
     (omega (arith, from, shorter), omega (arith, from, to, some), subst (λ (q : ℕ). Above q ls) (omega (arith, left, to, within, shorter)) next)
 
 pub lexemes_above : (text : List ℕ) (ls : List Lexeme) → Lexemes text ls → Above 0 ls
@@ -30,11 +30,11 @@ unfolding Lexemes
 lexemes_above text ls h = above_lower 0 (length text - length text) ls (omega arith) (left_above (length text) start text ls (omega arith) h)
 
 -- a text has no more lexemes than bytes
-left_few : (total : ℕ) (place : Place) (text : List ℕ) (ls : List Lexeme) → Left total place text ls → length ls ≤ length text
+left_few : (total : ℕ) (context : Context) (text : List ℕ) (ls : List Lexeme) → Left total context text ls → length ls ≤ length text
 unfolding Left
-left_few total place text [] gap = omega arith
-left_few total place text (l ∷ ls) (s, n, gap, longest, from, to, more) =
-    omega (arith, gap_shorter text s gap, some_byte place s l.kind n longest, longest.within, length-drop n s, left_few total (step place l.kind) (drop n s) ls more)
+left_few total context text [] gap = omega arith
+left_few total context text (l ∷ ls) (s, n, gap, longest, from, to, more) =
+    omega (arith, gap_shorter text s gap, some_byte context s l.kind n longest, longest.within, length-drop n s, left_few total (step context l.kind) (drop n s) ls more)
 
 pub lexemes_few : (text : List ℕ) (ls : List Lexeme) → Lexemes text ls → length ls ≤ length text
 unfolding Lexemes

@@ -9,9 +9,9 @@ use Rattle.dt_lexeme.specs.declared.lexeme.Lexeme.{Lexeme}
 use Rattle.dt_lexeme.specs.declared.lexeme.Kind.{Kind}
 use Rattle.dt_lexeme.specs.declared.lexeme.Kind.TheVariants.{Version, Plugin, MemReserve, Bits, DeleteNode, DeleteProperty, Label, Name, Literal, Text, Reference, PathReference, Pair, Semicolon, Brace, EndBrace, Equals, Comma, Less, Greater, Square, EndSquare, Paren, EndParen, Slash, Question, Colon, OrOr, AndAnd, Or, Xor, And, EqualEqual, NotEqual, LessEqual, GreaterEqual, ShiftLeft, ShiftRight, Plus, Minus, Star, Percent, Tilde, Bang}
 use Rattle.dt_lexeme.specs.declared.bytes.Class.TheVariants as classes
-use Rattle.dt_lexeme.specs.declared.place.Mode.{Mode}
-use Rattle.dt_lexeme.specs.declared.place.Mode.TheVariants as modes
-use Rattle.dt_lexeme.specs.declared.place.Place.{Place}
+use Rattle.dt_lexeme.specs.declared.context.Mode.{Mode}
+use Rattle.dt_lexeme.specs.declared.context.Mode.TheVariants as modes
+use Rattle.dt_lexeme.specs.declared.context.Context.{Context}
 use Rattle.dt_lexeme.specs.declared.families.First.{First}
 use Rattle.dt_lexeme.specs.declared.families.First.TheVariants as firsts
 use Rattle.dt_lexeme.specs.Bytes.{is_letter, is_name, is_hex, is_digit}
@@ -19,7 +19,7 @@ use Rattle.dt_lexeme.specs.Fronts.{closes, labels, names, words, paths, numbers,
 use Rattle.dt_lexeme.specs.Label.{IsLabel}
 use Rattle.dt_lexeme.specs.Forms.{FormAt, AllLawful}
 use Rattle.dt_lexeme.specs.Families.{IsLongest, punctuation, operator, second_of, single_operator, single_by, first_in, first_at, alone, keyword, or_kind, slashed, operated, ampersand, kind_by, kind_of}
-use Rattle.dt_lexeme.specs.Places.{start, step}
+use Rattle.dt_lexeme.specs.Contexts.{start, step}
 use Rattle.dt_lexeme.specs.Lexemes.{Left, Lexemes}
 use Rattle.dt_lexeme.proofs.Scanning.{some_byte}
 use Rattle.dt_lexeme.proofs.Tails.{EndsIn, ends_self, ends_drop, ends_on, ends_at, gap_ends, cut}
@@ -178,15 +178,15 @@ in_fits modes.Value inside c =
 in_fits modes.Byte inside c =
     either_fits (is_letter c) _ _ c (λ e. either_fits (is_hex c) _ _ c (λ f. e) (λ f. e)) (λ e. either_fits (is_hex c) _ _ c (λ f. tt) (λ f. single_fits inside (punctuation c) c (punctuation_formed c)))
 
-first_fits : (place : Place) (c : ℕ) → Fits (first_at place c) c
+first_fits : (context : Context) (c : ℕ) → Fits (first_at context c) c
 unfolding first_at
-first_fits place c =
-    either_fits (eqb c 34) _ _ c (λ e. tt) (λ e. either_fits (eqb c 47) _ _ c (λ f. tt) (λ f. either_fits (eqb c 38) _ _ c (λ g. tt) (λ g. in_fits place.mode (nat_lt 0 place.parens) c)))
+first_fits context c =
+    either_fits (eqb c 34) _ _ c (λ e. tt) (λ e. either_fits (eqb c 47) _ _ c (λ f. tt) (λ f. either_fits (eqb c 38) _ _ c (λ g. tt) (λ g. in_fits context.mode (nat_lt 0 context.parens) c)))
 
-kind_formed : (place : Place) (bs : List ℕ) → FormedBy (kind_of place bs) bs
+kind_formed : (context : Context) (bs : List ℕ) → FormedBy (kind_of context bs) bs
 unfolding kind_of
-kind_formed place [] = tt
-kind_formed place (c ∷ s) = by_formed (first_at place c) c s (first_fits place c)
+kind_formed context [] = tt
+kind_formed context (c ∷ s) = by_formed (first_at context c) c s (first_fits context c)
 
 -- ---- the lexemes of a text
 
@@ -197,15 +197,15 @@ moved Reference text s from n i j e le ei ej h = subst IsLabel (cut text s from 
 moved PathReference text s from n i j e le ei ej h = subst (λ (x : List ℕ). IsTrue (is_path x)) (cut text s from n 2 (n - 1) (i + 2) (j - 1) e (omega arith) (omega arith) (omega arith)) h
 moved _ text s from n i j e le ei ej h = tt
 
-longest_formed : (place : Place) (s : List ℕ) (k : Kind) (n : ℕ) → IsLongest (kind_of place) s k n → FormAt k (take n s) 0 n
-longest_formed place s k n h = subst (λ (m : ℕ). FormAt k (take n s) 0 m) (length-take-le n s h.within) (subst (λ (o : Option Kind). FormedBy o (take n s)) h.is (kind_formed place (take n s)))
+longest_formed : (context : Context) (s : List ℕ) (k : Kind) (n : ℕ) → IsLongest (kind_of context) s k n → FormAt k (take n s) 0 n
+longest_formed context s k n h = subst (λ (m : ℕ). FormAt k (take n s) 0 m) (length-take-le n s h.within) (subst (λ (o : Option Kind). FormedBy o (take n s)) h.is (kind_formed context (take n s)))
 
-left_lawful : (text : List ℕ) (place : Place) (left : List ℕ) (ls : List Lexeme) → EndsIn text left → Left (length text) place left ls → AllLawful text ls
+left_lawful : (text : List ℕ) (context : Context) (left : List ℕ) (ls : List Lexeme) → EndsIn text left → Left (length text) context left ls → AllLawful text ls
 unfolding Left AllLawful
-left_lawful text place left [] t h = tt
-left_lawful text place left (l ∷ ls) t (s, n, gap, longest, from, to, more) =
+left_lawful text context left [] t h = tt
+left_lawful text context left (l ∷ ls) t (s, n, gap, longest, from, to, more) =
     let here = ends_on text left s t (gap_ends left s gap) in
-    (moved l.kind text s (length text - length s) n l.start l.end (ends_at text s here) (some_byte place s l.kind n longest) from to (longest_formed place s l.kind n longest), left_lawful text (step place l.kind) (drop n s) ls (ends_on text s (drop n s) here (ends_drop n s)) more)
+    (moved l.kind text s (length text - length s) n l.start l.end (ends_at text s here) (some_byte context s l.kind n longest) from to (longest_formed context s l.kind n longest), left_lawful text (step context l.kind) (drop n s) ls (ends_on text s (drop n s) here (ends_drop n s)) more)
 
 -- Each lexeme of a text has its kind's form.
 pub lexemes_lawful : (text : List ℕ) (ls : List Lexeme) → Lexemes text ls → AllLawful text ls

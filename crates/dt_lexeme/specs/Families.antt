@@ -1,12 +1,12 @@
--- What a text is at a place, if it is one lexeme (Devicetree Specification v0.4, section 6).
+-- What a text is in a context, if it is one lexeme (Devicetree Specification v0.4, section 6).
 use Rattle.std.specs.Prelude.{◌≡◌, ℕ, ◌<◌, ◌≤◌, ◌==◌, nat_lt, nat_eq, Bool, true, false, ◌&&◌, List, [], ◌∷◌, length, take, Option, Some, None, if◌then◌else◌, codes}
 use Rattle.std.specs.Cmp.Lexicographic.{pointwise}
 use Rattle.dt_lexeme.specs.declared.lexeme.Kind.{Kind}
 use Rattle.dt_lexeme.specs.declared.lexeme.Kind.TheVariants.{Version, Plugin, MemReserve, Bits, DeleteNode, DeleteProperty, Label, Name, Literal, Text, Reference, PathReference, Pair, Semicolon, Brace, EndBrace, Equals, Comma, Less, Greater, Square, EndSquare, Paren, EndParen, Slash, Question, Colon, OrOr, AndAnd, Or, Xor, And, EqualEqual, NotEqual, LessEqual, GreaterEqual, ShiftLeft, ShiftRight, Plus, Minus, Star, Percent, Tilde, Bang}
 use Rattle.dt_lexeme.specs.declared.bytes.Class.TheVariants as classes
-use Rattle.dt_lexeme.specs.declared.place.Mode.{Mode}
-use Rattle.dt_lexeme.specs.declared.place.Mode.TheVariants as modes
-use Rattle.dt_lexeme.specs.declared.place.Place.{Place}
+use Rattle.dt_lexeme.specs.declared.context.Mode.{Mode}
+use Rattle.dt_lexeme.specs.declared.context.Mode.TheVariants as modes
+use Rattle.dt_lexeme.specs.declared.context.Context.{Context}
 use Rattle.dt_lexeme.specs.declared.families.First.{First}
 use Rattle.dt_lexeme.specs.declared.families.First.TheVariants as firsts
 use Rattle.dt_lexeme.specs.Bytes.{is_letter, is_digit, is_hex, is_name}
@@ -85,13 +85,13 @@ first_in modes.Name inside c = if is_letter c then firsts.Letter else (if is_nam
 first_in modes.Value inside c = if is_letter c then firsts.Word else (if c == 48 then firsts.Zero else (if is_digit c then firsts.Digit else single inside c))
 first_in modes.Byte inside c = if is_letter c then (if is_hex c then firsts.HexLetter else firsts.Word) else (if is_hex c then firsts.HexDigit else single inside c)
 
--- the lexemes that may begin with this byte at this place
-unfoldable pub first_at : Place → ℕ → First
-first_at place c =
+-- the lexemes that may begin with this byte in this context
+unfoldable pub first_at : Context → ℕ → First
+first_at context c =
     if c == 34 then firsts.Quote else
     (if c == 47 then firsts.Solidus else
-    (if c == 38 then firsts.Ampersand (nat_lt 0 place.parens) else
-    first_in place.mode (nat_lt 0 place.parens) c))
+    (if c == 38 then firsts.Ampersand (nat_lt 0 context.parens) else
+    first_in context.mode (nat_lt 0 context.parens) c))
 
 -- ---- what stands behind the first byte
 
@@ -157,7 +157,7 @@ kind_by (firsts.Operator k) s = operated k s
 kind_by (firsts.Alone k) s = alone k s
 kind_by firsts.Nothing s = None
 
--- what these bytes are at this place, if they are one lexeme
-unfoldable pub kind_of : Place → List ℕ → Option Kind
-kind_of place [] = None
-kind_of place (c ∷ s) = kind_by (first_at place c) s
+-- what these bytes are in this context, if they are one lexeme
+unfoldable pub kind_of : Context → List ℕ → Option Kind
+kind_of context [] = None
+kind_of context (c ∷ s) = kind_by (first_at context c) s

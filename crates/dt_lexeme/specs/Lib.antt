@@ -2,7 +2,7 @@ pub mod Bytes
 pub mod Fronts
 pub mod Gaps
 pub mod Families
-pub mod Places
+pub mod Contexts
 pub mod Lexemes
 pub mod Limits
 pub mod Lines

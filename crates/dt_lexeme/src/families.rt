@@ -4,11 +4,11 @@ ghost use Rattle.dt_lexeme.specs.Families.{punctuation, operator, single, first_
 ghost use Rattle.dt_lexeme.specs.Fronts.{one_hex};
 
 use crate::bytes::{Class, begins, begins_letter, from, front, is_hex, is_letter, is_name};
+use crate::context::{Context, Mode};
 use crate::fronts::{
     hex_len, label_len, name_len, number_len, path_len, string_len, word_end, words_len,
 };
 use crate::lexeme::Kind;
-use crate::place::{Mode, Place};
 
 /// The lexemes that begin with a byte.
 #[derive(Clone, Copy)]
@@ -134,19 +134,19 @@ fn first_in(mode: Mode, inside: bool, c: u8) -> First
     }
 }
 
-/// What may begin with this byte at this place.
+/// What may begin with this byte in this context.
 #[tactic(auto, unfolding(crate::specs::Families::first_at))]
-pub(crate) fn first_at(place: Place, c: u8) -> First
-    ensures { result ≡ first_at place c }
+pub(crate) fn first_at(context: Context, c: u8) -> First
+    ensures { result ≡ first_at context c }
 {
     if c == b'"' {
         First::Quote
     } else if c == b'/' {
         First::Solidus
     } else if c == b'&' {
-        First::Ampersand(place.parens > 0)
+        First::Ampersand(context.parens > 0)
     } else {
-        first_in(place.mode, place.parens > 0, c)
+        first_in(context.mode, context.parens > 0, c)
     }
 }
 

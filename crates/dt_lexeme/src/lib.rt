@@ -4,12 +4,12 @@
 #![tactic(auto)]
 
 mod bytes;
+mod context;
 mod families;
 mod fronts;
 mod gaps;
 mod lexeme;
 mod line;
-mod place;
 mod scanner;
 
 pub use lexeme::{Fault, FaultKind, Kind, Lexeme, ReadError, Refusal, RefusalKind};

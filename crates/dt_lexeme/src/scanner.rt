@@ -12,19 +12,19 @@ ghost use Rattle.std.specs.Prelude.{length};
 ghost use Rattle.dt_lexeme.specs.declared.lexeme.Refusal.{Refusal};
 
 use crate::bytes::from;
+use crate::context::Context;
 use crate::families::{family, first_at};
 use crate::gaps::skip_gap;
 use crate::lexeme::{Kind, Lexeme, ReadError, Refusal, RefusalKind};
-use crate::place::Place;
 use std::alloc::{AllocError, Global};
 
 // The longest lexeme that can stand at the front.
-fn next(place: Place, s: &[u8]) -> Option<(Kind, usize)>
-    ensures { Longest (kind_of place) s.now result }
+fn next(context: Context, s: &[u8]) -> Option<(Kind, usize)>
+    ensures { Longest (kind_of context) s.now result }
 {
     match s {
         [] => None,
-        [c, ..] => match family(first_at(place, *c), from(s, 1)) {
+        [c, ..] => match family(first_at(context, *c), from(s, 1)) {
             Some((kind, n)) => Some((kind, n + 1)),
             None => None,
         },
@@ -37,7 +37,7 @@ pub fn scan_front(alloc: Global, text: &[u8]) -> Result<(Vec<Lexeme>, Option<u32
     ensures { IfOk result (λ r. Scanned text.now r.0.items r.1) }
 {
     let mut found = Vec::new(alloc);
-    let mut place = Place::start();
+    let mut context = Context::start();
     let mut left = text;
     'lexemes: loop {
         let s = match skip_gap(left) {
@@ -48,7 +48,7 @@ pub fn scan_front(alloc: Global, text: &[u8]) -> Result<(Vec<Lexeme>, Option<u32
             return Ok((found, None));
         }
         let start = text.len() - s.len();
-        let Some((kind, n)) = next(place, s) else {
+        let Some((kind, n)) = next(context, s) else {
             return Ok((found, Some(start as u32)));
         };
         found.push(Lexeme {
@@ -56,7 +56,7 @@ pub fn scan_front(alloc: Global, text: &[u8]) -> Result<(Vec<Lexeme>, Option<u32
             start: start as u32,
             end: (start + n) as u32,
         })?;
-        place = place.step(kind);
+        context = context.step(kind);
         left = from(s, n);
     }
 }

@@ -2,7 +2,7 @@
 use Rattle.std.proofs.Common.{◌≡◌, ℕ, Bool, true, false, ltb, List, [], ◌∷◌, ◌++◌, refl, ap}
 use Rattle.std.proofs.lemmas.Bool.{and_parts}
 use Rattle.dt_blob.specs.SourceText.{hex_of, cells_text, pairs_text}
-use Rattle.dt_lexeme.specs.Places.{step}
+use Rattle.dt_lexeme.specs.Contexts.{step}
 use Rattle.dt_canonical.specs.Bytes.{are_bytes}
 use Rattle.dt_canonical.specs.Private.Lexed.{Segment, written, cell_parts, pair_parts}
 use Rattle.dt_canonical.proofs.Lexing.Segments.{Stands}

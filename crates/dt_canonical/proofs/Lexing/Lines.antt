@@ -10,8 +10,8 @@ use Rattle.dt_tree.specs.Sound.{IsSoundBelow}
 use Rattle.dt_blob.specs.SourceText.{tabs, property_line, property_lines, begin_line, end_line, sibling_lines}
 use Rattle.dt_lexeme.specs.Bytes.{is_blank}
 use Rattle.dt_lexeme.specs.declared.lexeme.Kind.TheVariants as kinds
-use Rattle.dt_lexeme.specs.declared.place.Place.{Place}
-use Rattle.dt_lexeme.specs.Places.{step}
+use Rattle.dt_lexeme.specs.declared.context.Context.{Context}
+use Rattle.dt_lexeme.specs.Contexts.{step}
 use Rattle.dt_canonical.specs.Bytes.{are_bytes, have_bytes, hold_bytes}
 use Rattle.dt_canonical.specs.Private.Lexed.{Segment, Blanks, written, stop_parts, equals_parts, value_parts, behind_name, name_parts, property_parts, properties_parts, brace_parts, begin_parts, end_parts, sibling_parts}
 use Rattle.dt_canonical.proofs.Lexing.Segments.{Here, Stands, written_append}
@@ -62,11 +62,11 @@ properties_stand n depth (p ∷ ps) rest e f h =
 
 pub brace_stands : (n : ℕ) (rest : List Segment) → Stands (at_name (suc n)) rest → Stands (at_value n) (brace_parts ++ rest)
 unfolding Stands
-brace_stands n rest h = (refl, (brace n (written (Blanks (codes "\n") ∷ rest)), (refl, subst (λ (p : Place). Stands p rest) (sym (after_brace n)) h)))
+brace_stands n rest h = (refl, (brace n (written (Blanks (codes "\n") ∷ rest)), (refl, subst (λ (p : Context). Stands p rest) (sym (after_brace n)) h)))
 
 pub end_stands : (n depth : ℕ) (rest : List Segment) → Stands (at_value n) (stop_parts ++ rest) → Stands (at_name (suc n)) (end_parts depth ++ rest)
 unfolding Stands
-end_stands n depth rest h = (tabs_blank depth, (end_brace (suc n) (written (stop_parts ++ rest)), subst (λ (p : Place). Stands p (stop_parts ++ rest)) (sym (after_end_brace n)) h))
+end_stands n depth rest h = (tabs_blank depth, (end_brace (suc n) (written (stop_parts ++ rest)), subst (λ (p : Context). Stands p (stop_parts ++ rest)) (sym (after_end_brace n)) h))
 
 pub regroup : (a b c d e rest : List Segment) → (a ++ (b ++ (c ++ (d ++ e)))) ++ rest ≡ a ++ (b ++ (c ++ (d ++ (e ++ rest))))
 regroup a b c d e rest = simp append_assoc

@@ -3,23 +3,23 @@ use Rattle.std.proofs.Common.{◌≡◌, ℕ, suc, ◌+◌, ◌-◌, false, eqb,
 use Rattle.std.specs.Prelude.{codes}
 use Rattle.dt_lexeme.specs.declared.lexeme.Kind.{Kind}
 use Rattle.dt_lexeme.specs.declared.lexeme.Kind.TheVariants as kinds
-use Rattle.dt_lexeme.specs.declared.place.Mode.TheVariants as modes
-use Rattle.dt_lexeme.specs.declared.place.Place.{Place}
+use Rattle.dt_lexeme.specs.declared.context.Mode.TheVariants as modes
+use Rattle.dt_lexeme.specs.declared.context.Context.{Context}
 use Rattle.dt_lexeme.specs.Bytes.{is_blank}
 use Rattle.dt_lexeme.specs.Gaps.{NoGap}
 use Rattle.dt_lexeme.specs.Families.{kind_of, first_at, slashed}
-use Rattle.dt_lexeme.specs.Places.{start, step}
+use Rattle.dt_lexeme.specs.Contexts.{start, step}
 use Rattle.dt_canonical.proofs.Lexing.Segments.{Ends, Here}
 
 -- ---- fixup sites
 
-abbrev pub at_value : ℕ → Place
+abbrev pub at_value : ℕ → Context
 at_value n = record { braces = n; parens = 0; mode = modes.Value }
 
-abbrev pub at_name : ℕ → Place
+abbrev pub at_name : ℕ → Context
 at_name n = record { braces = n; parens = 0; mode = modes.Name }
 
-abbrev pub at_byte : ℕ → Place
+abbrev pub at_byte : ℕ → Context
 at_byte n = record { braces = n; parens = 0; mode = modes.Byte }
 
 -- ---- no gap
@@ -86,7 +86,7 @@ pub slash : (t : List ℕ) → Here start kinds.Slash (codes "/") (32 ∷ t)
 unfolding kind_of first_at slashed
 slash t = record { over = record { blank = refl; line = refl; comment = refl }; is = refl; ends = λ u. refl }
 
--- ---- the place behind
+-- ---- the context behind
 
 module _ (n : ℕ) where
   pub after_name : step (at_name n) kinds.Name ≡ at_value n

@@ -5,11 +5,11 @@ use Rattle.std.proofs.lemmas.Bool.{and_parts}
 use Rattle.std.proofs.Math.Seq.{take-append_seam, drop-append_seam}
 use Rattle.dt_lexeme.specs.declared.lexeme.Lexeme.{Lexeme}
 use Rattle.dt_lexeme.specs.declared.lexeme.Kind.{Kind}
-use Rattle.dt_lexeme.specs.declared.place.Place.{Place}
+use Rattle.dt_lexeme.specs.declared.context.Context.{Context}
 use Rattle.dt_lexeme.specs.Bytes.{is_blank}
 use Rattle.dt_lexeme.specs.Gaps.{blank, nothing, IsGap, NoGap}
 use Rattle.dt_lexeme.specs.Families.{IsLongest, kind_of}
-use Rattle.dt_lexeme.specs.Places.{step}
+use Rattle.dt_lexeme.specs.Contexts.{step}
 use Rattle.dt_lexeme.specs.Lexemes.{Left}
 use Rattle.dt_canonical.specs.Private.Lexed.{Segment, Blanks, Word, bytes_of, written, placed}
 
@@ -25,16 +25,16 @@ written_append (s ∷ a) b = ap (λ (t : List ℕ). bytes_of s ++ t) (written_ap
 blank_gap : (b : ℕ) (t s : List ℕ) → is_blank b ≡ true → IsGap t s → IsGap (b ∷ t) s
 blank_gap b t s e h = record { gap = blank e h.gap; over = h.over }
 
-pub left_blank : (total : ℕ) (place : Place) (b : ℕ) (t : List ℕ) (ls : List Lexeme) → is_blank b ≡ true → Left total place t ls → Left total place (b ∷ t) ls
+pub left_blank : (total : ℕ) (context : Context) (b : ℕ) (t : List ℕ) (ls : List Lexeme) → is_blank b ≡ true → Left total context t ls → Left total context (b ∷ t) ls
 unfolding Left
-left_blank total place b t [] e h = blank_gap b t [] e h
-left_blank total place b t (l ∷ ls) e (s, n, gap, longest, from, to, more) = (s, n, blank_gap b t s e gap, longest, from, to, more)
+left_blank total context b t [] e h = blank_gap b t [] e h
+left_blank total context b t (l ∷ ls) e (s, n, gap, longest, from, to, more) = (s, n, blank_gap b t s e gap, longest, from, to, more)
 
-pub left_blanks : (total : ℕ) (place : Place) (bs t : List ℕ) (ls : List Lexeme) → list_all is_blank bs ≡ true → Left total place t ls → Left total place (bs ++ t) ls
-left_blanks total place [] t ls e h = h
-left_blanks total place (b ∷ bs) t ls e h =
+pub left_blanks : (total : ℕ) (context : Context) (bs t : List ℕ) (ls : List Lexeme) → list_all is_blank bs ≡ true → Left total context t ls → Left total context (bs ++ t) ls
+left_blanks total context [] t ls e h = h
+left_blanks total context (b ∷ bs) t ls e h =
     let p = and_parts (is_blank b) (list_all is_blank bs) e in
-    left_blank total place b (bs ++ t) ls p.0 (left_blanks total place bs t ls p.1 h)
+    left_blank total context b (bs ++ t) ls p.0 (left_blanks total context bs t ls p.1 h)
 
 -- ---- the longest lexeme
 
@@ -59,25 +59,25 @@ longest_of f bs t k e h = record { within = omega (arith, length-append bs t); i
 
 -- ---- each part stands
 
--- These bytes are a lexeme at this place, behind no gap, and with what is behind them they are none.
-pub record Here (place : Place) (k : Kind) (bs t : List ℕ) : Type 0 where
+-- These bytes are a lexeme in this context, behind no gap, and with what is behind them they are none.
+pub record Here (context : Context) (k : Kind) (bs t : List ℕ) : Type 0 where
   pub over : NoGap (bs ++ t)
-  pub is : kind_of place bs ≡ Some k
-  pub ends : Ends (kind_of place) bs t
+  pub is : kind_of context bs ≡ Some k
+  pub ends : Ends (kind_of context) bs t
 
--- From this place on the parts are blanks and the lexemes that they are said to be, with this text behind them.
-unfoldable pub Stands : Place → List Segment → Type 0
-Stands place [] = Unit {0}
-Stands place (Blanks bs ∷ ss) = (list_all is_blank bs ≡ true) × Stands place ss
-Stands place (Word k bs ∷ ss) = Here place k bs (written ss) × Stands (step place k) ss
+-- From this context on the parts are blanks and the lexemes that they are said to be, with this text behind them.
+unfoldable pub Stands : Context → List Segment → Type 0
+Stands context [] = Unit {0}
+Stands context (Blanks bs ∷ ss) = (list_all is_blank bs ≡ true) × Stands context ss
+Stands context (Word k bs ∷ ss) = Here context k bs (written ss) × Stands (step context k) ss
 
 -- Parts that stand are the lexemes of their text.
-pub lexed : (total p : ℕ) (place : Place) (ss : List Segment) → Stands place ss → p + length (written ss) ≡ total → Left total place (written ss) (placed p ss)
+pub lexed : (total p : ℕ) (context : Context) (ss : List Segment) → Stands context ss → p + length (written ss) ≡ total → Left total context (written ss) (placed p ss)
 unfolding written placed Left Stands
-lexed total p place [] h e = record { gap = nothing; over = record { blank = refl; line = refl; comment = refl } }
-lexed total p place (Blanks bs ∷ ss) h e =
-    left_blanks total place bs (written ss) (placed (p + length bs) ss) h.0 (lexed total (p + length bs) place ss h.1 (omega (arith, e, length-append bs (written ss))))
-lexed total p place (Word k bs ∷ ss) h e =
+lexed total p context [] h e = record { gap = nothing; over = record { blank = refl; line = refl; comment = refl } }
+lexed total p context (Blanks bs ∷ ss) h e =
+    left_blanks total context bs (written ss) (placed (p + length bs) ss) h.0 (lexed total (p + length bs) context ss h.1 (omega (arith, e, length-append bs (written ss))))
+lexed total p context (Word k bs ∷ ss) h e =
     let n = length-append bs (written ss) in
-    let next = lexed total (p + length bs) (step place k) ss h.1 (omega (arith, e, n)) in
-    (bs ++ written ss, length bs, record { gap = nothing; over = h.0.over }, longest_of (kind_of place) bs (written ss) k h.0.is h.0.ends, omega (arith, e), omega (arith, e), subst (λ (t : List ℕ). Left total (step place k) t (placed (p + length bs) ss)) (sym (drop-append_seam bs (written ss))) next)
+    let next = lexed total (p + length bs) (step context k) ss h.1 (omega (arith, e, n)) in
+    (bs ++ written ss, length bs, record { gap = nothing; over = h.0.over }, longest_of (kind_of context) bs (written ss) k h.0.is h.0.ends, omega (arith, e), omega (arith, e), subst (λ (t : List ℕ). Left total (step context k) t (placed (p + length bs) ss)) (sym (drop-append_seam bs (written ss))) next)

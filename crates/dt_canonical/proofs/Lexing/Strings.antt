@@ -6,7 +6,7 @@ use Rattle.std.proofs.lemmas.Bool.{and_from, cond_both, cond-false, true≢false
 use Rattle.std.proofs.lemmas.List.Folds.{list_all-append}
 use Rattle.dt_blob.specs.SourceText.{is_printable, are_strings, character, strings_text}
 use Rattle.dt_lexeme.specs.declared.lexeme.Kind.TheVariants as kinds
-use Rattle.dt_lexeme.specs.Places.{step}
+use Rattle.dt_lexeme.specs.Contexts.{step}
 use Rattle.dt_canonical.specs.Private.Lexed.{Segment, Blanks, Word, written, escaped, quoted, comma_parts, string_parts}
 use Rattle.dt_canonical.proofs.Lexing.Segments.{Stands}
 use Rattle.dt_canonical.proofs.Lexing.Marks.{at_value, comma}

@@ -4,7 +4,7 @@ use Rattle.std.specs.Prelude.{codes}
 use Rattle.std.proofs.lemmas.Bool.{cond_both}
 use Rattle.dt_blob.specs.SourceText.{are_strings, cells_text, pairs_text, value_text, value_part}
 use Rattle.dt_lexeme.specs.declared.lexeme.Kind.TheVariants as kinds
-use Rattle.dt_lexeme.specs.Places.{step}
+use Rattle.dt_lexeme.specs.Contexts.{step}
 use Rattle.dt_canonical.specs.Bytes.{are_bytes}
 use Rattle.dt_canonical.specs.Private.Lexed.{Segment, Blanks, Word, written, string_parts, cell_parts, pair_parts, value_parts, stop_parts, equals_parts, behind_name}
 use Rattle.dt_canonical.proofs.Lexing.Segments.{Stands, written_append}

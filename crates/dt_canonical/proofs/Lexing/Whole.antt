@@ -9,7 +9,7 @@ use Rattle.dt_tree.specs.TreeData.{TreeData, IsTree}
 use Rattle.dt_blob.specs.BigEndian.{double_word}
 use Rattle.dt_blob.specs.SourceText.{hex_of, reserve_line, reserve_lines, node_lines, text_of}
 use Rattle.dt_lexeme.specs.declared.lexeme.Kind.TheVariants as kinds
-use Rattle.dt_lexeme.specs.Places.{start, step}
+use Rattle.dt_lexeme.specs.Contexts.{start, step}
 use Rattle.dt_lexeme.specs.Lexemes.{Left, Lexemes}
 use Rattle.dt_canonical.specs.Bytes.{are_bytes, have_bytes, hold_bytes, HasBytes}
 use Rattle.dt_canonical.specs.Private.Lexed.{Segment, Blanks, Word, written, placed, stop_parts, properties_parts, brace_parts, sibling_parts, end_parts, root_parts, long_parts, memreserve_parts, reserve_parts, reserves_parts, header_parts, parts_of, lexemes_of}

@@ -6,7 +6,7 @@ use Rattle.dt_lexeme.proofs.Scanning.{some_byte, scans_start, scans_more, scans_
 use Rattle.dt_lexeme.proofs.scanner.scan_front.Goals as goal
 
 pub lexemes-init : goal.lexemes-init
-lexemes-init c = rw (c.start-place.ensures, c.new-found.ensures.items) (record {
+lexemes-init c = rw (c.start-context.ensures, c.new-found.ensures.items) (record {
   shorter = omega arith;
   braces = omega arith;
   parens = omega arith;
@@ -14,30 +14,30 @@ lexemes-init c = rw (c.start-place.ensures, c.new-found.ensures.items) (record {
 })
 
 pub returns-in-Err : goal.returns-in-Err
-returns-in-Err c = scans_none c.args.text.now c.lexemes.found.items c.lexemes.place c.lexemes.left.now c.in-Err.s.now c.in-Err.ensures.gap c.in-Err.ensures.unclosed c.lexemes.invariant.scans
+returns-in-Err c = scans_none c.args.text.now c.lexemes.found.items c.lexemes.context c.lexemes.left.now c.in-Err.s.now c.in-Err.ensures.gap c.in-Err.ensures.unclosed c.lexemes.invariant.scans
 
 pub returns-then-is_empty : goal.returns-then-is_empty
 returns-then-is_empty c =
     let e : c.in-Ok.s.now ≡ [] = nil_from_length c.in-Ok.s.now (eqb-true _ _ (sym c.if-is_empty.ensures)) in
-    scans_done c.args.text.now c.lexemes.found.items c.lexemes.place c.lexemes.left.now (subst (λ (x : List ℕ). IsGap c.lexemes.left.now x) e c.in-Ok.ensures.gap) c.lexemes.invariant.scans
+    scans_done c.args.text.now c.lexemes.found.items c.lexemes.context c.lexemes.left.now (subst (λ (x : List ℕ). IsGap c.lexemes.left.now x) e c.in-Ok.ensures.gap) c.lexemes.invariant.scans
 
 pub returns-in_default : goal.returns-in_default
-returns-in_default c = scans_lost c.args.text.now c.lexemes.found.items c.lexemes.place c.lexemes.left.now c.in-Ok.s.now c.in-Ok.ensures.gap (not_empty c.in-Ok.s.now (sym c.if-is_empty.ensures)) c.in_default.ensures c.lexemes.invariant.scans
+returns-in_default c = scans_lost c.args.text.now c.lexemes.found.items c.lexemes.context c.lexemes.left.now c.in-Ok.s.now c.in-Ok.ensures.gap (not_empty c.in-Ok.s.now (sym c.if-is_empty.ensures)) c.in_default.ensures c.lexemes.invariant.scans
 
 pub lexemes-smaller : goal.lexemes-smaller
 lexemes-smaller c =
-    let h = some_byte c.lexemes.place c.in-Ok.s.now c.in-Some.kind c.in-Some.n c.in-Some.ensures in
+    let h = some_byte c.lexemes.context c.in-Ok.s.now c.in-Some.kind c.in-Some.n c.in-Some.ensures in
     omega (arith, h, c.in-Some.ensures.within, c.in-Ok.ensures.shorter, ap length c.from-left.ensures, length-drop c.in-Some.n c.in-Ok.s.now)
 
 pub lexemes-preserved : goal.lexemes-preserved
 lexemes-preserved c =
-    let h = some_byte c.lexemes.place c.in-Ok.s.now c.in-Some.kind c.in-Some.n c.in-Some.ensures in
+    let h = some_byte c.lexemes.context c.in-Ok.s.now c.in-Some.kind c.in-Some.n c.in-Some.ensures in
     let g = c.in-Ok.ensures.shorter in
     let left = ap length c.from-left.ensures ∙ length-drop c.in-Some.n c.in-Ok.s.now in
     let items = c.in_ok-push.ensures.items in
     record {
       shorter = omega (arith, g, left, c.lexemes.invariant.shorter);
-      braces = rw (c.step-place.ensures) (omega (arith, h, g, left, c.in-Some.ensures.within, c.lexemes.invariant.braces, step_braces c.lexemes.place c.in-Some.kind));
-      parens = rw (c.step-place.ensures) (omega (arith, h, g, left, c.in-Some.ensures.within, c.lexemes.invariant.parens, step_parens c.lexemes.place c.in-Some.kind));
-      scans = rw (c.step-place.ensures, c.from-left.ensures, items) (scans_more c.args.text.now c.lexemes.found.items c.lexemes.place c.lexemes.left.now c.in-Ok.s.now c.in-Some.kind c.in-Some.n c.in-Ok.ensures.gap c.in-Some.ensures c.lexemes.invariant.scans);
+      braces = rw (c.step-context.ensures) (omega (arith, h, g, left, c.in-Some.ensures.within, c.lexemes.invariant.braces, step_braces c.lexemes.context c.in-Some.kind));
+      parens = rw (c.step-context.ensures) (omega (arith, h, g, left, c.in-Some.ensures.within, c.lexemes.invariant.parens, step_parens c.lexemes.context c.in-Some.kind));
+      scans = rw (c.step-context.ensures, c.from-left.ensures, items) (scans_more c.args.text.now c.lexemes.found.items c.lexemes.context c.lexemes.left.now c.in-Ok.s.now c.in-Some.kind c.in-Some.n c.in-Ok.ensures.gap c.in-Some.ensures c.lexemes.invariant.scans);
     }

@@ -5,9 +5,9 @@ use Rattle.dt_lexeme.proofs.scanner.scan_front.Given as goal
 abbrev pub invariant-lexemes : goal.invariant-lexemes
 invariant-lexemes l = record {
   shorter : length l.left ≤ length l.text;
-  braces : l.place.braces + length l.left ≤ length l.text;
-  parens : l.place.parens + length l.left ≤ length l.text;
-  scans : Scans l.text l.found.items l.place l.left;
+  braces : l.context.braces + length l.left ≤ length l.text;
+  parens : l.context.parens + length l.left ≤ length l.text;
+  scans : Scans l.text l.found.items l.context l.left;
 }
 
 abbrev pub decreases-lexemes : goal.decreases-lexemes

@@ -1,6 +1,6 @@
-//! Where a lexeme stands, which says what may stand there.
+//! The context in which a lexeme stands, which says what may stand there.
 ghost use Rattle.std.specs.Prelude.{◌≡◌, ◌<◌};
-ghost use Rattle.dt_lexeme.specs.Places.{step, start};
+ghost use Rattle.dt_lexeme.specs.Contexts.{step, start};
 
 use crate::lexeme::Kind;
 
@@ -14,70 +14,70 @@ pub enum Mode {
 
 /// How many bodies and parentheses are open, and what may stand next.
 #[derive(Clone, Copy)]
-pub struct Place {
+pub struct Context {
     pub braces: usize,
     pub parens: usize,
     pub mode: Mode,
 }
 
-impl Place {
-    /// The place where a text begins.
-    pub(crate) fn start() -> Place
+impl Context {
+    /// The context where a text begins.
+    pub(crate) fn start() -> Context
         ensures { result ≡ start }
     {
-        Place {
+        Context {
             braces: 0,
             parens: 0,
             mode: Mode::Value,
         }
     }
 
-    /// The place behind a lexeme.
-    #[tactic(auto, unfolding(crate::specs::Places::step))]
-    pub(crate) fn step(self, kind: Kind) -> Place
+    /// The context behind a lexeme.
+    #[tactic(auto, unfolding(crate::specs::Contexts::step))]
+    pub(crate) fn step(self, kind: Kind) -> Context
         requires braces { self.braces < 18446744073709551615 }
         requires parens { self.parens < 18446744073709551615 }
         ensures { result ≡ step self kind }
     {
-        let Place {
+        let Context {
             braces,
             parens,
             mode: _,
         } = self;
         let statement = if braces == 0 { Mode::Value } else { Mode::Name };
         match kind {
-            Kind::Brace => Place {
+            Kind::Brace => Context {
                 braces: braces + 1,
                 parens,
                 mode: Mode::Name,
             },
-            Kind::EndBrace => Place {
+            Kind::EndBrace => Context {
                 braces: braces.saturating_sub(1),
                 parens,
                 mode: Mode::Value,
             },
-            Kind::Semicolon | Kind::DeleteNode | Kind::DeleteProperty => Place {
+            Kind::Semicolon | Kind::DeleteNode | Kind::DeleteProperty => Context {
                 braces,
                 parens,
                 mode: statement,
             },
-            Kind::Square => Place {
+            Kind::Square => Context {
                 braces,
                 parens,
                 mode: Mode::Byte,
             },
-            Kind::Paren => Place {
+            Kind::Paren => Context {
                 braces,
                 parens: parens + 1,
                 mode: Mode::Value,
             },
-            Kind::EndParen => Place {
+            Kind::EndParen => Context {
                 braces,
                 parens: parens.saturating_sub(1),
                 mode: Mode::Value,
             },
             Kind::Label | Kind::Pair => self,
-            _ => Place {
+            _ => Context {
                 braces,
                 parens,
                 mode: Mode::Value,

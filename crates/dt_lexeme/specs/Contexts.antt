@@ -1,12 +1,12 @@
--- Where a lexeme stands: it follows from the kinds of the lexemes before it.
+-- In which context a lexeme stands: it follows from the kinds of the lexemes before it.
 use Rattle.std.specs.Prelude.{ℕ, zero, suc, ◌+◌, ◌-◌}
 use Rattle.dt_lexeme.specs.declared.lexeme.Kind.{Kind}
 use Rattle.dt_lexeme.specs.declared.lexeme.Kind.TheVariants.{Brace, EndBrace, Semicolon, DeleteNode, DeleteProperty, Square, Paren, EndParen, Label, Pair}
-use Rattle.dt_lexeme.specs.declared.place.Mode.{Mode}
-use Rattle.dt_lexeme.specs.declared.place.Mode.TheVariants as modes
-use Rattle.dt_lexeme.specs.declared.place.Place.{Place}
+use Rattle.dt_lexeme.specs.declared.context.Mode.{Mode}
+use Rattle.dt_lexeme.specs.declared.context.Mode.TheVariants as modes
+use Rattle.dt_lexeme.specs.declared.context.Context.{Context}
 
-abbrev pub start : Place
+abbrev pub start : Context
 start = record { braces = 0; parens = 0; mode = modes.Value }
 
 -- in a body a statement's name, at the top level a value
@@ -14,9 +14,9 @@ abbrev pub statement : ℕ → Mode
 statement zero = modes.Value
 statement (suc n) = modes.Name
 
--- The place behind a lexeme of this kind: a body's statements begin behind its brace and behind each semicolon in it, a
--- deletion in a body is followed by a name, bytes stand between square brackets, and labels leave the place as it is.
-unfoldable pub step : Place → Kind → Place
+-- The context behind a lexeme of this kind: a body's statements begin behind its brace and behind each semicolon in it, a
+-- deletion in a body is followed by a name, bytes stand between square brackets, and labels leave the context as it is.
+unfoldable pub step : Context → Kind → Context
 step p Brace = record { braces = p.braces + 1; parens = p.parens; mode = modes.Name }
 step p EndBrace = record { braces = p.braces - 1; parens = p.parens; mode = modes.Value }
 step p Semicolon = record { braces = p.braces; parens = p.parens; mode = statement p.braces }
