@@ -3,7 +3,7 @@ use Rattle.std.proofs.Common.{◌≡◌, ℕ, zero, suc, ◌+◌, ◌<◌, ◌�
 use Rattle.std.specs.Prelude.{◌&&◌, ◌||◌, not, codes, nat_eq}
 use Rattle.std.specs.List.{list_all}
 use Rattle.std.specs.Cmp.Lexicographic.{pointwise, same_text}
-use Rattle.std.proofs.lemmas.Bool.{eqb-true, cases_eq, cases_lt}
+use Rattle.std.proofs.lemmas.Bool.{eqb-true, cases_eq, cases_lt, and_left}
 use Rattle.dt_lexeme.specs.declared.lexeme.Kind.{Kind}
 use Rattle.dt_lexeme.specs.declared.lexeme.Kind.TheVariants.{Label, Name, Literal, Reference, PathReference, Pair, Slash, And}
 use Rattle.dt_lexeme.specs.declared.bytes.Class.TheVariants as classes
@@ -13,22 +13,9 @@ use Rattle.dt_lexeme.specs.declared.families.First.TheVariants as firsts
 use Rattle.dt_lexeme.specs.Bytes.{is_word, is_name, is_letter, is_hex, begins, begins_letter}
 use Rattle.dt_lexeme.specs.Fronts.{Front, IsFront, ends, ends_label, ends_word, labels, names, words, paths, numbers, hexed, one_hex}
 use Rattle.dt_lexeme.specs.Families.{Longest, IsLongest, given, alone, keyword, slashed, operated, second_of, and_alone, ampersand, label_or, kind_by, kind_of, first_at}
-use Rattle.dt_lexeme.proofs.Runs.{all_fails, and_left, and_first, ends_at, ends_once}
+use Rattle.dt_lexeme.proofs.Runs.{kind_more, kind_none, all_fails, and_first, ends_at, ends_once}
 
 -- ---- a byte in front
-
-pub kind_more : (f g : List ℕ → Option Kind) (c : ℕ) (t : List ℕ) (k : Kind) (n : ℕ) → ((u : List ℕ) → f (c ∷ u) ≡ g u) → IsLongest g t k n → IsLongest f (c ∷ t) k (n + 1)
-kind_more f g c t k n same h =
-    let e : n + 1 ≡ suc n = omega arith in
-    rw e (record { within = omega (arith, h.within); is = same (take n t) ∙ h.is; longest = go })
-  where
-    go : (m : ℕ) → suc n < m → m ≤ length (c ∷ t) → f (take m (c ∷ t)) ≡ None
-    go zero lt le = absurd (omega arith)
-    go (suc m) lt le = same (take m t) ∙ h.longest m (omega arith) (omega arith)
-
-pub kind_none : (f g : List ℕ → Option Kind) (c : ℕ) (t : List ℕ) → f [] ≡ None → ((u : List ℕ) → f (c ∷ u) ≡ g u) → Longest g t None → Longest f (c ∷ t) None
-kind_none f g c t empty same h zero le = empty
-kind_none f g c t empty same h (suc m) le = same (take m t) ∙ h m (omega arith)
 
 -- nothing longer than no byte
 pub kind_empty : (f g : List ℕ → Option Kind) (c : ℕ) (t : List ℕ) (k : Kind) → f [] ≡ Some k → ((u : List ℕ) → f (c ∷ u) ≡ g u) → Longest g t None → IsLongest f (c ∷ t) k 0

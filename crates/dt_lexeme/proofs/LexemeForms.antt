@@ -113,7 +113,7 @@ Fits (firsts.Alone k) c = (bs : List ℕ) → FormAt k bs 0 (length bs)
 Fits _ c = Unit {0}
 
 by_formed : (f : First) (c : ℕ) (s : List ℕ) → Fits f c → FormedBy (kind_by f s) (c ∷ s)
-by_formed firsts.Quote c s h = given_formed (closes false s) Text (c ∷ s) (λ e. tt)
+by_formed firsts.Quote c s h = given_formed (closes 34 false s) Text (c ∷ s) (λ e. tt)
 by_formed firsts.Solidus c s h = slashed_formed s (c ∷ s)
 by_formed (firsts.Ampersand inside) c s h = ampersand_formed inside c s
 by_formed firsts.Zero c s h = either (hexed s) _ _ (c ∷ s) (λ e. tt) (λ e. given_formed (numbers classes.Digit s) Literal (c ∷ s) (λ e. tt))

@@ -1,4 +1,4 @@
-mod Runs
+pub mod Runs
 mod Numbers
 mod GapEnds
 mod Begins

@@ -5,10 +5,11 @@ use Rattle.std.specs.List.{list_all}
 use Rattle.std.proofs.Math.Seq.{take-append_seam}
 use Rattle.std.proofs.lemmas.Bool.Decides.{nat_tests}
 use Rattle.dt_tree.specs.Name as tree
+use Rattle.std.proofs.lemmas.Bool.{and_from, ne_eqb}
 use Rattle.dt_lexeme.specs.Bytes.{is_letter, is_word, is_name}
 use Rattle.dt_lexeme.specs.Fronts.{is_empty, ends, ends_label, labels, names, words}
 use Rattle.dt_lexeme.specs.Label.{IsLabel}
-use Rattle.dt_lexeme.proofs.Runs.{and_both, and_first, and_second, eqb_not, ends_hit, ends_pass, ends_miss, ends_nil}
+use Rattle.dt_lexeme.proofs.Runs.{and_first, and_second, ends_hit, ends_pass, ends_miss, ends_nil}
 
 -- ---- bytes
 
@@ -26,13 +27,13 @@ letter_name c e = word_name c (letter_word c e)
 
 pub all_also : (p q : ℕ → Bool) → ((c : ℕ) → p c ≡ true → q c ≡ true) → (s : List ℕ) → list_all p s ≡ true → list_all q s ≡ true
 all_also p q h [] e = refl
-all_also p q h (c ∷ s) e = and_both (q c) (list_all q s) (h c (and_first (p c) (list_all p s) e)) (all_also p q h s (and_second (p c) (list_all p s) e))
+all_also p q h (c ∷ s) e = and_from (q c) (list_all q s) (h c (and_first (p c) (list_all p s) e)) (all_also p q h s (and_second (p c) (list_all p s) e))
 
 -- ---- names
 
 pub named : (s : List ℕ) → 0 < length s → length s ≤ 255 → list_all tree.is_name_byte s ≡ true → tree.is_name s ≡ true
 named s some most e =
-    let f : eqb (length s) 0 ≡ false = eqb_not (length s) 0 (λ k. omega arith) in
+    let f : eqb (length s) 0 ≡ false = ne_eqb (length s) 0 (λ k. omega arith) in
     let g : ltb 255 (length s) ≡ false = grind (arith, nat_tests) in
     rw (f, g) e
 
@@ -42,14 +43,14 @@ most_length s n e = grind (arith, nat_tests)
 pub first_and_name : (c : ℕ) (s : List ℕ) → is_name c ≡ true → names s ≡ true → tree.is_name (c ∷ s) ≡ true
 first_and_name c s e h =
     let most = most_length s 254 (and_second (list_all is_name s) _ h) in
-    named (c ∷ s) (omega arith) (omega (arith, most)) (and_both (tree.is_name_byte c) _ (name_byte c e) (all_also is_name tree.is_name_byte name_byte s (and_first (list_all is_name s) _ h)))
+    named (c ∷ s) (omega arith) (omega (arith, most)) (and_from (tree.is_name_byte c) _ (name_byte c e) (all_also is_name tree.is_name_byte name_byte s (and_first (list_all is_name s) _ h)))
 
 -- ---- labels
 
 pub first_and_words : (c : ℕ) (w : List ℕ) → is_letter c ≡ true → list_all is_word w ≡ true → length w ≤ 254 → IsLabel (c ∷ w)
 first_and_words c w e h most =
     let bytes = all_also is_word tree.is_name_byte (λ c k. name_byte c (word_name c k)) w h in
-    (named (c ∷ w) (omega arith) (omega arith) (and_both (tree.is_name_byte c) _ (name_byte c (letter_name c e)) bytes), and_both (is_letter c) _ e h)
+    (named (c ∷ w) (omega arith) (omega arith) (and_from (tree.is_name_byte c) _ (name_byte c (letter_name c e)) bytes), and_from (is_letter c) _ e h)
 
 pub reference_label : (c : ℕ) (s : List ℕ) → is_letter c ≡ true → words s ≡ true → IsLabel (c ∷ s)
 reference_label c s e h = first_and_words c s e (and_first (list_all is_word s) _ h) (most_length s 254 (and_second (list_all is_word s) _ h))
@@ -73,7 +74,7 @@ run_and_end p q (c ∷ s) e = go (q c) refl (p c) refl (run_and_end p q s)
     go true f b g next = record { run = []; last = c; is = ap (λ (x : List ℕ). c ∷ x) (empty_is s (sym (ends_hit p q c s f) ∙ e)); passes = refl }
     go false f true g next =
         let r = next (sym (ends_pass p q c s f g) ∙ e) in
-        record { run = c ∷ r.run; last = r.last; is = ap (λ (x : List ℕ). c ∷ x) r.is; passes = and_both (p c) (list_all p r.run) g r.passes }
+        record { run = c ∷ r.run; last = r.last; is = ap (λ (x : List ℕ). c ∷ x) r.is; passes = and_from (p c) (list_all p r.run) g r.passes }
     go false f false g next = absurd (cc (ends_miss p q c s f g))
 
 -- what stands before the last byte

@@ -10,19 +10,19 @@ use Rattle.dt_lexeme.proofs.Runs.{and_first, and_second, shifted, front_same, fr
 
 -- ---- strings
 
-pub closes_nil : (e : Bool) → closes e [] ≡ false
+pub closes_nil : (quote : ℕ) (e : Bool) → closes quote e [] ≡ false
 unfolding closes
-closes_nil e = refl
+closes_nil quote e = refl
 
-pub closes_here : (e : Bool) (c : ℕ) (u : List ℕ) → (not e && eqb c 34) ≡ true → closes e (c ∷ u) ≡ is_empty u
+pub closes_here : (quote : ℕ) (e : Bool) (c : ℕ) (u : List ℕ) → (not e && eqb c quote) ≡ true → closes quote e (c ∷ u) ≡ is_empty u
 unfolding closes
-closes_here true c u h = absurd cc
-closes_here false c u h = rw h refl
+closes_here quote true c u h = absurd cc
+closes_here quote false c u h = rw h refl
 
-pub closes_on : (e : Bool) (c : ℕ) (u : List ℕ) → (not e && eqb c 34) ≡ false → closes e (c ∷ u) ≡ closes (not e && eqb c 92) u
+pub closes_on : (quote : ℕ) (e : Bool) (c : ℕ) (u : List ℕ) → (not e && eqb c quote) ≡ false → closes quote e (c ∷ u) ≡ closes quote (not e && eqb c 92) u
 unfolding closes
-closes_on true c u h = refl
-closes_on false c u h = rw h refl
+closes_on quote true c u h = refl
+closes_on quote false c u h = rw h refl
 
 -- ---- paths
 

@@ -2,13 +2,13 @@
 use Rattle.std.proofs.Common.{◌≡◌, ℕ, ◌+◌, ◌-◌, ◌<◌, ◌≤◌, Bool, true, false, cond, eqb, ltb, List, [], ◌∷◌, ◌++◌, length, take, refl, sym, ap, subst, ◌∙◌, arith}
 use Rattle.std.specs.Prelude.{◌&&◌}
 use Rattle.std.specs.List.{list_all, slice_split, onto_first}
-use Rattle.std.proofs.lemmas.Bool.{eqb-true}
+use Rattle.std.proofs.lemmas.Bool.{eqb-true, and_from}
 use Rattle.std.proofs.lemmas.Bool.Decides.{nat_tests}
 use Rattle.dt_tree.specs.Name as tree
 use Rattle.dt_tree.specs.Path.{is_slash, names_behind, is_path}
 use Rattle.dt_lexeme.specs.Bytes.{is_name}
 use Rattle.dt_lexeme.specs.Fronts.{is_empty, closes_path, path_behind, paths}
-use Rattle.dt_lexeme.proofs.Runs.{and_both, and_first, and_second}
+use Rattle.dt_lexeme.proofs.Runs.{and_first, and_second}
 use Rattle.dt_lexeme.proofs.NameForms.{name_byte, named, before_last}
 
 -- A text and a brace behind it. The text's parts between slashes are names, where n characters stand before it.
@@ -68,7 +68,7 @@ at_slash n c s le e some r =
       bytes = refl;
       some = omega (arith, below 0 n some);
       most = omega arith;
-      names = and_both (tree.is_name r.first) (tree.are_names r.others) (named r.first (omega (arith, r.some)) (omega (arith, r.most)) r.bytes) r.names;
+      names = and_from (tree.is_name r.first) (tree.are_names r.others) (named r.first (omega (arith, r.some)) (omega (arith, r.most)) r.bytes) r.names;
     }
 
 at_name : (n c : ℕ) (s : List ℕ) → eqb c 47 ≡ false → is_name c ≡ true → PathAndBrace (n + 1) s → PathAndBrace n (c ∷ s)
@@ -79,7 +79,7 @@ at_name n c s e h r =
       first = c ∷ r.first;
       others = r.others;
       split = ap (λ (b : Bool). cond b ([] ∷ slice_split is_slash r.run) (onto_first c (slice_split is_slash r.run))) e ∙ ap (onto_first c) r.split;
-      bytes = and_both (tree.is_name_byte c) (list_all tree.is_name_byte r.first) (name_byte c h) r.bytes;
+      bytes = and_from (tree.is_name_byte c) (list_all tree.is_name_byte r.first) (name_byte c h) r.bytes;
       some = omega arith;
       most = omega (arith, r.most);
       names = r.names;
@@ -116,7 +116,7 @@ names_between [] first others e some h = absurd (omega (arith, none))
 names_between (c ∷ w) first others e some h = ap tree.are_names (between c w ∙ e) ∙ h
 
 path_is : (c : ℕ) (w : List ℕ) → eqb c 47 ≡ true → tree.are_names (names_behind w) ≡ true → is_path (c ∷ w) ≡ true
-path_is c w e h = and_both (eqb c 47) _ e h
+path_is c w e h = and_from (eqb c 47) _ e h
 
 -- the path before the brace
 pub path_before_brace : (s : List ℕ) (n : ℕ) → n ≡ length s - 1 → paths s ≡ true → is_path (take n s) ≡ true
@@ -140,5 +140,5 @@ path_before_brace (c ∷ d ∷ s) n e h = go (eqb d 125) refl (and_second (eqb c
         let r = path_and_brace 0 (d ∷ s) (omega arith) (subst (λ (b : Bool). cond b (is_empty s) (closes_path 0 (d ∷ s)) ≡ true) f k) in
         let w : take n (c ∷ d ∷ s) ≡ c ∷ r.run = before_last (c ∷ d ∷ s) (c ∷ r.run) 125 n (ap (λ (x : List ℕ). c ∷ x) r.is) e in
         let some : 0 < length r.first = omega (arith, r.some) in
-        let names = and_both (tree.is_name r.first) (tree.are_names r.others) (named r.first some (omega (arith, r.most)) r.bytes) r.names in
+        let names = and_from (tree.is_name r.first) (tree.are_names r.others) (named r.first some (omega (arith, r.most)) r.bytes) r.names in
         rw w (path_is c r.run slash (names_between r.run r.first r.others r.split some names))

@@ -1,26 +1,15 @@
 -- The longest front that passes a test.
-use Rattle.std.proofs.Common.{◌≡◌, ℕ, zero, suc, ◌+◌, ◌<◌, ◌≤◌, Bool, true, false, leb, eqb, List, [], ◌∷◌, length, take, drop, get_or, Option, Some, None, refl, sym, ap, subst, ◌∙◌, arith, rules, add-one, inl, inr}
+use Rattle.std.proofs.Common.{◌≡◌, ℕ, zero, suc, ◌+◌, ◌<◌, ◌≤◌, Bool, true, false, leb, List, [], ◌∷◌, length, take, drop, get_or, Option, Some, None, refl, sym, ap, subst, ◌∙◌, arith, add-one, inl, inr, ◌⊎◌}
 use Rattle.std.specs.Prelude.{◌&&◌, option_map}
 use Rattle.std.specs.List.{list_all}
 use Rattle.std.proofs.Math.Seq.{drop-cons}
 use Rattle.std.proofs.lemmas.List.{drop_all, take_all, length-take}
 use Rattle.std.proofs.lemmas.List.Folds.{list_all_kept, list_all_more}
-use Rattle.std.proofs.lemmas.Bool.{cases_lt, le-leb, lt-leb, eqb-true}
+use Rattle.std.proofs.lemmas.Bool.{and_from, and_right, cases_lt, le-leb, lt-leb}
 use Rattle.dt_lexeme.specs.Fronts.{Front, IsFront, is_empty, at_most, ends}
+use Rattle.dt_lexeme.specs.Families.{IsLongest, Longest}
 
 -- ---- tests
-
-pub and_both : (a b : Bool) → a ≡ true → b ≡ true → (a && b) ≡ true
-and_both true b e f = f
-and_both false b e f = e
-
-pub and_right : (a b : Bool) → b ≡ false → (a && b) ≡ false
-and_right true b f = f
-and_right false b f = refl
-
-pub and_left : (a b : Bool) → a ≡ false → (a && b) ≡ false
-and_left true b f = absurd cc
-and_left false b f = refl
 
 pub and_first : (a b : Bool) → (a && b) ≡ true → a ≡ true
 and_first true b e = refl
@@ -29,16 +18,6 @@ and_first false b e = absurd cc
 pub and_second : (a b : Bool) → (a && b) ≡ true → b ≡ true
 and_second true b e = e
 and_second false b e = absurd cc
-
-pub eqb_not : (m n : ℕ) → (m ≡ n → ⊥) → eqb m n ≡ false
-eqb_not m n h = go (eqb m n) refl
-  where
-    go : (b : Bool) → eqb m n ≡ b → eqb m n ≡ false
-    go true e = absurd (h (eqb-true m n e))
-    go false e = e
-
-pub eqb_is : (m n : ℕ) → m ≡ n → eqb m n ≡ true
-eqb_is m n e = search (rules, e)
 
 -- ---- a byte in front
 
@@ -132,7 +111,7 @@ leads_over b a s i le empty c =
 
 module _ (p : ℕ → Bool) where
   pub all_more : (s : List ℕ) (i : ℕ) → i < length s → list_all p (take i s) ≡ true → p (get_or s i 0) ≡ true → list_all p (take (i + 1) s) ≡ true
-  all_more s i lt h e = list_all_more p s i 0 lt ∙ and_both (list_all p (take i s)) (p (get_or s i 0)) h e
+  all_more s i lt h e = list_all_more p s i 0 lt ∙ and_from (list_all p (take i s)) (p (get_or s i 0)) h e
 
   pub all_fails : (s : List ℕ) (i : ℕ) → i < length s → p (get_or s i 0) ≡ false → (m : ℕ) → i < m → list_all p (take m s) ≡ false
   all_fails s i lt e zero le = absurd (omega arith)
@@ -239,3 +218,35 @@ module _ (p q : ℕ → Bool) where
       go true f d g next = ends_hit c (take n s) f ∙ more n s (omega arith) (omega arith)
       go false f true g next = ends_pass c (take n s) f g ∙ next (sym (ends_pass c (take m s) f g) ∙ e)
       go false f false g next = ends_miss c (take n s) f g
+
+-- ---- the longest front of a kind
+
+pub kind_more : {K : Type 0} (f g : List ℕ → Option K) (c : ℕ) (t : List ℕ) (k : K) (n : ℕ) → ((u : List ℕ) → f (c ∷ u) ≡ g u) → IsLongest g t k n → IsLongest f (c ∷ t) k (n + 1)
+kind_more f g c t k n same h =
+    let e : n + 1 ≡ suc n = omega arith in
+    rw e (record { within = omega (arith, h.within); is = same (take n t) ∙ h.is; longest = go })
+  where
+    go : (m : ℕ) → suc n < m → m ≤ length (c ∷ t) → f (take m (c ∷ t)) ≡ None
+    go zero lt le = absurd (omega arith)
+    go (suc m) lt le = same (take m t) ∙ h.longest m (omega arith) (omega arith)
+
+pub kind_none : {K : Type 0} (f g : List ℕ → Option K) (c : ℕ) (t : List ℕ) → f [] ≡ None → ((u : List ℕ) → f (c ∷ u) ≡ g u) → Longest g t None → Longest f (c ∷ t) None
+kind_none f g c t empty same h zero le = empty
+kind_none f g c t empty same h (suc m) le = same (take m t) ∙ h m (omega arith)
+
+same_length : {K : Type 0} (f : List ℕ → Option K) (s : List ℕ) (k j : K) (n m : ℕ) → IsLongest f s k n → IsLongest f s j m → n < m → ⊥
+same_length f s k j n m h g lt = cc (h.longest m lt g.within, g.is)
+
+some_is : {K : Type 0} (k j : K) → Some k ≡ Some j → k ≡ j
+some_is k j e = cc
+
+pub one_longest : {K : Type 0} (f : List ℕ → Option K) (s : List ℕ) (k j : K) (n m : ℕ) → IsLongest f s k n → IsLongest f s j m → (k ≡ j) × (n ≡ m)
+one_longest f s k j n m h g = go (cases_lt n m) (cases_lt m n)
+  where
+    go : (n < m) ⊎ (m ≤ n) → (m < n) ⊎ (n ≤ m) → (k ≡ j) × (n ≡ m)
+    go (inl lt) b = absurd (same_length f s k j n m h g lt)
+    go (inr le) (inl lt) = absurd (same_length f s j k m n g h lt)
+    go (inr le) (inr le') =
+        let e : n ≡ m = omega arith in
+        let p : f (take m s) ≡ Some k = subst (λ (i : ℕ). f (take i s) ≡ Some k) e h.is in
+        (some_is k j (sym p ∙ g.is), e)

@@ -1,7 +1,6 @@
 -- A text has one list of lexemes, and a loop that takes the longest lexeme each time finds it.
 use Rattle.std.proofs.Common.{◌≡◌, ℕ, zero, suc, ◌+◌, ◌-◌, ◌<◌, ◌≤◌, false, List, [], ◌∷◌, ◌++◌, length, take, drop, Option, Some, None, refl, sym, ap, subst, ◌∙◌, arith, inl, inr, append_assoc, eqb, ◌⊎◌}
 use Rattle.std.proofs.lemmas.List.{append-nil}
-use Rattle.std.proofs.lemmas.Bool.{cases_lt}
 use Rattle.dt_lexeme.specs.declared.lexeme.Kind.{Kind}
 use Rattle.dt_lexeme.specs.declared.lexeme.Kind.TheVariants.{Brace, EndBrace, Paren, EndParen}
 use Rattle.dt_lexeme.specs.declared.lexeme.Lexeme.{Lexeme}
@@ -11,29 +10,13 @@ use Rattle.dt_lexeme.specs.Families.{Longest, IsLongest, kind_of}
 use Rattle.dt_lexeme.specs.Contexts.{start, step}
 use Rattle.dt_lexeme.specs.Lexemes.{Left, Lexemes, HasNone, BreaksAt, LeftTo, LexemesTo}
 use Rattle.dt_lexeme.proofs.GapEnds.{one_end}
+use Rattle.dt_lexeme.proofs.Runs.{one_longest}
 
 -- a lexeme has at least one byte
 pub some_byte : (context : Context) (s : List ℕ) (k : Kind) (n : ℕ) → IsLongest (kind_of context) s k n → 1 ≤ n
 unfolding kind_of
 some_byte context s k zero h = absurd (cc (h.is))
 some_byte context s k (suc n) h = omega arith
-
-same_length : (f : List ℕ → Option Kind) (s : List ℕ) (k j : Kind) (n m : ℕ) → IsLongest f s k n → IsLongest f s j m → n < m → ⊥
-same_length f s k j n m h g lt = cc (h.longest m lt g.within, g.is)
-
-some_is : (k j : Kind) → Some k ≡ Some j → k ≡ j
-some_is k j e = cc
-
-one_longest : (f : List ℕ → Option Kind) (s : List ℕ) (k j : Kind) (n m : ℕ) → IsLongest f s k n → IsLongest f s j m → (k ≡ j) × (n ≡ m)
-one_longest f s k j n m h g = go (cases_lt n m) (cases_lt m n)
-  where
-    go : (n < m) ⊎ (m ≤ n) → (m < n) ⊎ (n ≤ m) → (k ≡ j) × (n ≡ m)
-    go (inl lt) b = absurd (same_length f s k j n m h g lt)
-    go (inr le) (inl lt) = absurd (same_length f s j k m n g h lt)
-    go (inr le) (inr le') =
-        let e : n ≡ m = omega arith in
-        let p : f (take m s) ≡ Some k = subst (λ (i : ℕ). f (take i s) ≡ Some k) e h.is in
-        (some_is k j (sym p ∙ g.is), e)
 
 -- the lexeme that stands there
 abbrev pub lexeme_at : ℕ → List ℕ → Kind → ℕ → Lexeme

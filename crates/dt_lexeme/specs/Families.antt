@@ -14,14 +14,14 @@ use Rattle.dt_lexeme.specs.Fronts.{closes, labels, names, words, paths, numbers,
 
 -- ---- the longest lexeme
 
--- The longest front that is a lexeme has n bytes and this kind.
-pub record IsLongest (f : List ℕ → Option Kind) (s : List ℕ) (k : Kind) (n : ℕ) : Type 0 where
+-- The longest front that is of some kind has n bytes and this kind.
+pub record IsLongest {K : Type 0} (f : List ℕ → Option K) (s : List ℕ) (k : K) (n : ℕ) : Type 0 where
   pub within : n ≤ length s
   pub is : f (take n s) ≡ Some k
   pub longest : (m : ℕ) → n < m → m ≤ length s → f (take m s) ≡ None
 
--- the longest front that is a lexeme, if one is
-abbrev pub Longest : (List ℕ → Option Kind) → List ℕ → Option (Kind × ℕ) → Type 0
+-- the longest front that is of some kind, if one is
+abbrev pub Longest : {K : Type 0} → (List ℕ → Option K) → List ℕ → Option (K × ℕ) → Type 0
 Longest f s None = (m : ℕ) → m ≤ length s → f (take m s) ≡ None
 Longest f s (Some x) = IsLongest f s x.0 x.1
 
@@ -143,7 +143,7 @@ abbrev pub label_or : (List ℕ → Option Kind) → List ℕ → Option Kind
 label_or other s = if labels s then Some Label else other s
 
 abbrev pub kind_by : First → List ℕ → Option Kind
-kind_by firsts.Quote s = given Text (closes false) s
+kind_by firsts.Quote s = given Text (closes 34 false) s
 kind_by firsts.Solidus s = slashed s
 kind_by (firsts.Ampersand inside) s = ampersand inside s
 kind_by firsts.Zero s = if hexed s then Some Literal else given Literal (numbers classes.Digit) s

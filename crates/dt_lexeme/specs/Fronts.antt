@@ -56,12 +56,12 @@ ends_word = ends (λ c. not (c == 47)) (λ c. c == 47)
 
 -- ---- strings
 
--- The last byte is a quote, and none before it is one, but behind a backslash any byte stands. The flag says that a
--- backslash stands before.
-unfoldable pub closes : Bool → List ℕ → Bool
-closes escaped [] = false
-closes true (c ∷ s) = closes false s
-closes false (c ∷ s) = if c == 34 then is_empty s else closes (c == 92) s
+-- The last byte is this quote, and none before it is one, but behind a backslash (92) any byte stands. The flag says that a
+-- backslash stands before, or the first quote, behind which the text begins.
+unfoldable pub closes : ℕ → Bool → List ℕ → Bool
+closes quote escaped [] = false
+closes quote true (c ∷ s) = closes quote false s
+closes quote false (c ∷ s) = if c == quote then is_empty s else closes quote (c == 92) s
 
 -- ---- paths of references
 

@@ -17,7 +17,8 @@ pub enum Class {
     Ell,
 }
 
-pub(crate) fn is_letter(c: u8) -> bool
+/// The first character of a label.
+pub fn is_letter(c: u8) -> bool
     ensures { result ≡ is_letter c }
 {
     c >= b'A' && c <= b'Z' || c >= b'a' && c <= b'z' || c == b'_'
@@ -29,7 +30,8 @@ pub(crate) fn is_word(c: u8) -> bool
     is_letter(c) || c >= b'0' && c <= b'9'
 }
 
-pub(crate) fn is_name(c: u8) -> bool
+/// A character of a name.
+pub fn is_name(c: u8) -> bool
     ensures { result ≡ is_name c }
 {
     is_word(c)
@@ -74,7 +76,7 @@ pub(crate) fn run_len(class: Class, s: &[u8]) -> usize
 }
 
 /// Whether this byte stands at the front.
-pub(crate) fn begins(s: &[u8], c: u8) -> bool
+pub fn begins(s: &[u8], c: u8) -> bool
     ensures value { result ≡ begins c s.now }
     ensures long { result ≡ true → 1 ≤ length s.now }
 {
@@ -85,7 +87,7 @@ pub(crate) fn begins(s: &[u8], c: u8) -> bool
 }
 
 /// Whether a letter stands at the front.
-pub(crate) fn begins_letter(s: &[u8]) -> bool
+pub fn begins_letter(s: &[u8]) -> bool
     ensures value { result ≡ begins_letter s.now }
     ensures long { result ≡ true → 1 ≤ length s.now }
 {
@@ -126,7 +128,7 @@ pub(crate) fn from(s: &[u8], n: usize) -> &[u8]
 }
 
 /// The first `n` bytes, or all where there are fewer.
-pub(crate) fn front(s: &[u8], n: usize) -> &[u8]
+pub fn front(s: &[u8], n: usize) -> &[u8]
     ensures { result.now ≡ take n s.now }
 {
     if n < s.len() { &s[..n] } else { s }

@@ -6,7 +6,7 @@ ghost use Rattle.dt_lexeme.specs.Fronts.{one_hex};
 use crate::bytes::{Class, begins, begins_letter, from, front, is_hex, is_letter, is_name};
 use crate::context::{Context, Mode};
 use crate::fronts::{
-    hex_len, label_len, name_len, number_len, path_len, string_len, word_end, words_len,
+    hex_len, label_len, name_len, number_len, path_len, quoted_len, word_end, words_len,
 };
 use crate::lexeme::Kind;
 
@@ -275,7 +275,7 @@ pub(crate) fn family(first: First, s: &[u8]) -> Option<(Kind, usize)>
     ensures { Longest (kind_by first) s.now result }
 {
     match first {
-        First::Quote => with_kind(Kind::Text, string_len(s)),
+        First::Quote => with_kind(Kind::Text, quoted_len(b'"', false, s)),
         First::Solidus => Some(solidus(s)),
         First::Ampersand(inside) => ampersand(inside, s),
         First::Zero => Some((Kind::Literal, zero(s))),

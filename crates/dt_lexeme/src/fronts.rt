@@ -1,32 +1,27 @@
 //! Where a string, a word, a path or a number ends, behind its first byte.
-ghost use Rattle.std.specs.Prelude.{◌≡◌, ◌==◌, ◌&&◌, not, Some, false};
+ghost use Rattle.std.specs.Prelude.{◌≡◌, ◌==◌, ◌&&◌, not, Some};
 ghost use Rattle.dt_lexeme.specs.Fronts.{Front, closes, ends_label, labels, names, words, ends_word, path_step, closes_path, paths, ells, suffix, numbers, hexed};
 
 use crate::bytes::{Class, begins, begins_hex, begins_x, from, front, is_name, is_word, run_len};
 use dt_tree::MAX_NAME_LEN;
 
-fn ends_string(escaped: bool, c: u8) -> bool
-    ensures { result ≡ not escaped && c == 34 }
+// Whether a byte is this one, with no backslash before it.
+fn is_plain(escaped: bool, byte: u8, c: u8) -> bool
+    ensures { result ≡ not escaped && c == byte }
 {
-    !escaped && c == b'"'
+    !escaped && c == byte
 }
 
-fn escapes(escaped: bool, c: u8) -> bool
-    ensures { result ≡ not escaped && c == 92 }
+/// How long a text is up to its last quote, with it. The flag says that its first byte stands for itself.
+pub fn quoted_len(quote: u8, escaped: bool, s: &[u8]) -> Option<usize>
+    ensures { Front (closes quote escaped) s.now result }
 {
-    !escaped && c == b'\\'
-}
-
-/// How long the string is, with its last quote, behind its first quote.
-pub(crate) fn string_len(s: &[u8]) -> Option<usize>
-    ensures { Front (closes false) s.now result }
-{
-    let mut escaped = false;
+    let mut is_escaped = escaped;
     for (i, c) in s.iter().enumerate() {
-        if ends_string(escaped, *c) {
+        if is_plain(is_escaped, quote, *c) {
             return Some(i + 1);
         }
-        escaped = escapes(escaped, *c);
+        is_escaped = is_plain(is_escaped, b'\\', *c);
     }
     None
 }

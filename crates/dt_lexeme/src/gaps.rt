@@ -4,7 +4,8 @@ ghost use Rattle.dt_lexeme.specs.Gaps.{SkipsGap, BreaksOff, IsGap, comment_end, 
 
 use crate::bytes::from;
 
-fn ends_comment(s: &[u8]) -> bool
+/// Whether a comment ends here.
+pub fn ends_comment(s: &[u8]) -> bool
     ensures value { result ≡ ends_comment s.now }
     ensures long { result ≡ true → 2 ≤ length s.now }
 {
@@ -14,7 +15,8 @@ fn ends_comment(s: &[u8]) -> bool
     }
 }
 
-fn begins_comment(s: &[u8]) -> bool
+/// Whether a comment begins here.
+pub fn begins_comment(s: &[u8]) -> bool
     ensures value { result ≡ begins_comment s.now }
     ensures long { result ≡ true → 2 ≤ length s.now }
 {

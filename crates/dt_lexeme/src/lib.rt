@@ -3,11 +3,11 @@
 //! The Devicetree Specification v0.4, chapter 6, says what they are.
 #![tactic(auto)]
 
-mod bytes;
+pub mod bytes;
 mod context;
 mod families;
-mod fronts;
-mod gaps;
+pub mod fronts;
+pub mod gaps;
 mod lexeme;
 mod line;
 mod scanner;

@@ -16,7 +16,7 @@ pub printable_some : (b : ℕ) → is_printable b ≡ true → eqb b 0 ≡ false
 printable_some b e = grind (arith, nat_tests)
 
 -- a quotation mark ends a string
-pub string_closes : (held t : List ℕ) → list_all is_printable held ≡ true → closes false (escaped held ++ 34 ∷ t) ≡ is_empty t
+pub string_closes : (held t : List ℕ) → list_all is_printable held ≡ true → closes 34 false (escaped held ++ 34 ∷ t) ≡ is_empty t
 unfolding closes
 string_closes [] t e = refl
 string_closes (b ∷ held) t e = go (string_closes held t (and_parts (is_printable b) (list_all is_printable held) e).1) (eqb b 34 || eqb b 92) refl
@@ -24,7 +24,7 @@ string_closes (b ∷ held) t e = go (string_closes held t (and_parts (is_printab
     some : eqb b 0 ≡ false
     some = printable_some b (and_parts (is_printable b) (list_all is_printable held) e).0
 
-    go : closes false (escaped held ++ 34 ∷ t) ≡ is_empty t → (m : Bool) → (eqb b 34 || eqb b 92) ≡ m → closes false (escaped (b ∷ held) ++ 34 ∷ t) ≡ is_empty t
+    go : closes 34 false (escaped held ++ 34 ∷ t) ≡ is_empty t → (m : Bool) → (eqb b 34 || eqb b 92) ≡ m → closes 34 false (escaped (b ∷ held) ++ 34 ∷ t) ≡ is_empty t
     go more true f = rw (some, f) more
     go more false f = let p = or_parts (eqb b 34) (eqb b 92) f in let q = p.0 in let r = p.1 in rw (some, f, q, r) more
 
