@@ -1,11 +1,9 @@
 -- How long a comment is, from each of its places on.
 use Rattle.std.proofs.Common.{◌≡◌, ℕ, ◌+◌, ◌≤◌, true, false, List, [], ◌∷◌, length, drop, Option, Some, None, option_map, refl, sym, ap, ◌∙◌, arith}
 use Rattle.std.proofs.lemmas.List.{drop-drop, drop_all}
-use Rattle.dtc_dialect.specs.Gaps.{comment_len, ends_comment}
-
--- so many bytes more
-abbrev pub shifted : ℕ → Option ℕ → Option ℕ
-shifted i o = option_map (λ n. i + n) o
+use Rattle.dt_lexeme.specs.Gaps.{ends_comment}
+use Rattle.dt_lexeme.proofs.Runs.{shifted}
+use Rattle.dtc_dialect.specs.Gaps.{comment_len}
 
 pub comment_here : (s : List ℕ) → ends_comment s ≡ true → comment_len s ≡ Some 2
 unfolding comment_len

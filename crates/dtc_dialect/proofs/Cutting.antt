@@ -1,13 +1,14 @@
 -- A loop that takes the longest token each time cuts a text, where it can be cut.
-use Rattle.std.proofs.Common.{◌≡◌, ℕ, zero, suc, ◌<◌, ◌≤◌, Bool, true, false, List, [], ◌∷◌, ◌++◌, length, take, drop, Option, Some, refl, sym, ap, subst, ◌∙◌, append_assoc, arith, inl, inr, ◌⊎◌}
+use Rattle.std.proofs.Common.{◌≡◌, ℕ, zero, suc, ◌<◌, ◌≤◌, Bool, true, false, List, [], ◌∷◌, ◌++◌, length, take, drop, Option, Some, refl, sym, ap, subst, ◌∙◌, append_assoc, arith, inl, inr}
 use Rattle.std.specs.Prelude.{◌↔◌, IsTrue}
-use Rattle.std.proofs.lemmas.Bool.{cases_lt}
 use Rattle.std.proofs.lemmas.List.{append-nil, length-drop, length-take-le}
 use Rattle.dtc_dialect.specs.declared.token.Kind.{Kind}
 use Rattle.dtc_dialect.specs.declared.token.Token.{Token}
-use Rattle.dtc_dialect.specs.Bytes.{starts}
+use Rattle.dt_lexeme.specs.Bytes.{begins}
+use Rattle.dt_lexeme.specs.Families.{IsLongest}
+use Rattle.dt_lexeme.proofs.Runs.{one_longest}
 use Rattle.dtc_dialect.specs.Gaps.{IsGap}
-use Rattle.dtc_dialect.specs.Tokens.{IsLongest, kind_of}
+use Rattle.dtc_dialect.specs.Tokens.{kind_of}
 use Rattle.dtc_dialect.specs.Cuts.{Breaks, Cut, IsCut, IsUncut, bare, step}
 use Rattle.dtc_dialect.proofs.GapOnce.{gap_shorter, never_ends, one_end}
 
@@ -16,30 +17,11 @@ unfolding kind_of
 some_byte in_value s k zero h = absurd (cc (h.is))
 some_byte in_value s k (suc n) h = omega arith
 
--- ---- one token at a place
-
-same_length : (f : List ℕ → Option Kind) (s : List ℕ) (k j : Kind) (n m : ℕ) → IsLongest f s k n → IsLongest f s j m → n < m → ⊥
-same_length f s k j n m h g lt = cc (h.longest m lt g.within, g.is)
-
-some_is : (k j : Kind) → Some k ≡ Some j → k ≡ j
-some_is k j e = cc
-
-one_longest : (f : List ℕ → Option Kind) (s : List ℕ) (k j : Kind) (n m : ℕ) → IsLongest f s k n → IsLongest f s j m → (k ≡ j) × (n ≡ m)
-one_longest f s k j n m h g = go (cases_lt n m) (cases_lt m n)
-  where
-    go : (n < m) ⊎ (m ≤ n) → (m < n) ⊎ (n ≤ m) → (k ≡ j) × (n ≡ m)
-    go (inl lt) b = absurd (same_length f s k j n m h g lt)
-    go (inr le) (inl lt) = absurd (same_length f s j k m n g h lt)
-    go (inr le) (inr le') =
-        let e : n ≡ m = omega arith in
-        let p : f (take m s) ≡ Some k = subst (λ (i : ℕ). f (take i s) ≡ Some k) e h.is in
-        (some_is k j (sym p ∙ g.is), e)
-
 bare_shorter : (in_value : Bool) (s : List ℕ) → length (bare in_value s) ≤ length s
 bare_shorter true s = omega arith
-bare_shorter false s = go (starts 92 s) refl
+bare_shorter false s = go (begins 92 s) refl
   where
-    go : (b : Bool) → starts 92 s ≡ b → length (bare false s) ≤ length s
+    go : (b : Bool) → begins 92 s ≡ b → length (bare false s) ≤ length s
     go true e = rw e (omega (arith, length-drop 1 s))
     go false e = rw e (omega arith)
 

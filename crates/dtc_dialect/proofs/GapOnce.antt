@@ -3,9 +3,10 @@ use Rattle.std.proofs.Common.{◌≡◌, ℕ, ◌≤◌, true, eqb, List, [], �
 use Rattle.std.specs.Prelude.{is_none}
 use Rattle.std.proofs.lemmas.Bool.{and_parts, eqb-true}
 use Rattle.std.proofs.lemmas.List.{length-drop}
+use Rattle.dt_lexeme.specs.Gaps.{begins_comment}
 use Rattle.dtc_dialect.specs.Bytes.{run_of}
 use Rattle.dtc_dialect.specs.declared.bytes.Class.TheVariants.{Blank}
-use Rattle.dtc_dialect.specs.Gaps.{BreaksOff, Gaps, IsGap, begins_comment, comment_len, gap_len, is_unclosed, more, nothing}
+use Rattle.dtc_dialect.specs.Gaps.{BreaksOff, Gaps, IsGap, comment_len, gap_len, is_unclosed, more, nothing}
 
 no_more : (s t : List ℕ) → gap_len s ≡ 0 → Gaps s t → s ≡ t
 no_more s t e nothing = refl

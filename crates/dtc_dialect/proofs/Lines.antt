@@ -6,7 +6,8 @@ use Rattle.std.specs.List.{prefix_len}
 use Rattle.std.proofs.lemmas.Bool.{and_left, and_right, and_parts, eqb-true, lt-ltb}
 use Rattle.std.proofs.lemmas.List.{length-take}
 use Rattle.std.proofs.lemmas.List.Sums.{prefix_len-le-length}
-use Rattle.dtc_dialect.specs.Bytes.{passes, run_of, starts}
+use Rattle.dt_lexeme.specs.Bytes.{begins}
+use Rattle.dtc_dialect.specs.Bytes.{passes, run_of}
 use Rattle.dtc_dialect.specs.Gaps.{behind_word, begins_marker, is_marker}
 use Rattle.dtc_dialect.specs.declared.bytes.Class.TheVariants.{Blank, Digit, Line, Space}
 use Rattle.dtc_dialect.proofs.Fronts.{run_no, run_yes}
@@ -119,15 +120,15 @@ marks r w number blanks word run behind = rw (behind, run, word) (all (behind_wo
         ∙ ap (λ (u : List ℕ). nat_lt 0 (run_of Space t) && nat_lt 0 (run_of (Digit 10) u)) (sym (run_behind (passes Line) (run_of Space t) t (within t)))
         ∙ ap (λ (n : ℕ). nat_lt 0 (run_of Space t) && nat_lt 0 n) (digits (drop (run_of Space t) t))
 
-pub marker_by_front : (s rest w number : List ℕ) (blanks : ℕ) (r : Bool) → true ≡ starts 35 s → rest ≡ drop 1 s → w ≡ behind_word rest → blanks ≡ run_of Space w → number ≡ drop blanks w → r ≡ (nat_lt 0 blanks && nat_lt 0 (run_of (Digit 10) number)) → r ≡ begins_marker s
+pub marker_by_front : (s rest w number : List ℕ) (blanks : ℕ) (r : Bool) → true ≡ begins 35 s → rest ≡ drop 1 s → w ≡ behind_word rest → blanks ≡ run_of Space w → number ≡ drop blanks w → r ≡ (nat_lt 0 blanks && nat_lt 0 (run_of (Digit 10) number)) → r ≡ begins_marker s
 marker_by_front s rest w number blanks r e behind word run number_is is =
     is ∙ sym (marks rest w number blanks word run number_is) ∙ ap (λ (t : List ℕ). is_marker (line_of t)) behind ∙ ap (λ (b : Bool). b && is_marker (line_of (drop 1 s))) e
 
-pub no_blanks : (s rest w : List ℕ) (blanks : ℕ) → true ≡ starts 35 s → rest ≡ drop 1 s → w ≡ behind_word rest → blanks ≡ run_of Space w → blanks ≡ 0 → false ≡ begins_marker s
+pub no_blanks : (s rest w : List ℕ) (blanks : ℕ) → true ≡ begins 35 s → rest ≡ drop 1 s → w ≡ behind_word rest → blanks ≡ run_of Space w → blanks ≡ 0 → false ≡ begins_marker s
 no_blanks s rest w blanks e behind word run none =
     let digits : ℕ = run_of (Digit 10) (drop blanks w) in
     marker_by_front s rest w (drop blanks w) blanks false e behind word run refl (sym (ap (λ (n : ℕ). nat_lt 0 n && nat_lt 0 digits) none))
 
-pub with_blanks : (s rest w number : List ℕ) (blanks : ℕ) (r : Bool) → true ≡ starts 35 s → rest ≡ drop 1 s → w ≡ behind_word rest → blanks ≡ run_of Space w → 0 < blanks → number ≡ drop blanks w → r ≡ nat_lt 0 (run_of (Digit 10) number) → r ≡ begins_marker s
+pub with_blanks : (s rest w number : List ℕ) (blanks : ℕ) (r : Bool) → true ≡ begins 35 s → rest ≡ drop 1 s → w ≡ behind_word rest → blanks ≡ run_of Space w → 0 < blanks → number ≡ drop blanks w → r ≡ nat_lt 0 (run_of (Digit 10) number) → r ≡ begins_marker s
 with_blanks s rest w number blanks r e behind word run some number_is is =
     marker_by_front s rest w number blanks r e behind word run number_is (is ∙ ap (λ (b : Bool). b && nat_lt 0 (run_of (Digit 10) number)) (sym (lt-ltb 0 blanks some)))

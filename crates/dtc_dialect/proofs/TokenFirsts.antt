@@ -5,11 +5,13 @@ use Rattle.std.proofs.lemmas.Bool.{eq-eqb, eqb-true, ne_eqb}
 use Rattle.dtc_dialect.specs.declared.bytes.Class.TheVariants as classes
 use Rattle.dtc_dialect.specs.declared.token.Kind.{Kind}
 use Rattle.dtc_dialect.specs.declared.token.Kind.TheVariants.{Character, Other}
-use Rattle.dtc_dialect.specs.Bytes.{is_name, run_of, starts}
-use Rattle.dtc_dialect.specs.Fronts.{Front, IsFront, closes}
-use Rattle.dtc_dialect.specs.Tokens.{IsLongest, Longest, alone, ampersand, given, kind_of, named, sign_of, solidus}
-use Rattle.dtc_dialect.proofs.Fronts.{closes_empty, run_no, run_yes}
-use Rattle.dtc_dialect.proofs.TokenKinds.{kind_more}
+use Rattle.dt_lexeme.specs.Bytes.{begins, is_name}
+use Rattle.dt_lexeme.specs.Families.{IsLongest, Longest}
+use Rattle.dt_lexeme.specs.Fronts.{Front, IsFront, closes}
+use Rattle.dt_lexeme.proofs.Runs.{kind_more}
+use Rattle.dtc_dialect.specs.Bytes.{run_of}
+use Rattle.dtc_dialect.specs.Tokens.{alone, ampersand, given, kind_of, named, sign_of, solidus}
+use Rattle.dtc_dialect.proofs.Fronts.{run_no, run_yes}
 
 -- what is said of the bytes behind a first byte is said of the whole
 same_some : (f g : List ℕ → Option Kind) (c : ℕ) (t : List ℕ) (k : Kind) (n : ℕ) → 0 < n → ((u : List ℕ) → f (c ∷ u) ≡ g (c ∷ u)) → IsLongest g (c ∷ t) k n → IsLongest f (c ∷ t) k n
@@ -30,9 +32,13 @@ no_kind in_value = refl
 
 -- ---- quotes
 
+no_quote : (quote : ℕ) → closes quote true [] ≡ false
+unfolding closes
+no_quote quote = refl
+
 module _ (in_value : Bool) (quote : ℕ) (k : Kind) (same : (u : List ℕ) → kind_of in_value (quote ∷ u) ≡ given k (closes quote true (quote ∷ u))) where
   some_quoted : (t : List ℕ) (n : ℕ) → IsFront (closes quote true) (quote ∷ t) n → IsLongest (kind_of in_value) (quote ∷ t) k n
-  some_quoted t zero h = absurd (cc (h.is, closes_empty quote true))
+  some_quoted t zero h = absurd (cc (h.is, no_quote quote))
   some_quoted t (suc n) h =
       same_some (kind_of in_value) (λ u. given k (closes quote true u)) quote t k (suc n) (omega arith) same (record { within = h.within; is = rw (h.is) refl; longest = λ m lt le. rw (h.longest m lt le) refl })
 
@@ -48,13 +54,13 @@ character_kind : (in_value : Bool) (u : List ℕ) → kind_of in_value (39 ∷ u
 unfolding kind_of closes
 character_kind in_value u = refl
 
-pub string_token : (in_value : Bool) (first : ℕ) (s : List ℕ) (r : Option ℕ) → starts first s ≡ true → first ≡ 34 → Front (closes 34 true) s r → Longest (kind_of in_value) s (option_map (λ n. (Other, n)) r)
+pub string_token : (in_value : Bool) (first : ℕ) (s : List ℕ) (r : Option ℕ) → begins first s ≡ true → first ≡ 34 → Front (closes 34 true) s r → Longest (kind_of in_value) s (option_map (λ n. (Other, n)) r)
 string_token in_value first [] r e f h = absurd cc
 string_token in_value first (c ∷ t) r e f h =
     let k : c ≡ 34 = eqb-true c first e ∙ f in
     subst (λ (d : ℕ). Longest (kind_of in_value) (d ∷ t) (option_map (λ n. (Other, n)) r)) (sym k) (quoted in_value 34 Other (string_kind in_value) t r (subst (λ (d : ℕ). Front (closes 34 true) (d ∷ t) r) k h))
 
-pub character_token : (in_value : Bool) (first : ℕ) (s : List ℕ) (r : Option ℕ) → starts first s ≡ true → first ≡ 39 → Front (closes 39 true) s r → Longest (kind_of in_value) s (option_map (λ n. (Character, n)) r)
+pub character_token : (in_value : Bool) (first : ℕ) (s : List ℕ) (r : Option ℕ) → begins first s ≡ true → first ≡ 39 → Front (closes 39 true) s r → Longest (kind_of in_value) s (option_map (λ n. (Character, n)) r)
 character_token in_value first [] r e f h = absurd cc
 character_token in_value first (c ∷ t) r e f h =
     let k : c ≡ 39 = eqb-true c first e ∙ f in
@@ -70,12 +76,12 @@ solidus_kind : (in_value : Bool) (u : List ℕ) → kind_of in_value (47 ∷ u) 
 unfolding kind_of
 solidus_kind in_value u = refl
 
-pub ampersand_token : (in_value : Bool) (first : ℕ) (s rest : List ℕ) (k : Kind) (n : ℕ) → starts first s ≡ true → first ≡ 38 → rest ≡ drop 1 s → IsLongest ampersand rest k n → IsLongest (kind_of in_value) s k (n + 1)
+pub ampersand_token : (in_value : Bool) (first : ℕ) (s rest : List ℕ) (k : Kind) (n : ℕ) → begins first s ≡ true → first ≡ 38 → rest ≡ drop 1 s → IsLongest ampersand rest k n → IsLongest (kind_of in_value) s k (n + 1)
 ampersand_token in_value first [] rest k n e f behind h = absurd cc
 ampersand_token in_value first (c ∷ t) rest k n e f behind h =
     subst (λ (d : ℕ). IsLongest (kind_of in_value) (d ∷ t) k (n + 1)) (sym (eqb-true c first e ∙ f)) (kind_more (kind_of in_value) ampersand 38 t k n (ampersand_kind in_value) (subst (λ (u : List ℕ). IsLongest ampersand u k n) behind h))
 
-pub solidus_token : (in_value : Bool) (first : ℕ) (s rest : List ℕ) (k : Kind) (n : ℕ) → starts first s ≡ true → first ≡ 47 → rest ≡ drop 1 s → IsLongest solidus rest k n → IsLongest (kind_of in_value) s k (n + 1)
+pub solidus_token : (in_value : Bool) (first : ℕ) (s rest : List ℕ) (k : Kind) (n : ℕ) → begins first s ≡ true → first ≡ 47 → rest ≡ drop 1 s → IsLongest solidus rest k n → IsLongest (kind_of in_value) s k (n + 1)
 solidus_token in_value first [] rest k n e f behind h = absurd cc
 solidus_token in_value first (c ∷ t) rest k n e f behind h =
     subst (λ (d : ℕ). IsLongest (kind_of in_value) (d ∷ t) k (n + 1)) (sym (eqb-true c first e ∙ f)) (kind_more (kind_of in_value) solidus 47 t k n (solidus_kind in_value) (subst (λ (u : List ℕ). IsLongest solidus u k n) behind h))
@@ -116,7 +122,7 @@ sign_here in_value c t same = record { within = omega arith; is = same []; longe
     go [] (suc (suc m)) lt le = absurd (omega arith)
     go (d ∷ t) (suc (suc m)) lt le = same (d ∷ take m t)
 
-pub sign_token : (in_value : Bool) (first : ℕ) (s : List ℕ) (name : ℕ) → starts first s ≡ true → (first ≡ 34 → ⊥) → (first ≡ 39 → ⊥) → (first ≡ 38 → ⊥) → (first ≡ 47 → ⊥) → name ≡ run_of classes.Name s → name ≡ 0 → IsLongest (kind_of in_value) s (sign_of in_value first) 1
+pub sign_token : (in_value : Bool) (first : ℕ) (s : List ℕ) (name : ℕ) → begins first s ≡ true → (first ≡ 34 → ⊥) → (first ≡ 39 → ⊥) → (first ≡ 38 → ⊥) → (first ≡ 47 → ⊥) → name ≡ run_of classes.Name s → name ≡ 0 → IsLongest (kind_of in_value) s (sign_of in_value first) 1
 sign_token in_value first [] name b e f g h run none = absurd cc
 sign_token in_value first (c ∷ t) name b e f g h run none =
     let k : c ≡ first = eqb-true c first b in
@@ -131,6 +137,6 @@ no_token in_value [] lt zero le = no_kind in_value
 no_token in_value [] lt (suc m) le = absurd (omega arith)
 no_token in_value (c ∷ t) lt m le = absurd (omega arith)
 
-pub starts_first : (s : List ℕ) → 1 ≤ length s → starts (get_or s 0 0) s ≡ true
-starts_first [] le = absurd (omega arith)
-starts_first (c ∷ t) le = eq-eqb c c refl
+pub begins_first : (s : List ℕ) → 1 ≤ length s → begins (get_or s 0 0) s ≡ true
+begins_first [] le = absurd (omega arith)
+begins_first (c ∷ t) le = eq-eqb c c refl

@@ -4,14 +4,15 @@ use Rattle.std.specs.Prelude.{◌≡◌, ◌≢◌, ◌⊎◌, ◌↔◌, ℕ, �
 use Rattle.dtc_dialect.specs.declared.token.Token.{Token}
 use Rattle.dtc_dialect.specs.declared.token.Kind.{Kind}
 use Rattle.dtc_dialect.specs.declared.token.Kind.TheVariants.{Equals, Semicolon}
-use Rattle.dtc_dialect.specs.Bytes.{starts}
+use Rattle.dt_lexeme.specs.Bytes.{begins}
+use Rattle.dt_lexeme.specs.Families.{IsLongest, Longest}
 use Rattle.dtc_dialect.specs.Gaps.{BreaksOff, IsGap}
-use Rattle.dtc_dialect.specs.Tokens.{IsLongest, Longest, kind_of}
+use Rattle.dtc_dialect.specs.Tokens.{kind_of}
 
 -- Outside of values a name may stand behind a backslash (92): the text without it.
 abbrev pub bare : Bool → List ℕ → List ℕ
 bare true s = s
-bare false s = if starts 92 s then drop 1 s else s
+bare false s = if begins 92 s then drop 1 s else s
 
 -- whether a value is open behind a token: from `=` to `;`
 abbrev pub step : Bool → Kind → Bool

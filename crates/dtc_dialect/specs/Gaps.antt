@@ -1,13 +1,10 @@
 -- What stands between tokens: blanks, C's two kinds of comments, and line markers of the C preprocessor
 -- (dtc 1.6, Documentation/dts-format.txt and manual.txt, section 4.1).
 use Rattle.std.specs.Prelude.{◌≡◌, ℕ, ◌+◌, ◌<◌, ◌==◌, Bool, true, false, ◌&&◌, ◌||◌, List, [], ◌∷◌, Option, Some, None, if◌then◌else◌, nat_lt, take, drop, is_none, unwrap_or, option_map}
-use Rattle.dtc_dialect.specs.Bytes.{run_of, starts}
+use Rattle.dt_lexeme.specs.Bytes.{begins}
+use Rattle.dt_lexeme.specs.Gaps.{begins_comment, ends_comment}
+use Rattle.dtc_dialect.specs.Bytes.{run_of}
 use Rattle.dtc_dialect.specs.declared.bytes.Class.TheVariants.{Blank, Digit, Line}
-
-abbrev pub ends_comment : List ℕ → Bool
-ends_comment [] = false
-ends_comment (c ∷ []) = false
-ends_comment (c ∷ d ∷ s) = c == 42 && d == 47
 
 -- how long a comment is behind its /*, with its end
 unfoldable pub comment_len : List ℕ → Option ℕ
@@ -24,18 +21,13 @@ behind_word s = s
 abbrev pub is_marker : List ℕ → Bool
 is_marker s = nat_lt 0 (run_of Blank (behind_word s)) && nat_lt 0 (run_of (Digit 10) (drop (run_of Blank (behind_word s)) (behind_word s)))
 
-abbrev pub begins_comment : List ℕ → Bool
-begins_comment [] = false
-begins_comment (c ∷ []) = false
-begins_comment (c ∷ d ∷ s) = c == 47 && d == 42
-
 abbrev pub begins_line_comment : List ℕ → Bool
 begins_line_comment [] = false
 begins_line_comment (c ∷ []) = false
 begins_line_comment (c ∷ d ∷ s) = c == 47 && d == 47
 
 abbrev pub begins_marker : List ℕ → Bool
-begins_marker s = starts 35 s && is_marker (take (run_of Line (drop 1 s)) (drop 1 s))
+begins_marker s = begins 35 s && is_marker (take (run_of Line (drop 1 s)) (drop 1 s))
 
 -- How many bytes of blanks, of a comment or of a line marker stand at the front; 0 where there is none, or a comment that
 -- doesn't end. What begins with // or # reaches to the end of its line.

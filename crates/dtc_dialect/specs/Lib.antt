@@ -1,7 +1,6 @@
 pub mod Bytes
 pub mod Character
 pub mod Cuts
-pub mod Fronts
 pub mod GapAt
 pub mod Gaps
 pub mod Inclusion

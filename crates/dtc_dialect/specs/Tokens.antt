@@ -1,23 +1,28 @@
 -- What a token is: the longest front of a text that is one (dtc 1.6, Documentation/dts-format.txt: names, labels, references
 -- and literals as it shows them; manual.txt, section 4.1: the words between slashes). What no edit depends on has the kind Other.
-use Rattle.std.specs.Prelude.{◌≡◌, ℕ, ◌<◌, ◌≤◌, ◌==◌, nat_eq, Bool, false, ◌&&◌, List, [], ◌∷◌, length, take, Option, Some, None, if◌then◌else◌, codes}
+use Rattle.std.specs.Prelude.{ℕ, ◌==◌, nat_eq, Bool, false, ◌&&◌, List, [], ◌∷◌, length, take, Option, Some, None, if◌then◌else◌, codes}
 use Rattle.std.specs.List.{list_all}
 use Rattle.std.specs.Cmp.Lexicographic.{pointwise}
-use Rattle.dtc_dialect.specs.Bytes.{is_letter, is_name, passes}
-use Rattle.dtc_dialect.specs.Fronts.{closes, ends, is_empty}
+use Rattle.dt_lexeme.specs.Bytes.{is_letter, is_name}
+use Rattle.dt_lexeme.specs.Fronts.{closes, ends, is_empty}
+use Rattle.dtc_dialect.specs.Bytes.{passes}
 use Rattle.dtc_dialect.specs.declared.bytes.Class.TheVariants as classes
 use Rattle.dtc_dialect.specs.declared.token.Kind.{Kind}
 use Rattle.dtc_dialect.specs.declared.token.Kind.TheVariants.{Version, Plugin, MemReserve, DeleteNode, DeleteProperty, OmitIfNoRef, Label, Name, Character, Reference, Slash, Brace, EndBrace, Equals, Semicolon, Less, Greater, Paren, EndParen, Other}
 
+-- bytes that pass the test, and this one behind them
+abbrev pub ends_in : (ℕ → Bool) → ℕ → List ℕ → Bool
+ends_in p last = ends p (λ c. c == last)
+
 -- a label and its colon: a letter, letters and digits, the colon
 abbrev pub is_label : List ℕ → Bool
 is_label [] = false
-is_label (c ∷ s) = is_letter c && ends (passes classes.Word) 58 s
+is_label (c ∷ s) = is_letter c && ends_in (passes classes.Word) 58 s
 
 -- what stands behind `&`: a label, or a path in braces
 abbrev pub is_target : List ℕ → Bool
 is_target [] = false
-is_target (c ∷ s) = if c == 123 then ends (passes classes.Path) 125 s else is_letter c && list_all (passes classes.Word) s
+is_target (c ∷ s) = if c == 123 then ends_in (passes classes.Path) 125 s else is_letter c && list_all (passes classes.Word) s
 
 -- what the word between two slashes says
 abbrev pub keyword_of : List ℕ → Kind
@@ -57,7 +62,7 @@ ampersand s = if is_empty s then Some Other else given Reference (is_target s)
 -- behind a slash: a word and a slash, or nothing
 abbrev pub solidus : List ℕ → Option Kind
 solidus [] = Some Slash
-solidus (c ∷ s) = if passes classes.Keyword c && ends (passes classes.Keyword) 47 s then Some (keyword_of (take (length s) (c ∷ s))) else None
+solidus (c ∷ s) = if passes classes.Keyword c && ends_in (passes classes.Keyword) 47 s then Some (keyword_of (take (length s) (c ∷ s))) else None
 
 -- a label, or a name
 abbrev pub named : List ℕ → Option Kind
@@ -72,16 +77,3 @@ kind_of in_value (c ∷ s) =
     (if c == 38 then ampersand s else
     (if c == 47 then solidus s else
     (if is_name c then named (c ∷ s) else alone (sign_of in_value c) s))))
-
--- ---- the longest token
-
--- The longest front that is a token has n bytes and this kind.
-pub record IsLongest (f : List ℕ → Option Kind) (s : List ℕ) (k : Kind) (n : ℕ) : Type 0 where
-  pub within : n ≤ length s
-  pub is : f (take n s) ≡ Some k
-  pub longest : (m : ℕ) → n < m → m ≤ length s → f (take m s) ≡ None
-
--- the longest front that is a token, if one is
-abbrev pub Longest : (List ℕ → Option Kind) → List ℕ → Option (Kind × ℕ) → Type 0
-Longest f s None = (m : ℕ) → m ≤ length s → f (take m s) ≡ None
-Longest f s (Some x) = IsLongest f s x.0 x.1

@@ -1,8 +1,10 @@
 //! Classes of bytes, runs of them, and parts of a text.
-ghost use Rattle.std.specs.Prelude.{◌≡◌, ◌==◌, ◌&&◌, ◌↔◌, IsTrue, Some, count_by, drop, not, slice_get, take, true};
+ghost use Rattle.std.specs.Prelude.{◌≡◌, ◌==◌, count_by, drop};
 ghost use Rattle.std.specs.Char.{digit_value};
-ghost use Rattle.dtc_dialect.specs.Bytes.{is_blank, is_decimal, is_letter, is_name, passes, run_of, starts, starts_letter};
-ghost use Rattle.dtc_dialect.specs.Fronts.{Front, closes};
+ghost use Rattle.dt_lexeme.specs.Bytes.{is_blank, is_digit};
+ghost use Rattle.dtc_dialect.specs.Bytes.{passes, run_of};
+
+pub(crate) use dt_lexeme::bytes::{begins, begins_letter, front, is_letter, is_name};
 
 /// Bytes that stand in one run.
 #[derive(Clone, Copy)]
@@ -24,31 +26,10 @@ pub(crate) enum Class {
     Keyword,
 }
 
-pub(crate) fn is_letter(c: u8) -> bool
-    ensures { result ≡ is_letter c }
-{
-    c >= b'A' && c <= b'Z' || c >= b'a' && c <= b'z' || c == b'_'
-}
-
 pub(crate) fn is_digit(c: u8) -> bool
-    ensures { result ≡ is_decimal c }
+    ensures { result ≡ is_digit c }
 {
     c >= b'0' && c <= b'9'
-}
-
-fn is_name(c: u8) -> bool
-    ensures { result ≡ is_name c }
-{
-    is_letter(c)
-        || is_digit(c)
-        || c == b','
-        || c == b'.'
-        || c == b'+'
-        || c == b'*'
-        || c == b'#'
-        || c == b'?'
-        || c == b'@'
-        || c == b'-'
 }
 
 /// The value of a digit or a letter, 36 of any other byte.
@@ -103,58 +84,9 @@ pub(crate) fn behind(s: &[u8], n: usize) -> &[u8]
     if n < s.len() { &s[n..] } else { b"" }
 }
 
-/// The first `n` bytes, or all where there are fewer.
-pub(crate) fn front(s: &[u8], n: usize) -> &[u8]
-    ensures { result.now ≡ take n s.now }
-{
-    if n < s.len() { &s[..n] } else { s }
-}
-
 /// How many lines end in these bytes.
 pub(crate) fn line_ends(s: &[u8]) -> usize
     ensures { result ≡ count_by (λ c. c == 10) s.now }
 {
     s.iter().filter(|c| **c == b'\n').count()
-}
-
-/// Whether a byte stands at the front.
-pub(crate) fn begins(s: &[u8], c: u8) -> bool
-    ensures first { IsTrue result ↔ (slice_get s.now 0 ≡ Some c) }
-    ensures value { result ≡ starts c s.now }
-{
-    match s {
-        [d, ..] => *d == c,
-        [] => false,
-    }
-}
-
-/// Whether a letter stands at the front.
-pub(crate) fn begins_letter(s: &[u8]) -> bool
-    ensures { result ≡ starts_letter s.now }
-{
-    match s {
-        [c, ..] => is_letter(*c),
-        [] => false,
-    }
-}
-
-/// How long a text between quotes is, with both, where it ends.
-pub(crate) fn quoted_len(quote: u8, s: &[u8]) -> Option<usize>
-    ensures { Front (closes quote true) s.now result }
-{
-    let mut escaped = true;
-    for (i, c) in s.iter().enumerate() {
-        if is_plain(escaped, quote, *c) {
-            return Some(i + 1);
-        }
-        escaped = is_plain(escaped, b'\\', *c);
-    }
-    None
-}
-
-/// Whether a byte is this one, with no backslash before it.
-fn is_plain(escaped: bool, byte: u8, c: u8) -> bool
-    ensures { result ≡ not escaped && c == byte }
-{
-    !escaped && c == byte
 }

@@ -1,9 +1,11 @@
 //! What stands between tokens: blanks, comments and line markers.
-ghost use Rattle.std.specs.Prelude.{◌≡◌, ◌≤◌, IfSome, is_some, length, true};
-ghost use Rattle.dtc_dialect.specs.Gaps.{begins_comment, begins_line_comment, begins_marker, behind_word, comment_len, ends_comment, is_marker};
+ghost use Rattle.std.specs.Prelude.{◌≡◌, ◌≤◌, IfSome, is_some, length};
+ghost use Rattle.dtc_dialect.specs.Gaps.{begins_line_comment, begins_marker, behind_word, comment_len, is_marker};
 ghost use Rattle.dtc_dialect.specs.GapAt.{Tells};
 
-use crate::bytes::{Class, begins, behind, front, quoted_len, run_len};
+use crate::bytes::{Class, begins, behind, front, run_len};
+use dt_lexeme::fronts::quoted_len;
+use dt_lexeme::gaps::{begins_comment, ends_comment};
 
 /// The longest path of a file that a line marker names, with its quotes: no system opens a longer one.
 const MAX_PATH: usize = 4096;
@@ -45,16 +47,6 @@ pub(crate) fn gap_at<'t>(s: &'t [u8]) -> Gap<'t>
     match marker_at(s) {
         Some(marker) => Gap::Marker(run_len(Class::Line, s), marker),
         None => Gap::Nothing,
-    }
-}
-
-fn begins_comment(s: &[u8]) -> bool
-    ensures value { result ≡ begins_comment s.now }
-    ensures long { result ≡ true → 2 ≤ length s.now }
-{
-    match s {
-        [c, d, ..] => *c == b'/' && *d == b'*',
-        _ => false,
     }
 }
 
@@ -110,16 +102,6 @@ fn comment_end(s: &[u8]) -> Option<usize>
     None
 }
 
-fn ends_comment(s: &[u8]) -> bool
-    ensures value { result ≡ ends_comment s.now }
-    ensures long { result ≡ true → 2 ≤ length s.now }
-{
-    match s {
-        [c, d, ..] => *c == b'*' && *d == b'/',
-        _ => false,
-    }
-}
-
 /// What a line says behind `#`: `[line] NUMBER ["FILE" ..]`.
 pub(crate) fn read_marker<'t>(line: &'t [u8]) -> Option<Marker<'t>>
     ensures { is_some result ≡ is_marker line.now }
@@ -157,7 +139,7 @@ fn quoted<'t>(s: &'t [u8]) -> Option<&'t [u8]> {
     if !begins(s, b'"') {
         return None;
     }
-    let len = quoted_len(b'"', s)?;
+    let len = quoted_len(b'"', true, s)?;
     if len > MAX_PATH {
         return None;
     }

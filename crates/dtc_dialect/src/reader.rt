@@ -1,16 +1,19 @@
 //! The tokens of a text.
 ghost use Rattle.std.specs.Prelude.{◌≡◌, Err, ◌<◌, ◌+◌, ◌^◌, ◌↔◌, IfOk, IsTrue, OnErr, OnOk, Some, drop, length, false, option_map, take, true};
-ghost use Rattle.dtc_dialect.specs.Bytes.{run_of, starts};
+ghost use Rattle.dt_lexeme.specs.Bytes.{begins};
+ghost use Rattle.dt_lexeme.specs.Families.{Longest};
+ghost use Rattle.dtc_dialect.specs.Bytes.{run_of};
 ghost use Rattle.dtc_dialect.specs.Cuts.{Breaks, Cut, Cuts, IsUncut, after, bare, step};
 ghost use Rattle.dtc_dialect.specs.Gaps.{BreaksOff, IsGap};
 ghost use Rattle.dtc_dialect.specs.declared.error.DialectError.TheVariants.{Refused};
 ghost use Rattle.dtc_dialect.specs.declared.error.Refusal.{Refusal};
-ghost use Rattle.dtc_dialect.specs.Tokens.{Longest, ampersand, keyword_of, kind_of, named, sign_of, solidus};
+ghost use Rattle.dtc_dialect.specs.Tokens.{ampersand, keyword_of, kind_of, named, sign_of, solidus};
 
-use crate::bytes::{Class, begins, begins_letter, behind, front, line_ends, quoted_len, run_len};
+use crate::bytes::{Class, begins, begins_letter, behind, front, line_ends, run_len};
 use crate::error::{DialectError, Mistake, refused};
 use crate::gaps::{Gap, Marker, gap_at};
 use crate::token::{Kind, Place, Span, Token};
+use dt_lexeme::fronts::quoted_len;
 use std::alloc::Global;
 
 /// What is left of a text, and where that stands.
@@ -166,14 +169,14 @@ fn front_token(in_value: bool, s: &[u8]) -> Option<(Kind, usize)>
 
 /// The longest token at the front, by the byte that it begins with.
 fn token_from(in_value: bool, first: u8, s: &[u8]) -> Option<(Kind, usize)>
-    requires { starts first s.now ≡ true }
+    requires { begins first s.now ≡ true }
     ensures { Longest (kind_of in_value) s.now result }
 {
     if first == b'"' {
-        return with_kind(Kind::Other, quoted_len(b'"', s));
+        return with_kind(Kind::Other, quoted_len(b'"', true, s));
     }
     if first == b'\'' {
-        return with_kind(Kind::Character, quoted_len(b'\'', s));
+        return with_kind(Kind::Character, quoted_len(b'\'', true, s));
     }
     if first == b'&' {
         return Some(behind_one(reference(behind(s, 1))));

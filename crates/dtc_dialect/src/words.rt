@@ -1,9 +1,10 @@
 //! The words that take something in, as they stand in a text: `/include/ "FILE"`, `/incbin/("FILE"[, OFFSET, LENGTH])`.
 
-use crate::bytes::{Class, begins, behind, front, quoted_len, run_len};
+use crate::bytes::{Class, begins, behind, front, run_len};
 use crate::gaps::{Gap, gap_at};
 use crate::integer::integer;
 use crate::token::Span;
+use dt_lexeme::fronts::quoted_len;
 
 /// The name of what is to be taken in.
 #[derive(Clone, Copy)]
@@ -38,7 +39,7 @@ pub(crate) fn next_inclusion<'t>(s: &'t [u8]) -> Next<'t> {
         }
         let rest = behind(s, i);
         if *c == b'"' || *c == b'\'' {
-            match quoted_len(*c, rest) {
+            match quoted_len(*c, true, rest) {
                 Some(len) => resume = i.saturating_add(len),
                 None => return Next::Nothing,
             }
@@ -121,7 +122,7 @@ enum Keyword {
 /// How long the word is that begins a text: a run of letters and digits, a whole string, or one sign.
 fn word_len(s: &[u8]) -> usize {
     let string = if begins(s, b'"') {
-        quoted_len(b'"', s)
+        quoted_len(b'"', true, s)
     } else {
         None
     };
@@ -186,7 +187,7 @@ impl<'t> Words<'t> {
         if !self.begins(b'"') {
             return None;
         }
-        let len = quoted_len(b'"', self.left)?;
+        let len = quoted_len(b'"', true, self.left)?;
         let name = behind(front(self.left, len.saturating_sub(1)), 1);
         self.left = behind(self.left, len);
         Some(name)

@@ -1,5 +1,5 @@
 use Rattle.std.proofs.Common.{sym, ap, ◌∙◌, arith}
-use Rattle.dtc_dialect.specs.Gaps.{ends_comment}
+use Rattle.dt_lexeme.specs.Gaps.{ends_comment}
 use Rattle.dtc_dialect.proofs.Comments.{comment_begins, comment_found, comment_further, comment_over}
 use Rattle.dtc_dialect.proofs.gaps.comment_end.Goals as goal
 

@@ -12,7 +12,7 @@ returns-then-begins c =
 
 pub returns-then-begins_letter : goal.returns-then-begins_letter
 returns-then-begins_letter c =
-    label_target c.args.rest.now c.run_len.result (sym c.if-begins.ensures.value) (sym c.if-begins_letter.ensures) c.run_len.ensures
+    label_target c.args.rest.now c.run_len.result (sym c.if-begins.ensures.value) (sym c.if-begins_letter.ensures.value) c.run_len.ensures
 
 pub returns : goal.returns
-returns c = no_target c.args.rest.now (sym c.if-begins.ensures.value) (sym c.if-begins_letter.ensures)
+returns c = no_target c.args.rest.now (sym c.if-begins.ensures.value) (sym c.if-begins_letter.ensures.value)
