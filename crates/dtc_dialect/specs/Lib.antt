@@ -6,5 +6,7 @@ pub mod Gaps
 pub mod Inclusion
 pub mod Integer
 pub mod Omission
+pub mod Phandles
 pub mod Statements
 pub mod Tokens
+pub mod Words

@@ -1,5 +1,11 @@
 //! The tokens of a statement up to its body, its value or its end.
+ghost use Rattle.std.specs.Prelude.{◌≡◌, Err, IfErr, OnOk, false, true};
+ghost use Rattle.dtc_dialect.specs.Statements.{may_follow};
+ghost use Rattle.dtc_dialect.specs.Words.{Holds, IsClear, Puts};
+ghost use Rattle.dtc_dialect.specs.declared.error.DialectError.TheVariants.{NoMemory, Refused};
+ghost use Rattle.dtc_dialect.specs.declared.error.Refusal.{Refusal};
 
+use crate::bytes::front;
 use crate::error::{DialectError, Mistake, refused};
 use crate::token::{Kind, Token};
 use std::alloc::Global;
@@ -31,7 +37,9 @@ pub(crate) struct Head<'t> {
 }
 
 impl<'t> Head<'t> {
-    pub fn new(alloc: Global) -> Head<'t> {
+    pub fn new(alloc: Global) -> Head<'t>
+        ensures { IsClear result }
+    {
         Head {
             labels: Vec::new(alloc),
             omits: false,
@@ -44,7 +52,9 @@ impl<'t> Head<'t> {
     }
 
     /// A statement begins.
-    pub fn clear(&mut self) {
+    pub fn clear(&mut self)
+        ensures { IsClear self.new }
+    {
         self.labels.clear();
         self.omits = false;
         self.action = None;
@@ -55,7 +65,11 @@ impl<'t> Head<'t> {
     }
 
     /// One token more.
-    pub fn put(&mut self, at: usize, token: &Token<'t>) -> Result<(), DialectError<'t>> {
+    pub fn put(&mut self, at: usize, token: &Token<'t>) -> Result<(), DialectError<'t>>
+        ensures follows { OnOk result (may_follow self.old token.now.kind ≡ true) }
+        ensures puts { OnOk result (Puts self.old at token.now self.new) }
+        ensures only { (r : Refusal) → result ≡ Err (Refused r) → may_follow self.old token.now.kind ≡ false }
+    {
         if !self.may_follow(token.kind) {
             return Err(refused(Mistake::Syntax, token.place));
         }
@@ -68,11 +82,16 @@ impl<'t> Head<'t> {
         }
     }
 
-    fn put_word(&mut self, token: &Token<'t>) -> Result<(), DialectError<'t>> {
+    fn put_word(&mut self, token: &Token<'t>) -> Result<(), DialectError<'t>>
+        ensures holds { OnOk result (Holds self.old token.now self.new) }
+        ensures only { IfErr result (λ e. e ≡ NoMemory) }
+    {
         match token.kind {
             Kind::Label => {
                 let len = token.text.len().saturating_sub(1);
-                self.labels.push(crate::bytes::front(token.text, len))?;
+                if self.labels.push(front(token.text, len)).is_err() {
+                    return Err(DialectError::NoMemory);
+                }
             }
             Kind::OmitIfNoRef => self.omits = true,
             Kind::DeleteNode => self.action = Some(Action::DeleteNode),

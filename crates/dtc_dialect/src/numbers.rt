@@ -1,4 +1,7 @@
 //! Phandles: which nodes are referred to, and by what numbers where dtc gives them before it omits nodes.
+ghost use Rattle.std.specs.Prelude.{◌≡◌, ◌-◌, ◌^◌, ◌<◌, ℕ, false, nat_eq, option_map};
+ghost use Rattle.std.specs.HashSet.{contains};
+ghost use Rattle.dtc_dialect.specs.Phandles.{IsFree, cells_behind, lone_cell, number_of, reference_of};
 
 use crate::integer::integer;
 use crate::preorder::{Preorder, part};
@@ -60,7 +63,10 @@ pub(crate) struct Cells {
 }
 
 impl Cells {
-    pub fn none() -> Cells {
+    pub fn none() -> Cells
+        ensures closed { result.are_open ≡ false }
+        ensures bare { result.parens ≡ 0 }
+    {
         Cells {
             are_open: false,
             parens: 0,
@@ -68,7 +74,9 @@ impl Cells {
     }
 
     /// Behind a token.
-    pub fn step(&mut self, kind: Kind) {
+    pub fn step(&mut self, kind: Kind)
+        ensures { self.old.parens < 2 ^ 64 - 1 → self.new ≡ cells_behind self.old kind }
+    {
         match kind {
             Kind::Paren => self.parens = self.parens.saturating_add(1),
             Kind::EndParen => self.parens = self.parens.saturating_sub(1),
@@ -141,26 +149,48 @@ fn has_phandle(table: &Table<'_>, node: usize) -> bool {
     table.property(node, b"phandle").is_some()
 }
 
-/// The number of `<NUMBER>`.
-fn number_of(value: &[Token<'_>]) -> Option<u64> {
+/// What stands alone between `<` and `>`.
+fn lone_cell<'t>(value: &[Token<'t>]) -> Option<Token<'t>>
+    ensures { result ≡ lone_cell value.now }
+{
     match value {
-        [open, number, close]
-            if open.kind == Kind::Less
-                && number.kind == Kind::Name
-                && close.kind == Kind::Greater => { integer(number.text) }
+        [open, cell, close] => match (open.kind, close.kind) {
+            (Kind::Less, Kind::Greater) => Some(*cell),
+            _ => None,
+        },
         _ => None,
+    }
+}
+
+/// The number of `<NUMBER>`.
+fn number_of(value: &[Token<'_>]) -> Option<u64>
+    ensures { result ≡ number_of value.now }
+{
+    match lone_cell(value) {
+        Some(cell) => match cell.kind {
+            Kind::Name => integer(cell.text),
+            _ => None,
+        },
+        None => None,
+    }
+}
+
+/// The reference of `<&node>`.
+fn reference_of<'t>(value: &[Token<'t>]) -> Option<&'t [u8]>
+    ensures { option_map (λ text. text.now) result ≡ reference_of value.now }
+{
+    match lone_cell(value) {
+        Some(cell) => match cell.kind {
+            Kind::Reference => Some(cell.text),
+            _ => None,
+        },
+        None => None,
     }
 }
 
 /// The node of `<&node>`.
 fn refers<'t>(view: View<'_, 't>, value: &[Token<'t>]) -> Option<usize> {
-    match value {
-        [open, reference, close]
-            if open.kind == Kind::Less
-                && reference.kind == Kind::Reference
-                && close.kind == Kind::Greater => { view.table.referred(reference.text) }
-        _ => None,
-    }
+    view.table.referred(reference_of(value)?)
 }
 
 fn note_references<'t>(numbers: &mut Numbers, view: View<'_, 't>, row: &PropertyRow<'t>) {
@@ -189,13 +219,13 @@ fn note_reference(numbers: &mut Numbers, node: usize, in_cells: bool) {
 }
 
 /// The first number from this one on that no property gives.
-fn free(taken: &HashSet<u64, RandomState>, from: u64) -> u64 {
-    let mut number = from;
-    for _ in 0..=taken.len() {
+fn free(taken: &HashSet<u64, RandomState>, from: u64) -> u64
+    ensures { IsFree (contains nat_eq taken.now) from result }
+{
+    for number in from..u64::MAX {
         if !taken.contains(&number) {
             return number;
         }
-        number = number.saturating_add(1);
     }
-    number
+    u64::MAX
 }
