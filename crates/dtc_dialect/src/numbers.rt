@@ -1,7 +1,7 @@
 //! Phandles: which nodes are referred to, and by what numbers where dtc gives them before it omits nodes.
 ghost use Rattle.std.specs.Prelude.{◌≡◌, ◌-◌, ◌^◌, ◌<◌, ℕ, false, nat_eq, option_map};
 ghost use Rattle.std.specs.HashSet.{contains};
-ghost use Rattle.dtc_dialect.specs.Phandles.{IsFree, cells_behind, lone_cell, number_of, reference_of};
+ghost use Rattle.dtc_dialect.specs.Phandles.{IsFree, asks_number, cells_behind, given_row, giver_of, lone_cell, number_of, reference_of, referred, Refers};
 
 use crate::integer::integer;
 use crate::preorder::{Preorder, part};
@@ -32,6 +32,25 @@ pub(crate) struct Known {
     pub asks: bool,
     /// The number that it gets, as a reference in cells names it.
     pub number: Option<u64>,
+}
+
+/// A property that gives its node a number.
+#[derive(Clone, Copy)]
+enum Giver {
+    /// `phandle`
+    Phandle,
+    /// `linux,phandle`
+    Legacy,
+}
+
+/// What such a property's value says.
+#[derive(Clone, Copy)]
+enum Given {
+    Number(u64),
+    /// It refers to the property's own node.
+    Own,
+    /// Only the compiler computes it.
+    Unread,
 }
 
 const NO_TOKENS: Tokens = Tokens { start: 0, end: 0 };
@@ -123,25 +142,63 @@ fn note_given<'t>(
     view: View<'_, 't>,
     row: &PropertyRow<'t>,
 ) -> Result<(), AllocError> {
-    let is_phandle = row.name == b"phandle".as_slice();
-    if !is_phandle && row.name != b"linux,phandle".as_slice() {
+    let Some(giver) = giver_of(row.name) else {
         return Ok(());
-    }
+    };
     let value = view.value_of(row);
-    let given = number_of(value);
-    if let Some(number) = given {
-        numbers.taken.insert(number)?;
-    }
-    if let Some(known) = numbers.known.get_mut(row.node) {
-        if given.is_some() {
-            known.is_legacy = !is_phandle && !has_phandle(view.table, row.node);
-            known.given = given;
-        } else if is_phandle {
-            known.asks = refers(view, value) == Some(row.node);
-            known.given = if known.asks { None } else { UNREAD };
+    let given = match number_of(value) {
+        Some(number) => {
+            numbers.taken.insert(number)?;
+            Given::Number(number)
         }
+        None if refers(view, value) == Some(row.node) => Given::Own,
+        None => Given::Unread,
+    };
+    if let Some(known) = numbers.known.get_mut(row.node) {
+        *known = given_row(giver, has_phandle(view.table, row.node), given, *known);
     }
     Ok(())
+}
+
+fn giver_of(name: &[u8]) -> Option<Giver>
+    ensures { result ≡ giver_of name.now }
+{
+    if name == b"phandle".as_slice() {
+        Some(Giver::Phandle)
+    } else if name == b"linux,phandle".as_slice() {
+        Some(Giver::Legacy)
+    } else {
+        None
+    }
+}
+
+/// What is known of a node behind such a property of it.
+fn given_row(giver: Giver, has_phandle: bool, given: Given, known: Known) -> Known
+    ensures { result ≡ given_row giver has_phandle given known }
+{
+    match (giver, given) {
+        (Giver::Phandle, Given::Number(number)) => Known {
+            given: Some(number),
+            is_legacy: false,
+            ..known
+        },
+        (Giver::Legacy, Given::Number(number)) => Known {
+            given: Some(number),
+            is_legacy: !has_phandle,
+            ..known
+        },
+        (Giver::Phandle, Given::Own) => Known {
+            given: None,
+            asks: true,
+            ..known
+        },
+        (Giver::Phandle, Given::Unread) => Known {
+            given: UNREAD,
+            asks: false,
+            ..known
+        },
+        _ => known,
+    }
 }
 
 /// Whether a node ever had a property `phandle`.
@@ -205,17 +262,39 @@ fn note_references<'t>(numbers: &mut Numbers, view: View<'_, 't>, row: &Property
     }
 }
 
-fn note_reference(numbers: &mut Numbers, node: usize, in_cells: bool) {
+fn note_reference(numbers: &mut Numbers, node: usize, in_cells: bool)
+    ensures { Refers in_cells node numbers.old numbers.new }
+{
     let Numbers { known, taken, next } = numbers;
     let Some(known) = known.get_mut(node) else {
         return;
     };
-    known.is_referred = true;
-    if in_cells && known.given.is_none() && known.number.is_none() {
+    if asks_number(in_cells, known) {
         *next = free(taken, *next);
-        known.number = Some(*next);
+    }
+    if note_referred(known, in_cells, *next) {
         *next = next.saturating_add(1);
     }
+}
+
+/// A reference in cells asks for a number, where its node has none.
+fn asks_number(in_cells: bool, known: &Known) -> bool
+    ensures { result ≡ asks_number in_cells known.now }
+{
+    in_cells && known.given.is_none() && known.number.is_none()
+}
+
+/// A reference names a node, which gets this number if it asks for one. Answers whether it did.
+fn note_referred(known: &mut Known, in_cells: bool, number: u64) -> bool
+    ensures row { known.new ≡ referred in_cells number known.old }
+    ensures asks { result ≡ asks_number in_cells known.old }
+{
+    let asks = asks_number(in_cells, known);
+    known.is_referred = true;
+    if asks {
+        known.number = Some(number);
+    }
+    asks
 }
 
 /// The first number from this one on that no property gives.
