@@ -106,6 +106,20 @@ unary_at m depth ts = unary_with m (expr_below m depth) (unary_below m depth) ts
 unfoldable pub expr_at : {A : Type 0} → Making A → ℕ → List Lexeme → Read A
 expr_at m depth ts = expr_with m (expr_below m depth) (unary_at m depth) ts
 
+-- ---- the same, of values
+
+abbrev pub primary_in : List ℕ → ℕ → List Lexeme → Read Value
+primary_in text depth ts = primary_with (values text) (expr_below (values text) depth) ts
+
+abbrev pub operands_in : List ℕ → ℕ → List Lexeme → Read Value
+operands_in text depth ts = levels (values text) (unary_at (values text) depth) 10 ts
+
+abbrev pub chosen_in : List ℕ → ℕ → Value → List Lexeme → Read Value
+chosen_in text depth test ts = chosen (values text) (expr_below (values text) depth) test ts
+
+abbrev pub otherwise_in : List ℕ → ℕ → (test taken : Value) → List Lexeme → Read Value
+otherwise_in text depth test taken ts = otherwise (values text) (expr_below (values text) depth) test taken ts
+
 -- a literal, or an expression in parentheses, at the front of the lexemes
 unfoldable pub primary_made : {A : Type 0} → Making A → List Lexeme → Read A
 primary_made m ts = primary_with m (expr_below m nesting_limit) ts

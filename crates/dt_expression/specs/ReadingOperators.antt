@@ -28,3 +28,10 @@ joined_up_to waiting (suc r) v = joined (slice_index_or waiting r None) (joined_
 -- No operator up to this rank waits.
 abbrev pub NothingUpTo : List (Option Begun) → ℕ → Type 0
 NothingUpTo waiting rank = (k : ℕ) → k < rank → slice_index_or waiting k None ≡ None
+
+-- At these ranks the same operators wait.
+abbrev pub SameWait : (ℕ → Type 0) → (old new : List (Option Begun)) → Type 0
+SameWait ranks old new = (k : ℕ) → ranks k → slice_index_or new k None ≡ slice_index_or old k None
+
+abbrev pub Waits : List (Option Begun) → ℕ → Begun → Type 0
+Waits waiting rank begun = slice_index_or waiting rank None ≡ Some begun

@@ -4,13 +4,16 @@ ghost use Rattle.dt_expression.specs.Expression.{rank, is_prefix};
 ghost use Rattle.dt_expression.specs.Reading.{Gives};
 ghost use Rattle.dt_expression.specs.ReadingOperators.{is_infix, infix_at};
 ghost use Rattle.dt_expression.specs.Values.{values};
-ghost use Rattle.dt_expression.specs.ReadingExpressions.{unary_at, levels, expr_at, expr_below, unary_below, closed, chosen, otherwise, primary_with, primary_at, ReadsWhatIsSpelled, ReadsAllThatIsSpelled, SpellsOne};
+ghost use Rattle.dt_expression.specs.ReadingExpressions.{unary_at, expr_at, expr_below, unary_below, closed, chosen_in, operands_in, otherwise_in, primary_in, primary_at, ReadsWhatIsSpelled, ReadsAllThatIsSpelled, SpellsOne};
 
 use crate::numeral::literal;
 use crate::refusals::{syntax_at, too_deep};
 use crate::value::{choice, prefixed};
 use crate::waiting::Waiting;
 use dt_lexeme::{Fault, Kind, Lexeme, Refusal};
+
+/// A value or its one fault, and the lexemes behind it.
+pub type ReadValue<'a> = Result<(Result<u64, Fault>, &'a [Lexeme]), Refusal>;
 
 /// How many levels of parentheses, operands of unary operators and choices may stand in one another.
 pub const MAX_NESTING: u8 = 64;
@@ -62,10 +65,7 @@ fn infix<'a>(lexemes: &'a [Lexeme]) -> Option<(Lexeme, &'a [Lexeme])>
     }
 }
 
-fn close<'a>(
-    value: Result<u64, Fault>,
-    lexemes: &'a [Lexeme],
-) -> Result<(Result<u64, Fault>, &'a [Lexeme]), Refusal>
+fn close<'a>(value: Result<u64, Fault>, lexemes: &'a [Lexeme]) -> ReadValue<'a>
     ensures gives { Gives (λ x. (x.0, x.1.now)) result (closed value lexemes.now) }
     ensures shorter { IfOk result (λ x. length x.1.now < length lexemes.now) }
 {
@@ -79,12 +79,7 @@ fn close<'a>(
 }
 
 #[cycle(expression)]
-fn expr_deeper<'a>(
-    text: &[u8],
-    depth: u8,
-    opener: Lexeme,
-    lexemes: &'a [Lexeme],
-) -> Result<(Result<u64, Fault>, &'a [Lexeme]), Refusal>
+fn expr_deeper<'a>(text: &[u8], depth: u8, opener: Lexeme, lexemes: &'a [Lexeme]) -> ReadValue<'a>
     ensures gives { Gives (λ x. (x.0, x.1.now)) result (expr_below (values text.now) depth opener lexemes.now) }
     ensures shorter { IfOk result (λ x. length x.1.now < length lexemes.now) }
 {
@@ -95,12 +90,7 @@ fn expr_deeper<'a>(
 }
 
 #[cycle(expression)]
-fn unary_deeper<'a>(
-    text: &[u8],
-    depth: u8,
-    opener: Lexeme,
-    lexemes: &'a [Lexeme],
-) -> Result<(Result<u64, Fault>, &'a [Lexeme]), Refusal>
+fn unary_deeper<'a>(text: &[u8], depth: u8, opener: Lexeme, lexemes: &'a [Lexeme]) -> ReadValue<'a>
     ensures gives { Gives (λ x. (x.0, x.1.now)) result (unary_below (values text.now) depth opener lexemes.now) }
     ensures shorter { IfOk result (λ x. length x.1.now < length lexemes.now) }
 {
@@ -111,12 +101,8 @@ fn unary_deeper<'a>(
 }
 
 #[cycle(expression)]
-fn primary_within<'a>(
-    text: &[u8],
-    depth: u8,
-    lexemes: &'a [Lexeme],
-) -> Result<(Result<u64, Fault>, &'a [Lexeme]), Refusal>
-    ensures gives { Gives (λ x. (x.0, x.1.now)) result (primary_with (values text.now) (expr_below (values text.now) depth) lexemes.now) }
+fn primary_within<'a>(text: &[u8], depth: u8, lexemes: &'a [Lexeme]) -> ReadValue<'a>
+    ensures gives { Gives (λ x. (x.0, x.1.now)) result (primary_in text.now depth lexemes.now) }
     ensures shorter { IfOk result (λ x. length x.1.now < length lexemes.now) }
 {
     match lexemes {
@@ -134,11 +120,7 @@ fn primary_within<'a>(
 
 #[cycle(expression)]
 #[tactic(auto, unfolding(crate::specs::ReadingExpressions::unary_at))]
-fn unary<'a>(
-    text: &[u8],
-    depth: u8,
-    lexemes: &'a [Lexeme],
-) -> Result<(Result<u64, Fault>, &'a [Lexeme]), Refusal>
+fn unary<'a>(text: &[u8], depth: u8, lexemes: &'a [Lexeme]) -> ReadValue<'a>
     ensures gives { Gives (λ x. (x.0, x.1.now)) result (unary_at (values text.now) depth lexemes.now) }
     ensures shorter { IfOk result (λ x. length x.1.now < length lexemes.now) }
 {
@@ -156,12 +138,8 @@ fn unary<'a>(
 
 // Operands with operators between them: each operator waits while what binds more tightly is read behind it.
 #[cycle(expression)]
-fn operands<'a>(
-    text: &[u8],
-    depth: u8,
-    lexemes: &'a [Lexeme],
-) -> Result<(Result<u64, Fault>, &'a [Lexeme]), Refusal>
-    ensures gives { Gives (λ x. (x.0, x.1.now)) result (levels (values text.now) (unary_at (values text.now) depth) 10 lexemes.now) }
+fn operands<'a>(text: &[u8], depth: u8, lexemes: &'a [Lexeme]) -> ReadValue<'a>
+    ensures gives { Gives (λ x. (x.0, x.1.now)) result (operands_in text.now depth lexemes.now) }
     ensures shorter { IfOk result (λ x. length x.1.now < length lexemes.now) }
 {
     let mut waiting = Waiting::none();
@@ -179,11 +157,7 @@ fn operands<'a>(
 
 #[cycle(expression)]
 #[tactic(auto, unfolding(crate::specs::ReadingExpressions::expr_at))]
-fn expr<'a>(
-    text: &[u8],
-    depth: u8,
-    lexemes: &'a [Lexeme],
-) -> Result<(Result<u64, Fault>, &'a [Lexeme]), Refusal>
+fn expr<'a>(text: &[u8], depth: u8, lexemes: &'a [Lexeme]) -> ReadValue<'a>
     ensures gives { Gives (λ x. (x.0, x.1.now)) result (expr_at (values text.now) depth lexemes.now) }
     ensures shorter { IfOk result (λ x. length x.1.now < length lexemes.now) }
 {
@@ -197,8 +171,8 @@ fn choose<'a>(
     depth: u8,
     test: Result<u64, Fault>,
     lexemes: &'a [Lexeme],
-) -> Result<(Result<u64, Fault>, &'a [Lexeme]), Refusal>
-    ensures gives { Gives (λ x. (x.0, x.1.now)) result (chosen (values text.now) (expr_below (values text.now) depth) test lexemes.now) }
+) -> ReadValue<'a>
+    ensures gives { Gives (λ x. (x.0, x.1.now)) result (chosen_in text.now depth test lexemes.now) }
     ensures shorter { IfOk result (λ x. length x.1.now ≤ length lexemes.now) }
 {
     match lexemes {
@@ -220,8 +194,8 @@ fn otherwise<'a>(
     test: Result<u64, Fault>,
     yes: Result<u64, Fault>,
     lexemes: &'a [Lexeme],
-) -> Result<(Result<u64, Fault>, &'a [Lexeme]), Refusal>
-    ensures gives { Gives (λ x. (x.0, x.1.now)) result (otherwise (values text.now) (expr_below (values text.now) depth) test yes lexemes.now) }
+) -> ReadValue<'a>
+    ensures gives { Gives (λ x. (x.0, x.1.now)) result (otherwise_in text.now depth test yes lexemes.now) }
     ensures shorter { IfOk result (λ x. length x.1.now < length lexemes.now) }
 {
     match lexemes {
@@ -239,10 +213,7 @@ fn otherwise<'a>(
 /// Reads a literal or an expression in parentheses at the front of the lexemes, within `MAX_NESTING` levels: its value or its
 /// one fault, and the lexemes behind it.
 #[tactic(auto, unfolding(crate::specs::ReadingExpressions::primary_at, crate::specs::ReadingExpressions::primary_made))]
-pub fn primary<'a>(
-    text: &[u8],
-    lexemes: &'a [Lexeme],
-) -> Result<(Result<u64, Fault>, &'a [Lexeme]), Refusal>
+pub fn primary<'a>(text: &[u8], lexemes: &'a [Lexeme]) -> ReadValue<'a>
     ensures gives { Gives (λ x. (x.0, x.1.now)) result (primary_at text.now lexemes.now) }
     ensures shorter { IfOk result (λ x. length x.1.now < length lexemes.now) }
 {

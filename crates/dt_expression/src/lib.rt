@@ -11,6 +11,6 @@ mod value;
 mod waiting;
 
 pub use elements::{Width, element, push_low_bytes, width_of};
-pub use expression::{MAX_NESTING, primary, reads_the_grammar};
+pub use expression::{MAX_NESTING, ReadValue, primary, reads_the_grammar};
 pub use numeral::{bytes_of, digit_of, literal};
 pub use refusals::{syntax_at, too_deep};

@@ -1,6 +1,6 @@
 //! Operators that wait for their second operand while what binds more tightly is read.
-ghost use Rattle.std.specs.Prelude.{◌≡◌, ◌≢◌, ◌≤◌, ◌-◌, ℕ, Some, None, slice_index_or};
-ghost use Rattle.dt_expression.specs.ReadingOperators.{joined, joined_up_to, NothingUpTo};
+ghost use Rattle.std.specs.Prelude.{◌≡◌, ◌≢◌, ◌≤◌, ◌-◌};
+ghost use Rattle.dt_expression.specs.ReadingOperators.{joined, joined_up_to, NothingUpTo, SameWait, Waits};
 
 use crate::value::both;
 use dt_lexeme::{Fault, Lexeme};
@@ -41,7 +41,7 @@ impl Waiting {
         requires { rank ≤ 10 }
         ensures value { result ≡ joined_up_to self.old.of_rank rank operand }
         ensures ended { NothingUpTo self.new.of_rank rank }
-        ensures others { (k : ℕ) → rank ≤ k → slice_index_or self.new.of_rank k None ≡ slice_index_or self.old.of_rank k None }
+        ensures others { SameWait (λ k. rank ≤ k) self.old.of_rank self.new.of_rank }
     {
         let mut value = operand;
         for place in 0..rank as usize {
@@ -55,8 +55,8 @@ impl Waiting {
     pub(crate) fn put(&mut self, rank: u8, operator: Lexeme, left: Result<u64, Fault>)
         requires some { 1 ≤ rank }
         requires most { rank ≤ 10 }
-        ensures begun { slice_index_or self.new.of_rank (rank - 1) None ≡ Some (record { operator = operator; left = left }) }
-        ensures others { (k : ℕ) → k ≢ rank - 1 → slice_index_or self.new.of_rank k None ≡ slice_index_or self.old.of_rank k None }
+        ensures begun { Waits self.new.of_rank (rank - 1) (record { operator = operator; left = left }) }
+        ensures others { SameWait (λ k. k ≢ rank - 1) self.old.of_rank self.new.of_rank }
     {
         self.of_rank[rank as usize - 1] = Some(Begun { operator, left });
     }

@@ -1,10 +1,10 @@
-use Rattle.std.proofs.Common.{◌≡◌, ◌≤◌, ℕ, None, slice_index_or}
-use Rattle.dt_expression.specs.ReadingOperators.{joined_up_to, NothingUpTo}
+use Rattle.std.proofs.Common.{◌≡◌, ◌≤◌}
+use Rattle.dt_expression.specs.ReadingOperators.{joined_up_to, NothingUpTo, SameWait}
 use Rattle.dt_expression.proofs.waiting.Waiting.end_up_to.Given as goal
 
 abbrev pub invariant-loop-place : goal.invariant-loop-place
 invariant-loop-place l = record {
   so_far : l.value ≡ joined_up_to l.fn.self.of_rank l.place l.fn.operand;
   ended : NothingUpTo l.self.of_rank l.place;
-  others : (k : ℕ) → l.place ≤ k → slice_index_or l.self.of_rank k None ≡ slice_index_or l.fn.self.of_rank k None;
+  others : SameWait (λ k. l.place ≤ k) l.fn.self.of_rank l.self.of_rank;
 }
