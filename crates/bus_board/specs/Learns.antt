@@ -1,6 +1,7 @@
 -- What the callers of a board learn: the answers and refusals of its calls, and what becomes of a seat's view.
 use Rattle.std.specs.Prelude.{◌≡◌, ◌≢◌, ◌⊎◌, ℕ, ◌<◌, Bool, true, false, List, [], ◌∷◌, ◌++◌, length, Some, None, slice_get}
 use Rattle.bus_plan.specs.Plan.{PlannedDevice, suppliers_of, verdict_of}
+use Rattle.bus_core.specs.CoreState.{CoreValue}
 use Rattle.bus_core.specs.History.{IsBusHistory, bound_in, outcome_by}
 use Rattle.bus_core.specs.Step.{settle_of, settled_reply}
 use Rattle.bus_core.specs.declared.event.Reply.{Reply}
@@ -9,8 +10,9 @@ use Rattle.bus_core.specs.declared.refusal.Refusal.TheVariants.{NoMemory, NotIdl
 use Rattle.bus_core.specs.declared.settle.Settle.{Settle}
 use Rattle.bus_board.specs.Lists.{Has, Among}
 use Rattle.bus_board.specs.Outcomes.{History, IsFront}
+use Rattle.bus_board.specs.Shown.{IsOf, Posted, Seated}
 use Rattle.bus_board.specs.Words.{FRESH, WOKEN}
-use Rattle.bus_board.specs.Views.{last_look, made, claimed_by, passed_all, looked, settled_by, deferred, with_debts, both}
+use Rattle.bus_board.specs.Views.{last_look, made, claimed_by, passed_all, looked, settled_by, deferred, with_debts, both, opener}
 use Rattle.bus_board.specs.declared.view.View.{View}
 use Rattle.bus_board.specs.declared.view.Flight.{Flight}
 
@@ -142,3 +144,14 @@ pub record JoinedBy (v w x : View) : Type 0 where
   pub lawful : IsBusHistory v.plan x.seen
   pub made_left : (s : Settle) → Stands (made v) s → Stands (made x) s
   pub made_right : (s : Settle) → Stands (made w) s → Stands (made x) s
+
+-- a seat is given back once it has no flight and owes nothing
+abbrev pub GivenBack : View → View → View → Type 0
+GivenBack v w x = (w.flight ≡ None) × (w.owed ≡ []) × JoinedBy v w x
+
+abbrev pub NotGivenBack : View → Refusal → Type 0
+NotGivenBack w refusal = (refusal ≡ NotIdle) × ((w.flight ≢ None) ⊎ (w.owed ≢ []))
+
+-- a board was opened over the core, with its first seat
+abbrev pub IsOpenedOn : CoreValue → Posted → Seated → Type 0
+IsOpenedOn core board seat = (board.plan ≡ core.plan) × IsOf board seat × (seat.view ≡ opener core)

@@ -1,14 +1,16 @@
 //! A board and its first seats.
 
-ghost use Rattle.std.specs.Prelude.{◌≡◌, ◌≤◌, ◌+◌, ℕ, [], false, length, vec_capacity, IfOk, IfErr, OnOk};
+ghost use Rattle.std.specs.Prelude.{◌≡◌, ◌≤◌, ℕ, [], false, length, vec_capacity, IfOk, IfErr, OnOk};
 ghost use Rattle.bus_plan.specs.Plan.{suppliers_of};
 ghost use Rattle.bus_core.specs.CoreState.{first_core};
 ghost use Rattle.bus_core.specs.Parting.{has_flight};
 ghost use Rattle.bus_core.specs.declared.refusal.Refusal.TheVariants.{NoMemory};
+ghost use Rattle.bus_board.specs.Learns.{IsOpenedOn};
 ghost use Rattle.bus_board.specs.Opening.{NotOpened};
+ghost use Rattle.bus_board.specs.Private.Standing.{IsFirstTable};
 ghost use Rattle.bus_board.specs.Rule.{OpensAs};
 ghost use Rattle.bus_board.specs.Shown.{IsOf};
-ghost use Rattle.bus_board.specs.Views.{opener, newcomer};
+ghost use Rattle.bus_board.specs.Views.{newcomer};
 
 use crate::hints::Hints;
 use crate::opening::first_words;
@@ -58,7 +60,7 @@ impl Model for Board {
 impl Board {
     /// A board on which nothing was begun, and its first seat.
     pub fn open(alloc: Global, plan: Plan) -> Result<(Board, Seat), Refusal>
-        ensures opened { IfOk result (λ r. (r.0.plan ≡ plan) × IsOf r.0 r.1 × (r.1.view ≡ opener (first_core plan))) }
+        ensures opened { IfOk result (λ r. IsOpenedOn (first_core plan) r.0 r.1) }
         ensures words { IfOk result (λ r. OpensAs (first_core plan) r.1.view) }
         ensures err { IfErr result (λ refusal. refusal ≡ NoMemory) }
     {
@@ -73,7 +75,7 @@ impl Board {
     /// core comes back from a refusal.
     pub fn open_core(alloc: Global, core: Core) -> Result<(Board, Seat), (Core, Refusal)>
         ensures landed { OnOk result (has_flight core.state ≡ false) }
-        ensures opened { IfOk result (λ r. (r.0.plan ≡ core.plan) × IsOf r.0 r.1 × (r.1.view ≡ opener core)) }
+        ensures opened { IfOk result (λ r. IsOpenedOn core r.0 r.1) }
         ensures words { IfOk result (λ r. OpensAs core r.1.view) }
         ensures err { IfErr result (λ r. (r.0 ≡ core) × NotOpened core.state r.1) }
     {
@@ -105,7 +107,7 @@ impl Board {
 
 // A board over a core, and its first seat. All that they need is reserved before the plan is taken out of the core.
 fn start(alloc: Global, core: Core) -> Result<(Board, Seat), Core>
-    ensures started { IfOk result (λ r. (r.0.plan ≡ core.plan) × IsOf r.0 r.1 × (r.1.view ≡ opener core)) }
+    ensures started { IfOk result (λ r. IsOpenedOn core r.0 r.1) }
     ensures words { IfOk result (λ r. OpensAs core r.1.view) }
     ensures err { IfErr result (λ same. same ≡ core) }
 {
@@ -141,7 +143,7 @@ fn first_parts(
     alloc: Global,
     core: &Core,
 ) -> Result<(Words, Token, Vec<Word>, Vec<Device>), AllocError>
-    ensures table { IfOk result (λ parts. (parts.0.shared.table_id.words ≡ length core.now.plan + 1) × (parts.0.shared.table_id.slots ≡ 0) × (parts.0.shared.key ≡ core.now) × (parts.1.table_id ≡ parts.0.shared.table_id) × (parts.1.me ≡ (opener core.now, []))) }
+    ensures table { IfOk result (λ p. IsFirstTable core.now p.0.shared.table_id p.0.shared.key p.1.table_id p.1.me) }
     ensures room { IfOk result (λ parts. (parts.2.items ≡ []) × (length core.now.plan ≤ vec_capacity parts.2)) }
     ensures owed { IfOk result (λ parts. parts.3.items ≡ []) }
 {
@@ -154,7 +156,7 @@ fn first_parts(
 
 // The words at the start, and the token of the first seat.
 fn first_table(alloc: Global, core: &Core) -> Result<(Words, Token), AllocError>
-    ensures { IfOk result (λ t. (t.0.shared.table_id.words ≡ length core.now.plan + 1) × (t.0.shared.table_id.slots ≡ 0) × (t.0.shared.key ≡ core.now) × (t.1.table_id ≡ t.0.shared.table_id) × (t.1.me ≡ (opener core.now, []))) }
+    ensures { IfOk result (λ t. IsFirstTable core.now t.0.shared.table_id t.0.shared.key t.1.table_id t.1.me) }
 {
     let words = first_words(alloc, core)?;
     core.check();

@@ -1,8 +1,8 @@
 //! How a seat gets a device to probe.
 
-ghost use Rattle.std.specs.Prelude.{◌≡◌, ◌<◌, ◌+◌, true, false, None, length, IfOk, IfErr, IfSome, IfNone};
-ghost use Rattle.bus_core.specs.History.{IsBusHistory};
+ghost use Rattle.std.specs.Prelude.{◌≡◌, ◌<◌, true, false, None, length, IfOk, IfErr, IfSome, IfNone};
 ghost use Rattle.bus_board.specs.Learns.{Claimed, NotTaken, Passed};
+ghost use Rattle.bus_board.specs.Private.Standing.{IsIdle, StandsAt};
 ghost use Rattle.bus_board.specs.Private.Tries.{HasTried};
 ghost use Rattle.bus_board.specs.Shown.{IsOf};
 
@@ -52,8 +52,8 @@ impl Board {
 
 // Tries where hints are, and then each device in turn.
 fn claim(table: &Words, plan: &Plan, hints: &Hints, token: &mut Token) -> Option<Device>
-    requires table { (token.old.table_id ≡ table.now.shared.table_id) × (table.now.shared.key.plan ≡ plan.now) × (table.now.shared.table_id.words ≡ length plan.now + 1) }
-    requires seat { (token.old.me.0.plan ≡ plan.now) × (token.old.me.0.live ≡ true) × (token.old.me.0.flight ≡ None) × IsBusHistory token.old.me.0.plan token.old.me.0.seen }
+    requires table { StandsAt plan.now table.now.shared.table_id table.now.shared.key token.old.table_id }
+    requires seat { IsIdle plan.now token.old.me.0 }
     ensures same { (token.new.table_id ≡ token.old.table_id) × (token.new.me.1 ≡ token.old.me.1) }
     ensures claimed { IfSome result (λ d. Claimed token.old.me.0 token.new.me.0 d) }
     ensures none { IfNone result (Passed token.old.me.0 token.new.me.0) }
@@ -70,8 +70,8 @@ fn claim(table: &Words, plan: &Plan, hints: &Hints, token: &mut Token) -> Option
 
 // Tries where hints are, until a claim is won or no hint is left.
 fn claim_hinted(table: &Words, plan: &Plan, hints: &Hints, token: &mut Token) -> Option<Device>
-    requires table { (token.old.table_id ≡ table.now.shared.table_id) × (table.now.shared.key.plan ≡ plan.now) × (table.now.shared.table_id.words ≡ length plan.now + 1) }
-    requires seat { (token.old.me.0.plan ≡ plan.now) × (token.old.me.0.live ≡ true) × (token.old.me.0.flight ≡ None) × IsBusHistory token.old.me.0.plan token.old.me.0.seen }
+    requires table { StandsAt plan.now table.now.shared.table_id table.now.shared.key token.old.table_id }
+    requires seat { IsIdle plan.now token.old.me.0 }
     ensures same { (token.new.table_id ≡ token.old.table_id) × (token.new.me.1 ≡ token.old.me.1) }
     ensures claimed { IfSome result (λ d. Claimed token.old.me.0 token.new.me.0 d) }
     ensures none { IfNone result (HasTried token.old.me.0 token.new.me.0) }
@@ -89,8 +89,8 @@ fn claim_hinted(table: &Words, plan: &Plan, hints: &Hints, token: &mut Token) ->
 
 // Tries the device from the word that a load finds, and says whether the claim was won.
 fn claim_found(table: &Words, plan: &Plan, token: &mut Token, index: usize) -> bool
-    requires table { (token.old.table_id ≡ table.now.shared.table_id) × (table.now.shared.key.plan ≡ plan.now) × (table.now.shared.table_id.words ≡ length plan.now + 1) }
-    requires seat { (token.old.me.0.plan ≡ plan.now) × (token.old.me.0.live ≡ true) × (token.old.me.0.flight ≡ None) × IsBusHistory token.old.me.0.plan token.old.me.0.seen }
+    requires table { StandsAt plan.now table.now.shared.table_id table.now.shared.key token.old.table_id }
+    requires seat { IsIdle plan.now token.old.me.0 }
     requires inside { index < length plan.now }
     ensures same { (token.new.table_id ≡ token.old.table_id) × (token.new.me.1 ≡ token.old.me.1) }
     ensures won { result ≡ true → Claimed token.old.me.0 token.new.me.0 index }
@@ -109,8 +109,8 @@ fn claim_found(table: &Words, plan: &Plan, token: &mut Token, index: usize) -> b
 
 // Tries each device in turn, from FRESH and from WOKEN, until a claim is won.
 fn claim_any(table: &Words, plan: &Plan, token: &mut Token) -> Option<Device>
-    requires table { (token.old.table_id ≡ table.now.shared.table_id) × (table.now.shared.key.plan ≡ plan.now) × (table.now.shared.table_id.words ≡ length plan.now + 1) }
-    requires seat { (token.old.me.0.plan ≡ plan.now) × (token.old.me.0.live ≡ true) × (token.old.me.0.flight ≡ None) × IsBusHistory token.old.me.0.plan token.old.me.0.seen }
+    requires table { StandsAt plan.now table.now.shared.table_id table.now.shared.key token.old.table_id }
+    requires seat { IsIdle plan.now token.old.me.0 }
     ensures same { (token.new.table_id ≡ token.old.table_id) × (token.new.me.1 ≡ token.old.me.1) }
     ensures claimed { IfSome result (λ d. Claimed token.old.me.0 token.new.me.0 d) }
     ensures none { IfNone result (Passed token.old.me.0 token.new.me.0) }

@@ -1,7 +1,7 @@
 //! The flight that a seat has, and its looks.
 
 ghost use Rattle.std.specs.Prelude.{◌≡◌, ◌≢◌, ◌≤◌, ℕ, true, false, [], Some, length, vec_capacity, slice_get, IfSome, MatchOption};
-ghost use Rattle.bus_board.specs.Private.Looks.{IsOnlyAt, noted_looks};
+ghost use Rattle.bus_board.specs.Private.Looks.{HasNone, IsFoundOf, IsOnlyAt, IsPlaceOf, noted_looks};
 ghost use Rattle.bus_board.specs.Private.Ties.{FlightAfter, looks_at};
 
 use bus_plan::Device;
@@ -31,7 +31,7 @@ pub fn first_looks(
 
 /// The last look at a supplier, where it is among these.
 pub fn find_look(looks: &[(Device, Option<bool>)], supplier: Device) -> Option<Option<bool>>
-    ensures { MatchOption result ((i : ℕ) (x : _) → slice_get looks.now i ≡ Some x → x.0 ≢ supplier) (λ r. (i : ℕ) × (slice_get looks.now i ≡ Some (supplier, r))) }
+    ensures { MatchOption result (HasNone looks.now supplier) (IsFoundOf looks.now supplier) }
 {
     for look in looks {
         if look.0.index() == supplier.index() {
@@ -77,7 +77,7 @@ pub fn missed(look: Option<bool>) -> bool
 
 /// The place of a supplier among these: it is looked for where the next look is expected, and then from the first on.
 pub fn find_place(looks: &[(Device, Option<bool>)], next: usize, supplier: Device) -> Option<usize>
-    ensures { MatchOption result ((i : ℕ) (x : _) → slice_get looks.now i ≡ Some x → x.0 ≢ supplier) (λ i. (r : _) × (slice_get looks.now i ≡ Some (supplier, r))) }
+    ensures { MatchOption result (HasNone looks.now supplier) (IsPlaceOf looks.now supplier) }
 {
     if is_at(looks, next, supplier) {
         return Some(next);
@@ -92,7 +92,7 @@ pub fn find_place(looks: &[(Device, Option<bool>)], next: usize, supplier: Devic
 
 // Whether the supplier has this place.
 fn is_at(looks: &[(Device, Option<bool>)], place: usize, supplier: Device) -> bool
-    ensures yes { result ≡ true → (r : _) × (slice_get looks.now place ≡ Some (supplier, r)) }
+    ensures yes { result ≡ true → IsPlaceOf looks.now supplier place }
     ensures no { result ≡ false → (x : _) → slice_get looks.now place ≡ Some x → x.0 ≢ supplier }
 {
     if place < looks.len() {

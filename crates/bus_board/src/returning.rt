@@ -1,8 +1,7 @@
 //! How a seat ends.
 
 ghost use Rattle.std.specs.Prelude.{◌≡◌, ◌≢◌, ◌⊎◌, [], true, false, None, IfErr, OnOk};
-ghost use Rattle.bus_core.specs.declared.refusal.Refusal.TheVariants.{NotIdle};
-ghost use Rattle.bus_board.specs.Learns.{JoinedBy};
+ghost use Rattle.bus_board.specs.Learns.{GivenBack, NotGivenBack};
 ghost use Rattle.bus_board.specs.Shown.{IsOf};
 
 use crate::board::Board;
@@ -16,8 +15,8 @@ impl Board {
         requires into { IsOf self.now into.old }
         requires seat { IsOf self.now seat }
         ensures board { IsOf self.now into.new }
-        ensures ok { OnOk result ((seat.view.flight ≡ None) × (seat.view.owed ≡ []) × JoinedBy into.old.view seat.view into.new.view) }
-        ensures err { IfErr result (λ r. (r.0 ≡ seat) × (into.new ≡ into.old) × (r.1 ≡ NotIdle) × ((seat.view.flight ≢ None) ⊎ (seat.view.owed ≢ []))) }
+        ensures ok { OnOk result (GivenBack into.old.view seat.view into.new.view) }
+        ensures err { IfErr result (λ r. (r.0 ≡ seat) × (into.new ≡ into.old) × NotGivenBack seat.view r.1) }
     {
         if !seat.is_free() {
             return Err((seat, Refusal::NotIdle));

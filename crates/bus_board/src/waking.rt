@@ -1,10 +1,10 @@
 //! How a seat pays its debts: each owed device is woken, where it waits with all suppliers bound.
 
-ghost use Rattle.std.specs.Prelude.{◌≡◌, ◌<◌, ◌+◌, ◌∷◌, ◌≤◌, ℕ, List, [], true, false, length, slice_index};
-ghost use Rattle.bus_core.specs.History.{IsBusHistory};
+ghost use Rattle.std.specs.Prelude.{◌≡◌, ◌<◌, ◌∷◌, ◌≤◌, ℕ, List, [], true, false, length};
 ghost use Rattle.bus_plan.specs.Plan.{suppliers_of};
 ghost use Rattle.bus_board.specs.Learns.{Paid};
 ghost use Rattle.bus_board.specs.Private.Checks.{HasChecked};
+ghost use Rattle.bus_board.specs.Private.Standing.{IsOpen, Owes, StandsAt};
 ghost use Rattle.bus_board.specs.Shown.{IsOf};
 ghost use Rattle.bus_board.specs.Views.{rest};
 
@@ -36,9 +36,9 @@ impl Board {
 
 // Wakes each owed device.
 fn wake_all(table: &Words, plan: &Plan, hints: &Hints, token: &mut Token, owed: &[Device])
-    requires table { (token.old.table_id ≡ table.now.shared.table_id) × (table.now.shared.key.plan ≡ plan.now) × (table.now.shared.table_id.words ≡ length plan.now + 1) }
-    requires seat { (token.old.me.0.plan ≡ plan.now) × (token.old.me.0.live ≡ true) × IsBusHistory token.old.me.0.plan token.old.me.0.seen }
-    requires owed { (token.old.me.0.owed ≡ owed.now) × ((i : ℕ) → i < length owed.now → slice_index owed.now i < length plan.now) }
+    requires table { StandsAt plan.now table.now.shared.table_id table.now.shared.key token.old.table_id }
+    requires seat { IsOpen plan.now token.old.me.0 }
+    requires owed { Owes plan.now token.old.me.0 owed.now }
     ensures same { (token.new.table_id ≡ token.old.table_id) × (token.new.me.1 ≡ token.old.me.1) }
     ensures paid { Paid token.old.me.0 token.new.me.0 [] }
 {
@@ -50,8 +50,8 @@ fn wake_all(table: &Words, plan: &Plan, hints: &Hints, token: &mut Token, owed: 
 // Checks the suppliers of the first owed device, and wakes it where each is BOUND. The debt drops. The checks begin where
 // those of the last wake stopped, so that all wakes of a device together go over its suppliers twice at most.
 fn wake_one(table: &Words, plan: &Plan, hints: &Hints, token: &mut Token, device: Device)
-    requires table { (token.old.table_id ≡ table.now.shared.table_id) × (table.now.shared.key.plan ≡ plan.now) × (table.now.shared.table_id.words ≡ length plan.now + 1) }
-    requires seat { (token.old.me.0.plan ≡ plan.now) × (token.old.me.0.live ≡ true) × IsBusHistory token.old.me.0.plan token.old.me.0.seen }
+    requires table { StandsAt plan.now table.now.shared.table_id table.now.shared.key token.old.table_id }
+    requires seat { IsOpen plan.now token.old.me.0 }
     requires owed { (device < length plan.now) × ((more : List ℕ) × (token.old.me.0.owed ≡ device ∷ more)) }
     ensures same { (token.new.table_id ≡ token.old.table_id) × (token.new.me.1 ≡ token.old.me.1) }
     ensures dropped { Paid token.old.me.0 token.new.me.0 (rest token.old.me.0.owed) }
@@ -81,8 +81,8 @@ fn drops(
     from: usize,
     to: usize,
 ) -> bool
-    requires table { (token.old.table_id ≡ table.now.shared.table_id) × (table.now.shared.key.plan ≡ plan.now) × (table.now.shared.table_id.words ≡ length plan.now + 1) }
-    requires seat { (token.old.me.0.plan ≡ plan.now) × (token.old.me.0.live ≡ true) × IsBusHistory token.old.me.0.plan token.old.me.0.seen }
+    requires table { StandsAt plan.now table.now.shared.table_id table.now.shared.key token.old.table_id }
+    requires seat { IsOpen plan.now token.old.me.0 }
     requires owed { (device < length plan.now) × ((more : List ℕ) × (token.old.me.0.owed ≡ device ∷ more)) }
     requires places { to ≤ length (suppliers_of plan.now device) }
     ensures same { (token.new.table_id ≡ token.old.table_id) × (token.new.me.1 ≡ token.old.me.1) }

@@ -1,10 +1,10 @@
 -- What a driver that comes late leaves: each device that had a driver stays as it was, and the suppliers of all do.
-use Rattle.std.proofs.Common.{◌≡◌, inl, inr, ℕ, Bool, true, false, ◌&&◌, cond, List, [], ◌∷◌, ◌++◌, Option, Some, None, length, map, refl, sym, ap, ◌∙◌, true≢false}
-use Rattle.std.specs.Prelude.{is_some, is_none}
+use Rattle.std.proofs.Common.{◌≡◌, inl, inr, ℕ, Bool, true, false, ◌&&◌, cond, List, [], ◌∷◌, ◌++◌, Option, Some, None, length, map, refl, sym, ap, ◌∙◌, true≢false, arith}
+use Rattle.std.specs.Prelude.{is_some, is_none, filter}
 use Rattle.std.specs.List.{list_all}
 use Rattle.std.proofs.lemmas.Bool.{cases_lt}
 use Rattle.std.proofs.lemmas.List.{get_or-map, get_or_past, length-map}
-use Rattle.bus_plan.specs.LateDriver.{gets_driver, driven_by, device_with, with_driver}
+use Rattle.bus_plan.specs.LateDriver.{gets_driver, driven_by, device_with, with_driver, gaining}
 use Rattle.bus_plan.specs.Plan.{PlannedDevice, nothing, planned, is_matched, suppliers_of, verdict_of}
 use Rattle.bus_core.specs.declared.settle.Settle.{Settle}
 use Rattle.bus_core.specs.History.{outcome_by, bound_in, IsBusStep, IsHistoryAfter}
@@ -22,6 +22,17 @@ late-at plan name strings d = elim (cases_lt d (length plan)) [
       get_or_past (map (device_with name strings) plan) d nothing (rw (late-long plan name strings) past)
       ∙ sym (ap (device_with name strings) (get_or_past plan d nothing past))
 ]
+
+-- where nobody gains by it the plan stays
+none-gained : (gets : Bool) (name : List ℕ) (d : PlannedDevice) (gaining new plan : List PlannedDevice)
+    → length (cond gets (d ∷ gaining) gaining) ≡ 0 → (length gaining ≡ 0 → new ≡ plan) → cond gets (driven_by name d) d ∷ new ≡ d ∷ plan
+none-gained true name d gaining new plan none rest = let some : length (d ∷ gaining) ≡ 0 = none in absurd (omega (arith, some))
+none-gained false name d gaining new plan none rest = ap (λ ds. d ∷ ds) (rest none)
+
+pub late-none : (plan : List PlannedDevice) (name : List ℕ) (strings : List (List ℕ)) → gaining plan strings ≡ 0 → with_driver plan name strings ≡ plan
+late-none [] name strings none = refl
+late-none (d ∷ plan) name strings none =
+    none-gained (gets_driver d strings) name d (filter (λ d. gets_driver d strings) plan) (with_driver plan name strings) plan none (late-none plan name strings)
 
 kept-suppliers : (test : Bool) (name : List ℕ) (d : PlannedDevice) → (cond test (driven_by name d) d).suppliers ≡ d.suppliers
 kept-suppliers true name d = refl

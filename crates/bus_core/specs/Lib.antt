@@ -8,6 +8,7 @@ pub mod Parting
 pub mod Ready
 pub mod RefinementCounts
 pub mod RefinementPhase
+pub mod RefinementReport
 pub mod RefinementSet
 pub mod RefinementSound
 pub mod RefinementView

@@ -1,12 +1,17 @@
 -- What a core keeps so that it need not walk the plan: how many suppliers of each device aren't bound, which devices are
 -- due, and how many flights are open. No public clause cites it.
-use Rattle.std.specs.Prelude.{◌≡◌, ◌<◌, ◌==◌, ℕ, Bool, false, not, ◌&&◌, is_some, List, length, slice_index_or, count_by}
+use Rattle.std.specs.Prelude.{◌≡◌, ◌<◌, ◌-◌, ◌==◌, ℕ, Bool, false, not, ◌&&◌, if◌then◌else◌, is_some, List, length, map, slice_index_or, count_by}
+use Rattle.bus_plan.specs.Consumers.{has_supplier}
 use Rattle.bus_plan.specs.Plan.{PlannedDevice, is_matched, suppliers_of}
 use Rattle.bus_core.specs.declared.phase.Phase.{Phase}
 use Rattle.bus_core.specs.CoreState.{CoreState}
-use Rattle.bus_core.specs.Due.{is_due}
+use Rattle.bus_core.specs.Due.{is_due, devices}
 use Rattle.bus_core.specs.History.{bound_in}
 use Rattle.bus_core.specs.RefinementPhase.{phase_at, due_in}
+
+-- how many suppliers each device has
+abbrev pub supplier_counts : List PlannedDevice → List ℕ
+supplier_counts plan = map (λ d. length (suppliers_of plan d)) (devices plan)
 
 -- how many suppliers of a device aren't in the set
 abbrev pub missing_count : List PlannedDevice → (ℕ → Bool) → ℕ → ℕ
@@ -28,3 +33,16 @@ abbrev pub AreMarked : List PlannedDevice → List Phase → List ℕ → List B
 AreMarked plan phases missing due =
     (d : ℕ) → d < length plan
     → slice_index_or due d false ≡ due_with plan d (phase_at phases d) (slice_index_or missing d 0)
+
+-- a supplier more is bound: each of its consumers waits for one less
+abbrev pub AreLowered : List PlannedDevice → ℕ → List ℕ → List ℕ → Type 0
+AreLowered plan supplier old new =
+    (d : ℕ) → slice_index_or new d 0
+    ≡ (if has_supplier plan d supplier then slice_index_or old d 0 - 1 else slice_index_or old d 0)
+
+-- and it is due or not by what is left, while every other device is due as before
+abbrev pub AreMarkedAfter : List PlannedDevice → List Phase → List ℕ → ℕ → List Bool → List Bool → Type 0
+AreMarkedAfter plan phases missing supplier old new =
+    (d : ℕ) → slice_index_or new d false
+    ≡ (if has_supplier plan d supplier then due_with plan d (phase_at phases d) (slice_index_or missing d 0)
+    else slice_index_or old d false)

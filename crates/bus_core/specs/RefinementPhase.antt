@@ -9,6 +9,7 @@ use Rattle.bus_core.specs.declared.settle.Settle.{Settle}
 use Rattle.bus_core.specs.declared.status.Status.{Status}
 use Rattle.bus_core.specs.declared.status.Status.TheVariants as status
 use Rattle.bus_core.specs.CoreState.{CoreState, Flight}
+use Rattle.bus_core.specs.Due.{is_due}
 use Rattle.bus_core.specs.Ready.{is_ready}
 
 abbrev pub phase_at : List Phase → ℕ → Phase
@@ -81,6 +82,10 @@ idle_status available matched due =
     else (if not matched then status.Unmatched
     else (if due then status.Due
     else status.Waiting))
+
+-- the status of an idle device in a state
+abbrev pub idle_status_of : List PlannedDevice → CoreState → ℕ → Status
+idle_status_of plan s d = idle_status (is_available plan d) (is_matched plan d) (is_due plan s d)
 
 abbrev pub status_in : Phase → Bool → Bool → Bool → Status
 status_in Fresh available matched due = idle_status available matched due

@@ -47,9 +47,12 @@ line_of plan missing said d = path_of plan d ++ (status_text plan missing d said
 abbrev pub core_line : List PlannedDevice → CoreState → ℕ → List ℕ
 core_line plan s d = line_of plan (missing_supplier plan (bound_in s.history) d) (status_of plan s d) d
 
+abbrev pub core_lines : List PlannedDevice → CoreState → List ℕ
+core_lines plan s = flat_map (core_line plan s) (devices plan)
+
 abbrev pub report_text : List PlannedDevice → CoreState → List ℕ
 report_text plan s =
-    flat_map (core_line plan s) (devices plan)
+    core_lines plan s
     ++ (if is_quiet plan s then codes "quiet\n" else codes "busy\n")
 
 -- The report that a run ends with: the devices of a set are bound, those ready for it and not in it have failed, all
@@ -65,8 +68,11 @@ end_status plan bound d =
 abbrev pub end_line : List PlannedDevice → (ℕ → Bool) → ℕ → List ℕ
 end_line plan bound d = line_of plan (missing_supplier plan bound d) (end_status plan bound d) d
 
+abbrev pub end_lines : List PlannedDevice → (ℕ → Bool) → List ℕ
+end_lines plan bound = flat_map (end_line plan bound) (devices plan)
+
 abbrev pub end_text : List PlannedDevice → (ℕ → Bool) → List ℕ
-end_text plan bound = flat_map (end_line plan bound) (devices plan) ++ codes "quiet\n"
+end_text plan bound = end_lines plan bound ++ codes "quiet\n"
 
 pub record IsEndReport (plan : List PlannedDevice) (text : List ℕ) : Type 0 where
   pub bound : ℕ → Bool

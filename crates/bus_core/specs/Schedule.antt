@@ -1,9 +1,9 @@
 -- A schedule's text: what each line says, and the events of all lines or the first fault.
-use Rattle.std.specs.Prelude.{ℕ, ◌+◌, not, if◌then◌else◌, codes, List, [], ◌∷◌, ◌++◌, Option, Some, None, Result, Ok, Err}
+use Rattle.std.specs.Prelude.{◌≡◌, ◌⊎◌, ℕ, ◌+◌, not, if◌then◌else◌, codes, List, [], ◌∷◌, ◌++◌, Option, Some, None, Result, Ok, Err}
 use Rattle.std.specs.Str.{bytes_eq}
 use Rattle.dt_tree.specs.Path.{is_path}
 use Rattle.bus_plan.specs.declared.error.PlanError.{PlanError}
-use Rattle.bus_plan.specs.declared.error.PlanError.TheVariants.{BadLine, UnknownPath}
+use Rattle.bus_plan.specs.declared.error.PlanError.TheVariants.{NoMemory, BadLine, UnknownPath}
 use Rattle.bus_plan.specs.Lines.{lines, is_line, fields, is_skipped}
 use Rattle.bus_plan.specs.Plan.{PlannedDevice, device_at, is_driver_name}
 use Rattle.bus_core.specs.declared.event.Event.{Event}
@@ -104,6 +104,13 @@ schedule_behind plan number (line ∷ rest) = with_line (line_meaning plan (numb
 
 abbrev pub schedule_of : List PlannedDevice → List ℕ → Result (List Event) PlanError
 schedule_of plan text = schedule_behind plan 0 (lines text)
+
+-- these are its events, and this is why it isn't read
+abbrev pub IsSchedule : List PlannedDevice → List ℕ → List Event → Type 0
+IsSchedule plan text events = schedule_of plan text ≡ Ok events
+
+abbrev pub IsMisread : List PlannedDevice → List ℕ → PlanError → Type 0
+IsMisread plan text e = (e ≡ NoMemory) ⊎ (schedule_of plan text ≡ Err e)
 
 -- the events of one line
 abbrev pub events_on : Result (Option Event) PlanError → List Event

@@ -39,10 +39,20 @@ begin_state s d =
       registered = s.registered;
     }
 
+abbrev pub begun_core : CoreValue → ℕ → CoreValue
+begun_core core d = with_state core (begin_state core.state d)
+
+-- the ticket of the next flight
+abbrev pub next_ticket : CoreState → ℕ → Ticket
+next_ticket s d = record { device = d; attempt = s.begins + 1 }
+
 -- the state without the device's flight
 abbrev pub without_flight : CoreState → ℕ → CoreState
 without_flight s d =
     record { history = s.history; flights = slice_set s.flights d None; begun = s.begun; begins = s.begins; registered = s.registered }
+
+abbrev pub landed_core : CoreValue → ℕ → CoreValue
+landed_core core d = with_state core (without_flight core.state d)
 
 -- Abandon: the device is in flight.
 abbrev pub abandon_refusal : CoreState → ℕ → Option Refusal
@@ -59,12 +69,15 @@ is_supplier plan d supplier = list_any (λ s. s == supplier) (suppliers_of plan 
 abbrev pub bound_at_begin : CoreState → ℕ → ℕ → Bool
 bound_at_begin s d = bound_in (take (settled_at_begin (flight_of s d)) s.history)
 
-abbrev pub report_refusal : List PlannedDevice → CoreState → ℕ → Report → Option Refusal
-report_refusal plan s d Settled = if not (is_ready plan (bound_in s.history) d) then Some NotReady else None
-report_refusal plan s d (Missing supplier) =
+abbrev pub missing_refusal : List PlannedDevice → CoreState → ℕ → ℕ → Option Refusal
+missing_refusal plan s d supplier =
     if not (is_supplier plan d supplier) then Some WasBound
     else (if bound_at_begin s d supplier then Some WasBound
     else None)
+
+abbrev pub report_refusal : List PlannedDevice → CoreState → ℕ → Report → Option Refusal
+report_refusal plan s d Settled = if not (is_ready plan (bound_in s.history) d) then Some NotReady else None
+report_refusal plan s d (Missing supplier) = missing_refusal plan s d supplier
 
 abbrev pub is_attempt : Option Flight → ℕ → Bool
 is_attempt None attempt = false
@@ -89,6 +102,9 @@ finish_state plan s d Settled =
     }
 finish_state plan s d (Missing supplier) = without_flight s d
 
+abbrev pub finished_core : CoreValue → ℕ → Report → CoreValue
+finished_core core d report = with_state core (finish_state core.plan core.state d report)
+
 -- the reply, by the outcome or by what is due in the new state
 abbrev pub settled_reply : Outcome → Reply
 settled_reply outcome.Bound = reply.Bound
@@ -97,6 +113,9 @@ settled_reply outcome.Failed = reply.Failed
 abbrev pub finish_reply : List PlannedDevice → CoreState → ℕ → Report → Reply
 finish_reply plan new d Settled = settled_reply (outcome_by (verdict_of plan d))
 finish_reply plan new d (Missing supplier) = if is_due plan new d then reply.Again else reply.Waiting
+
+abbrev pub IsReply : List PlannedDevice → CoreState → ℕ → Report → Reply → Type 0
+IsReply plan new d report reply = reply ≡ finish_reply plan new d report
 
 -- Register: no device has a driver of this name so far, and none was registered before.
 abbrev pub register_refusal : List PlannedDevice → CoreState → List ℕ → Option Refusal
@@ -128,13 +147,13 @@ pub data CoreEvent : Type 0 where
 -- the core after an event, which is the old one where the event is refused
 abbrev pub step : CoreValue → CoreEvent → CoreValue
 step core (begins d) =
-    if is_none (begin_refusal core.plan core.state d) then with_state core (begin_state core.state d) else core
+    if is_none (begin_refusal core.plan core.state d) then begun_core core d else core
 step core (finishes ticket report) =
     if is_none (finish_refusal core.plan core.state ticket report)
-    then with_state core (finish_state core.plan core.state ticket.device report)
+    then finished_core core ticket.device report
     else core
 step core (abandons d) =
-    if is_none (abandon_refusal core.state d) then with_state core (without_flight core.state d) else core
+    if is_none (abandon_refusal core.state d) then landed_core core d else core
 step core (registers name strings) =
     if is_none (register_refusal core.plan core.state name) then registered_core core name strings else core
 

@@ -1,11 +1,9 @@
 //! How many suppliers of each device aren't bound.
 
-ghost use Rattle.std.specs.Prelude.{◌≡◌, ◌<◌, ◌-◌, ℕ, true, false, length, map, slice_index_or, IfOk, if◌then◌else◌};
-ghost use Rattle.bus_plan.specs.Plan.{is_matched, suppliers_of};
+ghost use Rattle.std.specs.Prelude.{◌≡◌, ◌<◌, ℕ, true, false, length, slice_index_or, IfOk};
+ghost use Rattle.bus_plan.specs.Plan.{is_matched};
 ghost use Rattle.bus_plan.specs.Consumers.{has_supplier};
-ghost use Rattle.bus_core.specs.Due.{devices};
-ghost use Rattle.bus_core.specs.RefinementPhase.{phase_at};
-ghost use Rattle.bus_core.specs.RefinementCounts.{due_with, AreMarked};
+ghost use Rattle.bus_core.specs.RefinementCounts.{supplier_counts, due_with, AreMarked, AreLowered, AreMarkedAfter};
 
 use crate::device_set::DeviceSet;
 use crate::phase::{Phase, is_matched, phase_of};
@@ -14,7 +12,7 @@ use std::alloc::{AllocError, Global};
 
 /// How many suppliers each device has.
 pub fn supplier_counts(alloc: Global, plan: &Plan) -> Result<Vec<usize>, AllocError>
-    ensures { IfOk result (λ counts. counts.items ≡ map (λ d. length (suppliers_of plan.now d)) (devices plan.now)) }
+    ensures { IfOk result (λ counts. counts.items ≡ supplier_counts plan.now) }
 {
     let mut counts = Vec::with_capacity(alloc, plan.len())?;
     for index in 0..plan.len() {
@@ -76,9 +74,9 @@ pub fn lower(
     requires counts { length missing.old ≡ length plan.now }
     requires places { length due.old ≡ length plan.now }
     requires counted { (d : ℕ) → has_supplier plan.now d supplier ≡ true → 0 < slice_index_or missing.old d 0 }
-    ensures missing { (d : ℕ) → slice_index_or missing.new d 0 ≡ (if has_supplier plan.now d supplier then slice_index_or missing.old d 0 - 1 else slice_index_or missing.old d 0) }
+    ensures missing { AreLowered plan.now supplier missing.old missing.new }
     ensures places { length due.new ≡ length plan.now }
-    ensures due { (d : ℕ) → slice_index_or due.new d false ≡ (if has_supplier plan.now d supplier then due_with plan.now d (phase_at phases.now d) (slice_index_or missing.new d 0) else slice_index_or due.old d false) }
+    ensures due { AreMarkedAfter plan.now phases.now missing.new supplier due.old due.new }
 {
     let consumers = plan.consumers(supplier);
     for consumer in consumers {

@@ -65,6 +65,8 @@ impl Core {
     {
         self.registered.push(alloc, name.as_bytes())?;
         match self.plan.register(alloc, name, compatibles) {
+            // nobody gained, so the plan is what it was
+            Ok(0) => Ok(0),
             Ok(count) => {
                 mark(&self.plan, &self.phases, &self.missing, &mut self.due);
                 Ok(count)

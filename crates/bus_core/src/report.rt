@@ -1,9 +1,9 @@
 //! The text of a report.
 
-ghost use Rattle.std.specs.Prelude.{◌≡◌, ◌<◌, ◌++◌, length, flat_map, IfOk, IfErr, IfSome, OnOk, codes, not, if◌then◌else◌};
-ghost use Rattle.bus_core.specs.Due.{devices};
+ghost use Rattle.std.specs.Prelude.{◌≡◌, ◌<◌, ◌++◌, length, IfOk, IfErr, IfSome, OnOk, codes, not, if◌then◌else◌};
 ghost use Rattle.bus_core.specs.History.{bound_in};
-ghost use Rattle.bus_core.specs.Report.{missing_supplier, line_of, core_line, report_text};
+ghost use Rattle.bus_core.specs.RefinementReport.{IsNamedSupplier};
+ghost use Rattle.bus_core.specs.Report.{missing_supplier, core_line, core_lines, report_text};
 
 use crate::refusal::Refusal;
 use crate::report_line::push_line;
@@ -41,7 +41,7 @@ impl Core {
     // The supplier that the line of a device with this status names: only that of a waiting device is looked for.
     fn named_supplier(&self, device: Device, status: Status) -> Option<Device>
         requires { device < length self.now.plan }
-        ensures line { line_of self.now.plan result status device ≡ line_of self.now.plan (missing_supplier self.now.plan (bound_in self.now.state.history) device) status device }
+        ensures line { IsNamedSupplier self.now.plan (bound_in self.now.state.history) device status result }
         ensures within { IfSome result (λ supplier. supplier < length self.now.plan) }
     {
         self.plan.check();
@@ -61,7 +61,7 @@ impl Core {
     }
 
     fn device_lines(&self, alloc: Global) -> Result<Vec<u8>, AllocError>
-        ensures { IfOk result (λ text. text.items ≡ flat_map (core_line self.now.plan self.now.state) (devices self.now.plan)) }
+        ensures { IfOk result (λ text. text.items ≡ core_lines self.now.plan self.now.state) }
     {
         let mut text = Vec::new(alloc);
         for index in 0..self.plan.len() {

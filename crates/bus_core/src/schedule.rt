@@ -1,11 +1,11 @@
 //! The text of a schedule.
 
-ghost use Rattle.std.specs.Prelude.{◌≡◌, ◌<◌, ◌++◌, ◌⊎◌, length, option_to_list, All, IfOk, IfSome, OnOk, MatchResult, true, false};
+ghost use Rattle.std.specs.Prelude.{◌≡◌, ◌<◌, ◌++◌, length, option_to_list, All, IfOk, IfSome, OnOk, MatchResult, true, false};
 ghost use Rattle.dt_tree.specs.Path.{is_path};
 ghost use Rattle.bus_plan.specs.Plan.{device_at};
 ghost use Rattle.bus_plan.specs.PlanFile.{Answers};
 ghost use Rattle.bus_core.specs.Replay.{IsEventOf};
-ghost use Rattle.bus_core.specs.Schedule.{event_of_two, event_of_three, event_of_four, device_event, event_of, line_meaning, missing_of, schedule_of};
+ghost use Rattle.bus_core.specs.Schedule.{event_of_two, event_of_three, event_of_four, device_event, event_of, line_meaning, missing_of, IsSchedule, IsMisread};
 
 use crate::driver_line::driver_event;
 use crate::event::{Event, Report};
@@ -192,7 +192,7 @@ fn append(events: &mut Vec<Event>, event: Option<Event>) -> Result<(), AllocErro
 /// `driver NAME COMPATIBLE..`, a line each. A line of another form is refused with `BadLine`, a path that no device of the plan has with
 /// `UnknownPath`, by the first such line.
 pub fn read_schedule(alloc: Global, plan: &Plan, text: &[u8]) -> Result<Vec<Event>, PlanError>
-    ensures schedule { MatchResult result (λ events. schedule_of plan.now text.now ≡ Ok events.items) (λ e. (e ≡ PlanError.NoMemory) ⊎ (schedule_of plan.now text.now ≡ Err e)) }
+    ensures schedule { MatchResult result (λ es. IsSchedule plan.now text.now es.items) (IsMisread plan.now text.now) }
     ensures within { IfOk result (λ events. All (IsEventOf plan.now) events.items) }
 {
     let _met = Report::Settled;

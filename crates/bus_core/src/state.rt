@@ -4,9 +4,9 @@ ghost use Rattle.std.specs.Prelude.{◌≡◌, IfOk};
 ghost use Rattle.bus_core.specs.CoreState.{first_core};
 ghost use Rattle.bus_core.specs.History.{IsBusHistory};
 ghost use Rattle.bus_core.specs.declared.refusal.Refusal.TheVariants.{NoMemory};
-ghost use Rattle.std.specs.Prelude.{MatchResult, replicate, ◌≤◌, ℕ, [], false, length, map, slice_index_or, vec_capacity};
-ghost use Rattle.bus_plan.specs.Plan.{is_matched, suppliers_of};
-ghost use Rattle.bus_core.specs.Due.{devices};
+ghost use Rattle.std.specs.Prelude.{MatchResult, replicate, ◌≤◌, ℕ, [], false, length, slice_index_or, vec_capacity};
+ghost use Rattle.bus_plan.specs.Plan.{is_matched};
+ghost use Rattle.bus_core.specs.RefinementCounts.{supplier_counts};
 
 use crate::counts::{matched_devices, supplier_counts};
 use crate::device_set::DeviceSet;
@@ -67,7 +67,7 @@ fn first_kept(alloc: Global, plan: &Plan) -> Result<Kept, AllocError>
     ensures history { IfOk result (λ kept. kept.0.items ≡ []) }
     ensures room { IfOk result (λ kept. length plan.now ≤ vec_capacity kept.0) }
     ensures phases { IfOk result (λ kept. kept.1.items ≡ replicate (length plan.now) Phase.Fresh) }
-    ensures missing { IfOk result (λ kept. kept.2.items ≡ map (λ d. length (suppliers_of plan.now d)) (devices plan.now)) }
+    ensures missing { IfOk result (λ kept. kept.2.items ≡ supplier_counts plan.now) }
     ensures places { IfOk result (λ kept. length kept.3 ≡ length plan.now) }
     ensures due { IfOk result (λ kept. (d : ℕ) → slice_index_or kept.3 d false ≡ is_matched plan.now d) }
 {

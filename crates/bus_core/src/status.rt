@@ -2,10 +2,9 @@
 
 ghost use Rattle.std.specs.Prelude.{◌≡◌, ◌<◌, length};
 ghost use Rattle.std.specs.Option.{option_copied};
-ghost use Rattle.bus_plan.specs.Plan.{driver_of, is_available, is_matched};
+ghost use Rattle.bus_plan.specs.Plan.{driver_of};
 ghost use Rattle.bus_core.specs.CoreState.{was_begun};
-ghost use Rattle.bus_core.specs.Due.{is_due};
-ghost use Rattle.bus_core.specs.RefinementPhase.{idle_status};
+ghost use Rattle.bus_core.specs.RefinementPhase.{idle_status_of};
 ghost use Rattle.bus_core.specs.Report.{status_of};
 
 use crate::phase::{Phase, is_matched, phase_of};
@@ -62,7 +61,7 @@ impl Core {
     // How a device stands that is neither in flight nor settled.
     fn idle_status(&self, device: Device) -> Status
         requires { device < length self.now.plan }
-        ensures { result ≡ idle_status (is_available self.now.plan device) (is_matched self.now.plan device) (is_due self.now.plan self.now.state device) }
+        ensures { result ≡ idle_status_of self.now.plan self.now.state device }
     {
         if !self.plan.available(device) {
             return Status::Disabled;

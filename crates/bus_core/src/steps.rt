@@ -1,15 +1,15 @@
 //! The events of devices. None takes memory: the room of every settle was made with the core.
 
-ghost use Rattle.std.specs.Prelude.{◌≡◌, ◌<◌, ◌+◌, ◌++◌, ◌∷◌, [], length, IfOk, IfNone, OnOk, OnErr, Some, None, vec_len, vec_capacity, ◌≤◌, ◌==◌, true};
+ghost use Rattle.std.specs.Prelude.{◌≡◌, ◌<◌, length, IfOk, IfNone, OnOk, OnErr, vec_len, vec_capacity, ◌≤◌, ◌==◌, true, ◌++◌, ◌∷◌, [], Some, None};
 ghost use Rattle.std.specs.List.{list_any};
 ghost use Rattle.std.specs.Result.{result_err};
 ghost use Rattle.bus_plan.specs.Plan.{verdict_of};
-ghost use Rattle.bus_core.specs.CoreState.{CoreValue, flight_of, is_in_flight};
+ghost use Rattle.bus_core.specs.CoreState.{flight_of, is_in_flight};
 ghost use Rattle.bus_core.specs.Due.{is_idle};
 ghost use Rattle.bus_core.specs.History.{outcome_by, bound_in};
 ghost use Rattle.bus_core.specs.Limits.{begin_limit};
 ghost use Rattle.bus_core.specs.Ready.{is_ready};
-ghost use Rattle.bus_core.specs.Step.{begin_refusal, begin_state, finish_refusal, finish_state, finish_reply, report_refusal, abandon_refusal, without_flight, settled_reply, is_supplier, settled_at_begin, begins, finishes, abandons, step};
+ghost use Rattle.bus_core.specs.Step.{begin_refusal, begun_core, next_ticket, finish_refusal, finished_core, IsReply, report_refusal, missing_refusal, abandon_refusal, landed_core, settled_reply, is_supplier, settled_at_begin, begins, finishes, abandons, step};
 
 use crate::counts::lower;
 use crate::event::{Reply, Report, Ticket};
@@ -50,8 +50,8 @@ impl Core {
     pub fn begin(&mut self, device: Device) -> Result<Ticket, Refusal>
         requires { device < length self.old.plan }
         ensures refused { result_err result ≡ begin_refusal self.old.plan self.old.state device }
-        ensures ticket { IfOk result (λ ticket. ticket ≡ record { device = device; attempt = self.old.state.begins + 1 }) }
-        ensures begun { OnOk result (self.new ≡ record { plan = self.old.plan; state = begin_state self.old.state device }) }
+        ensures ticket { IfOk result (λ ticket. ticket ≡ next_ticket self.old.state device) }
+        ensures begun { OnOk result (self.new ≡ begun_core self.old device) }
         ensures err { OnErr result (self.new ≡ self.old) }
         ensures step { self.new ≡ step self.old (begins device) }
     {
@@ -85,8 +85,8 @@ impl Core {
         requires within { device < length self.old.plan }
         requires idle { is_idle self.old.state device ≡ true }
         requires few { self.old.state.begins < begin_limit }
-        ensures ticket { result ≡ record { device = device; attempt = self.old.state.begins + 1 } }
-        ensures begun { self.new ≡ record { plan = self.old.plan; state = begin_state self.old.state device } }
+        ensures ticket { result ≡ next_ticket self.old.state device }
+        ensures begun { self.new ≡ begun_core self.old device }
     {
         self.begins += 1;
         self.flights += 1;
@@ -102,7 +102,7 @@ impl Core {
     fn close_flight(&mut self, device: Device)
         requires within { device < length self.old.plan }
         requires flying { is_in_flight self.old.state device ≡ true }
-        ensures { self.new ≡ record { plan = self.old.plan; state = without_flight self.old.state device } }
+        ensures { self.new ≡ landed_core self.old device }
     {
         let is_ready = self.is_ready(device);
         self.flights -= 1;
@@ -114,7 +114,7 @@ impl Core {
     pub fn abandon(&mut self, device: Device) -> Result<(), Refusal>
         requires { device < length self.old.plan }
         ensures refused { result_err result ≡ abandon_refusal self.old.state device }
-        ensures abandoned { OnOk result (self.new ≡ record { plan = self.old.plan; state = without_flight self.old.state device }) }
+        ensures abandoned { OnOk result (self.new ≡ landed_core self.old device) }
         ensures err { OnErr result (self.new ≡ self.old) }
         ensures step { self.new ≡ step self.old (abandons device) }
     {
@@ -129,8 +129,8 @@ impl Core {
     pub fn finish(&mut self, ticket: &Ticket, report: Report) -> Result<Reply, Refusal>
         requires { ticket.now.device < length self.old.plan }
         ensures refused { result_err result ≡ finish_refusal self.old.plan self.old.state ticket.now report }
-        ensures reply { IfOk result (λ reply. reply ≡ finish_reply self.new.plan self.new.state ticket.now.device report) }
-        ensures finished { OnOk result (self.new ≡ record { plan = self.old.plan; state = finish_state self.old.plan self.old.state ticket.now.device report }) }
+        ensures reply { IfOk result (IsReply self.new.plan self.new.state ticket.now.device report) }
+        ensures finished { OnOk result (self.new ≡ finished_core self.old ticket.now.device report) }
         ensures err { OnErr result (self.new ≡ self.old) }
         ensures step { self.new ≡ step self.old (finishes ticket.now report) }
     {
@@ -155,8 +155,8 @@ impl Core {
         requires flying { is_in_flight self.old.state device ≡ true }
         requires since { settled_at_begin (flight_of self.old.state device) ≡ settled }
         ensures refused { result_err result ≡ report_refusal self.old.plan self.old.state device report }
-        ensures reply { IfOk result (λ reply. reply ≡ finish_reply self.new.plan self.new.state device report) }
-        ensures finished { OnOk result (self.new ≡ record { plan = self.old.plan; state = finish_state self.old.plan self.old.state device report }) }
+        ensures reply { IfOk result (IsReply self.new.plan self.new.state device report) }
+        ensures finished { OnOk result (self.new ≡ finished_core self.old device report) }
         ensures err { OnErr result (self.new ≡ self.old) }
     {
         match report {
@@ -170,7 +170,7 @@ impl Core {
         requires flying { is_in_flight self.old.state device ≡ true }
         ensures refused { result_err result ≡ report_refusal self.old.plan self.old.state device Report.Settled }
         ensures reply { IfOk result (λ reply. reply ≡ settled_reply (outcome_by (verdict_of self.old.plan device))) }
-        ensures finished { OnOk result (self.new ≡ record { plan = self.old.plan; state = finish_state self.old.plan self.old.state device Report.Settled }) }
+        ensures finished { OnOk result (self.new ≡ finished_core self.old device Report.Settled) }
         ensures err { OnErr result (self.new ≡ self.old) }
     {
         if !self.is_ready(device) {
@@ -194,7 +194,7 @@ impl Core {
         requires flying { is_in_flight self.old.state device ≡ true }
         requires ready { is_ready self.old.plan (bound_in self.old.state.history) device ≡ true }
         requires binds { verdict_of self.old.plan device ≡ Verdict.Binds }
-        ensures { self.new ≡ record { plan = self.old.plan; state = finish_state self.old.plan self.old.state device Report.Settled } }
+        ensures { self.new ≡ finished_core self.old device Report.Settled }
     {
         self.plan.check();
         self.flights -= 1;
@@ -221,7 +221,7 @@ impl Core {
         requires flying { is_in_flight self.old.state device ≡ true }
         requires ready { is_ready self.old.plan (bound_in self.old.state.history) device ≡ true }
         requires fails { verdict_of self.old.plan device ≡ Verdict.Fails }
-        ensures { self.new ≡ record { plan = self.old.plan; state = finish_state self.old.plan self.old.state device Report.Settled } }
+        ensures { self.new ≡ finished_core self.old device Report.Settled }
     {
         self.flights -= 1;
         self.phases[device.index()] = Phase::Failed;
@@ -238,9 +238,9 @@ impl Core {
         requires within { device < length self.old.plan }
         requires flying { is_in_flight self.old.state device ≡ true }
         requires since { settled_at_begin (flight_of self.old.state device) ≡ settled }
-        ensures refused { result_err result ≡ report_refusal self.old.plan self.old.state device (Report.Missing supplier) }
-        ensures reply { IfOk result (λ reply. reply ≡ finish_reply self.new.plan self.new.state device (Report.Missing supplier)) }
-        ensures finished { OnOk result (self.new ≡ record { plan = self.old.plan; state = without_flight self.old.state device }) }
+        ensures refused { result_err result ≡ missing_refusal self.old.plan self.old.state device supplier }
+        ensures reply { IfOk result (IsReply self.new.plan self.new.state device (Report.Missing supplier)) }
+        ensures finished { OnOk result (self.new ≡ landed_core self.old device) }
         ensures err { OnErr result (self.new ≡ self.old) }
     {
         if !is_supplier(&self.plan, device, supplier) {

@@ -159,7 +159,7 @@ impl<'a> DeviceLine<'a> {
     }
 
     ghost use Rattle.bus_plan.specs.PlanFile.{device_of, unknown_of};
-    ghost use Rattle.bus_plan.specs.Private.Reading.{planned_with};
+    ghost use Rattle.bus_plan.specs.Private.Reading.{IsRefused, planned_with};
 
     /// The device of a line with this path and these fields behind it.
     pub fn of(
@@ -213,8 +213,7 @@ impl<'a> DeviceLine<'a> {
     ) -> Result<Planned, PlanError>
         ensures ok { IfOk result (λ d. (d ≡ planned_with index.now self.entry compatibles.items)
             × (unknown_of index.now self.entry ≡ None)) }
-        ensures err { IfErr result (λ e. (e ≡ PlanError.NoMemory)
-            ⊎ (unknown_of index.now self.entry ≡ Some e)) }
+        ensures err { IfErr result (IsRefused (unknown_of index.now self.entry)) }
     {
         let suppliers = places_of(alloc, self.number, &self.suppliers, index)?;
         let Matching {

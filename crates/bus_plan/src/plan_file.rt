@@ -1,7 +1,7 @@
 ghost use Rattle.std.specs.Prelude.{◌≡◌, ◌<◌, ◌⊎◌, ◌++◌, ◌∷◌, [], length, None, Some, IfOk, IfErr, OnOk, OnErr, MatchResult, map};
 ghost use Rattle.std.specs.Vec.{vec_len, vec_capacity};
 ghost use Rattle.bus_plan.specs.PlanFile.{line_paths, strings_paths, refusal_of, repeat_of, strings_at, planned_of, unknown_of};
-ghost use Rattle.bus_plan.specs.Private.Reading.{first_unknown};
+ghost use Rattle.bus_plan.specs.Private.Reading.{IsRefused, first_unknown};
 
 use crate::device_line::DeviceLine;
 use crate::error::PlanError;
@@ -61,7 +61,7 @@ impl<'a> PlanFile<'a> {
     fn add_device(&mut self, alloc: Global, device: DeviceLine<'a>) -> Result<(), PlanError>
         ensures ok { OnOk result ((refusal_of self.old.devices device.entry ≡ None)
             × (self.new.devices ≡ self.old.devices ++ device.entry ∷ []) × (self.new.lists ≡ self.old.lists)) }
-        ensures err { IfErr result (λ e. (e ≡ PlanError.NoMemory) ⊎ (refusal_of self.old.devices device.entry ≡ Some e)) }
+        ensures err { IfErr result (IsRefused (refusal_of self.old.devices device.entry)) }
     {
         admit(alloc, &mut self.devices, &mut self.index, &device)?;
         self.devices.push(device).unwrap();
@@ -71,7 +71,7 @@ impl<'a> PlanFile<'a> {
     fn add_strings(&mut self, alloc: Global, list: StringsLine<'a>) -> Result<(), PlanError>
         ensures ok { OnOk result ((repeat_of self.old.lists list.entry ≡ None)
             × (self.new.devices ≡ self.old.devices) × (self.new.lists ≡ self.old.lists ++ list.entry ∷ [])) }
-        ensures err { IfErr result (λ e. (e ≡ PlanError.NoMemory) ⊎ (repeat_of self.old.lists list.entry ≡ Some e)) }
+        ensures err { IfErr result (IsRefused (repeat_of self.old.lists list.entry)) }
     {
         if self.described.contains(list.path()) {
             return Err(PlanError::DuplicateDevice(list.number()));
@@ -89,8 +89,7 @@ impl<'a> PlanFile<'a> {
             (self.new.devices ≡ self.old.devices ++ option_to_list (device_on (meaning number line.now))) }
         ensures lists { OnOk result
             (self.new.lists ≡ self.old.lists ++ option_to_list (strings_on (meaning number line.now))) }
-        ensures err { IfErr result (λ e. (e ≡ PlanError.NoMemory)
-            ⊎ (fault_of self.old.devices self.old.lists (meaning number line.now) ≡ Some e)) }
+        ensures err { IfErr result (IsRefused (fault_of self.old.devices self.old.lists (meaning number line.now))) }
     {
         match PlanLine::read(alloc, number, line)? {
             None => {}
@@ -132,7 +131,7 @@ impl<'a> PlanFile<'a> {
         requires { IsFaultless self }
         ensures ok { IfOk result (λ plan. (plan ≡ plan_of self.entry.devices self.entry.lists)
             × (late_fault self.entry ≡ None)) }
-        ensures err { IfErr result (λ e. (e ≡ PlanError.NoMemory) ⊎ (late_fault self.entry ≡ Some e)) }
+        ensures err { IfErr result (IsRefused (late_fault self.entry)) }
     {
         if let Some(fault) = late_fault(&self.devices, &self.index, &self.lists) {
             return Err(fault);
@@ -178,8 +177,7 @@ fn admit<'a>(
     ensures ok { OnOk result ((refusal_of devices.old.items device.now ≡ None)
         × (index.new ≡ line_paths devices.old.items ++ device.now.path ∷ [])) }
     ensures room { OnOk result (vec_len devices.new < vec_capacity devices.new) }
-    ensures err { IfErr result (λ e. (e ≡ PlanError.NoMemory)
-        ⊎ (refusal_of devices.old.items device.now ≡ Some e)) }
+    ensures err { IfErr result (IsRefused (refusal_of devices.old.items device.now)) }
     ensures kept { OnErr result (index.new ≡ index.old) }
     ensures devices { devices.new.items ≡ devices.old.items }
 {
@@ -215,7 +213,7 @@ fn plan_one(
     requires { described.now ≡ strings_paths lists.now }
     ensures ok { IfOk result (λ d. (d ≡ planned_of index.now lists.now line.entry)
         × (unknown_of index.now line.entry ≡ None)) }
-    ensures err { IfErr result (λ e. (e ≡ PlanError.NoMemory) ⊎ (unknown_of index.now line.entry ≡ Some e)) }
+    ensures err { IfErr result (IsRefused (unknown_of index.now line.entry)) }
 {
     let strings = strings_for(alloc, line.path().as_bytes(), lists, described)?;
     line.plan(alloc, index, strings)
@@ -230,8 +228,7 @@ fn plan_all<'a>(
 ) -> Result<Vec<Planned>, PlanError>
     requires { described.now ≡ strings_paths lists.now }
     ensures ok { IfOk result (λ devices. devices.items ≡ map (planned_of index.now lists.now) lines.entry.items) }
-    ensures err { IfErr result (λ e. (e ≡ PlanError.NoMemory)
-        ⊎ (first_unknown index.now lines.entry.items ≡ Some e)) }
+    ensures err { IfErr result (IsRefused (first_unknown index.now lines.entry.items)) }
 {
     let mut devices = Vec::new(alloc);
     for line in lines {

@@ -106,18 +106,8 @@ impl Planned {
         self.compatibles.as_slice()
     }
 
-    ghost use Rattle.bus_plan.specs.LateDriver.{driven_by, has_driver};
+    ghost use Rattle.bus_plan.specs.LateDriver.{driven_by};
     ghost use Rattle.bus_plan.specs.Private.Waiting.{is_unmatched};
-
-    /// Whether it has a driver of this name.
-    pub fn has_driver(&self, name: &Name) -> bool
-        ensures { result ≡ has_driver name.now self.now }
-    {
-        match self.driver() {
-            None => false,
-            Some(driver) => name.as_bytes() == driver.as_bytes(),
-        }
-    }
 
     /// Whether it is available and has no driver.
     pub(crate) fn is_unmatched(&self) -> bool

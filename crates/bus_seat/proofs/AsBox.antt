@@ -9,8 +9,8 @@ use Rattle.std_alloc.proofs.BoxSteps.Form.{Bx}
 use Rattle.std_heap.specs.contracts.Global as Heap
 use Rattle.std_heap.specs.contracts.GlobalAllocator.TheImpl.{ghosts, dict}
 use Rattle.std_heap.proofs.Global.TheLaws as heap
-use Rattle.bus_seat.specs.contracts.place.Slot as slot
-use Rattle.bus_seat.proofs.place.Slot.TheLaws as laws
+use Rattle.bus_seat.specs.contracts.placed_seat.Slot as slot
+use Rattle.bus_seat.proofs.placed_seat.Slot.TheLaws as laws
 use Rattle.bus_seat.specs.contracts.parts.Parts as Parts
 use Rattle.bus_seat.specs.contracts.held.Held as Held
 

@@ -6,14 +6,14 @@ use Rattle.bus_core.specs.declared.event.Reply.{Reply}
 use Rattle.bus_core.specs.declared.refusal.Refusal.{Refusal}
 use Rattle.bus_core.specs.declared.refusal.Refusal.TheVariants.{NoMemory, NotIdle}
 use Rattle.bus_board.specs.Ends.{EndsAs}
-use Rattle.bus_board.specs.Learns.{Paid}
+use Rattle.bus_board.specs.Learns.{GivenBack, NotGivenBack, Paid}
 use Rattle.bus_board.specs.Rule.{OpensAs}
 use Rattle.bus_board.specs.Views.{opener, newcomer}
 use Rattle.bus_board.specs.Words.{number_of}
 use Rattle.bus_board.specs.declared.view.View.{View}
 use Rattle.bus_board.specs.declared.words.Word.{Word}
 use Rattle.bus_seat.specs.Shown.{Placed}
-use Rattle.bus_seat.specs.Steps.{HasTaken, HasLooked, HasSettled, HasDeferred, HasGivenBack, NotGivenBack}
+use Rattle.bus_seat.specs.Steps.{HasTaken, HasLooked, HasSettled, HasDeferred}
 use Rattle.bus_seat.specs.Told.{done, refused, no_seat, is_occupied, is_shared, is_short, take_told, look_told, settle_told, step_told}
 use Rattle.bus_seat.specs.declared.told.Told.{Told}
 
@@ -41,6 +41,10 @@ WakesOwed v w told = Paid v w [] × (told ≡ done 0 0)
 abbrev pub IsOpened : List PlannedDevice → Option Placed → Type 0
 IsOpened plan after = (p : Placed) × (after ≡ Some p) × (p.board.plan ≡ plan) × (p.seat.view ≡ opener (first_core plan)) × OpensAs (first_core plan) p.seat.view
 
+-- q is a further seat of the board of p
+abbrev pub IsFurther : Placed → Placed → Type 0
+IsFurther p q = (q.board ≡ p.board) × (q.seat.view ≡ newcomer p.seat.view)
+
 -- a further seat of the board of p, or none for want of memory
 abbrev pub IsSeated : Placed → Option Placed → Told → Type 0
 IsSeated p after told =
@@ -62,7 +66,7 @@ AreOfOne (Some p) (Some q) = q.board ≡ p.board
 -- the seat q was given back to p, or stays
 abbrev pub IsGiven : Placed → Placed → Option Placed → Option Placed → Told → Type 0
 IsGiven p q into after told =
-    ((w : Placed) × (into ≡ Some w) × (w.board ≡ p.board) × HasGivenBack p.seat.view q.seat.view w.seat.view × (after ≡ None) × (told ≡ done 0 0))
+    ((w : Placed) × (into ≡ Some w) × (w.board ≡ p.board) × GivenBack p.seat.view q.seat.view w.seat.view × (after ≡ None) × (told ≡ done 0 0))
     ⊎ ((into ≡ Some p) × (after ≡ Some q) × NotGivenBack q.seat.view NotIdle × (told ≡ refused NotIdle))
 
 abbrev pub GivesBack : Option Placed → Option Placed → Option Placed → Option Placed → Told → Type 0

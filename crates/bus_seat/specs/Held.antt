@@ -6,7 +6,7 @@ use denote.RawPtr.{Ptr}
 use Rattle.std.specs.Global.{Global}
 use Rattle.std.specs.Box.Ownership.{box_owns}
 use Rattle.std_heap.specs.contracts.GlobalAllocator.TheImpl.{ghosts}
-use Rattle.bus_seat.specs.contracts.place.Slot.{the_row}
+use Rattle.bus_seat.specs.contracts.placed_seat.Slot.{the_row}
 use Rattle.bus_seat.specs.Shown.{Placed}
 
 abbrev pub held_owns : Global → Ptr → Option the_row.Denot → Fml
@@ -19,7 +19,7 @@ slot_coded = the_row.coded
 -- the seat there, if there is one
 abbrev pub seat_in : Option the_row.Denot → Option Placed
 seat_in None = None
-seat_in (Some slot) = slot.place
+seat_in (Some slot) = slot.placed
 
 -- the word beside the pointer tells whether a seat is there
 abbrev pub IsTold : ℕ → Option the_row.Denot → Type 0

@@ -1,9 +1,8 @@
 -- What the board's calls do to a seat's view, by what they answer: the board's own clauses.
-use Rattle.std.specs.Prelude.{◌≡◌, ◌≢◌, ◌⊎◌, ℕ, Bool, [], Option, None, Result, IfOk, IfErr, IfSome, IfNone, OnOk}
+use Rattle.std.specs.Prelude.{◌≡◌, ℕ, Bool, Option, None, Result, IfOk, IfErr, IfSome, IfNone, OnOk}
 use Rattle.bus_core.specs.declared.event.Reply.{Reply}
 use Rattle.bus_core.specs.declared.refusal.Refusal.{Refusal}
-use Rattle.bus_core.specs.declared.refusal.Refusal.TheVariants.{NotIdle}
-use Rattle.bus_board.specs.Learns.{Claimed, NotTaken, Passed, LookedAt, NotLooked, SettledBy, NotSettled, DeferredOn, NotDeferred, JoinedBy}
+use Rattle.bus_board.specs.Learns.{Claimed, NotTaken, Passed, LookedAt, NotLooked, SettledBy, NotSettled, DeferredOn, NotDeferred}
 use Rattle.bus_board.specs.declared.view.View.{View}
 
 abbrev pub HasTaken : View → View → Result (Option ℕ) Refusal → Type 0
@@ -23,9 +22,3 @@ HasSettled v w r = IfOk r (λ reply. SettledBy v w reply) × IfErr r (λ refusal
 
 abbrev pub HasDeferred : ℕ → View → View → Result (Unit {0}) Refusal → Type 0
 HasDeferred supplier v w r = OnOk r (DeferredOn v w supplier) × IfErr r (λ refusal. (w ≡ v) × NotDeferred v supplier refusal)
-
-abbrev pub HasGivenBack : View → View → View → Type 0
-HasGivenBack v given w = (given.flight ≡ None) × (given.owed ≡ []) × JoinedBy v given w
-
-abbrev pub NotGivenBack : View → Refusal → Type 0
-NotGivenBack given refusal = (refusal ≡ NotIdle) × ((given.flight ≢ None) ⊎ (given.owed ≢ []))

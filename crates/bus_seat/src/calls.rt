@@ -2,12 +2,11 @@
 
 ghost use Rattle.std.specs.Prelude.{◌≡◌, IfOk, IfErr};
 ghost use Rattle.bus_core.specs.declared.refusal.Refusal.TheVariants.{NoMemory};
-ghost use Rattle.bus_board.specs.Views.{newcomer};
-ghost use Rattle.bus_seat.specs.Calls.{AreOfOne, Defers, GivesBack, Looks, OnSeat, Seats, Settles, Takes, WakesOwed};
+ghost use Rattle.bus_seat.specs.Calls.{AreOfOne, Defers, GivesBack, IsFurther, Looks, OnSeat, Seats, Settles, Takes, WakesOwed};
 ghost use Rattle.bus_seat.specs.Handles.{seated};
 
 use crate::handle::{Lifted, SeatHandle};
-use crate::place::{Place, Slot};
+use crate::placed_seat::{PlacedSeat, Slot};
 use crate::told::{
     Told, done, no_seat, occupied, refused, told_look, told_settle, told_step, told_take,
 };
@@ -27,7 +26,7 @@ impl SeatHandle {
         let Some(mut lifted) = self.lift(alloc) else {
             return no_seat();
         };
-        let told = match further(alloc, &mut lifted.place) {
+        let told = match further(alloc, &mut lifted.placed) {
             Ok(new) => {
                 handle.put(new);
                 done(0, 0)
@@ -45,7 +44,7 @@ impl SeatHandle {
         let Some(mut lifted) = self.lift(alloc) else {
             return no_seat();
         };
-        let answer = lifted.place.take(alloc);
+        let answer = lifted.placed.take(alloc);
         self.put(lifted);
         told_take(answer)
     }
@@ -57,7 +56,7 @@ impl SeatHandle {
         let Some(mut lifted) = self.lift(alloc) else {
             return no_seat();
         };
-        let answer = lifted.place.look(supplier);
+        let answer = lifted.placed.look(supplier);
         self.put(lifted);
         told_look(answer)
     }
@@ -69,7 +68,7 @@ impl SeatHandle {
         let Some(mut lifted) = self.lift(alloc) else {
             return no_seat();
         };
-        let answer = lifted.place.settle();
+        let answer = lifted.placed.settle();
         self.put(lifted);
         told_settle(answer)
     }
@@ -81,7 +80,7 @@ impl SeatHandle {
         let Some(mut lifted) = self.lift(alloc) else {
             return no_seat();
         };
-        let answer = lifted.place.defer(supplier);
+        let answer = lifted.placed.defer(supplier);
         self.put(lifted);
         told_step(answer)
     }
@@ -93,7 +92,7 @@ impl SeatHandle {
         let Some(mut lifted) = self.lift(alloc) else {
             return no_seat();
         };
-        lifted.place.wake_owed();
+        lifted.placed.wake_owed();
         self.put(lifted);
         done(0, 0)
     }
@@ -110,13 +109,13 @@ impl SeatHandle {
             self.put(first);
             return no_seat();
         };
-        let Lifted { block, place } = lifted;
-        let answer = first.place.give_back(place);
+        let Lifted { block, placed } = lifted;
+        let answer = first.placed.give_back(placed);
         self.put(first);
         match answer {
             Ok(()) => done(0, 0),
-            Err((place, refusal)) => {
-                handle.put(Lifted { block, place });
+            Err((placed, refusal)) => {
+                handle.put(Lifted { block, placed });
                 refused(refusal)
             }
         }
@@ -124,12 +123,12 @@ impl SeatHandle {
 }
 
 // A further seat, with the room that it wants.
-fn further(alloc: Global, place: &mut Place) -> Result<Lifted, Refusal>
-    ensures same { place.new ≡ place.old }
-    ensures new { IfOk result (λ new. (new.place.board ≡ place.old.board) × (new.place.seat.view ≡ newcomer place.old.seat.view)) }
+fn further(alloc: Global, placed: &mut PlacedSeat) -> Result<Lifted, Refusal>
+    ensures same { placed.new ≡ placed.old }
+    ensures new { IfOk result (λ new. IsFurther placed.old new.placed) }
     ensures err { IfErr result (λ refusal. refusal ≡ NoMemory) }
 {
-    let block = Box::new(alloc, Slot { place: None })?;
-    let place = place.further(alloc)?;
-    Ok(Lifted { block, place })
+    let block = Box::new(alloc, Slot { placed: None })?;
+    let placed = placed.further(alloc)?;
+    Ok(Lifted { block, placed })
 }

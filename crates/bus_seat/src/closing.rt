@@ -7,7 +7,7 @@ ghost use Rattle.bus_seat.specs.Calls.{Closes, with_words};
 ghost use Rattle.bus_seat.specs.Handles.{seated};
 
 use crate::handle::{Lifted, SeatHandle};
-use crate::place::Place;
+use crate::placed_seat::PlacedSeat;
 use crate::told::{Told, done, no_seat, shared, short};
 use bus_board::{End, Word};
 use std::alloc::Global;
@@ -21,19 +21,19 @@ impl SeatHandle {
         let Some(lifted) = self.lift(alloc) else {
             return no_seat();
         };
-        let Lifted { block, place } = lifted;
-        let devices = place.devices();
+        let Lifted { block, placed } = lifted;
+        let devices = placed.devices();
         if out.len() < devices {
-            self.put(Lifted { block, place });
+            self.put(Lifted { block, placed });
             return short(devices);
         }
-        match end(place) {
+        match end(placed) {
             Ok(End { words, quiet }) => {
                 write_words(&words, out);
                 done(u32::from(quiet), devices)
             }
-            Err(place) => {
-                self.put(Lifted { block, place });
+            Err(placed) => {
+                self.put(Lifted { block, placed });
                 shared()
             }
         }
@@ -41,18 +41,18 @@ impl SeatHandle {
 }
 
 // The end of the board, where this is its only seat.
-fn end(place: Place) -> Result<End, Place>
-    ensures ok { IfOk result (λ end. EndsAs place.board.plan place.seat.view end.words.items end.quiet) }
-    ensures err { IfErr result (λ same. same ≡ place) }
+fn end(placed: PlacedSeat) -> Result<End, PlacedSeat>
+    ensures ok { IfOk result (λ end. EndsAs placed.board.plan placed.seat.view end.words.items end.quiet) }
+    ensures err { IfErr result (λ same. same ≡ placed) }
 {
-    let Place {
+    let PlacedSeat {
         board,
         seat,
         devices,
-    } = place;
+    } = placed;
     match Arc::try_unwrap(board) {
         Ok(board) => Ok(board.close(seat)),
-        Err(board) => Err(Place {
+        Err(board) => Err(PlacedSeat {
             board,
             seat,
             devices,

@@ -4,7 +4,7 @@ ghost use Rattle.std.specs.Prelude.{◌≡◌, Some, None, MatchOption};
 ghost use Rattle.bus_seat.specs.Held.{IsTold, seat_in};
 
 use crate::held::Held;
-use crate::place::{Place, Slot};
+use crate::placed_seat::{PlacedSeat, Slot};
 use std::alloc::Global;
 
 /// Nothing is behind the pointer.
@@ -22,10 +22,10 @@ pub struct SeatHandle {
     ghost told: { IsTold state held.value },
 }
 
-/// A place that was taken out of a handle, with the room that it had.
+/// A seat that was taken out of a handle, with the room that it had.
 pub(crate) struct Lifted {
     pub block: Box<Slot, Global>,
-    pub place: Place,
+    pub placed: PlacedSeat,
 }
 
 impl SeatHandle {

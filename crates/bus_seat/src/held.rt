@@ -3,10 +3,10 @@ ghost use Rattle.std.specs.Prelude.{◌≡◌, IsSome, Some, None};
 ghost use Rattle.std.specs.declared.option.Option.{Option};
 ghost use Rattle.std.specs.Coded.{coded_option};
 ghost use Rattle.bus_seat.specs.Held.{held_owns, slot_coded};
-ghost use Rattle.bus_seat.specs.declared.place.Slot.{Slot};
+ghost use Rattle.bus_seat.specs.declared.placed_seat.Slot.{Slot};
 
 use crate::parts::Parts;
-use crate::place::Slot;
+use crate::placed_seat::Slot;
 use std::alloc::Global;
 use std::marker::Model;
 use std::ptr;

@@ -9,10 +9,10 @@ mod held;
 mod lifting;
 mod opening;
 mod parts;
-mod place;
+mod placed_seat;
 mod told;
 
 pub use handle::SeatHandle;
 pub use held::Held;
-pub use place::{Place, Slot};
+pub use placed_seat::{PlacedSeat, Slot};
 pub use told::Told;

@@ -30,14 +30,14 @@ impl SeatHandle {
     /// Takes the seat out, and leaves the handle empty.
     pub(crate) fn lift(&mut self, alloc: Global) -> Option<Lifted>
         ensures empty { seated self.new ≡ None }
-        ensures lifted { MatchOption result (seated self.old ≡ None) (λ lifted. seated self.old ≡ Some lifted.place) }
+        ensures lifted { MatchOption result (seated self.old ≡ None) (λ lifted. seated self.old ≡ Some lifted.placed) }
     {
         let handle = mem::replace(self, SeatHandle::empty(alloc));
         let Some(mut block) = handle.into_block() else {
             return None;
         };
-        match block.place.take() {
-            Some(place) => Some(Lifted { block, place }),
+        match block.placed.take() {
+            Some(placed) => Some(Lifted { block, placed }),
             None => None,
         }
     }
@@ -45,10 +45,10 @@ impl SeatHandle {
     /// Puts a seat into the handle, which is empty.
     pub(crate) fn put(&mut self, lifted: Lifted)
         requires { seated self.old ≡ None }
-        ensures { seated self.new ≡ Some lifted.place }
+        ensures { seated self.new ≡ Some lifted.placed }
     {
-        let Lifted { mut block, place } = lifted;
-        block.place = Some(place);
+        let Lifted { mut block, placed } = lifted;
+        block.placed = Some(placed);
         *self = SeatHandle {
             state: SEATED,
             held: Held::of(block),

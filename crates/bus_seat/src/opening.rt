@@ -9,7 +9,7 @@ ghost use Rattle.bus_seat.specs.Calls.{IsOpened};
 ghost use Rattle.bus_seat.specs.Handles.{seated};
 
 use crate::handle::{Lifted, SeatHandle};
-use crate::place::{Place, Slot};
+use crate::placed_seat::{PlacedSeat, Slot};
 use bus_board::Board;
 use bus_core::Refusal;
 use bus_plan::Plan;
@@ -23,15 +23,15 @@ impl SeatHandle {
         ensures opened { OnOk result (IsOpened plan (seated self.new)) }
         ensures err { IfErr result (λ refusal. (refusal ≡ NoMemory) × (seated self.new ≡ None)) }
     {
-        let block = Box::new(alloc, Slot { place: None })?;
-        let place = first_place(alloc, plan)?;
-        self.put(Lifted { block, place });
+        let block = Box::new(alloc, Slot { placed: None })?;
+        let placed = first_seat(alloc, plan)?;
+        self.put(Lifted { block, placed });
         Ok(())
     }
 }
 
 // The first seat of a board of the plan.
-fn first_place(alloc: Global, plan: Plan) -> Result<Place, Refusal>
+fn first_seat(alloc: Global, plan: Plan) -> Result<PlacedSeat, Refusal>
     ensures plan { IfOk result (λ p. p.board.plan ≡ plan) }
     ensures view { IfOk result (λ p. p.seat.view ≡ opener (first_core plan)) }
     ensures words { IfOk result (λ p. OpensAs (first_core plan) p.seat.view) }
@@ -40,7 +40,7 @@ fn first_place(alloc: Global, plan: Plan) -> Result<Place, Refusal>
     let devices = plan.len();
     let (board, seat) = Board::open(alloc, plan)?;
     let board = Arc::new(alloc, board)?;
-    Ok(Place {
+    Ok(PlacedSeat {
         board,
         seat,
         devices,

@@ -1,7 +1,8 @@
 -- How the lines of a plan file are read one by one.
-use Rattle.std.specs.Prelude.{◌≡◌, ℕ, nat_lt, if◌then◌else◌, List, [], ◌∷◌, map, Option, Some, None, unwrap_or}
+use Rattle.std.specs.Prelude.{◌≡◌, ◌⊎◌, ℕ, nat_lt, if◌then◌else◌, List, [], ◌∷◌, map, Option, Some, None, unwrap_or}
 use Rattle.std.specs.Option.{option_or}
 use Rattle.bus_plan.specs.declared.error.PlanError.{PlanError}
+use Rattle.bus_plan.specs.declared.error.PlanError.TheVariants.{NoMemory}
 use Rattle.bus_plan.specs.Plan.{PlannedDevice}
 use Rattle.bus_plan.specs.PlanError.{line_of}
 use Rattle.bus_plan.specs.PlanLines.{DeviceLine, StringsLine}
@@ -15,6 +16,10 @@ pub record Listed : Type 0 where
 
 abbrev pub listed_before : List (List ℕ) → ℕ → Listed
 listed_before ls n = record { devices = devices_before ls n; lists = strings_before ls n }
+
+-- why a line or a file isn't taken: by this test, or because memory was refused
+abbrev pub IsRefused : Option PlanError → PlanError → Type 0
+IsRefused right e = (e ≡ NoMemory) ⊎ (right ≡ Some e)
 
 -- they are those of some lines without a fault
 abbrev pub IsFaultless : Listed → Type 0

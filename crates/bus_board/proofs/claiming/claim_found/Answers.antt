@@ -1,7 +1,7 @@
-use Rattle.std.proofs.Common.{length, arith, eqb-true, false, true, eq-eqb, true≢false, sym, ◌∙◌, ap}
+use Rattle.std.proofs.Common.{length, arith, eqb-true, eq-eqb, true≢false, sym, ◌∙◌, ap}
 use Rattle.bus_plan.specs.Plan.{PlannedDevice}
 use Rattle.bus_board.proofs.Moves.{from_fresh, from_woken}
-use Rattle.bus_board.proofs.Walks.{tried_start, walk_claims, walk_lost, walk_start, walk_tried, walk_won}
+use Rattle.bus_board.proofs.Walks.{walk_claims, walk_lost, walk_start, walk_tried, walk_won}
 use Rattle.bus_board.proofs.claiming.claim_found.Goals as goal
 
 pub compare_exchange-requires : goal.compare_exchange-requires

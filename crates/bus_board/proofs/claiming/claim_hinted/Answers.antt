@@ -1,4 +1,4 @@
-use Rattle.std.proofs.Common.{◌<◌, refl, sym, ap, ◌∙◌, subst, ℕ}
+use Rattle.std.proofs.Common.{◌<◌, refl, sym, ◌∙◌, subst, ℕ}
 use Rattle.bus_board.proofs.Walks.{tried_claimed, tried_more, tried_ready, tried_start}
 use Rattle.bus_board.specs.Learns.{Claimed}
 use Rattle.bus_board.proofs.claiming.claim_hinted.Goals as goal

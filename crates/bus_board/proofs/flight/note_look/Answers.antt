@@ -1,4 +1,3 @@
-use Rattle.std.proofs.lemmas.Option.{slice_get_within}
 use Rattle.bus_board.proofs.LookPlaces.{noted_set}
 use Rattle.bus_board.proofs.flight.note_look.Goals as goal
 

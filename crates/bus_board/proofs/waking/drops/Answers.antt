@@ -1,4 +1,4 @@
-use Rattle.std.proofs.Common.{◌≡◌, ◌<◌, ◌≤◌, ℕ, List, Some, length, get_or, refl, sym, ap, ◌∙◌, subst, arith}
+use Rattle.std.proofs.Common.{◌≡◌, ◌<◌, ℕ, List, Some, length, get_or, refl, sym, ap, ◌∙◌, subst, arith}
 use Rattle.std.specs.Prelude.{slice_get}
 use Rattle.std.proofs.lemmas.Option.{slice_get-get_or, get_or_from_slice_get}
 use Rattle.bus_plan.specs.Plan.{PlannedDevice, suppliers_of}
@@ -6,7 +6,6 @@ use Rattle.bus_board.proofs.Allowed.{check_allowed}
 use Rattle.bus_board.proofs.Histories.{supplier_within}
 use Rattle.bus_board.proofs.Paying.{checked_more, checked_owing, checked_start, debt_dropped}
 use Rattle.bus_board.specs.Lists.{Has}
-use Rattle.bus_board.specs.declared.view.View.{View}
 use Rattle.bus_board.proofs.waking.drops.Goals as goal
 
 -- the supplier in a place

@@ -1,4 +1,4 @@
-use Rattle.std.proofs.Common.{◌≡◌, ◌<◌, ◌≤◌, ℕ, Some, get_or}
+use Rattle.std.proofs.Common.{◌≡◌}
 use Rattle.bus_plan.specs.Plan.{suppliers_of}
 use Rattle.bus_board.specs.Private.Checks.{HasChecked}
 use Rattle.bus_board.proofs.waking.drops.Given as goal

@@ -1,11 +1,12 @@
 use Rattle.std.proofs.Common.{◌≡◌, ◌∙◌, List, get_or, length, ap, sym, subst, arith}
-use Rattle.bus_plan.specs.LateDriver.{with_driver}
+use Rattle.bus_plan.specs.LateDriver.{with_driver, gaining}
 use Rattle.bus_plan.specs.Plan.{PlannedDevice}
 use Rattle.bus_core.specs.RefinementPhase.{phase_at}
 use Rattle.bus_core.specs.RefinementCounts.{due_with}
 use Rattle.bus_core.specs.RefinementSound.{IsSound}
+use Rattle.bus_core.specs.RefinementView.{IsKept}
 use Rattle.bus_core.proofs.LateCounts.{late-sound, late-counted}
-use Rattle.bus_core.proofs.LateLemmas.{late-long}
+use Rattle.bus_core.proofs.LateLemmas.{late-long, late-none}
 use Rattle.bus_core.proofs.state.Core.add_driver.Goals as goal
 
 pub invariant_of-self-in-Ok : goal.invariant_of-self-in-Ok
@@ -25,3 +26,12 @@ invariant_of-self-in-Ok c =
           c.self.invariant.counted;
       room = omega (arith, c.self.invariant.room, ap (λ p. length p) is, late-long core.plan name strings);
     }
+
+-- nobody gained, so the plan and what is kept of it stay
+pub invariant_of-self-in-Ok-eq0 : goal.invariant_of-self-in-Ok-eq0
+invariant_of-self-in-Ok-eq0 c =
+    let core = c.self.inside
+    in let none : gaining core.plan c.args.compatibles.now ≡ 0 = sym c.in-Ok-eq0.ensures.count ∙ c.in-Ok-eq0.field-0-test
+    in let is : c.register.new.self ≡ core.plan = c.in-Ok-eq0.ensures.ok ∙ late-none core.plan c.args.name.now c.args.compatibles.now none
+    in let Kept : List PlannedDevice → Type 0 = λ p. IsKept (record { plan = p; phases = core.phases; history = core.history; begins = core.begins; missing = core.missing; due = core.due; flights = core.flights; registered = c.push.new.self })
+    in subst Kept (sym is) (record { sound = c.self.invariant.sound; counted = c.self.invariant.counted; room = c.self.invariant.room })

@@ -12,8 +12,8 @@ use Rattle.std.proofs.Crossing as heap
 use Rattle.std_alloc.proofs.SendSync.{quiet, lies}
 use Rattle.std_heap.proofs.Global.TheSendSync as handle
 use Rattle.bus_seat.specs.Held.{held_owns}
-use Rattle.bus_seat.specs.contracts.place.Slot as Slot
-use Rattle.bus_seat.proofs.place.Slot.TheSendSync.{the_send as slot}
+use Rattle.bus_seat.specs.contracts.placed_seat.Slot as Slot
+use Rattle.bus_seat.proofs.placed_seat.Slot.TheSendSync.{the_send as slot}
 use Rattle.bus_seat.specs.contracts.held.Held.{the_row, the_type}
 
 keyless : (alloc : Global) (at : Ptr) (value : Option Slot.the_row.Denot) → Keyless (held_owns alloc at value)

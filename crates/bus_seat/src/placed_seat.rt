@@ -2,9 +2,9 @@
 
 ghost use Rattle.std.specs.Prelude.{◌≡◌, [], IfOk, IfErr, length, OnOk};
 ghost use Rattle.bus_core.specs.declared.refusal.Refusal.TheVariants.{NoMemory};
-ghost use Rattle.bus_board.specs.Learns.{Paid};
-ghost use Rattle.bus_board.specs.Views.{newcomer};
-ghost use Rattle.bus_seat.specs.Steps.{HasDeferred, HasGivenBack, HasLooked, HasSettled, HasTaken, NotGivenBack};
+ghost use Rattle.bus_board.specs.Learns.{GivenBack, NotGivenBack, Paid};
+ghost use Rattle.bus_seat.specs.Calls.{IsFurther};
+ghost use Rattle.bus_seat.specs.Steps.{HasDeferred, HasLooked, HasSettled, HasTaken};
 
 use bus_board::{Board, Seat};
 use bus_core::{Refusal, Reply};
@@ -15,13 +15,13 @@ use std::sync::Arc;
 
 /// A seat, its board, and how many devices that has.
 #[derive(Drop)]
-pub struct Place {
+pub struct PlacedSeat {
     pub(crate) board: Arc<Board, Global>,
     pub(crate) seat: Seat,
     pub(crate) devices: usize,
 }
 
-impl Model for Place {
+impl Model for PlacedSeat {
     ghost use Rattle.std.specs.Prelude.{◌≡◌, length};
     ghost use Rattle.bus_board.specs.Shown.{IsOf};
     ghost use Rattle.bus_seat.specs.Shown.{Placed};
@@ -33,13 +33,13 @@ impl Model for Place {
     ghost invariant = { λ p. IsOf p.board.value p.seat × (p.devices ≡ length p.board.value.plan) };
 }
 
-/// Room for a place on the heap, which stays while a call has the place out.
+/// Room for a placed seat on the heap, which stays while a call has the seat out.
 #[derive(Drop)]
 pub struct Slot {
-    pub place: Option<Place>,
+    pub placed: Option<PlacedSeat>,
 }
 
-impl Place {
+impl PlacedSeat {
     /// How many devices the board has.
     pub(crate) fn devices(&self) -> usize
         ensures { result ≡ length self.now.board.plan }
@@ -48,15 +48,15 @@ impl Place {
     }
 
     /// A further seat of the board.
-    pub(crate) fn further(&mut self, alloc: Global) -> Result<Place, Refusal>
-        ensures new { IfOk result (λ p. (p.board ≡ self.old.board) × (p.seat.view ≡ newcomer self.old.seat.view)) }
+    pub(crate) fn further(&mut self, alloc: Global) -> Result<PlacedSeat, Refusal>
+        ensures new { IfOk result (IsFurther self.old) }
         ensures same { self.new ≡ self.old }
         ensures err { IfErr result (λ refusal. refusal ≡ NoMemory) }
     {
         let board = Arc::try_clone(&self.board)?;
         let seat = self.board.seat(alloc, &mut self.seat)?;
         let devices = self.devices;
-        Ok(Place {
+        Ok(PlacedSeat {
             board,
             seat,
             devices,
@@ -99,27 +99,25 @@ impl Place {
     }
 
     /// Gives the other seat back to this one. It comes back from a refusal.
-    pub(crate) fn give_back(&mut self, other: Place) -> Result<(), (Place, Refusal)>
+    pub(crate) fn give_back(&mut self, other: PlacedSeat) -> Result<(), (PlacedSeat, Refusal)>
         requires { other.board ≡ self.old.board }
         ensures same { self.new.board ≡ self.old.board }
-        ensures given { OnOk result (HasGivenBack self.old.seat.view other.seat.view self.new.seat.view) }
+        ensures given { OnOk result (GivenBack self.old.seat.view other.seat.view self.new.seat.view) }
         ensures err { IfErr result (λ r. (r.0 ≡ other) × (self.new ≡ self.old) × NotGivenBack other.seat.view r.1) }
     {
-        let Place {
+        let PlacedSeat {
             board,
             seat,
             devices,
         } = other;
-        match self.board.give_back(&mut self.seat, seat) {
-            Ok(()) => Ok(()),
-            Err((seat, refusal)) => Err((
-                Place {
-                    board,
-                    seat,
-                    devices,
-                },
-                refusal,
-            )),
-        }
+        let Err((seat, refusal)) = self.board.give_back(&mut self.seat, seat) else {
+            return Ok(());
+        };
+        let same = PlacedSeat {
+            board,
+            seat,
+            devices,
+        };
+        Err((same, refusal))
     }
 }
