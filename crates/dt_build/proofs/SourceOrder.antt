@@ -15,7 +15,7 @@ use Rattle.dt_live.specs.declared.live_tree.NodeRow.{NodeRow}
 use Rattle.dt_live.specs.Rows.{node_path, path_of}
 use Rattle.dt_live.specs.declared.preorder.properties.NodeProperty.{NodeProperty}
 use Rattle.dt_live.proofs.Each.{Each, each-all, each-of}
-use Rattle.dt_live.proofs.Runs.{Named, all-named}
+use Rattle.dt_live.proofs.Runs.{HasName, all-named}
 use Rattle.dt_making.specs.Made.{IsInPreorder, IsRest, entries, values_in}
 use Rattle.dt_edit.specs.Said.{Parts, pieces, tree_of}
 use Rattle.dt_resolve.specs.declared.prepared.Prepared.{Prepared}
@@ -36,7 +36,7 @@ use Rattle.dt_build.proofs.ValueFounds.{each-split, value-is, value-found}
 abbrev PropertiesNamed : NodeProperty Parts → Type 0
 PropertiesNamed x = is_name x.name.now ≡ true
 
-node_property-named : (nodes : List NodeRow) (xs : List (NodeProperty Parts)) → Each Named (map (read_property nodes) xs) → Each PropertiesNamed xs
+node_property-named : (nodes : List NodeRow) (xs : List (NodeProperty Parts)) → Each HasName (map (read_property nodes) xs) → Each PropertiesNamed xs
 node_property-named nodes [] h = tt
 node_property-named nodes (x ∷ xs) h = (h.0, node_property-named nodes xs h.1)
 
@@ -115,8 +115,8 @@ module _ (p : Prepared) (ready : IsReady p) where
       named_nodes = λ k n some below here. lawful p ready k some below n here;
       named = each-all (λ x. is_name x.name.now ≡ true) p.in_preorder.properties.items
           (node_property-named p.live.nodes.items p.in_preorder.properties.items
-          (subst (λ (es : List (Definition (List Piece))). Each Named es) (sym (read-order p.live p.in_preorder.properties.items ready.properties))
-          (all-named (tree_of p.live).properties (preorder (tree_of p.live).nodes) (each-of Named (tree_of p.live).properties ready.named.properties))));
+          (subst (λ (es : List (Definition (List Piece))). Each HasName es) (sym (read-order p.live p.in_preorder.properties.items ready.properties))
+          (all-named (tree_of p.live).properties (preorder (tree_of p.live).nodes) (each-of HasName (tree_of p.live).properties ready.named.properties))));
       apart = ready.apart;
       own = own-is p ready n is;
     }

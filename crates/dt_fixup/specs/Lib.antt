@@ -2,3 +2,4 @@ pub mod OverlayError
 pub mod OverlayFault
 pub mod PatchedOverlay
 pub mod Private
+pub mod Texts

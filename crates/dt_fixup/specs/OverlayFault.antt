@@ -1,5 +1,5 @@
 -- What each error says of the meaning; want of memory says nothing of it.
-use Rattle.std.specs.Prelude.{◌≡◌, Result, Err}
+use Rattle.std.specs.Prelude.{◌≡◌, Result, Ok, Err, MatchResult}
 use Rattle.dt_overlay_meaning.specs.Steps.{Fault}
 use Rattle.dt_overlay_meaning.specs.Steps as meaning
 use Rattle.dt_fixup.specs.declared.error.OverlayError.{OverlayError}
@@ -14,3 +14,11 @@ IsFault BadFixup r = r ≡ Err meaning.BadFixup
 IsFault PhandleOverflow r = r ≡ Err meaning.PhandleOverflow
 IsFault PhandleClash r = r ≡ Err meaning.PhandleClash
 IsFault TooDeep r = r ≡ Err meaning.TooDeep
+
+-- a call gives what the meaning gives, or has its fault
+abbrev pub Gives : {A B : Type 0} → Result A Fault → (B → A) → Result B OverlayError → Type 0
+Gives meant value result = MatchResult result (λ b. meant ≡ Ok (value b)) (λ e. IsFault e meant)
+
+-- a call leaves behind what the meaning gives, or has its fault
+abbrev pub Leaves : {A B : Type 0} → Result A Fault → A → Result B OverlayError → Type 0
+Leaves meant value result = MatchResult result (λ _. meant ≡ Ok value) (λ e. IsFault e meant)

@@ -1,12 +1,15 @@
 -- An overlay's rows with the values that were changed (dt-object-internal, section 2).
-use Rattle.std.specs.Prelude.{◌≡◌, ℕ, ◌+◌, List, [], ◌∷◌, length, Option, Some, None, slice_index_or}
+use Rattle.std.specs.Prelude.{◌≡◌, ℕ, ◌+◌, List, [], ◌∷◌, length, Option, Some, None, Result, slice_index_or}
 use Rattle.dt_meaning.specs.Paths.{Path}
 use Rattle.dt_meaning.specs.Edits.{Definition, definition}
 use Rattle.dt_meaning.specs.Resolved.{Resolved}
+use Rattle.dt_live.specs.declared.live_tree.LiveTree.{LiveTree}
 use Rattle.dt_live.specs.declared.live_tree.PropertyRow.{PropertyRow}
 use Rattle.dt_live.specs.Rows.{path_of, property_at}
 use Rattle.dt_live.specs.ByRow.{lent}
 use Rattle.dt_live.specs.Flattened.{Lent, IsWhole, lists}
+use Rattle.dt_overlay_meaning.specs.Steps.{Fault}
+use Rattle.dt_overlay_meaning.specs.Shifted.{shifted_overlay}
 use Rattle.dt_fixup.specs.declared.patched_overlay.Change.{Change}
 use Rattle.dt_fixup.specs.declared.patched_overlay.PatchedOverlay.{PatchedOverlay}
 
@@ -34,6 +37,14 @@ patched_lists s = record {
   nodes = (lists s.live).nodes;
   properties = patched_from (path_of s.live.nodes.items) (value_at s) 0 s.live.properties.items;
 }
+
+-- its properties alone
+abbrev pub properties_of : PatchedOverlay → List (Definition (List ℕ))
+properties_of s = (patched_lists s).properties
+
+-- what the meaning makes of an overlay's rows above those of its base
+abbrev pub shifted_rows : LiveTree Lent → LiveTree Lent → Result Resolved Fault
+shifted_rows base over = shifted_overlay (lists base) (lists over)
 
 -- a patched overlay has room for the change of each property
 pub record IsPatched (s : PatchedOverlay) : Type 0 where

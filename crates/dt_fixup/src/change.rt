@@ -55,7 +55,7 @@ impl Change {
     pub(crate) fn mark(&mut self, offset: usize) -> Result<(), AllocError>
         requires { offset + 4 ≤ length self.old.bytes.items }
         ensures bytes { self.new.bytes ≡ self.old.bytes }
-        ensures marks { OnOk result ((i : ℕ) → is_marked (Some self.new) i ≡ (marks.is_inside offset i || is_marked (Some self.old) i)) }
+        ensures marks { OnOk result (marks.Marks offset (Some self.old) (Some self.new)) }
         ensures kept { OnErr result ((i : ℕ) → is_marked (Some self.new) i ≡ is_marked (Some self.old) i) }
     {
         self.widen()?;

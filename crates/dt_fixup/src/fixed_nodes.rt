@@ -1,9 +1,8 @@
 //! The nodes that local fixups are of.
-ghost use Rattle.std.specs.Prelude.{◌≡◌, ◌+◌, ◌≤◌, ◌∷◌, ◌++◌, [], ℕ, length, IfOk, slice_index_or};
+ghost use Rattle.std.specs.Prelude.{◌≡◌, ◌+◌, ◌∷◌, ◌++◌, [], length, IfOk};
 ghost use Rattle.dt_live.specs.Flattened.{IsWhole};
 ghost use Rattle.dt_live.specs.Rows.{IsNode, node_path};
-ghost use Rattle.dt_fixup.specs.Private.FixedNodes.{IsFixedNode};
-ghost use Rattle.dt_fixup.specs.declared.fixed_nodes.FixedNode.TheVariants.{NotLocal};
+ghost use Rattle.dt_fixup.specs.Private.FixedNodes.{AreFixedNodes, IsFixedNode, IsFixedNodeOf};
 
 use dt_live::LiveTree;
 use std::alloc::{AllocError, Global};
@@ -26,7 +25,7 @@ fn fixed_node_below<'t>(
 ) -> FixedNode
     requires whole { IsWhole live.now }
     requires known { IsNode live.now parent }
-    requires fixed_node { IsFixedNode live.now.nodes.items (node_path live.now parent) above_it }
+    requires fixed_node { IsFixedNodeOf live.now parent above_it }
     ensures { IsFixedNode live.now.nodes.items (node_path live.now parent ++ name.now ∷ []) result }
 {
     match above_it {
@@ -54,7 +53,7 @@ pub(crate) fn all_fixed_nodes<'t>(
 ) -> Result<Vec<FixedNode>, AllocError>
     requires whole { IsWhole live.now }
     ensures count { IfOk result (λ fixed_nodes. length fixed_nodes.items ≡ length live.now.nodes.items + 1) }
-    ensures fixed_nodes { IfOk result (λ fixed_nodes. (n : ℕ) → n ≤ length live.now.nodes.items → IsFixedNode live.now.nodes.items (node_path live.now n) (slice_index_or fixed_nodes.items n NotLocal)) }
+    ensures fixed_nodes { IfOk result (λ fixed_nodes. AreFixedNodes live.now fixed_nodes.items) }
 {
     let mut fixed_nodes = Vec::with_capacity(alloc, live.nodes().len() + 1)?;
     fixed_nodes.push(FixedNode::NotLocal)?;

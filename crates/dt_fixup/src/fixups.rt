@@ -1,11 +1,8 @@
 //! Fixups: the sites of the phandles of a base's nodes.
-ghost use Rattle.std.specs.Prelude.{◌≡◌, Ok, MatchResult};
-ghost use Rattle.std.specs.List.{filter};
-ghost use Rattle.dt_live.specs.Flattened.{IsWhole, lists};
-ghost use Rattle.dt_overlay_meaning.specs.Shifted.{Shifting, is_fixups, with_fixups};
-ghost use Rattle.dt_fixup.specs.OverlayFault.{IsFault};
-ghost use Rattle.dt_fixup.specs.PatchedOverlay.{IsPatched, patched_lists};
-ghost use Rattle.dt_fixup.specs.Private.Steps.{IsAt};
+ghost use Rattle.std.specs.Prelude.{◌≡◌};
+ghost use Rattle.dt_live.specs.Flattened.{IsWhole};
+ghost use Rattle.dt_fixup.specs.PatchedOverlay.{IsPatched};
+ghost use Rattle.dt_fixup.specs.Private.Fixing.{ResolvesFixups};
 
 use crate::error::OverlayError;
 use crate::patched_overlay::PatchedOverlay;
@@ -25,7 +22,7 @@ pub(crate) fn resolve_fixups<'t>(
     requires sound { IsPatched patched.old }
     ensures sound { IsPatched patched.new }
     ensures live { patched.new.live ≡ patched.old.live }
-    ensures fixups { (x : Shifting) → IsAt x patched.old → MatchResult result (λ _. with_fixups (lists base.now) (filter is_fixups (lists patched.old.live).properties) x ≡ Ok (patched_lists patched.new).properties) (λ e. IsFault e (with_fixups (lists base.now) (filter is_fixups (lists patched.old.live).properties) x)) }
+    ensures fixups { ResolvesFixups base.now patched.old patched.new result }
 {
     let mut found = Vec::new(alloc);
     if let Err(error) = read_fixups(&mut found, &patched.live) {

@@ -1,17 +1,13 @@
 //! Local fixups: the sites of an overlay's own phandles.
-ghost use Rattle.std.specs.Prelude.{◌≡◌, ◌<◌, ◌∷◌, [], true, drop, length};
-ghost use Rattle.std.specs.List.{filter};
+ghost use Rattle.std.specs.Prelude.{◌≡◌, ◌<◌, ◌∷◌, [], true, length};
 ghost use Rattle.dt_live.specs.ByRow.{lent};
-ghost use Rattle.dt_live.specs.Flattened.{lists};
-ghost use Rattle.dt_meaning.specs.Edits.{definition};
 ghost use Rattle.dt_meaning.specs.Names.{local_fixups_name};
 ghost use Rattle.dt_meaning.specs.Paths.{is_within};
-ghost use Rattle.dt_live.specs.Rows.{IsNode, node_path, property_at};
-ghost use Rattle.dt_overlay_meaning.specs.Steps.{fold};
-ghost use Rattle.dt_overlay_meaning.specs.Shifted.{is_local_fixup, site, raise_at, raise_sites};
+ghost use Rattle.dt_live.specs.Rows.{IsNode, node_path};
+ghost use Rattle.dt_overlay_meaning.specs.Shifted.{raise_at};
 ghost use Rattle.dt_fixup.specs.PatchedOverlay.{IsPatched};
-ghost use Rattle.dt_fixup.specs.Private.FixedNodes.{IsFixedNode};
-ghost use Rattle.dt_fixup.specs.Private.Walk.{IsStep, property_step};
+ghost use Rattle.dt_fixup.specs.Private.FixedNodes.{IsFixedNodeOf, row_node};
+ghost use Rattle.dt_fixup.specs.Private.Walk.{IsStep, local_step, property_step, site_at, site_step, sites_step};
 
 use crate::error::OverlayError;
 use crate::fixed_nodes::{FixedNode, all_fixed_nodes};
@@ -33,7 +29,7 @@ fn raise_in<'t>(
     requires known { IsNode patched.old.live node }
     ensures sound { IsPatched patched.new }
     ensures live { patched.new.live ≡ patched.old.live }
-    ensures step { IsStep (raise_at shift (site (node_path patched.old.live node) name.now offset)) patched.old patched.new result }
+    ensures step { IsStep (raise_at shift (site_at patched.old node name.now offset)) patched.old patched.new result }
 {
     let row = take_site(patched, node, name, offset)?;
     let number = match raised(patched.number_at(row, offset), shift) {
@@ -54,11 +50,11 @@ fn raise_site<'t>(
     shift: usize,
 ) -> Result<(), OverlayError>
     requires sound { IsPatched patched.old }
-    requires fixed_node { IsFixedNode patched.old.live.nodes.items (node_path patched.old.live local_node) fixed_node }
+    requires fixed_node { IsFixedNodeOf patched.old.live local_node fixed_node }
     requires local_node { is_within (local_fixups_name ∷ []) (node_path patched.old.live local_node) ≡ true }
     ensures sound { IsPatched patched.new }
     ensures live { patched.new.live ≡ patched.old.live }
-    ensures step { IsStep (raise_at shift (site (drop 1 (node_path patched.old.live local_node)) name.now offset)) patched.old patched.new result }
+    ensures step { IsStep (site_step shift patched.old local_node name.now offset) patched.old patched.new result }
 {
     let FixedNode::Node(node) = fixed_node else {
         return Err(OverlayError::BadFixup);
@@ -77,11 +73,11 @@ fn raise_value<'t>(
     shift: usize,
 ) -> Result<(), OverlayError>
     requires sound { IsPatched patched.old }
-    requires fixed_node { IsFixedNode patched.old.live.nodes.items (node_path patched.old.live local_node) fixed_node }
+    requires fixed_node { IsFixedNodeOf patched.old.live local_node fixed_node }
     requires local_node { is_within (local_fixups_name ∷ []) (node_path patched.old.live local_node) ≡ true }
     ensures sound { IsPatched patched.new }
     ensures live { patched.new.live ≡ patched.old.live }
-    ensures step { IsStep (raise_sites shift (definition (node_path patched.old.live local_node) name.now value.now)) patched.old patched.new result }
+    ensures step { IsStep (sites_step shift patched.old local_node name.now value.now) patched.old patched.new result }
 {
     let count = value.len() / 4;
     if count * 4 != value.len() {
@@ -114,7 +110,7 @@ fn raise_local_fixup<'t>(
 ) -> Result<(), OverlayError>
     requires sound { IsPatched patched.old }
     requires known { row < length patched.old.live.properties.items }
-    requires fixed_node { IsFixedNode patched.old.live.nodes.items (node_path patched.old.live (property_at patched.old.live.properties.items row).node) fixed_node }
+    requires fixed_node { IsFixedNodeOf patched.old.live (row_node patched.old.live row) fixed_node }
     ensures sound { IsPatched patched.new }
     ensures live { patched.new.live ≡ patched.old.live }
     ensures step { IsStep (property_step shift patched.old.live row) patched.old patched.new result }
@@ -143,7 +139,7 @@ pub(crate) fn raise_local<'t>(
     requires sound { IsPatched patched.old }
     ensures sound { IsPatched patched.new }
     ensures live { patched.new.live ≡ patched.old.live }
-    ensures step { IsStep (fold (raise_sites shift) (filter is_local_fixup (lists patched.old.live).properties)) patched.old patched.new result }
+    ensures step { IsStep (local_step shift patched.old.live) patched.old patched.new result }
 {
     let fixed_nodes = all_fixed_nodes(alloc, &patched.live)?;
     for row in 0..patched.live.properties().len() {

@@ -1,10 +1,9 @@
 //! An overlay's rows, with the values that were changed.
-ghost use Rattle.std.specs.Prelude.{◌≡◌, ◌+◌, ◌<◌, ◌≤◌, ◌==◌, ◌&&◌, ◌||◌, ℕ, not, length, take, drop, if◌then◌else◌, IfOk, OnOk, OnErr, IsSome};
-ghost use Rattle.std.specs.Int.{from_be_bytes, to_be_bytes, w32};
+ghost use Rattle.std.specs.Prelude.{◌≡◌, ◌+◌, ◌<◌, ◌≤◌, ℕ, not, length, take, drop, IfOk, OnOk, OnErr, IsSome};
+ghost use Rattle.std.specs.Int.{from_be_bytes, w32};
 ghost use Rattle.dt_fixup.specs.PatchedOverlay.{IsPatched, change_at, value_at};
-ghost use Rattle.dt_overlay_meaning.specs.Shifted.{written};
-ghost use Rattle.dt_fixup.specs.Private.Marks.{is_inside, is_taken};
-ghost use Rattle.dt_fixup.specs.Private.Steps.{is_marked};
+ghost use Rattle.dt_fixup.specs.Private.Marks.{KeepsMarks, MarksFree, MarksSite, is_taken};
+ghost use Rattle.dt_fixup.specs.Private.Rows.{IsWritten};
 
 use dt_live::LiveTree;
 use dt_tree::cell_at;
@@ -58,7 +57,7 @@ impl<'t> PatchedOverlay<'t> {
         ensures sound { IsPatched self.new }
         ensures live { self.new.live ≡ self.old.live }
         ensures values { (k : ℕ) → value_at self.new k ≡ value_at self.old k }
-        ensures marks { (k i : ℕ) → is_marked (change_at self.new k) i ≡ is_marked (change_at self.old k) i }
+        ensures marks { KeepsMarks self.old self.new }
         ensures open { OnOk result (IsSome (change_at self.new property)) }
         ensures kept { OnErr result (self.new ≡ self.old) }
     {
@@ -86,8 +85,8 @@ impl<'t> PatchedOverlay<'t> {
         requires fits { offset + 4 ≤ length (value_at self.old property) }
         ensures sound { IsPatched self.new }
         ensures live { self.new.live ≡ self.old.live }
-        ensures values { OnOk result ((k : ℕ) → value_at self.new k ≡ (if k == property then written offset (to_be_bytes w32 number) (value_at self.old k) else value_at self.old k)) }
-        ensures marks { OnOk result ((k i : ℕ) → is_marked (change_at self.new k) i ≡ is_marked (change_at self.old k) i) }
+        ensures values { OnOk result (IsWritten property offset number self.old self.new) }
+        ensures marks { OnOk result (KeepsMarks self.old self.new) }
         ensures kept { OnErr result (self.new ≡ self.old) }
     {
         self.open(property)?;
@@ -119,8 +118,8 @@ impl<'t> PatchedOverlay<'t> {
         ensures sound { IsPatched self.new }
         ensures live { self.new.live ≡ self.old.live }
         ensures values { (k : ℕ) → value_at self.new k ≡ value_at self.old k }
-        ensures marks { OnOk result ((k i : ℕ) → is_marked (change_at self.new k) i ≡ (((k == property) && is_inside offset i) || is_marked (change_at self.old k) i)) }
-        ensures kept { OnErr result ((k i : ℕ) → is_marked (change_at self.new k) i ≡ is_marked (change_at self.old k) i) }
+        ensures marks { OnOk result (MarksSite property offset self.old self.new) }
+        ensures kept { OnErr result (KeepsMarks self.old self.new) }
     {
         if let Some(change) = &mut self.changes[property] {
             change.mark(offset)?;
@@ -137,8 +136,8 @@ impl<'t> PatchedOverlay<'t> {
         ensures live { self.new.live ≡ self.old.live }
         ensures values { (k : ℕ) → value_at self.new k ≡ value_at self.old k }
         ensures free { IfOk result (λ free. free ≡ not (is_taken (change_at self.old property) offset)) }
-        ensures marks { IfOk result (λ free. (k i : ℕ) → is_marked (change_at self.new k) i ≡ ((free && (k == property) && is_inside offset i) || is_marked (change_at self.old k) i)) }
-        ensures kept { OnErr result ((k i : ℕ) → is_marked (change_at self.new k) i ≡ is_marked (change_at self.old k) i) }
+        ensures marks { IfOk result (λ free. MarksFree free property offset self.old self.new) }
+        ensures kept { OnErr result (KeepsMarks self.old self.new) }
     {
         if self.is_taken(property, offset) {
             return Ok(false);

@@ -1,14 +1,15 @@
 //! An overlay's phandles, raised above those of its base.
-ghost use Rattle.std.specs.Prelude.{◌≡◌, ◌<◌, ◌==◌, ◌||◌, ℕ, None, Ok, false, not, length, IfOk, OnOk, MatchResult};
+ghost use Rattle.std.specs.Prelude.{◌≡◌, ◌<◌, ◌==◌, ◌||◌, ℕ, None, false, not, length, IfOk, OnOk};
 ghost use Rattle.std.specs.Int.{to_be_bytes, w32};
 ghost use Rattle.dt_live.specs.ByRow.{row_property};
 ghost use Rattle.dt_live.specs.Flattened.{IsWhole, lists};
 ghost use Rattle.dt_overlay_meaning.specs.Steps.{each};
 ghost use Rattle.dt_overlay_meaning.specs.Shifted as meaning;
-ghost use Rattle.dt_overlay_meaning.specs.Shifted.{differ, phandles, raised_phandle, with_phandles, with_value};
-ghost use Rattle.dt_fixup.specs.OverlayFault.{IsFault};
-ghost use Rattle.dt_fixup.specs.PatchedOverlay.{IsPatched, change_at, patched_lists, value_at};
-ghost use Rattle.dt_fixup.specs.Private.Rows.{is_met};
+ghost use Rattle.dt_overlay_meaning.specs.Shifted.{differ, phandles, raised_phandle, with_phandles};
+ghost use Rattle.dt_fixup.specs.OverlayFault.{Gives};
+ghost use Rattle.dt_fixup.specs.PatchedOverlay.{IsPatched, change_at, value_at};
+ghost use Rattle.dt_fixup.specs.Private.Marks.{KeepsMarks};
+ghost use Rattle.dt_fixup.specs.Private.Rows.{DoesToAll, KeepsOthers, RaisesRow, is_met};
 ghost use Rattle.dt_fixup.specs.Private.Steps.{is_marked};
 
 use crate::error::OverlayError;
@@ -20,7 +21,7 @@ use std::collections::BTreeSet;
 
 /// A number that is raised, where it still is a phandle.
 pub(crate) fn raised(number: u32, shift: usize) -> Result<u32, OverlayError>
-    ensures { MatchResult result (λ sum. meaning.raised shift number ≡ Ok (to_be_bytes w32 sum)) (λ e. IsFault e (meaning.raised shift number)) }
+    ensures { Gives (meaning.raised shift number) (to_be_bytes w32) result }
 {
     if shift >= (u32::MAX - number) as usize {
         return Err(OverlayError::PhandleOverflow);
@@ -39,9 +40,9 @@ fn raise_property(
     requires fresh { value_at patched.old property ≡ (row_property patched.old.live property).value }
     ensures sound { IsPatched patched.new }
     ensures live { patched.new.live ≡ patched.old.live }
-    ensures marks { OnOk result ((k i : ℕ) → is_marked (change_at patched.new k) i ≡ is_marked (change_at patched.old k) i) }
-    ensures others { OnOk result ((k : ℕ) → (k == property) ≡ false → value_at patched.new k ≡ value_at patched.old k) }
-    ensures raised { MatchResult result (λ _. raised_phandle shift (row_property patched.old.live property) ≡ Ok (with_value (row_property patched.old.live property) (value_at patched.new property))) (λ e. IsFault e (raised_phandle shift (row_property patched.old.live property))) }
+    ensures marks { OnOk result (KeepsMarks patched.old patched.new) }
+    ensures others { OnOk result (KeepsOthers property patched.old patched.new) }
+    ensures raised { RaisesRow shift property patched.old patched.new result }
 {
     let number = match row_phandle(&patched.live, property) {
         Some(number) => number,
@@ -86,7 +87,7 @@ fn raise_properties(patched: &mut PatchedOverlay<'_>, shift: usize) -> Result<()
     ensures sound { IsPatched patched.new }
     ensures live { patched.new.live ≡ patched.old.live }
     ensures unmarked { OnOk result ((k i : ℕ) → is_marked (change_at patched.new k) i ≡ false) }
-    ensures raised { MatchResult result (λ _. each (raised_phandle shift) (lists patched.old.live).properties ≡ Ok (patched_lists patched.new).properties) (λ e. IsFault e (each (raised_phandle shift) (lists patched.old.live).properties)) }
+    ensures raised { DoesToAll (each (raised_phandle shift)) patched.old patched.new result }
 {
     for property in 0..patched.live.properties().len() {
         if let Err(error) = raise_property(patched, property, shift) {
@@ -107,7 +108,7 @@ pub(crate) fn raise(
     ensures sound { IsPatched patched.new }
     ensures live { patched.new.live ≡ patched.old.live }
     ensures unmarked { OnOk result ((k i : ℕ) → is_marked (change_at patched.new k) i ≡ false) }
-    ensures phandles { MatchResult result (λ _. with_phandles shift (lists patched.old.live).properties ≡ Ok (patched_lists patched.new).properties) (λ e. IsFault e (with_phandles shift (lists patched.old.live).properties)) }
+    ensures phandles { DoesToAll (with_phandles shift) patched.old patched.new result }
 {
     raise_properties(patched, shift)?;
     if !are_distinct(alloc, &patched.live)? {

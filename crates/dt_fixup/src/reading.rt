@@ -1,13 +1,11 @@
 //! The fixups that an overlay's texts name.
-ghost use Rattle.std.specs.Prelude.{◌<◌, [], length, map};
-ghost use Rattle.std.specs.List.{filter};
-ghost use Rattle.dt_live.specs.Flattened.{IsWhole, lists};
+ghost use Rattle.std.specs.Prelude.{◌<◌, [], length};
+ghost use Rattle.dt_live.specs.Flattened.{IsWhole};
 ghost use Rattle.dt_meaning.specs.Edits.{definition};
 ghost use Rattle.dt_overlay_meaning.specs.Steps.{each};
-ghost use Rattle.dt_overlay_meaning.specs.Shifted as meaning;
 ghost use Rattle.dt_overlay_meaning.specs.Shifted.{fixup_in, fixups_in};
 ghost use Rattle.dt_overlay_meaning.specs.Texts.{parts};
-ghost use Rattle.dt_fixup.specs.Private.Fixing.{Adds, gathered, fixup_named, row_fixups};
+ghost use Rattle.dt_fixup.specs.Private.Fixing.{AddsFixups, fixups_of, gathered, row_fixups};
 
 use crate::error::OverlayError;
 use crate::local::lent;
@@ -28,7 +26,7 @@ fn read_texts<'t>(
     symbol: &'t [u8],
     texts: &'t [u8],
 ) -> Result<(), OverlayError>
-    ensures { Adds (each (fixup_in symbol.now) (parts 0 texts.now)) (map fixup_named found.old.items) (map fixup_named found.new.items) result }
+    ensures { AddsFixups (each (fixup_in symbol.now) (parts 0 texts.now)) found.old.items found.new.items result }
 {
     for text in texts.split(|byte| *byte == 0) {
         let Some(site) = site_in(text) else {
@@ -45,7 +43,7 @@ fn read_value<'t>(
     symbol: &'t [u8],
     value: &'t [u8],
 ) -> Result<(), OverlayError>
-    ensures { Adds (fixups_in (definition [] symbol.now value.now)) (map fixup_named found.old.items) (map fixup_named found.new.items) result }
+    ensures { AddsFixups (fixups_in (definition [] symbol.now value.now)) found.old.items found.new.items result }
 {
     match unended(value) {
         None => Err(OverlayError::BadFixup),
@@ -61,7 +59,7 @@ fn read_row<'t>(
 ) -> Result<(), OverlayError>
     requires whole { IsWhole live.now }
     requires known { row < length live.now.properties.items }
-    ensures { Adds (row_fixups live.now row) (map fixup_named found.old.items) (map fixup_named found.new.items) result }
+    ensures { AddsFixups (row_fixups live.now row) found.old.items found.new.items result }
 {
     let property = live.properties()[row];
     if !is_root_child(live.nodes(), property.node, b"__fixups__".as_slice()) {
@@ -76,7 +74,7 @@ pub(crate) fn read_fixups<'t>(
     live: &LiveTree<'t, &'t [u8]>,
 ) -> Result<(), OverlayError>
     requires whole { IsWhole live.now }
-    ensures { Adds (gathered (filter meaning.is_fixups (lists live.now).properties)) (map fixup_named found.old.items) (map fixup_named found.new.items) result }
+    ensures { AddsFixups (gathered (fixups_of live.now)) found.old.items found.new.items result }
 {
     for row in 0..live.properties().len() {
         if let Err(error) = read_row(found, live, row) {

@@ -1,10 +1,10 @@
 //! An overlay above its base.
-ghost use Rattle.std.specs.Prelude.{◌≡◌, [], ℕ, IfOk, OnOk, None, Ok, MatchResult, length, replicate, true};
+ghost use Rattle.std.specs.Prelude.{◌≡◌, [], ℕ, IfOk, OnOk, None, length, replicate, true};
 ghost use Rattle.dt_live.specs.Flattened.{IsOrdered, IsWhole, lists};
-ghost use Rattle.dt_overlay_meaning.specs.Shifted.{fragments, shifted_overlay, some_of};
-ghost use Rattle.dt_fixup.specs.OverlayFault.{IsFault};
-ghost use Rattle.dt_fixup.specs.PatchedOverlay.{IsPatched, change_at, patched_lists};
-ghost use Rattle.dt_fixup.specs.Private.Fragments.{are_some};
+ghost use Rattle.dt_overlay_meaning.specs.Shifted.{fragments};
+ghost use Rattle.dt_fixup.specs.OverlayFault.{Gives, Leaves};
+ghost use Rattle.dt_fixup.specs.PatchedOverlay.{IsPatched, change_at, patched_lists, shifted_rows};
+ghost use Rattle.dt_fixup.specs.Private.Fragments.{HasSome, are_some};
 
 use crate::error::OverlayError;
 use crate::fixups::resolve_fixups;
@@ -25,7 +25,7 @@ fn open_changes<'t>(
     requires ordered { IsOrdered over.now }
     requires fresh { changes.old.items ≡ [] }
     ensures none { OnOk result (changes.new.items ≡ replicate (length over.now.properties.items) None) }
-    ensures some { MatchResult result (λ _. are_some (fragments (lists over.now)) ≡ true) (λ e. IsFault e (some_of (fragments (lists over.now)))) }
+    ensures some { HasSome (lists over.now) result }
 {
     if !has_fragment(over) {
         return Err(OverlayError::NotOverlay);
@@ -50,7 +50,7 @@ fn shift_values<'t>(
     requires some { are_some (fragments (lists patched.old.live)) ≡ true }
     ensures sound { IsPatched patched.new }
     ensures live { patched.new.live ≡ patched.old.live }
-    ensures shifted { MatchResult result (λ _. shifted_overlay (lists base.now) (lists patched.old.live) ≡ Ok (patched_lists patched.new)) (λ e. IsFault e (shifted_overlay (lists base.now) (lists patched.old.live))) }
+    ensures shifted { Leaves (shifted_rows base.now patched.old.live) (patched_lists patched.new) result }
 {
     let rise = greatest_phandle(base) as usize + 1;
     if let Err(error) = raise(alloc, patched, rise) {
@@ -77,7 +77,7 @@ fn shift_whole<'t>(
     requires fresh { patched.old.changes.items ≡ [] }
     ensures sound { OnOk result (IsPatched patched.new) }
     ensures live { OnOk result (patched.new.live ≡ patched.old.live) }
-    ensures shifted { MatchResult result (λ _. shifted_overlay (lists base.now) (lists patched.old.live) ≡ Ok (patched_lists patched.new)) (λ e. IsFault e (shifted_overlay (lists base.now) (lists patched.old.live))) }
+    ensures shifted { Leaves (shifted_rows base.now patched.old.live) (patched_lists patched.new) result }
 {
     if let Err(error) = open_changes(&mut patched.changes, &patched.live) {
         return Err(error);
@@ -95,7 +95,7 @@ pub fn shift<'t>(
     requires base { IsWhole base.now }
     requires over { IsWhole over }
     requires ordered { IsOrdered over }
-    ensures patched { MatchResult result (λ patched. shifted_overlay (lists base.now) (lists over.entry) ≡ Ok (patched_lists patched)) (λ e. IsFault e (shifted_overlay (lists base.now) (lists over.entry))) }
+    ensures patched { Gives (shifted_rows base.now over.entry) patched_lists result }
     ensures sound { IfOk result (λ patched. IsPatched patched) }
     ensures live { IfOk result (λ patched. patched.live ≡ over.entry) }
 {

@@ -1,10 +1,8 @@
 //! Where fixup sites lie.
-ghost use Rattle.std.specs.Prelude.{◌≡◌, ◌+◌, ◌≤◌, ℕ, true, false, length, Some, IfOk, MatchOption};
-ghost use Rattle.dt_live.specs.Rows.{IsNode, node_path, property_of};
-ghost use Rattle.dt_overlay_meaning.specs.Shifted as meaning;
-ghost use Rattle.dt_overlay_meaning.specs.Shifted.{site};
-ghost use Rattle.dt_fixup.specs.PatchedOverlay.{IsPatched, patched_lists, value_at};
-ghost use Rattle.dt_fixup.specs.Private.Walk.{IsStep, is_open};
+ghost use Rattle.std.specs.Prelude.{◌≡◌, ◌+◌, ◌≤◌, ℕ, length, Some, IfOk};
+ghost use Rattle.dt_live.specs.Rows.{IsNode, property_of};
+ghost use Rattle.dt_fixup.specs.PatchedOverlay.{IsPatched, value_at};
+ghost use Rattle.dt_fixup.specs.Private.Walk.{IsOpenRow, IsStep, site_taken};
 
 use crate::error::OverlayError;
 use crate::patched_overlay::PatchedOverlay;
@@ -19,7 +17,7 @@ fn open_row<'t>(
 ) -> Option<usize>
     requires sound { IsPatched patched.now }
     requires known { IsNode patched.now.live node }
-    ensures { MatchOption result (is_open (site (node_path patched.now.live node) name.now offset) (patched_lists patched.now).properties ≡ false) (λ row. (is_open (site (node_path patched.now.live node) name.now offset) (patched_lists patched.now).properties ≡ true) × (property_of patched.now.live node name.now ≡ Some row) × (offset + 4 ≤ length (value_at patched.now row))) }
+    ensures { IsOpenRow patched.now node name.now offset result }
 {
     let Some(row) = patched.live.property(node, name) else {
         return None;
@@ -54,7 +52,7 @@ pub(crate) fn take_site<'t>(
     ensures values { (k : ℕ) → value_at patched.new k ≡ value_at patched.old k }
     ensures row { IfOk result (λ row. property_of patched.old.live node name.now ≡ Some row) }
     ensures fits { IfOk result (λ row. offset + 4 ≤ length (value_at patched.new row)) }
-    ensures step { IsStep (meaning.take_site (site (node_path patched.old.live node) name.now offset)) patched.old patched.new result }
+    ensures step { IsStep (site_taken patched.old node name.now offset) patched.old patched.new result }
 {
     let Some(row) = open_row(patched, node, name, offset) else {
         return Err(OverlayError::BadFixup);

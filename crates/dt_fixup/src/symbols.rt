@@ -1,13 +1,12 @@
 //! The phandles of the nodes that a base's symbols name.
-ghost use Rattle.std.specs.Prelude.{◌≡◌, ◌<◌, ◌∷◌, [], None, Some, length, unwrap_or, MatchOption};
-ghost use Rattle.dt_tree.specs.Path.{path_names};
+ghost use Rattle.std.specs.Prelude.{◌≡◌, ◌<◌, length};
 ghost use Rattle.dt_live.specs.ByRow.{lent};
 ghost use Rattle.dt_live.specs.Flattened.{IsWhole, lists};
-ghost use Rattle.dt_meaning.specs.MapOf.{value_in};
-ghost use Rattle.dt_meaning.specs.Names.{symbols_name};
 ghost use Rattle.dt_live.specs.Rows.{property_at};
 ghost use Rattle.dt_overlay_meaning.specs.Shifted as meaning;
 ghost use Rattle.dt_overlay_meaning.specs.Texts as texts;
+ghost use Rattle.dt_fixup.specs.Private.Fixing.{symbol_value};
+ghost use Rattle.dt_fixup.specs.Texts.{IsPathText};
 
 use crate::local::lent;
 use crate::phandle::row_phandle;
@@ -24,7 +23,7 @@ fn row_value<'t>(rows: &[PropertyRow<'t, &'t [u8]>], row: usize) -> &'t [u8]
 /// The path that a symbol names.
 fn symbol_path<'t>(base: &LiveTree<'t, &'t [u8]>, symbol: &'t [u8]) -> Option<&'t [u8]>
     requires { IsWhole base.now }
-    ensures { MatchOption result (texts.ended_path (unwrap_or (value_in (lists base.now).properties (symbols_name ∷ []) symbol.now) []) ≡ None) (λ path. texts.ended_path (unwrap_or (value_in (lists base.now).properties (symbols_name ∷ []) symbol.now) []) ≡ Some (path_names path.now)) }
+    ensures { IsPathText (texts.ended_path (symbol_value base.now symbol.now)) result }
 {
     let Some(symbols) = (&*base).child(0, b"__symbols__".as_slice()) else {
         return None;

@@ -1,9 +1,8 @@
 //! Fixup sites, which are taken before a symbol is looked up.
 ghost use Rattle.std.specs.Prelude.{◌≡◌, ◌∷◌, ◌++◌, [], ℕ, All, map, IfOk, OnOk};
-ghost use Rattle.dt_overlay_meaning.specs.Steps.{fold};
 ghost use Rattle.dt_overlay_meaning.specs.Shifted as meaning;
 ghost use Rattle.dt_fixup.specs.PatchedOverlay.{IsPatched, value_at};
-ghost use Rattle.dt_fixup.specs.Private.Fixing.{fixup_named};
+ghost use Rattle.dt_fixup.specs.Private.Fixing.{fixup_named, sites_taken};
 ghost use Rattle.dt_fixup.specs.Private.TakenSites.{IsInside, fixup_taken};
 ghost use Rattle.dt_fixup.specs.Private.Walk.{IsStep};
 
@@ -54,7 +53,7 @@ pub(crate) fn take_named_sites<'t>(
     requires none { taken.old.items ≡ [] }
     ensures sound { IsPatched patched.new }
     ensures live { patched.new.live ≡ patched.old.live }
-    ensures step { IsStep (fold (λ f. meaning.take_site f.at) (map fixup_named fixups.now)) patched.old patched.new result }
+    ensures step { IsStep (sites_taken fixups.now) patched.old patched.new result }
     ensures taken { OnOk result (map (fixup_taken patched.old.live) taken.new.items ≡ map fixup_named fixups.now) }
     ensures inside { OnOk result (All (IsInside patched.new) taken.new.items) }
 {

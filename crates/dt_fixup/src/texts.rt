@@ -2,8 +2,9 @@
 ghost use Rattle.std.specs.Prelude.{◌≡◌, ◌≤◌, ◌∷◌, ◌++◌, ◌==◌, [], true, Some, None, length, IfSome, MatchOption};
 ghost use Rattle.std.specs.List.{position, slice_split};
 ghost use Rattle.dt_tree.specs.Path.{is_path, path_names};
-ghost use Rattle.dt_overlay_meaning.specs.Shifted.{site, site_of};
-ghost use Rattle.dt_overlay_meaning.specs.Texts.{ended_path, offset_in, parts, unended};
+ghost use Rattle.dt_overlay_meaning.specs.Texts.{ended_path, offset_in, unended};
+ghost use Rattle.dt_fixup.specs.Private.Fixing.{IsFirstPart, IsSiteText};
+ghost use Rattle.dt_fixup.specs.Texts.{IsPathText};
 
 use dt_tree::{is_name, is_path};
 
@@ -27,7 +28,7 @@ pub(crate) fn unended(value: &[u8]) -> Option<&[u8]>
 
 /// The path in a zero-ended string.
 pub fn ended_path(value: &[u8]) -> Option<&[u8]>
-    ensures path { MatchOption result (ended_path value.now ≡ None) (λ path. ended_path value.now ≡ Some (path_names path.now)) }
+    ensures path { IsPathText (ended_path value.now) result }
     // its text is the value without the zero byte, so `/` for the root
     ensures text { IfSome result (λ path. value.now ≡ path.now ++ 0 ∷ []) }
 {
@@ -65,7 +66,7 @@ fn colon_place(text: &[u8]) -> Option<usize>
 
 /// What stands before the first colon, and what behind it.
 fn first_part(text: &[u8]) -> Option<(&[u8], &[u8])>
-    ensures { MatchOption result (parts 58 text.now ≡ text.now ∷ []) (λ both. parts 58 text.now ≡ both.0.now ∷ parts 58 both.1.now) }
+    ensures { IsFirstPart text.now result }
 {
     let Some(end) = colon_place(text) else {
         return None;
@@ -75,7 +76,7 @@ fn first_part(text: &[u8]) -> Option<(&[u8], &[u8])>
 
 /// The fixup site that a text `path:property:offset` names.
 pub(crate) fn site_in<'t>(text: &'t [u8]) -> Option<SiteText<'t>>
-    ensures { MatchOption result (site_of (parts 58 text.now) ≡ None) (λ found. site_of (parts 58 text.now) ≡ Some (site (path_names found.path.now) found.name.now found.offset)) }
+    ensures { IsSiteText text.now result }
 {
     let Some((path, behind)) = first_part(text) else {
         return None;

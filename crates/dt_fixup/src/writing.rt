@@ -1,13 +1,9 @@
 //! The phandles that are written at fixup sites.
-ghost use Rattle.std.specs.Prelude.{◌≡◌, ◌∷◌, [], ℕ, All, Some, Ok, map, length, IfSome, MatchResult, OnOk};
+ghost use Rattle.std.specs.Prelude.{◌≡◌, ℕ, All, Some, length, IfSome, OnOk};
 ghost use Rattle.dt_live.specs.Flattened.{IsWhole, lists};
-ghost use Rattle.dt_overlay_meaning.specs.Steps.{fold};
 ghost use Rattle.dt_overlay_meaning.specs.Shifted as meaning;
-ghost use Rattle.dt_overlay_meaning.specs.Shifted.{resolve, write_at};
-ghost use Rattle.std.specs.Int.{to_be_bytes, w32};
-ghost use Rattle.dt_fixup.specs.OverlayFault.{IsFault};
-ghost use Rattle.dt_fixup.specs.PatchedOverlay.{IsPatched, patched_lists, value_at};
-ghost use Rattle.dt_fixup.specs.Private.TakenSites.{IsInside, fixup_taken};
+ghost use Rattle.dt_fixup.specs.PatchedOverlay.{IsPatched, value_at};
+ghost use Rattle.dt_fixup.specs.Private.TakenSites.{IsInside, WritesSite, WritesSites};
 
 use crate::error::OverlayError;
 use crate::patched_overlay::PatchedOverlay;
@@ -45,7 +41,7 @@ fn write_site<'t>(
     ensures sound { IsPatched patched.new }
     ensures live { patched.new.live ≡ patched.old.live }
     ensures lengths { OnOk result ((k : ℕ) → length (value_at patched.new k) ≡ length (value_at patched.old k)) }
-    ensures written { OnOk result ((patched_lists patched.new).properties ≡ write_at (fixup_taken patched.old.live site.entry).at (to_be_bytes w32 phandle) (patched_lists patched.old).properties) }
+    ensures written { OnOk result (WritesSite site.entry phandle patched.old patched.new) }
 {
     patched.write(site.row, site.offset, phandle)?;
     Ok(())
@@ -62,7 +58,7 @@ pub(crate) fn write_sites<'t>(
     requires inside { All (IsInside patched.old) sites.now }
     ensures sound { IsPatched patched.new }
     ensures live { patched.new.live ≡ patched.old.live }
-    ensures written { MatchResult result (λ _. fold (resolve (lists base.now)) (map (fixup_taken patched.old.live) sites.now) (patched_lists patched.old).properties ≡ Ok (patched_lists patched.new).properties) (λ e. IsFault e (fold (resolve (lists base.now)) (map (fixup_taken patched.old.live) sites.now) (patched_lists patched.old).properties)) }
+    ensures written { WritesSites base.now sites.now patched.old patched.new result }
 {
     let mut last = None;
     for site in sites {

@@ -39,16 +39,16 @@ none-held {V} es q (p ∷ qs) gone =
     (none-held es q qs parts.1)
 
 -- ---- names
-abbrev pub Named : {V : Type 0} → Definition V → Type 0
-Named e = is_name e.name ≡ true
+abbrev pub HasName : {V : Type 0} → Definition V → Type 0
+HasName e = is_name e.name ≡ true
 
-held-named : {V : Type 0} (es : List (Definition V)) (q : Path) → Each Named es → Each Named (held es q)
+held-named : {V : Type 0} (es : List (Definition V)) (q : Path) → Each HasName es → Each HasName (held es q)
 held-named [] q h = tt
 held-named (e ∷ es) q h = by_test (same_path q e.path) (held-named es q h.1) where
-  by_test : (t : Bool) → Each Named (held es q) → Each Named (cond t (e ∷ held es q) (held es q))
+  by_test : (t : Bool) → Each HasName (held es q) → Each HasName (cond t (e ∷ held es q) (held es q))
   by_test true ih = (h.0, ih)
   by_test false ih = ih
 
-pub all-named : {V : Type 0} (es : List (Definition V)) (qs : List Path) → Each Named es → Each Named (flat_map (held es) qs)
+pub all-named : {V : Type 0} (es : List (Definition V)) (qs : List Path) → Each HasName es → Each HasName (flat_map (held es) qs)
 all-named es [] h = tt
-all-named es (q ∷ qs) h = each-append Named (held es q) (flat_map (held es) qs) (held-named es q h) (all-named es qs h)
+all-named es (q ∷ qs) h = each-append HasName (held es q) (flat_map (held es) qs) (held-named es q h) (all-named es qs h)

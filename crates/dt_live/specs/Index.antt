@@ -1,5 +1,5 @@
 -- What an index has at a node and a name.
-use Rattle.std.specs.Prelude.{ℕ, Bool, ◌&&◌, ◌==◌, List, Option, None, slice_index_or}
+use Rattle.std.specs.Prelude.{◌≡◌, ℕ, Bool, ◌&&◌, ◌==◌, List, Option, None, Some, if◌then◌else◌, slice_index_or, unwrap_or}
 use Rattle.std.specs.List.{position_or_len}
 use Rattle.std.specs.Str.{bytes_eq}
 use denote.Ref.{Bor}
@@ -28,3 +28,15 @@ row_of index n k = (entry_of index n k).row
 -- the stamp of the body that defined a key last, 0 where none did
 abbrev pub stamp_of : Index → ℕ → List ℕ → ℕ
 stamp_of index n k = (entry_of index n k).stamp
+
+-- what keys have, once a key has another value and the others keep theirs
+abbrev pub IsSetAt : {A : Type 0} → ℕ → List ℕ → A → (ℕ → List ℕ → A) → (ℕ → List ℕ → A) → Type 0
+IsSetAt n0 k0 value old new = (n : ℕ) (k : List ℕ) → new n k ≡ (if is_key n0 k0 n k then value else old n k)
+
+-- the row of a key is another one
+abbrev pub SetsRow : ℕ → List ℕ → Option ℕ → Index → Index → Type 0
+SetsRow n k row old new = IsSetAt n k row (row_of old) (row_of new)
+
+-- a key that has a row keeps it, and another gets the given one
+abbrev pub DefinesRow : ℕ → List ℕ → ℕ → Index → Index → Type 0
+DefinesRow n k row old new = SetsRow n k (Some (unwrap_or (row_of old n k) row)) old new

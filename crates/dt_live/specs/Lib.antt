@@ -1,6 +1,8 @@
 pub mod ByRow
 pub mod Flattened
 pub mod Index
+pub mod Labels
+pub mod Laws
 pub mod Preorder
 pub mod Private
 pub mod Rows

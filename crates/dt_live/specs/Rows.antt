@@ -1,7 +1,7 @@
 -- What the rows of a live tree stand for.
-use Rattle.std.specs.Prelude.{◌≡◌, ℕ, zero, suc, ◌<◌, ◌≤◌, Bool, true, false, not, ◌&&◌, List, [], ◌∷◌, ◌++◌, length, Option, Some, None, IsSome, if◌then◌else◌, slice_index_or}
+use Rattle.std.specs.Prelude.{◌≡◌, ℕ, zero, suc, ◌<◌, ◌≤◌, Bool, true, false, not, ◌&&◌, List, [], ◌∷◌, ◌++◌, length, Option, Some, None, IsSome, if◌then◌else◌, slice_index_or, MatchOption}
 use Rattle.dt_meaning.specs.Paths.{Path, is_below}
-use Rattle.dt_meaning.specs.Edits.{Definition, definition, Label, labelled_at, State}
+use Rattle.dt_meaning.specs.Edits.{Definition, definition, Label, labelled_at, State, has_node, with_node, with_property, without_node}
 use Rattle.dt_live.specs.declared.live_tree.NodeRow.{NodeRow}
 use Rattle.dt_live.specs.declared.live_tree.PropertyRow.{PropertyRow}
 use Rattle.dt_live.specs.declared.live_tree.LabelRow.{LabelRow}
@@ -139,6 +139,28 @@ IsKept p old new = Kept p old.nodes.items new.nodes.items
 abbrev pub HasSameNodes : {V : Type 0} → LiveTree V → LiveTree V → Type 0
 HasSameNodes old new = new.nodes.items ≡ old.nodes.items
 
+-- the node that a path leads to, none where none stands there
+abbrev pub IsNodeAt : {V : Type 0} → LiveTree V → Path → Option ℕ → Type 0
+IsNodeAt d p found = MatchOption found (has_node p (state_of d) ≡ false) (λ node. (has_node p (state_of d) ≡ true) × (p ≡ node_path d node))
+
+-- the path of a child, whether it is there or not
+abbrev pub child_path : {V : Type 0} → LiveTree V → ℕ → List ℕ → Path
+child_path d n k = node_path d n ++ k ∷ []
+
+-- ---- edits
+-- a node is there, behind the others where it wasn't
+abbrev pub AddsNode : {V : Type 0} → Path → LiveTree V → LiveTree V → Type 0
+AddsNode p old new = state_of new ≡ with_node p (state_of old)
+
+-- a node is gone, and all below it
+abbrev pub RemovesNode : {V : Type 0} → Path → LiveTree V → LiveTree V → Type 0
+RemovesNode p old new = state_of new ≡ without_node p (state_of old)
+
+-- the node at a path has a property's value, in its place or behind the others
+abbrev pub SetsProperty : {V : Type 0} → Path → List ℕ → V → LiveTree V → LiveTree V → Type 0
+SetsProperty p k v old new = state_of new ≡ with_property p k v (state_of old)
+
+-- ---- rows and stamps
 -- the child of a name
 abbrev pub child_of : {V : Type 0} → LiveTree V → ℕ → List ℕ → Option ℕ
 child_of d n k = row_of d.node_rows n k

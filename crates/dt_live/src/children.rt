@@ -1,10 +1,9 @@
 //! The children of nodes.
-ghost use Rattle.std.specs.Prelude.{◌≡◌, ◌<◌, ◌++◌, ◌∷◌, ◌==◌, [], ℕ, List, not, true, IfOk, OnOk, if◌then◌else◌};
-ghost use Rattle.dt_meaning.specs.Edits.{with_node, without_node};
+ghost use Rattle.std.specs.Prelude.{◌≡◌, ◌<◌, ◌==◌, not, true, IfOk, OnOk};
 ghost use Rattle.dt_meaning.specs.Paths.{Path};
 ghost use Rattle.dt_live.specs.ByRow.{KeepsRows};
-ghost use Rattle.dt_live.specs.Index.{is_key};
-ghost use Rattle.dt_live.specs.Rows.{HasSameChildStamps, HasSamePropertyStamps, IsLiveTree, IsKept, IsNode, child_stamp, child_of, is_standing, node_path, state_of};
+ghost use Rattle.dt_live.specs.Index.{IsSetAt};
+ghost use Rattle.dt_live.specs.Rows.{AddsNode, HasSameChildStamps, HasSamePropertyStamps, IsLiveTree, IsKept, IsNode, RemovesNode, child_of, child_path, child_stamp, is_standing, node_path};
 
 use crate::live_tree::{LiveTree, NodeRow};
 use std::alloc::AllocError;
@@ -29,14 +28,14 @@ impl<'d, V: Copy> LiveTree<'d, V> {
         requires known { IsNode self.old parent }
         requires stands { is_standing self.old parent ≡ true }
         ensures sound { OnOk result (IsLiveTree self.new) }
-        ensures made { IfOk result (λ x. node_path self.new x.0 ≡ node_path self.old parent ++ name.now ∷ []) }
+        ensures made { IfOk result (λ x. node_path self.new x.0 ≡ child_path self.old parent name.now) }
         ensures there { IfOk result (λ x. is_standing self.new x.0 ≡ true) }
         ensures known { IfOk result (λ x. IsNode self.new x.0) }
         ensures kept { OnOk result ((p : Path) → IsKept p self.old self.new) }
         ensures rows { OnOk result (KeepsRows self.old self.new) }
-        ensures state { OnOk result (state_of self.new ≡ with_node (node_path self.old parent ++ name.now ∷ []) (state_of self.old)) }
+        ensures state { OnOk result (AddsNode (child_path self.old parent name.now) self.old self.new) }
         ensures first { IfOk result (λ x. x.1 ≡ not (child_stamp self.old parent name.now == stamp)) }
-        ensures stamps { OnOk result ((n : ℕ) (k : List ℕ) → child_stamp self.new n k ≡ (if is_key parent name.now n k then stamp else child_stamp self.old n k)) }
+        ensures stamps { OnOk result (IsSetAt parent name.now stamp (child_stamp self.old) (child_stamp self.new)) }
         ensures others { HasSamePropertyStamps self.old self.new }
         ensures count { self.new.stamps ≡ self.old.stamps }
     {
@@ -64,7 +63,7 @@ impl<'d, V: Copy> LiveTree<'d, V> {
         requires stands { is_standing self.old parent ≡ true }
         ensures sound { IsLiveTree self.new }
         ensures kept { IsKept (node_path self.old parent) self.old self.new }
-        ensures state { state_of self.new ≡ without_node (node_path self.old parent ++ name.now ∷ []) (state_of self.old) }
+        ensures state { RemovesNode (child_path self.old parent name.now) self.old self.new }
         ensures stamps { HasSameChildStamps self.old self.new }
         ensures others { HasSamePropertyStamps self.old self.new }
         ensures count { self.new.stamps ≡ self.old.stamps }
@@ -81,7 +80,7 @@ impl<'d, V: Copy> LiveTree<'d, V> {
         requires below { 0 < node }
         requires stands { is_standing self.old node ≡ true }
         ensures sound { IsLiveTree self.new }
-        ensures state { state_of self.new ≡ without_node (node_path self.old node) (state_of self.old) }
+        ensures state { RemovesNode (node_path self.old node) self.old self.new }
         ensures stamps { HasSameChildStamps self.old self.new }
         ensures others { HasSamePropertyStamps self.old self.new }
         ensures count { self.new.stamps ≡ self.old.stamps }

@@ -5,7 +5,7 @@ ghost use Rattle.dt_meaning.specs.Paths.{Path};
 ghost use Rattle.dt_live.specs.ByRow.{KeepsRows, has_all_rows};
 ghost use Rattle.dt_live.specs.Rows.{HasSameNodes, IsLiveTree, IsKept, IsNode, is_standing, node_path, state_of};
 ghost use Rattle.dt_live.specs.Flattened.{IsFlattened, lists};
-ghost use Rattle.dt_live.specs.Private.Flattening.{with_tree, with_values};
+ghost use Rattle.dt_live.specs.Private.Flattening.{with_properties, with_tree};
 
 use crate::live_tree::LiveTree;
 use dt_tree::{Node, Property, Tree};
@@ -57,7 +57,7 @@ fn flatten_properties<'t>(
     ensures kept { OnOk result (HasSameNodes live.old live.new) }
     ensures rows { OnOk result (KeepsRows live.old live.new) }
     ensures labels { OnOk result ((state_of live.new).labels ≡ (state_of live.old).labels) }
-    ensures lists { OnOk result (lists live.new ≡ with_values (node_path live.old node) properties.now (lists live.old)) }
+    ensures lists { OnOk result (lists live.new ≡ with_properties live.old node properties.now) }
 {
     for property in properties {
         let name = property.name.as_bytes();

@@ -1,6 +1,6 @@
 //! What an index answers, and how it changes. Each call hashes its key once.
-ghost use Rattle.std.specs.Prelude.{◌≡◌, ◌+◌, ◌<◌, ℕ, List, None, Some, OnOk, OnErr, IfOk, if◌then◌else◌, length, unwrap_or, slice_set};
-ghost use Rattle.dt_live.specs.Index.{absent, entry_of, row_of, stamp_of, slot_of, is_key};
+ghost use Rattle.std.specs.Prelude.{◌≡◌, ◌+◌, ◌<◌, ℕ, List, None, Some, OnOk, OnErr, IfOk, length, slice_set};
+ghost use Rattle.dt_live.specs.Index.{DefinesRow, IsSetAt, SetsRow, absent, entry_of, row_of, stamp_of, slot_of};
 
 use crate::index::{Index, IndexEntry};
 use indexmap::IndexSet;
@@ -57,8 +57,8 @@ impl<'d> Index<'d> {
         stamp: usize,
     ) -> Result<IndexEntry, AllocError>
         ensures before { IfOk result (λ entry. entry ≡ entry_of self.old node name.now) }
-        ensures rows { OnOk result ((n : ℕ) (k : List ℕ) → row_of self.new n k ≡ (if is_key node name.now n k then Some (unwrap_or (row_of self.old node name.now) row) else row_of self.old n k)) }
-        ensures stamps { OnOk result ((n : ℕ) (k : List ℕ) → stamp_of self.new n k ≡ (if is_key node name.now n k then stamp else stamp_of self.old n k)) }
+        ensures rows { OnOk result (DefinesRow node name.now row self.old self.new) }
+        ensures stamps { OnOk result (IsSetAt node name.now stamp (stamp_of self.old) (stamp_of self.new)) }
         ensures err { OnErr result ((n : ℕ) (k : List ℕ) → entry_of self.new n k ≡ entry_of self.old n k) }
     {
         let slot = self.slot(node, name)?;
@@ -72,7 +72,7 @@ impl<'d> Index<'d> {
 
     /// Notes the row of a name, in place of the one that it had.
     pub fn insert(&mut self, node: usize, name: &'d [u8], row: usize) -> Result<(), AllocError>
-        ensures rows { OnOk result ((n : ℕ) (k : List ℕ) → row_of self.new n k ≡ (if is_key node name.now n k then Some row else row_of self.old n k)) }
+        ensures rows { OnOk result (SetsRow node name.now (Some row) self.old self.new) }
         ensures err { OnErr result ((n : ℕ) (k : List ℕ) → entry_of self.new n k ≡ entry_of self.old n k) }
     {
         let slot = self.slot(node, name)?;
@@ -86,7 +86,7 @@ impl<'d> Index<'d> {
     /// Forgets the row of a name, and answers it. What body defined the name last stays.
     pub fn forget(&mut self, node: usize, name: &'d [u8]) -> Option<usize>
         ensures was { result ≡ row_of self.old node name.now }
-        ensures rows { (n : ℕ) (k : List ℕ) → row_of self.new n k ≡ (if is_key node name.now n k then None else row_of self.old n k) }
+        ensures rows { SetsRow node name.now None self.old self.new }
         ensures stamps { (n : ℕ) (k : List ℕ) → stamp_of self.new n k ≡ stamp_of self.old n k }
     {
         match self.keys.get_index_of(&(node, name)) {

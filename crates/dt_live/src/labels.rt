@@ -1,8 +1,7 @@
 //! The labels of nodes.
-ghost use Rattle.std.specs.Prelude.{◌≡◌, true, map, Ok, Err, Some, None, IfSome, OnOk, IsErrOf, MatchOption};
-ghost use Rattle.dt_meaning.specs.Edits.{label_path};
-ghost use Rattle.dt_meaning.specs.Statements as meaning;
-ghost use Rattle.dt_live.specs.Rows.{HasSameChildStamps, HasSameNodes, HasSamePropertyStamps, IsLiveTree, IsNode, is_standing, node_path, state_of};
+ghost use Rattle.std.specs.Prelude.{◌≡◌, true, Ok, IfSome, OnOk, IsErrOf};
+ghost use Rattle.dt_live.specs.Labels.{IsLabelled, IsTaken, given_label, given_labels};
+ghost use Rattle.dt_live.specs.Rows.{HasSameChildStamps, HasSameNodes, HasSamePropertyStamps, IsLiveTree, IsNode, is_standing, state_of};
 
 use crate::live_tree::{LabelRow, LiveTree};
 use std::alloc::{AllocError, AllocFailed};
@@ -40,7 +39,7 @@ impl<'d, V: Copy> LiveTree<'d, V> {
     /// The node that has this label.
     pub fn labelled(&self, label: &'d [u8]) -> Option<usize>
         requires sound { IsLiveTree self.now }
-        ensures path { MatchOption result (label_path label.now (state_of self.now).labels ≡ None) (λ node. label_path label.now (state_of self.now).labels ≡ Some (node_path self.now node)) }
+        ensures path { IsLabelled self.now label.now result }
         ensures known { IfSome result (λ node. IsNode self.now node) }
         ensures there { IfSome result (λ node. is_standing self.now node ≡ true) }
     {
@@ -64,8 +63,8 @@ impl<'d, V: Copy> LiveTree<'d, V> {
         requires stands { is_standing self.old node ≡ true }
         ensures sound { OnOk result (IsLiveTree self.new) }
         ensures kept { HasSameNodes self.old self.new }
-        ensures given { OnOk result (meaning.give_label label.now (node_path self.old node) (label_path label.now (state_of self.old).labels) (state_of self.old) ≡ Ok (state_of self.new)) }
-        ensures refused { IsErrOf result LabelError.DuplicateLabel → meaning.give_label label.now (node_path self.old node) (label_path label.now (state_of self.old).labels) (state_of self.old) ≡ Err meaning.DuplicateLabel }
+        ensures given { OnOk result (given_label self.old node label.now ≡ Ok (state_of self.new)) }
+        ensures refused { IsErrOf result LabelError.DuplicateLabel → IsTaken (given_label self.old node label.now) }
         ensures children { HasSameChildStamps self.old self.new }
         ensures properties { HasSamePropertyStamps self.old self.new }
         ensures count { self.new.stamps ≡ self.old.stamps }
@@ -92,8 +91,8 @@ impl<'d, V: Copy> LiveTree<'d, V> {
         requires stands { is_standing self.old node ≡ true }
         ensures sound { OnOk result (IsLiveTree self.new) }
         ensures kept { HasSameNodes self.old self.new }
-        ensures given { OnOk result (meaning.give_labels (map (λ l. l.now) labels.now) (node_path self.old node) (state_of self.old) ≡ Ok (state_of self.new)) }
-        ensures refused { IsErrOf result LabelError.DuplicateLabel → meaning.give_labels (map (λ l. l.now) labels.now) (node_path self.old node) (state_of self.old) ≡ Err meaning.DuplicateLabel }
+        ensures given { OnOk result (given_labels self.old node labels.now ≡ Ok (state_of self.new)) }
+        ensures refused { IsErrOf result LabelError.DuplicateLabel → IsTaken (given_labels self.old node labels.now) }
         ensures children { HasSameChildStamps self.old self.new }
         ensures properties { HasSamePropertyStamps self.old self.new }
         ensures count { self.new.stamps ≡ self.old.stamps }

@@ -1,8 +1,7 @@
 //! The node at a path, and how deep a node lies.
-ghost use Rattle.std.specs.Prelude.{◌≡◌, true, false, length, IfSome, MatchOption};
+ghost use Rattle.std.specs.Prelude.{◌≡◌, true, length, IfSome};
 ghost use Rattle.dt_tree.specs.Path.{path_names};
-ghost use Rattle.dt_meaning.specs.Edits.{has_node};
-ghost use Rattle.dt_live.specs.Rows.{IsLiveTree, IsNode, is_standing, node_path, state_of};
+ghost use Rattle.dt_live.specs.Rows.{IsLiveTree, IsNode, IsNodeAt, is_standing, node_path};
 
 use crate::live_tree::LiveTree;
 
@@ -10,7 +9,7 @@ impl<'d, V: Copy> LiveTree<'d, V> {
     /// The node at a path.
     pub fn at_path(&self, path: &'d [u8]) -> Option<usize>
         requires sound { IsLiveTree self.now }
-        ensures path { MatchOption result (has_node (path_names path.now) (state_of self.now) ≡ false) (λ node. (has_node (path_names path.now) (state_of self.now) ≡ true) × (path_names path.now ≡ node_path self.now node)) }
+        ensures path { IsNodeAt self.now (path_names path.now) result }
         ensures known { IfSome result (λ node. IsNode self.now node) }
         ensures there { IfSome result (λ node. is_standing self.now node ≡ true) }
     {

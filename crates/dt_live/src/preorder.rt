@@ -1,8 +1,7 @@
 //! The order of a live tree's tree.
-ghost use Rattle.std.specs.Prelude.{◌≡◌, true, map, All, IfOk};
-ghost use Rattle.dt_meaning.specs.References.{in_order, preorder};
-ghost use Rattle.dt_live.specs.Rows.{IsLiveTree, IsNode, is_standing, node_path, state_of};
-ghost use Rattle.dt_live.specs.Preorder.{definition_of};
+ghost use Rattle.std.specs.Prelude.{All, IfOk};
+ghost use Rattle.dt_live.specs.Rows.{IsLiveTree, IsNode};
+ghost use Rattle.dt_live.specs.Preorder.{AreInOrder, AreInPreorder, Stands};
 
 mod children;
 mod lists;
@@ -29,12 +28,12 @@ pub fn preorder_of<'d, V: Copy>(
     live: &LiveTree<'d, V>,
 ) -> Result<Preorder<'d, V>, AllocError>
     requires { IsLiveTree live.now }
-    ensures nodes { IfOk result (λ in_preorder. map (node_path live.now) in_preorder.nodes.items ≡ preorder (state_of live.now).nodes) }
+    ensures nodes { IfOk result (λ in_preorder. AreInPreorder live.now in_preorder.nodes.items) }
     ensures known { IfOk result (λ in_preorder. All (λ n. IsNode live.now n) in_preorder.nodes.items) }
-    ensures there { IfOk result (λ in_preorder. All (λ n. is_standing live.now n ≡ true) in_preorder.nodes.items) }
+    ensures there { IfOk result (λ in_preorder. All (Stands live.now) in_preorder.nodes.items) }
     ensures owners { IfOk result (λ in_preorder. All (λ x. IsNode live.now x.node) in_preorder.properties.items) }
-    ensures stand { IfOk result (λ in_preorder. All (λ x. is_standing live.now x.node ≡ true) in_preorder.properties.items) }
-    ensures properties { IfOk result (λ in_preorder. map (definition_of live.now) in_preorder.properties.items ≡ in_order (state_of live.now)) }
+    ensures stand { IfOk result (λ in_preorder. All (λ x. Stands live.now x.node) in_preorder.properties.items) }
+    ensures properties { IfOk result (λ in_preorder. AreInOrder live.now in_preorder.properties.items) }
 {
     let nodes = walk_tree(alloc, live.nodes())?;
     let count = live.nodes().len() + 1;

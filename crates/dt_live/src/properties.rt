@@ -1,9 +1,9 @@
 //! The properties of nodes.
-ghost use Rattle.std.specs.Prelude.{◌≡◌, ◌==◌, ℕ, List, not, true, IfOk, OnOk, if◌then◌else◌};
-ghost use Rattle.dt_meaning.specs.Edits.{with_property, without_property};
+ghost use Rattle.std.specs.Prelude.{◌≡◌, ◌==◌, not, true, IfOk, OnOk};
+ghost use Rattle.dt_meaning.specs.Edits.{without_property};
 ghost use Rattle.dt_live.specs.ByRow.{KeepsRows};
-ghost use Rattle.dt_live.specs.Index.{is_key};
-ghost use Rattle.dt_live.specs.Rows.{HasSameChildStamps, HasSameNodes, HasSamePropertyStamps, IsLiveTree, IsNode, is_standing, node_path, property_stamp, property_of, state_of};
+ghost use Rattle.dt_live.specs.Index.{IsSetAt};
+ghost use Rattle.dt_live.specs.Rows.{HasSameChildStamps, HasSameNodes, HasSamePropertyStamps, IsLiveTree, IsNode, SetsProperty, is_standing, node_path, property_stamp, property_of, state_of};
 
 use crate::live_tree::{LiveTree, PropertyRow};
 use std::alloc::AllocError;
@@ -31,9 +31,9 @@ impl<'d, V: Copy> LiveTree<'d, V> {
         ensures sound { OnOk result (IsLiveTree self.new) }
         ensures kept { HasSameNodes self.old self.new }
         ensures rows { OnOk result (KeepsRows self.old self.new) }
-        ensures state { OnOk result (state_of self.new ≡ with_property (node_path self.old node) name.now value (state_of self.old)) }
+        ensures state { OnOk result (SetsProperty (node_path self.old node) name.now value self.old self.new) }
         ensures first { IfOk result (λ x. x ≡ not (property_stamp self.old node name.now == stamp)) }
-        ensures stamps { OnOk result ((n : ℕ) (k : List ℕ) → property_stamp self.new n k ≡ (if is_key node name.now n k then stamp else property_stamp self.old n k)) }
+        ensures stamps { OnOk result (IsSetAt node name.now stamp (property_stamp self.old) (property_stamp self.new)) }
         ensures others { HasSameChildStamps self.old self.new }
         ensures count { self.new.stamps ≡ self.old.stamps }
     {

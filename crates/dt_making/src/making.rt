@@ -5,7 +5,7 @@ ghost use Rattle.dt_tree.specs.Name.{is_name};
 ghost use Rattle.dt_tree_builder.specs.Builders.{built_lists};
 ghost use Rattle.dt_tree_builder.specs.Standing.{walked};
 ghost use Rattle.dt_making.specs.Made.{IsInPreorder, IsRest};
-ghost use Rattle.dt_making.specs.Private.Walks.{AreOfNode, IsWalk};
+ghost use Rattle.dt_making.specs.Private.Walks.{AreMade, AreOfNode, IsWalk};
 
 use crate::values::Values;
 use dt_live::{LiveTree, NodeProperty, Preorder};
@@ -57,7 +57,7 @@ fn node_properties<'d, V: Copy, M: Values<V>>(
     requires named { All (λ x. is_name x.name.now ≡ true) run.now }
     ensures ready { OnOk result (M.is_ready values.new) }
     ensures made { OnOk result (M.made values.new ≡ M.made values.old) }
-    ensures properties { IfOk result (AreOfNode (M.bytes_of values.old) (M.bytes_of values.new) run.now ((M.made values.old).new_phandle node)) }
+    ensures properties { IfOk result (AreMade M.made M.bytes_of values.old values.new node run.now) }
 {
     match values.new_phandle(node) {
         None => run_properties(alloc, values, run, 0),
@@ -76,29 +76,6 @@ struct Walk {
     builder: TreeBuilder,
     node: usize,
     property: usize,
-}
-
-// The root alone.
-fn root_of<'d, V: Copy, M: Values<V>>(
-    alloc: Global,
-    live: &LiveTree<'d, V>,
-    in_preorder: &Preorder<'d, V>,
-    values: &mut M,
-) -> Result<Walk, AllocError>
-    requires ready { M.is_ready values.old }
-    requires order { IsInPreorder live.now in_preorder.now (M.made values.old) }
-    requires rest { IsRest live.now in_preorder.now (M.made values.old) (M.bytes_of values.old) 0 0 }
-    ensures ready { OnOk result (M.is_ready values.new) }
-    ensures made { OnOk result (M.made values.new ≡ M.made values.old) }
-    ensures walk { IfOk result (IsWalk live.now in_preorder.now (M.made values.old) (M.bytes_of values.new)) }
-{
-    let run = in_preorder.run_of(0, 0);
-    let properties = node_properties(alloc, values, 0, run)?;
-    Ok(Walk {
-        builder: TreeBuilder::new(alloc, properties),
-        node: 1,
-        property: run.len(),
-    })
 }
 
 // One node more, behind all before it.
@@ -143,7 +120,13 @@ pub fn make_nodes<'d, V: Copy, M: Values<V>>(
     requires rest { IsRest live.now in_preorder.now (M.made values.old) (M.bytes_of values.old) 0 0 }
     ensures { IfOk result (λ builder. built_lists builder ≡ walked (M.made values.old).lists) }
 {
-    let mut walk = root_of(alloc, live, in_preorder, values)?;
+    let run = in_preorder.run_of(0, 0);
+    let properties = node_properties(alloc, values, 0, run)?;
+    let mut walk = Walk {
+        builder: TreeBuilder::new(alloc, properties),
+        node: 1,
+        property: run.len(),
+    };
     while walk.node < in_preorder.nodes.len() {
         walk = with_node(alloc, live, in_preorder, values, walk)?;
     }

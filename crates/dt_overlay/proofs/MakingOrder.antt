@@ -17,7 +17,7 @@ use Rattle.dt_live.specs.Preorder.{definition_of}
 use Rattle.dt_live.specs.Rows.{IsNode, is_standing, no_row, node_path, state_of}
 use Rattle.dt_live.proofs.Each.{Each, each-all}
 use Rattle.dt_live.proofs.MakingNodes.{AreInOrder, row-known}
-use Rattle.dt_live.proofs.Runs.{Named, all-named}
+use Rattle.dt_live.proofs.Runs.{HasName, all-named}
 use Rattle.dt_live.proofs.WholeTrees.{whole-properties-named}
 use Rattle.dt_tree_builder.specs.Standing.{AreNodes}
 use Rattle.dt_making.specs.Made.{IsInPreorder, IsRest, entries, values_in}
@@ -39,7 +39,7 @@ walk-plain : (es : List (Definition Lent)) (qs : List Path) → map plain (flat_
 walk-plain es [] = refl
 walk-plain es (q ∷ qs) = map-append plain (held es q) (flat_map (held es) qs) ∙ ap₂ (λ xs ys. xs ++ ys) (held-plain es q) (walk-plain es qs)
 
-each-named : (es : List Entry) → list_all is_named es ≡ true → Each Named es
+each-named : (es : List Entry) → list_all is_named es ≡ true → Each HasName es
 each-named [] all = tt
 each-named (e ∷ es) all = let parts = and_parts (is_named e) (list_all is_named es) all in (parts.0, each-named es parts.1)
 
@@ -54,7 +54,7 @@ module _ (d : LiveTree Lent) (y : Preorder Lent) (whole : IsWhole d) (properties
   pub all-rest : IsRest d y (copied d) (λ vs. map (λ v. v.now) vs) 0 0
   all-rest = record { within = omega arith; bytes = all-copies }
 
-  properties-named : (xs : List (NodeProperty Lent)) → Each Named (map plain (map (definition_of d) xs)) → Each (λ x. is_name x.name.now ≡ true) xs
+  properties-named : (xs : List (NodeProperty Lent)) → Each HasName (map plain (map (definition_of d) xs)) → Each (λ x. is_name x.name.now ≡ true) xs
   properties-named [] h = tt
   properties-named (x ∷ xs) h = (h.0, properties-named xs h.1)
 
@@ -74,7 +74,7 @@ module _ (d : LiveTree Lent) (y : Preorder Lent) (whole : IsWhole d) (properties
       named_nodes = λ k n some below here. whole.named_nodes (n - 1) no_row (row-known order-of k some below n here);
       named = each-all (λ x. is_name x.name.now ≡ true) y.properties.items
           (properties-named y.properties.items
-          (subst (λ (es : List Entry). Each Named es) (sym (sym (copies y.properties.items) ∙ all-copies))
+          (subst (λ (es : List Entry). Each HasName es) (sym (sym (copies y.properties.items) ∙ all-copies))
           (all-named (lists d).properties (preorder (lists d).nodes) (each-named (lists d).properties (whole-properties-named d whole)))));
       apart = own-apart d whole;
       own = λ n known up. sym (append-nil (held (lists d).properties (node_path d n)));

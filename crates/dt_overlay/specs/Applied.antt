@@ -1,6 +1,6 @@
 -- What applying an overlay answers: the tree of *Overlay result*, where its values are short enough, or why there is none
 -- (dt-object-internal, section 3).
-use Rattle.std.specs.Prelude.{◌≡◌, ◌<◌, ◌≤◌, ◌-◌, ◌^◌, ℕ, Option, None, Some, Ok}
+use Rattle.std.specs.Prelude.{◌≡◌, ◌<◌, ◌≤◌, ◌-◌, ◌^◌, ℕ, Option, None, Some, Result, Ok, MatchResult}
 use Rattle.dt_tree.specs.NodeData.{NodeData}
 use Rattle.dt_tree.specs.PathMap.{path_map, tree_map}
 use Rattle.dt_tree.specs.Sound.{IsSound}
@@ -9,7 +9,10 @@ use Rattle.dt_meaning.specs.MapOf.{map_of}
 use Rattle.dt_meaning.specs.Resolved.{Resolved}
 use Rattle.dt_tree_builder.specs.Lists.{lists_of}
 use Rattle.dt_tree_builder.specs.Sizes.{size_in, size_below}
+use Rattle.dt_overlay_meaning.specs.Steps.{Fault}
 use Rattle.dt_overlay_meaning.specs.Applied.{overlay_result}
+use Rattle.dt_fixup.specs.declared.error.OverlayError.{OverlayError}
+use Rattle.dt_fixup.specs.OverlayFault.{IsFault}
 
 -- the tree is the base with the overlay applied; its reservations and its processor are the base's
 pub record IsApplied (base over t : TreeData) : Type 0 where
@@ -34,3 +37,15 @@ pub record IsLonger (base over : TreeData) (limit : ℕ) : Type 0 where
 abbrev pub IsAppliedOrLonger : TreeData → TreeData → ℕ → Option TreeData → Type 0
 IsAppliedOrLonger base over limit (Some t) = IsAppliedWithin base over limit t
 IsAppliedOrLonger base over limit None = IsLonger base over limit
+
+-- what applying one to the other means, as lists
+abbrev pub applied_lists : TreeData → TreeData → Result Resolved Fault
+applied_lists base over = overlay_result (lists_of base.root) (lists_of over.root)
+
+-- a call answers that tree, or has its fault
+abbrev pub Applies : TreeData → TreeData → Result TreeData OverlayError → Type 0
+Applies base over result = MatchResult result (λ t. IsApplied base over t) (λ e. IsFault e (applied_lists base over))
+
+abbrev pub AppliesWithin : TreeData → TreeData → ℕ → Result (Option TreeData) OverlayError → Type 0
+AppliesWithin base over limit result =
+    MatchResult result (λ t. IsAppliedOrLonger base over limit t) (λ e. IsFault e (applied_lists base over))

@@ -1,20 +1,16 @@
 //! An overlay, applied to a base.
-ghost use Rattle.std.specs.Prelude.{◌≡◌, ◌<◌, ◌≤◌, ◌-◌, ◌^◌, [], IfOk, MatchOption, MatchResult, Ok};
-ghost use Rattle.dt_overlay_meaning.specs.Applied.{overlay_result};
-ghost use Rattle.dt_overlay_meaning.specs.Shifted.{fragments, shifted_overlay};
-ghost use Rattle.dt_tree.specs.PathMap.{path_map};
-ghost use Rattle.dt_meaning.specs.MapOf.{map_of};
+ghost use Rattle.std.specs.Prelude.{◌≡◌, ◌<◌, ◌-◌, ◌^◌, [], IfOk, MatchOption};
+ghost use Rattle.dt_overlay_meaning.specs.Shifted.{shifted_overlay};
 ghost use Rattle.dt_tree_builder.specs.Lists.{lists_of};
 ghost use Rattle.dt_tree_builder.specs.Standing.{AreNodes};
-ghost use Rattle.dt_tree_builder.specs.Sizes.{size_in};
 ghost use Rattle.dt_live.specs.Flattened.{IsOrdered, IsWhole, lists};
-ghost use Rattle.dt_fixup.specs.OverlayFault.{IsFault};
+ghost use Rattle.dt_fixup.specs.OverlayFault.{Gives};
 ghost use Rattle.dt_fixup.specs.PatchedOverlay.{IsPatched, patched_lists};
-ghost use Rattle.dt_overlay.specs.Applied.{IsApplied, IsAppliedOrLonger};
-ghost use Rattle.dt_overlay.specs.Private.Additions.{AreSymbols};
-ghost use Rattle.dt_overlay.specs.Private.Applying.{IsRootOrTooLong};
-ghost use Rattle.dt_overlay.specs.Private.Fragments.{AreFragments};
-ghost use Rattle.dt_overlay.specs.Private.Symbols.{applied_over, symbols_of};
+ghost use Rattle.dt_overlay.specs.Applied.{Applies, AppliesWithin, applied_lists};
+ghost use Rattle.dt_overlay.specs.Private.Additions.{AreItsSymbols};
+ghost use Rattle.dt_overlay.specs.Private.Applying.{AnswersRoot, Exceeds, Fits, HasMap};
+ghost use Rattle.dt_overlay.specs.Private.Fragments.{AreItsFragments};
+ghost use Rattle.dt_overlay.specs.Private.Symbols.{applied_rows};
 
 use crate::fragments::{Fragment, find_fragments};
 use crate::making::{make, total_size};
@@ -45,8 +41,8 @@ fn find_additions<'t>(
     requires base { IsWhole rows.now }
     requires patched { IsPatched patched.now }
     requires ordered { IsOrdered patched.now.live }
-    ensures fragments { IfOk result (λ additions. AreFragments rows.now patched.now (fragments (patched_lists patched.now)) additions.list.items) }
-    ensures symbols { IfOk result (λ additions. AreSymbols (symbols_of (lists rows.now) (patched_lists patched.now)) limit additions.symbols) }
+    ensures fragments { IfOk result (λ additions. AreItsFragments rows.now patched.now additions.list.items) }
+    ensures symbols { IfOk result (λ additions. AreItsSymbols rows.now patched.now limit additions.symbols) }
 {
     let list = find_fragments(alloc, rows, patched)?;
     let targets = row_targets(alloc, patched, list.as_slice())?;
@@ -71,9 +67,9 @@ fn root_within<'d>(
 ) -> Result<Option<Node>, AllocError>
     requires whole { IsWhole live.now }
     requires nodes { AreNodes (lists live.now).nodes }
-    ensures name { IfOk result (λ found. MatchOption found (limit < size_in (lists live.now).properties) (λ root. root.name ≡ [])) }
-    ensures map { IfOk result (λ found. MatchOption found (limit < size_in (lists live.now).properties) (λ root. path_map root ≡ map_of (lists live.now))) }
-    ensures fits { IfOk result (λ found. MatchOption found (limit < 2 ^ 64 - 1) (λ _. limit < 2 ^ 64 - 1 → size_in (lists live.now).properties ≤ limit)) }
+    ensures name { IfOk result (λ found. MatchOption found (Exceeds live.now limit) (λ root. root.name ≡ [])) }
+    ensures map { IfOk result (λ found. MatchOption found (Exceeds live.now limit) (HasMap live.now)) }
+    ensures fits { IfOk result (λ found. MatchOption found (limit < 2 ^ 64 - 1) (λ _. Fits live.now limit)) }
 {
     if total_size(live) > limit {
         return Ok(None);
@@ -95,9 +91,9 @@ fn merged_root<'s, 't>(
     requires nodes { AreNodes (lists live.old).nodes }
     requires patched { IsPatched patched.now }
     requires ordered { IsOrdered patched.now.live }
-    requires fragments { AreFragments live.old patched.now (fragments (patched_lists patched.now)) additions.now.list.items }
-    requires symbols { AreSymbols (symbols_of (lists live.old) (patched_lists patched.now)) limit additions.now.symbols }
-    ensures { MatchResult result (λ root. IsRootOrTooLong (applied_over (lists live.old) (patched_lists patched.now)) limit root) (λ e. IsFault e (applied_over (lists live.old) (patched_lists patched.now))) }
+    requires fragments { AreItsFragments live.old patched.now additions.now.list.items }
+    requires symbols { AreItsSymbols live.old patched.now limit additions.now.symbols }
+    ensures { AnswersRoot (applied_rows live.old patched.now) limit result }
 {
     merge_fragments(alloc, live, patched, additions.list.as_slice())?;
     let symbols = match &additions.symbols {
@@ -121,9 +117,9 @@ fn rows_root<'s, 't>(
     requires nodes { AreNodes (lists rows).nodes }
     requires patched { IsPatched patched.now }
     requires ordered { IsOrdered patched.now.live }
-    requires fragments { AreFragments rows patched.now (fragments (patched_lists patched.now)) additions.now.list.items }
-    requires symbols { AreSymbols (symbols_of (lists rows) (patched_lists patched.now)) limit additions.now.symbols }
-    ensures { MatchResult result (λ root. IsRootOrTooLong (applied_over (lists rows.entry) (patched_lists patched.now)) limit root) (λ e. IsFault e (applied_over (lists rows.entry) (patched_lists patched.now))) }
+    requires fragments { AreItsFragments rows patched.now additions.now.list.items }
+    requires symbols { AreItsSymbols rows patched.now limit additions.now.symbols }
+    ensures { AnswersRoot (applied_rows rows.entry patched.now) limit result }
 {
     let mut live = rows;
     let root = merged_root(alloc, &mut live, patched, additions, limit);
@@ -142,7 +138,7 @@ fn patched_root<'t>(
     requires nodes { AreNodes (lists rows).nodes }
     requires patched { IsPatched patched.now }
     requires ordered { IsOrdered patched.now.live }
-    ensures { MatchResult result (λ root. IsRootOrTooLong (applied_over (lists rows.entry) (patched_lists patched.now)) limit root) (λ e. IsFault e (applied_over (lists rows.entry) (patched_lists patched.now))) }
+    ensures { AnswersRoot (applied_rows rows.entry patched.now) limit result }
 {
     match find_additions(alloc, &rows, patched, limit) {
         Ok(additions) => rows_root(alloc, rows, patched, &additions, limit),
@@ -161,7 +157,7 @@ fn patched_overlay<'t>(
     overlay: &'t Tree,
 ) -> Result<PatchedOverlay<'t>, OverlayError>
     requires { IsWhole rows.now }
-    ensures patched { MatchResult result (λ patched. shifted_overlay (lists rows.now) (lists_of overlay.now.root) ≡ Ok (patched_lists patched)) (λ e. IsFault e (shifted_overlay (lists rows.now) (lists_of overlay.now.root))) }
+    ensures patched { Gives (shifted_overlay (lists rows.now) (lists_of overlay.now.root)) patched_lists result }
     ensures sound { IfOk result (λ patched. IsPatched patched) }
     ensures ordered { IfOk result (λ patched. IsOrdered patched.live) }
 {
@@ -177,7 +173,7 @@ fn applied_root<'t>(
     overlay: &'t Tree,
     limit: usize,
 ) -> Result<Option<Node>, OverlayError>
-    ensures { MatchResult result (λ root. IsRootOrTooLong (overlay_result (lists_of base.now.root) (lists_of overlay.now.root)) limit root) (λ e. IsFault e (overlay_result (lists_of base.now.root) (lists_of overlay.now.root))) }
+    ensures { AnswersRoot (applied_lists base.now overlay.now) limit result }
 {
     let rows = flatten(alloc, hasher, base)?;
     match patched_overlay(alloc, hasher, &rows, overlay) {
@@ -202,7 +198,7 @@ pub fn apply_within(
     overlay: &Tree,
     limit: usize,
 ) -> Result<Option<Tree>, OverlayError>
-    ensures { MatchResult result (λ tree. IsAppliedOrLonger base.now overlay.now limit tree) (λ e. IsFault e (overlay_result (lists_of base.now.root) (lists_of overlay.now.root))) }
+    ensures { AppliesWithin base.now overlay.now limit result }
 {
     base.check();
     match applied_root(alloc, hasher, base, overlay, limit) {
@@ -226,7 +222,7 @@ pub fn apply(
     base: &Tree,
     overlay: &Tree,
 ) -> Result<Tree, OverlayError>
-    ensures { MatchResult result (λ tree. IsApplied base.now overlay.now tree) (λ e. IsFault e (overlay_result (lists_of base.now.root) (lists_of overlay.now.root))) }
+    ensures { Applies base.now overlay.now result }
 {
     match apply_within(alloc, hasher, base, overlay, usize::MAX) {
         Ok(Some(tree)) => Ok(tree),

@@ -1,16 +1,11 @@
 //! The fragments of an overlay, and the nodes of the base that they target.
-ghost use Rattle.std.specs.Prelude.{◌≡◌, ◌<◌, ◌+◌, ◌==◌, [], ℕ, None, Some, IfOk, OnOk, MatchOption, codes, if◌then◌else◌, is_some, length, option_map};
-ghost use Rattle.std.specs.BTreeMap.{get};
-ghost use Rattle.std.specs.Int.{from_be_bytes, w32};
-ghost use Rattle.std.specs.Ordering.{nat_cmp};
-ghost use Rattle.dt_meaning.specs.MapOf.{value_in};
+ghost use Rattle.std.specs.Prelude.{◌≡◌, ◌<◌, IfOk, OnOk, length, option_map};
 ghost use Rattle.dt_live.specs.Rows.{IsNode, node_path};
 ghost use Rattle.dt_live.specs.Flattened.{IsOrdered, IsWhole, lists};
-ghost use Rattle.dt_overlay_meaning.specs.Applied.{standing, target_by};
+ghost use Rattle.dt_overlay_meaning.specs.Applied.{standing};
 ghost use Rattle.dt_overlay_meaning.specs.Texts.{ended_path};
-ghost use Rattle.dt_overlay_meaning.specs.Shifted.{fragment_at, fragments};
-ghost use Rattle.dt_fixup.specs.PatchedOverlay.{IsPatched, patched_lists};
-ghost use Rattle.dt_overlay.specs.Private.Fragments.{AreFragments, ArePhandles, IsBody, IsTarget};
+ghost use Rattle.dt_fixup.specs.PatchedOverlay.{IsPatched};
+ghost use Rattle.dt_overlay.specs.Private.Fragments.{AreItsFragments, ArePhandles, IsBodyAt, IsTarget, NotesFirst, node_by, target_of};
 
 use dt_fixup::{PatchedOverlay, ended_path, row_phandle};
 use dt_live::LiveTree;
@@ -35,7 +30,7 @@ pub(crate) fn find_fragments<'t>(
     requires base { IsWhole base.now }
     requires patched { IsPatched patched.now }
     requires ordered { IsOrdered patched.now.live }
-    ensures { IfOk result (λ list. AreFragments base.now patched.now (fragments (patched_lists patched.now)) list.items) }
+    ensures { IfOk result (λ list. AreItsFragments base.now patched.now list.items) }
 {
     let phandles = phandle_nodes(alloc, base)?;
     let mut list = Vec::new(alloc);
@@ -53,7 +48,7 @@ pub(crate) fn find_fragments<'t>(
 pub(crate) fn fragment_body<'t>(over: &LiveTree<'t, &'t [u8]>, row: usize) -> Option<usize>
     requires whole { IsWhole over.now }
     requires known { row < length over.now.nodes.items }
-    ensures { MatchOption result (fragment_at (node_path over.now (row + 1)) (lists over.now).nodes ≡ []) (λ body. IsBody over.now row body) }
+    ensures { IsBodyAt over.now row result }
 {
     if over.nodes()[row].parent != 0 {
         return None;
@@ -80,7 +75,7 @@ fn phandle_nodes<'t>(
 
 // Notes a node for a number that has none.
 fn put_first(found: &mut BTreeMap<u32, usize>, number: u32, node: usize) -> Result<(), AllocError>
-    ensures { OnOk result ((n : ℕ) → get nat_cmp found.new n ≡ (if is_some (get nat_cmp found.old n) then get nat_cmp found.old n else (if n == number then Some node else None))) }
+    ensures { OnOk result (NotesFirst number node found.old found.new) }
 {
     if !found.contains_key(&number) {
         found.insert(number, node)?;
@@ -99,7 +94,7 @@ fn find_target<'t>(
     requires patched { IsPatched patched.now }
     requires phandles { ArePhandles base.now phandles.now }
     requires known { IsNode patched.now.live fragment }
-    ensures target { option_map (node_path base.now) result ≡ target_by (lists base.now) (value_in (patched_lists patched.now).properties (node_path patched.now.live fragment) (codes "target")) (value_in (patched_lists patched.now).properties (node_path patched.now.live fragment) (codes "target-path")) }
+    ensures target { option_map (node_path base.now) result ≡ target_of base.now patched.now fragment }
     ensures known { IsTarget base.now result }
 {
     match patched.live.property(fragment, b"target".as_slice()) {
@@ -112,7 +107,7 @@ fn find_target<'t>(
 }
 
 fn by_phandle(phandles: &BTreeMap<u32, usize>, value: &[u8]) -> Option<usize>
-    ensures { result ≡ (if length value.now == 4 then get nat_cmp phandles.now (from_be_bytes w32 value.now) else None) }
+    ensures { result ≡ node_by phandles.now value.now }
 {
     match cell_in(value) {
         None => None,

@@ -1,15 +1,11 @@
 //! The fragments of an overlay, merged into the base.
-ghost use Rattle.std.specs.Prelude.{◌≡◌, ◌+◌, Ok, OnOk, MatchResult, length, option_map};
+ghost use Rattle.std.specs.Prelude.{◌≡◌, ◌+◌, OnOk, length};
 ghost use Rattle.dt_live.specs.ByRow.{KeepsRows};
-ghost use Rattle.dt_live.specs.Rows.{IsLiveTree, node_path, state_of};
-ghost use Rattle.dt_overlay_meaning.specs.Applied.{with_fragment};
-ghost use Rattle.dt_overlay_meaning.specs.Shifted.{fragments};
-ghost use Rattle.dt_overlay_meaning.specs.Steps.{fold};
-ghost use Rattle.dt_live.specs.Flattened.{IsOrdered, IsWhole, lists};
-ghost use Rattle.dt_fixup.specs.OverlayFault.{IsFault};
-ghost use Rattle.dt_fixup.specs.PatchedOverlay.{IsPatched, patched_lists};
-ghost use Rattle.dt_overlay.specs.Private.Fragments.{AreFragments};
-ghost use Rattle.dt_overlay.specs.Private.Merging.{AreKept, IsMergeable, merged_at};
+ghost use Rattle.dt_live.specs.Rows.{IsLiveTree, state_of};
+ghost use Rattle.dt_live.specs.Flattened.{IsOrdered, IsWhole};
+ghost use Rattle.dt_fixup.specs.PatchedOverlay.{IsPatched};
+ghost use Rattle.dt_overlay.specs.Private.Fragments.{AreItsFragments};
+ghost use Rattle.dt_overlay.specs.Private.Merging.{AreKept, IsMergeable, MergesAll, MergesFragment};
 
 use crate::fragments::Fragment;
 use crate::part::merge_part;
@@ -27,9 +23,9 @@ pub(crate) fn merge_fragments<'s, 't>(
     requires base { IsWhole live.old }
     requires patched { IsPatched patched.now }
     requires ordered { IsOrdered patched.now.live }
-    requires fragments { AreFragments live.old patched.now (fragments (patched_lists patched.now)) list.now }
+    requires fragments { AreItsFragments live.old patched.now list.now }
     ensures whole { OnOk result (IsWhole live.new) }
-    ensures merged { MatchResult result (λ _. fold (with_fragment (lists live.old) (patched_lists patched.now)) (fragments (patched_lists patched.now)) (lists live.old) ≡ Ok (lists live.new)) (λ e. IsFault e (fold (with_fragment (lists live.old) (patched_lists patched.now)) (fragments (patched_lists patched.now)) (lists live.old))) }
+    ensures merged { MergesAll patched.now live.old live.new result }
 {
     let mut base_nodes = vec![in alloc; 0; patched.live.nodes().len() + 1]?;
     for fragment in list {
@@ -54,7 +50,7 @@ fn merge_fragment<'s, 't>(
     ensures kept { OnOk result (AreKept live.old live.new) }
     ensures rows { OnOk result (KeepsRows live.old live.new) }
     ensures labels { OnOk result ((state_of live.new).labels ≡ (state_of live.old).labels) }
-    ensures merged { MatchResult result (λ _. merged_at (patched_lists patched.now) (node_path patched.now.live fragment.body) (option_map (node_path live.old) fragment.target) (lists live.old) ≡ Ok (lists live.new)) (λ e. IsFault e (merged_at (patched_lists patched.now) (node_path patched.now.live fragment.body) (option_map (node_path live.old) fragment.target) (lists live.old))) }
+    ensures merged { MergesFragment patched.now fragment live.old live.new result }
 {
     match fragment.target {
         None => Err(OverlayError::NoTarget),

@@ -1,16 +1,10 @@
 //! The nodes and the properties of one fragment, put below its target.
-ghost use Rattle.std.specs.Prelude.{◌≡◌, ◌<◌, ◌≤◌, ◌+◌, ◌&&◌, ℕ, IfOk, OnOk, MatchResult, Ok, codes, is_some, length, slice_index_or, true};
-ghost use Rattle.std.specs.List.{list_any};
-ghost use Rattle.std.specs.Str.{bytes_eq};
-ghost use Rattle.dt_meaning.specs.MapOf.{value_in};
+ghost use Rattle.std.specs.Prelude.{◌≡◌, ◌+◌, IfOk, OnOk, length, slice_index_or, true};
 ghost use Rattle.dt_live.specs.ByRow.{KeepsRows};
-ghost use Rattle.dt_live.specs.Rows.{HasSameNodes, IsLiveTree, IsNode, is_standing, node_path, property_at, state_of};
-ghost use Rattle.dt_meaning.specs.Resolved.{is_too_deep};
+ghost use Rattle.dt_live.specs.Rows.{HasSameNodes, IsLiveTree, IsNode, is_standing, node_path, state_of};
 ghost use Rattle.dt_live.specs.Flattened.{IsOrdered, lists};
-ghost use Rattle.dt_fixup.specs.PatchedOverlay.{IsPatched, patched_lists};
-ghost use Rattle.dt_fixup.specs.OverlayFault.{IsFault};
-ghost use Rattle.dt_overlay_meaning.specs.Applied.{clashes, merged, with_nodes, with_values};
-ghost use Rattle.dt_overlay.specs.Private.Merging.{AreKept, AreBaseNodes, IsFirst, IsPart, IsPartOf, part_below};
+ghost use Rattle.dt_fixup.specs.PatchedOverlay.{IsPatched};
+ghost use Rattle.dt_overlay.specs.Private.Merging.{AreByNode, AreKept, ArePartNodes, DefinesPart, IsFirst, IsPart, IsPartOf, MergesPart, NotesBaseNodes, SetsPart, has_clash, is_clash, is_deep, part_at};
 
 use dt_fixup::{OverlayError, PatchedOverlay};
 use dt_live::{LiveTree, PropertyRow};
@@ -40,11 +34,11 @@ pub(crate) fn define_nodes<'s, 't>(
     ensures kept { OnOk result (AreKept live.old live.new) }
     ensures rows { OnOk result (KeepsRows live.old live.new) }
     ensures labels { OnOk result ((state_of live.new).labels ≡ (state_of live.old).labels) }
-    ensures nodes { OnOk result ((lists live.new).nodes ≡ with_nodes (part_below (patched_lists patched.now) (node_path patched.now.live body) (node_path live.old (slice_index_or base_nodes.old body 0))).nodes (lists live.old).nodes) }
+    ensures nodes { OnOk result (DefinesPart patched.now body base_nodes.old live.old live.new) }
     ensures properties { OnOk result ((lists live.new).properties ≡ (lists live.old).properties) }
     ensures part { IfOk result (λ x. IsPart patched.now.live.nodes.items body x.0) }
-    ensures deep { IfOk result (λ x. x.1 ≡ list_any is_too_deep (part_below (patched_lists patched.now) (node_path patched.now.live body) (node_path live.old (slice_index_or base_nodes.old body 0))).nodes) }
-    ensures base_nodes { IfOk result (λ x. AreBaseNodes patched.now.live live.new (node_path live.old (slice_index_or base_nodes.old body 0)) body x.0 base_nodes.new) }
+    ensures deep { IfOk result (λ x. x.1 ≡ is_deep (part_at patched.now body base_nodes.old live.old)) }
+    ensures base_nodes { NotesBaseNodes patched.now.live body live.old base_nodes.old live.new base_nodes.new result }
 {
     let nodes = patched.live.nodes();
     let mut is_deep = false;
@@ -64,7 +58,7 @@ pub(crate) fn define_nodes<'s, 't>(
 
 /// The row of the first property of a node or of one behind it.
 pub(crate) fn first_property(rows: &[PropertyRow<'_, &[u8]>], node: usize) -> usize
-    requires ordered { (i j : ℕ) → i ≤ j → j < length rows.now → (property_at rows.now i).node ≤ (property_at rows.now j).node }
+    requires ordered { AreByNode rows.now }
     ensures { IsFirst rows.now node result }
 {
     rows.partition_point(|row| row.node < node)
@@ -83,7 +77,7 @@ pub(crate) struct Part {
 fn is_clash<'s>(live: &LiveTree<'s, &'s [u8]>, node: usize, name: &'s [u8]) -> bool
     requires sound { IsLiveTree live.now }
     requires stands { is_standing live.now node ≡ true }
-    ensures { result ≡ (bytes_eq name.now (codes "phandle") && is_some (value_in (lists live.now).properties (node_path live.now node) name.now)) }
+    ensures { result ≡ is_clash live.now node name.now }
 {
     if name == b"phandle".as_slice() {
         return live.property(node, name).is_some();
@@ -103,8 +97,8 @@ pub(crate) fn has_clash<'s, 't>(
     requires part { IsPartOf patched.now.live part }
     requires room { length base_nodes.now ≡ length patched.now.live.nodes.items + 1 }
     requires sound { IsLiveTree live.now }
-    requires base_nodes { AreBaseNodes patched.now.live live.now (node_path live.now (slice_index_or base_nodes.now part.body 0)) part.body part.end base_nodes.now }
-    ensures { result ≡ list_any (clashes (lists live.now).properties) (part_below (patched_lists patched.now) (node_path patched.now.live part.body) (node_path live.now (slice_index_or base_nodes.now part.body 0))).properties }
+    requires base_nodes { ArePartNodes patched.now.live live.now part base_nodes.now }
+    ensures { result ≡ has_clash live.now (part_at patched.now part.body base_nodes.now live.now) }
 {
     let rows = patched.live.properties();
     for at in part.first..part.last {
@@ -128,12 +122,12 @@ pub(crate) fn set_properties<'s, 't>(
     requires part { IsPartOf patched.now.live part }
     requires room { length base_nodes.now ≡ length patched.now.live.nodes.items + 1 }
     requires sound { IsLiveTree live.old }
-    requires base_nodes { AreBaseNodes patched.now.live live.old (node_path live.old (slice_index_or base_nodes.now part.body 0)) part.body part.end base_nodes.now }
+    requires base_nodes { ArePartNodes patched.now.live live.old part base_nodes.now }
     ensures sound { OnOk result (IsLiveTree live.new) }
     ensures kept { OnOk result (HasSameNodes live.old live.new) }
     ensures rows { OnOk result (KeepsRows live.old live.new) }
     ensures labels { OnOk result ((state_of live.new).labels ≡ (state_of live.old).labels) }
-    ensures properties { OnOk result ((lists live.new).properties ≡ with_values (part_below (patched_lists patched.now) (node_path patched.now.live part.body) (node_path live.old (slice_index_or base_nodes.now part.body 0))).properties (lists live.old).properties) }
+    ensures properties { OnOk result (SetsPart patched.now part.body base_nodes.now live.old live.new) }
 {
     let rows = patched.live.properties();
     for at in part.first..part.last {
@@ -163,7 +157,7 @@ pub(crate) fn merge_part<'s, 't>(
     ensures kept { OnOk result (AreKept live.old live.new) }
     ensures rows { OnOk result (KeepsRows live.old live.new) }
     ensures labels { OnOk result ((state_of live.new).labels ≡ (state_of live.old).labels) }
-    ensures merged { MatchResult result (λ _. merged (part_below (patched_lists patched.now) (node_path patched.now.live body) (node_path live.old target)) (lists live.old) ≡ Ok (lists live.new)) (λ e. IsFault e (merged (part_below (patched_lists patched.now) (node_path patched.now.live body) (node_path live.old target)) (lists live.old))) }
+    ensures merged { MergesPart patched.now body target live.old live.new result }
 {
     base_nodes[body] = target;
     let (end, is_deep) = define_nodes(live, patched, body, base_nodes)?;

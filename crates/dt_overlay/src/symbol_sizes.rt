@@ -1,15 +1,12 @@
 //! How long an overlay's symbols are, before any is made.
-ghost use Rattle.std.specs.Prelude.{◌≡◌, ◌-◌, ◌^◌, ◌<◌, ◌≤◌, ◌++◌, [], ◌∷◌, length, min};
-ghost use Rattle.dt_tree.specs.Path.{behind_slashes, text_or_root};
+ghost use Rattle.std.specs.Prelude.{◌≡◌, ◌-◌, ◌^◌, ◌<◌, ◌≤◌, [], ◌∷◌, length, min};
 ghost use Rattle.dt_meaning.specs.Names.{symbols_name};
 ghost use Rattle.dt_meaning.specs.Paths.{same_path};
 ghost use Rattle.dt_live.specs.Rows.{IsGrown, path_of};
 ghost use Rattle.dt_tree_builder.specs.Sizes.{size_in};
-ghost use Rattle.dt_live.specs.Flattened.{IsWhole, lists};
-ghost use Rattle.dt_overlay_meaning.specs.Applied.{symbol_path};
-ghost use Rattle.dt_overlay_meaning.specs.Texts.{ended_path};
-ghost use Rattle.dt_fixup.specs.PatchedOverlay.{IsPatched, patched_lists, value_at};
-ghost use Rattle.dt_overlay.specs.Private.Symbols.{symbol_at, symbols_of};
+ghost use Rattle.dt_live.specs.Flattened.{IsWhole};
+ghost use Rattle.dt_fixup.specs.PatchedOverlay.{IsPatched};
+ghost use Rattle.dt_overlay.specs.Private.Symbols.{symbol_said, symbols_over, text_below};
 ghost use Rattle.dt_overlay.specs.Private.SymbolTargets.{AreTargets};
 
 use crate::symbol_target::symbol_target;
@@ -25,7 +22,7 @@ pub(crate) fn symbols_size<'t>(
     requires base { IsWhole base.now }
     requires patched { IsPatched patched.now }
     requires targets { AreTargets base.now patched.now targets.now }
-    ensures { result ≡ min (size_in (symbols_of (lists base.now) (patched_lists patched.now))) (2 ^ 64 - 1) }
+    ensures { result ≡ min (size_in (symbols_over base.now patched.now)) (2 ^ 64 - 1) }
 {
     let mut size: usize = 0;
     for row in 0..patched.live.properties().len() {
@@ -56,7 +53,7 @@ fn symbol_size<'t>(
     requires patched { IsPatched patched.now }
     requires targets { AreTargets base.now patched.now targets.now }
     requires known { row < length patched.now.live.properties.items }
-    ensures { result ≡ min (size_in (symbol_at [] (symbol_path (lists base.now) (patched_lists patched.now) (ended_path (value_at patched.now row))))) (2 ^ 64 - 1) }
+    ensures { result ≡ min (size_in (symbol_said base.now patched.now row [])) (2 ^ 64 - 1) }
 {
     match symbol_target(patched, targets, patched.value(row)) {
         None => 0,
@@ -68,7 +65,7 @@ fn symbol_size<'t>(
 pub(crate) fn text_size(nodes: &[NodeRow<'_>], node: usize, rest: &[u8]) -> usize
     requires grown { IsGrown nodes.now }
     requires known { node ≤ length nodes.now }
-    ensures { result ≡ min (length (text_or_root (behind_slashes (path_of nodes.now node) ++ rest.now) ++ 0 ∷ [])) (2 ^ 64 - 1) }
+    ensures { result ≡ min (length (text_below nodes.now node rest.now)) (2 ^ 64 - 1) }
 {
     let names = names_size(nodes, node).saturating_add(rest.len());
     if names == 0 {

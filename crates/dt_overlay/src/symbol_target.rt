@@ -1,15 +1,10 @@
 //! Where the paths of an overlay's symbols lead in the base.
-ghost use Rattle.std.specs.Prelude.{◌≡◌, ◌∷◌, length, slice_index_or, IfOk, MatchOption};
+ghost use Rattle.std.specs.Prelude.{◌≡◌, ◌∷◌, length, slice_index_or, IfOk};
 ghost use Rattle.std.specs.List.{slice_split};
 ghost use Rattle.dt_tree.specs.Path.{behind_slashes, is_slash, path_names};
-ghost use Rattle.dt_live.specs.declared.live_tree.LiveTree.{LiveTree};
-ghost use Rattle.dt_live.specs.Flattened.{IsOrdered, IsWhole, Lent, lists};
-ghost use Rattle.dt_overlay_meaning.specs.Applied.{symbol_path};
-ghost use Rattle.dt_overlay_meaning.specs.Shifted.{fragments};
-ghost use Rattle.dt_overlay_meaning.specs.Texts.{ended_path};
-ghost use Rattle.dt_fixup.specs.PatchedOverlay.{IsPatched, patched_lists};
-ghost use Rattle.dt_overlay.specs.Private.Fragments.{AreFragments};
-ghost use Rattle.dt_overlay.specs.Private.SymbolTargets.{AreTargets, IsInside, IsOutside, IsSymbolTarget, names_after, no_fragment};
+ghost use Rattle.dt_live.specs.Flattened.{IsOrdered};
+ghost use Rattle.dt_fixup.specs.PatchedOverlay.{IsPatched};
+ghost use Rattle.dt_overlay.specs.Private.SymbolTargets.{AreTargetsOf, IsSplit, LeadsTo, names_after, no_fragment};
 
 use crate::fragments::{Fragment, fragment_body};
 use dt_fixup::{PatchedOverlay, ended_path};
@@ -23,7 +18,7 @@ pub(crate) fn row_targets<'t>(
 ) -> Result<Vec<Option<usize>>, AllocError>
     requires patched { IsPatched patched.now }
     requires ordered { IsOrdered patched.now.live }
-    ensures { IfOk result (λ targets. (base : LiveTree Lent) → AreFragments base patched.now (fragments (patched_lists patched.now)) list.now → AreTargets base patched.now targets.items) }
+    ensures { IfOk result (λ targets. AreTargetsOf patched.now list.now targets.items) }
 {
     let count = patched.live.nodes().len();
     let mut targets = Vec::with_capacity(alloc, count)?;
@@ -65,7 +60,7 @@ fn split_name(names: &[u8]) -> (&[u8], &[u8])
 
 // The name of the fragment whose body a path's text begins with, and what stands behind the body's name.
 fn split_body(path: &[u8]) -> Option<(&[u8], &[u8])>
-    ensures { MatchOption result (IsOutside (path_names path.now)) (λ found. IsInside (path_names path.now) found.0.now found.1.now) }
+    ensures { IsSplit (path_names path.now) result }
 {
     let (_, names) = path.split_first()?;
     let (fragment, behind) = split_name(names);
@@ -86,7 +81,7 @@ pub(crate) fn symbol_target<'v>(
 ) -> Option<(usize, &'v [u8])>
     requires patched { IsPatched patched.now }
     requires count { length targets.now ≡ length patched.now.live.nodes.items }
-    ensures { (base : LiveTree Lent) → AreTargets base patched.now targets.now → MatchOption result (symbol_path (lists base) (patched_lists patched.now) (ended_path value.now) ≡ None) (λ found. IsSymbolTarget base (symbol_path (lists base) (patched_lists patched.now) (ended_path value.now)) found.0 found.1.now) }
+    ensures { LeadsTo patched.now targets.now value.now result }
 {
     let (fragment, rest) = split_body(ended_path(value)?)?;
     let node = patched.live.child(0, fragment)?;

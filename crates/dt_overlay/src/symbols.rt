@@ -1,17 +1,12 @@
 //! The symbols of an overlay, with the paths that their nodes have in the base.
-ghost use Rattle.std.specs.Prelude.{◌≡◌, ◌≤◌, ◌<◌, ◌++◌, [], ◌∷◌, All, length, map, IfOk, IfSome, OnOk, true};
-ghost use Rattle.dt_meaning.specs.Names.{symbols_name};
-ghost use Rattle.dt_meaning.specs.Edits.{definition};
+ghost use Rattle.std.specs.Prelude.{◌≡◌, ◌≤◌, ◌<◌, All, length, map, IfOk, IfSome, OnOk, true};
 ghost use Rattle.dt_tree.specs.Name.{is_name};
 ghost use Rattle.dt_live.specs.ByRow.{KeepsRows};
-ghost use Rattle.dt_live.specs.Rows.{IsLiveTree, IsGrown, path_of, property_at, state_of};
-ghost use Rattle.dt_tree.specs.Path.{behind_slashes, text_or_root};
+ghost use Rattle.dt_live.specs.Rows.{IsLiveTree, IsGrown, state_of};
 ghost use Rattle.dt_live.specs.Flattened.{IsWhole, lists};
-ghost use Rattle.dt_fixup.specs.PatchedOverlay.{IsPatched, patched_lists, value_at};
-ghost use Rattle.dt_overlay_meaning.specs.Applied.{symbol_path};
-ghost use Rattle.dt_overlay_meaning.specs.Texts.{ended_path};
+ghost use Rattle.dt_fixup.specs.PatchedOverlay.{IsPatched};
 ghost use Rattle.dt_overlay.specs.Private.SymbolTargets.{AreTargets};
-ghost use Rattle.dt_overlay.specs.Private.Symbols.{symbol_at, symbol_value, symbols_of, values_in, with_all, with_symbol};
+ghost use Rattle.dt_overlay.specs.Private.Symbols.{PutsSymbol, symbol_by_row, symbol_value, symbols_over, text_below, values_in, with_all};
 
 use crate::symbol_sizes::{is_symbols_node, text_size};
 use crate::symbol_target::symbol_target;
@@ -37,7 +32,7 @@ pub(crate) fn find_symbols<'t>(
     requires patched { IsPatched patched.now }
     requires targets { AreTargets base.now patched.now targets.now }
     ensures named { IfOk result (λ symbols. All (λ s. is_name s.name.now ≡ true) symbols.items) }
-    ensures symbols { IfOk result (λ symbols. map symbol_value symbols.items ≡ symbols_of (lists base.now) (patched_lists patched.now)) }
+    ensures symbols { IfOk result (λ symbols. map symbol_value symbols.items ≡ symbols_over base.now patched.now) }
 {
     let mut symbols = Vec::new(alloc);
     for row in 0..patched.live.properties().len() {
@@ -59,7 +54,7 @@ fn symbol_text(
 ) -> Result<Vec<u8>, AllocError>
     requires grown { IsGrown nodes.now }
     requires known { node ≤ length nodes.now }
-    ensures { IfOk result (λ value. value.items ≡ text_or_root (behind_slashes (path_of nodes.now node) ++ rest.now) ++ 0 ∷ []) }
+    ensures { IfOk result (λ value. value.items ≡ text_below nodes.now node rest.now) }
 {
     let mut value = Vec::with_capacity(alloc, text_size(nodes, node, rest))?;
     append_names(&mut value, nodes, node)?;
@@ -83,7 +78,7 @@ fn symbol_of<'t>(
     requires patched { IsPatched patched.now }
     requires targets { AreTargets base.now patched.now targets.now }
     requires known { row < length patched.now.live.properties.items }
-    ensures value { IfOk result (λ found. values_in found ≡ symbol_at (property_at patched.now.live.properties.items row).name.now (symbol_path (lists base.now) (patched_lists patched.now) (ended_path (value_at patched.now row)))) }
+    ensures value { IfOk result (λ found. values_in found ≡ symbol_by_row base.now patched.now row) }
     ensures named { IfOk result (λ found. IfSome found (λ symbol. is_name symbol.name.now ≡ true)) }
 {
     match symbol_target(&*patched, targets, patched.value(row)) {
@@ -109,7 +104,7 @@ fn put_symbol<'s>(
     ensures sound { OnOk result (IsLiveTree live.new) }
     ensures rows { OnOk result (KeepsRows live.old live.new) }
     ensures labels { OnOk result ((state_of live.new).labels ≡ (state_of live.old).labels) }
-    ensures put { OnOk result (lists live.new ≡ with_symbol (definition (symbols_name ∷ []) name.now value.now) (lists live.old)) }
+    ensures put { OnOk result (PutsSymbol name.now value.now live.old live.new) }
 {
     let (node, _) = live.define_child(0, b"__symbols__".as_slice(), STAMP)?;
     live.set_property(node, name, value, STAMP)?;

@@ -1,12 +1,13 @@
 -- What a tree builder holds: the nodes from the root down to the last node, each without the next, which is its last child.
-use Rattle.std.specs.Prelude.{◌≡◌, ℕ, ◌+◌, ◌≤◌, Bool, true, not, ◌==◌, List, [], ◌∷◌, length, map}
+use Rattle.std.specs.Prelude.{◌≡◌, ℕ, ◌+◌, ◌-◌, ◌≤◌, Bool, true, not, ◌==◌, List, [], ◌∷◌, ◌++◌, length, map, take}
 use Rattle.std.specs.List.{list_all}
 use Rattle.dt_tree.specs.Limits.{depth_limit}
+use Rattle.dt_tree.specs.declared.property.Property.{Property}
 use Rattle.dt_tree.specs.NodeData.{Siblings, none, more, NodeData, node_data, child_names, property_names, height_of}
 use Rattle.dt_tree.specs.Sound.{are_distinct}
 use Rattle.dt_meaning.specs.Paths.{Path}
 use Rattle.dt_meaning.specs.Resolved.{Resolved}
-use Rattle.dt_tree_builder.specs.Lists.{lists_of}
+use Rattle.dt_tree_builder.specs.Lists.{lists_of, with_last}
 
 -- nodes side by side, and others behind them
 abbrev pub beside : Siblings → Siblings → Siblings
@@ -34,6 +35,18 @@ last_path (b ∷ bs) = names_of bs
 -- the nodes and the properties so far, in the order in which they were put there
 abbrev pub built_lists : List NodeData → Resolved
 built_lists bs = lists_of (tree_of bs)
+
+-- the path of the node right above the last
+abbrev pub parent_path : List NodeData → Path
+parent_path bs = take (length (last_path bs) - 1) (last_path bs)
+
+-- the path of a next node so many levels below the root
+abbrev pub next_path : List NodeData → ℕ → List ℕ → Path
+next_path bs depth name = take (depth - 1) (last_path bs) ++ name ∷ []
+
+-- one node more, with its properties, behind all others
+abbrev pub GainsNode : Path → List Property → List NodeData → List NodeData → Type 0
+GainsNode p properties old new = built_lists new ≡ with_last p properties (built_lists old)
 
 -- ---- what is true of each tree builder
 abbrev pub is_filled : List ℕ → Bool

@@ -1,12 +1,11 @@
 //! Nodes that may get more children.
-ghost use Rattle.std.specs.Prelude.{◌≡◌, ◌≤◌, [], ◌∷◌, ◌++◌, IfOk, true};
+ghost use Rattle.std.specs.Prelude.{◌≡◌, ◌≤◌, IfOk, true};
 ghost use Rattle.dt_tree.specs.declared.limits.TheConstants.{MAX_DEPTH};
-ghost use Rattle.dt_tree.specs.NodeData.{node_data, child_names, property_names, siblings, height_of, none, more};
+ghost use Rattle.dt_tree.specs.NodeData.{node_data, child_names, property_names, siblings, height_of, none};
 ghost use Rattle.dt_tree.specs.NodeView.{name_bytes};
 ghost use Rattle.dt_tree.specs.Fault.{are_named};
 ghost use Rattle.dt_tree.specs.Sound.{are_distinct};
-ghost use Rattle.dt_tree_builder.specs.Private.NodeBuilders.{node_so_far};
-ghost use Rattle.dt_tree_builder.specs.Builders.{beside};
+ghost use Rattle.dt_tree_builder.specs.Private.NodeBuilders.{node_so_far, with_last_child};
 
 use dt_tree::{Name, Node, Property};
 use std::alloc::{AllocError, Global};
@@ -47,7 +46,7 @@ impl NodeBuilder {
 
     /// The same node with one more child.
     pub(crate) fn with_child(self, child: Node) -> Result<NodeBuilder, AllocError>
-        ensures { IfOk result (λ node. node_so_far node ≡ node_data (name_bytes self.name) self.properties.items (beside (siblings self.children.items) (more child.name child.properties child.children none))) }
+        ensures { IfOk result (λ node. node_so_far node ≡ with_last_child self child) }
     {
         let mut children = self.children;
         children.push(child)?;

@@ -1,13 +1,13 @@
 //! Trees in the making.
-ghost use Rattle.std.specs.Prelude.{◌≡◌, ◌+◌, ◌-◌, ◌≤◌, ◌<◌, ◌++◌, ◌∷◌, [], IfOk, false, true, length, take};
+ghost use Rattle.std.specs.Prelude.{◌≡◌, ◌+◌, ◌≤◌, ◌<◌, ◌++◌, ◌∷◌, [], IfOk, false, true, length, take};
 ghost use Rattle.dt_tree.specs.declared.limits.TheConstants.{MAX_DEPTH};
 ghost use Rattle.dt_tree.specs.NodeData.{property_names};
 ghost use Rattle.dt_tree.specs.PathMap.{path_map};
 ghost use Rattle.dt_tree.specs.Sound.{are_distinct};
 ghost use Rattle.dt_meaning.specs.MapOf.{map_of};
 ghost use Rattle.dt_meaning.specs.Paths.{is_listed};
-ghost use Rattle.dt_tree_builder.specs.Lists.{defined_at, with_last};
-ghost use Rattle.dt_tree_builder.specs.Builders.{built_lists, tree_of, last_path};
+ghost use Rattle.dt_tree_builder.specs.Lists.{defined_at};
+ghost use Rattle.dt_tree_builder.specs.Builders.{GainsNode, built_lists, tree_of, last_path, next_path, parent_path};
 
 use crate::node_builder::NodeBuilder;
 use dt_tree::{Name, Node, Property};
@@ -65,10 +65,10 @@ impl TreeBuilder {
         requires below { 1 ≤ depth }
         requires reached { depth ≤ length (last_path self) + 1 }
         requires shallow { depth ≤ MAX_DEPTH }
-        requires new { is_listed (take (depth - 1) (last_path self) ++ name ∷ []) (built_lists self).nodes ≡ false }
+        requires new { is_listed (next_path self depth name) (built_lists self).nodes ≡ false }
         requires properties { are_distinct (property_names properties.items) ≡ true }
-        ensures nodes { IfOk result (λ builder. built_lists builder ≡ with_last (take (depth - 1) (last_path self) ++ name ∷ []) properties.items (built_lists self)) }
-        ensures last_node { IfOk result (λ builder. last_path builder ≡ take (depth - 1) (last_path self) ++ name ∷ []) }
+        ensures nodes { IfOk result (GainsNode (next_path self depth name) properties.items self) }
+        ensures last_node { IfOk result (λ builder. last_path builder ≡ next_path self depth name) }
     {
         let parent = self.closed_to(depth - 1)?;
         parent.with_node(alloc, name, properties)
@@ -106,7 +106,7 @@ impl TreeBuilder {
     fn without_last(self) -> Result<TreeBuilder, AllocError>
         requires { 0 < length (last_path self) }
         ensures tree { IfOk result (λ builder. tree_of builder ≡ tree_of self) }
-        ensures last_node { IfOk result (λ builder. last_path builder ≡ take (length (last_path self) - 1) (last_path self)) }
+        ensures last_node { IfOk result (λ builder. last_path builder ≡ parent_path self) }
     {
         let last = self.last;
         let mut above = self.above;
@@ -137,7 +137,7 @@ impl TreeBuilder {
         requires shallow { length (last_path self) < MAX_DEPTH }
         requires new { is_listed (last_path self ++ name ∷ []) (built_lists self).nodes ≡ false }
         requires properties { are_distinct (property_names properties.items) ≡ true }
-        ensures nodes { IfOk result (λ builder. built_lists builder ≡ with_last (last_path self ++ name ∷ []) properties.items (built_lists self)) }
+        ensures nodes { IfOk result (GainsNode (last_path self ++ name ∷ []) properties.items self) }
         ensures last_node { IfOk result (λ builder. last_path builder ≡ last_path self ++ name ∷ []) }
     {
         name.check();

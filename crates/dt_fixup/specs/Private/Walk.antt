@@ -1,17 +1,20 @@
 -- Calls as steps of the meaning (dt-object-internal, section 2).
-use Rattle.std.specs.Prelude.{◌≡◌, ℕ, ◌&&◌, Bool, not, Result, Ok, MatchResult, List, [], ◌∷◌, codes}
+use Rattle.std.specs.Prelude.{◌≡◌, ◌+◌, ◌≤◌, ℕ, ◌&&◌, Bool, true, false, not, Option, Some, Result, Ok, MatchOption, MatchResult, List, [], ◌∷◌, codes, drop, length}
 use Rattle.std.specs.List.{filter}
 use Rattle.std.specs.Str.{bytes_eq}
 use Rattle.dt_tree.specs.Phandle.{is_reserved}
+use Rattle.dt_meaning.specs.Edits.{definition}
 use Rattle.dt_meaning.specs.MapOf.{value_in}
 use Rattle.dt_live.specs.declared.live_tree.LiveTree.{LiveTree}
 use Rattle.dt_live.specs.ByRow.{row_property}
-use Rattle.dt_live.specs.Flattened.{Lent}
+use Rattle.dt_live.specs.Flattened.{Lent, lists}
+use Rattle.dt_live.specs.Rows.{node_path, property_of}
 use Rattle.dt_overlay_meaning.specs.Steps.{Fault, fold}
-use Rattle.dt_overlay_meaning.specs.Shifted.{Site, Shifting, Value, fits, is_local_fixup, raise_sites}
+use Rattle.dt_overlay_meaning.specs.Shifted.{Site, Shifting, Value, fits, is_local_fixup, raise_at, raise_sites, site, take_site}
 use Rattle.dt_fixup.specs.declared.error.OverlayError.{OverlayError}
 use Rattle.dt_fixup.specs.declared.patched_overlay.PatchedOverlay.{PatchedOverlay}
 use Rattle.dt_fixup.specs.OverlayFault.{IsFault}
+use Rattle.dt_fixup.specs.PatchedOverlay.{properties_of, value_at}
 use Rattle.dt_fixup.specs.Private.Steps.{IsAt}
 
 -- a call does what a step of the meaning does, or has its fault
@@ -29,3 +32,28 @@ is_open a es = fits a.offset (value_in es a.path a.name) && not (is_reserved a.p
 -- what one property's local fixup does
 abbrev pub property_step : ℕ → LiveTree Lent → ℕ → Shifting → Result Shifting Fault
 property_step shift d k = fold (raise_sites shift) (filter is_local_fixup (row_property d k ∷ []))
+
+-- the site at an offset of a node's property
+abbrev pub site_at : PatchedOverlay → ℕ → List ℕ → ℕ → Site
+site_at s node name offset = site (node_path s.live node) name offset
+
+-- the row of the property of a site that may be written, none where it may not
+abbrev pub IsOpenRow : PatchedOverlay → ℕ → List ℕ → ℕ → Option ℕ → Type 0
+IsOpenRow s node name offset found =
+    MatchOption found (is_open (site_at s node name offset) (properties_of s) ≡ false)
+    (λ row. (is_open (site_at s node name offset) (properties_of s) ≡ true) × (property_of s.live node name ≡ Some row) × (offset + 4 ≤ length (value_at s row)))
+
+-- what one site of a local fixup does, and all sites of one
+abbrev pub site_step : ℕ → PatchedOverlay → ℕ → List ℕ → ℕ → Shifting → Result Shifting Fault
+site_step shift s node name offset = raise_at shift (site (drop 1 (node_path s.live node)) name offset)
+
+abbrev pub sites_step : ℕ → PatchedOverlay → ℕ → List ℕ → List ℕ → Shifting → Result Shifting Fault
+sites_step shift s node name value = raise_sites shift (definition (node_path s.live node) name value)
+
+-- what all local fixups do, in order
+abbrev pub local_step : ℕ → LiveTree Lent → Shifting → Result Shifting Fault
+local_step shift d = fold (raise_sites shift) (filter is_local_fixup (lists d).properties)
+
+-- the site at an offset of a node's property is taken
+abbrev pub site_taken : PatchedOverlay → ℕ → List ℕ → ℕ → Shifting → Result Shifting Fault
+site_taken s node name offset = take_site (site_at s node name offset)

@@ -1,10 +1,13 @@
 -- Lists of nodes and properties with one more, or a tree more: what is there keeps its place, what is new goes last.
-use Rattle.std.specs.Prelude.{List, [], ◌∷◌, ◌++◌, if◌then◌else◌}
+use Rattle.std.specs.Prelude.{ℕ, List, [], ◌∷◌, ◌++◌, if◌then◌else◌}
 use Rattle.dt_tree.specs.declared.property.Property.{Property}
 use Rattle.dt_tree.specs.NodeData.{Siblings, none, more, NodeData}
 use Rattle.dt_meaning.specs.Paths.{Path, is_listed}
 use Rattle.dt_meaning.specs.Edits.{put}
 use Rattle.dt_meaning.specs.Resolved.{Resolved}
+use Rattle.dt_live.specs.declared.live_tree.LiveTree.{LiveTree}
+use Rattle.dt_live.specs.Rows.{node_path}
+use Rattle.dt_live.specs.Flattened.{Lent, lists}
 
 -- a node
 abbrev pub with_path : Path → Resolved → Resolved
@@ -27,3 +30,7 @@ with_siblings p (more n ps c rest) r =
 -- the properties of a node, and all below it
 abbrev pub with_tree : Path → NodeData → Resolved → Resolved
 with_tree p b r = with_siblings p b.children (with_values p b.properties r)
+
+-- a live tree with more properties of a node
+abbrev pub with_properties : LiveTree Lent → ℕ → List Property → Resolved
+with_properties d n xs = with_values (node_path d n) xs (lists d)

@@ -1,6 +1,6 @@
 //! Lists of nodes or rows by their owner.
-ghost use Rattle.std.specs.Prelude.{◌≡◌, ◌<◌, ◌++◌, ◌∷◌, ◌==◌, [], ℕ, IfOk, OnOk, if◌then◌else◌};
-ghost use Rattle.dt_live.specs.Private.Lists.{list_count, list_of};
+ghost use Rattle.std.specs.Prelude.{◌≡◌, ◌<◌, [], ℕ, IfOk, OnOk};
+ghost use Rattle.dt_live.specs.Private.Lists.{IsPushed, list_count, list_of};
 
 use std::alloc::{AllocError, Global};
 
@@ -27,7 +27,7 @@ impl Lists {
     pub fn push(&mut self, owner: usize, number: usize) -> Result<(), AllocError>
         requires { owner < list_count self.old }
         ensures count { OnOk result (list_count self.new ≡ list_count self.old) }
-        ensures lists { OnOk result ((n : ℕ) → list_of self.new n ≡ list_of self.old n ++ (if n == owner then number ∷ [] else [])) }
+        ensures lists { OnOk result (IsPushed owner number self.old self.new) }
     {
         self.lists[owner].push(number)?;
         Ok(())

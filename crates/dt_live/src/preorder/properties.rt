@@ -2,8 +2,8 @@
 ghost use Rattle.std.specs.Prelude.{◌≡◌, ◌<◌, ◌++◌, ℕ, All, IfOk, OnOk, length};
 ghost use Rattle.std.specs.List.{flat_map};
 ghost use Rattle.dt_live.specs.Rows.{property_at};
-ghost use Rattle.dt_live.specs.Private.Lists.{list_count, list_of};
-ghost use Rattle.dt_live.specs.Private.Walks.{node_property_at, node_property_of, properties_to};
+ghost use Rattle.dt_live.specs.Private.Lists.{list_count};
+ghost use Rattle.dt_live.specs.Private.Walks.{ArePropertyRows, held_at, held_by};
 
 use crate::live_tree::PropertyRow;
 use crate::preorder::lists::Lists;
@@ -25,7 +25,7 @@ fn rows_by_node<'d, V: Copy>(
 ) -> Result<Lists, AllocError>
     requires { (i : ℕ) → i < length rows.now → (property_at rows.now i).node < count }
     ensures count { IfOk result (λ lists. list_count lists ≡ count) }
-    ensures lists { IfOk result (λ lists. (n : ℕ) → list_of lists n ≡ properties_to rows.now (length rows.now) n) }
+    ensures lists { IfOk result (λ lists. ArePropertyRows rows.now lists) }
 {
     let mut lists = Lists::new(alloc, count)?;
     for (place, row) in rows.iter().enumerate() {
@@ -40,7 +40,7 @@ fn put_node_properties<'d, V: Copy>(
     places: &[usize],
 ) -> Result<(), AllocError>
     requires { All (λ i. i < length rows.now) places.now }
-    ensures { OnOk result (node_properties.new.items ≡ node_properties.old.items ++ flat_map (node_property_at rows.now) places.now) }
+    ensures { OnOk result (node_properties.new.items ≡ node_properties.old.items ++ held_at rows.now places.now) }
 {
     for place in places {
         let row = &rows[*place];
@@ -64,7 +64,7 @@ pub(crate) fn properties_in_preorder<'d, V: Copy>(
 ) -> Result<Vec<NodeProperty<'d, V>>, AllocError>
     requires known { (i : ℕ) → i < length rows.now → (property_at rows.now i).node < count }
     requires nodes { All (λ n. n < count) order.now }
-    ensures { IfOk result (λ node_properties. node_properties.items ≡ flat_map (λ n. flat_map (node_property_at rows.now) (properties_to rows.now (length rows.now) n)) order.now) }
+    ensures { IfOk result (λ node_properties. node_properties.items ≡ flat_map (held_by rows.now) order.now) }
 {
     let by_node = rows_by_node(alloc, count, rows)?;
     let mut node_properties = Vec::new(alloc);

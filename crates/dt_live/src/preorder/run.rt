@@ -1,6 +1,7 @@
 //! The run of a node's properties.
-ghost use Rattle.std.specs.Prelude.{◌≡◌, ◌==◌, drop, take};
+ghost use Rattle.std.specs.Prelude.{◌≡◌, ◌==◌, drop};
 ghost use Rattle.std.specs.List.{prefix_len};
+ghost use Rattle.dt_live.specs.Preorder.{run_in};
 
 use crate::preorder::{NodeProperty, Preorder};
 use dt_tree::behind;
@@ -20,7 +21,7 @@ fn run_length<'d, V: Copy>(properties: &[NodeProperty<'d, V>], node: usize) -> u
 impl<'d, V: Copy> Preorder<'d, V> {
     /// The properties of a node, which begin at a place.
     pub fn run_of<'l>(&'l self, node: usize, place: usize) -> &'l [NodeProperty<'d, V>]
-        ensures { result.now ≡ take (prefix_len (λ x. node == x.node) (drop place self.now.properties.items)) (drop place self.now.properties.items) }
+        ensures { result.now ≡ run_in node (drop place self.now.properties.items) }
     {
         let rest = behind(self.properties.as_slice(), place);
         &rest[..run_length(rest, node)]

@@ -22,6 +22,10 @@ pub record AreOfNode {V : Type 0} (old new : List V → List (List ℕ)) (run : 
   pub next : AreNext old new run values
   pub properties : (q : Path) → defined_at q list.items ≡ entries (λ _. q) run values ++ phandle_at q phandle
 
+-- the properties of node n, as what makes the values makes them
+abbrev pub AreMade : {S V : Type 0} → (S → Made) → (S → List V → List (List ℕ)) → S → S → ℕ → List (NodeProperty V) → Vec Property Global → Type 0
+AreMade made bytes_of old new n run list = AreOfNode (bytes_of old) (bytes_of new) run ((made old).new_phandle n) list
+
 pub record IsWalk {V : Type 0} (d : LiveTree V) (y : Preorder V) (m : Made) (bytes_of : List V → List (List ℕ)) (walk : Walk) : Type 0 where
   pub made : IsMade m.lists walk.node walk.builder
   pub rest : IsRest d y m bytes_of walk.node walk.property

@@ -1,12 +1,16 @@
 -- The root of the tree that applying an overlay answers (dt-object-internal, section 3).
-use Rattle.std.specs.Prelude.{◌≡◌, ◌<◌, ◌≤◌, ◌-◌, ◌^◌, ℕ, [], Option, Some, None, Result, Ok}
+use Rattle.std.specs.Prelude.{◌≡◌, ◌<◌, ◌≤◌, ◌-◌, ◌^◌, ℕ, [], Option, Some, None, Result, Ok, MatchResult}
 use Rattle.dt_tree.specs.NodeData.{NodeData}
 use Rattle.dt_tree.specs.PathMap.{path_map}
 use Rattle.dt_tree.specs.Sound.{IsSound}
 use Rattle.dt_meaning.specs.MapOf.{map_of}
 use Rattle.dt_meaning.specs.Resolved.{Resolved}
 use Rattle.dt_tree_builder.specs.Sizes.{size_below, size_in}
+use Rattle.dt_live.specs.declared.live_tree.LiveTree.{LiveTree}
+use Rattle.dt_live.specs.Flattened.{Lent, lists}
 use Rattle.dt_overlay_meaning.specs.Steps.{Fault}
+use Rattle.dt_fixup.specs.declared.error.OverlayError.{OverlayError}
+use Rattle.dt_fixup.specs.OverlayFault.{IsFault}
 use Rattle.dt_overlay.specs.Private.Symbols.{applied_over, symbols_of}
 
 -- a root with the map that is meant, whose values fit
@@ -35,3 +39,20 @@ pub record HasSymbols (base over : Resolved) : Type 0 where
   pub result : applied_over base over ≡ Ok lists
   pub symbols : size_in (symbols_of base over) ≤ size_in lists.properties
   pub trees : (b : NodeData) → IsSound b → path_map b ≡ map_of lists → size_in lists.properties ≤ size_below b
+
+-- a call answers the root of a tree that is meant, or has its fault
+abbrev pub AnswersRoot : Result Resolved Fault → ℕ → Result (Option NodeData) OverlayError → Type 0
+AnswersRoot wanted limit result = MatchResult result (λ root. IsRootOrTooLong wanted limit root) (λ e. IsFault e wanted)
+
+-- ---- the root of a live tree
+-- the values of its tree are longer together than a limit
+abbrev pub Exceeds : LiveTree Lent → ℕ → Type 0
+Exceeds d limit = limit < size_in (lists d).properties
+
+-- they aren't, where numbers can pass the limit
+abbrev pub Fits : LiveTree Lent → ℕ → Type 0
+Fits d limit = limit < 2 ^ 64 - 1 → size_in (lists d).properties ≤ limit
+
+-- the root has the map of its tree
+abbrev pub HasMap : LiveTree Lent → NodeData → Type 0
+HasMap d root = path_map root ≡ map_of (lists d)

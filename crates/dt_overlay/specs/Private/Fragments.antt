@@ -1,12 +1,15 @@
 -- Fragments by their rows (dt-object-internal, section 3).
-use Rattle.std.specs.Prelude.{◌≡◌, ◌≤◌, ◌+◌, ℕ, List, [], ◌∷◌, length, Option, Some, None, option_map}
+use Rattle.std.specs.Prelude.{◌≡◌, ◌≤◌, ◌+◌, ◌==◌, ℕ, List, [], ◌∷◌, length, Option, Some, None, MatchOption, codes, if◌then◌else◌, is_some, option_map}
 use Rattle.std.specs.BTreeMap.{BTreeMap, get}
+use Rattle.std.specs.Int.{from_be_bytes, w32}
 use Rattle.std.specs.Ordering.{nat_cmp}
+use Rattle.dt_meaning.specs.MapOf.{value_in}
+use Rattle.dt_meaning.specs.Paths.{Path}
 use Rattle.dt_live.specs.declared.live_tree.LiveTree.{LiveTree}
 use Rattle.dt_live.specs.Rows.{IsNode, node_path}
 use Rattle.dt_live.specs.Flattened.{Lent, lists}
-use Rattle.dt_overlay_meaning.specs.Applied.{body, first_with, target}
-use Rattle.dt_overlay_meaning.specs.Shifted.{fragment_at, phandles}
+use Rattle.dt_overlay_meaning.specs.Applied.{body, first_with, target, target_by}
+use Rattle.dt_overlay_meaning.specs.Shifted.{fragment_at, fragments, phandles}
 use Rattle.dt_fixup.specs.declared.patched_overlay.PatchedOverlay.{PatchedOverlay}
 use Rattle.dt_fixup.specs.PatchedOverlay.{patched_lists}
 use Rattle.dt_overlay.specs.declared.fragments.Fragment.{Fragment}
@@ -47,3 +50,25 @@ pub record IsBody (over : LiveTree Lent) (row body_node : ℕ) : Type 0 where
   pub fragment : fragment_at (node_path over (row + 1)) (lists over).nodes ≡ name ∷ []
   pub body_path : node_path over body_node ≡ body name
   pub body_known : IsNode over body_node
+
+-- the body of the fragment in a row, none where there is no fragment
+abbrev pub IsBodyAt : LiveTree Lent → ℕ → Option ℕ → Type 0
+IsBodyAt over row found = MatchOption found (fragment_at (node_path over (row + 1)) (lists over).nodes ≡ []) (λ b. IsBody over row b)
+
+-- all fragments of an overlay
+abbrev pub AreItsFragments : LiveTree Lent → PatchedOverlay → List Fragment → Type 0
+AreItsFragments base s fs = AreFragments base s (fragments (patched_lists s)) fs
+
+-- a node is noted for a number that had none
+abbrev pub NotesFirst : ℕ → ℕ → BTreeMap ℕ ℕ → BTreeMap ℕ ℕ → Type 0
+NotesFirst number node old new =
+    (n : ℕ) → get nat_cmp new n ≡ (if is_some (get nat_cmp old n) then get nat_cmp old n else (if n == number then Some node else None))
+
+-- the node of the phandle that a value is
+abbrev pub node_by : BTreeMap ℕ ℕ → List ℕ → Option ℕ
+node_by found value = if length value == 4 then get nat_cmp found (from_be_bytes w32 value) else None
+
+-- what the properties of the overlay's node n target
+abbrev pub target_of : LiveTree Lent → PatchedOverlay → ℕ → Option Path
+target_of base s n =
+    target_by (lists base) (value_in (patched_lists s).properties (node_path s.live n) (codes "target")) (value_in (patched_lists s).properties (node_path s.live n) (codes "target-path"))

@@ -1,15 +1,22 @@
 -- A fragment's part as rows of the overlay, and the base's nodes that they become (dt-object-internal, section 3).
-use Rattle.std.specs.Prelude.{◌≡◌, ◌≤◌, ◌<◌, ℕ, suc, true, ◌&&◌, List, length, map, nat_lt, slice_index_or, Option, IfSome, Result}
-use Rattle.std.specs.List.{filter}
+use Rattle.std.specs.Prelude.{◌≡◌, ◌≤◌, ◌<◌, ℕ, Bool, suc, true, ◌&&◌, List, codes, is_some, length, map, nat_lt, option_map, slice_index_or, Option, IfOk, IfSome, Result}
+use Rattle.std.specs.List.{filter, list_any}
+use Rattle.std.specs.Str.{bytes_eq}
+use Rattle.dt_meaning.specs.MapOf.{value_in}
 use Rattle.dt_meaning.specs.Paths.{Path, is_within}
-use Rattle.dt_meaning.specs.Resolved.{Resolved}
+use Rattle.dt_meaning.specs.Resolved.{Resolved, is_too_deep}
 use Rattle.dt_live.specs.declared.live_tree.LiveTree.{LiveTree}
 use Rattle.dt_live.specs.declared.live_tree.NodeRow.{NodeRow}
 use Rattle.dt_live.specs.declared.live_tree.PropertyRow.{PropertyRow}
 use Rattle.dt_live.specs.Rows.{IsKept, IsNode, is_standing, node_path, row_at, property_at}
-use Rattle.dt_live.specs.Flattened.{Lent}
-use Rattle.dt_overlay_meaning.specs.Applied.{merged, moved, moved_value}
-use Rattle.dt_overlay_meaning.specs.Steps.{Fault, NoTarget, ok_or, then_do}
+use Rattle.dt_live.specs.Flattened.{Lent, lists}
+use Rattle.dt_overlay_meaning.specs.Applied.{clashes, merged, moved, moved_value, with_fragment, with_nodes, with_values}
+use Rattle.dt_overlay_meaning.specs.Shifted.{fragments}
+use Rattle.dt_overlay_meaning.specs.Steps.{Fault, NoTarget, fold, ok_or, then_do}
+use Rattle.dt_fixup.specs.declared.error.OverlayError.{OverlayError}
+use Rattle.dt_fixup.specs.declared.patched_overlay.PatchedOverlay.{PatchedOverlay}
+use Rattle.dt_fixup.specs.OverlayFault.{Leaves}
+use Rattle.dt_fixup.specs.PatchedOverlay.{patched_lists}
 use Rattle.dt_overlay.specs.declared.fragments.Fragment.{Fragment}
 use Rattle.dt_overlay.specs.declared.part.Part.{Part}
 
@@ -68,3 +75,60 @@ pub record IsMergeable (over d : LiveTree Lent) (f : Fragment) : Type 0 where
   pub body : IsNode over f.body
   pub top : length (node_path over f.body) ≡ 2
   pub target : IfSome f.target (λ n. IsNode d n × (is_standing d n ≡ true))
+
+-- rows of properties stand node by node
+abbrev pub AreByNode : List (PropertyRow Lent) → Type 0
+AreByNode rows = (i j : ℕ) → i ≤ j → j < length rows → (property_at rows i).node ≤ (property_at rows j).node
+
+-- ---- a part by the base nodes of the overlay's nodes
+-- the path of the base node of node n
+abbrev pub base_path : LiveTree Lent → List ℕ → ℕ → Path
+base_path d base_nodes n = node_path d (slice_index_or base_nodes n 0)
+
+-- what stands below node b of the overlay, moved below its base node
+abbrev pub part_at : PatchedOverlay → ℕ → List ℕ → LiveTree Lent → Resolved
+part_at s b base_nodes d = part_below (patched_lists s) (node_path s.live b) (base_path d base_nodes b)
+
+-- all nodes of a part have their base nodes
+abbrev pub ArePartNodes : LiveTree Lent → LiveTree Lent → Part → List ℕ → Type 0
+ArePartNodes over d p base_nodes = AreBaseNodes over d (base_path d base_nodes p.body) p.body p.end base_nodes
+
+-- the base nodes of those from b on, up to the node that is answered, are noted
+abbrev pub NotesBaseNodes : {A E : Type 0} → LiveTree Lent → ℕ → LiveTree Lent → List ℕ → LiveTree Lent → List ℕ → Result (ℕ × A) E → Type 0
+NotesBaseNodes over b old old_nodes new new_nodes result =
+    IfOk result (λ x. AreBaseNodes over new (base_path old old_nodes b) b x.0 new_nodes)
+
+-- a live tree has the nodes of a part too, or the values of its properties
+abbrev pub DefinesPart : PatchedOverlay → ℕ → List ℕ → LiveTree Lent → LiveTree Lent → Type 0
+DefinesPart s b base_nodes old new = (lists new).nodes ≡ with_nodes (part_at s b base_nodes old).nodes (lists old).nodes
+
+abbrev pub SetsPart : PatchedOverlay → ℕ → List ℕ → LiveTree Lent → LiveTree Lent → Type 0
+SetsPart s b base_nodes old new = (lists new).properties ≡ with_values (part_at s b base_nodes old).properties (lists old).properties
+
+-- a node of the part lies too deep
+abbrev pub is_deep : Resolved → Bool
+is_deep part = list_any is_too_deep part.nodes
+
+-- the name is `phandle`, and node n has such a property
+abbrev pub is_clash : LiveTree Lent → ℕ → List ℕ → Bool
+is_clash d n name = bytes_eq name (codes "phandle") && is_some (value_in (lists d).properties (node_path d n) name)
+
+-- a phandle of the part would stand over one that is there
+abbrev pub has_clash : LiveTree Lent → Resolved → Bool
+has_clash d part = list_any (clashes (lists d).properties) part.properties
+
+-- ---- calls
+-- what stands below node b of the overlay is merged into node n, or there is the fault of that
+abbrev pub MergesPart : {A : Type 0} → PatchedOverlay → ℕ → ℕ → LiveTree Lent → LiveTree Lent → Result A OverlayError → Type 0
+MergesPart s b n old new result =
+    Leaves (merged (part_below (patched_lists s) (node_path s.live b) (node_path old n)) (lists old)) (lists new) result
+
+-- and so is a fragment, where it has a target
+abbrev pub MergesFragment : {A : Type 0} → PatchedOverlay → Fragment → LiveTree Lent → LiveTree Lent → Result A OverlayError → Type 0
+MergesFragment s f old new result =
+    Leaves (merged_at (patched_lists s) (node_path s.live f.body) (option_map (node_path old) f.target) (lists old)) (lists new) result
+
+-- and all fragments, in order
+abbrev pub MergesAll : {A : Type 0} → PatchedOverlay → LiveTree Lent → LiveTree Lent → Result A OverlayError → Type 0
+MergesAll s old new result =
+    Leaves (fold (with_fragment (lists old) (patched_lists s)) (fragments (patched_lists s)) (lists old)) (lists new) result

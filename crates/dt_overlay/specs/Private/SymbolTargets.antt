@@ -1,5 +1,6 @@
 -- Where symbols' paths lead in the base, by the overlay's rows (dt-object-internal, section 3).
-use Rattle.std.specs.Prelude.{◌≡◌, ◌<◌, ◌+◌, ℕ, List, [], ◌∷◌, ◌++◌, length, Option, Some, None, option_map, if◌then◌else◌, slice_index_or}
+use Rattle.std.specs.Prelude.{◌≡◌, ◌<◌, ◌+◌, ℕ, List, [], ◌∷◌, ◌++◌, length, Option, Some, None, MatchOption, option_map, if◌then◌else◌, slice_index_or}
+use denote.Ref.{Bor}
 use Rattle.std.specs.List.{slice_split}
 use Rattle.dt_tree.specs.Path.{behind_slashes, is_slash, path_text, text_or_root}
 use Rattle.dt_meaning.specs.Names.{overlay_name}
@@ -9,10 +10,11 @@ use Rattle.dt_live.specs.declared.live_tree.LiveTree.{LiveTree}
 use Rattle.dt_live.specs.Rows.{IsNode, node_path}
 use Rattle.dt_live.specs.Flattened.{Lent, lists}
 use Rattle.dt_overlay_meaning.specs.Applied.{body, symbol_path, target}
+use Rattle.dt_overlay_meaning.specs.Texts.{ended_path}
 use Rattle.dt_fixup.specs.declared.patched_overlay.PatchedOverlay.{PatchedOverlay}
 use Rattle.dt_fixup.specs.PatchedOverlay.{patched_lists}
 use Rattle.dt_overlay.specs.declared.fragments.Fragment.{Fragment}
-use Rattle.dt_overlay.specs.Private.Fragments.{IsTarget}
+use Rattle.dt_overlay.specs.Private.Fragments.{AreItsFragments, IsTarget}
 
 -- the base's node that a node of the overlay targets, where that is a fragment
 pub record IsRowTarget (base : LiveTree Lent) (s : PatchedOverlay) (n : ℕ) (t : Option ℕ) : Type 0 where
@@ -50,3 +52,18 @@ pub record IsInside (p : Path) (fragment rest : List ℕ) : Type 0 where
   pub names : Path
   pub path : p ≡ fragment ∷ overlay_name ∷ names
   pub behind : rest ≡ behind_slashes names
+
+-- the targets of all rows, by an overlay's fragments in whatever base
+abbrev pub AreTargetsOf : PatchedOverlay → List Fragment → List (Option ℕ) → Type 0
+AreTargetsOf s fs targets = (base : LiveTree Lent) → AreItsFragments base s fs → AreTargets base s targets
+
+-- a path in two behind its body, none where it begins in no fragment
+abbrev pub IsSplit : Path → Option (Bor (List ℕ) × Bor (List ℕ)) → Type 0
+IsSplit p found = MatchOption found (IsOutside p) (λ both. IsInside p both.0.now both.1.now)
+
+-- where the path that a value is leads in whatever base, none where it leads nowhere
+abbrev pub LeadsTo : PatchedOverlay → List (Option ℕ) → List ℕ → Option (ℕ × Bor (List ℕ)) → Type 0
+LeadsTo s targets value found =
+    (base : LiveTree Lent) → AreTargets base s targets
+    → MatchOption found (symbol_path (lists base) (patched_lists s) (ended_path value) ≡ None)
+    (λ both. IsSymbolTarget base (symbol_path (lists base) (patched_lists s) (ended_path value)) both.0 both.1.now)

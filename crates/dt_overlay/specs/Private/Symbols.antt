@@ -1,15 +1,21 @@
 -- The symbols that an overlay adds (dt-object-internal, section 3).
-use Rattle.std.specs.Prelude.{ℕ, List, [], ◌∷◌, ◌++◌, Option, Some, None, Result, Ok}
+use Rattle.std.specs.Prelude.{◌≡◌, ℕ, List, [], ◌∷◌, ◌++◌, Option, Some, None, Result, Ok}
 use Rattle.std.specs.List.{flat_map, filter}
-use Rattle.dt_tree.specs.Path.{path_text}
+use Rattle.dt_tree.specs.Path.{behind_slashes, path_text, text_or_root}
 use Rattle.dt_meaning.specs.Paths.{Path, same_path}
 use Rattle.dt_meaning.specs.Names.{symbols_name}
 use Rattle.dt_meaning.specs.Edits.{definition, put}
 use Rattle.dt_meaning.specs.Resolved.{Resolved}
+use Rattle.dt_live.specs.declared.live_tree.LiveTree.{LiveTree}
+use Rattle.dt_live.specs.declared.live_tree.NodeRow.{NodeRow}
+use Rattle.dt_live.specs.Rows.{path_of, property_at}
+use Rattle.dt_live.specs.Flattened.{Lent, lists}
 use Rattle.dt_overlay_meaning.specs.Applied.{symbol_path, with_fragment, with_node, with_symbols}
 use Rattle.dt_overlay_meaning.specs.Steps.{Fault, fold, then_do}
 use Rattle.dt_overlay_meaning.specs.Shifted.{Value, fragments}
 use Rattle.dt_overlay_meaning.specs.Texts.{ended_path}
+use Rattle.dt_fixup.specs.declared.patched_overlay.PatchedOverlay.{PatchedOverlay}
+use Rattle.dt_fixup.specs.PatchedOverlay.{patched_lists, value_at}
 use Rattle.dt_overlay.specs.declared.symbols.Symbol.{Symbol}
 
 -- a symbol's property, where its path begins in a fragment
@@ -42,3 +48,27 @@ abbrev pub applied_over : Resolved → Resolved → Result Resolved Fault
 applied_over base over =
     then_do (fold (with_fragment base over) (fragments over) base) (λ t.
     Ok (with_symbols base over (filter (λ e. same_path (symbols_name ∷ []) e.path) over.properties) t))
+
+-- the symbols that an overlay adds to a base
+abbrev pub symbols_over : LiveTree Lent → PatchedOverlay → List Value
+symbols_over base s = symbols_of (lists base) (patched_lists s)
+
+-- a symbol of a name, as the value of row k says it
+abbrev pub symbol_said : LiveTree Lent → PatchedOverlay → ℕ → List ℕ → List Value
+symbol_said base s k n = symbol_at n (symbol_path (lists base) (patched_lists s) (ended_path (value_at s k)))
+
+-- the symbol of row k
+abbrev pub symbol_by_row : LiveTree Lent → PatchedOverlay → ℕ → List Value
+symbol_by_row base s k = symbol_said base s k (property_at s.live.properties.items k).name.now
+
+-- the text of a path below a node, with its zero byte
+abbrev pub text_below : List NodeRow → ℕ → List ℕ → List ℕ
+text_below nodes node rest = text_or_root (behind_slashes (path_of nodes node) ++ rest) ++ 0 ∷ []
+
+-- a symbol is put over those of a live tree
+abbrev pub PutsSymbol : List ℕ → List ℕ → LiveTree Lent → LiveTree Lent → Type 0
+PutsSymbol name value old new = lists new ≡ with_symbol (definition (symbols_name ∷ []) name value) (lists old)
+
+-- all but what is changed by phandles and fixups, by rows
+abbrev pub applied_rows : LiveTree Lent → PatchedOverlay → Result Resolved Fault
+applied_rows base s = applied_over (lists base) (patched_lists s)

@@ -2,7 +2,7 @@ use Rattle.std.proofs.Common.{◌<◌, arith, length, refl}
 use Rattle.dt_tree_builder.proofs.MakingWalk.{some-node}
 use Rattle.dt_live.proofs.MakingNodes.{count, first-made, root-row}
 use Rattle.dt_making.proofs.Runs.{defined, distinct-own, order-of, rest-next}
-use Rattle.dt_making.proofs.making.root_of.Goals as goal
+use Rattle.dt_making.proofs.making.make_nodes.Goals as goal
 
 pub new-requires : goal.new-requires
 new-requires g c =
@@ -15,8 +15,8 @@ new-requires g c =
     (defined d y m o (g.M.Values.bytes_of c.args.values.now) 0 there 0 c.requires.rest 0 (root-row (order-of d y m o)) c.run_of-run.result.now c.run_of-run.ensures
     (g.M.Values.bytes_of c.node_properties.new.values) c.in_ok-properties.properties c.in_ok-properties.ensures.properties)
 
-pub returns-clause-walk : goal.returns-clause-walk
-returns-clause-walk g c =
+pub loop-walk-init : goal.loop-walk-init
+loop-walk-init g c =
     let d = c.args.live.now in
     let y = c.args.in_preorder.now in
     let m = g.M.Values.made c.args.values.now in
@@ -26,8 +26,12 @@ returns-clause-walk g c =
     let there : 0 < length y.nodes.items = omega (arith, count (order-of d y m o), some-node m.lists.nodes) in
     let ps = c.in_ok-properties.properties.items in
     record {
-      made = first-made (order-of d y m o) c.new.result ps 1 refl
-          (defined d y m o old 0 there 0 c.requires.rest 0 (root-row (order-of d y m o)) c.run_of-run.result.now c.run_of-run.ensures new c.in_ok-properties.properties c.in_ok-properties.ensures.properties)
-          c.new.ensures.nodes c.new.ensures.properties c.new.ensures.last_node;
-      rest = rest-next d y m o old 0 there 0 c.requires.rest 0 (root-row (order-of d y m o)) c.run_of-run.result.now c.run_of-run.ensures new c.in_ok-properties.properties c.in_ok-properties.ensures.properties _ (omega arith);
+      ready = c.in_ok-properties.ensures.ready;
+      made = c.in_ok-properties.ensures.made;
+      walk = record {
+        made = first-made (order-of d y m o) c.new.result ps 1 refl
+            (defined d y m o old 0 there 0 c.requires.rest 0 (root-row (order-of d y m o)) c.run_of-run.result.now c.run_of-run.ensures new c.in_ok-properties.properties c.in_ok-properties.ensures.properties)
+            c.new.ensures.nodes c.new.ensures.properties c.new.ensures.last_node;
+        rest = rest-next d y m o old 0 there 0 c.requires.rest 0 (root-row (order-of d y m o)) c.run_of-run.result.now c.run_of-run.ensures new c.in_ok-properties.properties c.in_ok-properties.ensures.properties _ (omega arith);
+      };
     }
