@@ -6,7 +6,7 @@ ghost use Rattle.dt_live.specs.Rows.{IsLiveTree, IsStamped, state_of};
 ghost use Rattle.dt_edit.specs.Fragments.{AreFragments};
 ghost use Rattle.dt_edit.specs.Said.{tree_of};
 ghost use Rattle.dt_resolve.specs.BuildFault.{IsFault};
-ghost use Rattle.dt_resolve.specs.Said.{meaning_of};
+ghost use Rattle.dt_source.specs.Meaning.{meaning_of};
 
 use crate::error::BuildError;
 use dt_edit::{Fragments, edit_items};
