@@ -6,7 +6,7 @@ use Rattle.dt_tree.specs.PathMap.{path_map, tree_map}
 use Rattle.dt_tree.specs.TreeData.{TreeData, is_reserve, tree_data}
 use Rattle.dt_source.specs.declared.tree.Source.{Source}
 use Rattle.dt_source.specs.Lawful.{IsLawful}
-use Rattle.dt_source.specs.Meaning as said
+use Rattle.dt_source.specs.Meaning.{meaning_of}
 use Rattle.dt_meaning.specs.Syntax.{Meaning}
 use Rattle.dt_meaning.specs.Edits.{Definition}
 use Rattle.dt_meaning.specs.MapOf.{map_of, tree_map_of}
@@ -18,7 +18,6 @@ use Rattle.dt_resolve.specs.declared.error.BuildError.TheVariants.{NoMemory, Unk
 use Rattle.dt_resolve.specs.declared.prepared.Prepared.{Prepared}
 use Rattle.dt_resolve.specs.BuildFault.{IsFault}
 use Rattle.dt_resolve.specs.Prepared.{IsPrepared}
-use Rattle.dt_resolve.specs.Said.{meaning_of}
 use Rattle.dt_build.specs.Built.{IsBuilt, Refuses}
 use Rattle.dt_build.specs.Private.Fitting.{IsFitting}
 use Rattle.dt_build.specs.Private.Made.{founds, lists}
@@ -54,7 +53,7 @@ pub tree-made : (symbols : Bool) (source : Source) (p : Prepared) (rs : List (�
 tree-made symbols source p rs root t is same made = ap tree_map is ∙ (λ i. record { nodes = made i; reserves = filter is_reserve (same i); boot_cpu = 0 })
 
 module _ (symbols : Bool) (source : Source) (es : List (Definition (List Found))) (p : Prepared) (is : IsPrepared symbols (meaning_of source) es p) where
-  pub prepared-ready : IsLawful (said.meaning source) → IsReady p
+  pub prepared-ready : IsLawful (meaning_of source) → IsReady p
   prepared-ready lawful =
       ready symbols source es p is lawful
       (walked-founds p.plugin (tree_of p.live) (founds p) (standing-all symbols (meaning_of source) es p is) (found-all symbols (meaning_of source) es p is))
@@ -63,7 +62,7 @@ module _ (symbols : Bool) (source : Source) (es : List (Definition (List Found))
   pub prepared-free : names_taken symbols p.plugin (tree_of p.live) ≡ false
   prepared-free = ap (λ b. names_taken symbols b (tree_of p.live)) is.plugin ∙ is.resolved.free
 
-  pub built : IsLawful (said.meaning source) → list_any is_too_deep (lists symbols p).nodes ≡ false → (limit : ℕ) (tree : Option TreeData) → IsFitting symbols (meaning_of source) p limit tree
+  pub built : IsLawful (meaning_of source) → list_any is_too_deep (lists symbols p).nodes ≡ false → (limit : ℕ) (tree : Option TreeData) → IsFitting symbols (meaning_of source) p limit tree
       → IsBuilt symbols (meaning_of source) limit tree
   built lawful fits limit (Some t) h = record {
     tree = record { lists = lists symbols p; resolves = prepared-resolved symbols (meaning_of source) es p is fits; map = h.map };

@@ -1,19 +1,17 @@
 -- What a lawful source names, and how deep the nodes of any source are.
-use Rattle.std.proofs.Common.{◌≡◌, ◌≤◌, ℕ, suc, Bool, true, false, ◌||◌, List, [], ◌∷◌, length, map, Ok, refl, ap₂, arith}
+use Rattle.std.proofs.Common.{◌≡◌, ◌≤◌, ℕ, suc, Bool, true, false, ◌||◌, List, [], ◌∷◌, length, Ok, refl, ap₂, arith}
 use Rattle.std.specs.Prelude.{nat_lt, All}
 use Rattle.std.specs.List.{list_any, list_all}
 use Rattle.std.proofs.lemmas.Bool.{and_from}
 use Rattle.std.proofs.lemmas.Bool.Decides.{nat_tests}
 use Rattle.dt_tree.specs.Name.{is_name}
-use Rattle.dt_source.specs.Tree as said
 use Rattle.dt_source.specs.Lawful.{IsLawfulTarget, IsLawfulPiece, IsLawfulEntry, IsLawfulBody, IsLawfulEdit}
 use Rattle.dt_meaning.specs.Paths.{Path}
 use Rattle.dt_meaning.specs.Syntax.{Target, OfLabel, OfPath, Piece, Plain, PhandleOf, PathOf, Entry, Defines, Undefines, Child, Removes, Body, Done, Then, Edit, Rooted, Extends, Deletes, Meaning}
 use Rattle.dt_meaning.specs.Edits.{State, counted}
 use Rattle.dt_meaning.specs.Statements.{edited}
 use Rattle.dt_meaning.specs.Resolved.{is_too_deep}
-use Rattle.dt_edit.specs.Said.{target_of, piece_of, entry_of, body_of, item_of}
-use Rattle.dt_live.proofs.Each.{Each, each-more, each-of, each-same}
+use Rattle.dt_live.proofs.Each.{Each, each-more, each-of}
 use Rattle.dt_build.proofs.ApartLists.{each-any}
 use Rattle.dt_build.proofs.FragmentNames.{fragment-named, overlay-named, target-named}
 use Rattle.dt_build.proofs.NamedEdits.{HasFragmentNames, IsNamedPath, IsNamedTarget, IsNamedPiece, IsNamedValue, IsNamedEntry, IsNamedBody, IsNamedEdit, edits-named}
@@ -24,40 +22,40 @@ IsName n = is_name n ≡ true
 -- ---- what is lawful is named
 -- what a reference may name is what a label is
 abbrev IsLabel : List ℕ → Type 0
-IsLabel l = IsLawfulTarget (said.OfLabel l)
+IsLabel l = IsLawfulTarget (OfLabel l)
 
 labels-named : (ls : List (List ℕ)) → All IsLabel ls → Each IsName ls
 labels-named ls all = each-more IsLabel IsName ls (λ l h. h.0) (each-of IsLabel ls all)
 
-target-is : (t : said.Target) → IsLawfulTarget t → IsNamedTarget IsName (target_of t)
-target-is (said.OfLabel l) h = h.0
-target-is (said.OfPath t) h = tt
+target-is : (t : Target) → IsLawfulTarget t → IsNamedTarget IsName t
+target-is (OfLabel l) h = h.0
+target-is (OfPath t) h = tt
 
-piece-is : (v : said.Piece) → IsLawfulPiece v → IsNamedPiece IsName (piece_of v)
-piece-is (said.Plain b) h = tt
-piece-is (said.PhandleOf t) h = target-is t h
-piece-is (said.PathOf t) h = target-is t h
+piece-is : (v : Piece) → IsLawfulPiece v → IsNamedPiece IsName v
+piece-is (Plain b) h = tt
+piece-is (PhandleOf t) h = target-is t h
+piece-is (PathOf t) h = target-is t h
 
-value-is : (vs : List said.Piece) → All IsLawfulPiece vs → IsNamedValue IsName (map piece_of vs)
-value-is vs all = each-same (IsNamedPiece IsName) piece_of vs (each-more IsLawfulPiece (λ v. IsNamedPiece IsName (piece_of v)) vs piece-is (each-of IsLawfulPiece vs all))
+value-is : (vs : List Piece) → All IsLawfulPiece vs → IsNamedValue IsName vs
+value-is vs all = each-more IsLawfulPiece (IsNamedPiece IsName) vs piece-is (each-of IsLawfulPiece vs all)
 
 mutual
-  entry-named : (e : said.Entry) → IsLawfulEntry e → IsNamedEntry IsName (IsNamedValue IsName) (entry_of e)
-  entry-named (said.Defines n v) h = (h.0, value-is v h.1)
-  entry-named (said.Undefines n) h = tt
-  entry-named (said.Child ls n b) h = (labels-named ls h.0, h.1, body-named b h.2)
-  entry-named (said.Removes n) h = tt
+  entry-named : (e : Entry (List Piece)) → IsLawfulEntry e → IsNamedEntry IsName (IsNamedValue IsName) e
+  entry-named (Defines n v) h = (h.0, value-is v h.1)
+  entry-named (Undefines n) h = tt
+  entry-named (Child ls n b) h = (labels-named ls h.0, h.1, body-named b h.2)
+  entry-named (Removes n) h = tt
 
-  body-named : (b : said.Body) → IsLawfulBody b → IsNamedBody IsName (IsNamedValue IsName) (body_of b)
-  body-named said.Done h = tt
-  body-named (said.Then e b) h = (entry-named e h.0, body-named b h.1)
+  body-named : (b : Body (List Piece)) → IsLawfulBody b → IsNamedBody IsName (IsNamedValue IsName) b
+  body-named Done h = tt
+  body-named (Then e b) h = (entry-named e h.0, body-named b h.1)
 
-item-named : (i : said.Edit) → IsLawfulEdit i → IsNamedEdit IsName (item_of i)
-item-named (said.Rooted b) h = body-named b h
-item-named (said.Extends ls t b) h = (labels-named ls h.0, target-is t h.1, body-named b h.2)
-item-named (said.Deletes t) h = tt
+item-named : (i : Edit) → IsLawfulEdit i → IsNamedEdit IsName i
+item-named (Rooted b) h = body-named b h
+item-named (Extends ls t b) h = (labels-named ls h.0, target-is t h.1, body-named b h.2)
+item-named (Deletes t) h = tt
 
-pub items-named : (is : List said.Edit) → All IsLawfulEdit is → Each (IsNamedEdit IsName) (map item_of is)
+pub items-named : (is : List Edit) → All IsLawfulEdit is → Each (IsNamedEdit IsName) is
 items-named [] all = tt
 items-named (i ∷ is) all = (item-named i (all 0 i (omega arith)), items-named is (λ k x below. all (suc k) x (omega arith)))
 

@@ -4,7 +4,7 @@ use Rattle.std.specs.List.{flat_map, list_all}
 use Rattle.dt_tree.specs.Name.{is_name}
 use Rattle.dt_source.specs.declared.tree.Source.{Source}
 use Rattle.dt_source.specs.Lawful.{IsLawful}
-use Rattle.dt_source.specs.Meaning as said
+use Rattle.dt_source.specs.Meaning.{meaning_of}
 use Rattle.dt_meaning.specs.Paths.{Path, is_listed}
 use Rattle.dt_meaning.specs.Syntax.{Meaning}
 use Rattle.dt_meaning.specs.Edits.{Definition}
@@ -20,7 +20,6 @@ use Rattle.dt_resolve.specs.declared.node_phandles.NodePhandle.{NodePhandle}
 use Rattle.dt_resolve.specs.declared.prepared.Prepared.{Prepared}
 use Rattle.dt_resolve.specs.NodePhandles.{AreStanding, path_phandle_of}
 use Rattle.dt_resolve.specs.Prepared.{IsPrepared}
-use Rattle.dt_resolve.specs.Said.{meaning_of}
 use Rattle.dt_resolve.specs.Targets.{AreFound}
 use Rattle.dt_build.specs.Private.Made.{founds, given_phandles, new_phandles, ok_or_none}
 use Rattle.dt_build.specs.Private.Ready.{AreNamed, IsReady}
@@ -116,8 +115,8 @@ module _ (symbols : Bool) (m : Meaning) (es : List (Definition (List Found))) (p
     }
 
 -- a lawful source
-pub ready : (symbols : Bool) (source : Source) (es : List (Definition (List Found))) (p : Prepared) → IsPrepared symbols (meaning_of source) es p → IsLawful (said.meaning source)
+pub ready : (symbols : Bool) (source : Source) (es : List (Definition (List Found))) (p : Prepared) → IsPrepared symbols (meaning_of source) es p → IsLawful (meaning_of source)
     → flat_map (held (founds p)) (preorder (tree_of p.live).nodes) ≡ founds p → IsReady p
 ready symbols source es p is lawful walked =
     named-ready symbols (meaning_of source) es p is
-    (edits-named IsName names-brought (meaning_of source) is.fragments (tree_of p.live) (items-named (said.meaning source).items lawful.items) is.edited) walked
+    (edits-named IsName names-brought (meaning_of source) is.fragments (tree_of p.live) (items-named (meaning_of source).items lawful.items) is.edited) walked

@@ -14,7 +14,6 @@ use Rattle.dt_meaning.specs.Syntax.{OfPath, Piece}
 use Rattle.dt_meaning.specs.Edits.{Definition, definition, State, label_path}
 use Rattle.dt_meaning.specs.Statements.{Fault, ReservedName, then_do, found}
 use Rattle.dt_meaning.specs.References.{Found, Bytes, Cell, Open, PathText, cell_at, cell_of, cell_of_label, each, found_in}
-use Rattle.dt_edit.specs.Said.{piece_of, target_of}
 use Rattle.dt_resolve.specs.Targets.{target_path}
 use Rattle.dt_build.specs.Private.Values.{uses, all_uses, label_in, cell_for, text_for, found_of, founds_of}
 
@@ -90,27 +89,27 @@ module _ (plugin : Bool) (s : State (List Piece)) (path : ℕ → Path) where
   by_plugin t r true f ts rest h at = absurd (cc)
   by_plugin t r false f ts rest h at = cell-first path r f (cell-is (found (OfPath t) s) f h) ts rest at
 
-  cell-found : (t : Reference) (f : Found) (ts : List (Option ℕ)) (rest : List (Option Path)) → cell_of plugin s (target_of (target_view t)) ≡ Ok f → map (option_map path) ts ≡ target_path f ++ rest
+  cell-found : (t : Reference) (f : Found) (ts : List (Option ℕ)) (rest : List (Option Path)) → cell_of plugin s (target_view t) ≡ Ok f → map (option_map path) ts ≡ target_path f ++ rest
       → IsFirst path (cell_for path t) f ts rest
   cell-found (references.Label l) f ts rest h at = by_label (references.Label l) plugin (label_path l.now s.labels) f ts rest h at
   cell-found (references.Path t) f ts rest h at = by_plugin t.now (references.Path t) plugin f ts rest h at
 
-  part-found : (x : Part) (f : Found) (ts : List (Option ℕ)) (rest : List (Option Path)) → found_in plugin s (piece_of (part_view x)) ≡ Ok f → map (option_map path) ts ≡ target_path f ++ rest
+  part-found : (x : Part) (f : Found) (ts : List (Option ℕ)) (rest : List (Option Path)) → found_in plugin s (part_view x) ≡ Ok f → map (option_map path) ts ≡ target_path f ++ rest
       → (found_of path x (get_or ts 0 None) ≡ f) × (map (option_map path) (drop (uses x) ts) ≡ rest)
   part-found (parts.Bytes b) f ts rest h at =
       let e : f ≡ Bytes b.items = cc in
       (sym e, at ∙ ap (λ g. target_path g ++ rest) e)
   part-found (parts.Phandle t) f ts rest h at = cell-found t f ts rest h at
-  part-found (parts.Path t) f ts rest h at = path-first path f (path-is (found (target_of (target_view t)) s) f h) ts rest at
+  part-found (parts.Path t) f ts rest h at = path-first path f (path-is (found (target_view t) s) f h) ts rest at
 
   -- a value, and the targets behind its own
-  pub value-found : (v : List Part) (fs : List Found) (ts : List (Option ℕ)) (rest : List (Option Path)) → each (found_in plugin s) (map piece_of (map part_view v)) ≡ Ok fs
+  pub value-found : (v : List Part) (fs : List Found) (ts : List (Option ℕ)) (rest : List (Option Path)) → each (found_in plugin s) (map part_view v) ≡ Ok fs
       → map (option_map path) ts ≡ flat_map target_path fs ++ rest → (founds_of path v ts ≡ fs) × (map (option_map path) (drop (all_uses v) ts) ≡ rest)
   value-found [] fs ts rest h at =
       let e : fs ≡ [] = cc in
       (sym e, at ∙ ap (λ gs. flat_map target_path gs ++ rest) e)
   value-found (x ∷ v) fs ts rest h at =
-      let split = each-split (found_in plugin s (piece_of (part_view x))) (each (found_in plugin s) (map piece_of (map part_view v))) fs h in
+      let split = each-split (found_in plugin s (part_view x)) (each (found_in plugin s) (map part_view v)) fs h in
       let first = part-found x split.0 ts (flat_map target_path split.1 ++ rest) split.2
       (at ∙ ap (λ gs. flat_map target_path gs ++ rest) split.4 ∙ append_assoc (target_path split.0) (flat_map target_path split.1) rest) in
       let more = value-found v split.1 (drop (uses x) ts) rest split.3 first.1 in

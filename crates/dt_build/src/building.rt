@@ -5,11 +5,10 @@ ghost use Rattle.dt_meaning.specs.Edits.{Definition};
 ghost use Rattle.dt_meaning.specs.References.{Found};
 ghost use Rattle.dt_meaning.specs.Resolved.{is_too_deep, names_taken};
 ghost use Rattle.dt_source.specs.Lawful.{IsLawful};
-ghost use Rattle.dt_source.specs.Meaning.{meaning};
 ghost use Rattle.dt_edit.specs.Fragments.{AreFragments};
 ghost use Rattle.dt_edit.specs.Said.{tree_of};
 ghost use Rattle.dt_resolve.specs.Prepared.{IsPrepared};
-ghost use Rattle.dt_resolve.specs.Said.{meaning_of};
+ghost use Rattle.dt_source.specs.Meaning.{meaning_of};
 ghost use Rattle.dt_build.specs.Built.{IsBuilt, IsTreeOf, Refuses};
 ghost use Rattle.dt_build.specs.Private.FixupSites.{AreSites};
 ghost use Rattle.dt_build.specs.Private.Fitting.{IsFitting};
@@ -64,7 +63,7 @@ fn prepared_tree(
     symbols: bool,
     limit: usize,
 ) -> Result<Option<Tree>, BuildError>
-    requires lawful { IsLawful (meaning source.now) }
+    requires lawful { IsLawful (meaning_of source.now) }
     requires prepared { (es : List (Definition (List Found))) × IsPrepared symbols (meaning_of source.now) es prepared.now }
     ensures { MatchResult result (λ tree. IsBuilt symbols (meaning_of source.now) limit tree) (λ e. Refuses symbols (meaning_of source.now) e) }
 {
@@ -86,7 +85,7 @@ fn source_tree<'d, 't>(
     symbols: bool,
     limit: usize,
 ) -> Result<Option<Tree>, BuildError>
-    requires lawful { IsLawful (meaning source.now) }
+    requires lawful { IsLawful (meaning_of source.now) }
     requires fragments { AreFragments (meaning_of source.now).items fragments.now }
     ensures { MatchResult result (λ tree. IsBuilt symbols (meaning_of source.now) limit tree) (λ e. Refuses symbols (meaning_of source.now) e) }
 {

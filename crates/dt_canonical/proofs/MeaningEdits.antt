@@ -1,5 +1,5 @@
 -- What the edits of a tree's canonical source make: each node and each property is new, and goes last.
-use Rattle.std.proofs.Common.{◌≡◌, ℕ, ◌+◌, ◌≤◌, Bool, true, false, ◌&&◌, ◌||◌, List, [], ◌∷◌, ◌++◌, length, map, Some, None, Ok, Err, if◌then◌else◌, refl, sym, ap, ap₂, ◌∙◌, append_assoc, append-nil, length-append, true≢false, arith}
+use Rattle.std.proofs.Common.{◌≡◌, ℕ, ◌+◌, ◌≤◌, Bool, true, false, ◌&&◌, ◌||◌, List, [], ◌∷◌, ◌++◌, length, Some, None, Ok, Err, if◌then◌else◌, refl, sym, ap, ap₂, ◌∙◌, append_assoc, append-nil, length-append, true≢false, arith}
 use Rattle.std.specs.Prelude.{nat_lt}
 use Rattle.std.specs.Str.{bytes_eq}
 use Rattle.std.proofs.lemmas.Bool.Decides.{nat_tests}
@@ -10,23 +10,18 @@ use Rattle.dt_tree.specs.TreeData.{TreeData, IsTree}
 use Rattle.dt_tree.proofs.PhandleLaws.{among_apart}
 use Rattle.dt_tree.proofs.Places.{distinct_head, distinct_tail}
 use Rattle.dt_tree.proofs.SeenNames.{bytes_eq-comm}
-use Rattle.dt_source.specs.Tree as said
 use Rattle.dt_meaning.specs.Paths.{Path, same_path, is_within, is_listed}
-use Rattle.dt_meaning.specs.Syntax.{Piece}
+use Rattle.dt_meaning.specs.Syntax.{Piece, Body}
 use Rattle.dt_meaning.specs.Edits.{Definition, definition, State, with_node, is_of, put}
 use Rattle.dt_meaning.specs.Statements.{DuplicateInBody, ReservedName, TooDeep, then_do, is_made, progress, begun, child_fault, unless, after_body, edited}
-use Rattle.dt_edit.specs.Said.{piece_of, body_of, reading}
 use Rattle.dt_live.proofs.Each.{Each, each-append, each-more}
 use Rattle.dt_tree_builder.proofs.PathFacts.{or-right, bytes-itself}
 use Rattle.dt_canonical.specs.SourceOf.{value_of, with_properties, nodes_of, source_of}
 
 -- ---- what is made
-abbrev pub parts_of : List ℕ → List Piece
-parts_of bytes = map piece_of (value_of bytes)
-
 abbrev pub said_at : Path → List Property → List (Definition (List Piece))
 said_at p [] = []
-said_at p (x ∷ xs) = definition p x.name (parts_of x.value) ∷ said_at p xs
+said_at p (x ∷ xs) = definition p x.name (value_of x.value) ∷ said_at p xs
 
 -- the nodes below a path, and their properties
 abbrev pub nodes_below : Path → Siblings → List Path
@@ -116,12 +111,12 @@ pub record IsNew (p : Path) (m : List ℕ) (qs : List (List ℕ)) (es : List (De
   pub here : is_among m qs ≡ false
   pub before : Each (λ e. is_of p m e ≡ false) es
 
-properties-made : (xs : List Property) (b : said.Body) (p : Path) (qs cs : List (List ℕ)) (ns : List Path) (es : List (Definition (List Piece))) → are_distinct (property_names xs) ≡ true
+properties-made : (xs : List Property) (b : Body (List Piece)) (p : Path) (qs cs : List (List ℕ)) (ns : List Path) (es : List (Definition (List Piece))) → are_distinct (property_names xs) ≡ true
     → ((m : List ℕ) → is_among m (property_names xs) ≡ true → IsNew p m qs es)
-    → (names : List (List ℕ)) × (after_body (body_of (with_properties xs b)) p (progress qs cs (made ns es)) ≡ after_body (body_of b) p (progress names cs (made ns (es ++ said_at p xs))))
-properties-made [] b p qs cs ns es d new = (qs, ap (λ ys. after_body (body_of b) p (progress qs cs (made ns ys))) (sym (append-nil es)))
+    → (names : List (List ℕ)) × (after_body (with_properties xs b) p (progress qs cs (made ns es)) ≡ after_body b p (progress names cs (made ns (es ++ said_at p xs))))
+properties-made [] b p qs cs ns es d new = (qs, ap (λ ys. after_body b p (progress qs cs (made ns ys))) (sym (append-nil es)))
 properties-made (x ∷ xs) b p qs cs ns es d new =
-    let v = parts_of x.value in
+    let v = value_of x.value in
     let others = property_names xs in
     let alone = distinct_head x.name others (is_among x.name others) refl d in
     let first = new x.name (ap (λ t. t || is_among x.name others) (bytes-itself x.name)) in
@@ -136,10 +131,10 @@ properties-made (x ∷ xs) b p qs cs ns es d new =
     } in
     let rest = properties-made xs b p (x.name ∷ qs) cs ns es2 (distinct_tail x.name others (is_among x.name others) refl d) still in (
       rest.0,
-      ap (λ t. then_do (if t then Err DuplicateInBody else Ok (progress (x.name ∷ qs) cs (made ns (put p x.name v es)))) (after_body (body_of (with_properties xs b)) p)) first.here
-          ∙ ap (λ ys. after_body (body_of (with_properties xs b)) p (progress (x.name ∷ qs) cs (made ns ys))) (put-new p x.name v es first.before)
+      ap (λ t. then_do (if t then Err DuplicateInBody else Ok (progress (x.name ∷ qs) cs (made ns (put p x.name v es)))) (after_body (with_properties xs b) p)) first.here
+          ∙ ap (λ ys. after_body (with_properties xs b) p (progress (x.name ∷ qs) cs (made ns ys))) (put-new p x.name v es first.before)
           ∙ rest.1
-          ∙ ap (λ ys. after_body (body_of b) p (progress rest.0 cs (made ns ys))) (append_assoc es (definition p x.name v ∷ []) (said_at p xs)),
+          ∙ ap (λ ys. after_body b p (progress rest.0 cs (made ns ys))) (append_assoc es (definition p x.name v ∷ []) (said_at p xs)),
     ) where
       by_names : (s t : Bool) → t ≡ false → (s && t) ≡ false
       by_names true t e = e
@@ -209,14 +204,14 @@ module _ (n : List ℕ) (ps : List Property) (c rest : Siblings) (p : Path) (cs 
     later m a = or-right (bytes_eq n m) (is_among m (child_names rest)) a
 
 pub nodes-made : (f : Siblings) (p : Path) (qs cs : List (List ℕ)) (ns : List Path) (es : List (Definition (List Piece))) → IsSoundBelow f → are_distinct (child_names f) ≡ true → length p + height_of f ≤ 64
-    → IsFresh p f cs ns es → after_body (body_of (nodes_of f)) p (progress qs cs (made ns es)) ≡ Ok (made (ns ++ nodes_below p f) (es ++ said_below p f))
+    → IsFresh p f cs ns es → after_body (nodes_of f) p (progress qs cs (made ns es)) ≡ Ok (made (ns ++ nodes_below p f) (es ++ said_below p f))
 nodes-made none p qs cs ns es s d deep fresh = ap₂ (λ xs ys. Ok (made xs ys)) (sym (append-nil ns)) (sym (append-nil es))
 nodes-made (more n ps c rest) p qs cs ns es s d deep fresh =
     let q = p ++ n ∷ [] in
     let alone = distinct_head n (child_names rest) (is_among n (child_names rest)) refl d in
     let clear = first-clear n ps c rest p cs ns es fresh in
-    let inside = body_of (with_properties ps (nodes_of c)) in
-    let others = body_of (nodes_of rest) in
+    let inside = with_properties ps (nodes_of c) in
+    let others = nodes_of rest in
     let ns2 = ns ++ q ∷ [] in
     let es2 = es ++ said_at q ps in
     let own = properties-made ps (nodes_of c) q [] [] ns2 es s.0.distinct (λ m a. record { here = refl; before = not-there q m es clear.properties }) in
@@ -232,7 +227,7 @@ nodes-made (more n ps c rest) p qs cs ns es s d deep fresh =
     (append_assoc es2 (said_below q c) (said_below p rest) ∙ append_assoc es (said_at q ps) (said_below q c ++ said_below p rest))
 
 -- ---- the whole source
-pub source-made : (t : TreeData) → IsTree t → edited (reading (source_of t)) ≡ Ok (made (nodes_below [] t.root.children) (said_at [] t.root.properties ++ said_below [] t.root.children))
+pub source-made : (t : TreeData) → IsTree t → edited (source_of t) ≡ Ok (made (nodes_below [] t.root.children) (said_at [] t.root.properties ++ said_below [] t.root.children))
 source-made t is =
     let b = t.root in
     let own = properties-made b.properties (nodes_of b.children) [] [] [] [] [] is.sound.properties.distinct (λ m a. record { here = refl; before = tt }) in

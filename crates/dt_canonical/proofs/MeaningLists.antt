@@ -18,7 +18,8 @@ use Rattle.dt_tree_builder.specs.Standing.{walked}
 use Rattle.dt_tree_builder.proofs.Orders.{map-walked}
 use Rattle.dt_tree_builder.proofs.TreeLists.{map-lists}
 use Rattle.dt_tree_builder.proofs.TreeNodes.{below-root, map-map, paths-more, paths_below, tree-nodes}
-use Rattle.dt_canonical.proofs.MeaningEdits.{parts_of, said_at, nodes_below, said_below}
+use Rattle.dt_canonical.specs.SourceOf.{value_of}
+use Rattle.dt_canonical.proofs.MeaningEdits.{said_at, nodes_below, said_below}
 
 -- ---- the nodes
 paths-said : (p : Path) (f : Siblings) → nodes_below p f ≡ paths_below p f
@@ -35,18 +36,18 @@ abbrev pub Placed : Type 0
 Placed = Definition (List ℕ)
 
 abbrev pub said_of : Placed → Definition (List Piece)
-said_of e = definition e.path e.name (parts_of e.value)
+said_of e = definition e.path e.name (value_of e.value)
 
 abbrev said_from : Path → Placed → Definition (List Piece)
-said_from p e = definition (p ++ e.path) e.name (parts_of e.value)
+said_from p e = definition (p ++ e.path) e.name (value_of e.value)
 
 own-said : (p : Path) (n : List ℕ) (ps : List Property) → said_at (p ++ n ∷ []) ps ≡ map (said_from p) (map (below_child n) (defined_at [] ps))
 own-said p n [] = refl
-own-said p n (x ∷ ps) = ap (λ xs. definition (p ++ n ∷ []) x.name (parts_of x.value) ∷ xs) (own-said p n ps)
+own-said p n (x ∷ ps) = ap (λ xs. definition (p ++ n ∷ []) x.name (value_of x.value) ∷ xs) (own-said p n ps)
 
 root-said : (ps : List Property) → said_at [] ps ≡ map said_of (defined_at [] ps)
 root-said [] = refl
-root-said (x ∷ ps) = ap (λ xs. definition [] x.name (parts_of x.value) ∷ xs) (root-said ps)
+root-said (x ∷ ps) = ap (λ xs. definition [] x.name (value_of x.value) ∷ xs) (root-said ps)
 
 all-said : (p : Path) (f : Siblings) → said_below p f ≡ map (said_from p) (defined_among f)
 all-said p none = refl
@@ -56,7 +57,7 @@ all-said p (more n ps c rest) =
     ap₂ (λ xs ys. xs ++ ys) (own-said p n ps)
     (ap₂ (λ xs ys. xs ++ ys)
     (all-said (p ++ n ∷ []) c
-    ∙ sym (map-map (said_from p) (below_child n) (said_from (p ++ n ∷ [])) below (λ e. ap (λ q. definition q e.name (parts_of e.value)) (sym (append_assoc p (n ∷ []) e.path)))))
+    ∙ sym (map-map (said_from p) (below_child n) (said_from (p ++ n ∷ [])) below (λ e. ap (λ q. definition q e.name (value_of e.value)) (sym (append_assoc p (n ∷ []) e.path)))))
     (all-said p rest))
     ∙ sym (append_assoc (map (said_from p) (map (below_child n) own)) (map (said_from p) (map (below_child n) below)) (map (said_from p) (defined_among rest)))
     ∙ ap (λ xs. xs ++ map (said_from p) (defined_among rest))

@@ -29,8 +29,8 @@ use Rattle.dt_tree_builder.proofs.TreeLists.{map-lists}
 use Rattle.dt_tree_builder.proofs.TreeNodes.{tree-nodes}
 use Rattle.dt_build.proofs.ApartKeys.{held-here, held-listed}
 use Rattle.dt_build.proofs.ApartLists.{InPairs, pairs-behind}
+use Rattle.dt_canonical.specs.SourceOf.{value_of}
 use Rattle.dt_canonical.specs.Conditions.{HasSourcePhandles}
-use Rattle.dt_canonical.proofs.MeaningEdits.{parts_of}
 use Rattle.dt_canonical.proofs.MeaningLists.{Placed, said_of, in_turn, map-meant}
 
 -- ---- the properties in order of the walk: no two of one node have a name
@@ -115,7 +115,7 @@ pub record Gives (h : ℕ) (e : Placed) : Type 0 where
   pub named : is_phandle e ≡ true
   pub phandle : phandle_in e.value ≡ Some h
 
-phandle-said : (v : List ℕ) → phandle_value (parts_of v) ≡ phandle_in v
+phandle-said : (v : List ℕ) → phandle_value (value_of v) ≡ phandle_in v
 phandle-said [] = refl
 phandle-said (b ∷ bs) = refl
 
@@ -141,7 +141,7 @@ given-all (x ∷ xs) gs lawful apart new = by_name (is_phandle x) refl (λ hs n.
 
   by_name : (t : Bool) → is_phandle x ≡ t
       → ((hs : List PathPhandle) → Each (λ e. (h : ℕ) → Gives h e → has_phandle h hs ≡ false) xs → (given : List PathPhandle) × (given_of (map said_of xs) hs ≡ Ok given))
-      → (given : List PathPhandle) × ((if t then then_do (given_one x.path (phandle_value (parts_of x.value)) gs) (given_of (map said_of xs)) else given_of (map said_of xs) gs) ≡ Ok given)
+      → (given : List PathPhandle) × ((if t then then_do (given_one x.path (phandle_value (value_of x.value)) gs) (given_of (map said_of xs)) else given_of (map said_of xs) gs) ≡ Ok given)
   by_name true named others =
       let h = lawful.0 named in
       let g : Gives h.0 x = record { named = named; phandle = h.1 } in

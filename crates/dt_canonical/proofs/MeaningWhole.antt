@@ -13,13 +13,12 @@ use Rattle.dt_meaning.specs.Phandles.{PathPhandle, named_in_cells, new_ones, ass
 use Rattle.dt_meaning.specs.References.{Found, Bytes, each, found_in, found_value, held, in_order, preorder}
 use Rattle.dt_meaning.specs.Resolved.{Resolved, is_too_deep, put_together, resolved, resolved_state, shallow, with_bytes}
 use Rattle.dt_meaning.specs.Statements.{Fault, TooDeep, then_do}
-use Rattle.dt_edit.specs.Said.{reading}
 use Rattle.dt_tree_builder.specs.Lists.{lists_of}
 use Rattle.dt_tree_builder.proofs.TreeNodes.{tree-nodes}
 use Rattle.dt_tree_builder.proofs.Walks.{filter-all}
 use Rattle.dt_canonical.specs.Conditions.{IsSourceTree}
-use Rattle.dt_canonical.specs.SourceOf.{source_of}
-use Rattle.dt_canonical.proofs.MeaningEdits.{parts_of, made, source-made}
+use Rattle.dt_canonical.specs.SourceOf.{value_of, source_of}
+use Rattle.dt_canonical.proofs.MeaningEdits.{made, source-made}
 use Rattle.dt_canonical.proofs.MeaningLists.{Placed, said_of, nodes-listed, properties-listed, in_turn, meant, map-meant}
 use Rattle.dt_canonical.proofs.MeaningPhandles.{phandles-given}
 
@@ -43,7 +42,7 @@ founds_of (b ∷ bs) = Bytes (b ∷ bs) ∷ []
 abbrev found_of : Placed → Definition (List Found)
 found_of e = definition e.path e.name (founds_of e.value)
 
-found-one : (s : State (List Piece)) (p : Path) (n v : List ℕ) → then_do (each (found_in false s) (parts_of v)) (λ w. Ok (definition p n w)) ≡ Ok (definition p n (founds_of v))
+found-one : (s : State (List Piece)) (p : Path) (n v : List ℕ) → then_do (each (found_in false s) (value_of v)) (λ w. Ok (definition p n w)) ≡ Ok (definition p n (founds_of v))
 found-one s p n [] = refl
 found-one s p n (b ∷ bs) = refl
 
@@ -98,7 +97,7 @@ module _ (ns : List Path) (ps : List (Definition (List Piece))) (es : List Place
       ∙ ap (λ t. if t then Err TooDeep else Ok plain) flat
 
 -- ---- the whole
-pub source-meant : (t : TreeData) → IsTree t → IsSourceTree t → (r : Resolved) × (resolved false (reading (source_of t)) ≡ Ok r) × (tree_map t ≡ tree_map_of (reading (source_of t)) r)
+pub source-meant : (t : TreeData) → IsTree t → IsSourceTree t → (r : Resolved) × (resolved false (source_of t) ≡ Ok r) × (tree_map t ≡ tree_map_of (source_of t) r)
 source-meant t is has =
     let b = t.root in
     let q = lists_of b in

@@ -4,7 +4,7 @@ use Rattle.std.specs.Prelude.{ℕ, false, List, [], ◌∷◌}
 use Rattle.dt_tree.specs.declared.property.Property.{Property}
 use Rattle.dt_tree.specs.NodeData.{Siblings, none, more}
 use Rattle.dt_tree.specs.TreeData.{TreeData}
-use Rattle.dt_source.specs.Tree.{Piece, Plain, Defines, Child, Body, Done, Then, Rooted, Meaning}
+use Rattle.dt_meaning.specs.Syntax.{Piece, Plain, Defines, Child, Body, Done, Then, Rooted, Meaning}
 
 -- an empty value has no parts
 abbrev pub value_of : List ℕ → List Piece
@@ -12,11 +12,11 @@ value_of [] = []
 value_of (b ∷ bytes) = Plain (b ∷ bytes) ∷ []
 
 -- properties, and what stands behind them
-abbrev pub with_properties : List Property → Body → Body
+abbrev pub with_properties : List Property → Body (List Piece) → Body (List Piece)
 with_properties [] body = body
 with_properties (x ∷ xs) body = Then (Defines x.name (value_of x.value)) (with_properties xs body)
 
-abbrev pub nodes_of : Siblings → Body
+abbrev pub nodes_of : Siblings → Body (List Piece)
 nodes_of none = Done
 nodes_of (more n p c rest) = Then (Child [] n (with_properties p (nodes_of c))) (nodes_of rest)
 

@@ -13,7 +13,6 @@ use Rattle.dt_meaning.specs.Statements.{target_value}
 use Rattle.dt_edit.specs.declared.fragments.Fragments.{Fragments}
 use Rattle.dt_edit.specs.Fragments.{first_names, target_values}
 use Rattle.dt_edit.specs.Private.Ready.{IsReady}
-use Rattle.dt_edit.specs.Said.{piece_of}
 
 -- ---- lists
 pub drop-some : {A : Type 0} (xs : List A) (i : ℕ) (y : A) (ys : List A) → drop i xs ≡ y ∷ ys → (i < length xs) × ((d : A) → get_or xs i d ≡ y) × (drop (i + 1) xs ≡ ys)
@@ -38,7 +37,7 @@ first-at (suc n) k d below = elim (cases_eq k n) [
 ]
 
 abbrev pub value_of : Vec Part Global → List Piece
-value_of v = map piece_of (map part_view v.items)
+value_of v = map part_view v.items
 
 abbrev pub name_of : Vec ℕ Global → List ℕ
 name_of v = v.items

@@ -6,16 +6,17 @@ use Rattle.dt_source.specs.declared.tree.Statement.{Statement}
 use Rattle.dt_source.specs.declared.tree.Statement.TheVariants as statements
 use Rattle.dt_source.specs.declared.tree.Statement.TheVariants.{rolls-Property, rolls-DeleteProperty, rolls-DeleteNode, rolls-Node}
 use Rattle.dt_source.specs.declared.tree.Statement.TheFolds.{fold-roll-Statement}
-use Rattle.dt_source.specs.Tree.{Entry, view, views, view_step, part_view, labels_view, Defines, Undefines, Child, Removes}
+use Rattle.dt_meaning.specs.Syntax.{Piece, Entry, Defines, Undefines, Child, Removes}
+use Rattle.dt_source.specs.Tree.{view, views, view_step, part_view, labels_view}
 
 pub view-undefines : (name : Bor (List ℕ)) → view (statements.DeleteProperty name) ≡ Undefines name.now
-view-undefines name = ap view (sym (rolls-DeleteProperty name)) ∙ fold-roll-Statement Entry view_step _
+view-undefines name = ap view (sym (rolls-DeleteProperty name)) ∙ fold-roll-Statement (Entry (List Piece)) view_step _
 
 pub view-removes : (name : Bor (List ℕ)) → view (statements.DeleteNode name) ≡ Removes name.now
-view-removes name = ap view (sym (rolls-DeleteNode name)) ∙ fold-roll-Statement Entry view_step _
+view-removes name = ap view (sym (rolls-DeleteNode name)) ∙ fold-roll-Statement (Entry (List Piece)) view_step _
 
 pub view-defines : (name : Bor (List ℕ)) (value : Vec Part Global) → view (statements.Property name value) ≡ Defines name.now (map part_view value.items)
-view-defines name value = ap view (sym (rolls-Property name value)) ∙ fold-roll-Statement Entry view_step _
+view-defines name value = ap view (sym (rolls-Property name value)) ∙ fold-roll-Statement (Entry (List Piece)) view_step _
 
 pub view-child : (labels : Labels) (name : Bor (List ℕ)) (body : Vec Statement Global) → view (statements.Node labels name body) ≡ Child (labels_view labels) name.now (views body.items)
-view-child labels name body = ap view (sym (rolls-Node labels name body)) ∙ fold-roll-Statement Entry view_step _
+view-child labels name body = ap view (sym (rolls-Node labels name body)) ∙ fold-roll-Statement (Entry (List Piece)) view_step _

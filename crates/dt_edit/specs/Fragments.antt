@@ -6,7 +6,6 @@ use Rattle.dt_meaning.specs.Names.{fragment_name}
 use Rattle.dt_meaning.specs.Syntax.{Piece, Edit, Rooted, Extends, Deletes}
 use Rattle.dt_meaning.specs.Statements.{target_value}
 use Rattle.dt_edit.specs.declared.fragments.Fragments.{Fragments}
-use Rattle.dt_edit.specs.Said.{piece_of}
 
 -- the value for the target of an extension
 abbrev pub target_values : Edit → List (List Piece)
@@ -22,4 +21,4 @@ first_names (suc n) = first_names n ++ fragment_name n ∷ []
 -- a name and a value for each extension, as each may make a fragment
 pub record AreFragments (is : List Edit) (f : Fragments) : Type 0 where
   pub names : map (λ v. v.items) f.names.items ≡ first_names (length (flat_map target_values is))
-  pub targets : map (λ v. map piece_of (map part_view v.items)) f.targets.items ≡ flat_map target_values is
+  pub targets : map (λ v. map part_view v.items) f.targets.items ≡ flat_map target_values is

@@ -7,8 +7,7 @@ ghost use Rattle.dt_source.specs.Tree.{labels_view, part_view, target_view, view
 ghost use Rattle.dt_live.specs.Rows.{IsLiveTree, IsNode, IsStamped, is_standing, node_path};
 ghost use Rattle.dt_edit.specs.EditFault.{IsFault};
 ghost use Rattle.dt_edit.specs.Private.Made.{IsExact};
-ghost use Rattle.dt_edit.specs.Said as said;
-ghost use Rattle.dt_edit.specs.Said.{body_of, piece_of, tree_of};
+ghost use Rattle.dt_edit.specs.Said.{tree_of};
 
 use crate::body::edit_body;
 use crate::error::EditError;
@@ -28,7 +27,7 @@ pub(crate) fn makes_fragment<'d, 't>(
     target: &'d Reference<'t>,
 ) -> bool
     requires sound { IsLiveTree live.now }
-    ensures { result ≡ makes_fragment plugin (labels_view labels.now) (said.target_of (target_view target.now)) (tree_of live.now) }
+    ensures { result ≡ makes_fragment plugin (labels_view labels.now) (target_view target.now) (tree_of live.now) }
 {
     if !plugin {
         return false;
@@ -43,7 +42,7 @@ pub(crate) fn makes_fragment<'d, 't>(
 }
 
 fn target_name<'t>(target: &Reference<'t>) -> &'static [u8]
-    ensures { result.now ≡ target_name (said.target_of (target_view target.now)) }
+    ensures { result.now ≡ target_name (target_view target.now) }
 {
     match target {
         Reference::Label(_) => b"target".as_slice(),
@@ -60,13 +59,13 @@ fn define_fragment<'d, 't>(
 ) -> Result<usize, AllocError>
     requires sound { IsLiveTree live.old }
     requires stamped { IsStamped live.old }
-    requires value { map piece_of (map part_view value.now) ≡ target_value (said.target_of (target_view target.now)) }
+    requires value { map part_view value.now ≡ target_value (target_view target.now) }
     ensures sound { OnOk result (IsLiveTree live.new) }
     ensures stamped { OnOk result (IsStamped live.new) }
     ensures path { IfOk result (λ overlay. node_path live.new overlay ≡ name.now ∷ overlay_name ∷ []) }
     ensures there { IfOk result (λ overlay. is_standing live.new overlay ≡ true) }
     ensures known { IfOk result (λ overlay. IsNode live.new overlay) }
-    ensures tree { OnOk result ((n : ℕ) → with_fragment name.now (said.target_of (target_view target.now)) (counted n (tree_of live.old)) ≡ counted (n + 1) (tree_of live.new)) }
+    ensures tree { OnOk result ((n : ℕ) → with_fragment name.now (target_view target.now) (counted n (tree_of live.old)) ≡ counted (n + 1) (tree_of live.new)) }
 {
     let (fragment, _) = live.define_child(0, name, NO_BODY)?;
     live.set_property(fragment, target_name(target), value, NO_BODY)?;
@@ -88,12 +87,12 @@ pub(crate) fn add_fragment<'d, 't>(
     requires exact { IsExact made.old }
     requires few { made.old.count < 2 ^ 64 - 1 }
     requires name { name.now ≡ fragment_name made.old.count }
-    requires value { map piece_of (map part_view value.now) ≡ target_value (said.target_of (target_view target.now)) }
+    requires value { map part_view value.now ≡ target_value (target_view target.now) }
     ensures sound { OnOk result (IsLiveTree live.new) }
     ensures stamped { OnOk result (IsStamped live.new) }
     ensures exact { OnOk result (IsExact made.new) }
     ensures count { OnOk result (made.new.count ≡ made.old.count + 1) }
-    ensures item { MatchResult result (λ _. after_fragment (said.target_of (target_view target.now)) (body_of (views body.now)) name.now (counted made.old.count (tree_of live.old)) ≡ Ok (counted made.new.count (tree_of live.new))) (λ e. IsFault e (after_fragment (said.target_of (target_view target.now)) (body_of (views body.now)) name.now (counted made.old.count (tree_of live.old)))) }
+    ensures item { MatchResult result (λ _. after_fragment (target_view target.now) (views body.now) name.now (counted made.old.count (tree_of live.old)) ≡ Ok (counted made.new.count (tree_of live.new))) (λ e. IsFault e (after_fragment (target_view target.now) (views body.now) name.now (counted made.old.count (tree_of live.old)))) }
 {
     if live.child(0, name).is_some() {
         return Err(EditError::ReservedName);
@@ -101,6 +100,7 @@ pub(crate) fn add_fragment<'d, 't>(
     // its own name is taken while its body runs
     made.add(name)?;
     let overlay = define_fragment(live, name, target, value)?;
+    // no `?`, behind which a proof has the fault through `From` alone
     match edit_body(live, made, overlay, 2, body) {
         Ok(()) => Ok(()),
         Err(error) => Err(error),

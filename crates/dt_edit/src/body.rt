@@ -12,7 +12,7 @@ ghost use Rattle.dt_edit.specs.EditFault.{IsFault};
 ghost use Rattle.dt_edit.specs.Private.Admitted.{admitted};
 ghost use Rattle.dt_edit.specs.Private.Made.{IsExact};
 ghost use Rattle.dt_edit.specs.Private.Progress.{HasMarks, IsAt};
-ghost use Rattle.dt_edit.specs.Said.{body_of, entry_of, tree_of};
+ghost use Rattle.dt_edit.specs.Said.{tree_of};
 
 use crate::error::EditError;
 use crate::made::Made;
@@ -91,7 +91,7 @@ fn edit_child<'d, 't>(
     ensures counted { OnOk result (live.old.stamps ≤ live.new.stamps) }
     ensures kept { OnOk result (IsKept (node_path live.old node) live.old live.new) }
     ensures marks { OnOk result (HasMarks (node_path live.old node) live.old live.new) }
-    ensures step { (x : Progress (List Piece)) → IsAt x live.old node stamp made.now.count → MatchResult result (λ _. (y : Progress (List Piece)) × (after_entry (Child (map (λ l. l.now) labels.now) name.now (body_of (views body.now))) (node_path live.old node) x ≡ Ok y) × IsAt y live.new node stamp made.now.count) (λ e. IsFault e (after_entry (Child (map (λ l. l.now) labels.now) name.now (body_of (views body.now))) (node_path live.old node) x)) }
+    ensures step { (x : Progress (List Piece)) → IsAt x live.old node stamp made.now.count → MatchResult result (λ _. (y : Progress (List Piece)) × (after_entry (Child (map (λ l. l.now) labels.now) name.now (views body.now)) (node_path live.old node) x ≡ Ok y) × IsAt y live.new node stamp made.now.count) (λ e. IsFault e (after_entry (Child (map (λ l. l.now) labels.now) name.now (views body.now)) (node_path live.old node) x)) }
 {
     let child = admit_child(live, made, node, depth, stamp, labels, name)?;
     edit_body(live, made, child, depth + 1, body)?;
@@ -119,7 +119,7 @@ fn edit<'d, 't>(
     ensures counted { OnOk result (live.old.stamps ≤ live.new.stamps) }
     ensures kept { OnOk result (IsKept (node_path live.old node) live.old live.new) }
     ensures marks { OnOk result (HasMarks (node_path live.old node) live.old live.new) }
-    ensures step { (x : Progress (List Piece)) → IsAt x live.old node stamp made.now.count → MatchResult result (λ _. (y : Progress (List Piece)) × (after_entry (entry_of (view statement.now)) (node_path live.old node) x ≡ Ok y) × IsAt y live.new node stamp made.now.count) (λ e. IsFault e (after_entry (entry_of (view statement.now)) (node_path live.old node) x)) }
+    ensures step { (x : Progress (List Piece)) → IsAt x live.old node stamp made.now.count → MatchResult result (λ _. (y : Progress (List Piece)) × (after_entry (view statement.now) (node_path live.old node) x ≡ Ok y) × IsAt y live.new node stamp made.now.count) (λ e. IsFault e (after_entry (view statement.now) (node_path live.old node) x)) }
 {
     match statement {
         Statement::Property { name, value } => {
@@ -172,7 +172,7 @@ pub(crate) fn edit_body<'d, 't>(
     ensures counted { OnOk result (live.old.stamps ≤ live.new.stamps) }
     ensures kept { OnOk result (IsKept (node_path live.old node) live.old live.new) }
     ensures marks { OnOk result (HasMarks (node_path live.old node) live.old live.new) }
-    ensures body { MatchResult result (λ _. after_body (body_of (views body.now)) (node_path live.old node) (begun (counted made.now.count (tree_of live.old))) ≡ Ok (counted made.now.count (tree_of live.new))) (λ e. IsFault e (after_body (body_of (views body.now)) (node_path live.old node) (begun (counted made.now.count (tree_of live.old))))) }
+    ensures body { MatchResult result (λ _. after_body (views body.now) (node_path live.old node) (begun (counted made.now.count (tree_of live.old))) ≡ Ok (counted made.now.count (tree_of live.new))) (λ e. IsFault e (after_body (views body.now) (node_path live.old node) (begun (counted made.now.count (tree_of live.old))))) }
 {
     let stamp = match live.new_stamp() {
         Some(stamp) => stamp,

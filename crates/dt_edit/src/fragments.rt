@@ -5,7 +5,6 @@ ghost use Rattle.dt_meaning.specs.Statements.{target_value};
 ghost use Rattle.dt_source.specs.Lawful.{IsLawfulEdit, IsLawfulTarget};
 ghost use Rattle.dt_source.specs.Tree.{item_view, part_view, target_view};
 ghost use Rattle.dt_edit.specs.Fragments.{AreFragments, first_names, target_values};
-ghost use Rattle.dt_edit.specs.Said.{item_of, piece_of, target_of};
 
 use dt_source::{Item, Part, Reference};
 use std::alloc::{AllocError, Global};
@@ -37,7 +36,7 @@ fn path_bytes(alloc: Global, path: &[u8]) -> Result<Vec<u8>, AllocError>
 /// What the property of a fragment has that says what it extends.
 fn target_value<'t>(alloc: Global, target: &Reference<'t>) -> Result<Vec<Part<'t>>, AllocError>
     requires { IsLawfulTarget (target_view target.now) }
-    ensures { IfOk result (λ value. map piece_of (map part_view value.items) ≡ target_value (target_of (target_view target.now))) }
+    ensures { IfOk result (λ value. map part_view value.items ≡ target_value (target_view target.now)) }
 {
     let part = match target {
         Reference::Label(label) => Part::Phandle(Reference::Label(*label)),
@@ -54,7 +53,7 @@ impl<'t> Fragments<'t> {
         requires even { map (λ v. v.items) self.old.names.items ≡ first_names (length self.old.targets.items) }
         requires lawful { IsLawfulTarget (target_view target.now) }
         ensures even { OnOk result (map (λ v. v.items) self.new.names.items ≡ first_names (length self.new.targets.items)) }
-        ensures targets { OnOk result (map (λ v. map piece_of (map part_view v.items)) self.new.targets.items ≡ map (λ v. map piece_of (map part_view v.items)) self.old.targets.items ++ target_value (target_of (target_view target.now)) ∷ []) }
+        ensures targets { OnOk result (map (λ v. map part_view v.items) self.new.targets.items ≡ map (λ v. map part_view v.items) self.old.targets.items ++ target_value (target_view target.now) ∷ []) }
     {
         let name = fragment_name(alloc, self.names.len())?;
         let value = target_value(alloc, target)?;
@@ -68,7 +67,7 @@ impl<'t> Fragments<'t> {
         requires even { map (λ v. v.items) self.old.names.items ≡ first_names (length self.old.targets.items) }
         requires lawful { IsLawfulEdit (item_view item.now) }
         ensures even { OnOk result (map (λ v. v.items) self.new.names.items ≡ first_names (length self.new.targets.items)) }
-        ensures targets { OnOk result (map (λ v. map piece_of (map part_view v.items)) self.new.targets.items ≡ map (λ v. map piece_of (map part_view v.items)) self.old.targets.items ++ target_values (item_of (item_view item.now))) }
+        ensures targets { OnOk result (map (λ v. map part_view v.items) self.new.targets.items ≡ map (λ v. map part_view v.items) self.old.targets.items ++ target_values (item_view item.now)) }
     {
         match item {
             Item::Extend { target, .. } => {
@@ -83,7 +82,7 @@ impl<'t> Fragments<'t> {
 /// A name and a target for each extension of a source, as each may make a fragment.
 pub fn fragments_of<'t>(alloc: Global, items: &[Item<'t>]) -> Result<Fragments<'t>, AllocError>
     requires { All IsLawfulEdit (map item_view items.now) }
-    ensures { IfOk result (λ fragments. AreFragments (map item_of (map item_view items.now)) fragments) }
+    ensures { IfOk result (λ fragments. AreFragments (map item_view items.now) fragments) }
 {
     let mut fragments = Fragments {
         names: Vec::new(alloc),

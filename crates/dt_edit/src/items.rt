@@ -9,8 +9,7 @@ ghost use Rattle.dt_edit.specs.Fragments.{AreFragments, target_values};
 ghost use Rattle.dt_meaning.specs.Edits.{counted};
 ghost use Rattle.dt_edit.specs.Private.Made.{IsExact};
 ghost use Rattle.dt_edit.specs.Private.Ready.{IsReady};
-ghost use Rattle.dt_edit.specs.Said as said;
-ghost use Rattle.dt_edit.specs.Said.{body_of, item_of, tree_of};
+ghost use Rattle.dt_edit.specs.Said.{tree_of};
 
 use crate::adding::{add_fragment, makes_fragment};
 use crate::body::edit_body;
@@ -30,7 +29,7 @@ fn delete<'d, 't>(
     requires stamped { IsStamped live.old }
     ensures sound { OnOk result (IsLiveTree live.new) }
     ensures stamped { OnOk result (IsStamped live.new) }
-    ensures item { (n : ℕ) → MatchResult result (λ _. after_item false (Deletes (said.target_of (target_view target.now))) (counted n (tree_of live.old)) ≡ Ok (counted n (tree_of live.new))) (λ e. IsFault e (after_item false (Deletes (said.target_of (target_view target.now))) (counted n (tree_of live.old)))) }
+    ensures item { (n : ℕ) → MatchResult result (λ _. after_item false (Deletes (target_view target.now)) (counted n (tree_of live.old)) ≡ Ok (counted n (tree_of live.new))) (λ e. IsFault e (after_item false (Deletes (target_view target.now)) (counted n (tree_of live.old)))) }
 {
     let node = target_of(live, target)?;
     if node == 0 {
@@ -52,13 +51,14 @@ fn extend<'d, 't>(
     requires exact { IsExact made.now }
     ensures sound { OnOk result (IsLiveTree live.new) }
     ensures stamped { OnOk result (IsStamped live.new) }
-    ensures item { MatchResult result (λ _. after_item false (Extends (labels_view labels.now) (said.target_of (target_view target.now)) (body_of (views body.now))) (counted made.now.count (tree_of live.old)) ≡ Ok (counted made.now.count (tree_of live.new))) (λ e. IsFault e (after_item false (Extends (labels_view labels.now) (said.target_of (target_view target.now)) (body_of (views body.now))) (counted made.now.count (tree_of live.old)))) }
+    ensures item { MatchResult result (λ _. after_item false (Extends (labels_view labels.now) (target_view target.now) (views body.now)) (counted made.now.count (tree_of live.old)) ≡ Ok (counted made.now.count (tree_of live.new))) (λ e. IsFault e (after_item false (Extends (labels_view labels.now) (target_view target.now) (views body.now)) (counted made.now.count (tree_of live.old)))) }
 {
     let node = target_of(live, target)?;
     if let Err(error) = live.give_labels(labels.as_slice(), node) {
         return Err(EditError::of_label(error));
     }
     let depth = live.depth(node);
+    // no `?`, behind which a proof has the fault through `From` alone
     match edit_body(live, made, node, depth, body) {
         Ok(()) => Ok(()),
         Err(error) => Err(error),
@@ -67,7 +67,7 @@ fn extend<'d, 't>(
 
 /// How many extensions an item is.
 fn extensions_in<'t>(item: &Item<'t>) -> usize
-    ensures count { result ≡ length (target_values (item_of (item_view item.now))) }
+    ensures count { result ≡ length (target_values (item_view item.now)) }
     ensures one { result ≤ 1 }
 {
     match item {
@@ -88,12 +88,12 @@ fn edit_item<'d, 't>(
     requires stamped { IsStamped live.old }
     requires exact { IsExact made.old }
     requires counted { made.old.count ≤ extension }
-    requires ready { (rest : List Edit) × IsReady fragments.now extension (item_of (item_view item.now) ∷ rest) }
+    requires ready { (rest : List Edit) × IsReady fragments.now extension (item_view item.now ∷ rest) }
     ensures sound { OnOk result (IsLiveTree live.new) }
     ensures stamped { OnOk result (IsStamped live.new) }
     ensures exact { OnOk result (IsExact made.new) }
-    ensures counted { OnOk result (made.new.count ≤ extension + length (target_values (item_of (item_view item.now)))) }
-    ensures item { MatchResult result (λ _. after_item plugin (item_of (item_view item.now)) (counted made.old.count (tree_of live.old)) ≡ Ok (counted made.new.count (tree_of live.new))) (λ e. IsFault e (after_item plugin (item_of (item_view item.now)) (counted made.old.count (tree_of live.old)))) }
+    ensures counted { OnOk result (made.new.count ≤ extension + length (target_values (item_view item.now))) }
+    ensures item { MatchResult result (λ _. after_item plugin (item_view item.now) (counted made.old.count (tree_of live.old)) ≡ Ok (counted made.new.count (tree_of live.new))) (λ e. IsFault e (after_item plugin (item_view item.now) (counted made.old.count (tree_of live.old)))) }
 {
     match item {
         Item::Root(body) => {
@@ -112,6 +112,7 @@ fn edit_item<'d, 't>(
             if makes_fragment(plugin, live, labels, target) {
                 let name = fragments.names[made.count].as_slice();
                 let value = fragments.targets[extension].as_slice();
+                // no `?`, behind which a proof has the fault through `From` alone
                 match add_fragment(live, made, name, target, value, body.as_slice()) {
                     Ok(()) => Ok(()),
                     Err(error) => Err(error),
@@ -135,10 +136,10 @@ pub fn edit_items<'d, 't>(
     requires sound { IsLiveTree live.old }
     requires stamped { IsStamped live.old }
     requires unmade { (tree_of live.old).fragments ≡ 0 }
-    requires fragments { AreFragments (map item_of (map item_view items.now)) fragments.now }
+    requires fragments { AreFragments (map item_view items.now) fragments.now }
     ensures sound { OnOk result (IsLiveTree live.new) }
     ensures stamped { OnOk result (IsStamped live.new) }
-    ensures items { MatchResult result (λ _. (n : ℕ) × (after_items plugin (map item_of (map item_view items.now)) (tree_of live.old) ≡ Ok (counted n (tree_of live.new)))) (λ e. IsFault e (after_items plugin (map item_of (map item_view items.now)) (tree_of live.old))) }
+    ensures items { MatchResult result (λ _. (n : ℕ) × (after_items plugin (map item_view items.now) (tree_of live.old) ≡ Ok (counted n (tree_of live.new)))) (λ e. IsFault e (after_items plugin (map item_view items.now) (tree_of live.old))) }
 {
     let mut made = Made::new(alloc);
     let mut extensions = 0;

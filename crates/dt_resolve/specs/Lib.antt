@@ -4,5 +4,4 @@ pub mod NodePhandles
 pub mod Prepared
 pub mod Private
 pub mod Resolution
-pub mod Said
 pub mod Targets

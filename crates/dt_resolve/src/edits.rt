@@ -6,7 +6,7 @@ ghost use Rattle.dt_live.specs.Rows.{IsLiveTree, IsStamped, state_of};
 ghost use Rattle.dt_edit.specs.Fragments.{AreFragments};
 ghost use Rattle.dt_edit.specs.Said.{tree_of};
 ghost use Rattle.dt_resolve.specs.BuildFault.{IsFault};
-ghost use Rattle.dt_resolve.specs.Said.{meaning_of};
+ghost use Rattle.dt_source.specs.Meaning.{meaning_of};
 
 use crate::error::BuildError;
 use dt_edit::{Fragments, edit_items};
@@ -29,6 +29,7 @@ pub(crate) fn do_edits<'d, 't>(
     ensures tree { MatchResult result (λ _. (n : ℕ) × (meaning.edited (meaning_of source.now) ≡ Ok (counted n (tree_of live.new)))) (λ e. IsFault e (meaning.edited (meaning_of source.now))) }
 {
     let items = source.items.as_slice();
+    // no `?`, behind which a proof has the fault through `From` alone
     match edit_items(alloc, live, source.plugin, fragments, items) {
         Ok(()) => Ok(()),
         Err(error) => Err(BuildError::from(error)),

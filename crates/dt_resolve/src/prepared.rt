@@ -10,7 +10,7 @@ ghost use Rattle.dt_edit.specs.Fragments.{AreFragments};
 ghost use Rattle.dt_edit.specs.Said.{tree_of};
 ghost use Rattle.dt_resolve.specs.BuildFault.{IsFault};
 ghost use Rattle.dt_resolve.specs.Prepared.{IsPrepared};
-ghost use Rattle.dt_resolve.specs.Said.{meaning_of};
+ghost use Rattle.dt_source.specs.Meaning.{meaning_of};
 
 use crate::edits::do_edits;
 use crate::error::BuildError;

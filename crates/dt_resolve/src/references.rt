@@ -4,8 +4,7 @@ ghost use Rattle.dt_meaning.specs.Edits.{Definition};
 ghost use Rattle.dt_meaning.specs.References as meaning;
 ghost use Rattle.dt_meaning.specs.References.{Found, each, found_in, found_value};
 ghost use Rattle.dt_live.specs.Rows.{IsLiveTree, IsNode, is_standing, node_path};
-ghost use Rattle.dt_edit.specs.Said as said;
-ghost use Rattle.dt_edit.specs.Said.{piece_of, tree_of};
+ghost use Rattle.dt_edit.specs.Said.{tree_of};
 ghost use Rattle.dt_source.specs.Tree.{part_view, target_view};
 ghost use Rattle.dt_resolve.specs.BuildFault.{IsFault};
 ghost use Rattle.dt_resolve.specs.Private.ReadProperty.{read_property};
@@ -51,7 +50,7 @@ fn cell_of<'d, 't>(
     plugin: bool,
 ) -> Result<Option<usize>, BuildError>
     requires sound { IsLiveTree live.now }
-    ensures cell { MatchResult result (λ cell. IsCell live.now cell (meaning.cell_of plugin (tree_of live.now) (said.target_of (target_view target.now)))) (λ e. IsFault e (meaning.cell_of plugin (tree_of live.now) (said.target_of (target_view target.now)))) }
+    ensures cell { MatchResult result (λ cell. IsCell live.now cell (meaning.cell_of plugin (tree_of live.now) (target_view target.now))) (λ e. IsFault e (meaning.cell_of plugin (tree_of live.now) (target_view target.now))) }
     ensures known { IfOk result (λ cell. IsKnown live.now cell) }
     ensures there { IfOk result (λ cell. IsThere live.now cell) }
 {
@@ -88,7 +87,7 @@ fn find_part<'d, 't>(
     requires sound { IsLiveTree live.now }
     requires known { AreTargets live.now targets.old }
     ensures known { OnOk result (AreTargets live.now targets.new) }
-    ensures step { MatchResult result (λ _. (f : Found) × (found_in plugin (tree_of live.now) (piece_of (part_view part.now)) ≡ Ok f) × Adds live.now (f ∷ []) targets.old targets.new) (λ e. IsFault e (found_in plugin (tree_of live.now) (piece_of (part_view part.now)))) }
+    ensures step { MatchResult result (λ _. (f : Found) × (found_in plugin (tree_of live.now) (part_view part.now) ≡ Ok f) × Adds live.now (f ∷ []) targets.old targets.new) (λ e. IsFault e (found_in plugin (tree_of live.now) (part_view part.now))) }
 {
     match part {
         Part::Bytes(_) => Ok(()),
@@ -125,7 +124,7 @@ fn find_value<'d, 't>(
     requires sound { IsLiveTree live.now }
     requires known { AreTargets live.now targets.old }
     ensures known { OnOk result (AreTargets live.now targets.new) }
-    ensures step { MatchResult result (λ _. (fs : List Found) × (each (found_in plugin (tree_of live.now)) (map piece_of (map part_view value.now)) ≡ Ok fs) × Adds live.now fs targets.old targets.new) (λ e. IsFault e (each (found_in plugin (tree_of live.now)) (map piece_of (map part_view value.now)))) }
+    ensures step { MatchResult result (λ _. (fs : List Found) × (each (found_in plugin (tree_of live.now)) (map part_view value.now) ≡ Ok fs) × Adds live.now fs targets.old targets.new) (λ e. IsFault e (each (found_in plugin (tree_of live.now)) (map part_view value.now))) }
 {
     for part in value {
         if let Err(error) = find_part(targets, live, part, plugin) {

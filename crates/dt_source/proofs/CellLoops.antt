@@ -10,7 +10,7 @@ use Rattle.dt_expression.specs.declared.elements.Width.{Width}
 use Rattle.dt_source.specs.declared.cell.Cell.{Cell}
 use Rattle.dt_expression.specs.Reading.{◌>>=◌}
 use Rattle.dt_source.specs.Reading.Several.{earlier, Part, many}
-use Rattle.dt_source.specs.Tree.{Piece}
+use Rattle.dt_meaning.specs.Syntax.{Piece}
 use Rattle.dt_source.specs.Reading.Values.{Built, put, put_all}
 use Rattle.dt_source.specs.Pieces.{cell_fault, cell_pieces, cells_pieces}
 use Rattle.dt_source.specs.Reading.Bodies.{cell_at, fault_of_cell, cell_step, stays, cells_at, pair_at, pairs_at}

@@ -7,7 +7,7 @@ use Rattle.dt_lexeme.proofs.InOrder.{lexemes_few}
 use Rattle.dt_expression.proofs.Complete.{begins_shorter}
 use Rattle.dt_source.specs.Sequences.{SpellsEach}
 use Rattle.dt_source.specs.Words.{label_bytes}
-use Rattle.dt_source.specs.Tree.{Meaning, body_of}
+use Rattle.dt_meaning.specs.Syntax.{body_of, Meaning}
 use Rattle.dt_source.specs.Source.{Statements, End, Sets, Unsets, Holds, Drops, ItemTree, Root, Extend, Delete, SourceTree, SpellsLabels, SpellsStatements, SpellsBody, SpellsItem, SpellsHeader, SpellsReserve, Spells, entries_of, item_said, said}
 use Rattle.dt_source.specs.Parse.{Says}
 use Rattle.dt_source.specs.Counts.{body_count, edit_count, how_many}

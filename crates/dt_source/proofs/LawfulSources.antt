@@ -3,7 +3,7 @@ use Rattle.std.proofs.Common.{ℕ, zero, suc, Bool, true, false, List, [], subst
 use Rattle.std.proofs.lemmas.List.Elements.{All-map, All-from_recursion}
 use Rattle.dt_lexeme.specs.declared.lexeme.Lexeme.{Lexeme}
 use Rattle.dt_lexeme.specs.declared.lexeme.Kind.TheVariants.{Name}
-use Rattle.dt_source.specs.Tree.{Meaning, body_of}
+use Rattle.dt_meaning.specs.Syntax.{body_of, Meaning}
 use Rattle.dt_source.specs.Source.{Statements, End, Sets, Unsets, Holds, Drops, ReserveTree, ItemTree, Root, Extend, Delete, SourceTree, SpellsStatements, SpellsBody, SpellsItem, SpellsReserve, SpellsHeader, Spells, entries_of, item_said, said}
 use Rattle.dt_source.specs.Parse.{Says}
 use Rattle.dt_source.specs.Lawful.{IsLawfulBody, IsLawfulEdit, IsLawful}

@@ -12,7 +12,7 @@ use Rattle.dt_expression.specs.Expression.{Expression, Number, Grouped, Prefixed
 use Rattle.dt_expression.specs.Values.{Value, value_of}
 use Rattle.dt_expression.specs.Element.{element}
 use Rattle.dt_source.specs.Sequences.{SpellsEach}
-use Rattle.dt_source.specs.Tree.{Piece, Plain, PhandleOf, PathOf}
+use Rattle.dt_meaning.specs.Syntax.{Piece, Plain, PhandleOf, PathOf}
 use Rattle.dt_source.specs.Pieces.{target_by, target_of, width_in, element_pieces, cell_pieces, joined, join_bytes}
 use Rattle.dt_source.specs.Words.{label_bytes}
 use Rattle.dt_source.specs.Source.{CellTree, Element, Refers, Marks, PieceTree, Quoted, Points, Pairs, Cells, WideCells, One, IsReference, OneReference, OnePair, SpellsLabels, DropsLabels, SpellsCell, SpellsCells, SpellsPiece, SpellsPlaced, SpellsFurther, SpellsValue, cell_of, cells_said, piece_said, value_said, width_said}

@@ -13,7 +13,7 @@ use Rattle.dt_source.specs.declared.error.SourceErrorKind.TheVariants as kinds
 use Rattle.dt_source.specs.declared.tree.Outline.{Outline}
 use Rattle.dt_lexeme.specs.Lexemes.{Lexemes, HasNone, Scanned}
 use Rattle.dt_source.specs.Reading.Several.{Reads}
-use Rattle.dt_source.specs.Tree.{Meaning}
+use Rattle.dt_meaning.specs.Syntax.{Meaning}
 use Rattle.dt_source.specs.Meaning.{outlined}
 use Rattle.dt_source.specs.Order.{first_of}
 use Rattle.dt_source.specs.Source.{SourceTree, Spells, said, faults_of}

@@ -13,7 +13,7 @@ use Rattle.dt_lexeme.specs.declared.lexeme.ReadError.{ReadError}
 use Rattle.dt_lexeme.specs.declared.lexeme.ReadError.TheVariants as errors
 use Rattle.dt_expression.specs.Reading.{◌>>=◌}
 use Rattle.dt_source.specs.Reading.Several.{earlier, Part, many, Fails}
-use Rattle.dt_source.specs.Tree.{Target, Piece, Plain, PhandleOf, PathOf}
+use Rattle.dt_meaning.specs.Syntax.{Target, Piece, Plain, PhandleOf, PathOf}
 use Rattle.dt_source.specs.Reading.Values.{Built, put, put_all, bytes_piece, flushed}
 use Rattle.dt_source.specs.Pieces.{join_bytes, joined}
 use Rattle.dt_source.specs.Reading.Bodies.{is_label, labels_at, stays, placed_at, comma_by, comma_at, concat_pieces, pieces_at, value_at}

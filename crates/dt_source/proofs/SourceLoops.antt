@@ -10,7 +10,7 @@ use Rattle.dt_lexeme.specs.declared.lexeme.ReadError.TheVariants as errors
 use Rattle.dt_expression.specs.Values.{Value}
 use Rattle.dt_expression.specs.Reading.{◌>>=◌}
 use Rattle.dt_source.specs.Reading.Several.{earlier, Part, many, Fails}
-use Rattle.dt_source.specs.Tree.{Edit}
+use Rattle.dt_meaning.specs.Syntax.{Edit}
 use Rattle.dt_source.specs.Reading.Bodies.{stays}
 use Rattle.dt_source.specs.Source.{both_numbers}
 use Rattle.dt_source.specs.Reading.Whole.{header_at, more_headers, headers_at, reserve_at, reserves_at, item_at, all_items_at}

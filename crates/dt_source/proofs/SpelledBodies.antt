@@ -6,7 +6,7 @@ use Rattle.dt_lexeme.specs.declared.lexeme.Kind.{Kind}
 use Rattle.dt_lexeme.specs.declared.lexeme.Kind.TheVariants.{Name, Semicolon, Equals, Brace, EndBrace, DeleteNode, DeleteProperty}
 use Rattle.dt_expression.specs.Expression.{Begins}
 use Rattle.dt_source.specs.Reading.Several.{earlier, many}
-use Rattle.dt_source.specs.Tree.{Entry, Defines, Undefines, Child, Removes, body_of}
+use Rattle.dt_meaning.specs.Syntax.{Piece, Entry, Defines, Undefines, Child, Removes, body_of}
 use Rattle.dt_source.specs.Order.{first_of}
 use Rattle.dt_source.specs.Reading.Bodies.{is_label, labels_at, semicolon_by, ended_by, Inner, named_by, named_at, deleted_by, deleted_at, begun_by, begun_at, statement_at, after, body_below, body_at}
 use Rattle.dt_source.specs.Words.{label_bytes, name_bytes}
@@ -79,7 +79,7 @@ child_again text inner nodes labels name body (t ∷ us) at mid rest h i s =
     go false = rw inside ended
     go true = rw inside ended
 
-deleted_again : (text : List ℕ) (entry : List ℕ → Entry) (n : Lexeme) (us at rest : List Lexeme) → One Name n us at → Begins at Semicolon rest → deleted_at text entry us ≡ Ok (Some (entry (name_bytes text n)), None, rest)
+deleted_again : (text : List ℕ) (entry : List ℕ → Entry (List Piece)) (n : Lexeme) (us at rest : List Lexeme) → One Name n us at → Begins at Semicolon rest → deleted_at text entry us ≡ Ok (Some (entry (name_bytes text n)), None, rest)
 deleted_again text entry n us at rest h s = ap (deleted_at text entry) h.1 ∙ ap (λ (x : Kind). deleted_by text entry x n at) h.0 ∙ ended_again (Some (entry (name_bytes text n))) None at rest s
 
 unsets_again : (text : List ℕ) (inner : Inner) (n : Lexeme) (ts a b rest : List Lexeme) → Begins ts DeleteProperty a → One Name n a b → Begins b Semicolon rest
@@ -121,7 +121,7 @@ statements_shorter (Drops n more) depth nodes ts rest h =
     omega (arith, begins_shorter ts DeleteNode h.0 h.3, one_shorter Name n h.0 h.1 h.4, begins_shorter h.1 Semicolon h.2 h.5, statements_shorter more depth true h.2 rest h.6)
 
 -- one statement, and the others behind it
-then_again : (text : List ℕ) (inner : Inner) (n : ℕ) (nodes : Bool) (ts : List Lexeme) (e : Entry) (f : Option Fault) (at : List Lexeme) (es : List Entry) (g : Option Fault) (rest : List Lexeme)
+then_again : (text : List ℕ) (inner : Inner) (n : ℕ) (nodes : Bool) (ts : List Lexeme) (e : Entry (List Piece)) (f : Option Fault) (at : List Lexeme) (es : List (Entry (List Piece))) (g : Option Fault) (rest : List Lexeme)
     → statement_at text inner nodes ts ≡ Ok (Some e, f, at) → many after (statement_at text inner) n (after nodes e) at ≡ Ok (es, g, rest)
     → many after (statement_at text inner) (suc n) nodes ts ≡ Ok (e ∷ es, earlier f g, rest)
 unfolding many
@@ -141,20 +141,20 @@ end_read text depth nodes ts rest h zero lt = absurd (omega arith)
 end_read text depth nodes ts rest h (suc n) lt = done_again text (body_below text depth) n nodes ts rest (end_again text (body_below text depth) nodes ts rest h)
 
 -- a statement that has no fault of its own
-plain_read : (text : List ℕ) (depth : ℕ) (nodes : Bool) (e : Entry) (s more : Statements) (ts at rest : List Lexeme) → entries_of text s ≡ e ∷ entries_of text more → first_of (faults_in text s) ≡ first_of (faults_in text more)
+plain_read : (text : List ℕ) (depth : ℕ) (nodes : Bool) (e : Entry (List Piece)) (s more : Statements) (ts at rest : List Lexeme) → entries_of text s ≡ e ∷ entries_of text more → first_of (faults_in text s) ≡ first_of (faults_in text more)
     → length at < length ts → statement_at text (body_below text depth) nodes ts ≡ Ok (Some e, None, at) → Read text more depth (after nodes e) at rest → Read text s depth nodes ts rest
 plain_read text depth nodes e s more ts at rest es fs lt h r zero l = absurd (omega arith)
 plain_read text depth nodes e s more ts at rest es fs lt h r (suc n) l =
     then_again text (body_below text depth) n nodes ts e None at (entries_of text more) (first_of (faults_in text more)) rest h (r n (omega arith))
-    ∙ ap (λ (x : List Entry). several.part x (first_of (faults_in text more)) rest) (sym es) ∙ ap (λ (x : Option Fault). several.part (entries_of text s) x rest) (sym fs)
+    ∙ ap (λ (x : List (Entry (List Piece))). several.part x (first_of (faults_in text more)) rest) (sym es) ∙ ap (λ (x : Option Fault). several.part (entries_of text s) x rest) (sym fs)
 
 -- a statement that has faults
-faulty_read : (text : List ℕ) (depth : ℕ) (nodes : Bool) (e : Entry) (own : List Fault) (s more : Statements) (ts at rest : List Lexeme) → entries_of text s ≡ e ∷ entries_of text more → faults_in text s ≡ own ++ faults_in text more
+faulty_read : (text : List ℕ) (depth : ℕ) (nodes : Bool) (e : Entry (List Piece)) (own : List Fault) (s more : Statements) (ts at rest : List Lexeme) → entries_of text s ≡ e ∷ entries_of text more → faults_in text s ≡ own ++ faults_in text more
     → length at < length ts → statement_at text (body_below text depth) nodes ts ≡ Ok (Some e, first_of own, at) → Read text more depth (after nodes e) at rest → Read text s depth nodes ts rest
 faulty_read text depth nodes e own s more ts at rest es fs lt h r zero l = absurd (omega arith)
 faulty_read text depth nodes e own s more ts at rest es fs lt h r (suc n) l =
     then_again text (body_below text depth) n nodes ts e (first_of own) at (entries_of text more) (first_of (faults_in text more)) rest h (r n (omega arith))
-    ∙ ap (λ (x : List Entry). several.part x (earlier (first_of own) (first_of (faults_in text more))) rest) (sym es)
+    ∙ ap (λ (x : List (Entry (List Piece))). several.part x (earlier (first_of own) (first_of (faults_in text more))) rest) (sym es)
     ∙ ap (λ (x : Option Fault). several.part (entries_of text s) x rest) (sym (ap first_of fs ∙ several.first_of_both own (faults_in text more)))
 
 pub statements_again : (text : List ℕ) (s : Statements) (depth : ℕ) (nodes : Bool) (ts rest : List Lexeme) → SpellsStatements depth nodes s ts rest → Read text s depth nodes ts rest

@@ -12,7 +12,7 @@ use Rattle.dt_expression.specs.Values.{value_of}
 use Rattle.dt_expression.specs.ReadingExpressions.{primary_at}
 use Rattle.dt_source.specs.Reading.Several.{many}
 use Rattle.dt_source.specs.Sequences.{SpellsEach}
-use Rattle.dt_source.specs.Tree.{Piece}
+use Rattle.dt_meaning.specs.Syntax.{Piece}
 use Rattle.dt_source.specs.Pieces.{cell_fault, cells_pieces}
 use Rattle.dt_source.specs.Order.{first_of}
 use Rattle.dt_source.specs.Reading.Bodies.{element_at, cell_by, cell_at, fault_of_cell, cell_step, cells_at, stays}

@@ -6,7 +6,7 @@ use Rattle.dt_lexeme.specs.declared.lexeme.Kind.{Kind}
 use Rattle.dt_lexeme.specs.declared.lexeme.Kind.TheVariants.{Reference, PathReference, Semicolon, Brace, Slash, DeleteNode}
 use Rattle.dt_expression.specs.Expression.{Begins}
 use Rattle.dt_source.specs.Sequences.{SpellsEach}
-use Rattle.dt_source.specs.Tree.{Entry, Edit, Rooted, Extends, Deletes, Body, body_of}
+use Rattle.dt_meaning.specs.Syntax.{Piece, Entry, Body, body_of, Edit, Rooted, Extends, Deletes}
 use Rattle.dt_source.specs.Pieces.{target_of}
 use Rattle.dt_source.specs.Order.{first_of}
 use Rattle.dt_source.specs.Reading.Bodies.{is_label, labels_at, ended_by, body_at, body_below}
@@ -23,17 +23,17 @@ use Rattle.dt_source.proofs.SpelledBodies.{ended_again, body_again, statements_s
 
 -- ---- what is read is spelled so
 
-record BraceFound (text : List ℕ) (ts : List Lexeme) (b : Body) (f : Option Fault) (rest : List Lexeme) : Type 0 where
+record BraceFound (text : List ℕ) (ts : List Lexeme) (b : Body (List Piece)) (f : Option Fault) (rest : List Lexeme) : Type 0 where
   tree : Statements
   spells : SpellsBody tree ts rest
   said_is : body_of (entries_of text tree) ≡ b
   fault_is : first_of (faults_in text tree) ≡ f
 
-body_found : (text : List ℕ) (ts : List Lexeme) (es : List Entry) (f : Option Fault) (rest : List Lexeme) → body_at text 64 ts ≡ Ok (es, f, rest) → BodyFound text 64 false ts es f rest
+body_found : (text : List ℕ) (ts : List Lexeme) (es : List (Entry (List Piece))) (f : Option Fault) (rest : List Lexeme) → body_at text 64 ts ≡ Ok (es, f, rest) → BodyFound text 64 false ts es f rest
 unfolding body_at
 body_found text ts es f rest e = statements_sound text 64 (body_below text 64) (body_sound text 64) ts es f rest e
 
-brace_sound : (text : List ℕ) (ts : List Lexeme) (b : Body) (f : Option Fault) (rest : List Lexeme) → brace_at text ts ≡ Ok (b, f, rest) → BraceFound text ts b f rest
+brace_sound : (text : List ℕ) (ts : List Lexeme) (b : Body (List Piece)) (f : Option Fault) (rest : List Lexeme) → brace_at text ts ≡ Ok (b, f, rest) → BraceFound text ts b f rest
 unfolding brace_at
 brace_sound text [] b f rest e = absurd cc
 brace_sound text (t ∷ ts) b f rest e = go t.kind refl e

@@ -9,7 +9,7 @@ use Rattle.dt_expression.specs.declared.elements.Width.TheVariants.{ThirtyTwo}
 use Rattle.dt_expression.specs.Expression.{Begins}
 use Rattle.dt_source.specs.Sequences.{SpellsEach}
 use Rattle.dt_source.specs.Reading.Several.{earlier}
-use Rattle.dt_source.specs.Tree.{Piece, Plain, PathOf}
+use Rattle.dt_meaning.specs.Syntax.{Piece, Plain, PathOf}
 use Rattle.dt_source.specs.Strings.{string_bytes, string_faults}
 use Rattle.dt_source.specs.Pieces.{target_of, width_in, fault_in}
 use Rattle.dt_source.specs.Order.{first_of}

@@ -7,7 +7,7 @@ use Rattle.dt_lexeme.specs.declared.lexeme.Refusal.{Refusal}
 use Rattle.dt_expression.specs.Reading.{◌>>=◌}
 use Rattle.dt_source.specs.Sequences.{SpellsEach}
 use Rattle.dt_source.specs.Reading.Several.{earlier}
-use Rattle.dt_source.specs.Tree.{Edit, Meaning}
+use Rattle.dt_meaning.specs.Syntax.{Edit, Meaning}
 use Rattle.dt_source.specs.Order.{first_of}
 use Rattle.dt_source.specs.Source.{SourceTree, ReserveTree, ItemTree, SpellsHeader, SpellsReserve, SpellsItem, Spells, said, faults_of, any, both_numbers, reserve_values, reserve_faults, item_said, item_faults}
 use Rattle.dt_source.specs.Reading.Whole.{more_headers, headers_at, reserve_at, reserves_at, item_at, some_items, some_header, all_items_at, items_at, source_at}

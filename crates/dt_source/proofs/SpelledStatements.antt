@@ -8,7 +8,7 @@ use Rattle.dt_expression.specs.Expression.{Begins, Deeper}
 use Rattle.dt_expression.specs.Reading.{◌>>=◌}
 use Rattle.dt_source.specs.Reading.Several.{Part, earlier, many, with_item}
 use Rattle.dt_source.specs.Sequences.{SpellsEach}
-use Rattle.dt_source.specs.Tree.{Piece, Entry, Defines, Undefines, Child, Removes, body_of}
+use Rattle.dt_meaning.specs.Syntax.{Piece, Entry, Defines, Undefines, Child, Removes, body_of}
 use Rattle.dt_source.specs.Order.{first_of}
 use Rattle.dt_source.specs.Words.{label_bytes, name_bytes}
 use Rattle.dt_source.specs.Reading.Bodies.{labels_at, value_at, semicolon_by, ended_by, Inner, named_by, named_at, deleted_by, deleted_at, bare_by, unlabelled, begun_by, begun_at, statement_at, after, statements_at, body_below}
@@ -36,38 +36,38 @@ ended_sound a b f g (t ∷ ts) rest e = go t.kind refl e
 -- ---- one statement, and what stands behind it
 
 -- A statement was read: what it adds to statements that follow it.
-pub record StatementFound (text : List ℕ) (depth : ℕ) (nodes : Bool) (ts : List Lexeme) (e : Entry) (f : Option Fault) (r : List Lexeme) : Type 0 where
+pub record StatementFound (text : List ℕ) (depth : ℕ) (nodes : Bool) (ts : List Lexeme) (e : Entry (List Piece)) (f : Option Fault) (r : List Lexeme) : Type 0 where
   pub make : Statements → Statements
   pub spells : (more : Statements) (rest : List Lexeme) → SpellsStatements depth (after nodes e) more r rest → SpellsStatements depth nodes (make more) ts rest
   pub entries : (more : Statements) → entries_of text (make more) ≡ e ∷ entries_of text more
   pub faults : (more : Statements) → first_of (faults_in text (make more)) ≡ earlier f (first_of (faults_in text more))
 
-abbrev pub Found : List ℕ → ℕ → Bool → List Lexeme → Option Entry → Option Fault → List Lexeme → Type 0
+abbrev pub Found : List ℕ → ℕ → Bool → List Lexeme → Option (Entry (List Piece)) → Option Fault → List Lexeme → Type 0
 Found text depth nodes ts None f r = Begins ts EndBrace r × (f ≡ None)
 Found text depth nodes ts (Some e) f r = StatementFound text depth nodes ts e f r
 
 -- what was read, as what the function gives
-to : (text : List ℕ) (depth : ℕ) (nodes : Bool) (ts : List Lexeme) (a b : Option Entry) (f g : Option Fault) (r q : List Lexeme)
+to : (text : List ℕ) (depth : ℕ) (nodes : Bool) (ts : List Lexeme) (a b : Option (Entry (List Piece))) (f g : Option Fault) (r q : List Lexeme)
     → Found text depth nodes ts a f r → (a ≡ b) × (f ≡ g) × (r ≡ q) → Found text depth nodes ts b g q
 to text depth nodes ts a b f g r q h p =
-    subst (λ (x : Option Entry). Found text depth nodes ts x g q) p.0 (subst (λ (x : Option Fault). Found text depth nodes ts a x q) p.1 (subst (λ (x : List Lexeme). Found text depth nodes ts a f x) p.2 h))
+    subst (λ (x : Option (Entry (List Piece))). Found text depth nodes ts x g q) p.0 (subst (λ (x : Option Fault). Found text depth nodes ts a x q) p.1 (subst (λ (x : List Lexeme). Found text depth nodes ts a f x) p.2 h))
 
 -- the statements of a body, from some statement on
-pub record BodyFound (text : List ℕ) (depth : ℕ) (nodes : Bool) (ts : List Lexeme) (es : List Entry) (f : Option Fault) (rest : List Lexeme) : Type 0 where
+pub record BodyFound (text : List ℕ) (depth : ℕ) (nodes : Bool) (ts : List Lexeme) (es : List (Entry (List Piece))) (f : Option Fault) (rest : List Lexeme) : Type 0 where
   pub tree : Statements
   pub spells : SpellsStatements depth nodes tree ts rest
   pub entries : entries_of text tree ≡ es
   pub faults : first_of (faults_in text tree) ≡ f
 
 -- the same of a body in this one
-pub record InnerFound (text : List ℕ) (depth : ℕ) (ts : List Lexeme) (es : List Entry) (f : Option Fault) (rest : List Lexeme) : Type 0 where
+pub record InnerFound (text : List ℕ) (depth : ℕ) (ts : List Lexeme) (es : List (Entry (List Piece))) (f : Option Fault) (rest : List Lexeme) : Type 0 where
   pub tree : Statements
   pub spells : Deeper depth (λ inner. SpellsStatements inner false tree ts rest)
   pub entries : entries_of text tree ≡ es
   pub faults : first_of (faults_in text tree) ≡ f
 
 pub record InnerSound (text : List ℕ) (depth : ℕ) (inner : Inner) : Type 0 where
-  pub by : (t : Lexeme) (ts : List Lexeme) (es : List Entry) (f : Option Fault) (rest : List Lexeme) → inner t ts ≡ Ok (es, f, rest) → InnerFound text depth ts es f rest
+  pub by : (t : Lexeme) (ts : List Lexeme) (es : List (Entry (List Piece))) (f : Option Fault) (rest : List Lexeme) → inner t ts ≡ Ok (es, f, rest) → InnerFound text depth ts es f rest
 
 -- labels and a name, before what follows them
 record Front (text : List ℕ) (ls : List Lexeme) (n : Lexeme) (ts us : List Lexeme) : Type 0 where
@@ -95,13 +95,13 @@ value_found text depth ls n t ts us ps f mid r h k v s = record {
   faults = λ more. several.first_of_both (value_faults text (v.first ∷ v.others)) (faults_in text more) ∙ ap (λ (x : Option Fault). earlier x (first_of (faults_in text more))) v.fault_is;
 }
 
-child_found : (text : List ℕ) (depth : ℕ) (nodes : Bool) (ls : List Lexeme) (n t : Lexeme) (ts us : List Lexeme) (es : List Entry) (f : Option Fault) (mid r : List Lexeme) → Front text ls n ts (t ∷ us) → t.kind ≡ Brace
+child_found : (text : List ℕ) (depth : ℕ) (nodes : Bool) (ls : List Lexeme) (n t : Lexeme) (ts us : List Lexeme) (es : List (Entry (List Piece))) (f : Option Fault) (mid r : List Lexeme) → Front text ls n ts (t ∷ us) → t.kind ≡ Brace
     → InnerFound text depth us es f mid → Begins mid Semicolon r → StatementFound text depth nodes ts (Child (map (label_bytes text) ls) (name_bytes text n) (body_of es)) f r
 unfolding SpellsStatements entries_of faults_in
 child_found text depth nodes ls n t ts us es f mid r h k b s = record {
   make = Holds ls n b.tree;
   spells = λ more rest m. (h.at, t ∷ us, us, mid, r, h.labels, h.name, (k, refl), b.spells, s, m);
-  entries = λ more. ap (λ (x : List Entry). Child (map (label_bytes text) ls) (name_bytes text n) (body_of x) ∷ entries_of text more) b.entries;
+  entries = λ more. ap (λ (x : List (Entry (List Piece))). Child (map (label_bytes text) ls) (name_bytes text n) (body_of x) ∷ entries_of text more) b.entries;
   faults = λ more. several.first_of_both (faults_in text b.tree) (faults_in text more) ∙ ap (λ (x : Option Fault). earlier x (first_of (faults_in text more))) b.faults;
 }
 
@@ -127,7 +127,7 @@ drops_found text depth nodes t n us r k h s = record {
 
 -- ---- by what stands there
 
-named_sound : (text : List ℕ) (depth : ℕ) (inner : Inner) → InnerSound text depth inner → (nodes : Bool) (ls : List Lexeme) (n : Lexeme) (ts us : List Lexeme) (o : Option Entry) (f : Option Fault) (r : List Lexeme)
+named_sound : (text : List ℕ) (depth : ℕ) (inner : Inner) → InnerSound text depth inner → (nodes : Bool) (ls : List Lexeme) (n : Lexeme) (ts us : List Lexeme) (o : Option (Entry (List Piece))) (f : Option Fault) (r : List Lexeme)
     → Front text ls n ts us → named_at text inner nodes (map (label_bytes text) ls) (name_bytes text n) us ≡ Ok (o, f, r) → Found text depth nodes ts o f r
 named_sound text depth inner hi nodes ls n ts [] o f r h e = absurd cc
 named_sound text depth inner hi nodes ls n ts (t ∷ us) o f r h e = go nodes t.kind refl e
@@ -154,7 +154,7 @@ named_sound text depth inner hi nodes ls n ts (t ∷ us) o f r h e = go nodes t.
     go true Brace k e = child true k e
     go _ _ k e = absurd cc
 
-record DeletedFound (text : List ℕ) (entry : List ℕ → Entry) (ts : List Lexeme) (o : Option Entry) (f : Option Fault) (r : List Lexeme) : Type 0 where
+record DeletedFound (text : List ℕ) (entry : List ℕ → Entry (List Piece)) (ts : List Lexeme) (o : Option (Entry (List Piece))) (f : Option Fault) (r : List Lexeme) : Type 0 where
   name : Lexeme
   at : List Lexeme
   there : ts ≡ name ∷ at
@@ -163,7 +163,7 @@ record DeletedFound (text : List ℕ) (entry : List ℕ → Entry) (ts : List Le
   entry_is : Some (entry (name_bytes text name)) ≡ o
   fault_is : None ≡ f
 
-deleted_sound : (text : List ℕ) (entry : List ℕ → Entry) (ts : List Lexeme) (o : Option Entry) (f : Option Fault) (r : List Lexeme) → deleted_at text entry ts ≡ Ok (o, f, r) → DeletedFound text entry ts o f r
+deleted_sound : (text : List ℕ) (entry : List ℕ → Entry (List Piece)) (ts : List Lexeme) (o : Option (Entry (List Piece))) (f : Option Fault) (r : List Lexeme) → deleted_at text entry ts ≡ Ok (o, f, r) → DeletedFound text entry ts o f r
 deleted_sound text entry [] o f r e = absurd cc
 deleted_sound text entry (t ∷ ts) o f r e = go t.kind refl e
   where
@@ -171,7 +171,7 @@ deleted_sound text entry (t ∷ ts) o f r e = go t.kind refl e
     go Name k e = let s = ended_sound (Some (entry (name_bytes text t))) o None f ts r e in record { name = t; at = ts; there = refl; named = k; ends = s.ends; entry_is = s.value_is; fault_is = s.fault_is }
     go _ k e = absurd cc
 
-bare_sound : (text : List ℕ) (depth : ℕ) (nodes : Bool) (t : Lexeme) (us : List Lexeme) (k : Kind) (o : Option Entry) (f : Option Fault) (r : List Lexeme) → t.kind ≡ k
+bare_sound : (text : List ℕ) (depth : ℕ) (nodes : Bool) (t : Lexeme) (us : List Lexeme) (k : Kind) (o : Option (Entry (List Piece))) (f : Option Fault) (r : List Lexeme) → t.kind ≡ k
     → bare_by text nodes k t us ≡ Ok (o, f, r) → Found text depth nodes (t ∷ us) o f r
 bare_sound text depth nodes t us k o f r h e = go nodes k h e
   where
@@ -196,13 +196,13 @@ bare_sound text depth nodes t us k o f r h e = go nodes k h e
     go true DeleteNode k e = drops true k e
     go _ _ k e = absurd cc
 
-unlabelled_sound : (text : List ℕ) (depth : ℕ) (nodes : Bool) (ls ts : List Lexeme) (t : Lexeme) (us : List Lexeme) (k : Kind) (o : Option Entry) (f : Option Fault) (r : List Lexeme) → SpellsLabels ls ts (t ∷ us) → t.kind ≡ k
+unlabelled_sound : (text : List ℕ) (depth : ℕ) (nodes : Bool) (ls ts : List Lexeme) (t : Lexeme) (us : List Lexeme) (k : Kind) (o : Option (Entry (List Piece))) (f : Option Fault) (r : List Lexeme) → SpellsLabels ls ts (t ∷ us) → t.kind ≡ k
     → unlabelled text nodes ls k t us ≡ Ok (o, f, r) → Found text depth nodes ts o f r
 unfolding SpellsEach
 unlabelled_sound text depth nodes [] ts t us k o f r s h e = subst (λ (x : List Lexeme). Found text depth nodes x o f r) (sym s) (bare_sound text depth nodes t us k o f r h e)
 unlabelled_sound text depth nodes (l ∷ ls) ts t us k o f r s h e = absurd cc
 
-begun_sound : (text : List ℕ) (depth : ℕ) (inner : Inner) → InnerSound text depth inner → (nodes : Bool) (ls ts us : List Lexeme) (o : Option Entry) (f : Option Fault) (r : List Lexeme) → SpellsLabels ls ts us
+begun_sound : (text : List ℕ) (depth : ℕ) (inner : Inner) → InnerSound text depth inner → (nodes : Bool) (ls ts us : List Lexeme) (o : Option (Entry (List Piece))) (f : Option Fault) (r : List Lexeme) → SpellsLabels ls ts us
     → begun_at text inner nodes ls us ≡ Ok (o, f, r) → Found text depth nodes ts o f r
 begun_sound text depth inner hi nodes ls ts [] o f r s e = absurd cc
 begun_sound text depth inner hi nodes ls ts (t ∷ us) o f r s e = go t.kind refl e
@@ -211,48 +211,48 @@ begun_sound text depth inner hi nodes ls ts (t ∷ us) o f r s e = go t.kind ref
     go Name k e = named_sound text depth inner hi nodes ls t ts us o f r (record { at = t ∷ us; labels = s; name = (k, refl) }) e
     go k h e = unlabelled_sound text depth nodes ls ts t us k o f r s h e
 
-statement_sound : (text : List ℕ) (depth : ℕ) (inner : Inner) → InnerSound text depth inner → (nodes : Bool) (ts : List Lexeme) (o : Option Entry) (f : Option Fault) (r : List Lexeme)
+statement_sound : (text : List ℕ) (depth : ℕ) (inner : Inner) → InnerSound text depth inner → (nodes : Bool) (ts : List Lexeme) (o : Option (Entry (List Piece))) (f : Option Fault) (r : List Lexeme)
     → statement_at text inner nodes ts ≡ Ok (o, f, r) → Found text depth nodes ts o f r
 unfolding statement_at
 statement_sound text depth inner hi nodes ts o f r e = begun_sound text depth inner hi nodes (labels_at ts).0 ts (labels_at ts).1 o f r (labels_sound ts).0 e
 
 -- ---- statements one after the other
 
-end_found : (text : List ℕ) (depth : ℕ) (nodes : Bool) (ts : List Lexeme) (g : Option Fault) (q : List Lexeme) (es : List Entry) (f : Option Fault) (rest : List Lexeme)
+end_found : (text : List ℕ) (depth : ℕ) (nodes : Bool) (ts : List Lexeme) (g : Option Fault) (q : List Lexeme) (es : List (Entry (List Piece))) (f : Option Fault) (rest : List Lexeme)
     → Begins ts EndBrace q × (g ≡ None) → several.part [] g q ≡ several.part es f rest → BodyFound text depth nodes ts es f rest
 unfolding SpellsStatements entries_of faults_in
 end_found text depth nodes ts g q es f rest h e =
     let p = several.part_is [] es g f q rest e in
     record { tree = End; spells = subst (λ (x : List Lexeme). Begins ts EndBrace x) p.2 h.0; entries = p.0; faults = sym h.1 ∙ p.1 }
 
-then_found : (text : List ℕ) (depth : ℕ) (nodes : Bool) (ts : List Lexeme) (a : Entry) (g : Option Fault) (q : List Lexeme) (bs : List Entry) (h : Option Fault) (r : List Lexeme) (es : List Entry) (f : Option Fault) (rest : List Lexeme)
+then_found : (text : List ℕ) (depth : ℕ) (nodes : Bool) (ts : List Lexeme) (a : Entry (List Piece)) (g : Option Fault) (q : List Lexeme) (bs : List (Entry (List Piece))) (h : Option Fault) (r : List Lexeme) (es : List (Entry (List Piece))) (f : Option Fault) (rest : List Lexeme)
     → StatementFound text depth nodes ts a g q → BodyFound text depth (after nodes a) q bs h r → several.part (a ∷ bs) (earlier g h) r ≡ several.part es f rest → BodyFound text depth nodes ts es f rest
 then_found text depth nodes ts a g q bs h r es f rest s b e =
     let p = several.part_is (a ∷ bs) es (earlier g h) f r rest e in
     record {
       tree = s.make b.tree;
       spells = s.spells b.tree rest (subst (λ (x : List Lexeme). SpellsStatements depth (after nodes a) b.tree q x) p.2 b.spells);
-      entries = s.entries b.tree ∙ ap (λ (x : List Entry). a ∷ x) b.entries ∙ p.0;
+      entries = s.entries b.tree ∙ ap (λ (x : List (Entry (List Piece))). a ∷ x) b.entries ∙ p.0;
       faults = s.faults b.tree ∙ ap (earlier g) b.faults ∙ p.1;
     }
 
-many_found : (text : List ℕ) (depth : ℕ) (inner : Inner) → InnerSound text depth inner → (n : ℕ) (nodes : Bool) (ts : List Lexeme) (es : List Entry) (f : Option Fault) (rest : List Lexeme)
+many_found : (text : List ℕ) (depth : ℕ) (inner : Inner) → InnerSound text depth inner → (n : ℕ) (nodes : Bool) (ts : List Lexeme) (es : List (Entry (List Piece))) (f : Option Fault) (rest : List Lexeme)
     → many after (statement_at text inner) n nodes ts ≡ Ok (es, f, rest) → BodyFound text depth nodes ts es f rest
 unfolding many
 many_found text depth inner hi zero nodes ts es f rest e = absurd cc
 many_found text depth inner hi (suc n) nodes ts es f rest e =
-    let b = bind_ok (statement_at text inner nodes ts) (λ x. with_item {B = Part (List Entry)} x.0 (Ok ([], x.1, x.2)) (λ a. many after (statement_at text inner) n (after nodes a) x.2 >>= λ y. Ok (a ∷ y.0, earlier x.1 y.1, y.2))) (es, f, rest) e in
+    let b = bind_ok (statement_at text inner nodes ts) (λ x. with_item {B = Part (List (Entry (List Piece)))} x.0 (Ok ([], x.1, x.2)) (λ a. many after (statement_at text inner) n (after nodes a) x.2 >>= λ y. Ok (a ∷ y.0, earlier x.1 y.1, y.2))) (es, f, rest) e in
     go (λ nodes r bs h q k. many_found text depth inner hi n nodes r bs h q k) b.0.0 b.0.1 b.0.2 b.1 b.2
   where
-    go : ((nodes : Bool) (r : List Lexeme) (bs : List Entry) (h : Option Fault) (q : List Lexeme) → many after (statement_at text inner) n nodes r ≡ Ok (bs, h, q) → BodyFound text depth nodes r bs h q)
-        → (o : Option Entry) (g : Option Fault) (r : List Lexeme) → statement_at text inner nodes ts ≡ Ok (o, g, r)
-        → with_item {B = Part (List Entry)} o (Ok ([], g, r)) (λ a. many after (statement_at text inner) n (after nodes a) r >>= λ y. Ok (a ∷ y.0, earlier g y.1, y.2)) ≡ Ok (es, f, rest) → BodyFound text depth nodes ts es f rest
+    go : ((nodes : Bool) (r : List Lexeme) (bs : List (Entry (List Piece))) (h : Option Fault) (q : List Lexeme) → many after (statement_at text inner) n nodes r ≡ Ok (bs, h, q) → BodyFound text depth nodes r bs h q)
+        → (o : Option (Entry (List Piece))) (g : Option Fault) (r : List Lexeme) → statement_at text inner nodes ts ≡ Ok (o, g, r)
+        → with_item {B = Part (List (Entry (List Piece)))} o (Ok ([], g, r)) (λ a. many after (statement_at text inner) n (after nodes a) r >>= λ y. Ok (a ∷ y.0, earlier g y.1, y.2)) ≡ Ok (es, f, rest) → BodyFound text depth nodes ts es f rest
     go next None g r h k = end_found text depth nodes ts g r es f rest (statement_sound text depth inner hi nodes ts None g r h) k
     go next (Some a) g r h k =
         let b = bind_ok (many after (statement_at text inner) n (after nodes a) r) (λ y. Ok (a ∷ y.0, earlier g y.1, y.2)) (es, f, rest) k in
         then_found text depth nodes ts a g r b.0.0 b.0.1 b.0.2 es f rest (statement_sound text depth inner hi nodes ts (Some a) g r h) (next (after nodes a) r b.0.0 b.0.1 b.0.2 b.1) b.2
 
-pub statements_sound : (text : List ℕ) (depth : ℕ) (inner : Inner) → InnerSound text depth inner → (ts : List Lexeme) (es : List Entry) (f : Option Fault) (rest : List Lexeme)
+pub statements_sound : (text : List ℕ) (depth : ℕ) (inner : Inner) → InnerSound text depth inner → (ts : List Lexeme) (es : List (Entry (List Piece))) (f : Option Fault) (rest : List Lexeme)
     → statements_at text inner ts ≡ Ok (es, f, rest) → BodyFound text depth false ts es f rest
 statements_sound text depth inner hi ts es f rest e = many_found text depth inner hi (suc (length ts)) false ts es f rest e
 

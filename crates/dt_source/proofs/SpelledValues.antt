@@ -9,7 +9,7 @@ use Rattle.dt_expression.specs.Expression.{Begins}
 use Rattle.dt_expression.specs.Reading.{◌>>=◌}
 use Rattle.dt_source.specs.Sequences.{SpellsEach}
 use Rattle.dt_source.specs.Reading.Several.{earlier, many}
-use Rattle.dt_source.specs.Tree.{Piece}
+use Rattle.dt_meaning.specs.Syntax.{Piece}
 use Rattle.dt_source.specs.Pieces.{joined}
 use Rattle.dt_source.specs.Order.{first_of}
 use Rattle.dt_source.specs.Reading.Bodies.{stays, placed_at, comma_by, comma_at, concat_pieces, pieces_at, value_at}

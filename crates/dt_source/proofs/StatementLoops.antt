@@ -8,7 +8,7 @@ use Rattle.dt_lexeme.specs.declared.lexeme.ReadError.{ReadError}
 use Rattle.dt_lexeme.specs.declared.lexeme.ReadError.TheVariants as errors
 use Rattle.dt_expression.specs.Reading.{too_deep}
 use Rattle.dt_source.specs.Reading.Several.{earlier, Part, many, Fails}
-use Rattle.dt_source.specs.Tree.{Entry}
+use Rattle.dt_meaning.specs.Syntax.{Piece, Entry}
 use Rattle.dt_source.specs.Reading.Bodies.{after, statement_at, body_below, body_at}
 use Rattle.dt_source.specs.Reading.Loops.{folded}
 use Rattle.dt_source.proofs.Loops.{many_more, many_end, many_fails}
@@ -24,23 +24,23 @@ pub snoc_read : {A : Type 0} (read : Part (List A)) → folded snoc [] None read
 snoc_read {A = A} (Ok y) = ap (λ (x : List A). Ok (x, y.1, y.2)) (snoc_all [] y.0)
 snoc_read (Err r) = refl
 
-abbrev pub statements_left : List ℕ → ℕ → ℕ → Bool → List Lexeme → Part (List Entry)
+abbrev pub statements_left : List ℕ → ℕ → ℕ → Bool → List Lexeme → Part (List (Entry (List Piece)))
 statements_left text depth n nodes ts = many after (statement_at text (body_below text depth)) n nodes ts
 
 pub statements_begin : (text : List ℕ) (depth : ℕ) (ts : List Lexeme) → (n : ℕ) × (length ts < n) × (folded snoc [] None (statements_left text depth n false ts) ≡ body_at text depth ts)
 unfolding body_at
 statements_begin text depth ts = (suc (length ts), omega arith, snoc_read (statements_left text depth (suc (length ts)) false ts))
 
-pub statements_more : (text : List ℕ) (depth n : ℕ) (nodes : Bool) (left : List Lexeme) (front : List Entry) (f : Option Fault) (e : Entry) (g : Option Fault) (rest : List Lexeme) (total : Part (List Entry))
+pub statements_more : (text : List ℕ) (depth n : ℕ) (nodes : Bool) (left : List Lexeme) (front : List (Entry (List Piece))) (f : Option Fault) (e : Entry (List Piece)) (g : Option Fault) (rest : List Lexeme) (total : Part (List (Entry (List Piece))))
     → statement_at text (body_below text depth) nodes left ≡ Ok (Some e, g, rest) → length rest < length left → length left < n → folded snoc front f (statements_left text depth n nodes left) ≡ total
     → (m : ℕ) × (length rest < m) × (folded snoc (front ++ e ∷ []) (earlier f g) (statements_left text depth m (after nodes e) rest) ≡ total)
 statements_more text depth n nodes left front f e g rest total = many_more after (statement_at text (body_below text depth)) snoc n nodes left front f e g rest total
 
-pub statements_end : (text : List ℕ) (depth n : ℕ) (nodes : Bool) (left : List Lexeme) (front : List Entry) (f g : Option Fault) (rest : List Lexeme) (total : Part (List Entry))
+pub statements_end : (text : List ℕ) (depth n : ℕ) (nodes : Bool) (left : List Lexeme) (front : List (Entry (List Piece))) (f g : Option Fault) (rest : List Lexeme) (total : Part (List (Entry (List Piece))))
     → statement_at text (body_below text depth) nodes left ≡ Ok (None, g, rest) → length left < n → folded snoc front f (statements_left text depth n nodes left) ≡ total → total ≡ Ok (front, earlier f g, rest)
 statements_end text depth n nodes left front f g rest total = many_end after (statement_at text (body_below text depth)) snoc n nodes left front f g rest total
 
-pub statements_fail : (text : List ℕ) (depth n : ℕ) (nodes : Bool) (left : List Lexeme) (front : List Entry) (f : Option Fault) (x : ReadError) (total : Part (List Entry))
+pub statements_fail : (text : List ℕ) (depth n : ℕ) (nodes : Bool) (left : List Lexeme) (front : List (Entry (List Piece))) (f : Option Fault) (x : ReadError) (total : Part (List (Entry (List Piece))))
     → Fails x (statement_at text (body_below text depth) nodes left) → length left < n → folded snoc front f (statements_left text depth n nodes left) ≡ total → Fails x total
 statements_fail text depth n nodes left front f errors.NoMemory total h k t = tt
 statements_fail text depth n nodes left front f (errors.Refused r) total h k t = many_fails after (statement_at text (body_below text depth)) snoc n nodes left front f r total h k t

@@ -1,16 +1,16 @@
 -- How much a source has.
 use Rattle.std.specs.Prelude.{ℕ, ◌+◌, List, [], ◌∷◌, length}
-use Rattle.dt_source.specs.Tree.{Entry, Defines, Undefines, Child, Removes, Body, Done, Then, Edit, Rooted, Extends, Deletes}
+use Rattle.dt_meaning.specs.Syntax.{Piece, Entry, Defines, Undefines, Child, Removes, Body, Done, Then, Edit, Rooted, Extends, Deletes}
 
 -- the statements and labels of a statement with all in it, and of a body
 abbrev mutual
-  pub entry_count : Entry → ℕ
+  pub entry_count : Entry (List Piece) → ℕ
   entry_count (Defines name value) = 1
   entry_count (Undefines name) = 1
   entry_count (Child labels name body) = length labels + 1 + body_count body
   entry_count (Removes name) = 1
 
-  pub body_count : Body → ℕ
+  pub body_count : Body (List Piece) → ℕ
   body_count Done = 0
   body_count (Then first others) = entry_count first + body_count others
 

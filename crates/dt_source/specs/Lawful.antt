@@ -4,7 +4,7 @@ use Rattle.std.specs.Prelude.{ℕ, Bool, true, false, not, ◌&&◌, List, [], �
 use Rattle.dt_tree.specs.Name.{is_name}
 use Rattle.dt_tree.specs.Path.{is_path}
 use Rattle.dt_lexeme.specs.Label.{IsLabel}
-use Rattle.dt_source.specs.Tree.{Target, OfLabel, OfPath, Piece, Plain, PhandleOf, PathOf, Entry, Defines, Undefines, Child, Removes, Body, Done, Then, Edit, Rooted, Extends, Deletes, Meaning}
+use Rattle.dt_meaning.specs.Syntax.{Target, OfLabel, OfPath, Piece, Plain, PhandleOf, PathOf, Entry, Defines, Undefines, Child, Removes, Body, Done, Then, Edit, Rooted, Extends, Deletes, Meaning}
 
 abbrev pub IsLawfulTarget : Target → Type 0
 IsLawfulTarget (OfLabel label) = IsLabel label
@@ -30,13 +30,13 @@ are_joined (Plain bytes ∷ ps) = has_bytes bytes && not (begins_plain ps) && ar
 are_joined (p ∷ ps) = are_joined ps
 
 abbrev mutual
-  pub IsLawfulEntry : Entry → Type 0
+  pub IsLawfulEntry : Entry (List Piece) → Type 0
   IsLawfulEntry (Defines name value) = IsTrue (is_name name) × All IsLawfulPiece value × IsTrue (are_joined value)
   IsLawfulEntry (Undefines name) = IsTrue (is_name name)
   IsLawfulEntry (Child labels name body) = All IsLabel labels × IsTrue (is_name name) × IsLawfulBody body
   IsLawfulEntry (Removes name) = IsTrue (is_name name)
 
-  pub IsLawfulBody : Body → Type 0
+  pub IsLawfulBody : Body (List Piece) → Type 0
   IsLawfulBody Done = Unit {0}
   IsLawfulBody (Then first others) = IsLawfulEntry first × IsLawfulBody others
 

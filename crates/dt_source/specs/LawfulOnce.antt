@@ -4,7 +4,7 @@ use Rattle.std.specs.Coded.{×_prop, Π_prop, Unit-prop}
 use mathlib.Core.Bool.{Bool-set}
 use mathlib.Core.HLevel.{×₃_prop}
 use Rattle.dt_lexeme.specs.Label.{IsLabel}
-use Rattle.dt_source.specs.Tree.{Target, OfLabel, OfPath, Piece, Plain, PhandleOf, PathOf, Entry, Defines, Undefines, Child, Removes, Body, Done, Then, Edit, Rooted, Extends, Deletes}
+use Rattle.dt_meaning.specs.Syntax.{Target, OfLabel, OfPath, Piece, Plain, PhandleOf, PathOf, Entry, Defines, Undefines, Child, Removes, Body, Done, Then, Edit, Rooted, Extends, Deletes}
 use Rattle.dt_source.specs.Lawful.{IsLawfulTarget, IsLawfulPiece, IsLawfulEntry, IsLawfulBody, IsLawfulEdit}
 
 true_once : (b : Bool) → IsProp (IsTrue b)
@@ -26,13 +26,13 @@ piece_once (PhandleOf target) = target_once target
 piece_once (PathOf target) = target_once target
 
 mutual
-  entry_once : (e : Entry) → IsProp (IsLawfulEntry e)
+  entry_once : (e : Entry (List Piece)) → IsProp (IsLawfulEntry e)
   entry_once (Defines name value) = ×₃_prop (true_once _) (all_once IsLawfulPiece piece_once value) (true_once _)
   entry_once (Undefines name) = true_once _
   entry_once (Child labels name body) = ×₃_prop (all_once IsLabel label_once labels) (true_once _) (body_once body)
   entry_once (Removes name) = true_once _
 
-  body_once : (b : Body) → IsProp (IsLawfulBody b)
+  body_once : (b : Body (List Piece)) → IsProp (IsLawfulBody b)
   body_once Done = Unit-prop
   body_once (Then first others) = ×_prop (entry_once first) (body_once others)
 

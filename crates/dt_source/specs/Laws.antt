@@ -3,7 +3,7 @@ use Rattle.std.specs.Prelude.{◌≡◌, ℕ, List, Option, Ok}
 use Rattle.dt_lexeme.specs.declared.lexeme.Lexeme.{Lexeme}
 use Rattle.dt_lexeme.specs.declared.lexeme.Fault.{Fault}
 use Rattle.dt_source.specs.Order.{first_of}
-use Rattle.dt_source.specs.Tree.{Meaning}
+use Rattle.dt_meaning.specs.Syntax.{Meaning}
 use Rattle.dt_source.specs.Source.{SourceTree, Spells, said, faults_of}
 use Rattle.dt_source.specs.Reading.Whole.{source_at}
 

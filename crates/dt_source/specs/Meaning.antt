@@ -2,10 +2,11 @@
 use Rattle.std.specs.Prelude.{map}
 use Rattle.dt_source.specs.declared.tree.Outline.{Outline}
 use Rattle.dt_source.specs.declared.tree.Source.{Source}
-use Rattle.dt_source.specs.Tree.{Meaning, item_view}
+use Rattle.dt_meaning.specs.Syntax.{Meaning}
+use Rattle.dt_source.specs.Tree.{item_view}
 
-abbrev pub meaning : Source → Meaning
-meaning s = record { plugin = s.plugin; reserves = s.reserves.items; items = map item_view s.items.items }
+abbrev pub meaning_of : Source → Meaning
+meaning_of s = record { plugin = s.plugin; reserves = s.reserves.items; items = map item_view s.items.items }
 
 -- the same, before what it names is known to be lawful
 abbrev pub outlined : Outline → Meaning

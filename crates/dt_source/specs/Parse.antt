@@ -14,7 +14,7 @@ use Rattle.dt_lexeme.specs.declared.lexeme.ReadError.{ReadError}
 use Rattle.dt_lexeme.specs.declared.lexeme.ReadError.TheVariants as errors
 use Rattle.dt_lexeme.specs.Lexemes.{Lexemes, Scanned}
 use Rattle.dt_lexeme.specs.Lines.{line_at}
-use Rattle.dt_source.specs.Tree.{Meaning}
+use Rattle.dt_meaning.specs.Syntax.{Meaning}
 use Rattle.dt_source.specs.Order.{first_of}
 use Rattle.dt_source.specs.Order.{IsFirstInText}
 use Rattle.dt_source.specs.Source.{SourceTree, Spells, said, faults_of}

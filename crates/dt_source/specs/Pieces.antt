@@ -11,7 +11,7 @@ use Rattle.dt_source.specs.declared.cell.Cell.{Cell}
 use Rattle.dt_source.specs.declared.cell.Cell.TheVariants as cells
 use Rattle.dt_expression.specs.Values.{Value}
 use Rattle.dt_expression.specs.Element.{bytes_in, width_of, low_bytes, element}
-use Rattle.dt_source.specs.Tree.{Target, OfLabel, OfPath, Piece, Plain, PhandleOf}
+use Rattle.dt_meaning.specs.Syntax.{Target, OfLabel, OfPath, Piece, Plain, PhandleOf}
 
 abbrev pub target_by : List ℕ → Lexeme → Kind → Target
 target_by text l PathReference = OfPath (slice_range text (l.start + 2) (l.end - 1))

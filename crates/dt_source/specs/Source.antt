@@ -11,7 +11,7 @@ use Rattle.dt_source.specs.declared.cell.Cell.TheVariants as cells
 use Rattle.dt_expression.specs.Expression.{Expression, Begins, Takes, Deeper, SpellsPrimary}
 use Rattle.dt_expression.specs.Values.{Value, literal_of, value_of}
 use Rattle.dt_source.specs.Sequences.{SpellsEach}
-use Rattle.dt_source.specs.Tree.{Piece, Plain, PathOf, Entry, Defines, Undefines, Child, Removes, body_of, Edit, Rooted, Extends, Deletes, Meaning}
+use Rattle.dt_meaning.specs.Syntax.{Piece, Plain, PathOf, Entry, Defines, Undefines, Child, Removes, body_of, Edit, Rooted, Extends, Deletes, Meaning}
 use Rattle.dt_source.specs.Strings.{string_bytes, string_faults, pair_byte}
 use Rattle.dt_source.specs.Pieces.{target_of, width_at, width_in, fault_in, cell_fault, cells_pieces, joined}
 use Rattle.dt_source.specs.Words.{label_bytes, name_bytes, concat}
@@ -173,7 +173,7 @@ piece_said text (WideCells l cs) = cells_said text (width_in (width_said text l)
 abbrev pub value_said : List ℕ → List PieceTree → List Piece
 value_said text ps = joined (flat_map (piece_said text) ps)
 
-unfoldable pub entries_of : List ℕ → Statements → List Entry
+unfoldable pub entries_of : List ℕ → Statements → List (Entry (List Piece))
 entries_of text End = []
 entries_of text (Sets ls n v more) = Defines (name_bytes text n) (value_said text v) ∷ entries_of text more
 entries_of text (Unsets n more) = Undefines (name_bytes text n) ∷ entries_of text more

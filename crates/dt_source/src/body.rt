@@ -1,7 +1,8 @@
 //! Bodies.
 ghost use Rattle.std.specs.Prelude.{◌≡◌, ◌<◌, ◌∷◌, Some, map, length, IfOk, option_map};
 ghost use Rattle.dt_source.specs.Reading.Several.{Reads};
-ghost use Rattle.dt_source.specs.Tree.{Undefines, Removes, view};
+ghost use Rattle.dt_meaning.specs.Syntax.{Undefines, Removes};
+ghost use Rattle.dt_source.specs.Tree.{view};
 ghost use Rattle.dt_source.specs.Words.{label_bytes};
 ghost use Rattle.dt_source.specs.Reading.Bodies.{named_at, deleted_at, ended_by, bare_by, unlabelled, begun_at, statement_at, after, body_below, body_at};
 

@@ -1,6 +1,6 @@
 //! What a source names is lawful, and its bodies are lists.
 ghost use Rattle.std.specs.Prelude.{ℕ, List};
-ghost use Rattle.dt_source.specs.Tree.{Meaning};
+ghost use Rattle.dt_meaning.specs.Syntax.{Meaning};
 ghost use Rattle.dt_source.specs.Parse.{Says};
 ghost use Rattle.dt_source.specs.Lawful.{IsLawful};
 ghost use Rattle.dt_source.specs.BodyLaws.{StatementsOfABody, BodyOfItsStatements, BodiesAreLawfulByStatements};

@@ -4,8 +4,8 @@ ghost use Rattle.dt_source.specs.declared.error.SourceErrorKind.{SourceErrorKind
 ghost use Rattle.dt_source.specs.declared.error.SourceErrorKind.TheVariants.{NoMemory, TooLong};
 ghost use Rattle.dt_lexeme.specs.declared.lexeme.Fault.{Fault};
 ghost use Rattle.dt_source.specs.SourceError.{kind_of_fault};
-ghost use Rattle.dt_source.specs.Tree.{Meaning};
-ghost use Rattle.dt_source.specs.Meaning.{meaning, outlined};
+ghost use Rattle.dt_meaning.specs.Syntax.{Meaning};
+ghost use Rattle.dt_source.specs.Meaning.{meaning_of, outlined};
 ghost use Rattle.dt_source.specs.Source.{SourceTree};
 ghost use Rattle.dt_source.specs.Parse.{IsShort, IsSource, Says, HasFirstFault, Refuses, IsRead, IfRefused};
 
@@ -46,7 +46,7 @@ fn too_long() -> SourceError
 /// nests too deep, then the first fault of a value in the order of the text.
 pub fn parse<'a>(alloc: Global, text: &'a [u8]) -> Result<Source<'a>, SourceError>
     // What is answered is what the text says.
-    ensures found { IfOk result (λ s. IsShort text.now × Says text.now (meaning s)) }
+    ensures found { IfOk result (λ s. IsShort text.now × Says text.now (meaning_of s)) }
     // Each refusal comes only where it should, and tells the line of its place. So a text is too long where that is told.
     ensures refused { IfErr result (λ e. Refuses text.now e.kind e.line) }
 {

@@ -1,6 +1,7 @@
 //! The parts of a value while it is read.
 ghost use Rattle.std.specs.Prelude.{◌≡◌, ◌++◌, ◌∷◌, [], map, IfOk, OnOk};
-ghost use Rattle.dt_source.specs.Tree.{Plain, part_view};
+ghost use Rattle.dt_meaning.specs.Syntax.{Plain};
+ghost use Rattle.dt_source.specs.Tree.{part_view};
 ghost use Rattle.dt_expression.specs.Element.{bytes_in, low_bytes};
 ghost use Rattle.dt_source.specs.Reading.Values.{built, flushed, put};
 

@@ -1,7 +1,8 @@
 //! Values of properties.
 ghost use Rattle.std.specs.Prelude.{◌≡◌, ◌≤◌, ◌<◌, [], ◌∷◌, Ok, None, length, map, IfOk, IfSome, option_map};
 ghost use Rattle.dt_source.specs.Reading.Several.{Reads};
-ghost use Rattle.dt_source.specs.Tree.{Plain, PathOf, part_view};
+ghost use Rattle.dt_meaning.specs.Syntax.{Plain, PathOf};
+ghost use Rattle.dt_source.specs.Tree.{part_view};
 ghost use Rattle.dt_source.specs.Strings.{string_bytes, string_faults};
 ghost use Rattle.dt_source.specs.Pieces.{target_of, width_at};
 ghost use Rattle.dt_source.specs.Reading.Values.{built};

@@ -2,7 +2,8 @@
 ghost use Rattle.std.specs.Prelude.{◌≡◌, ◌≤◌, ◌<◌, ◌++◌, ◌∷◌, None, Some, map, length, IfOk, OnOk, IfSome, option_map};
 ghost use Rattle.dt_expression.specs.Reading.{Gives};
 ghost use Rattle.dt_source.specs.Reading.Several.{Reads};
-ghost use Rattle.dt_source.specs.Tree.{Deletes, body_of, view, views, item_view};
+ghost use Rattle.dt_meaning.specs.Syntax.{body_of, Deletes};
+ghost use Rattle.dt_source.specs.Tree.{view, views, item_view};
 ghost use Rattle.dt_source.specs.Meaning.{outlined};
 ghost use Rattle.dt_source.specs.Pieces.{target_of};
 ghost use Rattle.dt_source.specs.Reading.Bodies.{ended_by};

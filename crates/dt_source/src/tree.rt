@@ -1,7 +1,8 @@
 //! What a source says.
 ghost use Rattle.std.specs.Prelude.{◌≡◌, ◌≤◌, map, All};
 ghost use Rattle.dt_lexeme.specs.Limits.{text_limit};
-ghost use Rattle.dt_source.specs.Tree.{labels_view, view, views, part_view, item_view, Defines, Undefines, Child, Removes};
+ghost use Rattle.dt_meaning.specs.Syntax.{Defines, Undefines, Child, Removes};
+ghost use Rattle.dt_source.specs.Tree.{labels_view, view, views, part_view, item_view};
 ghost use Rattle.dt_source.specs.Lawful.{IsLawfulEdit};
 ghost use Rattle.dt_source.specs.Counts.{how_many};
 ghost use Rattle.dt_source.specs.LawfulOnce.{all_once, edit_once};
@@ -74,13 +75,13 @@ pub struct Source<'a> {
 
 impl Source<'_> {
     ghost use Rattle.dt_source.specs.Lawful.{IsLawful};
-    ghost use Rattle.dt_source.specs.Meaning.{meaning};
+    ghost use Rattle.dt_source.specs.Meaning.{meaning_of};
 
     /// Costs nothing: tells a caller's proof that what the source names is lawful, and that rows for its items,
     /// statements and labels can be numbered by 32 bits.
     pub fn check(&self)
-        ensures lawful { IsLawful (meaning self.now) }
-        ensures few { how_many (meaning self.now).items ≤ text_limit }
+        ensures lawful { IsLawful (meaning_of self.now) }
+        ensures few { how_many (meaning_of self.now).items ≤ text_limit }
     {
         let _ = &self.items;
     }

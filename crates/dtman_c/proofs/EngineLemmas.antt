@@ -2,8 +2,7 @@
 use Rattle.std.proofs.Common.{◌≡◌, ◌↔◌, ◌⊎◌, inr, ap, ℕ, Bool, List, Result, Ok, Err, Some, IfOk, IfErr, IsErrAnd, MatchResult}
 use Rattle.dt_tree.specs.TreeData.{TreeData}
 use Rattle.dt_source.specs.Parse.{Says}
-use Rattle.dt_source.specs.Tree.{Meaning}
-use Rattle.dt_edit.specs.Said.{reading}
+use Rattle.dt_meaning.specs.Syntax.{Meaning}
 use Rattle.dt_blob.specs.declared.error.BlobError.{BlobError}
 use Rattle.dt_blob.specs.declared.error.BlobError.TheVariants.{Truncated, BadMagic, BadVersion, BadLayout, TooLarge}
 use Rattle.dt_blob.specs.HeaderWords.{header_fault}
@@ -49,7 +48,7 @@ wanting fault MayBe before after told is h = record { given = Err (fault_value f
 -- ---- the engines
 pub compiled : {V : Type 0} (items : V → List ℕ) (r : Result V Fault) (symbols : Bool) (source : List ℕ)
     → IfOk r (λ blob. compile.IsCompiled symbols source (items blob))
-    → ((m : Meaning) → IsShort source → Says source m → MatchResult r (λ blob. compile.IsBlobOf symbols (reading m) (items blob)) (λ fault. compile.CannotBuild symbols (reading m) (fault_value fault)))
+    → ((m : Meaning) → IsShort source → Says source m → MatchResult r (λ blob. compile.IsBlobOf symbols m (items blob)) (λ fault. compile.CannotBuild symbols m (fault_value fault)))
     → IfErr r (λ fault. compile.IsCompileRefusal symbols source (fault_value fault))
     → IsCompileAnswer symbols source (shown items r)
 compiled items (Ok v) symbols source a s r = record { answer = a; said = s; refused = r }

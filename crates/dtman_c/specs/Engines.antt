@@ -2,8 +2,7 @@
 use Rattle.std.specs.Prelude.{◌≡◌, ◌↔◌, ◌⊎◌, ℕ, Bool, List, Result, Ok, Err, Some, IfOk, IfErr, IsErrAnd, MatchResult}
 use Rattle.dt_tree.specs.TreeData.{TreeData}
 use Rattle.dt_source.specs.Parse.{Says}
-use Rattle.dt_source.specs.Tree.{Meaning}
-use Rattle.dt_edit.specs.Said.{reading}
+use Rattle.dt_meaning.specs.Syntax.{Meaning}
 use Rattle.dt_blob.specs.declared.error.BlobError.{BlobError}
 use Rattle.dt_blob.specs.declared.error.BlobError.TheVariants.{Truncated, BadMagic, BadVersion, BadLayout, TooLarge}
 use Rattle.dt_blob.specs.HeaderWords.{header_fault}
@@ -24,7 +23,7 @@ pub record IsCompileAnswer (symbols : Bool) (source : List ℕ) (result : Result
       (m : Meaning)
       → IsShort source
       → Says source m
-      → MatchResult result (λ blob. compile.IsBlobOf symbols (reading m) blob) (λ fault. compile.CannotBuild symbols (reading m) fault)
+      → MatchResult result (λ blob. compile.IsBlobOf symbols m blob) (λ fault. compile.CannotBuild symbols m fault)
   pub refused : IfErr result (λ fault. compile.IsCompileRefusal symbols source fault)
 
 -- what `overlay_bytes` may answer

@@ -7,7 +7,6 @@ use Rattle.dt_meaning.specs.Resolved.{Resolved, resolved}
 use Rattle.dt_resolve.specs.declared.error.BuildError.{BuildError}
 use Rattle.dt_resolve.specs.declared.error.BuildError.TheVariants.{NoMemory, UnknownLabel, DuplicateLabel, UnknownPath, BadPhandle, DuplicatePhandle, DuplicateInBody, PathInPlugin, ReservedName, TooDeep}
 use Rattle.dt_build.specs.Built.{Refuses}
-use Rattle.dt_edit.specs.Said.{reading}
 use Rattle.dtman_engine.specs.Compile.{CannotBuild, HasLongBlob, IsBlobOf, IsCompiled}
 use Rattle.dtman_engine.specs.Fault.{FaultValue, build_fault, fault_value, no_memory}
 use Rattle.dtman_engine.specs.Limits.{blob_limit}
@@ -49,7 +48,7 @@ no_blob symbols m blob fault is (inr (inr long)) = absurd (not_long symbols m bl
 -- the profile's answer of a text of which there is a blob
 pub answered : (symbols : Bool) (text blob : List ℕ) (given : Answer) → IsCompiled symbols text blob → IsAnswer symbols text given → IsKept symbols text (Plain given)
 answered symbols text blob (Ok made) c is = is.answer
-answered symbols text blob (Err fault) c is = no_blob symbols (reading c.said) blob (fault_value fault) c.blob_is (is.said c.said c.short c.says)
+answered symbols text blob (Err fault) c is = no_blob symbols c.said blob (fault_value fault) c.blob_is (is.said c.said c.short c.says)
 
 not_lifted : (symbols : Bool) (text : List ℕ) (given : Answer) → IsKept symbols text (Plain given) → is_lifted given ≡ true → ⊥
 not_lifted symbols text (Ok made) kept lifted = let bad : false ≡ true = lifted in cc

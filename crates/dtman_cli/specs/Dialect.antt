@@ -3,8 +3,7 @@
 use Rattle.std.specs.Prelude.{◌≡◌, ℕ, Bool, false, true, List, Result, Ok, Err, IfOk, IfErr, MatchResult, Vec}
 use Rattle.std.specs.declared.alloc.Global.{Global}
 use Rattle.dt_source.specs.Parse.{Says}
-use Rattle.dt_source.specs.Tree.{Meaning}
-use Rattle.dt_edit.specs.Said.{reading}
+use Rattle.dt_meaning.specs.Syntax.{Meaning}
 use Rattle.dtman_engine.specs.declared.fault.Fault.{Fault}
 use Rattle.dtman_engine.specs.Compile.{CannotBuild, IsBlobOf, IsCompileRefusal, IsCompiled}
 use Rattle.dtman_engine.specs.Fault.{fault_value, no_memory}
@@ -20,7 +19,7 @@ Answer = Result (Vec ℕ Global) Fault
 -- what the profile answers of a text: all that `compile_bytes` says of it
 pub record IsAnswer (symbols : Bool) (text : List ℕ) (given : Answer) : Type 0 where
   pub answer : IfOk given (λ blob. IsCompiled symbols text blob.items)
-  pub said : (m : Meaning) → IsShort text → Says text m → MatchResult given (λ blob. IsBlobOf symbols (reading m) blob.items) (λ fault. CannotBuild symbols (reading m) (fault_value fault))
+  pub said : (m : Meaning) → IsShort text → Says text m → MatchResult given (λ blob. IsBlobOf symbols m blob.items) (λ fault. CannotBuild symbols m (fault_value fault))
   pub refused : IfErr given (λ fault. IsCompileRefusal symbols text (fault_value fault))
 
 -- the answer is a refusal that the dialect may lift

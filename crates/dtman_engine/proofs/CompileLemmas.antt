@@ -4,8 +4,6 @@ use Rattle.dt_tree.specs.PathMap.{TreeMap}
 use Rattle.dt_tree.specs.TreeData.{TreeData, IsTree}
 use Rattle.dt_tree.proofs.MapLaws.{same_tree}
 use Rattle.dt_source.specs.Parse.{Says}
-use Rattle.dt_source.specs.Tree as said
-use Rattle.dt_edit.specs.Said.{reading}
 use Rattle.dt_meaning.specs.Syntax.{Meaning}
 use Rattle.dt_blob.specs.declared.error.BlobError.{BlobError}
 use Rattle.dt_blob.specs.Blob.{blob_of}
@@ -42,13 +40,13 @@ unbuilt symbols m t fault is of (inl none) = inl none
 unbuilt symbols m t fault is of (inr large) = inr (inr (large.0, long-tree symbols m t is of large.1))
 
 -- what is said of the result of a source is said of the text's
-module _ {V : Type 0} (bytes : V → List ℕ) (symbols : Bool) (text : List ℕ) (m : said.Meaning) where
-  pub compiled : (r : Result V Fault) → IsShort text → Says text m → MatchResult r (λ blob. IsBlobOf symbols (reading m) (bytes blob)) (λ fault. CannotBuild symbols (reading m) (fault_value fault))
+module _ {V : Type 0} (bytes : V → List ℕ) (symbols : Bool) (text : List ℕ) (m : Meaning) where
+  pub compiled : (r : Result V Fault) → IsShort text → Says text m → MatchResult r (λ blob. IsBlobOf symbols m (bytes blob)) (λ fault. CannotBuild symbols m (fault_value fault))
       → IfOk r (λ blob. IsCompiled symbols text (bytes blob))
   compiled (Ok blob) short says h = record { said = m; short = short; says = says; blob_is = h }
   compiled (Err fault) short says h = tt
 
-  pub in-vain : (r : Result V Fault) → IsShort text → Says text m → MatchResult r (λ blob. IsBlobOf symbols (reading m) (bytes blob)) (λ fault. CannotBuild symbols (reading m) (fault_value fault))
+  pub in-vain : (r : Result V Fault) → IsShort text → Says text m → MatchResult r (λ blob. IsBlobOf symbols m (bytes blob)) (λ fault. CannotBuild symbols m (fault_value fault))
       → IfErr r (λ fault. IsCompileRefusal symbols text (fault_value fault))
   in-vain (Ok blob) short says h = tt
   in-vain (Err fault) short says h = inr (record { said = m; short = short; says = says; cannot = h })

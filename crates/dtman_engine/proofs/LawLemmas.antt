@@ -5,10 +5,9 @@ use Rattle.dt_source.specs.declared.error.SourceErrorKind.{SourceErrorKind}
 use Rattle.dt_source.specs.declared.error.SourceErrorKind.TheVariants as kinds
 use Rattle.dt_source.specs.Parse as parse
 use Rattle.dt_source.specs.Parse.{IsShort, Says}
-use Rattle.dt_source.specs.Tree.{Meaning}
+use Rattle.dt_meaning.specs.Syntax.{Meaning}
 use Rattle.dt_meaning.specs.MapOf.{tree_map_of}
 use Rattle.dt_meaning.specs.Resolved.{Resolved, resolved}
-use Rattle.dt_edit.specs.Said.{reading}
 use Rattle.dt_resolve.specs.declared.error.BuildError.{BuildError}
 use Rattle.dt_resolve.specs.declared.error.BuildError.TheVariants as builds
 use Rattle.dt_build.specs.Built.{IsTreeOf, Refuses}
@@ -57,7 +56,7 @@ module _ (one : (bytes : List ℕ) (tree other : TreeData) → Holds bytes tree 
   undumped fault refusal = unprinted refusal.error fault refusal.told refusal.explained
 
 -- ---- a source that means a tree is refused for want of memory alone
-built : (m : Meaning) (lists : Resolved) (e : BuildError) → resolved false (reading m) ≡ Ok lists → Refuses false (reading m) e → e ≡ builds.NoMemory
+built : (m : Meaning) (lists : Resolved) (e : BuildError) → resolved false m ≡ Ok lists → Refuses false m e → e ≡ builds.NoMemory
 built m lists builds.NoMemory is why = refl
 built m lists builds.UnknownLabel is why = elim (not-both _ _ _ is why) [ ]
 built m lists builds.DuplicateLabel is why = elim (not-both _ _ _ is why) [ ]
@@ -69,14 +68,14 @@ built m lists builds.PathInPlugin is why = elim (not-both _ _ _ is why) [ ]
 built m lists builds.ReservedName is why = elim (not-both _ _ _ is why) [ ]
 built m lists builds.TooDeep is why = elim (not-both _ _ _ is why) [ ]
 
-fits-not : (m : Meaning) (t : TreeData) → IsTree t → IsTreeOf false (reading m) t → length (blob_of t) ≤ blob_limit → HasLongBlob false (reading m) → ⊥
+fits-not : (m : Meaning) (t : TreeData) → IsTree t → IsTreeOf false m t → length (blob_of t) ≤ blob_limit → HasLongBlob false m → ⊥
 fits-not m t is of fits long =
-    let same : of.lists ≡ long.lists = same-lists (resolved false (reading m)) of.lists long.lists of.resolves long.resolves in
-    let over : blob_limit < length (blob_of t) = long.long t is (of.map ∙ ap (tree_map_of (reading m)) same) in
+    let same : of.lists ≡ long.lists = same-lists (resolved false m) of.lists long.lists of.resolves long.resolves in
+    let over : blob_limit < length (blob_of t) = long.long t is (of.map ∙ ap (tree_map_of m) same) in
     omega (arith, fits, over)
 
 -- ---- a text that says what means the tree
-module _ (accepted : (text : List ℕ) (m : Meaning) (k : SourceErrorKind) (line : ℕ) → IsShort text → Says text m → parse.Refuses text k line → k ≡ kinds.NoMemory) (meaning : (text : List ℕ) (m n : Meaning) → Says text m → Says text n → m ≡ n) (text : List ℕ) (s : Meaning) (t : TreeData) (is : IsTree t) (says : Says text s) (of : IsTreeOf false (reading s) t) (fits : length (blob_of t) ≤ blob_limit) where
+module _ (accepted : (text : List ℕ) (m : Meaning) (k : SourceErrorKind) (line : ℕ) → IsShort text → Says text m → parse.Refuses text k line → k ≡ kinds.NoMemory) (meaning : (text : List ℕ) (m n : Meaning) → Says text m → Says text n → m ≡ n) (text : List ℕ) (s : Meaning) (t : TreeData) (is : IsTree t) (says : Says text s) (of : IsTreeOf false s t) (fits : length (blob_of t) ≤ blob_limit) where
   wanted : (k : SourceErrorKind) (line : ℕ) (fault : FaultValue) → fault ≡ source_fault k line → IsShort text → parse.Refuses text k line → CannotCompile text fault
   wanted k line fault told short why = inl (told ∙ ap (λ (x : SourceErrorKind). source_fault x line) (accepted text s k line short says why))
 
@@ -91,7 +90,7 @@ module _ (accepted : (text : List ℕ) (m : Meaning) (k : SourceErrorKind) (line
   unsaid kinds.LiteralRange line fault told why = wanted kinds.LiteralRange line fault told why.0 why
   unsaid kinds.BadEscape line fault told why = wanted kinds.BadEscape line fault told why.0 why
 
-  unbuilt : (m : Meaning) (fault : FaultValue) → IsTreeOf false (reading m) t → CannotBuild false (reading m) fault → CannotCompile text fault
+  unbuilt : (m : Meaning) (fault : FaultValue) → IsTreeOf false m t → CannotBuild false m fault → CannotCompile text fault
   unbuilt m fault also (inl none) = inl none
   unbuilt m fault also (inr (inl none)) = inl (none.told ∙ ap build_fault (built m also.lists none.error also.resolves none.refuses))
   unbuilt m fault also (inr (inr long)) = elim (fits-not m t is also fits long.1) [ ]
@@ -99,4 +98,4 @@ module _ (accepted : (text : List ℕ) (m : Meaning) (k : SourceErrorKind) (line
   pub uncompiled : (fault : FaultValue) → IsCompileRefusal false text fault → CannotCompile text fault
   uncompiled fault (inl none) = unsaid none.kind none.line fault none.told none.refuses
   uncompiled fault (inr vain) =
-      unbuilt vain.said fault (subst (λ (x : Meaning). IsTreeOf false (reading x) t) (meaning text s vain.said says vain.says) of) vain.cannot
+      unbuilt vain.said fault (subst (λ (x : Meaning). IsTreeOf false x t) (meaning text s vain.said says vain.says) of) vain.cannot

@@ -4,11 +4,9 @@ use Rattle.dt_tree.specs.PathMap.{tree_map}
 use Rattle.dt_tree.specs.TreeData.{TreeData, IsTree}
 use Rattle.dt_source.specs.declared.error.SourceErrorKind.{SourceErrorKind}
 use Rattle.dt_source.specs.Parse as parse
-use Rattle.dt_source.specs.Tree as said
 use Rattle.dt_meaning.specs.Syntax.{Meaning}
 use Rattle.dt_meaning.specs.MapOf.{tree_map_of}
 use Rattle.dt_meaning.specs.Resolved.{Resolved, resolved}
-use Rattle.dt_edit.specs.Said.{reading}
 use Rattle.dt_resolve.specs.declared.error.BuildError.{BuildError}
 use Rattle.dt_build.specs.Built.{IsTreeOf, Refuses}
 use Rattle.dt_blob.specs.declared.error.BlobError.TheVariants.{TooLarge}
@@ -46,10 +44,10 @@ CannotBuild symbols m fault = (fault ≡ no_memory) ⊎ MeansNone symbols m faul
 
 -- the text says something, and this is its blob
 pub record IsCompiled (symbols : Bool) (text blob : List ℕ) : Type 0 where
-  pub said : said.Meaning
+  pub said : Meaning
   pub short : IsShort text
   pub says : parse.Says text said
-  pub blob_is : IsBlobOf symbols (reading said) blob
+  pub blob_is : IsBlobOf symbols said blob
 
 -- ---- refusals
 -- the text says nothing, for this kind of error in this line
@@ -61,10 +59,10 @@ pub record SaysNone (text : List ℕ) (fault : FaultValue) : Type 0 where
 
 -- what the text says makes no blob
 pub record SaysInVain (symbols : Bool) (text : List ℕ) (fault : FaultValue) : Type 0 where
-  pub said : said.Meaning
+  pub said : Meaning
   pub short : IsShort text
   pub says : parse.Says text said
-  pub cannot : CannotBuild symbols (reading said) fault
+  pub cannot : CannotBuild symbols said fault
 
 abbrev pub IsCompileRefusal : Bool → List ℕ → FaultValue → Type 0
 IsCompileRefusal symbols text fault = SaysNone text fault ⊎ SaysInVain symbols text fault

@@ -1,10 +1,9 @@
 //! The blob of a source, from bytes to bytes.
 ghost use Rattle.std.specs.Prelude.{◌≡◌, ◌≤◌, length, IfOk, IfErr, MatchResult};
 ghost use Rattle.dt_source.specs.Parse.{Says};
-ghost use Rattle.dt_source.specs.Tree.{Meaning};
+ghost use Rattle.dt_meaning.specs.Syntax.{Meaning};
 ghost use Rattle.dt_blob.specs.Blob.{blob_of};
-ghost use Rattle.dt_edit.specs.Said.{reading};
-ghost use Rattle.dt_resolve.specs.Said.{meaning_of};
+ghost use Rattle.dt_source.specs.Meaning.{meaning_of};
 ghost use Rattle.dtman_engine.specs.Compile.{CannotBuild, CannotWrite, IsBlobOf, IsCompileRefusal, IsCompiled};
 ghost use Rattle.dtman_engine.specs.Fault.{fault_value};
 ghost use Rattle.dtman_engine.specs.Limits.{blob_limit, IsShort};
@@ -31,7 +30,7 @@ pub fn compile_bytes(
     // What is answered is the blob of the tree that the text means.
     ensures answer { IfOk result (λ blob. IsCompiled symbols source.now blob.items) }
     // What a text says is answered, or why it makes no blob.
-    ensures said { (m : Meaning) → IsShort source.now → Says source.now m → MatchResult result (λ blob. IsBlobOf symbols (reading m) blob.items) (λ fault. CannotBuild symbols (reading m) (fault_value fault)) }
+    ensures said { (m : Meaning) → IsShort source.now → Says source.now m → MatchResult result (λ blob. IsBlobOf symbols m blob.items) (λ fault. CannotBuild symbols m (fault_value fault)) }
     // Each refusal has its reason in the text.
     ensures refused { IfErr result (λ fault. IsCompileRefusal symbols source.now (fault_value fault)) }
 {

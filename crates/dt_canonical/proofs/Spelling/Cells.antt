@@ -14,7 +14,7 @@ use Rattle.dt_expression.specs.Element.{element}
 use Rattle.dt_source.specs.Sequences.{SpellsEach}
 use Rattle.dt_source.specs.Strings.{pair_value}
 use Rattle.dt_source.specs.Pieces.{cell_pieces, cell_fault}
-use Rattle.dt_source.specs.Tree.{Piece, Plain}
+use Rattle.dt_meaning.specs.Syntax.{Piece, Plain}
 use Rattle.dt_source.specs.Words.{concat}
 use Rattle.dt_source.specs.Source.{Pairs, Cells, OnePair, SpellsCell, cell_of, cells_said, pair_bytes, cells_faults, fault_list}
 use Rattle.dt_canonical.specs.Bytes.{are_bytes}

@@ -5,7 +5,7 @@ use Rattle.dt_blob.specs.SourceText.{are_strings}
 use Rattle.dt_lexeme.specs.declared.lexeme.Lexeme.{Lexeme}
 use Rattle.dt_lexeme.specs.declared.lexeme.Kind.TheVariants as kinds
 use Rattle.dt_expression.specs.Expression.{Begins}
-use Rattle.dt_source.specs.Tree.{Plain}
+use Rattle.dt_meaning.specs.Syntax.{Plain}
 use Rattle.dt_source.specs.Pieces.{joined, join_bytes}
 use Rattle.dt_source.specs.Words.{concat}
 use Rattle.dt_source.specs.Source.{PieceTree, SpellsValue, value_said, value_faults}

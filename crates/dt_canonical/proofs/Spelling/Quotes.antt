@@ -10,7 +10,7 @@ use Rattle.dt_lexeme.specs.declared.lexeme.Kind.TheVariants as kinds
 use Rattle.dt_expression.specs.Values.{Value}
 use Rattle.dt_source.specs.Sequences.{SpellsEach}
 use Rattle.dt_source.specs.Strings.{chars_of, chars_with, string_bytes, string_faults, numbers, faults}
-use Rattle.dt_source.specs.Tree.{Piece, Plain}
+use Rattle.dt_meaning.specs.Syntax.{Piece, Plain}
 use Rattle.dt_source.specs.Words.{concat}
 use Rattle.dt_source.specs.Source.{PieceTree, Quoted, SpellsPiece, SpellsPlaced, SpellsFurther, piece_said, value_faults}
 use Rattle.dt_canonical.specs.Private.Lexed.{Segment, Blanks, Word, written, past, placed, lexeme_at, escaped, quoted, quoted_pieces}

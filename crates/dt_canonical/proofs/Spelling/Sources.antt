@@ -13,7 +13,7 @@ use Rattle.dt_expression.specs.Expression.{Number, Spells as SpellsExpression}
 use Rattle.dt_expression.specs.Values.{value_of}
 use Rattle.dt_source.specs.Parse.{Says}
 use Rattle.dt_source.specs.Sequences.{SpellsEach}
-use Rattle.dt_source.specs.Tree.{Body, Edit, Rooted, Meaning}
+use Rattle.dt_meaning.specs.Syntax.{Piece, Body, Edit, Rooted, Meaning}
 use Rattle.dt_source.specs.Source.{SpellsReserve, SpellsItem, Spells, both_numbers, reserve_values, reserve_faults, item_said, item_faults, said, faults_of}
 use Rattle.dt_canonical.specs.Bytes.{have_bytes, hold_bytes, HasBytes}
 use Rattle.dt_canonical.specs.SourceOf.{with_properties, nodes_of, source_of}
@@ -99,7 +99,7 @@ module _ (text : List ℕ) where
       let body = properties_read text 64 1 q root.properties children (spelled_siblings r 1 root.children) after (nodes_of root.children) inside e inner in
       record {
         spells = (placed (p + 1) (brace_parts ++ (properties_parts 1 root.properties ++ children)), (refl, refl), (placed q (properties_parts 1 root.properties ++ children), after, (refl, refl), body.spells, (refl, refl)));
-        says = ap (λ (b : Body). Rooted b) body.says;
+        says = ap (λ (b : Body (List Piece)). Rooted b) body.says;
         faultless = body.faultless;
       }
 

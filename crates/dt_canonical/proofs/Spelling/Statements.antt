@@ -9,7 +9,7 @@ use Rattle.dt_lexeme.specs.declared.lexeme.Lexeme.{Lexeme}
 use Rattle.dt_lexeme.specs.declared.lexeme.Fault.{Fault}
 use Rattle.dt_lexeme.specs.declared.lexeme.Kind.TheVariants as kinds
 use Rattle.dt_source.specs.Sequences.{SpellsEach}
-use Rattle.dt_source.specs.Tree.{Piece, Defines, Child, Body, Then, body_of}
+use Rattle.dt_meaning.specs.Syntax.{Piece, Defines, Child, Body, Then, body_of}
 use Rattle.dt_source.specs.Words.{name_bytes}
 use Rattle.dt_source.specs.Source.{Statements, Sets, Holds, SpellsStatements, value_said, entries_of, faults_in}
 use Rattle.dt_canonical.specs.Bytes.{are_bytes, have_bytes, hold_bytes}
@@ -24,7 +24,7 @@ five_past p a b c d e = simp past_append
 
 module _ (text : List ℕ) where
   -- The lexemes spell these statements, which say the body and have no fault.
-  pub record Read (nodes : Bool) (depth : ℕ) (statements : Statements) (ts rest : List Lexeme) (body : Body) : Type 0 where
+  pub record Read (nodes : Bool) (depth : ℕ) (statements : Statements) (ts rest : List Lexeme) (body : Body (List Piece)) : Type 0 where
     pub spells : SpellsStatements depth nodes statements ts rest
     pub says : body_of (entries_of text statements) ≡ body
     pub faultless : faults_in text statements ≡ []
@@ -34,7 +34,7 @@ module _ (text : List ℕ) where
 
   -- ---- properties
 
-  property_read : (k depth p : ℕ) (x : Property) (rest : List Segment) (others : Statements) (after : List Lexeme) (body : Body)
+  property_read : (k depth p : ℕ) (x : Property) (rest : List Segment) (others : Statements) (after : List Lexeme) (body : Body (List Piece))
       → At text p (property_parts depth x ++ rest) → are_bytes x.value ≡ true → Read false k others (placed (past p (property_parts depth x)) rest) after body
       → Read false k (Sets [] (name_at p depth x.name) (property_pieces (past p (name_parts depth x.name)) x.value) others) (placed p (property_parts depth x ++ rest)) after (Then (Defines x.name (value_of x.value)) body)
   unfolding placed past SpellsStatements SpellsEach entries_of faults_in
@@ -48,11 +48,11 @@ module _ (text : List ℕ) where
         says =
             ap (λ (n : List ℕ). Then (Defines n (value_said text (property_pieces q x.value))) (body_of (entries_of text others))) name
             ∙ ap (λ (v : List Piece). Then (Defines x.name v) (body_of (entries_of text others))) value.says
-            ∙ ap (λ (b : Body). Then (Defines x.name (value_of x.value)) b) onward.says;
+            ∙ ap (λ (b : Body (List Piece)). Then (Defines x.name (value_of x.value)) b) onward.says;
         faultless = ap (λ (fs : List Fault). fs ++ faults_in text others) value.faultless ∙ onward.faultless;
       }
 
-  pub properties_read : (k depth p : ℕ) (ps : List Property) (rest : List Segment) (behind : Statements) (after : List Lexeme) (body : Body)
+  pub properties_read : (k depth p : ℕ) (ps : List Property) (rest : List Segment) (behind : Statements) (after : List Lexeme) (body : Body (List Piece))
       → At text p (properties_parts depth ps ++ rest) → have_bytes ps ≡ true → Read false k behind (placed (past p (properties_parts depth ps)) rest) after body
       → Read false k (spelled_properties p depth ps behind) (placed p (properties_parts depth ps ++ rest)) after (with_properties ps body)
   unfolding past
@@ -69,7 +69,7 @@ module _ (text : List ℕ) where
 
   -- ---- nodes
 
-  node_read : (nodes : Bool) (k depth p : ℕ) (name : List ℕ) (rest : List Segment) (body others : Statements) (q : ℕ) (left : List Segment) (after : List Lexeme) (inside outside : Body)
+  node_read : (nodes : Bool) (k depth p : ℕ) (name : List ℕ) (rest : List Segment) (body others : Statements) (q : ℕ) (left : List Segment) (after : List Lexeme) (inside outside : Body (List Piece))
       → At text p (begin_parts depth name ++ rest) → Read false k body (placed (inside_at p depth name) rest) (placed q (stop_parts ++ left)) inside → Read true (suc k) others (placed (q + 1 + 1) left) after outside
       → Read nodes (suc k) (Holds [] (name_at p depth name) body others) (placed p (begin_parts depth name ++ rest)) after (Then (Child [] name inside) outside)
   unfolding placed past SpellsStatements SpellsEach entries_of faults_in
@@ -80,8 +80,8 @@ module _ (text : List ℕ) where
         spells = (ts, placed (past p (name_parts depth name)) (brace_parts ++ rest), placed (inside_at p depth name) rest, placed q (stop_parts ++ left), placed (q + 1 + 1) left, refl, (refl, refl), (refl, refl), inner.spells, (refl, refl), onward.spells);
         says =
             ap (λ (n : List ℕ). Then (Child [] n (body_of (entries_of text body))) (body_of (entries_of text others))) said
-            ∙ ap (λ (b : Body). Then (Child [] name b) (body_of (entries_of text others))) inner.says
-            ∙ ap (λ (b : Body). Then (Child [] name inside) b) onward.says;
+            ∙ ap (λ (b : Body (List Piece)). Then (Child [] name b) (body_of (entries_of text others))) inner.says
+            ∙ ap (λ (b : Body (List Piece)). Then (Child [] name inside) b) onward.says;
         faultless = ap (λ (fs : List Fault). fs ++ faults_in text others) inner.faultless ∙ onward.faultless;
       }
 

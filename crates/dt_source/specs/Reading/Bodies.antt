@@ -12,7 +12,7 @@ use Rattle.dt_expression.specs.Values.{literal_of}
 use Rattle.dt_expression.specs.Reading.{◌>>=◌, Read, syntax_at, too_deep}
 use Rattle.dt_expression.specs.ReadingExpressions.{primary_at}
 use Rattle.dt_source.specs.Reading.Several.{earlier, Part, many}
-use Rattle.dt_source.specs.Tree.{Piece, Plain, PathOf, Entry, Defines, Undefines, Child, Removes, body_of}
+use Rattle.dt_meaning.specs.Syntax.{Piece, Plain, PathOf, Entry, Defines, Undefines, Child, Removes, body_of}
 use Rattle.dt_source.specs.Strings.{string_bytes, string_faults, pair_byte}
 use Rattle.dt_source.specs.Pieces.{target_of, width_at, width_in, fault_in, cell_fault, cells_pieces, joined}
 use Rattle.dt_source.specs.Words.{label_bytes, name_bytes, concat}
@@ -155,10 +155,10 @@ ended_by a f [] = Err (syntax_at [])
 ended_by a f (t ∷ ts) = semicolon_by a f t.kind t ts
 
 abbrev pub Inner : Type 0
-Inner = Lexeme → List Lexeme → Part (List Entry)
+Inner = Lexeme → List Lexeme → Part (List (Entry (List Piece)))
 
 -- what follows a name: the end of a property without value, a value, or a body
-abbrev pub named_by : List ℕ → Inner → Bool → List (List ℕ) → List ℕ → Kind → Lexeme → List Lexeme → Part (Option Entry)
+abbrev pub named_by : List ℕ → Inner → Bool → List (List ℕ) → List ℕ → Kind → Lexeme → List Lexeme → Part (Option (Entry (List Piece)))
 named_by text inner false labels name Semicolon t ts = Ok (Some (Defines name []), None, ts)
 named_by text inner false labels name Equals t ts = do
   v ← value_at text ts
@@ -168,56 +168,56 @@ named_by text inner nodes labels name Brace t ts = do
   ended_by (Some (Child labels name (body_of b.0))) b.1 b.2
 named_by text inner nodes labels name _ t ts = Err (syntax_at (t ∷ ts))
 
-abbrev pub named_at : List ℕ → Inner → Bool → List (List ℕ) → List ℕ → List Lexeme → Part (Option Entry)
+abbrev pub named_at : List ℕ → Inner → Bool → List (List ℕ) → List ℕ → List Lexeme → Part (Option (Entry (List Piece)))
 named_at text inner nodes labels name [] = Err (syntax_at [])
 named_at text inner nodes labels name (t ∷ ts) = named_by text inner nodes labels name t.kind t ts
 
-abbrev pub deleted_by : List ℕ → (List ℕ → Entry) → Kind → Lexeme → List Lexeme → Part (Option Entry)
+abbrev pub deleted_by : List ℕ → (List ℕ → Entry (List Piece)) → Kind → Lexeme → List Lexeme → Part (Option (Entry (List Piece)))
 deleted_by text entry Name t ts = ended_by (Some (entry (name_bytes text t))) None ts
 deleted_by text entry _ t ts = Err (syntax_at (t ∷ ts))
 
 -- the name of what is deleted
-abbrev pub deleted_at : List ℕ → (List ℕ → Entry) → List Lexeme → Part (Option Entry)
+abbrev pub deleted_at : List ℕ → (List ℕ → Entry (List Piece)) → List Lexeme → Part (Option (Entry (List Piece)))
 deleted_at text entry [] = Err (syntax_at [])
 deleted_at text entry (t ∷ ts) = deleted_by text entry t.kind t ts
 
 -- Nothing but a name follows labels.
-abbrev pub bare_by : List ℕ → Bool → Kind → Lexeme → List Lexeme → Part (Option Entry)
+abbrev pub bare_by : List ℕ → Bool → Kind → Lexeme → List Lexeme → Part (Option (Entry (List Piece)))
 bare_by text nodes EndBrace t ts = Ok (None, None, ts)
 bare_by text false DeleteProperty t ts = deleted_at text Undefines ts
 bare_by text nodes DeleteNode t ts = deleted_at text Removes ts
 bare_by text nodes _ t ts = Err (syntax_at (t ∷ ts))
 
-abbrev pub unlabelled : List ℕ → Bool → List Lexeme → Kind → Lexeme → List Lexeme → Part (Option Entry)
+abbrev pub unlabelled : List ℕ → Bool → List Lexeme → Kind → Lexeme → List Lexeme → Part (Option (Entry (List Piece)))
 unlabelled text nodes [] k t ts = bare_by text nodes k t ts
 unlabelled text nodes (l ∷ ls) k t ts = Err (syntax_at (t ∷ ts))
 
-abbrev pub begun_by : List ℕ → Inner → Bool → List Lexeme → Kind → Lexeme → List Lexeme → Part (Option Entry)
+abbrev pub begun_by : List ℕ → Inner → Bool → List Lexeme → Kind → Lexeme → List Lexeme → Part (Option (Entry (List Piece)))
 begun_by text inner nodes labels Name t ts = named_at text inner nodes (map (label_bytes text) labels) (name_bytes text t) ts
 begun_by text inner nodes labels k t ts = unlabelled text nodes labels k t ts
 
-abbrev pub begun_at : List ℕ → Inner → Bool → List Lexeme → List Lexeme → Part (Option Entry)
+abbrev pub begun_at : List ℕ → Inner → Bool → List Lexeme → List Lexeme → Part (Option (Entry (List Piece)))
 begun_at text inner nodes labels [] = Err (syntax_at [])
 begun_at text inner nodes labels (t ∷ ts) = begun_by text inner nodes labels t.kind t ts
 
 -- a statement, or the end of the body
-unfoldable pub statement_at : List ℕ → Inner → Bool → List Lexeme → Part (Option Entry)
+unfoldable pub statement_at : List ℕ → Inner → Bool → List Lexeme → Part (Option (Entry (List Piece)))
 statement_at text inner nodes ts = let l = labels_at ts in begun_at text inner nodes l.0 l.1
 
 -- no property follows a node or the deletion of one
-abbrev pub after : Bool → Entry → Bool
+abbrev pub after : Bool → Entry (List Piece) → Bool
 after nodes (Defines name value) = nodes
 after nodes (Undefines name) = nodes
 after nodes (Child labels name body) = true
 after nodes (Removes name) = true
 
-abbrev pub statements_at : List ℕ → Inner → List Lexeme → Part (List Entry)
+abbrev pub statements_at : List ℕ → Inner → List Lexeme → Part (List (Entry (List Piece)))
 statements_at text inner ts = many after (statement_at text inner) (suc (length ts)) false ts
 
 -- a body whose brace was read, at most this deep
-unfoldable pub body_below : List ℕ → ℕ → Lexeme → List Lexeme → Part (List Entry)
+unfoldable pub body_below : List ℕ → ℕ → Lexeme → List Lexeme → Part (List (Entry (List Piece)))
 body_below text zero t ts = Err (too_deep t)
 body_below text (suc depth) t ts = statements_at text (body_below text depth) ts
 
-unfoldable pub body_at : List ℕ → ℕ → List Lexeme → Part (List Entry)
+unfoldable pub body_at : List ℕ → ℕ → List Lexeme → Part (List (Entry (List Piece)))
 body_at text depth ts = statements_at text (body_below text depth) ts

@@ -6,7 +6,7 @@ use Rattle.dt_lexeme.specs.declared.lexeme.Kind.{Kind}
 use Rattle.dt_lexeme.specs.declared.lexeme.Kind.TheVariants.{Comma}
 use Rattle.dt_expression.specs.Reading.{◌>>=◌}
 use Rattle.dt_source.specs.Reading.Several.{earlier, Part}
-use Rattle.dt_source.specs.Tree.{Piece}
+use Rattle.dt_meaning.specs.Syntax.{Piece}
 use Rattle.dt_source.specs.Reading.Values.{Built, put_all}
 
 -- what was read, put behind the parts that are there

@@ -9,7 +9,7 @@ use Rattle.dt_expression.specs.Values.{Value}
 use Rattle.dt_expression.specs.Reading.{◌>>=◌, Read, syntax_at}
 use Rattle.dt_expression.specs.ReadingExpressions.{primary_at}
 use Rattle.dt_source.specs.Reading.Several.{earlier, Part, many}
-use Rattle.dt_source.specs.Tree.{Edit, Rooted, Extends, Deletes, Meaning, Body, body_of}
+use Rattle.dt_meaning.specs.Syntax.{Piece, Body, body_of, Edit, Rooted, Extends, Deletes, Meaning}
 use Rattle.dt_source.specs.Pieces.{target_of, fault_in}
 use Rattle.dt_source.specs.Words.{label_bytes}
 use Rattle.dt_source.specs.Reading.Bodies.{labels_at, stays, ended_by, body_at}
@@ -71,14 +71,14 @@ reserve_at text ts = reserve_with text ts (labels_at ts).1
 unfoldable pub reserves_at : List ℕ → List Lexeme → Part (List (ℕ × ℕ))
 reserves_at text ts = many stays (λ s ts. reserve_at text ts) (suc (length ts)) tt ts >>= λ y. Ok (flat_map both_numbers y.0, y.1, y.2)
 
-abbrev pub brace_kind : List ℕ → Kind → Lexeme → List Lexeme → Part Body
+abbrev pub brace_kind : List ℕ → Kind → Lexeme → List Lexeme → Part (Body (List Piece))
 brace_kind text Brace t ts = do
   y ← body_at text body_limit ts
   ended_by (body_of y.0) y.1 y.2
 brace_kind text _ t ts = Err (syntax_at (t ∷ ts))
 
 -- the body of an item, and a semicolon
-unfoldable pub brace_at : List ℕ → List Lexeme → Part Body
+unfoldable pub brace_at : List ℕ → List Lexeme → Part (Body (List Piece))
 brace_at text [] = Err (syntax_at [])
 brace_at text (t ∷ ts) = brace_kind text t.kind t ts
 

@@ -1,4 +1,4 @@
-use Rattle.dt_resolve.specs.Said.{meaning_of}
+use Rattle.dt_source.specs.Meaning.{meaning_of}
 use Rattle.dt_build.proofs.BuildingSteps.{refused}
 use Rattle.dt_build.proofs.building.source_tree.Goals as goal
 

@@ -3,8 +3,7 @@ use Rattle.dt_source.specs.Tree.{target_view, views}
 use Rattle.dt_meaning.specs.Edits.{counted}
 use Rattle.dt_meaning.specs.Statements.{after_body, after_fragment, begun}
 use Rattle.dt_live.specs.Rows.{child_of, node_path}
-use Rattle.dt_edit.specs.Said as said
-use Rattle.dt_edit.specs.Said.{body_of, tree_of}
+use Rattle.dt_edit.specs.Said.{tree_of}
 use Rattle.dt_edit.proofs.Faults.{fault-same}
 use Rattle.dt_edit.proofs.FragmentSteps.{child-listed, child-unlisted, name-taken, fragment-made}
 use Rattle.dt_edit.proofs.adding.add_fragment.Goals as goal
@@ -13,7 +12,7 @@ pub returns-then-is_some-clause-item : goal.returns-then-is_some-clause-item
 returns-then-is_some-clause-item c =
     let old = c.args.live.now in
     let has : is_some (child_of old 0 c.args.name.now) ≡ true = sym (ap is_some c.child.ensures) ∙ sym c.is_some.ensures ∙ c.if-is_some.true in
-    name-taken (said.target_of (target_view c.args.target.now)) (body_of (views c.args.body.now)) c.args.name.now (counted c.args.made.now.count (tree_of old))
+    name-taken (target_view c.args.target.now) (views c.args.body.now) c.args.name.now (counted c.args.made.now.count (tree_of old))
     (child-listed old c.requires.sound c.args.name.now has)
 
 pub returns-in-Err-clause-item : goal.returns-in-Err-clause-item
@@ -21,8 +20,8 @@ returns-in-Err-clause-item c =
     let old = c.args.live.now in
     let mid = c.define_fragment.new.live in
     let made = c.args.made.now.count in
-    let t = said.target_of (target_view c.args.target.now) in
-    let body = body_of (views c.args.body.now) in
+    let t = target_view c.args.target.now in
+    let body = views c.args.body.now in
     let free : is_some (child_of old 0 c.args.name.now) ≡ false = sym (ap is_some c.child.ensures) ∙ sym c.is_some.ensures ∙ c.if-is_some.false in
     let p = node_path mid c.in_ok-overlay.overlay in
     let s = counted c.add.new.self.count (tree_of mid) in
@@ -36,8 +35,8 @@ returns-in-Ok-clause-item c =
     let old = c.args.live.now in
     let mid = c.define_fragment.new.live in
     let made = c.args.made.now.count in
-    let t = said.target_of (target_view c.args.target.now) in
-    let body = body_of (views c.args.body.now) in
+    let t = target_view c.args.target.now in
+    let body = views c.args.body.now in
     let free : is_some (child_of old 0 c.args.name.now) ≡ false = sym (ap is_some c.child.ensures) ∙ sym c.is_some.ensures ∙ c.if-is_some.false in
     let p = node_path mid c.in_ok-overlay.overlay in
     let s = counted c.add.new.self.count (tree_of mid) in

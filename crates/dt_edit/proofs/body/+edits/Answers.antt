@@ -7,7 +7,7 @@ use Rattle.dt_meaning.specs.Statements.{begun, after_entry, after_body}
 use Rattle.dt_live.specs.Rows.{node_path, property_stamp}
 use Rattle.dt_live.proofs.Climbs.{not-true}
 use Rattle.dt_live.proofs.Keeping.{below-not-itself}
-use Rattle.dt_edit.specs.Said.{body_of, entry_of, piece_of, tree_of}
+use Rattle.dt_edit.specs.Said.{tree_of}
 use Rattle.dt_edit.proofs.Admission.{child-done, child-keeps, child-marks, own-children, own-properties}
 use Rattle.dt_edit.proofs.Steps.{IsUnderWay, body-begun, body-goes-on, property-set, property-removed, child-removed, unmarked}
 use Rattle.dt_edit.proofs.Views.{view-undefines, view-removes, view-defines, view-child}
@@ -31,8 +31,8 @@ edit-returns-else-not-branch-clause-step t c x at =
     let r = property-set x old c.args.node c.args.stamp c.args.made.now.count at c.set_property.new.self name c.as_slice.result
     (not-true (property_stamp old c.args.node name == c.args.stamp) (sym e.first ∙ c.if-not-branch.false)) e.state e.stamps e.others in (
       r.0,
-      ap (λ s. after_entry (entry_of (view s)) p x) c.in-Property.is ∙ ap (λ s. after_entry (entry_of s) p x) (view-defines c.in-Property.name c.in-Property.value)
-          ∙ ap (λ ps. after_entry (Defines name (map piece_of (map part_view ps))) p x) (sym c.as_slice.ensures.value)
+      ap (λ s. after_entry (view s) p x) c.in-Property.is ∙ ap (λ s. after_entry s p x) (view-defines c.in-Property.name c.in-Property.value)
+          ∙ ap (λ ps. after_entry (Defines name (map part_view ps)) p x) (sym c.as_slice.ensures.value)
           ∙ r.1,
       r.2,
     )
@@ -42,14 +42,14 @@ edit-returns-in-DeleteProperty-clause-step t c x at =
     let old = c.args.live.now in
     let e = c.remove_property.ensures in
     let r = property-removed x old c.args.node c.args.stamp c.args.made.now.count at c.remove_property.new.self c.in-DeleteProperty.name.now e.state e.stamps e.others in
-    (r.0, ap (λ s. after_entry (entry_of (view s)) (node_path old c.args.node) x) c.in-DeleteProperty.is ∙ ap (λ s. after_entry (entry_of s) (node_path old c.args.node) x) (view-undefines c.in-DeleteProperty.name) ∙ r.1, r.2)
+    (r.0, ap (λ s. after_entry (view s) (node_path old c.args.node) x) c.in-DeleteProperty.is ∙ ap (λ s. after_entry s (node_path old c.args.node) x) (view-undefines c.in-DeleteProperty.name) ∙ r.1, r.2)
 
 pub edit-returns-in-DeleteNode-clause-step : goal.edit-returns-in-DeleteNode-clause-step
 edit-returns-in-DeleteNode-clause-step t c x at =
     let old = c.args.live.now in
     let e = c.remove_child.ensures in
     let r = child-removed x old c.args.node c.args.stamp c.args.made.now.count at c.remove_child.new.self c.in-DeleteNode.name.now e.state e.stamps e.others in
-    (r.0, ap (λ s. after_entry (entry_of (view s)) (node_path old c.args.node) x) c.in-DeleteNode.is ∙ ap (λ s. after_entry (entry_of s) (node_path old c.args.node) x) (view-removes c.in-DeleteNode.name) ∙ r.1, r.2)
+    (r.0, ap (λ s. after_entry (view s) (node_path old c.args.node) x) c.in-DeleteNode.is ∙ ap (λ s. after_entry s (node_path old c.args.node) x) (view-removes c.in-DeleteNode.name) ∙ r.1, r.2)
 
 pub edit-returns-in_ok-edit_child-in-Node-clause-step : goal.edit-returns-in_ok-edit_child-in-Node-clause-step
 edit-returns-in_ok-edit_child-in-Node-clause-step t c x at =
@@ -57,8 +57,8 @@ edit-returns-in_ok-edit_child-in-Node-clause-step t c x at =
     let name = c.in-Node.name.now in
     let r = c.in_ok-edit_child-in-Node.ensures.step x at in (
       r.0,
-      ap (λ s. after_entry (entry_of (view s)) p x) c.in-Node.is ∙ ap (λ s. after_entry (entry_of s) p x) (view-child c.in-Node.labels c.in-Node.name c.in-Node.body)
-          ∙ ap₂ (λ ls ss. after_entry (Child ls name (body_of (views ss))) p x) (sym c.as_slice-in-Node.ensures) (sym c.as_slice-in-Node-2.ensures.value)
+      ap (λ s. after_entry (view s) p x) c.in-Node.is ∙ ap (λ s. after_entry s p x) (view-child c.in-Node.labels c.in-Node.name c.in-Node.body)
+          ∙ ap₂ (λ ls ss. after_entry (Child ls name (views ss)) p x) (sym c.as_slice-in-Node.ensures) (sym c.as_slice-in-Node-2.ensures.value)
           ∙ r.1,
       r.2,
     )
@@ -68,7 +68,7 @@ edit_body-loop-statement-init t c =
     let old = c.args.live.now in
     let e = c.in-Some.ensures in
     let made = c.args.made.now.count in
-    let whole = body_of (views c.args.body.now) in (
+    let whole = views c.args.body.now in (
       begun (counted made (tree_of old)),
       subst (λ (n : ℕ). IsUnderWay (begun (counted made (tree_of old))) old c.new_stamp.new.self c.args.node n made whole whole) (sym e.stamp)
           (body-begun old c.new_stamp.new.self c.args.node made whole e.rest (e.new refl) c.requires.sound c.requires.stamped),
@@ -85,9 +85,9 @@ edit_body-loop-statement-preserved t c =
     let next : drop at body ≡ c.statement-item.result ∷ drop (at + 1) body =
     drop-cons body at c.statement-item.result within ∙ ap₂ (λ a n. a ∷ drop n body) (sym c.statement-item.is) (sym (add-one at)) in (
       r.0,
-      body-goes-on i.0 r.0 c.args.live.now c.loop-statement.live c.edit.new.live c.args.node c.in-Some.stamp c.args.made.now.count (body_of (views c.args.body.now))
-          (body_of (views (drop (c.loop-statement.statement-index + 1) c.args.body.now))) (entry_of (view c.statement-item.result)) c.requires.known
-          (subst (λ ss. IsUnderWay i.0 c.args.live.now c.loop-statement.live c.args.node c.in-Some.stamp c.args.made.now.count (body_of (views body)) (body_of (views ss))) next i.1) e.sound e.stamped e.counted e.kept e.marks r.1 r.2,
+      body-goes-on i.0 r.0 c.args.live.now c.loop-statement.live c.edit.new.live c.args.node c.in-Some.stamp c.args.made.now.count (views c.args.body.now)
+          (views (drop (c.loop-statement.statement-index + 1) c.args.body.now)) (view c.statement-item.result) c.requires.known
+          (subst (λ ss. IsUnderWay i.0 c.args.live.now c.loop-statement.live c.args.node c.in-Some.stamp c.args.made.now.count (views body) (views ss)) next i.1) e.sound e.stamped e.counted e.kept e.marks r.1 r.2,
     )
 
 pub edit_body-edit-requires : goal.edit_body-edit-requires
@@ -132,7 +132,7 @@ edit_child-returns-clause-step t c x at =
     let three = c.edit_body.new.live in
     let e = c.in_ok-child.ensures in
     let ls = map (λ l. l.now) c.args.labels.now in
-    let body = body_of (views c.args.body.now) in
+    let body = views c.args.body.now in
     let made = c.args.made.now.count in
     child-done x old two c.args.node c.args.stamp made ls c.args.name.now body at (e.step x at) three
     (ap (λ r. after_body body r (begun (counted made (tree_of two)))) (sym e.path) ∙ c.in_ok-edit_body.ensures.body)

@@ -3,13 +3,12 @@ use Rattle.dt_tree.specs.declared.limits.TheConstants.{MAX_DEPTH}
 use Rattle.dt_source.specs.Tree.{views}
 use Rattle.dt_meaning.specs.Syntax.{Piece}
 use Rattle.dt_meaning.specs.Statements.{Progress}
-use Rattle.dt_edit.specs.Said.{body_of}
 use Rattle.dt_edit.proofs.Steps.{IsUnderWay}
 use Rattle.dt_edit.proofs.body.+edits.Given as goal
 
 abbrev pub invariant-edit_body-loop-statement : goal.invariant-edit_body-loop-statement
 invariant-edit_body-loop-statement l =
-    (x : Progress (List Piece)) × IsUnderWay x l.fn.live l.live l.node l.stamp l.made.count (body_of (views l.body)) (body_of (views (drop l.statement-index l.body)))
+    (x : Progress (List Piece)) × IsUnderWay x l.fn.live l.live l.node l.stamp l.made.count (views l.body) (views (drop l.statement-index l.body))
 
 -- each body is one level deeper, down to MAX_DEPTH
 abbrev pub decreases-edit : goal.decreases-edit

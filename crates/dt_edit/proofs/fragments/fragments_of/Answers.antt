@@ -3,7 +3,6 @@ use Rattle.std.proofs.Math.Seq.{drop-cons}
 use Rattle.std.specs.List.{flat_map}
 use Rattle.dt_source.specs.Tree.{item_view}
 use Rattle.dt_edit.specs.Fragments.{target_values}
-use Rattle.dt_edit.specs.Said.{item_of}
 use Rattle.dt_edit.proofs.Collecting.{lawful-at, targets-more}
 use Rattle.dt_edit.proofs.Readiness.{value_of}
 use Rattle.dt_edit.proofs.fragments.fragments_of.Goals as goal
@@ -27,7 +26,7 @@ loop-item-preserved c =
     let next : drop at items ≡ item ∷ drop (at + 1) items = drop-cons items at item within ∙ ap₂ (λ a n. a ∷ drop n items) (sym c.item-item.is) (sym (add-one at)) in
     record {
       names = e.even;
-      targets = targets-more old.targets.items c.add_item.new.self.targets.items (item_of (item_view item)) (map item_of (map item_view (drop (at + 1) items)))
-          (flat_map target_values (map item_of (map item_view items))) e.targets
-          (ap (λ xs. map value_of old.targets.items ++ flat_map target_values (map item_of (map item_view xs))) (sym next) ∙ i.targets);
+      targets = targets-more old.targets.items c.add_item.new.self.targets.items (item_view item) (map item_view (drop (at + 1) items))
+          (flat_map target_values (map item_view items)) e.targets
+          (ap (λ xs. map value_of old.targets.items ++ flat_map target_values (map item_view xs)) (sym next) ∙ i.targets);
     }

@@ -4,8 +4,7 @@ use Rattle.dt_source.specs.Tree.{item_view, labels_view, part_view, target_view,
 use Rattle.dt_meaning.specs.Edits.{counted}
 use Rattle.dt_meaning.specs.Statements.{after_fragment, after_item}
 use Rattle.dt_edit.specs.Private.Ready.{IsReady}
-use Rattle.dt_edit.specs.Said as said
-use Rattle.dt_edit.specs.Said.{body_of, item_of, tree_of}
+use Rattle.dt_edit.specs.Said.{tree_of}
 use Rattle.dt_edit.proofs.Faults.{fault-same}
 use Rattle.dt_edit.proofs.FragmentSteps.{item-adds}
 use Rattle.dt_edit.proofs.Readiness.{target-ready, name-ready, name-within}
@@ -16,11 +15,11 @@ index-requires c =
     let f = c.args.fragments.now in
     let met = c.args.extension in
     let made = c.args.made.now.count in
-    let left = item_of (item_view c.args.item.now) ∷ c.requires.ready.0 in
+    let left = item_view c.args.item.now ∷ c.requires.ready.0 in
     let ls = labels_view c.in-Extend.labels in
-    let t = said.target_of (target_view c.in-Extend.target) in
-    let body = body_of (views c.in-Extend.body.items) in
-    let next = target-ready f met c.requires.ready.0 ls t body (subst (λ (i : Item). IsReady f met (item_of (item_view i) ∷ c.requires.ready.0)) c.in-Extend.is c.requires.ready.1) in
+    let t = target_view c.in-Extend.target in
+    let body = views c.in-Extend.body.items in
+    let next = target-ready f met c.requires.ready.0 ls t body (subst (λ (i : Item). IsReady f met (item_view i ∷ c.requires.ready.0)) c.in-Extend.is c.requires.ready.1) in
     omega (arith, name-within f met made left c.requires.ready.1 (omega (arith, next.0, c.requires.counted)), f.names.ok)
 
 pub add_fragment-requires-clause-name : goal.add_fragment-requires-clause-name
@@ -28,11 +27,11 @@ add_fragment-requires-clause-name c =
     let f = c.args.fragments.now in
     let met = c.args.extension in
     let made = c.args.made.now.count in
-    let left = item_of (item_view c.args.item.now) ∷ c.requires.ready.0 in
+    let left = item_view c.args.item.now ∷ c.requires.ready.0 in
     let ls = labels_view c.in-Extend.labels in
-    let t = said.target_of (target_view c.in-Extend.target) in
-    let body = body_of (views c.in-Extend.body.items) in
-    let next = target-ready f met c.requires.ready.0 ls t body (subst (λ (i : Item). IsReady f met (item_of (item_view i) ∷ c.requires.ready.0)) c.in-Extend.is c.requires.ready.1) in
+    let t = target_view c.in-Extend.target in
+    let body = views c.in-Extend.body.items in
+    let next = target-ready f met c.requires.ready.0 ls t body (subst (λ (i : Item). IsReady f met (item_view i ∷ c.requires.ready.0)) c.in-Extend.is c.requires.ready.1) in
     name-ready f met made left c.requires.ready.1 (omega (arith, next.0, c.requires.counted)) c.as_slice-name.result.now c.index.result.now (c.as_slice-name.ensures.value ∙ ap (λ v. v.items) c.index.ensures)
 
 pub add_fragment-requires-clause-value : goal.add_fragment-requires-clause-value
@@ -40,28 +39,28 @@ add_fragment-requires-clause-value c =
     let f = c.args.fragments.now in
     let met = c.args.extension in
     let made = c.args.made.now.count in
-    let left = item_of (item_view c.args.item.now) ∷ c.requires.ready.0 in
+    let left = item_view c.args.item.now ∷ c.requires.ready.0 in
     let ls = labels_view c.in-Extend.labels in
-    let t = said.target_of (target_view c.in-Extend.target) in
-    let body = body_of (views c.in-Extend.body.items) in
-    let next = target-ready f met c.requires.ready.0 ls t body (subst (λ (i : Item). IsReady f met (item_of (item_view i) ∷ c.requires.ready.0)) c.in-Extend.is c.requires.ready.1) in
-    ap (λ ps. map said.piece_of (map part_view ps)) (c.as_slice-value.ensures.value ∙ ap (λ v. v.items) c.index-then-makes_fragment.ensures) ∙ next.1 c.index-then-makes_fragment.result.now
+    let t = target_view c.in-Extend.target in
+    let body = views c.in-Extend.body.items in
+    let next = target-ready f met c.requires.ready.0 ls t body (subst (λ (i : Item). IsReady f met (item_view i ∷ c.requires.ready.0)) c.in-Extend.is c.requires.ready.1) in
+    ap (map part_view) (c.as_slice-value.ensures.value ∙ ap (λ v. v.items) c.index-then-makes_fragment.ensures) ∙ next.1 c.index-then-makes_fragment.result.now
 
 pub returns-in-Ok-clause-item : goal.returns-in-Ok-clause-item
 returns-in-Ok-clause-item c =
     let f = c.args.fragments.now in
     let met = c.args.extension in
     let made = c.args.made.now.count in
-    let left = item_of (item_view c.args.item.now) ∷ c.requires.ready.0 in
+    let left = item_view c.args.item.now ∷ c.requires.ready.0 in
     let ls = labels_view c.in-Extend.labels in
-    let t = said.target_of (target_view c.in-Extend.target) in
-    let body = body_of (views c.in-Extend.body.items) in
-    let next = target-ready f met c.requires.ready.0 ls t body (subst (λ (i : Item). IsReady f met (item_of (item_view i) ∷ c.requires.ready.0)) c.in-Extend.is c.requires.ready.1) in
+    let t = target_view c.in-Extend.target in
+    let body = views c.in-Extend.body.items in
+    let next = target-ready f met c.requires.ready.0 ls t body (subst (λ (i : Item). IsReady f met (item_view i ∷ c.requires.ready.0)) c.in-Extend.is c.requires.ready.1) in
     let s = tree_of c.args.live.now in
     let named = name-ready f met made left c.requires.ready.1 (omega (arith, next.0, c.requires.counted)) c.as_slice-name.result.now c.index.result.now (c.as_slice-name.ensures.value ∙ ap (λ v. v.items) c.index.ensures) in
-    ap (λ i. after_item c.args.plugin (item_of (item_view i)) (counted made s)) c.in-Extend.is
+    ap (λ i. after_item c.args.plugin (item_view i) (counted made s)) c.in-Extend.is
     ∙ item-adds c.args.plugin ls t body made s c.as_slice-name.result.now (sym c.makes_fragment.ensures ∙ c.if-makes_fragment.true) named
-    ∙ ap (λ ss. after_fragment t (body_of (views ss)) c.as_slice-name.result.now (counted made s)) (sym c.as_slice-then-makes_fragment.ensures.value)
+    ∙ ap (λ ss. after_fragment t (views ss) c.as_slice-name.result.now (counted made s)) (sym c.as_slice-then-makes_fragment.ensures.value)
     ∙ c.in-Ok.ensures.item
 
 pub returns-in-Err-clause-item : goal.returns-in-Err-clause-item
@@ -69,15 +68,15 @@ returns-in-Err-clause-item c =
     let f = c.args.fragments.now in
     let met = c.args.extension in
     let made = c.args.made.now.count in
-    let left = item_of (item_view c.args.item.now) ∷ c.requires.ready.0 in
+    let left = item_view c.args.item.now ∷ c.requires.ready.0 in
     let ls = labels_view c.in-Extend.labels in
-    let t = said.target_of (target_view c.in-Extend.target) in
-    let body = body_of (views c.in-Extend.body.items) in
-    let next = target-ready f met c.requires.ready.0 ls t body (subst (λ (i : Item). IsReady f met (item_of (item_view i) ∷ c.requires.ready.0)) c.in-Extend.is c.requires.ready.1) in
+    let t = target_view c.in-Extend.target in
+    let body = views c.in-Extend.body.items in
+    let next = target-ready f met c.requires.ready.0 ls t body (subst (λ (i : Item). IsReady f met (item_view i ∷ c.requires.ready.0)) c.in-Extend.is c.requires.ready.1) in
     let s = tree_of c.args.live.now in
     let named = name-ready f met made left c.requires.ready.1 (omega (arith, next.0, c.requires.counted)) c.as_slice-name.result.now c.index.result.now (c.as_slice-name.ensures.value ∙ ap (λ v. v.items) c.index.ensures) in
     fault-same c.in-Err.error _ _
-    (ap (λ i. after_item c.args.plugin (item_of (item_view i)) (counted made s)) c.in-Extend.is
+    (ap (λ i. after_item c.args.plugin (item_view i) (counted made s)) c.in-Extend.is
     ∙ item-adds c.args.plugin ls t body made s c.as_slice-name.result.now (sym c.makes_fragment.ensures ∙ c.if-makes_fragment.true) named
-    ∙ ap (λ ss. after_fragment t (body_of (views ss)) c.as_slice-name.result.now (counted made s)) (sym c.as_slice-then-makes_fragment.ensures.value))
+    ∙ ap (λ ss. after_fragment t (views ss) c.as_slice-name.result.now (counted made s)) (sym c.as_slice-then-makes_fragment.ensures.value))
     c.in-Err.ensures.item

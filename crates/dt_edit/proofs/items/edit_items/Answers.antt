@@ -6,7 +6,7 @@ use Rattle.dt_source.specs.Tree.{item_view}
 use Rattle.dt_meaning.specs.Edits.{counted}
 use Rattle.dt_meaning.specs.Statements.{after_item, after_items, then_do}
 use Rattle.dt_edit.specs.Private.Ready.{IsReady}
-use Rattle.dt_edit.specs.Said.{item_of, tree_of}
+use Rattle.dt_edit.specs.Said.{tree_of}
 use Rattle.dt_edit.proofs.Faults.{fault-same, fault-then}
 use Rattle.dt_edit.proofs.ItemSteps.{items-go-on}
 use Rattle.dt_edit.proofs.Readiness.{ready-next}
@@ -19,12 +19,12 @@ loop-item-preserved c =
     let at = c.loop-item.item-index in
     let items = c.args.items.now in
     let f = c.args.fragments.now in
-    let item = item_of (item_view c.item-item.result) in
-    let left = map item_of (map item_view (drop (at + 1) items)) in
+    let item = item_view c.item-item.result in
+    let left = map item_view (drop (at + 1) items) in
     let more = c.extensions_in-extensions.ensures.count in
     let within : at < length items = omega arith in
     let next : drop at items ≡ c.item-item.result ∷ drop (at + 1) items = drop-cons items at c.item-item.result within ∙ ap₂ (λ a n. a ∷ drop n items) (sym c.item-item.is) (sym (add-one at)) in
-    let ready = subst (λ (xs : List Item). IsReady f c.loop-item.extensions (map item_of (map item_view xs))) next i.ready in
+    let ready = subst (λ (xs : List Item). IsReady f c.loop-item.extensions (map item_view xs)) next i.ready in
     record {
       sound = e.sound;
       stamped = e.stamped;
@@ -32,8 +32,8 @@ loop-item-preserved c =
       count = omega (arith, e.counted, more);
       ready = subst (λ (n : ℕ). IsReady f (c.loop-item.extensions + n) left) (sym more) (ready-next f c.loop-item.extensions item left ready);
       rest = items-go-on c.args.plugin item left (counted c.loop-item.made.count (tree_of c.loop-item.live)) (counted c.edit_item.new.made.count (tree_of c.edit_item.new.live))
-          (after_items c.args.plugin (map item_of (map item_view items)) (tree_of c.args.live.now))
-          (sym (ap (λ xs. after_items c.args.plugin (map item_of (map item_view xs)) (counted c.loop-item.made.count (tree_of c.loop-item.live))) next) ∙ i.rest) e.item;
+          (after_items c.args.plugin (map item_view items) (tree_of c.args.live.now))
+          (sym (ap (λ xs. after_items c.args.plugin (map item_view xs) (counted c.loop-item.made.count (tree_of c.loop-item.live))) next) ∙ i.rest) e.item;
     }
 
 pub edit_item-requires-clause-ready : goal.edit_item-requires-clause-ready
@@ -41,14 +41,14 @@ edit_item-requires-clause-ready c =
     let at = c.loop-item.item-index in
     let items = c.args.items.now in
     let next : drop at items ≡ c.item-item.result ∷ drop (at + 1) items = drop-cons items at c.item-item.result c.loop-item-test.true ∙ ap₂ (λ a n. a ∷ drop n items) (sym c.item-item.is) (sym (add-one at)) in
-    (map item_of (map item_view (drop (at + 1) items)), subst (λ (xs : List Item). IsReady c.args.fragments.now c.loop-item.extensions (map item_of (map item_view xs))) next c.loop-item.invariant.ready)
+    (map item_view (drop (at + 1) items), subst (λ (xs : List Item). IsReady c.args.fragments.now c.loop-item.extensions (map item_view xs)) next c.loop-item.invariant.ready)
 
 pub returns-clause-items : goal.returns-clause-items
 returns-clause-items c =
     let made = c.loop-item.made.count in (
       made,
       sym c.loop-item.invariant.rest
-          ∙ at_drop_all (λ (xs : List Item). after_items c.args.plugin (map item_of (map item_view xs)) (counted made (tree_of c.loop-item.live))) c.args.items.now c.loop-item.item-index c.loop-item-test.false,
+          ∙ at_drop_all (λ (xs : List Item). after_items c.args.plugin (map item_view xs) (counted made (tree_of c.loop-item.live))) c.args.items.now c.loop-item.item-index c.loop-item-test.false,
     )
 
 pub returns-in-Err-clause-items : goal.returns-in-Err-clause-items
@@ -56,10 +56,10 @@ returns-in-Err-clause-items c =
     let plugin = c.args.plugin in
     let at = c.loop-item.item-index in
     let items = c.args.items.now in
-    let item = item_of (item_view c.item-item.result) in
-    let left = map item_of (map item_view (drop (at + 1) items)) in
+    let item = item_view c.item-item.result in
+    let left = map item_view (drop (at + 1) items) in
     let state = counted c.loop-item.made.count (tree_of c.loop-item.live) in
     let next : drop at items ≡ c.item-item.result ∷ drop (at + 1) items = drop-cons items at c.item-item.result c.loop-item-test.true ∙ ap₂ (λ a n. a ∷ drop n items) (sym c.item-item.is) (sym (add-one at)) in
-    fault-same c.in-Err.error (then_do (after_item plugin item state) (after_items plugin left)) (after_items plugin (map item_of (map item_view items)) (tree_of c.args.live.now))
-    (sym c.loop-item.invariant.rest ∙ ap (λ xs. after_items plugin (map item_of (map item_view xs)) state) next)
+    fault-same c.in-Err.error (then_do (after_item plugin item state) (after_items plugin left)) (after_items plugin (map item_view items) (tree_of c.args.live.now))
+    (sym c.loop-item.invariant.rest ∙ ap (λ xs. after_items plugin (map item_view xs) state) next)
     (fault-then c.in-Err.error (after_item plugin item state) (after_items plugin left) c.in-Err.ensures.item)

@@ -5,7 +5,7 @@ use Rattle.dt_meaning.specs.Statements.{after_items}
 use Rattle.dt_live.specs.Rows.{IsLiveTree, IsStamped}
 use Rattle.dt_edit.specs.Private.Made.{IsExact}
 use Rattle.dt_edit.specs.Private.Ready.{IsReady}
-use Rattle.dt_edit.specs.Said.{item_of, tree_of}
+use Rattle.dt_edit.specs.Said.{tree_of}
 use Rattle.dt_edit.proofs.items.edit_items.Given as goal
 
 abbrev pub invariant-loop-item : goal.invariant-loop-item
@@ -14,7 +14,7 @@ invariant-loop-item l = record {
   stamped : IsStamped l.live;
   exact : IsExact l.made;
   count : l.made.count ≤ l.extensions;
-  ready : IsReady l.fragments l.extensions (map item_of (map item_view (drop l.item-index l.items)));
-  rest : after_items l.plugin (map item_of (map item_view (drop l.item-index l.items))) (counted l.made.count (tree_of l.live))
-      ≡ after_items l.plugin (map item_of (map item_view l.items)) (tree_of l.fn.live);
+  ready : IsReady l.fragments l.extensions (map item_view (drop l.item-index l.items));
+  rest : after_items l.plugin (map item_view (drop l.item-index l.items)) (counted l.made.count (tree_of l.live))
+      ≡ after_items l.plugin (map item_view l.items) (tree_of l.fn.live);
 }

@@ -5,8 +5,7 @@ use Rattle.dt_meaning.specs.Statements as meaning
 use Rattle.dt_meaning.specs.Statements.{after_body, after_item, begun}
 use Rattle.dt_meaning.specs.Syntax.{Extends}
 use Rattle.dt_live.specs.Rows.{node_path, path_of, state_of}
-use Rattle.dt_edit.specs.Said as said
-use Rattle.dt_edit.specs.Said.{body_of, tree_of}
+use Rattle.dt_edit.specs.Said.{tree_of}
 use Rattle.dt_edit.proofs.Faults.{fault-same, fault-error, label-says}
 use Rattle.dt_edit.proofs.ItemSteps.{extended, extend-labelled}
 use Rattle.dt_edit.proofs.items.extend.Goals as goal
@@ -15,9 +14,9 @@ pub returns-in-Err-clause-item : goal.returns-in-Err-clause-item
 returns-in-Err-clause-item c =
     let old = c.args.live.now in
     let made = c.args.made.now.count in
-    let t = said.target_of (target_view c.args.target.now) in
+    let t = target_view c.args.target.now in
     let ls = labels_view c.args.labels.now in
-    let body = body_of (views c.args.body.now) in
+    let body = views c.args.body.now in
     let p = node_path old c.in_ok-node.node in
     let r = after_item false (Extends ls t body) (counted made (tree_of old)) in
     fault-error c.of_label.result _ r c.of_label.ensures
@@ -29,9 +28,9 @@ returns-in-Err-edit_body-clause-item c =
     let old = c.args.live.now in
     let made = c.args.made.now.count in
     let mid = c.give_labels.new.self in
-    let t = said.target_of (target_view c.args.target.now) in
+    let t = target_view c.args.target.now in
     let ls = labels_view c.args.labels.now in
-    let body = body_of (views c.args.body.now) in
+    let body = views c.args.body.now in
     let node = c.in_ok-node.node in
     let p = node_path old node in
     let given : meaning.give_labels ls p (state_of old) ≡ Ok (state_of mid) = ap (λ xs. meaning.give_labels xs p (state_of old)) (sym c.as_slice.ensures) ∙ c.in_default.ensures.given in
@@ -44,9 +43,9 @@ returns-in-Ok-clause-item c =
     let old = c.args.live.now in
     let made = c.args.made.now.count in
     let mid = c.give_labels.new.self in
-    let t = said.target_of (target_view c.args.target.now) in
+    let t = target_view c.args.target.now in
     let ls = labels_view c.args.labels.now in
-    let body = body_of (views c.args.body.now) in
+    let body = views c.args.body.now in
     let node = c.in_ok-node.node in
     let p = node_path old node in
     let given : meaning.give_labels ls p (state_of old) ≡ Ok (state_of mid) = ap (λ xs. meaning.give_labels xs p (state_of old)) (sym c.as_slice.ensures) ∙ c.in_default.ensures.given in

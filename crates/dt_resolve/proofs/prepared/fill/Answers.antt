@@ -1,5 +1,5 @@
 use Rattle.std.proofs.Common.{refl}
-use Rattle.dt_resolve.specs.Said.{meaning_of}
+use Rattle.dt_source.specs.Meaning.{meaning_of}
 use Rattle.dt_resolve.proofs.prepared.fill.Goals as goal
 
 pub returns-in-Ok : goal.returns-in-Ok

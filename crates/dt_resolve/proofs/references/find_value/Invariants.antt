@@ -1,10 +1,10 @@
 use Rattle.std.proofs.Common.{List, map, drop}
 use Rattle.dt_source.specs.Tree.{part_view}
 use Rattle.dt_meaning.specs.References.{Found}
-use Rattle.dt_edit.specs.Said.{piece_of, tree_of}
+use Rattle.dt_edit.specs.Said.{tree_of}
 use Rattle.dt_resolve.proofs.FindingSteps.{IsFinding}
 use Rattle.dt_resolve.proofs.references.find_value.Given as goal
 
 abbrev pub invariant-loop-part : goal.invariant-loop-part
 invariant-loop-part l =
-    (fs : List Found) × IsFinding l.plugin l.live (tree_of l.live) fs (map piece_of (map part_view (drop l.part-index l.value))) (map piece_of (map part_view l.value)) l.fn.targets l.targets
+    (fs : List Found) × IsFinding l.plugin l.live (tree_of l.live) fs (map part_view (drop l.part-index l.value)) (map part_view l.value) l.fn.targets l.targets

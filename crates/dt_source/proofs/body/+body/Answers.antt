@@ -11,7 +11,8 @@ use Rattle.dt_lexeme.specs.declared.lexeme.ReadError.TheVariants as errors
 use Rattle.dt_expression.specs.Reading.{◌>>=◌}
 use Rattle.dt_source.specs.declared.tree.Statement.{Statement}
 use Rattle.dt_source.specs.Reading.Several.{Fails}
-use Rattle.dt_source.specs.Tree.{Piece, Entry, Defines, Child, body_of, view}
+use Rattle.dt_meaning.specs.Syntax.{Piece, Entry, Defines, Child, body_of}
+use Rattle.dt_source.specs.Tree.{view}
 use Rattle.dt_source.specs.Words.{label_bytes, name_bytes}
 use Rattle.dt_source.specs.Reading.Bodies.{Inner, labels_at, value_at, ended_by, named_by, named_at, begun_by, begun_at, unlabelled, statement_at, body_below, body_at}
 use Rattle.dt_source.proofs.StatementLoops.{statements_begin, statements_more, statements_end, statements_fail, body_below_none, body_below_some}
@@ -83,19 +84,19 @@ value_fails : (text : List ℕ) (inner : Inner) (nodes : Bool) (labels : List (L
 value_fails text inner nodes labels name ts d errors.NoMemory h k n e = tt
 value_fails text inner nodes labels name ts d (errors.Refused r) h k n e = valued text inner nodes labels name ts d h k n ∙ rw e refl
 
-value_ends : (text : List ℕ) (inner : Inner) (nodes : Bool) (labels : List (List ℕ)) (name : List ℕ) (ts : List Lexeme) (d : Lexeme) (v : List Piece) (f : Option Fault) (rest : List Lexeme) (s : Entry) → 1 ≤ length ts → (get_or ts 0 d).kind ≡ Equals → nodes ≡ false
+value_ends : (text : List ℕ) (inner : Inner) (nodes : Bool) (labels : List (List ℕ)) (name : List ℕ) (ts : List Lexeme) (d : Lexeme) (v : List Piece) (f : Option Fault) (rest : List Lexeme) (s : Entry (List Piece)) → 1 ≤ length ts → (get_or ts 0 d).kind ≡ Equals → nodes ≡ false
     → value_at text (take (length ts - 1) (drop 1 ts)) ≡ Ok (v, f, rest) → s ≡ Defines name v → named_at text inner nodes labels name ts ≡ ended_by (Some s) f rest
-value_ends text inner nodes labels name ts d v f rest s h k n e p = valued text inner nodes labels name ts d h k n ∙ rw e (ap (λ (z : Entry). ended_by (Some z) f rest) (sym p))
+value_ends text inner nodes labels name ts d v f rest s h k n e p = valued text inner nodes labels name ts d h k n ∙ rw e (ap (λ (z : Entry (List Piece)). ended_by (Some z) f rest) (sym p))
 
 body_fails : (text : List ℕ) (inner : Inner) (nodes : Bool) (labels : List (List ℕ)) (name : List ℕ) (ts : List Lexeme) (d : Lexeme) (x : ReadError) → 1 ≤ length ts → (get_or ts 0 d).kind ≡ Brace
     → Fails x (inner (get_or ts 0 d) (take (length ts - 1) (drop 1 ts))) → Fails x (named_at text inner nodes labels name ts)
 body_fails text inner nodes labels name ts d errors.NoMemory h k e = tt
 body_fails text inner nodes labels name ts d (errors.Refused r) h k e = braced text inner nodes labels name ts d h k ∙ rw e refl
 
-body_ends : (text : List ℕ) (inner : Inner) (nodes : Bool) (labels ls : List (List ℕ)) (name : List ℕ) (ts : List Lexeme) (d : Lexeme) (es : List Entry) (f : Option Fault) (rest : List Lexeme) (s : Entry) → 1 ≤ length ts → (get_or ts 0 d).kind ≡ Brace
+body_ends : (text : List ℕ) (inner : Inner) (nodes : Bool) (labels ls : List (List ℕ)) (name : List ℕ) (ts : List Lexeme) (d : Lexeme) (es : List (Entry (List Piece))) (f : Option Fault) (rest : List Lexeme) (s : Entry (List Piece)) → 1 ≤ length ts → (get_or ts 0 d).kind ≡ Brace
     → inner (get_or ts 0 d) (take (length ts - 1) (drop 1 ts)) ≡ Ok (es, f, rest) → ls ≡ labels → s ≡ Child ls name (body_of es) → named_at text inner nodes labels name ts ≡ ended_by (Some s) f rest
 body_ends text inner nodes labels ls name ts d es f rest s h k e q p =
-    braced text inner nodes labels name ts d h k ∙ rw e (ap (λ (z : Entry). ended_by (Some z) f rest) (ap (λ (l : List (List ℕ)). Child l name (body_of es)) (sym q) ∙ sym p))
+    braced text inner nodes labels name ts d h k ∙ rw e (ap (λ (z : Entry (List Piece)). ended_by (Some z) f rest) (ap (λ (l : List (List ℕ)). Child l name (body_of es)) (sym q) ∙ sym p))
 
 stated : (text : List ℕ) (inner : Inner) (nodes : Bool) (ts : List Lexeme) (l : List Lexeme × List Lexeme) → l ≡ labels_at ts → statement_at text inner nodes ts ≡ begun_at text inner nodes l.0 l.1
 unfolding statement_at

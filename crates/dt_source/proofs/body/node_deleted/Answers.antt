@@ -1,4 +1,4 @@
-use Rattle.dt_source.specs.Tree.{Removes}
+use Rattle.dt_meaning.specs.Syntax.{Removes}
 use Rattle.dt_source.proofs.Deletions.{named, unnamed}
 use Rattle.dt_source.proofs.body.node_deleted.Goals as goal
 

@@ -1,4 +1,4 @@
-use Rattle.dt_source.specs.Tree.{Undefines}
+use Rattle.dt_meaning.specs.Syntax.{Undefines}
 use Rattle.dt_source.proofs.Deletions.{named, unnamed}
 use Rattle.dt_source.proofs.body.property_deleted.Goals as goal
 

@@ -10,7 +10,7 @@ use Rattle.dt_lexeme.specs.declared.lexeme.ReadError.TheVariants as errors
 use Rattle.dt_expression.specs.Reading.{◌>>=◌, syntax_at}
 use Rattle.dt_source.specs.declared.body.TheConstants.{MAX_BODY_DEPTH}
 use Rattle.dt_source.specs.Reading.Several.{Part, Fails}
-use Rattle.dt_source.specs.Tree.{Body, Entry, body_of}
+use Rattle.dt_meaning.specs.Syntax.{Piece, Entry, Body, body_of}
 use Rattle.dt_source.specs.Reading.Bodies.{body_at, ended_by}
 use Rattle.dt_source.specs.Reading.Whole.{brace_kind, brace_at}
 use Rattle.dt_source.proofs.source.brace.Goals as goal
@@ -20,7 +20,7 @@ unfolding brace_at
 inner text [] d h k = absurd (omega arith)
 inner text (t ∷ ts) d h k = ap (λ (x : Kind). brace_kind text x t ts) k ∙ ap (λ (x : List Lexeme). brace_kind text Brace t x) (sym (take_rest (t ∷ ts) 1))
 
-fails : (x : ReadError) (read : Part (List Entry)) → Fails x read → Fails x (◌>>=◌ {B = Body × Option Fault × List Lexeme} read (λ y. ended_by (body_of y.0) y.1 y.2))
+fails : (x : ReadError) (read : Part (List (Entry (List Piece)))) → Fails x read → Fails x (◌>>=◌ {B = Body (List Piece) × Option Fault × List Lexeme} read (λ y. ended_by (body_of y.0) y.1 y.2))
 fails errors.NoMemory read e = tt
 fails (errors.Refused r) read e = rw e refl
 

@@ -4,7 +4,7 @@ use Rattle.dt_lexeme.specs.declared.lexeme.Lexeme.{Lexeme}
 use Rattle.dt_lexeme.specs.declared.lexeme.Kind.{Kind}
 use Rattle.dt_lexeme.specs.declared.lexeme.Kind.TheVariants.{Reference, PathReference}
 use Rattle.dt_expression.specs.Reading.{syntax_at}
-use Rattle.dt_source.specs.Tree.{Deletes}
+use Rattle.dt_meaning.specs.Syntax.{Deletes}
 use Rattle.dt_source.specs.Pieces.{target_of}
 use Rattle.dt_source.specs.Reading.Bodies.{ended_by}
 use Rattle.dt_source.specs.Reading.Whole.{delete_kind, delete_at}

@@ -4,7 +4,7 @@ use Rattle.dt_lexeme.specs.declared.lexeme.Fault.{Fault}
 use Rattle.dt_lexeme.specs.declared.lexeme.Refusal.{Refusal}
 use Rattle.dt_expression.specs.Reading.{◌>>=◌}
 use Rattle.dt_source.specs.Reading.Several.{earlier, Part}
-use Rattle.dt_source.specs.Tree.{Edit, Meaning}
+use Rattle.dt_meaning.specs.Syntax.{Edit, Meaning}
 use Rattle.dt_source.specs.Reading.Whole.{some_header, headers_at, reserves_at, items_at, source_at}
 use Rattle.dt_source.proofs.source.source.Goals as goal
 

@@ -1,8 +1,7 @@
 -- One source fits a text, so what is answered of the one that was parsed is answered of what the text says.
 use Rattle.std.proofs.Common.{inl, MatchResult, ap, subst, ◌∙◌}
-use Rattle.dt_source.specs.Meaning.{meaning}
-use Rattle.dt_source.specs.Tree.{Meaning}
-use Rattle.dt_edit.specs.Said.{reading}
+use Rattle.dt_source.specs.Meaning.{meaning_of}
+use Rattle.dt_meaning.specs.Syntax.{Meaning}
 use Rattle.dtman_engine.specs.Compile.{CannotBuild, IsBlobOf}
 use Rattle.dtman_engine.specs.Fault.{fault_value, source_fault}
 use Rattle.dtman_engine.proofs.CompileLemmas.{compiled, in-vain}
@@ -16,15 +15,15 @@ returns-in-Err-clause-said c =
 
 pub returns-in-Ok-clause-answer : goal.returns-in-Ok-clause-answer
 returns-in-Ok-clause-answer c =
-    compiled (λ blob. blob.items) c.args.symbols c.args.source.now (meaning c.in-Ok.parsed) c.source_blob.result c.in-Ok.ensures.found.0 c.in-Ok.ensures.found.1 c.source_blob.ensures
+    compiled (λ blob. blob.items) c.args.symbols c.args.source.now (meaning_of c.in-Ok.parsed) c.source_blob.result c.in-Ok.ensures.found.0 c.in-Ok.ensures.found.1 c.source_blob.ensures
 
 pub returns-in-Ok-clause-said : goal.returns-in-Ok-clause-said
 returns-in-Ok-clause-said c =
     let symbols = c.args.symbols in
     λ m short says.
-    subst (λ (x : Meaning). MatchResult c.source_blob.result (λ blob. IsBlobOf symbols (reading x) blob.items) (λ fault. CannotBuild symbols (reading x) (fault_value fault)))
-    (c.one_source.ensures.meaning c.args.source.now (meaning c.in-Ok.parsed) m c.in-Ok.ensures.found.1 says) c.source_blob.ensures
+    subst (λ (x : Meaning). MatchResult c.source_blob.result (λ blob. IsBlobOf symbols x blob.items) (λ fault. CannotBuild symbols x (fault_value fault)))
+    (c.one_source.ensures.meaning c.args.source.now (meaning_of c.in-Ok.parsed) m c.in-Ok.ensures.found.1 says) c.source_blob.ensures
 
 pub returns-in-Ok-clause-refused : goal.returns-in-Ok-clause-refused
 returns-in-Ok-clause-refused c =
-    in-vain (λ blob. blob.items) c.args.symbols c.args.source.now (meaning c.in-Ok.parsed) c.source_blob.result c.in-Ok.ensures.found.0 c.in-Ok.ensures.found.1 c.source_blob.ensures
+    in-vain (λ blob. blob.items) c.args.symbols c.args.source.now (meaning_of c.in-Ok.parsed) c.source_blob.result c.in-Ok.ensures.found.0 c.in-Ok.ensures.found.1 c.source_blob.ensures

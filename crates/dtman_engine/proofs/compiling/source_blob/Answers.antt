@@ -2,7 +2,7 @@ use Rattle.std.proofs.Common.{inr, Option, subst}
 use Rattle.std.proofs.lemmas.Result.{MatchResult-weaker}
 use Rattle.dt_tree.specs.TreeData.{TreeData}
 use Rattle.dt_build.specs.Built.{IsBuilt}
-use Rattle.dt_resolve.specs.Said.{meaning_of}
+use Rattle.dt_source.specs.Meaning.{meaning_of}
 use Rattle.dtman_engine.specs.Fault.{fault_value}
 use Rattle.dtman_engine.specs.Limits.{blob_limit}
 use Rattle.dtman_engine.proofs.CompileLemmas.{long-blob, unbuilt}
