@@ -1,7 +1,6 @@
 -- Local fixups, one site more: its offset stands behind those of its property, which are the last.
 use Rattle.std.proofs.Common.{◌≡◌, ◌≢◌, ℕ, zero, suc, ◌+◌, ◌<◌, ◌≤◌, ◌==◌, ◌&&◌, Bool, true, false, List, [], ◌∷◌, ◌++◌, length, get_or, set, Option, Some, None, is_some, if◌then◌else◌, refl, sym, ap, ap₂, ◌∙◌, arith}
 use Rattle.std.specs.Prelude.{All}
-use Rattle.std.specs.Option.{option_map}
 use Rattle.std.specs.Str.{bytes_eq}
 use Rattle.std.proofs.lemmas.Bool.{and_from, eqb-true, eq-eqb}
 use Rattle.std.proofs.lemmas.List.{get_or-map, length-map}
@@ -14,7 +13,8 @@ use Rattle.dt_live.proofs.Each.{Each, each-all, each-append, each-of}
 use Rattle.dt_resolve.specs.declared.prepared.Prepared.{Prepared}
 use Rattle.dt_tree_builder.proofs.PathFacts.{bytes-itself, same-itself}
 use Rattle.dt_build.specs.declared.local_properties.LocalFixup.{LocalFixup}
-use Rattle.dt_build.specs.Private.FixupSites.{key_at, keys}
+use Rattle.dt_source.specs.declared.tree.Reference.{Reference}
+use Rattle.dt_build.specs.Private.FixupSites.{key_at, keys, open_label}
 use Rattle.dt_build.specs.Private.LocalFixups.{AreBelow, ends_with, local_definitions, local_path, places}
 use Rattle.dt_build.proofs.ApartLists.{InPairs}
 use Rattle.dt_build.proofs.NamedEdits.{HasOtherKey}
@@ -120,10 +120,10 @@ module _ (p : Prepared) where
         ap (λ es. at_place z.property z.cells.items ∷ es) (put-last (w ∷ ws) k x y (omega (arith, long)) at of same cells h.2) ∙ sym (before z (w ∷ ws) less)
 
 -- ---- by label
-pub not-local : (l : Option (Bor (List ℕ))) (x : Site) (es : List (Definition (List ℕ))) → is_some l ≡ true → es ≡ local_fixup (option_map (λ k. k.now) l) x es
+pub not-local : (l : Option (Bor Reference)) (x : Site) (es : List (Definition (List ℕ))) → is_some l ≡ true → es ≡ local_fixup (open_label l) x es
 not-local None x es some = absurd (cc)
 not-local (Some l) x es some = refl
 
-pub is-local : (l : Option (Bor (List ℕ))) (x : Site) (es : List (Definition (List ℕ))) → is_some l ≡ false → local_fixup None x es ≡ local_fixup (option_map (λ k. k.now) l) x es
+pub is-local : (l : Option (Bor Reference)) (x : Site) (es : List (Definition (List ℕ))) → is_some l ≡ false → local_fixup None x es ≡ local_fixup (open_label l) x es
 is-local None x es none = refl
 is-local (Some l) x es none = absurd (cc)

@@ -26,7 +26,7 @@ between-more m n k (t ∷ ss) le h = (h.0, omega (arith, le, h.1), between-more 
 
 -- ---- one further
 abbrev no_site : FixupSite
-no_site = record { property = 0; label = None; offset = 0 }
+no_site = record { property = 0; reference = None; offset = 0 }
 
 -- the site that a loop is at
 abbrev pub site_at : List FixupSite → ℕ → FixupSite

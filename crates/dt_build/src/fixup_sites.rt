@@ -15,16 +15,17 @@ use dt_resolve::Prepared;
 use dt_source::{Part, Reference};
 use std::alloc::{AllocError, Global};
 
-/// A phandle in a value: the place of its property in preorder, the label where no node of the source has it, and how many bytes
-/// of the value stand before it.
+/// A phandle in a value: the place of its property in preorder, the reference where no node of the source has its label, and how
+/// many bytes of the value stand before it. There may be millions: a reference is half as long as its label would be.
 #[derive(Clone, Copy)]
 pub(crate) struct FixupSite<'d> {
     pub(crate) property: usize,
-    pub(crate) label: Option<&'d [u8]>,
+    pub(crate) reference: Option<&'d Reference<'d>>,
     pub(crate) offset: usize,
 }
 
-fn label_of<'t>(reference: &Reference<'t>) -> &'t [u8]
+/// The label of a reference.
+pub(crate) fn label_of<'t>(reference: &Reference<'t>) -> &'t [u8]
     ensures { result.now ≡ label_in reference.now }
 {
     match reference {
@@ -37,7 +38,7 @@ fn label_of<'t>(reference: &Reference<'t>) -> &'t [u8]
 fn put_site<'d>(
     sites: &mut Vec<FixupSite<'d>>,
     property: usize,
-    part: &Part<'d>,
+    part: &'d Part<'d>,
     target: Option<usize>,
     offset: usize,
 ) -> Result<(), AllocError>
@@ -45,15 +46,15 @@ fn put_site<'d>(
     ensures places { OnOk result (AreBetween 0 (property + 1) sites.new.items) }
     ensures sites { (p : Prepared) (path : ℕ → Path) → OnOk result (map (site_of p) sites.new.items ≡ map (site_of p) sites.old.items ++ map (site_with (key_at p property).path (key_at p property).name offset) (label_found (found_of path part.now target))) }
 {
-    let label = match (part, target) {
+    let reference = match (part, target) {
         (Part::Phandle(_), Some(_)) => None,
-        (Part::Phandle(reference), None) => Some(label_of(reference)),
+        (Part::Phandle(reference), None) => Some(reference),
         (Part::Bytes(_), _) => return Ok(()),
         (Part::Path(_), _) => return Ok(()),
     };
     sites.push(FixupSite {
         property,
-        label,
+        reference,
         offset,
     })?;
     Ok(())
@@ -83,7 +84,7 @@ fn put_sites<'d>(
     sites: &mut Vec<FixupSite<'d>>,
     prepared: &Prepared<'_, '_>,
     property: usize,
-    value: &[Part<'d>],
+    value: &'d [Part<'d>],
     targets: &[Option<usize>],
 ) -> Result<(), AllocError>
     requires ready { IsReady prepared.now }

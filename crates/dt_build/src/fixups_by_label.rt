@@ -7,7 +7,7 @@ ghost use Rattle.dt_build.specs.Private.Ready.{IsReady};
 ghost use Rattle.dt_build.specs.Private.FixupSites.{AreSites, site_of};
 
 use crate::digits::{append_digits, digits_size};
-use crate::fixup_sites::FixupSite;
+use crate::fixup_sites::{FixupSite, label_of};
 use dt_live::{append_path, path_size};
 use dt_resolve::Prepared;
 use std::alloc::{AllocError, Global};
@@ -52,8 +52,8 @@ fn count_site<'d>(
     requires ready { IsReady prepared.now }
     requires place { site.property < length prepared.now.in_preorder.properties.items }
 {
-    let label = match site.label {
-        Some(label) => label,
+    let label = match site.reference {
+        Some(reference) => label_of(reference),
         None => return Ok(()),
     };
     let sum = room_of(sizes, label).saturating_add(text_size(prepared, site));
@@ -143,8 +143,8 @@ fn put_text<'d>(
     ensures indexed { OnOk result (AreIndexed by_label.new) }
     ensures given { OnOk result (given by_label.new.labels.items ≡ fixup (site_of prepared.now site.entry).label (site_of prepared.now site.entry) (given by_label.old.labels.items)) }
 {
-    let label = match site.label {
-        Some(label) => label,
+    let label = match site.reference {
+        Some(reference) => label_of(reference),
         None => return Ok(()),
     };
     let slot = index_of_label(alloc, by_label, label, room_of(sizes, label))?;

@@ -17,7 +17,7 @@ fn is_site_too_deep(prepared: &Prepared<'_, '_>, site: FixupSite<'_>) -> bool
     ensures { result ≡ is_deep (site_of prepared.now site.entry) }
 {
     let property = prepared.in_preorder.properties[site.property];
-    match site.label {
+    match site.reference {
         Some(_) => false,
         None => prepared.live.depth(property.node) >= MAX_DEPTH,
     }

@@ -38,7 +38,7 @@ fn put_local(
     ensures places { OnOk result (AreBelow (site.entry.property + 1) (places locals.new.items)) }
     ensures all { (p : Prepared) → IsReady p → site.entry.property < length p.in_preorder.properties.items → OnOk result (local_definitions p locals.new.items ≡ local_fixup (site_of p site.entry).label (site_of p site.entry) (local_definitions p locals.old.items)) }
 {
-    if site.label.is_some() {
+    if site.reference.is_some() {
         return Ok(());
     }
     let cell = ((site.offset % 4294967296) as u32).to_be_bytes();

@@ -38,7 +38,7 @@ fn size_of_site(prepared: &Prepared<'_, '_>, site: FixupSite<'_>) -> usize
     requires place { site.property < length prepared.now.in_preorder.properties.items }
     ensures { result ≡ min (site_size (site_of prepared.now site.entry)) (2 ^ 64 - 1) }
 {
-    match site.label {
+    match site.reference {
         Some(_) => text_size(prepared, site),
         None => 4,
     }

@@ -1,5 +1,7 @@
 -- The fixup sites of a plugin in one list, which both nodes of fixups are made of (dt-object-internal, sections 1.1 and 2).
 use Rattle.std.specs.Prelude.{◌≡◌, ◌≤◌, ◌<◌, ℕ, Bool, ◌&&◌, is_none, ◌+◌, List, [], ◌∷◌, ◌++◌, length, map, drop, Option, None, Some, option_map, slice_index_or}
+use denote.Ref.{Bor}
+use Rattle.dt_source.specs.declared.tree.Reference.{Reference}
 use Rattle.dt_meaning.specs.Names.{local_fixups_name}
 use Rattle.dt_meaning.specs.Paths.{Path}
 use Rattle.dt_meaning.specs.Edits.{Definition, definition}
@@ -12,7 +14,7 @@ use Rattle.dt_edit.specs.Said.{Parts}
 use Rattle.dt_resolve.specs.declared.prepared.Prepared.{Prepared}
 use Rattle.dt_build.specs.declared.fixup_sites.FixupSite.{FixupSite}
 use Rattle.dt_build.specs.Private.Made.{made_sites}
-use Rattle.dt_build.specs.Private.Values.{all_uses, founds_of}
+use Rattle.dt_build.specs.Private.Values.{all_uses, founds_of, label_in}
 
 -- ---- one site
 abbrev pub site_with : Path → List ℕ → ℕ → Option (List ℕ) → Site
@@ -29,8 +31,12 @@ keys p = map (key_of p) p.in_preorder.properties.items
 abbrev pub key_at : Prepared → ℕ → Definition (List ℕ)
 key_at p i = slice_index_or (keys p) i (definition [] [] [])
 
+-- the label, where no node of the source has it
+abbrev pub open_label : Option (Bor Reference) → Option (List ℕ)
+open_label = option_map (λ r. label_in r.now)
+
 abbrev pub site_of : Prepared → FixupSite → Site
-site_of p s = site_with (key_at p s.property).path (key_at p s.property).name s.offset (option_map (λ l. l.now) s.label)
+site_of p s = site_with (key_at p s.property).path (key_at p s.property).name s.offset (open_label s.reference)
 
 -- ---- all sites
 -- the places of their properties stand in order, from m on and below n

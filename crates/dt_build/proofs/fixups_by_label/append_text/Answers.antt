@@ -1,9 +1,8 @@
 use Rattle.std.proofs.Common.{◌++◌, ◌∷◌, [], sym, ap, ◌∙◌}
-use Rattle.std.specs.Option.{option_map}
 use Rattle.dt_tree.specs.Path.{path_text}
 use Rattle.dt_meaning.specs.Fixups.{site_text}
 use Rattle.dt_live.specs.Rows.{node_path, path_of}
-use Rattle.dt_build.specs.Private.FixupSites.{site_with}
+use Rattle.dt_build.specs.Private.FixupSites.{open_label, site_with}
 use Rattle.dt_build.proofs.Sites.{key-read}
 use Rattle.dt_build.proofs.SiteTexts.{text-put}
 use Rattle.dt_build.proofs.fixups_by_label.append_text.Goals as goal
@@ -13,7 +12,7 @@ returns c =
     let p = c.args.prepared.now in
     let s = c.args.site in
     let x = c.index-property.result.now in
-    let label = option_map (λ l. l.now) s.label in
+    let label = open_label s.reference in
     let v0 = c.args.text.now.items in
     text-put (node_path p.live x.node) x.name.now s.offset label v0 c.append_path.new.value.items c.pop.new.self.items c.push.new.self.items c.extend_from_slice.new.self.items c.push-2.new.self.items c.append_digits.new.text.items c.push-3.new.self.items
     c.append_path.new.value.len (sym c.append_path.new.value.ok.0)

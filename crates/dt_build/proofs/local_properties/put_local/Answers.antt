@@ -9,7 +9,7 @@ use Rattle.dt_build.proofs.LocalPuts.{all-before, below-push, is-local, last-is,
 use Rattle.dt_build.proofs.local_properties.put_local.Goals as goal
 
 pub returns-then-is_some-clause-all : goal.returns-then-is_some-clause-all
-returns-then-is_some-clause-all c p ready known = not-local c.args.site.label (site_of p c.args.site) (local_definitions p c.args.locals.now.items) (sym c.is_some.ensures ∙ c.if-is_some.true)
+returns-then-is_some-clause-all c p ready known = not-local c.args.site.reference (site_of p c.args.site) (local_definitions p c.args.locals.now.items) (sym c.is_some.ensures ∙ c.if-is_some.true)
 
 pub returns-then-is_last-clause-places : goal.returns-then-is_last-clause-places
 returns-then-is_last-clause-places c =
@@ -29,7 +29,7 @@ returns-then-is_last-clause-all c p ready known =
     let cells : c.extend_from_slice.new.self.items ≡ x.cells.items ++ to_be_bytes w32 c.args.site.offset = search rules in
     put-last p (keys-apart p ready) j (omega (arith, known, length-map p.in_preorder.properties.items (key_of p))) (to_be_bytes w32 c.args.site.offset) xs (c.len-last.result - 1) x _
     long c.index_mut.ensures.value (last-is j xs (c.len-last.result - 1) x ends long c.index_mut.ensures.value) refl cells c.requires.places
-    ∙ is-local c.args.site.label (site_of p c.args.site) (local_definitions p xs) (sym c.is_some.ensures ∙ c.if-is_some.false)
+    ∙ is-local c.args.site.reference (site_of p c.args.site) (local_definitions p xs) (sym c.is_some.ensures ∙ c.if-is_some.false)
 
 pub returns-clause-places : goal.returns-clause-places
 returns-clause-places c =
@@ -47,4 +47,4 @@ returns-clause-all c p ready known =
     let cells : c.in_ok-from_slice.field-0.items ≡ to_be_bytes w32 c.args.site.offset = search rules in
     put-behind p (keys-apart p ready) j (omega (arith, known, length-map p.in_preorder.properties.items (key_of p))) (to_be_bytes w32 c.args.site.offset) xs c.push.new.self.items _
     c.in_ok-push.ensures.items refl cells (all-before j (places xs) other c.requires.places)
-    ∙ is-local c.args.site.label (site_of p c.args.site) (local_definitions p xs) (sym c.is_some.ensures ∙ c.if-is_some.false)
+    ∙ is-local c.args.site.reference (site_of p c.args.site) (local_definitions p xs) (sym c.is_some.ensures ∙ c.if-is_some.false)
