@@ -5,7 +5,7 @@ ghost use Rattle.dtman_cli.specs.Translation.{is_dialect_number};
 use crate::user_places::{site_location, text_location, words_of};
 use dtc_dialect::{Incomplete, Mistake, Place, Refusal, Site};
 use dtman_diagnosis::{Diagnosis, Location, Note, Subject, copied};
-use dtman_engine::Fault;
+use dtman_engine::{Fault, Position};
 use std::alloc::{AllocError, Global};
 
 /// A refusal of the dialect, and what is told of it in detail.
@@ -23,9 +23,9 @@ pub fn refused(alloc: Global, text: &[u8], refusal: Refusal<'_>) -> Result<Unsai
     let fault = Fault {
         number,
         name: refusal.mistake.name(),
-        place: match refusal.mistake {
-            Mistake::Syntax | Mistake::TooDeep => dtman_engine::Place::Line(refusal.place.line),
-            _ => dtman_engine::Place::Nowhere,
+        position: match refusal.mistake {
+            Mistake::Syntax | Mistake::TooDeep => Position::Line(refusal.place.line),
+            _ => Position::Nowhere,
         },
     };
     let diagnosis = diagnosis_at(alloc, text, refusal.place, number)?;
@@ -140,9 +140,9 @@ fn fault_at(number: u8, name: &'static str, site: &Option<Site>) -> Fault
     Fault {
         number,
         name,
-        place: match site {
-            Some(site) => dtman_engine::Place::Line(site.line),
-            None => dtman_engine::Place::Nowhere,
+        position: match site {
+            Some(site) => Position::Line(site.line),
+            None => Position::Nowhere,
         },
     }
 }

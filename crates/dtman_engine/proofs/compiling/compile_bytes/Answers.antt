@@ -4,7 +4,8 @@ use Rattle.dt_source.specs.Meaning.{meaning}
 use Rattle.dt_source.specs.Tree.{Meaning}
 use Rattle.dt_edit.specs.Said.{reading}
 use Rattle.dtman_engine.specs.Compile.{CannotBuild, IsBlobOf}
-use Rattle.dtman_engine.specs.Fault.{fault_value, source_fault}
+use Rattle.dtman_engine.specs.Fault.{fault_value}
+use Rattle.dtman_engine.specs.SourceFaults.{source_fault}
 use Rattle.dtman_engine.proofs.CompileLemmas.{compiled, in-vain}
 use Rattle.dtman_engine.proofs.compiling.compile_bytes.Goals as goal
 
