@@ -2,7 +2,7 @@
 
 use dtman_cli::refused_bytes;
 use dtman_dtc::{Compiler, Fault};
-use dtman_engine::{Place, compile_bytes, dump_bytes, overlay_bytes};
+use dtman_engine::{Position, compile_bytes, dump_bytes, overlay_bytes};
 use std::alloc::Global;
 use std::hash::RandomState;
 
@@ -23,13 +23,13 @@ impl Compiler for Engine {
             Err(fault) => Err(Fault {
                 // Where there is no memory to find them, the line stands alone.
                 bytes: refused_bytes(alloc, text, symbols, fault.number).unwrap_or(None),
-                ..shown(fault)
+                ..dtc_fault(fault)
             }),
         }
     }
 
     fn dump(&mut self, alloc: Global, blob: &[u8]) -> Result<Vec<u8>, Fault> {
-        dump_bytes(alloc, blob).map_err(|fault| shown(fault))
+        dump_bytes(alloc, blob).map_err(|fault| dtc_fault(fault))
     }
 
     fn overlay(
@@ -39,16 +39,17 @@ impl Compiler for Engine {
         base: &[u8],
         overlay: &[u8],
     ) -> Result<Vec<u8>, Fault> {
-        overlay_bytes(alloc, hasher, base, overlay).map_err(|fault| shown(fault))
+        overlay_bytes(alloc, hasher, base, overlay).map_err(|fault| dtc_fault(fault))
     }
 }
 
-fn shown(fault: dtman_engine::Fault) -> Fault {
+// A fault as dtc's command line has it.
+fn dtc_fault(fault: dtman_engine::Fault) -> Fault {
     Fault {
         number: fault.number,
         name: fault.name,
-        line: match fault.place {
-            Place::Line(line) => Some(line),
+        line: match fault.position {
+            Position::Line(line) => Some(line),
             _ => None,
         },
         bytes: None,

@@ -11,7 +11,8 @@ use Rattle.dt_blob.specs.SourceText.{text_of}
 use Rattle.dtman_engine.specs.declared.fault.Fault.{Fault}
 use Rattle.dtman_engine.specs.Compile as compile
 use Rattle.dtman_engine.specs.Dump as dump
-use Rattle.dtman_engine.specs.Fault.{FaultValue, fault_value, no_memory, blob_fault}
+use Rattle.dtman_engine.specs.Fault.{Tells, FaultValue, fault_value, no_memory}
+use Rattle.dtman_engine.specs.BlobFaults.{blob_fault}
 use Rattle.dtman_engine.specs.Limits.{IsShort}
 use Rattle.dtman_engine.specs.Overlay as overlay
 use Rattle.dtman_engine.specs.Plan as plan
@@ -58,7 +59,7 @@ pub overlaid : {V : Type 0} (items : V → List ℕ) (r : Result V Fault) (base 
     → IfOk r (λ blob. overlay.IsOverlaid base over (items blob))
     → ((b o : TreeData) → Holds base b → Holds over o → MatchResult r (λ blob. overlay.IsBlobOfApplied b o (items blob)) (λ fault. overlay.CannotApply b o (fault_value fault)))
     → IfErr r (λ fault. overlay.IsOverlayRefusal base over (fault_value fault))
-    → ((e : BlobError) → header_fault base ≡ Some e → IsErrAnd r (λ fault. fault_value fault ≡ blob_fault e))
+    → ((e : BlobError) → header_fault base ≡ Some e → Tells r (blob_fault e))
     → ((e : BlobError) → overlay.IsBadOver base over e → IsErrAnd r (λ fault. overlay.TellsOver e (fault_value fault)))
     → IsOverlayAnswer base over (shown items r)
 overlaid items (Ok v) base over a h r hd oh = record { answer = a; held = h; refused = r; header = hd; overlay_header = oh }
@@ -68,11 +69,11 @@ pub dumped : {V : Type 0} (items : V → List ℕ) (r : Result V Fault) (blob : 
     → IfOk r (λ text. dump.IsDump blob (items text))
     → ((tree : TreeData) → Holds blob tree → MatchResult r (λ text. items text ≡ text_of tree) (λ fault. dump.CannotPrint tree (fault_value fault)))
     → IfErr r (λ fault. dump.IsRefusal blob (fault_value fault))
-    → (IsErrAnd r (λ fault. fault_value fault ≡ blob_fault Truncated) ↔ (header_fault blob ≡ Some Truncated))
-    → (IsErrAnd r (λ fault. fault_value fault ≡ blob_fault BadMagic) ↔ (header_fault blob ≡ Some BadMagic))
-    → (IsErrAnd r (λ fault. fault_value fault ≡ blob_fault BadVersion) ↔ (header_fault blob ≡ Some BadVersion))
-    → (header_fault blob ≡ Some BadLayout → IsErrAnd r (λ fault. fault_value fault ≡ blob_fault BadLayout))
-    → (header_fault blob ≡ Some TooLarge → IsErrAnd r (λ fault. fault_value fault ≡ blob_fault TooLarge))
+    → (Tells r (blob_fault Truncated) ↔ (header_fault blob ≡ Some Truncated))
+    → (Tells r (blob_fault BadMagic) ↔ (header_fault blob ≡ Some BadMagic))
+    → (Tells r (blob_fault BadVersion) ↔ (header_fault blob ≡ Some BadVersion))
+    → (header_fault blob ≡ Some BadLayout → Tells r (blob_fault BadLayout))
+    → (header_fault blob ≡ Some TooLarge → Tells r (blob_fault TooLarge))
     → IfErr r (λ fault. fault_value fault ≡ blob_fault TooLarge → dump.TooLong blob)
     → IsDumpAnswer blob (shown items r)
 dumped items (Ok v) blob a h r cut magic version layout large long =
@@ -84,7 +85,7 @@ pub planned : {V : Type 0} (items : V → List ℕ) (r : Result V Fault) (blob d
     → IfOk r (λ text. plan.IsPlanText blob drivers (items text))
     → ((tree : TreeData) → Holds blob tree → MatchResult r (λ text. plan.printed (plan.planning tree drivers) ≡ Ok (items text)) (λ fault. plan.CannotPlan tree drivers (fault_value fault)))
     → IfErr r (λ fault. plan.IsPlanRefusal blob drivers (fault_value fault))
-    → ((e : BlobError) → header_fault blob ≡ Some e → IsErrAnd r (λ fault. fault_value fault ≡ blob_fault e))
+    → ((e : BlobError) → header_fault blob ≡ Some e → Tells r (blob_fault e))
     → IsPlanAnswer blob drivers (shown items r)
 planned items (Ok v) blob drivers a h r hd = record { answer = a; held = h; refused = r; header = hd }
 planned items (Err fault) blob drivers a h r hd = record { answer = a; held = h; refused = r; header = hd }

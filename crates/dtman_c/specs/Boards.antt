@@ -5,7 +5,8 @@ use Rattle.bus_plan.specs.PlanFile.{reading}
 use Rattle.bus_plan.specs.declared.error.PlanError.{PlanError}
 use Rattle.bus_seat.specs.Calls.{IsOpened}
 use Rattle.bus_seat.specs.Shown.{Placed}
-use Rattle.dtman_engine.specs.Fault.{FaultValue, no_memory, text_fault}
+use Rattle.dtman_engine.specs.Fault.{FaultValue, no_memory}
+use Rattle.dtman_engine.specs.TextFaults.{text_fault}
 use Rattle.dtman_c.specs.Crossing.{refused, written}
 use Rattle.dtman_c.specs.declared.answer.Answer.{Answer}
 

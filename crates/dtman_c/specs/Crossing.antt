@@ -1,8 +1,8 @@
 -- What crosses to a caller in C: how a call ended, and what its buffer has then.
 use Rattle.std.specs.Prelude.{◌≡◌, ◌≤◌, ◌<◌, ◌++◌, ◌⊎◌, ℕ, List, length, drop, Result, Ok, Err}
 use Rattle.dtman_engine.specs.Fault.{FaultValue, no_memory}
-use Rattle.dtman_engine.specs.declared.fault.Place.{Place}
-use Rattle.dtman_engine.specs.declared.fault.Place.TheVariants.{Nowhere, Line, Event}
+use Rattle.dtman_engine.specs.declared.fault.Position.{Position}
+use Rattle.dtman_engine.specs.declared.fault.Position.TheVariants.{Nowhere, Line, Event}
 use Rattle.dtman_c.specs.declared.answer.Answer.{Answer}
 
 -- so many bytes are in the buffer
@@ -18,20 +18,20 @@ abbrev pub unnamed : Answer
 unnamed = record { status = 3; number = 0; length = 0; line = 0; event = 0 }
 
 -- a line from 1, and 0 where there is none
-abbrev pub line_of : Place → ℕ
+abbrev pub line_of : Position → ℕ
 line_of Nowhere = 0
 line_of (Line line) = line
 line_of (Event event) = 0
 
 -- an event from 1, and 0 where there is none
-abbrev pub event_of : Place → ℕ
+abbrev pub event_of : Position → ℕ
 event_of Nowhere = 0
 event_of (Line line) = 0
 event_of (Event event) = event
 
 -- there are no bytes, for this fault
 abbrev pub refused : FaultValue → Answer
-refused fault = record { status = 2; number = fault.number; length = 0; line = line_of fault.place; event = event_of fault.place }
+refused fault = record { status = 2; number = fault.number; length = 0; line = line_of fault.position; event = event_of fault.position }
 
 -- the buffer begins with the bytes, and is behind them as it was
 abbrev pub over : List ℕ → List ℕ → List ℕ

@@ -10,7 +10,8 @@ use Rattle.dt_blob.specs.Holds.{Holds}
 use Rattle.dt_blob.specs.SourceText.{text_of}
 use Rattle.dtman_engine.specs.Compile as compile
 use Rattle.dtman_engine.specs.Dump as dump
-use Rattle.dtman_engine.specs.Fault.{FaultValue, no_memory, blob_fault}
+use Rattle.dtman_engine.specs.Fault.{FaultValue, no_memory}
+use Rattle.dtman_engine.specs.BlobFaults.{blob_fault}
 use Rattle.dtman_engine.specs.Limits.{IsShort}
 use Rattle.dtman_engine.specs.Overlay as overlay
 use Rattle.dtman_engine.specs.Plan as plan

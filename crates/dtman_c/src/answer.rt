@@ -4,7 +4,7 @@ ghost use Rattle.dtman_engine.specs.Fault.{fault_value};
 ghost use Rattle.dtman_c.specs.Boards.{occupied};
 ghost use Rattle.dtman_c.specs.Crossing.{Crosses, IsPut, refused, unnamed};
 
-use dtman_engine::{Fault, Place};
+use dtman_engine::{Fault, Position};
 
 /// The bytes are in the buffer.
 pub(crate) const WRITTEN: u32 = 0;
@@ -89,10 +89,10 @@ pub(crate) fn told(status: u32, length: usize) -> Answer
 pub(crate) fn refusal(fault: &Fault) -> Answer
     ensures { result ≡ refused (fault_value fault.now) }
 {
-    let (line, event) = match fault.place {
-        Place::Nowhere => (0, 0),
-        Place::Line(line) => (line, 0),
-        Place::Event(event) => (0, event),
+    let (line, event) = match fault.position {
+        Position::Nowhere => (0, 0),
+        Position::Line(line) => (line, 0),
+        Position::Event(event) => (0, event),
     };
     Answer {
         status: REFUSED,

@@ -8,7 +8,8 @@ use Rattle.dt_resolve.specs.declared.error.BuildError.{BuildError}
 use Rattle.dt_resolve.specs.declared.error.BuildError.TheVariants.{NoMemory, UnknownLabel, DuplicateLabel, UnknownPath, BadPhandle, DuplicatePhandle, DuplicateInBody, PathInPlugin, ReservedName, TooDeep}
 use Rattle.dt_build.specs.Built.{Refuses}
 use Rattle.dtman_engine.specs.Compile.{CannotBuild, HasLongBlob, IsBlobOf, IsCompiled}
-use Rattle.dtman_engine.specs.Fault.{FaultValue, build_fault, fault_value, no_memory}
+use Rattle.dtman_engine.specs.Fault.{FaultValue, fault_value, no_memory}
+use Rattle.dtman_engine.specs.SourceFaults.{build_fault}
 use Rattle.dtman_engine.specs.Limits.{blob_limit}
 use Rattle.dtman_cli.specs.Dialect.{Answer, IsAnswer, IsKept, IsLifted, IsOutcome, is_lifted}
 use Rattle.dtman_cli.specs.Translation.{may_lift}

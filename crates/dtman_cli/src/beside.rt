@@ -19,26 +19,26 @@ pub struct Beside<F> {
 
 /// What a path names, as far as a new file may take its place.
 #[derive(Drop)]
-enum Place {
-    Free,
+enum Named {
+    Nothing,
     /// A regular file that may be written and has no other name.
-    Taken(Metadata),
+    File(Metadata),
     /// A device, a pipe, a link, a folder, or what can't be told: it is written where it is.
-    Fixed,
+    Other,
 }
 
-fn place_of<R: Files>(files: &R, path: &str) -> Place {
+fn named_by<R: Files>(files: &R, path: &str) -> Named {
     match fs::symlink_metadata(files, path) {
         Ok(found) => {
             if found.is_file() && found.nlink() == 1 && may_write(files, path) {
-                Place::Taken(found)
+                Named::File(found)
             } else {
-                Place::Fixed
+                Named::Other
             }
         }
         Err(error) => match error.kind() {
-            ErrorKind::NotFound => Place::Free,
-            _ => Place::Fixed,
+            ErrorKind::NotFound => Named::Nothing,
+            _ => Named::Other,
         },
     }
 }
@@ -49,10 +49,10 @@ fn may_write<R: Files>(files: &R, path: &str) -> bool {
 
 /// A new file beside a path, or None where the path has to be written itself.
 pub fn create_beside<R: Files>(files: &R, alloc: Global, path: &str) -> Option<Beside<R::File>> {
-    match place_of(files, path) {
-        Place::Free => create_new(files, alloc, path),
-        Place::Taken(old) => like(files, create_new(files, alloc, path)?, &old),
-        Place::Fixed => None,
+    match named_by(files, path) {
+        Named::Nothing => create_new(files, alloc, path),
+        Named::File(old) => like(files, create_new(files, alloc, path)?, &old),
+        Named::Other => None,
     }
 }
 

@@ -11,7 +11,7 @@ use crate::translating::{Missing, Saying};
 use crate::unsaid::{Unsaid, unfound};
 use dtc_dialect::{Options, Site, plain, user_place};
 use dtman_diagnosis::text_of;
-use dtman_engine::{Fault, Place, compile_bytes};
+use dtman_engine::{Fault, Position, compile_bytes};
 use std::alloc::{AllocError, Global};
 use std::hash::RandomState;
 
@@ -157,9 +157,9 @@ fn lost_lines(alloc: Global, name: &[u8], site: Site) -> Result<String, AllocErr
 
 /// A refusal of the text that says a source, at the line of the user's file.
 fn in_user_file(source: Source<'_>, fault: Fault) -> Fault {
-    match fault.place {
-        Place::Line(line) => Fault {
-            place: Place::Line(user_place(source.options.file, source.text, line).line),
+    match fault.position {
+        Position::Line(line) => Fault {
+            position: Position::Line(user_place(source.options.file, source.text, line).line),
             ..fault
         },
         _ => fault,

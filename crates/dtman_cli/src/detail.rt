@@ -3,7 +3,7 @@
 use crate::diagnosing::{Inputs, diagnosed};
 use crate::failure::Failure;
 use dtman_diagnosis::{Diagnosis, text_of};
-use dtman_engine::{Fault, Place};
+use dtman_engine::{Fault, Position};
 use std::alloc::{AllocError, Global};
 
 /// How much is told of a refusal.
@@ -78,8 +78,8 @@ fn lines_of(alloc: Global, fault: Fault, diagnosis: &Diagnosis) -> Result<String
 
 /// The line of a text file that a fault tells.
 pub fn line_in(fault: Fault) -> Option<usize> {
-    match fault.place {
-        Place::Line(line) => Some(line),
+    match fault.position {
+        Position::Line(line) => Some(line),
         _ => None,
     }
 }

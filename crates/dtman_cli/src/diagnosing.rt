@@ -5,7 +5,7 @@ use dtman_diagnosis::{
     Diagnosis, before_event, diagnose_blob, diagnose_event, diagnose_overlay, diagnose_plan,
     diagnose_source, diagnose_text,
 };
-use dtman_engine::{Fault, Place, replay_bytes};
+use dtman_engine::{Fault, Position, replay_bytes};
 use std::alloc::{AllocError, Global};
 use std::hash::RandomState;
 
@@ -101,7 +101,7 @@ fn unreplayed(
     fault: Fault,
 ) -> Result<Diagnosis, AllocError> {
     let (number, line) = (fault.number, line_in(fault));
-    let Place::Event(event) = fault.place else {
+    let Position::Event(event) = fault.position else {
         return match replay_bytes(alloc, hasher, plan.bytes, b"".as_slice()) {
             Err(_) => diagnose_text(alloc, plan.name, plan.bytes, number, line),
             Ok(_) => diagnose_text(alloc, schedule.name, schedule.bytes, number, line),

@@ -51,19 +51,19 @@ pub fn fail<E: Eprint>(errors: &E, failure: Failure<'_>) -> u8 {
 // The line of a file that a source takes in.
 fn lost<E: Eprint>(errors: &E, name: &[u8]) -> io::Result<()> {
     let fault = Fault::cannot_read();
-    let name = shown(name);
+    let name = printable(name);
     eprintln!(errors; "{fault} {name}")
 }
 
 /// The same line, for others to follow.
 pub fn lost_line(alloc: Global, name: &[u8]) -> Result<String, AllocError> {
     let fault = Fault::cannot_read();
-    let name = shown(name);
+    let name = printable(name);
     format!(in alloc; "{fault} {name}")
 }
 
 // A name out of a source, or a question mark for one that a terminal might obey or that is no text.
-fn shown(name: &[u8]) -> &str {
+fn printable(name: &[u8]) -> &str {
     if name.iter().any(|c| c.is_ascii_control()) {
         return "?";
     }

@@ -1,8 +1,8 @@
 //! What is refused of the text by which a source is said, at its places in the user's files.
 
-use crate::user_places::text_place;
+use crate::user_places::text_location;
 use dtc_dialect::{DialectError, Options, Span, origin_of};
-use dtman_diagnosis::{Diagnosis, Note, Place, copied, diagnose_source};
+use dtman_diagnosis::{Diagnosis, Location, Note, copied, diagnose_source};
 use std::alloc::{AllocError, Global};
 use std::hash::RandomState;
 
@@ -26,14 +26,14 @@ pub fn diagnose_said(
     let found = diagnose_source(alloc, file, bare.as_slice(), symbols, number)?;
     let Diagnosis {
         number,
-        place,
+        location,
         kind,
         subject,
         notes,
     } = found;
     let mut diagnosis = Diagnosis {
         number,
-        place: origin(alloc, source, bare.as_slice(), place)?,
+        location: origin(alloc, source, bare.as_slice(), location)?,
         kind,
         subject,
         notes: Vec::new(alloc),
@@ -54,7 +54,7 @@ pub fn refused_bytes(
 ) -> Result<Option<Span>, AllocError> {
     let bare = bare(alloc, text)?;
     let diagnosis = diagnose_source(alloc, b"", bare.as_slice(), symbols, number)?;
-    Ok(bytes_at(bare.as_slice(), &diagnosis.place))
+    Ok(bytes_at(bare.as_slice(), &diagnosis.location))
 }
 
 /// A text with blanks in place of its line markers, so that its lines are counted from its first.
@@ -79,10 +79,10 @@ fn is_marker(line: &[u8]) -> bool {
     }
 }
 
-/// The bytes of a text without line markers that a place is of.
-fn bytes_at(bare: &[u8], place: &Place) -> Option<Span> {
-    match place {
-        Place::Text {
+/// The bytes of a text without line markers that a location is of.
+fn bytes_at(bare: &[u8], location: &Location) -> Option<Span> {
+    match location {
+        Location::Text {
             line,
             column,
             marked,
@@ -114,31 +114,31 @@ fn line_start(text: &[u8], line: usize) -> Option<usize> {
     if number == line { Some(start) } else { None }
 }
 
-/// The user's place that a place of the text without line markers comes from, or else the file.
+/// The user's place that a location in the text without line markers comes from, or else the file.
 fn origin(
     alloc: Global,
     source: Source<'_>,
     bare: &[u8],
-    place: Place,
-) -> Result<Place, AllocError> {
-    let Some(bytes) = bytes_at(bare, &place) else {
-        return Ok(place);
+    location: Location,
+) -> Result<Location, AllocError> {
+    let Some(bytes) = bytes_at(bare, &location) else {
+        return Ok(location);
     };
     match origin_of(alloc, source.hasher, source.options, source.whole, bytes) {
         Ok(Some(place)) => {
             if let Some(span) = place.span {
-                return text_place(alloc, source.whole, place, span);
+                return text_location(alloc, source.whole, place, span);
             }
         }
         Err(DialectError::NoMemory) => return Err(AllocError),
         _ => {}
     }
-    Ok(Place::File {
+    Ok(Location::File {
         file: copied(alloc, source.options.file)?,
     })
 }
 
-/// A note, with its place among the user's.
+/// A note, with its location among the user's files.
 fn note_at_origin(
     alloc: Global,
     source: Source<'_>,
@@ -146,8 +146,8 @@ fn note_at_origin(
     note: Note,
 ) -> Result<Note, AllocError> {
     match note {
-        Note::Earlier(place) => Ok(Note::Earlier(origin(alloc, source, bare, place)?)),
-        Note::Unclosed(place) => Ok(Note::Unclosed(origin(alloc, source, bare, place)?)),
+        Note::Earlier(location) => Ok(Note::Earlier(origin(alloc, source, bare, location)?)),
+        Note::Unclosed(location) => Ok(Note::Unclosed(origin(alloc, source, bare, location)?)),
         note => Ok(note),
     }
 }

@@ -2,10 +2,10 @@
 ghost use Rattle.std.specs.Prelude.{◌≡◌, true, IfOk};
 ghost use Rattle.dtman_cli.specs.Translation.{is_dialect_number};
 
-use crate::user_places::{site_place, text_place, words_of};
-use dtc_dialect::{Incomplete, Mistake, Refusal, Site};
-use dtman_diagnosis::{Diagnosis, Note, Place, Subject, copied};
-use dtman_engine::Fault;
+use crate::user_places::{site_location, text_location, words_of};
+use dtc_dialect::{Incomplete, Mistake, Place, Refusal, Site};
+use dtman_diagnosis::{Diagnosis, Location, Note, Subject, copied};
+use dtman_engine::{Fault, Position};
 use std::alloc::{AllocError, Global};
 
 /// A refusal of the dialect, and what is told of it in detail.
@@ -23,9 +23,9 @@ pub fn refused(alloc: Global, text: &[u8], refusal: Refusal<'_>) -> Result<Unsai
     let fault = Fault {
         number,
         name: refusal.mistake.name(),
-        place: match refusal.mistake {
-            Mistake::Syntax | Mistake::TooDeep => dtman_engine::Place::Line(refusal.place.line),
-            _ => dtman_engine::Place::Nowhere,
+        position: match refusal.mistake {
+            Mistake::Syntax | Mistake::TooDeep => Position::Line(refusal.place.line),
+            _ => Position::Nowhere,
         },
     };
     let diagnosis = diagnosis_at(alloc, text, refusal.place, number)?;
@@ -50,7 +50,7 @@ fn number_of(mistake: Mistake) -> u8
 fn diagnosis_at(
     alloc: Global,
     text: &[u8],
-    place: dtc_dialect::Place<'_>,
+    place: Place<'_>,
     number: u8,
 ) -> Result<Diagnosis, AllocError> {
     let Some(span) = place.span else {
@@ -59,7 +59,7 @@ fn diagnosis_at(
     let words = text.get(span.start..span.end).unwrap_or(&[]);
     let mut diagnosis = Diagnosis {
         number,
-        place: text_place(alloc, text, place, span)?,
+        location: text_location(alloc, text, place, span)?,
         kind: kind_of(number, words),
         subject: copied(alloc, subject_of(number, words))?,
         notes: Vec::new(alloc),
@@ -140,9 +140,9 @@ fn fault_at(number: u8, name: &'static str, site: &Option<Site>) -> Fault
     Fault {
         number,
         name,
-        place: match site {
-            Some(site) => dtman_engine::Place::Line(site.line),
-            None => dtman_engine::Place::Nowhere,
+        position: match site {
+            Some(site) => Position::Line(site.line),
+            None => Position::Nowhere,
         },
     }
 }
@@ -174,7 +174,7 @@ fn words_at(alloc: Global, site: Site, number: u8) -> Result<Diagnosis, AllocErr
             16 => Subject::Inclusion,
             _ => kind_of(number, subject.as_slice()),
         },
-        place: site_place(site),
+        location: site_location(site),
         subject,
         notes: Vec::new(alloc),
     })
@@ -184,7 +184,7 @@ fn words_at(alloc: Global, site: Site, number: u8) -> Result<Diagnosis, AllocErr
 pub fn unfound(alloc: Global, name: &[u8], site: Site) -> Result<Diagnosis, AllocError> {
     Ok(Diagnosis {
         number: 80,
-        place: site_place(site),
+        location: site_location(site),
         kind: Subject::Nothing,
         subject: copied(alloc, name)?,
         notes: Vec::new(alloc),
@@ -195,7 +195,7 @@ pub fn unfound(alloc: Global, name: &[u8], site: Site) -> Result<Diagnosis, Allo
 fn whole(alloc: Global, file: &[u8], number: u8, subject: &[u8]) -> Result<Diagnosis, AllocError> {
     Ok(Diagnosis {
         number,
-        place: Place::File {
+        location: Location::File {
             file: copied(alloc, file)?,
         },
         kind: Subject::Punctuation,

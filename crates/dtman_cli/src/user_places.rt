@@ -1,18 +1,18 @@
-//! Places in the user's files, as a diagnosis has them.
+//! Places in the user's files as a diagnosis has them: its locations.
 
-use dtc_dialect::{Site, Span, columns_of, line_of};
-use dtman_diagnosis::{Place, copied};
+use dtc_dialect::{Place, Site, Span, columns_of, line_of};
+use dtman_diagnosis::{Location, copied};
 use std::alloc::{AllocError, Global};
 
-/// The place of bytes of a text.
-pub fn text_place(
+/// The location of bytes of a text.
+pub fn text_location(
     alloc: Global,
     text: &[u8],
-    place: dtc_dialect::Place<'_>,
+    place: Place<'_>,
     span: Span,
-) -> Result<Place, AllocError> {
+) -> Result<Location, AllocError> {
     let columns = columns_of(text, span);
-    Ok(Place::Text {
+    Ok(Location::Text {
         file: copied(alloc, place.file)?,
         line: place.line,
         column: columns.start,
@@ -21,15 +21,15 @@ pub fn text_place(
     })
 }
 
-/// The place of words that take something in.
-pub fn site_place(site: Site) -> Place {
+/// The location of words that take something in.
+pub fn site_location(site: Site) -> Location {
     let Site {
         file,
         line,
         text,
         columns,
     } = site;
-    Place::Text {
+    Location::Text {
         file,
         line,
         column: columns.start,

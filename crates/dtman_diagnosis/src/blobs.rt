@@ -1,14 +1,14 @@
 //! Refusals of blobs.
 
-use crate::diagnosis::{Diagnosis, Note, Place, Subject, copied};
+use crate::diagnosis::{Diagnosis, Location, Note, Subject, copied};
 use dt_blob_trace::{Fault, trace_blob};
 use std::alloc::{AllocError, Global};
 
-/// A diagnosis of a place with nothing more to say.
-pub(crate) fn of_place(alloc: Global, place: Place, number: u8) -> Diagnosis {
+/// A diagnosis of a location with nothing more to say.
+pub(crate) fn of_location(alloc: Global, location: Location, number: u8) -> Diagnosis {
     Diagnosis {
         number,
-        place,
+        location,
         kind: Subject::Nothing,
         subject: Vec::new(alloc),
         notes: Vec::new(alloc),
@@ -18,7 +18,7 @@ pub(crate) fn of_place(alloc: Global, place: Place, number: u8) -> Diagnosis {
 /// A diagnosis of a file as a whole.
 pub(crate) fn of_file(alloc: Global, file: &[u8], number: u8) -> Result<Diagnosis, AllocError> {
     let file = copied(alloc, file)?;
-    Ok(of_place(alloc, Place::File { file }, number))
+    Ok(of_location(alloc, Location::File { file }, number))
 }
 
 /// A diagnosis of a file as a whole, and words.
@@ -41,7 +41,7 @@ pub fn diagnose_blob(
     number: u8,
 ) -> Result<Diagnosis, AllocError> {
     match trace_blob(alloc, blob)? {
-        // a place says nothing of what is too long
+        // a location says nothing of what is too long
         Some(fault) if number == 38 && fault.number == 38 => {
             of_file_with(alloc, file, number, "the file has more")
         }
@@ -60,7 +60,7 @@ pub(crate) fn is_blob(alloc: Global, bytes: &[u8]) -> Result<bool, AllocError> {
 fn of_word(alloc: Global, file: &[u8], fault: &Fault) -> Result<Diagnosis, AllocError> {
     Ok(Diagnosis {
         number: fault.number,
-        place: Place::Offset {
+        location: Location::Offset {
             file: copied(alloc, file)?,
             offset: fault.offset,
         },

@@ -4,7 +4,7 @@ use std::alloc::{AllocError, Global};
 
 /// Where a fault is.
 #[derive(Debug, Drop)]
-pub enum Place {
+pub enum Location {
     Nowhere,
     /// A file as a whole.
     File {
@@ -37,9 +37,9 @@ pub enum Note {
     /// Names that are spelled alike, the nearest first.
     Alike(Vec<Vec<u8>>),
     /// Where that stands which it meets.
-    Earlier(Place),
+    Earlier(Location),
     /// Where a bracket stands that isn't closed.
-    Unclosed(Place),
+    Unclosed(Location),
     /// What must stand there, and the word that does.
     Wanted {
         wanted: &'static str,
@@ -106,7 +106,7 @@ pub enum Subject {
 #[derive(Debug, Drop)]
 pub struct Diagnosis {
     pub number: u8,
-    pub place: Place,
+    pub location: Location,
     pub kind: Subject,
     pub subject: Vec<u8>,
     pub notes: Vec<Note>,

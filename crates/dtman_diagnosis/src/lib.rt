@@ -18,7 +18,7 @@ mod text;
 
 pub use alike::nearest;
 pub use blobs::diagnose_blob;
-pub use diagnosis::{Diagnosis, Note, Place, Subject, copied};
+pub use diagnosis::{Diagnosis, Location, Note, Subject, copied};
 pub use examples::example_of;
 pub use overlays::diagnose_overlay;
 pub use plans::{before_event, diagnose_event, diagnose_text};

@@ -1,8 +1,8 @@
 //! Refusals of overlays.
 
 use crate::alike::nearest;
-use crate::blobs::{diagnose_blob, is_blob, of_file, of_place};
-use crate::diagnosis::{Diagnosis, Note, Place, Subject, copied};
+use crate::blobs::{diagnose_blob, is_blob, of_file, of_location};
+use crate::diagnosis::{Diagnosis, Location, Note, Subject, copied};
 use dt_blob::read;
 use dt_overlay_trace::{Culprit, Fault, Reason, Target, Trace, trace_overlay};
 use dt_tree::Tree;
@@ -26,7 +26,7 @@ pub fn diagnose_overlay(
     if !is_blob(alloc, overlay)? {
         return diagnose_blob(alloc, overlay_file, overlay, number);
     }
-    let mut diagnosis = of_place(alloc, Place::Nowhere, number);
+    let mut diagnosis = of_location(alloc, Location::Nowhere, number);
     if number == 38 {
         let words = "the tree that the overlay makes would have more";
         diagnosis.notes.push(Note::Words(words))?;
@@ -68,7 +68,7 @@ fn traced(alloc: Global, file: &[u8], trace: &Trace<'_>) -> Result<Diagnosis, Al
     let culprit = trace.culprit;
     Ok(Diagnosis {
         number: culprit.fault as u8,
-        place: Place::File {
+        location: Location::File {
             file: copied(alloc, file)?,
         },
         kind: kind_of(culprit),

@@ -1,7 +1,7 @@
 //! Refusals of text files of the bus, and of events.
 
 use crate::blobs::of_file;
-use crate::diagnosis::{Diagnosis, Note, Place, Subject, copied};
+use crate::diagnosis::{Diagnosis, Location, Note, Subject, copied};
 use crate::suppliers::add_devices;
 use std::alloc::{AllocError, Global};
 
@@ -80,7 +80,7 @@ fn of_line(
     };
     Ok(Diagnosis {
         number,
-        place: Place::Text {
+        location: Location::Text {
             file: copied(alloc, file)?,
             line: line.number,
             column: 1,

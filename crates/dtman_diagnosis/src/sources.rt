@@ -2,7 +2,7 @@
 
 use crate::alike::nearest;
 use crate::blobs::of_file_with;
-use crate::diagnosis::{Diagnosis, Note, Place, Subject, copied};
+use crate::diagnosis::{Diagnosis, Location, Note, Subject, copied};
 use crate::refused::{Stop, stop_of};
 use dt_lexeme::{Kind, Lexeme, scan_front};
 use dt_place::{locate, position_of};
@@ -44,7 +44,7 @@ impl<'a> Refused<'a> {
     fn whole(&self, alloc: Global) -> Result<Diagnosis, AllocError> {
         Ok(Diagnosis {
             number: self.number,
-            place: Place::File {
+            location: Location::File {
                 file: copied(alloc, self.file)?,
             },
             kind: Subject::Nothing,
@@ -53,11 +53,11 @@ impl<'a> Refused<'a> {
         })
     }
 
-    // The place of bytes of the text.
-    fn place(&self, alloc: Global, start: usize, end: usize) -> Result<Place, AllocError> {
+    // The location of bytes of the text.
+    fn location(&self, alloc: Global, start: usize, end: usize) -> Result<Location, AllocError> {
         let position = position_of(self.text, start);
         let line = line_around(self.text, start, position.column);
-        Ok(Place::Text {
+        Ok(Location::Text {
             file: copied(alloc, position.file.unwrap_or(self.file))?,
             line: position.line,
             column: position.column,
@@ -66,15 +66,15 @@ impl<'a> Refused<'a> {
         })
     }
 
-    fn place_of(
+    fn location_of(
         &self,
         alloc: Global,
         lexemes: &[Lexeme],
         index: usize,
-    ) -> Result<Place, AllocError> {
+    ) -> Result<Location, AllocError> {
         match lexemes.get(index) {
-            Some(lexeme) => self.place(alloc, lexeme.start as usize, lexeme.end as usize),
-            None => Ok(Place::File {
+            Some(lexeme) => self.location(alloc, lexeme.start as usize, lexeme.end as usize),
+            None => Ok(Location::File {
                 file: copied(alloc, self.file)?,
             }),
         }
@@ -116,13 +116,13 @@ impl<'a> Refused<'a> {
         let Some(found) = locate(self.text, lexemes, stop.index) else {
             return self.whole(alloc);
         };
-        let place = (lexeme.start as usize).saturating_add(stop.offset);
+        let stopped = (lexeme.start as usize).saturating_add(stop.offset);
         let (start, end) = match self.number {
             11 => (
                 found.lexeme.start as usize,
                 element_end(lexemes, stop.index),
             ),
-            15 => (place, place.saturating_add(2)),
+            15 => (stopped, stopped.saturating_add(2)),
             _ => (found.lexeme.start as usize, found.lexeme.end as usize),
         };
         let subject = match self.number {
@@ -131,41 +131,41 @@ impl<'a> Refused<'a> {
         };
         Ok(Diagnosis {
             number: self.number,
-            place: self.place(alloc, start, end)?,
+            location: self.location(alloc, start, end)?,
             kind: subject_of(found.lexeme.kind),
             subject: copied(alloc, subject)?,
             notes: Vec::new(alloc),
         })
     }
 
-    // A place where no lexeme stands.
+    // A byte where no lexeme stands.
     fn no_lexeme(
         &self,
         alloc: Global,
         lexemes: &[Lexeme],
         broken: Option<u32>,
     ) -> Result<Diagnosis, AllocError> {
-        let place = match broken {
-            Some(place) => place as usize,
+        let broken = match broken {
+            Some(broken) => broken as usize,
             None => self.text.len(),
         };
-        let (kind, place) = match self.text.get(place..) {
+        let (kind, location) = match self.text.get(broken..) {
             Some([b'"', ..] | [b'/', b'*', ..] | [b'&', b'{', ..]) => (
                 Subject::Unclosed,
-                self.place(alloc, place, place.saturating_add(1))?,
+                self.location(alloc, broken, broken.saturating_add(1))?,
             ),
             Some([_, ..]) => (
                 Subject::Nothing,
-                self.place(alloc, place, place.saturating_add(1))?,
+                self.location(alloc, broken, broken.saturating_add(1))?,
             ),
             _ => (
                 Subject::End,
-                self.place_of(alloc, lexemes, lexemes.len().saturating_sub(1))?,
+                self.location_of(alloc, lexemes, lexemes.len().saturating_sub(1))?,
             ),
         };
         Ok(Diagnosis {
             number: self.number,
-            place,
+            location,
             kind,
             subject: Vec::new(alloc),
             notes: Vec::new(alloc),
@@ -180,8 +180,8 @@ impl<'a> Refused<'a> {
         before: &[Lexeme],
     ) -> Result<(), AllocError> {
         if let Some(index) = unclosed(alloc, before)? {
-            let place = self.place_of(alloc, before, index)?;
-            diagnosis.notes.push(Note::Unclosed(place))?;
+            let location = self.location_of(alloc, before, index)?;
+            diagnosis.notes.push(Note::Unclosed(location))?;
         }
         Ok(())
     }
@@ -236,7 +236,7 @@ impl<'a> Refused<'a> {
         };
         let mut diagnosis = Diagnosis {
             number: self.number,
-            place: self.place(
+            location: self.location(
                 alloc,
                 found.lexeme.start as usize,
                 found.lexeme.end as usize,
@@ -247,8 +247,8 @@ impl<'a> Refused<'a> {
         };
         self.add_around(alloc, &mut diagnosis, &trace.around, lexemes)?;
         if let Some(other) = trace.culprit.other {
-            let place = self.place_of(alloc, lexemes, other)?;
-            diagnosis.notes.push(Note::Earlier(place))?;
+            let location = self.location_of(alloc, lexemes, other)?;
+            diagnosis.notes.push(Note::Earlier(location))?;
         }
         if self.number == 27 {
             let words = match found.lexeme.kind {
@@ -335,9 +335,9 @@ fn unclosed(alloc: Global, lexemes: &[Lexeme]) -> Result<Option<usize>, AllocErr
     Ok(open.last().copied())
 }
 
-// The line of the text round a place, whose column is known.
-fn line_around(text: &[u8], place: usize, column: usize) -> &[u8] {
-    let start = place.saturating_sub(column.saturating_sub(1));
+// The line of the text round an offset, whose column is known.
+fn line_around(text: &[u8], offset: usize, column: usize) -> &[u8] {
+    let start = offset.saturating_sub(column.saturating_sub(1));
     let line = text.get(start..).unwrap_or(&[]);
     let end = line
         .iter()

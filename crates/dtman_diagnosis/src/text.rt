@@ -1,6 +1,6 @@
 //! The text of a diagnosis.
 
-use crate::diagnosis::{Diagnosis, Note, Place};
+use crate::diagnosis::{Diagnosis, Location, Note};
 use crate::escaping::{push_blank, push_mark, push_shown};
 use crate::sentences::push_sentence;
 use std::alloc::{AllocError, Global};
@@ -13,10 +13,10 @@ const SHOWN: usize = 160;
 /// The lines of a refusal: its own first line, and what the diagnosis says, each ended.
 pub fn text_of(alloc: Global, first: &str, diagnosis: &Diagnosis) -> Result<String, AllocError> {
     let mut out = format!(in alloc; "{first}\n")?;
-    push_front(&mut out, &diagnosis.place)?;
+    push_front(&mut out, &diagnosis.location)?;
     push_sentence(&mut out, diagnosis)?;
     out.push_str("\n")?;
-    let width = push_excerpt(alloc, &mut out, &diagnosis.place)?;
+    let width = push_excerpt(alloc, &mut out, &diagnosis.location)?;
     for note in &diagnosis.notes {
         push_spaces(&mut out, width)?;
         out.push_str("= ")?;
@@ -26,12 +26,12 @@ pub fn text_of(alloc: Global, first: &str, diagnosis: &Diagnosis) -> Result<Stri
     Ok(out)
 }
 
-// A place as text: nothing where it is nowhere.
-fn push_place(out: &mut String, place: &Place) -> Result<(), AllocError> {
-    match place {
-        Place::Nowhere => {}
-        Place::File { file } => push_shown(out, file.as_slice())?,
-        Place::Text {
+// A location as text: nothing where it is nowhere.
+fn push_location(out: &mut String, location: &Location) -> Result<(), AllocError> {
+    match location {
+        Location::Nowhere => {}
+        Location::File { file } => push_shown(out, file.as_slice())?,
+        Location::Text {
             file,
             line,
             column,
@@ -40,7 +40,7 @@ fn push_place(out: &mut String, place: &Place) -> Result<(), AllocError> {
             push_shown(out, file.as_slice())?;
             write!(out, ":{line}:{column}")?;
         }
-        Place::Offset { file, offset } => {
+        Location::Offset { file, offset } => {
             push_shown(out, file.as_slice())?;
             write!(out, ":0x{offset:x}")?;
         }
@@ -48,12 +48,12 @@ fn push_place(out: &mut String, place: &Place) -> Result<(), AllocError> {
     Ok(())
 }
 
-// The place in front of a sentence.
-fn push_front(out: &mut String, place: &Place) -> Result<(), AllocError> {
-    if matches!(place, Place::Nowhere) {
+// The location in front of a sentence.
+fn push_front(out: &mut String, location: &Location) -> Result<(), AllocError> {
+    if matches!(location, Location::Nowhere) {
         return Ok(());
     }
-    push_place(out, place)?;
+    push_location(out, location)?;
     out.push_str(": ")
 }
 
@@ -65,14 +65,14 @@ fn push_spaces(out: &mut String, count: usize) -> Result<(), AllocError> {
 }
 
 // The line with a mark under what is meant, and how wide its number is, with a blank.
-fn push_excerpt(alloc: Global, out: &mut String, place: &Place) -> Result<usize, AllocError> {
-    let Place::Text {
+fn push_excerpt(alloc: Global, out: &mut String, location: &Location) -> Result<usize, AllocError> {
+    let Location::Text {
         line,
         column,
         text,
         marked,
         ..
-    } = place
+    } = location
     else {
         return Ok(1);
     };
@@ -104,8 +104,12 @@ fn push_note(out: &mut String, note: &Note) -> Result<(), AllocError> {
     match note {
         Note::In { path, property } => push_around(out, path, property),
         Note::Alike(names) => push_alike(out, names),
-        Note::Earlier(place) => push_there(out, "the other one stands at ", place),
-        Note::Unclosed(place) => push_there(out, "the bracket isn't closed that stands at ", place),
+        Note::Earlier(location) => push_there(out, "the other one stands at ", location),
+        Note::Unclosed(location) => push_there(
+            out,
+            "the bracket isn't closed that stands at ",
+            location,
+        ),
         Note::Fixup(entry) => push_quoted(out, "its entry in __fixups__ is ", entry),
         Note::Stands(line) => {
             out.push_str("before it: ")?;
@@ -206,8 +210,8 @@ fn push_cells(
     }
 }
 
-// A place within a note.
-fn push_there(out: &mut String, words: &str, place: &Place) -> Result<(), AllocError> {
+// A location within a note.
+fn push_there(out: &mut String, words: &str, location: &Location) -> Result<(), AllocError> {
     out.push_str(words)?;
-    push_place(out, place)
+    push_location(out, location)
 }

@@ -9,9 +9,11 @@ use Rattle.dt_blob.specs.declared.error.BlobError.{BlobError}
 use Rattle.dt_blob.specs.Blob.{blob_of}
 use Rattle.dt_blob.specs.Blob as blob
 use Rattle.dt_build.specs.Built.{IsLonger, IsTreeOf}
-use Rattle.dtman_engine.specs.Compile.{CannotBuild, CannotWrite, HasLongBlob, IsBlobOf, IsCompileRefusal, IsCompiled}
+use Rattle.dtman_engine.specs.Private.Writing.{CannotWrite}
+use Rattle.dtman_engine.specs.Compile.{CannotBuild, HasLongBlob, IsBlobOf, IsCompileRefusal, IsCompiled}
 use Rattle.dtman_engine.specs.declared.fault.Fault.{Fault}
-use Rattle.dtman_engine.specs.Fault.{FaultValue, blob_fault, fault_value}
+use Rattle.dtman_engine.specs.Fault.{FaultValue, fault_value}
+use Rattle.dtman_engine.specs.BlobFaults.{blob_fault}
 use Rattle.dtman_engine.specs.Limits.{blob_limit, IsShort}
 use Rattle.dtman_engine.proofs.ValueSizes.{values-fit}
 

@@ -1,5 +1,5 @@
 -- Why a refusal of the reader is explained by the bytes.
-use Rattle.std.proofs.Common.{◌≡◌, ◌↔◌, ◌⊎◌, None, ℕ, List, Result, Ok, Err, Some, IfErr, IsErrAnd, refl}
+use Rattle.std.proofs.Common.{◌≡◌, ◌↔◌, ◌⊎◌, None, ℕ, List, Result, Ok, Err, Some, IfErr, refl}
 use Rattle.std.specs.Prelude.{IsErrOf}
 use Rattle.dt_tree.specs.TreeData.{TreeData}
 use Rattle.dt_blob.specs.declared.error.BlobError.{BlobError}
@@ -8,7 +8,8 @@ use Rattle.dt_blob.specs.HeaderWords.{header_fault, reserves_of}
 use Rattle.dt_blob.specs.Holds.{Holds, HaveNoEnd}
 use Rattle.dtman_engine.specs.declared.fault.Fault.{Fault}
 use Rattle.dtman_engine.specs.Dump.{Explains, IsRefusal}
-use Rattle.dtman_engine.specs.Fault.{fault_value, blob_fault}
+use Rattle.dtman_engine.specs.Fault.{Tells, fault_value}
+use Rattle.dtman_engine.specs.BlobFaults.{blob_fault}
 use Rattle.std.proofs.Common.{inl}
 
 -- what the reader promises of an error
@@ -32,6 +33,6 @@ explained blob BadTree only large cut magic version layout = λ tree held. let s
 explained blob TooLarge only large cut magic version layout = inl (large.0 refl)
 
 pub refused : {T : Type 0} (blob : List ℕ) (e : BlobError) (result : Result T Fault)
-    → IsErrAnd result (λ fault. fault_value fault ≡ blob_fault e) → Explains blob e → IfErr result (λ fault. IsRefusal blob (fault_value fault))
+    → Tells result (blob_fault e) → Explains blob e → IfErr result (λ fault. IsRefusal blob (fault_value fault))
 refused blob e (Ok x) told why = tt
 refused blob e (Err fault) told why = record { error = e; told = told; explained = why }

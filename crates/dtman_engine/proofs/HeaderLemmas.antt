@@ -1,5 +1,5 @@
 -- A fault of the header is told as the reader answers it: the header has five kinds of faults, and the reader promises each of them.
-use Rattle.std.proofs.Common.{◌≡◌, ◌↔◌, None, ℕ, List, Bool, true, false, Option, Some, Result, Ok, Err, IsErrAnd, if◌then◌else◌, ap, subst}
+use Rattle.std.proofs.Common.{◌≡◌, ◌↔◌, None, ℕ, List, Bool, true, false, Option, Some, Result, Ok, Err, if◌then◌else◌, ap, subst}
 use Rattle.std.specs.Prelude.{⊤, ◌||◌, ◌==◌, length, nat_lt, not, IsErrOf}
 use Rattle.dt_blob.specs.declared.error.BlobError.{BlobError}
 use Rattle.dt_blob.specs.declared.error.BlobError.TheVariants.{NoMemory, Truncated, BadMagic, BadVersion, BadLayout, BadToken, BadString, PropertyAfterNode, BadTree, TooLarge}
@@ -7,7 +7,8 @@ use Rattle.dt_blob.specs.Blob.{limit}
 use Rattle.dt_blob.specs.Format.{format_version, oldest_version, header_size, magic_number}
 use Rattle.dt_blob.specs.HeaderWords.{header_fault, header_of, is_laid_out}
 use Rattle.dtman_engine.specs.declared.fault.Fault.{Fault}
-use Rattle.dtman_engine.specs.Fault.{fault_value, blob_fault}
+use Rattle.dtman_engine.specs.Fault.{Tells}
+use Rattle.dtman_engine.specs.BlobFaults.{blob_fault}
 
 -- the kinds of faults that a header can have
 IsOfHeader : BlobError → Type 0
@@ -83,6 +84,6 @@ pub no-error : {T : Type 0} (t : T) (e : BlobError) → IsErrOf {E = BlobError} 
 no-error t e is = cc
 
 -- a fault that tells the reader's error tells the header's
-pub header-told : {T V : Type 0} (x e : BlobError) (r : Result V Fault) → IsErrOf {T = T} (Err x) e → IsErrAnd r (λ fault. fault_value fault ≡ blob_fault x)
-    → IsErrAnd r (λ fault. fault_value fault ≡ blob_fault e)
-header-told x e r same told = subst (λ (y : BlobError). IsErrAnd r (λ fault. fault_value fault ≡ blob_fault y)) (is-error x e same) told
+pub header-told : {T V : Type 0} (x e : BlobError) (r : Result V Fault) → IsErrOf {T = T} (Err x) e → Tells r (blob_fault x)
+    → Tells r (blob_fault e)
+header-told x e r same told = subst (λ (y : BlobError). Tells r (blob_fault y)) (is-error x e same) told

@@ -19,7 +19,9 @@ use Rattle.dt_blob.specs.Holds.{Holds}
 use Rattle.dt_blob.specs.SourceText.{text_of}
 use Rattle.dtman_engine.specs.Compile.{CannotBuild, IsCompileRefusal, HasLongBlob}
 use Rattle.dtman_engine.specs.Dump.{CannotPrint, Explains, IsDump, IsRefusal}
-use Rattle.dtman_engine.specs.Fault.{FaultValue, blob_fault, build_fault, source_fault}
+use Rattle.dtman_engine.specs.Fault.{FaultValue}
+use Rattle.dtman_engine.specs.SourceFaults.{build_fault, source_fault}
+use Rattle.dtman_engine.specs.BlobFaults.{blob_fault}
 use Rattle.dtman_engine.specs.Laws.{CannotCompile}
 use Rattle.dtman_engine.specs.Limits.{blob_limit}
 

@@ -10,9 +10,10 @@ use Rattle.dt_blob.specs.HeaderWords.{header_fault}
 use Rattle.dt_blob.specs.Blob.{blob_of}
 use Rattle.dt_overlay.specs.Applied.{IsApplied, IsLonger}
 use Rattle.dtman_engine.specs.declared.fault.Fault.{Fault}
-use Rattle.dtman_engine.specs.Compile.{CannotWrite}
+use Rattle.dtman_engine.specs.Private.Writing.{CannotWrite}
 use Rattle.dtman_engine.specs.Dump.{Explains, IsUnread}
-use Rattle.dtman_engine.specs.Fault.{FaultValue, blob_fault, fault_value}
+use Rattle.dtman_engine.specs.Fault.{Tells, FaultValue, fault_value}
+use Rattle.dtman_engine.specs.BlobFaults.{blob_fault}
 use Rattle.dtman_engine.specs.Limits.{blob_limit}
 use Rattle.dtman_engine.specs.Overlay.{CannotApply, HasLongResult, IsBlobOfApplied, TellsOver}
 use Rattle.dtman_engine.proofs.ValueSizes.{values-fit}
@@ -45,20 +46,20 @@ unread {T} blob e large why =
 
 -- a fault that tells the reader's error has what that has
 module _ {V : Type 0} (e : BlobError) (Bad : FaultValue → Type 0) where
-  pub told : (r : Result V Fault) → IsErrAnd r (λ fault. fault_value fault ≡ blob_fault e) → Bad (blob_fault e) → IfErr r (λ fault. Bad (fault_value fault))
+  pub told : (r : Result V Fault) → Tells r (blob_fault e) → Bad (blob_fault e) → IfErr r (λ fault. Bad (fault_value fault))
   told (Ok v) is bad = tt
   told (Err fault) is bad = subst Bad (sym is) bad
 
-  pub matched : (Good : V → Type 0) (r : Result V Fault) → IsErrAnd r (λ fault. fault_value fault ≡ blob_fault e) → Bad (blob_fault e) → MatchResult r Good (λ fault. Bad (fault_value fault))
+  pub matched : (Good : V → Type 0) (r : Result V Fault) → Tells r (blob_fault e) → Bad (blob_fault e) → MatchResult r Good (λ fault. Bad (fault_value fault))
   matched Good (Ok v) is bad = elim is [ ]
   matched Good (Err fault) is bad = subst Bad (sym is) bad
 
 -- want of memory for the base comes before the overlay's error, which is told else
-pub before-over : {V : Type 0} (x e : BlobError) (r : Result V Fault) → x ≡ NoMemory → IsErrAnd r (λ fault. fault_value fault ≡ blob_fault x) → IsErrAnd r (λ fault. TellsOver e (fault_value fault))
+pub before-over : {V : Type 0} (x e : BlobError) (r : Result V Fault) → x ≡ NoMemory → Tells r (blob_fault x) → IsErrAnd r (λ fault. TellsOver e (fault_value fault))
 before-over x e (Ok v) none is = elim is [ ]
 before-over x e (Err fault) none is = inl (is ∙ ap blob_fault none)
 
-pub told-over : {V : Type 0} (e : BlobError) (r : Result V Fault) → IsErrAnd r (λ fault. fault_value fault ≡ blob_fault e) → IsErrAnd r (λ fault. TellsOver e (fault_value fault))
+pub told-over : {V : Type 0} (e : BlobError) (r : Result V Fault) → Tells r (blob_fault e) → IsErrAnd r (λ fault. TellsOver e (fault_value fault))
 told-over e (Ok v) is = elim is [ ]
 told-over e (Err fault) is = inr is
 

@@ -1,5 +1,5 @@
 -- What `compile_bytes` answers: the blob of the tree that the source in a text means, or why there is none.
-use Rattle.std.specs.Prelude.{◌≡◌, ◌≤◌, ◌<◌, ◌⊎◌, ℕ, Bool, List, length, Ok}
+use Rattle.std.specs.Prelude.{◌≡◌, ◌≤◌, ◌<◌, ◌⊎◌, ℕ, Bool, List, length, Ok, MatchResult}
 use Rattle.dt_tree.specs.PathMap.{tree_map}
 use Rattle.dt_tree.specs.TreeData.{TreeData, IsTree}
 use Rattle.dt_source.specs.declared.error.SourceErrorKind.{SourceErrorKind}
@@ -11,7 +11,9 @@ use Rattle.dt_resolve.specs.declared.error.BuildError.{BuildError}
 use Rattle.dt_build.specs.Built.{IsTreeOf, Refuses}
 use Rattle.dt_blob.specs.declared.error.BlobError.TheVariants.{TooLarge}
 use Rattle.dt_blob.specs.Blob.{blob_of}
-use Rattle.dtman_engine.specs.Fault.{FaultValue, no_memory, blob_fault, build_fault, source_fault}
+use Rattle.dtman_engine.specs.Fault.{Answer, FaultValue, fault_value, no_memory}
+use Rattle.dtman_engine.specs.SourceFaults.{build_fault, source_fault}
+use Rattle.dtman_engine.specs.BlobFaults.{blob_fault}
 use Rattle.dtman_engine.specs.Limits.{blob_limit, IsShort}
 
 -- the blob of the tree that a source means
@@ -21,10 +23,6 @@ pub record IsBlobOf (symbols : Bool) (m : Meaning) (blob : List ℕ) : Type 0 wh
   pub tree_is : IsTreeOf symbols m tree
   pub blob_is : blob ≡ blob_of tree
   pub fits : length blob ≤ blob_limit
-
--- why a blob of so many bytes isn't written: memory is wanted, or it is too long
-abbrev pub CannotWrite : ℕ → FaultValue → Type 0
-CannotWrite size fault = (fault ≡ no_memory) ⊎ ((fault ≡ blob_fault TooLarge) × (blob_limit < size))
 
 -- the blob of that tree is too long
 pub record HasLongBlob (symbols : Bool) (m : Meaning) : Type 0 where
@@ -41,6 +39,10 @@ pub record MeansNone (symbols : Bool) (m : Meaning) (fault : FaultValue) : Type 
 -- why what a source says makes no blob: memory is wanted, it means no tree, or the blob is too long
 abbrev pub CannotBuild : Bool → Meaning → FaultValue → Type 0
 CannotBuild symbols m fault = (fault ≡ no_memory) ⊎ MeansNone symbols m fault ⊎ ((fault ≡ blob_fault TooLarge) × HasLongBlob symbols m)
+
+-- the answer to what a source says: its blob, or why there is none
+abbrev pub Builds : Bool → Meaning → Answer → Type 0
+Builds symbols m given = MatchResult given (λ blob. IsBlobOf symbols m blob.items) (λ fault. CannotBuild symbols m (fault_value fault))
 
 -- the text says something, and this is its blob
 pub record IsCompiled (symbols : Bool) (text blob : List ℕ) : Type 0 where

@@ -1,12 +1,13 @@
 -- What `dump_bytes` answers: the canonical source of the tree that the bytes hold, or why there is none.
-use Rattle.std.specs.Prelude.{◌≡◌, ◌≤◌, ◌<◌, ◌⊎◌, ℕ, List, length, Some, None}
+use Rattle.std.specs.Prelude.{◌≡◌, ◌≤◌, ◌<◌, ◌⊎◌, ℕ, List, length, Some, None, MatchResult}
 use Rattle.dt_tree.specs.TreeData.{TreeData}
 use Rattle.dt_blob.specs.declared.error.BlobError.{BlobError}
 use Rattle.dt_blob.specs.declared.error.BlobError.TheVariants.{NoMemory, Truncated, BadMagic, BadVersion, BadLayout, BadToken, BadString, PropertyAfterNode, BadTree, TooLarge}
 use Rattle.dt_blob.specs.HeaderWords.{header_fault, reserves_of}
 use Rattle.dt_blob.specs.Holds.{Holds, HaveNoEnd}
 use Rattle.dt_blob.specs.SourceText.{text_of}
-use Rattle.dtman_engine.specs.Fault.{FaultValue, no_memory, blob_fault}
+use Rattle.dtman_engine.specs.Fault.{Answer, FaultValue, fault_value, no_memory}
+use Rattle.dtman_engine.specs.BlobFaults.{blob_fault}
 use Rattle.dtman_engine.specs.Limits.{blob_limit}
 
 -- the text is that of a tree that the bytes hold
@@ -19,6 +20,10 @@ pub record IsDump (blob text : List ℕ) : Type 0 where
 -- why a tree that is held isn't printed: memory is wanted, or its text is too long
 abbrev pub CannotPrint : TreeData → FaultValue → Type 0
 CannotPrint tree fault = (fault ≡ no_memory) ⊎ ((fault ≡ blob_fault TooLarge) × (blob_limit < length (text_of tree)))
+
+-- the answer to a tree: its text, or why it isn't printed
+abbrev pub PrintsTree : TreeData → Answer → Type 0
+PrintsTree tree given = MatchResult given (λ text. text.items ≡ text_of tree) (λ fault. CannotPrint tree (fault_value fault))
 
 -- the bytes hold a tree whose text is too long
 pub record HoldsLong (blob : List ℕ) : Type 0 where

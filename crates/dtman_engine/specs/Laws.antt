@@ -8,7 +8,8 @@ use Rattle.dt_canonical.specs.Bytes.{HasBytes}
 use Rattle.dt_canonical.specs.Conditions.{IsSourceTree}
 use Rattle.dtman_engine.specs.Compile.{IsCompiled, IsCompileRefusal}
 use Rattle.dtman_engine.specs.Dump.{CannotPrint, IsDump, IsRefusal}
-use Rattle.dtman_engine.specs.Fault.{FaultValue, no_memory, source_fault}
+use Rattle.dtman_engine.specs.Fault.{FaultValue, no_memory}
+use Rattle.dtman_engine.specs.SourceFaults.{source_fault}
 use Rattle.dtman_engine.specs.Limits.{blob_limit, source_limit}
 
 -- a tree with canonical source, whose blob is written: no processor but 0 boots, and its phandles are those of a source

@@ -1,6 +1,6 @@
 -- What `overlay_bytes` answers: the blob of *Overlay result* of the trees that two blobs hold, or why there is none
 -- (dt-object-internal, section 3).
-use Rattle.std.specs.Prelude.{◌≡◌, ◌≤◌, ◌<◌, ◌⊎◌, ℕ, List, length, Some, Ok}
+use Rattle.std.specs.Prelude.{◌≡◌, ◌≤◌, ◌<◌, ◌⊎◌, ℕ, List, length, Some, Ok, IsErrAnd, MatchResult}
 use Rattle.dt_tree.specs.PathMap.{tree_map}
 use Rattle.dt_tree.specs.TreeData.{TreeData, IsTree}
 use Rattle.dt_meaning.specs.MapOf.{map_of}
@@ -16,7 +16,9 @@ use Rattle.dt_blob.specs.Blob.{blob_of}
 use Rattle.dt_blob.specs.HeaderWords.{header_fault}
 use Rattle.dt_blob.specs.Holds.{Holds}
 use Rattle.dtman_engine.specs.Dump.{IsUnread}
-use Rattle.dtman_engine.specs.Fault.{FaultValue, no_memory, blob_fault, overlay_fault}
+use Rattle.dtman_engine.specs.Fault.{Answer, FaultValue, fault_value, no_memory}
+use Rattle.dtman_engine.specs.BlobFaults.{blob_fault}
+use Rattle.dtman_engine.specs.OverlayFaults.{overlay_fault}
 use Rattle.dtman_engine.specs.Limits.{blob_limit}
 
 -- the blob of the base with the overlay applied
@@ -44,6 +46,10 @@ pub record IsUnapplied (base over : TreeData) (fault : FaultValue) : Type 0 wher
 abbrev pub CannotApply : TreeData → TreeData → FaultValue → Type 0
 CannotApply base over fault = (fault ≡ no_memory) ⊎ IsUnapplied base over fault ⊎ ((fault ≡ blob_fault TooLarge) × HasLongResult base over)
 
+-- the answer to a base and an overlay: their blob, or why they make none
+abbrev pub Applies : TreeData → TreeData → Answer → Type 0
+Applies base over given = MatchResult given (λ blob. IsBlobOfApplied base over blob.items) (λ fault. CannotApply base over (fault_value fault))
+
 -- both bytes hold a tree, and this is the blob of the one with the other applied
 pub record IsOverlaid (base over blob : List ℕ) : Type 0 where
   pub base_tree : TreeData
@@ -68,6 +74,10 @@ pub record IsBadOver (base over : List ℕ) (error : BlobError) : Type 0 where
 -- the fault tells this error of the overlay, or memory ran out for the base, which is read before it
 abbrev pub TellsOver : BlobError → FaultValue → Type 0
 TellsOver error fault = (fault ≡ no_memory) ⊎ (fault ≡ blob_fault error)
+
+-- the answer is such a fault
+abbrev pub IsToldOver : BlobError → Answer → Type 0
+IsToldOver error given = IsErrAnd given (λ fault. TellsOver error (fault_value fault))
 
 -- both are held, and make no blob
 pub record AreInVain (base over : List ℕ) (fault : FaultValue) : Type 0 where

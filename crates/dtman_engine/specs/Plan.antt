@@ -1,6 +1,6 @@
 -- What a blob and a driver file plan: the plan of the tree that the bytes hold and of the drivers that the file says, or the first
 -- fault, the blob's before the file's and that before the plan's.
-use Rattle.std.specs.Prelude.{◌≡◌, ℕ, List, Result, Ok, Err, ◌⊎◌}
+use Rattle.std.specs.Prelude.{◌≡◌, ℕ, List, Result, Ok, Err, ◌⊎◌, MatchResult}
 use Rattle.dt_tree.specs.TreeData.{TreeData}
 use Rattle.dt_tree.specs.NodeData.{NodeData}
 use Rattle.dt_blob.specs.Holds.{Holds}
@@ -11,7 +11,9 @@ use Rattle.bus_drivers.specs.Driver.{DriverSetData}
 use Rattle.bus_drivers.specs.DriverFile.{reading}
 use Rattle.bus_drivers.specs.TreePlan.{plan_of}
 use Rattle.dtman_engine.specs.Dump.{IsUnread}
-use Rattle.dtman_engine.specs.Fault.{FaultValue, no_memory, text_fault}
+use Rattle.dtman_engine.specs.declared.fault.Fault.{Fault}
+use Rattle.dtman_engine.specs.Fault.{Answer, FaultValue, fault_value, no_memory}
+use Rattle.dtman_engine.specs.TextFaults.{text_fault}
 
 abbrev pub after_drivers : NodeData → Result DriverSetData PlanError → Result (List PlannedDevice) PlanError
 after_drivers root (Ok set) = plan_of root set
@@ -57,6 +59,15 @@ pub record IsUnplannedTree (blob drivers : List ℕ) (fault : FaultValue) : Type
 -- why there is no plan of a tree: memory is wanted, or the first fault
 abbrev pub CannotPlan : TreeData → List ℕ → FaultValue → Type 0
 CannotPlan tree drivers fault = (fault ≡ no_memory) ⊎ IsUnplanned (planning tree drivers) fault
+
+-- the answer to a tree and a driver file: the plan, or why there is none
+abbrev pub Plans : TreeData → List ℕ → Result (List PlannedDevice) Fault → Type 0
+Plans tree drivers given = MatchResult given (λ plan. planning tree drivers ≡ Ok plan) (λ fault. CannotPlan tree drivers (fault_value fault))
+
+-- the answer to them in bytes: the plan's text, or why there is none
+abbrev pub PrintsPlan : TreeData → List ℕ → Answer → Type 0
+PrintsPlan tree drivers given =
+    MatchResult given (λ text. printed (planning tree drivers) ≡ Ok text.items) (λ fault. CannotPlan tree drivers (fault_value fault))
 
 -- why there is no plan at all
 abbrev pub IsPlanRefusal : List ℕ → List ℕ → FaultValue → Type 0

@@ -11,7 +11,9 @@ use Rattle.bus_core.specs.History.{IsBusHistory}
 use Rattle.bus_core.specs.Replay.{replay_of}
 use Rattle.bus_core.specs.Report.{report_text}
 use Rattle.bus_core.specs.Schedule.{schedule_of}
-use Rattle.dtman_engine.specs.Fault.{FaultValue, text_fault, event_fault}
+use Rattle.dtman_engine.specs.Fault.{FaultValue}
+use Rattle.dtman_engine.specs.TextFaults.{text_fault}
+use Rattle.dtman_engine.specs.EventFaults.{event_fault}
 
 abbrev pub after_events : Result CoreValue (ℕ × Refusal) → Result CoreValue FaultValue
 after_events (Ok core) = Ok core

@@ -1,12 +1,12 @@
 //! The blob of a source, from bytes to bytes.
-ghost use Rattle.std.specs.Prelude.{◌≡◌, ◌≤◌, length, IfOk, IfErr, MatchResult};
+ghost use Rattle.std.specs.Prelude.{IfOk, IfErr};
 ghost use Rattle.dt_source.specs.Parse.{Says};
-ghost use Rattle.dt_meaning.specs.Syntax.{Meaning};
-ghost use Rattle.dt_blob.specs.Blob.{blob_of};
 ghost use Rattle.dt_source.specs.Meaning.{meaning_of};
-ghost use Rattle.dtman_engine.specs.Compile.{CannotBuild, CannotWrite, IsBlobOf, IsCompileRefusal, IsCompiled};
+ghost use Rattle.dt_meaning.specs.Syntax.{Meaning};
+ghost use Rattle.dtman_engine.specs.Compile.{Builds, IsCompileRefusal, IsCompiled};
 ghost use Rattle.dtman_engine.specs.Fault.{fault_value};
-ghost use Rattle.dtman_engine.specs.Limits.{blob_limit, IsShort};
+ghost use Rattle.dtman_engine.specs.Limits.{IsShort};
+ghost use Rattle.dtman_engine.specs.Private.Writing.{Writes};
 
 use crate::fault::Fault;
 use crate::limits::MAX_BLOB_LEN;
@@ -30,7 +30,7 @@ pub fn compile_bytes(
     // What is answered is the blob of the tree that the text means.
     ensures answer { IfOk result (λ blob. IsCompiled symbols source.now blob.items) }
     // What a text says is answered, or why it makes no blob.
-    ensures said { (m : Meaning) → IsShort source.now → Says source.now m → MatchResult result (λ blob. IsBlobOf symbols m blob.items) (λ fault. CannotBuild symbols m (fault_value fault)) }
+    ensures said { (m : Meaning) → IsShort source.now → Says source.now m → Builds symbols m result }
     // Each refusal has its reason in the text.
     ensures refused { IfErr result (λ fault. IsCompileRefusal symbols source.now (fault_value fault)) }
 {
@@ -47,7 +47,7 @@ fn source_blob(
     source: &Source<'_>,
     symbols: bool,
 ) -> Result<Vec<u8>, Fault>
-    ensures { MatchResult result (λ blob. IsBlobOf symbols (meaning_of source.now) blob.items) (λ fault. CannotBuild symbols (meaning_of source.now) (fault_value fault)) }
+    ensures { Builds symbols (meaning_of source.now) result }
 {
     match build_within(alloc, hasher, source, symbols, MAX_BLOB_LEN) {
         Err(error) => Err(Fault::from(error)),
@@ -61,7 +61,7 @@ fn source_blob(
 
 /// The blob of a tree.
 pub(crate) fn tree_blob(alloc: Global, hasher: RandomState, tree: &Tree) -> Result<Vec<u8>, Fault>
-    ensures { MatchResult result (λ blob. (blob.items ≡ blob_of tree.now) × (length blob.items ≤ blob_limit)) (λ fault. CannotWrite (length (blob_of tree.now)) (fault_value fault)) }
+    ensures { Writes tree.now result }
 {
     match write(alloc, hasher, tree) {
         Ok(blob) => Ok(blob),

@@ -1,6 +1,12 @@
 //! A refusal as the program prints it.
 ghost use Rattle.std.specs.Prelude.{◌≡◌};
-ghost use Rattle.dtman_engine.specs.Fault.{fault_value, no_memory, cannot_read, cannot_write, file_too_long, text_fault, event_fault, blob_fault, build_fault, overlay_fault, run_fault, source_fault};
+ghost use Rattle.dtman_engine.specs.Fault.{fault_value, no_memory, cannot_read, cannot_write, file_too_long};
+ghost use Rattle.dtman_engine.specs.SourceFaults.{build_fault, source_fault};
+ghost use Rattle.dtman_engine.specs.BlobFaults.{blob_fault};
+ghost use Rattle.dtman_engine.specs.OverlayFaults.{overlay_fault};
+ghost use Rattle.dtman_engine.specs.TextFaults.{text_fault};
+ghost use Rattle.dtman_engine.specs.EventFaults.{event_fault};
+ghost use Rattle.dtman_engine.specs.RunFaults.{run_fault};
 
 use bus_core::Refusal;
 use bus_manager::RunError;
@@ -14,7 +20,7 @@ use std::fmt;
 
 /// Where a fault was found.
 #[derive(Clone, Copy, Debug, PartialEq, Eq)]
-pub enum Place {
+pub enum Position {
     Nowhere,
     /// A line of a text file, from 1.
     Line(usize),
@@ -22,12 +28,12 @@ pub enum Place {
     Event(usize),
 }
 
-/// The number, name and place of a refusal. Numbers and names are those of the crate that refused.
+/// The number, name and position of a refusal. Numbers and names are those of the crate that refused.
 #[derive(Clone, Copy, Debug)]
 pub struct Fault {
     pub number: u8,
     pub name: &'static str,
-    pub place: Place,
+    pub position: Position,
 }
 
 impl Fault {
@@ -38,7 +44,7 @@ impl Fault {
         Fault {
             number: 0,
             name: "NoMemory",
-            place: Place::Nowhere,
+            position: Position::Nowhere,
         }
     }
 
@@ -49,7 +55,7 @@ impl Fault {
         Fault {
             number: 80,
             name: "CannotRead",
-            place: Place::Nowhere,
+            position: Position::Nowhere,
         }
     }
 
@@ -60,7 +66,7 @@ impl Fault {
         Fault {
             number: 81,
             name: "CannotWrite",
-            place: Place::Nowhere,
+            position: Position::Nowhere,
         }
     }
 
@@ -71,7 +77,7 @@ impl Fault {
         Fault {
             number: 82,
             name: "FileTooLong",
-            place: Place::Nowhere,
+            position: Position::Nowhere,
         }
     }
 }
@@ -91,9 +97,9 @@ impl From<PlanError> for Fault {
         Fault {
             number: error.number(),
             name: error.name(),
-            place: match error.line() {
-                Some(line) => Place::Line(line),
-                None => Place::Nowhere,
+            position: match error.line() {
+                Some(line) => Position::Line(line),
+                None => Position::Nowhere,
             },
         }
     }
@@ -107,9 +113,9 @@ impl From<SourceError> for Fault {
         Fault {
             number: error.number(),
             name: error.name(),
-            place: match error.kind {
-                SourceErrorKind::NoMemory => Place::Nowhere,
-                _ => Place::Line(error.line),
+            position: match error.kind {
+                SourceErrorKind::NoMemory => Position::Nowhere,
+                _ => Position::Line(error.line),
             },
         }
     }
@@ -122,7 +128,7 @@ impl From<BuildError> for Fault {
         Fault {
             number: error.number(),
             name: error.name(),
-            place: Place::Nowhere,
+            position: Position::Nowhere,
         }
     }
 }
@@ -134,7 +140,7 @@ impl From<OverlayError> for Fault {
         Fault {
             number: error.number(),
             name: error.name(),
-            place: Place::Nowhere,
+            position: Position::Nowhere,
         }
     }
 }
@@ -146,7 +152,7 @@ impl From<BlobError> for Fault {
         Fault {
             number: error.number(),
             name: error.name(),
-            place: Place::Nowhere,
+            position: Position::Nowhere,
         }
     }
 }
@@ -158,7 +164,7 @@ impl From<RunError> for Fault {
         Fault {
             number: error.number(),
             name: error.name(),
-            place: Place::Nowhere,
+            position: Position::Nowhere,
         }
     }
 }
@@ -171,9 +177,9 @@ impl From<(usize, Refusal)> for Fault {
         Fault {
             number: refusal.number(),
             name: refusal.name(),
-            place: match refusal {
-                Refusal::NoMemory => Place::Nowhere,
-                _ => Place::Event(number),
+            position: match refusal {
+                Refusal::NoMemory => Position::Nowhere,
+                _ => Position::Event(number),
             },
         }
     }
@@ -189,12 +195,12 @@ impl fmt::Display for Fault {
         let Fault {
             number,
             name,
-            place,
+            position,
         } = *self;
-        match place {
-            Place::Nowhere => write!(f, "error {number} {name}"),
-            Place::Line(line) => write!(f, "error {number} {name} line {line}"),
-            Place::Event(event) => write!(f, "error {number} {name} event {event}"),
+        match position {
+            Position::Nowhere => write!(f, "error {number} {name}"),
+            Position::Line(line) => write!(f, "error {number} {name} line {line}"),
+            Position::Event(event) => write!(f, "error {number} {name} event {event}"),
         }
     }
 }

@@ -21,7 +21,7 @@ pub use channel::{Channel, Failed};
 pub use compiling::compile_bytes;
 pub use dump::dump_bytes;
 pub use explaining::{Explanation, explain};
-pub use fault::{Fault, Place};
+pub use fault::{Fault, Position};
 pub use laws::{blobs_come_back, limits_stand};
 pub use limits::{MAX_BLOB_LEN, MAX_SOURCE_LEN, MAX_TEXT_LEN};
 pub use memory::Memory;

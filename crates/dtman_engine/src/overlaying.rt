@@ -1,11 +1,12 @@
 //! An overlay applied to a base, from bytes to bytes.
-ghost use Rattle.std.specs.Prelude.{◌≡◌, Some, IfOk, IfErr, IsErrAnd, MatchResult};
+ghost use Rattle.std.specs.Prelude.{◌≡◌, Some, IfOk, IfErr};
 ghost use Rattle.dt_tree.specs.TreeData.{TreeData};
 ghost use Rattle.dt_blob.specs.declared.error.BlobError.{BlobError};
 ghost use Rattle.dt_blob.specs.HeaderWords.{header_fault};
 ghost use Rattle.dt_blob.specs.Holds.{Holds};
-ghost use Rattle.dtman_engine.specs.Fault.{fault_value, blob_fault};
-ghost use Rattle.dtman_engine.specs.Overlay.{CannotApply, IsBlobOfApplied, IsBadOver, IsOverlaid, IsOverlayRefusal, TellsOver};
+ghost use Rattle.dtman_engine.specs.Fault.{Tells, fault_value};
+ghost use Rattle.dtman_engine.specs.BlobFaults.{blob_fault};
+ghost use Rattle.dtman_engine.specs.Overlay.{Applies, IsBadOver, IsOverlaid, IsOverlayRefusal, IsToldOver};
 
 use crate::compiling::tree_blob;
 use crate::fault::Fault;
@@ -29,13 +30,13 @@ pub fn overlay_bytes(
     // What is answered is the blob of one held tree with the other applied.
     ensures answer { IfOk result (λ blob. IsOverlaid base.now overlay.now blob.items) }
     // Trees that the bytes hold are answered for, or why they make no blob.
-    ensures held { (b o : TreeData) → Holds base.now b → Holds overlay.now o → MatchResult result (λ blob. IsBlobOfApplied b o blob.items) (λ fault. CannotApply b o (fault_value fault)) }
+    ensures held { (b o : TreeData) → Holds base.now b → Holds overlay.now o → Applies b o result }
     // Each refusal has its reason in the bytes.
     ensures refused { IfErr result (λ fault. IsOverlayRefusal base.now overlay.now (fault_value fault)) }
     // A fault of the base's header comes before all else.
-    ensures header { (e : BlobError) → header_fault base.now ≡ Some e → IsErrAnd result (λ fault. fault_value fault ≡ blob_fault e) }
+    ensures header { (e : BlobError) → header_fault base.now ≡ Some e → Tells result (blob_fault e) }
     // Behind a base that is held, one of the overlay's header comes, unless memory runs out for the base.
-    ensures overlay_header { (e : BlobError) → IsBadOver base.now overlay.now e → IsErrAnd result (λ fault. TellsOver e (fault_value fault)) }
+    ensures overlay_header { (e : BlobError) → IsBadOver base.now overlay.now e → IsToldOver e result }
 {
     let base = read(alloc, base)?;
     let overlay = read(alloc, overlay)?;
@@ -48,7 +49,7 @@ fn applied_blob(
     base: &Tree,
     overlay: &Tree,
 ) -> Result<Vec<u8>, Fault>
-    ensures { MatchResult result (λ blob. IsBlobOfApplied base.now overlay.now blob.items) (λ fault. CannotApply base.now overlay.now (fault_value fault)) }
+    ensures { Applies base.now overlay.now result }
 {
     match apply_within(alloc, hasher, base, overlay, MAX_BLOB_LEN) {
         Err(error) => Err(Fault::from(error)),

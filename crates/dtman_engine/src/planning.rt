@@ -1,13 +1,15 @@
 //! The plan of a blob and a driver file, from bytes to bytes.
-ghost use Rattle.std.specs.Prelude.{◌≡◌, Some, Ok, IfOk, IfErr, IsErrAnd, MatchResult};
+ghost use Rattle.std.specs.Prelude.{◌≡◌, Some, IfOk, IfErr};
 ghost use Rattle.dt_tree.specs.TreeData.{TreeData};
 ghost use Rattle.dt_blob.specs.declared.error.BlobError.{BlobError};
 ghost use Rattle.dt_blob.specs.HeaderWords.{header_fault};
 ghost use Rattle.dt_blob.specs.Holds.{Holds};
 ghost use Rattle.bus_plan.specs.PlanFile.{Answers};
 ghost use Rattle.bus_plan.specs.PlanText.{text_of};
-ghost use Rattle.dtman_engine.specs.Fault.{fault_value, blob_fault, no_memory};
-ghost use Rattle.dtman_engine.specs.Plan.{planning, printed, HasPlan, IsPlanned, IsPlanText, IsPlanRefusal, CannotPlan};
+ghost use Rattle.dtman_engine.specs.Fault.{Tells, fault_value};
+ghost use Rattle.dtman_engine.specs.BlobFaults.{blob_fault};
+ghost use Rattle.dtman_engine.specs.Plan.{planning, HasPlan, IsPlanned, IsPlanText, IsPlanRefusal, Plans, PrintsPlan};
+ghost use Rattle.dtman_engine.specs.Private.Printing.{Prints};
 
 use crate::fault::Fault;
 use bus_drivers::{plan, plan_graph, read_drivers};
@@ -27,9 +29,9 @@ pub(crate) fn planned(
     drivers: &[u8],
 ) -> Result<Plan, Fault>
     ensures answer { IfOk result (IsPlanned blob.now drivers.now) }
-    ensures held { (tree : TreeData) → Holds blob.now tree → MatchResult result (λ plan. planning tree drivers.now ≡ Ok plan) (λ fault. CannotPlan tree drivers.now (fault_value fault)) }
+    ensures held { (tree : TreeData) → Holds blob.now tree → Plans tree drivers.now result }
     ensures refused { IfErr result (λ fault. IsPlanRefusal blob.now drivers.now (fault_value fault)) }
-    ensures header { (e : BlobError) → header_fault blob.now ≡ Some e → IsErrAnd result (λ fault. fault_value fault ≡ blob_fault e) }
+    ensures header { (e : BlobError) → header_fault blob.now ≡ Some e → Tells result (blob_fault e) }
 {
     let tree = read(alloc, blob)?;
     Ok(plan_tree(alloc, hasher, &tree, drivers)?)
@@ -57,18 +59,18 @@ pub fn plan_bytes(
     // What is printed is the plan of a tree that the bytes hold.
     ensures answer { IfOk result (λ text. IsPlanText blob.now drivers.now text.items) }
     // The plan of a tree that the bytes hold is printed, or its first fault told.
-    ensures held { (tree : TreeData) → Holds blob.now tree → MatchResult result (λ text. printed (planning tree drivers.now) ≡ Ok text.items) (λ fault. CannotPlan tree drivers.now (fault_value fault)) }
+    ensures held { (tree : TreeData) → Holds blob.now tree → PrintsPlan tree drivers.now result }
     // Each refusal has its reason in the bytes.
     ensures refused { IfErr result (λ fault. IsPlanRefusal blob.now drivers.now (fault_value fault)) }
     // A fault of the header comes before all else.
-    ensures header { (e : BlobError) → header_fault blob.now ≡ Some e → IsErrAnd result (λ fault. fault_value fault ≡ blob_fault e) }
+    ensures header { (e : BlobError) → header_fault blob.now ≡ Some e → Tells result (blob_fault e) }
 {
     let plan = planned(alloc, hasher, blob, drivers)?;
     text_of(alloc, &plan)
 }
 
 fn text_of(alloc: Global, plan: &Plan) -> Result<Vec<u8>, Fault>
-    ensures { MatchResult result (λ text. text.items ≡ text_of plan.now) (λ fault. fault_value fault ≡ no_memory) }
+    ensures { Prints (text_of plan.now) result }
 {
     plan_text(alloc, plan).map_err(|_| Fault::no_memory())
 }
@@ -83,7 +85,7 @@ pub fn graph_bytes(
     // What is drawn is a plan of a tree that the bytes hold.
     ensures answer { IfOk result (λ _. HasPlan blob.now drivers.now) }
     ensures refused { IfErr result (λ fault. IsPlanRefusal blob.now drivers.now (fault_value fault)) }
-    ensures header { (e : BlobError) → header_fault blob.now ≡ Some e → IsErrAnd result (λ fault. fault_value fault ≡ blob_fault e) }
+    ensures header { (e : BlobError) → header_fault blob.now ≡ Some e → Tells result (blob_fault e) }
 {
     let plan = planned(alloc, hasher, blob, drivers)?;
     plan_graph(alloc, &plan).map_err(|_| Fault::no_memory())

@@ -1,13 +1,14 @@
 //! The devices of a blob probed by workers, from bytes to the end report.
-ghost use Rattle.std.specs.Prelude.{◌≡◌, Some, IfOk, IfErr, IsErrAnd, MatchResult};
-ghost use Rattle.bus_manager.specs.Run.{IsRun};
+ghost use Rattle.std.specs.Prelude.{◌≡◌, Some, IfOk, IfErr};
 ghost use Rattle.dt_tree.specs.TreeData.{TreeData};
 ghost use Rattle.dt_blob.specs.declared.error.BlobError.{BlobError};
 ghost use Rattle.dt_blob.specs.HeaderWords.{header_fault};
 ghost use Rattle.dt_blob.specs.Holds.{Holds};
-ghost use Rattle.dtman_engine.specs.Fault.{fault_value, blob_fault};
-ghost use Rattle.dtman_engine.specs.Plan.{planning};
-ghost use Rattle.dtman_engine.specs.Probe.{IsProbe, IsProbeOf, IsProbeRefusal, AreTooMany, CannotProbe, CannotRun};
+ghost use Rattle.dtman_engine.specs.Fault.{Tells, fault_value};
+ghost use Rattle.dtman_engine.specs.BlobFaults.{blob_fault};
+ghost use Rattle.dtman_engine.specs.Probe.{IsProbe, IsProbeRefusal, Probes};
+ghost use Rattle.dtman_engine.specs.RunFaults.{AreTooMany};
+ghost use Rattle.dtman_engine.specs.Private.Running.{Runs};
 
 use crate::fault::Fault;
 use crate::planning::planned;
@@ -30,15 +31,15 @@ pub fn probe_bytes<P: Prober, R: Threads + Sync>(
     workers: usize,
 ) -> Result<Ran<P::Note>, Fault>
     // The one end report of the plan of a tree that the bytes hold, with a note of each device that has settled.
-    ensures answer { IfOk result (λ ran. IsProbe (P.attests prober.now) blob.now drivers.now ran.report.items ran.notes.items) }
+    ensures answer { IfOk result (IsProbe (P.attests prober.now) blob.now drivers.now) }
     // The plan of a tree that the bytes hold is run, or its first fault told.
-    ensures held { (tree : TreeData) → Holds blob.now tree → MatchResult result (λ ran. IsProbeOf (P.attests prober.now) (planning tree drivers.now) ran.report.items ran.notes.items) (λ fault. CannotProbe tree drivers.now workers (fault_value fault)) }
+    ensures held { (t : TreeData) → Holds blob.now t → Probes (P.attests prober.now) t drivers.now workers result }
     // No run has no worker, or too many.
     ensures many { IfOk result (λ _. ¬ (AreTooMany workers)) }
     // Each refusal has its reason in the bytes or, where they have a plan, in the number of workers.
     ensures refused { IfErr result (λ fault. IsProbeRefusal blob.now drivers.now workers (fault_value fault)) }
     // A fault of the header comes before all else.
-    ensures header { (e : BlobError) → header_fault blob.now ≡ Some e → IsErrAnd result (λ fault. fault_value fault ≡ blob_fault e) }
+    ensures header { (e : BlobError) → header_fault blob.now ≡ Some e → Tells result (blob_fault e) }
 {
     let plan = planned(alloc, hasher, blob, drivers)?;
     plan_run(rt, alloc, &plan, prober, workers)
@@ -51,7 +52,7 @@ fn plan_run<P: Prober, R: Threads + Sync>(
     prober: &P,
     workers: usize,
 ) -> Result<Ran<P::Note>, Fault>
-    ensures run { MatchResult result (λ ran. IsRun (P.attests prober.now plan.now) plan.now ran.report.items ran.notes.items) (λ fault. CannotRun workers (fault_value fault)) }
+    ensures run { Runs (P.attests prober.now plan.now) plan.now workers result }
     ensures many { IfOk result (λ _. ¬ (AreTooMany workers)) }
 {
     match run(rt, alloc, plan, prober, workers) {

@@ -3,6 +3,7 @@ ghost use Rattle.std.specs.Prelude.{◌≡◌, ◌⊎◌, IfOk, MatchResult, Ok,
 ghost use Rattle.bus_core.specs.Report.{report_text};
 ghost use Rattle.dtman_engine.specs.Fault.{fault_value, no_memory};
 ghost use Rattle.dtman_engine.specs.Replay.{replaying, replay_answer, ReportsHistory};
+ghost use Rattle.dtman_engine.specs.Private.Printing.{Prints};
 
 use crate::fault::Fault;
 use bus_core::{Core, read_schedule, replay};
@@ -49,9 +50,7 @@ pub fn replay_bytes(
 }
 
 fn report_of(alloc: Global, core: &Core) -> Result<Vec<u8>, Fault>
-    ensures report { MatchResult result
-        (λ report. report.items ≡ report_text core.now.plan core.now.state)
-        (λ fault. fault_value fault ≡ no_memory) }
+    ensures report { Prints (report_text core.now.plan core.now.state) result }
 {
     core.report(alloc).map_err(|_| Fault::no_memory())
 }

@@ -1,8 +1,8 @@
 //! A schedule replayed over a plan and then run to its end by workers, from bytes to the end report.
-ghost use Rattle.std.specs.Prelude.{IfOk, IfErr, MatchResult};
-ghost use Rattle.bus_manager.specs.Run.{IsRunOf};
+ghost use Rattle.std.specs.Prelude.{IfOk, IfErr};
 ghost use Rattle.dtman_engine.specs.Fault.{fault_value};
-ghost use Rattle.dtman_engine.specs.Probe.{AreTooMany, CannotRun};
+ghost use Rattle.dtman_engine.specs.RunFaults.{AreTooMany};
+ghost use Rattle.dtman_engine.specs.Private.Running.{GoesOn};
 ghost use Rattle.dtman_engine.specs.ReplayRun.{IsReplayRun, IsReplayRunRefusal};
 
 use crate::fault::Fault;
@@ -27,7 +27,7 @@ pub fn replay_run_bytes<P: Prober, R: Threads + Sync>(
     workers: usize,
 ) -> Result<Ran<P::Note>, Fault>
     // The one end report of the core that the schedule leads to, with a note of each device that has settled since.
-    ensures answer { IfOk result (λ ran. IsReplayRun (P.attests prober.now) plan.now schedule.now ran.report.items ran.notes.items) }
+    ensures answer { IfOk result (IsReplayRun (P.attests prober.now) plan.now schedule.now) }
     // No run has no worker, or too many.
     ensures many { IfOk result (λ _. ¬ (AreTooMany workers)) }
     // Each refusal is the replay's first fault or, where it has none, has its reason in the number of workers.
@@ -44,7 +44,7 @@ fn core_run<P: Prober, R: Threads + Sync>(
     prober: &P,
     workers: usize,
 ) -> Result<Ran<P::Note>, Fault>
-    ensures run { MatchResult result (λ ran. IsRunOf (P.attests prober.now core.plan) core ran.report.items ran.notes.items) (λ fault. CannotRun workers (fault_value fault)) }
+    ensures run { GoesOn (P.attests prober.now core.plan) core workers result }
     ensures many { IfOk result (λ _. ¬ (AreTooMany workers)) }
 {
     match run_core(rt, alloc, core, prober, workers) {

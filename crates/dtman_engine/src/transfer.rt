@@ -1,8 +1,7 @@
 //! Whole inputs read and whole outputs written.
-ghost use Rattle.std.specs.Prelude.{◌≡◌, ◌+◌, ◌<◌, ◌≤◌, ◌^◌, ◌⊎◌, false, true, take, length, IfOk, IfErr, OnOk};
+ghost use Rattle.std.specs.Prelude.{◌≡◌, ◌+◌, ◌<◌, ◌≤◌, ◌^◌, false, true, length, IfOk, IfErr, OnOk};
 ghost use Rattle.std.specs.Io.KnownBytes.{Appends, Consumes, IsAtEnd};
-ghost use Rattle.dtman_engine.specs.Fault.{fault_value, no_memory, cannot_read, file_too_long};
-ghost use Rattle.dtman_engine.specs.Transfer.{HasMore};
+ghost use Rattle.dtman_engine.specs.Transfer.{CannotTake, CannotTakeAll, TakesAll, WritesFront};
 
 use crate::channel::{Channel, Failed};
 use crate::fault::Fault;
@@ -28,7 +27,7 @@ pub fn read_all<C: Channel>(alloc: Global, channel: &mut C, limit: usize) -> Res
     // It stops before that at the end alone.
     ensures end { IfOk result (λ bytes. length bytes.items ≤ limit → IsAtEnd (C.left channel.new)) }
     ensures ok { OnOk result (C.has_failed channel.new ≡ false) }
-    ensures fault { IfErr result (λ fault. (fault_value fault ≡ no_memory) ⊎ ((fault_value fault ≡ cannot_read) × (C.has_failed channel.new ≡ true))) }
+    ensures fault { IfErr result (CannotTake (C.has_failed channel.new)) }
 {
     let mut bytes = Vec::new(alloc);
     let mut piece = [0u8; PIECE];
@@ -51,8 +50,8 @@ pub fn read_within<C: Channel>(
 ) -> Result<Vec<u8>, Fault>
     requires bounded { limit < 2 ^ 32 }
     requires sound { C.has_failed channel.old ≡ false }
-    ensures taken { IfOk result (λ bytes. (length bytes.items ≤ limit) × Consumes (C.left channel.old) (C.left channel.new) bytes.items × IsAtEnd (C.left channel.new)) }
-    ensures fault { IfErr result (λ fault. (fault_value fault ≡ no_memory) ⊎ (((fault_value fault ≡ cannot_read) × (C.has_failed channel.new ≡ true)) ⊎ ((fault_value fault ≡ file_too_long) × HasMore (C.left channel.old) limit))) }
+    ensures taken { IfOk result (λ bytes. TakesAll (C.left channel.old) (C.left channel.new) bytes.items limit) }
+    ensures fault { IfErr result (CannotTakeAll (C.has_failed channel.new) (C.left channel.old) limit) }
 {
     let bytes = read_all(alloc, channel, limit)?;
     if bytes.len() > limit {
@@ -67,7 +66,7 @@ pub fn write_out<C: Channel>(channel: &mut C, text: &[u8]) -> Result<(), WriteFa
     ensures whole { OnOk result (Appends (C.written channel.old) (C.written channel.new) text.now) }
     ensures ok { OnOk result (C.has_failed channel.new ≡ false) }
     // After a fault the channel has the first bytes of the text, as many as the fault says.
-    ensures front { IfErr result (λ fault. (fault.written ≤ length text.now) × Appends (C.written channel.old) (C.written channel.new) (take fault.written text.now)) }
+    ensures front { IfErr result (WritesFront (C.written channel.old) (C.written channel.new) text.now) }
     ensures fault { IfErr result (λ _. C.has_failed channel.new ≡ true) }
 {
     let mut written = 0;

@@ -3,7 +3,8 @@ use Rattle.std.proofs.Common.{inl, MatchResult, ap, subst, ◌∙◌}
 use Rattle.dt_source.specs.Meaning.{meaning_of}
 use Rattle.dt_meaning.specs.Syntax.{Meaning}
 use Rattle.dtman_engine.specs.Compile.{CannotBuild, IsBlobOf}
-use Rattle.dtman_engine.specs.Fault.{fault_value, source_fault}
+use Rattle.dtman_engine.specs.Fault.{fault_value}
+use Rattle.dtman_engine.specs.SourceFaults.{source_fault}
 use Rattle.dtman_engine.proofs.CompileLemmas.{compiled, in-vain}
 use Rattle.dtman_engine.proofs.compiling.compile_bytes.Goals as goal
 

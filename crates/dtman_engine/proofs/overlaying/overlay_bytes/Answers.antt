@@ -1,6 +1,6 @@
 -- The reader's errors are told, and explained by what the reader promises of them; a tree that is held is the one that was read.
 use Rattle.std.proofs.Common.{inl, inr, ap, Ok, Err}
-use Rattle.dtman_engine.specs.Fault.{blob_fault}
+use Rattle.dtman_engine.specs.BlobFaults.{blob_fault}
 use Rattle.dtman_engine.specs.Overlay.{CannotApply, IsBlobOfApplied, IsOverlayRefusal}
 use Rattle.dtman_engine.proofs.DumpLemmas.{explained}
 use Rattle.dtman_engine.proofs.HeaderLemmas.{header-error, header-told, no-error}

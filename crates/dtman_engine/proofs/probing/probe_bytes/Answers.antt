@@ -5,7 +5,8 @@ use Rattle.bus_plan.specs.Plan.{PlannedDevice}
 use Rattle.dtman_engine.specs.declared.fault.Fault.{Fault}
 use Rattle.dtman_engine.specs.Fault.{fault_value}
 use Rattle.dtman_engine.specs.Plan.{planning, IsPlanned}
-use Rattle.dtman_engine.specs.Probe.{CannotProbe, CannotRun, IsProbeRefusal}
+use Rattle.dtman_engine.specs.Probe.{CannotProbe, IsProbeRefusal}
+use Rattle.dtman_engine.specs.RunFaults.{CannotRun}
 use Rattle.dtman_engine.proofs.probing.probe_bytes.Goals as goal
 
 unrun : {V : Type 0} (blob drivers : List ℕ) (workers : ℕ) (plan : List PlannedDevice) (Good : V → Type 0) (r : Result V Fault)

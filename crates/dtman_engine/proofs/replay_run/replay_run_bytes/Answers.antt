@@ -3,7 +3,7 @@ use Rattle.std.proofs.Common.{◌≡◌, inr, ℕ, List, Result, Ok, Err, IfErr,
 use Rattle.bus_core.specs.CoreState.{CoreValue}
 use Rattle.dtman_engine.specs.declared.fault.Fault.{Fault}
 use Rattle.dtman_engine.specs.Fault.{FaultValue, fault_value}
-use Rattle.dtman_engine.specs.Probe.{CannotRun}
+use Rattle.dtman_engine.specs.RunFaults.{CannotRun}
 use Rattle.dtman_engine.specs.Replay.{replaying}
 use Rattle.dtman_engine.specs.ReplayRun.{CannotGoOn, IsReplayRunRefusal}
 use Rattle.dtman_engine.proofs.replay_run.replay_run_bytes.Goals as goal

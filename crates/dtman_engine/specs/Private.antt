@@ -1,0 +1,4 @@
+-- What private contracts cite: what the engines' parts answer. No public clause rests on it.
+pub mod Printing
+pub mod Running
+pub mod Writing
