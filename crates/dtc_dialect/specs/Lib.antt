@@ -1,5 +1,6 @@
 pub mod Bytes
 pub mod Character
+pub mod Copied
 pub mod Cuts
 pub mod Fronts
 pub mod GapAt

@@ -1,4 +1,9 @@
 //! The table said as one body in the profile: what is there, in dtc's order.
+ghost use Rattle.std.specs.Prelude.{◌≡◌, ℕ, List, OnOk, Some, is_some, true};
+ghost use Rattle.std.specs.Fmt.{decimal};
+ghost use Rattle.dtc_dialect.specs.declared.token.Kind.TheVariants.{Reference};
+ghost use Rattle.dtc_dialect.specs.Character.{character_of};
+ghost use Rattle.dtc_dialect.specs.Copied.{Copied, IsPut, IsWord, inside, is_character};
 
 use crate::bytes::{behind, front};
 use crate::character::character;
@@ -237,26 +242,53 @@ fn put_tokens<'t>(
     printer: &mut Printer<'t>,
     what: Printed<'_, 't>,
     tokens: &[Token<'t>],
-) -> Result<(), DialectError<'t>> {
+) -> Result<(), DialectError<'t>>
+    ensures { OnOk result ((said : List ℕ) × Copied (is_some what.entry.numbers) tokens.now said × IsPut printer.old.text.items printer.new.text.items said) }
+{
     let mut cells = Cells::none();
     for token in tokens {
         cells.step(token.kind);
         printer.move_to(alloc, token.place, token.has_gap)?;
         printer.note(Word::At(token.place));
-        match token.kind {
-            Kind::Character => put_character(alloc, printer, token)?,
-            Kind::Reference if cells.are_open => put_reference(alloc, printer, what, token)?,
-            _ => printer.put(token.text)?,
-        }
+        put_word(alloc, printer, what, token, cells.are_open)?;
     }
     Ok(())
+}
+
+/// Puts a word as it stands, or its number.
+fn put_word<'t>(
+    alloc: Global,
+    printer: &mut Printer<'t>,
+    what: Printed<'_, 't>,
+    token: &Token<'t>,
+    in_cells: bool,
+) -> Result<(), DialectError<'t>>
+    ensures { OnOk result ((said : List ℕ) × IsWord (is_some what.entry.numbers) token.now said × IsPut printer.old.text.items printer.new.text.items said) }
+{
+    if is_character(token.kind) {
+        return put_character(alloc, printer, token);
+    }
+    match token.kind {
+        Kind::Reference if in_cells => return put_reference(alloc, printer, what, token),
+        _ => {}
+    }
+    printer.put(token.text)?;
+    Ok(())
+}
+
+fn is_character(kind: Kind) -> bool
+    ensures { result ≡ is_character kind }
+{
+    matches!(kind, Kind::Character)
 }
 
 fn put_character<'t>(
     alloc: Global,
     printer: &mut Printer<'t>,
     token: &Token<'t>,
-) -> Result<(), DialectError<'t>> {
+) -> Result<(), DialectError<'t>>
+    ensures { OnOk result ((n : ℕ) × (character_of (inside token.now.text.now) ≡ Some n) × IsPut printer.old.text.items printer.new.text.items (decimal n)) }
+{
     let inside = behind(front(token.text, token.text.len().saturating_sub(1)), 1);
     let Some(number) = character(inside) else {
         return Err(refused(Mistake::Syntax, token.place));
@@ -265,27 +297,31 @@ fn put_character<'t>(
     Ok(())
 }
 
-/// A reference in cells. A node that has its number by `linux,phandle` alone is named by it.
+/// The number of the node that a reference names, where it has it by `linux,phandle` alone and numbers are written out.
+fn legacy_number<'t>(what: Printed<'_, 't>, token: &Token<'t>) -> Option<u64>
+    ensures { is_some result ≡ true → is_some what.entry.numbers ≡ true }
+{
+    let numbers = what.numbers?;
+    let node = what.view.table.referred(token.text)?;
+    let known = numbers.known.get(node)?;
+    if known.is_legacy { known.given } else { None }
+}
+
+/// A reference in cells.
 fn put_reference<'t>(
     alloc: Global,
     printer: &mut Printer<'t>,
     what: Printed<'_, 't>,
     token: &Token<'t>,
-) -> Result<(), DialectError<'t>> {
-    let known = match what.view.table.referred(token.text) {
-        Some(node) if what.numbers.is_some() => known(what, node),
-        _ => None,
+) -> Result<(), DialectError<'t>>
+    requires { token.now.kind ≡ Reference }
+    ensures { OnOk result ((said : List ℕ) × IsWord (is_some what.entry.numbers) token.now said × IsPut printer.old.text.items printer.new.text.items said) }
+{
+    let Some(number) = legacy_number(what, token) else {
+        printer.put(token.text)?;
+        return Ok(());
     };
-    match known {
-        Some(
-            Known {
-                is_legacy: true,
-                given: Some(number),
-                ..
-            },
-        ) => printer.put_number(alloc, number)?,
-        _ => printer.put(token.text)?,
-    }
+    printer.put_number(alloc, number)?;
     Ok(())
 }
 

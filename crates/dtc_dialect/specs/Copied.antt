@@ -1,0 +1,46 @@
+-- How words of a source are said again: each as it stands, a character literal as its number, with gaps in between
+-- (dtc 1.6, Documentation/dts-format.txt, "File layout"; line markers are the C preprocessor's).
+use Rattle.std.specs.Prelude.{◌≡◌, ◌≤◌, ◌<◌, ℕ, ◌-◌, Bool, true, false, List, [], ◌∷◌, ◌++◌, codes, replicate, length, take, drop, Some}
+use Rattle.std.specs.Fmt.{decimal}
+use Rattle.dtc_dialect.specs.declared.token.Token.{Token}
+use Rattle.dtc_dialect.specs.declared.token.Kind.{Kind}
+use Rattle.dtc_dialect.specs.declared.token.Kind.TheVariants.{Character, Reference}
+use Rattle.dtc_dialect.specs.Character.{character_of}
+
+-- the longest text that is compiled
+abbrev pub longest_text : ℕ
+longest_text = 16777216
+
+-- Behind a text these bytes are put, unless it is longer than any that is compiled.
+pub record IsPut (old new more : List ℕ) : Type 0 where
+  pub grows : length old ≤ length new
+  pub is : length new ≤ longest_text → new ≡ old ++ more
+
+abbrev pub marker_line : ℕ → List ℕ → List ℕ
+marker_line line file = codes "\n# " ++ decimal line ++ codes " \"" ++ file ++ codes "\"\n"
+
+-- What stands between two words: where the user's text has no gap there, nothing; a blank; line ends; or a line marker.
+pub data Between : Bool → List ℕ → Type 0 where
+  joined : Between false []
+  blank : Between true (32 ∷ [])
+  lines : {gap : Bool} {n : ℕ} → 0 < n → Between gap (replicate n 10)
+  marker : {gap : Bool} (line : ℕ) (file : List ℕ) → Between gap (marker_line line file)
+
+-- what stands between the quotes of a character literal
+abbrev pub inside : List ℕ → List ℕ
+inside text = drop 1 (take (length text - 1) text)
+
+abbrev pub is_character : Kind → Bool
+is_character Character = true
+is_character kind = false
+
+-- How a word is said: as it stands; a character literal as its number; and a reference by a number, where its node has one.
+pub data IsWord (numbered : Bool) (token : Token) : List ℕ → Type 0 where
+  itself : is_character token.kind ≡ false → IsWord numbered token token.text.now
+  character : (n : ℕ) → is_character token.kind ≡ true → character_of (inside token.text.now) ≡ Some n → IsWord numbered token (decimal n)
+  number : (n : ℕ) → token.kind ≡ Reference → numbered ≡ true → IsWord numbered token (decimal n)
+
+-- These bytes say the words in their order.
+pub data Copied (numbered : Bool) : List Token → List ℕ → Type 0 where
+  end : Copied numbered [] []
+  word : {token : Token} {tokens : List Token} {gap said rest : List ℕ} → Between token.has_gap gap → IsWord numbered token said → Copied numbered tokens rest → Copied numbered (token ∷ tokens) (gap ++ said ++ rest)
