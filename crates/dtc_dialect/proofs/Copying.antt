@@ -1,5 +1,5 @@
 -- Texts that others are put behind.
-use Rattle.std.proofs.Common.{◌≡◌, ℕ, ◌≤◌, Bool, drop, Result, Ok, Err, List, [], ◌∷◌, ◌++◌, length, replicate, OnOk, sym, ap, ◌∙◌, subst, ◌+◌}
+use Rattle.std.proofs.Common.{◌≡◌, ℕ, Bool, drop, Result, Ok, Err, List, [], ◌∷◌, ◌++◌, length, replicate, OnOk, sym, ap, ◌∙◌, subst, ◌+◌}
 use Rattle.std.proofs.lemmas.List.{append_assoc, append-nil, replicate-append-replicate}
 use Rattle.std.proofs.Math.Nat.{le_refl, le_trans}
 use Rattle.dtc_dialect.specs.declared.token.Token.{Token}
@@ -10,6 +10,10 @@ put-both old text new more last p q = record {
     grows = le_trans p.grows q.grows;
     is = λ short. q.is short ∙ ap (λ t. t ++ last) (p.is (le_trans q.grows short)) ∙ append_assoc old more last
   }
+
+-- three pieces, one behind the other
+pub put-three : (a b c d x y z : List ℕ) → IsPut a b x → IsPut b c y → IsPut c d z → IsPut a d (x ++ y ++ z)
+put-three a b c d x y z p q r = put-both a c d (x ++ y) z (put-both a b c x y p q) r
 
 pub on-ok : {A E P Q : Type 0} → (r : Result A E) → (P → Q) → OnOk r P → OnOk r Q
 on-ok (Ok a) f p = f p

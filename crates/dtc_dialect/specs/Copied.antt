@@ -1,11 +1,16 @@
 -- How words of a source are said again: each as it stands, a character literal as its number, with gaps in between
 -- (dtc 1.6, Documentation/dts-format.txt, "File layout"; line markers are the C preprocessor's).
-use Rattle.std.specs.Prelude.{◌≡◌, ◌≤◌, ◌<◌, ℕ, ◌-◌, Bool, true, false, List, [], ◌∷◌, ◌++◌, codes, replicate, length, take, drop, Some}
+use Rattle.std.specs.Prelude.{◌≡◌, ◌≤◌, ◌<◌, ℕ, ◌-◌, Bool, true, false, List, [], ◌∷◌, ◌++◌, codes, replicate, length, take, drop, nat_le, ◌&&◌, if◌then◌else◌, Option, None, Some}
 use Rattle.std.specs.Fmt.{decimal}
+use Rattle.dtc_dialect.specs.declared.table.Tokens.{Tokens}
 use Rattle.dtc_dialect.specs.declared.token.Token.{Token}
 use Rattle.dtc_dialect.specs.declared.token.Kind.{Kind}
 use Rattle.dtc_dialect.specs.declared.token.Kind.TheVariants.{Character, Reference}
 use Rattle.dtc_dialect.specs.Character.{character_of}
+
+-- what stands between two numbers of a list, as far as it goes
+abbrev pub part_of : {A : Type 0} → ℕ → ℕ → List A → List A
+part_of start end items = if nat_le start end && nat_le end (length items) then take (end - start) (drop start items) else []
 
 -- the longest text that is compiled
 abbrev pub longest_text : ℕ
@@ -44,3 +49,20 @@ pub data IsWord (numbered : Bool) (token : Token) : List ℕ → Type 0 where
 pub data Copied (numbered : Bool) : List Token → List ℕ → Type 0 where
   end : Copied numbered [] []
   word : {token : Token} {tokens : List Token} {gap said rest : List ℕ} → Between token.has_gap gap → IsWord numbered token said → Copied numbered tokens rest → Copied numbered (token ∷ tokens) (gap ++ said ++ rest)
+
+-- the words of a property's value, by the numbers of the first one and of the one behind the last
+abbrev pub words_of : List Token → Option Tokens → List Token
+words_of tokens None = []
+words_of tokens (Some value) = part_of value.start value.end tokens
+
+-- How a value is said: by its words; that of `phandle` by a number, where it asks for one.
+pub data IsValue (numbered : Bool) (name : List ℕ) (words : List Token) : List ℕ → Type 0 where
+  copied : {said : List ℕ} → Copied numbered words said → IsValue numbered name words said
+  asked : (n : ℕ) → name ≡ codes "phandle" → numbered ≡ true → IsValue numbered name words (codes " <" ++ decimal n ++ codes ">")
+
+-- How a property is said: by its name and its value; and `name` not at all, where it says its node's name once more.
+pub data IsSaid (numbered : Bool) (name : List ℕ) (words : List Token) : Option Tokens → List ℕ → Type 0 where
+  bare : {gap : List ℕ} → Between true gap → IsSaid numbered name words None (gap ++ name ++ codes ";")
+  valued : {value : Tokens} {gap said close : List ℕ} → Between true gap → IsValue numbered name words said → Between false close
+      → IsSaid numbered name words (Some value) (gap ++ name ++ codes " =" ++ said ++ (close ++ codes ";"))
+  dropped : {value : Option Tokens} → name ≡ codes "name" → IsSaid numbered name words value []

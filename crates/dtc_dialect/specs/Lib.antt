@@ -8,5 +8,6 @@ pub mod Gaps
 pub mod Inclusion
 pub mod Integer
 pub mod Omission
+pub mod Private
 pub mod Statements
 pub mod Tokens

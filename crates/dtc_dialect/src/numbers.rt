@@ -1,4 +1,6 @@
 //! Phandles: which nodes are referred to, and by what numbers where dtc gives them before it omits nodes.
+ghost use Rattle.std.specs.Prelude.{◌≡◌};
+ghost use Rattle.dtc_dialect.specs.Copied.{words_of};
 
 use crate::integer::integer;
 use crate::preorder::{Preorder, part};
@@ -80,7 +82,9 @@ impl Cells {
 }
 
 impl<'a, 't> View<'a, 't> {
-    pub fn value_of(&self, row: &PropertyRow<'t>) -> &'a [Token<'t>] {
+    pub fn value_of(&self, row: &PropertyRow<'t>) -> &'a [Token<'t>]
+        ensures { result.now ≡ words_of self.now.tokens.now row.now.value }
+    {
         part(self.tokens, row.value.unwrap_or(NO_TOKENS))
     }
 }

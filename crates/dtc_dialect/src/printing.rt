@@ -1,9 +1,10 @@
 //! The table said as one body in the profile: what is there, in dtc's order.
-ghost use Rattle.std.specs.Prelude.{◌≡◌, ℕ, List, OnOk, Some, is_some, true};
+ghost use Rattle.std.specs.Prelude.{◌≡◌, ◌++◌, ℕ, List, OnOk, Some, codes, false, is_some, true};
 ghost use Rattle.std.specs.Fmt.{decimal};
 ghost use Rattle.dtc_dialect.specs.declared.token.Kind.TheVariants.{Reference};
+ghost use Rattle.dtc_dialect.specs.Private.Printed.{IsSaidOf, IsValueOf};
 ghost use Rattle.dtc_dialect.specs.Character.{character_of};
-ghost use Rattle.dtc_dialect.specs.Copied.{Copied, IsPut, IsWord, inside, is_character};
+ghost use Rattle.dtc_dialect.specs.Copied.{Between, Copied, IsPut, IsWord, inside, is_character};
 
 use crate::bytes::{behind, front};
 use crate::character::character;
@@ -69,11 +70,15 @@ fn put_end<'t>(
     printer: &mut Printer<'t>,
     what: Printed<'_, 't>,
     token: usize,
-) -> Result<(), DialectError<'t>> {
-    if let Some(token) = what.view.tokens.get(token) {
-        printer.move_to(alloc, token.place, false)?;
-        printer.note(Word::At(token.place));
-    }
+) -> Result<(), DialectError<'t>>
+    ensures { OnOk result ((end : List ℕ) × Between false end × IsPut printer.old.text.items printer.new.text.items (end ++ codes ";")) }
+{
+    let Some(token) = what.view.tokens.get(token) else {
+        printer.put(b";")?;
+        return Ok(());
+    };
+    printer.move_to(alloc, token.place, false)?;
+    printer.note(Word::At(token.place));
     printer.put(b";")?;
     Ok(())
 }
@@ -177,7 +182,9 @@ fn put_property<'t>(
     printer: &mut Printer<'t>,
     what: Printed<'_, 't>,
     row: &PropertyRow<'t>,
-) -> Result<(), DialectError<'t>> {
+) -> Result<(), DialectError<'t>>
+    ensures { OnOk result ((said : List ℕ) × IsSaidOf what.entry row.now said × IsPut printer.old.text.items printer.new.text.items said) }
+{
     if repeats_name(what, row) {
         return Ok(());
     }
@@ -189,19 +196,31 @@ fn put_property<'t>(
         return Ok(());
     };
     printer.put(b" =")?;
-    match asked(what, row) {
-        Some(number) => {
-            printer.put(b" <")?;
-            printer.put_number(alloc, number)?;
-            printer.put(b">")?;
-        }
-        None => put_tokens(alloc, printer, what, what.view.value_of(row))?,
-    }
+    put_value(alloc, printer, what, row)?;
     put_end(alloc, printer, what, value.end)
 }
 
+fn put_value<'t>(
+    alloc: Global,
+    printer: &mut Printer<'t>,
+    what: Printed<'_, 't>,
+    row: &PropertyRow<'t>,
+) -> Result<(), DialectError<'t>>
+    ensures { OnOk result ((said : List ℕ) × IsValueOf what.entry row.now said × IsPut printer.old.text.items printer.new.text.items said) }
+{
+    let Some(number) = asked(what, row) else {
+        return put_tokens(alloc, printer, what, what.view.value_of(row));
+    };
+    printer.put(b" <")?;
+    printer.put_number(alloc, number)?;
+    printer.put(b">")?;
+    Ok(())
+}
+
 /// Whether this is a property `name` that says its node's name once more, up to the `@`: dtc drops it.
-fn repeats_name<'t>(what: Printed<'_, 't>, row: &PropertyRow<'t>) -> bool {
+fn repeats_name<'t>(what: Printed<'_, 't>, row: &PropertyRow<'t>) -> bool
+    ensures { result ≡ true → row.now.name.now ≡ codes "name" }
+{
     if row.name != b"name".as_slice() {
         return false;
     }
@@ -224,7 +243,10 @@ fn is_base_name(name: &[u8], text: &[u8]) -> bool {
 }
 
 /// The number of a property `phandle` that refers to its own node.
-fn asked<'t>(what: Printed<'_, 't>, row: &PropertyRow<'t>) -> Option<u64> {
+fn asked<'t>(what: Printed<'_, 't>, row: &PropertyRow<'t>) -> Option<u64>
+    ensures numbered { is_some result ≡ true → is_some what.entry.numbers ≡ true }
+    ensures name { is_some result ≡ true → row.now.name.now ≡ codes "phandle" }
+{
     let known = known(what, row.node)?;
     if known.asks && row.name == b"phandle".as_slice() {
         known.number
@@ -233,7 +255,9 @@ fn asked<'t>(what: Printed<'_, 't>, row: &PropertyRow<'t>) -> Option<u64> {
     }
 }
 
-fn known(what: Printed<'_, '_>, node: usize) -> Option<Known> {
+fn known(what: Printed<'_, '_>, node: usize) -> Option<Known>
+    ensures { is_some result ≡ true → is_some what.entry.numbers ≡ true }
+{
     what.numbers?.known.get(node).copied()
 }
 
