@@ -1,7 +1,9 @@
 -- How words of a source are said again: each as it stands, a character literal as its number, with gaps in between
 -- (dtc 1.6, Documentation/dts-format.txt, "File layout"; line markers are the C preprocessor's).
-use Rattle.std.specs.Prelude.{◌≡◌, ◌≤◌, ◌<◌, ℕ, ◌-◌, Bool, true, false, List, [], ◌∷◌, ◌++◌, codes, replicate, length, take, drop, nat_le, ◌&&◌, if◌then◌else◌, Option, None, Some}
+use Rattle.std.specs.Prelude.{◌≡◌, ◌≤◌, ◌<◌, ◌==◌, ℕ, ◌-◌, Bool, true, false, List, [], ◌∷◌, ◌++◌, codes, replicate, length, take, drop, nat_le, ◌&&◌, if◌then◌else◌, Option, None, Some}
 use Rattle.std.specs.Fmt.{decimal}
+use Rattle.dtc_dialect.specs.declared.numbers.Known.{Known}
+use Rattle.dtc_dialect.specs.declared.table.Fragment.{Fragment}
 use Rattle.dtc_dialect.specs.declared.table.Tokens.{Tokens}
 use Rattle.dtc_dialect.specs.declared.token.Token.{Token}
 use Rattle.dtc_dialect.specs.declared.token.Kind.{Kind}
@@ -66,3 +68,33 @@ pub data IsSaid (numbered : Bool) (name : List ℕ) (words : List Token) : Optio
   valued : {value : Tokens} {gap said close : List ℕ} → Between true gap → IsValue numbered name words said → Between false close
       → IsSaid numbered name words (Some value) (gap ++ name ++ codes " =" ++ said ++ (close ++ codes ";"))
   dropped : {value : Option Tokens} → name ≡ codes "name" → IsSaid numbered name words value []
+
+-- the path that a reference names: it stands in braces (123) behind the `&`
+abbrev pub path_of : List ℕ → Option (List ℕ)
+path_of [] = None
+path_of (c ∷ []) = None
+path_of (c ∷ d ∷ s) = if d == 123 then Some (take (length s - 1) s) else None
+
+abbrev pub targeted : List ℕ → Option (List ℕ) → List ℕ
+targeted reference None = codes " { target = <" ++ reference ++ codes ">;"
+targeted reference (Some path) = codes " { " ++ codes "target-path = \"" ++ path ++ codes "\";"
+
+-- What stands for `&label {` or `&{/path} {` in a plugin: a fragment with its target (dt-object-internal, section 2, and dtc's
+-- manual.txt, section 4.1).
+abbrev pub target_text : List ℕ → List ℕ
+target_text reference = targeted reference (path_of reference)
+
+-- the name of a node, and its brace
+abbrev pub name_text : List ℕ → Option Fragment → List ℕ
+name_text name None = name ++ codes " {"
+name_text name (Some fragment) = codes "fragment@" ++ decimal fragment.number ++ target_text fragment.target.text.now
+
+abbrev pub number_text : Bool → Option ℕ → List ℕ
+number_text asks None = []
+number_text true (Some n) = []
+number_text false (Some n) = codes " phandle = <" ++ decimal n ++ codes ">;"
+
+-- the number that a node gets, where it is written out
+abbrev pub phandle_text : Option Known → List ℕ
+phandle_text None = []
+phandle_text (Some known) = number_text known.asks known.number

@@ -1,10 +1,10 @@
 //! The table said as one body in the profile: what is there, in dtc's order.
-ghost use Rattle.std.specs.Prelude.{◌≡◌, ◌++◌, ℕ, List, OnOk, Some, codes, false, is_some, true};
+ghost use Rattle.std.specs.Prelude.{◌≡◌, ◌++◌, ℕ, List, OnOk, Some, codes, false, is_some, option_map, true};
 ghost use Rattle.std.specs.Fmt.{decimal};
 ghost use Rattle.dtc_dialect.specs.declared.token.Kind.TheVariants.{Reference};
-ghost use Rattle.dtc_dialect.specs.Private.Printed.{IsSaidOf, IsValueOf};
+ghost use Rattle.dtc_dialect.specs.Private.Printed.{IsSaidOf, IsValueOf, known_of};
 ghost use Rattle.dtc_dialect.specs.Character.{character_of};
-ghost use Rattle.dtc_dialect.specs.Copied.{Between, Copied, IsPut, IsWord, inside, is_character};
+ghost use Rattle.dtc_dialect.specs.Copied.{Between, Copied, IsPut, IsWord, inside, is_character, name_text, path_of, phandle_text, target_text};
 
 use crate::bytes::{behind, front};
 use crate::character::character;
@@ -150,7 +150,9 @@ fn put_name<'t>(
     alloc: Global,
     printer: &mut Printer<'t>,
     row: &NodeRow<'t>,
-) -> Result<(), DialectError<'t>> {
+) -> Result<(), DialectError<'t>>
+    ensures { OnOk result (IsPut printer.old.text.items printer.new.text.items (name_text row.now.name.now row.now.fragment)) }
+{
     let Some(fragment) = row.fragment else {
         printer.put(row.name)?;
         printer.put(b" {")?;
@@ -158,22 +160,35 @@ fn put_name<'t>(
     };
     printer.put(b"fragment@")?;
     printer.put_number(alloc, fragment.number as u64)?;
-    let target = fragment.target.text;
-    match target {
-        [_, b'{', path @ ..] => {
-            printer.put(b" { ")?;
-            printer.note(Word::At(fragment.target.place));
-            printer.put(b"target-path = \"")?;
-            printer.put(front(path, path.len().saturating_sub(1)))?;
-            printer.put(b"\";")?;
-        }
-        _ => {
-            printer.put(b" { target = <")?;
-            printer.note(Word::At(fragment.target.place));
-            printer.put(target)?;
-            printer.put(b">;")?;
-        }
+    put_target(printer, &fragment.target)
+}
+
+/// The path in a reference's braces.
+fn path_of(reference: &[u8]) -> Option<&[u8]>
+    ensures { option_map (λ path. path.now) result ≡ path_of reference.now }
+{
+    match reference {
+        [_, b'{', path @ ..] => Some(front(path, path.len().saturating_sub(1))),
+        _ => None,
     }
+}
+
+/// What a fragment refers to.
+fn put_target<'t>(printer: &mut Printer<'t>, target: &Token<'t>) -> Result<(), DialectError<'t>>
+    ensures { OnOk result (IsPut printer.old.text.items printer.new.text.items (target_text target.now.text.now)) }
+{
+    if let Some(path) = path_of(target.text) {
+        printer.put(b" { ")?;
+        printer.note(Word::At(target.place));
+        printer.put(b"target-path = \"")?;
+        printer.put(path)?;
+        printer.put(b"\";")?;
+        return Ok(());
+    }
+    printer.put(b" { target = <")?;
+    printer.note(Word::At(target.place));
+    printer.put(target.text)?;
+    printer.put(b">;")?;
     Ok(())
 }
 
@@ -256,7 +271,8 @@ fn asked<'t>(what: Printed<'_, 't>, row: &PropertyRow<'t>) -> Option<u64>
 }
 
 fn known(what: Printed<'_, '_>, node: usize) -> Option<Known>
-    ensures { is_some result ≡ true → is_some what.entry.numbers ≡ true }
+    ensures known { result ≡ known_of what.entry node }
+    ensures numbered { is_some result ≡ true → is_some what.entry.numbers ≡ true }
 {
     what.numbers?.known.get(node).copied()
 }
@@ -350,7 +366,9 @@ fn put_reference<'t>(
 }
 
 /// What is put next is made up for a node.
-fn note_node<'t>(printer: &mut Printer<'t>, what: Printed<'_, 't>, node: usize) {
+fn note_node<'t>(printer: &mut Printer<'t>, what: Printed<'_, 't>, node: usize)
+    ensures { printer.new.text ≡ printer.old.text }
+{
     if let Some(row) = what.view.table.nodes.get(node) {
         printer.note(Word::At(row.place));
     }
@@ -362,19 +380,19 @@ fn put_phandle<'t>(
     printer: &mut Printer<'t>,
     what: Printed<'_, 't>,
     node: usize,
-) -> Result<(), DialectError<'t>> {
-    let Some(known) = known(what, node) else {
-        return Ok(());
-    };
-    if let Some(number) = known.number {
-        if !known.asks {
+) -> Result<(), DialectError<'t>>
+    ensures { OnOk result (IsPut printer.old.text.items printer.new.text.items (phandle_text (known_of what.entry node))) }
+{
+    match known(what, node) {
+        Some(Known { asks: false, number: Some(number), .. }) => {
             note_node(printer, what, node);
             printer.put(b" phandle = <")?;
             printer.put_number(alloc, number)?;
             printer.put(b">;")?;
+            Ok(())
         }
+        _ => Ok(()),
     }
-    Ok(())
 }
 
 /// The labels of the root, which stand before no slash.
