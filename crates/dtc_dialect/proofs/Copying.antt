@@ -7,9 +7,9 @@ use Rattle.dtc_dialect.specs.Copied.{Between, Copied, IsPut, IsWord, word}
 
 pub put-both : (old text new more last : List ℕ) → IsPut old text more → IsPut text new last → IsPut old new (more ++ last)
 put-both old text new more last p q = record {
-    grows = le_trans p.grows q.grows;
-    is = λ short. q.is short ∙ ap (λ t. t ++ last) (p.is (le_trans q.grows short)) ∙ append_assoc old more last
-  }
+  grows = le_trans p.grows q.grows;
+  is = λ short. q.is short ∙ ap (λ t. t ++ last) (p.is (le_trans q.grows short)) ∙ append_assoc old more last;
+}
 
 -- three pieces, one behind the other
 pub put-three : (a b c d x y z : List ℕ) → IsPut a b x → IsPut b c y → IsPut c d z → IsPut a d (x ++ y ++ z)

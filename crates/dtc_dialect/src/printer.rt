@@ -63,12 +63,7 @@ impl<'t> Printer<'t> {
     }
 
     /// What is put next stands at a place; where it stands there already, a blank at most is put in between.
-    pub fn move_to(
-        &mut self,
-        alloc: Global,
-        place: Place<'t>,
-        gap: bool,
-    ) -> Result<(), AllocError>
+    pub fn move_to(&mut self, alloc: Global, place: Place<'t>, gap: bool) -> Result<(), AllocError>
         ensures { OnOk result ((bytes : List ℕ) × Between gap bytes × IsPut self.old.text.items self.new.text.items bytes) }
     {
         let ahead = place.line.saturating_sub(self.place.line);

@@ -384,7 +384,13 @@ fn put_phandle<'t>(
     ensures { OnOk result (IsPut printer.old.text.items printer.new.text.items (phandle_text (known_of what.entry node))) }
 {
     match known(what, node) {
-        Some(Known { asks: false, number: Some(number), .. }) => {
+        Some(
+            Known {
+                asks: false,
+                number: Some(number),
+                ..
+            },
+        ) => {
             note_node(printer, what, node);
             printer.put(b" phandle = <")?;
             printer.put_number(alloc, number)?;

@@ -1,4 +1,4 @@
-use Rattle.std.proofs.Common.{◌++◌, None, Some, codes, subst}
+use Rattle.std.proofs.Common.{◌++◌, codes, subst}
 use Rattle.dtc_dialect.specs.Copied.{IsPut, targeted}
 use Rattle.dtc_dialect.proofs.Copying.{put-both, put-three}
 use Rattle.dtc_dialect.proofs.printing.put_target.Goals as goal
@@ -12,7 +12,7 @@ returns-in-Some c =
     let first = subst (λ text. IsPut text.items behind (codes "target-path = \"")) c.note.ensures c.in_ok-put-2.ensures in
     subst (λ p. IsPut old c.put-in-Some-3.new.self.text.items (targeted c.args.target.now.text.now p)) c.in-Some.ensures
     (put-three old behind c.put-in-Some-2.new.self.text.items c.put-in-Some-3.new.self.text.items (codes " { " ++ codes "target-path = \"") path (codes "\";")
-     (put-both old opened behind (codes " { ") (codes "target-path = \"") c.in_ok-put.ensures first) c.in_ok-put-3.ensures c.in_ok-put-4.ensures)
+    (put-both old opened behind (codes " { ") (codes "target-path = \"") c.in_ok-put.ensures first) c.in_ok-put-3.ensures c.in_ok-put-4.ensures)
 
 pub returns : goal.returns
 returns c =

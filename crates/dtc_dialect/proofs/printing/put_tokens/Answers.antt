@@ -13,11 +13,12 @@ loop-token-preserved c =
     let moved = c.in_ok-move_to.ensures in
     let one = c.in_ok-put_word.ensures in
     let new = c.put_word.new.printer.text.items in
-    let split = drop_more c.args.tokens.now c.loop-token.token-index _ c.loop-token-test.true in
-    (whole.0 ++ (moved.0 ++ one.0),
-     word-more (is_some c.args.what.numbers) c.args.tokens.now c.loop-token.token-index _ whole.0 moved.0 one.0 split moved.1 one.1 whole.1,
-     put-both c.args.printer.now.text.items c.loop-token.printer.text.items new whole.0 (moved.0 ++ one.0) whole.2
-     (put-both c.loop-token.printer.text.items c.move_to.new.self.text.items new moved.0 one.0 moved.2 (subst (λ text. IsPut text.items new one.0) c.note.ensures one.2)))
+    let split = drop_more c.args.tokens.now c.loop-token.token-index _ c.loop-token-test.true in (
+      whole.0 ++ (moved.0 ++ one.0),
+      word-more (is_some c.args.what.numbers) c.args.tokens.now c.loop-token.token-index _ whole.0 moved.0 one.0 split moved.1 one.1 whole.1,
+      put-both c.args.printer.now.text.items c.loop-token.printer.text.items new whole.0 (moved.0 ++ one.0) whole.2
+          (put-both c.loop-token.printer.text.items c.move_to.new.self.text.items new moved.0 one.0 moved.2 (subst (λ text. IsPut text.items new one.0) c.note.ensures one.2)),
+    )
 
 pub returns : goal.returns
 returns c =

@@ -10,8 +10,9 @@ returns-in_default c =
 
 pub returns : goal.returns
 returns c =
-    let n = c.in-Some.number in
-    (codes " <" ++ decimal n ++ codes ">",
-     asked n (c.in-Some.ensures.name refl) (c.in-Some.ensures.numbered refl),
-     put-three c.args.printer.now.text.items c.put.new.self.text.items c.put_number.new.self.text.items c.put-2.new.self.text.items (codes " <") (decimal n) (codes ">")
-     c.in_ok-put.ensures c.in_ok-put_number.ensures c.in_ok-put-2.ensures)
+    let n = c.in-Some.number in (
+      codes " <" ++ decimal n ++ codes ">",
+      asked n (c.in-Some.ensures.name refl) (c.in-Some.ensures.numbered refl),
+      put-three c.args.printer.now.text.items c.put.new.self.text.items c.put_number.new.self.text.items c.put-2.new.self.text.items (codes " <") (decimal n) (codes ">")
+          c.in_ok-put.ensures c.in_ok-put_number.ensures c.in_ok-put-2.ensures,
+    )

@@ -1,6 +1,6 @@
 use Rattle.std.proofs.Common.{[], ◌∷◌, Bool, subst, sym, arith}
 use Rattle.std.specs.Prelude.{replicate}
-use Rattle.dtc_dialect.specs.Copied.{Between, IsPut, blank, joined, lines, marker, marker_line}
+use Rattle.dtc_dialect.specs.Copied.{Between, blank, joined, lines, marker, marker_line}
 use Rattle.dtc_dialect.proofs.Copying.{on-ok, put-line, put-nothing}
 use Rattle.dtc_dialect.proofs.printer.Printer.move_to.Goals as goal
 
