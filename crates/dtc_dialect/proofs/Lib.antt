@@ -1,4 +1,5 @@
 mod Comments
+mod Copying
 mod Cutting
 mod Fronts
 mod GapEnds

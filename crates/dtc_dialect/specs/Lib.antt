@@ -1,5 +1,6 @@
 pub mod Bytes
 pub mod Character
+pub mod Copied
 pub mod Cuts
 pub mod GapAt
 pub mod Gaps
@@ -7,6 +8,7 @@ pub mod Inclusion
 pub mod Integer
 pub mod Omission
 pub mod Phandles
+pub mod Private
 pub mod Statements
 pub mod Tokens
 pub mod Words

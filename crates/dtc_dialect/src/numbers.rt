@@ -2,6 +2,7 @@
 ghost use Rattle.std.specs.Prelude.{◌≡◌, ◌-◌, ◌^◌, ◌<◌, ℕ, false, nat_eq, option_map};
 ghost use Rattle.std.specs.HashSet.{contains};
 ghost use Rattle.dtc_dialect.specs.Phandles.{IsFree, asks_number, cells_behind, given_row, giver_of, lone_cell, number_of, reference_of, referred, Refers};
+ghost use Rattle.dtc_dialect.specs.Copied.{words_of};
 
 use crate::integer::integer;
 use crate::preorder::{Preorder, part};
@@ -107,7 +108,9 @@ impl Cells {
 }
 
 impl<'a, 't> View<'a, 't> {
-    pub fn value_of(&self, row: &PropertyRow<'t>) -> &'a [Token<'t>] {
+    pub fn value_of(&self, row: &PropertyRow<'t>) -> &'a [Token<'t>]
+        ensures { result.now ≡ words_of self.now.tokens.now row.now.value }
+    {
         part(self.tokens, row.value.unwrap_or(NO_TOKENS))
     }
 }

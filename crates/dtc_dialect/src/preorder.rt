@@ -1,4 +1,6 @@
 //! The nodes and properties that are there when all is read, in preorder.
+ghost use Rattle.std.specs.Prelude.{◌≡◌};
+ghost use Rattle.dtc_dialect.specs.Copied.{part_of};
 
 use crate::table::{LabelRow, ROOT, Table, Tokens};
 use std::alloc::{AllocError, Global};
@@ -236,7 +238,9 @@ impl Preorder {
 }
 
 /// What stands between two numbers of a list, as far as it goes.
-pub(crate) fn part<T>(list: &[T], range: Tokens) -> &[T] {
+pub(crate) fn part<T>(list: &[T], range: Tokens) -> &[T]
+    ensures { result.now ≡ part_of range.start range.end list.now }
+{
     match list.get(range.start..range.end) {
         Some(items) => items,
         None => &[],

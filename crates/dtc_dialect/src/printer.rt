@@ -1,4 +1,7 @@
 //! Text that is put behind other text, with its places.
+ghost use Rattle.std.specs.Prelude.{◌≡◌, ℕ, List, OnOk, length};
+ghost use Rattle.std.specs.Fmt.{decimal};
+ghost use Rattle.dtc_dialect.specs.Copied.{Between, IsPut, marker_line};
 
 use crate::bytes::line_ends;
 use crate::inclusion::MAX_TEXT;
@@ -30,7 +33,9 @@ impl<'t> Printer<'t> {
     }
 
     /// What is put next is a word of the user's.
-    pub fn note(&mut self, word: Word<'t>) {
+    pub fn note(&mut self, word: Word<'t>)
+        ensures { self.new.text ≡ self.old.text }
+    {
         let at = self.text.len();
         if let Some(watch) = &mut self.watch {
             watch.note(at, word);
@@ -38,7 +43,9 @@ impl<'t> Printer<'t> {
     }
 
     /// Puts bytes behind the text, unless that is longer already than any that is compiled.
-    pub fn put(&mut self, bytes: &[u8]) -> Result<(), AllocError> {
+    pub fn put(&mut self, bytes: &[u8]) -> Result<(), AllocError>
+        ensures { OnOk result (IsPut self.old.text.items self.new.text.items bytes.now) }
+    {
         if self.text.len() > MAX_TEXT {
             return Ok(());
         }
@@ -48,18 +55,17 @@ impl<'t> Printer<'t> {
     }
 
     /// Puts a number in decimal behind the text.
-    pub fn put_number(&mut self, alloc: Global, number: u64) -> Result<(), AllocError> {
+    pub fn put_number(&mut self, alloc: Global, number: u64) -> Result<(), AllocError>
+        ensures { OnOk result (IsPut self.old.text.items self.new.text.items (decimal number)) }
+    {
         let digits = format!(in alloc; "{number}")?;
         self.put(digits.as_bytes())
     }
 
     /// What is put next stands at a place; where it stands there already, a blank at most is put in between.
-    pub fn move_to(
-        &mut self,
-        alloc: Global,
-        place: Place<'t>,
-        gap: bool,
-    ) -> Result<(), AllocError> {
+    pub fn move_to(&mut self, alloc: Global, place: Place<'t>, gap: bool) -> Result<(), AllocError>
+        ensures { OnOk result ((bytes : List ℕ) × Between gap bytes × IsPut self.old.text.items self.new.text.items bytes) }
+    {
         let ahead = place.line.saturating_sub(self.place.line);
         let is_behind = place.line < self.place.line;
         if is_behind || ahead > FEW || place.file != self.place.file {
@@ -75,7 +81,9 @@ impl<'t> Printer<'t> {
     }
 
     /// Puts a line marker.
-    fn mark(&mut self, alloc: Global, place: Place<'t>) -> Result<(), AllocError> {
+    fn mark(&mut self, alloc: Global, place: Place<'t>) -> Result<(), AllocError>
+        ensures { OnOk result (IsPut self.old.text.items self.new.text.items (marker_line place.entry.line place.entry.file.now)) }
+    {
         self.put(b"\n# ")?;
         self.put_number(alloc, place.line as u64)?;
         self.put(b" \"")?;

@@ -1,4 +1,10 @@
 //! The table said as one body in the profile: what is there, in dtc's order.
+ghost use Rattle.std.specs.Prelude.{◌≡◌, ◌++◌, ℕ, List, OnOk, Some, codes, false, is_some, option_map, true};
+ghost use Rattle.std.specs.Fmt.{decimal};
+ghost use Rattle.dtc_dialect.specs.declared.token.Kind.TheVariants.{Reference};
+ghost use Rattle.dtc_dialect.specs.Private.Printed.{IsSaidOf, IsValueOf, known_of};
+ghost use Rattle.dtc_dialect.specs.Character.{character_of};
+ghost use Rattle.dtc_dialect.specs.Copied.{Between, Copied, IsPut, IsWord, inside, is_character, name_text, path_of, phandle_text, target_text};
 
 use crate::bytes::{behind, front};
 use crate::character::character;
@@ -64,11 +70,15 @@ fn put_end<'t>(
     printer: &mut Printer<'t>,
     what: Printed<'_, 't>,
     token: usize,
-) -> Result<(), DialectError<'t>> {
-    if let Some(token) = what.view.tokens.get(token) {
-        printer.move_to(alloc, token.place, false)?;
-        printer.note(Word::At(token.place));
-    }
+) -> Result<(), DialectError<'t>>
+    ensures { OnOk result ((end : List ℕ) × Between false end × IsPut printer.old.text.items printer.new.text.items (end ++ codes ";")) }
+{
+    let Some(token) = what.view.tokens.get(token) else {
+        printer.put(b";")?;
+        return Ok(());
+    };
+    printer.move_to(alloc, token.place, false)?;
+    printer.note(Word::At(token.place));
     printer.put(b";")?;
     Ok(())
 }
@@ -140,7 +150,9 @@ fn put_name<'t>(
     alloc: Global,
     printer: &mut Printer<'t>,
     row: &NodeRow<'t>,
-) -> Result<(), DialectError<'t>> {
+) -> Result<(), DialectError<'t>>
+    ensures { OnOk result (IsPut printer.old.text.items printer.new.text.items (name_text row.now.name.now row.now.fragment)) }
+{
     let Some(fragment) = row.fragment else {
         printer.put(row.name)?;
         printer.put(b" {")?;
@@ -148,22 +160,35 @@ fn put_name<'t>(
     };
     printer.put(b"fragment@")?;
     printer.put_number(alloc, fragment.number as u64)?;
-    let target = fragment.target.text;
-    match target {
-        [_, b'{', path @ ..] => {
-            printer.put(b" { ")?;
-            printer.note(Word::At(fragment.target.place));
-            printer.put(b"target-path = \"")?;
-            printer.put(front(path, path.len().saturating_sub(1)))?;
-            printer.put(b"\";")?;
-        }
-        _ => {
-            printer.put(b" { target = <")?;
-            printer.note(Word::At(fragment.target.place));
-            printer.put(target)?;
-            printer.put(b">;")?;
-        }
+    put_target(printer, &fragment.target)
+}
+
+/// The path in a reference's braces.
+fn path_of(reference: &[u8]) -> Option<&[u8]>
+    ensures { option_map (λ path. path.now) result ≡ path_of reference.now }
+{
+    match reference {
+        [_, b'{', path @ ..] => Some(front(path, path.len().saturating_sub(1))),
+        _ => None,
     }
+}
+
+/// What a fragment refers to.
+fn put_target<'t>(printer: &mut Printer<'t>, target: &Token<'t>) -> Result<(), DialectError<'t>>
+    ensures { OnOk result (IsPut printer.old.text.items printer.new.text.items (target_text target.now.text.now)) }
+{
+    if let Some(path) = path_of(target.text) {
+        printer.put(b" { ")?;
+        printer.note(Word::At(target.place));
+        printer.put(b"target-path = \"")?;
+        printer.put(path)?;
+        printer.put(b"\";")?;
+        return Ok(());
+    }
+    printer.put(b" { target = <")?;
+    printer.note(Word::At(target.place));
+    printer.put(target.text)?;
+    printer.put(b">;")?;
     Ok(())
 }
 
@@ -172,7 +197,9 @@ fn put_property<'t>(
     printer: &mut Printer<'t>,
     what: Printed<'_, 't>,
     row: &PropertyRow<'t>,
-) -> Result<(), DialectError<'t>> {
+) -> Result<(), DialectError<'t>>
+    ensures { OnOk result ((said : List ℕ) × IsSaidOf what.entry row.now said × IsPut printer.old.text.items printer.new.text.items said) }
+{
     if repeats_name(what, row) {
         return Ok(());
     }
@@ -184,19 +211,31 @@ fn put_property<'t>(
         return Ok(());
     };
     printer.put(b" =")?;
-    match asked(what, row) {
-        Some(number) => {
-            printer.put(b" <")?;
-            printer.put_number(alloc, number)?;
-            printer.put(b">")?;
-        }
-        None => put_tokens(alloc, printer, what, what.view.value_of(row))?,
-    }
+    put_value(alloc, printer, what, row)?;
     put_end(alloc, printer, what, value.end)
 }
 
+fn put_value<'t>(
+    alloc: Global,
+    printer: &mut Printer<'t>,
+    what: Printed<'_, 't>,
+    row: &PropertyRow<'t>,
+) -> Result<(), DialectError<'t>>
+    ensures { OnOk result ((said : List ℕ) × IsValueOf what.entry row.now said × IsPut printer.old.text.items printer.new.text.items said) }
+{
+    let Some(number) = asked(what, row) else {
+        return put_tokens(alloc, printer, what, what.view.value_of(row));
+    };
+    printer.put(b" <")?;
+    printer.put_number(alloc, number)?;
+    printer.put(b">")?;
+    Ok(())
+}
+
 /// Whether this is a property `name` that says its node's name once more, up to the `@`: dtc drops it.
-fn repeats_name<'t>(what: Printed<'_, 't>, row: &PropertyRow<'t>) -> bool {
+fn repeats_name<'t>(what: Printed<'_, 't>, row: &PropertyRow<'t>) -> bool
+    ensures { result ≡ true → row.now.name.now ≡ codes "name" }
+{
     if row.name != b"name".as_slice() {
         return false;
     }
@@ -219,7 +258,10 @@ fn is_base_name(name: &[u8], text: &[u8]) -> bool {
 }
 
 /// The number of a property `phandle` that refers to its own node.
-fn asked<'t>(what: Printed<'_, 't>, row: &PropertyRow<'t>) -> Option<u64> {
+fn asked<'t>(what: Printed<'_, 't>, row: &PropertyRow<'t>) -> Option<u64>
+    ensures numbered { is_some result ≡ true → is_some what.entry.numbers ≡ true }
+    ensures name { is_some result ≡ true → row.now.name.now ≡ codes "phandle" }
+{
     let known = known(what, row.node)?;
     if known.asks && row.name == b"phandle".as_slice() {
         known.number
@@ -228,7 +270,10 @@ fn asked<'t>(what: Printed<'_, 't>, row: &PropertyRow<'t>) -> Option<u64> {
     }
 }
 
-fn known(what: Printed<'_, '_>, node: usize) -> Option<Known> {
+fn known(what: Printed<'_, '_>, node: usize) -> Option<Known>
+    ensures known { result ≡ known_of what.entry node }
+    ensures numbered { is_some result ≡ true → is_some what.entry.numbers ≡ true }
+{
     what.numbers?.known.get(node).copied()
 }
 
@@ -237,26 +282,53 @@ fn put_tokens<'t>(
     printer: &mut Printer<'t>,
     what: Printed<'_, 't>,
     tokens: &[Token<'t>],
-) -> Result<(), DialectError<'t>> {
+) -> Result<(), DialectError<'t>>
+    ensures { OnOk result ((said : List ℕ) × Copied (is_some what.entry.numbers) tokens.now said × IsPut printer.old.text.items printer.new.text.items said) }
+{
     let mut cells = Cells::none();
     for token in tokens {
         cells.step(token.kind);
         printer.move_to(alloc, token.place, token.has_gap)?;
         printer.note(Word::At(token.place));
-        match token.kind {
-            Kind::Character => put_character(alloc, printer, token)?,
-            Kind::Reference if cells.are_open => put_reference(alloc, printer, what, token)?,
-            _ => printer.put(token.text)?,
-        }
+        put_word(alloc, printer, what, token, cells.are_open)?;
     }
     Ok(())
+}
+
+/// Puts a word as it stands, or its number.
+fn put_word<'t>(
+    alloc: Global,
+    printer: &mut Printer<'t>,
+    what: Printed<'_, 't>,
+    token: &Token<'t>,
+    in_cells: bool,
+) -> Result<(), DialectError<'t>>
+    ensures { OnOk result ((said : List ℕ) × IsWord (is_some what.entry.numbers) token.now said × IsPut printer.old.text.items printer.new.text.items said) }
+{
+    if is_character(token.kind) {
+        return put_character(alloc, printer, token);
+    }
+    match token.kind {
+        Kind::Reference if in_cells => return put_reference(alloc, printer, what, token),
+        _ => {}
+    }
+    printer.put(token.text)?;
+    Ok(())
+}
+
+fn is_character(kind: Kind) -> bool
+    ensures { result ≡ is_character kind }
+{
+    matches!(kind, Kind::Character)
 }
 
 fn put_character<'t>(
     alloc: Global,
     printer: &mut Printer<'t>,
     token: &Token<'t>,
-) -> Result<(), DialectError<'t>> {
+) -> Result<(), DialectError<'t>>
+    ensures { OnOk result ((n : ℕ) × (character_of (inside token.now.text.now) ≡ Some n) × IsPut printer.old.text.items printer.new.text.items (decimal n)) }
+{
     let inside = behind(front(token.text, token.text.len().saturating_sub(1)), 1);
     let Some(number) = character(inside) else {
         return Err(refused(Mistake::Syntax, token.place));
@@ -265,32 +337,38 @@ fn put_character<'t>(
     Ok(())
 }
 
-/// A reference in cells. A node that has its number by `linux,phandle` alone is named by it.
+/// The number of the node that a reference names, where it has it by `linux,phandle` alone and numbers are written out.
+fn legacy_number<'t>(what: Printed<'_, 't>, token: &Token<'t>) -> Option<u64>
+    ensures { is_some result ≡ true → is_some what.entry.numbers ≡ true }
+{
+    let numbers = what.numbers?;
+    let node = what.view.table.referred(token.text)?;
+    let known = numbers.known.get(node)?;
+    if known.is_legacy { known.given } else { None }
+}
+
+/// A reference in cells.
 fn put_reference<'t>(
     alloc: Global,
     printer: &mut Printer<'t>,
     what: Printed<'_, 't>,
     token: &Token<'t>,
-) -> Result<(), DialectError<'t>> {
-    let known = match what.view.table.referred(token.text) {
-        Some(node) if what.numbers.is_some() => known(what, node),
-        _ => None,
+) -> Result<(), DialectError<'t>>
+    requires { token.now.kind ≡ Reference }
+    ensures { OnOk result ((said : List ℕ) × IsWord (is_some what.entry.numbers) token.now said × IsPut printer.old.text.items printer.new.text.items said) }
+{
+    let Some(number) = legacy_number(what, token) else {
+        printer.put(token.text)?;
+        return Ok(());
     };
-    match known {
-        Some(
-            Known {
-                is_legacy: true,
-                given: Some(number),
-                ..
-            },
-        ) => printer.put_number(alloc, number)?,
-        _ => printer.put(token.text)?,
-    }
+    printer.put_number(alloc, number)?;
     Ok(())
 }
 
 /// What is put next is made up for a node.
-fn note_node<'t>(printer: &mut Printer<'t>, what: Printed<'_, 't>, node: usize) {
+fn note_node<'t>(printer: &mut Printer<'t>, what: Printed<'_, 't>, node: usize)
+    ensures { printer.new.text ≡ printer.old.text }
+{
     if let Some(row) = what.view.table.nodes.get(node) {
         printer.note(Word::At(row.place));
     }
@@ -302,19 +380,25 @@ fn put_phandle<'t>(
     printer: &mut Printer<'t>,
     what: Printed<'_, 't>,
     node: usize,
-) -> Result<(), DialectError<'t>> {
-    let Some(known) = known(what, node) else {
-        return Ok(());
-    };
-    if let Some(number) = known.number {
-        if !known.asks {
+) -> Result<(), DialectError<'t>>
+    ensures { OnOk result (IsPut printer.old.text.items printer.new.text.items (phandle_text (known_of what.entry node))) }
+{
+    match known(what, node) {
+        Some(
+            Known {
+                asks: false,
+                number: Some(number),
+                ..
+            },
+        ) => {
             note_node(printer, what, node);
             printer.put(b" phandle = <")?;
             printer.put_number(alloc, number)?;
             printer.put(b">;")?;
+            Ok(())
         }
+        _ => Ok(()),
     }
-    Ok(())
 }
 
 /// The labels of the root, which stand before no slash.

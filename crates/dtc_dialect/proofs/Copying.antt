@@ -1,0 +1,31 @@
+-- Texts that others are put behind.
+use Rattle.std.proofs.Common.{◌≡◌, ℕ, Bool, drop, Result, Ok, Err, List, [], ◌∷◌, ◌++◌, length, replicate, OnOk, sym, ap, ◌∙◌, subst, ◌+◌}
+use Rattle.std.proofs.lemmas.List.{append_assoc, append-nil, replicate-append-replicate}
+use Rattle.std.proofs.Math.Nat.{le_refl, le_trans}
+use Rattle.dtc_dialect.specs.declared.token.Token.{Token}
+use Rattle.dtc_dialect.specs.Copied.{Between, Copied, IsPut, IsWord, word}
+
+pub put-both : (old text new more last : List ℕ) → IsPut old text more → IsPut text new last → IsPut old new (more ++ last)
+put-both old text new more last p q = record {
+  grows = le_trans p.grows q.grows;
+  is = λ short. q.is short ∙ ap (λ t. t ++ last) (p.is (le_trans q.grows short)) ∙ append_assoc old more last;
+}
+
+-- three pieces, one behind the other
+pub put-three : (a b c d x y z : List ℕ) → IsPut a b x → IsPut b c y → IsPut c d z → IsPut a d (x ++ y ++ z)
+put-three a b c d x y z p q r = put-both a c d (x ++ y) z (put-both a b c x y p q) r
+
+pub on-ok : {A E P Q : Type 0} → (r : Result A E) → (P → Q) → OnOk r P → OnOk r Q
+on-ok (Ok a) f p = f p
+on-ok (Err e) f p = p
+
+pub put-nothing : (text : List ℕ) → IsPut text text []
+put-nothing text = record { grows = le_refl (length text); is = λ short. sym (append-nil text) }
+
+pub put-line : (n : ℕ) (old text new : List ℕ) → IsPut old text (replicate n 10) → IsPut text new (10 ∷ []) → IsPut old new (replicate (n + 1) 10)
+put-line n old text new p q = subst (IsPut old new) (replicate-append-replicate n 1 10) (put-both old text new (replicate n 10) (10 ∷ []) p q)
+
+pub word-more : (numbered : Bool) (ts : List Token) (i : ℕ) (t : Token) (said gap one : List ℕ) → drop i ts ≡ t ∷ drop (i + 1) ts → Between t.has_gap gap → IsWord numbered t one
+    → ((rest : List ℕ) → Copied numbered (drop i ts) rest → Copied numbered ts (said ++ rest)) → (rest : List ℕ) → Copied numbered (drop (i + 1) ts) rest → Copied numbered ts (said ++ (gap ++ one) ++ rest)
+word-more numbered ts i t said gap one is between says so rest copied =
+    subst (Copied numbered ts) (sym (append_assoc said (gap ++ one) rest)) (so (gap ++ one ++ rest) (subst (λ us. Copied numbered us (gap ++ one ++ rest)) (sym is) (word between says copied)))
