@@ -1,6 +1,6 @@
 -- Which words a statement has, and what it does by them (dtc 1.6, Documentation/dts-format.txt, "Node and property definitions"
 -- and "File layout"; manual.txt, section 4.1. Where those say nothing, what dtc 1.6.1 answers was tried).
-use Rattle.std.specs.Prelude.{ℕ, nat_eq, nat_le, Bool, true, false, not, ◌&&◌, ◌||◌, length, Option, Some, None, if◌then◌else◌, is_none}
+use Rattle.std.specs.Prelude.{nat_eq, nat_le, Bool, true, false, not, ◌&&◌, length, Option, Some, None, if◌then◌else◌, is_none}
 use Rattle.dtc_dialect.specs.declared.head.Action.{Action}
 use Rattle.dtc_dialect.specs.declared.head.Action.TheVariants as actions
 use Rattle.dtc_dialect.specs.declared.head.Head.{Head}
