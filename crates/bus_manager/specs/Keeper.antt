@@ -1,5 +1,5 @@
 -- A keeper as contracts see it, and what holds of every keeper.
-use Rattle.std.specs.Prelude.{◌≡◌, ◌≤◌, ◌+◌, ◌⊎◌, ℕ, Bool, true, List, [], ◌∷◌, ◌++◌, Some, None, Ok, length, count_by, All}
+use Rattle.std.specs.Prelude.{◌≡◌, ◌≤◌, ◌+◌, ◌⊎◌, ℕ, Bool, true, false, List, [], ◌∷◌, ◌++◌, Some, None, Ok, length, count_by, All}
 use Rattle.bus_plan.specs.LateDriver.{with_driver}
 use Rattle.bus_plan.specs.Plan.{PlannedDevice}
 use Rattle.bus_core.specs.declared.event.Event.{Event}
@@ -67,6 +67,10 @@ pub record IsTaken (old new : KeeperValue) (ticket : Ticket) (seen : List ℕ) :
   pub attempt : ticket.attempt ≡ old.state.begins + 1
   pub seen_is : (d : ℕ) → sees seen d ≡ bound_in old.state.history d
   pub begun : new ≡ begun_keeper old ticket.device
+
+-- nothing is due, and nothing was done
+abbrev pub IsNoneDue : KeeperValue → KeeperValue → Type 0
+IsNoneDue old new = (new ≡ old) × ((d : ℕ) → is_due old.plan old.state d ≡ false)
 
 -- the begin of a due device was refused, or memory was
 pub record IsTakeRefused (old : KeeperValue) (refusal : Refusal) : Type 0 where

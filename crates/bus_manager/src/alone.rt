@@ -4,9 +4,9 @@ ghost use Rattle.std.specs.Prelude.{◌≡◌, ◌≤◌, ◌<◌, ◌+◌, true
 ghost use Rattle.bus_manager.specs.Keeper.{first_keeper};
 ghost use Rattle.bus_core.specs.Due.{is_quiet};
 ghost use Rattle.bus_core.specs.declared.refusal.Refusal.TheVariants.{NoMemory};
-ghost use Rattle.bus_manager.specs.Private.Alone.{IsLanded, IsDropped, IsDriven};
+ghost use Rattle.bus_manager.specs.Private.Alone.{IsLanded, IsDropped, IsDriven, StaysQuiet};
 ghost use Rattle.bus_manager.specs.Private.Counts.{abandons};
-ghost use Rattle.bus_manager.specs.Private.Notes.{AreNotes};
+ghost use Rattle.bus_manager.specs.Private.Notes.{AreNotes, HasRun};
 ghost use Rattle.bus_manager.specs.Seen.{sees};
 ghost use Rattle.bus_manager.specs.Run.{IsRunAfter};
 
@@ -53,7 +53,7 @@ fn drive<P: Prober>(
     requires few { abandons keeper.old ≤ length plan.now }
     requires notes { AreNotes (P.attests prober.now plan.now) plan.now notes.old.items }
     ensures driven { IfOk result (λ more. more ≡ true → IsDriven keeper.old keeper.new) }
-    ensures quiet { IfOk result (λ more. more ≡ false → (keeper.new ≡ keeper.old) × (is_quiet keeper.new.plan keeper.new.state ≡ true)) }
+    ensures quiet { IfOk result (λ more. more ≡ false → StaysQuiet keeper.old keeper.new) }
     ensures notes { AreNotes (P.attests prober.now plan.now) plan.now notes.new.items }
     ensures err { IfErr result (λ refusal. refusal ≡ NoMemory) }
     ensures same { keeper.new.plan ≡ keeper.old.plan }
@@ -110,7 +110,8 @@ fn end_alone<P: Prober>(
     requires plan { keeper.old.plan ≡ plan.now }
     requires unabandoned { abandons keeper.old ≡ 0 }
     requires notes { AreNotes (P.attests prober.now plan.now) plan.now notes.old.items }
-    ensures ran { IfOk result (λ report. IsRunAfter (P.attests prober.now plan.now) (sees before.now) plan.now report.items notes.new.items) }
+    ensures ran { IfOk result (λ report.
+        IsRunAfter (P.attests prober.now plan.now) (sees before.now) plan.now report.items notes.new.items) }
     ensures err { IfErr result (λ refusal. refusal ≡ NoMemory) }
 {
     drop_flights(keeper, plan.len());
@@ -141,7 +142,7 @@ pub fn finish_alone<P: Prober>(
     requires plan { keeper.plan ≡ plan.now }
     requires unabandoned { abandons keeper ≡ 0 }
     requires notes { AreNotes (P.attests prober.now plan.now) plan.now notes.items }
-    ensures ran { IfOk result (λ ran. IsRunAfter (P.attests prober.now plan.now) (sees before.now) plan.now ran.report.items ran.notes.items) }
+    ensures ran { IfOk result (HasRun (P.attests prober.now plan.now) (sees before.now) plan.now) }
     ensures err { IfErr result (λ refusal. refusal ≡ NoMemory) }
 {
     let ended = end_alone(alloc, plan, prober, before, &mut keeper, &mut notes);

@@ -1,16 +1,15 @@
 //! What the caller of a run over a board does, before and after its workers.
 
-ghost use Rattle.std.specs.Prelude.{◌≡◌, ◌<◌, ℕ, true, length, All, IfOk, IfErr};
+ghost use Rattle.std.specs.Prelude.{◌≡◌, true, IfOk, IfErr};
 ghost use Rattle.bus_core.specs.Report.{end_status};
 ghost use Rattle.bus_core.specs.declared.refusal.Refusal.TheVariants.{NoMemory};
 ghost use Rattle.bus_board.specs.Ends.{EndsAs};
 ghost use Rattle.bus_board.specs.declared.view.View.{View};
 ghost use Rattle.bus_manager.specs.Private.BoardEnd.{bound_by_words};
 ghost use Rattle.bus_manager.specs.Private.Flying.{IsFree};
-ghost use Rattle.bus_manager.specs.Notes.{leaves_note, has_note};
-ghost use Rattle.bus_manager.specs.Private.Notes.{AreNotes};
+ghost use Rattle.bus_manager.specs.Private.Notes.{AreAttested, AreNoted, AreNotes, HasRun};
 ghost use Rattle.bus_manager.specs.Seen.{sees};
-ghost use Rattle.bus_manager.specs.Run.{IsRun, IsRunAfter};
+ghost use Rattle.bus_manager.specs.Run.{IsRun};
 
 use crate::alone::{finish_alone, fresh_keeper};
 use crate::crew::Crew;
@@ -46,7 +45,7 @@ fn settle_by_words<P: Prober>(
 )
     requires notes { AreNotes (P.attests prober.now plan.now) plan.now notes.old.items }
     ensures notes { AreNotes (P.attests prober.now plan.now) plan.now notes.new.items }
-    ensures noted { (d : ℕ) → d < length plan.now → has_note notes.new.items d ≡ leaves_note (sees before.now d) (end_status plan.now (bound_by_words words.now) d) }
+    ensures noted { AreNoted plan.now (sees before.now) (end_status plan.now (bound_by_words words.now)) notes.new.items }
 {
     let seen = bound_devices(plan, words);
     for index in 0..plan.len() {
@@ -68,7 +67,7 @@ fn finish_quiet<P: Prober>(
 ) -> Result<Ran<P::Note>, Refusal>
     requires ends { (v : View) × EndsAs plan.now v words.now true }
     requires notes { AreNotes (P.attests prober.now plan.now) plan.now notes.items }
-    ensures ran { IfOk result (λ ran. IsRunAfter (P.attests prober.now plan.now) (sees before.now) plan.now ran.report.items ran.notes.items) }
+    ensures ran { IfOk result (HasRun (P.attests prober.now plan.now) (sees before.now) plan.now) }
     ensures err { IfErr result (λ refusal. refusal ≡ NoMemory) }
 {
     settle_by_words(plan, prober, words, before, &mut notes);
@@ -89,7 +88,7 @@ fn finish<P: Prober>(
     requires plan { board.plan ≡ plan.now }
     requires own { IsFree board own }
     requires notes { AreNotes (P.attests prober.now plan.now) plan.now notes.items }
-    ensures ran { IfOk result (λ ran. IsRunAfter (P.attests prober.now plan.now) (sees before.now) plan.now ran.report.items ran.notes.items) }
+    ensures ran { IfOk result (HasRun (P.attests prober.now plan.now) (sees before.now) plan.now) }
     ensures err { IfErr result (λ refusal. refusal ≡ NoMemory) }
 {
     let end = board.close(own);
@@ -112,9 +111,9 @@ fn again<P: Prober, R: Threads + Sync>(
 ) -> Worked<P::Note>
     requires plan { board.now.plan ≡ plan.now }
     requires free { IsFree board.now done.seat }
-    requires notes { All (λ n. P.attests prober.now plan.now n.device n.note) done.notes.items }
+    requires notes { AreAttested (P.attests prober.now plan.now) done.notes.items }
     ensures free { IsFree board.now result.seat }
-    ensures notes { All (λ n. P.attests prober.now plan.now n.device n.note) result.notes.items }
+    ensures notes { AreAttested (P.attests prober.now plan.now) result.notes.items }
 {
     if !crew.is_short() {
         return done;
@@ -134,7 +133,7 @@ pub fn run_opened<P: Prober, R: Threads + Sync>(
 ) -> Result<Ran<P::Note>, Refusal>
     requires plan { opened.0.plan ≡ plan.now }
     requires own { IsFree opened.0 opened.1 }
-    ensures ran { IfOk result (λ ran. IsRunAfter (P.attests prober.now plan.now) (sees before.now) plan.now ran.report.items ran.notes.items) }
+    ensures ran { IfOk result (HasRun (P.attests prober.now plan.now) (sees before.now) plan.now) }
     ensures err { IfErr result (λ refusal. refusal ≡ NoMemory) }
 {
     let (board, seat) = opened;

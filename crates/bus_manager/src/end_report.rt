@@ -1,10 +1,10 @@
 //! The end report of a plan, from the words that a quiet board ended with.
 
-ghost use Rattle.std.specs.Prelude.{◌≡◌, ◌<◌, ◌++◌, length, flat_map, IfOk, IfSome, OnOk};
+ghost use Rattle.std.specs.Prelude.{◌≡◌, ◌<◌, ◌++◌, length, IfOk, IfSome, OnOk};
 ghost use Rattle.std.specs.List.{list_all};
 ghost use Rattle.bus_plan.specs.Plan.{suppliers_of};
-ghost use Rattle.bus_core.specs.Due.{devices};
-ghost use Rattle.bus_core.specs.Report.{end_line, end_status, end_text, line_of, missing_supplier};
+ghost use Rattle.bus_core.specs.RefinementReport.{IsNamedSupplier};
+ghost use Rattle.bus_core.specs.Report.{end_line, end_lines, end_status, end_text, missing_supplier};
 ghost use Rattle.bus_manager.specs.Private.BoardEnd.{bound_by_words};
 
 use bus_board::Word;
@@ -63,7 +63,7 @@ fn missing_supplier(plan: &Plan, words: &[Word], device: Device) -> Option<Devic
 // The supplier that the line of a device with this status names: only that of a waiting device is looked for.
 fn named_supplier(plan: &Plan, words: &[Word], device: Device, status: Status) -> Option<Device>
     requires { device < length plan.now }
-    ensures line { line_of plan.now result status device ≡ line_of plan.now (missing_supplier plan.now (bound_by_words words.now) device) status device }
+    ensures line { IsNamedSupplier plan.now (bound_by_words words.now) device status result }
     ensures within { IfSome result (λ supplier. supplier < length plan.now) }
 {
     plan.check();
@@ -88,7 +88,7 @@ fn push_device(
 }
 
 fn device_lines(alloc: Global, plan: &Plan, words: &[Word]) -> Result<Vec<u8>, AllocError>
-    ensures { IfOk result (λ text. text.items ≡ flat_map (end_line plan.now (bound_by_words words.now)) (devices plan.now)) }
+    ensures { IfOk result (λ text. text.items ≡ end_lines plan.now (bound_by_words words.now)) }
 {
     let mut text = Vec::new(alloc);
     for index in 0..plan.len() {

@@ -1,9 +1,10 @@
 //! The flights of one seat of a board: each looks at its device's suppliers, probes it, and ends.
 
-ghost use Rattle.std.specs.Prelude.{◌≡◌, ◌<◌, ◌+◌, All, IfSome, IfNone, Some, None, true, [], length, slice_get, vec_len, vec_capacity};
+ghost use Rattle.std.specs.Prelude.{◌≡◌, ◌<◌, ◌+◌, IfSome, IfNone, Some, None, true, [], slice_get, vec_len, vec_capacity};
 ghost use Rattle.bus_plan.specs.Plan.{suppliers_of};
 ghost use Rattle.bus_board.specs.Shown.{IsOf};
-ghost use Rattle.bus_manager.specs.Private.Flying.{HasLooked, HasTaken, IsFree};
+ghost use Rattle.bus_manager.specs.Private.Flying.{HasLooked, HasLookedAll, HasTaken, IsFree};
+ghost use Rattle.bus_manager.specs.Private.Notes.{AreAttested};
 ghost use Rattle.bus_manager.specs.Prober.{IsLawfulReport};
 ghost use Rattle.bus_manager.specs.Seen.{sees};
 
@@ -48,7 +49,7 @@ fn look_round(board: &Board, plan: &Plan, seat: &mut Seat, device: Device) -> Se
     requires plan { board.now.plan ≡ plan.now }
     requires taken { HasTaken board.now seat.old device }
     ensures of { IsOf board.now seat.new }
-    ensures looked { HasLooked seat.new.view device result (suppliers_of plan.now device) (length (suppliers_of plan.now device)) }
+    ensures looked { HasLookedAll seat.new.view device result (suppliers_of plan.now device) }
     ensures owed { seat.new.view.owed ≡ [] }
 {
     plan.check();
@@ -79,7 +80,7 @@ fn end_flight(
 ) -> bool
     requires plan { board.now.plan ≡ plan.now }
     requires of { IsOf board.now seat.old }
-    requires looked { HasLooked seat.old.view device seen.now (suppliers_of plan.now device) (length (suppliers_of plan.now device)) }
+    requires looked { HasLookedAll seat.old.view device seen.now (suppliers_of plan.now device) }
     requires lawful { IsLawfulReport plan.now (sees seen.now) device report }
     ensures of { IsOf board.now seat.new }
     ensures ended { seat.new.view.flight ≡ None }
@@ -143,9 +144,9 @@ fn fly_once<P: Prober>(
     requires plan { board.now.plan ≡ plan.now }
     requires taken { HasTaken board.now own.old.seat device }
     requires room { vec_len own.old.notes < vec_capacity own.old.notes }
-    requires notes { All (λ n. P.attests prober.now plan.now n.device n.note) own.old.notes.items }
+    requires notes { AreAttested (P.attests prober.now plan.now) own.old.notes.items }
     ensures free { IsFree board.now own.new.seat }
-    ensures notes { All (λ n. P.attests prober.now plan.now n.device n.note) own.new.notes.items }
+    ensures notes { AreAttested (P.attests prober.now plan.now) own.new.notes.items }
 {
     let Some(note) = fly(board, plan, prober, &mut own.seat, device) else {
         return;
@@ -166,9 +167,9 @@ pub fn fly_on<P: Prober>(
 ) -> bool
     requires plan { board.now.plan ≡ plan.now }
     requires free { IsFree board.now own.old.seat }
-    requires notes { All (λ n. P.attests prober.now plan.now n.device n.note) own.old.notes.items }
+    requires notes { AreAttested (P.attests prober.now plan.now) own.old.notes.items }
     ensures free { IsFree board.now own.new.seat }
-    ensures notes { All (λ n. P.attests prober.now plan.now n.device n.note) own.new.notes.items }
+    ensures notes { AreAttested (P.attests prober.now plan.now) own.new.notes.items }
     ensures forks { result ≡ true → 0 < forks }
 {
     plan.check();

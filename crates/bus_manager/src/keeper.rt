@@ -6,9 +6,9 @@ ghost use Rattle.bus_plan.specs.LateDriver.{gaining};
 ghost use Rattle.bus_plan.specs.Plan.{is_driver_name};
 ghost use Rattle.bus_core.specs.Due.{is_due};
 ghost use Rattle.bus_core.specs.Report.{report_text};
-ghost use Rattle.bus_core.specs.Step.{finish_refusal, finish_reply, abandon_refusal, register_refusal, IsRefused};
+ghost use Rattle.bus_core.specs.Step.{finish_refusal, IsReply, abandon_refusal, register_refusal, IsRefused};
 ghost use Rattle.bus_core.specs.declared.refusal.Refusal.TheVariants.{NoMemory};
-ghost use Rattle.bus_manager.specs.Keeper.{IsKept, first_keeper, finished_keeper, abandoned_keeper, registered_keeper, IsTaken, IsTakeRefused};
+ghost use Rattle.bus_manager.specs.Keeper.{IsKept, first_keeper, finished_keeper, abandoned_keeper, registered_keeper, IsNoneDue, IsTaken, IsTakeRefused};
 ghost use Rattle.bus_manager.specs.Private.Counts.{open_flights};
 ghost use Rattle.bus_manager.specs.Private.Seen.{IsSeenAfter};
 
@@ -71,7 +71,7 @@ impl Keeper {
 
     /// Begins a due device, if there is one, and gives its ticket with the devices that are bound now.
     pub fn take(&mut self) -> Result<Option<(Ticket, Seen)>, Refusal>
-        ensures none { IfOk result (λ taken. IfNone taken ((self.new ≡ self.old) × ((d : ℕ) → is_due self.old.plan self.old.state d ≡ false))) }
+        ensures none { IfOk result (λ taken. IfNone taken (IsNoneDue self.old self.new)) }
         ensures some { IfOk result (λ taken. IfSome taken (λ t. IsTaken self.old self.new t.0 t.1)) }
         ensures refused { IfErr result (IsTakeRefused self.old) }
         ensures err { OnErr result (self.new ≡ self.old) }
@@ -95,7 +95,7 @@ impl Keeper {
         // room for this begin, and for the end of each flight, its own among them
         self.events.reserve(self.flying + 2)?;
         let ticket = self.core.begin(device)?;
-        store_begin(&mut self.events, device);
+        store(&mut self.events, Event::Begin(device));
         self.flying += 1;
         Ok((ticket, self.bound))
     }
@@ -104,7 +104,7 @@ impl Keeper {
     pub fn finish(&mut self, ticket: &Ticket, report: Report) -> Result<Reply, Refusal>
         requires { ticket.now.device < length self.old.plan }
         ensures refused { result_err result ≡ finish_refusal self.old.plan self.old.state ticket.now report }
-        ensures reply { IfOk result (λ reply. reply ≡ finish_reply self.new.plan self.new.state ticket.now.device report) }
+        ensures reply { IfOk result (IsReply self.new.plan self.new.state ticket.now.device report) }
         ensures finished { OnOk result (self.new ≡ finished_keeper self.old ticket.now.device report) }
         ensures err { OnErr result (self.new ≡ self.old) }
     {
@@ -119,7 +119,7 @@ impl Keeper {
         ensures err { OnErr result (self.new ≡ self.old) }
     {
         self.core.abandon(device)?;
-        store_abandon(&mut self.events, device);
+        store(&mut self.events, Event::Abandon(device));
         self.flying -= 1;
         Ok(())
     }
@@ -170,7 +170,7 @@ impl Keeper {
     fn end(&mut self, ticket: &Ticket, report: &Report) -> Result<Reply, Refusal>
         requires { ticket.now.device < length self.old.plan }
         ensures refused { result_err result ≡ finish_refusal self.old.plan self.old.state ticket.now report.now }
-        ensures reply { IfOk result (λ reply. reply ≡ finish_reply self.new.plan self.new.state ticket.now.device report.now) }
+        ensures reply { IfOk result (IsReply self.new.plan self.new.state ticket.now.device report.now) }
         ensures finished { OnOk result (self.new ≡ finished_keeper self.old ticket.now.device report.now) }
         ensures err { OnErr result (self.new ≡ self.old) }
     {
@@ -213,20 +213,12 @@ fn register_event(alloc: Global, name: &Name, compatibles: &[Bytes]) -> Result<E
     Ok(Event::Register(name.copy(alloc)?, Compatibles::new(strings)))
 }
 
-fn store_begin(events: &mut Vec<Event>, device: Device)
+// One event more, in room that is there. The prover has to meet the type inside `Event` by name.
+fn store(events: &mut Vec<Event>, event: Event)
     requires { vec_len events.old < vec_capacity events.old }
-    ensures items { events.new.items ≡ events.old.items ++ Event.Begin device ∷ [] }
+    ensures items { events.new.items ≡ events.old.items ++ event ∷ [] }
     ensures room { vec_capacity events.old ≤ vec_capacity events.new }
 {
     let _report: Option<Report> = None;
-    append(events, Event::Begin(device));
-}
-
-fn store_abandon(events: &mut Vec<Event>, device: Device)
-    requires { vec_len events.old < vec_capacity events.old }
-    ensures items { events.new.items ≡ events.old.items ++ Event.Abandon device ∷ [] }
-    ensures room { vec_capacity events.old ≤ vec_capacity events.new }
-{
-    let _report: Option<Report> = None;
-    append(events, Event::Abandon(device));
+    append(events, event);
 }

@@ -127,14 +127,20 @@ impl<J: PlanName> Manager<J> {
         }
     }
 
-    /// A due device's flight, as soon as there is one. None where there will be none, or memory is refused.
-    pub(crate) fn take<R: Wait>(&self, rt: &R) -> Option<Flight>
-        ensures { IfSome result (λ flight. flight.ticket.device < length J.plan) }
+    /// A due device's flight, as soon as there is one, and whether a further worker begins for the device that is due behind it,
+    /// which a worker can let begin so often. None where there will be no flight, or memory is refused.
+    pub(crate) fn take<R: Wait>(&self, rt: &R, forks: usize) -> Option<(Flight, bool)>
+        ensures device { IfSome result (λ taken. taken.0.ticket.device < length J.plan) }
+        ensures joined { IfSome result (λ taken. taken.1 ≡ true → 0 < forks) }
     {
         let mut kept = self.kept.lock(rt);
         for _ in rt.forever() {
             match kept.turn() {
-                Ok(Turn::Fly(flight)) => return Some(flight),
+                Ok(Turn::Fly(flight)) => {
+                    // under the lock, where a worker that has counted itself waits already
+                    let joined = self.pass_on(&flight, forks);
+                    return Some((flight, joined));
+                }
                 Ok(Turn::Wait) => {}
                 Ok(Turn::Quiet) | Err(_) => {
                     self.baton.wake_all();
@@ -153,9 +159,9 @@ impl<J: PlanName> Manager<J> {
         self.kept.lock(rt).finish(ticket, report)
     }
 
-    /// Sends one to look for the device that is due behind the flight's own, if one is. It says whether a further worker
-    /// begins for it, which a worker can let begin so often.
-    pub(crate) fn pass_on(&self, flight: &Flight, forks: usize) -> bool
+    // Sends one to look for the device that is due behind the flight's own, if one is, and says whether a further worker
+    // begins for it.
+    fn pass_on(&self, flight: &Flight, forks: usize) -> bool
         ensures { result ≡ true → 0 < forks }
     {
         flight.more && self.baton.pass_on(forks)

@@ -1,10 +1,10 @@
 //! The notes of a run: one place a device.
 
-ghost use Rattle.std.specs.Prelude.{◌≡◌, ◌<◌, ℕ, length, replicate, slice_set, All, IfOk, None};
+ghost use Rattle.std.specs.Prelude.{◌≡◌, ◌<◌, length, replicate, slice_set, IfOk, None};
 ghost use Rattle.bus_core.specs.Report.{status_of};
-ghost use Rattle.bus_manager.specs.Notes.{has_settled, leaves_note, has_note};
+ghost use Rattle.bus_manager.specs.Notes.{has_settled, leaves_note};
 ghost use Rattle.bus_manager.specs.Seen.{sees};
-ghost use Rattle.bus_manager.specs.Private.Notes.{AreNotes, IsNoted};
+ghost use Rattle.bus_manager.specs.Private.Notes.{AreAttested, AreNoted, AreNotes, IsNoted};
 
 use crate::keeper::Keeper;
 use crate::prober::Prober;
@@ -48,9 +48,9 @@ pub fn add_notes<P: Prober>(
     notes: &mut Vec<Noted<P::Note>>,
     mut found: Vec<Noted<P::Note>>,
 )
-    requires notes { All (λ n. P.attests prober.now plan.now n.device n.note) notes.old.items }
-    requires found { All (λ n. P.attests prober.now plan.now n.device n.note) found.items }
-    ensures { All (λ n. P.attests prober.now plan.now n.device n.note) notes.new.items }
+    requires notes { AreAttested (P.attests prober.now plan.now) notes.old.items }
+    requires found { AreAttested (P.attests prober.now plan.now) found.items }
+    ensures { AreAttested (P.attests prober.now plan.now) notes.new.items }
 {
     match notes.append(&mut found) {
         Ok(()) => {}
@@ -66,7 +66,7 @@ pub fn place_some<P: Prober>(
     mut found: Vec<Noted<P::Note>>,
 )
     requires notes { AreNotes (P.attests prober.now plan.now) plan.now notes.old.items }
-    requires found { All (λ n. P.attests prober.now plan.now n.device n.note) found.items }
+    requires found { AreAttested (P.attests prober.now plan.now) found.items }
     ensures { AreNotes (P.attests prober.now plan.now) plan.now notes.new.items }
 {
     'placing: while let Some(noted) = found.pop() {
@@ -143,7 +143,7 @@ pub fn settle_notes<P: Prober>(
     requires plan { keeper.now.plan ≡ plan.now }
     requires notes { AreNotes (P.attests prober.now plan.now) plan.now notes.old.items }
     ensures notes { AreNotes (P.attests prober.now plan.now) plan.now notes.new.items }
-    ensures noted { (d : ℕ) → d < length plan.now → has_note notes.new.items d ≡ leaves_note (sees before.now d) (status_of plan.now keeper.now.state d) }
+    ensures noted { AreNoted plan.now (sees before.now) (status_of plan.now keeper.now.state) notes.new.items }
 {
     let seen = keeper.seen();
     for index in 0..plan.len() {

@@ -2,9 +2,10 @@
 //! due device behind wakes one that waits; where none waits it lets a further one begin, while fewer are at work than were asked
 //! for.
 
-ghost use Rattle.std.specs.Prelude.{◌≡◌, ◌<◌, All, IfSome, Some, length, vec_len, vec_capacity};
+ghost use Rattle.std.specs.Prelude.{◌≡◌, ◌<◌, IfSome, Some, length, vec_len, vec_capacity};
 ghost use Rattle.std.specs.Thread.{IsSync};
 ghost use Rattle.bus_manager.specs.Private.Locked.{HasRoom};
+ghost use Rattle.bus_manager.specs.Private.Notes.{AreAttested};
 
 use crate::keeper::append;
 use crate::manager::{Flight, Manager, PlanName};
@@ -35,8 +36,8 @@ fn fly<J: PlanName, P: Prober, R: Wait>(
     requires plan { plan.now ≡ J.plan }
     requires within { flight.ticket.device < length plan.now }
     requires room { vec_len notes.old < vec_capacity notes.old }
-    requires notes { All (λ n. P.attests prober.now plan.now n.device n.note) notes.old.items }
-    ensures { All (λ n. P.attests prober.now plan.now n.device n.note) notes.new.items }
+    requires notes { AreAttested (P.attests prober.now plan.now) notes.old.items }
+    ensures { AreAttested (P.attests prober.now plan.now) notes.new.items }
 {
     let Flight {
         ticket,
@@ -61,8 +62,8 @@ fn begin<J: PlanName, P: Prober, R: Wait>(
 )
     requires plan { plan.now ≡ J.plan }
     requires room { HasRoom plan.now flight (vec_len notes.old) (vec_capacity notes.old) }
-    requires notes { All (λ n. P.attests prober.now plan.now n.device n.note) notes.old.items }
-    ensures { All (λ n. P.attests prober.now plan.now n.device n.note) notes.new.items }
+    requires notes { AreAttested (P.attests prober.now plan.now) notes.old.items }
+    ensures { AreAttested (P.attests prober.now plan.now) notes.new.items }
 {
     match flight {
         Some(flight) => fly(rt, manager, plan, prober, flight, notes),
@@ -81,9 +82,9 @@ fn fly_on<J: PlanName, P: Prober, R: Wait>(
     notes: &mut Vec<Noted<P::Note>>,
 ) -> Option<Flight>
     requires plan { plan.now ≡ J.plan }
-    requires notes { All (λ n. P.attests prober.now plan.now n.device n.note) notes.old.items }
+    requires notes { AreAttested (P.attests prober.now plan.now) notes.old.items }
     ensures room { HasRoom plan.now result (vec_len notes.new) (vec_capacity notes.new) }
-    ensures notes { All (λ n. P.attests prober.now plan.now n.device n.note) notes.new.items }
+    ensures notes { AreAttested (P.attests prober.now plan.now) notes.new.items }
     ensures forks { IfSome result (λ flight. 0 < forks) }
 {
     for _ in rt.forever() {
@@ -95,10 +96,10 @@ fn fly_on<J: PlanName, P: Prober, R: Wait>(
                 break;
             }
         }
-        let Some(flight) = manager.take(rt) else {
+        let Some((flight, joined)) = manager.take(rt, forks) else {
             break;
         };
-        if manager.pass_on(&flight, forks) {
+        if joined {
             return Some(flight);
         }
         fly(rt, manager, plan, prober, flight, notes);
@@ -122,8 +123,8 @@ pub fn work<J: PlanName + Send + Sync, P: Prober, R: Threads + Wait + Sync>(
 ) -> Vec<Noted<P::Note>>
     requires plan { plan.now ≡ J.plan }
     requires room { HasRoom plan.now flight (vec_len notes) (vec_capacity notes) }
-    requires notes { All (λ n. P.attests prober.now plan.now n.device n.note) notes.items }
-    ensures { All (λ n. P.attests prober.now plan.now n.device n.note) result.items }
+    requires notes { AreAttested (P.attests prober.now plan.now) notes.items }
+    ensures { AreAttested (P.attests prober.now plan.now) result.items }
 {
     begin(rt, manager, plan, prober, flight, &mut notes);
     let Some(flight) = fly_on(rt, manager, plan, prober, forks, &mut notes) else {
@@ -132,7 +133,7 @@ pub fn work<J: PlanName + Send + Sync, P: Prober, R: Threads + Wait + Sync>(
     let fewer = forks - 1;
     let second = move || -> Vec<Noted<P::Note>>
         requires { IsSync R.row × IsSync J.row × (plan.now ≡ J.plan) }
-        ensures { All (λ n. P.attests prober.entry.now plan.entry.now n.device n.note) result.items }
+        ensures { AreAttested (P.attests prober.entry.now plan.entry.now) result.items }
     {
         work(
             rt,
@@ -146,8 +147,10 @@ pub fn work<J: PlanName + Send + Sync, P: Prober, R: Threads + Wait + Sync>(
         )
     };
     let first = move || -> Vec<Noted<P::Note>>
-        requires { IsSync R.row × IsSync J.row × (plan.now ≡ J.plan) × HasRoom plan.now (Some flight) (vec_len notes) (vec_capacity notes) × All (λ n. P.attests prober.now plan.now n.device n.note) notes.items }
-        ensures { All (λ n. P.attests prober.entry.now plan.entry.now n.device n.note) result.items }
+        requires { IsSync R.row × IsSync J.row × (plan.now ≡ J.plan)
+            × HasRoom plan.now (Some flight) (vec_len notes) (vec_capacity notes)
+            × AreAttested (P.attests prober.now plan.now) notes.items }
+        ensures { AreAttested (P.attests prober.entry.now plan.entry.now) result.items }
     { work(rt, alloc, manager, plan, prober, Some(flight), notes, fewer) };
     let (theirs, mut mine) = thread::join(rt, second, first);
     add_notes(plan, prober, &mut mine, theirs);

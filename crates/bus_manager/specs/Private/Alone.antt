@@ -1,7 +1,8 @@
 -- What the caller of a run does alone, once its workers have left: flights are dropped, and due devices probed.
-use Rattle.std.specs.Prelude.{◌≡◌, ◌<◌, ◌≤◌, ◌+◌, ◌*◌, ℕ, false, length}
+use Rattle.std.specs.Prelude.{◌≡◌, ◌<◌, ◌≤◌, ◌+◌, ◌*◌, ℕ, true, false, length}
 use Rattle.bus_plan.specs.declared.limits.TheConstants.{MAX_DEVICES}
 use Rattle.bus_core.specs.CoreState.{is_in_flight}
+use Rattle.bus_core.specs.Due.{is_quiet}
 use Rattle.bus_manager.specs.Keeper.{KeeperValue}
 use Rattle.bus_manager.specs.Private.Counts.{abandons}
 
@@ -27,3 +28,7 @@ pub record IsDriven (old new : KeeperValue) : Type 0 where
   pub few : abandons new ≡ abandons old
   pub begins : new.state.begins ≡ old.state.begins + 1
   pub limit : new.state.begins ≤ most_begins
+
+-- nothing was due and no flight open
+abbrev pub StaysQuiet : KeeperValue → KeeperValue → Type 0
+StaysQuiet old new = (new ≡ old) × (is_quiet new.plan new.state ≡ true)

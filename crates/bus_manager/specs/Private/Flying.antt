@@ -4,6 +4,8 @@ use Rattle.bus_board.specs.Shown.{Posted, Seated, IsOf}
 use Rattle.bus_board.specs.Views.{last_look}
 use Rattle.bus_board.specs.declared.view.View.{View}
 use Rattle.bus_board.specs.declared.view.Flight.{Flight}
+use Rattle.bus_manager.specs.declared.seats.Worked.{Worked}
+use Rattle.bus_manager.specs.Private.Notes.{AreAttested}
 use Rattle.bus_manager.specs.Seen.{sees}
 
 -- a flight of the device, whose last look at each of the first n of these suppliers found what the set says
@@ -12,6 +14,10 @@ pub record HasLooked (v : View) (d : ℕ) (seen : List ℕ) (suppliers : List �
   pub open_was : v.flight ≡ Some flight
   pub device : flight.device ≡ d
   pub saw : (i s : ℕ) → i < n → slice_get suppliers i ≡ Some s → last_look flight.looks s ≡ Some (sees seen s)
+
+-- and that at each of them
+abbrev pub HasLookedAll : View → ℕ → List ℕ → List ℕ → Type 0
+HasLookedAll v d seen suppliers = HasLooked v d seen suppliers (length suppliers)
 
 -- no flight and no debt
 abbrev pub IsIdle : View → Type 0
@@ -27,3 +33,7 @@ pub record HasTaken (board : Posted) (seat : Seated) (d : ℕ) : Type 0 where
   pub within : d < length board.plan
   pub looked : HasLooked seat.view d [] [] 0
   pub owed : seat.view.owed ≡ []
+
+-- what a worker has and leaves: a free seat of the board, and notes that attest their devices
+abbrev pub IsWorked : {N : Type 0} → (ℕ → N → Type 0) → Posted → Worked N → Type 0
+IsWorked attests board worked = IsFree board worked.seat × AreAttested attests worked.notes.items

@@ -14,6 +14,6 @@ invariant_of-self-2 c =
     in let allowed : abandon_refusal k.core.state d ≡ None = sym c.in_ok-abandon.ensures.refused
     in let core : c.abandon.new.self ≡ record { plan = k.core.plan; state = without_flight k.core.state d } = c.in_ok-abandon.ensures.abandoned
     in record {
-      sound = coe 1 0 (i. IsSoundKeeper (core i) (c.store_abandon.ensures.items i) k.bound (k.flying - 1)) (abandoned-sound k.core k.events.items k.bound k.flying d within allowed c.self.invariant.sound);
-      room = omega (arith, ap length c.store_abandon.ensures.items, length_push k.events.items (Abandon d), c.store_abandon.new.events.ok.0, k.events.ok.0, c.self.invariant.room, c.store_abandon.ensures.room);
+      sound = coe 1 0 (i. IsSoundKeeper (core i) (c.store.ensures.items i) k.bound (k.flying - 1)) (abandoned-sound k.core k.events.items k.bound k.flying d within allowed c.self.invariant.sound);
+      room = omega (arith, ap length c.store.ensures.items, length_push k.events.items (Abandon d), c.store.new.events.ok.0, k.events.ok.0, c.self.invariant.room, c.store.ensures.room);
     }
