@@ -26,7 +26,7 @@ use Rattle.dt_build.proofs.ListsOfPrepared.{fixups-new, symbols-whole}
 use Rattle.dt_build.proofs.MoreWalked.{child-walked}
 use Rattle.dt_build.proofs.NamedSources.{IsName}
 use Rattle.dt_build.proofs.SiteNames.{made-labelled}
-use Rattle.dt_build.proofs.SizeOfWalk.{held-own}
+use Rattle.dt_build.proofs.HeldProperties.{held-own}
 use Rattle.dt_build.proofs.SymbolsLast.{with-none}
 
 -- ---- a property of each label

@@ -9,6 +9,7 @@ pub mod FixupLists
 pub mod FixupsMade
 pub mod FoundNames
 pub mod FragmentNames
+pub mod HeldProperties
 pub mod ListsOfPrepared
 pub mod LocalDepth
 pub mod LocalFronts
@@ -41,7 +42,6 @@ pub mod SiteSizes
 pub mod SiteTexts
 pub mod Sites
 pub mod SitesOfFounds
-pub mod SizeOfWalk
 pub mod SourceOrder
 pub mod SourceSteps
 pub mod SymbolsLast

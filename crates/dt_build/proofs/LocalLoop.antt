@@ -22,7 +22,7 @@ use Rattle.dt_build.specs.declared.local_properties.LocalFixup.{LocalFixup}
 use Rattle.dt_build.specs.Private.Made.{lists}
 use Rattle.dt_build.specs.Private.FixupSites.{key_at}
 use Rattle.dt_build.specs.Private.LocalFixups.{AreListsFrom, AreMadeTo, AreMarks, all_local, has_local, local_definitions, local_path}
-use Rattle.dt_build.specs.Private.Cursors.{path_at}
+use Rattle.dt_build.specs.Private.NodePhandles.{path_at}
 use Rattle.dt_build.specs.Private.Ready.{IsReady}
 use Rattle.dt_live.proofs.MakingNodes.{count, deep, name-read, parts, path-is}
 use Rattle.dt_build.proofs.MakingNodes.{order-of}

@@ -28,7 +28,7 @@ use Rattle.dt_build.specs.declared.local_properties.LocalFixup.{LocalFixup}
 use Rattle.dt_build.specs.Private.Made.{fixup_lists, lists, made_sites}
 use Rattle.dt_build.specs.Private.FixupSites.{key_at}
 use Rattle.dt_build.specs.Private.LocalFixups.{all_local, first_local, has_local, local_definitions, local_path, nodes_with, with_locals}
-use Rattle.dt_build.specs.Private.Cursors.{path_at}
+use Rattle.dt_build.specs.Private.NodePhandles.{path_at}
 use Rattle.dt_build.specs.Private.Ready.{IsReady}
 use Rattle.dt_build.proofs.ListsOfPrepared.{fixups-whole, lists-whole, local-new}
 use Rattle.dt_live.proofs.MakingNodes.{at-path, count}

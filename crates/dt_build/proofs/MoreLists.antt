@@ -17,7 +17,7 @@ use Rattle.dt_tree_builder.proofs.Orders.{held-append}
 use Rattle.dt_tree_builder.proofs.PathFacts.{by_last, bytes-itself, listed-first, not-both, not-true, or-false, same-is}
 use Rattle.dt_tree_builder.proofs.Standing.{listed-both}
 use Rattle.dt_build.proofs.ApartPhandles.{apart-of, ones-apart, ones-so}
-use Rattle.dt_build.proofs.SizeOfWalk.{held-other}
+use Rattle.dt_build.proofs.HeldProperties.{held-other}
 use Rattle.dt_build.proofs.SymbolsLast.{none-held, with-none}
 
 -- the path is that of the child of this name, or below it

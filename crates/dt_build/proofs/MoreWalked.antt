@@ -18,7 +18,7 @@ use Rattle.dt_tree_builder.proofs.Standing.{listed-both}
 use Rattle.dt_build.proofs.ApartLists.{each-passed}
 use Rattle.dt_build.proofs.ApartPhandles.{apart-of, ones-apart}
 use Rattle.dt_build.proofs.MoreLists.{AllUnder, IsUnder, IsWhole, fronts_of, fronts-under, held-before, held-under, listed-fronts, listed-new, under-at, under-new}
-use Rattle.dt_build.proofs.SizeOfWalk.{held-own}
+use Rattle.dt_build.proofs.HeldProperties.{held-own}
 use Rattle.dt_build.proofs.SymbolsLast.{kept-both, none-kept, same-kept, same-listed}
 use Rattle.dt_build.proofs.WalkOrder.{in-walk}
 

@@ -21,7 +21,7 @@ use Rattle.dt_resolve.proofs.PathPhandles.{given-same}
 use Rattle.dt_making.specs.Made.{phandle_at}
 use Rattle.dt_build.specs.declared.node_phandles.NodePhandles.{NodePhandles}
 use Rattle.dt_build.specs.Private.Made.{given_phandles, new_phandles, own, plain_properties}
-use Rattle.dt_build.specs.Private.Cursors.{AreNodePhandles}
+use Rattle.dt_build.specs.Private.NodePhandles.{AreNodePhandles}
 use Rattle.dt_build.specs.Private.Ready.{IsReady}
 use Rattle.dt_resolve.proofs.PathPhandles.{each-assigned}
 

@@ -23,7 +23,7 @@ use Rattle.dt_resolve.specs.Private.ReadProperty.{read_property}
 use Rattle.dt_resolve.specs.Targets.{target_path}
 use Rattle.dt_resolve.proofs.ReadOrder.{read-order}
 use Rattle.dt_build.specs.declared.node_phandles.NodePhandles.{NodePhandles}
-use Rattle.dt_build.specs.Private.Cursors.{AreNodePhandles}
+use Rattle.dt_build.specs.Private.NodePhandles.{AreNodePhandles}
 use Rattle.dt_build.specs.Private.Made.{all_phandles, founds, plain_properties}
 use Rattle.dt_build.specs.Private.Ready.{IsReady}
 use Rattle.dt_build.specs.Private.SourceValues.{source_made}

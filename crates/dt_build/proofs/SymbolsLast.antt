@@ -13,7 +13,7 @@ use Rattle.dt_meaning.specs.Resolved.{Resolved, fronts, symbol, with_more}
 use Rattle.dt_tree_builder.specs.Standing.{AreNodes, walked, behind_root}
 use Rattle.dt_tree_builder.proofs.Orders.{behind, held-append, there-same, no-below}
 use Rattle.dt_tree_builder.proofs.PathFacts.{not-both, same-itself, child-is, listed-first, listed-next, listed-other, other-side}
-use Rattle.dt_build.proofs.SizeOfWalk.{held-other}
+use Rattle.dt_build.proofs.HeldProperties.{held-other}
 
 -- ---- children that are kept of a list
 pub kept-both : (f : Path → Bool) (xs ys : List Path) → filter f (xs ++ ys) ≡ filter f xs ++ filter f ys

@@ -13,7 +13,7 @@ use Rattle.dt_tree_builder.specs.Standing.{are_apart, AreNodes}
 use Rattle.dt_tree_builder.proofs.InTurn.{each-once}
 use Rattle.dt_tree_builder.proofs.Orders.{held-append, behind, there-same}
 use Rattle.dt_tree_builder.proofs.PathFacts.{not-true, same-is, or-false, other-side}
-use Rattle.dt_build.proofs.SizeOfWalk.{held-other, held-own}
+use Rattle.dt_build.proofs.HeldProperties.{held-other, held-own}
 
 -- ---- the walk meets what is listed
 pub in-walk : (nodes : List Path) → AreNodes nodes → (p : Path) → is_listed p (preorder nodes) ≡ is_listed p ([] ∷ nodes)

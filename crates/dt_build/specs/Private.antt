@@ -1,11 +1,11 @@
 -- What private contracts cite: what is made of a source that is prepared, and how far the code has come. No public clause rests on it.
 pub mod ByLabel
-pub mod Cursors
 pub mod FirstPhandle
 pub mod Fitting
 pub mod FixupSites
 pub mod LocalFixups
 pub mod Made
+pub mod NodePhandles
 pub mod Ready
 pub mod SourceValues
 pub mod Values

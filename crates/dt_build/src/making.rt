@@ -8,7 +8,7 @@ ghost use Rattle.dt_edit.specs.Said.{tree_of};
 ghost use Rattle.dt_tree_builder.specs.Builders.{built_lists};
 ghost use Rattle.dt_tree_builder.specs.Standing.{walked};
 ghost use Rattle.dt_build.specs.Private.Made.{lists, plain_lists, symbol_lists};
-ghost use Rattle.dt_build.specs.Private.Cursors.{AreNodePhandles};
+ghost use Rattle.dt_build.specs.Private.NodePhandles.{AreNodePhandles};
 ghost use Rattle.dt_build.specs.Private.FixupSites.{AreSites};
 ghost use Rattle.dt_build.specs.Private.Ready.{IsReady};
 

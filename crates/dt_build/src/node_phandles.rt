@@ -1,7 +1,7 @@
 //! The phandle of each node.
 ghost use Rattle.std.specs.Prelude.{◌≡◌, ◌<◌, ℕ, All, length, slice_index_or, IfOk};
 ghost use Rattle.dt_build.specs.Private.FirstPhandle.{first_phandle};
-ghost use Rattle.dt_build.specs.Private.Cursors.{AreNodePhandles};
+ghost use Rattle.dt_build.specs.Private.NodePhandles.{AreNodePhandles};
 ghost use Rattle.dt_build.specs.Private.Ready.{IsReady};
 
 use dt_resolve::{NodePhandle, Prepared, nodes_with_phandles};

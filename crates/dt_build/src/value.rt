@@ -1,7 +1,7 @@
 //! The bytes of values whose references have targets.
 ghost use Rattle.std.specs.Prelude.{◌≡◌, ◌≤◌, ◌^◌, ◌-◌, ◌++◌, ◌∷◌, [], None, All, IfOk, OnOk, drop, length, min, slice_index_or};
 ghost use Rattle.dt_resolve.specs.Targets.{IsKnown, IsThere};
-ghost use Rattle.dt_build.specs.Private.Cursors.{AreNodePhandles};
+ghost use Rattle.dt_build.specs.Private.NodePhandles.{AreNodePhandles};
 ghost use Rattle.dt_build.specs.Private.Ready.{IsReady};
 ghost use Rattle.dt_build.specs.Private.Values.{all_uses, bytes_for, part_bytes, uses};
 

@@ -100,6 +100,7 @@ pub(crate) fn add_fragment<'d, 't>(
     // its own name is taken while its body runs
     made.add(name)?;
     let overlay = define_fragment(live, name, target, value)?;
+    // no `?`, behind which a proof has the fault through `From` alone
     match edit_body(live, made, overlay, 2, body) {
         Ok(()) => Ok(()),
         Err(error) => Err(error),

@@ -58,6 +58,7 @@ fn extend<'d, 't>(
         return Err(EditError::of_label(error));
     }
     let depth = live.depth(node);
+    // no `?`, behind which a proof has the fault through `From` alone
     match edit_body(live, made, node, depth, body) {
         Ok(()) => Ok(()),
         Err(error) => Err(error),
@@ -111,6 +112,7 @@ fn edit_item<'d, 't>(
             if makes_fragment(plugin, live, labels, target) {
                 let name = fragments.names[made.count].as_slice();
                 let value = fragments.targets[extension].as_slice();
+                // no `?`, behind which a proof has the fault through `From` alone
                 match add_fragment(live, made, name, target, value, body.as_slice()) {
                     Ok(()) => Ok(()),
                     Err(error) => Err(error),

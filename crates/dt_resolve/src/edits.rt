@@ -29,6 +29,7 @@ pub(crate) fn do_edits<'d, 't>(
     ensures tree { MatchResult result (λ _. (n : ℕ) × (meaning.edited (meaning_of source.now) ≡ Ok (counted n (tree_of live.new)))) (λ e. IsFault e (meaning.edited (meaning_of source.now))) }
 {
     let items = source.items.as_slice();
+    // no `?`, behind which a proof has the fault through `From` alone
     match edit_items(alloc, live, source.plugin, fragments, items) {
         Ok(()) => Ok(()),
         Err(error) => Err(BuildError::from(error)),

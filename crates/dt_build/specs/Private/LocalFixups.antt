@@ -16,7 +16,7 @@ use Rattle.dt_tree_builder.specs.Lists.{defined_at}
 use Rattle.dt_tree_builder.specs.Builders.{built_lists, last_path}
 use Rattle.dt_tree_builder.specs.Standing.{walked}
 use Rattle.dt_edit.specs.Said.{tree_of}
-use Rattle.dt_build.specs.Private.Cursors.{path_at}
+use Rattle.dt_build.specs.Private.NodePhandles.{path_at}
 use Rattle.dt_build.specs.Private.FixupSites.{key_at}
 use Rattle.dt_build.specs.Private.Made.{fixup_lists, made_sites}
 use Rattle.dt_build.specs.declared.local_properties.LocalFixup.{LocalFixup}

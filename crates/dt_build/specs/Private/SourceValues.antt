@@ -5,7 +5,7 @@ use Rattle.dt_resolve.specs.declared.prepared.Prepared.{Prepared}
 use Rattle.dt_resolve.specs.Targets.{IsKnown, IsThere}
 use Rattle.dt_build.specs.declared.node_phandles.NodePhandles.{NodePhandles}
 use Rattle.dt_build.specs.declared.source_values.SourceValues.{SourceValues}
-use Rattle.dt_build.specs.Private.Cursors.{AreNodePhandles}
+use Rattle.dt_build.specs.Private.NodePhandles.{AreNodePhandles}
 use Rattle.dt_build.specs.Private.Made.{plain_lists, plain_properties}
 use Rattle.dt_build.specs.Private.Ready.{IsReady}
 

@@ -7,7 +7,7 @@ use Rattle.dt_meaning.specs.References.{held}
 use Rattle.dt_tree_builder.specs.Lists.{defined_at, with_last}
 use Rattle.dt_tree_builder.specs.Builders.{built_lists}
 use Rattle.dt_build.specs.Private.LocalFixups.{AreMarks, all_local, first_local, has_local, local_path, with_locals}
-use Rattle.dt_build.specs.Private.Cursors.{path_at}
+use Rattle.dt_build.specs.Private.NodePhandles.{path_at}
 use Rattle.dt_live.proofs.MakingNodes.{below-root, root-at}
 use Rattle.dt_build.proofs.MakingNodes.{order-of}
 use Rattle.dt_build.proofs.LocalLoop.{first-node, lists-kept, marks-are, not-zero}

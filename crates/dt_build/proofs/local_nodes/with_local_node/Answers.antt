@@ -2,7 +2,7 @@ use Rattle.std.proofs.Common.{◌≡◌, ◌<◌, ◌+◌, ◌∷◌, ◌∙◌,
 use Rattle.std.proofs.lemmas.List.{map-set, get_or-map, length-map}
 use Rattle.dt_live.proofs.MakingNodes.{below-root, row-within}
 use Rattle.dt_build.specs.Private.LocalFixups.{AreListsFrom, AreMadeTo, has_local, nodes_with, with_locals}
-use Rattle.dt_build.specs.Private.Cursors.{path_at}
+use Rattle.dt_build.specs.Private.NodePhandles.{path_at}
 use Rattle.dt_build.proofs.MakingNodes.{lawful-read, order-of}
 use Rattle.dt_build.proofs.LocalLoop.{fits, lists-next, mark-read, node-known, ok-both, own-read, pushed}
 use Rattle.dt_build.proofs.LocalPushes.{distinct-local, first-same}

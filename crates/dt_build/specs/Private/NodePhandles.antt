@@ -1,4 +1,4 @@
--- Nodes in the order of the walk, and their phandles.
+-- Nodes in preorder, and their phandles.
 use Rattle.std.specs.Prelude.{◌≡◌, ◌+◌, ◌==◌, ℕ, true, false, length, slice_index_or}
 use Rattle.std.specs.Int.{to_be_bytes, w32}
 use Rattle.std.specs.List.{list_any}
