@@ -63,11 +63,11 @@ fn read_value<'t>(
     entries: &mut Vec<Entry<'t>>,
 ) -> Result<Option<Culprit<'t>>, AllocError> {
     let Some(texts) = unended(property.value) else {
-        return Ok(Some(of_property(property, Reason::NoTexts)));
+        return Ok(Some(of_label(property.node, property.name, Reason::NoTexts)));
     };
     for text in texts.split(|byte| *byte == 0) {
         let Some(site) = site_in(text) else {
-            let mut culprit = of_property(property, Reason::NoSite);
+            let mut culprit = of_label(property.node, property.name, Reason::NoSite);
             culprit.entry = Some(text);
             return Ok(Some(culprit));
         };
@@ -81,10 +81,11 @@ fn read_value<'t>(
     Ok(None)
 }
 
-fn of_property<'t>(property: PropertyRow<'t>, reason: Reason) -> Culprit<'t> {
-    let mut culprit = Culprit::new(Fault::BadFixup, reason, property.node);
-    culprit.property = Some(property.name);
-    culprit.subject = Some(property.name);
+// The property of a label, in its node.
+fn of_label<'t>(node: usize, label: &'t [u8], reason: Reason) -> Culprit<'t> {
+    let mut culprit = Culprit::new(Fault::BadFixup, reason, node);
+    culprit.property = Some(label);
+    culprit.subject = Some(label);
     culprit
 }
 
@@ -108,9 +109,7 @@ fn take_entries<'t>(
 }
 
 fn of_entry<'t>(entry: Entry<'t>, reason: Reason) -> Culprit<'t> {
-    let mut culprit = Culprit::new(Fault::BadFixup, reason, entry.node);
-    culprit.property = Some(entry.label);
-    culprit.subject = Some(entry.label);
+    let mut culprit = of_label(entry.node, entry.label, reason);
     culprit.entry = Some(entry.text);
     culprit
 }
