@@ -3,7 +3,7 @@
 use crate::host::{Compiler, Host};
 use crate::options::BadWord;
 use crate::reports::{Failure, fail, report_fault};
-use crate::running::DONE;
+use crate::running::{DONE, put, read};
 use std::alloc::Global;
 
 /// What is asked for.
@@ -49,17 +49,7 @@ fn apply<'a, H: Host, C: Compiler>(
             overlay.as_slice(),
         )?;
     }
-    match host.write(output, blob.as_slice()) {
-        Ok(()) => Ok(()),
-        Err(_) => Err(Failure::NoOutput(output)),
-    }
-}
-
-fn read<'a, H: Host>(alloc: Global, host: &mut H, path: &'a str) -> Result<Vec<u8>, Failure<'a>> {
-    match host.read(alloc, path) {
-        Ok(bytes) => Ok(bytes),
-        Err(_) => Err(Failure::NoInput(path)),
-    }
+    put(host, output, blob.as_slice())
 }
 
 fn applied<H: Host, C: Compiler>(

@@ -51,8 +51,8 @@ pub fn run_dtc<H: Host, C: Compiler>(
         Err(word) => return fail(alloc, host, &Failure::Word(word)),
     };
     let done = match &asked {
-        Asked::Help => show(host, HELP),
-        Asked::Version => show(host, VERSION),
+        Asked::Help => put(host, "-", HELP),
+        Asked::Version => put(host, "-", VERSION),
         Asked::Conversion(options) => convert(alloc, host, compiler, options),
     };
     match done {
@@ -61,8 +61,22 @@ pub fn run_dtc<H: Host, C: Compiler>(
     }
 }
 
-fn show<H: Host>(host: &mut H, text: &[u8]) -> Result<(), Failure<'static>> {
-    host.write("-", text).map_err(|_| Failure::NoOutput("-"))
+/// The bytes of a file, or the failure that names it.
+pub(crate) fn read<'a, H: Host>(
+    alloc: Global,
+    host: &mut H,
+    path: &'a str,
+) -> Result<Vec<u8>, Failure<'a>> {
+    host.read(alloc, path).map_err(|_| Failure::NoInput(path))
+}
+
+/// Writes a file; the failure names it.
+pub(crate) fn put<'a, H: Host>(
+    host: &mut H,
+    path: &'a str,
+    bytes: &[u8],
+) -> Result<(), Failure<'a>> {
+    host.write(path, bytes).map_err(|_| Failure::NoOutput(path))
 }
 
 fn convert<'a, H: Host, C: Compiler>(
@@ -71,10 +85,7 @@ fn convert<'a, H: Host, C: Compiler>(
     compiler: &mut C,
     options: &Options<'a>,
 ) -> Result<(), Failure<'a>> {
-    let bytes = match host.read(alloc, options.input) {
-        Ok(bytes) => bytes,
-        Err(_) => return Err(Failure::NoInput(options.input)),
-    };
+    let bytes = read(alloc, host, options.input)?;
     let from = options.from.unwrap_or(guessed(bytes.as_slice()));
     let to = options.to.unwrap_or(other(from));
     let mut found = Vec::new(alloc);
@@ -89,10 +100,7 @@ fn convert<'a, H: Host, C: Compiler>(
     if let Some(path) = options.dependencies {
         put_dependencies(alloc, host, options, path, found.as_slice())?;
     }
-    match host.write(options.output, output.as_slice()) {
-        Ok(()) => Ok(()),
-        Err(_) => Err(Failure::NoOutput(options.output)),
-    }
+    put(host, options.output, output.as_slice())
 }
 
 /// What bytes seem to be: a blob where they begin as one.
@@ -239,8 +247,5 @@ fn put_dependencies<'a, H: Host>(
         line.extend_from_slice(file.as_slice())?;
     }
     line.extend_from_slice(b"\n")?;
-    match host.write(path, line.as_slice()) {
-        Ok(()) => Ok(()),
-        Err(_) => Err(Failure::NoOutput(path)),
-    }
+    put(host, path, line.as_slice())
 }
