@@ -102,8 +102,12 @@ abbrev pub plan_of_devices : (ℕ → Option Target) → DriverSetData → List 
 plan_of_devices target set devices =
     option_map_or (λ f. Err (UnknownPath f.line)) (unknown_fail devices set.fails) (planned_from target set 0 devices)
 
+-- that of a tree's devices, by its root
+abbrev pub plan_of_tree : NodeData → DriverSetData → Result (List PlannedDevice) PlanError
+plan_of_tree root set = plan_of_devices (target_of root) set (tree_devices root)
+
 -- the plan of a tree, by its root, or the first refusal: too many devices before all else
 abbrev pub plan_of : NodeData → DriverSetData → Result (List PlannedDevice) PlanError
 plan_of root set =
-    if nat_le (length (device_nodes root)) most_devices then plan_of_devices (target_of root) set (tree_devices root)
+    if nat_le (length (device_nodes root)) most_devices then plan_of_tree root set
     else Err TooManyDevices

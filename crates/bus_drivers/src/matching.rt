@@ -1,9 +1,8 @@
-ghost use Rattle.std.specs.Prelude.{◌≡◌, ◌⊎◌, ◌<◌, ◌∷◌, [], ℕ, List, Some, None, IfOk, IfSome, MatchOption, MatchResult, OnOk, length, position};
+ghost use Rattle.std.specs.Prelude.{◌≡◌, ◌⊎◌, ◌<◌, ◌∷◌, [], Some, None, IfOk, IfSome, MatchOption, MatchResult, OnOk, length, position};
 ghost use Rattle.std.specs.Option.{option_copied, option_map};
-ghost use Rattle.dt_tree.specs.Phandle.{or_else};
 ghost use Rattle.bus_plan.specs.declared.error.PlanError.TheVariants.{NoMemory, UnknownPath};
 ghost use Rattle.bus_drivers.specs.TreePlan.{driver_naming, driver_matching, driver_for, is_zero, strings, verdict_for, planned_device, unknown_fail};
-ghost use Rattle.bus_drivers.specs.Private.Matching.{IsMatcher, driver_found, found_with, unknown_among};
+ghost use Rattle.bus_drivers.specs.Private.Matching.{IsMatcher, AreFoundWith, AreFoundAmong, driver_found, unknown_among};
 
 use crate::driver::Driver;
 use crate::driver_set::DriverSet;
@@ -42,7 +41,7 @@ impl<'d> Model for Matcher<'d> {
 type Found<'d> = IndexMap<&'d [u8], &'d Name, RandomState>;
 
 fn add_string<'d>(found: &mut Found<'d>, string: &'d [u8], name: &'d Name) -> Result<(), AllocError>
-    ensures { OnOk result ((q : List ℕ) → driver_found found.new.entries q ≡ found_with (driver_found found.old.entries q) name.now (string.now ∷ []) q) }
+    ensures { OnOk result (AreFoundWith name.now (string.now ∷ []) found.old.entries found.new.entries) }
 {
     if found.contains_key(string) {
         return Ok(());
@@ -52,7 +51,8 @@ fn add_string<'d>(found: &mut Found<'d>, string: &'d [u8], name: &'d Name) -> Re
 }
 
 fn add_driver<'d>(found: &mut Found<'d>, driver: &'d Driver) -> Result<(), AllocError>
-    ensures { OnOk result ((q : List ℕ) → driver_found found.new.entries q ≡ found_with (driver_found found.old.entries q) driver.now.name driver.now.compatibles q) }
+    ensures { OnOk result
+        (AreFoundWith driver.now.name driver.now.compatibles found.old.entries found.new.entries) }
 {
     for string in driver.compatibles() {
         add_string(found, string.as_slice(), driver.name())?;
@@ -61,7 +61,7 @@ fn add_driver<'d>(found: &mut Found<'d>, driver: &'d Driver) -> Result<(), Alloc
 }
 
 fn add_drivers<'d>(found: &mut Found<'d>, drivers: &'d [Driver]) -> Result<(), AllocError>
-    ensures { OnOk result ((q : List ℕ) → driver_found found.new.entries q ≡ or_else (driver_found found.old.entries q) (driver_naming drivers.now q)) }
+    ensures { OnOk result (AreFoundAmong drivers.now found.old.entries found.new.entries) }
 {
     for driver in drivers {
         add_driver(found, driver)?;
@@ -179,7 +179,8 @@ impl<'d> Matcher<'d> {
         alloc: Global,
         device: &TreeDevice<'_>,
     ) -> Result<(Path, Option<Name>), AllocError>
-        ensures { IfOk result (λ matched. (matched.0 ≡ device.now.path) × (matched.1 ≡ driver_for self.now.drivers device.now)) }
+        ensures { IfOk result (λ matched. (matched.0 ≡ device.now.path)
+            × (matched.1 ≡ driver_for self.now.drivers device.now)) }
     {
         let path = device.path().copy(alloc)?;
         let driver = copy_name(alloc, self.driver_for(device))?;

@@ -2,7 +2,7 @@ ghost use Rattle.std.specs.Prelude.{◌≡◌, ◌⊎◌, Ok, Err, MatchResult};
 ghost use Rattle.bus_plan.specs.declared.error.PlanError.TheVariants.{NoMemory};
 ghost use Rattle.bus_plan.specs.PlanFile.{Answers};
 ghost use Rattle.bus_drivers.specs.Nodes.{target_of, tree_devices};
-ghost use Rattle.bus_drivers.specs.TreePlan.{plan_of, plan_of_devices, planned_from};
+ghost use Rattle.bus_drivers.specs.TreePlan.{plan_of, plan_of_tree, planned_from};
 ghost use Rattle.bus_drivers.specs.Private.Planning.{planned_at};
 
 use crate::driver_set::DriverSet;
@@ -61,7 +61,7 @@ fn matched_devices(
     phandle_index: &PhandleIndex<'_>,
     matcher: &Matcher<'_>,
 ) -> Result<Vec<Planned>, PlanError>
-    ensures { let planned = plan_of_devices (target_of phandle_index.now) matcher.now (tree_devices phandle_index.now) in
+    ensures { let planned = plan_of_tree phandle_index.now matcher.now in
         MatchResult result (λ devices. planned ≡ Ok devices.items) (λ e. (e ≡ NoMemory) ⊎ (planned ≡ Err e)) }
 {
     matcher.check_fails(alloc, hasher, phandle_index.devices())?;
@@ -74,7 +74,7 @@ fn plan_devices(
     phandle_index: &PhandleIndex<'_>,
     drivers: &DriverSet,
 ) -> Result<Vec<Planned>, PlanError>
-    ensures { let planned = plan_of_devices (target_of phandle_index.now) drivers.now (tree_devices phandle_index.now) in
+    ensures { let planned = plan_of_tree phandle_index.now drivers.now in
         MatchResult result (λ devices. planned ≡ Ok devices.items) (λ e. (e ≡ NoMemory) ⊎ (planned ≡ Err e)) }
 {
     let matcher = Matcher::of(alloc, hasher, drivers)?;

@@ -9,7 +9,7 @@ ghost use Rattle.bus_drivers.specs.SupplierForm.{form_data};
 #[derive(Clone, Copy, Debug)]
 pub enum Pattern {
     /// The one of this name.
-    Named(&'static [u8]),
+    Exactly(&'static [u8]),
     /// Each whose name ends so.
     Ending(&'static [u8]),
     /// Each whose name ends in the first, but not in the second.
@@ -21,7 +21,7 @@ impl Pattern {
         ensures { result ≡ is_for name.now (pattern_data self.now) }
     {
         match self {
-            Pattern::Named(word) => name == *word,
+            Pattern::Exactly(word) => name == *word,
             Pattern::Ending(end) => name.ends_with(*end),
             Pattern::EndingBut(end, other) => name.ends_with(*end) && !name.ends_with(*other),
         }
@@ -48,35 +48,35 @@ pub struct Row {
 
 static SUPPLIER_TABLE: [Row; 22] = [
     Row {
-        pattern: Pattern::Named(b"clocks"),
+        pattern: Pattern::Exactly(b"clocks"),
         form: Form::Counted(b"#clock-cells"),
     },
     Row {
-        pattern: Pattern::Named(b"resets"),
+        pattern: Pattern::Exactly(b"resets"),
         form: Form::Counted(b"#reset-cells"),
     },
     Row {
-        pattern: Pattern::Named(b"phys"),
+        pattern: Pattern::Exactly(b"phys"),
         form: Form::Counted(b"#phy-cells"),
     },
     Row {
-        pattern: Pattern::Named(b"dmas"),
+        pattern: Pattern::Exactly(b"dmas"),
         form: Form::Counted(b"#dma-cells"),
     },
     Row {
-        pattern: Pattern::Named(b"pwms"),
+        pattern: Pattern::Exactly(b"pwms"),
         form: Form::Counted(b"#pwm-cells"),
     },
     Row {
-        pattern: Pattern::Named(b"power-domains"),
+        pattern: Pattern::Exactly(b"power-domains"),
         form: Form::Counted(b"#power-domain-cells"),
     },
     Row {
-        pattern: Pattern::Named(b"iommus"),
+        pattern: Pattern::Exactly(b"iommus"),
         form: Form::Counted(b"#iommu-cells"),
     },
     Row {
-        pattern: Pattern::Named(b"interrupts-extended"),
+        pattern: Pattern::Exactly(b"interrupts-extended"),
         form: Form::Counted(b"#interrupt-cells"),
     },
     Row {
@@ -88,7 +88,7 @@ static SUPPLIER_TABLE: [Row; 22] = [
         form: Form::Counted(b"#gpio-cells"),
     },
     Row {
-        pattern: Pattern::Named(b"interrupt-parent"),
+        pattern: Pattern::Exactly(b"interrupt-parent"),
         form: Form::Single,
     },
     Row {
@@ -96,43 +96,43 @@ static SUPPLIER_TABLE: [Row; 22] = [
         form: Form::Single,
     },
     Row {
-        pattern: Pattern::Named(b"pinctrl-0"),
+        pattern: Pattern::Exactly(b"pinctrl-0"),
         form: Form::Bare,
     },
     Row {
-        pattern: Pattern::Named(b"pinctrl-1"),
+        pattern: Pattern::Exactly(b"pinctrl-1"),
         form: Form::Bare,
     },
     Row {
-        pattern: Pattern::Named(b"pinctrl-2"),
+        pattern: Pattern::Exactly(b"pinctrl-2"),
         form: Form::Bare,
     },
     Row {
-        pattern: Pattern::Named(b"pinctrl-3"),
+        pattern: Pattern::Exactly(b"pinctrl-3"),
         form: Form::Bare,
     },
     Row {
-        pattern: Pattern::Named(b"pinctrl-4"),
+        pattern: Pattern::Exactly(b"pinctrl-4"),
         form: Form::Bare,
     },
     Row {
-        pattern: Pattern::Named(b"pinctrl-5"),
+        pattern: Pattern::Exactly(b"pinctrl-5"),
         form: Form::Bare,
     },
     Row {
-        pattern: Pattern::Named(b"pinctrl-6"),
+        pattern: Pattern::Exactly(b"pinctrl-6"),
         form: Form::Bare,
     },
     Row {
-        pattern: Pattern::Named(b"pinctrl-7"),
+        pattern: Pattern::Exactly(b"pinctrl-7"),
         form: Form::Bare,
     },
     Row {
-        pattern: Pattern::Named(b"pinctrl-8"),
+        pattern: Pattern::Exactly(b"pinctrl-8"),
         form: Form::Bare,
     },
     Row {
-        pattern: Pattern::Named(b"pinctrl-9"),
+        pattern: Pattern::Exactly(b"pinctrl-9"),
         form: Form::Bare,
     },
 ];

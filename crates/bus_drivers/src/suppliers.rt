@@ -33,7 +33,8 @@ impl Model for Suppliers {
 
 // The first cell and the bytes behind it.
 fn next_cell(bytes: &[u8]) -> Option<(u32, &[u8])>
-    ensures cell { MatchOption result (cells_of bytes.now ≡ []) (λ next. cells_of bytes.now ≡ next.0 ∷ cells_of next.1.now) }
+    ensures cell { MatchOption result (cells_of bytes.now ≡ [])
+        (λ next. cells_of bytes.now ≡ next.0 ∷ cells_of next.1.now) }
     ensures fewer { IfSome result (λ next. length next.1.now < length bytes.now) }
 {
     let [a, b, c, d, rest @ ..] = bytes else {
@@ -69,7 +70,8 @@ impl Suppliers {
         form: Form,
         value: &[u8],
     ) -> Result<(), PlanError>
-        ensures { IsAdded (references (target_of phandle_index.now) (form_data form) value.now) self.old result self.new }
+        ensures { IsAdded (references (target_of phandle_index.now) (form_data form) value.now)
+            self.old result self.new }
     {
         if !form.is_length(value.len()) {
             return Err(PlanError::BadSpecifier);

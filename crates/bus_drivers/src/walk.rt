@@ -1,12 +1,11 @@
 //! One walk over a tree, from the root down.
-ghost use Rattle.std.specs.Prelude.{◌≡◌, ◌≤◌, ◌⊎◌, ◌&&◌, ◌∷◌, ◌++◌, [], ℕ, nat_eq, nat_lt, length, IfOk, IfErr, OnOk, MatchResult};
+ghost use Rattle.std.specs.Prelude.{◌≡◌, ◌≤◌, ◌⊎◌, ◌∷◌, ◌++◌, [], ℕ, nat_eq, nat_lt, length, IfOk, IfErr, OnOk, MatchResult};
 ghost use Rattle.bus_plan.specs.declared.error.PlanError.TheVariants.{NoMemory};
 ghost use Rattle.bus_plan.specs.Limits.{most_devices};
-ghost use Rattle.dt_tree.specs.Phandle.{or_else};
 ghost use Rattle.indexmap.specs.IndexMap.{get};
-ghost use Rattle.bus_drivers.specs.Nodes.{is_compatible, is_okay};
+ghost use Rattle.bus_drivers.specs.Nodes.{is_okay};
 ghost use Rattle.bus_drivers.specs.Private.Entries.{device_here};
-ghost use Rattle.bus_drivers.specs.Private.Walk.{own_device, devices_at, devices_in_tree, own_target, target_at, target_in_tree, Refuses};
+ghost use Rattle.bus_drivers.specs.Private.Walk.{with_device, own_device, available_here, device_below, devices_at, devices_in_tree, own_target, target_here, target_at, AreTargetsWith, AreTargetsIn, Refuses};
 
 use crate::status::{is_compatible, is_okay};
 use crate::target::Target;
@@ -76,9 +75,10 @@ fn keep_device<'t>(
 ) -> Result<usize, PlanError>
     requires { length devices.old.items ≤ most_devices }
     ensures place { IfOk result (λ place. place ≡ length devices.old.items) }
-    ensures devices { OnOk result (devices.new.items ≡ devices.old.items ++ record { path = node_path.now; available = available; properties = node.now.properties } ∷ []) }
+    ensures devices { OnOk result
+        (devices.new.items ≡ with_device devices.old.items node_path.now available node.now.properties) }
     ensures few { OnOk result (length devices.new.items ≤ most_devices) }
-    ensures err { IfErr result (Refuses (devices.old.items ++ record { path = node_path.now; available = available; properties = node.now.properties } ∷ [])) }
+    ensures err { IfErr result (Refuses (with_device devices.old.items node_path.now available node.now.properties)) }
 {
     if !has_room(devices.len()) {
         return Err(PlanError::TooManyDevices);
@@ -94,7 +94,8 @@ fn keep_target<'t>(
     node: &'t Node,
     here: &Above,
 ) -> Result<(), PlanError>
-    ensures targets { OnOk result ((phandle : ℕ) → get nat_eq targets.new phandle ≡ or_else (get nat_eq targets.old phandle) (own_target node.now.properties here.now.device phandle)) }
+    ensures targets { OnOk result (AreTargetsWith (own_target node.now.properties here.now.device)
+        (get nat_eq targets.old) (get nat_eq targets.new)) }
     ensures err { IfErr result (λ e. e ≡ NoMemory) }
 {
     let Some(phandle) = node.phandle() else {
@@ -128,12 +129,15 @@ impl<'t> Walk<'t> {
         above: &Above,
     ) -> Result<Option<usize>, PlanError>
         requires { length self.old.devices.items ≤ most_devices }
-        ensures device { IfOk result (λ device. device ≡ device_here node.now.properties (length self.old.devices.items) above.now.device) }
-        ensures devices { OnOk result (self.new.devices.items ≡ self.old.devices.items ++ own_device self.old.node_path.items available node.now.properties) }
+        ensures device { IfOk result
+            (λ device. device ≡ device_here node.now.properties (length self.old.devices.items) above.now.device) }
+        ensures devices { OnOk result (self.new.devices.items
+            ≡ self.old.devices.items ++ own_device self.old.node_path.items available node.now.properties) }
         ensures few { OnOk result (length self.new.devices.items ≤ most_devices) }
         ensures node_path { OnOk result (self.new.node_path ≡ self.old.node_path) }
         ensures targets { OnOk result (self.new.targets ≡ self.old.targets) }
-        ensures err { IfErr result (Refuses (self.old.devices.items ++ own_device self.old.node_path.items available node.now.properties)) }
+        ensures err { IfErr result (Refuses
+            (self.old.devices.items ++ own_device self.old.node_path.items available node.now.properties)) }
     {
         if !is_compatible(node) {
             return Ok(above.device);
@@ -151,13 +155,18 @@ impl<'t> Walk<'t> {
     // Keeps the node at the path, and tells what is above the nodes below it.
     fn meet(&mut self, alloc: Global, node: &'t Node, above: &Above) -> Result<Above, PlanError>
         requires { length self.old.devices.items ≤ most_devices }
-        ensures available { IfOk result (λ here. here.available ≡ (above.now.available && is_okay node.now.properties)) }
-        ensures device { IfOk result (λ here. here.device ≡ device_here node.now.properties (length self.old.devices.items) above.now.device) }
-        ensures devices { OnOk result (self.new.devices.items ≡ self.old.devices.items ++ own_device self.old.node_path.items (above.now.available && is_okay node.now.properties) node.now.properties) }
+        ensures available { IfOk result (λ here. here.available ≡ available_here above.now.available node.now.properties) }
+        ensures device { IfOk result
+            (λ here. here.device ≡ device_here node.now.properties (length self.old.devices.items) above.now.device) }
+        ensures devices { OnOk result (self.new.devices.items
+            ≡ self.old.devices.items ++ device_below self.old.node_path.items above.now.available node.now.properties) }
         ensures few { OnOk result (length self.new.devices.items ≤ most_devices) }
         ensures node_path { OnOk result (self.new.node_path ≡ self.old.node_path) }
-        ensures targets { OnOk result ((phandle : ℕ) → get nat_eq self.new.targets phandle ≡ or_else (get nat_eq self.old.targets phandle) (own_target node.now.properties (device_here node.now.properties (length self.old.devices.items) above.now.device) phandle)) }
-        ensures err { IfErr result (Refuses (self.old.devices.items ++ own_device self.old.node_path.items (above.now.available && is_okay node.now.properties) node.now.properties)) }
+        ensures targets { OnOk result (AreTargetsWith
+            (target_here node.now.properties (length self.old.devices.items) above.now.device)
+            (get nat_eq self.old.targets) (get nat_eq self.new.targets)) }
+        ensures err { IfErr result (Refuses
+            (self.old.devices.items ++ device_below self.old.node_path.items above.now.available node.now.properties)) }
     {
         let available = above.available && is_okay(node);
         let device = self.device_of(alloc, node, available, above)?;
@@ -169,11 +178,15 @@ impl<'t> Walk<'t> {
     // Keeps a node and all below it. The path is longer meanwhile.
     fn visit(&mut self, alloc: Global, node: &'t Node, above: &Above) -> Result<(), PlanError>
         requires { length self.old.devices.items ≤ most_devices }
-        ensures devices { OnOk result (self.new.devices.items ≡ self.old.devices.items ++ devices_at self.old.node_path.items above.now.available node.now) }
+        ensures devices { OnOk result (self.new.devices.items
+            ≡ self.old.devices.items ++ devices_at self.old.node_path.items above.now.available node.now) }
         ensures few { OnOk result (length self.new.devices.items ≤ most_devices) }
         ensures node_path { OnOk result (self.new.node_path.items ≡ self.old.node_path.items) }
-        ensures targets { OnOk result ((phandle : ℕ) → get nat_eq self.new.targets phandle ≡ or_else (get nat_eq self.old.targets phandle) (target_at above.now.device (length self.old.devices.items) node.now phandle)) }
-        ensures err { IfErr result (Refuses (self.old.devices.items ++ devices_at self.old.node_path.items above.now.available node.now)) }
+        ensures targets { OnOk result (AreTargetsWith
+            (target_at above.now.device (length self.old.devices.items) node.now)
+            (get nat_eq self.old.targets) (get nat_eq self.new.targets)) }
+        ensures err { IfErr result (Refuses
+            (self.old.devices.items ++ devices_at self.old.node_path.items above.now.available node.now)) }
     {
         let len = self.node_path.len();
         lengthen(&mut self.node_path, node.name_bytes())?;
@@ -192,7 +205,7 @@ impl<'t> Walk<'t> {
         requires targets { (phandle : ℕ) → get nat_eq self.old.targets phandle ≡ None }
         ensures devices { OnOk result (self.new.devices.items ≡ devices_in_tree root.now) }
         ensures few { OnOk result (length self.new.devices.items ≤ most_devices) }
-        ensures targets { OnOk result ((phandle : ℕ) → get nat_eq self.new.targets phandle ≡ target_in_tree root.now phandle) }
+        ensures targets { OnOk result (AreTargetsIn root.now (get nat_eq self.new.targets)) }
         ensures err { IfErr result (Refuses (devices_in_tree root.now)) }
     {
         let here = Above {
@@ -213,7 +226,7 @@ impl<'t> Walk<'t> {
     pub fn over(alloc: Global, hasher: RandomState, root: &'t Node) -> Result<Self, PlanError>
         ensures devices { IfOk result (λ walk. walk.devices.items ≡ devices_in_tree root.now) }
         ensures few { IfOk result (λ walk. length walk.devices.items ≤ most_devices) }
-        ensures targets { IfOk result (λ walk. (phandle : ℕ) → get nat_eq walk.targets phandle ≡ target_in_tree root.now phandle) }
+        ensures targets { IfOk result (λ walk. AreTargetsIn root.now (get nat_eq walk.targets)) }
         ensures err { IfErr result (Refuses (devices_in_tree root.now)) }
     {
         let mut walk = Self::new(alloc, hasher);

@@ -11,15 +11,15 @@ use Rattle.dt_source.proofs.OneValue.{Ended, no_brace, one_value}
 -- ---- labels and a name
 
 -- Labels and a name stand first.
-abbrev Named : List Lexeme → Lexeme → List Lexeme → List Lexeme → List Lexeme → Type 0
-Named ls n ts at rest = SpellsLabels ls ts at × One Name n at rest
+abbrev HasName : List Lexeme → Lexeme → List Lexeme → List Lexeme → List Lexeme → Type 0
+HasName ls n ts at rest = SpellsLabels ls ts at × One Name n at rest
 
 record SameNamed (ls ms : List Lexeme) (n m : Lexeme) (r q : List Lexeme) : Type 0 where
   labels : ls ≡ ms
   name : n ≡ m
   rest : r ≡ q
 
-one_named : (ls ms : List Lexeme) (n m : Lexeme) (ts a r b q : List Lexeme) → Named ls n ts a r → Named ms m ts b q → SameNamed ls ms n m r q
+one_named : (ls ms : List Lexeme) (n m : Lexeme) (ts a r b q : List Lexeme) → HasName ls n ts a r → HasName ms m ts b q → SameNamed ls ms n m r q
 one_named ls ms n m ts a r b q h k =
     let labels = one_labels ls ms ts a b h.0 k.0 (no_label Name a (takes_sort Name n a r h.1.0 h.1.1) refl) (no_label Name b (takes_sort Name m b q k.1.0 k.1.1) refl) in
     let name = one_takes n m a r q h.1.1 (labels.1 ∙ k.1.1) in
@@ -53,7 +53,7 @@ statement_sort (Holds ls n body more) depth nodes ts rest h = behind_labels Name
 statement_sort (Drops n more) depth nodes ts rest h = behind_none DeleteNode ts (begins_sort DeleteNode ts h.0 h.3) refl
 
 -- A property is no node.
-sets_holds : (ls ms : List Lexeme) (n m : Lexeme) (v : List PieceTree) (ts a r b q at rest end : List Lexeme) → Named ls n ts a r → Ended v r at rest → Named ms m ts b q → Begins q Brace end → ⊥
+sets_holds : (ls ms : List Lexeme) (n m : Lexeme) (v : List PieceTree) (ts a r b q at rest end : List Lexeme) → HasName ls n ts a r → Ended v r at rest → HasName ms m ts b q → Begins q Brace end → ⊥
 sets_holds ls ms n m v ts a r b q at rest end h e k f =
     let same = one_named ls ms n m ts a r b q h k in
     no_brace v r at rest e end (subst (λ (x : List Lexeme). Begins x Brace end) (sym same.rest) f)

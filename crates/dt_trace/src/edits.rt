@@ -21,7 +21,7 @@ pub(crate) enum Statement {
     DeletesNode,
     DeletesProperty,
     /// its name is this lexeme
-    Named(usize),
+    AfterName(usize),
     /// it is a property of this name, whose value goes on
     Valued(usize),
 }
@@ -148,7 +148,7 @@ impl<'t> Walk<'t> {
                 let node = self.node();
                 self.table.remove_property(node, name);
             }
-            _ => self.statement = Statement::Named(index),
+            _ => self.statement = Statement::AfterName(index),
         }
     }
 
@@ -157,7 +157,7 @@ impl<'t> Walk<'t> {
         _index: usize,
         lexemes: &[Lexeme],
     ) -> Result<Option<Culprit>, AllocError> {
-        let Statement::Named(name) = self.statement else {
+        let Statement::AfterName(name) = self.statement else {
             return Ok(None);
         };
         let found = self.define(name, lexemes)?;
@@ -167,7 +167,7 @@ impl<'t> Walk<'t> {
 
     fn ends(&mut self, lexemes: &[Lexeme]) -> Result<Option<Culprit>, AllocError> {
         let found = match self.statement {
-            Statement::Named(name) => self.define(name, lexemes)?,
+            Statement::AfterName(name) => self.define(name, lexemes)?,
             _ => None,
         };
         self.clear();
@@ -204,7 +204,7 @@ impl<'t> Walk<'t> {
             self.open_body(node)?;
             return Ok(None);
         }
-        let Statement::Named(name) = self.statement else {
+        let Statement::AfterName(name) = self.statement else {
             return Ok(None);
         };
         let Some(lexeme) = lexemes.get(name).copied() else {

@@ -19,7 +19,7 @@ pub struct Beside<F> {
 
 /// What a path names, as far as a new file may take its place.
 #[derive(Drop)]
-enum Named {
+enum Found {
     Nothing,
     /// A regular file that may be written and has no other name.
     File(Metadata),
@@ -27,18 +27,18 @@ enum Named {
     Other,
 }
 
-fn named_by<R: Files>(files: &R, path: &str) -> Named {
+fn named_by<R: Files>(files: &R, path: &str) -> Found {
     match fs::symlink_metadata(files, path) {
         Ok(found) => {
             if found.is_file() && found.nlink() == 1 && may_write(files, path) {
-                Named::File(found)
+                Found::File(found)
             } else {
-                Named::Other
+                Found::Other
             }
         }
         Err(error) => match error.kind() {
-            ErrorKind::NotFound => Named::Nothing,
-            _ => Named::Other,
+            ErrorKind::NotFound => Found::Nothing,
+            _ => Found::Other,
         },
     }
 }
@@ -50,9 +50,9 @@ fn may_write<R: Files>(files: &R, path: &str) -> bool {
 /// A new file beside a path, or None where the path has to be written itself.
 pub fn create_beside<R: Files>(files: &R, alloc: Global, path: &str) -> Option<Beside<R::File>> {
     match named_by(files, path) {
-        Named::Nothing => create_new(files, alloc, path),
-        Named::File(old) => like(files, create_new(files, alloc, path)?, &old),
-        Named::Other => None,
+        Found::Nothing => create_new(files, alloc, path),
+        Found::File(old) => like(files, create_new(files, alloc, path)?, &old),
+        Found::Other => None,
     }
 }
 
