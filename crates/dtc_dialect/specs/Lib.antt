@@ -1,6 +1,7 @@
 pub mod Bytes
 pub mod Character
 pub mod Cuts
+pub mod Found
 pub mod Fronts
 pub mod GapAt
 pub mod Gaps
@@ -8,4 +9,5 @@ pub mod Inclusion
 pub mod Integer
 pub mod Omission
 pub mod Statements
+pub mod Table
 pub mod Tokens
