@@ -13,3 +13,4 @@ mod TableSteps
 mod TokenFirsts
 mod TokenKinds
 mod TwinRows
+mod Ways

@@ -8,6 +8,7 @@ pub mod Gaps
 pub mod Inclusion
 pub mod Integer
 pub mod Omission
+pub mod References
 pub mod Statements
 pub mod Table
 pub mod Tokens
