@@ -1,8 +1,9 @@
 -- Which node a reference names in the tree so far (dtc 1.6: Documentation/dts-format.txt, "Node and property definitions" and
 -- "File layout"; manual.txt, section 4.1. What is there of what was deleted was tried with dtc 1.6.1).
-use Rattle.std.specs.Prelude.{ℕ, zero, suc, max, nat_lt, Bool, true, ◌&&◌, List, [], ◌∷◌, length, Option, Some, None, if◌then◌else◌}
+use Rattle.std.specs.Prelude.{ℕ, zero, suc, max, nat_lt, Bool, true, ◌&&◌, List, [], ◌∷◌, length, take, Option, Some, None, if◌then◌else◌}
+use Rattle.std.specs.List.{find}
 use Rattle.dtc_dialect.specs.declared.table.NodeRow.{NodeRow}
-use Rattle.dtc_dialect.specs.Table.{node_at}
+use Rattle.dtc_dialect.specs.Table.{children_of, node_at}
 
 -- so many nodes above a node, behind it
 abbrev pub way_up : ℕ → List NodeRow → ℕ → List ℕ
@@ -30,3 +31,8 @@ is_there rows n = nat_lt n (length rows) && are_made rows (way_of rows n)
 -- when a node that is there, or one above it, was last deleted
 abbrev pub last_deletion : List NodeRow → ℕ → Option ℕ
 last_deletion rows n = if is_there rows n then Some (deletion_of rows (way_of rows n)) else None
+
+-- The child of a name that a path means: the first that is there, of the first two. (Three of a name stand below a node only
+-- where the body that it begins with has one twice, which the compiler refuses.)
+abbrev pub child_there : List NodeRow → ℕ → List ℕ → Option ℕ
+child_there rows n k = find (is_there rows) (take 2 (children_of rows n k))

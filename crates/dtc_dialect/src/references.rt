@@ -1,7 +1,7 @@
 //! The nodes that references name in the tree so far.
 
 ghost use Rattle.std.specs.Prelude.{◌≡◌};
-ghost use Rattle.dtc_dialect.specs.References.{last_deletion};
+ghost use Rattle.dtc_dialect.specs.References.{child_there, last_deletion};
 
 use crate::bytes::{behind, front};
 use crate::table::{MAX_DEPTH, MAX_SAME_LABEL, ROOT, Table};
@@ -60,7 +60,9 @@ impl<'t> Table<'t> {
     }
 
     /// The first child of a name that is there.
-    fn child_there(&self, parent: usize, name: &'t [u8]) -> Option<usize> {
+    fn child_there(&self, parent: usize, name: &'t [u8]) -> Option<usize>
+        ensures { result ≡ child_there self.now.nodes.items parent name.now }
+    {
         let first = self.child(parent, name)?;
         if self.last_deletion(first).is_some() {
             return Some(first);
