@@ -6,7 +6,12 @@ mod GapEnds
 mod GapHere
 mod GapOnce
 mod Integers
+mod LabelChains
 mod Lines
 mod Markers
+mod RowLists
+mod TableSteps
 mod TokenFirsts
 mod TokenKinds
+mod TwinRows
+mod Ways

@@ -2,6 +2,7 @@ pub mod Bytes
 pub mod Character
 pub mod Copied
 pub mod Cuts
+pub mod Found
 pub mod GapAt
 pub mod Gaps
 pub mod Inclusion
@@ -9,6 +10,8 @@ pub mod Integer
 pub mod Omission
 pub mod Phandles
 pub mod Private
+pub mod References
 pub mod Statements
+pub mod Table
 pub mod Tokens
 pub mod Words

@@ -114,9 +114,7 @@ fn end_statement<'t>(
 /// `/omit-if-no-ref/ &node;`
 fn mark_omitted<'t>(edited: &mut Edited<'t>, key: &Token<'t>) -> Result<(), DialectError<'t>> {
     let node = referred(edited, key)?;
-    if let Some(row) = edited.table.nodes.get_mut(node) {
-        row.omit = true;
-    }
+    edited.table.mark_node(node);
     Ok(())
 }
 
@@ -137,11 +135,7 @@ fn set_property<'t>(
     let body = property_body(edited, key)?;
     if !body.is_new {
         if let Some(property) = edited.table.property(body.node, key.text) {
-            if let Some(row) = edited.table.properties.get_mut(property) {
-                row.value = value;
-                row.place = key.place;
-                row.made = time;
-            }
+            edited.table.set_property(property, key.place, value, time);
             return Ok(());
         }
     }
@@ -164,11 +158,7 @@ fn delete_property<'t>(
     let body = property_body(edited, key)?;
     match edited.table.property(body.node, key.text) {
         Some(_) if body.is_new => {}
-        Some(property) => {
-            if let Some(row) = edited.table.properties.get_mut(property) {
-                row.deleted = time;
-            }
-        }
+        Some(property) => edited.table.delete_property(property, time),
         // dtc keeps its place for one that comes later.
         None if body.is_new => edited.table.add_property(PropertyRow {
             node: body.node,
@@ -225,9 +215,7 @@ fn delete_node<'t>(
     if node == ROOT {
         return Err(refused(Mistake::Reserved, key.place));
     }
-    if let Some(row) = edited.table.nodes.get_mut(node) {
-        row.deleted = time;
-    }
+    edited.table.delete_node(node, time);
     Ok(())
 }
 
@@ -238,25 +226,27 @@ fn add_child<'t>(
     made: usize,
     key: &Token<'t>,
 ) -> Result<usize, DialectError<'t>> {
-    let depth = match edited.table.nodes.get(parent) {
-        Some(row) => row.depth.saturating_add(1),
-        None => 1,
-    };
-    if depth > MAX_DEPTH {
-        return Err(refused(Mistake::DeepNode, key.place));
-    }
-    Ok(
-        edited.table.add_node(NodeRow {
+    add_row(
+        edited,
+        NodeRow {
             name: key.text,
             parent,
-            depth,
+            depth: 0,
             place: key.place,
             made,
             deleted: 0,
             omit: false,
             fragment: None,
-        })?,
+        },
     )
+}
+
+/// A new node, where it isn't too deep.
+fn add_row<'t>(edited: &mut Edited<'t>, row: NodeRow<'t>) -> Result<usize, DialectError<'t>> {
+    match edited.table.add_node(row)? {
+        Some(node) => Ok(node),
+        None => Err(refused(Mistake::DeepNode, row.place)),
+    }
 }
 
 fn open_body<'t>(
@@ -296,8 +286,8 @@ fn close_body<'t>(edited: &mut Edited<'t>, token: &Token<'t>) -> Result<(), Dial
 
 fn root_body<'t>(edited: &mut Edited<'t>, key: &Token<'t>) -> Body {
     let is_new = !edited.has_root;
-    if let Some(row) = edited.table.nodes.get_mut(ROOT) {
-        row.place = if is_new { key.place } else { row.place };
+    if is_new {
+        edited.table.place_node(ROOT, key.place);
     }
     edited.has_root = true;
     Body {
@@ -320,15 +310,13 @@ fn child_body<'t>(
     };
     let (node, is_new) = match found {
         Some(node) => {
-            if let Some(row) = edited.table.nodes.get_mut(node) {
-                row.made = time;
-            }
+            edited.table.make_node(node, time);
             (node, false)
         }
         None => {
             let node = add_child(edited, outer.node, time, key)?;
-            if let Some(row) = edited.table.nodes.get_mut(node) {
-                row.omit = edited.head.omits;
+            if edited.head.omits {
+                edited.table.mark_node(node);
             }
             (node, true)
         }
@@ -385,9 +373,7 @@ fn extension_body<'t>(
         edited.has_root = true;
         return fragment_body(edited, time, key);
     };
-    if let Some(row) = edited.table.nodes.get_mut(node) {
-        row.made = time;
-    }
+    edited.table.make_node(node, time);
     give_labels(edited, time, node, false)?;
     Ok(Body {
         node,
@@ -416,14 +402,17 @@ fn fragment_body<'t>(
             target: *key,
         }),
     };
-    let fragment = edited.table.add_node(row)?;
-    let overlay = edited.table.add_node(NodeRow {
-        name: b"__overlay__",
-        parent: fragment,
-        depth: 2,
-        fragment: None,
-        ..row
-    })?;
+    let fragment = add_row(edited, row)?;
+    let overlay = add_row(
+        edited,
+        NodeRow {
+            name: b"__overlay__",
+            parent: fragment,
+            depth: 2,
+            fragment: None,
+            ..row
+        },
+    )?;
     Ok(Body {
         node: overlay,
         is_new: true,

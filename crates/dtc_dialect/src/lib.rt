@@ -25,6 +25,7 @@ mod site;
 mod statements;
 mod table;
 mod token;
+mod twins;
 mod watch;
 mod words;
 

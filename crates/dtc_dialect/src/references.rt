@@ -1,16 +1,21 @@
 //! The nodes that references name in the tree so far.
 
+ghost use Rattle.std.specs.Prelude.{◌≡◌};
+ghost use Rattle.dtc_dialect.specs.References.{child_there, last_deletion};
+
 use crate::bytes::{behind, front};
 use crate::table::{MAX_DEPTH, MAX_SAME_LABEL, ROOT, Table};
 
 impl<'t> Table<'t> {
     /// When the node or one above it was last deleted, where the node is there.
-    pub fn last_deletion(&self, node: usize) -> Option<usize> {
+    pub fn last_deletion(&self, node: usize) -> Option<usize>
+        ensures { result ≡ last_deletion self.now.nodes.items node }
+    {
         let mut at = node;
-        let mut first_made = usize::MAX;
+        let mut first_made = self.nodes.get(node)?.made;
         let mut deletion = 0;
-        for _ in 0..=MAX_DEPTH {
-            let row = self.nodes.get(at)?;
+        loop {
+            let row = &self.nodes[at];
             first_made = first_made.min(row.made);
             deletion = deletion.max(row.deleted);
             if first_made <= row.deleted {
@@ -21,7 +26,6 @@ impl<'t> Table<'t> {
             }
             at = row.parent;
         }
-        None
     }
 
     /// The node that `&label`, `&{/path}` or `&{label/path}` names.
@@ -56,7 +60,9 @@ impl<'t> Table<'t> {
     }
 
     /// The first child of a name that is there.
-    fn child_there(&self, parent: usize, name: &'t [u8]) -> Option<usize> {
+    fn child_there(&self, parent: usize, name: &'t [u8]) -> Option<usize>
+        ensures { result ≡ child_there self.now.nodes.items parent name.now }
+    {
         let first = self.child(parent, name)?;
         if self.last_deletion(first).is_some() {
             return Some(first);

@@ -106,11 +106,12 @@ fn omit(table: &mut Table<'_>, preorder: &Preorder, numbers: &Numbers, symbols: 
             continue;
         };
         let has_symbol = symbols && preorder.was_labelled(stop.node);
-        if let Some(row) = table.nodes.get_mut(stop.node) {
-            if is_omitted(row, known, has_symbol) {
-                row.deleted = usize::MAX;
-                omits = true;
-            }
+        let Some(row) = table.nodes.get(stop.node) else {
+            continue;
+        };
+        if is_omitted(row, known, has_symbol) {
+            table.delete_node(stop.node, usize::MAX);
+            omits = true;
         }
     }
     omits

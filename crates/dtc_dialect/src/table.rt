@@ -1,6 +1,12 @@
 //! The tree as dtc keeps it while it reads: nothing that was made is forgotten, so that what is made again is at its old place.
 
+ghost use Rattle.std.specs.Prelude.{◌≡◌, ◌<◌, ◌++◌, ◌∷◌, [], ℕ, List, true, OnOk, OnErr, IfOk, is_some, nat_lt, if◌then◌else◌, length, slice_get, slice_set};
+ghost use Rattle.std.proofs.Props.{props};
+ghost use Rattle.dtc_dialect.specs.Found.{AreTwins, found_name};
+ghost use Rattle.dtc_dialect.specs.Table.{IsChained, IsGrown, IsSameNode, IsSameProperty, children_of, gifts_of, grown, labelled, labels_of, labels_with, last_of, may_give, may_grow, node_at, properties_of, property_at, renewed};
+
 use crate::token::{Place, Token};
+use crate::twins::Twins;
 use std::alloc::{AllocError, Global};
 use std::collections::HashMap;
 use std::hash::RandomState;
@@ -70,28 +76,24 @@ pub(crate) struct Table<'t> {
     pub nodes: Vec<NodeRow<'t>>,
     pub properties: Vec<PropertyRow<'t>>,
     pub labels: Vec<LabelRow<'t>>,
-    children: HashMap<(usize, &'t [u8]), usize, RandomState>,
-    /// The second child of a name: the first was deleted before it was made.
-    seconds: HashMap<(usize, &'t [u8]), usize, RandomState>,
-    names: HashMap<(usize, &'t [u8]), usize, RandomState>,
-    given: HashMap<(usize, &'t [u8]), usize, RandomState>,
+    /// Where there is a second child of a name, the first was deleted before it was made.
+    children: Twins<'t>,
+    names: Twins<'t>,
+    given: Twins<'t>,
     last: HashMap<&'t [u8], usize, RandomState>,
+    ghost is_grown: { IsGrown nodes.items } by { Prim.hlevel props },
+    ghost children_found: { (n : ℕ) (k : List ℕ) → AreTwins children.first children.second n k (children_of nodes.items n k) } by { Prim.hlevel props },
+    ghost properties_found: { (n : ℕ) (k : List ℕ) → AreTwins names.first names.second n k (properties_of properties.items n k) } by { Prim.hlevel props },
+    ghost gifts_found: { (n : ℕ) (k : List ℕ) → AreTwins given.first given.second n k (gifts_of labels.items n k) } by { Prim.hlevel props },
+    ghost labels_found: { (k : List ℕ) → found_name last k ≡ last_of (labels_of labels.items k) } by { Prim.hlevel props },
+    ghost is_chained: { IsChained labels.items } by { Prim.hlevel props },
 }
 
 impl<'t> Table<'t> {
     /// A root, which isn't made yet.
     pub fn new(alloc: Global, hasher: RandomState) -> Result<Table<'t>, AllocError> {
-        let mut table = Table {
-            nodes: Vec::new(alloc),
-            properties: Vec::new(alloc),
-            labels: Vec::new(alloc),
-            children: HashMap::with_hasher(alloc, hasher),
-            seconds: HashMap::with_hasher(alloc, hasher),
-            names: HashMap::with_hasher(alloc, hasher),
-            given: HashMap::with_hasher(alloc, hasher),
-            last: HashMap::with_hasher(alloc, hasher),
-        };
-        table.nodes.push(NodeRow {
+        let mut nodes = Vec::new(alloc);
+        nodes.push(NodeRow {
             name: b"",
             parent: ROOT,
             depth: 0,
@@ -101,44 +103,173 @@ impl<'t> Table<'t> {
             omit: false,
             fragment: None,
         })?;
-        Ok(table)
+        Ok(Table {
+            nodes,
+            properties: Vec::new(alloc),
+            labels: Vec::new(alloc),
+            children: Twins::new(alloc, hasher),
+            names: Twins::new(alloc, hasher),
+            given: Twins::new(alloc, hasher),
+            last: HashMap::with_hasher(alloc, hasher),
+        })
     }
 
     /// The first child of a name, also one that was deleted.
-    pub fn child(&self, parent: usize, name: &'t [u8]) -> Option<usize> {
-        self.children.get(&(parent, name)).copied()
+    pub fn child(&self, parent: usize, name: &'t [u8]) -> Option<usize>
+        ensures { result ≡ slice_get (children_of self.now.nodes.items parent name.now) 0 }
+    {
+        self.children.first(parent, name)
     }
 
     /// The second child of a name.
-    pub fn second_child(&self, parent: usize, name: &'t [u8]) -> Option<usize> {
-        self.seconds.get(&(parent, name)).copied()
+    pub fn second_child(&self, parent: usize, name: &'t [u8]) -> Option<usize>
+        ensures { result ≡ slice_get (children_of self.now.nodes.items parent name.now) 1 }
+    {
+        self.children.second(parent, name)
     }
 
-    /// A new child, behind the others.
-    pub fn add_node(&mut self, row: NodeRow<'t>) -> Result<usize, AllocError> {
+    /// A new child, behind the others and one deeper than its parent. None where that isn't there, or too deep.
+    pub fn add_node(&mut self, row: NodeRow<'t>) -> Result<Option<usize>, AllocError>
+        ensures node { IfOk result (λ node. node ≡ (if may_grow self.old.nodes.items row.entry.parent then Some (length self.old.nodes.items) else None)) }
+        ensures nodes { IfOk result (λ node. self.new.nodes.items ≡ (if is_some node then grown self.old.nodes.items row.entry else self.old.nodes.items)) }
+        ensures rest { (self.new.properties.items ≡ self.old.properties.items) × (self.new.labels.items ≡ self.old.labels.items) }
+        ensures err { OnErr result (self.new.nodes.items ≡ self.old.nodes.items) }
+    {
+        let depth = match self.nodes.get(row.parent) {
+            Some(parent) if parent.depth < MAX_DEPTH => parent.depth + 1,
+            _ => return Ok(None),
+        };
+        self.nodes.reserve(1)?;
         let node = self.nodes.len();
-        if self.child(row.parent, row.name).is_none() {
-            self.children.insert((row.parent, row.name), node)?;
-        } else if self.second_child(row.parent, row.name).is_none() {
-            self.seconds.insert((row.parent, row.name), node)?;
+        self.children.add(row.parent, row.name, node)?;
+        self.nodes.push(NodeRow { depth, ..row })?;
+        Ok(Some(node))
+    }
+
+    /// Changes what of a node may change.
+    fn change_node(&mut self, node: usize, row: NodeRow<'t>)
+        requires within { node < length self.old.nodes.items }
+        requires same { IsSameNode (node_at self.old.nodes.items node) row }
+        ensures nodes { self.new.nodes.items ≡ slice_set self.old.nodes.items node row.entry }
+        ensures rest { (self.new.properties.items ≡ self.old.properties.items) × (self.new.labels.items ≡ self.old.labels.items) }
+    {
+        self.nodes[node] = row;
+    }
+
+    /// A node is made, perhaps once more.
+    pub fn make_node(&mut self, node: usize, time: usize)
+        ensures nodes { self.new.nodes.items ≡ slice_set self.old.nodes.items node (record (node_at self.old.nodes.items node) { made = time }) }
+        ensures rest { (self.new.properties.items ≡ self.old.properties.items) × (self.new.labels.items ≡ self.old.labels.items) }
+    {
+        if let Some(row) = self.nodes.get(node).copied() {
+            self.change_node(node, NodeRow { made: time, ..row });
         }
-        self.nodes.push(row)?;
-        Ok(node)
+    }
+
+    /// A node is deleted.
+    pub fn delete_node(&mut self, node: usize, time: usize)
+        ensures nodes { self.new.nodes.items ≡ slice_set self.old.nodes.items node (record (node_at self.old.nodes.items node) { deleted = time }) }
+        ensures rest { (self.new.properties.items ≡ self.old.properties.items) × (self.new.labels.items ≡ self.old.labels.items) }
+    {
+        if let Some(row) = self.nodes.get(node).copied() {
+            self.change_node(
+                node,
+                NodeRow {
+                    deleted: time,
+                    ..row
+                },
+            );
+        }
+    }
+
+    /// A node is marked by `/omit-if-no-ref/`.
+    pub fn mark_node(&mut self, node: usize)
+        ensures nodes { self.new.nodes.items ≡ slice_set self.old.nodes.items node (record (node_at self.old.nodes.items node) { omit = true }) }
+        ensures rest { (self.new.properties.items ≡ self.old.properties.items) × (self.new.labels.items ≡ self.old.labels.items) }
+    {
+        if let Some(row) = self.nodes.get(node).copied() {
+            self.change_node(node, NodeRow { omit: true, ..row });
+        }
+    }
+
+    /// Where a node's body begins.
+    pub fn place_node(&mut self, node: usize, place: Place<'t>)
+        ensures nodes { self.new.nodes.items ≡ slice_set self.old.nodes.items node (record (node_at self.old.nodes.items node) { place = place.entry }) }
+        ensures rest { (self.new.properties.items ≡ self.old.properties.items) × (self.new.labels.items ≡ self.old.labels.items) }
+    {
+        if let Some(row) = self.nodes.get(node).copied() {
+            self.change_node(node, NodeRow { place, ..row });
+        }
     }
 
     /// The first property of a name, also one that was deleted.
-    pub fn property(&self, node: usize, name: &'t [u8]) -> Option<usize> {
-        self.names.get(&(node, name)).copied()
+    pub fn property(&self, node: usize, name: &'t [u8]) -> Option<usize>
+        ensures { result ≡ slice_get (properties_of self.now.properties.items node name.now) 0 }
+    {
+        self.names.first(node, name)
     }
 
     /// A new property, behind the others.
-    pub fn add_property(&mut self, row: PropertyRow<'t>) -> Result<(), AllocError> {
-        if self.property(row.node, row.name).is_none() {
-            self.names
-                .insert((row.node, row.name), self.properties.len())?;
-        }
+    pub fn add_property(&mut self, row: PropertyRow<'t>) -> Result<(), AllocError>
+        ensures ok { OnOk result (self.new.properties.items ≡ self.old.properties.items ++ row.entry ∷ []) }
+        ensures err { OnErr result (self.new.properties.items ≡ self.old.properties.items) }
+        ensures rest { (self.new.nodes.items ≡ self.old.nodes.items) × (self.new.labels.items ≡ self.old.labels.items) }
+    {
+        self.properties.reserve(1)?;
+        let property = self.properties.len();
+        self.names.add(row.node, row.name, property)?;
         self.properties.push(row)?;
         Ok(())
+    }
+
+    /// Changes what of a property may change.
+    fn change_property(&mut self, property: usize, row: PropertyRow<'t>)
+        requires within { property < length self.old.properties.items }
+        requires same { IsSameProperty (property_at self.old.properties.items property) row }
+        ensures properties { self.new.properties.items ≡ slice_set self.old.properties.items property row.entry }
+        ensures rest { (self.new.nodes.items ≡ self.old.nodes.items) × (self.new.labels.items ≡ self.old.labels.items) }
+    {
+        self.properties[property] = row;
+    }
+
+    /// A property is set once more.
+    pub fn set_property(
+        &mut self,
+        property: usize,
+        place: Place<'t>,
+        value: Option<Tokens>,
+        time: usize,
+    )
+        ensures properties { self.new.properties.items ≡ slice_set self.old.properties.items property (record (property_at self.old.properties.items property) { place = place.entry; value = value; made = time }) }
+        ensures rest { (self.new.nodes.items ≡ self.old.nodes.items) × (self.new.labels.items ≡ self.old.labels.items) }
+    {
+        if let Some(row) = self.properties.get(property).copied() {
+            self.change_property(
+                property,
+                PropertyRow {
+                    place,
+                    value,
+                    made: time,
+                    ..row
+                },
+            );
+        }
+    }
+
+    /// A property is deleted.
+    pub fn delete_property(&mut self, property: usize, time: usize)
+        ensures properties { self.new.properties.items ≡ slice_set self.old.properties.items property (record (property_at self.old.properties.items property) { deleted = time }) }
+        ensures rest { (self.new.nodes.items ≡ self.old.nodes.items) × (self.new.labels.items ≡ self.old.labels.items) }
+    {
+        if let Some(row) = self.properties.get(property).copied() {
+            self.change_property(
+                property,
+                PropertyRow {
+                    deleted: time,
+                    ..row
+                },
+            );
+        }
     }
 
     /// Gives a node a label, in front of those that it has, or once more. Answers whether it did: not where too many nodes had it.
@@ -147,20 +278,46 @@ impl<'t> Table<'t> {
         node: usize,
         name: &'t [u8],
         time: usize,
-    ) -> Result<bool, AllocError> {
-        if let Some(row) = self.given.get(&(node, name)).copied() {
-            if let Some(label) = self.labels.get_mut(row) {
-                label.made = time;
-            }
+    ) -> Result<bool, AllocError>
+        ensures given { IfOk result (λ given. given ≡ may_give self.old.labels.items node name.entry.now) }
+        ensures labels { OnOk result (self.new.labels.items ≡ labels_with self.old.labels.items node name.entry time) }
+        ensures err { OnErr result (self.new.labels.items ≡ self.old.labels.items) }
+        ensures rest { (self.new.nodes.items ≡ self.old.nodes.items) × (self.new.properties.items ≡ self.old.properties.items) }
+    {
+        if let Some(row) = self.given.first(node, name) {
+            self.renew_label(row, time);
             return Ok(true);
         }
-        let row = self.labels.len();
-        let earlier = self.last.get(&name).copied();
+        self.add_label(node, name, time)
+    }
+
+    /// A node is given a label once more.
+    fn renew_label(&mut self, label: usize, time: usize)
+        ensures labels { self.new.labels.items ≡ renewed self.old.labels.items label time }
+        ensures rest { (self.new.nodes.items ≡ self.old.nodes.items) × (self.new.properties.items ≡ self.old.properties.items) }
+    {
+        if label < self.labels.len() {
+            self.labels[label].made = time;
+        }
+    }
+
+    /// Gives a node a label that it hasn't, where few nodes have it.
+    fn add_label(&mut self, node: usize, name: &'t [u8], time: usize) -> Result<bool, AllocError>
+        requires { gifts_of self.old.labels.items node name.now ≡ [] }
+        ensures given { IfOk result (λ given. given ≡ nat_lt (length (labels_of self.old.labels.items name.entry.now)) 64) }
+        ensures labels { IfOk result (λ given. self.new.labels.items ≡ (if given then labelled self.old.labels.items node name.entry time else self.old.labels.items)) }
+        ensures err { OnErr result (self.new.labels.items ≡ self.old.labels.items) }
+        ensures rest { (self.new.nodes.items ≡ self.old.nodes.items) × (self.new.properties.items ≡ self.old.properties.items) }
+    {
+        let earlier = self.last_label(name);
         let before = self.how_many(earlier);
         if before >= MAX_SAME_LABEL {
             return Ok(false);
         }
-        self.given.insert((node, name), row)?;
+        self.labels.reserve(1)?;
+        self.last.reserve(1)?;
+        let row = self.labels.len();
+        self.given.add(node, name, row)?;
         self.last.insert(name, row)?;
         self.labels.push(LabelRow {
             node,
@@ -172,8 +329,10 @@ impl<'t> Table<'t> {
         Ok(true)
     }
 
-    /// How many rows of a label's name there are up to this one.
-    fn how_many(&self, row: Option<usize>) -> usize {
+    /// How many labels of a name there are up to this one, the last.
+    fn how_many(&self, row: Option<usize>) -> usize
+        ensures { (k : List ℕ) → row ≡ last_of (labels_of self.now.labels.items k) → result ≡ length (labels_of self.now.labels.items k) }
+    {
         match row {
             Some(row) => match self.labels.get(row) {
                 Some(label) => label.before.saturating_add(1),
@@ -184,7 +343,9 @@ impl<'t> Table<'t> {
     }
 
     /// The last label of a name.
-    pub fn last_label(&self, name: &'t [u8]) -> Option<usize> {
+    pub fn last_label(&self, name: &'t [u8]) -> Option<usize>
+        ensures { result ≡ last_of (labels_of self.now.labels.items name.now) }
+    {
         self.last.get(&name).copied()
     }
 }

@@ -1,0 +1,24 @@
+-- What finds the row of a node and a name, or of a name.
+use Rattle.std.specs.Prelude.{◌≡◌, ℕ, Bool, ◌&&◌, ◌==◌, List, Option, slice_get}
+use Rattle.std.specs.HashMap.{HashMap, get_by}
+use Rattle.std.specs.Str.{bytes_eq}
+use denote.Ref.{Bor}
+
+-- both are the same node and the same name
+abbrev pub is_key : ℕ → List ℕ → ℕ → List ℕ → Bool
+is_key n k m j = n == m && bytes_eq k j
+
+abbrev pub Key : Type 0
+Key = ℕ × Bor (List ℕ)
+
+-- the row that a map has at a node and a name
+abbrev pub found : {S : Type 0} → HashMap Key ℕ S → ℕ → List ℕ → Option ℕ
+found map n k = get_by (λ key. is_key n k key.0 key.1.now) map
+
+-- the row that a map has at a name
+abbrev pub found_name : {S : Type 0} → HashMap (Bor (List ℕ)) ℕ S → List ℕ → Option ℕ
+found_name map k = get_by (λ key. bytes_eq k key.now) map
+
+-- the two maps have the first two of these rows
+abbrev pub AreTwins : {S : Type 0} → HashMap Key ℕ S → HashMap Key ℕ S → ℕ → List ℕ → List ℕ → Type 0
+AreTwins first second n k rows = (found first n k ≡ slice_get rows 0) × (found second n k ≡ slice_get rows 1)
