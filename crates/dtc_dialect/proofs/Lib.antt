@@ -1,3 +1,4 @@
+mod Ancestries
 mod Comments
 mod Copying
 mod Cutting
@@ -14,4 +15,3 @@ mod TableSteps
 mod TokenFirsts
 mod TokenKinds
 mod TwinRows
-mod Ways

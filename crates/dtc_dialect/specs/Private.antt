@@ -1,2 +1,4 @@
--- What private contracts cite: how the printer says the rows of a table. No public clause rests on it.
+-- What private contracts cite: what calls change of a table, and how its rows are said. No public clause rests on it.
+pub mod Changes
 pub mod Printed
+pub mod Rows

@@ -6,13 +6,13 @@ use Rattle.dtc_dialect.specs.declared.table.NodeRow.{NodeRow}
 use Rattle.dtc_dialect.specs.Table.{children_of, node_at}
 
 -- so many nodes above a node, behind it
-abbrev pub way_up : ℕ → List NodeRow → ℕ → List ℕ
-way_up zero rows n = n ∷ []
-way_up (suc d) rows n = n ∷ way_up d rows (node_at rows n).parent
+abbrev pub line_up : ℕ → List NodeRow → ℕ → List ℕ
+line_up zero rows n = n ∷ []
+line_up (suc d) rows n = n ∷ line_up d rows (node_at rows n).parent
 
 -- a node and those above it, up to the root
-abbrev pub way_of : List NodeRow → ℕ → List ℕ
-way_of rows n = way_up (node_at rows n).depth rows n
+abbrev pub ancestry_of : List NodeRow → ℕ → List ℕ
+ancestry_of rows n = line_up (node_at rows n).depth rows n
 
 -- when one of these was last deleted
 abbrev pub deletion_of : List NodeRow → List ℕ → ℕ
@@ -24,13 +24,13 @@ abbrev pub are_made : List NodeRow → List ℕ → Bool
 are_made rows [] = true
 are_made rows (n ∷ ns) = nat_lt (deletion_of rows (n ∷ ns)) (node_at rows n).made && are_made rows ns
 
--- A node is there if each node on its way to the root was made later than it, or any above it, was last deleted.
+-- A node is there if each node from it up to the root was made later than it, or any above it, was last deleted.
 abbrev pub is_there : List NodeRow → ℕ → Bool
-is_there rows n = nat_lt n (length rows) && are_made rows (way_of rows n)
+is_there rows n = nat_lt n (length rows) && are_made rows (ancestry_of rows n)
 
 -- when a node that is there, or one above it, was last deleted
 abbrev pub last_deletion : List NodeRow → ℕ → Option ℕ
-last_deletion rows n = if is_there rows n then Some (deletion_of rows (way_of rows n)) else None
+last_deletion rows n = if is_there rows n then Some (deletion_of rows (ancestry_of rows n)) else None
 
 -- The child of a name that a path means: the first that is there, of the first two. (Three of a name stand below a node only
 -- where the body that it begins with has one twice, which the compiler refuses.)

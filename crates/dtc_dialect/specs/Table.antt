@@ -1,12 +1,14 @@
 -- Which rows of a table a name stands for. Nothing that was made is forgotten: rows are in the order in which dtc has nodes,
 -- properties and labels in its lists.
-use Rattle.std.specs.Prelude.{◌≡◌, ℕ, zero, suc, ◌+◌, ◌<◌, ◌≤◌, nat_lt, Bool, false, ◌&&◌, List, [], ◌∷◌, ◌++◌, length, Option, Some, None, if◌then◌else◌, is_some, ◌||◌, slice_get, slice_set, slice_index_or}
+use Rattle.std.specs.Prelude.{◌≡◌, ℕ, zero, suc, ◌+◌, ◌<◌, ◌≤◌, nat_lt, Bool, true, false, ◌&&◌, List, [], ◌∷◌, ◌++◌, length, Option, Some, None, if◌then◌else◌, is_some, ◌||◌, slice_get, slice_set, slice_index_or}
 use Rattle.std.specs.Str.{bytes_eq}
 use denote.Ref.{Bor}
 use Rattle.dtc_dialect.specs.Found.{is_key}
 use Rattle.dtc_dialect.specs.declared.table.LabelRow.{LabelRow}
 use Rattle.dtc_dialect.specs.declared.table.NodeRow.{NodeRow}
 use Rattle.dtc_dialect.specs.declared.table.PropertyRow.{PropertyRow}
+use Rattle.dtc_dialect.specs.declared.table.Tokens.{Tokens}
+use Rattle.dtc_dialect.specs.declared.token.Place.{Place}
 
 -- ---- rows
 abbrev pub no_name : Bor (List ℕ)
@@ -70,6 +72,34 @@ may_grow rows n = nat_lt n (length rows) && nat_lt (node_at rows n).depth 64
 abbrev pub grown : List NodeRow → NodeRow → List NodeRow
 grown rows row = rows ++ (record row { depth = (node_at rows row.parent).depth + 1 }) ∷ []
 
+-- the number of the new child of a node, if it may have one
+abbrev pub new_child : List NodeRow → ℕ → Option ℕ
+new_child rows parent = if may_grow rows parent then Some (length rows) else None
+
+-- the nodes, with one more if it was given a number
+abbrev pub grown_by : Option ℕ → List NodeRow → NodeRow → List NodeRow
+grown_by node rows row = if is_some node then grown rows row else rows
+
+-- ---- a row that is changed
+abbrev pub made_at : List NodeRow → ℕ → ℕ → List NodeRow
+made_at rows n time = slice_set rows n (record (node_at rows n) { made = time })
+
+abbrev pub deleted_at : List NodeRow → ℕ → ℕ → List NodeRow
+deleted_at rows n time = slice_set rows n (record (node_at rows n) { deleted = time })
+
+abbrev pub marked_at : List NodeRow → ℕ → List NodeRow
+marked_at rows n = slice_set rows n (record (node_at rows n) { omit = true })
+
+abbrev pub placed_at : List NodeRow → ℕ → Place → List NodeRow
+placed_at rows n place = slice_set rows n (record (node_at rows n) { place = place })
+
+-- a property with another value, at its old place
+abbrev pub set_at : List PropertyRow → ℕ → Place → Option Tokens → ℕ → List PropertyRow
+set_at rows p place value time = slice_set rows p (record (property_at rows p) { place = place; value = value; made = time })
+
+abbrev pub dropped_at : List PropertyRow → ℕ → ℕ → List PropertyRow
+dropped_at rows p time = slice_set rows p (record (property_at rows p) { deleted = time })
+
 -- a label is given to its node once more
 abbrev pub renewed : List LabelRow → ℕ → ℕ → List LabelRow
 renewed rows l time = slice_set rows l (record (label_at rows l) { made = time })
@@ -78,6 +108,14 @@ renewed rows l time = slice_set rows l (record (label_at rows l) { made = time }
 abbrev pub labelled : List LabelRow → ℕ → Bor (List ℕ) → ℕ → List LabelRow
 labelled rows n name time =
     rows ++ record { node = n; name = name; made = time; earlier = last_of (labels_of rows name.now); before = length (labels_of rows name.now) } ∷ []
+
+-- whether few nodes ever had a label
+abbrev pub are_few : List LabelRow → List ℕ → Bool
+are_few rows k = nat_lt (length (labels_of rows k)) 64
+
+-- the labels with one more, if it is given
+abbrev pub labelled_if : Bool → List LabelRow → ℕ → Bor (List ℕ) → ℕ → List LabelRow
+labelled_if given rows n name time = if given then labelled rows n name time else rows
 
 -- whether a node may be given a label: it has it, or fewer than 64 nodes ever had
 abbrev pub may_give : List LabelRow → ℕ → List ℕ → Bool

@@ -1,7 +1,8 @@
 //! Text that is put behind other text, with its places.
-ghost use Rattle.std.specs.Prelude.{◌≡◌, ℕ, List, OnOk, length};
+ghost use Rattle.std.specs.Prelude.{◌≡◌, OnOk};
 ghost use Rattle.std.specs.Fmt.{decimal};
-ghost use Rattle.dtc_dialect.specs.Copied.{Between, IsPut, marker_line};
+ghost use Rattle.dtc_dialect.specs.Copied.{Between, marker_line};
+ghost use Rattle.dtc_dialect.specs.Private.Printed.{Puts, PutsAll};
 
 use crate::bytes::line_ends;
 use crate::inclusion::MAX_TEXT;
@@ -44,7 +45,7 @@ impl<'t> Printer<'t> {
 
     /// Puts bytes behind the text, unless that is longer already than any that is compiled.
     pub fn put(&mut self, bytes: &[u8]) -> Result<(), AllocError>
-        ensures { OnOk result (IsPut self.old.text.items self.new.text.items bytes.now) }
+        ensures { OnOk result (PutsAll self.old self.new bytes.now) }
     {
         if self.text.len() > MAX_TEXT {
             return Ok(());
@@ -56,7 +57,7 @@ impl<'t> Printer<'t> {
 
     /// Puts a number in decimal behind the text.
     pub fn put_number(&mut self, alloc: Global, number: u64) -> Result<(), AllocError>
-        ensures { OnOk result (IsPut self.old.text.items self.new.text.items (decimal number)) }
+        ensures { OnOk result (PutsAll self.old self.new (decimal number)) }
     {
         let digits = format!(in alloc; "{number}")?;
         self.put(digits.as_bytes())
@@ -64,7 +65,7 @@ impl<'t> Printer<'t> {
 
     /// What is put next stands at a place; where it stands there already, a blank at most is put in between.
     pub fn move_to(&mut self, alloc: Global, place: Place<'t>, gap: bool) -> Result<(), AllocError>
-        ensures { OnOk result ((bytes : List ℕ) × Between gap bytes × IsPut self.old.text.items self.new.text.items bytes) }
+        ensures { OnOk result (Puts self.old self.new (Between gap)) }
     {
         let ahead = place.line.saturating_sub(self.place.line);
         let is_behind = place.line < self.place.line;
@@ -82,7 +83,7 @@ impl<'t> Printer<'t> {
 
     /// Puts a line marker.
     fn mark(&mut self, alloc: Global, place: Place<'t>) -> Result<(), AllocError>
-        ensures { OnOk result (IsPut self.old.text.items self.new.text.items (marker_line place.entry.line place.entry.file.now)) }
+        ensures { OnOk result (PutsAll self.old self.new (marker_line place.entry.line place.entry.file.now)) }
     {
         self.put(b"\n# ")?;
         self.put_number(alloc, place.line as u64)?;

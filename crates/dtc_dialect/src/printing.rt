@@ -1,10 +1,8 @@
 //! The table said as one body in the profile: what is there, in dtc's order.
-ghost use Rattle.std.specs.Prelude.{◌≡◌, ◌++◌, ℕ, List, OnOk, Some, codes, false, is_some, option_map, true};
-ghost use Rattle.std.specs.Fmt.{decimal};
+ghost use Rattle.std.specs.Prelude.{◌≡◌, OnOk, codes, is_some, option_map, true};
 ghost use Rattle.dtc_dialect.specs.declared.token.Kind.TheVariants.{Reference};
-ghost use Rattle.dtc_dialect.specs.Private.Printed.{IsSaidOf, IsValueOf, known_of};
-ghost use Rattle.dtc_dialect.specs.Character.{character_of};
-ghost use Rattle.dtc_dialect.specs.Copied.{Between, Copied, IsPut, IsWord, inside, is_character, name_text, path_of, phandle_text, target_text};
+ghost use Rattle.dtc_dialect.specs.Copied.{Copied, IsWord, is_character, name_text, path_of, phandle_text, target_text};
+ghost use Rattle.dtc_dialect.specs.Private.Printed.{IsSaidOf, IsValueOf, Puts, PutsAll, PutsCharacter, PutsEnd, known_of};
 
 use crate::bytes::{behind, front};
 use crate::character::character;
@@ -71,7 +69,7 @@ fn put_end<'t>(
     what: Printed<'_, 't>,
     token: usize,
 ) -> Result<(), DialectError<'t>>
-    ensures { OnOk result ((end : List ℕ) × Between false end × IsPut printer.old.text.items printer.new.text.items (end ++ codes ";")) }
+    ensures { OnOk result (PutsEnd printer.old printer.new) }
 {
     let Some(token) = what.view.tokens.get(token) else {
         printer.put(b";")?;
@@ -151,7 +149,7 @@ fn put_name<'t>(
     printer: &mut Printer<'t>,
     row: &NodeRow<'t>,
 ) -> Result<(), DialectError<'t>>
-    ensures { OnOk result (IsPut printer.old.text.items printer.new.text.items (name_text row.now.name.now row.now.fragment)) }
+    ensures { OnOk result (PutsAll printer.old printer.new (name_text row.now.name.now row.now.fragment)) }
 {
     let Some(fragment) = row.fragment else {
         printer.put(row.name)?;
@@ -175,7 +173,7 @@ fn path_of(reference: &[u8]) -> Option<&[u8]>
 
 /// What a fragment refers to.
 fn put_target<'t>(printer: &mut Printer<'t>, target: &Token<'t>) -> Result<(), DialectError<'t>>
-    ensures { OnOk result (IsPut printer.old.text.items printer.new.text.items (target_text target.now.text.now)) }
+    ensures { OnOk result (PutsAll printer.old printer.new (target_text target.now.text.now)) }
 {
     if let Some(path) = path_of(target.text) {
         printer.put(b" { ")?;
@@ -198,7 +196,7 @@ fn put_property<'t>(
     what: Printed<'_, 't>,
     row: &PropertyRow<'t>,
 ) -> Result<(), DialectError<'t>>
-    ensures { OnOk result ((said : List ℕ) × IsSaidOf what.entry row.now said × IsPut printer.old.text.items printer.new.text.items said) }
+    ensures { OnOk result (Puts printer.old printer.new (IsSaidOf what.entry row.now)) }
 {
     if repeats_name(what, row) {
         return Ok(());
@@ -221,7 +219,7 @@ fn put_value<'t>(
     what: Printed<'_, 't>,
     row: &PropertyRow<'t>,
 ) -> Result<(), DialectError<'t>>
-    ensures { OnOk result ((said : List ℕ) × IsValueOf what.entry row.now said × IsPut printer.old.text.items printer.new.text.items said) }
+    ensures { OnOk result (Puts printer.old printer.new (IsValueOf what.entry row.now)) }
 {
     let Some(number) = asked(what, row) else {
         return put_tokens(alloc, printer, what, what.view.value_of(row));
@@ -283,7 +281,7 @@ fn put_tokens<'t>(
     what: Printed<'_, 't>,
     tokens: &[Token<'t>],
 ) -> Result<(), DialectError<'t>>
-    ensures { OnOk result ((said : List ℕ) × Copied (is_some what.entry.numbers) tokens.now said × IsPut printer.old.text.items printer.new.text.items said) }
+    ensures { OnOk result (Puts printer.old printer.new (Copied (is_some what.entry.numbers) tokens.now)) }
 {
     let mut cells = Cells::none();
     for token in tokens {
@@ -303,7 +301,7 @@ fn put_word<'t>(
     token: &Token<'t>,
     in_cells: bool,
 ) -> Result<(), DialectError<'t>>
-    ensures { OnOk result ((said : List ℕ) × IsWord (is_some what.entry.numbers) token.now said × IsPut printer.old.text.items printer.new.text.items said) }
+    ensures { OnOk result (Puts printer.old printer.new (IsWord (is_some what.entry.numbers) token.now)) }
 {
     if is_character(token.kind) {
         return put_character(alloc, printer, token);
@@ -327,7 +325,7 @@ fn put_character<'t>(
     printer: &mut Printer<'t>,
     token: &Token<'t>,
 ) -> Result<(), DialectError<'t>>
-    ensures { OnOk result ((n : ℕ) × (character_of (inside token.now.text.now) ≡ Some n) × IsPut printer.old.text.items printer.new.text.items (decimal n)) }
+    ensures { OnOk result (PutsCharacter printer.old printer.new token.now) }
 {
     let inside = behind(front(token.text, token.text.len().saturating_sub(1)), 1);
     let Some(number) = character(inside) else {
@@ -355,7 +353,7 @@ fn put_reference<'t>(
     token: &Token<'t>,
 ) -> Result<(), DialectError<'t>>
     requires { token.now.kind ≡ Reference }
-    ensures { OnOk result ((said : List ℕ) × IsWord (is_some what.entry.numbers) token.now said × IsPut printer.old.text.items printer.new.text.items said) }
+    ensures { OnOk result (Puts printer.old printer.new (IsWord (is_some what.entry.numbers) token.now)) }
 {
     let Some(number) = legacy_number(what, token) else {
         printer.put(token.text)?;
@@ -381,7 +379,7 @@ fn put_phandle<'t>(
     what: Printed<'_, 't>,
     node: usize,
 ) -> Result<(), DialectError<'t>>
-    ensures { OnOk result (IsPut printer.old.text.items printer.new.text.items (phandle_text (known_of what.entry node))) }
+    ensures { OnOk result (PutsAll printer.old printer.new (phandle_text (known_of what.entry node))) }
 {
     match known(what, node) {
         Some(

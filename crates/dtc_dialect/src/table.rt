@@ -1,9 +1,12 @@
 //! The tree as dtc keeps it while it reads: nothing that was made is forgotten, so that what is made again is at its old place.
 
-ghost use Rattle.std.specs.Prelude.{◌≡◌, ◌<◌, ◌++◌, ◌∷◌, [], ℕ, List, true, OnOk, OnErr, IfOk, is_some, nat_lt, if◌then◌else◌, length, slice_get, slice_set};
+ghost use Rattle.std.specs.Prelude.{◌≡◌, ◌<◌, ◌++◌, ◌∷◌, [], ℕ, List, OnOk, OnErr, IfOk, length, slice_get, slice_set};
 ghost use Rattle.std.proofs.Props.{props};
-ghost use Rattle.dtc_dialect.specs.Found.{AreTwins, found_name};
-ghost use Rattle.dtc_dialect.specs.Table.{IsChained, IsGrown, IsSameNode, IsSameProperty, children_of, gifts_of, grown, labelled, labels_of, labels_with, last_of, may_give, may_grow, node_at, properties_of, property_at, renewed};
+ghost use Rattle.dtc_dialect.specs.Table.{IsChained, IsGrown, IsSameNode, IsSameProperty};
+ghost use Rattle.dtc_dialect.specs.Table.{children_of, gifts_of, labels_of, last_of, node_at, properties_of, property_at};
+ghost use Rattle.dtc_dialect.specs.Table.{are_few, grown_by, labelled_if, labels_with, may_give, new_child, renewed};
+ghost use Rattle.dtc_dialect.specs.Table.{deleted_at, dropped_at, made_at, marked_at, placed_at, set_at};
+ghost use Rattle.dtc_dialect.specs.Private.Rows.{FindsLast, FindsTwins};
 
 use crate::token::{Place, Token};
 use crate::twins::Twins;
@@ -82,14 +85,16 @@ pub(crate) struct Table<'t> {
     given: Twins<'t>,
     last: HashMap<&'t [u8], usize, RandomState>,
     ghost is_grown: { IsGrown nodes.items } by { Prim.hlevel props },
-    ghost children_found: { (n : ℕ) (k : List ℕ) → AreTwins children.first children.second n k (children_of nodes.items n k) } by { Prim.hlevel props },
-    ghost properties_found: { (n : ℕ) (k : List ℕ) → AreTwins names.first names.second n k (properties_of properties.items n k) } by { Prim.hlevel props },
-    ghost gifts_found: { (n : ℕ) (k : List ℕ) → AreTwins given.first given.second n k (gifts_of labels.items n k) } by { Prim.hlevel props },
-    ghost labels_found: { (k : List ℕ) → found_name last k ≡ last_of (labels_of labels.items k) } by { Prim.hlevel props },
+    ghost children_found: { FindsTwins children (children_of nodes.items) } by { Prim.hlevel props },
+    ghost properties_found: { FindsTwins names (properties_of properties.items) } by { Prim.hlevel props },
+    ghost gifts_found: { FindsTwins given (gifts_of labels.items) } by { Prim.hlevel props },
+    ghost labels_found: { FindsLast last labels.items } by { Prim.hlevel props },
     ghost is_chained: { IsChained labels.items } by { Prim.hlevel props },
 }
 
 impl<'t> Table<'t> {
+    ghost use Rattle.dtc_dialect.specs.Private.Changes.{ChangesLabels, ChangesNodes, ChangesProperties, Counts};
+
     /// A root, which isn't made yet.
     pub fn new(alloc: Global, hasher: RandomState) -> Result<Table<'t>, AllocError> {
         let mut nodes = Vec::new(alloc);
@@ -130,9 +135,9 @@ impl<'t> Table<'t> {
 
     /// A new child, behind the others and one deeper than its parent. None where that isn't there, or too deep.
     pub fn add_node(&mut self, row: NodeRow<'t>) -> Result<Option<usize>, AllocError>
-        ensures node { IfOk result (λ node. node ≡ (if may_grow self.old.nodes.items row.entry.parent then Some (length self.old.nodes.items) else None)) }
-        ensures nodes { IfOk result (λ node. self.new.nodes.items ≡ (if is_some node then grown self.old.nodes.items row.entry else self.old.nodes.items)) }
-        ensures rest { (self.new.properties.items ≡ self.old.properties.items) × (self.new.labels.items ≡ self.old.labels.items) }
+        ensures node { IfOk result (λ node. node ≡ new_child self.old.nodes.items row.entry.parent) }
+        ensures nodes { IfOk result (λ node. self.new.nodes.items ≡ grown_by node self.old.nodes.items row.entry) }
+        ensures rest { ChangesNodes self.old self.new }
         ensures err { OnErr result (self.new.nodes.items ≡ self.old.nodes.items) }
     {
         let depth = match self.nodes.get(row.parent) {
@@ -151,15 +156,15 @@ impl<'t> Table<'t> {
         requires within { node < length self.old.nodes.items }
         requires same { IsSameNode (node_at self.old.nodes.items node) row }
         ensures nodes { self.new.nodes.items ≡ slice_set self.old.nodes.items node row.entry }
-        ensures rest { (self.new.properties.items ≡ self.old.properties.items) × (self.new.labels.items ≡ self.old.labels.items) }
+        ensures rest { ChangesNodes self.old self.new }
     {
         self.nodes[node] = row;
     }
 
     /// A node is made, perhaps once more.
     pub fn make_node(&mut self, node: usize, time: usize)
-        ensures nodes { self.new.nodes.items ≡ slice_set self.old.nodes.items node (record (node_at self.old.nodes.items node) { made = time }) }
-        ensures rest { (self.new.properties.items ≡ self.old.properties.items) × (self.new.labels.items ≡ self.old.labels.items) }
+        ensures nodes { self.new.nodes.items ≡ made_at self.old.nodes.items node time }
+        ensures rest { ChangesNodes self.old self.new }
     {
         if let Some(row) = self.nodes.get(node).copied() {
             self.change_node(node, NodeRow { made: time, ..row });
@@ -168,8 +173,8 @@ impl<'t> Table<'t> {
 
     /// A node is deleted.
     pub fn delete_node(&mut self, node: usize, time: usize)
-        ensures nodes { self.new.nodes.items ≡ slice_set self.old.nodes.items node (record (node_at self.old.nodes.items node) { deleted = time }) }
-        ensures rest { (self.new.properties.items ≡ self.old.properties.items) × (self.new.labels.items ≡ self.old.labels.items) }
+        ensures nodes { self.new.nodes.items ≡ deleted_at self.old.nodes.items node time }
+        ensures rest { ChangesNodes self.old self.new }
     {
         if let Some(row) = self.nodes.get(node).copied() {
             self.change_node(
@@ -184,8 +189,8 @@ impl<'t> Table<'t> {
 
     /// A node is marked by `/omit-if-no-ref/`.
     pub fn mark_node(&mut self, node: usize)
-        ensures nodes { self.new.nodes.items ≡ slice_set self.old.nodes.items node (record (node_at self.old.nodes.items node) { omit = true }) }
-        ensures rest { (self.new.properties.items ≡ self.old.properties.items) × (self.new.labels.items ≡ self.old.labels.items) }
+        ensures nodes { self.new.nodes.items ≡ marked_at self.old.nodes.items node }
+        ensures rest { ChangesNodes self.old self.new }
     {
         if let Some(row) = self.nodes.get(node).copied() {
             self.change_node(node, NodeRow { omit: true, ..row });
@@ -194,8 +199,8 @@ impl<'t> Table<'t> {
 
     /// Where a node's body begins.
     pub fn place_node(&mut self, node: usize, place: Place<'t>)
-        ensures nodes { self.new.nodes.items ≡ slice_set self.old.nodes.items node (record (node_at self.old.nodes.items node) { place = place.entry }) }
-        ensures rest { (self.new.properties.items ≡ self.old.properties.items) × (self.new.labels.items ≡ self.old.labels.items) }
+        ensures nodes { self.new.nodes.items ≡ placed_at self.old.nodes.items node place.entry }
+        ensures rest { ChangesNodes self.old self.new }
     {
         if let Some(row) = self.nodes.get(node).copied() {
             self.change_node(node, NodeRow { place, ..row });
@@ -213,7 +218,7 @@ impl<'t> Table<'t> {
     pub fn add_property(&mut self, row: PropertyRow<'t>) -> Result<(), AllocError>
         ensures ok { OnOk result (self.new.properties.items ≡ self.old.properties.items ++ row.entry ∷ []) }
         ensures err { OnErr result (self.new.properties.items ≡ self.old.properties.items) }
-        ensures rest { (self.new.nodes.items ≡ self.old.nodes.items) × (self.new.labels.items ≡ self.old.labels.items) }
+        ensures rest { ChangesProperties self.old self.new }
     {
         self.properties.reserve(1)?;
         let property = self.properties.len();
@@ -227,7 +232,7 @@ impl<'t> Table<'t> {
         requires within { property < length self.old.properties.items }
         requires same { IsSameProperty (property_at self.old.properties.items property) row }
         ensures properties { self.new.properties.items ≡ slice_set self.old.properties.items property row.entry }
-        ensures rest { (self.new.nodes.items ≡ self.old.nodes.items) × (self.new.labels.items ≡ self.old.labels.items) }
+        ensures rest { ChangesProperties self.old self.new }
     {
         self.properties[property] = row;
     }
@@ -240,8 +245,8 @@ impl<'t> Table<'t> {
         value: Option<Tokens>,
         time: usize,
     )
-        ensures properties { self.new.properties.items ≡ slice_set self.old.properties.items property (record (property_at self.old.properties.items property) { place = place.entry; value = value; made = time }) }
-        ensures rest { (self.new.nodes.items ≡ self.old.nodes.items) × (self.new.labels.items ≡ self.old.labels.items) }
+        ensures properties { self.new.properties.items ≡ set_at self.old.properties.items property place.entry value time }
+        ensures rest { ChangesProperties self.old self.new }
     {
         if let Some(row) = self.properties.get(property).copied() {
             self.change_property(
@@ -258,8 +263,8 @@ impl<'t> Table<'t> {
 
     /// A property is deleted.
     pub fn delete_property(&mut self, property: usize, time: usize)
-        ensures properties { self.new.properties.items ≡ slice_set self.old.properties.items property (record (property_at self.old.properties.items property) { deleted = time }) }
-        ensures rest { (self.new.nodes.items ≡ self.old.nodes.items) × (self.new.labels.items ≡ self.old.labels.items) }
+        ensures properties { self.new.properties.items ≡ dropped_at self.old.properties.items property time }
+        ensures rest { ChangesProperties self.old self.new }
     {
         if let Some(row) = self.properties.get(property).copied() {
             self.change_property(
@@ -282,7 +287,7 @@ impl<'t> Table<'t> {
         ensures given { IfOk result (λ given. given ≡ may_give self.old.labels.items node name.entry.now) }
         ensures labels { OnOk result (self.new.labels.items ≡ labels_with self.old.labels.items node name.entry time) }
         ensures err { OnErr result (self.new.labels.items ≡ self.old.labels.items) }
-        ensures rest { (self.new.nodes.items ≡ self.old.nodes.items) × (self.new.properties.items ≡ self.old.properties.items) }
+        ensures rest { ChangesLabels self.old self.new }
     {
         if let Some(row) = self.given.first(node, name) {
             self.renew_label(row, time);
@@ -294,7 +299,7 @@ impl<'t> Table<'t> {
     /// A node is given a label once more.
     fn renew_label(&mut self, label: usize, time: usize)
         ensures labels { self.new.labels.items ≡ renewed self.old.labels.items label time }
-        ensures rest { (self.new.nodes.items ≡ self.old.nodes.items) × (self.new.properties.items ≡ self.old.properties.items) }
+        ensures rest { ChangesLabels self.old self.new }
     {
         if label < self.labels.len() {
             self.labels[label].made = time;
@@ -304,10 +309,10 @@ impl<'t> Table<'t> {
     /// Gives a node a label that it hasn't, where few nodes have it.
     fn add_label(&mut self, node: usize, name: &'t [u8], time: usize) -> Result<bool, AllocError>
         requires { gifts_of self.old.labels.items node name.now ≡ [] }
-        ensures given { IfOk result (λ given. given ≡ nat_lt (length (labels_of self.old.labels.items name.entry.now)) 64) }
-        ensures labels { IfOk result (λ given. self.new.labels.items ≡ (if given then labelled self.old.labels.items node name.entry time else self.old.labels.items)) }
+        ensures given { IfOk result (λ given. given ≡ are_few self.old.labels.items name.entry.now) }
+        ensures labels { IfOk result (λ given. self.new.labels.items ≡ labelled_if given self.old.labels.items node name.entry time) }
         ensures err { OnErr result (self.new.labels.items ≡ self.old.labels.items) }
-        ensures rest { (self.new.nodes.items ≡ self.old.nodes.items) × (self.new.properties.items ≡ self.old.properties.items) }
+        ensures rest { ChangesLabels self.old self.new }
     {
         let earlier = self.last_label(name);
         let before = self.how_many(earlier);
@@ -331,7 +336,7 @@ impl<'t> Table<'t> {
 
     /// How many labels of a name there are up to this one, the last.
     fn how_many(&self, row: Option<usize>) -> usize
-        ensures { (k : List ℕ) → row ≡ last_of (labels_of self.now.labels.items k) → result ≡ length (labels_of self.now.labels.items k) }
+        ensures { (k : List ℕ) → row ≡ last_of (labels_of self.now.labels.items k) → Counts self.now k result }
     {
         match row {
             Some(row) => match self.labels.get(row) {

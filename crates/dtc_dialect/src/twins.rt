@@ -1,6 +1,7 @@
 //! The first two rows of a node and a name.
-ghost use Rattle.std.specs.Prelude.{◌≡◌, ◌++◌, ◌∷◌, [], ℕ, List, OnOk, OnErr, if◌then◌else◌};
-ghost use Rattle.dtc_dialect.specs.Found.{AreTwins, found, is_key};
+ghost use Rattle.std.specs.Prelude.{◌≡◌, [], ℕ, List, OnOk, OnErr};
+ghost use Rattle.dtc_dialect.specs.Found.{AreTwins, found};
+ghost use Rattle.dtc_dialect.specs.Private.Rows.{AddsTwin, KeepsTwins};
 
 use std::alloc::{AllocError, Global};
 use std::collections::HashMap;
@@ -43,8 +44,8 @@ impl<'t> Twins<'t> {
 
     /// Notes one row more, if it is one of the first two.
     pub fn add(&mut self, node: usize, name: &'t [u8], row: usize) -> Result<(), AllocError>
-        ensures ok { OnOk result ((n : ℕ) (k rows : List ℕ) → AreTwins self.old.first self.old.second n k rows → AreTwins self.new.first self.new.second n k (rows ++ (if is_key node name.now n k then row ∷ [] else []))) }
-        ensures err { OnErr result ((n : ℕ) (k rows : List ℕ) → AreTwins self.old.first self.old.second n k rows → AreTwins self.new.first self.new.second n k rows) }
+        ensures ok { OnOk result (AddsTwin self.old self.new node name.now row) }
+        ensures err { OnErr result (KeepsTwins self.old self.new) }
     {
         if self.first(node, name).is_none() {
             self.first.insert((node, name), row)?;

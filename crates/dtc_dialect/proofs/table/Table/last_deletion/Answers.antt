@@ -5,7 +5,7 @@ use Rattle.std.proofs.lemmas.Grind.{common_steps}
 use Rattle.std.proofs.lemmas.List.{get_or_default}
 use Rattle.dtc_dialect.specs.Table.{no_node, node_at}
 use Rattle.dtc_dialect.specs.declared.table.NodeRow.{NodeRow}
-use Rattle.dtc_dialect.proofs.Ways.{left, left-none, left-step}
+use Rattle.dtc_dialect.proofs.Ancestries.{left, left-none, left-step}
 use Rattle.dtc_dialect.proofs.table.Table.last_deletion.Goals as goal
 
 greater : (a b : ℕ) → ord_max nat_cmp a b ≡ max a b

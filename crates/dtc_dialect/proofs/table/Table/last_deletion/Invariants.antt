@@ -1,6 +1,6 @@
 use Rattle.std.proofs.Common.{◌≡◌, ◌<◌, length}
 use Rattle.dtc_dialect.specs.References.{last_deletion}
-use Rattle.dtc_dialect.proofs.Ways.{left}
+use Rattle.dtc_dialect.proofs.Ancestries.{left}
 use Rattle.dtc_dialect.proofs.table.Table.last_deletion.Given as goal
 
 abbrev pub invariant-loop-first_made : goal.invariant-loop-first_made

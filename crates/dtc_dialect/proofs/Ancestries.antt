@@ -1,26 +1,26 @@
--- The way from a node to the root, node by node.
+-- A node and those above it, one by one.
 use Rattle.std.proofs.Common.{◌≡◌, ◌⊎◌, inl, inr, ℕ, zero, suc, ◌+◌, ◌<◌, ◌≤◌, Bool, true, false, cond, if◌then◌else◌, ◌&&◌, List, [], ◌∷◌, length, Option, Some, None, refl, ap, ap₂, sym, ◌∙◌, add-one, arith}
 use Rattle.std.specs.Prelude.{max, min, nat_lt}
 use Rattle.std.proofs.lemmas.Bool.{cases_lt, le-ltb, lt-ltb}
-use Rattle.dtc_dialect.specs.References.{are_made, deletion_of, is_there, last_deletion, way_of, way_up}
+use Rattle.dtc_dialect.specs.References.{are_made, deletion_of, is_there, last_deletion, ancestry_of, line_up}
 use Rattle.dtc_dialect.specs.Table.{IsGrown, node_at}
 use Rattle.dtc_dialect.specs.declared.table.NodeRow.{NodeRow}
 
-pub way-root : (rows : List NodeRow) → IsGrown rows → way_of rows 0 ≡ 0 ∷ []
-way-root rows g = ap (λ d. way_up d rows 0) g.root
+pub ancestry-root : (rows : List NodeRow) → IsGrown rows → ancestry_of rows 0 ≡ 0 ∷ []
+ancestry-root rows g = ap (λ d. line_up d rows 0) g.root
 
-pub way-step : (rows : List NodeRow) (n : ℕ) → IsGrown rows → 0 < n → n < length rows → way_of rows n ≡ n ∷ way_of rows (node_at rows n).parent
-way-step rows n g from to = ap (λ d. way_up d rows n) (g.deeper n from to ∙ add-one (node_at rows (node_at rows n).parent).depth)
+pub ancestry-step : (rows : List NodeRow) (n : ℕ) → IsGrown rows → 0 < n → n < length rows → ancestry_of rows n ≡ n ∷ ancestry_of rows (node_at rows n).parent
+ancestry-step rows n g from to = ap (λ d. line_up d rows n) (g.deeper n from to ∙ add-one (node_at rows (node_at rows n).parent).depth)
 
--- the way begins with the node
-way-first : (rows : List NodeRow) (d n : ℕ) → (ns : List ℕ) × (way_up d rows n ≡ n ∷ ns)
-way-first rows zero n = ([], refl)
-way-first rows (suc d) n = (way_up d rows (node_at rows n).parent, refl)
+-- the line begins with the node
+line-first : (rows : List NodeRow) (d n : ℕ) → (ns : List ℕ) × (line_up d rows n ≡ n ∷ ns)
+line-first rows zero n = ([], refl)
+line-first rows (suc d) n = (line_up d rows (node_at rows n).parent, refl)
 
 -- what is left of the answer from a node on, where those below it were first made at one time, and one of them was last deleted at another
 abbrev pub left : List NodeRow → ℕ → ℕ → ℕ → Option ℕ
 left rows at first_made deletion =
-    if are_made rows (way_of rows at) && nat_lt (deletion_of rows (way_of rows at)) first_made then Some (max deletion (deletion_of rows (way_of rows at))) else None
+    if are_made rows (ancestry_of rows at) && nat_lt (deletion_of rows (ancestry_of rows at)) first_made then Some (max deletion (deletion_of rows (ancestry_of rows at))) else None
 
 either : (b : Bool) (x y : Option ℕ) → b ≡ true → (if b then x else y) ≡ x
 either b x y e = ap (λ c. if c then x else y) e
@@ -44,28 +44,28 @@ begun made D w = by-test (nat_lt D made) where
 
 pub left-first : (rows : List NodeRow) (n : ℕ) → n < length rows → last_deletion rows n ≡ left rows n (node_at rows n).made 0
 left-first rows n lt =
-    let way = way-first rows (node_at rows n).depth n in
-    ap (λ b. if b && are_made rows (way_of rows n) then Some (deletion_of rows (way_of rows n)) else None) (lt-ltb n (length rows) lt)
-    ∙ ap (λ (ns : List ℕ). if are_made rows ns then Some (deletion_of rows ns) else None) way.1
-    ∙ begun (node_at rows n).made (deletion_of rows (n ∷ way.0)) (are_made rows way.0)
-    ∙ sym (ap (λ (ns : List ℕ). if are_made rows ns && nat_lt (deletion_of rows ns) (node_at rows n).made then Some (max 0 (deletion_of rows ns)) else None) way.1)
+    let line = line-first rows (node_at rows n).depth n in
+    ap (λ b. if b && are_made rows (ancestry_of rows n) then Some (deletion_of rows (ancestry_of rows n)) else None) (lt-ltb n (length rows) lt)
+    ∙ ap (λ (ns : List ℕ). if are_made rows ns then Some (deletion_of rows ns) else None) line.1
+    ∙ begun (node_at rows n).made (deletion_of rows (n ∷ line.0)) (are_made rows line.0)
+    ∙ sym (ap (λ (ns : List ℕ). if are_made rows ns && nat_lt (deletion_of rows ns) (node_at rows n).made then Some (max 0 (deletion_of rows ns)) else None) line.1)
 
 -- a node that was deleted later than it, or one below it, was made
 pub left-none : (rows : List NodeRow) (n first_made deletion : ℕ) → min first_made (node_at rows n).made ≤ (node_at rows n).deleted → left rows n first_made deletion ≡ None
 left-none rows n f d le =
-    let way = way-first rows (node_at rows n).depth n in
-    let D = deletion_of rows (n ∷ way.0) in
-    ap (λ (ns : List ℕ). if are_made rows ns && nat_lt (deletion_of rows ns) f then Some (max d (deletion_of rows ns)) else None) way.1
-    ∙ neither ((nat_lt D (node_at rows n).made && are_made rows way.0) && nat_lt D f) (Some (max d D)) None (elim (cases_lt D f) [
-      | inl lt ↦ ap (λ b. (b && are_made rows way.0) && nat_lt D f) (le-ltb D (node_at rows n).made (omega arith))
-      | inr ge ↦ ap (λ b. (nat_lt D (node_at rows n).made && are_made rows way.0) && b) (le-ltb D f ge) ∙ and-false (nat_lt D (node_at rows n).made && are_made rows way.0)
+    let line = line-first rows (node_at rows n).depth n in
+    let D = deletion_of rows (n ∷ line.0) in
+    ap (λ (ns : List ℕ). if are_made rows ns && nat_lt (deletion_of rows ns) f then Some (max d (deletion_of rows ns)) else None) line.1
+    ∙ neither ((nat_lt D (node_at rows n).made && are_made rows line.0) && nat_lt D f) (Some (max d D)) None (elim (cases_lt D f) [
+      | inl lt ↦ ap (λ b. (b && are_made rows line.0) && nat_lt D f) (le-ltb D (node_at rows n).made (omega arith))
+      | inr ge ↦ ap (λ b. (nat_lt D (node_at rows n).made && are_made rows line.0) && b) (le-ltb D f ge) ∙ and-false (nat_lt D (node_at rows n).made && are_made rows line.0)
     ])
 
 pub left-root : (rows : List NodeRow) (f d : ℕ) → IsGrown rows → (node_at rows 0).deleted < min f (node_at rows 0).made → left rows 0 f d ≡ Some (max d (node_at rows 0).deleted)
 left-root rows f d g lt =
     let r = node_at rows 0 in
     let D : max r.deleted 0 ≡ r.deleted = omega arith in
-    ap (λ (ns : List ℕ). if are_made rows ns && nat_lt (deletion_of rows ns) f then Some (max d (deletion_of rows ns)) else None) (way-root rows g)
+    ap (λ (ns : List ℕ). if are_made rows ns && nat_lt (deletion_of rows ns) f then Some (max d (deletion_of rows ns)) else None) (ancestry-root rows g)
     ∙ either ((nat_lt (max r.deleted 0) r.made && true) && nat_lt (max r.deleted 0) f) (Some (max d (max r.deleted 0))) None
     (ap₂ (λ a b. (a && true) && b) (lt-ltb (max r.deleted 0) r.made (omega arith)) (lt-ltb (max r.deleted 0) f (omega arith)))
     ∙ ap (λ m. Some (max d m)) D
@@ -87,8 +87,8 @@ pub left-step : (rows : List NodeRow) (n f d : ℕ) → IsGrown rows → 0 < n �
     → left rows n f d ≡ left rows (node_at rows n).parent (min f (node_at rows n).made) (max d (node_at rows n).deleted)
 left-step rows n f d g from to lt =
     let r = node_at rows n in
-    let ns = way_of rows r.parent in
+    let ns = ancestry_of rows r.parent in
     let D = deletion_of rows ns in
     let same : max d (max r.deleted D) ≡ max (max d r.deleted) D = omega arith in
-    ap (λ (ms : List ℕ). if are_made rows ms && nat_lt (deletion_of rows ms) f then Some (max d (deletion_of rows ms)) else None) (way-step rows n g from to)
+    ap (λ (ms : List ℕ). if are_made rows ms && nat_lt (deletion_of rows ms) f then Some (max d (deletion_of rows ms)) else None) (ancestry-step rows n g from to)
     ∙ ap₂ (λ b m. if b then Some m else None) (tests r.deleted r.made f D (are_made rows ns) lt) same

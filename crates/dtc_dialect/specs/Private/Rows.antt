@@ -1,0 +1,25 @@
+-- What the maps of a table find.
+use Rattle.std.specs.Prelude.{◌≡◌, ℕ, List, ◌++◌, ◌∷◌, [], if◌then◌else◌, length}
+use Rattle.std.specs.HashMap.{HashMap}
+use denote.Ref.{Bor}
+use Rattle.dtc_dialect.specs.Found.{AreTwins, found_name, is_key}
+use Rattle.dtc_dialect.specs.Table.{labels_of, last_of}
+use Rattle.dtc_dialect.specs.declared.table.LabelRow.{LabelRow}
+use Rattle.dtc_dialect.specs.declared.twins.Twins.{Twins}
+
+-- the first two rows of each node and name are found
+abbrev pub FindsTwins : Twins → (ℕ → List ℕ → List ℕ) → Type 0
+FindsTwins twins rows = (n : ℕ) (k : List ℕ) → AreTwins twins.first twins.second n k (rows n k)
+
+-- Where the first two of some rows were found, they are found with this one behind them.
+abbrev pub AddsTwin : Twins → Twins → ℕ → List ℕ → ℕ → Type 0
+AddsTwin old new node name row =
+    (n : ℕ) (k rows : List ℕ) → AreTwins old.first old.second n k rows → AreTwins new.first new.second n k (rows ++ (if is_key node name n k then row ∷ [] else []))
+
+-- what was found is found
+abbrev pub KeepsTwins : Twins → Twins → Type 0
+KeepsTwins old new = (n : ℕ) (k rows : List ℕ) → AreTwins old.first old.second n k rows → AreTwins new.first new.second n k rows
+
+-- the last label of each name is found
+abbrev pub FindsLast : {S : Type 0} → HashMap (Bor (List ℕ)) ℕ S → List LabelRow → Type 0
+FindsLast last rows = (k : List ℕ) → found_name last k ≡ last_of (labels_of rows k)
