@@ -8,10 +8,10 @@ use Rattle.dt_resolve.specs.declared.error.BuildError.{BuildError}
 use Rattle.dt_resolve.specs.declared.error.BuildError.TheVariants.{NoMemory, UnknownLabel, DuplicateLabel, UnknownPath, BadPhandle, DuplicatePhandle, DuplicateInBody, PathInPlugin, ReservedName, TooDeep}
 use Rattle.dt_build.specs.Built.{Refuses}
 use Rattle.dtman_engine.specs.Compile.{CannotBuild, HasLongBlob, IsBlobOf, IsCompiled}
-use Rattle.dtman_engine.specs.Fault.{FaultValue, fault_value, no_memory}
+use Rattle.dtman_engine.specs.Fault.{Answer, FaultValue, fault_value, no_memory}
 use Rattle.dtman_engine.specs.SourceFaults.{build_fault}
 use Rattle.dtman_engine.specs.Limits.{blob_limit}
-use Rattle.dtman_cli.specs.Dialect.{Answer, IsAnswer, IsKept, IsLifted, IsOutcome, is_lifted}
+use Rattle.dtman_cli.specs.Dialect.{IsAnswer, IsKept, IsLifted, IsOutcome, is_lifted}
 use Rattle.dtman_cli.specs.Translation.{may_lift}
 use Rattle.dtman_cli.specs.declared.dialect.Outcome.{Outcome}
 use Rattle.dtman_cli.specs.declared.dialect.Outcome.TheVariants.{Plain, Said, Refused, Lost}

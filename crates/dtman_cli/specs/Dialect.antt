@@ -1,25 +1,19 @@
 -- What `compile --dtc` answers of a source: what the profile answers of it, and where that is a refusal that dtc's dialect may lift, what the
 -- profile answers of the text by which the source is said without the dialect (dtc 1.6, Documentation/dts-format.txt).
-use Rattle.std.specs.Prelude.{◌≡◌, ℕ, Bool, false, true, List, Result, Ok, Err, IfOk, IfErr, MatchResult, Vec}
-use Rattle.std.specs.declared.alloc.Global.{Global}
+use Rattle.std.specs.Prelude.{◌≡◌, ℕ, Bool, false, true, List, Ok, Err, IfOk, IfErr, MatchResult}
 use Rattle.dt_source.specs.Parse.{Says}
 use Rattle.dt_meaning.specs.Syntax.{Meaning}
-use Rattle.dtman_engine.specs.declared.fault.Fault.{Fault}
-use Rattle.dtman_engine.specs.Compile.{CannotBuild, IsBlobOf, IsCompileRefusal, IsCompiled}
-use Rattle.dtman_engine.specs.Fault.{fault_value, no_memory}
+use Rattle.dtman_engine.specs.Compile.{Builds, IsCompileRefusal, IsCompiled}
+use Rattle.dtman_engine.specs.Fault.{Answer, fault_value, no_memory}
 use Rattle.dtman_engine.specs.Limits.{IsShort}
 use Rattle.dtman_cli.specs.Translation.{is_dialect_number, may_lift}
 use Rattle.dtman_cli.specs.declared.dialect.Outcome.{Outcome}
 use Rattle.dtman_cli.specs.declared.dialect.Outcome.TheVariants.{Plain, Said, Refused, Lost}
 
--- the bytes of a blob, or why there is none
-abbrev pub Answer : Type 0
-Answer = Result (Vec ℕ Global) Fault
-
 -- what the profile answers of a text: all that `compile_bytes` says of it
 pub record IsAnswer (symbols : Bool) (text : List ℕ) (given : Answer) : Type 0 where
   pub answer : IfOk given (λ blob. IsCompiled symbols text blob.items)
-  pub said : (m : Meaning) → IsShort text → Says text m → MatchResult given (λ blob. IsBlobOf symbols m blob.items) (λ fault. CannotBuild symbols m (fault_value fault))
+  pub said : (m : Meaning) → IsShort text → Says text m → Builds symbols m given
   pub refused : IfErr given (λ fault. IsCompileRefusal symbols text (fault_value fault))
 
 -- the answer is a refusal that the dialect may lift
