@@ -1,8 +1,8 @@
 -- A node and those above it, one by one.
-use Rattle.std.proofs.Common.{◌≡◌, ◌⊎◌, inl, inr, ℕ, zero, suc, ◌+◌, ◌<◌, ◌≤◌, Bool, true, false, cond, if◌then◌else◌, ◌&&◌, List, [], ◌∷◌, length, Option, Some, None, refl, ap, ap₂, sym, ◌∙◌, add-one, arith}
+use Rattle.std.proofs.Common.{◌≡◌, inl, inr, ℕ, zero, suc, ◌<◌, ◌≤◌, Bool, true, false, if◌then◌else◌, ◌&&◌, List, [], ◌∷◌, length, Option, Some, None, refl, ap, ap₂, sym, ◌∙◌, add-one, arith}
 use Rattle.std.specs.Prelude.{max, min, nat_lt}
 use Rattle.std.proofs.lemmas.Bool.{cases_lt, le-ltb, lt-ltb}
-use Rattle.dtc_dialect.specs.References.{are_made, deletion_of, is_there, last_deletion, ancestry_of, line_up}
+use Rattle.dtc_dialect.specs.References.{are_made, deletion_of, last_deletion, ancestry_of, line_up}
 use Rattle.dtc_dialect.specs.Table.{IsGrown, node_at}
 use Rattle.dtc_dialect.specs.declared.table.NodeRow.{NodeRow}
 

@@ -8,8 +8,10 @@ mod GapHere
 mod GapOnce
 mod Integers
 mod LabelChains
+mod LabelWalk
 mod Lines
 mod Markers
+mod PathNames
 mod RowLists
 mod TableSteps
 mod TokenFirsts

@@ -1,9 +1,14 @@
 -- Which node a reference names in the tree so far (dtc 1.6: Documentation/dts-format.txt, "Node and property definitions" and
 -- "File layout"; manual.txt, section 4.1. What is there of what was deleted was tried with dtc 1.6.1).
-use Rattle.std.specs.Prelude.{ℕ, zero, suc, max, nat_lt, Bool, true, ◌&&◌, List, [], ◌∷◌, length, take, Option, Some, None, if◌then◌else◌}
-use Rattle.std.specs.List.{find}
+use Rattle.std.specs.Prelude.{◌≡◌, ℕ, zero, suc, max, nat_lt, ◌<◌, ◌==◌, Bool, true, false, ◌&&◌, List, [], ◌∷◌, length, take, drop, ◌-◌, Option, Some, None, MatchOption, if◌then◌else◌, slice_index_or}
+use Rattle.std.specs.List.{after_first, before_first, find, slice_split}
+use Rattle.std.specs.Option.{option_and_then}
+use Rattle.dtc_dialect.specs.declared.table.LabelRow.{LabelRow}
 use Rattle.dtc_dialect.specs.declared.table.NodeRow.{NodeRow}
-use Rattle.dtc_dialect.specs.Table.{children_of, node_at}
+use Rattle.dtc_dialect.specs.declared.table.Table.{Table}
+use Rattle.dtc_dialect.specs.Table.{children_of, label_at, labels_of, node_at}
+
+-- ---- what is there
 
 -- so many nodes above a node, behind it
 abbrev pub line_up : ℕ → List NodeRow → ℕ → List ℕ
@@ -32,7 +37,70 @@ is_there rows n = nat_lt n (length rows) && are_made rows (ancestry_of rows n)
 abbrev pub last_deletion : List NodeRow → ℕ → Option ℕ
 last_deletion rows n = if is_there rows n then Some (deletion_of rows (ancestry_of rows n)) else None
 
+-- ---- paths
+
 -- The child of a name that a path means: the first that is there, of the first two. (Three of a name stand below a node only
 -- where the body that it begins with has one twice, which the compiler refuses.)
 abbrev pub child_there : List NodeRow → ℕ → List ℕ → Option ℕ
 child_there rows n k = find (is_there rows) (take 2 (children_of rows n k))
+
+-- the node that names lead to from a node
+abbrev pub follow : List NodeRow → ℕ → List (List ℕ) → Option ℕ
+follow rows n [] = Some n
+follow rows n (k ∷ ks) = option_and_then (λ m. follow rows m ks) (child_there rows n k)
+
+abbrev pub is_slash : ℕ → Bool
+is_slash c = c == 47
+
+-- names but an empty one at the end
+abbrev pub closed : List (List ℕ) → List (List ℕ)
+closed [] = []
+closed ([] ∷ []) = []
+closed (k ∷ ks) = k ∷ closed ks
+
+-- the names of a path, between its slashes; one may stand at its end
+abbrev pub names_of : List ℕ → List (List ℕ)
+names_of path = closed (slice_split is_slash path)
+
+-- ---- labels
+
+-- a label's row, of those of its name
+abbrev pub label_of : List LabelRow → List ℕ → ℕ → LabelRow
+label_of labels k j = label_at labels (slice_index_or (labels_of labels k) j 0)
+
+-- A node still has a label if it is there, and got the label later than it, or a node above it, was last deleted.
+abbrev pub has_label : List NodeRow → LabelRow → Bool
+has_label rows row = is_there rows row.node && nat_lt (deletion_of rows (ancestry_of rows row.node)) row.made
+
+-- one of the nodes that still have a label, if there is one
+abbrev pub IsLabelled : List NodeRow → List LabelRow → List ℕ → Option ℕ → Type 0
+IsLabelled rows labels k o =
+    MatchOption o
+    ((j : ℕ) → j < length (labels_of labels k) → has_label rows (label_of labels k j) ≡ false)
+    (λ n. (j : ℕ) × (j < length (labels_of labels k)) × (has_label rows (label_of labels k j) ≡ true) × ((label_of labels k j).node ≡ n))
+
+-- ---- references
+
+-- from the root where the first name is empty, else from the node of a label
+abbrev pub NamesFrom : List NodeRow → List LabelRow → List ℕ → List (List ℕ) → Option ℕ → Type 0
+NamesFrom rows labels [] ks o = o ≡ follow rows 0 ks
+NamesFrom rows labels (c ∷ cs) ks o = (start : Option ℕ) × IsLabelled rows labels (c ∷ cs) start × (o ≡ option_and_then (λ n. follow rows n ks) start)
+
+-- the node of a path, `/path` or `label/path`
+abbrev pub IsPathNode : List NodeRow → List LabelRow → List ℕ → Option ℕ → Type 0
+IsPathNode rows labels path o = NamesFrom rows labels (before_first is_slash path) (names_of (after_first is_slash path)) o
+
+-- a reference begins with `&` (38), that of a path with `&{` (123) behind it
+abbrev pub IsReference : List ℕ → Type 0
+IsReference reference = take 1 reference ≡ 38 ∷ []
+
+abbrev pub IsOfPath : List ℕ → Type 0
+IsOfPath reference = take 2 reference ≡ 38 ∷ 123 ∷ []
+
+-- the node of the path in its braces
+abbrev pub NamesPath : Table → List ℕ → Option ℕ → Type 0
+NamesPath table reference o = IsPathNode table.nodes.items table.labels.items (take (length (drop 2 reference) - 1) (drop 2 reference)) o
+
+-- a node of its label
+abbrev pub NamesLabel : Table → List ℕ → Option ℕ → Type 0
+NamesLabel table reference o = IsLabelled table.nodes.items table.labels.items (drop 1 reference) o

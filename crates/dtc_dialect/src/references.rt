@@ -1,10 +1,12 @@
 //! The nodes that references name in the tree so far.
 
-ghost use Rattle.std.specs.Prelude.{◌≡◌};
-ghost use Rattle.dtc_dialect.specs.References.{child_there, last_deletion};
+ghost use Rattle.std.specs.Prelude.{◌≡◌, ◌⊎◌, ℕ, Some, None, IsSome};
+ghost use Rattle.std.specs.List.{after_first, before_first};
+ghost use Rattle.dtc_dialect.specs.References.{IsLabelled, IsOfPath, IsPathNode, IsReference, NamesLabel, NamesPath};
+ghost use Rattle.dtc_dialect.specs.References.{child_there, follow, has_label, is_slash, last_deletion, names_of};
 
 use crate::bytes::{behind, front};
-use crate::table::{MAX_DEPTH, MAX_SAME_LABEL, ROOT, Table};
+use crate::table::{LabelRow, MAX_DEPTH, MAX_SAME_LABEL, ROOT, Table};
 
 impl<'t> Table<'t> {
     /// When the node or one above it was last deleted, where the node is there.
@@ -29,7 +31,11 @@ impl<'t> Table<'t> {
     }
 
     /// The node that `&label`, `&{/path}` or `&{label/path}` names.
-    pub fn referred(&self, reference: &'t [u8]) -> Option<usize> {
+    pub fn referred(&self, reference: &'t [u8]) -> Option<usize>
+        ensures path { IsOfPath reference.now → NamesPath self.now reference.now result }
+        ensures label { IsReference reference.now → (IsOfPath reference.now → ⊥) → NamesLabel self.now reference.now result }
+        ensures other { (IsReference reference.now → ⊥) → result ≡ None }
+    {
         match reference {
             [b'&', b'{', inside @ ..] => self.by_path(front(
                 inside,
@@ -40,23 +46,29 @@ impl<'t> Table<'t> {
         }
     }
 
-    fn by_path(&self, path: &'t [u8]) -> Option<usize> {
+    fn by_path(&self, path: &'t [u8]) -> Option<usize>
+        ensures { IsPathNode self.now.nodes.items self.now.labels.items path.now result }
+    {
         let (first, rest) = first_name(path);
-        let mut node = if first.is_empty() {
-            ROOT
-        } else {
-            self.labelled(first)?
-        };
-        let mut left = rest;
-        for _ in 0..=MAX_DEPTH {
-            if left.is_empty() {
-                return Some(node);
-            }
+        if first.is_empty() {
+            return self.follow(ROOT, rest);
+        }
+        let node = self.labelled(first)?;
+        self.follow(node, rest)
+    }
+
+    /// The node that a path leads to from a node.
+    fn follow(&self, from: usize, path: &'t [u8]) -> Option<usize>
+        ensures { result ≡ follow self.now.nodes.items from (names_of path.now) }
+    {
+        let mut node = from;
+        let mut left = path;
+        while !left.is_empty() {
             let (name, rest) = first_name(left);
             node = self.child_there(node, name)?;
             left = rest;
         }
-        None
+        Some(node)
     }
 
     /// The first child of a name that is there.
@@ -73,25 +85,42 @@ impl<'t> Table<'t> {
     }
 
     /// The node that has a label, and of several the first in preorder.
-    pub fn labelled(&self, label: &'t [u8]) -> Option<usize> {
+    pub fn labelled(&self, label: &'t [u8]) -> Option<usize>
+        ensures { IsLabelled self.now.nodes.items self.now.labels.items label.now result }
+    {
         let mut at = self.last_label(label);
         let mut found: Option<usize> = None;
-        for _ in 0..MAX_SAME_LABEL {
+        for step in 0..MAX_SAME_LABEL {
             let Some(row) = at else {
                 return found;
             };
             let row = self.labels.get(row)?;
-            if let Some(deletion) = self.last_deletion(row.node) {
-                if row.made > deletion {
-                    found = match found {
-                        Some(other) if self.is_before(other, row.node) => Some(other),
-                        _ => Some(row.node),
-                    };
-                }
+            if self.has_label(row) {
+                found = self.first(found, row.node);
             }
             at = row.earlier;
         }
         found
+    }
+
+    /// Whether a node still has a label.
+    fn has_label(&self, row: &LabelRow<'t>) -> bool
+        ensures { result ≡ has_label self.now.nodes.items row.now }
+    {
+        match self.last_deletion(row.node) {
+            Some(deletion) => row.made > deletion,
+            None => false,
+        }
+    }
+
+    /// The first of two nodes in preorder.
+    fn first(&self, found: Option<usize>, node: usize) -> Option<usize>
+        ensures { IsSome result × ((n : ℕ) → result ≡ Some n → (n ≡ node) ⊎ (found ≡ Some n)) }
+    {
+        match found {
+            Some(other) if self.is_before(other, node) => Some(other),
+            _ => Some(node),
+        }
     }
 
     fn depth(&self, node: usize) -> usize {
@@ -140,7 +169,10 @@ impl<'t> Table<'t> {
 }
 
 /// A path's first name, and what stands behind the slash.
-fn first_name(path: &[u8]) -> (&[u8], &[u8]) {
+fn first_name(path: &[u8]) -> (&[u8], &[u8])
+    ensures name { result.0.now ≡ before_first is_slash path.now }
+    ensures rest { result.1.now ≡ after_first is_slash path.now }
+{
     for (i, c) in path.iter().enumerate() {
         if *c == b'/' {
             return (front(path, i), behind(path, i + 1));

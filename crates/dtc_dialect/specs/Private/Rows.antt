@@ -1,5 +1,5 @@
 -- What the maps of a table find.
-use Rattle.std.specs.Prelude.{◌≡◌, ℕ, List, ◌++◌, ◌∷◌, [], if◌then◌else◌, length}
+use Rattle.std.specs.Prelude.{◌≡◌, ℕ, List, ◌++◌, ◌∷◌, [], if◌then◌else◌}
 use Rattle.std.specs.HashMap.{HashMap}
 use denote.Ref.{Bor}
 use Rattle.dtc_dialect.specs.Found.{AreTwins, found_name, is_key}

@@ -1,4 +1,4 @@
-use Rattle.std.proofs.Common.{◌≡◌, ◌<◌, ◌≤◌, ap, ap₂, sym, ◌∙◌, length, List, ℕ, arith, rules}
+use Rattle.std.proofs.Common.{◌≡◌, ◌<◌, ap, ap₂, sym, ◌∙◌, length, List, ℕ, arith, rules}
 use Rattle.std.specs.Ordering.{nat_cmp, ord_max}
 use Rattle.std.specs.Prelude.{max, min}
 use Rattle.std.proofs.lemmas.Grind.{common_steps}
