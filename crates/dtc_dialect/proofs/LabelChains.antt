@@ -9,7 +9,7 @@ use Rattle.dtc_dialect.specs.Table.{IsChained, before_of, label_at, labelled, la
 use Rattle.dtc_dialect.specs.declared.table.LabelRow.{LabelRow}
 use Rattle.dtc_dialect.proofs.RowLists.{rows-below, rows-more, rows-set}
 use Rattle.dtc_dialect.proofs.TableSteps.{set-same}
-use Rattle.dtc_dialect.proofs.TwinRows.{more, same-rows}
+use Rattle.dtc_dialect.proofs.FirstRows.{more, same-rows}
 
 -- ---- the last of a list
 before-more : (xs : List ℕ) (x j : ℕ) → j ≤ length xs → before_of (xs ++ x ∷ []) j ≡ before_of xs j

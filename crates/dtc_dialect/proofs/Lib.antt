@@ -2,6 +2,7 @@ mod Ancestries
 mod Comments
 mod Copying
 mod Cutting
+mod FirstRows
 mod Fronts
 mod GapEnds
 mod GapHere
@@ -16,4 +17,3 @@ mod RowLists
 mod TableSteps
 mod TokenFirsts
 mod TokenKinds
-mod TwinRows

@@ -3,7 +3,7 @@ use Rattle.std.proofs.Common.{◌≡◌, ℕ, zero, suc, ◌+◌, ◌<◌, Bool,
 use Rattle.dtc_dialect.specs.Found.{is_key}
 use Rattle.dtc_dialect.specs.Table.{rows_from, children_of, no_node}
 use Rattle.dtc_dialect.specs.declared.table.NodeRow.{NodeRow}
-use Rattle.dtc_dialect.proofs.TwinRows.{more, same-rows}
+use Rattle.dtc_dialect.proofs.FirstRows.{more, same-rows}
 
 one-at : (b : Bool) (i j : ℕ) → i ≡ j → more b i [] ≡ more b j []
 one-at b i j e = ap (λ m. more b m []) e

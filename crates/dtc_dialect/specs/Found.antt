@@ -20,5 +20,5 @@ abbrev pub found_name : {S : Type 0} → HashMap (Bor (List ℕ)) ℕ S → List
 found_name map k = get_by (λ key. bytes_eq k key.now) map
 
 -- the two maps have the first two of these rows
-abbrev pub AreTwins : {S : Type 0} → HashMap Key ℕ S → HashMap Key ℕ S → ℕ → List ℕ → List ℕ → Type 0
-AreTwins first second n k rows = (found first n k ≡ slice_get rows 0) × (found second n k ≡ slice_get rows 1)
+abbrev pub AreFirstTwo : {S : Type 0} → HashMap Key ℕ S → HashMap Key ℕ S → ℕ → List ℕ → List ℕ → Type 0
+AreFirstTwo first second n k rows = (found first n k ≡ slice_get rows 0) × (found second n k ≡ slice_get rows 1)

@@ -7,6 +7,7 @@ mod bytes;
 mod character;
 mod edits;
 mod error;
+mod first_two;
 mod gaps;
 mod head;
 mod inclusion;
@@ -25,7 +26,6 @@ mod site;
 mod statements;
 mod table;
 mod token;
-mod twins;
 mod watch;
 mod words;
 

@@ -6,10 +6,10 @@ ghost use Rattle.dtc_dialect.specs.Table.{IsChained, IsGrown, IsSameNode, IsSame
 ghost use Rattle.dtc_dialect.specs.Table.{children_of, gifts_of, labels_of, last_of, node_at, properties_of, property_at};
 ghost use Rattle.dtc_dialect.specs.Table.{are_few, grown_by, labelled_if, labels_with, may_give, new_child, renewed};
 ghost use Rattle.dtc_dialect.specs.Table.{deleted_at, dropped_at, made_at, marked_at, placed_at, set_at};
-ghost use Rattle.dtc_dialect.specs.Private.Rows.{FindsLast, FindsTwins};
+ghost use Rattle.dtc_dialect.specs.Private.Rows.{FindsLast, FindsFirstTwo};
 
+use crate::first_two::FirstTwo;
 use crate::token::{Place, Token};
-use crate::twins::Twins;
 use std::alloc::{AllocError, Global};
 use std::collections::HashMap;
 use std::hash::RandomState;
@@ -80,14 +80,14 @@ pub(crate) struct Table<'t> {
     pub properties: Vec<PropertyRow<'t>>,
     pub labels: Vec<LabelRow<'t>>,
     /// Where there is a second child of a name, the first was deleted before it was made.
-    children: Twins<'t>,
-    names: Twins<'t>,
-    given: Twins<'t>,
+    children: FirstTwo<'t>,
+    names: FirstTwo<'t>,
+    given: FirstTwo<'t>,
     last: HashMap<&'t [u8], usize, RandomState>,
     ghost is_grown: { IsGrown nodes.items } by { Prim.hlevel props },
-    ghost children_found: { FindsTwins children (children_of nodes.items) } by { Prim.hlevel props },
-    ghost properties_found: { FindsTwins names (properties_of properties.items) } by { Prim.hlevel props },
-    ghost gifts_found: { FindsTwins given (gifts_of labels.items) } by { Prim.hlevel props },
+    ghost children_found: { FindsFirstTwo children (children_of nodes.items) } by { Prim.hlevel props },
+    ghost properties_found: { FindsFirstTwo names (properties_of properties.items) } by { Prim.hlevel props },
+    ghost gifts_found: { FindsFirstTwo given (gifts_of labels.items) } by { Prim.hlevel props },
     ghost labels_found: { FindsLast last labels.items } by { Prim.hlevel props },
     ghost is_chained: { IsChained labels.items } by { Prim.hlevel props },
 }
@@ -112,9 +112,9 @@ impl<'t> Table<'t> {
             nodes,
             properties: Vec::new(alloc),
             labels: Vec::new(alloc),
-            children: Twins::new(alloc, hasher),
-            names: Twins::new(alloc, hasher),
-            given: Twins::new(alloc, hasher),
+            children: FirstTwo::new(alloc, hasher),
+            names: FirstTwo::new(alloc, hasher),
+            given: FirstTwo::new(alloc, hasher),
             last: HashMap::with_hasher(alloc, hasher),
         })
     }

@@ -1,12 +1,12 @@
 use Rattle.std.proofs.Common.{◌≡◌, ◌+◌, ◌<◌, ◌++◌, ◌∷◌, [], ℕ, List, Some, Bor, cond, ap, ap₂, sym, subst, ◌∙◌, length, slice_get, arith, true}
 use Rattle.std.specs.Prelude.{is_ok}
 use Rattle.std.specs.Str.{bytes_eq}
-use Rattle.dtc_dialect.specs.Found.{AreTwins, is_key}
+use Rattle.dtc_dialect.specs.Found.{AreFirstTwo, is_key}
 use Rattle.dtc_dialect.specs.Table.{IsChained, gifts_of, labelled, labels_of, last_of}
 use Rattle.dtc_dialect.specs.declared.table.LabelRow.{LabelRow}
 use Rattle.dtc_dialect.proofs.LabelChains.{IsChained-more, labels-more, last-more}
 use Rattle.dtc_dialect.proofs.RowLists.{rows-more}
-use Rattle.dtc_dialect.proofs.TwinRows.{more}
+use Rattle.dtc_dialect.proofs.FirstRows.{more}
 use Rattle.dtc_dialect.proofs.table.Table.add_label.Goals as goal
 
 abbrev at : List ℕ → Bor (List ℕ)
@@ -20,7 +20,7 @@ invariant_of-self-in-Break-branch-3 c =
       children_found = old.children_found;
       properties_found = old.properties_found;
       gifts_found = λ n k.
-          subst (λ (rows : List LabelRow). AreTwins c.add.new.self.first c.add.new.self.second n k (gifts_of rows n k)) (sym c.reserve.ensures.items)
+          subst (λ (rows : List LabelRow). AreFirstTwo c.add.new.self.first c.add.new.self.second n k (gifts_of rows n k)) (sym c.reserve.ensures.items)
           (c.in_err-add.ensures.err n k (gifts_of old.labels.items n k) (old.gifts_found n k));
       labels_found = λ k. c.reserve-2.ensures.entries.2 (at k) ∙ (old.labels_found k ∙ ap (λ (l : List LabelRow). last_of (labels_of l k)) (sym c.reserve.ensures.items));
       is_chained = subst IsChained (sym c.reserve.ensures.items) old.is_chained;

@@ -1,11 +1,11 @@
 use Rattle.std.proofs.Common.{◌≡◌, ◌+◌, ◌<◌, ◌++◌, ◌∷◌, [], List, ap, sym, subst, ◌∙◌, length, slice_get, arith, true}
 use Rattle.std.specs.Prelude.{is_ok}
-use Rattle.dtc_dialect.specs.Found.{AreTwins, is_key}
+use Rattle.dtc_dialect.specs.Found.{AreFirstTwo, is_key}
 use Rattle.dtc_dialect.specs.Table.{IsGrown, children_of, grown, no_node, node_at}
 use Rattle.dtc_dialect.specs.declared.table.NodeRow.{NodeRow}
 use Rattle.dtc_dialect.proofs.RowLists.{children-more}
 use Rattle.dtc_dialect.proofs.TableSteps.{IsGrown-more}
-use Rattle.dtc_dialect.proofs.TwinRows.{more}
+use Rattle.dtc_dialect.proofs.FirstRows.{more}
 use Rattle.dtc_dialect.proofs.table.Table.add_node.Goals as goal
 
 pub invariant_of-self-in-Break-branch-2 : goal.invariant_of-self-in-Break-branch-2
@@ -14,7 +14,7 @@ invariant_of-self-in-Break-branch-2 c =
     record {
       is_grown = subst IsGrown (sym c.reserve.ensures.items) old.is_grown;
       children_found = λ n k.
-          subst (λ (rows : List NodeRow). AreTwins c.add.new.self.first c.add.new.self.second n k (children_of rows n k)) (sym c.reserve.ensures.items)
+          subst (λ (rows : List NodeRow). AreFirstTwo c.add.new.self.first c.add.new.self.second n k (children_of rows n k)) (sym c.reserve.ensures.items)
           (c.in_err-add.ensures.err n k (children_of old.nodes.items n k) (old.children_found n k));
       properties_found = old.properties_found;
       gifts_found = old.gifts_found;

@@ -1,10 +1,10 @@
 use Rattle.std.proofs.Common.{◌≡◌, ◌+◌, ◌++◌, ◌∷◌, [], List, ap, sym, subst, ◌∙◌, length, slice_get, arith, true}
 use Rattle.std.specs.Prelude.{is_ok}
-use Rattle.dtc_dialect.specs.Found.{AreTwins, is_key}
+use Rattle.dtc_dialect.specs.Found.{AreFirstTwo, is_key}
 use Rattle.dtc_dialect.specs.Table.{properties_of}
 use Rattle.dtc_dialect.specs.declared.table.PropertyRow.{PropertyRow}
 use Rattle.dtc_dialect.proofs.RowLists.{rows-more}
-use Rattle.dtc_dialect.proofs.TwinRows.{more}
+use Rattle.dtc_dialect.proofs.FirstRows.{more}
 use Rattle.dtc_dialect.proofs.table.Table.add_property.Goals as goal
 
 pub invariant_of-self-in-Break-branch-2 : goal.invariant_of-self-in-Break-branch-2
@@ -14,7 +14,7 @@ invariant_of-self-in-Break-branch-2 c =
       is_grown = old.is_grown;
       children_found = old.children_found;
       properties_found = λ n k.
-          subst (λ (rows : List PropertyRow). AreTwins c.add.new.self.first c.add.new.self.second n k (properties_of rows n k)) (sym c.reserve.ensures.items)
+          subst (λ (rows : List PropertyRow). AreFirstTwo c.add.new.self.first c.add.new.self.second n k (properties_of rows n k)) (sym c.reserve.ensures.items)
           (c.in_err-add.ensures.err n k (properties_of old.properties.items n k) (old.properties_found n k));
       gifts_found = old.gifts_found;
       labels_found = old.labels_found;

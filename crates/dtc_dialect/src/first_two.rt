@@ -1,7 +1,7 @@
 //! The first two rows of a node and a name.
 ghost use Rattle.std.specs.Prelude.{◌≡◌, [], ℕ, List, OnOk, OnErr};
-ghost use Rattle.dtc_dialect.specs.Found.{AreTwins, found};
-ghost use Rattle.dtc_dialect.specs.Private.Rows.{AddsTwin, KeepsTwins};
+ghost use Rattle.dtc_dialect.specs.Found.{AreFirstTwo, found};
+ghost use Rattle.dtc_dialect.specs.Private.Rows.{AddsRow, KeepsRows};
 
 use std::alloc::{AllocError, Global};
 use std::collections::HashMap;
@@ -12,17 +12,17 @@ type Found<'t> = HashMap<(usize, &'t [u8]), usize, RandomState>;
 
 /// The first row of a node and a name, and the second.
 #[derive(Drop)]
-pub(crate) struct Twins<'t> {
+pub(crate) struct FirstTwo<'t> {
     first: Found<'t>,
     second: Found<'t>,
 }
 
-impl<'t> Twins<'t> {
+impl<'t> FirstTwo<'t> {
     /// No rows.
-    pub fn new(alloc: Global, hasher: RandomState) -> Twins<'t>
-        ensures { (n : ℕ) (k : List ℕ) → AreTwins result.first result.second n k [] }
+    pub fn new(alloc: Global, hasher: RandomState) -> FirstTwo<'t>
+        ensures { (n : ℕ) (k : List ℕ) → AreFirstTwo result.first result.second n k [] }
     {
-        Twins {
+        FirstTwo {
             first: HashMap::with_hasher(alloc, hasher),
             second: HashMap::with_hasher(alloc, hasher),
         }
@@ -44,8 +44,8 @@ impl<'t> Twins<'t> {
 
     /// Notes one row more, if it is one of the first two.
     pub fn add(&mut self, node: usize, name: &'t [u8], row: usize) -> Result<(), AllocError>
-        ensures ok { OnOk result (AddsTwin self.old self.new node name.now row) }
-        ensures err { OnErr result (KeepsTwins self.old self.new) }
+        ensures ok { OnOk result (AddsRow self.old self.new node name.now row) }
+        ensures err { OnErr result (KeepsRows self.old self.new) }
     {
         if self.first(node, name).is_none() {
             self.first.insert((node, name), row)?;

@@ -1,8 +1,8 @@
 use Rattle.std.proofs.Common.{◌≡◌, ◌∙◌, ℕ, List, true, false, ap, sym}
 use Rattle.std.specs.Prelude.{is_some, not}
 use Rattle.dtc_dialect.specs.Found.{Key, found, is_key}
-use Rattle.dtc_dialect.proofs.TwinRows.{first-more, same-found, second-more, third-more}
-use Rattle.dtc_dialect.proofs.twins.Twins.add.Goals as goal
+use Rattle.dtc_dialect.proofs.FirstRows.{first-more, same-found, second-more, third-more}
+use Rattle.dtc_dialect.proofs.first_two.FirstTwo.add.Goals as goal
 
 abbrev at : ℕ → List ℕ → Key
 at n k = (n, record { ref_ptr = (0, 0); now = k })
