@@ -97,10 +97,10 @@ IsReference reference = take 1 reference ≡ 38 ∷ []
 abbrev pub IsOfPath : List ℕ → Type 0
 IsOfPath reference = take 2 reference ≡ 38 ∷ 123 ∷ []
 
--- the node of the path in its braces
+-- that of a path names the node of the path in its braces
 abbrev pub NamesPath : Table → List ℕ → Option ℕ → Type 0
-NamesPath table reference o = IsPathNode table.nodes.items table.labels.items (take (length (drop 2 reference) - 1) (drop 2 reference)) o
+NamesPath table reference o = IsOfPath reference → IsPathNode table.nodes.items table.labels.items (take (length (drop 2 reference) - 1) (drop 2 reference)) o
 
--- a node of its label
+-- any other a node of its label
 abbrev pub NamesLabel : Table → List ℕ → Option ℕ → Type 0
-NamesLabel table reference o = IsLabelled table.nodes.items table.labels.items (drop 1 reference) o
+NamesLabel table reference o = IsReference reference → (IsOfPath reference → ⊥) → IsLabelled table.nodes.items table.labels.items (drop 1 reference) o

@@ -2,7 +2,7 @@
 
 ghost use Rattle.std.specs.Prelude.{◌≡◌, ◌⊎◌, ℕ, Some, None, IsSome};
 ghost use Rattle.std.specs.List.{after_first, before_first};
-ghost use Rattle.dtc_dialect.specs.References.{IsLabelled, IsOfPath, IsPathNode, IsReference, NamesLabel, NamesPath};
+ghost use Rattle.dtc_dialect.specs.References.{IsLabelled, IsPathNode, IsReference, NamesLabel, NamesPath};
 ghost use Rattle.dtc_dialect.specs.References.{child_there, follow, has_label, is_slash, last_deletion, names_of};
 
 use crate::bytes::{behind, front};
@@ -32,8 +32,8 @@ impl<'t> Table<'t> {
 
     /// The node that `&label`, `&{/path}` or `&{label/path}` names.
     pub fn referred(&self, reference: &'t [u8]) -> Option<usize>
-        ensures path { IsOfPath reference.now → NamesPath self.now reference.now result }
-        ensures label { IsReference reference.now → (IsOfPath reference.now → ⊥) → NamesLabel self.now reference.now result }
+        ensures path { NamesPath self.now reference.now result }
+        ensures label { NamesLabel self.now reference.now result }
         ensures other { (IsReference reference.now → ⊥) → result ≡ None }
     {
         match reference {

@@ -4,8 +4,8 @@ ghost use Rattle.std.specs.Prelude.{◌≡◌, ◌<◌, ◌++◌, ◌∷◌, [],
 ghost use Rattle.std.proofs.Props.{props};
 ghost use Rattle.dtc_dialect.specs.Table.{IsChained, IsGrown, IsSameNode, IsSameProperty};
 ghost use Rattle.dtc_dialect.specs.Table.{children_of, gifts_of, labels_of, last_of, node_at, properties_of, property_at};
-ghost use Rattle.dtc_dialect.specs.Table.{are_few, grown_by, labelled_if, labels_with, may_give, new_child, renewed};
-ghost use Rattle.dtc_dialect.specs.Table.{deleted_at, dropped_at, made_at, marked_at, placed_at, set_at};
+ghost use Rattle.dtc_dialect.specs.Table.{are_few, grown_by, labels_with, may_give, new_child, renewed};
+ghost use Rattle.dtc_dialect.specs.Table.{deleted_at, dropped_at, made_at, marked_at, placed_at};
 ghost use Rattle.dtc_dialect.specs.Private.Rows.{FindsLast, FindsFirstTwo};
 
 use crate::first_two::FirstTwo;
@@ -93,7 +93,7 @@ pub(crate) struct Table<'t> {
 }
 
 impl<'t> Table<'t> {
-    ghost use Rattle.dtc_dialect.specs.Private.Changes.{ChangesLabels, ChangesNodes, ChangesProperties, Counts};
+    ghost use Rattle.dtc_dialect.specs.Private.Changes.{AddsLabel, ChangesLabels, ChangesNodes, ChangesProperties, Counts, SetsProperty};
 
     /// A root, which isn't made yet.
     pub fn new(alloc: Global, hasher: RandomState) -> Result<Table<'t>, AllocError> {
@@ -245,7 +245,7 @@ impl<'t> Table<'t> {
         value: Option<Tokens>,
         time: usize,
     )
-        ensures properties { self.new.properties.items ≡ set_at self.old.properties.items property place.entry value time }
+        ensures properties { SetsProperty self.old self.new property place.entry value time }
         ensures rest { ChangesProperties self.old self.new }
     {
         if let Some(row) = self.properties.get(property).copied() {
@@ -310,7 +310,7 @@ impl<'t> Table<'t> {
     fn add_label(&mut self, node: usize, name: &'t [u8], time: usize) -> Result<bool, AllocError>
         requires { gifts_of self.old.labels.items node name.now ≡ [] }
         ensures given { IfOk result (λ given. given ≡ are_few self.old.labels.items name.entry.now) }
-        ensures labels { IfOk result (λ given. self.new.labels.items ≡ labelled_if given self.old.labels.items node name.entry time) }
+        ensures labels { IfOk result (λ given. AddsLabel self.old self.new given node name.entry time) }
         ensures err { OnErr result (self.new.labels.items ≡ self.old.labels.items) }
         ensures rest { ChangesLabels self.old self.new }
     {

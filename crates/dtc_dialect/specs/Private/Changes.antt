@@ -1,7 +1,10 @@
 -- What a call changes of a table.
-use Rattle.std.specs.Prelude.{◌≡◌, ℕ, List, length}
-use Rattle.dtc_dialect.specs.Table.{labels_of}
+use Rattle.std.specs.Prelude.{◌≡◌, ℕ, Bool, List, length, Option}
+use denote.Ref.{Bor}
+use Rattle.dtc_dialect.specs.Table.{labelled_if, labels_of, set_at}
 use Rattle.dtc_dialect.specs.declared.table.Table.{Table}
+use Rattle.dtc_dialect.specs.declared.table.Tokens.{Tokens}
+use Rattle.dtc_dialect.specs.declared.token.Place.{Place}
 
 -- nodes alone
 abbrev pub ChangesNodes : Table → Table → Type 0
@@ -18,3 +21,11 @@ ChangesLabels old new = (new.nodes.items ≡ old.nodes.items) × (new.properties
 -- so many labels of a name there are
 abbrev pub Counts : Table → List ℕ → ℕ → Type 0
 Counts table k n = n ≡ length (labels_of table.labels.items k)
+
+-- a property has another value, at its old place
+abbrev pub SetsProperty : Table → Table → ℕ → Place → Option Tokens → ℕ → Type 0
+SetsProperty old new p place value time = new.properties.items ≡ set_at old.properties.items p place value time
+
+-- a node has one more label, if it is given
+abbrev pub AddsLabel : Table → Table → Bool → ℕ → Bor (List ℕ) → ℕ → Type 0
+AddsLabel old new given n name time = new.labels.items ≡ labelled_if given old.labels.items n name time
