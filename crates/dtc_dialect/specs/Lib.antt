@@ -2,6 +2,7 @@ pub mod Bytes
 pub mod Character
 pub mod Copied
 pub mod Cuts
+pub mod Edits
 pub mod Found
 pub mod GapAt
 pub mod Gaps

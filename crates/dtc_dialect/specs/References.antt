@@ -6,7 +6,8 @@ use Rattle.std.specs.Option.{option_and_then}
 use Rattle.dtc_dialect.specs.declared.table.LabelRow.{LabelRow}
 use Rattle.dtc_dialect.specs.declared.table.NodeRow.{NodeRow}
 use Rattle.dtc_dialect.specs.declared.table.Table.{Table}
-use Rattle.dtc_dialect.specs.Table.{children_of, label_at, labels_of, node_at}
+use Rattle.dtc_dialect.specs.declared.token.Token.{Token}
+use Rattle.dtc_dialect.specs.Table.{children_of, deleted_at, label_at, labels_of, marked_at, node_at}
 
 -- ---- what is there
 
@@ -104,3 +105,16 @@ NamesPath table reference o = IsOfPath reference → IsPathNode table.nodes.item
 -- any other a node of its label
 abbrev pub NamesLabel : Table → List ℕ → Option ℕ → Type 0
 NamesLabel table reference o = IsReference reference → (IsOfPath reference → ⊥) → IsLabelled table.nodes.items table.labels.items (drop 1 reference) o
+
+-- what a reference names, whatever it is
+pub record NamesNode (table : Table) (reference : List ℕ) (o : Option ℕ) : Type 0 where
+  pub path : NamesPath table reference o
+  pub label : NamesLabel table reference o
+  pub other : (IsReference reference → ⊥) → o ≡ None
+
+-- the node that a reference names is deleted, or marked
+abbrev pub DropsNamed : Table → Table → Token → ℕ → Type 0
+DropsNamed old new key time = (n : ℕ) × NamesNode old key.text.now (Some n) × (new.nodes.items ≡ deleted_at old.nodes.items n time)
+
+abbrev pub MarksNamed : Table → Table → Token → Type 0
+MarksNamed old new key = (n : ℕ) × NamesNode old key.text.now (Some n) × (new.nodes.items ≡ marked_at old.nodes.items n)

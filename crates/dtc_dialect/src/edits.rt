@@ -1,20 +1,16 @@
 //! The statements of a source, done to the table in the order of the text as dtc does them.
 
+use crate::changing::{
+    Body, add_fragment, drop_child, drop_named, drop_property, give_all, mark_omitted, open_child,
+    put_property, unknown,
+};
 use crate::error::{DialectError, Mistake, refused};
 use crate::head::Head;
 use crate::statements::{Edit, Opening};
-use crate::table::{Fragment, MAX_DEPTH, NodeRow, PropertyRow, ROOT, Table, Tokens};
+use crate::table::{MAX_DEPTH, ROOT, Table, Tokens};
 use crate::token::{Kind, Place, Token};
 use std::alloc::Global;
 use std::hash::RandomState;
-
-/// A body that is open. In one that its node begins with, dtc looks for nothing that is there already.
-#[derive(Clone, Copy)]
-struct Body {
-    node: usize,
-    is_new: bool,
-    has_nodes: bool,
-}
 
 /// What was read of a source.
 #[derive(Drop)]
@@ -105,16 +101,9 @@ fn end_statement<'t>(
             };
             set_property(edited, time, &key, value)?
         }
-        Edit::Omit(key) => mark_omitted(edited, &key)?,
+        Edit::Omit(key) => mark_omitted(&mut edited.table, &key)?,
     }
     edited.head.clear();
-    Ok(())
-}
-
-/// `/omit-if-no-ref/ &node;`
-fn mark_omitted<'t>(edited: &mut Edited<'t>, key: &Token<'t>) -> Result<(), DialectError<'t>> {
-    let node = referred(edited, key)?;
-    edited.table.mark_node(node);
     Ok(())
 }
 
@@ -133,21 +122,7 @@ fn set_property<'t>(
     value: Option<Tokens>,
 ) -> Result<(), DialectError<'t>> {
     let body = property_body(edited, key)?;
-    if !body.is_new {
-        if let Some(property) = edited.table.property(body.node, key.text) {
-            edited.table.set_property(property, key.place, value, time);
-            return Ok(());
-        }
-    }
-    edited.table.add_property(PropertyRow {
-        node: body.node,
-        name: key.text,
-        place: key.place,
-        value,
-        made: time,
-        deleted: 0,
-    })?;
-    Ok(())
+    Ok(put_property(&mut edited.table, body, time, key, value)?)
 }
 
 fn delete_property<'t>(
@@ -156,36 +131,7 @@ fn delete_property<'t>(
     key: &Token<'t>,
 ) -> Result<(), DialectError<'t>> {
     let body = property_body(edited, key)?;
-    match edited.table.property(body.node, key.text) {
-        Some(_) if body.is_new => {}
-        Some(property) => edited.table.delete_property(property, time),
-        // dtc keeps its place for one that comes later.
-        None if body.is_new => edited.table.add_property(PropertyRow {
-            node: body.node,
-            name: key.text,
-            place: key.place,
-            value: None,
-            made: 0,
-            deleted: time,
-        })?,
-        None => {}
-    }
-    Ok(())
-}
-
-/// The node of a reference, or the refusal where it names none.
-fn referred<'t>(edited: &Edited<'t>, key: &Token<'t>) -> Result<usize, DialectError<'t>> {
-    match edited.table.referred(key.text) {
-        Some(node) => Ok(node),
-        None => Err(refused(unknown(key.text), key.place)),
-    }
-}
-
-fn unknown(reference: &[u8]) -> Mistake {
-    match reference {
-        [_, b'{', ..] => Mistake::NoPath,
-        _ => Mistake::NoLabel,
-    }
+    Ok(drop_property(&mut edited.table, body, time, key)?)
 }
 
 fn delete_node<'t>(
@@ -193,60 +139,12 @@ fn delete_node<'t>(
     time: usize,
     key: &Token<'t>,
 ) -> Result<(), DialectError<'t>> {
-    let found = match edited.bodies.last_mut() {
-        None => Some(referred(edited, key)?),
-        Some(body) => {
-            body.has_nodes = true;
-            let body = *body;
-            let found = edited.table.child(body.node, key.text);
-            match found {
-                Some(_) if body.is_new => return Ok(()),
-                None if body.is_new => {
-                    add_child(edited, body.node, 0, key)?;
-                    return Ok(());
-                }
-                _ => found,
-            }
-        }
+    let Some(body) = edited.bodies.last_mut() else {
+        return drop_named(&mut edited.table, time, key);
     };
-    let Some(node) = found else {
-        return Ok(());
-    };
-    if node == ROOT {
-        return Err(refused(Mistake::Reserved, key.place));
-    }
-    edited.table.delete_node(node, time);
-    Ok(())
-}
-
-/// A new child, made at a time.
-fn add_child<'t>(
-    edited: &mut Edited<'t>,
-    parent: usize,
-    made: usize,
-    key: &Token<'t>,
-) -> Result<usize, DialectError<'t>> {
-    add_row(
-        edited,
-        NodeRow {
-            name: key.text,
-            parent,
-            depth: 0,
-            place: key.place,
-            made,
-            deleted: 0,
-            omit: false,
-            fragment: None,
-        },
-    )
-}
-
-/// A new node, where it isn't too deep.
-fn add_row<'t>(edited: &mut Edited<'t>, row: NodeRow<'t>) -> Result<usize, DialectError<'t>> {
-    match edited.table.add_node(row)? {
-        Some(node) => Ok(node),
-        None => Err(refused(Mistake::DeepNode, row.place)),
-    }
+    body.has_nodes = true;
+    let body = *body;
+    drop_child(&mut edited.table, body, time, key)
 }
 
 fn open_body<'t>(
@@ -290,11 +188,7 @@ fn root_body<'t>(edited: &mut Edited<'t>, key: &Token<'t>) -> Body {
         edited.table.place_node(ROOT, key.place);
     }
     edited.has_root = true;
-    Body {
-        node: ROOT,
-        is_new,
-        has_nodes: false,
-    }
+    Body::of(ROOT, is_new)
 }
 
 fn child_body<'t>(
@@ -303,53 +197,27 @@ fn child_body<'t>(
     outer: Body,
     key: &Token<'t>,
 ) -> Result<Body, DialectError<'t>> {
-    let found = if outer.is_new {
-        None
-    } else {
-        edited.table.child(outer.node, key.text)
-    };
-    let (node, is_new) = match found {
-        Some(node) => {
-            edited.table.make_node(node, time);
-            (node, false)
-        }
-        None => {
-            let node = add_child(edited, outer.node, time, key)?;
-            if edited.head.omits {
-                edited.table.mark_node(node);
-            }
-            (node, true)
-        }
-    };
-    give_labels(edited, time, node, is_new)?;
-    Ok(Body {
-        node,
-        is_new,
-        has_nodes: false,
-    })
+    let omits = edited.head.omits;
+    let body = open_child(&mut edited.table, outer, time, key, omits)?;
+    give_labels(edited, time, body, key)?;
+    Ok(body)
 }
 
 /// dtc puts each label in front: of a node that is new the first one in the text comes first, of another one the last.
 fn give_labels<'t>(
     edited: &mut Edited<'t>,
     time: usize,
-    node: usize,
-    is_new: bool,
+    body: Body,
+    key: &Token<'t>,
 ) -> Result<(), DialectError<'t>> {
     let Edited { table, head, .. } = edited;
-    let mut given = true;
-    if is_new {
-        for label in head.labels.iter().rev() {
-            given = table.give_label(node, *label, time)? && given;
-        }
-    } else {
-        for label in head.labels.iter() {
-            given = table.give_label(node, *label, time)? && given;
-        }
+    if body.is_new {
+        head.labels.reverse();
     }
-    match (given, head.key) {
-        (false, Some(key)) => Err(refused(Mistake::LabelTwice, key.place)),
-        _ => Ok(()),
+    if give_all(table, head.labels.as_slice(), time, body.node)? {
+        Ok(())
+    } else {
+        Err(refused(Mistake::LabelTwice, key.place))
     }
 }
 
@@ -374,12 +242,9 @@ fn extension_body<'t>(
         return fragment_body(edited, time, key);
     };
     edited.table.make_node(node, time);
-    give_labels(edited, time, node, false)?;
-    Ok(Body {
-        node,
-        is_new: false,
-        has_nodes: false,
-    })
+    let body = Body::of(node, false);
+    give_labels(edited, time, body, key)?;
+    Ok(body)
 }
 
 fn fragment_body<'t>(
@@ -389,33 +254,6 @@ fn fragment_body<'t>(
 ) -> Result<Body, DialectError<'t>> {
     let number = edited.fragments;
     edited.fragments = number.saturating_add(1);
-    let row = NodeRow {
-        name: b"",
-        parent: ROOT,
-        depth: 1,
-        place: key.place,
-        made: time,
-        deleted: 0,
-        omit: false,
-        fragment: Some(Fragment {
-            number,
-            target: *key,
-        }),
-    };
-    let fragment = add_row(edited, row)?;
-    let overlay = add_row(
-        edited,
-        NodeRow {
-            name: b"__overlay__",
-            parent: fragment,
-            depth: 2,
-            fragment: None,
-            ..row
-        },
-    )?;
-    Ok(Body {
-        node: overlay,
-        is_new: true,
-        has_nodes: false,
-    })
+    let overlay = add_fragment(&mut edited.table, number, time, key)?;
+    Ok(Body::of(overlay, true))
 }
