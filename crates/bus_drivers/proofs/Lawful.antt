@@ -6,6 +6,7 @@ use Rattle.std.specs.List.{All, AllPairs, Contains, find, list_all}
 use Rattle.std.proofs.lemmas.Bool.Decides.{nat_tests}
 use Rattle.std.proofs.lemmas.List.{length-map}
 use Rattle.std.proofs.lemmas.List.Elements.{All-nil, All-cons, All-head, All-tail}
+use Rattle.dt_tree.specs.Steps.{then_do}
 use Rattle.dt_tree.specs.NodeData.{NodeData}
 use Rattle.dt_tree.specs.Phandle.{or_else}
 use Rattle.dt_tree.specs.TreeData.{TreeData, IsTree}
@@ -17,7 +18,7 @@ use Rattle.bus_plan.specs.Plan.{PlannedDevice, is_device_path, is_driver_name, i
 use Rattle.bus_plan.specs.PlanPaths.{is_among}
 use Rattle.bus_drivers.specs.Driver.{DriverData, FailData, DriverSetData, driver_names, IsDriverSet}
 use Rattle.bus_drivers.specs.Nodes.{TreeDevice, Target, device_nodes, tree_device, tree_devices, target_of}
-use Rattle.bus_drivers.specs.References.{and_then, all_references}
+use Rattle.bus_drivers.specs.References.{all_references}
 use Rattle.bus_drivers.specs.TreePlan.{compatible_strings, driver_naming, driver_matching, driver_for, verdict_for, fail_paths, unknown_fail, late_strings, suppliers_among, planned_device, planned_from, plan_of_devices, plan_of}
 use Rattle.bus_drivers.proofs.DevicePaths.{device_paths, device_paths-apart, target_within}
 use Rattle.bus_drivers.proofs.Mentions.{AllIfOk, in_properties, suppliers_all, suppliers_apart, suppliers_others}
@@ -95,7 +96,7 @@ module _ (set : DriverSetData) (n : ℕ) where
 
   from_parts : (place : ℕ) (d : TreeDevice) (ds : List TreeDevice) (plan : List PlannedDevice) (r : Result (List ℕ) PlanError) (s : Result (List PlannedDevice) PlanError) → AllIfOk (λ k. k < n) r
       → ((qs : List PlannedDevice) → s ≡ Ok qs → ArePlanned (place + 1) ds qs)
-      → and_then r (λ mentioned. and_then s (λ more. Ok (planned_device set d (suppliers_among place mentioned) ∷ more))) ≡ Ok plan → ArePlanned place (d ∷ ds) plan
+      → then_do r (λ mentioned. then_do s (λ more. Ok (planned_device set d (suppliers_among place mentioned) ∷ more))) ≡ Ok plan → ArePlanned place (d ∷ ds) plan
   from_parts place d ds plan (Err e) s a ih is = absurd (cc is)
   from_parts place d ds plan (Ok mentioned) (Err e) a ih is = absurd (cc is)
   from_parts place d ds plan (Ok mentioned) (Ok more) a ih is =

@@ -5,11 +5,12 @@ use Rattle.std.specs.List.{All, AllPairs, Contains}
 use Rattle.std.proofs.lemmas.Bool.Decides.{nat_tests}
 use Rattle.std.proofs.lemmas.List.Elements.{All-nil, All-cons, All-head, All-tail, All-append, All-filter, All-weaker, All-contains, filter_passes}
 use Rattle.std.proofs.lemmas.List.Kept.{AllPairs-cons, AllPairs-filter}
+use Rattle.dt_tree.specs.Steps.{then_do}
 use Rattle.dt_tree.specs.declared.property.Property.{Property}
 use Rattle.bus_plan.specs.declared.error.PlanError.{PlanError}
 use Rattle.bus_drivers.specs.Nodes.{Target}
 use Rattle.bus_drivers.specs.declared.reference.Reference.{Reference}
-use Rattle.bus_drivers.specs.References.{and_then, followed_by, cells_behind, reference_with, reference_at, reference_of, cells_of, devices_in, is_length, references, property_references, all_references}
+use Rattle.bus_drivers.specs.References.{followed_by, cells_behind, reference_with, reference_at, reference_of, cells_of, devices_in, is_length, references, property_references, all_references}
 use Rattle.bus_drivers.specs.SupplierTable.{Form, form_of}
 use Rattle.bus_drivers.specs.TreePlan.{first_mentions, suppliers_among}
 
@@ -50,7 +51,7 @@ module _ (P : ℕ → Type 0) where
       by_zero true e = rw e (λ d is. absurd (let bad : None ≡ Some d = is in cc bad))
       by_zero false e = rw e (at_target form (target phandle) (in_target phandle))
 
-    from_reference : (r : Result Reference PlanError) (next : ℕ → Result (List ℕ) PlanError) → InReference r → ((k : ℕ) → AllIfOk P (next k)) → AllIfOk P (and_then r (λ e. followed_by (Ok (option_to_list e.device)) (next e.cells)))
+    from_reference : (r : Result Reference PlanError) (next : ℕ → Result (List ℕ) PlanError) → InReference r → ((k : ℕ) → AllIfOk P (next k)) → AllIfOk P (then_do r (λ e. followed_by (Ok (option_to_list e.device)) (next e.cells)))
     from_reference (Err e) next h all = tt
     from_reference (Ok e) next h all = both_lists (Ok (option_to_list e.device)) (next e.cells) (listed e.device h) (all e.cells)
 

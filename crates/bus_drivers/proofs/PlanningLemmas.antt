@@ -4,6 +4,7 @@ use Rattle.std.specs.Prelude.{Result, Ok, Err, MatchResult}
 use Rattle.std.specs.Option.{option_map}
 use Rattle.std.proofs.lemmas.Bool.{le-leb}
 use Rattle.std.proofs.lemmas.List.{at_drop_more}
+use Rattle.dt_tree.specs.Steps.{then_do}
 use Rattle.dt_tree.specs.NodeData.{NodeData}
 use Rattle.bus_plan.specs.declared.error.PlanError.{PlanError}
 use Rattle.bus_plan.specs.declared.error.PlanError.TheVariants.{NoMemory, UnknownPath}
@@ -12,7 +13,7 @@ use Rattle.bus_plan.specs.Plan.{PlannedDevice}
 use Rattle.bus_plan.specs.PlanPaths.{is_among}
 use Rattle.bus_drivers.specs.Driver.{FailData, DriverSetData}
 use Rattle.bus_drivers.specs.Nodes.{TreeDevice, Target, device_nodes, tree_devices, target_of}
-use Rattle.bus_drivers.specs.References.{and_then, followed_by, all_references}
+use Rattle.bus_drivers.specs.References.{followed_by, all_references}
 use Rattle.bus_drivers.specs.TreePlan.{suppliers_among, planned_device, unknown_fail, planned_from, plan_of_devices, plan_of}
 use Rattle.bus_drivers.specs.Private.Matching.{unknown_among}
 use Rattle.bus_drivers.specs.Private.Planning.{planned_at}
@@ -55,8 +56,8 @@ module _ (target : ℕ → Option Target) (set : DriverSetData) (planned : List 
   pub planned-next : (p : PlannedDevice) → planned_at target set place d ≡ Ok p
       → followed_by (Ok (planned ++ p ∷ [])) (planned_from target set (place + 1) (drop (place + 1) devices)) ≡ left (drop place devices)
   planned-next p h = by (all_references target d.properties) (planned_from target set (place + 1) (drop (place + 1) devices)) h ∙ sym here where
-    by : (r : Result (List ℕ) PlanError) (more : Result (List PlannedDevice) PlanError) → and_then r (λ mentioned. Ok (planned_device set d (suppliers_among place mentioned))) ≡ Ok p
-        → followed_by (Ok (planned ++ p ∷ [])) more ≡ followed_by (Ok planned) (and_then r (λ mentioned. and_then more (λ ps. Ok (planned_device set d (suppliers_among place mentioned) ∷ ps))))
+    by : (r : Result (List ℕ) PlanError) (more : Result (List PlannedDevice) PlanError) → then_do r (λ mentioned. Ok (planned_device set d (suppliers_among place mentioned))) ≡ Ok p
+        → followed_by (Ok (planned ++ p ∷ [])) more ≡ followed_by (Ok planned) (then_do r (λ mentioned. then_do more (λ ps. Ok (planned_device set d (suppliers_among place mentioned) ∷ ps))))
     by (Err e) more g = cc
     by (Ok ms) (Err e) g = refl
     by (Ok ms) (Ok ps) g =
@@ -66,8 +67,8 @@ module _ (target : ℕ → Option Target) (set : DriverSetData) (planned : List 
   -- or its fault
   pub planned-fault : (e : PlanError) → planned_at target set place d ≡ Err e → left (drop place devices) ≡ Err e
   planned-fault e h = here ∙ by (all_references target d.properties) (planned_from target set (place + 1) (drop (place + 1) devices)) h where
-    by : (r : Result (List ℕ) PlanError) (more : Result (List PlannedDevice) PlanError) → and_then r (λ mentioned. Ok (planned_device set d (suppliers_among place mentioned))) ≡ Err e
-        → followed_by (Ok planned) (and_then r (λ mentioned. and_then more (λ ps. Ok (planned_device set d (suppliers_among place mentioned) ∷ ps)))) ≡ Err e
+    by : (r : Result (List ℕ) PlanError) (more : Result (List PlannedDevice) PlanError) → then_do r (λ mentioned. Ok (planned_device set d (suppliers_among place mentioned))) ≡ Err e
+        → followed_by (Ok planned) (then_do r (λ mentioned. then_do more (λ ps. Ok (planned_device set d (suppliers_among place mentioned) ∷ ps)))) ≡ Err e
     by (Err f) more g = let same : f ≡ e = cc in ap Err same
     by (Ok ms) more g = cc
 

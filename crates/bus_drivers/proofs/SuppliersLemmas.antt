@@ -5,10 +5,11 @@ use Rattle.std.specs.List.{list_any}
 use Rattle.std.proofs.Math.Seq.{drop-cons}
 use Rattle.std.proofs.lemmas.Bool.{eqb-true}
 use Rattle.std.proofs.lemmas.List.Folds.{list_any-append}
+use Rattle.dt_tree.specs.Steps.{then_do}
 use Rattle.dt_tree.specs.declared.property.Property.{Property}
 use Rattle.bus_plan.specs.declared.error.PlanError.{PlanError}
 use Rattle.bus_drivers.specs.Nodes.{Target}
-use Rattle.bus_drivers.specs.References.{and_then, followed_by, property_references, all_references}
+use Rattle.bus_drivers.specs.References.{followed_by, property_references, all_references}
 use Rattle.bus_drivers.specs.TreePlan.{suppliers_among}
 use Rattle.bus_drivers.specs.Private.Suppliers.{Suppliers, with_mention, with_mentions, adding}
 
@@ -96,7 +97,7 @@ pub found-all : (own : ℕ) (ds : List ℕ) → with_mentions (record { own = ow
 found-all own ds = found-among own [] ds ∙ ap (λ es. record { own = own; found = es }) (all-new (suppliers_among own ds))
 
 pub suppliers-all : (own : ℕ) (mentioned : Result (List ℕ) PlanError) (t : Suppliers) (devices : List ℕ) → adding (by_found own []) mentioned ≡ Ok t
-    → devices ≡ t.found → and_then mentioned (λ ds. Ok (suppliers_among own ds)) ≡ Ok devices
+    → devices ≡ t.found → then_do mentioned (λ ds. Ok (suppliers_among own ds)) ≡ Ok devices
 suppliers-all own (Err e) t devices h is = cc
 suppliers-all own (Ok ds) t devices h is =
     let last : with_mentions (by_found own []) ds ≡ t = cc in

@@ -3,6 +3,7 @@
 use Rattle.std.specs.Prelude.{ℕ, ◌-◌, ◌%◌, Bool, ◌==◌, if◌then◌else◌, List, [], ◌∷◌, ◌++◌, length, Option, Some, None, option_and_then, Result, Ok, Err}
 use Rattle.std.specs.Option.{option_map_or, option_to_list}
 use Rattle.std.specs.Int.{from_be_bytes, w32}
+use Rattle.dt_tree.specs.Steps.{then_do}
 use Rattle.dt_tree.specs.Cell.{cell_in}
 use Rattle.dt_tree.specs.declared.property.Property.{Property}
 use Rattle.dt_tree.specs.PathMap.{value_of}
@@ -12,14 +13,9 @@ use Rattle.bus_drivers.specs.declared.reference.Reference.{Reference}
 use Rattle.bus_drivers.specs.Nodes.{Target}
 use Rattle.bus_drivers.specs.SupplierTable.{Form, counted, bare, single, form_of}
 
--- what comes next, unless there is a fault
-abbrev pub and_then : {A B : Type 0} → Result A PlanError → (A → Result B PlanError) → Result B PlanError
-and_then (Err e) next = Err e
-and_then (Ok x) next = next x
-
 -- the one list and then the other, or the first fault
 abbrev pub followed_by : {A : Type 0} → Result (List A) PlanError → Result (List A) PlanError → Result (List A) PlanError
-followed_by first second = and_then first (λ xs. and_then second (λ ys. Ok (xs ++ ys)))
+followed_by first second = then_do first (λ xs. then_do second (λ ys. Ok (xs ++ ys)))
 
 -- ---- one reference
 -- how many cells stand behind a phandle that leads to this node
@@ -54,7 +50,7 @@ abbrev pub devices_in : (ℕ → Option Target) → Form → ℕ → List ℕ �
 devices_in target form left [] = if left == 0 then Ok [] else Err BadSpecifier
 devices_in target form left (cell ∷ more) =
     if left == 0
-    then and_then (reference_of target form cell) (λ r. followed_by (Ok (option_to_list r.device)) (devices_in target form r.cells more))
+    then then_do (reference_of target form cell) (λ r. followed_by (Ok (option_to_list r.device)) (devices_in target form r.cells more))
     else devices_in target form (left - 1) more
 
 -- cells, or one cell where one phandle is wanted

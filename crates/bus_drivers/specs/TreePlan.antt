@@ -4,6 +4,7 @@
 use Rattle.std.specs.Prelude.{ℕ, ◌+◌, Bool, not, ◌==◌, nat_le, codes, if◌then◌else◌, List, [], ◌∷◌, map, filter, length, Option, Some, None, unwrap_or, Result, Ok, Err}
 use Rattle.std.specs.Option.{option_map, option_map_or}
 use Rattle.std.specs.List.{find, slice_split}
+use Rattle.dt_tree.specs.Steps.{then_do}
 use Rattle.dt_tree.specs.NodeData.{NodeData}
 use Rattle.dt_tree.specs.PathMap.{value_of}
 use Rattle.dt_tree.specs.Phandle.{or_else}
@@ -16,7 +17,7 @@ use Rattle.bus_plan.specs.Plan.{PlannedDevice, is_compatible}
 use Rattle.bus_plan.specs.PlanPaths.{is_among}
 use Rattle.bus_drivers.specs.Driver.{DriverData, FailData, DriverSetData}
 use Rattle.bus_drivers.specs.Nodes.{TreeDevice, Target, device_nodes, tree_devices, target_of}
-use Rattle.bus_drivers.specs.References.{and_then, all_references}
+use Rattle.bus_drivers.specs.References.{all_references}
 
 -- ---- drivers
 -- the strings of a value: what stands before each zero byte, in order
@@ -93,8 +94,8 @@ planned_device set d suppliers =
 abbrev pub planned_from : (ℕ → Option Target) → DriverSetData → ℕ → List TreeDevice → Result (List PlannedDevice) PlanError
 planned_from target set place [] = Ok []
 planned_from target set place (d ∷ ds) =
-    and_then (all_references target d.properties) (λ mentioned.
-    and_then (planned_from target set (place + 1) ds) (λ more.
+    then_do (all_references target d.properties) (λ mentioned.
+    then_do (planned_from target set (place + 1) ds) (λ more.
     Ok (planned_device set d (suppliers_among place mentioned) ∷ more)))
 
 -- the faults of the `fail` lines come first

@@ -1,7 +1,8 @@
 ghost use Rattle.std.specs.Prelude.{◌≡◌, ◌<◌, ◌⊎◌, ◌∷◌, [], Ok, IfOk, IfSome, OnOk, MatchOption, MatchResult, length};
+ghost use Rattle.dt_tree.specs.Steps.{then_do};
 ghost use Rattle.bus_plan.specs.declared.error.PlanError.TheVariants.{NoMemory};
 ghost use Rattle.bus_drivers.specs.Nodes.{target_of};
-ghost use Rattle.bus_drivers.specs.References.{and_then, cells_of, references, property_references, all_references};
+ghost use Rattle.bus_drivers.specs.References.{cells_of, references, property_references, all_references};
 ghost use Rattle.bus_drivers.specs.TreePlan.{suppliers_among};
 ghost use Rattle.bus_drivers.specs.Private.Suppliers.{with_mention, IsAdded};
 ghost use Rattle.bus_drivers.specs.SupplierForm.{form_data};
@@ -144,8 +145,8 @@ fn all_of(
     requires { suppliers.old.found ≡ [] }
     ensures { let mentioned = all_references (target_of phandle_index.now) properties.now in
         MatchResult result
-        (λ devices. and_then mentioned (λ ds. Ok (suppliers_among suppliers.old.own ds)) ≡ Ok devices.items)
-        (λ e. (e ≡ NoMemory) ⊎ (and_then mentioned (λ ds. Ok (suppliers_among suppliers.old.own ds)) ≡ Err e)) }
+        (λ devices. then_do mentioned (λ ds. Ok (suppliers_among suppliers.old.own ds)) ≡ Ok devices.items)
+        (λ e. (e ≡ NoMemory) ⊎ (then_do mentioned (λ ds. Ok (suppliers_among suppliers.old.own ds)) ≡ Err e)) }
 {
     suppliers.add_properties(phandle_index, properties)?;
     Ok(suppliers.devices(alloc)?)
@@ -161,8 +162,8 @@ pub fn suppliers_of(
 ) -> Result<Vec<Device>, PlanError>
     ensures { let mentioned = all_references (target_of phandle_index.now) properties.now in
         MatchResult result
-        (λ suppliers. and_then mentioned (λ ds. Ok (suppliers_among own ds)) ≡ Ok suppliers.items)
-        (λ e. (e ≡ NoMemory) ⊎ (and_then mentioned (λ ds. Ok (suppliers_among own ds)) ≡ Err e)) }
+        (λ suppliers. then_do mentioned (λ ds. Ok (suppliers_among own ds)) ≡ Ok suppliers.items)
+        (λ e. (e ≡ NoMemory) ⊎ (then_do mentioned (λ ds. Ok (suppliers_among own ds)) ≡ Err e)) }
 {
     let mut suppliers = Suppliers::new(alloc, hasher, own);
     all_of(alloc, phandle_index, &mut suppliers, properties)

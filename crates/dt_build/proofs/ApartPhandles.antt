@@ -3,12 +3,13 @@
 use Rattle.std.proofs.Common.{◌≡◌, ℕ, Bool, true, false, not, ◌&&◌, ◌||◌, List, [], ◌∷◌, ◌++◌, length, map, Option, Some, None, Ok, if◌then◌else◌, refl, sym, ap, ap₂, ◌∙◌, subst, true≢false}
 use Rattle.std.specs.List.{flat_map, list_any}
 use Rattle.std.proofs.lemmas.Bool.{and_parts, and_from}
+use Rattle.dt_tree.specs.Steps.{then_do, each}
 use Rattle.dt_tree.specs.Phandle.{is_reserved}
 use Rattle.dt_meaning.specs.Paths.{Path, same_path, is_listed}
 use Rattle.dt_meaning.specs.Syntax.{OfLabel, OfPath, Piece, Plain, PhandleOf, PathOf}
 use Rattle.dt_meaning.specs.Edits.{Definition, definition, State, label_path}
-use Rattle.dt_meaning.specs.Statements.{DuplicatePhandle, ReservedName, then_do, found}
-use Rattle.dt_meaning.specs.References.{preorder, Found, Bytes, Cell, Open, PathText, each, cell_at, cell_of, cell_of_label, found_in, found_value}
+use Rattle.dt_meaning.specs.Statements.{DuplicatePhandle, ReservedName, found}
+use Rattle.dt_meaning.specs.References.{preorder, Found, Bytes, Cell, Open, PathText, cell_at, cell_of, cell_of_label, found_in, found_value}
 use Rattle.dt_meaning.specs.Phandles.{PathPhandle, path_phandle, has_phandle, is_phandle, phandle_value, given_one, given_of, cell_path, named_in_cells, labelled, new_ones, next_free, assigned, wanted}
 use Rattle.dt_live.proofs.PathTests.{same-itself}
 use Rattle.dt_live.proofs.Each.{Each, each-append, each-more}

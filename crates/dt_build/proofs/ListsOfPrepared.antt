@@ -3,6 +3,7 @@
 use Rattle.std.proofs.Common.{◌≡◌, ◌≤◌, suc, Bool, true, false, List, [], ◌∷◌, ◌++◌, map, length, Ok, Err, if◌then◌else◌, refl, sym, ap, ap₂, ◌∙◌, subst, arith}
 use Rattle.std.specs.Prelude.{All}
 use Rattle.std.specs.List.{list_any, flat_map}
+use Rattle.dt_tree.specs.Steps.{then_do}
 use Rattle.dt_tree.specs.NodeData.{NodeData}
 use Rattle.dt_tree.specs.PathMap.{path_map}
 use Rattle.dt_tree.specs.Sound.{are_distinct, IsSound}
@@ -10,7 +11,7 @@ use Rattle.dt_meaning.specs.Names.{symbols_name, fixups_name, local_fixups_name}
 use Rattle.dt_meaning.specs.Paths.{Path, same_path, is_listed}
 use Rattle.dt_meaning.specs.Syntax.{Meaning}
 use Rattle.dt_meaning.specs.Edits.{Definition, Label}
-use Rattle.dt_meaning.specs.Statements.{TooDeep, then_do}
+use Rattle.dt_meaning.specs.Statements.{TooDeep}
 use Rattle.dt_meaning.specs.References.{Found, held, preorder}
 use Rattle.dt_meaning.specs.Fixups.{sites, fixups, local_fixups}
 use Rattle.dt_meaning.specs.Resolved.{Resolved, is_too_deep, names_taken, phandle_property, put_together, resolved, resolved_state, shallow, symbol, when, with_bytes, with_more}

@@ -1,18 +1,19 @@
 -- Edits keep what is true of each name, and that no node is deeper than 64, no property and no label stands twice.
 use Rattle.std.proofs.Common.{◌≡◌, ◌≤◌, ◌+◌, ℕ, Bool, true, false, not, ◌||◌, List, [], ◌∷◌, ◌++◌, length, Option, Some, None, Result, Ok, Err, if◌then◌else◌, refl, sym, ap, ap₂, ◌∙◌, subst, true≢false, length-append, arith}
-use Rattle.std.specs.Prelude.{nat_lt}
+use Rattle.std.specs.Prelude.{nat_lt, ok_or}
 use Rattle.std.specs.List.{filter}
 use Rattle.std.specs.Str.{bytes_eq}
 use Rattle.std.proofs.lemmas.Bool.{and_parts}
 use Rattle.std.proofs.lemmas.Bool.Decides.{nat_tests}
 use Rattle.std.proofs.lemmas.Slice.Eq.{bytes_eq-Decides}
+use Rattle.dt_tree.specs.Steps.{then_do}
 use Rattle.dt_tree.specs.Path.{path_names}
 use Rattle.dt_tree.specs.Sound.{is_among}
 use Rattle.dt_meaning.specs.Names.{fragment_name, overlay_name}
 use Rattle.dt_meaning.specs.Paths.{Path, same_path, is_within, is_listed}
 use Rattle.dt_meaning.specs.Syntax.{Target, OfLabel, OfPath, Piece, Plain, PhandleOf, PathOf, Entry, Defines, Undefines, Child, Removes, Body, Done, Then, Edit, Rooted, Extends, Deletes, Meaning}
 use Rattle.dt_meaning.specs.Edits.{Definition, definition, Label, labelled_at, State, empty, counted, has_node, with_node, without_node, is_of, put, with_property, without_property, label_path, with_label}
-use Rattle.dt_meaning.specs.Statements.{Fault, UnknownLabel, UnknownPath, DuplicateLabel, DuplicateInBody, ReservedName, TooDeep, then_do, ok_or, give_label, give_labels, is_made, Progress, progress, begun, child_fault, unless, after_entry, after_body, found, target_name, target_value, with_fragment, after_fragment, makes_fragment, after_item, after_items, edited}
+use Rattle.dt_meaning.specs.Statements.{Fault, UnknownLabel, UnknownPath, DuplicateLabel, DuplicateInBody, ReservedName, TooDeep, give_label, give_labels, is_made, Progress, progress, begun, child_fault, unless, after_entry, after_body, found, target_name, target_value, with_fragment, after_fragment, makes_fragment, after_item, after_items, edited}
 use Rattle.dt_live.proofs.PathTests.{same-is}
 use Rattle.dt_live.proofs.Each.{Each, each-append, each-kept}
 use Rattle.dt_build.proofs.ApartLists.{InPairs, pairs-kept, pairs-last}
@@ -138,7 +139,7 @@ new-word l (x ∷ xs) e = by-word (bytes_eq l x.label) refl e (new-word l xs) wh
   by-word true is e rest = absurd (cc)
   by-word false is e rest = (is, rest e)
 
-label-found : (o : Option Path) (p : Path) → ok_or UnknownLabel o ≡ Ok p → o ≡ Some p
+label-found : (o : Option Path) (p : Path) → ok_or o UnknownLabel ≡ Ok p → o ≡ Some p
 label-found None p e = absurd (cc)
 label-found (Some q) p e = ap (λ x. Some x) (ok-is q p e)
 

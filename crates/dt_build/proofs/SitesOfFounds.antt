@@ -2,10 +2,11 @@
 use Rattle.std.proofs.Common.{◌≡◌, ℕ, Bool, List, [], ◌∷◌, ◌++◌, map, Option, Ok, sym, ap, ap₂, ◌∙◌, append_assoc, append-nil}
 use Rattle.std.specs.List.{flat_map}
 use Rattle.std.specs.Option.{option_map}
+use Rattle.dt_tree.specs.Steps.{each}
 use Rattle.dt_meaning.specs.Paths.{Path}
 use Rattle.dt_meaning.specs.Syntax.{Piece}
 use Rattle.dt_meaning.specs.Edits.{Definition, State}
-use Rattle.dt_meaning.specs.References.{Found, each, found_in, found_value}
+use Rattle.dt_meaning.specs.References.{Found, found_in, found_value}
 use Rattle.dt_meaning.specs.Phandles.{PathPhandle}
 use Rattle.dt_meaning.specs.Fixups.{sites, sites_in}
 use Rattle.dt_live.specs.declared.live_tree.NodeRow.{NodeRow}

@@ -3,11 +3,12 @@ use Rattle.std.proofs.Common.{◌≡◌, Option, ℕ, Bool, true, false, List, [
 use Rattle.std.specs.List.{flat_map}
 use Rattle.std.specs.Option.{option_map}
 use Rattle.std.proofs.lemmas.List.{map-append}
+use Rattle.dt_tree.specs.Steps.{each}
 use Rattle.dt_tree.specs.Name.{is_name}
 use Rattle.dt_meaning.specs.Paths.{Path, same_path}
 use Rattle.dt_meaning.specs.Syntax.{Piece}
 use Rattle.dt_meaning.specs.Edits.{Definition, definition, State}
-use Rattle.dt_meaning.specs.References.{Found, each, found_in, found_value, held, preorder}
+use Rattle.dt_meaning.specs.References.{Found, found_in, found_value, held, preorder}
 use Rattle.dt_meaning.specs.Phandles.{PathPhandle}
 use Rattle.dt_meaning.specs.Fixups.{value_bytes}
 use Rattle.dt_meaning.specs.Resolved.{with_bytes}

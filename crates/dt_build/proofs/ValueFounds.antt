@@ -3,6 +3,7 @@ use Rattle.std.proofs.Common.{◌≡◌, Option, Some, None, ℕ, Bool, true, fa
 use Rattle.std.specs.Option.{option_map}
 use Rattle.std.specs.List.{flat_map}
 use Rattle.std.proofs.lemmas.List.{drop-drop}
+use Rattle.dt_tree.specs.Steps.{then_do, each}
 use Rattle.dt_tree.specs.Phandle.{is_reserved}
 use Rattle.dt_source.specs.declared.tree.Part.{Part}
 use Rattle.dt_source.specs.declared.tree.Part.TheVariants as parts
@@ -12,8 +13,8 @@ use Rattle.dt_source.specs.Tree.{part_view, target_view}
 use Rattle.dt_meaning.specs.Paths.{Path}
 use Rattle.dt_meaning.specs.Syntax.{OfPath, Piece}
 use Rattle.dt_meaning.specs.Edits.{Definition, definition, State, label_path}
-use Rattle.dt_meaning.specs.Statements.{Fault, ReservedName, then_do, found}
-use Rattle.dt_meaning.specs.References.{Found, Bytes, Cell, Open, PathText, cell_at, cell_of, cell_of_label, each, found_in}
+use Rattle.dt_meaning.specs.Statements.{Fault, ReservedName, found}
+use Rattle.dt_meaning.specs.References.{Found, Bytes, Cell, Open, PathText, cell_at, cell_of, cell_of_label, found_in}
 use Rattle.dt_resolve.specs.Targets.{target_path}
 use Rattle.dt_build.specs.Private.Values.{uses, all_uses, label_in, cell_for, text_for, found_of, founds_of}
 

@@ -2,12 +2,13 @@
 use Rattle.std.proofs.Common.{◌≡◌, Bool, true, false, not, List, [], ◌∷◌, ◌++◌, map, Result, Ok, Err, cond, refl, sym, ap, ap₂, ◌∙◌, subst, append-nil}
 use Rattle.std.specs.List.{flat_map}
 use Rattle.std.proofs.lemmas.Bool.{and_parts}
+use Rattle.dt_tree.specs.Steps.{then_do, each}
 use Rattle.dt_meaning.specs.Paths.{Path, same_path, is_listed}
 use Rattle.dt_meaning.specs.Syntax.{Piece}
 use Rattle.dt_meaning.specs.Edits.{Definition, definition, State}
-use Rattle.dt_meaning.specs.Statements.{Fault, then_do}
+use Rattle.dt_meaning.specs.Statements.{Fault}
 use Rattle.dt_meaning.specs.Resolved.{Resolved}
-use Rattle.dt_meaning.specs.References.{Found, each, found_in, found_value, held, in_order, preorder, references}
+use Rattle.dt_meaning.specs.References.{Found, found_in, found_value, held, in_order, preorder, references}
 use Rattle.dt_live.proofs.Each.{Each}
 use Rattle.dt_tree_builder.specs.Standing.{are_apart, AreNodes}
 use Rattle.dt_tree_builder.proofs.InTurn.{each-once}

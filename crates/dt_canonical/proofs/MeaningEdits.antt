@@ -3,6 +3,7 @@ use Rattle.std.proofs.Common.{◌≡◌, ℕ, ◌+◌, ◌≤◌, Bool, true, fa
 use Rattle.std.specs.Prelude.{nat_lt}
 use Rattle.std.specs.Str.{bytes_eq}
 use Rattle.std.proofs.lemmas.Bool.Decides.{nat_tests}
+use Rattle.dt_tree.specs.Steps.{then_do}
 use Rattle.dt_tree.specs.declared.property.Property.{Property}
 use Rattle.dt_tree.specs.NodeData.{Siblings, none, more, child_names, property_names, height_of}
 use Rattle.dt_tree.specs.Sound.{is_among, are_distinct, IsSoundBelow}
@@ -13,7 +14,7 @@ use Rattle.dt_tree.proofs.SeenNames.{bytes_eq-comm}
 use Rattle.dt_meaning.specs.Paths.{Path, same_path, is_within, is_listed}
 use Rattle.dt_meaning.specs.Syntax.{Piece, Body}
 use Rattle.dt_meaning.specs.Edits.{Definition, definition, State, with_node, is_of, put}
-use Rattle.dt_meaning.specs.Statements.{DuplicateInBody, ReservedName, TooDeep, then_do, is_made, progress, begun, child_fault, unless, after_body, edited}
+use Rattle.dt_meaning.specs.Statements.{DuplicateInBody, ReservedName, TooDeep, is_made, progress, begun, child_fault, unless, after_body, edited}
 use Rattle.dt_live.proofs.Each.{Each, each-append, each-more}
 use Rattle.dt_tree_builder.proofs.PathFacts.{or-right, bytes-itself}
 use Rattle.dt_canonical.specs.SourceOf.{value_of, with_properties, nodes_of, source_of}

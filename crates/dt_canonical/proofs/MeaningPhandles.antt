@@ -6,6 +6,7 @@ use Rattle.std.proofs.lemmas.Bool.{and_parts, and_from}
 use Rattle.std.proofs.lemmas.Bool.Decides.{nat_tests}
 use Rattle.std.proofs.lemmas.List.Folds.{list_any-append}
 use Rattle.std.proofs.lemmas.Slice.Eq.{bytes_eq-Decides}
+use Rattle.dt_tree.specs.Steps.{then_do}
 use Rattle.dt_tree.specs.NodeData.{NodeData}
 use Rattle.dt_tree.specs.PathMap.{PathMap, path_map}
 use Rattle.dt_tree.specs.Phandle.{is_reserved, phandle_in, phandle_at}
@@ -18,7 +19,7 @@ use Rattle.dt_meaning.specs.MapOf.{value_in}
 use Rattle.dt_meaning.specs.Phandles.{PathPhandle, path_phandle, has_phandle, is_phandle, phandle_value, given_one, given_of}
 use Rattle.dt_meaning.specs.References.{held, preorder}
 use Rattle.dt_meaning.specs.Resolved.{Resolved}
-use Rattle.dt_meaning.specs.Statements.{DuplicatePhandle, then_do}
+use Rattle.dt_meaning.specs.Statements.{DuplicatePhandle}
 use Rattle.dt_live.proofs.Each.{Each, each-more}
 use Rattle.dt_tree_builder.specs.Lists.{lists_of}
 use Rattle.dt_tree_builder.specs.Standing.{are_apart}

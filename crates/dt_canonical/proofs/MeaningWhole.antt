@@ -2,6 +2,7 @@
 use Rattle.std.proofs.Common.{◌≡◌, ℕ, Bool, true, false, List, [], ◌∷◌, ◌++◌, map, Result, Ok, Err, if◌then◌else◌, cond, refl, sym, ap, ap₂, ◌∙◌, append-nil}
 use Rattle.std.specs.List.{flat_map, list_any}
 use Rattle.std.proofs.lemmas.List.{map-append}
+use Rattle.dt_tree.specs.Steps.{then_do, each}
 use Rattle.dt_tree.specs.PathMap.{tree_map}
 use Rattle.dt_tree.specs.TreeData.{TreeData, IsTree, is_reserve}
 use Rattle.dt_meaning.specs.Paths.{Path, same_path}
@@ -10,9 +11,9 @@ use Rattle.dt_meaning.specs.Edits.{Definition, definition, State}
 use Rattle.dt_meaning.specs.Fixups.{value_bytes}
 use Rattle.dt_meaning.specs.MapOf.{tree_map_of}
 use Rattle.dt_meaning.specs.Phandles.{PathPhandle, named_in_cells, new_ones, assigned, given_of}
-use Rattle.dt_meaning.specs.References.{Found, Bytes, each, found_in, found_value, held, in_order, preorder}
+use Rattle.dt_meaning.specs.References.{Found, Bytes, found_in, found_value, held, in_order, preorder}
 use Rattle.dt_meaning.specs.Resolved.{Resolved, is_too_deep, put_together, resolved, resolved_state, shallow, with_bytes}
-use Rattle.dt_meaning.specs.Statements.{Fault, TooDeep, then_do}
+use Rattle.dt_meaning.specs.Statements.{Fault, TooDeep}
 use Rattle.dt_tree_builder.specs.Lists.{lists_of}
 use Rattle.dt_tree_builder.proofs.TreeNodes.{tree-nodes}
 use Rattle.dt_tree_builder.proofs.Walks.{filter-all}

@@ -2,13 +2,14 @@
 use Rattle.std.proofs.Common.{◌≡◌, ℕ, zero, suc, ◌-◌, ◌<◌, Bool, true, false, ◌&&◌, ◌||◌, ◌==◌, List, [], ◌∷◌, ◌++◌, length, Option, Some, None, Result, Ok, Err, if◌then◌else◌, nat_lt, refl, sym, ap, ap₂, ◌∙◌, subst, true≢false, arith}
 use Rattle.std.specs.Str.{bytes_eq}
 use Rattle.std.proofs.lemmas.Bool.{eqb-true, ltb-true}
+use Rattle.dt_tree.specs.Steps.{then_do}
 use Rattle.dt_tree.specs.declared.limits.TheConstants.{MAX_DEPTH}
 use Rattle.dt_tree.specs.Sound.{is_among}
 use Rattle.dt_meaning.specs.Paths.{Path, same_path, is_within}
 use Rattle.dt_meaning.specs.Names.{is_fragment}
 use Rattle.dt_meaning.specs.Syntax.{Piece, Child, Body}
 use Rattle.dt_meaning.specs.Edits.{with_node}
-use Rattle.dt_meaning.specs.Statements.{Fault, DuplicateLabel, DuplicateInBody, ReservedName, TooDeep, progress, begun, then_do, unless, child_fault, is_made, give_labels, after_entry, after_body}
+use Rattle.dt_meaning.specs.Statements.{Fault, DuplicateLabel, DuplicateInBody, ReservedName, TooDeep, progress, begun, unless, child_fault, is_made, give_labels, after_entry, after_body}
 use Rattle.dt_live.specs.declared.live_tree.LiveTree.{LiveTree}
 use Rattle.dt_live.specs.Index.{is_key}
 use Rattle.dt_live.specs.Rows.{IsLiveTree, IsNode, IsKept, HasSamePropertyStamps, node_path, child_stamp, property_stamp, state_of}

@@ -1,6 +1,7 @@
 -- A fault of the first step is the fault of all.
 use Rattle.std.proofs.Common.{◌≡◌, Result, Err, refl, sym, ap, ◌∙◌, subst}
-use Rattle.dt_meaning.specs.Statements.{Fault, then_do}
+use Rattle.dt_tree.specs.Steps.{then_do}
+use Rattle.dt_meaning.specs.Statements.{Fault}
 use Rattle.dt_edit.specs.declared.error.EditError.{EditError}
 use Rattle.dt_edit.specs.declared.error.EditError.TheVariants.{NoMemory, UnknownLabel, DuplicateLabel, UnknownPath, DuplicateInBody, ReservedName, TooDeep}
 use Rattle.dt_meaning.specs.Statements as meaning

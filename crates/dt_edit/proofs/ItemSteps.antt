@@ -1,9 +1,10 @@
 -- One item of a source, done to a live tree.
 use Rattle.std.proofs.Common.{◌≡◌, ℕ, suc, Bool, false, List, [], ◌∷◌, ◌++◌, Result, Ok, Err, if◌then◌else◌, refl, sym, ap, ◌∙◌}
+use Rattle.dt_tree.specs.Steps.{then_do}
 use Rattle.dt_meaning.specs.Paths.{Path, same_path}
 use Rattle.dt_meaning.specs.Syntax.{Piece, Target, OfLabel, OfPath, Body, Edit, Extends, Deletes}
 use Rattle.dt_meaning.specs.Edits.{State, counted, without_node}
-use Rattle.dt_meaning.specs.Statements.{Fault, DuplicateLabel, ReservedName, then_do, found, give_labels, begun, after_body, after_item, after_items}
+use Rattle.dt_meaning.specs.Statements.{Fault, DuplicateLabel, ReservedName, found, give_labels, begun, after_body, after_item, after_items}
 use Rattle.dt_live.specs.declared.live_tree.LiveTree.{LiveTree}
 use Rattle.dt_live.specs.Rows.{IsLiveTree, path_of, row_at, node_path, state_of}
 use Rattle.dt_live.proofs.Climbs.{path-step}

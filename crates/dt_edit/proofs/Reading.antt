@@ -1,10 +1,11 @@
 -- Reading the values of a state commutes with each edit.
 use Rattle.std.proofs.Common.{◌≡◌, ℕ, Bool, true, false, not, List, [], ◌∷◌, map, Option, Some, None, Result, Ok, Err, if◌then◌else◌, refl, ap, ◌∙◌}
 use Rattle.std.specs.List.{filter}
+use Rattle.dt_tree.specs.Steps.{then_do}
 use Rattle.dt_meaning.specs.Paths.{Path, same_path, is_within, is_listed}
 use Rattle.dt_meaning.specs.Syntax.{Piece}
 use Rattle.dt_meaning.specs.Edits.{State, Definition, definition, put, is_of, with_node, without_node, with_property, without_property, with_label, label_path, counted}
-use Rattle.dt_meaning.specs.Statements.{Fault, DuplicateLabel, then_do, give_label, give_labels}
+use Rattle.dt_meaning.specs.Statements.{Fault, DuplicateLabel, give_label, give_labels}
 use Rattle.dt_edit.specs.Said.{Parts, pieces, read_definition, read}
 
 module _ {A B : Type 0} (h : A → B) (t : B → Bool) where

@@ -2,10 +2,11 @@
 use Rattle.std.proofs.Common.{◌≡◌, inl, inr, ℕ, ◌+◌, ◌≤◌, Bool, true, false, not, ◌&&◌, ◌||◌, ◌==◌, List, [], ◌∷◌, ◌++◌, Ok, Err, if◌then◌else◌, refl, sym, ap, ◌∙◌, subst, true≢false, arith}
 use Rattle.std.specs.Str.{bytes_eq}
 use Rattle.std.proofs.lemmas.Bool.{and_parts, eqb-true, eq-eqb}
+use Rattle.dt_tree.specs.Steps.{then_do}
 use Rattle.dt_meaning.specs.Paths.{Path, same_path, is_within, is_below}
 use Rattle.dt_meaning.specs.Syntax.{Piece, Entry, Defines, Undefines, Removes, Body, Then}
 use Rattle.dt_meaning.specs.Edits.{State, counted, without_node, with_property, without_property}
-use Rattle.dt_meaning.specs.Statements.{DuplicateInBody, Progress, progress, begun, then_do, after_entry, after_body}
+use Rattle.dt_meaning.specs.Statements.{DuplicateInBody, Progress, progress, begun, after_entry, after_body}
 use Rattle.dt_live.specs.declared.live_tree.LiveTree.{LiveTree}
 use Rattle.dt_live.specs.Index.{is_key}
 use Rattle.dt_live.specs.Rows.{IsLiveTree, IsStamped, IsNode, IsKept, HasSameChildStamps, HasSamePropertyStamps, node_path, child_stamp, property_stamp, state_of}

@@ -1,8 +1,9 @@
 -- The steps of applying an overlay, one after the other.
 use Rattle.std.proofs.Common.{◌≡◌, ℕ, true, false, List, [], ◌∷◌, Result, Ok, Err, refl, ap, sym, ◌∙◌, true≢false}
 use Rattle.std.specs.List.{filter}
+use Rattle.dt_tree.specs.Steps.{then_do, fold}
 use Rattle.dt_meaning.specs.Resolved.{Resolved}
-use Rattle.dt_overlay_meaning.specs.Steps.{Fault, NotOverlay, then_do, fold}
+use Rattle.dt_overlay_meaning.specs.Fault.{Fault, NotOverlay}
 use Rattle.dt_overlay_meaning.specs.Shifted.{Shifting, Value, fragments, is_fixups, is_local_fixup, raise_sites, shift, shifted_overlay, some_of, with_fixups, with_phandles}
 use Rattle.dt_fixup.specs.declared.error.OverlayError.{OverlayError}
 use Rattle.dt_fixup.specs.declared.patched_overlay.PatchedOverlay.{PatchedOverlay}

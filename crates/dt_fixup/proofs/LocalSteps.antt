@@ -5,6 +5,7 @@ use Rattle.std.proofs.lemmas.Nat.{div-mul-add}
 use Rattle.std.proofs.lemmas.List.{drop-drop, drop_all}
 use Rattle.std.specs.Int.{from_be_bytes, w32}
 use Rattle.std.specs.List.{filter}
+use Rattle.dt_tree.specs.Steps.{then_do, fold}
 use Rattle.dt_meaning.specs.MapOf.{value_in}
 use Rattle.dt_meaning.specs.Names.{local_fixups_name}
 use Rattle.dt_meaning.specs.Paths.{Path, is_within}
@@ -13,7 +14,7 @@ use Rattle.dt_live.specs.declared.live_tree.LiveTree.{LiveTree}
 use Rattle.dt_live.specs.Rows.{no_property, path_of, property_at, property_of}
 use Rattle.dt_live.specs.ByRow.{lent, row_property}
 use Rattle.dt_live.specs.Flattened.{IsWhole, Lent, lists}
-use Rattle.dt_overlay_meaning.specs.Steps.{Fault, BadFixup, fold, then_do}
+use Rattle.dt_overlay_meaning.specs.Fault.{Fault, BadFixup}
 use Rattle.dt_overlay_meaning.specs.Shifted.{Site, Shifting, Value, cells, is_local_fixup, number_at, site, raise_at, raise_sites, raised, take_site, write_at, written}
 use Rattle.dt_fixup.specs.declared.error.OverlayError.{OverlayError}
 use Rattle.dt_fixup.specs.declared.error.OverlayError.TheVariants.{NoMemory, NotOverlay, NoTarget, UnknownSymbol, BadFixup as Bad, PhandleOverflow as Overflow, PhandleClash, TooDeep}

@@ -6,7 +6,7 @@ use Rattle.std.specs.Str.{bytes_eq}
 use Rattle.std.proofs.lemmas.Bool.{le-leb, lt-leb}
 use Rattle.dt_tree.specs.Phandle.{is_reserved}
 use Rattle.dt_meaning.specs.MapOf.{value_in}
-use Rattle.dt_overlay_meaning.specs.Steps.{BadFixup}
+use Rattle.dt_overlay_meaning.specs.Fault.{BadFixup}
 use Rattle.dt_overlay_meaning.specs.Shifted.{Site, Shifting, Value, are_apart, fits, is_site, take_site}
 use Rattle.dt_fixup.specs.Private.Walk.{is_open}
 

@@ -5,6 +5,7 @@ use Rattle.std.proofs.lemmas.Bool.{eqb-true, eq-eqb}
 use Rattle.std.proofs.lemmas.Bool.Decides.{nat_tests}
 use Rattle.std.proofs.lemmas.List.{map-append}
 use Rattle.std.proofs.lemmas.Nat.{from_be_bytes-to_be_bytes_4}
+use Rattle.dt_tree.specs.Steps.{then_do, each}
 use Rattle.dt_tree.specs.Phandle.{phandle_from, phandle_in}
 use Rattle.dt_meaning.specs.Paths.{Path}
 use Rattle.dt_meaning.specs.Phandles.{PathPhandle, path_phandle, has_phandle, is_phandle}
@@ -12,8 +13,8 @@ use Rattle.dt_live.specs.declared.live_tree.PropertyRow.{PropertyRow}
 use Rattle.dt_live.specs.Rows.{property_at}
 use Rattle.dt_live.specs.Flattened.{Lent}
 use Rattle.dt_live.proofs.WholeRows.{entry}
-use Rattle.dt_overlay_meaning.specs.Steps.{Fault, then_do, each}
-use Rattle.dt_overlay_meaning.specs.Steps as meaning
+use Rattle.dt_overlay_meaning.specs.Fault.{Fault}
+use Rattle.dt_overlay_meaning.specs.Fault as meaning
 use Rattle.dt_overlay_meaning.specs.Shifted.{Value, differ, path_phandles, phandle_of, phandles, raised_number, raised_phandle, with_phandles, with_value}
 use Rattle.dt_fixup.specs.declared.error.OverlayError.{OverlayError}
 use Rattle.dt_fixup.specs.declared.error.OverlayError.TheVariants.{NoMemory, NotOverlay, NoTarget, UnknownSymbol, BadFixup, PhandleOverflow, PhandleClash as Clash, TooDeep}

@@ -3,10 +3,11 @@ use Rattle.std.proofs.Common.{◌≡◌, ℕ, ◌+◌, ◌<◌, ◌≤◌, Bool,
 use Rattle.std.specs.Prelude.{Result}
 use Rattle.std.specs.List.{filter, flat_map}
 use Rattle.std.proofs.lemmas.List.{append-nil, at_drop_more, at_drop_all}
+use Rattle.dt_tree.specs.Steps.{then_do, each}
 use Rattle.dt_live.specs.declared.live_tree.LiveTree.{LiveTree}
 use Rattle.dt_live.specs.ByRow.{row_property}
 use Rattle.dt_live.specs.Flattened.{Lent}
-use Rattle.dt_overlay_meaning.specs.Steps.{Fault, BadFixup, each, then_do}
+use Rattle.dt_overlay_meaning.specs.Fault.{Fault, BadFixup}
 use Rattle.dt_overlay_meaning.specs.Shifted.{Fixup, Site, Value, fixup_in, fixups_in, is_fixups, site_of}
 use Rattle.dt_overlay_meaning.specs.Texts.{parts}
 use Rattle.dt_fixup.specs.declared.error.OverlayError.{OverlayError}

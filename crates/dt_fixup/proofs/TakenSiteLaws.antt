@@ -3,12 +3,13 @@ use Rattle.std.proofs.Common.{◌≡◌, ℕ, zero, suc, ◌+◌, ◌<◌, ◌�
 use Rattle.std.specs.Prelude.{All, Result}
 use Rattle.std.proofs.lemmas.List.{drop_all, map-append, take_more, take_all}
 use Rattle.std.proofs.lemmas.List.Elements.{All-append}
+use Rattle.dt_tree.specs.Steps.{then_do, fold}
 use Rattle.dt_meaning.specs.Paths.{Path}
 use Rattle.dt_meaning.specs.MapOf.{value_in}
 use Rattle.dt_live.specs.declared.live_tree.LiveTree.{LiveTree}
 use Rattle.dt_live.specs.Rows.{path_of}
 use Rattle.dt_live.specs.Flattened.{Lent}
-use Rattle.dt_overlay_meaning.specs.Steps.{Fault, BadFixup, fold, then_do}
+use Rattle.dt_overlay_meaning.specs.Fault.{Fault, BadFixup}
 use Rattle.dt_overlay_meaning.specs.Shifted.{Fixup, Shifting, site, take_site}
 use Rattle.dt_fixup.specs.declared.taken_sites.TakenSite.{TakenSite}
 use Rattle.dt_fixup.specs.declared.reading.NamedSite.{NamedSite}

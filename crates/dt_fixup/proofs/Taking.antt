@@ -2,7 +2,7 @@
 use Rattle.std.proofs.Common.{◌≡◌, ℕ, ◌<◌, ◌==◌, Bool, true, false, not, ◌&&◌, ◌||◌, List, ◌∷◌, length, Some, Ok, Err, refl, sym, ap, ap₂, ◌∙◌, subst, true≢false}
 use Rattle.std.specs.List.{list_all}
 use Rattle.dt_live.specs.Rows.{path_of, property_of, node_path}
-use Rattle.dt_overlay_meaning.specs.Steps.{BadFixup}
+use Rattle.dt_overlay_meaning.specs.Fault.{BadFixup}
 use Rattle.dt_overlay_meaning.specs.Shifted.{Site, site, Shifting, are_apart, take_site}
 use Rattle.dt_fixup.specs.declared.patched_overlay.PatchedOverlay.{PatchedOverlay}
 use Rattle.dt_fixup.specs.PatchedOverlay.{IsPatched, change_at, patched_lists, value_at}

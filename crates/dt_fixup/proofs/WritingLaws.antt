@@ -4,10 +4,11 @@ use Rattle.std.specs.Prelude.{Result}
 use Rattle.std.specs.Int.{to_be_bytes, w32}
 use Rattle.std.specs.List.{flat_map}
 use Rattle.std.proofs.lemmas.List.{drop_all}
+use Rattle.dt_tree.specs.Steps.{then_do, each, fold}
 use Rattle.dt_meaning.specs.Resolved.{Resolved}
 use Rattle.dt_live.specs.declared.live_tree.LiveTree.{LiveTree}
 use Rattle.dt_live.specs.Flattened.{Lent}
-use Rattle.dt_overlay_meaning.specs.Steps.{Fault, UnknownSymbol, each, fold, then_do}
+use Rattle.dt_overlay_meaning.specs.Fault.{Fault, UnknownSymbol}
 use Rattle.dt_overlay_meaning.specs.Shifted.{Fixup, Shifting, Value, fixups_in, resolve, symbol_phandle, with_fixups, write_at}
 use Rattle.dt_fixup.specs.declared.error.OverlayError.{OverlayError}
 use Rattle.dt_fixup.specs.OverlayFault.{IsFault}

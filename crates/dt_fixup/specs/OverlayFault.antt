@@ -1,7 +1,7 @@
 -- What each error says of the meaning; want of memory says nothing of it.
 use Rattle.std.specs.Prelude.{◌≡◌, Result, Ok, Err, MatchResult}
-use Rattle.dt_overlay_meaning.specs.Steps.{Fault}
-use Rattle.dt_overlay_meaning.specs.Steps as meaning
+use Rattle.dt_overlay_meaning.specs.Fault.{Fault}
+use Rattle.dt_overlay_meaning.specs.Fault as meaning
 use Rattle.dt_fixup.specs.declared.error.OverlayError.{OverlayError}
 use Rattle.dt_fixup.specs.declared.error.OverlayError.TheVariants.{NoMemory, NotOverlay, NoTarget, UnknownSymbol, BadFixup, PhandleOverflow, PhandleClash, TooDeep}
 

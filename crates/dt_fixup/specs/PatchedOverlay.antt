@@ -8,7 +8,7 @@ use Rattle.dt_live.specs.declared.live_tree.PropertyRow.{PropertyRow}
 use Rattle.dt_live.specs.Rows.{path_of, property_at}
 use Rattle.dt_live.specs.ByRow.{lent}
 use Rattle.dt_live.specs.Flattened.{Lent, IsWhole, lists}
-use Rattle.dt_overlay_meaning.specs.Steps.{Fault}
+use Rattle.dt_overlay_meaning.specs.Fault.{Fault}
 use Rattle.dt_overlay_meaning.specs.Shifted.{shifted_overlay}
 use Rattle.dt_fixup.specs.declared.patched_overlay.Change.{Change}
 use Rattle.dt_fixup.specs.declared.patched_overlay.PatchedOverlay.{PatchedOverlay}

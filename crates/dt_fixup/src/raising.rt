@@ -3,7 +3,7 @@ ghost use Rattle.std.specs.Prelude.{◌≡◌, ◌<◌, ◌==◌, ◌||◌, ℕ,
 ghost use Rattle.std.specs.Int.{to_be_bytes, w32};
 ghost use Rattle.dt_live.specs.ByRow.{row_property};
 ghost use Rattle.dt_live.specs.Flattened.{IsWhole, lists};
-ghost use Rattle.dt_overlay_meaning.specs.Steps.{each};
+ghost use Rattle.dt_tree.specs.Steps.{each};
 ghost use Rattle.dt_overlay_meaning.specs.Shifted as meaning;
 ghost use Rattle.dt_overlay_meaning.specs.Shifted.{differ, phandles, raised_phandle, with_phandles};
 ghost use Rattle.dt_fixup.specs.OverlayFault.{Gives};

@@ -2,7 +2,7 @@
 ghost use Rattle.std.specs.Prelude.{◌<◌, [], length};
 ghost use Rattle.dt_live.specs.Flattened.{IsWhole};
 ghost use Rattle.dt_meaning.specs.Edits.{definition};
-ghost use Rattle.dt_overlay_meaning.specs.Steps.{each};
+ghost use Rattle.dt_tree.specs.Steps.{each};
 ghost use Rattle.dt_overlay_meaning.specs.Shifted.{fixup_in, fixups_in};
 ghost use Rattle.dt_overlay_meaning.specs.Texts.{parts};
 ghost use Rattle.dt_fixup.specs.Private.Fixing.{AddsFixups, fixups_of, gathered, row_fixups};

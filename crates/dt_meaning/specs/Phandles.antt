@@ -2,11 +2,12 @@
 use Rattle.std.specs.Prelude.{ℕ, zero, suc, ◌+◌, ◌==◌, Bool, not, ◌&&◌, List, [], ◌∷◌, ◌++◌, length, map, Option, Some, None, Result, Ok, Err, if◌then◌else◌, codes}
 use Rattle.std.specs.List.{filter, list_any, flat_map}
 use Rattle.std.specs.Str.{bytes_eq}
+use Rattle.dt_tree.specs.Steps.{then_do}
 use Rattle.dt_tree.specs.Phandle.{is_reserved, phandle_in}
 use Rattle.dt_meaning.specs.Paths.{Path, same_path, is_listed}
 use Rattle.dt_meaning.specs.Syntax.{Piece, Plain, PhandleOf, PathOf}
 use Rattle.dt_meaning.specs.Edits.{Definition, State}
-use Rattle.dt_meaning.specs.Statements.{Fault, BadPhandle, DuplicatePhandle, then_do}
+use Rattle.dt_meaning.specs.Statements.{Fault, BadPhandle, DuplicatePhandle}
 use Rattle.dt_meaning.specs.References.{preorder, Found, Bytes, Cell, Open, PathText}
 
 -- the phandle of a node

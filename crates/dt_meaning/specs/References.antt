@@ -2,11 +2,12 @@
 -- in plugins dt-object-internal, section 2).
 use Rattle.std.specs.Prelude.{ℕ, zero, suc, Bool, true, false, List, [], ◌∷◌, Option, Some, None, is_some, Result, Ok, Err, if◌then◌else◌}
 use Rattle.std.specs.List.{filter, flat_map}
+use Rattle.dt_tree.specs.Steps.{then_do, each}
 use Rattle.dt_tree.specs.Phandle.{is_reserved}
 use Rattle.dt_meaning.specs.Paths.{Path, same_path, name_below}
 use Rattle.dt_meaning.specs.Syntax.{Target, OfLabel, OfPath, Piece, Plain, PhandleOf, PathOf}
 use Rattle.dt_meaning.specs.Edits.{Definition, definition, State, label_path}
-use Rattle.dt_meaning.specs.Statements.{Fault, UnknownLabel, PathInPlugin, ReservedName, then_do, found}
+use Rattle.dt_meaning.specs.Statements.{Fault, UnknownLabel, PathInPlugin, ReservedName, found}
 
 -- ---- the order of the walk: a node, then its children with all below each
 abbrev pub walk : ℕ → List Path → Path → List Path
@@ -50,10 +51,6 @@ abbrev pub found_in : {V : Type 0} → Bool → State V → Piece → Result Fou
 found_in plugin s (Plain b) = Ok (Bytes b)
 found_in plugin s (PathOf t) = then_do (found t s) (λ p. Ok (PathText p))
 found_in plugin s (PhandleOf t) = cell_of plugin s t
-
-abbrev pub each : {A B : Type 0} → (A → Result B Fault) → List A → Result (List B) Fault
-each f [] = Ok []
-each f (a ∷ as') = then_do (f a) (λ b. then_do (each f as') (λ bs. Ok (b ∷ bs)))
 
 abbrev pub found_value : {V : Type 0} → Bool → State V → Definition (List Piece) → Result (Definition (List Found)) Fault
 found_value plugin s e = then_do (each (found_in plugin s) e.value) (λ v. Ok (definition e.path e.name v))

@@ -3,12 +3,13 @@
 use Rattle.std.specs.Prelude.{ℕ, Bool, true, false, ◌&&◌, ◌||◌, List, [], ◌∷◌, ◌++◌, length, map, Result, Ok, Err, if◌then◌else◌, nat_lt, codes}
 use Rattle.std.specs.List.{list_any, flat_map}
 use Rattle.std.specs.Int.{to_be_bytes, w32}
+use Rattle.dt_tree.specs.Steps.{then_do}
 use Rattle.dt_tree.specs.Path.{path_text}
 use Rattle.dt_meaning.specs.Paths.{Path, is_listed}
 use Rattle.dt_meaning.specs.Names.{symbols_name, fixups_name, local_fixups_name}
 use Rattle.dt_meaning.specs.Syntax.{Piece, Meaning}
 use Rattle.dt_meaning.specs.Edits.{Definition, definition, Label, State}
-use Rattle.dt_meaning.specs.Statements.{Fault, ReservedName, TooDeep, then_do, edited}
+use Rattle.dt_meaning.specs.Statements.{Fault, ReservedName, TooDeep, edited}
 use Rattle.dt_meaning.specs.References.{Found, in_order, references}
 use Rattle.dt_meaning.specs.Phandles.{PathPhandle, given_of, new_ones, wanted, assigned}
 use Rattle.dt_meaning.specs.Fixups.{value_bytes, sites, fixups, local_fixups}

@@ -1,6 +1,7 @@
 -- Meaning of the edits: what the items and statements of a source do to the tree, in order, or the first fault
 -- (Devicetree Specification v0.4, sections 6.3 and 6.4; fragments by dt-object-internal, section 3).
-use Rattle.std.specs.Prelude.{ℕ, ◌+◌, Bool, true, false, not, ◌&&◌, List, [], ◌∷◌, ◌++◌, length, Option, Some, None, is_some, Result, Ok, Err, if◌then◌else◌, nat_lt, codes}
+use Rattle.std.specs.Prelude.{ℕ, ◌+◌, Bool, true, false, not, ◌&&◌, List, [], ◌∷◌, ◌++◌, length, Option, Some, None, is_some, Result, Ok, Err, if◌then◌else◌, nat_lt, codes, ok_or}
+use Rattle.dt_tree.specs.Steps.{then_do}
 use Rattle.dt_tree.specs.Path.{path_names, path_text}
 use Rattle.dt_tree.specs.Sound.{is_among}
 use Rattle.dt_meaning.specs.Paths.{Path, same_path, is_listed}
@@ -18,15 +19,6 @@ pub data Fault : Type 0 where
   PathInPlugin : Fault
   ReservedName : Fault
   TooDeep : Fault
-
--- ---- one step after the other, up to the first fault
-abbrev pub then_do : {A B : Type 0} → Result A Fault → (A → Result B Fault) → Result B Fault
-then_do (Err f) g = Err f
-then_do (Ok a) g = g a
-
-abbrev pub ok_or : {A : Type 0} → Fault → Option A → Result A Fault
-ok_or f None = Err f
-ok_or f (Some a) = Ok a
 
 -- ---- labels
 abbrev pub give_label : {V : Type 0} → List ℕ → Path → Option Path → State V → Result (State V) Fault
@@ -83,7 +75,7 @@ abbrev mutual
 
 -- ---- items
 abbrev pub found : {V : Type 0} → Target → State V → Result Path Fault
-found (OfLabel l) s = ok_or UnknownLabel (label_path l s.labels)
+found (OfLabel l) s = ok_or (label_path l s.labels) UnknownLabel
 found (OfPath t) s = if has_node (path_names t) s then Ok (path_names t) else Err UnknownPath
 
 -- a fragment says what it extends

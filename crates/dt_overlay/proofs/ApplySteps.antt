@@ -2,6 +2,7 @@
 use Rattle.std.proofs.Common.{◌≡◌, ℕ, ◌<◌, ◌≤◌, ◌-◌, ◌^◌, List, [], ◌∷◌, Option, Some, None, Result, Ok, Err, sym, ap, ◌∙◌, subst}
 use Rattle.std.specs.Prelude.{MatchOption, MatchResult}
 use Rattle.std.specs.List.{filter}
+use Rattle.dt_tree.specs.Steps.{then_do, fold}
 use Rattle.dt_tree.specs.PathMap.{path_map, tree_map}
 use Rattle.dt_tree.specs.TreeData.{TreeData, IsTree, is_reserve, tree_data}
 use Rattle.dt_meaning.specs.MapOf.{map_of}
@@ -21,7 +22,7 @@ use Rattle.dt_fixup.specs.declared.error.OverlayError.{OverlayError}
 use Rattle.dt_fixup.specs.OverlayFault.{IsFault}
 use Rattle.dt_overlay_meaning.specs.Applied.{overlay_result, with_fragment, with_symbols}
 use Rattle.dt_overlay_meaning.specs.Shifted.{Value, fragments, shifted_overlay}
-use Rattle.dt_overlay_meaning.specs.Steps.{Fault, fold, then_do}
+use Rattle.dt_overlay_meaning.specs.Fault.{Fault}
 use Rattle.dt_overlay.specs.Private.Symbols.{applied_over, symbols_of, with_all}
 use Rattle.dt_overlay.proofs.Folded.{fault-then}
 use Rattle.dt_overlay.proofs.Shallows.{IsShallow, fold-shallow, symbols-shallow}

@@ -2,6 +2,7 @@
 use Rattle.std.proofs.Common.{◌≡◌, ℕ, zero, suc, ◌+◌, ◌≤◌, ◌<◌, true, List, [], ◌∷◌, ◌++◌, append-nil, length, get_or, take, drop, Option, Some, None, IfSome, Ok, Err, refl, sym, ap, ap₂, ◌∙◌, arith}
 use Rattle.std.specs.Prelude.{Result, option_map}
 use Rattle.std.proofs.Math.Seq.{take_all}
+use Rattle.dt_tree.specs.Steps.{then_do, fold}
 use Rattle.dt_tree.specs.Name.{are_names}
 use Rattle.dt_meaning.specs.Paths.{Path}
 use Rattle.dt_meaning.specs.Resolved.{Resolved}
@@ -15,7 +16,7 @@ use Rattle.dt_fixup.specs.PatchedOverlay.{patched_lists}
 use Rattle.dt_fixup.specs.OverlayFault.{IsFault}
 use Rattle.dt_fixup.specs.declared.error.OverlayError.{OverlayError}
 use Rattle.dt_fixup.specs.declared.error.OverlayError.TheVariants.{NoMemory, NotOverlay, NoTarget, UnknownSymbol, BadFixup, PhandleOverflow, PhandleClash, TooDeep}
-use Rattle.dt_overlay_meaning.specs.Steps.{Fault, fold, then_do}
+use Rattle.dt_overlay_meaning.specs.Fault.{Fault}
 use Rattle.dt_overlay_meaning.specs.Applied.{with_fragment}
 use Rattle.dt_overlay.specs.declared.fragments.Fragment.{Fragment}
 use Rattle.dt_overlay.specs.Private.Fragments.{AreFragments, IsFragment, IsTarget}

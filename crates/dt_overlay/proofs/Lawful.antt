@@ -17,7 +17,7 @@ use Rattle.dt_live.specs.Flattened.{IsWhole, Lent, lists}
 use Rattle.dt_live.proofs.WholeTrees.{whole-nodes-named, whole-properties-named}
 use Rattle.dt_fixup.specs.declared.patched_overlay.PatchedOverlay.{PatchedOverlay}
 use Rattle.dt_fixup.specs.PatchedOverlay.{IsPatched, patched_lists, patched_from, value_at}
-use Rattle.dt_overlay_meaning.specs.Steps.{Fault, PhandleClash, TooDeep}
+use Rattle.dt_overlay_meaning.specs.Fault.{Fault, PhandleClash, TooDeep}
 use Rattle.dt_overlay_meaning.specs.Applied.{clashes, merged, moved, moved_value, with_node, with_nodes, with_values}
 use Rattle.dt_overlay.specs.Private.Merging.{merged_at, part_below}
 

@@ -1,10 +1,12 @@
 -- The nodes that a whole live tree shows are the nodes of a tree; and an overlay's nodes are no deeper than they may be.
 use Rattle.std.proofs.Common.{◌≡◌, ℕ, Bool, true, false, ◌||◌, List, [], ◌∷◌, ◌++◌, length, Option, Some, None, Result, Ok, Err, if◌then◌else◌, refl, sym, ap, ap₂, ◌∙◌}
+use Rattle.std.specs.Prelude.{ok_or}
 use Rattle.std.specs.List.{list_any}
+use Rattle.dt_tree.specs.Steps.{then_do, fold}
 use Rattle.dt_meaning.specs.Paths.{Path, is_listed}
 use Rattle.dt_meaning.specs.Names.{symbols_name}
 use Rattle.dt_meaning.specs.Resolved.{Resolved, is_too_deep}
-use Rattle.dt_overlay_meaning.specs.Steps.{Fault, PhandleClash, TooDeep, NoTarget, fold, ok_or, then_do}
+use Rattle.dt_overlay_meaning.specs.Fault.{Fault, PhandleClash, TooDeep, NoTarget}
 use Rattle.dt_overlay_meaning.specs.Shifted.{Value}
 use Rattle.dt_overlay_meaning.specs.Texts.{ended_path}
 use Rattle.dt_overlay_meaning.specs.Applied.{clashes, merged, part_of, symbol_path, target, with_fragment, with_node, with_nodes, with_symbol_at, with_symbols, with_values}
@@ -55,7 +57,7 @@ merged-shallow part t r is s = by_tests (list_any (clashes t.properties) part.pr
 
 fragment-shallow : (base over : Resolved) (f : List ℕ) (t r : Resolved) → with_fragment base over f t ≡ Ok r → IsShallow t → IsShallow r
 fragment-shallow base over f t r is s = by_target (target base over f) is where
-  by_target : (o : Option Path) → then_do (ok_or NoTarget o) (λ p. merged (part_of over f p) t) ≡ Ok r → IsShallow r
+  by_target : (o : Option Path) → then_do (ok_or o NoTarget) (λ p. merged (part_of over f p) t) ≡ Ok r → IsShallow r
   by_target None e = absurd (cc)
   by_target (Some p) e = merged-shallow (part_of over f p) t r e s
 

@@ -24,7 +24,7 @@ use Rattle.dt_fixup.specs.declared.patched_overlay.PatchedOverlay.{PatchedOverla
 use Rattle.dt_fixup.specs.PatchedOverlay.{IsPatched, patched_lists, patched_from, value_at}
 use Rattle.dt_overlay_meaning.specs.Applied.{symbol_path, with_fragment, with_node}
 use Rattle.dt_overlay_meaning.specs.Shifted.{Value, fragments}
-use Rattle.dt_overlay_meaning.specs.Steps.{fold}
+use Rattle.dt_tree.specs.Steps.{fold}
 use Rattle.dt_overlay_meaning.specs.Texts.{ended_path}
 use Rattle.dt_overlay.specs.Private.Applying.{HasSymbols}
 use Rattle.dt_overlay.specs.Private.Symbols.{symbol_at, symbols_of, with_all, with_symbol}

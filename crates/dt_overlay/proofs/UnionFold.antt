@@ -1,12 +1,13 @@
 -- Fragments in turn: their union with the base, or the first that is refused.
 use Rattle.std.proofs.Common.{◌≡◌, ◌≤◌, ℕ, Bool, true, false, List, [], ◌∷◌, ◌++◌, length, Option, Some, None, Ok, Err, if◌then◌else◌, refl, sym, ap, ◌∙◌, subst, true≢false}
-use Rattle.std.specs.Prelude.{Result}
+use Rattle.std.specs.Prelude.{Result, ok_or}
 use Rattle.std.specs.List.{list_any}
+use Rattle.dt_tree.specs.Steps.{then_do, fold}
 use Rattle.dt_tree.specs.Merged.{placed, union}
 use Rattle.dt_meaning.specs.Paths.{Path}
 use Rattle.dt_meaning.specs.Resolved.{Resolved, is_too_deep}
 use Rattle.dt_meaning.specs.MapOf.{is_there, map_of}
-use Rattle.dt_overlay_meaning.specs.Steps.{Fault, NoTarget, PhandleClash, TooDeep, ok_or, then_do, fold}
+use Rattle.dt_overlay_meaning.specs.Fault.{Fault, NoTarget, PhandleClash, TooDeep}
 use Rattle.dt_overlay_meaning.specs.Applied.{clashes, merged, part_of, target, with_fragment}
 use Rattle.dt_overlay.specs.Union.{Map, AreStacked, Fits, IsPlaced, IsWhy, overlay_map, united}
 use Rattle.dt_overlay.proofs.UnionMerged.{IsTidy, IsDistinct, clash-hidden, clash-patched_lists, deep-hidden, deep-patched_lists, map-result, result, there-result, tidy-result}
@@ -95,7 +96,7 @@ module _ (base o : Resolved) (tidy_o : IsTidy o) (distinct : IsDistinct o) (know
           goes-on over is-placed fits (result t o f p tidy tidy_o distinct there) (map-result t o f p tidy tidy_o distinct there) r
           (later (result t o f p tidy tidy_o distinct there) (tidy-result t o f p tidy tidy_o distinct there) (λ q b. there-result t o f p tidy tidy_o distinct there q (grown q b)) r e)
 
-    by_target : (p : Option Path) → target base o f ≡ p → (r : Result Resolved Fault) → then_do (then_do (ok_or NoTarget p) (λ x. merged (part_of o f x) t)) (fold (with_fragment base o) fs) ≡ r → Outcome base o (f ∷ fs) t r
+    by_target : (p : Option Path) → target base o f ≡ p → (r : Result Resolved Fault) → then_do (then_do (ok_or p NoTarget) (λ x. merged (part_of o f x) t)) (fold (with_fragment base o) fs) ≡ r → Outcome base o (f ∷ fs) t r
     by_target None at r e = refused-now NoTarget at r e
     by_target (Some p) at r e = by_tests p at (list_any (clashes t.properties) (part_of o f p).properties) (list_any is_too_deep (part_of o f p).nodes) refl refl r e
 

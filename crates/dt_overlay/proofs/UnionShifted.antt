@@ -1,13 +1,14 @@
 -- A shifted overlay has the nodes and the properties' names of the overlay: values alone differ.
 use Rattle.std.proofs.Common.{◌≡◌, ℕ, Bool, true, false, List, [], ◌∷◌, map, drop, Option, Some, None, Ok, Err, if◌then◌else◌, refl, sym, ap, ap₂, ◌∙◌, subst}
-use Rattle.std.specs.Prelude.{Result}
+use Rattle.std.specs.Prelude.{Result, ok_or}
 use Rattle.std.specs.Int.{to_be_bytes, w32}
 use Rattle.std.specs.List.{filter, filter_map, flat_map}
+use Rattle.dt_tree.specs.Steps.{then_do, each, fold}
 use Rattle.dt_tree.specs.Sound.{are_distinct}
 use Rattle.dt_meaning.specs.Paths.{Path, same_path, is_listed, name_below}
 use Rattle.dt_meaning.specs.Edits.{definition, is_of}
 use Rattle.dt_meaning.specs.Resolved.{Resolved}
-use Rattle.dt_overlay_meaning.specs.Steps.{Fault, BadFixup, PhandleClash, UnknownSymbol, then_do, ok_or, each, fold}
+use Rattle.dt_overlay_meaning.specs.Fault.{Fault, BadFixup, PhandleClash, UnknownSymbol}
 use Rattle.dt_overlay_meaning.specs.Shifted.{Value, Site, Shifting, Fixup, cells, differ, fixups_in, fragments, is_fixups, is_local_fixup, is_site, number_at, phandle_of, phandles, site, raise_at, raise_sites, raised, raised_number, raised_phandle, resolve, shift, shifted_overlay, some_of, symbol_phandle, take_site, with_fixups, with_phandles, with_value, write_at, written}
 use Rattle.dt_overlay.proofs.UnionPaths.{named}
 use Rattle.dt_overlay.proofs.UnionMerged.{IsTidy, IsDistinct}
@@ -72,12 +73,12 @@ module _ (all : List Value) where
 
   sites-keep : (s : ℕ) (e : Value) (x y : Shifting) → raise_sites s e x ≡ ok y → Keeps x → Keeps y
   sites-keep s e x y is h =
-      let d = did (ok_or BadFixup (cells e.value)) (λ os. fold (λ o. raise_at s (site (drop 1 e.path) e.name o)) os x) y is in
+      let d = did (ok_or (cells e.value) BadFixup) (λ os. fold (λ o. raise_at s (site (drop 1 e.path) e.name o)) os x) y is in
       fold-keeps Keeps (λ o. raise_at s (site (drop 1 e.path) e.name o)) (λ o u v. raise-keeps s (site (drop 1 e.path) e.name o) u v) d.0 x y d.2 h
 
   resolve-keeps : (base : Resolved) (f : Fixup) (es fs : List Value) → resolve base f es ≡ ok fs → map bare es ≡ all → map bare fs ≡ all
   resolve-keeps base f es fs e h =
-      let d = did (ok_or UnknownSymbol (symbol_phandle base f.symbol)) (λ n. ok (write_at f.at (to_be_bytes w32 n) es)) fs e in
+      let d = did (ok_or (symbol_phandle base f.symbol) UnknownSymbol) (λ n. ok (write_at f.at (to_be_bytes w32 n) es)) fs e in
       ap (map bare) (sym (ok-same (write_at f.at (to_be_bytes w32 d.0) es) fs d.2)) ∙ write-bare f.at (to_be_bytes w32 d.0) es ∙ h
 
   fixups-keep : (base : Resolved) (es : List Value) (x : Shifting) (fs : List Value) → with_fixups base es x ≡ ok fs → Keeps x → map bare fs ≡ all

@@ -4,6 +4,7 @@ use Rattle.std.specs.Prelude.{Result, ◌==◌, codes}
 use Rattle.std.specs.Int.{from_be_bytes, w32}
 use Rattle.std.specs.List.{filter_map, cons_option}
 use Rattle.std.specs.Str.{bytes_eq}
+use Rattle.dt_tree.specs.Steps.{then_do, fold}
 use Rattle.dt_tree.specs.declared.property.Property.{Property}
 use Rattle.dt_tree.specs.NodeData.{Siblings, none, more, NodeData}
 use Rattle.dt_tree.specs.PathMap.{IsPathMap, TreeMap, path_map}
@@ -20,7 +21,7 @@ use Rattle.dt_tree_builder.proofs.PathFacts.{child-is, not-deep, or-false, or-ri
 use Rattle.dt_tree_builder.proofs.Standing.{listed-both}
 use Rattle.dt_tree_builder.proofs.TreeLists.{map-lists}
 use Rattle.dt_tree_builder.proofs.TreeNodes.{tree-nodes}
-use Rattle.dt_overlay_meaning.specs.Steps.{Fault, fold, then_do}
+use Rattle.dt_overlay_meaning.specs.Fault.{Fault}
 use Rattle.dt_overlay_meaning.specs.Shifted.{Value, fragments, path_phandles, phandle_of, phandles, shifted_overlay}
 use Rattle.dt_overlay_meaning.specs.Applied.{first_with, overlay_result, standing, target, target_by, with_fragment, with_symbols}
 use Rattle.dt_overlay_meaning.specs.Texts.{ended_path}

@@ -9,7 +9,7 @@ use Rattle.dt_meaning.specs.MapOf.{map_of}
 use Rattle.dt_meaning.specs.Resolved.{Resolved}
 use Rattle.dt_tree_builder.specs.Lists.{lists_of}
 use Rattle.dt_tree_builder.specs.Sizes.{size_in, size_below}
-use Rattle.dt_overlay_meaning.specs.Steps.{Fault}
+use Rattle.dt_overlay_meaning.specs.Fault.{Fault}
 use Rattle.dt_overlay_meaning.specs.Applied.{overlay_result}
 use Rattle.dt_fixup.specs.declared.error.OverlayError.{OverlayError}
 use Rattle.dt_fixup.specs.OverlayFault.{IsFault}

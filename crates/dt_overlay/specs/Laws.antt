@@ -7,7 +7,7 @@ use Rattle.dt_tree.specs.TreeData.{TreeData, IsTree}
 use Rattle.dt_meaning.specs.MapOf.{map_of}
 use Rattle.dt_meaning.specs.Resolved.{Resolved}
 use Rattle.dt_tree_builder.specs.Lists.{lists_of}
-use Rattle.dt_overlay_meaning.specs.Steps.{Fault}
+use Rattle.dt_overlay_meaning.specs.Fault.{Fault}
 use Rattle.dt_overlay_meaning.specs.Shifted.{shifted_overlay}
 use Rattle.dt_overlay_meaning.specs.Applied.{overlay_result}
 use Rattle.dt_overlay.specs.Applied.{IsApplied}

@@ -14,7 +14,7 @@ use Rattle.dt_meaning.specs.Paths.{Path, same_path}
 use Rattle.dt_meaning.specs.Resolved.{Resolved}
 use Rattle.dt_tree_builder.specs.Lists.{lists_of}
 use Rattle.dt_overlay_meaning.specs.Applied.{symbol_path, target}
-use Rattle.dt_overlay_meaning.specs.Steps.{Fault, NoTarget, PhandleClash, TooDeep}
+use Rattle.dt_overlay_meaning.specs.Fault.{Fault, NoTarget, PhandleClash, TooDeep}
 use Rattle.dt_overlay_meaning.specs.Shifted.{Value, fragments, shifted_overlay}
 use Rattle.dt_overlay_meaning.specs.Texts.{ended_path}
 

@@ -1,9 +1,10 @@
 -- Overlay result: each fragment's nodes and properties under its target, later over earlier, all over the base's; and the overlay's
 -- symbols (dt-object-internal, section 3). Names of the base keep their order, new ones follow in order of fragments.
-use Rattle.std.specs.Prelude.{ℕ, ◌==◌, Bool, ◌&&◌, List, [], ◌∷◌, ◌++◌, length, map, drop, Option, Some, None, is_some, Result, Ok, Err, if◌then◌else◌, nat_lt, codes, option_map}
+use Rattle.std.specs.Prelude.{ℕ, ◌==◌, Bool, ◌&&◌, List, [], ◌∷◌, ◌++◌, length, map, drop, Option, Some, None, is_some, Result, Ok, Err, if◌then◌else◌, nat_lt, codes, option_map, ok_or}
 use Rattle.std.specs.List.{filter, list_any}
 use Rattle.std.specs.Str.{bytes_eq}
 use Rattle.std.specs.Int.{from_be_bytes, w32}
+use Rattle.dt_tree.specs.Steps.{then_do, fold}
 use Rattle.dt_tree.specs.Path.{path_text}
 use Rattle.dt_meaning.specs.Paths.{Path, same_path, is_within, is_listed}
 use Rattle.dt_meaning.specs.Names.{overlay_name, symbols_name}
@@ -11,7 +12,7 @@ use Rattle.dt_meaning.specs.Edits.{definition, put}
 use Rattle.dt_meaning.specs.Phandles.{PathPhandle}
 use Rattle.dt_meaning.specs.Resolved.{Resolved, is_too_deep}
 use Rattle.dt_meaning.specs.MapOf.{is_there, value_in}
-use Rattle.dt_overlay_meaning.specs.Steps.{Fault, NoTarget, PhandleClash, TooDeep, ok_or, then_do, fold}
+use Rattle.dt_overlay_meaning.specs.Fault.{Fault, NoTarget, PhandleClash, TooDeep}
 use Rattle.dt_overlay_meaning.specs.Texts.{ended_path}
 use Rattle.dt_overlay_meaning.specs.Shifted.{Value, phandles, fragments, shifted_overlay}
 
@@ -72,7 +73,7 @@ merged part t =
     else Ok (record { nodes = with_nodes part.nodes t.nodes; properties = with_values part.properties t.properties }))
 
 abbrev pub with_fragment : Resolved → Resolved → List ℕ → Resolved → Result Resolved Fault
-with_fragment base over f t = then_do (ok_or NoTarget (target base over f)) (λ p. merged (part_of over f p) t)
+with_fragment base over f t = then_do (ok_or (target base over f) NoTarget) (λ p. merged (part_of over f p) t)
 
 -- ---- symbols
 -- a path that begins in a fragment, from its target on

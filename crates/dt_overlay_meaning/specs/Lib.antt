@@ -1,5 +1,5 @@
 pub mod Applied
+pub mod Fault
 pub mod Rows
 pub mod Shifted
-pub mod Steps
 pub mod Texts

@@ -1,9 +1,10 @@
 -- Shifted overlay: the overlay with its phandles above the base's, and with its fixups resolved (dt-object-internal, sections 2 and
 -- 3; Devicetree Specification v0.4, section 2.3.3). A tree is its lists of nodes and of properties, in the order in which it is read.
-use Rattle.std.specs.Prelude.{ℕ, suc, ◌+◌, Bool, true, false, not, ◌&&◌, ◌||◌, List, [], ◌∷◌, ◌++◌, length, take, drop, Option, Some, None, Result, Ok, Err, if◌then◌else◌, nat_lt, nat_le, codes, option_map, unwrap_or}
+use Rattle.std.specs.Prelude.{ℕ, suc, ◌+◌, Bool, true, false, not, ◌&&◌, ◌||◌, List, [], ◌∷◌, ◌++◌, length, take, drop, Option, Some, None, Result, Ok, Err, if◌then◌else◌, nat_lt, nat_le, codes, option_map, unwrap_or, ok_or}
 use Rattle.std.specs.List.{filter, list_all, flat_map}
 use Rattle.std.specs.Str.{bytes_eq}
 use Rattle.std.specs.Int.{to_be_bytes, from_be_bytes, w32}
+use Rattle.dt_tree.specs.Steps.{then_do, each, fold}
 use Rattle.dt_tree.specs.Name.{is_name}
 use Rattle.dt_tree.specs.Phandle.{is_reserved, phandle_in}
 use Rattle.dt_meaning.specs.Paths.{Path, same_path, is_within, is_listed}
@@ -12,7 +13,7 @@ use Rattle.dt_meaning.specs.Edits.{Definition, definition, is_of}
 use Rattle.dt_meaning.specs.Phandles.{PathPhandle, path_phandle, has_phandle, is_phandle}
 use Rattle.dt_meaning.specs.Resolved.{Resolved}
 use Rattle.dt_meaning.specs.MapOf.{value_in}
-use Rattle.dt_overlay_meaning.specs.Steps.{Fault, NotOverlay, UnknownSymbol, BadFixup, PhandleOverflow, PhandleClash, ok_or, then_do, each, fold}
+use Rattle.dt_overlay_meaning.specs.Fault.{Fault, NotOverlay, UnknownSymbol, BadFixup, PhandleOverflow, PhandleClash}
 use Rattle.dt_overlay_meaning.specs.Texts.{parts, path_in, unended, ended_path, offset_in}
 
 abbrev pub Value : Type 0
@@ -114,7 +115,7 @@ abbrev pub raise_at : ℕ → Site → Shifting → Result Shifting Fault
 raise_at s a x = then_do (take_site a x) (λ y. then_do (raised s (number_at a y.properties)) (λ b. Ok (record y { properties = write_at a b y.properties })))
 
 abbrev pub raise_sites : ℕ → Value → Shifting → Result Shifting Fault
-raise_sites s e x = then_do (ok_or BadFixup (cells e.value)) (λ os. fold (λ o. raise_at s (site (drop 1 e.path) e.name o)) os x)
+raise_sites s e x = then_do (ok_or (cells e.value) BadFixup) (λ os. fold (λ o. raise_at s (site (drop 1 e.path) e.name o)) os x)
 
 -- ---- fixups (dt-object-internal, section 2.2)
 pub record Fixup : Type 0 where
@@ -132,10 +133,10 @@ site_of (p ∷ n ∷ o ∷ []) = site_by (path_in p) n (offset_in o)
 site_of _ = None
 
 abbrev pub fixup_in : List ℕ → List ℕ → Result Fixup Fault
-fixup_in l text = then_do (ok_or BadFixup (site_of (parts 58 text))) (λ a. Ok (record { symbol = l; at = a }))
+fixup_in l text = then_do (ok_or (site_of (parts 58 text)) BadFixup) (λ a. Ok (record { symbol = l; at = a }))
 
 abbrev pub fixups_in : Value → Result (List Fixup) Fault
-fixups_in e = then_do (ok_or BadFixup (unended e.value)) (λ texts. each (fixup_in e.name) (parts 0 texts))
+fixups_in e = then_do (ok_or (unended e.value) BadFixup) (λ texts. each (fixup_in e.name) (parts 0 texts))
 
 abbrev pub number_of : Path → List PathPhandle → Option ℕ
 number_of p [] = None
@@ -150,7 +151,7 @@ abbrev pub symbol_phandle : Resolved → List ℕ → Option ℕ
 symbol_phandle base l = phandle_at base (ended_path (unwrap_or (value_in base.properties (symbols_name ∷ []) l) []))
 
 abbrev pub resolve : Resolved → Fixup → List Value → Result (List Value) Fault
-resolve base f es = then_do (ok_or UnknownSymbol (symbol_phandle base f.symbol)) (λ n. Ok (write_at f.at (to_be_bytes w32 n) es))
+resolve base f es = then_do (ok_or (symbol_phandle base f.symbol) UnknownSymbol) (λ n. Ok (write_at f.at (to_be_bytes w32 n) es))
 
 abbrev pub is_fixups : Value → Bool
 is_fixups e = same_path (fixups_name ∷ []) e.path

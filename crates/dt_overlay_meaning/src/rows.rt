@@ -1,6 +1,6 @@
 //! The worked rows, by computation.
 ghost use Rattle.std.specs.Prelude.{◌≡◌, ◌++◌, Ok, Err, codes};
-ghost use Rattle.dt_overlay_meaning.specs.Steps.{NotOverlay, NoTarget, UnknownSymbol, BadFixup, PhandleOverflow, PhandleClash};
+ghost use Rattle.dt_overlay_meaning.specs.Fault.{NotOverlay, NoTarget, UnknownSymbol, BadFixup, PhandleOverflow, PhandleClash};
 ghost use Rattle.dt_overlay_meaning.specs.Applied.{overlay_result};
 ghost use Rattle.dt_overlay_meaning.specs.Rows.{base, overlay, applied, with_symbols, applied_with_symbols, by_path, by_path_applied, later, later_applied, extends, extends_applied, other_order, fixed, great, greatest, cut, twice, renumbers, equals, great_sites, cell};
 

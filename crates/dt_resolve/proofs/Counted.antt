@@ -1,9 +1,10 @@
 -- What follows the edits doesn't look at how many fragments were made.
 use Rattle.std.proofs.Common.{◌≡◌, ℕ, Bool, true, false, List, [], Ok, Err, if◌then◌else◌, refl, ap}
+use Rattle.dt_tree.specs.Steps.{then_do, each}
 use Rattle.dt_meaning.specs.Syntax.{Target, OfLabel, OfPath, Piece, Plain, PhandleOf, PathOf}
 use Rattle.dt_meaning.specs.Edits.{State, counted, definition}
-use Rattle.dt_meaning.specs.Statements.{ReservedName, then_do, found}
-use Rattle.dt_meaning.specs.References.{PathText, cell_of, each, found_in, in_order, references}
+use Rattle.dt_meaning.specs.Statements.{ReservedName, found}
+use Rattle.dt_meaning.specs.References.{PathText, cell_of, found_in, in_order, references}
 use Rattle.dt_meaning.specs.Phandles.{given_of, assigned, wanted}
 use Rattle.dt_meaning.specs.Resolved.{names_taken, put_together, resolved_state, shallow}
 

@@ -1,8 +1,8 @@
 -- One thing after the other, up to the first fault.
 use Rattle.std.proofs.Common.{◌≡◌, ℕ, ◌+◌, ◌<◌, List, [], ◌∷◌, ◌++◌, length, get_or, drop, map, Result, Ok, Err, refl, sym, ap, ◌∙◌, append_assoc, append-nil}
 use Rattle.std.proofs.lemmas.List.{at_drop_more}
-use Rattle.dt_meaning.specs.Statements.{Fault, then_do}
-use Rattle.dt_meaning.specs.References.{each}
+use Rattle.dt_meaning.specs.Statements.{Fault}
+use Rattle.dt_tree.specs.Steps.{then_do, each}
 use Rattle.dt_resolve.specs.declared.error.BuildError.{BuildError}
 use Rattle.dt_resolve.specs.BuildFault.{IsFault}
 use Rattle.dt_resolve.proofs.Faults.{fault-then, fault-same}

@@ -1,6 +1,7 @@
 -- A fault of the first step is the fault of all.
 use Rattle.std.proofs.Common.{◌≡◌, Bool, true, false, Result, Ok, Err, if◌then◌else◌, ap, ◌∙◌}
-use Rattle.dt_meaning.specs.Statements.{Fault, then_do}
+use Rattle.dt_tree.specs.Steps.{then_do}
+use Rattle.dt_meaning.specs.Statements.{Fault}
 use Rattle.dt_edit.specs.declared.error.EditError.{EditError}
 use Rattle.dt_edit.specs.declared.error.EditError.TheVariants as edits
 use Rattle.dt_edit.specs.EditFault as edit

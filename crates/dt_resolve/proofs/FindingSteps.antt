@@ -1,12 +1,14 @@
 -- The targets of one reference more.
+use Rattle.std.specs.Prelude.{ok_or}
 use Rattle.std.proofs.Common.{◌≡◌, ℕ, Bool, true, false, List, [], ◌∷◌, ◌++◌, map, Option, Some, None, option_map, Ok, refl, sym, ap, ap₂, ◌∙◌, append_assoc, append-nil}
 use Rattle.std.specs.List.{flat_map}
 use Rattle.std.proofs.lemmas.Grind.{flat_map-append}
+use Rattle.dt_tree.specs.Steps.{then_do, each}
 use Rattle.dt_meaning.specs.Paths.{Path}
 use Rattle.dt_meaning.specs.Syntax.{Target, OfLabel, OfPath, Piece, PathOf}
 use Rattle.dt_meaning.specs.Edits.{Definition, definition, State, label_path}
-use Rattle.dt_meaning.specs.Statements.{UnknownLabel, then_do, ok_or, found}
-use Rattle.dt_meaning.specs.References.{Found, Bytes, Open, PathText, each, cell_at, cell_of, cell_of_label, found_in, found_value}
+use Rattle.dt_meaning.specs.Statements.{UnknownLabel, found}
+use Rattle.dt_meaning.specs.References.{Found, Bytes, Open, PathText, cell_at, cell_of, cell_of_label, found_in, found_value}
 use Rattle.dt_meaning.specs.Phandles.{cell_path}
 use Rattle.dt_live.specs.declared.live_tree.LiveTree.{LiveTree}
 use Rattle.dt_live.specs.Rows.{node_path}
@@ -22,7 +24,7 @@ use Rattle.dt_resolve.proofs.EachSteps.{IsSoFar}
 use Rattle.dt_resolve.proofs.Faults.{fault-then, edit-fault}
 
 -- ---- one reference
-label-cell : (l : List ℕ) (o : Option Path) → cell_of_label false l o ≡ then_do (ok_or UnknownLabel o) cell_at
+label-cell : (l : List ℕ) (o : Option Path) → cell_of_label false l o ≡ then_do (ok_or o UnknownLabel) cell_at
 label-cell l (Some p) = refl
 label-cell l None = refl
 

@@ -3,8 +3,9 @@ use Rattle.std.proofs.Common.{◌≡◌, ℕ, ◌==◌, ◌++◌, ◌&&◌, ◌|
 use Rattle.std.specs.List.{list_any}
 use Rattle.std.specs.Prelude.{All}
 use Rattle.std.proofs.lemmas.List.{length-map}
+use Rattle.dt_tree.specs.Steps.{then_do}
 use Rattle.dt_meaning.specs.Edits.{Definition}
-use Rattle.dt_meaning.specs.Statements.{Fault, ReservedName, then_do}
+use Rattle.dt_meaning.specs.Statements.{Fault, ReservedName}
 use Rattle.dt_meaning.specs.Phandles.{PathPhandle, has_phandle, new_ones, assigned, labelled, wanted}
 use Rattle.dt_meaning.specs.References.{Found, preorder}
 use Rattle.dt_live.specs.declared.live_tree.LiveTree.{LiveTree}

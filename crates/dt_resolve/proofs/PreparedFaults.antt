@@ -1,9 +1,10 @@
 -- A fault of the phandles or the references, where the edits have none, is a fault of the whole.
 use Rattle.std.proofs.Common.{◌≡◌, ℕ, Bool, List, [], Ok, Err, if◌then◌else◌, sym, ap, ◌∙◌}
+use Rattle.dt_tree.specs.Steps.{then_do}
 use Rattle.dt_meaning.specs.Syntax.{Meaning, Piece}
 use Rattle.dt_meaning.specs.Edits.{State, counted}
 use Rattle.dt_meaning.specs.Statements as meaning
-use Rattle.dt_meaning.specs.Statements.{ReservedName, then_do}
+use Rattle.dt_meaning.specs.Statements.{ReservedName}
 use Rattle.dt_meaning.specs.References.{in_order, references}
 use Rattle.dt_meaning.specs.Phandles.{given_of, assigned, wanted}
 use Rattle.dt_meaning.specs.Resolved.{names_taken, put_together, resolved, resolved_state, shallow}

@@ -1,8 +1,9 @@
 //! The targets of references.
 ghost use Rattle.std.specs.Prelude.{◌≡◌, ◌∷◌, [], List, map, true, Ok, IfOk, OnOk, MatchResult};
+ghost use Rattle.dt_tree.specs.Steps.{each};
 ghost use Rattle.dt_meaning.specs.Edits.{Definition};
 ghost use Rattle.dt_meaning.specs.References as meaning;
-ghost use Rattle.dt_meaning.specs.References.{Found, each, found_in, found_value};
+ghost use Rattle.dt_meaning.specs.References.{Found, found_in, found_value};
 ghost use Rattle.dt_live.specs.Rows.{IsLiveTree, IsNode, is_standing, node_path};
 ghost use Rattle.dt_edit.specs.Said.{tree_of};
 ghost use Rattle.dt_source.specs.Tree.{part_view, target_view};

@@ -3,7 +3,7 @@ ghost use Rattle.std.specs.Prelude.{◌≡◌, ◌∷◌, [], List, true, All, m
 ghost use Rattle.dt_meaning.specs.Edits.{Definition};
 ghost use Rattle.dt_meaning.specs.Resolved.{names_taken};
 ghost use Rattle.dt_meaning.specs.Statements as meaning;
-ghost use Rattle.dt_meaning.specs.Statements.{then_do};
+ghost use Rattle.dt_tree.specs.Steps.{then_do};
 ghost use Rattle.dt_meaning.specs.Phandles.{given_of, assigned, wanted};
 ghost use Rattle.dt_meaning.specs.References.{Found, in_order, preorder, references};
 ghost use Rattle.dt_live.specs.Rows.{IsLiveTree, IsNode, is_standing, node_path, state_of};

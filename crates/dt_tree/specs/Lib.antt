@@ -14,6 +14,7 @@ pub mod Phandle
 pub mod Preorder
 pub mod Private
 pub mod Sound
+pub mod Steps
 pub mod TreeData
 pub mod TreeError
 pub mod TreeView

@@ -3,7 +3,7 @@ use Rattle.std.specs.Prelude.{◌≡◌, ◌⊎◌, ℕ, ◌||◌, ◌==◌, if�
 use Rattle.std.specs.List.{list_any}
 use Rattle.bus_plan.specs.declared.error.PlanError.{PlanError}
 use Rattle.bus_plan.specs.declared.error.PlanError.TheVariants.{NoMemory}
-use Rattle.bus_drivers.specs.References.{and_then}
+use Rattle.dt_tree.specs.Steps.{then_do}
 
 -- the device itself, and its suppliers so far
 pub record Suppliers : Type 0 where
@@ -20,7 +20,7 @@ with_mentions s (d ∷ ds) = with_mentions (with_mention s d) ds
 
 -- those that are referred to, unless there is a fault
 abbrev pub adding : Suppliers → Result (List ℕ) PlanError → Result Suppliers PlanError
-adding s mentioned = and_then mentioned (λ ds. Ok (with_mentions s ds))
+adding s mentioned = then_do mentioned (λ ds. Ok (with_mentions s ds))
 
 -- a call adds those that are referred to, and answers the fault, but for want of memory
 abbrev pub IsAdded : Result (List ℕ) PlanError → Suppliers → Result (Unit {0}) PlanError → Suppliers → Type 0

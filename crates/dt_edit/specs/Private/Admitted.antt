@@ -1,9 +1,10 @@
 -- A child is let into the tree, before the statements of its body (Devicetree Specification v0.4, section 6.3).
 use Rattle.std.specs.Prelude.{ℕ, List, [], ◌∷◌, ◌++◌, Result, Ok}
+use Rattle.dt_tree.specs.Steps.{then_do}
 use Rattle.dt_meaning.specs.Paths.{Path}
 use Rattle.dt_meaning.specs.Syntax.{Piece}
 use Rattle.dt_meaning.specs.Edits.{State, with_node}
-use Rattle.dt_meaning.specs.Statements.{Fault, Progress, then_do, unless, give_labels, child_fault}
+use Rattle.dt_meaning.specs.Statements.{Fault, Progress, unless, give_labels, child_fault}
 
 -- the child has its labels and stands, or the first fault
 abbrev pub admitted : List (List ℕ) → List ℕ → Path → Progress (List Piece) → Result (State (List Piece)) Fault

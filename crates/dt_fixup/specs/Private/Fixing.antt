@@ -2,13 +2,14 @@
 use Rattle.std.specs.Prelude.{◌≡◌, ℕ, List, [], ◌∷◌, ◌++◌, Option, None, Some, Result, Ok, MatchOption, MatchResult, map, unwrap_or}
 use Rattle.std.specs.List.{filter, flat_map}
 use denote.Ref.{Bor}
+use Rattle.dt_tree.specs.Steps.{then_do, each, fold}
 use Rattle.dt_tree.specs.Path.{path_names}
 use Rattle.dt_meaning.specs.MapOf.{value_in}
 use Rattle.dt_meaning.specs.Names.{symbols_name}
 use Rattle.dt_live.specs.declared.live_tree.LiveTree.{LiveTree}
 use Rattle.dt_live.specs.ByRow.{row_property}
 use Rattle.dt_live.specs.Flattened.{Lent, lists}
-use Rattle.dt_overlay_meaning.specs.Steps.{Fault, each, fold, then_do}
+use Rattle.dt_overlay_meaning.specs.Fault.{Fault}
 use Rattle.dt_overlay_meaning.specs.Shifted.{Fixup, Shifting, Site, Value, fixups_in, is_fixups, site, site_of, take_site, with_fixups}
 use Rattle.dt_fixup.specs.declared.error.OverlayError.{OverlayError}
 use Rattle.dt_overlay_meaning.specs.Texts.{parts}

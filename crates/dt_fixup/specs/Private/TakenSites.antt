@@ -4,7 +4,7 @@ use Rattle.std.specs.Int.{to_be_bytes, w32}
 use Rattle.dt_live.specs.declared.live_tree.LiveTree.{LiveTree}
 use Rattle.dt_live.specs.Rows.{path_of, property_at}
 use Rattle.dt_live.specs.Flattened.{Lent, lists}
-use Rattle.dt_overlay_meaning.specs.Steps.{fold}
+use Rattle.dt_tree.specs.Steps.{fold}
 use Rattle.dt_overlay_meaning.specs.Shifted.{Fixup, resolve, site, write_at}
 use Rattle.dt_fixup.specs.declared.error.OverlayError.{OverlayError}
 use Rattle.dt_fixup.specs.declared.taken_sites.TakenSite.{TakenSite}

@@ -2,6 +2,7 @@
 use Rattle.std.specs.Prelude.{◌≡◌, ◌+◌, ◌≤◌, ℕ, ◌&&◌, Bool, true, false, not, Option, Some, Result, Ok, MatchOption, MatchResult, List, [], ◌∷◌, codes, drop, length}
 use Rattle.std.specs.List.{filter}
 use Rattle.std.specs.Str.{bytes_eq}
+use Rattle.dt_tree.specs.Steps.{fold}
 use Rattle.dt_tree.specs.Phandle.{is_reserved}
 use Rattle.dt_meaning.specs.Edits.{definition}
 use Rattle.dt_meaning.specs.MapOf.{value_in}
@@ -9,7 +10,7 @@ use Rattle.dt_live.specs.declared.live_tree.LiveTree.{LiveTree}
 use Rattle.dt_live.specs.ByRow.{row_property}
 use Rattle.dt_live.specs.Flattened.{Lent, lists}
 use Rattle.dt_live.specs.Rows.{node_path, property_of}
-use Rattle.dt_overlay_meaning.specs.Steps.{Fault, fold}
+use Rattle.dt_overlay_meaning.specs.Fault.{Fault}
 use Rattle.dt_overlay_meaning.specs.Shifted.{Site, Shifting, Value, fits, is_local_fixup, raise_at, raise_sites, site, take_site}
 use Rattle.dt_fixup.specs.declared.error.OverlayError.{OverlayError}
 use Rattle.dt_fixup.specs.declared.patched_overlay.PatchedOverlay.{PatchedOverlay}

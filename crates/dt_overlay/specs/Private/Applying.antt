@@ -8,7 +8,7 @@ use Rattle.dt_meaning.specs.Resolved.{Resolved}
 use Rattle.dt_tree_builder.specs.Sizes.{size_below, size_in}
 use Rattle.dt_live.specs.declared.live_tree.LiveTree.{LiveTree}
 use Rattle.dt_live.specs.Flattened.{Lent, lists}
-use Rattle.dt_overlay_meaning.specs.Steps.{Fault}
+use Rattle.dt_overlay_meaning.specs.Fault.{Fault}
 use Rattle.dt_fixup.specs.declared.error.OverlayError.{OverlayError}
 use Rattle.dt_fixup.specs.OverlayFault.{IsFault}
 use Rattle.dt_overlay.specs.Private.Symbols.{applied_over, symbols_of}

@@ -1,7 +1,8 @@
 -- A fragment's part as rows of the overlay, and the base's nodes that they become (dt-object-internal, section 3).
-use Rattle.std.specs.Prelude.{◌≡◌, ◌≤◌, ◌<◌, ℕ, Bool, suc, true, ◌&&◌, List, codes, is_some, length, map, nat_lt, option_map, slice_index_or, Option, IfOk, IfSome, Result}
+use Rattle.std.specs.Prelude.{◌≡◌, ◌≤◌, ◌<◌, ℕ, Bool, suc, true, ◌&&◌, List, codes, is_some, length, map, nat_lt, option_map, slice_index_or, Option, IfOk, IfSome, Result, ok_or}
 use Rattle.std.specs.List.{filter, list_any}
 use Rattle.std.specs.Str.{bytes_eq}
+use Rattle.dt_tree.specs.Steps.{then_do, fold}
 use Rattle.dt_meaning.specs.MapOf.{value_in}
 use Rattle.dt_meaning.specs.Paths.{Path, is_within}
 use Rattle.dt_meaning.specs.Resolved.{Resolved, is_too_deep}
@@ -12,7 +13,7 @@ use Rattle.dt_live.specs.Rows.{IsKept, IsNode, is_standing, node_path, row_at, p
 use Rattle.dt_live.specs.Flattened.{Lent, lists}
 use Rattle.dt_overlay_meaning.specs.Applied.{clashes, merged, moved, moved_value, with_fragment, with_nodes, with_values}
 use Rattle.dt_overlay_meaning.specs.Shifted.{fragments}
-use Rattle.dt_overlay_meaning.specs.Steps.{Fault, NoTarget, fold, ok_or, then_do}
+use Rattle.dt_overlay_meaning.specs.Fault.{Fault, NoTarget}
 use Rattle.dt_fixup.specs.declared.error.OverlayError.{OverlayError}
 use Rattle.dt_fixup.specs.declared.patched_overlay.PatchedOverlay.{PatchedOverlay}
 use Rattle.dt_fixup.specs.OverlayFault.{Leaves}
@@ -68,7 +69,7 @@ AreBaseNodes over d t b e base_nodes = (n : ℕ) → b ≤ n → n < e → IsBas
 
 -- a part merged, where it has a target
 abbrev pub merged_at : Resolved → Path → Option Path → Resolved → Result Resolved Fault
-merged_at over b target t = then_do (ok_or NoTarget target) (λ p. merged (part_below over b p) t)
+merged_at over b target t = then_do (ok_or target NoTarget) (λ p. merged (part_below over b p) t)
 
 -- a fragment whose rows are those of an overlay and of a live tree
 pub record IsMergeable (over d : LiveTree Lent) (f : Fragment) : Type 0 where

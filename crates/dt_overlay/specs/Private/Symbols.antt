@@ -1,6 +1,7 @@
 -- The symbols that an overlay adds (dt-object-internal, section 3).
 use Rattle.std.specs.Prelude.{◌≡◌, ℕ, List, [], ◌∷◌, ◌++◌, Option, Some, None, Result, Ok}
 use Rattle.std.specs.List.{flat_map, filter}
+use Rattle.dt_tree.specs.Steps.{then_do, fold}
 use Rattle.dt_tree.specs.Path.{behind_slashes, path_text, text_or_root}
 use Rattle.dt_meaning.specs.Paths.{Path, same_path}
 use Rattle.dt_meaning.specs.Names.{symbols_name}
@@ -11,7 +12,7 @@ use Rattle.dt_live.specs.declared.live_tree.NodeRow.{NodeRow}
 use Rattle.dt_live.specs.Rows.{path_of, property_at}
 use Rattle.dt_live.specs.Flattened.{Lent, lists}
 use Rattle.dt_overlay_meaning.specs.Applied.{symbol_path, with_fragment, with_node, with_symbols}
-use Rattle.dt_overlay_meaning.specs.Steps.{Fault, fold, then_do}
+use Rattle.dt_overlay_meaning.specs.Fault.{Fault}
 use Rattle.dt_overlay_meaning.specs.Shifted.{Value, fragments}
 use Rattle.dt_overlay_meaning.specs.Texts.{ended_path}
 use Rattle.dt_fixup.specs.declared.patched_overlay.PatchedOverlay.{PatchedOverlay}

@@ -1,10 +1,11 @@
 use Rattle.std.proofs.Common.{◌≡◌, ◌∷◌, ◌+◌, ◌<◌, map, drop, length, ℕ, List, sym, ap, ap₂, ◌∙◌, subst, add-one, arith}
 use Rattle.std.proofs.Math.Seq.{drop-cons}
 use Rattle.std.proofs.lemmas.List.{at_drop_all}
+use Rattle.dt_tree.specs.Steps.{then_do}
 use Rattle.dt_source.specs.declared.tree.Item.{Item}
 use Rattle.dt_source.specs.Tree.{item_view}
 use Rattle.dt_meaning.specs.Edits.{counted}
-use Rattle.dt_meaning.specs.Statements.{after_item, after_items, then_do}
+use Rattle.dt_meaning.specs.Statements.{after_item, after_items}
 use Rattle.dt_edit.specs.Private.Ready.{IsReady}
 use Rattle.dt_edit.specs.Said.{tree_of}
 use Rattle.dt_edit.proofs.Faults.{fault-same, fault-then}

@@ -3,7 +3,7 @@ use Rattle.std.specs.Prelude.{MatchResult, Result}
 use Rattle.std.specs.List.{filter}
 use Rattle.dt_live.specs.declared.live_tree.LiveTree.{LiveTree}
 use Rattle.dt_live.specs.Flattened.{Lent, lists}
-use Rattle.dt_overlay_meaning.specs.Steps.{Fault}
+use Rattle.dt_overlay_meaning.specs.Fault.{Fault}
 use Rattle.dt_overlay_meaning.specs.Shifted.{Fixup, Value, is_fixups}
 use Rattle.dt_fixup.specs.OverlayFault.{IsFault}
 use Rattle.dt_fixup.specs.PatchedOverlay.{patched_lists}

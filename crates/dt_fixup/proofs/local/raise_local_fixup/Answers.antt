@@ -5,7 +5,7 @@ use Rattle.dt_live.specs.Rows.{path_of, property_at}
 use Rattle.dt_meaning.specs.Edits.{definition}
 use Rattle.dt_live.specs.ByRow.{lent, row_property}
 use Rattle.dt_live.specs.Flattened.{Lent}
-use Rattle.dt_overlay_meaning.specs.Steps.{Fault}
+use Rattle.dt_overlay_meaning.specs.Fault.{Fault}
 use Rattle.dt_overlay_meaning.specs.Shifted.{Shifting, raise_sites}
 use Rattle.dt_fixup.specs.OverlayFault.{IsFault}
 use Rattle.dt_fixup.specs.Private.Steps.{IsAt}

@@ -5,7 +5,7 @@ use Rattle.std.proofs.lemmas.List.{append-nil, drop_all}
 use Rattle.dt_tree.specs.Phandle.{phandle_from, phandle_in}
 use Rattle.dt_meaning.specs.Phandles.{is_phandle}
 use Rattle.dt_live.specs.ByRow.{row_property}
-use Rattle.dt_overlay_meaning.specs.Steps.{then_do}
+use Rattle.dt_tree.specs.Steps.{then_do}
 use Rattle.dt_overlay_meaning.specs.Shifted.{Value, phandle_of, raised, raised_number, raised_phandle, with_value, written}
 use Rattle.dt_fixup.specs.declared.error.OverlayError.{OverlayError}
 use Rattle.dt_fixup.specs.OverlayFault.{IsFault}

@@ -1,7 +1,7 @@
 use Rattle.std.proofs.Common.{◌+◌, ◌<◌, ◌≤◌, List, length, map, sym, ap, subst, arith}
 use Rattle.std.specs.Prelude.{Result}
 use Rattle.std.specs.List.{filter}
-use Rattle.dt_overlay_meaning.specs.Steps.{Fault}
+use Rattle.dt_overlay_meaning.specs.Fault.{Fault}
 use Rattle.dt_overlay_meaning.specs.Shifted.{Fixup, is_fixups}
 use Rattle.dt_fixup.specs.Private.Fixing.{gathered, fixup_named, row_fixups}
 use Rattle.dt_fixup.proofs.LocalSteps.{definitions, definitions-all}

@@ -3,7 +3,7 @@ use Rattle.std.proofs.lemmas.List.{length_push, map-append}
 use Rattle.std.proofs.lemmas.Iterator.Consumers.{YieldsList-turn, YieldsList-end}
 use Rattle.std.proofs.lemmas.Iterator.Splits.{YieldsList-from_slice_split}
 use Rattle.dt_tree.specs.Path.{path_names}
-use Rattle.dt_overlay_meaning.specs.Steps.{each, then_do}
+use Rattle.dt_tree.specs.Steps.{then_do, each}
 use Rattle.dt_overlay_meaning.specs.Shifted.{Fixup, fixup_in, site}
 use Rattle.dt_overlay_meaning.specs.Texts.{parts}
 use Rattle.dt_fixup.specs.declared.error.OverlayError.TheVariants.{BadFixup}

@@ -1,5 +1,5 @@
 use Rattle.std.proofs.Common.{map, drop, length}
-use Rattle.dt_overlay_meaning.specs.Steps.{each}
+use Rattle.dt_tree.specs.Steps.{each}
 use Rattle.dt_overlay_meaning.specs.Shifted.{fixup_in}
 use Rattle.dt_overlay_meaning.specs.Texts.{parts}
 use Rattle.dt_fixup.specs.Private.Fixing.{fixup_named}

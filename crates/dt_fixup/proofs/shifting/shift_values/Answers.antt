@@ -1,9 +1,10 @@
 use Rattle.std.proofs.Common.{◌≡◌, ℕ, ◌+◌, List, Result, Ok, subst, sym, ap, ap₂, ◌∙◌, arith}
 use Rattle.std.specs.List.{filter}
+use Rattle.dt_tree.specs.Steps.{fold}
 use Rattle.dt_live.specs.declared.live_tree.LiveTree.{LiveTree}
 use Rattle.dt_live.specs.Flattened.{Lent, lists}
 use Rattle.dt_meaning.specs.Resolved.{Resolved}
-use Rattle.dt_overlay_meaning.specs.Steps.{Fault, fold}
+use Rattle.dt_overlay_meaning.specs.Fault.{Fault}
 use Rattle.dt_overlay_meaning.specs.Shifted.{Shifting, Value, is_fixups, is_local_fixup, raise_sites, shift, with_fixups, with_phandles}
 use Rattle.dt_fixup.specs.OverlayFault.{IsFault}
 use Rattle.dt_fixup.specs.PatchedOverlay.{patched_lists}

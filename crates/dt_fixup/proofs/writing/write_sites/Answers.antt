@@ -3,7 +3,7 @@ use Rattle.std.proofs.lemmas.List.{get_or_default}
 use Rattle.std.specs.Int.{to_be_bytes, w32}
 use Rattle.dt_live.specs.declared.live_tree.LiveTree.{LiveTree}
 use Rattle.dt_live.specs.Flattened.{Lent, lists}
-use Rattle.dt_overlay_meaning.specs.Steps.{then_do}
+use Rattle.dt_tree.specs.Steps.{then_do}
 use Rattle.dt_overlay_meaning.specs.Shifted.{write_at}
 use Rattle.dt_fixup.specs.declared.taken_sites.TakenSite.{TakenSite}
 use Rattle.dt_fixup.specs.PatchedOverlay.{patched_lists}

@@ -2,7 +2,7 @@ use Rattle.std.proofs.Common.{◌≡◌, ◌+◌, true, [], drop, length}
 use Rattle.dt_live.specs.ByRow.{has_all_rows}
 use Rattle.dt_live.specs.Rows.{IsLiveTree, state_of}
 use Rattle.dt_live.specs.Flattened.{lists}
-use Rattle.dt_overlay_meaning.specs.Steps.{fold}
+use Rattle.dt_tree.specs.Steps.{fold}
 use Rattle.dt_overlay.specs.Private.Merging.{AreKept}
 use Rattle.dt_overlay.proofs.Lawful.{IsLawful}
 use Rattle.dt_overlay.proofs.Folded.{merged_one}

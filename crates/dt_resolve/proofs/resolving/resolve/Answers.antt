@@ -1,9 +1,9 @@
 use Rattle.std.proofs.Common.{◌≡◌, ◌∙◌, ◌==◌, ◌++◌, if◌then◌else◌, [], ℕ, List, map, length, Ok, sym, ap, ap₂, subst, arith}
 use Rattle.std.specs.List.{list_any}
 use Rattle.dt_meaning.specs.Phandles.{given_of, has_phandle}
-use Rattle.dt_meaning.specs.References.{each, found_value, in_order, references}
+use Rattle.dt_meaning.specs.References.{found_value, in_order, references}
 use Rattle.dt_meaning.specs.Resolved.{names_taken}
-use Rattle.dt_meaning.specs.Statements.{then_do}
+use Rattle.dt_tree.specs.Steps.{then_do, each}
 use Rattle.dt_live.specs.declared.live_tree.NodeRow.{NodeRow}
 use Rattle.dt_live.specs.Rows.{IsNode}
 use Rattle.dt_live.proofs.Each.{Each, each-all}
