@@ -10,6 +10,7 @@ pub mod Inclusion
 pub mod Integer
 pub mod Omission
 pub mod Phandles
+pub mod Preorder
 pub mod Private
 pub mod References
 pub mod Statements
