@@ -3,7 +3,7 @@
 use dt_tree::{Node, Tree, cell_in, is_reserved_name};
 use std::alloc::{AllocError, Global};
 use std::collections::BTreeMap;
-use trace_paths::Parents;
+use trace_paths::{Link, Parents};
 
 /// A node, and the one above it.
 #[derive(Clone, Copy)]
@@ -90,15 +90,11 @@ pub(crate) fn is_device(node: usize, row: &NodeRow<'_>) -> bool {
 }
 
 impl<'t> Parents<'t> for NodeRows<'t> {
-    fn name(&self, node: usize) -> Option<&'t [u8]> {
+    fn link(&self, node: usize) -> Option<Link<'t>> {
         let row = self.rows.get(node)?;
-        Some(row.node.name_bytes())
-    }
-
-    fn parent(&self, node: usize) -> usize {
-        match self.rows.get(node) {
-            Some(row) => row.parent,
-            None => node,
-        }
+        Some(Link {
+            name: row.node.name_bytes(),
+            parent: row.parent,
+        })
     }
 }

@@ -3,7 +3,7 @@
 use dt_tree::{Node, Property, Tree, is_reserved_name, phandle_in};
 use std::alloc::{AllocError, Global};
 use std::collections::BTreeMap;
-use trace_paths::{Children, Parents};
+use trace_paths::{Children, Link, Parents};
 
 /// A name in a node.
 #[derive(Clone, Copy, PartialEq, Eq, PartialOrd, Ord, Drop)]
@@ -156,15 +156,11 @@ impl<'t> Children<'t> for FlatTree<'t> {
 }
 
 impl<'t> Parents<'t> for FlatTree<'t> {
-    fn name(&self, node: usize) -> Option<&'t [u8]> {
+    fn link(&self, node: usize) -> Option<Link<'t>> {
         let row = self.nodes.get(node)?;
-        Some(row.name)
-    }
-
-    fn parent(&self, node: usize) -> usize {
-        match self.nodes.get(node) {
-            Some(row) => row.parent,
-            None => node,
-        }
+        Some(Link {
+            name: row.name,
+            parent: row.parent,
+        })
     }
 }

@@ -3,7 +3,7 @@
 use dt_tree::MAX_DEPTH;
 use std::alloc::{AllocError, Global};
 use std::collections::{BTreeMap, BTreeSet};
-use trace_paths::{Children, Parents};
+use trace_paths::{Children, Link, Parents};
 
 /// A name in a node.
 #[derive(Clone, Copy, PartialEq, Eq, PartialOrd, Ord, Drop)]
@@ -290,15 +290,11 @@ impl<'t> Children<'t> for Table<'t> {
 }
 
 impl<'t> Parents<'t> for Table<'t> {
-    fn name(&self, node: usize) -> Option<&'t [u8]> {
+    fn link(&self, node: usize) -> Option<Link<'t>> {
         let row = self.nodes.get(node)?;
-        Some(row.name)
-    }
-
-    fn parent(&self, node: usize) -> usize {
-        match self.nodes.get(node) {
-            Some(row) => row.parent,
-            None => node,
-        }
+        Some(Link {
+            name: row.name,
+            parent: row.parent,
+        })
     }
 }

@@ -202,12 +202,13 @@ fn is_overlaid(
     rt: &impl Abort,
     alloc: Global,
     hasher: RandomState,
-    base: &[u8],
-    overlay: &[u8],
-    value: &[u8],
+    base: &Vec<u8>,
+    overlay: &Vec<u8>,
+    value: &Long,
 ) {
-    let made = printed(rt, alloc, overlay_bytes(alloc, hasher, base, overlay));
-    is_blob(rt, alloc, made.as_slice(), value);
+    let made = overlay_bytes(alloc, hasher, base.as_slice(), overlay.as_slice());
+    let made = printed(rt, alloc, made);
+    is_blob(rt, alloc, made.as_slice(), value.bytes.as_slice());
 }
 
 /// How many blocks of 4 KiB: two, and many, as a string of 2 MiB.
@@ -239,14 +240,7 @@ fn is_merged(rt: &impl Abort, alloc: Global, hasher: RandomState, row: &(Spellin
     let value = long_value(rt, alloc, row.0, row.1);
     let base = compiled(rt, alloc, hasher, b"/dts-v1/; ", b"/ { };", b"");
     let overlay = compiled_overlay(rt, alloc, hasher, value.text.as_slice(), b"; }; }; };");
-    is_overlaid(
-        rt,
-        alloc,
-        hasher,
-        base.as_slice(),
-        overlay.as_slice(),
-        value.bytes.as_slice(),
-    );
+    is_overlaid(rt, alloc, hasher, &base, &overlay, &value);
 }
 
 #[test]
@@ -263,14 +257,7 @@ fn is_kept(rt: &impl Abort, alloc: Global, hasher: RandomState, row: &(Spelling,
     let base = compiled_root(rt, alloc, hasher, value.text.as_slice());
     let overlay = b"/ { fragment@0 { target-path = \"/\"; __overlay__ { }; }; };";
     let overlay = compiled(rt, alloc, hasher, b"/dts-v1/; ", overlay, b"");
-    is_overlaid(
-        rt,
-        alloc,
-        hasher,
-        base.as_slice(),
-        overlay.as_slice(),
-        value.bytes.as_slice(),
-    );
+    is_overlaid(rt, alloc, hasher, &base, &overlay, &value);
 }
 
 #[test]
@@ -298,12 +285,5 @@ fn phandles_in_long_values_are_raised(rt: HostRuntime) {
     let base = compiled(&rt, alloc, hasher, b"/dts-v1/; ", b"/ { };", b"");
     let behind = b"; }; }; __local_fixups__ { fragment@0 { __overlay__ { p = <4096>; }; }; }; };";
     let overlay = compiled_overlay(&rt, alloc, hasher, value.text.as_slice(), behind);
-    is_overlaid(
-        &rt,
-        alloc,
-        hasher,
-        base.as_slice(),
-        overlay.as_slice(),
-        value.bytes.as_slice(),
-    );
+    is_overlaid(&rt, alloc, hasher, &base, &overlay, &value);
 }

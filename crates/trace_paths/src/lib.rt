@@ -6,5 +6,5 @@ mod nodes;
 mod writing;
 
 pub use finding::at_path;
-pub use nodes::{Children, Parents};
+pub use nodes::{Children, Link, Parents};
 pub use writing::path_of;

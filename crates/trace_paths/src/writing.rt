@@ -13,15 +13,14 @@ pub fn path_of<'t, N: Parents<'t>>(
     let mut names = Vec::new(alloc);
     let mut below = node;
     for _ in 0..MAX_DEPTH + 2 {
-        let Some(name) = nodes.name(below) else {
+        let Some(link) = nodes.link(below) else {
             break;
         };
-        names.push(name)?;
-        let above = nodes.parent(below);
-        if above == below {
+        names.push(link.name)?;
+        if link.parent == below {
             break;
         }
-        below = above;
+        below = link.parent;
     }
     joined(alloc, names.as_slice())
 }

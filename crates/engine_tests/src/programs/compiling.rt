@@ -1,7 +1,6 @@
 //! `compile` over files in memory: what stands in OUT, and when it is opened at all.
 
-use super::runs::{Files, Writing, row_writes};
-use std::hash::RandomState;
+use super::runs::{Files, Writing, rows_write};
 
 const FILES: Files = &[
     ("board.dts", b"/dts-v1/; / { };"),
@@ -56,8 +55,5 @@ fn compiles_to_a_file(rt: HostRuntime) {
             b"",
         ),
     ];
-    let hasher = RandomState::new(&rt).expect(&rt, "a seed");
-    for row in ROWS {
-        row_writes(&rt, FILES, hasher, row);
-    }
+    rows_write(&rt, FILES, ROWS);
 }

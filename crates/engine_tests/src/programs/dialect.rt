@@ -1,7 +1,7 @@
 //! `compile --dtc` over files in memory: what stands in OUT, and what is told of sources that dtc doesn't take, either.
 
 use super::compiling::BLOB;
-use super::runs::{Files, Writing, row_writes};
+use super::runs::{Files, Writing, rows_write};
 use dtc_dialect::Found;
 use dtman_cli::{Outcome, compile_dialect};
 use std::alloc::{AllocError, Global};
@@ -114,10 +114,7 @@ fn tells_where_the_user_wrote_it(rt: HostRuntime) {
             b"",
         ),
     ];
-    let hasher = RandomState::new(&rt).expect(&rt, "a seed");
-    for row in ROWS {
-        row_writes(&rt, FILES, hasher, row);
-    }
+    rows_write(&rt, FILES, ROWS);
 }
 
 #[test]
@@ -160,10 +157,7 @@ fn compiles_the_dialect(rt: HostRuntime) {
             b"",
         ),
     ];
-    let hasher = RandomState::new(&rt).expect(&rt, "a seed");
-    for row in ROWS {
-        row_writes(&rt, FILES, hasher, row);
-    }
+    rows_write(&rt, FILES, ROWS);
 }
 
 /// No files.

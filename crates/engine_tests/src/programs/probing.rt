@@ -1,8 +1,7 @@
 //! `plan` and `probe` over files in memory.
 
 use super::clock_and_uart::BLOB;
-use super::runs::{Files, Row, row_ends};
-use std::hash::RandomState;
+use super::runs::{Files, Row, rows_end};
 
 const FILES: Files = &[
     ("board.dtb", BLOB),
@@ -69,8 +68,5 @@ fn plans_and_probes(rt: HostRuntime) {
             "error 80 CannotRead nix\n",
         ),
     ];
-    let hasher = RandomState::new(&rt).expect(&rt, "a seed");
-    for row in ROWS {
-        row_ends(&rt, FILES, hasher, row);
-    }
+    rows_end(&rt, FILES, ROWS);
 }

@@ -1,7 +1,6 @@
 //! `replay` over files in memory, with drivers that come late.
 
-use super::runs::{Files, Row, row_ends};
-use std::hash::RandomState;
+use super::runs::{Files, Row, rows_end};
 
 const FILES: Files = &[
     (
@@ -91,8 +90,5 @@ const REPLAYS: &[Row] = &[
 
 #[test]
 fn replays_and_goes_on(rt: HostRuntime) {
-    let hasher = RandomState::new(&rt).expect(&rt, "a seed");
-    for row in REPLAYS {
-        row_ends(&rt, FILES, hasher, row);
-    }
+    rows_end(&rt, FILES, REPLAYS);
 }

@@ -5,6 +5,7 @@ use dtman_cli::run_words;
 use dtman_engine::Memory;
 use std::hash::RandomState;
 use std::process::Abort;
+use std::random::RandomSource;
 use std::thread::Threads;
 
 /// Files by their paths.
@@ -64,27 +65,29 @@ pub fn ends<R: AllocGlobal + Threads + Sync + Abort>(
     are_left(rt, &traces, status, printed, told);
 }
 
-/// That the row's run over the files ends as it tells.
-pub fn row_ends<R: AllocGlobal + Threads + Sync + Abort>(
+/// That each row's run over the files ends as it tells.
+pub fn rows_end<R: AllocGlobal + RandomSource + Threads + Sync + Abort>(
     rt: &R,
     files: Files,
-    hasher: RandomState,
-    row: &Row,
+    rows: &[Row],
 ) {
-    let (words, status, printed, told) = row;
-    let mut shelf = Shelf::new(rt.alloc(), files, hasher);
-    ends(rt, *words, &mut shelf, *status, *printed, *told);
+    let hasher = RandomState::new(rt).expect(rt, "a seed");
+    for (words, status, printed, told) in rows {
+        let mut shelf = Shelf::new(rt.alloc(), files, hasher);
+        ends(rt, *words, &mut shelf, *status, *printed, *told);
+    }
 }
 
-/// That the row's run over the files ends as it tells, and leaves the file OUT so.
-pub fn row_writes<R: AllocGlobal + Threads + Sync + Abort>(
+/// That each row's run over the files ends as it tells, and leaves the file OUT so.
+pub fn rows_write<R: AllocGlobal + RandomSource + Threads + Sync + Abort>(
     rt: &R,
     files: &[(&str, &[u8])],
-    hasher: RandomState,
-    row: &Writing,
+    rows: &[Writing],
 ) {
-    let (words, status, told, written) = row;
-    let mut shelf = Shelf::new(rt.alloc(), files, hasher);
-    ends(rt, *words, &mut shelf, *status, "", *told);
-    assert!(rt; shelf.has_written("out", *written));
+    let hasher = RandomState::new(rt).expect(rt, "a seed");
+    for (words, status, told, written) in rows {
+        let mut shelf = Shelf::new(rt.alloc(), files, hasher);
+        ends(rt, *words, &mut shelf, *status, "", *told);
+        assert!(rt; shelf.has_written("out", *written));
+    }
 }

@@ -1,7 +1,7 @@
 //! The exit statuses, and what goes where.
 ghost use Rattle.std.specs.Prelude.{◌<◌};
 
-use super::runs::{Files, Row, ends, row_ends, run_over};
+use super::runs::{Files, Row, ends, rows_end, run_over};
 use super::shelf::Shelf;
 use std::hash::RandomState;
 use std::process::Abort;
@@ -67,10 +67,7 @@ fn tells_refusals_on_standard_error_alone(rt: HostRuntime) {
             "error 80 CannotRead nix\n",
         ),
     ];
-    let hasher = RandomState::new(&rt).expect(&rt, "a seed");
-    for row in ROWS {
-        row_ends(&rt, FILES, hasher, row);
-    }
+    rows_end(&rt, FILES, ROWS);
 }
 
 // That the words are a mistake, told on standard error, or ask for a page, which is printed.

@@ -1,6 +1,6 @@
 //! Refusals in detail: the lines behind the first.
 
-use super::runs::{Files, Row, ends, row_ends, run_over};
+use super::runs::{Files, Row, ends, rows_end, run_over};
 use super::shelf::Shelf;
 use crate::compiling::compiled;
 use dtman_diagnosis::example_of;
@@ -132,12 +132,7 @@ const REFUSALS: &[Row] = &[
 
 #[test]
 fn tells_more_of_a_refusal(rt: HostRuntime) {
-    let Ok(hasher) = RandomState::new(&rt) else {
-        panic!(rt; "a seed");
-    };
-    for row in REFUSALS {
-        row_ends(&rt, FILES, hasher, row);
-    }
+    rows_end(&rt, FILES, REFUSALS);
 }
 
 // That a run in which standard output fails at once tells the example of a number, where the system says this of it.
