@@ -42,3 +42,12 @@ third-more false f s row rows first second some both = (rw same-rows first, rw s
 third-more true f s row [] first second some both = let e = some refl in cc
 third-more true f s row (x ∷ []) first second some both = let e = both refl in cc
 third-more true f s row (x ∷ y ∷ ys) first second some both = (first, second)
+
+-- what is found at a key is found at one that is the same
+pub same-value : (F : ℕ → List ℕ → Option ℕ) (v : Option ℕ) (n : ℕ) (k : List ℕ) (m : ℕ) (j : List ℕ) → F n k ≡ v → is_key n k m j ≡ true → F m j ≡ v
+same-value F v n k m j e same = let parts = key-parts n k m j same in ap₂ F (sym parts.0) (sym parts.1) ∙ e
+
+-- a row that is put in place of the first and then taken back
+pub restored : (b : Bool) (f once twice : Option ℕ) (row earlier : ℕ) → once ≡ cond b (Some row) f → twice ≡ cond b (Some earlier) once → (b ≡ true → f ≡ Some earlier) → twice ≡ f
+restored false f once twice row earlier first second was = second ∙ first
+restored true f once twice row earlier first second was = second ∙ sym (was refl)

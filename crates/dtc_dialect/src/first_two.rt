@@ -42,14 +42,17 @@ impl<'t> FirstTwo<'t> {
         self.second.get(&(node, name)).copied()
     }
 
-    /// Notes one row more, if it is one of the first two.
+    /// Notes one row more, if it is one of the first two. A name that is new is looked for once.
     pub fn add(&mut self, node: usize, name: &'t [u8], row: usize) -> Result<(), AllocError>
         ensures ok { OnOk result (AddsRow self.old self.new node name.now row) }
         ensures err { OnErr result (KeepsRows self.old self.new) }
     {
-        if self.first(node, name).is_none() {
-            self.first.insert((node, name), row)?;
-        } else if self.second(node, name).is_none() {
+        let Some(earlier) = self.first.insert((node, name), row)? else {
+            return Ok(());
+        };
+        // The first one stays.
+        self.first.insert((node, name), earlier)?;
+        if self.second(node, name).is_none() {
             self.second.insert((node, name), row)?;
         }
         Ok(())
