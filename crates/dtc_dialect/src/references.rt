@@ -1,8 +1,9 @@
 //! The nodes that references name in the tree so far.
 
-ghost use Rattle.std.specs.Prelude.{◌≡◌, ◌<◌, ◌≤◌, None, IfSome, length};
+ghost use Rattle.std.specs.Prelude.{◌≡◌, ◌<◌, ◌≤◌, None, IfSome, length, option_map};
 ghost use Rattle.std.specs.List.{after_first, before_first};
 ghost use Rattle.dtc_dialect.specs.References.{IsLabelled, IsPathNode, IsReference, NamesLabel, NamesPath};
+ghost use Rattle.dtc_dialect.specs.Copied.{path_of};
 ghost use Rattle.dtc_dialect.specs.Preorder.{is_before};
 ghost use Rattle.dtc_dialect.specs.Private.Walks.{IsAbove, first_of, step_down};
 ghost use Rattle.dtc_dialect.specs.References.{child_there, follow, has_label, is_slash, last_deletion, names_of};
@@ -184,6 +185,16 @@ impl<'t> Table<'t> {
             b = self.nodes[b].parent;
         }
         a < b
+    }
+}
+
+/// The path that a reference names, in its braces.
+pub(crate) fn path_of(reference: &[u8]) -> Option<&[u8]>
+    ensures { option_map (λ path. path.now) result ≡ path_of reference.now }
+{
+    match reference {
+        [_, b'{', path @ ..] => Some(front(path, path.len().saturating_sub(1))),
+        _ => None,
     }
 }
 
