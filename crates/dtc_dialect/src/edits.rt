@@ -1,13 +1,14 @@
 //! The statements of a source, done to the table in the order of the text as dtc does them.
 ghost use Rattle.std.specs.Prelude.{◌≡◌, IfOk, OnOk, not, true};
 ghost use Rattle.dtc_dialect.specs.Edits.{Begins, Finds, body_of, in_order, is_sought, may_be_fragment, with_root};
-ghost use Rattle.dtc_dialect.specs.Private.Bodies.{BeginsFragment, Extends, GivesLabels, GoesOn, KeepsCourse};
+ghost use Rattle.dtc_dialect.specs.Private.Bodies.{BeginsChild, BeginsFragment, Extends, GivesLabels, GoesOn, KeepsCourse};
+ghost use Rattle.dtc_dialect.specs.Private.Bodies.{DeletesBy, DropsIn, SetsIn, TakesProperties, innermost};
 
 use crate::changing::{
     Body, add_fragment, drop_child, drop_named, drop_property, give_all, mark_omitted, open_child,
     put_property, unknown,
 };
-use crate::error::{DialectError, Mistake, refused};
+use crate::error::{DialectError, Mistake, Refusal, refused};
 use crate::head::Head;
 use crate::references::path_of;
 use crate::statements::{Edit, Opening};
@@ -111,10 +112,26 @@ fn end_statement<'t>(
     Ok(())
 }
 
-/// The body in which a property's statement stands: dtc takes none behind a node.
-fn property_body<'t>(edited: &Edited<'t>, key: &Token<'t>) -> Result<Body, DialectError<'t>> {
-    match edited.bodies.last() {
-        Some(body) if !body.has_nodes => Ok(*body),
+/// The body that is open, within all others that are.
+fn innermost(edited: &Edited<'_>) -> Option<Body>
+    ensures { result ≡ innermost edited.now }
+{
+    edited.bodies.last().copied()
+}
+
+/// A child stands in the innermost body: dtc takes no property behind it.
+fn note_child(bodies: &mut Vec<Body>) {
+    if let Some(body) = bodies.last_mut() {
+        body.has_nodes = true;
+    }
+}
+
+/// The body in which a property's statement stands.
+fn property_body<'t>(edited: &Edited<'t>, key: &Token<'t>) -> Result<Body, DialectError<'t>>
+    ensures { IfOk result (λ body. TakesProperties edited.now body) }
+{
+    match innermost(edited) {
+        Some(body) if !body.has_nodes => Ok(body),
         _ => Err(refused(Mistake::Syntax, key.place)),
     }
 }
@@ -124,7 +141,9 @@ fn set_property<'t>(
     time: usize,
     key: &Token<'t>,
     value: Option<Tokens>,
-) -> Result<(), DialectError<'t>> {
+) -> Result<(), DialectError<'t>>
+    ensures { OnOk result (SetsIn edited.old edited.new key.now value time) }
+{
     let body = property_body(edited, key)?;
     Ok(put_property(&mut edited.table, body, time, key, value)?)
 }
@@ -133,7 +152,9 @@ fn delete_property<'t>(
     edited: &mut Edited<'t>,
     time: usize,
     key: &Token<'t>,
-) -> Result<(), DialectError<'t>> {
+) -> Result<(), DialectError<'t>>
+    ensures { OnOk result (DropsIn edited.old edited.new key.now time) }
+{
     let body = property_body(edited, key)?;
     Ok(drop_property(&mut edited.table, body, time, key)?)
 }
@@ -142,12 +163,13 @@ fn delete_node<'t>(
     edited: &mut Edited<'t>,
     time: usize,
     key: &Token<'t>,
-) -> Result<(), DialectError<'t>> {
-    let Some(body) = edited.bodies.last_mut() else {
+) -> Result<(), DialectError<'t>>
+    ensures { OnOk result (DeletesBy (innermost edited.old) edited.old.table edited.new.table key.now time) }
+{
+    let Some(body) = innermost(edited) else {
         return drop_named(&mut edited.table, time, key);
     };
-    body.has_nodes = true;
-    let body = *body;
+    note_child(&mut edited.bodies);
     drop_child(&mut edited.table, body, time, key)
 }
 
@@ -156,7 +178,7 @@ fn open_body<'t>(
     time: usize,
     token: &Token<'t>,
 ) -> Result<(), DialectError<'t>> {
-    let outer = edited.bodies.last().copied();
+    let outer = innermost(edited);
     let Some(opening) = edited.head.opening_of(outer.is_some()) else {
         return Err(refused(Mistake::Syntax, token.place));
     };
@@ -169,9 +191,7 @@ fn open_body<'t>(
         (Opening::Extension(key), None) => extension_body(edited, time, &key)?,
         _ => return Err(refused(Mistake::Syntax, token.place)),
     };
-    if let Some(outer) = edited.bodies.last_mut() {
-        outer.has_nodes = true;
-    }
+    note_child(&mut edited.bodies);
     edited.bodies.push(body)?;
     edited.head.clear();
     Ok(())
@@ -204,7 +224,9 @@ fn child_body<'t>(
     time: usize,
     outer: Body,
     key: &Token<'t>,
-) -> Result<Body, DialectError<'t>> {
+) -> Result<Body, DialectError<'t>>
+    ensures { IfOk result (λ body. BeginsChild edited.old edited.new outer key.now time body) }
+{
     let omits = edited.head.omits;
     let body = open_child(&mut edited.table, outer, time, key, omits)?;
     give_labels(edited, time, body, key)?;
@@ -291,10 +313,13 @@ fn extension_body<'t>(
     time: usize,
     key: &Token<'t>,
 ) -> Result<Body, DialectError<'t>>
-    ensures { IfOk result (λ body. Extends edited.old edited.new key.now time body) }
+    ensures { Extends edited.old edited.new key.now time result }
 {
     match extension_of(edited, key) {
-        Extension::Unknown(mistake) => Err(refused(mistake, key.place)),
+        Extension::Unknown(mistake) => Err(DialectError::Refused(Refusal {
+            mistake,
+            place: key.place,
+        })),
         Extension::Fragment => fragment_body(edited, time, key),
         Extension::Node(node) => node_body(edited, time, node, key),
     }
