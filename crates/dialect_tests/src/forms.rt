@@ -93,6 +93,10 @@ const FORMS: &[Row] = &[
         " /plugin/; &x { y; };",
         " /plugin/; / { fragment@0 { target = <&x>; __overlay__ { y; }; }; };\n",
     ),
+    (
+        " /plugin/; / { a: a { }; }; &a { x; }; &{/a} { y; }; l: &{/a} { z; };",
+        " /plugin/; / { l: a: a { x; z; }; fragment@0 { target-path = \"/a\"; __overlay__ { y; }; }; };\n",
+    ),
     ("\n# 5 \"f\"\n/ {\n\tx;\n};", "\n# 5 \"f\"\n/ {\nx; };\n"),
     (
         " / { a; b { }; }; / { l: /delete-property/ a; m: /omit-if-no-ref/ /delete-node/ b; };",
@@ -147,6 +151,7 @@ fn refusals(rt: HostRuntime) {
     const ROWS: &[Refused] = &[
         (" / { };\n&a { };", 20, 2, (1, 3)),
         (" / { };\n&{/a} { };", 22, 2, (1, 6)),
+        (" /plugin/; / { };\nl: &a { };", 20, 2, (4, 6)),
         (
             " /plugin/; &x { };\nl: &{//__overlay__} { };",
             22,
