@@ -122,7 +122,7 @@ IsWithFragment old new number key time =
 abbrev pub may_be_fragment : Edited → Bool
 may_be_fragment edited = edited.is_plugin && (length edited.head.labels.items == 0)
 
--- A reference is looked for behind the first body; that of a path not where a fragment may begin, which takes the path as its target.
+-- A reference is looked for behind the first body, but not a path where a fragment may begin: the path is its target.
 abbrev pub is_sought : Edited → Token → Bool
 is_sought edited key = edited.has_root && not (may_be_fragment edited && is_some (path_of key.text.now))
 
