@@ -93,6 +93,10 @@ const FORMS: &[Row] = &[
         " /plugin/; &x { y; };",
         " /plugin/; / { fragment@0 { target = <&x>; __overlay__ { y; }; }; };\n",
     ),
+    (
+        " /plugin/; / { a: a { }; }; &a { x; }; &{/a} { y; }; l: &{/a} { z; };",
+        " /plugin/; / { l: a: a { x; z; }; fragment@0 { target-path = \"/a\"; __overlay__ { y; }; }; };\n",
+    ),
     ("\n# 5 \"f\"\n/ {\n\tx;\n};", "\n# 5 \"f\"\n/ {\nx; };\n"),
     (
         " / { a; b { }; }; / { l: /delete-property/ a; m: /omit-if-no-ref/ /delete-node/ b; };",
@@ -105,6 +109,10 @@ const FORMS: &[Row] = &[
     (
         " / { /delete-node/ a; l: a { }; }; &{/a} { x; };",
         " / { l: a { x; }; };\n",
+    ),
+    (
+        " / { n { m { }; }; }; &{/n//m} { x; }; &{//n/} { y; };",
+        " / { n { y; m { x; }; }; };\n",
     ),
     (
         " / { #a; #b;# 1 \"f\"\n#c; };",
@@ -143,6 +151,13 @@ fn refusals(rt: HostRuntime) {
     const ROWS: &[Refused] = &[
         (" / { };\n&a { };", 20, 2, (1, 3)),
         (" / { };\n&{/a} { };", 22, 2, (1, 6)),
+        (" /plugin/; / { };\nl: &a { };", 20, 2, (4, 6)),
+        (
+            " /plugin/; &x { };\nl: &{//__overlay__} { };",
+            22,
+            2,
+            (4, 20),
+        ),
         (" / { }; /delete-node/ &{/};", 27, 1, (32, 36)),
         ("\n/ {\n x\n", 10, 3, (2, 3)),
         (" / { a = <''>; };", 10, 1, (20, 22)),

@@ -2,7 +2,8 @@
 use Rattle.std.proofs.Common.{◌≡◌, inl, inr, ℕ, zero, suc, ◌<◌, ◌≤◌, Bool, true, false, if◌then◌else◌, ◌&&◌, List, [], ◌∷◌, length, Option, Some, None, refl, ap, ap₂, sym, ◌∙◌, add-one, arith}
 use Rattle.std.specs.Prelude.{max, min, nat_lt}
 use Rattle.std.proofs.lemmas.Bool.{cases_lt, le-ltb, lt-ltb}
-use Rattle.dtc_dialect.specs.References.{are_made, deletion_of, last_deletion, ancestry_of, line_up}
+use Rattle.dtc_dialect.specs.References.{are_made, deletion_of, last_deletion}
+use Rattle.dtc_dialect.specs.Preorder.{ancestry_of, line_up}
 use Rattle.dtc_dialect.specs.Table.{IsGrown, node_at}
 use Rattle.dtc_dialect.specs.declared.table.NodeRow.{NodeRow}
 
@@ -13,7 +14,7 @@ pub ancestry-step : (rows : List NodeRow) (n : ℕ) → IsGrown rows → 0 < n �
 ancestry-step rows n g from to = ap (λ d. line_up d rows n) (g.deeper n from to ∙ add-one (node_at rows (node_at rows n).parent).depth)
 
 -- the line begins with the node
-line-first : (rows : List NodeRow) (d n : ℕ) → (ns : List ℕ) × (line_up d rows n ≡ n ∷ ns)
+pub line-first : (rows : List NodeRow) (d n : ℕ) → (ns : List ℕ) × (line_up d rows n ≡ n ∷ ns)
 line-first rows zero n = ([], refl)
 line-first rows (suc d) n = (line_up d rows (node_at rows n).parent, refl)
 

@@ -12,6 +12,7 @@ mod LabelChains
 mod LabelWalk
 mod Lines
 mod Markers
+mod Orders
 mod PathNames
 mod RowLists
 mod TableSteps

@@ -1,15 +1,22 @@
 -- What a statement does to the rows where a name stands twice (dtc 1.6, Documentation/dts-format.txt, "Node and property
 -- definitions"; in the body that a node begins with dtc looks for nothing that is there, as was tried with dtc 1.6.1).
-use Rattle.std.specs.Prelude.{◌≡◌, ℕ, Bool, true, false, ◌&&◌, List, [], ◌∷◌, ◌++◌, Option, Some, None, if◌then◌else◌, codes, length, slice_get}
+use Rattle.std.specs.Prelude.{◌≡◌, ℕ, ◌==◌, Bool, true, false, not, ◌&&◌, List, [], ◌∷◌, ◌++◌, Option, Some, None, if◌then◌else◌, codes, is_some, length, reverse, slice_get}
 use denote.Ref.{Bor}
+use Rattle.dtc_dialect.specs.Copied.{path_of}
 use Rattle.dtc_dialect.specs.declared.changing.Body.{Body}
+use Rattle.dtc_dialect.specs.declared.edits.Edited.{Edited}
+use Rattle.dtc_dialect.specs.declared.edits.Extension.{Extension}
+use Rattle.dtc_dialect.specs.declared.edits.Extension.TheVariants as extensions
+use Rattle.dtc_dialect.specs.declared.error.Mistake.{Mistake}
+use Rattle.dtc_dialect.specs.declared.error.Mistake.TheVariants as mistakes
 use Rattle.dtc_dialect.specs.declared.table.Fragment.{Fragment}
 use Rattle.dtc_dialect.specs.declared.table.LabelRow.{LabelRow}
 use Rattle.dtc_dialect.specs.declared.table.NodeRow.{NodeRow}
 use Rattle.dtc_dialect.specs.declared.table.PropertyRow.{PropertyRow}
 use Rattle.dtc_dialect.specs.declared.table.Tokens.{Tokens}
 use Rattle.dtc_dialect.specs.declared.token.Token.{Token}
-use Rattle.dtc_dialect.specs.Table.{children_of, deleted_at, dropped_at, grown, labels_with, made_at, marked_at, may_give, properties_of, set_at}
+use Rattle.dtc_dialect.specs.References.{NamesNode}
+use Rattle.dtc_dialect.specs.Table.{children_of, deleted_at, dropped_at, grown, labels_with, made_at, marked_at, may_give, placed_at, properties_of, set_at}
 
 -- ---- properties
 abbrev pub new_property : ℕ → Token → Option Tokens → ℕ → ℕ → PropertyRow
@@ -82,10 +89,18 @@ body_by None rows = body_of (length rows) true
 abbrev pub child_body : List NodeRow → Body → Token → Body
 child_body rows outer key = body_by (old_child rows outer key) rows
 
+-- the root's place is that of its first body
+abbrev pub with_root : Edited → Token → List NodeRow
+with_root edited key = if edited.has_root then edited.table.nodes.items else placed_at edited.table.nodes.items 0 key.place
+
 -- ---- labels, one after the other
 abbrev pub all_given : List LabelRow → ℕ → List (Bor (List ℕ)) → ℕ → List LabelRow
 all_given rows n [] time = rows
 all_given rows n (name ∷ names) time = all_given (labels_with rows n name time) n names time
+
+-- the labels before a body in the order in which they are given: the last one that is given comes first
+abbrev pub in_order : Bool → List (Bor (List ℕ)) → List (Bor (List ℕ))
+in_order is_new names = if is_new then reverse names else names
 
 -- whether a node may be given all
 abbrev pub may_give_all : List LabelRow → ℕ → List (Bor (List ℕ)) → ℕ → Bool
@@ -101,3 +116,28 @@ abbrev pub IsWithFragment : List NodeRow → List NodeRow → ℕ → Token → 
 IsWithFragment old new number key time =
     (nameless overlay : Bor (List ℕ)) × (nameless.now ≡ []) × (overlay.now ≡ codes "__overlay__")
     × (new ≡ grown (grown old (fragment_row 0 nameless (Some (record { number = number; target = key })) key time)) (fragment_row (length old) overlay None key time))
+
+-- ---- what `&node {` outside of all bodies begins
+-- In a plugin the body of a reference may be a fragment's, if no label stands before it.
+abbrev pub may_be_fragment : Edited → Bool
+may_be_fragment edited = edited.is_plugin && (length edited.head.labels.items == 0)
+
+-- A reference is looked for behind the first body, but not a path where a fragment may begin: the path is its target.
+abbrev pub is_sought : Edited → Token → Bool
+is_sought edited key = edited.has_root && not (may_be_fragment edited && is_some (path_of key.text.now))
+
+-- the node of the text so far that it finds
+pub record Finds (edited : Edited) (key : Token) (o : Option ℕ) : Type 0 where
+  pub sought : is_sought edited key ≡ true → NamesNode edited.table key.text.now o
+  pub unsought : is_sought edited key ≡ false → o ≡ None
+
+-- what is wrong where it names none
+abbrev pub unknown_of : Option (List ℕ) → Mistake
+unknown_of (Some path) = mistakes.NoPath
+unknown_of None = mistakes.NoLabel
+
+-- the body of the node that is found; where none is, a fragment's if it may be one, else it is refused
+abbrev pub Begins : Edited → Token → Extension → Type 0
+Begins edited key (extensions.Node n) = Finds edited key (Some n)
+Begins edited key extensions.Fragment = Finds edited key None × (may_be_fragment edited ≡ true)
+Begins edited key (extensions.Unknown mistake) = Finds edited key None × (may_be_fragment edited ≡ false) × (mistake ≡ unknown_of (path_of key.text.now))

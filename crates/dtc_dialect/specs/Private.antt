@@ -1,4 +1,6 @@
--- What private contracts cite: what calls change of a table, and how its rows are said. No public clause rests on it.
+-- What private contracts cite: changes of a table, bodies that begin, rows as they are said, walks. No public clause rests on it.
+pub mod Bodies
 pub mod Changes
 pub mod Printed
 pub mod Rows
+pub mod Walks

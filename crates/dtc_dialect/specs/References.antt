@@ -1,24 +1,16 @@
 -- Which node a reference names in the tree so far (dtc 1.6: Documentation/dts-format.txt, "Node and property definitions" and
 -- "File layout"; manual.txt, section 4.1. What is there of what was deleted was tried with dtc 1.6.1).
-use Rattle.std.specs.Prelude.{◌≡◌, ℕ, zero, suc, max, nat_lt, ◌<◌, ◌==◌, Bool, true, false, ◌&&◌, List, [], ◌∷◌, length, take, drop, ◌-◌, Option, Some, None, MatchOption, if◌then◌else◌, slice_index_or}
-use Rattle.std.specs.List.{after_first, before_first, find, slice_split}
+use Rattle.std.specs.Prelude.{◌≡◌, ◌⊎◌, ℕ, max, nat_lt, ◌<◌, ◌==◌, Bool, true, false, ◌&&◌, List, [], ◌∷◌, length, take, drop, ◌-◌, Option, Some, None, MatchOption, if◌then◌else◌, slice_index_or}
+use Rattle.std.specs.List.{after_first, before_first, filter, find, slice_split}
 use Rattle.std.specs.Option.{option_and_then}
 use Rattle.dtc_dialect.specs.declared.table.LabelRow.{LabelRow}
 use Rattle.dtc_dialect.specs.declared.table.NodeRow.{NodeRow}
 use Rattle.dtc_dialect.specs.declared.table.Table.{Table}
 use Rattle.dtc_dialect.specs.declared.token.Token.{Token}
+use Rattle.dtc_dialect.specs.Preorder.{ancestry_of, is_before}
 use Rattle.dtc_dialect.specs.Table.{children_of, deleted_at, label_at, labels_of, marked_at, node_at}
 
 -- ---- what is there
-
--- so many nodes above a node, behind it
-abbrev pub line_up : ℕ → List NodeRow → ℕ → List ℕ
-line_up zero rows n = n ∷ []
-line_up (suc d) rows n = n ∷ line_up d rows (node_at rows n).parent
-
--- a node and those above it, up to the root
-abbrev pub ancestry_of : List NodeRow → ℕ → List ℕ
-ancestry_of rows n = line_up (node_at rows n).depth rows n
 
 -- when one of these was last deleted
 abbrev pub deletion_of : List NodeRow → List ℕ → ℕ
@@ -41,7 +33,7 @@ last_deletion rows n = if is_there rows n then Some (deletion_of rows (ancestry_
 -- ---- paths
 
 -- The child of a name that a path means: the first that is there, of the first two. (Three of a name stand below a node only
--- where the body that it begins with has one twice, which the compiler refuses.)
+-- where the body that it begins with has one more than once; the compiler refuses it, unless all of them but one are deleted.)
 abbrev pub child_there : List NodeRow → ℕ → List ℕ → Option ℕ
 child_there rows n k = find (is_there rows) (take 2 (children_of rows n k))
 
@@ -53,15 +45,13 @@ follow rows n (k ∷ ks) = option_and_then (λ m. follow rows m ks) (child_there
 abbrev pub is_slash : ℕ → Bool
 is_slash c = c == 47
 
--- names but an empty one at the end
-abbrev pub closed : List (List ℕ) → List (List ℕ)
-closed [] = []
-closed ([] ∷ []) = []
-closed (k ∷ ks) = k ∷ closed ks
+abbrev pub is_named : List ℕ → Bool
+is_named [] = false
+is_named (c ∷ cs) = true
 
--- the names of a path, between its slashes; one may stand at its end
+-- the names of a path, between its slashes: where slashes stand side by side, or one at an end, none does
 abbrev pub names_of : List ℕ → List (List ℕ)
-names_of path = closed (slice_split is_slash path)
+names_of path = filter is_named (slice_split is_slash path)
 
 -- ---- labels
 
@@ -73,12 +63,20 @@ label_of labels k j = label_at labels (slice_index_or (labels_of labels k) j 0)
 abbrev pub has_label : List NodeRow → LabelRow → Bool
 has_label rows row = is_there rows row.node && nat_lt (deletion_of rows (ancestry_of rows row.node)) row.made
 
--- one of the nodes that still have a label, if there is one
+-- a node still has a label of a name
+abbrev pub IsOfLabel : List NodeRow → List LabelRow → List ℕ → ℕ → Type 0
+IsOfLabel rows labels k n = (j : ℕ) × (j < length (labels_of labels k)) × (has_label rows (label_of labels k j) ≡ true) × ((label_of labels k j).node ≡ n)
+
+-- no other such node stands before it
+abbrev pub IsFirstOfLabel : List NodeRow → List LabelRow → List ℕ → ℕ → Type 0
+IsFirstOfLabel rows labels k n = (m : ℕ) → IsOfLabel rows labels k m → (m ≡ n) ⊎ (is_before rows n m ≡ true)
+
+-- the first in preorder of the nodes that still have a label, if there is one
 abbrev pub IsLabelled : List NodeRow → List LabelRow → List ℕ → Option ℕ → Type 0
 IsLabelled rows labels k o =
     MatchOption o
     ((j : ℕ) → j < length (labels_of labels k) → has_label rows (label_of labels k j) ≡ false)
-    (λ n. (j : ℕ) × (j < length (labels_of labels k)) × (has_label rows (label_of labels k j) ≡ true) × ((label_of labels k j).node ≡ n))
+    (λ n. IsOfLabel rows labels k n × IsFirstOfLabel rows labels k n)
 
 -- ---- references
 

@@ -1,12 +1,14 @@
 //! What a statement does to the rows of a table, also where a name or a label stands twice.
 ghost use Rattle.std.specs.Prelude.{◌≡◌, ◌+◌, true, IfOk, OnOk, OnErr, Some, length};
-ghost use Rattle.dtc_dialect.specs.Edits.{IsWithFragment, body_of, child_body, may_give_all, new_node, with_child, without_child};
+ghost use Rattle.dtc_dialect.specs.Edits.{IsWithFragment, body_of, child_body, may_give_all, new_node, unknown_of, with_child, without_child};
+ghost use Rattle.dtc_dialect.specs.Copied.{path_of};
 ghost use Rattle.dtc_dialect.specs.References.{DropsNamed, MarksNamed, NamesNode};
 ghost use Rattle.dtc_dialect.specs.Table.{grown};
 ghost use Rattle.dtc_dialect.specs.Private.Changes.{ChangesLabels, ChangesNodes, ChangesProperties};
 ghost use Rattle.dtc_dialect.specs.Private.Changes.{DropsProperty, GivesAll, PutsProperty};
 
 use crate::error::{DialectError, Mistake, refused};
+use crate::references::path_of;
 use crate::table::{Fragment, NodeRow, PropertyRow, ROOT, Table, Tokens};
 use crate::token::Token;
 use std::alloc::AllocError;
@@ -101,10 +103,13 @@ fn referred<'t>(table: &Table<'t>, key: &Token<'t>) -> Result<usize, DialectErro
     }
 }
 
-pub(crate) fn unknown(reference: &[u8]) -> Mistake {
-    match reference {
-        [_, b'{', ..] => Mistake::NoPath,
-        _ => Mistake::NoLabel,
+/// What is wrong where a reference names no node.
+pub(crate) fn unknown(reference: &[u8]) -> Mistake
+    ensures { result ≡ unknown_of (path_of reference.now) }
+{
+    match path_of(reference) {
+        Some(_) => Mistake::NoPath,
+        None => Mistake::NoLabel,
     }
 }
 

@@ -1,11 +1,16 @@
 //! The statements of a source, done to the table in the order of the text as dtc does them.
+ghost use Rattle.std.specs.Prelude.{◌≡◌, IfOk, OnOk, not, true};
+ghost use Rattle.dtc_dialect.specs.Edits.{Begins, Finds, body_of, in_order, is_sought, may_be_fragment, with_root};
+ghost use Rattle.dtc_dialect.specs.Private.Bodies.{BeginsChild, BeginsFragment, Extends, GivesLabels, GoesOn, KeepsCourse};
+ghost use Rattle.dtc_dialect.specs.Private.Bodies.{DeletesBy, DropsIn, SetsIn, TakesProperties, innermost};
 
 use crate::changing::{
     Body, add_fragment, drop_child, drop_named, drop_property, give_all, mark_omitted, open_child,
     put_property, unknown,
 };
-use crate::error::{DialectError, Mistake, refused};
+use crate::error::{DialectError, Mistake, Refusal, refused};
 use crate::head::Head;
+use crate::references::path_of;
 use crate::statements::{Edit, Opening};
 use crate::table::{MAX_DEPTH, ROOT, Table, Tokens};
 use crate::token::{Kind, Place, Token};
@@ -107,10 +112,26 @@ fn end_statement<'t>(
     Ok(())
 }
 
-/// The body in which a property's statement stands: dtc takes none behind a node.
-fn property_body<'t>(edited: &Edited<'t>, key: &Token<'t>) -> Result<Body, DialectError<'t>> {
-    match edited.bodies.last() {
-        Some(body) if !body.has_nodes => Ok(*body),
+/// The body that is open, within all others that are.
+fn innermost(edited: &Edited<'_>) -> Option<Body>
+    ensures { result ≡ innermost edited.now }
+{
+    edited.bodies.last().copied()
+}
+
+/// A child stands in the innermost body: dtc takes no property behind it.
+fn note_child(bodies: &mut Vec<Body>) {
+    if let Some(body) = bodies.last_mut() {
+        body.has_nodes = true;
+    }
+}
+
+/// The body in which a property's statement stands.
+fn property_body<'t>(edited: &Edited<'t>, key: &Token<'t>) -> Result<Body, DialectError<'t>>
+    ensures { IfOk result (λ body. TakesProperties edited.now body) }
+{
+    match innermost(edited) {
+        Some(body) if !body.has_nodes => Ok(body),
         _ => Err(refused(Mistake::Syntax, key.place)),
     }
 }
@@ -120,7 +141,9 @@ fn set_property<'t>(
     time: usize,
     key: &Token<'t>,
     value: Option<Tokens>,
-) -> Result<(), DialectError<'t>> {
+) -> Result<(), DialectError<'t>>
+    ensures { OnOk result (SetsIn edited.old edited.new key.now value time) }
+{
     let body = property_body(edited, key)?;
     Ok(put_property(&mut edited.table, body, time, key, value)?)
 }
@@ -129,7 +152,9 @@ fn delete_property<'t>(
     edited: &mut Edited<'t>,
     time: usize,
     key: &Token<'t>,
-) -> Result<(), DialectError<'t>> {
+) -> Result<(), DialectError<'t>>
+    ensures { OnOk result (DropsIn edited.old edited.new key.now time) }
+{
     let body = property_body(edited, key)?;
     Ok(drop_property(&mut edited.table, body, time, key)?)
 }
@@ -138,12 +163,13 @@ fn delete_node<'t>(
     edited: &mut Edited<'t>,
     time: usize,
     key: &Token<'t>,
-) -> Result<(), DialectError<'t>> {
-    let Some(body) = edited.bodies.last_mut() else {
+) -> Result<(), DialectError<'t>>
+    ensures { OnOk result (DeletesBy (innermost edited.old) edited.old.table edited.new.table key.now time) }
+{
+    let Some(body) = innermost(edited) else {
         return drop_named(&mut edited.table, time, key);
     };
-    body.has_nodes = true;
-    let body = *body;
+    note_child(&mut edited.bodies);
     drop_child(&mut edited.table, body, time, key)
 }
 
@@ -152,7 +178,7 @@ fn open_body<'t>(
     time: usize,
     token: &Token<'t>,
 ) -> Result<(), DialectError<'t>> {
-    let outer = edited.bodies.last().copied();
+    let outer = innermost(edited);
     let Some(opening) = edited.head.opening_of(outer.is_some()) else {
         return Err(refused(Mistake::Syntax, token.place));
     };
@@ -165,9 +191,7 @@ fn open_body<'t>(
         (Opening::Extension(key), None) => extension_body(edited, time, &key)?,
         _ => return Err(refused(Mistake::Syntax, token.place)),
     };
-    if let Some(outer) = edited.bodies.last_mut() {
-        outer.has_nodes = true;
-    }
+    note_child(&mut edited.bodies);
     edited.bodies.push(body)?;
     edited.head.clear();
     Ok(())
@@ -182,7 +206,11 @@ fn close_body<'t>(edited: &mut Edited<'t>, token: &Token<'t>) -> Result<(), Dial
     Ok(())
 }
 
-fn root_body<'t>(edited: &mut Edited<'t>, key: &Token<'t>) -> Body {
+fn root_body<'t>(edited: &mut Edited<'t>, key: &Token<'t>) -> Body
+    ensures body { result ≡ body_of 0 (not edited.old.has_root) }
+    ensures nodes { edited.new.table.nodes.items ≡ with_root edited.old key.now }
+    ensures root { edited.new.has_root ≡ true }
+{
     let is_new = !edited.has_root;
     if is_new {
         edited.table.place_node(ROOT, key.place);
@@ -196,7 +224,9 @@ fn child_body<'t>(
     time: usize,
     outer: Body,
     key: &Token<'t>,
-) -> Result<Body, DialectError<'t>> {
+) -> Result<Body, DialectError<'t>>
+    ensures { IfOk result (λ body. BeginsChild edited.old edited.new outer key.now time body) }
+{
     let omits = edited.head.omits;
     let body = open_child(&mut edited.table, outer, time, key, omits)?;
     give_labels(edited, time, body, key)?;
@@ -204,20 +234,76 @@ fn child_body<'t>(
 }
 
 /// dtc puts each label in front: of a node that is new the first one in the text comes first, of another one the last.
+fn order_labels<'t>(labels: &mut Vec<&'t [u8]>, is_new: bool)
+    ensures { labels.new.items ≡ in_order is_new labels.old.items }
+{
+    if is_new {
+        labels.reverse();
+    }
+}
+
+/// The labels before a body are given to its node.
 fn give_labels<'t>(
     edited: &mut Edited<'t>,
     time: usize,
     body: Body,
     key: &Token<'t>,
-) -> Result<(), DialectError<'t>> {
+) -> Result<(), DialectError<'t>>
+    ensures labels { OnOk result (GivesLabels edited.old edited.new body time) }
+    ensures nodes { edited.new.table.nodes.items ≡ edited.old.table.nodes.items }
+    ensures rest { KeepsCourse edited.old edited.new }
+{
     let Edited { table, head, .. } = edited;
-    if body.is_new {
-        head.labels.reverse();
-    }
+    order_labels(&mut head.labels, body.is_new);
     if give_all(table, head.labels.as_slice(), time, body.node)? {
         Ok(())
     } else {
         Err(refused(Mistake::LabelTwice, key.place))
+    }
+}
+
+/// What `&node { .. }` begins outside of all bodies.
+#[derive(Clone, Copy)]
+pub(crate) enum Extension {
+    /// the body of a node of the text so far
+    Node(usize),
+    Fragment,
+    /// A reference that names no node is refused.
+    Unknown(Mistake),
+}
+
+/// Whether the body of a reference may be a fragment's: in a plugin, without labels.
+fn may_be_fragment(edited: &Edited<'_>) -> bool
+    ensures { result ≡ may_be_fragment edited.now }
+{
+    edited.is_plugin && edited.head.labels.is_empty()
+}
+
+/// Whether a reference is looked for: not before the first body, nor a path where a fragment may begin.
+fn is_sought(edited: &Edited<'_>, key: &Token<'_>) -> bool
+    ensures { result ≡ is_sought edited.now key.now }
+{
+    edited.has_root && !(may_be_fragment(edited) && path_of(key.text).is_some())
+}
+
+/// The node of the text so far whose body goes on.
+fn extended<'t>(edited: &Edited<'t>, key: &Token<'t>) -> Option<usize>
+    ensures { Finds edited.now key.now result }
+{
+    if is_sought(edited, key) {
+        edited.table.referred(key.text)
+    } else {
+        None
+    }
+}
+
+fn extension_of<'t>(edited: &Edited<'t>, key: &Token<'t>) -> Extension
+    ensures { Begins edited.now key.now result }
+{
+    match extended(edited, key) {
+        Some(node) => Extension::Node(node),
+        None if may_be_fragment(edited) => Extension::Fragment,
+        None => Extension::Unknown(unknown(key.text)),
     }
 }
 
@@ -226,21 +312,28 @@ fn extension_body<'t>(
     edited: &mut Edited<'t>,
     time: usize,
     key: &Token<'t>,
-) -> Result<Body, DialectError<'t>> {
-    let is_first = !edited.has_root;
-    let is_path = unknown(key.text) == Mistake::NoPath;
-    let has_labels = !edited.head.labels.is_empty();
-    let found = match edited.is_plugin && is_path && !has_labels || is_first {
-        true => None,
-        false => edited.table.referred(key.text),
-    };
-    let Some(node) = found else {
-        if !edited.is_plugin || has_labels {
-            return Err(refused(unknown(key.text), key.place));
-        }
-        edited.has_root = true;
-        return fragment_body(edited, time, key);
-    };
+) -> Result<Body, DialectError<'t>>
+    ensures { Extends edited.old edited.new key.now time result }
+{
+    match extension_of(edited, key) {
+        Extension::Unknown(mistake) => Err(DialectError::Refused(Refusal {
+            mistake,
+            place: key.place,
+        })),
+        Extension::Fragment => fragment_body(edited, time, key),
+        Extension::Node(node) => node_body(edited, time, node, key),
+    }
+}
+
+/// The body of a node that is there goes on: it is made once more, and given labels.
+fn node_body<'t>(
+    edited: &mut Edited<'t>,
+    time: usize,
+    node: usize,
+    key: &Token<'t>,
+) -> Result<Body, DialectError<'t>>
+    ensures { IfOk result (λ body. GoesOn edited.old edited.new node time body) }
+{
     edited.table.make_node(node, time);
     let body = Body::of(node, false);
     give_labels(edited, time, body, key)?;
@@ -251,9 +344,12 @@ fn fragment_body<'t>(
     edited: &mut Edited<'t>,
     time: usize,
     key: &Token<'t>,
-) -> Result<Body, DialectError<'t>> {
+) -> Result<Body, DialectError<'t>>
+    ensures { IfOk result (λ body. BeginsFragment edited.old edited.new key.now time body) }
+{
     let number = edited.fragments;
     edited.fragments = number.saturating_add(1);
+    edited.has_root = true;
     let overlay = add_fragment(&mut edited.table, number, time, key)?;
     Ok(Body::of(overlay, true))
 }

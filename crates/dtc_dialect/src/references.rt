@@ -1,12 +1,16 @@
 //! The nodes that references name in the tree so far.
 
-ghost use Rattle.std.specs.Prelude.{◌≡◌, ◌⊎◌, ℕ, Some, None, IsSome};
+ghost use Rattle.std.specs.Prelude.{◌≡◌, ◌<◌, ◌≤◌, None, IfSome, length, option_map};
 ghost use Rattle.std.specs.List.{after_first, before_first};
 ghost use Rattle.dtc_dialect.specs.References.{IsLabelled, IsPathNode, IsReference, NamesLabel, NamesPath};
+ghost use Rattle.dtc_dialect.specs.Copied.{path_of};
+ghost use Rattle.dtc_dialect.specs.Preorder.{is_before};
+ghost use Rattle.dtc_dialect.specs.Private.Walks.{IsAbove, first_of, step_down};
 ghost use Rattle.dtc_dialect.specs.References.{child_there, follow, has_label, is_slash, last_deletion, names_of};
+ghost use Rattle.dtc_dialect.specs.Table.{node_at};
 
 use crate::bytes::{behind, front};
-use crate::table::{LabelRow, MAX_DEPTH, MAX_SAME_LABEL, ROOT, Table};
+use crate::table::{LabelRow, MAX_SAME_LABEL, ROOT, Table};
 
 impl<'t> Table<'t> {
     /// When the node or one above it was last deleted, where the node is there.
@@ -65,10 +69,21 @@ impl<'t> Table<'t> {
         let mut left = path;
         while !left.is_empty() {
             let (name, rest) = first_name(left);
-            node = self.child_there(node, name)?;
+            node = self.step_down(node, name)?;
             left = rest;
         }
         Some(node)
+    }
+
+    #[tactic(auto, using(crate::proofs::PathNames::step_none, crate::proofs::PathNames::step_named))]
+    /// The node that a name leads to. dtc passes over the empty one between two slashes.
+    fn step_down(&self, node: usize, name: &'t [u8]) -> Option<usize>
+        ensures { result ≡ step_down self.now.nodes.items node name.now }
+    {
+        if name.is_empty() {
+            return Some(node);
+        }
+        self.child_there(node, name)
     }
 
     /// The first child of a name that is there.
@@ -96,7 +111,7 @@ impl<'t> Table<'t> {
             };
             let row = self.labels.get(row)?;
             if self.has_label(row) {
-                found = self.first(found, row.node);
+                found = Some(self.first(found, row.node));
             }
             at = row.earlier;
         }
@@ -113,58 +128,73 @@ impl<'t> Table<'t> {
         }
     }
 
-    /// The first of two nodes in preorder.
-    fn first(&self, found: Option<usize>, node: usize) -> Option<usize>
-        ensures { IsSome result × ((n : ℕ) → result ≡ Some n → (n ≡ node) ⊎ (found ≡ Some n)) }
+    /// The first in preorder of a node and one that was found.
+    fn first(&self, found: Option<usize>, node: usize) -> usize
+        requires node { node < length self.now.nodes.items }
+        requires found { IfSome found (λ other. other < length self.now.nodes.items) }
+        ensures { result ≡ first_of self.now.nodes.items found node }
     {
         match found {
-            Some(other) if self.is_before(other, node) => Some(other),
-            _ => Some(node),
+            Some(other) if self.is_before(other, node) => other,
+            _ => node,
         }
     }
 
-    fn depth(&self, node: usize) -> usize {
-        match self.nodes.get(node) {
-            Some(row) => row.depth,
-            None => 0,
-        }
-    }
-
-    fn parent(&self, node: usize) -> usize {
-        match self.nodes.get(node) {
-            Some(row) => row.parent,
-            None => ROOT,
+    /// Whether a node comes before another in preorder: siblings stand in the order of their rows.
+    fn is_before(&self, one: usize, other: usize) -> bool
+        requires one { one < length self.now.nodes.items }
+        requires other { other < length self.now.nodes.items }
+        ensures { result ≡ is_before self.now.nodes.items one other }
+    {
+        let one_depth = self.nodes[one].depth;
+        let other_depth = self.nodes[other].depth;
+        let depth = one_depth.min(other_depth);
+        let a = self.lifted(one, depth);
+        let b = self.lifted(other, depth);
+        if a == b {
+            one_depth < other_depth
+        } else {
+            self.parts_before(a, b)
         }
     }
 
     /// The node at a depth above or at this one.
-    fn lifted(&self, node: usize, depth: usize) -> usize {
+    fn lifted(&self, node: usize, depth: usize) -> usize
+        requires inside { node < length self.now.nodes.items }
+        requires level { depth ≤ (node_at self.now.nodes.items node).depth }
+        ensures { IsAbove self.now.nodes.items node depth result }
+    {
         let mut at = node;
-        for _ in 0..MAX_DEPTH {
-            if self.depth(at) <= depth {
-                return at;
-            }
-            at = self.parent(at);
+        while self.nodes[at].depth > depth {
+            at = self.nodes[at].parent;
         }
         at
     }
 
-    /// Whether a node comes before another in preorder: siblings stand in the order of their rows.
-    fn is_before(&self, one: usize, other: usize) -> bool {
-        let depth = self.depth(one).min(self.depth(other));
-        let mut a = self.lifted(one, depth);
-        let mut b = self.lifted(other, depth);
-        if a == b {
-            return self.depth(one) < self.depth(other);
-        }
-        for _ in 0..MAX_DEPTH {
-            if self.parent(a) == self.parent(b) {
-                return a < b;
-            }
-            a = self.parent(a);
-            b = self.parent(b);
+    /// Of two nodes of one depth, whether the first comes before the other: where their lines part, its row does.
+    fn parts_before(&self, one: usize, other: usize) -> bool
+        requires one { one < length self.now.nodes.items }
+        requires other { other < length self.now.nodes.items }
+        requires level { (node_at self.now.nodes.items one).depth ≡ (node_at self.now.nodes.items other).depth }
+        ensures { result ≡ is_before self.now.nodes.items one other }
+    {
+        let mut a = one;
+        let mut b = other;
+        while self.nodes[a].parent != self.nodes[b].parent {
+            a = self.nodes[a].parent;
+            b = self.nodes[b].parent;
         }
         a < b
+    }
+}
+
+/// The path that a reference names, in its braces.
+pub(crate) fn path_of(reference: &[u8]) -> Option<&[u8]>
+    ensures { option_map (λ path. path.now) result ≡ path_of reference.now }
+{
+    match reference {
+        [_, b'{', path @ ..] => Some(front(path, path.len().saturating_sub(1))),
+        _ => None,
     }
 }
 

@@ -1,6 +1,7 @@
-use Rattle.std.proofs.Common.{◌≡◌, ◌⊎◌, inl, inr, ◌+◌, ◌-◌, ◌<◌, ℕ, suc, Some, List, length, sym, ap, subst, ◌∙◌, arith}
+use Rattle.std.proofs.Common.{◌≡◌, ◌+◌, ◌-◌, ◌<◌, suc, true, Some, List, length, sym, ap, subst, ◌∙◌, arith}
 use Rattle.std.specs.Str.{bytes_eq}
 use Rattle.dtc_dialect.specs.References.{has_label, label_of}
+use Rattle.dtc_dialect.specs.Private.Walks.{first_of}
 use Rattle.dtc_dialect.specs.Table.{before_of, label_at, labels_of, no_label}
 use Rattle.dtc_dialect.specs.declared.table.LabelRow.{LabelRow}
 use Rattle.dtc_dialect.proofs.RowLists.{rows-below}
@@ -42,13 +43,10 @@ loop-step-preserved c =
     let before : Seen rows labels k (suc q) c.loop-step.found = subst (λ p. Seen rows labels k p c.loop-step.found) here.1 c.loop-step.invariant.seen in
     let seen : Seen rows labels k q c.if-has_label.found = elim c.if-has_label.branch [
       | then-has_label w ↦
-          let new = w.first-found.result in
-          let from : (n : ℕ) → new ≡ Some n → (n ≡ (label_of labels k q).node) ⊎ (c.loop-step.found ≡ Some n) = λ n e. elim (w.first-found.ensures.1 n e) [
-            | inl same ↦ inl (same ∙ ap (λ row. row.node) is)
-            | inr other ↦ inr other
-          ] in
-          subst (Seen rows labels k q) (sym w.found-is)
-          (seen-yes rows labels k q c.loop-step.found new here.2 (ap (has_label rows) (sym is) ∙ sym c.has_label.ensures ∙ w.if-has_label.true) w.first-found.ensures.0 from before)
+          let yes : has_label rows (label_of labels k q) ≡ true = ap (has_label rows) (sym is) ∙ sym c.has_label.ensures ∙ w.if-has_label.true in
+          let first : Some w.first.result ≡ Some (first_of rows c.loop-step.found (label_of labels k q).node) =
+          ap (λ n. Some n) (w.first.ensures ∙ ap (λ (row : LabelRow). first_of rows c.loop-step.found row.node) is) in
+          subst (Seen rows labels k q) (sym (w.found-is ∙ first)) (seen-yes rows labels k q c.loop-step.found here.2 yes before)
       | else-has_label w ↦
           subst (Seen rows labels k q) (sym w.found-is)
           (seen-no rows labels k q c.loop-step.found (ap (has_label rows) (sym is) ∙ sym c.has_label.ensures ∙ w.if-has_label.false) before)
