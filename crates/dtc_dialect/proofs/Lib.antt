@@ -1,4 +1,5 @@
 mod Ancestries
+mod ChainWalks
 mod Comments
 mod Copying
 mod Cutting
@@ -13,7 +14,9 @@ mod LabelWalk
 mod Lines
 mod Markers
 mod PathNames
+mod RowChains
 mod RowLists
 mod TableSteps
 mod TokenFirsts
 mod TokenKinds
+mod Visits
