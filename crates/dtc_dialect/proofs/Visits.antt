@@ -161,8 +161,8 @@ child-below rows n d child g h from to parent = record {
 }
 
 pub preorder-is : (table : Table) (w new : Walked) (preorder : Preorder) → w.stops.items ≡ [] → w.properties.items ≡ [] → Visits table (0 ∷ []) w new
-    → preorder.stops.items ≡ new.stops.items → preorder.properties.items ≡ new.properties.items → KnowsLabels preorder table.nodes.items table.labels.items
-    → IsPreorder table.nodes.items table.properties.items table.labels.items preorder
+    → preorder.stops.items ≡ new.stops.items → preorder.properties.items ≡ new.properties.items → KnowsLabels preorder table
+    → IsPreorder table preorder
 preorder-is table w new preorder none bare v stops properties known =
     let rows = table.nodes.items in
     let ps = table.properties.items in

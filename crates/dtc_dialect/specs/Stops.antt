@@ -11,6 +11,7 @@ use Rattle.dtc_dialect.specs.declared.preorder.Stop.{Stop}
 use Rattle.dtc_dialect.specs.declared.table.LabelRow.{LabelRow}
 use Rattle.dtc_dialect.specs.declared.table.NodeRow.{NodeRow}
 use Rattle.dtc_dialect.specs.declared.table.PropertyRow.{PropertyRow}
+use Rattle.dtc_dialect.specs.declared.table.Table.{Table}
 
 -- ---- nodes
 
@@ -62,12 +63,12 @@ abbrev pub nodes_of : List Stop → List ℕ
 nodes_of stops = map (λ stop. stop.node) stops
 
 -- each node's labels are known, whether it still has them or not
-abbrev pub KnowsLabels : Preorder → List NodeRow → List LabelRow → Type 0
-KnowsLabels preorder rows labels = (n : ℕ) → n < length rows → Lists preorder.labels n (labels_in labels n)
+abbrev pub KnowsLabels : Preorder → Table → Type 0
+KnowsLabels preorder table = (n : ℕ) → n < length table.nodes.items → Lists preorder.labels n (labels_in table.labels.items n)
 
 -- The nodes from the root on, each with its properties, all properties in this order, and the labels.
-pub record IsPreorder (rows : List NodeRow) (properties : List PropertyRow) (labels : List LabelRow) (preorder : Preorder) : Type 0 where
-  pub walk : Walk rows (0 ∷ []) (nodes_of preorder.stops.items)
-  pub stops : AllByRecursion (IsStop rows properties preorder.properties.items) preorder.stops.items
-  pub listed : preorder.properties.items ≡ flat_map (properties_there rows properties) (nodes_of preorder.stops.items)
-  pub known : KnowsLabels preorder rows labels
+pub record IsPreorder (table : Table) (preorder : Preorder) : Type 0 where
+  pub walk : Walk table.nodes.items (0 ∷ []) (nodes_of preorder.stops.items)
+  pub stops : AllByRecursion (IsStop table.nodes.items table.properties.items preorder.properties.items) preorder.stops.items
+  pub listed : preorder.properties.items ≡ flat_map (properties_there table.nodes.items table.properties.items) (nodes_of preorder.stops.items)
+  pub known : KnowsLabels preorder table

@@ -1,10 +1,10 @@
 //! The nodes and properties that are there when all is read, in preorder.
-ghost use Rattle.std.specs.Prelude.{◌≡◌, ◌<◌, ◌++◌, ◌∷◌, ◌&&◌, [], ℕ, List, length, nat_lt, if◌then◌else◌, is_some, slice_get, IfOk, OnOk};
+ghost use Rattle.std.specs.Prelude.{◌≡◌, ◌<◌, ◌∷◌, [], ℕ, List, length, is_some, slice_get, IfOk, OnOk};
 ghost use Rattle.dtc_dialect.specs.Chains.{Lists};
 ghost use Rattle.dtc_dialect.specs.Copied.{part_of};
-ghost use Rattle.dtc_dialect.specs.Stops.{IsPreorder, KnowsLabels, has_property, labels_there, properties_there};
-ghost use Rattle.dtc_dialect.specs.Table.{label_at, property_at};
-ghost use Rattle.dtc_dialect.specs.Private.Walking.{IsBelow, IsIn, IsLinked, ListsChildren, ListsLabels, ListsProperties, PutsStop, Visits};
+ghost use Rattle.dtc_dialect.specs.Stops.{IsPreorder, KnowsLabels};
+ghost use Rattle.dtc_dialect.specs.Private.Walking.{IsBelow, IsIn, IsLinked, ListsChildren, ListsLabels, ListsProperties};
+ghost use Rattle.dtc_dialect.specs.Private.Walking.{KeepsLabel, KeepsProperty, ListsThere, PutsProperties, PutsStop, Visits};
 
 use crate::chains::Chains;
 use crate::table::{LabelRow, PropertyRow, ROOT, Table, Tokens};
@@ -85,7 +85,7 @@ fn label_chains(alloc: Global, table: &Table<'_>) -> Result<Chains, AllocError>
 
 /// What is there of a table.
 pub(crate) fn preorder_of(alloc: Global, table: &Table<'_>) -> Result<Preorder, AllocError>
-    ensures { IfOk result (λ preorder. IsPreorder table.now.nodes.items table.now.properties.items table.now.labels.items preorder) }
+    ensures { IfOk result (λ preorder. IsPreorder table.now preorder) }
 {
     let labels = label_chains(alloc, table)?;
     let children = child_chains(alloc, table)?;
@@ -170,8 +170,7 @@ fn put_properties(
     requires linked { IsLinked linked }
     requires within { node < length linked.table.now.nodes.items }
     requires there { IsIn linked.table.now.nodes.items node deletion }
-    ensures { let table = linked.entry.table.now in
-        OnOk result (properties.new.items ≡ properties.old.items ++ properties_there table.nodes.items table.properties.items node) }
+    ensures { OnOk result (PutsProperties linked.entry.table.now node properties.old.items properties.new.items) }
 {
     let mut next = linked.properties.first(node);
     for step in 0..linked.table.properties.len() {
@@ -192,8 +191,7 @@ fn put_property(
     properties: &mut Vec<usize>,
 ) -> Result<(), AllocError>
     requires { property < length table.now.properties.items }
-    ensures { let row = property_at table.now.properties.items property in
-        OnOk result (properties.new.items ≡ properties.old.items ++ (if nat_lt row.deleted row.made && nat_lt deletion row.made then property ∷ [] else [])) }
+    ensures { OnOk result (KeepsProperty table.now property deletion properties.old.items properties.new.items) }
 {
     let row = &table.properties[property];
     if row.made > row.deleted && row.made > deletion {
@@ -217,8 +215,7 @@ impl Preorder {
         table: &Table<'t>,
         node: usize,
     ) -> Result<Vec<LabelRow<'t>>, AllocError>
-        ensures { let rows = table.now.nodes.items in let named = table.now.labels.items in
-            KnowsLabels self.now rows named → IfOk result (λ labels. labels.items ≡ labels_there rows named node) }
+        ensures { KnowsLabels self.now table.now → IfOk result (λ labels. ListsThere table.now node labels.items) }
     {
         let mut labels = Vec::new(alloc);
         let Some(deletion) = table.last_deletion(node) else {
@@ -250,8 +247,7 @@ fn put_label<'t>(
     deletion: usize,
     labels: &mut Vec<LabelRow<'t>>,
 ) -> Result<(), AllocError>
-    ensures { let row = label_at table.now.labels.items label in
-        OnOk result (label < length table.now.labels.items → labels.new.items ≡ labels.old.items ++ (if nat_lt deletion row.made then row ∷ [] else [])) }
+    ensures { OnOk result (KeepsLabel table.now label deletion labels.old.items labels.new.items) }
 {
     let Some(row) = table.labels.get(label) else {
         return Ok(());

@@ -1,14 +1,17 @@
 -- What is known on the way through the nodes of a table.
-use Rattle.std.specs.Prelude.{◌≡◌, ℕ, ◌<◌, true, List, [], ◌∷◌, ◌++◌, length}
+use Rattle.std.specs.Prelude.{◌≡◌, ℕ, ◌<◌, nat_lt, Bool, true, ◌&&◌, if◌then◌else◌, List, [], ◌∷◌, ◌++◌, length}
 use Rattle.std.specs.List.{flat_map, AllByRecursion}
 use Rattle.dtc_dialect.specs.Chains.{Lists}
 use Rattle.dtc_dialect.specs.References.{are_made, ancestry_of, deletion_of, is_there}
-use Rattle.dtc_dialect.specs.Stops.{IsStop, Walk, children_in, labels_in, nodes_of, properties_in, properties_there}
+use Rattle.dtc_dialect.specs.Stops.{IsStop, Walk, children_in, labels_in, labels_there, nodes_of, properties_in, properties_there}
+use Rattle.dtc_dialect.specs.Table.{label_at, property_at}
 use Rattle.dtc_dialect.specs.declared.chains.Chains.{Chains}
 use Rattle.dtc_dialect.specs.declared.preorder.Linked.{Linked}
 use Rattle.dtc_dialect.specs.declared.preorder.Stop.{Stop}
 use Rattle.dtc_dialect.specs.declared.preorder.Walked.{Walked}
+use Rattle.dtc_dialect.specs.declared.table.LabelRow.{LabelRow}
 use Rattle.dtc_dialect.specs.declared.table.NodeRow.{NodeRow}
+use Rattle.dtc_dialect.specs.declared.table.PropertyRow.{PropertyRow}
 use Rattle.dtc_dialect.specs.declared.table.Table.{Table}
 
 abbrev pub ListsChildren : Chains → Table → Type 0
@@ -52,3 +55,24 @@ pub record Visits (table : Table) (nodes : List ℕ) (old new : Walked) : Type 0
   pub walk : Walk table.nodes.items nodes (nodes_of more)
   pub each : AllByRecursion (IsStop table.nodes.items table.properties.items new.properties.items) more
   pub properties : new.properties.items ≡ old.properties.items ++ flat_map (properties_there table.nodes.items table.properties.items) (nodes_of more)
+
+-- A node's properties that are there are put behind others.
+abbrev pub PutsProperties : Table → ℕ → List ℕ → List ℕ → Type 0
+PutsProperties table n old new = new ≡ old ++ properties_there table.nodes.items table.properties.items n
+
+-- a property that was made later than it was deleted, and later than a time
+abbrev pub is_later : PropertyRow → ℕ → Bool
+is_later row time = nat_lt row.deleted row.made && nat_lt time row.made
+
+-- such a property is put behind others
+abbrev pub KeepsProperty : Table → ℕ → ℕ → List ℕ → List ℕ → Type 0
+KeepsProperty table property time old new = new ≡ old ++ (if is_later (property_at table.properties.items property) time then property ∷ [] else [])
+
+-- a label that was given later than a time is put behind others
+abbrev pub KeepsLabel : Table → ℕ → ℕ → List LabelRow → List LabelRow → Type 0
+KeepsLabel table label time old new =
+    let row = label_at table.labels.items label in label < length table.labels.items → new ≡ old ++ (if nat_lt time row.made then row ∷ [] else [])
+
+-- a node's labels that it still has
+abbrev pub ListsThere : Table → ℕ → List LabelRow → Type 0
+ListsThere table n labels = labels ≡ labels_there table.nodes.items table.labels.items n

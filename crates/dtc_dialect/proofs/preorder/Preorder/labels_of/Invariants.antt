@@ -11,7 +11,7 @@ abbrev pub invariant-loop-step : goal.invariant-loop-step
 invariant-loop-step l =
     let nodes = l.table.nodes.items in
     let rows = l.table.labels.items in
-    KnowsLabels l.self nodes rows → record {
+    KnowsLabels l.self l.table → record {
       chain : Leads l.self.labels.next.items l.next (drop l.step (labels_in rows l.node));
       put : l.labels.items ≡ filter (has_label nodes) (map (label_at rows) (take l.step (labels_in rows l.node)));
     }
