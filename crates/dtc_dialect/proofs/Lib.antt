@@ -1,4 +1,5 @@
 mod Ancestries
+mod ChainWalks
 mod Comments
 mod Copying
 mod Cutting
@@ -14,7 +15,9 @@ mod Lines
 mod Markers
 mod Orders
 mod PathNames
+mod RowChains
 mod RowLists
 mod TableSteps
 mod TokenFirsts
 mod TokenKinds
+mod Visits

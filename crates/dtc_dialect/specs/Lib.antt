@@ -1,4 +1,5 @@
 pub mod Bytes
+pub mod Chains
 pub mod Character
 pub mod Copied
 pub mod Cuts
@@ -14,6 +15,7 @@ pub mod Preorder
 pub mod Private
 pub mod References
 pub mod Statements
+pub mod Stops
 pub mod Table
 pub mod Tokens
 pub mod Words

@@ -4,6 +4,7 @@
 #![tactic(auto)]
 
 mod bytes;
+mod chains;
 mod changing;
 mod character;
 mod edits;
