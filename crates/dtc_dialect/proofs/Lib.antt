@@ -17,3 +17,4 @@ mod RowLists
 mod TableSteps
 mod TokenFirsts
 mod TokenKinds
+mod Turns
