@@ -20,4 +20,5 @@ mod RowLists
 mod TableSteps
 mod TokenFirsts
 mod TokenKinds
+mod Turns
 mod Visits

@@ -1,7 +1,8 @@
 //! Phandles: which nodes are referred to, and by what numbers where dtc gives them before it omits nodes.
-ghost use Rattle.std.specs.Prelude.{◌≡◌, ◌-◌, ◌^◌, ◌<◌, ℕ, false, nat_eq, option_map};
+ghost use Rattle.std.specs.Prelude.{◌≡◌, ◌-◌, ◌^◌, ◌<◌, ℕ, false, nat_eq, option_map, IfOk, OnOk};
 ghost use Rattle.std.specs.HashSet.{contains};
-ghost use Rattle.dtc_dialect.specs.Phandles.{IsFree, asks_number, cells_behind, given_row, giver_of, lone_cell, number_of, reference_of, referred, Refers};
+ghost use Rattle.dtc_dialect.specs.Phandles.{AllInTurn, AreFirst, AreFound, AreGiven, GivesBy, GivesNumber, IsFree, IsTaken, NamesBy, ReferBy, ReferIn, Refers, RefersBy, Says};
+ghost use Rattle.dtc_dialect.specs.Phandles.{are_written, asks_number, cells_behind, given_row, giver_of, has_phandle, is_any_marked, lone_cell, no_cells, number_of, reference_of, referred, rows_given};
 ghost use Rattle.dtc_dialect.specs.Copied.{words_of};
 
 use crate::integer::integer;
@@ -95,10 +96,11 @@ impl Cells {
 
     /// Behind a token.
     pub fn step(&mut self, kind: Kind)
-        ensures { self.old.parens < 2 ^ 64 - 1 → self.new ≡ cells_behind self.old kind }
+        requires { self.old.parens < 2 ^ 64 - 1 }
+        ensures { self.new ≡ cells_behind self.old kind }
     {
         match kind {
-            Kind::Paren => self.parens = self.parens.saturating_add(1),
+            Kind::Paren => self.parens += 1,
             Kind::EndParen => self.parens = self.parens.saturating_sub(1),
             Kind::Less if self.parens == 0 => self.are_open = true,
             Kind::Greater if self.parens == 0 => self.are_open = false,
@@ -115,52 +117,126 @@ impl<'a, 't> View<'a, 't> {
     }
 }
 
-/// The numbers of a source, as dtc gives them: in order of the first reference in cells.
+/// The numbers of a source, as dtc gives them: in order of the first reference in cells. None where no use is made of them.
 pub(crate) fn number_nodes(
     alloc: Global,
     hasher: RandomState,
     view: View<'_, '_>,
-) -> Result<Numbers, AllocError> {
-    let mut numbers = Numbers {
-        known: vec![in alloc; UNKNOWN; view.table.nodes.len()]?,
-        taken: HashSet::with_hasher(alloc, hasher),
-        next: 1,
-    };
-    for property in view.preorder.properties.iter() {
-        if let Some(row) = view.table.properties.get(*property) {
-            note_given(&mut numbers, view, row)?;
-        }
+) -> Result<Option<Numbers>, AllocError>
+    ensures { IfOk result (AreFound view.entry) }
+{
+    let mut numbers = given_numbers(alloc, hasher, view)?;
+    if !is_any_marked(view.table) && !numbers.are_written() {
+        return Ok(None);
     }
+    note_all_references(&mut numbers, view);
+    Ok(Some(numbers))
+}
+
+/// The numbers that properties give.
+fn given_numbers(
+    alloc: Global,
+    hasher: RandomState,
+    view: View<'_, '_>,
+) -> Result<Numbers, AllocError>
+    ensures { IfOk result (AreGiven view.entry) }
+{
+    let mut numbers = no_numbers(alloc, hasher, view.table.nodes.len())?;
     for property in view.preorder.properties.iter() {
-        if let Some(row) = view.table.properties.get(*property) {
-            note_references(&mut numbers, view, row);
-        }
+        note_given(&mut numbers, view, *property)?;
     }
     Ok(numbers)
 }
 
+/// Nothing is known of so many nodes.
+fn no_numbers(alloc: Global, hasher: RandomState, count: usize) -> Result<Numbers, AllocError>
+    ensures { IfOk result (AreFirst count) }
+{
+    Ok(Numbers {
+        known: vec![in alloc; UNKNOWN; count]?,
+        taken: HashSet::with_hasher(alloc, hasher),
+        next: 1,
+    })
+}
+
+/// Whether a node is marked by `/omit-if-no-ref/`.
+fn is_any_marked(table: &Table<'_>) -> bool
+    ensures { result ≡ is_any_marked table.now.nodes.items }
+{
+    table.nodes.iter().any(|row| row.omit)
+}
+
+impl Numbers {
+    /// A number that a property gives is taken.
+    fn take(&mut self, given: Given) -> Result<(), AllocError>
+        ensures known { self.new.known.items ≡ self.old.known.items }
+        ensures next { self.new.next ≡ self.old.next }
+        ensures taken { OnOk result (IsTaken given self.old self.new) }
+    {
+        if let Given::Number(number) = given {
+            self.taken.insert(number)?;
+        }
+        Ok(())
+    }
+
+    /// What is known of a node behind such a property of it.
+    fn give(&mut self, node: usize, giver: Giver, has_phandle: bool, given: Given)
+        ensures known { self.new.known.items ≡ rows_given self.old.known.items node giver has_phandle given }
+        ensures taken { self.new.taken ≡ self.old.taken }
+        ensures next { self.new.next ≡ self.old.next }
+    {
+        if let Some(known) = self.known.get(node).copied() {
+            self.known[node] = given_row(giver, has_phandle, given, known);
+        }
+    }
+
+    /// Whether numbers are written out where no node is omitted.
+    pub fn are_written(&self) -> bool
+        ensures { result ≡ are_written self.now }
+    {
+        self.known.iter().any(|known| known.asks || known.is_legacy)
+    }
+}
+
 /// Notes the number of a property `phandle` or `linux,phandle`.
-fn note_given<'t>(
+fn note_given(numbers: &mut Numbers, view: View<'_, '_>, property: usize) -> Result<(), AllocError>
+    ensures { OnOk result (GivesNumber view.entry property numbers.old numbers.new) }
+{
+    let Some(row) = view.table.properties.get(property) else {
+        return Ok(());
+    };
+    match giver_of(row.name) {
+        Some(giver) => note_giver(numbers, view, row, giver),
+        None => Ok(()),
+    }
+}
+
+/// Notes what such a property says.
+fn note_giver<'t>(
     numbers: &mut Numbers,
     view: View<'_, 't>,
     row: &PropertyRow<'t>,
-) -> Result<(), AllocError> {
-    let Some(giver) = giver_of(row.name) else {
-        return Ok(());
-    };
+    giver: Giver,
+) -> Result<(), AllocError>
+    ensures { OnOk result (GivesBy (Some giver) view.entry row.now numbers.old numbers.new) }
+{
+    let given = given_of(view, row);
+    numbers.take(given)?;
+    let ever_phandle = has_phandle(view.table, row.node);
+    numbers.give(row.node, giver, ever_phandle, given);
+    Ok(())
+}
+
+/// What a property's value says of its node's number.
+fn given_of<'t>(view: View<'_, 't>, row: &PropertyRow<'t>) -> Given
+    ensures { Says view.entry.table.now row.now.node (words_of view.entry.tokens.now row.now.value) result }
+{
     let value = view.value_of(row);
-    let given = match number_of(value) {
-        Some(number) => {
-            numbers.taken.insert(number)?;
-            Given::Number(number)
-        }
+    match number_of(value) {
+        Some(number) => Given::Number(number),
         None if refers(view, value) == Some(row.node) => Given::Own,
         None => Given::Unread,
-    };
-    if let Some(known) = numbers.known.get_mut(row.node) {
-        *known = given_row(giver, has_phandle(view.table, row.node), given, *known);
     }
-    Ok(())
 }
 
 fn giver_of(name: &[u8]) -> Option<Giver>
@@ -205,7 +281,9 @@ fn given_row(giver: Giver, has_phandle: bool, given: Given, known: Known) -> Kno
 }
 
 /// Whether a node ever had a property `phandle`.
-fn has_phandle(table: &Table<'_>, node: usize) -> bool {
+fn has_phandle(table: &Table<'_>, node: usize) -> bool
+    ensures { result ≡ has_phandle table.now node }
+{
     table.property(node, b"phandle").is_some()
 }
 
@@ -249,18 +327,48 @@ fn reference_of<'t>(value: &[Token<'t>]) -> Option<&'t [u8]>
 }
 
 /// The node of `<&node>`.
-fn refers<'t>(view: View<'_, 't>, value: &[Token<'t>]) -> Option<usize> {
+fn refers<'t>(view: View<'_, 't>, value: &[Token<'t>]) -> Option<usize>
+    ensures { NamesBy view.entry.table.now (reference_of value.now) result }
+{
     view.table.referred(reference_of(value)?)
 }
 
-fn note_references<'t>(numbers: &mut Numbers, view: View<'_, 't>, row: &PropertyRow<'t>) {
+/// All references refer to their nodes.
+fn note_all_references(numbers: &mut Numbers, view: View<'_, '_>)
+    ensures { AllInTurn view.entry (ReferBy view.entry) numbers.old numbers.new }
+{
+    for property in view.preorder.properties.iter() {
+        note_references(numbers, view, *property);
+    }
+}
+
+/// The references of a property's value.
+fn note_references(numbers: &mut Numbers, view: View<'_, '_>, property: usize)
+    ensures { ReferBy view.entry property numbers.old numbers.new }
+{
+    if let Some(row) = view.table.properties.get(property) {
+        note_words(numbers, view.table, view.value_of(row));
+    }
+}
+
+/// What words do, one after the other.
+fn note_words<'t>(numbers: &mut Numbers, table: &Table<'t>, words: &[Token<'t>])
+    ensures { ReferIn table.now no_cells words.now numbers.old numbers.new }
+{
     let mut cells = Cells::none();
-    for token in view.value_of(row) {
-        cells.step(token.kind);
-        if token.kind == Kind::Reference {
-            if let Some(node) = view.table.referred(token.text) {
-                note_reference(numbers, node, cells.are_open);
-            }
+    for word in words {
+        cells.step(word.kind);
+        note_word(numbers, table, word, cells);
+    }
+}
+
+/// What a word does.
+fn note_word<'t>(numbers: &mut Numbers, table: &Table<'t>, token: &Token<'t>, cells: Cells)
+    ensures { RefersBy table.now cells token.now numbers.old numbers.new }
+{
+    if token.kind == Kind::Reference {
+        if let Some(node) = table.referred(token.text) {
+            note_reference(numbers, node, cells.are_open);
         }
     }
 }

@@ -57,7 +57,7 @@ fn said<'t>(
     let tokens = tokens(alloc, options.file, text)?;
     let mut source = edit(alloc, hasher, tokens.as_slice())?;
     let found = preorder_of(alloc, &source.table)?;
-    let known = number_nodes(
+    let numbers = number_nodes(
         alloc,
         hasher,
         View {
@@ -66,36 +66,32 @@ fn said<'t>(
             preorder: &found,
         },
     )?;
-    let omits = omit(&mut source.table, &found, &known, options.symbols);
-    let left = preorder_of(alloc, &source.table)?;
-    let view = View {
-        tokens: tokens.as_slice(),
-        table: &source.table,
-        preorder: &left,
+    let omits = match &numbers {
+        Some(numbers) => omit(&mut source.table, &found, numbers, options.symbols),
+        None => false,
     };
-    let numbers = if omits || are_written(&known) {
-        Some(&known)
+    let left = if omits {
+        preorder_of(alloc, &source.table)?
     } else {
-        None
+        found
     };
     print_source(
         alloc,
         text,
         &source,
         Printed {
-            view,
-            numbers,
+            view: View {
+                tokens: tokens.as_slice(),
+                table: &source.table,
+                preorder: &left,
+            },
+            numbers: match &numbers {
+                Some(numbers) if omits || numbers.are_written() => Some(numbers),
+                _ => None,
+            },
             asked,
         },
     )
-}
-
-/// Whether numbers are written out where no node is omitted.
-fn are_written(numbers: &Numbers) -> bool {
-    numbers
-        .known
-        .iter()
-        .any(|known| known.asks || known.is_legacy)
 }
 
 /// Deletes the nodes under `/omit-if-no-ref/` that no reference names. Answers whether there were any.
