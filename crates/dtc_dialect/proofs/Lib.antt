@@ -7,11 +7,14 @@ mod Fronts
 mod GapEnds
 mod GapHere
 mod GapOnce
+mod InclusionRests
+mod InclusionWords
 mod Integers
 mod LabelChains
 mod LabelWalk
 mod Lines
 mod Markers
+mod OpenFiles
 mod PathNames
 mod RowLists
 mod TableSteps
