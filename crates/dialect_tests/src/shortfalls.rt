@@ -16,6 +16,8 @@ const FILES: &[(&str, &[u8])] = &[
 ];
 
 impl Files for Shelf {
+    ghost finds = { λ beside name found. Unit {0} };
+
     fn find(
         &mut self,
         alloc: Global,

@@ -12,7 +12,7 @@ no_more : (s t : List ℕ) → gap_len s ≡ 0 → Gaps s t → s ≡ t
 no_more s t e nothing = refl
 no_more s t e (more lt h) = absurd (omega (arith, lt, e))
 
-ends_once : (s t u : List ℕ) → Gaps s t → gap_len t ≡ 0 → Gaps s u → gap_len u ≡ 0 → t ≡ u
+pub ends_once : (s t u : List ℕ) → Gaps s t → gap_len t ≡ 0 → Gaps s u → gap_len u ≡ 0 → t ≡ u
 ends_once s t u nothing e h f = no_more s u e h
 ends_once s t u (more lt g) e nothing f = absurd (omega (arith, lt, f))
 ends_once s t u (more lt g) e (more lt' h) f = ends_once (drop (gap_len s) s) t u g e h f
@@ -35,7 +35,7 @@ no_blanks [] e = absurd cc
 no_blanks (c ∷ []) e = absurd cc
 no_blanks (c ∷ d ∷ s) e = let k : c ≡ 47 = eqb-true c 47 (and_parts (eqb c 47) (eqb d 42) e).0 in rw k refl
 
-unclosed_len : (s : List ℕ) → is_unclosed s ≡ true → gap_len s ≡ 0
+pub unclosed_len : (s : List ℕ) → is_unclosed s ≡ true → gap_len s ≡ 0
 unclosed_len s e =
     let parts = and_parts (begins_comment s) (is_none (comment_len (drop 2 s))) e in
     rw (no_blanks s parts.0, parts.0, no_length (comment_len (drop 2 s)) parts.1) refl

@@ -8,11 +8,14 @@ mod Fronts
 mod GapEnds
 mod GapHere
 mod GapOnce
+mod InclusionRests
+mod InclusionWords
 mod Integers
 mod LabelChains
 mod LabelWalk
 mod Lines
 mod Markers
+mod OpenFiles
 mod Orders
 mod PathNames
 mod RowChains

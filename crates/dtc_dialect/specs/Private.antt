@@ -3,6 +3,7 @@
 pub mod Bodies
 pub mod Chaining
 pub mod Changes
+pub mod Included
 pub mod Printed
 pub mod Rows
 pub mod Walking

@@ -1,13 +1,14 @@
 //! What a source takes in from other files: `/include/ "FILE"` and `/incbin/("FILE"[, OFFSET, LENGTH])`.
-ghost use Rattle.std.specs.Prelude.{◌≡◌, ◌<◌, ◌↔◌, ◌++◌, [], ◌∷◌, OnOk, vec_len};
+ghost use Rattle.std.specs.Prelude.{◌≡◌, ◌<◌, ◌↔◌, ◌++◌, ℕ, List, IfOk, IfSome, [], ◌∷◌, OnOk, vec_len};
 ghost use Rattle.std.specs.Char.{digit_char};
-ghost use Rattle.dtc_dialect.specs.Inclusion.{MayNest, byte_string_of, part_of};
+ghost use Rattle.dtc_dialect.specs.Inclusion.{Includes, MayNest, byte_string_of, part_of};
+ghost use Rattle.dtc_dialect.specs.Private.Included.{Goes, IsPassed, IsTaken, Turns};
 
 use crate::bytes::{behind, front};
 use crate::places::Line;
 use crate::site::{Shortfall, Site};
 use crate::token::Span;
-use crate::words::{Inclusion, Next, Part, next_inclusion};
+use crate::words::{Inclusion, Next, Part, next_inclusion, span_of};
 use std::alloc::{AllocError, AllocFailed, Global};
 
 /// How deep files may take in files.
@@ -25,13 +26,19 @@ pub struct Found {
 
 /// Files by the names that sources give them.
 pub trait Files {
+    ghost use Rattle.dtc_dialect.specs.declared.inclusion.Found.{Found};
+
+    // that a file has a name beside a path; each kind of files says what that means
+    ghost finds: { List ℕ → List ℕ → Found → Type 0 };
+
     /// The file of a name, beside the file that names it or on the search path; none where there is none.
     fn find(
         &mut self,
         alloc: Global,
         beside: &[u8],
         name: &[u8],
-    ) -> Result<Option<Found>, AllocError>;
+    ) -> Result<Option<Found>, AllocError>
+        ensures { IfOk result (λ found. IfSome found (finds beside.now name.now)) };
 }
 
 /// Why a text isn't whole.
@@ -78,7 +85,9 @@ pub fn included<F: Files>(
     files: &mut F,
     path: &[u8],
     text: &[u8],
-) -> Result<Vec<u8>, Shortfall> {
+) -> Result<Vec<u8>, Shortfall>
+    ensures { IfOk result (λ whole. Includes F.finds path.now text.now whole.items) }
+{
     let mut whole = Vec::new(alloc);
     let mut frames = Vec::new(alloc);
     frames.push(Frame {
@@ -88,7 +97,7 @@ pub fn included<F: Files>(
         line: Line::first(alloc, path)?,
     })?;
     // Each turn takes words or ends a file, and each file that is begun puts a line marker.
-    for _ in 0..=MAX_TEXT {
+    'turns: for _ in 0..=MAX_TEXT {
         let Some(mut frame) = frames.pop() else {
             return Ok(whole);
         };
@@ -113,26 +122,28 @@ fn go_on(
     frame: Frame,
     turn: Turn,
     whole: &mut Vec<u8>,
-) -> Result<(), Incomplete> {
+) -> Result<(), Incomplete>
+    ensures { OnOk result (Goes frames.old.items frame turn whole.old.items frames.new.items whole.new.items) }
+{
     match turn {
-        Turn::End => {}
-        Turn::Again => frames.push(frame)?,
+        Turn::End => Ok(()),
+        Turn::Again => Ok(frames.push(frame)?),
         Turn::Into(found) => {
             frames.push(frame)?;
             let line = Line::first(alloc, found.path.as_slice())?;
             line.mark(alloc, whole)?;
+            let Found { path, bytes } = found;
             enter(
                 frames,
                 Frame {
-                    path: found.path,
-                    bytes: found.bytes,
+                    path,
+                    bytes,
                     words: NO_WORDS,
                     line,
                 },
-            )?;
+            )
         }
     }
-    Ok(())
 }
 
 /// A text stops short at the last words of a file.
@@ -196,50 +207,47 @@ fn take_turn<F: Files>(
     files: &mut F,
     frame: &mut Frame,
     whole: &mut Vec<u8>,
-) -> Result<Turn, Incomplete> {
+) -> Result<Turn, Incomplete>
+    ensures { IfOk result (λ turn. Turns F.finds frame.old whole.old.items frame.new whole.new.items turn) }
+{
     pass_words(alloc, frame, whole)?;
-    let Frame {
-        path,
-        bytes,
-        words,
-        line,
-    } = frame;
-    let taken = words.end;
-    let rest = behind(bytes.as_slice(), taken);
-    let (inclusion, found) = match next_inclusion(rest) {
-        Next::Words(inclusion, found) => (Some(inclusion), found),
-        Next::Broken(found) => (None, found),
-        Next::Nothing => {
-            whole.extend_from_slice(rest)?;
-            return Ok(Turn::End);
+    let left = behind(frame.bytes.as_slice(), frame.words.end);
+    match next_inclusion(left) {
+        Next::Words(inclusion, stand) => {
+            let before = front(left, left.len().saturating_sub(stand.from.len()));
+            whole.extend_from_slice(before)?;
+            let words = span_of(frame.bytes.as_slice(), stand);
+            frame.line.advance(before)?;
+            frame.words = words;
+            take_in(alloc, files, frame.path.as_slice(), inclusion, whole)
         }
-    };
-    let before = front(rest, found.start);
-    line.advance(before)?;
-    *words = Span {
-        start: taken.saturating_add(found.start),
-        end: taken.saturating_add(found.end),
-    };
-    let Some(inclusion) = inclusion else {
-        return Err(Incomplete::Syntax);
-    };
-    whole.extend_from_slice(before)?;
-    take_in(alloc, files, path.as_slice(), inclusion, whole)
+        Next::Broken(stand) => {
+            let before = front(left, left.len().saturating_sub(stand.from.len()));
+            let words = span_of(frame.bytes.as_slice(), stand);
+            frame.line.advance(before)?;
+            frame.words = words;
+            Err(Incomplete::Syntax)
+        }
+        Next::Nothing => {
+            whole.extend_from_slice(left)?;
+            Ok(Turn::End)
+        }
+    }
 }
 
 /// Passes the words that were taken last: behind them a line marker stands.
-fn pass_words(alloc: Global, frame: &mut Frame, whole: &mut Vec<u8>) -> Result<(), AllocError> {
-    let Frame {
-        bytes,
-        words,
-        line,
-        ..
-    } = frame;
-    if words.end == 0 {
+fn pass_words(alloc: Global, frame: &mut Frame, whole: &mut Vec<u8>) -> Result<(), AllocError>
+    ensures { OnOk result (IsPassed frame.old frame.new whole.old.items whole.new.items) }
+{
+    if frame.words.end == 0 {
         return Ok(());
     }
-    line.advance(behind(front(bytes.as_slice(), words.end), words.start))?;
-    line.mark(alloc, whole)
+    let words = behind(
+        front(frame.bytes.as_slice(), frame.words.end),
+        frame.words.start,
+    );
+    frame.line.advance(words)?;
+    frame.line.mark(alloc, whole)
 }
 
 /// Finds what words name, and puts it where it is binary.
@@ -249,20 +257,31 @@ fn take_in<F: Files>(
     beside: &[u8],
     inclusion: Inclusion<'_>,
     whole: &mut Vec<u8>,
-) -> Result<Turn, Incomplete> {
-    let name = match inclusion {
-        Inclusion::Source(name) | Inclusion::Binary(name, _) => name,
-    };
-    let found = match files.find(alloc, beside, name)? {
-        Some(found) => found,
-        None => return Err(Incomplete::NoFile(Vec::from_slice(alloc, name)?)),
-    };
+) -> Result<Turn, Incomplete>
+    ensures { IfOk result (λ turn. IsTaken F.finds beside.now inclusion.entry whole.old.items whole.new.items turn) }
+{
     match inclusion {
-        Inclusion::Source(_) => Ok(Turn::Into(found)),
-        Inclusion::Binary(_, part) => {
+        Inclusion::Source(name) => Ok(Turn::Into(find(alloc, files, beside, name)?)),
+        Inclusion::Binary(name, part) => {
+            let found = find(alloc, files, beside, name)?;
             put_binary(whole, wanted(found.bytes.as_slice(), part))?;
             Ok(Turn::Again)
         }
+    }
+}
+
+/// The file that words name.
+fn find<F: Files>(
+    alloc: Global,
+    files: &mut F,
+    beside: &[u8],
+    name: &[u8],
+) -> Result<Found, Incomplete>
+    ensures { IfOk result (λ found. F.finds beside.now name.now found) }
+{
+    match files.find(alloc, beside, name)? {
+        Some(found) => Ok(found),
+        None => Err(Incomplete::NoFile(Vec::from_slice(alloc, name)?)),
     }
 }
 

@@ -1,4 +1,7 @@
 //! Lines of the user's files, by the line markers of a text.
+ghost use Rattle.std.specs.Prelude.{◌≡◌, ◌++◌, IfOk, OnOk};
+ghost use Rattle.dtc_dialect.specs.Copied.{marker_line};
+ghost use Rattle.dtc_dialect.specs.Inclusion.{has_sign, plain_of};
 
 use crate::bytes::{Class, behind, front, run_len};
 use crate::gaps::{Marker, read_marker};
@@ -14,7 +17,10 @@ pub(crate) struct Line {
 
 impl Line {
     /// The first line of a file. A name that no line marker can hold is left out.
-    pub fn first(alloc: Global, path: &[u8]) -> Result<Line, AllocError> {
+    pub fn first(alloc: Global, path: &[u8]) -> Result<Line, AllocError>
+        ensures file { IfOk result (λ line. line.file.items ≡ plain_of path.now) }
+        ensures line { IfOk result (λ line. line.line ≡ 1) }
+    {
         Ok(Line {
             file: Vec::from_slice(alloc, plain(path))?,
             line: 1,
@@ -53,10 +59,14 @@ impl Line {
     }
 
     /// Puts a line marker.
-    pub fn mark(&self, alloc: Global, text: &mut Vec<u8>) -> Result<(), AllocError> {
+    pub fn mark(&self, alloc: Global, text: &mut Vec<u8>) -> Result<(), AllocError>
+        ensures { OnOk result (text.new.items ≡ text.old.items ++ marker_line self.now.line self.now.file.items) }
+    {
         let line = self.line;
-        let words = format!(in alloc; "\n# {line} \"")?;
-        text.extend_from_slice(words.as_bytes())?;
+        let digits = format!(in alloc; "{line}")?;
+        text.extend_from_slice(b"\n# ")?;
+        text.extend_from_slice(digits.as_bytes())?;
+        text.extend_from_slice(b" \"")?;
         text.extend_from_slice(self.file.as_slice())?;
         text.extend_from_slice(b"\"\n")
     }
@@ -71,15 +81,18 @@ fn line_marker<'t>(s: &'t [u8]) -> Option<Marker<'t>> {
 }
 
 /// A file's name as a line marker holds it, or nothing.
-pub fn plain(path: &[u8]) -> &[u8] {
-    if path
-        .iter()
+pub fn plain(path: &[u8]) -> &[u8]
+    ensures { result.now ≡ plain_of path.now }
+{
+    if has_sign(path) { b"" } else { path }
+}
+
+/// Whether a byte of a file's name is one that no line marker holds.
+fn has_sign(path: &[u8]) -> bool
+    ensures { result ≡ has_sign path.now }
+{
+    path.iter()
         .any(|c| *c == b'"' || *c == b'\\' || *c == b'\n')
-    {
-        b""
-    } else {
-        path
-    }
 }
 
 /// The line of a text in which bytes begin.

@@ -15,6 +15,8 @@ pub struct Folders<'a, S> {
 }
 
 impl<S: Surroundings> Files for Folders<'_, S> {
+    ghost finds = { λ beside name found. Unit {0} };
+
     fn find(
         &mut self,
         alloc: Global,

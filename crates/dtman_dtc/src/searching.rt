@@ -12,6 +12,8 @@ pub(crate) struct Searching<'a, H> {
 }
 
 impl<H: Host> Files for Searching<'_, H> {
+    ghost finds = { λ beside name found. Unit {0} };
+
     fn find(
         &mut self,
         alloc: Global,

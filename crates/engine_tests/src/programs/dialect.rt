@@ -165,6 +165,8 @@ fn compiles_the_dialect(rt: HostRuntime) {
 struct Nothing;
 
 impl dtc_dialect::Files for Nothing {
+    ghost finds = { λ beside name found. Unit {0} };
+
     fn find(
         &mut self,
         _alloc: Global,

@@ -1,0 +1,20 @@
+use Rattle.std.proofs.Common.{refl, sym, subst}
+use Rattle.dtc_dialect.specs.declared.inclusion.Frame.{Frame}
+use Rattle.dtc_dialect.specs.declared.inclusion.Turn.{Turn}
+use Rattle.dtc_dialect.specs.Private.Included.{Goes}
+use Rattle.dtc_dialect.proofs.Copying.{on-ok}
+use Rattle.dtc_dialect.proofs.OpenFiles.{entered}
+use Rattle.dtc_dialect.proofs.inclusion.go_on.Goals as goal
+
+pub returns-in_ok-mark-in-Into : goal.returns-in_ok-mark-in-Into
+returns-in_ok-mark-in-Into c =
+    let frames = c.args.frames.now.items in
+    let opened = c.enter.new.frames.items in
+    let whole = c.args.whole.now.items in
+    let grown = c.mark.new.text.items in
+    let inner : Frame = record { path = c.in-Into.found.path; bytes = c.in-Into.found.bytes; words = record { start = 0; end = 0 }; line = c.in_ok-line-in-Into.line } in
+    on-ok c.enter.result
+    (λ e. subst (λ (t : Turn). Goes frames c.args.frame t whole opened grown) (sym c.in-Into.is)
+    (entered frames c.push-in-Into.new.self.items opened c.args.frame inner c.in-Into.found whole grown c.as_slice.result.now refl refl refl c.in_ok-push-in-Into.ensures.items e c.as_slice.ensures.value
+    c.in_ok-line-in-Into.ensures.file c.in_ok-line-in-Into.ensures.line c.in_ok-mark-in-Into.ensures))
+    c.enter.ensures.ok

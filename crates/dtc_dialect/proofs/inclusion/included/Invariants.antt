@@ -1,0 +1,6 @@
+-- What is put so far, and what the open files still come to, is what the text comes to.
+use Rattle.dtc_dialect.proofs.OpenFiles.{IsUnderWay}
+use Rattle.dtc_dialect.proofs.inclusion.included.Given as goal
+
+abbrev pub invariant-turns : goal.invariant-turns
+invariant-turns g l = IsUnderWay g.F.Files.finds l.path l.text l.frames.items l.whole.items

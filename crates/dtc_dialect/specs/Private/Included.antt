@@ -1,0 +1,116 @@
+-- What was read of an inclusion, and what a text comes to while its files are open.
+use Rattle.std.specs.Prelude.{◌≡◌, ℕ, zero, suc, ◌<◌, List, [], ◌∷◌, ◌++◌, Option, None, Some, drop, true}
+use denote.Ref.{Bor}
+use Rattle.dtc_dialect.specs.declared.inclusion.Found.{Found}
+use Rattle.dtc_dialect.specs.declared.inclusion.Frame.{Frame}
+use Rattle.dtc_dialect.specs.declared.inclusion.Turn.{Turn}
+use Rattle.dtc_dialect.specs.declared.inclusion.Turn.TheVariants.{Again, End, Into}
+use Rattle.dtc_dialect.specs.declared.words.Binary.{Binary}
+use Rattle.dtc_dialect.specs.declared.words.Inclusion.{Inclusion}
+use Rattle.dtc_dialect.specs.declared.words.Inclusion.TheVariants as inclusions
+use Rattle.dtc_dialect.specs.declared.words.Next.{Next}
+use Rattle.dtc_dialect.specs.declared.words.Next.TheVariants as nexts
+use Rattle.dtc_dialect.specs.declared.words.Part.{Part}
+use Rattle.dtc_dialect.specs.declared.words.Piece.{Piece}
+use Rattle.dtc_dialect.specs.declared.words.Piece.TheVariants as pieces
+use Rattle.dtc_dialect.specs.Copied.{marker_line}
+use Rattle.dtc_dialect.specs.Inclusion.{Bracketed, HoldsNone, Includes, IsBroken, IsOpen, Number, PartAt, Passes, Quoted, Sign, Skips, TakesIn, byte_string_of, part_of, plain_of}
+
+-- ---- a word that was read, and what is left behind it
+
+abbrev pub SignAt : ℕ → List ℕ → Option (Unit {0}) → List ℕ → Type 0
+SignAt c s None rest = Skips s rest × ((t : List ℕ) → Sign c s t → ⊥)
+SignAt c s (Some u) rest = Sign c s rest
+
+abbrev pub QuotedAt : List ℕ → Option (Bor (List ℕ)) → List ℕ → Type 0
+QuotedAt s None rest = (name t : List ℕ) → Quoted s name t → ⊥
+QuotedAt s (Some name) rest = Quoted s name.now rest
+
+abbrev pub NumberAt : List ℕ → Option ℕ → List ℕ → Type 0
+NumberAt s None rest = (n : ℕ) (t : List ℕ) → Number s n t → ⊥
+NumberAt s (Some n) rest = Number s n rest
+
+abbrev pub IsPartAt : List ℕ → Option Part → List ℕ → Type 0
+IsPartAt s None rest = Unit {0}
+IsPartAt s (Some part) rest = PartAt s part rest
+
+abbrev pub BinaryAt : List ℕ → Option Binary → List ℕ → Type 0
+BinaryAt s None rest = Unit {0}
+BinaryAt s (Some binary) rest = Bracketed s binary.name.now binary.part rest
+
+-- ---- what stands at the front of a text, and what is next in it
+
+abbrev pub IsPiece : List ℕ → Piece → Type 0
+IsPiece s (pieces.Words inclusion stand) = (stand.from.now ≡ s) × TakesIn s inclusion stand.rest.now
+IsPiece s (pieces.Broken stand) = IsBroken s
+IsPiece s (pieces.Passed n) = (0 < n) × ((t : List ℕ) → Passes (drop n s) t → Passes s t)
+IsPiece s pieces.Open = IsOpen s
+
+abbrev pub IsNext : List ℕ → Next → Type 0
+IsNext s (nexts.Words inclusion stand) = Passes s stand.from.now × TakesIn stand.from.now inclusion stand.rest.now
+IsNext s (nexts.Broken stand) = (t : List ℕ) × Passes s t × IsBroken t
+IsNext s nexts.Nothing = HoldsNone s
+
+-- ---- while files are open
+
+-- Behind words that were taken stands a line marker.
+abbrev pub Behind : ℕ → List ℕ → Type 0
+Behind zero marker = marker ≡ []
+Behind (suc n) marker = (line : ℕ) × (file : List ℕ) × (marker ≡ marker_line line file)
+
+-- what is left of an open file comes to
+pub record ComesTo (Finds : List ℕ → List ℕ → Found → Type 0) (frame : Frame) (said : List ℕ) : Type 0 where
+  pub marker : List ℕ
+  pub more : List ℕ
+  pub behind : Behind frame.words.end marker
+  pub rest : Includes Finds frame.path.items (drop frame.words.end frame.bytes.items) more
+  pub said_is : said ≡ marker ++ more
+
+-- what is left of all open files comes to, from the innermost on, which stands last
+unfoldable pub Completes : (List ℕ → List ℕ → Found → Type 0) → List Frame → List ℕ → Type 0
+Completes Finds [] said = said ≡ []
+Completes Finds (frame ∷ frames) said = (inner own : List ℕ) × Completes Finds frames inner × ComesTo Finds frame own × (said ≡ inner ++ own)
+
+-- What a turn puts, so that the file comes to that and what it and the file that is taken in still come to.
+abbrev pub TurnsTo : (List ℕ → List ℕ → Found → Type 0) → Frame → Frame → Turn → List ℕ → Type 0
+TurnsTo Finds old new End put = ComesTo Finds old put
+TurnsTo Finds old new Again put = (own : List ℕ) → ComesTo Finds new own → ComesTo Finds old (put ++ own)
+TurnsTo Finds old new (Into found) put = (inner own : List ℕ) → Includes Finds found.path.items found.bytes.items inner → ComesTo Finds new own
+    → ComesTo Finds old (put ++ marker_line 1 (plain_of found.path.items) ++ inner ++ own)
+
+-- a turn, by the text before it and behind it
+abbrev pub Turns : (List ℕ → List ℕ → Found → Type 0) → Frame → List ℕ → Frame → List ℕ → Turn → Type 0
+Turns Finds old whole new grown turn = (put : List ℕ) × (grown ≡ whole ++ put) × TurnsTo Finds old new turn put
+
+-- What the next turn begins with: the marker behind the words that were taken last.
+pub record IsPassed (old new : Frame) (whole grown : List ℕ) : Type 0 where
+  pub marker : List ℕ
+  pub behind : Behind old.words.end marker
+  pub grown_is : grown ≡ whole ++ marker
+  pub path_is : new.path ≡ old.path
+  pub bytes_is : new.bytes ≡ old.bytes
+  pub words_is : new.words ≡ old.words
+
+-- what words take in, and what is put for them
+abbrev pub IsTaken : (List ℕ → List ℕ → Found → Type 0) → List ℕ → Inclusion → List ℕ → List ℕ → Turn → Type 0
+IsTaken Finds beside inclusion whole grown End = ⊥
+IsTaken Finds beside (inclusions.Source name) whole grown Again = ⊥
+IsTaken Finds beside (inclusions.Binary name part) whole grown Again =
+    (found : Found) × Finds beside name.now found × (grown ≡ whole ++ byte_string_of (part_of part.offset part.length found.bytes.items))
+IsTaken Finds beside (inclusions.Source name) whole grown (Into found) = Finds beside name.now found × (grown ≡ whole)
+IsTaken Finds beside (inclusions.Binary name part) whole grown (Into found) = ⊥
+
+-- The file that a turn leads to is the innermost one, and its first line is marked.
+pub record Enters (frames : List Frame) (frame : Frame) (found : Found) (whole : List ℕ) (opened : List Frame) (grown : List ℕ) : Type 0 where
+  pub inner : Frame
+  pub path_is : inner.path ≡ found.path
+  pub bytes_is : inner.bytes ≡ found.bytes
+  pub words_is : inner.words.end ≡ 0
+  pub opened_is : opened ≡ (frames ++ frame ∷ []) ++ inner ∷ []
+  pub grown_is : grown ≡ whole ++ marker_line 1 (plain_of found.path.items)
+
+-- the files that are open behind a turn, and the text
+abbrev pub Goes : List Frame → Frame → Turn → List ℕ → List Frame → List ℕ → Type 0
+Goes frames frame End whole opened grown = (opened ≡ frames) × (grown ≡ whole)
+Goes frames frame Again whole opened grown = (opened ≡ frames ++ frame ∷ []) × (grown ≡ whole)
+Goes frames frame (Into found) whole opened grown = Enters frames frame found whole opened grown
