@@ -19,7 +19,7 @@ use Rattle.dt_source.specs.Reading.Whole.{plugin_kind, plugin_at, header_kind, h
 use Rattle.dt_expression.proofs.Sound.{bind_ok, ok_is}
 use Rattle.dt_expression.proofs.Trees.{reads_what_is_spelled}
 use Rattle.dt_source.proofs.Several as several
-use Rattle.dt_source.proofs.Semicolons.{semicolon_sound, semicolon_again}
+use Rattle.dt_source.proofs.Semicolons.{semicolon_sound}
 use Rattle.dt_source.proofs.SpelledLabels.{labels_sound}
 use Rattle.dt_source.proofs.SpelledCells.{first_of_list}
 

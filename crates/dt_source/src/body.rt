@@ -1,5 +1,5 @@
 //! Bodies.
-ghost use Rattle.std.specs.Prelude.{◌≡◌, ◌<◌, ◌∷◌, Some, map, length, IfOk, option_map};
+ghost use Rattle.std.specs.Prelude.{◌≡◌, ◌<◌, ◌∷◌, Some, length, IfOk};
 ghost use Rattle.dt_expression.specs.Reading.{Gives};
 ghost use Rattle.dt_source.specs.Reading.Returned.{ReadsStatement, ReadsBody};
 ghost use Rattle.dt_source.specs.Tree.{view};

@@ -1,5 +1,5 @@
 //! Cells and byte strings.
-ghost use Rattle.std.specs.Prelude.{◌≡◌, ◌≤◌, ◌<◌, ◌++◌, length, None, IfOk, OnOk, option_map};
+ghost use Rattle.std.specs.Prelude.{◌≡◌, ◌<◌, ◌++◌, length, None, IfOk, OnOk, option_map};
 ghost use Rattle.dt_expression.specs.Reading.{Gives};
 ghost use Rattle.dt_source.specs.Reading.Several.{Reads};
 ghost use Rattle.dt_source.specs.Reading.Returned.{Pushes};

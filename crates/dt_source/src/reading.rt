@@ -1,5 +1,5 @@
 //! What reading returns.
-ghost use Rattle.std.specs.Prelude.{◌≡◌, ◌<◌, length, IfOk};
+ghost use Rattle.std.specs.Prelude.{◌<◌, length, IfOk};
 ghost use Rattle.dt_expression.specs.Reading.{Gives};
 ghost use Rattle.dt_source.specs.Reading.Bodies.{semicolon_at};
 
