@@ -4,8 +4,8 @@ ghost use Rattle.dt_source.specs.Reading.Several.{Reads};
 ghost use Rattle.dt_source.specs.Reading.Returned.{Pushes};
 ghost use Rattle.dt_source.specs.Tree.{part_view};
 ghost use Rattle.dt_source.specs.Pieces.{width_at};
-ghost use Rattle.dt_source.specs.Reading.Bodies.{is_label, labels_at, square_at, less_at, bits_at};
-ghost use Rattle.dt_source.specs.Reading.Bodies.{string_at, path_at, piece_at, placed_at, pieces_at, value_at};
+ghost use Rattle.dt_source.specs.Reading.Bodies.{is_label, labels_at, less_at, bits_at};
+ghost use Rattle.dt_source.specs.Reading.Bodies.{piece_at, placed_at, pieces_at, value_at};
 ghost use Rattle.dt_source.specs.Reading.Loops.{comma_rest};
 
 use crate::cells::{cells, pairs};
@@ -102,49 +102,6 @@ fn bits<'a, 'text>(
     }
 }
 
-fn push_string<'a>(
-    alloc: Global,
-    parts: &mut Parts<'_>,
-    text: &[u8],
-    l: Lexeme,
-    ts: &'a [Lexeme],
-) -> Pushed<'a>
-    ensures gives { Pushes parts.old parts.new result (string_at text.now l ts.now) }
-    ensures rest { IfOk result (λ x. x.1.now ≡ ts.now) }
-{
-    let (bytes, fault) = string_of(alloc, text, l)?;
-    parts.push_bytes(bytes.as_slice())?;
-    Ok((fault, ts))
-}
-
-fn push_path<'a, 'text>(
-    alloc: Global,
-    parts: &mut Parts<'text>,
-    text: &'text [u8],
-    l: Lexeme,
-    ts: &'a [Lexeme],
-) -> Pushed<'a>
-    ensures gives { Pushes parts.old parts.new result (path_at text.now l ts.now) }
-    ensures rest { IfOk result (λ x. x.1.now ≡ ts.now) }
-{
-    parts.push_part(alloc, Part::Path(target(text, l)))?;
-    Ok((None, ts))
-}
-
-fn push_pairs<'a, 'text>(
-    alloc: Global,
-    parts: &mut Parts<'text>,
-    text: &'text [u8],
-    ts: &'a [Lexeme],
-) -> Pushed<'a>
-    ensures gives { Pushes parts.old parts.new result (square_at text.now ts.now) }
-    ensures shorter { IfOk result (λ x. length x.1.now < length ts.now) }
-{
-    let (bytes, rest) = pairs(alloc, text, ts)?;
-    parts.push_bytes(bytes.as_slice())?;
-    Ok((None, rest))
-}
-
 #[tactic(auto, unfolding(crate::specs::Reading::Bodies::piece_at))]
 fn piece<'a, 'text>(
     alloc: Global,
@@ -158,9 +115,20 @@ fn piece<'a, 'text>(
     match ts {
         [] => Err(ReadError::Refused(syntax_at(ts))),
         [t, rest @ ..] => match t.kind {
-            Kind::Text => push_string(alloc, parts, text, *t, rest),
-            Kind::Reference | Kind::PathReference => push_path(alloc, parts, text, *t, rest),
-            Kind::Square => push_pairs(alloc, parts, text, rest),
+            Kind::Text => {
+                let (bytes, fault) = string_of(alloc, text, *t)?;
+                parts.push_bytes(bytes.as_slice())?;
+                Ok((fault, rest))
+            }
+            Kind::Reference | Kind::PathReference => {
+                parts.push_part(alloc, Part::Path(target(text, *t)))?;
+                Ok((None, rest))
+            }
+            Kind::Square => {
+                let (bytes, rest) = pairs(alloc, text, rest)?;
+                parts.push_bytes(bytes.as_slice())?;
+                Ok((None, rest))
+            }
             Kind::Less => cells(alloc, parts, text, Some(Width::ThirtyTwo), rest),
             Kind::Bits => bits(alloc, parts, text, rest),
             _ => Err(ReadError::Refused(syntax_at(ts))),
