@@ -11,7 +11,7 @@ ghost use Rattle.dt_source.specs.Pieces.{target_of};
 ghost use Rattle.dt_source.specs.Reading.Bodies.{ended_by};
 ghost use Rattle.dt_source.specs.Source.{both_numbers};
 ghost use Rattle.dt_source.specs.Reading.Whole.{plugin_at, header_at, more_headers, headers_at, some_header};
-ghost use Rattle.dt_source.specs.Reading.Whole.{reserve_with, reserve_at, reserves_at, brace_at, extend_at, root_at};
+ghost use Rattle.dt_source.specs.Reading.Whole.{reserve_with, reserve_at, reserves_at, brace_at, extend_at};
 ghost use Rattle.dt_source.specs.Reading.Whole.{delete_at, bare_item, unlabelled_item, item_with, item_at};
 ghost use Rattle.dt_source.specs.Reading.Whole.{all_items_at, items_at, source_at};
 
@@ -242,15 +242,6 @@ fn delete<'a, 'text>(text: &'text [u8], ts: &'a [Lexeme]) -> ReadItem<'a, 'text>
     }
 }
 
-fn root<'a, 'text>(alloc: Global, text: &'text [u8], ts: &'a [Lexeme]) -> ReadItem<'a, 'text>
-    ensures gives { ReadsItem result (root_at text.now ts.now) }
-    ensures shorter { IfOk result (λ x. length x.rest.now < length ts.now) }
-{
-    let Read { found, fault, rest } = brace(alloc, text, ts)?;
-    let found = Some(Item::Root(found));
-    Ok(Read { found, fault, rest })
-}
-
 // The root again, or the deletion of a node. The lexemes with this one are for the refusal.
 fn bare<'a, 'text>(
     alloc: Global,
@@ -264,7 +255,11 @@ fn bare<'a, 'text>(
     ensures shorter { IfOk result (λ x. length x.rest.now < length ts.now) }
 {
     match t.kind {
-        Kind::Slash => root(alloc, text, rest),
+        Kind::Slash => {
+            let Read { found, fault, rest } = brace(alloc, text, rest)?;
+            let found = Some(Item::Root(found));
+            Ok(Read { found, fault, rest })
+        }
         Kind::DeleteNode => delete(text, rest),
         _ => Err(ReadError::Refused(syntax_at(ts))),
     }
