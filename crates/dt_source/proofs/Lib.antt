@@ -1,6 +1,5 @@
 pub mod Loops
 pub mod Semicolons
-pub mod Deletions
 pub mod CellLoops
 pub mod Chars
 pub mod PieceLoops

@@ -10,15 +10,16 @@ use Rattle.dt_expression.specs.ReadingExpressions.{primary_at}
 use Rattle.dt_source.specs.Sequences.{SpellsEach}
 use Rattle.dt_expression.specs.Values.{value_of}
 use Rattle.dt_source.specs.Order.{first_of}
-use Rattle.dt_source.specs.Reading.Bodies.{is_label, labels_at}
+use Rattle.dt_source.specs.Reading.Bodies.{is_label, labels_at, semicolon_at}
 use Rattle.dt_source.specs.Source.{ReserveTree, ItemTree, Root, Extend, Delete, IsReference, SpellsLabels, SpellsReserve, SpellsHeader, SpellsItem, both_numbers, reserve_values, reserve_faults}
-use Rattle.dt_source.specs.Reading.Whole.{semicolon_at, plugin_kind, plugin_at, header_kind, header_at, more_headers, headers_at, reserve_kind, reserve_with, reserve_at, reserves_at}
+use Rattle.dt_source.specs.Reading.Whole.{plugin_kind, plugin_at, header_kind, header_at, more_headers, headers_at, reserve_kind, reserve_with, reserve_at, reserves_at}
 use Rattle.dt_expression.proofs.Complete.{begins_shorter, shorter}
 use Rattle.dt_expression.proofs.Trees.{reads_all_that_is_spelled}
 use Rattle.dt_source.proofs.Several as several
+use Rattle.dt_source.proofs.Semicolons.{semicolon_again}
 use Rattle.dt_source.proofs.SpelledLabels.{NoLabel, labels_again, labels_shorter}
 use Rattle.dt_source.proofs.SpelledPieces.{front, reference_front}
-use Rattle.dt_source.proofs.SpelledHeaders.{semicolon_again, itself, no_fault, map_itself, reserve_fault}
+use Rattle.dt_source.proofs.SpelledHeaders.{itself, no_fault, map_itself, reserve_fault}
 
 -- ---- what may stand first behind the headers
 

@@ -5,20 +5,21 @@ use Rattle.dt_lexeme.specs.declared.lexeme.Fault.{Fault}
 use Rattle.dt_lexeme.specs.declared.lexeme.Kind.{Kind}
 use Rattle.dt_lexeme.specs.declared.lexeme.Kind.TheVariants.{Name, Semicolon, Equals, Brace, EndBrace, DeleteNode, DeleteProperty}
 use Rattle.dt_expression.specs.Expression.{Begins}
+use Rattle.dt_expression.specs.Reading.{◌>>=◌}
 use Rattle.dt_source.specs.Reading.Several.{earlier, many}
 use Rattle.dt_meaning.specs.Syntax.{Piece, Entry, Defines, Undefines, Child, Removes, body_of}
 use Rattle.dt_source.specs.Order.{first_of}
-use Rattle.dt_source.specs.Reading.Bodies.{is_label, labels_at, semicolon_by, ended_by, Inner, named_by, named_at, deleted_by, deleted_at, begun_by, begun_at, statement_at, after, body_below, body_at}
+use Rattle.dt_source.specs.Reading.Bodies.{is_label, labels_at, ended_by, Inner, name_by, named_by, named_at, deleted_at, begun_by, begun_at, statement_at, after, body_below, body_at}
 use Rattle.dt_source.specs.Words.{label_bytes, name_bytes}
 use Rattle.dt_source.specs.Source.{Statements, End, Sets, Unsets, Holds, Drops, One, SpellsLabels, SpellsValue, SpellsPlaced, SpellsStatements, PieceTree, value_said, value_faults, entries_of, faults_in}
 use Rattle.dt_expression.proofs.Complete.{begins_shorter}
 use Rattle.dt_source.proofs.Several as several
+use Rattle.dt_source.proofs.Semicolons.{semicolon_again}
 use Rattle.dt_source.proofs.SpelledLabels.{NoLabel, labels_again, labels_shorter, none_at}
 use Rattle.dt_source.proofs.SpelledValues.{value_again, value_shorter}
 
 pub ended_again : {A : Type 0} (a : A) (f : Option Fault) (ts rest : List Lexeme) → Begins ts Semicolon rest → ended_by a f ts ≡ Ok (a, f, rest)
-ended_again a f [] rest h = absurd h
-ended_again a f (t ∷ ts) rest h = ap (λ (x : Kind). semicolon_by a f x t ts) h.0 ∙ rw (h.1) refl
+ended_again a f ts rest h = rw (semicolon_again ts rest h) refl
 
 -- ---- by what stands there
 
@@ -80,7 +81,7 @@ child_again text inner nodes labels name body (t ∷ us) at mid rest h i s =
     go true = rw inside ended
 
 deleted_again : (text : List ℕ) (entry : List ℕ → Entry (List Piece)) (n : Lexeme) (us at rest : List Lexeme) → One Name n us at → Begins at Semicolon rest → deleted_at text entry us ≡ Ok (Some (entry (name_bytes text n)), None, rest)
-deleted_again text entry n us at rest h s = ap (deleted_at text entry) h.1 ∙ ap (λ (x : Kind). deleted_by text entry x n at) h.0 ∙ ended_again (Some (entry (name_bytes text n))) None at rest s
+deleted_again text entry n us at rest h s = ap (deleted_at text entry) h.1 ∙ ap (λ (x : Kind). name_by text x n at >>= λ y. ended_by (Some (entry y.0)) None y.1) h.0 ∙ ended_again (Some (entry (name_bytes text n))) None at rest s
 
 unsets_again : (text : List ℕ) (inner : Inner) (n : Lexeme) (ts a b rest : List Lexeme) → Begins ts DeleteProperty a → One Name n a b → Begins b Semicolon rest
     → statement_at text inner false ts ≡ Ok (Some (Undefines (name_bytes text n)), None, rest)

@@ -13,28 +13,15 @@ use Rattle.dt_source.specs.Sequences.{SpellsEach}
 use Rattle.dt_source.specs.Reading.Several.{earlier, many}
 use Rattle.dt_source.specs.Pieces.{fault_in}
 use Rattle.dt_source.specs.Order.{first_of}
-use Rattle.dt_source.specs.Reading.Bodies.{stays, labels_at}
+use Rattle.dt_source.specs.Reading.Bodies.{stays, labels_at, semicolon_at}
 use Rattle.dt_source.specs.Source.{ReserveTree, SpellsReserve, SpellsHeader, DropsLabels, fault_list, both_numbers, reserve_values, reserve_faults, any}
-use Rattle.dt_source.specs.Reading.Whole.{semicolon_kind, semicolon_at, plugin_kind, plugin_at, header_kind, header_at, more_headers, headers_at, reserve_kind, reserve_with, reserve_at, reserves_at}
+use Rattle.dt_source.specs.Reading.Whole.{plugin_kind, plugin_at, header_kind, header_at, more_headers, headers_at, reserve_kind, reserve_with, reserve_at, reserves_at}
 use Rattle.dt_expression.proofs.Sound.{bind_ok, ok_is}
 use Rattle.dt_expression.proofs.Trees.{reads_what_is_spelled}
 use Rattle.dt_source.proofs.Several as several
+use Rattle.dt_source.proofs.Semicolons.{semicolon_sound}
 use Rattle.dt_source.proofs.SpelledLabels.{labels_sound}
 use Rattle.dt_source.proofs.SpelledCells.{first_of_list}
-
--- ---- a semicolon
-
-pub semicolon_sound : (ts rest : List Lexeme) → semicolon_at ts ≡ Ok rest → Begins ts Semicolon rest
-semicolon_sound [] rest e = absurd cc
-semicolon_sound (t ∷ ts) rest e = go t.kind refl e
-  where
-    go : (k : Kind) → t.kind ≡ k → semicolon_kind k t ts ≡ Ok rest → Begins (t ∷ ts) Semicolon rest
-    go Semicolon k e = (k, ok_is ts rest e)
-    go _ k e = absurd cc
-
-pub semicolon_again : (ts rest : List Lexeme) → Begins ts Semicolon rest → semicolon_at ts ≡ Ok rest
-semicolon_again [] rest h = absurd h
-semicolon_again (t ∷ ts) rest h = ap (λ (x : Kind). semicolon_kind x t ts) h.0 ∙ rw (h.1) refl
 
 -- ---- headers that are read are spelled
 

@@ -11,10 +11,11 @@ use Rattle.dt_source.specs.Sequences.{SpellsEach}
 use Rattle.dt_meaning.specs.Syntax.{Piece, Entry, Defines, Undefines, Child, Removes, body_of}
 use Rattle.dt_source.specs.Order.{first_of}
 use Rattle.dt_source.specs.Words.{label_bytes, name_bytes}
-use Rattle.dt_source.specs.Reading.Bodies.{labels_at, value_at, semicolon_by, ended_by, Inner, named_by, named_at, deleted_by, deleted_at, bare_by, unlabelled, begun_by, begun_at, statement_at, after, statements_at, body_below}
+use Rattle.dt_source.specs.Reading.Bodies.{labels_at, value_at, semicolon_at, ended_by, Inner, name_by, named_by, named_at, deleted_at, bare_by, unlabelled, begun_by, begun_at, statement_at, after, statements_at, body_below}
 use Rattle.dt_source.specs.Source.{Statements, End, Sets, Unsets, Holds, Drops, One, SpellsLabels, SpellsStatements, value_faults, entries_of, faults_in}
 use Rattle.dt_expression.proofs.Sound.{bind_ok}
 use Rattle.dt_source.proofs.Several as several
+use Rattle.dt_source.proofs.Semicolons.{semicolon_sound}
 use Rattle.dt_source.proofs.SpelledLabels.{labels_sound}
 use Rattle.dt_source.proofs.SpelledValues.{ValueFound, value_sound}
 
@@ -26,12 +27,10 @@ pub record EndedFound {A : Type 0} (a b : A) (f g : Option Fault) (ts rest : Lis
   pub fault_is : f ≡ g
 
 pub ended_sound : {A : Type 0} (a b : A) (f g : Option Fault) (ts rest : List Lexeme) → ended_by a f ts ≡ Ok (b, g, rest) → EndedFound a b f g ts rest
-ended_sound a b f g [] rest e = absurd cc
-ended_sound a b f g (t ∷ ts) rest e = go t.kind refl e
-  where
-    go : (k : Kind) → t.kind ≡ k → semicolon_by a f k t ts ≡ Ok (b, g, rest) → EndedFound a b f g (t ∷ ts) rest
-    go Semicolon k e = let p = several.part_is a b f g ts rest e in record { ends = (k, p.2); value_is = p.0; fault_is = p.1 }
-    go _ k e = absurd cc
+ended_sound a b f g ts rest e =
+    let s = bind_ok (semicolon_at ts) (λ r. several.part a f r) (b, g, rest) e in
+    let p = several.part_is a b f g s.0 rest s.2 in
+    record { ends = subst (λ (x : List Lexeme). Begins ts Semicolon x) p.2 (semicolon_sound ts s.0 s.1); value_is = p.0; fault_is = p.1 }
 
 -- ---- one statement, and what stands behind it
 
@@ -167,7 +166,7 @@ deleted_sound : (text : List ℕ) (entry : List ℕ → Entry (List Piece)) (ts 
 deleted_sound text entry [] o f r e = absurd cc
 deleted_sound text entry (t ∷ ts) o f r e = go t.kind refl e
   where
-    go : (k : Kind) → t.kind ≡ k → deleted_by text entry k t ts ≡ Ok (o, f, r) → DeletedFound text entry (t ∷ ts) o f r
+    go : (k : Kind) → t.kind ≡ k → (name_by text k t ts >>= λ x. ended_by (Some (entry x.0)) None x.1) ≡ Ok (o, f, r) → DeletedFound text entry (t ∷ ts) o f r
     go Name k e = let s = ended_sound (Some (entry (name_bytes text t))) o None f ts r e in record { name = t; at = ts; there = refl; named = k; ends = s.ends; entry_is = s.value_is; fault_is = s.fault_is }
     go _ k e = absurd cc
 

@@ -10,7 +10,7 @@ use Rattle.dt_source.specs.Lawful.{IsLawfulTarget, IsLawfulPiece, IsLawfulEntry,
 true_once : (b : Bool) → IsProp (IsTrue b)
 true_once b = Bool-set _ _
 
-pub all_once : {X : Type 0} (P : X → Type 0) → ((x : X) → IsProp (P x)) → (xs : List X) → IsProp (All P xs)
+all_once : {X : Type 0} (P : X → Type 0) → ((x : X) → IsProp (P x)) → (xs : List X) → IsProp (All P xs)
 all_once P once xs = Π_prop λ k. Π_prop λ d. Π_prop λ _. once _
 
 label_once : (bytes : List ℕ) → IsProp (IsLabel bytes)
@@ -36,7 +36,10 @@ mutual
   body_once Done = Unit-prop
   body_once (Then first others) = ×_prop (entry_once first) (body_once others)
 
-pub edit_once : (e : Edit) → IsProp (IsLawfulEdit e)
+edit_once : (e : Edit) → IsProp (IsLawfulEdit e)
 edit_once (Rooted body) = body_once body
 edit_once (Extends labels target body) = ×₃_prop (all_once IsLabel label_once labels) (target_once target) (body_once body)
 edit_once (Deletes target) = target_once target
+
+pub edits_once : (es : List Edit) → IsProp (All IsLawfulEdit es)
+edits_once es = all_once IsLawfulEdit edit_once es

@@ -1,8 +1,12 @@
 -- What reading a source has to do with what its lexemes spell.
-use Rattle.std.specs.Prelude.{◌≡◌, ℕ, List, Option, Ok}
+use Rattle.std.specs.Prelude.{◌≡◌, ◌⊎◌, ℕ, List, Option, Ok}
 use Rattle.dt_lexeme.specs.declared.lexeme.Lexeme.{Lexeme}
 use Rattle.dt_lexeme.specs.declared.lexeme.Fault.{Fault}
+use Rattle.dt_source.specs.declared.error.SourceErrorKind.{SourceErrorKind}
+use Rattle.dt_source.specs.declared.error.SourceErrorKind.TheVariants.{NoMemory}
+use Rattle.dt_source.specs.SourceError.{kind_of_fault}
 use Rattle.dt_source.specs.Order.{first_of}
+use Rattle.dt_source.specs.Parse.{IsShort, Says, HasFirstFault, Refuses}
 use Rattle.dt_meaning.specs.Syntax.{Meaning}
 use Rattle.dt_source.specs.Source.{SourceTree, Spells, said, faults_of}
 use Rattle.dt_source.specs.Reading.Whole.{source_at}
@@ -20,3 +24,14 @@ SourcesAreRead = (text : List ℕ) (s : SourceTree) (ts : List Lexeme) → Spell
 -- Lexemes spell at most one source, in one way.
 abbrev pub OneSpelling : Type 0
 OneSpelling = (ts : List Lexeme) (s t : SourceTree) → Spells s ts → Spells t ts → s ≡ t
+
+-- Nothing but want of memory refuses a text that says something.
+abbrev pub OnlyMemoryRefusesWhatIsSaid : Type 0
+OnlyMemoryRefusesWhatIsSaid =
+    (text : List ℕ) (m : Meaning) (k : SourceErrorKind) (line : ℕ) → IsShort text → Says text m → Refuses text k line → k ≡ NoMemory
+
+-- Nothing but its first fault and want of memory refuses a text that has one.
+abbrev pub OnlyMemoryAndTheFaultRefuse : Type 0
+OnlyMemoryAndTheFaultRefuse =
+    (text : List ℕ) (f : Fault) (k : SourceErrorKind) (line : ℕ) → IsShort text → HasFirstFault text f → Refuses text k line
+    → (k ≡ NoMemory) ⊎ (k ≡ kind_of_fault f.kind)

@@ -5,3 +5,4 @@ pub mod Values
 pub mod Bodies
 pub mod Loops
 pub mod Whole
+pub mod Returned

@@ -1,19 +1,19 @@
 //! Bodies.
-ghost use Rattle.std.specs.Prelude.{◌≡◌, ◌<◌, ◌∷◌, Some, map, length, IfOk, option_map};
-ghost use Rattle.dt_source.specs.Reading.Several.{Reads};
-ghost use Rattle.dt_meaning.specs.Syntax.{Undefines, Removes};
+ghost use Rattle.std.specs.Prelude.{◌≡◌, ◌<◌, ◌∷◌, Some, length, IfOk};
+ghost use Rattle.dt_expression.specs.Reading.{Gives};
+ghost use Rattle.dt_source.specs.Reading.Returned.{ReadsStatement, ReadsBody};
 ghost use Rattle.dt_source.specs.Tree.{view};
-ghost use Rattle.dt_source.specs.Words.{label_bytes};
-ghost use Rattle.dt_source.specs.Reading.Bodies.{named_at, deleted_at, ended_by, bare_by, unlabelled, begun_at, statement_at, after, body_below, body_at};
+ghost use Rattle.dt_source.specs.Reading.Bodies.{name_at, ended_by, bare_by, unlabelled, begun_at};
+ghost use Rattle.dt_source.specs.Reading.Bodies.{statement_at, named_below, after, body_below, body_at};
 
-use crate::ends::semicolon;
 use crate::labels::labels_of;
 use crate::pieces::{labels, value};
+use crate::reading::{Read, ReadBody, ReadStatement, semicolon};
 use crate::room::push_sparingly;
 use crate::string::earlier;
 use crate::tree::{Statement, delete_node, delete_property, node, property};
 use dt_expression::{bytes_of, syntax_at, too_deep};
-use dt_lexeme::{Fault, Kind, Lexeme, ReadError};
+use dt_lexeme::{Fault, Kind, Lexeme, ReadError, Refusal};
 use std::alloc::{AllocError, Global};
 
 /// How many levels of bodies may stand in an item's body: as deep as nodes of a tree.
@@ -24,44 +24,28 @@ fn end<'a, 'text>(
     s: Statement<'text>,
     fault: Option<Fault>,
     ts: &'a [Lexeme],
-) -> Result<(Option<Statement<'text>>, Option<Fault>, &'a [Lexeme]), ReadError>
-    ensures gives { Reads (λ x. (option_map view x.0, x.1, x.2.now)) result (ended_by (Some (view s.entry)) fault ts.now) }
-    ensures shorter { IfOk result (λ x. length x.2.now < length ts.now) }
+) -> ReadStatement<'a, 'text>
+    ensures gives { ReadsStatement result (ended_by (Some (view s.entry)) fault ts.now) }
+    ensures shorter { IfOk result (λ x. length x.rest.now < length ts.now) }
 {
-    match semicolon(ts) {
-        Ok(rest) => Ok((Some(s), fault, rest)),
-        Err(refusal) => Err(ReadError::Refused(refusal)),
-    }
+    let rest = semicolon(ts)?;
+    let found = Some(s);
+    Ok(Read { found, fault, rest })
 }
 
-fn property_deleted<'a, 'text>(
+// A name, and what follows it.
+fn name<'a, 'text>(
     text: &'text [u8],
     ts: &'a [Lexeme],
-) -> Result<(Option<Statement<'text>>, Option<Fault>, &'a [Lexeme]), ReadError>
-    ensures gives { Reads (λ x. (option_map view x.0, x.1, x.2.now)) result (deleted_at text.now Undefines ts.now) }
-    ensures shorter { IfOk result (λ x. length x.2.now < length ts.now) }
+) -> Result<(&'text [u8], &'a [Lexeme]), Refusal>
+    ensures gives { Gives (λ x. (x.0.now, x.1.now)) result (name_at text.now ts.now) }
+    ensures shorter { IfOk result (λ x. length x.1.now < length ts.now) }
 {
     match ts {
-        [] => Err(ReadError::Refused(syntax_at(ts))),
+        [] => Err(syntax_at(ts)),
         [t, rest @ ..] => match t.kind {
-            Kind::Name => end(delete_property(bytes_of(text, *t)), None, rest),
-            _ => Err(ReadError::Refused(syntax_at(ts))),
-        },
-    }
-}
-
-fn node_deleted<'a, 'text>(
-    text: &'text [u8],
-    ts: &'a [Lexeme],
-) -> Result<(Option<Statement<'text>>, Option<Fault>, &'a [Lexeme]), ReadError>
-    ensures gives { Reads (λ x. (option_map view x.0, x.1, x.2.now)) result (deleted_at text.now Removes ts.now) }
-    ensures shorter { IfOk result (λ x. length x.2.now < length ts.now) }
-{
-    match ts {
-        [] => Err(ReadError::Refused(syntax_at(ts))),
-        [t, rest @ ..] => match t.kind {
-            Kind::Name => end(delete_node(bytes_of(text, *t)), None, rest),
-            _ => Err(ReadError::Refused(syntax_at(ts))),
+            Kind::Name => Ok((bytes_of(text, *t), rest)),
+            _ => Err(syntax_at(ts)),
         },
     }
 }
@@ -73,15 +57,25 @@ fn bare<'a, 'text>(
     t: Lexeme,
     rest: &'a [Lexeme],
     ts: &'a [Lexeme],
-) -> Result<(Option<Statement<'text>>, Option<Fault>, &'a [Lexeme]), ReadError>
+) -> ReadStatement<'a, 'text>
     requires { ts.now ≡ t ∷ rest.now }
-    ensures gives { Reads (λ x. (option_map view x.0, x.1, x.2.now)) result (bare_by text.now nodes t.kind t rest.now) }
-    ensures shorter { IfOk result (λ x. length x.2.now < length ts.now) }
+    ensures gives { ReadsStatement result (bare_by text.now nodes t.kind t rest.now) }
+    ensures shorter { IfOk result (λ x. length x.rest.now < length ts.now) }
 {
     match t.kind {
-        Kind::EndBrace => Ok((None, None, rest)),
-        Kind::DeleteProperty if !nodes => property_deleted(text, rest),
-        Kind::DeleteNode => node_deleted(text, rest),
+        Kind::EndBrace => Ok(Read {
+            found: None,
+            fault: None,
+            rest,
+        }),
+        Kind::DeleteProperty if !nodes => {
+            let (name, rest) = name(text, rest)?;
+            end(delete_property(name), None, rest)
+        }
+        Kind::DeleteNode => {
+            let (name, rest) = name(text, rest)?;
+            end(delete_node(name), None, rest)
+        }
         _ => Err(ReadError::Refused(syntax_at(ts))),
     }
 }
@@ -94,9 +88,9 @@ fn begun<'a, 'text>(
     nodes: bool,
     labels: &[Lexeme],
     ts: &'a [Lexeme],
-) -> Result<(Option<Statement<'text>>, Option<Fault>, &'a [Lexeme]), ReadError>
-    ensures gives { Reads (λ x. (option_map view x.0, x.1, x.2.now)) result (begun_at text.now (body_below text.now depth) nodes labels.now ts.now) }
-    ensures shorter { IfOk result (λ x. length x.2.now < length ts.now) }
+) -> ReadStatement<'a, 'text>
+    ensures gives { ReadsStatement result (begun_at text.now (body_below text.now depth) nodes labels.now ts.now) }
+    ensures shorter { IfOk result (λ x. length x.rest.now < length ts.now) }
 {
     match ts {
         [] => Err(ReadError::Refused(syntax_at(ts))),
@@ -115,10 +109,10 @@ fn unlabelled<'a, 'text>(
     t: Lexeme,
     rest: &'a [Lexeme],
     ts: &'a [Lexeme],
-) -> Result<(Option<Statement<'text>>, Option<Fault>, &'a [Lexeme]), ReadError>
+) -> ReadStatement<'a, 'text>
     requires { ts.now ≡ t ∷ rest.now }
-    ensures gives { Reads (λ x. (option_map view x.0, x.1, x.2.now)) result (unlabelled text.now nodes labels.now t.kind t rest.now) }
-    ensures shorter { IfOk result (λ x. length x.2.now < length ts.now) }
+    ensures gives { ReadsStatement result (unlabelled text.now nodes labels.now t.kind t rest.now) }
+    ensures shorter { IfOk result (λ x. length x.rest.now < length ts.now) }
 {
     match labels {
         [] => bare(text, nodes, t, rest, ts),
@@ -134,9 +128,9 @@ fn statement<'a, 'text>(
     depth: u8,
     nodes: bool,
     ts: &'a [Lexeme],
-) -> Result<(Option<Statement<'text>>, Option<Fault>, &'a [Lexeme]), ReadError>
-    ensures gives { Reads (λ x. (option_map view x.0, x.1, x.2.now)) result (statement_at text.now (body_below text.now depth) nodes ts.now) }
-    ensures shorter { IfOk result (λ x. length x.2.now < length ts.now) }
+) -> ReadStatement<'a, 'text>
+    ensures gives { ReadsStatement result (statement_at text.now (body_below text.now depth) nodes ts.now) }
+    ensures shorter { IfOk result (λ x. length x.rest.now < length ts.now) }
 {
     let (labels, rest) = labels(ts);
     begun(alloc, text, depth, nodes, labels, rest)
@@ -152,22 +146,25 @@ fn named<'a, 'text>(
     labels: &[Lexeme],
     name: &'text [u8],
     ts: &'a [Lexeme],
-) -> Result<(Option<Statement<'text>>, Option<Fault>, &'a [Lexeme]), ReadError>
-    ensures gives { Reads (λ x. (option_map view x.0, x.1, x.2.now)) result (named_at text.now (body_below text.now depth) nodes (map (label_bytes text.now) labels.now) name.now ts.now) }
-    ensures shorter { IfOk result (λ x. length x.2.now < length ts.now) }
+) -> ReadStatement<'a, 'text>
+    ensures gives { ReadsStatement result (named_below text.now depth nodes labels.now name.now ts.now) }
+    ensures shorter { IfOk result (λ x. length x.rest.now < length ts.now) }
 {
     match ts {
         [] => Err(ReadError::Refused(syntax_at(ts))),
         [t, rest @ ..] => match t.kind {
-            Kind::Semicolon if !nodes => Ok((Some(property(name, Vec::new(alloc))), None, rest)),
+            Kind::Semicolon if !nodes => {
+                let (found, fault) = (Some(property(name, Vec::new(alloc))), None);
+                Ok(Read { found, fault, rest })
+            }
             Kind::Equals if !nodes => {
-                let (parts, fault, rest) = value(alloc, text, rest)?;
-                end(property(name, parts), fault, rest)
+                let Read { found, fault, rest } = value(alloc, text, rest)?;
+                end(property(name, found), fault, rest)
             }
             Kind::Brace => {
-                let (inner, fault, rest) = body_deeper(alloc, text, depth, *t, rest)?;
+                let Read { found, fault, rest } = body_deeper(alloc, text, depth, *t, rest)?;
                 let labels = labels_of(alloc, text, labels)?;
-                end(node(labels, name, inner), fault, rest)
+                end(node(labels, name, found), fault, rest)
             }
             _ => Err(ReadError::Refused(syntax_at(ts))),
         },
@@ -181,9 +178,9 @@ fn body_deeper<'a, 'text>(
     depth: u8,
     brace: Lexeme,
     ts: &'a [Lexeme],
-) -> Result<(Vec<Statement<'text>>, Option<Fault>, &'a [Lexeme]), ReadError>
-    ensures gives { Reads (λ x. (map view x.0.items, x.1, x.2.now)) result (body_below text.now depth brace ts.now) }
-    ensures shorter { IfOk result (λ x. length x.2.now < length ts.now) }
+) -> ReadBody<'a, 'text>
+    ensures gives { ReadsBody result (body_below text.now depth brace ts.now) }
+    ensures shorter { IfOk result (λ x. length x.rest.now < length ts.now) }
 {
     if depth == 0 {
         return Err(ReadError::Refused(too_deep(brace)));
@@ -199,22 +196,26 @@ pub(crate) fn body<'a, 'text>(
     text: &'text [u8],
     depth: u8,
     ts: &'a [Lexeme],
-) -> Result<(Vec<Statement<'text>>, Option<Fault>, &'a [Lexeme]), ReadError>
-    ensures gives { Reads (λ x. (map view x.0.items, x.1, x.2.now)) result (body_at text.now depth ts.now) }
-    ensures shorter { IfOk result (λ x. length x.2.now < length ts.now) }
+) -> ReadBody<'a, 'text>
+    ensures gives { ReadsBody result (body_at text.now depth ts.now) }
+    ensures shorter { IfOk result (λ x. length x.rest.now < length ts.now) }
 {
     let mut statements = Vec::new(alloc);
     let mut first = None;
     let mut nodes = false;
     let mut left = ts;
     'statements: loop {
-        let (found, fault, rest) = statement(alloc, text, depth, nodes, left)?;
+        let Read { found, fault, rest } = statement(alloc, text, depth, nodes, left)?;
         first = earlier(first, fault);
         left = rest;
         match found {
             None => {
                 statements.shrink_to_fit();
-                return Ok((statements, first, left));
+                return Ok(Read {
+                    found: statements,
+                    fault: first,
+                    rest: left,
+                });
             }
             Some(s) => {
                 nodes = nodes_after(nodes, &s);

@@ -1,14 +1,16 @@
 //! Cells and byte strings.
-ghost use Rattle.std.specs.Prelude.{◌≡◌, ◌≤◌, ◌<◌, ◌++◌, length, None, IfOk, OnOk, option_map};
+ghost use Rattle.std.specs.Prelude.{◌≡◌, ◌<◌, ◌++◌, length, None, IfOk, OnOk, option_map};
 ghost use Rattle.dt_expression.specs.Reading.{Gives};
 ghost use Rattle.dt_source.specs.Reading.Several.{Reads};
+ghost use Rattle.dt_source.specs.Reading.Returned.{Pushes};
 ghost use Rattle.dt_source.specs.Pieces.{fault_in, cell_fault, cell_pieces, element_pieces};
 ghost use Rattle.dt_source.specs.Reading.Values.{built, put_all};
 ghost use Rattle.dt_source.specs.Reading.Bodies.{element_at, cell_at, cells_at, pair_at, pairs_at};
-ghost use Rattle.dt_source.specs.Reading.Loops.{into, byte_list};
+ghost use Rattle.dt_source.specs.Reading.Loops.{byte_list};
 
 use crate::cell::Cell;
 use crate::parts::Parts;
+use crate::reading::Pushed;
 use crate::references::{reference_fault, target};
 use crate::string::{earlier, pair};
 use crate::tree::Part;
@@ -116,8 +118,8 @@ pub(crate) fn cells<'a, 'text>(
     text: &'text [u8],
     width: Option<Width>,
     ts: &'a [Lexeme],
-) -> Result<(Option<Fault>, &'a [Lexeme]), ReadError>
-    ensures gives { Reads (λ x. (built parts.new, x.0, x.1.now)) result (into (built parts.old) (cells_at text.now width ts.now)) }
+) -> Pushed<'a>
+    ensures gives { Pushes parts.old parts.new result (cells_at text.now width ts.now) }
     ensures shorter { IfOk result (λ x. length x.1.now < length ts.now) }
 {
     let mut first = None;

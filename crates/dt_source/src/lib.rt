@@ -6,7 +6,6 @@
 mod body;
 mod cell;
 mod cells;
-mod ends;
 mod error;
 mod labels;
 mod lawful;
@@ -14,6 +13,7 @@ mod order;
 mod parser;
 mod parts;
 mod pieces;
+mod reading;
 mod references;
 mod refusals;
 mod room;

@@ -1,9 +1,8 @@
 //! A text, parsed.
-ghost use Rattle.std.specs.Prelude.{◌≡◌, ◌⊎◌, ℕ, List, IfOk, IfErr};
-ghost use Rattle.dt_source.specs.declared.error.SourceErrorKind.{SourceErrorKind};
-ghost use Rattle.dt_source.specs.declared.error.SourceErrorKind.TheVariants.{NoMemory, TooLong};
+ghost use Rattle.std.specs.Prelude.{◌≡◌, ℕ, List, IfOk, IfErr};
+ghost use Rattle.dt_source.specs.declared.error.SourceErrorKind.TheVariants.{TooLong};
 ghost use Rattle.dt_lexeme.specs.declared.lexeme.Fault.{Fault};
-ghost use Rattle.dt_source.specs.SourceError.{kind_of_fault};
+ghost use Rattle.dt_source.specs.Laws.{OnlyMemoryRefusesWhatIsSaid, OnlyMemoryAndTheFaultRefuse};
 ghost use Rattle.dt_meaning.specs.Syntax.{Meaning};
 ghost use Rattle.dt_source.specs.Meaning.{meaning_of, outlined};
 ghost use Rattle.dt_source.specs.Source.{SourceTree};
@@ -47,7 +46,8 @@ fn too_long() -> SourceError
 pub fn parse<'a>(alloc: Global, text: &'a [u8]) -> Result<Source<'a>, SourceError>
     // What is answered is what the text says.
     ensures found { IfOk result (λ s. IsShort text.now × Says text.now (meaning_of s)) }
-    // Each refusal comes only where it should, and tells the line of its place. So a text is too long where that is told.
+    // Each refusal comes only where it should, and tells the line of its place. So a text is too long where that is
+    // told.
     ensures refused { IfErr result (λ e. Refuses text.now e.kind e.line) }
 {
     if text.len() > MAX_TEXT_LEN {
@@ -78,7 +78,7 @@ pub fn parse<'a>(alloc: Global, text: &'a [u8]) -> Result<Source<'a>, SourceErro
 pub fn one_source()
     ensures one { (text : List ℕ) (s t : SourceTree) → IsSource text s → IsSource text t → s ≡ t }
     ensures meaning { (text : List ℕ) (m n : Meaning) → Says text m → Says text n → m ≡ n }
-    ensures accepted { (text : List ℕ) (m : Meaning) (k : SourceErrorKind) (line : ℕ) → IsShort text → Says text m → Refuses text k line → k ≡ NoMemory }
+    ensures accepted { OnlyMemoryRefusesWhatIsSaid }
     ensures fault { (text : List ℕ) (m : Meaning) (f : Fault) → Says text m → HasFirstFault text f → ⊥ }
-    ensures faulty { (text : List ℕ) (f : Fault) (k : SourceErrorKind) (line : ℕ) → IsShort text → HasFirstFault text f → Refuses text k line → (k ≡ NoMemory) ⊎ (k ≡ kind_of_fault f.kind) }
+    ensures faulty { OnlyMemoryAndTheFaultRefuse }
 {}

@@ -1,9 +1,9 @@
 //! The parts of a value while it is read.
-ghost use Rattle.std.specs.Prelude.{◌≡◌, ◌++◌, ◌∷◌, [], map, IfOk, OnOk};
+ghost use Rattle.std.specs.Prelude.{◌≡◌, [], map, IfOk, OnOk};
 ghost use Rattle.dt_meaning.specs.Syntax.{Plain};
 ghost use Rattle.dt_source.specs.Tree.{part_view};
 ghost use Rattle.dt_expression.specs.Element.{bytes_in, low_bytes};
-ghost use Rattle.dt_source.specs.Reading.Values.{built, flushed, put};
+ghost use Rattle.dt_source.specs.Reading.Values.{built, flushed, closed_by, put};
 
 use crate::room::push_sparingly;
 use crate::tree::Part;
@@ -54,7 +54,7 @@ impl<'a> Parts<'a> {
 
     /// Puts a part that isn't bytes behind the others.
     pub(crate) fn push_part(&mut self, alloc: Global, part: Part<'a>) -> Result<(), AllocError>
-        ensures { OnOk result (built self.new ≡ record { closed = flushed (built self.old) ++ part_view part.entry ∷ []; bytes = [] }) }
+        ensures { OnOk result (built self.new ≡ closed_by (built self.old) (part_view part.entry)) }
     {
         self.close(alloc)?;
         push_sparingly(&mut self.closed, part)

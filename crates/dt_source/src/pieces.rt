@@ -1,17 +1,16 @@
 //! Values of properties.
-ghost use Rattle.std.specs.Prelude.{◌≡◌, ◌≤◌, ◌<◌, [], ◌∷◌, Ok, None, length, map, IfOk, IfSome, option_map};
+ghost use Rattle.std.specs.Prelude.{◌≡◌, ◌≤◌, ◌<◌, length, map, IfOk, IfSome, option_map};
 ghost use Rattle.dt_source.specs.Reading.Several.{Reads};
-ghost use Rattle.dt_meaning.specs.Syntax.{Plain, PathOf};
+ghost use Rattle.dt_source.specs.Reading.Returned.{Pushes};
 ghost use Rattle.dt_source.specs.Tree.{part_view};
-ghost use Rattle.dt_source.specs.Strings.{string_bytes, string_faults};
-ghost use Rattle.dt_source.specs.Pieces.{target_of, width_at};
-ghost use Rattle.dt_source.specs.Reading.Values.{built};
-ghost use Rattle.dt_source.specs.Order.{first_of};
-ghost use Rattle.dt_source.specs.Reading.Bodies.{is_label, labels_at, square_at, less_at, bits_at, piece_at, placed_at, pieces_at, value_at};
-ghost use Rattle.dt_source.specs.Reading.Loops.{into, comma_rest};
+ghost use Rattle.dt_source.specs.Pieces.{width_at};
+ghost use Rattle.dt_source.specs.Reading.Bodies.{is_label, labels_at, less_at, bits_at};
+ghost use Rattle.dt_source.specs.Reading.Bodies.{piece_at, placed_at, pieces_at, value_at};
+ghost use Rattle.dt_source.specs.Reading.Loops.{comma_rest};
 
 use crate::cells::{cells, pairs};
 use crate::parts::Parts;
+use crate::reading::{Pushed, Read};
 use crate::references::target;
 use crate::string::{earlier, string_of};
 use crate::tree::Part;
@@ -65,8 +64,8 @@ fn less<'a, 'text>(
     width: Option<Width>,
     fault: Option<Fault>,
     ts: &'a [Lexeme],
-) -> Result<(Option<Fault>, &'a [Lexeme]), ReadError>
-    ensures gives { Reads (λ x. (built parts.new, x.0, x.1.now)) result (into (built parts.old) (less_at text.now width fault ts.now)) }
+) -> Pushed<'a>
+    ensures gives { Pushes parts.old parts.new result (less_at text.now width fault ts.now) }
     ensures shorter { IfOk result (λ x. length x.1.now < length ts.now) }
 {
     match ts {
@@ -87,8 +86,8 @@ fn bits<'a, 'text>(
     parts: &mut Parts<'text>,
     text: &'text [u8],
     ts: &'a [Lexeme],
-) -> Result<(Option<Fault>, &'a [Lexeme]), ReadError>
-    ensures gives { Reads (λ x. (built parts.new, x.0, x.1.now)) result (into (built parts.old) (bits_at text.now ts.now)) }
+) -> Pushed<'a>
+    ensures gives { Pushes parts.old parts.new result (bits_at text.now ts.now) }
     ensures shorter { IfOk result (λ x. length x.1.now < length ts.now) }
 {
     match ts {
@@ -103,65 +102,33 @@ fn bits<'a, 'text>(
     }
 }
 
-fn push_string<'a>(
-    alloc: Global,
-    parts: &mut Parts<'_>,
-    text: &[u8],
-    l: Lexeme,
-    ts: &'a [Lexeme],
-) -> Result<(Option<Fault>, &'a [Lexeme]), ReadError>
-    ensures gives { Reads (λ x. (built parts.new, x.0, x.1.now)) result (into (built parts.old) (Ok (Plain (string_bytes text.now l) ∷ [], first_of (string_faults text.now l), ts.now))) }
-    ensures rest { IfOk result (λ x. x.1.now ≡ ts.now) }
-{
-    let (bytes, fault) = string_of(alloc, text, l)?;
-    parts.push_bytes(bytes.as_slice())?;
-    Ok((fault, ts))
-}
-
-fn push_path<'a, 'text>(
-    alloc: Global,
-    parts: &mut Parts<'text>,
-    text: &'text [u8],
-    l: Lexeme,
-    ts: &'a [Lexeme],
-) -> Result<(Option<Fault>, &'a [Lexeme]), ReadError>
-    ensures gives { Reads (λ x. (built parts.new, x.0, x.1.now)) result (into (built parts.old) (Ok (PathOf (target_of text.now l) ∷ [], None, ts.now))) }
-    ensures rest { IfOk result (λ x. x.1.now ≡ ts.now) }
-{
-    parts.push_part(alloc, Part::Path(target(text, l)))?;
-    Ok((None, ts))
-}
-
-fn push_pairs<'a, 'text>(
-    alloc: Global,
-    parts: &mut Parts<'text>,
-    text: &'text [u8],
-    ts: &'a [Lexeme],
-) -> Result<(Option<Fault>, &'a [Lexeme]), ReadError>
-    ensures gives { Reads (λ x. (built parts.new, x.0, x.1.now)) result (into (built parts.old) (square_at text.now ts.now)) }
-    ensures shorter { IfOk result (λ x. length x.1.now < length ts.now) }
-{
-    let (bytes, rest) = pairs(alloc, text, ts)?;
-    parts.push_bytes(bytes.as_slice())?;
-    Ok((None, rest))
-}
-
 #[tactic(auto, unfolding(crate::specs::Reading::Bodies::piece_at))]
 fn piece<'a, 'text>(
     alloc: Global,
     parts: &mut Parts<'text>,
     text: &'text [u8],
     ts: &'a [Lexeme],
-) -> Result<(Option<Fault>, &'a [Lexeme]), ReadError>
-    ensures gives { Reads (λ x. (built parts.new, x.0, x.1.now)) result (into (built parts.old) (piece_at text.now ts.now)) }
+) -> Pushed<'a>
+    ensures gives { Pushes parts.old parts.new result (piece_at text.now ts.now) }
     ensures shorter { IfOk result (λ x. length x.1.now < length ts.now) }
 {
     match ts {
         [] => Err(ReadError::Refused(syntax_at(ts))),
         [t, rest @ ..] => match t.kind {
-            Kind::Text => push_string(alloc, parts, text, *t, rest),
-            Kind::Reference | Kind::PathReference => push_path(alloc, parts, text, *t, rest),
-            Kind::Square => push_pairs(alloc, parts, text, rest),
+            Kind::Text => {
+                let (bytes, fault) = string_of(alloc, text, *t)?;
+                parts.push_bytes(bytes.as_slice())?;
+                Ok((fault, rest))
+            }
+            Kind::Reference | Kind::PathReference => {
+                parts.push_part(alloc, Part::Path(target(text, *t)))?;
+                Ok((None, rest))
+            }
+            Kind::Square => {
+                let (bytes, rest) = pairs(alloc, text, rest)?;
+                parts.push_bytes(bytes.as_slice())?;
+                Ok((None, rest))
+            }
             Kind::Less => cells(alloc, parts, text, Some(Width::ThirtyTwo), rest),
             Kind::Bits => bits(alloc, parts, text, rest),
             _ => Err(ReadError::Refused(syntax_at(ts))),
@@ -176,8 +143,8 @@ fn placed<'a, 'text>(
     parts: &mut Parts<'text>,
     text: &'text [u8],
     ts: &'a [Lexeme],
-) -> Result<(Option<Fault>, &'a [Lexeme]), ReadError>
-    ensures gives { Reads (λ x. (built parts.new, x.0, x.1.now)) result (into (built parts.old) (placed_at text.now ts.now)) }
+) -> Pushed<'a>
+    ensures gives { Pushes parts.old parts.new result (placed_at text.now ts.now) }
     ensures shorter { IfOk result (λ x. length x.1.now < length ts.now) }
 {
     let (_, bare) = labels(ts);
@@ -205,8 +172,8 @@ fn pieces<'a, 'text>(
     parts: &mut Parts<'text>,
     text: &'text [u8],
     ts: &'a [Lexeme],
-) -> Result<(Option<Fault>, &'a [Lexeme]), ReadError>
-    ensures gives { Reads (λ x. (built parts.new, x.0, x.1.now)) result (into (built parts.old) (pieces_at text.now ts.now)) }
+) -> Pushed<'a>
+    ensures gives { Pushes parts.old parts.new result (pieces_at text.now ts.now) }
     ensures shorter { IfOk result (λ x. length x.1.now < length ts.now) }
 {
     let (mut first, mut left) = placed(alloc, parts, text, ts)?;
@@ -223,12 +190,12 @@ pub(crate) fn value<'a, 'text>(
     alloc: Global,
     text: &'text [u8],
     ts: &'a [Lexeme],
-) -> Result<(Vec<Part<'text>>, Option<Fault>, &'a [Lexeme]), ReadError>
-    ensures gives { Reads (λ x. (map part_view x.0.items, x.1, x.2.now)) result (value_at text.now ts.now) }
-    ensures shorter { IfOk result (λ x. length x.2.now < length ts.now) }
+) -> Result<Read<'a, Vec<Part<'text>>>, ReadError>
+    ensures gives { Reads (λ x. (map part_view x.found.items, x.fault, x.rest.now)) result (value_at text.now ts.now) }
+    ensures shorter { IfOk result (λ x. length x.rest.now < length ts.now) }
 {
     let mut parts = Parts::new(alloc);
     let (fault, rest) = pieces(alloc, &mut parts, text, ts)?;
-    let value = parts.finish(alloc)?;
-    Ok((value, fault, rest))
+    let found = parts.finish(alloc)?;
+    Ok(Read { found, fault, rest })
 }

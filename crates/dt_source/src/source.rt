@@ -1,20 +1,25 @@
 //! Sources as they are read: headers, reservations and items.
-ghost use Rattle.std.specs.Prelude.{◌≡◌, ◌≤◌, ◌<◌, ◌++◌, ◌∷◌, None, Some, map, length, IfOk, OnOk, IfSome, option_map};
+ghost use Rattle.std.specs.Prelude.{◌≡◌, ◌≤◌, ◌<◌, ◌++◌, ◌∷◌, None, Some, map, length};
+ghost use Rattle.std.specs.Prelude.{IfOk, OnOk, IfSome};
 ghost use Rattle.dt_expression.specs.Reading.{Gives};
 ghost use Rattle.dt_source.specs.Reading.Several.{Reads};
-ghost use Rattle.dt_meaning.specs.Syntax.{body_of, Deletes};
-ghost use Rattle.dt_source.specs.Tree.{view, views, item_view};
+ghost use Rattle.dt_source.specs.Reading.Returned.{ReadsItem, ReadsItemBody};
+ghost use Rattle.dt_meaning.specs.Syntax.{Deletes};
+ghost use Rattle.dt_source.specs.Tree.{views, item_view};
 ghost use Rattle.dt_source.specs.Meaning.{outlined};
 ghost use Rattle.dt_source.specs.Pieces.{target_of};
 ghost use Rattle.dt_source.specs.Reading.Bodies.{ended_by};
 ghost use Rattle.dt_source.specs.Source.{both_numbers};
-ghost use Rattle.dt_source.specs.Reading.Whole.{plugin_at, header_at, more_headers, headers_at, some_header, reserve_with, reserve_at, reserves_at, brace_at, extend_at, root_at, delete_at, bare_item, unlabelled_item, item_with, item_at, some_items, all_items_at, items_at, source_at};
+ghost use Rattle.dt_source.specs.Reading.Whole.{plugin_at, header_at, more_headers, headers_at, some_header};
+ghost use Rattle.dt_source.specs.Reading.Whole.{reserve_with, reserve_at, reserves_at, brace_at, extend_at};
+ghost use Rattle.dt_source.specs.Reading.Whole.{delete_at, bare_item, unlabelled_item, item_with, item_at};
+ghost use Rattle.dt_source.specs.Reading.Whole.{all_items_at, items_at, source_at};
 
 use crate::body::{MAX_BODY_DEPTH, body};
 use crate::cells::fault_in;
-use crate::ends::semicolon;
 use crate::labels::labels_of;
 use crate::pieces::labels;
+use crate::reading::{Read, ReadBody, ReadItem, ReadReserve, semicolon};
 use crate::references::target;
 use crate::string::earlier;
 use crate::tree::{Item, Outline, Statement};
@@ -90,54 +95,36 @@ fn some_header(plugin: Option<bool>, ts: &[Lexeme]) -> Result<bool, Refusal>
     }
 }
 
-fn reserve_with<'a>(
-    text: &[u8],
-    whole: &'a [Lexeme],
-    ts: &'a [Lexeme],
-) -> Result<
-    (
-        Option<(Result<u64, Fault>, Result<u64, Fault>)>,
-        Option<Fault>,
-        &'a [Lexeme],
-    ),
-    Refusal,
->
-    ensures gives { Gives (λ x. (x.0, x.1, x.2.now)) result (reserve_with text.now whole.now ts.now) }
-    ensures shorter { IfOk result (λ x. IfSome x.0 (λ _. length x.2.now < length ts.now)) }
+fn reserve_with<'a>(text: &[u8], whole: &'a [Lexeme], ts: &'a [Lexeme]) -> ReadReserve<'a>
+    ensures gives { Gives (λ x. (x.found, x.fault, x.rest.now)) result (reserve_with text.now whole.now ts.now) }
+    ensures shorter { IfOk result (λ x. IfSome x.found (λ _. length x.rest.now < length ts.now)) }
 {
+    let none = Read {
+        found: None,
+        fault: None,
+        rest: whole,
+    };
     match ts {
-        [] => Ok((None, None, whole)),
+        [] => Ok(none),
         [t, rest @ ..] => match t.kind {
             Kind::MemReserve => {
                 let (address, rest) = primary(text, rest)?;
                 let (size, rest) = primary(text, rest)?;
                 let rest = semicolon(rest)?;
-                Ok((
-                    Some((address, size)),
-                    earlier(fault_in(address), fault_in(size)),
-                    rest,
-                ))
+                let found = Some((address, size));
+                let fault = earlier(fault_in(address), fault_in(size));
+                Ok(Read { found, fault, rest })
             }
-            _ => Ok((None, None, whole)),
+            _ => Ok(none),
         },
     }
 }
 
 // A reservation, where one begins.
 #[tactic(auto, unfolding(crate::specs::Reading::Whole::reserve_at))]
-fn reserve<'a>(
-    text: &[u8],
-    ts: &'a [Lexeme],
-) -> Result<
-    (
-        Option<(Result<u64, Fault>, Result<u64, Fault>)>,
-        Option<Fault>,
-        &'a [Lexeme],
-    ),
-    Refusal,
->
-    ensures gives { Gives (λ x. (x.0, x.1, x.2.now)) result (reserve_at text.now ts.now) }
-    ensures shorter { IfOk result (λ x. IfSome x.0 (λ _. length x.2.now < length ts.now)) }
+fn reserve<'a>(text: &[u8], ts: &'a [Lexeme]) -> ReadReserve<'a>
+    ensures gives { Gives (λ x. (x.found, x.fault, x.rest.now)) result (reserve_at text.now ts.now) }
+    ensures shorter { IfOk result (λ x. IfSome x.found (λ _. length x.rest.now < length ts.now)) }
 {
     let (_, rest) = labels(ts);
     reserve_with(text, ts, rest)
@@ -162,53 +149,51 @@ fn reserves<'a>(
     alloc: Global,
     text: &[u8],
     ts: &'a [Lexeme],
-) -> Result<(Vec<(u64, u64)>, Option<Fault>, &'a [Lexeme]), ReadError>
-    ensures gives { Reads (λ x. (x.0.items, x.1, x.2.now)) result (reserves_at text.now ts.now) }
+) -> Result<Read<'a, Vec<(u64, u64)>>, ReadError>
+    ensures gives { Reads (λ x. (x.found.items, x.fault, x.rest.now)) result (reserves_at text.now ts.now) }
 {
     let mut list = Vec::new(alloc);
     let mut first = None;
     let mut left = ts;
     'reserves: loop {
-        let (found, fault, rest) = reserve(text, left)?;
+        let Read { found, fault, rest } = reserve(text, left)?;
         first = earlier(first, fault);
         left = rest;
         match found {
-            None => return Ok((list, first, left)),
+            None => return Ok(Read {
+                found: list,
+                fault: first,
+                rest: left,
+            }),
             Some(values) => push_reserve(&mut list, values)?,
         }
     }
 }
 
 fn end_body<'a, 'text>(
-    statements: Vec<Statement<'text>>,
+    found: Vec<Statement<'text>>,
     fault: Option<Fault>,
     ts: &'a [Lexeme],
-) -> Result<(Vec<Statement<'text>>, Option<Fault>, &'a [Lexeme]), ReadError>
-    ensures gives { Reads (λ x. (views x.0.items, x.1, x.2.now)) result (ended_by (body_of (map view statements.entry.items)) fault ts.now) }
-    ensures shorter { IfOk result (λ x. length x.2.now < length ts.now) }
+) -> ReadBody<'a, 'text>
+    ensures gives { ReadsItemBody result (ended_by (views found.entry.items) fault ts.now) }
+    ensures shorter { IfOk result (λ x. length x.rest.now < length ts.now) }
 {
-    match semicolon(ts) {
-        Ok(rest) => Ok((statements, fault, rest)),
-        Err(refusal) => Err(ReadError::Refused(refusal)),
-    }
+    let rest = semicolon(ts)?;
+    Ok(Read { found, fault, rest })
 }
 
 // The body of an item, and a semicolon.
 #[tactic(auto, unfolding(crate::specs::Reading::Whole::brace_at))]
-fn brace<'a, 'text>(
-    alloc: Global,
-    text: &'text [u8],
-    ts: &'a [Lexeme],
-) -> Result<(Vec<Statement<'text>>, Option<Fault>, &'a [Lexeme]), ReadError>
-    ensures gives { Reads (λ x. (views x.0.items, x.1, x.2.now)) result (brace_at text.now ts.now) }
-    ensures shorter { IfOk result (λ x. length x.2.now < length ts.now) }
+fn brace<'a, 'text>(alloc: Global, text: &'text [u8], ts: &'a [Lexeme]) -> ReadBody<'a, 'text>
+    ensures gives { ReadsItemBody result (brace_at text.now ts.now) }
+    ensures shorter { IfOk result (λ x. length x.rest.now < length ts.now) }
 {
     match ts {
         [] => Err(ReadError::Refused(syntax_at(ts))),
         [t, rest @ ..] => match t.kind {
             Kind::Brace => {
-                let (statements, fault, rest) = body(alloc, text, MAX_BODY_DEPTH, rest)?;
-                end_body(statements, fault, rest)
+                let Read { found, fault, rest } = body(alloc, text, MAX_BODY_DEPTH, rest)?;
+                end_body(found, fault, rest)
             }
             _ => Err(ReadError::Refused(syntax_at(ts))),
         },
@@ -221,43 +206,32 @@ fn extend<'a, 'text>(
     labels: &[Lexeme],
     t: Lexeme,
     ts: &'a [Lexeme],
-) -> Result<(Option<Item<'text>>, Option<Fault>, &'a [Lexeme]), ReadError>
-    ensures gives { Reads (λ x. (option_map item_view x.0, x.1, x.2.now)) result (extend_at text.now labels.now t ts.now) }
-    ensures shorter { IfOk result (λ x. length x.2.now < length ts.now) }
+) -> ReadItem<'a, 'text>
+    ensures gives { ReadsItem result (extend_at text.now labels.now t ts.now) }
+    ensures shorter { IfOk result (λ x. length x.rest.now < length ts.now) }
 {
-    let (body, fault, rest) = brace(alloc, text, ts)?;
+    let Read { found, fault, rest } = brace(alloc, text, ts)?;
     let labels = labels_of(alloc, text, labels)?;
-    Ok((
-        Some(Item::Extend {
-            labels,
-            target: target(text, t),
-            body,
-        }),
-        fault,
-        rest,
-    ))
+    let found = Some(Item::Extend {
+        labels,
+        target: target(text, t),
+        body: found,
+    });
+    Ok(Read { found, fault, rest })
 }
 
-fn end_delete<'a, 'text>(
-    text: &'text [u8],
-    t: Lexeme,
-    ts: &'a [Lexeme],
-) -> Result<(Option<Item<'text>>, Option<Fault>, &'a [Lexeme]), ReadError>
-    ensures gives { Reads (λ x. (option_map item_view x.0, x.1, x.2.now)) result (ended_by (Some (Deletes (target_of text.now t))) None ts.now) }
-    ensures shorter { IfOk result (λ x. length x.2.now < length ts.now) }
+fn end_delete<'a, 'text>(text: &'text [u8], t: Lexeme, ts: &'a [Lexeme]) -> ReadItem<'a, 'text>
+    ensures gives { ReadsItem result (ended_by (Some (Deletes (target_of text.now t))) None ts.now) }
+    ensures shorter { IfOk result (λ x. length x.rest.now < length ts.now) }
 {
-    match semicolon(ts) {
-        Ok(rest) => Ok((Some(Item::Delete(target(text, t))), None, rest)),
-        Err(refusal) => Err(ReadError::Refused(refusal)),
-    }
+    let rest = semicolon(ts)?;
+    let (found, fault) = (Some(Item::Delete(target(text, t))), None);
+    Ok(Read { found, fault, rest })
 }
 
-fn delete<'a, 'text>(
-    text: &'text [u8],
-    ts: &'a [Lexeme],
-) -> Result<(Option<Item<'text>>, Option<Fault>, &'a [Lexeme]), ReadError>
-    ensures gives { Reads (λ x. (option_map item_view x.0, x.1, x.2.now)) result (delete_at text.now ts.now) }
-    ensures shorter { IfOk result (λ x. length x.2.now < length ts.now) }
+fn delete<'a, 'text>(text: &'text [u8], ts: &'a [Lexeme]) -> ReadItem<'a, 'text>
+    ensures gives { ReadsItem result (delete_at text.now ts.now) }
+    ensures shorter { IfOk result (λ x. length x.rest.now < length ts.now) }
 {
     match ts {
         [] => Err(ReadError::Refused(syntax_at(ts))),
@@ -268,18 +242,6 @@ fn delete<'a, 'text>(
     }
 }
 
-fn root<'a, 'text>(
-    alloc: Global,
-    text: &'text [u8],
-    ts: &'a [Lexeme],
-) -> Result<(Option<Item<'text>>, Option<Fault>, &'a [Lexeme]), ReadError>
-    ensures gives { Reads (λ x. (option_map item_view x.0, x.1, x.2.now)) result (root_at text.now ts.now) }
-    ensures shorter { IfOk result (λ x. length x.2.now < length ts.now) }
-{
-    let (body, fault, rest) = brace(alloc, text, ts)?;
-    Ok((Some(Item::Root(body)), fault, rest))
-}
-
 // The root again, or the deletion of a node. The lexemes with this one are for the refusal.
 fn bare<'a, 'text>(
     alloc: Global,
@@ -287,13 +249,17 @@ fn bare<'a, 'text>(
     t: Lexeme,
     rest: &'a [Lexeme],
     ts: &'a [Lexeme],
-) -> Result<(Option<Item<'text>>, Option<Fault>, &'a [Lexeme]), ReadError>
+) -> ReadItem<'a, 'text>
     requires { ts.now ≡ t ∷ rest.now }
-    ensures gives { Reads (λ x. (option_map item_view x.0, x.1, x.2.now)) result (bare_item text.now t.kind t rest.now) }
-    ensures shorter { IfOk result (λ x. length x.2.now < length ts.now) }
+    ensures gives { ReadsItem result (bare_item text.now t.kind t rest.now) }
+    ensures shorter { IfOk result (λ x. length x.rest.now < length ts.now) }
 {
     match t.kind {
-        Kind::Slash => root(alloc, text, rest),
+        Kind::Slash => {
+            let Read { found, fault, rest } = brace(alloc, text, rest)?;
+            let found = Some(Item::Root(found));
+            Ok(Read { found, fault, rest })
+        }
         Kind::DeleteNode => delete(text, rest),
         _ => Err(ReadError::Refused(syntax_at(ts))),
     }
@@ -307,10 +273,10 @@ fn unlabelled<'a, 'text>(
     t: Lexeme,
     rest: &'a [Lexeme],
     ts: &'a [Lexeme],
-) -> Result<(Option<Item<'text>>, Option<Fault>, &'a [Lexeme]), ReadError>
+) -> ReadItem<'a, 'text>
     requires { ts.now ≡ t ∷ rest.now }
-    ensures gives { Reads (λ x. (option_map item_view x.0, x.1, x.2.now)) result (unlabelled_item text.now labels.now t.kind t rest.now) }
-    ensures shorter { IfOk result (λ x. length x.2.now < length ts.now) }
+    ensures gives { ReadsItem result (unlabelled_item text.now labels.now t.kind t rest.now) }
+    ensures shorter { IfOk result (λ x. length x.rest.now < length ts.now) }
 {
     match labels {
         [] => bare(alloc, text, t, rest, ts),
@@ -323,9 +289,9 @@ fn item_with<'a, 'text>(
     text: &'text [u8],
     labels: &[Lexeme],
     ts: &'a [Lexeme],
-) -> Result<(Option<Item<'text>>, Option<Fault>, &'a [Lexeme]), ReadError>
-    ensures gives { Reads (λ x. (option_map item_view x.0, x.1, x.2.now)) result (item_with text.now labels.now ts.now) }
-    ensures shorter { IfOk result (λ x. length x.2.now < length ts.now) }
+) -> ReadItem<'a, 'text>
+    ensures gives { ReadsItem result (item_with text.now labels.now ts.now) }
+    ensures shorter { IfOk result (λ x. length x.rest.now < length ts.now) }
 {
     match ts {
         [] => Err(ReadError::Refused(syntax_at(ts))),
@@ -338,16 +304,16 @@ fn item_with<'a, 'text>(
 
 // An item, or the end.
 #[tactic(auto, unfolding(crate::specs::Reading::Whole::item_at))]
-fn item<'a, 'text>(
-    alloc: Global,
-    text: &'text [u8],
-    ts: &'a [Lexeme],
-) -> Result<(Option<Item<'text>>, Option<Fault>, &'a [Lexeme]), ReadError>
-    ensures gives { Reads (λ x. (option_map item_view x.0, x.1, x.2.now)) result (item_at text.now ts.now) }
-    ensures shorter { IfOk result (λ x. IfSome x.0 (λ _. length x.2.now < length ts.now)) }
+fn item<'a, 'text>(alloc: Global, text: &'text [u8], ts: &'a [Lexeme]) -> ReadItem<'a, 'text>
+    ensures gives { ReadsItem result (item_at text.now ts.now) }
+    ensures shorter { IfOk result (λ x. IfSome x.found (λ _. length x.rest.now < length ts.now)) }
 {
     if ts.is_empty() {
-        return Ok((None, None, ts));
+        return Ok(Read {
+            found: None,
+            fault: None,
+            rest: ts,
+        });
     }
     let (labels, rest) = labels(ts);
     item_with(alloc, text, labels, rest)
@@ -357,17 +323,21 @@ fn all_items<'a, 'text>(
     alloc: Global,
     text: &'text [u8],
     ts: &'a [Lexeme],
-) -> Result<(Vec<Item<'text>>, Option<Fault>, &'a [Lexeme]), ReadError>
-    ensures gives { Reads (λ x. (map item_view x.0.items, x.1, x.2.now)) result (all_items_at text.now ts.now) }
+) -> Result<Read<'a, Vec<Item<'text>>>, ReadError>
+    ensures { Reads (λ x. (map item_view x.found.items, x.fault, x.rest.now)) result (all_items_at text.now ts.now) }
 {
     let mut items = Vec::new(alloc);
     let mut first = None;
     let mut left = ts;
     'items: loop {
-        let (found, fault, rest) = item(alloc, text, left)?;
+        let Read { found, fault, rest } = item(alloc, text, left)?;
         first = earlier(first, fault);
         match found {
-            None => return Ok((items, first, rest)),
+            None => return Ok(Read {
+                found: items,
+                fault: first,
+                rest,
+            }),
             Some(found) => items.push(found)?,
         }
         left = rest;
@@ -382,7 +352,8 @@ fn items<'text>(
 ) -> Result<(Vec<Item<'text>>, Option<Fault>), ReadError>
     ensures { Reads (λ x. (map item_view x.0.items, x.1)) result (items_at text.now ts.now) }
 {
-    let (mut items, fault, _) = all_items(alloc, text, ts)?;
+    let Read { found, fault, .. } = all_items(alloc, text, ts)?;
+    let mut items = found;
     if items.is_empty() {
         return Err(ReadError::Refused(syntax_at(ts)));
     }
@@ -401,15 +372,16 @@ pub(crate) fn source<'text>(
 {
     let (plugin, rest) = headers(ts)?;
     let plugin = some_header(plugin, ts)?;
-    let (mut reserves, first, rest) = reserves(alloc, text, rest)?;
+    let Read { found, fault, rest } = reserves(alloc, text, rest)?;
+    let mut reserves = found;
     reserves.shrink_to_fit();
-    let (items, fault) = items(alloc, text, rest)?;
+    let (items, later) = items(alloc, text, rest)?;
     Ok((
         Outline {
             plugin,
             reserves,
             items,
         },
-        earlier(first, fault),
+        earlier(fault, later),
     ))
 }

@@ -1,6 +1,8 @@
 //! Strings and pairs of hex digits, as bytes.
-ghost use Rattle.std.specs.Prelude.{◌≡◌, ◌<◌, ◌≤◌, ◌+◌, ◌^◌, ◌++◌, length, drop, slice_range, IfOk, OnOk, IfSome, option_map};
-ghost use Rattle.dt_source.specs.Strings.{escape_of, digit_at, octal_at, hex_at, escape_at, char_step, char_fault, char_number, string_bytes, string_faults, pair_byte};
+ghost use Rattle.std.specs.Prelude.{◌≡◌, ◌<◌, ◌≤◌, ◌+◌, ◌^◌, ◌++◌, length, drop, slice_range};
+ghost use Rattle.std.specs.Prelude.{IfOk, OnOk, IfSome, option_map};
+ghost use Rattle.dt_source.specs.Strings.{escape_of, digit_at, octal_at, hex_at, escape_at, pair_byte};
+ghost use Rattle.dt_source.specs.Strings.{char_step, char_fault, char_number, string_bytes, string_faults};
 ghost use Rattle.dt_source.specs.Reading.Several.{earlier};
 ghost use Rattle.dt_source.specs.Order.{first_of};
 
@@ -185,7 +187,8 @@ pub(crate) fn string_of(
     text: &[u8],
     lexeme: Lexeme,
 ) -> Result<(Vec<u8>, Option<Fault>), AllocError>
-    ensures { IfOk result (λ x. (x.0.items ≡ string_bytes text.now lexeme) × (x.1 ≡ first_of (string_faults text.now lexeme))) }
+    ensures bytes { IfOk result (λ x. x.0.items ≡ string_bytes text.now lexeme) }
+    ensures fault { IfOk result (λ x. x.1 ≡ first_of (string_faults text.now lexeme)) }
 {
     let inside = bytes_between(
         text,

@@ -5,7 +5,7 @@ ghost use Rattle.dt_meaning.specs.Syntax.{Defines, Undefines, Child, Removes};
 ghost use Rattle.dt_source.specs.Tree.{labels_view, view, views, part_view, item_view};
 ghost use Rattle.dt_source.specs.Lawful.{IsLawfulEdit};
 ghost use Rattle.dt_source.specs.Counts.{how_many};
-ghost use Rattle.dt_source.specs.LawfulOnce.{all_once, edit_once};
+ghost use Rattle.dt_source.specs.LawfulOnce.{edits_once};
 
 use crate::labels::Labels;
 
@@ -69,7 +69,7 @@ pub struct Source<'a> {
     pub plugin: bool,
     pub reserves: Vec<(u64, u64)>,
     pub items: Vec<Item<'a>>,
-    pub ghost lawful: { All IsLawfulEdit (map item_view items.items) } by { all_once IsLawfulEdit edit_once (map item_view items.items) },
+    pub ghost lawful: { All IsLawfulEdit (map item_view items.items) } by { edits_once (map item_view items.items) },
     pub ghost few: { how_many (map item_view items.items) ≤ text_limit },
 }
 

@@ -1,7 +1,8 @@
 -- Reading the statements of a body, and the values of its properties.
-use Rattle.std.specs.Prelude.{ℕ, zero, suc, Bool, true, false, List, [], ◌∷◌, ◌++◌, length, map, Option, Some, None, Ok, Err, if◌then◌else◌}
+use Rattle.std.specs.Prelude.{ℕ, zero, suc, Bool, true, false, List, [], ◌∷◌, ◌++◌, length, map, Option, Some, None, Result, Ok, Err, if◌then◌else◌}
 use Rattle.dt_lexeme.specs.declared.lexeme.Lexeme.{Lexeme}
 use Rattle.dt_lexeme.specs.declared.lexeme.Fault.{Fault}
+use Rattle.dt_lexeme.specs.declared.lexeme.Refusal.{Refusal}
 use Rattle.dt_lexeme.specs.declared.lexeme.Kind.{Kind}
 use Rattle.dt_lexeme.specs.declared.lexeme.Kind.TheVariants.{Bits, DeleteNode, DeleteProperty, Label, Name, Literal, Text, Reference, PathReference, Pair, Semicolon, Brace, EndBrace, Equals, Comma, Less, Greater, Square, EndSquare, Paren}
 use Rattle.dt_expression.specs.declared.elements.Width.{Width}
@@ -103,10 +104,16 @@ abbrev pub bits_at : List ℕ → List Lexeme → Part (List Piece)
 bits_at text [] = Err (syntax_at [])
 bits_at text (t ∷ ts) = bits_by text t.kind t ts
 
+abbrev pub string_at : List ℕ → Lexeme → List Lexeme → Part (List Piece)
+string_at text t ts = Ok (Plain (string_bytes text t) ∷ [], first_of (string_faults text t), ts)
+
+abbrev pub path_at : List ℕ → Lexeme → List Lexeme → Part (List Piece)
+path_at text t ts = Ok (PathOf (target_of text t) ∷ [], None, ts)
+
 abbrev pub piece_by : List ℕ → Kind → Lexeme → List Lexeme → Part (List Piece)
-piece_by text Text t ts = Ok (Plain (string_bytes text t) ∷ [], first_of (string_faults text t), ts)
-piece_by text Reference t ts = Ok (PathOf (target_of text t) ∷ [], None, ts)
-piece_by text PathReference t ts = Ok (PathOf (target_of text t) ∷ [], None, ts)
+piece_by text Text t ts = string_at text t ts
+piece_by text Reference t ts = path_at text t ts
+piece_by text PathReference t ts = path_at text t ts
 piece_by text Square t ts = square_at text ts
 piece_by text Less t ts = cells_at text (Some ThirtyTwo) ts
 piece_by text Bits t ts = bits_at text ts
@@ -145,14 +152,18 @@ value_at text ts = pieces_at text ts >>= λ y. Ok (joined y.0, y.1, y.2)
 
 -- ---- statements
 
-abbrev pub semicolon_by : {A : Type 0} → A → Option Fault → Kind → Lexeme → List Lexeme → Part A
-semicolon_by a f Semicolon t ts = Ok (a, f, ts)
-semicolon_by a f _ t ts = Err (syntax_at (t ∷ ts))
+abbrev pub semicolon_kind : Kind → Lexeme → List Lexeme → Result (List Lexeme) Refusal
+semicolon_kind Semicolon t ts = Ok ts
+semicolon_kind _ t ts = Err (syntax_at (t ∷ ts))
+
+-- what follows a semicolon
+abbrev pub semicolon_at : List Lexeme → Result (List Lexeme) Refusal
+semicolon_at [] = Err (syntax_at [])
+semicolon_at (t ∷ ts) = semicolon_kind t.kind t ts
 
 -- what was read, where a semicolon follows it
 abbrev pub ended_by : {A : Type 0} → A → Option Fault → List Lexeme → Part A
-ended_by a f [] = Err (syntax_at [])
-ended_by a f (t ∷ ts) = semicolon_by a f t.kind t ts
+ended_by a f ts = semicolon_at ts >>= λ r. Ok (a, f, r)
 
 abbrev pub Inner : Type 0
 Inner = Lexeme → List Lexeme → Part (List (Entry (List Piece)))
@@ -172,14 +183,17 @@ abbrev pub named_at : List ℕ → Inner → Bool → List (List ℕ) → List �
 named_at text inner nodes labels name [] = Err (syntax_at [])
 named_at text inner nodes labels name (t ∷ ts) = named_by text inner nodes labels name t.kind t ts
 
-abbrev pub deleted_by : List ℕ → (List ℕ → Entry (List Piece)) → Kind → Lexeme → List Lexeme → Part (Option (Entry (List Piece)))
-deleted_by text entry Name t ts = ended_by (Some (entry (name_bytes text t))) None ts
-deleted_by text entry _ t ts = Err (syntax_at (t ∷ ts))
+abbrev pub name_by : List ℕ → Kind → Lexeme → List Lexeme → Read (List ℕ)
+name_by text Name t ts = Ok (name_bytes text t, ts)
+name_by text _ t ts = Err (syntax_at (t ∷ ts))
+
+abbrev pub name_at : List ℕ → List Lexeme → Read (List ℕ)
+name_at text [] = Err (syntax_at [])
+name_at text (t ∷ ts) = name_by text t.kind t ts
 
 -- the name of what is deleted
 abbrev pub deleted_at : List ℕ → (List ℕ → Entry (List Piece)) → List Lexeme → Part (Option (Entry (List Piece)))
-deleted_at text entry [] = Err (syntax_at [])
-deleted_at text entry (t ∷ ts) = deleted_by text entry t.kind t ts
+deleted_at text entry ts = name_at text ts >>= λ x. ended_by (Some (entry x.0)) None x.1
 
 -- Nothing but a name follows labels.
 abbrev pub bare_by : List ℕ → Bool → Kind → Lexeme → List Lexeme → Part (Option (Entry (List Piece)))
@@ -221,3 +235,7 @@ body_below text (suc depth) t ts = statements_at text (body_below text depth) ts
 
 unfoldable pub body_at : List ℕ → ℕ → List Lexeme → Part (List (Entry (List Piece)))
 body_at text depth ts = statements_at text (body_below text depth) ts
+
+-- what follows a name behind labels, with bodies at most this deep
+abbrev pub named_below : List ℕ → ℕ → Bool → List Lexeme → List ℕ → List Lexeme → Part (Option (Entry (List Piece)))
+named_below text depth nodes labels name ts = named_at text (body_below text depth) nodes (map (label_bytes text) labels) name ts

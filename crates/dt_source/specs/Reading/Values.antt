@@ -19,10 +19,14 @@ bytes_piece (b ∷ bs) = Plain (b ∷ bs) ∷ []
 abbrev pub flushed : Built → List Piece
 flushed b = b.closed ++ bytes_piece b.bytes
 
+-- the bytes closed, and a part that isn't bytes behind them
+abbrev pub closed_by : Built → Piece → Built
+closed_by b part = record { closed = flushed b ++ part ∷ []; bytes = [] }
+
 abbrev pub put : Built → Piece → Built
 put b (Plain bytes) = record { closed = b.closed; bytes = b.bytes ++ bytes }
-put b (PhandleOf target) = record { closed = flushed b ++ PhandleOf target ∷ []; bytes = [] }
-put b (PathOf target) = record { closed = flushed b ++ PathOf target ∷ []; bytes = [] }
+put b (PhandleOf target) = closed_by b (PhandleOf target)
+put b (PathOf target) = closed_by b (PathOf target)
 
 abbrev pub put_all : Built → List Piece → Built
 put_all b ps = fold put b ps

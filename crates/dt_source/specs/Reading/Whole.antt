@@ -4,7 +4,7 @@ use Rattle.dt_lexeme.specs.declared.lexeme.Lexeme.{Lexeme}
 use Rattle.dt_lexeme.specs.declared.lexeme.Fault.{Fault}
 use Rattle.dt_lexeme.specs.declared.lexeme.Refusal.{Refusal}
 use Rattle.dt_lexeme.specs.declared.lexeme.Kind.{Kind}
-use Rattle.dt_lexeme.specs.declared.lexeme.Kind.TheVariants.{Version, Plugin, MemReserve, DeleteNode, Reference, PathReference, Semicolon, Brace, Slash}
+use Rattle.dt_lexeme.specs.declared.lexeme.Kind.TheVariants.{Version, Plugin, MemReserve, DeleteNode, Reference, PathReference, Brace, Slash}
 use Rattle.dt_expression.specs.Values.{Value}
 use Rattle.dt_expression.specs.Reading.{◌>>=◌, Read, syntax_at}
 use Rattle.dt_expression.specs.ReadingExpressions.{primary_at}
@@ -12,17 +12,8 @@ use Rattle.dt_source.specs.Reading.Several.{earlier, Part, many}
 use Rattle.dt_meaning.specs.Syntax.{Piece, Body, body_of, Edit, Rooted, Extends, Deletes, Meaning}
 use Rattle.dt_source.specs.Pieces.{target_of, fault_in}
 use Rattle.dt_source.specs.Words.{label_bytes}
-use Rattle.dt_source.specs.Reading.Bodies.{labels_at, stays, ended_by, body_at}
+use Rattle.dt_source.specs.Reading.Bodies.{labels_at, stays, semicolon_at, ended_by, body_at}
 use Rattle.dt_source.specs.Source.{body_limit, both_numbers}
-
-abbrev pub semicolon_kind : Kind → Lexeme → List Lexeme → Result (List Lexeme) Refusal
-semicolon_kind Semicolon t ts = Ok ts
-semicolon_kind _ t ts = Err (syntax_at (t ∷ ts))
-
--- what follows a semicolon
-abbrev pub semicolon_at : List Lexeme → Result (List Lexeme) Refusal
-semicolon_at [] = Err (syntax_at [])
-semicolon_at (t ∷ ts) = semicolon_kind t.kind t ts
 
 abbrev pub plugin_kind : Kind → Lexeme → List Lexeme → Read Bool
 plugin_kind Plugin t ts = semicolon_at ts >>= λ r. Ok (true, r)

@@ -39,17 +39,17 @@ body-returns-in_err-found-clause-gives t c =
 pub body-returns-in-None-clause-gives : goal.body-returns-in-None-clause-gives
 body-returns-in-None-clause-gives t c =
     let so_far = c.statements.invariant.so_far in
-    let found = c.in_ok-found.ensures.gives ∙ ap (λ (o : Option Statement). Ok (option_map view o, c.in_ok-found.fault, c.in_ok-found.rest.now)) c.in-None.is in
-    rw (c.shrink_to_fit.ensures.items, c.earlier-first.ensures) (statements_end c.args.text.now c.args.depth so_far.0 c.statements.nodes c.statements.left.now (map view c.statements.statements.items) c.statements.first c.in_ok-found.fault c.in_ok-found.rest.now (body_at c.args.text.now c.args.depth c.args.ts.now) found so_far.1 so_far.2)
+    let found = c.in_ok-found.ensures.gives ∙ ap (λ (o : Option Statement). Ok (option_map view o, c.in_ok-found.field-0.fault, c.in_ok-found.field-0.rest.now)) c.in-None.is in
+    rw (c.shrink_to_fit.ensures.items, c.earlier-first.ensures) (statements_end c.args.text.now c.args.depth so_far.0 c.statements.nodes c.statements.left.now (map view c.statements.statements.items) c.statements.first c.in_ok-found.field-0.fault c.in_ok-found.field-0.rest.now (body_at c.args.text.now c.args.depth c.args.ts.now) found so_far.1 so_far.2)
 
 pub body-statements-preserved : goal.body-statements-preserved
 body-statements-preserved t c =
     let so_far = c.statements.invariant.so_far in
-    let found = c.in_ok-found.ensures.gives ∙ ap (λ (o : Option Statement). Ok (option_map view o, c.in_ok-found.fault, c.in_ok-found.rest.now)) c.in-Some.is in
+    let found = c.in_ok-found.ensures.gives ∙ ap (λ (o : Option Statement). Ok (option_map view o, c.in_ok-found.field-0.fault, c.in_ok-found.field-0.rest.now)) c.in-Some.is in
     let items : map view c.push_sparingly.new.list.items ≡ map view c.statements.statements.items ++ view c.in-Some.s ∷ [] = rw c.in_ok-push_sparingly-in-Some.ensures (map_push view c.statements.statements.items c.in-Some.s) in
     record {
       shorter = omega (arith, c.in_ok-found.ensures.shorter, c.statements.invariant.shorter);
-      so_far = rw (items, c.earlier-first.ensures, c.nodes_after-nodes.ensures) (statements_more c.args.text.now c.args.depth so_far.0 c.statements.nodes c.statements.left.now (map view c.statements.statements.items) c.statements.first (view c.in-Some.s) c.in_ok-found.fault c.in_ok-found.rest.now (body_at c.args.text.now c.args.depth c.args.ts.now) found c.in_ok-found.ensures.shorter so_far.1 so_far.2);
+      so_far = rw (items, c.earlier-first.ensures, c.nodes_after-nodes.ensures) (statements_more c.args.text.now c.args.depth so_far.0 c.statements.nodes c.statements.left.now (map view c.statements.statements.items) c.statements.first (view c.in-Some.s) c.in_ok-found.field-0.fault c.in_ok-found.field-0.rest.now (body_at c.args.text.now c.args.depth c.args.ts.now) found c.in_ok-found.ensures.shorter so_far.1 so_far.2);
     }
 
 -- ---- a statement, by the kind of its lexemes
@@ -120,20 +120,20 @@ begun-returns-in_default-clause-gives t c = rw (begun_other c.args.text.now (bod
 pub begun-returns-in-Name-clause-gives : goal.begun-returns-in-Name-clause-gives
 begun-returns-in-Name-clause-gives t c = rw (begun c.args.text.now (body_below c.args.text.now c.args.depth) c.args.nodes c.args.labels.now c.args.ts.now _ c.bytes_of.result.now c.in-len1-up.len_at_least c.in-Name.is c.bytes_of.ensures) c.named.ensures.gives
 
-pub named-returns-in_err-parts-in-Equals-clause-gives : goal.named-returns-in_err-parts-in-Equals-clause-gives
-named-returns-in_err-parts-in-Equals-clause-gives t c =
+pub named-returns-in_err-found-in-Equals-clause-gives : goal.named-returns-in_err-found-in-Equals-clause-gives
+named-returns-in_err-found-in-Equals-clause-gives t c =
     let p = err_from_is_err_and c.from_residual.result c.from_residual.ensures.1 in
-    rw (p.1, p.2) (value_fails c.args.text.now (body_below c.args.text.now c.args.depth) c.args.nodes (map (label_bytes c.args.text.now) c.args.labels.now) c.args.name.now c.args.ts.now _ c.in_err-parts-in-Equals.field-0.0 c.in-len1-up.len_at_least c.in-Equals.is c.if-not-nodes-2.true c.in_err-parts-in-Equals.ensures.gives)
+    rw (p.1, p.2) (value_fails c.args.text.now (body_below c.args.text.now c.args.depth) c.args.nodes (map (label_bytes c.args.text.now) c.args.labels.now) c.args.name.now c.args.ts.now _ c.in_err-found-in-Equals.field-0.0 c.in-len1-up.len_at_least c.in-Equals.is c.if-not-nodes-2.true c.in_err-found-in-Equals.ensures.gives)
 
-pub named-returns-in_ok-parts-in-Equals-clause-gives : goal.named-returns-in_ok-parts-in-Equals-clause-gives
-named-returns-in_ok-parts-in-Equals-clause-gives t c =
-    rw (value_ends c.args.text.now (body_below c.args.text.now c.args.depth) c.args.nodes (map (label_bytes c.args.text.now) c.args.labels.now) c.args.name.now c.args.ts.now _ _ c.in_ok-parts-in-Equals.fault c.in_ok-parts-in-Equals.rest.now _ c.in-len1-up.len_at_least c.in-Equals.is c.if-not-nodes-2.true c.in_ok-parts-in-Equals.ensures.gives c.property-in-Equals.ensures) c.end.ensures.gives
+pub named-returns-in_ok-found-in-Equals-clause-gives : goal.named-returns-in_ok-found-in-Equals-clause-gives
+named-returns-in_ok-found-in-Equals-clause-gives t c =
+    rw (value_ends c.args.text.now (body_below c.args.text.now c.args.depth) c.args.nodes (map (label_bytes c.args.text.now) c.args.labels.now) c.args.name.now c.args.ts.now _ _ c.in_ok-found-in-Equals.field-0.fault c.in_ok-found-in-Equals.field-0.rest.now _ c.in-len1-up.len_at_least c.in-Equals.is c.if-not-nodes-2.true c.in_ok-found-in-Equals.ensures.gives c.property-in-Equals.ensures) c.end.ensures.gives
 
-pub named-returns-in_err-inner-in-Brace-clause-gives : goal.named-returns-in_err-inner-in-Brace-clause-gives
-named-returns-in_err-inner-in-Brace-clause-gives t c =
-    let p = err_from_is_err_and c.from_residual-in_err-inner-in-Brace.result c.from_residual-in_err-inner-in-Brace.ensures.1 in
-    rw (p.1, p.2) (body_fails c.args.text.now (body_below c.args.text.now c.args.depth) c.args.nodes (map (label_bytes c.args.text.now) c.args.labels.now) c.args.name.now c.args.ts.now _ c.in_err-inner-in-Brace.field-0.0 c.in-len1-up.len_at_least c.in-Brace.is c.in_err-inner-in-Brace.ensures.gives)
+pub named-returns-in_err-found-in-Brace-clause-gives : goal.named-returns-in_err-found-in-Brace-clause-gives
+named-returns-in_err-found-in-Brace-clause-gives t c =
+    let p = err_from_is_err_and c.from_residual-in_err-found-in-Brace.result c.from_residual-in_err-found-in-Brace.ensures.1 in
+    rw (p.1, p.2) (body_fails c.args.text.now (body_below c.args.text.now c.args.depth) c.args.nodes (map (label_bytes c.args.text.now) c.args.labels.now) c.args.name.now c.args.ts.now _ c.in_err-found-in-Brace.field-0.0 c.in-len1-up.len_at_least c.in-Brace.is c.in_err-found-in-Brace.ensures.gives)
 
 pub named-returns-in_ok-labels-in-Brace-clause-gives : goal.named-returns-in_ok-labels-in-Brace-clause-gives
 named-returns-in_ok-labels-in-Brace-clause-gives t c =
-    rw (body_ends c.args.text.now (body_below c.args.text.now c.args.depth) c.args.nodes (map (label_bytes c.args.text.now) c.args.labels.now) _ c.args.name.now c.args.ts.now _ _ c.in_ok-inner-in-Brace.fault c.in_ok-inner-in-Brace.rest.now _ c.in-len1-up.len_at_least c.in-Brace.is c.in_ok-inner-in-Brace.ensures.gives c.in_ok-labels-in-Brace.ensures c.node.ensures) c.end-in-Brace.ensures.gives
+    rw (body_ends c.args.text.now (body_below c.args.text.now c.args.depth) c.args.nodes (map (label_bytes c.args.text.now) c.args.labels.now) _ c.args.name.now c.args.ts.now _ _ c.in_ok-found-in-Brace.field-0.fault c.in_ok-found-in-Brace.field-0.rest.now _ c.in-len1-up.len_at_least c.in-Brace.is c.in_ok-found-in-Brace.ensures.gives c.in_ok-labels-in-Brace.ensures c.node.ensures) c.end-in-Brace.ensures.gives

@@ -11,4 +11,4 @@ returns-in_err-fault-clause-gives c =
 pub returns-clause-gives : goal.returns-clause-gives
 returns-clause-gives c =
     let e = value_is c.args.text.now (built c.pieces.new.parts) c.in_ok-fault.fault c.args.ts.now c.in_ok-fault.rest.now (rw c.new-parts.ensures at c.in_ok-fault.ensures.gives) in
-    rw (c.in_ok-value.ensures) e
+    rw (c.in_ok-found.ensures) e

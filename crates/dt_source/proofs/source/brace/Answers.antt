@@ -24,14 +24,14 @@ fails : (x : ReadError) (read : Part (List (Entry (List Piece)))) → Fails x re
 fails errors.NoMemory read e = tt
 fails (errors.Refused r) read e = rw e refl
 
-pub returns-in_err-statements-in-Brace-clause-gives : goal.returns-in_err-statements-in-Brace-clause-gives
-returns-in_err-statements-in-Brace-clause-gives c =
+pub returns-in_err-found-in-Brace-clause-gives : goal.returns-in_err-found-in-Brace-clause-gives
+returns-in_err-found-in-Brace-clause-gives c =
     let p = err_from_is_err_and c.from_residual.result c.from_residual.ensures.1 in
-    rw (p.1, p.2, inner c.args.text.now c.args.ts.now _ c.in-len1-up.len_at_least c.in-Brace.is) (fails c.in_err-statements-in-Brace.field-0.0 _ c.in_err-statements-in-Brace.ensures.gives)
+    rw (p.1, p.2, inner c.args.text.now c.args.ts.now _ c.in-len1-up.len_at_least c.in-Brace.is) (fails c.in_err-found-in-Brace.field-0.0 _ c.in_err-found-in-Brace.ensures.gives)
 
-pub returns-in_ok-statements-in-Brace-clause-gives : goal.returns-in_ok-statements-in-Brace-clause-gives
-returns-in_ok-statements-in-Brace-clause-gives c =
-    rw (inner c.args.text.now c.args.ts.now _ c.in-len1-up.len_at_least c.in-Brace.is, c.in_ok-statements-in-Brace.ensures.gives) c.end_body.ensures.gives
+pub returns-in_ok-found-in-Brace-clause-gives : goal.returns-in_ok-found-in-Brace-clause-gives
+returns-in_ok-found-in-Brace-clause-gives c =
+    rw (inner c.args.text.now c.args.ts.now _ c.in-len1-up.len_at_least c.in-Brace.is, c.in_ok-found-in-Brace.ensures.gives) c.end_body.ensures.gives
 
 other : (text : List ℕ) (ts : List Lexeme) (d : Lexeme) → 1 ≤ length ts → ((get_or ts 0 d).kind ≡ Brace → ⊥) → brace_at text ts ≡ Err (syntax_at ts)
 unfolding brace_at

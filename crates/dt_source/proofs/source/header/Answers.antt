@@ -7,7 +7,8 @@ use Rattle.dt_lexeme.specs.declared.lexeme.Kind.{Kind}
 use Rattle.dt_lexeme.specs.declared.lexeme.Kind.TheVariants.{Version}
 use Rattle.dt_expression.specs.Reading.{◌>>=◌, Read}
 use Rattle.dt_source.specs.Reading.Several.{Part}
-use Rattle.dt_source.specs.Reading.Whole.{semicolon_at, plugin_at, header_kind, header_at}
+use Rattle.dt_source.specs.Reading.Bodies.{semicolon_at}
+use Rattle.dt_source.specs.Reading.Whole.{plugin_at, header_kind, header_at}
 use Rattle.dt_source.proofs.source.header.Goals as goal
 
 abbrev said : Read Bool → Part (Option Bool)

@@ -37,4 +37,4 @@ returns-in_err-rest-in-MemReserve-clause-gives c =
 
 pub returns-in_ok-rest-in-MemReserve-clause-gives : goal.returns-in_ok-rest-in-MemReserve-clause-gives
 returns-in_ok-rest-in-MemReserve-clause-gives c =
-    begins c.args.text.now c.args.whole.now c.args.ts.now _ c.in-len1-up.len_at_least c.in-MemReserve.is ∙ rw (c.in_ok-address-in-MemReserve.ensures.gives, c.in_ok-size-in-MemReserve.ensures.gives) (ap (both c.in_ok-address-in-MemReserve.address c.in_ok-size-in-MemReserve.size) c.in_ok-rest-in-MemReserve.ensures.gives ∙ rw (c.earlier.ensures, c.fault_in.ensures, c.fault_in-in-MemReserve.ensures) refl)
+    begins c.args.text.now c.args.whole.now c.args.ts.now _ c.in-len1-up.len_at_least c.in-MemReserve.is ∙ rw (c.in_ok-address-in-MemReserve.ensures.gives, c.in_ok-size-in-MemReserve.ensures.gives) (ap (both c.in_ok-address-in-MemReserve.address c.in_ok-size-in-MemReserve.size) c.in_ok-rest-in-MemReserve.ensures.gives ∙ rw (c.earlier-fault.ensures, c.fault_in.ensures, c.fault_in-in-MemReserve.ensures) refl)

@@ -17,12 +17,12 @@ returns-in_err-found c =
 pub returns-in-None : goal.returns-in-None
 returns-in-None c =
     let so_far = c.reserves.invariant in
-    let found = c.in_ok-found.ensures.gives ∙ ap (λ (o : Option (Value × Value)). Ok (o, c.in_ok-found.fault, c.in_ok-found.rest.now)) c.in-None.is in
-    record { gives = rw (c.earlier-first.ensures) (reserves_end c.args.text.now so_far.0 c.reserves.left.now c.reserves.list.items c.reserves.first c.in_ok-found.fault c.in_ok-found.rest.now (reserves_at c.args.text.now c.args.ts.now) found so_far.1 so_far.2) }
+    let found = c.in_ok-found.ensures.gives ∙ ap (λ (o : Option (Value × Value)). Ok (o, c.in_ok-found.field-0.fault, c.in_ok-found.field-0.rest.now)) c.in-None.is in
+    record { gives = rw (c.earlier-first.ensures) (reserves_end c.args.text.now so_far.0 c.reserves.left.now c.reserves.list.items c.reserves.first c.in_ok-found.field-0.fault c.in_ok-found.field-0.rest.now (reserves_at c.args.text.now c.args.ts.now) found so_far.1 so_far.2) }
 
 pub reserves-preserved : goal.reserves-preserved
 reserves-preserved c =
     let so_far = c.reserves.invariant in
-    let found = c.in_ok-found.ensures.gives ∙ ap (λ (o : Option (Value × Value)). Ok (o, c.in_ok-found.fault, c.in_ok-found.rest.now)) c.in-Some.is in
+    let found = c.in_ok-found.ensures.gives ∙ ap (λ (o : Option (Value × Value)). Ok (o, c.in_ok-found.field-0.fault, c.in_ok-found.field-0.rest.now)) c.in-Some.is in
     let less = rw c.in-Some.is at c.in_ok-found.ensures.shorter in
-    rw (c.in_ok-push_reserve-in-Some.ensures, c.earlier-first.ensures) (reserves_more c.args.text.now so_far.0 c.reserves.left.now c.reserves.list.items c.reserves.first c.in-Some.values c.in_ok-found.fault c.in_ok-found.rest.now (reserves_at c.args.text.now c.args.ts.now) found less so_far.1 so_far.2)
+    rw (c.in_ok-push_reserve-in-Some.ensures, c.earlier-first.ensures) (reserves_more c.args.text.now so_far.0 c.reserves.left.now c.reserves.list.items c.reserves.first c.in-Some.values c.in_ok-found.field-0.fault c.in_ok-found.field-0.rest.now (reserves_at c.args.text.now c.args.ts.now) found less so_far.1 so_far.2)

@@ -29,6 +29,6 @@ returns c =
     begins c.args.text.now c.args.ts.now
     ∙ ap (with_headers c.args.text.now c.args.ts.now) c.in_ok-plugin.ensures.gives
     ∙ ap (with_plugin c.args.text.now c.in_ok-plugin.rest.now) c.in_ok-plugin-2.ensures
-    ∙ ap (with_reserves c.args.text.now c.in_ok-plugin-2.plugin) c.in_ok-reserves.ensures.gives
-    ∙ ap (with_items c.in_ok-plugin-2.plugin c.in_ok-reserves.reserves.items c.in_ok-reserves.first) c.in_ok-items.ensures
+    ∙ ap (with_reserves c.args.text.now c.in_ok-plugin-2.plugin) c.in_ok-found.ensures.gives
+    ∙ ap (with_items c.in_ok-plugin-2.plugin c.in_ok-found.field-0.found.items c.in_ok-found.field-0.fault) c.in_ok-items.ensures
     ∙ rw (c.shrink_to_fit.ensures.items, c.earlier.ensures) refl

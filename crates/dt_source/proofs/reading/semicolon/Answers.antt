@@ -3,8 +3,8 @@ use Rattle.dt_lexeme.specs.declared.lexeme.Lexeme.{Lexeme}
 use Rattle.dt_lexeme.specs.declared.lexeme.Kind.{Kind}
 use Rattle.dt_lexeme.specs.declared.lexeme.Kind.TheVariants.{Semicolon}
 use Rattle.dt_expression.specs.Reading.{syntax_at}
-use Rattle.dt_source.specs.Reading.Whole.{semicolon_kind, semicolon_at}
-use Rattle.dt_source.proofs.ends.semicolon.Goals as goal
+use Rattle.dt_source.specs.Reading.Bodies.{semicolon_kind, semicolon_at}
+use Rattle.dt_source.proofs.reading.semicolon.Goals as goal
 
 other : (ts : List Lexeme) (d : Lexeme) → 1 ≤ length ts → ((get_or ts 0 d).kind ≡ Semicolon → ⊥) → semicolon_at ts ≡ Err (syntax_at ts)
 other [] d h n = absurd (omega arith)
