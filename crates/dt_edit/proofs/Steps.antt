@@ -26,7 +26,7 @@ abbrev pub At : Type 0
 At = Progress (List Piece)
 
 -- ---- stamps
-not-stamp : (m n : ℕ) → (m ≡ n → ⊥) → (b : Bool) → (m == n) ≡ b → b ≡ false
+pub not-stamp : (m n : ℕ) → (m ≡ n → ⊥) → (b : Bool) → (m == n) ≡ b → b ≡ false
 not-stamp m n other true e = absurd (other (eqb-true m n e))
 not-stamp m n other false e = refl
 

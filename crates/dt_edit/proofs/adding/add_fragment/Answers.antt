@@ -28,4 +28,4 @@ returns-clause-item c =
     let s = counted c.add.new.self.count (tree_of mid) in
     let same = fragment-made t body c.args.name.now (counted made (tree_of old)) p s (child-unlisted old c.requires.sound c.args.name.now free) c.in_ok-overlay.ensures.path
     (c.in_ok-overlay.ensures.tree made ∙ ap (λ n. counted n (tree_of mid)) (sym c.in_ok-add.ensures.count)) in
-    subst (λ (r : Result (State (List Piece)) Fault). Gives r (λ _. counted c.add.new.self.count (tree_of c.edit_body.new.live)) c.edit_body.result) (sym same) c.edit_body.ensures.body
+    subst (λ (r : Result (State (List Piece)) Fault). Gives r (λ _. counted c.add.new.self.count (tree_of c.edit_body.new.live)) c.edit_body.result) (sym {A = Result (State (List Piece)) Fault} same) c.edit_body.ensures.body

@@ -56,7 +56,7 @@ edit-returns-in-Node-clause-step t c x at =
     let same : after_entry (view c.args.statement.now) p x ≡ after_entry (child_entry c.as_slice-in-Node.result.now name c.as_slice-in-Node-2.result.now) p x =
     ap (λ s. after_entry (view s) p x) c.in-Node.is ∙ ap (λ s. after_entry s p x) (view-child c.in-Node.labels c.in-Node.name c.in-Node.body)
     ∙ ap₂ (λ ls ss. after_entry (Child ls name (views ss)) p x) (sym c.as_slice-in-Node.ensures) (sym c.as_slice-in-Node-2.ensures.value) in
-    subst (λ (r : Result At Fault). MatchResult c.edit_child.result (λ _. (y : At) × (r ≡ Ok y) × IsAt y c.edit_child.new.live c.args.node c.args.stamp c.args.made.now.count) (λ e. IsFault e r)) (sym same)
+    subst (λ (r : Result At Fault). MatchResult c.edit_child.result (λ _. (y : At) × (r ≡ Ok y) × IsAt y c.edit_child.new.live c.args.node c.args.stamp c.args.made.now.count) (λ e. IsFault e r)) (sym {A = Result At Fault} same)
     (c.edit_child.ensures.step x at)
 
 pub edit_body-loop-statement-init : goal.edit_body-loop-statement-init

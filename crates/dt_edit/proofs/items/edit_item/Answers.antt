@@ -40,4 +40,4 @@ returns-then-makes_fragment-clause-item c =
     let same = ap (λ i. after_item plugin (item_view i) (counted made s)) c.in-Extend.is
     ∙ item-adds plugin (labels_view c.in-Extend.labels) t (views c.in-Extend.body.items) made s name (sym c.makes_fragment.ensures ∙ c.if-makes_fragment.true) named
     ∙ ap (λ ss. after_fragment t (views ss) name (counted made s)) (sym c.as_slice-then-makes_fragment.ensures.value) in
-    subst (λ (r : Result (State (List Piece)) Fault). Gives r (λ _. counted c.add_fragment.new.made.count (tree_of c.add_fragment.new.live)) c.add_fragment.result) (sym same) c.add_fragment.ensures.item
+    subst (λ (r : Result (State (List Piece)) Fault). Gives r (λ _. counted c.add_fragment.new.made.count (tree_of c.add_fragment.new.live)) c.add_fragment.result) (sym {A = Result (State (List Piece)) Fault} same) c.add_fragment.ensures.item

@@ -36,4 +36,4 @@ returns-clause-item c =
     let p = node_path old node in
     let given : meaning.give_labels ls p (state_of old) ≡ Ok (state_of mid) = ap (λ xs. meaning.give_labels xs p (state_of old)) (sym c.as_slice.ensures) ∙ c.in_default.ensures.given in
     let same = extended made old t ls body p mid c.in_ok-node.ensures.node given ∙ ap (λ rows. after_body body (path_of rows node) (begun (counted made (tree_of mid)))) (sym c.in_default.ensures.kept) in
-    subst (λ (r : Result (State (List Piece)) Fault). Gives r (λ _. counted made (tree_of c.edit_body.new.live)) c.edit_body.result) (sym same) c.edit_body.ensures.body
+    subst (λ (r : Result (State (List Piece)) Fault). Gives r (λ _. counted made (tree_of c.edit_body.new.live)) c.edit_body.result) (sym {A = Result (State (List Piece)) Fault} same) c.edit_body.ensures.body
