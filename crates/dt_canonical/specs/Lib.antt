@@ -1,4 +1,5 @@
 pub mod Bytes
 pub mod Conditions
+pub mod Laws
 pub mod Private
 pub mod SourceOf

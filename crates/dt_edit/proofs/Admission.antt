@@ -15,7 +15,8 @@ use Rattle.dt_live.specs.Index.{is_key}
 use Rattle.dt_live.specs.Rows.{IsLiveTree, IsNode, IsKept, HasSamePropertyStamps, node_path, child_stamp, property_stamp, state_of}
 use Rattle.dt_live.proofs.Keeping.{kept-then, kept-in-child}
 use Rattle.dt_edit.specs.Private.Admitted.{admitted}
-use Rattle.dt_edit.specs.Private.Progress.{IsAt, HasMarks}
+use Rattle.dt_edit.specs.Private.Edited.{IsEdited}
+use Rattle.dt_edit.specs.Private.Progress.{IsAt}
 use Rattle.dt_edit.specs.Said.{Parts}
 use Rattle.dt_edit.proofs.ItemSteps.{not-root}
 use Rattle.dt_edit.proofs.Reading.{read_state, give_labels-kept, showing-keeps, with_node-keeps}
@@ -135,34 +136,36 @@ module _ (x : At) (old two : LiveTree Parts) (node stamp made : ℕ) (ls : List 
     )
 
 -- ---- what a child's body keeps
-module _ (old two three : LiveTree Parts) (node child stamp : ℕ) (name : List ℕ) (kept : (r : Path) → IsKept r old two) (path : node_path two child ≡ node_path old node ++ name ∷ []) where
-  pub child-keeps : IsKept (node_path two child) two three → IsKept (node_path old node) old three
-  child-keeps below =
-      kept-then (node_path old node) old.nodes.items two.nodes.items three.nodes.items (kept (node_path old node))
-      (kept-in-child (node_path old node) name two.nodes.items three.nodes.items (subst (λ (r : Path). IsKept r two three) path below))
-
+module _ (old two three : LiveTree Parts) (node child stamp : ℕ) (name : List ℕ) (kept : (r : Path) → IsKept r old two) (path : node_path two child ≡ node_path old node ++ name ∷ [])
+    (defined : (n : ℕ) (k : List ℕ) → child_stamp two n k ≡ (if is_key node name n k then stamp else child_stamp old n k)) (unset : HasSamePropertyStamps old two)
+    (below : IsEdited (node_path two child) two three) where
   still-node : (n : ℕ) → IsNode old n → IsNode two n
   still-node n known = omega (arith, (kept (node_path old node)).more, known)
 
-  module _ (defined : (n : ℕ) (k : List ℕ) → child_stamp two n k ≡ (if is_key node name n k then stamp else child_stamp old n k)) (unset : HasSamePropertyStamps old two)
-      (marks : HasMarks (node_path two child) two three) where
-    outside-of : (n : ℕ) → IsNode old n → is_within (node_path old node ++ name ∷ []) (node_path old n) ≡ false → is_within (node_path two child) (node_path two n) ≡ false
-    outside-of n known out = ap₂ (λ q r. is_within q r) path ((kept (node_path old node)).paths n known) ∙ out
+  outside-of : (n : ℕ) → IsNode old n → is_within (node_path old node ++ name ∷ []) (node_path old n) ≡ false → is_within (node_path two child) (node_path two n) ≡ false
+  outside-of n known out = ap₂ (λ q r. is_within q r) path ((kept (node_path old node)).paths n known) ∙ out
 
-    pub child-marks : HasMarks (node_path old node) old three
-    child-marks = record {
+  pub child-edited : two.stamps ≡ old.stamps → IsEdited (node_path old node) old three
+  child-edited same = record {
+    sound = below.sound;
+    stamped = below.stamped;
+    counted = omega (arith, same, below.counted);
+    kept = kept-then (node_path old node) old.nodes.items two.nodes.items three.nodes.items (kept (node_path old node))
+        (kept-in-child (node_path old node) name two.nodes.items three.nodes.items (subst (λ (r : Path). IsKept r two three) path below.kept));
+    marks = record {
       children = λ n k known out.
-          marks.children n k (still-node n known) (outside-of n known (outside-child (node_path old node) (node_path old n) name out))
+          below.marks.children n k (still-node n known) (outside-of n known (outside-child (node_path old node) (node_path old n) name out))
           ∙ defined n k ∙ unmarked old node n name k stamp (child_stamp old n k) out;
       properties = λ n k known out.
-          marks.properties n k (still-node n known) (outside-of n known (outside-child (node_path old node) (node_path old n) name out)) ∙ unset n k;
-    }
+          below.marks.properties n k (still-node n known) (outside-of n known (outside-child (node_path old node) (node_path old n) name out)) ∙ unset n k;
+    };
+  }
 
-    pub own-children : IsNode old node → (k : List ℕ) → child_stamp three node k ≡ (if is_key node name node k then stamp else child_stamp old node k)
-    own-children known k = marks.children node k (still-node node known) (outside-of node known (not-in-own-child (node_path old node) name)) ∙ defined node k
+  pub own-children : IsNode old node → (k : List ℕ) → child_stamp three node k ≡ (if is_key node name node k then stamp else child_stamp old node k)
+  own-children known k = below.marks.children node k (still-node node known) (outside-of node known (not-in-own-child (node_path old node) name)) ∙ defined node k
 
-    pub own-properties : IsNode old node → (k : List ℕ) → property_stamp three node k ≡ property_stamp old node k
-    own-properties known k = marks.properties node k (still-node node known) (outside-of node known (not-in-own-child (node_path old node) name)) ∙ unset node k
+  pub own-properties : IsNode old node → (k : List ℕ) → property_stamp three node k ≡ property_stamp old node k
+  own-properties known k = below.marks.properties node k (still-node node known) (outside-of node known (not-in-own-child (node_path old node) name)) ∙ unset node k
 
 pub shallow : (n : ℕ) (b : Bool) → nat_lt 63 n ≡ b → n < MAX_DEPTH → b ≡ false
 shallow n true e less = absurd (omega (arith, ltb-true 63 n e))

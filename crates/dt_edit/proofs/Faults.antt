@@ -1,5 +1,5 @@
 -- A fault of the first step is the fault of all.
-use Rattle.std.proofs.Common.{◌≡◌, Result, Err, refl, sym, ap, ◌∙◌, subst}
+use Rattle.std.proofs.Common.{◌≡◌, Result, Err, refl, sym, ap, subst}
 use Rattle.dt_tree.specs.Steps.{then_do}
 use Rattle.dt_meaning.specs.Statements.{Fault}
 use Rattle.dt_edit.specs.declared.error.EditError.{EditError}
@@ -20,13 +20,7 @@ fault-then ReservedName r f h = ap (λ x. then_do x f) h
 fault-then TooDeep r f h = ap (λ x. then_do x f) h
 
 pub fault-same : {A : Type 0} (e : EditError) (r r' : Result A Fault) → r' ≡ r → IsFault e r → IsFault e r'
-fault-same NoMemory r r' same h = h
-fault-same UnknownLabel r r' same h = same ∙ h
-fault-same DuplicateLabel r r' same h = same ∙ h
-fault-same UnknownPath r r' same h = same ∙ h
-fault-same DuplicateInBody r r' same h = same ∙ h
-fault-same ReservedName r r' same h = same ∙ h
-fault-same TooDeep r r' same h = same ∙ h
+fault-same {A} e r r' same h = subst (λ (q : Result A Fault). IsFault e q) (sym same) h
 
 -- a label that isn't given
 pub label-says : {A : Type 0} (a : LabelError) (r : Result A Fault) → (a ≡ labels.DuplicateLabel → r ≡ Err meaning.DuplicateLabel) → IsFault (edit_error a) r

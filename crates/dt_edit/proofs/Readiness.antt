@@ -1,14 +1,19 @@
 -- The names and targets of fragments that extensions may make.
-use Rattle.std.proofs.Common.{◌≡◌, inl, inr, ℕ, zero, suc, ◌+◌, ◌<◌, List, [], ◌∷◌, ◌++◌, length, drop, map, get_or, refl, sym, ap, ◌∙◌, Vec, Global, arith}
+use Rattle.std.proofs.Common.{◌≡◌, inl, inr, ℕ, zero, suc, ◌+◌, ◌<◌, ◌≤◌, List, [], ◌∷◌, ◌++◌, length, drop, map, get_or, refl, sym, ap, ◌∙◌, subst, Vec, Global, arith}
 use Rattle.std.proofs.lemmas.Bool.{cases_eq}
 use Rattle.std.proofs.Math.ListN.{get_or-map, get_or-append}
 use Rattle.std.proofs.Math.Seq.{get_or-append_seam}
 use Rattle.std.proofs.lemmas.List.{length-append, length-map}
 use Rattle.std.specs.List.{flat_map}
+use Rattle.dt_source.specs.declared.labels.Labels.{Labels}
+use Rattle.dt_source.specs.declared.tree.Item.{Item}
+use Rattle.dt_source.specs.declared.tree.Item.TheVariants.{Extend}
 use Rattle.dt_source.specs.declared.tree.Part.{Part}
-use Rattle.dt_source.specs.Tree.{part_view}
+use Rattle.dt_source.specs.declared.tree.Reference.{Reference}
+use Rattle.dt_source.specs.declared.tree.Statement.{Statement}
+use Rattle.dt_source.specs.Tree.{item_view, part_view, target_view}
 use Rattle.dt_meaning.specs.Names.{fragment_name}
-use Rattle.dt_meaning.specs.Syntax.{Piece, Target, Body, Edit, Rooted, Extends, Deletes}
+use Rattle.dt_meaning.specs.Syntax.{Piece, Target, Edit, Rooted, Extends, Deletes}
 use Rattle.dt_meaning.specs.Statements.{target_value}
 use Rattle.dt_edit.specs.declared.fragments.Fragments.{Fragments}
 use Rattle.dt_edit.specs.Fragments.{first_names, target_values}
@@ -43,19 +48,24 @@ abbrev pub name_of : Vec ℕ Global → List ℕ
 name_of v = v.items
 
 -- ---- an extension that is next
-pub target-ready : (f : Fragments) (met : ℕ) (rest : List Edit) (ls : List (List ℕ)) (t : Target) (b : Body (List Piece)) → IsReady f met (Extends ls t b ∷ rest)
-    → (met < length f.targets.items) × ((d : Vec Part Global) → value_of (get_or f.targets.items met d) ≡ target_value t)
-target-ready f met rest ls t b ready =
-    let r = drop-some (map value_of f.targets.items) met (target_value t) (flat_map target_values rest) ready.targets in
-    (omega (arith, r.0, length-map f.targets.items value_of), λ d. sym (get_or-map value_of f.targets.items met d) ∙ r.1 (value_of d))
+-- it has its value, and the next fragment has its name
+pub record IsNext (f : Fragments) (met made : ℕ) (t : Target) : Type 0 where
+  pub value : (d : Vec Part Global) → value_of (get_or f.targets.items met d) ≡ target_value t
+  pub within : made < length f.names.items
+  pub name : (name : List ℕ) (d : Vec ℕ Global) → name ≡ (get_or f.names.items made d).items → name ≡ fragment_name made
 
-pub name-within : (f : Fragments) (met count : ℕ) (left : List Edit) → IsReady f met left → count < length f.targets.items → count < length f.names.items
-name-within f met count left ready below = omega (arith, below, length-first (length f.targets.items), ap length ready.names, length-map f.names.items name_of)
-
-pub name-ready : (f : Fragments) (met count : ℕ) (left : List Edit) → IsReady f met left → count < length f.targets.items → (name : List ℕ) (d : Vec ℕ Global) → name ≡ (get_or f.names.items count d).items
-    → name ≡ fragment_name count
-name-ready f met count left ready below name d is =
-    is ∙ sym (get_or-map name_of f.names.items count d) ∙ ap (λ ns. get_or ns count (name_of d)) ready.names ∙ first-at (length f.targets.items) count (name_of d) below
+pub extension-next : (f : Fragments) (met made : ℕ) (rest : List Edit) (item : Item) (labels : Labels) (target : Reference) (body : Vec Statement Global) → item ≡ Extend labels target body
+    → IsReady f met (item_view item ∷ rest) → made ≤ met → IsNext f met made (target_view target)
+extension-next f met made rest item labels target body is ready few =
+    let r = drop-some (map value_of f.targets.items) met (target_value (target_view target)) (flat_map target_values rest)
+    (subst (λ (i : Item). IsReady f met (item_view i ∷ rest)) is ready).targets in
+    let below : made < length f.targets.items = omega (arith, r.0, length-map f.targets.items value_of, few) in
+    record {
+      value = λ d. sym (get_or-map value_of f.targets.items met d) ∙ r.1 (value_of d);
+      within = omega (arith, below, length-first (length f.targets.items), ap length ready.names, length-map f.names.items name_of);
+      name = λ name d is.
+          is ∙ sym (get_or-map name_of f.names.items made d) ∙ ap (λ ns. get_or ns made (name_of d)) ready.names ∙ first-at (length f.targets.items) made (name_of d) below;
+    }
 
 -- ---- behind an item
 pub ready-next : (f : Fragments) (met : ℕ) (i : Edit) (rest : List Edit) → IsReady f met (i ∷ rest) → IsReady f (met + length (target_values i)) rest

@@ -1,5 +1,5 @@
 -- One statement of a body, done to a live tree.
-use Rattle.std.proofs.Common.{◌≡◌, inl, inr, ℕ, ◌+◌, ◌≤◌, Bool, true, false, not, ◌&&◌, ◌||◌, ◌==◌, List, [], ◌∷◌, ◌++◌, Ok, Err, if◌then◌else◌, refl, sym, ap, ◌∙◌, subst, true≢false, arith}
+use Rattle.std.proofs.Common.{◌≡◌, inl, inr, ℕ, ◌+◌, ◌≤◌, Bool, true, false, not, ◌&&◌, ◌||◌, ◌==◌, List, [], ◌∷◌, ◌++◌, length, Ok, Err, if◌then◌else◌, refl, sym, ap, ◌∙◌, subst, true≢false, arith}
 use Rattle.std.specs.Str.{bytes_eq}
 use Rattle.std.proofs.lemmas.Bool.{and_parts, eqb-true, eq-eqb}
 use Rattle.dt_tree.specs.Steps.{then_do}
@@ -8,12 +8,14 @@ use Rattle.dt_meaning.specs.Syntax.{Piece, Entry, Defines, Undefines, Removes, B
 use Rattle.dt_meaning.specs.Edits.{State, counted, without_node, with_property, without_property}
 use Rattle.dt_meaning.specs.Statements.{DuplicateInBody, Progress, progress, begun, after_entry, after_body}
 use Rattle.dt_live.specs.declared.live_tree.LiveTree.{LiveTree}
-use Rattle.dt_live.specs.Index.{is_key}
-use Rattle.dt_live.specs.Rows.{IsLiveTree, IsStamped, IsNode, IsKept, HasSameChildStamps, HasSamePropertyStamps, node_path, child_stamp, property_stamp, state_of}
+use Rattle.dt_live.specs.declared.live_tree.NodeRow.{NodeRow}
+use Rattle.dt_live.specs.Index.{IsSetAt, is_key}
+use Rattle.dt_live.specs.Rows.{IsLiveTree, IsStamped, IsNode, Kept, HasSameNodes, HasSameChildStamps, HasSamePropertyStamps, node_path, child_stamp, property_stamp, state_of}
 use Rattle.dt_live.proofs.Keeping.{below-not-itself, child-below, kept-itself, kept-then}
 use Rattle.dt_live.proofs.Keys.{key-cases}
 use Rattle.dt_live.proofs.PathTests.{within-itself}
-use Rattle.dt_edit.specs.Private.Progress.{IsAt, HasMarks}
+use Rattle.dt_edit.specs.Private.Edited.{IsEdited, IsPlace}
+use Rattle.dt_edit.specs.Private.Progress.{IsAt}
 use Rattle.dt_edit.specs.Said.{Parts, pieces}
 use Rattle.dt_edit.proofs.Reading.{read_state, with_property-read, without_property-read, without_node-read_state}
 
@@ -24,7 +26,7 @@ abbrev pub At : Type 0
 At = Progress (List Piece)
 
 -- ---- stamps
-not-stamp : (m n : ℕ) → (m ≡ n → ⊥) → (b : Bool) → (m == n) ≡ b → b ≡ false
+pub not-stamp : (m n : ℕ) → (m ≡ n → ⊥) → (b : Bool) → (m == n) ≡ b → b ≡ false
 not-stamp m n other true e = absurd (other (eqb-true m n e))
 not-stamp m n other false e = refl
 
@@ -37,12 +39,8 @@ mark-one node stamp m b = mark-by b ∙ ap (λ t. (if t && b then stamp else m) 
 
 -- ---- a body begins
 pub record IsUnderWay (x : At) (old live : LiveTree Parts) (node stamp made : ℕ) (whole rest : Body (List Piece)) : Type 0 where
-  pub sound : IsLiveTree live
-  pub stamped : IsStamped live
+  pub done : IsEdited (node_path old node) old live
   pub counted : stamp ≤ live.stamps
-  pub older : old.stamps ≤ live.stamps
-  pub kept : IsKept (node_path old node) old live
-  pub marks : HasMarks (node_path old node) old live
   pub at : IsAt x live node stamp made
   pub same : after_body rest (node_path old node) x ≡ after_body whole (node_path old node) (begun (read_state made (state_of old)))
 
@@ -55,12 +53,14 @@ body-begun old new node made whole is more sound stamped =
     let later : (n : ℕ) (k : List ℕ) → property_stamp old n k ≡ b → ⊥ = λ n k e. absurd (omega (arith, e, more, (stamped n k).1)) in
     let later' : (n : ℕ) (k : List ℕ) → child_stamp old n k ≡ b → ⊥ = λ n k e. absurd (omega (arith, e, more, (stamped n k).0)) in
     subst U (sym is) (record {
-      sound = sound;
-      stamped = λ n k. (omega (arith, (stamped n k).0, more), omega (arith, (stamped n k).1, more));
+      done = record {
+        sound = sound;
+        stamped = λ n k. (omega (arith, (stamped n k).0, more), omega (arith, (stamped n k).1, more));
+        counted = omega (arith, more);
+        kept = kept-itself (node_path old node) old.nodes.items;
+        marks = record { children = λ n k known out. refl; properties = λ n k known out. refl };
+      };
       counted = omega arith;
-      older = omega (arith, more);
-      kept = kept-itself (node_path old node) old.nodes.items;
-      marks = record { children = λ n k known out. refl; properties = λ n k known out. refl };
       at = record {
         state = refl;
         properties = λ k. sym (not-stamp (property_stamp old node k) b (later node k) (property_stamp old node k == b) refl);
@@ -141,10 +141,48 @@ pub not-in-own-child : (p : Path) (n : List ℕ) → is_within (p ++ n ∷ []) p
 not-in-own-child p n =
     by-false (is_within (p ++ n ∷ []) p) (is_below p p) (child-below p p n) (below-not-itself p)
 
-pub marks-then : (p : Path) (old mid new : LiveTree Parts) → IsKept p old mid → HasMarks p old mid → HasMarks p mid new → HasMarks p old new
-marks-then p old mid new kept a b = record {
-  children = λ n k known out. b.children n k (omega (arith, kept.more, known)) (ap (λ q. is_within p q) (kept.paths n known) ∙ out) ∙ a.children n k known out;
-  properties = λ n k known out. b.properties n k (omega (arith, kept.more, known)) (ap (λ q. is_within p q) (kept.paths n known) ∙ out) ∙ a.properties n k known out;
+-- ---- what a property that is defined leaves as it was
+at-most : (b : Bool) (x y m : ℕ) → x ≤ m → y ≤ m → (if b then x else y) ≤ m
+at-most true x y m h k = h
+at-most false x y m h k = k
+
+pub property-edited : (old new : LiveTree Parts) (node stamp : ℕ) (name : List ℕ) → IsStamped old → stamp ≤ old.stamps → IsLiveTree new → HasSameNodes old new
+    → IsSetAt node name stamp (property_stamp old) (property_stamp new) → HasSameChildStamps old new → new.stamps ≡ old.stamps → IsEdited (node_path old node) old new
+property-edited old new node stamp name stamped given sound rows set others same = record {
+  sound = sound;
+  stamped = λ n k. (
+    omega (arith, (stamped n k).0, others n k, same),
+    omega (arith, set n k, at-most (is_key node name n k) stamp (property_stamp old n k) old.stamps given (stamped n k).1, same),
+  );
+  counted = omega (arith, same);
+  kept = subst (λ (xs : List NodeRow). Kept (node_path old node) old.nodes.items xs) (sym rows) (kept-itself (node_path old node) old.nodes.items);
+  marks = record {
+    children = λ n k known out. others n k;
+    properties = λ n k known out. set n k ∙ unmarked old node n name k stamp (property_stamp old n k) out;
+  };
+}
+
+-- ---- one edit behind another
+pub edited-then : (p : Path) (old mid new : LiveTree Parts) → IsEdited p old mid → IsEdited p mid new → IsEdited p old new
+edited-then p old mid new a b = record {
+  sound = b.sound;
+  stamped = b.stamped;
+  counted = omega (arith, a.counted, b.counted);
+  kept = kept-then p old.nodes.items mid.nodes.items new.nodes.items a.kept b.kept;
+  marks = record {
+    children = λ n k known out. b.marks.children n k (omega (arith, a.kept.more, known)) (ap (λ q. is_within p q) (a.kept.paths n known) ∙ out) ∙ a.marks.children n k known out;
+    properties = λ n k known out. b.marks.properties n k (omega (arith, a.kept.more, known)) (ap (λ q. is_within p q) (a.kept.paths n known) ∙ out) ∙ a.marks.properties n k known out;
+  };
+}
+
+-- a body can go on where its node was edited
+pub still-place : (old new : LiveTree Parts) (node depth : ℕ) → IsPlace old node depth → IsEdited (node_path old node) old new → IsPlace new node depth
+still-place old new node depth place edited = record {
+  sound = edited.sound;
+  stamped = edited.stamped;
+  known = omega (arith, edited.kept.more, place.known);
+  stands = edited.kept.stand node place.known place.stands (below-not-itself (node_path old node));
+  depth = place.depth ∙ ap length (sym (edited.kept.paths node place.known));
 }
 
 pub not-false : (b : Bool) → not b ≡ false → b ≡ true
@@ -153,20 +191,13 @@ not-false false e = absurd (true≢false e)
 
 -- ---- the next statement of a body
 pub body-goes-on : (x y : At) (old live new : LiveTree Parts) (node stamp made : ℕ) (whole rest : Body (List Piece)) (e : Entry (List Piece)) → IsNode old node
-    → IsUnderWay x old live node stamp made whole (Then e rest) → IsLiveTree new → IsStamped new → live.stamps ≤ new.stamps
-    → IsKept (node_path live node) live new → HasMarks (node_path live node) live new → after_entry e (node_path live node) x ≡ Ok y → IsAt y new node stamp made
+    → IsUnderWay x old live node stamp made whole (Then e rest) → IsEdited (node_path live node) live new → after_entry e (node_path live node) x ≡ Ok y → IsAt y new node stamp made
     → IsUnderWay y old new node stamp made whole rest
-body-goes-on x y old live new node stamp made whole rest e known u sound stamped counted kept marks step at =
-    let path : node_path live node ≡ node_path old node = u.kept.paths node known in
-    let kept' : IsKept (node_path old node) live new = subst (λ (q : Path). IsKept q live new) path kept in
-    let marks' : HasMarks (node_path old node) live new = subst (λ (q : Path). HasMarks q live new) path marks in
+body-goes-on x y old live new node stamp made whole rest e known u edited step at =
+    let path : node_path live node ≡ node_path old node = u.done.kept.paths node known in
     record {
-      sound = sound;
-      stamped = stamped;
-      counted = omega (arith, u.counted, counted);
-      older = omega (arith, u.older, counted);
-      kept = kept-then (node_path old node) old.nodes.items live.nodes.items new.nodes.items u.kept kept';
-      marks = marks-then (node_path old node) old live new u.kept u.marks marks';
+      done = edited-then (node_path old node) old live new u.done (subst (λ (q : Path). IsEdited q live new) path edited);
+      counted = omega (arith, u.counted, edited.counted);
       at = at;
       same = sym (ap (λ r. then_do r (after_body rest (node_path old node))) (ap (λ q. after_entry e q x) (sym path) ∙ step)) ∙ u.same;
     }

@@ -1,11 +1,10 @@
 //! The fragments that extensions of a plugin make.
-ghost use Rattle.std.specs.Prelude.{◌≡◌, ◌+◌, ◌-◌, ◌^◌, ◌<◌, ◌∷◌, [], ℕ, map, true, Ok, IfOk, OnOk, MatchResult};
-ghost use Rattle.dt_meaning.specs.Edits.{counted};
+ghost use Rattle.std.specs.Prelude.{◌≡◌, ◌+◌, ◌-◌, ◌^◌, ◌<◌, ◌∷◌, [], map, IfOk, OnOk};
 ghost use Rattle.dt_meaning.specs.Names.{fragment_name, overlay_name};
-ghost use Rattle.dt_meaning.specs.Statements.{after_fragment, makes_fragment, target_name, target_value, with_fragment};
-ghost use Rattle.dt_source.specs.Tree.{labels_view, part_view, target_view, views};
-ghost use Rattle.dt_live.specs.Rows.{IsLiveTree, IsNode, IsStamped, is_standing, node_path};
-ghost use Rattle.dt_edit.specs.EditFault.{IsFault};
+ghost use Rattle.dt_meaning.specs.Statements.{makes_fragment, target_name, target_value};
+ghost use Rattle.dt_source.specs.Tree.{labels_view, part_view, target_view};
+ghost use Rattle.dt_live.specs.Rows.{IsLiveTree, IsStamped, node_path};
+ghost use Rattle.dt_edit.specs.Private.Edited.{Does, HasFragment, IsPlace, fragment_step};
 ghost use Rattle.dt_edit.specs.Private.Made.{IsExact};
 ghost use Rattle.dt_edit.specs.Said.{tree_of};
 
@@ -60,12 +59,9 @@ fn define_fragment<'d, 't>(
     requires sound { IsLiveTree live.old }
     requires stamped { IsStamped live.old }
     requires value { map part_view value.now ≡ target_value (target_view target.now) }
-    ensures sound { OnOk result (IsLiveTree live.new) }
-    ensures stamped { OnOk result (IsStamped live.new) }
+    ensures place { IfOk result (λ overlay. IsPlace live.new overlay 2) }
     ensures path { IfOk result (λ overlay. node_path live.new overlay ≡ name.now ∷ overlay_name ∷ []) }
-    ensures there { IfOk result (λ overlay. is_standing live.new overlay ≡ true) }
-    ensures known { IfOk result (λ overlay. IsNode live.new overlay) }
-    ensures tree { OnOk result ((n : ℕ) → with_fragment name.now (target_view target.now) (counted n (tree_of live.old)) ≡ counted (n + 1) (tree_of live.new)) }
+    ensures tree { OnOk result (HasFragment name.now (target_view target.now) live.old live.new) }
 {
     let (fragment, _) = live.define_child(0, name, NO_BODY)?;
     live.set_property(fragment, target_name(target), value, NO_BODY)?;
@@ -92,7 +88,7 @@ pub(crate) fn add_fragment<'d, 't>(
     ensures stamped { OnOk result (IsStamped live.new) }
     ensures exact { OnOk result (IsExact made.new) }
     ensures count { OnOk result (made.new.count ≡ made.old.count + 1) }
-    ensures item { MatchResult result (λ _. after_fragment (target_view target.now) (views body.now) name.now (counted made.old.count (tree_of live.old)) ≡ Ok (counted made.new.count (tree_of live.new))) (λ e. IsFault e (after_fragment (target_view target.now) (views body.now) name.now (counted made.old.count (tree_of live.old)))) }
+    ensures item { Does (fragment_step target.now body.now name.now) live.old made.old live.new made.new result }
 {
     if live.child(0, name).is_some() {
         return Err(EditError::ReservedName);
@@ -100,9 +96,5 @@ pub(crate) fn add_fragment<'d, 't>(
     // its own name is taken while its body runs
     made.add(name)?;
     let overlay = define_fragment(live, name, target, value)?;
-    // no `?`, behind which a proof has the fault through `From` alone
-    match edit_body(live, made, overlay, 2, body) {
-        Ok(()) => Ok(()),
-        Err(error) => Err(error),
-    }
+    edit_body(live, made, overlay, 2, body)
 }

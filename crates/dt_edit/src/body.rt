@@ -1,18 +1,12 @@
 //! The statements of a body.
-ghost use Rattle.std.specs.Prelude.{◌≡◌, ◌≤◌, ◌<◌, ◌++◌, ◌∷◌, [], ℕ, List, map, true, length, Ok, IfOk, OnOk, MatchResult, if◌then◌else◌};
+ghost use Rattle.std.specs.Prelude.{◌≡◌, ◌≤◌, ◌<◌, ◌+◌, IfOk, OnOk};
 ghost use Rattle.dt_tree.specs.declared.limits.TheConstants.{MAX_DEPTH};
-ghost use Rattle.dt_meaning.specs.Edits.{counted};
 ghost use Rattle.dt_meaning.specs.Paths.{Path};
-ghost use Rattle.dt_meaning.specs.Syntax.{Child, Piece};
-ghost use Rattle.dt_meaning.specs.Statements.{Progress, after_body, after_entry, begun};
-ghost use Rattle.dt_source.specs.Tree.{view, views};
-ghost use Rattle.dt_live.specs.Index.{is_key};
-ghost use Rattle.dt_live.specs.Rows.{HasSamePropertyStamps, IsLiveTree, IsKept, IsNode, IsStamped, child_stamp, is_standing, node_path};
-ghost use Rattle.dt_edit.specs.EditFault.{IsFault};
-ghost use Rattle.dt_edit.specs.Private.Admitted.{admitted};
+ghost use Rattle.dt_source.specs.Tree.{view};
+ghost use Rattle.dt_live.specs.Index.{IsSetAt};
+ghost use Rattle.dt_live.specs.Rows.{HasSamePropertyStamps, IsKept, child_path, child_stamp, node_path};
+ghost use Rattle.dt_edit.specs.Private.Edited.{Admits, Does, IsEdited, IsPlace, Passes, body_step, child_entry};
 ghost use Rattle.dt_edit.specs.Private.Made.{IsExact};
-ghost use Rattle.dt_edit.specs.Private.Progress.{HasMarks, IsAt};
-ghost use Rattle.dt_edit.specs.Said.{tree_of};
 
 use crate::error::EditError;
 use crate::made::Made;
@@ -30,24 +24,17 @@ fn admit_child<'d, 't>(
     labels: &'d [&'t [u8]],
     name: &'t [u8],
 ) -> Result<usize, EditError>
-    requires sound { IsLiveTree live.old }
-    requires stamped { IsStamped live.old }
+    requires place { IsPlace live.old node depth }
     requires counted { stamp ≤ live.old.stamps }
-    requires known { IsNode live.old node }
-    requires stands { is_standing live.old node ≡ true }
-    requires depth { depth ≡ length (node_path live.old node) }
     requires exact { IsExact made.now }
-    ensures sound { OnOk result (IsLiveTree live.new) }
-    ensures stamped { OnOk result (IsStamped live.new) }
+    ensures place { IfOk result (λ child. IsPlace live.new child (depth + 1)) }
     ensures count { OnOk result (live.new.stamps ≡ live.old.stamps) }
-    ensures path { IfOk result (λ child. node_path live.new child ≡ node_path live.old node ++ name.now ∷ []) }
-    ensures there { IfOk result (λ child. is_standing live.new child ≡ true) }
-    ensures known { IfOk result (λ child. IsNode live.new child) }
+    ensures path { IfOk result (λ child. node_path live.new child ≡ child_path live.old node name.now) }
     ensures kept { OnOk result ((p : Path) → IsKept p live.old live.new) }
-    ensures children { OnOk result ((n : ℕ) (k : List ℕ) → child_stamp live.new n k ≡ (if is_key node name.now n k then stamp else child_stamp live.old n k)) }
+    ensures children { OnOk result (IsSetAt node name.now stamp (child_stamp live.old) (child_stamp live.new)) }
     ensures properties { OnOk result (HasSamePropertyStamps live.old live.new) }
     ensures shallow { OnOk result (depth < MAX_DEPTH) }
-    ensures step { (x : Progress (List Piece)) → IsAt x live.old node stamp made.now.count → MatchResult result (λ _. admitted (map (λ l. l.now) labels.now) name.now (node_path live.old node) x ≡ Ok (counted made.now.count (tree_of live.new))) (λ e. IsFault e (admitted (map (λ l. l.now) labels.now) name.now (node_path live.old node) x)) }
+    ensures step { Admits labels.now name.now live.old live.new node stamp made.now result }
 {
     // the live tree holds them for as long as it lives itself
     let name: &'d [u8] = name;
@@ -79,19 +66,11 @@ fn edit_child<'d, 't>(
     name: &'t [u8],
     body: &'d [Statement<'t>],
 ) -> Result<(), EditError>
-    requires sound { IsLiveTree live.old }
-    requires stamped { IsStamped live.old }
+    requires place { IsPlace live.old node depth }
     requires counted { stamp ≤ live.old.stamps }
-    requires known { IsNode live.old node }
-    requires stands { is_standing live.old node ≡ true }
-    requires depth { depth ≡ length (node_path live.old node) }
     requires exact { IsExact made.now }
-    ensures sound { OnOk result (IsLiveTree live.new) }
-    ensures stamped { OnOk result (IsStamped live.new) }
-    ensures counted { OnOk result (live.old.stamps ≤ live.new.stamps) }
-    ensures kept { OnOk result (IsKept (node_path live.old node) live.old live.new) }
-    ensures marks { OnOk result (HasMarks (node_path live.old node) live.old live.new) }
-    ensures step { (x : Progress (List Piece)) → IsAt x live.old node stamp made.now.count → MatchResult result (λ _. (y : Progress (List Piece)) × (after_entry (Child (map (λ l. l.now) labels.now) name.now (views body.now)) (node_path live.old node) x ≡ Ok y) × IsAt y live.new node stamp made.now.count) (λ e. IsFault e (after_entry (Child (map (λ l. l.now) labels.now) name.now (views body.now)) (node_path live.old node) x)) }
+    ensures edited { OnOk result (IsEdited (node_path live.old node) live.old live.new) }
+    ensures step { Passes (child_entry labels.now name.now body.now) live.old live.new node stamp made.now result }
 {
     let child = admit_child(live, made, node, depth, stamp, labels, name)?;
     edit_body(live, made, child, depth + 1, body)?;
@@ -107,19 +86,11 @@ fn edit<'d, 't>(
     stamp: usize,
     statement: &'d Statement<'t>,
 ) -> Result<(), EditError>
-    requires sound { IsLiveTree live.old }
-    requires stamped { IsStamped live.old }
+    requires place { IsPlace live.old node depth }
     requires counted { stamp ≤ live.old.stamps }
-    requires known { IsNode live.old node }
-    requires stands { is_standing live.old node ≡ true }
-    requires depth { depth ≡ length (node_path live.old node) }
     requires exact { IsExact made.now }
-    ensures sound { OnOk result (IsLiveTree live.new) }
-    ensures stamped { OnOk result (IsStamped live.new) }
-    ensures counted { OnOk result (live.old.stamps ≤ live.new.stamps) }
-    ensures kept { OnOk result (IsKept (node_path live.old node) live.old live.new) }
-    ensures marks { OnOk result (HasMarks (node_path live.old node) live.old live.new) }
-    ensures step { (x : Progress (List Piece)) → IsAt x live.old node stamp made.now.count → MatchResult result (λ _. (y : Progress (List Piece)) × (after_entry (view statement.now) (node_path live.old node) x ≡ Ok y) × IsAt y live.new node stamp made.now.count) (λ e. IsFault e (after_entry (view statement.now) (node_path live.old node) x)) }
+    ensures edited { OnOk result (IsEdited (node_path live.old node) live.old live.new) }
+    ensures step { Passes (view statement.now) live.old live.new node stamp made.now result }
 {
     match statement {
         Statement::Property { name, value } => {
@@ -146,8 +117,7 @@ fn edit<'d, 't>(
                 labels.as_slice(),
                 *name,
                 body.as_slice(),
-            )?;
-            Ok(())
+            )
         }
     }
 }
@@ -161,18 +131,10 @@ pub(crate) fn edit_body<'d, 't>(
     depth: usize,
     body: &'d [Statement<'t>],
 ) -> Result<(), EditError>
-    requires sound { IsLiveTree live.old }
-    requires stamped { IsStamped live.old }
-    requires known { IsNode live.old node }
-    requires stands { is_standing live.old node ≡ true }
-    requires depth { depth ≡ length (node_path live.old node) }
+    requires place { IsPlace live.old node depth }
     requires exact { IsExact made.now }
-    ensures sound { OnOk result (IsLiveTree live.new) }
-    ensures stamped { OnOk result (IsStamped live.new) }
-    ensures counted { OnOk result (live.old.stamps ≤ live.new.stamps) }
-    ensures kept { OnOk result (IsKept (node_path live.old node) live.old live.new) }
-    ensures marks { OnOk result (HasMarks (node_path live.old node) live.old live.new) }
-    ensures body { MatchResult result (λ _. after_body (views body.now) (node_path live.old node) (begun (counted made.now.count (tree_of live.old))) ≡ Ok (counted made.now.count (tree_of live.new))) (λ e. IsFault e (after_body (views body.now) (node_path live.old node) (begun (counted made.now.count (tree_of live.old))))) }
+    ensures edited { OnOk result (IsEdited (node_path live.old node) live.old live.new) }
+    ensures body { Does (body_step body.now (node_path live.old node)) live.old made.now live.new made.now result }
 {
     let stamp = match live.new_stamp() {
         Some(stamp) => stamp,

@@ -1,10 +1,11 @@
 //! What fragments hold that stands nowhere in a plugin's text.
-ghost use Rattle.std.specs.Prelude.{◌≡◌, ◌∷◌, ◌++◌, [], length, map, All, IfOk, OnOk};
+ghost use Rattle.std.specs.Prelude.{◌≡◌, ◌∷◌, ◌++◌, [], map, All, IfOk, OnOk};
 ghost use Rattle.dt_meaning.specs.Names.{fragment_name};
 ghost use Rattle.dt_meaning.specs.Statements.{target_value};
 ghost use Rattle.dt_source.specs.Lawful.{IsLawfulEdit, IsLawfulTarget};
 ghost use Rattle.dt_source.specs.Tree.{item_view, part_view, target_view};
-ghost use Rattle.dt_edit.specs.Fragments.{AreFragments, first_names, target_values};
+ghost use Rattle.dt_edit.specs.Fragments.{AreFragments, target_values};
+ghost use Rattle.dt_edit.specs.Private.Ready.{AddsValues, IsNamed};
 
 use dt_source::{Item, Part, Reference};
 use std::alloc::{AllocError, Global};
@@ -50,10 +51,10 @@ fn target_value<'t>(alloc: Global, target: &Reference<'t>) -> Result<Vec<Part<'t
 impl<'t> Fragments<'t> {
     /// Adds the next name, and what the next extension extends.
     fn add(&mut self, alloc: Global, target: &Reference<'t>) -> Result<(), AllocError>
-        requires even { map (λ v. v.items) self.old.names.items ≡ first_names (length self.old.targets.items) }
+        requires named { IsNamed self.old }
         requires lawful { IsLawfulTarget (target_view target.now) }
-        ensures even { OnOk result (map (λ v. v.items) self.new.names.items ≡ first_names (length self.new.targets.items)) }
-        ensures targets { OnOk result (map (λ v. map part_view v.items) self.new.targets.items ≡ map (λ v. map part_view v.items) self.old.targets.items ++ target_value (target_view target.now) ∷ []) }
+        ensures named { OnOk result (IsNamed self.new) }
+        ensures targets { OnOk result (AddsValues (target_value (target_view target.now) ∷ []) self.old self.new) }
     {
         let name = fragment_name(alloc, self.names.len())?;
         let value = target_value(alloc, target)?;
@@ -64,16 +65,13 @@ impl<'t> Fragments<'t> {
 
     /// Adds what an item has, where it is an extension.
     fn add_item(&mut self, alloc: Global, item: &Item<'t>) -> Result<(), AllocError>
-        requires even { map (λ v. v.items) self.old.names.items ≡ first_names (length self.old.targets.items) }
+        requires named { IsNamed self.old }
         requires lawful { IsLawfulEdit (item_view item.now) }
-        ensures even { OnOk result (map (λ v. v.items) self.new.names.items ≡ first_names (length self.new.targets.items)) }
-        ensures targets { OnOk result (map (λ v. map part_view v.items) self.new.targets.items ≡ map (λ v. map part_view v.items) self.old.targets.items ++ target_values (item_view item.now)) }
+        ensures named { OnOk result (IsNamed self.new) }
+        ensures targets { OnOk result (AddsValues (target_values (item_view item.now)) self.old self.new) }
     {
         match item {
-            Item::Extend { target, .. } => {
-                self.add(alloc, target)?;
-                Ok(())
-            }
+            Item::Extend { target, .. } => self.add(alloc, target),
             Item::Root(_) | Item::Delete(_) => Ok(()),
         }
     }

@@ -1,12 +1,13 @@
 //! The items of a source.
-ghost use Rattle.std.specs.Prelude.{◌≡◌, ◌+◌, ◌≤◌, ◌∷◌, ℕ, List, length, map, false, Ok, OnOk, MatchResult};
-ghost use Rattle.dt_meaning.specs.Syntax.{Deletes, Edit, Extends};
+ghost use Rattle.std.specs.Prelude.{◌≡◌, ◌+◌, ◌≤◌, ◌∷◌, List, length, map, OnOk};
+ghost use Rattle.dt_meaning.specs.Syntax.{Edit};
 ghost use Rattle.dt_meaning.specs.Statements.{after_item, after_items};
-ghost use Rattle.dt_source.specs.Tree.{item_view, labels_view, target_view, views};
+ghost use Rattle.dt_source.specs.Tree.{item_view};
 ghost use Rattle.dt_live.specs.Rows.{IsLiveTree, IsStamped};
-ghost use Rattle.dt_edit.specs.EditFault.{IsFault};
+ghost use Rattle.dt_edit.specs.EditFault.{Shows};
 ghost use Rattle.dt_edit.specs.Fragments.{AreFragments, target_values};
-ghost use Rattle.dt_meaning.specs.Edits.{counted};
+ghost use Rattle.dt_edit.specs.declared.made.Made.{Made};
+ghost use Rattle.dt_edit.specs.Private.Edited.{Does, delete_step, extend_step};
 ghost use Rattle.dt_edit.specs.Private.Made.{IsExact};
 ghost use Rattle.dt_edit.specs.Private.Ready.{IsReady};
 ghost use Rattle.dt_edit.specs.Said.{tree_of};
@@ -29,7 +30,7 @@ fn delete<'d, 't>(
     requires stamped { IsStamped live.old }
     ensures sound { OnOk result (IsLiveTree live.new) }
     ensures stamped { OnOk result (IsStamped live.new) }
-    ensures item { (n : ℕ) → MatchResult result (λ _. after_item false (Deletes (target_view target.now)) (counted n (tree_of live.old)) ≡ Ok (counted n (tree_of live.new))) (λ e. IsFault e (after_item false (Deletes (target_view target.now)) (counted n (tree_of live.old)))) }
+    ensures item { (made : Made) → Does (delete_step target.now) live.old made live.new made result }
 {
     let node = target_of(live, target)?;
     if node == 0 {
@@ -51,18 +52,14 @@ fn extend<'d, 't>(
     requires exact { IsExact made.now }
     ensures sound { OnOk result (IsLiveTree live.new) }
     ensures stamped { OnOk result (IsStamped live.new) }
-    ensures item { MatchResult result (λ _. after_item false (Extends (labels_view labels.now) (target_view target.now) (views body.now)) (counted made.now.count (tree_of live.old)) ≡ Ok (counted made.now.count (tree_of live.new))) (λ e. IsFault e (after_item false (Extends (labels_view labels.now) (target_view target.now) (views body.now)) (counted made.now.count (tree_of live.old)))) }
+    ensures item { Does (extend_step labels.now target.now body.now) live.old made.now live.new made.now result }
 {
     let node = target_of(live, target)?;
     if let Err(error) = live.give_labels(labels.as_slice(), node) {
         return Err(EditError::of_label(error));
     }
     let depth = live.depth(node);
-    // no `?`, behind which a proof has the fault through `From` alone
-    match edit_body(live, made, node, depth, body) {
-        Ok(()) => Ok(()),
-        Err(error) => Err(error),
-    }
+    edit_body(live, made, node, depth, body)
 }
 
 /// How many extensions an item is.
@@ -93,17 +90,11 @@ fn edit_item<'d, 't>(
     ensures stamped { OnOk result (IsStamped live.new) }
     ensures exact { OnOk result (IsExact made.new) }
     ensures counted { OnOk result (made.new.count ≤ extension + length (target_values (item_view item.now))) }
-    ensures item { MatchResult result (λ _. after_item plugin (item_view item.now) (counted made.old.count (tree_of live.old)) ≡ Ok (counted made.new.count (tree_of live.new))) (λ e. IsFault e (after_item plugin (item_view item.now) (counted made.old.count (tree_of live.old)))) }
+    ensures item { Does (after_item plugin (item_view item.now)) live.old made.old live.new made.new result }
 {
     match item {
-        Item::Root(body) => {
-            edit_body(live, made, 0, 0, body.as_slice())?;
-            Ok(())
-        }
-        Item::Delete(target) => {
-            delete(live, target)?;
-            Ok(())
-        }
+        Item::Root(body) => edit_body(live, made, 0, 0, body.as_slice()),
+        Item::Delete(target) => delete(live, target),
         Item::Extend {
             labels,
             target,
@@ -112,14 +103,9 @@ fn edit_item<'d, 't>(
             if makes_fragment(plugin, live, labels, target) {
                 let name = fragments.names[made.count].as_slice();
                 let value = fragments.targets[extension].as_slice();
-                // no `?`, behind which a proof has the fault through `From` alone
-                match add_fragment(live, made, name, target, value, body.as_slice()) {
-                    Ok(()) => Ok(()),
-                    Err(error) => Err(error),
-                }
+                add_fragment(live, made, name, target, value, body.as_slice())
             } else {
-                extend(live, made, labels, target, body.as_slice())?;
-                Ok(())
+                extend(live, made, labels, target, body.as_slice())
             }
         }
     }
@@ -139,7 +125,7 @@ pub fn edit_items<'d, 't>(
     requires fragments { AreFragments (map item_view items.now) fragments.now }
     ensures sound { OnOk result (IsLiveTree live.new) }
     ensures stamped { OnOk result (IsStamped live.new) }
-    ensures items { MatchResult result (λ _. (n : ℕ) × (after_items plugin (map item_view items.now) (tree_of live.old) ≡ Ok (counted n (tree_of live.new)))) (λ e. IsFault e (after_items plugin (map item_view items.now) (tree_of live.old))) }
+    ensures items { Shows (after_items plugin (map item_view items.now) (tree_of live.old)) live.new result }
 {
     let mut made = Made::new(alloc);
     let mut extensions = 0;

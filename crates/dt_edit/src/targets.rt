@@ -1,9 +1,9 @@
 //! What references name in the tree so far.
-ghost use Rattle.std.specs.Prelude.{◌≡◌, true, Ok, IfOk, MatchResult, IsErrOf};
+ghost use Rattle.std.specs.Prelude.{◌≡◌, true, IfOk, IsErrOf};
 ghost use Rattle.dt_meaning.specs.Statements.{found};
 ghost use Rattle.dt_source.specs.Tree.{target_view};
 ghost use Rattle.dt_live.specs.Rows.{IsLiveTree, IsNode, is_standing, node_path};
-ghost use Rattle.dt_edit.specs.EditFault.{IsFault};
+ghost use Rattle.dt_edit.specs.EditFault.{Gives};
 ghost use Rattle.dt_edit.specs.Said.{tree_of};
 
 use crate::error::EditError;
@@ -16,7 +16,7 @@ pub fn target_of<'d, 't>(
     target: &'d Reference<'t>,
 ) -> Result<usize, EditError>
     requires sound { IsLiveTree live.now }
-    ensures node { MatchResult result (λ node. found (target_view target.now) (tree_of live.now) ≡ Ok (node_path live.now node)) (λ e. IsFault e (found (target_view target.now) (tree_of live.now))) }
+    ensures node { Gives (found (target_view target.now) (tree_of live.now)) (node_path live.now) result }
     ensures known { IfOk result (λ node. IsNode live.now node) }
     ensures there { IfOk result (λ node. is_standing live.now node ≡ true) }
     ensures memory { ¬ IsErrOf result EditError.NoMemory }

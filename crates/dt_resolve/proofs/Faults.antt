@@ -1,5 +1,5 @@
 -- A fault of the first step is the fault of all.
-use Rattle.std.proofs.Common.{◌≡◌, Bool, true, false, Result, Ok, Err, if◌then◌else◌, ap, ◌∙◌}
+use Rattle.std.proofs.Common.{◌≡◌, Bool, true, false, Result, Ok, Err, if◌then◌else◌, sym, ap, subst}
 use Rattle.dt_tree.specs.Steps.{then_do}
 use Rattle.dt_meaning.specs.Statements.{Fault}
 use Rattle.dt_edit.specs.declared.error.EditError.{EditError}
@@ -22,16 +22,7 @@ fault-then ReservedName r f h = ap (λ x. then_do x f) h
 fault-then TooDeep r f h = ap (λ x. then_do x f) h
 
 pub fault-same : {A : Type 0} (e : BuildError) (r r' : Result A Fault) → r' ≡ r → IsFault e r → IsFault e r'
-fault-same NoMemory r r' same h = h
-fault-same UnknownLabel r r' same h = same ∙ h
-fault-same DuplicateLabel r r' same h = same ∙ h
-fault-same UnknownPath r r' same h = same ∙ h
-fault-same BadPhandle r r' same h = same ∙ h
-fault-same DuplicatePhandle r r' same h = same ∙ h
-fault-same DuplicateInBody r r' same h = same ∙ h
-fault-same PathInPlugin r r' same h = same ∙ h
-fault-same ReservedName r r' same h = same ∙ h
-fault-same TooDeep r r' same h = same ∙ h
+fault-same {A} e r r' same h = subst (λ (q : Result A Fault). IsFault e q) (sym same) h
 
 -- a fault of the second step, where the first has none
 pub fault-second : {A B C : Type 0} (e : BuildError) (b : Bool) (f : Fault) (r : Result A Fault) (q : Result B Fault) (g : A → B → Result C Fault) → IsFault e (if b then Err f else then_do r (λ _. q))

@@ -2,7 +2,6 @@
 use Rattle.std.proofs.Common.{◌≡◌, ℕ, ◌==◌, not, ◌&&◌, ◌||◌, Bool, true, false, List, [], ◌∷◌, ◌++◌, map, if◌then◌else◌, refl, sym, ap, ◌∙◌, true≢false}
 use Rattle.std.specs.Prelude.{filter}
 use Rattle.std.specs.List.{list_any}
-use Rattle.std.proofs.lemmas.Bool.{eqb-true}
 use Rattle.dt_tree.specs.Phandle.{is_reserved}
 use Rattle.dt_meaning.specs.Paths.{Path, same_path}
 use Rattle.dt_meaning.specs.Edits.{Label, labelled_at}
@@ -10,11 +9,8 @@ use Rattle.dt_live.specs.declared.live_tree.NodeRow.{NodeRow}
 use Rattle.dt_live.specs.declared.live_tree.LabelRow.{LabelRow}
 use Rattle.dt_live.specs.Rows.{Found, path_of, stands, worn, IsGrown, IsNodeIndex}
 use Rattle.dt_live.proofs.StandingRows.{same-node}
+use Rattle.dt_edit.proofs.Steps.{not-stamp}
 use Rattle.dt_resolve.proofs.PathPhandles.{EachStands, turned}
-
-not-phandle : (m n : ℕ) → (m ≡ n → ⊥) → (b : Bool) → (m == n) ≡ b → b ≡ false
-not-phandle m n other true e = absurd (other (eqb-true m n e))
-not-phandle m n other false e = refl
 
 module _ (rows : List NodeRow) (index : Found) (grown : IsGrown rows) (indexed : IsNodeIndex rows index) where
   abbrev pub wears : List Label → Path → Bool
@@ -23,7 +19,7 @@ module _ (rows : List NodeRow) (index : Found) (grown : IsGrown rows) (indexed :
   one-worn : (r : LabelRow) (n : ℕ) (b : Bool) (rest : List Label) → stands rows n ≡ true → stands rows r.node ≡ b
       → ((r.node == n) || wears rest (path_of rows n)) ≡ wears ((if b then labelled_at r.label.now (path_of rows r.node) ∷ [] else []) ++ rest) (path_of rows n)
   one-worn r n true rest up stood = ap (λ b. b || wears rest (path_of rows n)) (turned r.node n ∙ sym (same-node rows index grown indexed n r.node up stood))
-  one-worn r n false rest up stood = ap (λ b. b || wears rest (path_of rows n)) (not-phandle r.node n (λ e. true≢false (sym up ∙ ap (λ k. stands rows k) (sym e) ∙ stood)) (r.node == n) refl)
+  one-worn r n false rest up stood = ap (λ b. b || wears rest (path_of rows n)) (not-stamp r.node n (λ e. true≢false (sym up ∙ ap (λ k. stands rows k) (sym e) ∙ stood)) (r.node == n) refl)
 
   pub marks-worn : (ls : List LabelRow) (n : ℕ) → stands rows n ≡ true → list_any (λ r. r.node == n) ls ≡ wears (worn (path_of rows) (stands rows) ls) (path_of rows n)
   marks-worn [] n up = refl

@@ -4,7 +4,6 @@ pub mod Faults
 pub mod FindingSteps
 pub mod GivenSteps
 pub mod Joined
-pub mod KeptNames
 pub mod LabelledPaths
 pub mod Orders
 pub mod PathPhandles

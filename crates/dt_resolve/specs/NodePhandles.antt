@@ -1,5 +1,5 @@
 -- Phandles of nodes, by the nodes' rows (Devicetree Specification v0.4, section 2.3.3).
-use Rattle.std.specs.Prelude.{◌≡◌, ◌≤◌, true, List, length, All}
+use Rattle.std.specs.Prelude.{◌≡◌, ◌≤◌, ℕ, Bool, true, false, List, length, slice_index_or, All}
 use Rattle.dt_meaning.specs.Phandles.{PathPhandle, path_phandle}
 use Rattle.dt_live.specs.declared.live_tree.NodeRow.{NodeRow}
 use Rattle.dt_live.specs.Rows.{path_of, stands}
@@ -12,3 +12,7 @@ path_phandle_of rows x = path_phandle (path_of rows x.node) x.phandle
 pub record AreStanding (rows : List NodeRow) (xs : List NodePhandle) : Type 0 where
   pub known : All (λ x. x.node ≤ length rows) xs
   pub stand : All (λ x. stands rows x.node ≡ true) xs
+
+-- the nodes that pass are marked
+abbrev pub AreMarks : (ℕ → Bool) → List Bool → Type 0
+AreMarks test marks = (n : ℕ) → slice_index_or marks n false ≡ test n

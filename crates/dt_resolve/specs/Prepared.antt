@@ -1,13 +1,16 @@
 -- A source whose edits are done and whose references are found (Devicetree Specification v0.4, sections 2.3.3 and 6.3).
-use Rattle.std.specs.Prelude.{◌≡◌, ℕ, Bool, true, List, map, All, Ok}
+use Rattle.std.specs.Prelude.{◌≡◌, ℕ, Bool, true, List, map, All, Result, Ok, MatchResult}
 use Rattle.dt_meaning.specs.Syntax.{Meaning}
 use Rattle.dt_meaning.specs.Edits.{Definition, counted}
 use Rattle.dt_meaning.specs.Statements as meaning
 use Rattle.dt_meaning.specs.References.{Found, in_order, preorder}
+use Rattle.dt_meaning.specs.Resolved.{resolved}
 use Rattle.dt_live.specs.Rows.{IsLiveTree, IsNode, is_standing, node_path, state_of}
 use Rattle.dt_live.specs.Preorder.{definition_of}
 use Rattle.dt_edit.specs.Said.{tree_of}
+use Rattle.dt_resolve.specs.declared.error.BuildError.{BuildError}
 use Rattle.dt_resolve.specs.declared.prepared.Prepared.{Prepared}
+use Rattle.dt_resolve.specs.BuildFault.{IsFault}
 use Rattle.dt_resolve.specs.NodePhandles.{AreStanding}
 use Rattle.dt_resolve.specs.Resolution.{IsResolved}
 use Rattle.dt_resolve.specs.Targets.{IsKnown, IsThere}
@@ -29,3 +32,8 @@ pub record IsPrepared (symbols : Bool) (m : Meaning) (es : List (Definition (Lis
   pub targets_there : All (IsThere p.live) p.resolution.targets.all.items
   pub given : AreStanding p.live.nodes.items p.resolution.given.phandles.items
   pub new : AreStanding p.live.nodes.items p.resolution.new.items
+
+-- a call prepares a source, or has the meaning's fault
+abbrev pub Prepares : {A : Type 0} → Bool → Meaning → (A → Prepared) → Result A BuildError → Type 0
+Prepares symbols m whole result =
+    MatchResult result (λ a. (es : List (Definition (List Found))) × IsPrepared symbols m es (whole a)) (λ e. IsFault e (resolved symbols m))

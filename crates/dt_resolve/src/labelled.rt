@@ -1,8 +1,9 @@
 //! The nodes that have labels.
-ghost use Rattle.std.specs.Prelude.{◌≡◌, ◌<◌, ◌==◌, ◌++◌, [], ℕ, false, All, IfOk, if◌then◌else◌, length, slice_index_or};
+ghost use Rattle.std.specs.Prelude.{◌≡◌, ◌<◌, ◌==◌, All, IfOk, length};
 ghost use Rattle.std.specs.List.{list_any};
 ghost use Rattle.dt_live.specs.Rows.{IsLiveTree, IsNode};
-ghost use Rattle.dt_resolve.specs.Private.Wanted.{labelled_rows};
+ghost use Rattle.dt_resolve.specs.NodePhandles.{AreMarks};
+ghost use Rattle.dt_resolve.specs.Private.Wanted.{labelled_rows, named_rows};
 
 use dt_live::{LabelRow, LiveTree, is_reserved};
 use dt_source::Part;
@@ -16,7 +17,7 @@ fn label_marks(
 ) -> Result<Vec<bool>, AllocError>
     requires { All (λ r. r.node < count) labels.now }
     ensures count { IfOk result (λ marks. length marks.items ≡ count) }
-    ensures marks { IfOk result (λ marks. (n : ℕ) → slice_index_or marks.items n false ≡ list_any (λ r. r.node == n) labels.now) }
+    ensures marks { IfOk result (λ marks. AreMarks (λ n. list_any (λ r. r.node == n) labels.now) marks.items) }
 {
     let mut marks = vec![in alloc; false; count]?;
     for row in labels {
@@ -57,7 +58,7 @@ pub(crate) fn named_nodes<'d, 't>(
 ) -> Result<Vec<usize>, AllocError>
     requires sound { IsLiveTree live.now }
     requires known { All (λ n. IsNode live.now n) order.now }
-    ensures { IfOk result (λ named. named.items ≡ cells.now ++ (if symbols then labelled_rows live.now order.now else [])) }
+    ensures { IfOk result (λ named. named.items ≡ named_rows live.now order.now cells.now symbols) }
 {
     let mut named = Vec::from_slice(alloc, cells)?;
     if symbols {

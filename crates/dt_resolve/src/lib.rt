@@ -3,7 +3,6 @@
 //! The Devicetree Specification v0.4, chapter 6 and section 2.3.3, and `dt_meaning` say what a source means.
 #![tactic(auto)]
 
-mod edits;
 mod error;
 mod labelled;
 mod names;

@@ -1,11 +1,8 @@
 //! The phandles that a source gives.
-ghost use Rattle.std.specs.Prelude.{true, ◌≡◌, ◌≤◌, ◌∷◌, ◌==◌, [], ℕ, not, All, map, length, Ok, IfOk, OnOk, MatchResult, ◌||◌};
-ghost use Rattle.dt_meaning.specs.Phandles.{given_of, has_phandle};
+ghost use Rattle.std.specs.Prelude.{true, ◌≡◌, ◌≤◌, ◌∷◌, ◌==◌, [], ℕ, not, All, length, IfOk, OnOk, ◌||◌};
 ghost use Rattle.dt_live.specs.Rows.{IsGrown, stands};
-ghost use Rattle.dt_resolve.specs.BuildFault.{IsFault};
-ghost use Rattle.dt_resolve.specs.NodePhandles.{AreStanding, path_phandle_of};
-ghost use Rattle.dt_resolve.specs.Private.Wanted.{is_taken};
-ghost use Rattle.dt_resolve.specs.Private.ReadProperty.{read_property};
+ghost use Rattle.dt_resolve.specs.NodePhandles.{AreStanding};
+ghost use Rattle.dt_resolve.specs.Private.Wanted.{HasTaken, Notes, is_taken, phandles_of};
 
 use crate::error::BuildError;
 use crate::phandle::phandle_value;
@@ -45,10 +42,10 @@ fn note<'d, 't>(
     requires known { property.now.node ≤ length nodes.now }
     requires stands { stands nodes.now property.now.node ≡ true }
     requires owners { AreStanding nodes.now given.old.phandles.items }
-    requires taken { (n : ℕ) → is_taken given.old.taken n ≡ has_phandle n (map (path_phandle_of nodes.now) given.old.phandles.items) }
+    requires taken { HasTaken nodes.now given.old }
     ensures owners { OnOk result (AreStanding nodes.now given.new.phandles.items) }
-    ensures taken { OnOk result ((n : ℕ) → is_taken given.new.taken n ≡ has_phandle n (map (path_phandle_of nodes.now) given.new.phandles.items)) }
-    ensures step { MatchResult result (λ _. given_of (read_property nodes.now property.now ∷ []) (map (path_phandle_of nodes.now) given.old.phandles.items) ≡ Ok (map (path_phandle_of nodes.now) given.new.phandles.items)) (λ e. IsFault e (given_of (read_property nodes.now property.now ∷ []) (map (path_phandle_of nodes.now) given.old.phandles.items))) }
+    ensures taken { OnOk result (HasTaken nodes.now given.new) }
+    ensures step { Notes nodes.now (property.now ∷ []) (phandles_of nodes.now given.old) (λ _. given.new) result }
 {
     if property.name != b"phandle".as_slice() {
         return Ok(());
@@ -81,8 +78,8 @@ pub(crate) fn given_phandles<'d, 't>(
     requires known { All (λ x. x.node ≤ length nodes.now) properties.now }
     requires stand { All (λ x. stands nodes.now x.node ≡ true) properties.now }
     ensures owners { IfOk result (λ given. AreStanding nodes.now given.phandles.items) }
-    ensures taken { IfOk result (λ given. (n : ℕ) → is_taken given.taken n ≡ has_phandle n (map (path_phandle_of nodes.now) given.phandles.items)) }
-    ensures phandles { MatchResult result (λ given. given_of (map (read_property nodes.now) properties.now) [] ≡ Ok (map (path_phandle_of nodes.now) given.phandles.items)) (λ e. IsFault e (given_of (map (read_property nodes.now) properties.now) [])) }
+    ensures taken { IfOk result (λ given. HasTaken nodes.now given) }
+    ensures phandles { Notes nodes.now properties.now [] (λ given. given) result }
 {
     let mut given = Given {
         phandles: Vec::new(alloc),

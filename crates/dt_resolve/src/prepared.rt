@@ -1,21 +1,15 @@
 //! A source whose edits are done and whose references are found: all that making its tree needs.
-ghost use Rattle.std.specs.Prelude.{◌≡◌, ℕ, List, Ok, MatchResult};
-ghost use Rattle.dt_meaning.specs.Edits.{Definition, counted, empty};
-ghost use Rattle.dt_meaning.specs.References.{Found};
-ghost use Rattle.dt_meaning.specs.Resolved.{resolved};
-ghost use Rattle.dt_meaning.specs.Statements as meaning;
-ghost use Rattle.dt_meaning.specs.Syntax.{Meaning};
+ghost use Rattle.std.specs.Prelude.{◌≡◌};
+ghost use Rattle.dt_meaning.specs.Edits.{empty};
 ghost use Rattle.dt_live.specs.Rows.{IsLiveTree, IsStamped, state_of};
 ghost use Rattle.dt_edit.specs.Fragments.{AreFragments};
-ghost use Rattle.dt_edit.specs.Said.{tree_of};
-ghost use Rattle.dt_resolve.specs.BuildFault.{IsFault};
-ghost use Rattle.dt_resolve.specs.Prepared.{IsPrepared};
+ghost use Rattle.dt_resolve.specs.Prepared.{Prepares};
+ghost use Rattle.dt_resolve.specs.Private.Filled.{Completes, whole};
 ghost use Rattle.dt_source.specs.Meaning.{meaning_of};
 
-use crate::edits::do_edits;
 use crate::error::BuildError;
 use crate::resolving::{Resolution, resolve};
-use dt_edit::Fragments;
+use dt_edit::{Fragments, edit_items};
 use dt_live::{LiveTree, Preorder, preorder_of};
 use dt_source::{Part, Source};
 use std::alloc::Global;
@@ -38,7 +32,7 @@ fn order_and_resolution<'d, 't>(
     plugin: bool,
 ) -> Result<(Preorder<'d, &'d [Part<'t>]>, Resolution), BuildError>
     requires sound { IsLiveTree live.now }
-    ensures { (m : Meaning) (n : ℕ) → meaning.edited m ≡ Ok (counted n (tree_of live.now)) → plugin ≡ m.plugin → MatchResult result (λ x. (es : List (Definition (List Found))) × IsPrepared symbols m es (record { plugin = plugin; live = live.now; in_preorder = x.0; resolution = x.1 })) (λ e. IsFault e (resolved symbols m)) }
+    ensures { Completes symbols plugin live.now result }
 {
     let in_preorder = preorder_of(alloc, live)?;
     let nodes = in_preorder.nodes.as_slice();
@@ -62,11 +56,17 @@ fn fill<'d, 't>(
     requires assigned { IsStamped live.old }
     requires empty { state_of live.old ≡ empty }
     requires fragments { AreFragments (meaning_of source.now).items fragments.now }
-    ensures { MatchResult result (λ x. (es : List (Definition (List Found))) × IsPrepared symbols (meaning_of source.now) es (record { plugin = source.now.plugin; live = live.new; in_preorder = x.0; resolution = x.1 })) (λ e. IsFault e (resolved symbols (meaning_of source.now))) }
+    ensures { Prepares symbols (meaning_of source.now) (whole source.now.plugin live.new) result }
 {
-    match do_edits(alloc, live, source, fragments) {
+    match edit_items(
+        alloc,
+        live,
+        source.plugin,
+        fragments,
+        source.items.as_slice(),
+    ) {
         Ok(()) => order_and_resolution(alloc, live, symbols, source.plugin),
-        Err(error) => Err(error),
+        Err(error) => Err(BuildError::from(error)),
     }
 }
 
@@ -80,7 +80,7 @@ pub fn prepare<'d, 't>(
     symbols: bool,
 ) -> Result<Prepared<'d, 't>, BuildError>
     requires { AreFragments (meaning_of source.now).items fragments.now }
-    ensures { MatchResult result (λ prepared. (es : List (Definition (List Found))) × IsPrepared symbols (meaning_of source.now) es prepared) (λ e. IsFault e (resolved symbols (meaning_of source.now))) }
+    ensures { Prepares symbols (meaning_of source.now) (λ prepared. prepared) result }
 {
     let mut live = LiveTree::new(alloc, hasher);
     match fill(alloc, &mut live, source, fragments, symbols) {

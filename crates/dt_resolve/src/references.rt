@@ -1,16 +1,11 @@
 //! The targets of references.
-ghost use Rattle.std.specs.Prelude.{◌≡◌, ◌∷◌, [], List, map, true, Ok, IfOk, OnOk, MatchResult};
-ghost use Rattle.dt_tree.specs.Steps.{each};
-ghost use Rattle.dt_meaning.specs.Edits.{Definition};
+ghost use Rattle.std.specs.Prelude.{◌≡◌, true, IfOk, OnOk};
 ghost use Rattle.dt_meaning.specs.References as meaning;
-ghost use Rattle.dt_meaning.specs.References.{Found, found_in, found_value};
 ghost use Rattle.dt_live.specs.Rows.{IsLiveTree, IsNode, is_standing, node_path};
 ghost use Rattle.dt_edit.specs.Said.{tree_of};
-ghost use Rattle.dt_source.specs.Tree.{part_view, target_view};
-ghost use Rattle.dt_resolve.specs.BuildFault.{IsFault};
-ghost use Rattle.dt_resolve.specs.Private.ReadProperty.{read_property};
-ghost use Rattle.dt_resolve.specs.Targets.{AreFound, IsKnown, IsThere};
-ghost use Rattle.dt_resolve.specs.Private.Targets.{Adds, AreTargets, IsCell};
+ghost use Rattle.dt_source.specs.Tree.{target_view};
+ghost use Rattle.dt_resolve.specs.Targets.{IsKnown, IsThere};
+ghost use Rattle.dt_resolve.specs.Private.Targets.{AreTargets, FindsPart, FindsTargets, FindsValue, GivesCell};
 
 use crate::error::BuildError;
 use dt_edit::target_of;
@@ -34,7 +29,7 @@ fn cell_at<'d, 't>(
     requires sound { IsLiveTree live.now }
     requires known { IsNode live.now node }
     requires there { is_standing live.now node ≡ true }
-    ensures cell { MatchResult result (λ cell. IsCell live.now cell (meaning.cell_at (node_path live.now node))) (λ e. IsFault e (meaning.cell_at (node_path live.now node))) }
+    ensures cell { GivesCell live.now (meaning.cell_at (node_path live.now node)) result }
     ensures known { IfOk result (λ cell. IsKnown live.now cell) }
     ensures there { IfOk result (λ cell. IsThere live.now cell) }
 {
@@ -51,7 +46,7 @@ fn cell_of<'d, 't>(
     plugin: bool,
 ) -> Result<Option<usize>, BuildError>
     requires sound { IsLiveTree live.now }
-    ensures cell { MatchResult result (λ cell. IsCell live.now cell (meaning.cell_of plugin (tree_of live.now) (target_view target.now))) (λ e. IsFault e (meaning.cell_of plugin (tree_of live.now) (target_view target.now))) }
+    ensures cell { GivesCell live.now (meaning.cell_of plugin (tree_of live.now) (target_view target.now)) result }
     ensures known { IfOk result (λ cell. IsKnown live.now cell) }
     ensures there { IfOk result (λ cell. IsThere live.now cell) }
 {
@@ -88,7 +83,7 @@ fn find_part<'d, 't>(
     requires sound { IsLiveTree live.now }
     requires known { AreTargets live.now targets.old }
     ensures known { OnOk result (AreTargets live.now targets.new) }
-    ensures step { MatchResult result (λ _. (f : Found) × (found_in plugin (tree_of live.now) (part_view part.now) ≡ Ok f) × Adds live.now (f ∷ []) targets.old targets.new) (λ e. IsFault e (found_in plugin (tree_of live.now) (part_view part.now))) }
+    ensures step { FindsPart plugin live.now part.now targets.old targets.new result }
 {
     match part {
         Part::Bytes(_) => Ok(()),
@@ -125,7 +120,7 @@ fn find_value<'d, 't>(
     requires sound { IsLiveTree live.now }
     requires known { AreTargets live.now targets.old }
     ensures known { OnOk result (AreTargets live.now targets.new) }
-    ensures step { MatchResult result (λ _. (fs : List Found) × (each (found_in plugin (tree_of live.now)) (map part_view value.now) ≡ Ok fs) × Adds live.now fs targets.old targets.new) (λ e. IsFault e (each (found_in plugin (tree_of live.now)) (map part_view value.now))) }
+    ensures step { FindsValue plugin live.now value.now targets.old targets.new result }
 {
     for part in value {
         if let Err(error) = find_part(targets, live, part, plugin) {
@@ -144,7 +139,7 @@ pub(crate) fn find_targets<'d, 't>(
 ) -> Result<Targets, BuildError>
     requires { IsLiveTree live.now }
     ensures known { IfOk result (λ targets. AreTargets live.now targets) }
-    ensures targets { MatchResult result (λ targets. (es : List (Definition (List Found))) × (each (found_value plugin (tree_of live.now)) (map (read_property live.now.nodes.items) properties.now) ≡ Ok es) × AreFound live.now es targets) (λ e. IsFault e (each (found_value plugin (tree_of live.now)) (map (read_property live.now.nodes.items) properties.now))) }
+    ensures targets { FindsTargets plugin live.now properties.now result }
 {
     let mut targets = Targets {
         all: Vec::new(alloc),

@@ -1,17 +1,10 @@
 //! The phandles and the targets of a tree.
-ghost use Rattle.std.specs.Prelude.{◌≡◌, ◌∷◌, [], List, true, All, map, Ok, Err, IfOk, MatchResult, if◌then◌else◌};
-ghost use Rattle.dt_meaning.specs.Edits.{Definition};
-ghost use Rattle.dt_meaning.specs.Resolved.{names_taken};
-ghost use Rattle.dt_meaning.specs.Statements as meaning;
-ghost use Rattle.dt_tree.specs.Steps.{then_do};
-ghost use Rattle.dt_meaning.specs.Phandles.{given_of, assigned, wanted};
-ghost use Rattle.dt_meaning.specs.References.{Found, in_order, preorder, references};
+ghost use Rattle.std.specs.Prelude.{◌≡◌, true, All, map, IfOk};
+ghost use Rattle.dt_meaning.specs.References.{in_order, preorder};
 ghost use Rattle.dt_live.specs.Rows.{IsLiveTree, IsNode, is_standing, node_path, state_of};
 ghost use Rattle.dt_live.specs.Preorder.{definition_of};
-ghost use Rattle.dt_edit.specs.Said.{tree_of};
-ghost use Rattle.dt_resolve.specs.BuildFault.{IsFault};
 ghost use Rattle.dt_resolve.specs.NodePhandles.{AreStanding};
-ghost use Rattle.dt_resolve.specs.Resolution.{IsResolved};
+ghost use Rattle.dt_resolve.specs.Private.Filled.{Resolves};
 ghost use Rattle.dt_resolve.specs.Private.Targets.{AreTargets};
 
 use crate::error::BuildError;
@@ -51,7 +44,7 @@ pub(crate) fn resolve<'d, 't>(
     ensures targets { IfOk result (λ all. AreTargets live.now all.targets) }
     ensures given { IfOk result (λ all. AreStanding live.now.nodes.items all.given.phandles.items) }
     ensures new { IfOk result (λ all. AreStanding live.now.nodes.items all.new.items) }
-    ensures resolved { MatchResult result (λ all. (es : List (Definition (List Found))) × IsResolved symbols plugin live.now es all) (λ e. IsFault e (if names_taken symbols plugin (tree_of live.now) then Err meaning.ReservedName else then_do (given_of (in_order (tree_of live.now)) []) (λ _. references plugin (tree_of live.now)))) }
+    ensures resolved { Resolves symbols plugin live.now result }
 {
     if is_name_taken(live, symbols, plugin) {
         return Err(BuildError::ReservedName);

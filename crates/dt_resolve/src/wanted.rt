@@ -1,7 +1,8 @@
 //! The nodes that want a phandle, and the phandles that they get.
-ghost use Rattle.std.specs.Prelude.{IfSome, ◌≡◌, ◌+◌, ◌<◌, ◌≤◌, [], ℕ, Bool, All, IfOk, OnOk, length, map, slice_index_or, false, ◌||◌, ◌==◌};
+ghost use Rattle.std.specs.Prelude.{IfSome, ◌≡◌, ◌<◌, All, IfOk, length, ◌==◌};
 ghost use Rattle.std.specs.List.{list_any};
-ghost use Rattle.dt_resolve.specs.Private.Wanted.{free_after, is_taken, new_rows, assigned_rows};
+ghost use Rattle.dt_resolve.specs.NodePhandles.{AreMarks};
+ghost use Rattle.dt_resolve.specs.Private.Wanted.{free_after, is_taken, new_phandles, new_rows};
 
 use crate::node_phandles::{Given, NodePhandle};
 use std::alloc::{AllocError, Global};
@@ -15,7 +16,7 @@ pub fn nodes_with_phandles(
 ) -> Result<Vec<bool>, AllocError>
     requires { All (λ x. x.node < count) phandles.now }
     ensures count { IfOk result (λ marks. length marks.items ≡ count) }
-    ensures marks { IfOk result (λ marks. (n : ℕ) → slice_index_or marks.items n false ≡ list_any (λ x. x.node == n) phandles.now) }
+    ensures marks { IfOk result (λ marks. AreMarks (λ n. list_any (λ x. x.node == n) phandles.now) marks.items) }
 {
     let mut marks = vec![in alloc; false; count]?;
     for one in phandles {
@@ -67,7 +68,7 @@ pub(crate) fn assign_phandles(
     given: &Given,
     nodes: &[usize],
 ) -> Result<Vec<NodePhandle>, AllocError>
-    ensures { IfOk result (λ phandles. phandles.items ≡ assigned_rows (is_taken given.now.taken) (length given.now.phandles.items) 0 nodes.now) }
+    ensures { IfOk result (λ phandles. phandles.items ≡ new_phandles given.now nodes.now) }
 {
     let mut phandles = Vec::with_capacity(alloc, nodes.len())?;
     let mut last = 0;

@@ -1,14 +1,22 @@
 -- Lists of targets so far (Devicetree Specification v0.4, section 6.3).
-use Rattle.std.specs.Prelude.{◌≡◌, ℕ, true, List, ◌++◌, map, All, Option, Some, None, option_map, Result, Ok}
+use Rattle.std.specs.Prelude.{◌≡◌, ℕ, Bool, true, List, [], ◌∷◌, ◌++◌, map, All, Option, Some, None, option_map, Result, Ok, MatchResult}
 use Rattle.std.specs.List.{flat_map}
+use Rattle.dt_tree.specs.Steps.{each}
+use Rattle.dt_source.specs.declared.tree.Part.{Part}
+use Rattle.dt_source.specs.Tree.{part_view}
+use Rattle.dt_meaning.specs.Edits.{Definition}
 use Rattle.dt_meaning.specs.Statements.{Fault}
-use Rattle.dt_meaning.specs.References.{Found, Cell, Open}
+use Rattle.dt_meaning.specs.References.{Found, Cell, Open, found_in, found_value}
 use Rattle.dt_meaning.specs.Phandles.{cell_path}
 use Rattle.dt_live.specs.declared.live_tree.LiveTree.{LiveTree}
 use Rattle.dt_live.specs.Rows.{IsNode, is_standing, node_path}
-use Rattle.dt_edit.specs.Said.{Parts}
+use Rattle.dt_live.specs.declared.preorder.properties.NodeProperty.{NodeProperty}
+use Rattle.dt_edit.specs.Said.{Parts, tree_of}
+use Rattle.dt_resolve.specs.declared.error.BuildError.{BuildError}
 use Rattle.dt_resolve.specs.declared.references.Targets.{Targets}
-use Rattle.dt_resolve.specs.Targets.{IsKnown, IsThere, target_path}
+use Rattle.dt_resolve.specs.BuildFault.{IsFault}
+use Rattle.dt_resolve.specs.Private.ReadProperty.{read_property}
+use Rattle.dt_resolve.specs.Targets.{AreFound, IsKnown, IsThere, target_path}
 
 -- a reference in cells is that of a node, or open where there is none
 abbrev pub IsCell : LiveTree Parts → Option ℕ → Result Found Fault → Type 0
@@ -26,3 +34,22 @@ pub record AreTargets (d : LiveTree Parts) (t : Targets) : Type 0 where
 pub record Adds (d : LiveTree Parts) (fs : List Found) (old new : Targets) : Type 0 where
   pub all : map (option_map (node_path d)) new.all.items ≡ map (option_map (node_path d)) old.all.items ++ flat_map target_path fs
   pub cells : map (node_path d) new.cells.items ≡ map (node_path d) old.cells.items ++ flat_map cell_path fs
+
+-- ---- what a call finds, or the fault that it has
+abbrev pub GivesCell : LiveTree Parts → Result Found Fault → Result (Option ℕ) BuildError → Type 0
+GivesCell d meant result = MatchResult result (λ cell. IsCell d cell meant) (λ e. IsFault e meant)
+
+abbrev pub Finds : {A B : Type 0} → LiveTree Parts → Result A Fault → (A → List Found) → Targets → Targets → Result B BuildError → Type 0
+Finds {A} d meant founds old new result = MatchResult result (λ _. (f : A) × (meant ≡ Ok f) × Adds d (founds f) old new) (λ e. IsFault e meant)
+
+abbrev pub FindsPart : {B : Type 0} → Bool → LiveTree Parts → Part → Targets → Targets → Result B BuildError → Type 0
+FindsPart plugin d part old new result = Finds d (found_in plugin (tree_of d) (part_view part)) (λ f. f ∷ []) old new result
+
+abbrev pub FindsValue : {B : Type 0} → Bool → LiveTree Parts → List Part → Targets → Targets → Result B BuildError → Type 0
+FindsValue plugin d value old new result = Finds d (each (found_in plugin (tree_of d)) (map part_view value)) (λ fs. fs) old new result
+
+abbrev pub FindsAll : Result (List (Definition (List Found))) Fault → LiveTree Parts → Result Targets BuildError → Type 0
+FindsAll meant d result = MatchResult result (λ t. (es : List (Definition (List Found))) × (meant ≡ Ok es) × AreFound d es t) (λ e. IsFault e meant)
+
+abbrev pub FindsTargets : Bool → LiveTree Parts → List (NodeProperty Parts) → Result Targets BuildError → Type 0
+FindsTargets plugin d xs result = FindsAll (each (found_value plugin (tree_of d)) (map (read_property d.nodes.items) xs)) d result

@@ -1,18 +1,41 @@
--- The nodes that get a phandle, by their rows (Devicetree Specification v0.4, section 2.3.3).
-use Rattle.std.specs.Prelude.{ℕ, zero, suc, ◌+◌, ◌==◌, Bool, not, ◌||◌, ◌&&◌, List, [], ◌∷◌, if◌then◌else◌}
+-- The phandles that are given, and the nodes that get one, by their rows (Devicetree Specification v0.4, section 2.3.3).
+use Rattle.std.specs.Prelude.{◌≡◌, ℕ, zero, suc, ◌+◌, ◌==◌, Bool, not, ◌||◌, ◌&&◌, List, [], ◌∷◌, ◌++◌, length, map, Result, Ok, MatchResult, if◌then◌else◌}
 use Rattle.std.specs.List.{list_any, filter}
 use Rattle.std.specs.Ordering.{nat_cmp}
 use Rattle.std.specs.BTreeSet.{BTreeSet, contains}
 use Rattle.dt_tree.specs.Phandle.{is_reserved}
+use Rattle.dt_meaning.specs.Phandles.{PathPhandle, given_of, has_phandle}
 use Rattle.dt_live.specs.declared.live_tree.LiveTree.{LiveTree}
+use Rattle.dt_live.specs.declared.live_tree.NodeRow.{NodeRow}
+use Rattle.dt_live.specs.declared.preorder.properties.NodeProperty.{NodeProperty}
 use Rattle.dt_live.specs.Rows.{node_path}
 use Rattle.dt_edit.specs.Said.{Parts}
+use Rattle.dt_resolve.specs.declared.error.BuildError.{BuildError}
+use Rattle.dt_resolve.specs.declared.node_phandles.Given.{Given}
 use Rattle.dt_resolve.specs.declared.node_phandles.NodePhandle.{NodePhandle}
+use Rattle.dt_resolve.specs.BuildFault.{IsFault}
+use Rattle.dt_resolve.specs.NodePhandles.{path_phandle_of}
+use Rattle.dt_resolve.specs.Private.ReadProperty.{read_property}
 
 -- the set has the number
 abbrev pub is_taken : BTreeSet ℕ → ℕ → Bool
 is_taken taken n = contains nat_cmp taken n
 
+-- ---- given
+abbrev pub phandles_of : List NodeRow → Given → List PathPhandle
+phandles_of rows given = map (path_phandle_of rows) given.phandles.items
+
+-- the set has these phandles and no other
+abbrev pub HasTaken : List NodeRow → Given → Type 0
+HasTaken rows given = (n : ℕ) → is_taken given.taken n ≡ has_phandle n (phandles_of rows given)
+
+-- the phandles of properties stand behind the old ones, or the call has the fault
+abbrev pub Notes : {A : Type 0} → List NodeRow → List (NodeProperty Parts) → List PathPhandle → (A → Given) → Result A BuildError → Type 0
+Notes rows xs old new result = MatchResult result
+    (λ a. given_of (map (read_property rows) xs) old ≡ Ok (phandles_of rows (new a)))
+    (λ e. IsFault e (given_of (map (read_property rows) xs) old))
+
+-- ---- wanted
 -- each once, where it is first, without those that are known
 abbrev pub new_rows : (ℕ → Bool) → List ℕ → List ℕ
 new_rows known [] = []
@@ -31,3 +54,11 @@ assigned_rows taken tries n (k ∷ ks) = record { node = k; phandle = free_after
 -- the nodes of a list that have labels, without the reserved ones
 abbrev pub labelled_rows : LiveTree Parts → List ℕ → List ℕ
 labelled_rows d order = filter (λ n. list_any (λ r. r.node == n) d.labels.items && not (is_reserved (node_path d n))) order
+
+-- the nodes that are named in cells, and with symbols the labelled ones behind them
+abbrev pub named_rows : LiveTree Parts → List ℕ → List ℕ → Bool → List ℕ
+named_rows d order cells symbols = cells ++ (if symbols then labelled_rows d order else [])
+
+-- each node gets the next phandle that isn't given
+abbrev pub new_phandles : Given → List ℕ → List NodePhandle
+new_phandles given ns = assigned_rows (is_taken given.taken) (length given.phandles.items) 0 ns

@@ -1,26 +1,24 @@
-use Rattle.std.proofs.Common.{rules, ◌≡◌, ◌+◌, ◌<◌, ◌∷◌, ◌==◌, ℕ, map, drop, length, refl, sym, ap, ap₂, ◌∙◌, subst, add-one, arith}
+use Rattle.std.proofs.Common.{rules, ◌≡◌, ◌+◌, ◌<◌, ◌∷◌, ◌==◌, ℕ, map, drop, length, Result, Ok, MatchResult, refl, sym, ap, ap₂, ◌∙◌, subst, add-one, arith}
 use Rattle.std.proofs.Math.Seq.{drop-cons}
 use Rattle.dt_meaning.specs.Edits.{counted}
 use Rattle.dt_source.specs.Tree.{view, views, part_view}
 use Rattle.dt_meaning.specs.Syntax.{Defines, Child}
-use Rattle.dt_meaning.specs.Statements.{begun, after_entry, after_body}
+use Rattle.dt_meaning.specs.Statements.{Fault, begun, after_entry, after_body}
 use Rattle.dt_live.specs.Rows.{node_path, property_stamp}
 use Rattle.dt_live.proofs.Climbs.{not-true}
-use Rattle.dt_live.proofs.Keeping.{below-not-itself}
+use Rattle.dt_edit.specs.EditFault.{IsFault}
+use Rattle.dt_edit.specs.Private.Edited.{child_entry}
+use Rattle.dt_edit.specs.Private.Progress.{IsAt}
 use Rattle.dt_edit.specs.Said.{tree_of}
-use Rattle.dt_edit.proofs.Admission.{child-done, child-keeps, child-marks, own-children, own-properties}
-use Rattle.dt_edit.proofs.Steps.{IsUnderWay, body-begun, body-goes-on, property-set, property-removed, child-removed, unmarked}
+use Rattle.dt_edit.proofs.Admission.{child-done, child-edited, own-children, own-properties}
+use Rattle.dt_edit.proofs.Steps.{IsUnderWay, body-begun, body-goes-on, property-set, property-edited, property-removed, child-removed, still-place, At}
 use Rattle.dt_edit.proofs.Views.{view-undefines, view-removes, view-defines, view-child}
 use Rattle.dt_edit.proofs.body.+edits.Goals as goal
 
-pub edit-returns-else-not-branch-clause-marks : goal.edit-returns-else-not-branch-clause-marks
-edit-returns-else-not-branch-clause-marks t c =
-    let old = c.args.live.now in
+pub edit-returns-else-not-branch-clause-edited : goal.edit-returns-else-not-branch-clause-edited
+edit-returns-else-not-branch-clause-edited t c =
     let e = c.in_ok-set_property-in-Property.ensures in
-    record {
-      children = λ n k known out. e.others n k;
-      properties = λ n k known out. e.stamps n k ∙ unmarked old c.args.node n c.in-Property.name.now k c.args.stamp (property_stamp old n k) out;
-    }
+    property-edited c.args.live.now c.set_property.new.self c.args.node c.args.stamp c.in-Property.name.now c.requires.place.stamped c.requires.counted e.sound e.kept e.stamps e.others e.count
 
 pub edit-returns-else-not-branch-clause-step : goal.edit-returns-else-not-branch-clause-step
 edit-returns-else-not-branch-clause-step t c x at =
@@ -51,17 +49,15 @@ edit-returns-in-DeleteNode-clause-step t c x at =
     let r = child-removed x old c.args.node c.args.stamp c.args.made.now.count at c.remove_child.new.self c.in-DeleteNode.name.now e.state e.stamps e.others in
     (r.0, ap (λ s. after_entry (view s) (node_path old c.args.node) x) c.in-DeleteNode.is ∙ ap (λ s. after_entry s (node_path old c.args.node) x) (view-removes c.in-DeleteNode.name) ∙ r.1, r.2)
 
-pub edit-returns-in_ok-edit_child-in-Node-clause-step : goal.edit-returns-in_ok-edit_child-in-Node-clause-step
-edit-returns-in_ok-edit_child-in-Node-clause-step t c x at =
+pub edit-returns-in-Node-clause-step : goal.edit-returns-in-Node-clause-step
+edit-returns-in-Node-clause-step t c x at =
     let p = node_path c.args.live.now c.args.node in
     let name = c.in-Node.name.now in
-    let r = c.in_ok-edit_child-in-Node.ensures.step x at in (
-      r.0,
-      ap (λ s. after_entry (view s) p x) c.in-Node.is ∙ ap (λ s. after_entry s p x) (view-child c.in-Node.labels c.in-Node.name c.in-Node.body)
-          ∙ ap₂ (λ ls ss. after_entry (Child ls name (views ss)) p x) (sym c.as_slice-in-Node.ensures) (sym c.as_slice-in-Node-2.ensures.value)
-          ∙ r.1,
-      r.2,
-    )
+    let same : after_entry (view c.args.statement.now) p x ≡ after_entry (child_entry c.as_slice-in-Node.result.now name c.as_slice-in-Node-2.result.now) p x =
+    ap (λ s. after_entry (view s) p x) c.in-Node.is ∙ ap (λ s. after_entry s p x) (view-child c.in-Node.labels c.in-Node.name c.in-Node.body)
+    ∙ ap₂ (λ ls ss. after_entry (Child ls name (views ss)) p x) (sym c.as_slice-in-Node.ensures) (sym c.as_slice-in-Node-2.ensures.value) in
+    subst (λ (r : Result At Fault). MatchResult c.edit_child.result (λ _. (y : At) × (r ≡ Ok y) × IsAt y c.edit_child.new.live c.args.node c.args.stamp c.args.made.now.count) (λ e. IsFault e r)) (sym {A = Result At Fault} same)
+    (c.edit_child.ensures.step x at)
 
 pub edit_body-loop-statement-init : goal.edit_body-loop-statement-init
 edit_body-loop-statement-init t c =
@@ -71,14 +67,13 @@ edit_body-loop-statement-init t c =
     let whole = views c.args.body.now in (
       begun (counted made (tree_of old)),
       subst (λ (n : ℕ). IsUnderWay (begun (counted made (tree_of old))) old c.new_stamp.new.self c.args.node n made whole whole) (sym e.stamp)
-          (body-begun old c.new_stamp.new.self c.args.node made whole e.rest (e.new refl) c.requires.sound c.requires.stamped),
+          (body-begun old c.new_stamp.new.self c.args.node made whole e.rest (e.new refl) c.requires.place.sound c.requires.place.stamped),
     )
 
 pub edit_body-loop-statement-preserved : goal.edit_body-loop-statement-preserved
 edit_body-loop-statement-preserved t c =
     let i = c.loop-statement.invariant in
     let r = c.in_ok-edit.ensures.step i.0 i.1.at in
-    let e = c.in_ok-edit.ensures in
     let at = c.loop-statement.statement-index in
     let body = c.args.body.now in
     let within : at < length body = omega arith in
@@ -86,44 +81,21 @@ edit_body-loop-statement-preserved t c =
     drop-cons body at c.statement-item.result within ∙ ap₂ (λ a n. a ∷ drop n body) (sym c.statement-item.is) (sym (add-one at)) in (
       r.0,
       body-goes-on i.0 r.0 c.args.live.now c.loop-statement.live c.edit.new.live c.args.node c.in-Some.stamp c.args.made.now.count (views c.args.body.now)
-          (views (drop (c.loop-statement.statement-index + 1) c.args.body.now)) (view c.statement-item.result) c.requires.known
-          (subst (λ ss. IsUnderWay i.0 c.args.live.now c.loop-statement.live c.args.node c.in-Some.stamp c.args.made.now.count (views body) (views ss)) next i.1) e.sound e.stamped e.counted e.kept e.marks r.1 r.2,
+          (views (drop (c.loop-statement.statement-index + 1) c.args.body.now)) (view c.statement-item.result) c.requires.place.known
+          (subst (λ ss. IsUnderWay i.0 c.args.live.now c.loop-statement.live c.args.node c.in-Some.stamp c.args.made.now.count (views body) (views ss)) next i.1) c.in_ok-edit.ensures.edited r.1 r.2,
     )
 
 pub edit_body-edit-requires : goal.edit_body-edit-requires
 edit_body-edit-requires t c =
-    let i = c.loop-statement.invariant in
-    let u = i.1 in (
-      search rules,
-      (
-        u.sound,
-        (
-          u.stamped,
-          (
-            u.counted,
-            (
-              omega (arith, u.kept.more, c.requires.known),
-              (
-                u.kept.stand c.args.node c.requires.known c.requires.stands (below-not-itself (node_path c.args.live.now c.args.node)),
-                (c.requires.depth ∙ ap length (sym (u.kept.paths c.args.node c.requires.known)), c.requires.exact),
-              ),
-            ),
-          ),
-        ),
-      ),
-    )
+    let u = c.loop-statement.invariant.1 in
+    (search rules, (still-place c.args.live.now c.loop-statement.live c.args.node c.args.depth c.requires.place u.done, (u.counted, c.requires.exact)))
 
 -- ---- a child
-pub edit_child-returns-clause-kept : goal.edit_child-returns-clause-kept
-edit_child-returns-clause-kept t c =
+pub edit_child-returns-clause-edited : goal.edit_child-returns-clause-edited
+edit_child-returns-clause-edited t c =
     let e = c.in_ok-child.ensures in
-    child-keeps c.args.live.now c.admit_child.new.live c.edit_body.new.live c.args.node c.in_ok-child.child c.args.stamp c.args.name.now e.kept e.path c.in_ok-edit_body.ensures.kept
-
-pub edit_child-returns-clause-marks : goal.edit_child-returns-clause-marks
-edit_child-returns-clause-marks t c =
-    let e = c.in_ok-child.ensures in
-    child-marks c.args.live.now c.admit_child.new.live c.edit_body.new.live c.args.node c.in_ok-child.child c.args.stamp c.args.name.now e.kept e.path
-    e.children e.properties c.in_ok-edit_body.ensures.marks
+    child-edited c.args.live.now c.admit_child.new.live c.edit_body.new.live c.args.node c.in_ok-child.child c.args.stamp c.args.name.now e.kept e.path e.children e.properties
+    c.in_ok-edit_body.ensures.edited e.count
 
 pub edit_child-returns-clause-step : goal.edit_child-returns-clause-step
 edit_child-returns-clause-step t c x at =
@@ -136,5 +108,5 @@ edit_child-returns-clause-step t c x at =
     let made = c.args.made.now.count in
     child-done x old two c.args.node c.args.stamp made ls c.args.name.now body at (e.step x at) three
     (ap (λ r. after_body body r (begun (counted made (tree_of two)))) (sym e.path) ∙ c.in_ok-edit_body.ensures.body)
-    (own-properties old two three c.args.node c.in_ok-child.child c.args.stamp c.args.name.now e.kept e.path e.children e.properties c.in_ok-edit_body.ensures.marks c.requires.known)
-    (own-children old two three c.args.node c.in_ok-child.child c.args.stamp c.args.name.now e.kept e.path e.children e.properties c.in_ok-edit_body.ensures.marks c.requires.known)
+    (own-properties old two three c.args.node c.in_ok-child.child c.args.stamp c.args.name.now e.kept e.path e.children e.properties c.in_ok-edit_body.ensures.edited c.requires.place.known)
+    (own-children old two three c.args.node c.in_ok-child.child c.args.stamp c.args.name.now e.kept e.path e.children e.properties c.in_ok-edit_body.ensures.edited c.requires.place.known)

@@ -38,7 +38,7 @@ returns-then-is_taken-clause-step c x at =
     child-taken x old one c.give_labels.new.self c.args.node c.args.stamp made ls c.args.name.now at c.in_ok-child.ensures.state
     (ap (λ q. meaning.give_labels ls q (state_of one)) (sym c.in_ok-child.ensures.made) ∙ c.in_default.ensures.given)
     (not-true (child_stamp old c.args.node c.args.name.now == c.args.stamp) (sym c.in_ok-child.ensures.first ∙ c.if-not-first.false))
-    (taken-at old c.requires.sound c.args.node made c.args.name.now ∙ sym c.is_taken.ensures ∙ c.if-is_taken.true)
+    (taken-at old c.requires.place.sound c.args.node made c.args.name.now ∙ sym c.is_taken.ensures ∙ c.if-is_taken.true)
 
 pub returns-then-depth-ge-MAX_DEPTH-clause-step : goal.returns-then-depth-ge-MAX_DEPTH-clause-step
 returns-then-depth-ge-MAX_DEPTH-clause-step c x at =
@@ -49,8 +49,8 @@ returns-then-depth-ge-MAX_DEPTH-clause-step c x at =
     child-deep x old one c.give_labels.new.self c.args.node c.args.stamp made ls c.args.name.now at c.in_ok-child.ensures.state
     (ap (λ q. meaning.give_labels ls q (state_of one)) (sym c.in_ok-child.ensures.made) ∙ c.in_default.ensures.given)
     (not-true (child_stamp old c.args.node c.args.name.now == c.args.stamp) (sym c.in_ok-child.ensures.first ∙ c.if-not-first.false))
-    (taken-at old c.requires.sound c.args.node made c.args.name.now ∙ sym c.is_taken.ensures ∙ c.if-is_taken.false)
-    (lt-ltb 63 (length (node_path old c.args.node)) (omega (arith, c.requires.depth, c.if-depth-ge-MAX_DEPTH.true)))
+    (taken-at old c.requires.place.sound c.args.node made c.args.name.now ∙ sym c.is_taken.ensures ∙ c.if-is_taken.false)
+    (lt-ltb 63 (length (node_path old c.args.node)) (omega (arith, c.requires.place.depth, c.if-depth-ge-MAX_DEPTH.true)))
 
 pub returns-clause-kept : goal.returns-clause-kept
 returns-clause-kept c p =
@@ -65,8 +65,8 @@ returns-clause-step c x at =
     child-in x old one c.give_labels.new.self c.args.node c.args.stamp made ls c.args.name.now at c.in_ok-child.ensures.state
     (ap (λ q. meaning.give_labels ls q (state_of one)) (sym c.in_ok-child.ensures.made) ∙ c.in_default.ensures.given)
     (not-true (child_stamp old c.args.node c.args.name.now == c.args.stamp) (sym c.in_ok-child.ensures.first ∙ c.if-not-first.false))
-    (taken-at old c.requires.sound c.args.node made c.args.name.now ∙ sym c.is_taken.ensures ∙ c.if-is_taken.false)
-    (shallow (length (node_path old c.args.node)) _ refl (omega (arith, c.requires.depth, c.if-depth-ge-MAX_DEPTH.false)))
+    (taken-at old c.requires.place.sound c.args.node made c.args.name.now ∙ sym c.is_taken.ensures ∙ c.if-is_taken.false)
+    (shallow (length (node_path old c.args.node)) _ refl (omega (arith, c.requires.place.depth, c.if-depth-ge-MAX_DEPTH.false)))
 
 pub returns-clause-shallow : goal.returns-clause-shallow
 returns-clause-shallow c = omega (arith, c.if-depth-ge-MAX_DEPTH.false)

@@ -25,7 +25,7 @@ loop-item-preserved c =
     let within : at < length items = omega arith in
     let next : drop at items ≡ item ∷ drop (at + 1) items = drop-cons items at item within ∙ ap₂ (λ a n. a ∷ drop n items) (sym c.item-item.is) (sym (add-one at)) in
     record {
-      names = e.even;
+      names = e.named;
       targets = targets-more old.targets.items c.add_item.new.self.targets.items (item_view item) (map item_view (drop (at + 1) items))
           (flat_map target_values (map item_view items)) e.targets
           (ap (λ xs. map value_of old.targets.items ++ flat_map target_values (map item_view xs)) (sym next) ∙ i.targets);

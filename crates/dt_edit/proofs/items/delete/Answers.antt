@@ -5,11 +5,11 @@ use Rattle.dt_edit.proofs.ItemSteps.{node-deleted, not-root}
 use Rattle.dt_edit.proofs.items.delete.Goals as goal
 
 pub returns-clause-item : goal.returns-clause-item
-returns-clause-item c n =
+returns-clause-item c made =
     let old = c.args.live.now in
     let node = c.in_ok-node.node in
     let at : node ≡ suc (node - 1) = omega (arith, c.if-node-eq0.false) in
-    node-deleted n old c.remove_node.new.self (target_view c.args.target.now) (node_path old node) c.in_ok-node.ensures.node
+    node-deleted made.count old c.remove_node.new.self (target_view c.args.target.now) (node_path old node) c.in_ok-node.ensures.node
     (not-root old c.requires.sound node (node - 1) at) c.remove_node.ensures.state
 
 pub returns-then-node-eq0-clause-item : goal.returns-then-node-eq0-clause-item

@@ -1,12 +1,13 @@
-use Rattle.std.proofs.Common.{◌≡◌, false, Ok, Err, sym, ap, ◌∙◌}
+use Rattle.std.proofs.Common.{◌≡◌, false, List, Result, Ok, Err, sym, ap, ◌∙◌, subst}
 use Rattle.dt_source.specs.Tree.{target_view, labels_view, views}
-use Rattle.dt_meaning.specs.Edits.{counted}
+use Rattle.dt_meaning.specs.Edits.{State, counted}
 use Rattle.dt_meaning.specs.Statements as meaning
-use Rattle.dt_meaning.specs.Statements.{after_body, after_item, begun}
-use Rattle.dt_meaning.specs.Syntax.{Extends}
+use Rattle.dt_meaning.specs.Statements.{Fault, after_body, after_item, begun}
+use Rattle.dt_meaning.specs.Syntax.{Extends, Piece}
 use Rattle.dt_live.specs.Rows.{node_path, path_of, state_of}
+use Rattle.dt_edit.specs.EditFault.{Gives}
 use Rattle.dt_edit.specs.Said.{tree_of}
-use Rattle.dt_edit.proofs.Faults.{fault-same, fault-error, label-says}
+use Rattle.dt_edit.proofs.Faults.{fault-error, label-says}
 use Rattle.dt_edit.proofs.ItemSteps.{extended, extend-labelled}
 use Rattle.dt_edit.proofs.items.extend.Goals as goal
 
@@ -23,8 +24,8 @@ returns-in-Err-clause-item c =
     (label-says c.in-Err.error r (λ same. extend-labelled made old t ls body p c.in_ok-node.ensures.node
     (ap (λ xs. meaning.give_labels xs p (state_of old)) (sym c.as_slice.ensures) ∙ c.in-Err.ensures.refused (ap (λ e. Err e) same))))
 
-pub returns-in-Err-edit_body-clause-item : goal.returns-in-Err-edit_body-clause-item
-returns-in-Err-edit_body-clause-item c =
+pub returns-clause-item : goal.returns-clause-item
+returns-clause-item c =
     let old = c.args.live.now in
     let made = c.args.made.now.count in
     let mid = c.give_labels.new.self in
@@ -34,21 +35,5 @@ returns-in-Err-edit_body-clause-item c =
     let node = c.in_ok-node.node in
     let p = node_path old node in
     let given : meaning.give_labels ls p (state_of old) ≡ Ok (state_of mid) = ap (λ xs. meaning.give_labels xs p (state_of old)) (sym c.as_slice.ensures) ∙ c.in_default.ensures.given in
-    fault-same c.in-Err-edit_body.error (after_body body (node_path mid node) (begun (counted made (tree_of mid)))) (after_item false (Extends ls t body) (counted made (tree_of old)))
-    (extended made old t ls body p mid c.in_ok-node.ensures.node given ∙ ap (λ rows. after_body body (path_of rows node) (begun (counted made (tree_of mid)))) (sym c.in_default.ensures.kept))
-    c.in-Err-edit_body.ensures.body
-
-pub returns-in-Ok-clause-item : goal.returns-in-Ok-clause-item
-returns-in-Ok-clause-item c =
-    let old = c.args.live.now in
-    let made = c.args.made.now.count in
-    let mid = c.give_labels.new.self in
-    let t = target_view c.args.target.now in
-    let ls = labels_view c.args.labels.now in
-    let body = views c.args.body.now in
-    let node = c.in_ok-node.node in
-    let p = node_path old node in
-    let given : meaning.give_labels ls p (state_of old) ≡ Ok (state_of mid) = ap (λ xs. meaning.give_labels xs p (state_of old)) (sym c.as_slice.ensures) ∙ c.in_default.ensures.given in
-    extended made old t ls body p mid c.in_ok-node.ensures.node given
-    ∙ ap (λ rows. after_body body (path_of rows node) (begun (counted made (tree_of mid)))) (sym c.in_default.ensures.kept)
-    ∙ c.in-Ok.ensures.body
+    let same = extended made old t ls body p mid c.in_ok-node.ensures.node given ∙ ap (λ rows. after_body body (path_of rows node) (begun (counted made (tree_of mid)))) (sym c.in_default.ensures.kept) in
+    subst (λ (r : Result (State (List Piece)) Fault). Gives r (λ _. counted made (tree_of c.edit_body.new.live)) c.edit_body.result) (sym {A = Result (State (List Piece)) Fault} same) c.edit_body.ensures.body

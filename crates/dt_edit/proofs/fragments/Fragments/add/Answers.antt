@@ -5,10 +5,10 @@ use Rattle.dt_edit.proofs.Collecting.{names-more}
 use Rattle.dt_edit.proofs.Readiness.{name_of}
 use Rattle.dt_edit.proofs.fragments.Fragments.add.Goals as goal
 
-pub returns-clause-even : goal.returns-clause-even
-returns-clause-even c =
+pub returns-clause-named : goal.returns-clause-named
+returns-clause-named c =
     let old = c.args.self.now in
     let count : c.len.result ≡ length old.names.items = omega (arith, c.len.ensures, old.names.ok) in
-    names-more old.names.items c.push.new.self.items old.targets.items c.push-2.new.self.items c.in_ok-value.value c.requires.even
+    names-more old.names.items c.push.new.self.items old.targets.items c.push-2.new.self.items c.in_ok-value.value c.requires.named
     (ap (map name_of) c.in_ok-push.ensures.items ∙ map_push name_of old.names.items c.in_ok-name.name ∙ ap (λ n. map name_of old.names.items ++ n ∷ []) (c.in_ok-name.ensures ∙ ap fragment_name count))
     c.in_ok-push-2.ensures.items
