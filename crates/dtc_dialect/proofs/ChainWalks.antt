@@ -6,7 +6,8 @@ use Rattle.std.proofs.lemmas.Bool.{eqb-true}
 use Rattle.std.proofs.lemmas.List.{get_or-reverse, length-reverse, map-append, take_more}
 use Rattle.std.proofs.lemmas.List.Elements.{filter-append}
 use Rattle.dtc_dialect.specs.Chains.{Leads}
-use Rattle.dtc_dialect.specs.References.{ancestry_of, deletion_of, has_label, is_there, last_deletion}
+use Rattle.dtc_dialect.specs.Preorder.{ancestry_of}
+use Rattle.dtc_dialect.specs.References.{deletion_of, has_label, is_there, last_deletion}
 use Rattle.dtc_dialect.specs.Stops.{children_in, has_property, labels_in, properties_in}
 use Rattle.dtc_dialect.specs.Private.Walking.{IsIn}
 use Rattle.dtc_dialect.specs.Table.{label_at, no_label, no_node, no_property, node_at, property_at, rows_from}

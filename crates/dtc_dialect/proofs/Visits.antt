@@ -7,7 +7,8 @@ use Rattle.std.proofs.lemmas.Bool.{and_parts, le-leb, le-ltb, lt-ltb}
 use Rattle.std.proofs.lemmas.Grind.{flat_map-append}
 use Rattle.std.proofs.lemmas.List.{append-nil, drop-append-le, map-append, take-append-le, take_all, take_more}
 use Rattle.dtc_dialect.specs.Copied.{part_of}
-use Rattle.dtc_dialect.specs.References.{ancestry_of, are_made, deletion_of, is_there}
+use Rattle.dtc_dialect.specs.Preorder.{ancestry_of}
+use Rattle.dtc_dialect.specs.References.{are_made, deletion_of, is_there}
 use Rattle.dtc_dialect.specs.Stops.{IsPreorder, IsStop, KnowsLabels, Walk, children_in, nodes_of, properties_there}
 use Rattle.dtc_dialect.specs.Stops.Walk.{end, gone, there}
 use Rattle.dtc_dialect.specs.Private.Walking.{IsBelow, IsIn, PutsStop, Visits}

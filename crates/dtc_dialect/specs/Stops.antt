@@ -4,7 +4,8 @@ use Rattle.std.specs.Prelude.{◌≡◌, ℕ, nat_lt, ◌<◌, ◌≤◌, ◌==�
 use Rattle.std.specs.List.{filter, flat_map, AllByRecursion}
 use Rattle.dtc_dialect.specs.Chains.{Lists}
 use Rattle.dtc_dialect.specs.Copied.{part_of}
-use Rattle.dtc_dialect.specs.References.{ancestry_of, deletion_of, has_label, is_there}
+use Rattle.dtc_dialect.specs.Preorder.{ancestry_of}
+use Rattle.dtc_dialect.specs.References.{deletion_of, has_label, is_there}
 use Rattle.dtc_dialect.specs.Table.{label_at, node_at, property_at, rows_from}
 use Rattle.dtc_dialect.specs.declared.preorder.Preorder.{Preorder}
 use Rattle.dtc_dialect.specs.declared.preorder.Stop.{Stop}

@@ -2,7 +2,8 @@
 use Rattle.std.specs.Prelude.{◌≡◌, ℕ, ◌<◌, nat_lt, Bool, true, ◌&&◌, if◌then◌else◌, List, [], ◌∷◌, ◌++◌, length}
 use Rattle.std.specs.List.{flat_map, AllByRecursion}
 use Rattle.dtc_dialect.specs.Chains.{Lists}
-use Rattle.dtc_dialect.specs.References.{are_made, ancestry_of, deletion_of, is_there}
+use Rattle.dtc_dialect.specs.Preorder.{ancestry_of}
+use Rattle.dtc_dialect.specs.References.{are_made, deletion_of, is_there}
 use Rattle.dtc_dialect.specs.Stops.{IsStop, Walk, children_in, labels_in, labels_there, nodes_of, properties_in, properties_there}
 use Rattle.dtc_dialect.specs.Table.{label_at, property_at}
 use Rattle.dtc_dialect.specs.declared.chains.Chains.{Chains}
