@@ -1,44 +1,19 @@
 //! Local fixups: the sites of an overlay's own phandles.
 ghost use Rattle.std.specs.Prelude.{◌≡◌, ◌<◌, ◌∷◌, [], true, length};
-ghost use Rattle.dt_live.specs.ByRow.{lent};
 ghost use Rattle.dt_meaning.specs.Names.{local_fixups_name};
 ghost use Rattle.dt_meaning.specs.Paths.{is_within};
-ghost use Rattle.dt_live.specs.Rows.{IsNode, node_path};
-ghost use Rattle.dt_overlay_meaning.specs.Shifted.{raise_at};
+ghost use Rattle.dt_live.specs.Rows.{node_path};
 ghost use Rattle.dt_fixup.specs.PatchedOverlay.{IsPatched};
 ghost use Rattle.dt_fixup.specs.Private.FixedNodes.{IsFixedNodeOf, row_node};
-ghost use Rattle.dt_fixup.specs.Private.Walk.{IsStep, local_step, property_step, site_at, site_step, sites_step};
+ghost use Rattle.dt_fixup.specs.Private.Walk.{IsStep, local_step, property_step, site_step, sites_step};
 
 use crate::error::OverlayError;
 use crate::fixed_nodes::{FixedNode, all_fixed_nodes};
-use crate::patched_overlay::PatchedOverlay;
+use crate::patched_overlay::{PatchedOverlay, lent};
 use crate::raising::raised;
 use crate::sites::take_site;
 use dt_tree::cell_at;
 use std::alloc::Global;
-
-/// Raises the phandle at a site.
-fn raise_in<'t>(
-    patched: &mut PatchedOverlay<'t>,
-    node: usize,
-    name: &'t [u8],
-    offset: usize,
-    shift: usize,
-) -> Result<(), OverlayError>
-    requires sound { IsPatched patched.old }
-    requires known { IsNode patched.old.live node }
-    ensures sound { IsPatched patched.new }
-    ensures live { patched.new.live ≡ patched.old.live }
-    ensures step { IsStep (raise_at shift (site_at patched.old node name.now offset)) patched.old patched.new result }
-{
-    let row = take_site(patched, node, name, offset)?;
-    let number = match raised(patched.number_at(row, offset), shift) {
-        Ok(number) => number,
-        Err(error) => return Err(error),
-    };
-    patched.write(row, offset, number)?;
-    Ok(())
-}
 
 /// Raises the phandle at a site that a local fixup names.
 fn raise_site<'t>(
@@ -59,7 +34,12 @@ fn raise_site<'t>(
     let FixedNode::Node(node) = fixed_node else {
         return Err(OverlayError::BadFixup);
     };
-    raise_in(patched, node, name, offset, shift)?;
+    let row = take_site(patched, node, name, offset)?;
+    let number = match raised(patched.number_at(row, offset), shift) {
+        Ok(number) => number,
+        Err(error) => return Err(error),
+    };
+    patched.write(row, offset, number)?;
     Ok(())
 }
 
@@ -90,15 +70,6 @@ fn raise_value<'t>(
         }
     }
     Ok(())
-}
-
-pub(crate) fn lent<'t>(value: Option<&'t [u8]>) -> &'t [u8]
-    ensures { result.now ≡ lent value.entry }
-{
-    match value {
-        Some(bytes) => bytes,
-        None => &[],
-    }
 }
 
 /// Raises what a property's local fixup names, where it is one.

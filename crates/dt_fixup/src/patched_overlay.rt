@@ -1,6 +1,7 @@
 //! An overlay's rows, with the values that were changed.
 ghost use Rattle.std.specs.Prelude.{◌≡◌, ◌+◌, ◌<◌, ◌≤◌, ℕ, not, length, take, drop, IfOk, OnOk, OnErr, IsSome};
 ghost use Rattle.std.specs.Int.{from_be_bytes, w32};
+ghost use Rattle.dt_live.specs.ByRow.{lent};
 ghost use Rattle.dt_fixup.specs.PatchedOverlay.{IsPatched, change_at, value_at};
 ghost use Rattle.dt_fixup.specs.Private.Marks.{KeepsMarks, MarksFree, MarksSite, is_taken};
 ghost use Rattle.dt_fixup.specs.Private.Rows.{IsWritten};
@@ -24,6 +25,16 @@ pub struct PatchedOverlay<'t> {
     pub(crate) changes: Vec<Option<Change>>,
 }
 
+/// The bytes of a property's value, none where it was removed.
+pub(crate) fn lent<'t>(value: Option<&'t [u8]>) -> &'t [u8]
+    ensures { result.now ≡ lent value.entry }
+{
+    match value {
+        Some(bytes) => bytes,
+        None => &[],
+    }
+}
+
 impl<'t> PatchedOverlay<'t> {
     /// The value of a property as it is now.
     pub fn value(&self, property: usize) -> &[u8]
@@ -33,10 +44,7 @@ impl<'t> PatchedOverlay<'t> {
     {
         match &self.changes[property] {
             Some(change) => change.bytes.as_slice(),
-            None => match self.live.properties()[property].value {
-                Some(value) => value,
-                None => &[],
-            },
+            None => lent(self.live.properties()[property].value),
         }
     }
 

@@ -8,7 +8,7 @@ ghost use Rattle.dt_overlay_meaning.specs.Texts.{parts};
 ghost use Rattle.dt_fixup.specs.Private.Fixing.{AddsFixups, fixups_of, gathered, row_fixups};
 
 use crate::error::OverlayError;
-use crate::local::lent;
+use crate::patched_overlay::lent;
 use crate::texts::{SiteText, site_in, unended};
 use dt_live::{LiveTree, is_root_child};
 use std::alloc::Global;

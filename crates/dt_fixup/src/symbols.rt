@@ -8,7 +8,7 @@ ghost use Rattle.dt_overlay_meaning.specs.Texts as texts;
 ghost use Rattle.dt_fixup.specs.Private.Fixing.{symbol_value};
 ghost use Rattle.dt_fixup.specs.Texts.{IsPathText};
 
-use crate::local::lent;
+use crate::patched_overlay::lent;
 use crate::phandle::row_phandle;
 use crate::texts::ended_path;
 use dt_live::{LiveTree, PropertyRow};
