@@ -7,16 +7,13 @@ use Rattle.dt_tree.specs.TreeData.{TreeData, is_reserve, tree_data}
 use Rattle.dt_source.specs.declared.tree.Source.{Source}
 use Rattle.dt_source.specs.Lawful.{IsLawful}
 use Rattle.dt_source.specs.Meaning.{meaning_of}
-use Rattle.dt_meaning.specs.Syntax.{Meaning}
 use Rattle.dt_meaning.specs.Edits.{Definition}
 use Rattle.dt_meaning.specs.MapOf.{map_of, tree_map_of}
 use Rattle.dt_meaning.specs.References.{Found}
-use Rattle.dt_meaning.specs.Resolved.{is_too_deep, names_taken, resolved}
+use Rattle.dt_meaning.specs.Resolved.{is_too_deep, names_taken}
 use Rattle.dt_edit.specs.Said.{tree_of}
-use Rattle.dt_resolve.specs.declared.error.BuildError.{BuildError}
-use Rattle.dt_resolve.specs.declared.error.BuildError.TheVariants.{NoMemory, UnknownLabel, DuplicateLabel, UnknownPath, BadPhandle, DuplicatePhandle, DuplicateInBody, PathInPlugin, ReservedName, TooDeep}
+use Rattle.dt_resolve.specs.declared.error.BuildError.TheVariants.{TooDeep}
 use Rattle.dt_resolve.specs.declared.prepared.Prepared.{Prepared}
-use Rattle.dt_resolve.specs.BuildFault.{IsFault}
 use Rattle.dt_resolve.specs.Prepared.{IsPrepared}
 use Rattle.dt_build.specs.Built.{IsBuilt, Refuses}
 use Rattle.dt_build.specs.Private.Fitting.{IsFitting}
@@ -25,18 +22,6 @@ use Rattle.dt_build.specs.Private.Ready.{IsReady}
 use Rattle.dt_build.proofs.ListsOfPrepared.{lists-within, prepared-resolved, prepared-too_deep}
 use Rattle.dt_build.proofs.Ready.{ready, found-all, standing-all}
 use Rattle.dt_build.proofs.WalkOrder.{walked-founds}
-
-pub refused : (symbols : Bool) (m : Meaning) (e : BuildError) → IsFault e (resolved symbols m) → Refuses symbols m e
-refused symbols m NoMemory h = h
-refused symbols m UnknownLabel h = h
-refused symbols m DuplicateLabel h = h
-refused symbols m UnknownPath h = h
-refused symbols m BadPhandle h = h
-refused symbols m DuplicatePhandle h = h
-refused symbols m DuplicateInBody h = h
-refused symbols m PathInPlugin h = h
-refused symbols m ReservedName h = h
-refused symbols m TooDeep h = h
 
 -- values that are no longer than a limit below the greatest number
 pub fits-within : (size limit counted : ℕ) → counted ≡ min size (2 ^ 64 - 1) → counted ≤ limit → limit < 2 ^ 64 - 1 → size ≤ limit

@@ -1,6 +1,6 @@
 -- What a build answers: the resolved tree, where its values are short enough, or why there is none
 -- (Devicetree Specification v0.4, chapter 6).
-use Rattle.std.specs.Prelude.{◌≡◌, ◌<◌, ◌≤◌, ◌-◌, ◌^◌, ℕ, Bool, Option, None, Some, Ok}
+use Rattle.std.specs.Prelude.{◌≡◌, ◌<◌, ◌≤◌, ◌-◌, ◌^◌, ℕ, Bool, Option, None, Some, Result, Ok, MatchResult}
 use Rattle.dt_tree.specs.NodeData.{NodeData}
 use Rattle.dt_tree.specs.PathMap.{path_map, tree_map}
 use Rattle.dt_tree.specs.Sound.{IsSound}
@@ -10,7 +10,6 @@ use Rattle.dt_meaning.specs.MapOf.{map_of, tree_map_of}
 use Rattle.dt_meaning.specs.Resolved.{Resolved, resolved}
 use Rattle.dt_tree_builder.specs.Sizes.{size_in, size_below}
 use Rattle.dt_resolve.specs.declared.error.BuildError.{BuildError}
-use Rattle.dt_resolve.specs.declared.error.BuildError.TheVariants.{NoMemory, UnknownLabel, DuplicateLabel, UnknownPath, BadPhandle, DuplicatePhandle, DuplicateInBody, PathInPlugin, ReservedName, TooDeep}
 use Rattle.dt_resolve.specs.BuildFault.{IsFault}
 
 -- the tree is the source's resolved tree
@@ -39,13 +38,11 @@ IsBuilt symbols m limit None = IsLonger symbols m limit
 
 -- why a source makes no tree
 abbrev pub Refuses : Bool → Meaning → BuildError → Type 0
-Refuses symbols m NoMemory = Unit {0}
-Refuses symbols m UnknownLabel = IsFault UnknownLabel (resolved symbols m)
-Refuses symbols m DuplicateLabel = IsFault DuplicateLabel (resolved symbols m)
-Refuses symbols m UnknownPath = IsFault UnknownPath (resolved symbols m)
-Refuses symbols m BadPhandle = IsFault BadPhandle (resolved symbols m)
-Refuses symbols m DuplicatePhandle = IsFault DuplicatePhandle (resolved symbols m)
-Refuses symbols m DuplicateInBody = IsFault DuplicateInBody (resolved symbols m)
-Refuses symbols m PathInPlugin = IsFault PathInPlugin (resolved symbols m)
-Refuses symbols m ReservedName = IsFault ReservedName (resolved symbols m)
-Refuses symbols m TooDeep = IsFault TooDeep (resolved symbols m)
+Refuses symbols m e = IsFault e (resolved symbols m)
+
+-- what a build answers: within a limit, and however long the values are
+abbrev pub Builds : Bool → Meaning → ℕ → Result (Option TreeData) BuildError → Type 0
+Builds symbols m limit result = MatchResult result (λ tree. IsBuilt symbols m limit tree) (λ e. Refuses symbols m e)
+
+abbrev pub BuildsTree : Bool → Meaning → Result TreeData BuildError → Type 0
+BuildsTree symbols m result = MatchResult result (λ tree. IsTreeOf symbols m tree) (λ e. Refuses symbols m e)

@@ -1,17 +1,14 @@
 //! The tree of a source.
-ghost use Rattle.std.specs.Prelude.{◌≡◌, false, IfOk, List, MatchResult, Option};
+ghost use Rattle.std.specs.Prelude.{◌≡◌, false, IfOk};
 ghost use Rattle.std.specs.List.{list_any};
-ghost use Rattle.dt_meaning.specs.Edits.{Definition};
-ghost use Rattle.dt_meaning.specs.References.{Found};
 ghost use Rattle.dt_meaning.specs.Resolved.{is_too_deep, names_taken};
 ghost use Rattle.dt_source.specs.Lawful.{IsLawful};
 ghost use Rattle.dt_edit.specs.Fragments.{AreFragments};
 ghost use Rattle.dt_edit.specs.Said.{tree_of};
-ghost use Rattle.dt_resolve.specs.Prepared.{IsPrepared};
 ghost use Rattle.dt_source.specs.Meaning.{meaning_of};
-ghost use Rattle.dt_build.specs.Built.{IsBuilt, IsTreeOf, Refuses};
+ghost use Rattle.dt_build.specs.Built.{Builds, BuildsTree};
 ghost use Rattle.dt_build.specs.Private.FixupSites.{AreSites};
-ghost use Rattle.dt_build.specs.Private.Fitting.{IsFitting};
+ghost use Rattle.dt_build.specs.Private.Fitting.{IsFitting, IsPreparedFrom};
 ghost use Rattle.dt_build.specs.Private.Made.{lists};
 ghost use Rattle.dt_build.specs.Private.Ready.{IsReady};
 
@@ -64,8 +61,8 @@ fn prepared_tree(
     limit: usize,
 ) -> Result<Option<Tree>, BuildError>
     requires lawful { IsLawful (meaning_of source.now) }
-    requires prepared { (es : List (Definition (List Found))) × IsPrepared symbols (meaning_of source.now) es prepared.now }
-    ensures { MatchResult result (λ tree. IsBuilt symbols (meaning_of source.now) limit tree) (λ e. Refuses symbols (meaning_of source.now) e) }
+    requires prepared { IsPreparedFrom symbols (meaning_of source.now) prepared.now }
+    ensures { Builds symbols (meaning_of source.now) limit result }
 {
     let sites = find_sites(alloc, prepared)?;
     // behind the edits only the local fixups of a node is deeper than the node
@@ -87,7 +84,7 @@ fn source_tree<'d, 't>(
 ) -> Result<Option<Tree>, BuildError>
     requires lawful { IsLawful (meaning_of source.now) }
     requires fragments { AreFragments (meaning_of source.now).items fragments.now }
-    ensures { MatchResult result (λ tree. IsBuilt symbols (meaning_of source.now) limit tree) (λ e. Refuses symbols (meaning_of source.now) e) }
+    ensures { Builds symbols (meaning_of source.now) limit result }
 {
     match prepare(alloc, hasher, source, fragments, symbols) {
         Ok(prepared) => prepared_tree(alloc, source, &prepared, symbols, limit),
@@ -105,7 +102,7 @@ pub fn build_within(
     symbols: bool,
     limit: usize,
 ) -> Result<Option<Tree>, BuildError>
-    ensures tree { MatchResult result (λ tree. IsBuilt symbols (meaning_of source.now) limit tree) (λ e. Refuses symbols (meaning_of source.now) e) }
+    ensures tree { Builds symbols (meaning_of source.now) limit result }
 {
     source.check();
     let fragments = fragments_of(alloc, source.items.as_slice())?;
@@ -119,7 +116,7 @@ pub fn build(
     source: &Source<'_>,
     symbols: bool,
 ) -> Result<Tree, BuildError>
-    ensures tree { MatchResult result (λ tree. IsTreeOf symbols (meaning_of source.now) tree) (λ e. Refuses symbols (meaning_of source.now) e) }
+    ensures tree { BuildsTree symbols (meaning_of source.now) result }
 {
     match build_within(alloc, hasher, source, symbols, usize::MAX) {
         Ok(Some(tree)) => Ok(tree),

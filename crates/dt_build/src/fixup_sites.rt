@@ -1,14 +1,9 @@
 //! The fixup sites of a plugin, found once: one for each phandle in its values, in the order of the walk.
-ghost use Rattle.std.specs.Prelude.{◌≡◌, ◌<◌, ◌+◌, ◌++◌, ℕ, All, IfOk, OnOk, length, map};
-ghost use Rattle.dt_meaning.specs.Fixups.{bytes_of, label_found, sites_in};
-ghost use Rattle.dt_meaning.specs.Paths.{Path};
-ghost use Rattle.dt_live.specs.Rows.{node_path};
+ghost use Rattle.std.specs.Prelude.{◌≡◌, ◌<◌, ◌+◌, All, IfOk, OnOk, length};
 ghost use Rattle.dt_resolve.specs.Targets.{IsKnown};
-ghost use Rattle.dt_resolve.specs.declared.prepared.Prepared.{Prepared};
-ghost use Rattle.dt_build.specs.Private.Made.{all_phandles};
 ghost use Rattle.dt_build.specs.Private.Ready.{IsReady};
-ghost use Rattle.dt_build.specs.Private.FixupSites.{AreBetween, AreSites, key_at, site_of, site_with};
-ghost use Rattle.dt_build.specs.Private.Values.{found_of, founds_of, label_in};
+ghost use Rattle.dt_build.specs.Private.FixupSites.{AreBetween, AreSites, PutsPart, PutsAll};
+ghost use Rattle.dt_build.specs.Private.Values.{label_in, part_bytes};
 
 use crate::value::{part_size, target_at, target_count, targets_behind};
 use dt_resolve::Prepared;
@@ -44,7 +39,7 @@ fn put_site<'d>(
 ) -> Result<(), AllocError>
     requires places { AreBetween 0 (property + 1) sites.old.items }
     ensures places { OnOk result (AreBetween 0 (property + 1) sites.new.items) }
-    ensures sites { (p : Prepared) (path : ℕ → Path) → OnOk result (map (site_of p) sites.new.items ≡ map (site_of p) sites.old.items ++ map (site_with (key_at p property).path (key_at p property).name offset) (label_found (found_of path part.now target))) }
+    ensures sites { OnOk result (PutsPart property part.now target offset sites.old.items sites.new.items) }
 {
     let reference = match (part, target) {
         (Part::Phandle(_), Some(_)) => None,
@@ -69,7 +64,7 @@ fn offset_behind(
 ) -> Result<usize, AllocError>
     requires ready { IsReady prepared.now }
     requires known { IsKnown prepared.now.live target }
-    ensures { IfOk result (λ next. next ≡ offset + length (bytes_of (all_phandles prepared.now) (found_of (node_path prepared.now.live) part.now target))) }
+    ensures { IfOk result (λ next. next ≡ offset + length (part_bytes prepared.now part.now target)) }
 {
     let next = offset.saturating_add(part_size(prepared, part, target));
     // a value of so many bytes doesn't fit into memory
@@ -91,7 +86,7 @@ fn put_sites<'d>(
     requires known { All (IsKnown prepared.now.live) targets.now }
     requires places { AreBetween 0 (property + 1) sites.old.items }
     ensures places { OnOk result (AreBetween 0 (property + 1) sites.new.items) }
-    ensures sites { OnOk result (map (site_of prepared.now) sites.new.items ≡ map (site_of prepared.now) sites.old.items ++ sites_in (all_phandles prepared.now) (key_at prepared.now property).path (key_at prepared.now property).name 0 (founds_of (node_path prepared.now.live) value.now targets.now)) }
+    ensures sites { OnOk result (PutsAll prepared.now property value.now targets.now sites.old.items sites.new.items) }
 {
     let mut used = 0;
     let mut offset = 0;

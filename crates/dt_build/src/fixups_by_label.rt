@@ -1,7 +1,7 @@
 //! A plugin's fixups by label.
 ghost use Rattle.std.specs.Prelude.{◌≡◌, ◌<◌, ◌-◌, ◌^◌, ◌++◌, [], IfOk, OnOk, Some, length, min};
-ghost use Rattle.dt_meaning.specs.Fixups.{appended, fixup, fixups, site_text};
-ghost use Rattle.dt_build.specs.Private.ByLabel.{AreIndexed, fixups_path, given, index_of};
+ghost use Rattle.dt_meaning.specs.Fixups.{appended, fixups, site_text};
+ghost use Rattle.dt_build.specs.Private.ByLabel.{AreIndexed, PutsSite, all_given, fixups_path, index_of};
 ghost use Rattle.dt_build.specs.Private.Made.{made_sites};
 ghost use Rattle.dt_build.specs.Private.Ready.{IsReady};
 ghost use Rattle.dt_build.specs.Private.FixupSites.{AreSites, site_of};
@@ -93,7 +93,7 @@ fn index_of_label<'d>(
 ) -> Result<usize, AllocError>
     requires { AreIndexed by_label.old }
     ensures indexed { OnOk result (AreIndexed by_label.new) }
-    ensures given { OnOk result (given by_label.new.labels.items ≡ appended fixups_path label.now [] (given by_label.old.labels.items)) }
+    ensures given { OnOk result (all_given by_label.new ≡ appended fixups_path label.now [] (all_given by_label.old)) }
     ensures slot { IfOk result (λ slot. index_of label.now by_label.new.labels.items ≡ Some slot) }
     ensures within { IfOk result (λ slot. slot < length by_label.new.labels.items) }
 {
@@ -141,7 +141,7 @@ fn put_text<'d>(
     requires place { site.property < length prepared.now.in_preorder.properties.items }
     requires indexed { AreIndexed by_label.old }
     ensures indexed { OnOk result (AreIndexed by_label.new) }
-    ensures given { OnOk result (given by_label.new.labels.items ≡ fixup (site_of prepared.now site.entry).label (site_of prepared.now site.entry) (given by_label.old.labels.items)) }
+    ensures given { OnOk result (PutsSite prepared.now site.entry by_label.old by_label.new) }
 {
     let label = match site.reference {
         Some(reference) => label_of(reference),
@@ -160,7 +160,7 @@ pub(crate) fn collect_by_label<'d>(
 ) -> Result<FixupsByLabel<'d>, AllocError>
     requires ready { IsReady prepared.now }
     requires sites { AreSites prepared.now sites.now }
-    ensures { IfOk result (λ by_label. given by_label.labels.items ≡ fixups (made_sites prepared.now) []) }
+    ensures { IfOk result (λ by_label. all_given by_label ≡ fixups (made_sites prepared.now) []) }
 {
     let sizes = label_sizes(alloc, prepared, sites)?;
     let mut by_label = FixupsByLabel {

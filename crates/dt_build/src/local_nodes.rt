@@ -1,17 +1,13 @@
 //! The local fixups of a plugin's nodes below the root's child `__local_fixups__`.
-ghost use Rattle.std.specs.Prelude.{◌≡◌, ◌≤◌, ◌<◌, ◌+◌, ◌||◌, ℕ, [], true, false, All, IfOk, OnOk, length, map, replicate, slice_index_or};
+ghost use Rattle.std.specs.Prelude.{◌≡◌, ◌≤◌, ◌<◌, ◌+◌, [], true, false, IfOk, OnOk, length, map, replicate};
 ghost use Rattle.std.specs.List.{list_any};
-ghost use Rattle.dt_meaning.specs.Paths.{is_listed};
-ghost use Rattle.dt_meaning.specs.References.{held};
-ghost use Rattle.dt_meaning.specs.Resolved.{fronts, is_too_deep, names_taken};
-ghost use Rattle.dt_live.specs.Rows.{is_standing, node_path};
+ghost use Rattle.dt_meaning.specs.Resolved.{is_too_deep, names_taken};
 ghost use Rattle.dt_edit.specs.Said.{tree_of};
-ghost use Rattle.dt_tree_builder.specs.Lists.{defined_at};
 ghost use Rattle.dt_tree_builder.specs.Builders.{built_lists};
 ghost use Rattle.dt_tree_builder.specs.Standing.{walked};
 ghost use Rattle.dt_build.specs.Private.Made.{fixup_lists, lists as lists_of};
-ghost use Rattle.dt_build.specs.Private.FixupSites.{AreSites, key_at};
-ghost use Rattle.dt_build.specs.Private.LocalFixups.{AreListsFrom, AreMadeTo, AreMarks, IsAtNode, local_definitions, local_path};
+ghost use Rattle.dt_build.specs.Private.FixupSites.{AreSites};
+ghost use Rattle.dt_build.specs.Private.LocalFixups.{AreListsFrom, AreMadeTo, AreMarks, ArePlaced, IsAtNode, ListsNodes, MarksNode, MarksNodes};
 ghost use Rattle.dt_build.specs.Private.Ready.{IsReady};
 
 use crate::fixup_sites::FixupSite;
@@ -28,7 +24,7 @@ fn mark(marks: &mut Vec<bool>, prepared: &Prepared<'_, '_>, node: usize)
     requires node { IsAtNode prepared.now node }
     requires count { length marks.old.items ≡ length prepared.now.live.nodes.items + 1 }
     ensures count { length marks.new.items ≡ length marks.old.items }
-    ensures marks { (k : ℕ) → is_standing prepared.now.live k ≡ true → slice_index_or marks.new.items k false ≡ (slice_index_or marks.old.items k false || is_listed (node_path prepared.now.live k) (fronts (node_path prepared.now.live node))) }
+    ensures marks { MarksNode prepared.now node marks.old.items marks.new.items }
 {
     let rows = prepared.live.nodes();
     let mut at = node;
@@ -45,9 +41,9 @@ fn local_marks(
     locals: &[LocalFixup],
 ) -> Result<Vec<bool>, AllocError>
     requires ready { IsReady prepared.now }
-    requires places { All (λ x. x.property < length prepared.now.in_preorder.properties.items) locals.now }
+    requires places { ArePlaced prepared.now locals.now }
     ensures count { IfOk result (λ marks. length marks.items ≡ length prepared.now.live.nodes.items + 1) }
-    ensures marks { IfOk result (λ marks. (k : ℕ) → is_standing prepared.now.live k ≡ true → slice_index_or marks.items k false ≡ list_any (λ x. is_listed (node_path prepared.now.live k) (fronts (key_at prepared.now x.property).path)) locals.now) }
+    ensures marks { IfOk result (λ marks. MarksNodes prepared.now locals.now marks.items) }
 {
     let mut marks = vec![in alloc; false; prepared.live.nodes().len() + 1]?;
     for one in locals {
@@ -75,9 +71,9 @@ fn local_lists(
     locals: Vec<LocalFixup>,
 ) -> Result<Vec<Vec<Property>>, AllocError>
     requires ready { IsReady prepared.now }
-    requires places { All (λ x. x.property < length prepared.now.in_preorder.properties.items) locals.items }
+    requires places { ArePlaced prepared.now locals.items }
     ensures count { IfOk result (λ lists. length lists.items ≡ length prepared.now.live.nodes.items + 1) }
-    ensures lists { IfOk result (λ lists. (k : ℕ) → is_standing prepared.now.live k ≡ true → defined_at (local_path (node_path prepared.now.live k)) (slice_index_or (map (λ list. list.items) lists.items) k []) ≡ held (local_definitions prepared.now locals.items) (local_path (node_path prepared.now.live k))) }
+    ensures lists { IfOk result (λ lists. ListsNodes prepared.now locals.items (map (λ list. list.items) lists.items)) }
 {
     let mut lists = empty_lists(alloc, prepared.live.nodes().len() + 1)?;
     for one in locals {

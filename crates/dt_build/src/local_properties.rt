@@ -1,10 +1,7 @@
 //! A plugin's local fixups: for each property with phandles of the source's own, their offsets.
-ghost use Rattle.std.specs.Prelude.{◌≡◌, ◌<◌, ◌+◌, [], All, IfOk, OnOk, length};
-ghost use Rattle.dt_meaning.specs.Fixups.{local_fixup, local_fixups};
-ghost use Rattle.dt_resolve.specs.declared.prepared.Prepared.{Prepared};
-ghost use Rattle.dt_build.specs.Private.Made.{made_sites};
-ghost use Rattle.dt_build.specs.Private.FixupSites.{AreSites, site_of};
-ghost use Rattle.dt_build.specs.Private.LocalFixups.{AreBelow, ends_with, local_definitions, places};
+ghost use Rattle.std.specs.Prelude.{◌≡◌, ◌+◌, IfOk, OnOk};
+ghost use Rattle.dt_build.specs.Private.FixupSites.{AreSites};
+ghost use Rattle.dt_build.specs.Private.LocalFixups.{AreBelow, ArePlaced, PutsLocal, all_local, ends_with, local_definitions, places};
 ghost use Rattle.dt_build.specs.Private.Ready.{IsReady};
 
 use crate::fixup_sites::FixupSite;
@@ -36,7 +33,7 @@ fn put_local(
 ) -> Result<(), AllocError>
     requires places { AreBelow (site.property + 1) (places locals.old.items) }
     ensures places { OnOk result (AreBelow (site.entry.property + 1) (places locals.new.items)) }
-    ensures all { (p : Prepared) → IsReady p → site.entry.property < length p.in_preorder.properties.items → OnOk result (local_definitions p locals.new.items ≡ local_fixup (site_of p site.entry).label (site_of p site.entry) (local_definitions p locals.old.items)) }
+    ensures all { OnOk result (PutsLocal site.entry locals.old.items locals.new.items) }
 {
     if site.reference.is_some() {
         return Ok(());
@@ -62,8 +59,8 @@ pub(crate) fn local_properties(
 ) -> Result<Vec<LocalFixup>, AllocError>
     requires ready { IsReady prepared.now }
     requires sites { AreSites prepared.now sites.now }
-    ensures all { IfOk result (λ xs. local_definitions prepared.now xs.items ≡ local_fixups (made_sites prepared.now) []) }
-    ensures places { IfOk result (λ xs. All (λ x. x.property < length prepared.now.in_preorder.properties.items) xs.items) }
+    ensures all { IfOk result (λ xs. local_definitions prepared.now xs.items ≡ all_local prepared.now) }
+    ensures places { IfOk result (λ xs. ArePlaced prepared.now xs.items) }
 {
     let _prepared = prepared;
     let mut locals = Vec::new(alloc);

@@ -1,6 +1,6 @@
 //! The phandle of each node.
-ghost use Rattle.std.specs.Prelude.{◌≡◌, ◌<◌, ℕ, All, length, slice_index_or, IfOk};
-ghost use Rattle.dt_build.specs.Private.FirstPhandle.{first_phandle};
+ghost use Rattle.std.specs.Prelude.{◌≡◌, ◌<◌, All, length, IfOk};
+ghost use Rattle.dt_build.specs.Private.FirstPhandle.{PutsPhandles};
 ghost use Rattle.dt_build.specs.Private.NodePhandles.{AreNodePhandles};
 ghost use Rattle.dt_build.specs.Private.Ready.{IsReady};
 
@@ -18,7 +18,7 @@ pub(crate) struct NodePhandles {
 fn put_phandles(phandles: &mut Vec<u32>, list: &[NodePhandle])
     requires { All (λ x. x.node < length phandles.old.items) list.now }
     ensures count { length phandles.new.items ≡ length phandles.old.items }
-    ensures list { (n : ℕ) → slice_index_or phandles.new.items n 0 ≡ first_phandle list.now n (slice_index_or phandles.old.items n 0) }
+    ensures list { PutsPhandles list.now phandles.old.items phandles.new.items }
 {
     let mut left = list.len();
     'back: while left > 0 {

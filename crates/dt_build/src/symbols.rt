@@ -1,16 +1,13 @@
 //! The labels of a tree, as properties of the root's child `__symbols__`.
 ghost use Rattle.std.specs.Prelude.{◌≡◌, ◌∷◌, ◌-◌, ◌^◌, [], true, false, map, IfOk, min};
 ghost use Rattle.dt_tree.specs.Name.{is_name};
-ghost use Rattle.dt_meaning.specs.Edits.{labelled_at};
-ghost use Rattle.dt_meaning.specs.Names.{symbols_name};
 ghost use Rattle.dt_meaning.specs.Resolved.{names_taken, symbol};
-ghost use Rattle.dt_live.specs.Rows.{IsLiveTree, IsNode, node_path};
+ghost use Rattle.dt_live.specs.Rows.{IsLiveTree, IsNode};
 ghost use Rattle.dt_edit.specs.Said.{tree_of};
-ghost use Rattle.dt_tree_builder.specs.Lists.{defined_at};
 ghost use Rattle.dt_tree_builder.specs.Builders.{built_lists};
 ghost use Rattle.dt_tree_builder.specs.Standing.{walked};
 ghost use Rattle.dt_tree_builder.specs.Sizes.{size_in};
-ghost use Rattle.dt_build.specs.Private.Made.{plain_lists, symbol_lists};
+ghost use Rattle.dt_build.specs.Private.Made.{as_symbols, plain_lists, symbol_at, symbol_lists};
 ghost use Rattle.dt_build.specs.Private.Ready.{IsReady};
 
 use dt_live::{LabelRow, LiveTree, append_path, path_size};
@@ -29,7 +26,7 @@ fn symbol_of<'t>(
     requires sound { IsLiveTree live.now }
     requires known { IsNode live.now row.now.node }
     requires named { is_name row.now.label.now ≡ true }
-    ensures { IfOk result (λ made. defined_at (symbols_name ∷ []) (made ∷ []) ≡ symbol (labelled_at row.now.label.now (node_path live.now row.now.node)) ∷ []) }
+    ensures { IfOk result (λ made. as_symbols (made ∷ []) ≡ symbol_at live.now row.now ∷ []) }
 {
     let nodes = live.nodes();
     let mut value = Vec::with_capacity(alloc, path_size(nodes, row.node))?;
@@ -43,7 +40,7 @@ fn symbol_of<'t>(
 // The labels of nodes that stand, in order of definition.
 fn symbols_of(alloc: Global, prepared: &Prepared<'_, '_>) -> Result<Vec<Property>, AllocError>
     requires { IsReady prepared.now }
-    ensures { IfOk result (λ made. defined_at (symbols_name ∷ []) made.items ≡ map symbol (tree_of prepared.now.live).labels) }
+    ensures { IfOk result (λ made. as_symbols made.items ≡ map symbol (tree_of prepared.now.live).labels) }
 {
     let live = &prepared.live;
     let mut symbols = Vec::new(alloc);

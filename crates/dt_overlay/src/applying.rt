@@ -82,32 +82,6 @@ fn root_within<'d>(
 // fragments comes first.
 fn merged_root<'s, 't>(
     alloc: Global,
-    live: &mut LiveTree<'s, &'s [u8]>,
-    patched: &'s PatchedOverlay<'t>,
-    additions: &'s Additions<'t>,
-    limit: usize,
-) -> Result<Option<Node>, OverlayError>
-    requires base { IsWhole live.old }
-    requires nodes { AreNodes (lists live.old).nodes }
-    requires patched { IsPatched patched.now }
-    requires ordered { IsOrdered patched.now.live }
-    requires fragments { AreItsFragments live.old patched.now additions.now.list.items }
-    requires symbols { AreItsSymbols live.old patched.now limit additions.now.symbols }
-    ensures { AnswersRoot (applied_rows live.old patched.now) limit result }
-{
-    merge_fragments(alloc, live, patched, additions.list.as_slice())?;
-    let symbols = match &additions.symbols {
-        Some(symbols) => symbols.as_slice(),
-        None => return Ok(None),
-    };
-    put_symbols(live, symbols)?;
-    let root = root_within(alloc, live, limit)?;
-    Ok(root)
-}
-
-// The same with rows that live as long as what is put there.
-fn rows_root<'s, 't>(
-    alloc: Global,
     rows: LiveTree<'s, &'s [u8]>,
     patched: &'s PatchedOverlay<'t>,
     additions: &'s Additions<'t>,
@@ -122,9 +96,14 @@ fn rows_root<'s, 't>(
     ensures { AnswersRoot (applied_rows rows.entry patched.now) limit result }
 {
     let mut live = rows;
-    let root = merged_root(alloc, &mut live, patched, additions, limit);
-    drop(live);
-    root
+    merge_fragments(alloc, &mut live, patched, additions.list.as_slice())?;
+    let symbols = match &additions.symbols {
+        Some(symbols) => symbols.as_slice(),
+        None => return Ok(None),
+    };
+    put_symbols(&mut live, symbols)?;
+    let root = root_within(alloc, &live, limit)?;
+    Ok(root)
 }
 
 // The root of the base with what a patched overlay puts there, or None where its values are too long.
@@ -141,7 +120,7 @@ fn patched_root<'t>(
     ensures { AnswersRoot (applied_rows rows.entry patched.now) limit result }
 {
     match find_additions(alloc, &rows, patched, limit) {
-        Ok(additions) => rows_root(alloc, rows, patched, &additions, limit),
+        Ok(additions) => merged_root(alloc, rows, patched, &additions, limit),
         Err(refused) => {
             drop(rows);
             Err(OverlayError::from(refused))

@@ -7,8 +7,12 @@ use Rattle.std.specs.Str.{bytes_eq}
 use Rattle.dt_meaning.specs.Names.{fixups_name}
 use Rattle.dt_meaning.specs.Paths.{Path}
 use Rattle.dt_meaning.specs.Edits.{Definition, definition}
+use Rattle.dt_meaning.specs.Fixups.{fixups}
+use Rattle.dt_resolve.specs.declared.prepared.Prepared.{Prepared}
+use Rattle.dt_build.specs.declared.fixup_sites.FixupSite.{FixupSite}
 use Rattle.dt_build.specs.declared.fixups_by_label.LabelFixups.{LabelFixups}
 use Rattle.dt_build.specs.declared.fixups_by_label.FixupsByLabel.{FixupsByLabel}
+use Rattle.dt_build.specs.Private.FixupSites.{site_of}
 
 abbrev pub fixups_path : Path
 fixups_path = fixups_name ∷ []
@@ -17,6 +21,13 @@ fixups_path = fixups_name ∷ []
 abbrev pub given : List LabelFixups → List (Definition (List ℕ))
 given [] = []
 given (g ∷ gs) = definition fixups_path g.label.now g.text.items ∷ given gs
+
+abbrev pub all_given : FixupsByLabel → List (Definition (List ℕ))
+all_given x = given x.labels.items
+
+-- a site is put among those of its label, where it has one
+abbrev pub PutsSite : Prepared → FixupSite → FixupsByLabel → FixupsByLabel → Type 0
+PutsSite p s old new = all_given new ≡ fixups (site_of p s ∷ []) (all_given old)
 
 -- the index of a label's fixups
 abbrev pub index_of : List ℕ → List LabelFixups → Option ℕ

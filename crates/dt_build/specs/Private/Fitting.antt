@@ -1,11 +1,14 @@
 -- What is made of a source that is prepared, where its values are short enough.
-use Rattle.std.specs.Prelude.{◌≡◌, ◌<◌, ◌≤◌, ◌-◌, ◌^◌, ℕ, Bool, Option, None, Some}
+use Rattle.std.specs.Prelude.{◌≡◌, ◌<◌, ◌≤◌, ◌-◌, ◌^◌, ℕ, Bool, List, Option, None, Some}
 use Rattle.dt_tree.specs.PathMap.{tree_map}
 use Rattle.dt_tree.specs.TreeData.{TreeData}
 use Rattle.dt_meaning.specs.Syntax.{Meaning}
+use Rattle.dt_meaning.specs.Edits.{Definition}
+use Rattle.dt_meaning.specs.References.{Found}
 use Rattle.dt_meaning.specs.MapOf.{tree_map_of}
 use Rattle.dt_tree_builder.specs.Sizes.{size_in}
 use Rattle.dt_resolve.specs.declared.prepared.Prepared.{Prepared}
+use Rattle.dt_resolve.specs.Prepared.{IsPrepared}
 use Rattle.dt_build.specs.Private.Made.{lists}
 
 -- the tree, which is no longer than a limit that numbers can pass
@@ -17,3 +20,7 @@ pub record IsFittingTree (symbols : Bool) (m : Meaning) (p : Prepared) (limit : 
 abbrev pub IsFitting : Bool → Meaning → Prepared → ℕ → Option TreeData → Type 0
 IsFitting symbols m p limit (Some t) = IsFittingTree symbols m p limit t
 IsFitting symbols m p limit None = (limit < size_in (lists symbols p).properties) × (limit < 2 ^ 64 - 1)
+
+-- the source was prepared, whatever its values are
+abbrev pub IsPreparedFrom : Bool → Meaning → Prepared → Type 0
+IsPreparedFrom symbols m p = (es : List (Definition (List Found))) × IsPrepared symbols m es p

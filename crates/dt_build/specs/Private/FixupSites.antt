@@ -1,20 +1,21 @@
 -- The fixup sites of a plugin in one list, which both nodes of fixups are made of (dt-object-internal, sections 1.1 and 2).
 use Rattle.std.specs.Prelude.{◌≡◌, ◌≤◌, ◌<◌, ℕ, Bool, ◌&&◌, is_none, ◌+◌, List, [], ◌∷◌, ◌++◌, length, map, drop, Option, None, Some, option_map, slice_index_or}
 use denote.Ref.{Bor}
+use Rattle.dt_source.specs.declared.tree.Part.{Part}
 use Rattle.dt_source.specs.declared.tree.Reference.{Reference}
 use Rattle.dt_meaning.specs.Names.{local_fixups_name}
 use Rattle.dt_meaning.specs.Paths.{Path}
 use Rattle.dt_meaning.specs.Edits.{Definition, definition}
 use Rattle.dt_meaning.specs.Phandles.{PathPhandle}
-use Rattle.dt_meaning.specs.Fixups.{Site, sites_in, site_text}
+use Rattle.dt_meaning.specs.Fixups.{Site, label_found, sites_in, site_text}
 use Rattle.dt_meaning.specs.Resolved.{is_too_deep}
 use Rattle.dt_live.specs.Rows.{node_path}
 use Rattle.dt_live.specs.declared.preorder.properties.NodeProperty.{NodeProperty}
 use Rattle.dt_edit.specs.Said.{Parts}
 use Rattle.dt_resolve.specs.declared.prepared.Prepared.{Prepared}
 use Rattle.dt_build.specs.declared.fixup_sites.FixupSite.{FixupSite}
-use Rattle.dt_build.specs.Private.Made.{made_sites}
-use Rattle.dt_build.specs.Private.Values.{all_uses, founds_of, label_in}
+use Rattle.dt_build.specs.Private.Made.{all_phandles, made_sites}
+use Rattle.dt_build.specs.Private.Values.{all_uses, found_of, founds_of, label_in}
 
 -- ---- one site
 abbrev pub site_with : Path → List ℕ → ℕ → Option (List ℕ) → Site
@@ -52,6 +53,17 @@ pub record AreSites (p : Prepared) (ss : List FixupSite) : Type 0 where
 abbrev pub all_left : List PathPhandle → (ℕ → Path) → List (NodeProperty Parts) → List (Option ℕ) → List Site
 all_left ns path [] ts = []
 all_left ns path (x ∷ xs) ts = sites_in ns (path x.node) x.name.now 0 (founds_of path x.value.now ts) ++ all_left ns path xs (drop (all_uses x.value.now) ts)
+
+-- ---- sites put behind others
+-- that of a part of the property at a place in preorder, where it is a phandle
+abbrev pub PutsPart : ℕ → Part → Option ℕ → ℕ → List FixupSite → List FixupSite → Type 0
+PutsPart i x t offset old new = (p : Prepared) (path : ℕ → Path)
+    → map (site_of p) new ≡ map (site_of p) old ++ map (site_with (key_at p i).path (key_at p i).name offset) (label_found (found_of path x t))
+
+-- those of its value, whose targets are the first of these
+abbrev pub PutsAll : Prepared → ℕ → List Part → List (Option ℕ) → List FixupSite → List FixupSite → Type 0
+PutsAll p i v ts old new =
+    map (site_of p) new ≡ map (site_of p) old ++ sites_in (all_phandles p) (key_at p i).path (key_at p i).name 0 (founds_of (node_path p.live) v ts)
 
 -- ---- sizes
 -- a text among the fixups of a label, or the four bytes of an offset among the local fixups

@@ -1,6 +1,6 @@
 -- A plugin's local fixups, as properties of copies of its nodes (dt-object-internal, section 2).
-use Rattle.std.specs.Prelude.{◌≡◌, ◌≤◌, ◌<◌, ◌+◌, ◌==◌, ℕ, Bool, true, false, List, [], ◌∷◌, ◌++◌, length, map, take, slice_index_or, All}
-use Rattle.std.specs.List.{filter, flat_map}
+use Rattle.std.specs.Prelude.{◌≡◌, ◌≤◌, ◌<◌, ◌+◌, ◌==◌, ◌||◌, ℕ, Bool, true, false, List, [], ◌∷◌, ◌++◌, length, map, take, slice_index_or, All}
+use Rattle.std.specs.List.{filter, flat_map, list_any}
 use Rattle.dt_meaning.specs.Names.{local_fixups_name}
 use Rattle.dt_meaning.specs.Paths.{Path, is_listed}
 use Rattle.dt_meaning.specs.Edits.{Definition, definition}
@@ -17,8 +17,10 @@ use Rattle.dt_tree_builder.specs.Builders.{built_lists, last_path}
 use Rattle.dt_tree_builder.specs.Standing.{walked}
 use Rattle.dt_edit.specs.Said.{tree_of}
 use Rattle.dt_build.specs.Private.NodePhandles.{path_at}
-use Rattle.dt_build.specs.Private.FixupSites.{key_at}
+use Rattle.dt_build.specs.Private.FixupSites.{key_at, site_of}
 use Rattle.dt_build.specs.Private.Made.{fixup_lists, made_sites}
+use Rattle.dt_build.specs.Private.Ready.{IsReady}
+use Rattle.dt_build.specs.declared.fixup_sites.FixupSite.{FixupSite}
 use Rattle.dt_build.specs.declared.local_properties.LocalFixup.{LocalFixup}
 
 -- the path of a node's local fixups
@@ -44,6 +46,15 @@ ends_with n [] = false
 ends_with n (i ∷ []) = i == n
 ends_with n (i ∷ j ∷ js) = ends_with n (j ∷ js)
 
+-- they are those of properties
+abbrev pub ArePlaced : Prepared → List LocalFixup → Type 0
+ArePlaced p xs = All (λ x. x.property < length p.in_preorder.properties.items) xs
+
+-- a site is put among them, where its phandle is of the source's own
+abbrev pub PutsLocal : FixupSite → List LocalFixup → List LocalFixup → Type 0
+PutsLocal s old new =
+    (p : Prepared) → IsReady p → s.property < length p.in_preorder.properties.items → local_definitions p new ≡ local_fixups (site_of p s ∷ []) (local_definitions p old)
+
 -- a node that stands
 pub record IsAtNode (p : Prepared) (n : ℕ) : Type 0 where
   pub known : IsNode p.live n
@@ -52,6 +63,21 @@ pub record IsAtNode (p : Prepared) (n : ℕ) : Type 0 where
 -- ---- the nodes of the local fixups
 abbrev pub all_local : Prepared → List (Definition (List ℕ))
 all_local p = local_fixups (made_sites p) []
+
+-- a node and all above it but the root are marked besides others
+abbrev pub MarksNode : Prepared → ℕ → List Bool → List Bool → Type 0
+MarksNode p n old new = (k : ℕ) → is_standing p.live k ≡ true
+    → slice_index_or new k false ≡ (slice_index_or old k false || is_listed (node_path p.live k) (fronts (node_path p.live n)))
+
+-- the nodes of some local fixups and all above them but the root are marked
+abbrev pub MarksNodes : Prepared → List LocalFixup → List Bool → Type 0
+MarksNodes p xs ms = (k : ℕ) → is_standing p.live k ≡ true
+    → slice_index_or ms k false ≡ list_any (λ x. is_listed (node_path p.live k) (fronts (key_at p x.property).path)) xs
+
+-- each node has the properties of its own of some local fixups
+abbrev pub ListsNodes : Prepared → List LocalFixup → List (List Property) → Type 0
+ListsNodes p xs ls = (k : ℕ) → is_standing p.live k ≡ true
+    → defined_at (local_path (node_path p.live k)) (slice_index_or ls k []) ≡ held (local_definitions p xs) (local_path (node_path p.live k))
 
 -- the node at a path has local fixups
 abbrev pub has_local : Prepared → Path → Bool

@@ -1,13 +1,19 @@
 -- What is made of a source that is prepared.
-use Rattle.std.specs.Prelude.{ℕ, Bool, List, [], ◌++◌, map, Result, Ok, Err}
+use Rattle.std.specs.Prelude.{ℕ, Bool, List, [], ◌∷◌, ◌++◌, map, Result, Ok, Err}
+use Rattle.dt_tree.specs.declared.property.Property.{Property}
+use Rattle.dt_meaning.specs.Names.{symbols_name}
 use Rattle.dt_meaning.specs.Paths.{Path}
-use Rattle.dt_meaning.specs.Edits.{Definition}
+use Rattle.dt_meaning.specs.Edits.{Definition, labelled_at}
 use Rattle.dt_meaning.specs.Statements.{Fault}
 use Rattle.dt_meaning.specs.References.{Found, held, references}
 use Rattle.dt_meaning.specs.Phandles.{PathPhandle}
 use Rattle.dt_meaning.specs.Fixups.{Site, sites, fixups, local_fixups}
 use Rattle.dt_meaning.specs.Resolved.{Resolved, with_bytes, with_more, when, symbol, phandle_property}
-use Rattle.dt_edit.specs.Said.{tree_of}
+use Rattle.dt_tree_builder.specs.Lists.{defined_at}
+use Rattle.dt_live.specs.declared.live_tree.LabelRow.{LabelRow}
+use Rattle.dt_live.specs.declared.live_tree.LiveTree.{LiveTree}
+use Rattle.dt_live.specs.Rows.{node_path}
+use Rattle.dt_edit.specs.Said.{Parts, tree_of}
 use Rattle.dt_resolve.specs.declared.prepared.Prepared.{Prepared}
 use Rattle.dt_resolve.specs.NodePhandles.{path_phandle_of}
 
@@ -43,6 +49,13 @@ own p q = held (made_properties p) q
 -- the tree without symbols
 abbrev pub plain_lists : Prepared → Resolved
 plain_lists p = record { nodes = (tree_of p.live).nodes; properties = made_properties p }
+
+-- the labels' properties, and that of one label
+abbrev pub as_symbols : List Property → List (Definition (List ℕ))
+as_symbols ps = defined_at (symbols_name ∷ []) ps
+
+abbrev pub symbol_at : LiveTree Parts → LabelRow → Definition (List ℕ)
+symbol_at d row = symbol (labelled_at row.label.now (node_path d row.node))
 
 -- the tree with symbols, where they are wanted
 abbrev pub symbol_lists : Bool → Prepared → Resolved

@@ -13,7 +13,7 @@ use Rattle.dt_overlay.proofs.applying.merged_root.Goals as goal
 
 pub returns-in-None : goal.returns-in-None
 returns-in-None c =
-    let base = lists c.args.live.now in
+    let base = lists c.args.rows in
     let s = c.args.patched.now in
     let es = symbols_of base (patched_lists s) in
     let longer = subst (λ (o : Option (Vec Symbol Global)). AreSymbols es c.args.limit o) c.in-None.is c.requires.symbols in
@@ -22,13 +22,13 @@ returns-in-None c =
 
 pub put_symbols-requires-clause-named : goal.put_symbols-requires-clause-named
 put_symbols-requires-clause-named c =
-    let es = symbols_of (lists c.args.live.now) (patched_lists c.args.patched.now) in
+    let es = symbols_of (lists c.args.rows) (patched_lists c.args.patched.now) in
     let made = subst (λ (o : Option (Vec Symbol Global)). AreSymbols es c.args.limit o) c.in-Some.is c.requires.symbols in
     subst (λ (xs : List Symbol). All (λ x. is_name x.name.now ≡ true) xs) (sym c.as_slice-symbols.ensures.value) made.1
 
 pub root_within-requires-clause-nodes : goal.root_within-requires-clause-nodes
 root_within-requires-clause-nodes c =
-    let base = lists c.args.live.now in
+    let base = lists c.args.rows in
     let over = patched_lists c.args.patched.now in
     let es = symbols_of base over in
     let d = c.put_symbols.new.live in
@@ -40,7 +40,7 @@ root_within-requires-clause-nodes c =
 
 pub returns : goal.returns
 returns c =
-    let base = lists c.args.live.now in
+    let base = lists c.args.rows in
     let over = patched_lists c.args.patched.now in
     let es = symbols_of base over in
     let d = c.put_symbols.new.live in

@@ -1,5 +1,4 @@
-use Rattle.std.proofs.Common.{subst}
-use Rattle.std.proofs.Common.{◌≡◌}
+use Rattle.std.proofs.Common.{◌≡◌, subst}
 use Rattle.std.specs.Prelude.{MatchResult, Ok}
 use Rattle.dt_meaning.specs.Resolved.{Resolved}
 use Rattle.dt_live.specs.Flattened.{lists}

@@ -1,8 +1,7 @@
-use Rattle.std.proofs.Common.{◌≡◌, ◌≤◌, [], ◌∷◌, ◌++◌, length, subst, sym, rules}
+use Rattle.std.proofs.Common.{◌≡◌, ◌≤◌, [], ◌∷◌, ◌++◌, length, subst, sym, rules, List}
 use Rattle.dt_tree.specs.Path.{behind_slashes, text_or_root}
 use Rattle.dt_live.specs.declared.live_tree.NodeRow.{NodeRow}
 use Rattle.dt_live.specs.Rows.{path_of}
-use Rattle.std.proofs.Common.{List}
 use Rattle.dt_overlay.proofs.symbols.symbol_of.Goals as goal
 
 pub symbol_text-requires-clause-known : goal.symbol_text-requires-clause-known
