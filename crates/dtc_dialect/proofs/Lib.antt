@@ -14,6 +14,7 @@ mod Lines
 mod Markers
 mod PathNames
 mod RowLists
+mod Saying
 mod TableSteps
 mod TokenFirsts
 mod TokenKinds
