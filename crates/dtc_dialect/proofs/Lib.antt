@@ -20,6 +20,7 @@ mod Orders
 mod PathNames
 mod RowChains
 mod RowLists
+mod Saying
 mod TableSteps
 mod TokenFirsts
 mod TokenKinds

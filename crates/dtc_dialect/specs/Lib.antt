@@ -14,6 +14,7 @@ pub mod Phandles
 pub mod Preorder
 pub mod Private
 pub mod References
+pub mod Said
 pub mod Statements
 pub mod Stops
 pub mod Table

@@ -20,6 +20,7 @@ mod places;
 mod preorder;
 mod printer;
 mod printing;
+mod properties;
 mod reader;
 mod references;
 mod rewriting;

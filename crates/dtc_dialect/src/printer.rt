@@ -1,8 +1,8 @@
 //! Text that is put behind other text, with its places.
-ghost use Rattle.std.specs.Prelude.{◌≡◌, OnOk};
+ghost use Rattle.std.specs.Prelude.{◌≡◌, OnOk, []};
 ghost use Rattle.std.specs.Fmt.{decimal};
 ghost use Rattle.dtc_dialect.specs.Copied.{Between, marker_line};
-ghost use Rattle.dtc_dialect.specs.Private.Printed.{Puts, PutsAll};
+ghost use Rattle.dtc_dialect.specs.Private.Printed.{Prints, PrintsText};
 
 use crate::bytes::line_ends;
 use crate::inclusion::MAX_TEXT;
@@ -22,7 +22,9 @@ pub(crate) struct Printer<'t> {
 }
 
 impl<'t> Printer<'t> {
-    pub fn new(alloc: Global, asked: Option<Span>) -> Printer<'t> {
+    pub fn new(alloc: Global, asked: Option<Span>) -> Printer<'t>
+        ensures { result.text.items ≡ [] }
+    {
         Printer {
             text: Vec::new(alloc),
             watch: match asked {
@@ -45,7 +47,7 @@ impl<'t> Printer<'t> {
 
     /// Puts bytes behind the text, unless that is longer already than any that is compiled.
     pub fn put(&mut self, bytes: &[u8]) -> Result<(), AllocError>
-        ensures { OnOk result (PutsAll self.old self.new bytes.now) }
+        ensures { OnOk result (PrintsText self.old self.new bytes.now) }
     {
         if self.text.len() > MAX_TEXT {
             return Ok(());
@@ -57,7 +59,7 @@ impl<'t> Printer<'t> {
 
     /// Puts a number in decimal behind the text.
     pub fn put_number(&mut self, alloc: Global, number: u64) -> Result<(), AllocError>
-        ensures { OnOk result (PutsAll self.old self.new (decimal number)) }
+        ensures { OnOk result (PrintsText self.old self.new (decimal number)) }
     {
         let digits = format!(in alloc; "{number}")?;
         self.put(digits.as_bytes())
@@ -65,7 +67,7 @@ impl<'t> Printer<'t> {
 
     /// What is put next stands at a place; where it stands there already, a blank at most is put in between.
     pub fn move_to(&mut self, alloc: Global, place: Place<'t>, gap: bool) -> Result<(), AllocError>
-        ensures { OnOk result (Puts self.old self.new (Between gap)) }
+        ensures { OnOk result (Prints self.old self.new (Between gap)) }
     {
         let ahead = place.line.saturating_sub(self.place.line);
         let is_behind = place.line < self.place.line;
@@ -83,7 +85,7 @@ impl<'t> Printer<'t> {
 
     /// Puts a line marker.
     fn mark(&mut self, alloc: Global, place: Place<'t>) -> Result<(), AllocError>
-        ensures { OnOk result (PutsAll self.old self.new (marker_line place.entry.line place.entry.file.now)) }
+        ensures { OnOk result (PrintsText self.old self.new (marker_line place.entry.line place.entry.file.now)) }
     {
         self.put(b"\n# ")?;
         self.put_number(alloc, place.line as u64)?;

@@ -1,18 +1,20 @@
 //! The table said as one body in the profile: what is there, in dtc's order.
-ghost use Rattle.std.specs.Prelude.{◌≡◌, OnOk, codes, is_some, option_map, true};
-ghost use Rattle.dtc_dialect.specs.declared.token.Kind.TheVariants.{Reference};
-ghost use Rattle.dtc_dialect.specs.Copied.{Copied, IsWord, is_character, name_text, path_of, phandle_text, target_text};
-ghost use Rattle.dtc_dialect.specs.Private.Printed.{IsSaidOf, IsValueOf, Puts, PutsAll, PutsCharacter, PutsEnd, known_of};
+ghost use Rattle.std.specs.Prelude.{◌≡◌, ◌-◌, IfOk, OnOk, option_map, slice_get};
+ghost use Rattle.std.specs.List.{flat_map};
+ghost use Rattle.dtc_dialect.specs.Copied.{name_text, path_of, phandle_text, target_text};
+ghost use Rattle.dtc_dialect.specs.Private.Printed.{Prints, PrintsRoot, PrintsText, bodies_of};
+ghost use Rattle.dtc_dialect.specs.Said.{AreNodes, AreReserved, IsBegin, IsNode, IsPrinted, IsSource};
+ghost use Rattle.dtc_dialect.specs.Said.{ends, header_text, known_of, label_text, root_label, root_text};
 
-use crate::bytes::{behind, front};
-use crate::character::character;
+use crate::bytes::front;
 use crate::edits::Edited;
-use crate::error::{DialectError, Mistake, refused};
-use crate::numbers::{Cells, Known, Numbers, View};
+use crate::error::DialectError;
+use crate::numbers::{Known, Numbers, View};
 use crate::preorder::{Stop, part};
 use crate::printer::Printer;
-use crate::table::{NodeRow, PropertyRow, ROOT};
-use crate::token::{Kind, Place, Span, Token};
+use crate::properties::{known, put_end, put_properties, put_tokens};
+use crate::table::{LabelRow, NodeRow, ROOT, Tokens};
+use crate::token::{Place, Span, Token};
 use crate::watch::{Texts, Word};
 use std::alloc::Global;
 
@@ -37,20 +39,10 @@ pub(crate) fn print_source<'t>(
     user: &'t [u8],
     source: &Edited<'t>,
     what: Printed<'_, 't>,
-) -> Result<Said<'t>, DialectError<'t>> {
-    let mut printer = Printer::new(alloc, what.asked);
-    printer.put(b"/dts-v1/;")?;
-    if source.is_plugin {
-        printer.put(b" /plugin/;")?;
-    }
-    for reserve in source.reserves.iter() {
-        put_tokens(alloc, &mut printer, what, part(what.view.tokens, *reserve))?;
-        put_end(alloc, &mut printer, what, reserve.end)?;
-    }
-    put_nodes(alloc, &mut printer, what)?;
-    put_root_labels(alloc, &mut printer, what)?;
-    printer.put(b"\n")?;
-    let Printer { text, watch, .. } = printer;
+) -> Result<Said<'t>, DialectError<'t>>
+    ensures { IfOk result (λ said. IsPrinted what.entry source.now said.text.items) }
+{
+    let Printer { text, watch, .. } = put_whole(alloc, source, what)?;
     let asked = match watch {
         Some(watch) => watch.place(Texts {
             user,
@@ -62,22 +54,57 @@ pub(crate) fn print_source<'t>(
     Ok(Said { text, asked })
 }
 
-/// Puts the semicolon that is a token.
-fn put_end<'t>(
+fn put_whole<'t>(
+    alloc: Global,
+    source: &Edited<'t>,
+    what: Printed<'_, 't>,
+) -> Result<Printer<'t>, DialectError<'t>>
+    ensures { IfOk result (λ printer. IsPrinted what.entry source.now printer.text.items) }
+{
+    let mut printer = Printer::new(alloc, what.asked);
+    put_source(alloc, &mut printer, source, what)?;
+    Ok(printer)
+}
+
+fn put_source<'t>(
+    alloc: Global,
+    printer: &mut Printer<'t>,
+    source: &Edited<'t>,
+    what: Printed<'_, 't>,
+) -> Result<(), DialectError<'t>>
+    ensures { OnOk result (Prints printer.old printer.new (IsSource what.entry source.now)) }
+{
+    put_header(printer, source.is_plugin)?;
+    put_reserves(alloc, printer, what, source.reserves.as_slice())?;
+    put_nodes(alloc, printer, what, what.view.preorder.stops.as_slice())?;
+    put_root_labels(alloc, printer, what)?;
+    printer.put(b"\n")?;
+    Ok(())
+}
+
+fn put_header<'t>(printer: &mut Printer<'t>, is_plugin: bool) -> Result<(), DialectError<'t>>
+    ensures { OnOk result (PrintsText printer.old printer.new (header_text is_plugin)) }
+{
+    if is_plugin {
+        printer.put(b"/dts-v1/; /plugin/;")?;
+        return Ok(());
+    }
+    printer.put(b"/dts-v1/;")?;
+    Ok(())
+}
+
+fn put_reserves<'t>(
     alloc: Global,
     printer: &mut Printer<'t>,
     what: Printed<'_, 't>,
-    token: usize,
+    reserves: &[Tokens],
 ) -> Result<(), DialectError<'t>>
-    ensures { OnOk result (PutsEnd printer.old printer.new) }
+    ensures { OnOk result (Prints printer.old printer.new (AreReserved what.entry reserves.now)) }
 {
-    let Some(token) = what.view.tokens.get(token) else {
-        printer.put(b";")?;
-        return Ok(());
-    };
-    printer.move_to(alloc, token.place, false)?;
-    printer.note(Word::At(token.place));
-    printer.put(b";")?;
+    for reserve in reserves {
+        put_tokens(alloc, printer, what, part(what.view.tokens, *reserve))?;
+        put_end(alloc, printer, what, reserve.end)?;
+    }
     Ok(())
 }
 
@@ -85,19 +112,42 @@ fn put_nodes<'t>(
     alloc: Global,
     printer: &mut Printer<'t>,
     what: Printed<'_, 't>,
-) -> Result<(), DialectError<'t>> {
-    let mut open = 0;
-    for stop in what.view.preorder.stops.iter() {
-        close(printer, open, stop.depth)?;
+    stops: &[Stop],
+) -> Result<(), DialectError<'t>>
+    ensures { OnOk result (Prints printer.old printer.new (AreNodes what.entry 0 stops.now)) }
+{
+    let mut last = None;
+    for stop in stops {
+        close(printer, last, stop.depth)?;
         put_node(alloc, printer, what, stop)?;
-        open = stop.depth.saturating_add(1);
+        last = Some(stop.depth);
     }
-    close(printer, open, 0)
+    close(printer, last, 0)
 }
 
-/// Ends the bodies that are deeper.
-fn close<'t>(printer: &mut Printer<'t>, open: usize, depth: usize) -> Result<(), DialectError<'t>> {
-    for _ in depth..open {
+/// Ends the bodies that are as deep or deeper, down to the last node's.
+fn close<'t>(
+    printer: &mut Printer<'t>,
+    last: Option<usize>,
+    depth: usize,
+) -> Result<(), DialectError<'t>>
+    ensures { OnOk result (PrintsText printer.old printer.new (ends (bodies_of last - depth))) }
+{
+    let Some(last) = last else {
+        return Ok(());
+    };
+    if last < depth {
+        return Ok(());
+    }
+    put_ends(printer, last - depth)?;
+    printer.put(b" };")?;
+    Ok(())
+}
+
+fn put_ends<'t>(printer: &mut Printer<'t>, bodies: usize) -> Result<(), DialectError<'t>>
+    ensures { OnOk result (PrintsText printer.old printer.new (ends bodies)) }
+{
+    for _ in 0..bodies {
         printer.put(b" };")?;
     }
     Ok(())
@@ -108,35 +158,52 @@ fn put_node<'t>(
     printer: &mut Printer<'t>,
     what: Printed<'_, 't>,
     stop: &Stop,
-) -> Result<(), DialectError<'t>> {
-    let Some(row) = what.view.table.nodes.get(stop.node) else {
+) -> Result<(), DialectError<'t>>
+    ensures { OnOk result (Prints printer.old printer.new (IsNode what.entry stop.now)) }
+{
+    let Some(row) = node_row(what, stop.node) else {
         return Ok(());
     };
     printer.move_to(alloc, row.place, true)?;
-    if stop.node == ROOT {
-        printer.note(Word::At(row.place));
-        printer.put(b"/ {")?;
-    } else {
-        put_labels(alloc, printer, what, stop.node)?;
-        printer.note(Word::At(row.place));
-        put_name(alloc, printer, row)?;
-    }
-    for property in what.view.preorder.properties_of(stop) {
-        if let Some(row) = what.view.table.properties.get(*property) {
-            put_property(alloc, printer, what, row)?;
-        }
-    }
+    put_begin(alloc, printer, what, stop.node, &row)?;
+    let all = what.view.preorder.properties.as_slice();
+    put_properties(alloc, printer, what, part(all, stop.properties))?;
     put_phandle(alloc, printer, what, stop.node)
 }
 
-fn put_labels<'t>(
+fn node_row<'t>(what: Printed<'_, 't>, node: usize) -> Option<NodeRow<'t>>
+    ensures { result ≡ slice_get what.entry.view.table.now.nodes.items node }
+{
+    what.view.table.nodes.get(node).copied()
+}
+
+fn put_begin<'t>(
     alloc: Global,
     printer: &mut Printer<'t>,
     what: Printed<'_, 't>,
     node: usize,
-) -> Result<(), DialectError<'t>> {
+    row: &NodeRow<'t>,
+) -> Result<(), DialectError<'t>>
+    ensures { OnOk result (Prints printer.old printer.new (IsBegin what.entry node row.now)) }
+{
+    if node == ROOT {
+        printer.note(Word::At(row.place));
+        printer.put(b"/ {")?;
+        return Ok(());
+    }
     let labels = what.view.preorder.labels_of(alloc, what.view.table, node)?;
-    for label in labels.iter() {
+    put_labels(printer, labels.as_slice())?;
+    printer.note(Word::At(row.place));
+    put_name(alloc, printer, row)
+}
+
+fn put_labels<'t>(
+    printer: &mut Printer<'t>,
+    labels: &[LabelRow<'t>],
+) -> Result<(), DialectError<'t>>
+    ensures { OnOk result (PrintsText printer.old printer.new (flat_map label_text labels.now)) }
+{
+    for label in labels {
         printer.note(Word::Label(*label));
         printer.put(label.name)?;
         printer.put(b": ")?;
@@ -149,7 +216,7 @@ fn put_name<'t>(
     printer: &mut Printer<'t>,
     row: &NodeRow<'t>,
 ) -> Result<(), DialectError<'t>>
-    ensures { OnOk result (PutsAll printer.old printer.new (name_text row.now.name.now row.now.fragment)) }
+    ensures { OnOk result (PrintsText printer.old printer.new (name_text row.now.name.now row.now.fragment)) }
 {
     let Some(fragment) = row.fragment else {
         printer.put(row.name)?;
@@ -173,7 +240,7 @@ fn path_of(reference: &[u8]) -> Option<&[u8]>
 
 /// What a fragment refers to.
 fn put_target<'t>(printer: &mut Printer<'t>, target: &Token<'t>) -> Result<(), DialectError<'t>>
-    ensures { OnOk result (PutsAll printer.old printer.new (target_text target.now.text.now)) }
+    ensures { OnOk result (PrintsText printer.old printer.new (target_text target.now.text.now)) }
 {
     if let Some(path) = path_of(target.text) {
         printer.put(b" { ")?;
@@ -187,179 +254,6 @@ fn put_target<'t>(printer: &mut Printer<'t>, target: &Token<'t>) -> Result<(), D
     printer.note(Word::At(target.place));
     printer.put(target.text)?;
     printer.put(b">;")?;
-    Ok(())
-}
-
-fn put_property<'t>(
-    alloc: Global,
-    printer: &mut Printer<'t>,
-    what: Printed<'_, 't>,
-    row: &PropertyRow<'t>,
-) -> Result<(), DialectError<'t>>
-    ensures { OnOk result (Puts printer.old printer.new (IsSaidOf what.entry row.now)) }
-{
-    if repeats_name(what, row) {
-        return Ok(());
-    }
-    printer.move_to(alloc, row.place, true)?;
-    printer.note(Word::At(row.place));
-    printer.put(row.name)?;
-    let Some(value) = row.value else {
-        printer.put(b";")?;
-        return Ok(());
-    };
-    printer.put(b" =")?;
-    put_value(alloc, printer, what, row)?;
-    put_end(alloc, printer, what, value.end)
-}
-
-fn put_value<'t>(
-    alloc: Global,
-    printer: &mut Printer<'t>,
-    what: Printed<'_, 't>,
-    row: &PropertyRow<'t>,
-) -> Result<(), DialectError<'t>>
-    ensures { OnOk result (Puts printer.old printer.new (IsValueOf what.entry row.now)) }
-{
-    let Some(number) = asked(what, row) else {
-        return put_tokens(alloc, printer, what, what.view.value_of(row));
-    };
-    printer.put(b" <")?;
-    printer.put_number(alloc, number)?;
-    printer.put(b">")?;
-    Ok(())
-}
-
-/// Whether this is a property `name` that says its node's name once more, up to the `@`: dtc drops it.
-fn repeats_name<'t>(what: Printed<'_, 't>, row: &PropertyRow<'t>) -> bool
-    ensures { result ≡ true → row.now.name.now ≡ codes "name" }
-{
-    if row.name != b"name".as_slice() {
-        return false;
-    }
-    match (what.view.table.nodes.get(row.node), what.view.value_of(row)) {
-        (Some(node), [token]) => is_base_name(node.name, token.text),
-        _ => false,
-    }
-}
-
-/// Whether a string is a node's name without its address. It takes as long as the string, whatever the name's length.
-fn is_base_name(name: &[u8], text: &[u8]) -> bool {
-    match text {
-        [b'"', said @ .., b'"'] => {
-            front(name, said.len()) == said
-                && !said.contains(&b'@')
-                && matches!(behind(name, said.len()), [] | [b'@', ..])
-        }
-        _ => false,
-    }
-}
-
-/// The number of a property `phandle` that refers to its own node.
-fn asked<'t>(what: Printed<'_, 't>, row: &PropertyRow<'t>) -> Option<u64>
-    ensures numbered { is_some result ≡ true → is_some what.entry.numbers ≡ true }
-    ensures name { is_some result ≡ true → row.now.name.now ≡ codes "phandle" }
-{
-    let known = known(what, row.node)?;
-    if known.asks && row.name == b"phandle".as_slice() {
-        known.number
-    } else {
-        None
-    }
-}
-
-fn known(what: Printed<'_, '_>, node: usize) -> Option<Known>
-    ensures known { result ≡ known_of what.entry node }
-    ensures numbered { is_some result ≡ true → is_some what.entry.numbers ≡ true }
-{
-    what.numbers?.known.get(node).copied()
-}
-
-fn put_tokens<'t>(
-    alloc: Global,
-    printer: &mut Printer<'t>,
-    what: Printed<'_, 't>,
-    tokens: &[Token<'t>],
-) -> Result<(), DialectError<'t>>
-    ensures { OnOk result (Puts printer.old printer.new (Copied (is_some what.entry.numbers) tokens.now)) }
-{
-    let mut cells = Cells::none();
-    for token in tokens {
-        cells.step(token.kind);
-        printer.move_to(alloc, token.place, token.has_gap)?;
-        printer.note(Word::At(token.place));
-        put_word(alloc, printer, what, token, cells.are_open)?;
-    }
-    Ok(())
-}
-
-/// Puts a word as it stands, or its number.
-fn put_word<'t>(
-    alloc: Global,
-    printer: &mut Printer<'t>,
-    what: Printed<'_, 't>,
-    token: &Token<'t>,
-    in_cells: bool,
-) -> Result<(), DialectError<'t>>
-    ensures { OnOk result (Puts printer.old printer.new (IsWord (is_some what.entry.numbers) token.now)) }
-{
-    if is_character(token.kind) {
-        return put_character(alloc, printer, token);
-    }
-    match token.kind {
-        Kind::Reference if in_cells => return put_reference(alloc, printer, what, token),
-        _ => {}
-    }
-    printer.put(token.text)?;
-    Ok(())
-}
-
-fn is_character(kind: Kind) -> bool
-    ensures { result ≡ is_character kind }
-{
-    matches!(kind, Kind::Character)
-}
-
-fn put_character<'t>(
-    alloc: Global,
-    printer: &mut Printer<'t>,
-    token: &Token<'t>,
-) -> Result<(), DialectError<'t>>
-    ensures { OnOk result (PutsCharacter printer.old printer.new token.now) }
-{
-    let inside = behind(front(token.text, token.text.len().saturating_sub(1)), 1);
-    let Some(number) = character(inside) else {
-        return Err(refused(Mistake::Syntax, token.place));
-    };
-    printer.put_number(alloc, number as u64)?;
-    Ok(())
-}
-
-/// The number of the node that a reference names, where it has it by `linux,phandle` alone and numbers are written out.
-fn legacy_number<'t>(what: Printed<'_, 't>, token: &Token<'t>) -> Option<u64>
-    ensures { is_some result ≡ true → is_some what.entry.numbers ≡ true }
-{
-    let numbers = what.numbers?;
-    let node = what.view.table.referred(token.text)?;
-    let known = numbers.known.get(node)?;
-    if known.is_legacy { known.given } else { None }
-}
-
-/// A reference in cells.
-fn put_reference<'t>(
-    alloc: Global,
-    printer: &mut Printer<'t>,
-    what: Printed<'_, 't>,
-    token: &Token<'t>,
-) -> Result<(), DialectError<'t>>
-    requires { token.now.kind ≡ Reference }
-    ensures { OnOk result (Puts printer.old printer.new (IsWord (is_some what.entry.numbers) token.now)) }
-{
-    let Some(number) = legacy_number(what, token) else {
-        printer.put(token.text)?;
-        return Ok(());
-    };
-    printer.put_number(alloc, number)?;
     Ok(())
 }
 
@@ -379,7 +273,7 @@ fn put_phandle<'t>(
     what: Printed<'_, 't>,
     node: usize,
 ) -> Result<(), DialectError<'t>>
-    ensures { OnOk result (PutsAll printer.old printer.new (phandle_text (known_of what.entry node))) }
+    ensures { OnOk result (PrintsText printer.old printer.new (phandle_text (known_of what.entry node))) }
 {
     match known(what, node) {
         Some(
@@ -404,17 +298,35 @@ fn put_root_labels<'t>(
     alloc: Global,
     printer: &mut Printer<'t>,
     what: Printed<'_, 't>,
-) -> Result<(), DialectError<'t>> {
+) -> Result<(), DialectError<'t>>
+    ensures { OnOk result (PrintsRoot printer.old printer.new what.entry) }
+{
     let labels = what.view.preorder.labels_of(alloc, what.view.table, ROOT)?;
+    put_root(printer, labels.as_slice())
+}
+
+fn put_root<'t>(printer: &mut Printer<'t>, labels: &[LabelRow<'t>]) -> Result<(), DialectError<'t>>
+    ensures { OnOk result (PrintsText printer.old printer.new (root_text labels.now)) }
+{
     if labels.is_empty() {
         return Ok(());
     }
-    for label in labels.iter() {
+    put_root_names(printer, labels)?;
+    printer.put(b" &{/} { };")?;
+    Ok(())
+}
+
+fn put_root_names<'t>(
+    printer: &mut Printer<'t>,
+    labels: &[LabelRow<'t>],
+) -> Result<(), DialectError<'t>>
+    ensures { OnOk result (PrintsText printer.old printer.new (flat_map root_label labels.now)) }
+{
+    for label in labels {
         printer.put(b" ")?;
         printer.note(Word::Label(*label));
         printer.put(label.name)?;
         printer.put(b":")?;
     }
-    printer.put(b" &{/} { };")?;
     Ok(())
 }

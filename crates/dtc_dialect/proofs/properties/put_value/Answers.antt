@@ -2,7 +2,7 @@ use Rattle.std.proofs.Common.{◌++◌, codes, is_some, refl, subst}
 use Rattle.std.specs.Fmt.{decimal}
 use Rattle.dtc_dialect.specs.Copied.{Copied, asked, copied}
 use Rattle.dtc_dialect.proofs.Copying.{on-ok, put-three}
-use Rattle.dtc_dialect.proofs.printing.put_value.Goals as goal
+use Rattle.dtc_dialect.proofs.properties.put_value.Goals as goal
 
 pub returns-in_default : goal.returns-in_default
 returns-in_default c =

@@ -1,7 +1,7 @@
 use Rattle.std.proofs.Common.{[], ◌++◌, codes, is_some, refl, sym, subst}
 use Rattle.dtc_dialect.specs.Copied.{IsPut, IsSaid, bare, dropped, valued, words_of}
 use Rattle.dtc_dialect.proofs.Copying.{on-ok, put-nothing, put-three}
-use Rattle.dtc_dialect.proofs.printing.put_property.Goals as goal
+use Rattle.dtc_dialect.proofs.properties.put_property.Goals as goal
 
 pub returns-then-repeats_name : goal.returns-then-repeats_name
 returns-then-repeats_name c = ([], dropped (c.if-repeats_name.ensures refl), put-nothing c.args.printer.now.text.items)

@@ -1,6 +1,6 @@
 use Rattle.std.proofs.Common.{ℕ, List, ◌++◌, ◌≤◌, drop, is_some}
 use Rattle.dtc_dialect.specs.Copied.{Copied, IsPut}
-use Rattle.dtc_dialect.proofs.printing.put_tokens.Given as goal
+use Rattle.dtc_dialect.proofs.properties.put_tokens.Given as goal
 
 -- With what says the words that are left, the text says all. No more parentheses are open than there were words.
 abbrev pub invariant-loop-token : goal.invariant-loop-token

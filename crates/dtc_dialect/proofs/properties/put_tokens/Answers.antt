@@ -3,7 +3,7 @@ use Rattle.std.proofs.lemmas.List.{append-nil, drop_all, drop_more}
 use Rattle.dtc_dialect.specs.Copied.{Copied, IsPut, end}
 use Rattle.dtc_dialect.proofs.Copying.{put-both, put-nothing, word-more}
 use Rattle.dtc_dialect.proofs.Turns.{few-next}
-use Rattle.dtc_dialect.proofs.printing.put_tokens.Goals as goal
+use Rattle.dtc_dialect.proofs.properties.put_tokens.Goals as goal
 
 pub loop-token-init : goal.loop-token-init
 loop-token-init c = ([], λ rest copied. copied, put-nothing c.args.printer.now.text.items, omega arith)
