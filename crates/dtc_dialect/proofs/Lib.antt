@@ -13,6 +13,7 @@ mod LabelWalk
 mod Lines
 mod Markers
 mod PathNames
+pub mod Repeated
 mod RowLists
 mod Saying
 mod TableSteps
