@@ -1,5 +1,5 @@
 -- Texts that others are put behind.
-use Rattle.std.proofs.Common.{◌≡◌, ℕ, Bool, drop, Result, Ok, Err, List, [], ◌∷◌, ◌++◌, length, replicate, OnOk, sym, ap, ◌∙◌, subst, ◌+◌}
+use Rattle.std.proofs.Common.{◌≡◌, ℕ, drop, Result, Ok, Err, List, [], ◌∷◌, ◌++◌, length, replicate, OnOk, sym, ap, ◌∙◌, subst, ◌+◌}
 use Rattle.std.proofs.lemmas.List.{append_assoc, append-nil, replicate-append-replicate}
 use Rattle.std.proofs.Math.Nat.{le_refl, le_trans}
 use Rattle.dtc_dialect.specs.declared.token.Token.{Token}
@@ -25,7 +25,7 @@ put-nothing text = record { grows = le_refl (length text); is = λ short. sym (a
 pub put-line : (n : ℕ) (old text new : List ℕ) → IsPut old text (replicate n 10) → IsPut text new (10 ∷ []) → IsPut old new (replicate (n + 1) 10)
 put-line n old text new p q = subst (IsPut old new) (replicate-append-replicate n 1 10) (put-both old text new (replicate n 10) (10 ∷ []) p q)
 
-pub word-more : (numbered : Bool) (ts : List Token) (i : ℕ) (t : Token) (said gap one : List ℕ) → drop i ts ≡ t ∷ drop (i + 1) ts → Between t.has_gap gap → IsWord numbered t one
-    → ((rest : List ℕ) → Copied numbered (drop i ts) rest → Copied numbered ts (said ++ rest)) → (rest : List ℕ) → Copied numbered (drop (i + 1) ts) rest → Copied numbered ts (said ++ (gap ++ one) ++ rest)
-word-more numbered ts i t said gap one is between says so rest copied =
-    subst (Copied numbered ts) (sym (append_assoc said (gap ++ one) rest)) (so (gap ++ one ++ rest) (subst (λ us. Copied numbered us (gap ++ one ++ rest)) (sym is) (word between says copied)))
+pub word-more : (Stands : List ℕ → ℕ → Type 0) (ts : List Token) (i : ℕ) (t : Token) (said gap one : List ℕ) → drop i ts ≡ t ∷ drop (i + 1) ts → Between t.has_gap gap → IsWord Stands t one
+    → ((rest : List ℕ) → Copied Stands (drop i ts) rest → Copied Stands ts (said ++ rest)) → (rest : List ℕ) → Copied Stands (drop (i + 1) ts) rest → Copied Stands ts (said ++ (gap ++ one) ++ rest)
+word-more Stands ts i t said gap one is between says so rest copied =
+    subst (Copied Stands ts) (sym (append_assoc said (gap ++ one) rest)) (so (gap ++ one ++ rest) (subst (λ us. Copied Stands us (gap ++ one ++ rest)) (sym is) (word between says copied)))

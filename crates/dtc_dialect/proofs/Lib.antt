@@ -18,6 +18,7 @@ mod Markers
 mod OpenFiles
 mod Orders
 mod PathNames
+pub mod Repeated
 mod RowChains
 mod RowLists
 mod Saying

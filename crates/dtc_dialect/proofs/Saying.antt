@@ -1,5 +1,5 @@
 -- Items that are said one behind the other.
-use Rattle.std.proofs.Common.{◌≡◌, ℕ, zero, suc, ◌+◌, ◌-◌, ◌<◌, ◌≤◌, drop, take, get_or, List, [], ◌∷◌, ◌++◌, codes, is_some, false, refl, length, sym, ap, ◌∙◌, subst, eqb-true, true≢false, true, arith, ◌==◌}
+use Rattle.std.proofs.Common.{◌≡◌, ℕ, zero, suc, ◌+◌, ◌-◌, ◌<◌, ◌≤◌, drop, take, get_or, List, [], ◌∷◌, ◌++◌, codes, false, refl, length, sym, ap, ◌∙◌, subst, eqb-true, true≢false, true, arith, ◌==◌}
 use Rattle.std.specs.List.{flat_map}
 use Rattle.std.proofs.Math.Numerals.{add-one}
 use Rattle.std.proofs.lemmas.Grind.{flat_map-append}
@@ -9,7 +9,7 @@ use Rattle.dtc_dialect.specs.declared.printing.Printed.{Printed}
 use Rattle.dtc_dialect.specs.declared.table.LabelRow.{LabelRow}
 use Rattle.dtc_dialect.specs.declared.table.Tokens.{Tokens}
 use Rattle.dtc_dialect.specs.Copied.{Between, Copied, IsPut, part_of}
-use Rattle.dtc_dialect.specs.Said.{AreNodes, AreReserved, AreSaid, IsNode, IsSaidAt, ends, next_node, property, reserve, root_label, root_text}
+use Rattle.dtc_dialect.specs.Said.{AreNodes, AreReserved, AreSaid, IsNode, IsSaidAt, StandsFor, ends, next_node, property, reserve, root_label, root_text}
 use Rattle.dtc_dialect.proofs.Copying.{put-both, put-nothing}
 
 -- One more is said, behind which `s` becomes `t`.
@@ -20,7 +20,7 @@ say-more Says r s t xs i x said one is step so rest says =
     subst (Says r xs) (sym (append_assoc said one rest)) (so (one ++ rest) (subst (λ ys. Says s ys (one ++ rest)) (sym is) (step rest says)))
 
 pub reserve-more : (what : Printed) (reserves : List Tokens) (i : ℕ) (words : Tokens) (said one close : List ℕ) → drop i reserves ≡ words ∷ drop (i + 1) reserves
-    → Copied (is_some what.numbers) (part_of words.start words.end what.view.tokens.now) one → Between false close
+    → Copied (StandsFor what) (part_of words.start words.end what.view.tokens.now) one → Between false close
     → ((rest : List ℕ) → AreReserved what (drop i reserves) rest → AreReserved what reserves (said ++ rest)) → (rest : List ℕ) → AreReserved what (drop (i + 1) reserves) rest
     → AreReserved what reserves (said ++ (one ++ (close ++ codes ";")) ++ rest)
 reserve-more what reserves i words said one close is copied between so rest says =

@@ -41,33 +41,21 @@ abbrev pub is_character : Kind → Bool
 is_character Character = true
 is_character kind = false
 
--- How a word is said: as it stands; a character literal as its number; and a reference by a number, where its node has one.
-pub data IsWord (numbered : Bool) (token : Token) : List ℕ → Type 0 where
-  itself : is_character token.kind ≡ false → IsWord numbered token token.text.now
-  character : (n : ℕ) → is_character token.kind ≡ true → character_of (inside token.text.now) ≡ Some n → IsWord numbered token (decimal n)
-  number : (n : ℕ) → token.kind ≡ Reference → numbered ≡ true → IsWord numbered token (decimal n)
+-- How a word is said: as it stands; a character literal as its number; and a reference by a number that stands for it.
+pub data IsWord (Stands : List ℕ → ℕ → Type 0) (token : Token) : List ℕ → Type 0 where
+  itself : is_character token.kind ≡ false → IsWord Stands token token.text.now
+  character : (n : ℕ) → is_character token.kind ≡ true → character_of (inside token.text.now) ≡ Some n → IsWord Stands token (decimal n)
+  number : (n : ℕ) → token.kind ≡ Reference → Stands token.text.now n → IsWord Stands token (decimal n)
 
 -- These bytes say the words in their order.
-pub data Copied (numbered : Bool) : List Token → List ℕ → Type 0 where
-  end : Copied numbered [] []
-  word : {token : Token} {tokens : List Token} {gap said rest : List ℕ} → Between token.has_gap gap → IsWord numbered token said → Copied numbered tokens rest → Copied numbered (token ∷ tokens) (gap ++ said ++ rest)
+pub data Copied (Stands : List ℕ → ℕ → Type 0) : List Token → List ℕ → Type 0 where
+  end : Copied Stands [] []
+  word : {token : Token} {tokens : List Token} {gap said rest : List ℕ} → Between token.has_gap gap → IsWord Stands token said → Copied Stands tokens rest → Copied Stands (token ∷ tokens) (gap ++ said ++ rest)
 
 -- the words of a property's value, by the numbers of the first one and of the one behind the last
 abbrev pub words_of : List Token → Option Tokens → List Token
 words_of tokens None = []
 words_of tokens (Some value) = part_of value.start value.end tokens
-
--- How a value is said: by its words; that of `phandle` by a number, where it asks for one.
-pub data IsValue (numbered : Bool) (name : List ℕ) (words : List Token) : List ℕ → Type 0 where
-  copied : {said : List ℕ} → Copied numbered words said → IsValue numbered name words said
-  asked : (n : ℕ) → name ≡ codes "phandle" → numbered ≡ true → IsValue numbered name words (codes " <" ++ decimal n ++ codes ">")
-
--- How a property is said: by its name and its value; and `name` not at all, where it says its node's name once more.
-pub data IsSaid (numbered : Bool) (name : List ℕ) (words : List Token) : Option Tokens → List ℕ → Type 0 where
-  bare : {gap : List ℕ} → Between true gap → IsSaid numbered name words None (gap ++ name ++ codes ";")
-  valued : {value : Tokens} {gap said close : List ℕ} → Between true gap → IsValue numbered name words said → Between false close
-      → IsSaid numbered name words (Some value) (gap ++ name ++ codes " =" ++ said ++ (close ++ codes ";"))
-  dropped : {value : Option Tokens} → name ≡ codes "name" → IsSaid numbered name words value []
 
 -- the path that a reference names: it stands in braces (123) behind the `&`
 abbrev pub path_of : List ℕ → Option (List ℕ)

@@ -1,8 +1,11 @@
 -- In which order a source is said as one body (dtc 1.6, Documentation/dts-format.txt, "File layout" and "Node and property
 -- definitions"): its header, its reservations, then the nodes in preorder, each within its parent's body.
-use Rattle.std.specs.Prelude.{⊤, ◌≡◌, ◌≢◌, ℕ, zero, suc, ◌+◌, ◌-◌, Bool, true, false, List, [], ◌∷◌, ◌++◌, codes, Option, None, Some, is_some, slice_get}
-use Rattle.std.specs.List.{flat_map}
+use Rattle.std.specs.Prelude.{⊤, ◌==◌, ◌&&◌, if◌then◌else◌, nat_eq, ◌≡◌, ◌≢◌, ℕ, zero, suc, ◌+◌, ◌-◌, Bool, true, false, List, [], ◌∷◌, ◌++◌, codes, Option, None, Some, is_some, slice_get}
+use Rattle.std.specs.Cmp.Lexicographic.{pointwise}
+use Rattle.std.specs.Fmt.{decimal}
+use Rattle.std.specs.List.{before_first, flat_map}
 use denote.Ref.{Bor}
+use Rattle.dt_lexeme.specs.Bytes.{begins}
 use Rattle.dtc_dialect.specs.declared.edits.Edited.{Edited}
 use Rattle.dtc_dialect.specs.declared.numbers.Known.{Known}
 use Rattle.dtc_dialect.specs.declared.numbers.Numbers.{Numbers}
@@ -11,22 +14,81 @@ use Rattle.dtc_dialect.specs.declared.printing.Printed.{Printed}
 use Rattle.dtc_dialect.specs.declared.table.LabelRow.{LabelRow}
 use Rattle.dtc_dialect.specs.declared.table.NodeRow.{NodeRow}
 use Rattle.dtc_dialect.specs.declared.table.PropertyRow.{PropertyRow}
+use Rattle.dtc_dialect.specs.declared.table.Table.{Table}
 use Rattle.dtc_dialect.specs.declared.table.Tokens.{Tokens}
-use Rattle.dtc_dialect.specs.Copied.{Between, Copied, IsPut, IsSaid, IsValue, name_text, part_of, phandle_text, words_of}
+use Rattle.dtc_dialect.specs.declared.token.Token.{Token}
+use Rattle.dtc_dialect.specs.Copied.{Between, Copied, IsPut, inside, name_text, part_of, phandle_text, words_of}
+use Rattle.dtc_dialect.specs.References.{NamesNode}
+
+-- ---- phandles
+-- what is known of a node's phandle, where numbers are written out
+abbrev pub known_in : Option (Bor Numbers) → ℕ → Option Known
+known_in None node = None
+known_in (Some numbers) node = slice_get numbers.now.known.items node
+
+abbrev pub known_of : Printed → ℕ → Option Known
+known_of what node = known_in what.numbers node
+
+-- the number of a node that has it by `linux,phandle` alone
+abbrev pub legacy_in : Option Known → Option ℕ
+legacy_in None = None
+legacy_in (Some known) = if known.is_legacy then known.given else None
+
+abbrev pub StandsIn : Option (Bor Numbers) → Table → List ℕ → ℕ → Type 0
+StandsIn None table reference n = ⊥
+StandsIn (Some numbers) table reference n = (node : ℕ) × NamesNode table reference (Some node) × (legacy_in (slice_get numbers.now.known.items node) ≡ Some n)
+
+-- A number stands for a reference where numbers are written out, and the node that it names has it by `linux,phandle` alone.
+abbrev pub StandsFor : Printed → List ℕ → ℕ → Type 0
+StandsFor what reference n = StandsIn what.numbers what.view.table.now reference n
+
+abbrev pub asked_in : Option Known → List ℕ → Option ℕ
+asked_in None name = None
+asked_in (Some known) name = if known.asks && pointwise nat_eq name (codes "phandle") then known.number else None
+
+-- the number of a property `phandle` that asks for its node's
+abbrev pub asked_of : Printed → PropertyRow → Option ℕ
+asked_of what row = asked_in (known_of what row.node) row.name.now
 
 -- ---- properties
+abbrev pub value_of : Printed → PropertyRow → List Token
+value_of what row = words_of what.view.tokens.now row.value
 
--- how the property of a row is said
-abbrev pub IsSaidOf : Printed → PropertyRow → List ℕ → Type 0
-IsSaidOf what row said = IsSaid (is_some what.numbers) row.name.now (words_of what.view.tokens.now row.value) row.value said
+-- How a value is said: by its words; that of `phandle` by the number, where it asks for one.
+pub data IsValue (what : Printed) (row : PropertyRow) : List ℕ → Type 0 where
+  copied : {said : List ℕ} → asked_of what row ≡ None → Copied (StandsFor what) (value_of what row) said → IsValue what row said
+  asked : (n : ℕ) → asked_of what row ≡ Some n → IsValue what row (codes " <" ++ decimal n ++ codes ">")
 
--- how its value is said
-abbrev pub IsValueOf : Printed → PropertyRow → List ℕ → Type 0
-IsValueOf what row said = IsValue (is_some what.numbers) row.name.now (words_of what.view.tokens.now row.value) said
+abbrev pub is_at : ℕ → Bool
+is_at c = c == 64
+
+-- a node's name up to its `@` (64)
+abbrev pub base_name : List ℕ → List ℕ
+base_name name = before_first is_at name
+
+-- whether a string, which begins with a quote (34), says a node's name up to its `@`
+abbrev pub says_name : List ℕ → Option NodeRow → Bool
+says_name text None = false
+says_name text (Some node) = begins 34 text && pointwise nat_eq (inside text) (base_name node.name.now)
+
+abbrev pub is_name_of : Option NodeRow → List Token → Bool
+is_name_of row (token ∷ []) = says_name token.text.now row
+is_name_of row words = false
+
+-- whether this is a property `name` whose value is one string, which says its node's name once more: dtc drops it
+abbrev pub repeats_name : Printed → PropertyRow → Bool
+repeats_name what row = if pointwise nat_eq row.name.now (codes "name") then is_name_of (slice_get what.view.table.now.nodes.items row.node) (value_of what row) else false
+
+-- How a property is said: by its name and its value; and `name` not at all, where it repeats its node's.
+pub data IsSaid (what : Printed) (row : PropertyRow) : List ℕ → Type 0 where
+  bare : {gap : List ℕ} → repeats_name what row ≡ false → row.value ≡ None → Between true gap → IsSaid what row (gap ++ row.name.now ++ codes ";")
+  valued : {gap said close : List ℕ} → repeats_name what row ≡ false → is_some row.value ≡ true → Between true gap → IsValue what row said → Between false close
+      → IsSaid what row (gap ++ row.name.now ++ codes " =" ++ said ++ (close ++ codes ";"))
+  dropped : repeats_name what row ≡ true → IsSaid what row []
 
 -- How the property of a number is said: by its row.
 pub data IsSaidAt (what : Printed) (p : ℕ) : List ℕ → Type 0 where
-  by_row : {row : PropertyRow} {said : List ℕ} → slice_get what.view.table.now.properties.items p ≡ Some row → IsSaidOf what row said → IsSaidAt what p said
+  by_row : {row : PropertyRow} {said : List ℕ} → slice_get what.view.table.now.properties.items p ≡ Some row → IsSaid what row said → IsSaidAt what p said
   no_row : slice_get what.view.table.now.properties.items p ≡ None → IsSaidAt what p []
 
 -- These bytes say properties in their order.
@@ -35,14 +97,6 @@ pub data AreSaid (what : Printed) : List ℕ → List ℕ → Type 0 where
   property : {p : ℕ} {ps said rest : List ℕ} → IsSaidAt what p said → AreSaid what ps rest → AreSaid what (p ∷ ps) (said ++ rest)
 
 -- ---- nodes
-
--- what is known of a node's phandle, where numbers are written out
-abbrev pub known_in : Option (Bor Numbers) → ℕ → Option Known
-known_in None node = None
-known_in (Some numbers) node = slice_get numbers.now.known.items node
-
-abbrev pub known_of : Printed → ℕ → Option Known
-known_of what node = known_in what.numbers node
 
 -- The labels of a node. Which ones they are isn't said here.
 abbrev pub AreLabels : Printed → ℕ → List LabelRow → Type 0
@@ -83,7 +137,7 @@ header_text true = codes "/dts-v1/; /plugin/;"
 -- These bytes say the reservations by their words.
 pub data AreReserved (what : Printed) : List Tokens → List ℕ → Type 0 where
   all_reserved : AreReserved what [] []
-  reserve : {words : Tokens} {reserves : List Tokens} {said close rest : List ℕ} → Copied (is_some what.numbers) (part_of words.start words.end what.view.tokens.now) said
+  reserve : {words : Tokens} {reserves : List Tokens} {said close rest : List ℕ} → Copied (StandsFor what) (part_of words.start words.end what.view.tokens.now) said
       → Between false close → AreReserved what reserves rest → AreReserved what (words ∷ reserves) (said ++ (close ++ codes ";") ++ rest)
 
 abbrev pub root_label : LabelRow → List ℕ

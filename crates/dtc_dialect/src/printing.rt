@@ -171,7 +171,7 @@ fn put_node<'t>(
     put_phandle(alloc, printer, what, stop.node)
 }
 
-fn node_row<'t>(what: Printed<'_, 't>, node: usize) -> Option<NodeRow<'t>>
+pub(crate) fn node_row<'t>(what: Printed<'_, 't>, node: usize) -> Option<NodeRow<'t>>
     ensures { result ≡ slice_get what.entry.view.table.now.nodes.items node }
 {
     what.view.table.nodes.get(node).copied()

@@ -1,17 +1,20 @@
 //! Properties and their words, said one behind the other.
-ghost use Rattle.std.specs.Prelude.{◌≡◌, OnOk, codes, is_some, slice_get, true};
+ghost use Rattle.std.specs.Prelude.{◌≡◌, IfSome, OnOk, Some, nat_eq, slice_get};
+ghost use Rattle.std.specs.Cmp.Lexicographic.{pointwise};
 ghost use Rattle.dtc_dialect.specs.declared.token.Kind.TheVariants.{Reference};
-ghost use Rattle.dtc_dialect.specs.Copied.{Copied, IsWord, is_character};
+ghost use Rattle.dtc_dialect.specs.Copied.{Copied, IsWord, inside, is_character};
 ghost use Rattle.dtc_dialect.specs.Private.Printed.{Prints, PrintsCharacter, PrintsEnd};
-ghost use Rattle.dtc_dialect.specs.Said.{AreSaid, IsSaidAt, IsSaidOf, IsValueOf, known_of};
+ghost use Rattle.dtc_dialect.specs.References.{NamesNode};
+ghost use Rattle.dtc_dialect.specs.Said.{AreSaid, IsSaid, IsSaidAt, IsValue, StandsFor};
+ghost use Rattle.dtc_dialect.specs.Said.{asked_of, base_name, is_name_of, known_of, legacy_in, repeats_name, says_name};
 
-use crate::bytes::{behind, front};
+use crate::bytes::{begins, behind, front};
 use crate::character::character;
 use crate::error::{DialectError, Mistake, refused};
-use crate::numbers::{Cells, Known};
+use crate::numbers::{Cells, Known, Numbers};
 use crate::printer::Printer;
-use crate::printing::Printed;
-use crate::table::PropertyRow;
+use crate::printing::{Printed, node_row};
+use crate::table::{NodeRow, PropertyRow};
 use crate::token::{Kind, Token};
 use crate::watch::Word;
 use std::alloc::Global;
@@ -56,7 +59,7 @@ fn put_property<'t>(
     what: Printed<'_, 't>,
     row: &PropertyRow<'t>,
 ) -> Result<(), DialectError<'t>>
-    ensures { OnOk result (Prints printer.old printer.new (IsSaidOf what.entry row.now)) }
+    ensures { OnOk result (Prints printer.old printer.new (IsSaid what.entry row.now)) }
 {
     if repeats_name(what, row) {
         return Ok(());
@@ -79,7 +82,7 @@ fn put_value<'t>(
     what: Printed<'_, 't>,
     row: &PropertyRow<'t>,
 ) -> Result<(), DialectError<'t>>
-    ensures { OnOk result (Prints printer.old printer.new (IsValueOf what.entry row.now)) }
+    ensures { OnOk result (Prints printer.old printer.new (IsValue what.entry row.now)) }
 {
     let Some(number) = asked(what, row) else {
         return put_tokens(alloc, printer, what, what.view.value_of(row));
@@ -92,33 +95,62 @@ fn put_value<'t>(
 
 /// Whether this is a property `name` that says its node's name once more, up to the `@`: dtc drops it.
 fn repeats_name<'t>(what: Printed<'_, 't>, row: &PropertyRow<'t>) -> bool
-    ensures { result ≡ true → row.now.name.now ≡ codes "name" }
+    ensures { result ≡ repeats_name what.entry row.now }
 {
-    if row.name != b"name".as_slice() {
-        return false;
+    if row.name == b"name".as_slice() {
+        is_name_of(node_row(what, row.node), what.view.value_of(row))
+    } else {
+        false
     }
-    match (what.view.table.nodes.get(row.node), what.view.value_of(row)) {
-        (Some(node), [token]) => is_base_name(node.name, token.text),
+}
+
+fn is_name_of<'t>(node: Option<NodeRow<'t>>, words: &[Token<'t>]) -> bool
+    ensures { result ≡ is_name_of node.entry words.now }
+{
+    match words {
+        [token] => says_name(token.text, node),
         _ => false,
     }
 }
 
-/// Whether a string is a node's name without its address. It takes as long as the string, whatever the name's length.
-fn is_base_name(name: &[u8], text: &[u8]) -> bool {
-    match text {
-        [b'"', said @ .., b'"'] => {
-            front(name, said.len()) == said
-                && !said.contains(&b'@')
-                && matches!(behind(name, said.len()), [] | [b'@', ..])
+fn says_name<'t>(text: &[u8], node: Option<NodeRow<'t>>) -> bool
+    ensures { result ≡ says_name text.now node.entry }
+{
+    let Some(node) = node else {
+        return false;
+    };
+    begins(text, b'"') && is_base_name(node.name, inside(text))
+}
+
+/// Whether this is a node's name without its address. It takes as long as what is said, whatever the name's length.
+#[tactic(auto, using(crate::proofs::Repeated::same_base))]
+fn is_base_name(name: &[u8], said: &[u8]) -> bool
+    ensures { result ≡ pointwise nat_eq said.now (base_name name.now) }
+{
+    said == base_name(front(name, said.len() + 1))
+}
+
+fn base_name(name: &[u8]) -> &[u8]
+    ensures { result.now ≡ base_name name.now }
+{
+    for (i, c) in name.iter().enumerate() {
+        if *c == b'@' {
+            return front(name, i);
         }
-        _ => false,
     }
+    name
+}
+
+/// What stands between quotes.
+fn inside(text: &[u8]) -> &[u8]
+    ensures { result.now ≡ inside text.now }
+{
+    behind(front(text, text.len().saturating_sub(1)), 1)
 }
 
 /// The number of a property `phandle` that refers to its own node.
 fn asked<'t>(what: Printed<'_, 't>, row: &PropertyRow<'t>) -> Option<u64>
-    ensures numbered { is_some result ≡ true → is_some what.entry.numbers ≡ true }
-    ensures name { is_some result ≡ true → row.now.name.now ≡ codes "phandle" }
+    ensures { result ≡ asked_of what.entry row.now }
 {
     let known = known(what, row.node)?;
     if known.asks && row.name == b"phandle".as_slice() {
@@ -129,8 +161,7 @@ fn asked<'t>(what: Printed<'_, 't>, row: &PropertyRow<'t>) -> Option<u64>
 }
 
 pub(crate) fn known(what: Printed<'_, '_>, node: usize) -> Option<Known>
-    ensures known { result ≡ known_of what.entry node }
-    ensures numbered { is_some result ≡ true → is_some what.entry.numbers ≡ true }
+    ensures { result ≡ known_of what.entry node }
 {
     what.numbers?.known.get(node).copied()
 }
@@ -141,7 +172,7 @@ pub(crate) fn put_tokens<'t>(
     what: Printed<'_, 't>,
     tokens: &[Token<'t>],
 ) -> Result<(), DialectError<'t>>
-    ensures { OnOk result (Prints printer.old printer.new (Copied (is_some what.entry.numbers) tokens.now)) }
+    ensures { OnOk result (Prints printer.old printer.new (Copied (StandsFor what.entry) tokens.now)) }
 {
     let mut cells = Cells::none();
     for token in tokens {
@@ -161,7 +192,7 @@ fn put_word<'t>(
     token: &Token<'t>,
     in_cells: bool,
 ) -> Result<(), DialectError<'t>>
-    ensures { OnOk result (Prints printer.old printer.new (IsWord (is_some what.entry.numbers) token.now)) }
+    ensures { OnOk result (Prints printer.old printer.new (IsWord (StandsFor what.entry) token.now)) }
 {
     if is_character(token.kind) {
         return put_character(alloc, printer, token);
@@ -187,8 +218,7 @@ fn put_character<'t>(
 ) -> Result<(), DialectError<'t>>
     ensures { OnOk result (PrintsCharacter printer.old printer.new token.now) }
 {
-    let inside = behind(front(token.text, token.text.len().saturating_sub(1)), 1);
-    let Some(number) = character(inside) else {
+    let Some(number) = character(inside(token.text)) else {
         return Err(refused(Mistake::Syntax, token.place));
     };
     printer.put_number(alloc, number as u64)?;
@@ -197,11 +227,27 @@ fn put_character<'t>(
 
 /// The number of the node that a reference names, where it has it by `linux,phandle` alone and numbers are written out.
 fn legacy_number<'t>(what: Printed<'_, 't>, token: &Token<'t>) -> Option<u64>
-    ensures { is_some result ≡ true → is_some what.entry.numbers ≡ true }
+    ensures { IfSome result (λ n. StandsFor what.entry token.now.text.now n) }
 {
-    let numbers = what.numbers?;
-    let node = what.view.table.referred(token.text)?;
-    let known = numbers.known.get(node)?;
+    let Some(numbers) = what.numbers else {
+        return None;
+    };
+    let Some(node) = named(what, token) else {
+        return None;
+    };
+    legacy_in(numbers, node)
+}
+
+fn named<'t>(what: Printed<'_, 't>, token: &Token<'t>) -> Option<usize>
+    ensures { IfSome result (λ node. NamesNode what.entry.view.table.now token.now.text.now (Some node)) }
+{
+    what.view.table.referred(token.text)
+}
+
+fn legacy_in(numbers: &Numbers, node: usize) -> Option<u64>
+    ensures { result ≡ legacy_in (slice_get numbers.now.known.items node) }
+{
+    let known = numbers.known.get(node).copied()?;
     if known.is_legacy { known.given } else { None }
 }
 
@@ -213,7 +259,7 @@ fn put_reference<'t>(
     token: &Token<'t>,
 ) -> Result<(), DialectError<'t>>
     requires { token.now.kind ≡ Reference }
-    ensures { OnOk result (Prints printer.old printer.new (IsWord (is_some what.entry.numbers) token.now)) }
+    ensures { OnOk result (Prints printer.old printer.new (IsWord (StandsFor what.entry) token.now)) }
 {
     let Some(number) = legacy_number(what, token) else {
         printer.put(token.text)?;

@@ -7,4 +7,4 @@ pub returns-in_default : goal.returns-in_default
 returns-in_default c = (c.args.token.now.text.now, itself (ap is_character c.requires), c.in_ok-put.ensures)
 
 pub returns : goal.returns
-returns c = (decimal c.in-Some.number, number c.in-Some.number c.requires (c.legacy_number.ensures (cc)), c.in_ok-put_number.ensures)
+returns c = (decimal c.in-Some.number, number c.in-Some.number c.requires c.in-Some.ensures, c.in_ok-put_number.ensures)
