@@ -1,6 +1,7 @@
 //! A source in dtc's dialect, said in the profile.
-ghost use Rattle.std.specs.Prelude.{◌↔◌, IsTrue};
-ghost use Rattle.dtc_dialect.specs.Omission.{IsOmitted};
+ghost use Rattle.std.specs.Prelude.{◌≡◌, false};
+ghost use Rattle.dtc_dialect.specs.Omission.{Omits, goes, is_any_gone, is_omitted};
+ghost use Rattle.dtc_dialect.specs.Stops.{KnowsLabels};
 
 use crate::edits::edit;
 use crate::error::DialectError;
@@ -67,7 +68,14 @@ fn said<'t>(
         },
     )?;
     let omits = match &numbers {
-        Some(numbers) => omit(&mut source.table, &found, numbers, options.symbols),
+        Some(numbers) => omit(
+            &mut source.table,
+            Omission {
+                preorder: &found,
+                numbers,
+                symbols: options.symbols,
+            },
+        ),
         None => false,
     };
     let left = if omits {
@@ -94,18 +102,24 @@ fn said<'t>(
     )
 }
 
+/// What decides which nodes go.
+#[derive(Clone, Copy)]
+struct Omission<'a> {
+    preorder: &'a Preorder,
+    numbers: &'a Numbers,
+    symbols: bool,
+}
+
 /// Deletes the nodes under `/omit-if-no-ref/` that no reference names. Answers whether there were any.
-fn omit(table: &mut Table<'_>, preorder: &Preorder, numbers: &Numbers, symbols: bool) -> bool {
+fn omit(table: &mut Table<'_>, omission: Omission<'_>) -> bool
+    requires { KnowsLabels omission.preorder.now table.old }
+    ensures omits { Omits omission.entry table.old table.new }
+    ensures any { result ≡ is_any_gone omission.entry table.old }
+    ensures none { result ≡ false → table.new.nodes.items ≡ table.old.nodes.items }
+{
     let mut omits = false;
-    for stop in preorder.stops.iter() {
-        let Some(known) = numbers.known.get(stop.node) else {
-            continue;
-        };
-        let has_symbol = symbols && preorder.was_labelled(stop.node);
-        let Some(row) = table.nodes.get(stop.node) else {
-            continue;
-        };
-        if is_omitted(row, known, has_symbol) {
+    for stop in omission.preorder.stops.iter() {
+        if goes(omission, table, stop.node) {
             table.delete_node(stop.node, usize::MAX);
             omits = true;
         }
@@ -113,9 +127,24 @@ fn omit(table: &mut Table<'_>, preorder: &Preorder, numbers: &Numbers, symbols: 
     omits
 }
 
+/// Whether a node goes, if it is there.
+fn goes(omission: Omission<'_>, table: &Table<'_>, node: usize) -> bool
+    requires { KnowsLabels omission.preorder.now table.now }
+    ensures { result ≡ goes omission.entry table.now node }
+{
+    let Some(row) = table.nodes.get(node) else {
+        return false;
+    };
+    let Some(known) = omission.numbers.known.get(node) else {
+        return false;
+    };
+    let has_symbol = omission.symbols && omission.preorder.was_labelled(node);
+    is_omitted(row, known, has_symbol)
+}
+
 /// Whether a node isn't there at the end.
 fn is_omitted(row: &NodeRow<'_>, known: &Known, has_symbol: bool) -> bool
-    ensures { IsTrue result ↔ IsOmitted row.now known.now has_symbol }
+    ensures { result ≡ is_omitted row.now known.now has_symbol }
 {
     row.omit && !known.is_referred && !has_symbol
 }
