@@ -15,6 +15,7 @@ mod LabelChains
 mod LabelWalk
 mod Lines
 mod Markers
+mod Omitting
 mod OpenFiles
 mod Orders
 mod PathNames

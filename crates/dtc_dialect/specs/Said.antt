@@ -1,6 +1,6 @@
 -- In which order a source is said as one body (dtc 1.6, Documentation/dts-format.txt, "File layout" and "Node and property
 -- definitions"): its header, its reservations, then the nodes in preorder, each within its parent's body.
-use Rattle.std.specs.Prelude.{⊤, ◌≡◌, ◌≢◌, ℕ, zero, suc, ◌+◌, ◌-◌, Bool, true, false, List, [], ◌∷◌, ◌++◌, codes, Option, None, Some, is_some, slice_get}
+use Rattle.std.specs.Prelude.{◌≡◌, ◌≢◌, ℕ, zero, suc, ◌+◌, ◌-◌, Bool, true, false, List, [], ◌∷◌, ◌++◌, codes, Option, None, Some, is_some, slice_get}
 use Rattle.std.specs.List.{flat_map}
 use denote.Ref.{Bor}
 use Rattle.dtc_dialect.specs.declared.edits.Edited.{Edited}
@@ -13,6 +13,7 @@ use Rattle.dtc_dialect.specs.declared.table.NodeRow.{NodeRow}
 use Rattle.dtc_dialect.specs.declared.table.PropertyRow.{PropertyRow}
 use Rattle.dtc_dialect.specs.declared.table.Tokens.{Tokens}
 use Rattle.dtc_dialect.specs.Copied.{Between, Copied, IsPut, IsSaid, IsValue, name_text, part_of, phandle_text, words_of}
+use Rattle.dtc_dialect.specs.Stops.{labels_there}
 
 -- ---- properties
 
@@ -44,9 +45,9 @@ known_in (Some numbers) node = slice_get numbers.now.known.items node
 abbrev pub known_of : Printed → ℕ → Option Known
 known_of what node = known_in what.numbers node
 
--- The labels of a node. Which ones they are isn't said here.
+-- the labels that a node still has
 abbrev pub AreLabels : Printed → ℕ → List LabelRow → Type 0
-AreLabels what node labels = ⊤
+AreLabels what node labels = labels ≡ labels_there what.view.table.now.nodes.items what.view.table.now.labels.items node
 
 abbrev pub label_text : LabelRow → List ℕ
 label_text label = label.name.now ++ codes ": "

@@ -1,6 +1,7 @@
 //! A source in dtc's dialect, said in the profile.
-ghost use Rattle.std.specs.Prelude.{◌↔◌, IsTrue};
-ghost use Rattle.dtc_dialect.specs.Omission.{IsOmitted};
+ghost use Rattle.std.specs.Prelude.{◌≡◌, IfOk, false};
+ghost use Rattle.dtc_dialect.specs.Omission.{Omits, goes, is_any_gone, is_omitted};
+ghost use Rattle.dtc_dialect.specs.Stops.{IsPreorder, KnowsLabels};
 
 use crate::edits::edit;
 use crate::error::DialectError;
@@ -10,7 +11,7 @@ use crate::printing::{Printed, Said, print_source};
 use crate::reader::tokens;
 use crate::table::{NodeRow, Table};
 use crate::token::{Place, Span};
-use std::alloc::Global;
+use std::alloc::{AllocError, Global};
 use std::hash::RandomState;
 
 /// What decides how a source is said.
@@ -66,15 +67,7 @@ fn said<'t>(
             preorder: &found,
         },
     )?;
-    let omits = match &numbers {
-        Some(numbers) => omit(&mut source.table, &found, numbers, options.symbols),
-        None => false,
-    };
-    let left = if omits {
-        preorder_of(alloc, &source.table)?
-    } else {
-        found
-    };
+    let left = left_of(alloc, &mut source.table, found, &numbers, options.symbols)?;
     print_source(
         alloc,
         text,
@@ -83,10 +76,10 @@ fn said<'t>(
             view: View {
                 tokens: tokens.as_slice(),
                 table: &source.table,
-                preorder: &left,
+                preorder: &left.preorder,
             },
             numbers: match &numbers {
-                Some(numbers) if omits || numbers.are_written() => Some(numbers),
+                Some(numbers) if left.omits || numbers.are_written() => Some(numbers),
                 _ => None,
             },
             asked,
@@ -94,18 +87,68 @@ fn said<'t>(
     )
 }
 
+/// What is there behind the nodes that go.
+#[derive(Drop)]
+struct Left {
+    preorder: Preorder,
+    omits: bool,
+}
+
+/// Deletes the nodes that go. Without numbers none does: then none is marked.
+fn left_of(
+    alloc: Global,
+    table: &mut Table<'_>,
+    found: Preorder,
+    numbers: &Option<Numbers>,
+    symbols: bool,
+) -> Result<Left, AllocError>
+    requires { IsPreorder table.old found }
+    ensures { IfOk result (λ left. IsPreorder table.new left.preorder) }
+{
+    let Some(numbers) = numbers else {
+        return Ok(Left {
+            preorder: found,
+            omits: false,
+        });
+    };
+    let omits = omit(
+        table,
+        Omission {
+            preorder: &found,
+            numbers,
+            symbols,
+        },
+    );
+    if omits {
+        return Ok(Left {
+            preorder: preorder_of(alloc, table)?,
+            omits: true,
+        });
+    }
+    Ok(Left {
+        preorder: found,
+        omits: false,
+    })
+}
+
+/// What decides which nodes go.
+#[derive(Clone, Copy)]
+struct Omission<'a> {
+    preorder: &'a Preorder,
+    numbers: &'a Numbers,
+    symbols: bool,
+}
+
 /// Deletes the nodes under `/omit-if-no-ref/` that no reference names. Answers whether there were any.
-fn omit(table: &mut Table<'_>, preorder: &Preorder, numbers: &Numbers, symbols: bool) -> bool {
+fn omit(table: &mut Table<'_>, omission: Omission<'_>) -> bool
+    requires { KnowsLabels omission.preorder.now table.old }
+    ensures omits { Omits omission.entry table.old table.new }
+    ensures any { result ≡ is_any_gone omission.entry table.old }
+    ensures none { result ≡ false → table.new.nodes.items ≡ table.old.nodes.items }
+{
     let mut omits = false;
-    for stop in preorder.stops.iter() {
-        let Some(known) = numbers.known.get(stop.node) else {
-            continue;
-        };
-        let has_symbol = symbols && preorder.was_labelled(stop.node);
-        let Some(row) = table.nodes.get(stop.node) else {
-            continue;
-        };
-        if is_omitted(row, known, has_symbol) {
+    for stop in omission.preorder.stops.iter() {
+        if goes(omission, table, stop.node) {
             table.delete_node(stop.node, usize::MAX);
             omits = true;
         }
@@ -113,9 +156,24 @@ fn omit(table: &mut Table<'_>, preorder: &Preorder, numbers: &Numbers, symbols: 
     omits
 }
 
+/// Whether a node goes, if it is there.
+fn goes(omission: Omission<'_>, table: &Table<'_>, node: usize) -> bool
+    requires { KnowsLabels omission.preorder.now table.now }
+    ensures { result ≡ goes omission.entry table.now node }
+{
+    let Some(row) = table.nodes.get(node) else {
+        return false;
+    };
+    let Some(known) = omission.numbers.known.get(node) else {
+        return false;
+    };
+    let has_symbol = omission.symbols && omission.preorder.was_labelled(node);
+    is_omitted(row, known, has_symbol)
+}
+
 /// Whether a node isn't there at the end.
 fn is_omitted(row: &NodeRow<'_>, known: &Known, has_symbol: bool) -> bool
-    ensures { IsTrue result ↔ IsOmitted row.now known.now has_symbol }
+    ensures { result ≡ is_omitted row.now known.now has_symbol }
 {
     row.omit && !known.is_referred && !has_symbol
 }
