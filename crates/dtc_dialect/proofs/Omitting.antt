@@ -1,12 +1,12 @@
 -- The nodes that go are deleted one after the other.
-use Rattle.std.proofs.Common.{◌≡◌, inl, inr, ℕ, ◌+◌, ◌-◌, ◌^◌, ◌<◌, ◌≤◌, ◌==◌, Bool, true, false, ◌&&◌, ◌||◌, List, length, get_or, slice_set, slice_get, take, Option, Some, None, is_some, refl, ap, sym, subst, ◌∙◌, arith}
-use Rattle.std.specs.List.{list_any}
+use Rattle.std.proofs.Common.{◌≡◌, inl, inr, ℕ, ◌+◌, ◌-◌, ◌^◌, ◌<◌, ◌≤◌, ◌==◌, Bool, true, false, ◌&&◌, ◌||◌, List, [], ◌∷◌, length, get_or, slice_set, slice_get, take, Option, Some, None, is_some, refl, ap, sym, subst, ◌∙◌, arith}
+use Rattle.std.specs.List.{AllByRecursion, flat_map, list_any}
 use Rattle.std.proofs.lemmas.Bool.{cases_eq, cases_lt, eqb-true, eq-eqb, false≢true, ne_eqb}
 use Rattle.std.proofs.lemmas.List.{get_or-set_same, get_or-set_other, get_or_past, length-set, take_all}
 use Rattle.std.proofs.lemmas.List.Folds.{list_any_more}
 use Rattle.dtc_dialect.specs.Chains.{Lists}
 use Rattle.dtc_dialect.specs.Omission.{Omits, goes, goes_by, has_symbol, is_any_gone, left_row}
-use Rattle.dtc_dialect.specs.Stops.{KnowsLabels, labels_in}
+use Rattle.dtc_dialect.specs.Stops.{IsPreorder, IsStop, KnowsLabels, Walk, labels_in, nodes_of, properties_there}
 use Rattle.dtc_dialect.specs.Table.{deleted_at, no_node, node_at}
 use Rattle.dtc_dialect.specs.declared.numbers.Known.{Known}
 use Rattle.dtc_dialect.specs.declared.preorder.Preorder.{Preorder}
@@ -14,6 +14,7 @@ use Rattle.dtc_dialect.specs.declared.preorder.Stop.{Stop}
 use Rattle.dtc_dialect.specs.declared.rewriting.Omission.{Omission}
 use Rattle.dtc_dialect.specs.declared.table.LabelRow.{LabelRow}
 use Rattle.dtc_dialect.specs.declared.table.NodeRow.{NodeRow}
+use Rattle.dtc_dialect.specs.declared.table.PropertyRow.{PropertyRow}
 use Rattle.dtc_dialect.specs.declared.table.Table.{Table}
 
 abbrev pub are_stops : List Stop → ℕ → Bool
@@ -162,4 +163,22 @@ omitted-more omission stops i d old now new omits inside leaves nodes properties
       labels = labels ∙ h.labels;
       any = sym (list_any_more test stops i d inside ∙ or-true (some_go omission old (take i stops)) (test stop) leaves-old);
       none = λ e. absurd (false≢true (sym e));
+    }
+
+-- ---- what was found of a table is found of one with the same rows
+
+pub preorder-same : (preorder : Preorder) (old new : Table) → new.nodes.items ≡ old.nodes.items → new.properties.items ≡ old.properties.items → new.labels.items ≡ old.labels.items
+    → IsPreorder old preorder → IsPreorder new preorder
+preorder-same preorder old new nodes properties labels h =
+    let listed : List ℕ = preorder.properties.items in
+    let stops : List Stop = preorder.stops.items in
+    record {
+      walk = subst (λ (rows : List NodeRow). Walk rows (0 ∷ []) (nodes_of stops)) (sym nodes) h.walk;
+      stops =
+          subst (λ (rows : List NodeRow). AllByRecursion (IsStop rows new.properties.items listed) stops) (sym nodes)
+          (subst (λ (ps : List PropertyRow). AllByRecursion (IsStop old.nodes.items ps listed) stops) (sym properties) h.stops);
+      listed =
+          subst (λ (rows : List NodeRow). listed ≡ flat_map (properties_there rows new.properties.items) (nodes_of stops)) (sym nodes)
+          (subst (λ (ps : List PropertyRow). listed ≡ flat_map (properties_there old.nodes.items ps) (nodes_of stops)) (sym properties) h.listed);
+      known = knows-same preorder old new (ap (λ (l : List NodeRow). length l) nodes) labels h.known;
     }

@@ -1,6 +1,6 @@
 -- In which order a source is said as one body (dtc 1.6, Documentation/dts-format.txt, "File layout" and "Node and property
 -- definitions"): its header, its reservations, then the nodes in preorder, each within its parent's body.
-use Rattle.std.specs.Prelude.{⊤, ◌==◌, ◌&&◌, if◌then◌else◌, nat_eq, ◌≡◌, ◌≢◌, ℕ, zero, suc, ◌+◌, ◌-◌, Bool, true, false, List, [], ◌∷◌, ◌++◌, codes, Option, None, Some, is_some, slice_get}
+use Rattle.std.specs.Prelude.{◌==◌, ◌&&◌, if◌then◌else◌, nat_eq, ◌≡◌, ◌≢◌, ℕ, zero, suc, ◌+◌, ◌-◌, Bool, true, false, List, [], ◌∷◌, ◌++◌, codes, Option, None, Some, is_some, slice_get}
 use Rattle.std.specs.Cmp.Lexicographic.{pointwise}
 use Rattle.std.specs.Fmt.{decimal}
 use Rattle.std.specs.List.{before_first, flat_map}
@@ -19,6 +19,7 @@ use Rattle.dtc_dialect.specs.declared.table.Tokens.{Tokens}
 use Rattle.dtc_dialect.specs.declared.token.Token.{Token}
 use Rattle.dtc_dialect.specs.Copied.{Between, Copied, IsPut, inside, name_text, part_of, phandle_text, words_of}
 use Rattle.dtc_dialect.specs.References.{NamesNode}
+use Rattle.dtc_dialect.specs.Stops.{labels_there}
 
 -- ---- phandles
 -- what is known of a node's phandle, where numbers are written out
@@ -98,9 +99,9 @@ pub data AreSaid (what : Printed) : List ℕ → List ℕ → Type 0 where
 
 -- ---- nodes
 
--- The labels of a node. Which ones they are isn't said here.
+-- the labels that a node still has
 abbrev pub AreLabels : Printed → ℕ → List LabelRow → Type 0
-AreLabels what node labels = ⊤
+AreLabels what node labels = labels ≡ labels_there what.view.table.now.nodes.items what.view.table.now.labels.items node
 
 abbrev pub label_text : LabelRow → List ℕ
 label_text label = label.name.now ++ codes ": "

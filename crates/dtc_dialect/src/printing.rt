@@ -2,7 +2,7 @@
 ghost use Rattle.std.specs.Prelude.{◌≡◌, ◌-◌, IfOk, OnOk, option_map, slice_get};
 ghost use Rattle.std.specs.List.{flat_map};
 ghost use Rattle.dtc_dialect.specs.Copied.{name_text, path_of, phandle_text, target_text};
-ghost use Rattle.dtc_dialect.specs.Private.Printed.{Prints, PrintsRoot, PrintsText, bodies_of};
+ghost use Rattle.dtc_dialect.specs.Private.Printed.{KnowsAll, Prints, PrintsRoot, PrintsText, bodies_of};
 ghost use Rattle.dtc_dialect.specs.Said.{AreNodes, AreReserved, IsBegin, IsNode, IsPrinted, IsSource};
 ghost use Rattle.dtc_dialect.specs.Said.{ends, header_text, known_of, label_text, root_label, root_text};
 
@@ -40,6 +40,7 @@ pub(crate) fn print_source<'t>(
     source: &Edited<'t>,
     what: Printed<'_, 't>,
 ) -> Result<Said<'t>, DialectError<'t>>
+    requires { KnowsAll what }
     ensures { IfOk result (λ said. IsPrinted what.entry source.now said.text.items) }
 {
     let Printer { text, watch, .. } = put_whole(alloc, source, what)?;
@@ -59,6 +60,7 @@ fn put_whole<'t>(
     source: &Edited<'t>,
     what: Printed<'_, 't>,
 ) -> Result<Printer<'t>, DialectError<'t>>
+    requires { KnowsAll what }
     ensures { IfOk result (λ printer. IsPrinted what.entry source.now printer.text.items) }
 {
     let mut printer = Printer::new(alloc, what.asked);
@@ -72,6 +74,7 @@ fn put_source<'t>(
     source: &Edited<'t>,
     what: Printed<'_, 't>,
 ) -> Result<(), DialectError<'t>>
+    requires { KnowsAll what }
     ensures { OnOk result (Prints printer.old printer.new (IsSource what.entry source.now)) }
 {
     put_header(printer, source.is_plugin)?;
@@ -114,6 +117,7 @@ fn put_nodes<'t>(
     what: Printed<'_, 't>,
     stops: &[Stop],
 ) -> Result<(), DialectError<'t>>
+    requires { KnowsAll what }
     ensures { OnOk result (Prints printer.old printer.new (AreNodes what.entry 0 stops.now)) }
 {
     let mut last = None;
@@ -159,6 +163,7 @@ fn put_node<'t>(
     what: Printed<'_, 't>,
     stop: &Stop,
 ) -> Result<(), DialectError<'t>>
+    requires { KnowsAll what }
     ensures { OnOk result (Prints printer.old printer.new (IsNode what.entry stop.now)) }
 {
     let Some(row) = node_row(what, stop.node) else {
@@ -184,6 +189,7 @@ fn put_begin<'t>(
     node: usize,
     row: &NodeRow<'t>,
 ) -> Result<(), DialectError<'t>>
+    requires { KnowsAll what }
     ensures { OnOk result (Prints printer.old printer.new (IsBegin what.entry node row.now)) }
 {
     if node == ROOT {
@@ -299,6 +305,7 @@ fn put_root_labels<'t>(
     printer: &mut Printer<'t>,
     what: Printed<'_, 't>,
 ) -> Result<(), DialectError<'t>>
+    requires { KnowsAll what }
     ensures { OnOk result (PrintsRoot printer.old printer.new what.entry) }
 {
     let labels = what.view.preorder.labels_of(alloc, what.view.table, ROOT)?;

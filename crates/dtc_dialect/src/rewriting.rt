@@ -1,7 +1,7 @@
 //! A source in dtc's dialect, said in the profile.
-ghost use Rattle.std.specs.Prelude.{◌≡◌, false};
+ghost use Rattle.std.specs.Prelude.{◌≡◌, IfOk, false};
 ghost use Rattle.dtc_dialect.specs.Omission.{Omits, goes, is_any_gone, is_omitted};
-ghost use Rattle.dtc_dialect.specs.Stops.{KnowsLabels};
+ghost use Rattle.dtc_dialect.specs.Stops.{IsPreorder, KnowsLabels};
 
 use crate::edits::edit;
 use crate::error::DialectError;
@@ -11,7 +11,7 @@ use crate::printing::{Printed, Said, print_source};
 use crate::reader::tokens;
 use crate::table::{NodeRow, Table};
 use crate::token::{Place, Span};
-use std::alloc::Global;
+use std::alloc::{AllocError, Global};
 use std::hash::RandomState;
 
 /// What decides how a source is said.
@@ -67,22 +67,7 @@ fn said<'t>(
             preorder: &found,
         },
     )?;
-    let omits = match &numbers {
-        Some(numbers) => omit(
-            &mut source.table,
-            Omission {
-                preorder: &found,
-                numbers,
-                symbols: options.symbols,
-            },
-        ),
-        None => false,
-    };
-    let left = if omits {
-        preorder_of(alloc, &source.table)?
-    } else {
-        found
-    };
+    let left = left_of(alloc, &mut source.table, found, &numbers, options.symbols)?;
     print_source(
         alloc,
         text,
@@ -91,15 +76,59 @@ fn said<'t>(
             view: View {
                 tokens: tokens.as_slice(),
                 table: &source.table,
-                preorder: &left,
+                preorder: &left.preorder,
             },
             numbers: match &numbers {
-                Some(numbers) if omits || numbers.are_written() => Some(numbers),
+                Some(numbers) if left.omits || numbers.are_written() => Some(numbers),
                 _ => None,
             },
             asked,
         },
     )
+}
+
+/// What is there behind the nodes that go.
+#[derive(Drop)]
+struct Left {
+    preorder: Preorder,
+    omits: bool,
+}
+
+/// Deletes the nodes that go. Without numbers none does: then none is marked.
+fn left_of(
+    alloc: Global,
+    table: &mut Table<'_>,
+    found: Preorder,
+    numbers: &Option<Numbers>,
+    symbols: bool,
+) -> Result<Left, AllocError>
+    requires { IsPreorder table.old found }
+    ensures { IfOk result (λ left. IsPreorder table.new left.preorder) }
+{
+    let Some(numbers) = numbers else {
+        return Ok(Left {
+            preorder: found,
+            omits: false,
+        });
+    };
+    let omits = omit(
+        table,
+        Omission {
+            preorder: &found,
+            numbers,
+            symbols,
+        },
+    );
+    if omits {
+        return Ok(Left {
+            preorder: preorder_of(alloc, table)?,
+            omits: true,
+        });
+    }
+    Ok(Left {
+        preorder: found,
+        omits: false,
+    })
 }
 
 /// What decides which nodes go.

@@ -8,6 +8,11 @@ use Rattle.dtc_dialect.specs.declared.token.Token.{Token}
 use Rattle.dtc_dialect.specs.Character.{character_of}
 use Rattle.dtc_dialect.specs.Copied.{Between, IsPut, inside}
 use Rattle.dtc_dialect.specs.Said.{AreLabels, root_text}
+use Rattle.dtc_dialect.specs.Stops.{KnowsLabels}
+
+-- the labels of the table's nodes are known
+abbrev pub KnowsAll : Printed → Type 0
+KnowsAll what = KnowsLabels what.view.preorder.now what.view.table.now
 
 -- bytes of a kind
 abbrev pub Prints : Printer → Printer → (List ℕ → Type 0) → Type 0

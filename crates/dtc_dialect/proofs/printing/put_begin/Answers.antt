@@ -1,4 +1,4 @@
-use Rattle.std.proofs.Common.{◌++◌, codes, subst}
+use Rattle.std.proofs.Common.{◌++◌, codes, subst, ◌∙◌}
 use Rattle.std.specs.List.{flat_map}
 use Rattle.dtc_dialect.specs.Copied.{IsPut, name_text}
 use Rattle.dtc_dialect.specs.Said.{label_text, named, slash}
@@ -17,7 +17,7 @@ returns c =
     let new = c.put_name.new.printer.text.items in
     on-ok c.put_name.result (λ put. (
       front ++ name,
-      named labels c.if-node-eq-ROOT.false tt,
+      named labels c.if-node-eq-ROOT.false (c.as_slice.ensures.value ∙ c.in_ok-labels.ensures c.requires),
       put-both c.args.printer.now.text.items c.put_labels.new.printer.text.items new front name c.in_ok-put_labels.ensures
           (subst (λ text. IsPut text.items new name) c.note-2.ensures put),
     )) c.put_name.ensures
