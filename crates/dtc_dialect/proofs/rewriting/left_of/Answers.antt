@@ -1,8 +1,8 @@
 use Rattle.dtc_dialect.proofs.Omitting.{preorder-same}
 use Rattle.dtc_dialect.proofs.rewriting.left_of.Goals as goal
 
-pub omit-requires : goal.omit-requires
-omit-requires c = c.requires.known
+pub omit-omits-requires : goal.omit-omits-requires
+omit-omits-requires c = c.requires.known
 
 pub returns : goal.returns
 returns c =
