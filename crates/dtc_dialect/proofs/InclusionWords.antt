@@ -1,5 +1,5 @@
 -- The words of an inclusion, one by one.
-use Rattle.std.proofs.Common.{◌≡◌, ℕ, zero, suc, ◌+◌, ◌-◌, ◌<◌, ◌≤◌, Bool, true, false, eqb, nat_eq, List, [], ◌∷◌, length, take, drop, Option, Some, None, refl, sym, ap, subst, ◌∙◌, arith}
+use Rattle.std.proofs.Common.{◌≡◌, ℕ, zero, suc, ◌<◌, Bool, true, false, eqb, nat_eq, List, [], ◌∷◌, length, take, drop, Option, Some, None, refl, sym, ap, subst, arith}
 use Rattle.std.specs.Prelude.{◌≢◌, ◌&&◌, ◌||◌, codes}
 use Rattle.std.specs.Cmp.Lexicographic.{pointwise}
 use Rattle.std.proofs.lemmas.Bool.{eqb-true}
@@ -9,7 +9,7 @@ use Rattle.dt_lexeme.specs.Gaps.{begins_comment}
 use Rattle.dtc_dialect.specs.Bytes.{run_of}
 use Rattle.dtc_dialect.specs.declared.bytes.Class.TheVariants.{Blank, Line, Word}
 use Rattle.dtc_dialect.specs.declared.words.Inclusion.{Inclusion}
-use Rattle.dtc_dialect.specs.Gaps.{Gaps, begins_line_comment, comment_len, gap_len, is_unclosed}
+use Rattle.dtc_dialect.specs.Gaps.{begins_line_comment, comment_len, gap_len, is_unclosed}
 use Rattle.dtc_dialect.specs.Integer.{integer_of}
 use Rattle.dtc_dialect.specs.Inclusion.{Number, Passes, Quoted, Sign, Skips, TakesIn, begins_incbin, begins_include, begins_quote, begins_remark, byte, is_quote, nothing, remark}
 use Rattle.dtc_dialect.proofs.GapHere.{comment_there, line_some, line_there, unclosed_there}

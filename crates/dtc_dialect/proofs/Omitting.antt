@@ -5,7 +5,7 @@ use Rattle.std.proofs.lemmas.Bool.{cases_eq, cases_lt, eqb-true, eq-eqb, falseâ‰
 use Rattle.std.proofs.lemmas.List.{get_or-set_same, get_or-set_other, get_or_past, length-set, take_all}
 use Rattle.std.proofs.lemmas.List.Folds.{list_any_more}
 use Rattle.dtc_dialect.specs.Chains.{Lists}
-use Rattle.dtc_dialect.specs.Omission.{Omits, goes, goes_by, has_symbol, is_any_gone, left_row}
+use Rattle.dtc_dialect.specs.Omission.{Omits, goes, goes_by, has_symbol, left_row}
 use Rattle.dtc_dialect.specs.Stops.{IsPreorder, IsStop, KnowsLabels, Walk, labels_in, nodes_of, properties_there}
 use Rattle.dtc_dialect.specs.Table.{deleted_at, no_node, node_at}
 use Rattle.dtc_dialect.specs.declared.numbers.Known.{Known}

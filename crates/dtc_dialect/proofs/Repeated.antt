@@ -1,7 +1,7 @@
 -- A name up to its `@`, as far as another one goes.
-use Rattle.std.proofs.Common.{◌≡◌, ℕ, zero, suc, ◌+◌, Bool, true, false, List, [], ◌∷◌, length, take, refl, ap, sym, ◌∙◌, ◌&&◌, nat_eq, arith}
+use Rattle.std.proofs.Common.{◌≡◌, ℕ, suc, ◌+◌, Bool, true, false, List, [], ◌∷◌, length, take, refl, ap, sym, ◌∙◌, ◌&&◌, nat_eq, arith}
 use Rattle.std.specs.Cmp.Lexicographic.{pointwise}
-use Rattle.std.specs.List.{before_first, position_or_len}
+use Rattle.std.specs.List.{position_or_len}
 use Rattle.std.proofs.Math.Numerals.{add-one}
 use Rattle.dtc_dialect.specs.Said.{base_name, is_at}
 

@@ -3,7 +3,7 @@ use Rattle.std.proofs.Common.{◌≡◌, ℕ, zero, suc, ◌+◌, ◌-◌, ◌<�
 use Rattle.std.specs.List.{flat_map}
 use Rattle.std.proofs.Math.Numerals.{add-one}
 use Rattle.std.proofs.lemmas.Grind.{flat_map-append}
-use Rattle.std.proofs.lemmas.List.{append_assoc, append-nil, drop_all, take_more}
+use Rattle.std.proofs.lemmas.List.{append_assoc, append-nil, take_more}
 use Rattle.dtc_dialect.specs.declared.preorder.Stop.{Stop}
 use Rattle.dtc_dialect.specs.declared.printing.Printed.{Printed}
 use Rattle.dtc_dialect.specs.declared.table.LabelRow.{LabelRow}

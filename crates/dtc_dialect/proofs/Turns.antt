@@ -1,5 +1,5 @@
 -- What properties and words do, one after the other.
-use Rattle.std.proofs.Common.{◌≡◌, ℕ, ◌+◌, ◌≤◌, List, [], ◌∷◌, drop, length, refl, sym, ap, subst, arith}
+use Rattle.std.proofs.Common.{◌≡◌, ℕ, ◌+◌, ◌≤◌, List, ◌∷◌, drop, length, refl, sym, ap, subst, arith}
 use Rattle.std.proofs.lemmas.List.{drop_all}
 use Rattle.dtc_dialect.specs.Phandles.{InTurn, ReferIn, RefersBy, cells_behind}
 use Rattle.dtc_dialect.specs.declared.numbers.Cells.{Cells}

@@ -1,5 +1,5 @@
 -- What was read of an inclusion, and what a text comes to while its files are open.
-use Rattle.std.specs.Prelude.{◌≡◌, ℕ, zero, suc, ◌<◌, List, [], ◌∷◌, ◌++◌, Option, None, Some, drop, true}
+use Rattle.std.specs.Prelude.{◌≡◌, ℕ, zero, suc, ◌<◌, List, [], ◌∷◌, ◌++◌, Option, None, Some, drop}
 use denote.Ref.{Bor}
 use Rattle.dtc_dialect.specs.declared.inclusion.Found.{Found}
 use Rattle.dtc_dialect.specs.declared.inclusion.Frame.{Frame}

@@ -1,4 +1,4 @@
-use Rattle.std.proofs.Common.{◌≡◌, ◌≢◌, List, None, Option, Some, ℕ, ap, rules, subst, sym, ◌∙◌}
+use Rattle.std.proofs.Common.{◌≡◌, ◌≢◌, List, Option, Some, ℕ, ap, rules, subst, sym, ◌∙◌}
 use Rattle.dtc_dialect.specs.Copied.{words_of}
 use Rattle.dtc_dialect.specs.Phandles.{NamesBy, computed, itself, literal, number_of, reference_of}
 use Rattle.dtc_dialect.specs.declared.token.Token.{Token}

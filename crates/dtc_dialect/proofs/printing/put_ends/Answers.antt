@@ -1,4 +1,4 @@
-use Rattle.std.proofs.Common.{[], codes, sym, subst}
+use Rattle.std.proofs.Common.{codes, sym, subst}
 use Rattle.dtc_dialect.specs.Copied.{IsPut}
 use Rattle.dtc_dialect.specs.Said.{ends}
 use Rattle.dtc_dialect.proofs.Copying.{put-both, put-nothing}

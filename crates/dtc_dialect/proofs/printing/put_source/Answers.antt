@@ -1,6 +1,6 @@
 use Rattle.std.proofs.Common.{◌++◌, codes, subst}
 use Rattle.dtc_dialect.specs.Said.{AreNodes, AreReserved, header_text, root_text, whole}
-use Rattle.dtc_dialect.proofs.Copying.{put-both, put-three}
+use Rattle.dtc_dialect.proofs.Copying.{put-three}
 use Rattle.dtc_dialect.proofs.printing.put_source.Goals as goal
 
 pub returns : goal.returns

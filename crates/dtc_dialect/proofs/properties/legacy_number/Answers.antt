@@ -1,4 +1,4 @@
-use Rattle.std.proofs.Common.{◌≡◌, ℕ, List, Option, Some, None, IfSome, sym, subst, ◌∙◌}
+use Rattle.std.proofs.Common.{◌≡◌, ℕ, List, Option, Some, None, IfSome, sym, subst}
 use Rattle.std.specs.Prelude.{slice_get}
 use denote.Ref.{Bor}
 use Rattle.dtc_dialect.specs.References.{NamesNode}

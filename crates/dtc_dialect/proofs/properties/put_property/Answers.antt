@@ -1,4 +1,4 @@
-use Rattle.std.proofs.Common.{[], ◌++◌, codes, refl, sym, ap, subst, is_some, ◌∙◌}
+use Rattle.std.proofs.Common.{[], ◌++◌, codes, sym, ap, subst, is_some, ◌∙◌}
 use Rattle.dtc_dialect.specs.Copied.{IsPut}
 use Rattle.dtc_dialect.specs.Said.{bare, dropped, valued}
 use Rattle.dtc_dialect.proofs.Copying.{on-ok, put-nothing, put-three}

@@ -1,4 +1,4 @@
-use Rattle.std.proofs.Common.{◌≤◌, ◌+◌, List, length, take, true, sym, subst, ◌∙◌}
+use Rattle.std.proofs.Common.{◌≤◌, ◌+◌, List, length, take, sym, subst, ◌∙◌}
 use Rattle.dtc_dialect.specs.declared.preorder.Stop.{Stop}
 use Rattle.dtc_dialect.proofs.Omitting.{Omitted, knows-same, omits-whole, omitted-all, omitted-is, omitted-more, omitted-none, omitted-passed}
 use Rattle.dtc_dialect.proofs.rewriting.omit.Goals as goal

@@ -1,5 +1,4 @@
-use Rattle.std.proofs.Common.{List, ℕ, ap, subst, length, inl, inr, arith}
-use Rattle.std.proofs.lemmas.List.{length-drop}
+use Rattle.std.proofs.Common.{List, ℕ, subst, inl, inr}
 use Rattle.dtc_dialect.specs.Inclusion.{Passes, nothing}
 use Rattle.dtc_dialect.proofs.InclusionWords.{empty_is, words_next}
 use Rattle.dtc_dialect.proofs.words.next_inclusion.Goals as goal

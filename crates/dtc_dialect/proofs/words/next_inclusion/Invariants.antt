@@ -1,5 +1,5 @@
 -- What is passed from here on is passed from the begin on too.
-use Rattle.std.proofs.Common.{◌≡◌, ℕ, List, length}
+use Rattle.std.proofs.Common.{ℕ, List, length}
 use Rattle.dtc_dialect.specs.Inclusion.{Passes}
 use Rattle.dtc_dialect.proofs.words.next_inclusion.Given as goal
 

@@ -1,5 +1,5 @@
 -- What stands between the place here and another stands between the begin and that one too.
-use Rattle.std.proofs.Common.{◌≡◌, ℕ, List, length}
+use Rattle.std.proofs.Common.{ℕ, List, length}
 use Rattle.dtc_dialect.specs.Gaps.{Gaps}
 use Rattle.dtc_dialect.proofs.words.Words.skip_gap.Given as goal
 
