@@ -8,8 +8,9 @@ use Rattle.dtc_dialect.specs.declared.preorder.Stop.{Stop}
 use Rattle.dtc_dialect.specs.declared.printing.Printed.{Printed}
 use Rattle.dtc_dialect.specs.declared.table.LabelRow.{LabelRow}
 use Rattle.dtc_dialect.specs.declared.table.Tokens.{Tokens}
-use Rattle.dtc_dialect.specs.Copied.{Between, Copied, IsPut, part_of}
-use Rattle.dtc_dialect.specs.Said.{AreNodes, AreReserved, AreSaid, IsNode, IsSaidAt, StandsFor, ends, next_node, property, reserve, root_label, root_text}
+use Rattle.dtc_dialect.specs.Copied.{Between, IsPut, part_of}
+use Rattle.dtc_dialect.specs.Phandles.{no_cells}
+use Rattle.dtc_dialect.specs.Said.{AreNodes, AreReserved, AreSaid, Copied, IsNode, IsSaidAt, StandsFor, ends, next_node, property, reserve, root_label, root_text}
 use Rattle.dtc_dialect.proofs.Copying.{put-both, put-nothing}
 
 -- One more is said, behind which `s` becomes `t`.
@@ -20,7 +21,7 @@ say-more Says r s t xs i x said one is step so rest says =
     subst (Says r xs) (sym (append_assoc said one rest)) (so (one ++ rest) (subst (λ ys. Says s ys (one ++ rest)) (sym is) (step rest says)))
 
 pub reserve-more : (what : Printed) (reserves : List Tokens) (i : ℕ) (words : Tokens) (said one close : List ℕ) → drop i reserves ≡ words ∷ drop (i + 1) reserves
-    → Copied (StandsFor what) (part_of words.start words.end what.view.tokens.now) one → Between false close
+    → Copied (StandsFor what) no_cells (part_of words.start words.end what.view.tokens.now) one → Between false close
     → ((rest : List ℕ) → AreReserved what (drop i reserves) rest → AreReserved what reserves (said ++ rest)) → (rest : List ℕ) → AreReserved what (drop (i + 1) reserves) rest
     → AreReserved what reserves (said ++ (one ++ (close ++ codes ";")) ++ rest)
 reserve-more what reserves i words said one close is copied between so rest says =

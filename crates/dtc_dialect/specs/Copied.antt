@@ -7,8 +7,7 @@ use Rattle.dtc_dialect.specs.declared.table.Fragment.{Fragment}
 use Rattle.dtc_dialect.specs.declared.table.Tokens.{Tokens}
 use Rattle.dtc_dialect.specs.declared.token.Token.{Token}
 use Rattle.dtc_dialect.specs.declared.token.Kind.{Kind}
-use Rattle.dtc_dialect.specs.declared.token.Kind.TheVariants.{Character, Reference}
-use Rattle.dtc_dialect.specs.Character.{character_of}
+use Rattle.dtc_dialect.specs.declared.token.Kind.TheVariants.{Character}
 
 -- what stands between two numbers of a list, as far as it goes
 abbrev pub part_of : {A : Type 0} → ℕ → ℕ → List A → List A
@@ -40,17 +39,6 @@ inside text = drop 1 (take (length text - 1) text)
 abbrev pub is_character : Kind → Bool
 is_character Character = true
 is_character kind = false
-
--- How a word is said: as it stands; a character literal as its number; and a reference by a number that stands for it.
-pub data IsWord (Stands : List ℕ → ℕ → Type 0) (token : Token) : List ℕ → Type 0 where
-  itself : is_character token.kind ≡ false → IsWord Stands token token.text.now
-  character : (n : ℕ) → is_character token.kind ≡ true → character_of (inside token.text.now) ≡ Some n → IsWord Stands token (decimal n)
-  number : (n : ℕ) → token.kind ≡ Reference → Stands token.text.now n → IsWord Stands token (decimal n)
-
--- These bytes say the words in their order.
-pub data Copied (Stands : List ℕ → ℕ → Type 0) : List Token → List ℕ → Type 0 where
-  end : Copied Stands [] []
-  word : {token : Token} {tokens : List Token} {gap said rest : List ℕ} → Between token.has_gap gap → IsWord Stands token said → Copied Stands tokens rest → Copied Stands (token ∷ tokens) (gap ++ said ++ rest)
 
 -- the words of a property's value, by the numbers of the first one and of the one behind the last
 abbrev pub words_of : List Token → Option Tokens → List Token

@@ -7,6 +7,7 @@ use Rattle.std.specs.List.{before_first, flat_map}
 use denote.Ref.{Bor}
 use Rattle.dt_lexeme.specs.Bytes.{begins}
 use Rattle.dtc_dialect.specs.declared.edits.Edited.{Edited}
+use Rattle.dtc_dialect.specs.declared.numbers.Cells.{Cells}
 use Rattle.dtc_dialect.specs.declared.numbers.Known.{Known}
 use Rattle.dtc_dialect.specs.declared.numbers.Numbers.{Numbers}
 use Rattle.dtc_dialect.specs.declared.preorder.Stop.{Stop}
@@ -16,10 +17,14 @@ use Rattle.dtc_dialect.specs.declared.table.NodeRow.{NodeRow}
 use Rattle.dtc_dialect.specs.declared.table.PropertyRow.{PropertyRow}
 use Rattle.dtc_dialect.specs.declared.table.Table.{Table}
 use Rattle.dtc_dialect.specs.declared.table.Tokens.{Tokens}
+use Rattle.dtc_dialect.specs.declared.token.Kind.{Kind}
+use Rattle.dtc_dialect.specs.declared.token.Kind.TheVariants.{Reference}
 use Rattle.dtc_dialect.specs.declared.token.Token.{Token}
-use Rattle.dtc_dialect.specs.Copied.{Between, Copied, IsPut, inside, name_text, part_of, phandle_text, words_of}
+use Rattle.dtc_dialect.specs.Copied.{Between, IsPut, inside, is_character, name_text, part_of, phandle_text, words_of}
+use Rattle.dtc_dialect.specs.Phandles.{cells_behind, no_cells}
 use Rattle.dtc_dialect.specs.References.{NamesNode}
 use Rattle.dtc_dialect.specs.Stops.{labels_there}
+use Rattle.dtc_dialect.specs.Character.{character_of}
 
 -- ---- phandles
 -- what is known of a node's phandle, where numbers are written out
@@ -35,13 +40,18 @@ abbrev pub legacy_in : Option Known → Option ℕ
 legacy_in None = None
 legacy_in (Some known) = if known.is_legacy then known.given else None
 
-abbrev pub StandsIn : Option (Bor Numbers) → Table → List ℕ → ℕ → Type 0
-StandsIn None table reference n = ⊥
-StandsIn (Some numbers) table reference n = (node : ℕ) × NamesNode table reference (Some node) × (legacy_in (slice_get numbers.now.known.items node) ≡ Some n)
+abbrev pub legacy_at : List Known → Option ℕ → Option ℕ
+legacy_at rows None = None
+legacy_at rows (Some node) = legacy_in (slice_get rows node)
 
--- A number stands for a reference where numbers are written out, and the node that it names has it by `linux,phandle` alone.
-abbrev pub StandsFor : Printed → List ℕ → ℕ → Type 0
-StandsFor what reference n = StandsIn what.numbers what.view.table.now reference n
+abbrev pub StandsIn : Option (Bor Numbers) → Table → List ℕ → Option ℕ → Type 0
+StandsIn None table reference o = o ≡ None
+StandsIn (Some numbers) table reference o = (node : Option ℕ) × NamesNode table reference node × (o ≡ legacy_at numbers.now.known.items node)
+
+-- The number that stands for a reference, if one does: numbers are written out, and the node that it names has it by
+-- `linux,phandle` alone.
+abbrev pub StandsFor : Printed → List ℕ → Option ℕ → Type 0
+StandsFor what reference o = StandsIn what.numbers what.view.table.now reference o
 
 abbrev pub asked_in : Option Known → List ℕ → Option ℕ
 asked_in None name = None
@@ -51,13 +61,39 @@ asked_in (Some known) name = if known.asks && pointwise nat_eq name (codes "phan
 abbrev pub asked_of : Printed → PropertyRow → Option ℕ
 asked_of what row = asked_in (known_of what row.node) row.name.now
 
+-- ---- words
+abbrev pub is_cell_reference : Kind → (in_cells : Bool) → Bool
+is_cell_reference Reference in_cells = in_cells
+is_cell_reference kind in_cells = false
+
+abbrev pub CellNumber : (List ℕ → Option ℕ → Type 0) → (is_reference : Bool) → List ℕ → Option ℕ → Type 0
+CellNumber Stands true text o = Stands text o
+CellNumber Stands false text o = o ≡ None
+
+-- the number that stands for a word, if one does: for a reference in cells alone
+abbrev pub WordNumber : (List ℕ → Option ℕ → Type 0) → (in_cells : Bool) → Token → Option ℕ → Type 0
+WordNumber Stands in_cells token o = CellNumber Stands (is_cell_reference token.kind in_cells) token.text.now o
+
+-- How a word is said: a character literal as its number; any other by the number that stands for it, or as it stands.
+pub data IsWord (Stands : List ℕ → Option ℕ → Type 0) (in_cells : Bool) (token : Token) : List ℕ → Type 0 where
+  itself : is_character token.kind ≡ false → WordNumber Stands in_cells token None → IsWord Stands in_cells token token.text.now
+  character : (n : ℕ) → is_character token.kind ≡ true → character_of (inside token.text.now) ≡ Some n → IsWord Stands in_cells token (decimal n)
+  number : (n : ℕ) → is_character token.kind ≡ false → WordNumber Stands in_cells token (Some n) → IsWord Stands in_cells token (decimal n)
+
+-- These bytes say the words in their order, which stand behind a word that leaves cells open or not.
+pub data Copied (Stands : List ℕ → Option ℕ → Type 0) : Cells → List Token → List ℕ → Type 0 where
+  end : {cells : Cells} → Copied Stands cells [] []
+  word : {cells : Cells} {token : Token} {tokens : List Token} {gap said rest : List ℕ} → Between token.has_gap gap
+      → IsWord Stands (cells_behind cells token.kind).are_open token said → Copied Stands (cells_behind cells token.kind) tokens rest
+      → Copied Stands cells (token ∷ tokens) (gap ++ said ++ rest)
+
 -- ---- properties
 abbrev pub value_of : Printed → PropertyRow → List Token
 value_of what row = words_of what.view.tokens.now row.value
 
 -- How a value is said: by its words; that of `phandle` by the number, where it asks for one.
 pub data IsValue (what : Printed) (row : PropertyRow) : List ℕ → Type 0 where
-  copied : {said : List ℕ} → asked_of what row ≡ None → Copied (StandsFor what) (value_of what row) said → IsValue what row said
+  copied : {said : List ℕ} → asked_of what row ≡ None → Copied (StandsFor what) no_cells (value_of what row) said → IsValue what row said
   asked : (n : ℕ) → asked_of what row ≡ Some n → IsValue what row (codes " <" ++ decimal n ++ codes ">")
 
 abbrev pub is_at : ℕ → Bool
@@ -138,7 +174,7 @@ header_text true = codes "/dts-v1/; /plugin/;"
 -- These bytes say the reservations by their words.
 pub data AreReserved (what : Printed) : List Tokens → List ℕ → Type 0 where
   all_reserved : AreReserved what [] []
-  reserve : {words : Tokens} {reserves : List Tokens} {said close rest : List ℕ} → Copied (StandsFor what) (part_of words.start words.end what.view.tokens.now) said
+  reserve : {words : Tokens} {reserves : List Tokens} {said close rest : List ℕ} → Copied (StandsFor what) no_cells (part_of words.start words.end what.view.tokens.now) said
       → Between false close → AreReserved what reserves rest → AreReserved what (words ∷ reserves) (said ++ (close ++ codes ";") ++ rest)
 
 abbrev pub root_label : LabelRow → List ℕ

@@ -1,12 +1,12 @@
 //! Properties and their words, said one behind the other.
-ghost use Rattle.std.specs.Prelude.{◌≡◌, IfSome, OnOk, Some, nat_eq, slice_get};
+ghost use Rattle.std.specs.Prelude.{◌≡◌, OnOk, Some, nat_eq, slice_get};
 ghost use Rattle.std.specs.Cmp.Lexicographic.{pointwise};
-ghost use Rattle.dtc_dialect.specs.declared.token.Kind.TheVariants.{Reference};
-ghost use Rattle.dtc_dialect.specs.Copied.{Copied, IsWord, inside, is_character};
+ghost use Rattle.dtc_dialect.specs.Copied.{inside, is_character};
 ghost use Rattle.dtc_dialect.specs.Private.Printed.{Prints, PrintsCharacter, PrintsEnd};
+ghost use Rattle.dtc_dialect.specs.Phandles.{no_cells};
 ghost use Rattle.dtc_dialect.specs.References.{NamesNode};
-ghost use Rattle.dtc_dialect.specs.Said.{AreSaid, IsSaid, IsSaidAt, IsValue, StandsFor};
-ghost use Rattle.dtc_dialect.specs.Said.{asked_of, base_name, is_name_of, known_of, legacy_in, repeats_name, says_name};
+ghost use Rattle.dtc_dialect.specs.Said.{AreSaid, Copied, IsSaid, IsSaidAt, IsValue, IsWord, StandsFor, WordNumber};
+ghost use Rattle.dtc_dialect.specs.Said.{asked_of, base_name, is_cell_reference, is_name_of, known_of, legacy_at, legacy_in, repeats_name, says_name};
 
 use crate::bytes::{begins, behind, front};
 use crate::character::character;
@@ -172,7 +172,7 @@ pub(crate) fn put_tokens<'t>(
     what: Printed<'_, 't>,
     tokens: &[Token<'t>],
 ) -> Result<(), DialectError<'t>>
-    ensures { OnOk result (Prints printer.old printer.new (Copied (StandsFor what.entry) tokens.now)) }
+    ensures { OnOk result (Prints printer.old printer.new (Copied (StandsFor what.entry) no_cells tokens.now)) }
 {
     let mut cells = Cells::none();
     for token in tokens {
@@ -192,17 +192,36 @@ fn put_word<'t>(
     token: &Token<'t>,
     in_cells: bool,
 ) -> Result<(), DialectError<'t>>
-    ensures { OnOk result (Prints printer.old printer.new (IsWord (StandsFor what.entry) token.now)) }
+    ensures { OnOk result (Prints printer.old printer.new (IsWord (StandsFor what.entry) in_cells token.now)) }
 {
     if is_character(token.kind) {
         return put_character(alloc, printer, token);
     }
-    match token.kind {
-        Kind::Reference if in_cells => return put_reference(alloc, printer, what, token),
-        _ => {}
-    }
-    printer.put(token.text)?;
+    let Some(number) = word_number(what, token, in_cells) else {
+        printer.put(token.text)?;
+        return Ok(());
+    };
+    printer.put_number(alloc, number)?;
     Ok(())
+}
+
+/// The number that stands for a word: for a reference in cells alone.
+fn word_number<'t>(what: Printed<'_, 't>, token: &Token<'t>, in_cells: bool) -> Option<u64>
+    ensures { WordNumber (StandsFor what.entry) in_cells token.now result }
+{
+    if is_cell_reference(token.kind, in_cells) {
+        return legacy_number(what, token);
+    }
+    None
+}
+
+fn is_cell_reference(kind: Kind, in_cells: bool) -> bool
+    ensures { result ≡ is_cell_reference kind in_cells }
+{
+    match kind {
+        Kind::Reference => in_cells,
+        _ => false,
+    }
 }
 
 fn is_character(kind: Kind) -> bool
@@ -227,21 +246,24 @@ fn put_character<'t>(
 
 /// The number of the node that a reference names, where it has it by `linux,phandle` alone and numbers are written out.
 fn legacy_number<'t>(what: Printed<'_, 't>, token: &Token<'t>) -> Option<u64>
-    ensures { IfSome result (λ n. StandsFor what.entry token.now.text.now n) }
+    ensures { StandsFor what.entry token.now.text.now result }
 {
     let Some(numbers) = what.numbers else {
         return None;
     };
-    let Some(node) = named(what, token) else {
-        return None;
-    };
-    legacy_in(numbers, node)
+    legacy_at(numbers, named(what, token))
 }
 
 fn named<'t>(what: Printed<'_, 't>, token: &Token<'t>) -> Option<usize>
-    ensures { IfSome result (λ node. NamesNode what.entry.view.table.now token.now.text.now (Some node)) }
+    ensures { NamesNode what.entry.view.table.now token.now.text.now result }
 {
     what.view.table.referred(token.text)
+}
+
+fn legacy_at(numbers: &Numbers, node: Option<usize>) -> Option<u64>
+    ensures { result ≡ legacy_at numbers.now.known.items node }
+{
+    legacy_in(numbers, node?)
 }
 
 fn legacy_in(numbers: &Numbers, node: usize) -> Option<u64>
@@ -249,24 +271,6 @@ fn legacy_in(numbers: &Numbers, node: usize) -> Option<u64>
 {
     let known = numbers.known.get(node).copied()?;
     if known.is_legacy { known.given } else { None }
-}
-
-/// A reference in cells.
-fn put_reference<'t>(
-    alloc: Global,
-    printer: &mut Printer<'t>,
-    what: Printed<'_, 't>,
-    token: &Token<'t>,
-) -> Result<(), DialectError<'t>>
-    requires { token.now.kind ≡ Reference }
-    ensures { OnOk result (Prints printer.old printer.new (IsWord (StandsFor what.entry) token.now)) }
-{
-    let Some(number) = legacy_number(what, token) else {
-        printer.put(token.text)?;
-        return Ok(());
-    };
-    printer.put_number(alloc, number)?;
-    Ok(())
 }
 
 /// Puts the semicolon that is a token.

@@ -1,7 +1,7 @@
 use Rattle.std.proofs.Common.{[], ◌++◌, codes, drop, sym, subst}
 use Rattle.std.proofs.lemmas.List.{append-nil, drop_all, drop_more}
-use Rattle.dtc_dialect.specs.Copied.{Copied}
-use Rattle.dtc_dialect.specs.Said.{AreReserved, StandsFor, all_reserved}
+use Rattle.dtc_dialect.specs.Phandles.{no_cells}
+use Rattle.dtc_dialect.specs.Said.{AreReserved, Copied, StandsFor, all_reserved}
 use Rattle.dtc_dialect.proofs.Copying.{put-both, put-nothing}
 use Rattle.dtc_dialect.proofs.Saying.{reserve-more}
 use Rattle.dtc_dialect.proofs.printing.put_reserves.Goals as goal
@@ -20,7 +20,7 @@ loop-reserve-preserved c =
     let split = drop_more c.args.reserves.now c.loop-reserve.reserve-index _ c.loop-reserve-test.true in (
       whole.0 ++ (words.0 ++ end),
       reserve-more what c.args.reserves.now c.loop-reserve.reserve-index _ whole.0 words.0 close.0 split
-          (subst (λ tokens. Copied (StandsFor what) tokens words.0) c.part.ensures words.1) close.1 whole.1,
+          (subst (λ tokens. Copied (StandsFor what) no_cells tokens words.0) c.part.ensures words.1) close.1 whole.1,
       put-both c.args.printer.now.text.items c.loop-reserve.printer.text.items new whole.0 (words.0 ++ end) whole.2
           (put-both c.loop-reserve.printer.text.items c.put_tokens.new.printer.text.items new words.0 end words.2 close.2),
     )
