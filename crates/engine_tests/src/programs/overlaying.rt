@@ -1,7 +1,7 @@
 //! `overlay` over files in memory: what stands in OUT, and when it is opened at all.
 
 use super::compiling::BLOB as BASE;
-use super::runs::{Files, Writing, rows_write};
+use super::runs::{Files, Writing, row_writes, rows_write};
 use dtman_engine::compile_bytes;
 use std::alloc::Global;
 use std::hash::RandomState;
@@ -54,7 +54,9 @@ fn applies_to_a_file(rt: HostRuntime) {
     let hasher = RandomState::new(&rt).expect(&rt, "a seed");
     let overlay = compiled(&rt, rt.alloc(), hasher, OVERLAY);
     let files = [("base.dtb", BASE), ("over.dtbo", overlay.as_slice())];
-    rows_write(&rt, files.as_slice(), ROWS);
+    for row in ROWS {
+        row_writes(&rt, files.as_slice(), hasher, row);
+    }
 }
 
 const FILES: Files = &[

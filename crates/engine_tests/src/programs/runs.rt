@@ -78,16 +78,27 @@ pub fn rows_end<R: AllocGlobal + RandomSource + Threads + Sync + Abort>(
     }
 }
 
-/// That each row's run over the files ends as it tells, and leaves the file OUT so.
-pub fn rows_write<R: AllocGlobal + RandomSource + Threads + Sync + Abort>(
+/// That the row's run over the files ends as it tells, and leaves the file OUT so.
+pub fn row_writes<R: AllocGlobal + Threads + Sync + Abort>(
     rt: &R,
     files: &[(&str, &[u8])],
+    hasher: RandomState,
+    row: &Writing,
+) {
+    let (words, status, told, written) = row;
+    let mut shelf = Shelf::new(rt.alloc(), files, hasher);
+    ends(rt, *words, &mut shelf, *status, "", *told);
+    assert!(rt; shelf.has_written("out", *written));
+}
+
+/// That each row's run does so.
+pub fn rows_write<R: AllocGlobal + RandomSource + Threads + Sync + Abort>(
+    rt: &R,
+    files: Files,
     rows: &[Writing],
 ) {
     let hasher = RandomState::new(rt).expect(rt, "a seed");
-    for (words, status, told, written) in rows {
-        let mut shelf = Shelf::new(rt.alloc(), files, hasher);
-        ends(rt, *words, &mut shelf, *status, "", *told);
-        assert!(rt; shelf.has_written("out", *written));
+    for row in rows {
+        row_writes(rt, files, hasher, row);
     }
 }
