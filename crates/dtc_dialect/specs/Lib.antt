@@ -15,6 +15,7 @@ pub mod Preorder
 pub mod Private
 pub mod References
 pub mod Said
+pub mod Searching
 pub mod Statements
 pub mod Stops
 pub mod Table

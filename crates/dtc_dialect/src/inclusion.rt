@@ -1,5 +1,5 @@
 //! What a source takes in from other files: `/include/ "FILE"` and `/incbin/("FILE"[, OFFSET, LENGTH])`.
-ghost use Rattle.std.specs.Prelude.{◌≡◌, ◌<◌, ◌↔◌, ◌++◌, ℕ, List, IfOk, IfSome, [], ◌∷◌, OnOk, vec_len};
+ghost use Rattle.std.specs.Prelude.{◌≡◌, ◌<◌, ◌↔◌, ◌++◌, ℕ, List, IfOk, [], ◌∷◌, OnOk, vec_len};
 ghost use Rattle.std.specs.Char.{digit_char};
 ghost use Rattle.dtc_dialect.specs.Inclusion.{Includes, MayNest, byte_string_of, part_of};
 ghost use Rattle.dtc_dialect.specs.Private.Included.{Goes, IsPassed, IsTaken, Turns};
@@ -27,9 +27,11 @@ pub struct Found {
 /// Files by the names that sources give them.
 pub trait Files {
     ghost use Rattle.dtc_dialect.specs.declared.inclusion.Found.{Found};
+    ghost use Rattle.dtc_dialect.specs.Searching.{IsSought};
 
-    // that a file has a name beside a path; each kind of files says what that means
+    // that a file has a name beside a path, and that none has; each kind of files says what that means
     ghost finds: { List ℕ → List ℕ → Found → Type 0 };
+    ghost lacks: { List ℕ → List ℕ → Type 0 };
 
     /// The file of a name, beside the file that names it or on the search path; none where there is none.
     fn find(
@@ -38,7 +40,7 @@ pub trait Files {
         beside: &[u8],
         name: &[u8],
     ) -> Result<Option<Found>, AllocError>
-        ensures { IfOk result (λ found. IfSome found (finds beside.now name.now)) };
+        ensures { IfOk result (IsSought finds lacks beside.now name.now) };
 }
 
 /// Why a text isn't whole.

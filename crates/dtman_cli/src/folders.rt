@@ -16,6 +16,7 @@ pub struct Folders<'a, S> {
 
 impl<S: Surroundings> Files for Folders<'_, S> {
     ghost finds = { λ beside name found. Unit {0} };
+    ghost lacks = { λ beside name. Unit {0} };
 
     fn find(
         &mut self,

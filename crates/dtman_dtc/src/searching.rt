@@ -13,6 +13,7 @@ pub(crate) struct Searching<'a, H> {
 
 impl<H: Host> Files for Searching<'_, H> {
     ghost finds = { λ beside name found. Unit {0} };
+    ghost lacks = { λ beside name. Unit {0} };
 
     fn find(
         &mut self,
