@@ -23,6 +23,7 @@ pub mod Repeated
 mod RowChains
 mod RowLists
 mod Saying
+mod Searches
 mod TableSteps
 mod TokenFirsts
 mod TokenKinds

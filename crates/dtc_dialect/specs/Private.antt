@@ -1,4 +1,4 @@
--- What private contracts cite: changes of a table and of chains, bodies that begin, walks through nodes and rows, rows as they are said.
+-- What private contracts cite: changes of a table and of chains, bodies that begin, walks through nodes and rows, rows as they are said, files at paths.
 -- No public clause rests on it.
 pub mod Bodies
 pub mod Chaining
@@ -6,5 +6,6 @@ pub mod Changes
 pub mod Included
 pub mod Printed
 pub mod Rows
+pub mod Sought
 pub mod Walking
 pub mod Walks

@@ -1,14 +1,25 @@
 //! Files by the names that sources give them: beside the file that names them, then in folders, in order.
+ghost use Rattle.std.specs.Prelude.{◌≡◌, ℕ, List, IfOk, map};
+ghost use Rattle.dtc_dialect.specs.Private.Sought.{Answers, AnswersFirst};
+ghost use Rattle.dtc_dialect.specs.Searching.{FindsWithin, IsFolder, IsSought, LacksWithin, in_folder, is_closed};
 
-use crate::bytes::front;
+use crate::bytes::{begins, front};
 use crate::inclusion::Found;
 use std::alloc::{AllocError, Global};
 use std::str;
 
 /// Files by their paths.
 pub trait Reads {
+    ghost use Rattle.dtc_dialect.specs.Searching.{IsRead};
+
+    // that a path was read to these bytes, and that no file was read there; each kind of files says what that means
+    ghost reads: { List ℕ → List ℕ → Type 0 };
+
+    ghost lacks: { List ℕ → Type 0 };
+
     /// The bytes of a file; none where it can't be read.
-    fn read(&mut self, alloc: Global, path: &str) -> Result<Option<Vec<u8>>, AllocError>;
+    fn read(&mut self, alloc: Global, path: &str) -> Result<Option<Vec<u8>>, AllocError>
+        ensures { IfOk result (IsRead reads lacks path.now) };
 }
 
 /// The file of a name, as dtc looks for it: by the name alone where that begins with a slash, else beside the file that
@@ -19,13 +30,28 @@ pub fn search<R: Reads>(
     folders: &[&str],
     beside: &[u8],
     name: &[u8],
-) -> Result<Option<Found>, AllocError> {
-    if name.first().is_some_and(|c| *c == b'/') {
+) -> Result<Option<Found>, AllocError>
+    ensures { let within = map (λ folder. folder.now) folders.now in
+        IfOk result (IsSought (FindsWithin R.reads R.lacks within) (LacksWithin R.lacks within) beside.now name.now) }
+{
+    if begins(name, b'/') {
         return read_in(alloc, reads, b"", name);
     }
     if let Some(found) = read_in(alloc, reads, folder_of(beside), name)? {
         return Ok(Some(found));
     }
+    read_first(alloc, reads, folders, name)
+}
+
+/// The file of a name in the first of these folders that has one.
+fn read_first<R: Reads>(
+    alloc: Global,
+    reads: &mut R,
+    folders: &[&str],
+    name: &[u8],
+) -> Result<Option<Found>, AllocError>
+    ensures { IfOk result (AnswersFirst R.reads R.lacks (map (λ folder. in_folder folder.now name.now) folders.now)) }
+{
     for folder in folders {
         if let Some(found) = read_in(alloc, reads, folder.as_bytes(), name)? {
             return Ok(Some(found));
@@ -40,12 +66,10 @@ fn read_in<R: Reads>(
     reads: &mut R,
     folder: &[u8],
     name: &[u8],
-) -> Result<Option<Found>, AllocError> {
-    let mut path = Vec::from_slice(alloc, folder)?;
-    if path.last().is_some_and(|c| *c != b'/') {
-        path.push(b'/')?;
-    }
-    path.extend_from_slice(name)?;
+) -> Result<Option<Found>, AllocError>
+    ensures { IfOk result (Answers R.reads R.lacks (in_folder folder.now name.now)) }
+{
+    let path = path_in(alloc, folder, name)?;
     let Ok(text) = str::from_utf8(path.as_slice()) else {
         return Ok(None);
     };
@@ -55,13 +79,35 @@ fn read_in<R: Reads>(
     }
 }
 
+/// The path of a name in a folder.
+fn path_in(alloc: Global, folder: &[u8], name: &[u8]) -> Result<Vec<u8>, AllocError>
+    ensures { IfOk result (λ path. path.items ≡ in_folder folder.now name.now) }
+{
+    let mut path = Vec::from_slice(alloc, folder)?;
+    if !is_closed(folder) {
+        path.push(b'/')?;
+    }
+    path.extend_from_slice(name)?;
+    Ok(path)
+}
+
+/// Whether a name can stand behind a folder as it is.
+fn is_closed(folder: &[u8]) -> bool
+    ensures { result ≡ is_closed folder.now }
+{
+    match folder.last() {
+        Some(c) => *c == b'/',
+        None => true,
+    }
+}
+
 /// The folder of a path, with its slash, or nothing where it names none.
-fn folder_of(path: &[u8]) -> &[u8] {
-    let mut end = 0;
-    for (i, c) in path.iter().enumerate() {
-        if *c == b'/' {
-            end = i + 1;
-        }
+fn folder_of(path: &[u8]) -> &[u8]
+    ensures { IsFolder path.now result.now }
+{
+    let mut end = path.len();
+    while !is_closed(front(path, end)) {
+        end -= 1;
     }
     front(path, end)
 }
