@@ -15,7 +15,9 @@ pub struct Folders<'a, S> {
 }
 
 impl<S: Surroundings> Files for Folders<'_, S> {
+    // What `search` promises speaks of the folders; they stand in `self`, of which these know nothing.
     ghost finds = { λ beside name found. Unit {0} };
+
     ghost lacks = { λ beside name. Unit {0} };
 
     fn find(
@@ -30,6 +32,11 @@ impl<S: Surroundings> Files for Folders<'_, S> {
 }
 
 impl<S: Surroundings> Reads for Folders<'_, S> {
+    // Nothing is promised of a disk.
+    ghost reads = { λ path bytes. Unit {0} };
+
+    ghost lacks = { λ path. Unit {0} };
+
     fn read(&mut self, alloc: Global, path: &str) -> Result<Option<Vec<u8>>, AllocError> {
         if self.is_broken {
             return Ok(None);

@@ -12,7 +12,9 @@ pub(crate) struct Searching<'a, H> {
 }
 
 impl<H: Host> Files for Searching<'_, H> {
+    // What `search` promises speaks of the folders; they stand in `self`, of which these know nothing.
     ghost finds = { λ beside name found. Unit {0} };
+
     ghost lacks = { λ beside name. Unit {0} };
 
     fn find(
@@ -27,6 +29,11 @@ impl<H: Host> Files for Searching<'_, H> {
 }
 
 impl<H: Host> Reads for Searching<'_, H> {
+    // Nothing is promised of a disk.
+    ghost reads = { λ path bytes. Unit {0} };
+
+    ghost lacks = { λ path. Unit {0} };
+
     fn read(&mut self, alloc: Global, path: &str) -> Result<Option<Vec<u8>>, AllocError> {
         let Ok(bytes) = self.host.read(alloc, path) else {
             return Ok(None);
