@@ -8,4 +8,6 @@ mod origins;
 #[cfg(test)]
 mod runs;
 #[cfg(test)]
+mod searching;
+#[cfg(test)]
 mod shortfalls;
