@@ -1,9 +1,11 @@
 //! Lines of the user's files, by the line markers of a text.
-ghost use Rattle.std.specs.Prelude.{◌≡◌, ◌++◌, IfOk, OnOk};
+ghost use Rattle.std.specs.Prelude.{◌≡◌, ◌++◌, IfOk, OnOk, option_map};
 ghost use Rattle.dtc_dialect.specs.Copied.{marker_line};
 ghost use Rattle.dtc_dialect.specs.Inclusion.{has_sign, plain_of};
+ghost use Rattle.dtc_dialect.specs.Private.Places.{place_of, told_of};
+ghost use Rattle.dtc_dialect.specs.UserLines.{place_behind, place_told, told_by};
 
-use crate::bytes::{Class, behind, front, run_len};
+use crate::bytes::{Class, behind, front, line_ends, run_len};
 use crate::gaps::{Marker, read_marker};
 use crate::token::{Place, Span};
 use std::alloc::{AllocError, Global};
@@ -28,23 +30,22 @@ impl Line {
     }
 
     /// Behind more text.
-    pub fn advance(&mut self, text: &[u8]) -> Result<(), AllocError> {
-        let mut is_first = true;
-        let mut marker: Option<Marker<'_>> = None;
-        for (i, c) in text.iter().enumerate() {
-            if is_first && *c == b'#' {
-                marker = line_marker(behind(text, i));
-            }
-            is_first = *c == b'\n';
-            if is_first {
-                self.end_line(marker)?;
-                marker = None;
-            }
+    pub fn advance(&mut self, text: &[u8]) -> Result<(), AllocError>
+        ensures { OnOk result (place_of self.new ≡ place_behind (place_of self.old) text.now) }
+    {
+        let mut left = text;
+        for _ in 0..line_ends(text) {
+            let len = run_len(Class::Line, left);
+            self.end_line(line_marker(front(left, len)))?;
+            left = behind(behind(left, len), 1);
         }
         Ok(())
     }
 
-    fn end_line(&mut self, marker: Option<Marker<'_>>) -> Result<(), AllocError> {
+    /// Behind a line.
+    fn end_line(&mut self, marker: Option<Marker<'_>>) -> Result<(), AllocError>
+        ensures { OnOk result (place_of self.new ≡ place_told (place_of self.old) (option_map told_of marker.entry)) }
+    {
         match marker {
             None => self.line = self.line.saturating_add(1),
             Some(marker) => {
@@ -72,10 +73,12 @@ impl Line {
     }
 }
 
-/// The marker that a line begins with.
-fn line_marker<'t>(s: &'t [u8]) -> Option<Marker<'t>> {
-    match front(s, run_len(Class::Line, s)) {
-        [b'#', line @ ..] => read_marker(line),
+/// The marker that a line is.
+fn line_marker<'t>(line: &'t [u8]) -> Option<Marker<'t>>
+    ensures { option_map told_of result ≡ told_by line.now }
+{
+    match line {
+        [b'#', rest @ ..] => read_marker(rest),
         _ => None,
     }
 }
@@ -130,14 +133,14 @@ pub fn user_place<'t>(file: &'t [u8], text: &'t [u8], line: usize) -> Place<'t> 
     let mut left = text;
     for _ in 1..line {
         let len = run_len(Class::Line, left);
-        match line_marker(left) {
+        match line_marker(front(left, len)) {
             None => place.line = place.line.saturating_add(1),
             Some(marker) => {
                 place.line = marker.line;
                 place.file = marker.file.unwrap_or(place.file);
             }
         }
-        left = behind(left, len.saturating_add(1));
+        left = behind(behind(left, len), 1);
     }
     place
 }
