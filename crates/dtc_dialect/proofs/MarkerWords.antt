@@ -12,20 +12,20 @@ use Rattle.dt_lexeme.specs.Fronts.{Front, closes, is_empty}
 use Rattle.dtc_dialect.specs.Bytes.{run_of}
 use Rattle.dtc_dialect.specs.Gaps.{behind_word, is_marker}
 use Rattle.dtc_dialect.specs.Private.Places.{told_of}
-use Rattle.dtc_dialect.specs.UserLines.{Told, last_line, longest_name, name_of, number_of, short_name, told, told_by, up_to_quote}
+use Rattle.dtc_dialect.specs.UserLines.{Told, greatest_line, longest_name, name_of, line_number, short_name, told, told_by, up_to_quote}
 use Rattle.dtc_dialect.specs.declared.bytes.Class.TheVariants.{Blank, Digit}
 use Rattle.dtc_dialect.specs.declared.gaps.Marker.{Marker}
 
 -- ---- the number
 
 -- one digit more
-pub number_more : (ds : List ℕ) (i n times digit grown : ℕ) → i < length ds → n ≡ number_of (take i ds) → times ≡ min (n * 10) last_line → digit ≡ digit_value (get_or ds i 0)
-    → grown ≡ min (times + digit) last_line → grown ≡ number_of (take (i + 1) ds)
+pub number_more : (ds : List ℕ) (i n times digit grown : ℕ) → i < length ds → n ≡ line_number (take i ds) → times ≡ min (n * 10) greatest_line → digit ≡ digit_value (get_or ds i 0)
+    → grown ≡ min (times + digit) greatest_line → grown ≡ line_number (take (i + 1) ds)
 number_more ds i n times digit grown lt so_far ten one more = omega (arith, digits_value_more 10 ds i lt)
 
 -- all digits
-pub number_whole : (ds : List ℕ) (i n : ℕ) → length ds ≤ i → n ≡ number_of (take i ds) → n ≡ number_of ds
-number_whole ds i n le so_far = so_far ∙ ap number_of (take_all i ds le)
+pub number_whole : (ds : List ℕ) (i n : ℕ) → length ds ≤ i → n ≡ line_number (take i ds) → n ≡ line_number ds
+number_whole ds i n le so_far = so_far ∙ ap line_number (take_all i ds le)
 
 -- ---- the name
 
@@ -138,7 +138,7 @@ name_short s name r n quote h is le named_is =
 -- ---- the whole line
 
 pub tells : (l rest number behind name digits_text : List ℕ) (blanks digits more n : ℕ) (file : Option (List ℕ)) → rest ≡ behind_word l → blanks ≡ run_of Blank rest → number ≡ drop blanks rest
-    → digits ≡ run_of (Digit 10) number → behind ≡ drop digits number → more ≡ run_of Blank behind → name ≡ drop more behind → digits_text ≡ take digits number → n ≡ number_of digits_text → file ≡ name_of name
+    → digits ≡ run_of (Digit 10) number → behind ≡ drop digits number → more ≡ run_of Blank behind → name ≡ drop more behind → digits_text ≡ take digits number → n ≡ line_number digits_text → file ≡ name_of name
     → record { line = n; file = file } ≡ told l
 tells l rest number behind name text blanks digits more n file word before number_is run behind_is run_more name_is text_is n_is file_is =
     rw (n_is, file_is, text_is, name_is, run_more, behind_is, run, number_is, before, word) refl

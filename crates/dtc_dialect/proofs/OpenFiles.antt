@@ -17,7 +17,7 @@ use Rattle.dtc_dialect.specs.Copied.{marker_line}
 use Rattle.dtc_dialect.specs.Inclusion.{HasNext, HoldsNone, Includes, IncludesFrom, Passes, TakesIn, behind_words, binary, byte_string_of, first_of, itself, part_of, plain_of, source}
 use Rattle.dtc_dialect.specs.Private.Included.{Behind, ComesTo, Completes, Enters, Goes, IsPassed, IsTaken, Turns, place_on, words_of}
 use Rattle.dtc_dialect.specs.Private.Places.{place_of}
-use Rattle.dtc_dialect.specs.UserLines.{UserPlace, marker_at, place_behind}
+use Rattle.dtc_dialect.specs.UserLines.{UserPlace, marker_of, place_behind}
 use Rattle.dtc_dialect.proofs.InclusionRests.{cut_before, passes_rest, words_between, words_end}
 use Rattle.dtc_dialect.proofs.UserPlaces.{behind_nothing}
 
@@ -86,10 +86,10 @@ module _ (Finds : List ℕ → List ℕ → Found → Type 0) where
 
   -- what is left of a file behind words
   pub marked : (frame : Frame) (own : List ℕ) → 0 < frame.words.end → ComesTo Finds frame own
-      → (more : List ℕ) × IncludesFrom Finds frame.path.items (place_on frame) (drop frame.words.end frame.bytes.items) more × (own ≡ marker_at (place_on frame) ++ more)
+      → (more : List ℕ) × IncludesFrom Finds frame.path.items (place_on frame) (drop frame.words.end frame.bytes.items) more × (own ≡ marker_of (place_on frame) ++ more)
   marked frame own some h = (h.more, h.rest, h.said_is ∙ ap (λ (t : List ℕ). t ++ h.more) (by_number frame.words.end some h.marker h.behind))
     where
-      by_number : (n : ℕ) → 0 < n → (marker : List ℕ) → Behind n (place_on frame) marker → marker ≡ marker_at (place_on frame)
+      by_number : (n : ℕ) → 0 < n → (marker : List ℕ) → Behind n (place_on frame) marker → marker ≡ marker_of (place_on frame)
       by_number zero lt marker b = absurd (omega (arith, lt))
       by_number (suc n) lt marker b = b
 
@@ -160,13 +160,13 @@ module _ (Finds : List ℕ → List ℕ → Found → Type 0) where
 
     -- what follows the words in the file
     goes_on : (own : List ℕ) → ComesTo Finds new own
-        → (more : List ℕ) × IncludesFrom Finds old.path.items (behind_words (place_on old) r.before (words_of new)) r.rest more × (own ≡ marker_at (behind_words (place_on old) r.before (words_of new)) ++ more)
+        → (more : List ℕ) × IncludesFrom Finds old.path.items (behind_words (place_on old) r.before (words_of new)) r.rest more × (own ≡ marker_of (behind_words (place_on old) r.before (words_of new)) ++ more)
     goes_on own h =
         let m = marked new own some_words h in (
           m.0,
           subst (λ (p : UserPlace). IncludesFrom Finds old.path.items p r.rest m.0) reached
               (subst (λ (p : List ℕ). IncludesFrom Finds p (place_on new) r.rest m.0) (sym path_of) (subst (λ (t : List ℕ). IncludesFrom Finds new.path.items (place_on new) t m.0) rest_of m.1)),
-          m.2 ∙ ap (λ (p : UserPlace). marker_at p ++ m.0) reached,
+          m.2 ∙ ap (λ (p : UserPlace). marker_of p ++ m.0) reached,
         )
 
     whole_of : (more : List ℕ) → IncludesFrom Finds old.path.items (place_on old) r.left more → ComesTo Finds old (r.passed_is.marker ++ more)
@@ -187,7 +187,7 @@ module _ (Finds : List ℕ → List ℕ → Found → Type 0) where
     λ inner own h k.
         let m = goes_on old frame new (Source name) whole text taken r own k in
         let first = marker_line 1 (plain_of found.path.items) in
-        let last = marker_at (behind_words (place_on old) r.before (words_of new)) in
+        let last = marker_of (behind_words (place_on old) r.before (words_of new)) in
         let all =
         source name (words_of new) r.rest found (has_next old frame new (Source name) whole text taken r) (all_of old frame new (Source name) whole text taken r) (named old frame name found r.passed_is f) h m.1 in
         subst (ComesTo Finds old)
@@ -204,7 +204,7 @@ module _ (Finds : List ℕ → List ℕ → Found → Type 0) where
         ap (λ (t : List ℕ). t ++ bytes) (put_is old frame new (Binary name part) whole text taken r) ∙ append_assoc whole (r.passed_is.marker ++ r.before) bytes,
         λ own k.
             let m = goes_on old frame new (Binary name part) whole text taken r own k in
-            let last = marker_at (behind_words (place_on old) r.before (words_of new)) in
+            let last = marker_of (behind_words (place_on old) r.before (words_of new)) in
             let all =
             binary name part (words_of new) r.rest found (has_next old frame new (Binary name part) whole text taken r) (all_of old frame new (Binary name part) whole text taken r) (named old frame name found r.passed_is f) m.1 in
             subst (ComesTo Finds old)

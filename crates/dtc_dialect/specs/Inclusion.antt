@@ -15,7 +15,7 @@ use Rattle.dtc_dialect.specs.declared.words.Part.{Part}
 use Rattle.dtc_dialect.specs.Bytes.{run_of}
 use Rattle.dtc_dialect.specs.Gaps.{Gaps, begins_line_comment, gap_len, is_unclosed}
 use Rattle.dtc_dialect.specs.Integer.{integer_of}
-use Rattle.dtc_dialect.specs.UserLines.{UserPlace, marker_at, place_behind}
+use Rattle.dtc_dialect.specs.UserLines.{UserPlace, marker_of, place_behind}
 
 -- whether a file may be taken in where so many are open, the user's own among them: then 200 at most are nested in that one
 abbrev pub MayNest : ℕ → Type 0
@@ -162,11 +162,11 @@ pub data IncludesFrom (Finds : List ℕ → List ℕ → Found → Type 0) : Lis
       → HasNext text (Source name) before rest → before ++ words ++ rest ≡ text → Finds path name.now found
       → IncludesFrom Finds found.path.items (first_of found.path.items) found.bytes.items inner
       → IncludesFrom Finds path (behind_words place before words) rest more
-      → IncludesFrom Finds path place text (before ++ marker_at (first_of found.path.items) ++ inner ++ marker_at (behind_words place before words) ++ more)
+      → IncludesFrom Finds path place text (before ++ marker_of (first_of found.path.items) ++ inner ++ marker_of (behind_words place before words) ++ more)
   binary : {path text before more : List ℕ} {place : UserPlace} (name : Bor (List ℕ)) (part : Part) (words rest : List ℕ) (found : Found)
       → HasNext text (Binary name part) before rest → before ++ words ++ rest ≡ text → Finds path name.now found
       → IncludesFrom Finds path (behind_words place before words) rest more
-      → IncludesFrom Finds path place text (before ++ byte_string_of (part_of part.offset part.length found.bytes.items) ++ marker_at (behind_words place before words) ++ more)
+      → IncludesFrom Finds path place text (before ++ byte_string_of (part_of part.offset part.length found.bytes.items) ++ marker_of (behind_words place before words) ++ more)
 
 -- What the text of a file of this path comes to, from its first line on.
 abbrev pub Includes : (List ℕ → List ℕ → Found → Type 0) → List ℕ → List ℕ → List ℕ → Type 0

@@ -3,7 +3,7 @@ ghost use Rattle.std.specs.Prelude.{◌≡◌, ◌≤◌, IfSome, is_some, lengt
 ghost use Rattle.dtc_dialect.specs.Gaps.{begins_line_comment, begins_marker, behind_word, comment_len, is_marker};
 ghost use Rattle.dtc_dialect.specs.GapAt.{Tells};
 ghost use Rattle.dtc_dialect.specs.Private.Places.{told_of};
-ghost use Rattle.dtc_dialect.specs.UserLines.{name_of, number_of, told};
+ghost use Rattle.dtc_dialect.specs.UserLines.{line_number, name_of, told};
 
 use crate::bytes::{Class, begins, behind, digit_value, front, run_len};
 use dt_lexeme::fronts::quoted_len;
@@ -153,7 +153,7 @@ fn quoted<'t>(s: &'t [u8]) -> Option<&'t [u8]>
 
 /// A number of a line. One that no file has stands for itself as far as it goes.
 fn decimal(digits: &[u8]) -> usize
-    ensures { result ≡ number_of digits.now }
+    ensures { result ≡ line_number digits.now }
 {
     let mut number: usize = 0;
     for c in digits {

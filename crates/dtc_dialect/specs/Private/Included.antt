@@ -16,7 +16,7 @@ use Rattle.dtc_dialect.specs.declared.words.Piece.TheVariants as pieces
 use Rattle.dtc_dialect.specs.Copied.{marker_line}
 use Rattle.dtc_dialect.specs.Inclusion.{Bracketed, HoldsNone, Includes, IncludesFrom, IsBroken, IsOpen, Number, PartAt, Passes, Quoted, Sign, Skips, TakesIn, byte_string_of, first_of, part_of, plain_of}
 use Rattle.dtc_dialect.specs.Private.Places.{place_of}
-use Rattle.dtc_dialect.specs.UserLines.{UserPlace, marker_at, place_behind}
+use Rattle.dtc_dialect.specs.UserLines.{UserPlace, marker_of, place_behind}
 
 -- ---- a word that was read, and what is left behind it
 
@@ -66,7 +66,7 @@ place_on frame = place_behind (place_of frame.line) (words_of frame)
 -- Behind words that were taken stands a line marker of this place.
 abbrev pub Behind : ℕ → UserPlace → List ℕ → Type 0
 Behind zero place marker = marker ≡ []
-Behind (suc n) place marker = marker ≡ marker_at place
+Behind (suc n) place marker = marker ≡ marker_of place
 
 -- what is left of an open file comes to
 pub record ComesTo (Finds : List ℕ → List ℕ → Found → Type 0) (frame : Frame) (said : List ℕ) : Type 0 where
