@@ -1,20 +1,16 @@
 -- What a line marker tells: its number, and the name between its quotes.
-use Rattle.std.proofs.Common.{◌≡◌, ℕ, zero, suc, ◌+◌, ◌-◌, ◌*◌, ◌^◌, ◌<◌, ◌≤◌, Bool, true, false, eqb, List, [], ◌∷◌, ◌++◌, length, get_or, take, drop, Option, Some, None, refl, sym, ap, subst, ◌∙◌, arith, min}
-use Rattle.std.specs.Prelude.{◌==◌, ◌&&◌, is_some, IfSome, option_map}
+use Rattle.std.proofs.Common.{◌≡◌, ℕ, suc, ◌+◌, ◌-◌, ◌*◌, ◌<◌, ◌≤◌, Bool, true, false, List, [], ◌∷◌, ◌++◌, length, get_or, take, drop, Option, Some, None, refl, sym, ap, subst, ◌∙◌, arith, min}
+use Rattle.std.specs.Prelude.{◌==◌, option_map}
 use Rattle.std.specs.Char.{digit_value}
-use Rattle.std.specs.Str.Parse.{digits_value}
 use Rattle.std.proofs.lemmas.Bool.{le-leb, lt-leb}
 use Rattle.std.proofs.lemmas.Int.Digits.{digits_value_more}
 use Rattle.std.proofs.lemmas.List.{length-drop, length-take, take-append-drop, take-take, take_all}
-use denote.Ref.{Bor}
 use Rattle.dt_lexeme.specs.Bytes.{begins}
 use Rattle.dt_lexeme.specs.Fronts.{Front, closes, is_empty}
 use Rattle.dtc_dialect.specs.Bytes.{run_of}
-use Rattle.dtc_dialect.specs.Gaps.{behind_word, is_marker}
-use Rattle.dtc_dialect.specs.Private.Places.{told_of}
-use Rattle.dtc_dialect.specs.UserLines.{Told, greatest_line, longest_name, name_of, line_number, short_name, told, told_by, up_to_quote}
+use Rattle.dtc_dialect.specs.Gaps.{behind_word}
+use Rattle.dtc_dialect.specs.UserLines.{greatest_line, longest_name, name_of, line_number, short_name, told, up_to_quote}
 use Rattle.dtc_dialect.specs.declared.bytes.Class.TheVariants.{Blank, Digit}
-use Rattle.dtc_dialect.specs.declared.gaps.Marker.{Marker}
 
 -- ---- the number
 

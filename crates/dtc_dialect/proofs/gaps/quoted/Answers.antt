@@ -1,4 +1,4 @@
-use Rattle.std.proofs.Common.{ℕ, List, ap, arith, drop, take, ◌∙◌}
+use Rattle.std.proofs.Common.{ℕ, ap, arith, drop, take, ◌∙◌}
 use Rattle.dtc_dialect.proofs.MarkerWords.{name_long, name_open, name_short}
 use Rattle.dtc_dialect.proofs.gaps.quoted.Goals as goal
 

@@ -1,5 +1,5 @@
 -- The line begins that has the byte up to which was read.
-use Rattle.std.proofs.Common.{◌≡◌, take}
+use Rattle.std.proofs.Common.{◌≡◌}
 use Rattle.dtc_dialect.specs.UserLines.{line_begin}
 use Rattle.dtc_dialect.proofs.places.line_start.Given as goal
 
