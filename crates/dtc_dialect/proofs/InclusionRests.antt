@@ -91,3 +91,19 @@ words_end bytes left from rest n i is p h =
     let behind = takes_rest from i rest h in
     let last = join bytes (drop 1 from) rest (further 1 bytes from (drop 1 from) there refl) behind in
     (by_length bytes rest last, omega (arith, takes_some from i rest h, shorter bytes from there, shorter (drop 1 from) rest behind, length-drop 1 from))
+
+-- what stands between two places, and behind the second
+between : (start end : ℕ) (s : List ℕ) → start ≤ end → drop start (take end s) ++ drop end s ≡ drop start s
+between zero end s le = take-append-drop end s
+between (suc start) zero s le = absurd (omega arith)
+between (suc start) (suc end) [] le = refl
+between (suc start) (suc end) (c ∷ s) le = between start end s (omega arith)
+
+-- such words, by where they begin and end, and what stands behind them
+pub words_between : (bytes left from rest : List ℕ) (n : ℕ) (i : Inclusion) → left ≡ drop n bytes → Passes left from → TakesIn from i rest
+    → drop (length bytes - length from) (take (length bytes - length rest) bytes) ++ rest ≡ from
+words_between bytes left from rest n i is p h =
+    let there = join bytes left from (n, is) (passes_rest left from p) in
+    let words = drop (length bytes - length from) (take (length bytes - length rest) bytes) in
+    let order : length bytes - length from ≤ length bytes - length rest = omega (arith, shorter (drop 1 from) rest (takes_rest from i rest h), length-drop 1 from) in
+    ap (λ (t : List ℕ). words ++ t) (words_end bytes left from rest n i is p h).0 ∙ between (length bytes - length from) (length bytes - length rest) bytes order ∙ sym (by_length bytes from there)

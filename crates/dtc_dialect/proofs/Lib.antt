@@ -14,6 +14,7 @@ mod Integers
 mod LabelChains
 mod LabelWalk
 mod Lines
+mod MarkerWords
 mod Markers
 mod Omitting
 mod OpenFiles
@@ -28,4 +29,5 @@ mod TableSteps
 mod TokenFirsts
 mod TokenKinds
 mod Turns
+mod UserPlaces
 mod Visits

@@ -13,9 +13,9 @@ use Rattle.dtc_dialect.specs.declared.words.Inclusion.{Inclusion}
 use Rattle.dtc_dialect.specs.declared.words.Inclusion.TheVariants.{Binary, Source}
 use Rattle.dtc_dialect.specs.declared.words.Part.{Part}
 use Rattle.dtc_dialect.specs.Bytes.{run_of}
-use Rattle.dtc_dialect.specs.Copied.{marker_line}
 use Rattle.dtc_dialect.specs.Gaps.{Gaps, begins_line_comment, gap_len, is_unclosed}
 use Rattle.dtc_dialect.specs.Integer.{integer_of}
+use Rattle.dtc_dialect.specs.UserLines.{UserPlace, marker_of, place_behind}
 
 -- whether a file may be taken in where so many are open, the user's own among them: then 200 at most are nested in that one
 abbrev pub MayNest : ℕ → Type 0
@@ -145,14 +145,29 @@ pub record HasNext (text : List ℕ) (inclusion : Inclusion) (before rest : List
   pub takes : TakesIn at inclusion rest
   pub before_is : before ++ at ≡ text
 
--- What the text of a file of this path comes to. A source stands between line markers, of its first line and of the one behind
--- the words; behind a byte string stands a line marker too. `Finds` says which files have a name beside a path.
-pub data Includes (Finds : List ℕ → List ℕ → Found → Type 0) : List ℕ → List ℕ → List ℕ → Type 0 where
-  itself : {path text : List ℕ} → HoldsNone text → Includes Finds path text text
-  source : {path text before inner more : List ℕ} (name : Bor (List ℕ)) (rest : List ℕ) (found : Found) (line : ℕ) (file : List ℕ)
-      → HasNext text (Source name) before rest → Finds path name.now found
-      → Includes Finds found.path.items found.bytes.items inner → Includes Finds path rest more
-      → Includes Finds path text (before ++ marker_line 1 (plain_of found.path.items) ++ inner ++ marker_line line file ++ more)
-  binary : {path text before more : List ℕ} (name : Bor (List ℕ)) (part : Part) (rest : List ℕ) (found : Found) (line : ℕ) (file : List ℕ)
-      → HasNext text (Binary name part) before rest → Finds path name.now found → Includes Finds path rest more
-      → Includes Finds path text (before ++ byte_string_of (part_of part.offset part.length found.bytes.items) ++ marker_line line file ++ more)
+-- the first line of a file
+abbrev pub first_of : List ℕ → UserPlace
+first_of path = record { file = plain_of path; line = 1 }
+
+-- the place behind words that stand behind a text, which begins at a place
+abbrev pub behind_words : UserPlace → List ℕ → List ℕ → UserPlace
+behind_words place before words = place_behind (place_behind place before) words
+
+-- What a text comes to that stands at a place of a file of this path, the user's line and file. A source stands between line
+-- markers, of its first line and of the place behind the words; behind a byte string stands the second too, and what follows the
+-- words stands there. `Finds` says which files have a name beside a path.
+pub data IncludesFrom (Finds : List ℕ → List ℕ → Found → Type 0) : List ℕ → UserPlace → List ℕ → List ℕ → Type 0 where
+  itself : {path text : List ℕ} {place : UserPlace} → HoldsNone text → IncludesFrom Finds path place text text
+  source : {path text before inner more : List ℕ} {place : UserPlace} (name : Bor (List ℕ)) (words rest : List ℕ) (found : Found)
+      → HasNext text (Source name) before rest → before ++ words ++ rest ≡ text → Finds path name.now found
+      → IncludesFrom Finds found.path.items (first_of found.path.items) found.bytes.items inner
+      → IncludesFrom Finds path (behind_words place before words) rest more
+      → IncludesFrom Finds path place text (before ++ marker_of (first_of found.path.items) ++ inner ++ marker_of (behind_words place before words) ++ more)
+  binary : {path text before more : List ℕ} {place : UserPlace} (name : Bor (List ℕ)) (part : Part) (words rest : List ℕ) (found : Found)
+      → HasNext text (Binary name part) before rest → before ++ words ++ rest ≡ text → Finds path name.now found
+      → IncludesFrom Finds path (behind_words place before words) rest more
+      → IncludesFrom Finds path place text (before ++ byte_string_of (part_of part.offset part.length found.bytes.items) ++ marker_of (behind_words place before words) ++ more)
+
+-- What the text of a file of this path comes to, from its first line on.
+abbrev pub Includes : (List ℕ → List ℕ → Found → Type 0) → List ℕ → List ℕ → List ℕ → Type 0
+Includes Finds path text = IncludesFrom Finds path (first_of path) text

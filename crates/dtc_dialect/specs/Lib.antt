@@ -20,4 +20,5 @@ pub mod Statements
 pub mod Stops
 pub mod Table
 pub mod Tokens
+pub mod UserLines
 pub mod Words

@@ -1,9 +1,11 @@
 //! What stands between tokens: blanks, comments and line markers.
-ghost use Rattle.std.specs.Prelude.{◌≡◌, ◌≤◌, IfSome, is_some, length};
+ghost use Rattle.std.specs.Prelude.{◌≡◌, ◌≤◌, IfSome, is_some, length, option_map};
 ghost use Rattle.dtc_dialect.specs.Gaps.{begins_line_comment, begins_marker, behind_word, comment_len, is_marker};
 ghost use Rattle.dtc_dialect.specs.GapAt.{Tells};
+ghost use Rattle.dtc_dialect.specs.Private.Places.{told_of};
+ghost use Rattle.dtc_dialect.specs.UserLines.{line_number, name_of, told};
 
-use crate::bytes::{Class, begins, behind, front, run_len};
+use crate::bytes::{Class, begins, behind, digit_value, front, run_len};
 use dt_lexeme::fronts::quoted_len;
 use dt_lexeme::gaps::{begins_comment, ends_comment};
 
@@ -104,7 +106,8 @@ fn comment_end(s: &[u8]) -> Option<usize>
 
 /// What a line says behind `#`: `[line] NUMBER ["FILE" ..]`.
 pub(crate) fn read_marker<'t>(line: &'t [u8]) -> Option<Marker<'t>>
-    ensures { is_some result ≡ is_marker line.now }
+    ensures is_some { is_some result ≡ is_marker line.now }
+    ensures told { IfSome result (λ marker. told_of marker ≡ told line.now) }
 {
     let rest = behind_word(line);
     let blanks = run_len(Class::Blank, rest);
@@ -135,7 +138,9 @@ fn behind_word(line: &[u8]) -> &[u8]
 }
 
 /// What stands between the quotes, unless no path is so long.
-fn quoted<'t>(s: &'t [u8]) -> Option<&'t [u8]> {
+fn quoted<'t>(s: &'t [u8]) -> Option<&'t [u8]>
+    ensures { option_map (λ name. name.now) result ≡ name_of s.now }
+{
     if !begins(s, b'"') {
         return None;
     }
@@ -147,12 +152,14 @@ fn quoted<'t>(s: &'t [u8]) -> Option<&'t [u8]> {
 }
 
 /// A number of a line. One that no file has stands for itself as far as it goes.
-fn decimal(digits: &[u8]) -> usize {
+fn decimal(digits: &[u8]) -> usize
+    ensures { result ≡ line_number digits.now }
+{
     let mut number: usize = 0;
     for c in digits {
         number = number
             .saturating_mul(10)
-            .saturating_add((*c).saturating_sub(b'0') as usize);
+            .saturating_add(digit_value(*c) as usize);
     }
     number
 }

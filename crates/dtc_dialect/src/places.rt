@@ -1,9 +1,12 @@
 //! Lines of the user's files, by the line markers of a text.
-ghost use Rattle.std.specs.Prelude.{◌≡◌, ◌++◌, IfOk, OnOk};
+ghost use Rattle.std.specs.Prelude.{◌≡◌, ◌++◌, IfOk, None, OnOk, option_map};
 ghost use Rattle.dtc_dialect.specs.Copied.{marker_line};
 ghost use Rattle.dtc_dialect.specs.Inclusion.{has_sign, plain_of};
+ghost use Rattle.dtc_dialect.specs.Private.Places.{place_of, told_of};
+ghost use Rattle.dtc_dialect.specs.UserLines.{column_in, given_place, line_begin, line_with, next_place};
+ghost use Rattle.dtc_dialect.specs.UserLines.{place_behind, place_of_line, place_told, told_by};
 
-use crate::bytes::{Class, behind, front, run_len};
+use crate::bytes::{Class, behind, front, line_ends, run_len};
 use crate::gaps::{Marker, read_marker};
 use crate::token::{Place, Span};
 use std::alloc::{AllocError, Global};
@@ -28,23 +31,22 @@ impl Line {
     }
 
     /// Behind more text.
-    pub fn advance(&mut self, text: &[u8]) -> Result<(), AllocError> {
-        let mut is_first = true;
-        let mut marker: Option<Marker<'_>> = None;
-        for (i, c) in text.iter().enumerate() {
-            if is_first && *c == b'#' {
-                marker = line_marker(behind(text, i));
-            }
-            is_first = *c == b'\n';
-            if is_first {
-                self.end_line(marker)?;
-                marker = None;
-            }
+    pub fn advance(&mut self, text: &[u8]) -> Result<(), AllocError>
+        ensures { OnOk result (place_of self.new ≡ place_behind (place_of self.old) text.now) }
+    {
+        let mut left = text;
+        for _ in 0..line_ends(text) {
+            let len = run_len(Class::Line, left);
+            self.end_line(line_marker(front(left, len)))?;
+            left = behind(behind(left, len), 1);
         }
         Ok(())
     }
 
-    fn end_line(&mut self, marker: Option<Marker<'_>>) -> Result<(), AllocError> {
+    /// Behind a line.
+    fn end_line(&mut self, marker: Option<Marker<'_>>) -> Result<(), AllocError>
+        ensures { OnOk result (place_of self.new ≡ place_told (place_of self.old) (option_map told_of marker.entry)) }
+    {
         match marker {
             None => self.line = self.line.saturating_add(1),
             Some(marker) => {
@@ -72,10 +74,12 @@ impl Line {
     }
 }
 
-/// The marker that a line begins with.
-fn line_marker<'t>(s: &'t [u8]) -> Option<Marker<'t>> {
-    match front(s, run_len(Class::Line, s)) {
-        [b'#', line @ ..] => read_marker(line),
+/// The marker that a line is.
+fn line_marker<'t>(line: &'t [u8]) -> Option<Marker<'t>>
+    ensures { option_map told_of result ≡ told_by line.now }
+{
+    match line {
+        [b'#', rest @ ..] => read_marker(rest),
         _ => None,
     }
 }
@@ -96,13 +100,18 @@ fn has_sign(path: &[u8]) -> bool
 }
 
 /// The line of a text in which bytes begin.
-pub fn line_of(text: &[u8], span: Span) -> &[u8] {
+pub fn line_of(text: &[u8], span: Span) -> &[u8]
+    ensures { result.now ≡ line_with text.now span.start }
+{
     let rest = behind(text, line_start(text, span.start));
     front(rest, run_len(Class::Line, rest))
 }
 
 /// The columns of bytes in the line in which they begin, from 1: the first, and the one behind the last.
-pub fn columns_of(text: &[u8], span: Span) -> Span {
+pub fn columns_of(text: &[u8], span: Span) -> Span
+    ensures first { result.start ≡ column_in text.now span.start span.start }
+    ensures last { result.end ≡ column_in text.now span.start span.end }
+{
     let start = line_start(text, span.start);
     let len = line_of(text, span).len();
     let first = span.start.saturating_sub(start).min(len);
@@ -114,7 +123,9 @@ pub fn columns_of(text: &[u8], span: Span) -> Span {
 }
 
 /// Where the line begins that has a byte.
-fn line_start(text: &[u8], at: usize) -> usize {
+fn line_start(text: &[u8], at: usize) -> usize
+    ensures { result ≡ line_begin text.now at }
+{
     let mut start = 0;
     for (i, c) in front(text, at).iter().enumerate() {
         if *c == b'\n' {
@@ -125,19 +136,35 @@ fn line_start(text: &[u8], at: usize) -> usize {
 }
 
 /// The line of the user's file that a line of a text stands for.
-pub fn user_place<'t>(file: &'t [u8], text: &'t [u8], line: usize) -> Place<'t> {
+pub fn user_place<'t>(file: &'t [u8], text: &'t [u8], line: usize) -> Place<'t>
+    ensures place { given_place result ≡ place_of_line file.now text.now line }
+    ensures span { result.span ≡ None }
+{
     let mut place = Place::first(file);
     let mut left = text;
     for _ in 1..line {
         let len = run_len(Class::Line, left);
-        match line_marker(left) {
-            None => place.line = place.line.saturating_add(1),
-            Some(marker) => {
-                place.line = marker.line;
-                place.file = marker.file.unwrap_or(place.file);
-            }
-        }
-        left = behind(left, len.saturating_add(1));
+        place = next_place(place, front(left, len));
+        left = behind(behind(left, len), 1);
     }
     place
+}
+
+/// The place behind a line.
+fn next_place<'t>(place: Place<'t>, line: &'t [u8]) -> Place<'t>
+    ensures place { given_place result ≡ next_place (given_place place.entry) line.now }
+    ensures span { result.span ≡ None }
+{
+    match line_marker(line) {
+        None => Place {
+            file: place.file,
+            line: place.line.saturating_add(1),
+            span: None,
+        },
+        Some(marker) => Place {
+            file: marker.file.unwrap_or(place.file),
+            line: marker.line,
+            span: None,
+        },
+    }
 }

@@ -1,4 +1,6 @@
 //! The tokens of a source in dtc's dialect, with their places in the files of the user.
+ghost use Rattle.std.specs.Prelude.{◌≡◌, None};
+ghost use Rattle.dtc_dialect.specs.UserLines.{given_place};
 
 /// Bytes of a text: the first, and the one behind the last.
 #[derive(Clone, Copy, Debug)]
@@ -20,7 +22,10 @@ pub struct Place<'t> {
 
 impl<'t> Place<'t> {
     /// The first line of a file.
-    pub fn first(file: &'t [u8]) -> Place<'t> {
+    pub fn first(file: &'t [u8]) -> Place<'t>
+        ensures place { given_place result ≡ record { file = file.now; line = 1 } }
+        ensures span { result.span ≡ None }
+    {
         Place {
             file,
             line: 1,

@@ -1,5 +1,5 @@
 -- What was read of an inclusion, and what a text comes to while its files are open.
-use Rattle.std.specs.Prelude.{◌≡◌, ℕ, zero, suc, ◌<◌, List, [], ◌∷◌, ◌++◌, Option, None, Some, drop}
+use Rattle.std.specs.Prelude.{◌≡◌, ℕ, zero, suc, ◌<◌, List, [], ◌∷◌, ◌++◌, Option, None, Some, drop, take}
 use denote.Ref.{Bor}
 use Rattle.dtc_dialect.specs.declared.inclusion.Found.{Found}
 use Rattle.dtc_dialect.specs.declared.inclusion.Frame.{Frame}
@@ -14,7 +14,9 @@ use Rattle.dtc_dialect.specs.declared.words.Part.{Part}
 use Rattle.dtc_dialect.specs.declared.words.Piece.{Piece}
 use Rattle.dtc_dialect.specs.declared.words.Piece.TheVariants as pieces
 use Rattle.dtc_dialect.specs.Copied.{marker_line}
-use Rattle.dtc_dialect.specs.Inclusion.{Bracketed, HoldsNone, Includes, IsBroken, IsOpen, Number, PartAt, Passes, Quoted, Sign, Skips, TakesIn, byte_string_of, part_of, plain_of}
+use Rattle.dtc_dialect.specs.Inclusion.{Bracketed, HoldsNone, Includes, IncludesFrom, IsBroken, IsOpen, Number, PartAt, Passes, Quoted, Sign, Skips, TakesIn, byte_string_of, first_of, part_of, plain_of}
+use Rattle.dtc_dialect.specs.Private.Places.{place_of}
+use Rattle.dtc_dialect.specs.UserLines.{UserPlace, marker_of, place_behind}
 
 -- ---- a word that was read, and what is left behind it
 
@@ -53,17 +55,25 @@ IsNext s nexts.Nothing = HoldsNone s
 
 -- ---- while files are open
 
--- Behind words that were taken stands a line marker.
-abbrev pub Behind : ℕ → List ℕ → Type 0
-Behind zero marker = marker ≡ []
-Behind (suc n) marker = (line : ℕ) × (file : List ℕ) × (marker ≡ marker_line line file)
+-- the words of a file that were taken last, or nothing
+abbrev pub words_of : Frame → List ℕ
+words_of frame = drop frame.words.start (take frame.words.end frame.bytes.items)
+
+-- the place behind them, where what is left of the file begins
+abbrev pub place_on : Frame → UserPlace
+place_on frame = place_behind (place_of frame.line) (words_of frame)
+
+-- Behind words that were taken stands a line marker of this place.
+abbrev pub Behind : ℕ → UserPlace → List ℕ → Type 0
+Behind zero place marker = marker ≡ []
+Behind (suc n) place marker = marker ≡ marker_of place
 
 -- what is left of an open file comes to
 pub record ComesTo (Finds : List ℕ → List ℕ → Found → Type 0) (frame : Frame) (said : List ℕ) : Type 0 where
   pub marker : List ℕ
   pub more : List ℕ
-  pub behind : Behind frame.words.end marker
-  pub rest : Includes Finds frame.path.items (drop frame.words.end frame.bytes.items) more
+  pub behind : Behind frame.words.end (place_on frame) marker
+  pub rest : IncludesFrom Finds frame.path.items (place_on frame) (drop frame.words.end frame.bytes.items) more
   pub said_is : said ≡ marker ++ more
 
 -- what is left of all open files comes to, from the innermost on, which stands last
@@ -82,10 +92,11 @@ TurnsTo Finds old new (Into found) put = (inner own : List ℕ) → Includes Fin
 abbrev pub Turns : (List ℕ → List ℕ → Found → Type 0) → Frame → List ℕ → Frame → List ℕ → Turn → Type 0
 Turns Finds old whole new grown turn = (put : List ℕ) × (grown ≡ whole ++ put) × TurnsTo Finds old new turn put
 
--- What the next turn begins with: the marker behind the words that were taken last.
+-- What the next turn begins with: the marker behind the words that were taken last, of the place that is reached there.
 pub record IsPassed (old new : Frame) (whole grown : List ℕ) : Type 0 where
   pub marker : List ℕ
-  pub behind : Behind old.words.end marker
+  pub behind : Behind old.words.end (place_on old) marker
+  pub line_is : place_of new.line ≡ place_on old
   pub grown_is : grown ≡ whole ++ marker
   pub path_is : new.path ≡ old.path
   pub bytes_is : new.bytes ≡ old.bytes
@@ -106,6 +117,7 @@ pub record Enters (frames : List Frame) (frame : Frame) (found : Found) (whole :
   pub path_is : inner.path ≡ found.path
   pub bytes_is : inner.bytes ≡ found.bytes
   pub words_is : inner.words.end ≡ 0
+  pub line_is : place_of inner.line ≡ first_of found.path.items
   pub opened_is : opened ≡ (frames ++ frame ∷ []) ++ inner ∷ []
   pub grown_is : grown ≡ whole ++ marker_line 1 (plain_of found.path.items)
 

@@ -8,7 +8,7 @@ pub turns-init : goal.turns-init
 turns-init g c =
     let frame : Frame = record { path = c.in_ok-from_slice.field-0; bytes = c.in_ok-from_slice-2.field-0; words = record { start = 0; end = 0 }; line = c.in_ok-first.field-0 } in
     begun_at g.F.Files.finds c.args.path.now c.args.text.now c.new-whole.result.items c.push.new.self.items frame
-    (c.in_ok-push.ensures.items ∙ ap (λ (fs : List Frame). fs ++ frame ∷ []) c.new-frames.ensures.items) c.new-whole.ensures.items refl c.in_ok-from_slice.ensures.items c.in_ok-from_slice-2.ensures.items
+    (c.in_ok-push.ensures.items ∙ ap (λ (fs : List Frame). fs ++ frame ∷ []) c.new-frames.ensures.items) c.new-whole.ensures.items refl c.in_ok-first.ensures.file c.in_ok-first.ensures.line c.in_ok-from_slice.ensures.items c.in_ok-from_slice-2.ensures.items
 
 pub returns-in_default : goal.returns-in_default
 returns-in_default g c =

@@ -21,7 +21,9 @@ returns-in_ok-advance-in-Words g c =
       taken_is = c.in_ok-extend_from_slice-in-Words.ensures.items;
       path_is = refl;
       bytes_is = refl;
+      starts_at = c.span_of-words.ensures.start ∙ ap (λ (b : List ℕ). length b - length c.in-Words.stand.from.now) c.as_slice-in-Words.ensures.value;
       words_is = c.span_of-words.ensures.end ∙ ap (λ (b : List ℕ). length b - length c.in-Words.stand.rest.now) c.as_slice-in-Words.ensures.value;
+      line_is = c.in_ok-advance-in-Words.ensures;
     }) c.as_slice-in-Words-2.ensures.value h)
     c.take_in.ensures
 
