@@ -14,6 +14,7 @@ mod Integers
 mod LabelChains
 mod LabelWalk
 mod Lines
+mod Listing
 mod Markers
 mod Omitting
 mod OpenFiles

@@ -31,6 +31,7 @@ pub trait Files {
 
     // that a file has a name beside a path, and that none has; each kind of files says what that means
     ghost finds: { List ℕ → List ℕ → Found → Type 0 };
+
     ghost lacks: { List ℕ → List ℕ → Type 0 };
 
     /// The file of a name, beside the file that names it or on the search path; none where there is none.
