@@ -2,6 +2,7 @@ mod Ancestries
 mod ChainWalks
 mod Comments
 mod Copying
+mod Courses
 mod Cutting
 mod FirstRows
 mod Fronts

@@ -1,7 +1,9 @@
+pub mod Bodies
 pub mod Bytes
 pub mod Chains
 pub mod Character
 pub mod Copied
+pub mod Course
 pub mod Cuts
 pub mod Edits
 pub mod Found
