@@ -16,6 +16,7 @@ pub mod Phandles
 pub mod Preorder
 pub mod Private
 pub mod References
+pub mod Rewriting
 pub mod Said
 pub mod Searching
 pub mod Statements
