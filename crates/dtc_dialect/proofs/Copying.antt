@@ -22,6 +22,10 @@ pub on-ok : {A E P Q : Type 0} → (r : Result A E) → (P → Q) → OnOk r P �
 on-ok (Ok a) f p = f p
 on-ok (Err e) f p = p
 
+pub on-ok-both : {A E P Q R : Type 0} → (r : Result A E) → (P → Q → R) → OnOk r P → OnOk r Q → OnOk r R
+on-ok-both (Ok a) f p q = f p q
+on-ok-both (Err e) f p q = p
+
 pub put-nothing : (text : List ℕ) → IsPut text text []
 put-nothing text = record { grows = le_refl (length text); is = λ short. sym (append-nil text) }
 

@@ -2,6 +2,7 @@ mod Ancestries
 mod ChainWalks
 mod Comments
 mod Copying
+mod Courses
 mod Cutting
 mod FirstRows
 mod Fronts
@@ -14,6 +15,7 @@ mod Integers
 mod LabelChains
 mod LabelWalk
 mod Lines
+mod Listing
 mod MarkerWords
 mod Markers
 mod Omitting

@@ -6,7 +6,8 @@ use Rattle.std.proofs.lemmas.List.{get_or-set_same, get_or-set_other, get_or_pas
 use Rattle.std.proofs.lemmas.List.Folds.{list_any_more}
 use Rattle.dtc_dialect.specs.Chains.{Lists}
 use Rattle.dtc_dialect.specs.Omission.{Omits, goes, goes_by, has_symbol, left_row}
-use Rattle.dtc_dialect.specs.Stops.{IsPreorder, IsStop, KnowsLabels, Walk, labels_in, nodes_of, properties_there}
+use Rattle.dtc_dialect.specs.Stops.{AreInOrder, IsPreorder, IsStop, KnowsLabels, Walk, labels_in, nodes_of, properties_there}
+use Rattle.dtc_dialect.specs.References.{is_there}
 use Rattle.dtc_dialect.specs.Table.{deleted_at, no_node, node_at}
 use Rattle.dtc_dialect.specs.declared.numbers.Known.{Known}
 use Rattle.dtc_dialect.specs.declared.preorder.Preorder.{Preorder}
@@ -174,6 +175,8 @@ preorder-same preorder old new nodes properties labels h =
     let stops : List Stop = preorder.stops.items in
     record {
       walk = subst (λ (rows : List NodeRow). Walk rows (0 ∷ []) (nodes_of stops)) (sym nodes) h.walk;
+      all = λ n. h.all n ∙ ap (λ (rows : List NodeRow). is_there rows n) (sym nodes);
+      order = subst (λ (rows : List NodeRow). AreInOrder rows (nodes_of stops)) (sym nodes) h.order;
       stops =
           subst (λ (rows : List NodeRow). AllByRecursion (IsStop rows new.properties.items listed) stops) (sym nodes)
           (subst (λ (ps : List PropertyRow). AllByRecursion (IsStop old.nodes.items ps listed) stops) (sym properties) h.stops);

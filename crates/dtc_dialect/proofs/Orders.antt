@@ -25,7 +25,7 @@ greater-head : (x y : ℕ) (xs ys : List ℕ) → y < x → is_ahead (x ∷ xs) 
 greater-head x y xs ys lt = other-head x y xs ys (λ e. omega (arith, e, lt)) ∙ le-ltb x y (omega (arith, lt))
 
 -- behind a front that they share
-ahead-front : (xs r s : List ℕ) → is_ahead (xs ++ r) (xs ++ s) ≡ is_ahead r s
+pub ahead-front : (xs r s : List ℕ) → is_ahead (xs ++ r) (xs ++ s) ≡ is_ahead r s
 ahead-front [] r s = refl
 ahead-front (x ∷ xs) r s = same-head x x (xs ++ r) (xs ++ s) refl ∙ ahead-front xs r s
 
@@ -102,7 +102,7 @@ length-line (suc d) rows n = let rest = length-line d rows (node_at rows n).pare
 length-lineage : (rows : List NodeRow) (n : ℕ) → length (lineage_of rows n) ≡ (node_at rows n).depth + 1
 length-lineage rows n = length-reverse (ancestry_of rows n) ∙ length-line (node_at rows n).depth rows n
 
-lineage-step : (rows : List NodeRow) (n : ℕ) → IsGrown rows → 0 < n → n < length rows → lineage_of rows n ≡ lineage_of rows (node_at rows n).parent ++ n ∷ []
+pub lineage-step : (rows : List NodeRow) (n : ℕ) → IsGrown rows → 0 < n → n < length rows → lineage_of rows n ≡ lineage_of rows (node_at rows n).parent ++ n ∷ []
 lineage-step rows n g from to = ap (λ (l : List ℕ). reverse l) (ancestry-step rows n g from to) ∙ reverse_onto (ancestry_of rows (node_at rows n).parent) n []
 
 -- the last of a line is its node

@@ -20,6 +20,7 @@ use Rattle.dtc_dialect.specs.declared.table.NodeRow.{NodeRow}
 use Rattle.dtc_dialect.specs.declared.table.PropertyRow.{PropertyRow}
 use Rattle.dtc_dialect.specs.declared.table.Table.{Table}
 use Rattle.dtc_dialect.proofs.Ancestries.{ancestry-step}
+use Rattle.dtc_dialect.proofs.Listing.{walk-all, walk-order}
 
 walk-append : (rows : List NodeRow) (ms b : List ℕ) {ns a : List ℕ} → Walk rows ns a → Walk rows ms b → Walk rows (ns ++ ms) (a ++ b)
 walk-append rows ms b end w = w
@@ -161,15 +162,18 @@ child-below rows n d child g h from to parent = record {
   deletion = h.deletion;
 }
 
-pub preorder-is : (table : Table) (w new : Walked) (preorder : Preorder) → w.stops.items ≡ [] → w.properties.items ≡ [] → Visits table (0 ∷ []) w new
+pub preorder-is : (table : Table) (w new : Walked) (preorder : Preorder) → IsGrown table.nodes.items → w.stops.items ≡ [] → w.properties.items ≡ [] → Visits table (0 ∷ []) w new
     → preorder.stops.items ≡ new.stops.items → preorder.properties.items ≡ new.properties.items → KnowsLabels preorder table
     → IsPreorder table preorder
-preorder-is table w new preorder none bare v stops properties known =
+preorder-is table w new preorder grown none bare v stops properties known =
     let rows = table.nodes.items in
     let ps = table.properties.items in
     let e : preorder.stops.items ≡ v.more = stops ∙ v.stops ∙ ap (λ l. l ++ v.more) none in
+    let walk : Walk rows (0 ∷ []) (nodes_of preorder.stops.items) = subst (λ l. Walk rows (0 ∷ []) (nodes_of l)) (sym e) v.walk in
     record {
-      walk = subst (λ l. Walk rows (0 ∷ []) (nodes_of l)) (sym e) v.walk;
+      walk = walk;
+      all = walk-all rows grown (nodes_of preorder.stops.items) walk;
+      order = walk-order rows grown (nodes_of preorder.stops.items) walk;
       stops = subst (λ l. AllByRecursion (IsStop rows ps l) preorder.stops.items) (sym properties) (subst (λ l. AllByRecursion (IsStop rows ps new.properties.items) l) (sym e) v.each);
       listed = properties ∙ v.properties ∙ ap (λ l. l ++ flat_map (properties_there rows ps) (nodes_of v.more)) bare ∙ ap (λ l. flat_map (properties_there rows ps) (nodes_of l)) (sym e);
       known = known;

@@ -1,7 +1,9 @@
+pub mod Bodies
 pub mod Bytes
 pub mod Chains
 pub mod Character
 pub mod Copied
+pub mod Course
 pub mod Cuts
 pub mod Edits
 pub mod Found
@@ -14,6 +16,7 @@ pub mod Phandles
 pub mod Preorder
 pub mod Private
 pub mod References
+pub mod Rewriting
 pub mod Said
 pub mod Searching
 pub mod Statements

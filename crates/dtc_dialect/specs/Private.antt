@@ -1,7 +1,6 @@
 -- What private contracts cite: changes of a table and of chains, bodies that begin, walks through nodes and rows, rows as they are
 -- said, files at paths, places.
 -- No public clause rests on it.
-pub mod Bodies
 pub mod Chaining
 pub mod Changes
 pub mod Included

@@ -1,10 +1,10 @@
 -- The nodes and properties that are there when all is read, in the order in which dtc has them, and the labels of nodes
 -- (dtc 1.6, Documentation/manual.txt, section 4.1).
 use Rattle.std.specs.Prelude.{◌≡◌, ℕ, nat_lt, ◌<◌, ◌≤◌, ◌==◌, Bool, true, false, ◌&&◌, List, [], ◌∷◌, ◌++◌, length, drop, map, reverse}
-use Rattle.std.specs.List.{filter, flat_map, AllByRecursion}
+use Rattle.std.specs.List.{filter, flat_map, list_any, AllByRecursion}
 use Rattle.dtc_dialect.specs.Chains.{Lists}
 use Rattle.dtc_dialect.specs.Copied.{part_of}
-use Rattle.dtc_dialect.specs.Preorder.{ancestry_of}
+use Rattle.dtc_dialect.specs.Preorder.{ancestry_of, is_before}
 use Rattle.dtc_dialect.specs.References.{deletion_of, has_label, is_there}
 use Rattle.dtc_dialect.specs.Table.{label_at, node_at, property_at, rows_from}
 use Rattle.dtc_dialect.specs.declared.preorder.Preorder.{Preorder}
@@ -25,6 +25,15 @@ pub data Walk (rows : List NodeRow) : List ℕ → List ℕ → Type 0 where
   end : Walk rows [] []
   gone : (n : ℕ) (ns stops : List ℕ) → is_there rows n ≡ false → Walk rows ns stops → Walk rows (n ∷ ns) stops
   there : (n : ℕ) (ns below rest : List ℕ) → is_there rows n ≡ true → Walk rows (children_in rows n) below → Walk rows ns rest → Walk rows (n ∷ ns) (n ∷ (below ++ rest))
+
+-- whether a node is one of these
+abbrev pub is_among : ℕ → List ℕ → Bool
+is_among n stops = list_any (λ stop. stop == n) stops
+
+-- Each stands before all that are listed behind it.
+abbrev pub AreInOrder : List NodeRow → List ℕ → Type 0
+AreInOrder rows [] = Unit {0}
+AreInOrder rows (n ∷ ns) = AllByRecursion (λ m. is_before rows n m ≡ true) ns × AreInOrder rows ns
 
 -- ---- properties
 
@@ -67,9 +76,12 @@ nodes_of stops = map (λ stop. stop.node) stops
 abbrev pub KnowsLabels : Preorder → Table → Type 0
 KnowsLabels preorder table = (n : ℕ) → n < length table.nodes.items → Lists preorder.labels n (labels_in table.labels.items n)
 
--- The nodes from the root on, each with its properties, all properties in this order, and the labels.
+-- The nodes from the root on, each that is there once and before all behind it, each with its properties, all properties in this
+-- order, and the labels.
 pub record IsPreorder (table : Table) (preorder : Preorder) : Type 0 where
   pub walk : Walk table.nodes.items (0 ∷ []) (nodes_of preorder.stops.items)
+  pub all : (n : ℕ) → is_among n (nodes_of preorder.stops.items) ≡ is_there table.nodes.items n
+  pub order : AreInOrder table.nodes.items (nodes_of preorder.stops.items)
   pub stops : AllByRecursion (IsStop table.nodes.items table.properties.items preorder.properties.items) preorder.stops.items
   pub listed : preorder.properties.items ≡ flat_map (properties_there table.nodes.items table.properties.items) (nodes_of preorder.stops.items)
   pub known : KnowsLabels preorder table

@@ -1,5 +1,6 @@
 //! A text that the profile takes stays as it is.
-ghost use Rattle.std.specs.Prelude.{◌≡◌, ◌↔◌, ℕ, List, IfOk, IsTrue};
+ghost use Rattle.std.specs.Prelude.{◌≡◌, ◌↔◌, ¬◌, ℕ, List, IfOk, IsTrue};
+ghost use Rattle.dtc_dialect.specs.Rewriting.{Rewrites};
 
 use crate::error::DialectError;
 use crate::rewriting::{Options, rewrite};
@@ -24,7 +25,8 @@ pub fn profile_text<'t, P: Profile>(
     options: Options<'t>,
     text: &'t [u8],
 ) -> Result<Vec<u8>, DialectError<'t>>
-    ensures { P.takes text.now → IfOk result (λ said. said.items ≡ text.now) }
+    ensures taken { P.takes text.now → IfOk result (λ said. said.items ≡ text.now) }
+    ensures rewritten { ¬ (P.takes text.now) → IfOk result (λ said. Rewrites options.entry text.now said.items) }
 {
     if profile.is_taken(text)? {
         return Ok(Vec::from_slice(alloc, text)?);

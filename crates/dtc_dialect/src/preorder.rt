@@ -201,13 +201,6 @@ fn put_property(
 }
 
 impl Preorder {
-    /// The properties of a node that is there.
-    pub fn properties_of(&self, stop: &Stop) -> &[usize]
-        ensures { result.now ≡ part_of stop.now.properties.start stop.now.properties.end self.now.properties.items }
-    {
-        part(self.properties.as_slice(), stop.properties)
-    }
-
     /// The labels that a node still has, as dtc lists them.
     pub fn labels_of<'t>(
         &self,

@@ -1,6 +1,7 @@
 //! A source in dtc's dialect, said in the profile.
 ghost use Rattle.std.specs.Prelude.{◌≡◌, IfOk, false};
 ghost use Rattle.dtc_dialect.specs.Omission.{Omits, goes, is_any_gone, is_omitted};
+ghost use Rattle.dtc_dialect.specs.Rewriting.{Leaves, Rewrites, written};
 ghost use Rattle.dtc_dialect.specs.Stops.{IsPreorder, KnowsLabels};
 
 use crate::edits::edit;
@@ -29,7 +30,9 @@ pub fn rewrite<'t>(
     hasher: RandomState,
     options: Options<'t>,
     text: &'t [u8],
-) -> Result<Vec<u8>, DialectError<'t>> {
+) -> Result<Vec<u8>, DialectError<'t>>
+    ensures { IfOk result (λ said. Rewrites options.entry text.now said.items) }
+{
     let Said { text, .. } = said(alloc, hasher, options, text, None)?;
     Ok(text)
 }
@@ -54,7 +57,9 @@ fn said<'t>(
     options: Options<'t>,
     text: &'t [u8],
     asked: Option<Span>,
-) -> Result<Said<'t>, DialectError<'t>> {
+) -> Result<Said<'t>, DialectError<'t>>
+    ensures { IfOk result (λ said. Rewrites options.entry text.now said.text.items) }
+{
     let tokens = tokens(alloc, options.file, text)?;
     let mut source = edit(alloc, hasher, tokens.as_slice())?;
     let found = preorder_of(alloc, &source.table)?;
@@ -68,6 +73,7 @@ fn said<'t>(
         },
     )?;
     let left = left_of(alloc, &mut source.table, found, &numbers, options.symbols)?;
+    let numbers = written(numbers, left.omits);
     print_source(
         alloc,
         text,
@@ -79,12 +85,22 @@ fn said<'t>(
                 preorder: &left.preorder,
             },
             numbers: match &numbers {
-                Some(numbers) if left.omits || numbers.are_written() => Some(numbers),
-                _ => None,
+                Some(numbers) => Some(numbers),
+                None => None,
             },
             asked,
         },
     )
+}
+
+/// The numbers, where they are to be written out.
+fn written(numbers: Option<Numbers>, omits: bool) -> Option<Numbers>
+    ensures { result ≡ written omits numbers }
+{
+    match numbers {
+        Some(numbers) if omits || numbers.are_written() => Some(numbers),
+        _ => None,
+    }
 }
 
 /// What is there behind the nodes that go.
@@ -103,7 +119,8 @@ fn left_of(
     symbols: bool,
 ) -> Result<Left, AllocError>
     requires { IsPreorder table.old found }
-    ensures { IfOk result (λ left. IsPreorder table.new left.preorder) }
+    ensures preorder { IfOk result (λ left. IsPreorder table.new left.preorder) }
+    ensures leaves { IfOk result (λ left. Leaves found symbols table.old numbers.now table.new left.omits) }
 {
     let Some(numbers) = numbers else {
         return Ok(Left {

@@ -93,10 +93,13 @@ pub(crate) struct Table<'t> {
 }
 
 impl<'t> Table<'t> {
+    ghost use Rattle.dtc_dialect.specs.Course.{IsBare};
     ghost use Rattle.dtc_dialect.specs.Private.Changes.{AddsLabel, ChangesLabels, ChangesNodes, ChangesProperties, Counts, SetsProperty};
 
     /// A root, which isn't made yet.
-    pub fn new(alloc: Global, hasher: RandomState) -> Result<Table<'t>, AllocError> {
+    pub fn new(alloc: Global, hasher: RandomState) -> Result<Table<'t>, AllocError>
+        ensures { IfOk result IsBare }
+    {
         let mut nodes = Vec::new(alloc);
         nodes.push(NodeRow {
             name: b"",

@@ -1,7 +1,7 @@
--- What changes where a body begins, and by what stands in it.
+-- What changes where a body begins, and by what stands in it (dtc 1.6, Documentation/dts-format.txt, "Node and property
+-- definitions"; manual.txt, section 4.1).
 use Rattle.std.specs.Prelude.{◌≡◌, ℕ, ◌+◌, ◌-◌, ◌^◌, true, false, length, min, Option, Some, None, Result, Err, IfOk, slice_get}
-use Rattle.dtc_dialect.specs.Edits.{Begins, IsWithFragment, all_given, body_of, child_body, in_order, with_child, without_child}
-use Rattle.dtc_dialect.specs.Private.Changes.{DropsProperty, PutsProperty}
+use Rattle.dtc_dialect.specs.Edits.{Begins, IsWithFragment, all_given, body_of, child_body, in_order, with_child, with_property, without_child, without_property}
 use Rattle.dtc_dialect.specs.References.{DropsNamed}
 use Rattle.dtc_dialect.specs.Table.{made_at}
 use Rattle.dtc_dialect.specs.declared.changing.Body.{Body}
@@ -27,6 +27,7 @@ GivesLabels old new body time =
 pub record GoesOn (old new : Edited) (n time : ℕ) (body : Body) : Type 0 where
   pub body_is : body ≡ body_of n false
   pub nodes : new.table.nodes.items ≡ made_at old.table.nodes.items n time
+  pub properties : new.table.properties.items ≡ old.table.properties.items
   pub labels : new.table.labels.items ≡ all_given old.table.labels.items n old.head.labels.items time
   pub course : KeepsCourse old new
 
@@ -34,6 +35,8 @@ pub record GoesOn (old new : Edited) (n time : ℕ) (body : Body) : Type 0 where
 pub record BeginsFragment (old new : Edited) (key : Token) (time : ℕ) (body : Body) : Type 0 where
   pub body_is : body ≡ body_of (length old.table.nodes.items + 1) true
   pub nodes : IsWithFragment old.table.nodes.items new.table.nodes.items old.fragments key time
+  pub properties : new.table.properties.items ≡ old.table.properties.items
+  pub labels : new.table.labels.items ≡ old.table.labels.items
   pub number : new.fragments ≡ min (old.fragments + 1) (2 ^ 64 - 1)
   pub has_root : new.has_root ≡ true
 
@@ -51,6 +54,7 @@ Extends old new key time result = (extension : Extension) × Begins old key exte
 pub record BeginsChild (old new : Edited) (outer : Body) (key : Token) (time : ℕ) (body : Body) : Type 0 where
   pub body_is : body ≡ child_body old.table.nodes.items outer key
   pub nodes : new.table.nodes.items ≡ with_child old.table.nodes.items outer key time old.head.omits
+  pub properties : new.table.properties.items ≡ old.table.properties.items
   pub labels : GivesLabels old new body time
   pub course : KeepsCourse old new
 
@@ -63,10 +67,11 @@ abbrev pub TakesProperties : Edited → Body → Type 0
 TakesProperties edited body = (innermost edited ≡ Some body) × (body.has_nodes ≡ false)
 
 abbrev pub SetsIn : Edited → Edited → Token → Option Tokens → ℕ → Type 0
-SetsIn old new key value time = (body : Body) × TakesProperties old body × PutsProperty old.table new.table body key value time
+SetsIn old new key value time =
+    (body : Body) × TakesProperties old body × (new.table.properties.items ≡ with_property old.table.properties.items body key value time)
 
 abbrev pub DropsIn : Edited → Edited → Token → ℕ → Type 0
-DropsIn old new key time = (body : Body) × TakesProperties old body × DropsProperty old.table new.table body key time
+DropsIn old new key time = (body : Body) × TakesProperties old body × (new.table.properties.items ≡ without_property old.table.properties.items body key time)
 
 -- in a body a child is deleted, outside of all the node that a reference names
 abbrev pub DeletesBy : Option Body → Table → Table → Token → ℕ → Type 0
