@@ -8,6 +8,7 @@ mod Fronts
 mod GapEnds
 mod GapHere
 mod GapOnce
+mod InclusionOnce
 mod InclusionRests
 mod InclusionWords
 mod Integers

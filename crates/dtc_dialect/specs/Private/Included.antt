@@ -30,12 +30,13 @@ abbrev pub NumberAt : List ℕ → Option ℕ → List ℕ → Type 0
 NumberAt s None rest = (n : ℕ) (t : List ℕ) → Number s n t → ⊥
 NumberAt s (Some n) rest = Number s n rest
 
+-- Behind a comma that nothing wanted follows, a part of all bytes stands too, but no closing bracket behind it.
 abbrev pub IsPartAt : List ℕ → Option Part → List ℕ → Type 0
-IsPartAt s None rest = Unit {0}
-IsPartAt s (Some part) rest = PartAt s part rest
+IsPartAt s None rest = (part : Part) (close t : List ℕ) → PartAt s part close → Sign 41 close t → ⊥
+IsPartAt s (Some part) rest = PartAt s part rest × ((other : Part) (close t : List ℕ) → PartAt s other close → Sign 41 close t → close ≡ rest)
 
 abbrev pub BinaryAt : List ℕ → Option Binary → List ℕ → Type 0
-BinaryAt s None rest = Unit {0}
+BinaryAt s None rest = (name : List ℕ) (part : Part) (t : List ℕ) → Bracketed s name part t → ⊥
 BinaryAt s (Some binary) rest = Bracketed s binary.name.now binary.part rest
 
 -- ---- what stands at the front of a text, and what is next in it
