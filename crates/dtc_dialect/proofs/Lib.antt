@@ -20,6 +20,7 @@ mod Omitting
 mod OpenFiles
 mod Orders
 mod PathNames
+mod Reaching
 pub mod Repeated
 mod RowChains
 mod RowLists

@@ -16,6 +16,7 @@ pub mod Private
 pub mod References
 pub mod Said
 pub mod Searching
+pub mod Shortfall
 pub mod Statements
 pub mod Stops
 pub mod Table

@@ -1,8 +1,10 @@
 -- What was read of an inclusion, and what a text comes to while its files are open.
-use Rattle.std.specs.Prelude.{◌≡◌, ℕ, zero, suc, ◌<◌, List, [], ◌∷◌, ◌++◌, Option, None, Some, drop}
+use Rattle.std.specs.Prelude.{◌≡◌, ◌⊎◌, ℕ, zero, suc, ◌+◌, ◌<◌, List, [], ◌∷◌, ◌++◌, Option, None, Some, drop}
 use denote.Ref.{Bor}
 use Rattle.dtc_dialect.specs.declared.inclusion.Found.{Found}
 use Rattle.dtc_dialect.specs.declared.inclusion.Frame.{Frame}
+use Rattle.dtc_dialect.specs.declared.inclusion.Incomplete.{Incomplete}
+use Rattle.dtc_dialect.specs.declared.inclusion.Incomplete.TheVariants.{NoFile, NoMemory, Syntax, TooDeep, TooLong}
 use Rattle.dtc_dialect.specs.declared.inclusion.Turn.{Turn}
 use Rattle.dtc_dialect.specs.declared.inclusion.Turn.TheVariants.{Again, End, Into}
 use Rattle.dtc_dialect.specs.declared.words.Binary.{Binary}
@@ -14,7 +16,8 @@ use Rattle.dtc_dialect.specs.declared.words.Part.{Part}
 use Rattle.dtc_dialect.specs.declared.words.Piece.{Piece}
 use Rattle.dtc_dialect.specs.declared.words.Piece.TheVariants as pieces
 use Rattle.dtc_dialect.specs.Copied.{marker_line}
-use Rattle.dtc_dialect.specs.Inclusion.{Bracketed, HoldsNone, Includes, IsBroken, IsOpen, Number, PartAt, Passes, Quoted, Sign, Skips, TakesIn, byte_string_of, part_of, plain_of}
+use Rattle.dtc_dialect.specs.Inclusion.{Bracketed, HasNext, HoldsNone, Includes, IsBroken, IsOpen, MayNest, Number, PartAt, Passes, Quoted, Sign, Skips, TakesIn, byte_string_of, part_of, plain_of}
+use Rattle.dtc_dialect.specs.Shortfall.{StopsAt, name_of}
 
 -- ---- a word that was read, and what is left behind it
 
@@ -115,3 +118,53 @@ abbrev pub Goes : List Frame → Frame → Turn → List ℕ → List Frame → 
 Goes frames frame End whole opened grown = (opened ≡ frames) × (grown ≡ whole)
 Goes frames frame Again whole opened grown = (opened ≡ frames ++ frame ∷ []) × (grown ≡ whole)
 Goes frames frame (Into found) whole opened grown = Enters frames frame found whole opened grown
+
+-- ---- where a turn goes on in a file, and why it doesn't
+
+-- A file goes on behind its next words, whose file was found.
+pub record Advances (Finds : List ℕ → List ℕ → Found → Type 0) (old new : Frame) (inclusion : Inclusion) (found : Found) : Type 0 where
+  pub before : List ℕ
+  pub next : HasNext (drop old.words.end old.bytes.items) inclusion before (drop new.words.end new.bytes.items)
+  pub finds : Finds old.path.items (name_of inclusion) found
+  pub path_is : new.path ≡ old.path
+
+abbrev pub Moves : (List ℕ → List ℕ → Found → Type 0) → Frame → Frame → Turn → Type 0
+Moves Finds old new End = Unit {0}
+Moves Finds old new Again = (inclusion : Inclusion) × (found : Found) × Advances Finds old new inclusion found
+Moves Finds old new (Into found) = (name : Bor (List ℕ)) × Advances Finds old new (inclusions.Source name) found
+
+-- why the file of a name isn't taken in
+abbrev pub IsMissing : (List ℕ → List ℕ → Type 0) → List ℕ → List ℕ → Incomplete → Type 0
+IsMissing Lacks beside name NoMemory = Unit {0}
+IsMissing Lacks beside name (NoFile told) = (told.items ≡ name) × Lacks beside told.items
+IsMissing Lacks beside name TooDeep = ⊥
+IsMissing Lacks beside name TooLong = Unit {0}
+IsMissing Lacks beside name Syntax = ⊥
+
+-- why one file more isn't open where so many are
+abbrev pub Exceeds : ℕ → Incomplete → Type 0
+Exceeds opened NoMemory = Unit {0}
+Exceeds opened (NoFile told) = ⊥
+Exceeds opened TooDeep = ¬ MayNest opened
+Exceeds opened TooLong = ⊥
+Exceeds opened Syntax = ⊥
+
+-- why it doesn't go on behind a turn
+abbrev pub IsStuck : ℕ → Turn → Incomplete → Type 0
+IsStuck opened End reason = ⊥
+IsStuck opened Again reason = reason ≡ NoMemory
+IsStuck opened (Into found) reason = Exceeds opened reason
+
+-- A turn opens a file only where it may nest.
+abbrev pub Nests : ℕ → Turn → Type 0
+Nests opened End = Unit {0}
+Nests opened Again = Unit {0}
+Nests opened (Into found) = MayNest opened
+
+-- The reason is told, or want of memory.
+abbrev pub IsKept : Incomplete → Incomplete → Type 0
+IsKept reason told = (told ≡ reason) ⊎ (told ≡ NoMemory)
+
+-- what is wrong in a file, however many are open
+abbrev pub StopsIn : (List ℕ → List ℕ → Found → Type 0) → (List ℕ → List ℕ → Type 0) → Frame → Incomplete → Type 0
+StopsIn Finds Lacks frame reason = (opened : ℕ) → StopsAt Finds Lacks opened frame.path.items (drop frame.words.end frame.bytes.items) reason

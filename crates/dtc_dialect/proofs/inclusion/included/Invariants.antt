@@ -1,6 +1,8 @@
--- What is put so far, and what the open files still come to, is what the text comes to.
+-- What is put so far, and what the open files still come to, is what the text comes to; and each open file is at a place that
+-- reading comes to.
 use Rattle.dtc_dialect.proofs.OpenFiles.{IsUnderWay}
+use Rattle.dtc_dialect.proofs.Reaching.{AreReached}
 use Rattle.dtc_dialect.proofs.inclusion.included.Given as goal
 
 abbrev pub invariant-turns : goal.invariant-turns
-invariant-turns g l = IsUnderWay g.F.Files.finds l.path l.text l.frames.items l.whole.items
+invariant-turns g l = IsUnderWay g.F.Files.finds l.path l.text l.frames.items l.whole.items × AreReached g.F.Files.finds l.path l.text 1 l.frames.items

@@ -1,0 +1,229 @@
+-- The places that reading comes to, turn by turn, and why it stops at one.
+use Rattle.std.proofs.Common.{Global, ◌≡◌, ℕ, ◌+◌, ◌-◌, List, [], ◌∷◌, ◌++◌, length, take, drop, Result, Ok, Err, IfErr, refl, sym, ap, subst, inl, inr, ◌∙◌, arith}
+use Rattle.std.specs.Prelude.{IsErrAnd, Vec, ◌⊎◌}
+use Rattle.std.proofs.lemmas.List.{length-append}
+use denote.Ref.{Bor}
+use Rattle.dtc_dialect.specs.declared.inclusion.Found.{Found}
+use Rattle.dtc_dialect.specs.declared.inclusion.Frame.{Frame}
+use Rattle.dtc_dialect.specs.declared.inclusion.Incomplete.{Incomplete}
+use Rattle.dtc_dialect.specs.declared.inclusion.Incomplete.TheVariants.{NoFile, NoMemory, Syntax, TooDeep, TooLong}
+use Rattle.dtc_dialect.specs.declared.inclusion.Turn.{Turn}
+use Rattle.dtc_dialect.specs.declared.inclusion.Turn.TheVariants.{Again, End, Into}
+use Rattle.dtc_dialect.specs.declared.site.Shortfall.{Shortfall}
+use Rattle.dtc_dialect.specs.declared.token.Span.{Span}
+use Rattle.dtc_dialect.specs.declared.words.Inclusion.{Inclusion}
+use Rattle.dtc_dialect.specs.declared.words.Inclusion.TheVariants.{Binary, Source}
+use Rattle.dtc_dialect.specs.Inclusion.{HasNext, IsBroken, MayNest, Passes, TakesIn}
+use Rattle.dtc_dialect.specs.Private.Included.{Advances, Exceeds, Goes, IsKept, IsMissing, IsStuck, IsTaken, Moves, Nests}
+use Rattle.dtc_dialect.specs.Shortfall.{Reaches, Stops, StopsAt, begin, behind, into, name_of}
+use Rattle.dtc_dialect.proofs.InclusionRests.{cut_before, passes_rest, words_end}
+
+pub err_weaker : {A E : Type 0} → (r : Result A E) (P Q : E → Type 0) → ((e : E) → P e → Q e) → IfErr r P → IfErr r Q
+err_weaker (Ok a) P Q f h = h
+err_weaker (Err e) P Q f h = f e h
+
+-- ---- what is left of a file
+
+abbrev pub left_of : Frame → List ℕ
+left_of frame = drop frame.words.end frame.bytes.items
+
+-- The marker behind the last words takes nothing off what is left.
+pub same_left : (old frame : Frame) → frame.bytes ≡ old.bytes → frame.words ≡ old.words → left_of frame ≡ left_of old
+same_left old frame bytes words =
+    ap (λ (w : Span). drop w.end frame.bytes.items) words ∙ ap (λ (b : Vec ℕ Global). drop old.words.end b.items) bytes
+
+-- the next words of a file, and where it goes on behind them
+pub record Reading (old frame new : Frame) (inclusion : Inclusion) : Type 0 where
+  pub left : List ℕ
+  pub at : List ℕ
+  pub rest : List ℕ
+  pub path_is : frame.path ≡ old.path
+  pub bytes_is : frame.bytes ≡ old.bytes
+  pub words_is : frame.words ≡ old.words
+  pub left_is : left ≡ left_of frame
+  pub next : Passes left at × TakesIn at inclusion rest
+  pub path_stays : new.path ≡ frame.path
+  pub bytes_stay : new.bytes ≡ frame.bytes
+  pub ends : new.words.end ≡ length frame.bytes.items - length rest
+
+-- those words, as they are next behind what was taken before
+next_words : (old frame new : Frame) (inclusion : Inclusion) (r : Reading old frame new inclusion)
+    → HasNext (left_of old) inclusion (take (length r.left - length r.at) r.left) (left_of new)
+next_words old frame new inclusion r =
+    let here : r.left ≡ left_of old = r.left_is ∙ same_left old frame r.bytes_is r.words_is in
+    let ends = (words_end frame.bytes.items r.left r.at r.rest frame.words.end inclusion r.left_is r.next.0 r.next.1).0 in
+    let rest : r.rest ≡ left_of new =
+    ends ∙ ap (λ (n : ℕ). drop n frame.bytes.items) (sym r.ends) ∙ ap (λ (b : Vec ℕ Global). drop new.words.end b.items) (sym r.bytes_stay) in
+    record {
+      at = r.at;
+      passes = subst (λ (t : List ℕ). Passes t r.at) here r.next.0;
+      takes = subst (TakesIn r.at inclusion) rest r.next.1;
+      before_is = cut_before r.left r.at (passes_rest r.left r.at r.next.0) ∙ here;
+    }
+
+module _ (Finds : List ℕ → List ℕ → Found → Type 0) where
+  -- ---- one turn
+
+  advanced : (old frame new : Frame) (inclusion : Inclusion) (found : Found) → Reading old frame new inclusion → Finds frame.path.items (name_of inclusion) found → Advances Finds old new inclusion found
+  advanced old frame new inclusion found r f = record {
+    before = take (length r.left - length r.at) r.left;
+    next = next_words old frame new inclusion r;
+    finds = subst (λ (p : Vec ℕ Global). Finds p.items (name_of inclusion) found) r.path_is f;
+    path_is = r.path_stays ∙ r.path_is;
+  }
+
+  pub moved : (old frame new : Frame) (inclusion : Inclusion) (turn : Turn) (taken grown : List ℕ) → Reading old frame new inclusion
+      → IsTaken Finds frame.path.items inclusion taken grown turn → Moves Finds old new turn
+  moved old frame new (Source name) End taken grown r h = absurd h
+  moved old frame new (Binary name part) End taken grown r h = absurd h
+  moved old frame new (Source name) Again taken grown r h = absurd h
+  moved old frame new (Binary name part) (Into found) taken grown r h = absurd h
+  moved old frame new (Source name) (Into found) taken grown r h = (name, advanced old frame new (Source name) found r h.0)
+  moved old frame new (Binary name part) Again taken grown r h = (Binary name part, h.0, advanced old frame new (Binary name part) h.0 r h.1)
+
+  module _ (Lacks : List ℕ → List ℕ → Type 0) where
+    -- the file that is named isn't there, or can't be put
+    pub missed : (old frame new : Frame) (inclusion : Inclusion) (reason : Incomplete) → Reading old frame new inclusion → IsMissing Lacks frame.path.items (name_of inclusion) reason
+        → (opened : ℕ) → StopsAt Finds Lacks opened old.path.items (left_of old) reason
+    missed old frame new inclusion NoMemory r h opened = tt
+    missed old frame new inclusion TooLong r h opened = tt
+    missed old frame new inclusion TooDeep r h opened = absurd h
+    missed old frame new inclusion Syntax r h opened = absurd h
+    missed old frame new inclusion (NoFile name) r h opened = (
+      inclusion,
+      record { before = take (length r.left - length r.at) r.left; rest = left_of new; next = next_words old frame new inclusion r },
+      h.0,
+      subst (λ (p : Vec ℕ Global). Lacks p.items name.items) r.path_is h.1,
+    )
+
+    -- the words break off
+    pub broke : (old frame : Frame) (left at : List ℕ) → frame.bytes ≡ old.bytes → frame.words ≡ old.words → left ≡ left_of frame → Passes left at → IsBroken at
+        → (opened : ℕ) → StopsAt Finds Lacks opened old.path.items (left_of old) Syntax
+    broke old frame left at bytes words is p b opened = (at, subst (λ (t : List ℕ). Passes t at) (is ∙ same_left old frame bytes words) p, b)
+
+    -- one file more can't be opened
+    pub stuck : (old new : Frame) (turn : Turn) (opened : ℕ) (reason : Incomplete) → Moves Finds old new turn → IsStuck opened turn reason
+        → StopsAt Finds Lacks opened old.path.items (left_of old) reason
+    stuck old new End opened reason m h = absurd h
+    stuck old new Again opened reason m h = subst (StopsAt Finds Lacks opened old.path.items (left_of old)) (sym h) tt
+    stuck old new (Into found) opened NoMemory m h = tt
+    stuck old new (Into found) opened TooLong m h = absurd h
+    stuck old new (Into found) opened Syntax m h = absurd h
+    stuck old new (Into found) opened (NoFile name) m h = absurd h
+    stuck old new (Into found) opened TooDeep m h = (m.0, found, record { before = m.1.before; rest = left_of new; next = m.1.next }, m.1.finds, h)
+
+  -- ---- the stack
+
+  module _ (path text : List ℕ) where
+    -- Each open file is at a place that is reached, from the outermost on; so many are open there.
+    unfoldable pub AreReached : ℕ → List Frame → Type 0
+    AreReached opened [] = Unit {0}
+    AreReached opened (frame ∷ frames) = Reaches Finds path text opened frame.path.items (left_of frame) × AreReached (opened + 1) frames
+
+    both : (n : ℕ) (outer inner : List Frame) → AreReached n outer → AreReached (n + length outer) inner → AreReached n (outer ++ inner)
+    unfolding AreReached
+    both n [] inner h k = let e : n + length {A = Frame} [] ≡ n = omega arith in subst (λ (m : ℕ). AreReached m inner) e k
+    both n (f ∷ outer) inner h k =
+        let e : n + length (f ∷ outer) ≡ n + 1 + length outer = omega arith in
+        (h.0, both (n + 1) outer inner h.1 (subst (λ (m : ℕ). AreReached m inner) e k))
+
+    parts : (n : ℕ) (outer inner : List Frame) → AreReached n (outer ++ inner) → AreReached n outer × AreReached (n + length outer) inner
+    unfolding AreReached
+    parts n [] inner h = let e : n ≡ n + length {A = Frame} [] = omega arith in (tt, subst (λ (m : ℕ). AreReached m inner) e h)
+    parts n (f ∷ outer) inner h =
+        let k = parts (n + 1) outer inner h.1 in
+        let e : n + 1 + length outer ≡ n + length (f ∷ outer) = omega arith in
+        ((h.0, k.0), subst (λ (m : ℕ). AreReached m inner) e k.1)
+
+    one : (opened : ℕ) (frame : Frame) → Reaches Finds path text opened frame.path.items (left_of frame) → AreReached opened (frame ∷ [])
+    unfolding AreReached
+    one opened frame h = (h, tt)
+
+    -- the place in the innermost file
+    innermost : (frames : List Frame) (frame : Frame) → AreReached 1 (frames ++ frame ∷ []) → Reaches Finds path text (1 + length frames) frame.path.items (left_of frame)
+    unfolding AreReached
+    innermost frames frame h = (parts 1 frames (frame ∷ []) h).1.0
+
+    just_begun : (opened : ℕ) (frame : Frame) (beside bytes : List ℕ) → frame.words.end ≡ 0 → frame.path.items ≡ beside → frame.bytes.items ≡ bytes
+        → Reaches Finds path text opened beside bytes → Reaches Finds path text opened frame.path.items (left_of frame)
+    just_begun opened frame beside bytes none same_path same_bytes h =
+        let left : bytes ≡ left_of frame = sym same_bytes ∙ ap (λ (n : ℕ). drop n frame.bytes.items) (sym none) in
+        subst (λ (p : List ℕ). Reaches Finds path text opened p (left_of frame)) (sym same_path) (subst (Reaches Finds path text opened beside) left h)
+
+    pub begun_reached : (frames : List Frame) (frame : Frame) → frames ≡ frame ∷ [] → frame.words.end ≡ 0 → frame.path.items ≡ path → frame.bytes.items ≡ text → AreReached 1 frames
+    begun_reached frames frame is none same_path same_text =
+        subst (AreReached 1) (sym is) (one 1 frame (just_begun 1 frame path text none same_path same_text begin))
+
+    -- the place behind the words that a turn takes
+    further : (opened : ℕ) (old new : Frame) (inclusion : Inclusion) (found : Found) → Advances Finds old new inclusion found
+        → Reaches Finds path text opened old.path.items (left_of old) → Reaches Finds path text opened new.path.items (left_of new)
+    further opened old new inclusion found a h =
+        subst (λ (p : Vec ℕ Global). Reaches Finds path text opened p.items (left_of new)) (sym a.path_is) (behind inclusion found h a.next a.finds)
+
+    gone_on : (frames opened_now : List Frame) (old new : Frame) (turn : Turn) (grown last : List ℕ) → AreReached 1 (frames ++ old ∷ []) → Moves Finds old new turn
+        → Goes frames new turn grown opened_now last → Nests (1 + length frames) turn → AreReached 1 opened_now
+    gone_on frames now old new End grown last h m g n = subst (AreReached 1) (sym g.0) (parts 1 frames (old ∷ []) h).0
+    gone_on frames now old new Again grown last h m g n =
+        let place = further (1 + length frames) old new m.0 m.1 m.2 (innermost frames old h) in
+        subst (AreReached 1) (sym g.0) (both 1 frames (new ∷ []) (parts 1 frames (old ∷ []) h).0 (one (1 + length frames) new place))
+    gone_on frames now old new (Into found) grown last h m g n =
+        let here = innermost frames old h in
+        let place = further (1 + length frames) old new (Source m.0) found m.1 here in
+        let outer = both 1 frames (new ∷ []) (parts 1 frames (old ∷ []) h).0 (one (1 + length frames) new place) in
+        let inside = into m.0 found here m.1.next m.1.finds n in
+        let first = just_begun (1 + length frames + 1) g.inner found.path.items found.bytes.items g.words_is
+        (ap (λ (p : Vec ℕ Global). p.items) g.path_is) (ap (λ (b : Vec ℕ Global). b.items) g.bytes_is) inside in
+        let e : 1 + length frames + 1 ≡ 1 + length (frames ++ new ∷ []) = omega (arith, length-append frames (new ∷ [])) in
+        subst (AreReached 1) (sym g.opened_is)
+        (both 1 (frames ++ new ∷ []) (g.inner ∷ []) outer (one (1 + length (frames ++ new ∷ [])) g.inner (subst (λ (k : ℕ). Reaches Finds path text k g.inner.path.items (left_of g.inner)) e first)))
+
+    pub gone_reached : (all frames opened_now : List Frame) (old new : Frame) (turn : Turn) (grown last : List ℕ) → all ≡ frames ++ old ∷ [] → AreReached 1 all → Moves Finds old new turn
+        → Goes frames new turn grown opened_now last → Nests (length frames + 1) turn → AreReached 1 opened_now
+    gone_reached all frames now old new turn grown last is h m g n =
+        let e : length frames + 1 ≡ 1 + length frames = omega arith in
+        gone_on frames now old new turn grown last (subst (AreReached 1) is h) m g (subst (λ (k : ℕ). Nests k turn) e n)
+
+    module _ (Lacks : List ℕ → List ℕ → Type 0) where
+      -- ---- why the text isn't whole
+
+      -- nothing is said of want of memory, nor of a text that is too long
+      pub no_memory : Stops Finds Lacks path text NoMemory
+      no_memory = record { opened = 1; beside = path; left = text; reached = begin; wrong = tt }
+
+      pub too_long : Stops Finds Lacks path text TooLong
+      too_long = record { opened = 1; beside = path; left = text; reached = begin; wrong = tt }
+
+      pub kept : (reason told : Incomplete) → IsKept reason told → Stops Finds Lacks path text reason → Stops Finds Lacks path text told
+      kept reason told (inl e) h = subst (Stops Finds Lacks path text) (sym e) h
+      kept reason told (inr e) h = subst (Stops Finds Lacks path text) (sym e) no_memory
+
+      pub for_memory : {A : Type 0} (r : Result A Shortfall) → IsErrAnd r (λ s. s.reason ≡ NoMemory) → IfErr r (λ s. Stops Finds Lacks path text s.reason)
+      for_memory (Ok a) h = tt
+      for_memory (Err s) h = subst (Stops Finds Lacks path text) (sym h) no_memory
+
+      -- at the innermost file
+      pub stops_there : (all frames : List Frame) (old : Frame) (reason told : Incomplete) → all ≡ frames ++ old ∷ [] → AreReached 1 all
+          → StopsAt Finds Lacks (length frames + 1) old.path.items (left_of old) reason → IsKept reason told → Stops Finds Lacks path text told
+      stops_there all frames old reason told is h wrong keeps =
+          let e : 1 + length frames ≡ length frames + 1 = omega arith in
+          kept reason told keeps (record {
+            opened = length frames + 1;
+            beside = old.path.items;
+            left = left_of old;
+            reached = subst (λ (k : ℕ). Reaches Finds path text k old.path.items (left_of old)) e (innermost frames old (subst (AreReached 1) is h));
+            wrong = wrong;
+          })
+
+-- ---- one file more
+
+pushed_one : (frames : List Frame) (pushed : Vec Frame Global) (frame : Frame) → pushed.items ≡ frames ++ frame ∷ [] → pushed.len ≡ length frames + 1
+pushed_one frames pushed frame is = omega (arith, pushed.ok.0, ap length is, length-append frames (frame ∷ []))
+
+pub nests_in : (frames : List Frame) (pushed : Vec Frame Global) (frame : Frame) (turn : Turn) (found : Found) → turn ≡ Into found → pushed.items ≡ frames ++ frame ∷ [] → MayNest pushed.len
+    → Nests (length frames + 1) turn
+nests_in frames pushed frame turn found is push h = subst (Nests (length frames + 1)) (sym is) (subst MayNest (pushed_one frames pushed frame push) h)
+
+pub stuck_in : (frames : List Frame) (pushed : Vec Frame Global) (frame : Frame) (turn : Turn) (found : Found) (reason : Incomplete) → turn ≡ Into found → pushed.items ≡ frames ++ frame ∷ []
+    → Exceeds pushed.len reason → IsStuck (length frames + 1) turn reason
+stuck_in frames pushed frame turn found reason is push h =
+    subst (λ (t : Turn). IsStuck (length frames + 1) t reason) (sym is) (subst (λ (n : ℕ). Exceeds n reason) (pushed_one frames pushed frame push) h)
