@@ -187,7 +187,7 @@ module _ (Finds : List ℕ → List ℕ → Found → Type 0) where
   -- ---- the whole text
 
   -- what a file that was just opened comes to
-  just_opened : (frame : Frame) (own : List ℕ) → frame.words.end ≡ 0 → ComesTo Finds frame own → Includes Finds frame.path.items frame.bytes.items own
+  pub just_opened : (frame : Frame) (own : List ℕ) → frame.words.end ≡ 0 → ComesTo Finds frame own → Includes Finds frame.path.items frame.bytes.items own
   just_opened frame own none h = by_number frame.words.end none h.marker h.more h.behind h.rest h.said_is
     where
       by_number : (n : ℕ) → n ≡ 0 → (marker more : List ℕ) → Behind n marker → Includes Finds frame.path.items (drop n frame.bytes.items) more → own ≡ marker ++ more → Includes Finds frame.path.items frame.bytes.items own

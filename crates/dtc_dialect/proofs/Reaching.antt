@@ -1,7 +1,7 @@
 -- The places that reading comes to, turn by turn, and why it stops at one.
 use Rattle.std.proofs.Common.{Global, ◌≡◌, ℕ, ◌+◌, ◌-◌, List, [], ◌∷◌, ◌++◌, length, take, drop, Result, Ok, Err, IfErr, refl, sym, ap, subst, inl, inr, ◌∙◌, arith}
 use Rattle.std.specs.Prelude.{IsErrAnd, Vec, ◌⊎◌}
-use Rattle.std.proofs.lemmas.List.{length-append}
+use Rattle.std.proofs.lemmas.List.{append-nil, append_assoc, length-append}
 use denote.Ref.{Bor}
 use Rattle.dtc_dialect.specs.declared.inclusion.Found.{Found}
 use Rattle.dtc_dialect.specs.declared.inclusion.Frame.{Frame}
@@ -13,10 +13,12 @@ use Rattle.dtc_dialect.specs.declared.site.Shortfall.{Shortfall}
 use Rattle.dtc_dialect.specs.declared.token.Span.{Span}
 use Rattle.dtc_dialect.specs.declared.words.Inclusion.{Inclusion}
 use Rattle.dtc_dialect.specs.declared.words.Inclusion.TheVariants.{Binary, Source}
-use Rattle.dtc_dialect.specs.Inclusion.{HasNext, IsBroken, MayNest, Passes, TakesIn}
-use Rattle.dtc_dialect.specs.Private.Included.{Advances, Exceeds, Goes, IsKept, IsMissing, IsStuck, IsTaken, Moves, Nests}
-use Rattle.dtc_dialect.specs.Shortfall.{Reaches, Stops, StopsAt, begin, behind, into, name_of}
+use Rattle.dtc_dialect.specs.Copied.{marker_line}
+use Rattle.dtc_dialect.specs.Inclusion.{HasNext, Includes, IsBroken, MayNest, Passes, TakesIn, plain_of}
+use Rattle.dtc_dialect.specs.Private.Included.{Advances, ComesTo, Completes, Exceeds, Goes, IsKept, IsMissing, IsStuck, IsTaken, Moves, Nests, Turns}
+use Rattle.dtc_dialect.specs.Shortfall.{Reaches, Stops, StopsAt, begin, behind_binary, behind_source, into, name_of}
 use Rattle.dtc_dialect.proofs.InclusionRests.{cut_before, passes_rest, words_end}
+use Rattle.dtc_dialect.proofs.OpenFiles.{just_opened, no_files, opened, split}
 
 pub err_weaker : {A E : Type 0} → (r : Result A E) (P Q : E → Type 0) → ((e : E) → P e → Q e) → IfErr r P → IfErr r Q
 err_weaker (Ok a) P Q f h = h
@@ -79,7 +81,7 @@ module _ (Finds : List ℕ → List ℕ → Found → Type 0) where
   moved old frame new (Source name) Again taken grown r h = absurd h
   moved old frame new (Binary name part) (Into found) taken grown r h = absurd h
   moved old frame new (Source name) (Into found) taken grown r h = (name, advanced old frame new (Source name) found r h.0)
-  moved old frame new (Binary name part) Again taken grown r h = (Binary name part, h.0, advanced old frame new (Binary name part) h.0 r h.1)
+  moved old frame new (Binary name part) Again taken grown r h = (name, part, h.0, advanced old frame new (Binary name part) h.0 r h.1)
 
   module _ (Lacks : List ℕ → List ℕ → Type 0) where
     -- the file that is named isn't there, or can't be put
@@ -112,76 +114,111 @@ module _ (Finds : List ℕ → List ℕ → Found → Type 0) where
     stuck old new (Into found) opened (NoFile name) m h = absurd h
     stuck old new (Into found) opened TooDeep m h = (m.0, found, record { before = m.1.before; rest = left_of new; next = m.1.next }, m.1.finds, h)
 
-  -- ---- the stack
+  -- ---- the stack: what the open files come to before a turn, where they come to something behind it
+
+  ended_before : (frames : List Frame) (old : Frame) (put after : List ℕ) → ComesTo Finds old put → Completes Finds (frames ++ []) after → (before : List ℕ) × Completes Finds (frames ++ old ∷ []) before
+  ended_before frames old put after h k = (put ++ after, opened Finds frames old put after h (subst (λ (fs : List Frame). Completes Finds fs after) (append-nil frames) k))
+
+  again_before : (frames : List Frame) (old new : Frame) (whole grown after : List ℕ) → Turns Finds old whole new grown Again → Completes Finds (frames ++ new ∷ []) after
+      → (before : List ℕ) × Completes Finds (frames ++ old ∷ []) before
+  again_before frames old new whole grown after turns k =
+      let s = split Finds frames new after k in
+      ((turns.0 ++ s.0) ++ s.1, opened Finds frames old (turns.0 ++ s.0) s.1 (turns.2 s.0 s.2) s.3)
+
+  into_before : (frames : List Frame) (old new inner : Frame) (found : Found) (whole grown after : List ℕ) → Turns Finds old whole new grown (Into found)
+      → ((own : List ℕ) → ComesTo Finds inner own → Includes Finds found.path.items found.bytes.items own) → Completes Finds (frames ++ new ∷ inner ∷ []) after
+      → (before : List ℕ) × Completes Finds (frames ++ old ∷ []) before
+  into_before frames old new inner found whole grown after turns comes k =
+      let s = split Finds (frames ++ new ∷ []) inner after (subst (λ (fs : List Frame). Completes Finds fs after) (sym (append_assoc frames (new ∷ []) (inner ∷ []))) k) in
+      let r = split Finds frames new s.1 s.3 in
+      let own = turns.0 ++ marker_line 1 (plain_of found.path.items) ++ s.0 ++ r.0 in
+      (own ++ r.1, opened Finds frames old own r.1 (turns.2 s.0 r.0 (comes s.0 s.2) r.2) r.3)
+
+  -- ---- the places of the open files
 
   module _ (path text : List ℕ) where
-    -- Each open file is at a place that is reached, from the outermost on; so many are open there.
+    -- Each open file is at a place that is reached once the files that are open in it are read, from the outermost on.
     unfoldable pub AreReached : ℕ → List Frame → Type 0
     AreReached opened [] = Unit {0}
-    AreReached opened (frame ∷ frames) = Reaches Finds path text opened frame.path.items (left_of frame) × AreReached (opened + 1) frames
+    AreReached opened (frame ∷ frames) =
+        ((inner : List ℕ) → Completes Finds frames inner → Reaches Finds path text opened frame.path.items (left_of frame)) × AreReached (opened + 1) frames
 
-    both : (n : ℕ) (outer inner : List Frame) → AreReached n outer → AreReached (n + length outer) inner → AreReached n (outer ++ inner)
+    -- the innermost files change
+    changed : (n : ℕ) (frames old new : List Frame) → ((outer : List Frame) (after : List ℕ) → Completes Finds (outer ++ new) after → (before : List ℕ) × Completes Finds (outer ++ old) before)
+        → AreReached n (frames ++ old) → AreReached (n + length frames) new → AreReached n (frames ++ new)
     unfolding AreReached
-    both n [] inner h k = let e : n + length {A = Frame} [] ≡ n = omega arith in subst (λ (m : ℕ). AreReached m inner) e k
-    both n (f ∷ outer) inner h k =
-        let e : n + length (f ∷ outer) ≡ n + 1 + length outer = omega arith in
-        (h.0, both (n + 1) outer inner h.1 (subst (λ (m : ℕ). AreReached m inner) e k))
+    changed n [] old new step h k = let e : n + length {A = Frame} [] ≡ n = omega arith in subst (λ (m : ℕ). AreReached m new) e k
+    changed n (f ∷ frames) old new step h k =
+        let e : n + length (f ∷ frames) ≡ n + 1 + length frames = omega arith in (
+          λ after c. let b = step frames after c in h.0 b.0 b.1,
+          changed (n + 1) frames old new step h.1 (subst (λ (m : ℕ). AreReached m new) e k),
+        )
 
-    parts : (n : ℕ) (outer inner : List Frame) → AreReached n (outer ++ inner) → AreReached n outer × AreReached (n + length outer) inner
+    within : (n : ℕ) (outer inner : List Frame) → AreReached n (outer ++ inner) → AreReached (n + length outer) inner
     unfolding AreReached
-    parts n [] inner h = let e : n ≡ n + length {A = Frame} [] = omega arith in (tt, subst (λ (m : ℕ). AreReached m inner) e h)
-    parts n (f ∷ outer) inner h =
-        let k = parts (n + 1) outer inner h.1 in
+    within n [] inner h = let e : n ≡ n + length {A = Frame} [] = omega arith in subst (λ (m : ℕ). AreReached m inner) e h
+    within n (f ∷ outer) inner h =
         let e : n + 1 + length outer ≡ n + length (f ∷ outer) = omega arith in
-        ((h.0, k.0), subst (λ (m : ℕ). AreReached m inner) e k.1)
+        subst (λ (m : ℕ). AreReached m inner) e (within (n + 1) outer inner h.1)
+
+    none : (opened : ℕ) → AreReached opened []
+    unfolding AreReached
+    none opened = tt
 
     one : (opened : ℕ) (frame : Frame) → Reaches Finds path text opened frame.path.items (left_of frame) → AreReached opened (frame ∷ [])
     unfolding AreReached
-    one opened frame h = (h, tt)
+    one opened frame h = (λ inner k. h, tt)
+
+    two : (opened : ℕ) (outer inner : Frame) → ((said : List ℕ) → Completes Finds (inner ∷ []) said → Reaches Finds path text opened outer.path.items (left_of outer))
+        → Reaches Finds path text (opened + 1) inner.path.items (left_of inner) → AreReached opened (outer ∷ inner ∷ [])
+    unfolding AreReached
+    two opened outer inner h k = (h, one (opened + 1) inner k)
 
     -- the place in the innermost file
     innermost : (frames : List Frame) (frame : Frame) → AreReached 1 (frames ++ frame ∷ []) → Reaches Finds path text (1 + length frames) frame.path.items (left_of frame)
     unfolding AreReached
-    innermost frames frame h = (parts 1 frames (frame ∷ []) h).1.0
+    innermost frames frame h = (within 1 frames (frame ∷ []) h).0 [] (no_files Finds)
 
     just_begun : (opened : ℕ) (frame : Frame) (beside bytes : List ℕ) → frame.words.end ≡ 0 → frame.path.items ≡ beside → frame.bytes.items ≡ bytes
         → Reaches Finds path text opened beside bytes → Reaches Finds path text opened frame.path.items (left_of frame)
-    just_begun opened frame beside bytes none same_path same_bytes h =
-        let left : bytes ≡ left_of frame = sym same_bytes ∙ ap (λ (n : ℕ). drop n frame.bytes.items) (sym none) in
+    just_begun opened frame beside bytes first same_path same_bytes h =
+        let left : bytes ≡ left_of frame = sym same_bytes ∙ ap (λ (n : ℕ). drop n frame.bytes.items) (sym first) in
         subst (λ (p : List ℕ). Reaches Finds path text opened p (left_of frame)) (sym same_path) (subst (Reaches Finds path text opened beside) left h)
 
     pub begun_reached : (frames : List Frame) (frame : Frame) → frames ≡ frame ∷ [] → frame.words.end ≡ 0 → frame.path.items ≡ path → frame.bytes.items ≡ text → AreReached 1 frames
-    begun_reached frames frame is none same_path same_text =
-        subst (AreReached 1) (sym is) (one 1 frame (just_begun 1 frame path text none same_path same_text begin))
+    begun_reached frames frame is first same_path same_text =
+        subst (AreReached 1) (sym is) (one 1 frame (just_begun 1 frame path text first same_path same_text begin))
 
-    -- the place behind the words that a turn takes
-    further : (opened : ℕ) (old new : Frame) (inclusion : Inclusion) (found : Found) → Advances Finds old new inclusion found
-        → Reaches Finds path text opened old.path.items (left_of old) → Reaches Finds path text opened new.path.items (left_of new)
-    further opened old new inclusion found a h =
-        subst (λ (p : Vec ℕ Global). Reaches Finds path text opened p.items (left_of new)) (sym a.path_is) (behind inclusion found h a.next a.finds)
+    same_file : (opened : ℕ) (old new : Frame) → new.path ≡ old.path → Reaches Finds path text opened old.path.items (left_of new) → Reaches Finds path text opened new.path.items (left_of new)
+    same_file opened old new is h = subst (λ (p : Vec ℕ Global). Reaches Finds path text opened p.items (left_of new)) (sym is) h
 
-    gone_on : (frames opened_now : List Frame) (old new : Frame) (turn : Turn) (grown last : List ℕ) → AreReached 1 (frames ++ old ∷ []) → Moves Finds old new turn
-        → Goes frames new turn grown opened_now last → Nests (1 + length frames) turn → AreReached 1 opened_now
-    gone_on frames now old new End grown last h m g n = subst (AreReached 1) (sym g.0) (parts 1 frames (old ∷ []) h).0
-    gone_on frames now old new Again grown last h m g n =
-        let place = further (1 + length frames) old new m.0 m.1 m.2 (innermost frames old h) in
-        subst (AreReached 1) (sym g.0) (both 1 frames (new ∷ []) (parts 1 frames (old ∷ []) h).0 (one (1 + length frames) new place))
-    gone_on frames now old new (Into found) grown last h m g n =
+    gone_on : (frames opened_now : List Frame) (old new : Frame) (turn : Turn) (whole grown last : List ℕ) → AreReached 1 (frames ++ old ∷ []) → Turns Finds old whole new grown turn
+        → Moves Finds old new turn → Goes frames new turn grown opened_now last → Nests (1 + length frames) turn → AreReached 1 opened_now
+    gone_on frames now old new End whole grown last h t m g n =
+        subst (AreReached 1) (append-nil frames ∙ sym g.0)
+        (changed 1 frames (old ∷ []) [] (λ outer after k. ended_before outer old t.0 after t.2 k) h (none (1 + length frames)))
+    gone_on frames now old new Again whole grown last h t m g n =
+        let place = same_file (1 + length frames) old new m.3.path_is (behind_binary m.0 m.1 m.2 (innermost frames old h) m.3.next m.3.finds) in
+        subst (AreReached 1) (sym g.0)
+        (changed 1 frames (old ∷ []) (new ∷ []) (λ outer after k. again_before outer old new whole grown after t k) h (one (1 + length frames) new place))
+    gone_on frames now old new (Into found) whole grown last h t m g n =
         let here = innermost frames old h in
-        let place = further (1 + length frames) old new (Source m.0) found m.1 here in
-        let outer = both 1 frames (new ∷ []) (parts 1 frames (old ∷ []) h).0 (one (1 + length frames) new place) in
-        let inside = into m.0 found here m.1.next m.1.finds n in
+        let comes : (own : List ℕ) → ComesTo Finds g.inner own → Includes Finds found.path.items found.bytes.items own = λ own k.
+        subst (λ (b : Vec ℕ Global). Includes Finds b.items found.bytes.items own) g.path_is
+        (subst (λ (b : Vec ℕ Global). Includes Finds g.inner.path.items b.items own) g.bytes_is (just_opened Finds g.inner own g.words_is k)) in
+        let outer_place : (said : List ℕ) → Completes Finds (g.inner ∷ []) said → Reaches Finds path text (1 + length frames) new.path.items (left_of new) = λ said k.
+        let s = split Finds [] g.inner said k in
+        same_file (1 + length frames) old new m.1.path_is (behind_source m.0 found here m.1.next m.1.finds n (comes s.0 s.2)) in
         let first = just_begun (1 + length frames + 1) g.inner found.path.items found.bytes.items g.words_is
-        (ap (λ (p : Vec ℕ Global). p.items) g.path_is) (ap (λ (b : Vec ℕ Global). b.items) g.bytes_is) inside in
-        let e : 1 + length frames + 1 ≡ 1 + length (frames ++ new ∷ []) = omega (arith, length-append frames (new ∷ [])) in
-        subst (AreReached 1) (sym g.opened_is)
-        (both 1 (frames ++ new ∷ []) (g.inner ∷ []) outer (one (1 + length (frames ++ new ∷ [])) g.inner (subst (λ (k : ℕ). Reaches Finds path text k g.inner.path.items (left_of g.inner)) e first)))
+        (ap (λ (p : Vec ℕ Global). p.items) g.path_is) (ap (λ (b : Vec ℕ Global). b.items) g.bytes_is) (into m.0 found here m.1.next m.1.finds n) in
+        subst (AreReached 1) (sym (g.opened_is ∙ append_assoc frames (new ∷ []) (g.inner ∷ [])))
+        (changed 1 frames (old ∷ []) (new ∷ g.inner ∷ []) (λ outer after k. into_before outer old new g.inner found whole grown after t comes k) h (two (1 + length frames) new g.inner outer_place first))
 
-    pub gone_reached : (all frames opened_now : List Frame) (old new : Frame) (turn : Turn) (grown last : List ℕ) → all ≡ frames ++ old ∷ [] → AreReached 1 all → Moves Finds old new turn
-        → Goes frames new turn grown opened_now last → Nests (length frames + 1) turn → AreReached 1 opened_now
-    gone_reached all frames now old new turn grown last is h m g n =
+    pub gone_reached : (all frames opened_now : List Frame) (old new : Frame) (turn : Turn) (whole grown last : List ℕ) → all ≡ frames ++ old ∷ [] → AreReached 1 all → Turns Finds old whole new grown turn
+        → Moves Finds old new turn → Goes frames new turn grown opened_now last → Nests (length frames + 1) turn → AreReached 1 opened_now
+    gone_reached all frames now old new turn whole grown last is h t m g n =
         let e : length frames + 1 ≡ 1 + length frames = omega arith in
-        gone_on frames now old new turn grown last (subst (AreReached 1) is h) m g (subst (λ (k : ℕ). Nests k turn) e n)
+        gone_on frames now old new turn whole grown last (subst (AreReached 1) is h) t m g (subst (λ (k : ℕ). Nests k turn) e n)
 
     module _ (Lacks : List ℕ → List ℕ → Type 0) where
       -- ---- why the text isn't whole

@@ -6,7 +6,8 @@ use Rattle.dtc_dialect.specs.declared.inclusion.Incomplete.{Incomplete}
 use Rattle.dtc_dialect.specs.declared.inclusion.Incomplete.TheVariants.{NoFile, NoMemory, Syntax, TooDeep, TooLong}
 use Rattle.dtc_dialect.specs.declared.words.Inclusion.{Inclusion}
 use Rattle.dtc_dialect.specs.declared.words.Inclusion.TheVariants.{Binary, Source}
-use Rattle.dtc_dialect.specs.Inclusion.{HasNext, IsBroken, MayNest, Passes}
+use Rattle.dtc_dialect.specs.declared.words.Part.{Part}
+use Rattle.dtc_dialect.specs.Inclusion.{HasNext, Includes, IsBroken, MayNest, Passes}
 
 -- the name in words that take something in
 abbrev pub name_of : Inclusion → List ℕ
@@ -14,14 +15,17 @@ name_of (Source name) = name.now
 name_of (Binary name part) = name.now
 
 -- Reading a text of a path comes to a place in a file: so many files are open there, the user's own among them, and this is the
--- path of the innermost and what is left of it.
+-- path of the innermost and what is left of it. Behind words it comes once all that they take in is read.
 pub data Reaches (Finds : List ℕ → List ℕ → Found → Type 0) (path text : List ℕ) : ℕ → List ℕ → List ℕ → Type 0 where
   begin : Reaches Finds path text 1 path text
   into : {opened : ℕ} {beside left before rest : List ℕ} (name : Bor (List ℕ)) (found : Found) → Reaches Finds path text opened beside left
       → HasNext left (Source name) before rest → Finds beside name.now found → MayNest opened
       → Reaches Finds path text (opened + 1) found.path.items found.bytes.items
-  behind : {opened : ℕ} {beside left before rest : List ℕ} (inclusion : Inclusion) (found : Found) → Reaches Finds path text opened beside left
-      → HasNext left inclusion before rest → Finds beside (name_of inclusion) found → Reaches Finds path text opened beside rest
+  behind_source : {opened : ℕ} {beside left before rest inner : List ℕ} (name : Bor (List ℕ)) (found : Found) → Reaches Finds path text opened beside left
+      → HasNext left (Source name) before rest → Finds beside name.now found → MayNest opened → Includes Finds found.path.items found.bytes.items inner
+      → Reaches Finds path text opened beside rest
+  behind_binary : {opened : ℕ} {beside left before rest : List ℕ} (name : Bor (List ℕ)) (part : Part) (found : Found) → Reaches Finds path text opened beside left
+      → HasNext left (Binary name part) before rest → Finds beside name.now found → Reaches Finds path text opened beside rest
 
 -- Words are next in the text that name a file.
 pub record Names (left : List ℕ) (inclusion : Inclusion) : Type 0 where

@@ -130,7 +130,7 @@ pub record Advances (Finds : List ℕ → List ℕ → Found → Type 0) (old ne
 
 abbrev pub Moves : (List ℕ → List ℕ → Found → Type 0) → Frame → Frame → Turn → Type 0
 Moves Finds old new End = Unit {0}
-Moves Finds old new Again = (inclusion : Inclusion) × (found : Found) × Advances Finds old new inclusion found
+Moves Finds old new Again = (name : Bor (List ℕ)) × (part : Part) × (found : Found) × Advances Finds old new (inclusions.Binary name part) found
 Moves Finds old new (Into found) = (name : Bor (List ℕ)) × Advances Finds old new (inclusions.Source name) found
 
 -- why the file of a name isn't taken in

@@ -25,7 +25,7 @@ turns-preserved g c = (
   gone_at g.F.Files.finds c.args.path.now c.args.text.now c.turns.frames.items c.pop.new.self.items c.go_on.new.frames.items c.in-Some.frame c.take_turn.new.frame c.in-Ok.turn
       c.turns.whole.items c.take_turn.new.whole.items c.go_on.new.whole.items c.in-Some.ensures.items c.turns.invariant.0 c.in-Ok.ensures.turns c.in_default-go_on.ensures.goes,
   gone_reached g.F.Files.finds c.args.path.now c.args.text.now c.turns.frames.items c.pop.new.self.items c.go_on.new.frames.items c.in-Some.frame c.take_turn.new.frame c.in-Ok.turn
-      c.take_turn.new.whole.items c.go_on.new.whole.items c.in-Some.ensures.items c.turns.invariant.1 c.in-Ok.ensures.moves c.in_default-go_on.ensures.goes c.in_default-go_on.ensures.nests,
+      c.turns.whole.items c.take_turn.new.whole.items c.go_on.new.whole.items c.in-Some.ensures.items c.turns.invariant.1 c.in-Ok.ensures.turns c.in-Ok.ensures.moves c.in_default-go_on.ensures.goes c.in_default-go_on.ensures.nests,
 )
 
 -- ---- why it stops

@@ -1,5 +1,5 @@
 -- What is put so far, and what the open files still come to, is what the text comes to; and each open file is at a place that
--- reading comes to.
+-- reading comes to, once those that are open in it are read.
 use Rattle.dtc_dialect.proofs.OpenFiles.{IsUnderWay}
 use Rattle.dtc_dialect.proofs.Reaching.{AreReached}
 use Rattle.dtc_dialect.proofs.inclusion.included.Given as goal
