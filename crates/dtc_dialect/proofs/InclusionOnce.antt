@@ -1,5 +1,5 @@
 -- The words of an inclusion are read in one way, and where one is missing none stand there.
-use Rattle.std.proofs.Common.{◌≡◌, ℕ, ◌-◌, ◌<◌, Bool, true, false, eqb, List, [], ◌∷◌, take, drop, Some, refl, sym, ap, subst, inl, inr, ◌∙◌, arith}
+use Rattle.std.proofs.Common.{◌≡◌, ℕ, ◌<◌, Bool, true, false, eqb, List, [], ◌∷◌, take, drop, refl, sym, ap, subst, inl, inr, ◌∙◌, arith}
 use Rattle.std.specs.Prelude.{◌⊎◌, ◌&&◌, ◌||◌, codes, nat_eq}
 use Rattle.std.specs.Cmp.Lexicographic.{as_long, pointwise}
 use Rattle.std.proofs.lemmas.Bool.{and_parts, cases_order, eqb-true}

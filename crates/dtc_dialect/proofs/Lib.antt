@@ -20,6 +20,7 @@ mod Omitting
 mod OpenFiles
 mod Orders
 mod PathNames
+mod Putting
 mod Reaching
 pub mod Repeated
 mod RowChains

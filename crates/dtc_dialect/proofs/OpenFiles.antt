@@ -63,13 +63,13 @@ module _ (Finds : List ℕ → List ℕ → Found → Type 0) where
       by_number zero lt marker b = absurd (omega (arith, lt))
       by_number (suc n) lt marker b = b
 
-  before-four : (m a b c d : List ℕ) → m ++ (a ++ b ++ c ++ d) ≡ m ++ a ++ b ++ (c ++ d)
+  pub before-four : (m a b c d : List ℕ) → m ++ (a ++ b ++ c ++ d) ≡ m ++ a ++ b ++ (c ++ d)
   before-four m a b c d =
       sym (append_assoc m (a ++ b ++ c) d)
       ∙ ap (λ (t : List ℕ). t ++ d) (sym (append_assoc m (a ++ b) c) ∙ ap (λ (t : List ℕ). t ++ c) (sym (append_assoc m a b)))
       ∙ append_assoc (m ++ a ++ b) c d
 
-  before-five : (m a b c d e : List ℕ) → m ++ (a ++ b ++ c ++ d ++ e) ≡ m ++ a ++ b ++ c ++ (d ++ e)
+  pub before-five : (m a b c d e : List ℕ) → m ++ (a ++ b ++ c ++ d ++ e) ≡ m ++ a ++ b ++ c ++ (d ++ e)
   before-five m a b c d e =
       sym (append_assoc m (a ++ b ++ c ++ d) e)
       ∙ ap (λ (t : List ℕ). t ++ e) (sym (append_assoc m (a ++ b ++ c) d) ∙ ap (λ (t : List ℕ). t ++ d) (sym (append_assoc m (a ++ b) c) ∙ ap (λ (t : List ℕ). t ++ c) (sym (append_assoc m a b))))

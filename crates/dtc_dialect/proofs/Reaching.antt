@@ -1,8 +1,7 @@
 -- The places that reading comes to, turn by turn, and why it stops at one.
-use Rattle.std.proofs.Common.{Global, ◌≡◌, ℕ, ◌+◌, ◌-◌, List, [], ◌∷◌, ◌++◌, length, take, drop, Result, Ok, Err, IfErr, refl, sym, ap, subst, inl, inr, ◌∙◌, arith}
-use Rattle.std.specs.Prelude.{IsErrAnd, Vec, ◌⊎◌}
+use Rattle.std.proofs.Common.{Global, ◌≡◌, ℕ, ◌+◌, ◌-◌, List, [], ◌∷◌, ◌++◌, length, take, drop, Result, Ok, Err, IfErr, sym, ap, subst, inl, inr, ◌∙◌, arith}
+use Rattle.std.specs.Prelude.{IsErrAnd, Vec}
 use Rattle.std.proofs.lemmas.List.{append-nil, append_assoc, length-append}
-use denote.Ref.{Bor}
 use Rattle.dtc_dialect.specs.declared.inclusion.Found.{Found}
 use Rattle.dtc_dialect.specs.declared.inclusion.Frame.{Frame}
 use Rattle.dtc_dialect.specs.declared.inclusion.Incomplete.{Incomplete}
@@ -14,9 +13,9 @@ use Rattle.dtc_dialect.specs.declared.token.Span.{Span}
 use Rattle.dtc_dialect.specs.declared.words.Inclusion.{Inclusion}
 use Rattle.dtc_dialect.specs.declared.words.Inclusion.TheVariants.{Binary, Source}
 use Rattle.dtc_dialect.specs.Copied.{marker_line}
-use Rattle.dtc_dialect.specs.Inclusion.{HasNext, Includes, IsBroken, MayNest, Passes, TakesIn, plain_of}
-use Rattle.dtc_dialect.specs.Private.Included.{Advances, ComesTo, Completes, Exceeds, Goes, IsKept, IsMissing, IsStuck, IsTaken, Moves, Nests, Turns}
-use Rattle.dtc_dialect.specs.Shortfall.{Reaches, Stops, StopsAt, begin, behind_binary, behind_source, into, name_of}
+use Rattle.dtc_dialect.specs.Inclusion.{HasNext, Includes, MayNest, Passes, TakesIn, plain_of}
+use Rattle.dtc_dialect.specs.Private.Included.{Advances, ComesTo, Completes, Exceeds, Goes, IsKept, IsMissing, IsStuck, IsTaken, Moves, Nests, PutsFrom, StopsIn, Turns}
+use Rattle.dtc_dialect.specs.Shortfall.{IsStopped, Puts, Reaches, Stops, StopsAt, begin, behind_binary, behind_source, into, name_of}
 use Rattle.dtc_dialect.proofs.InclusionRests.{cut_before, passes_rest, words_end}
 use Rattle.dtc_dialect.proofs.OpenFiles.{just_opened, no_files, opened, split}
 
@@ -49,7 +48,7 @@ pub record Reading (old frame new : Frame) (inclusion : Inclusion) : Type 0 wher
   pub ends : new.words.end ≡ length frame.bytes.items - length rest
 
 -- those words, as they are next behind what was taken before
-next_words : (old frame new : Frame) (inclusion : Inclusion) (r : Reading old frame new inclusion)
+pub next_words : (old frame new : Frame) (inclusion : Inclusion) (r : Reading old frame new inclusion)
     → HasNext (left_of old) inclusion (take (length r.left - length r.at) r.left) (left_of new)
 next_words old frame new inclusion r =
     let here : r.left ≡ left_of old = r.left_is ∙ same_left old frame r.bytes_is r.words_is in
@@ -84,55 +83,48 @@ module _ (Finds : List ℕ → List ℕ → Found → Type 0) where
   moved old frame new (Binary name part) Again taken grown r h = (name, part, h.0, advanced old frame new (Binary name part) h.0 r h.1)
 
   module _ (Lacks : List ℕ → List ℕ → Type 0) where
-    -- the file that is named isn't there, or can't be put
-    pub missed : (old frame new : Frame) (inclusion : Inclusion) (reason : Incomplete) → Reading old frame new inclusion → IsMissing Lacks frame.path.items (name_of inclusion) reason
-        → (opened : ℕ) → StopsAt Finds Lacks opened old.path.items (left_of old) reason
-    missed old frame new inclusion NoMemory r h opened = tt
-    missed old frame new inclusion TooLong r h opened = tt
-    missed old frame new inclusion TooDeep r h opened = absurd h
-    missed old frame new inclusion Syntax r h opened = absurd h
-    missed old frame new inclusion (NoFile name) r h opened = (
+    -- the file that is named isn't there
+    pub lacking : (old frame new : Frame) (inclusion : Inclusion) (reason : Incomplete) → Reading old frame new inclusion → IsMissing Lacks frame.path.items (name_of inclusion) reason
+        → StopsIn Finds Lacks old reason
+    lacking old frame new inclusion NoMemory r h = tt
+    lacking old frame new inclusion TooLong r h = absurd h
+    lacking old frame new inclusion TooDeep r h = absurd h
+    lacking old frame new inclusion Syntax r h = absurd h
+    lacking old frame new inclusion (NoFile name) r h = λ opened. (
       inclusion,
       record { before = take (length r.left - length r.at) r.left; rest = left_of new; next = next_words old frame new inclusion r },
       h.0,
       subst (λ (p : Vec ℕ Global). Lacks p.items name.items) r.path_is h.1,
     )
 
-    -- the words break off
-    pub broke : (old frame : Frame) (left at : List ℕ) → frame.bytes ≡ old.bytes → frame.words ≡ old.words → left ≡ left_of frame → Passes left at → IsBroken at
-        → (opened : ℕ) → StopsAt Finds Lacks opened old.path.items (left_of old) Syntax
-    broke old frame left at bytes words is p b opened = (at, subst (λ (t : List ℕ). Passes t at) (is ∙ same_left old frame bytes words) p, b)
-
-    -- one file more can't be opened
-    pub stuck : (old new : Frame) (turn : Turn) (opened : ℕ) (reason : Incomplete) → Moves Finds old new turn → IsStuck opened turn reason
-        → StopsAt Finds Lacks opened old.path.items (left_of old) reason
-    stuck old new End opened reason m h = absurd h
-    stuck old new Again opened reason m h = subst (StopsAt Finds Lacks opened old.path.items (left_of old)) (sym h) tt
-    stuck old new (Into found) opened NoMemory m h = tt
-    stuck old new (Into found) opened TooLong m h = absurd h
-    stuck old new (Into found) opened Syntax m h = absurd h
-    stuck old new (Into found) opened (NoFile name) m h = absurd h
-    stuck old new (Into found) opened TooDeep m h = (m.0, found, record { before = m.1.before; rest = left_of new; next = m.1.next }, m.1.finds, h)
-
   -- ---- the stack: what the open files come to before a turn, where they come to something behind it
 
-  ended_before : (frames : List Frame) (old : Frame) (put after : List ℕ) → ComesTo Finds old put → Completes Finds (frames ++ []) after → (before : List ℕ) × Completes Finds (frames ++ old ∷ []) before
-  ended_before frames old put after h k = (put ++ after, opened Finds frames old put after h (subst (λ (fs : List Frame). Completes Finds fs after) (append-nil frames) k))
+  pub ended_before : (frames : List Frame) (old : Frame) (put after : List ℕ) → ComesTo Finds old put → Completes Finds (frames ++ []) after → Completes Finds (frames ++ old ∷ []) (put ++ after)
+  ended_before frames old put after h k = opened Finds frames old put after h (subst (λ (fs : List Frame). Completes Finds fs after) (append-nil frames) k)
 
-  again_before : (frames : List Frame) (old new : Frame) (whole grown after : List ℕ) → Turns Finds old whole new grown Again → Completes Finds (frames ++ new ∷ []) after
-      → (before : List ℕ) × Completes Finds (frames ++ old ∷ []) before
+  pub again_before : (frames : List Frame) (old new : Frame) (whole grown after : List ℕ) (turns : Turns Finds old whole new grown Again) → Completes Finds (frames ++ new ∷ []) after
+      → Completes Finds (frames ++ old ∷ []) (turns.0 ++ after)
   again_before frames old new whole grown after turns k =
       let s = split Finds frames new after k in
-      ((turns.0 ++ s.0) ++ s.1, opened Finds frames old (turns.0 ++ s.0) s.1 (turns.2 s.0 s.2) s.3)
+      subst (Completes Finds (frames ++ old ∷ [])) (append_assoc turns.0 s.0 s.1 ∙ ap (λ (u : List ℕ). turns.0 ++ u) (sym s.4)) (opened Finds frames old (turns.0 ++ s.0) s.1 (turns.2 s.0 s.2) s.3)
 
-  into_before : (frames : List Frame) (old new inner : Frame) (found : Found) (whole grown after : List ℕ) → Turns Finds old whole new grown (Into found)
+  pub into_before : (frames : List Frame) (old new inner : Frame) (found : Found) (whole grown after : List ℕ) (turns : Turns Finds old whole new grown (Into found))
       → ((own : List ℕ) → ComesTo Finds inner own → Includes Finds found.path.items found.bytes.items own) → Completes Finds (frames ++ new ∷ inner ∷ []) after
-      → (before : List ℕ) × Completes Finds (frames ++ old ∷ []) before
+      → Completes Finds (frames ++ old ∷ []) (turns.0 ++ marker_line 1 (plain_of found.path.items) ++ after)
   into_before frames old new inner found whole grown after turns comes k =
       let s = split Finds (frames ++ new ∷ []) inner after (subst (λ (fs : List Frame). Completes Finds fs after) (sym (append_assoc frames (new ∷ []) (inner ∷ []))) k) in
       let r = split Finds frames new s.1 s.3 in
-      let own = turns.0 ++ marker_line 1 (plain_of found.path.items) ++ s.0 ++ r.0 in
-      (own ++ r.1, opened Finds frames old own r.1 (turns.2 s.0 r.0 (comes s.0 s.2) r.2) r.3)
+      let add = turns.0 ++ marker_line 1 (plain_of found.path.items) in
+      subst (Completes Finds (frames ++ old ∷ []))
+      (append_assoc (add ++ s.0) r.0 r.1 ∙ append_assoc add s.0 (r.0 ++ r.1) ∙ ap (λ (u : List ℕ). add ++ u) (ap (λ (u : List ℕ). s.0 ++ u) (sym r.4) ∙ sym s.4))
+      (opened Finds frames old (add ++ s.0 ++ r.0) r.1 (turns.2 s.0 r.0 (comes s.0 s.2) r.2) r.3)
+
+  -- what a file comes to that was just opened
+  pub comes_to : (inner : Frame) (found : Found) (own : List ℕ) → inner.path ≡ found.path → inner.bytes ≡ found.bytes → inner.words.end ≡ 0 → ComesTo Finds inner own
+      → Includes Finds found.path.items found.bytes.items own
+  comes_to inner found own path_is bytes_is words_is h =
+      subst (λ (b : Vec ℕ Global). Includes Finds b.items found.bytes.items own) path_is
+      (subst (λ (b : Vec ℕ Global). Includes Finds inner.path.items b.items own) bytes_is (just_opened Finds inner own words_is h))
 
   -- ---- the places of the open files
 
@@ -144,14 +136,14 @@ module _ (Finds : List ℕ → List ℕ → Found → Type 0) where
         ((inner : List ℕ) → Completes Finds frames inner → Reaches Finds path text opened frame.path.items (left_of frame)) × AreReached (opened + 1) frames
 
     -- the innermost files change
-    changed : (n : ℕ) (frames old new : List Frame) → ((outer : List Frame) (after : List ℕ) → Completes Finds (outer ++ new) after → (before : List ℕ) × Completes Finds (outer ++ old) before)
+    changed : (n : ℕ) (frames old new : List Frame) (add : List ℕ) → ((outer : List Frame) (after : List ℕ) → Completes Finds (outer ++ new) after → Completes Finds (outer ++ old) (add ++ after))
         → AreReached n (frames ++ old) → AreReached (n + length frames) new → AreReached n (frames ++ new)
     unfolding AreReached
-    changed n [] old new step h k = let e : n + length {A = Frame} [] ≡ n = omega arith in subst (λ (m : ℕ). AreReached m new) e k
-    changed n (f ∷ frames) old new step h k =
+    changed n [] old new add step h k = let e : n + length {A = Frame} [] ≡ n = omega arith in subst (λ (m : ℕ). AreReached m new) e k
+    changed n (f ∷ frames) old new add step h k =
         let e : n + length (f ∷ frames) ≡ n + 1 + length frames = omega arith in (
-          λ after c. let b = step frames after c in h.0 b.0 b.1,
-          changed (n + 1) frames old new step h.1 (subst (λ (m : ℕ). AreReached m new) e k),
+          λ after c. h.0 (add ++ after) (step frames after c),
+          changed (n + 1) frames old new add step h.1 (subst (λ (m : ℕ). AreReached m new) e k),
         )
 
     within : (n : ℕ) (outer inner : List Frame) → AreReached n (outer ++ inner) → AreReached (n + length outer) inner
@@ -196,23 +188,21 @@ module _ (Finds : List ℕ → List ℕ → Found → Type 0) where
         → Moves Finds old new turn → Goes frames new turn grown opened_now last → Nests (1 + length frames) turn → AreReached 1 opened_now
     gone_on frames now old new End whole grown last h t m g n =
         subst (AreReached 1) (append-nil frames ∙ sym g.0)
-        (changed 1 frames (old ∷ []) [] (λ outer after k. ended_before outer old t.0 after t.2 k) h (none (1 + length frames)))
+        (changed 1 frames (old ∷ []) [] t.0 (λ outer after k. ended_before outer old t.0 after t.2 k) h (none (1 + length frames)))
     gone_on frames now old new Again whole grown last h t m g n =
         let place = same_file (1 + length frames) old new m.3.path_is (behind_binary m.0 m.1 m.2 (innermost frames old h) m.3.next m.3.finds) in
         subst (AreReached 1) (sym g.0)
-        (changed 1 frames (old ∷ []) (new ∷ []) (λ outer after k. again_before outer old new whole grown after t k) h (one (1 + length frames) new place))
+        (changed 1 frames (old ∷ []) (new ∷ []) t.0 (λ outer after k. again_before outer old new whole grown after t k) h (one (1 + length frames) new place))
     gone_on frames now old new (Into found) whole grown last h t m g n =
         let here = innermost frames old h in
-        let comes : (own : List ℕ) → ComesTo Finds g.inner own → Includes Finds found.path.items found.bytes.items own = λ own k.
-        subst (λ (b : Vec ℕ Global). Includes Finds b.items found.bytes.items own) g.path_is
-        (subst (λ (b : Vec ℕ Global). Includes Finds g.inner.path.items b.items own) g.bytes_is (just_opened Finds g.inner own g.words_is k)) in
+        let comes : (own : List ℕ) → ComesTo Finds g.inner own → Includes Finds found.path.items found.bytes.items own = λ own. comes_to g.inner found own g.path_is g.bytes_is g.words_is in
         let outer_place : (said : List ℕ) → Completes Finds (g.inner ∷ []) said → Reaches Finds path text (1 + length frames) new.path.items (left_of new) = λ said k.
         let s = split Finds [] g.inner said k in
         same_file (1 + length frames) old new m.1.path_is (behind_source m.0 found here m.1.next m.1.finds n (comes s.0 s.2)) in
         let first = just_begun (1 + length frames + 1) g.inner found.path.items found.bytes.items g.words_is
         (ap (λ (p : Vec ℕ Global). p.items) g.path_is) (ap (λ (b : Vec ℕ Global). b.items) g.bytes_is) (into m.0 found here m.1.next m.1.finds n) in
         subst (AreReached 1) (sym (g.opened_is ∙ append_assoc frames (new ∷ []) (g.inner ∷ [])))
-        (changed 1 frames (old ∷ []) (new ∷ g.inner ∷ []) (λ outer after k. into_before outer old new g.inner found whole grown after t comes k) h (two (1 + length frames) new g.inner outer_place first))
+        (changed 1 frames (old ∷ []) (new ∷ g.inner ∷ []) (t.0 ++ marker_line 1 (plain_of found.path.items)) (λ outer after k. into_before outer old new g.inner found whole grown after t comes k) h (two (1 + length frames) new g.inner outer_place first))
 
     pub gone_reached : (all frames opened_now : List Frame) (old new : Frame) (turn : Turn) (whole grown last : List ℕ) → all ≡ frames ++ old ∷ [] → AreReached 1 all → Turns Finds old whole new grown turn
         → Moves Finds old new turn → Goes frames new turn grown opened_now last → Nests (length frames + 1) turn → AreReached 1 opened_now
@@ -223,33 +213,50 @@ module _ (Finds : List ℕ → List ℕ → Found → Type 0) where
     module _ (Lacks : List ℕ → List ℕ → Type 0) where
       -- ---- why the text isn't whole
 
-      -- nothing is said of want of memory, nor of a text that is too long
-      pub no_memory : Stops Finds Lacks path text NoMemory
-      no_memory = record { opened = 1; beside = path; left = text; reached = begin; wrong = tt }
-
-      pub too_long : Stops Finds Lacks path text TooLong
-      too_long = record { opened = 1; beside = path; left = text; reached = begin; wrong = tt }
-
       pub kept : (reason told : Incomplete) → IsKept reason told → Stops Finds Lacks path text reason → Stops Finds Lacks path text told
       kept reason told (inl e) h = subst (Stops Finds Lacks path text) (sym e) h
-      kept reason told (inr e) h = subst (Stops Finds Lacks path text) (sym e) no_memory
+      kept reason told (inr e) h = subst (Stops Finds Lacks path text) (sym e) tt
 
       pub for_memory : {A : Type 0} (r : Result A Shortfall) → IsErrAnd r (λ s. s.reason ≡ NoMemory) → IfErr r (λ s. Stops Finds Lacks path text s.reason)
       for_memory (Ok a) h = tt
-      for_memory (Err s) h = subst (Stops Finds Lacks path text) (sym h) no_memory
+      for_memory (Err s) h = subst (Stops Finds Lacks path text) (sym h) tt
 
-      -- at the innermost file
-      pub stops_there : (all frames : List Frame) (old : Frame) (reason told : Incomplete) → all ≡ frames ++ old ∷ [] → AreReached 1 all
-          → StopsAt Finds Lacks (length frames + 1) old.path.items (left_of old) reason → IsKept reason told → Stops Finds Lacks path text told
-      stops_there all frames old reason told is h wrong keeps =
+      stopped : (opened : ℕ) (beside left : List ℕ) (reason : Incomplete) → Reaches Finds path text opened beside left → StopsAt Finds Lacks opened beside left reason
+          → IsStopped Finds Lacks path text reason
+      stopped opened beside left reason h wrong = record { opened = opened; beside = beside; left = left; reached = h; wrong = wrong }
+
+      -- a turn isn't done
+      turn_stops : (old : Frame) (whole : List ℕ) (opened : ℕ) (reason : Incomplete) → Reaches Finds path text opened old.path.items (left_of old)
+          → ((more : List ℕ) → PutsFrom Finds old more → Puts Finds path text (whole ++ more)) → StopsIn Finds Lacks old reason → Stops Finds Lacks path text reason
+      turn_stops old whole opened NoMemory h puts wrong = tt
+      turn_stops old whole opened (NoFile name) h puts wrong = stopped opened old.path.items (left_of old) (NoFile name) h (wrong opened)
+      turn_stops old whole opened TooDeep h puts wrong = absurd wrong
+      turn_stops old whole opened TooLong h puts wrong = (whole ++ wrong.0, puts wrong.0 wrong.1, omega (arith, wrong.2, length-append whole wrong.0))
+      turn_stops old whole opened Syntax h puts wrong = stopped opened old.path.items (left_of old) Syntax h (wrong opened)
+
+      pub stops_there : (all frames : List Frame) (old : Frame) (whole : List ℕ) (reason told : Incomplete) → all ≡ frames ++ old ∷ [] → AreReached 1 all
+          → ((more : List ℕ) → PutsFrom Finds old more → Puts Finds path text (whole ++ more)) → StopsIn Finds Lacks old reason → IsKept reason told → Stops Finds Lacks path text told
+      stops_there all frames old whole reason told is h puts wrong keeps =
+          kept reason told keeps (turn_stops old whole (1 + length frames) reason (innermost frames old (subst (AreReached 1) is h)) puts wrong)
+
+      -- one file more can't be opened
+      stuck : (old new : Frame) (turn : Turn) (opened : ℕ) (reason : Incomplete) → Reaches Finds path text opened old.path.items (left_of old) → Moves Finds old new turn → IsStuck opened turn reason
+          → Stops Finds Lacks path text reason
+      stuck old new End opened reason r m h = absurd h
+      stuck old new Again opened reason r m h = subst (Stops Finds Lacks path text) (sym h) tt
+      stuck old new (Into found) opened NoMemory r m h = tt
+      stuck old new (Into found) opened TooLong r m h = absurd h
+      stuck old new (Into found) opened Syntax r m h = absurd h
+      stuck old new (Into found) opened (NoFile name) r m h = absurd h
+      stuck old new (Into found) opened TooDeep r m h =
+          stopped opened old.path.items (left_of old) TooDeep r (m.0, found, record { before = m.1.before; rest = left_of new; next = m.1.next }, m.1.finds, h)
+
+      pub stuck_there : (all frames : List Frame) (old new : Frame) (turn : Turn) (reason told : Incomplete) → all ≡ frames ++ old ∷ [] → AreReached 1 all → Moves Finds old new turn
+          → IsStuck (length frames + 1) turn reason → IsKept reason told → Stops Finds Lacks path text told
+      stuck_there all frames old new turn reason told is h m wrong keeps =
           let e : 1 + length frames ≡ length frames + 1 = omega arith in
-          kept reason told keeps (record {
-            opened = length frames + 1;
-            beside = old.path.items;
-            left = left_of old;
-            reached = subst (λ (k : ℕ). Reaches Finds path text k old.path.items (left_of old)) e (innermost frames old (subst (AreReached 1) is h));
-            wrong = wrong;
-          })
+          kept reason told keeps
+          (stuck old new turn (length frames + 1) reason (subst (λ (k : ℕ). Reaches Finds path text k old.path.items (left_of old)) e (innermost frames old (subst (AreReached 1) is h))) m wrong)
 
 -- ---- one file more
 

@@ -1,9 +1,10 @@
 //! What a source takes in from other files: `/include/ "FILE"` and `/incbin/("FILE"[, OFFSET, LENGTH])`.
 ghost use Rattle.std.specs.Prelude.{◌≡◌, ◌⊎◌, ◌+◌, ◌<◌, ◌↔◌, ◌++◌, ℕ, List, IfErr, IfOk, [], ◌∷◌, OnOk, length, vec_len};
 ghost use Rattle.std.specs.Char.{digit_char};
+ghost use Rattle.dtc_dialect.specs.declared.inclusion.Incomplete.TheVariants.{NoMemory, TooLong};
 ghost use Rattle.dtc_dialect.specs.Inclusion.{Includes, MayNest, byte_string_of, part_of};
-ghost use Rattle.dtc_dialect.specs.Private.Included.{Exceeds, Goes, IsKept, IsMissing, IsPassed, IsStuck, IsTaken, Moves, Nests, StopsIn, Turns};
-ghost use Rattle.dtc_dialect.specs.Shortfall.{Stops, name_of};
+ghost use Rattle.dtc_dialect.specs.Private.Included.{Exceeds, Goes, Grows, IsKept, IsMissing, IsPassed, IsStuck, IsTaken, IsUntaken, Moves, Nests, StopsIn, Turns};
+ghost use Rattle.dtc_dialect.specs.Shortfall.{IsTooLong, Stops};
 
 use crate::bytes::{behind, front};
 use crate::places::Line;
@@ -234,6 +235,7 @@ fn take_turn<F: Files>(
 ) -> Result<Turn, Incomplete>
     ensures turns { IfOk result (λ turn. Turns F.finds frame.old whole.old.items frame.new whole.new.items turn) }
     ensures moves { IfOk result (λ turn. Moves F.finds frame.old frame.new turn) }
+    ensures grows { IfOk result (λ turn. Grows F.finds frame.old whole.old.items frame.new whole.new.items turn) }
     ensures stops { IfErr result (λ reason. StopsIn F.finds F.lacks frame.old reason) }
 {
     pass_words(alloc, frame, whole)?;
@@ -285,7 +287,7 @@ fn take_in<F: Files>(
     whole: &mut Vec<u8>,
 ) -> Result<Turn, Incomplete>
     ensures taken { IfOk result (λ turn. IsTaken F.finds beside.now inclusion.entry whole.old.items whole.new.items turn) }
-    ensures missing { IfErr result (λ reason. IsMissing F.lacks beside.now (name_of inclusion.entry) reason) }
+    ensures untaken { IfErr result (λ reason. IsUntaken F.finds F.lacks beside.now inclusion.entry reason) }
 {
     match inclusion {
         Inclusion::Source(name) => Ok(Turn::Into(find(alloc, files, beside, name)?)),
@@ -333,7 +335,7 @@ fn short(number: u64) -> usize
 /// Puts bytes as pairs of hex digits.
 fn put_binary(whole: &mut Vec<u8>, bytes: &[u8]) -> Result<(), Incomplete>
     ensures put { OnOk result (whole.new.items ≡ whole.old.items ++ byte_string_of bytes.now) }
-    ensures not_put { IfErr result (λ reason. (reason ≡ Incomplete.NoMemory) ⊎ (reason ≡ Incomplete.TooLong)) }
+    ensures long { IfErr result (λ reason. (reason ≡ NoMemory) ⊎ ((reason ≡ TooLong) × IsTooLong bytes.now)) }
 {
     if bytes.len() > MAX_TEXT {
         return Err(Incomplete::TooLong);

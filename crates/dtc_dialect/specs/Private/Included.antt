@@ -1,5 +1,5 @@
 -- What was read of an inclusion, and what a text comes to while its files are open.
-use Rattle.std.specs.Prelude.{◌≡◌, ◌⊎◌, ℕ, zero, suc, ◌+◌, ◌<◌, List, [], ◌∷◌, ◌++◌, Option, None, Some, drop}
+use Rattle.std.specs.Prelude.{◌≡◌, ◌⊎◌, ℕ, zero, suc, ◌+◌, ◌<◌, ◌≤◌, ◌==◌, if◌then◌else◌, length, List, [], ◌∷◌, ◌++◌, Option, None, Some, drop}
 use denote.Ref.{Bor}
 use Rattle.dtc_dialect.specs.declared.inclusion.Found.{Found}
 use Rattle.dtc_dialect.specs.declared.inclusion.Frame.{Frame}
@@ -17,7 +17,7 @@ use Rattle.dtc_dialect.specs.declared.words.Piece.{Piece}
 use Rattle.dtc_dialect.specs.declared.words.Piece.TheVariants as pieces
 use Rattle.dtc_dialect.specs.Copied.{marker_line}
 use Rattle.dtc_dialect.specs.Inclusion.{Bracketed, HasNext, HoldsNone, Includes, IsBroken, IsOpen, MayNest, Number, PartAt, Passes, Quoted, Sign, Skips, TakesIn, byte_string_of, part_of, plain_of}
-use Rattle.dtc_dialect.specs.Shortfall.{StopsAt, name_of}
+use Rattle.dtc_dialect.specs.Shortfall.{IsTooLong, Puts, StopsAt, name_of}
 
 -- ---- a word that was read, and what is left behind it
 
@@ -133,13 +133,22 @@ Moves Finds old new End = Unit {0}
 Moves Finds old new Again = (name : Bor (List ℕ)) × (part : Part) × (found : Found) × Advances Finds old new (inclusions.Binary name part) found
 Moves Finds old new (Into found) = (name : Bor (List ℕ)) × Advances Finds old new (inclusions.Source name) found
 
--- why the file of a name isn't taken in
+-- why the file of a name isn't there
 abbrev pub IsMissing : (List ℕ → List ℕ → Type 0) → List ℕ → List ℕ → Incomplete → Type 0
 IsMissing Lacks beside name NoMemory = Unit {0}
 IsMissing Lacks beside name (NoFile told) = (told.items ≡ name) × Lacks beside told.items
 IsMissing Lacks beside name TooDeep = ⊥
-IsMissing Lacks beside name TooLong = Unit {0}
+IsMissing Lacks beside name TooLong = ⊥
 IsMissing Lacks beside name Syntax = ⊥
+
+-- A binary file has too many bytes to be put.
+abbrev pub IsTooLarge : (List ℕ → List ℕ → Found → Type 0) → List ℕ → Inclusion → Type 0
+IsTooLarge Finds beside (inclusions.Source name) = ⊥
+IsTooLarge Finds beside (inclusions.Binary name part) = (found : Found) × Finds beside name.now found × IsTooLong (part_of part.offset part.length found.bytes.items)
+
+-- why the file that words name isn't taken in
+abbrev pub IsUntaken : (List ℕ → List ℕ → Found → Type 0) → (List ℕ → List ℕ → Type 0) → List ℕ → Inclusion → Incomplete → Type 0
+IsUntaken Finds Lacks beside inclusion reason = IsMissing Lacks beside (name_of inclusion) reason ⊎ ((reason ≡ TooLong) × IsTooLarge Finds beside inclusion)
 
 -- why one file more isn't open where so many are
 abbrev pub Exceeds : ℕ → Incomplete → Type 0
@@ -165,6 +174,41 @@ Nests opened (Into found) = MayNest opened
 abbrev pub IsKept : Incomplete → Incomplete → Type 0
 IsKept reason told = (told ≡ reason) ⊎ (told ≡ NoMemory)
 
+-- What is put of an open file is this, or begins with it: behind its last words the line marker, and then more.
+pub data PutsFrom (Finds : List ℕ → List ℕ → Found → Type 0) (frame : Frame) : List ℕ → Type 0 where
+  not_yet : PutsFrom Finds frame []
+  behind_words : (marker more : List ℕ) → Behind frame.words.end marker → Puts Finds frame.path.items (drop frame.words.end frame.bytes.items) more → PutsFrom Finds frame (marker ++ more)
+
+-- What a turn puts is put of the file, and so is what follows in it or in the file that is taken in.
+abbrev pub PutsTo : (List ℕ → List ℕ → Found → Type 0) → Frame → Frame → Turn → List ℕ → Type 0
+PutsTo Finds old new End put = PutsFrom Finds old put
+PutsTo Finds old new Again put = PutsFrom Finds old put × ((more : List ℕ) → PutsFrom Finds new more → PutsFrom Finds old (put ++ more))
+PutsTo Finds old new (Into found) put = PutsFrom Finds old put
+    × ((more : List ℕ) → Puts Finds found.path.items found.bytes.items more → PutsFrom Finds old (put ++ marker_line 1 (plain_of found.path.items) ++ more))
+    × ((inner more : List ℕ) → Includes Finds found.path.items found.bytes.items inner → PutsFrom Finds new more → PutsFrom Finds old (put ++ marker_line 1 (plain_of found.path.items) ++ inner ++ more))
+
+-- bytes that stand for the line marker of a file that was just opened
+abbrev pub fresh : Frame → ℕ
+fresh frame = if frame.words.end == 0 then 2 else 0
+
+-- Behind words nothing is fresh.
+abbrev pub IsPast : Frame → Turn → Type 0
+IsPast new End = Unit {0}
+IsPast new Again = fresh new ≡ 0
+IsPast new (Into found) = fresh new ≡ 0
+
+-- a turn, by the text before it and behind it
+pub record Grows (Finds : List ℕ → List ℕ → Found → Type 0) (old : Frame) (whole : List ℕ) (new : Frame) (grown : List ℕ) (turn : Turn) : Type 0 where
+  pub put : List ℕ
+  pub grown_is : grown ≡ whole ++ put
+  pub puts : PutsTo Finds old new turn put
+  pub marked : 2 ≤ length put + fresh old
+  pub past : IsPast new turn
+
 -- what is wrong in a file, however many are open
 abbrev pub StopsIn : (List ℕ → List ℕ → Found → Type 0) → (List ℕ → List ℕ → Type 0) → Frame → Incomplete → Type 0
-StopsIn Finds Lacks frame reason = (opened : ℕ) → StopsAt Finds Lacks opened frame.path.items (drop frame.words.end frame.bytes.items) reason
+StopsIn Finds Lacks frame NoMemory = Unit {0}
+StopsIn Finds Lacks frame (NoFile name) = (opened : ℕ) → StopsAt Finds Lacks opened frame.path.items (drop frame.words.end frame.bytes.items) (NoFile name)
+StopsIn Finds Lacks frame TooDeep = ⊥
+StopsIn Finds Lacks frame TooLong = (put : List ℕ) × PutsFrom Finds frame put × IsTooLong put
+StopsIn Finds Lacks frame Syntax = (opened : ℕ) → StopsAt Finds Lacks opened frame.path.items (drop frame.words.end frame.bytes.items) Syntax
