@@ -347,3 +347,16 @@ module _ (Finds : List ℕ → List ℕ → Found → Type 0) where
 
 pub counted_long : (turns : ℕ) (text : List ℕ) (frames : List Frame) → 16777217 ≤ turns → IsCounted turns text frames → IsTooLong text
 counted_long turns text frames all h = omega (arith, all, h)
+
+-- ---- where no file is open, the text isn't too long
+
+some_open : (all frames : List Frame) (frame : Frame) → all ≡ frames ++ frame ∷ [] → all ≡ [] → ⊥
+some_open all frames frame is none = omega (arith, ap length is, ap length none, length-append frames (frame ∷ []))
+
+pub begun_short : (frames : List Frame) (frame : Frame) (text : List ℕ) → frames ≡ frame ∷ [] → frames ≡ [] → ¬ IsTooLong text
+begun_short frames frame text is none = absurd (some_open frames [] frame is none)
+
+pub gone_short : (frames now : List Frame) (new : Frame) (turn : Turn) (grown last : List ℕ) → ¬ IsTooLong grown → Goes frames new turn grown now last → now ≡ [] → ¬ IsTooLong last
+gone_short frames now new End grown last h g none = subst (λ (u : List ℕ). ¬ IsTooLong u) (sym g.1) h
+gone_short frames now new Again grown last h g none = absurd (some_open now frames new g.0 none)
+gone_short frames now new (Into found) grown last h g none = absurd (some_open now (frames ++ new ∷ []) g.inner g.opened_is none)

@@ -102,6 +102,7 @@ pub fn included<F: Files>(
     text: &[u8],
 ) -> Result<Vec<u8>, Shortfall>
     ensures whole { IfOk result (λ whole. Includes F.finds path.now text.now whole.items) }
+    ensures short { IfOk result (λ whole. ¬ IsTooLong whole.items) }
     ensures stops { IfErr result (λ shortfall. Stops F.finds F.lacks path.now text.now shortfall.reason) }
 {
     let mut whole = Vec::new(alloc);

@@ -3,7 +3,7 @@ use Rattle.std.proofs.lemmas.List.{append-nil}
 use Rattle.dtc_dialect.specs.declared.inclusion.Frame.{Frame}
 use Rattle.dtc_dialect.specs.declared.inclusion.Incomplete.TheVariants.{TooLong}
 use Rattle.dtc_dialect.proofs.OpenFiles.{begun_at, gone_at, over_at}
-use Rattle.dtc_dialect.proofs.Putting.{begun_count, begun_put, counted_long, gone_count, gone_put, grown_put, put_now, put_of}
+use Rattle.dtc_dialect.proofs.Putting.{begun_count, begun_put, begun_short, counted_long, gone_count, gone_put, gone_short, grown_put, put_now, put_of}
 use Rattle.dtc_dialect.proofs.Reaching.{begun_reached, for_memory, gone_reached, kept, stops_there, stuck_there}
 use Rattle.dtc_dialect.proofs.inclusion.included.Goals as goal
 
@@ -15,6 +15,7 @@ turns-init g c =
       begun_reached g.F.Files.finds c.args.path.now c.args.text.now c.push.new.self.items frame frames refl c.in_ok-from_slice.ensures.items c.in_ok-from_slice-2.ensures.items,
       begun_put g.F.Files.finds c.args.path.now c.args.text.now c.push.new.self.items frame c.new-whole.result.items frames c.new-whole.ensures.items refl c.in_ok-from_slice.ensures.items c.in_ok-from_slice-2.ensures.items,
       begun_count c.push.new.self.items frame c.new-whole.result.items frames,
+      begun_short c.push.new.self.items frame c.new-whole.result.items frames,
     )
 
 pub returns-in_default-clause-whole : goal.returns-in_default-clause-whole
@@ -22,6 +23,10 @@ returns-in_default-clause-whole g c =
     over_at g.F.Files.finds c.args.path.now c.args.text.now c.turns.whole.items c.turns.frames.items
     (c.in_default.ensures.items ∙ append-nil c.pop.new.self.items ∙ (c.in_default.ensures.rest ∙ ap (λ (n : ℕ). take (n - 1) c.turns.frames.items) c.in_default.ensures.cases.0))
     c.turns.invariant.0
+
+pub returns-in_default-clause-short : goal.returns-in_default-clause-short
+returns-in_default-clause-short g c =
+    c.turns.invariant.4 (c.in_default.ensures.items ∙ append-nil c.pop.new.self.items ∙ (c.in_default.ensures.rest ∙ ap (λ (n : ℕ). take (n - 1) c.turns.frames.items) c.in_default.ensures.cases.0))
 
 pub turns-preserved : goal.turns-preserved
 turns-preserved g c =
@@ -39,6 +44,7 @@ turns-preserved g c =
       gone_put g.F.Files.finds c.args.path.now c.args.text.now c.turns.frames.items outer now old new turn text grown last c.in-Some.ensures.items c.turns.invariant.2
           c.in-Ok.ensures.turns c.in-Ok.ensures.grows c.in_default-go_on.ensures.goes,
       gone_count g.F.Files.finds c.turns.frames.items outer now old new turn c.turns.counter text grown last c.in-Some.ensures.items c.turns.invariant.3 c.in-Ok.ensures.grows c.in_default-go_on.ensures.goes,
+      gone_short outer now new turn grown last (λ long. omega (arith, long, c.if-len-gt-MAX_TEXT.false, c.len.ensures, c.take_turn.new.whole.ok.0)) c.in_default-go_on.ensures.goes,
     )
 
 -- ---- why it stops

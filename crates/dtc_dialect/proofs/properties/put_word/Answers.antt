@@ -1,6 +1,6 @@
-use Rattle.std.proofs.Common.{sym, ◌∙◌}
+use Rattle.std.proofs.Common.{sym, ◌∙◌, subst}
 use Rattle.std.specs.Fmt.{decimal}
-use Rattle.dtc_dialect.specs.Said.{character, itself, number}
+use Rattle.dtc_dialect.specs.Said.{StandsFor, WordNumber, character, itself, number}
 use Rattle.dtc_dialect.proofs.Copying.{on-ok}
 use Rattle.dtc_dialect.proofs.properties.put_word.Goals as goal
 
