@@ -1,6 +1,9 @@
 -- What was read of an inclusion, and what a text comes to while its files are open.
-use Rattle.std.specs.Prelude.{◌≡◌, ◌⊎◌, ℕ, zero, suc, ◌+◌, ◌<◌, ◌≤◌, ◌==◌, if◌then◌else◌, length, List, [], ◌∷◌, ◌++◌, Option, None, Some, drop}
+use Rattle.std.specs.Prelude.{◌≡◌, ◌⊎◌, ℕ, zero, suc, ◌+◌, ◌<◌, ◌≤◌, ◌==◌, true, if◌then◌else◌, max, length, List, [], ◌∷◌, ◌++◌, Option, None, Some, drop}
 use denote.Ref.{Bor}
+use Rattle.dt_lexeme.specs.Bytes.{begins}
+use Rattle.dt_lexeme.specs.Fronts.{Front, closes}
+use Rattle.dtc_dialect.specs.declared.bytes.Class.TheVariants.{Word}
 use Rattle.dtc_dialect.specs.declared.inclusion.Found.{Found}
 use Rattle.dtc_dialect.specs.declared.inclusion.Frame.{Frame}
 use Rattle.dtc_dialect.specs.declared.inclusion.Incomplete.{Incomplete}
@@ -15,6 +18,8 @@ use Rattle.dtc_dialect.specs.declared.words.Next.TheVariants as nexts
 use Rattle.dtc_dialect.specs.declared.words.Part.{Part}
 use Rattle.dtc_dialect.specs.declared.words.Piece.{Piece}
 use Rattle.dtc_dialect.specs.declared.words.Piece.TheVariants as pieces
+use Rattle.dtc_dialect.specs.declared.words.Stand.{Stand}
+use Rattle.dtc_dialect.specs.Bytes.{run_of}
 use Rattle.dtc_dialect.specs.Copied.{marker_line}
 use Rattle.dtc_dialect.specs.Inclusion.{Bracketed, HasNext, HoldsNone, Includes, IsBroken, IsOpen, MayNest, Number, PartAt, Passes, Quoted, Sign, Skips, TakesIn, byte_string_of, part_of, plain_of}
 use Rattle.dtc_dialect.specs.Shortfall.{IsTooLong, Puts, StopsAt, name_of}
@@ -41,6 +46,22 @@ IsPartAt s (Some part) rest = PartAt s part rest × ((other : Part) (close t : L
 abbrev pub BinaryAt : List ℕ → Option Binary → List ℕ → Type 0
 BinaryAt s None rest = (name : List ℕ) (part : Part) (t : List ℕ) → Bracketed s name part t → ⊥
 BinaryAt s (Some binary) rest = Bracketed s binary.name.now binary.part rest
+
+-- ---- what is told of words that break off
+
+abbrev pub IsStringLen : List ℕ → Option ℕ → Type 0
+IsStringLen s None = begins 34 s ≡ true → Front (closes 34 true) s None
+IsStringLen s (Some n) = (begins 34 s ≡ true) × Front (closes 34 true) s (Some n)
+
+-- A string that ends has so many bytes, else a run of letters and digits, else one sign.
+pub data IsWordLen (s : List ℕ) (n : ℕ) : Type 0 where
+  string : IsStringLen s (Some n) → IsWordLen s n
+  other : IsStringLen s None → n ≡ max (run_of Word s) 1 → IsWordLen s n
+
+-- What is left of words behind their keyword is told by its first word; where nothing is left, the keyword is told.
+abbrev pub IsTold : List ℕ → List ℕ → List ℕ → Stand → Type 0
+IsTold s keyword [] stand = (stand.from.now ≡ s) × (stand.rest.now ≡ drop (length keyword) s)
+IsTold s keyword (c ∷ left) stand = (stand.from.now ≡ c ∷ left) × ((n : ℕ) × IsWordLen (c ∷ left) n × (stand.rest.now ≡ drop n (c ∷ left)))
 
 -- ---- what stands at the front of a text, and what is next in it
 
