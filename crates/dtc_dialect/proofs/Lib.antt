@@ -9,6 +9,7 @@ mod Fronts
 mod GapEnds
 mod GapHere
 mod GapOnce
+mod InclusionOnce
 mod InclusionRests
 mod InclusionWords
 mod Integers
@@ -22,6 +23,8 @@ mod Omitting
 mod OpenFiles
 mod Orders
 mod PathNames
+mod Putting
+mod Reaching
 pub mod Repeated
 mod RowChains
 mod RowLists

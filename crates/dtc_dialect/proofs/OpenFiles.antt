@@ -93,13 +93,13 @@ module _ (Finds : List ℕ → List ℕ → Found → Type 0) where
       by_number zero lt marker b = absurd (omega (arith, lt))
       by_number (suc n) lt marker b = b
 
-  before-four : (m a b c d : List ℕ) → m ++ (a ++ b ++ c ++ d) ≡ m ++ a ++ b ++ (c ++ d)
+  pub before-four : (m a b c d : List ℕ) → m ++ (a ++ b ++ c ++ d) ≡ m ++ a ++ b ++ (c ++ d)
   before-four m a b c d =
       sym (append_assoc m (a ++ b ++ c) d)
       ∙ ap (λ (t : List ℕ). t ++ d) (sym (append_assoc m (a ++ b) c) ∙ ap (λ (t : List ℕ). t ++ c) (sym (append_assoc m a b)))
       ∙ append_assoc (m ++ a ++ b) c d
 
-  before-five : (m a b c d e : List ℕ) → m ++ (a ++ b ++ c ++ d ++ e) ≡ m ++ a ++ b ++ c ++ (d ++ e)
+  pub before-five : (m a b c d e : List ℕ) → m ++ (a ++ b ++ c ++ d ++ e) ≡ m ++ a ++ b ++ c ++ (d ++ e)
   before-five m a b c d e =
       sym (append_assoc m (a ++ b ++ c ++ d) e)
       ∙ ap (λ (t : List ℕ). t ++ e) (sym (append_assoc m (a ++ b ++ c) d) ∙ ap (λ (t : List ℕ). t ++ d) (sym (append_assoc m (a ++ b) c) ∙ ap (λ (t : List ℕ). t ++ c) (sym (append_assoc m a b))))
@@ -238,7 +238,7 @@ module _ (Finds : List ℕ → List ℕ → Found → Type 0) where
   -- ---- the whole text
 
   -- what a file that was just opened comes to
-  just_opened : (frame : Frame) (own : List ℕ) → frame.words.end ≡ 0 → place_of frame.line ≡ first_of frame.path.items → ComesTo Finds frame own → Includes Finds frame.path.items frame.bytes.items own
+  pub just_opened : (frame : Frame) (own : List ℕ) → frame.words.end ≡ 0 → place_of frame.line ≡ first_of frame.path.items → ComesTo Finds frame own → Includes Finds frame.path.items frame.bytes.items own
   just_opened frame own none first h =
       subst (λ (p : UserPlace). IncludesFrom Finds frame.path.items p frame.bytes.items own) (unmoved frame none ∙ first) (by_number frame.words.end none h.marker h.more h.behind h.rest h.said_is)
     where

@@ -120,9 +120,10 @@ pub data IsOpen (s : List ℕ) : Type 0 where
   open_string : (quote : ℕ) → is_quote quote ≡ true → begins quote s ≡ true → Front (closes quote true) s None → IsOpen s
   open_comment : is_unclosed s ≡ true → IsOpen s
 
--- Words that break off begin with a keyword.
+-- Words break off at the front: a keyword stands there, and no words that take something in.
 pub record IsBroken (s : List ℕ) : Type 0 where
   pub keyword : begins_inclusion s ≡ true
+  pub none : (inclusion : Inclusion) (rest : List ℕ) → TakesIn s inclusion rest → ⊥
 
 -- No inclusion stands in the text.
 abbrev pub HoldsNone : List ℕ → Type 0

@@ -19,6 +19,7 @@ pub mod References
 pub mod Rewriting
 pub mod Said
 pub mod Searching
+pub mod Shortfall
 pub mod Statements
 pub mod Stops
 pub mod Table

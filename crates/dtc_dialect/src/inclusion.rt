@@ -1,8 +1,10 @@
 //! What a source takes in from other files: `/include/ "FILE"` and `/incbin/("FILE"[, OFFSET, LENGTH])`.
-ghost use Rattle.std.specs.Prelude.{◌≡◌, ◌<◌, ◌↔◌, ◌++◌, ℕ, List, IfOk, [], ◌∷◌, OnOk, vec_len};
+ghost use Rattle.std.specs.Prelude.{◌≡◌, ◌⊎◌, ◌+◌, ◌<◌, ◌↔◌, ◌++◌, ℕ, List, IfErr, IfOk, [], ◌∷◌, OnOk, length, vec_len};
 ghost use Rattle.std.specs.Char.{digit_char};
+ghost use Rattle.dtc_dialect.specs.declared.inclusion.Incomplete.TheVariants.{NoMemory, TooLong};
 ghost use Rattle.dtc_dialect.specs.Inclusion.{Includes, MayNest, byte_string_of, part_of};
-ghost use Rattle.dtc_dialect.specs.Private.Included.{Goes, IsPassed, IsTaken, Turns};
+ghost use Rattle.dtc_dialect.specs.Private.Included.{Exceeds, Goes, Grows, IsKept, IsMissing, IsPassed, IsStuck, IsTaken, IsUntaken, Moves, Nests, StopsIn, Turns};
+ghost use Rattle.dtc_dialect.specs.Shortfall.{IsTooLong, Stops};
 
 use crate::bytes::{behind, front};
 use crate::places::Line;
@@ -59,12 +61,22 @@ pub enum Incomplete {
 }
 
 impl From<AllocError> for Incomplete {
+    ghost use Rattle.std.specs.Prelude.{◌≡◌};
+    ghost use Rattle.dtc_dialect.specs.declared.inclusion.Incomplete.TheVariants.{NoMemory};
+
+    ghost from_gives = { λ _ e. e ≡ NoMemory };
+
     fn from(_error: AllocError) -> Self {
         Incomplete::NoMemory
     }
 }
 
 impl<T: Drop> From<AllocFailed<T>> for Incomplete {
+    ghost use Rattle.std.specs.Prelude.{◌≡◌};
+    ghost use Rattle.dtc_dialect.specs.declared.inclusion.Incomplete.TheVariants.{NoMemory};
+
+    ghost from_gives = { λ _ e. e ≡ NoMemory };
+
     fn from(_error: AllocFailed<T>) -> Self {
         Incomplete::NoMemory
     }
@@ -89,7 +101,9 @@ pub fn included<F: Files>(
     path: &[u8],
     text: &[u8],
 ) -> Result<Vec<u8>, Shortfall>
-    ensures { IfOk result (λ whole. Includes F.finds path.now text.now whole.items) }
+    ensures whole { IfOk result (λ whole. Includes F.finds path.now text.now whole.items) }
+    ensures short { IfOk result (λ whole. ¬ IsTooLong whole.items) }
+    ensures stops { IfErr result (λ shortfall. Stops F.finds F.lacks path.now text.now shortfall.reason) }
 {
     let mut whole = Vec::new(alloc);
     let mut frames = Vec::new(alloc);
@@ -126,7 +140,9 @@ fn go_on(
     turn: Turn,
     whole: &mut Vec<u8>,
 ) -> Result<(), Incomplete>
-    ensures { OnOk result (Goes frames.old.items frame turn whole.old.items frames.new.items whole.new.items) }
+    ensures goes { OnOk result (Goes frames.old.items frame turn whole.old.items frames.new.items whole.new.items) }
+    ensures nests { OnOk result (Nests (length frames.old.items + 1) turn) }
+    ensures stuck { IfErr result (λ reason. IsStuck (length frames.old.items + 1) turn reason) }
 {
     match turn {
         Turn::End => Ok(()),
@@ -150,7 +166,9 @@ fn go_on(
 }
 
 /// A text stops short at the last words of a file.
-fn stopped(alloc: Global, frame: Frame, reason: Incomplete) -> Shortfall {
+fn stopped(alloc: Global, frame: Frame, reason: Incomplete) -> Shortfall
+    ensures { IsKept reason result.reason }
+{
     match Site::new(alloc, &frame.line, frame.bytes.as_slice(), frame.words) {
         Ok(site) => Shortfall {
             reason,
@@ -164,7 +182,9 @@ fn stopped(alloc: Global, frame: Frame, reason: Incomplete) -> Shortfall {
 }
 
 /// A text stops short at the last words of the innermost file that is open.
-fn stopped_within(alloc: Global, frames: Vec<Frame>, reason: Incomplete) -> Shortfall {
+fn stopped_within(alloc: Global, frames: Vec<Frame>, reason: Incomplete) -> Shortfall
+    ensures { IsKept reason result.reason }
+{
     let mut frames = frames;
     match frames.pop() {
         Some(frame) => stopped(alloc, frame, reason),
@@ -173,7 +193,9 @@ fn stopped_within(alloc: Global, frames: Vec<Frame>, reason: Incomplete) -> Shor
 }
 
 /// A text gets too long in a file: at its last words, or else at those that took it in.
-fn too_long(alloc: Global, frame: Frame, outer: Vec<Frame>) -> Shortfall {
+fn too_long(alloc: Global, frame: Frame, outer: Vec<Frame>) -> Shortfall
+    ensures { IsKept Incomplete.TooLong result.reason }
+{
     if frame.words.end > 0 {
         return stopped(alloc, frame, Incomplete::TooLong);
     }
@@ -185,6 +207,7 @@ fn enter(frames: &mut Vec<Frame>, frame: Frame) -> Result<(), Incomplete>
     ensures ok { OnOk result (frames.new.items ≡ frames.old.items ++ frame ∷ []) }
     ensures nested { OnOk result (MayNest (vec_len frames.old)) }
     ensures deep { (result ≡ Err Incomplete.TooDeep) ↔ ¬ MayNest (vec_len frames.old) }
+    ensures exceeds { IfErr result (λ reason. Exceeds (vec_len frames.old) reason) }
 {
     if frames.len() > MAX_INCLUDES {
         return Err(Incomplete::TooDeep);
@@ -211,7 +234,10 @@ fn take_turn<F: Files>(
     frame: &mut Frame,
     whole: &mut Vec<u8>,
 ) -> Result<Turn, Incomplete>
-    ensures { IfOk result (λ turn. Turns F.finds frame.old whole.old.items frame.new whole.new.items turn) }
+    ensures turns { IfOk result (λ turn. Turns F.finds frame.old whole.old.items frame.new whole.new.items turn) }
+    ensures moves { IfOk result (λ turn. Moves F.finds frame.old frame.new turn) }
+    ensures grows { IfOk result (λ turn. Grows F.finds frame.old whole.old.items frame.new whole.new.items turn) }
+    ensures stops { IfErr result (λ reason. StopsIn F.finds F.lacks frame.old reason) }
 {
     pass_words(alloc, frame, whole)?;
     let left = behind(frame.bytes.as_slice(), frame.words.end);
@@ -261,7 +287,8 @@ fn take_in<F: Files>(
     inclusion: Inclusion<'_>,
     whole: &mut Vec<u8>,
 ) -> Result<Turn, Incomplete>
-    ensures { IfOk result (λ turn. IsTaken F.finds beside.now inclusion.entry whole.old.items whole.new.items turn) }
+    ensures taken { IfOk result (λ turn. IsTaken F.finds beside.now inclusion.entry whole.old.items whole.new.items turn) }
+    ensures untaken { IfErr result (λ reason. IsUntaken F.finds F.lacks beside.now inclusion.entry reason) }
 {
     match inclusion {
         Inclusion::Source(name) => Ok(Turn::Into(find(alloc, files, beside, name)?)),
@@ -280,7 +307,8 @@ fn find<F: Files>(
     beside: &[u8],
     name: &[u8],
 ) -> Result<Found, Incomplete>
-    ensures { IfOk result (λ found. F.finds beside.now name.now found) }
+    ensures found { IfOk result (λ found. F.finds beside.now name.now found) }
+    ensures missing { IfErr result (λ reason. IsMissing F.lacks beside.now name.now reason) }
 {
     match files.find(alloc, beside, name)? {
         Some(found) => Ok(found),
@@ -307,7 +335,8 @@ fn short(number: u64) -> usize
 
 /// Puts bytes as pairs of hex digits.
 fn put_binary(whole: &mut Vec<u8>, bytes: &[u8]) -> Result<(), Incomplete>
-    ensures { OnOk result (whole.new.items ≡ whole.old.items ++ byte_string_of bytes.now) }
+    ensures put { OnOk result (whole.new.items ≡ whole.old.items ++ byte_string_of bytes.now) }
+    ensures long { IfErr result (λ reason. (reason ≡ NoMemory) ⊎ ((reason ≡ TooLong) × IsTooLong bytes.now)) }
 {
     if bytes.len() > MAX_TEXT {
         return Err(Incomplete::TooLong);

@@ -1,5 +1,5 @@
 //! A text that the profile takes stays as it is.
-ghost use Rattle.std.specs.Prelude.{◌≡◌, ◌↔◌, ¬◌, ℕ, List, IfOk, IsTrue};
+ghost use Rattle.std.specs.Prelude.{◌≡◌, ◌↔◌, ℕ, List, IfOk, IsTrue};
 ghost use Rattle.dtc_dialect.specs.Rewriting.{Rewrites};
 
 use crate::error::DialectError;

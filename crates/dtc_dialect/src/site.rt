@@ -49,12 +49,22 @@ const NO_MEMORY: Shortfall = Shortfall {
 };
 
 impl From<AllocError> for Shortfall {
+    ghost use Rattle.std.specs.Prelude.{◌≡◌};
+    ghost use Rattle.dtc_dialect.specs.declared.inclusion.Incomplete.TheVariants.{NoMemory};
+
+    ghost from_gives = { λ _ shortfall. shortfall.reason ≡ NoMemory };
+
     fn from(_error: AllocError) -> Self {
         NO_MEMORY
     }
 }
 
 impl<T: Drop> From<AllocFailed<T>> for Shortfall {
+    ghost use Rattle.std.specs.Prelude.{◌≡◌};
+    ghost use Rattle.dtc_dialect.specs.declared.inclusion.Incomplete.TheVariants.{NoMemory};
+
+    ghost from_gives = { λ _ shortfall. shortfall.reason ≡ NoMemory };
+
     fn from(_error: AllocFailed<T>) -> Self {
         NO_MEMORY
     }

@@ -2,7 +2,7 @@
 ghost use Rattle.std.specs.Prelude.{◌≡◌, ◌≢◌, ◌-◌, [], false, length, true};
 ghost use Rattle.dt_lexeme.specs.Bytes.{begins};
 ghost use Rattle.dtc_dialect.specs.Inclusion.{Skips, begins_include, begins_incbin, begins_remark, is_quote};
-ghost use Rattle.dtc_dialect.specs.Private.Included.{BinaryAt, IsNext, IsPartAt, IsPiece, NumberAt, QuotedAt, SignAt};
+ghost use Rattle.dtc_dialect.specs.Private.Included.{BinaryAt, IsNext, IsPartAt, IsPiece, IsStringLen, IsTold, IsWordLen, NumberAt, QuotedAt, SignAt};
 
 use crate::bytes::{Class, begins, behind, front, run_len};
 use crate::gaps::{Gap, gap_at};
@@ -195,7 +195,9 @@ fn incbin_at<'t>(s: &'t [u8]) -> Piece<'t>
 }
 
 /// What words break off at: what is left of them behind their keyword, or else the keyword.
-fn broken<'t>(s: &'t [u8], keyword: &[u8], left: &'t [u8]) -> Stand<'t> {
+fn broken<'t>(s: &'t [u8], keyword: &[u8], left: &'t [u8]) -> Stand<'t>
+    ensures { IsTold s.now keyword.now left.now result }
+{
     if left.is_empty() {
         return Stand {
             from: s,
@@ -208,14 +210,24 @@ fn broken<'t>(s: &'t [u8], keyword: &[u8], left: &'t [u8]) -> Stand<'t> {
     }
 }
 
-/// How long the word is that begins a text: a run of letters and digits, a whole string, or one sign.
-fn word_len(s: &[u8]) -> usize {
-    let string = if begins(s, b'"') {
-        quoted_len(b'"', true, s)
-    } else {
-        None
-    };
-    string.unwrap_or(run_len(Class::Word, s).max(1))
+/// How long the word is that begins a text: a whole string, a run of letters and digits, or one sign.
+fn word_len(s: &[u8]) -> usize
+    ensures { IsWordLen s.now result }
+{
+    match string_len(s) {
+        Some(len) => len,
+        None => run_len(Class::Word, s).max(1),
+    }
+}
+
+/// How long the string is that begins a text.
+fn string_len(s: &[u8]) -> Option<usize>
+    ensures { IsStringLen s.now result }
+{
+    if !begins(s, b'"') {
+        return None;
+    }
+    quoted_len(b'"', true, s)
 }
 
 /// A binary file's name, and the part of it.

@@ -1,3 +1,4 @@
 mod Kept
 mod MetLemmas
+mod Sayings
 pub mod Making

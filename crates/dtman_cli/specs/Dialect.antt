@@ -6,7 +6,8 @@ use Rattle.dt_meaning.specs.Syntax.{Meaning}
 use Rattle.dtman_engine.specs.Compile.{Builds, IsCompileRefusal, IsCompiled}
 use Rattle.dtman_engine.specs.Fault.{Answer, fault_value, no_memory}
 use Rattle.dtman_engine.specs.Limits.{IsShort}
-use Rattle.dtman_cli.specs.Translation.{is_dialect_number, may_lift}
+use Rattle.dtc_dialect.specs.declared.inclusion.Found.{Found}
+use Rattle.dtman_cli.specs.Translation.{IsSaying, Misses, is_dialect_number, may_lift}
 use Rattle.dtman_cli.specs.declared.dialect.Outcome.{Outcome}
 use Rattle.dtman_cli.specs.declared.dialect.Outcome.TheVariants.{Plain, Said, Refused, Lost}
 
@@ -41,3 +42,10 @@ IsKept symbols source (Plain given) = MatchResult given (λ blob. IsCompiled sym
 IsKept symbols source (Said saying given) = ⊥
 IsKept symbols source (Refused unsaid) = ⊥
 IsKept symbols source (Lost missing) = ⊥
+
+-- What is compiled in the source's place is the text that says it, and a file that is told as missing isn't there.
+abbrev pub IsSaidBy : (List ℕ → List ℕ → Found → Type 0) → (List ℕ → List ℕ → Type 0) → List ℕ → List ℕ → Bool → Outcome → Type 0
+IsSaidBy Finds Lacks name source symbols (Plain given) = Unit {0}
+IsSaidBy Finds Lacks name source symbols (Said saying given) = IsSaying Finds name source symbols saying
+IsSaidBy Finds Lacks name source symbols (Refused unsaid) = Unit {0}
+IsSaidBy Finds Lacks name source symbols (Lost missing) = Misses Finds Lacks name source missing

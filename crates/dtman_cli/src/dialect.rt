@@ -1,7 +1,7 @@
 //! Sources in dtc's dialect: compiled as they are, and where the profile refuses them, as the text by which they are said in it.
 ghost use Rattle.std.specs.Prelude.{◌≡◌, ℕ, List, IfOk};
 ghost use Rattle.dtman_engine.specs.Compile.{IsCompiled};
-ghost use Rattle.dtman_cli.specs.Dialect.{IsKept, IsLifted, IsOutcome, is_lifted};
+ghost use Rattle.dtman_cli.specs.Dialect.{IsKept, IsLifted, IsOutcome, IsSaidBy, is_lifted};
 
 use crate::translating::{Missing, Saying, Translation, translated};
 use crate::unsaid::Unsaid;
@@ -36,6 +36,8 @@ pub fn compile_dialect<F: Files>(
 ) -> Result<Outcome, AllocError>
     // The profile's answer stays, unless the dialect may lift it.
     ensures outcome { IfOk result (λ outcome. IsOutcome symbols text.now outcome) }
+    // What is compiled in its place says it in the profile.
+    ensures said { IfOk result (IsSaidBy F.finds F.lacks name.now text.now symbols) }
     // So a source of which there is a blob keeps it.
     ensures kept { (blob : List ℕ) → IsCompiled symbols text.now blob → IfOk result (λ outcome. IsKept symbols text.now outcome) }
 {
@@ -65,7 +67,8 @@ fn lifted<F: Files>(
     symbols: bool,
 ) -> Result<Outcome, AllocError>
     requires { IsLifted symbols text.now }
-    ensures { IfOk result (λ outcome. IsOutcome symbols text.now outcome) }
+    ensures outcome { IfOk result (λ outcome. IsOutcome symbols text.now outcome) }
+    ensures said { IfOk result (IsSaidBy F.finds F.lacks name.now text.now symbols) }
 {
     match translated(alloc, hasher, files, name, text, symbols)? {
         Translation::Text(saying) => {

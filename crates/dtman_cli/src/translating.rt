@@ -1,6 +1,7 @@
 //! A source in dtc's dialect, said in the profile, or why it isn't.
 ghost use Rattle.std.specs.Prelude.{IfOk};
-ghost use Rattle.dtman_cli.specs.Translation.{IsTranslation};
+ghost use Rattle.dtman_cli.specs.Translation.{IsTranslation, Translates};
+ghost use Rattle.dtman_cli.specs.Private.{FallsShort, SaysWhole};
 
 use crate::unsaid::{Unsaid, incomplete, refused};
 use dtc_dialect::{
@@ -40,7 +41,8 @@ pub fn translated<F: Files>(
     text: &[u8],
     symbols: bool,
 ) -> Result<Translation, AllocError>
-    ensures { IfOk result (λ made. IsTranslation made) }
+    ensures numbers { IfOk result IsTranslation }
+    ensures translates { IfOk result (Translates F.finds F.lacks name.now text.now symbols) }
 {
     let whole = match included(alloc, files, name, text) {
         Ok(whole) => whole,
@@ -51,7 +53,8 @@ pub fn translated<F: Files>(
 
 /// What is made of a source that isn't whole.
 fn fallen_short(alloc: Global, file: &[u8], shortfall: Shortfall) -> Result<Translation, AllocError>
-    ensures { IfOk result (λ made. IsTranslation made) }
+    ensures numbers { IfOk result IsTranslation }
+    ensures short { IfOk result (FallsShort shortfall.reason) }
 {
     let Shortfall { reason, site } = shortfall;
     match reason {
@@ -68,7 +71,8 @@ fn said(
     whole: Vec<u8>,
     symbols: bool,
 ) -> Result<Translation, AllocError>
-    ensures { IfOk result (λ made. IsTranslation made) }
+    ensures numbers { IfOk result IsTranslation }
+    ensures says { IfOk result (SaysWhole name.now whole.items symbols) }
 {
     let options = Options {
         file: plain(name),

@@ -1,8 +1,13 @@
 -- What was read of an inclusion, and what a text comes to while its files are open.
-use Rattle.std.specs.Prelude.{◌≡◌, ℕ, zero, suc, ◌<◌, List, [], ◌∷◌, ◌++◌, Option, None, Some, drop, take}
+use Rattle.std.specs.Prelude.{◌≡◌, ◌⊎◌, ℕ, zero, suc, ◌+◌, ◌<◌, ◌≤◌, ◌==◌, true, if◌then◌else◌, max, length, List, [], ◌∷◌, ◌++◌, Option, None, Some, drop, take}
 use denote.Ref.{Bor}
+use Rattle.dt_lexeme.specs.Bytes.{begins}
+use Rattle.dt_lexeme.specs.Fronts.{Front, closes}
+use Rattle.dtc_dialect.specs.declared.bytes.Class.TheVariants.{Word}
 use Rattle.dtc_dialect.specs.declared.inclusion.Found.{Found}
 use Rattle.dtc_dialect.specs.declared.inclusion.Frame.{Frame}
+use Rattle.dtc_dialect.specs.declared.inclusion.Incomplete.{Incomplete}
+use Rattle.dtc_dialect.specs.declared.inclusion.Incomplete.TheVariants.{NoFile, NoMemory, Syntax, TooDeep, TooLong}
 use Rattle.dtc_dialect.specs.declared.inclusion.Turn.{Turn}
 use Rattle.dtc_dialect.specs.declared.inclusion.Turn.TheVariants.{Again, End, Into}
 use Rattle.dtc_dialect.specs.declared.words.Binary.{Binary}
@@ -13,9 +18,12 @@ use Rattle.dtc_dialect.specs.declared.words.Next.TheVariants as nexts
 use Rattle.dtc_dialect.specs.declared.words.Part.{Part}
 use Rattle.dtc_dialect.specs.declared.words.Piece.{Piece}
 use Rattle.dtc_dialect.specs.declared.words.Piece.TheVariants as pieces
+use Rattle.dtc_dialect.specs.declared.words.Stand.{Stand}
+use Rattle.dtc_dialect.specs.Bytes.{run_of}
 use Rattle.dtc_dialect.specs.Copied.{marker_line}
-use Rattle.dtc_dialect.specs.Inclusion.{Bracketed, HoldsNone, Includes, IncludesFrom, IsBroken, IsOpen, Number, PartAt, Passes, Quoted, Sign, Skips, TakesIn, byte_string_of, first_of, part_of, plain_of}
+use Rattle.dtc_dialect.specs.Inclusion.{Bracketed, HasNext, HoldsNone, Includes, IncludesFrom, IsBroken, IsOpen, MayNest, Number, PartAt, Passes, Quoted, Sign, Skips, TakesIn, byte_string_of, first_of, part_of, plain_of}
 use Rattle.dtc_dialect.specs.Private.Places.{place_of}
+use Rattle.dtc_dialect.specs.Shortfall.{IsTooLong, Puts, StopsAt, name_of}
 use Rattle.dtc_dialect.specs.UserLines.{UserPlace, marker_of, place_behind}
 
 -- ---- a word that was read, and what is left behind it
@@ -32,13 +40,30 @@ abbrev pub NumberAt : List ℕ → Option ℕ → List ℕ → Type 0
 NumberAt s None rest = (n : ℕ) (t : List ℕ) → Number s n t → ⊥
 NumberAt s (Some n) rest = Number s n rest
 
+-- Behind a comma that nothing wanted follows, a part of all bytes stands too, but no closing bracket behind it.
 abbrev pub IsPartAt : List ℕ → Option Part → List ℕ → Type 0
-IsPartAt s None rest = Unit {0}
-IsPartAt s (Some part) rest = PartAt s part rest
+IsPartAt s None rest = (part : Part) (close t : List ℕ) → PartAt s part close → Sign 41 close t → ⊥
+IsPartAt s (Some part) rest = PartAt s part rest × ((other : Part) (close t : List ℕ) → PartAt s other close → Sign 41 close t → close ≡ rest)
 
 abbrev pub BinaryAt : List ℕ → Option Binary → List ℕ → Type 0
-BinaryAt s None rest = Unit {0}
+BinaryAt s None rest = (name : List ℕ) (part : Part) (t : List ℕ) → Bracketed s name part t → ⊥
 BinaryAt s (Some binary) rest = Bracketed s binary.name.now binary.part rest
+
+-- ---- what is told of words that break off
+
+abbrev pub IsStringLen : List ℕ → Option ℕ → Type 0
+IsStringLen s None = begins 34 s ≡ true → Front (closes 34 true) s None
+IsStringLen s (Some n) = (begins 34 s ≡ true) × Front (closes 34 true) s (Some n)
+
+-- A string that ends has so many bytes, else a run of letters and digits, else one sign.
+pub data IsWordLen (s : List ℕ) (n : ℕ) : Type 0 where
+  string : IsStringLen s (Some n) → IsWordLen s n
+  other : IsStringLen s None → n ≡ max (run_of Word s) 1 → IsWordLen s n
+
+-- What is left of words behind their keyword is told by its first word; where nothing is left, the keyword is told.
+abbrev pub IsTold : List ℕ → List ℕ → List ℕ → Stand → Type 0
+IsTold s keyword [] stand = (stand.from.now ≡ s) × (stand.rest.now ≡ drop (length keyword) s)
+IsTold s keyword (c ∷ left) stand = (stand.from.now ≡ c ∷ left) × ((n : ℕ) × IsWordLen (c ∷ left) n × (stand.rest.now ≡ drop n (c ∷ left)))
 
 -- ---- what stands at the front of a text, and what is next in it
 
@@ -126,3 +151,97 @@ abbrev pub Goes : List Frame → Frame → Turn → List ℕ → List Frame → 
 Goes frames frame End whole opened grown = (opened ≡ frames) × (grown ≡ whole)
 Goes frames frame Again whole opened grown = (opened ≡ frames ++ frame ∷ []) × (grown ≡ whole)
 Goes frames frame (Into found) whole opened grown = Enters frames frame found whole opened grown
+
+-- ---- where a turn goes on in a file, and why it doesn't
+
+-- A file goes on behind its next words, whose file was found.
+pub record Advances (Finds : List ℕ → List ℕ → Found → Type 0) (old new : Frame) (inclusion : Inclusion) (found : Found) : Type 0 where
+  pub before : List ℕ
+  pub next : HasNext (drop old.words.end old.bytes.items) inclusion before (drop new.words.end new.bytes.items)
+  pub finds : Finds old.path.items (name_of inclusion) found
+  pub path_is : new.path ≡ old.path
+
+abbrev pub Moves : (List ℕ → List ℕ → Found → Type 0) → Frame → Frame → Turn → Type 0
+Moves Finds old new End = Unit {0}
+Moves Finds old new Again = (name : Bor (List ℕ)) × (part : Part) × (found : Found) × Advances Finds old new (inclusions.Binary name part) found
+Moves Finds old new (Into found) = (name : Bor (List ℕ)) × Advances Finds old new (inclusions.Source name) found
+
+-- why the file of a name isn't there
+abbrev pub IsMissing : (List ℕ → List ℕ → Type 0) → List ℕ → List ℕ → Incomplete → Type 0
+IsMissing Lacks beside name NoMemory = Unit {0}
+IsMissing Lacks beside name (NoFile told) = (told.items ≡ name) × Lacks beside told.items
+IsMissing Lacks beside name TooDeep = ⊥
+IsMissing Lacks beside name TooLong = ⊥
+IsMissing Lacks beside name Syntax = ⊥
+
+-- A binary file has too many bytes to be put.
+abbrev pub IsTooLarge : (List ℕ → List ℕ → Found → Type 0) → List ℕ → Inclusion → Type 0
+IsTooLarge Finds beside (inclusions.Source name) = ⊥
+IsTooLarge Finds beside (inclusions.Binary name part) = (found : Found) × Finds beside name.now found × IsTooLong (part_of part.offset part.length found.bytes.items)
+
+-- why the file that words name isn't taken in
+abbrev pub IsUntaken : (List ℕ → List ℕ → Found → Type 0) → (List ℕ → List ℕ → Type 0) → List ℕ → Inclusion → Incomplete → Type 0
+IsUntaken Finds Lacks beside inclusion reason = IsMissing Lacks beside (name_of inclusion) reason ⊎ ((reason ≡ TooLong) × IsTooLarge Finds beside inclusion)
+
+-- why one file more isn't open where so many are
+abbrev pub Exceeds : ℕ → Incomplete → Type 0
+Exceeds opened NoMemory = Unit {0}
+Exceeds opened (NoFile told) = ⊥
+Exceeds opened TooDeep = ¬ MayNest opened
+Exceeds opened TooLong = ⊥
+Exceeds opened Syntax = ⊥
+
+-- why it doesn't go on behind a turn
+abbrev pub IsStuck : ℕ → Turn → Incomplete → Type 0
+IsStuck opened End reason = ⊥
+IsStuck opened Again reason = reason ≡ NoMemory
+IsStuck opened (Into found) reason = Exceeds opened reason
+
+-- A turn opens a file only where it may nest.
+abbrev pub Nests : ℕ → Turn → Type 0
+Nests opened End = Unit {0}
+Nests opened Again = Unit {0}
+Nests opened (Into found) = MayNest opened
+
+-- The reason is told, or want of memory.
+abbrev pub IsKept : Incomplete → Incomplete → Type 0
+IsKept reason told = (told ≡ reason) ⊎ (told ≡ NoMemory)
+
+-- What is put of an open file is this, or begins with it: behind its last words the line marker, and then more.
+pub data PutsFrom (Finds : List ℕ → List ℕ → Found → Type 0) (frame : Frame) : List ℕ → Type 0 where
+  not_yet : PutsFrom Finds frame []
+  behind_words : (marker more : List ℕ) → Behind frame.words.end (place_on frame) marker → Puts Finds frame.path.items (drop frame.words.end frame.bytes.items) more → PutsFrom Finds frame (marker ++ more)
+
+-- What a turn puts is put of the file, and so is what follows in it or in the file that is taken in.
+abbrev pub PutsTo : (List ℕ → List ℕ → Found → Type 0) → Frame → Frame → Turn → List ℕ → Type 0
+PutsTo Finds old new End put = PutsFrom Finds old put
+PutsTo Finds old new Again put = PutsFrom Finds old put × ((more : List ℕ) → PutsFrom Finds new more → PutsFrom Finds old (put ++ more))
+PutsTo Finds old new (Into found) put = PutsFrom Finds old put
+    × ((more : List ℕ) → Puts Finds found.path.items found.bytes.items more → PutsFrom Finds old (put ++ marker_line 1 (plain_of found.path.items) ++ more))
+    × ((inner more : List ℕ) → Includes Finds found.path.items found.bytes.items inner → PutsFrom Finds new more → PutsFrom Finds old (put ++ marker_line 1 (plain_of found.path.items) ++ inner ++ more))
+
+-- bytes that stand for the line marker of a file that was just opened
+abbrev pub fresh : Frame → ℕ
+fresh frame = if frame.words.end == 0 then 2 else 0
+
+-- Behind words nothing is fresh.
+abbrev pub IsPast : Frame → Turn → Type 0
+IsPast new End = Unit {0}
+IsPast new Again = fresh new ≡ 0
+IsPast new (Into found) = fresh new ≡ 0
+
+-- a turn, by the text before it and behind it
+pub record Grows (Finds : List ℕ → List ℕ → Found → Type 0) (old : Frame) (whole : List ℕ) (new : Frame) (grown : List ℕ) (turn : Turn) : Type 0 where
+  pub put : List ℕ
+  pub grown_is : grown ≡ whole ++ put
+  pub puts : PutsTo Finds old new turn put
+  pub marked : 2 ≤ length put + fresh old
+  pub past : IsPast new turn
+
+-- what is wrong in a file, however many are open
+abbrev pub StopsIn : (List ℕ → List ℕ → Found → Type 0) → (List ℕ → List ℕ → Type 0) → Frame → Incomplete → Type 0
+StopsIn Finds Lacks frame NoMemory = Unit {0}
+StopsIn Finds Lacks frame (NoFile name) = (opened : ℕ) → StopsAt Finds Lacks opened frame.path.items (drop frame.words.end frame.bytes.items) (NoFile name)
+StopsIn Finds Lacks frame TooDeep = ⊥
+StopsIn Finds Lacks frame TooLong = (put : List ℕ) × PutsFrom Finds frame put × IsTooLong put
+StopsIn Finds Lacks frame Syntax = (opened : ℕ) → StopsAt Finds Lacks opened frame.path.items (drop frame.words.end frame.bytes.items) Syntax

@@ -1,0 +1,5 @@
+use Rattle.dtc_dialect.proofs.InclusionOnce.{binary_broken}
+use Rattle.dtc_dialect.proofs.words.incbin_at.Goals as goal
+
+pub returns-in_default : goal.returns-in_default
+returns-in_default c = binary_broken c.args.s.now c.behind.result.now c.requires c.behind.ensures c.in_default.ensures
