@@ -17,6 +17,7 @@ const FILES: &[(&str, &[u8])] = &[
 
 impl Files for Shelf {
     ghost finds = { λ beside name found. Unit {0} };
+
     ghost lacks = { λ beside name. Unit {0} };
 
     fn find(

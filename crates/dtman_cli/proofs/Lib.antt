@@ -1,4 +1,3 @@
 mod Kept
 mod MetLemmas
-mod Sayings
 pub mod Making

@@ -166,6 +166,7 @@ struct Nothing;
 
 impl dtc_dialect::Files for Nothing {
     ghost finds = { λ beside name found. Unit {0} };
+
     ghost lacks = { λ beside name. Unit {0} };
 
     fn find(
