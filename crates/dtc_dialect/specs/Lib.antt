@@ -1,3 +1,4 @@
+pub mod Broken
 pub mod Bytes
 pub mod Chains
 pub mod Character
