@@ -1,4 +1,5 @@
 pub mod Bodies
+pub mod Broken
 pub mod Bytes
 pub mod Chains
 pub mod Character

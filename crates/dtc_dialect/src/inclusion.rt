@@ -113,7 +113,7 @@ pub fn included<F: Files>(
         words: NO_WORDS,
         line: Line::first(alloc, path)?,
     })?;
-    // Each turn takes words or ends a file, and each file that is begun puts a line marker.
+    // Each turn but the first puts a line marker: behind so many turns the text is too long.
     'turns: for _ in 0..=MAX_TEXT {
         let Some(mut frame) = frames.pop() else {
             return Ok(whole);

@@ -1,5 +1,5 @@
 -- What was read of an inclusion, and what a text comes to while its files are open.
-use Rattle.std.specs.Prelude.{◌≡◌, ◌⊎◌, ℕ, zero, suc, ◌+◌, ◌<◌, ◌≤◌, ◌==◌, true, if◌then◌else◌, max, length, List, [], ◌∷◌, ◌++◌, Option, None, Some, drop, take}
+use Rattle.std.specs.Prelude.{◌≡◌, ◌⊎◌, ℕ, zero, suc, ◌+◌, ◌<◌, ◌≤◌, ◌==◌, true, if◌then◌else◌, max, length, List, [], ◌∷◌, ◌++◌, Option, None, Some, drop, take, codes}
 use denote.Ref.{Bor}
 use Rattle.dt_lexeme.specs.Bytes.{begins}
 use Rattle.dt_lexeme.specs.Fronts.{Front, closes}
@@ -19,9 +19,10 @@ use Rattle.dtc_dialect.specs.declared.words.Part.{Part}
 use Rattle.dtc_dialect.specs.declared.words.Piece.{Piece}
 use Rattle.dtc_dialect.specs.declared.words.Piece.TheVariants as pieces
 use Rattle.dtc_dialect.specs.declared.words.Stand.{Stand}
+use Rattle.dtc_dialect.specs.Broken.{BreaksAt, NoNumber, NoSign, NoString}
 use Rattle.dtc_dialect.specs.Bytes.{run_of}
 use Rattle.dtc_dialect.specs.Copied.{marker_line}
-use Rattle.dtc_dialect.specs.Inclusion.{Bracketed, HasNext, HoldsNone, Includes, IncludesFrom, IsBroken, IsOpen, MayNest, Number, PartAt, Passes, Quoted, Sign, Skips, TakesIn, byte_string_of, first_of, part_of, plain_of}
+use Rattle.dtc_dialect.specs.Inclusion.{Bracketed, HasNext, HoldsNone, Includes, IncludesFrom, IsBroken, IsOpen, MayNest, Number, Passes, Quoted, Sign, Skips, TakesIn, begins_incbin, begins_include, byte_string_of, first_of, part_of, plain_of}
 use Rattle.dtc_dialect.specs.Private.Places.{place_of}
 use Rattle.dtc_dialect.specs.Shortfall.{IsTooLong, Puts, StopsAt, name_of}
 use Rattle.dtc_dialect.specs.UserLines.{UserPlace, marker_of, place_behind}
@@ -29,24 +30,34 @@ use Rattle.dtc_dialect.specs.UserLines.{UserPlace, marker_of, place_behind}
 -- ---- a word that was read, and what is left behind it
 
 abbrev pub SignAt : ℕ → List ℕ → Option (Unit {0}) → List ℕ → Type 0
-SignAt c s None rest = Skips s rest × ((t : List ℕ) → Sign c s t → ⊥)
+SignAt c s None rest = Skips s rest × NoSign c s
 SignAt c s (Some u) rest = Sign c s rest
 
 abbrev pub QuotedAt : List ℕ → Option (Bor (List ℕ)) → List ℕ → Type 0
-QuotedAt s None rest = (name t : List ℕ) → Quoted s name t → ⊥
+QuotedAt s None rest = Skips s rest × NoString s
 QuotedAt s (Some name) rest = Quoted s name.now rest
 
 abbrev pub NumberAt : List ℕ → Option ℕ → List ℕ → Type 0
-NumberAt s None rest = (n : ℕ) (t : List ℕ) → Number s n t → ⊥
+NumberAt s None rest = Skips s rest × NoNumber s
 NumberAt s (Some n) rest = Number s n rest
 
--- Behind a comma that nothing wanted follows, a part of all bytes stands too, but no closing bracket behind it.
+-- the part that stands there, and what is left behind it
+pub data PartStands (s : List ℕ) : Part → List ℕ → Type 0 where
+  all_of : {rest : List ℕ} → Skips s rest → NoSign 44 s → PartStands s (record { offset = 0; length = None }) rest
+  some_of : {rest : List ℕ} {offset len : ℕ} (a b c : List ℕ) → Sign 44 s a → Number a offset b → Sign 44 b c → Number c len rest → PartStands s (record { offset = offset; length = Some len }) rest
+
+-- Behind a comma, a word of a part is missing at the second text.
+pub data PartBreaks (s : List ℕ) : List ℕ → Type 0 where
+  part_offset : {a : List ℕ} → Sign 44 s a → NoNumber a → PartBreaks s a
+  part_comma : {a b : List ℕ} {n : ℕ} → Sign 44 s a → Number a n b → NoSign 44 b → PartBreaks s b
+  part_length : {a b c : List ℕ} {n : ℕ} → Sign 44 s a → Number a n b → Sign 44 b c → NoNumber c → PartBreaks s c
+
 abbrev pub IsPartAt : List ℕ → Option Part → List ℕ → Type 0
-IsPartAt s None rest = (part : Part) (close t : List ℕ) → PartAt s part close → Sign 41 close t → ⊥
-IsPartAt s (Some part) rest = PartAt s part rest × ((other : Part) (close t : List ℕ) → PartAt s other close → Sign 41 close t → close ≡ rest)
+IsPartAt s None rest = (t : List ℕ) × PartBreaks s t × Skips t rest
+IsPartAt s (Some part) rest = PartStands s part rest
 
 abbrev pub BinaryAt : List ℕ → Option Binary → List ℕ → Type 0
-BinaryAt s None rest = (name : List ℕ) (part : Part) (t : List ℕ) → Bracketed s name part t → ⊥
+BinaryAt s None rest = (t : List ℕ) × BreaksAt s t × Skips t rest
 BinaryAt s (Some binary) rest = Bracketed s binary.name.now binary.part rest
 
 -- ---- what is told of words that break off
@@ -65,17 +76,23 @@ abbrev pub IsTold : List ℕ → List ℕ → List ℕ → Stand → Type 0
 IsTold s keyword [] stand = (stand.from.now ≡ s) × (stand.rest.now ≡ drop (length keyword) s)
 IsTold s keyword (c ∷ left) stand = (stand.from.now ≡ c ∷ left) × ((n : ℕ) × IsWordLen (c ∷ left) n × (stand.rest.now ≡ drop n (c ∷ left)))
 
+-- Words that break off are told at what stands where the next word should: of a source that is its name.
+abbrev pub IsToldAt : List ℕ → Stand → Type 0
+IsToldAt s stand =
+    ((left : List ℕ) × (begins_include s ≡ true) × Skips (drop 9 s) left × IsTold s (codes "/include/") left stand)
+    ⊎ ((t left : List ℕ) × (begins_incbin s ≡ true) × BreaksAt (drop 8 s) t × Skips t left × IsTold s (codes "/incbin/") left stand)
+
 -- ---- what stands at the front of a text, and what is next in it
 
 abbrev pub IsPiece : List ℕ → Piece → Type 0
 IsPiece s (pieces.Words inclusion stand) = (stand.from.now ≡ s) × TakesIn s inclusion stand.rest.now
-IsPiece s (pieces.Broken stand) = IsBroken s
+IsPiece s (pieces.Broken stand) = IsBroken s × IsToldAt s stand
 IsPiece s (pieces.Passed n) = (0 < n) × ((t : List ℕ) → Passes (drop n s) t → Passes s t)
 IsPiece s pieces.Open = IsOpen s
 
 abbrev pub IsNext : List ℕ → Next → Type 0
 IsNext s (nexts.Words inclusion stand) = Passes s stand.from.now × TakesIn stand.from.now inclusion stand.rest.now
-IsNext s (nexts.Broken stand) = (t : List ℕ) × Passes s t × IsBroken t
+IsNext s (nexts.Broken stand) = (t : List ℕ) × Passes s t × IsBroken t × IsToldAt t stand
 IsNext s nexts.Nothing = HoldsNone s
 
 -- ---- while files are open

@@ -13,7 +13,7 @@ pub returns-then-is_empty : goal.returns-then-is_empty
 returns-then-is_empty c = (c.pieces.left.now, c.pieces.invariant c.pieces.left.now nothing, inl (empty_is c.pieces.left.now c.if-is_empty.ensures))
 
 pub returns-in-Broken : goal.returns-in-Broken
-returns-in-Broken c = (c.pieces.left.now, c.pieces.invariant c.pieces.left.now nothing, c.in-Broken.ensures)
+returns-in-Broken c = (c.pieces.left.now, c.pieces.invariant c.pieces.left.now nothing, c.in-Broken.ensures.0, c.in-Broken.ensures.1)
 
 pub returns-in-Open : goal.returns-in-Open
 returns-in-Open c = (c.pieces.left.now, c.pieces.invariant c.pieces.left.now nothing, inr c.in-Open.ensures)

@@ -6,4 +6,4 @@ use Rattle.dtc_dialect.proofs.words.Words.number.Goals as goal
 pub returns-in-None : goal.returns-in-None
 returns-in-None c =
     let left = c.skip_gap.new.self.left.now in
-    no_number c.args.self.now.left.now left c.skip_gap.ensures (ap (λ (n : ℕ). integer_of (take n left)) (sym c.run_len-len.ensures) ∙ ap integer_of (sym c.front.ensures) ∙ sym c.in-None.ensures)
+    (c.skip_gap.ensures, no_number c.args.self.now.left.now left c.skip_gap.ensures (ap (λ (n : ℕ). integer_of (take n left)) (sym c.run_len-len.ensures) ∙ ap integer_of (sym c.front.ensures) ∙ sym c.in-None.ensures))
