@@ -287,7 +287,7 @@ fn take_in<F: Files>(
     inclusion: Inclusion<'_>,
     whole: &mut Vec<u8>,
 ) -> Result<Turn, Incomplete>
-    ensures taken { IfOk result (λ turn. IsTaken F.finds beside.now inclusion.entry whole.old.items whole.new.items turn) }
+    ensures taken { IfOk result (λ t. IsTaken F.finds beside.now inclusion.entry whole.old.items whole.new.items t) }
     ensures untaken { IfErr result (λ reason. IsUntaken F.finds F.lacks beside.now inclusion.entry reason) }
 {
     match inclusion {
