@@ -3,17 +3,18 @@ use Rattle.std.specs.Prelude.{◌≡◌, ℕ, Bool, ◌&&◌, ◌==◌, List, Op
 use Rattle.std.specs.HashMap.{HashMap, get_by}
 use Rattle.std.specs.Str.{bytes_eq}
 use denote.Ref.{Bor}
+use Rattle.dtc_dialect.specs.declared.hashed.Text.{Text}
 
 -- both are the same node and the same name
 abbrev pub is_key : ℕ → List ℕ → ℕ → List ℕ → Bool
 is_key n k m j = n == m && bytes_eq k j
 
 abbrev pub Key : Type 0
-Key = ℕ × Bor (List ℕ)
+Key = ℕ × Text
 
 -- the row that a map has at a node and a name
 abbrev pub found : {S : Type 0} → HashMap Key ℕ S → ℕ → List ℕ → Option ℕ
-found map n k = get_by (λ key. is_key n k key.0 key.1.now) map
+found map n k = get_by (λ key. is_key n k key.0 key.1.bytes.now) map
 
 -- the row that a map has at a name
 abbrev pub found_name : {S : Type 0} → HashMap (Bor (List ℕ)) ℕ S → List ℕ → Option ℕ

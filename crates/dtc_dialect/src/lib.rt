@@ -11,6 +11,7 @@ mod edits;
 mod error;
 mod first_two;
 mod gaps;
+mod hashed;
 mod head;
 mod inclusion;
 mod integer;

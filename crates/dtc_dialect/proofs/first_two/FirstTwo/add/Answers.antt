@@ -6,7 +6,7 @@ use Rattle.dtc_dialect.proofs.FirstRows.{first-more, restored, same-found, same-
 use Rattle.dtc_dialect.proofs.first_two.FirstTwo.add.Goals as goal
 
 abbrev at : ℕ → List ℕ → Key
-at n k = (n, record { ref_ptr = (0, 0); now = k })
+at n k = (n, record { bytes = record { ref_ptr = (0, 0); now = k } })
 
 pub returns-in_default-clause-ok : goal.returns-in_default-clause-ok
 returns-in_default-clause-ok c n k rows old =
