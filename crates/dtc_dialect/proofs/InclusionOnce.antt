@@ -13,7 +13,7 @@ use Rattle.dtc_dialect.specs.declared.words.Part.{Part}
 use Rattle.dtc_dialect.specs.Gaps.{nothing}
 use Rattle.dtc_dialect.specs.Inclusion.{Bracketed, IsBroken, Number, PartAt, Quoted, Sign, Skips, TakesIn, begins_incbin, begins_include}
 use Rattle.dtc_dialect.specs.Inclusion as inclusion
-use Rattle.dtc_dialect.specs.Broken.{BreaksAt, NoNumber, NoSign, NoString}
+use Rattle.dtc_dialect.specs.Broken.{BreaksAt, NoSign}
 use Rattle.dtc_dialect.specs.Broken as broken
 use Rattle.dtc_dialect.specs.Private.Included.{PartBreaks, PartStands, all_of, part_comma, part_length, part_offset, some_of}
 use Rattle.dtc_dialect.proofs.InclusionWords.{one_skip}

@@ -7,7 +7,7 @@ use Rattle.dtc_dialect.specs.declared.words.Part.{Part}
 use Rattle.dtc_dialect.specs.Bytes.{run_of}
 use Rattle.dtc_dialect.specs.declared.bytes.Class.TheVariants.{Word}
 use Rattle.dtc_dialect.specs.Gaps.{Gaps, gap_len, more, nothing}
-use Rattle.dtc_dialect.specs.Inclusion.{Bracketed, Number, PartAt, Passes, Quoted, Sign, Skips, TakesIn}
+use Rattle.dtc_dialect.specs.Inclusion.{Bracketed, Number, PartAt, Passes, Quoted, Sign, TakesIn}
 use Rattle.dtc_dialect.specs.Inclusion as inclusion
 
 -- an end of a text

@@ -1,6 +1,6 @@
 -- All statements of a source, done one after the other by its tokens (dtc 1.6, Documentation/dts-format.txt, "File layout" and
 -- "Node and property definitions").
-use Rattle.std.specs.Prelude.{◌≡◌, ◌≢◌, ℕ, ◌+◌, ◌-◌, ◌^◌, ◌≤◌, ◌==◌, min, Bool, true, false, List, [], ◌∷◌, ◌++◌, length, Ok, Option, None, Some, is_some, not, slice_set, vec_len}
+use Rattle.std.specs.Prelude.{◌≡◌, ℕ, ◌+◌, ◌-◌, ◌^◌, ◌≤◌, ◌==◌, min, Bool, true, false, List, [], ◌∷◌, ◌++◌, length, Ok, Option, None, Some, is_some, not, slice_set, vec_len}
 use Rattle.dtc_dialect.specs.Bodies.{BeginsChild, DeletesBy, DropsIn, Extends, SetsIn, innermost}
 use Rattle.dtc_dialect.specs.Edits.{body_of, with_root}
 use Rattle.dtc_dialect.specs.References.{MarksNamed}

@@ -1,7 +1,7 @@
 //! The statements of a source, done to the table in the order of the text as dtc does them.
-ghost use Rattle.std.specs.Prelude.{◌≡◌, IfOk, IfSome, OnOk, Some, not, true};
+ghost use Rattle.std.specs.Prelude.{◌≡◌, IfOk, OnOk, Some, not, true};
 ghost use Rattle.dtc_dialect.specs.Edits.{Begins, Finds, body_of, in_order, is_sought, may_be_fragment, with_root};
-ghost use Rattle.dtc_dialect.specs.Bodies.{BeginsChild, BeginsFragment, Extends, GivesLabels, GoesOn, KeepsCourse};
+ghost use Rattle.dtc_dialect.specs.Bodies.{BeginsChild, BeginsFragment, Extends, GivesLabels, GoesOn};
 ghost use Rattle.dtc_dialect.specs.Bodies.{DeletesBy, DropsIn, SetsIn, TakesProperties, innermost};
 ghost use Rattle.dtc_dialect.specs.Course.{AreDone, BeginsBody, ClosesBody, Does, EndsStatement, IsBegun, IsWhole, OpensBody, Steps};
 ghost use Rattle.dtc_dialect.specs.Course.{KeepsLabels, KeepsNodes, KeepsProperties, KeepsRest, ends_statement, noted, part_of, value_to};

@@ -1,4 +1,4 @@
-use Rattle.std.proofs.Common.{refl, sym, not, ap, ◌∙◌}
+use Rattle.std.proofs.Common.{refl, sym, ◌∙◌}
 use Rattle.dtc_dialect.proofs.Courses.{ended-body, none-of}
 use Rattle.dtc_dialect.proofs.edits.close_body.Goals as goal
 
