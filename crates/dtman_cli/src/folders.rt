@@ -15,8 +15,12 @@ pub struct Folders<'a, S> {
 }
 
 impl<S: Surroundings> Files for Folders<'_, S> {
-    // What `search` promises speaks of the folders; they stand in `self`, of which these know nothing.
-    ghost finds = { λ beside name found. Unit {0} };
+    ghost use Rattle.std.specs.Prelude.{ℕ, List};
+    ghost use Rattle.dtc_dialect.specs.Searching.{FindsWithin};
+
+    // Some folders lead to it: they stand in `self`, of which this knows nothing.
+    ghost finds = { λ beside name found.
+        (folders : List (List ℕ)) × FindsWithin (λ path bytes. Unit {0}) (λ path. Unit {0}) folders beside name found };
 
     ghost lacks = { λ beside name. Unit {0} };
 
