@@ -7,6 +7,7 @@ ghost use Rattle.dt_blob.specs.Blob.{names_in};
 ghost use Rattle.dt_blob.specs.Steps.Table.{AreNames, with_sight, with_sights};
 ghost use Rattle.dt_blob.specs.Token.{tokens_of};
 
+use dt_key::KeyName;
 use dt_tree::{MAX_NAME_LEN, Name, Node, Property};
 use indexmap::IndexSet;
 use std::alloc::{AllocError, Global};
@@ -19,7 +20,7 @@ const LENGTHS: usize = MAX_NAME_LEN + 1;
 /// Names that differ, in order of first sight, each found without a walk. What has the length of none isn't looked up.
 #[derive(Drop)]
 pub(crate) struct Names<'a> {
-    set: IndexSet<&'a [u8], RandomState>,
+    set: IndexSet<KeyName<'a>, RandomState>,
     lengths: [bool; LENGTHS],
 }
 
@@ -29,9 +30,9 @@ impl<'a> Model for Names<'a> {
 
     ghost Value = { List (List ℕ) };
 
-    ghost view = { λ names. map (λ name. name.now) names.set.keys };
+    ghost view = { λ names. map (λ name. name.bytes.now) names.set.keys };
 
-    ghost invariant = { λ names. AreKept (map (λ name. name.now) names.set.keys) names.lengths };
+    ghost invariant = { λ names. AreKept (map (λ name. name.bytes.now) names.set.keys) names.lengths };
 }
 
 fn place_of_length(len: usize) -> usize
@@ -69,7 +70,7 @@ impl<'a> Names<'a> {
     {
         name.check();
         let name = name.as_bytes();
-        self.set.insert(name)?;
+        self.set.insert(KeyName { bytes: name })?;
         self.lengths[place_of_length(name.len())] = true;
         Ok(())
     }
@@ -104,7 +105,7 @@ impl<'a> Names<'a> {
         requires { at < length self.now }
         ensures { slice_get self.now at ≡ Some result.now }
     {
-        self.set.as_slice()[at]
+        self.set.as_slice()[at].bytes
     }
 
     /// The place of a name.
@@ -114,7 +115,7 @@ impl<'a> Names<'a> {
         if !self.lengths[place_of_length(name.len())] {
             return None;
         }
-        self.set.get_index_of(name)
+        self.set.get_index_of(&KeyName { bytes: name })
     }
 
     /// Costs nothing: tells a caller's proof that the names are lawful and differ.

@@ -1,18 +1,19 @@
 -- An index as a function of a node and a name.
-use Rattle.std.proofs.Common.{◌≡◌, ◌⊎◌, inl, inr, ℕ, suc, ◌+◌, ◌<◌, Bool, true, false, not, cond, if◌then◌else◌, ◌==◌, List, [], ◌∷◌, ◌++◌, length, slice_index_or, slice_set, Option, Some, None, refl, ap, ap₂, sym, ◌∙◌, Bor, true≢false, nat_lt, arith}
+use Rattle.std.proofs.Common.{◌≡◌, ◌⊎◌, inl, inr, ℕ, suc, ◌+◌, ◌<◌, Bool, true, false, not, cond, if◌then◌else◌, ◌==◌, List, [], ◌∷◌, ◌++◌, length, slice_index_or, slice_set, Option, Some, None, refl, ap, ap₂, sym, ◌∙◌, true≢false, nat_lt, arith}
 use Rattle.std.specs.Str.{bytes_eq}
 use Rattle.std.specs.List.{list_any, position}
 use Rattle.std.proofs.lemmas.Bool.{and_parts, and_from, eqb-true, eq-eqb}
 use Rattle.std.proofs.lemmas.List.{get_or-set_same, get_or-set_other, get_or_past}
 use Rattle.std.proofs.lemmas.Slice.Eq.{bytes_eq-Decides}
+use Rattle.dt_key.specs.declared.KeyName.{KeyName}
 use Rattle.dt_live.specs.declared.index.IndexEntry.{IndexEntry}
 use Rattle.dt_live.specs.Index.{is_key, slot_of, absent}
 
 abbrev pub Key : Type 0
-Key = ℕ × Bor (List ℕ)
+Key = ℕ × KeyName
 
 abbrev pub is_this : ℕ → List ℕ → Key → Bool
-is_this n k key = is_key n k key.0 key.1.now
+is_this n k key = is_key n k key.0 key.1.bytes.now
 
 pub key-parts : (n : ℕ) (k : List ℕ) (m : ℕ) (j : List ℕ) → is_key n k m j ≡ true → (n ≡ m) × (k ≡ j)
 key-parts n k m j e = let parts = and_parts (n == m) (bytes_eq k j) e in (eqb-true n m parts.0, (bytes_eq-Decides k j).0 parts.1)
@@ -33,8 +34,8 @@ slot-one [] n k m j within same = absurd (omega arith)
 slot-one (x ∷ xs) n k m j within same = at-head (slot-one xs n k m j) (is_this n k x) (is_this m j x) refl refl where
   at-head : (slot_of xs n k < length xs → slot_of xs m j ≡ slot_of xs n k → (n ≡ m) × (k ≡ j)) → (a b : Bool) → is_this n k x ≡ a → is_this m j x ≡ b → (n ≡ m) × (k ≡ j)
   at-head rest true true ea eb =
-      let one = key-parts n k x.0 x.1.now ea in
-      let two = key-parts m j x.0 x.1.now eb in
+      let one = key-parts n k x.0 x.1.bytes.now ea in
+      let two = key-parts m j x.0 x.1.bytes.now eb in
       (one.0 ∙ sym two.0, one.1 ∙ sym two.1)
   at-head rest true false ea eb =
       let h : slot_of (x ∷ xs) n k ≡ 0 = rw ea refl in
@@ -99,11 +100,11 @@ met-more (x ∷ xs) (p ∷ ps) key even n k = at-head (met-more xs ps key (omega
       rw e (ap (λ i. slice_index_or (p ∷ ps ++ absent ∷ []) i absent) (one-more (slot_of (xs ++ key ∷ []) n k))
       ∙ rest ∙ sym (ap (λ i. slice_index_or (p ∷ ps) i absent) (one-more (slot_of xs n k))))
 
-pub slot-more : (keys : List Key) (key : Key) → slot_of (keys ++ key ∷ []) key.0 key.1.now ≡ slot_of keys key.0 key.1.now
-slot-more [] key = rw (key-same key.0 key.1.now) refl
-slot-more (x ∷ xs) key = at-head (slot-more xs key) (is_this key.0 key.1.now x) refl where
-  at-head : slot_of (xs ++ key ∷ []) key.0 key.1.now ≡ slot_of xs key.0 key.1.now → (b : Bool) → is_this key.0 key.1.now x ≡ b
-      → slot_of (x ∷ xs ++ key ∷ []) key.0 key.1.now ≡ slot_of (x ∷ xs) key.0 key.1.now
+pub slot-more : (keys : List Key) (key : Key) → slot_of (keys ++ key ∷ []) key.0 key.1.bytes.now ≡ slot_of keys key.0 key.1.bytes.now
+slot-more [] key = rw (key-same key.0 key.1.bytes.now) refl
+slot-more (x ∷ xs) key = at-head (slot-more xs key) (is_this key.0 key.1.bytes.now x) refl where
+  at-head : slot_of (xs ++ key ∷ []) key.0 key.1.bytes.now ≡ slot_of xs key.0 key.1.bytes.now → (b : Bool) → is_this key.0 key.1.bytes.now x ≡ b
+      → slot_of (x ∷ xs ++ key ∷ []) key.0 key.1.bytes.now ≡ slot_of (x ∷ xs) key.0 key.1.bytes.now
   at-head rest true e = rw e refl
   at-head rest false e = rw e (ap (λ i. 1 + i) rest)
 

@@ -2,7 +2,7 @@
 use Rattle.std.specs.Prelude.{◌≡◌, ℕ, Bool, ◌&&◌, ◌==◌, List, Option, None, Some, if◌then◌else◌, slice_index_or, unwrap_or}
 use Rattle.std.specs.List.{position_or_len}
 use Rattle.std.specs.Str.{bytes_eq}
-use denote.Ref.{Bor}
+use Rattle.dt_key.specs.declared.KeyName.{KeyName}
 use Rattle.dt_live.specs.declared.index.IndexEntry.{IndexEntry}
 use Rattle.dt_live.specs.declared.index.Index.{Index}
 
@@ -11,8 +11,8 @@ abbrev pub is_key : ℕ → List ℕ → ℕ → List ℕ → Bool
 is_key n k m j = n == m && bytes_eq k j
 
 -- where a key stands, the length where it wasn't met
-abbrev pub slot_of : List (ℕ × Bor (List ℕ)) → ℕ → List ℕ → ℕ
-slot_of keys n k = position_or_len (λ key. is_key n k key.0 key.1.now) keys
+abbrev pub slot_of : List (ℕ × KeyName) → ℕ → List ℕ → ℕ
+slot_of keys n k = position_or_len (λ key. is_key n k key.0 key.1.bytes.now) keys
 
 -- the entry of a key that wasn't met
 abbrev pub absent : IndexEntry

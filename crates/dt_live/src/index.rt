@@ -2,6 +2,7 @@
 ghost use Rattle.std.specs.Prelude.{◌≡◌, length};
 ghost use Rattle.indexmap.specs.IndexSet.{index_set_len};
 
+use dt_key::KeyName;
 use indexmap::IndexSet;
 use std::hash::RandomState;
 
@@ -16,7 +17,7 @@ pub struct IndexEntry {
 #[derive(Drop)]
 pub struct Index<'d> {
     // a whole word in front: the hasher takes words faster than bytes
-    pub(crate) keys: IndexSet<(usize, &'d [u8]), RandomState>,
+    pub(crate) keys: IndexSet<(usize, KeyName<'d>), RandomState>,
     pub(crate) entries: Vec<IndexEntry>,
     ghost even: { length entries.items ≡ index_set_len keys },
 }

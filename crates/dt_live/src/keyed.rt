@@ -3,6 +3,7 @@ ghost use Rattle.std.specs.Prelude.{◌≡◌, ◌+◌, ◌<◌, ℕ, List, None
 ghost use Rattle.dt_live.specs.Index.{DefinesRow, IsSetAt, SetsRow, absent, entry_of, row_of, stamp_of, slot_of};
 
 use crate::index::{Index, IndexEntry};
+use dt_key::KeyName;
 use indexmap::IndexSet;
 use std::alloc::{AllocError, Global};
 use std::hash::RandomState;
@@ -28,7 +29,7 @@ impl<'d> Index<'d> {
     pub fn get(&self, node: usize, name: &'d [u8]) -> Option<usize>
         ensures { result ≡ row_of self.now node name.now }
     {
-        match self.keys.get_index_of(&(node, name)) {
+        match self.keys.get_index_of(&(node, KeyName { bytes: name })) {
             Some(slot) => self.entries[slot].row,
             None => None,
         }
@@ -41,7 +42,7 @@ impl<'d> Index<'d> {
         ensures within { IfOk result (λ slot. slot < length self.new.entries.items) }
     {
         self.entries.reserve(1)?;
-        let (slot, is_new) = self.keys.insert_full((node, name))?;
+        let (slot, is_new) = self.keys.insert_full((node, KeyName { bytes: name }))?;
         if is_new {
             self.entries.push(ABSENT)?;
         }
@@ -89,7 +90,7 @@ impl<'d> Index<'d> {
         ensures rows { SetsRow node name.now None self.old self.new }
         ensures stamps { (n : ℕ) (k : List ℕ) → stamp_of self.new n k ≡ stamp_of self.old n k }
     {
-        match self.keys.get_index_of(&(node, name)) {
+        match self.keys.get_index_of(&(node, KeyName { bytes: name })) {
             Some(slot) => {
                 let entry = self.entries[slot];
                 self.entries[slot] = IndexEntry {

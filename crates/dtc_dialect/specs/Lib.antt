@@ -10,7 +10,6 @@ pub mod Edits
 pub mod Found
 pub mod GapAt
 pub mod Gaps
-pub mod Hashed
 pub mod Inclusion
 pub mod Integer
 pub mod Omission

@@ -3,13 +3,13 @@ ghost use Rattle.std.specs.Prelude.{◌≡◌, [], ℕ, List, OnOk, OnErr};
 ghost use Rattle.dtc_dialect.specs.Found.{AreFirstTwo, found};
 ghost use Rattle.dtc_dialect.specs.Private.Rows.{AddsRow, KeepsRows};
 
-use crate::hashed::Text;
+use dt_key::KeyName;
 use std::alloc::{AllocError, Global};
 use std::collections::HashMap;
 use std::hash::RandomState;
 
 /// A row by its node and its name.
-type Found<'t> = HashMap<(usize, Text<'t>), usize, RandomState>;
+type Found<'t> = HashMap<(usize, KeyName<'t>), usize, RandomState>;
 
 /// The first row of a node and a name, and the second.
 #[derive(Drop)]
@@ -33,14 +33,14 @@ impl<'t> FirstTwo<'t> {
     pub fn first(&self, node: usize, name: &'t [u8]) -> Option<usize>
         ensures { result ≡ found self.now.first node name.now }
     {
-        self.first.get(&(node, Text { bytes: name })).copied()
+        self.first.get(&(node, KeyName { bytes: name })).copied()
     }
 
     /// The second row.
     pub fn second(&self, node: usize, name: &'t [u8]) -> Option<usize>
         ensures { result ≡ found self.now.second node name.now }
     {
-        self.second.get(&(node, Text { bytes: name })).copied()
+        self.second.get(&(node, KeyName { bytes: name })).copied()
     }
 
     /// Notes one row more, if it is one of the first two. A name that is new is looked for once.
@@ -48,13 +48,13 @@ impl<'t> FirstTwo<'t> {
         ensures ok { OnOk result (AddsRow self.old self.new node name.now row) }
         ensures err { OnErr result (KeepsRows self.old self.new) }
     {
-        let Some(earlier) = self.first.insert((node, Text { bytes: name }), row)? else {
+        let Some(earlier) = self.first.insert((node, KeyName { bytes: name }), row)? else {
             return Ok(());
         };
         // The first one stays.
-        self.first.insert((node, Text { bytes: name }), earlier)?;
+        self.first.insert((node, KeyName { bytes: name }), earlier)?;
         if self.second(node, name).is_none() {
-            self.second.insert((node, Text { bytes: name }), row)?;
+            self.second.insert((node, KeyName { bytes: name }), row)?;
         }
         Ok(())
     }

@@ -11,7 +11,6 @@ mod edits;
 mod error;
 mod first_two;
 mod gaps;
-mod hashed;
 mod head;
 mod inclusion;
 mod integer;

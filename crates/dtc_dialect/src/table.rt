@@ -10,6 +10,7 @@ ghost use Rattle.dtc_dialect.specs.Private.Rows.{FindsLast, FindsFirstTwo};
 
 use crate::first_two::FirstTwo;
 use crate::token::{Place, Token};
+use dt_key::KeyName;
 use std::alloc::{AllocError, Global};
 use std::collections::HashMap;
 use std::hash::RandomState;
@@ -83,7 +84,7 @@ pub(crate) struct Table<'t> {
     children: FirstTwo<'t>,
     names: FirstTwo<'t>,
     given: FirstTwo<'t>,
-    last: HashMap<&'t [u8], usize, RandomState>,
+    last: HashMap<KeyName<'t>, usize, RandomState>,
     ghost is_grown: { IsGrown nodes.items } by { Prim.hlevel props },
     ghost children_found: { FindsFirstTwo children (children_of nodes.items) } by { Prim.hlevel props },
     ghost properties_found: { FindsFirstTwo names (properties_of properties.items) } by { Prim.hlevel props },
@@ -326,7 +327,7 @@ impl<'t> Table<'t> {
         self.last.reserve(1)?;
         let row = self.labels.len();
         self.given.add(node, name, row)?;
-        self.last.insert(name, row)?;
+        self.last.insert(KeyName { bytes: name }, row)?;
         self.labels.push(LabelRow {
             node,
             name,
@@ -354,6 +355,6 @@ impl<'t> Table<'t> {
     pub fn last_label(&self, name: &'t [u8]) -> Option<usize>
         ensures { result ≡ last_of (labels_of self.now.labels.items name.now) }
     {
-        self.last.get(&name).copied()
+        self.last.get(&KeyName { bytes: name }).copied()
     }
 }

@@ -1,7 +1,7 @@
 -- What the maps of a table find.
 use Rattle.std.specs.Prelude.{◌≡◌, ℕ, List, ◌++◌, ◌∷◌, [], if◌then◌else◌}
 use Rattle.std.specs.HashMap.{HashMap}
-use denote.Ref.{Bor}
+use Rattle.dt_key.specs.declared.KeyName.{KeyName}
 use Rattle.dtc_dialect.specs.Found.{AreFirstTwo, found_name, is_key}
 use Rattle.dtc_dialect.specs.Table.{labels_of, last_of}
 use Rattle.dtc_dialect.specs.declared.table.LabelRow.{LabelRow}
@@ -21,5 +21,5 @@ abbrev pub KeepsRows : FirstTwo → FirstTwo → Type 0
 KeepsRows old new = (n : ℕ) (k rows : List ℕ) → AreFirstTwo old.first old.second n k rows → AreFirstTwo new.first new.second n k rows
 
 -- the last label of each name is found
-abbrev pub FindsLast : {S : Type 0} → HashMap (Bor (List ℕ)) ℕ S → List LabelRow → Type 0
+abbrev pub FindsLast : {S : Type 0} → HashMap KeyName ℕ S → List LabelRow → Type 0
 FindsLast last rows = (k : List ℕ) → found_name last k ≡ last_of (labels_of rows k)

@@ -1,7 +1,8 @@
-use Rattle.std.proofs.Common.{◌≡◌, ◌+◌, ◌<◌, ◌++◌, ◌∷◌, [], ℕ, List, Some, Bor, cond, ap, ap₂, sym, subst, ◌∙◌, length, slice_get, arith, true}
+use Rattle.std.proofs.Common.{◌≡◌, ◌+◌, ◌<◌, ◌++◌, ◌∷◌, [], ℕ, List, Some, cond, ap, ap₂, sym, subst, ◌∙◌, length, slice_get, arith, true}
 use Rattle.std.specs.Prelude.{is_ok}
 use Rattle.std.specs.Str.{bytes_eq}
 use Rattle.dtc_dialect.specs.Found.{AreFirstTwo, is_key}
+use Rattle.dt_key.specs.declared.KeyName.{KeyName}
 use Rattle.dtc_dialect.specs.Table.{IsChained, gifts_of, labelled, labels_of, last_of}
 use Rattle.dtc_dialect.specs.declared.table.LabelRow.{LabelRow}
 use Rattle.dtc_dialect.proofs.LabelChains.{IsChained-more, labels-more, last-more}
@@ -9,8 +10,8 @@ use Rattle.dtc_dialect.proofs.RowLists.{rows-more}
 use Rattle.dtc_dialect.proofs.FirstRows.{more}
 use Rattle.dtc_dialect.proofs.table.Table.add_label.Goals as goal
 
-abbrev at : List ℕ → Bor (List ℕ)
-at k = record { ref_ptr = (0, 0); now = k }
+abbrev at : List ℕ → KeyName
+at k = record { bytes = record { ref_ptr = (0, 0); now = k } }
 
 pub invariant_of-self-in-Break-branch-3 : goal.invariant_of-self-in-Break-branch-3
 invariant_of-self-in-Break-branch-3 c =
