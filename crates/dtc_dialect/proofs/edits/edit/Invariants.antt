@@ -1,5 +1,6 @@
 -- With what the tokens that are left do, all is done that the source says.
 use Rattle.dtc_dialect.specs.Course.{IsBegun}
+use Rattle.dtc_dialect.specs.declared.edits.Edited.{Edited}
 use Rattle.dtc_dialect.proofs.Courses.{Running}
 use Rattle.dtc_dialect.proofs.edits.edit.Given as goal
 
