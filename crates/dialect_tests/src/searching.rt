@@ -34,115 +34,78 @@ impl Reads for Shelf {
     }
 }
 
-/// A name, the path beside which it is looked for, the folders, and the path of the file that is found.
-struct Row {
-    name: &'static str,
-    beside: &'static [u8],
-    folders: &'static [&'static str],
-    path: Option<&'static str>,
-}
+/// A name, the path beside which it is looked for, and the path of the file that is found; nothing where none is.
+type Row = (&'static str, &'static str, &'static str);
 
-fn is_found(rt: &impl Abort, alloc: Global, row: &Row) {
+fn is_found(rt: &impl Abort, alloc: Global, folders: &[&str], row: &Row) {
+    let (name, beside, path) = *row;
     let found = search(
         alloc,
         &mut Shelf,
-        row.folders,
-        row.beside,
-        row.name.as_bytes(),
+        folders,
+        beside.as_bytes(),
+        name.as_bytes(),
     );
-    let found = found.expect(rt, "memory");
-    let Some(path) = row.path else {
-        assert!(rt; found.is_none(), "{}", row.name);
-        return;
-    };
-    let found = found.expect(rt, "a file");
-    assert_eq!(rt; found.path.as_slice(), path.as_bytes());
-    assert_eq!(rt; found.bytes.as_slice(), path.as_bytes());
+    match found.expect(rt, "memory") {
+        Some(found) => {
+            assert_eq!(rt; found.path.as_slice(), path.as_bytes());
+            assert_eq!(rt; found.bytes.as_slice(), path.as_bytes());
+        }
+        None => assert_eq!(rt; path, ""),
+    }
 }
 
 #[test]
-fn the_first_that_is_there(rt: HostRuntime) {
+fn in_folders(rt: HostRuntime) {
     const ROWS: &[Row] = &[
         // alone, as it begins with a slash
-        Row {
-            name: "/top.h",
-            beside: b"src/board.dts",
-            folders: &["one", "two/"],
-            path: Some("/top.h"),
-        },
-        Row {
-            name: "/near.h",
-            beside: b"src/board.dts",
-            folders: &["one", "two/"],
-            path: None,
-        },
+        ("/top.h", "src/board.dts", "/top.h"),
+        ("/near.h", "src/board.dts", ""),
         // beside the file, before the folders
-        Row {
-            name: "near.h",
-            beside: b"src/board.dts",
-            folders: &["one", "two/"],
-            path: Some("src/near.h"),
-        },
-        Row {
-            name: "top.h",
-            beside: b"board.dts",
-            folders: &[],
-            path: Some("top.h"),
-        },
-        Row {
-            name: "top.h",
-            beside: b"/board.dts",
-            folders: &[],
-            path: Some("/top.h"),
-        },
+        ("near.h", "src/board.dts", "src/near.h"),
+        ("top.h", "/board.dts", "/top.h"),
         // in the first folder, and in the second, whose name ends in a slash
-        Row {
-            name: "first.h",
-            beside: b"src/board.dts",
-            folders: &["one", "two/"],
-            path: Some("one/first.h"),
-        },
-        Row {
-            name: "second.h",
-            beside: b"src/board.dts",
-            folders: &["one", "two/"],
-            path: Some("two/second.h"),
-        },
-        Row {
-            name: "sub/deep.h",
-            beside: b"src/board.dts",
-            folders: &["one", "two/"],
-            path: Some("two/sub/deep.h"),
-        },
-        // in an empty folder
-        Row {
-            name: "top.h",
-            beside: b"src/board.dts",
-            folders: &["one", ""],
-            path: Some("top.h"),
-        },
-        // beside a path that is no text
-        Row {
-            name: "near.h",
-            beside: b"\xff/board.dts",
-            folders: &["one", "two/"],
-            path: Some("one/near.h"),
-        },
+        ("first.h", "src/board.dts", "one/first.h"),
+        ("second.h", "src/board.dts", "two/second.h"),
+        ("sub/deep.h", "src/board.dts", "two/sub/deep.h"),
         // nowhere
-        Row {
-            name: "gone.h",
-            beside: b"src/board.dts",
-            folders: &["one", "two/"],
-            path: None,
-        },
-        Row {
-            name: "first.h",
-            beside: b"src/board.dts",
-            folders: &[],
-            path: None,
-        },
+        ("gone.h", "src/board.dts", ""),
     ];
     for row in ROWS {
-        is_found(&rt, rt.alloc(), row);
+        is_found(&rt, rt.alloc(), &["one", "two/"], row);
     }
+}
+
+#[test]
+fn in_no_folder(rt: HostRuntime) {
+    const ROWS: &[Row] = &[
+        ("top.h", "board.dts", "top.h"),
+        ("first.h", "src/board.dts", ""),
+    ];
+    for row in ROWS {
+        is_found(&rt, rt.alloc(), &[], row);
+    }
+}
+
+#[test]
+fn in_an_empty_folder(rt: HostRuntime) {
+    is_found(
+        &rt,
+        rt.alloc(),
+        &["one", ""],
+        &("top.h", "src/board.dts", "top.h"),
+    );
+}
+
+#[test]
+fn beside_a_path_that_is_no_text(rt: HostRuntime) {
+    let found = search(
+        rt.alloc(),
+        &mut Shelf,
+        &["one"],
+        b"\xff/board.dts",
+        b"near.h",
+    );
+    let found = found.expect(&rt, "memory").expect(&rt, "a file");
+    assert_eq!(rt; found.path.as_slice(), b"one/near.h".as_slice());
 }
