@@ -28,7 +28,7 @@ listed() {
 		echo 644 out/pages/dtman.pc "$library_folder/pkgconfig/dtman.pc"
 		for file in examples/c/Makefile examples/c/*.{c,h,dts,txt,md}; do echo 644 "$file" "share/doc/dtman/examples/c/${file##*/}"; done
 	fi
-	for file in README.md CHANGELOG.md docs/commands.md docs/errors.md docs/promises.md; do echo 644 "$file" "share/doc/dtman/${file##*/}"; done
+	for file in README.md CHANGELOG.md docs/{commands,errors,promises,status}.md; do echo 644 "$file" "share/doc/dtman/${file##*/}"; done
 	for file in examples/*.{dts,dtb,drivers,plan,schedule}; do echo 644 "$file" "share/doc/dtman/examples/${file##*/}"; done
 }
 
@@ -102,7 +102,7 @@ deb() {
 	[ ! -e "$stage/usr/$libraries/libdtman.a" ] || strip --strip-debug -R .comment -R .note "$stage/usr/$libraries/libdtman.a"
 	find "$stage/usr/share/man" -type f -exec gzip -9n {} +
 	debian_words "$stage" "$arch" "${MAINTAINER:-$(git log -1 --format='%an <%ae>')}"
-	gzip -9n "$doc/NEWS.md" "$doc"/{README,commands,errors,promises}.md "$doc/changelog"
+	gzip -9n "$doc/NEWS.md" "$doc"/{README,commands,errors,promises,status}.md "$doc/changelog"
 	(cd "$stage" && find usr -type f -print0 | LC_ALL=C sort -z | xargs -0 md5sum >DEBIAN/md5sums)
 	chmod -R u=rwX,go=rX "$stage"
 	mkdir -p out/dist
