@@ -1,5 +1,5 @@
 #!/usr/bin/env python3
-"""Runs each command that README and docs/commands.md show with its output, and tells where the program says something else.
+"""Runs each command that README and docs/commands.md show with its output, and tells where the program says something else, or README too much.
 
 `readme.py PROGRAM` runs PROGRAM in place of bin/dtman, as bin/dtman-unproved before anything is proved.
 """
@@ -9,6 +9,8 @@ import sys
 
 PAGES = ("README.md", "docs/commands.md")
 PROGRAM = "bin/dtman"
+# What a front page may take.
+MOST_WORDS = 1600
 
 
 def main():
@@ -16,7 +18,8 @@ def main():
     faults = 0
     for page in PAGES:
         with open(page, encoding="utf-8") as file:
-            blocks = re.findall(r"^```\n\$ (.*?)\n(.*?)^```$", file.read(), re.DOTALL | re.MULTILINE)
+            text = file.read()
+        blocks = re.findall(r"^```\n\$ (.*?)\n(.*?)^```$", text, re.DOTALL | re.MULTILINE)
         differing = 0
         for command, shown in blocks:
             words = ["bash", "-c", command.replace(PROGRAM, program)]
@@ -26,6 +29,9 @@ def main():
                 print(f"{page} shows another output of: {command}\n{done.stdout}", file=sys.stderr)
         print(f"{page}: {len(blocks)} commands, {differing} with another output")
         faults += differing + (not blocks)
+        if page == "README.md" and len(text.split()) > MOST_WORDS:
+            faults += 1
+            print(f"README has {len(text.split())} words, and {MOST_WORDS} are the most", file=sys.stderr)
     return 1 if faults else 0
 
 
