@@ -1,9 +1,17 @@
+pub mod BootProcessor
+pub mod DtcEdits
+pub mod DtcPhandles
+pub mod DtcResolved
+pub mod DtcRows
+pub mod DtcStatements
+pub mod DtcSyntax
 pub mod Edits
 pub mod Fixups
 pub mod MapOf
 pub mod Names
 pub mod Paths
 pub mod Phandles
+pub mod Places
 pub mod References
 pub mod Resolved
 pub mod Rows

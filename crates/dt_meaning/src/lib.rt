@@ -3,6 +3,8 @@
 //! The definitions stand in `specs/` and follow the Devicetree Specification v0.4, chapter 6, and dtc's dt-object-internal.
 #![tactic(auto)]
 
+mod dtc_rows;
 mod rows;
 
+pub use dtc_rows::worked_rows_of_dtc;
 pub use rows::worked_rows;
