@@ -15,5 +15,6 @@ pub mod Places
 pub mod References
 pub mod Resolved
 pub mod Rows
+pub mod Seen
 pub mod Statements
 pub mod Syntax

@@ -4,7 +4,9 @@
 #![tactic(auto)]
 
 mod dtc_rows;
+mod laws;
 mod rows;
 
 pub use dtc_rows::worked_rows_of_dtc;
+pub use laws::nodes_at_places;
 pub use rows::worked_rows;
