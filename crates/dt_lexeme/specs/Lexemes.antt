@@ -37,6 +37,10 @@ LeftTo total stop context text (l ∷ ls) =
 unfoldable pub LexemesTo : ℕ → List ℕ → List Lexeme → Type 0
 LexemesTo stop text ls = LeftTo (length text) stop start text ls
 
+-- the text breaks off at this place, behind lexemes
+abbrev pub IsStop : List ℕ → ℕ → Type 0
+IsStop text stop = (before : List Lexeme) × LexemesTo stop text before
+
 -- the text's lexemes, or those before the place where it breaks off
 abbrev pub Scanned : List ℕ → List Lexeme → Option ℕ → Type 0
 Scanned text ls None = Lexemes text ls

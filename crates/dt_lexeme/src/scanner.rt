@@ -4,7 +4,7 @@ ghost use Rattle.dt_lexeme.specs.declared.lexeme.Lexeme.{Lexeme};
 ghost use Rattle.dt_lexeme.specs.declared.lexeme.RefusalKind.TheVariants.{Syntax};
 ghost use Rattle.dt_lexeme.specs.declared.lexeme.ReadError.TheVariants.{Refused};
 ghost use Rattle.dt_lexeme.specs.Families.{Longest, kind_of};
-ghost use Rattle.dt_lexeme.specs.Lexemes.{Lexemes, HasNone, Scanned};
+ghost use Rattle.dt_lexeme.specs.Lexemes.{Lexemes, HasNone, IsStop, Scanned};
 ghost use Rattle.dt_lexeme.specs.Limits.{text_limit};
 ghost use Rattle.dt_lexeme.specs.Order.{OneList, LexemesAreInOrder};
 ghost use Rattle.dt_lexeme.specs.Forms.{LexemesAreLawful};
@@ -61,13 +61,15 @@ pub fn scan_front(alloc: Global, text: &[u8]) -> Result<(Vec<Lexeme>, Option<u32
     }
 }
 
-/// The lexemes of the text, or the place where none stands.
+/// The lexemes of the text, or the place where it breaks off.
 pub fn scan(alloc: Global, text: &[u8]) -> Result<Vec<Lexeme>, ReadError>
     requires { length text.now ≤ text_limit }
     // What is found are the text's lexemes.
     ensures found { IfOk result (λ v. Lexemes text.now v.items) }
     // The text is refused only where it has none.
     ensures only { (r : Refusal) → result ≡ Err (Refused r) → HasNone text.now }
+    // Its place is where the text breaks off.
+    ensures place { (r : Refusal) → result ≡ Err (Refused r) → IsStop text.now r.place }
     ensures syntax { (r : Refusal) → result ≡ Err (Refused r) → r.kind ≡ Syntax }
 {
     match scan_front(alloc, text)? {

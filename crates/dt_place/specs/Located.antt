@@ -1,5 +1,5 @@
 -- What a lexeme names, and where it stands (Devicetree Specification v0.4, section 6.2).
-use Rattle.std.specs.Prelude.{◌≡◌, ℕ, ◌+◌, ◌-◌, ◌<◌, ◌≤◌, List, length, slice_get, slice_range, Some}
+use Rattle.std.specs.Prelude.{◌≡◌, ℕ, ◌+◌, ◌-◌, ◌<◌, ◌≤◌, nat_lt, nat_le, Bool, false, ◌&&◌, List, length, slice_get, slice_range, Option, Some, None}
 use Rattle.dt_lexeme.specs.declared.lexeme.Lexeme.{Lexeme}
 use Rattle.dt_lexeme.specs.declared.lexeme.Kind.{Kind}
 use Rattle.dt_lexeme.specs.declared.lexeme.Kind.TheVariants.{Label, Reference, PathReference}
@@ -24,3 +24,12 @@ pub record IsLocated (text : List ℕ) (lexemes : List Lexeme) (index : ℕ) (he
   pub inside : here.lexeme.end ≤ length text
   pub name : here.name.now ≡ name_in text here.lexeme
   pub site : site_of here.position ≡ site_at text here.lexeme.start
+
+-- the lexeme has bytes, and all of them are the text's
+abbrev pub is_inside : List ℕ → Option Lexeme → Bool
+is_inside text None = false
+is_inside text (Some lexeme) = nat_lt lexeme.start lexeme.end && nat_le lexeme.end (length text)
+
+-- the place is one of the lexeme's
+abbrev pub has_place : ℕ → Lexeme → Bool
+has_place place lexeme = nat_le lexeme.start place && nat_lt place lexeme.end

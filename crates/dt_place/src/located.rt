@@ -1,6 +1,6 @@
 //! Lexemes with what they name and where they came from.
-ghost use Rattle.std.specs.Prelude.{◌≡◌, ◌≤◌, ◌<◌, IfSome, slice_get, slice_range, Some};
-ghost use Rattle.dt_place.specs.Located.{IsLocated, name_in};
+ghost use Rattle.std.specs.Prelude.{◌≡◌, IfSome, is_some, position, slice_get, slice_range};
+ghost use Rattle.dt_place.specs.Located.{IsLocated, has_place, is_inside, name_in};
 
 use crate::position::{Position, position_of};
 use dt_lexeme::{Kind, Lexeme};
@@ -39,9 +39,10 @@ pub fn named<'a>(text: &'a [u8], lexeme: Lexeme) -> &'a [u8]
     }
 }
 
-/// The lexeme with this index, if there is one and it lies inside the text, with what it names and where it came from.
+/// The lexeme with this index, where there is one and it lies inside the text, with what it names and where it came from.
 pub fn locate<'a>(text: &'a [u8], lexemes: &[Lexeme], index: usize) -> Option<LocatedLexeme<'a>>
-    ensures { IfSome result (λ here. IsLocated text.now lexemes.now index here) }
+    ensures there { is_some result ≡ is_inside text.now (slice_get lexemes.now index) }
+    ensures located { IfSome result (λ here. IsLocated text.now lexemes.now index here) }
 {
     if index >= lexemes.len() {
         return None;
@@ -60,14 +61,9 @@ pub fn locate<'a>(text: &'a [u8], lexemes: &[Lexeme], index: usize) -> Option<Lo
     })
 }
 
-/// The index of the lexeme that a place of the text lies in.
+/// The index of the first lexeme that a place of the text lies in, if it lies in one.
 pub fn lexeme_at(lexemes: &[Lexeme], place: usize) -> Option<usize>
-    ensures { IfSome result (λ i. IfSome (slice_get lexemes.now i) (λ l. (l.start ≤ place) × (place < l.end))) }
+    ensures { result ≡ position (has_place place) lexemes.now }
 {
-    for (i, lexeme) in lexemes.iter().enumerate() {
-        if lexeme.start as usize <= place && place < lexeme.end as usize {
-            return Some(i);
-        }
-    }
-    None
+    lexemes.iter().position(|lexeme| lexeme.start as usize <= place && place < lexeme.end as usize)
 }

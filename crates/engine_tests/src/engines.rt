@@ -4,8 +4,9 @@ mod channels;
 mod errors;
 
 use crate::answers::printed;
+use crate::compiling::compiled;
 use bus_tests::replays::{CLOCK_AND_UART, REPLAYS};
-use dtman_engine::{dump_bytes, replay_bytes};
+use dtman_engine::{dump_bytes, overlay_bytes, replay_bytes};
 use std::alloc::Global;
 use std::hash::RandomState;
 use std::process::Abort;
@@ -67,12 +68,53 @@ fn is_dumped(rt: &impl Abort, alloc: Global, blob: &[u8], wanted: &str) {
     assert_eq!(rt; text.as_slice(), wanted.as_bytes());
 }
 
+/// Its text.
+const ONE_CELL_TEXT: &str = "/dts-v1/;\n\n/ {\n\ta = <0x00000001>;\n};\n";
+
 #[test]
 fn dumps_one_cell_and_changed_blobs(rt: HostRuntime) {
-    let wanted = "/dts-v1/;\n\n/ {\n\ta = <0x00000001>;\n};\n";
-    is_dumped(&rt, rt.alloc(), ONE_CELL.as_slice(), wanted);
+    is_dumped(&rt, rt.alloc(), ONE_CELL.as_slice(), ONE_CELL_TEXT);
     is_dumped(&rt, rt.alloc(), &ONE_CELL[..89], "error 30 Truncated");
     let mut changed = ONE_CELL;
     changed[23] = 3;
     is_dumped(&rt, rt.alloc(), changed.as_slice(), "error 32 BadVersion");
+}
+
+/// The same blob in version 16, with no size where version 17 has it.
+fn one_cell_in_16() -> [u8; 90] {
+    let mut blob = ONE_CELL;
+    blob[23] = 16;
+    blob[36] = 0xff;
+    blob[37] = 0xff;
+    blob[38] = 0xff;
+    blob[39] = 0xff;
+    blob
+}
+
+fn is_overlaid(
+    rt: &impl Abort,
+    alloc: Global,
+    hasher: RandomState,
+    base: &[u8],
+    overlay: &[u8],
+    wanted: &[u8],
+) {
+    let answer = overlay_bytes(alloc, hasher, base, overlay);
+    assert_eq!(rt; printed(rt, alloc, answer).as_slice(), wanted);
+}
+
+const NOTHING: &str = "/dts-v1/; / { f { target-path = \"/\"; __overlay__ { }; }; };";
+
+/// Row `version-16`: `dump` and `overlay` take it, and the blob that `overlay` writes is of version 17.
+#[test]
+fn version_16(rt: HostRuntime) {
+    let alloc = rt.alloc();
+    let hasher = RandomState::new(&rt).expect(&rt, "a seed");
+    let blob = one_cell_in_16();
+    let blob = blob.as_slice();
+    is_dumped(&rt, alloc, blob, ONE_CELL_TEXT);
+    let nothing = compiled(&rt, alloc, hasher, NOTHING, false);
+    let nothing = nothing.as_slice();
+    is_overlaid(&rt, alloc, hasher, blob, nothing, ONE_CELL.as_slice());
+    is_overlaid(&rt, alloc, hasher, blob, blob, b"error 40 NotOverlay");
 }

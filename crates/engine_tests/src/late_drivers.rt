@@ -33,6 +33,14 @@ const ROWS: &[Row] = &[
         &[false, true],
     ),
     (
+        "late-driver-refused",
+        LATE,
+        "begin /clk\nfinish /clk settled\ndriver ns other\n",
+        "/clk bound fixed\n/uart unmatched\nquiet\n",
+        "/clk bound fixed\n/uart unmatched\nquiet\n",
+        &[false, false],
+    ),
+    (
         "no driver came",
         LATE,
         "",
@@ -176,7 +184,13 @@ fn runs_go_on(rt: HostRuntime) {
 
 /// What both refuse: the plan, the schedule, and the refusal's line.
 const REFUSED: &[(&str, &str, &str)] = &[
-    // late-driver-refused: a device has a driver of this name, or one of this name came late.
+    // late-driver-refused
+    (
+        LATE,
+        "begin /clk\nfinish /clk settled\ndriver fixed x\n",
+        "error 67 KnownDriver event 3",
+    ),
+    // A device has a driver of this name, or one of this name came late.
     (
         LATE,
         "begin /clk\ndriver fixed ns16550a\n",

@@ -11,6 +11,8 @@ mod compiling;
 #[cfg(test)]
 mod engines;
 #[cfg(test)]
+mod great_board;
+#[cfg(test)]
 mod late_drivers;
 #[cfg(test)]
 mod long_values;
