@@ -116,6 +116,12 @@ module _ (plan : List PlannedDevice) (bound : ℕ → Bool) (device : ℕ) (plac
       first = λ _. first_next;
     }
 
+    pub placed_after : (places' : List (Option ℕ)) (chain' : List ℕ) → places' ≡ placed_next → chain' ≡ longer → IsPlaced plan bound device places' chain'
+    placed_after places' chain' p c = coe 1 0 (i. IsPlaced plan bound device (p i) (c i)) placed_longer
+
+    pub last_after : (chain' : List ℕ) → chain' ≡ longer → (length chain' ≡ length chain + 1) × (get_or chain' (length chain) 0 ≡ next)
+    last_after chain' c = (ap length c ∙ count, ap (λ xs. get_or xs (length chain) 0) c ∙ last_is)
+
     -- the place of one more is taken
     pub fewer_free : count_by is_none placed_next < count_by is_none places
     fewer_free =
@@ -129,7 +135,6 @@ module _ (plan : List PlannedDevice) (bound : ℕ → Bool) (device : ℕ) (plac
 -- a chain with all places ends at what its last device is
 module _ (plan : List PlannedDevice) (bound : ℕ → Bool) (device : ℕ) (places : List (Option ℕ)) (chain : List ℕ) (n last : ℕ)
     (placed : IsPlaced plan bound device places chain) (long : length chain ≡ n + 1) (is_last : get_or chain n 0 ≡ last) where
-
   apart : (i j : ℕ) → i < j → j < length chain → get_or chain i 0 ≢ get_or chain j 0
   apart i j less below same =
       let two : Some i ≡ Some j = sym (placed.all i (omega arith)) ∙ ap (λ x. place_of places x) same ∙ placed.all j below
@@ -216,9 +221,9 @@ module _ (plan : List PlannedDevice) (bound : ℕ → Bool) (device : ℕ) (plac
 pub cleared : (j : ℕ) (places : List (Option ℕ)) (chain : List ℕ) (x : ℕ) → get_or chain j 0 ≡ x → AreFrom j places chain → AreFrom (j + 1) (set places x None) chain
 cleared j places chain x at from d i is = elim (cases_eq d x) [
   | inl same ↦ elim (cases_lt x (length places)) [
-      | inl within ↦ absurd (none_some (sym (get_or-set_same places x None None within) ∙ ap (λ y. place_of (set places x None) y) (sym same) ∙ is))
-      | inr past ↦ absurd (none_some (sym (get_or_past (set places x None) d None (omega (arith, length-set places x None))) ∙ is))
-    ]
+    | inl within ↦ absurd (none_some (sym (get_or-set_same places x None None within) ∙ ap (λ y. place_of (set places x None) y) (sym same) ∙ is))
+    | inr past ↦ absurd (none_some (sym (get_or_past (set places x None) d None (omega (arith, length-set places x None))) ∙ is))
+  ]
   | inr other ↦
       let found : (j ≤ i) × (i < length chain) × (get_or chain i 0 ≡ d) = from d i (sym (get_or-set_other places x d None None other) ∙ is)
       in let least : j ≤ i = found.0
@@ -231,8 +236,8 @@ cleared_past j places chain x at past from d i is =
     let found : (j ≤ i) × (i < length chain) × (get_or chain i 0 ≡ d) = from d i is
     in let least : j ≤ i = found.0
     in let apart : i ≢ j = λ e.
-      let same : d ≡ x = sym found.2 ∙ ap (λ k. get_or chain k 0) e ∙ at
-      in none_some (sym (get_or_past places d None (omega arith)) ∙ is)
+    let same : d ≡ x = sym found.2 ∙ ap (λ k. get_or chain k 0) e ∙ at
+    in none_some (sym (get_or_past places d None (omega arith)) ∙ is)
     in (omega arith, found.1, found.2)
 
 pub all_clear : (j : ℕ) (places : List (Option ℕ)) (chain : List ℕ) → length chain ≤ j → AreFrom j places chain → AreClear places
@@ -245,3 +250,7 @@ all_clear j places chain all from d = at (place_of places d) refl
         in let least : j ≤ i = found.0
         in let below : i < length chain = found.1
         in absurd (omega arith)
+
+pub none_by : (o : Option ℕ) → ((x : ℕ) → o ≡ Some x → ⊥) → o ≡ None
+none_by None other = refl
+none_by (Some x) other = absurd (other x refl)

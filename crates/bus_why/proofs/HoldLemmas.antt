@@ -1,4 +1,4 @@
--- A device is ready exactly where no supplier is missing.
+-- A device is ready exactly where absent supplier is missing.
 use Rattle.std.proofs.Common.{◌≡◌, ℕ, ◌+◌, ◌<◌, Bool, true, false, not, ◌&&◌, List, [], ◌∷◌, Option, Some, None, length, cond, refl, sym, ap, ◌∙◌, arith}
 use Rattle.std.specs.Prelude.{find, is_none}
 use Rattle.std.specs.List.{list_all}
@@ -21,28 +21,28 @@ none_missing bound (x ∷ xs) = at (bound x) (none_missing bound xs)
 
 module _ (plan : List PlannedDevice) (bound : ℕ → Bool) (d : ℕ) where
   pub is_disabled : is_available plan d ≡ false → end_status plan bound d ≡ status.Disabled
-  is_disabled no = ap (λ a. cond (not a) status.Disabled (cond (not (is_matched plan d)) status.Unmatched (cond (bound d) status.Bound (cond (is_ready plan bound d) status.Failed status.Waiting)))) no
+  is_disabled absent = ap (λ a. cond (not a) status.Disabled (cond (not (is_matched plan d)) status.Unmatched (cond (bound d) status.Bound (cond (is_ready plan bound d) status.Failed status.Waiting)))) absent
 
   pub is_unmatched : is_available plan d ≡ true → is_matched plan d ≡ false → end_status plan bound d ≡ status.Unmatched
-  is_unmatched yes no =
-      ap (λ a. cond (not a) status.Disabled (cond (not (is_matched plan d)) status.Unmatched (cond (bound d) status.Bound (cond (is_ready plan bound d) status.Failed status.Waiting)))) yes
-      ∙ ap (λ m. cond (not m) status.Unmatched (cond (bound d) status.Bound (cond (is_ready plan bound d) status.Failed status.Waiting))) no
+  is_unmatched there absent =
+      ap (λ a. cond (not a) status.Disabled (cond (not (is_matched plan d)) status.Unmatched (cond (bound d) status.Bound (cond (is_ready plan bound d) status.Failed status.Waiting)))) there
+      ∙ ap (λ m. cond (not m) status.Unmatched (cond (bound d) status.Bound (cond (is_ready plan bound d) status.Failed status.Waiting))) absent
 
   by_bound : is_available plan d ≡ true → is_matched plan d ≡ true → end_status plan bound d ≡ cond (bound d) status.Bound (cond (is_ready plan bound d) status.Failed status.Waiting)
-  by_bound yes matched =
-      ap (λ a. cond (not a) status.Disabled (cond (not (is_matched plan d)) status.Unmatched (cond (bound d) status.Bound (cond (is_ready plan bound d) status.Failed status.Waiting)))) yes
+  by_bound there matched =
+      ap (λ a. cond (not a) status.Disabled (cond (not (is_matched plan d)) status.Unmatched (cond (bound d) status.Bound (cond (is_ready plan bound d) status.Failed status.Waiting)))) there
       ∙ ap (λ m. cond (not m) status.Unmatched (cond (bound d) status.Bound (cond (is_ready plan bound d) status.Failed status.Waiting))) matched
 
   pub is_bound : is_available plan d ≡ true → is_matched plan d ≡ true → bound d ≡ true → end_status plan bound d ≡ status.Bound
-  is_bound yes matched was = by_bound yes matched ∙ ap (λ b. cond b status.Bound (cond (is_ready plan bound d) status.Failed status.Waiting)) was
+  is_bound there matched was = by_bound there matched ∙ ap (λ b. cond b status.Bound (cond (is_ready plan bound d) status.Failed status.Waiting)) was
 
   ready : (r : Bool) → is_matched plan d ≡ true → list_all bound (suppliers_of plan d) ≡ r → is_ready plan bound d ≡ r
   ready r matched all = ap (λ m. m && list_all bound (suppliers_of plan d)) matched ∙ all
 
   by_missing : (o : Option ℕ) → is_available plan d ≡ true → is_matched plan d ≡ true → bound d ≡ false → missing_supplier plan bound d ≡ o
       → end_status plan bound d ≡ cond (is_none o) status.Failed status.Waiting
-  by_missing o yes matched not_bound missing =
-      by_bound yes matched ∙ ap (λ b. cond b status.Bound (cond (is_ready plan bound d) status.Failed status.Waiting)) not_bound
+  by_missing o there matched not_bound missing =
+      by_bound there matched ∙ ap (λ b. cond b status.Bound (cond (is_ready plan bound d) status.Failed status.Waiting)) not_bound
       ∙ ap (λ r. cond r status.Failed status.Waiting) (ready (is_none o) matched (sym (none_missing bound (suppliers_of plan d)) ∙ ap (λ m. is_none m) missing))
 
   pub has_failed : is_available plan d ≡ true → is_matched plan d ≡ true → bound d ≡ false → missing_supplier plan bound d ≡ None → end_status plan bound d ≡ status.Failed

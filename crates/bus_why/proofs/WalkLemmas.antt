@@ -1,31 +1,31 @@
 -- Each step of a walk leaves it sound, and a walk that is back has the order.
-use Rattle.std.proofs.Common.{◌≡◌, ◌≢◌, ◌⊎◌, inl, inr, ℕ, zero, suc, ◌+◌, ◌-◌, ◌<◌, ◌≤◌, Bool, true, false, List, [], ◌∷◌, ◌++◌, length, get_or, set, take, cond, refl, sym, ap, ◌∙◌, subst, true≢false, arith, length-set, length-append, replicate, length-replicate}
+use Rattle.std.proofs.Common.{◌≡◌, ◌≢◌, ◌⊎◌, inl, inr, ℕ, zero, suc, ◌+◌, ◌-◌, ◌<◌, ◌≤◌, Bool, true, false, List, [], ◌∷◌, ◌++◌, length, get_or, set, take, cond, refl, sym, ap, ◌∙◌, subst, true≢false, arith, length-set, length-append}
 use Rattle.std.specs.Prelude.{All, ◌==◌}
 use Rattle.std.proofs.lemmas.Bool.{cases_eq, cases_lt, cases_Bool}
-use Rattle.std.proofs.lemmas.List.{get_or-set_same, get_or-set_other, get_or_append_left, get_or_push, take_at, take-append-le, get_or_default, get_or_past, get_or-replicate}
+use Rattle.std.proofs.lemmas.List.{get_or-set_same, get_or-set_other, get_or_append_left, get_or_push, take_at, take-append-le, get_or_default, get_or_past}
 use Rattle.bus_plan.specs.Plan.{PlannedDevice, suppliers_of}
 use Rattle.bus_why.specs.Takes.{Takes, HasSuppliers}
 use Rattle.bus_why.specs.Order.{times, AreBehindSuppliers, IsOrderFor}
 use Rattle.bus_why.specs.Private.Walk.{IsSound, IsFrom, ungone}
-use Rattle.bus_why.proofs.TimesLemmas.{here, apart, times_push, times_push_here, times_push_apart, times_none, place_of_times, times_of_place}
+use Rattle.bus_why.proofs.TimesLemmas.{bit, times_push, times_push_here, times_push_apart, times_none, place_of_times, times_of_place}
 
 -- a device takes the suppliers of what it takes
 pub takes_supplier : (plan : List PlannedDevice) (device d k : ℕ) → Takes plan device d → k < length (suppliers_of plan d) → Takes plan device (get_or (suppliers_of plan d) k 0)
 takes_supplier plan device d k taken within set has closed = closed d (taken set has closed) k 0 within
 
-one_from_true : (b : Bool) → b ≡ true → cond b 1 0 ≡ 1
-one_from_true b yes = ap (λ b. cond b 1 0) yes
+one_from_true : (b : Bool) → b ≡ true → bit b ≡ 1
+one_from_true b is = ap bit is
 
-true_from_some : (b : Bool) → 0 < cond b 1 0 → b ≡ true
+true_from_some : (b : Bool) → 0 < bit b → b ≡ true
 true_from_some true some = refl
 true_from_some false some = absurd (omega arith)
 
 kept : (entered : List Bool) (s d : ℕ) → get_or entered d false ≡ true → get_or (set entered s true) d false ≡ true
 kept entered s d was = elim (cases_eq d s) [
   | inl same ↦ elim (cases_lt s (length entered)) [
-      | inl within ↦ ap (λ x. get_or (set entered s true) x false) same ∙ get_or-set_same entered s true false within
-      | inr past ↦ absurd (true≢false (sym was ∙ get_or_past entered d false (omega arith)))
-    ]
+    | inl within ↦ ap (λ x. get_or (set entered s true) x false) same ∙ get_or-set_same entered s true false within
+    | inr past ↦ absurd (true≢false (sym was ∙ get_or_past entered d false (omega arith)))
+  ]
   | inr other ↦ get_or-set_other entered s d true false other ∙ was
 ]
 
@@ -35,13 +35,12 @@ pub on_path : (plan : List PlannedDevice) (entered : List Bool) (gone path left 
 on_path plan entered gone path left sound i within =
     let d : ℕ = get_or path i 0
     in let some : 0 < times d path = times_of_place path i within
-    in let placed : times d left + times d path ≡ cond (get_or entered d false) 1 0 = sound.placed d
+    in let placed : times d left + times d path ≡ bit (get_or entered d false) = sound.placed d
     in true_from_some (get_or entered d false) (omega arith)
 
 module _ (plan : List PlannedDevice) (entered : List Bool) (gone path left : List ℕ) (sound : IsSound plan entered gone path left)
     (n d k s : ℕ) (long : length path ≡ n + 1) (top : get_or path n 0 ≡ d) (known : d < length plan)
     (here : get_or gone d 0 ≡ k) (more : k < length (suppliers_of plan d)) (at : get_or (suppliers_of plan d) k 0 ≡ s) where
-
   went_on : (after : List Bool) → ((x : ℕ) → get_or entered x false ≡ true → get_or after x false ≡ true) → get_or after s false ≡ true
       → (x j : ℕ) → j < get_or (set gone d (get_or gone d 0 + 1)) x 0 → get_or after (get_or (suppliers_of plan x) j 0) false ≡ true
   went_on after stays new x j below = elim (cases_eq x d) [
@@ -64,7 +63,7 @@ module _ (plan : List PlannedDevice) (entered : List Bool) (gone path left : Lis
     gone_long = length-set gone d (get_or gone d 0 + 1) ∙ sound.gone_long;
     placed = sound.placed;
     above = sound.above;
-    went = went_on entered (λ x yes. yes) was;
+    went = went_on entered (λ x is. is) was;
     followed = sound.followed;
     behind = sound.behind;
   }
@@ -84,17 +83,17 @@ module _ (plan : List PlannedDevice) (entered : List Bool) (gone path left : Lis
       marked : get_or (set entered s true) s false ≡ true
       marked = get_or-set_same entered s true false (omega (arith, sound.entered_long))
 
-      placed : (x : ℕ) → times x left + times x (path ++ s ∷ []) ≡ cond (get_or (set entered s true) x false) 1 0
+      placed : (x : ℕ) → times x left + times x (path ++ s ∷ []) ≡ bit (get_or (set entered s true) x false)
       placed x = elim (cases_eq x s) [
         | inl same ↦
-            let before : times x left + times x path ≡ cond (get_or entered x false) 1 0 = sound.placed x
-            in let none : cond (get_or entered x false) 1 0 ≡ 0 = ap (λ y. cond (get_or entered y false) 1 0) same ∙ ap (λ b. cond b 1 0) fresh
-            in let one : cond (get_or (set entered s true) x false) 1 0 ≡ 1 = ap (λ y. cond (get_or (set entered s true) y false) 1 0) same ∙ one_from_true (get_or (set entered s true) s false) marked
+            let before : times x left + times x path ≡ bit (get_or entered x false) = sound.placed x
+            in let none : bit (get_or entered x false) ≡ 0 = ap (λ y. bit (get_or entered y false)) same ∙ ap bit fresh
+            in let one : bit (get_or (set entered s true) x false) ≡ 1 = ap (λ y. bit (get_or (set entered s true) y false)) same ∙ one_from_true (get_or (set entered s true) s false) marked
             in let pushed : times x (path ++ s ∷ []) ≡ times x path + 1 = times_push_here x path s (sym same)
             in omega arith
         | inr other ↦
-            let before : times x left + times x path ≡ cond (get_or entered x false) 1 0 = sound.placed x
-            in let same : cond (get_or (set entered s true) x false) 1 0 ≡ cond (get_or entered x false) 1 0 = ap (λ b. cond b 1 0) (get_or-set_other entered s x true false other)
+            let before : times x left + times x path ≡ bit (get_or entered x false) = sound.placed x
+            in let same : bit (get_or (set entered s true) x false) ≡ bit (get_or entered x false) = ap bit (get_or-set_other entered s x true false other)
             in let pushed : times x (path ++ s ∷ []) ≡ times x path = times_push_apart x path s (λ e. other (sym e))
             in omega arith
       ]
@@ -141,7 +140,6 @@ module _ (plan : List PlannedDevice) (entered : List Bool) (gone path left : Lis
 -- back from a device to whose suppliers the walk went
 module _ (plan : List PlannedDevice) (entered : List Bool) (gone rest left : List ℕ) (d : ℕ)
     (sound : IsSound plan entered gone (rest ++ d ∷ []) left) (all : length (suppliers_of plan d) ≤ get_or gone d 0) where
-
   went_all : All (λ s. get_or entered s false ≡ true) (suppliers_of plan d)
   went_all j e below =
       subst (λ s. get_or entered s false ≡ true) (get_or_default (suppliers_of plan d) j 0 e below) (sound.went d j (omega arith))
@@ -175,11 +173,11 @@ module _ (plan : List PlannedDevice) (entered : List Bool) (gone rest left : Lis
     behind = behind;
   }
     where
-      placed : (x : ℕ) → times x (left ++ d ∷ []) + times x rest ≡ cond (get_or entered x false) 1 0
+      placed : (x : ℕ) → times x (left ++ d ∷ []) + times x rest ≡ bit (get_or entered x false)
       placed x =
-          let before : times x left + times x (rest ++ d ∷ []) ≡ cond (get_or entered x false) 1 0 = sound.placed x
-          in let one : times x (left ++ d ∷ []) ≡ times x left + cond (d == x) 1 0 = times_push x left d
-          in let other : times x (rest ++ d ∷ []) ≡ times x rest + cond (d == x) 1 0 = times_push x rest d
+          let before : times x left + times x (rest ++ d ∷ []) ≡ bit (get_or entered x false) = sound.placed x
+          in let one : times x (left ++ d ∷ []) ≡ times x left + bit (d == x) = times_push x left d
+          in let other : times x (rest ++ d ∷ []) ≡ times x rest + bit (d == x) = times_push x rest d
           in omega arith
 
       above : (i j : ℕ) → i ≤ j → j < length rest → Takes plan (get_or rest i 0) (get_or rest j 0)
@@ -233,66 +231,78 @@ ungone_less (p ∷ ps) (n ∷ ns) (suc d) long known more =
     in let less : ((length p.suppliers - n) + ungone ps (set ns d (get_or ns d 0 + 1))) + 1 ≡ (length p.suppliers - n) + ungone ps ns = omega arith
     in less
 
--- a walk at its first device
-module _ (plan : List PlannedDevice) (device : ℕ) (known : device < length plan) where
-  abbrev fresh : List Bool
-  fresh = replicate (length plan) false
+-- a device on the path is the plan's
+pub known_on_path : (plan : List PlannedDevice) (entered : List Bool) (gone path left : List ℕ) → IsSound plan entered gone path left
+    → (i : ℕ) → i < length path → get_or path i 0 < length plan
+known_on_path plan entered gone path left sound i within = elim (cases_lt (get_or path i 0) (length plan)) [
+  | inl known ↦ known
+  | inr past ↦
+      let was : get_or entered (get_or path i 0) false ≡ true = on_path plan entered gone path left sound i within
+      in absurd (true≢false (sym was ∙ get_or_past entered (get_or path i 0) false (omega (arith, sound.entered_long))))
+]
 
-  not_fresh : (x : ℕ) → get_or fresh x false ≡ false
-  not_fresh x = elim (cases_lt x (length plan)) [
-    | inl within ↦ get_or-replicate (length plan) x false false within
-    | inr past ↦ get_or_past fresh x false (omega (arith, length-replicate (length plan) false))
-  ]
-
-  never_gone : (x : ℕ) → get_or (replicate (length plan) 0) x 0 ≡ 0
-  never_gone x = elim (cases_lt x (length plan)) [
-    | inl within ↦ get_or-replicate (length plan) x 0 0 within
-    | inr past ↦ get_or_past (replicate (length plan) 0) x 0 (omega (arith, length-replicate (length plan) 0))
-  ]
-
-  only : (x : ℕ) → get_or (set fresh device true) x false ≡ true → x ≡ device
-  only x was = elim (cases_eq x device) [
-    | inl same ↦ same
-    | inr other ↦ absurd (true≢false (sym was ∙ get_or-set_other fresh device x true false other ∙ not_fresh x))
-  ]
-
-  began : get_or (set fresh device true) device false ≡ true
-  began = get_or-set_same fresh device true false (omega (arith, length-replicate (length plan) false))
-
-  pub sound_first : IsSound plan (set fresh device true) (replicate (length plan) 0) (device ∷ []) []
-  sound_first = record {
-    entered_long = length-set fresh device true ∙ length-replicate (length plan) false;
-    gone_long = length-replicate (length plan) 0;
-    placed = placed;
-    above = λ i j le below.
-        let from : i ≡ 0 = omega arith
-        in let to : j ≡ 0 = omega arith
-        in let itself : Takes plan device device = λ set has closed. has
-        in coe 1 0 (n. Takes plan (get_or (device ∷ []) (from n) 0) (get_or (device ∷ []) (to n) 0)) itself;
-    went = λ x j below. absurd (omega (arith, never_gone x));
-    followed = λ x some. absurd (omega arith);
-    behind = λ i below. absurd (omega arith);
-  }
+-- ---- the steps as the code takes them
+module _ (plan : List PlannedDevice) (entered : List Bool) (gone path left : List ℕ) (sound : IsSound plan entered gone path left)
+    (n d k s : ℕ) (long : length path ≡ n + 1) (top : get_or path n 0 ≡ d) (known : d < length plan)
+    (here : get_or gone d 0 ≡ k) (more : k < length (suppliers_of plan d)) (at : get_or (suppliers_of plan d) k 0 ≡ s) (within : s < length plan)
+    (entered' : List Bool) (gone' path' left' : List ℕ)
+    (g : gone' ≡ set gone d (get_or gone d 0 + 1)) (l : left' ≡ left)
+    (e : entered' ≡ cond (get_or entered s false) entered (set entered s true))
+    (p : path' ≡ cond (get_or entered s false) path (path ++ s ∷ [])) where
+  pub gone_sound : IsSound plan entered' gone' path' left'
+  gone_sound = by_test (get_or entered s false) refl
     where
-      placed : (x : ℕ) → 0 + (cond (device == x) 1 0 + 0) ≡ cond (get_or (set fresh device true) x false) 1 0
-      placed x = elim (cases_eq device x) [
-        | inl same ↦
-            let one : cond (get_or (set fresh device true) x false) 1 0 ≡ 1 = ap (λ y. cond (get_or (set fresh device true) y false) 1 0) (sym same) ∙ one_from_true (get_or (set fresh device true) device false) began
-            in let stands : cond (device == x) 1 0 ≡ 1 = here device x same
-            in omega arith
-        | inr other ↦
-            let none : cond (get_or (set fresh device true) x false) 1 0 ≡ 0 = ap (λ b. cond b 1 0) (get_or-set_other fresh device x true false (λ e. other (sym e)) ∙ not_fresh x)
-            in let stands : cond (device == x) 1 0 ≡ 0 = apart device x other
-            in omega arith
-      ]
+      by_test : (b : Bool) → get_or entered s false ≡ b → IsSound plan entered' gone' path' left'
+      by_test true was =
+          let e' : entered' ≡ entered = e ∙ ap (λ b. cond b entered (set entered s true)) was
+          in let p' : path' ≡ path = p ∙ ap (λ b. cond b path (path ++ s ∷ [])) was
+          in coe 1 0 (i. IsSound plan (e' i) (g i) (p' i) (l i)) (sound_again plan entered gone path left sound n d k s long top known here more at was)
+      by_test false fresh =
+          let e' : entered' ≡ set entered s true = e ∙ ap (λ b. cond b entered (set entered s true)) fresh
+          in let p' : path' ≡ path ++ s ∷ [] = p ∙ ap (λ b. cond b path (path ++ s ∷ [])) fresh
+          in coe 1 0 (i. IsSound plan (e' i) (g i) (p' i) (l i)) (sound_enter plan entered gone path left sound n d k s long top known here more at fresh within)
 
-  pub from_first : IsFrom plan device (set fresh device true) (device ∷ []) []
-  from_first = record {
-    began = began;
-    taken = λ x was. let itself : Takes plan device device = λ set has closed. has in subst (λ y. Takes plan device y) (sym (only x was)) itself;
-    first = λ _. refl;
-    last = λ empty. absurd (omega arith);
-  }
+  pub gone_from : (device : ℕ) → IsFrom plan device entered path left → IsFrom plan device entered' path' left'
+  gone_from device from = by_test (get_or entered s false) refl
+    where
+      by_test : (b : Bool) → get_or entered s false ≡ b → IsFrom plan device entered' path' left'
+      by_test true was =
+          let e' : entered' ≡ entered = e ∙ ap (λ b. cond b entered (set entered s true)) was
+          in let p' : path' ≡ path = p ∙ ap (λ b. cond b path (path ++ s ∷ [])) was
+          in coe 1 0 (i. IsFrom plan device (e' i) (p' i) (l i)) from
+      by_test false fresh =
+          let e' : entered' ≡ set entered s true = e ∙ ap (λ b. cond b entered (set entered s true)) fresh
+          in let p' : path' ≡ path ++ s ∷ [] = p ∙ ap (λ b. cond b path (path ++ s ∷ [])) fresh
+          in coe 1 0 (i. IsFrom plan device (e' i) (p' i) (l i)) (from_enter plan entered gone path left sound n d k s long top known here more at device within from)
+
+  pub gone_fewer : (ungone plan gone' + ungone plan gone') + length path' < (ungone plan gone + ungone plan gone) + length path
+  gone_fewer =
+      let less : ungone plan (set gone d (get_or gone d 0 + 1)) + 1 ≡ ungone plan gone = ungone_less plan gone d sound.gone_long known (omega arith)
+      in let same : ungone plan gone' ≡ ungone plan (set gone d (get_or gone d 0 + 1)) = ap (ungone plan) g
+      in by_test (get_or entered s false) refl less same
+    where
+      by_test : (b : Bool) → get_or entered s false ≡ b → ungone plan (set gone d (get_or gone d 0 + 1)) + 1 ≡ ungone plan gone → ungone plan gone' ≡ ungone plan (set gone d (get_or gone d 0 + 1))
+          → (ungone plan gone' + ungone plan gone') + length path' < (ungone plan gone + ungone plan gone) + length path
+      by_test true was less same =
+          let p' : length path' ≡ length path = ap length (p ∙ ap (λ b. cond b path (path ++ s ∷ [])) was)
+          in omega arith
+      by_test false fresh less same =
+          let p' : length path' ≡ length path + 1 = ap length (p ∙ ap (λ b. cond b path (path ++ s ∷ [])) fresh) ∙ length-append path (s ∷ [])
+          in omega arith
+
+module _ (plan : List PlannedDevice) (entered : List Bool) (gone path left : List ℕ) (sound : IsSound plan entered gone path left) (d : ℕ)
+    (all : length (suppliers_of plan d) ≤ get_or gone d 0)
+    (entered' : List Bool) (gone' path' left' : List ℕ)
+    (g : gone' ≡ gone) (l : left' ≡ left ++ d ∷ []) (e : entered' ≡ entered) (p : path ≡ path' ++ d ∷ []) where
+  left_before : IsSound plan entered gone (path' ++ d ∷ []) left
+  left_before = subst (λ x. IsSound plan entered gone x left) p sound
+
+  pub left_sound : IsSound plan entered' gone' path' left'
+  left_sound = coe 1 0 (i. IsSound plan (e i) (g i) path' (l i)) (sound_leave plan entered gone path' left d left_before all)
+
+  pub left_from : (device : ℕ) → IsFrom plan device entered path left → IsFrom plan device entered' path' left'
+  left_from device from =
+      coe 1 0 (i. IsFrom plan device (e i) path' (l i)) (from_leave plan entered gone path' left d left_before all device (subst (λ x. IsFrom plan device entered x left) p from))
 
 -- a walk that is back has the order
 pub order_of : (plan : List PlannedDevice) (device : ℕ) (entered : List Bool) (gone path left : List ℕ)
@@ -304,9 +314,9 @@ order_of plan device entered gone path left sound from empty = record {
   last = from.last empty;
 }
   where
-    all_left : (x : ℕ) → times x left ≡ cond (get_or entered x false) 1 0
+    all_left : (x : ℕ) → times x left ≡ bit (get_or entered x false)
     all_left x =
-        let placed : times x left + times x path ≡ cond (get_or entered x false) 1 0 = sound.placed x
+        let placed : times x left + times x path ≡ bit (get_or entered x false) = sound.placed x
         in let none : times x path ≡ 0 = times_none x path empty
         in omega arith
 
@@ -320,6 +330,6 @@ order_of plan device entered gone path left sound from empty = record {
 
     once : (x : ℕ) → times x left < 2
     once x = elim (cases_Bool (get_or entered x false)) [
-      | inl yes ↦ omega (arith, all_left x, ap (λ b. cond b 1 0) yes)
-      | inr no ↦ omega (arith, all_left x, ap (λ b. cond b 1 0) no)
+      | inl is ↦ omega (arith, all_left x, ap bit is)
+      | inr is ↦ omega (arith, all_left x, ap bit is)
     ]

@@ -1,6 +1,6 @@
 //! What it takes to bind a device.
 
-ghost use Rattle.std.specs.Prelude.{◌<◌, length, IfOk, OnOk};
+ghost use Rattle.std.specs.Prelude.{◌≡◌, ◌<◌, ℕ, length, IfOk, OnOk};
 ghost use Rattle.bus_why.specs.Order.{IsOrderFor};
 ghost use Rattle.bus_why.specs.Private.Walk.{IsSoundWalk, IsWalkFrom};
 

@@ -1,6 +1,6 @@
 //! A walk from a device to its suppliers.
 
-ghost use Rattle.std.specs.Prelude.{◌≡◌, ◌<◌, ◌++◌, ◌∷◌, [], ℕ, true, false, length, slice_index, IfOk, OnOk};
+ghost use Rattle.std.specs.Prelude.{◌≡◌, ◌<◌, ◌+◌, ◌-◌, ◌^◌, ℕ, true, false, length, slice_index, IfOk, OnOk};
 ghost use Rattle.bus_plan.specs.Plan.{suppliers_of};
 ghost use Rattle.bus_why.specs.Private.Walk.{IsSoundWalk, IsWalkFrom, IsGone, IsLeft, steps_left};
 

@@ -37,6 +37,25 @@ fn add_chain(
     }
 }
 
+// Adds the chain of each device that waits.
+fn add_chains(
+    alloc: Global,
+    plan: &Plan,
+    bound: &[bool],
+    places: &mut [Option<usize>],
+    chains: &mut Vec<Chain>,
+) -> Result<(), AllocError>
+    requires long { length places.old ≡ length plan.now }
+    requires clear { AreClear places.old }
+    requires none { chains.old.items ≡ [] }
+    ensures { OnOk result (AreChains plan.now (bound_by bound.now) chains.new.items) }
+{
+    for place in 0..plan.len() {
+        add_chain(alloc, plan, bound, places, chains, Device::new(place))?;
+    }
+    Ok(())
+}
+
 /// The chain of each device that waits, in the plan's order: the devices that are neither bound nor failed, disabled or without a
 /// driver. `bound` says which devices are bound, in the plan's order. The time is that of the plan and of the chains.
 pub fn waiting_chains(alloc: Global, plan: &Plan, bound: &[bool]) -> Result<Vec<Chain>, AllocError>
@@ -44,15 +63,6 @@ pub fn waiting_chains(alloc: Global, plan: &Plan, bound: &[bool]) -> Result<Vec<
 {
     let mut places = vec![in alloc; None; plan.len()]?;
     let mut chains = Vec::new(alloc);
-    for place in 0..plan.len() {
-        add_chain(
-            alloc,
-            plan,
-            bound,
-            &mut places,
-            &mut chains,
-            Device::new(place),
-        )?;
-    }
+    add_chains(alloc, plan, bound, &mut places, &mut chains)?;
     Ok(chains)
 }

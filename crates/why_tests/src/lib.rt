@@ -3,6 +3,8 @@
 #![tactic(auto)]
 
 #[cfg(test)]
+mod boot_logs;
+#[cfg(test)]
 mod chains;
 #[cfg(test)]
 mod modules;
