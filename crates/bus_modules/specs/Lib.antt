@@ -1,0 +1,3 @@
+pub mod Alias
+pub mod Said
+pub mod ModuleDrivers

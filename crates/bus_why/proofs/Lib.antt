@@ -1,0 +1,5 @@
+pub mod TimesLemmas
+mod WalkLemmas
+mod HoldLemmas
+mod FollowLemmas
+mod ListedLemmas

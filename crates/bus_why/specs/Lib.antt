@@ -1,0 +1,4 @@
+pub mod Takes
+pub mod Order
+pub mod Chain
+pub mod Private

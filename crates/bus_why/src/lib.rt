@@ -1,0 +1,13 @@
+//! Why a device of a plan waits, and what it takes to bind it.
+#![tactic(auto)]
+
+mod chain;
+mod hold;
+mod needing;
+mod walk;
+mod why;
+
+pub use chain::{Chain, chain_from};
+pub use hold::Cause;
+pub use needing::needs;
+pub use why::waiting_chains;
