@@ -11,6 +11,14 @@ pub enum Format {
     Dtb,
 }
 
+/// What is asked of the output.
+#[derive(Clone, Copy, Debug, PartialEq, Eq)]
+pub enum Output {
+    Holds(Format),
+    /// Nothing is written: the input is looked at alone (`-O null`).
+    Nothing,
+}
+
 /// The room that a blob is given behind what it needs.
 #[derive(Clone, Copy, Debug)]
 pub struct Room {
@@ -30,7 +38,7 @@ pub struct Options<'a> {
     pub input: &'a str,
     pub output: &'a str,
     pub from: Option<Format>,
-    pub to: Option<Format>,
+    pub to: Option<Output>,
     pub dependencies: Option<&'a str>,
     /// Where files are looked for (`-i`), in order.
     pub folders: Vec<&'a str>,
@@ -57,12 +65,16 @@ pub enum BadWord<'a> {
     Unknown(&'a str),
     /// An option of dtc that this program doesn't have.
     Missing(&'a str),
+    /// What follows the option is something that dtc takes and this program doesn't.
+    MissingArgument(&'a str, &'a str),
     /// An option without what must follow it.
     NoArgument(&'a str),
     /// What follows the option is nothing that it takes.
     BadArgument(&'a str, &'a str),
     /// A second input.
     Extra(&'a str),
+    /// Nothing is there to be applied.
+    NoOverlay,
     /// Two options that exclude each other.
     Both(&'a str, &'a str),
 }
@@ -86,6 +98,8 @@ enum Letter {
     From,
     Output,
     To,
+    Layout,
+    Phandles,
     Dependencies,
     Reserve,
     Space,
@@ -117,6 +131,8 @@ fn short(letter: u8) -> Option<Letter> {
         b'I' => Some(Letter::From),
         b'o' => Some(Letter::Output),
         b'O' => Some(Letter::To),
+        b'V' => Some(Letter::Layout),
+        b'H' => Some(Letter::Phandles),
         b'd' => Some(Letter::Dependencies),
         b'R' => Some(Letter::Reserve),
         b'S' => Some(Letter::Space),
@@ -140,6 +156,8 @@ fn long(name: &str) -> Option<Letter> {
         "in-format" => Some(Letter::From),
         "out" => Some(Letter::Output),
         "out-format" => Some(Letter::To),
+        "out-version" => Some(Letter::Layout),
+        "phandle" => Some(Letter::Phandles),
         "out-dependency" => Some(Letter::Dependencies),
         "reserve" => Some(Letter::Reserve),
         "space" => Some(Letter::Space),
@@ -272,16 +290,7 @@ fn read_long<'a>(
 /// An option that dtc has and this program doesn't, or none at all.
 fn not_there<'a>(word: &'a str, name: &str) -> BadWord<'a> {
     match name {
-        "out-version"
-        | "phandle"
-        | "sort"
-        | "auto-alias"
-        | "annotate"
-        | "V"
-        | "H"
-        | "s"
-        | "A"
-        | "T" => BadWord::Missing(word),
+        "sort" | "auto-alias" | "annotate" | "s" | "A" | "T" => BadWord::Missing(word),
         _ => BadWord::Unknown(word),
     }
 }
@@ -340,7 +349,9 @@ fn set<'a>(
     let options = &mut reading.options;
     match letter {
         Letter::From => options.from = Some(format_of(name, word)?),
-        Letter::To => options.to = Some(format_of(name, word)?),
+        Letter::To => options.to = Some(output_of(name, word)?),
+        Letter::Layout => is_own(name, word, "17", &["1", "2", "3", "16"])?,
+        Letter::Phandles => is_own(name, word, "epapr", &["legacy", "both"])?,
         Letter::Output => options.output = word,
         Letter::Dependencies => options.dependencies = Some(word),
         Letter::Include => options.folders.push(word)?,
@@ -358,8 +369,42 @@ fn format_of<'a>(name: &'a str, word: &'a str) -> Result<Format, BadWord<'a>> {
     match word {
         "dts" => Ok(Format::Dts),
         "dtb" => Ok(Format::Dtb),
+        "fs" => Err(BadWord::MissingArgument(name, word)),
         _ => Err(BadWord::BadArgument(name, word)),
     }
+}
+
+fn output_of<'a>(name: &'a str, word: &'a str) -> Result<Output, BadWord<'a>> {
+    match word {
+        "dts" => Ok(Output::Holds(Format::Dts)),
+        "dtb" => Ok(Output::Holds(Format::Dtb)),
+        "null" => Ok(Output::Nothing),
+        "asm" | "yaml" => Err(BadWord::MissingArgument(name, word)),
+        _ => Err(BadWord::BadArgument(name, word)),
+    }
+}
+
+/// The format that a file's name tells by its ending.
+pub(crate) fn format_named(path: &str) -> Option<Format> {
+    let (_, ending) = path.rsplit_once(".")?;
+    match ending {
+        "dts" => Some(Format::Dts),
+        "dtb" | "dtbo" => Some(Format::Dtb),
+        _ => None,
+    }
+}
+
+/// Takes the one word that asks for what is done anyway, and refuses dtc's others by name.
+fn is_own<'a>(name: &'a str, word: &'a str, own: &str, others: &[&str]) -> Result<(), BadWord<'a>> {
+    if word == own {
+        return Ok(());
+    }
+    for other in others {
+        if *other == word {
+            return Err(BadWord::MissingArgument(name, word));
+        }
+    }
+    Err(BadWord::BadArgument(name, word))
 }
 
 fn power_of_two<'a>(name: &'a str, word: &'a str) -> Result<u32, BadWord<'a>> {

@@ -1,5 +1,6 @@
 pub mod CompileLemmas
 mod ChannelLemmas
+mod CopyLemmas
 mod DumpLemmas
 mod ExplainLemmas
 mod HeaderLemmas

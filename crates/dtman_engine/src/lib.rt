@@ -3,6 +3,7 @@
 
 mod channel;
 mod compiling;
+mod copying;
 mod dump;
 mod explaining;
 mod fault;
@@ -19,6 +20,7 @@ mod transfer;
 
 pub use channel::{Channel, Failed};
 pub use compiling::compile_bytes;
+pub use copying::copy_bytes;
 pub use dump::dump_bytes;
 pub use explaining::{Explanation, explain};
 pub use fault::{Fault, Position};
