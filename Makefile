@@ -13,16 +13,19 @@ build: toolchain
 library: toolchain
 	@.ci/build library
 
-# The commands over the example boards, before anything is proved.
-demo: toolchain
+# The commands over the example boards, before anything is proved. The program stays at bin/dtman-unproved.
+demo: bin/dtman-unproved
 	@.ci/demo
+
+bin/dtman-unproved: crates.txt $(shell find crates/*/src -name '*.rt') | toolchain
+	@.ci/unproved
 
 # The gate: every proof from nothing, the must-fail edits, the tests and the program. One job a check, on one processor, and as many checks as
 # processors: further jobs of one check would take a third more of their time.
 test: toolchain
 	RT_JOBS=$$(nproc) .ci/lanes.py rt ci
 
-# Puts what bin/ has, with man pages and completions, below DESTDIR/PREFIX; takes it away again.
+# Puts what bin/ has, with man pages and completions, below DESTDIR/PREFIX; takes it away again. Only a proved program is installed or packed.
 install: bin/dtman
 	@install/install.sh install
 
@@ -34,7 +37,9 @@ dist deb: bin/dtman
 	@install/install.sh $@
 
 bin/dtman:
-	@$(MAKE) build
+	@echo "bin/dtman isn't built. \`make build\` proves it and builds it, which takes 70 to 100 processor minutes:" >&2; \
+	echo "half an hour to an hour on 4 cores. \`make demo\` leaves a program that isn't proved, in two to four minutes." >&2; \
+	exit 1
 
 toolchain:
 	@command -v rt >/dev/null || { \

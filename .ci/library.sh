@@ -27,7 +27,7 @@ cat >"$work/said" <<'END'
 /chosen: bootargs = "console=ttyS0,115200 root=/dev/mmcblk0p2 quiet"
 /chosen: bootargs = "root=/dev/nvme0n1p1 "two words""
 END
-while read -r line; do grep -qxF "$line" README.md || fail "README shows another output of examples/c/boot"; done <"$work/said"
+while read -r line; do grep -qxF "$line" examples/c/README.md || fail "examples/c/README.md shows another output of boot"; done <"$work/said"
 # The same step by the program, in three overlays.
 cat >"$work/setting.dts" <<'END'
 /dts-v1/;

@@ -1,6 +1,6 @@
 #!/usr/bin/env bash
 # install.sh install|uninstall|dist|deb: puts what bin/ has where it belongs (PREFIX, DESTDIR), takes it away, or packs it into out/dist.
-# `make` builds bin/ first where it isn't there. Nothing here needs the toolchain.
+# Where bin/ has no proved program it stops. Nothing here needs the toolchain.
 set -euo pipefail
 cd "$(dirname "$0")/.."
 prefix=${PREFIX-/usr/local}
@@ -28,8 +28,15 @@ listed() {
 		echo 644 out/pages/dtman.pc "$library_folder/pkgconfig/dtman.pc"
 		for file in examples/c/Makefile examples/c/*.{c,h,dts,txt,md}; do echo 644 "$file" "share/doc/dtman/examples/c/${file##*/}"; done
 	fi
-	for file in README.md CHANGELOG.md docs/errors.md docs/promises.md; do echo 644 "$file" "share/doc/dtman/${file##*/}"; done
+	for file in README.md CHANGELOG.md docs/{commands,errors,promises,status}.md; do echo 644 "$file" "share/doc/dtman/${file##*/}"; done
 	for file in examples/*.{dts,dtb,drivers,plan,schedule}; do echo 644 "$file" "share/doc/dtman/examples/${file##*/}"; done
+}
+
+# A proved program says by which logic, in its section .comment; what `rt try` makes of one doesn't.
+wants_proof() {
+	grep -aqs 'rattle logic=' bin/dtman && return
+	echo "install: bin/dtman isn't a proved program; \`make build\` makes one" >&2
+	exit 1
 }
 
 # The pages and completions are made anew, since they are made in a moment.
@@ -48,6 +55,7 @@ END
 
 put() {
 	local mode source target
+	wants_proof
 	make_pages
 	[ -e bin/libdtman.a ] || echo "install: bin/libdtman.a isn't there, so the C library is left out" >&2
 	listed | while read -r mode source target; do install -D -m "$mode" "$source" "$root$prefix/$target"; done
@@ -94,7 +102,7 @@ deb() {
 	[ ! -e "$stage/usr/$libraries/libdtman.a" ] || strip --strip-debug -R .comment -R .note "$stage/usr/$libraries/libdtman.a"
 	find "$stage/usr/share/man" -type f -exec gzip -9n {} +
 	debian_words "$stage" "$arch" "${MAINTAINER:-$(git log -1 --format='%an <%ae>')}"
-	gzip -9n "$doc/NEWS.md" "$doc/README.md" "$doc/errors.md" "$doc/promises.md" "$doc/changelog"
+	gzip -9n "$doc/NEWS.md" "$doc"/{README,commands,errors,promises,status}.md "$doc/changelog"
 	(cd "$stage" && find usr -type f -print0 | LC_ALL=C sort -z | xargs -0 md5sum >DEBIAN/md5sums)
 	chmod -R u=rwX,go=rX "$stage"
 	mkdir -p out/dist
@@ -105,7 +113,11 @@ deb() {
 
 # What Debian wants to know of the package.
 debian_words() {
-	local stage=$1 arch=$2 maintainer=$3
+	local stage=$1 arch=$2 maintainer=$3 library=
+	[ ! -e bin/libdtman.a ] || library="
+ .
+ The C library libdtman.a, with its header, pages and examples, does the same
+ over bytes of its caller."
 	mkdir -p "$stage/DEBIAN"
 	cat >"$stage/DEBIAN/control" <<END
 Package: dtman
@@ -119,10 +131,12 @@ Priority: optional
 Description: devicetree compiler and driver-binding manager
  dtman compiles devicetree sources to blobs, applies overlays, prints blobs as
  canonical sources, plans the devices of a blob, replays schedules of probe
- events over plans, and binds the devices of a board by several threads. A C
- library, libdtman.a, does the same over the bytes of its caller.
+ events over plans, and binds the devices of a board by several threads. As
+ "dtman dtc" and "dtman fdtoverlay" it takes the words of these programs.
+ Manual pages and completions for bash, zsh and fish come along.$library
  .
- Each function was proved to meet its contract before it was built.
+ Each function of the program was proved to meet its contract before it was
+ built; promises.md.gz in /usr/share/doc/dtman says what is promised.
 END
 	cat >"$stage/usr/share/doc/dtman/copyright" <<END
 Format: https://www.debian.org/doc/packaging-manuals/copyright-format/1.0/

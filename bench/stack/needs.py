@@ -1,5 +1,5 @@
 #!/usr/bin/env python3
-"""Prints how much stack `bin/dtman` needs for the inputs that take the most of it; with the word `check`, whether README's sizes do.
+"""Prints how much stack `bin/dtman` needs for the inputs that take the most of it; with the word `check`, whether the sizes in docs/commands.md do.
 
 A size counts where the answer is that of 8 MB. Where the stack begins differs by some KB from run to run, so each is tried five times.
 """
@@ -10,7 +10,7 @@ import tempfile
 
 PROGRAM = os.path.abspath("bin/dtman")
 AMPLE = 8192
-README_SIZES = {"compile": 256, "probe": 512}
+TOLD_SIZES = {"compile": 256, "probe": 512}
 OTHERS = 96
 
 # An operator of each rank, each binding more tightly than the one before it.
@@ -105,7 +105,7 @@ def main():
         lacking = []
         for words in COMMANDS:
             wanted = answer(words, AMPLE)
-            promised = README_SIZES.get(words.split()[0], OTHERS)
+            promised = TOLD_SIZES.get(words.split()[0], OTHERS)
             if "check" not in sys.argv[1:]:
                 print(f"| `{words}` | {least(words, wanted)} |", flush=True)
             elif wanted[0] or answer(words, promised) != wanted:
