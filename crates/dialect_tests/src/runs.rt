@@ -94,6 +94,10 @@ impl Compiler for Copier {
         }
     }
 
+    fn sort(&mut self, alloc: Global, _hasher: RandomState, blob: &[u8]) -> Result<Vec<u8>, Fault> {
+        joined(alloc, blob, b" // in order")
+    }
+
     fn copy(&mut self, alloc: Global, _hasher: RandomState, blob: &[u8]) -> Result<Vec<u8>, Fault> {
         joined(alloc, blob, b"")
     }
@@ -173,10 +177,11 @@ const DTC_RUNS: &[Row] = &[
     (&["-v"], 0, "Version: DTC 1.6.1-dtman-0.3\n"),
     (&["-Z"], 1, "Error: unknown option -Z\n"),
     (
-        &["-s", "a.dts"],
+        &["-T", "a.dts"],
         1,
-        "Error: dtc's option -s isn't there in dtman\n",
+        "Error: dtc's option -T isn't there in dtman\n",
     ),
+    (&["-s", "-O", "dts", "text.dtb"], 0, "/ { }; // in order"),
     (&["-qo"], 1, "Error: option -qo requires an argument\n"),
     (
         &["-V", "16", "a.dts"],

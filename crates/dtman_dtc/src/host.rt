@@ -48,6 +48,9 @@ pub trait Compiler {
 
     fn dump(&mut self, alloc: Global, blob: &[u8]) -> Result<Vec<u8>, Fault>;
 
+    /// The blob of the tree that a blob holds in order of its names.
+    fn sort(&mut self, alloc: Global, hasher: RandomState, blob: &[u8]) -> Result<Vec<u8>, Fault>;
+
     /// The blob of the tree that a blob holds, laid out anew.
     fn copy(&mut self, alloc: Global, hasher: RandomState, blob: &[u8]) -> Result<Vec<u8>, Fault>;
 

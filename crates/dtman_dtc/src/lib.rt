@@ -14,6 +14,6 @@ mod searching;
 mod wording;
 
 pub use host::{Compiler, Fault, Host, Unread, Unwritten};
-pub use options::{Asked, BadWord, Format, Options, Output, Room, read_words};
+pub use options::{Asked, BadWord, Format, Options, Order, Output, Room, read_words};
 pub use overlaying::run_fdtoverlay;
 pub use running::{DONE, FAILED, WRONG_TREE, run_dtc};

@@ -32,6 +32,14 @@ pub struct Room {
     pub align: u32,
 }
 
+/// In which order nodes and properties stand.
+#[derive(Clone, Copy, Debug, PartialEq, Eq)]
+pub enum Order {
+    /// As the input has them.
+    AsRead,
+    ByName,
+}
+
 /// What is asked for.
 #[derive(Drop)]
 pub struct Options<'a> {
@@ -43,6 +51,8 @@ pub struct Options<'a> {
     /// Where files are looked for (`-i`), in order.
     pub folders: Vec<&'a str>,
     pub symbols: bool,
+    /// Whether nodes and properties are put in order of their names (`-s`).
+    pub order: Order,
     pub boot_cpu: Option<u32>,
     pub room: Room,
     /// How often `-q` stands.
@@ -111,6 +121,7 @@ enum Letter {
     Warning,
     Mistake,
     Symbols,
+    Sort,
     Help,
     Version,
 }
@@ -120,7 +131,12 @@ impl Letter {
     fn takes_word(self) -> bool {
         !matches!(
             self,
-            Letter::Quiet | Letter::Force | Letter::Symbols | Letter::Help | Letter::Version
+            Letter::Quiet
+                | Letter::Force
+                | Letter::Symbols
+                | Letter::Sort
+                | Letter::Help
+                | Letter::Version
         )
     }
 }
@@ -144,6 +160,7 @@ fn short(letter: u8) -> Option<Letter> {
         b'W' => Some(Letter::Warning),
         b'E' => Some(Letter::Mistake),
         b'@' => Some(Letter::Symbols),
+        b's' => Some(Letter::Sort),
         b'h' => Some(Letter::Help),
         b'v' => Some(Letter::Version),
         _ => None,
@@ -169,6 +186,7 @@ fn long(name: &str) -> Option<Letter> {
         "warning" => Some(Letter::Warning),
         "error" => Some(Letter::Mistake),
         "symbols" => Some(Letter::Symbols),
+        "sort" => Some(Letter::Sort),
         "help" => Some(Letter::Help),
         "version" => Some(Letter::Version),
         _ => None,
@@ -185,6 +203,7 @@ impl<'a> Options<'a> {
             dependencies: None,
             folders: Vec::new(alloc),
             symbols: false,
+            order: Order::AsRead,
             boot_cpu: None,
             room: Room {
                 reserves: 0,
@@ -290,7 +309,7 @@ fn read_long<'a>(
 /// An option that dtc has and this program doesn't, or none at all.
 fn not_there<'a>(word: &'a str, name: &str) -> BadWord<'a> {
     match name {
-        "sort" | "auto-alias" | "annotate" | "s" | "A" | "T" => BadWord::Missing(word),
+        "auto-alias" | "annotate" | "A" | "T" => BadWord::Missing(word),
         _ => BadWord::Unknown(word),
     }
 }
@@ -332,6 +351,7 @@ fn meet<'a>(reading: &mut Reading<'a>, letter: Letter, word: &'a str) -> Result<
         // What dtc takes with -f and warns of is an error here all the same.
         Letter::Force => {}
         Letter::Symbols => reading.options.symbols = true,
+        Letter::Sort => reading.options.order = Order::ByName,
         Letter::Help => reading.asks_help = true,
         Letter::Version => reading.asks_version = true,
         _ => reading.open = Some((letter, word)),

@@ -3,7 +3,7 @@
 use crate::blob::{set_boot_cpu, with_room};
 use crate::booting::boot_cpu_of;
 use crate::host::{Compiler, Host};
-use crate::options::{Asked, Format, Options, Output, format_named, read_words};
+use crate::options::{Asked, Format, Options, Order, Output, format_named, read_words};
 use crate::reports::{
     Failure, Source, fail, report_dialect, report_fault, report_shortfall, report_source,
 };
@@ -24,7 +24,7 @@ pub const WRONG_TREE: u8 = 2;
 pub(crate) const VERSION: &[u8] = b"Version: DTC 1.6.1-dtman-0.3\n";
 
 const HELP: &[u8] = b"Usage: dtc [options] <input file>\n
-Options: -[qI:O:o:V:d:R:S:p:a:fb:i:H:W:E:@hv]
+Options: -[qI:O:o:V:d:R:S:p:a:fb:i:H:sW:E:@hv]
   -q, --quiet                 say less
   -I, --in-format <arg>       dts or dtb
   -o, --out <arg>             the output file, - for standard output
@@ -37,6 +37,7 @@ Options: -[qI:O:o:V:d:R:S:p:a:fb:i:H:W:E:@hv]
   -a, --align <bytes>         what the blob's size is a multiple of
   -b, --boot-cpu <number>     the processor that boots
   -i, --include <folder>      where files are looked for
+  -s, --sort                  nodes and properties in order of their names
   -H, --phandle <arg>         epapr: phandles stand in properties phandle
   -f, --force, -W, --warning <arg>, -E, --error <arg>
                               taken, without effect: there are no warnings
@@ -98,10 +99,13 @@ fn convert<'a, H: Host, C: Compiler>(
         .to
         .unwrap_or(Output::Holds(wanted(options.output, from)));
     let mut found = Vec::new(alloc);
-    let blob = match from {
-        Format::Dts => compiled(alloc, host, compiler, options, bytes.as_slice(), &mut found)?,
-        Format::Dtb => copied(alloc, host, compiler, options, bytes.as_slice())?,
+    let blob = match (from, to) {
+        (Format::Dts, _) => compiled(alloc, host, compiler, options, bytes.as_slice(), &mut found)?,
+        // what is printed is read once
+        (Format::Dtb, Output::Holds(Format::Dts)) => bytes,
+        (Format::Dtb, _) => copied(alloc, host, compiler, options, bytes.as_slice())?,
     };
+    let blob = ordered(alloc, host, compiler, options, blob)?;
     let output = match to {
         Output::Holds(Format::Dts) => dumped(alloc, host, compiler, options, blob.as_slice())?,
         Output::Holds(Format::Dtb) => widened(alloc, host, options, blob.as_slice())?,
@@ -208,6 +212,26 @@ fn copied<H: Host, C: Compiler>(
             }
             Ok(copy)
         }
+        Err(fault) => Err(report_fault(alloc, host, options.input.as_bytes(), b"", &fault)),
+    }
+}
+
+/// The blob in the order that is asked for.
+fn ordered<H: Host, C: Compiler>(
+    alloc: Global,
+    host: &mut H,
+    compiler: &mut C,
+    options: &Options<'_>,
+    blob: Vec<u8>,
+) -> Result<Vec<u8>, Failure<'static>> {
+    if options.order == Order::AsRead {
+        return Ok(blob);
+    }
+    let Ok(hasher) = host.seed() else {
+        return Err(Failure::NoSeed);
+    };
+    match compiler.sort(alloc, hasher, blob.as_slice()) {
+        Ok(sorted) => Ok(sorted),
         Err(fault) => Err(report_fault(alloc, host, options.input.as_bytes(), b"", &fault)),
     }
 }

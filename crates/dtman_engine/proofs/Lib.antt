@@ -7,4 +7,5 @@ mod HeaderLemmas
 mod LawLemmas
 pub mod OverlayLemmas
 mod RunLemmas
+mod SortLemmas
 pub mod ValueSizes

@@ -15,6 +15,7 @@ pub mod Probe
 pub mod Replay
 pub mod ReplayRun
 pub mod RunFaults
+pub mod Sort
 pub mod SourceFaults
 pub mod TextFaults
 pub mod Transfer

@@ -15,6 +15,7 @@ mod planning;
 mod probing;
 mod replay;
 mod replay_run;
+mod sorting;
 mod streams;
 mod transfer;
 
@@ -32,5 +33,6 @@ pub use planning::{graph_bytes, plan_bytes};
 pub use probing::probe_bytes;
 pub use replay::replay_bytes;
 pub use replay_run::replay_run_bytes;
+pub use sorting::sort_bytes;
 pub use streams::{FileChannel, InputChannel, OutputChannel};
 pub use transfer::{WriteFault, read_all, read_within, write_out};
