@@ -11,14 +11,15 @@ use Rattle.bus_core.proofs.Lists.{list_all_in_range}
 use Rattle.bus_core.specs.History.{is_settled}
 use Rattle.bus_core.specs.Least.{IsClosed, IsLeast}
 use Rattle.bus_core.specs.declared.settle.Outcome.TheVariants.{Failed}
-use Rattle.bus_board.proofs.Flights.{begun_before, own_flight}
 use Rattle.bus_board.proofs.Histories.{unsettled_none}
 use Rattle.bus_board.proofs.Rests.{done_quiet, quiet_rests}
+use Rattle.bus_board.proofs.Moves.{sole_seen}
+use Rattle.bus_board.proofs.Sole.{sole_word, word_number}
 use Rattle.bus_board.proofs.Told.{Told, bound_told, told_bound}
-use Rattle.bus_board.specs.Ends.{EndsAs, is_quiet, is_still, suppliers_bound}
+use Rattle.bus_board.specs.Ends.{EndsAs, is_quiet, is_still, suppliers_bound, told_word}
 use Rattle.bus_board.specs.Outcomes.{History}
 use Rattle.bus_board.specs.Rule.{Fits, Holds, Kept, Tells}
-use Rattle.bus_board.specs.Words.{IsRetried, is_bound_word, number_of, settled_as, word_at, word_of}
+use Rattle.bus_board.specs.Words.{is_bound_word, number_of, settled_as, word_at, word_of}
 use Rattle.bus_board.specs.declared.view.View.{View}
 use Rattle.bus_board.specs.declared.words.Word.{Word}
 use Rattle.bus_board.specs.declared.words.Word.TheVariants as word
@@ -71,17 +72,6 @@ quiet_least p log views words told quiet d = (
   λ inside. inside (λ e. is_bound_word (word_at words e)) (quiet_closed p log views words told quiet),
 )
 
--- the word of the number 7
-unmatched_word : (x : Word) → number_of x ≡ 7 → x ≡ word.Unmatched
-unmatched_word word.Fresh e = absurd (omega (arith, e))
-unmatched_word word.Trying e = absurd (omega (arith, e))
-unmatched_word word.Waiting e = absurd (omega (arith, e))
-unmatched_word word.Woken e = absurd (omega (arith, e))
-unmatched_word word.Retrying e = absurd (omega (arith, e))
-unmatched_word word.Bound e = absurd (omega (arith, e))
-unmatched_word word.Failed e = absurd (omega (arith, e))
-unmatched_word word.Unmatched e = refl
-
 -- what the last state says of the words
 pub ends_as : (key p : List PlannedDevice) (id : ℕ) (v : View) (numbers : List ℕ) (words : List Word) (slots : List (Unit {0})) (quiet : Bool) → key ≡ p → Final (Seen (Holds key) id v) numbers slots → v.live ≡ true
     → length words ≡ length p → ((d : ℕ) → d < length p → (w : ℕ) × (get_elem? numbers d ≡ some w) × (word_at words d ≡ word_of w)) → quiet ≡ is_quiet p words → EndsAs p v words quiet
@@ -106,13 +96,11 @@ ends_as key p id v numbers words slots quiet key_is final live wide same is =
       stood = record { numbers = s.words; views = s.views; kept = kept; log_is = refl; seat = (id, final.1.1); told = number };
       wide = wide;
       outcomes = λ d lt. (told.tells d lt).settled;
-      unmatched = λ d lt. ((λ is. (told.tells d lt).unmatched (ap number_of is)), (λ off. unmatched_word (word_at words d) ((told.tells d lt).matched off)));
-      begun = λ d lt was fresh. begun_before p s.words s.views kept id v d lt final.1.1 live was (number d lt ∙ ap number_of fresh);
       passed = λ d lt a fresh. fit.passed d a (number d lt ∙ ap number_of fresh);
-      claimed = λ d w lt a fresh. fit.claimed d w a (number d lt ∙ ap number_of fresh);
-      retried = λ d lt a. subst IsRetried (number d lt) (fit.retried d a);
-      trying = λ d lt a is. own_flight p s.words s.views kept id v d false lt (number d lt ∙ ap number_of is) final.1.1 a;
-      retrying = λ d lt a is. own_flight p s.words s.views kept id v d true lt (number d lt ∙ ap number_of is) final.1.1 a;
+      sole = λ whole. (
+        sole_seen p s.words s.views kept id v final.1.1 live whole,
+        λ d lt none. sym (word_number (word_at words d)) ∙ ap word_of (sym (number d (subst (λ (q : List PlannedDevice). d < length q) (fit.plan_is live) lt)) ∙ sole_word p s.words s.views kept id v d final.1.1 live whole lt none) ∙ word_number (told_word v d),
+      );
       quiet_is = is;
       done = λ all. is ∙ done_quiet p s.words s.views kept id v words told number final.1.1 live all;
       least = λ yes. quiet_least p kept.log s.views words told (sym is ∙ yes);

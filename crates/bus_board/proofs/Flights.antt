@@ -47,7 +47,7 @@ again_is false true e = absurd (omega (arith, e))
 again_is false false e = refl
 
 -- a pair that stands in a list is counted
-pairs_among : (xs : List (ℕ × ℕ)) (d w : ℕ) → Among xs d w → 0 < pairs d w xs
+pub pairs_among : (xs : List (ℕ × ℕ)) (d w : ℕ) → Among xs d w → 0 < pairs d w xs
 pairs_among xs d w a = at xs a.0 a.1
   where
     at : (xs : List (ℕ × ℕ)) (i : ℕ) → slice_get xs i ≡ Some (d, w) → 0 < pairs d w xs

@@ -143,7 +143,7 @@ settle_kept p words views k id v f live flies-now seen me =
     (λ other. omega (arith, ap {B = ℕ} (λ (b : Bool). (if b then 1 else 0)) (ne_eqb d e other), ap settled_times (outcome_push-other log x e other))) in
     record {
       follows = follows;
-      kept = turned p words views k id v w d new log' (x ∷ []) refl refl me (refl, refl) inside lawful
+      kept = turned p words views k id v w d new log' (x ∷ []) refl refl me ((refl, refl), refl, live) inside lawful
           (λ e ne. outcome_push-other log x e (λ s. ne (sym s)))
           (λ e ne. sym (flies_none v.flight f e flies-now (λ s. ne (sym s))))
           (λ e a ne. refl)
@@ -180,9 +180,9 @@ settle_kept p words views k id v f live flies-now seen me =
 
 -- TRYING becomes WAITING: a flight that missed a supplier was claimed from FRESH
 pub defer_kept : (p : List PlannedDevice) (words : List ℕ) (views : List View) (k : Kept p words views) (id : ℕ) (v : View) (f : Flight) (s : ℕ)
-    → v.flight ≡ Some f → Has (suppliers_of p f.device) s → last_look f.looks s ≡ Some false
+    → v.live ≡ true → v.flight ≡ Some f → Has (suppliers_of p f.device) s → last_look f.looks s ≡ Some false
     → get_elem? views id ≡ some v → Kept p (set words f.device 2) (set views id (deferred v k.log f.device))
-defer_kept p words views k id v f s flies-now there missed me =
+defer_kept p words views k id v f s live flies-now there missed me =
     let d : ℕ = f.device in
     let log : History = k.log in
     let w : View = deferred v log d in
@@ -198,7 +198,7 @@ defer_kept p words views k id v f s flies-now there missed me =
     let sum : total (flies d) views ≡ 1 = tells.flown ∙ ap flights_of trying in
     let not-again : IsRetried (slice_index words d) → ⊥ = λ r. let r' : IsRetried 1 = subst IsRetried trying r in
     ⊎_elim (λ (e : 1 ≡ 4). absurd (omega arith)) (λ (r : (1 ≡ 5) ⊎ (1 ≡ 6)). ⊎_elim (λ (e : 1 ≡ 5). absurd (omega arith)) (λ (e : 1 ≡ 6). absurd (omega arith)) r) r' in
-    turned p words views k id v w d 2 log [] (sym (append-nil log)) refl me (refl, refl) inside k.lawful
+    turned p words views k id v w d 2 log [] (sym (append-nil log)) refl me ((refl, refl), refl, live) inside k.lawful
     (λ e ne. refl)
     (λ e ne. sym (flies_none v.flight f e flies-now (λ s. ne (sym s))))
     (λ e a ne. refl)
@@ -247,36 +247,36 @@ fits_relieved p log words v fit = record {
 }
 
 -- a debt drops where its device need not be woken now
-pub check_dropped : (p : List PlannedDevice) (words : List ℕ) (views : List View) (k : Kept p words views) (id : ℕ) (v : View) (h s : ℕ) (more : List ℕ) → get_elem? views id ≡ some v
+pub check_dropped : (p : List PlannedDevice) (words : List ℕ) (views : List View) (k : Kept p words views) (id : ℕ) (v : View) (h s : ℕ) (more : List ℕ) → v.live ≡ true → get_elem? views id ≡ some v
     → v.owed ≡ h ∷ more → s < length p → Has (suppliers_of p h) s → slice_index words s ≢ 5 → Kept p words (set views id (relieved v k.log))
-check_dropped p words views k id v h s more me owed inside there unbound =
-    stayed p words views k id v (relieved v k.log) refl me (refl, refl) (λ e. refl) (λ e a. refl) (λ e. refl)
+check_dropped p words views k id v h s more live me owed inside there unbound =
+    stayed p words views k id v (relieved v k.log) refl me ((refl, refl), refl, live) (λ e. refl) (λ e a. refl) (λ e. refl)
     (λ e two all was. dite (ℕ_discrete h e)
     (λ same. let five : slice_index words s ≡ 5 = settled_as-bound _ (sym (k.words_tell s inside).settled ∙ all s (subst (λ (x : ℕ). Has (suppliers_of p x) s) same there)) in absurd (unbound five))
     (λ other. still_owed views id v (relieved v k.log) e me (omega (arith, relieved_times v h e more owed other)) was))
     (fits_relieved p k.log words v (k.fits id v me))
 
-pub check_bound : (p : List PlannedDevice) (words : List ℕ) (views : List View) (k : Kept p words views) (id : ℕ) (v : View) → get_elem? views id ≡ some v → Kept p words (set views id (caught_up v k.log))
-check_bound p words views k id v me = let fit = fits_relieved p k.log words v (k.fits id v me) in
-    stayed p words views k id v (caught_up v k.log) refl me (refl, refl) (λ e. refl) (λ e a. refl) (λ e. refl)
+pub check_bound : (p : List PlannedDevice) (words : List ℕ) (views : List View) (k : Kept p words views) (id : ℕ) (v : View) → v.live ≡ true → get_elem? views id ≡ some v → Kept p words (set views id (caught_up v k.log))
+check_bound p words views k id v live me = let fit = fits_relieved p k.log words v (k.fits id v me) in
+    stayed p words views k id v (caught_up v k.log) refl me ((refl, refl), refl, live) (λ e. refl) (λ e a. refl) (λ e. refl)
     (λ e two all was. still_owed views id v (caught_up v k.log) e me (omega arith) was)
     record { plan_is = fit.plan_is; seen = fit.seen; told = fit.told; mine = fit.mine; claimed = fit.claimed; retried = fit.retried; passed = fit.passed; flight = fit.flight; begun = fit.begun }
 
 -- the wake was lost: the word isn't WAITING
-pub wake_lost : (p : List PlannedDevice) (words : List ℕ) (views : List View) (k : Kept p words views) (id : ℕ) (v : View) (h : ℕ) (more : List ℕ) → get_elem? views id ≡ some v
+pub wake_lost : (p : List PlannedDevice) (words : List ℕ) (views : List View) (k : Kept p words views) (id : ℕ) (v : View) (h : ℕ) (more : List ℕ) → v.live ≡ true → get_elem? views id ≡ some v
     → v.owed ≡ h ∷ more → slice_index words h ≢ 2 → Kept p words (set views id (relieved v k.log))
-wake_lost p words views k id v h more me owed moved =
-    stayed p words views k id v (relieved v k.log) refl me (refl, refl) (λ e. refl) (λ e a. refl) (λ e. refl)
+wake_lost p words views k id v h more live me owed moved =
+    stayed p words views k id v (relieved v k.log) refl me ((refl, refl), refl, live) (λ e. refl) (λ e a. refl) (λ e. refl)
     (λ e two all was. dite (ℕ_discrete h e)
     (λ same. absurd (moved (ap (λ (x : ℕ). get_or words x 0) same ∙ two)))
     (λ other. still_owed views id v (relieved v k.log) e me (omega (arith, relieved_times v h e more owed other)) was))
     (fits_relieved p k.log words v (k.fits id v me))
 
 -- WAITING becomes WOKEN, once all its suppliers were seen bound
-pub wake_won : (p : List PlannedDevice) (words : List ℕ) (views : List View) (k : Kept p words views) (id : ℕ) (v : View) (h : ℕ) (more : List ℕ) → get_elem? views id ≡ some v
+pub wake_won : (p : List PlannedDevice) (words : List ℕ) (views : List View) (k : Kept p words views) (id : ℕ) (v : View) (h : ℕ) (more : List ℕ) → v.live ≡ true → get_elem? views id ≡ some v
     → v.owed ≡ h ∷ more → h < length p → ((s : ℕ) → Has (suppliers_of p h) s → outcome_of v.seen s ≡ Some Bound) → slice_index words h ≡ 2
     → Kept p (set words h 3) (set views id (relieved v k.log))
-wake_won p words views k id v h more me owed inside seen found =
+wake_won p words views k id v h more live me owed inside seen found =
     let w : View = relieved v k.log in
     let log : History = k.log in
     let fit : Fits p log words v = k.fits id v me in
@@ -286,7 +286,7 @@ wake_won p words views k id v h more me owed inside seen found =
     let not-again : IsRetried (slice_index words h) → ⊥ = λ r. let r' : IsRetried 2 = subst IsRetried found r in
     ⊎_elim (λ (e : 2 ≡ 4). absurd (omega arith)) (λ (r : (2 ≡ 5) ⊎ (2 ≡ 6)). ⊎_elim (λ (e : 2 ≡ 5). absurd (omega arith)) (λ (e : 2 ≡ 6). absurd (omega arith)) r) r' in
     let still = fits_relieved p log words v fit in
-    turned p words views k id v w h 3 log [] (sym (append-nil log)) refl me (refl, refl) inside k.lawful
+    turned p words views k id v w h 3 log [] (sym (append-nil log)) refl me ((refl, refl), refl, live) inside k.lawful
     (λ e ne. refl)
     (λ e ne. refl)
     (λ e a ne. refl)

@@ -10,6 +10,8 @@ pub mod Openings
 pub mod Paying
 pub mod Rests
 pub mod Seats
+pub mod Shares
+pub mod Sole
 pub mod Sums
 pub mod Tied
 pub mod Told

@@ -3,7 +3,7 @@ use Rattle.std.proofs.Common.{◌≡◌, ◌≢◌, ◌⊎◌, ℕ, zero, suc, �
 use Rattle.std.proofs.lemmas.List.{set-get_or}
 use Rattle.std.specs.Prelude.{slice_get, slice_index, if◌then◌else◌}
 use mathlib.Core.Logic.{dite}
-use mathlib.Core.Option.{some}
+use mathlib.Core.Option.{some, some-injective}
 use native.Mathlib.Decide.{ℕ_discrete}
 use lib.ListN.{get_elem?}
 use Rattle.atomic_table.specs.Table.{Me, State}
@@ -13,13 +13,15 @@ use Rattle.bus_core.specs.Ready.{is_ready}
 use Rattle.bus_core.specs.declared.settle.Outcome.{Outcome}
 use Rattle.bus_core.specs.declared.settle.Outcome.TheVariants.{Bound, Failed}
 use Rattle.bus_board.proofs.Histories.{append-nil, front_outcome, front_whole, none_in_front, take_outcome, take_whole}
+use Rattle.bus_board.proofs.Shares.{others_spent}
 use Rattle.bus_board.proofs.Sums.{term_le, terms_le, total-set}
 use Rattle.bus_board.proofs.Turns.{flies_none, flies_one, stayed, still_owed, turned, word_after}
 use Rattle.bus_board.specs.Lists.{Among, pairs, total}
-use Rattle.bus_board.specs.Outcomes.{History, outcome_of}
+use Rattle.bus_board.specs.Outcomes.{History, IsFront, outcome_of}
 use Rattle.bus_board.specs.Rule.{Fits, FlightFits, Kept, Tells, settled_times}
+use Rattle.bus_board.specs.Shares.{IsWhole}
 use Rattle.bus_board.specs.Steps.{Sees}
-use Rattle.bus_board.specs.Views.{claimed_by, claims, flies, flies_in, last_look, looked, looked_in, passed_all}
+use Rattle.bus_board.specs.Views.{claimed_by, claims, flies, flies_in, last_look, looked, looked_in, passed_all, spent}
 use Rattle.bus_board.specs.Words.{IsRetried, begins_of, claimed_word, flights_of, flying_word, most_retries, settled_as}
 use Rattle.bus_board.specs.declared.view.Flight.{Flight}
 use Rattle.bus_board.specs.declared.view.Opening.{Opening}
@@ -30,6 +32,10 @@ M = Me (Unit {0}) View
 
 abbrev St : Type 0
 St = State (Unit {0}) View
+
+front_of_none : (f : History) → IsFront f [] → f ≡ []
+front_of_none [] t = refl
+front_of_none (x ∷ f) t = let bad : [] ≡ x ∷ (f ++ t.0) = t.1 in absurd (cc)
 
 pub is_true : (b : Bool) → (b ≡ false → ⊥) → b ≡ true
 is_true true n = refl
@@ -73,8 +79,25 @@ sees_more p log words v fit f e = let was = fit.flight f e in record {
   retried = was.retried;
 }
 
-pub sees_all : (p : List PlannedDevice) (words : List ℕ) (views : List View) (k : Kept p words views) (v : View) → Fits p k.log words v → v.live ≡ true → Sees v k.log
-sees_all p words views k v fit live = record { seen = fit.seen; told = fit.told; lawful = subst (λ (q : List PlannedDevice). IsBusHistory q k.log) (sym (fit.plan_is live)) k.lawful; mine = fit.mine }
+-- the only seat has seen all of the history
+pub sole_seen : (p : List PlannedDevice) (words : List ℕ) (views : List View) (k : Kept p words views) (id : ℕ) (v : View) → get_elem? views id ≡ some v → v.live ≡ true → IsWhole v.share → v.seen ≡ k.log
+sole_seen p words views k id v me live whole =
+    let w = k.whole in
+    dite (ℕ_discrete w.0 id)
+    (λ same. ap (λ (x : View). x.seen) (some-injective v w.1 (sym me ∙ ap (get_elem? views) (sym same) ∙ w.2)) ∙ w.3)
+    (λ other.
+    let gone : w.1 ≡ spent = others_spent views id v me live whole k.seats w.0 w.1 other w.2 in
+    let none : k.log ≡ [] = sym w.3 ∙ ap (λ (x : View). x.seen) gone in
+    front_of_none v.seen (subst (IsFront v.seen) none (k.fits id v me).seen) ∙ sym none)
+
+pub sees_all : (p : List PlannedDevice) (words : List ℕ) (views : List View) (k : Kept p words views) (id : ℕ) (v : View) → get_elem? views id ≡ some v → v.live ≡ true → Sees v k.log
+sees_all p words views k id v me live = let fit : Fits p k.log words v = k.fits id v me in record {
+  seen = fit.seen;
+  told = fit.told;
+  lawful = subst (λ (q : List PlannedDevice). IsBusHistory q k.log) (sym (fit.plan_is live)) k.lawful;
+  mine = fit.mine;
+  sole = λ whole. sole_seen p words views k id v me live whole;
+}
 
 -- a claim goes from the word old to new
 pub record Kind (old new : ℕ) : Type 0 where
@@ -163,7 +186,7 @@ claim_won p words views k id v d old new kind inside live idle me found =
       missed = λ s b. absurd (cc);
       retried = λ again. subst (λ (l : History). is_ready p (bound_in l) d ≡ true) (sym whole) (tells.woken (eqb-true old 3 again));
     } in
-    turned p words views k id v w d new log [] (sym (append-nil log)) refl me (refl, refl) inside k.lawful
+    turned p words views k id v w d new log [] (sym (append-nil log)) refl me ((refl, refl), refl, live) inside k.lawful
     (λ e ne. refl)
     (λ e ne. flies_none (Some f) f e refl (λ s. ne (sym s)) ∙ sym (ap (λ (o : Option Flight). flies_in o e) idle))
     (λ e a ne. pairs-other v.claimed d e a old (λ s. ne (sym s)))
@@ -205,12 +228,12 @@ pub unread : (p : List PlannedDevice) (words : List ℕ) (views : List View) (i 
 unread p words views i k = subst (λ (ws : List ℕ). Kept p ws views) (sym (set-get_or words i 0)) k
 
 pub claim_lost : (p : List PlannedDevice) (words : List ℕ) (views : List View) (k : Kept p words views) (id : ℕ) (v : View) (d old : ℕ)
-    → get_elem? views id ≡ some v → slice_index words d ≢ old
+    → v.live ≡ true → get_elem? views id ≡ some v → slice_index words d ≢ old
     → Kept p words (set views id (passed_all v k.log ((d, old) ∷ [])))
-claim_lost p words views k id v d old me missed =
+claim_lost p words views k id v d old live me missed =
     let w : View = passed_all v k.log ((d, old) ∷ []) in
     let fit : Fits p k.log words v = k.fits id v me in
-    stayed p words views k id v w refl me (refl, refl) (λ e. refl) (λ e a. refl) (λ e. refl) (λ e two all. still_owed views id v w e me (omega arith)) record {
+    stayed p words views k id v w refl me ((refl, refl), refl, live) (λ e. refl) (λ e a. refl) (λ e. refl) (λ e two all. still_owed views id v w e me (omega arith)) record {
       plan_is = fit.plan_is;
       seen = front_whole k.log;
       told = fit.told;
@@ -281,12 +304,12 @@ looked_begun claimed (Some f) s b was g e =
     subst (λ (x : Flight). Among claimed x.device (claimed_word x.again)) (let same : h ≡ g = cc in same) (was f refl)
 
 pub look_kept : (p : List PlannedDevice) (words : List ℕ) (views : List View) (k : Kept p words views) (id : ℕ) (v : View) (s : ℕ) → s < length p
-    → get_elem? views id ≡ some v → Kept p words (set views id (looked v k.log s (eqb (get_or words s 0) 5)))
-look_kept p words views k id v s inside me =
+    → v.live ≡ true → get_elem? views id ≡ some v → Kept p words (set views id (looked v k.log s (eqb (get_or words s 0) 5)))
+look_kept p words views k id v s inside live me =
     let b : Bool = eqb (get_or words s 0) 5 in
     let fit : Fits p k.log words v = k.fits id v me in
     let tells = k.words_tell s inside in
-    stayed p words views k id v (looked v k.log s b) refl me (refl, refl) (λ e. flies_looked v.flight s b e) (λ e a. refl) (λ e. refl) (λ e two all. still_owed views id v (looked v k.log s b) e me (omega arith)) record {
+    stayed p words views k id v (looked v k.log s b) refl me ((refl, refl), refl, live) (λ e. flies_looked v.flight s b e) (λ e a. refl) (λ e. refl) (λ e two all. still_owed views id v (looked v k.log s b) e me (omega arith)) record {
       plan_is = fit.plan_is;
       seen = front_whole k.log;
       told = fit.told;

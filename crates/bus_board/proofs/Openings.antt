@@ -33,7 +33,7 @@ before_is : (core : CoreValue) (d : ℕ) (m g : Bool) → is_matched core.plan d
 before_is core d m g em eg = λ i. if (em i && eg i) then 1 else 0
 
 -- a device that has settled and isn't bound has failed
-failed : (h : History) (d : ℕ) (o : Option Outcome) → outcome_of h d ≡ o → bound_in h d ≡ false → is_settled h d ≡ true → outcome_of h d ≡ Some Failed
+pub failed : (h : History) (d : ℕ) (o : Option Outcome) → outcome_of h d ≡ o → bound_in h d ≡ false → is_settled h d ≡ true → outcome_of h d ≡ Some Failed
 failed h d None is eb es = absurd (true≢false (sym es ∙ none_unsettled h d is))
 failed h d (Some Bound) is eb es = absurd (true≢false (sym (outcome_bound h d is) ∙ eb))
 failed h d (Some Failed) is eb es = is
@@ -78,7 +78,7 @@ opening_tells core d lawful begun =
         record { small = omega arith; settled = unsettled_none h d es; flown = refl; begun = omega (arith, none, before_is core d true true em eg); retried = omega arith; unmatched = λ e. absurd (omega arith); matched = λ off. absurd (true≢false (sym em ∙ off)); woken = λ e. absurd (omega arith); waiting = λ e all. absurd (true≢false (sym (ready_as p h d em all) ∙ er)) }
 
 -- which words may tell of a device that has a driver, hasn't settled and isn't in flight
-idle_number : (w : ℕ) → w ≤ 7 → settled_as w ≡ None → flights_of w ≡ 0 → w ≢ 7 → (w ≡ 0) ⊎ (w ≡ 2) ⊎ (w ≡ 3)
+pub idle_number : (w : ℕ) → w ≤ 7 → settled_as w ≡ None → flights_of w ≡ 0 → w ≢ 7 → (w ≡ 0) ⊎ (w ≡ 2) ⊎ (w ≡ 3)
 idle_number zero le s f n = inl refl
 idle_number (suc zero) le s f n = absurd (omega (arith, f))
 idle_number (suc (suc zero)) le s f n = inr (inl refl)
@@ -89,7 +89,7 @@ idle_number (suc (suc (suc (suc (suc (suc zero)))))) le s f n = let bad : Some F
 idle_number (suc (suc (suc (suc (suc (suc (suc zero))))))) le s f n = absurd (n refl)
 idle_number (suc (suc (suc (suc (suc (suc (suc (suc w)))))))) le s f n = absurd (omega arith)
 
-settled_as-failed : (w : ℕ) → w ≤ 7 → settled_as w ≡ Some Failed → w ≡ 6
+pub settled_as-failed : (w : ℕ) → w ≤ 7 → settled_as w ≡ Some Failed → w ≡ 6
 settled_as-failed zero le s = absurd (cc)
 settled_as-failed (suc zero) le s = absurd (cc)
 settled_as-failed (suc (suc zero)) le s = absurd (cc)

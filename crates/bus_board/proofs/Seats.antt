@@ -15,20 +15,21 @@ use Rattle.bus_core.specs.declared.settle.Outcome.TheVariants.{Bound}
 use Rattle.bus_core.specs.declared.settle.Settle.{Settle}
 use Rattle.bus_board.proofs.Histories.{append-nil, front_outcome, front_whole, lawful_front, none_in_front}
 use Rattle.bus_board.proofs.Openings.{opening_only, opening_tells}
+use Rattle.bus_board.proofs.Shares.{shares_joined, shares_split}
 use Rattle.bus_board.proofs.Sums.{total-append, total-set}
 use Rattle.bus_board.proofs.Turns.{opened_set, set_at, times-append}
 use Rattle.bus_board.specs.Learns.{JoinedBy, Stands}
 use Rattle.bus_board.specs.Lists.{Among, pairs, times}
 use Rattle.bus_board.specs.Opening.{AreFirst, opening_of}
 use Rattle.bus_board.specs.Outcomes.{History, IsFront, longer, shorter}
-use Rattle.bus_board.specs.Rule.{Fits, Holds, Kept, OpensAs, SeenBySome, Tells}
-use Rattle.bus_board.specs.Views.{both, claims, flies, flies_in, newcomer, of_devices, opener, owes, spent}
+use Rattle.bus_board.specs.Rule.{Fits, HasShare, Holds, Kept, OpensAs, SeenBySome, Tells}
+use Rattle.bus_board.specs.Views.{both, claims, flies, flies_in, lender, newcomer, of_devices, opener, owes, spent}
 use Rattle.bus_board.specs.Words.{claimed_word}
 use Rattle.bus_board.specs.declared.view.Flight.{Flight}
 use Rattle.bus_board.specs.declared.view.Opening.{Opening}
 use Rattle.bus_board.specs.declared.view.View.{View}
 
-not-among : (d w : ℕ) → Among [] d w → ⊥
+pub not-among : (d w : ℕ) → Among [] d w → ⊥
 not-among d w a = let e : (let o : Option (ℕ × ℕ) = None in o ≡ Some (d, w)) = a.1 in absurd (cc)
 
 pub among_append : (xs ys : List (ℕ × ℕ)) (d w : ℕ) → Among (xs ++ ys) d w → Among xs d w ⊎ Among ys d w
@@ -55,50 +56,74 @@ pairs-append : (d w : ℕ) (xs ys : List (ℕ × ℕ)) → pairs d w (xs ++ ys) 
 pairs-append d w [] ys = omega arith
 pairs-append d w (x ∷ xs) ys = omega (arith, pairs-append d w xs ys)
 
-pub split_allowed : (p : List PlannedDevice) (id : ℕ) (v : View) → v.live ≡ true → Splits (Holds p) id v v (newcomer v)
+-- the seat that is cut in two has seen what it had
+split_whole : (views : List View) (id : ℕ) (v : View) (log : History) → get_elem? views id ≡ some v → SeenBySome views log → SeenBySome (set views id (lender v) ++ newcomer v ∷ []) log
+split_whole views id v log me whole =
+    let l : View = lender v in
+    dite (ℕ_discrete whole.0 id)
+    (λ same. (id, l, at_longer (set views id l) (newcomer v ∷ []) id l (set_at views id v l me), ap (λ (x : View). x.seen) (some-injective v whole.1 (sym me ∙ ap (get_elem? views) (sym same) ∙ whole.2)) ∙ whole.3))
+    (λ ne. (whole.0, whole.1, at_longer (set views id l) (newcomer v ∷ []) whole.0 whole.1 (set_else views id whole.0 l ne ∙ whole.2), whole.3))
+
+pub split_allowed : (p : List PlannedDevice) (id : ℕ) (v : View) → v.live ≡ true → Splits (Holds p) id v (lender v) (newcomer v)
 split_allowed p id v live s k me =
-    let same : set s.views id v ≡ s.views = set_again s.views id v me in
+    let l : View = lender v in
     let n : View = newcomer v in
+    let mid : List View = set s.views id l in
     let fit : Fits p k.log s.words v = k.fits id v me in
-    let kept : Kept p s.words (s.views ++ n ∷ []) = record {
+    let fit_lender : Fits p k.log s.words l = record {
+      plan_is = fit.plan_is;
+      seen = fit.seen;
+      told = fit.told;
+      mine = fit.mine;
+      claimed = fit.claimed;
+      retried = fit.retried;
+      passed = fit.passed;
+      flight = fit.flight;
+      begun = fit.begun;
+    } in
+    let fit_new : Fits p k.log s.words n = record {
+      plan_is = λ _. fit.plan_is live;
+      seen = fit.seen;
+      told = (k.log, refl);
+      mine = λ d _. refl;
+      claimed = λ d w a. absurd (not-among d w a);
+      retried = λ d a. absurd (not-among d 3 a);
+      passed = λ d a. absurd (not-among d 0 a);
+      flight = λ f e'. absurd (cc);
+      begun = λ f e'. absurd (cc);
+    } in
+    record {
       opening = k.opening;
       log = k.log;
       lawful = k.lawful;
       later = k.later;
-      opened = λ j u e l. ⊎_elim
-          (λ (t : get_elem? s.views j ≡ some u). k.opened j u t l)
+      opened = λ j u e lives. ⊎_elim
+          (λ (t : get_elem? mid j ≡ some u). opened_set s.views k.opening id v l me (refl, refl) k.opened j u t lives)
           (λ (t : n ≡ u). subst (λ (x : View). x.opening ≡ k.opening) t (k.opened id v me live))
-          (at_snoc s.views n u j e);
-      whole = (k.whole.0, k.whole.1, at_longer s.views (n ∷ []) k.whole.0 k.whole.1 k.whole.2, k.whole.3);
+          (at_snoc mid n u j e);
+      seats = shares_split s.views id v me live k.seats;
+      whole = split_whole s.views id v k.log me k.whole;
       wide = k.wide;
       words_tell = λ d lt. let was = k.words_tell d lt in record {
         small = was.small;
         settled = was.settled;
-        flown = omega (arith, total-append (flies d) s.views (n ∷ []), was.flown);
-        begun = omega (arith, total-append (claims d 0) s.views (n ∷ []), was.begun);
-        retried = omega (arith, total-append (claims d 3) s.views (n ∷ []), was.retried);
+        flown = omega (arith, total-append (flies d) mid (n ∷ []), total-set (flies d) s.views id v l me, was.flown);
+        begun = omega (arith, total-append (claims d 0) mid (n ∷ []), total-set (claims d 0) s.views id v l me, was.begun);
+        retried = omega (arith, total-append (claims d 3) mid (n ∷ []), total-set (claims d 3) s.views id v l me, was.retried);
         unmatched = was.unmatched;
         matched = was.matched;
         woken = was.woken;
-        waiting = λ e all. omega (arith, total-append (owes d) s.views (n ∷ []), was.waiting e all);
+        waiting = λ e all. omega (arith, total-append (owes d) mid (n ∷ []), total-set (owes d) s.views id v l me, was.waiting e all);
       };
-      owned = λ d. omega (arith, total-append (λ (x : View). times d x.mine) s.views (n ∷ []), k.owned d);
+      owned = λ d. omega (arith, total-append (λ (x : View). times d x.mine) mid (n ∷ []), total-set (λ (x : View). times d x.mine) s.views id v l me, k.owned d);
       fits = λ j u e. ⊎_elim
-          (λ (t : get_elem? s.views j ≡ some u). k.fits j u t)
-          (λ (t : n ≡ u). subst (Fits p k.log s.words) t record {
-            plan_is = λ _. fit.plan_is live;
-            seen = fit.seen;
-            told = (k.log, refl);
-            mine = λ d _. refl;
-            claimed = λ d w a. absurd (not-among d w a);
-            retried = λ d a. absurd (not-among d 3 a);
-            passed = λ d a. absurd (not-among d 0 a);
-            flight = λ f e'. absurd (cc);
-            begun = λ f e'. absurd (cc);
-          })
-          (at_snoc s.views n u j e);
-    } in
-    subst (λ (vs : List View). Kept p s.words (vs ++ n ∷ [])) (sym same) kept
+          (λ (t : get_elem? mid j ≡ some u). ⊎_elim
+          (λ (y : (j ≡ id) × (l ≡ u)). subst (Fits p k.log s.words) y.1 fit_lender)
+          (λ (y : (j ≢ id) × (get_elem? s.views j ≡ some u)). k.fits j u y.1)
+          (at_set s.views id j l u t))
+          (λ (t : n ≡ u). subst (Fits p k.log s.words) t fit_new)
+          (at_snoc mid n u j e);
+    }
 
 longer_cases : (P : History → Type 0) (f g : History) → P f → P g → P (longer f g)
 longer_cases P f g a b = at (nat_le (length g) (length f))
@@ -213,6 +238,7 @@ join_allowed p id v other w live idle s k me apart there =
           (λ (t : (j ≡ other) × (spent ≡ u)). let off : false ≡ true = ap (λ (x : View). x.live) t.1 ∙ l in absurd (cc))
           (λ (t : (j ≢ other) × (get_elem? mid j ≡ some u)). opened_set s.views k.opening id v b me (refl, refl) k.opened j u t.1 l)
           (at_set mid other j spent u e);
+      seats = shares_joined s.views id v other w me there was live k.seats;
       whole = join_whole s.views id v other w k.log me was (λ x. apart x) fit.seen theirs.seen k.whole;
       wide = k.wide;
       words_tell = λ d lt. let x = k.words_tell d lt in record {
@@ -259,6 +285,11 @@ opening_holds core words first lawful begun =
       lawful = lawful;
       later = front_whole h;
       opened = λ j u e _. ap (λ (x : View). x.opening) (sym (get_elem_one (opener core) u j e));
+      seats = record {
+        halvings = 0;
+        each = λ j u e. subst (HasShare 0) (get_elem_one (opener core) u j e) (inr (refl, omega arith, omega arith));
+        whole = refl;
+      };
       whole = (0, opener core, refl, refl);
       wide = omega (arith, first.0);
       words_tell = λ d lt. subst (Tells core.plan (opening_of core.state) h (opener core ∷ []) d) (sym (first.1 d lt)) (opening_tells core d lawful begun);

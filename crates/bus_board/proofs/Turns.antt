@@ -11,6 +11,7 @@ use Rattle.bus_core.specs.History.{IsBusHistory, bound_in}
 use Rattle.bus_core.specs.Ready.{is_ready}
 use Rattle.bus_core.specs.declared.settle.Outcome.TheVariants.{Bound}
 use Rattle.bus_board.proofs.Histories.{front_push, ready_later, take_front}
+use Rattle.bus_board.proofs.Shares.{shares_kept}
 use Rattle.bus_board.proofs.Sums.{total-set}
 use Rattle.bus_board.specs.Lists.{times, total}
 use Rattle.bus_board.specs.Outcomes.{AllBound, History, IsFront, outcome_of}
@@ -70,6 +71,10 @@ fits_later p log more words i n u h not-fresh still apart fit = record {
 abbrev pub Alike : View → View → Type 0
 Alike v w = (w.live ≡ v.live) × (w.opening ≡ v.opening)
 
+-- and with its share of the board
+abbrev pub Remains : View → View → Type 0
+Remains v w = Alike v w × (w.share ≡ v.share) × (v.live ≡ true)
+
 pub opened_set : (views : List View) (o : Opening) (id : ℕ) (v w : View) → get_elem? views id ≡ some v → Alike v w → KnowOpening views o → KnowOpening (set views id w) o
 opened_set views o id v w me alike known j u e = ⊎_elim
     (λ (t : (j ≡ id) × (w ≡ u)). subst (λ (x : View). x.live ≡ true → x.opening ≡ o) t.1 (λ live. alike.1 ∙ known id v me (sym alike.0 ∙ live)))
@@ -78,7 +83,7 @@ opened_set views o id v w me alike known j u e = ⊎_elim
 
 -- the word i becomes n, the seat's view w, and the history goes on
 pub turned : (p : List PlannedDevice) (words : List ℕ) (views : List View) (k : Kept p words views) (id : ℕ) (v w : View) (i n : ℕ) (log more : History) → log ≡ k.log ++ more → w.seen ≡ log
-    → get_elem? views id ≡ some v → Alike v w → i < length p → IsBusHistory p log
+    → get_elem? views id ≡ some v → Remains v w → i < length p → IsBusHistory p log
     → ((d : ℕ) → d ≢ i → outcome_of log d ≡ outcome_of k.log d)
     → ((d : ℕ) → d ≢ i → flies d w ≡ flies d v)
     → ((d a : ℕ) → d ≢ i → claims d a w ≡ claims d a v)
@@ -97,7 +102,8 @@ turned p words views k id v w i n log more grown seen me alike inside lawful sam
       log = log;
       lawful = lawful;
       later = subst (IsFront k.opening.history) (sym grown) (front_push k.opening.history k.log more k.later);
-      opened = opened_set views k.opening id v w me alike k.opened;
+      opened = opened_set views k.opening id v w me alike.0 k.opened;
+      seats = shares_kept views id v w me alike.2 (alike.0.0 ∙ alike.2) alike.1 k.seats;
       whole = (id, w, set_at views id v w me, seen);
       wide = length-set words i n ∙ k.wide;
       words_tell = λ d lt. word_after words i n d (λ (x : ℕ). Tells p k.opening log (set views id w) d x) h
@@ -122,7 +128,7 @@ turned p words views k id v w i n log more grown seen me alike inside lawful sam
 
 -- a word that is only read
 pub stayed : (p : List PlannedDevice) (words : List ℕ) (views : List View) (k : Kept p words views) (id : ℕ) (v w : View) → w.seen ≡ k.log
-    → get_elem? views id ≡ some v → Alike v w
+    → get_elem? views id ≡ some v → Remains v w
     → ((d : ℕ) → flies d w ≡ flies d v) → ((d a : ℕ) → claims d a w ≡ claims d a v) → ((d : ℕ) → times d w.mine ≡ times d v.mine)
     → ((d : ℕ) → slice_index words d ≡ 2 → AllBound p k.log d → 0 < total (owes d) views → 0 < total (owes d) (set views id w))
     → Fits p k.log words w
@@ -132,7 +138,8 @@ stayed p words views k id v w seen me alike flown claimed own owe fit = record {
   log = k.log;
   lawful = k.lawful;
   later = k.later;
-  opened = opened_set views k.opening id v w me alike k.opened;
+  opened = opened_set views k.opening id v w me alike.0 k.opened;
+  seats = shares_kept views id v w me alike.2 (alike.0.0 ∙ alike.2) alike.1 k.seats;
   whole = (id, w, set_at views id v w me, seen);
   wide = k.wide;
   words_tell = λ d lt. let was = k.words_tell d lt in record {

@@ -1,24 +1,28 @@
 -- The claims of one walk over the devices.
-use Rattle.std.proofs.Common.{◌≡◌, ◌≢◌, ℕ, zero, suc, ◌+◌, ◌<◌, ◌≤◌, true, List, [], ◌∷◌, ◌++◌, length, Option, Some, None, refl, sym, ap, ◌∙◌, subst, arith, append_assoc, eqb}
+use Rattle.std.proofs.Common.{◌≡◌, ◌≢◌, ℕ, zero, suc, ◌+◌, ◌<◌, ◌≤◌, true, List, [], ◌∷◌, ◌++◌, length, Option, Some, None, refl, sym, ap, ◌∙◌, subst, ⊎_elim, arith, append_assoc, eqb}
 use mathlib.Core.Logic.{dite}
 use mathlib.Core.Option.{none}
 use native.Mathlib.Decide.{ℕ_discrete}
 use prog.Atomic.{either}
 use Rattle.atomic_table.specs.Table.{Allows, Me, step}
-use Rattle.bus_plan.specs.Plan.{PlannedDevice, suppliers_of}
-use Rattle.bus_core.specs.History.{IsBusHistory}
+use Rattle.bus_plan.specs.Plan.{PlannedDevice, is_matched, suppliers_of}
+use Rattle.bus_core.proofs.HistoryLemmas.{matched-below, ready-matched}
+use Rattle.bus_core.specs.History.{IsBusHistory, bound_in, is_settled}
+use Rattle.bus_core.specs.Ready.{is_ready}
 use Rattle.bus_board.proofs.Allowed.{claim_allowed}
 use Rattle.bus_board.proofs.Histories.{front_trans, front_whole}
-use Rattle.bus_board.proofs.Moves.{Kind}
-use Rattle.bus_board.proofs.Seats.{among_left, among_right}
+use Rattle.bus_board.proofs.Moves.{Kind, among_push}
+use Rattle.bus_board.proofs.Seats.{among_left, among_right, not-among}
 use Rattle.bus_board.proofs.Tied.{same_made}
+use Rattle.bus_board.specs.Ends.{HasBegun, IsDone}
 use Rattle.bus_board.specs.Learns.{Claimed, Passed}
 use Rattle.bus_board.specs.Lists.{Among}
 use Rattle.bus_board.specs.Outcomes.{History, IsFront}
 use Rattle.bus_board.specs.Private.Ties.{Carries, IsTied, looks_at}
 use Rattle.bus_board.specs.Private.Tries.{HasTried}
 use Rattle.bus_board.specs.Rule.{Holds}
-use Rattle.bus_board.specs.Steps.{Claims}
+use Rattle.bus_board.specs.Shares.{IsWhole}
+use Rattle.bus_board.specs.Steps.{Claims, IsPast}
 use Rattle.bus_board.specs.Views.{claimed_by, made, passed_all}
 use Rattle.bus_board.specs.declared.flight.Open.{Open}
 use Rattle.bus_board.specs.declared.view.View.{View}
@@ -31,6 +35,10 @@ abbrev pub tries : ℕ → List (ℕ × ℕ)
 tries zero = []
 tries (suc d) = tries d ++ (d, 0) ∷ (d, 3) ∷ []
 
+-- what the only seat learns on a walk
+abbrev pub ArePast : View → History → List (ℕ × ℕ) → Type 0
+ArePast v log lost = (v.seen ≡ log) × ((d w : ℕ) → Among lost d w → IsPast v d w)
+
 -- how far a walk has come: these claims were lost, and nothing else changed
 pub record Walk (v : View) (m : M) (lost : List (ℕ × ℕ)) : Type 0 where
   pub log : History
@@ -40,6 +48,7 @@ pub record Walk (v : View) (m : M) (lost : List (ℕ × ℕ)) : Type 0 where
   pub same_made : made m.0 ≡ made v
   pub live : m.0.live ≡ true
   pub idle : m.0.flight ≡ None
+  pub past : IsWhole v.share → v.owed ≡ [] → ArePast v log lost
 
 pairs-nil : (xs : List (ℕ × ℕ)) → xs ++ [] ≡ xs
 pairs-nil [] = refl
@@ -54,14 +63,18 @@ walk_start m live idle lawful = record {
   same_made = refl;
   live = live;
   idle = idle;
+  past = λ _ _. (refl, λ d w a. absurd (not-among d w a));
 }
   where
     passed_none : (v : View) → v ≡ passed_all v v.seen []
-    passed_none v = λ i. record { live = v.live; plan = v.plan; opening = v.opening; seen = v.seen; told = v.told; mine = v.mine; flight = v.flight; claimed = v.claimed; passed = sym (pairs-nil v.passed) i; owed = v.owed }
+    passed_none v = λ i. record { live = v.live; share = v.share; plan = v.plan; opening = v.opening; seen = v.seen; told = v.told; mine = v.mine; flight = v.flight; claimed = v.claimed; passed = sym (pairs-nil v.passed) i; owed = v.owed }
 
 pub walk_claims : (key : List PlannedDevice) (slots id : ℕ) (v : View) (m : M) (lost : List (ℕ × ℕ)) (d old new : ℕ) → Kind old new → Walk v m lost → d < length key
     → Allows (Holds key) slots id m d (λ n. either (eqb n old) new n) (Claims (step slots d old new none) m)
 walk_claims key slots id v m lost d old new kind w inside = claim_allowed key slots id m d old new kind inside w.live w.idle
+
+past_as : (v : View) (log : History) (lost : List (ℕ × ℕ)) (d w : ℕ) → log ≡ v.seen → IsPast (passed_all v log lost) d w → IsPast v d w
+past_as v log lost d w same is = (is.0, λ woken begun. subst (λ (h : History). is_ready v.plan (bound_in h) d ≡ true → is_settled h d ≡ true) same (is.1 woken begun))
 
 -- a claim was lost
 pub walk_lost : (v : View) (m n : M) (slots d old new r : ℕ) (lost : List (ℕ × ℕ)) → Walk v m lost → Claims (step slots d old new none) m r n → r ≢ old → Walk v n (lost ++ (d, old) ∷ [])
@@ -70,6 +83,7 @@ walk_lost v m n slots d old new r lost w told miss =
     let was : m.0 ≡ passed_all v w.log lost = w.view in
     let whole : passed_all (passed_all v w.log lost) told.log ((d, old) ∷ []) ≡ passed_all v told.log (lost ++ (d, old) ∷ []) = λ i. record {
       live = v.live;
+      share = v.share;
       plan = v.plan;
       opening = v.opening;
       seen = told.log;
@@ -88,6 +102,16 @@ walk_lost v m n slots d old new r lost w told miss =
       same_made = ap made is ∙ same_made m.0 told.log told.sees ∙ w.same_made;
       live = ap (λ (u : View). u.live) is ∙ w.live;
       idle = ap (λ (u : View). u.flight) is ∙ w.idle;
+      past = λ whole owed.
+          let before = w.past whole owed in
+          let own : IsPast (passed_all v w.log lost) d old = subst (λ (u : View). IsPast u d old) was
+          (told.past miss (subst (λ (u : View). IsWhole u.share) (sym was) whole) (ap (λ (u : View). u.owed) was ∙ owed)) in (
+            before.0 ∙ sym (ap (λ (u : View). u.seen) was) ∙ told.sees.sole (subst (λ (u : View). IsWhole u.share) (sym was) whole),
+            λ e x there. ⊎_elim
+                (λ (t : (d, old) ≡ (e, x)). past_as v w.log lost e x (sym before.0) (subst (λ (y : ℕ × ℕ). IsPast (passed_all v w.log lost) y.0 y.1) t own))
+                (λ (t : Among lost e x). before.1 e x t)
+                (among_push lost (d, old) e x there),
+          );
     }
 
 -- the claim was won
@@ -125,8 +149,20 @@ tries_all (suc n) d lt = dite (ℕ_discrete d n)
     let t = tries_all n d (omega arith) in
     (among_left (tries n) ((n, 0) ∷ (n, 3) ∷ []) d 0 t.0, among_left (tries n) ((n, 0) ∷ (n, 3) ∷ []) d 3 t.1))
 
+-- the only seat has lost each claim
+walk_done : (v : View) (m : M) (n : ℕ) → Walk v m (tries n) → n ≡ length v.plan → IsWhole v.share → v.owed ≡ [] → IsDone v.plan m.0
+walk_done v m n w all whole owed =
+    let past = w.past whole owed in
+    let begun : (d : ℕ) → is_matched v.plan d ≡ true → HasBegun v.plan v d = λ d matched.
+    (past.1 d 0 (tries_all n d (omega (arith, matched-below v.plan d matched, all))).0).0 refl matched in
+    let settled : (d : ℕ) → is_ready v.plan (bound_in v.seen) d ≡ true → is_settled v.seen d ≡ true = λ d ready.
+    let matched : is_matched v.plan d ≡ true = ready-matched v.plan (bound_in v.seen) d ready in
+    (past.1 d 3 (tries_all n d (omega (arith, matched-below v.plan d matched, all))).1).1 refl (begun d matched) ready in
+    let idle : v.flight ≡ None = sym (ap (λ (u : View). u.flight) w.view) ∙ w.idle in
+    subst (λ (u : View). IsDone v.plan u) (sym w.view) (subst (λ (h : History). IsDone v.plan (passed_all v h (tries n))) past.0 record { begun = begun; idle = idle; settled = settled })
+
 pub walk_end : (v : View) (m : M) (n : ℕ) → Walk v m (tries n) → n ≡ length v.plan → Passed v m.0
-walk_end v m n w all = record { log = w.log; lost = tries n; all = λ d lt. tries_all n d (omega (arith, all, lt)); view = w.view; front = w.front; lawful = w.lawful; made = w.same_made }
+walk_end v m n w all = record { log = w.log; lost = tries n; all = λ d lt. tries_all n d (omega (arith, all, lt)); view = w.view; front = w.front; lawful = w.lawful; made = w.same_made; done = walk_done v m n w all }
 
 -- claims were lost on a walk
 pub walk_tried : (v : View) (m : M) (lost : List (ℕ × ℕ)) → Walk v m lost → HasTried v m.0
@@ -139,6 +175,7 @@ tried_start m live idle lawful = walk_tried m.0 m [] (walk_start m live idle law
 passed_twice : (v : View) (first log : History) (before after : List (ℕ × ℕ)) → passed_all (passed_all v first before) log after ≡ passed_all v log (before ++ after)
 passed_twice v first log before after = λ i. record {
   live = v.live;
+  share = v.share;
   plan = v.plan;
   opening = v.opening;
   seen = log;
@@ -191,6 +228,8 @@ tried_passed v u w t c = record {
   front = later_front v u c.log t c.front;
   lawful = same_plan v u c.log t c.lawful;
   made = c.made ∙ t.made;
+  done = λ whole owed. subst (λ (p : List PlannedDevice). IsDone p w) (ap (λ (x : View). x.plan) t.view)
+      (c.done (subst (λ (x : View). IsWhole x.share) (sym t.view) whole) (ap (λ (x : View). x.owed) t.view ∙ owed));
 }
 
 -- the seat is as before, but for what it has seen and passed

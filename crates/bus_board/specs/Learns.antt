@@ -8,15 +8,18 @@ use Rattle.bus_core.specs.declared.event.Reply.{Reply}
 use Rattle.bus_core.specs.declared.refusal.Refusal.{Refusal}
 use Rattle.bus_core.specs.declared.refusal.Refusal.TheVariants.{NoMemory, NotIdle, Unmatched, StaleTicket, NotReady, WasBound, TooManyEvents, NotInFlight, KnownDriver}
 use Rattle.bus_core.specs.declared.settle.Settle.{Settle}
+use Rattle.bus_board.specs.Ends.{IsDone}
 use Rattle.bus_board.specs.Lists.{Has, Among}
 use Rattle.bus_board.specs.Outcomes.{History, IsFront}
+use Rattle.bus_board.specs.Shares.{IsWhole}
 use Rattle.bus_board.specs.Shown.{IsOf, Posted, Seated}
 use Rattle.bus_board.specs.Words.{FRESH, WOKEN}
 use Rattle.bus_board.specs.Views.{last_look, made, claimed_by, passed_all, looked, settled_by, deferred, with_debts, both, opener}
 use Rattle.bus_board.specs.declared.view.View.{View}
 use Rattle.bus_board.specs.declared.view.Flight.{Flight}
 
--- `take` answered None: claims were tried and lost, among them each device's from FRESH and from WOKEN
+-- `take` answered None: claims were tried and lost, among them each device's from FRESH and from WOKEN. Where the seat is the only
+-- one and owes nothing, nothing is left to do.
 pub record Passed (v w : View) : Type 0 where
   pub log : History
   pub lost : List (ℕ × ℕ)
@@ -25,6 +28,7 @@ pub record Passed (v w : View) : Type 0 where
   pub front : IsFront v.seen log
   pub lawful : IsBusHistory v.plan log
   pub made : made w ≡ made v
+  pub done : IsWhole v.share → v.owed ≡ [] → IsDone v.plan w
 
 -- `take` answered the device: claims before it may have been lost, and the seat hadn't claimed it from this word before
 pub record Claimed (v w : View) (d : ℕ) : Type 0 where

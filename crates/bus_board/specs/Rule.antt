@@ -1,5 +1,5 @@
--- What holds of a board between any two steps, over the words and all views: the seven clauses of the board.
-use Rattle.std.specs.Prelude.{◌≡◌, ◌≢◌, ◌↔◌, ℕ, suc, ◌+◌, ◌<◌, ◌≤◌, true, false, if◌then◌else◌, List, [], ◌∷◌, length, take, Option, Some, None, slice_index}
+-- What holds of a board between any two steps, over the words and all views: the eight clauses of the board.
+use Rattle.std.specs.Prelude.{◌≡◌, ◌≢◌, ◌↔◌, ◌⊎◌, ℕ, suc, ◌+◌, ◌<◌, ◌≤◌, ◌^◌, true, false, if◌then◌else◌, List, [], ◌∷◌, length, take, Option, Some, None, slice_index}
 use mathlib.Core.Option.{some}
 use lib.ListN.{get_elem?}
 use Rattle.atomic_table.specs.Table.{State}
@@ -12,7 +12,8 @@ use Rattle.bus_core.specs.Ready.{is_ready}
 use Rattle.bus_board.specs.Lists.{times, Among, total}
 use Rattle.bus_board.specs.Opening.{AreFirst, was_begun}
 use Rattle.bus_board.specs.Outcomes.{History, outcome_of, AllBound, IsFront}
-use Rattle.bus_board.specs.Views.{last_look, claims, flies, owes}
+use Rattle.bus_board.specs.Shares.{parts_at}
+use Rattle.bus_board.specs.Views.{last_look, claims, flies, owes, spent}
 use Rattle.bus_board.specs.Words.{FRESH, WAITING, WOKEN, UNMATCHED, settled_as, flights_of, flying_word, claimed_word, begins_of, most_retries, IsRetried}
 use Rattle.bus_board.specs.declared.view.Opening.{Opening}
 use Rattle.bus_board.specs.declared.view.View.{View}
@@ -74,6 +75,17 @@ SeenBySome views log = (j : ℕ) × (v : View) × (get_elem? views j ≡ some v)
 abbrev pub KnowOpening : List View → Opening → Type 0
 KnowOpening views opening = (j : ℕ) (v : View) → get_elem? views j ≡ some v → v.live ≡ true → v.opening ≡ opening
 
+-- a view that isn't spent is a seat's, which has a share of the board
+abbrev pub HasShare : ℕ → View → Type 0
+HasShare n v = (v ≡ spent) ⊎ ((v.live ≡ true) × (0 < v.share.parts) × (v.share.halvings ≤ n))
+
+-- Which seats there are (clause 8): the shares of all of them together are the whole board. So a seat that has the whole is the
+-- only one.
+pub record AreAll (views : List View) : Type 0 where
+  pub halvings : ℕ
+  pub each : (j : ℕ) (v : View) → get_elem? views j ≡ some v → HasShare halvings v
+  pub whole : total (λ v. parts_at halvings v.share) views ≡ 2 ^ halvings
+
 -- The words and the views show a state of the core, whose history is one of the sequential bus and goes on from that with which
 -- the board was opened, as each seat knows it. Each settle after those is one seat's own.
 pub record Kept (plan : List PlannedDevice) (words : List ℕ) (views : List View) : Type 0 where
@@ -82,6 +94,7 @@ pub record Kept (plan : List PlannedDevice) (words : List ℕ) (views : List Vie
   pub lawful : IsBusHistory plan log
   pub later : IsFront opening.history log
   pub opened : KnowOpening views opening
+  pub seats : AreAll views
   pub whole : SeenBySome views log
   pub wide : length words ≡ suc (length plan)
   pub words_tell : (d : ℕ) → d < length plan → Tells plan opening log views d (slice_index words d)

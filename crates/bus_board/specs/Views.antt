@@ -8,6 +8,7 @@ use Rattle.bus_core.specs.Step.{settle_of}
 use Rattle.bus_board.specs.Lists.{pairs, times}
 use Rattle.bus_board.specs.Opening.{opening_of, nothing_before}
 use Rattle.bus_board.specs.Outcomes.{History, longer, shorter}
+use Rattle.bus_board.specs.Shares.{whole, nothing, half, together}
 use Rattle.bus_board.specs.Words.{WOKEN}
 use Rattle.bus_board.specs.declared.view.View.{View}
 use Rattle.bus_board.specs.declared.view.Flight.{Flight}
@@ -42,10 +43,11 @@ of_devices mine (s ∷ h) = if times s.device mine == 0 then of_devices mine h e
 abbrev pub made : View → History
 made v = of_devices v.mine v.seen
 
--- the first seat of a board over a core: it has seen what settled before
+-- the first seat of a board over a core: the board is all its own, and it has seen what settled before
 abbrev pub opener : CoreValue → View
 opener core = record {
   live = true;
+  share = whole;
   plan = core.plan;
   opening = opening_of core.state;
   seen = core.state.history;
@@ -57,14 +59,19 @@ opener core = record {
   owed = [];
 }
 
--- a further seat, which has seen what the given one has
+-- a further seat, which has half of the given one's share, and has seen what that one has
 abbrev pub newcomer : View → View
-newcomer v = record { live = true; plan = v.plan; opening = v.opening; seen = v.seen; told = []; mine = []; flight = None; claimed = []; passed = []; owed = [] }
+newcomer v = record { live = true; share = half v.share; plan = v.plan; opening = v.opening; seen = v.seen; told = []; mine = []; flight = None; claimed = []; passed = []; owed = [] }
+
+-- the given one, which keeps the other half
+abbrev pub lender : View → View
+lender v = record { live = v.live; share = half v.share; plan = v.plan; opening = v.opening; seen = v.seen; told = v.told; mine = v.mine; flight = v.flight; claimed = v.claimed; passed = v.passed; owed = v.owed }
 
 -- both seats' views: the longer front is seen, and the shorter one is noted
 abbrev pub both : View → View → View
 both v w = record {
   live = v.live;
+  share = together v.share w.share;
   plan = v.plan;
   opening = v.opening;
   seen = longer v.seen w.seen;
@@ -78,16 +85,17 @@ both v w = record {
 
 -- what a seat leaves that was given back
 abbrev pub spent : View
-spent = record { live = false; plan = []; opening = nothing_before; seen = []; told = []; mine = []; flight = None; claimed = []; passed = []; owed = [] }
+spent = record { live = false; share = nothing; plan = []; opening = nothing_before; seen = []; told = []; mine = []; flight = None; claimed = []; passed = []; owed = [] }
 
 -- it has seen this history
 abbrev pub caught_up : View → History → View
-caught_up v log = record { live = v.live; plan = v.plan; opening = v.opening; seen = log; told = v.told; mine = v.mine; flight = v.flight; claimed = v.claimed; passed = v.passed; owed = v.owed }
+caught_up v log = record { live = v.live; share = v.share; plan = v.plan; opening = v.opening; seen = log; told = v.told; mine = v.mine; flight = v.flight; claimed = v.claimed; passed = v.passed; owed = v.owed }
 
 -- a claim of the device from the word w was won
 abbrev pub claimed_by : View → History → ℕ → ℕ → View
 claimed_by v log d w = record {
   live = v.live;
+  share = v.share;
   plan = v.plan;
   opening = v.opening;
   seen = log;
@@ -101,7 +109,7 @@ claimed_by v log d w = record {
 
 -- these claims were lost
 abbrev pub passed_all : View → History → List (ℕ × ℕ) → View
-passed_all v log lost = record { live = v.live; plan = v.plan; opening = v.opening; seen = log; told = v.told; mine = v.mine; flight = v.flight; claimed = v.claimed; passed = v.passed ++ lost; owed = v.owed }
+passed_all v log lost = record { live = v.live; share = v.share; plan = v.plan; opening = v.opening; seen = log; told = v.told; mine = v.mine; flight = v.flight; claimed = v.claimed; passed = v.passed ++ lost; owed = v.owed }
 
 abbrev pub looked_in : Option Flight → ℕ → Bool → Option Flight
 looked_in None s b = None
@@ -109,7 +117,7 @@ looked_in (Some f) s b = Some (record { device = f.device; at = f.at; again = f.
 
 -- the flight looked at a supplier, and found it BOUND or not
 abbrev pub looked : View → History → ℕ → Bool → View
-looked v log s b = record { live = v.live; plan = v.plan; opening = v.opening; seen = log; told = v.told; mine = v.mine; flight = looked_in v.flight s b; claimed = v.claimed; passed = v.passed; owed = v.owed }
+looked v log s b = record { live = v.live; share = v.share; plan = v.plan; opening = v.opening; seen = log; told = v.told; mine = v.mine; flight = looked_in v.flight s b; claimed = v.claimed; passed = v.passed; owed = v.owed }
 
 -- what a settle of the device makes its seat owe: all consumers, where it bound
 abbrev pub debts_of : List PlannedDevice → ℕ → List ℕ
@@ -119,6 +127,7 @@ debts_of plan d = if is_bound (outcome_by (verdict_of plan d)) then consumers_of
 abbrev pub settled_by : View → History → ℕ → View
 settled_by v log d = record {
   live = v.live;
+  share = v.share;
   plan = v.plan;
   opening = v.opening;
   seen = log ++ settle_of v.plan d ∷ [];
@@ -132,7 +141,7 @@ settled_by v log d = record {
 
 -- the flight ended, and its device waits
 abbrev pub deferred : View → History → ℕ → View
-deferred v log d = record { live = v.live; plan = v.plan; opening = v.opening; seen = log; told = v.told; mine = v.mine; flight = None; claimed = v.claimed; passed = v.passed; owed = v.owed ++ d ∷ [] }
+deferred v log d = record { live = v.live; share = v.share; plan = v.plan; opening = v.opening; seen = log; told = v.told; mine = v.mine; flight = None; claimed = v.claimed; passed = v.passed; owed = v.owed ++ d ∷ [] }
 
 abbrev pub rest : List ℕ → List ℕ
 rest [] = []
@@ -140,7 +149,7 @@ rest (x ∷ xs) = xs
 
 -- these debts are left
 abbrev pub with_debts : View → History → List ℕ → View
-with_debts v log left = record { live = v.live; plan = v.plan; opening = v.opening; seen = log; told = v.told; mine = v.mine; flight = v.flight; claimed = v.claimed; passed = v.passed; owed = left }
+with_debts v log left = record { live = v.live; share = v.share; plan = v.plan; opening = v.opening; seen = log; told = v.told; mine = v.mine; flight = v.flight; claimed = v.claimed; passed = v.passed; owed = left }
 
 -- the first debt dropped
 abbrev pub relieved : View → History → View

@@ -10,7 +10,7 @@ ghost use Rattle.bus_board.specs.Opening.{NotOpened};
 ghost use Rattle.bus_board.specs.Private.Standing.{IsFirstTable};
 ghost use Rattle.bus_board.specs.Rule.{OpensAs};
 ghost use Rattle.bus_board.specs.Shown.{IsOf};
-ghost use Rattle.bus_board.specs.Views.{newcomer};
+ghost use Rattle.bus_board.specs.Views.{newcomer, lender};
 
 use crate::hints::Hints;
 use crate::opening::first_words;
@@ -88,12 +88,13 @@ impl Board {
         }
     }
 
-    /// A further seat, which has seen what the given one has.
+    /// A further seat, which has seen what the given one has, and half of its share of the board.
     pub fn seat(&self, alloc: Global, seat: &mut Seat) -> Result<Seat, Refusal>
         requires { IsOf self.now seat.old }
+        ensures board { IsOf self.now seat.new }
         ensures new { IfOk result (λ r. IsOf self.now r × (r.view ≡ newcomer seat.old.view)) }
-        ensures same { seat.new ≡ seat.old }
-        ensures err { IfErr result (λ refusal. refusal ≡ NoMemory) }
+        ensures left { OnOk result (seat.new.view ≡ lender seat.old.view) }
+        ensures err { IfErr result (λ refusal. (seat.new ≡ seat.old) × (refusal ≡ NoMemory)) }
     {
         let owed = Vec::with_capacity(alloc, self.plan.len())?;
         let token = self.table.shared.split_seat::<Further>(&mut seat.token);

@@ -20,5 +20,5 @@ mod words;
 pub use board::Board;
 pub use closing::End;
 pub use seat::Seat;
-pub use view::{Flight, Opening, View};
+pub use view::{Flight, Opening, Share, View};
 pub use words::Word;

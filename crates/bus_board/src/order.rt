@@ -2,7 +2,7 @@
 
 ghost use Rattle.bus_board.specs.Rule.{Holds};
 ghost use Rattle.bus_board.specs.Steps.{Claims, Looks, Settles, Defers, Checks, Wakes, Notes};
-ghost use Rattle.bus_board.specs.Views.{opener, newcomer, both, spent};
+ghost use Rattle.bus_board.specs.Views.{opener, newcomer, lender, both, spent};
 
 use crate::view::View;
 use atomic_table::{Join, Play, Split, TableRule};
@@ -65,11 +65,11 @@ impl Play<(), View> for Note {
     ghost then = { Notes };
 }
 
-/// A further seat.
+/// A further seat, which takes half of the share of the given one.
 pub struct Further;
 
 impl Split<View> for Further {
-    ghost left = { λ view. view };
+    ghost left = { lender };
 
     ghost right = { newcomer };
 }

@@ -20,10 +20,19 @@ pub struct Opening {
     pub begun: LinkedList<bool>,
 }
 
+/// How much of its board is a seat's: so many parts, where the whole is halved so often.
+pub struct Share {
+    pub parts: usize,
+    pub halvings: usize,
+}
+
 /// A seat's view of its board.
 pub struct View {
     /// Whether it is a seat's: a seat that was given back leaves a view that isn't.
     pub live: bool,
+    /// The first seat has the whole. A further seat has half of what the one had that it was made from, and a seat that is given
+    /// back adds its own. So a seat that has the whole is the only one.
+    pub share: Share,
     pub plan: Plan,
     pub opening: Opening,
     /// The settles that it has seen, the first ones of the board's history.

@@ -15,7 +15,7 @@ use Rattle.bus_core.proofs.HistoryLemmas.{ready-matched}
 pub late-long : (plan : List PlannedDevice) (name : List ℕ) (strings : List (List ℕ)) → length (with_driver plan name strings) ≡ length plan
 late-long plan name strings = length-map plan (device_with name strings)
 
-late-at : (plan : List PlannedDevice) (name : List ℕ) (strings : List (List ℕ)) (d : ℕ) → planned (with_driver plan name strings) d ≡ device_with name strings (planned plan d)
+pub late-at : (plan : List PlannedDevice) (name : List ℕ) (strings : List (List ℕ)) (d : ℕ) → planned (with_driver plan name strings) d ≡ device_with name strings (planned plan d)
 late-at plan name strings d = elim (cases_lt d (length plan)) [
   | inl within ↦ get_or-map (device_with name strings) plan d nothing nothing within
   | inr past ↦

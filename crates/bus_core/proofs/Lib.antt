@@ -1,6 +1,7 @@
 mod PathLemmas
 pub mod CountLemmas
 pub mod CountedLemmas
+pub mod DriverLemmas
 pub mod HistoryLemmas
 pub mod LateCounts
 pub mod LateLemmas

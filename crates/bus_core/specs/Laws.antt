@@ -1,8 +1,8 @@
 -- The laws of the definitions, each stated by a public function.
-use Rattle.std.specs.Prelude.{◌≡◌, ℕ, Bool, ◌+◌, true, List, [], ◌∷◌, ◌++◌, length, Ok, Err}
+use Rattle.std.specs.Prelude.{◌≡◌, ℕ, Bool, ◌+◌, true, List, [], ◌∷◌, ◌++◌, length, Some, Ok, Err}
 use Rattle.std.specs.List.{list_all}
 use Rattle.bus_plan.specs.LateDriver.{with_driver}
-use Rattle.bus_plan.specs.Plan.{PlannedDevice, suppliers_of}
+use Rattle.bus_plan.specs.Plan.{PlannedDevice, driver_of, suppliers_of}
 use Rattle.bus_core.specs.declared.event.Event.{Event}
 use Rattle.bus_core.specs.declared.refusal.Refusal.{Refusal}
 use Rattle.bus_core.specs.declared.settle.Settle.{Settle}
@@ -19,6 +19,12 @@ abbrev pub EventsKeepHistory : Type 0
 EventsKeepHistory =
     (plan : List PlannedDevice) (events : List CoreEvent)
     → let core = after (first_core plan) events in IsBusHistory core.plan core.state.history
+
+-- No device gets two drivers: one that it has stays, whatever begins, finishes, is abandoned or is registered.
+abbrev pub DriversStay : Type 0
+DriversStay =
+    (core : CoreValue) (events : List CoreEvent) (d : ℕ) (driver : List ℕ)
+    → driver_of core.plan d ≡ Some driver → driver_of (after core events).plan d ≡ Some driver
 
 -- a history that was lawful stays so when a driver comes late
 abbrev pub HistoryStays : Type 0

@@ -127,9 +127,9 @@ register_refusal plan s name =
 abbrev pub registered_state : CoreState → List ℕ → CoreState
 registered_state s name = with_names s (s.registered ++ name ∷ [])
 
--- why a call that takes memory is refused: by the event's own test, or because memory was
+-- why a call that takes memory is refused: by the event's own test, and because memory was only where that refuses nothing
 abbrev pub IsRefused : Option Refusal → Refusal → Type 0
-IsRefused right refusal = (refusal ≡ NoMemory) ⊎ (right ≡ Some refusal)
+IsRefused right refusal = ((refusal ≡ NoMemory) × (right ≡ None)) ⊎ (right ≡ Some refusal)
 
 -- the plan gains the driver where it matches a device that has none
 abbrev pub registered_core : CoreValue → List ℕ → List (List ℕ) → CoreValue

@@ -1,10 +1,15 @@
 //! The laws of the bus, over all plans, states and events.
 
-ghost use Rattle.bus_core.specs.Laws.{EventsKeepHistory, HistoryStays, LeastGrows, QuietIsLeast, SuppliersComeFirst, QuietReportIsTheEnd, EndReportIsOne, ReplayIsAfter, ReplayKeepsHistory, ReplayGoesOn, ReplayStops};
+ghost use Rattle.bus_core.specs.Laws.{EventsKeepHistory, DriversStay, HistoryStays, LeastGrows, QuietIsLeast, SuppliersComeFirst, QuietReportIsTheEnd, EndReportIsOne, ReplayIsAfter, ReplayKeepsHistory, ReplayGoesOn, ReplayStops};
 
 /// Every list of begins, finishes, abandons and late drivers leads to a history of the sequential bus.
 pub fn events_keep_history()
     ensures { EventsKeepHistory }
+{}
+
+/// No device gets two drivers: one that it has stays, whatever begins, finishes, is abandoned or is registered.
+pub fn drivers_stay()
+    ensures { DriversStay }
 {}
 
 /// A history of the sequential bus stays one when a driver comes late.

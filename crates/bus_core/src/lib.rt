@@ -26,9 +26,9 @@ mod steps;
 pub use compatibles::Compatibles;
 pub use event::{Event, Reply, Report, Ticket};
 pub use laws::{
-    end_report_is_one, events_keep_history, history_stays, least_grows, quiet_is_least,
-    quiet_report_is_the_end, replay_goes_on, replay_is_after, replay_keeps_history, replay_stops,
-    suppliers_come_first,
+    drivers_stay, end_report_is_one, events_keep_history, history_stays, least_grows,
+    quiet_is_least, quiet_report_is_the_end, replay_goes_on, replay_is_after, replay_keeps_history,
+    replay_stops, suppliers_come_first,
 };
 pub use limits::MAX_BEGINS;
 pub use refusal::Refusal;

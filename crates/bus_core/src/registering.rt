@@ -36,8 +36,8 @@ impl Core {
         }
     }
 
-    // Why the name can't be registered, where it can't.
-    fn register_refusal(&self, name: &Name) -> Option<Refusal>
+    /// Why no driver of this name can come late, where none can: the name is a device's driver, or was registered before.
+    pub fn register_refusal(&self, name: &Name) -> Option<Refusal>
         ensures { result ≡ register_refusal self.now.plan self.now.state name.now }
     {
         if self.plan.knows(name) {

@@ -61,8 +61,8 @@ impl Core {
         }
     }
 
-    // Why the device can't begin, where it can't.
-    fn begin_refusal(&self, device: Device) -> Option<Refusal>
+    /// Why the device can't begin, where it can't: it has no driver, it is in flight or settled, or the begins are used up.
+    pub fn begin_refusal(&self, device: Device) -> Option<Refusal>
         requires { device < length self.now.plan }
         ensures refusal { result ≡ begin_refusal self.now.plan self.now.state device }
         ensures idle { IfNone result (is_idle self.now.state device ≡ true) }

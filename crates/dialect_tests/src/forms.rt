@@ -30,12 +30,32 @@ fn becomes(rt: &impl Abort, alloc: Global, hasher: RandomState, row: &Row) {
 
 const FORMS: &[Row] = &[
     (
+        " / { a = <'a''b'>; b = <1'b'2>; c = <0x1'a'>; };",
+        " / { a = < 97  98 >; b = <1 98 2>; c = <0x1 97 >; };\n",
+    ),
+    (
+        " / { a = /bits/ 8 <'A''B'>; b = <('A'+1)'B'>; };",
+        " / { a = /bits/ 8 < 65  66 >; b = <( 65 +1) 66 >; };\n",
+    ),
+    (
+        " /memreserve/'A''B'; / { };",
+        " /memreserve/ 65  66 ; / { };\n",
+    ),
+    (
+        " / { a { r = <&l'a'>; }; l: b { }; };",
+        " / { a { r = <&l 97 >; }; l: b { }; };\n",
+    ),
+    (
+        " / { /omit-if-no-ref/ b { }; a: a { linux,phandle = <5>; }; c { r = <1&a &a&a>; }; };",
+        " / { a: a { linux,phandle = <5>; }; c { r = <1 5   5  5 >; }; };\n",
+    ),
+    (
         " / { a = <'A' '\\n' '\\x41' '\\101'>; };",
-        " / { a = <65 10 65 65>; };\n",
+        " / { a = < 65   10   65   65 >; };\n",
     ),
     (
         " / { a = <'\\x4' '\\7' '\\777' '\\q' '\\''>; };",
-        " / { a = <4 7 255 113 39>; };\n",
+        " / { a = < 4   7   255   113   39 >; };\n",
     ),
     (
         " / { a: a { x; }; }; &a { y = <1>; z; y = <2>; };",
@@ -63,11 +83,11 @@ const FORMS: &[Row] = &[
     ),
     (
         " / { /omit-if-no-ref/ b { }; a: a { linux,phandle = <0x1fUL>; }; c { r = <&a>; }; };",
-        " / { a: a { linux,phandle = <0x1fUL>; }; c { r = <31>; }; };\n",
+        " / { a: a { linux,phandle = <0x1fUL>; }; c { r = < 31 >; }; };\n",
     ),
     (
         " / { a: a { linux,phandle = <017>; }; c { r = <&a>; }; };",
-        " / { a: a { linux,phandle = <017>; }; c { r = <15>; }; };\n",
+        " / { a: a { linux,phandle = <017>; }; c { r = < 15 >; }; };\n",
     ),
     (
         " / { a: a { linux,phandle = <08>; }; c { r = <&a>; }; };",

@@ -67,7 +67,7 @@ fn words_of_the_user(rt: HostRuntime) {
         // a name, a reference, a literal
         ("\n/ {\n\treg = <1>;\n};", ("", "reg"), (3, 2, 5)),
         ("\n/ {\n\ta = <1>,\n\t\t<&b>;\n};", ("<", "&b"), (4, 4, 6)),
-        ("\n/ {\n\ta = <1>,\n\t\t<'A'>;\n};", ("<", "65"), (4, 4, 7)),
+        ("\n/ {\n\ta = <1>,\n\t\t<'A'>;\n};", ("< ", "65"), (4, 4, 7)),
         // labels, also one that a later body gives
         ("\n/ { one: two: n { }; };", ("one: ", "two:"), (2, 10, 14)),
         (

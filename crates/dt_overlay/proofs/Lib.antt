@@ -11,6 +11,8 @@ pub mod PartNodes
 pub mod PartSteps
 pub mod PartValues
 mod Shallows
+mod ShiftedBytes
+mod ShiftedSteps
 mod Sizes
 pub mod SymbolLeads
 mod SymbolLengths

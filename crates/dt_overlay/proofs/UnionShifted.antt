@@ -54,7 +54,7 @@ write-bare a b (e ∷ es) = by_test (is_of a.path a.name e) (write-bare a b es) 
   by_test true ih = refl
   by_test false ih = ap (λ xs. bare e ∷ xs) ih
 
-take-same : (a : Site) (x y : Shifting) → take_site a x ≡ ok y → y.properties ≡ x.properties
+pub take-same : (a : Site) (x y : Shifting) → take_site a x ≡ ok y → y.properties ≡ x.properties
 take-same a x y = by_test (is_site a x) where
   by_test : (t : Bool) → (if t then Ok (record x { sites = a ∷ x.sites }) else Err BadFixup) ≡ ok y → y.properties ≡ x.properties
   by_test true e = ap (λ (z : Shifting). z.properties) (sym (ok-same (record x { sites = a ∷ x.sites }) y e))
@@ -101,10 +101,10 @@ phandles-bare s es fs e =
       by_test gs true e = ap (map bare) (sym (ok-same gs fs e))
       by_test gs false e = absurd (cc)
 
-abbrev shifting : List Value → Shifting
+abbrev pub shifting : List Value → Shifting
 shifting es = record { properties = es; sites = [] }
 
-abbrev valued : Resolved → List Value → Resolved
+abbrev pub valued : Resolved → List Value → Resolved
 valued over fs = record { nodes = over.nodes; properties = fs }
 
 alike-by : (over o : Resolved) (fs : List Value) → valued over fs ≡ o → map bare fs ≡ map bare over.properties → AreAlike over o
@@ -113,10 +113,10 @@ alike-by over o fs same bares = record {
   names = λ q. ap (λ (r : Resolved). named r.properties q) (sym same) ∙ sym (named-bare fs q) ∙ ap (λ es. named es q) bares ∙ named-bare over.properties q;
 }
 
-abbrev with_fixed : Resolved → Resolved → Shifting → Result Resolved Fault
+abbrev pub with_fixed : Resolved → Resolved → Shifting → Result Resolved Fault
 with_fixed base over x = then_do (with_fixups base (filter is_fixups over.properties) x) (λ fs. ok (valued over fs))
 
-abbrev with_raised : Resolved → Resolved → List Value → Result Resolved Fault
+abbrev pub with_raised : Resolved → Resolved → List Value → Result Resolved Fault
 with_raised base over es = then_do (fold (raise_sites (shift base)) (filter is_local_fixup over.properties) (shifting es)) (with_fixed base over)
 
 pub shifted-alike : (base over o : Resolved) → shifted_overlay base over ≡ ok o → AreAlike over o

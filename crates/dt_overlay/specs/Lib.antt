@@ -1,4 +1,5 @@
 pub mod Applied
 pub mod Laws
 pub mod Private
+pub mod ShiftedPlaces
 pub mod Union

@@ -15,4 +15,4 @@ mod symbols;
 
 pub use applying::{apply, apply_within};
 pub use dt_fixup::OverlayError;
-pub use laws::{refusal_is_of_a_fragment, result_is_union};
+pub use laws::{refusal_is_of_a_fragment, result_is_union, shifted_by_places};

@@ -2,6 +2,7 @@ pub mod Counted
 pub mod EachSteps
 pub mod Faults
 pub mod FindingSteps
+pub mod FreeNumbers
 pub mod GivenSteps
 pub mod Joined
 pub mod LabelledPaths

@@ -5,6 +5,7 @@
 
 mod error;
 mod labelled;
+mod laws;
 mod names;
 mod node_phandles;
 mod phandle;
@@ -14,6 +15,7 @@ mod resolving;
 mod wanted;
 
 pub use error::BuildError;
+pub use laws::phandles_in_order;
 pub use node_phandles::{Given, NodePhandle};
 pub use prepared::{Prepared, prepare};
 pub use references::Targets;

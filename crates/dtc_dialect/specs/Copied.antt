@@ -45,6 +45,10 @@ abbrev pub words_of : List Token → Option Tokens → List Token
 words_of tokens None = []
 words_of tokens (Some value) = part_of value.start value.end tokens
 
+-- a number that stands in place of a word, which joins neither of its neighbours
+abbrev pub apart : ℕ → List ℕ
+apart n = codes " " ++ decimal n ++ codes " "
+
 -- the path that a reference names: it stands in braces (123) behind the `&`
 abbrev pub path_of : List ℕ → Option (List ℕ)
 path_of [] = None

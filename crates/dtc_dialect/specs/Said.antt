@@ -20,7 +20,7 @@ use Rattle.dtc_dialect.specs.declared.table.Tokens.{Tokens}
 use Rattle.dtc_dialect.specs.declared.token.Kind.{Kind}
 use Rattle.dtc_dialect.specs.declared.token.Kind.TheVariants.{Reference}
 use Rattle.dtc_dialect.specs.declared.token.Token.{Token}
-use Rattle.dtc_dialect.specs.Copied.{Between, IsPut, inside, is_character, name_text, part_of, phandle_text, words_of}
+use Rattle.dtc_dialect.specs.Copied.{Between, IsPut, apart, inside, is_character, name_text, part_of, phandle_text, words_of}
 use Rattle.dtc_dialect.specs.Phandles.{cells_behind, no_cells}
 use Rattle.dtc_dialect.specs.References.{NamesNode}
 use Rattle.dtc_dialect.specs.Stops.{labels_there}
@@ -74,11 +74,12 @@ CellNumber Stands false text o = o ≡ None
 abbrev pub WordNumber : (List ℕ → Option ℕ → Type 0) → (in_cells : Bool) → Token → Option ℕ → Type 0
 WordNumber Stands in_cells token o = CellNumber Stands (is_cell_reference token.kind in_cells) token.text.now o
 
--- How a word is said: a character literal as its number; any other by the number that stands for it, or as it stands.
+-- How a word is said: a character literal as its number; any other by the number that stands for it, or as it stands. A
+-- number has a gap on each side, as a literal and a reference need none.
 pub data IsWord (Stands : List ℕ → Option ℕ → Type 0) (in_cells : Bool) (token : Token) : List ℕ → Type 0 where
   itself : is_character token.kind ≡ false → WordNumber Stands in_cells token None → IsWord Stands in_cells token token.text.now
-  character : (n : ℕ) → is_character token.kind ≡ true → character_of (inside token.text.now) ≡ Some n → IsWord Stands in_cells token (decimal n)
-  number : (n : ℕ) → is_character token.kind ≡ false → WordNumber Stands in_cells token (Some n) → IsWord Stands in_cells token (decimal n)
+  character : (n : ℕ) → is_character token.kind ≡ true → character_of (inside token.text.now) ≡ Some n → IsWord Stands in_cells token (apart n)
+  number : (n : ℕ) → is_character token.kind ≡ false → WordNumber Stands in_cells token (Some n) → IsWord Stands in_cells token (apart n)
 
 -- These bytes say the words in their order, which stand behind a word that leaves cells open or not.
 pub data Copied (Stands : List ℕ → Option ℕ → Type 0) : Cells → List Token → List ℕ → Type 0 where

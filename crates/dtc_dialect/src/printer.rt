@@ -1,7 +1,7 @@
 //! Text that is put behind other text, with its places.
 ghost use Rattle.std.specs.Prelude.{◌≡◌, OnOk, []};
 ghost use Rattle.std.specs.Fmt.{decimal};
-ghost use Rattle.dtc_dialect.specs.Copied.{Between, marker_line};
+ghost use Rattle.dtc_dialect.specs.Copied.{Between, apart, marker_line};
 ghost use Rattle.dtc_dialect.specs.Private.Printed.{Prints, PrintsText};
 
 use crate::bytes::line_ends;
@@ -62,6 +62,14 @@ impl<'t> Printer<'t> {
         ensures { OnOk result (PrintsText self.old self.new (decimal number)) }
     {
         let digits = format!(in alloc; "{number}")?;
+        self.put(digits.as_bytes())
+    }
+
+    /// Puts a number in decimal behind the text, with a gap on each side, so that it joins no word beside it.
+    pub fn put_apart(&mut self, alloc: Global, number: u64) -> Result<(), AllocError>
+        ensures { OnOk result (PrintsText self.old self.new (apart number)) }
+    {
+        let digits = format!(in alloc; " {number} ")?;
         self.put(digits.as_bytes())
     }
 

@@ -201,7 +201,7 @@ fn put_word<'t>(
         printer.put(token.text)?;
         return Ok(());
     };
-    printer.put_number(alloc, number)?;
+    printer.put_apart(alloc, number)?;
     Ok(())
 }
 
@@ -240,7 +240,7 @@ fn put_character<'t>(
     let Some(number) = character(inside(token.text)) else {
         return Err(refused(Mistake::Syntax, token.place));
     };
-    printer.put_number(alloc, number as u64)?;
+    printer.put_apart(alloc, number as u64)?;
     Ok(())
 }
 

@@ -1,12 +1,11 @@
 -- What the printer of a table puts behind its text.
 use Rattle.std.specs.Prelude.{◌≡◌, ℕ, ◌+◌, false, List, ◌++◌, codes, Option, None, Some}
-use Rattle.std.specs.Fmt.{decimal}
 use Rattle.dtc_dialect.specs.declared.printer.Printer.{Printer}
 use Rattle.dtc_dialect.specs.declared.printing.Printed.{Printed}
 use Rattle.dtc_dialect.specs.declared.table.LabelRow.{LabelRow}
 use Rattle.dtc_dialect.specs.declared.token.Token.{Token}
 use Rattle.dtc_dialect.specs.Character.{character_of}
-use Rattle.dtc_dialect.specs.Copied.{Between, IsPut, inside}
+use Rattle.dtc_dialect.specs.Copied.{Between, IsPut, apart, inside}
 use Rattle.dtc_dialect.specs.Said.{AreLabels, root_text}
 use Rattle.dtc_dialect.specs.Stops.{KnowsLabels}
 
@@ -24,7 +23,7 @@ PrintsText old new said = IsPut old.text.items new.text.items said
 
 -- the number of a character literal
 abbrev pub PrintsCharacter : Printer → Printer → Token → Type 0
-PrintsCharacter old new token = (n : ℕ) × (character_of (inside token.text.now) ≡ Some n) × IsPut old.text.items new.text.items (decimal n)
+PrintsCharacter old new token = (n : ℕ) × (character_of (inside token.text.now) ≡ Some n) × IsPut old.text.items new.text.items (apart n)
 
 -- the end of a statement
 abbrev pub PrintsEnd : Printer → Printer → Type 0

@@ -32,7 +32,7 @@ returns-in-Err c =
     in record {
       taken = tt;
       refused = elim c.in-Err.ensures.refused [
-        | inl memory ↦ inl (c.refused.ensures.memory memory)
+        | inl memory ↦ inl (c.refused.ensures.memory memory.0)
         | inr said ↦ elim c.refused.ensures.event [
           | inl none ↦ inl none
           | inr numbered ↦
