@@ -68,7 +68,7 @@ impl Compiler for Copier {
     fn compile(
         &mut self,
         alloc: Global,
-        hasher: RandomState,
+        _hasher: RandomState,
         text: &[u8],
         _symbols: bool,
     ) -> Result<Vec<u8>, Fault> {
@@ -83,7 +83,7 @@ impl Compiler for Copier {
                 }),
             });
         }
-        self.overlay(alloc, hasher, HEADER, text)
+        joined(alloc, HEADER, text)
     }
 
     fn dump(&mut self, alloc: Global, blob: &[u8]) -> Result<Vec<u8>, Fault> {
@@ -94,6 +94,14 @@ impl Compiler for Copier {
         }
     }
 
+    fn sort(&mut self, alloc: Global, _hasher: RandomState, blob: &[u8]) -> Result<Vec<u8>, Fault> {
+        joined(alloc, blob, b" // in order")
+    }
+
+    fn copy(&mut self, alloc: Global, _hasher: RandomState, blob: &[u8]) -> Result<Vec<u8>, Fault> {
+        joined(alloc, blob, b"")
+    }
+
     fn overlay(
         &mut self,
         alloc: Global,
@@ -101,13 +109,25 @@ impl Compiler for Copier {
         base: &[u8],
         overlay: &[u8],
     ) -> Result<Vec<u8>, Fault> {
-        let Ok(mut bytes) = Vec::from_slice(alloc, base) else {
-            return refused();
-        };
-        match bytes.extend_from_slice(overlay) {
-            Ok(()) => Ok(bytes),
-            Err(_) => refused(),
+        if place_of(overlay, b"&x").is_some() {
+            return Err(Fault {
+                number: 42,
+                name: "UnknownSymbol",
+                line: None,
+                bytes: None,
+            });
         }
+        joined(alloc, base, overlay)
+    }
+}
+
+fn joined(alloc: Global, one: &[u8], other: &[u8]) -> Result<Vec<u8>, Fault> {
+    let Ok(mut bytes) = Vec::from_slice(alloc, one) else {
+        return refused();
+    };
+    match bytes.extend_from_slice(other) {
+        Ok(()) => Ok(bytes),
+        Err(_) => refused(),
     }
 }
 
@@ -118,6 +138,12 @@ const FILES: &[(&str, &[u8])] = &[
     ("a.dts", b"/dts-v1/; / { /include/ \"b.dtsi\" };"),
     ("in/b.dtsi", b"x = /incbin/(\"c\", 1, 2);"),
     ("in/c", b"\x00\x1f\xff\x00"),
+    ("one.dts", b"/dts-v1/; / { };"),
+    ("-", b"/dts-v1/; / { };"),
+    (
+        "text.dtb",
+        b"0123456789012345678901234567890123456789/ { };",
+    ),
     ("bad.dts", b"/dts-v1/;\n&x { };"),
     (
         "unknown.dts",
@@ -148,14 +174,63 @@ fn runs(rt: &impl Abort, alloc: Global, hasher: RandomState, row: &Row) {
 }
 
 const DTC_RUNS: &[Row] = &[
-    (&["-v"], 0, "Version: DTC 1.6.1 (dtman)\n"),
+    (&["-v"], 0, "Version: DTC 1.6.1-dtman-0.3\n"),
     (&["-Z"], 1, "Error: unknown option -Z\n"),
     (
-        &["-s", "a.dts"],
+        &["-T", "a.dts"],
         1,
-        "Error: dtc's option -s isn't there in dtman\n",
+        "Error: dtc's option -T isn't there in dtman\n",
     ),
+    (&["-s", "-O", "dts", "text.dtb"], 0, "/ { }; // in order"),
     (&["-qo"], 1, "Error: option -qo requires an argument\n"),
+    (
+        &["-V", "16", "a.dts"],
+        1,
+        "Error: dtc's -V 16 isn't there in dtman\n",
+    ),
+    (
+        &["-V18", "a.dts"],
+        1,
+        "Error: option -V18 doesn't take 18\n",
+    ),
+    (
+        &["-H", "both", "a.dts"],
+        1,
+        "Error: dtc's -H both isn't there in dtman\n",
+    ),
+    (
+        &["-O", "yaml", "a.dts"],
+        1,
+        "Error: dtc's -O yaml isn't there in dtman\n",
+    ),
+    (
+        &["-I", "fs", "a.dts"],
+        1,
+        "Error: dtc's -I fs isn't there in dtman\n",
+    ),
+    (
+        &["-O", "null", "-V", "17", "-H", "epapr", "-i", "in", "a.dts"],
+        0,
+        "",
+    ),
+    // the output's name says that it is a source
+    (
+        &["-o", "x.dts", "one.dts"],
+        0,
+        "/dts-v1/;\n# 1 \"one.dts\"\n/ { };\n",
+    ),
+    // the input's name says that it is a blob
+    (&["-O", "dts", "text.dtb"], 0, "/ { };"),
+    (
+        &["-o", "-", "-d", "y", "-O", "null", "-"],
+        0,
+        "-: <stdin>\n",
+    ),
+    (
+        &["-d", "-", "-o", "x", "-O", "null", "one.dts"],
+        0,
+        "x: one.dts\n",
+    ),
     (
         &["-p", "1", "-S", "2"],
         1,
@@ -174,32 +249,32 @@ const DTC_RUNS: &[Row] = &[
     (
         &["bad.dts"],
         1,
-        "Error: bad.dts:2.1-3 error 20 UnknownLabel\nFATAL ERROR: Unable to parse input tree\n",
+        "Error: bad.dts:2.1-3: UnknownLabel: no node has this label: `&x`\nFATAL ERROR: Unable to parse input tree\n",
     ),
     (
         &["unknown.dts"],
-        1,
-        "Error: unknown.dts:4.3-11 error 20 UnknownLabel\nFATAL ERROR: Unable to parse input tree\n",
+        2,
+        "Error: unknown.dts:4.3-11: UnknownLabel: no node has this label: `&unknown`\nERROR: Input tree has errors, aborting\n",
     ),
     (
         &["lost.dts"],
         1,
-        "Error: lost.dts:2.2-23 error 80 CannotRead\nFATAL ERROR: Couldn't open \"none.dtsi\": error 80 CannotRead\n",
+        "Error: lost.dts:2.2-23: CannotRead: the file can't be read\nFATAL ERROR: Couldn't open \"none.dtsi\": error 80 CannotRead\n",
     ),
     (
         &["five.dts"],
         1,
-        "Error: five.dts:2.11-12 error 10 Syntax\nFATAL ERROR: error 10 Syntax in an inclusion\n",
+        "Error: five.dts:2.11-12: Syntax: this can't stand here\nFATAL ERROR: error 10 Syntax in an inclusion\n",
     ),
     (
         &["deep.dts"],
         1,
-        "Error: deep.dts:2.1-21 error 16 TooDeep\nFATAL ERROR: Includes nested too deeply\n",
+        "Error: deep.dts:2.1-21: TooDeep: nested over 64 deep\nFATAL ERROR: Includes nested too deeply\n",
     ),
     (
         &["part.dts"],
         1,
-        "Error: part.dts:1.39-40 error 10 Syntax\nFATAL ERROR: error 10 Syntax in an inclusion\n",
+        "Error: part.dts:1.39-40: Syntax: this can't stand here\nFATAL ERROR: error 10 Syntax in an inclusion\n",
     ),
     (
         &["-i", "in", "-O", "dts", "--out=x", "-d", "y", "a.dts"],
@@ -216,12 +291,48 @@ fn dtc(rt: HostRuntime) {
     }
 }
 
+const OVERLAY_RUNS: &[Row] = &[
+    (
+        &["-i", "one.dts", "-o", "x", "one.dts", "one.dts"],
+        0,
+        "/dts-v1/; / { };/dts-v1/; / { };/dts-v1/; / { };",
+    ),
+    (
+        &["--input=one.dts", "-ox", "one.dts"],
+        0,
+        "/dts-v1/; / { };/dts-v1/; / { };",
+    ),
+    (&["-V"], 0, "Version: DTC 1.6.1-dtman-0.3\n"),
+    (
+        &["-i", "in/c", "-o", "x"],
+        1,
+        "Error: missing overlay file(s)\n",
+    ),
+    (
+        &["-o", "x", "in/c"],
+        1,
+        "Error: option -i requires an argument\n",
+    ),
+    (&["-x"], 1, "Error: unknown option -x\n"),
+    (
+        &["-i", "in/c", "-o", "x", "bad.dts"],
+        1,
+        "Error: bad.dts: UnknownSymbol: the base has no such symbol, or no phandle where it leads\nFailed to apply 'bad.dts'\n",
+    ),
+    (
+        &["-i", "none", "-o", "x", "in/c"],
+        1,
+        "FATAL ERROR: Couldn't open \"none\": error 80 CannotRead\n",
+    ),
+];
+
 #[test]
 fn fdtoverlay(rt: HostRuntime) {
     let hasher = RandomState::new(&rt).expect(&rt, "a seed");
-    let mut desk = make_desk(rt.alloc(), hasher);
-    let words = ["-i", "in/c", "-o", "x", "in/c", "in/c"];
-    let status = run_fdtoverlay(rt.alloc(), &mut desk, &mut Copier, words.as_slice());
-    assert_eq!(&rt; status, 0);
-    assert_eq!(&rt; desk.written.len(), 12);
+    for (words, status, written) in OVERLAY_RUNS {
+        let mut desk = make_desk(rt.alloc(), hasher);
+        let ended = run_fdtoverlay(rt.alloc(), &mut desk, &mut Copier, *words);
+        assert_eq!(&rt; ended, *status);
+        assert_eq!(&rt; desk.written.as_slice(), written.as_bytes());
+    }
 }

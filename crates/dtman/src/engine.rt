@@ -2,7 +2,7 @@
 
 use dtman_cli::refused_bytes;
 use dtman_dtc::{Compiler, Fault};
-use dtman_engine::{Position, compile_bytes, dump_bytes, overlay_bytes};
+use dtman_engine::{Position, compile_bytes, copy_bytes, dump_bytes, overlay_bytes, sort_bytes};
 use std::alloc::Global;
 use std::hash::RandomState;
 
@@ -30,6 +30,14 @@ impl Compiler for Engine {
 
     fn dump(&mut self, alloc: Global, blob: &[u8]) -> Result<Vec<u8>, Fault> {
         dump_bytes(alloc, blob).map_err(|fault| dtc_fault(fault))
+    }
+
+    fn sort(&mut self, alloc: Global, hasher: RandomState, blob: &[u8]) -> Result<Vec<u8>, Fault> {
+        sort_bytes(alloc, hasher, blob).map_err(|fault| dtc_fault(fault))
+    }
+
+    fn copy(&mut self, alloc: Global, hasher: RandomState, blob: &[u8]) -> Result<Vec<u8>, Fault> {
+        copy_bytes(alloc, hasher, blob).map_err(|fault| dtc_fault(fault))
     }
 
     fn overlay(

@@ -36,7 +36,7 @@ pub trait Host {
     fn seed(&mut self) -> Result<RandomState, Unread>;
 }
 
-/// What makes blobs of texts in the profile, texts of blobs, and one blob of two.
+/// What makes blobs of texts in the profile, texts and copies of blobs, and one blob of two.
 pub trait Compiler {
     fn compile(
         &mut self,
@@ -47,6 +47,12 @@ pub trait Compiler {
     ) -> Result<Vec<u8>, Fault>;
 
     fn dump(&mut self, alloc: Global, blob: &[u8]) -> Result<Vec<u8>, Fault>;
+
+    /// The blob of the tree that a blob holds in order of its names.
+    fn sort(&mut self, alloc: Global, hasher: RandomState, blob: &[u8]) -> Result<Vec<u8>, Fault>;
+
+    /// The blob of the tree that a blob holds, laid out anew.
+    fn copy(&mut self, alloc: Global, hasher: RandomState, blob: &[u8]) -> Result<Vec<u8>, Fault>;
 
     fn overlay(
         &mut self,

@@ -11,8 +11,9 @@ mod overlaying;
 mod reports;
 mod running;
 mod searching;
+mod wording;
 
 pub use host::{Compiler, Fault, Host, Unread, Unwritten};
-pub use options::{Asked, BadWord, Format, Options, Room, read_words};
+pub use options::{Asked, BadWord, Format, Options, Order, Output, Room, read_words};
 pub use overlaying::run_fdtoverlay;
-pub use running::{DONE, FAILED, run_dtc};
+pub use running::{DONE, FAILED, WRONG_TREE, run_dtc};

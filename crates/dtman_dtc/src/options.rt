@@ -11,6 +11,14 @@ pub enum Format {
     Dtb,
 }
 
+/// What is asked of the output.
+#[derive(Clone, Copy, Debug, PartialEq, Eq)]
+pub enum Output {
+    Holds(Format),
+    /// Nothing is written: the input is looked at alone (`-O null`).
+    Nothing,
+}
+
 /// The room that a blob is given behind what it needs.
 #[derive(Clone, Copy, Debug)]
 pub struct Room {
@@ -24,17 +32,27 @@ pub struct Room {
     pub align: u32,
 }
 
+/// In which order nodes and properties stand.
+#[derive(Clone, Copy, Debug, PartialEq, Eq)]
+pub enum Order {
+    /// As the input has them.
+    AsRead,
+    ByName,
+}
+
 /// What is asked for.
 #[derive(Drop)]
 pub struct Options<'a> {
     pub input: &'a str,
     pub output: &'a str,
     pub from: Option<Format>,
-    pub to: Option<Format>,
+    pub to: Option<Output>,
     pub dependencies: Option<&'a str>,
     /// Where files are looked for (`-i`), in order.
     pub folders: Vec<&'a str>,
     pub symbols: bool,
+    /// Whether nodes and properties are put in order of their names (`-s`).
+    pub order: Order,
     pub boot_cpu: Option<u32>,
     pub room: Room,
     /// How often `-q` stands.
@@ -57,12 +75,16 @@ pub enum BadWord<'a> {
     Unknown(&'a str),
     /// An option of dtc that this program doesn't have.
     Missing(&'a str),
+    /// What follows the option is something that dtc takes and this program doesn't.
+    MissingArgument(&'a str, &'a str),
     /// An option without what must follow it.
     NoArgument(&'a str),
     /// What follows the option is nothing that it takes.
     BadArgument(&'a str, &'a str),
     /// A second input.
     Extra(&'a str),
+    /// Nothing is there to be applied.
+    NoOverlay,
     /// Two options that exclude each other.
     Both(&'a str, &'a str),
 }
@@ -86,6 +108,8 @@ enum Letter {
     From,
     Output,
     To,
+    Layout,
+    Phandles,
     Dependencies,
     Reserve,
     Space,
@@ -97,6 +121,7 @@ enum Letter {
     Warning,
     Mistake,
     Symbols,
+    Sort,
     Help,
     Version,
 }
@@ -106,7 +131,12 @@ impl Letter {
     fn takes_word(self) -> bool {
         !matches!(
             self,
-            Letter::Quiet | Letter::Force | Letter::Symbols | Letter::Help | Letter::Version
+            Letter::Quiet
+                | Letter::Force
+                | Letter::Symbols
+                | Letter::Sort
+                | Letter::Help
+                | Letter::Version
         )
     }
 }
@@ -117,6 +147,8 @@ fn short(letter: u8) -> Option<Letter> {
         b'I' => Some(Letter::From),
         b'o' => Some(Letter::Output),
         b'O' => Some(Letter::To),
+        b'V' => Some(Letter::Layout),
+        b'H' => Some(Letter::Phandles),
         b'd' => Some(Letter::Dependencies),
         b'R' => Some(Letter::Reserve),
         b'S' => Some(Letter::Space),
@@ -128,6 +160,7 @@ fn short(letter: u8) -> Option<Letter> {
         b'W' => Some(Letter::Warning),
         b'E' => Some(Letter::Mistake),
         b'@' => Some(Letter::Symbols),
+        b's' => Some(Letter::Sort),
         b'h' => Some(Letter::Help),
         b'v' => Some(Letter::Version),
         _ => None,
@@ -140,6 +173,8 @@ fn long(name: &str) -> Option<Letter> {
         "in-format" => Some(Letter::From),
         "out" => Some(Letter::Output),
         "out-format" => Some(Letter::To),
+        "out-version" => Some(Letter::Layout),
+        "phandle" => Some(Letter::Phandles),
         "out-dependency" => Some(Letter::Dependencies),
         "reserve" => Some(Letter::Reserve),
         "space" => Some(Letter::Space),
@@ -151,6 +186,7 @@ fn long(name: &str) -> Option<Letter> {
         "warning" => Some(Letter::Warning),
         "error" => Some(Letter::Mistake),
         "symbols" => Some(Letter::Symbols),
+        "sort" => Some(Letter::Sort),
         "help" => Some(Letter::Help),
         "version" => Some(Letter::Version),
         _ => None,
@@ -167,6 +203,7 @@ impl<'a> Options<'a> {
             dependencies: None,
             folders: Vec::new(alloc),
             symbols: false,
+            order: Order::AsRead,
             boot_cpu: None,
             room: Room {
                 reserves: 0,
@@ -272,16 +309,7 @@ fn read_long<'a>(
 /// An option that dtc has and this program doesn't, or none at all.
 fn not_there<'a>(word: &'a str, name: &str) -> BadWord<'a> {
     match name {
-        "out-version"
-        | "phandle"
-        | "sort"
-        | "auto-alias"
-        | "annotate"
-        | "V"
-        | "H"
-        | "s"
-        | "A"
-        | "T" => BadWord::Missing(word),
+        "auto-alias" | "annotate" | "A" | "T" => BadWord::Missing(word),
         _ => BadWord::Unknown(word),
     }
 }
@@ -323,6 +351,7 @@ fn meet<'a>(reading: &mut Reading<'a>, letter: Letter, word: &'a str) -> Result<
         // What dtc takes with -f and warns of is an error here all the same.
         Letter::Force => {}
         Letter::Symbols => reading.options.symbols = true,
+        Letter::Sort => reading.options.order = Order::ByName,
         Letter::Help => reading.asks_help = true,
         Letter::Version => reading.asks_version = true,
         _ => reading.open = Some((letter, word)),
@@ -340,7 +369,9 @@ fn set<'a>(
     let options = &mut reading.options;
     match letter {
         Letter::From => options.from = Some(format_of(name, word)?),
-        Letter::To => options.to = Some(format_of(name, word)?),
+        Letter::To => options.to = Some(output_of(name, word)?),
+        Letter::Layout => is_own(name, word, "17", &["1", "2", "3", "16"])?,
+        Letter::Phandles => is_own(name, word, "epapr", &["legacy", "both"])?,
         Letter::Output => options.output = word,
         Letter::Dependencies => options.dependencies = Some(word),
         Letter::Include => options.folders.push(word)?,
@@ -358,8 +389,42 @@ fn format_of<'a>(name: &'a str, word: &'a str) -> Result<Format, BadWord<'a>> {
     match word {
         "dts" => Ok(Format::Dts),
         "dtb" => Ok(Format::Dtb),
+        "fs" => Err(BadWord::MissingArgument(name, word)),
         _ => Err(BadWord::BadArgument(name, word)),
     }
+}
+
+fn output_of<'a>(name: &'a str, word: &'a str) -> Result<Output, BadWord<'a>> {
+    match word {
+        "dts" => Ok(Output::Holds(Format::Dts)),
+        "dtb" => Ok(Output::Holds(Format::Dtb)),
+        "null" => Ok(Output::Nothing),
+        "asm" | "yaml" => Err(BadWord::MissingArgument(name, word)),
+        _ => Err(BadWord::BadArgument(name, word)),
+    }
+}
+
+/// The format that a file's name tells by its ending.
+pub(crate) fn format_named(path: &str) -> Option<Format> {
+    let (_, ending) = path.rsplit_once(".")?;
+    match ending {
+        "dts" => Some(Format::Dts),
+        "dtb" | "dtbo" => Some(Format::Dtb),
+        _ => None,
+    }
+}
+
+/// Takes the one word that asks for what is done anyway, and refuses dtc's others by name.
+fn is_own<'a>(name: &'a str, word: &'a str, own: &str, others: &[&str]) -> Result<(), BadWord<'a>> {
+    if word == own {
+        return Ok(());
+    }
+    for other in others {
+        if *other == word {
+            return Err(BadWord::MissingArgument(name, word));
+        }
+    }
+    Err(BadWord::BadArgument(name, word))
 }
 
 fn power_of_two<'a>(name: &'a str, word: &'a str) -> Result<u32, BadWord<'a>> {

@@ -2,6 +2,8 @@
 
 use crate::host::{Fault, Host};
 use crate::options::BadWord;
+use crate::running::{FAILED, WRONG_TREE};
+use crate::wording::words_of_number;
 use dtc_dialect::{
     DialectError, Incomplete, Options, Place, Shortfall, Span, columns_of, origin_of, user_place,
 };
@@ -18,10 +20,21 @@ pub(crate) enum Failure<'a> {
     Word(BadWord<'a>),
     /// What a source takes in isn't there.
     Incomplete(Incomplete),
-    /// It was said already.
-    Said,
+    /// It was said already what is wrong, and in what.
+    Said(Wrong),
+    /// An overlay that doesn't fit; why was said already.
+    NotApplied(&'a str),
     /// A blob over 2^32 bytes.
     TooLong,
+}
+
+/// In what something is wrong.
+#[derive(Clone, Copy, Debug, PartialEq, Eq)]
+pub(crate) enum Wrong {
+    /// In the words of a source, or the bytes of a blob.
+    Text,
+    /// In the tree that they make.
+    Tree,
 }
 
 impl From<AllocError> for Failure<'_> {
@@ -46,10 +59,13 @@ pub(crate) fn report_dialect<H: Host>(
     match error {
         DialectError::NoMemory => Failure::NoMemory,
         DialectError::Refused(refusal) => {
-            let number = refusal.mistake as u8;
-            let name = refusal.mistake.name();
+            let told = Told {
+                number: refusal.mistake as u8,
+                name: refusal.mistake.name(),
+                lexeme: lexeme_in(text, refusal.place.span),
+            };
             let at = located(text, refusal.place);
-            said(report_at(alloc, host, Some(at), number, name))
+            said(Wrong::Text, report_at(alloc, host, Some(at), told))
         }
     }
 }
@@ -76,8 +92,16 @@ pub(crate) fn report_source<H: Host>(
     };
     match origin_of(alloc, source.hasher, source.options, source.whole, bytes) {
         Ok(Some(place)) => {
+            let told = Told {
+                number: fault.number,
+                name: fault.name,
+                lexeme: lexeme_in(source.whole, place.span),
+            };
             let at = located(source.whole, place);
-            said(report_at(alloc, host, Some(at), fault.number, fault.name))
+            said(
+                wrong_in(fault.number),
+                report_at(alloc, host, Some(at), told),
+            )
         }
         Err(DialectError::NoMemory) => Failure::NoMemory,
         _ => report_fault(alloc, host, file, text, fault),
@@ -97,16 +121,65 @@ pub(crate) fn report_fault<H: Host>(
     }
     let at = match fault.line {
         Some(line) => Some(located(text, user_place(file, text, line))),
-        None => None,
+        None if file.is_empty() => None,
+        None => Some(Shown {
+            file,
+            line: None,
+            columns: None,
+        }),
     };
-    said(report_at(alloc, host, at, fault.number, fault.name))
+    let told = Told {
+        number: fault.number,
+        name: fault.name,
+        lexeme: b"",
+    };
+    said(wrong_in(fault.number), report_at(alloc, host, at, told))
 }
 
-/// A line of a file, and columns where they are known: the first, and the one behind the last.
+/// Where dtc looks at what a source's words say, after all of them were read.
+fn wrong_in(number: u8) -> Wrong {
+    match number {
+        20..=29 => Wrong::Tree,
+        _ => Wrong::Text,
+    }
+}
+
+/// What is told of a refusal beside its place: the bytes of the text are none where they aren't known.
+#[derive(Clone, Copy)]
+struct Told<'a> {
+    number: u8,
+    name: &'a str,
+    lexeme: &'a [u8],
+}
+
+/// The bytes of a span, where they are text of one line and short enough to be shown.
+fn lexeme_in(text: &[u8], span: Option<Span>) -> &[u8] {
+    let Some(span) = span else {
+        return b"";
+    };
+    match text.get(span.start..span.end) {
+        Some(lexeme) if lexeme.len() <= MAX_SHOWN && is_shown(lexeme) => lexeme,
+        _ => b"",
+    }
+}
+
+/// How long a lexeme is at most that is shown, in bytes.
+const MAX_SHOWN: usize = 80;
+
+fn is_shown(lexeme: &[u8]) -> bool {
+    for c in lexeme {
+        if !matches!(*c, b' '..=b'~') {
+            return false;
+        }
+    }
+    true
+}
+
+/// A file, its line where it is known, and columns where they are: the first, and the one behind the last.
 #[derive(Clone, Copy)]
 struct Shown<'a> {
     file: &'a [u8],
-    line: usize,
+    line: Option<usize>,
     columns: Option<Span>,
 }
 
@@ -114,7 +187,7 @@ struct Shown<'a> {
 fn located<'a>(text: &[u8], place: Place<'a>) -> Shown<'a> {
     Shown {
         file: place.file,
-        line: place.line,
+        line: Some(place.line),
         columns: match place.span {
             Some(span) => Some(columns_of(text, span)),
             None => None,
@@ -122,35 +195,47 @@ fn located<'a>(text: &[u8], place: Place<'a>) -> Shown<'a> {
     }
 }
 
-fn said(reported: Result<(), AllocError>) -> Failure<'static> {
+fn said(wrong: Wrong, reported: Result<(), AllocError>) -> Failure<'static> {
     match reported {
-        Ok(()) => Failure::Said,
+        Ok(()) => Failure::Said(wrong),
         Err(_) => Failure::NoMemory,
     }
 }
 
-/// `Error: FILE:LINE.COLUMN-COLUMN error NUMBER NAME`, as far as the place is known.
+/// `Error: FILE:LINE.COLUMN-COLUMN: NAME: words: LEXEME`, as far as it is known.
 fn report_at<H: Host>(
     alloc: Global,
     host: &mut H,
     at: Option<Shown<'_>>,
-    number: u8,
-    name: &str,
+    told: Told<'_>,
 ) -> Result<(), AllocError> {
     let mut line = Vec::from_slice(alloc, b"Error: ")?;
     if let Some(at) = at {
-        line.extend_from_slice(at.file)?;
-        let number = at.line;
-        line.extend_from_slice(format!(in alloc; ":{number}")?.as_bytes())?;
-        if let Some(columns) = at.columns {
-            let (first, behind) = (columns.start, columns.end);
-            line.extend_from_slice(format!(in alloc; ".{first}-{behind}")?.as_bytes())?;
-        }
-        line.extend_from_slice(b" ")?;
+        put_place(alloc, &mut line, at)?;
     }
-    let words = format!(in alloc; "error {number} {name}\n")?;
-    line.extend_from_slice(words.as_bytes())?;
+    let (name, words) = (told.name, words_of_number(told.number));
+    line.extend_from_slice(format!(in alloc; "{name}: {words}")?.as_bytes())?;
+    if !told.lexeme.is_empty() {
+        line.extend_from_slice(b": `")?;
+        line.extend_from_slice(told.lexeme)?;
+        line.extend_from_slice(b"`")?;
+    }
+    line.extend_from_slice(b"\n")?;
     host.report(line.as_slice());
+    Ok(())
+}
+
+/// `FILE:LINE.COLUMN-COLUMN: `.
+fn put_place(alloc: Global, line: &mut Vec<u8>, at: Shown<'_>) -> Result<(), AllocError> {
+    line.extend_from_slice(at.file)?;
+    if let Some(number) = at.line {
+        line.extend_from_slice(format!(in alloc; ":{number}")?.as_bytes())?;
+    }
+    if let Some(columns) = at.columns {
+        let (first, behind) = (columns.start, columns.end);
+        line.extend_from_slice(format!(in alloc; ".{first}-{behind}")?.as_bytes())?;
+    }
+    line.extend_from_slice(b": ")?;
     Ok(())
 }
 
@@ -166,17 +251,22 @@ pub(crate) fn report_shortfall<H: Host>(
     };
     let at = Some(Shown {
         file: site.file.as_slice(),
-        line: site.line,
+        line: Some(site.line),
         columns: Some(site.columns),
     });
-    let reported = match reason {
-        Incomplete::NoMemory => Ok(()),
-        Incomplete::NoFile(_) => report_at(alloc, host, at, 80, "CannotRead"),
-        Incomplete::TooDeep => report_at(alloc, host, at, 16, "TooDeep"),
-        Incomplete::TooLong => report_at(alloc, host, at, 17, "TooLong"),
-        Incomplete::Syntax => report_at(alloc, host, at, 10, "Syntax"),
+    let (number, name) = match reason {
+        Incomplete::NoMemory => return Failure::NoMemory,
+        Incomplete::NoFile(_) => (80, "CannotRead"),
+        Incomplete::TooDeep => (16, "TooDeep"),
+        Incomplete::TooLong => (17, "TooLong"),
+        Incomplete::Syntax => (10, "Syntax"),
     };
-    match reported {
+    let told = Told {
+        number,
+        name,
+        lexeme: b"",
+    };
+    match report_at(alloc, host, at, told) {
         Ok(()) => Failure::Incomplete(reason),
         Err(_) => Failure::NoMemory,
     }
@@ -188,7 +278,10 @@ pub(crate) fn fail<H: Host>(alloc: Global, host: &mut H, failure: &Failure<'_>) 
     if let Ok(words) = words_of(alloc, failure) {
         host.report(words.as_bytes());
     }
-    1
+    match failure {
+        Failure::Said(Wrong::Tree) => WRONG_TREE,
+        _ => FAILED,
+    }
 }
 
 fn words_of(alloc: Global, failure: &Failure<'_>) -> Result<String, AllocError> {
@@ -203,7 +296,11 @@ fn words_of(alloc: Global, failure: &Failure<'_>) -> Result<String, AllocError> 
         Failure::NoSeed => format!(in alloc; "FATAL ERROR: error 80 CannotRead random\n"),
         Failure::Word(word) => bad_word(alloc, word),
         Failure::Incomplete(reason) => incomplete(alloc, reason),
-        Failure::Said => format!(in alloc; "FATAL ERROR: Unable to parse input tree\n"),
+        Failure::Said(Wrong::Text) => {
+            format!(in alloc; "FATAL ERROR: Unable to parse input tree\n")
+        }
+        Failure::Said(Wrong::Tree) => format!(in alloc; "ERROR: Input tree has errors, aborting\n"),
+        Failure::NotApplied(path) => format!(in alloc; "Failed to apply '{path}'\n"),
         Failure::TooLong => format!(in alloc; "FATAL ERROR: error 38 TooLarge\n"),
     }
 }
@@ -215,6 +312,9 @@ fn bad_word(alloc: Global, word: &BadWord<'_>) -> Result<String, AllocError> {
         BadWord::Missing(word) => {
             format!(in alloc; "Error: dtc's option {word} isn't there in dtman\n")
         }
+        BadWord::MissingArgument(word, argument) => {
+            format!(in alloc; "Error: dtc's {word} {argument} isn't there in dtman\n")
+        }
         BadWord::NoArgument(word) => format!(in alloc;
             "Error: option {word} requires an argument\n"
         ),
@@ -222,6 +322,7 @@ fn bad_word(alloc: Global, word: &BadWord<'_>) -> Result<String, AllocError> {
             format!(in alloc; "Error: option {word} doesn't take {argument}\n")
         }
         BadWord::Extra(word) => format!(in alloc; "Error: more than one input: {word}\n"),
+        BadWord::NoOverlay => format!(in alloc; "Error: missing overlay file(s)\n"),
         BadWord::Both(one, other) => format!(in alloc;
             "FATAL ERROR: Can't set both {one} and {other}\n"
         ),

@@ -1,9 +1,9 @@
 //! A run of dtc: one input, one output.
 
-use crate::blob::{Word, set_boot_cpu, with_room, word_at};
+use crate::blob::{set_boot_cpu, with_room};
 use crate::booting::boot_cpu_of;
 use crate::host::{Compiler, Host};
-use crate::options::{Asked, Format, Options, read_words};
+use crate::options::{Asked, Format, Options, Order, Output, format_named, read_words};
 use crate::reports::{
     Failure, Source, fail, report_dialect, report_fault, report_shortfall, report_source,
 };
@@ -17,15 +17,19 @@ pub const DONE: u8 = 0;
 /// The exit status of one that didn't.
 pub const FAILED: u8 = 1;
 
+/// The exit status of one whose source was read and makes no tree.
+pub const WRONG_TREE: u8 = 2;
+
 /// What `-v` says. Builds look at the number: what they may ask of dtc 1.6.1 is there.
-const VERSION: &[u8] = b"Version: DTC 1.6.1 (dtman)\n";
+pub(crate) const VERSION: &[u8] = b"Version: DTC 1.6.1-dtman-0.3\n";
 
 const HELP: &[u8] = b"Usage: dtc [options] <input file>\n
-Options: -[qI:O:o:d:R:S:p:a:fb:i:W:E:@hv]
+Options: -[qI:O:o:V:d:R:S:p:a:fb:i:H:sW:E:@hv]
   -q, --quiet                 say less
   -I, --in-format <arg>       dts or dtb
   -o, --out <arg>             the output file, - for standard output
-  -O, --out-format <arg>      dtb or dts (canonical)
+  -O, --out-format <arg>      dtb, dts (canonical) or null (nothing)
+  -V, --out-version <arg>     17, the version of each blob
   -d, --out-dependency <arg>  writes the files that were read, for make
   -R, --reserve <number>      empty entries of the memory reservations
   -S, --space <bytes>         the least size of the blob
@@ -33,6 +37,8 @@ Options: -[qI:O:o:d:R:S:p:a:fb:i:W:E:@hv]
   -a, --align <bytes>         what the blob's size is a multiple of
   -b, --boot-cpu <number>     the processor that boots
   -i, --include <folder>      where files are looked for
+  -s, --sort                  nodes and properties in order of their names
+  -H, --phandle <arg>         epapr: phandles stand in properties phandle
   -f, --force, -W, --warning <arg>, -E, --error <arg>
                               taken, without effect: there are no warnings
   -@, --symbols               adds the paths of all labelled nodes
@@ -86,36 +92,44 @@ fn convert<'a, H: Host, C: Compiler>(
     options: &Options<'a>,
 ) -> Result<(), Failure<'a>> {
     let bytes = read(alloc, host, options.input)?;
-    let from = options.from.unwrap_or(guessed(bytes.as_slice()));
-    let to = options.to.unwrap_or(other(from));
+    let from = options
+        .from
+        .unwrap_or(guessed(options.input, bytes.as_slice()));
+    let to = options
+        .to
+        .unwrap_or(Output::Holds(wanted(options.output, from)));
     let mut found = Vec::new(alloc);
-    let blob = match from {
-        Format::Dts => compiled(alloc, host, compiler, options, bytes.as_slice(), &mut found)?,
-        Format::Dtb => copied(alloc, host, compiler, options, to, bytes)?,
+    let blob = match (from, to) {
+        (Format::Dts, _) => compiled(alloc, host, compiler, options, bytes.as_slice(), &mut found)?,
+        // what is printed is read once
+        (Format::Dtb, Output::Holds(Format::Dts)) => bytes,
+        (Format::Dtb, _) => copied(alloc, host, compiler, options, bytes.as_slice())?,
     };
+    let blob = ordered(alloc, host, compiler, options, blob)?;
     let output = match to {
-        Format::Dts => dumped(alloc, host, compiler, options, blob.as_slice())?,
-        Format::Dtb => widened(alloc, options, blob.as_slice())?,
+        Output::Holds(Format::Dts) => dumped(alloc, host, compiler, options, blob.as_slice())?,
+        Output::Holds(Format::Dtb) => widened(alloc, host, options, blob.as_slice())?,
+        Output::Nothing => return put_found(alloc, host, options, found.as_slice()),
     };
-    if let Some(path) = options.dependencies {
-        put_dependencies(alloc, host, options, path, found.as_slice())?;
-    }
+    put_found(alloc, host, options, found.as_slice())?;
     put(host, options.output, output.as_slice())
 }
 
-/// What bytes seem to be: a blob where they begin as one.
-fn guessed(bytes: &[u8]) -> Format {
+/// What an input is: a blob where its bytes begin as one, else what its name says, else a source.
+fn guessed(path: &str, bytes: &[u8]) -> Format {
     match bytes {
         [0xd0, 0x0d, 0xfe, 0xed, ..] => Format::Dtb,
-        _ => Format::Dts,
+        _ => format_named(path).unwrap_or(Format::Dts),
     }
 }
 
-fn other(format: Format) -> Format {
-    match format {
+/// What an output is: what its name says, else the other kind than the input.
+fn wanted(path: &str, from: Format) -> Format {
+    let other = match from {
         Format::Dts => Format::Dtb,
         Format::Dtb => Format::Dts,
-    }
+    };
+    format_named(path).unwrap_or(other)
 }
 
 /// The blob of a source, with the processor that boots.
@@ -130,10 +144,7 @@ fn compiled<H: Host, C: Compiler>(
     let Ok(hasher) = host.seed() else {
         return Err(Failure::NoSeed);
     };
-    let file = match options.input {
-        "-" => b"<stdin>".as_slice(),
-        path => plain(path.as_bytes()),
-    };
+    let file = plain(named(options.input).as_bytes());
     let whole = whole(alloc, host, options, file, source, found)?;
     let wanted = dtc_dialect::Options {
         file,
@@ -183,29 +194,45 @@ fn whole<H: Host>(
     }
 }
 
-/// A blob as it is, or laid out anew where a blob is asked for.
+/// A blob laid out anew, with the processor that boots.
 fn copied<H: Host, C: Compiler>(
     alloc: Global,
     host: &mut H,
     compiler: &mut C,
     options: &Options<'_>,
-    to: Format,
-    bytes: Vec<u8>,
+    blob: &[u8],
 ) -> Result<Vec<u8>, Failure<'static>> {
-    if to == Format::Dts {
-        return Ok(bytes);
-    }
-    let text = dumped(alloc, host, compiler, options, bytes.as_slice())?;
     let Ok(hasher) = host.seed() else {
         return Err(Failure::NoSeed);
     };
-    match compiler.compile(alloc, hasher, text.as_slice(), false) {
-        Ok(mut blob) => {
-            let number = word_at(bytes.as_slice(), Word::BootCpu as usize).unwrap_or(0);
-            set_boot_cpu(&mut blob, options.boot_cpu.unwrap_or(number));
-            Ok(blob)
+    match compiler.copy(alloc, hasher, blob) {
+        Ok(mut copy) => {
+            if let Some(number) = options.boot_cpu {
+                set_boot_cpu(&mut copy, number);
+            }
+            Ok(copy)
         }
-        Err(fault) => Err(report_fault(alloc, host, b"", b"", &fault)),
+        Err(fault) => Err(report_fault(alloc, host, options.input.as_bytes(), b"", &fault)),
+    }
+}
+
+/// The blob in the order that is asked for.
+fn ordered<H: Host, C: Compiler>(
+    alloc: Global,
+    host: &mut H,
+    compiler: &mut C,
+    options: &Options<'_>,
+    blob: Vec<u8>,
+) -> Result<Vec<u8>, Failure<'static>> {
+    if options.order == Order::AsRead {
+        return Ok(blob);
+    }
+    let Ok(hasher) = host.seed() else {
+        return Err(Failure::NoSeed);
+    };
+    match compiler.sort(alloc, hasher, blob.as_slice()) {
+        Ok(sorted) => Ok(sorted),
+        Err(fault) => Err(report_fault(alloc, host, options.input.as_bytes(), b"", &fault)),
     }
 }
 
@@ -223,11 +250,36 @@ fn dumped<H: Host, C: Compiler>(
     }
 }
 
-/// The blob with the room that is asked for.
-fn widened(alloc: Global, options: &Options<'_>, blob: &[u8]) -> Result<Vec<u8>, Failure<'static>> {
-    match with_room(alloc, blob, &options.room)? {
-        Some(blob) => Ok(blob),
-        None => Err(Failure::TooLong),
+/// The blob with the room that is asked for. A least size that it has already is told.
+fn widened<H: Host>(
+    alloc: Global,
+    host: &mut H,
+    options: &Options<'_>,
+    blob: &[u8],
+) -> Result<Vec<u8>, Failure<'static>> {
+    let Some(wide) = with_room(alloc, blob, &options.room)? else {
+        return Err(Failure::TooLong);
+    };
+    let (space, size) = (options.room.space, wide.len());
+    if 0 < space && (space as usize) < size && options.quiet == 0 {
+        let warning = format!(in alloc; "Warning: blob size {size} >= minimum size {space}\n")?;
+        host.report(warning.as_bytes());
+    }
+    Ok(wide)
+}
+
+/// Writes the files that were read, where that is asked for.
+fn put_found<'a, H: Host>(
+    alloc: Global,
+    host: &mut H,
+    options: &Options<'a>,
+    found: &[Vec<u8>],
+) -> Result<(), Failure<'a>> {
+    match options.dependencies {
+        // dtc makes a file of this name
+        Some("-") => put_dependencies(alloc, host, options, "./-", found),
+        Some(path) => put_dependencies(alloc, host, options, path, found),
+        None => Ok(()),
     }
 }
 
@@ -241,11 +293,19 @@ fn put_dependencies<'a, H: Host>(
 ) -> Result<(), Failure<'a>> {
     let mut line = Vec::from_slice(alloc, options.output.as_bytes())?;
     line.extend_from_slice(b": ")?;
-    line.extend_from_slice(options.input.as_bytes())?;
+    line.extend_from_slice(named(options.input).as_bytes())?;
     for file in found {
         line.extend_from_slice(b" ")?;
         line.extend_from_slice(file.as_slice())?;
     }
     line.extend_from_slice(b"\n")?;
     put(host, path, line.as_slice())
+}
+
+/// How an input is called: standard input has no path.
+fn named(path: &str) -> &str {
+    match path {
+        "-" => "<stdin>",
+        path => path,
+    }
 }

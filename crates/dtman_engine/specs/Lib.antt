@@ -1,5 +1,6 @@
 pub mod BlobFaults
 pub mod Compile
+pub mod Copy
 pub mod Dump
 pub mod EventFaults
 pub mod Explain
@@ -14,6 +15,7 @@ pub mod Probe
 pub mod Replay
 pub mod ReplayRun
 pub mod RunFaults
+pub mod Sort
 pub mod SourceFaults
 pub mod TextFaults
 pub mod Transfer

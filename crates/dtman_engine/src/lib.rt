@@ -3,6 +3,7 @@
 
 mod channel;
 mod compiling;
+mod copying;
 mod dump;
 mod explaining;
 mod fault;
@@ -14,11 +15,13 @@ mod planning;
 mod probing;
 mod replay;
 mod replay_run;
+mod sorting;
 mod streams;
 mod transfer;
 
 pub use channel::{Channel, Failed};
 pub use compiling::compile_bytes;
+pub use copying::copy_bytes;
 pub use dump::dump_bytes;
 pub use explaining::{Explanation, explain};
 pub use fault::{Fault, Position};
@@ -30,5 +33,6 @@ pub use planning::{graph_bytes, plan_bytes};
 pub use probing::probe_bytes;
 pub use replay::replay_bytes;
 pub use replay_run::replay_run_bytes;
+pub use sorting::sort_bytes;
 pub use streams::{FileChannel, InputChannel, OutputChannel};
 pub use transfer::{WriteFault, read_all, read_within, write_out};

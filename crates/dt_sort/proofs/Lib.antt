@@ -1,0 +1,4 @@
+mod InOrder
+mod Lookups
+mod Nodes
+mod Reserves
