@@ -8,7 +8,7 @@ use Rattle.bus_core.specs.declared.refusal.Refusal.TheVariants.{NoMemory, NotIdl
 use Rattle.bus_board.specs.Ends.{EndsAs}
 use Rattle.bus_board.specs.Learns.{GivenBack, NotGivenBack, Paid}
 use Rattle.bus_board.specs.Rule.{OpensAs}
-use Rattle.bus_board.specs.Views.{opener, newcomer}
+use Rattle.bus_board.specs.Views.{opener, newcomer, lender}
 use Rattle.bus_board.specs.Words.{number_of}
 use Rattle.bus_board.specs.declared.view.View.{View}
 use Rattle.bus_board.specs.declared.words.Word.{Word}
@@ -41,21 +41,21 @@ WakesOwed v w told = Paid v w [] × (told ≡ done 0 0)
 abbrev pub IsOpened : List PlannedDevice → Option Placed → Type 0
 IsOpened plan after = (p : Placed) × (after ≡ Some p) × (p.board.plan ≡ plan) × (p.seat.view ≡ opener (first_core plan)) × OpensAs (first_core plan) p.seat.view
 
--- q is a further seat of the board of p
-abbrev pub IsFurther : Placed → Placed → Type 0
-IsFurther p q = (q.board ≡ p.board) × (q.seat.view ≡ newcomer p.seat.view)
+-- the seat p became l, which keeps half of its share of the board, and q is a further seat with the other half
+abbrev pub IsFurther : Placed → Placed → Placed → Type 0
+IsFurther p l q = (l.board ≡ p.board) × (l.seat.view ≡ lender p.seat.view) × (q.board ≡ p.board) × (q.seat.view ≡ newcomer p.seat.view)
 
--- a further seat of the board of p, or none for want of memory
-abbrev pub IsSeated : Placed → Option Placed → Told → Type 0
-IsSeated p after told =
-    ((q : Placed) × (after ≡ Some q) × (q.board ≡ p.board) × (q.seat.view ≡ newcomer p.seat.view) × (told ≡ done 0 0))
-    ⊎ ((after ≡ None) × (told ≡ refused NoMemory))
+-- a further seat beside p, or none for want of memory
+abbrev pub IsSeated : Placed → Option Placed → Option Placed → Told → Type 0
+IsSeated p left after told =
+    ((l q : Placed) × (left ≡ Some l) × (after ≡ Some q) × IsFurther p l q × (told ≡ done 0 0))
+    ⊎ ((left ≡ Some p) × (after ≡ None) × (told ≡ refused NoMemory))
 
--- a further seat goes into an empty handle, and the given one stays as it was
-abbrev pub Seats : Option Placed → Option Placed → Option Placed → Told → Type 0
-Seats from (Some q) after told = (told ≡ is_occupied) × (after ≡ Some q)
-Seats None None after told = (told ≡ no_seat) × (after ≡ None)
-Seats (Some p) None after told = IsSeated p after told
+-- a further seat goes into an empty handle, and what is left of the given one stays in its own
+abbrev pub Seats : Option Placed → Option Placed → Option Placed → Option Placed → Told → Type 0
+Seats from left (Some q) after told = (told ≡ is_occupied) × (left ≡ from) × (after ≡ Some q)
+Seats None left None after told = (told ≡ no_seat) × (left ≡ None) × (after ≡ None)
+Seats (Some p) left None after told = IsSeated p left after told
 
 -- seats that are given back to each other are of one board
 abbrev pub AreOfOne : Option Placed → Option Placed → Type 0

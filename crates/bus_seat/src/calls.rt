@@ -17,8 +17,7 @@ use std::alloc::Global;
 impl SeatHandle {
     /// A further seat of the board, into an empty handle.
     pub fn seat(&mut self, alloc: Global, handle: &mut SeatHandle) -> Told
-        ensures same { seated self.new ≡ seated self.old }
-        ensures new { Seats (seated self.old) (seated handle.old) (seated handle.new) result }
+        ensures { Seats (seated self.old) (seated self.new) (seated handle.old) (seated handle.new) result }
     {
         if !handle.is_empty() {
             return occupied();
@@ -124,9 +123,8 @@ impl SeatHandle {
 
 // A further seat, with the room that it wants.
 fn further(alloc: Global, placed: &mut PlacedSeat) -> Result<Lifted, Refusal>
-    ensures same { placed.new ≡ placed.old }
-    ensures new { IfOk result (λ new. IsFurther placed.old new.placed) }
-    ensures err { IfErr result (λ refusal. refusal ≡ NoMemory) }
+    ensures new { IfOk result (λ new. IsFurther placed.old placed.new new.placed) }
+    ensures err { IfErr result (λ refusal. (placed.new ≡ placed.old) × (refusal ≡ NoMemory)) }
 {
     let block = Box::new(alloc, Slot { placed: None })?;
     let placed = placed.further(alloc)?;

@@ -49,9 +49,8 @@ impl PlacedSeat {
 
     /// A further seat of the board.
     pub(crate) fn further(&mut self, alloc: Global) -> Result<PlacedSeat, Refusal>
-        ensures new { IfOk result (IsFurther self.old) }
-        ensures same { self.new ≡ self.old }
-        ensures err { IfErr result (λ refusal. refusal ≡ NoMemory) }
+        ensures new { IfOk result (IsFurther self.old self.new) }
+        ensures err { IfErr result (λ refusal. (self.new ≡ self.old) × (refusal ≡ NoMemory)) }
     {
         let board = Arc::try_clone(&self.board)?;
         let seat = self.board.seat(alloc, &mut self.seat)?;

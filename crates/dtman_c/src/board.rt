@@ -60,8 +60,7 @@ pub extern "C" fn dtman_board_seat(
     from: &mut SeatHandle,
     seat: &mut SeatHandle,
 ) -> Told
-    ensures same { seated from.new ≡ seated from.old }
-    ensures new { Seats (seated from.old) (seated seat.old) (seated seat.new) result }
+    ensures { Seats (seated from.old) (seated from.new) (seated seat.old) (seated seat.new) result }
 {
     from.seat(alloc, seat)
 }

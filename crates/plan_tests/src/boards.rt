@@ -63,6 +63,24 @@ fn board_two_seats(rt: HostRuntime) {
     closes(&rt, board, one, &[Word::Bound, Word::Bound], true);
 }
 
+/// Row seat-of-a-seat: seat 2 makes seat 3 and is given back first. Seat 3's wake finds the uart waiting, and seat 1 goes on with
+/// it once all have come back.
+#[test]
+fn seat_of_a_seat(rt: HostRuntime) {
+    let hasher = RandomState::new(&rt).expect(&rt, "a seed");
+    let (board, mut one) = open(&rt, rt.alloc(), hasher, UART_AND_CLOCK);
+    let mut two = further(&rt, rt.alloc(), &board, &mut one);
+    let mut three = further(&rt, rt.alloc(), &board, &mut two);
+    gives_back(&rt, &board, &mut one, two);
+    clock_is_missed(&rt, rt.alloc(), &board, &mut one, &mut three);
+    defers(&rt, &board, &mut one, clk(), Ok(()));
+    wakes(&board, &mut three);
+    gives_back(&rt, &board, &mut one, three);
+    uart_is_woken(&rt, rt.alloc(), &board, &mut one);
+    takes(&rt, rt.alloc(), &board, &mut one, Ok(None));
+    closes(&rt, board, one, &[Word::Bound, Word::Bound], true);
+}
+
 /// Row board-left-waiting, and what row board-with-wakes says of it: without its wake seat 1 owes, and is not taken back.
 /// Seat 1 is the one that stays at the end, so its debt needs nobody's word.
 #[test]
