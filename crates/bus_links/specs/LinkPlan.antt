@@ -1,0 +1,66 @@
+-- The plan of a tree by the links of Linux. A device waits for the suppliers of its links, but for early ones, and but for links
+-- that lie in a cycle: those are relaxed. The bus above stays a supplier, since buses make no cycle.
+use Rattle.std.specs.Prelude.{◌≡◌, ℕ, ◌+◌, ◌<◌, Bool, true, false, not, ◌&&◌, ◌||◌, ◌==◌, nat_le, if◌then◌else◌, List, [], ◌∷◌, ◌++◌, map, filter, length, slice_index, Result, Ok, Err}
+use Rattle.std.specs.Option.{option_map_or}
+use Rattle.std.specs.List.{list_all, slice_index_or}
+use Rattle.dt_tree.specs.NodeData.{NodeData}
+use Rattle.bus_plan.specs.declared.error.PlanError.{PlanError}
+use Rattle.bus_plan.specs.declared.error.PlanError.TheVariants.{UnknownPath, TooManyDevices}
+use Rattle.bus_plan.specs.Limits.{most_devices}
+use Rattle.bus_plan.specs.Plan.{PlannedDevice, suppliers_of}
+use Rattle.bus_drivers.specs.Driver.{DriverSetData}
+use Rattle.bus_drivers.specs.Nodes.{TreeDevice, device_nodes, tree_devices}
+use Rattle.bus_drivers.specs.TreePlan.{suppliers_among, planned_device, unknown_fail}
+use Rattle.bus_links.specs.LinkDrivers.{LinkDriversData}
+use Rattle.bus_links.specs.Links.{LinkData, is_bus, flags, flag_at, tree_links}
+
+-- ---- which links are waited for
+-- the component of a device: devices are in one where each reaches the other by links
+abbrev pub component_of : List ℕ → ℕ → ℕ
+component_of components d = slice_index components d
+
+abbrev pub is_relaxed : List ℕ → LinkData → Bool
+is_relaxed components l = not (is_bus l) && component_of components l.consumer == component_of components l.supplier
+
+-- that of an early device isn't waited for
+abbrev pub is_counted : List Bool → LinkData → Bool
+is_counted early l = not (flag_at early l.supplier)
+
+abbrev pub is_waited_for : List Bool → List ℕ → LinkData → Bool
+is_waited_for early components l = is_counted early l && not (is_relaxed components l)
+
+-- ---- suppliers
+-- those of the links of the device at this place that pass the test
+abbrev pub suppliers_by : (LinkData → Bool) → ℕ → List LinkData → List ℕ
+suppliers_by test own links = suppliers_among own (map (λ l. l.supplier) (filter test links))
+
+abbrev pub links_at : List (List LinkData) → ℕ → List LinkData
+links_at links own = slice_index_or links own []
+
+-- these devices planned, the first of which has this place
+abbrev pub planned_by : DriverSetData → (LinkData → Bool) → List (List LinkData) → ℕ → List TreeDevice → List PlannedDevice
+planned_by set test links own [] = []
+planned_by set test links own (d ∷ ds) =
+    planned_device set d (suppliers_by test own (links_at links own)) ∷ planned_by set test links (own + 1) ds
+
+-- ---- the plan
+-- with each counted link a supplier, as if none were relaxed
+abbrev pub whole_plan : NodeData → LinkDriversData → Bool → List PlannedDevice
+whole_plan root set strict =
+    planned_by set.drivers (is_counted (flags set.early (tree_devices root))) (tree_links root set strict) 0 (tree_devices root)
+
+abbrev pub relaxed_plan : NodeData → LinkDriversData → Bool → List ℕ → List PlannedDevice
+relaxed_plan root set strict components =
+    planned_by set.drivers (is_waited_for (flags set.early (tree_devices root)) components) (tree_links root set strict) 0 (tree_devices root)
+
+-- no supplier is in an earlier component: so no link leads from one component to another and back
+abbrev pub AreOrdered : List PlannedDevice → List ℕ → Type 0
+AreOrdered plan components =
+    (d : ℕ) → d < length plan → list_all (λ s. nat_le (component_of components d) (component_of components s)) (suppliers_of plan d) ≡ true
+
+-- the first refusal of a tree, as of a plan of it: too many devices, then a `fail` line whose path is no device's
+abbrev pub refusal_or : {A : Type 0} → NodeData → DriverSetData → A → Result A PlanError
+refusal_or root set a =
+    if nat_le (length (device_nodes root)) most_devices
+    then option_map_or (λ f. Err (UnknownPath f.line)) (unknown_fail (tree_devices root) set.fails) (Ok a)
+    else Err TooManyDevices
