@@ -28,7 +28,8 @@ fn add_place(places: &mut Vec<usize>, node: &LinkNode<'_>, place: usize) -> Resu
     if place == 0 || !is_compatible(node.node()) {
         return Ok(());
     }
-    places.push(place)
+    places.push(place)?;
+    Ok(())
 }
 
 /// The places of the devices among the nodes, in order.

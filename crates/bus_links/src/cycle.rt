@@ -46,14 +46,16 @@ fn put(
 ) -> Result<(), AllocError> {
     let place = place_of(places, component, usize::MAX);
     if let Some(cycle) = cycles.as_mut_slice().get_mut(place) {
-        return cycle.devices.push(device);
+        cycle.devices.push(device)?;
+        return Ok(());
     }
     if let Some(place) = places.get_mut(component) {
         *place = cycles.len();
     }
     let mut devices = Vec::new(alloc);
     devices.push(device)?;
-    cycles.push(Cycle { devices })
+    cycles.push(Cycle { devices })?;
+    Ok(())
 }
 
 fn put_all(

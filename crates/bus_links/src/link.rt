@@ -6,7 +6,7 @@ use std::marker::Model;
 
 /// A device link: the consumer, its supplier, and the consumer's property and entry that made it (Linux driver-api, "Device
 /// links"). That to the bus above has no property.
-#[derive(Clone, Copy, Debug)]
+#[derive(Debug, Drop)]
 pub struct Link<'t> {
     consumer: Device,
     supplier: Device,
@@ -72,7 +72,7 @@ impl<'t> Link<'t> {
 }
 
 /// An entry that is malformed or leads nowhere: the rest of its property's list says nothing.
-#[derive(Clone, Copy, Debug)]
+#[derive(Debug, Drop)]
 pub struct Warning<'t> {
     device: Device,
     property: &'t [u8],

@@ -79,15 +79,12 @@ impl<'l, 't> Linker<'l, 't> {
         ensures { OnOk result (links.new.items ≡ links.old.items ++ map (link_by own mention.now)
             (option_to_list (supplier_of self.now.nodes.now self.now.devices.now consumer.now own mention.now.node))) }
     {
-        match self.supplier_of(consumer, own, mention.node) {
-            None => Ok(()),
-            Some(supplier) => links.push(Link::new(
-                Device::new(own),
-                Device::new(supplier),
-                mention.property,
-                mention.entry,
-            )),
-        }
+        let Some(supplier) = self.supplier_of(consumer, own, mention.node) else {
+            return Ok(());
+        };
+        let (own, supplier) = (Device::new(own), Device::new(supplier));
+        links.push(Link::new(own, supplier, mention.property, mention.entry))?;
+        Ok(())
     }
 
     fn add_links(
@@ -111,10 +108,11 @@ impl<'l, 't> Linker<'l, 't> {
         ensures { OnOk result (links.new.items ≡ links.old.items ++ map (bus_link own)
             (option_to_list (bus_above self.now.nodes.now self.now.buses.now node))) }
     {
-        match bus_above(self.nodes, self.buses, node) {
-            None => Ok(()),
-            Some(bus) => links.push(Link::new(Device::new(own), Device::new(bus), &[], 0)),
-        }
+        let Some(bus) = bus_above(self.nodes, self.buses, node) else {
+            return Ok(());
+        };
+        links.push(Link::new(Device::new(own), Device::new(bus), &[], 0))?;
+        Ok(())
     }
 
     // The links of an available device.

@@ -15,7 +15,7 @@ use std::alloc::{AllocError, Global};
 use std::marker::Model;
 
 /// An entry of a property that names the node at this place.
-#[derive(Clone, Copy, Debug)]
+#[derive(Drop)]
 pub struct Mention<'t> {
     pub property: &'t [u8],
     pub entry: usize,
@@ -31,7 +31,7 @@ impl<'t> Model for Mention<'t> {
 }
 
 /// An entry of a property that is malformed or leads nowhere.
-#[derive(Clone, Copy, Debug)]
+#[derive(Drop)]
 pub struct Fault<'t> {
     pub property: &'t [u8],
     pub entry: usize,
