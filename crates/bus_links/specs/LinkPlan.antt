@@ -1,7 +1,7 @@
 -- The plan of a tree by the links of Linux. A device waits for the suppliers of its links, but for early ones, and but for links
 -- that lie in a cycle: those are relaxed. The bus above stays a supplier, since buses make no cycle.
-use Rattle.std.specs.Prelude.{◌≡◌, ℕ, ◌+◌, ◌<◌, Bool, true, false, not, ◌&&◌, ◌||◌, ◌==◌, nat_le, if◌then◌else◌, List, [], ◌∷◌, ◌++◌, map, filter, length, slice_index, Result, Ok, Err}
-use Rattle.std.specs.Option.{option_map_or}
+use Rattle.std.specs.Prelude.{◌≡◌, ℕ, ◌+◌, ◌<◌, Bool, true, false, not, ◌&&◌, ◌||◌, ◌==◌, nat_le, if◌then◌else◌, List, [], ◌∷◌, ◌++◌, map, filter, length, slice_index, Option, Some}
+use Rattle.std.specs.Option.{option_map}
 use Rattle.std.specs.List.{list_all, slice_index_or}
 use Rattle.dt_tree.specs.NodeData.{NodeData}
 use Rattle.bus_plan.specs.declared.error.PlanError.{PlanError}
@@ -58,9 +58,9 @@ abbrev pub AreOrdered : List PlannedDevice → List ℕ → Type 0
 AreOrdered plan components =
     (d : ℕ) → d < length plan → list_all (λ s. nat_le (component_of components d) (component_of components s)) (suppliers_of plan d) ≡ true
 
+-- ---- refusals
 -- the first refusal of a tree, as of a plan of it: too many devices, then a `fail` line whose path is no device's
-abbrev pub refusal_or : {A : Type 0} → NodeData → DriverSetData → A → Result A PlanError
-refusal_or root set a =
-    if nat_le (length (device_nodes root)) most_devices
-    then option_map_or (λ f. Err (UnknownPath f.line)) (unknown_fail (tree_devices root) set.fails) (Ok a)
-    else Err TooManyDevices
+abbrev pub tree_refusal : NodeData → DriverSetData → Option PlanError
+tree_refusal root set =
+    if nat_le (length (device_nodes root)) most_devices then option_map (λ f. UnknownPath f.line) (unknown_fail (tree_devices root) set.fails)
+    else Some TooManyDevices

@@ -1,6 +1,6 @@
 -- The links of Linux between the devices of a tree (Linux driver-api, "Device links"): which device each device's properties make
 -- it wait for, and the bus above it (Documentation/devicetree/usage-model).
-use Rattle.std.specs.Prelude.{ℕ, ◌+◌, Bool, true, false, not, ◌&&◌, ◌==◌, nat_eq, if◌then◌else◌, List, [], ◌∷◌, ◌++◌, map, length, slice_index, slice_get, Option, Some, None, option_and_then, codes}
+use Rattle.std.specs.Prelude.{ℕ, ◌+◌, Bool, true, false, not, ◌&&◌, ◌==◌, nat_eq, nat_lt, if◌then◌else◌, List, [], ◌∷◌, ◌++◌, map, length, slice_index, slice_get, Option, Some, None, option_and_then, codes}
 use Rattle.std.specs.Option.{option_map_or, option_to_list}
 use Rattle.std.specs.List.{list_any, slice_index_or, starts_with}
 use Rattle.dt_tree.specs.NodeData.{NodeData}
@@ -67,10 +67,14 @@ flags strings devices = map (has_string strings) devices
 abbrev pub flag_at : List Bool → ℕ → Bool
 flag_at fs place = slice_index_or fs place false
 
--- the device whose driver makes the one of this node: the nearest above it, but for the buses whose devices are made without one
-abbrev pub bus_above : List LinkNode → List Bool → ℕ → Option ℕ
-bus_above nodes buses node =
-    option_and_then (λ bus. if flag_at buses bus then None else Some bus) (node_at nodes (node_at nodes node).above).device
+-- the bus of the device at this place, if its driver makes that one: a bus stands before the devices on it
+abbrev pub is_bus_for : List Bool → ℕ → ℕ → Bool
+is_bus_for buses own bus = nat_lt bus own && option_map_or not (slice_get buses bus) false
+
+-- the bus above the device at this place and node: the nearest device above, but for buses whose devices are made without a driver
+abbrev pub bus_above : List LinkNode → List Bool → ℕ → ℕ → Option ℕ
+bus_above nodes buses own node =
+    option_and_then (λ bus. if is_bus_for buses own bus then Some bus else None) (node_at nodes (node_at nodes node).above).device
 
 abbrev pub bus_link : ℕ → ℕ → LinkData
 bus_link own bus = record { consumer = own; supplier = bus; property = []; entry = 0 }
@@ -80,7 +84,7 @@ bus_link own bus = record { consumer = own; supplier = bus; property = []; entry
 abbrev pub links_of : List LinkNode → List TreeDevice → List Bool → Bool → TreeDevice → ℕ → ℕ → List LinkData
 links_of nodes devices buses strict d own node =
     if d.available
-    then links_by nodes devices d own (found_at nodes strict node).mentions ++ map (bus_link own) (option_to_list (bus_above nodes buses node))
+    then links_by nodes devices d own (found_at nodes strict node).mentions ++ map (bus_link own) (option_to_list (bus_above nodes buses own node))
     else []
 
 abbrev pub warned : ℕ → FaultData → WarningData

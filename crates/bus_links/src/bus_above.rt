@@ -1,22 +1,32 @@
 //! The bus above a device.
 ghost use Rattle.std.specs.Prelude.{◌≡◌, ◌++◌, IfOk, OnOk};
 ghost use Rattle.bus_links.specs.LinkNodes.{own_places, device_places};
-ghost use Rattle.bus_links.specs.Links.{bus_above};
+ghost use Rattle.bus_links.specs.Links.{bus_above, is_bus_for};
 
-use crate::flags::flag_at;
 use crate::link_node::LinkNode;
 use crate::nodes::Nodes;
 use bus_drivers::is_compatible;
 use std::alloc::{AllocError, Global};
 
-/// The device whose driver makes the one of this node: the nearest above it, but for the buses whose devices are made without one.
-pub fn bus_above(nodes: &Nodes<'_>, buses: &[bool], node: usize) -> Option<usize>
-    ensures { result ≡ bus_above nodes.now buses.now node }
+// Whether the device at a place is the bus of one, whose driver makes that one.
+fn is_bus_for(buses: &[bool], own: usize, bus: usize) -> bool
+    ensures { result ≡ is_bus_for buses.now own bus }
+{
+    if bus >= own || bus >= buses.len() {
+        return false;
+    }
+    !buses[bus]
+}
+
+/// The bus above the device at this place and node: the nearest device above, but for buses whose devices are made without a
+/// driver.
+pub fn bus_above(nodes: &Nodes<'_>, buses: &[bool], own: usize, node: usize) -> Option<usize>
+    ensures { result ≡ bus_above nodes.now buses.now own node }
 {
     let Some(bus) = nodes.device(nodes.above(node)) else {
         return None;
     };
-    if flag_at(buses, bus) {
+    if !is_bus_for(buses, own, bus) {
         return None;
     }
     Some(bus)

@@ -106,9 +106,9 @@ impl<'l, 't> Linker<'l, 't> {
     // Adds the link to the bus above the device of this node, if there is one.
     fn add_bus(&self, links: &mut Vec<Link<'t>>, own: usize, node: usize) -> Result<(), AllocError>
         ensures { OnOk result (links.new.items ≡ links.old.items ++ map (bus_link own)
-            (option_to_list (bus_above self.now.nodes.now self.now.buses.now node))) }
+            (option_to_list (bus_above self.now.nodes.now self.now.buses.now own node))) }
     {
-        let Some(bus) = bus_above(self.nodes, self.buses, node) else {
+        let Some(bus) = bus_above(self.nodes, self.buses, own, node) else {
             return Ok(());
         };
         links.push(Link::new(Device::new(own), Device::new(bus), &[], 0))?;
@@ -126,7 +126,7 @@ impl<'l, 't> Linker<'l, 't> {
     ) -> Result<DeviceLinks<'t>, AllocError>
         ensures { IfOk result (λ links. links
             ≡ links_by self.now.nodes.now self.now.devices.now consumer.now own found.now.mentions
-            ++ map (bus_link own) (option_to_list (bus_above self.now.nodes.now self.now.buses.now node))) }
+            ++ map (bus_link own) (option_to_list (bus_above self.now.nodes.now self.now.buses.now own node))) }
     {
         let mut links = Vec::new(alloc);
         self.add_links(&mut links, consumer, own, found.mentions())?;

@@ -1,5 +1,14 @@
-ghost use Rattle.std.specs.Prelude.{◌≡◌, IfOk, IsTrue};
-ghost use Rattle.bus_links.specs.LinkPlan.{AreOrdered};
+ghost use Rattle.std.specs.Prelude.{◌≡◌, ◌≤◌, ◌⊎◌, ◌++◌, IfOk, IsTrue, MatchResult, OnOk, length, Some};
+ghost use Rattle.bus_plan.specs.declared.error.PlanError.TheVariants.{NoMemory};
+ghost use Rattle.bus_plan.specs.Limits.{most_devices};
+ghost use Rattle.bus_plan.specs.Plan.{IsLawful};
+ghost use Rattle.bus_drivers.specs.Nodes.{device_nodes, tree_devices};
+ghost use Rattle.bus_links.specs.BindingView.{is_strict};
+ghost use Rattle.bus_links.specs.LinkPlan.{AreOrdered, is_counted, is_waited_for, planned_by, tree_refusal};
+ghost use Rattle.bus_links.specs.Linked.{IsLinked, MakesLinked};
+ghost use Rattle.bus_links.specs.LinkNodes.{device_places};
+ghost use Rattle.bus_links.specs.Links.{flags, links_from, warnings_from, tree_links, tree_warnings};
+ghost use Rattle.bus_links.specs.Private.Counting.{passes};
 ghost use Rattle.bus_links.specs.Private.Ordered.{is_in_order};
 
 use crate::binding::Strictness;
@@ -12,7 +21,7 @@ use crate::linked::Linked;
 use crate::linker::Linker;
 use crate::nodes::Nodes;
 use crate::relaxing::{Counting, Planner, component_of};
-use bus_drivers::{Matcher, PhandleIndex, components_of};
+use bus_drivers::{Matcher, PhandleIndex, TreeDevice, components_of};
 use bus_plan::{Device, Plan, PlanError};
 use dt_tree::Tree;
 use std::alloc::{AllocError, Global};
@@ -52,21 +61,141 @@ fn ordered_components(alloc: Global, plan: &Plan) -> Result<Vec<usize>, AllocErr
     Ok(Vec::new(alloc))
 }
 
-// The plan of all links, and of those that count by its components.
-fn plans(
+// The plan of the links that count.
+fn plan_by(
     alloc: Global,
     hasher: RandomState,
     planner: &Planner<'_, '_>,
-) -> Result<(Plan, Vec<usize>), PlanError> {
-    let whole = Plan::of(
-        alloc,
-        hasher,
-        planner.planned(alloc, hasher, &Counting::All)?,
-    )?;
-    let components = ordered_components(alloc, &whole)?;
-    let counting = Counting::Relaxed(components.as_slice());
-    let plan = Plan::of(alloc, hasher, planner.planned(alloc, hasher, &counting)?)?;
-    Ok((plan, components))
+    counting: &Counting<'_>,
+) -> Result<Plan, AllocError>
+    requires { IsLawful (planned_by planner.now.matcher.now (passes planner.now.early.now counting.now)
+        planner.now.links.now 0 planner.now.devices.now) }
+    ensures { IfOk result (λ plan. plan ≡ planned_by planner.now.matcher.now (passes planner.now.early.now counting.now)
+        planner.now.links.now 0 planner.now.devices.now) }
+{
+    let devices = planner.planned(alloc, hasher, counting)?;
+    Plan::of(alloc, hasher, devices)
+}
+
+// The components of the plan of all links.
+fn components_by(
+    alloc: Global,
+    hasher: RandomState,
+    planner: &Planner<'_, '_>,
+) -> Result<Vec<usize>, AllocError>
+    requires { IsLawful (planned_by planner.now.matcher.now (is_counted planner.now.early.now)
+        planner.now.links.now 0 planner.now.devices.now) }
+    ensures { IfOk result (λ components. AreOrdered (planned_by planner.now.matcher.now (is_counted planner.now.early.now)
+        planner.now.links.now 0 planner.now.devices.now) components.items) }
+{
+    let whole = plan_by(alloc, hasher, planner, &Counting::All)?;
+    ordered_components(alloc, &whole)
+}
+
+// The plan of the links that count by these components.
+fn relaxed_by(
+    alloc: Global,
+    hasher: RandomState,
+    planner: &Planner<'_, '_>,
+    components: &[usize],
+) -> Result<Plan, AllocError>
+    requires { IsLawful (planned_by planner.now.matcher.now (is_waited_for planner.now.early.now components.now)
+        planner.now.links.now 0 planner.now.devices.now) }
+    ensures { IfOk result (λ plan. plan ≡ planned_by planner.now.matcher.now (is_waited_for planner.now.early.now components.now)
+        planner.now.links.now 0 planner.now.devices.now) }
+{
+    plan_by(alloc, hasher, planner, &Counting::Relaxed(components))
+}
+
+// The links of a tree's devices, what is warned of, and which devices are early.
+#[derive(Drop)]
+struct Parts<'t> {
+    links: Vec<DeviceLinks<'t>>,
+    warnings: Vec<Warning<'t>>,
+    early: Vec<bool>,
+}
+
+fn add_all_links<'t>(
+    alloc: Global,
+    nodes: &Nodes<'t>,
+    devices: &[TreeDevice<'t>],
+    drivers: &LinkDrivers,
+    strictness: Strictness,
+    warnings: &mut Vec<Warning<'t>>,
+) -> Result<Vec<DeviceLinks<'t>>, AllocError>
+    ensures links { IfOk result (λ links. links.items ≡ links_from nodes.now devices.now (flags drivers.now.buses devices.now)
+        (is_strict strictness) (device_places nodes.now) 0 devices.now) }
+    ensures warnings { OnOk result (warnings.new.items ≡ warnings.old.items
+        ++ warnings_from nodes.now (is_strict strictness) (device_places nodes.now) 0 devices.now) }
+{
+    let buses = flags_of(alloc, drivers.buses(), devices)?;
+    let places = device_places(alloc, nodes.as_slice())?;
+    let linker = Linker {
+        nodes,
+        devices,
+        buses: buses.as_slice(),
+        strictness,
+    };
+    linker.all_links(alloc, warnings, places.as_slice())
+}
+
+fn parts_of<'t>(
+    alloc: Global,
+    hasher: RandomState,
+    tree: &'t Tree,
+    devices: &[TreeDevice<'t>],
+    drivers: &LinkDrivers,
+    strictness: Strictness,
+) -> Result<Parts<'t>, AllocError>
+    requires { devices.now ≡ tree_devices tree.now.root }
+    ensures links { IfOk result (λ parts. parts.links.items ≡ tree_links tree.now.root drivers.now (is_strict strictness)) }
+    ensures warnings { IfOk result (λ parts. parts.warnings.items ≡ tree_warnings tree.now.root (is_strict strictness)) }
+    ensures early { IfOk result (λ parts. parts.early.items ≡ flags drivers.now.early (tree_devices tree.now.root)) }
+{
+    let nodes = Nodes::of(alloc, hasher, tree)?;
+    let early = flags_of(alloc, drivers.early(), devices)?;
+    let mut warnings = Vec::new(alloc);
+    let links = add_all_links(alloc, &nodes, devices, drivers, strictness, &mut warnings)?;
+    Ok(Parts {
+        links,
+        warnings,
+        early,
+    })
+}
+
+// The plan of a tree whose `fail` lines are known, and which has few devices.
+fn linked_by<'t>(
+    alloc: Global,
+    hasher: RandomState,
+    tree: &'t Tree,
+    devices: &[TreeDevice<'t>],
+    matcher: &Matcher<'_>,
+    drivers: &LinkDrivers,
+    strictness: Strictness,
+) -> Result<Linked<'t>, AllocError>
+    requires devices { devices.now ≡ tree_devices tree.now.root }
+    requires few { length (device_nodes tree.now.root) ≤ most_devices }
+    requires matcher { matcher.now ≡ drivers.now.drivers }
+    ensures { IfOk result (λ linked. MakesLinked tree.now.root drivers.now (is_strict strictness) linked) }
+{
+    tree.check();
+    drivers.drivers().check();
+    let parts = parts_of(alloc, hasher, tree, devices, drivers, strictness)?;
+    let planner = Planner {
+        matcher,
+        devices,
+        links: parts.links.as_slice(),
+        early: parts.early.as_slice(),
+    };
+    let components = components_by(alloc, hasher, &planner)?;
+    let plan = relaxed_by(alloc, hasher, &planner, components.as_slice())?;
+    Ok(Linked::new(
+        plan,
+        parts.links,
+        parts.warnings,
+        parts.early,
+        components,
+    ))
 }
 
 /// The plan of a tree by the links of Linux, or the first refusal: too many devices, then a `fail` line whose path is no device's.
@@ -76,31 +205,14 @@ pub fn link<'t>(
     tree: &'t Tree,
     drivers: &LinkDrivers,
     strictness: Strictness,
-) -> Result<Linked<'t>, PlanError> {
-    tree.check();
-    drivers.drivers().check();
+) -> Result<Linked<'t>, PlanError>
+    ensures { MatchResult result
+        (λ linked. IsLinked tree.now.root drivers.now (is_strict strictness) linked)
+        (λ e. (e ≡ NoMemory) ⊎ (tree_refusal tree.now.root drivers.now.drivers ≡ Some e)) }
+{
     let phandle_index = PhandleIndex::of(alloc, hasher, tree)?;
-    let devices = phandle_index.devices();
     let matcher = Matcher::of(alloc, hasher, drivers.drivers())?;
+    let devices = phandle_index.devices();
     matcher.check_fails(alloc, hasher, devices)?;
-    let nodes = Nodes::of(alloc, hasher, tree)?;
-    let early = flags_of(alloc, drivers.early(), devices)?;
-    let buses = flags_of(alloc, drivers.buses(), devices)?;
-    let places = device_places(alloc, nodes.as_slice())?;
-    let linker = Linker {
-        nodes: &nodes,
-        devices,
-        buses: buses.as_slice(),
-        strictness,
-    };
-    let mut warnings = Vec::new(alloc);
-    let links = linker.all_links(alloc, &mut warnings, places.as_slice())?;
-    let planner = Planner {
-        matcher: &matcher,
-        devices,
-        links: links.as_slice(),
-        early: early.as_slice(),
-    };
-    let (plan, components) = plans(alloc, hasher, &planner)?;
-    Ok(Linked::new(plan, links, warnings, early, components))
+    Ok(linked_by(alloc, hasher, tree, devices, &matcher, drivers, strictness)?)
 }
