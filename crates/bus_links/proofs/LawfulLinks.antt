@@ -68,9 +68,9 @@ module _ (nodes : List LinkNode) (devices : List TreeDevice) where
     of_bus_above : (own node s : ℕ) → bus_above nodes buses own node ≡ Some s → s < length devices
     of_bus_above own node s e =
         option_and_then_some (λ bus. if is_bus_for buses own bus then Some bus else None) (node_at nodes (node_at nodes node).above).device s e (λ bus _ at. by bus (is_bus_for buses own bus) refl at) where
-      by : (bus : ℕ) (t : Bool) → is_bus_for buses own bus ≡ t → (if t then Some bus else None) ≡ Some s → s < length devices
-      by bus true is h = let same : bus ≡ s = cc in subst (λ (k : ℕ). k < length devices) same (of_bus own bus is)
-      by bus false is h = absurd (cc h)
+          by : (bus : ℕ) (t : Bool) → is_bus_for buses own bus ≡ t → (if t then Some bus else None) ≡ Some s → s < length devices
+          by bus true is h = let same : bus ≡ s = cc in subst (λ (k : ℕ). k < length devices) same (of_bus own bus is)
+          by bus false is h = absurd (cc h)
 
     of_device : (strict : Bool) (d : TreeDevice) (own node : ℕ) → All (IsWithin (length devices)) (links_of nodes devices buses strict d own node)
     of_device strict d own node = by d.available where

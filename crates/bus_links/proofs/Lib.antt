@@ -1,2 +1,3 @@
 pub mod FoundLemmas
 pub mod LawfulLinks
+pub mod NoCycle

@@ -1,5 +1,6 @@
 pub mod BindingView
 pub mod Bindings
+pub mod Laws
 pub mod LinkDrivers
 pub mod LinkFile
 pub mod LinkNodes

@@ -7,12 +7,12 @@ use Rattle.dt_tree.specs.NodeData.{NodeData}
 use Rattle.bus_plan.specs.declared.error.PlanError.{PlanError}
 use Rattle.bus_plan.specs.declared.error.PlanError.TheVariants.{UnknownPath, TooManyDevices}
 use Rattle.bus_plan.specs.Limits.{most_devices}
-use Rattle.bus_plan.specs.Plan.{PlannedDevice, suppliers_of}
+use Rattle.bus_plan.specs.Plan.{PlannedDevice}
 use Rattle.bus_drivers.specs.Driver.{DriverSetData}
 use Rattle.bus_drivers.specs.Nodes.{TreeDevice, device_nodes, tree_devices}
 use Rattle.bus_drivers.specs.TreePlan.{suppliers_among, planned_device, unknown_fail}
 use Rattle.bus_links.specs.LinkDrivers.{LinkDriversData}
-use Rattle.bus_links.specs.Links.{LinkData, is_bus, flags, flag_at, tree_links}
+use Rattle.bus_links.specs.Links.{LinkData, flags, flag_at, tree_links}
 
 -- ---- which links are waited for
 -- the component of a device: devices are in one where each reaches the other by links
@@ -20,7 +20,7 @@ abbrev pub component_of : List ℕ → ℕ → ℕ
 component_of components d = slice_index components d
 
 abbrev pub is_relaxed : List ℕ → LinkData → Bool
-is_relaxed components l = not (is_bus l) && component_of components l.consumer == component_of components l.supplier
+is_relaxed components l = not l.is_bus && component_of components l.consumer == component_of components l.supplier
 
 -- that of an early device isn't waited for
 abbrev pub is_counted : List Bool → LinkData → Bool
@@ -44,19 +44,18 @@ planned_by set test links own (d ∷ ds) =
     planned_device set d (suppliers_by test own (links_at links own)) ∷ planned_by set test links (own + 1) ds
 
 -- ---- the plan
--- with each counted link a supplier, as if none were relaxed
-abbrev pub whole_plan : NodeData → LinkDriversData → Bool → List PlannedDevice
-whole_plan root set strict =
-    planned_by set.drivers (is_counted (flags set.early (tree_devices root))) (tree_links root set strict) 0 (tree_devices root)
-
 abbrev pub relaxed_plan : NodeData → LinkDriversData → Bool → List ℕ → List PlannedDevice
 relaxed_plan root set strict components =
     planned_by set.drivers (is_waited_for (flags set.early (tree_devices root)) components) (tree_links root set strict) 0 (tree_devices root)
 
--- no supplier is in an earlier component: so no link leads from one component to another and back
-abbrev pub AreOrdered : List PlannedDevice → List ℕ → Type 0
-AreOrdered plan components =
-    (d : ℕ) → d < length plan → list_all (λ s. nat_le (component_of components d) (component_of components s)) (suppliers_of plan d) ≡ true
+-- ---- components
+-- a counted link leads to no earlier component
+abbrev pub is_in_order : List Bool → List ℕ → LinkData → Bool
+is_in_order early components l = not (is_counted early l) || nat_le (component_of components l.consumer) (component_of components l.supplier)
+
+-- so with none of these links a way leads from one component to another and back
+abbrev pub are_in_order : List Bool → List ℕ → List (List LinkData) → Bool
+are_in_order early components links = list_all (λ ls. list_all (is_in_order early components) ls) links
 
 -- ---- refusals
 -- the first refusal of a tree, as of a plan of it: too many devices, then a `fail` line whose path is no device's

@@ -1,10 +1,10 @@
 -- What a plan by links is made of.
-use Rattle.std.specs.Prelude.{◌≡◌, ℕ, Bool, if◌then◌else◌, List, None}
+use Rattle.std.specs.Prelude.{◌≡◌, ℕ, Bool, if◌then◌else◌, List, None, true}
 use Rattle.dt_tree.specs.NodeData.{NodeData}
 use Rattle.bus_plan.specs.Plan.{PlannedDevice}
 use Rattle.bus_drivers.specs.Nodes.{tree_devices}
 use Rattle.bus_links.specs.LinkDrivers.{LinkDriversData}
-use Rattle.bus_links.specs.LinkPlan.{is_relaxed, whole_plan, relaxed_plan, AreOrdered, tree_refusal}
+use Rattle.bus_links.specs.LinkPlan.{is_relaxed, relaxed_plan, are_in_order, tree_refusal}
 use Rattle.bus_links.specs.Links.{LinkData, WarningData, flags, flag_at, tree_links, tree_warnings}
 use Rattle.bus_links.specs.declared.linked.Standing.{Standing}
 use Rattle.bus_links.specs.declared.linked.Standing.TheVariants.{Needed, Early, Relaxed}
@@ -26,7 +26,7 @@ pub record MakesLinked (root : NodeData) (set : LinkDriversData) (strict : Bool)
   pub links : l.links ≡ tree_links root set strict
   pub warnings : l.warnings ≡ tree_warnings root strict
   pub early : l.early ≡ flags set.early (tree_devices root)
-  pub ordered : AreOrdered (whole_plan root set strict) l.components
+  pub ordered : are_in_order l.early l.components l.links ≡ true
   pub plan : l.plan ≡ relaxed_plan root set strict l.components
 
 -- what linking a tree answers: that, where there is no refusal

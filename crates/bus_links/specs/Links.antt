@@ -11,21 +11,19 @@ use Rattle.bus_links.specs.LinkDrivers.{LinkDriversData}
 use Rattle.bus_links.specs.LinkNodes.{LinkNode, node_at, tree_nodes, device_places}
 use Rattle.bus_links.specs.Mentions.{MentionData, FaultData, FoundData, found_at}
 
--- the consumer waits for the supplier, by this entry of the consumer's property; the bus above has no property
+-- the consumer waits for the supplier, by this entry of the consumer's property, or because that is the bus above it
 pub record LinkData : Type 0 where
   pub consumer : ℕ
   pub supplier : ℕ
   pub property : List ℕ
   pub entry : ℕ
+  pub is_bus : Bool
 
 -- an entry that is malformed or leads nowhere
 pub record WarningData : Type 0 where
   pub device : ℕ
   pub property : List ℕ
   pub entry : ℕ
-
-abbrev pub is_bus : LinkData → Bool
-is_bus l = length l.property == 0
 
 -- ---- by a property
 -- a path stands below another
@@ -48,7 +46,7 @@ supplier_of nodes devices consumer own node =
 
 -- the links that mentions make
 abbrev pub link_by : ℕ → MentionData → ℕ → LinkData
-link_by own m supplier = record { consumer = own; supplier = supplier; property = m.property; entry = m.entry }
+link_by own m supplier = record { consumer = own; supplier = supplier; property = m.property; entry = m.entry; is_bus = false }
 
 abbrev pub links_by : List LinkNode → List TreeDevice → TreeDevice → ℕ → List MentionData → List LinkData
 links_by nodes devices consumer own [] = []
@@ -77,7 +75,7 @@ bus_above nodes buses own node =
     option_and_then (λ bus. if is_bus_for buses own bus then Some bus else None) (node_at nodes (node_at nodes node).above).device
 
 abbrev pub bus_link : ℕ → ℕ → LinkData
-bus_link own bus = record { consumer = own; supplier = bus; property = []; entry = 0 }
+bus_link own bus = record { consumer = own; supplier = bus; property = []; entry = 0; is_bus = true }
 
 -- ---- of a device
 -- those of the device at this place and node; one that may not be used has none

@@ -1,5 +1,5 @@
-ghost use Rattle.std.specs.Prelude.{◌≡◌};
-ghost use Rattle.bus_links.specs.Links.{is_bus};
+ghost use Rattle.std.specs.Prelude.{◌≡◌, false};
+ghost use Rattle.bus_links.specs.Links.{bus_link};
 
 use bus_plan::Device;
 use std::marker::Model;
@@ -12,6 +12,7 @@ pub struct Link<'t> {
     supplier: Device,
     property: &'t [u8],
     entry: usize,
+    is_bus: bool,
 }
 
 impl<'t> Model for Link<'t> {
@@ -19,19 +20,33 @@ impl<'t> Model for Link<'t> {
 
     ghost Value = { LinkData };
 
-    ghost view = { λ l. record { consumer = l.consumer; supplier = l.supplier; property = l.property.now; entry = l.entry } };
+    ghost view = { λ l. record { consumer = l.consumer; supplier = l.supplier; property = l.property.now; entry = l.entry; is_bus = l.is_bus } };
 }
 
 impl<'t> Link<'t> {
-    /// The link of these parts.
+    /// That which an entry of a property makes.
     pub fn new(consumer: Device, supplier: Device, property: &'t [u8], entry: usize) -> Self
-        ensures { result ≡ record { consumer = consumer; supplier = supplier; property = property.now; entry = entry } }
+        ensures { result ≡ record { consumer = consumer; supplier = supplier; property = property.now; entry = entry; is_bus = false } }
     {
         Self {
             consumer,
             supplier,
             property,
             entry,
+            is_bus: false,
+        }
+    }
+
+    /// That to the bus above.
+    pub fn to_bus(consumer: Device, bus: Device) -> Self
+        ensures { result ≡ bus_link consumer bus }
+    {
+        Self {
+            consumer,
+            supplier: bus,
+            property: &[],
+            entry: 0,
+            is_bus: true,
         }
     }
 
@@ -65,9 +80,9 @@ impl<'t> Link<'t> {
 
     /// Whether it is the link to the bus above, which no property makes.
     pub fn is_bus(&self) -> bool
-        ensures { result ≡ is_bus self.now }
+        ensures { result ≡ self.now.is_bus }
     {
-        self.property.is_empty()
+        self.is_bus
     }
 }
 

@@ -111,7 +111,7 @@ impl<'l, 't> Linker<'l, 't> {
         let Some(bus) = bus_above(self.nodes, self.buses, own, node) else {
             return Ok(());
         };
-        links.push(Link::new(Device::new(own), Device::new(bus), &[], 0))?;
+        links.push(Link::to_bus(Device::new(own), Device::new(bus)))?;
         Ok(())
     }
 

@@ -1,15 +1,14 @@
-ghost use Rattle.std.specs.Prelude.{◌≡◌, ◌≤◌, ◌⊎◌, ◌++◌, IfOk, IsTrue, MatchResult, OnOk, length, Some};
+ghost use Rattle.std.specs.Prelude.{◌≡◌, ◌≤◌, ◌⊎◌, ◌++◌, IfOk, IsTrue, MatchResult, OnOk, length, Some, true};
 ghost use Rattle.bus_plan.specs.declared.error.PlanError.TheVariants.{NoMemory};
 ghost use Rattle.bus_plan.specs.Limits.{most_devices};
 ghost use Rattle.bus_plan.specs.Plan.{IsLawful};
 ghost use Rattle.bus_drivers.specs.Nodes.{device_nodes, tree_devices};
 ghost use Rattle.bus_links.specs.BindingView.{is_strict};
-ghost use Rattle.bus_links.specs.LinkPlan.{AreOrdered, is_counted, is_waited_for, planned_by, tree_refusal};
+ghost use Rattle.bus_links.specs.LinkPlan.{are_in_order, is_counted, is_waited_for, planned_by, tree_refusal};
 ghost use Rattle.bus_links.specs.Linked.{IsLinked, MakesLinked};
 ghost use Rattle.bus_links.specs.LinkNodes.{device_places};
 ghost use Rattle.bus_links.specs.Links.{flags, links_from, warnings_from, tree_links, tree_warnings};
 ghost use Rattle.bus_links.specs.Private.Counting.{passes};
-ghost use Rattle.bus_links.specs.Private.Ordered.{is_in_order};
 
 use crate::binding::Strictness;
 use crate::bus_above::device_places;
@@ -20,42 +19,27 @@ use crate::link_drivers::LinkDrivers;
 use crate::linked::Linked;
 use crate::linker::Linker;
 use crate::nodes::Nodes;
-use crate::relaxing::{Counting, Planner, component_of};
+use crate::order::are_in_order;
+use crate::relaxing::{Counting, Planner};
 use bus_drivers::{Matcher, PhandleIndex, TreeDevice, components_of};
-use bus_plan::{Device, Plan, PlanError};
+use bus_plan::{Plan, PlanError};
 use dt_tree::Tree;
 use std::alloc::{AllocError, Global};
 use std::hash::RandomState;
 
-// Whether none of these suppliers is in an earlier component than the device.
-fn is_in_order(components: &[usize], device: usize, suppliers: &[Device]) -> bool
-    ensures { result ≡ is_in_order components.now device suppliers.now }
+// The components of the devices by the plan of all links. That they are in order is tested; one component for all would be.
+fn components_by(
+    alloc: Global,
+    hasher: RandomState,
+    planner: &Planner<'_, '_>,
+) -> Result<Vec<usize>, AllocError>
+    requires { IsLawful (planned_by planner.now.matcher.now (is_counted planner.now.early.now)
+        planner.now.links.now 0 planner.now.devices.now) }
+    ensures { IfOk result (λ components. are_in_order planner.now.early.now components.items planner.now.links.now ≡ true) }
 {
-    for supplier in suppliers {
-        if component_of(components, supplier.index()) < component_of(components, device) {
-            return false;
-        }
-    }
-    true
-}
-
-fn are_ordered(plan: &Plan, components: &[usize]) -> bool
-    ensures { IsTrue result → AreOrdered plan.now components.now }
-{
-    for place in 0..plan.len() {
-        if !is_in_order(components, place, plan.suppliers(Device::new(place))) {
-            return false;
-        }
-    }
-    true
-}
-
-// The component of each device. That they are in order is tested; one component for all would be in order.
-fn ordered_components(alloc: Global, plan: &Plan) -> Result<Vec<usize>, AllocError>
-    ensures { IfOk result (λ components. AreOrdered plan.now components.items) }
-{
-    let components = components_of(alloc, plan)?;
-    if are_ordered(plan, components.as_slice()) {
+    let whole = plan_by(alloc, hasher, planner, &Counting::All)?;
+    let components = components_of(alloc, &whole)?;
+    if are_in_order(planner.early, components.as_slice(), planner.links) {
         return Ok(components);
     }
     Ok(Vec::new(alloc))
@@ -75,21 +59,6 @@ fn plan_by(
 {
     let devices = planner.planned(alloc, hasher, counting)?;
     Plan::of(alloc, hasher, devices)
-}
-
-// The components of the plan of all links.
-fn components_by(
-    alloc: Global,
-    hasher: RandomState,
-    planner: &Planner<'_, '_>,
-) -> Result<Vec<usize>, AllocError>
-    requires { IsLawful (planned_by planner.now.matcher.now (is_counted planner.now.early.now)
-        planner.now.links.now 0 planner.now.devices.now) }
-    ensures { IfOk result (λ components. AreOrdered (planned_by planner.now.matcher.now (is_counted planner.now.early.now)
-        planner.now.links.now 0 planner.now.devices.now) components.items) }
-{
-    let whole = plan_by(alloc, hasher, planner, &Counting::All)?;
-    ordered_components(alloc, &whole)
 }
 
 // The plan of the links that count by these components.
@@ -189,13 +158,7 @@ fn linked_by<'t>(
     };
     let components = components_by(alloc, hasher, &planner)?;
     let plan = relaxed_by(alloc, hasher, &planner, components.as_slice())?;
-    Ok(Linked::new(
-        plan,
-        parts.links,
-        parts.warnings,
-        parts.early,
-        components,
-    ))
+    Ok(Linked::new(plan, parts.links, parts.warnings, parts.early, components))
 }
 
 /// The plan of a tree by the links of Linux, or the first refusal: too many devices, then a `fail` line whose path is no device's.
