@@ -18,7 +18,7 @@ pub struct Row {
     pub wanted: &'static str,
 }
 
-fn tree_of(rt: &impl Abort, alloc: Global, hasher: RandomState, source: &str) -> Tree {
+pub fn tree_of(rt: &impl Abort, alloc: Global, hasher: RandomState, source: &str) -> Tree {
     let text = format!(in alloc; "/dts-v1/; / {{ {source} }};").expect(rt, "memory");
     let source = parse(alloc, text.as_str().as_bytes()).expect(rt, "a source");
     build(alloc, hasher, &source, false).expect(rt, "a tree")
@@ -77,4 +77,103 @@ fn rows_of_faults(rt: HostRuntime) {
 fn rows_of_interrupts(rt: HostRuntime) {
     let hasher = RandomState::new(&rt).expect(&rt, "a seed");
     are_printed(&rt, rt.alloc(), hasher, &INTERRUPTS);
+}
+
+/// The properties of which a phandle and one cell are read, each with what says so at the phandle's node.
+const COUNTED: [(&'static str, &'static str); 14] = [
+    ("clocks", "#clock-cells"),
+    ("interconnects", "#interconnect-cells"),
+    ("mboxes", "#mbox-cells"),
+    ("io-channels", "#io-channel-cells"),
+    ("power-domains", "#power-domain-cells"),
+    ("hwlocks", "#hwlock-cells"),
+    ("phys", "#phy-cells"),
+    ("pwms", "#pwm-cells"),
+    ("resets", "#reset-cells"),
+    ("gpio", "#gpio-cells"),
+    ("gpios", "#gpio-cells"),
+    ("reset-gpio", "#gpio-cells"),
+    ("reset-gpios", "#gpio-cells"),
+    ("interrupts-extended", "#interrupt-cells"),
+];
+
+/// Those of which a phandle alone is read.
+const BARE: [&'static str; 18] = [
+    "interrupt-parent",
+    "extcon",
+    "nvmem-cells",
+    "wakeup-parent",
+    "pinctrl-0",
+    "pinctrl-1",
+    "pinctrl-2",
+    "pinctrl-3",
+    "pinctrl-4",
+    "pinctrl-5",
+    "pinctrl-6",
+    "pinctrl-7",
+    "pinctrl-8",
+    "remote-endpoint",
+    "leds",
+    "backlight",
+    "panel",
+    "vdd-supply",
+];
+
+/// Those that say nothing: no binding of Linux 6.1, or one that counts where links are strict.
+const UNREAD: [&'static str; 5] = ["pinctrl-9", "supply", "iommus", "dmas", "a,nr-gpios"];
+
+// What is printed of a device with this property, which names a provider with one more property.
+fn named_by(
+    rt: &impl Abort,
+    alloc: Global,
+    hasher: RandomState,
+    property: &str,
+    provider: &str,
+) -> Vec<u8> {
+    let head = format!(in alloc; "p: p {{ compatible = \"c\"; {provider} }}; ").expect(
+        rt, "memory",
+    );
+    let own = format!(in alloc; "u {{ compatible = \"c\"; {property}; }};").expect(rt, "memory");
+    let mut source = head;
+    source.push_str(own.as_str()).expect(rt, "memory");
+    let tree = tree_of(rt, alloc, hasher, source.as_str());
+    let drivers = read_link_drivers(alloc, hasher, b"driver x c").expect(rt, "drivers");
+    let linked = link(alloc, hasher, &tree, &drivers, Strictness::Usual).expect(rt, "links");
+    linked_text(alloc, &linked).expect(rt, "memory")
+}
+
+#[test]
+fn bindings_that_count_cells(rt: HostRuntime) {
+    let alloc = rt.alloc();
+    let hasher = RandomState::new(&rt).expect(&rt, "a seed");
+    for (name, cells) in COUNTED {
+        let property = format!(in alloc; "{name} = <&p 1>").expect(&rt, "memory");
+        let provider = format!(in alloc; "{cells} = <1>;").expect(&rt, "memory");
+        let text = named_by(&rt, alloc, hasher, property.as_str(), provider.as_str());
+        assert_eq!(rt;
+            text.as_slice(),
+            b"/p x ok\n/u x ok /p\n".as_slice(),
+            "{name}"
+        );
+    }
+}
+
+#[test]
+fn bindings_of_phandles(rt: HostRuntime) {
+    let alloc = rt.alloc();
+    let hasher = RandomState::new(&rt).expect(&rt, "a seed");
+    for name in BARE {
+        let property = format!(in alloc; "{name} = <&p>").expect(&rt, "memory");
+        let text = named_by(&rt, alloc, hasher, property.as_str(), "");
+        assert_eq!(rt;
+            text.as_slice(),
+            b"/p x ok\n/u x ok /p\n".as_slice(),
+            "{name}"
+        );
+    }
+    for name in UNREAD {
+        let property = format!(in alloc; "{name} = <&p>").expect(&rt, "memory");
+        let text = named_by(&rt, alloc, hasher, property.as_str(), "");
+        assert_eq!(rt; text.as_slice(), b"/p x ok\n/u x ok\n".as_slice(), "{name}");
+    }
 }
