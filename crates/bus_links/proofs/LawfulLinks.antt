@@ -17,9 +17,10 @@ use Rattle.bus_drivers.specs.TreePlan.{suppliers_among, planned_device}
 use Rattle.bus_drivers.proofs.DevicePaths.{device_paths, device_paths-apart}
 use Rattle.bus_drivers.proofs.Lawful.{planned_lawful}
 use Rattle.bus_drivers.proofs.Mentions.{suppliers_all, suppliers_apart, suppliers_others}
-use Rattle.bus_links.specs.LinkNodes.{LinkNode, node_at}
+use Rattle.bus_links.specs.LinkDrivers.{LinkDriversData}
+use Rattle.bus_links.specs.LinkNodes.{LinkNode, node_at, tree_nodes, device_places}
 use Rattle.bus_links.specs.LinkPlan.{suppliers_by, links_at, planned_by}
-use Rattle.bus_links.specs.Links.{LinkData, supplies, supplier_at, supplier_of, link_by, links_by, flags, is_bus_for, bus_above, bus_link, links_of, node_of, links_from}
+use Rattle.bus_links.specs.Links.{LinkData, supplies, supplier_at, supplier_of, link_by, links_by, flags, is_bus_for, bus_above, bus_link, links_of, node_of, links_from, has_string, tree_links}
 use Rattle.bus_links.specs.Mentions.{MentionData, found_at}
 
 -- ---- suppliers are devices
@@ -140,3 +141,16 @@ lawful_by t is set named few test links within =
       apart = λ k. let here = at k in subst (λ (ds : List ℕ). AllPairs (λ a b. a ≢ b) ds) (sym here.2) (suppliers_apart k here.0);
       others = λ k. let here = at k in subst (λ (ds : List ℕ). ¬ Contains ds k) (sym here.2) (suppliers_others k here.0);
     }
+
+-- and so for what is made of the tree's links
+pub lawful_linked : (t : TreeData) → IsTree t → (set : LinkDriversData) → IsDriverSet set.drivers → length (device_nodes t.root) ≤ most_devices → (strict : Bool)
+    → (matcher : DriverSetData) (links : List (List LinkData)) (devices : List TreeDevice) → matcher ≡ set.drivers → links ≡ tree_links t.root set strict → devices ≡ tree_devices t.root
+    → (test : LinkData → Bool) → IsLawful (planned_by matcher test links 0 devices)
+lawful_linked t is set named few strict matcher links devices by_set by_links by_tree test =
+    let all : List TreeDevice = tree_devices t.root in
+    let long : length (flags set.buses all) ≡ length all = length-map all (has_string set.buses) in
+    let lawful : IsLawful (planned_by set.drivers test (tree_links t.root set strict) 0 all) =
+    lawful_by t is set.drivers named few test (tree_links t.root set strict) (λ k. all_within (tree_nodes t.root) all (flags set.buses all) long strict (device_places (tree_nodes t.root)) all 0 k) in
+    subst (λ (m : DriverSetData). IsLawful (planned_by m test links 0 devices)) (sym by_set)
+    (subst (λ (ls : List (List LinkData)). IsLawful (planned_by set.drivers test ls 0 devices)) (sym by_links)
+    (subst (λ (ds : List TreeDevice). IsLawful (planned_by set.drivers test (tree_links t.root set strict) 0 ds)) (sym by_tree) lawful))

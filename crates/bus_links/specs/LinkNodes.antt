@@ -79,7 +79,7 @@ has_phandle phandle node = option_map_or (nat_eq phandle) (phandle_of node.prope
 -- the first of these nodes that has a phandle; the first of them has this place
 abbrev pub place_from : ℕ → ℕ → List LinkNode → Option ℕ
 place_from place phandle [] = None
-place_from place phandle (node ∷ more) = if has_phandle phandle node then Some place else place_from (place + 1) phandle more
+place_from place phandle (node ∷ others) = if has_phandle phandle node then Some place else place_from (place + 1) phandle others
 
 abbrev pub place_with : List LinkNode → ℕ → Option ℕ
 place_with nodes phandle = place_from 0 phandle nodes
@@ -91,7 +91,7 @@ own_places place node = if not (place == 0) && is_compatible node.properties the
 -- the places of the devices among these nodes, the first of which has this place
 abbrev pub places_from : ℕ → List LinkNode → List ℕ
 places_from place [] = []
-places_from place (node ∷ more) = own_places place node ++ places_from (place + 1) more
+places_from place (node ∷ others) = own_places place node ++ places_from (place + 1) others
 
 -- the nodes of the devices, in order
 abbrev pub device_places : List LinkNode → List ℕ

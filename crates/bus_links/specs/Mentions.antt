@@ -74,9 +74,11 @@ number_at nodes place name otherwise = option_map_or (λ n. n) (option_and_then 
 abbrev pub before_parent : List LinkNode → ℕ → ℕ
 before_parent nodes place = number_at nodes place (codes "#address-cells") 2 + number_at nodes place (codes "#interrupt-cells") 0
 
+abbrev pub row_parent : List LinkNode → ℕ → List ℕ → Option ℕ
+row_parent nodes place rows = named_by nodes (drop (4 * before_parent nodes place) rows)
+
 abbrev pub map_parent : List LinkNode → ℕ → Option ℕ
-map_parent nodes place =
-    option_and_then (λ value. named_by nodes (drop (4 * before_parent nodes place) value)) (value_at nodes place (codes "interrupt-map"))
+map_parent nodes place = option_and_then (row_parent nodes place) (value_at nodes place (codes "interrupt-map"))
 
 -- the controller behind a node, through at most so many nexus nodes
 abbrev pub controller_within : List LinkNode → ℕ → ℕ → ℕ

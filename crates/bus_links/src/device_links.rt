@@ -1,6 +1,6 @@
 ghost use Rattle.std.specs.Prelude.{◌≡◌};
 
-use crate::link::Link;
+use crate::links::Link;
 use std::marker::Model;
 
 /// The links of one consumer: those of its properties in order, entry by entry, and last that to the bus above.
@@ -21,7 +21,7 @@ impl<'t> Model for DeviceLinks<'t> {
 impl<'t> DeviceLinks<'t> {
     /// These links.
     pub fn new(links: Vec<Link<'t>>) -> Self
-        ensures { result ≡ links.items }
+        ensures { result ≡ links.entry.items }
     {
         Self { links }
     }

@@ -9,13 +9,13 @@ use bus_drivers::{TreeDevice, next_string};
 use bus_plan::PathIndex;
 use std::alloc::{AllocError, Global};
 
-fn is_any(strings: &PathIndex, value: &[u8]) -> bool
-    ensures { result ≡ list_any (λ string. is_among string strings.now) (strings value.now) }
+fn is_any(known: &PathIndex, value: &[u8]) -> bool
+    ensures { result ≡ list_any (λ string. is_among string known.now) (strings value.now) }
 {
     let mut rest = value;
     while let Some((string, behind)) = next_string(rest) {
         rest = behind;
-        if strings.contains(string) {
+        if known.contains(string) {
             return true;
         }
     }
@@ -37,7 +37,7 @@ pub fn flags_of(
     strings: &PathIndex,
     devices: &[TreeDevice<'_>],
 ) -> Result<Vec<bool>, AllocError>
-    ensures { IfOk result (λ flags. flags.items ≡ flags strings.now devices.now) }
+    ensures { IfOk result (λ made. made.items ≡ flags strings.now devices.now) }
 {
     let mut flags = Vec::with_capacity(alloc, devices.len())?;
     for device in devices {

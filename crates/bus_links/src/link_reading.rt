@@ -55,14 +55,15 @@ fn add_line(
     alloc: Global,
     strings: &mut PathIndex,
     number: usize,
-    fields: Fields<'_>,
+    mut fields: Fields<'_>,
 ) -> Result<(), PlanError>
     ensures { let said = with_own strings.old (strings_of number fields.entry) in
         MatchResult result (λ _. said ≡ Ok strings.new) (λ e. (e ≡ NoMemory) ⊎ (said ≡ Err e)) }
 {
-    if fields.is_skipped() {
+    let Some(first) = fields.next() else {
         return Err(PlanError::BadLine(number));
-    }
+    };
+    add_string(alloc, strings, first)?;
     add_strings(alloc, strings, fields)?;
     Ok(())
 }

@@ -1,8 +1,8 @@
 //! What a plan by links tells beside the plan: comment lines before it, and warnings.
 ghost use Rattle.std.specs.Prelude.{◌<◌, length};
 
-use crate::link::Warning;
 use crate::linked::Linked;
+use crate::links::Warning;
 use bus_plan::{Device, Plan, plan_text};
 use std::alloc::{AllocError, Global};
 

@@ -3,7 +3,7 @@ ghost use Rattle.std.specs.Prelude.{◌≡◌};
 use crate::cycle::{Cycle, cycles_of};
 use crate::device_links::DeviceLinks;
 use crate::flags::flag_at;
-use crate::link::{Link, Warning};
+use crate::links::{Link, Warning};
 use crate::relaxing::is_relaxed;
 use bus_plan::{Device, Plan};
 use std::alloc::{AllocError, Global};
@@ -59,8 +59,8 @@ impl<'t> Linked<'t> {
     ) -> Self
         ensures { result ≡ record {
           plan = plan;
-          links = links.items;
-          warnings = warnings.items;
+          links = links.entry.items;
+          warnings = warnings.entry.items;
           early = early.items;
           components = components.items;
         } }
@@ -83,7 +83,7 @@ impl<'t> Linked<'t> {
 
     /// The plan alone.
     pub fn into_plan(self) -> Plan
-        ensures { result ≡ self.plan }
+        ensures { result ≡ self.entry.plan }
     {
         self.plan
     }

@@ -7,7 +7,7 @@ ghost use Rattle.bus_links.specs.Links.{is_below, supplies, supplier_at, supplie
 use crate::binding::Strictness;
 use crate::bus_above::bus_above;
 use crate::device_links::DeviceLinks;
-use crate::link::{Link, Warning};
+use crate::links::{Link, Warning};
 use crate::mentions::{Fault, Found, Mention};
 use crate::nodes::Nodes;
 use bus_drivers::TreeDevice;

@@ -1,4 +1,4 @@
-ghost use Rattle.std.specs.Prelude.{◌≡◌, ◌≤◌, ◌⊎◌, ◌++◌, IfOk, IsTrue, MatchResult, OnOk, length, Some, true};
+ghost use Rattle.std.specs.Prelude.{◌≡◌, ◌≤◌, ◌⊎◌, ◌++◌, Bool, IfOk, IsTrue, MatchResult, OnOk, length, Some, true};
 ghost use Rattle.bus_plan.specs.declared.error.PlanError.TheVariants.{NoMemory};
 ghost use Rattle.bus_plan.specs.Limits.{most_devices};
 ghost use Rattle.bus_plan.specs.Plan.{IsLawful};
@@ -7,73 +7,112 @@ ghost use Rattle.bus_links.specs.BindingView.{is_strict};
 ghost use Rattle.bus_links.specs.LinkPlan.{are_in_order, is_counted, is_waited_for, planned_by, tree_refusal};
 ghost use Rattle.bus_links.specs.Linked.{IsLinked, MakesLinked};
 ghost use Rattle.bus_links.specs.LinkNodes.{device_places};
-ghost use Rattle.bus_links.specs.Links.{flags, links_from, warnings_from, tree_links, tree_warnings};
+ghost use Rattle.bus_links.specs.Links.{LinkData, flags, links_from, warnings_from, tree_links, tree_warnings};
 ghost use Rattle.bus_links.specs.Private.Counting.{passes};
 
 use crate::binding::Strictness;
 use crate::bus_above::device_places;
 use crate::device_links::DeviceLinks;
 use crate::flags::flags_of;
-use crate::link::Warning;
 use crate::link_drivers::LinkDrivers;
 use crate::linked::Linked;
 use crate::linker::Linker;
+use crate::links::Warning;
 use crate::nodes::Nodes;
 use crate::order::are_in_order;
-use crate::relaxing::{Counting, Planner};
+use crate::relaxing::{Counting, planned_devices};
 use bus_drivers::{Matcher, PhandleIndex, TreeDevice, components_of};
 use bus_plan::{Plan, PlanError};
 use dt_tree::Tree;
 use std::alloc::{AllocError, Global};
 use std::hash::RandomState;
 
-// The components of the devices by the plan of all links. That they are in order is tested; one component for all would be.
-fn components_by(
-    alloc: Global,
-    hasher: RandomState,
-    planner: &Planner<'_, '_>,
-) -> Result<Vec<usize>, AllocError>
-    requires { IsLawful (planned_by planner.now.matcher.now (is_counted planner.now.early.now)
-        planner.now.links.now 0 planner.now.devices.now) }
-    ensures { IfOk result (λ components. are_in_order planner.now.early.now components.items planner.now.links.now ≡ true) }
-{
-    let whole = plan_by(alloc, hasher, planner, &Counting::All)?;
-    let components = components_of(alloc, &whole)?;
-    if are_in_order(planner.early, components.as_slice(), planner.links) {
-        return Ok(components);
-    }
-    Ok(Vec::new(alloc))
-}
-
 // The plan of the links that count.
 fn plan_by(
     alloc: Global,
     hasher: RandomState,
-    planner: &Planner<'_, '_>,
+    matcher: &Matcher<'_>,
+    devices: &[TreeDevice<'_>],
+    links: &[DeviceLinks<'_>],
+    early: &[bool],
     counting: &Counting<'_>,
 ) -> Result<Plan, AllocError>
-    requires { IsLawful (planned_by planner.now.matcher.now (passes planner.now.early.now counting.now)
-        planner.now.links.now 0 planner.now.devices.now) }
-    ensures { IfOk result (λ plan. plan ≡ planned_by planner.now.matcher.now (passes planner.now.early.now counting.now)
-        planner.now.links.now 0 planner.now.devices.now) }
+    requires { IsLawful (planned_by matcher.now (passes early.now counting.now) links.now 0 devices.now) }
+    ensures { IfOk result (λ plan. plan ≡ planned_by matcher.now (passes early.now counting.now) links.now 0 devices.now) }
 {
-    let devices = planner.planned(alloc, hasher, counting)?;
+    let devices = planned_devices(alloc, hasher, matcher, devices, links, early, counting)?;
     Plan::of(alloc, hasher, devices)
+}
+
+// These components, if they are in order; one for all always is.
+fn in_order(
+    alloc: Global,
+    components: Vec<usize>,
+    links: &[DeviceLinks<'_>],
+    early: &[bool],
+) -> Vec<usize>
+    ensures { are_in_order early.now result.items links.now ≡ true }
+{
+    if are_in_order(early, components.as_slice(), links) {
+        return components;
+    }
+    Vec::new(alloc)
+}
+
+// The components of the devices by the plan of all links.
+fn components_by(
+    alloc: Global,
+    hasher: RandomState,
+    matcher: &Matcher<'_>,
+    devices: &[TreeDevice<'_>],
+    links: &[DeviceLinks<'_>],
+    early: &[bool],
+) -> Result<Vec<usize>, AllocError>
+    requires { IsLawful (planned_by matcher.now (is_counted early.now) links.now 0 devices.now) }
+    ensures { IfOk result (λ components. are_in_order early.now components.items links.now ≡ true) }
+{
+    let counting = Counting::All;
+    let whole = plan_by(alloc, hasher, matcher, devices, links, early, &counting)?;
+    let components = components_of(alloc, &whole)?;
+    Ok(in_order(alloc, components, links, early))
 }
 
 // The plan of the links that count by these components.
 fn relaxed_by(
     alloc: Global,
     hasher: RandomState,
-    planner: &Planner<'_, '_>,
+    matcher: &Matcher<'_>,
+    devices: &[TreeDevice<'_>],
+    links: &[DeviceLinks<'_>],
+    early: &[bool],
     components: &[usize],
 ) -> Result<Plan, AllocError>
-    requires { IsLawful (planned_by planner.now.matcher.now (is_waited_for planner.now.early.now components.now)
-        planner.now.links.now 0 planner.now.devices.now) }
-    ensures { IfOk result (λ plan. plan ≡ planned_by planner.now.matcher.now (is_waited_for planner.now.early.now components.now)
-        planner.now.links.now 0 planner.now.devices.now) }
+    requires { IsLawful (planned_by matcher.now (is_waited_for early.now components.now) links.now 0 devices.now) }
+    ensures { IfOk result (λ plan. plan
+        ≡ planned_by matcher.now (is_waited_for early.now components.now) links.now 0 devices.now) }
 {
-    plan_by(alloc, hasher, planner, &Counting::Relaxed(components))
+    let counting = Counting::Relaxed(components);
+    plan_by(alloc, hasher, matcher, devices, links, early, &counting)
+}
+
+// The plan of links, and the components that it goes by.
+fn relaxed_plan(
+    alloc: Global,
+    hasher: RandomState,
+    matcher: &Matcher<'_>,
+    devices: &[TreeDevice<'_>],
+    links: &[DeviceLinks<'_>],
+    early: &[bool],
+) -> Result<(Plan, Vec<usize>), AllocError>
+    requires { (test : LinkData → Bool) → IsLawful (planned_by matcher.now test links.now 0 devices.now) }
+    ensures plan { IfOk result (λ made. made.0
+        ≡ planned_by matcher.now (is_waited_for early.now made.1.items) links.now 0 devices.now) }
+    ensures order { IfOk result (λ made. are_in_order early.now made.1.items links.now ≡ true) }
+{
+    let components = components_by(alloc, hasher, matcher, devices, links, early)?;
+    let by = components.as_slice();
+    let plan = relaxed_by(alloc, hasher, matcher, devices, links, early, by)?;
+    Ok((plan, components))
 }
 
 // The links of a tree's devices, what is warned of, and which devices are early.
@@ -84,10 +123,10 @@ struct Parts<'t> {
     early: Vec<bool>,
 }
 
-fn add_all_links<'t>(
+fn add_all_links<'l, 't>(
     alloc: Global,
-    nodes: &Nodes<'t>,
-    devices: &[TreeDevice<'t>],
+    nodes: &'l Nodes<'t>,
+    devices: &'l [TreeDevice<'t>],
     drivers: &LinkDrivers,
     strictness: Strictness,
     warnings: &mut Vec<Warning<'t>>,
@@ -150,14 +189,9 @@ fn linked_by<'t>(
     tree.check();
     drivers.drivers().check();
     let parts = parts_of(alloc, hasher, tree, devices, drivers, strictness)?;
-    let planner = Planner {
-        matcher,
-        devices,
-        links: parts.links.as_slice(),
-        early: parts.early.as_slice(),
-    };
-    let components = components_by(alloc, hasher, &planner)?;
-    let plan = relaxed_by(alloc, hasher, &planner, components.as_slice())?;
+    let links = parts.links.as_slice();
+    let early = parts.early.as_slice();
+    let (plan, components) = relaxed_plan(alloc, hasher, matcher, devices, links, early)?;
     Ok(Linked::new(plan, parts.links, parts.warnings, parts.early, components))
 }
 

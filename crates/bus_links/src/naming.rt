@@ -1,7 +1,7 @@
 //! What nodes say of the nodes that they name.
-ghost use Rattle.std.specs.Prelude.{◌≡◌, ◌*◌, ◌+◌, drop};
+ghost use Rattle.std.specs.Prelude.{◌≡◌, ◌<◌, ◌^◌};
 ghost use Rattle.bus_drivers.specs.References.{cells_of};
-ghost use Rattle.bus_links.specs.Mentions.{has, first_of, named_by, number_at, before_parent, map_parent, is_nexus};
+ghost use Rattle.bus_links.specs.Mentions.{has, first_of, named_by, number_at, before_parent, row_parent, map_parent, is_nexus};
 
 use crate::nodes::Nodes;
 use bus_drivers::next_cell;
@@ -55,11 +55,20 @@ pub fn is_nexus(nodes: &Nodes<'_>, place: usize) -> bool
 
 // How many cells stand before a parent in a nexus's map.
 fn before_parent(nodes: &Nodes<'_>, place: usize) -> usize
-    ensures { result ≡ before_parent nodes.now place }
+    ensures value { result ≡ before_parent nodes.now place }
+    ensures small { result < 2 ^ 33 }
 {
     let address = number(nodes, place, b"#address-cells", 2);
     let specifier = number(nodes, place, b"#interrupt-cells", 0);
     address as usize + specifier as usize
+}
+
+// The node that the first of these rows of a nexus's map leads to.
+fn row_parent(nodes: &Nodes<'_>, place: usize, rows: &[u8]) -> Option<usize>
+    ensures { result ≡ row_parent nodes.now place rows.now }
+{
+    let skipped = 4 * before_parent(nodes, place);
+    named_by(nodes, behind(rows, skipped))
 }
 
 /// The node that the first row of a nexus's map leads to.
@@ -68,9 +77,6 @@ pub fn map_parent(nodes: &Nodes<'_>, place: usize) -> Option<usize>
 {
     match nodes.value(place, b"interrupt-map") {
         None => None,
-        Some(value) => {
-            let skipped = 4 * before_parent(nodes, place);
-            named_by(nodes, behind(value.as_slice(), skipped))
-        }
+        Some(value) => row_parent(nodes, place, value.as_slice()),
     }
 }

@@ -5,7 +5,7 @@ ghost use Rattle.bus_links.specs.LinkPlan.{is_in_order, are_in_order};
 
 use crate::device_links::DeviceLinks;
 use crate::flags::flag_at;
-use crate::link::Link;
+use crate::links::Link;
 use crate::relaxing::component_of;
 
 fn is_in_order(early: &[bool], components: &[usize], link: &Link<'_>) -> bool

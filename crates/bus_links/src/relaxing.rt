@@ -7,7 +7,7 @@ ghost use Rattle.bus_links.specs.Private.Counting.{passes};
 
 use crate::device_links::DeviceLinks;
 use crate::flags::flag_at;
-use crate::link::Link;
+use crate::links::Link;
 use bus_drivers::{Matcher, Suppliers, TreeDevice};
 use bus_plan::{Device, Planned};
 use std::alloc::{AllocError, Global};
@@ -84,9 +84,10 @@ fn suppliers_by(
 ) -> Result<Vec<Device>, AllocError>
     ensures { IfOk result (λ suppliers. suppliers.items ≡ suppliers_by (passes early.now counting.now) own links.now) }
 {
-    let mut suppliers = Suppliers::new(alloc, hasher, Device::new(own));
+    let device = Device::new(own);
+    let mut suppliers = Suppliers::new(alloc, hasher, device);
     add_suppliers(&mut suppliers, early, counting, links)?;
-    suppliers.devices(alloc)
+    Ok(suppliers.devices(alloc)?)
 }
 
 // The links of the device at a place.
@@ -99,46 +100,43 @@ fn links_at<'l, 't>(links: &'l [DeviceLinks<'t>], own: usize) -> &'l [Link<'t>]
     links[own].as_slice()
 }
 
-/// What the devices are planned from: their drivers, their links, which of them are early.
-#[derive(Clone, Copy)]
-pub struct Planner<'l, 't> {
-    pub matcher: &'l Matcher<'l>,
-    pub devices: &'l [TreeDevice<'t>],
-    pub links: &'l [DeviceLinks<'t>],
-    pub early: &'l [bool],
+// A device with its driver and the suppliers of its links that count.
+fn planned_device(
+    alloc: Global,
+    hasher: RandomState,
+    matcher: &Matcher<'_>,
+    early: &[bool],
+    counting: &Counting<'_>,
+    links: &[Link<'_>],
+    own: usize,
+    device: &TreeDevice<'_>,
+) -> Result<Planned, AllocError>
+    ensures { IfOk result (λ planned. planned ≡ planned_device matcher.now device.now
+        (suppliers_by (passes early.now counting.now) own links.now)) }
+{
+    let suppliers = suppliers_by(alloc, hasher, early, counting, own, links)?;
+    matcher.planned(alloc, device, suppliers)
 }
 
-impl<'l, 't> Planner<'l, 't> {
-    fn planned_device(
-        &self,
-        alloc: Global,
-        hasher: RandomState,
-        counting: &Counting<'_>,
-        own: usize,
-        device: &TreeDevice<'t>,
-    ) -> Result<Planned, AllocError>
-        ensures { IfOk result (λ planned. planned ≡ planned_device self.now.matcher.now device.now
-            (suppliers_by (passes self.now.early.now counting.now) own (links_at self.now.links.now own))) }
-    {
-        let links = links_at(self.links, own);
-        let suppliers = suppliers_by(alloc, hasher, self.early, counting, own, links)?;
-        self.matcher.planned(alloc, device, suppliers)
+/// The devices, each with the suppliers of its links that count.
+pub fn planned_devices(
+    alloc: Global,
+    hasher: RandomState,
+    matcher: &Matcher<'_>,
+    devices: &[TreeDevice<'_>],
+    links: &[DeviceLinks<'_>],
+    early: &[bool],
+    counting: &Counting<'_>,
+) -> Result<Vec<Planned>, AllocError>
+    ensures { IfOk result (λ planned. planned.items
+        ≡ planned_by matcher.now (passes early.now counting.now) links.now 0 devices.now) }
+{
+    let mut planned = Vec::with_capacity(alloc, devices.len())?;
+    for (own, device) in devices.iter().enumerate() {
+        let own_links = links_at(links, own);
+        planned.push(planned_device(
+            alloc, hasher, matcher, early, counting, own_links, own, device,
+        )?)?;
     }
-
-    /// The devices, each with the suppliers of its links that count.
-    pub fn planned(
-        &self,
-        alloc: Global,
-        hasher: RandomState,
-        counting: &Counting<'_>,
-    ) -> Result<Vec<Planned>, AllocError>
-        ensures { IfOk result (λ planned. planned.items ≡ planned_by self.now.matcher.now
-            (passes self.now.early.now counting.now) self.now.links.now 0 self.now.devices.now) }
-    {
-        let mut planned = Vec::with_capacity(alloc, self.devices.len())?;
-        for (own, device) in self.devices.iter().enumerate() {
-            planned.push(self.planned_device(alloc, hasher, counting, own, device)?)?;
-        }
-        Ok(planned)
-    }
+    Ok(planned)
 }

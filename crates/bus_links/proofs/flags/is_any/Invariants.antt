@@ -6,7 +6,7 @@ use Rattle.bus_links.proofs.flags.is_any.Given as goal
 
 abbrev pub invariant-loop-string : goal.invariant-loop-string
 invariant-loop-string l =
-    list_any (λ string. is_among string l.strings) (strings l.rest) ≡ list_any (λ string. is_among string l.strings) (strings l.value)
+    list_any (λ string. is_among string l.known) (strings l.rest) ≡ list_any (λ string. is_among string l.known) (strings l.value)
 
 abbrev pub decreases-loop-string : goal.decreases-loop-string
 decreases-loop-string l = length l.rest

@@ -15,19 +15,26 @@ loop-top-init c =
 
 pub loop-top-preserved-then-is_reserved_name : goal.loop-top-preserved-then-is_reserved_name
 loop-top-preserved-then-is_reserved_name c =
+    let above : Above = record { place = 0; usable = c.is_okay.result; device = None } in
     let all = c.children-top-items.result.now in
     let b = c.top-item.result in
     let reserved : is_reserved_name b.name ≡ true = ap is_reserved_name (sym c.name_bytes.ensures) ∙ sym c.is_reserved_name.ensures ∙ c.if-is_reserved_name.true in
-    ap (λ (f : Siblings). with_siblings _ c.loop-top.self f) (sym (next-reserved all c.loop-top.top-index b c.loop-top-test.true c.top-item.is reserved)) ∙ c.loop-top.invariant
+    ap (λ (f : Siblings). with_siblings above c.loop-top.self f) (sym (next-reserved all c.loop-top.top-index b c.loop-top-test.true c.top-item.is reserved)) ∙ c.loop-top.invariant
 
 pub loop-top-preserved : goal.loop-top-preserved
 loop-top-preserved c =
+    let above : Above = record { place = 0; usable = c.is_okay.result; device = None } in
+    let root = c.args.root.now in
     let all = c.children-top-items.result.now in
     let i = c.loop-top.top-index in
     let b = c.top-item.result in
     let lasting : is_reserved_name b.name ≡ false = ap is_reserved_name (sym c.name_bytes.ensures) ∙ sym c.is_reserved_name.ensures ∙ c.if-is_reserved_name.false in
-    walk-next _ c.loop-top.self c.visit.new.self _ (unreserved (siblings (drop i all))) (unreserved (siblings (drop (i + 1) all))) b
+    walk-next above c.loop-top.self c.visit.new.self (with_siblings (root_above root) (met_root root) (unreserved root.children)) (unreserved (siblings (drop i all))) (unreserved (siblings (drop (i + 1) all))) b
     (next-unreserved all i b c.loop-top-test.true c.top-item.is lasting) c.in_ok-visit.ensures c.loop-top.invariant
 
 pub returns : goal.returns
-returns c = ap (λ (m : Met). m.nodes) (walk-last-top _ c.loop-top.self _ c.children-top-items.result.now c.loop-top.top-index c.loop-top-test.false c.loop-top.invariant)
+returns c =
+    let above : Above = record { place = 0; usable = c.is_okay.result; device = None } in
+    let root = c.args.root.now in
+    ap (λ (m : Met). m.nodes)
+    (walk-last-top above c.loop-top.self (with_siblings (root_above root) (met_root root) (unreserved root.children)) c.children-top-items.result.now c.loop-top.top-index c.loop-top-test.false c.loop-top.invariant)
