@@ -1,19 +1,15 @@
 -- One component for all is in order.
-use Rattle.std.proofs.Common.{◌≡◌, refl, ℕ, Bool, true, false, not, ◌||◌, ◌&&◌, List, [], ◌∷◌}
-use Rattle.std.specs.Prelude.{nat_le}
+use Rattle.std.proofs.Common.{◌≡◌, refl, Bool, true, false, not, ◌||◌, List, [], ◌∷◌}
 use Rattle.std.specs.List.{list_all}
-use Rattle.bus_links.specs.LinkPlan.{component_of, is_counted, is_in_order, are_in_order}
+use Rattle.bus_links.specs.LinkPlan.{is_counted, is_in_order, are_in_order}
 use Rattle.bus_links.specs.Links.{LinkData}
-
-none : (d : ℕ) → component_of [] d ≡ 0
-none d = refl
 
 or_true : (b : Bool) → (b || true) ≡ true
 or_true true = refl
 or_true false = refl
 
 in_one : (early : List Bool) (l : LinkData) → is_in_order early [] l ≡ true
-in_one early l = rw (none l.consumer, none l.supplier) (or_true (not (is_counted early l)))
+in_one early l = or_true (not (is_counted early l))
 
 all_in_one : (early : List Bool) (ls : List LinkData) → list_all (is_in_order early []) ls ≡ true
 all_in_one early [] = refl
