@@ -1,1 +1,2 @@
 pub mod SeenNodes
+pub mod SeenProperties

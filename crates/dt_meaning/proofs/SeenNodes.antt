@@ -10,11 +10,11 @@ use Rattle.dt_meaning.specs.Places.{row, place, all_removed, put_in_place, what_
 use Rattle.dt_meaning.specs.Seen.{are_once, seen, seen_at, with_path}
 
 -- ---- paths
-same-itself : (p : Path) → same_path p p ≡ true
+pub same-itself : (p : Path) → same_path p p ≡ true
 same-itself [] = refl
 same-itself (x ∷ xs) = and_from (bytes_eq x x) (same_path xs xs) ((bytes_eq-Decides x x).1 refl) (same-itself xs)
 
-same-is : (p q : Path) → same_path p q ≡ true → p ≡ q
+pub same-is : (p q : Path) → same_path p q ≡ true → p ≡ q
 same-is [] [] e = refl
 same-is [] (y ∷ ys) e = absurd (true≢false (sym e))
 same-is (x ∷ xs) [] e = absurd (true≢false (sym e))
@@ -22,7 +22,7 @@ same-is (x ∷ xs) (y ∷ ys) e =
     let parts = and_parts (bytes_eq x y) (same_path xs ys) e in
     ap₂ (λ a b. a ∷ b) ((bytes_eq-Decides x y).0 parts.0) (same-is xs ys parts.1)
 
-same-turned : (p q : Path) → same_path p q ≡ same_path q p
+pub same-turned : (p q : Path) → same_path p q ≡ same_path q p
 same-turned [] [] = refl
 same-turned [] (y ∷ ys) = refl
 same-turned (x ∷ xs) [] = refl
@@ -59,7 +59,7 @@ listed-other q p ps apart = by_test (is_listed p ps) where
   by_test true = refl
   by_test false = listed-more q p ps ∙ ap (λ b. is_listed q ps || b) apart ∙ or-false (is_listed q ps)
 
-or-parts : (a b : Bool) → (a || b) ≡ false → (a ≡ false) × (b ≡ false)
+pub or-parts : (a b : Bool) → (a || b) ≡ false → (a ≡ false) × (b ≡ false)
 or-parts true b e = absurd (true≢false e)
 or-parts false b e = (refl, e)
 
@@ -70,7 +70,7 @@ seen-others p (q ∷ qs) nodes e =
     let parts = or-parts (same_path p q) (is_listed p qs) e in
     ap₂ (λ b rs. (record { what = q; stands = b }) ∷ rs) (listed-other q p nodes (same-turned q p ∙ parts.0)) (seen-others p qs nodes parts.1)
 
-not-true : (b : Bool) → not b ≡ true → b ≡ false
+pub not-true : (b : Bool) → not b ≡ true → b ≡ false
 not-true true e = absurd (true≢false (sym e))
 not-true false e = refl
 

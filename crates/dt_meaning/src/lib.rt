@@ -8,5 +8,5 @@ mod laws;
 mod rows;
 
 pub use dtc_rows::worked_rows_of_dtc;
-pub use laws::nodes_at_places;
+pub use laws::{nodes_at_places, properties_at_places};
 pub use rows::worked_rows;
