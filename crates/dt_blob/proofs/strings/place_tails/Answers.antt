@@ -21,11 +21,11 @@ loop-skipped-preserved c = λ block size closed free table.
     let range = tail-range k name in
     let on : (c.args.start + k) + 1 ≡ c.args.start + (k + 1) = omega arith in
     subst (λ n. Pending names c.place_tail.new.places whole n (drop (k + 1) name)) on
-    (subst (λ t. Pending names c.place_tail.new.places whole ((c.args.start + k) + 1) t) (ap (drop 1) (range ∙ drop_more name k 0 c.loop-skipped-test.true))
+    (subst (λ t. Pending names c.place_tail.new.places whole ((c.args.start + k) + 1) t) (ap (drop 1) (range ∙ drop_more name k 0 (omega arith)))
     (c.place_tail.ensures whole (subst (λ t. Pending names c.loop-skipped.places whole (c.args.start + k) t) (sym range) (c.loop-skipped.invariant block size closed free table))))
 
 pub returns : goal.returns
 returns c = λ block size closed free table.
     let whole = block ++ ended c.args.name.now in
     pending-last c.args.names.now c.loop-skipped.places whole (c.args.start + c.loop-skipped.skipped)
-    (subst (λ t. Pending c.args.names.now c.loop-skipped.places whole (c.args.start + c.loop-skipped.skipped) t) (drop_all c.loop-skipped.skipped c.args.name.now c.loop-skipped-test.false) (c.loop-skipped.invariant block size closed free table))
+    (subst (λ t. Pending c.args.names.now c.loop-skipped.places whole (c.args.start + c.loop-skipped.skipped) t) (drop_all c.loop-skipped.skipped c.args.name.now (omega arith)) (c.loop-skipped.invariant block size closed free table))
