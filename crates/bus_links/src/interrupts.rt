@@ -67,8 +67,8 @@ fn controller_within(nodes: &Nodes<'_>, steps: usize, place: usize) -> usize
     at
 }
 
-/// The node that takes a node's interrupts: the first with `#interrupt-cells` on the way by `interrupt-parent` and, where there is
-/// none, the node above. A way of more than 128 steps is none.
+/// The node that takes a node's interrupts: the first with `#interrupt-cells` on the way by `interrupt-parent` and, without
+/// one, the node above. A way of more than 128 steps is none.
 pub fn interrupt_parent(nodes: &Nodes<'_>, place: usize) -> Option<usize>
     ensures { result ≡ interrupt_parent nodes.now place }
 {

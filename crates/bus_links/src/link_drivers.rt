@@ -5,8 +5,8 @@ use bus_drivers::DriverSet;
 use bus_plan::PathIndex;
 use std::marker::Model;
 
-/// What a driver file with lines `early` and `bus` says: the driver set, the `compatible` strings of the devices that are set up
-/// before the bus begins, and those of the buses whose devices are made without a driver for the bus.
+/// What a driver file with lines `early` and `bus` says: the driver set, the `compatible` strings of the devices that are set
+/// up before the bus begins, and those of the buses whose devices are made without a driver for the bus.
 #[derive(Drop)]
 pub struct LinkDrivers {
     drivers: DriverSet,

@@ -159,7 +159,8 @@ impl Reading {
     }
 }
 
-/// Reads a driver file that may have lines `early COMPATIBLE..` and `bus COMPATIBLE..`. The first fault in line order is answered.
+/// Reads a driver file that may have lines `early COMPATIBLE..` and `bus COMPATIBLE..`. The first fault in line order is
+/// answered.
 pub fn read_link_drivers(
     alloc: Global,
     hasher: RandomState,

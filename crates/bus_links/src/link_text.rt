@@ -52,8 +52,8 @@ fn write_linked(alloc: Global, text: &mut Vec<u8>, linked: &Linked<'_>) -> Resul
     text.extend_from_slice(plan.as_slice())
 }
 
-/// The text of the plan, with a comment line `# early PATH` for each available early device and a line `# cycle: PATH PATH..` for each
-/// cycle before it.
+/// The text of the plan, and before it a comment line `# early PATH` for each available early device and a line
+/// `# cycle: PATH PATH..` for each cycle.
 pub fn linked_text(alloc: Global, linked: &Linked<'_>) -> Result<Vec<u8>, AllocError> {
     let mut text = Vec::new(alloc);
     write_linked(alloc, &mut text, linked)?;

@@ -195,7 +195,8 @@ fn linked_by<'t>(
     Ok(Linked::new(plan, parts.links, parts.warnings, parts.early, components))
 }
 
-/// The plan of a tree by the links of Linux, or the first refusal: too many devices, then a `fail` line whose path is no device's.
+/// The plan of a tree by the links of Linux, or the first refusal: too many devices, then a `fail` line whose path is no
+/// device's.
 pub fn link<'t>(
     alloc: Global,
     hasher: RandomState,

@@ -4,6 +4,8 @@
 #![tactic(auto)]
 
 #[cfg(test)]
+mod drivers;
+#[cfg(test)]
 mod links;
 #[cfg(test)]
 mod many;
