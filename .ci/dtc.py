@@ -19,6 +19,8 @@ ROWS = [
     ("made-again.dts", [], "made-again.dtb"),
     ("name.dts", [], "name.dtb"),
     ("symbols.dts", ["-@"], "symbols.dtb"),
+    ("symbols.dts", ["-@", "-s"], "sorted.dtb"),
+    ("symbols.dtb", ["-s", "-O", "dtb"], "sorted.dtb"),
     ("boot-cpu.dts", [], "boot-cpu.dtb"),
     ("boot-cpu.dts", ["-b", "7", "-R", "2", "-p", "30", "-a", "16"], "room.dtb"),
     ("include.dts", ["-S", "1024"], "space.dtb"),
