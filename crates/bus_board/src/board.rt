@@ -64,11 +64,7 @@ impl Board {
         ensures words { IfOk result (λ r. OpensAs (first_core plan) r.1.view) }
         ensures err { IfErr result (λ refusal. refusal ≡ NoMemory) }
     {
-        let core = Core::new(alloc, plan)?;
-        match start(alloc, core) {
-            Ok(started) => Ok(started),
-            Err(_) => Err(Refusal::NoMemory),
-        }
+        open_plan(alloc, plan)
     }
 
     /// A board that goes on from a core with no open flight, and its first seat, which has seen what settled there. The same
@@ -103,6 +99,19 @@ impl Board {
             flight: None,
             owed,
         })
+    }
+}
+
+// A board over a core of the plan on which nothing was begun.
+fn open_plan(alloc: Global, plan: Plan) -> Result<(Board, Seat), Refusal>
+    ensures opened { IfOk result (λ r. IsOpenedOn (first_core plan) r.0 r.1) }
+    ensures words { IfOk result (λ r. OpensAs (first_core plan) r.1.view) }
+    ensures err { IfErr result (λ refusal. refusal ≡ NoMemory) }
+{
+    let core = Core::new(alloc, plan)?;
+    match start(alloc, core) {
+        Ok(started) => Ok(started),
+        Err(_) => Err(Refusal::NoMemory),
     }
 }
 

@@ -24,26 +24,34 @@ impl Board {
         requires { IsOf self seat }
         ensures { EndsAs self.plan seat.view result.words.items result.quiet }
     {
-        let Board {
-            table,
-            plan,
-            hints: _,
-            most_suppliers: _,
-            mut room,
-        } = self;
-        let Seat {
-            token,
-            flight: _,
-            owed: _,
-        } = seat;
-        let closed = table.close_with(token);
-        for index in 0..plan.len() {
-            room.push_reserved(Word::of(closed.word(index)));
-        }
-        closed.free();
-        let quiet = is_quiet(&plan, &room);
-        End { words: room, quiet }
+        ended(self, seat)
     }
+}
+
+// The words at the end, and whether they are quiet.
+fn ended(board: Board, seat: Seat) -> End
+    requires { IsOf board seat }
+    ensures { EndsAs board.plan seat.view result.words.items result.quiet }
+{
+    let Board {
+        table,
+        plan,
+        hints: _,
+        most_suppliers: _,
+        mut room,
+    } = board;
+    let Seat {
+        token,
+        flight: _,
+        owed: _,
+    } = seat;
+    let closed = table.close_with(token);
+    for index in 0..plan.len() {
+        room.push_reserved(Word::of(closed.word(index)));
+    }
+    closed.free();
+    let quiet = is_quiet(&plan, &room);
+    End { words: room, quiet }
 }
 
 // Whether nothing is left to do for any device.

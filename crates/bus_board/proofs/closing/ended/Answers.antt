@@ -9,7 +9,7 @@ use Rattle.bus_board.specs.Ends.{EndsAs, is_quiet}
 use Rattle.bus_board.specs.Shown.{Posted, Seated}
 use Rattle.bus_board.specs.Words.{word_at}
 use Rattle.bus_board.specs.declared.words.Word.{Word}
-use Rattle.bus_board.proofs.board.Board.close.Goals as goal
+use Rattle.bus_board.proofs.closing.ended.Goals as goal
 
 pushed_before : (xs : List Word) (x : Word) (i : ℕ) → i < length xs → word_at (xs ++ x ∷ []) i ≡ word_at xs i
 pushed_before [] x i lt = absurd (omega arith)
@@ -43,11 +43,11 @@ loop-index-preserved c =
 pub returns : goal.returns
 returns c =
     let i = c.loop-index.invariant in
-    let inv = c.self.invariant in
-    let p = c.self.inside.plan in
+    let inv = c.board.invariant in
+    let p = c.board.inside.plan in
     let words = c.loop-index.room.items in
     let quiet : c.is_quiet-quiet.result ≡ is_quiet p words = c.is_quiet-quiet.ensures ∙ ap (is_quiet p) c.deref.ensures.value in
-    let t = ends_as c.self.inside.table.shared.key.plan p _ c.seat.inside.token.me.0 _ words _ c.is_quiet-quiet.result inv.0 c.close_with-closed.ensures.values.2 c.seat.invariant.live
+    let t = ends_as c.board.inside.table.shared.key.plan p _ c.seat.inside.token.me.0 _ words _ c.is_quiet-quiet.result inv.0 c.close_with-closed.ensures.values.2 c.seat.invariant.live
     (omega (arith, i.0, c.len-index-end.ensures, c.loop-index-test.false, c.loop-index.auto.index-end))
     (λ d lt. i.3 d (omega (arith, c.len-index-end.ensures, c.loop-index-test.false))) quiet in
-    subst (λ (b : Posted). EndsAs b.plan c.args.seat.view words c.is_quiet-quiet.result) c.self.view_is (subst (λ (s : Seated). EndsAs p s.view words c.is_quiet-quiet.result) c.seat.view_is t)
+    subst (λ (b : Posted). EndsAs b.plan c.args.seat.view words c.is_quiet-quiet.result) c.board.view_is (subst (λ (s : Seated). EndsAs p s.view words c.is_quiet-quiet.result) c.seat.view_is t)

@@ -4,7 +4,7 @@ use Rattle.std.specs.Slots.{slots_items}
 use mathlib.Core.Option.{some}
 use lib.ListN.{get_elem?}
 use Rattle.bus_board.specs.Words.{word_at, word_of}
-use Rattle.bus_board.proofs.board.Board.close.Given as goal
+use Rattle.bus_board.proofs.closing.ended.Given as goal
 
 abbrev pub invariant-loop-index : goal.invariant-loop-index
 invariant-loop-index l = (length l.room.items ≡ l.index) × (vec_len l.room ≡ l.index) × (vec_capacity l.room ≡ vec_capacity l.initial.room)
