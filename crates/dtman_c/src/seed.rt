@@ -1,4 +1,4 @@
-//! The caller's number that hashing begins with.
+//! The caller's number as a source of chance.
 ghost use Rattle.std.specs.Prelude.{◌≡◌, IfErr};
 ghost use Rattle.dtman_engine.specs.Fault.{fault_value, no_memory};
 
@@ -22,7 +22,8 @@ impl RandomSource for Seed {
     }
 }
 
-/// What hashes by the caller's number. No number is refused, but `RandomState` promises nothing of its source.
+/// What hashes, made with that source. `RandomState` promises nothing of its source, so no clause says that the number is
+/// the seed, nor that none is refused.
 pub(crate) fn hasher_of(seed: u64) -> Result<RandomState, Fault>
     ensures { IfErr result (λ fault. fault_value fault ≡ no_memory) }
 {

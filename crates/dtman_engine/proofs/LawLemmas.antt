@@ -18,21 +18,16 @@ use Rattle.dt_blob.specs.HeaderWords.{header_fault}
 use Rattle.dt_blob.specs.Holds.{Holds}
 use Rattle.dt_blob.specs.SourceText.{text_of}
 use Rattle.dtman_engine.specs.Compile.{CannotBuild, IsCompileRefusal, HasLongBlob}
-use Rattle.dtman_engine.specs.Dump.{CannotPrint, Explains, IsDump, IsRefusal}
-use Rattle.dtman_engine.specs.Fault.{FaultValue}
+use Rattle.dtman_engine.specs.Dump.{CannotPrint, Explains, IsDump, IsRefusal, IsUnread}
+use Rattle.dtman_engine.specs.Fault.{FaultValue, no_memory}
 use Rattle.dtman_engine.specs.SourceFaults.{build_fault, source_fault}
 use Rattle.dtman_engine.specs.BlobFaults.{blob_fault}
 use Rattle.dtman_engine.specs.Laws.{CannotCompile}
 use Rattle.dtman_engine.specs.Limits.{blob_limit}
+use Rattle.dtman_engine.proofs.OneErrors.{same-lists, none-built}
 
 no-fault : (bytes : List ℕ) (t : TreeData) (e : BlobError) → Holds bytes t → header_fault bytes ≡ Some e → ⊥
 no-fault bytes t e held bad = let none : header_fault bytes ≡ None = held.header in cc
-
-not-both : {A B : Type 0} (r : Result A B) (x : A) (y : B) → r ≡ Ok x → r ≡ Err y → ⊥
-not-both r x y one other = cc
-
-same-lists : {A B : Type 0} (r : Result A B) (x y : A) → r ≡ Ok x → r ≡ Ok y → x ≡ y
-same-lists r x y one other = cc
 
 -- ---- bytes that hold a tree, and at most one
 module _ (one : (bytes : List ℕ) (tree other : TreeData) → Holds bytes tree → Holds bytes other → tree ≡ other) (bytes : List ℕ) (t : TreeData) (held : Holds bytes t) where
@@ -57,18 +52,26 @@ module _ (one : (bytes : List ℕ) (tree other : TreeData) → Holds bytes tree 
   pub undumped : (fault : FaultValue) → IsRefusal bytes fault → CannotPrint t fault
   undumped fault refusal = unprinted refusal.error fault refusal.told refusal.explained
 
+  unwanted : (e : BlobError) (fault : FaultValue) → fault ≡ blob_fault e → Explains bytes e → (e ≡ TooLarge → header_fault bytes ≡ Some TooLarge) → fault ≡ no_memory
+  unwanted NoMemory fault told why size = told
+  unwanted Truncated fault told why size = elim (no-fault bytes t Truncated held why) [ ]
+  unwanted BadMagic fault told why size = elim (no-fault bytes t BadMagic held why) [ ]
+  unwanted BadVersion fault told why size = elim (no-fault bytes t BadVersion held why) [ ]
+  unwanted BadLayout fault told (inl bad) size = elim (no-fault bytes t BadLayout held bad) [ ]
+  unwanted BadLayout fault told (inr endless) size = elim (endless.1 t.reserves held.reserves) [ ]
+  unwanted BadToken fault told why size = elim (why t held) [ ]
+  unwanted BadString fault told why size = elim (why t held) [ ]
+  unwanted PropertyAfterNode fault told why size = elim (why t held) [ ]
+  unwanted BadTree fault told why size = elim (why t held) [ ]
+  unwanted TooLarge fault told why size = elim (no-fault bytes t TooLarge held (size refl)) [ ]
+
+  -- bytes that hold a tree are read, unless memory is wanted
+  pub unread : (fault : FaultValue) → IsUnread bytes fault → fault ≡ no_memory
+  unread fault refusal = unwanted refusal.error fault refusal.told refusal.explained refusal.size
+
 -- ---- a source that means a tree is refused for want of memory alone
 built : (m : Meaning) (lists : Resolved) (e : BuildError) → resolved false m ≡ Ok lists → Refuses false m e → e ≡ builds.NoMemory
-built m lists builds.NoMemory is why = refl
-built m lists builds.UnknownLabel is why = elim (not-both _ _ _ is why) [ ]
-built m lists builds.DuplicateLabel is why = elim (not-both _ _ _ is why) [ ]
-built m lists builds.UnknownPath is why = elim (not-both _ _ _ is why) [ ]
-built m lists builds.BadPhandle is why = elim (not-both _ _ _ is why) [ ]
-built m lists builds.DuplicatePhandle is why = elim (not-both _ _ _ is why) [ ]
-built m lists builds.DuplicateInBody is why = elim (not-both _ _ _ is why) [ ]
-built m lists builds.PathInPlugin is why = elim (not-both _ _ _ is why) [ ]
-built m lists builds.ReservedName is why = elim (not-both _ _ _ is why) [ ]
-built m lists builds.TooDeep is why = elim (not-both _ _ _ is why) [ ]
+built m lists e is why = none-built (resolved false m) lists e is why
 
 fits-not : (m : Meaning) (t : TreeData) → IsTree t → IsTreeOf false m t → length (blob_of t) ≤ blob_limit → HasLongBlob false m → ⊥
 fits-not m t is of fits long =

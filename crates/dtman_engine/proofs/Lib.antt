@@ -5,6 +5,10 @@ mod DumpLemmas
 mod ExplainLemmas
 mod HeaderLemmas
 mod LawLemmas
+mod OneAnswers
+mod OneApplied
+mod OneBuilt
+mod OneErrors
 pub mod OverlayLemmas
 mod RunLemmas
 mod SortLemmas

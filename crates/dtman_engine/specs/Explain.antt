@@ -1,53 +1,66 @@
--- The numbers that refusals have, by what refuses, and a refusal's entry as it is printed.
-use Rattle.std.specs.Prelude.{ℕ, Bool, false, List, [], ◌∷◌, ◌||◌, ◌==◌, codes}
+-- The names that refusals have by their numbers, as those give them that refuse, and a refusal's entry as it is printed.
+use Rattle.std.specs.Prelude.{ℕ, List, [], ◌∷◌, ◌==◌, if◌then◌else◌, Option, Some, None, map, flat_map, codes}
 use Rattle.std.specs.List.{concat}
 use Rattle.std.specs.Fmt.{decimal}
+use Rattle.dt_source.specs.declared.error.SourceErrorKind.TheVariants as source
+use Rattle.dt_resolve.specs.declared.error.BuildError.TheVariants as build
+use Rattle.dt_blob.specs.declared.error.BlobError.TheVariants as blob
+use Rattle.dt_fixup.specs.declared.error.OverlayError.TheVariants as overlay
+use Rattle.bus_plan.specs.declared.error.PlanError.TheVariants as text
+use Rattle.bus_core.specs.declared.refusal.Refusal.TheVariants as event
+use Rattle.bus_manager.specs.declared.run_error.RunError.TheVariants as run
 use Rattle.dtman_engine.specs.declared.explaining.Explanation.{Explanation}
+use Rattle.dtman_engine.specs.Fault.{FaultValue, no_memory, cannot_read, cannot_write, file_too_long}
+use Rattle.dtman_engine.specs.BlobFaults.{blob_fault}
+use Rattle.dtman_engine.specs.EventFaults.{event_fault}
+use Rattle.dtman_engine.specs.OverlayFaults.{overlay_fault}
+use Rattle.dtman_engine.specs.RunFaults.{run_fault}
+use Rattle.dtman_engine.specs.SourceFaults.{source_fault, build_fault}
+use Rattle.dtman_engine.specs.TextFaults.{text_fault}
 
--- whether a list has the number
-abbrev pub is_one_of : List ℕ → ℕ → Bool
-is_one_of [] number = false
-is_one_of (n ∷ ns) number = number == n || is_one_of ns number
+-- the name of the first fault that has the number
+abbrev pub name_in : List FaultValue → ℕ → Option (List ℕ)
+name_in [] number = None
+name_in (fault ∷ faults) number = if number == fault.number then Some fault.name else name_in faults number
 
-abbrev pub memory_numbers : List ℕ
-memory_numbers = 0 ∷ []
+-- Those that each crate and the commands tell, each of a line or an event where it has one.
+abbrev pub memory_faults : List FaultValue
+memory_faults = no_memory ∷ []
 
-abbrev pub source_numbers : List ℕ
-source_numbers = 10 ∷ 11 ∷ 12 ∷ 13 ∷ 14 ∷ 15 ∷ 16 ∷ 17 ∷ []
+abbrev pub source_faults : List FaultValue
+source_faults =
+    map (λ kind. source_fault kind 1) (source.Syntax ∷ source.ElementRange ∷ source.DivideByZero ∷ source.BadBits ∷ source.LiteralRange ∷ source.BadEscape ∷ source.TooDeep ∷ source.TooLong ∷ [])
 
-abbrev pub build_numbers : List ℕ
-build_numbers = 20 ∷ 21 ∷ 22 ∷ 23 ∷ 24 ∷ 25 ∷ 26 ∷ 27 ∷ 28 ∷ []
+abbrev pub build_faults : List FaultValue
+build_faults =
+    map build_fault (build.UnknownLabel ∷ build.DuplicateLabel ∷ build.UnknownPath ∷ build.BadPhandle ∷ build.DuplicatePhandle ∷ build.DuplicateInBody ∷ build.PathInPlugin ∷ build.ReservedName ∷ build.TooDeep ∷ [])
 
-abbrev pub blob_numbers : List ℕ
-blob_numbers = 30 ∷ 31 ∷ 32 ∷ 33 ∷ 34 ∷ 35 ∷ 36 ∷ 37 ∷ 38 ∷ []
+abbrev pub blob_faults : List FaultValue
+blob_faults =
+    map blob_fault (blob.Truncated ∷ blob.BadMagic ∷ blob.BadVersion ∷ blob.BadLayout ∷ blob.BadToken ∷ blob.BadString ∷ blob.PropertyAfterNode ∷ blob.BadTree ∷ blob.TooLarge ∷ [])
 
-abbrev pub overlay_numbers : List ℕ
-overlay_numbers = 40 ∷ 41 ∷ 42 ∷ 43 ∷ 44 ∷ 45 ∷ 46 ∷ []
+abbrev pub overlay_faults : List FaultValue
+overlay_faults =
+    map overlay_fault (overlay.NotOverlay ∷ overlay.NoTarget ∷ overlay.UnknownSymbol ∷ overlay.BadFixup ∷ overlay.PhandleOverflow ∷ overlay.PhandleClash ∷ overlay.TooDeep ∷ [])
 
-abbrev pub text_numbers : List ℕ
-text_numbers = 50 ∷ 51 ∷ 52 ∷ 53 ∷ 54 ∷ 55 ∷ 56 ∷ []
+abbrev pub text_faults : List FaultValue
+text_faults =
+    map text_fault (text.BadLine 1 ∷ text.DuplicateDriver 1 ∷ text.DuplicateDevice 1 ∷ text.UnknownPath 1 ∷ text.DanglingPhandle ∷ text.BadSpecifier ∷ text.TooManyDevices ∷ [])
 
-abbrev pub event_numbers : List ℕ
-event_numbers = 60 ∷ 61 ∷ 62 ∷ 63 ∷ 64 ∷ 65 ∷ 66 ∷ 67 ∷ []
+abbrev pub event_faults : List FaultValue
+event_faults =
+    map (event_fault 1) (event.NotIdle ∷ event.Unmatched ∷ event.StaleTicket ∷ event.NotReady ∷ event.WasBound ∷ event.TooManyEvents ∷ event.NotInFlight ∷ event.KnownDriver ∷ [])
 
-abbrev pub run_numbers : List ℕ
-run_numbers = 70 ∷ []
+abbrev pub run_faults : List FaultValue
+run_faults = run_fault run.TooManyWorkers ∷ []
 
-abbrev pub file_numbers : List ℕ
-file_numbers = 80 ∷ 81 ∷ 82 ∷ []
+abbrev pub file_faults : List FaultValue
+file_faults = cannot_read ∷ cannot_write ∷ file_too_long ∷ []
 
--- the numbers of all refusals
-abbrev pub is_error_number : ℕ → Bool
-is_error_number number =
-    is_one_of memory_numbers number
-    || is_one_of source_numbers number
-    || is_one_of build_numbers number
-    || is_one_of blob_numbers number
-    || is_one_of overlay_numbers number
-    || is_one_of text_numbers number
-    || is_one_of event_numbers number
-    || is_one_of run_numbers number
-    || is_one_of file_numbers number
+-- the name of the refusal that has the number
+abbrev pub name_for : ℕ → Option (List ℕ)
+name_for number =
+    name_in (flat_map (λ (faults : List FaultValue). faults) (memory_faults ∷ source_faults ∷ build_faults ∷ blob_faults ∷ overlay_faults ∷ text_faults ∷ event_faults ∷ run_faults ∷ file_faults ∷ [])) number
 
 -- an entry as it is printed
 abbrev pub entry_text : Explanation → List ℕ

@@ -1,8 +1,11 @@
 -- What the engines keep together, over all that their clauses let them answer.
-use Rattle.std.specs.Prelude.{◌≡◌, ◌<◌, ◌≤◌, ◌⊎◌, ℕ, false, List, length}
+use Rattle.std.specs.Prelude.{◌≡◌, ◌<◌, ◌≤◌, ◌⊎◌, ℕ, Bool, false, List, length}
 use Rattle.dt_tree.specs.TreeData.{TreeData, IsTree}
 use Rattle.dt_source.specs.declared.error.SourceErrorKind.TheVariants.{TooLong}
+use Rattle.dt_source.specs.Parse.{Says}
+use Rattle.dt_meaning.specs.Syntax.{Meaning}
 use Rattle.dt_blob.specs.Blob.{blob_of}
+use Rattle.dt_blob.specs.Holds.{Holds}
 use Rattle.dt_blob.specs.SourceText.{text_of}
 use Rattle.dt_canonical.specs.Bytes.{HasBytes}
 use Rattle.dt_canonical.specs.Conditions.{IsSourceTree}
@@ -10,7 +13,8 @@ use Rattle.dtman_engine.specs.Compile.{IsCompiled, IsCompileRefusal}
 use Rattle.dtman_engine.specs.Dump.{CannotPrint, IsDump, IsRefusal}
 use Rattle.dtman_engine.specs.Fault.{FaultValue, no_memory}
 use Rattle.dtman_engine.specs.SourceFaults.{source_fault}
-use Rattle.dtman_engine.specs.Limits.{blob_limit, source_limit}
+use Rattle.dtman_engine.specs.Limits.{blob_limit, source_limit, IsShort}
+use Rattle.dtman_engine.specs.Overlay.{IsOverlaid, IsOverlayRefusal}
 
 -- a tree with canonical source, whose blob is written: no processor but 0 boots, and its phandles are those of a source
 pub record HasCanonicalSource (tree : TreeData) : Type 0 where
@@ -34,3 +38,16 @@ pub record ComesBack (tree : TreeData) : Type 0 where
 -- each blob of a tree with canonical source comes back
 abbrev pub BlobsComeBack : Type 0
 BlobsComeBack = (tree : TreeData) → HasCanonicalSource tree → ComesBack tree
+
+-- Of what a call may answer to one input: all bytes are the same, all faults but want of memory are, and a fault beside
+-- bytes is want of memory.
+pub record IsOneAnswer (Gives : List ℕ → Type 0) (Refuses : FaultValue → Type 0) : Type 0 where
+  pub bytes : (one other : List ℕ) → Gives one → Gives other → one ≡ other
+  pub faults : (one other : FaultValue) → Refuses one → Refuses other → (one ≡ no_memory) ⊎ (other ≡ no_memory) ⊎ (one ≡ other)
+  pub apart : (bytes : List ℕ) (fault : FaultValue) → Gives bytes → Refuses fault → fault ≡ no_memory
+
+-- So it is of compiling a text that says something, and of overlays and dumps of bytes that hold trees.
+pub record OneAnswer : Type 0 where
+  pub compiled : (symbols : Bool) (text : List ℕ) (m : Meaning) → IsShort text → Says text m → IsOneAnswer (IsCompiled symbols text) (IsCompileRefusal symbols text)
+  pub overlaid : (base over : List ℕ) (b o : TreeData) → Holds base b → Holds over o → IsOneAnswer (IsOverlaid base over) (IsOverlayRefusal base over)
+  pub dumped : (blob : List ℕ) (tree : TreeData) → Holds blob tree → IsOneAnswer (IsDump blob) (IsRefusal blob)

@@ -1,6 +1,7 @@
 //! What bytes come from and go to.
-ghost use Rattle.std.specs.Prelude.{◌≡◌, ℕ, ◌<◌, ◌≤◌, Bool, true, List, Option, take, length, IfOk, OnOk, OnErr};
+ghost use Rattle.std.specs.Prelude.{◌≡◌, ℕ, ◌<◌, ◌≤◌, Bool, true, List, Option, Some, take, length, IfOk, IfErr, OnOk, OnErr};
 ghost use Rattle.std.specs.Io.KnownBytes.{Appends, Consumes, IsAtEnd, Keeps};
+ghost use Rattle.dtman_engine.specs.declared.channel.Failed.{Failed};
 
 /// Why a call moved nothing that counts.
 #[derive(Clone, Copy, Debug, PartialEq, Eq)]
@@ -22,6 +23,9 @@ pub trait Channel {
     // Whether a call has failed.
     ghost has_failed: { Self → Bool };
 
+    // Why the last call failed that did.
+    ghost failure: { Self → Option Failed };
+
     /// Reads bytes to the front of the buffer, and answers how many: none only at the end, or where there is no room.
     fn read(&mut self, buffer: &mut [u8]) -> Result<usize, Failed>
         ensures count { IfOk result (λ n. n ≤ length buffer.old) }
@@ -39,5 +43,6 @@ pub trait Channel {
         ensures none { OnErr result (Keeps (written self.old) (written self.new)) }
         ensures others { Keeps (left self.old) (left self.new) }
         ensures ok { OnOk result (has_failed self.new ≡ has_failed self.old) }
-        ensures failed { OnErr result (has_failed self.new ≡ true) };
+        ensures failed { OnErr result (has_failed self.new ≡ true) }
+        ensures why { IfErr result (λ why. failure self.new ≡ Some why) };
 }

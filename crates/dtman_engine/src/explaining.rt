@@ -1,6 +1,6 @@
 //! What each number means, and what to do about it.
-ghost use Rattle.std.specs.Prelude.{◌≡◌, IfSome, is_some};
-ghost use Rattle.dtman_engine.specs.Explain.{is_one_of, is_error_number, memory_numbers, source_numbers, build_numbers, blob_numbers, overlay_numbers, text_numbers, event_numbers, run_numbers, file_numbers};
+ghost use Rattle.std.specs.Prelude.{◌≡◌, IfSome, option_map};
+ghost use Rattle.dtman_engine.specs.Explain.{name_in, name_for, memory_faults, source_faults, build_faults, blob_faults, overlay_faults, text_faults, event_faults, run_faults, file_faults};
 
 mod texts;
 
@@ -40,7 +40,8 @@ impl fmt::Display for Explanation {
 
 /// The explanation of a number that the program prints.
 pub fn explain(number: u8) -> Option<Explanation>
-    ensures known { is_some result ≡ is_error_number number }
+    // It is there for the numbers of refusals alone, and has the name by which the refusal is told.
+    ensures named { option_map (λ found. found.name.now) result ≡ name_for number }
     ensures numbered { IfSome result (λ found. found.number ≡ number) }
 {
     let (name, meaning, input, remedy) = texts_of(number)?;
@@ -57,7 +58,7 @@ pub fn explain(number: u8) -> Option<Explanation>
 type Texts = (&'static str, &'static str, &'static str, &'static str);
 
 fn texts_of(number: u8) -> Option<Texts>
-    ensures { is_some result ≡ is_error_number number }
+    ensures { option_map (λ texts. texts.0.now) result ≡ name_for number }
 {
     of_memory(number)
         .or(of_source(number))
@@ -71,7 +72,7 @@ fn texts_of(number: u8) -> Option<Texts>
 }
 
 fn of_memory(number: u8) -> Option<Texts>
-    ensures { is_some result ≡ is_one_of memory_numbers number }
+    ensures { option_map (λ texts. texts.0.now) result ≡ name_in memory_faults number }
 {
     match number {
         0 => Some(texts::NO_MEMORY),
@@ -80,7 +81,7 @@ fn of_memory(number: u8) -> Option<Texts>
 }
 
 fn of_source(number: u8) -> Option<Texts>
-    ensures { is_some result ≡ is_one_of source_numbers number }
+    ensures { option_map (λ texts. texts.0.now) result ≡ name_in source_faults number }
 {
     match number {
         10 => Some(texts::SYNTAX),
@@ -96,7 +97,7 @@ fn of_source(number: u8) -> Option<Texts>
 }
 
 fn of_build(number: u8) -> Option<Texts>
-    ensures { is_some result ≡ is_one_of build_numbers number }
+    ensures { option_map (λ texts. texts.0.now) result ≡ name_in build_faults number }
 {
     match number {
         20 => Some(texts::UNKNOWN_LABEL),
@@ -113,7 +114,7 @@ fn of_build(number: u8) -> Option<Texts>
 }
 
 fn of_blob(number: u8) -> Option<Texts>
-    ensures { is_some result ≡ is_one_of blob_numbers number }
+    ensures { option_map (λ texts. texts.0.now) result ≡ name_in blob_faults number }
 {
     match number {
         30 => Some(texts::TRUNCATED),
@@ -130,7 +131,7 @@ fn of_blob(number: u8) -> Option<Texts>
 }
 
 fn of_overlay(number: u8) -> Option<Texts>
-    ensures { is_some result ≡ is_one_of overlay_numbers number }
+    ensures { option_map (λ texts. texts.0.now) result ≡ name_in overlay_faults number }
 {
     match number {
         40 => Some(texts::NOT_OVERLAY),
@@ -145,7 +146,7 @@ fn of_overlay(number: u8) -> Option<Texts>
 }
 
 fn of_text(number: u8) -> Option<Texts>
-    ensures { is_some result ≡ is_one_of text_numbers number }
+    ensures { option_map (λ texts. texts.0.now) result ≡ name_in text_faults number }
 {
     match number {
         50 => Some(texts::BAD_LINE),
@@ -160,7 +161,7 @@ fn of_text(number: u8) -> Option<Texts>
 }
 
 fn of_event(number: u8) -> Option<Texts>
-    ensures { is_some result ≡ is_one_of event_numbers number }
+    ensures { option_map (λ texts. texts.0.now) result ≡ name_in event_faults number }
 {
     match number {
         60 => Some(texts::NOT_IDLE),
@@ -176,7 +177,7 @@ fn of_event(number: u8) -> Option<Texts>
 }
 
 fn of_run(number: u8) -> Option<Texts>
-    ensures { is_some result ≡ is_one_of run_numbers number }
+    ensures { option_map (λ texts. texts.0.now) result ≡ name_in run_faults number }
 {
     match number {
         70 => Some(texts::TOO_MANY_WORKERS),
@@ -185,7 +186,7 @@ fn of_run(number: u8) -> Option<Texts>
 }
 
 fn of_file(number: u8) -> Option<Texts>
-    ensures { is_some result ≡ is_one_of file_numbers number }
+    ensures { option_map (λ texts. texts.0.now) result ≡ name_in file_faults number }
 {
     match number {
         80 => Some(texts::CANNOT_READ),

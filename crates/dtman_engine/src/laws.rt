@@ -1,6 +1,6 @@
 //! Laws of the engines.
 ghost use Rattle.std.specs.Prelude.{◌≡◌};
-ghost use Rattle.dtman_engine.specs.Laws.{BlobsComeBack};
+ghost use Rattle.dtman_engine.specs.Laws.{BlobsComeBack, OneAnswer};
 ghost use Rattle.dtman_engine.specs.Limits.{blob_limit, source_limit, text_limit};
 
 use crate::limits::{MAX_BLOB_LEN, MAX_SOURCE_LEN, MAX_TEXT_LEN};
@@ -17,6 +17,15 @@ pub fn blobs_come_back()
     one_source();
     one_tree();
     blob_holds();
+}
+
+/// One input has one answer, but for want of memory: what `compile_bytes` gives of a text that says something, and
+/// `overlay_bytes` and `dump_bytes` of bytes that hold trees.
+pub fn one_answer()
+    ensures { OneAnswer }
+{
+    one_source();
+    one_tree();
 }
 
 /// The code's limits are those of the definitions.

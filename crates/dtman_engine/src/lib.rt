@@ -25,7 +25,7 @@ pub use copying::copy_bytes;
 pub use dump::dump_bytes;
 pub use explaining::{Explanation, explain};
 pub use fault::{Fault, Position};
-pub use laws::{blobs_come_back, limits_stand};
+pub use laws::{blobs_come_back, limits_stand, one_answer};
 pub use limits::{MAX_BLOB_LEN, MAX_SOURCE_LEN, MAX_TEXT_LEN};
 pub use memory::Memory;
 pub use overlaying::overlay_bytes;

@@ -1,5 +1,5 @@
 //! A channel over memory, for tests of what reads and writes.
-ghost use Rattle.std.specs.Prelude.{◌≡◌, [], false};
+ghost use Rattle.std.specs.Prelude.{◌≡◌, [], None};
 
 use crate::channel::{Channel, Failed};
 use std::alloc::Global;
@@ -15,7 +15,8 @@ pub struct Memory<'a> {
     pub calls_left: Option<usize>,
     /// Why that one fails.
     pub failing: Failed,
-    pub failed: bool,
+    /// Why the last call failed that did.
+    pub failure: Option<Failed>,
 }
 
 impl<'a> Memory<'a> {
@@ -24,7 +25,7 @@ impl<'a> Memory<'a> {
         ensures left { result.left.now ≡ left.now }
         ensures written { result.written.items ≡ [] }
         ensures faultless { result.calls_left ≡ None }
-        ensures sound { result.failed ≡ false }
+        ensures sound { result.failure ≡ None }
     {
         Memory {
             left,
@@ -32,7 +33,7 @@ impl<'a> Memory<'a> {
             pace: usize::MAX,
             calls_left: None,
             failing: Failed::Fault,
-            failed: false,
+            failure: None,
         }
     }
 }
@@ -50,19 +51,21 @@ fn is_failing(calls_left: &mut Option<usize>) -> bool {
 }
 
 impl Channel for Memory<'_> {
-    ghost use Rattle.std.specs.Prelude.{Some};
+    ghost use Rattle.std.specs.Prelude.{Some, is_some};
 
     ghost left = { λ memory. Some memory.left.now };
 
     ghost written = { λ memory. Some memory.written.items };
 
-    ghost has_failed = { λ memory. memory.failed };
+    ghost has_failed = { λ memory. is_some memory.failure };
+
+    ghost failure = { λ memory. memory.failure };
 
     fn read(&mut self, buffer: &mut [u8]) -> Result<usize, Failed> {
         let count = self.pace.min(buffer.len()).min(self.left.len());
         let is_stuck = count == 0 && !buffer.is_empty() && !self.left.is_empty();
         if is_failing(&mut self.calls_left) || is_stuck {
-            self.failed = true;
+            self.failure = Some(self.failing);
             return Err(self.failing);
         }
         buffer[..count].copy_from_slice(&self.left[..count]);
@@ -74,13 +77,13 @@ impl Channel for Memory<'_> {
         let count = self.pace.min(piece.len());
         let is_stuck = count == 0 && !piece.is_empty();
         if is_failing(&mut self.calls_left) || is_stuck {
-            self.failed = true;
+            self.failure = Some(self.failing);
             return Err(self.failing);
         }
         match self.written.extend_from_slice(&piece[..count]) {
             Ok(()) => Ok(count),
             Err(_) => {
-                self.failed = true;
+                self.failure = Some(Failed::Fault);
                 Err(Failed::Fault)
             }
         }

@@ -1,6 +1,6 @@
 //! Files, standard input and standard output as channels. They tell no bytes: no clause says what a file holds.
 
-ghost use Rattle.std.specs.Prelude.{◌≡◌, ◌<◌, ◌≤◌, true, false, length, IfOk, OnOk, OnErr};
+ghost use Rattle.std.specs.Prelude.{◌≡◌, ◌<◌, ◌≤◌, true, false, length, Some, is_some, IfOk, IfErr, OnOk, OnErr};
 
 use crate::channel::{Channel, Failed};
 use std::io::{ErrorKind, Read, Write};
@@ -9,7 +9,7 @@ use std::io::{ErrorKind, Read, Write};
 #[derive(Drop)]
 pub struct FileChannel<F: Drop> {
     file: F,
-    failed: bool,
+    failure: Option<Failed>,
 }
 
 impl<F: Read + Write + Drop> FileChannel<F> {
@@ -18,32 +18,34 @@ impl<F: Read + Write + Drop> FileChannel<F> {
     {
         FileChannel {
             file,
-            failed: false,
+            failure: None,
         }
     }
 }
 
 impl<F: Read + Write + Drop> Channel for FileChannel<F> {
-    ghost use Rattle.std.specs.Prelude.{None};
+    ghost use Rattle.std.specs.Prelude.{None, is_some};
 
     ghost left = { λ _. None };
 
     ghost written = { λ _. None };
 
-    ghost has_failed = { λ channel. channel.failed };
+    ghost has_failed = { λ channel. is_some channel.failure };
+
+    ghost failure = { λ channel. channel.failure };
 
     fn read(&mut self, buffer: &mut [u8]) -> Result<usize, Failed> {
         match self.file.read(buffer) {
             Ok(count) => Ok(count),
             Err(_) => {
-                self.failed = true;
+                self.failure = Some(Failed::Fault);
                 Err(Failed::Fault)
             }
         }
     }
 
     fn write(&mut self, piece: &[u8]) -> Result<usize, Failed> {
-        write_some(&mut self.file, &mut self.failed, piece)
+        write_some(&mut self.file, &mut self.failure, piece)
     }
 }
 
@@ -51,7 +53,7 @@ impl<F: Read + Write + Drop> Channel for FileChannel<F> {
 #[derive(Drop)]
 pub struct OutputChannel<W: Drop> {
     writer: W,
-    failed: bool,
+    failure: Option<Failed>,
 }
 
 impl<W: Write + Drop> OutputChannel<W> {
@@ -60,27 +62,29 @@ impl<W: Write + Drop> OutputChannel<W> {
     {
         OutputChannel {
             writer,
-            failed: false,
+            failure: None,
         }
     }
 }
 
 impl<W: Write + Drop> Channel for OutputChannel<W> {
-    ghost use Rattle.std.specs.Prelude.{None};
+    ghost use Rattle.std.specs.Prelude.{None, is_some};
 
     ghost left = { λ _. None };
 
     ghost written = { λ _. None };
 
-    ghost has_failed = { λ channel. channel.failed };
+    ghost has_failed = { λ channel. is_some channel.failure };
+
+    ghost failure = { λ channel. channel.failure };
 
     fn read(&mut self, _buffer: &mut [u8]) -> Result<usize, Failed> {
-        self.failed = true;
+        self.failure = Some(Failed::Fault);
         Err(Failed::Fault)
     }
 
     fn write(&mut self, piece: &[u8]) -> Result<usize, Failed> {
-        write_some(&mut self.writer, &mut self.failed, piece)
+        write_some(&mut self.writer, &mut self.failure, piece)
     }
 }
 
@@ -88,7 +92,7 @@ impl<W: Write + Drop> Channel for OutputChannel<W> {
 #[derive(Drop)]
 pub struct InputChannel<R: Drop> {
     reader: R,
-    failed: bool,
+    failure: Option<Failed>,
 }
 
 impl<R: Read + Drop> InputChannel<R> {
@@ -97,51 +101,58 @@ impl<R: Read + Drop> InputChannel<R> {
     {
         InputChannel {
             reader,
-            failed: false,
+            failure: None,
         }
     }
 }
 
 impl<R: Read + Drop> Channel for InputChannel<R> {
-    ghost use Rattle.std.specs.Prelude.{None};
+    ghost use Rattle.std.specs.Prelude.{None, is_some};
 
     ghost left = { λ _. None };
 
     ghost written = { λ _. None };
 
-    ghost has_failed = { λ channel. channel.failed };
+    ghost has_failed = { λ channel. is_some channel.failure };
+
+    ghost failure = { λ channel. channel.failure };
 
     fn read(&mut self, buffer: &mut [u8]) -> Result<usize, Failed> {
         match self.reader.read(buffer) {
             Ok(count) => Ok(count),
             Err(_) => {
-                self.failed = true;
+                self.failure = Some(Failed::Fault);
                 Err(Failed::Fault)
             }
         }
     }
 
     fn write(&mut self, _piece: &[u8]) -> Result<usize, Failed> {
-        self.failed = true;
+        self.failure = Some(Failed::Fault);
         Err(Failed::Fault)
     }
 }
 
 /// One write. That it took nothing of a piece with bytes is a fault too.
-fn write_some<W: Write>(to: &mut W, failed: &mut bool, piece: &[u8]) -> Result<usize, Failed>
+fn write_some<W: Write>(
+    to: &mut W,
+    failure: &mut Option<Failed>,
+    piece: &[u8],
+) -> Result<usize, Failed>
     ensures count { IfOk result (λ n. n ≤ length piece.now) }
     ensures some { IfOk result (λ n. 0 < length piece.now → 0 < n) }
-    ensures ok { OnOk result (failed.new ≡ failed.old) }
-    ensures failed { OnErr result (failed.new ≡ true) }
+    ensures ok { OnOk result (failure.new ≡ failure.old) }
+    ensures failed { OnErr result (is_some failure.new ≡ true) }
+    ensures why { IfErr result (λ why. failure.new ≡ Some why) }
 {
     match to.write(piece) {
         Ok(count) if count > 0 || piece.is_empty() => Ok(count),
         Err(error) if error.kind() == ErrorKind::BrokenPipe => {
-            *failed = true;
+            *failure = Some(Failed::Unread);
             Err(Failed::Unread)
         }
         _ => {
-            *failed = true;
+            *failure = Some(Failed::Fault);
             Err(Failed::Fault)
         }
     }

@@ -1,5 +1,5 @@
 //! Whole inputs read and whole outputs written.
-ghost use Rattle.std.specs.Prelude.{◌≡◌, ◌+◌, ◌<◌, ◌≤◌, ◌^◌, false, true, length, IfOk, IfErr, OnOk};
+ghost use Rattle.std.specs.Prelude.{◌≡◌, ◌+◌, ◌<◌, ◌≤◌, ◌^◌, false, true, length, Some, IfOk, IfErr, OnOk};
 ghost use Rattle.std.specs.Io.KnownBytes.{Appends, Consumes, IsAtEnd};
 ghost use Rattle.dtman_engine.specs.Transfer.{CannotTake, CannotTakeAll, TakesAll, WritesFront};
 
@@ -68,6 +68,8 @@ pub fn write_out<C: Channel>(channel: &mut C, text: &[u8]) -> Result<(), WriteFa
     // After a fault the channel has the first bytes of the text, as many as the fault says.
     ensures front { IfErr result (WritesFront (C.written channel.old) (C.written channel.new) text.now) }
     ensures fault { IfErr result (λ _. C.has_failed channel.new ≡ true) }
+    // The fault tells why the channel's call failed.
+    ensures why { IfErr result (λ fault. C.failure channel.new ≡ Some fault.why) }
 {
     let mut written = 0;
     while written < text.len() {

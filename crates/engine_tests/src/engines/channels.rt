@@ -55,7 +55,7 @@ fn read_fails(rt: &impl Abort, alloc: Global, call: usize) {
     let answer = number(read_all(alloc, &mut channel, 1000));
     let wanted = if call < 7 { (0, 80) } else { (28, 0) };
     assert_eq!(rt; answer, wanted, "{call}");
-    assert_eq!(rt; channel.failed, call < 7, "{call}");
+    assert_eq!(rt; channel.failure.is_some(), call < 7, "{call}");
 }
 
 #[test]
@@ -76,7 +76,7 @@ fn write_fails(rt: &impl Abort, alloc: Global, call: usize, wanted: Result<(), W
     assert_eq!(rt; answer, wanted, "{call}");
     let written = TEXT.get(..5 * call).unwrap_or(TEXT);
     assert_eq!(rt; channel.written.as_slice(), written, "{call}");
-    assert_eq!(rt; channel.failed, wanted.is_err(), "{call}");
+    assert_eq!(rt; channel.failure.is_some(), wanted.is_err(), "{call}");
 }
 
 #[test]

@@ -1,5 +1,5 @@
 //! Surroundings over memory.
-ghost use Rattle.std.specs.Prelude.{◌≡◌, false};
+ghost use Rattle.std.specs.Prelude.{◌≡◌, None};
 
 use dtman_cli::{Beside, Surroundings};
 use dtman_engine::{Channel, Failed, Memory};
@@ -52,7 +52,7 @@ impl<'a> Shelf<'a> {
     }
 
     fn channel(&self, bytes: &'a [u8]) -> Memory<'a>
-        ensures { result.failed ≡ false }
+        ensures { result.failure ≡ None }
     {
         let mut memory = Memory::new(self.alloc, bytes);
         memory.pace = self.pace;
