@@ -9,6 +9,10 @@ use Rattle.clap.specs.Words.{App, Rule, Text, new_app, new_rule, with_rule, with
 abbrev pub required : Text → Rule
 required id = record (new_rule id) { required = true }
 
+-- one that may be left out
+abbrev pub optional : Text → Rule
+optional id = new_rule id
+
 abbrev pub dump : App
 dump = with_rule (new_app (codes "dump")) (required (codes "IN"))
 
@@ -23,6 +27,10 @@ asked_number id most = record (new_rule id) { long = Some id; parser = Some (Uns
 -- the same, and the number where it isn't given
 abbrev pub number : Text → ℕ → Text → Rule
 number id most default = record (new_rule id) { long = Some id; parser = Some (Unsigned 1 most); defaults = default ∷ [] }
+
+-- an option with a text
+abbrev pub asked_text : Text → Rule
+asked_text id = record (new_rule id) { long = Some id; value_names = 1 }
 
 -- an option that has a short name too, may be given again and again, with a value each time, and wants another beside it
 abbrev pub repeated : Text → ℕ → Rule
@@ -46,7 +54,24 @@ replay =
     (asked_number (codes "workers") most_workers)
 
 abbrev pub probe : App
-probe = with_rule (with_rule (with_rule (new_app (codes "probe")) (required (codes "BLOB"))) (required (codes "DRIVERS"))) (number (codes "workers") most_workers (codes "4"))
+probe =
+    with_rule
+    (with_rule (with_rule (with_rule (new_app (codes "probe")) (required (codes "BLOB"))) (required (codes "DRIVERS"))) (number (codes "workers") most_workers (codes "4")))
+    (asked_text (codes "without"))
+
+abbrev pub why : App
+why =
+    with_rule (with_rule (with_rule (with_rule (new_app (codes "why")) (required (codes "BLOB"))) (required (codes "DRIVERS"))) (optional (codes "PATH")))
+    (flag (codes "check"))
+
+abbrev pub needs : App
+needs = with_rule (with_rule (with_rule (new_app (codes "needs")) (required (codes "BLOB"))) (required (codes "DRIVERS"))) (required (codes "PATH"))
+
+abbrev pub drivers : App
+drivers = with_rule (with_rule (new_app (codes "drivers")) (required (codes "ALIASES"))) (optional (codes "MODINFO"))
+
+abbrev pub trace : App
+trace = with_rule (with_rule (new_app (codes "trace")) (required (codes "LOG"))) (required (codes "PLAN"))
 
 abbrev pub explain : App
 explain = with_rule (new_app (codes "explain")) (required (codes "NUMBER"))
@@ -55,8 +80,13 @@ explain = with_rule (new_app (codes "explain")) (required (codes "NUMBER"))
 abbrev pub top : App
 top = let a = new_app (codes "dtman") in record a { top = record a.top { has_version = true; subcommand_required = true } }
 
+-- those of the boards' buses
+abbrev pub with_questions : App → App
+with_questions app = with_subcommand (with_subcommand (with_subcommand (with_subcommand app why.top) needs.top) drivers.top) trace.top
+
 unfoldable pub dtman : App
 dtman =
     with_subcommand
-    (with_subcommand (with_subcommand (with_subcommand (with_subcommand (with_subcommand (with_subcommand top compile.top) overlay.top) dump.top) plan.top) replay.top) probe.top)
+    (with_questions
+    (with_subcommand (with_subcommand (with_subcommand (with_subcommand (with_subcommand (with_subcommand top compile.top) overlay.top) dump.top) plan.top) replay.top) probe.top))
     explain.top

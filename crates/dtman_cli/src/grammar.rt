@@ -51,7 +51,21 @@ pub fn grammar<'a>(alloc: Global) -> Result<Command<'a>, AllocError>
     let app = add_subcommand(app, plan(alloc));
     let app = add_subcommand(app, replay(alloc));
     let app = add_subcommand(app, probe(alloc));
+    let app = add_questions(alloc, app);
     add_subcommand(app, explain(alloc))
+}
+
+/// Adds the questions that are asked of a board's bus.
+fn add_questions<'a>(
+    alloc: Global,
+    app: Result<Command<'a>, AllocError>,
+) -> Result<Command<'a>, AllocError>
+    ensures { (before : App) → Makes app.entry before → Makes result (spec.with_questions before) }
+{
+    let app = add_subcommand(app, why(alloc));
+    let app = add_subcommand(app, needs(alloc));
+    let app = add_subcommand(app, drivers(alloc));
+    add_subcommand(app, trace(alloc))
 }
 
 /// Adds a subcommand, unless memory was refused. It takes what may be refused, so that its callers have one way out.
@@ -163,9 +177,50 @@ fn probe<'a>(alloc: Global) -> Result<Command<'a>, AllocError>
     let about = "Binds the devices of a blob by workers and prints the end report";
     let workers = "How many probe at once, 1 to 64";
     let most = MAX_WORKERS as u64;
+    let without = "Leaves this driver of the file out";
     let command = named(alloc, "probe", about).arg(required(alloc, "BLOB", "The blob"));
     let command = add_argument(command, required(alloc, "DRIVERS", "The driver file"));
-    add_argument(command, number(alloc, "workers", most, "4", workers))
+    let command = add_argument(command, number(alloc, "workers", most, "4", workers));
+    add_argument(command, asked_text(alloc, "without", "DRIVER", without))
+}
+
+fn why<'a>(alloc: Global) -> Result<Command<'a>, AllocError>
+    ensures { IfOk result (λ c. (app_of c ≡ spec.why) × ((out-Command c).has_globals ≡ false)) }
+{
+    let about = "Says why devices wait, supplier by supplier, and what holds them back";
+    let path = "The device; where none is named, each that waits";
+    let check = "Ends with status 1 where a device is listed";
+    let command = named(alloc, "why", about).arg(required(alloc, "BLOB", "The blob"));
+    let command = add_argument(command, required(alloc, "DRIVERS", "The driver file"));
+    let command = add_argument(command, optional(alloc, "PATH", path));
+    add_argument(command, flag(alloc, "check", check))
+}
+
+fn needs<'a>(alloc: Global) -> Result<Command<'a>, AllocError>
+    ensures { IfOk result (λ c. (app_of c ≡ spec.needs) × ((out-Command c).has_globals ≡ false)) }
+{
+    let about = "Lists what a device needs, in an order that works, and the drivers";
+    let command = named(alloc, "needs", about).arg(required(alloc, "BLOB", "The blob"));
+    let command = add_argument(command, required(alloc, "DRIVERS", "The driver file"));
+    add_argument(command, required(alloc, "PATH", "The device"))
+}
+
+fn drivers<'a>(alloc: Global) -> Result<Command<'a>, AllocError>
+    ensures { IfOk result (λ c. (app_of c ≡ spec.drivers) × ((out-Command c).has_globals ≡ false)) }
+{
+    let about = "Makes a driver file of what an installed Linux says of its modules";
+    let aliases = required(alloc, "ALIASES", "The file modules.alias");
+    let command = named(alloc, "drivers", about).arg(aliases);
+    let builtin = "The file modules.builtin.modinfo";
+    add_argument(command, optional(alloc, "MODINFO", builtin))
+}
+
+fn trace<'a>(alloc: Global) -> Result<Command<'a>, AllocError>
+    ensures { IfOk result (λ c. (app_of c ≡ spec.trace) × ((out-Command c).has_globals ≡ false)) }
+{
+    let about = "Makes a schedule of a kernel's log, to be replayed over the plan";
+    let command = named(alloc, "trace", about).arg(required(alloc, "LOG", "The log"));
+    add_argument(command, required(alloc, "PLAN", "The plan file"))
 }
 
 fn explain<'a>(alloc: Global) -> Result<Command<'a>, AllocError>
@@ -181,6 +236,23 @@ fn required<'a>(alloc: Global, name: &'a str, about: &'a str) -> Arg<'a>
     ensures local { result.global ≡ false }
 {
     Arg::new(alloc, name).required(true).help(about)
+}
+
+fn optional<'a>(alloc: Global, name: &'a str, about: &'a str) -> Arg<'a>
+    ensures rule { rule_of result ≡ spec.optional name.now }
+    ensures local { result.global ≡ false }
+{
+    Arg::new(alloc, name).help(about)
+}
+
+fn asked_text<'a>(alloc: Global, name: &'a str, value: &'a str, about: &'a str) -> Arg<'a>
+    ensures rule { rule_of result ≡ spec.asked_text name.now }
+    ensures local { result.global ≡ false }
+{
+    Arg::new(alloc, name)
+        .long(name)
+        .value_name(value)
+        .help(about)
 }
 
 fn flag<'a>(alloc: Global, name: &'a str, about: &'a str) -> Arg<'a>

@@ -14,6 +14,7 @@ mod grammar;
 mod noted;
 mod origins;
 mod performing;
+mod questions;
 mod reading;
 mod running;
 mod subcommand;

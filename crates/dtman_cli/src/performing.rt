@@ -7,6 +7,7 @@ use crate::diagnosing::{Inputs, file_of};
 use crate::explaining::explained;
 use crate::failure::Failure;
 use crate::files::{print, read_at, seed, text_at, write_at};
+use crate::questions::{Question, less, made, needed, traced, why};
 use crate::subcommand::{Command, Profile};
 use crate::surroundings::Surroundings;
 use bus_manager::TableProber;
@@ -19,11 +20,12 @@ use std::hash::RandomState;
 use std::thread::Threads;
 
 /// Does what a command says.
-pub fn perform<'a, S: Surroundings, O: Channel, T: Threads + Sync>(
+pub fn perform<'a, S: Surroundings, O: Channel, E: Eprint, T: Threads + Sync>(
     alloc: Global,
     surroundings: &mut S,
     threads: &T,
     output: &mut O,
+    errors: &E,
     command: Command<'a>,
     detail: Detail,
 ) -> Result<(), Failure<'a>>
@@ -50,7 +52,38 @@ pub fn perform<'a, S: Surroundings, O: Channel, T: Threads + Sync>(
             blob,
             drivers,
             workers,
-        } => probed(alloc, surroundings, threads, blob, drivers, workers, detail)?,
+            without,
+        } => {
+            let drivers = Chosen { drivers, without };
+            probed(alloc, surroundings, threads, blob, drivers, workers, detail)?
+        }
+        Command::Why {
+            blob,
+            drivers,
+            path,
+            check,
+        } => {
+            let question = Question { path, check };
+            return why(
+                alloc,
+                surroundings,
+                threads,
+                output,
+                blob,
+                drivers,
+                question,
+                detail,
+            );
+        }
+        Command::Needs {
+            blob,
+            drivers,
+            path,
+        } => needed(alloc, surroundings, blob, drivers, path, detail)?,
+        Command::Drivers { aliases, builtin } => {
+            made(alloc, surroundings, errors, aliases, builtin)?
+        }
+        Command::Trace { log, plan } => traced(alloc, surroundings, errors, log, plan, detail)?,
         Command::Replay {
             plan,
             schedule,
@@ -159,19 +192,31 @@ fn planned<'a, S: Surroundings>(
     }
 }
 
+/// A driver file, and the driver of it that never comes.
+#[derive(Clone, Copy)]
+struct Chosen<'a> {
+    drivers: &'a str,
+    without: Option<&'a str>,
+}
+
 /// The end report of a blob's devices, probed by the plan alone.
 fn probed<'a, S: Surroundings, T: Threads + Sync>(
     alloc: Global,
     surroundings: &mut S,
     threads: &T,
     blob_path: &'a str,
-    drivers_path: &'a str,
+    drivers: Chosen<'a>,
     workers: u8,
     detail: Detail,
 ) -> Result<Vec<u8>, Failure<'a>> {
+    let Chosen {
+        drivers: drivers_path,
+        without,
+    } = drivers;
     let blob = read_at(alloc, surroundings, blob_path, MAX_BLOB_LEN)?;
     let drivers = text_at(alloc, surroundings, drivers_path)?;
     let hasher = seed(surroundings)?;
+    let drivers = less(alloc, drivers, without)?;
     let (blob, drivers) = (file_of(blob_path, &blob), file_of(drivers_path, &drivers));
     let ran = probe_bytes(
         threads,

@@ -45,6 +45,29 @@ pub enum Command<'a> {
         drivers: &'a str,
         /// From 1 to `MAX_WORKERS`.
         workers: u8,
+        /// A driver of the file that never comes.
+        without: Option<&'a str>,
+    },
+    Why {
+        blob: &'a str,
+        drivers: &'a str,
+        /// The device that is asked for, or else each that waits.
+        path: Option<&'a str>,
+        /// End with another status where a device is listed.
+        check: bool,
+    },
+    Needs {
+        blob: &'a str,
+        drivers: &'a str,
+        path: &'a str,
+    },
+    Drivers {
+        aliases: &'a str,
+        builtin: Option<&'a str>,
+    },
+    Trace {
+        log: &'a str,
+        plan: &'a str,
     },
     Explain {
         number: &'a str,
