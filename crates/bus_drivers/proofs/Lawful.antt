@@ -71,7 +71,7 @@ late_matched (Some name) d e = refl
 late_matched None d e = absurd (cc e)
 
 -- ---- one device
-planned_lawful : (set : DriverSetData) → IsDriverSet set → (d : TreeDevice) (suppliers : List ℕ) → is_device_path d.path ≡ true → IsLawfulDevice (planned_device set d suppliers)
+pub planned_lawful : (set : DriverSetData) → IsDriverSet set → (d : TreeDevice) (suppliers : List ℕ) → is_device_path d.path ≡ true → IsLawfulDevice (planned_device set d suppliers)
 planned_lawful set s d suppliers path = record {
   path = path;
   driver = driver_named set.drivers s.named d;

@@ -110,23 +110,22 @@ fn leaving_order(alloc: Global, plan: &Plan, most_steps: usize) -> Result<Vec<us
     Ok(order)
 }
 
-// Gives the devices that reach the root, and have no component yet, the root's. No steps are left from before.
+// Gives the devices that the entered ones reach by consumers, and that have no component yet, this one.
 fn reach_all(
     plan: &Plan,
     most_steps: usize,
     marks: &mut [bool],
     components: &mut [usize],
     steps: &mut Vec<Step>,
-    root: usize,
+    number: usize,
 ) -> Result<(), AllocError> {
-    steps.push(Step::Enter(root))?;
     for _ in 0..most_steps {
         let Some(Step::Enter(place)) = steps.pop() else {
             break;
         };
         if mark(marks, place) {
             if let Some(component) = components.get_mut(place) {
-                *component = root;
+                *component = number;
             }
             enter_all(steps, consumers_of(plan, place))?;
         }
@@ -141,12 +140,14 @@ fn give_component(
     marks: &mut [bool],
     components: &mut [usize],
     root: usize,
+    number: usize,
 ) -> Result<(), AllocError> {
     let mut steps = Vec::new(alloc);
-    reach_all(plan, most_steps, marks, components, &mut steps, root)
+    steps.push(Step::Enter(root))?;
+    reach_all(plan, most_steps, marks, components, &mut steps, number)
 }
 
-// Gives each device a component, from the last root of this order to the first.
+// Gives each device a component, from the last root of this order to the first: a device's before those of its suppliers.
 fn give_components(
     alloc: Global,
     plan: &Plan,
@@ -155,8 +156,12 @@ fn give_components(
     components: &mut [usize],
 ) -> Result<(), AllocError> {
     let mut marks = vec![in alloc; false; plan.len()]?;
+    let mut number = 0usize;
     for root in order.iter().rev() {
-        give_component(alloc, plan, most_steps, &mut marks, components, *root)?;
+        give_component(
+            alloc, plan, most_steps, &mut marks, components, *root, number,
+        )?;
+        number = number.saturating_add(1);
     }
     Ok(())
 }
@@ -167,7 +172,8 @@ fn fill_components(alloc: Global, plan: &Plan, components: &mut [usize]) -> Resu
     give_components(alloc, plan, most_steps, order.as_slice(), components)
 }
 
-/// The component of each device: devices are in one where each reaches the other by suppliers.
+/// The number of each device's component: devices are in one where each reaches the other by suppliers, and a device's
+/// number is at most that of each of its suppliers.
 pub fn components_of(alloc: Global, plan: &Plan) -> Result<Vec<usize>, AllocError> {
     let mut components = vec![in alloc; 0; plan.len()]?;
     fill_components(alloc, plan, &mut components)?;

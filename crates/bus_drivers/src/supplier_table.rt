@@ -17,7 +17,8 @@ pub enum Pattern {
 }
 
 impl Pattern {
-    fn is_for(&self, name: &[u8]) -> bool
+    /// Whether a row with this pattern is for the property of this name.
+    pub fn is_for(&self, name: &[u8]) -> bool
         ensures { result ≡ is_for name.now (pattern_data self.now) }
     {
         match self {

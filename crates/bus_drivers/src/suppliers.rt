@@ -32,8 +32,8 @@ impl Model for Suppliers {
     ghost view = { λ s. record { own = s.own; found = s.found.keys } };
 }
 
-// The first cell and the bytes behind it.
-fn next_cell(bytes: &[u8]) -> Option<(u32, &[u8])>
+/// The first cell and the bytes behind it.
+pub fn next_cell(bytes: &[u8]) -> Option<(u32, &[u8])>
     ensures cell { MatchOption result (cells_of bytes.now ≡ [])
         (λ next. cells_of bytes.now ≡ next.0 ∷ cells_of next.1.now) }
     ensures fewer { IfSome result (λ next. length next.1.now < length bytes.now) }
@@ -45,7 +45,8 @@ fn next_cell(bytes: &[u8]) -> Option<(u32, &[u8])>
 }
 
 impl Suppliers {
-    fn new(alloc: Global, hasher: RandomState, own: Device) -> Self
+    /// Of this device, none yet.
+    pub fn new(alloc: Global, hasher: RandomState, own: Device) -> Self
         ensures { result ≡ record { own = own; found = [] } }
     {
         Self {
@@ -54,7 +55,8 @@ impl Suppliers {
         }
     }
 
-    fn add(&mut self, device: Device) -> Result<(), AllocError>
+    /// Adds a device, unless it is there already or the device itself.
+    pub fn add(&mut self, device: Device) -> Result<(), AllocError>
         ensures { OnOk result (self.new ≡ with_mention self.old device) }
     {
         if device.index() == self.own {
@@ -124,7 +126,8 @@ impl Suppliers {
         Ok(())
     }
 
-    fn devices(&self, alloc: Global) -> Result<Vec<Device>, AllocError>
+    /// The devices, in order of first mention.
+    pub fn devices(&self, alloc: Global) -> Result<Vec<Device>, AllocError>
         ensures { IfOk result (λ devices. devices.items ≡ self.now.found) }
     {
         let mut devices = Vec::with_capacity(alloc, self.found.len())?;

@@ -1,0 +1,65 @@
+-- The plan of a tree by the links of Linux. A device waits for the suppliers of its links, but for early ones, and but for links
+-- that lie in a cycle: those are relaxed. The bus above stays a supplier, since buses make no cycle.
+use Rattle.std.specs.Prelude.{◌≡◌, ℕ, ◌+◌, ◌<◌, Bool, true, false, not, ◌&&◌, ◌||◌, ◌==◌, nat_le, if◌then◌else◌, List, [], ◌∷◌, ◌++◌, map, filter, length, slice_index, Option, Some}
+use Rattle.std.specs.Option.{option_map}
+use Rattle.std.specs.List.{list_all, slice_index_or}
+use Rattle.dt_tree.specs.NodeData.{NodeData}
+use Rattle.bus_plan.specs.declared.error.PlanError.{PlanError}
+use Rattle.bus_plan.specs.declared.error.PlanError.TheVariants.{UnknownPath, TooManyDevices}
+use Rattle.bus_plan.specs.Limits.{most_devices}
+use Rattle.bus_plan.specs.Plan.{PlannedDevice}
+use Rattle.bus_drivers.specs.Driver.{DriverSetData}
+use Rattle.bus_drivers.specs.Nodes.{TreeDevice, device_nodes, tree_devices}
+use Rattle.bus_drivers.specs.TreePlan.{suppliers_among, planned_device, unknown_fail}
+use Rattle.bus_links.specs.LinkDrivers.{LinkDriversData}
+use Rattle.bus_links.specs.Links.{LinkData, flags, flag_at, tree_links}
+
+-- ---- which links are waited for
+-- the component of a device: devices are in one where each reaches the other by links
+abbrev pub component_of : List ℕ → ℕ → ℕ
+component_of components d = slice_index components d
+
+abbrev pub is_relaxed : List ℕ → LinkData → Bool
+is_relaxed components l = not l.is_bus && component_of components l.consumer == component_of components l.supplier
+
+-- that of an early device isn't waited for
+abbrev pub is_counted : List Bool → LinkData → Bool
+is_counted early l = not (flag_at early l.supplier)
+
+abbrev pub is_waited_for : List Bool → List ℕ → LinkData → Bool
+is_waited_for early components l = is_counted early l && not (is_relaxed components l)
+
+-- ---- suppliers
+-- those of the links of the device at this place that pass the test
+abbrev pub suppliers_by : (LinkData → Bool) → ℕ → List LinkData → List ℕ
+suppliers_by test own links = suppliers_among own (map (λ l. l.supplier) (filter test links))
+
+abbrev pub links_at : List (List LinkData) → ℕ → List LinkData
+links_at links own = slice_index_or links own []
+
+-- these devices planned, the first of which has this place
+abbrev pub planned_by : DriverSetData → (LinkData → Bool) → List (List LinkData) → ℕ → List TreeDevice → List PlannedDevice
+planned_by set test links own [] = []
+planned_by set test links own (d ∷ ds) =
+    planned_device set d (suppliers_by test own (links_at links own)) ∷ planned_by set test links (own + 1) ds
+
+-- ---- the plan
+abbrev pub relaxed_plan : NodeData → LinkDriversData → Bool → List ℕ → List PlannedDevice
+relaxed_plan root set strict components =
+    planned_by set.drivers (is_waited_for (flags set.early (tree_devices root)) components) (tree_links root set strict) 0 (tree_devices root)
+
+-- ---- components
+-- a counted link leads to no earlier component
+abbrev pub is_in_order : List Bool → List ℕ → LinkData → Bool
+is_in_order early components l = not (is_counted early l) || nat_le (component_of components l.consumer) (component_of components l.supplier)
+
+-- so with none of these links a way leads from one component to another and back
+abbrev pub are_in_order : List Bool → List ℕ → List (List LinkData) → Bool
+are_in_order early components links = list_all (λ ls. list_all (is_in_order early components) ls) links
+
+-- ---- refusals
+-- the first refusal of a tree, as of a plan of it: too many devices, then a `fail` line whose path is no device's
+abbrev pub tree_refusal : NodeData → DriverSetData → Option PlanError
+tree_refusal root set =
+    if nat_le (length (device_nodes root)) most_devices then option_map (λ f. UnknownPath f.line) (unknown_fail (tree_devices root) set.fails)
+    else Some TooManyDevices

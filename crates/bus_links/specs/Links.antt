@@ -1,0 +1,116 @@
+-- The links of Linux between the devices of a tree (Linux driver-api, "Device links"): which device each device's properties make
+-- it wait for, and the bus above it (Documentation/devicetree/usage-model).
+use Rattle.std.specs.Prelude.{ℕ, ◌+◌, Bool, true, false, not, ◌&&◌, ◌==◌, nat_eq, nat_lt, if◌then◌else◌, List, [], ◌∷◌, ◌++◌, map, length, slice_index, slice_get, Option, Some, None, option_and_then, codes}
+use Rattle.std.specs.Option.{option_map_or, option_to_list}
+use Rattle.std.specs.List.{list_any, slice_index_or, starts_with}
+use Rattle.dt_tree.specs.NodeData.{NodeData}
+use Rattle.bus_plan.specs.PlanPaths.{is_among}
+use Rattle.bus_drivers.specs.Nodes.{TreeDevice, tree_devices}
+use Rattle.bus_drivers.specs.TreePlan.{compatible_strings}
+use Rattle.bus_links.specs.LinkDrivers.{LinkDriversData}
+use Rattle.bus_links.specs.LinkNodes.{LinkNode, node_at, tree_nodes, device_places}
+use Rattle.bus_links.specs.Mentions.{MentionData, FaultData, FoundData, found_at}
+
+-- the consumer waits for the supplier, by this entry of the consumer's property, or because that is the bus above it
+pub record LinkData : Type 0 where
+  pub consumer : ℕ
+  pub supplier : ℕ
+  pub property : List ℕ
+  pub entry : ℕ
+  pub is_bus : Bool
+
+-- an entry that is malformed or leads nowhere
+pub record WarningData : Type 0 where
+  pub device : ℕ
+  pub property : List ℕ
+  pub entry : ℕ
+
+-- ---- by a property
+-- a path stands below another
+abbrev pub is_below : List ℕ → List ℕ → Bool
+is_below above path = starts_with nat_eq path above && slice_index path (length above) == 47
+
+-- a device supplies another one that isn't above it
+abbrev pub supplies : TreeDevice → ℕ → TreeDevice → ℕ → Bool
+supplies consumer own supplier place = not (place == own) && not (is_below consumer.path supplier.path)
+
+-- the device at a place, if it supplies the consumer
+abbrev pub supplier_at : List TreeDevice → TreeDevice → ℕ → ℕ → Option ℕ
+supplier_at devices consumer own place =
+    if option_map_or (λ d. supplies consumer own d place) (slice_get devices place) false then Some place else None
+
+-- the device that a node makes the consumer wait for: the nearest at or above the node, where it may be used
+abbrev pub supplier_of : List LinkNode → List TreeDevice → TreeDevice → ℕ → ℕ → Option ℕ
+supplier_of nodes devices consumer own node =
+    if (node_at nodes node).usable then option_and_then (supplier_at devices consumer own) (node_at nodes node).device else None
+
+-- the links that mentions make
+abbrev pub link_by : ℕ → MentionData → ℕ → LinkData
+link_by own m supplier = record { consumer = own; supplier = supplier; property = m.property; entry = m.entry; is_bus = false }
+
+abbrev pub links_by : List LinkNode → List TreeDevice → TreeDevice → ℕ → List MentionData → List LinkData
+links_by nodes devices consumer own [] = []
+links_by nodes devices consumer own (m ∷ ms) =
+    map (link_by own m) (option_to_list (supplier_of nodes devices consumer own m.node)) ++ links_by nodes devices consumer own ms
+
+-- ---- the bus above
+-- one of a device's `compatible` strings is among these
+abbrev pub has_string : List (List ℕ) → TreeDevice → Bool
+has_string strings d = list_any (λ string. is_among string strings) (compatible_strings d)
+
+-- for each device, whether one of its strings is among these
+abbrev pub flags : List (List ℕ) → List TreeDevice → List Bool
+flags strings devices = map (has_string strings) devices
+
+abbrev pub flag_at : List Bool → ℕ → Bool
+flag_at fs place = slice_index_or fs place false
+
+-- the bus of the device at this place, if its driver makes that one: a bus stands before the devices on it
+abbrev pub is_bus_for : List Bool → ℕ → ℕ → Bool
+is_bus_for buses own bus = nat_lt bus own && option_map_or not (slice_get buses bus) false
+
+-- the bus above the device at this place and node: the nearest device above, but for buses whose devices are made without a driver
+abbrev pub bus_above : List LinkNode → List Bool → ℕ → ℕ → Option ℕ
+bus_above nodes buses own node =
+    option_and_then (λ bus. if is_bus_for buses own bus then Some bus else None) (node_at nodes (node_at nodes node).above).device
+
+abbrev pub bus_link : ℕ → ℕ → LinkData
+bus_link own bus = record { consumer = own; supplier = bus; property = []; entry = 0; is_bus = true }
+
+-- ---- of a device
+-- those of the device at this place and node; one that may not be used has none
+abbrev pub links_of : List LinkNode → List TreeDevice → List Bool → Bool → TreeDevice → ℕ → ℕ → List LinkData
+links_of nodes devices buses strict d own node =
+    if d.available
+    then links_by nodes devices d own (found_at nodes strict node).mentions ++ map (bus_link own) (option_to_list (bus_above nodes buses own node))
+    else []
+
+abbrev pub warned : ℕ → FaultData → WarningData
+warned own f = record { device = own; property = f.property; entry = f.entry }
+
+abbrev pub warnings_of : List LinkNode → Bool → TreeDevice → ℕ → ℕ → List WarningData
+warnings_of nodes strict d own node = if d.available then map (warned own) (found_at nodes strict node).faults else []
+
+-- ---- of all devices
+-- the place of the node of the device at this place
+abbrev pub node_of : List ℕ → ℕ → ℕ
+node_of places own = slice_index places own
+
+-- those of these devices, the first of which has this place
+abbrev pub links_from : List LinkNode → List TreeDevice → List Bool → Bool → List ℕ → ℕ → List TreeDevice → List (List LinkData)
+links_from nodes devices buses strict places own [] = []
+links_from nodes devices buses strict places own (d ∷ ds) =
+    links_of nodes devices buses strict d own (node_of places own) ∷ links_from nodes devices buses strict places (own + 1) ds
+
+abbrev pub warnings_from : List LinkNode → Bool → List ℕ → ℕ → List TreeDevice → List WarningData
+warnings_from nodes strict places own [] = []
+warnings_from nodes strict places own (d ∷ ds) =
+    warnings_of nodes strict d own (node_of places own) ++ warnings_from nodes strict places (own + 1) ds
+
+-- the links of each device of a tree, by its root
+abbrev pub tree_links : NodeData → LinkDriversData → Bool → List (List LinkData)
+tree_links root drivers strict =
+    links_from (tree_nodes root) (tree_devices root) (flags drivers.buses (tree_devices root)) strict (device_places (tree_nodes root)) 0 (tree_devices root)
+
+abbrev pub tree_warnings : NodeData → Bool → List WarningData
+tree_warnings root strict = warnings_from (tree_nodes root) strict (device_places (tree_nodes root)) 0 (tree_devices root)

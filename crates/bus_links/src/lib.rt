@@ -1,0 +1,35 @@
+//! Plans out of trees by the links of Linux: the second way to a plan, over the same bus.
+#![tactic(auto)]
+
+mod binding;
+mod bus_above;
+mod cycle;
+mod device_links;
+mod flags;
+mod interrupts;
+mod laws;
+mod link_drivers;
+mod link_node;
+mod link_reading;
+mod link_text;
+mod linked;
+mod linker;
+mod linking;
+mod links;
+mod mentions;
+mod naming;
+mod nodes;
+mod order;
+mod relaxing;
+mod walk;
+
+pub use binding::{Binding, Listing, Strictness};
+pub use cycle::Cycle;
+pub use device_links::DeviceLinks;
+pub use laws::no_cycle_is_left;
+pub use link_drivers::LinkDrivers;
+pub use link_reading::read_link_drivers;
+pub use link_text::{linked_text, warnings_text};
+pub use linked::{Linked, Standing};
+pub use linking::link;
+pub use links::{Link, Warning};
