@@ -32,6 +32,14 @@ number id most default = record (new_rule id) { long = Some id; parser = Some (U
 abbrev pub asked_text : Text → Rule
 asked_text id = record (new_rule id) { long = Some id; value_names = 1 }
 
+-- an option without a value that wants another beside it
+abbrev pub beside : Text → Rule
+beside id = record (new_rule id) { long = Some id; action = Some SetTrue; is_free = false }
+
+-- whose links count
+abbrev pub with_links : App → App
+with_links app = with_rule (with_rule app (asked_text (codes "links"))) (beside (codes "strict"))
+
 -- an option that has a short name too, may be given again and again, with a value each time, and wants another beside it
 abbrev pub repeated : Text → ℕ → Rule
 repeated id short = record (new_rule id) { long = Some id; short = Some short; action = Some Append; value_names = 1; is_free = false }
@@ -46,7 +54,7 @@ abbrev pub overlay : App
 overlay = with_rule (with_rule (with_rule (new_app (codes "overlay")) (required (codes "BASE"))) (required (codes "OVERLAY"))) (required (codes "OUT"))
 
 abbrev pub plan : App
-plan = with_rule (with_rule (with_rule (new_app (codes "plan")) (required (codes "BLOB"))) (required (codes "DRIVERS"))) (flag (codes "dot"))
+plan = with_links (with_rule (with_rule (with_rule (new_app (codes "plan")) (required (codes "BLOB"))) (required (codes "DRIVERS"))) (flag (codes "dot")))
 
 abbrev pub replay : App
 replay =
@@ -55,17 +63,20 @@ replay =
 
 abbrev pub probe : App
 probe =
-    with_rule
+    with_links
+    (with_rule
     (with_rule (with_rule (with_rule (new_app (codes "probe")) (required (codes "BLOB"))) (required (codes "DRIVERS"))) (number (codes "workers") most_workers (codes "4")))
-    (asked_text (codes "without"))
+    (asked_text (codes "without")))
 
 abbrev pub why : App
 why =
-    with_rule (with_rule (with_rule (with_rule (new_app (codes "why")) (required (codes "BLOB"))) (required (codes "DRIVERS"))) (optional (codes "PATH")))
-    (flag (codes "check"))
+    with_links
+    (with_rule (with_rule (with_rule (with_rule (new_app (codes "why")) (required (codes "BLOB"))) (required (codes "DRIVERS"))) (optional (codes "PATH")))
+    (flag (codes "check")))
 
 abbrev pub needs : App
-needs = with_rule (with_rule (with_rule (new_app (codes "needs")) (required (codes "BLOB"))) (required (codes "DRIVERS"))) (required (codes "PATH"))
+needs =
+    with_links (with_rule (with_rule (with_rule (new_app (codes "needs")) (required (codes "BLOB"))) (required (codes "DRIVERS"))) (required (codes "PATH")))
 
 abbrev pub drivers : App
 drivers = with_rule (with_rule (new_app (codes "drivers")) (required (codes "ALIASES"))) (optional (codes "MODINFO"))

@@ -23,6 +23,8 @@ pub enum Failure<'a> {
     NoSuchNumber(&'a str),
     /// A driver that the driver file hasn't.
     NoSuchDriver(&'a str),
+    /// A name that no links have.
+    NoSuchLinks(&'a str),
     /// Devices wait, and were printed. That isn't told again.
     Waiting,
 }
@@ -48,6 +50,10 @@ pub fn fail<E: Eprint>(errors: &E, failure: Failure<'_>) -> u8 {
         ),
         Failure::NoSuchDriver(name) => (
             eprintln!(errors; "error: the driver file has no driver {name}"),
+            COMMAND_LINE,
+        ),
+        Failure::NoSuchLinks(name) => (
+            eprintln!(errors; "error: no links are those of {name}; `linux` has some"),
             COMMAND_LINE,
         ),
         Failure::Waiting => (Ok(()), REFUSED),

@@ -92,6 +92,20 @@ fn add_argument<'a>(
     command.arg(argument)
 }
 
+/// Adds the options that say whose links count.
+fn add_links<'a>(
+    alloc: Global,
+    command: Result<Command<'a>, AllocError>,
+) -> Result<Command<'a>, AllocError>
+    ensures { (app : App) → Makes command.entry app → Makes result (spec.with_links app) }
+{
+    let links = "The links of `linux` in place of those of a table of suppliers";
+    let strict = "Optional links count, too";
+    let command = add_argument(command, asked_text(alloc, "links", "MODEL", links));
+    let strict = beside(alloc, "strict", "links", strict)?;
+    add_argument(command, strict)
+}
+
 /// A command without arguments.
 fn named<'a>(alloc: Global, name: &'a str, about: &'a str) -> Command<'a>
     ensures shape { app_of result ≡ new_app name.now }
@@ -151,10 +165,8 @@ fn plan<'a>(alloc: Global) -> Result<Command<'a>, AllocError>
     let about = "Prints the plan of a blob: its devices, their drivers and suppliers";
     let command = named(alloc, "plan", about).arg(required(alloc, "BLOB", "The blob"));
     let command = add_argument(command, required(alloc, "DRIVERS", "The driver file"));
-    add_argument(
-        command,
-        flag(alloc, "dot", "Prints a Graphviz graph instead"),
-    )
+    let dot = flag(alloc, "dot", "Prints a Graphviz graph instead");
+    add_links(alloc, add_argument(command, dot))
 }
 
 fn replay<'a>(alloc: Global) -> Result<Command<'a>, AllocError>
@@ -181,7 +193,8 @@ fn probe<'a>(alloc: Global) -> Result<Command<'a>, AllocError>
     let command = named(alloc, "probe", about).arg(required(alloc, "BLOB", "The blob"));
     let command = add_argument(command, required(alloc, "DRIVERS", "The driver file"));
     let command = add_argument(command, number(alloc, "workers", most, "4", workers));
-    add_argument(command, asked_text(alloc, "without", "DRIVER", without))
+    let command = add_argument(command, asked_text(alloc, "without", "DRIVER", without));
+    add_links(alloc, command)
 }
 
 fn why<'a>(alloc: Global) -> Result<Command<'a>, AllocError>
@@ -193,7 +206,8 @@ fn why<'a>(alloc: Global) -> Result<Command<'a>, AllocError>
     let command = named(alloc, "why", about).arg(required(alloc, "BLOB", "The blob"));
     let command = add_argument(command, required(alloc, "DRIVERS", "The driver file"));
     let command = add_argument(command, optional(alloc, "PATH", path));
-    add_argument(command, flag(alloc, "check", check))
+    let command = add_argument(command, flag(alloc, "check", check));
+    add_links(alloc, command)
 }
 
 fn needs<'a>(alloc: Global) -> Result<Command<'a>, AllocError>
@@ -202,7 +216,8 @@ fn needs<'a>(alloc: Global) -> Result<Command<'a>, AllocError>
     let about = "Lists what a device needs, in an order that works, and the drivers";
     let command = named(alloc, "needs", about).arg(required(alloc, "BLOB", "The blob"));
     let command = add_argument(command, required(alloc, "DRIVERS", "The driver file"));
-    add_argument(command, required(alloc, "PATH", "The device"))
+    let command = add_argument(command, required(alloc, "PATH", "The device"));
+    add_links(alloc, command)
 }
 
 fn drivers<'a>(alloc: Global) -> Result<Command<'a>, AllocError>
@@ -263,6 +278,22 @@ fn flag<'a>(alloc: Global, name: &'a str, about: &'a str) -> Arg<'a>
         .long(name)
         .action(ArgAction::SetTrue)
         .help(about)
+}
+
+/// An option without a value, which wants another beside it.
+fn beside<'a>(
+    alloc: Global,
+    name: &'a str,
+    other: &'a str,
+    about: &'a str,
+) -> Result<Arg<'a>, AllocError>
+    ensures { IfOk result (λ a. (rule_of a ≡ spec.beside name.now) × (a.global ≡ false)) }
+{
+    Arg::new(alloc, name)
+        .long(name)
+        .action(ArgAction::SetTrue)
+        .help(about)
+        .requires_arg(other)
 }
 
 /// An option with a value, which wants another beside it.

@@ -7,7 +7,9 @@ use crate::diagnosing::{Inputs, file_of};
 use crate::explaining::explained;
 use crate::failure::Failure;
 use crate::files::{print, read_at, seed, text_at, write_at};
-use crate::questions::{Question, less, made, needed, traced, why};
+use crate::questions::{
+    Board, Question, by_links, less, made, needed, strictness_of, traced, why, why_asked,
+};
 use crate::subcommand::{Command, Profile};
 use crate::surroundings::Surroundings;
 use bus_manager::TableProber;
@@ -15,6 +17,7 @@ use dtman_engine::{
     Channel, Fault, MAX_BLOB_LEN, MAX_SOURCE_LEN, dump_bytes, graph_bytes, overlay_bytes,
     plan_bytes, probe_bytes, replay_bytes, replay_run_bytes,
 };
+use dtman_why::Asked;
 use std::alloc::Global;
 use std::hash::RandomState;
 use std::thread::Threads;
@@ -45,41 +48,134 @@ pub fn perform<'a, S: Surroundings, O: Channel, E: Eprint, T: Threads + Sync>(
             return overlaid(alloc, surroundings, output, base, overlay, out, detail);
         }
         Command::Dump { blob } => dumped(alloc, surroundings, blob, detail)?,
-        Command::Plan { blob, drivers, dot } => {
-            planned(alloc, surroundings, blob, drivers, dot, detail)?
-        }
+        Command::Plan {
+            blob,
+            drivers,
+            dot,
+            links,
+        } => match strictness_of(links)? {
+            None => planned(alloc, surroundings, blob, drivers, dot, detail)?,
+            Some(strictness) => {
+                let without = None;
+                let board = Board {
+                    blob,
+                    drivers,
+                    without,
+                };
+                let asked = if dot { Asked::Graph } else { Asked::Plan };
+                return by_links(
+                    alloc,
+                    surroundings,
+                    threads,
+                    output,
+                    errors,
+                    board,
+                    strictness,
+                    asked,
+                    false,
+                    detail,
+                );
+            }
+        },
         Command::Probe {
             blob,
             drivers,
             workers,
             without,
+            links,
         } => {
-            let drivers = Chosen { drivers, without };
-            probed(alloc, surroundings, threads, blob, drivers, workers, detail)?
+            let board = Board {
+                blob,
+                drivers,
+                without,
+            };
+            match strictness_of(links)? {
+                None => probed(alloc, surroundings, threads, board, workers, detail)?,
+                Some(strictness) => {
+                    return by_links(
+                        alloc,
+                        surroundings,
+                        threads,
+                        output,
+                        errors,
+                        board,
+                        strictness,
+                        Asked::Report(workers as usize),
+                        false,
+                        detail,
+                    );
+                }
+            }
         }
         Command::Why {
             blob,
             drivers,
             path,
             check,
-        } => {
-            let question = Question { path, check };
-            return why(
-                alloc,
-                surroundings,
-                threads,
-                output,
-                blob,
-                drivers,
-                question,
-                detail,
-            );
-        }
+            links,
+        } => match strictness_of(links)? {
+            None => {
+                let question = Question { path, check };
+                return why(
+                    alloc,
+                    surroundings,
+                    threads,
+                    output,
+                    blob,
+                    drivers,
+                    question,
+                    detail,
+                );
+            }
+            Some(strictness) => {
+                let without = None;
+                let board = Board {
+                    blob,
+                    drivers,
+                    without,
+                };
+                return by_links(
+                    alloc,
+                    surroundings,
+                    threads,
+                    output,
+                    errors,
+                    board,
+                    strictness,
+                    why_asked(path),
+                    check,
+                    detail,
+                );
+            }
+        },
         Command::Needs {
             blob,
             drivers,
             path,
-        } => needed(alloc, surroundings, blob, drivers, path, detail)?,
+            links,
+        } => match strictness_of(links)? {
+            None => needed(alloc, surroundings, blob, drivers, path, detail)?,
+            Some(strictness) => {
+                let without = None;
+                let board = Board {
+                    blob,
+                    drivers,
+                    without,
+                };
+                return by_links(
+                    alloc,
+                    surroundings,
+                    threads,
+                    output,
+                    errors,
+                    board,
+                    strictness,
+                    Asked::Needs(path.as_bytes()),
+                    false,
+                    detail,
+                );
+            }
+        },
         Command::Drivers { aliases, builtin } => {
             made(alloc, surroundings, errors, aliases, builtin)?
         }
@@ -192,27 +288,20 @@ fn planned<'a, S: Surroundings>(
     }
 }
 
-/// A driver file, and the driver of it that never comes.
-#[derive(Clone, Copy)]
-struct Chosen<'a> {
-    drivers: &'a str,
-    without: Option<&'a str>,
-}
-
 /// The end report of a blob's devices, probed by the plan alone.
 fn probed<'a, S: Surroundings, T: Threads + Sync>(
     alloc: Global,
     surroundings: &mut S,
     threads: &T,
-    blob_path: &'a str,
-    drivers: Chosen<'a>,
+    board: Board<'a>,
     workers: u8,
     detail: Detail,
 ) -> Result<Vec<u8>, Failure<'a>> {
-    let Chosen {
+    let Board {
+        blob: blob_path,
         drivers: drivers_path,
         without,
-    } = drivers;
+    } = board;
     let blob = read_at(alloc, surroundings, blob_path, MAX_BLOB_LEN)?;
     let drivers = text_at(alloc, surroundings, drivers_path)?;
     let hasher = seed(surroundings)?;

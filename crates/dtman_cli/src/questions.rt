@@ -5,11 +5,13 @@ use crate::detail::{Detail, told};
 use crate::diagnosing::{Given, Inputs, file_of};
 use crate::failure::Failure;
 use crate::files::{print, read_at, seed, text_at};
+use crate::subcommand::Links;
 use crate::surroundings::Surroundings;
+use bus_links::Strictness;
 use dtman_engine::{Channel, Fault, MAX_BLOB_LEN, planned};
 use dtman_why::{
-    Boot, Installed, NoReasons, Waits, boot_bytes, installed_drivers, needs_text, why_text,
-    without_driver,
+    Asked, Boot, Installed, NoReasons, Waits, boot_bytes, installed_drivers, linked_answer,
+    needs_text, why_text, without_driver,
 };
 use std::alloc::Global;
 use std::hash::RandomState;
@@ -32,10 +34,7 @@ fn waits_of<T: Threads + Sync>(
     path: Option<&str>,
 ) -> Result<Waits, Fault> {
     let plan = planned(alloc, hasher, blob, drivers)?;
-    match path {
-        Some(path) => why_text(threads, alloc, &plan, &NoReasons, Some(path.as_bytes())),
-        None => why_text(threads, alloc, &plan, &NoReasons, None),
-    }
+    why_text(threads, alloc, &plan, &NoReasons, bytes_of(path))
 }
 
 fn refused<'a>(
@@ -46,6 +45,86 @@ fn refused<'a>(
     drivers: Given<'_>,
 ) -> Failure<'a> {
     told(alloc, detail, fault, Inputs::Plan { blob, drivers })
+}
+
+/// The files of a board, and the driver of its driver file that never comes.
+#[derive(Clone, Copy)]
+pub struct Board<'a> {
+    pub blob: &'a str,
+    pub drivers: &'a str,
+    pub without: Option<&'a str>,
+}
+
+/// Whether the links of Linux are asked for, and how strictly.
+pub fn strictness_of<'a>(links: Links<'a>) -> Result<Option<Strictness>, Failure<'a>> {
+    let strictness = if links.strict {
+        Strictness::Strict
+    } else {
+        Strictness::Usual
+    };
+    match links.name {
+        None => Ok(None),
+        Some("linux") => Ok(Some(strictness)),
+        Some(name) => Err(Failure::NoSuchLinks(name)),
+    }
+}
+
+/// The words of a command line for a device, as bytes.
+fn bytes_of<'a>(path: Option<&'a str>) -> Option<&'a [u8]> {
+    match path {
+        Some(path) => Some(path.as_bytes()),
+        None => None,
+    }
+}
+
+/// What is asked about the device at a path, or about each.
+pub fn why_asked<'a>(path: Option<&'a str>) -> Asked<'a> {
+    Asked::Why(bytes_of(path))
+}
+
+/// Prints what is asked of a board's plan by the links of Linux. Entries that end their lists are told as warnings.
+pub fn by_links<'a, S: Surroundings, O: Channel, E: Eprint, T: Threads + Sync>(
+    alloc: Global,
+    surroundings: &mut S,
+    threads: &T,
+    output: &mut O,
+    errors: &E,
+    board: Board<'a>,
+    strictness: Strictness,
+    asked: Asked<'_>,
+    check: bool,
+    detail: Detail,
+) -> Result<(), Failure<'a>>
+    requires { O.has_failed output.old ≡ false }
+{
+    let blob = read_at(alloc, surroundings, board.blob, MAX_BLOB_LEN)?;
+    let drivers = text_at(alloc, surroundings, board.drivers)?;
+    let hasher = seed(surroundings)?;
+    let drivers = less(alloc, drivers, board.without)?;
+    let (blob, drivers) = (file_of(board.blob, &blob), file_of(board.drivers, &drivers));
+    match linked_answer(
+        threads,
+        alloc,
+        hasher,
+        blob.bytes,
+        drivers.bytes,
+        strictness,
+        asked,
+    ) {
+        Ok(answer) => {
+            warn(errors, answer.warnings.as_slice());
+            print(output, answer.text.as_slice())?;
+            checked(check && answer.any)
+        }
+        Err(fault) => Err(refused(alloc, detail, fault, blob, drivers)),
+    }
+}
+
+fn checked<'a>(fails: bool) -> Result<(), Failure<'a>> {
+    if fails {
+        return Err(Failure::Waiting);
+    }
+    Ok(())
 }
 
 /// Which devices `why` asks for, and whether they are a failure.
@@ -76,10 +155,7 @@ pub fn why<'a, S: Surroundings, O: Channel, T: Threads + Sync>(
     match waits_of(alloc, hasher, threads, blob.bytes, drivers.bytes, path) {
         Ok(waits) => {
             print(output, waits.text.as_slice())?;
-            if check && waits.any {
-                return Err(Failure::Waiting);
-            }
-            Ok(())
+            checked(check && waits.any)
         }
         Err(fault) => Err(refused(alloc, detail, fault, blob, drivers)),
     }

@@ -3,10 +3,10 @@ ghost use Rattle.std.specs.Prelude.{◌≡◌, IfOk, IfSome, codes, map};
 ghost use Rattle.clap.specs.Words.{app_of, first_of, found_of, rows_of};
 ghost use Rattle.clap.specs.Simple.{subcommand_rows_of};
 ghost use Rattle.dtman_cli.specs.Grammar.{dtman};
-ghost use Rattle.dtman_cli.specs.CommandLine.{AreAsked, AreWorkers, IsMet, IsProfile, IsText, Meets, Says, is_on, texts_of};
+ghost use Rattle.dtman_cli.specs.CommandLine.{AreAsked, AreWorkers, IsMet, IsLinks, IsProfile, IsText, Meets, Says, is_on, texts_of};
 
 use crate::grammar::grammar;
-use crate::subcommand::{Command, Profile};
+use crate::subcommand::{Command, Links, Profile};
 use bus_manager::MAX_WORKERS;
 use clap::error::ErrorKind;
 use clap::{ArgMatches, Error};
@@ -132,6 +132,7 @@ fn plan<'a>(given: &ArgMatches<'a>) -> Option<Command<'a>>
         blob: given.get_str("BLOB")?,
         drivers: given.get_str("DRIVERS")?,
         dot: is_on(given, "dot"),
+        links: links(given),
     })
 }
 
@@ -143,6 +144,7 @@ fn probe<'a>(given: &ArgMatches<'a>) -> Option<Command<'a>>
         drivers: given.get_str("DRIVERS")?,
         workers: workers(given)?,
         without: text(given, "without"),
+        links: links(given),
     })
 }
 
@@ -154,6 +156,7 @@ fn why<'a>(given: &ArgMatches<'a>) -> Option<Command<'a>>
         drivers: given.get_str("DRIVERS")?,
         path: text(given, "PATH"),
         check: is_on(given, "check"),
+        links: links(given),
     })
 }
 
@@ -164,6 +167,7 @@ fn needs<'a>(given: &ArgMatches<'a>) -> Option<Command<'a>>
         blob: given.get_str("BLOB")?,
         drivers: given.get_str("DRIVERS")?,
         path: given.get_str("PATH")?,
+        links: links(given),
     })
 }
 
@@ -200,6 +204,16 @@ fn explain<'a>(given: &ArgMatches<'a>) -> Option<Command<'a>>
     Some(Command::Explain {
         number: given.get_str("NUMBER")?,
     })
+}
+
+/// Whose links are asked for.
+fn links<'a>(given: &ArgMatches<'a>) -> Links<'a>
+    ensures { IsLinks result (rows_of (found_of given.now)) }
+{
+    Links {
+        name: text(given, "links"),
+        strict: is_on(given, "strict"),
+    }
 }
 
 /// The text of an argument that may be left out.

@@ -3,7 +3,7 @@
 use crate::reasons::Reasons;
 use bus_plan::{Device, Plan};
 use bus_why::{Cause, Chain};
-use std::alloc::AllocError;
+use std::alloc::{AllocError, Global};
 
 /// Puts a device's path behind a text.
 pub fn add_path(text: &mut Vec<u8>, plan: &Plan, device: Device) -> Result<(), AllocError> {
@@ -66,6 +66,7 @@ fn add_cause(
 
 /// Puts the line of a chain behind a text: `PATH waits for PATH (PROPERTY) waits for PATH (PROPERTY): CAUSE`.
 pub fn add_chain<S: Reasons>(
+    alloc: Global,
     text: &mut Vec<u8>,
     plan: &Plan,
     reasons: &S,
@@ -78,7 +79,7 @@ pub fn add_chain<S: Reasons>(
         }
         add_path(text, plan, *device)?;
         if let Some(consumer) = before {
-            reasons.add(text, consumer, *device)?;
+            reasons.add(alloc, text, consumer, *device)?;
         }
         before = Some(*device);
     }

@@ -2,6 +2,7 @@
 #![tactic(auto)]
 
 mod boots;
+mod by_links;
 mod chain_text;
 mod end;
 mod installed;
@@ -12,6 +13,7 @@ mod waits;
 mod without;
 
 pub use boots::{Boot, boot_bytes};
+pub use by_links::{Asked, LinkedAnswer, linked_answer};
 pub use end::end_of;
 pub use installed::{Installed, installed_drivers};
 pub use order_text::needs_text;

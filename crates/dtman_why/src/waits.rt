@@ -48,7 +48,7 @@ fn one<S: Reasons>(
 {
     let chain = chain_from(alloc, plan, bound, device)?;
     let mut text = Vec::new(alloc);
-    add_chain(&mut text, plan, reasons, &chain)?;
+    add_chain(alloc, &mut text, plan, reasons, &chain)?;
     let any = !matches!(chain.cause, Cause::Bound);
     Ok(Waits { text, any })
 }
@@ -62,7 +62,7 @@ fn all<S: Reasons>(
     let chains = waiting_chains(alloc, plan, bound)?;
     let mut text = Vec::new(alloc);
     for chain in &chains {
-        add_chain(&mut text, plan, reasons, chain)?;
+        add_chain(alloc, &mut text, plan, reasons, chain)?;
     }
     let any = !chains.is_empty();
     Ok(Waits { text, any })

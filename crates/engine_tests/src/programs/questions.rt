@@ -14,6 +14,7 @@ const FILES: Files = &[
         "failing.drivers",
         b"driver fixed fixed-clock\ndriver ns ns16550a\nfail /clk\n",
     ),
+    ("early.drivers", b"early fixed-clock\ndriver ns ns16550a\n"),
     ("board.plan", b"/clk fixed ok\n/uart ns ok /clk\n"),
     (
         "modules.alias",
@@ -153,6 +154,75 @@ fn makes_drivers_and_schedules(rt: HostRuntime) {
         ),
         (
             &["dtman", "trace", "boot.log", "boot.log"],
+            1,
+            "",
+            "error 50 BadLine line 1\n",
+        ),
+    ];
+    rows_end(&rt, FILES, ROWS);
+}
+
+#[test]
+fn answers_by_the_links_of_linux(rt: HostRuntime) {
+    const ROWS: &[Row] = &[
+        (
+            &[
+                "dtman",
+                "plan",
+                "board.dtb",
+                "early.drivers",
+                "--links=linux",
+            ],
+            0,
+            "# early /clk\n/clk - -\ncompatible /clk fixed-clock\n/uart ns ok\n",
+            "",
+        ),
+        (
+            &[
+                "dtman",
+                "probe",
+                "board.dtb",
+                "early.drivers",
+                "--links=linux",
+            ],
+            0,
+            "/clk unmatched\n/uart bound ns\nquiet\n",
+            "",
+        ),
+        (
+            &[
+                "dtman",
+                "why",
+                "board.dtb",
+                "uart.drivers",
+                "--links=linux",
+                "--check",
+            ],
+            1,
+            "/uart waits for /clk (clocks): no driver matches \"fixed-clock\"\n",
+            "",
+        ),
+        (
+            &[
+                "dtman",
+                "needs",
+                "board.dtb",
+                "early.drivers",
+                "/uart",
+                "--links=linux",
+            ],
+            0,
+            "/uart ns\ndrivers ns\n",
+            "",
+        ),
+        (
+            &["dtman", "plan", "board.dtb", "board.drivers", "--links=bsd"],
+            2,
+            "",
+            "error: no links are those of bsd; `linux` has some\n",
+        ),
+        (
+            &["dtman", "plan", "board.dtb", "early.drivers"],
             1,
             "",
             "error 50 BadLine line 1\n",

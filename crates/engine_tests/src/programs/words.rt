@@ -1,7 +1,7 @@
 //! The command line.
 
 use clap::error::ErrorKind;
-use dtman_cli::{Command, Profile, command};
+use dtman_cli::{Command, Links, Profile, command};
 use std::alloc::Global;
 
 /// The command that the words name, or the kind of their mistake.
@@ -97,7 +97,11 @@ fn reads_plan_with_its_option(rt: HostRuntime) {
             Ok(Command::Plan {
                 blob: "board.dtb",
                 drivers: "board.drivers",
-                dot: false
+                dot: false,
+                links: Links {
+                    name: None,
+                    strict: false
+                }
             })
         )
     );
@@ -109,7 +113,8 @@ fn reads_plan_with_its_option(rt: HostRuntime) {
             Ok(Command::Plan {
                 blob: "board.dtb",
                 drivers: "board.drivers",
-                dot: true
+                dot: true,
+                ..
             })
         )
     );
@@ -125,6 +130,7 @@ fn workers_of(alloc: Global, command: &str, option: (&str, &str)) -> Result<Opti
             drivers: "beside",
             workers,
             without: None,
+            ..
         } => Ok(Some(workers)),
         Command::Replay {
             plan: "board",
@@ -201,10 +207,36 @@ fn reads_questions(rt: HostRuntime) {
             Ok(Command::Needs {
                 blob: "b",
                 drivers: "d",
-                path: "/uart"
+                path: "/uart",
+                ..
             })
         )
     );
+    let words = [
+        "dtman",
+        "needs",
+        "b",
+        "d",
+        "/uart",
+        "--links=linux",
+        "--strict",
+    ];
+    let linux = read(rt.alloc(), words.as_slice());
+    assert!(rt;
+        matches!(
+            linux,
+            Ok(Command::Needs {
+                links: Links {
+                    name: Some("linux"),
+                    strict: true
+                },
+                ..
+            })
+        )
+    );
+    let words = ["dtman", "plan", "b", "d", "--strict"];
+    let alone = read(rt.alloc(), words.as_slice());
+    assert!(rt; matches!(alone, Err(ErrorKind::MissingRequiredArgument)));
     let words = ["dtman", "drivers", "a", "m"];
     let drivers = read(rt.alloc(), words.as_slice());
     assert!(rt;
