@@ -28,6 +28,10 @@ have at most 268,435,456, and so does each text file of the bus; nodes are
 nested at most 64 deep; a plan has at most 4,096 devices, a schedule at
 most 500,000 begins.
 
+With --links linux a plan has the device links that Linux 6.1 makes of a tree in
+place of a table's, and a driver file may have lines `early COMPATIBLE..` (set up
+before the bus) and `bus COMPATIBLE..` (makes its devices without a driver).
+
 Workers are 1 to 64: of `probe` 4 where none are named; `replay` binds what is
 left by workers only where they are named.
 
@@ -99,7 +103,7 @@ fn add_links<'a>(
 ) -> Result<Command<'a>, AllocError>
     ensures { (app : App) → Makes command.entry app → Makes result (spec.with_links app) }
 {
-    let links = "The links of `linux` in place of those of a table of suppliers";
+    let links = "By the links of `linux`";
     let strict = "Optional links count, too";
     let command = add_argument(command, asked_text(alloc, "links", "MODEL", links));
     let strict = beside(alloc, "strict", "links", strict)?;
@@ -200,7 +204,7 @@ fn probe<'a>(alloc: Global) -> Result<Command<'a>, AllocError>
 fn why<'a>(alloc: Global) -> Result<Command<'a>, AllocError>
     ensures { IfOk result (λ c. (app_of c ≡ spec.why) × ((out-Command c).has_globals ≡ false)) }
 {
-    let about = "Says why devices wait, supplier by supplier, and what holds them back";
+    let about = "Says why devices wait, supplier by supplier, to the cause";
     let path = "The device; where none is named, each that waits";
     let check = "Ends with status 1 where a device is listed";
     let command = named(alloc, "why", about).arg(required(alloc, "BLOB", "The blob"));
