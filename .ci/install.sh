@@ -23,7 +23,7 @@ has() {
 make -s install PREFIX=/usr DESTDIR="$work"
 python3 .ci/pages.py
 
-for words in "" compile overlay dump plan replay probe explain; do
+for words in "" compile overlay dump plan replay probe why needs drivers trace explain; do
 	# shellcheck disable=SC2086
 	bin/dtman $words --help | awk 'length > 80 { exit 1 }' || fail "dtman $words --help has a line of more than 80 columns"
 done
@@ -48,7 +48,7 @@ if has mandoc "man pages aren't looked at"; then (try_pages); fi
 # What each shell offers behind a line, in a folder with a file of each kind.
 mkdir "$work/folder" "$work/folder/sub"
 cd "$work/folder"
-touch board.dts board.dtb hat.dtbo board.drivers board.plan boot.schedule README
+touch board.dts board.dtb hat.dtbo board.drivers board.plan boot.schedule boot.log README
 # The line, and what is offered; folders are offered beside files.
 offers="
 c|compile
@@ -62,7 +62,9 @@ overlay board.dtb |board.dtb hat.dtbo sub
 plan board.dtb |board.drivers sub
 plan --dot |board.dtb hat.dtbo sub
 replay board.plan --workers 4 |boot.schedule sub
-probe board.dtb board.drivers --w|--workers
+probe board.dtb board.drivers --w|--without --workers
+why board.dtb |board.drivers sub
+trace |boot.log sub
 explain 6|60 61 62 63 64 65 66 67
 "
 

@@ -33,7 +33,7 @@ def option(it):
 def wanted(command):
     listed = {"Options": dict(map(option, (*command.options, told.HELP)))}
     if command.operands:
-        listed["Arguments"] = {f"<{it.name}>": it.about for it in command.operands}
+        listed["Arguments"] = {f"[{it.name}]" if it.optional else f"<{it.name}>": it.about for it in command.operands}
     return command.about, listed
 
 

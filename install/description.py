@@ -16,6 +16,7 @@ class Operand:
     name: str
     kind: str
     about: str
+    optional: bool = False
 
 
 @dataclass(frozen=True)
@@ -50,6 +51,9 @@ KINDS = {
     "drivers": (".drivers",),
     "plan": (".plan",),
     "schedule": (".schedule",),
+    "aliases": (".alias",),
+    "modinfo": (".modinfo",),
+    "log": (".log",),
 }
 
 HELP = Option("-h, --help", "Print help")
@@ -59,6 +63,13 @@ VERBOSE = Option("-v, --verbose", "Tells of a refusal where it is and of what, i
 
 OUT = Operand("OUT", "blob", "The blob, which is written once all of it is ready")
 DRIVERS = Operand("DRIVERS", "drivers", "The driver file")
+
+# Whose device links count.
+LINKS = (Option("--links", "By the links of `linux`", "MODEL"), Option("--strict", "Optional links count, too"))
+BY_LINKS = (
+    "With `--links linux` the suppliers are those by the device links that Linux 6.1 makes of a tree, in place of a table's; what it passes"
+    " over is told as a warning. With `--strict` too, the links that Linux makes with `fw_devlink.strict=1` count."
+)
 
 COMMANDS = (
     Command(
@@ -116,11 +127,12 @@ COMMANDS = (
         "plan",
         "Prints the plan of a blob: its devices, their drivers and suppliers",
         (Operand("BLOB", "blob", "The blob"), DRIVERS),
-        (Option("--dot", "Prints a Graphviz graph instead"),),
+        (Option("--dot", "Prints a Graphviz graph instead"), *LINKS),
         (
             "Prints what the bus would do with a board: its devices in the order of the tree, each with the driver that matches it and the"
             " devices that have to be bound before it. The answer is a plan file, which can be read, kept, edited and replayed.",
             "With `--dot` the answer is a Graphviz graph, in which the arrows of a cycle are red.",
+            BY_LINKS,
         ),
         (
             ("The plan of a board", "dtman plan board.dtb board.drivers >board.plan"),
@@ -146,13 +158,66 @@ COMMANDS = (
         "probe",
         "Binds the devices of a blob by workers and prints the end report",
         (Operand("BLOB", "blob", "The blob"), DRIVERS),
-        (Option("--workers", "How many probe at once, 1 to 64", "workers", "4"),),
+        (Option("--workers", "How many probe at once, 1 to 64", "workers", "4"), Option("--without", "Leaves this driver of the file out", "DRIVER"), *LINKS),
         (
             "Plans the blob and binds its devices by 1 to 64 threads, each of which claims a device, looks at its suppliers, probes it, and"
             " defers it where a supplier wasn't there yet. Drivers settle by the plan alone. The report is the same for any number of workers.",
+            "With `--without` it is the report where that driver never comes.",
+            BY_LINKS,
         ),
         (("Whether all devices of a board can be bound", "dtman probe board.dtb board.drivers | grep -v ' bound '"),),
         "30 to 38, 50 and 51 with the line of the driver file, and 53 to 56",
+    ),
+    Command(
+        "why",
+        "Says why devices wait, supplier by supplier, to the cause",
+        (Operand("BLOB", "blob", "The blob"), DRIVERS, Operand("PATH", "device", "The device; where none is named, each that waits", True)),
+        (Option("--check", "Ends with status 1 where a device is listed"), *LINKS),
+        (
+            "Prints a line for each device that waits at the end of a run, or for the one at PATH: the supplier that it waits for, the one that"
+            " this waits for, and so on, and what holds the last back: no driver matches it, it is disabled, its driver failed, or it waits for"
+            " a device that stands before it. By the links of Linux each hop has the property that made it.",
+            BY_LINKS,
+        ),
+        (("Whether a board comes up", "dtman why board.dtb board.drivers --check"),),
+        "30 to 38, 50 and 51 with the line of the driver file, and 53 to 56; 53 without a line is PATH",
+    ),
+    Command(
+        "needs",
+        "Lists what a device needs, in an order that works, and the drivers",
+        (Operand("BLOB", "blob", "The blob"), DRIVERS, Operand("PATH", "device", "The device")),
+        LINKS,
+        (
+            "Prints a line for each device that has to be bound for the one at PATH, in an order in which they can be bound, with its driver"
+            " (`-` where none matches it, `!` where it is disabled), that device last; and then a line `drivers` with the names of all drivers.",
+            BY_LINKS,
+        ),
+        (("What an initramfs needs to mount a card", "dtman needs board.dtb board.drivers /soc/mmc@7e300000"),),
+        "30 to 38, 50 and 51 with the line of the driver file, and 53 to 56; 53 without a line is PATH",
+    ),
+    Command(
+        "drivers",
+        "Makes a driver file of what an installed Linux says of its modules",
+        (Operand("ALIASES", "aliases", "The file modules.alias"), Operand("MODINFO", "modinfo", "The file modules.builtin.modinfo", True)),
+        (),
+        (
+            "Prints a driver file with a line for each module that `modules.alias`, or `modules.builtin.modinfo` of those that are built in, has"
+            " an alias of a devicetree of, in order of first sight. An alias that a driver file can't say is told as a warning.",
+        ),
+        (("The drivers of the running kernel", "cd /lib/modules/$(uname -r)\ndtman drivers modules.alias modules.builtin.modinfo >/tmp/linux.drivers"),),
+        "82, and 50",
+    ),
+    Command(
+        "trace",
+        "Makes a schedule of a kernel's log, to be replayed over the plan",
+        (Operand("LOG", "log", "The log"), Operand("PLAN", "plan", "The plan file")),
+        (),
+        (
+            "Prints the probes that the log of a Linux kernel tells of as a schedule over a plan. The kernel is booted with"
+            " `dyndbg=\"file drivers/base/dd.c +p\"`. A name that stands for no device of the plan is told as a warning.",
+        ),
+        (("Where a boot left the plan's way", "dtman trace boot.log board.plan >boot.schedule\ndtman replay -v board.plan boot.schedule"),),
+        "50 to 53 and 56 with the line of the plan file",
     ),
     Command(
         "explain",
@@ -213,6 +278,8 @@ FORMATS = (
         (
             ("driver NAME COMPATIBLE..", "A driver, with the strings that it matches. NAME is a name other than `-` that no other line has."),
             ("fail PATH", "The driver of the device at this path fails."),
+            ("early COMPATIBLE..", "With `--links linux` alone: devices with these strings are set up before the bus begins, and nobody waits for them."),
+            ("bus COMPATIBLE..", "With `--links linux` alone: these buses make their devices without a driver."),
         ),
         "driver fixed regulator-fixed\ndriver serial ns16550a ns16550\nfail /soc/i2c@60000/accelerometer@1d",
     ),

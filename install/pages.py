@@ -71,7 +71,7 @@ def small(about):
 
 def synopsis(command):
     options = "".join(f"\n.Op Fl {words_of([it])[0].removeprefix('-')}{f' Ar {it.value}' if it.value else ''}" for it in command.options)
-    operands = "".join(f"\n.Ar {it.name}" for it in command.operands)
+    operands = "".join(f"\n.{'Op ' if it.optional else ''}Ar {it.name}" for it in command.operands)
     return f".Nm dtman {command.name}{options}{operands}"
 
 
@@ -286,6 +286,13 @@ def zsh_spec(option):
     return f"'({option.names}){option.names}{value}'"
 
 
+def zsh_action(operand):
+    """What stands in an operand's place: numbers, files of its kind, or nothing that could be offered."""
+    if operand.kind == "number":
+        return "_dtman_numbers"
+    return f"_files -g {zsh_glob(told.KINDS[operand.kind])}" if operand.kind in told.KINDS else " "
+
+
 def zsh():
     commands = "\n".join(f"\t\t'{it.name}:{quoted(it.about)}'" for it in told.COMMANDS)
     cases = []
@@ -293,8 +300,7 @@ def zsh():
         specs = [zsh_spec(option) for option in it.options]
         specs += [zsh_option(told.HELP), zsh_option(told.VERBOSE)]
         for operand in it.operands:
-            action = "_dtman_numbers" if operand.kind == "number" else f"_files -g {zsh_glob(told.KINDS[operand.kind])}"
-            specs.append(f"':{operand.name}:{action}'")
+            specs.append(f"':{':' if operand.optional else ''}{operand.name}:{zsh_action(operand)}'")
         cases.append(f"\t{it.name})\n\t\t_arguments " + " \\\n\t\t\t".join(specs) + "\n\t\t;;")
     numbers = "\n".join(f"\t\t'{number}:{name}'" for number, name in errors())
     return ZSH.format(verbose=zsh_option(told.VERBOSE), commands=commands, cases="\n".join(cases), numbers=numbers)
@@ -377,7 +383,7 @@ def fish():
             wants = f"-n '__dtman_wants {it.name} {place}'"
             if operand.kind == "number":
                 lines += [f"complete -c dtman {wants} -a {number} -d {name}" for number, name in errors()]
-            else:
+            elif operand.kind in told.KINDS:
                 lines.append(f"complete -c dtman {wants} -a '(__dtman_files {' '.join(told.KINDS[operand.kind])})'")
     return "\n".join(lines) + "\n"
 

@@ -1,11 +1,13 @@
 -- What a subcommand says, by the definition of the command line and the words.
 use Rattle.std.specs.Prelude.{◌≡◌, ◌≤◌, ℕ, Bool, false, true, List, [], Option, Some, None, codes, map, unwrap_or}
+use Rattle.std.specs.Borrow.{Bor}
 use Rattle.std.specs.Str.{bytes_eq}
 use Rattle.std.specs.Str.Parse.{IsNumeral, digits_value, without_leading_plus}
 use Rattle.bus_manager.specs.Workers.{most_workers}
 use Rattle.clap.specs.Words.{Row, Text, all_of, first_of, one_of, subcommand_of}
 use Rattle.dtman_cli.specs.declared.subcommand.Command.{Command}
-use Rattle.dtman_cli.specs.declared.subcommand.Command.TheVariants.{Compile, Overlay, Dump, Plan, Replay, Probe, Explain}
+use Rattle.dtman_cli.specs.declared.subcommand.Command.TheVariants.{Compile, Overlay, Dump, Plan, Replay, Probe, Why, Needs, Drivers, Trace, Explain}
+use Rattle.dtman_cli.specs.declared.subcommand.Links.{Links}
 use Rattle.dtman_cli.specs.declared.subcommand.Profile.{Profile}
 use Rattle.dtman_cli.specs.declared.subcommand.Profile.TheVariants.{Specification, Dialect}
 use Rattle.dtman_cli.specs.Grammar.{dtman}
@@ -29,6 +31,11 @@ abbrev pub AreAsked : Option ℕ → List Row → Type 0
 AreAsked None rows = first_of (codes "workers") rows ≡ None
 AreAsked (Some n) rows = AreWorkers n rows
 
+-- the text of an argument that may be left out
+abbrev pub IsText : Option (Bor Text) → Text → List Row → Type 0
+IsText None id rows = first_of id rows ≡ None
+IsText (Some text) id rows = first_of id rows ≡ Some text.now
+
 -- the texts of an option that may be given again and again, in their order
 abbrev pub texts_of : Text → List Row → List Text
 texts_of id rows = unwrap_or (all_of id rows) []
@@ -39,6 +46,10 @@ IsProfile Specification rows = is_on (first_of (codes "dtc") rows) ≡ false
 IsProfile (Dialect folders) rows =
     (is_on (first_of (codes "dtc") rows) ≡ true) × (map (λ folder. folder.now) folders.items ≡ texts_of (codes "include") rows)
 
+-- whose links are asked for, if any are, and whether strictly
+abbrev pub IsLinks : Links → List Row → Type 0
+IsLinks links rows = IsText links.name (codes "links") rows × (links.strict ≡ is_on (first_of (codes "strict") rows))
+
 -- the subcommand that was met, with the values of its arguments
 abbrev pub IsMet : Command → Text → List Row → Type 0
 IsMet (Compile source out symbols profile) name rows =
@@ -47,11 +58,22 @@ IsMet (Compile source out symbols profile) name rows =
 IsMet (Overlay base overlay out) name rows =
     (name ≡ codes "overlay") × (first_of (codes "BASE") rows ≡ Some base.now) × (first_of (codes "OVERLAY") rows ≡ Some overlay.now) × (first_of (codes "OUT") rows ≡ Some out.now)
 IsMet (Dump blob) name rows = (name ≡ codes "dump") × (first_of (codes "IN") rows ≡ Some blob.now)
-IsMet (Plan blob drivers dot) name rows =
+IsMet (Plan blob drivers dot links) name rows =
     (name ≡ codes "plan") × (first_of (codes "BLOB") rows ≡ Some blob.now) × (first_of (codes "DRIVERS") rows ≡ Some drivers.now) × (dot ≡ is_on (first_of (codes "dot") rows))
-IsMet (Probe blob drivers workers) name rows =
+    × IsLinks links rows
+IsMet (Probe blob drivers workers without links) name rows =
     (name ≡ codes "probe") × (first_of (codes "BLOB") rows ≡ Some blob.now) × (first_of (codes "DRIVERS") rows ≡ Some drivers.now)
-    × AreWorkers workers rows
+    × AreWorkers workers rows × IsText without (codes "without") rows × IsLinks links rows
+IsMet (Why blob drivers path check links) name rows =
+    (name ≡ codes "why") × (first_of (codes "BLOB") rows ≡ Some blob.now) × (first_of (codes "DRIVERS") rows ≡ Some drivers.now)
+    × IsText path (codes "PATH") rows × (check ≡ is_on (first_of (codes "check") rows)) × IsLinks links rows
+IsMet (Needs blob drivers path links) name rows =
+    (name ≡ codes "needs") × (first_of (codes "BLOB") rows ≡ Some blob.now) × (first_of (codes "DRIVERS") rows ≡ Some drivers.now)
+    × (first_of (codes "PATH") rows ≡ Some path.now) × IsLinks links rows
+IsMet (Drivers aliases builtin) name rows =
+    (name ≡ codes "drivers") × (first_of (codes "ALIASES") rows ≡ Some aliases.now) × IsText builtin (codes "MODINFO") rows
+IsMet (Trace log plan) name rows =
+    (name ≡ codes "trace") × (first_of (codes "LOG") rows ≡ Some log.now) × (first_of (codes "PLAN") rows ≡ Some plan.now)
 IsMet (Replay plan schedule workers) name rows =
     (name ≡ codes "replay") × (first_of (codes "PLAN") rows ≡ Some plan.now) × (first_of (codes "SCHEDULE") rows ≡ Some schedule.now)
     × AreAsked workers rows

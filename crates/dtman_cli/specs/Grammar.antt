@@ -9,6 +9,10 @@ use Rattle.clap.specs.Words.{App, Rule, Text, new_app, new_rule, with_rule, with
 abbrev pub required : Text → Rule
 required id = record (new_rule id) { required = true }
 
+-- one that may be left out
+abbrev pub optional : Text → Rule
+optional id = new_rule id
+
 abbrev pub dump : App
 dump = with_rule (new_app (codes "dump")) (required (codes "IN"))
 
@@ -24,6 +28,18 @@ asked_number id most = record (new_rule id) { long = Some id; parser = Some (Uns
 abbrev pub number : Text → ℕ → Text → Rule
 number id most default = record (new_rule id) { long = Some id; parser = Some (Unsigned 1 most); defaults = default ∷ [] }
 
+-- an option with a text
+abbrev pub asked_text : Text → Rule
+asked_text id = record (new_rule id) { long = Some id; value_names = 1 }
+
+-- an option without a value that wants another beside it
+abbrev pub beside : Text → Rule
+beside id = record (new_rule id) { long = Some id; action = Some SetTrue; is_free = false }
+
+-- whose links count
+abbrev pub with_links : App → App
+with_links app = with_rule (with_rule app (asked_text (codes "links"))) (beside (codes "strict"))
+
 -- an option that has a short name too, may be given again and again, with a value each time, and wants another beside it
 abbrev pub repeated : Text → ℕ → Rule
 repeated id short = record (new_rule id) { long = Some id; short = Some short; action = Some Append; value_names = 1; is_free = false }
@@ -38,7 +54,7 @@ abbrev pub overlay : App
 overlay = with_rule (with_rule (with_rule (new_app (codes "overlay")) (required (codes "BASE"))) (required (codes "OVERLAY"))) (required (codes "OUT"))
 
 abbrev pub plan : App
-plan = with_rule (with_rule (with_rule (new_app (codes "plan")) (required (codes "BLOB"))) (required (codes "DRIVERS"))) (flag (codes "dot"))
+plan = with_links (with_rule (with_rule (with_rule (new_app (codes "plan")) (required (codes "BLOB"))) (required (codes "DRIVERS"))) (flag (codes "dot")))
 
 abbrev pub replay : App
 replay =
@@ -46,7 +62,27 @@ replay =
     (asked_number (codes "workers") most_workers)
 
 abbrev pub probe : App
-probe = with_rule (with_rule (with_rule (new_app (codes "probe")) (required (codes "BLOB"))) (required (codes "DRIVERS"))) (number (codes "workers") most_workers (codes "4"))
+probe =
+    with_links
+    (with_rule
+    (with_rule (with_rule (with_rule (new_app (codes "probe")) (required (codes "BLOB"))) (required (codes "DRIVERS"))) (number (codes "workers") most_workers (codes "4")))
+    (asked_text (codes "without")))
+
+abbrev pub why : App
+why =
+    with_links
+    (with_rule (with_rule (with_rule (with_rule (new_app (codes "why")) (required (codes "BLOB"))) (required (codes "DRIVERS"))) (optional (codes "PATH")))
+    (flag (codes "check")))
+
+abbrev pub needs : App
+needs =
+    with_links (with_rule (with_rule (with_rule (new_app (codes "needs")) (required (codes "BLOB"))) (required (codes "DRIVERS"))) (required (codes "PATH")))
+
+abbrev pub drivers : App
+drivers = with_rule (with_rule (new_app (codes "drivers")) (required (codes "ALIASES"))) (optional (codes "MODINFO"))
+
+abbrev pub trace : App
+trace = with_rule (with_rule (new_app (codes "trace")) (required (codes "LOG"))) (required (codes "PLAN"))
 
 abbrev pub explain : App
 explain = with_rule (new_app (codes "explain")) (required (codes "NUMBER"))
@@ -55,8 +91,13 @@ explain = with_rule (new_app (codes "explain")) (required (codes "NUMBER"))
 abbrev pub top : App
 top = let a = new_app (codes "dtman") in record a { top = record a.top { has_version = true; subcommand_required = true } }
 
+-- those of the boards' buses
+abbrev pub with_questions : App → App
+with_questions app = with_subcommand (with_subcommand (with_subcommand (with_subcommand app why.top) needs.top) drivers.top) trace.top
+
 unfoldable pub dtman : App
 dtman =
     with_subcommand
-    (with_subcommand (with_subcommand (with_subcommand (with_subcommand (with_subcommand (with_subcommand top compile.top) overlay.top) dump.top) plan.top) replay.top) probe.top)
+    (with_questions
+    (with_subcommand (with_subcommand (with_subcommand (with_subcommand (with_subcommand (with_subcommand top compile.top) overlay.top) dump.top) plan.top) replay.top) probe.top))
     explain.top

@@ -21,6 +21,12 @@ pub enum Failure<'a> {
     Unread,
     /// A number that no error has.
     NoSuchNumber(&'a str),
+    /// A driver that the driver file hasn't.
+    NoSuchDriver(&'a str),
+    /// A name that no links have.
+    NoSuchLinks(&'a str),
+    /// Devices wait, and were printed. That isn't told again.
+    Waiting,
 }
 
 impl From<Fault> for Failure<'_> {
@@ -42,6 +48,15 @@ pub fn fail<E: Eprint>(errors: &E, failure: Failure<'_>) -> u8 {
             eprintln!(errors; "error: no error has the number {number}"),
             COMMAND_LINE,
         ),
+        Failure::NoSuchDriver(name) => (
+            eprintln!(errors; "error: the driver file has no driver {name}"),
+            COMMAND_LINE,
+        ),
+        Failure::NoSuchLinks(name) => (
+            eprintln!(errors; "error: no links are those of {name}; `linux` has some"),
+            COMMAND_LINE,
+        ),
+        Failure::Waiting => (Ok(()), REFUSED),
     };
     // Standard error is the last place to say anything: the status stands alone where it is closed.
     let _ = printed;

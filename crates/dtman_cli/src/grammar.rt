@@ -28,6 +28,10 @@ have at most 268,435,456, and so does each text file of the bus; nodes are
 nested at most 64 deep; a plan has at most 4,096 devices, a schedule at
 most 500,000 begins.
 
+With --links linux a plan has the device links that Linux 6.1 makes of a tree in
+place of a table's, and a driver file may have lines `early COMPATIBLE..` (set up
+before the bus) and `bus COMPATIBLE..` (makes its devices without a driver).
+
 Workers are 1 to 64: of `probe` 4 where none are named; `replay` binds what is
 left by workers only where they are named.
 
@@ -51,7 +55,21 @@ pub fn grammar<'a>(alloc: Global) -> Result<Command<'a>, AllocError>
     let app = add_subcommand(app, plan(alloc));
     let app = add_subcommand(app, replay(alloc));
     let app = add_subcommand(app, probe(alloc));
+    let app = add_questions(alloc, app);
     add_subcommand(app, explain(alloc))
+}
+
+/// Adds the questions that are asked of a board's bus.
+fn add_questions<'a>(
+    alloc: Global,
+    app: Result<Command<'a>, AllocError>,
+) -> Result<Command<'a>, AllocError>
+    ensures { (before : App) → Makes app.entry before → Makes result (spec.with_questions before) }
+{
+    let app = add_subcommand(app, why(alloc));
+    let app = add_subcommand(app, needs(alloc));
+    let app = add_subcommand(app, drivers(alloc));
+    add_subcommand(app, trace(alloc))
 }
 
 /// Adds a subcommand, unless memory was refused. It takes what may be refused, so that its callers have one way out.
@@ -76,6 +94,20 @@ fn add_argument<'a>(
 {
     let command = command?;
     command.arg(argument)
+}
+
+/// Adds the options that say whose links count.
+fn add_links<'a>(
+    alloc: Global,
+    command: Result<Command<'a>, AllocError>,
+) -> Result<Command<'a>, AllocError>
+    ensures { (app : App) → Makes command.entry app → Makes result (spec.with_links app) }
+{
+    let links = "By the links of `linux`";
+    let strict = "Optional links count, too";
+    let command = add_argument(command, asked_text(alloc, "links", "MODEL", links));
+    let strict = beside(alloc, "strict", "links", strict)?;
+    add_argument(command, strict)
 }
 
 /// A command without arguments.
@@ -137,10 +169,8 @@ fn plan<'a>(alloc: Global) -> Result<Command<'a>, AllocError>
     let about = "Prints the plan of a blob: its devices, their drivers and suppliers";
     let command = named(alloc, "plan", about).arg(required(alloc, "BLOB", "The blob"));
     let command = add_argument(command, required(alloc, "DRIVERS", "The driver file"));
-    add_argument(
-        command,
-        flag(alloc, "dot", "Prints a Graphviz graph instead"),
-    )
+    let dot = flag(alloc, "dot", "Prints a Graphviz graph instead");
+    add_links(alloc, add_argument(command, dot))
 }
 
 fn replay<'a>(alloc: Global) -> Result<Command<'a>, AllocError>
@@ -163,9 +193,53 @@ fn probe<'a>(alloc: Global) -> Result<Command<'a>, AllocError>
     let about = "Binds the devices of a blob by workers and prints the end report";
     let workers = "How many probe at once, 1 to 64";
     let most = MAX_WORKERS as u64;
+    let without = "Leaves this driver of the file out";
     let command = named(alloc, "probe", about).arg(required(alloc, "BLOB", "The blob"));
     let command = add_argument(command, required(alloc, "DRIVERS", "The driver file"));
-    add_argument(command, number(alloc, "workers", most, "4", workers))
+    let command = add_argument(command, number(alloc, "workers", most, "4", workers));
+    let command = add_argument(command, asked_text(alloc, "without", "DRIVER", without));
+    add_links(alloc, command)
+}
+
+fn why<'a>(alloc: Global) -> Result<Command<'a>, AllocError>
+    ensures { IfOk result (λ c. (app_of c ≡ spec.why) × ((out-Command c).has_globals ≡ false)) }
+{
+    let about = "Says why devices wait, supplier by supplier, to the cause";
+    let path = "The device; where none is named, each that waits";
+    let check = "Ends with status 1 where a device is listed";
+    let command = named(alloc, "why", about).arg(required(alloc, "BLOB", "The blob"));
+    let command = add_argument(command, required(alloc, "DRIVERS", "The driver file"));
+    let command = add_argument(command, optional(alloc, "PATH", path));
+    let command = add_argument(command, flag(alloc, "check", check));
+    add_links(alloc, command)
+}
+
+fn needs<'a>(alloc: Global) -> Result<Command<'a>, AllocError>
+    ensures { IfOk result (λ c. (app_of c ≡ spec.needs) × ((out-Command c).has_globals ≡ false)) }
+{
+    let about = "Lists what a device needs, in an order that works, and the drivers";
+    let command = named(alloc, "needs", about).arg(required(alloc, "BLOB", "The blob"));
+    let command = add_argument(command, required(alloc, "DRIVERS", "The driver file"));
+    let command = add_argument(command, required(alloc, "PATH", "The device"));
+    add_links(alloc, command)
+}
+
+fn drivers<'a>(alloc: Global) -> Result<Command<'a>, AllocError>
+    ensures { IfOk result (λ c. (app_of c ≡ spec.drivers) × ((out-Command c).has_globals ≡ false)) }
+{
+    let about = "Makes a driver file of what an installed Linux says of its modules";
+    let aliases = required(alloc, "ALIASES", "The file modules.alias");
+    let command = named(alloc, "drivers", about).arg(aliases);
+    let builtin = "The file modules.builtin.modinfo";
+    add_argument(command, optional(alloc, "MODINFO", builtin))
+}
+
+fn trace<'a>(alloc: Global) -> Result<Command<'a>, AllocError>
+    ensures { IfOk result (λ c. (app_of c ≡ spec.trace) × ((out-Command c).has_globals ≡ false)) }
+{
+    let about = "Makes a schedule of a kernel's log, to be replayed over the plan";
+    let command = named(alloc, "trace", about).arg(required(alloc, "LOG", "The log"));
+    add_argument(command, required(alloc, "PLAN", "The plan file"))
 }
 
 fn explain<'a>(alloc: Global) -> Result<Command<'a>, AllocError>
@@ -183,6 +257,23 @@ fn required<'a>(alloc: Global, name: &'a str, about: &'a str) -> Arg<'a>
     Arg::new(alloc, name).required(true).help(about)
 }
 
+fn optional<'a>(alloc: Global, name: &'a str, about: &'a str) -> Arg<'a>
+    ensures rule { rule_of result ≡ spec.optional name.now }
+    ensures local { result.global ≡ false }
+{
+    Arg::new(alloc, name).help(about)
+}
+
+fn asked_text<'a>(alloc: Global, name: &'a str, value: &'a str, about: &'a str) -> Arg<'a>
+    ensures rule { rule_of result ≡ spec.asked_text name.now }
+    ensures local { result.global ≡ false }
+{
+    Arg::new(alloc, name)
+        .long(name)
+        .value_name(value)
+        .help(about)
+}
+
 fn flag<'a>(alloc: Global, name: &'a str, about: &'a str) -> Arg<'a>
     ensures rule { rule_of result ≡ spec.flag name.now }
     ensures local { result.global ≡ false }
@@ -191,6 +282,22 @@ fn flag<'a>(alloc: Global, name: &'a str, about: &'a str) -> Arg<'a>
         .long(name)
         .action(ArgAction::SetTrue)
         .help(about)
+}
+
+/// An option without a value, which wants another beside it.
+fn beside<'a>(
+    alloc: Global,
+    name: &'a str,
+    other: &'a str,
+    about: &'a str,
+) -> Result<Arg<'a>, AllocError>
+    ensures { IfOk result (λ a. (rule_of a ≡ spec.beside name.now) × (a.global ≡ false)) }
+{
+    Arg::new(alloc, name)
+        .long(name)
+        .action(ArgAction::SetTrue)
+        .help(about)
+        .requires_arg(other)
 }
 
 /// An option with a value, which wants another beside it.

@@ -7,6 +7,9 @@ use crate::diagnosing::{Inputs, file_of};
 use crate::explaining::explained;
 use crate::failure::Failure;
 use crate::files::{print, read_at, seed, text_at, write_at};
+use crate::questions::{
+    Board, Question, by_links, less, made, needed, strictness_of, traced, why, why_asked,
+};
 use crate::subcommand::{Command, Profile};
 use crate::surroundings::Surroundings;
 use bus_manager::TableProber;
@@ -14,16 +17,18 @@ use dtman_engine::{
     Channel, Fault, MAX_BLOB_LEN, MAX_SOURCE_LEN, dump_bytes, graph_bytes, overlay_bytes,
     plan_bytes, probe_bytes, replay_bytes, replay_run_bytes,
 };
+use dtman_why::Asked;
 use std::alloc::Global;
 use std::hash::RandomState;
 use std::thread::Threads;
 
 /// Does what a command says.
-pub fn perform<'a, S: Surroundings, O: Channel, T: Threads + Sync>(
+pub fn perform<'a, S: Surroundings, O: Channel, E: Eprint, T: Threads + Sync>(
     alloc: Global,
     surroundings: &mut S,
     threads: &T,
     output: &mut O,
+    errors: &E,
     command: Command<'a>,
     detail: Detail,
 ) -> Result<(), Failure<'a>>
@@ -43,14 +48,138 @@ pub fn perform<'a, S: Surroundings, O: Channel, T: Threads + Sync>(
             return overlaid(alloc, surroundings, output, base, overlay, out, detail);
         }
         Command::Dump { blob } => dumped(alloc, surroundings, blob, detail)?,
-        Command::Plan { blob, drivers, dot } => {
-            planned(alloc, surroundings, blob, drivers, dot, detail)?
-        }
+        Command::Plan {
+            blob,
+            drivers,
+            dot,
+            links,
+        } => match strictness_of(links)? {
+            None => planned(alloc, surroundings, blob, drivers, dot, detail)?,
+            Some(strictness) => {
+                let without = None;
+                let board = Board {
+                    blob,
+                    drivers,
+                    without,
+                };
+                let asked = if dot { Asked::Graph } else { Asked::Plan };
+                return by_links(
+                    alloc,
+                    surroundings,
+                    threads,
+                    output,
+                    errors,
+                    board,
+                    strictness,
+                    asked,
+                    false,
+                    detail,
+                );
+            }
+        },
         Command::Probe {
             blob,
             drivers,
             workers,
-        } => probed(alloc, surroundings, threads, blob, drivers, workers, detail)?,
+            without,
+            links,
+        } => {
+            let board = Board {
+                blob,
+                drivers,
+                without,
+            };
+            match strictness_of(links)? {
+                None => probed(alloc, surroundings, threads, board, workers, detail)?,
+                Some(strictness) => {
+                    return by_links(
+                        alloc,
+                        surroundings,
+                        threads,
+                        output,
+                        errors,
+                        board,
+                        strictness,
+                        Asked::Report(workers as usize),
+                        false,
+                        detail,
+                    );
+                }
+            }
+        }
+        Command::Why {
+            blob,
+            drivers,
+            path,
+            check,
+            links,
+        } => match strictness_of(links)? {
+            None => {
+                let question = Question { path, check };
+                return why(
+                    alloc,
+                    surroundings,
+                    threads,
+                    output,
+                    blob,
+                    drivers,
+                    question,
+                    detail,
+                );
+            }
+            Some(strictness) => {
+                let without = None;
+                let board = Board {
+                    blob,
+                    drivers,
+                    without,
+                };
+                return by_links(
+                    alloc,
+                    surroundings,
+                    threads,
+                    output,
+                    errors,
+                    board,
+                    strictness,
+                    why_asked(path),
+                    check,
+                    detail,
+                );
+            }
+        },
+        Command::Needs {
+            blob,
+            drivers,
+            path,
+            links,
+        } => match strictness_of(links)? {
+            None => needed(alloc, surroundings, blob, drivers, path, detail)?,
+            Some(strictness) => {
+                let without = None;
+                let board = Board {
+                    blob,
+                    drivers,
+                    without,
+                };
+                return by_links(
+                    alloc,
+                    surroundings,
+                    threads,
+                    output,
+                    errors,
+                    board,
+                    strictness,
+                    Asked::Needs(path.as_bytes()),
+                    false,
+                    detail,
+                );
+            }
+        },
+        Command::Drivers { aliases, builtin } => {
+            made(alloc, surroundings, errors, aliases, builtin)?
+        }
+        Command::Trace { log, plan } => traced(alloc, surroundings, errors, log, plan, detail)?,
         Command::Replay {
             plan,
             schedule,
@@ -164,14 +293,19 @@ fn probed<'a, S: Surroundings, T: Threads + Sync>(
     alloc: Global,
     surroundings: &mut S,
     threads: &T,
-    blob_path: &'a str,
-    drivers_path: &'a str,
+    board: Board<'a>,
     workers: u8,
     detail: Detail,
 ) -> Result<Vec<u8>, Failure<'a>> {
+    let Board {
+        blob: blob_path,
+        drivers: drivers_path,
+        without,
+    } = board;
     let blob = read_at(alloc, surroundings, blob_path, MAX_BLOB_LEN)?;
     let drivers = text_at(alloc, surroundings, drivers_path)?;
     let hasher = seed(surroundings)?;
+    let drivers = less(alloc, drivers, without)?;
     let (blob, drivers) = (file_of(blob_path, &blob), file_of(drivers_path, &drivers));
     let ran = probe_bytes(
         threads,

@@ -3,10 +3,10 @@ ghost use Rattle.std.specs.Prelude.{◌≡◌, IfOk, IfSome, codes, map};
 ghost use Rattle.clap.specs.Words.{app_of, first_of, found_of, rows_of};
 ghost use Rattle.clap.specs.Simple.{subcommand_rows_of};
 ghost use Rattle.dtman_cli.specs.Grammar.{dtman};
-ghost use Rattle.dtman_cli.specs.CommandLine.{AreAsked, AreWorkers, IsMet, IsProfile, Meets, Says, is_on, texts_of};
+ghost use Rattle.dtman_cli.specs.CommandLine.{AreAsked, AreWorkers, IsMet, IsLinks, IsProfile, IsText, Meets, Says, is_on, texts_of};
 
 use crate::grammar::grammar;
-use crate::subcommand::{Command, Profile};
+use crate::subcommand::{Command, Links, Profile};
 use bus_manager::MAX_WORKERS;
 use clap::error::ErrorKind;
 use clap::{ArgMatches, Error};
@@ -58,6 +58,10 @@ fn chosen<'a>(alloc: Global, matches: &ArgMatches<'a>) -> Result<Option<Command<
         "plan" => Ok(plan(given)),
         "probe" => Ok(probe(given)),
         "replay" => Ok(replay(given)),
+        "why" => Ok(why(given)),
+        "needs" => Ok(needs(given)),
+        "drivers" => Ok(drivers(given)),
+        "trace" => Ok(trace(given)),
         "explain" => Ok(explain(given)),
         _ => Ok(None),
     }
@@ -128,6 +132,7 @@ fn plan<'a>(given: &ArgMatches<'a>) -> Option<Command<'a>>
         blob: given.get_str("BLOB")?,
         drivers: given.get_str("DRIVERS")?,
         dot: is_on(given, "dot"),
+        links: links(given),
     })
 }
 
@@ -138,7 +143,49 @@ fn probe<'a>(given: &ArgMatches<'a>) -> Option<Command<'a>>
         blob: given.get_str("BLOB")?,
         drivers: given.get_str("DRIVERS")?,
         workers: workers(given)?,
+        without: text(given, "without"),
+        links: links(given),
     })
+}
+
+fn why<'a>(given: &ArgMatches<'a>) -> Option<Command<'a>>
+    ensures { IfSome result (λ command. IsMet command (codes "why") (rows_of (found_of given.now))) }
+{
+    Some(Command::Why {
+        blob: given.get_str("BLOB")?,
+        drivers: given.get_str("DRIVERS")?,
+        path: text(given, "PATH"),
+        check: is_on(given, "check"),
+        links: links(given),
+    })
+}
+
+fn needs<'a>(given: &ArgMatches<'a>) -> Option<Command<'a>>
+    ensures { IfSome result (λ command. IsMet command (codes "needs") (rows_of (found_of given.now))) }
+{
+    Some(Command::Needs {
+        blob: given.get_str("BLOB")?,
+        drivers: given.get_str("DRIVERS")?,
+        path: given.get_str("PATH")?,
+        links: links(given),
+    })
+}
+
+fn drivers<'a>(given: &ArgMatches<'a>) -> Option<Command<'a>>
+    ensures { IfSome result (λ command. IsMet command (codes "drivers") (rows_of (found_of given.now))) }
+{
+    Some(Command::Drivers {
+        aliases: given.get_str("ALIASES")?,
+        builtin: text(given, "MODINFO"),
+    })
+}
+
+fn trace<'a>(given: &ArgMatches<'a>) -> Option<Command<'a>>
+    ensures { IfSome result (λ command. IsMet command (codes "trace") (rows_of (found_of given.now))) }
+{
+    let log = given.get_str("LOG")?;
+    let plan = given.get_str("PLAN")?;
+    Some(Command::Trace { log, plan })
 }
 
 fn replay<'a>(given: &ArgMatches<'a>) -> Option<Command<'a>>
@@ -157,6 +204,26 @@ fn explain<'a>(given: &ArgMatches<'a>) -> Option<Command<'a>>
     Some(Command::Explain {
         number: given.get_str("NUMBER")?,
     })
+}
+
+/// Whose links are asked for.
+fn links<'a>(given: &ArgMatches<'a>) -> Links<'a>
+    ensures { IsLinks result (rows_of (found_of given.now)) }
+{
+    Links {
+        name: text(given, "links"),
+        strict: is_on(given, "strict"),
+    }
+}
+
+/// The text of an argument that may be left out.
+fn text<'a>(given: &ArgMatches<'a>, name: &str) -> Option<&'a str>
+    ensures { IsText result name.now (rows_of (found_of given.now)) }
+{
+    match given.get_str(name) {
+        Some(text) => Some(text),
+        None => None,
+    }
 }
 
 /// Whether an option without a value was given.

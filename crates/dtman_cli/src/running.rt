@@ -94,7 +94,7 @@ fn arguments<R: Env + AllocGlobal>(rt: &R) -> io::Result<Vec<String>> {
 
 /// Runs the command that the words name, over any files and any standard output, and answers the exit status.
 ///
-/// Where that isn't 0, nothing was written to standard output, unless that is what failed. The words `-v` and `--verbose`
+/// Where that isn't 0, nothing was written to standard output, unless that is what failed, or `why --check` has listed devices. The words `-v` and `--verbose`
 /// ask for detail, before or behind the others.
 pub fn run_words<S: Surroundings, O: Channel, E: Eprint, T: Threads + Sync>(
     alloc: Global,
@@ -133,7 +133,15 @@ fn run_command<S: Surroundings, O: Channel, E: Eprint, T: Threads + Sync>(
     requires { O.has_failed output.old ≡ false }
 {
     match command(alloc, words) {
-        Ok(command) => match perform(alloc, surroundings, threads, output, command, detail) {
+        Ok(command) => match perform(
+            alloc,
+            surroundings,
+            threads,
+            output,
+            errors,
+            command,
+            detail,
+        ) {
             Ok(()) => DONE,
             Err(Failure::File(fault, path)) if detail == Detail::Verbose => {
                 fail_file(surroundings, errors, fault, path)

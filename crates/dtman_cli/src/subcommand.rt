@@ -10,6 +10,14 @@ pub enum Profile<'a> {
     Dialect { folders: Vec<&'a str> },
 }
 
+/// Whose device links count: those of Linux, which are asked for by that name, or else those of the table of suppliers.
+#[derive(Clone, Copy, Debug)]
+pub struct Links<'a> {
+    pub name: Option<&'a str>,
+    /// Optional bindings count, too.
+    pub strict: bool,
+}
+
 /// A subcommand with its paths and options.
 #[derive(Debug, Drop)]
 pub enum Command<'a> {
@@ -33,6 +41,7 @@ pub enum Command<'a> {
         drivers: &'a str,
         /// Print a Graphviz graph in place of the plan file.
         dot: bool,
+        links: Links<'a>,
     },
     Replay {
         plan: &'a str,
@@ -45,6 +54,32 @@ pub enum Command<'a> {
         drivers: &'a str,
         /// From 1 to `MAX_WORKERS`.
         workers: u8,
+        /// A driver of the file that never comes.
+        without: Option<&'a str>,
+        links: Links<'a>,
+    },
+    Why {
+        blob: &'a str,
+        drivers: &'a str,
+        /// The device that is asked for, or else each that waits.
+        path: Option<&'a str>,
+        /// End with another status where a device is listed.
+        check: bool,
+        links: Links<'a>,
+    },
+    Needs {
+        blob: &'a str,
+        drivers: &'a str,
+        path: &'a str,
+        links: Links<'a>,
+    },
+    Drivers {
+        aliases: &'a str,
+        builtin: Option<&'a str>,
+    },
+    Trace {
+        log: &'a str,
+        plan: &'a str,
     },
     Explain {
         number: &'a str,

@@ -22,7 +22,7 @@ use std::hash::RandomState;
 /// The plan of the tree that a blob holds, by the drivers of a file.
 ///
 /// The blob's fault comes first, then the driver file's with its line, then the plan's.
-pub(crate) fn planned(
+pub fn planned(
     alloc: Global,
     hasher: RandomState,
     blob: &[u8],

@@ -5,6 +5,7 @@ mod dialect;
 mod help;
 mod overlaying;
 mod probing;
+mod questions;
 mod replaying;
 mod runs;
 mod shelf;

@@ -32,6 +32,10 @@ fn help_fits_80_columns(rt: HostRuntime) {
         &["dtman", "plan", "--help"],
         &["dtman", "replay", "--help"],
         &["dtman", "probe", "--help"],
+        &["dtman", "why", "--help"],
+        &["dtman", "needs", "--help"],
+        &["dtman", "drivers", "--help"],
+        &["dtman", "trace", "--help"],
         &["dtman", "explain", "--help"],
     ];
     let hasher = RandomState::new(&rt).expect(&rt, "a seed");

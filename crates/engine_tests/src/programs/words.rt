@@ -1,7 +1,7 @@
 //! The command line.
 
 use clap::error::ErrorKind;
-use dtman_cli::{Command, Profile, command};
+use dtman_cli::{Command, Links, Profile, command};
 use std::alloc::Global;
 
 /// The command that the words name, or the kind of their mistake.
@@ -97,7 +97,11 @@ fn reads_plan_with_its_option(rt: HostRuntime) {
             Ok(Command::Plan {
                 blob: "board.dtb",
                 drivers: "board.drivers",
-                dot: false
+                dot: false,
+                links: Links {
+                    name: None,
+                    strict: false
+                }
             })
         )
     );
@@ -109,7 +113,8 @@ fn reads_plan_with_its_option(rt: HostRuntime) {
             Ok(Command::Plan {
                 blob: "board.dtb",
                 drivers: "board.drivers",
-                dot: true
+                dot: true,
+                ..
             })
         )
     );
@@ -124,6 +129,8 @@ fn workers_of(alloc: Global, command: &str, option: (&str, &str)) -> Result<Opti
             blob: "board",
             drivers: "beside",
             workers,
+            without: None,
+            ..
         } => Ok(Some(workers)),
         Command::Replay {
             plan: "board",
@@ -153,6 +160,105 @@ fn reads_probe_with_its_workers(rt: HostRuntime) {
         let read = workers_of(rt.alloc(), "probe", ("--workers", number));
         assert_eq!(rt; read, workers, "{number}");
     }
+}
+
+#[test]
+fn reads_questions(rt: HostRuntime) {
+    let words = ["dtman", "probe", "b", "d", "--without", "ns"];
+    let less = read(rt.alloc(), words.as_slice());
+    assert!(rt;
+        matches!(
+            less,
+            Ok(Command::Probe {
+                without: Some("ns"),
+                ..
+            })
+        )
+    );
+    let words = ["dtman", "why", "b", "d"];
+    let all = read(rt.alloc(), words.as_slice());
+    assert!(rt;
+        matches!(
+            all,
+            Ok(Command::Why {
+                path: None,
+                check: false,
+                ..
+            })
+        )
+    );
+    let words = ["dtman", "why", "b", "d", "/uart", "--check"];
+    let one = read(rt.alloc(), words.as_slice());
+    assert!(rt;
+        matches!(
+            one,
+            Ok(Command::Why {
+                path: Some("/uart"),
+                check: true,
+                ..
+            })
+        )
+    );
+    let words = ["dtman", "needs", "b", "d", "/uart"];
+    let needs = read(rt.alloc(), words.as_slice());
+    assert!(rt;
+        matches!(
+            needs,
+            Ok(Command::Needs {
+                blob: "b",
+                drivers: "d",
+                path: "/uart",
+                ..
+            })
+        )
+    );
+    let words = [
+        "dtman",
+        "needs",
+        "b",
+        "d",
+        "/uart",
+        "--links=linux",
+        "--strict",
+    ];
+    let linux = read(rt.alloc(), words.as_slice());
+    assert!(rt;
+        matches!(
+            linux,
+            Ok(Command::Needs {
+                links: Links {
+                    name: Some("linux"),
+                    strict: true
+                },
+                ..
+            })
+        )
+    );
+    let words = ["dtman", "plan", "b", "d", "--strict"];
+    let alone = read(rt.alloc(), words.as_slice());
+    assert!(rt; matches!(alone, Err(ErrorKind::MissingRequiredArgument)));
+    let words = ["dtman", "drivers", "a", "m"];
+    let drivers = read(rt.alloc(), words.as_slice());
+    assert!(rt;
+        matches!(
+            drivers,
+            Ok(Command::Drivers {
+                aliases: "a",
+                builtin: Some("m")
+            })
+        )
+    );
+    let words = ["dtman", "trace", "l", "p"];
+    let trace = read(rt.alloc(), words.as_slice());
+    assert!(rt;
+        matches!(
+            trace,
+            Ok(Command::Trace {
+                log: "l",
+                plan: "p"
+            })
+        )
+    );
 }
 
 #[test]

@@ -5,4 +5,4 @@ use Rattle.dtman_cli.proofs.reading.plan.Goals as goal
 pub returns : goal.returns
 returns c =
     let given = c.args.given.now in
-    (refl, value given (codes "BLOB") c.in_ok-get_str.field-0.now c.in_ok-get_str.ensures, value given (codes "DRIVERS") c.in_ok-get_str-2.field-0.now c.in_ok-get_str-2.ensures, c.is_on.ensures)
+    (refl, value given (codes "BLOB") c.in_ok-get_str.field-0.now c.in_ok-get_str.ensures, value given (codes "DRIVERS") c.in_ok-get_str-2.field-0.now c.in_ok-get_str-2.ensures, c.is_on.ensures, c.links.ensures)

@@ -1,0 +1,91 @@
+//! A chain as a line.
+
+use crate::reasons::Reasons;
+use bus_plan::{Device, Plan};
+use bus_why::{Cause, Chain};
+use std::alloc::{AllocError, Global};
+
+/// Puts a device's path behind a text.
+pub fn add_path(text: &mut Vec<u8>, plan: &Plan, device: Device) -> Result<(), AllocError> {
+    if device.index() < plan.len() {
+        return text.extend_from_slice(plan.path(device).as_bytes());
+    }
+    Ok(())
+}
+
+// The strings by which a driver might match a device.
+fn add_strings(text: &mut Vec<u8>, plan: &Plan, device: Device) -> Result<(), AllocError> {
+    if device.index() >= plan.len() {
+        return Ok(());
+    }
+    let mut between = b" \"".as_slice();
+    for string in plan.compatibles(device) {
+        text.extend_from_slice(between)?;
+        text.extend_from_slice(string.as_slice())?;
+        text.push(b'"')?;
+        between = b", \"".as_slice();
+    }
+    Ok(())
+}
+
+// The name of a device's driver.
+fn add_driver(text: &mut Vec<u8>, plan: &Plan, device: Device) -> Result<(), AllocError> {
+    if device.index() >= plan.len() {
+        return Ok(());
+    }
+    match plan.driver(device) {
+        Some(name) => text.extend_from_slice(name.as_bytes()),
+        None => Ok(()),
+    }
+}
+
+fn add_cause(
+    text: &mut Vec<u8>,
+    plan: &Plan,
+    device: Device,
+    cause: Cause,
+) -> Result<(), AllocError> {
+    match cause {
+        Cause::Bound => {
+            text.extend_from_slice(b": bound by ")?;
+            add_driver(text, plan, device)
+        }
+        Cause::Failed => {
+            text.extend_from_slice(b": its driver ")?;
+            add_driver(text, plan, device)?;
+            text.extend_from_slice(b" failed")
+        }
+        Cause::Unmatched => {
+            text.extend_from_slice(b": no driver matches")?;
+            add_strings(text, plan, device)
+        }
+        Cause::Disabled => text.extend_from_slice(b": disabled"),
+        Cause::Cycle(_) => text.extend_from_slice(b": a cycle"),
+    }
+}
+
+/// Puts the line of a chain behind a text: `PATH waits for PATH (PROPERTY) waits for PATH (PROPERTY): CAUSE`.
+pub fn add_chain<S: Reasons>(
+    alloc: Global,
+    text: &mut Vec<u8>,
+    plan: &Plan,
+    reasons: &S,
+    chain: &Chain,
+) -> Result<(), AllocError> {
+    let mut before: Option<Device> = None;
+    for device in &chain.devices {
+        if before.is_some() {
+            text.extend_from_slice(b" waits for ")?;
+        }
+        add_path(text, plan, *device)?;
+        if let Some(consumer) = before {
+            reasons.add(alloc, text, consumer, *device)?;
+        }
+        before = Some(*device);
+    }
+    if let Some(last) = before {
+        add_cause(text, plan, last, chain.cause)?;
+    }
+    text.push(b'\n')?;
+    Ok(())
+}

@@ -1,0 +1,22 @@
+//! What the commands `why`, `needs`, `drivers` and `trace` answer, from the bytes of files to text.
+#![tactic(auto)]
+
+mod boots;
+mod by_links;
+mod chain_text;
+mod end;
+mod installed;
+mod order_text;
+mod reasons;
+mod shown;
+mod waits;
+mod without;
+
+pub use boots::{Boot, boot_bytes};
+pub use by_links::{Asked, LinkedAnswer, linked_answer};
+pub use end::end_of;
+pub use installed::{Installed, installed_drivers};
+pub use order_text::needs_text;
+pub use reasons::{NoReasons, Reasons};
+pub use waits::{Waits, device_at, why_text};
+pub use without::without_driver;

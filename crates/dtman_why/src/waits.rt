@@ -1,0 +1,87 @@
+//! Why devices wait, as text.
+
+ghost use Rattle.std.specs.Prelude.{◌<◌, length, IfOk};
+
+use crate::chain_text::add_chain;
+use crate::end::end_of;
+use crate::reasons::Reasons;
+use bus_plan::{Device, Plan, PlanError};
+use bus_why::{Cause, chain_from, waiting_chains};
+use dtman_engine::{Fault, Position};
+use std::alloc::{AllocError, Global};
+use std::thread::Threads;
+
+/// The lines of the chains that were asked for, and whether a device waits among them.
+#[derive(Drop)]
+pub struct Waits {
+    pub text: Vec<u8>,
+    pub any: bool,
+}
+
+/// The device at a path of the command line, which is no line of a file.
+pub fn device_at(plan: &Plan, path: &[u8]) -> Result<Device, Fault>
+    ensures { IfOk result (λ device. device < length plan.now) }
+{
+    match plan.device(path) {
+        Some(device) if device.index() < plan.len() => Ok(device),
+        _ => Err(no_device()),
+    }
+}
+
+fn no_device() -> Fault {
+    let Fault { number, name, .. } = Fault::from(PlanError::UnknownPath(0));
+    Fault {
+        number,
+        name,
+        position: Position::Nowhere,
+    }
+}
+
+fn one<S: Reasons>(
+    alloc: Global,
+    plan: &Plan,
+    reasons: &S,
+    bound: &[bool],
+    device: Device,
+) -> Result<Waits, AllocError>
+    requires { device < length plan.now }
+{
+    let chain = chain_from(alloc, plan, bound, device)?;
+    let mut text = Vec::new(alloc);
+    add_chain(alloc, &mut text, plan, reasons, &chain)?;
+    let any = !matches!(chain.cause, Cause::Bound);
+    Ok(Waits { text, any })
+}
+
+fn all<S: Reasons>(
+    alloc: Global,
+    plan: &Plan,
+    reasons: &S,
+    bound: &[bool],
+) -> Result<Waits, AllocError> {
+    let chains = waiting_chains(alloc, plan, bound)?;
+    let mut text = Vec::new(alloc);
+    for chain in &chains {
+        add_chain(alloc, &mut text, plan, reasons, chain)?;
+    }
+    let any = !chains.is_empty();
+    Ok(Waits { text, any })
+}
+
+/// Why the device at a path isn't bound at the end, or, where none is named, why each device that waits isn't.
+pub fn why_text<S: Reasons, R: Threads + Sync>(
+    rt: &R,
+    alloc: Global,
+    plan: &Plan,
+    reasons: &S,
+    path: Option<&[u8]>,
+) -> Result<Waits, Fault> {
+    let bound = end_of(rt, alloc, plan)?;
+    match path {
+        Some(path) => {
+            let device = device_at(plan, path)?;
+            Ok(one(alloc, plan, reasons, bound.as_slice(), device)?)
+        }
+        None => Ok(all(alloc, plan, reasons, bound.as_slice())?),
+    }
+}

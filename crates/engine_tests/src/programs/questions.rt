@@ -1,0 +1,232 @@
+//! `why`, `needs`, `drivers`, `trace` and `probe --without` over files in memory.
+
+use super::clock_and_uart::BLOB;
+use super::runs::{Files, Row, rows_end};
+
+const FILES: Files = &[
+    ("board.dtb", BLOB),
+    (
+        "board.drivers",
+        b"driver fixed fixed-clock\ndriver ns ns16550a\n",
+    ),
+    ("uart.drivers", b"driver ns ns16550a\n"),
+    (
+        "failing.drivers",
+        b"driver fixed fixed-clock\ndriver ns ns16550a\nfail /clk\n",
+    ),
+    ("early.drivers", b"early fixed-clock\ndriver ns ns16550a\n"),
+    ("board.plan", b"/clk fixed ok\n/uart ns ok /clk\n"),
+    (
+        "modules.alias",
+        b"alias of:N*T*Cns16550aC* ns\nalias of:N*T*Cns16550a ns\nalias of:N*T*Ca,*b x\n",
+    ),
+    (
+        "modules.builtin.modinfo",
+        b"fixed.alias=of:N*T*Cfixed-clock\0",
+    ),
+    (
+        "boot.log",
+        b"really_probe: probing driver fixed with device clk\nreally_probe: bound device clk to driver fixed\nreally_probe: probing driver a with device b\n",
+    ),
+];
+
+#[test]
+fn answers_why(rt: HostRuntime) {
+    const ROWS: &[Row] = &[
+        (&["dtman", "why", "board.dtb", "board.drivers"], 0, "", ""),
+        (
+            &["dtman", "why", "board.dtb", "board.drivers", "--check"],
+            0,
+            "",
+            "",
+        ),
+        (
+            &["dtman", "why", "board.dtb", "uart.drivers"],
+            0,
+            "/uart waits for /clk: no driver matches \"fixed-clock\"\n",
+            "",
+        ),
+        (
+            &["dtman", "why", "board.dtb", "failing.drivers", "--check"],
+            1,
+            "/uart waits for /clk: its driver fixed failed\n",
+            "",
+        ),
+        (
+            &["dtman", "why", "board.dtb", "board.drivers", "/uart"],
+            0,
+            "/uart: bound by ns\n",
+            "",
+        ),
+        (
+            &["dtman", "why", "board.dtb", "uart.drivers", "/clk"],
+            0,
+            "/clk: no driver matches \"fixed-clock\"\n",
+            "",
+        ),
+        (
+            &["dtman", "why", "board.dtb", "uart.drivers", "/nix"],
+            1,
+            "",
+            "error 53 UnknownPath\n",
+        ),
+    ];
+    rows_end(&rt, FILES, ROWS);
+}
+
+#[test]
+fn answers_needs(rt: HostRuntime) {
+    const ROWS: &[Row] = &[
+        (
+            &["dtman", "needs", "board.dtb", "board.drivers", "/uart"],
+            0,
+            "/clk fixed\n/uart ns\ndrivers fixed ns\n",
+            "",
+        ),
+        (
+            &["dtman", "needs", "board.dtb", "uart.drivers", "/uart"],
+            0,
+            "/clk -\n/uart ns\ndrivers ns\n",
+            "",
+        ),
+        (
+            &["dtman", "needs", "board.dtb", "board.drivers", "/nix"],
+            1,
+            "",
+            "error 53 UnknownPath\n",
+        ),
+    ];
+    rows_end(&rt, FILES, ROWS);
+}
+
+#[test]
+fn probes_without_a_driver(rt: HostRuntime) {
+    const ROWS: &[Row] = &[
+        (
+            &[
+                "dtman",
+                "probe",
+                "board.dtb",
+                "board.drivers",
+                "--without",
+                "fixed",
+            ],
+            0,
+            "/clk unmatched\n/uart waiting /clk\nquiet\n",
+            "",
+        ),
+        (
+            &[
+                "dtman",
+                "probe",
+                "board.dtb",
+                "board.drivers",
+                "--without",
+                "nix",
+            ],
+            2,
+            "",
+            "error: the driver file has no driver nix\n",
+        ),
+    ];
+    rows_end(&rt, FILES, ROWS);
+}
+
+#[test]
+fn makes_drivers_and_schedules(rt: HostRuntime) {
+    const ROWS: &[Row] = &[
+        (
+            &[
+                "dtman",
+                "drivers",
+                "modules.alias",
+                "modules.builtin.modinfo",
+            ],
+            0,
+            "driver ns ns16550a\ndriver fixed fixed-clock\n",
+            "warning: modules.alias: line 3: left out: of:N*T*Ca,*b\n",
+        ),
+        (
+            &["dtman", "trace", "boot.log", "board.plan"],
+            0,
+            "begin /clk\nfinish /clk settled\n",
+            "warning: line 3: no device of the plan is b\n",
+        ),
+        (
+            &["dtman", "trace", "boot.log", "boot.log"],
+            1,
+            "",
+            "error 50 BadLine line 1\n",
+        ),
+    ];
+    rows_end(&rt, FILES, ROWS);
+}
+
+#[test]
+fn answers_by_the_links_of_linux(rt: HostRuntime) {
+    const ROWS: &[Row] = &[
+        (
+            &[
+                "dtman",
+                "plan",
+                "board.dtb",
+                "early.drivers",
+                "--links=linux",
+            ],
+            0,
+            "# early /clk\n/clk - -\ncompatible /clk fixed-clock\n/uart ns ok\n",
+            "",
+        ),
+        (
+            &[
+                "dtman",
+                "probe",
+                "board.dtb",
+                "early.drivers",
+                "--links=linux",
+            ],
+            0,
+            "/clk unmatched\n/uart bound ns\nquiet\n",
+            "",
+        ),
+        (
+            &[
+                "dtman",
+                "why",
+                "board.dtb",
+                "uart.drivers",
+                "--links=linux",
+                "--check",
+            ],
+            1,
+            "/uart waits for /clk (clocks): no driver matches \"fixed-clock\"\n",
+            "",
+        ),
+        (
+            &[
+                "dtman",
+                "needs",
+                "board.dtb",
+                "early.drivers",
+                "/uart",
+                "--links=linux",
+            ],
+            0,
+            "/uart ns\ndrivers ns\n",
+            "",
+        ),
+        (
+            &["dtman", "plan", "board.dtb", "board.drivers", "--links=bsd"],
+            2,
+            "",
+            "error: no links are those of bsd; `linux` has some\n",
+        ),
+        (
+            &["dtman", "plan", "board.dtb", "early.drivers"],
+            1,
+            "",
+            "error 50 BadLine line 1\n",
+        ),
+    ];
+    rows_end(&rt, FILES, ROWS);
+}
