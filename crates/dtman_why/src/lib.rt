@@ -18,5 +18,5 @@ pub use end::end_of;
 pub use installed::{Installed, installed_drivers};
 pub use order_text::needs_text;
 pub use reasons::{NoReasons, Reasons};
-pub use waits::{Waits, device_at, why_text};
+pub use waits::{Waits, why_text};
 pub use without::without_driver;

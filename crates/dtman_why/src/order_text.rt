@@ -1,7 +1,9 @@
 //! What a device needs, as text.
 
+ghost use Rattle.std.specs.Prelude.{◌<◌, length};
+
 use crate::chain_text::add_path;
-use crate::waits::device_at;
+use crate::waits::{device_at, no_device};
 use bus_plan::{Device, PathIndex, Plan};
 use bus_why::needs;
 use dtman_engine::Fault;
@@ -61,9 +63,17 @@ fn order_text(alloc: Global, plan: &Plan, order: &[Device]) -> Result<Vec<u8>, A
     Ok(text)
 }
 
+fn order_of(alloc: Global, plan: &Plan, device: Device) -> Result<Vec<u8>, AllocError>
+    requires { device < length plan.now }
+{
+    let order = needs(alloc, plan, device)?;
+    order_text(alloc, plan, order.as_slice())
+}
+
 /// The devices that have to be bound for the one at a path, in an order that works, each with its driver, and last their drivers.
 pub fn needs_text(alloc: Global, plan: &Plan, path: &[u8]) -> Result<Vec<u8>, Fault> {
-    let device = device_at(plan, path)?;
-    let order = needs(alloc, plan, device)?;
-    Ok(order_text(alloc, plan, order.as_slice())?)
+    match device_at(plan, path) {
+        Some(device) => order_of(alloc, plan, device).map_err(|_| Fault::no_memory()),
+        None => Err(no_device()),
+    }
 }

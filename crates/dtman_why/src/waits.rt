@@ -1,6 +1,6 @@
 //! Why devices wait, as text.
 
-ghost use Rattle.std.specs.Prelude.{◌<◌, length, IfOk};
+ghost use Rattle.std.specs.Prelude.{◌<◌, length, IfSome};
 
 use crate::chain_text::add_chain;
 use crate::end::end_of;
@@ -18,17 +18,18 @@ pub struct Waits {
     pub any: bool,
 }
 
-/// The device at a path of the command line, which is no line of a file.
-pub fn device_at(plan: &Plan, path: &[u8]) -> Result<Device, Fault>
-    ensures { IfOk result (λ device. device < length plan.now) }
+/// The device at a path of the command line.
+pub fn device_at(plan: &Plan, path: &[u8]) -> Option<Device>
+    ensures { IfSome result (λ device. device < length plan.now) }
 {
     match plan.device(path) {
-        Some(device) if device.index() < plan.len() => Ok(device),
-        _ => Err(no_device()),
+        Some(device) if device.index() < plan.len() => Some(device),
+        _ => None,
     }
 }
 
-fn no_device() -> Fault {
+/// No device has the path that the command line names, which is no line of a file.
+pub fn no_device() -> Fault {
     let Fault { number, name, .. } = Fault::from(PlanError::UnknownPath(0));
     Fault {
         number,
@@ -68,6 +69,23 @@ fn all<S: Reasons>(
     Ok(Waits { text, any })
 }
 
+// Of the device at a path, or else of all.
+fn waits<S: Reasons>(
+    alloc: Global,
+    plan: &Plan,
+    reasons: &S,
+    bound: &[bool],
+    path: Option<&[u8]>,
+) -> Result<Waits, Fault> {
+    let Some(path) = path else {
+        return all(alloc, plan, reasons, bound).map_err(|_| Fault::no_memory());
+    };
+    match device_at(plan, path) {
+        Some(device) => { one(alloc, plan, reasons, bound, device).map_err(|_| Fault::no_memory()) }
+        None => Err(no_device()),
+    }
+}
+
 /// Why the device at a path isn't bound at the end, or, where none is named, why each device that waits isn't.
 pub fn why_text<S: Reasons, R: Threads + Sync>(
     rt: &R,
@@ -76,12 +94,8 @@ pub fn why_text<S: Reasons, R: Threads + Sync>(
     reasons: &S,
     path: Option<&[u8]>,
 ) -> Result<Waits, Fault> {
-    let bound = end_of(rt, alloc, plan)?;
-    match path {
-        Some(path) => {
-            let device = device_at(plan, path)?;
-            Ok(one(alloc, plan, reasons, bound.as_slice(), device)?)
-        }
-        None => Ok(all(alloc, plan, reasons, bound.as_slice())?),
+    match end_of(rt, alloc, plan) {
+        Ok(bound) => waits(alloc, plan, reasons, bound.as_slice(), path),
+        Err(fault) => Err(fault),
     }
 }
