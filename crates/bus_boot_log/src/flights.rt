@@ -54,7 +54,9 @@ impl Flights {
 
     /// Whether a device is probed.
     pub fn is_open(&self, device: Device) -> bool {
-        self.open.iter().any(|other| other.index() == device.index())
+        self.open
+            .iter()
+            .any(|other| other.index() == device.index())
     }
 
     /// The device whose probe began last and hasn't ended.

@@ -76,7 +76,7 @@ fn put_off<'a>(line: &'a [u8]) -> Option<Told<'a>> {
 }
 
 /// What a line tells, if it tells of a probe.
-pub fn told<'a>(line: &'a [u8]) -> Option<Told<'a>> {
+pub fn read_log_line<'a>(line: &'a [u8]) -> Option<Told<'a>> {
     if let Some(told) = begun(line) {
         return Some(told);
     }

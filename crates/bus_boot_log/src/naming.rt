@@ -112,6 +112,12 @@ fn on_spi(plan: &Plan, name: &[u8]) -> Option<Device> {
     only_at(plan, select, b"spi")
 }
 
+fn mark(marks: &mut [bool], place: usize) {
+    if let Some(is_marked) = marks.get_mut(place) {
+        *is_marked = true;
+    }
+}
+
 impl Names {
     /// None met yet, of the devices of this plan.
     pub fn new(alloc: Global, hasher: RandomState, count: usize) -> Result<Self, AllocError> {
@@ -262,10 +268,8 @@ impl Names {
         let device = self.found(alloc, plan, name, driver, above)?;
         self.met.add(alloc, name)?;
         self.met_devices.push(device)?;
-        if let Some(device) = device {
-            if let Some(is_taken) = self.taken.get_mut(device.index()) {
-                *is_taken = true;
-            }
+        if let Some(device) = &device {
+            mark(self.taken.as_mut_slice(), device.index());
         }
         Ok(device)
     }

@@ -1,7 +1,7 @@
 //! A log as a schedule.
 
 use crate::flights::{Flights, Line};
-use crate::log_line::{Told, told};
+use crate::log_line::{Told, read_log_line};
 use crate::naming::Names;
 use crate::node_name::path_at;
 use bus_plan::{Device, Plan, lines_of};
@@ -85,7 +85,7 @@ impl<'a> Trace<'a> {
         number: usize,
         line: &'a [u8],
     ) -> Result<(), AllocError> {
-        match told(line) {
+        match read_log_line(line) {
             Some(Told::Probing { driver, name }) => {
                 match self.device_of(alloc, plan, number, name, driver)? {
                     Some(device) => self.begin(alloc, plan, device),
@@ -119,7 +119,11 @@ fn read_trace<'a>(
     trace.read(alloc, plan, log)
 }
 
-fn new_trace<'a>(alloc: Global, hasher: RandomState, count: usize) -> Result<Trace<'a>, AllocError> {
+fn new_trace<'a>(
+    alloc: Global,
+    hasher: RandomState,
+    count: usize,
+) -> Result<Trace<'a>, AllocError> {
     let names = Names::new(alloc, hasher, count)?;
     let flights = Flights::new(alloc, count)?;
     Ok(Trace {

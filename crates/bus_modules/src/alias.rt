@@ -21,7 +21,9 @@ pub enum Said<'a> {
 fn has_wildcard(string: &[u8]) -> bool
     ensures { result ≡ list_any is_wild string.now }
 {
-    string.iter().any(|byte| *byte == b'*' || *byte == b'?' || *byte == b'[')
+    string
+        .iter()
+        .any(|byte| *byte == b'*' || *byte == b'?' || *byte == b'[')
 }
 
 fn is_plain(string: &[u8]) -> bool

@@ -91,9 +91,9 @@ fn read_builtin<'a>(
     unsaid: &mut Vec<Unsaid<'a>>,
     entries: &'a [u8],
 ) -> Result<(), AllocError> {
-    let mut number = 0;
+    let mut number = 0usize;
     for entry in entries.split(|byte| *byte == 0) {
-        number += 1;
+        number = number.saturating_add(1);
         if let Some(said) = in_entry(entry) {
             add(alloc, modules, unsaid, Origin::Builtin, number, said)?;
         }

@@ -72,7 +72,11 @@ fn add_unplaced(rt: &impl Abort, alloc: Global, text: &mut Vec<u8>, unplaced: &U
 fn holds(rt: &impl Abort, alloc: Global, hasher: RandomState, row: &Row) {
     let plan = read_plan(alloc, hasher, row.plan.as_bytes()).expect(rt, "a plan");
     let traced = boot_schedule(alloc, hasher, &plan, row.log.as_bytes()).expect(rt, "room");
-    assert!(rt; traced.schedule.as_slice() == row.schedule.as_bytes(), "{}", row.name);
+    assert!(rt;
+        traced.schedule.as_slice() == row.schedule.as_bytes(),
+        "{}",
+        row.name
+    );
     let mut text = Vec::new(alloc);
     for unplaced in &traced.unplaced {
         add_unplaced(rt, alloc, &mut text, unplaced);

@@ -66,9 +66,18 @@ fn add_unsaid(rt: &impl Abort, text: &mut Vec<u8>, alloc: Global, unsaid: &Unsai
 }
 
 fn holds(rt: &impl Abort, alloc: Global, hasher: RandomState, row: &Row) {
-    let made = module_drivers(alloc, hasher, row.aliases.as_bytes(), row.builtin.as_bytes());
+    let made = module_drivers(
+        alloc,
+        hasher,
+        row.aliases.as_bytes(),
+        row.builtin.as_bytes(),
+    );
     let made = made.expect(rt, "a driver file");
-    assert!(rt; made.text.as_slice() == row.drivers.as_bytes(), "{}", row.name);
+    assert!(rt;
+        made.text.as_slice() == row.drivers.as_bytes(),
+        "{}",
+        row.name
+    );
     let mut text = Vec::new(alloc);
     for unsaid in &made.unsaid {
         add_unsaid(rt, &mut text, alloc, unsaid);
