@@ -1,6 +1,7 @@
 -- What a quiet keeper says at the end.
 use Rattle.std.proofs.Common.{◌≡◌, ℕ, ◌<◌, Bool, true, List, Option, length, refl, ap, ◌∙◌}
 use Rattle.bus_plan.specs.Plan.{PlannedDevice}
+use Rattle.bus_core.specs.declared.event.Report.{Report}
 use Rattle.bus_core.specs.CoreState.{CoreState}
 use Rattle.bus_core.specs.Due.{is_quiet}
 use Rattle.bus_core.specs.History.{bound_in, IsBusHistory}
@@ -13,8 +14,9 @@ use Rattle.bus_manager.specs.Private.BoardEnd.{bound_by_words}
 use Rattle.bus_manager.specs.Notes.{leaves_note, has_note}
 use Rattle.bus_manager.specs.Private.Notes.{AreNotes}
 use Rattle.bus_manager.specs.Run.{IsRunAfter}
+use Rattle.bus_manager.proofs.Shown.{probed}
 
-pub run-ended : {N : Type 0} (attests : ℕ → N → Type 0) (before : ℕ → Bool) (plan : List PlannedDevice) (s : CoreState) (report : List ℕ) (notes : List (Option N))
+pub run-ended : {N : Type 0} (attests : ℕ → (ℕ → Bool) → Report → N → Type 0) (before : ℕ → Bool) (plan : List PlannedDevice) (s : CoreState) (report : List ℕ) (notes : List (Option N))
     → IsBusHistory plan s.history → is_quiet plan s ≡ true → report ≡ report_text plan s → AreNotes attests plan notes
     → ((d : ℕ) → d < length plan → has_note notes d ≡ leaves_note (before d) (status_of plan s d)) → IsRunAfter attests before plan report notes
 run-ended attests before plan s report notes steps quiet text are noted =
@@ -24,11 +26,11 @@ run-ended attests before plan s report notes steps quiet text are noted =
       one = λ other said. end-one plan other report said ends;
       places = are.places;
       noted = λ d within. noted d within ∙ ap (leaves_note (before d)) (quiet-status plan s steps quiet d within);
-      attested = are.attested;
+      attested = λ d note at. probed (attests d) plan ends.bound d note ends.least (are.attested d note at);
     }
 
 -- what a quiet board says at the end
-pub quiet-run : {N : Type 0} (attests : ℕ → N → Type 0) (before : ℕ → Bool) (plan : List PlannedDevice) (words : List Word) (report : List ℕ) (notes : List (Option N)) (v : View)
+pub quiet-run : {N : Type 0} (attests : ℕ → (ℕ → Bool) → Report → N → Type 0) (before : ℕ → Bool) (plan : List PlannedDevice) (words : List Word) (report : List ℕ) (notes : List (Option N)) (v : View)
     → EndsAs plan v words true → report ≡ end_text plan (bound_by_words words) → AreNotes attests plan notes
     → ((d : ℕ) → d < length plan → has_note notes d ≡ leaves_note (before d) (end_status plan (bound_by_words words) d)) → IsRunAfter attests before plan report notes
 quiet-run attests before plan words report notes v e text are noted =
@@ -38,5 +40,5 @@ quiet-run attests before plan words report notes v e text are noted =
       one = λ other said. end-one plan other report said ends;
       places = are.places;
       noted = noted;
-      attested = are.attested;
+      attested = λ d note at. probed (attests d) plan ends.bound d note ends.least (are.attested d note at);
     }

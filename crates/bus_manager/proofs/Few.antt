@@ -27,7 +27,7 @@ due-allowed plan s d due few =
 
 pub only-memory : (k : KeeperValue) (r : Refusal) → IsKept k → length k.plan ≤ MAX_DEVICES → count_by is_abandon k.events ≤ length k.plan → IsTakeRefused k r → r ≡ NoMemory
 only-memory k r kept small few refused = elim refused.refused [
-  | inl memory ↦ memory
+  | inl memory ↦ memory.0
   | inr other ↦
       let allowed = due-allowed k.plan k.state refused.device refused.due (omega (arith, few-begins k kept, small, few))
       in let no : None ≡ Some r = sym allowed ∙ other

@@ -11,3 +11,6 @@ pub mod Landing
 pub mod ResumedLemmas
 pub mod NotesLemmas
 pub mod Ended
+pub mod Forced
+pub mod Shown
+pub mod Told

@@ -4,18 +4,19 @@ use Rattle.std.specs.Prelude.{is_some, replicate}
 use Rattle.std.proofs.lemmas.Bool.{cases_eq, cases_lt}
 use Rattle.std.proofs.lemmas.List.{get_or-set_same, get_or-set_other, get_or-replicate, get_or_past, length-replicate}
 use Rattle.bus_plan.specs.Plan.{PlannedDevice}
+use Rattle.bus_core.specs.declared.event.Report.{Report}
 use Rattle.bus_manager.specs.Notes.{has_note}
-use Rattle.bus_manager.specs.Private.Notes.{AreNotes, IsNoted}
+use Rattle.bus_manager.specs.Private.Notes.{AreNotes, IsNoted, IsShown}
 
 -- a place is written
-pub put-notes : {N : Type 0} (attests : ℕ → N → Type 0) (plan : List PlannedDevice) (old new : List (Option N)) (d : ℕ) (x : Option N)
-    → new ≡ set old d x → d < length plan → ((note : N) → x ≡ Some note → attests d note) → AreNotes attests plan old → AreNotes attests plan new
+pub put-notes : {N : Type 0} (attests : ℕ → (ℕ → Bool) → Report → N → Type 0) (plan : List PlannedDevice) (old new : List (Option N)) (d : ℕ) (x : Option N)
+    → new ≡ set old d x → d < length plan → ((note : N) → x ≡ Some note → IsShown (attests d) plan d note) → AreNotes attests plan old → AreNotes attests plan new
 put-notes attests plan old new d x is within told are = coe 1 0 (i. AreNotes attests plan (is i)) (record {
   places = length-set old d x ∙ are.places;
   attested = λ e note at. elim (cases_eq d e) [
     | inl same ↦
         let here : x ≡ Some note = sym (get_or-set_same old d x None (omega (arith, are.places))) ∙ (ap (λ k. get_or (set old d x) k None) same ∙ at)
-        in coe 0 1 (i. attests (same i) note) (told note here)
+        in coe 0 1 (i. IsShown (attests (same i)) plan (same i) note) (told note here)
     | inr other ↦ are.attested e note (sym (get_or-set_other old d e x None (λ q. other (sym q))) ∙ at)
   ];
 })
@@ -46,7 +47,7 @@ none-there none n d = elim (cases_lt d n) [
 ]
 
 -- no note at all
-pub no-notes : {N : Type 0} (attests : ℕ → N → Type 0) (plan : List PlannedDevice) (notes : List (Option N)) → notes ≡ replicate (length plan) None → AreNotes attests plan notes
+pub no-notes : {N : Type 0} (attests : ℕ → (ℕ → Bool) → Report → N → Type 0) (plan : List PlannedDevice) (notes : List (Option N)) → notes ≡ replicate (length plan) None → AreNotes attests plan notes
 no-notes attests plan notes is = coe 1 0 (i. AreNotes attests plan (is i)) (record {
   places = length-replicate (length plan) None;
   attested = λ d note at. let no : None ≡ Some note = sym (none-there None (length plan) d) ∙ at in let never : ⊥ = cc in absurd never;

@@ -1,9 +1,10 @@
 -- A core's flights end, and a run goes on from what had settled.
-use Rattle.std.proofs.Common.{◌≡◌, inl, inr, ℕ, suc, ◌+◌, ◌<◌, Bool, true, false, not, List, [], ◌∷◌, Option, Some, None, length, cond, set, get_or, refl, sym, ap, ◌∙◌, arith}
+use Rattle.std.proofs.Common.{◌≡◌, inl, inr, ℕ, suc, ◌+◌, ◌<◌, ◌≤◌, Bool, true, false, not, List, [], ◌∷◌, Option, Some, None, length, cond, set, get_or, refl, sym, ap, ◌∙◌, arith}
 use Rattle.std.specs.Prelude.{is_some, Result, Ok, Err, IfOk}
 use Rattle.std.specs.List.{list_any}
 use Rattle.std.proofs.lemmas.Bool.{cases_eq, or_from}
 use Rattle.bus_plan.specs.Plan.{PlannedDevice, is_available, is_matched}
+use Rattle.bus_core.specs.declared.event.Report.{Report}
 use Rattle.bus_core.specs.declared.refusal.Refusal.{Refusal}
 use Rattle.bus_core.specs.declared.refusal.Refusal.TheVariants as refusal
 use Rattle.bus_core.specs.declared.settle.Settle.{Settle}
@@ -78,15 +79,19 @@ status-settled plan s d = at (bound_in s.history d) (is_settled s.history d) (bo
     at false false law = unsettled (is_in_flight s d) (is_available plan d) (is_matched plan d) (is_due plan s d)
 
 -- a place of the set is written
-pub put-more : (h : List Settle) (old new : List ℕ) (n m : ℕ) (b : Bool) → IsPut old new m b → m ≡ n → b ≡ is_settled h m
-    → ((d : ℕ) → d < n → sees old d ≡ is_settled h d) → (d : ℕ) → d < n + 1 → sees new d ≡ is_settled h d
-put-more h old new n m b put at says before d within = elim (cases_eq d m) [
-  | inl same ↦ ap (sees new) same ∙ put.here ∙ says ∙ ap (is_settled h) (sym same)
+pub put-more : (test : ℕ → Bool) (old new : List ℕ) (n m : ℕ) (b : Bool) → IsPut old new m b → m ≡ n → b ≡ test m
+    → ((d : ℕ) → d < n → sees old d ≡ test d) → (d : ℕ) → d < n + 1 → sees new d ≡ test d
+put-more test old new n m b put at says before d within = elim (cases_eq d m) [
+  | inl same ↦ ap (sees new) same ∙ put.here ∙ says ∙ ap test (sym same)
   | inr other ↦ put.others d other ∙ before d (omega arith)
 ]
 
+-- and the places behind it stay empty
+pub put-rest : (old new : List ℕ) (n m : ℕ) (b : Bool) → IsPut old new m b → m ≡ n → ((d : ℕ) → n ≤ d → sees old d ≡ false) → (d : ℕ) → n + 1 ≤ d → sees new d ≡ false
+put-rest old new n m b put at empty d past = put.others d (λ q. absurd (omega (arith, q, at, past))) ∙ empty d (omega (arith, past))
+
 -- two tests that agree on the plan's devices
-pub run-before : {N : Type 0} (attests : ℕ → N → Type 0) (before other : ℕ → Bool) (plan : List PlannedDevice) (report : List ℕ) (notes : List (Option N))
+pub run-before : {N : Type 0} (attests : ℕ → (ℕ → Bool) → Report → N → Type 0) (before other : ℕ → Bool) (plan : List PlannedDevice) (report : List ℕ) (notes : List (Option N))
     → ((d : ℕ) → d < length plan → before d ≡ other d) → IsRunAfter attests before plan report notes → IsRunAfter attests other plan report notes
 run-before attests before other plan report notes same ran = record {
   ends = ran.ends;
@@ -97,7 +102,7 @@ run-before attests before other plan report notes same ran = record {
 }
 
 -- nothing had settled before a run from nothing
-pub run-fresh : {N : Type 0} (attests : ℕ → N → Type 0) (before : List ℕ) (plan : List PlannedDevice) (report : List ℕ) (notes : List (Option N))
+pub run-fresh : {N : Type 0} (attests : ℕ → (ℕ → Bool) → Report → N → Type 0) (before : List ℕ) (plan : List PlannedDevice) (report : List ℕ) (notes : List (Option N))
     → ((d : ℕ) → sees before d ≡ false) → IsRunAfter attests (sees before) plan report notes → IsRun attests plan report notes
 run-fresh attests before plan report notes empty ran =
     run-before attests (sees before) (λ d. false) plan report notes (λ d within. empty d) ran
@@ -107,7 +112,7 @@ ok-weaker P Q weaker (Ok x) held = weaker x held
 ok-weaker P Q weaker (Err e) held = tt
 
 -- a run over a copy of the core's plan
-pub run-of : {N : Type 0} (attests : List PlannedDevice → ℕ → N → Type 0) (before : ℕ → Bool) (plan : List PlannedDevice) (core : CoreValue) (report : List ℕ) (notes : List (Option N))
+pub run-of : {N : Type 0} (attests : List PlannedDevice → ℕ → (ℕ → Bool) → Report → N → Type 0) (before : ℕ → Bool) (plan : List PlannedDevice) (core : CoreValue) (report : List ℕ) (notes : List (Option N))
     → plan ≡ core.plan → ((d : ℕ) → d < length core.plan → before d ≡ is_settled core.state.history d)
     → IsRunAfter (attests plan) before plan report notes → IsRunOf (attests core.plan) core report notes
 run-of attests before plan core report notes is same ran =

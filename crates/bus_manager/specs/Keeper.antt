@@ -1,5 +1,5 @@
 -- A keeper as contracts see it, and what holds of every keeper.
-use Rattle.std.specs.Prelude.{◌≡◌, ◌≤◌, ◌+◌, ◌⊎◌, ℕ, Bool, true, false, List, [], ◌∷◌, ◌++◌, Some, None, Ok, length, count_by, All}
+use Rattle.std.specs.Prelude.{◌≡◌, ◌≤◌, ◌+◌, ℕ, Bool, true, false, List, [], ◌∷◌, ◌++◌, Some, None, Ok, length, count_by, All}
 use Rattle.bus_plan.specs.LateDriver.{with_driver}
 use Rattle.bus_plan.specs.Plan.{PlannedDevice}
 use Rattle.bus_core.specs.declared.event.Event.{Event}
@@ -7,12 +7,11 @@ use Rattle.bus_core.specs.declared.event.Event.TheVariants.{Begin, Finish, Aband
 use Rattle.bus_core.specs.declared.event.Report.{Report}
 use Rattle.bus_core.specs.declared.event.Ticket.{Ticket}
 use Rattle.bus_core.specs.declared.refusal.Refusal.{Refusal}
-use Rattle.bus_core.specs.declared.refusal.Refusal.TheVariants.{NoMemory}
 use Rattle.bus_core.specs.CoreState.{CoreState, CoreValue, first_core, first_state}
 use Rattle.bus_core.specs.Due.{is_due}
 use Rattle.bus_core.specs.History.{bound_in}
 use Rattle.bus_core.specs.Replay.{replay_of, IsEventOf}
-use Rattle.bus_core.specs.Step.{begin_refusal, begin_state, finish_state, without_flight, registered_state}
+use Rattle.bus_core.specs.Step.{IsRefused, begin_refusal, begin_state, finish_state, without_flight, registered_state}
 use Rattle.bus_manager.specs.Events.{is_begin, is_register, is_begin_of, is_abandon_of, are_of_due}
 use Rattle.bus_manager.specs.Seen.{sees}
 
@@ -72,8 +71,8 @@ pub record IsTaken (old new : KeeperValue) (ticket : Ticket) (seen : List ℕ) :
 abbrev pub IsNoneDue : KeeperValue → KeeperValue → Type 0
 IsNoneDue old new = (new ≡ old) × ((d : ℕ) → is_due old.plan old.state d ≡ false)
 
--- the begin of a due device was refused, or memory was
+-- the begin of a due device was refused, or memory for one that wasn't
 pub record IsTakeRefused (old : KeeperValue) (refusal : Refusal) : Type 0 where
   pub device : ℕ
   pub due : is_due old.plan old.state device ≡ true
-  pub refused : (refusal ≡ NoMemory) ⊎ (begin_refusal old.plan old.state device ≡ Some refusal)
+  pub refused : IsRefused (begin_refusal old.plan old.state device) refusal

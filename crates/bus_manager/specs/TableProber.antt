@@ -1,5 +1,5 @@
 -- What a probe by the plan alone reports.
-use Rattle.std.specs.Prelude.{ℕ, Bool, List, Option, Some, None}
+use Rattle.std.specs.Prelude.{◌≡◌, ℕ, Bool, List, Option, Some, None}
 use Rattle.bus_plan.specs.Plan.{PlannedDevice}
 use Rattle.bus_core.specs.declared.event.Report.{Report}
 use Rattle.bus_core.specs.declared.event.Report.TheVariants.{Settled, Missing}
@@ -12,3 +12,7 @@ report_of_missing (Some supplier) = Missing supplier
 
 abbrev pub table_report : List PlannedDevice → (ℕ → Bool) → ℕ → Report
 table_report plan seen d = report_of_missing (missing_supplier plan seen d)
+
+-- its note is the device, and shows what the plan alone says of it by the devices that were told as bound
+abbrev pub ShowsTable : List PlannedDevice → ℕ → (ℕ → Bool) → Report → ℕ → Type 0
+ShowsTable plan d seen report note = (note ≡ d) × (report ≡ table_report plan seen d)

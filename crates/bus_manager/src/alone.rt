@@ -1,19 +1,16 @@
 //! What the caller of a run does alone, once its workers have left.
 
-ghost use Rattle.std.specs.Prelude.{◌≡◌, ◌≤◌, ◌<◌, ◌+◌, true, false, length, IfOk, IfErr, OnOk, MatchResult};
-ghost use Rattle.bus_manager.specs.Keeper.{first_keeper};
+ghost use Rattle.std.specs.Prelude.{◌≡◌, ◌≤◌, ◌<◌, ◌+◌, true, false, length, IfOk, IfErr, OnOk};
 ghost use Rattle.bus_core.specs.Due.{is_quiet};
 ghost use Rattle.bus_core.specs.declared.refusal.Refusal.TheVariants.{NoMemory};
 ghost use Rattle.bus_manager.specs.Private.Alone.{IsLanded, IsDropped, IsDriven, StaysQuiet};
 ghost use Rattle.bus_manager.specs.Private.Counts.{abandons};
-ghost use Rattle.bus_manager.specs.Private.Notes.{AreNotes, HasRun};
-ghost use Rattle.bus_manager.specs.Seen.{sees};
-ghost use Rattle.bus_manager.specs.Run.{IsRunAfter};
+ghost use Rattle.bus_manager.specs.Private.Notes.{AreNotes};
+ghost use Rattle.bus_manager.specs.Run.{IsRun};
 
 use crate::keeper::Keeper;
 use crate::notes::{Ran, put, settle_notes};
-use crate::prober::Prober;
-use crate::seen::Seen;
+use crate::prober::{Prober, probe};
 use bus_core::{Refusal, Reply};
 use bus_plan::{Device, Plan};
 use std::alloc::Global;
@@ -65,7 +62,7 @@ fn drive<P: Prober>(
         Ok(None) => return Ok(false),
         Err(refusal) => return Err(refusal),
     };
-    let (report, note) = prober.probe(plan, ticket.device, &seen);
+    let (report, note) = probe(plan, prober, ticket.device, &seen);
     keeper.check();
     match keeper.finish(&ticket, report) {
         Ok(Reply::Bound | Reply::Failed) => {
@@ -97,55 +94,45 @@ fn drain<P: Prober>(
     Ok(())
 }
 
-// Drops the flights that are left, probes what is due, leaves a note of each device that has settled and hadn't before, and
-// gives the report. The keeper and the notes are lent, so that no way out has to drop them.
+// Drops the flights that are left, probes what is due, leaves a note of each device that has settled, and gives the report. The
+// keeper and the notes are lent, so that no way out has to drop them.
 fn end_alone<P: Prober>(
     alloc: Global,
     plan: &Plan,
     prober: &P,
-    before: &Seen,
     keeper: &mut Keeper,
     notes: &mut Vec<Option<P::Note>>,
 ) -> Result<Vec<u8>, Refusal>
     requires plan { keeper.old.plan ≡ plan.now }
     requires unabandoned { abandons keeper.old ≡ 0 }
     requires notes { AreNotes (P.attests prober.now plan.now) plan.now notes.old.items }
-    ensures ran { IfOk result (λ report.
-        IsRunAfter (P.attests prober.now plan.now) (sees before.now) plan.now report.items notes.new.items) }
+    ensures ran { IfOk result (λ report. IsRun (P.attests prober.now plan.now) plan.now report.items notes.new.items) }
     ensures err { IfErr result (λ refusal. refusal ≡ NoMemory) }
 {
     drop_flights(keeper, plan.len());
     drain(keeper, plan, prober, notes)?;
-    settle_notes(keeper, plan, prober, before, notes);
+    settle_notes(keeper, plan, prober, notes);
     keeper.core().check();
     let report = keeper.report(alloc)?;
     Ok(report)
 }
 
-/// A keeper of a copy of the plan, with nothing begun.
-pub fn fresh_keeper(alloc: Global, plan: &Plan) -> Result<Keeper, Refusal>
-    ensures { MatchResult result (λ keeper. keeper ≡ first_keeper plan.now) (λ refusal. refusal ≡ NoMemory) }
-{
-    Keeper::new(alloc, plan.copy(alloc)?)
-}
-
-/// Ends a run: drops the flights that are left, probes what is due, and leaves a note of each device that has settled and
-/// hadn't before.
+/// Ends a run from nothing: drops the flights that are left, probes what is due, and leaves a note of each device that has
+/// settled.
 pub fn finish_alone<P: Prober>(
     alloc: Global,
     plan: &Plan,
     prober: &P,
-    before: &Seen,
     mut keeper: Keeper,
     mut notes: Vec<Option<P::Note>>,
 ) -> Result<Ran<P::Note>, Refusal>
     requires plan { keeper.plan ≡ plan.now }
     requires unabandoned { abandons keeper ≡ 0 }
     requires notes { AreNotes (P.attests prober.now plan.now) plan.now notes.items }
-    ensures ran { IfOk result (HasRun (P.attests prober.now plan.now) (sees before.now) plan.now) }
+    ensures ran { IfOk result (λ ran. IsRun (P.attests prober.now plan.now) plan.now ran.report.items ran.notes.items) }
     ensures err { IfErr result (λ refusal. refusal ≡ NoMemory) }
 {
-    let ended = end_alone(alloc, plan, prober, before, &mut keeper, &mut notes);
+    let ended = end_alone(alloc, plan, prober, &mut keeper, &mut notes);
     drop(keeper);
     match ended {
         Ok(report) => Ok(Ran { report, notes }),

@@ -1,6 +1,7 @@
 //! What the caller of a run over a board does, before and after its workers.
 
-ghost use Rattle.std.specs.Prelude.{◌≡◌, true, IfOk, IfErr};
+ghost use Rattle.std.specs.Prelude.{◌≡◌, ℕ, true, length, IfOk, IfErr};
+ghost use Rattle.bus_core.specs.Least.{IsLeast};
 ghost use Rattle.bus_core.specs.Report.{end_status};
 ghost use Rattle.bus_core.specs.declared.refusal.Refusal.TheVariants.{NoMemory};
 ghost use Rattle.bus_board.specs.Ends.{EndsAs};
@@ -11,7 +12,6 @@ ghost use Rattle.bus_manager.specs.Private.Notes.{AreAttested, AreNoted, AreNote
 ghost use Rattle.bus_manager.specs.Seen.{sees};
 ghost use Rattle.bus_manager.specs.Run.{IsRun};
 
-use crate::alone::{finish_alone, fresh_keeper};
 use crate::crew::Crew;
 use crate::end_report::{end_report, end_status, is_bound};
 use crate::notes::{Ran, leaves_note, no_notes, place_some, settle_note};
@@ -25,7 +25,10 @@ use std::alloc::Global;
 use std::thread::Threads;
 
 // The devices whose words are BOUND.
-fn bound_devices(plan: &Plan, words: &[Word]) -> Seen {
+fn bound_devices(plan: &Plan, words: &[Word]) -> Seen
+    requires { length words.now ≡ length plan.now }
+    ensures { (d : ℕ) → sees result d ≡ bound_by_words words.now d }
+{
     plan.check();
     let mut seen = Seen::new();
     for index in 0..plan.len() {
@@ -35,7 +38,7 @@ fn bound_devices(plan: &Plan, words: &[Word]) -> Seen {
     seen
 }
 
-// Leaves a note of each device that has settled and hadn't before the run.
+// Leaves a note of each device that has settled and hadn't before the run, where the words are those of a quiet board.
 fn settle_by_words<P: Prober>(
     plan: &Plan,
     prober: &P,
@@ -43,6 +46,8 @@ fn settle_by_words<P: Prober>(
     before: &Seen,
     notes: &mut Vec<Option<P::Note>>,
 )
+    requires wide { length words.now ≡ length plan.now }
+    requires least { IsLeast plan.now (bound_by_words words.now) }
     requires notes { AreNotes (P.attests prober.now plan.now) plan.now notes.old.items }
     ensures notes { AreNotes (P.attests prober.now plan.now) plan.now notes.new.items }
     ensures noted { AreNoted plan.now (sees before.now) (end_status plan.now (bound_by_words words.now)) notes.new.items }
@@ -75,7 +80,7 @@ fn finish_quiet<P: Prober>(
     Ok(Ran { report, notes })
 }
 
-// Ends a run. Where the board isn't quiet, as memory was refused, the caller runs the plan alone, from nothing.
+// Ends a run. The board is quiet, unless memory was refused to the caller when it went on alone.
 fn finish<P: Prober>(
     alloc: Global,
     plan: &Plan,
@@ -95,8 +100,7 @@ fn finish<P: Prober>(
     if end.quiet {
         return finish_quiet(alloc, plan, prober, before, &end.words, notes);
     }
-    let keeper = fresh_keeper(alloc, plan)?;
-    finish_alone(alloc, plan, prober, before, keeper, notes)
+    Err(Refusal::NoMemory)
 }
 
 // Where memory was refused to a worker, the caller goes on alone with what is left.
@@ -111,9 +115,9 @@ fn again<P: Prober, R: Threads + Sync>(
 ) -> Worked<P::Note>
     requires plan { board.now.plan ≡ plan.now }
     requires free { IsFree board.now done.seat }
-    requires notes { AreAttested (P.attests prober.now plan.now) done.notes.items }
+    requires notes { AreAttested (P.attests prober.now plan.now) plan.now done.notes.items }
     ensures free { IsFree board.now result.seat }
-    ensures notes { AreAttested (P.attests prober.now plan.now) result.notes.items }
+    ensures notes { AreAttested (P.attests prober.now plan.now) plan.now result.notes.items }
 {
     if !crew.is_short() {
         return done;

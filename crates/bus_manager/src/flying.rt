@@ -4,13 +4,13 @@ ghost use Rattle.std.specs.Prelude.{◌≡◌, ◌<◌, ◌+◌, IfSome, IfNone,
 ghost use Rattle.bus_plan.specs.Plan.{suppliers_of};
 ghost use Rattle.bus_board.specs.Shown.{IsOf};
 ghost use Rattle.bus_manager.specs.Private.Flying.{HasLooked, HasLookedAll, HasTaken, IsFree};
-ghost use Rattle.bus_manager.specs.Private.Notes.{AreAttested};
+ghost use Rattle.bus_manager.specs.Private.Notes.{AreAttested, AreForced, IsShown};
 ghost use Rattle.bus_manager.specs.Prober.{IsLawfulReport};
 ghost use Rattle.bus_manager.specs.Seen.{sees};
 
 use crate::crew::Crew;
 use crate::keeper::append;
-use crate::prober::Prober;
+use crate::prober::{Prober, probe};
 use crate::seats::Worked;
 use crate::seen::Seen;
 use crate::worker::Noted;
@@ -34,6 +34,8 @@ fn look_at(
     requires looked { HasLooked seat.old.view device seen.old (suppliers_of plan.now device) index }
     requires next { slice_get (suppliers_of plan.now device) index ≡ Some supplier }
     requires room { supplier < MAX_DEVICES }
+    requires forced { AreForced plan.now (sees seen.old) }
+    ensures forced { AreForced plan.now (sees seen.new) }
     ensures of { IsOf board.now seat.new }
     ensures looked { HasLooked seat.new.view device seen.new (suppliers_of plan.now device) (index + 1) }
     ensures owed { seat.new.view.owed ≡ seat.old.view.owed }
@@ -50,6 +52,7 @@ fn look_round(board: &Board, plan: &Plan, seat: &mut Seat, device: Device) -> Se
     requires taken { HasTaken board.now seat.old device }
     ensures of { IsOf board.now seat.new }
     ensures looked { HasLookedAll seat.new.view device result (suppliers_of plan.now device) }
+    ensures forced { AreForced plan.now (sees result) }
     ensures owed { seat.new.view.owed ≡ [] }
 {
     plan.check();
@@ -69,7 +72,7 @@ fn look_round(board: &Board, plan: &Plan, seat: &mut Seat, device: Device) -> Se
     seen
 }
 
-// Ends the flight by what its probe found, and says whether its device has settled.
+// Ends the flight by what its probe found, and says whether its device has settled, as it does by such a report alone.
 fn end_flight(
     board: &Board,
     plan: &Plan,
@@ -84,6 +87,7 @@ fn end_flight(
     requires lawful { IsLawfulReport plan.now (sees seen.now) device report }
     ensures of { IsOf board.now seat.new }
     ensures ended { seat.new.view.flight ≡ None }
+    ensures settled { result ≡ true → report ≡ Report.Settled }
 {
     match report {
         Report::Settled => match board.settle(seat) {
@@ -108,10 +112,10 @@ fn fly<P: Prober>(
     requires plan { board.now.plan ≡ plan.now }
     requires taken { HasTaken board.now seat.old device }
     ensures free { IsFree board.now seat.new }
-    ensures note { IfSome result (λ note. P.attests prober.now plan.now device note) }
+    ensures note { IfSome result (IsShown (P.attests prober.now plan.now device) plan.now device) }
 {
     let seen = look_round(board, plan, seat, device);
-    let (report, note) = prober.probe(plan, device, &seen);
+    let (report, note) = probe(plan, prober, device, &seen);
     let is_settled = end_flight(board, plan, seat, device, &seen, report);
     board.wake_owed(seat);
     if is_settled { Some(note) } else { None }
@@ -144,9 +148,9 @@ fn fly_once<P: Prober>(
     requires plan { board.now.plan ≡ plan.now }
     requires taken { HasTaken board.now own.old.seat device }
     requires room { vec_len own.old.notes < vec_capacity own.old.notes }
-    requires notes { AreAttested (P.attests prober.now plan.now) own.old.notes.items }
+    requires notes { AreAttested (P.attests prober.now plan.now) plan.now own.old.notes.items }
     ensures free { IsFree board.now own.new.seat }
-    ensures notes { AreAttested (P.attests prober.now plan.now) own.new.notes.items }
+    ensures notes { AreAttested (P.attests prober.now plan.now) plan.now own.new.notes.items }
 {
     let Some(note) = fly(board, plan, prober, &mut own.seat, device) else {
         return;
@@ -167,9 +171,9 @@ pub fn fly_on<P: Prober>(
 ) -> bool
     requires plan { board.now.plan ≡ plan.now }
     requires free { IsFree board.now own.old.seat }
-    requires notes { AreAttested (P.attests prober.now plan.now) own.old.notes.items }
+    requires notes { AreAttested (P.attests prober.now plan.now) plan.now own.old.notes.items }
     ensures free { IsFree board.now own.new.seat }
-    ensures notes { AreAttested (P.attests prober.now plan.now) own.new.notes.items }
+    ensures notes { AreAttested (P.attests prober.now plan.now) plan.now own.new.notes.items }
     ensures forks { result ≡ true → 0 < forks }
 {
     plan.check();

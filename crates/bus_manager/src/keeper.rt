@@ -6,11 +6,13 @@ ghost use Rattle.bus_plan.specs.LateDriver.{gaining};
 ghost use Rattle.bus_plan.specs.Plan.{is_driver_name};
 ghost use Rattle.bus_core.specs.Due.{is_due};
 ghost use Rattle.bus_core.specs.Report.{report_text};
-ghost use Rattle.bus_core.specs.Step.{finish_refusal, IsReply, abandon_refusal, register_refusal, IsRefused};
+ghost use Rattle.bus_core.specs.History.{bound_in};
+ghost use Rattle.bus_core.specs.Step.{begin_refusal, finish_refusal, IsReply, abandon_refusal, register_refusal, IsRefused};
 ghost use Rattle.bus_core.specs.declared.refusal.Refusal.TheVariants.{NoMemory};
 ghost use Rattle.bus_manager.specs.Keeper.{IsKept, first_keeper, finished_keeper, abandoned_keeper, registered_keeper, IsNoneDue, IsTaken, IsTakeRefused};
 ghost use Rattle.bus_manager.specs.Private.Counts.{open_flights};
 ghost use Rattle.bus_manager.specs.Private.Seen.{IsSeenAfter};
+ghost use Rattle.bus_manager.specs.Seen.{sees};
 
 use crate::seen::Seen;
 use bus_core::{Compatibles, Core, Event, Refusal, Reply, Report, Ticket};
@@ -92,6 +94,20 @@ impl Keeper {
         ensures refused { IfErr result (IsTakeRefused self.old) }
         ensures err { OnErr result (self.new ≡ self.old) }
     {
+        match self.core.begin_refusal(device) {
+            Some(refusal) => Err(refusal),
+            None => self.begin(device),
+        }
+    }
+
+    // Begins a due device that isn't refused.
+    fn begin(&mut self, device: Device) -> Result<(Ticket, Seen), Refusal>
+        requires within { device < length self.old.plan }
+        requires due { is_due self.old.plan self.old.state device ≡ true }
+        requires allowed { begin_refusal self.old.plan self.old.state device ≡ None }
+        ensures taken { IfOk result (λ t. IsTaken self.old self.new t.0 t.1) }
+        ensures err { IfErr result (λ refusal. (refusal ≡ NoMemory) × (self.new ≡ self.old)) }
+    {
         // room for this begin, and for the end of each flight, its own among them
         self.events.reserve(self.flying + 2)?;
         let ticket = self.core.begin(device)?;
@@ -139,6 +155,25 @@ impl Keeper {
         ensures gained { IfOk result (λ count. count ≡ gaining self.old.plan compatibles.now) }
         ensures err { OnErr result (self.new ≡ self.old) }
     {
+        match self.core.register_refusal(name) {
+            Some(refusal) => Err(refusal),
+            None => self.add_driver(alloc, name, compatibles),
+        }
+    }
+
+    // Registers a driver that isn't refused.
+    fn add_driver(
+        &mut self,
+        alloc: Global,
+        name: &Name,
+        compatibles: &[Bytes],
+    ) -> Result<usize, Refusal>
+        requires named { is_driver_name name.now ≡ true }
+        requires allowed { register_refusal self.old.plan self.old.state name.now ≡ None }
+        ensures registered { OnOk result (self.new ≡ registered_keeper self.old name.now compatibles.now) }
+        ensures gained { IfOk result (λ count. count ≡ gaining self.old.plan compatibles.now) }
+        ensures err { IfErr result (λ refusal. (refusal ≡ NoMemory) × (self.new ≡ self.old)) }
+    {
         let event = register_event(alloc, name, compatibles)?;
         // room for this event, and for the end of each flight
         self.events.reserve(self.flying + 1)?;
@@ -163,7 +198,9 @@ impl Keeper {
     }
 
     /// The devices that are bound now.
-    pub(crate) fn seen(&self) -> Seen {
+    pub(crate) fn seen(&self) -> Seen
+        ensures { (d : ℕ) → sees result d ≡ bound_in self.now.state.history d }
+    {
         self.bound
     }
 

@@ -4,7 +4,8 @@ ghost use Rattle.std.specs.Prelude.{◌≡◌, ◌<◌, true, length, count_by, 
 ghost use Rattle.bus_core.specs.declared.refusal.Refusal.TheVariants.{NoMemory};
 ghost use Rattle.bus_plan.specs.Plan.{PlannedDevice};
 ghost use Rattle.bus_manager.specs.Private.Counts.{is_abandon, abandons};
-ghost use Rattle.bus_manager.specs.Private.Turn.{IsEnded, IsMoreDue, IsTurn, tells_settled};
+ghost use Rattle.bus_manager.specs.Private.Locked.{IsFlightOf};
+ghost use Rattle.bus_manager.specs.Private.Turn.{IsEnded, IsMoreDue, IsTurn, IsTurnOf, tells_settled};
 
 use crate::baton::Baton;
 use crate::keeper::Keeper;
@@ -65,6 +66,7 @@ impl<J: PlanName> Kept<J> {
     // Begins a due device, if there is one.
     fn turn(&mut self) -> Result<Turn, Refusal>
         ensures turn { IfOk result (IsTurn self.old.keeper self.new.keeper) }
+        ensures flight { IfOk result (IsTurnOf J.plan) }
         ensures err { IfErr result (λ refusal. refusal ≡ NoMemory) }
     {
         self.keeper.check();
@@ -130,7 +132,7 @@ impl<J: PlanName> Manager<J> {
     /// A due device's flight, as soon as there is one, and whether a further worker begins for the device that is due behind it,
     /// which a worker can let begin so often. None where there will be no flight, or memory is refused.
     pub(crate) fn take<R: Wait>(&self, rt: &R, forks: usize) -> Option<(Flight, bool)>
-        ensures device { IfSome result (λ taken. taken.0.ticket.device < length J.plan) }
+        ensures flight { IfSome result (λ taken. IsFlightOf J.plan taken.0) }
         ensures joined { IfSome result (λ taken. taken.1 ≡ true → 0 < forks) }
     {
         let mut kept = self.kept.lock(rt);
@@ -152,9 +154,10 @@ impl<J: PlanName> Manager<J> {
         None
     }
 
-    /// Ends a flight, and says whether its device has settled. Its worker looks next, so it wakes nobody.
+    /// Ends a flight, and says whether its device has settled, as it does by such a report alone. Its worker looks next, so it wakes nobody.
     pub(crate) fn finish<R: Wait>(&self, rt: &R, ticket: &Ticket, report: Report) -> bool
         requires { ticket.now.device < length J.plan }
+        ensures { result ≡ true → report ≡ Report.Settled }
     {
         self.kept.lock(rt).finish(ticket, report)
     }

@@ -1,13 +1,15 @@
 //! The notes of a run: one place a device.
 
-ghost use Rattle.std.specs.Prelude.{◌≡◌, ◌<◌, length, replicate, slice_set, IfOk, None};
+ghost use Rattle.std.specs.Prelude.{◌≡◌, ◌<◌, true, false, length, replicate, slice_set, IfOk, None};
+ghost use Rattle.std.specs.List.{list_all};
 ghost use Rattle.bus_core.specs.Report.{status_of};
+ghost use Rattle.bus_plan.specs.Plan.{suppliers_of};
 ghost use Rattle.bus_manager.specs.Notes.{has_settled, leaves_note};
 ghost use Rattle.bus_manager.specs.Seen.{sees};
-ghost use Rattle.bus_manager.specs.Private.Notes.{AreAttested, AreNoted, AreNotes, IsNoted};
+ghost use Rattle.bus_manager.specs.Private.Notes.{AreAttested, AreForced, AreNoted, AreNotes, IsNoted, IsShown};
 
 use crate::keeper::Keeper;
-use crate::prober::Prober;
+use crate::prober::{Prober, probe};
 use crate::seen::Seen;
 use crate::worker::Noted;
 use bus_core::Status;
@@ -48,9 +50,9 @@ pub fn add_notes<P: Prober>(
     notes: &mut Vec<Noted<P::Note>>,
     mut found: Vec<Noted<P::Note>>,
 )
-    requires notes { AreAttested (P.attests prober.now plan.now) notes.old.items }
-    requires found { AreAttested (P.attests prober.now plan.now) found.items }
-    ensures { AreAttested (P.attests prober.now plan.now) notes.new.items }
+    requires notes { AreAttested (P.attests prober.now plan.now) plan.now notes.old.items }
+    requires found { AreAttested (P.attests prober.now plan.now) plan.now found.items }
+    ensures { AreAttested (P.attests prober.now plan.now) plan.now notes.new.items }
 {
     match notes.append(&mut found) {
         Ok(()) => {}
@@ -66,7 +68,7 @@ pub fn place_some<P: Prober>(
     mut found: Vec<Noted<P::Note>>,
 )
     requires notes { AreNotes (P.attests prober.now plan.now) plan.now notes.old.items }
-    requires found { AreAttested (P.attests prober.now plan.now) found.items }
+    requires found { AreAttested (P.attests prober.now plan.now) plan.now found.items }
     ensures { AreNotes (P.attests prober.now plan.now) plan.now notes.new.items }
 {
     'placing: while let Some(noted) = found.pop() {
@@ -81,7 +83,7 @@ fn place_one<P: Prober>(
     noted: Noted<P::Note>,
 )
     requires notes { AreNotes (P.attests prober.now plan.now) plan.now notes.old.items }
-    requires noted { P.attests prober.now plan.now noted.device noted.note }
+    requires noted { IsShown (P.attests prober.now plan.now noted.device) plan.now noted.device noted.note }
     ensures { AreNotes (P.attests prober.now plan.now) plan.now notes.new.items }
 {
     let Noted { device, note } = noted;
@@ -107,7 +109,7 @@ pub fn has_settled(status: Status) -> bool
     matches!(status, Status::Bound | Status::Failed)
 }
 
-/// Leaves a note of a device that has settled by the run, by a probe where none came, and none of another.
+/// Leaves a note of a device that has settled by the run, by a probe of the bound devices where none came, and none of another.
 pub fn settle_note<P: Prober>(
     plan: &Plan,
     prober: &P,
@@ -117,6 +119,8 @@ pub fn settle_note<P: Prober>(
     seen: &Seen,
 )
     requires within { device < length plan.now }
+    requires forced { AreForced plan.now (sees seen.now) }
+    requires suppliers { settled ≡ true → list_all (sees seen.now) (suppliers_of plan.now device) ≡ true }
     requires notes { AreNotes (P.attests prober.now plan.now) plan.now notes.old.items }
     ensures notes { AreNotes (P.attests prober.now plan.now) plan.now notes.new.items }
     ensures noted { IsNoted settled notes.old.items notes.new.items device }
@@ -128,28 +132,27 @@ pub fn settle_note<P: Prober>(
     if notes[device.index()].is_some() {
         return;
     }
-    let (_report, note) = prober.probe(plan, device, seen);
+    let (_report, note) = probe(plan, prober, device, seen);
     put(notes, device, Some(note));
 }
 
-/// Leaves a note of each device that has settled and hadn't before the run.
+/// Leaves a note of each device that has settled.
 pub fn settle_notes<P: Prober>(
     keeper: &Keeper,
     plan: &Plan,
     prober: &P,
-    before: &Seen,
     notes: &mut Vec<Option<P::Note>>,
 )
     requires plan { keeper.now.plan ≡ plan.now }
     requires notes { AreNotes (P.attests prober.now plan.now) plan.now notes.old.items }
     ensures notes { AreNotes (P.attests prober.now plan.now) plan.now notes.new.items }
-    ensures noted { AreNoted plan.now (sees before.now) (status_of plan.now keeper.now.state) notes.new.items }
+    ensures noted { AreNoted plan.now (λ d. false) (status_of plan.now keeper.now.state) notes.new.items }
 {
+    keeper.check();
     let seen = keeper.seen();
     for index in 0..plan.len() {
         let device = Device::new(index);
-        let status = keeper.core().status(device);
-        let settled = leaves_note(before.contains(device), status);
+        let settled = has_settled(keeper.core().status(device));
         settle_note(plan, prober, notes, device, settled, &seen);
     }
 }

@@ -1,19 +1,20 @@
 //! Runs by many workers, over a board or with a lock.
 
-ghost use Rattle.std.specs.Prelude.{◌≡◌, ◌<◌, ◌≤◌, ◌⊎◌, ◌↔◌, IfOk, IfErr, OnOk, Ok, Some};
+ghost use Rattle.std.specs.Prelude.{◌≡◌, ◌<◌, ◌≤◌, ◌⊎◌, ◌↔◌, IfOk, IfErr, MatchResult, OnOk, Ok, Some};
 ghost use Rattle.std.specs.Result.{result_err};
 ghost use Rattle.bus_core.specs.declared.refusal.Refusal.TheVariants.{NoMemory as OutOfMemory};
+ghost use Rattle.bus_manager.specs.Keeper.{first_keeper};
 ghost use Rattle.bus_manager.specs.Run.{IsRun, IsRunOf};
 ghost use Rattle.bus_manager.specs.Workers.{AreRefused, most_workers};
 
-use crate::alone::{finish_alone, fresh_keeper};
+use crate::alone::finish_alone;
 use crate::boarded::run_boarded;
+use crate::keeper::Keeper;
 use crate::manager::{Manager, PlanName};
 use crate::notes::{Ran, no_notes, place_some};
 use crate::prober::Prober;
 use crate::resumed::run_resumed;
 use crate::run_error::RunError;
-use crate::seen::Seen;
 use crate::worker::work;
 use bus_core::{Core, Refusal};
 use bus_plan::Plan;
@@ -69,7 +70,8 @@ pub fn run<P: Prober, R: Threads + Sync>(
 }
 
 /// Goes on from a core, by so many workers over a board: its open flights are dropped, and what isn't settled is probed under
-/// the drivers that it has so far. A device that had settled leaves no note. After a refusal the core is dropped.
+/// the drivers that it has so far. A device that had settled isn't probed, and leaves no note. After a refusal the core is
+/// dropped.
 pub fn run_core<P: Prober, R: Threads + Sync>(
     rt: &R,
     alloc: Global,
@@ -99,6 +101,13 @@ pub fn run_locked<P: Prober, R: Threads + Wait + Sync>(
     answered(run_named::<Brand, P, R>(rt, alloc, plan, prober, workers))
 }
 
+// A keeper of a copy of the plan, with nothing begun.
+fn fresh_keeper(alloc: Global, plan: &Plan) -> Result<Keeper, Refusal>
+    ensures { MatchResult result (λ keeper. keeper ≡ first_keeper plan.now) (λ refusal. refusal ≡ OutOfMemory) }
+{
+    Keeper::new(alloc, plan.copy(alloc)?)
+}
+
 // A run with a lock, over the plan of this name.
 fn run_named<J: PlanName + Send + Sync, P: Prober, R: Threads + Wait + Sync>(
     rt: &R,
@@ -125,12 +134,5 @@ fn run_named<J: PlanName + Send + Sync, P: Prober, R: Threads + Wait + Sync>(
         workers,
     );
     place_some(plan, prober, &mut notes, found);
-    finish_alone(
-        alloc,
-        plan,
-        prober,
-        &Seen::new(),
-        manager.into_keeper(),
-        notes,
-    )
+    finish_alone(alloc, plan, prober, manager.into_keeper(), notes)
 }

@@ -59,10 +59,10 @@ fn land<P: Prober>(
 ) -> Worked<P::Note>
     requires own { IsFree board.now own.seat }
     requires other { IsFree board.now other.seat }
-    requires own_notes { AreAttested (P.attests prober.now plan.now) own.notes.items }
-    requires other_notes { AreAttested (P.attests prober.now plan.now) other.notes.items }
+    requires own_notes { AreAttested (P.attests prober.now plan.now) plan.now own.notes.items }
+    requires other_notes { AreAttested (P.attests prober.now plan.now) plan.now other.notes.items }
     ensures free { IsFree board.now result.seat }
-    ensures notes { AreAttested (P.attests prober.now plan.now) result.notes.items }
+    ensures notes { AreAttested (P.attests prober.now plan.now) plan.now result.notes.items }
 {
     let Worked {
         mut seat,
@@ -95,9 +95,9 @@ pub fn work<P: Prober, R: Threads + Sync>(
 ) -> Worked<P::Note>
     requires plan { board.now.plan ≡ plan.now }
     requires free { IsFree board.now own.seat }
-    requires notes { AreAttested (P.attests prober.now plan.now) own.notes.items }
+    requires notes { AreAttested (P.attests prober.now plan.now) plan.now own.notes.items }
     ensures free { IsFree board.now result.seat }
-    ensures notes { AreAttested (P.attests prober.now plan.now) result.notes.items }
+    ensures notes { AreAttested (P.attests prober.now plan.now) plan.now result.notes.items }
 {
     if !fly_on(alloc, board, plan, prober, crew, forks, &mut own) {
         crew.leave();
@@ -108,12 +108,12 @@ pub fn work<P: Prober, R: Threads + Sync>(
         return work(rt, alloc, board, plan, prober, crew, own, fewer);
     };
     let second = move || -> Worked<P::Note>
-        requires { IsSync R.row × (board.now.plan ≡ plan.now) × IsWorked (P.attests prober.now plan.now) board.now other }
-        ensures { IsWorked (P.attests prober.entry.now plan.entry.now) board.entry.now result }
+        requires { IsSync R.row × (board.now.plan ≡ plan.now) × IsWorked (P.attests prober.now plan.now) plan.now board.now other }
+        ensures { IsWorked (P.attests prober.entry.now plan.entry.now) plan.entry.now board.entry.now result }
     { work(rt, alloc, board, plan, prober, crew, other, fewer) };
     let first = move || -> Worked<P::Note>
-        requires { IsSync R.row × (board.now.plan ≡ plan.now) × IsWorked (P.attests prober.now plan.now) board.now own }
-        ensures { IsWorked (P.attests prober.entry.now plan.entry.now) board.entry.now result }
+        requires { IsSync R.row × (board.now.plan ≡ plan.now) × IsWorked (P.attests prober.now plan.now) plan.now board.now own }
+        ensures { IsWorked (P.attests prober.entry.now plan.entry.now) plan.entry.now board.entry.now result }
     { work(rt, alloc, board, plan, prober, crew, own, fewer) };
     let (theirs, mine) = thread::join(rt, second, first);
     land(board, plan, prober, mine, theirs)

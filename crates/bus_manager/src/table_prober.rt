@@ -2,7 +2,7 @@ ghost use Rattle.std.specs.Prelude.{◌≡◌, ◌<◌, length};
 ghost use Rattle.bus_core.specs.Report.{missing_supplier};
 ghost use Rattle.bus_manager.specs.Prober.{IsLawfulReport};
 ghost use Rattle.bus_manager.specs.Seen.{sees};
-ghost use Rattle.bus_manager.specs.TableProber.{table_report};
+ghost use Rattle.bus_manager.specs.TableProber.{table_report, ShowsTable};
 
 use crate::prober::Prober;
 use crate::seen::Seen;
@@ -16,13 +16,12 @@ pub struct TableProber;
 impl Prober for TableProber {
     type Note = Device;
 
-    ghost attests = { λ prober plan device note. note ≡ device };
+    ghost attests = { λ prober plan device seen report note. ShowsTable plan device seen report note };
 
     fn probe(&self, plan: &Plan, device: Device, seen: &Seen) -> (Report, Device)
         requires { device < length plan.now }
         ensures lawful { IsLawfulReport plan.now (sees seen.now) device result.0 }
-        ensures attests { result.1 ≡ device }
-        ensures first { result.0 ≡ table_report plan.now (sees seen.now) device }
+        ensures attests { ShowsTable plan.now device (sees seen.now) result.0 result.1 }
     {
         (table_report(plan, device, seen), device)
     }

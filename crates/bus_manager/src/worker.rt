@@ -4,13 +4,13 @@
 
 ghost use Rattle.std.specs.Prelude.{◌≡◌, ◌<◌, IfSome, Some, length, vec_len, vec_capacity};
 ghost use Rattle.std.specs.Thread.{IsSync};
-ghost use Rattle.bus_manager.specs.Private.Locked.{HasRoom};
+ghost use Rattle.bus_manager.specs.Private.Locked.{HasRoom, IsFlightOf};
 ghost use Rattle.bus_manager.specs.Private.Notes.{AreAttested};
 
 use crate::keeper::append;
 use crate::manager::{Flight, Manager, PlanName};
 use crate::notes::add_notes;
-use crate::prober::Prober;
+use crate::prober::{Prober, probe};
 use bus_plan::{Device, Plan};
 use std::alloc::Global;
 use std::sync::Wait;
@@ -34,10 +34,10 @@ fn fly<J: PlanName, P: Prober, R: Wait>(
     notes: &mut Vec<Noted<P::Note>>,
 )
     requires plan { plan.now ≡ J.plan }
-    requires within { flight.ticket.device < length plan.now }
+    requires flight { IsFlightOf plan.now flight }
     requires room { vec_len notes.old < vec_capacity notes.old }
-    requires notes { AreAttested (P.attests prober.now plan.now) notes.old.items }
-    ensures { AreAttested (P.attests prober.now plan.now) notes.new.items }
+    requires notes { AreAttested (P.attests prober.now plan.now) plan.now notes.old.items }
+    ensures { AreAttested (P.attests prober.now plan.now) plan.now notes.new.items }
 {
     let Flight {
         ticket,
@@ -45,7 +45,7 @@ fn fly<J: PlanName, P: Prober, R: Wait>(
         more: _,
     } = flight;
     let device = ticket.device;
-    let (report, note) = prober.probe(plan, device, &seen);
+    let (report, note) = probe(plan, prober, device, &seen);
     if manager.finish(rt, &ticket, report) {
         append(notes, Noted { device, note });
     }
@@ -62,8 +62,8 @@ fn begin<J: PlanName, P: Prober, R: Wait>(
 )
     requires plan { plan.now ≡ J.plan }
     requires room { HasRoom plan.now flight (vec_len notes.old) (vec_capacity notes.old) }
-    requires notes { AreAttested (P.attests prober.now plan.now) notes.old.items }
-    ensures { AreAttested (P.attests prober.now plan.now) notes.new.items }
+    requires notes { AreAttested (P.attests prober.now plan.now) plan.now notes.old.items }
+    ensures { AreAttested (P.attests prober.now plan.now) plan.now notes.new.items }
 {
     match flight {
         Some(flight) => fly(rt, manager, plan, prober, flight, notes),
@@ -82,9 +82,9 @@ fn fly_on<J: PlanName, P: Prober, R: Wait>(
     notes: &mut Vec<Noted<P::Note>>,
 ) -> Option<Flight>
     requires plan { plan.now ≡ J.plan }
-    requires notes { AreAttested (P.attests prober.now plan.now) notes.old.items }
+    requires notes { AreAttested (P.attests prober.now plan.now) plan.now notes.old.items }
     ensures room { HasRoom plan.now result (vec_len notes.new) (vec_capacity notes.new) }
-    ensures notes { AreAttested (P.attests prober.now plan.now) notes.new.items }
+    ensures notes { AreAttested (P.attests prober.now plan.now) plan.now notes.new.items }
     ensures forks { IfSome result (λ flight. 0 < forks) }
 {
     for _ in rt.forever() {
@@ -123,8 +123,8 @@ pub fn work<J: PlanName + Send + Sync, P: Prober, R: Threads + Wait + Sync>(
 ) -> Vec<Noted<P::Note>>
     requires plan { plan.now ≡ J.plan }
     requires room { HasRoom plan.now flight (vec_len notes) (vec_capacity notes) }
-    requires notes { AreAttested (P.attests prober.now plan.now) notes.items }
-    ensures { AreAttested (P.attests prober.now plan.now) result.items }
+    requires notes { AreAttested (P.attests prober.now plan.now) plan.now notes.items }
+    ensures { AreAttested (P.attests prober.now plan.now) plan.now result.items }
 {
     begin(rt, manager, plan, prober, flight, &mut notes);
     let Some(flight) = fly_on(rt, manager, plan, prober, forks, &mut notes) else {
@@ -133,7 +133,7 @@ pub fn work<J: PlanName + Send + Sync, P: Prober, R: Threads + Wait + Sync>(
     let fewer = forks - 1;
     let second = move || -> Vec<Noted<P::Note>>
         requires { IsSync R.row × IsSync J.row × (plan.now ≡ J.plan) }
-        ensures { AreAttested (P.attests prober.entry.now plan.entry.now) result.items }
+        ensures { AreAttested (P.attests prober.entry.now plan.entry.now) plan.entry.now result.items }
     {
         work(
             rt,
@@ -149,8 +149,8 @@ pub fn work<J: PlanName + Send + Sync, P: Prober, R: Threads + Wait + Sync>(
     let first = move || -> Vec<Noted<P::Note>>
         requires { IsSync R.row × IsSync J.row × (plan.now ≡ J.plan)
             × HasRoom plan.now (Some flight) (vec_len notes) (vec_capacity notes)
-            × AreAttested (P.attests prober.now plan.now) notes.items }
-        ensures { AreAttested (P.attests prober.entry.now plan.entry.now) result.items }
+            × AreAttested (P.attests prober.now plan.now) plan.now notes.items }
+        ensures { AreAttested (P.attests prober.entry.now plan.entry.now) plan.entry.now result.items }
     { work(rt, alloc, manager, plan, prober, Some(flight), notes, fewer) };
     let (theirs, mut mine) = thread::join(rt, second, first);
     add_notes(plan, prober, &mut mine, theirs);

@@ -127,15 +127,23 @@ fn answer_of(rt: &impl Abort, core: &Core, device: Device) -> Report {
     report
 }
 
-/// Begins and finishes whatever is due, each probe as its driver would answer, and counts the begins.
+/// Begins and finishes a due device, whose probe ends as its driver would answer, and says whether there was one.
+pub(crate) fn step(rt: &impl Abort, core: &mut Core) -> bool {
+    let Some(device) = core.next() else {
+        return false;
+    };
+    let report = answer_of(rt, core, device);
+    let ticket = begin(rt, core, device);
+    let _reply = finish(rt, core, &ticket, report).expect(rt, "a reply");
+    true
+}
+
+/// Begins and finishes whatever is due, and counts the begins.
 pub(crate) fn drain(rt: &impl Abort, core: &mut Core) -> usize {
     for begins in 0..10_000 {
-        let Some(device) = core.next() else {
+        if !step(rt, core) {
             return begins;
-        };
-        let report = answer_of(rt, core, device);
-        let ticket = begin(rt, core, device);
-        let _reply = finish(rt, core, &ticket, report).expect(rt, "a reply");
+        }
     }
     panic!(rt; "it never ends")
 }

@@ -1,6 +1,6 @@
 //! A prober whose first probe waits for the second, which shows that two workers probe at once.
 
-ghost use Rattle.std.specs.Prelude.{◌≡◌};
+ghost use Rattle.bus_manager.specs.TableProber.{ShowsTable};
 
 use bus_core::Report;
 use bus_manager::{Prober, Seen, TableProber};
@@ -39,7 +39,7 @@ impl Gate {
 impl Prober for Gate {
     type Note = Device;
 
-    ghost attests = { λ prober plan device note. note ≡ device };
+    ghost attests = { λ prober plan device seen report note. ShowsTable plan device seen report note };
 
     fn probe(&self, plan: &Plan, device: Device, seen: &Seen) -> (Report, Device) {
         if self.begun.fetch_add(1, Ordering::SeqCst) == 0 {

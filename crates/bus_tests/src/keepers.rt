@@ -2,7 +2,7 @@
 
 ghost use Rattle.std.specs.Prelude.{◌<◌, length};
 
-use bus_core::{Refusal, Reply, Report, Ticket};
+use bus_core::{MAX_BEGINS, Refusal, Reply, Report, Ticket};
 use bus_manager::{Keeper, Prober, Seen, TableProber};
 use bus_plan::{Device, read_plan};
 use std::alloc::Global;
@@ -155,4 +155,34 @@ fn abandoned_flight(rt: HostRuntime) {
     let mut keeper = clock_bound(&rt, rt.alloc(), hasher);
     the_flight_is_abandoned(&rt, &mut keeper);
     the_last_flight_settles(&rt, rt.alloc(), &mut keeper);
+}
+
+// Begins the device that is due and drops its flight, unless memory is refused.
+fn begins_in_vain(rt: &impl Abort, keeper: &mut Keeper) {
+    match keeper.take() {
+        Ok(taken) => {
+            let (ticket, _) = taken.expect(rt, "a device due");
+            assert_eq!(rt; abandon(rt, keeper, ticket.device), Ok(()));
+        }
+        Err(refusal) => assert_eq!(rt; refusal, Refusal::NoMemory),
+    }
+}
+
+fn uses_up_its_begins(rt: &impl Abort, keeper: &mut Keeper) {
+    for _begin in 0..MAX_BEGINS {
+        begins_in_vain(rt, keeper);
+    }
+}
+
+/// Once all begins are used up a due device is refused, time and again.
+#[test]
+fn begins_are_used_up(rt: HostRuntime) {
+    let hasher = RandomState::new(&rt).expect(&rt, "a seed");
+    let mut keeper = uart_and_clock(&rt, rt.alloc(), hasher);
+    uses_up_its_begins(&rt, &mut keeper);
+    for _take in 0..3 {
+        let refusal = keeper.take().err().expect(&rt, "it began");
+        assert_eq!(&rt; refusal, Refusal::TooManyEvents);
+    }
+    assert!(&rt; !keeper.core().is_quiet());
 }

@@ -196,6 +196,49 @@ fn the_driver_comes_late(rt: &impl Abort, alloc: Global, keeper: &mut Keeper) {
     assert_eq!(rt; again, Err(Refusal::KnownDriver));
 }
 
+/// A keeper, and a driver that may come.
+struct Coming {
+    keeper: Keeper,
+    name: Name,
+    compatibles: Compatibles,
+}
+
+fn coming_if_there_is_memory(alloc: Global, hasher: RandomState, line: &[u8]) -> Option<Coming> {
+    let plan = read_plan(alloc, hasher, LATE.as_bytes()).ok()?;
+    let mut events = read_schedule(alloc, &plan, line).ok()?;
+    let keeper = Keeper::new(alloc, plan).ok()?;
+    match events.pop()? {
+        Event::Register(name, compatibles) => Some(Coming {
+            keeper,
+            name,
+            compatibles,
+        }),
+        _ => None,
+    }
+}
+
+fn is_known(rt: &impl Abort, alloc: Global, coming: Coming) {
+    let Coming {
+        mut keeper,
+        name,
+        compatibles,
+    } = coming;
+    is_named(rt, &name);
+    let answer = keeper.register(alloc, &name, compatibles.as_slice());
+    assert_eq!(rt; answer, Err(Refusal::KnownDriver));
+}
+
+/// A driver that is known is refused before memory is asked for. Run with `--fail-alloc N`, which refuses the Nth request,
+/// this test finds the same answer unless that is one of those that make the keeper and the driver.
+#[test]
+fn known_drivers_take_no_memory(rt: HostRuntime) {
+    let hasher = RandomState::new(&rt).expect(&rt, "a seed");
+    let line = b"driver fixed ns16550a\n";
+    if let Some(coming) = coming_if_there_is_memory(rt.alloc(), hasher, line) {
+        is_known(&rt, rt.alloc(), coming);
+    }
+}
+
 fn its_device_is_bound(rt: &impl Abort, alloc: Global, keeper: &mut Keeper) {
     binds(rt, keeper);
     let report = keeper.report(alloc).expect(rt, "a report");

@@ -8,8 +8,6 @@ mod chains;
 #[cfg(test)]
 mod cores;
 #[cfg(test)]
-mod counting;
-#[cfg(test)]
 mod counts;
 pub mod gate;
 #[cfg(test)]
@@ -21,3 +19,7 @@ mod registrations;
 pub mod replays;
 #[cfg(test)]
 mod runs;
+pub mod shapes;
+#[cfg(test)]
+mod told;
+pub mod watching;

@@ -1,8 +1,9 @@
 -- What `probe_bytes` answers: the end report of the plan of a blob and a driver file, or the first fault, that of the workers last.
-use Rattle.std.specs.Prelude.{◌≡◌, ◌⊎◌, ℕ, List, Result, Ok, MatchResult}
+use Rattle.std.specs.Prelude.{◌≡◌, ◌⊎◌, ℕ, Bool, List, Result, Ok, MatchResult}
 use Rattle.dt_tree.specs.TreeData.{TreeData}
 use Rattle.bus_plan.specs.declared.error.PlanError.{PlanError}
 use Rattle.bus_plan.specs.Plan.{PlannedDevice}
+use Rattle.bus_core.specs.declared.event.Report.{Report}
 use Rattle.bus_manager.specs.Run.{IsRun}
 use Rattle.bus_manager.specs.declared.notes.Ran.{Ran}
 use Rattle.dtman_engine.specs.declared.fault.Fault.{Fault}
@@ -16,18 +17,18 @@ CannotProbe tree drivers workers fault =
     CannotPlan tree drivers fault ⊎ ((plan : List PlannedDevice) × (planning tree drivers ≡ Ok plan) × CannotRun workers fault)
 
 -- a run of the plan of a tree and a driver file
-pub record IsProbeOf {N : Type 0} (attests : List PlannedDevice → ℕ → N → Type 0) (planned : Result (List PlannedDevice) PlanError) (ran : Ran N) : Type 0 where
+pub record IsProbeOf {N : Type 0} (attests : List PlannedDevice → ℕ → (ℕ → Bool) → Report → N → Type 0) (planned : Result (List PlannedDevice) PlanError) (ran : Ran N) : Type 0 where
   pub plan : List PlannedDevice
   pub is_planned : planned ≡ Ok plan
   pub run : IsRun (attests plan) plan ran.report.items ran.notes.items
 
 -- the answer to a tree and a driver file: a run of their plan, or why there is none
-abbrev pub Probes : {N : Type 0} → (List PlannedDevice → ℕ → N → Type 0) → TreeData → List ℕ → ℕ → Result (Ran N) Fault → Type 0
+abbrev pub Probes : {N : Type 0} → (List PlannedDevice → ℕ → (ℕ → Bool) → Report → N → Type 0) → TreeData → List ℕ → ℕ → Result (Ran N) Fault → Type 0
 Probes attests tree drivers workers given =
     MatchResult given (IsProbeOf attests (planning tree drivers)) (λ fault. CannotProbe tree drivers workers (fault_value fault))
 
 -- a run of the plan of a tree that the bytes hold: its one end report, and a note of each device that it has settled
-pub record IsProbe {N : Type 0} (attests : List PlannedDevice → ℕ → N → Type 0) (blob drivers : List ℕ) (ran : Ran N) : Type 0 where
+pub record IsProbe {N : Type 0} (attests : List PlannedDevice → ℕ → (ℕ → Bool) → Report → N → Type 0) (blob drivers : List ℕ) (ran : Ran N) : Type 0 where
   pub plan : List PlannedDevice
   pub planned : IsPlanned blob drivers plan
   pub run : IsRun (attests plan) plan ran.report.items ran.notes.items

@@ -1,8 +1,9 @@
 -- What `replay_run_bytes` answers: the end report of the core that a schedule leads to, or the first fault, that of the
 -- workers last.
-use Rattle.std.specs.Prelude.{◌≡◌, ◌⊎◌, ℕ, List, Result, Ok, Err}
+use Rattle.std.specs.Prelude.{◌≡◌, ◌⊎◌, ℕ, Bool, List, Result, Ok, Err}
 use Rattle.bus_plan.specs.Plan.{PlannedDevice}
 use Rattle.bus_core.specs.CoreState.{CoreValue}
+use Rattle.bus_core.specs.declared.event.Report.{Report}
 use Rattle.bus_manager.specs.Run.{IsRunOf}
 use Rattle.bus_manager.specs.declared.notes.Ran.{Ran}
 use Rattle.dtman_engine.specs.Fault.{FaultValue, no_memory}
@@ -11,7 +12,7 @@ use Rattle.dtman_engine.specs.Replay.{replaying}
 
 -- a run that goes on from the core that the schedule leads to: its one end report under the drivers so far, and a note
 -- of each device that has settled since
-pub record IsReplayRun {N : Type 0} (attests : List PlannedDevice → ℕ → N → Type 0) (plan_file schedule : List ℕ) (ran : Ran N) : Type 0 where
+pub record IsReplayRun {N : Type 0} (attests : List PlannedDevice → ℕ → (ℕ → Bool) → Report → N → Type 0) (plan_file schedule : List ℕ) (ran : Ran N) : Type 0 where
   pub core : CoreValue
   pub replayed : replaying plan_file schedule ≡ Ok core
   pub run : IsRunOf (attests core.plan) core ran.report.items ran.notes.items

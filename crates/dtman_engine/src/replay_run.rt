@@ -14,7 +14,7 @@ use std::hash::RandomState;
 use std::thread::Threads;
 
 /// Replays a schedule over a plan, and goes on from there by so many workers, 1 to 64, until the bus is quiet. Flights that
-/// the schedule left open are dropped first. A device that the schedule settled leaves no note.
+/// the schedule left open are dropped first. A device that the schedule settled isn't probed, and leaves no note.
 ///
 /// The faults of `replay_bytes` come first, then `TooManyWorkers`.
 pub fn replay_run_bytes<P: Prober, R: Threads + Sync>(

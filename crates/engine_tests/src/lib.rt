@@ -28,3 +28,5 @@ mod plugins;
 mod probes;
 #[cfg(test)]
 mod programs;
+#[cfg(test)]
+mod told;

@@ -1,7 +1,8 @@
 //! The identity registers of a board, and drivers that read them.
-ghost use Rattle.std.specs.Prelude.{◌≡◌, ◌<◌, length};
+ghost use Rattle.std.specs.Prelude.{◌<◌, length};
 ghost use Rattle.bus_manager.specs.Prober.{IsLawfulReport};
 ghost use Rattle.bus_manager.specs.Seen.{sees};
+ghost use Rattle.bus_manager.specs.TableProber.{ShowsTable};
 
 use bstr::ByteSlice;
 use bus_core::Report;
@@ -45,8 +46,8 @@ fn number(word: &[u8]) -> Option<u8> {
 impl Prober for Registers<'_> {
     type Note = Found;
 
-    // A note says which device was probed.
-    ghost attests = { λ prober plan device found. found.device ≡ device };
+    // A note says which device was probed, and that its report is what the plan says by the devices that were bound then.
+    ghost attests = { λ prober plan device seen report found. ShowsTable plan device seen report found.device };
 
     /// A driver reads its device once its suppliers are there. Else the device is deferred, and its register isn't read.
     fn probe(&self, plan: &Plan, device: Device, seen: &Seen) -> (Report, Found) {

@@ -10,6 +10,8 @@ mod expressions;
 #[cfg(test)]
 mod lexemes;
 #[cfg(test)]
+mod places;
+#[cfg(test)]
 mod sources;
 #[cfg(test)]
 mod tree_builders;

@@ -24,4 +24,7 @@ fn a_child(rt: HostRuntime) {
 #[test]
 fn rows_are_computed() {
     dt_meaning::worked_rows();
+    dt_meaning::worked_rows_of_dtc();
+    dt_meaning::nodes_at_places();
+    dt_meaning::properties_at_places();
 }

@@ -1,9 +1,11 @@
 -- What a worker's seat has while it probes a device, and when it leaves.
-use Rattle.std.specs.Prelude.{◌≡◌, ℕ, ◌<◌, List, [], length, Some, None, slice_get}
+use Rattle.std.specs.Prelude.{◌≡◌, ℕ, ◌<◌, Bool, List, [], length, Some, None, slice_get}
 use Rattle.bus_board.specs.Shown.{Posted, Seated, IsOf}
 use Rattle.bus_board.specs.Views.{last_look}
 use Rattle.bus_board.specs.declared.view.View.{View}
 use Rattle.bus_board.specs.declared.view.Flight.{Flight}
+use Rattle.bus_plan.specs.Plan.{PlannedDevice}
+use Rattle.bus_core.specs.declared.event.Report.{Report}
 use Rattle.bus_manager.specs.declared.seats.Worked.{Worked}
 use Rattle.bus_manager.specs.Private.Notes.{AreAttested}
 use Rattle.bus_manager.specs.Seen.{sees}
@@ -34,6 +36,6 @@ pub record HasTaken (board : Posted) (seat : Seated) (d : ℕ) : Type 0 where
   pub looked : HasLooked seat.view d [] [] 0
   pub owed : seat.view.owed ≡ []
 
--- what a worker has and leaves: a free seat of the board, and notes that attest their devices
-abbrev pub IsWorked : {N : Type 0} → (ℕ → N → Type 0) → Posted → Worked N → Type 0
-IsWorked attests board worked = IsFree board worked.seat × AreAttested attests worked.notes.items
+-- what a worker has and leaves: a free seat of the board, and notes that show their devices
+abbrev pub IsWorked : {N : Type 0} → (ℕ → (ℕ → Bool) → Report → N → Type 0) → List PlannedDevice → Posted → Worked N → Type 0
+IsWorked attests plan board worked = IsFree board worked.seat × AreAttested attests plan worked.notes.items

@@ -1,5 +1,6 @@
 -- What a worker does next, by what stands under the lock, and what it leaves there.
-use Rattle.std.specs.Prelude.{◌≡◌, ◌≢◌, ◌<◌, ℕ, Bool, true, false, None}
+use Rattle.std.specs.Prelude.{◌≡◌, ◌≢◌, ◌<◌, ℕ, Bool, true, false, List, None}
+use Rattle.bus_plan.specs.Plan.{PlannedDevice}
 use Rattle.bus_core.specs.Due.{is_due, is_quiet}
 use Rattle.bus_core.specs.Step.{finish_refusal}
 use Rattle.bus_core.specs.declared.event.Reply.{Reply}
@@ -11,6 +12,7 @@ use Rattle.bus_manager.specs.declared.manager.Turn.{Turn}
 use Rattle.bus_manager.specs.declared.manager.Turn.TheVariants.{Fly, Wait, Quiet}
 use Rattle.bus_manager.specs.Keeper.{KeeperValue, IsTaken, finished_keeper}
 use Rattle.bus_manager.specs.Private.Counts.{open_flights}
+use Rattle.bus_manager.specs.Private.Locked.{IsFlightOf}
 
 -- whether a device is due
 abbrev pub IsMoreDue : KeeperValue → Bool → Type 0
@@ -23,6 +25,12 @@ abbrev pub IsTurn : KeeperValue → KeeperValue → Turn → Type 0
 IsTurn old new (Fly flight) = IsTaken old new flight.ticket flight.seen × IsMoreDue new flight.more
 IsTurn old new Wait = (new ≡ old) × ((d : ℕ) → is_due old.plan old.state d ≡ false) × (0 < open_flights old.state)
 IsTurn old new Quiet = (new ≡ old) × (is_quiet old.plan old.state ≡ true)
+
+-- the flight of a turn is of a device of the plan, and saw bound what is so at the end
+abbrev pub IsTurnOf : List PlannedDevice → Turn → Type 0
+IsTurnOf plan (Fly flight) = IsFlightOf plan flight
+IsTurnOf plan Wait = Unit {0}
+IsTurnOf plan Quiet = Unit {0}
 
 -- the reply to a settle
 abbrev pub tells_settled : Reply → Bool

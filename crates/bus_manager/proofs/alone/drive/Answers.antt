@@ -5,6 +5,7 @@ use Rattle.bus_manager.specs.Prober.{IsLawfulReport}
 use Rattle.bus_manager.specs.Seen.{sees}
 use Rattle.bus_manager.proofs.Few.{only-memory}
 use Rattle.bus_manager.proofs.Accepted.{lawful-accepted}
+use Rattle.bus_manager.proofs.Forced.{taken-forced}
 use Rattle.bus_manager.proofs.Landing.{landed-quiet, driven}
 use Rattle.bus_manager.proofs.alone.drive.Goals as goal
 
@@ -37,3 +38,8 @@ returns-in-Ok-clause-driven g c =
     let taken = rw c.in-Ok-Some.field-0-is at c.in-Ok-Some.ensures.some
     in λ _. driven c.args.keeper.now c.take.new.self c.finish.new.self _ _ _ c.check.ensures (omega (arith, c.check-2.ensures.few, ap length c.requires.plan)) (omega (arith, c.requires.few, ap length c.requires.plan)) c.requires.landed
     taken c.in-Ok.ensures.finished
+
+pub probe-note-requires-clause-forced : goal.probe-note-requires-clause-forced
+probe-note-requires-clause-forced g c =
+    let taken = rw c.in-Ok-Some.field-0-is at c.in-Ok-Some.ensures.some
+    in λ _ _. taken-forced c.args.keeper.now c.take.new.self c.args.plan.now c.check.ensures c.requires.plan c.in-Ok-Some.flight.0 c.in-Ok-Some.flight.1 taken

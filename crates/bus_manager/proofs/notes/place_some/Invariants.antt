@@ -1,11 +1,11 @@
-use Rattle.std.proofs.Common.{All, vec_len}
-use Rattle.bus_manager.specs.Private.Notes.{AreNotes}
+use Rattle.std.proofs.Common.{vec_len}
+use Rattle.bus_manager.specs.Private.Notes.{AreAttested, AreNotes}
 use Rattle.bus_manager.proofs.notes.place_some.Given as goal
 
 abbrev pub invariant-placing : goal.invariant-placing
 invariant-placing g l = record {
   notes_are : AreNotes (g.P.Prober.attests l.prober l.plan) l.plan l.notes.items;
-  found_are : All (λ n. g.P.Prober.attests l.prober l.plan n.device n.note) l.found.items;
+  found_are : AreAttested (g.P.Prober.attests l.prober l.plan) l.plan l.found.items;
 }
 
 abbrev pub decreases-placing : goal.decreases-placing

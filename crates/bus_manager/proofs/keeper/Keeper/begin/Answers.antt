@@ -5,7 +5,7 @@ use Rattle.bus_core.specs.Due.{is_due}
 use Rattle.bus_core.specs.Step.{begin_refusal, begin_state}
 use Rattle.bus_manager.specs.Private.KeeperView.{IsSoundKeeper}
 use Rattle.bus_manager.proofs.Steps.{begun-sound}
-use Rattle.bus_manager.proofs.keeper.Keeper.begin_due.Goals as goal
+use Rattle.bus_manager.proofs.keeper.Keeper.begin.Goals as goal
 
 pub invariant_of-self-2 : goal.invariant_of-self-2
 invariant_of-self-2 c =
