@@ -1,10 +1,11 @@
 //! `why`, `needs`, `drivers`, `trace` and `probe --without` over files in memory.
 
-use super::clock_and_uart::BLOB;
+use super::clock_and_uart::{BLOB, DANGLING};
 use super::runs::{Files, Row, rows_end};
 
 const FILES: Files = &[
     ("board.dtb", BLOB),
+    ("dangling.dtb", DANGLING),
     (
         "board.drivers",
         b"driver fixed fixed-clock\ndriver ns ns16550a\n",
@@ -214,6 +215,50 @@ fn answers_by_the_links_of_linux(rt: HostRuntime) {
             0,
             "/uart ns\ndrivers ns\n",
             "",
+        ),
+        (
+            &[
+                "dtman",
+                "plan",
+                "dangling.dtb",
+                "board.drivers",
+                "--links=linux",
+            ],
+            0,
+            "/clk fixed ok\n/uart ns ok\n",
+            "warning: /uart: clocks: entry 0 is malformed or leads nowhere\n",
+        ),
+        (
+            &["dtman", "plan", "dangling.dtb", "board.drivers"],
+            1,
+            "",
+            "error 54 DanglingPhandle\n",
+        ),
+        (
+            &[
+                "dtman",
+                "probe",
+                "board.dtb",
+                "board.drivers",
+                "--links=linux",
+                "--without=fixed",
+            ],
+            0,
+            "/clk unmatched\n/uart waiting /clk\nquiet\n",
+            "",
+        ),
+        (
+            &[
+                "dtman",
+                "why",
+                "board.dtb",
+                "board.drivers",
+                "/nix",
+                "--links=linux",
+            ],
+            1,
+            "",
+            "error 53 UnknownPath\n",
         ),
         (
             &["dtman", "plan", "board.dtb", "board.drivers", "--links=bsd"],
