@@ -125,7 +125,7 @@ fn top<'a>(alloc: Global) -> Command<'a>
 {
     Command::new(alloc, "dtman")
         .about("Devicetree compiler and driver-binding manager")
-        .version("0.2")
+        .version("0.3")
         .after_help(STATUSES)
         .subcommand_required(true)
 }
