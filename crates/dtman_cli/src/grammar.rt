@@ -29,8 +29,8 @@ nested at most 64 deep; a plan has at most 4,096 devices, a schedule at
 most 500,000 begins.
 
 With --links linux a plan has the device links that Linux 6.1 makes of a tree in
-place of a table's, and a driver file may have lines `early COMPATIBLE..` (set up
-before the bus) and `bus COMPATIBLE..` (makes its devices without a driver).
+place of a table's, and a driver file may have lines `early COMPATIBLE..` (set
+up before the bus) and `bus COMPATIBLE..` (makes its devices without a driver).
 
 Workers are 1 to 64: of `probe` 4 where none are named; `replay` binds what is
 left by workers only where they are named.

@@ -8,6 +8,7 @@ use Rattle.bus_plan.specs.declared.verdict.Verdict.TheVariants.{Binds, Fails}
 use Rattle.bus_core.specs.Least.{IsLeast, IsClosed}
 use Rattle.bus_core.specs.Ready.{is_ready}
 use Rattle.bus_core.specs.Report.{end_status}
+use Rattle.bus_core.specs.declared.event.Report.{Report}
 use Rattle.bus_core.specs.declared.status.Status.TheVariants as status
 use Rattle.bus_core.proofs.HistoryLemmas.{matched-below, matched-available, ready-matched, ready-weaker}
 use Rattle.bus_manager.specs.Notes.{has_settled, has_note}
@@ -44,7 +45,7 @@ module _ (plan : List PlannedDevice) (set : ℕ → Bool) (least : IsLeast plan 
   least-closed d ready binds =
       (least d).1 (λ other closed. closed d (ready-weaker plan set other (λ e held. (least e).0 held other closed) d ready) (binds-is (verdict_of plan d) binds))
 
-pub end-least : (attests : ℕ → ℕ → Type 0) (plan : List PlannedDevice) (report : List ℕ) (notes : List (Option ℕ)) (bound : List Bool)
+pub end-least : (attests : ℕ → (ℕ → Bool) → Report → ℕ → Type 0) (plan : List PlannedDevice) (report : List ℕ) (notes : List (Option ℕ)) (bound : List Bool)
     → IsRun attests plan report notes → AreBound plan notes bound → IsLeast plan (bound_by bound)
 end-least attests plan report notes bound run are d =
     (λ held. (run.ends.least d).0 (sym same ∙ held), λ inside. same ∙ (run.ends.least d).1 inside)

@@ -70,7 +70,7 @@ fn all<S: Reasons>(
 }
 
 // Of the device at a path, or else of all.
-fn waits<S: Reasons>(
+fn waits_of<S: Reasons>(
     alloc: Global,
     plan: &Plan,
     reasons: &S,
@@ -95,7 +95,7 @@ pub fn why_text<S: Reasons, R: Threads + Sync>(
     path: Option<&[u8]>,
 ) -> Result<Waits, Fault> {
     match end_of(rt, alloc, plan) {
-        Ok(bound) => waits(alloc, plan, reasons, bound.as_slice(), path),
+        Ok(bound) => waits_of(alloc, plan, reasons, bound.as_slice(), path),
         Err(fault) => Err(fault),
     }
 }

@@ -175,7 +175,7 @@ fn answers_by_the_links_of_linux(rt: HostRuntime) {
                 "--links=linux",
             ],
             0,
-            "# early /clk\n/clk - -\ncompatible /clk fixed-clock\n/uart ns ok\n",
+            "# early /clk\n/clk - -\n/uart ns ok\ncompatible /clk fixed-clock\n",
             "",
         ),
         (
