@@ -191,6 +191,18 @@ pub fn needed<'a, S: Surroundings>(
     }
 }
 
+// A file's text, or none where no file is named.
+fn text_of<'a, S: Surroundings>(
+    alloc: Global,
+    surroundings: &mut S,
+    path: Option<&'a str>,
+) -> Result<Vec<u8>, Failure<'a>> {
+    match path {
+        Some(path) => text_at(alloc, surroundings, path),
+        None => Ok(Vec::new(alloc)),
+    }
+}
+
 /// The driver file of an installation. What it leaves out is told as warnings.
 pub fn made<'a, S: Surroundings, E: Eprint>(
     alloc: Global,
@@ -200,19 +212,15 @@ pub fn made<'a, S: Surroundings, E: Eprint>(
     builtin: Option<&'a str>,
 ) -> Result<Vec<u8>, Failure<'a>> {
     let aliases = text_at(alloc, surroundings, aliases)?;
-    let builtin = match builtin {
-        Some(path) => text_at(alloc, surroundings, path)?,
-        None => Vec::new(alloc),
-    };
+    let builtin = text_of(alloc, surroundings, builtin)?;
     let hasher = seed(surroundings)?;
-    let Installed { drivers, warnings } = installed_drivers(
-        alloc,
-        hasher,
-        aliases.as_slice(),
-        builtin.as_slice(),
-    )?;
-    warn(errors, warnings.as_slice());
-    Ok(drivers)
+    match installed_drivers(alloc, hasher, aliases.as_slice(), builtin.as_slice()) {
+        Ok(Installed { drivers, warnings }) => {
+            warn(errors, warnings.as_slice());
+            Ok(drivers)
+        }
+        Err(fault) => Err(Failure::Refused(fault)),
+    }
 }
 
 /// The schedule of a log. What it leaves out is told as warnings.
