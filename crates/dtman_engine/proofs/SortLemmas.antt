@@ -1,5 +1,5 @@
 -- From what the parts answer to what a sorted blob is.
-use Rattle.std.proofs.Common.{◌≡◌, inl, inr, ℕ, List, length, Result, Ok, Err, IfOk, IfErr, MatchResult}
+use Rattle.std.proofs.Common.{◌≡◌, ◌≤◌, inl, inr, ℕ, List, length, Result, Ok, Err, IfOk, IfErr, MatchResult}
 use Rattle.dt_tree.specs.TreeData.{TreeData, IsTree}
 use Rattle.dt_sort.specs.Sorted.{IsSortedTree}
 use Rattle.dt_blob.specs.Blob.{blob_of}
