@@ -16,12 +16,12 @@ fn push(rt: &impl Abort, text: &mut String, part: &str) {
 
 // A device with its phandle, and the clocks that it names.
 fn push_device(rt: &impl Abort, alloc: Global, text: &mut String, place: usize) {
-    let phandle = place + 1;
+    let phandle = place.wrapping_add(1);
     let head = format!(in alloc; "d{place} {{ compatible = \"c\"; phandle = <{phandle}>; ");
     push(rt, text, head.expect(rt, "memory").as_str());
     push(rt, text, "#clock-cells = <0>; clocks = <");
     for step in 1..=NAMED {
-        let named = (place + step) % MAX_DEVICES + 1;
+        let named = place.wrapping_add(step) % MAX_DEVICES + 1;
         let cell = format!(in alloc; "{named} ").expect(rt, "memory");
         push(rt, text, cell.as_str());
     }
