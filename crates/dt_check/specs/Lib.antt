@@ -1,0 +1,11 @@
+pub mod Buses
+pub mod Cells
+pub mod Fault
+pub mod Names
+pub mod Nodes
+pub mod Private
+pub mod Ranges
+pub mod Reg
+pub mod Texts
+pub mod Unit
+pub mod UnitRules
