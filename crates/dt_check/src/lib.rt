@@ -4,14 +4,19 @@
 //! of dtc 1.6.1.
 #![tactic(auto)]
 
+mod addresses;
+mod bridges;
 mod buses;
+mod chosen;
 mod fault;
 mod here;
 mod message;
 mod names;
+mod pci;
 mod placed;
 mod ranges;
 mod reg;
+mod style;
 mod survey;
 mod texts;
 mod unit;
