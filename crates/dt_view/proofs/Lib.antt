@@ -1,0 +1,5 @@
+mod Beginnings
+mod Descents
+mod Goings
+mod Overviews
+mod Shapes
