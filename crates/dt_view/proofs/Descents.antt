@@ -183,7 +183,7 @@ pub behind_begin : (view : View) (at : ℕ) (ps : List Property) (children rest 
     → Ahead view at ((property_tokens ps ++ (sibling_tokens children ++ end_node ∷ sibling_tokens rest)) ++ ts) → Ahead view at (property_tokens ps ++ (sibling_tokens children ++ end_node ∷ (sibling_tokens rest ++ ts)))
 behind_begin view at ps children rest ts a = subst (λ (x : List Token). Ahead view at x) (regrouped ps children rest ts) a
 
-abbrev the_node : List ℕ → List Property → Siblings → NodeData
+abbrev pub the_node : List ℕ → List Property → Siblings → NodeData
 the_node name ps children = record { name = name; properties = ps; children = children }
 
 -- the first of nodes side by side stands where they do

@@ -3,11 +3,16 @@
 
 mod checking;
 mod error;
+mod finding;
+mod laws;
 mod nodes;
+mod properties;
 mod stages;
 mod tokens;
 mod view;
 
 pub use error::ViewError;
+pub use laws::{first_of_siblings, held_is_shown};
 pub use nodes::NodeOffset;
+pub use properties::{PropertyOffset, ViewProperty};
 pub use view::View;

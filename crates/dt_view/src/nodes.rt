@@ -1,14 +1,12 @@
 //! Walks from node to node.
-ghost use Rattle.std.specs.Prelude.{◌≡◌, ◌∷◌, ◌++◌, [], List, IsOkAnd, MatchOption, true, ℕ};
+ghost use Rattle.std.specs.Prelude.{◌≡◌, ◌≤◌, ◌∷◌, ◌++◌, [], List, IfOk, IsOkAnd, MatchOption, true, ℕ};
 ghost use Rattle.dt_tree.specs.NodeData.{NodeData, Siblings, none, more};
-ghost use Rattle.dt_tree.specs.PathMap.{child_named};
 ghost use Rattle.dt_tree.specs.TreeData.{TreeData};
 ghost use Rattle.dt_tree.specs.declared.property.Property.{Property};
 ghost use Rattle.dt_blob.specs.Token.{Token, end_node, property_tokens, sibling_tokens};
 ghost use Rattle.dt_view.specs.Private.Reading.{inside_tokens};
 ghost use Rattle.dt_view.specs.Shows.{Views};
 ghost use Rattle.dt_view.specs.Standing.{Ahead, HasNoNode, StandFrom, StandsAt, ends};
-ghost use Rattle.dt_view.specs.Places.{IsPlaceOf};
 
 use crate::error::ViewError;
 use crate::view::View;
@@ -38,9 +36,10 @@ impl<'a> View<'a> {
         }
     }
 
-    // The offset behind the end of the node that one is inside of.
-    fn node_end(&self, from: usize) -> Result<usize, ViewError>
-        ensures { (ps : List Property) (nodes : Siblings) (ts : List Token) → Ahead self.now from (property_tokens ps ++ (sibling_tokens nodes ++ end_node ∷ ts)) → IsOkAnd result (λ next. Ahead self.now next ts) }
+    /// The offset behind the end of the node that one is inside of.
+    pub(crate) fn node_end(&self, from: usize) -> Result<usize, ViewError>
+        ensures inside { (ps : List Property) (nodes : Siblings) (ts : List Token) → Ahead self.now from (property_tokens ps ++ (sibling_tokens nodes ++ end_node ∷ ts)) → IsOkAnd result (λ next. Ahead self.now next ts) }
+        ensures further { IfOk result (λ next. from ≤ next) }
     {
         let mut at = from;
         let mut levels = 0usize;

@@ -42,8 +42,8 @@ impl<'a> View<'a> {
         ensures shown { (tree : TreeData) → Shows bytes.now tree → IsOkAnd result (λ view. Views view tree) }
         ensures fault { MatchResult result (λ _. header_fault bytes.now ≡ None) (λ e. header_fault bytes.now ≡ Some e) }
     {
-        let blocks = blocks_in(bytes)?;
-        Ok(view_of(blocks))
+        let parts = blocks_in(bytes)?;
+        Ok(view_of(parts))
     }
 
     /// The view of a blob, once all tests of `read` of `dt_blob` are passed, in their order, but for one: that siblings and the
@@ -62,9 +62,9 @@ impl<'a> View<'a> {
         ensures bad_layout { header_fault bytes.now ≡ Some BlobError.BadLayout → IsErrOf result BlobError.BadLayout }
         ensures no_end { IsErrOf result BlobError.BadLayout → (header_fault bytes.now ≡ Some BlobError.BadLayout) ⊎ ((header_fault bytes.now ≡ None) × HaveNoEnd (reserves_of bytes.now)) }
     {
-        let blocks = blocks_in(bytes)?;
-        check_reserves(blocks.reserves)?;
-        check_structure(blocks.strings, blocks.structure, blocks.is_sized)?;
-        Ok(view_of(blocks))
+        let parts = blocks_in(bytes)?;
+        check_reserves(parts.reserves)?;
+        check_structure(parts.strings, parts.structure, parts.is_sized)?;
+        Ok(view_of(parts))
     }
 }

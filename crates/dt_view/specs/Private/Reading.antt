@@ -3,7 +3,7 @@ use Rattle.std.specs.Prelude.{◌≡◌, ℕ, ◌≤◌, ◌<◌, true, false, L
 use Rattle.dt_tree.specs.declared.property.Property.{Property}
 use Rattle.dt_tree.specs.NodeData.{Siblings}
 use Rattle.dt_blob.specs.Holds.{is_nop}
-use Rattle.dt_blob.specs.Token.{Token, begin_node, property_tokens, sibling_tokens}
+use Rattle.dt_blob.specs.Token.{Token, begin_node, property, property_tokens, sibling_tokens}
 use Rattle.dt_view.specs.declared.view.View.{View}
 use Rattle.dt_view.specs.Standing.{Ahead}
 
@@ -32,6 +32,11 @@ pub record Finds (view : View) (from : ℕ) (t : Token) (at next : ℕ) : Type 0
 pub record Opens (view : View) (from : ℕ) (name : List ℕ) (at next : ℕ) : Type 0 where
   pub ahead : (n : List ℕ) (us : List Token) → Ahead view from (begin_node n ∷ us) → (name ≡ n) × Ahead view at (begin_node n ∷ us) × Ahead view next us
   pub stands : Ahead view from (begin_node name ∷ [])
+
+-- a property stands there, and ends at an offset
+pub record Has (view : View) (from : ℕ) (name value : List ℕ) (next : ℕ) : Type 0 where
+  pub ahead : (n v : List ℕ) (us : List Token) → Ahead view from (property n v ∷ us) → (name ≡ n) × (value ≡ v) × Ahead view next us
+  pub stands : Ahead view from (property name value ∷ [])
 
 -- what stands inside a node, or behind a child of it
 abbrev pub inside_tokens : List Property → Siblings → Token → List Token

@@ -10,6 +10,7 @@ abbrev pub invariant-tokens : goal.invariant-tokens
 invariant-tokens l = record {
   closing : (ps : List Property) (nodes : Siblings) (ts : List Token) → Ahead l.self l.from (property_tokens ps ++ (sibling_tokens nodes ++ end_node ∷ ts)) → Closing l.self l.at l.levels ts;
   bounded : l.levels ≤ l.at;
+  begins : l.from ≤ l.at;
 }
 
 abbrev pub decreases-tokens : goal.decreases-tokens
