@@ -100,20 +100,23 @@ property_sound (inside top outer) u name value e = by_test _ refl e where
 property_sound (behind root) u name value e = absurd (cc e)
 property_sound (ended root) u name value e = absurd (cc e)
 
+-- the end of the node at hand
+pub end_put : (top : NodeSoFar) (outer : List NodeSoFar) → so_far (behind_node (node_at top) outer) ≡ so_far (inside top outer) ++ end_node ∷ []
+end_put top outer =
+    let ps : List Token = property_tokens top.properties in
+    let cs : List Token = sibling_tokens (siblings top.children) in
+    node_put (node_at top) outer
+    ∙ ap (λ (x : List Token). outer_tokens outer ++ begin_node top.name ∷ x) (sym (append_assoc ps cs (end_node ∷ [])))
+    ∙ sym (append_assoc (outer_tokens outer) (opened_tokens top) (end_node ∷ []))
+
 end_sound : (s u : State) → end_in s ≡ Some u → so_far u ≡ so_far s ++ end_node ∷ []
 end_sound begun u e = absurd (cc e)
 end_sound (inside top outer) u e = by_test _ refl e where
-  flat : so_far (behind_node (node_at top) outer) ≡ so_far (inside top outer) ++ end_node ∷ []
-  flat =
-      let ps : List Token = property_tokens top.properties in
-      let cs : List Token = sibling_tokens (siblings top.children) in
-      node_put (node_at top) outer
-      ∙ ap (λ (x : List Token). outer_tokens outer ++ begin_node top.name ∷ x) (sym (append_assoc ps cs (end_node ∷ [])))
-      ∙ sym (append_assoc (outer_tokens outer) (opened_tokens top) (end_node ∷ []))
-
   by_test : (t : Bool) → is_none (fault_of top.properties top.children) ≡ t → end_in (inside top outer) ≡ Some u → so_far u ≡ so_far (inside top outer) ++ end_node ∷ []
   by_test false f e = absurd (let bad : None ≡ Some u = (rw f at e) in cc)
-  by_test true f e = let now : Some (behind_node (node_at top) outer) ≡ Some u = (rw f at e) in pushed (inside top outer) u (behind_node (node_at top) outer) end_node now flat
+  by_test true f e =
+      let now : Some (behind_node (node_at top) outer) ≡ Some u = (rw f at e) in
+      pushed (inside top outer) u (behind_node (node_at top) outer) end_node now (end_put top outer)
 end_sound (behind root) u e = absurd (cc e)
 end_sound (ended root) u e = absurd (cc e)
 

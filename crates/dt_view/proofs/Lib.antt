@@ -1,0 +1,7 @@
+mod Beginnings
+mod Descents
+mod Goings
+mod Holdings
+mod Names
+mod Overviews
+mod Shapes

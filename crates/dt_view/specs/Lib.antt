@@ -1,0 +1,4 @@
+pub mod Places
+pub mod Private
+pub mod Shows
+pub mod Standing
