@@ -2,12 +2,17 @@ pub mod Counted
 pub mod EachSteps
 pub mod Faults
 pub mod FindingSteps
+pub mod FoundProperties
 pub mod FreeNumbers
+pub mod GivenByBoth
 pub mod GivenSteps
 pub mod Joined
 pub mod LabelledPaths
+pub mod LeftRows
 pub mod Orders
+pub mod PartSteps
 pub mod PathPhandles
 pub mod PreparedFaults
 pub mod ReadOrder
+pub mod ValueFounds
 pub mod WantedSteps

@@ -1,5 +1,6 @@
 pub mod BuildError
 pub mod BuildFault
+pub mod Founds
 pub mod Laws
 pub mod NodePhandles
 pub mod Prepared
