@@ -1,5 +1,5 @@
 -- Phandles and targets together.
-use Rattle.std.proofs.Common.{◌≡◌, ℕ, ◌==◌, ◌++◌, ◌&&◌, ◌||◌, not, Bool, true, false, if◌then◌else◌, List, [], ◌∷◌, length, map, Result, Ok, Err, refl, sym, ap, ap₂, ◌∙◌, subst}
+use Rattle.std.proofs.Common.{◌≡◌, ℕ, ◌==◌, ◌++◌, ◌&&◌, ◌||◌, not, Bool, true, false, if◌then◌else◌, List, [], ◌∷◌, length, map, Result, Ok, Err, refl, sym, ap, ap₂, ◌∙◌}
 use Rattle.std.specs.List.{list_any}
 use Rattle.std.specs.Prelude.{All}
 use Rattle.std.proofs.lemmas.List.{length-map}
@@ -19,7 +19,6 @@ use Rattle.dt_resolve.specs.declared.references.Targets.{Targets}
 use Rattle.dt_resolve.specs.BuildFault.{IsFault}
 use Rattle.dt_resolve.specs.NodePhandles.{AreStanding, path_phandle_of}
 use Rattle.dt_resolve.specs.Targets.{AreFound}
-use Rattle.dt_resolve.specs.Private.Targets.{AreTargets}
 use Rattle.dt_resolve.specs.Private.Wanted.{HasTaken, free_after, is_taken, labelled_rows, new_phandles, new_rows, assigned_rows, numbered, phandles_of}
 use Rattle.dt_live.proofs.Each.{Each, each-all, each-append, each-kept, each-of, each-when}
 use Rattle.dt_tree.specs.Phandle.{is_reserved}

@@ -1,19 +1,18 @@
 -- What is left once one node more went, with all below it.
-use Rattle.std.proofs.Common.{◌≡◌, ◌≤◌, ◌<◌, ◌-◌, ℕ, suc, Bool, true, false, not, ◌&&◌, ◌||◌, List, [], ◌∷◌, ◌++◌, length, map, if◌then◌else◌, refl, sym, ap, ap₂, ◌∙◌, subst, true≢false, arith}
+use Rattle.std.proofs.Common.{◌≡◌, ◌-◌, ℕ, suc, Bool, true, false, not, ◌&&◌, ◌||◌, List, [], ◌∷◌, ◌++◌, length, if◌then◌else◌, refl, sym, ap, ap₂, ◌∙◌, true≢false, arith}
 use Rattle.std.specs.List.{filter, list_any}
 use Rattle.std.specs.Str.{bytes_eq}
 use Rattle.std.proofs.lemmas.Bool.{and_parts}
 use Rattle.std.proofs.lemmas.List.Folds.{list_any-append}
-use Rattle.dt_meaning.specs.Paths.{Path, is_listed, is_within, same_path}
+use Rattle.dt_meaning.specs.Paths.{Path, is_listed, is_within}
 use Rattle.dt_meaning.specs.Edits.{Definition, Label, State, without_node}
 use Rattle.dt_meaning.specs.DtcResolved.{is_left}
 use Rattle.dt_live.specs.declared.live_tree.LiveTree.{LiveTree}
-use Rattle.dt_live.specs.declared.live_tree.NodeRow.{NodeRow}
-use Rattle.dt_live.specs.Rows.{Taken, is_standing, node_path, path_of, stands, standing, state_of}
+use Rattle.dt_live.specs.Rows.{Taken, is_standing, node_path, path_of, stands, state_of}
 use Rattle.dt_live.proofs.PathTests.{same-is}
 use Rattle.dt_live.proofs.StandingProperties.{listed-standing}
 use Rattle.dt_edit.specs.Said.{Parts}
-use Rattle.dt_resolve.specs.Private.Gone.{IsThereIn, Leaves, LeavesRows, left_of}
+use Rattle.dt_resolve.specs.Private.Gone.{IsThereIn, Leaves, left_of}
 
 -- ---- tests
 pub and-true : (b : Bool) → (b && true) ≡ b

@@ -4,11 +4,15 @@ pub mod Faults
 pub mod FindingSteps
 pub mod FoundProperties
 pub mod FreeNumbers
+pub mod Gathering
 pub mod GivenByBoth
 pub mod GivenSteps
+pub mod GoneNodes
 pub mod Joined
 pub mod LabelledPaths
+pub mod LeftFounds
 pub mod LeftRows
+pub mod LeftWalk
 pub mod Orders
 pub mod PartSteps
 pub mod PathPhandles
@@ -16,3 +20,4 @@ pub mod PreparedFaults
 pub mod ReadOrder
 pub mod ValueFounds
 pub mod WantedSteps
+pub mod Without

@@ -1,5 +1,6 @@
 -- What private contracts cite. No public clause rests on it.
 pub mod Filled
+pub mod Gathering
 pub mod GivenByBoth
 pub mod Gone
 pub mod ReadProperty

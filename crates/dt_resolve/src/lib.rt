@@ -4,6 +4,7 @@
 #![tactic(auto)]
 
 mod error;
+mod gathered;
 mod given_by_both;
 mod gone;
 mod labelled;
@@ -20,6 +21,7 @@ mod symbol_numbers;
 mod wanted;
 
 pub use error::BuildError;
+pub use gathered::{Gathered, gather};
 pub use laws::phandles_in_order;
 pub use node_phandles::{Given, NodePhandle};
 pub use parts::{target_at, target_count, targets_behind};

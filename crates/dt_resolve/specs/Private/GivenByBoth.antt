@@ -1,5 +1,5 @@
 -- Phandles given by either name, as they are read (Devicetree Specification v0.4, section 2.3.3).
-use Rattle.std.specs.Prelude.{◌≡◌, ◌≤◌, ◌+◌, ℕ, Bool, true, false, List, [], ◌∷◌, length, slice_index_or, Option, Some, None, Result, Ok, MatchResult, if◌then◌else◌}
+use Rattle.std.specs.Prelude.{◌≡◌, ◌≤◌, ◌+◌, ℕ, true, false, List, [], ◌∷◌, length, slice_index_or, Option, Some, None, Result, Ok, MatchResult, if◌then◌else◌}
 use Rattle.dt_source.specs.declared.tree.Part.{Part}
 use Rattle.dt_meaning.specs.Paths.{Path, same_path}
 use Rattle.dt_meaning.specs.Phandles.{PathPhandle, has_phandle}

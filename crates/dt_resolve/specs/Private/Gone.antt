@@ -1,6 +1,6 @@
 -- The nodes that go when all is read, and what is left, by rows (Devicetree Specification v0.4, section 6.3; where it is silent,
 -- dtc 1.6.1, tried by hand).
-use Rattle.std.specs.Prelude.{◌≡◌, ◌<◌, ◌≤◌, ◌==◌, ℕ, zero, suc, Bool, true, false, not, ◌&&◌, List, [], ◌∷◌, ◌++◌, length, map, drop, slice_index_or, Option, Some, None, if◌then◌else◌}
+use Rattle.std.specs.Prelude.{◌≡◌, ◌<◌, ◌≤◌, ◌==◌, ℕ, zero, suc, Bool, true, false, not, ◌&&◌, List, [], ◌∷◌, ◌++◌, length, drop, slice_index_or, Option, Some, None, if◌then◌else◌}
 use Rattle.std.specs.List.{filter, list_any}
 use Rattle.dt_source.specs.declared.tree.Part.{Part}
 use Rattle.dt_meaning.specs.Paths.{Path}
@@ -9,7 +9,7 @@ use Rattle.dt_meaning.specs.DtcResolved.{is_left}
 use Rattle.dt_live.specs.declared.live_tree.LiveTree.{LiveTree}
 use Rattle.dt_live.specs.declared.live_tree.NodeRow.{NodeRow}
 use Rattle.dt_live.specs.declared.preorder.properties.NodeProperty.{NodeProperty}
-use Rattle.dt_live.specs.Rows.{is_standing, node_path, path_of, stands, state_of}
+use Rattle.dt_live.specs.Rows.{is_standing, path_of, stands, state_of}
 use Rattle.dt_edit.specs.declared.standing.Standing.{Standing}
 use Rattle.dt_edit.specs.Said.{Parts}
 use Rattle.dt_resolve.specs.Founds.{uses, all_uses}

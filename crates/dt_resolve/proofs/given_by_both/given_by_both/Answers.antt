@@ -1,6 +1,4 @@
-use Rattle.std.proofs.Common.{◌≡◌, ◌∙◌, [], drop, refl, sym, ap}
-use Rattle.dt_live.specs.declared.preorder.properties.NodeProperty.{NodeProperty}
-use Rattle.dt_edit.specs.Said.{Parts}
+use Rattle.std.proofs.Common.{[], drop, refl}
 use Rattle.dt_resolve.specs.Founds.{all_uses}
 use Rattle.dt_resolve.specs.Targets.{IsThere}
 use Rattle.dt_resolve.specs.Private.GivenByBoth.{given_all}

@@ -1,5 +1,4 @@
-use Rattle.std.proofs.Common.{◌≡◌, ◌∙◌, ◌∷◌, [], ℕ, List, Option, None, Some, Ok, Err, if◌then◌else◌, false, refl, sym, ap, subst}
-use Rattle.std.proofs.lemmas.Bool.{eq-eqb}
+use Rattle.std.proofs.Common.{◌∙◌, ◌∷◌, [], ℕ, List, Option, Ok, Err, if◌then◌else◌, sym, ap, subst}
 use Rattle.dt_tree.specs.Phandle.{phandle_in}
 use Rattle.dt_source.specs.declared.tree.Part.{Part}
 use Rattle.dt_meaning.specs.DtcPhandles.{given_by_value, with_given}

@@ -1,4 +1,4 @@
-use Rattle.std.proofs.Common.{◌≡◌, ◌&&◌, ℕ}
+use Rattle.std.proofs.Common.{◌≡◌, ◌&&◌}
 use Rattle.std.specs.List.{list_any}
 use Rattle.dt_live.specs.Rows.{is_standing}
 use Rattle.dt_resolve.specs.Private.Gone.{goes_by, is_target, rows_to}

@@ -1,4 +1,4 @@
-use Rattle.std.proofs.Common.{◌≡◌, ◌∙◌, ◌∷◌, ◌++◌, ◌+◌, [], ℕ, List, get_or, map, sym, ap, subst, take}
+use Rattle.std.proofs.Common.{◌≡◌, ◌∙◌, ◌∷◌, ◌++◌, ◌+◌, [], List, get_or, map, sym, ap, subst, take}
 use Rattle.std.proofs.lemmas.List.{map-append, take_more}
 use Rattle.dt_meaning.specs.Paths.{Path}
 use Rattle.dt_live.specs.declared.live_tree.LiveTree.{LiveTree}

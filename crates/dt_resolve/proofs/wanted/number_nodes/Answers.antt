@@ -1,4 +1,4 @@
-use Rattle.std.proofs.Common.{◌≡◌, ◌==◌, ◌∙◌, List, ℕ, map, sym, ap, subst}
+use Rattle.std.proofs.Common.{◌==◌, ◌∙◌, List, map, sym, ap, subst}
 use Rattle.std.specs.List.{list_any}
 use Rattle.dt_resolve.specs.declared.node_phandles.NodePhandle.{NodePhandle}
 use Rattle.dt_resolve.specs.NodePhandles.{AreStanding, path_phandle_of}
