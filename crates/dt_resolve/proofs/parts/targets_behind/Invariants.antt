@@ -1,6 +1,6 @@
 use Rattle.std.proofs.Common.{◌≡◌, ◌+◌, ◌≤◌, drop}
-use Rattle.dt_build.specs.Private.Values.{all_uses}
-use Rattle.dt_build.proofs.value.targets_behind.Given as goal
+use Rattle.dt_resolve.specs.Founds.{all_uses}
+use Rattle.dt_resolve.proofs.parts.targets_behind.Given as goal
 
 abbrev pub invariant-loop-part : goal.invariant-loop-part
 invariant-loop-part l = record {

@@ -16,7 +16,7 @@ use Rattle.dt_meaning.specs.Edits.{Definition, definition, State, label_path}
 use Rattle.dt_meaning.specs.Statements.{Fault, ReservedName, found}
 use Rattle.dt_meaning.specs.References.{Found, Bytes, Cell, Open, PathText, cell_at, cell_of, cell_of_label, found_in}
 use Rattle.dt_resolve.specs.Targets.{target_path}
-use Rattle.dt_build.specs.Private.Values.{uses, all_uses, label_in, cell_for, text_for, found_of, founds_of}
+use Rattle.dt_resolve.specs.Founds.{uses, all_uses, label_in, cell_for, text_for, found_of, founds_of}
 
 -- ---- what was found
 by_kept : (q : Path) (f : Found) (b : Bool) → (if b then Err ReservedName else Ok (Cell q)) ≡ Ok f → (p : Path) × (f ≡ Cell p)
