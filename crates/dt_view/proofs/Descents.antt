@@ -16,6 +16,7 @@ opens view from t name at next f e = record {
     let p = f.ahead (begin_node n) us a in
     let same : begin_node name ≡ begin_node n = sym e ∙ p.0 in
     (cc same, p.1, p.2);
+  further = (let begins = f.begins in let further = f.further in omega (arith, begins, further));
   stands = subst (λ (x : Token). Ahead view from (x ∷ [])) e (f.back [] (record { all = []; front = []; behind = drop next view.structure.now; after = []; is = refl; spells = refl; kept = refl }));
 }
 
