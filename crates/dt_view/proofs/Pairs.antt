@@ -1,8 +1,7 @@
 -- The pairs of reserved memory, one by one.
-use Rattle.std.proofs.Common.{◌≡◌, ℕ, zero, suc, ◌+◌, ◌<◌, ◌≤◌, ◌^◌, Bool, true, false, not, ◌&&◌, ◌==◌, List, [], ◌∷◌, ◌++◌, length, drop, Option, Some, None, refl, ap, sym, subst, ◌∙◌, arith}
+use Rattle.std.proofs.Common.{◌≡◌, ℕ, zero, suc, ◌+◌, ◌<◌, true, false, ◌&&◌, ◌==◌, List, [], ◌∷◌, length, drop, Option, Some, None, refl, ap, sym, subst, ◌∙◌, arith}
 use Rattle.std.specs.Prelude.{slice_get}
 use Rattle.byteorder.specs.Endian.{big_number}
-use Rattle.dt_tree.specs.TreeData.{is_reserve}
 use Rattle.dt_blob.specs.Holds.{Reserves}
 use Rattle.dt_blob.proofs.Holding.{first_of}
 use Rattle.dt_blob.proofs.Tests.{not_true}

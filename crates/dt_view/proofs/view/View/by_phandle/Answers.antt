@@ -1,6 +1,5 @@
-use Rattle.std.proofs.Common.{◌≡◌, refl, ap, sym, ◌∙◌, true, false, arith}
-use Rattle.std.specs.Prelude.{find, ◌==◌}
-use Rattle.std.specs.Option.{option_map_or}
+use Rattle.std.proofs.Common.{refl}
+use Rattle.std.specs.Prelude.{find}
 use Rattle.dt_view.specs.Order.{all_of, has_phandle, in_order}
 use Rattle.dt_view.proofs.Orders.{stands_in, seeking_hit, seeking_none, seeking_next, test_as}
 use Rattle.dt_view.proofs.view.View.by_phandle.Goals as goal

@@ -1,4 +1,4 @@
-use Rattle.std.proofs.Common.{◌≡◌, refl, sym, ◌∙◌, true, false, arith}
+use Rattle.std.proofs.Common.{refl, sym, ◌∙◌}
 use Rattle.dt_view.specs.Order.{from_first, is_compatible}
 use Rattle.dt_view.proofs.Orders.{stands_in, behind_none, behind_hit, behind_miss}
 use Rattle.dt_view.proofs.view.View.next_compatible.Goals as goal

@@ -1,6 +1,5 @@
 use Rattle.std.proofs.Common.{[], ◌∷◌}
 use Rattle.dt_blob.specs.Token.{begin_node}
-use Rattle.dt_tree.specs.NodeData.{NodeData}
 use Rattle.dt_view.proofs.Beginnings.{shorter}
 use Rattle.dt_view.proofs.Orders.{next_as}
 use Rattle.dt_view.proofs.view.View.next_node.Goals as goal
