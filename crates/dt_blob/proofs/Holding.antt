@@ -26,7 +26,7 @@ behind_pair : (a b : ℕ) (x : List ℕ) → drop 16 (double_word a ++ (double_w
 unfolding double_word
 behind_pair a b x = refl
 
-first_of : (bytes : List ℕ) (a b : ℕ) (rest : List ℕ) → bytes ≡ double_word a ++ (double_word b ++ rest) → a < 2 ^ 64 → b < 2 ^ 64 → (big_number 8 bytes ≡ a) × (big_number 8 (drop 8 bytes) ≡ b) × (drop 16 bytes ≡ rest) × (16 + length rest ≡ length bytes)
+pub first_of : (bytes : List ℕ) (a b : ℕ) (rest : List ℕ) → bytes ≡ double_word a ++ (double_word b ++ rest) → a < 2 ^ 64 → b < 2 ^ 64 → (big_number 8 bytes ≡ a) × (big_number 8 (drop 8 bytes) ≡ b) × (drop 16 bytes ≡ rest) × (16 + length rest ≡ length bytes)
 first_of bytes a b rest e la lb =
     let tail : List ℕ = double_word b ++ rest in (
       ap (big_number 8) e ∙ double_word_read a tail la,

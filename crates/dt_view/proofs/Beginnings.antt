@@ -1,16 +1,16 @@
 -- Where bytes begin with the spelling of tokens: what a reader meets, and what it has met.
-use Rattle.std.proofs.Common.{◌≡◌, ℕ, ◌+◌, ◌-◌, ◌<◌, ◌≤◌, Bool, true, false, List, [], ◌∷◌, ◌++◌, length, drop, Option, Some, None, refl, ap, sym, subst, ◌∙◌, arith, append_assoc}
+use Rattle.std.proofs.Common.{◌≡◌, ℕ, ◌+◌, ◌-◌, ◌<◌, Bool, true, false, List, [], ◌∷◌, ◌++◌, length, drop, Some, None, refl, ap, sym, subst, ◌∙◌, arith, append_assoc}
 use Rattle.std.proofs.lemmas.Option.{some_pair_parts}
 use Rattle.std.proofs.lemmas.List.{length-append, length-drop, drop-drop, drop_at}
 use Rattle.dt_blob.specs.Token.{Token}
 use Rattle.dt_blob.specs.Holds.{Spells, is_nop, without_nops}
 use Rattle.dt_blob.specs.Steps.Reading.{token_at}
-use Rattle.dt_blob.proofs.Spelled.{Found, token_sound}
+use Rattle.dt_blob.proofs.Spelled.{token_sound}
 use Rattle.dt_blob.proofs.TokenLists.{first_again}
 use Rattle.dt_blob.proofs.Words.{AreBytes}
 use Rattle.dt_view.specs.declared.view.View.{View}
 use Rattle.dt_view.specs.Private.Reading.{Reads, StandsNothing}
-use Rattle.dt_view.specs.Standing.{Begins, Ahead}
+use Rattle.dt_view.specs.Standing.{Begins}
 
 -- ---- what is met
 

@@ -1,5 +1,5 @@
 -- What is met inside a node.
-use Rattle.std.proofs.Common.{◌≡◌, ℕ, zero, suc, ◌+◌, Bool, true, false, List, [], ◌∷◌, ◌++◌, length, drop, Option, Some, None, refl, ap, sym, subst, ◌∙◌, arith, append_assoc, add-one}
+use Rattle.std.proofs.Common.{◌≡◌, ℕ, zero, suc, ◌+◌, Bool, true, false, List, [], ◌∷◌, ◌++◌, drop, Option, Some, None, refl, ap, sym, subst, ◌∙◌, arith, append_assoc, add-one}
 use Rattle.dt_tree.specs.declared.property.Property.{Property}
 use Rattle.dt_tree.specs.NodeData.{NodeData, Siblings, none, more}
 use Rattle.dt_blob.specs.Token.{Token, begin_node, end_node, property, nop, end, property_tokens, sibling_tokens, tokens_of}
@@ -13,9 +13,10 @@ use Rattle.dt_view.proofs.Beginnings.{shorter}
 pub opens : (view : View) (from : ℕ) (t : Token) (name : List ℕ) (at next : ℕ) → Finds view from t at next → t ≡ begin_node name → Opens view from name at next
 opens view from t name at next f e = record {
   ahead = λ n us a.
-    let p = f.ahead (begin_node n) us a in
-    let same : begin_node name ≡ begin_node n = sym e ∙ p.0 in
-    (cc same, p.1, p.2);
+      let p = f.ahead (begin_node n) us a in
+      let same : begin_node name ≡ begin_node n = sym e ∙ p.0 in
+      (cc same, p.1, p.2);
+  further = (let begins = f.begins in let further = f.further in omega (arith, begins, further));
   stands = subst (λ (x : Token). Ahead view from (x ∷ [])) e (f.back [] (record { all = []; front = []; behind = drop next view.structure.now; after = []; is = refl; spells = refl; kept = refl }));
 }
 

@@ -3,7 +3,7 @@ use Rattle.std.proofs.Common.{◌≡◌, ℕ, Bool, true, false, List, [], ◌�
 use Rattle.std.specs.Prelude.{if◌then◌else◌}
 use Rattle.std.specs.Str.{bytes_eq}
 use Rattle.dt_tree.specs.declared.property.Property.{Property}
-use Rattle.dt_tree.specs.NodeData.{NodeData, Siblings, none, more}
+use Rattle.dt_tree.specs.NodeData.{Siblings, none, more}
 use Rattle.dt_tree.specs.PathMap.{value_of}
 use Rattle.dt_blob.specs.Token.{Token, begin_node, end_node, property, nop, end, property_tokens, sibling_tokens}
 use Rattle.dt_view.specs.declared.view.View.{View}
@@ -24,9 +24,9 @@ parts n v m w e = (cc, cc)
 pub holds_property : (view : View) (from : ℕ) (t : Token) (name value : List ℕ) (at next : ℕ) → Finds view from t at next → t ≡ property name value → Has view from name value next
 holds_property view from t name value at next f e = record {
   ahead = λ n v us a.
-    let p = f.ahead (property n v) us a in
-    let q = parts name value n v (sym e ∙ p.0) in
-    (q.0, q.1, p.2);
+      let p = f.ahead (property n v) us a in
+      let q = parts name value n v (sym e ∙ p.0) in
+      (q.0, q.1, p.2);
   stands = subst (λ (x : Token). Ahead view from (x ∷ [])) e (f.back [] (record { all = []; front = []; behind = drop next view.structure.now; after = []; is = refl; spells = refl; kept = refl }));
 }
 

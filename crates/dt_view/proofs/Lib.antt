@@ -3,5 +3,7 @@ mod Descents
 mod Goings
 mod Holdings
 mod Names
+mod Orders
 mod Overviews
+mod Pairs
 mod Shapes

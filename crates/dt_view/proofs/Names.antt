@@ -1,18 +1,17 @@
 -- A child by its name, and a node by the names that lead to it.
-use Rattle.std.proofs.Common.{◌≡◌, ℕ, ◌+◌, ◌<◌, Bool, true, false, List, [], ◌∷◌, ◌++◌, length, get_or, drop, Option, Some, None, refl, ap, sym, subst, ◌∙◌}
-use Rattle.std.specs.Prelude.{if◌then◌else◌}
+use Rattle.std.proofs.Common.{◌≡◌, ℕ, ◌+◌, ◌<◌, true, false, List, [], ◌∷◌, ◌++◌, length, get_or, drop, Option, Some, None, refl, ap, sym, subst, ◌∙◌}
 use Rattle.std.specs.Str.{bytes_eq}
 use Rattle.dt_tree.specs.declared.property.Property.{Property}
 use Rattle.dt_tree.specs.NodeData.{NodeData, Siblings, none, more}
 use Rattle.dt_tree.specs.PathMap.{child_named, node_at}
-use Rattle.dt_tree.proofs.Descent.{node_at-none, node_at-some, node_at-end}
-use Rattle.dt_blob.specs.Token.{Token, begin_node, end_node, property, nop, end, property_tokens, sibling_tokens}
+use Rattle.dt_tree.proofs.Descent.{node_at-none, node_at-some}
+use Rattle.dt_blob.specs.Token.{Token, begin_node, end_node, property, property_tokens, sibling_tokens}
 use Rattle.dt_view.specs.declared.nodes.NodeOffset.{NodeOffset}
 use Rattle.dt_view.specs.declared.view.View.{View}
 use Rattle.dt_view.specs.Places.{IsPlaceOf}
-use Rattle.dt_view.specs.Private.Reading.{Finds, StandsNothing, inside_tokens}
+use Rattle.dt_view.specs.Private.Reading.{Finds, inside_tokens}
 use Rattle.dt_view.specs.Standing.{Ahead, StandsAt, ends}
-use Rattle.dt_view.proofs.Descents.{Inside, the_node, first_stands, behind_begin, met_end, met_property, met_nothing, met_nop_inside}
+use Rattle.dt_view.proofs.Descents.{the_node, first_stands, behind_begin, met_end, met_property}
 
 -- among the nodes that are left the name has this one
 abbrev pub NamedLeft : View → ℕ → Token → List ℕ → Option NodeData → Type 0

@@ -1,5 +1,5 @@
 -- What a blob shows, by its blocks.
-use Rattle.std.proofs.Common.{◌≡◌, ℕ, Bool, true, false, List, [], ◌∷◌, ◌++◌, drop, Option, Some, None, refl, ap, sym, subst, ◌∙◌}
+use Rattle.std.proofs.Common.{◌≡◌, ℕ, Bool, true, false, List, [], ◌∷◌, ◌++◌, drop, Some, None, refl, ap, sym, subst, ◌∙◌}
 use Rattle.std.specs.Prelude.{is_some}
 use Rattle.std.proofs.lemmas.List.{append-nil}
 use Rattle.dt_tree.specs.Name.{is_name, are_names}
@@ -10,15 +10,14 @@ use Rattle.dt_blob.specs.Blocks.{AreBlocks, structure_in}
 use Rattle.dt_blob.specs.declared.read_blocks.BlobBlocks.{BlobBlocks}
 use Rattle.dt_blob.specs.HeaderWords.{header_of, header_fault, strings_of, structure_of, reserves_of}
 use Rattle.dt_blob.specs.Holds.{Reserves, SpellsRoot, Holds, is_nop, without_nops}
-use Rattle.dt_blob.specs.Token.{Token, begin_node, end_node, property, nop, end, tokens_of, tree_tokens}
-use Rattle.dt_blob.specs.Steps.NodeBuilders.{begun}
+use Rattle.dt_blob.specs.Token.{Token, end, tree_tokens}
 use Rattle.dt_blob.specs.Steps.Reading.{room_of, reserves_at, tokens_at, structure_tokens}
 use Rattle.dt_blob.proofs.Holding.{in_room, structure_held, block_bytes, reserves_again}
 use Rattle.dt_blob.proofs.Tests.{both}
 use Rattle.dt_blob.proofs.TokenLists.{root_spelled, root_lexed}
 use Rattle.dt_blob.proofs.Whole.{reserves_sound, reserves_bytes}
 use Rattle.dt_blob.proofs.Words.{AreBytes}
-use Rattle.dt_view.specs.Shows.{NamedBelow, IsNamed, Shows, Views}
+use Rattle.dt_view.specs.Shows.{NamedBelow, Shows, Views}
 use Rattle.dt_view.specs.Standing.{Begins}
 use Rattle.dt_view.specs.declared.stages.Stage.TheVariants as stage
 use Rattle.dt_view.specs.declared.view.View.{View}

@@ -1,6 +1,6 @@
 -- The tokens that are accepted are those of a root within the limits.
-use Rattle.std.proofs.Common.{◌≡◌, ℕ, zero, suc, ◌+◌, ◌<◌, ◌≤◌, max, Bool, true, false, not, ◌&&◌, ◌==◌, List, [], ◌∷◌, ◌++◌, length, Option, Some, None, refl, ap, sym, ◌∙◌, arith, append_assoc, add-one}
-use Rattle.std.specs.Prelude.{nat_lt, if◌then◌else◌}
+use Rattle.std.proofs.Common.{◌≡◌, ℕ, zero, suc, ◌+◌, ◌<◌, ◌≤◌, Bool, true, false, not, ◌&&◌, ◌==◌, List, [], ◌∷◌, ◌++◌, length, Option, Some, None, refl, ap, sym, ◌∙◌, arith, append_assoc, add-one}
+use Rattle.std.specs.Prelude.{nat_lt}
 use Rattle.std.specs.Option.{option_map_or}
 use Rattle.std.proofs.lemmas.List.{length-append}
 use Rattle.dt_tree.specs.declared.property.Property.{Property}
@@ -10,7 +10,7 @@ use Rattle.dt_blob.specs.Token.{Token, begin_node, end_node, property, nop, end,
 use Rattle.dt_blob.specs.Steps.NodeBuilders.{NodeSoFar, node_so_far, State, begun, inside, behind, ended, behind_node}
 use Rattle.dt_blob.specs.Steps.NodeBuilders as builders
 use Rattle.dt_blob.proofs.States.{so_far, node_at, the_property, after_property, property_sound, end_put}
-use Rattle.dt_blob.proofs.Tests.{below, both, test_below, test_unequal, not_true}
+use Rattle.dt_blob.proofs.Tests.{below, both, test_below, test_unequal}
 use Rattle.dt_view.specs.Shows.{NamedBelow, IsNamed}
 use Rattle.dt_view.specs.declared.stages.Stage.{Stage}
 use Rattle.dt_view.specs.declared.stages.Stage.TheVariants as stage
@@ -46,12 +46,12 @@ accept_siblings (more name ps children rest) n d h c ts =
     let deep : height_of children + (d + 1) ≤ 64 = omega arith in
     let wide : height_of rest + d ≤ 64 = omega arith in
     rw (lawful, room) (
-      ap (accepts (stage.Inside (d + 1) false)) (regrouped ps children rest ts)
-      ∙ accept_properties ps (n.1) (d + 1) (sibling_tokens children ++ end_node ∷ (sibling_tokens rest ++ ts))
-      ∙ accept_siblings children (n.2) (d + 1) deep false (end_node ∷ (sibling_tokens rest ++ ts))
-      ∙ accept_end d (has children false) (sibling_tokens rest ++ ts)
-      ∙ accept_siblings rest (n.3) d wide true ts
-      ∙ ap (λ (b : Bool). accepts (stage.Inside d b) ts) (has_more rest)
+    ap (accepts (stage.Inside (d + 1) false)) (regrouped ps children rest ts)
+    ∙ accept_properties ps (n.1) (d + 1) (sibling_tokens children ++ end_node ∷ (sibling_tokens rest ++ ts))
+    ∙ accept_siblings children (n.2) (d + 1) deep false (end_node ∷ (sibling_tokens rest ++ ts))
+    ∙ accept_end d (has children false) (sibling_tokens rest ++ ts)
+    ∙ accept_siblings rest (n.3) d wide true ts
+    ∙ ap (λ (b : Bool). accepts (stage.Inside d b) ts) (has_more rest)
     )
 
 accept_root : (name : List ℕ) (ts : List Token) → name ≡ [] → accepts stage.Before (begin_node name ∷ ts) ≡ accepts (stage.Inside 0 false) ts
@@ -188,12 +188,15 @@ ends_node (inside top (o ∷ os)) u l e =
       state = inside (node_so_far o.name o.properties (o.children ++ node_at top ∷ [])) os;
       stage_is = ap (λ (b : Bool). stage.Inside (length os) b) (some_children o.children (node_at top)) ∙ some_same (stage.Inside (length os) true) u e;
       adds = end_put top (o ∷ os);
-      lawful = (record {
-        name = l.1.0.name;
-        properties = l.1.0.properties;
-        below = named_push o.children (node_at top) l.1.0.below l.0.name l.0.properties l.0.below;
-        shallow = height_push o.children (node_at top) (length os) l.1.0.shallow last;
-      }, l.1.1);
+      lawful = (
+        record {
+          name = l.1.0.name;
+          properties = l.1.0.properties;
+          below = named_push o.children (node_at top) l.1.0.below l.0.name l.0.properties l.0.below;
+          shallow = height_push o.children (node_at top) (length os) l.1.0.shallow last;
+        },
+        l.1.1,
+      );
     }
 ends_node (behind root) u l e = absurd (cc e)
 ends_node (ended root) u l e = absurd l

@@ -1,3 +1,5 @@
+pub mod Cells
+pub mod Order
 pub mod Places
 pub mod Private
 pub mod Shows

@@ -1,6 +1,5 @@
 -- When a blob that is read in place shows a tree: Devicetree Specification v0.4, chapter 5.
 use Rattle.std.specs.Prelude.{◌≡◌, ℕ, ◌≤◌, List, [], None, IsTrue}
-use Rattle.dt_tree.specs.declared.property.Property.{Property}
 use Rattle.dt_tree.specs.Limits.{depth_limit}
 use Rattle.dt_tree.specs.Name.{is_name, are_names}
 use Rattle.dt_tree.specs.NodeData.{NodeData, Siblings, none, more, property_names, height_of}

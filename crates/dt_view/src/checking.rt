@@ -10,7 +10,7 @@ use dt_blob::{BlobError, BlobToken, long, token};
 use dt_tree::behind;
 
 /// The bytes of an address and a size.
-const RESERVATION_SIZE: usize = 16;
+pub(crate) const RESERVATION_SIZE: usize = 16;
 
 /// Refuses reserved memory whose list has no end, by `BadLayout`.
 pub(crate) fn check_reserves(bytes: &[u8]) -> Result<(), BlobError>

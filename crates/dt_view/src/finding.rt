@@ -51,11 +51,7 @@ impl<'a> View<'a> {
     }
 
     // The node at names behind one another, from a node on.
-    fn find_below(
-        &self,
-        from: NodeOffset,
-        names: &[u8],
-    ) -> Result<Option<NodeOffset>, ViewError>
+    fn find_below(&self, from: NodeOffset, names: &[u8]) -> Result<Option<NodeOffset>, ViewError>
         ensures { (d : NodeData) → StandsAt self.now from.at d → IsOkAnd result (λ node. IsPlaceOf self.now node (node_at d (slice_split is_slash names.now))) }
     {
         let mut node = from;

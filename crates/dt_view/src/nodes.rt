@@ -4,6 +4,7 @@ ghost use Rattle.dt_tree.specs.NodeData.{NodeData, Siblings, none, more};
 ghost use Rattle.dt_tree.specs.TreeData.{TreeData};
 ghost use Rattle.dt_tree.specs.declared.property.Property.{Property};
 ghost use Rattle.dt_blob.specs.Token.{Token, end_node, property_tokens, sibling_tokens};
+ghost use Rattle.dt_view.specs.Order.{StandsIn, all_of};
 ghost use Rattle.dt_view.specs.Private.Reading.{inside_tokens};
 ghost use Rattle.dt_view.specs.Shows.{Views};
 ghost use Rattle.dt_view.specs.Standing.{Ahead, HasNoNode, StandFrom, StandsAt, ends};
@@ -63,7 +64,8 @@ impl<'a> View<'a> {
 
     /// The root.
     pub fn root(&self) -> Result<NodeOffset, ViewError>
-        ensures { (tree : TreeData) → Views self.now tree → IsOkAnd result (λ root. StandsAt self.now root.at tree.root) }
+        ensures stands { (tree : TreeData) → Views self.now tree → IsOkAnd result (λ root. StandsAt self.now root.at tree.root) }
+        ensures first { (tree : TreeData) → Views self.now tree → IsOkAnd result (λ root. StandsIn self.now root.at tree.root (all_of tree.root.children)) }
     {
         let begun = self.begin(0)?;
         Ok(NodeOffset { at: begun.at })

@@ -20,6 +20,7 @@ pub struct PropertyOffset {
 }
 
 /// A property, over the blob's bytes.
+#[repr(C)]
 #[derive(Clone, Copy)]
 pub struct ViewProperty<'a> {
     pub name: &'a [u8],

@@ -10,6 +10,7 @@ use crate::checking::{check_reserves, check_structure};
 use dt_blob::{BlobBlocks, BlobError, blocks_in};
 
 /// A blob that is read in place: its blocks, over the caller's bytes.
+#[repr(C)]
 #[derive(Clone, Copy)]
 pub struct View<'a> {
     /// From the reserved memory on, up to the end of the blob.

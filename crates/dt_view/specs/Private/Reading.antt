@@ -32,6 +32,7 @@ pub record Finds (view : View) (from : ℕ) (t : Token) (at next : ℕ) : Type 0
 pub record Opens (view : View) (from : ℕ) (name : List ℕ) (at next : ℕ) : Type 0 where
   pub ahead : (n : List ℕ) (us : List Token) → Ahead view from (begin_node n ∷ us) → (name ≡ n) × Ahead view at (begin_node n ∷ us) × Ahead view next us
   pub stands : Ahead view from (begin_node name ∷ [])
+  pub further : from < next
 
 -- a property stands there, and ends at an offset
 pub record Has (view : View) (from : ℕ) (name value : List ℕ) (next : ℕ) : Type 0 where

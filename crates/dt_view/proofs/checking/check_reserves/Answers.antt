@@ -1,4 +1,4 @@
-use Rattle.std.proofs.Common.{◌≡◌, refl, false, [], ◌∷◌, ◌++◌, ◌&&◌, ◌==◌, sym, ap, ◌∙◌, arith}
+use Rattle.std.proofs.Common.{◌≡◌, refl, false, [], ◌&&◌, ◌==◌, sym, ap, ◌∙◌, arith}
 use Rattle.std.proofs.lemmas.Bool.Decides.{nat_tests}
 use Rattle.byteorder.specs.Endian.{big_number}
 use Rattle.dt_blob.specs.Steps.Reading.{reserves_at}
@@ -13,9 +13,11 @@ pub returns-then-rest-lt-RESERVATION_SIZE : goal.returns-then-rest-lt-RESERVATIO
 returns-then-rest-lt-RESERVATION_SIZE c = (refl, joins_short c.pairs.rest.now _ _ c.if-rest-lt-RESERVATION_SIZE.true (c.pairs.invariant.1))
 
 pub returns-then-size-eq0 : goal.returns-then-size-eq0
-returns-then-size-eq0 c =
-    (c.pairs.invariant.0, joins_last c.pairs.rest.now _ _ c.if-rest-lt-RESERVATION_SIZE.false (sym c.long-address.ensures ∙ c.if-address-eq0.true)
-    (sym (c.long-size.ensures ∙ ap (big_number 8) c.behind.ensures) ∙ c.if-size-eq0.true) (c.pairs.invariant.1))
+returns-then-size-eq0 c = (
+  c.pairs.invariant.0,
+  joins_last c.pairs.rest.now _ _ c.if-rest-lt-RESERVATION_SIZE.false (sym c.long-address.ensures ∙ c.if-address-eq0.true)
+      (sym (c.long-size.ensures ∙ ap (big_number 8) c.behind.ensures) ∙ c.if-size-eq0.true) (c.pairs.invariant.1),
+)
 
 pub pairs-preserved : goal.pairs-preserved
 pairs-preserved c =

@@ -1,6 +1,6 @@
 use Rattle.std.proofs.Common.{refl, ap}
 use Rattle.std.proofs.lemmas.Result.{err_from_is_err_and}
-use Rattle.dt_blob.specs.Token.{end_node, property, nop, end}
+use Rattle.dt_blob.specs.Token.{end_node, nop, end}
 use Rattle.dt_blob.specs.Steps.Reading.{token_of}
 use Rattle.dt_view.proofs.Descents.{opens, no_node, nothing_begins}
 use Rattle.dt_view.proofs.view.View.begin.Goals as goal

@@ -1,7 +1,7 @@
-use Rattle.std.proofs.Common.{◌≡◌, refl, ap, sym, ◌∙◌, [], ◌∷◌, ◌++◌, true, false, arith}
+use Rattle.std.proofs.Common.{◌≡◌, refl, ap, sym, ◌∙◌, [], ◌∷◌, ◌++◌, true, false}
 use Rattle.std.specs.Str.{bytes_eq}
 use Rattle.dt_tree.specs.PathMap.{child_named}
-use Rattle.dt_blob.specs.Token.{end_node, nop, end, sibling_tokens}
+use Rattle.dt_blob.specs.Token.{end_node, end, sibling_tokens}
 use Rattle.dt_blob.specs.Steps.Reading.{token_of}
 use Rattle.dt_view.proofs.Descents.{met_nothing, met_nop_inside}
 use Rattle.dt_view.proofs.Names.{named_hit, named_miss, named_property, named_end}

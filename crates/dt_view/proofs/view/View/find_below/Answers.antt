@@ -1,4 +1,4 @@
-use Rattle.std.proofs.Common.{refl, rules, tests, ap, sym, ◌∙◌, arith, length}
+use Rattle.std.proofs.Common.{refl, rules, tests, sym, ◌∙◌, arith, length}
 use Rattle.std.specs.List.{slice_split}
 use Rattle.std.proofs.lemmas.List.{length_push}
 use Rattle.std.proofs.lemmas.Iterator.Consumers.{YieldsList-turn, YieldsList-end}

@@ -1,5 +1,4 @@
 use Rattle.std.proofs.Common.{[], ◌∷◌}
-use Rattle.std.proofs.lemmas.Result.{err_from_is_err_and}
 use Rattle.dt_blob.specs.Token.{begin_node}
 use Rattle.dt_view.proofs.Beginnings.{shorter}
 use Rattle.dt_view.proofs.view.View.name.Goals as goal

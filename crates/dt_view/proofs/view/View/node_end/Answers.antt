@@ -1,5 +1,4 @@
-use Rattle.std.proofs.Common.{refl, ap, arith}
-use Rattle.std.proofs.lemmas.Result.{err_from_is_err_and}
+use Rattle.std.proofs.Common.{ap, arith}
 use Rattle.dt_blob.specs.Token.{nop, end}
 use Rattle.dt_blob.specs.Steps.Reading.{token_of}
 use Rattle.dt_view.proofs.Descents.{closed_inside, closed_end, closed_nop, closing_nothing, closing_begin, closing_property, closing_last, closing_end, closing_no}

@@ -1,5 +1,4 @@
 use Rattle.std.proofs.Common.{refl, ap}
-use Rattle.std.proofs.lemmas.Result.{err_from_is_err_and}
 use Rattle.dt_blob.specs.Token.{end_node, end}
 use Rattle.dt_blob.specs.Steps.Reading.{token_of}
 use Rattle.dt_view.proofs.Descents.{met_node, met_end, met_property, met_nothing, met_nop_inside}

@@ -1,4 +1,4 @@
-use Rattle.std.proofs.Common.{◌≡◌, true, false, Some, None, List, ℕ, sym, ap, ◌∙◌, inr, arith}
+use Rattle.std.proofs.Common.{◌≡◌, true, false, Some, None, sym, ap, ◌∙◌, inr, arith}
 use Rattle.dt_blob.proofs.Refusals.{no_end}
 use Rattle.dt_blob.specs.Steps.Reading.{reserves_at}
 use Rattle.dt_blob.proofs.Words.{AreBytes}

@@ -1,4 +1,4 @@
-use Rattle.std.proofs.Common.{◌≡◌, ℕ, ◌-◌, ◌≤◌, List, ◌∷◌, length}
+use Rattle.std.proofs.Common.{◌-◌, ◌≤◌, List, ◌∷◌, length}
 use Rattle.dt_blob.specs.Token.{Token}
 use Rattle.dt_view.specs.Standing.{Ahead}
 use Rattle.dt_view.proofs.view.View.token_from.Given as goal
