@@ -1,5 +1,8 @@
 -- What is gathered of a tree that stands is what the meaning gathers.
-use Rattle.std.proofs.Common.{◌≡◌, ◌≤◌, ◌&&◌, ◌||◌, not, ℕ, Bool, true, false, List, [], ◌∷◌, ◌++◌, length, map, Option, Result, Ok, Err, Vec, if◌then◌else◌, refl, sym, ap, ap₂, ◌∙◌, true≢false, arith}
+use Rattle.dt_live.proofs.NodesStanding.{there-by}
+use Rattle.dt_live.proofs.Climbs.{one-node}
+use Rattle.dt_live.specs.Index.{row_of}
+use Rattle.std.proofs.Common.{◌≡◌, ◌≤◌, ◌&&◌, ◌||◌, not, ℕ, Bool, true, false, List, [], ◌∷◌, ◌++◌, length, map, Option, Result, Ok, Err, Vec, if◌then◌else◌, refl, sym, ap, ap₂, ◌∙◌, true≢false, arith, Some, None, subst}
 use Rattle.std.specs.Prelude.{All}
 use Rattle.std.specs.Global.{Global}
 use Rattle.std.specs.List.{filter, list_any}
@@ -7,7 +10,7 @@ use Rattle.std.proofs.lemmas.Bool.{and_parts}
 use Rattle.std.proofs.lemmas.List.{map-append}
 use Rattle.dt_tree.specs.Phandle.{is_reserved}
 use Rattle.dt_tree.specs.Steps.{then_do}
-use Rattle.dt_meaning.specs.Paths.{Path}
+use Rattle.dt_meaning.specs.Paths.{Path, is_listed}
 use Rattle.dt_meaning.specs.Syntax.{Piece}
 use Rattle.dt_meaning.specs.Edits.{Definition, State, counted}
 use Rattle.dt_meaning.specs.Phandles.{PathPhandle, path_phandle}
@@ -21,7 +24,7 @@ use Rattle.dt_meaning.specs.DtcResolved as meaning
 use Rattle.dt_meaning.specs.DtcResolved.{fixed_up, goes, is_left, rest_of, symbol_nodes}
 use Rattle.dt_live.specs.declared.live_tree.LiveTree.{LiveTree}
 use Rattle.dt_live.specs.Rows.{IsLiveTree, IsNode, is_standing, node_path, state_of}
-use Rattle.dt_live.proofs.Each.{Each, each-append, each-more, each-of}
+use Rattle.dt_live.proofs.Each.{Each, each-all, each-append, each-more, each-of}
 use Rattle.dt_edit.specs.declared.standing.Standing.{Standing}
 use Rattle.dt_edit.specs.Said.{Parts, read, read_definition, tree_of}
 use Rattle.dt_edit.specs.Standing.{IsStandingOf}
@@ -32,17 +35,17 @@ use Rattle.dt_resolve.specs.declared.gathered.Numbered.{Numbered}
 use Rattle.dt_resolve.specs.declared.gathered.Rest.{Rest}
 use Rattle.dt_resolve.specs.declared.node_phandles.NodePhandle.{NodePhandle}
 use Rattle.dt_resolve.specs.BuildFault.{IsFault}
-use Rattle.dt_resolve.specs.Gathered.{IsGathered, all_gathered}
+use Rattle.dt_resolve.specs.Gathered.{HaveStood, IsAmong, IsGathered, all_gathered}
 use Rattle.dt_resolve.specs.NodePhandles.{path_phandle_of}
 use Rattle.dt_resolve.specs.Targets.{IsThere}
-use Rattle.dt_resolve.specs.Private.Gathering.{IsAsFound, IsFixed, IsNumbered, IsWithout, all_numbers, fixed_in, founds_in, paths_in, phandles_in, whole}
-use Rattle.dt_resolve.specs.Private.Gone.{gone_rows, is_marked, left_of}
+use Rattle.dt_resolve.specs.Private.Gathering.{Extends, IsAsFound, IsFixed, IsNumbered, IsWithout, all_numbers, fixed_in, founds_in, paths_in, phandles_in, whole}
+use Rattle.dt_resolve.specs.Private.Gone.{IsThereIn, LeavesRows, gone_rows, is_marked, left_of}
 use Rattle.dt_resolve.specs.Private.SymbolNumbers.{left_numbers, symbol_numbers}
 use Rattle.dt_resolve.specs.Private.Wanted.{marked_rows}
 use Rattle.dt_resolve.proofs.Counted.{counted-references}
 use Rattle.dt_resolve.proofs.Faults.{fault-same, fault-then}
-use Rattle.dt_resolve.proofs.GoneNodes.{gone-paths}
-use Rattle.dt_resolve.proofs.LeftRows.{filter-every, state-none}
+use Rattle.dt_resolve.proofs.GoneNodes.{gone-paths, root-left, stands-known}
+use Rattle.dt_resolve.proofs.LeftRows.{filter-every, listed-left, state-none}
 use Rattle.dt_resolve.proofs.Without.{each-both, map-left}
 
 -- ---- references found anew
@@ -69,6 +72,29 @@ left-read gone n s =
     ap (λ ps. record { nodes = filter (is_left gone) s.nodes; properties = ps; labels = filter (λ l. is_left gone l.path) s.labels; fragments = n })
     (filter-read read_definition (λ e. is_left gone e.path) s.properties)
 
+-- ---- numbers behind those of cells
+module _ (d new : LiveTree Parts) {plugin : Bool} (x : Numbered) (numbered : IsNumbered plugin d x) {gone : List Path} (rows : LeavesRows gone d.nodes.items new.nodes.items) (ys : List NodePhandle) (extends : Extends new x.of_cells.items ys) where
+  abbrev more : List NodePhandle
+  more = extends.more
+
+  pub extends-known : All (λ y. IsNode new y.node) ys
+  extends-known = subst (λ (zs : List NodePhandle). All (λ y. IsNode new y.node) zs) (sym extends.items)
+      (each-all (λ (y : NodePhandle). IsNode new y.node) (x.of_cells.items ++ more)
+      (each-append (λ y. IsNode new y.node) x.of_cells.items more
+      (each-more (λ y. IsNode d y.node) (λ y. IsNode new y.node) x.of_cells.items (λ y known. omega (arith, known, rows.count)) (each-of (λ y. IsNode d y.node) x.of_cells.items numbered.numbered.known))
+      (each-of (λ y. IsNode new y.node) more extends.standing.known)))
+
+  pub extends-stood : All (λ y. is_standing d y.node ≡ true) ys
+  extends-stood = subst (λ (zs : List NodePhandle). All (λ y. is_standing d y.node ≡ true) zs) (sym extends.items)
+      (each-all (λ (y : NodePhandle). is_standing d y.node ≡ true) (x.of_cells.items ++ more)
+      (each-append (λ y. is_standing d y.node ≡ true) x.of_cells.items more
+      (each-of (λ y. is_standing d y.node ≡ true) x.of_cells.items numbered.numbered.stand)
+      (each-more (λ y. IsNode new y.node × (is_standing new y.node ≡ true)) (λ y. is_standing d y.node ≡ true) more
+      (λ y h.
+      let known : y.node ≤ length d.nodes.items = omega (arith, h.0, rows.count) in
+      (and_parts (is_standing d y.node) (is_left gone (node_path d y.node)) (sym (rows.stand y.node known) ∙ h.1)).0)
+      (each-both (λ y. IsNode new y.node) (λ y. is_standing new y.node ≡ true) more (each-of (λ y. IsNode new y.node) more extends.standing.known) (each-of (λ y. is_standing new y.node ≡ true) more extends.standing.stand)))))
+
 any-by : {A B : Type 0} (f : A → B) (t : A → Bool) (u : B → Bool) (xs : List A) → Each (λ x. t x ≡ u (f x)) xs → list_any t xs ≡ list_any u (map f xs)
 any-by f t u [] h = refl
 any-by f t u (x ∷ xs) h = ap₂ (λ a b. a || b) h.0 (any-by f t u xs h.1)
@@ -89,7 +115,7 @@ module _ (symbols plugin : Bool) (t : DtcTree) (s : Standing) (of : IsStandingOf
       fault-same e _ (all_gathered symbols plugin t) start
       (fault-more e (references plugin (tree_of d)) (λ es. given_by_both es []) (λ es given. meaning.gathered symbols plugin t es given) fault)
 
-  module _ (x : Numbered) (numbered : IsNumbered plugin d x) (gone : List ℕ) (goes_rows : gone ≡ gone_rows s x.rest.targets.items symbols) (new : LiveTree Parts) (now : Rest) (without : IsWithout gone d x.rest new now) where
+  module _ (x : Numbered) (numbered : IsNumbered plugin d x) (gone : List ℕ) (goes_rows : gone ≡ gone_rows s x.rest.targets.items symbols) (each-gone : Each (IsThereIn d) gone) (new : LiveTree Parts) (now : Rest) (without : IsWithout gone d x.rest new now) where
     abbrev es : List (Definition (List Found))
     es = founds_in d x.rest
 
@@ -197,11 +223,40 @@ module _ (symbols plugin : Bool) (t : DtcTree) (s : Standing) (of : IsStandingOf
         ∙ ap (numbers_of_symbols kept of_cells) marked-paths
     symbols-by false = refl
 
+    -- ---- the nodes that stood
+    left-listed : (n : ℕ) → is_standing d n ≡ true → is_standing new n ≡ is_listed (node_path new n) ([] ∷ (rest_of G (dtc_state t)).nodes)
+    left-listed n up =
+        let known = stands-known d of.sound n up in
+        let there = there-by d.nodes.items (row_of d.node_rows) of.sound.grown of.sound.nodes (length d.nodes.items) n known up in
+        without.rows.rows.stand n known ∙ ap (λ b. b && is_left (paths_in d gone) (node_path d n)) up
+        ∙ sym (listed-left (is_left (paths_in d gone)) (node_path d n) (root-left d of.sound gone each-gone) (state_of d).nodes there)
+        ∙ ap₂ (λ p ns. is_listed p ([] ∷ ns)) (sym (without.rows.rows.paths n)) (ap (λ u. u.nodes) (sym without.rows.state) ∙ ap (λ u. u.nodes) (sym rest-same))
+
     module _ (sound : IsLiveTree new) (anew : Option (Vec (Option ℕ) Global)) (fixed : IsFixed plugin new now anew) (numbers : Vec NodePhandle Global)
-        (numbers-are : phandles_in new numbers.items ≡ all_numbers new order s.labelled.items x.given.items x.of_cells.items symbols) (numbers-known : All (λ y. IsNode new y.node) numbers.items)
+        (numbers-are : phandles_in new numbers.items ≡ all_numbers new order s.labelled.items x.given.items x.of_cells.items symbols) (numbers-known : All (λ y. IsNode new y.node) numbers.items) (numbers-stood : All (λ y. is_standing d y.node ≡ true) numbers.items)
         (labelled : Bool) (labelled-is : labelled ≡ list_any (is_marked s.labelled.items) order) where
       abbrev gathering : Gathering
       gathering = record { rest = now; anew = anew; given = x.given; new = numbers; labelled = labelled }
+
+      among-of : (target : Option ℕ) → IsThere d target → IsAmong (is_standing d) target
+      among-of None up = tt
+      among-of (Some n) up = up
+
+      have-stood : HaveStood (rest_of G (dtc_state t)).nodes (whole new gathering)
+      have-stood = record {
+        stood = is_standing d;
+        once = λ n m a b same.
+            one-node d.nodes.items (row_of d.node_rows) of.sound.grown of.sound.nodes n n m (omega arith) a b
+            (sym (without.rows.rows.paths n) ∙ same ∙ without.rows.rows.paths m);
+        left = left-listed;
+        still = λ n known up.
+            let inside : n ≤ length d.nodes.items = omega (arith, known, without.rows.rows.count) in
+            (and_parts (is_standing d n) (is_left (paths_in d gone) (node_path d n)) (sym (without.rows.rows.stand n inside) ∙ up)).0;
+        targets = without.among (is_standing d) (each-all (IsAmong (is_standing d)) x.rest.targets.items
+            (each-more (IsThere d) (IsAmong (is_standing d)) x.rest.targets.items among-of (each-of (IsThere d) x.rest.targets.items numbered.there)));
+        given = numbered.owners.stand;
+        new = numbers-stood;
+      }
 
       is-gathered : IsGathered plugin t (meant (fixed_in plugin new now anew)) (whole new gathering)
       is-gathered = record {
@@ -221,6 +276,7 @@ module _ (symbols plugin : Bool) (t : DtcTree) (s : Standing) (of : IsStandingOf
         given_known = λ k y below. omega (arith, numbered.owners.known k y below, without.rows.rows.count);
         new = numbers-are ∙ ap₂ (λ a b. a ++ b) cells-same (symbols-by symbols);
         new_known = numbers-known;
+        before = have-stood;
         labelled = labelled-is ∙ any-by (node_path new) (is_marked s.labelled.items) (ever_labelled t) order marks-same ∙ ap (list_any (ever_labelled t)) nodes-same;
       }
 

@@ -4,12 +4,12 @@ use Rattle.std.specs.List.{filter, list_any}
 use Rattle.std.specs.Str.{bytes_eq}
 use Rattle.std.proofs.lemmas.Bool.{and_parts}
 use Rattle.std.proofs.lemmas.List.Folds.{list_any-append}
-use Rattle.dt_meaning.specs.Paths.{Path, is_listed, is_within}
+use Rattle.dt_meaning.specs.Paths.{Path, is_listed, is_within, same_path}
 use Rattle.dt_meaning.specs.Edits.{Definition, Label, State, without_node}
 use Rattle.dt_meaning.specs.DtcResolved.{is_left}
 use Rattle.dt_live.specs.declared.live_tree.LiveTree.{LiveTree}
 use Rattle.dt_live.specs.Rows.{Taken, is_standing, node_path, path_of, stands, state_of}
-use Rattle.dt_live.proofs.PathTests.{same-is}
+use Rattle.dt_live.proofs.PathTests.{same-is, same-itself}
 use Rattle.dt_live.proofs.StandingProperties.{listed-standing}
 use Rattle.dt_edit.specs.Said.{Parts}
 use Rattle.dt_resolve.specs.Private.Gone.{IsThereIn, Leaves, left_of}
@@ -73,6 +73,41 @@ any-below : (gone : List Path) (g p : Path) → is_within g p ≡ true → list_
 any-below [] g p below any = any
 any-below (h ∷ hs) g p below any =
     any-by h g p (list_any (λ k. is_within k g) hs) (list_any (λ k. is_within k p) hs) below (any-below hs g p below) (is_within h g) refl any
+
+-- ---- paths that are listed among those that are left
+listed-never : (L : Path → Bool) (p : Path) → L p ≡ false → (xs : List Path) → is_listed p (filter L xs) ≡ false
+listed-never L p out [] = refl
+listed-never L p out (x ∷ xs) = by (L x) refl (listed-never L p out xs) where
+  apart : L x ≡ true → (b : Bool) → same_path p x ≡ b → b ≡ false
+  apart kept true same = absurd (true≢false (sym kept ∙ ap L (sym (same-is p x same)) ∙ out))
+  apart kept false same = refl
+
+  by : (b : Bool) → L x ≡ b → is_listed p (filter L xs) ≡ false → is_listed p (if b then x ∷ filter L xs else filter L xs) ≡ false
+  by true kept rest = ap₂ (λ a c. a || c) (apart kept (same_path p x) refl) rest
+  by false gone rest = rest
+
+here-by : (L : Path → Bool) (p x : Path) (xs : List Path) → p ≡ x → (b : Bool) → L x ≡ b → is_listed p (if b then x ∷ filter L xs else filter L xs) ≡ L p
+here-by L p x xs is true kept = ap (λ a. a || is_listed p (filter L xs)) (ap (same_path p) (sym is) ∙ same-itself p) ∙ sym (ap L is ∙ kept)
+here-by L p x xs is false gone = listed-never L p (ap L is ∙ gone) xs ∙ sym (ap L is ∙ gone)
+
+there-by : (L : Path → Bool) (p x : Path) (xs : List Path) → same_path p x ≡ false → is_listed p (filter L xs) ≡ L p → (b : Bool) → is_listed p (if b then x ∷ filter L xs else filter L xs) ≡ L p
+there-by L p x xs other rest true = ap (λ a. a || is_listed p (filter L xs)) other ∙ rest
+there-by L p x xs other rest false = rest
+
+listed-by : (L : Path → Bool) (p x : Path) (xs : List Path) → (is_listed p xs ≡ true → is_listed p (filter L xs) ≡ L p) → (a : Bool) → same_path p x ≡ a → (a || is_listed p xs) ≡ true
+    → is_listed p (if L x then x ∷ filter L xs else filter L xs) ≡ L p
+listed-by L p x xs rest true same there = here-by L p x xs (same-is p x same) (L x) refl
+listed-by L p x xs rest false other there = there-by L p x xs other (rest there) (L x)
+
+listed-filter : (L : Path → Bool) (p : Path) (xs : List Path) → is_listed p xs ≡ true → is_listed p (filter L xs) ≡ L p
+listed-filter L p [] there = absurd (true≢false (sym there))
+listed-filter L p (x ∷ xs) there = listed-by L p x xs (listed-filter L p xs) (same_path p x) refl there
+
+pub listed-left : (L : Path → Bool) (p : Path) → L [] ≡ true → (xs : List Path) → is_listed p ([] ∷ xs) ≡ true → is_listed p ([] ∷ filter L xs) ≡ L p
+listed-left L p root xs there = by (same_path p []) refl there where
+  by : (b : Bool) → same_path p [] ≡ b → (b || is_listed p xs) ≡ true → (same_path p [] || is_listed p (filter L xs)) ≡ L p
+  by true same up = ap (λ a. a || is_listed p (filter L xs)) same ∙ sym (ap L (same-is p [] same) ∙ root)
+  by false other up = ap (λ a. a || is_listed p (filter L xs)) other ∙ listed-filter L p xs up
 
 -- ---- one node more
 pub left-more : (gone : List Path) (g p : Path) → is_left (gone ++ g ∷ []) p ≡ (is_left gone p && not (is_within g p))

@@ -16,6 +16,7 @@ use Rattle.dt_live.proofs.Each.{Each, each-all, each-kept, each-more, each-of}
 use Rattle.dt_edit.specs.Said.{Parts}
 use Rattle.dt_resolve.specs.declared.gathered.Rest.{Rest}
 use Rattle.dt_resolve.specs.Founds.{found_properties}
+use Rattle.dt_resolve.specs.Gathered.{IsAmong}
 use Rattle.dt_resolve.specs.Targets.{IsKnown}
 use Rattle.dt_resolve.specs.Private.Gathering.{IsInOrder, IsWithout, founds_in, paths_in}
 use Rattle.dt_resolve.specs.Private.Gone.{IsThereIn, Leaves, left_targets}
@@ -47,6 +48,7 @@ without-none d x gone none order = subst (λ (ns : List ℕ). IsWithout ns d x d
   rows = leaves-none d;
   order = order;
   founds = sym (filter-every (λ e. is_left [] e.path) (λ e. refl) (founds_in d x));
+  among = λ test all. all;
 })
 
 module _ (gone : List ℕ) (old new : LiveTree Parts) (sound : IsLiveTree old) (each : Each (IsThereIn old) gone) (left : Leaves (paths_in old gone) old new) where
@@ -125,4 +127,5 @@ module _ (gone : List ℕ) (old new : LiveTree Parts) (sound : IsLiveTree old) (
           ap₂ (λ (f : ℕ → Path) ys. found_properties f ys now.targets.items) same-paths properties
           ∙ ap (found_properties (node_path old) (filter (λ x. is_standing new x.node) xs)) targets
           ∙ left-founds (node_path old) (is_standing new) (is_left G) xs properties-agree was.targets.items;
+      among = λ test all. each-all (IsAmong test) now.targets.items (subst (λ (ts : List (Option ℕ)). Each (IsAmong test) ts) (sym targets) (each-target (IsAmong test) tt (is_standing new) xs was.targets.items all));
     }

@@ -1,9 +1,10 @@
 -- All that making a tree in dtc's language needs: what is left of the tree, the targets of its references, and the numbers of nodes
 -- (Devicetree Specification v0.4, sections 2.3.3 and 6.3; in plugins dt-object-internal, section 2).
-use Rattle.std.specs.Prelude.{◌≡◌, ℕ, Bool, not, List, [], map, All, Option, Some, None, Result, Ok, Err, MatchResult, if◌then◌else◌, Vec}
+use Rattle.std.specs.Prelude.{◌≡◌, ℕ, Bool, not, List, [], map, All, Option, Some, None, Result, Ok, Err, MatchResult, if◌then◌else◌, Vec, true, ◌∷◌}
 use Rattle.std.specs.Global.{Global}
 use Rattle.std.specs.List.{filter, list_any}
 use Rattle.dt_tree.specs.Steps.{then_do}
+use Rattle.dt_meaning.specs.Paths.{Path, is_listed}
 use Rattle.dt_meaning.specs.Edits.{counted}
 use Rattle.dt_meaning.specs.Statements.{Fault, ReservedName}
 use Rattle.dt_meaning.specs.References.{preorder, references}
@@ -12,7 +13,7 @@ use Rattle.dt_meaning.specs.DtcEdits.{DtcTree, ever_labelled}
 use Rattle.dt_meaning.specs.DtcStatements.{dtc_state}
 use Rattle.dt_meaning.specs.DtcPhandles.{asks_for_own, given_by_both}
 use Rattle.dt_meaning.specs.DtcResolved as meaning
-use Rattle.dt_live.specs.Rows.{IsLiveTree, IsNode, node_path}
+use Rattle.dt_live.specs.Rows.{IsLiveTree, IsNode, is_standing, node_path}
 use Rattle.dt_live.specs.Preorder.{AreInOrder, AreInPreorder, Stands}
 use Rattle.dt_edit.specs.Said.{tree_of}
 use Rattle.dt_resolve.specs.declared.error.BuildError.{BuildError}
@@ -33,6 +34,22 @@ abbrev pub targets_anew : List (Option ℕ) → Option (Vec (Option ℕ) Global)
 targets_anew ts None = ts
 targets_anew ts (Some v) = v.items
 
+-- a target is one of the nodes that pass, where there is one
+abbrev pub IsAmong : (ℕ → Bool) → Option ℕ → Type 0
+IsAmong test None = Unit {0}
+IsAmong test (Some n) = test n ≡ true
+
+-- The nodes that stood before some went, told apart by their paths: those that still stand are the nodes of what is left, and each
+-- target and each node with a number is one of them.
+pub record HaveStood (rest : List Path) (x : Gathered) : Type 0 where
+  pub stood : ℕ → Bool
+  pub once : (n m : ℕ) → stood n ≡ true → stood m ≡ true → node_path x.live n ≡ node_path x.live m → n ≡ m
+  pub left : (n : ℕ) → stood n ≡ true → is_standing x.live n ≡ is_listed (node_path x.live n) ([] ∷ rest)
+  pub still : (n : ℕ) → IsNode x.live n → is_standing x.live n ≡ true → stood n ≡ true
+  pub targets : All (IsAmong stood) x.targets.items
+  pub given : All (λ y. stood y.node ≡ true) x.given.items
+  pub new : All (λ y. stood y.node ≡ true) x.new.items
+
 -- the lists are those of the meaning
 pub record IsGathered (plugin : Bool) (t : DtcTree) (meant : meaning.Gathered) (x : Gathered) : Type 0 where
   pub sound : IsLiveTree x.live
@@ -52,6 +69,7 @@ pub record IsGathered (plugin : Bool) (t : DtcTree) (meant : meaning.Gathered) (
   pub new : map (path_phandle_of x.live.nodes.items) x.new.items ≡ meant.new
   pub new_known : All (λ y. IsNode x.live y.node) x.new.items
   pub labelled : x.labelled ≡ list_any (ever_labelled t) (preorder meant.rest.nodes)
+  pub before : HaveStood meant.rest.nodes x
 
 -- a call gathers what the meaning does, or has its fault
 abbrev pub Gathers : Bool → Bool → DtcTree → Result Gathered BuildError → Type 0

@@ -6,7 +6,7 @@ ghost use Rattle.dt_live.specs.Rows.{IsLiveTree, IsNode, is_standing};
 ghost use Rattle.dt_edit.specs.Standing.{IsStandingOf};
 ghost use Rattle.dt_resolve.specs.Gathered.{Gathers};
 ghost use Rattle.dt_resolve.specs.NodePhandles.{path_phandle_of};
-ghost use Rattle.dt_resolve.specs.Private.Gathering.{FindsAnew, GathersIn, IsInOrder, IsWithout, NumbersCells, all_numbers};
+ghost use Rattle.dt_resolve.specs.Private.Gathering.{Extends, FindsAnew, GathersIn, IsInOrder, IsWithout, NumbersCells, all_numbers};
 ghost use Rattle.dt_resolve.specs.Private.Gone.{IsThereIn, is_marked};
 ghost use Rattle.dt_resolve.specs.Targets.{IsKnown};
 
@@ -173,7 +173,7 @@ fn number_symbols<'d, 't>(
     requires given { All (λ x. IsNode live.now x.node) given.now }
     requires of_cells { All (λ x. IsNode live.now x.node) of_cells.now }
     ensures numbers { IfOk result (λ new. map (path_phandle_of live.now.nodes.items) new.items ≡ all_numbers live.now order.now labelled.now given.now of_cells.now symbols) }
-    ensures known { IfOk result (λ new. All (λ x. IsNode live.now x.node) new.items) }
+    ensures extends { IfOk result (λ new. Extends live.now of_cells.now new.items) }
 {
     let mut new = Vec::from_slice(alloc, of_cells)?;
     if symbols {

@@ -25,7 +25,7 @@ use Rattle.dt_resolve.specs.declared.gathered.Rest.{Rest}
 use Rattle.dt_resolve.specs.declared.node_phandles.NodePhandle.{NodePhandle}
 use Rattle.dt_resolve.specs.BuildFault.{IsFault}
 use Rattle.dt_resolve.specs.Founds.{found_properties}
-use Rattle.dt_resolve.specs.Gathered.{IsGathered, all_gathered, targets_anew}
+use Rattle.dt_resolve.specs.Gathered.{IsAmong, IsGathered, all_gathered, targets_anew}
 use Rattle.dt_resolve.specs.NodePhandles.{AreStanding, path_phandle_of}
 use Rattle.dt_resolve.specs.Targets.{IsKnown, IsThere, target_path}
 use Rattle.dt_resolve.specs.Private.Gone.{Leaves, is_marked}
@@ -71,6 +71,7 @@ pub record IsWithout (gone : List ℕ) (old : LiveTree Parts) (was : Rest) (new 
   pub rows : Leaves (paths_in old gone) old new
   pub order : IsInOrder new left
   pub founds : founds_in new left ≡ filter (λ e. is_left (paths_in old gone) e.path) (founds_in old was)
+  pub among : (test : ℕ → Bool) → All (IsAmong test) was.targets.items → All (IsAmong test) left.targets.items
 
 -- ---- references found anew, where one of the tree's nodes went
 abbrev pub fixed_in : Bool → LiveTree Parts → Rest → Option (Vec (Option ℕ) Global) → List (Definition (List Found))
@@ -92,6 +93,12 @@ FindsAnew plugin gone d x result = IsAsFound plugin gone d x → MatchResult res
 abbrev pub all_numbers : LiveTree Parts → List ℕ → List Bool → List NodePhandle → List NodePhandle → Bool → List PathPhandle
 all_numbers d order labelled given of_cells symbols =
     phandles_in d of_cells ++ (if symbols then symbol_numbers d given of_cells (marked_rows d (is_marked labelled) order) else [])
+
+-- those of cells, and others of nodes that stand behind them
+pub record Extends (d : LiveTree Parts) (of_cells new : List NodePhandle) : Type 0 where
+  pub more : List NodePhandle
+  pub items : new ≡ of_cells ++ more
+  pub standing : AreStanding d.nodes.items more
 
 -- ---- all
 abbrev pub whole : LiveTree Parts → Gathering → Gathered
