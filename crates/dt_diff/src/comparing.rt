@@ -26,7 +26,8 @@ struct Sight<'a, 't> {
     naming: &'a Naming<'t>,
 }
 
-fn is_own_phandle(name: &[u8]) -> bool
+/// Whether a property of this name gives its node's phandle, and so doesn't count.
+pub fn is_own_phandle(name: &[u8]) -> bool
     ensures { result ≡ is_own_phandle name.now }
 {
     name == b"phandle".as_slice() || name == b"linux,phandle".as_slice()

@@ -8,7 +8,7 @@ mod naming;
 mod parts;
 mod reference_table;
 
-pub use comparing::{Comparison, compare};
+pub use comparing::{Comparison, compare, is_own_phandle};
 pub use difference::{Difference, Side, Thing};
 pub use naming::{Named, Naming};
 pub use parts::{Part, Seen, are_same};

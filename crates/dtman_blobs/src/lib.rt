@@ -12,5 +12,5 @@ mod value_type;
 pub use asking::{AskError, list_text, node_text, set_bytes, value_line};
 pub use diffing::{DiffError, Titles, diff_bytes};
 pub use saying::{SayError, said};
-pub use showing::{ShowError, shown};
+pub use showing::{ShowError, are_texts, shown};
 pub use value_type::{Notation, ValueType, Width};

@@ -19,8 +19,8 @@ impl From<AllocError> for ShowError {
     }
 }
 
-// Whether a value is texts of printing characters, each with a zero byte behind it.
-fn are_texts(value: &[u8]) -> bool {
+/// Whether a value is texts of printing characters, each with a zero byte behind it.
+pub fn are_texts(value: &[u8]) -> bool {
     let Some((last, texts)) = value.split_last() else {
         return false;
     };

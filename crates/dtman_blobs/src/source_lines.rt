@@ -1,7 +1,7 @@
 //! Properties and nodes as lines of a source, each behind a mark.
 
 use dt_blob::{BlobError, source_text};
-use dt_diff::{Form, Naming, Part, Seen};
+use dt_diff::{Form, Naming, Part, Seen, is_own_phandle};
 use dt_tree::{Node, Property, Tree};
 use std::alloc::{AllocError, Global};
 
@@ -125,12 +125,14 @@ fn add_properties(
     node: &Node,
 ) -> Result<(), BlobError> {
     for property in node.properties() {
-        add_property(alloc, text, mark, depth, naming, property)?;
+        if !is_own_phandle(property.name.as_bytes()) {
+            add_property(alloc, text, mark, depth, naming, property)?;
+        }
     }
     Ok(())
 }
 
-/// The lines of a node, with all below it.
+/// The lines of a node, with all below it, but for its phandle.
 pub fn add_node(
     alloc: Global,
     text: &mut Vec<u8>,
