@@ -10,9 +10,8 @@ use Rattle.dt_check.specs.Cells.{is_multiple}
 use Rattle.dt_check.specs.Fault.{of_node, of_property}
 use Rattle.dt_check.specs.Nodes.{PlacedData, node_at, value_at, above_at, place_with}
 use Rattle.dt_check_links.specs.declared.interrupts.Way.{Way}
-use Rattle.dt_check_links.specs.declared.interrupts.Way.TheVariants.{Found, NotAProvider, NoNode, NoPhandle, Nowhere}
+use Rattle.dt_check_links.specs.declared.interrupts.Way.TheVariants.{Found, NotAProvider, NoNode, NoPhandle, Open, Nowhere}
 use Rattle.dt_check_links.specs.Link.{LinkFaultData, at_node}
-use Rattle.dt_check_links.specs.Lists.{is_no_phandle}
 
 abbrev pub is_provider_at : List PlacedData → ℕ → Bool
 is_provider_at nodes place = option_map_or is_provider (node_at nodes place) false
@@ -25,7 +24,8 @@ led_to nodes place = if is_provider_at nodes place then Found place else NotAPro
 abbrev pub named_parent : List PlacedData → ℕ → List ℕ → Way
 named_parent nodes at value =
     option_map_or
-    (λ phandle. if is_no_phandle phandle then NoPhandle at else option_map_or (led_to nodes) (place_with nodes phandle) (NoNode at))
+    (λ phandle. if phandle == 4294967295 then Open
+    else (if phandle == 0 then NoPhandle at else option_map_or (led_to nodes) (place_with nodes phandle) (NoNode at)))
     (cell_in value) (NoPhandle at)
 
 -- where the way ends at a node, if it does
@@ -74,6 +74,7 @@ found_fault (NoPhandle at) = Some (at_node at (of_property (codes "interrupt-par
 found_fault (NoNode at) = Some (at_node at (of_property (codes "interrupt-parent") NoParent))
 found_fault (NotAProvider place) = Some (at_node place (of_node TakesNone))
 found_fault (Found place) = None
+found_fault Open = None
 found_fault Nowhere = None
 
 abbrev pub search_fault : List PlacedData → ℕ → Option LinkFaultData
@@ -82,6 +83,7 @@ search_fault nodes own = option_and_then (λ _. found_fault (search nodes own)) 
 abbrev pub no_parent : ℕ → Way → Option LinkFaultData
 no_parent own (NoPhandle at) = Some (at_node own (of_node NoInterruptParent))
 no_parent own Nowhere = Some (at_node own (of_node NoInterruptParent))
+no_parent own Open = None
 no_parent own (NoNode at) = None
 no_parent own (NotAProvider place) = None
 no_parent own (Found place) = None
@@ -95,6 +97,7 @@ taker (Found place) = Some place
 taker (NotAProvider place) = Some place
 taker (NoNode at) = None
 taker (NoPhandle at) = None
+taker Open = None
 taker Nowhere = None
 
 abbrev pub wanted_bytes : List PlacedData → Way → Option ℕ

@@ -1,3 +1,4 @@
+pub mod Aliases
 pub mod Endpoint
 pub mod Graph
 pub mod Interrupts

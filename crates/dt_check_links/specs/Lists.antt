@@ -1,5 +1,6 @@
 -- Lists of phandles with specifiers (Devicetree Specification v0.4, sections 2.3.3 and 2.5; the bindings of Linux, one of each list):
--- behind each phandle stand as many cells as a property of its node says. An entry may be left empty, by 0 or all ones.
+-- behind each phandle stand as many cells as a property of its node says. An entry may be left empty by 0; one
+-- of all ones is left to the base of a plugin, as are those behind it.
 use Rattle.std.specs.Prelude.{ℕ, ◌+◌, ◌-◌, Bool, not, ◌||◌, ◌==◌, nat_lt, if◌then◌else◌, List, [], ◌∷◌, length, Option, Some, None, option_and_then, Result, Ok, Err}
 use Rattle.std.specs.Option.{option_map_or}
 use Rattle.std.specs.Str.{bytes_eq}
@@ -44,7 +45,8 @@ abbrev pub entries_fault : List PlacedData → ListingData → Property → ℕ 
 entries_fault nodes l p skipped cell [] = None
 entries_fault nodes l p skipped cell (number ∷ more) =
     if skipped == 0
-    then fault_or (entry nodes l p cell (length more) number) (λ cells. entries_fault nodes l p cells (cell + 1) more)
+    then (if number == 4294967295 then None
+    else fault_or (entry nodes l p cell (length more) number) (λ cells. entries_fault nodes l p cells (cell + 1) more))
     else entries_fault nodes l p (skipped - 1) (cell + 1) more
 
 abbrev pub list_fault : List PlacedData → ListingData → Property → Option FaultData

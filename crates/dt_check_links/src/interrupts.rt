@@ -4,7 +4,6 @@ ghost use Rattle.std.specs.Option.{option_copied};
 ghost use Rattle.dt_check_links.specs.Interrupts.{most_levels, named_parent, is_provider_at, step, next, search, search_from, lines, length_fault, found_fault, search_fault, missing_fault, wanted_bytes, cells_fault, cells_fault_by};
 
 use crate::link::LinkFault;
-use crate::lists::is_no_phandle;
 use dt_check::{Fault, Message, Survey, is_multiple, is_provider};
 use dt_tree::{Bytes, cell_in};
 
@@ -19,6 +18,8 @@ pub enum Way {
     NoNode(usize),
     /// The `interrupt-parent` of this node holds no phandle.
     NoPhandle(usize),
+    /// The phandle is left to the base of a plugin.
+    Open,
     /// No node says.
     Nowhere,
 }
@@ -45,7 +46,10 @@ fn named_parent(survey: &Survey<'_>, at: usize, value: &[u8]) -> Way
     let Some(phandle) = cell_in(value) else {
         return Way::NoPhandle(at);
     };
-    if is_no_phandle(phandle) {
+    if phandle == u32::MAX {
+        return Way::Open;
+    }
+    if phandle == 0 {
         return Way::NoPhandle(at);
     }
     let Some(place) = survey.with_phandle(phandle) else {

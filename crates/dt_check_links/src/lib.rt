@@ -1,6 +1,7 @@
 //! Mistakes in devicetrees that show along phandles and paths: specifiers, interrupts, aliases, graphs.
 #![tactic(auto)]
 
+mod aliases;
 mod endpoint;
 mod graph;
 mod interrupts;
@@ -8,6 +9,7 @@ mod link;
 mod lists;
 mod phandles;
 
+pub use aliases::alias_fault;
 pub use endpoint::{Remote, far_fault, near_fault, one_way_fault};
 pub use graph::{
     graph_address_fault, graph_name_fault, graph_reg_fault, graph_size_fault, graph_unit_fault,

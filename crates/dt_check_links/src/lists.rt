@@ -93,6 +93,8 @@ fn entries_fault<'t>(
         rest = behind;
         if skipped > 0 {
             skipped -= 1;
+        } else if number == u32::MAX {
+            return None;
         } else {
             match entry(survey, listing, property, cell, cell_count(rest), number) {
                 Err(fault) => return Some(fault),
