@@ -1,16 +1,17 @@
 -- Where a device is on its bus: its unit address is the first address of its `reg` in hex (Devicetree Specification v0.4, section
 -- 2.2.1.1), on a simple bus else the first address above that its `ranges` names. The bindings i2c/i2c.txt and spi/spi-controller.yaml
 -- of Linux: an I2C address has 7 bits, or 10 with bit 31; bit 30 says that it is the bus's own.
-use Rattle.std.specs.Prelude.{ℕ, ◌+◌, ◌-◌, ◌*◌, ◌/◌, ◌%◌, Bool, false, not, ◌&&◌, ◌||◌, ◌==◌, nat_lt, codes, if◌then◌else◌, List, take, drop, length, Option, Some, None, option_and_then}
+use Rattle.std.specs.Prelude.{ℕ, ◌+◌, ◌-◌, ◌*◌, ◌/◌, ◌%◌, Bool, false, not, ◌&&◌, ◌||◌, ◌==◌, nat_lt, codes, if◌then◌else◌, List, [], ◌∷◌, take, drop, length, Option, Some, None, option_and_then}
 use Rattle.std.specs.Option.{option_map_or}
 use Rattle.std.specs.Int.{from_be_bytes, w32}
 use Rattle.dt_tree.specs.NodeData.{NodeData}
 use Rattle.dt_tree.specs.PathMap.{value_of}
+use Rattle.dt_tree.specs.Phandle.{or_else}
 use Rattle.dt_check.specs.declared.message.Bus.{Bus}
 use Rattle.dt_check.specs.declared.message.Bus.TheVariants.{Simple, I2c, Spi}
 use Rattle.dt_check.specs.declared.message.Message.TheVariants.{NoAddress, Unit as WrongUnit, TenBits, SevenBits}
 use Rattle.dt_check.specs.Buses.{is_i2c, is_simple, is_spi}
-use Rattle.dt_check.specs.Cells.{has, address_cells, cell_from}
+use Rattle.dt_check.specs.Cells.{has, address_cells, cell_from, cells_of}
 use Rattle.dt_check.specs.Fault.{FaultData, of_node, of_property}
 use Rattle.dt_check.specs.Nodes.{HereData}
 use Rattle.dt_check.specs.Unit.{unit_address, is_hex_of}
@@ -89,3 +90,15 @@ abbrev pub bits_fault : ℕ → Option FaultData
 bits_fault address =
     if nat_lt (2147483648 + 1023) (without_own address) then Some (of_property (codes "reg") (TenBits (without_own address)))
     else (if nat_lt 127 (without_own address) then Some (of_property (codes "reg") (SevenBits (without_own address))) else None)
+
+-- of the first of these addresses that has too many
+abbrev pub first_bits_fault : List ℕ → Option FaultData
+first_bits_fault [] = None
+first_bits_fault (a ∷ more) = or_else (bits_fault a) (first_bits_fault more)
+
+abbrev pub i2c_bits_fault : HereData → Option FaultData
+i2c_bits_fault here =
+    option_and_then
+    (λ above. if not (is_i2c above) then None
+    else option_and_then (λ v. first_bits_fault (cells_of v)) (value_of here.node.properties (codes "reg")))
+    here.above

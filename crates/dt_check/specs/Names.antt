@@ -1,11 +1,11 @@
 -- The bytes of names (Devicetree Specification v0.4, tables 2.1 and 2.2), and those that dtc's manual recommends: letters, digits, `,`
 -- and `-`, in a property's name also a `#` in front of it or behind its vendor's comma.
-use Rattle.std.specs.Prelude.{ℕ, ◌+◌, ◌-◌, Bool, not, ◌&&◌, ◌||◌, ◌==◌, nat_le, position, codes, if◌then◌else◌, List, drop, slice_index, find, Option, Some, None, option_and_then}
+use Rattle.std.specs.Prelude.{ℕ, ◌+◌, ◌-◌, Bool, not, ◌&&◌, ◌||◌, ◌==◌, nat_le, position, codes, if◌then◌else◌, List, take, drop, length, slice_index, find, Option, Some, None, option_and_then}
 use Rattle.std.specs.Option.{option_map}
 use Rattle.std.specs.Str.{bytes_eq}
 use Rattle.dt_tree.specs.declared.property.Property.{Property}
 use Rattle.dt_tree.specs.PathMap.{value_of}
-use Rattle.dt_check.specs.declared.message.Message.TheVariants.{BadNodeByte, OddNodeByte, SecondAt, NameTwice, BadPropertyByte, OddPropertyByte}
+use Rattle.dt_check.specs.declared.message.Message.TheVariants.{BadNodeByte, OddNodeByte, SecondAt, NameTwice, BadPropertyByte, OddPropertyByte, WrongName}
 use Rattle.dt_check.specs.Fault.{FaultData, of_node, of_property}
 use Rattle.dt_check.specs.Nodes.{HereData}
 use Rattle.dt_check.specs.Unit.{base_name, unit_address, is_at}
@@ -39,6 +39,17 @@ second_at_fault here = option_map (λ _. of_node SecondAt) (position is_at (unit
 abbrev pub name_twice_fault : HereData → Option FaultData
 name_twice_fault here =
     option_and_then (λ above. option_map (λ _. of_node NameTwice) (value_of above.properties here.node.name)) here.above
+
+-- a string without the zero that ends it
+abbrev pub before_last : List ℕ → List ℕ
+before_last v = if length v == 0 then v else take (length v - 1) v
+
+-- the property `name` of old trees is the base of the node's name
+abbrev pub name_fault : HereData → Option FaultData
+name_fault here =
+    option_and_then
+    (λ v. if bytes_eq (before_last v) (base_name here.node.name) then None else Some (of_property (codes "name") WrongName))
+    (value_of here.node.properties (codes "name"))
 
 abbrev pub property_byte_fault : Property → Option FaultData
 property_byte_fault p = option_map (λ b. of_property p.name (BadPropertyByte b)) (find (λ b. not (is_property_byte b)) p.name)

@@ -6,6 +6,7 @@ use Rattle.std.proofs.Common.{refl}
 use Rattle.std.specs.Coded.{Coded, code_by, coded×, coded_ℕ, coded_option}
 use Rattle.dt_tree.specs.NodeCode.{coded_node}
 use Rattle.dt_tree.specs.NodeData.{Siblings, none, more, NodeData, node_data}
+use Rattle.dt_tree.specs.PathMap.{value_of}
 use Rattle.dt_tree.specs.Phandle.{phandle_of}
 
 -- a node, and the place of the one above it
@@ -40,6 +41,14 @@ node_at nodes place = option_map (λ p. p.node) (slice_get nodes place)
 
 abbrev pub here_of : List PlacedData → PlacedData → HereData
 here_of nodes p = record { node = p.node; above = option_and_then (node_at nodes) p.above }
+
+-- the value of a node's property of this name
+abbrev pub value_at : List PlacedData → ℕ → List ℕ → Option (List ℕ)
+value_at nodes place name = option_and_then (λ b. value_of b.properties name) (node_at nodes place)
+
+-- the place of the node above one
+abbrev pub above_at : List PlacedData → ℕ → Option ℕ
+above_at nodes place = option_and_then (λ p. p.above) (slice_get nodes place)
 
 -- how the logic stores them
 abbrev pub coded_placed : Coded PlacedData

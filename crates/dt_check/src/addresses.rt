@@ -1,8 +1,10 @@
 //! Where a device is on its bus, by its unit address.
 ghost use Rattle.std.specs.Prelude.{◌≡◌};
-ghost use Rattle.dt_check.specs.Addresses.{number_in, translated, simple_number, simple_fault, is_missing, has_entries, no_reg_fault, first_address, without_own, i2c_fault, spi_fault, unit_fault_by, bits_fault};
+ghost use Rattle.dt_check.specs.Addresses.{number_in, translated, simple_number, simple_fault, is_missing, has_entries, no_reg_fault, first_address, without_own, i2c_fault, spi_fault, unit_fault_by, bits_fault, first_bits_fault, i2c_bits_fault};
+ghost use Rattle.dt_check.specs.Cells.{cells_of};
 
-use crate::buses::{cell_from, is_i2c, is_simple, is_spi};
+use crate::buses::{is_i2c, is_simple, is_spi};
+use crate::cells::{cell_from, next_cell};
 use crate::fault::Fault;
 use crate::here::{Here, has};
 use crate::message::{Bus, Message};
@@ -155,8 +157,8 @@ pub fn spi_fault(here: &Here<'_>) -> Option<Fault<'static>>
     }
 }
 
-/// An address on I2C that has too many bits.
-pub fn bits_fault(address: u32) -> Option<Fault<'static>>
+// An address on I2C that has too many bits.
+fn bits_fault(address: u32) -> Option<Fault<'static>>
     ensures { result ≡ bits_fault address }
 {
     let address = without_own(address);
@@ -167,4 +169,33 @@ pub fn bits_fault(address: u32) -> Option<Fault<'static>>
         return Some(Fault::of_property(b"reg", Message::SevenBits(address)));
     }
     None
+}
+
+fn first_bits_fault(value: &[u8]) -> Option<Fault<'static>>
+    ensures { result ≡ first_bits_fault (cells_of value.now) }
+{
+    let mut rest = value;
+    while let Some((address, behind)) = next_cell(rest) {
+        rest = behind;
+        if let Some(fault) = bits_fault(address) {
+            return Some(fault);
+        }
+    }
+    None
+}
+
+/// The first of a device's addresses on I2C that has too many bits.
+pub fn i2c_bits_fault(here: &Here<'_>) -> Option<Fault<'static>>
+    ensures { result ≡ i2c_bits_fault here.now }
+{
+    let Some(above) = here.above() else {
+        return None;
+    };
+    if !is_i2c(above) {
+        return None;
+    }
+    match here.value(b"reg") {
+        None => None,
+        Some(value) => first_bits_fault(value.as_slice()),
+    }
 }

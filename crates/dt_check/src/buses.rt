@@ -1,24 +1,13 @@
 //! Which bus a node is.
 ghost use Rattle.std.specs.Prelude.{◌≡◌};
 ghost use Rattle.std.specs.List.{list_any};
-ghost use Rattle.dt_check.specs.Cells.{cell_from};
 ghost use Rattle.dt_check.specs.Buses.{is_pci, is_simple, is_i2c, is_spi_like, is_spi, starts_spi, has_spi_property, is_called, is_provider};
 
 use crate::here::{children, has};
 use crate::reg::{address_cells, size_cells};
 use crate::texts::{has_string, is_same};
 use crate::unit::base_name;
-use dt_tree::{Node, Property, cell_at};
-
-/// The cell at an offset.
-pub fn cell_from(value: &[u8], offset: usize) -> Option<u32>
-    ensures { result ≡ cell_from offset value.now }
-{
-    if value.len() < 4 || value.len() - 4 < offset {
-        return None;
-    }
-    Some(cell_at(value, offset))
-}
+use dt_tree::{Node, Property};
 
 /// Whether the base of a node's name is this one.
 pub fn is_called(node: &Node, name: &[u8]) -> bool

@@ -18,6 +18,8 @@ pub enum Message {
     SecondAt,
     /// The node above has a property of the node's name.
     NameTwice,
+    /// The property `name` isn't the base of the node's name.
+    WrongName,
     /// The byte can't stand in the name of a property.
     BadPropertyByte(u8),
     /// The byte isn't recommended there.

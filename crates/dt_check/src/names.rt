@@ -2,11 +2,12 @@
 ghost use Rattle.std.specs.Prelude.{◌≡◌, ◌<◌, not, find, length, position, IfSome};
 ghost use Rattle.std.specs.Option.{option_map};
 ghost use Rattle.std.specs.Str.{bytes_eq};
-ghost use Rattle.dt_check.specs.Names.{is_plain, is_node_byte, is_property_byte, is_strict, node_byte_fault, strict_node_fault, second_at_fault, name_twice_fault, property_byte_fault, odd_byte, odd_behind, strict_property_fault};
+ghost use Rattle.dt_check.specs.Names.{is_plain, is_node_byte, is_property_byte, is_strict, node_byte_fault, strict_node_fault, second_at_fault, name_twice_fault, property_byte_fault, before_last, name_fault, odd_byte, odd_behind, strict_property_fault};
 
 use crate::fault::Fault;
 use crate::here::Here;
 use crate::message::Message;
+use crate::texts::is_same;
 use crate::unit::{at_in, base_name, unit_address};
 use dt_tree::Property;
 
@@ -92,6 +93,32 @@ fn property_byte_in(name: &[u8]) -> Option<u8>
     ensures { result ≡ find (λ b. not (is_property_byte b)) name.now }
 {
     name.iter().copied().find(|byte| !is_property_byte(*byte))
+}
+
+// A string without the zero that ends it.
+fn before_last(value: &[u8]) -> &[u8]
+    ensures { result.now ≡ before_last value.now }
+{
+    if value.is_empty() {
+        return value;
+    }
+    &value[..value.len() - 1]
+}
+
+/// A property `name` that isn't the base of the node's name.
+pub fn name_fault(here: &Here<'_>) -> Option<Fault<'static>>
+    ensures { result ≡ name_fault here.now }
+{
+    let Some(value) = here.value(b"name") else {
+        return None;
+    };
+    if is_same(
+        before_last(value.as_slice()),
+        base_name(here.node().name_bytes()),
+    ) {
+        return None;
+    }
+    Some(Fault::of_property(b"name", Message::WrongName))
 }
 
 /// A byte that can't stand in a property's name.

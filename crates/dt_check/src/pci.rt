@@ -3,7 +3,8 @@ ghost use Rattle.std.specs.Prelude.{◌≡◌, ◌<◌, length, position, IfSome
 ghost use Rattle.std.specs.Option.{option_copied};
 ghost use Rattle.dt_check.specs.Pci.{is_comma, pci_name_fault, no_ranges_fault, bus_range, two_cells_fault, order_fault, end_fault, pci_address, first_cell, later_cells_fault, space_fault, register_fault, is_pci_unit, pci_unit_fault, last_bus, first_bus, pci_bus_fault, bus_fault_in};
 
-use crate::buses::{cell_from, is_called, is_pci, is_simple};
+use crate::buses::{is_called, is_pci, is_simple};
+use crate::cells::cell_from;
 use crate::fault::Fault;
 use crate::here::{Here, has};
 use crate::message::{Bus, Message};

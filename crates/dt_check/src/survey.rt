@@ -9,7 +9,7 @@ ghost use Rattle.dt_check.specs.Private.Places.{own_place};
 use crate::here::Here;
 use crate::placed::Placed;
 use crate::walk::nodes_of;
-use dt_tree::{Node, Tree};
+use dt_tree::{Bytes, Node, Tree};
 use indexmap::IndexMap;
 use std::alloc::{AllocError, Global};
 use std::hash::RandomState;
@@ -69,7 +69,7 @@ fn keep_places(
 }
 
 impl<'t> Survey<'t> {
-    ghost use Rattle.dt_check.specs.Nodes.{tree_nodes, place_with, here_of, node_at};
+    ghost use Rattle.dt_check.specs.Nodes.{tree_nodes, place_with, here_of, node_at, value_at, above_at};
 
     /// Of the nodes of a tree.
     pub fn of(alloc: Global, hasher: RandomState, tree: &'t Tree) -> Result<Self, AllocError>
@@ -102,6 +102,26 @@ impl<'t> Survey<'t> {
         match self.nodes.get(place) {
             None => None,
             Some(placed) => Some(placed.node()),
+        }
+    }
+
+    /// The value of a node's property of this name.
+    pub fn value(&self, place: usize, name: &[u8]) -> Option<&'t Bytes>
+        ensures { option_copied result ≡ value_at self.now place name.now }
+    {
+        match self.node(place) {
+            None => None,
+            Some(node) => node.value(name),
+        }
+    }
+
+    /// The place of the node above one.
+    pub fn above(&self, place: usize) -> Option<usize>
+        ensures { result ≡ above_at self.now place }
+    {
+        match self.nodes.get(place) {
+            None => None,
+            Some(placed) => placed.above(),
         }
     }
 
