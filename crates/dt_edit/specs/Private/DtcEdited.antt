@@ -1,13 +1,14 @@
 -- What edits of dtc's language do to a placed tree (Devicetree Specification v0.4, section 6.3).
-use Rattle.std.specs.Prelude.{◌≡◌, ℕ, Bool, true, List, length, map}
+use Rattle.std.specs.Prelude.{◌≡◌, ℕ, Bool, true, List, [], ◌∷◌, length, map, Result, Err, if◌then◌else◌}
 use denote.Ref.{Bor}
 use Rattle.dt_source.specs.declared.tree.Statement.{Statement}
 use Rattle.dt_source.specs.Tree.{views}
 use Rattle.dt_meaning.specs.Syntax.{Piece, Entry, Child}
-use Rattle.dt_meaning.specs.DtcEdits.{DtcTree}
+use Rattle.dt_meaning.specs.Statements.{Fault, DuplicateInBody}
+use Rattle.dt_meaning.specs.DtcEdits.{DtcTree, made_node, node_has_place}
 use Rattle.dt_places.specs.declared.placed_tree.PlacedTree.{PlacedTree}
 use Rattle.dt_places.specs.PlacedTrees.{IsPlacedTree, IsStanding, dtc_tree, node_path}
-use Rattle.dt_places.specs.PlacedEdits.{Grows, IsFresh, Keeps}
+use Rattle.dt_places.specs.PlacedEdits.{Grows, IsFresh, Keeps, counted_fragment}
 use Rattle.dt_edit.specs.Said.{Parts, pieces}
 
 -- the tree that a placed tree shows, with its values as the source says them
@@ -31,3 +32,7 @@ pub record IsDtcEdited (first : Bool) (node : ℕ) (old new : PlacedTree Parts) 
 -- a child as the text says it
 abbrev pub dtc_child : Bool → List (Bor (List ℕ)) → List ℕ → List Statement → Entry (List Piece)
 dtc_child omitted labels name ss = Child omitted (map (λ l. l.now) labels) name (views ss)
+
+-- the node of a fragment, if no child of the root ever had its name
+abbrev pub fragment_begun : List ℕ → DtcTree → Result DtcTree Fault
+fragment_begun f t = if node_has_place (f ∷ []) t then Err DuplicateInBody else made_node true (f ∷ []) (counted_fragment t)
