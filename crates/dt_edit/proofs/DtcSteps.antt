@@ -1,5 +1,5 @@
 -- Edits of dtc's language, one after the other.
-use Rattle.std.proofs.Common.{◌≡◌, inl, inr, ℕ, zero, suc, ◌+◌, ◌<◌, ◌≤◌, Bool, true, false, not, ◌&&◌, ◌||◌, nat_le, List, [], ◌∷◌, ◌++◌, length, map, Result, Ok, Err, if◌then◌else◌, nat_lt, OnOk, refl, sym, ap, ap₂, ◌∙◌, subst, true≢false, arith}
+use Rattle.std.proofs.Common.{◌≡◌, inl, inr, ℕ, suc, ◌+◌, ◌<◌, ◌≤◌, Bool, true, false, not, ◌&&◌, nat_le, List, [], length, Result, Ok, Err, if◌then◌else◌, OnOk, refl, sym, ap, ap₂, ◌∙◌, true≢false, arith}
 use Rattle.std.proofs.lemmas.Bool.{cases_lt, le-ltb, lt-ltb}
 use Rattle.std.proofs.lemmas.List.{get_or_past, length_push}
 use Rattle.dt_tree.specs.Steps.{then_do}
@@ -7,20 +7,19 @@ use Rattle.dt_meaning.specs.Paths.{Path}
 use Rattle.dt_meaning.specs.Syntax.{Piece, Entry, Body, Then}
 use Rattle.dt_meaning.specs.Statements.{Fault, TooDeep}
 use Rattle.dt_meaning.specs.DtcEdits.{DtcTree, given_in_turn, made_node, with_labels_at, with_mark}
-use Rattle.dt_meaning.specs.DtcStatements.{begun_node, dtc_body, dtc_entry, is_first}
-use Rattle.dt_live.specs.Rows.{Found}
+use Rattle.dt_meaning.specs.DtcStatements.{begun_node, dtc_body, dtc_entry}
 use Rattle.dt_places.specs.declared.error.PlaceError.{PlaceError}
 use Rattle.dt_places.specs.declared.error.PlaceError.TheVariants as places
 use Rattle.dt_places.specs.declared.place.Place.{Place}
 use Rattle.dt_places.specs.declared.placed_tree.PlacedTree.{PlacedTree}
-use Rattle.dt_places.specs.Rows.{holds, holds_by, is_made, made_at, no_place, path_of, place_at}
-use Rattle.dt_places.specs.Tables.{found_in, rows_in}
+use Rattle.dt_places.specs.Rows.{holds, holds_by, made_at, no_place, path_of, place_at}
+use Rattle.dt_places.specs.Tables.{rows_in}
 use Rattle.dt_places.specs.PlacedTrees.{IsPlacedTree, IsStanding, child_path, node_path}
 use Rattle.dt_places.specs.PlacedEdits.{Grows, HasSameNodes, IsFresh, IsMade, IsPlaceFault, Keeps}
 use Rattle.dt_edit.specs.declared.error.EditError.{EditError}
 use Rattle.dt_edit.specs.EditFault.{IsFault}
 use Rattle.dt_edit.specs.Said.{Parts}
-use Rattle.dt_edit.specs.Private.DtcEdited.{IsDtcEdited, IsDtcPlace, placed_of}
+use Rattle.dt_edit.specs.Private.DtcEdited.{IsDtcEdited, IsDtcPlace}
 use Rattle.dt_edit.specs.Private.PlaceFault.{place_error}
 use Rattle.dt_edit.proofs.Faults.{fault-same, fault-then}
 

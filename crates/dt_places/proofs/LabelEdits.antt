@@ -1,5 +1,5 @@
 -- A label is given, a node is marked, and the root begins.
-use Rattle.std.proofs.Common.{◌≡◌, ℕ, zero, suc, ◌+◌, ◌<◌, ◌≤◌, Bool, true, false, not, ◌&&◌, ◌||◌, ◌⊎◌, inl, inr, nat_le, List, [], ◌∷◌, ◌++◌, length, map, slice_set, reverse, Option, Some, None, Bor, if◌then◌else◌, refl, sym, ap, ap₂, ◌∙◌, subst, true≢false, arith}
+use Rattle.std.proofs.Common.{◌≡◌, ℕ, ◌<◌, ◌≤◌, Bool, true, false, not, ◌&&◌, ◌||◌, inl, inr, nat_le, List, [], ◌∷◌, ◌++◌, length, map, slice_set, reverse, Some, None, Bor, if◌then◌else◌, refl, sym, ap, ap₂, ◌∙◌, subst, arith}
 use Rattle.std.specs.Prelude.{slice_index_or}
 use Rattle.std.specs.Str.{bytes_eq}
 use Rattle.std.proofs.lemmas.Bool.{and_from, and_parts, cases_eq, cases_lt, le-leb}
@@ -7,19 +7,18 @@ use Rattle.std.proofs.lemmas.List.{get_or_append_left, get_or_past, get_or_push,
 use Rattle.dt_meaning.specs.Paths.{Path, same_path}
 use Rattle.dt_meaning.specs.Syntax.{Piece}
 use Rattle.dt_meaning.specs.Edits.{Label, labelled_at}
-use Rattle.dt_meaning.specs.Places.{Row, row, has_place, put_in_place}
+use Rattle.dt_meaning.specs.Places.{Row, row, has_place}
 use Rattle.dt_meaning.specs.DtcEdits.{DtcTree, is_label_at, node_has_place, with_labels_at, with_mark}
 use Rattle.dt_meaning.specs.DtcStatements.{with_root}
 use Rattle.dt_live.specs.Index.{is_key}
 use Rattle.dt_live.specs.Rows.{Found}
 use Rattle.dt_places.specs.declared.place.Place.{Place}
 use Rattle.dt_places.specs.declared.placed_tree.PlacedTree.{PlacedTree}
-use Rattle.dt_places.specs.declared.table.Entry.{Entry}
-use Rattle.dt_places.specs.declared.table.Entry.TheVariants.{Found as Met, New}
+use Rattle.dt_places.specs.declared.table.Entry.TheVariants.{New}
 use Rattle.dt_places.specs.declared.table.Table.{Table}
-use Rattle.dt_places.specs.Rows.{holds, is_there, made_at, no_place, path_of, place_at}
+use Rattle.dt_places.specs.Rows.{holds, made_at, path_of, place_at}
 use Rattle.dt_places.specs.Tables.{Enters, HasKey, IsTable, found_in, rows_in}
-use Rattle.dt_places.specs.PlacedTrees.{AreSound, IsOwner, IsPlacedTree, IsStanding, dtc_tree, label_seen, node_path, node_seen, property_seen, root_rows}
+use Rattle.dt_places.specs.PlacedTrees.{AreSound, IsOwner, IsPlacedTree, IsStanding, dtc_tree, label_seen, node_path, node_seen, root_rows}
 use Rattle.dt_places.proofs.Owners.{key-of-row, row-of-key}
 use Rattle.dt_places.proofs.PropertyEdits.{early-node, own, removed-gone}
 use Rattle.dt_places.proofs.RowTables.{each-pushed, each-set, pushed, table-new, table-set}

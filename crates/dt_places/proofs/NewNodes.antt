@@ -1,30 +1,29 @@
 -- A child in the body with which its parent begins.
-use Rattle.std.proofs.Common.{◌≡◌, ℕ, zero, suc, ◌+◌, ◌<◌, ◌≤◌, Bool, true, false, not, ◌&&◌, nat_le, List, [], ◌∷◌, ◌++◌, length, map, slice_set, Option, Some, None, Ok, Err, Bor, if◌then◌else◌, refl, sym, ap, ap₂, ◌∙◌, subst, true≢false, arith}
+use Rattle.std.proofs.Common.{◌≡◌, ℕ, suc, ◌<◌, ◌≤◌, Bool, true, false, not, ◌&&◌, nat_le, List, [], ◌∷◌, ◌++◌, length, map, slice_set, Some, None, Ok, Err, Bor, if◌then◌else◌, refl, sym, ap, ap₂, ◌∙◌, subst, arith}
 use Rattle.std.specs.Prelude.{slice_index_or}
 use Rattle.std.proofs.lemmas.Bool.{le-leb, lt-leb}
 use Rattle.dt_meaning.specs.Paths.{Path, same_path}
 use Rattle.dt_meaning.specs.Syntax.{Piece}
 use Rattle.dt_meaning.specs.Statements.{DuplicateInBody}
-use Rattle.dt_meaning.specs.Places.{Row, row, place, has_place, has_two_places, one_stands}
+use Rattle.dt_meaning.specs.Places.{Row, row, place, has_two_places}
 use Rattle.dt_meaning.specs.DtcEdits.{DtcTree, made_node, node_has_place, node_stands, unmade_node}
 use Rattle.dt_live.specs.Index.{is_key}
 use Rattle.dt_live.specs.Rows.{Found}
 use Rattle.dt_places.specs.declared.place.Place.{Place}
 use Rattle.dt_places.specs.declared.placed_tree.PlacedTree.{PlacedTree}
-use Rattle.dt_places.specs.declared.table.Entry.{Entry}
-use Rattle.dt_places.specs.declared.table.Entry.TheVariants.{Found as Met, New}
+use Rattle.dt_places.specs.declared.table.Entry.TheVariants.{New}
 use Rattle.dt_places.specs.declared.table.Table.{Table}
-use Rattle.dt_places.specs.Rows.{holds, is_made, is_there, made_at, no_place, path_of, place_at}
+use Rattle.dt_places.specs.Rows.{holds, is_made, is_there, made_at, path_of, place_at}
 use Rattle.dt_places.specs.Tables.{Enters, HasKey, IsTable, found_in, hidden, rows_in}
-use Rattle.dt_places.specs.PlacedTrees.{AreSound, IsOwner, IsPlacedTree, IsStanding, child_path, dtc_tree, node_path, node_seen, root_rows}
+use Rattle.dt_places.specs.PlacedTrees.{AreSound, IsOwner, IsPlacedTree, IsStanding, child_path, dtc_tree, node_path, node_seen}
 use Rattle.dt_places.specs.PlacedEdits.{Grows, IsFresh, IsMade, Keeps}
-use Rattle.dt_places.proofs.NodeSteps.{root-place, root-put, root-stands, root-two}
+use Rattle.dt_places.proofs.NodeSteps.{root-place, root-stands, root-two}
 use Rattle.dt_places.proofs.NodesAdded.{IsBase, fresh-added, grows-added, keeps-added, marks-added, mid-base, old-base, path-last-is, sound-added, standing-last, tree-added}
 use Rattle.dt_places.proofs.Owners.{child-of-key, key-of-child, standing-owner}
 use Rattle.dt_places.proofs.PlaceClimbs.{holds-step}
-use Rattle.dt_places.proofs.PropertyEdits.{early-node, first-node, own, removed-gone}
+use Rattle.dt_places.proofs.PropertyEdits.{early-node, first-node, removed-gone}
 use Rattle.dt_places.proofs.RowTables.{table-again, table-new}
-use Rattle.dt_places.proofs.SeenRows.{seen-has-none, seen-has-some, seen-one-gone, seen-one-none, seen-one-some, seen-put, seen-put-none, seen-two-again, seen-two-none, seen-two-single}
+use Rattle.dt_places.proofs.SeenRows.{seen-has-none, seen-has-some, seen-one-gone, seen-one-none, seen-one-some, seen-two-again, seen-two-none, seen-two-single}
 
 pub not-root : (p : Path) (n : List ℕ) → same_path (p ++ n ∷ []) [] ≡ false
 not-root [] n = refl

@@ -1,5 +1,5 @@
 -- A tree without rows.
-use Rattle.std.proofs.Common.{◌≡◌, ℕ, zero, suc, ◌≤◌, List, [], refl, sym, ap, ◌∙◌, subst, arith}
+use Rattle.std.proofs.Common.{◌≡◌, ℕ, List, [], ap, arith}
 use Rattle.std.specs.Prelude.{slice_index_or}
 use Rattle.dt_live.specs.Rows.{Found}
 use Rattle.dt_places.specs.declared.place.Place.{Place}

@@ -1,21 +1,19 @@
 -- The tables, and the tree, after one edit of the table of nodes.
-use Rattle.std.proofs.Common.{◌≡◌, ◌≢◌, ◌⊎◌, inl, inr, ℕ, zero, suc, ◌+◌, ◌<◌, ◌≤◌, Bool, true, false, not, ◌&&◌, ◌||◌, nat_le, List, [], ◌∷◌, ◌++◌, length, map, slice_set, reverse, Option, Some, None, Ok, Err, if◌then◌else◌, refl, sym, ap, ap₂, ◌∙◌, subst, true≢false, arith}
-use Rattle.std.specs.Prelude.{All, slice_index_or}
-use Rattle.std.specs.List.{filter, list_any}
-use Rattle.std.proofs.lemmas.Bool.{cases_eq, cases_lt, le-leb, lt-leb}
-use Rattle.std.proofs.lemmas.List.{length_push, length-set, map_push, map-set}
-use Rattle.dt_meaning.specs.Paths.{Path, is_within, same_path}
-use Rattle.dt_meaning.specs.Places.{Row, row, place, all_removed, has_place, has_two_places, one_stands, put_in_place, what_stands}
+use Rattle.std.proofs.Common.{◌≡◌, ◌≢◌, inl, inr, ℕ, zero, suc, ◌<◌, ◌≤◌, Bool, true, false, not, ◌&&◌, ◌||◌, nat_le, List, [], ◌∷◌, ◌++◌, length, map, slice_set, Some, if◌then◌else◌, refl, sym, ap, ap₂, ◌∙◌, arith}
+use Rattle.std.specs.Prelude.{slice_index_or}
+use Rattle.std.proofs.lemmas.Bool.{cases_eq, cases_lt}
+use Rattle.std.proofs.lemmas.List.{length_push, length-set}
+use Rattle.dt_meaning.specs.Paths.{Path}
+use Rattle.dt_meaning.specs.Places.{Row, row, place, all_removed, has_place, has_two_places, one_stands, put_in_place}
 use Rattle.dt_live.specs.Index.{is_key}
 use Rattle.dt_live.specs.Rows.{Found}
 use Rattle.dt_live.proofs.Keys.{key-cases}
-use Rattle.dt_live.proofs.NodeRows.{absent-present, some-is}
 use Rattle.dt_places.specs.declared.place.Place.{Place}
-use Rattle.dt_places.specs.Rows.{holds, is_made, is_there, made_at, no_place, path_of, place_at}
-use Rattle.dt_places.specs.Tables.{HasKey, IsTable, hidden}
+use Rattle.dt_places.specs.Rows.{holds, is_made, is_there, made_at, path_of, place_at}
+use Rattle.dt_places.specs.Tables.{IsTable, hidden}
 use Rattle.dt_places.specs.PlacedTrees.{AreSound, IsOwner, root_rows}
 use Rattle.dt_places.proofs.PlaceClimbs.{IsGrown, holds-same, holds-step, made-same, path-same, path-step}
-use Rattle.dt_places.proofs.RowTables.{each-pushed, each-set, pushed, pushed-new, pushed-old, pushed-past, set-here, set-there}
+use Rattle.dt_places.proofs.RowTables.{pushed, pushed-new, pushed-old, pushed-past, set-here, set-there}
 
 -- ---- rows that are seen the same
 pub map-by : {X Y : Type 0} (f g : X → Y) (d : X) (xs : List X) → ((k : ℕ) → k < length xs → g (slice_index_or xs k d) ≡ f (slice_index_or xs k d)) → map g xs ≡ map f xs

@@ -1,19 +1,19 @@
 -- A row more of nodes, where its name had none, or one at which nothing ever stood.
-use Rattle.std.proofs.Common.{◌≡◌, ◌≢◌, ◌⊎◌, inl, inr, ℕ, zero, suc, ◌+◌, ◌-◌, ◌<◌, ◌≤◌, Bool, true, false, not, ◌&&◌, nat_le, List, [], ◌∷◌, ◌++◌, length, map, slice_set, reverse, Option, Some, None, Ok, Err, Bor, if◌then◌else◌, refl, sym, ap, ap₂, ◌∙◌, subst, true≢false, append_assoc, arith}
-use Rattle.std.specs.Prelude.{All, slice_index_or}
-use Rattle.std.proofs.lemmas.Bool.{cases_eq, cases_lt, le-leb, lt-leb}
+use Rattle.std.proofs.Common.{◌≡◌, inl, inr, ℕ, zero, suc, ◌+◌, ◌-◌, ◌<◌, ◌≤◌, Bool, true, false, not, ◌&&◌, nat_le, List, [], ◌∷◌, ◌++◌, length, map, slice_set, reverse, Some, None, if◌then◌else◌, refl, sym, ap, ap₂, ◌∙◌, subst, append_assoc, arith}
+use Rattle.std.specs.Prelude.{slice_index_or}
+use Rattle.std.proofs.lemmas.Bool.{cases_eq, cases_lt}
 use Rattle.std.proofs.lemmas.List.{ext_get_or, get_or-map, get_or_past, get_or-reverse, length-map, length-reverse, length_push, length-set, map_push}
 use Rattle.dt_meaning.specs.Paths.{Path}
 use Rattle.dt_meaning.specs.Syntax.{Piece}
 use Rattle.dt_meaning.specs.Edits.{Definition, Label}
-use Rattle.dt_meaning.specs.Places.{Row, row}
+use Rattle.dt_meaning.specs.Places.{Row}
 use Rattle.dt_meaning.specs.DtcEdits.{DtcTree}
 use Rattle.dt_live.specs.Index.{is_key}
 use Rattle.dt_live.specs.Rows.{Found}
 use Rattle.dt_live.proofs.NodeRows.{absent-present, some-is}
 use Rattle.dt_places.specs.declared.place.Place.{Place}
 use Rattle.dt_places.specs.declared.placed_tree.PlacedTree.{PlacedTree}
-use Rattle.dt_places.specs.Rows.{holds, is_made, is_there, made_at, no_place, path_of, place_at}
+use Rattle.dt_places.specs.Rows.{holds, is_there, made_at, no_place, path_of, place_at}
 use Rattle.dt_places.specs.Tables.{IsTable, found_in, hidden, rows_in}
 use Rattle.dt_places.specs.PlacedTrees.{AreSound, IsOwner, IsPlacedTree, IsStanding, dtc_tree, label_seen, node_path, node_seen, property_seen, root_rows}
 use Rattle.dt_places.specs.PlacedEdits.{Grows, IsFresh, Keeps}

@@ -1,23 +1,22 @@
 -- A child in a later body, at the place that it has.
-use Rattle.std.proofs.Common.{◌≡◌, ◌≢◌, ℕ, zero, suc, ◌+◌, ◌<◌, ◌≤◌, Bool, true, false, not, ◌&&◌, nat_le, List, [], ◌∷◌, ◌++◌, length, map, slice_set, reverse, Option, Some, None, Ok, Err, Bor, if◌then◌else◌, refl, sym, ap, ap₂, ◌∙◌, subst, true≢false, arith}
+use Rattle.std.proofs.Common.{◌≡◌, ℕ, suc, ◌<◌, ◌≤◌, true, false, List, [], ◌∷◌, ◌++◌, length, map, slice_set, reverse, Some, Ok, Err, Bor, if◌then◌else◌, refl, sym, ap, ap₂, ◌∙◌, subst, arith}
 use Rattle.std.specs.Prelude.{slice_index_or}
-use Rattle.std.proofs.lemmas.List.{get_or-map, length-map, length-set, map-set, set-get_or}
+use Rattle.std.proofs.lemmas.List.{get_or-map, length-set, map-set, set-get_or}
 use Rattle.dt_meaning.specs.Paths.{Path, same_path}
 use Rattle.dt_meaning.specs.Syntax.{Piece}
 use Rattle.dt_meaning.specs.Statements.{DuplicateInBody}
 use Rattle.dt_meaning.specs.Places.{Row, row, put_in_place}
 use Rattle.dt_meaning.specs.DtcEdits.{DtcTree, made_node}
-use Rattle.dt_meaning.specs.DtcStatements.{is_first}
 use Rattle.dt_live.specs.Rows.{Found}
 use Rattle.dt_places.specs.declared.place.Place.{Place}
 use Rattle.dt_places.specs.declared.placed_tree.PlacedTree.{PlacedTree}
-use Rattle.dt_places.specs.Rows.{holds, is_made, is_there, made_at, no_place, path_of, place_at}
-use Rattle.dt_places.specs.Tables.{IsTable, found_in, rows_in}
+use Rattle.dt_places.specs.Rows.{holds, is_made, is_there, no_place, path_of, place_at}
+use Rattle.dt_places.specs.Tables.{found_in, rows_in}
 use Rattle.dt_places.specs.PlacedTrees.{AreSound, IsOwner, IsPlacedTree, IsStanding, child_path, dtc_tree, label_seen, node_path, node_seen, property_seen, root_rows}
 use Rattle.dt_places.specs.PlacedEdits.{IsMade, Keeps}
-use Rattle.dt_places.proofs.NewNodes.{holds-row, key, known-row, mine, not-root, of, gone, to, two-again, two-none, two-single}
-use Rattle.dt_places.proofs.NodeEdits.{holds-made, holds-others, there-others}
-use Rattle.dt_places.proofs.NodeSteps.{changed-grown, changed-keeps, changed-name, changed-owner, changed-path, map-by, root-put, with-nodes}
+use Rattle.dt_places.proofs.NewNodes.{holds-row, key, known-row, not-root, of, gone, to, two-again, two-single}
+use Rattle.dt_places.proofs.NodeEdits.{holds-made, there-others}
+use Rattle.dt_places.proofs.NodeSteps.{changed-grown, changed-keeps, changed-owner, changed-path, map-by, root-put, with-nodes}
 use Rattle.dt_places.proofs.NodesAdded.{tree-by}
 use Rattle.dt_places.proofs.PlaceClimbs.{holds-same, holds-step, path-step}
 use Rattle.dt_places.proofs.RowTables.{each-set, set-here, set-there, table-set}

@@ -1,22 +1,20 @@
 -- A node goes, with all below it and all that they have.
-use Rattle.std.proofs.Common.{◌≡◌, ◌≢◌, ℕ, zero, suc, ◌+◌, ◌<◌, ◌≤◌, Bool, true, false, not, ◌&&◌, ◌||◌, nat_le, List, [], ◌∷◌, ◌++◌, length, map, slice_set, reverse, Option, Some, None, Ok, Err, Bor, if◌then◌else◌, refl, sym, ap, ap₂, ◌∙◌, subst, true≢false, arith}
+use Rattle.std.proofs.Common.{◌≡◌, ℕ, zero, suc, ◌<◌, ◌≤◌, Bool, true, false, not, ◌&&◌, ◌||◌, List, [], ◌∷◌, ◌++◌, length, map, slice_set, reverse, Some, None, Ok, Bor, if◌then◌else◌, refl, sym, ap, ap₂, ◌∙◌, subst, arith}
 use Rattle.std.specs.Prelude.{slice_index_or}
 use Rattle.std.proofs.lemmas.List.{ext_get_or, get_or-map, length-map, length-set}
 use Rattle.dt_meaning.specs.Paths.{Path, is_within, same_path}
 use Rattle.dt_meaning.specs.Syntax.{Piece}
-use Rattle.dt_meaning.specs.Edits.{Definition, Label}
-use Rattle.dt_meaning.specs.Places.{Row, row, place, all_removed, has_two_places}
-use Rattle.dt_meaning.specs.DtcEdits.{DtcTree, unmade_node, without_all_within}
-use Rattle.dt_live.specs.Rows.{Found}
+use Rattle.dt_meaning.specs.Places.{Row, place, all_removed}
+use Rattle.dt_meaning.specs.DtcEdits.{unmade_node, without_all_within}
 use Rattle.dt_live.proofs.NodeRows.{absent-present}
 use Rattle.dt_live.proofs.PathTests.{within-root, within-snoc}
 use Rattle.dt_places.specs.declared.place.Place.{Place}
 use Rattle.dt_places.specs.declared.placed_tree.PlacedTree.{PlacedTree}
-use Rattle.dt_places.specs.Rows.{holds, is_made, is_there, made_at, no_place, path_of, place_at}
-use Rattle.dt_places.specs.Tables.{HasKey, IsTable, found_in, rows_in}
+use Rattle.dt_places.specs.Rows.{holds, is_there, no_place, path_of, place_at}
+use Rattle.dt_places.specs.Tables.{found_in, rows_in}
 use Rattle.dt_places.specs.PlacedTrees.{AreSound, IsOwner, IsPlacedTree, IsStanding, child_path, dtc_tree, label_seen, node_path, node_seen, property_seen, root_rows}
 use Rattle.dt_places.specs.PlacedEdits.{Keeps}
-use Rattle.dt_places.proofs.NewNodes.{mine, not-root, two-again, two-none, two-single}
+use Rattle.dt_places.proofs.NewNodes.{mine, two-none}
 use Rattle.dt_places.proofs.NodeEdits.{holds-left, there-left}
 use Rattle.dt_places.proofs.NodeSteps.{changed-grown, changed-keeps, changed-name, changed-owner, changed-path, none-removed, root-removed, with-nodes}
 use Rattle.dt_places.proofs.NodesAdded.{tree-by}

@@ -1,5 +1,5 @@
 -- One edit of the table of properties is one edit of the tree.
-use Rattle.std.proofs.Common.{◌≡◌, ℕ, zero, suc, ◌+◌, ◌<◌, ◌≤◌, Bool, true, false, not, ◌&&◌, nat_le, List, [], ◌∷◌, ◌++◌, length, map, slice_set, Option, Some, None, Ok, Err, Bor, if◌then◌else◌, refl, sym, ap, ap₂, ◌∙◌, subst, true≢false, arith}
+use Rattle.std.proofs.Common.{◌≡◌, ℕ, zero, suc, ◌<◌, ◌≤◌, Bool, true, false, not, ◌&&◌, nat_le, List, [], ◌∷◌, ◌++◌, length, map, slice_set, Option, Some, None, Ok, Err, Bor, if◌then◌else◌, refl, sym, ap, ap₂, ◌∙◌, subst, arith}
 use Rattle.std.proofs.lemmas.Bool.{le-leb, lt-leb}
 use Rattle.std.proofs.lemmas.List.{map-set, map_push, set-get_or}
 use Rattle.std.proofs.Math.Seq.{map-set_same}
@@ -7,7 +7,7 @@ use Rattle.dt_meaning.specs.Paths.{Path}
 use Rattle.dt_meaning.specs.Syntax.{Piece}
 use Rattle.dt_meaning.specs.Edits.{Definition, definition, is_of}
 use Rattle.dt_meaning.specs.Statements.{DuplicateInBody}
-use Rattle.dt_meaning.specs.Places.{Row, row, place, first_removed, has_place, has_two_places, one_stands, put_in_place}
+use Rattle.dt_meaning.specs.Places.{Row, row, place, put_in_place}
 use Rattle.dt_meaning.specs.DtcEdits.{DtcTree, made_property, unmade_property}
 use Rattle.dt_live.specs.Rows.{Found}
 use Rattle.dt_live.specs.Index.{is_key}

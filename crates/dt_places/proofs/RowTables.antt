@@ -1,5 +1,5 @@
 -- Tables after one change.
-use Rattle.std.proofs.Common.{◌≡◌, ◌≢◌, ◌⊎◌, inl, inr, ℕ, zero, suc, ◌+◌, ◌<◌, ◌≤◌, Bool, true, false, List, [], ◌∷◌, ◌++◌, length, slice_set, Option, Some, None, if◌then◌else◌, refl, sym, ap, ap₂, ◌∙◌, subst, true≢false, arith}
+use Rattle.std.proofs.Common.{◌≡◌, ◌≢◌, ◌⊎◌, inl, inr, ℕ, ◌+◌, ◌<◌, true, false, List, [], ◌∷◌, ◌++◌, length, slice_set, Some, None, if◌then◌else◌, refl, sym, ap, ap₂, ◌∙◌, subst, true≢false, arith}
 use Rattle.std.proofs.lemmas.Bool.{cases_eq, cases_lt}
 use Rattle.std.proofs.lemmas.List.{get_or-set_same, get_or-set_other, get_or_past, get_or_append_left, get_or_push, length_push, length-set}
 use Rattle.dt_live.specs.Index.{is_key}
@@ -8,7 +8,7 @@ use Rattle.dt_live.proofs.Keys.{key-cases, key-same}
 use Rattle.dt_live.proofs.NodeRows.{absent-present, some-is}
 use Rattle.dt_places.specs.declared.place.Place.{Place}
 use Rattle.dt_places.specs.Rows.{no_place, place_at}
-use Rattle.dt_places.specs.Tables.{HasKey, IsBehind, IsTable}
+use Rattle.dt_places.specs.Tables.{IsBehind, IsTable}
 
 -- ---- a row more
 module _ {X : Type 0} (old : List (Place X)) (r : Place X) where

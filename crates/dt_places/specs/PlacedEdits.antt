@@ -1,12 +1,12 @@
 -- What a single edit does to a placed tree (Devicetree Specification v0.4, section 6.3; where it is silent, dtc 1.6.1, tried by hand).
-use Rattle.std.specs.Prelude.{◌≡◌, ℕ, suc, ◌+◌, ◌<◌, ◌≤◌, true, false, not, length, Result, Ok, Err, MatchResult, Some}
+use Rattle.std.specs.Prelude.{◌≡◌, ℕ, suc, ◌+◌, ◌<◌, ◌≤◌, false, length, Result, Ok, Err, MatchResult}
 use Rattle.dt_meaning.specs.Paths.{Path}
 use Rattle.dt_meaning.specs.Statements.{Fault, DuplicateInBody}
 use Rattle.dt_meaning.specs.DtcEdits.{DtcTree}
 use Rattle.dt_places.specs.declared.error.PlaceError.{PlaceError}
 use Rattle.dt_places.specs.declared.error.PlaceError.TheVariants as errors
 use Rattle.dt_places.specs.declared.placed_tree.PlacedTree.{PlacedTree}
-use Rattle.dt_places.specs.Rows.{holds, path_of, place_at}
+use Rattle.dt_places.specs.Rows.{holds, place_at}
 use Rattle.dt_places.specs.Tables.{found_in, rows_in}
 use Rattle.dt_places.specs.PlacedTrees.{IsStanding, node_path}
 

@@ -9,7 +9,7 @@ use Rattle.dt_meaning.specs.DtcEdits.{DtcTree}
 use Rattle.dt_live.specs.Rows.{Found}
 use Rattle.dt_places.specs.declared.place.Place.{Place}
 use Rattle.dt_places.specs.declared.placed_tree.PlacedTree.{PlacedTree}
-use Rattle.dt_places.specs.Rows.{holds, is_there, made_at, path_of, place_at}
+use Rattle.dt_places.specs.Rows.{holds, is_there, path_of, place_at}
 use Rattle.dt_places.specs.Tables.{IsTable, found_in, rows_in}
 
 -- ---- the tree

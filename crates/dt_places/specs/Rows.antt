@@ -1,6 +1,6 @@
 -- Rows that keep their place, and what stands at them (Devicetree Specification v0.4, section 6.3; where it is silent, dtc 1.6.1, tried
 -- by hand). What is made is there until it is removed, or until its node is made anew.
-use Rattle.std.specs.Prelude.{◌≡◌, ℕ, zero, suc, ◌≤◌, Bool, true, false, not, ◌&&◌, nat_le, List, [], ◌∷◌, ◌++◌, length, None, slice_index_or}
+use Rattle.std.specs.Prelude.{ℕ, zero, suc, Bool, true, false, not, ◌&&◌, nat_le, List, [], ◌∷◌, ◌++◌, None, slice_index_or}
 use Rattle.dt_meaning.specs.Paths.{Path}
 use Rattle.dt_places.specs.declared.place.Place.{Place}
 

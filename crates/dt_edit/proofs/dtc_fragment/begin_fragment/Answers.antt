@@ -1,4 +1,4 @@
-use Rattle.std.proofs.Common.{◌≡◌, true, false, not, ◌∷◌, [], List, ℕ, Result, Ok, Err, if◌then◌else◌, sym, ap, ◌∙◌}
+use Rattle.std.proofs.Common.{◌≡◌, true, false, not, ◌∷◌, [], List, ℕ, Result, Err, if◌then◌else◌, sym, ap, ◌∙◌}
 use Rattle.dt_meaning.specs.Statements.{Fault, DuplicateInBody}
 use Rattle.dt_meaning.specs.DtcEdits.{DtcTree, made_node, node_has_place}
 use Rattle.dt_meaning.specs.DtcStatements.{is_first}

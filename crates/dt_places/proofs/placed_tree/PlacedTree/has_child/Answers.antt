@@ -1,4 +1,4 @@
-use Rattle.std.proofs.Common.{sym, ◌∙◌}
+use Rattle.std.proofs.Common.{sym}
 use Rattle.dt_places.proofs.NewNodes.{place-none, place-some}
 use Rattle.dt_places.proofs.placed_tree.PlacedTree.has_child.Goals as goal
 

@@ -1,19 +1,16 @@
-use Rattle.std.proofs.Common.{◌≡◌, ◌+◌, ◌-◌, ◌<◌, ◌++◌, ◌∷◌, [], List, ℕ, suc, Option, Some, None, Ok, Bor, Bool, true, false, not, length, slice_set, refl, sym, ap, ap₂, ◌∙◌, subst, true≢false, arith, if◌then◌else◌}
+use Rattle.std.proofs.Common.{◌≡◌, ◌+◌, ◌<◌, List, ℕ, suc, None, Ok, true, false, not, length, slice_set, refl, sym, ap, ◌∙◌, subst, arith}
 use Rattle.std.specs.Prelude.{slice_index_or}
 use Rattle.std.specs.Vec.{with_item}
-use Rattle.std.proofs.lemmas.List.{get_or_default, set-get_or}
-use Rattle.dt_meaning.specs.Places.{has_two_places}
-use Rattle.dt_meaning.specs.DtcEdits.{made_node, unmade_node, without_all_within}
-use Rattle.dt_meaning.specs.Paths.{same_path}
+use Rattle.std.proofs.lemmas.List.{get_or_default}
+use Rattle.dt_meaning.specs.DtcEdits.{made_node}
 use Rattle.dt_live.specs.Rows.{Found}
 use Rattle.dt_places.specs.declared.place.Place.{Place}
 use Rattle.dt_places.specs.declared.table.Entry.{Entry}
-use Rattle.dt_places.specs.Rows.{is_made, no_place, path_of, place_at}
+use Rattle.dt_places.specs.Rows.{is_made, no_place, place_at}
 use Rattle.dt_places.specs.Tables.{Enters, found_in, rows_in}
-use Rattle.dt_places.specs.PlacedTrees.{AreSound, IsOwner, IsPlacedTree, child_path, dtc_tree}
-use Rattle.dt_places.specs.PlacedEdits.{IsMade, Keeps, IsFresh}
-use Rattle.dt_meaning.specs.DtcStatements.{is_first}
-use Rattle.dt_places.proofs.NewNodes.{added-new, fresh-after, holds-row, keeps-after, known-row, made-after, marks-after, new-made, now-there, place-none, place-some, stands-none, tables-after, tree-after}
+use Rattle.dt_places.specs.PlacedTrees.{AreSound, IsOwner, child_path, dtc_tree}
+use Rattle.dt_places.specs.PlacedEdits.{IsMade, IsFresh}
+use Rattle.dt_places.proofs.NewNodes.{added-new, fresh-after, keeps-after, known-row, made-after, marks-after, new-made, now-there, place-none, place-some, stands-none, tables-after, tree-after}
 use Rattle.dt_places.proofs.NodesMade.{keeps-made, made-merged, made-standing, make-refused, marks-made, merged-standing, sound-later, sound-made, tree-made, tree-same}
 use Rattle.dt_places.proofs.placed_tree.PlacedTree.make_node.Goals as goal
 

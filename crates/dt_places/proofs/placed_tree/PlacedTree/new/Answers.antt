@@ -1,5 +1,4 @@
-use Rattle.std.proofs.Common.{◌≡◌, ℕ, List, [], ap, sym, ◌∙◌, subst, arith}
-use Rattle.dt_places.specs.declared.place.Place.{Place}
+use Rattle.std.proofs.Common.{ap}
 use Rattle.dt_places.specs.Rows.{place_at}
 use Rattle.dt_places.specs.Tables.{found_in, rows_in}
 use Rattle.dt_places.proofs.NewTree.{new-sound, no-marks}

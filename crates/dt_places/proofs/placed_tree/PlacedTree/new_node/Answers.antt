@@ -1,17 +1,10 @@
-use Rattle.std.proofs.Common.{◌≡◌, ◌+◌, ◌-◌, ◌<◌, ◌++◌, ◌∷◌, [], List, ℕ, suc, Option, Some, None, Ok, Bor, Bool, true, false, not, length, slice_set, refl, sym, ap, ap₂, ◌∙◌, subst, true≢false, arith, if◌then◌else◌}
-use Rattle.std.specs.Prelude.{slice_index_or}
-use Rattle.std.proofs.lemmas.List.{get_or_default, set-get_or}
-use Rattle.dt_meaning.specs.Places.{has_two_places}
-use Rattle.dt_meaning.specs.DtcEdits.{made_node, unmade_node, without_all_within}
-use Rattle.dt_meaning.specs.Paths.{same_path}
-use Rattle.dt_live.specs.Rows.{Found}
-use Rattle.dt_places.specs.declared.place.Place.{Place}
+use Rattle.std.proofs.Common.{◌≡◌, ◌+◌, ◌<◌, ℕ, suc, None, true, false, length, refl, sym, ap, ◌∙◌, subst, true≢false, arith}
 use Rattle.dt_places.specs.declared.table.Entry.{Entry}
-use Rattle.dt_places.specs.Rows.{is_made, no_place, path_of, place_at}
+use Rattle.dt_places.specs.Rows.{is_made, place_at}
 use Rattle.dt_places.specs.Tables.{Enters, found_in, rows_in}
-use Rattle.dt_places.specs.PlacedTrees.{AreSound, IsOwner, IsPlacedTree, child_path, dtc_tree}
-use Rattle.dt_places.specs.PlacedEdits.{IsMade, Keeps, IsFresh}
-use Rattle.dt_places.proofs.NewNodes.{added-again, added-new, fresh-after, grows-after, holds-row, keeps-after, known-row, made-after, marks-after, new-made, new-refused, now-there, stands-gone, stands-none, stands-some, tables-after, tree-after}
+use Rattle.dt_places.specs.PlacedTrees.{child_path, dtc_tree}
+use Rattle.dt_places.specs.PlacedEdits.{IsMade, IsFresh}
+use Rattle.dt_places.proofs.NewNodes.{added-again, added-new, fresh-after, grows-after, keeps-after, known-row, made-after, marks-after, new-made, new-refused, now-there, stands-gone, stands-none, stands-some, tables-after, tree-after}
 use Rattle.dt_places.proofs.placed_tree.PlacedTree.new_node.Goals as goal
 
 pub is_row_made-requires-clause-known : goal.is_row_made-requires-clause-known

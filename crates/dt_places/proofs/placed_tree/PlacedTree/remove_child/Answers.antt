@@ -1,21 +1,15 @@
-use Rattle.std.proofs.Common.{◌≡◌, ◌+◌, ◌-◌, ◌<◌, ◌++◌, ◌∷◌, [], List, ℕ, suc, Option, Some, None, Ok, Bor, Bool, true, false, not, length, slice_set, refl, sym, ap, ap₂, ◌∙◌, subst, arith, if◌then◌else◌}
+use Rattle.std.proofs.Common.{◌≡◌, List, Some, Ok, true, slice_set, refl, sym, ap, ap₂, ◌∙◌, subst, arith, if◌then◌else◌}
 use Rattle.std.specs.Prelude.{slice_index_or}
 use Rattle.std.proofs.lemmas.List.{get_or_default, set-get_or}
-use Rattle.dt_meaning.specs.Places.{has_two_places}
-use Rattle.dt_meaning.specs.DtcEdits.{made_node, unmade_node, without_all_within}
-use Rattle.dt_meaning.specs.Paths.{same_path}
-use Rattle.dt_live.specs.Rows.{Found}
+use Rattle.dt_meaning.specs.DtcEdits.{without_all_within}
 use Rattle.dt_places.specs.declared.place.Place.{Place}
-use Rattle.dt_places.specs.declared.table.Entry.{Entry}
-use Rattle.dt_places.specs.Rows.{is_made, no_place, path_of, place_at}
-use Rattle.dt_places.specs.Tables.{Enters, found_in, rows_in}
-use Rattle.dt_places.specs.PlacedTrees.{AreSound, IsOwner, IsPlacedTree, child_path, dtc_tree}
-use Rattle.dt_places.specs.PlacedEdits.{IsMade, Keeps, IsFresh}
+use Rattle.dt_places.specs.Rows.{no_place, place_at}
+use Rattle.dt_places.specs.Tables.{found_in, rows_in}
+use Rattle.dt_places.specs.PlacedTrees.{AreSound, IsOwner, child_path, dtc_tree}
 use Rattle.std.specs.Vec.{with_item}
 use Rattle.dt_places.proofs.NewNodes.{key, known-row, two-again, two-single}
 use Rattle.dt_places.proofs.NodesMade.{path-row, tree-same}
 use Rattle.dt_places.proofs.NodesRemoved.{keeps-removed, marks-removed, nothing-removed, sound-removed, tree-removed}
-use Rattle.dt_places.proofs.Owners.{standing-owner}
 use Rattle.dt_places.proofs.placed_tree.PlacedTree.remove_child.Goals as goal
 
 pub index_mut-place-requires : goal.index_mut-place-requires

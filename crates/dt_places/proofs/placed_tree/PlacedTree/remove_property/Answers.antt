@@ -1,13 +1,7 @@
-use Rattle.std.proofs.Common.{◌≡◌, ◌+◌, ◌<◌, List, ℕ, Option, Some, None, Bor, length, true, slice_set, refl, sym, ap, ap₂, ◌∙◌, subst, arith, if◌then◌else◌}
-use Rattle.std.specs.Prelude.{slice_index_or}
+use Rattle.std.proofs.Common.{◌≡◌, true, refl, sym, ap, ◌∙◌, arith}
 use Rattle.std.proofs.lemmas.List.{get_or_default}
-use Rattle.dt_live.specs.Index.{is_key}
-use Rattle.dt_places.specs.declared.place.Place.{Place}
-use Rattle.dt_places.specs.declared.table.Entry.{Entry}
-use Rattle.dt_places.specs.declared.table.Entry.TheVariants.{Found as Met, New}
-use Rattle.dt_places.specs.Rows.{is_made, no_place, place_at}
-use Rattle.dt_live.specs.Rows.{Found}
-use Rattle.dt_places.specs.Tables.{Enters, found_in, hidden, rows_in}
+use Rattle.dt_places.specs.Rows.{no_place, place_at}
+use Rattle.dt_places.specs.Tables.{found_in, rows_in}
 use Rattle.dt_places.proofs.PropertyEdits.{removed-again, removed-none, removed-some, sound-set, within}
 use Rattle.dt_places.proofs.placed_tree.PlacedTree.remove_property.Goals as goal
 

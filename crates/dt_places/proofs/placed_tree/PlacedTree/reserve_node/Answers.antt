@@ -1,8 +1,6 @@
-use Rattle.std.proofs.Common.{◌≡◌, ◌+◌, ◌<◌, List, ℕ, Option, Some, None, Bor, true, false, length, refl, sym, ap, ap₂, ◌∙◌, subst, arith, if◌then◌else◌}
-use Rattle.std.specs.Prelude.{slice_index_or}
-use Rattle.std.proofs.lemmas.List.{get_or_default}
+use Rattle.std.proofs.Common.{◌≡◌, None, false, length, refl, sym, ap, ◌∙◌, subst, arith}
 use Rattle.dt_places.specs.declared.table.Entry.{Entry}
-use Rattle.dt_places.specs.Rows.{is_made, no_place, place_at}
+use Rattle.dt_places.specs.Rows.{is_made, place_at}
 use Rattle.dt_places.specs.Tables.{Enters, found_in, rows_in}
 use Rattle.dt_places.specs.PlacedTrees.{dtc_tree}
 use Rattle.dt_places.proofs.NewNodes.{added-again, added-new, grows-after, keeps-after, known-row, marks-after, never-there, new-reserved, reserve-refused, stands-gone, stands-none, stands-some, tables-after, tree-after}

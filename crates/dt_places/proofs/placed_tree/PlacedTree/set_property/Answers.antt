@@ -1,15 +1,10 @@
-use Rattle.std.proofs.Common.{◌≡◌, ◌+◌, ◌<◌, List, ℕ, Option, Some, None, Bor, length, false, slice_set, refl, sym, ap, ap₂, ◌∙◌, subst, arith, if◌then◌else◌}
+use Rattle.std.proofs.Common.{◌≡◌, Some, length, false, slice_set, refl, sym, ap, ◌∙◌, subst, arith}
 use Rattle.std.specs.Prelude.{slice_index_or}
 use Rattle.std.proofs.lemmas.List.{get_or_default}
-use Rattle.dt_live.specs.Index.{is_key}
-use Rattle.dt_places.specs.declared.place.Place.{Place}
 use Rattle.dt_places.specs.declared.table.Entry.{Entry}
-use Rattle.dt_places.specs.declared.table.Entry.TheVariants.{Found as Met, New}
-use Rattle.dt_places.specs.Rows.{is_made, no_place, place_at}
-use Rattle.dt_live.specs.Rows.{Found}
-use Rattle.dt_places.specs.Tables.{Enters, found_in, hidden, rows_in}
-use Rattle.dt_places.specs.PlacedTrees.{AreSound}
-use Rattle.dt_places.proofs.PropertyEdits.{own, set-again, set-none, set-some, sound-entered, sound-set, within}
+use Rattle.dt_places.specs.Rows.{no_place, place_at}
+use Rattle.dt_places.specs.Tables.{Enters, rows_in}
+use Rattle.dt_places.proofs.PropertyEdits.{set-again, set-none, set-some, sound-entered, sound-set, within}
 use Rattle.dt_places.proofs.placed_tree.PlacedTree.set_property.Goals as goal
 
 pub index_mut-place-requires : goal.index_mut-place-requires
