@@ -1,5 +1,5 @@
 -- A lawful source that is prepared is ready to be made into a tree.
-use Rattle.std.proofs.Common.{◌≡◌, suc, Bool, true, false, List, [], ◌∷◌, length, map, Ok, sym, ap, ◌∙◌, subst, arith}
+use Rattle.std.proofs.Common.{◌≡◌, suc, Bool, true, false, List, [], ◌∷◌, length, map, Ok, sym, ap, ◌∙◌, arith}
 use Rattle.std.specs.List.{flat_map, list_all}
 use Rattle.dt_tree.specs.Name.{is_name}
 use Rattle.dt_source.specs.declared.tree.Source.{Source}

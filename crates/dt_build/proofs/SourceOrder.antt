@@ -1,27 +1,24 @@
 -- A draft is what its tree is made of.
-use Rattle.std.proofs.Common.{◌≡◌, Option, ℕ, Bool, true, false, List, [], ◌∷◌, ◌++◌, map, drop, Ok, cond, refl, sym, ap, ap₂, ◌∙◌, subst, arith}
+use Rattle.std.proofs.Common.{◌≡◌, Option, ℕ, Bool, true, false, List, [], ◌∷◌, ◌++◌, map, drop, cond, refl, sym, ap, ap₂, ◌∙◌, subst, arith}
 use Rattle.std.specs.List.{flat_map}
-use Rattle.std.specs.Option.{option_map}
 use Rattle.std.proofs.lemmas.List.{map-append}
-use Rattle.dt_tree.specs.Steps.{each}
 use Rattle.dt_tree.specs.Name.{is_name}
 use Rattle.dt_meaning.specs.Paths.{Path, same_path}
 use Rattle.dt_meaning.specs.Syntax.{Piece}
-use Rattle.dt_meaning.specs.Edits.{Definition, definition, State}
-use Rattle.dt_meaning.specs.References.{Found, found_in, found_value, held, preorder}
+use Rattle.dt_meaning.specs.Edits.{Definition, definition}
+use Rattle.dt_meaning.specs.References.{Found, held, preorder}
 use Rattle.dt_meaning.specs.Phandles.{PathPhandle}
 use Rattle.dt_meaning.specs.Fixups.{value_bytes}
 use Rattle.dt_meaning.specs.Resolved.{with_bytes}
 use Rattle.dt_live.specs.declared.live_tree.NodeRow.{NodeRow}
-use Rattle.dt_live.specs.Rows.{node_path, path_of}
+use Rattle.dt_live.specs.Rows.{node_path}
 use Rattle.dt_live.specs.declared.preorder.properties.NodeProperty.{NodeProperty}
 use Rattle.dt_live.proofs.Each.{Each, each-all, each-of}
 use Rattle.dt_live.proofs.Runs.{HasName, all-named}
 use Rattle.dt_making.specs.Made.{IsInPreorder, IsRest, entries, values_in}
-use Rattle.dt_edit.specs.Said.{Parts, pieces, tree_of}
+use Rattle.dt_edit.specs.Said.{Parts, tree_of}
 use Rattle.dt_build.specs.declared.draft.Draft.{Draft}
 use Rattle.dt_resolve.specs.Private.ReadProperty.{read_property}
-use Rattle.dt_resolve.specs.Targets.{target_path}
 use Rattle.dt_resolve.proofs.ReadOrder.{read-order}
 use Rattle.dt_build.specs.declared.node_phandles.NodePhandles.{NodePhandles}
 use Rattle.dt_build.specs.Private.NodePhandles.{AreNodePhandles}
@@ -32,7 +29,6 @@ use Rattle.dt_resolve.specs.Founds.{found_properties}
 use Rattle.dt_build.specs.Private.Values.{all_uses, founds_of, values_of}
 use Rattle.dt_build.proofs.MakingNodes.{lawful}
 use Rattle.dt_build.proofs.NewPhandles.{own-is}
-use Rattle.dt_resolve.proofs.ValueFounds.{each-split, value-is, value-found}
 
 -- ---- names
 abbrev PropertiesNamed : NodeProperty Parts → Type 0

@@ -1,8 +1,7 @@
 -- A value more, in the order of the walk.
-use Rattle.std.proofs.Common.{◌≡◌, Option, ℕ, ◌+◌, ◌-◌, ◌^◌, ◌<◌, ◌≤◌, min, List, ◌∷◌, length, get_or, drop, sym, ap, ◌∙◌, subst, arith}
-use Rattle.std.specs.Prelude.{All}
+use Rattle.std.proofs.Common.{◌≡◌, Option, ℕ, ◌+◌, ◌-◌, ◌^◌, ◌<◌, ◌≤◌, min, List, ◌∷◌, length, get_or, drop, sym, ap, ◌∙◌, arith}
 use Rattle.std.proofs.Math.ListN.{drop_of_length-le}
-use Rattle.std.proofs.lemmas.List.{at_drop_more, get_or-drop, length-drop}
+use Rattle.std.proofs.lemmas.List.{at_drop_more}
 use Rattle.dt_meaning.specs.Paths.{Path}
 use Rattle.dt_meaning.specs.Edits.{Definition}
 use Rattle.dt_meaning.specs.Phandles.{PathPhandle}
@@ -11,12 +10,8 @@ use Rattle.dt_live.specs.declared.preorder.properties.NodeProperty.{NodeProperty
 use Rattle.dt_making.specs.Made.{entries, values_in}
 use Rattle.dt_edit.specs.Said.{Parts}
 use Rattle.dt_tree_builder.specs.Sizes.{size_in}
+pub use Rattle.dt_resolve.proofs.PartSteps.{all-drop}
 use Rattle.dt_build.specs.Private.Values.{all_uses, founds_of, values_of}
-
-pub all-drop : (P : Option ℕ → Type 0) (k : ℕ) (ts us : List (Option ℕ)) → us ≡ drop k ts → All P ts → All P us
-all-drop P k ts us is all = λ i d below.
-    let shorter : length us ≡ length ts - k = ap length is ∙ length-drop k ts in
-    subst P (sym (ap (λ (xs : List (Option ℕ)). get_or xs i d) is ∙ get_or-drop k ts i d)) (all (k + i) d (omega arith))
 
 module _ (ns : List PathPhandle) (path : ℕ → Path) where
   -- the properties whose targets these are

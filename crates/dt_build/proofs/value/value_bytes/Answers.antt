@@ -1,19 +1,13 @@
-use Rattle.std.proofs.Common.{◌+◌, ◌++◌, ℕ, zero, suc, List, [], ◌∷◌, Option, None, get_or, drop, ap, sym, subst, ◌∙◌, append-nil, arith}
-use Rattle.std.specs.Prelude.{All}
+use Rattle.std.proofs.Common.{◌+◌, ◌++◌, ℕ, Option, drop, ap, sym, subst, ◌∙◌, append-nil, arith}
 use Rattle.std.proofs.lemmas.List.{drop_all}
 use Rattle.dt_meaning.specs.Fixups.{value_bytes}
 use Rattle.dt_live.specs.Rows.{node_path}
 use Rattle.dt_resolve.specs.Targets.{IsKnown, IsThere}
 use Rattle.dt_build.specs.Private.Made.{all_phandles}
 use Rattle.dt_build.specs.Private.Values.{found_of, founds_of}
+use Rattle.dt_resolve.proofs.PartSteps.{at-or-none}
 use Rattle.dt_build.proofs.ValueSteps.{bytes-more, founds-step, uses-few}
 use Rattle.dt_build.proofs.value.value_bytes.Goals as goal
-
--- what holds of each target and of none holds of the target at a place
-at-or-none : (P : Option ℕ → Type 0) → P None → (ts : List (Option ℕ)) → All P ts → (k : ℕ) → P (get_or ts k None)
-at-or-none P none [] all k = none
-at-or-none P none (t ∷ ts) all zero = all 0 None (omega arith)
-at-or-none P none (t ∷ ts) all (suc k) = at-or-none P none ts (λ j d below. all (suc j) d (omega (arith, below))) k
 
 pub loop-part-init : goal.loop-part-init
 loop-part-init c =

@@ -1,6 +1,5 @@
-use Rattle.std.proofs.Common.{◌≡◌, ◌∙◌, ◌==◌, ◌++◌, if◌then◌else◌, [], ℕ, List, map, true, Ok, sym, ap, ap₂, subst, arith}
-use Rattle.std.specs.List.{list_any}
-use Rattle.dt_meaning.specs.Phandles.{given_of, has_phandle}
+use Rattle.std.proofs.Common.{◌≡◌, ◌∙◌, ◌++◌, if◌then◌else◌, [], ℕ, List, map, true, Ok, sym, ap, subst}
+use Rattle.dt_meaning.specs.Phandles.{given_of}
 use Rattle.dt_meaning.specs.References.{found_value, in_order, references}
 use Rattle.dt_meaning.specs.Resolved.{names_taken}
 use Rattle.dt_tree.specs.Steps.{then_do, each}
@@ -8,7 +7,6 @@ use Rattle.dt_live.specs.declared.live_tree.NodeRow.{NodeRow}
 use Rattle.dt_live.specs.Rows.{IsNode, is_standing, node_path}
 use Rattle.dt_live.proofs.Each.{Each, each-all}
 use Rattle.dt_edit.specs.Said.{tree_of}
-use Rattle.dt_resolve.specs.declared.node_phandles.NodePhandle.{NodePhandle}
 use Rattle.dt_resolve.specs.NodePhandles.{AreStanding, path_phandle_of}
 use Rattle.dt_resolve.specs.Private.Wanted.{HasTaken, labelled_rows, numbered}
 use Rattle.dt_resolve.specs.Private.ReadProperty.{read_property}
