@@ -11,7 +11,7 @@ use Rattle.dt_tree.specs.Path.{path_names}
 use Rattle.dt_tree.specs.Sound.{is_among}
 use Rattle.dt_meaning.specs.Names.{fragment_name, overlay_name}
 use Rattle.dt_meaning.specs.Paths.{Path, same_path, is_within, is_listed}
-use Rattle.dt_meaning.specs.Syntax.{Target, OfLabel, OfPath, Piece, Plain, PhandleOf, PathOf, Entry, Defines, Undefines, Child, Removes, Body, Done, Then, Edit, Rooted, Extends, Deletes, Meaning}
+use Rattle.dt_meaning.specs.Syntax.{Target, OfLabel, OfPath, Piece, Plain, PhandleOf, PathOf, Entry, Defines, Undefines, Child, Removes, Body, Done, Then, Edit, Rooted, Extends, Deletes, Omits, Meaning}
 use Rattle.dt_meaning.specs.Edits.{Definition, definition, Label, labelled_at, State, empty, counted, has_node, with_node, without_node, is_of, put, with_property, without_property, label_path, with_label}
 use Rattle.dt_meaning.specs.Statements.{Fault, UnknownLabel, UnknownPath, DuplicateLabel, DuplicateInBody, ReservedName, TooDeep, give_label, give_labels, is_made, Progress, progress, begun, child_fault, unless, after_entry, after_body, found, target_name, target_value, with_fragment, after_fragment, makes_fragment, after_item, after_items, edited}
 use Rattle.dt_live.proofs.PathTests.{same-is}
@@ -43,7 +43,7 @@ abbrev mutual
   pub IsNamedEntry : {V : Type 0} → (List ℕ → Type 0) → (V → Type 0) → Entry V → Type 0
   IsNamedEntry N W (Defines n v) = N n × W v
   IsNamedEntry N W (Undefines n) = Unit {0}
-  IsNamedEntry N W (Child ls n b) = Each N ls × N n × IsNamedBody N W b
+  IsNamedEntry N W (Child o ls n b) = Each N ls × N n × IsNamedBody N W b
   IsNamedEntry N W (Removes n) = Unit {0}
 
   pub IsNamedBody : {V : Type 0} → (List ℕ → Type 0) → (V → Type 0) → Body V → Type 0
@@ -67,6 +67,7 @@ abbrev pub IsNamedEdit : (List ℕ → Type 0) → Edit → Type 0
 IsNamedEdit N (Rooted b) = IsNamedBody N (IsNamedValue N) b
 IsNamedEdit N (Extends ls t b) = Each N ls × IsNamedTarget N t × IsNamedBody N (IsNamedValue N) b
 IsNamedEdit N (Deletes t) = Unit {0}
+IsNamedEdit N (Omits t) = Unit {0}
 
 -- ---- steps that went well
 pub did : {A B : Type 0} (r : Result A Fault) (g : A → Result B Fault) (b : B) → then_do r g ≡ Ok b → (a : A) × (r ≡ Ok a) × (g a ≡ Ok b)
@@ -236,7 +237,7 @@ module _ {V : Type 0} (N : List ℕ → Type 0) (W : V → Type 0) where
         subst (λ (w : Progress V). IsNamed N W w.state) (ok-is (progress x.properties x.children (without_property p n x.state)) y e) (property-removed p n x.state k)
     entry-kept (Removes n) p x y names named_path k e =
         subst (λ (w : Progress V). IsNamed N W w.state) (ok-is (progress x.properties x.children (without_node (p ++ n ∷ []) x.state)) y e) (node-removed (p ++ n ∷ []) x.state k)
-    entry-kept (Child ls n body) p x y names named_path k e =
+    entry-kept (Child o ls n body) p x y names named_path k e =
         let q = p ++ n ∷ [] in
         let inner : State V → Result (Progress V) Fault = λ s. then_do (after_body body q (begun (with_node q s))) (λ t. Ok (progress x.properties (n ∷ x.children) t)) in
         let a = did (give_labels ls q x.state) (λ s. unless (child_fault p n x.children s) (inner s)) y e in
@@ -303,6 +304,7 @@ module _ (N : List ℕ → Type 0) where
 
     item-kept : (plugin : Bool) (i : Edit) (s t : State (List Piece)) → IsNamedEdit N i → IsNamed N (IsNamedValue N) s → after_item plugin i s ≡ Ok t → IsNamed N (IsNamedValue N) t
     item-kept plugin (Rooted body) s t names k e = body-kept N (IsNamedValue N) body [] (begun s) t names (root-named_path N) k e
+    item-kept plugin (Omits target) s t names k e = subst (IsNamed N (IsNamedValue N)) (ok-is s t e) k
     item-kept plugin (Deletes target) s t names k e =
         let a = did (found target s) (λ p. if same_path p [] then Err ReservedName else Ok (without_node p s)) t e in
         subst (IsNamed N (IsNamedValue N)) (ok-is (without_node a.0 s) t (not-refused (same_path a.0 []) ReservedName (Ok (without_node a.0 s)) t a.2).1) (node-removed N (IsNamedValue N) a.0 s k)

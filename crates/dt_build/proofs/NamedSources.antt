@@ -7,7 +7,7 @@ use Rattle.std.proofs.lemmas.Bool.Decides.{nat_tests}
 use Rattle.dt_tree.specs.Name.{is_name}
 use Rattle.dt_source.specs.Lawful.{IsLawfulTarget, IsLawfulPiece, IsLawfulEntry, IsLawfulBody, IsLawfulEdit}
 use Rattle.dt_meaning.specs.Paths.{Path}
-use Rattle.dt_meaning.specs.Syntax.{Target, OfLabel, OfPath, Piece, Plain, PhandleOf, PathOf, Entry, Defines, Undefines, Child, Removes, Body, Done, Then, Edit, Rooted, Extends, Deletes, Meaning}
+use Rattle.dt_meaning.specs.Syntax.{Target, OfLabel, OfPath, Piece, Plain, PhandleOf, PathOf, Entry, Defines, Undefines, Child, Removes, Body, Done, Then, Edit, Rooted, Extends, Deletes, Omits, Meaning}
 use Rattle.dt_meaning.specs.Edits.{State, counted}
 use Rattle.dt_meaning.specs.Statements.{edited}
 use Rattle.dt_meaning.specs.Resolved.{is_too_deep}
@@ -43,7 +43,7 @@ mutual
   entry-named : (e : Entry (List Piece)) → IsLawfulEntry e → IsNamedEntry IsName (IsNamedValue IsName) e
   entry-named (Defines n v) h = (h.0, value-is v h.1)
   entry-named (Undefines n) h = tt
-  entry-named (Child ls n b) h = (labels-named ls h.0, h.1, body-named b h.2)
+  entry-named (Child o ls n b) h = (labels-named ls h.0, h.1, body-named b h.2)
   entry-named (Removes n) h = tt
 
   body-named : (b : Body (List Piece)) → IsLawfulBody b → IsNamedBody IsName (IsNamedValue IsName) b
@@ -54,6 +54,7 @@ item-named : (i : Edit) → IsLawfulEdit i → IsNamedEdit IsName i
 item-named (Rooted b) h = body-named b h
 item-named (Extends ls t b) h = (labels-named ls h.0, target-is t h.1, body-named b h.2)
 item-named (Deletes t) h = tt
+item-named (Omits t) h = tt
 
 pub items-named : (is : List Edit) → All IsLawfulEdit is → Each (IsNamedEdit IsName) is
 items-named [] all = tt
@@ -86,7 +87,7 @@ mutual
   entry-any : (e : Entry (List Piece)) → IsNamedEntry IsAny (IsNamedValue IsAny) e
   entry-any (Defines n v) = (tt, each-any (IsNamedPiece IsAny) v piece-any)
   entry-any (Undefines n) = tt
-  entry-any (Child ls n b) = (each-any IsAny ls (λ l. tt), tt, body-any b)
+  entry-any (Child o ls n b) = (each-any IsAny ls (λ l. tt), tt, body-any b)
   entry-any (Removes n) = tt
 
   body-any : (b : Body (List Piece)) → IsNamedBody IsAny (IsNamedValue IsAny) b
@@ -97,6 +98,7 @@ item-any : (i : Edit) → IsNamedEdit IsAny i
 item-any (Rooted b) = body-any b
 item-any (Extends ls t b) = (each-any IsAny ls (λ l. tt), target-any t, body-any b)
 item-any (Deletes t) = tt
+item-any (Omits t) = tt
 
 any-brought : HasFragmentNames IsAny
 any-brought = record { fragment = λ n. tt; overlay = tt; target = λ t. tt }

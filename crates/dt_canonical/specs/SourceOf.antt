@@ -18,7 +18,7 @@ with_properties (x ∷ xs) body = Then (Defines x.name (value_of x.value)) (with
 
 abbrev pub nodes_of : Siblings → Body (List Piece)
 nodes_of none = Done
-nodes_of (more n p c rest) = Then (Child [] n (with_properties p (nodes_of c))) (nodes_of rest)
+nodes_of (more n p c rest) = Then (Child false [] n (with_properties p (nodes_of c))) (nodes_of rest)
 
 abbrev pub source_of : TreeData → Meaning
 source_of t = record {

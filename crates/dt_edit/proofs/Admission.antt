@@ -113,16 +113,16 @@ module _ (x : At) (old two : LiveTree Parts) (node stamp made : ℕ) (ls : List 
   by-labels (Ok s) = by-fault (child_fault (node_path old node) name x.children s) s
   by-labels (Err f) = refl
 
-  entering : after_entry (Child ls name body) (node_path old node) x ≡ then_do (admitted ls name (node_path old node) x) entered
+  entering : after_entry (Child false ls name body) (node_path old node) x ≡ then_do (admitted ls name (node_path old node) x) entered
   entering = by-labels (give_labels ls (node_path old node ++ name ∷ []) x.state)
 
   module _ (let_in : admitted ls name (node_path old node) x ≡ Ok (read_state made (state_of two))) where
-    within : after_entry (Child ls name body) (node_path old node) x ≡ then_do (after_body body (node_path old node ++ name ∷ []) (begun (read_state made (state_of two)))) ended
+    within : after_entry (Child false ls name body) (node_path old node) x ≡ then_do (after_body body (node_path old node ++ name ∷ []) (begun (read_state made (state_of two)))) ended
     within = entering ∙ ap (λ r. then_do r entered) let_in
 
     pub child-done : (three : LiveTree Parts) → after_body body (node_path old node ++ name ∷ []) (begun (read_state made (state_of two))) ≡ Ok (read_state made (state_of three))
         → ((k : List ℕ) → property_stamp three node k ≡ property_stamp old node k) → ((k : List ℕ) → child_stamp three node k ≡ (if is_key node name node k then stamp else child_stamp old node k))
-        → (y : At) × (after_entry (Child ls name body) (node_path old node) x ≡ Ok y) × IsAt y three node stamp made
+        → (y : At) × (after_entry (Child false ls name body) (node_path old node) x ≡ Ok y) × IsAt y three node stamp made
     child-done three done same marked = (
       progress x.properties (name ∷ x.children) (read_state made (state_of three)),
       within ∙ ap (λ r. then_do r ended) done,

@@ -13,7 +13,7 @@ use Rattle.dt_source.specs.declared.tree.Reference.{Reference}
 use Rattle.dt_source.specs.declared.tree.Statement.{Statement}
 use Rattle.dt_source.specs.Tree.{item_view, part_view, target_view}
 use Rattle.dt_meaning.specs.Names.{fragment_name}
-use Rattle.dt_meaning.specs.Syntax.{Piece, Target, Edit, Rooted, Extends, Deletes}
+use Rattle.dt_meaning.specs.Syntax.{Piece, Target, Edit, Rooted, Extends, Deletes, Omits}
 use Rattle.dt_meaning.specs.Statements.{target_value}
 use Rattle.dt_edit.specs.declared.fragments.Fragments.{Fragments}
 use Rattle.dt_edit.specs.Fragments.{first_names, target_values}
@@ -71,6 +71,7 @@ extension-next f met made rest item labels target body is ready few =
 pub ready-next : (f : Fragments) (met : ℕ) (i : Edit) (rest : List Edit) → IsReady f met (i ∷ rest) → IsReady f (met + length (target_values i)) rest
 ready-next f met (Rooted b) rest ready = record { names = ready.names; targets = ap (λ n. drop n (map value_of f.targets.items)) (omega arith) ∙ ready.targets }
 ready-next f met (Deletes t) rest ready = record { names = ready.names; targets = ap (λ n. drop n (map value_of f.targets.items)) (omega arith) ∙ ready.targets }
+ready-next f met (Omits t) rest ready = record { names = ready.names; targets = ap (λ n. drop n (map value_of f.targets.items)) (omega arith) ∙ ready.targets }
 ready-next f met (Extends ls t b) rest ready = record {
   names = ready.names;
   targets = (drop-some (map value_of f.targets.items) met (target_value t) (flat_map target_values rest) ready.targets).2;

@@ -1,5 +1,5 @@
 -- What each statement says.
-use Rattle.std.proofs.Common.{◌≡◌, ℕ, List, map, sym, ap, ◌∙◌, Bor, Vec, Global}
+use Rattle.std.proofs.Common.{◌≡◌, ℕ, Bool, List, map, sym, ap, ◌∙◌, Bor, Vec, Global}
 use Rattle.dt_source.specs.declared.labels.Labels.{Labels}
 use Rattle.dt_source.specs.declared.tree.Part.{Part}
 use Rattle.dt_source.specs.declared.tree.Statement.{Statement}
@@ -18,5 +18,5 @@ view-removes name = ap view (sym (rolls-DeleteNode name)) ∙ fold-roll-Statemen
 pub view-defines : (name : Bor (List ℕ)) (value : Vec Part Global) → view (statements.Property name value) ≡ Defines name.now (map part_view value.items)
 view-defines name value = ap view (sym (rolls-Property name value)) ∙ fold-roll-Statement (Entry (List Piece)) view_step _
 
-pub view-child : (labels : Labels) (name : Bor (List ℕ)) (body : Vec Statement Global) → view (statements.Node labels name body) ≡ Child (labels_view labels) name.now (views body.items)
-view-child labels name body = ap view (sym (rolls-Node labels name body)) ∙ fold-roll-Statement (Entry (List Piece)) view_step _
+pub view-child : (omitted : Bool) (labels : Labels) (name : Bor (List ℕ)) (body : Vec Statement Global) → view (statements.Node omitted labels name body) ≡ Child omitted (labels_view labels) name.now (views body.items)
+view-child omitted labels name body = ap view (sym (rolls-Node omitted labels name body)) ∙ fold-roll-Statement (Entry (List Piece)) view_step _

@@ -3,7 +3,7 @@ use Rattle.std.specs.Prelude.{◌≡◌, ℕ, zero, suc, List, [], ◌∷◌, �
 use Rattle.std.specs.List.{flat_map}
 use Rattle.dt_source.specs.Tree.{part_view}
 use Rattle.dt_meaning.specs.Names.{fragment_name}
-use Rattle.dt_meaning.specs.Syntax.{Piece, Edit, Rooted, Extends, Deletes}
+use Rattle.dt_meaning.specs.Syntax.{Piece, Edit, Rooted, Extends, Deletes, Omits}
 use Rattle.dt_meaning.specs.Statements.{target_value}
 use Rattle.dt_edit.specs.declared.fragments.Fragments.{Fragments}
 
@@ -11,6 +11,7 @@ use Rattle.dt_edit.specs.declared.fragments.Fragments.{Fragments}
 abbrev pub target_values : Edit → List (List Piece)
 target_values (Rooted b) = []
 target_values (Deletes t) = []
+target_values (Omits t) = []
 target_values (Extends ls t b) = target_value t ∷ []
 
 -- the first names of fragments

@@ -107,7 +107,12 @@ fn edit<'d, 't>(
             live.remove_child(node, *name);
             Ok(())
         }
-        Statement::Node { labels, name, body } => {
+        Statement::Node {
+            omit_if_no_ref: _,
+            labels,
+            name,
+            body,
+        } => {
             edit_child(
                 live,
                 made,

@@ -72,7 +72,7 @@ impl<'t> Fragments<'t> {
     {
         match item {
             Item::Extend { target, .. } => self.add(alloc, target),
-            Item::Root(_) | Item::Delete(_) => Ok(()),
+            Item::Root(_) | Item::Delete(_) | Item::Omit(_) => Ok(()),
         }
     }
 }

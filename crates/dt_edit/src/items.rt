@@ -69,7 +69,7 @@ fn extensions_in<'t>(item: &Item<'t>) -> usize
 {
     match item {
         Item::Extend { .. } => 1,
-        Item::Root(_) | Item::Delete(_) => 0,
+        Item::Root(_) | Item::Delete(_) | Item::Omit(_) => 0,
     }
 }
 
@@ -95,6 +95,8 @@ fn edit_item<'d, 't>(
     match item {
         Item::Root(body) => edit_body(live, made, 0, 0, body.as_slice()),
         Item::Delete(target) => delete(live, target),
+        // the profile's grammar has no such item
+        Item::Omit(_) => Ok(()),
         Item::Extend {
             labels,
             target,

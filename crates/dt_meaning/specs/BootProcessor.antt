@@ -7,11 +7,10 @@ use Rattle.std.specs.Option.{option_and_then}
 use Rattle.dt_tree.specs.Cell.{cell_in}
 use Rattle.dt_tree.specs.Steps.{then_do}
 use Rattle.dt_meaning.specs.Paths.{Path, name_below}
-use Rattle.dt_meaning.specs.Syntax.{Piece, Plain, PhandleOf, PathOf}
+use Rattle.dt_meaning.specs.Syntax.{Piece, Plain, PhandleOf, PathOf, Meaning}
 use Rattle.dt_meaning.specs.Edits.{Definition, is_of}
 use Rattle.dt_meaning.specs.Statements.{Fault}
 use Rattle.dt_meaning.specs.Places.{Row, what_stands}
-use Rattle.dt_meaning.specs.DtcSyntax.{DtcMeaning}
 use Rattle.dt_meaning.specs.DtcEdits.{DtcTree, node_stands}
 use Rattle.dt_meaning.specs.DtcStatements.{dtc_edited}
 
@@ -41,5 +40,5 @@ abbrev pub boot_processor : DtcTree → ℕ
 boot_processor t =
     if node_stands cpus t then unwrap_or (option_and_then (reg_of_row t) (first_below cpus t.nodes)) 0 else 0
 
-abbrev pub dtc_boot_processor : DtcMeaning → Result ℕ Fault
+abbrev pub dtc_boot_processor : Meaning → Result ℕ Fault
 dtc_boot_processor m = then_do (dtc_edited m) (λ t. Ok (boot_processor t))

@@ -13,8 +13,7 @@ use Rattle.dt_meaning.specs.Phandles.{PathPhandle}
 use Rattle.dt_meaning.specs.References.{Found, Bytes, Cell, Open, PathText, preorder, references}
 use Rattle.dt_meaning.specs.Resolved.{Resolved, names_taken, phandle_property, shallow, symbol, when, with_bytes, with_more}
 use Rattle.dt_meaning.specs.Statements.{Fault, ReservedName}
-use Rattle.dt_meaning.specs.Syntax.{Piece}
-use Rattle.dt_meaning.specs.DtcSyntax.{DtcMeaning}
+use Rattle.dt_meaning.specs.Syntax.{Piece, Meaning}
 use Rattle.dt_meaning.specs.DtcEdits.{DtcTree, ever_labelled}
 use Rattle.dt_meaning.specs.DtcStatements.{dtc_edited, dtc_state}
 use Rattle.dt_meaning.specs.DtcPhandles.{given_by_both, asks_for_own, numbers_of_cells, numbers_of_symbols}
@@ -131,5 +130,5 @@ resolved_tree symbols plugin t =
     then_do (given_by_both es []) (λ given.
     then_do (gathered symbols plugin t es given) (λ g. shallow (gathered_tree symbols plugin t g))))
 
-abbrev pub dtc_resolved : Bool → DtcMeaning → Result Resolved Fault
+abbrev pub dtc_resolved : Bool → Meaning → Result Resolved Fault
 dtc_resolved symbols m = then_do (dtc_edited m) (resolved_tree symbols m.plugin)

@@ -5,20 +5,19 @@ use Rattle.std.specs.List.{filter, flat_map}
 use Rattle.dt_tree.specs.Steps.{then_do}
 use Rattle.dt_meaning.specs.Names.{fixups_name, symbols_name, overlay_name}
 use Rattle.dt_meaning.specs.Paths.{same_path}
-use Rattle.dt_meaning.specs.Syntax.{OfLabel, OfPath, Piece, Plain, PathOf, PhandleOf}
+use Rattle.dt_meaning.specs.Syntax.{OfLabel, OfPath, Piece, Plain, PathOf, PhandleOf, Body, Done, Then, Defines, Undefines, Child, Removes, Edit, Rooted, Extends, Deletes, Omits, Meaning}
 use Rattle.dt_meaning.specs.Edits.{definition}
 use Rattle.dt_meaning.specs.References.{held, preorder}
 use Rattle.dt_meaning.specs.Resolved.{Resolved}
 use Rattle.dt_meaning.specs.Rows.{a, b, c, d, r, s, t, x, y, z, phandle}
 use Rattle.dt_meaning.specs.Statements.{Fault}
-use Rattle.dt_meaning.specs.DtcSyntax.{DtcBody, End, Next, Sets, Unsets, Makes, Unmakes, DtcEdit, RootBody, NodeBody, DeletesNode, OmitsNode, DtcMeaning}
 use Rattle.dt_meaning.specs.DtcResolved.{dtc_resolved}
 
 -- ---- what a row asks
 abbrev pub in_walk : Resolved → Resolved
 in_walk r = let all = preorder r.nodes in record { nodes = filter (λ p. not (same_path p [])) all; properties = flat_map (held r.properties) all }
 
-abbrev pub says : (symbols : Bool) → DtcMeaning → Result Resolved Fault
+abbrev pub says : (symbols : Bool) → Meaning → Result Resolved Fault
 says symbols m = then_do (dtc_resolved symbols m) (λ r. Ok (in_walk r))
 
 -- ---- words for the rows
@@ -49,27 +48,27 @@ w = codes "w"
 abbrev pub legacy : List ℕ
 legacy = codes "linux,phandle"
 
-abbrev node : List (List ℕ) → List ℕ → DtcBody → DtcBody → DtcBody
-node labels name body others = Next (Makes false labels name body) others
+abbrev node : List (List ℕ) → List ℕ → Body (List Piece) → Body (List Piece) → Body (List Piece)
+node labels name body others = Then (Child false labels name body) others
 
-abbrev omitted : List (List ℕ) → List ℕ → DtcBody → DtcBody → DtcBody
-omitted labels name body others = Next (Makes true labels name body) others
+abbrev omitted : List (List ℕ) → List ℕ → Body (List Piece) → Body (List Piece) → Body (List Piece)
+omitted labels name body others = Then (Child true labels name body) others
 
-abbrev property : List ℕ → List Piece → DtcBody → DtcBody
-property name value others = Next (Sets name value) others
+abbrev property : List ℕ → List Piece → Body (List Piece) → Body (List Piece)
+property name value others = Then (Defines name value) others
 
-abbrev ordinary : List DtcEdit → DtcMeaning
+abbrev ordinary : List Edit → Meaning
 ordinary items = record { plugin = false; reserves = []; items = items }
 
-abbrev plugin : List DtcEdit → DtcMeaning
+abbrev plugin : List Edit → Meaning
 plugin items = record { plugin = true; reserves = []; items = items }
 
 -- / { a { x; }; b { y; }; }; /delete-node/ &{/a}; / { a { z; }; };
-abbrev pub made_again : DtcMeaning
+abbrev pub made_again : Meaning
 made_again = ordinary (
-    RootBody (node [] a (property x [] End) (node [] b (property y [] End) End))
-    ∷ DeletesNode (OfPath (codes "/a"))
-    ∷ RootBody (node [] a (property z [] End) End) ∷ [])
+    Rooted (node [] a (property x [] Done) (node [] b (property y [] Done) Done))
+    ∷ Deletes (OfPath (codes "/a"))
+    ∷ Rooted (node [] a (property z [] Done) Done) ∷ [])
 
 abbrev pub made_again_says : Resolved
 made_again_says = record {
@@ -78,58 +77,58 @@ made_again_says = record {
 }
 
 -- / { /delete-node/ a; b { }; }; / { a { }; };
-abbrev pub place_before_it_is_made : DtcMeaning
-place_before_it_is_made = ordinary (RootBody (Next (Unmakes a) (node [] b End End)) ∷ RootBody (node [] a End End) ∷ [])
+abbrev pub place_before_it_is_made : Meaning
+place_before_it_is_made = ordinary (Rooted (Then (Removes a) (node [] b Done Done)) ∷ Rooted (node [] a Done Done) ∷ [])
 
 abbrev pub place_before_it_is_made_says : Resolved
 place_before_it_is_made_says = record { nodes = (a ∷ []) ∷ (b ∷ []) ∷ []; properties = [] }
 
 -- / { r; /delete-property/ r; };
-abbrev pub first_body_unmakes_nothing : DtcMeaning
-first_body_unmakes_nothing = ordinary (RootBody (property r [] (Next (Unsets r) End)) ∷ [])
+abbrev pub first_body_unmakes_nothing : Meaning
+first_body_unmakes_nothing = ordinary (Rooted (property r [] (Then (Undefines r) Done)) ∷ [])
 
 abbrev pub first_body_unmakes_nothing_says : Resolved
 first_body_unmakes_nothing_says = record { nodes = []; properties = definition [] r [] ∷ [] }
 
 -- / { /delete-property/ r; r; }; / { /delete-property/ r; };
-abbrev pub hidden_property : DtcMeaning
-hidden_property = ordinary (RootBody (Next (Unsets r) (property r [] End)) ∷ RootBody (Next (Unsets r) End) ∷ [])
+abbrev pub hidden_property : Meaning
+hidden_property = ordinary (Rooted (Then (Undefines r) (property r [] Done)) ∷ Rooted (Then (Undefines r) Done) ∷ [])
 
 abbrev pub hidden_property_says : Resolved
 hidden_property_says = record { nodes = []; properties = definition [] r [] ∷ [] }
 
 -- / { /delete-node/ b; b { y; }; }; / { /delete-node/ b; };
-abbrev pub hidden_node : DtcMeaning
+abbrev pub hidden_node : Meaning
 hidden_node = ordinary (
-    RootBody (Next (Unmakes b) (node [] b (property y [] End) End))
-    ∷ RootBody (Next (Unmakes b) End) ∷ [])
+    Rooted (Then (Removes b) (node [] b (property y [] Done) Done))
+    ∷ Rooted (Then (Removes b) Done) ∷ [])
 
 abbrev pub hidden_node_says : Resolved
 hidden_node_says = record { nodes = (b ∷ []) ∷ []; properties = definition (b ∷ []) y [] ∷ [] }
 
 -- / { /delete-node/ b; b { y; }; }; / { b { x; }; };
-abbrev pub hidden_node_again : DtcMeaning
+abbrev pub hidden_node_again : Meaning
 hidden_node_again = ordinary (
-    RootBody (Next (Unmakes b) (node [] b (property y [] End) End))
-    ∷ RootBody (node [] b (property x [] End) End) ∷ [])
+    Rooted (Then (Removes b) (node [] b (property y [] Done) Done))
+    ∷ Rooted (node [] b (property x [] Done) Done) ∷ [])
 
 -- / { x; x; };
-abbrev pub made_twice : DtcMeaning
-made_twice = ordinary (RootBody (property x [] (property x [] End)) ∷ [])
+abbrev pub made_twice : Meaning
+made_twice = ordinary (Rooted (property x [] (property x [] Done)) ∷ [])
 
 -- / { b { }; /delete-node/ b; };
-abbrev pub made_and_unmade : DtcMeaning
-made_and_unmade = ordinary (RootBody (node [] b End (Next (Unmakes b) End)) ∷ [])
+abbrev pub made_and_unmade : Meaning
+made_and_unmade = ordinary (Rooted (node [] b Done (Then (Removes b) Done)) ∷ [])
 
 -- / { /delete-node/ b; /delete-node/ b; }; / { b { }; };
-abbrev pub unmade_twice : DtcMeaning
-unmade_twice = ordinary (RootBody (Next (Unmakes b) (Next (Unmakes b) End)) ∷ RootBody (node [] b End End) ∷ [])
+abbrev pub unmade_twice : Meaning
+unmade_twice = ordinary (Rooted (Then (Removes b) (Then (Removes b) Done)) ∷ Rooted (node [] b Done Done) ∷ [])
 
 -- / { a: a { x; }; }; &a { y; z; y = <2>; };
-abbrev pub last_wins : DtcMeaning
+abbrev pub last_wins : Meaning
 last_wins = ordinary (
-    RootBody (node (a ∷ []) a (property x [] End) End)
-    ∷ NodeBody [] (OfLabel a) (property y [] (property z [] (property y (Plain (cell 2) ∷ []) End))) ∷ [])
+    Rooted (node (a ∷ []) a (property x [] Done) Done)
+    ∷ Extends [] (OfLabel a) (property y [] (property z [] (property y (Plain (cell 2) ∷ []) Done))) ∷ [])
 
 abbrev pub last_wins_says : Resolved
 last_wins_says = record {
@@ -138,32 +137,32 @@ last_wins_says = record {
 }
 
 -- / { l: a { }; }; / { c { r = &l; }; l: b { }; /delete-node/ a; };
-abbrev pub moving_label : DtcMeaning
+abbrev pub moving_label : Meaning
 moving_label = ordinary (
-    RootBody (node (l ∷ []) a End End)
-    ∷ RootBody (node [] c (property r (PathOf (OfLabel l) ∷ []) End) (node (l ∷ []) b End (Next (Unmakes a) End))) ∷ [])
+    Rooted (node (l ∷ []) a Done Done)
+    ∷ Rooted (node [] c (property r (PathOf (OfLabel l) ∷ []) Done) (node (l ∷ []) b Done (Then (Removes a) Done))) ∷ [])
 
 abbrev pub moving_label_says : Resolved
 moving_label_says = record { nodes = (c ∷ []) ∷ (b ∷ []) ∷ []; properties = definition (c ∷ []) r (text (codes "/b")) ∷ [] }
 
 -- / { l: a { }; l: b { }; };
-abbrev pub label_at_two_nodes : DtcMeaning
-label_at_two_nodes = ordinary (RootBody (node (l ∷ []) a End (node (l ∷ []) b End End)) ∷ [])
+abbrev pub label_at_two_nodes : Meaning
+label_at_two_nodes = ordinary (Rooted (node (l ∷ []) a Done (node (l ∷ []) b Done Done)) ∷ [])
 
 -- / { a { l: b { }; }; m: c { }; }; l: &m { }; &l { x; }; /delete-node/ &l;
-abbrev pub first_in_preorder : DtcMeaning
+abbrev pub first_in_preorder : Meaning
 first_in_preorder = ordinary (
-    RootBody (node [] a (node (l ∷ []) b End End) (node (m ∷ []) c End End))
-    ∷ NodeBody (l ∷ []) (OfLabel m) End
-    ∷ NodeBody [] (OfLabel l) (property x [] End)
-    ∷ DeletesNode (OfLabel l) ∷ [])
+    Rooted (node [] a (node (l ∷ []) b Done Done) (node (m ∷ []) c Done Done))
+    ∷ Extends (l ∷ []) (OfLabel m) Done
+    ∷ Extends [] (OfLabel l) (property x [] Done)
+    ∷ Deletes (OfLabel l) ∷ [])
 
 abbrev pub first_in_preorder_says : Resolved
 first_in_preorder_says = record { nodes = (a ∷ []) ∷ (c ∷ []) ∷ []; properties = [] }
 
 -- / { x: y: a { }; }; / { z: w: a { }; }; with symbols
-abbrev pub four_labels : DtcMeaning
-four_labels = ordinary (RootBody (node (x ∷ y ∷ []) a End End) ∷ RootBody (node (z ∷ w ∷ []) a End End) ∷ [])
+abbrev pub four_labels : Meaning
+four_labels = ordinary (Rooted (node (x ∷ y ∷ []) a Done Done) ∷ Rooted (node (z ∷ w ∷ []) a Done Done) ∷ [])
 
 abbrev pub four_labels_says : Resolved
 four_labels_says = record {
@@ -174,8 +173,8 @@ four_labels_says = record {
 }
 
 -- / { l: a { }; }; m: &{/} { }; with symbols
-abbrev pub root_label : DtcMeaning
-root_label = ordinary (RootBody (node (l ∷ []) a End End) ∷ NodeBody (m ∷ []) (OfPath (codes "/")) End ∷ [])
+abbrev pub root_label : Meaning
+root_label = ordinary (Rooted (node (l ∷ []) a Done Done) ∷ Extends (m ∷ []) (OfPath (codes "/")) Done ∷ [])
 
 abbrev pub root_label_says : Resolved
 root_label_says = record {
@@ -185,9 +184,9 @@ root_label_says = record {
 }
 
 -- / { b { linux,phandle = <1>; }; a: a { }; c { r = <&{/b}>, <&a>; }; };
-abbrev pub by_both_names : DtcMeaning
+abbrev pub by_both_names : Meaning
 by_both_names = ordinary (
-    RootBody (node [] b (property legacy (Plain (cell 1) ∷ []) End) (node (a ∷ []) a End (node [] c (property r (PhandleOf (OfPath (codes "/b")) ∷ PhandleOf (OfLabel a) ∷ []) End) End))) ∷ [])
+    Rooted (node [] b (property legacy (Plain (cell 1) ∷ []) Done) (node (a ∷ []) a Done (node [] c (property r (PhandleOf (OfPath (codes "/b")) ∷ PhandleOf (OfLabel a) ∷ []) Done) Done))) ∷ [])
 
 abbrev pub by_both_names_says : Resolved
 by_both_names_says = record {
@@ -197,14 +196,14 @@ by_both_names_says = record {
 }
 
 -- / { a { phandle = <1>; linux,phandle = <2>; }; };
-abbrev pub one_number_by_two_names : DtcMeaning
+abbrev pub one_number_by_two_names : Meaning
 one_number_by_two_names = ordinary (
-    RootBody (node [] a (property phandle (Plain (cell 1) ∷ []) (property legacy (Plain (cell 2) ∷ []) End)) End) ∷ [])
+    Rooted (node [] a (property phandle (Plain (cell 1) ∷ []) (property legacy (Plain (cell 2) ∷ []) Done)) Done) ∷ [])
 
 -- / { a: a { phandle = <&a>; }; b { linux,phandle = <1>; }; };
-abbrev pub asked_for : DtcMeaning
+abbrev pub asked_for : Meaning
 asked_for = ordinary (
-    RootBody (node (a ∷ []) a (property phandle (PhandleOf (OfLabel a) ∷ []) End) (node [] b (property legacy (Plain (cell 1) ∷ []) End) End)) ∷ [])
+    Rooted (node (a ∷ []) a (property phandle (PhandleOf (OfLabel a) ∷ []) Done) (node [] b (property legacy (Plain (cell 1) ∷ []) Done) Done)) ∷ [])
 
 abbrev pub asked_for_says : Resolved
 asked_for_says = record {
@@ -213,9 +212,9 @@ asked_for_says = record {
 }
 
 -- / { a { linux,phandle = <4>; phandle = <&{/a}>; }; };
-abbrev pub asked_for_and_given : DtcMeaning
+abbrev pub asked_for_and_given : Meaning
 asked_for_and_given = ordinary (
-    RootBody (node [] a (property legacy (Plain (cell 4) ∷ []) (property phandle (PhandleOf (OfPath (codes "/a")) ∷ []) End)) End) ∷ [])
+    Rooted (node [] a (property legacy (Plain (cell 4) ∷ []) (property phandle (PhandleOf (OfPath (codes "/a")) ∷ []) Done)) Done) ∷ [])
 
 abbrev pub asked_for_and_given_says : Resolved
 asked_for_and_given_says = record {
@@ -224,14 +223,14 @@ asked_for_and_given_says = record {
 }
 
 -- / { a { phandle = <&b>; }; b: b { }; };
-abbrev pub of_another : DtcMeaning
+abbrev pub of_another : Meaning
 of_another = ordinary (
-    RootBody (node [] a (property phandle (PhandleOf (OfLabel b) ∷ []) End) (node (b ∷ []) b End End)) ∷ [])
+    Rooted (node [] a (property phandle (PhandleOf (OfLabel b) ∷ []) Done) (node (b ∷ []) b Done Done)) ∷ [])
 
 -- / { /omit-if-no-ref/ a { r = <&b>, <&c>; }; /omit-if-no-ref/ b: b { /omit-if-no-ref/ c: c { }; }; d { r = <&c>; }; };
-abbrev pub numbered_before_it_goes : DtcMeaning
+abbrev pub numbered_before_it_goes : Meaning
 numbered_before_it_goes = ordinary (
-    RootBody (omitted [] a (property r (PhandleOf (OfLabel b) ∷ PhandleOf (OfLabel c) ∷ []) End) (omitted (b ∷ []) b (omitted (c ∷ []) c End End) (node [] d (property r (PhandleOf (OfLabel c) ∷ []) End) End))) ∷ [])
+    Rooted (omitted [] a (property r (PhandleOf (OfLabel b) ∷ PhandleOf (OfLabel c) ∷ []) Done) (omitted (b ∷ []) b (omitted (c ∷ []) c Done Done) (node [] d (property r (PhandleOf (OfLabel c) ∷ []) Done) Done))) ∷ [])
 
 abbrev pub numbered_before_it_goes_says : Resolved
 numbered_before_it_goes_says = record {
@@ -240,31 +239,31 @@ numbered_before_it_goes_says = record {
 }
 
 -- / { a { }; }; / { /omit-if-no-ref/ a { }; /omit-if-no-ref/ b { }; };
-abbrev pub marked_where_it_is_made : DtcMeaning
-marked_where_it_is_made = ordinary (RootBody (node [] a End End) ∷ RootBody (omitted [] a End (omitted [] b End End)) ∷ [])
+abbrev pub marked_where_it_is_made : Meaning
+marked_where_it_is_made = ordinary (Rooted (node [] a Done Done) ∷ Rooted (omitted [] a Done (omitted [] b Done Done)) ∷ [])
 
 abbrev pub marked_where_it_is_made_says : Resolved
 marked_where_it_is_made_says = record { nodes = (a ∷ []) ∷ []; properties = [] }
 
 -- / { a: a { }; b { }; }; /omit-if-no-ref/ &a;
-abbrev pub marked_by_reference : DtcMeaning
-marked_by_reference = ordinary (RootBody (node (a ∷ []) a End (node [] b End End)) ∷ OmitsNode (OfLabel a) ∷ [])
+abbrev pub marked_by_reference : Meaning
+marked_by_reference = ordinary (Rooted (node (a ∷ []) a Done (node [] b Done Done)) ∷ Omits (OfLabel a) ∷ [])
 
 abbrev pub marked_by_reference_says : Resolved
 marked_by_reference_says = record { nodes = (b ∷ []) ∷ []; properties = [] }
 
 -- / { r = <&l>; /omit-if-no-ref/ a { l: b { }; }; };
-abbrev pub goes_with_what_is_below : DtcMeaning
+abbrev pub goes_with_what_is_below : Meaning
 goes_with_what_is_below = ordinary (
-    RootBody (property r (PhandleOf (OfLabel l) ∷ []) (omitted [] a (node (l ∷ []) b End End) End)) ∷ [])
+    Rooted (property r (PhandleOf (OfLabel l) ∷ []) (omitted [] a (node (l ∷ []) b Done Done) Done)) ∷ [])
 
 abbrev pub goes_with_what_is_below_says : Resolved
 goes_with_what_is_below_says = record { nodes = []; properties = definition [] r (cell 1) ∷ [] }
 
 -- / { s: s { }; t { r = <&s>; }; a: a { }; /omit-if-no-ref/ b { phandle = <1>; }; }; with symbols
-abbrev pub numbers_go_on : DtcMeaning
+abbrev pub numbers_go_on : Meaning
 numbers_go_on = ordinary (
-    RootBody (node (s ∷ []) s End (node [] t (property r (PhandleOf (OfLabel s) ∷ []) End) (node (a ∷ []) a End (omitted [] b (property phandle (Plain (cell 1) ∷ []) End) End)))) ∷ [])
+    Rooted (node (s ∷ []) s Done (node [] t (property r (PhandleOf (OfLabel s) ∷ []) Done) (node (a ∷ []) a Done (omitted [] b (property phandle (Plain (cell 1) ∷ []) Done) Done)))) ∷ [])
 
 abbrev pub numbers_go_on_says : Resolved
 numbers_go_on_says = record {
@@ -274,9 +273,9 @@ numbers_go_on_says = record {
 }
 
 -- / { /omit-if-no-ref/ a { r = <&b>; b: b { }; }; c: c { }; }; with symbols
-abbrev pub last_number_is_free : DtcMeaning
+abbrev pub last_number_is_free : Meaning
 last_number_is_free = ordinary (
-    RootBody (omitted [] a (property r (PhandleOf (OfLabel b) ∷ []) (node (b ∷ []) b End End)) (node (c ∷ []) c End End)) ∷ [])
+    Rooted (omitted [] a (property r (PhandleOf (OfLabel b) ∷ []) (node (b ∷ []) b Done Done)) (node (c ∷ []) c Done Done)) ∷ [])
 
 abbrev pub last_number_is_free_says : Resolved
 last_number_is_free_says = record {
@@ -285,8 +284,8 @@ last_number_is_free_says = record {
 }
 
 -- / { l: a { }; }; / { /delete-node/ a; a { }; }; with symbols
-abbrev pub label_that_was_lost : DtcMeaning
-label_that_was_lost = ordinary (RootBody (node (l ∷ []) a End End) ∷ RootBody (Next (Unmakes a) (node [] a End End)) ∷ [])
+abbrev pub label_that_was_lost : Meaning
+label_that_was_lost = ordinary (Rooted (node (l ∷ []) a Done Done) ∷ Rooted (Then (Removes a) (node [] a Done Done)) ∷ [])
 
 abbrev pub label_that_was_lost_says : Resolved
 label_that_was_lost_says = record {
@@ -295,8 +294,8 @@ label_that_was_lost_says = record {
 }
 
 -- / { /omit-if-no-ref/ l: a { }; }; / { /delete-node/ a; a { }; }; with symbols
-abbrev pub marked_and_once_labelled : DtcMeaning
-marked_and_once_labelled = ordinary (RootBody (omitted (l ∷ []) a End End) ∷ RootBody (Next (Unmakes a) (node [] a End End)) ∷ [])
+abbrev pub marked_and_once_labelled : Meaning
+marked_and_once_labelled = ordinary (Rooted (omitted (l ∷ []) a Done Done) ∷ Rooted (Then (Removes a) (node [] a Done Done)) ∷ [])
 
 abbrev pub marked_and_once_labelled_says : Resolved
 marked_and_once_labelled_says = record {
@@ -305,17 +304,17 @@ marked_and_once_labelled_says = record {
 }
 
 -- / { x; p { name = "p"; }; q@1 { name = "q"; }; };
-abbrev pub name_is_dropped : DtcMeaning
+abbrev pub name_is_dropped : Meaning
 name_is_dropped = ordinary (
-    RootBody (property x [] (node [] p (property (codes "name") (Plain (text p) ∷ []) End) (node [] (codes "q@1") (property (codes "name") (Plain (text q) ∷ []) End) End))) ∷ [])
+    Rooted (property x [] (node [] p (property (codes "name") (Plain (text p) ∷ []) Done) (node [] (codes "q@1") (property (codes "name") (Plain (text q) ∷ []) Done) Done))) ∷ [])
 
 abbrev pub name_is_dropped_says : Resolved
 name_is_dropped_says = record { nodes = (p ∷ []) ∷ (codes "q@1" ∷ []) ∷ []; properties = definition [] x [] ∷ [] }
 
 -- /plugin/; &x { r = <&c>; /omit-if-no-ref/ b { c: c { }; }; };
-abbrev pub fragment : DtcMeaning
+abbrev pub fragment : Meaning
 fragment = plugin (
-    NodeBody [] (OfLabel x) (property r (PhandleOf (OfLabel c) ∷ []) (omitted [] b (node (c ∷ []) c End End) End)) ∷ [])
+    Extends [] (OfLabel x) (property r (PhandleOf (OfLabel c) ∷ []) (omitted [] b (node (c ∷ []) c Done Done) Done)) ∷ [])
 
 abbrev pub fragment_says : Resolved
 fragment_says = record {
@@ -328,72 +327,72 @@ fragment_says = record {
 
 -- ---- boot processors
 -- / { cpus { c: a { reg = <3>; }; b { reg = <5>; }; }; }; /delete-node/ &c;
-abbrev pub deleted_first : DtcMeaning
+abbrev pub deleted_first : Meaning
 deleted_first = ordinary (
-    RootBody (node [] (codes "cpus") (node (c ∷ []) a (property (codes "reg") (Plain (cell 3) ∷ []) End) (node [] b (property (codes "reg") (Plain (cell 5) ∷ []) End) End)) End)
-    ∷ DeletesNode (OfLabel c) ∷ [])
+    Rooted (node [] (codes "cpus") (node (c ∷ []) a (property (codes "reg") (Plain (cell 3) ∷ []) Done) (node [] b (property (codes "reg") (Plain (cell 5) ∷ []) Done) Done)) Done)
+    ∷ Deletes (OfLabel c) ∷ [])
 
 -- / { cpus { /omit-if-no-ref/ a { reg = <3>; }; b { reg = <5>; }; }; };
-abbrev pub omitted_first : DtcMeaning
+abbrev pub omitted_first : Meaning
 omitted_first = ordinary (
-    RootBody (node [] (codes "cpus") (omitted [] a (property (codes "reg") (Plain (cell 3) ∷ []) End) (node [] b (property (codes "reg") (Plain (cell 5) ∷ []) End) End)) End) ∷ [])
+    Rooted (node [] (codes "cpus") (omitted [] a (property (codes "reg") (Plain (cell 3) ∷ []) Done) (node [] b (property (codes "reg") (Plain (cell 5) ∷ []) Done) Done)) Done) ∷ [])
 
 -- / { cpus { x: a { reg = <&x>; }; }; };
-abbrev pub reg_in_cells : DtcMeaning
+abbrev pub reg_in_cells : Meaning
 reg_in_cells = ordinary (
-    RootBody (node [] (codes "cpus") (node (x ∷ []) a (property (codes "reg") (PhandleOf (OfLabel x) ∷ []) End) End) End) ∷ [])
+    Rooted (node [] (codes "cpus") (node (x ∷ []) a (property (codes "reg") (PhandleOf (OfLabel x) ∷ []) Done) Done) Done) ∷ [])
 
 -- / { cpus { x: a { reg = &x, <5>; }; }; };
-abbrev pub reg_outside : DtcMeaning
+abbrev pub reg_outside : Meaning
 reg_outside = ordinary (
-    RootBody (node [] (codes "cpus") (node (x ∷ []) a (property (codes "reg") (PathOf (OfLabel x) ∷ Plain (cell 5) ∷ []) End) End) End) ∷ [])
+    Rooted (node [] (codes "cpus") (node (x ∷ []) a (property (codes "reg") (PathOf (OfLabel x) ∷ Plain (cell 5) ∷ []) Done) Done) Done) ∷ [])
 
 -- / { cpus { a { reg = <5>, <6>; }; }; };
-abbrev pub reg_of_two_cells : DtcMeaning
+abbrev pub reg_of_two_cells : Meaning
 reg_of_two_cells = ordinary (
-    RootBody (node [] (codes "cpus") (node [] a (property (codes "reg") (Plain ((cell 5) ++ (cell 6)) ∷ []) End) End) End) ∷ [])
+    Rooted (node [] (codes "cpus") (node [] a (property (codes "reg") (Plain ((cell 5) ++ (cell 6)) ∷ []) Done) Done) Done) ∷ [])
 
 -- / { cpus { /delete-node/ a; a { reg = <7>; }; }; };
-abbrev pub place_first : DtcMeaning
+abbrev pub place_first : Meaning
 place_first = ordinary (
-    RootBody (node [] (codes "cpus") (Next (Unmakes a) (node [] a (property (codes "reg") (Plain (cell 7) ∷ []) End) End)) End) ∷ [])
+    Rooted (node [] (codes "cpus") (Then (Removes a) (node [] a (property (codes "reg") (Plain (cell 7) ∷ []) Done) Done)) Done) ∷ [])
 
 -- ---- of random sources that both take
 -- / { p = <&{/}>; l1: b@2 { /delete-property/ p; r = <&l1>; }; }; /omit-if-no-ref/ &l1; /delete-node/ &l1;
-abbrev pub random_1 : DtcMeaning
+abbrev pub random_1 : Meaning
 random_1 = ordinary (
-    RootBody (property p (PhandleOf (OfPath (codes "/")) ∷ []) (node (codes "l1" ∷ []) (codes "b@2") (Next (Unsets p) (property r (PhandleOf (OfLabel (codes "l1")) ∷ []) End)) End))
-    ∷ OmitsNode (OfLabel (codes "l1"))
-    ∷ DeletesNode (OfLabel (codes "l1")) ∷ [])
+    Rooted (property p (PhandleOf (OfPath (codes "/")) ∷ []) (node (codes "l1" ∷ []) (codes "b@2") (Then (Undefines p) (property r (PhandleOf (OfLabel (codes "l1")) ∷ []) Done)) Done))
+    ∷ Omits (OfLabel (codes "l1"))
+    ∷ Deletes (OfLabel (codes "l1")) ∷ [])
 
 abbrev pub random_1_says : Resolved
 random_1_says = record { nodes = []; properties = definition [] p (cell 1) ∷ definition [] phandle (cell 1) ∷ [] }
 
 -- / { q = <&{/}>, <&{/}>; }; &{/} { q; /delete-property/ q; /delete-node/ a@1; }; / { /delete-node/ b; };
-abbrev pub random_2 : DtcMeaning
+abbrev pub random_2 : Meaning
 random_2 = ordinary (
-    RootBody (property q (PhandleOf (OfPath (codes "/")) ∷ PhandleOf (OfPath (codes "/")) ∷ []) End)
-    ∷ NodeBody [] (OfPath (codes "/")) (property q [] (Next (Unsets q) (Next (Unmakes (codes "a@1")) End)))
-    ∷ RootBody (Next (Unmakes b) End) ∷ [])
+    Rooted (property q (PhandleOf (OfPath (codes "/")) ∷ PhandleOf (OfPath (codes "/")) ∷ []) Done)
+    ∷ Extends [] (OfPath (codes "/")) (property q [] (Then (Undefines q) (Then (Removes (codes "a@1")) Done)))
+    ∷ Rooted (Then (Removes b) Done) ∷ [])
 
 abbrev pub random_2_says : Resolved
 random_2_says = record { nodes = []; properties = [] }
 
 -- / { r; }; / { p = <&{/}>; /delete-node/ c; }; &{/} { phandle = <2>; p = &{/}; /delete-property/ r; };
-abbrev pub random_3 : DtcMeaning
+abbrev pub random_3 : Meaning
 random_3 = ordinary (
-    RootBody (property r [] End)
-    ∷ RootBody (property p (PhandleOf (OfPath (codes "/")) ∷ []) (Next (Unmakes c) End))
-    ∷ NodeBody [] (OfPath (codes "/")) (property phandle (Plain (cell 2) ∷ []) (property p (PathOf (OfPath (codes "/")) ∷ []) (Next (Unsets r) End))) ∷ [])
+    Rooted (property r [] Done)
+    ∷ Rooted (property p (PhandleOf (OfPath (codes "/")) ∷ []) (Then (Removes c) Done))
+    ∷ Extends [] (OfPath (codes "/")) (property phandle (Plain (cell 2) ∷ []) (property p (PathOf (OfPath (codes "/")) ∷ []) (Then (Undefines r) Done))) ∷ [])
 
 abbrev pub random_3_says : Resolved
 random_3_says = record { nodes = []; properties = definition [] p (text (codes "/")) ∷ definition [] phandle (cell 2) ∷ [] }
 
 -- / { /delete-property/ q; l1: b@2 { p = &l1; r = <1>, <&l1>; }; /delete-node/ b; }; &l1 { p; p = <1>; q = <&l1>; /delete-node/ a@1; }; with symbols
-abbrev pub random_4 : DtcMeaning
+abbrev pub random_4 : Meaning
 random_4 = ordinary (
-    RootBody (Next (Unsets q) (node (codes "l1" ∷ []) (codes "b@2") (property p (PathOf (OfLabel (codes "l1")) ∷ []) (property r (Plain (cell 1) ∷ PhandleOf (OfLabel (codes "l1")) ∷ []) End)) (Next (Unmakes b) End)))
-    ∷ NodeBody [] (OfLabel (codes "l1")) (property p [] (property p (Plain (cell 1) ∷ []) (property q (PhandleOf (OfLabel (codes "l1")) ∷ []) (Next (Unmakes (codes "a@1")) End)))) ∷ [])
+    Rooted (Then (Undefines q) (node (codes "l1" ∷ []) (codes "b@2") (property p (PathOf (OfLabel (codes "l1")) ∷ []) (property r (Plain (cell 1) ∷ PhandleOf (OfLabel (codes "l1")) ∷ []) Done)) (Then (Removes b) Done)))
+    ∷ Extends [] (OfLabel (codes "l1")) (property p [] (property p (Plain (cell 1) ∷ []) (property q (PhandleOf (OfLabel (codes "l1")) ∷ []) (Then (Removes (codes "a@1")) Done)))) ∷ [])
 
 abbrev pub random_4_says : Resolved
 random_4_says = record {
@@ -404,11 +403,11 @@ random_4_says = record {
 }
 
 -- / { r = <&{/}>, &{/}; q = <&{/}>; }; &{/} { p = &{/}; /delete-property/ p; r; /delete-node/ b@2; }; / { q; /omit-if-no-ref/ l1: b@2 { /delete-property/ r; q = <&l1>; }; };
-abbrev pub random_5 : DtcMeaning
+abbrev pub random_5 : Meaning
 random_5 = ordinary (
-    RootBody (property r (PhandleOf (OfPath (codes "/")) ∷ PathOf (OfPath (codes "/")) ∷ []) (property q (PhandleOf (OfPath (codes "/")) ∷ []) End))
-    ∷ NodeBody [] (OfPath (codes "/")) (property p (PathOf (OfPath (codes "/")) ∷ []) (Next (Unsets p) (property r [] (Next (Unmakes (codes "b@2")) End))))
-    ∷ RootBody (property q [] (omitted (codes "l1" ∷ []) (codes "b@2") (Next (Unsets r) (property q (PhandleOf (OfLabel (codes "l1")) ∷ []) End)) End)) ∷ [])
+    Rooted (property r (PhandleOf (OfPath (codes "/")) ∷ PathOf (OfPath (codes "/")) ∷ []) (property q (PhandleOf (OfPath (codes "/")) ∷ []) Done))
+    ∷ Extends [] (OfPath (codes "/")) (property p (PathOf (OfPath (codes "/")) ∷ []) (Then (Undefines p) (property r [] (Then (Removes (codes "b@2")) Done))))
+    ∷ Rooted (property q [] (omitted (codes "l1" ∷ []) (codes "b@2") (Then (Undefines r) (property q (PhandleOf (OfLabel (codes "l1")) ∷ []) Done)) Done)) ∷ [])
 
 abbrev pub random_5_says : Resolved
 random_5_says = record {
@@ -418,20 +417,20 @@ random_5_says = record {
 }
 
 -- / { /delete-property/ r; }; / { r = <&{/}>; r = <5>; /delete-node/ a; }; with symbols
-abbrev pub random_6 : DtcMeaning
+abbrev pub random_6 : Meaning
 random_6 = ordinary (
-    RootBody (Next (Unsets r) End)
-    ∷ RootBody (property r (PhandleOf (OfPath (codes "/")) ∷ []) (property r (Plain (cell 5) ∷ []) (Next (Unmakes a) End))) ∷ [])
+    Rooted (Then (Undefines r) Done)
+    ∷ Rooted (property r (PhandleOf (OfPath (codes "/")) ∷ []) (property r (Plain (cell 5) ∷ []) (Then (Removes a) Done))) ∷ [])
 
 abbrev pub random_6_says : Resolved
 random_6_says = record { nodes = []; properties = definition [] r (cell 5) ∷ [] }
 
 -- / { p = <&{/}>; linux,phandle = <5>; /delete-property/ q; l1: l2: b { }; /delete-node/ c; }; &l1 { q = <&{/b}>; r = <2>; l3: a { /delete-property/ p; p; l4: l1: c { p = <&l2>; }; }; }; /delete-node/ &l3; with symbols
-abbrev pub random_7 : DtcMeaning
+abbrev pub random_7 : Meaning
 random_7 = ordinary (
-    RootBody (property p (PhandleOf (OfPath (codes "/")) ∷ []) (property legacy (Plain (cell 5) ∷ []) (Next (Unsets q) (node (codes "l1" ∷ codes "l2" ∷ []) b End (Next (Unmakes c) End)))))
-    ∷ NodeBody [] (OfLabel (codes "l1")) (property q (PhandleOf (OfPath (codes "/b")) ∷ []) (property r (Plain (cell 2) ∷ []) (node (codes "l3" ∷ []) a (Next (Unsets p) (property p [] (node (codes "l4" ∷ codes "l1" ∷ []) c (property p (PhandleOf (OfLabel (codes "l2")) ∷ []) End) End))) End)))
-    ∷ DeletesNode (OfLabel (codes "l3")) ∷ [])
+    Rooted (property p (PhandleOf (OfPath (codes "/")) ∷ []) (property legacy (Plain (cell 5) ∷ []) (Then (Undefines q) (node (codes "l1" ∷ codes "l2" ∷ []) b Done (Then (Removes c) Done)))))
+    ∷ Extends [] (OfLabel (codes "l1")) (property q (PhandleOf (OfPath (codes "/b")) ∷ []) (property r (Plain (cell 2) ∷ []) (node (codes "l3" ∷ []) a (Then (Undefines p) (property p [] (node (codes "l4" ∷ codes "l1" ∷ []) c (property p (PhandleOf (OfLabel (codes "l2")) ∷ []) Done) Done))) Done)))
+    ∷ Deletes (OfLabel (codes "l3")) ∷ [])
 
 abbrev pub random_7_says : Resolved
 random_7_says = record {
@@ -443,22 +442,22 @@ random_7_says = record {
 }
 
 -- / { /delete-property/ q; r = <2>; l1: c { p = &l1, <3>; q; }; /delete-node/ a; }; /omit-if-no-ref/ &l1; &{/c} { /delete-property/ r; r = &l1, <1>; /omit-if-no-ref/ l2: c { }; }; /delete-node/ &l1;
-abbrev pub random_8 : DtcMeaning
+abbrev pub random_8 : Meaning
 random_8 = ordinary (
-    RootBody (Next (Unsets q) (property r (Plain (cell 2) ∷ []) (node (codes "l1" ∷ []) c (property p (PathOf (OfLabel (codes "l1")) ∷ Plain (cell 3) ∷ []) (property q [] End)) (Next (Unmakes a) End))))
-    ∷ OmitsNode (OfLabel (codes "l1"))
-    ∷ NodeBody [] (OfPath (codes "/c")) (Next (Unsets r) (property r (PathOf (OfLabel (codes "l1")) ∷ Plain (cell 1) ∷ []) (omitted (codes "l2" ∷ []) c End End)))
-    ∷ DeletesNode (OfLabel (codes "l1")) ∷ [])
+    Rooted (Then (Undefines q) (property r (Plain (cell 2) ∷ []) (node (codes "l1" ∷ []) c (property p (PathOf (OfLabel (codes "l1")) ∷ Plain (cell 3) ∷ []) (property q [] Done)) (Then (Removes a) Done))))
+    ∷ Omits (OfLabel (codes "l1"))
+    ∷ Extends [] (OfPath (codes "/c")) (Then (Undefines r) (property r (PathOf (OfLabel (codes "l1")) ∷ Plain (cell 1) ∷ []) (omitted (codes "l2" ∷ []) c Done Done)))
+    ∷ Deletes (OfLabel (codes "l1")) ∷ [])
 
 abbrev pub random_8_says : Resolved
 random_8_says = record { nodes = []; properties = definition [] r (cell 2) ∷ [] }
 
 -- / { p = <&{/}>, <5>; l1: l1: a { r = <&{/a}>, <&{/}>; p = <&l1>, &l1; q; }; /omit-if-no-ref/ l2: c { q = &l2; l3: c { r = <&{/c}>; l4: a@1 { q = <&l2>, &l3; }; }; }; }; / { r; q; linux,phandle = <1>; }; / { };
-abbrev pub random_9 : DtcMeaning
+abbrev pub random_9 : Meaning
 random_9 = ordinary (
-    RootBody (property p (PhandleOf (OfPath (codes "/")) ∷ Plain (cell 5) ∷ []) (node (codes "l1" ∷ codes "l1" ∷ []) a (property r (PhandleOf (OfPath (codes "/a")) ∷ PhandleOf (OfPath (codes "/")) ∷ []) (property p (PhandleOf (OfLabel (codes "l1")) ∷ PathOf (OfLabel (codes "l1")) ∷ []) (property q [] End))) (omitted (codes "l2" ∷ []) c (property q (PathOf (OfLabel (codes "l2")) ∷ []) (node (codes "l3" ∷ []) c (property r (PhandleOf (OfPath (codes "/c")) ∷ []) (node (codes "l4" ∷ []) (codes "a@1") (property q (PhandleOf (OfLabel (codes "l2")) ∷ PathOf (OfLabel (codes "l3")) ∷ []) End) End)) End)) End)))
-    ∷ RootBody (property r [] (property q [] (property legacy (Plain (cell 1) ∷ []) End)))
-    ∷ RootBody End ∷ [])
+    Rooted (property p (PhandleOf (OfPath (codes "/")) ∷ Plain (cell 5) ∷ []) (node (codes "l1" ∷ codes "l1" ∷ []) a (property r (PhandleOf (OfPath (codes "/a")) ∷ PhandleOf (OfPath (codes "/")) ∷ []) (property p (PhandleOf (OfLabel (codes "l1")) ∷ PathOf (OfLabel (codes "l1")) ∷ []) (property q [] Done))) (omitted (codes "l2" ∷ []) c (property q (PathOf (OfLabel (codes "l2")) ∷ []) (node (codes "l3" ∷ []) c (property r (PhandleOf (OfPath (codes "/c")) ∷ []) (node (codes "l4" ∷ []) (codes "a@1") (property q (PhandleOf (OfLabel (codes "l2")) ∷ PathOf (OfLabel (codes "l3")) ∷ []) Done) Done)) Done)) Done)))
+    ∷ Rooted (property r [] (property q [] (property legacy (Plain (cell 1) ∷ []) Done)))
+    ∷ Rooted Done ∷ [])
 
 abbrev pub random_9_says : Resolved
 random_9_says = record {

@@ -6,11 +6,10 @@ use Rattle.std.specs.Str.{bytes_eq}
 use Rattle.dt_tree.specs.Steps.{then_do}
 use Rattle.dt_meaning.specs.Names.{fragment_name, overlay_name}
 use Rattle.dt_meaning.specs.Paths.{Path, same_path}
-use Rattle.dt_meaning.specs.Syntax.{Target, OfLabel, OfPath, Piece}
+use Rattle.dt_meaning.specs.Syntax.{Target, OfLabel, OfPath, Piece, Entry, Defines, Undefines, Child, Removes, Body, Done, Then, Edit, Rooted, Extends, Deletes, Omits, Meaning}
 use Rattle.dt_meaning.specs.Edits.{Label, State}
 use Rattle.dt_meaning.specs.Statements.{Fault, DuplicateInBody, DuplicateLabel, ReservedName, TooDeep, target_name, target_value}
 use Rattle.dt_meaning.specs.Places.{row, what_stands}
-use Rattle.dt_meaning.specs.DtcSyntax.{DtcEntry, Sets, Unsets, Makes, Unmakes, DtcBody, End, Next, DtcEdit, RootBody, NodeBody, DeletesNode, OmitsNode, DtcMeaning}
 use Rattle.dt_meaning.specs.DtcEdits.{DtcTree, nothing, node_has_place, made_property, unmade_property, made_node, unmade_node, without_all_within, with_labels_at, given_in_turn, with_mark, all_below, in_preorder, named_node}
 
 -- ---- statements
@@ -26,19 +25,19 @@ begun_node first omitted ls p t =
 
 abbrev mutual
   -- one statement of a body of the node at p
-  pub dtc_entry : DtcEntry → (first : Bool) → Path → DtcTree → Result DtcTree Fault
-  dtc_entry (Sets n v) first p t = made_property first p n v t
-  dtc_entry (Unsets n) first p t = Ok (unmade_property first p n t)
-  dtc_entry (Unmakes n) first p t = unmade_node first (p ++ n ∷ []) t
-  dtc_entry (Makes omitted ls n body) first p t =
+  pub dtc_entry : Entry (List Piece) → (first : Bool) → Path → DtcTree → Result DtcTree Fault
+  dtc_entry (Defines n v) first p t = made_property first p n v t
+  dtc_entry (Undefines n) first p t = Ok (unmade_property first p n t)
+  dtc_entry (Removes n) first p t = unmade_node first (p ++ n ∷ []) t
+  dtc_entry (Child omitted ls n body) first p t =
       let q = p ++ n ∷ [] in
       let inner = is_first first q t in
       then_do (begun_node inner omitted ls q t) (dtc_body body inner q)
 
   -- the statements of a body of the node at p
-  pub dtc_body : DtcBody → (first : Bool) → Path → DtcTree → Result DtcTree Fault
-  dtc_body End first p t = Ok t
-  dtc_body (Next e others) first p t = then_do (dtc_entry e first p t) (dtc_body others first p)
+  pub dtc_body : Body (List Piece) → (first : Bool) → Path → DtcTree → Result DtcTree Fault
+  dtc_body Done first p t = Ok t
+  dtc_body (Then e others) first p t = then_do (dtc_entry e first p t) (dtc_body others first p)
 
 -- ---- items
 -- the first item makes the root
@@ -46,7 +45,7 @@ abbrev pub with_root : DtcTree → DtcTree
 with_root t = if node_has_place [] t then t else record t { nodes = t.nodes ++ row [] ∷ [] }
 
 -- a fragment goes behind all that stands; its body is the first of its `__overlay__`
-abbrev pub dtc_fragment : Target → DtcBody → List ℕ → DtcTree → Result DtcTree Fault
+abbrev pub dtc_fragment : Target → Body (List Piece) → List ℕ → DtcTree → Result DtcTree Fault
 dtc_fragment target body f t =
     if node_has_place (f ∷ []) t then Err DuplicateInBody
     else then_do (made_node true (f ∷ []) (record t { fragments = t.fragments + 1 })) (λ u.
@@ -60,15 +59,15 @@ begins_fragment true (l ∷ ls) target t = false
 begins_fragment true [] (OfPath s) t = true
 begins_fragment true [] (OfLabel l) t = not (is_ok (named_node (OfLabel l) t))
 
-abbrev pub dtc_item : Bool → DtcEdit → DtcTree → Result DtcTree Fault
-dtc_item plugin (RootBody body) t = dtc_body body (not (node_has_place [] t)) [] (with_root t)
-dtc_item plugin (DeletesNode target) t = then_do (named_node target t) (λ p. if same_path p [] then Err ReservedName else Ok (without_all_within p t))
-dtc_item plugin (OmitsNode target) t = then_do (named_node target t) (λ p. Ok (with_mark true p t))
-dtc_item plugin (NodeBody ls target body) t =
+abbrev pub dtc_item : Bool → Edit → DtcTree → Result DtcTree Fault
+dtc_item plugin (Rooted body) t = dtc_body body (not (node_has_place [] t)) [] (with_root t)
+dtc_item plugin (Deletes target) t = then_do (named_node target t) (λ p. if same_path p [] then Err ReservedName else Ok (without_all_within p t))
+dtc_item plugin (Omits target) t = then_do (named_node target t) (λ p. Ok (with_mark true p t))
+dtc_item plugin (Extends ls target body) t =
     if begins_fragment plugin ls target t then dtc_fragment target body (fragment_name t.fragments) (with_root t)
     else then_do (named_node target t) (λ p. dtc_body body false p (with_labels_at ls p t))
 
-abbrev pub dtc_items : Bool → List DtcEdit → DtcTree → Result DtcTree Fault
+abbrev pub dtc_items : Bool → List Edit → DtcTree → Result DtcTree Fault
 dtc_items plugin [] t = Ok t
 dtc_items plugin (i ∷ is) t = then_do (dtc_item plugin i t) (dtc_items plugin is)
 
@@ -84,7 +83,7 @@ label_twice (x ∷ xs) = list_any (same_label x) xs || label_twice xs
 abbrev pub with_labels_once : DtcTree → Result DtcTree Fault
 with_labels_once t = if label_twice (what_stands t.labels) then Err DuplicateLabel else Ok t
 
-abbrev pub dtc_edited : DtcMeaning → Result DtcTree Fault
+abbrev pub dtc_edited : Meaning → Result DtcTree Fault
 dtc_edited m = then_do (dtc_items m.plugin m.items nothing) with_labels_once
 
 -- node by node, a node's last label first

@@ -4,7 +4,6 @@ pub mod DtcPhandles
 pub mod DtcResolved
 pub mod DtcRows
 pub mod DtcStatements
-pub mod DtcSyntax
 pub mod Edits
 pub mod Fixups
 pub mod MapOf

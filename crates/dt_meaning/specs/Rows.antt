@@ -50,7 +50,7 @@ abbrev Value : Type 0
 Value = List Piece
 
 abbrev node : List (List ℕ) → List ℕ → Body Value → Body Value → Body Value
-node labels name body others = Then (Child labels name body) others
+node labels name body others = Then (Child false labels name body) others
 
 abbrev property : List ℕ → Value → Body Value → Body Value
 property name value others = Then (Defines name value) others

@@ -6,7 +6,7 @@ use Rattle.dt_tree.specs.Path.{path_names, path_text}
 use Rattle.dt_tree.specs.Sound.{is_among}
 use Rattle.dt_meaning.specs.Paths.{Path, same_path, is_listed}
 use Rattle.dt_meaning.specs.Names.{fragment_name, is_fragment, overlay_name}
-use Rattle.dt_meaning.specs.Syntax.{Target, OfLabel, OfPath, Piece, Plain, PhandleOf, Entry, Defines, Undefines, Child, Removes, Body, Done, Then, Edit, Rooted, Extends, Deletes, Meaning}
+use Rattle.dt_meaning.specs.Syntax.{Target, OfLabel, OfPath, Piece, Plain, PhandleOf, Entry, Defines, Undefines, Child, Removes, Body, Done, Then, Edit, Rooted, Extends, Deletes, Omits, Meaning}
 use Rattle.dt_meaning.specs.Edits.{State, empty, has_node, with_node, without_node, with_property, without_property, label_path, with_label}
 
 pub data Fault : Type 0 where
@@ -63,7 +63,7 @@ abbrev mutual
       if is_among n x.properties then Err DuplicateInBody else Ok (progress (n ∷ x.properties) x.children (with_property p n v x.state))
   after_entry (Undefines n) p x = Ok (progress x.properties x.children (without_property p n x.state))
   after_entry (Removes n) p x = Ok (progress x.properties x.children (without_node (p ++ n ∷ []) x.state))
-  after_entry (Child ls n body) p x =
+  after_entry (Child omitted ls n body) p x =
       then_do (give_labels ls (p ++ n ∷ []) x.state) (λ s.
       unless (child_fault p n x.children s)
       (then_do (after_body body (p ++ n ∷ []) (begun (with_node (p ++ n ∷ []) s))) (λ t. Ok (progress x.properties (n ∷ x.children) t))))
@@ -104,9 +104,11 @@ makes_fragment true (l ∷ ls) t s = false
 makes_fragment true [] (OfPath t) s = true
 makes_fragment true [] (OfLabel l) s = not (is_some (label_path l s.labels))
 
+-- the profile's grammar has no `/omit-if-no-ref/`, which says nothing here
 abbrev pub after_item : Bool → Edit → State (List Piece) → Result (State (List Piece)) Fault
 after_item plugin (Rooted body) s = after_body body [] (begun s)
 after_item plugin (Deletes t) s = then_do (found t s) (λ p. if same_path p [] then Err ReservedName else Ok (without_node p s))
+after_item plugin (Omits t) s = Ok s
 after_item plugin (Extends ls t body) s =
     if makes_fragment plugin ls t s then after_fragment t body (fragment_name s.fragments) s
     else then_do (found t s) (λ p. then_do (give_labels ls p s) (λ u. after_body body p (begun u)))

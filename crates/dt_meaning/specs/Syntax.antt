@@ -12,12 +12,12 @@ pub data Piece : Type 0 where
   PhandleOf : (target : Target) → Piece
   PathOf : (target : Target) → Piece
 
--- a statement of a body, and a body
+-- a statement of a body, and a body; `omitted` says that `/omit-if-no-ref/` stands before a node, which only dtc's language has
 mutual
   pub data Entry (V : Type 0) : Type 0 where
     Defines : (name : List ℕ) (value : V) → Entry V
     Undefines : (name : List ℕ) → Entry V
-    Child : (labels : List (List ℕ)) (name : List ℕ) (body : Body V) → Entry V
+    Child : (omitted : Bool) (labels : List (List ℕ)) (name : List ℕ) (body : Body V) → Entry V
     Removes : (name : List ℕ) → Entry V
 
   pub data Body (V : Type 0) : Type 0 where
@@ -28,11 +28,12 @@ abbrev pub body_of : {V : Type 0} → List (Entry V) → Body V
 body_of [] = Done
 body_of (e ∷ es) = Then e (body_of es)
 
--- an item of a source
+-- an item of a source; `Omits`, which only dtc's language has, is `/omit-if-no-ref/` before a reference
 pub data Edit : Type 0 where
   Rooted : (body : Body (List Piece)) → Edit
   Extends : (labels : List (List ℕ)) (target : Target) (body : Body (List Piece)) → Edit
   Deletes : (target : Target) → Edit
+  Omits : (target : Target) → Edit
 
 pub record Meaning : Type 0 where
   pub plugin : Bool

@@ -65,7 +65,7 @@ record Inside (text : List ℕ) (inner : Inner) (body : Statements) (ts rest : L
   read : (t : Lexeme) → inner t ts ≡ Ok (entries_of text body, first_of (faults_in text body), rest)
 
 child_again : (text : List ℕ) (inner : Inner) (nodes : Bool) (labels : List (List ℕ)) (name : List ℕ) (body : Statements) (us at mid rest : List Lexeme) → Begins us Brace at → Inside text inner body at mid → Begins mid Semicolon rest
-    → named_at text inner nodes labels name us ≡ Ok (Some (Child labels name (body_of (entries_of text body))), first_of (faults_in text body), rest)
+    → named_at text inner nodes labels name us ≡ Ok (Some (Child false labels name (body_of (entries_of text body))), first_of (faults_in text body), rest)
 child_again text inner nodes labels name body [] at mid rest h i s = absurd h
 child_again text inner nodes labels name body (t ∷ us) at mid rest h i s =
     ap (λ (x : Kind). named_by text inner nodes labels name x t us) h.0 ∙ go nodes
@@ -73,10 +73,10 @@ child_again text inner nodes labels name body (t ∷ us) at mid rest h i s =
     inside : inner t us ≡ Ok (entries_of text body, first_of (faults_in text body), mid)
     inside = ap (inner t) h.1 ∙ i.read t
 
-    ended : ended_by (Some (Child labels name (body_of (entries_of text body)))) (first_of (faults_in text body)) mid ≡ Ok (Some (Child labels name (body_of (entries_of text body))), first_of (faults_in text body), rest)
-    ended = ended_again (Some (Child labels name (body_of (entries_of text body)))) (first_of (faults_in text body)) mid rest s
+    ended : ended_by (Some (Child false labels name (body_of (entries_of text body)))) (first_of (faults_in text body)) mid ≡ Ok (Some (Child false labels name (body_of (entries_of text body))), first_of (faults_in text body), rest)
+    ended = ended_again (Some (Child false labels name (body_of (entries_of text body)))) (first_of (faults_in text body)) mid rest s
 
-    go : (nodes : Bool) → named_by text inner nodes labels name Brace t us ≡ Ok (Some (Child labels name (body_of (entries_of text body))), first_of (faults_in text body), rest)
+    go : (nodes : Bool) → named_by text inner nodes labels name Brace t us ≡ Ok (Some (Child false labels name (body_of (entries_of text body))), first_of (faults_in text body), rest)
     go false = rw inside ended
     go true = rw inside ended
 
@@ -182,7 +182,7 @@ statements_again text (Unsets n more) depth false ts rest h =
 statements_again text (Holds ls n body more) zero nodes ts rest h = absurd h.8
 statements_again text (Holds ls n body more) (suc depth) nodes ts rest h =
     let inside = statements_again text body depth false h.2 h.3 h.8 in
-    faulty_read text (suc depth) nodes (Child (map (label_bytes text) ls) (name_bytes text n) (body_of (entries_of text body))) (faults_in text body) (Holds ls n body more) more ts h.4 rest refl refl
+    faulty_read text (suc depth) nodes (Child false (map (label_bytes text) ls) (name_bytes text n) (body_of (entries_of text body))) (faults_in text body) (Holds ls n body more) more ts h.4 rest refl refl
     (omega (arith, labels_shorter ls ts h.0 h.5, one_shorter Name n h.0 h.1 h.6, begins_shorter h.1 Brace h.2 h.7, statements_shorter body depth false h.2 h.3 h.8, begins_shorter h.3 Semicolon h.4 h.9))
     (named_front text (body_below text (suc depth)) nodes ls n ts h.0 h.1 h.5 h.6
     ∙ child_again text (body_below text (suc depth)) nodes (map (label_bytes text) ls) (name_bytes text n) body h.1 h.2 h.3 h.4 h.7 (record { read = λ t. inside (suc (length h.2)) (omega arith) }) h.9)

@@ -95,12 +95,12 @@ value_found text depth ls n t ts us ps f mid r h k v s = record {
 }
 
 child_found : (text : List ℕ) (depth : ℕ) (nodes : Bool) (ls : List Lexeme) (n t : Lexeme) (ts us : List Lexeme) (es : List (Entry (List Piece))) (f : Option Fault) (mid r : List Lexeme) → Front text ls n ts (t ∷ us) → t.kind ≡ Brace
-    → InnerFound text depth us es f mid → Begins mid Semicolon r → StatementFound text depth nodes ts (Child (map (label_bytes text) ls) (name_bytes text n) (body_of es)) f r
+    → InnerFound text depth us es f mid → Begins mid Semicolon r → StatementFound text depth nodes ts (Child false (map (label_bytes text) ls) (name_bytes text n) (body_of es)) f r
 unfolding SpellsStatements entries_of faults_in
 child_found text depth nodes ls n t ts us es f mid r h k b s = record {
   make = Holds ls n b.tree;
   spells = λ more rest m. (h.at, t ∷ us, us, mid, r, h.labels, h.name, (k, refl), b.spells, s, m);
-  entries = λ more. ap (λ (x : List (Entry (List Piece))). Child (map (label_bytes text) ls) (name_bytes text n) (body_of x) ∷ entries_of text more) b.entries;
+  entries = λ more. ap (λ (x : List (Entry (List Piece))). Child false (map (label_bytes text) ls) (name_bytes text n) (body_of x) ∷ entries_of text more) b.entries;
   faults = λ more. several.first_of_both (faults_in text b.tree) (faults_in text more) ∙ ap (λ (x : Option Fault). earlier x (first_of (faults_in text more))) b.faults;
 }
 
@@ -137,11 +137,11 @@ named_sound text depth inner hi nodes ls n ts (t ∷ us) o f r h e = go nodes t.
     name : List ℕ
     name = name_bytes text n
 
-    child : (nodes : Bool) → t.kind ≡ Brace → (inner t us >>= λ b. ended_by (Some (Child labels name (body_of b.0))) b.1 b.2) ≡ Ok (o, f, r) → Found text depth nodes ts o f r
+    child : (nodes : Bool) → t.kind ≡ Brace → (inner t us >>= λ b. ended_by (Some (Child false labels name (body_of b.0))) b.1 b.2) ≡ Ok (o, f, r) → Found text depth nodes ts o f r
     child nodes k e =
-        let b = bind_ok (inner t us) (λ b. ended_by (Some (Child labels name (body_of b.0))) b.1 b.2) (o, f, r) e in
-        let s = ended_sound (Some (Child labels name (body_of b.0.0))) o b.0.1 f b.0.2 r b.2 in
-        to text depth nodes ts (Some (Child labels name (body_of b.0.0))) o b.0.1 f r r (child_found text depth nodes ls n t ts us b.0.0 b.0.1 b.0.2 r h k (hi.by t us b.0.0 b.0.1 b.0.2 b.1) s.ends) (s.value_is, s.fault_is, refl)
+        let b = bind_ok (inner t us) (λ b. ended_by (Some (Child false labels name (body_of b.0))) b.1 b.2) (o, f, r) e in
+        let s = ended_sound (Some (Child false labels name (body_of b.0.0))) o b.0.1 f b.0.2 r b.2 in
+        to text depth nodes ts (Some (Child false labels name (body_of b.0.0))) o b.0.1 f r r (child_found text depth nodes ls n t ts us b.0.0 b.0.1 b.0.2 r h k (hi.by t us b.0.0 b.0.1 b.0.2 b.1) s.ends) (s.value_is, s.fault_is, refl)
 
     go : (nodes : Bool) (k : Kind) → t.kind ≡ k → named_by text inner nodes labels name k t us ≡ Ok (o, f, r) → Found text depth nodes ts o f r
     go false Semicolon k e = to text depth false ts (Some (Defines name [])) o None f us r (empty_found text depth ls n t ts us h k) (several.part_is (Some (Defines name [])) o None f us r e)

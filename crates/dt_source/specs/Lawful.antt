@@ -4,7 +4,7 @@ use Rattle.std.specs.Prelude.{ℕ, Bool, true, false, not, ◌&&◌, List, [], �
 use Rattle.dt_tree.specs.Name.{is_name}
 use Rattle.dt_tree.specs.Path.{is_path}
 use Rattle.dt_lexeme.specs.Label.{IsLabel}
-use Rattle.dt_meaning.specs.Syntax.{Target, OfLabel, OfPath, Piece, Plain, PhandleOf, PathOf, Entry, Defines, Undefines, Child, Removes, Body, Done, Then, Edit, Rooted, Extends, Deletes, Meaning}
+use Rattle.dt_meaning.specs.Syntax.{Target, OfLabel, OfPath, Piece, Plain, PhandleOf, PathOf, Entry, Defines, Undefines, Child, Removes, Body, Done, Then, Edit, Rooted, Extends, Deletes, Omits, Meaning}
 
 abbrev pub IsLawfulTarget : Target → Type 0
 IsLawfulTarget (OfLabel label) = IsLabel label
@@ -33,7 +33,7 @@ abbrev mutual
   pub IsLawfulEntry : Entry (List Piece) → Type 0
   IsLawfulEntry (Defines name value) = IsTrue (is_name name) × All IsLawfulPiece value × IsTrue (are_joined value)
   IsLawfulEntry (Undefines name) = IsTrue (is_name name)
-  IsLawfulEntry (Child labels name body) = All IsLabel labels × IsTrue (is_name name) × IsLawfulBody body
+  IsLawfulEntry (Child omitted labels name body) = All IsLabel labels × IsTrue (is_name name) × IsLawfulBody body
   IsLawfulEntry (Removes name) = IsTrue (is_name name)
 
   pub IsLawfulBody : Body (List Piece) → Type 0
@@ -44,6 +44,7 @@ abbrev pub IsLawfulEdit : Edit → Type 0
 IsLawfulEdit (Rooted body) = IsLawfulBody body
 IsLawfulEdit (Extends labels target body) = All IsLabel labels × IsLawfulTarget target × IsLawfulBody body
 IsLawfulEdit (Deletes target) = IsLawfulTarget target
+IsLawfulEdit (Omits target) = IsLawfulTarget target
 
 -- All that the source names is lawful.
 pub record IsLawful (m : Meaning) : Type 0 where

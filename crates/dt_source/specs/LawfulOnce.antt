@@ -4,7 +4,7 @@ use Rattle.std.specs.Coded.{×_prop, Π_prop, Unit-prop}
 use mathlib.Core.Bool.{Bool-set}
 use mathlib.Core.HLevel.{×₃_prop}
 use Rattle.dt_lexeme.specs.Label.{IsLabel}
-use Rattle.dt_meaning.specs.Syntax.{Target, OfLabel, OfPath, Piece, Plain, PhandleOf, PathOf, Entry, Defines, Undefines, Child, Removes, Body, Done, Then, Edit, Rooted, Extends, Deletes}
+use Rattle.dt_meaning.specs.Syntax.{Target, OfLabel, OfPath, Piece, Plain, PhandleOf, PathOf, Entry, Defines, Undefines, Child, Removes, Body, Done, Then, Edit, Rooted, Extends, Deletes, Omits}
 use Rattle.dt_source.specs.Lawful.{IsLawfulTarget, IsLawfulPiece, IsLawfulEntry, IsLawfulBody, IsLawfulEdit}
 
 true_once : (b : Bool) → IsProp (IsTrue b)
@@ -29,7 +29,7 @@ mutual
   entry_once : (e : Entry (List Piece)) → IsProp (IsLawfulEntry e)
   entry_once (Defines name value) = ×₃_prop (true_once _) (all_once IsLawfulPiece piece_once value) (true_once _)
   entry_once (Undefines name) = true_once _
-  entry_once (Child labels name body) = ×₃_prop (all_once IsLabel label_once labels) (true_once _) (body_once body)
+  entry_once (Child omitted labels name body) = ×₃_prop (all_once IsLabel label_once labels) (true_once _) (body_once body)
   entry_once (Removes name) = true_once _
 
   body_once : (b : Body (List Piece)) → IsProp (IsLawfulBody b)
@@ -40,6 +40,7 @@ edit_once : (e : Edit) → IsProp (IsLawfulEdit e)
 edit_once (Rooted body) = body_once body
 edit_once (Extends labels target body) = ×₃_prop (all_once IsLabel label_once labels) (target_once target) (body_once body)
 edit_once (Deletes target) = target_once target
+edit_once (Omits target) = target_once target
 
 pub edits_once : (es : List Edit) → IsProp (All IsLawfulEdit es)
 edits_once es = all_once IsLawfulEdit edit_once es

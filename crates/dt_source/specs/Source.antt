@@ -177,7 +177,7 @@ unfoldable pub entries_of : List ℕ → Statements → List (Entry (List Piece)
 entries_of text End = []
 entries_of text (Sets ls n v more) = Defines (name_bytes text n) (value_said text v) ∷ entries_of text more
 entries_of text (Unsets n more) = Undefines (name_bytes text n) ∷ entries_of text more
-entries_of text (Holds ls n body more) = Child (map (label_bytes text) ls) (name_bytes text n) (body_of (entries_of text body)) ∷ entries_of text more
+entries_of text (Holds ls n body more) = Child false (map (label_bytes text) ls) (name_bytes text n) (body_of (entries_of text body)) ∷ entries_of text more
 entries_of text (Drops n more) = Removes (name_bytes text n) ∷ entries_of text more
 
 abbrev pub item_said : List ℕ → ItemTree → Edit

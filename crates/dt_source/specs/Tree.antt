@@ -1,6 +1,6 @@
 -- What parsed values say, without where they lie in memory.
 use Rattle.std.specs.Prelude.{ℕ, List, [], Option, Some, None, map}
-use Rattle.dt_meaning.specs.Syntax.{Target, OfLabel, OfPath, Piece, Plain, PhandleOf, PathOf, Entry, Defines, Undefines, Child, Removes, Body, body_of, Edit, Rooted, Extends, Deletes}
+use Rattle.dt_meaning.specs.Syntax.{Target, OfLabel, OfPath, Piece, Plain, PhandleOf, PathOf, Entry, Defines, Undefines, Child, Removes, Body, body_of, Edit, Rooted, Extends, Deletes, Omits}
 use Rattle.dt_source.specs.declared.labels.Labels.{Labels}
 use Rattle.dt_source.specs.declared.tree.Reference.{Reference}
 use Rattle.dt_source.specs.declared.tree.Reference.TheVariants as references
@@ -33,7 +33,7 @@ part_view (parts.Path target) = PathOf (target_view target)
 abbrev pub view_step : Statement-F (Entry (List Piece)) → Entry (List Piece)
 view_step (Property name value) = Defines name.now (map part_view value.items)
 view_step (DeleteProperty name) = Undefines name.now
-view_step (Node labels name body) = Child (labels_view labels) name.now (body_of body.items)
+view_step (Node omit_if_no_ref labels name body) = Child omit_if_no_ref (labels_view labels) name.now (body_of body.items)
 view_step (DeleteNode name) = Removes name.now
 
 abbrev pub view : Statement → Entry (List Piece)
@@ -46,3 +46,4 @@ abbrev pub item_view : Item → Edit
 item_view (items.Root body) = Rooted (views body.items)
 item_view (items.Extend labels target body) = Extends (labels_view labels) (target_view target) (views body.items)
 item_view (items.Delete target) = Deletes (target_view target)
+item_view (items.Omit target) = Omits (target_view target)

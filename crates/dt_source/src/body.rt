@@ -164,7 +164,7 @@ fn named<'a, 'text>(
             Kind::Brace => {
                 let Read { found, fault, rest } = body_deeper(alloc, text, depth, *t, rest)?;
                 let labels = labels_of(alloc, text, labels)?;
-                end(node(labels, name, found), fault, rest)
+                end(node(false, labels, name, found), fault, rest)
             }
             _ => Err(ReadError::Refused(syntax_at(ts))),
         },

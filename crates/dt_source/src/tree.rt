@@ -38,6 +38,8 @@ pub enum Statement<'a> {
         name: &'a [u8],
     },
     Node {
+        /// `/omit-if-no-ref/` stands before it, which only dtc's language has
+        omit_if_no_ref: bool,
         labels: Labels<'a>,
         name: &'a [u8],
         body: Vec<Statement<'a>>,
@@ -60,6 +62,8 @@ pub enum Item<'a> {
     },
     /// `/delete-node/ &target;`
     Delete(Reference<'a>),
+    /// `/omit-if-no-ref/ &target;`, which only dtc's language has
+    Omit(Reference<'a>),
 }
 
 /// A devicetree source: whether it is a plugin, its reserved memory as pairs of address and size, and its items. Names
@@ -108,13 +112,19 @@ pub(crate) fn delete_property<'a>(name: &'a [u8]) -> Statement<'a>
 }
 
 pub(crate) fn node<'a>(
+    omit_if_no_ref: bool,
     labels: Labels<'a>,
     name: &'a [u8],
     body: Vec<Statement<'a>>,
 ) -> Statement<'a>
-    ensures { view result ≡ Child (labels_view labels.entry) name.now (views body.entry.items) }
+    ensures { view result ≡ Child omit_if_no_ref (labels_view labels.entry) name.now (views body.entry.items) }
 {
-    Statement::Node { labels, name, body }
+    Statement::Node {
+        omit_if_no_ref,
+        labels,
+        name,
+        body,
+    }
 }
 
 pub(crate) fn delete_node<'a>(name: &'a [u8]) -> Statement<'a>

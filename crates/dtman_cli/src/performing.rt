@@ -32,7 +32,7 @@ pub fn perform<'a, S: Surroundings, O: Channel, E: Eprint, T: Threads + Sync>(
 ) -> Result<(), Failure<'a>>
     requires { O.has_failed output.old ≡ false }
 {
-    match answer(host, command)? {
+    match answer_of(host, command)? {
         Answer::Text(text) => print(output, text.as_slice()),
         Answer::Failing(text) => {
             print(output, text.as_slice())?;
@@ -48,7 +48,7 @@ pub fn perform<'a, S: Surroundings, O: Channel, E: Eprint, T: Threads + Sync>(
     }
 }
 
-fn answer<'a, S: Surroundings, E: Eprint, T: Threads + Sync>(
+fn answer_of<'a, S: Surroundings, E: Eprint, T: Threads + Sync>(
     host: &mut Host<'_, S, E, T>,
     command: Command<'a>,
 ) -> Result<Answer<'a>, Failure<'a>> {

@@ -8,6 +8,8 @@
 #[cfg(test)]
 mod expressions;
 #[cfg(test)]
+mod gathered;
+#[cfg(test)]
 mod lexemes;
 #[cfg(test)]
 mod places;

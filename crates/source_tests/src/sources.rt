@@ -256,7 +256,13 @@ fn body_of<'s, 'a>(
     named: &[u8],
     count: usize,
 ) -> &'s [Statement<'a>] {
-    let Statement::Node { labels, name, body } = statement else {
+    let Statement::Node {
+        labels,
+        name,
+        body,
+        ..
+    } = statement
+    else {
         panic!(rt; "a node");
     };
     assert_eq!(rt; labels.as_slice().len(), count);

@@ -71,7 +71,7 @@ module _ (text : List ℕ) where
 
   node_read : (nodes : Bool) (k depth p : ℕ) (name : List ℕ) (rest : List Segment) (body others : Statements) (q : ℕ) (left : List Segment) (after : List Lexeme) (inside outside : Body (List Piece))
       → At text p (begin_parts depth name ++ rest) → Read false k body (placed (inside_at p depth name) rest) (placed q (stop_parts ++ left)) inside → Read true (suc k) others (placed (q + 1 + 1) left) after outside
-      → Read nodes (suc k) (Holds [] (name_at p depth name) body others) (placed p (begin_parts depth name ++ rest)) after (Then (Child [] name inside) outside)
+      → Read nodes (suc k) (Holds [] (name_at p depth name) body others) (placed p (begin_parts depth name ++ rest)) after (Then (Child false [] name inside) outside)
   unfolding placed past SpellsStatements SpellsEach entries_of faults_in
   node_read nodes k depth p name rest body others q left after inside outside h inner onward =
       let said = name_said p depth name (brace_parts ++ rest) h in
@@ -79,9 +79,9 @@ module _ (text : List ℕ) where
       record {
         spells = (ts, placed (past p (name_parts depth name)) (brace_parts ++ rest), placed (inside_at p depth name) rest, placed q (stop_parts ++ left), placed (q + 1 + 1) left, refl, (refl, refl), (refl, refl), inner.spells, (refl, refl), onward.spells);
         says =
-            ap (λ (n : List ℕ). Then (Child [] n (body_of (entries_of text body))) (body_of (entries_of text others))) said
-            ∙ ap (λ (b : Body (List Piece)). Then (Child [] name b) (body_of (entries_of text others))) inner.says
-            ∙ ap (λ (b : Body (List Piece)). Then (Child [] name inside) b) onward.says;
+            ap (λ (n : List ℕ). Then (Child false [] n (body_of (entries_of text body))) (body_of (entries_of text others))) said
+            ∙ ap (λ (b : Body (List Piece)). Then (Child false [] name b) (body_of (entries_of text others))) inner.says
+            ∙ ap (λ (b : Body (List Piece)). Then (Child false [] name inside) b) onward.says;
         faultless = ap (λ (fs : List Fault). fs ++ faults_in text others) inner.faultless ∙ onward.faultless;
       }
 

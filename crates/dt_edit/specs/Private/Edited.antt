@@ -34,8 +34,9 @@ extend_step labels target ss s = after_item false (Extends (labels_view labels) 
 abbrev pub delete_step : Reference → Step
 delete_step target s = after_item false (Deletes (target_view target)) s
 
+-- `/omit-if-no-ref/` says nothing in the profile
 abbrev pub child_entry : List (Bor (List ℕ)) → List ℕ → List Statement → Entry (List Piece)
-child_entry labels name ss = Child (map (λ l. l.now) labels) name (views ss)
+child_entry labels name ss = Child false (map (λ l. l.now) labels) name (views ss)
 
 -- ---- what a call does
 -- the live tree shows what the step makes of it, with the fragments made so far, or the call has its fault

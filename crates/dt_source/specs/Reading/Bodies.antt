@@ -176,7 +176,7 @@ named_by text inner false labels name Equals t ts = do
   ended_by (Some (Defines name v.0)) v.1 v.2
 named_by text inner nodes labels name Brace t ts = do
   b ← inner t ts
-  ended_by (Some (Child labels name (body_of b.0))) b.1 b.2
+  ended_by (Some (Child false labels name (body_of b.0))) b.1 b.2
 named_by text inner nodes labels name _ t ts = Err (syntax_at (t ∷ ts))
 
 abbrev pub named_at : List ℕ → Inner → Bool → List (List ℕ) → List ℕ → List Lexeme → Part (Option (Entry (List Piece)))
@@ -222,7 +222,7 @@ statement_at text inner nodes ts = let l = labels_at ts in begun_at text inner n
 abbrev pub after : Bool → Entry (List Piece) → Bool
 after nodes (Defines name value) = nodes
 after nodes (Undefines name) = nodes
-after nodes (Child labels name body) = true
+after nodes (Child omitted labels name body) = true
 after nodes (Removes name) = true
 
 abbrev pub statements_at : List ℕ → Inner → List Lexeme → Part (List (Entry (List Piece)))

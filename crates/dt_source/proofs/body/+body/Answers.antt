@@ -71,12 +71,12 @@ valued : (text : List ℕ) (inner : Inner) (nodes : Bool) (labels : List (List �
     → named_at text inner nodes labels name ts ≡ (value_at text (take (length ts - 1) (drop 1 ts)) >>= λ v. ended_by (Some (Defines name v.0)) v.1 v.2)
 valued text inner nodes labels name ts d h k n = named text inner nodes labels name ts d Equals h k ∙ ap (λ (x : Bool). named_by text inner x labels name Equals (get_or ts 0 d) (take (length ts - 1) (drop 1 ts))) n
 
-nested : (text : List ℕ) (inner : Inner) (nodes : Bool) (labels : List (List ℕ)) (name : List ℕ) (t : Lexeme) (ts : List Lexeme) → named_by text inner nodes labels name Brace t ts ≡ (inner t ts >>= λ b. ended_by (Some (Child labels name (body_of b.0))) b.1 b.2)
+nested : (text : List ℕ) (inner : Inner) (nodes : Bool) (labels : List (List ℕ)) (name : List ℕ) (t : Lexeme) (ts : List Lexeme) → named_by text inner nodes labels name Brace t ts ≡ (inner t ts >>= λ b. ended_by (Some (Child false labels name (body_of b.0))) b.1 b.2)
 nested text inner false labels name t ts = refl
 nested text inner true labels name t ts = refl
 
 braced : (text : List ℕ) (inner : Inner) (nodes : Bool) (labels : List (List ℕ)) (name : List ℕ) (ts : List Lexeme) (d : Lexeme) → 1 ≤ length ts → (get_or ts 0 d).kind ≡ Brace
-    → named_at text inner nodes labels name ts ≡ (inner (get_or ts 0 d) (take (length ts - 1) (drop 1 ts)) >>= λ b. ended_by (Some (Child labels name (body_of b.0))) b.1 b.2)
+    → named_at text inner nodes labels name ts ≡ (inner (get_or ts 0 d) (take (length ts - 1) (drop 1 ts)) >>= λ b. ended_by (Some (Child false labels name (body_of b.0))) b.1 b.2)
 braced text inner nodes labels name ts d h k = named text inner nodes labels name ts d Brace h k ∙ nested text inner nodes labels name (get_or ts 0 d) (take (length ts - 1) (drop 1 ts))
 
 value_fails : (text : List ℕ) (inner : Inner) (nodes : Bool) (labels : List (List ℕ)) (name : List ℕ) (ts : List Lexeme) (d : Lexeme) (x : ReadError) → 1 ≤ length ts → (get_or ts 0 d).kind ≡ Equals → nodes ≡ false
@@ -94,9 +94,9 @@ body_fails text inner nodes labels name ts d errors.NoMemory h k e = tt
 body_fails text inner nodes labels name ts d (errors.Refused r) h k e = braced text inner nodes labels name ts d h k ∙ rw e refl
 
 body_ends : (text : List ℕ) (inner : Inner) (nodes : Bool) (labels ls : List (List ℕ)) (name : List ℕ) (ts : List Lexeme) (d : Lexeme) (es : List (Entry (List Piece))) (f : Option Fault) (rest : List Lexeme) (s : Entry (List Piece)) → 1 ≤ length ts → (get_or ts 0 d).kind ≡ Brace
-    → inner (get_or ts 0 d) (take (length ts - 1) (drop 1 ts)) ≡ Ok (es, f, rest) → ls ≡ labels → s ≡ Child ls name (body_of es) → named_at text inner nodes labels name ts ≡ ended_by (Some s) f rest
+    → inner (get_or ts 0 d) (take (length ts - 1) (drop 1 ts)) ≡ Ok (es, f, rest) → ls ≡ labels → s ≡ Child false ls name (body_of es) → named_at text inner nodes labels name ts ≡ ended_by (Some s) f rest
 body_ends text inner nodes labels ls name ts d es f rest s h k e q p =
-    braced text inner nodes labels name ts d h k ∙ rw e (ap (λ (z : Entry (List Piece)). ended_by (Some z) f rest) (ap (λ (l : List (List ℕ)). Child l name (body_of es)) (sym q) ∙ sym p))
+    braced text inner nodes labels name ts d h k ∙ rw e (ap (λ (z : Entry (List Piece)). ended_by (Some z) f rest) (ap (λ (l : List (List ℕ)). Child false l name (body_of es)) (sym q) ∙ sym p))
 
 stated : (text : List ℕ) (inner : Inner) (nodes : Bool) (ts : List Lexeme) (l : List Lexeme × List Lexeme) → l ≡ labels_at ts → statement_at text inner nodes ts ≡ begun_at text inner nodes l.0 l.1
 unfolding statement_at
