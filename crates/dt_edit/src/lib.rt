@@ -5,6 +5,8 @@
 
 mod adding;
 mod body;
+mod dtc_body;
+mod dtc_child;
 mod error;
 mod fragments;
 mod items;
