@@ -25,7 +25,7 @@ static PART_4: [Check; PART] = [
         name: "clocks_property",
         severity: Severity::Warning,
         prerequisites: &[47, 10],
-        made_before: &[47, 10],
+        made_before: &[47, 0, 9, 10],
         finds: Finds::Links(&[LinkRule::Specifiers(
             b"clocks",
             Listing {
@@ -45,7 +45,7 @@ static PART_4: [Check; PART] = [
         name: "cooling_device_property",
         severity: Severity::Warning,
         prerequisites: &[49, 10],
-        made_before: &[49, 10],
+        made_before: &[49, 0, 9, 10],
         finds: Finds::Links(&[LinkRule::Specifiers(
             b"cooling-device",
             Listing {
@@ -65,7 +65,7 @@ static PART_4: [Check; PART] = [
         name: "dmas_property",
         severity: Severity::Warning,
         prerequisites: &[51, 10],
-        made_before: &[51, 10],
+        made_before: &[51, 0, 9, 10],
         finds: Finds::Links(&[LinkRule::Specifiers(
             b"dmas",
             Listing {
@@ -85,7 +85,7 @@ static PART_4: [Check; PART] = [
         name: "hwlocks_property",
         severity: Severity::Warning,
         prerequisites: &[53, 10],
-        made_before: &[53, 10],
+        made_before: &[53, 0, 9, 10],
         finds: Finds::Links(&[LinkRule::Specifiers(
             b"hwlocks",
             Listing {
@@ -105,7 +105,7 @@ static PART_4: [Check; PART] = [
         name: "interrupts_extended_property",
         severity: Severity::Warning,
         prerequisites: &[55, 10],
-        made_before: &[55, 10],
+        made_before: &[55, 0, 9, 10],
         finds: Finds::Links(&[LinkRule::Specifiers(
             b"interrupts-extended",
             Listing {
@@ -128,7 +128,7 @@ static PART_5: [Check; PART] = [
         name: "io_channels_property",
         severity: Severity::Warning,
         prerequisites: &[57, 10],
-        made_before: &[57, 10],
+        made_before: &[57, 0, 9, 10],
         finds: Finds::Links(&[LinkRule::Specifiers(
             b"io-channels",
             Listing {
@@ -148,7 +148,7 @@ static PART_5: [Check; PART] = [
         name: "iommus_property",
         severity: Severity::Warning,
         prerequisites: &[59, 10],
-        made_before: &[59, 10],
+        made_before: &[59, 0, 9, 10],
         finds: Finds::Links(&[LinkRule::Specifiers(
             b"iommus",
             Listing {
@@ -168,7 +168,7 @@ static PART_5: [Check; PART] = [
         name: "mboxes_property",
         severity: Severity::Warning,
         prerequisites: &[61, 10],
-        made_before: &[61, 10],
+        made_before: &[61, 0, 9, 10],
         finds: Finds::Links(&[LinkRule::Specifiers(
             b"mboxes",
             Listing {
@@ -188,7 +188,7 @@ static PART_5: [Check; PART] = [
         name: "msi_parent_property",
         severity: Severity::Warning,
         prerequisites: &[63, 10],
-        made_before: &[63, 10],
+        made_before: &[63, 0, 9, 10],
         finds: Finds::Links(&[LinkRule::Specifiers(
             b"msi-parent",
             Listing {
@@ -208,7 +208,7 @@ static PART_5: [Check; PART] = [
         name: "mux_controls_property",
         severity: Severity::Warning,
         prerequisites: &[65, 10],
-        made_before: &[65, 10],
+        made_before: &[65, 0, 9, 10],
         finds: Finds::Links(&[LinkRule::Specifiers(
             b"mux-controls",
             Listing {
@@ -231,7 +231,7 @@ static PART_6: [Check; PART] = [
         name: "phys_property",
         severity: Severity::Warning,
         prerequisites: &[67, 10],
-        made_before: &[67, 10],
+        made_before: &[67, 0, 9, 10],
         finds: Finds::Links(&[LinkRule::Specifiers(
             b"phys",
             Listing {
@@ -251,7 +251,7 @@ static PART_6: [Check; PART] = [
         name: "power_domains_property",
         severity: Severity::Warning,
         prerequisites: &[69, 10],
-        made_before: &[69, 10],
+        made_before: &[69, 0, 9, 10],
         finds: Finds::Links(&[LinkRule::Specifiers(
             b"power-domains",
             Listing {
@@ -271,7 +271,7 @@ static PART_6: [Check; PART] = [
         name: "pwms_property",
         severity: Severity::Warning,
         prerequisites: &[71, 10],
-        made_before: &[71, 10],
+        made_before: &[71, 0, 9, 10],
         finds: Finds::Links(&[LinkRule::Specifiers(
             b"pwms",
             Listing {
@@ -291,7 +291,7 @@ static PART_6: [Check; PART] = [
         name: "resets_property",
         severity: Severity::Warning,
         prerequisites: &[73, 10],
-        made_before: &[73, 10],
+        made_before: &[73, 0, 9, 10],
         finds: Finds::Links(&[LinkRule::Specifiers(
             b"resets",
             Listing {
@@ -311,7 +311,7 @@ static PART_6: [Check; PART] = [
         name: "sound_dai_property",
         severity: Severity::Warning,
         prerequisites: &[75, 10],
-        made_before: &[75, 10],
+        made_before: &[75, 0, 9, 10],
         finds: Finds::Links(&[LinkRule::Specifiers(
             b"sound-dai",
             Listing {
@@ -331,7 +331,7 @@ static PART_6: [Check; PART] = [
         name: "thermal_sensors_property",
         severity: Severity::Warning,
         prerequisites: &[77, 10],
-        made_before: &[77, 10],
+        made_before: &[77, 0, 9, 10],
         finds: Finds::Links(&[LinkRule::Specifiers(
             b"thermal-sensors",
             Listing {
@@ -361,7 +361,7 @@ static PART_7: [Check; PART] = [
         name: "gpios_property",
         severity: Severity::Warning,
         prerequisites: &[10],
-        made_before: &[10],
+        made_before: &[0, 9, 10],
         finds: Finds::Gpios,
     },
     Check {
