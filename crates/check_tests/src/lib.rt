@@ -1,0 +1,13 @@
+//! The worked rows of the checks: what each tells of a source, as dtc 1.6.1 tells it.
+#![tactic(auto)]
+
+#[cfg(test)]
+mod buses;
+#[cfg(test)]
+mod checks;
+#[cfg(test)]
+mod lines;
+#[cfg(test)]
+mod links;
+#[cfg(test)]
+mod nodes;
