@@ -78,6 +78,14 @@ if [ ${#compilers[@]} -gt 0 ] && has valgrind "the examples aren't run under it"
 fi
 if has c++ "the header isn't read as C++"; then for header in dtman dtman_view; do c++ -std=c++11 -Wall -Werror -fsyntax-only -x c++ install/$header.h; done; fi
 
+# The view wants nothing of libc.
+if [ ${#compilers[@]} -gt 0 ] && [ "$(uname -sm)" = "Linux x86_64" ]; then
+	make -s -C examples/c OUT="$work" CC="${compilers[0]}" bare
+	ended=0
+	"$work/bare" || ended=$?
+	[ "$ended" = 7 ] || fail "examples/c/bare ends with $ended"
+fi
+
 # libfdt does the step too, in another order of properties, so what is printed is compared.
 if [ ${#compilers[@]} -gt 0 ] && echo '#include <libfdt.h>' | "${compilers[0]}" -E -x c - >/dev/null 2>&1; then
 	make -s -C examples/c OUT="$work" CC="${compilers[0]}" libfdt

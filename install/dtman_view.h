@@ -15,8 +15,8 @@
  * Names. Siblings of one name, and properties of one name, are not looked for: of equals each call answers the first. The program's other
  * calls refuse such a blob by 37.
  *
- * The library takes no memory, opens no file, makes no system call and has no state of its own. Of libc it wants memcpy, memmove, memset,
- * memcmp and bcmp at most. docs/libfdt.md says which call stands for which of libfdt.
+ * The library takes no memory, opens no file, makes no system call and has no state of its own. It wants nothing of libc, or of these at
+ * most: memcpy, memmove, memset, memcmp and bcmp. docs/libfdt.md says which call stands for which of libfdt.
  */
 #ifndef DTMAN_VIEW_H
 #define DTMAN_VIEW_H

@@ -1,6 +1,6 @@
 -- The nodes of a blob in the order in which they stand: a node before all below it, and a child with all below it before the next
 -- child (Devicetree Specification v0.4, section 5.4.2).
-use Rattle.std.specs.Prelude.{◌≡◌, ℕ, List, [], ◌∷◌, ◌++◌, Option, None, Some, Bool, false, ◌==◌, codes, if◌then◌else◌}
+use Rattle.std.specs.Prelude.{◌≡◌, ℕ, List, [], ◌∷◌, ◌++◌, Option, None, Some, Result, IsOkAnd, Bool, false, ◌==◌, codes, if◌then◌else◌}
 use Rattle.std.specs.List.{list_any, slice_split}
 use Rattle.std.specs.Option.{option_map_or}
 use Rattle.std.specs.Str.{bytes_eq}
@@ -8,6 +8,7 @@ use Rattle.dt_tree.specs.NodeData.{NodeData, Siblings, none, more, node_data}
 use Rattle.dt_tree.specs.PathMap.{value_of}
 use Rattle.dt_tree.specs.Phandle.{phandle_of}
 use Rattle.dt_blob.specs.Token.{Token, begin_node, end_node, end, property_tokens, sibling_tokens}
+use Rattle.dt_view.specs.declared.error.ViewError.{ViewError}
 use Rattle.dt_view.specs.declared.nodes.NodeOffset.{NodeOffset}
 use Rattle.dt_view.specs.declared.view.View.{View}
 use Rattle.dt_view.specs.Standing.{Ahead}
@@ -60,3 +61,9 @@ is_compatible text node = option_map_or (lists text) (value_of node.properties (
 abbrev pub from_first : (NodeData → Bool) → List NodeData → List NodeData
 from_first test [] = []
 from_first test (node ∷ nodes) = if test node then node ∷ nodes else from_first test nodes
+
+-- ---- what calls tell
+
+-- the place of the first of these is told, or that there are none
+abbrev pub TellsNext : View → Result (Option NodeOffset) ViewError → List NodeData → Type 0
+TellsNext view answer later = IsOkAnd answer (λ place. IsNext view place later)

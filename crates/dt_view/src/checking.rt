@@ -14,7 +14,8 @@ pub(crate) const RESERVATION_SIZE: usize = 16;
 
 /// Refuses reserved memory whose list has no end, by `BadLayout`.
 pub(crate) fn check_reserves(bytes: &[u8]) -> Result<(), BlobError>
-    ensures { MatchResult result (λ _. (rs : List (ℕ × ℕ)) × (reserves_at bytes.now ≡ Some rs)) (λ e. HasNoEnd e (reserves_at bytes.now)) }
+    ensures { MatchResult result (λ _. (rs : List (ℕ × ℕ))
+        × (reserves_at bytes.now ≡ Some rs)) (λ e. HasNoEnd e (reserves_at bytes.now)) }
 {
     let mut rest = bytes;
     'pairs: loop {
@@ -38,7 +39,8 @@ fn is_end(token: BlobToken<'_>) -> bool
 
 // The block ends behind its root, and with its END where its size is told.
 fn finish(stage: Stage, rest: &[u8], is_sized: bool) -> Result<(), BlobError>
-    ensures { MatchResult result (λ _. accepts stage (end ∷ left is_sized rest.now) ≡ true) (λ e. (accepts stage (end ∷ left is_sized rest.now) ≡ false) × IsStructureFault e) }
+    ensures { MatchResult result (λ _. accepts stage (end ∷ left is_sized rest.now) ≡ true)
+        (λ e. (accepts stage (end ∷ left is_sized rest.now) ≡ false) × IsStructureFault e) }
 {
     if is_sized && !rest.is_empty() {
         return Err(BlobError::BadToken);
@@ -56,7 +58,8 @@ pub(crate) fn check_structure(
     structure: &[u8],
     is_sized: bool,
 ) -> Result<(), BlobError>
-    ensures { MatchResult result (λ _. accepts Stage.Before (tokens_at is_sized strings.now structure.now) ≡ true) (λ e. (accepts Stage.Before (tokens_at is_sized strings.now structure.now) ≡ false) × IsStructureFault e) }
+    ensures { MatchResult result (λ _. accepts Stage.Before (tokens_at is_sized strings.now structure.now) ≡ true)
+        (λ e. (accepts Stage.Before (tokens_at is_sized strings.now structure.now) ≡ false) × IsStructureFault e) }
 {
     let mut stage = Stage::Before;
     let mut rest = structure;

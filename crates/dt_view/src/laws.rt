@@ -1,5 +1,5 @@
 //! Laws, over the definitions: functions that do nothing, whose contracts are the laws.
-ghost use Rattle.std.specs.Prelude.{◌≡◌, List, ℕ};
+ghost use Rattle.std.specs.Prelude.{List, ℕ};
 ghost use Rattle.dt_tree.specs.NodeData.{Siblings, more, node_data};
 ghost use Rattle.dt_tree.specs.TreeData.{TreeData};
 ghost use Rattle.dt_tree.specs.declared.property.Property.{Property};
@@ -15,5 +15,6 @@ pub fn held_is_shown()
 
 /// The first of nodes side by side stands where they do.
 pub fn first_of_siblings()
-    ensures { (view : View) (at : ℕ) (name : List ℕ) (ps : List Property) (children rest : Siblings) → StandFrom view at (more name ps children rest) → StandsAt view at (node_data name ps children) }
+    ensures { (view : View) (at : ℕ) (name : List ℕ) (ps : List Property) (children rest : Siblings)
+        → StandFrom view at (more name ps children rest) → StandsAt view at (node_data name ps children) }
 {}

@@ -1,6 +1,6 @@
 //! Walks from node to node.
-ghost use Rattle.std.specs.Prelude.{◌≡◌, ◌≤◌, ◌∷◌, ◌++◌, [], List, IfOk, IsOkAnd, MatchOption, true, ℕ};
-ghost use Rattle.dt_tree.specs.NodeData.{NodeData, Siblings, none, more};
+ghost use Rattle.std.specs.Prelude.{◌≡◌, ◌≤◌, ◌∷◌, ◌++◌, List, IfOk, IsOkAnd, true, ℕ};
+ghost use Rattle.dt_tree.specs.NodeData.{NodeData, Siblings, more};
 ghost use Rattle.dt_tree.specs.TreeData.{TreeData};
 ghost use Rattle.dt_tree.specs.declared.property.Property.{Property};
 ghost use Rattle.dt_blob.specs.Token.{Token, end_node, property_tokens, sibling_tokens};
@@ -8,6 +8,7 @@ ghost use Rattle.dt_view.specs.Order.{StandsIn, all_of};
 ghost use Rattle.dt_view.specs.Private.Reading.{inside_tokens};
 ghost use Rattle.dt_view.specs.Shows.{Views};
 ghost use Rattle.dt_view.specs.Standing.{Ahead, HasNoNode, StandFrom, StandsAt, ends};
+ghost use Rattle.dt_view.specs.Places.{TellsNodes};
 
 use crate::error::ViewError;
 use crate::view::View;
@@ -22,7 +23,8 @@ pub struct NodeOffset {
 impl<'a> View<'a> {
     // The first node from inside a node on, or behind one; none where its parent ends there.
     fn node_from(&self, from: usize) -> Result<Option<NodeOffset>, ViewError>
-        ensures { (ps : List Property) (nodes : Siblings) (last : Token) → ends last ≡ true → Ahead self.now from (inside_tokens ps nodes last) → IsOkAnd result (λ child. MatchOption child (nodes ≡ none) (λ c. StandFrom self.now c.at nodes)) }
+        ensures { (ps : List Property) (nodes : Siblings) (last : Token) → ends last ≡ true
+            → Ahead self.now from (inside_tokens ps nodes last) → TellsNodes self.now result nodes }
     {
         let mut at = from;
         'tokens: loop {
@@ -39,7 +41,9 @@ impl<'a> View<'a> {
 
     /// The offset behind the end of the node that one is inside of.
     pub(crate) fn node_end(&self, from: usize) -> Result<usize, ViewError>
-        ensures inside { (ps : List Property) (nodes : Siblings) (ts : List Token) → Ahead self.now from (property_tokens ps ++ (sibling_tokens nodes ++ end_node ∷ ts)) → IsOkAnd result (λ next. Ahead self.now next ts) }
+        ensures inside { (ps : List Property) (nodes : Siblings) (ts : List Token)
+            → Ahead self.now from (property_tokens ps ++ (sibling_tokens nodes ++ end_node ∷ ts))
+            → IsOkAnd result (λ next. Ahead self.now next ts) }
         ensures further { IfOk result (λ next. from ≤ next) }
     {
         let mut at = from;
@@ -64,8 +68,10 @@ impl<'a> View<'a> {
 
     /// The root.
     pub fn root(&self) -> Result<NodeOffset, ViewError>
-        ensures stands { (tree : TreeData) → Views self.now tree → IsOkAnd result (λ root. StandsAt self.now root.at tree.root) }
-        ensures first { (tree : TreeData) → Views self.now tree → IsOkAnd result (λ root. StandsIn self.now root.at tree.root (all_of tree.root.children)) }
+        ensures stands { (tree : TreeData) → Views self.now tree
+            → IsOkAnd result (λ root. StandsAt self.now root.at tree.root) }
+        ensures first { (tree : TreeData) → Views self.now tree
+            → IsOkAnd result (λ root. StandsIn self.now root.at tree.root (all_of tree.root.children)) }
     {
         let begun = self.begin(0)?;
         Ok(NodeOffset { at: begun.at })
@@ -82,7 +88,7 @@ impl<'a> View<'a> {
 
     /// The first child of a node.
     pub fn first_child(&self, node: NodeOffset) -> Result<Option<NodeOffset>, ViewError>
-        ensures stands { (d : NodeData) → StandsAt self.now node.at d → IsOkAnd result (λ child. MatchOption child (d.children ≡ none) (λ c. StandFrom self.now c.at d.children)) }
+        ensures stands { (d : NodeData) → StandsAt self.now node.at d → TellsNodes self.now result d.children }
         ensures refused { HasNoNode self.now node.at → result ≡ Err ViewError.BadOffset }
     {
         let begun = self.begin(node.at)?;
@@ -91,7 +97,8 @@ impl<'a> View<'a> {
 
     /// The next child of the same parent.
     pub fn next_sibling(&self, node: NodeOffset) -> Result<Option<NodeOffset>, ViewError>
-        ensures stands { (name : List ℕ) (ps : List Property) (children rest : Siblings) → StandFrom self.now node.at (more name ps children rest) → IsOkAnd result (λ next. MatchOption next (rest ≡ none) (λ n. StandFrom self.now n.at rest)) }
+        ensures stands { (name : List ℕ) (ps : List Property) (children rest : Siblings)
+            → StandFrom self.now node.at (more name ps children rest) → TellsNodes self.now result rest }
         ensures refused { HasNoNode self.now node.at → result ≡ Err ViewError.BadOffset }
     {
         let begun = self.begin(node.at)?;

@@ -6,8 +6,8 @@ ghost use Rattle.dt_tree.specs.Phandle.{phandle_of};
 ghost use Rattle.dt_tree.specs.TreeData.{TreeData};
 ghost use Rattle.dt_tree.specs.declared.property.Property.{Property};
 ghost use Rattle.dt_blob.specs.Token.{property_tokens};
-ghost use Rattle.dt_view.specs.Order.{IsNext, StandsIn, from_first, has_phandle, in_order, is_compatible, lists, nodes_left, upward};
-ghost use Rattle.dt_view.specs.Places.{IsPlaceOf};
+ghost use Rattle.dt_view.specs.Order.{StandsIn, from_first, has_phandle, in_order, is_compatible, lists, nodes_left, upward, TellsNext};
+ghost use Rattle.dt_view.specs.Places.{TellsPlace};
 ghost use Rattle.dt_view.specs.Shows.{Views};
 ghost use Rattle.dt_view.specs.Standing.{Ahead, HasNoNode, StandsAt};
 
@@ -35,8 +35,11 @@ fn lists(value: &[u8], text: &[u8]) -> bool
 impl<'a> View<'a> {
     // The first node from behind a node's beginning on; none where the block ends.
     fn node_behind(&self, from: usize) -> Result<Option<NodeOffset>, ViewError>
-        ensures left { (ps : List Property) (fs : List Siblings) → Ahead self.now from (property_tokens ps ++ upward fs) → IsOkAnd result (λ next. IsNext self.now next (nodes_left fs)) }
-        ensures further { IfOk result (λ next. IfSome next (λ n. (from ≤ n.at) × (n.at < length self.now.structure.now))) }
+        ensures left { (ps : List Property) (fs : List Siblings)
+            → Ahead self.now from (property_tokens ps ++ upward fs)
+            → TellsNext self.now result (nodes_left fs) }
+        ensures further { IfOk result (λ next. IfSome next (λ n. (from ≤ n.at)
+            × (n.at < length self.now.structure.now))) }
     {
         let mut at = from;
         'tokens: loop {
@@ -54,9 +57,11 @@ impl<'a> View<'a> {
     /// The next node in the order of the blob: the first child, or else the next sibling of the node or of the nearest one round it
     /// that has one. From the root on this comes to each node, and then to none.
     pub fn next_node(&self, node: NodeOffset) -> Result<Option<NodeOffset>, ViewError>
-        ensures stands { (d : NodeData) (later : List NodeData) → StandsIn self.now node.at d later → IsOkAnd result (λ next. IsNext self.now next later) }
+        ensures stands { (d : NodeData) (later : List NodeData) → StandsIn self.now node.at d later
+            → TellsNext self.now result later }
         ensures refused { HasNoNode self.now node.at → result ≡ Err ViewError.BadOffset }
-        ensures further { IfOk result (λ next. IfSome next (λ n. (node.at < n.at) × (n.at < length self.now.structure.now))) }
+        ensures further { IfOk result (λ next. IfSome next (λ n. (node.at < n.at)
+            × (n.at < length self.now.structure.now))) }
     {
         let begun = self.begin(node.at)?;
         self.node_behind(begun.next)
@@ -64,7 +69,8 @@ impl<'a> View<'a> {
 
     /// The phandle in a node's property `phandle`.
     pub fn phandle(&self, node: NodeOffset) -> Result<Option<u32>, ViewError>
-        ensures stands { (d : NodeData) → StandsAt self.now node.at d → IsOkAnd result (λ phandle. phandle ≡ phandle_of d.properties) }
+        ensures stands { (d : NodeData) → StandsAt self.now node.at d
+            → IsOkAnd result (λ phandle. phandle ≡ phandle_of d.properties) }
         ensures refused { HasNoNode self.now node.at → result ≡ Err ViewError.BadOffset }
     {
         match self.value(node, b"phandle")? {
@@ -75,7 +81,8 @@ impl<'a> View<'a> {
 
     /// The first node in the order of the blob with this phandle. As libfdt does, it looks at `__symbols__` and the fixups too.
     pub fn by_phandle(&self, phandle: u32) -> Result<Option<NodeOffset>, ViewError>
-        ensures { (tree : TreeData) → Views self.now tree → IsOkAnd result (λ node. IsPlaceOf self.now node (find (has_phandle phandle) (in_order tree.root))) }
+        ensures { (tree : TreeData) → Views self.now tree
+            → TellsPlace self.now result (find (has_phandle phandle) (in_order tree.root)) }
     {
         let mut node = self.root()?;
         'nodes: loop {
@@ -92,7 +99,8 @@ impl<'a> View<'a> {
 
     /// Whether the property `compatible` of a node lists this text.
     pub fn is_compatible(&self, node: NodeOffset, text: &[u8]) -> Result<bool, ViewError>
-        ensures stands { (d : NodeData) → StandsAt self.now node.at d → IsOkAnd result (λ is. is ≡ is_compatible text.now d) }
+        ensures stands { (d : NodeData) → StandsAt self.now node.at d
+            → IsOkAnd result (λ is. is ≡ is_compatible text.now d) }
         ensures refused { HasNoNode self.now node.at → result ≡ Err ViewError.BadOffset }
     {
         match self.value(node, b"compatible")? {
@@ -107,7 +115,8 @@ impl<'a> View<'a> {
         node: NodeOffset,
         text: &[u8],
     ) -> Result<Option<NodeOffset>, ViewError>
-        ensures { (d : NodeData) (later : List NodeData) → StandsIn self.now node.at d later → IsOkAnd result (λ next. IsNext self.now next (from_first (is_compatible text.now) later)) }
+        ensures { (d : NodeData) (later : List NodeData) → StandsIn self.now node.at d later
+            → TellsNext self.now result (from_first (is_compatible text.now) later) }
     {
         let mut at = node;
         'nodes: loop {

@@ -1,5 +1,5 @@
 //! The properties of a node.
-ghost use Rattle.std.specs.Prelude.{◌≡◌, ◌∷◌, ◌++◌, [], List, IsOkAnd, MatchOption, MatchResult, true, ℕ};
+ghost use Rattle.std.specs.Prelude.{◌≡◌, ◌∷◌, ◌++◌, [], List, IsOkAnd, MatchResult, true};
 ghost use Rattle.std.specs.Option.{option_copied};
 ghost use Rattle.dt_tree.specs.NodeData.{NodeData};
 ghost use Rattle.dt_tree.specs.PathMap.{value_of};
@@ -7,6 +7,7 @@ ghost use Rattle.dt_tree.specs.declared.property.Property.{Property};
 ghost use Rattle.dt_blob.specs.Token.{Token, property_tokens};
 ghost use Rattle.dt_view.specs.Private.Reading.{Has};
 ghost use Rattle.dt_view.specs.Standing.{Ahead, HasNoNode, HasNoProperty, PropertiesFrom, StandsAt, ends_properties};
+ghost use Rattle.dt_view.specs.Places.{TellsProperties};
 
 use crate::error::ViewError;
 use crate::nodes::NodeOffset;
@@ -38,7 +39,8 @@ pub(crate) struct Held<'a> {
 impl<'a> View<'a> {
     // The first property from an offset on; none where another token stands there.
     fn property_from(&self, from: usize) -> Result<Option<PropertyOffset>, ViewError>
-        ensures { (ps : List Property) (t : Token) → ends_properties t ≡ true → Ahead self.now from (property_tokens ps ++ t ∷ []) → IsOkAnd result (λ p. MatchOption p (ps ≡ []) (λ o. PropertiesFrom self.now o.at ps)) }
+        ensures { (ps : List Property) (t : Token) → ends_properties t ≡ true
+            → Ahead self.now from (property_tokens ps ++ t ∷ []) → TellsProperties self.now result ps }
     {
         let found = self.token_from(from)?;
         match found.token {
@@ -52,7 +54,8 @@ impl<'a> View<'a> {
 
     // The property at an offset, behind NOPs.
     fn held(&self, from: usize) -> Result<Held<'a>, ViewError>
-        ensures { MatchResult result (λ h. Has self.now from h.name.now h.value.now h.next) (λ e. HasNoProperty self.now from × (e ≡ ViewError.BadOffset)) }
+        ensures { MatchResult result (λ h. Has self.now from h.name.now h.value.now h.next)
+            (λ e. HasNoProperty self.now from × (e ≡ ViewError.BadOffset)) }
     {
         let found = self.token_from(from)?;
         match found.token {
@@ -70,7 +73,9 @@ impl<'a> View<'a> {
 
     // The value of the first property of this name, from inside a node on.
     fn value_from(&self, from: usize, name: &[u8]) -> Result<Option<&'a [u8]>, ViewError>
-        ensures { (ps : List Property) (t : Token) → ends_properties t ≡ true → Ahead self.now from (property_tokens ps ++ t ∷ []) → IsOkAnd result (λ value. option_copied value ≡ value_of ps name.now) }
+        ensures { (ps : List Property) (t : Token) → ends_properties t ≡ true
+            → Ahead self.now from (property_tokens ps ++ t ∷ [])
+            → IsOkAnd result (λ value. option_copied value ≡ value_of ps name.now) }
     {
         let mut at = from;
         'properties: loop {
@@ -92,7 +97,8 @@ impl<'a> View<'a> {
 
     /// The first property of a node.
     pub fn first_property(&self, node: NodeOffset) -> Result<Option<PropertyOffset>, ViewError>
-        ensures stands { (d : NodeData) → StandsAt self.now node.at d → IsOkAnd result (λ p. MatchOption p (d.properties ≡ []) (λ o. PropertiesFrom self.now o.at d.properties)) }
+        ensures stands { (d : NodeData) → StandsAt self.now node.at d
+            → TellsProperties self.now result d.properties }
         ensures refused { HasNoNode self.now node.at → result ≡ Err ViewError.BadOffset }
     {
         let begun = self.begin(node.at)?;
@@ -104,7 +110,8 @@ impl<'a> View<'a> {
         &self,
         property: PropertyOffset,
     ) -> Result<Option<PropertyOffset>, ViewError>
-        ensures stands { (p : Property) (ps : List Property) → PropertiesFrom self.now property.at (p ∷ ps) → IsOkAnd result (λ next. MatchOption next (ps ≡ []) (λ o. PropertiesFrom self.now o.at ps)) }
+        ensures stands { (p : Property) (ps : List Property) → PropertiesFrom self.now property.at (p ∷ ps)
+            → TellsProperties self.now result ps }
         ensures refused { HasNoProperty self.now property.at → result ≡ Err ViewError.BadOffset }
     {
         let held = self.held(property.at)?;
@@ -113,7 +120,8 @@ impl<'a> View<'a> {
 
     /// A property's name and value.
     pub fn property(&self, property: PropertyOffset) -> Result<ViewProperty<'a>, ViewError>
-        ensures stands { (p : Property) (ps : List Property) → PropertiesFrom self.now property.at (p ∷ ps) → IsOkAnd result (λ x. (x.name.now ≡ p.name) × (x.value.now ≡ p.value)) }
+        ensures stands { (p : Property) (ps : List Property) → PropertiesFrom self.now property.at (p ∷ ps)
+            → IsOkAnd result (λ x. (x.name.now ≡ p.name) × (x.value.now ≡ p.value)) }
         ensures refused { HasNoProperty self.now property.at → result ≡ Err ViewError.BadOffset }
     {
         let held = self.held(property.at)?;
@@ -125,7 +133,8 @@ impl<'a> View<'a> {
 
     /// The value of a node's property of this name: none where it has no such property.
     pub fn value(&self, node: NodeOffset, name: &[u8]) -> Result<Option<&'a [u8]>, ViewError>
-        ensures stands { (d : NodeData) → StandsAt self.now node.at d → IsOkAnd result (λ value. option_copied value ≡ value_of d.properties name.now) }
+        ensures stands { (d : NodeData) → StandsAt self.now node.at d
+            → IsOkAnd result (λ value. option_copied value ≡ value_of d.properties name.now) }
         ensures refused { HasNoNode self.now node.at → result ≡ Err ViewError.BadOffset }
     {
         let begun = self.begin(node.at)?;

@@ -15,7 +15,8 @@ pub(crate) enum Stage {
 }
 
 fn begin(stage: Stage, name: &[u8]) -> Result<Stage, BlobError>
-    ensures { MatchResult result (λ s. begin_in stage name.now ≡ Some s) (λ e. (begin_in stage name.now ≡ None) × IsStructureFault e) }
+    ensures { MatchResult result (λ s. begin_in stage name.now ≡ Some s)
+        (λ e. (begin_in stage name.now ≡ None) × IsStructureFault e) }
 {
     match stage {
         Stage::Before => {
@@ -38,7 +39,8 @@ fn begin(stage: Stage, name: &[u8]) -> Result<Stage, BlobError>
 }
 
 fn property(stage: Stage, name: &[u8]) -> Result<Stage, BlobError>
-    ensures { MatchResult result (λ s. property_in stage name.now ≡ Some s) (λ e. (property_in stage name.now ≡ None) × IsStructureFault e) }
+    ensures { MatchResult result (λ s. property_in stage name.now ≡ Some s)
+        (λ e. (property_in stage name.now ≡ None) × IsStructureFault e) }
 {
     match stage {
         Stage::Before => Err(BlobError::BadToken),
@@ -72,7 +74,8 @@ fn end(stage: Stage) -> Result<Stage, BlobError>
 
 /// One token more, before the END; a NOP changes nothing.
 pub(crate) fn advance(stage: Stage, token: BlobToken<'_>) -> Result<Stage, BlobError>
-    ensures { MatchResult result (λ s. stage_after stage (token_of token.entry) ≡ Some s) (λ e. (stage_after stage (token_of token.entry) ≡ None) × IsStructureFault e) }
+    ensures { MatchResult result (λ s. stage_after stage (token_of token.entry) ≡ Some s)
+        (λ e. (stage_after stage (token_of token.entry) ≡ None) × IsStructureFault e) }
 {
     match token {
         BlobToken::BeginNode(name) => begin(stage, name),

@@ -35,7 +35,8 @@ fn is_nop(token: BlobToken<'_>) -> bool
 impl<'a> View<'a> {
     /// The token at an offset, and the offset behind it.
     fn token(&self, from: usize) -> Result<(BlobToken<'a>, usize), ViewError>
-        ensures { MatchResult result (λ x. Reads self.now from (token_of x.0) x.1) (λ e. StandsNothing self.now from × (e ≡ ViewError.BadOffset)) }
+        ensures { MatchResult result (λ x. Reads self.now from (token_of x.0) x.1)
+            (λ e. StandsNothing self.now from × (e ≡ ViewError.BadOffset)) }
     {
         let rest = behind(self.structure, from);
         match token(self.strings, rest) {
@@ -46,7 +47,8 @@ impl<'a> View<'a> {
 
     /// The first token from an offset on that is no NOP.
     pub(crate) fn token_from(&self, from: usize) -> Result<Found<'a>, ViewError>
-        ensures { MatchResult result (λ f. Finds self.now from (token_of f.token) f.at f.next) (λ e. StandsNothing self.now from × (e ≡ ViewError.BadOffset)) }
+        ensures { MatchResult result (λ f. Finds self.now from (token_of f.token) f.at f.next)
+            (λ e. StandsNothing self.now from × (e ≡ ViewError.BadOffset)) }
     {
         let mut at = from;
         'nops: loop {
@@ -60,7 +62,8 @@ impl<'a> View<'a> {
 
     /// The beginning of the node at an offset, behind NOPs.
     pub(crate) fn begin(&self, from: usize) -> Result<Begun<'a>, ViewError>
-        ensures { MatchResult result (λ b. Opens self.now from b.name.now b.at b.next) (λ e. HasNoNode self.now from × (e ≡ ViewError.BadOffset)) }
+        ensures { MatchResult result (λ b. Opens self.now from b.name.now b.at b.next)
+            (λ e. HasNoNode self.now from × (e ≡ ViewError.BadOffset)) }
     {
         let found = self.token_from(from)?;
         match found.token {

@@ -1,7 +1,6 @@
 //! The view and how it is opened.
-ghost use Rattle.std.specs.Prelude.{◌≡◌, ◌⊎◌, ◌↔◌, IfOk, IsErrOf, IsOk, IsOkAnd, None, Some, MatchResult};
+ghost use Rattle.std.specs.Prelude.{◌≡◌, ◌⊎◌, ◌↔◌, IfOk, IsErrOf, IsOkAnd, None, Some, MatchResult};
 ghost use Rattle.dt_tree.specs.TreeData.{TreeData};
-ghost use Rattle.dt_blob.specs.Blocks.{AreBlocks};
 ghost use Rattle.dt_blob.specs.HeaderWords.{header_fault, reserves_of};
 ghost use Rattle.dt_blob.specs.Holds.{HaveNoEnd};
 ghost use Rattle.dt_view.specs.Shows.{Shows, Views};
@@ -41,7 +40,8 @@ impl<'a> View<'a> {
     /// Fails with `TooLarge`, `Truncated`, `BadMagic`, `BadVersion` or `BadLayout`, the header's first fault.
     pub fn over(bytes: &'a [u8]) -> Result<Self, BlobError>
         ensures shown { (tree : TreeData) → Shows bytes.now tree → IsOkAnd result (λ view. Views view tree) }
-        ensures fault { MatchResult result (λ _. header_fault bytes.now ≡ None) (λ e. header_fault bytes.now ≡ Some e) }
+        ensures fault { MatchResult result (λ _. header_fault bytes.now ≡ None)
+            (λ e. header_fault bytes.now ≡ Some e) }
     {
         let parts = blocks_in(bytes)?;
         Ok(view_of(parts))
@@ -60,8 +60,11 @@ impl<'a> View<'a> {
         ensures bad_magic { IsErrOf result BlobError.BadMagic ↔ (header_fault bytes.now ≡ Some BlobError.BadMagic) }
         ensures bad_version { IsErrOf result BlobError.BadVersion ↔ (header_fault bytes.now ≡ Some BlobError.BadVersion) }
         // This one too, and else the reserved memory has no end.
-        ensures bad_layout { header_fault bytes.now ≡ Some BlobError.BadLayout → IsErrOf result BlobError.BadLayout }
-        ensures no_end { IsErrOf result BlobError.BadLayout → (header_fault bytes.now ≡ Some BlobError.BadLayout) ⊎ ((header_fault bytes.now ≡ None) × HaveNoEnd (reserves_of bytes.now)) }
+        ensures bad_layout { header_fault bytes.now ≡ Some BlobError.BadLayout
+            → IsErrOf result BlobError.BadLayout }
+        ensures no_end { IsErrOf result BlobError.BadLayout
+            → (header_fault bytes.now ≡ Some BlobError.BadLayout) ⊎ ((header_fault bytes.now ≡ None)
+            × HaveNoEnd (reserves_of bytes.now)) }
     {
         let parts = blocks_in(bytes)?;
         check_reserves(parts.reserves)?;

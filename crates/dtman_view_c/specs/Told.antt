@@ -18,9 +18,17 @@ nothing = record { status = 4; number = 0; at = 0 }
 abbrev pub refused : BlobError → ViewTold
 refused error = record { status = 2; number = number_of error; at = 0 }
 
+-- no node, or no property, begins at the offset
+abbrev pub bad_offset : ViewTold
+bad_offset = record { status = 8; number = 0; at = 0 }
+
+-- the bytes are no path
+abbrev pub bad_path : ViewTold
+bad_path = record { status = 9; number = 0; at = 0 }
+
 abbrev pub failed : ViewError → ViewTold
-failed BadOffset = record { status = 8; number = 0; at = 0 }
-failed BadPath = record { status = 9; number = 0; at = 0 }
+failed BadOffset = bad_offset
+failed BadPath = bad_path
 
 -- a node's place, as it is told
 abbrev pub node_told : Result (Option NodeOffset) ViewError → ViewTold

@@ -11,7 +11,8 @@ use dt_view::View;
 /// The view of a blob, once its tests are passed.
 #[unsafe(no_mangle)]
 pub extern "C" fn dtman_view_open<'a>(blob: &'a [u8], view: &mut View<'a>) -> ViewTold
-    ensures opened { ((result ≡ done 0) × ((tree : TreeData) × Shows blob.now tree × Views view.new tree)) ⊎ ((error : BlobError) × (result ≡ refused error)) }
+    ensures opened { ((result ≡ done 0) × ((tree : TreeData) × Shows blob.now tree × Views view.new tree))
+        ⊎ ((error : BlobError) × (result ≡ refused error)) }
     ensures only { (tree : TreeData) → Shows blob.now tree → (result ≡ done 0) × Views view.new tree }
 {
     match View::open(blob) {

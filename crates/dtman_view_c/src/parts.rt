@@ -30,7 +30,7 @@ pub struct Reservation {
 /// The root of a view.
 #[unsafe(no_mangle)]
 pub extern "C" fn dtman_view_root(view: &View<'_>) -> ViewTold
-    ensures { (tree : TreeData) → Views view.now tree → StandsAt view.now result.at tree.root }
+    ensures { (tree : TreeData) → Views view.now tree → (result ≡ done result.at) × StandsAt view.now result.at tree.root }
 {
     match view.root() {
         Ok(root) => done(root.at),
@@ -63,7 +63,8 @@ pub extern "C" fn dtman_view_property<'a>(
     property: usize,
     into: &mut ViewProperty<'a>,
 ) -> ViewTold
-    ensures { (p : Property) (ps : List Property) → PropertiesFrom view.now property (p ∷ ps) → (result ≡ done 0) × (into.new.name.now ≡ p.name) × (into.new.value.now ≡ p.value) }
+    ensures { (p : Property) (ps : List Property) → PropertiesFrom view.now property (p ∷ ps)
+        → (result ≡ done 0) × (into.new.name.now ≡ p.name) × (into.new.value.now ≡ p.value) }
 {
     match view.property(PropertyOffset { at: property }) {
         Ok(held) => {

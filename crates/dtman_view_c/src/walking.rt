@@ -1,10 +1,11 @@
 //! Walks over a view.
-ghost use Rattle.std.specs.Prelude.{◌≡◌, ◌∷◌, [], List, ℕ, IsOkAnd, MatchOption};
-ghost use Rattle.dt_tree.specs.NodeData.{NodeData, Siblings, none, more};
+ghost use Rattle.std.specs.Prelude.{◌≡◌, ◌∷◌, List, ℕ};
+ghost use Rattle.dt_tree.specs.NodeData.{NodeData, Siblings, more};
 ghost use Rattle.dt_tree.specs.declared.property.Property.{Property};
-ghost use Rattle.dt_view.specs.Order.{IsNext, StandsIn};
-ghost use Rattle.dt_view.specs.Standing.{PropertiesFrom, StandFrom, StandsAt};
-ghost use Rattle.dtman_view_c.specs.Told.{TellsNode, TellsProperty};
+ghost use Rattle.dt_view.specs.Order.{StandsIn, TellsNext};
+ghost use Rattle.dt_view.specs.Standing.{HasNoNode, HasNoProperty, PropertiesFrom, StandFrom, StandsAt};
+ghost use Rattle.dtman_view_c.specs.Told.{TellsNode, TellsProperty, bad_offset};
+ghost use Rattle.dt_view.specs.Places.{TellsNodes, TellsProperties};
 
 use crate::told::{ViewTold, node_told, property_told};
 use dt_view::{NodeOffset, PropertyOffset, View};
@@ -12,7 +13,9 @@ use dt_view::{NodeOffset, PropertyOffset, View};
 /// The first child of a node.
 #[unsafe(no_mangle)]
 pub extern "C" fn dtman_view_first_child(view: &View<'_>, node: usize) -> ViewTold
-    ensures { TellsNode (λ answer. (d : NodeData) → StandsAt view.now node d → IsOkAnd answer (λ child. MatchOption child (d.children ≡ none) (λ c. StandFrom view.now c.at d.children))) result }
+    ensures tells { TellsNode (λ answer. (d : NodeData) → StandsAt view.now node d
+        → TellsNodes view.now answer d.children) result }
+    ensures refused { HasNoNode view.now node → result ≡ bad_offset }
 {
     node_told(view.first_child(NodeOffset { at: node }))
 }
@@ -20,7 +23,9 @@ pub extern "C" fn dtman_view_first_child(view: &View<'_>, node: usize) -> ViewTo
 /// The next child of the same parent.
 #[unsafe(no_mangle)]
 pub extern "C" fn dtman_view_next_sibling(view: &View<'_>, node: usize) -> ViewTold
-    ensures { TellsNode (λ answer. (name : List ℕ) (ps : List Property) (children rest : Siblings) → StandFrom view.now node (more name ps children rest) → IsOkAnd answer (λ next. MatchOption next (rest ≡ none) (λ n. StandFrom view.now n.at rest))) result }
+    ensures tells { TellsNode (λ answer. (name : List ℕ) (ps : List Property) (children rest : Siblings)
+        → StandFrom view.now node (more name ps children rest) → TellsNodes view.now answer rest) result }
+    ensures refused { HasNoNode view.now node → result ≡ bad_offset }
 {
     node_told(view.next_sibling(NodeOffset { at: node }))
 }
@@ -28,7 +33,9 @@ pub extern "C" fn dtman_view_next_sibling(view: &View<'_>, node: usize) -> ViewT
 /// The next node in the order of the blob.
 #[unsafe(no_mangle)]
 pub extern "C" fn dtman_view_next_node(view: &View<'_>, node: usize) -> ViewTold
-    ensures { TellsNode (λ answer. (d : NodeData) (later : List NodeData) → StandsIn view.now node d later → IsOkAnd answer (λ next. IsNext view.now next later)) result }
+    ensures tells { TellsNode (λ answer. (d : NodeData) (later : List NodeData) → StandsIn view.now node d later
+        → TellsNext view.now answer later) result }
+    ensures refused { HasNoNode view.now node → result ≡ bad_offset }
 {
     node_told(view.next_node(NodeOffset { at: node }))
 }
@@ -36,7 +43,9 @@ pub extern "C" fn dtman_view_next_node(view: &View<'_>, node: usize) -> ViewTold
 /// The first property of a node.
 #[unsafe(no_mangle)]
 pub extern "C" fn dtman_view_first_property(view: &View<'_>, node: usize) -> ViewTold
-    ensures { TellsProperty (λ answer. (d : NodeData) → StandsAt view.now node d → IsOkAnd answer (λ p. MatchOption p (d.properties ≡ []) (λ o. PropertiesFrom view.now o.at d.properties))) result }
+    ensures tells { TellsProperty (λ answer. (d : NodeData) → StandsAt view.now node d
+        → TellsProperties view.now answer d.properties) result }
+    ensures refused { HasNoNode view.now node → result ≡ bad_offset }
 {
     property_told(view.first_property(NodeOffset { at: node }))
 }
@@ -44,7 +53,9 @@ pub extern "C" fn dtman_view_first_property(view: &View<'_>, node: usize) -> Vie
 /// The next property of the same node.
 #[unsafe(no_mangle)]
 pub extern "C" fn dtman_view_next_property(view: &View<'_>, property: usize) -> ViewTold
-    ensures { TellsProperty (λ answer. (p : Property) (ps : List Property) → PropertiesFrom view.now property (p ∷ ps) → IsOkAnd answer (λ next. MatchOption next (ps ≡ []) (λ o. PropertiesFrom view.now o.at ps))) result }
+    ensures tells { TellsProperty (λ answer. (p : Property) (ps : List Property)
+        → PropertiesFrom view.now property (p ∷ ps) → TellsProperties view.now answer ps) result }
+    ensures refused { HasNoProperty view.now property → result ≡ bad_offset }
 {
     property_told(view.next_property(PropertyOffset { at: property }))
 }

@@ -1,4 +1,9 @@
+use Rattle.std.proofs.Common.{ap, ◌∙◌}
+use Rattle.dtman_view_c.specs.Told.{property_told}
 use Rattle.dtman_view_c.proofs.walking.dtman_view_next_property.Goals as goal
 
-pub returns : goal.returns
-returns c = (c.next_property.result, c.next_property.ensures.stands, c.property_told.ensures)
+pub returns-clause-tells : goal.returns-clause-tells
+returns-clause-tells c = (c.next_property.result, c.next_property.ensures.stands, c.property_told.ensures)
+
+pub returns-clause-refused : goal.returns-clause-refused
+returns-clause-refused c = λ n. c.property_told.ensures ∙ ap property_told (c.next_property.ensures.refused n)
