@@ -1,8 +1,5 @@
-use Rattle.std.proofs.Common.{codes, refl}
-use Rattle.dtman_cli.proofs.MetLemmas.{value}
+use Rattle.std.proofs.Common.{refl}
 use Rattle.dtman_cli.proofs.reading.plan.Goals as goal
 
 pub returns : goal.returns
-returns c =
-    let given = c.args.given.now in
-    (refl, value given (codes "BLOB") c.in_ok-get_str.field-0.now c.in_ok-get_str.ensures, value given (codes "DRIVERS") c.in_ok-get_str-2.field-0.now c.in_ok-get_str-2.ensures, c.is_on.ensures, c.links.ensures)
+returns c = (refl, c.in_ok-board.ensures, c.is_on-dot.ensures)
