@@ -9,7 +9,7 @@ export PREFIX DESTDIR MAINTAINER
 build: toolchain
 	@.ci/build
 
-# Proves and builds the C library, and leaves it at bin/libdtman.a.
+# Proves and builds the C libraries, and leaves them at bin/libdtman.a and bin/libdtman_view.a.
 library: toolchain
 	@.ci/build library
 

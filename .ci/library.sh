@@ -1,5 +1,5 @@
 #!/usr/bin/env bash
-# Builds bin/libdtman.a and tries the C examples over it: what they print, under which compilers, sanitizers and valgrind, and that a boot
+# Builds bin/libdtman.a and bin/libdtman_view.a and tries the C examples over them: what they print, under which compilers, sanitizers and valgrind, and that a boot
 # loader's step makes the blob that the program makes. Where a tool isn't there, it says what wasn't tried.
 set -euo pipefail
 cd "$(dirname "$0")/.."
@@ -51,9 +51,14 @@ try_c() {
 	"$@" "$built/calls" | diff examples/c/calls.txt - || fail "$name: examples/c/calls says something else"
 	"$@" "$built/boot" "${step[@]}" "$built/out.dtb" | diff "$work/said" - || fail "$name: examples/c/boot says something else"
 	"$@" "$built/bus" examples/sensor-board.plan | diff "$work/report" - || fail "$name: examples/c/bus ends with another report"
+	"$@" "$built/mutated" examples/sensor-board.dtb "$mutations" | diff "$work/mutations" - || fail "$name: examples/c/mutated ends otherwise"
 	cmp "$built/out.dtb" "$work/wanted.dtb" || fail "$name: examples/c/boot makes another blob than the program"
 	echo "library: $name: the examples do what they should"
 }
+
+# 100,000 changed blobs, walked whole by the view; under valgrind a hundredth of them.
+mutations=100000
+cp examples/c/mutated.txt "$work/mutations"
 
 compilers=()
 for compiler in gcc clang; do ! has "$compiler" "the examples aren't built by it" || compilers+=("$compiler"); done
@@ -67,9 +72,11 @@ for compiler in "${compilers[@]}"; do
 	fi
 done
 if [ ${#compilers[@]} -gt 0 ] && has valgrind "the examples aren't run under it"; then
+	mutations=1000
+	"$work/${compilers[0]// /-}/mutated" examples/sensor-board.dtb 1000 >"$work/mutations"
 	try_c valgrind "${compilers[0]}" "-g -O1" valgrind -q --leak-check=full --error-exitcode=9
 fi
-if has c++ "the header isn't read as C++"; then c++ -std=c++11 -Wall -Werror -fsyntax-only -x c++ install/dtman.h; fi
+if has c++ "the header isn't read as C++"; then for header in dtman dtman_view; do c++ -std=c++11 -Wall -Werror -fsyntax-only -x c++ install/$header.h; done; fi
 
 # libfdt does the step too, in another order of properties, so what is printed is compared.
 if [ ${#compilers[@]} -gt 0 ] && echo '#include <libfdt.h>' | "${compilers[0]}" -E -x c - >/dev/null 2>&1; then

@@ -25,6 +25,8 @@ listed() {
 	if [ -e bin/libdtman.a ]; then
 		echo 644 bin/libdtman.a "$library_folder/libdtman.a"
 		echo 644 install/dtman.h include/dtman.h
+		echo 644 bin/libdtman_view.a "$library_folder/libdtman_view.a"
+		echo 644 install/dtman_view.h include/dtman_view.h
 		echo 644 out/pages/dtman.pc "$library_folder/pkgconfig/dtman.pc"
 		for file in examples/c/Makefile examples/c/*.{c,h,dts,txt,md}; do echo 644 "$file" "share/doc/dtman/examples/c/${file##*/}"; done
 	fi
@@ -49,7 +51,7 @@ Name: dtman
 Description: devicetree compiler and probing core over the caller's bytes
 Version: $version
 Cflags: -I\${prefix}/include
-Libs: -L\${prefix}/$library_folder -ldtman
+Libs: -L\${prefix}/$library_folder -ldtman_view -ldtman
 END
 }
 
@@ -65,7 +67,7 @@ take_away() {
 	local target
 	make_pages
 	listed | while read -r _ _ target; do rm -f "$root$prefix/$target"; done
-	rm -f "$root$prefix"/{"$library_folder"/libdtman.a,include/dtman.h,"$library_folder"/pkgconfig/dtman.pc,share/man/man3/libdtman.3}
+	rm -f "$root$prefix"/{"$library_folder"/libdtman{,_view}.a,include/dtman{,_view}.h,"$library_folder"/pkgconfig/dtman.pc,share/man/man3/libdtman.3}
 	rm -rf "$root$prefix/share/doc/dtman"
 }
 

@@ -9,11 +9,10 @@
 
 #include "bytes.h"
 #include "dtman.h"
+#include "dtman_view.h"
 
 /* No stranger makes a boot loader's own blobs. */
 #define SEED 0
-
-enum { BEGIN_NODE = 1, END_NODE = 2, PROPERTY = 3, NOTHING = 4 };
 
 static struct bytes overlaid(struct bytes base, struct bytes overlay)
 {
@@ -31,52 +30,20 @@ static struct bytes overlaid(struct bytes base, struct bytes overlay)
 	return out;
 }
 
-static uint32_t cell(const uint8_t *at)
-{
-	return (uint32_t)at[0] << 24 | (uint32_t)at[1] << 16 | (uint32_t)at[2] << 8 | at[3];
-}
-
-/* Whether a path goes on with this name. */
-static int goes_on(const char *path, const char *name)
-{
-	size_t length = strlen(name);
-
-	return path[0] == '/' && !strncmp(path + 1, name, length) && (!path[1 + length] || path[1 + length] == '/');
-}
-
-/* The value of the property of the node at a path, in a blob that dtman made; no bytes at NULL where there is none. */
+/* The value of the property of the node at a path; no bytes at NULL where there is none. */
 static struct bytes find(struct bytes blob, const char *path, const char *property)
 {
-	uint8_t *at = blob.at + cell(blob.at + 8);
-	const char *strings = (const char *)blob.at + cell(blob.at + 12);
-	const char *rest = strcmp(path, "/") ? path : "";
-	unsigned int open = 0, met = 0; /* nodes around this place, and those of them that the path goes through */
+	struct dtman_view view = DTMAN_NO_VIEW;
+	struct dtman_view_part value = DTMAN_NO_PART;
+	struct dtman_view_told told = dtman_view_open(blob.at, blob.length, &view);
 
-	for (;;) {
-		uint32_t token = cell(at);
-
-		at += 4;
-		if (token == BEGIN_NODE) {
-			const char *name = (const char *)at;
-
-			if (open == met && (!open || goes_on(rest, name))) {
-				rest += open ? 1 + strlen(name) : 0;
-				met++;
-			}
-			open++;
-			at += (strlen(name) + 4) & ~(size_t)3;
-		} else if (token == PROPERTY) {
-			struct bytes value = { at + 8, cell(at) };
-
-			if (open == met && !*rest && !strcmp(strings + cell(at + 4), property))
-				return value;
-			at += 8 + ((value.length + 3) & ~(size_t)3);
-		} else if (token == END_NODE && open != met) {
-			open--;
-		} else if (token != NOTHING) {
-			return (struct bytes){ NULL, 0 };
-		}
-	}
+	if (told.status == DTMAN_VIEW_DONE)
+		told = dtman_view_find(&view, (const uint8_t *)path, strlen(path));
+	if (told.status == DTMAN_VIEW_DONE)
+		told = dtman_view_value(&view, told.at, (const uint8_t *)property, strlen(property), &value);
+	if (told.status != DTMAN_VIEW_DONE)
+		return (struct bytes){ NULL, 0 };
+	return (struct bytes){ blob.at + (value.bytes - blob.at), value.length };
 }
 
 /* The string that a property has, if it has one. */

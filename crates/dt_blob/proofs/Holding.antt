@@ -26,7 +26,7 @@ behind_pair : (a b : ℕ) (x : List ℕ) → drop 16 (double_word a ++ (double_w
 unfolding double_word
 behind_pair a b x = refl
 
-first_of : (bytes : List ℕ) (a b : ℕ) (rest : List ℕ) → bytes ≡ double_word a ++ (double_word b ++ rest) → a < 2 ^ 64 → b < 2 ^ 64 → (big_number 8 bytes ≡ a) × (big_number 8 (drop 8 bytes) ≡ b) × (drop 16 bytes ≡ rest) × (16 + length rest ≡ length bytes)
+pub first_of : (bytes : List ℕ) (a b : ℕ) (rest : List ℕ) → bytes ≡ double_word a ++ (double_word b ++ rest) → a < 2 ^ 64 → b < 2 ^ 64 → (big_number 8 bytes ≡ a) × (big_number 8 (drop 8 bytes) ≡ b) × (drop 16 bytes ≡ rest) × (16 + length rest ≡ length bytes)
 first_of bytes a b rest e la lb =
     let tail : List ℕ = double_word b ++ rest in (
       ap (big_number 8) e ∙ double_word_read a tail la,
@@ -56,12 +56,12 @@ reserves_again rs bytes h = reserves_again_in rs (suc (length bytes)) bytes h (o
 -- ---- the whole
 
 -- a range that may be the structure block is a front of the bytes in which it stands, or all of them
-record InRoom (sized : Bool) (part room : List ℕ) : Type 0 where
-  rest : List ℕ
-  is : room ≡ part ++ rest
-  whole : sized ≡ true → rest ≡ []
+pub record InRoom (sized : Bool) (part room : List ℕ) : Type 0 where
+  pub rest : List ℕ
+  pub is : room ≡ part ++ rest
+  pub whole : sized ≡ true → rest ≡ []
 
-in_room : (at size all : ℕ) (told : Option ℕ) (bytes : List ℕ) → option_map_or (λ n. size == n) told (nat_le (at + size) all) ≡ true
+pub in_room : (at size all : ℕ) (told : Option ℕ) (bytes : List ℕ) → option_map_or (λ n. size == n) told (nat_le (at + size) all) ≡ true
     → InRoom (is_some told) (take size (drop at bytes)) (take (unwrap_or told (all - at)) (drop at bytes))
 in_room at size all (Some n) bytes e =
     let d : List ℕ = drop at bytes in
@@ -84,7 +84,7 @@ held_read bytes t h =
     tree_of_parts bytes t.reserves t.root h.header (reserves_again t.reserves (reserves_of bytes) h.reserves) root
     ∙ ap (λ (x : ℕ). Some (tree_data t.reserves x t.root)) (sym h.boot_cpu)
 
-block_bytes : (place size : ℕ) (bytes : List ℕ) → AreBytes bytes → AreBytes (take size (drop place bytes))
+pub block_bytes : (place size : ℕ) (bytes : List ℕ) → AreBytes bytes → AreBytes (take size (drop place bytes))
 block_bytes place size bytes f = bytes_before size (drop place bytes) (bytes_behind place bytes f)
 
 -- a front of the bytes in which the structure block stands, or all of them, is a range that may be the structure block
@@ -100,7 +100,7 @@ front_is k front rest d e =
     let short : length front ≤ k = omega (arith, ap length e, length-take k d, length-append front rest) in
     sym (take-take (length front) k d short) ∙ ap (take (length front)) e ∙ take_at front rest (length front) refl
 
-structure_held : (bytes : List ℕ) (root : NodeData) → header_fault bytes ≡ None → Spelling (is_some (header_of bytes).structure_size) (strings_of bytes) (room_in bytes) (tokens_of root) → StructureSpells bytes root
+pub structure_held : (bytes : List ℕ) (root : NodeData) → header_fault bytes ≡ None → Spelling (is_some (header_of bytes).structure_size) (strings_of bytes) (room_in bytes) (tokens_of root) → StructureSpells bytes root
 structure_held bytes root f s =
     let h = header_of bytes in
     let l = in_place bytes f in

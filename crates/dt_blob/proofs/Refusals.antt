@@ -59,7 +59,7 @@ pub layout_of : {X : Type 0} (e : BlobError) (bytes : List ℕ) → RefusesAll e
 layout_of e bytes (inl f) s = ap (λ (x : BlobError). Err x) (some_same e errors.BadLayout (sym f ∙ s))
 layout_of e bytes (inr r) s = absurd (no_fault_some errors.BadLayout (header_fault bytes) s r.0)
 
-no_end : (bytes : List ℕ) → reserves_at bytes ≡ None → HaveNoEnd bytes
+pub no_end : (bytes : List ℕ) → reserves_at bytes ≡ None → HaveNoEnd bytes
 no_end bytes n rs h = let bad : None ≡ Some rs = sym n ∙ reserves_again rs bytes h in cc bad
 
 pub end_of : {X : Type 0} (e : BlobError) (bytes : List ℕ) → RefusesAll e bytes → ◌≡◌ {A = Result X BlobError} (Err e) (Err errors.BadLayout)

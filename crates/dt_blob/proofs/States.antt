@@ -13,20 +13,20 @@ use Rattle.dt_blob.proofs.Tests.{both, equal, test_below, test_not_below, test_u
 
 -- ---- what has been read
 
-abbrev opened_tokens : NodeSoFar → List Token
+abbrev pub opened_tokens : NodeSoFar → List Token
 opened_tokens o = begin_node o.name ∷ (property_tokens o.properties ++ sibling_tokens (siblings o.children))
 
-abbrev outer_tokens : List NodeSoFar → List Token
+abbrev pub outer_tokens : List NodeSoFar → List Token
 outer_tokens [] = []
 outer_tokens (o ∷ os) = outer_tokens os ++ opened_tokens o
 
-abbrev so_far : State → List Token
+abbrev pub so_far : State → List Token
 so_far begun = []
 so_far (inside top outer) = outer_tokens outer ++ opened_tokens top
 so_far (behind root) = tokens_of root
 so_far (ended root) = tree_tokens root
 
-properties_push : (ps : List Property) (p : Property) → property_tokens (ps ++ p ∷ []) ≡ property_tokens ps ++ property p.name p.value ∷ []
+pub properties_push : (ps : List Property) (p : Property) → property_tokens (ps ++ p ∷ []) ≡ property_tokens ps ++ property p.name p.value ∷ []
 properties_push [] p = refl
 properties_push (q ∷ ps) p = ap (λ (x : List Token). property q.name q.value ∷ x) (properties_push ps p)
 
@@ -41,7 +41,7 @@ children_push (m ∷ ns) n =
     ∙ ap (λ (x : List Token). begin_node m.name ∷ x) (ap (λ (x : List Token). ps ++ x) (sym (append_assoc inner (end_node ∷ rest) (tokens_of n))) ∙ sym (append_assoc ps (inner ++ end_node ∷ rest) (tokens_of n)))
 
 -- a child goes behind the children
-node_put : (node : NodeData) (outer : List NodeSoFar) → so_far (behind_node node outer) ≡ outer_tokens outer ++ tokens_of node
+pub node_put : (node : NodeData) (outer : List NodeSoFar) → so_far (behind_node node outer) ≡ outer_tokens outer ++ tokens_of node
 node_put node [] = refl
 node_put node (o ∷ os) =
     let ps : List Token = property_tokens o.properties in
@@ -49,13 +49,13 @@ node_put node (o ∷ os) =
     ∙ ap (λ (x : List Token). outer_tokens os ++ begin_node o.name ∷ x) (sym (append_assoc ps (sibling_tokens (siblings o.children)) (tokens_of node)))
     ∙ sym (append_assoc (outer_tokens os) (opened_tokens o) (tokens_of node))
 
-some_same : {A : Type 0} (x y : A) → Some x ≡ Some y → x ≡ y
+pub some_same : {A : Type 0} (x y : A) → Some x ≡ Some y → x ≡ y
 some_same x y e = cc
 
-pushed : (s u v : State) (t : Token) → Some v ≡ Some u → so_far v ≡ so_far s ++ t ∷ [] → so_far u ≡ so_far s ++ t ∷ []
+pub pushed : (s u v : State) (t : Token) → Some v ≡ Some u → so_far v ≡ so_far s ++ t ∷ [] → so_far u ≡ so_far s ++ t ∷ []
 pushed s u v t e is = subst (λ (x : State). so_far x ≡ so_far s ++ t ∷ []) (some_same v u e) is
 
-begin_sound : (s u : State) (name : List ℕ) → begin_in s name ≡ Some u → so_far u ≡ so_far s ++ begin_node name ∷ []
+pub begin_sound : (s u : State) (name : List ℕ) → begin_in s name ≡ Some u → so_far u ≡ so_far s ++ begin_node name ∷ []
 begin_sound begun u [] e = pushed begun u (inside (node_so_far [] [] []) []) (begin_node []) e refl
 begin_sound begun u (b ∷ bs) e = absurd (cc e)
 begin_sound (inside top outer) u name e = by_test _ refl e where
@@ -67,20 +67,20 @@ begin_sound (inside top outer) u name e = by_test _ refl e where
 begin_sound (behind root) u name e = absurd (cc e)
 begin_sound (ended root) u name e = absurd (cc e)
 
-no_children : (ns : List NodeData) → (length ns == 0) ≡ true → ns ≡ []
+pub no_children : (ns : List NodeData) → (length ns == 0) ≡ true → ns ≡ []
 no_children [] e = refl
 no_children (n ∷ ns) e = let none : length (n ∷ ns) ≡ 0 = equal (length (n ∷ ns)) 0 e in absurd (omega arith)
 
-abbrev the_property : List ℕ → List ℕ → Property
+abbrev pub the_property : List ℕ → List ℕ → Property
 the_property name value = record { name = name; value = value }
 
-abbrev after_property : NodeSoFar → List ℕ → List ℕ → List NodeData → NodeSoFar
+abbrev pub after_property : NodeSoFar → List ℕ → List ℕ → List NodeData → NodeSoFar
 after_property top name value ns = node_so_far top.name (top.properties ++ the_property name value ∷ []) ns
 
-abbrev node_at : NodeSoFar → NodeData
+abbrev pub node_at : NodeSoFar → NodeData
 node_at top = node_data top.name top.properties (siblings top.children)
 
-property_sound : (s u : State) (name value : List ℕ) → property_in s name value ≡ Some u → so_far u ≡ so_far s ++ property name value ∷ []
+pub property_sound : (s u : State) (name value : List ℕ) → property_in s name value ≡ Some u → so_far u ≡ so_far s ++ property name value ∷ []
 property_sound begun u name value e = absurd (cc e)
 property_sound (inside top outer) u name value e = by_test _ refl e where
   flat : so_far (inside (after_property top name value []) outer) ≡ so_far (inside (node_so_far top.name top.properties []) outer) ++ property name value ∷ []
@@ -100,20 +100,23 @@ property_sound (inside top outer) u name value e = by_test _ refl e where
 property_sound (behind root) u name value e = absurd (cc e)
 property_sound (ended root) u name value e = absurd (cc e)
 
+-- the end of the node at hand
+pub end_put : (top : NodeSoFar) (outer : List NodeSoFar) → so_far (behind_node (node_at top) outer) ≡ so_far (inside top outer) ++ end_node ∷ []
+end_put top outer =
+    let ps : List Token = property_tokens top.properties in
+    let cs : List Token = sibling_tokens (siblings top.children) in
+    node_put (node_at top) outer
+    ∙ ap (λ (x : List Token). outer_tokens outer ++ begin_node top.name ∷ x) (sym (append_assoc ps cs (end_node ∷ [])))
+    ∙ sym (append_assoc (outer_tokens outer) (opened_tokens top) (end_node ∷ []))
+
 end_sound : (s u : State) → end_in s ≡ Some u → so_far u ≡ so_far s ++ end_node ∷ []
 end_sound begun u e = absurd (cc e)
 end_sound (inside top outer) u e = by_test _ refl e where
-  flat : so_far (behind_node (node_at top) outer) ≡ so_far (inside top outer) ++ end_node ∷ []
-  flat =
-      let ps : List Token = property_tokens top.properties in
-      let cs : List Token = sibling_tokens (siblings top.children) in
-      node_put (node_at top) outer
-      ∙ ap (λ (x : List Token). outer_tokens outer ++ begin_node top.name ∷ x) (sym (append_assoc ps cs (end_node ∷ [])))
-      ∙ sym (append_assoc (outer_tokens outer) (opened_tokens top) (end_node ∷ []))
-
   by_test : (t : Bool) → is_none (fault_of top.properties top.children) ≡ t → end_in (inside top outer) ≡ Some u → so_far u ≡ so_far (inside top outer) ++ end_node ∷ []
   by_test false f e = absurd (let bad : None ≡ Some u = (rw f at e) in cc)
-  by_test true f e = let now : Some (behind_node (node_at top) outer) ≡ Some u = (rw f at e) in pushed (inside top outer) u (behind_node (node_at top) outer) end_node now flat
+  by_test true f e =
+      let now : Some (behind_node (node_at top) outer) ≡ Some u = (rw f at e) in
+      pushed (inside top outer) u (behind_node (node_at top) outer) end_node now (end_put top outer)
 end_sound (behind root) u e = absurd (cc e)
 end_sound (ended root) u e = absurd (cc e)
 

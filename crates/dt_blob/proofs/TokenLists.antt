@@ -91,7 +91,7 @@ by_token sized strings bytes rest (begin_node name) n ts f e ih = one_spelled si
 by_token sized strings bytes rest end_node n ts f e ih = one_spelled sized strings bytes rest end_node (tokens_in sized strings n rest) ts refl refl f e ih
 by_token sized strings bytes rest (property name value) n ts f e ih = one_spelled sized strings bytes rest (property name value) (tokens_in sized strings n rest) ts refl refl f e ih
 
-found_rest : (strings bytes rest : List ℕ) (t : Token) → AreBytes bytes → Found strings bytes rest t → AreBytes rest
+pub found_rest : (strings bytes rest : List ℕ) (t : Token) → AreBytes bytes → Found strings bytes rest t → AreBytes rest
 found_rest strings bytes rest t f d = bytes_right d.first rest (subst AreBytes d.is f)
 
 bad_first : (ts : List Token) → nop ∷ [] ≡ ts ++ end ∷ [] → ⊥
@@ -152,7 +152,7 @@ left_none false rest w = refl
 left_none true rest w = ap (left true) (w refl)
 
 -- the first token of a front of the bytes
-first_again : (strings first others front rest : List ℕ) (t : Token) → front ≡ first ++ others → SpellsToken strings t first → token_at strings (front ++ rest) ≡ Some (t, others ++ rest)
+pub first_again : (strings first others front rest : List ℕ) (t : Token) → front ≡ first ++ others → SpellsToken strings t first → token_at strings (front ++ rest) ≡ Some (t, others ++ rest)
 first_again strings first others front rest t e s =
     ap (λ (x : List ℕ). token_at strings (x ++ rest)) e ∙ ap (token_at strings) (append_assoc first others rest) ∙ token_again strings first (others ++ rest) t s
 

@@ -1,12 +1,14 @@
 -- The parts of a blob and the tree that they make.
 use Rattle.std.proofs.Common.{◌≡◌, ℕ, zero, suc, ◌^◌, ◌<◌, ◌≤◌, Bool, true, false, ◌&&◌, ◌==◌, List, [], ◌∷◌, ◌++◌, length, take, drop, Option, Some, None, refl, ap, sym, subst, ◌∙◌, arith}
 use Rattle.std.specs.Prelude.{filter, nat_lt, is_some}
-use Rattle.std.proofs.lemmas.List.{drop_all, length-take, length-drop, drop-drop}
+use Rattle.std.proofs.lemmas.List.{length-drop, drop-drop}
 use Rattle.byteorder.specs.Endian.{big_number}
 use Rattle.dt_tree.specs.NodeData.{NodeData}
 use Rattle.dt_tree.specs.TreeData.{TreeData, tree_data, is_reserve}
 use Rattle.dt_blob.specs.declared.error.BlobError.{BlobError}
 use Rattle.dt_blob.specs.BigEndian.{double_word}
+use Rattle.dt_blob.specs.Blocks.{AreBlocks}
+use Rattle.dt_blob.specs.declared.read_blocks.BlobBlocks.{BlobBlocks}
 use Rattle.dt_blob.specs.declared.read_header.Header.{Header}
 use Rattle.dt_blob.specs.HeaderWords.{from_place, block, header_of, header_fault, strings_of, structure_of, reserves_of}
 use Rattle.dt_blob.specs.Holds.{Reserves}
@@ -66,16 +68,6 @@ parts bytes t h = parts_by bytes t _ refl _ refl _ refl h
 
 -- ---- reserves
 
-nothing_behind : (n size : ℕ) (bytes : List ℕ) → size < n → drop n (take size bytes) ≡ []
-nothing_behind n size bytes h = drop_all n (take size bytes) (omega (arith, length-take size bytes))
-
-no_pair : reserves_at [] ≡ None
-unfolding reserves_at reserves_in
-no_pair = refl
-
-pub reserves_outside : (bytes : List ℕ) → (header_of bytes).size < (header_of bytes).reserves_at → reserves_at (reserves_of bytes) ≡ None
-reserves_outside bytes h = ap reserves_at (nothing_behind ((header_of bytes).reserves_at) ((header_of bytes).size) bytes h) ∙ no_pair
-
 pair_spelled : (bytes : List ℕ) → AreBytes bytes → 16 ≤ length bytes → bytes ≡ double_word (big_number 8 bytes) ++ (double_word (big_number 8 (drop 8 bytes)) ++ drop 16 bytes)
 pair_spelled bytes f h =
     let one = double_word_spelled bytes f (omega arith) in
@@ -119,9 +111,6 @@ all_kept (r ∷ rs) bytes h = let later = all_kept rs (h.0) (h.5) in let some : 
 
 -- ---- blocks of a header that was read
 
-pub outside_as : (bytes : List ℕ) (h : Header) → h ≡ header_of bytes → h.size < h.reserves_at → reserves_at (reserves_of bytes) ≡ None
-outside_as bytes h e l = reserves_outside bytes (subst (λ (x : Header). x.size < x.reserves_at) e l)
-
 pub reserves_bytes : (bytes : List ℕ) → AreBytes bytes → AreBytes (reserves_of bytes)
 reserves_bytes bytes f = bytes_behind ((header_of bytes).reserves_at) (take ((header_of bytes).size) bytes) (bytes_before ((header_of bytes).size) bytes f)
 
@@ -138,16 +127,16 @@ room_in bytes = structure_of (room_of (header_of bytes)) bytes
 pub structure_as : (bytes part : List ℕ) (h : Header) (room : ℕ) → h ≡ header_of bytes → room ≡ room_of h → part ≡ block h.structure_at room bytes → part ≡ room_in bytes
 structure_as bytes part h room e r p = p ∙ ap (λ (x : ℕ). block h.structure_at x bytes) r ∙ ap (λ (x : Header). block x.structure_at (room_of x) bytes) e
 
-pub root_as : (bytes strings structure : List ℕ) (h : Header) (sized : Bool) → h ≡ header_of bytes → sized ≡ is_some h.structure_size → strings ≡ strings_of bytes → structure ≡ room_in bytes → root_from begun (tokens_at sized strings structure) ≡ root_in bytes
-root_as bytes strings structure h sized e b s t =
-    ap (λ (x : Bool). root_from begun (tokens_at x strings structure)) (b ∙ ap (λ (x : Header). is_some x.structure_size) e)
-    ∙ ap (λ (x : List ℕ). root_from begun (tokens_at (is_some (header_of bytes).structure_size) x structure)) s
-    ∙ ap (λ (x : List ℕ). root_from begun (tokens_at (is_some (header_of bytes).structure_size) (strings_of bytes) x)) t
+pub root_as : (bytes : List ℕ) (b : BlobBlocks) → AreBlocks bytes b → root_from begun (tokens_at b.is_sized b.strings.now b.structure.now) ≡ root_in bytes
+root_as bytes b a =
+    ap (λ (x : Bool). root_from begun (tokens_at x b.strings.now b.structure.now)) a.is_sized
+    ∙ ap (λ (x : List ℕ). root_from begun (tokens_at (is_some (header_of bytes).structure_size) x b.structure.now)) a.strings
+    ∙ ap (λ (x : List ℕ). root_from begun (tokens_at (is_some (header_of bytes).structure_size) (strings_of bytes) x)) a.structure
 
 -- the tree that the parts make
-pub tree_as : (bytes : List ℕ) (h : Header) (rs : List (ℕ × ℕ)) (root : NodeData) (t : TreeData) → AreBytes (reserves_of bytes) → h ≡ header_of bytes → header_fault bytes ≡ None → reserves_at (reserves_of bytes) ≡ Some rs → root_in bytes ≡ Some root
-    → t ≡ tree_data (filter is_reserve rs) h.boot_cpu root → tree_in bytes ≡ Some t
-tree_as bytes h rs root t b e f r n is =
+pub tree_as : (bytes : List ℕ) (cpu : ℕ) (rs : List (ℕ × ℕ)) (root : NodeData) (t : TreeData) → AreBytes (reserves_of bytes) → cpu ≡ (header_of bytes).boot_cpu → header_fault bytes ≡ None → reserves_at (reserves_of bytes) ≡ Some rs → root_in bytes ≡ Some root
+    → t ≡ tree_data (filter is_reserve rs) cpu root → tree_in bytes ≡ Some t
+tree_as bytes cpu rs root t b e f r n is =
     let kept = all_kept rs (reserves_of bytes) (reserves_sound (reserves_of bytes) rs b r) in
-    let same : t ≡ tree_data rs ((header_of bytes).boot_cpu) root = is ∙ ap (λ (x : List (ℕ × ℕ)). tree_data x h.boot_cpu root) kept ∙ ap (λ (x : Header). tree_data rs x.boot_cpu root) e in
+    let same : t ≡ tree_data rs ((header_of bytes).boot_cpu) root = is ∙ ap (λ (x : List (ℕ × ℕ)). tree_data x cpu root) kept ∙ ap (λ (x : ℕ). tree_data rs x root) e in
     tree_of_parts bytes rs root f r n ∙ ap (λ (x : TreeData). Some x) (sym same)

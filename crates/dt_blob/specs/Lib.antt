@@ -1,6 +1,7 @@
 pub mod BigEndian
 pub mod Blob
 pub mod BlobError
+pub mod Blocks
 pub mod Format
 pub mod HeaderWords
 pub mod Holds

@@ -18,7 +18,8 @@ pub(crate) fn first(bytes: &[u8], count: usize) -> &[u8]
     &bytes[..count]
 }
 
-pub(crate) fn long(bytes: &[u8]) -> u64
+/// The number in the first eight bytes, the highest first.
+pub fn long(bytes: &[u8]) -> u64
     requires { 8 ≤ length bytes.now }
     ensures { result ≡ big_number 8 bytes.now }
 {

@@ -1,42 +1,24 @@
 //! Reading a blob.
-ghost use Rattle.std.specs.Prelude.{◌≡◌, ◌≤◌, ◌+◌, ◌↔◌, ◌⊎◌, length, IfOk, IsErrOf, MatchResult, None, Some};
+ghost use Rattle.std.specs.Prelude.{◌≡◌, ◌↔◌, ◌⊎◌, IfOk, IsErrOf, MatchResult, None, Some};
 ghost use Rattle.dt_tree.specs.TreeData.{TreeData};
-ghost use Rattle.dt_blob.specs.HeaderWords.{block, header_fault, reserves_of};
+ghost use Rattle.dt_blob.specs.HeaderWords.{header_fault, reserves_of};
 ghost use Rattle.dt_blob.specs.Holds.{HaveNoEnd, Holds};
 ghost use Rattle.dt_blob.specs.Steps.Reading.{RefusesAll, tree_in};
 
 use crate::error::BlobError;
-use crate::parts::first;
-use crate::read_header::read_header;
+use crate::read_blocks::blocks_in;
 use crate::read_nodes::read_root;
 use crate::read_reserves::read_reserves;
-use dt_tree::{Tree, behind};
+use dt_tree::Tree;
 use std::alloc::Global;
-
-fn block(bytes: &[u8], place: u32, size: u32) -> &[u8]
-    requires { place + size ≤ length bytes.now }
-    ensures { result.now ≡ block place size bytes.now }
-{
-    first(behind(bytes, place as usize), size as usize)
-}
 
 fn whole(alloc: Global, bytes: &[u8]) -> Result<Tree, BlobError>
     ensures { MatchResult result (λ t. tree_in bytes.now ≡ Some t) (λ e. RefusesAll e bytes.now) }
 {
-    let header = read_header(bytes)?;
-    let blob = first(bytes, header.size as usize);
-    if header.size < header.reserves_at {
-        return Err(BlobError::BadLayout);
-    }
-    let reserves = read_reserves(alloc, behind(blob, header.reserves_at as usize))?;
-    let strings = block(bytes, header.strings_at, header.strings_size);
-    let room = header
-        .structure_size
-        .unwrap_or(header.size - header.structure_at);
-    let structure = block(bytes, header.structure_at, room);
-    let is_sized = header.structure_size.is_some();
-    let root = read_root(alloc, strings, structure, is_sized)?;
-    let tree = Tree::new(reserves, header.boot_cpu, root)?;
+    let blocks = blocks_in(bytes)?;
+    let reserves = read_reserves(alloc, blocks.reserves)?;
+    let root = read_root(alloc, blocks.strings, blocks.structure, blocks.is_sized)?;
+    let tree = Tree::new(reserves, blocks.boot_cpu, root)?;
     Ok(tree)
 }
 

@@ -1,5 +1,5 @@
 //! The tokens of the structure block, one by one.
-ghost use Rattle.std.specs.Prelude.{◌≡◌, ◌≤◌, ◌<◌, ◌^◌, length, IfOk, IfSome};
+ghost use Rattle.std.specs.Prelude.{◌≡◌, ◌≤◌, ◌<◌, ◌^◌, length, IfOk, IfSome, OnErr, None};
 ghost use Rattle.dt_blob.specs.Steps.Reading.{Gives, token_of, zero_in, padded, begin_at, string_at, value_at, property_at, token_at};
 
 use crate::error::BlobError;
@@ -10,7 +10,7 @@ use dt_tree::behind;
 
 /// A token whose texts the blob lends.
 #[derive(Clone, Copy)]
-pub(crate) enum BlobToken<'a> {
+pub enum BlobToken<'a> {
     BeginNode(&'a [u8]),
     EndNode,
     Property(&'a [u8], &'a [u8]),
@@ -37,6 +37,7 @@ fn zero_place(bytes: &[u8]) -> Option<usize>
 fn begin(bytes: &[u8]) -> Result<(BlobToken<'_>, &[u8]), BlobError>
     ensures gives { Gives (λ x. (token_of x.0, x.1.now)) result (begin_at bytes.now) }
     ensures shorter { IfOk result (λ x. length x.1.now ≤ length bytes.now) }
+    ensures none { OnErr result (begin_at bytes.now ≡ None) }
 {
     let Some(end) = zero_place(bytes) else {
         return Err(BlobError::BadString);
@@ -49,7 +50,8 @@ fn begin(bytes: &[u8]) -> Result<(BlobToken<'_>, &[u8]), BlobError>
 }
 
 fn string(strings: &[u8], place: usize) -> Result<&[u8], BlobError>
-    ensures { Gives (λ s. s.now) result (string_at strings.now place) }
+    ensures gives { Gives (λ s. s.now) result (string_at strings.now place) }
+    ensures none { OnErr result (string_at strings.now place ≡ None) }
 {
     if strings.len() < place {
         return Err(BlobError::BadString);
@@ -70,6 +72,7 @@ fn value<'a>(
     requires { size < 2 ^ 32 }
     ensures gives { Gives (λ x. (token_of x.0, x.1.now)) result (value_at strings.now size place bytes.now) }
     ensures shorter { IfOk result (λ x. length x.1.now ≤ length bytes.now) }
+    ensures none { OnErr result (value_at strings.now size place bytes.now ≡ None) }
 {
     let end = padded(size);
     if bytes.len() < end {
@@ -85,6 +88,7 @@ fn value<'a>(
 fn property<'a>(strings: &'a [u8], bytes: &'a [u8]) -> Result<(BlobToken<'a>, &'a [u8]), BlobError>
     ensures gives { Gives (λ x. (token_of x.0, x.1.now)) result (property_at strings.now bytes.now) }
     ensures shorter { IfOk result (λ x. length x.1.now ≤ length bytes.now) }
+    ensures none { OnErr result (property_at strings.now bytes.now ≡ None) }
 {
     if bytes.len() < 8 {
         return Err(BlobError::BadToken);
@@ -98,12 +102,10 @@ fn property<'a>(strings: &'a [u8], bytes: &'a [u8]) -> Result<(BlobToken<'a>, &'
 ///
 /// A cut token is `BadToken`, a name without its zero byte `BadString`.
 #[tactic(auto, unfolding(crate::specs::Steps::Reading::token_at))]
-pub(crate) fn token<'a>(
-    strings: &'a [u8],
-    bytes: &'a [u8],
-) -> Result<(BlobToken<'a>, &'a [u8]), BlobError>
+pub fn token<'a>(strings: &'a [u8], bytes: &'a [u8]) -> Result<(BlobToken<'a>, &'a [u8]), BlobError>
     ensures gives { Gives (λ x. (token_of x.0, x.1.now)) result (token_at strings.now bytes.now) }
     ensures shorter { IfOk result (λ x. length x.1.now < length bytes.now) }
+    ensures none { OnErr result (token_at strings.now bytes.now ≡ None) }
 {
     if bytes.len() < 4 {
         return Err(BlobError::BadToken);

@@ -45,6 +45,5 @@ pub mod SitesOfFounds
 pub mod SourceOrder
 pub mod SourceSteps
 pub mod SymbolsLast
-pub mod ValueFounds
 pub mod ValueSteps
 pub mod WalkOrder

@@ -20,7 +20,7 @@ use Rattle.dt_resolve.proofs.ReadOrder.{read-order}
 use Rattle.dt_build.specs.Private.Made.{founds, all_phandles}
 use Rattle.dt_build.specs.Private.Ready.{IsReady}
 use Rattle.dt_build.specs.Private.FixupSites.{all_left}
-use Rattle.dt_build.proofs.ValueFounds.{each-split, value-is, value-found}
+use Rattle.dt_resolve.proofs.ValueFounds.{each-split, value-is, value-found}
 
 abbrev targets_of : List (Definition (List Found)) → List (Option Path)
 targets_of es = flat_map (λ e. flat_map target_path e.value) es

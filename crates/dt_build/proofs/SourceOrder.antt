@@ -31,7 +31,7 @@ use Rattle.dt_build.specs.Private.SourceValues.{source_made}
 use Rattle.dt_build.specs.Private.Values.{all_uses, values_of}
 use Rattle.dt_build.proofs.MakingNodes.{lawful}
 use Rattle.dt_build.proofs.NewPhandles.{own-is}
-use Rattle.dt_build.proofs.ValueFounds.{each-split, value-is, value-found}
+use Rattle.dt_resolve.proofs.ValueFounds.{each-split, value-is, value-found}
 
 -- ---- names
 abbrev PropertiesNamed : NodeProperty Parts → Type 0

@@ -5,8 +5,8 @@ ghost use Rattle.dt_build.specs.Private.Ready.{IsReady};
 ghost use Rattle.dt_build.specs.Private.FixupSites.{AreBetween, AreSites, PutsPart, PutsAll};
 ghost use Rattle.dt_build.specs.Private.Values.{label_in, part_bytes};
 
-use crate::value::{part_size, target_at, target_count, targets_behind};
-use dt_resolve::Prepared;
+use crate::value::part_size;
+use dt_resolve::{Prepared, target_at, target_count, targets_behind};
 use dt_source::{Part, Reference};
 use std::alloc::{AllocError, Global};
 

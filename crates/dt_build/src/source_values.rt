@@ -8,9 +8,9 @@ ghost use Rattle.dt_build.specs.Private.SourceValues.{AreReady, source_made};
 ghost use Rattle.dt_build.specs.Private.Values.{values_of};
 
 use crate::node_phandles::NodePhandles;
-use crate::value::{targets_behind, value_bytes, value_size};
+use crate::value::{value_bytes, value_size};
 use dt_making::Values;
-use dt_resolve::Prepared;
+use dt_resolve::{Prepared, targets_behind};
 use dt_source::Part;
 use dt_tree::Bytes;
 use std::alloc::{AllocError, Global};

@@ -1,52 +1,16 @@
 //! The bytes of values whose references have targets.
-ghost use Rattle.std.specs.Prelude.{◌≡◌, ◌≤◌, ◌^◌, ◌-◌, ◌++◌, ◌∷◌, [], None, All, IfOk, OnOk, drop, length, min, slice_index_or};
+ghost use Rattle.std.specs.Prelude.{◌≡◌, ◌≤◌, ◌^◌, ◌-◌, ◌++◌, ◌∷◌, [], None, All, IfOk, OnOk, length, min};
 ghost use Rattle.dt_resolve.specs.Targets.{IsKnown, IsThere};
 ghost use Rattle.dt_build.specs.Private.NodePhandles.{AreNodePhandles};
 ghost use Rattle.dt_build.specs.Private.Ready.{IsReady};
-ghost use Rattle.dt_build.specs.Private.Values.{all_uses, bytes_for, part_bytes, uses};
+ghost use Rattle.dt_build.specs.Private.Values.{bytes_for, part_bytes};
 
 use crate::node_phandles::NodePhandles;
 use dt_live::{append_path, path_size};
-use dt_resolve::Prepared;
+use dt_resolve::{Prepared, target_at, target_count};
 use dt_source::Part;
-use dt_tree::{Bytes, behind};
+use dt_tree::Bytes;
 use std::alloc::{AllocError, Global};
-
-// ---- targets
-/// How many targets a part has.
-pub(crate) fn target_count(part: &Part<'_>) -> usize
-    ensures { result ≡ uses part.now }
-{
-    match part {
-        Part::Bytes(_) => 0,
-        Part::Phandle(_) => 1,
-        Part::Path(_) => 1,
-    }
-}
-
-/// The targets behind those of a value.
-pub(crate) fn targets_behind<'t>(
-    value: &[Part<'_>],
-    targets: &'t [Option<usize>],
-) -> &'t [Option<usize>]
-    ensures { result.now ≡ drop (all_uses value.now) targets.now }
-{
-    let mut count = 0;
-    for part in value {
-        count += target_count(part);
-    }
-    behind(targets, count)
-}
-
-/// The target at a place, none behind the last.
-pub(crate) fn target_at(targets: &[Option<usize>], place: usize) -> Option<usize>
-    ensures { result ≡ slice_index_or targets.now place None }
-{
-    match targets.get(place) {
-        Some(target) => *target,
-        None => None,
-    }
-}
 
 // ---- sizes
 /// How many bytes a part has, or the greatest number where there are more. Takes no memory.

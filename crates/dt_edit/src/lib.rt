@@ -9,9 +9,11 @@ mod error;
 mod fragments;
 mod items;
 mod made;
+mod standing;
 mod targets;
 
 pub use error::EditError;
 pub use fragments::{Fragments, fragments_of};
 pub use items::edit_items;
+pub use standing::Standing;
 pub use targets::target_of;

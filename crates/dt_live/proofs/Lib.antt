@@ -32,6 +32,7 @@ pub mod StandingProperties
 pub mod StandingRows
 pub mod Steps
 pub mod Tables
+pub mod TakenRows
 pub mod TreePaths
 pub mod WholeRows
 pub mod WholeTrees

@@ -1,6 +1,6 @@
 -- What the rows of a live tree stand for.
 use Rattle.std.specs.Prelude.{◌≡◌, ℕ, zero, suc, ◌<◌, ◌≤◌, Bool, true, false, not, ◌&&◌, List, [], ◌∷◌, ◌++◌, length, Option, Some, None, IsSome, if◌then◌else◌, slice_index_or, MatchOption}
-use Rattle.dt_meaning.specs.Paths.{Path, is_below}
+use Rattle.dt_meaning.specs.Paths.{Path, is_below, is_within}
 use Rattle.dt_meaning.specs.Edits.{Definition, definition, Label, labelled_at, State, has_node, with_node, with_property, without_node}
 use Rattle.dt_live.specs.declared.live_tree.NodeRow.{NodeRow}
 use Rattle.dt_live.specs.declared.live_tree.PropertyRow.{PropertyRow}
@@ -121,6 +121,12 @@ pub record Kept (p : Path) (old new : List NodeRow) : Type 0 where
   pub paths : (k : ℕ) → k ≤ length old → path_of new k ≡ path_of old k
   pub stand : (k : ℕ) → k ≤ length old → stands old k ≡ true → is_below p (path_of old k) ≡ false → stands new k ≡ true
 
+-- what stands once the node at p is gone, and all below it: rows keep their paths
+pub record Taken (p : Path) (old new : List NodeRow) : Type 0 where
+  pub count : length new ≡ length old
+  pub paths : (k : ℕ) → path_of new k ≡ path_of old k
+  pub stand : (k : ℕ) → k ≤ length old → stands new k ≡ (stands old k && not (is_within p (path_of old k)))
+
 -- ---- words for a live tree as a whole
 -- the path of a node
 abbrev pub node_path : {V : Type 0} → LiveTree V → ℕ → Path
@@ -135,6 +141,9 @@ is_standing d n = stands d.nodes.items n
 
 abbrev pub IsKept : {V : Type 0} → Path → LiveTree V → LiveTree V → Type 0
 IsKept p old new = Kept p old.nodes.items new.nodes.items
+
+abbrev pub IsTaken : {V : Type 0} → Path → LiveTree V → LiveTree V → Type 0
+IsTaken p old new = Taken p old.nodes.items new.nodes.items
 
 abbrev pub HasSameNodes : {V : Type 0} → LiveTree V → LiveTree V → Type 0
 HasSameNodes old new = new.nodes.items ≡ old.nodes.items

@@ -3,7 +3,7 @@ ghost use Rattle.std.specs.Prelude.{◌≡◌, ◌<◌, ◌==◌, not, true, IfO
 ghost use Rattle.dt_meaning.specs.Paths.{Path};
 ghost use Rattle.dt_live.specs.ByRow.{KeepsRows};
 ghost use Rattle.dt_live.specs.Index.{IsSetAt};
-ghost use Rattle.dt_live.specs.Rows.{AddsNode, HasSameChildStamps, HasSamePropertyStamps, IsLiveTree, IsKept, IsNode, RemovesNode, child_of, child_path, child_stamp, is_standing, node_path};
+ghost use Rattle.dt_live.specs.Rows.{AddsNode, HasSameChildStamps, HasSamePropertyStamps, IsLiveTree, IsKept, IsNode, IsTaken, RemovesNode, child_of, child_path, child_stamp, is_standing, node_path};
 
 use crate::live_tree::{LiveTree, NodeRow};
 use std::alloc::AllocError;
@@ -63,6 +63,7 @@ impl<'d, V: Copy> LiveTree<'d, V> {
         requires stands { is_standing self.old parent ≡ true }
         ensures sound { IsLiveTree self.new }
         ensures kept { IsKept (node_path self.old parent) self.old self.new }
+        ensures taken { IsTaken (child_path self.old parent name.now) self.old self.new }
         ensures state { RemovesNode (child_path self.old parent name.now) self.old self.new }
         ensures stamps { HasSameChildStamps self.old self.new }
         ensures others { HasSamePropertyStamps self.old self.new }
@@ -80,6 +81,7 @@ impl<'d, V: Copy> LiveTree<'d, V> {
         requires below { 0 < node }
         requires stands { is_standing self.old node ≡ true }
         ensures sound { IsLiveTree self.new }
+        ensures taken { IsTaken (node_path self.old node) self.old self.new }
         ensures state { RemovesNode (node_path self.old node) self.old self.new }
         ensures stamps { HasSameChildStamps self.old self.new }
         ensures others { HasSamePropertyStamps self.old self.new }

@@ -20,6 +20,7 @@ mod reserved;
 mod rows;
 
 pub use flattening::flatten;
+pub use index::{Index, IndexEntry};
 pub use labels::LabelError;
 pub use laws::{
     child_look_up, lawful_names, property_look_up, rows_of_a_flattened_tree, run_below,

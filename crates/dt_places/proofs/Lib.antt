@@ -1,2 +1,14 @@
-pub mod AtPlaces
-pub mod PlacedOrder
+pub mod LabelEdits
+pub mod NewNodes
+pub mod NewTree
+pub mod NodeEdits
+pub mod NodeSteps
+pub mod NodesAdded
+pub mod NodesMade
+pub mod NodesRemoved
+pub mod Owners
+pub mod PlaceClimbs
+pub mod PlaceLists
+pub mod PropertyEdits
+pub mod RowTables
+pub mod SeenRows

@@ -1,1 +1,4 @@
-pub mod PlacedNodes
+pub mod PlacedEdits
+pub mod PlacedTrees
+pub mod Rows
+pub mod Tables

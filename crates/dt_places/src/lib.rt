@@ -1,8 +1,17 @@
 //! The tree while a source in dtc's language edits it: what is removed keeps its place.
 #![tactic(auto)]
 
-mod order;
+mod error;
+mod labels;
+mod marks;
+mod nodes;
+mod place;
 mod placed_tree;
+mod properties;
+mod table;
 
-pub use order::nodes_in_order;
-pub use placed_tree::{PlacedNode, PlacedTree};
+pub use error::PlaceError;
+pub use nodes::MadeNode;
+pub use place::Place;
+pub use placed_tree::PlacedTree;
+pub use table::{Entry, Table};

@@ -1,65 +1,51 @@
-//! Two live trees: what stands, and all places.
-ghost use Rattle.std.specs.Prelude.{◌≡◌, ◌<◌, [], IfOk, OnOk};
-ghost use Rattle.dt_meaning.specs.Paths.{is_within, same_path};
-ghost use Rattle.dt_meaning.specs.Places.{all_removed, put_in_place};
-ghost use Rattle.dt_places.specs.PlacedNodes.{IsAt, IsPlacedTree, child_at, node_rows, path_at};
+//! The tree while a source in dtc's language edits it.
+ghost use Rattle.std.specs.Prelude.{◌≡◌, List, [], false};
+ghost use Rattle.dt_meaning.specs.Syntax.{Piece};
+ghost use Rattle.dt_meaning.specs.DtcEdits.{nothing};
+ghost use Rattle.dt_places.specs.PlacedTrees.{IsPlacedTree, dtc_tree};
+ghost use Rattle.dt_places.specs.Tables.{rows_in};
 
-use dt_live::LiveTree;
-use std::alloc::{AllocError, Global};
+use crate::table::Table;
+use dt_live::Index;
+use std::alloc::Global;
 use std::hash::RandomState;
 
-/// A node that stands, and its place.
-#[derive(Clone, Copy)]
-pub struct PlacedNode {
-    pub node: usize,
-    pub place: usize,
-}
-
-/// The tree of what stands, which is edited as in the profile, and the tree of all places, from which nothing is removed.
+/// The rows of nodes, properties and labels, each at the place where its name was met first. What is removed is marked, and nothing
+/// below it is visited: whether it stands is found by climbing to the root.
 #[derive(Drop)]
 pub struct PlacedTree<'d, V> {
-    pub(crate) standing: LiveTree<'d, V>,
-    pub(crate) places: LiveTree<'d, ()>,
+    // node n has row n - 1; node 0 is the root
+    pub(crate) nodes: Table<'d, ()>,
+    pub(crate) properties: Table<'d, V>,
+    pub(crate) labels: Table<'d, ()>,
+    // the first row of each label
+    pub(crate) heads: Index<'d>,
+    // the nodes before which `/omit-if-no-ref/` counts
+    pub(crate) marks: Vec<usize>,
+    // a node gets a tick of its own each time that it is made
+    pub(crate) clock: usize,
+    pub(crate) fragments: usize,
+    // whether the root is there
+    pub(crate) begun: bool,
 }
 
 impl<'d, V: Copy> PlacedTree<'d, V> {
-    /// A root without places below it.
+    /// Before the first item not even the root is there.
     pub fn new(alloc: Global, hasher: RandomState) -> Self
         ensures sound { IsPlacedTree result }
-        ensures rows { node_rows result ≡ [] }
+        ensures rows { rows_in result.nodes ≡ [] }
+        ensures begun { result.begun ≡ false }
+        ensures tree { (read : V → List Piece) → dtc_tree read result ≡ nothing }
     {
         PlacedTree {
-            standing: LiveTree::new(alloc, hasher),
-            places: LiveTree::new(alloc, hasher),
+            nodes: Table::new(alloc, hasher),
+            properties: Table::new(alloc, hasher),
+            labels: Table::new(alloc, hasher),
+            heads: Index::new(alloc, hasher),
+            marks: Vec::new(alloc),
+            clock: 1,
+            fragments: 0,
+            begun: false,
         }
-    }
-
-    /// The child of this name, at the place that it has, or at a new one behind the others.
-    pub fn make_node(
-        &mut self,
-        parent: PlacedNode,
-        name: &'d [u8],
-        stamp: usize,
-    ) -> Result<PlacedNode, AllocError>
-        requires sound { IsPlacedTree self.old }
-        requires parent { IsAt self.old parent }
-        ensures sound { OnOk result (IsPlacedTree self.new) }
-        ensures at { IfOk result (IsAt self.new) }
-        ensures rows { OnOk result (node_rows self.new ≡ put_in_place (same_path (child_at self.old parent name.now)) (child_at self.old parent name.now) (node_rows self.old)) }
-    {
-        let (node, _) = self.standing.define_child(parent.node, name, stamp)?;
-        let (place, _) = self.places.define_child(parent.place, name, 0)?;
-        Ok(PlacedNode { node, place })
-    }
-
-    /// Removes a node below the root, and all below it. They keep their places.
-    pub fn remove_node(&mut self, node: PlacedNode)
-        requires sound { IsPlacedTree self.old }
-        requires node { IsAt self.old node }
-        requires below { 0 < node.node }
-        ensures sound { IsPlacedTree self.new }
-        ensures rows { node_rows self.new ≡ all_removed (is_within (path_at self.old node)) (node_rows self.old) }
-    {
-        self.standing.remove_node(node.node);
     }
 }

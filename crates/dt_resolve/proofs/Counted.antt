@@ -26,7 +26,7 @@ module _ (n : ℕ) (s : State (List Piece)) where
   counted-parts : (plugin : Bool) → found_in plugin (counted n s) ≡ found_in plugin s
   counted-parts plugin = λ i v. counted-part plugin v i
 
-  counted-references : (plugin : Bool) → references plugin (counted n s) ≡ references plugin s
+  pub counted-references : (plugin : Bool) → references plugin (counted n s) ≡ references plugin s
   counted-references plugin = ap (λ f. each (λ e. then_do (each f e.value) (λ v. Ok (definition e.path e.name v))) (in_order s)) (counted-parts plugin)
 
   pub counted-resolved : (symbols plugin : Bool) → resolved_state symbols plugin (counted n s) ≡ resolved_state symbols plugin s

@@ -1,25 +1,25 @@
 -- Phandles and targets together.
-use Rattle.std.proofs.Common.{◌≡◌, ℕ, ◌==◌, ◌++◌, ◌&&◌, ◌||◌, not, Bool, true, false, if◌then◌else◌, List, [], ◌∷◌, length, map, Result, Ok, Err, refl, sym, ap, ap₂, ◌∙◌, subst}
+use Rattle.std.proofs.Common.{◌≡◌, ℕ, ◌==◌, ◌++◌, ◌&&◌, ◌||◌, not, Bool, true, false, if◌then◌else◌, List, [], ◌∷◌, length, map, Result, Ok, Err, refl, sym, ap, ap₂, ◌∙◌}
 use Rattle.std.specs.List.{list_any}
 use Rattle.std.specs.Prelude.{All}
 use Rattle.std.proofs.lemmas.List.{length-map}
 use Rattle.dt_tree.specs.Steps.{then_do}
 use Rattle.dt_meaning.specs.Edits.{Definition}
 use Rattle.dt_meaning.specs.Statements.{Fault, ReservedName}
-use Rattle.dt_meaning.specs.Phandles.{PathPhandle, has_phandle, new_ones, assigned, labelled, wanted}
+use Rattle.dt_meaning.specs.Phandles.{PathPhandle, assigned, labelled, named_in_cells, new_ones}
 use Rattle.dt_meaning.specs.References.{Found, preorder}
 use Rattle.dt_live.specs.declared.live_tree.LiveTree.{LiveTree}
 use Rattle.dt_live.specs.Index.{row_of}
 use Rattle.dt_live.specs.Rows.{IsLiveTree, IsNode, is_standing, node_path, path_of, state_of}
 use Rattle.dt_edit.specs.Said.{Parts, tree_of}
 use Rattle.dt_resolve.specs.declared.error.BuildError.{BuildError}
+use Rattle.dt_resolve.specs.declared.node_phandles.Given.{Given}
 use Rattle.dt_resolve.specs.declared.node_phandles.NodePhandle.{NodePhandle}
 use Rattle.dt_resolve.specs.declared.references.Targets.{Targets}
 use Rattle.dt_resolve.specs.BuildFault.{IsFault}
 use Rattle.dt_resolve.specs.NodePhandles.{AreStanding, path_phandle_of}
 use Rattle.dt_resolve.specs.Targets.{AreFound}
-use Rattle.dt_resolve.specs.Private.Targets.{AreTargets}
-use Rattle.dt_resolve.specs.Private.Wanted.{free_after, labelled_rows, new_rows, assigned_rows}
+use Rattle.dt_resolve.specs.Private.Wanted.{HasTaken, free_after, is_taken, labelled_rows, new_phandles, new_rows, assigned_rows, numbered, phandles_of}
 use Rattle.dt_live.proofs.Each.{Each, each-all, each-append, each-kept, each-of, each-when}
 use Rattle.dt_tree.specs.Phandle.{is_reserved}
 use Rattle.std.specs.List.{filter}
@@ -42,30 +42,12 @@ when-labelled d sound true order up at =
     ∙ ap (filter (λ p. list_any (λ l. same_path p l.path) (state_of d).labels && not (is_reserved p))) at
 when-labelled d sound false order up at = refl
 
-module _ (d : LiveTree Parts) (sound : IsLiveTree d) (given : List NodePhandle) (up : AreStanding d.nodes.items given) (es : List (Definition (List Found))) (t : Targets) (at : AreFound d es t) (known : AreTargets d t)
-    (taken : ℕ → Bool) (same : (n : ℕ) → taken n ≡ has_phandle n (map (path_phandle_of d.nodes.items) given))
-    (symbols : Bool) (order : List ℕ) (there : All (λ n. is_standing d n ≡ true) order) (nodes : map (node_path d) order ≡ preorder (state_of d).nodes) where
-  abbrev named : List ℕ
-  named = t.cells.items ++ (if symbols then labelled_rows d order else [])
-
-  abbrev xs : List PathPhandle
-  xs = map (path_phandle_of d.nodes.items) given
-
-  wanted-same : map (path_of d.nodes.items) (new_rows (λ n. list_any (λ x. x.node == n) given) named) ≡ wanted symbols (tree_of d) xs es
-  wanted-same =
-      news-same d.nodes.items (row_of d.node_rows) sound.grown sound.nodes (λ n. list_any (λ x. x.node == n) given) (map (λ x. x.path) xs)
-      (given-same d.nodes.items (row_of d.node_rows) sound.grown sound.nodes given (each-assigned d.nodes.items given up.stand)) named
-      (named-within (λ n. is_standing d n ≡ true) d symbols t.cells.items order known.there there)
-      ∙ ap (new_ones (map (λ x. x.path) xs))
-      (map-append (node_path d) t.cells.items (if symbols then labelled_rows d order else [])
-      ∙ ap₂ (λ a b. a ++ b) at.cells (when-labelled d sound symbols order (each-of (λ n. is_standing d n ≡ true) order there) nodes))
-
-  pub all-assigned : (new : List NodePhandle) → new ≡ assigned_rows taken (length given) 0 (new_rows (λ n. list_any (λ x. x.node == n) given) named)
-      → map (path_phandle_of d.nodes.items) new ≡ assigned xs 0 (wanted symbols (tree_of d) xs es)
-  all-assigned new is =
-      ap (map (path_phandle_of d.nodes.items)) is
-      ∙ phandles-same d.nodes.items taken xs (length given) same (sym (length-map given (path_phandle_of d.nodes.items))) 0 (new_rows (λ n. list_any (λ x. x.node == n) given) named)
-      ∙ ap (assigned xs 0) wanted-same
+-- those that are named, by their paths
+pub named-paths : (d : LiveTree Parts) → IsLiveTree d → (es : List (Definition (List Found))) (t : Targets) → AreFound d es t → (symbols : Bool) (order : List ℕ) → All (λ n. is_standing d n ≡ true) order → map (node_path d) order ≡ preorder (state_of d).nodes
+    → map (node_path d) (t.cells.items ++ (if symbols then labelled_rows d order else [])) ≡ named_in_cells es ++ (if symbols then labelled (tree_of d) else [])
+named-paths d sound es t at symbols order there nodes =
+    map-append (node_path d) t.cells.items (if symbols then labelled_rows d order else [])
+    ∙ ap₂ (λ a b. a ++ b) at.cells (when-labelled d sound symbols order (each-of (λ n. is_standing d n ≡ true) order there) nodes)
 
 -- ---- each that has a phandle is a node of the tree
 new-by : (P : ℕ → Type 0) (known : ℕ → Bool) (n : ℕ) (ns : List ℕ) (b : Bool) → P n → Each P (new_rows known ns) → Each P (new_rows (λ m. (m == n) || known m) ns)
@@ -81,20 +63,36 @@ each-row : (P : ℕ → Type 0) (taken : ℕ → Bool) (tries n : ℕ) (ks : Lis
 each-row P taken tries n [] h = tt
 each-row P taken tries n (k ∷ ks) h = (h.0, each-row P taken tries (free_after taken tries n) ks h.1)
 
-pub new-standing : (d : LiveTree Parts) (t : Targets) → AreTargets d t → (symbols : Bool) (order : List ℕ) → All (λ n. IsNode d n) order → All (λ n. is_standing d n ≡ true) order
-    → (known taken : ℕ → Bool) (tries : ℕ) (new : List NodePhandle) → new ≡ assigned_rows taken tries 0 (new_rows known (t.cells.items ++ (if symbols then labelled_rows d order else [])))
-    → AreStanding d.nodes.items new
-new-standing d t at symbols order within there known taken tries new is =
-    let named = t.cells.items ++ (if symbols then labelled_rows d order else []) in
-    let wants = new_rows known named in
-    let rows = assigned_rows taken tries 0 wants in
-    subst (λ (xs : List NodePhandle). AreStanding d.nodes.items xs) (sym is) (record {
-      known = each-all (λ (x : NodePhandle). IsNode d x.node) rows
-          (each-row (λ n. IsNode d n) taken tries 0 wants (each-new (λ n. IsNode d n) known named (named-within (λ n. IsNode d n) d symbols t.cells.items order at.known within)));
-      stand = each-all (λ (x : NodePhandle). is_standing d x.node ≡ true) rows
-          (each-row (λ n. is_standing d n ≡ true) taken tries 0 wants
-          (each-new (λ n. is_standing d n ≡ true) known named (named-within (λ n. is_standing d n ≡ true) d symbols t.cells.items order at.there there)));
-    })
+-- ---- nodes that get numbers
+module _ (d : LiveTree Parts) (sound : IsLiveTree d) (given : Given) (up : AreStanding d.nodes.items given.phandles.items) (taken : HasTaken d.nodes.items given) (last : ℕ)
+    (nodes : List ℕ) (known : All (λ n. IsNode d n) nodes) (there : All (λ n. is_standing d n ≡ true) nodes) where
+  abbrev xs : List PathPhandle
+  xs = phandles_of d.nodes.items given
+
+  abbrev wants : List ℕ
+  wants = new_rows (λ n. list_any (λ x. x.node == n) given.phandles.items) nodes
+
+  abbrev rows : List NodePhandle
+  rows = new_phandles given last wants
+
+  wants-same : map (path_of d.nodes.items) wants ≡ new_ones (map (λ x. x.path) xs) (map (node_path d) nodes)
+  wants-same =
+      news-same d.nodes.items (row_of d.node_rows) sound.grown sound.nodes (λ n. list_any (λ x. x.node == n) given.phandles.items) (map (λ x. x.path) xs)
+      (given-same d.nodes.items (row_of d.node_rows) sound.grown sound.nodes given.phandles.items (each-assigned d.nodes.items given.phandles.items up.stand)) nodes
+      (each-of (λ n. is_standing d n ≡ true) nodes there)
+
+  pub all-numbered : map (path_phandle_of d.nodes.items) rows ≡ numbered xs last (map (node_path d) nodes)
+  all-numbered =
+      phandles-same d.nodes.items (is_taken given.taken) xs (length given.phandles.items) taken (sym (length-map given.phandles.items (path_phandle_of d.nodes.items))) last wants
+      ∙ ap (assigned xs last) wants-same
+
+  pub all-standing : AreStanding d.nodes.items rows
+  all-standing = record {
+    known = each-all (λ (x : NodePhandle). IsNode d x.node) rows
+        (each-row (λ n. IsNode d n) (is_taken given.taken) (length given.phandles.items) last wants (each-new (λ n. IsNode d n) (λ n. list_any (λ x. x.node == n) given.phandles.items) nodes (each-of (λ n. IsNode d n) nodes known)));
+    stand = each-all (λ (x : NodePhandle). is_standing d x.node ≡ true) rows
+        (each-row (λ n. is_standing d n ≡ true) (is_taken given.taken) (length given.phandles.items) last wants (each-new (λ n. is_standing d n ≡ true) (λ n. list_any (λ x. x.node == n) given.phandles.items) nodes (each-of (λ n. is_standing d n ≡ true) nodes there)));
+  }
 
 -- a fault of the references, where the phandles have none
 pub fault-behind : (e : BuildError) (r : Result (List PathPhandle) Fault) (q : Result (List (Definition (List Found))) Fault) (given : List PathPhandle) → r ≡ Ok given → IsFault e q → IsFault e (then_do r (λ _. q))

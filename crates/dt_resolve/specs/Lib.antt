@@ -1,5 +1,7 @@
 pub mod BuildError
 pub mod BuildFault
+pub mod Founds
+pub mod Gathered
 pub mod Laws
 pub mod NodePhandles
 pub mod Prepared

@@ -1,9 +1,10 @@
 //! The nodes that have labels.
-ghost use Rattle.std.specs.Prelude.{◌≡◌, ◌<◌, ◌==◌, All, IfOk, length};
+ghost use Rattle.std.specs.Prelude.{◌≡◌, ◌+◌, ◌<◌, ◌==◌, All, IfOk, length};
 ghost use Rattle.std.specs.List.{list_any};
 ghost use Rattle.dt_live.specs.Rows.{IsLiveTree, IsNode};
 ghost use Rattle.dt_resolve.specs.NodePhandles.{AreMarks};
-ghost use Rattle.dt_resolve.specs.Private.Wanted.{labelled_rows, named_rows};
+ghost use Rattle.dt_resolve.specs.Private.Wanted.{labelled_rows, marked_rows, named_rows};
+ghost use Rattle.dt_resolve.specs.Private.Gone.{is_marked};
 
 use dt_live::{LabelRow, LiveTree, is_reserved};
 use dt_source::Part;
@@ -26,6 +27,29 @@ fn label_marks(
     Ok(marks)
 }
 
+/// The nodes of a list that are marked, without the reserved ones.
+pub(crate) fn marked_nodes<'d, 't>(
+    alloc: Global,
+    live: &LiveTree<'d, &'d [Part<'t>]>,
+    order: &[usize],
+    marks: &[bool],
+) -> Result<Vec<usize>, AllocError>
+    requires sound { IsLiveTree live.now }
+    requires known { All (λ n. IsNode live.now n) order.now }
+    requires marks { length marks.now ≡ length live.now.nodes.items + 1 }
+    ensures { IfOk result (λ nodes. nodes.items ≡ marked_rows live.now (is_marked marks.now) order.now) }
+{
+    let mut nodes = Vec::new(alloc);
+    for node in order {
+        if marks[*node] {
+            if !is_reserved(live.nodes(), *node) {
+                nodes.push(*node)?;
+            }
+        }
+    }
+    Ok(nodes)
+}
+
 /// The nodes of a list that have labels, without the reserved ones.
 pub(crate) fn labelled_nodes<'d, 't>(
     alloc: Global,
@@ -37,15 +61,7 @@ pub(crate) fn labelled_nodes<'d, 't>(
     ensures { IfOk result (λ nodes. nodes.items ≡ labelled_rows live.now order.now) }
 {
     let marks = label_marks(alloc, live.nodes().len() + 1, live.labels())?;
-    let mut nodes = Vec::new(alloc);
-    for node in order {
-        if marks[*node] {
-            if !is_reserved(live.nodes(), *node) {
-                nodes.push(*node)?;
-            }
-        }
-    }
-    Ok(nodes)
+    marked_nodes(alloc, live, order, marks.as_slice())
 }
 
 /// The nodes that are named in cells, and with symbols the labelled ones behind them.

@@ -4,19 +4,27 @@
 #![tactic(auto)]
 
 mod error;
+mod gathered;
+mod given_by_both;
+mod gone;
 mod labelled;
 mod laws;
+mod leaving;
 mod names;
 mod node_phandles;
+mod parts;
 mod phandle;
 mod prepared;
 mod references;
 mod resolving;
+mod symbol_numbers;
 mod wanted;
 
 pub use error::BuildError;
+pub use gathered::{Gathered, gather};
 pub use laws::phandles_in_order;
 pub use node_phandles::{Given, NodePhandle};
+pub use parts::{target_at, target_count, targets_behind};
 pub use prepared::{Prepared, prepare};
 pub use references::Targets;
 pub use resolving::Resolution;

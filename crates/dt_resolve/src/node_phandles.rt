@@ -26,7 +26,7 @@ pub struct Given {
 }
 
 /// Adds a phandle, and answers whether it is new.
-fn take(taken: &mut BTreeSet<u32>, phandle: u32) -> Result<bool, AllocError>
+pub(crate) fn take(taken: &mut BTreeSet<u32>, phandle: u32) -> Result<bool, AllocError>
     ensures new { IfOk result (λ new. new ≡ not (is_taken taken.old phandle)) }
     ensures taken { OnOk result ((n : ℕ) → is_taken taken.new n ≡ ((phandle == n) || is_taken taken.old n)) }
 {

@@ -12,7 +12,7 @@ use crate::labelled::named_nodes;
 use crate::names::is_name_taken;
 use crate::node_phandles::{Given, NodePhandle, given_phandles};
 use crate::references::{Targets, find_targets};
-use crate::wanted::{assign_phandles, wanting};
+use crate::wanted::number_nodes;
 use dt_live::{LiveTree, NodeProperty};
 use dt_source::Part;
 use std::alloc::Global;
@@ -57,10 +57,8 @@ pub(crate) fn resolve<'d, 't>(
         Ok(targets) => targets,
         Err(error) => return Err(error),
     };
-    let count = live.nodes().len() + 1;
     let named = named_nodes(alloc, live, order, targets.cells.as_slice(), symbols)?;
-    let nodes = wanting(alloc, count, given.phandles.as_slice(), named.as_slice())?;
-    let new = assign_phandles(alloc, &given, nodes.as_slice())?;
+    let new = number_nodes(alloc, live, &given, 0, named.as_slice())?;
     Ok(Resolution {
         given,
         targets,

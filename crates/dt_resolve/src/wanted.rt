@@ -1,10 +1,13 @@
 //! The nodes that want a phandle, and the phandles that they get.
-ghost use Rattle.std.specs.Prelude.{IfSome, ◌≡◌, ◌<◌, All, IfOk, length, ◌==◌};
+ghost use Rattle.std.specs.Prelude.{IfSome, ◌≡◌, ◌<◌, All, IfOk, length, map, true, ◌==◌};
 ghost use Rattle.std.specs.List.{list_any};
-ghost use Rattle.dt_resolve.specs.NodePhandles.{AreMarks};
-ghost use Rattle.dt_resolve.specs.Private.Wanted.{free_after, is_taken, new_phandles, new_rows};
+ghost use Rattle.dt_live.specs.Rows.{IsLiveTree, IsNode, is_standing, node_path};
+ghost use Rattle.dt_resolve.specs.NodePhandles.{AreMarks, AreStanding, path_phandle_of};
+ghost use Rattle.dt_resolve.specs.Private.Wanted.{HasTaken, free_after, is_taken, new_phandles, new_rows, numbered, phandles_of};
 
 use crate::node_phandles::{Given, NodePhandle};
+use dt_live::LiveTree;
+use dt_source::Part;
 use std::alloc::{AllocError, Global};
 use std::collections::BTreeSet;
 
@@ -25,8 +28,8 @@ pub fn nodes_with_phandles(
     Ok(marks)
 }
 
-/// The nodes of a list that have no phandle from the source, each once, where it is first.
-pub(crate) fn wanting(
+// The nodes of a list that have no phandle from the source, each once, where it is first.
+fn wanting(
     alloc: Global,
     count: usize,
     given: &[NodePhandle],
@@ -62,16 +65,17 @@ fn free_phandle(taken: &BTreeSet<u32>, tries: usize, last: u32) -> Option<u32>
     Some(phandle)
 }
 
-/// Gives each node the next phandle that no property gives.
-pub(crate) fn assign_phandles(
+// Gives each node the next phandle above the last one that isn't given.
+fn assign_phandles(
     alloc: Global,
     given: &Given,
+    last: u32,
     nodes: &[usize],
 ) -> Result<Vec<NodePhandle>, AllocError>
-    ensures { IfOk result (λ phandles. phandles.items ≡ new_phandles given.now nodes.now) }
+    ensures { IfOk result (λ phandles. phandles.items ≡ new_phandles given.now last nodes.now) }
 {
     let mut phandles = Vec::with_capacity(alloc, nodes.len())?;
-    let mut last = 0;
+    let mut last = last;
     for node in nodes {
         last = match free_phandle(&given.taken, given.phandles.len(), last) {
             Some(phandle) => phandle,
@@ -83,4 +87,26 @@ pub(crate) fn assign_phandles(
         })?;
     }
     Ok(phandles)
+}
+
+/// Gives each node of a list that has no phandle the next one above the last that isn't given, in their order.
+pub(crate) fn number_nodes<'d, 't>(
+    alloc: Global,
+    live: &LiveTree<'d, &'d [Part<'t>]>,
+    given: &Given,
+    last: u32,
+    nodes: &[usize],
+) -> Result<Vec<NodePhandle>, AllocError>
+    requires sound { IsLiveTree live.now }
+    requires owners { AreStanding live.now.nodes.items given.now.phandles.items }
+    requires taken { HasTaken live.now.nodes.items given.now }
+    requires known { All (λ n. IsNode live.now n) nodes.now }
+    requires there { All (λ n. is_standing live.now n ≡ true) nodes.now }
+    ensures stand { IfOk result (λ new. AreStanding live.now.nodes.items new.items) }
+    ensures numbers { IfOk result (λ new. map (path_phandle_of live.now.nodes.items) new.items ≡ numbered (phandles_of live.now.nodes.items given.now) last (map (node_path live.now) nodes.now)) }
+{
+    let count = live.nodes().len() + 1;
+    let wanted = wanting(alloc, count, given.phandles.as_slice(), nodes)?;
+    let new = assign_phandles(alloc, given, last, wanted.as_slice())?;
+    Ok(new)
 }

@@ -10,6 +10,8 @@ mod dtc;
 #[cfg(test)]
 mod expressions;
 #[cfg(test)]
+mod gathered;
+#[cfg(test)]
 mod lexemes;
 #[cfg(test)]
 mod places;

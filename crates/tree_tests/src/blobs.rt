@@ -155,7 +155,7 @@ fn changed_blob(rt: HostRuntime) {
 }
 
 // A place in one-cell's blob, the word that is put there, and the number of the refusal.
-const CHANGED: &[(usize, u32, u8)] = &[
+pub(crate) const CHANGED: &[(usize, u32, u8)] = &[
     (0x24, 0xffff_fffc, 33),
     (0x24, 0x1c, 34),
     (0x10, 0x48, 33),
@@ -214,7 +214,7 @@ fn every_cut(rt: HostRuntime) {
 }
 
 // What is wrong with a structure block, its words, and the number of the refusal.
-const BAD_TOKENS: &[(&str, &[u32], u8)] = &[
+pub(crate) const BAD_TOKENS: &[(&str, &[u32], u8)] = &[
     (
         "a property after a child",
         &[1, 0, 1, 0x6e00_0000, 2, 3, 0, 0, 2, 9],

@@ -19,3 +19,5 @@ mod merges;
 mod trees;
 #[cfg(test)]
 mod versions;
+#[cfg(test)]
+mod views;

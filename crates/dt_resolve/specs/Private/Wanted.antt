@@ -4,7 +4,8 @@ use Rattle.std.specs.List.{list_any, filter}
 use Rattle.std.specs.Ordering.{nat_cmp}
 use Rattle.std.specs.BTreeSet.{BTreeSet, contains}
 use Rattle.dt_tree.specs.Phandle.{is_reserved}
-use Rattle.dt_meaning.specs.Phandles.{PathPhandle, given_of, has_phandle}
+use Rattle.dt_meaning.specs.Paths.{Path}
+use Rattle.dt_meaning.specs.Phandles.{PathPhandle, assigned, given_of, has_phandle, new_ones}
 use Rattle.dt_live.specs.declared.live_tree.LiveTree.{LiveTree}
 use Rattle.dt_live.specs.declared.live_tree.NodeRow.{NodeRow}
 use Rattle.dt_live.specs.declared.preorder.properties.NodeProperty.{NodeProperty}
@@ -51,14 +52,22 @@ abbrev pub assigned_rows : (ℕ → Bool) → ℕ → ℕ → List ℕ → List 
 assigned_rows taken tries n [] = []
 assigned_rows taken tries n (k ∷ ks) = record { node = k; phandle = free_after taken tries n } ∷ assigned_rows taken tries (free_after taken tries n) ks
 
--- the nodes of a list that have labels, without the reserved ones
+-- the nodes of a list that pass, without the reserved ones
+abbrev pub marked_rows : LiveTree Parts → (ℕ → Bool) → List ℕ → List ℕ
+marked_rows d test order = filter (λ n. test n && not (is_reserved (node_path d n))) order
+
+-- those that have labels
 abbrev pub labelled_rows : LiveTree Parts → List ℕ → List ℕ
-labelled_rows d order = filter (λ n. list_any (λ r. r.node == n) d.labels.items && not (is_reserved (node_path d n))) order
+labelled_rows d order = marked_rows d (λ n. list_any (λ r. r.node == n) d.labels.items) order
 
 -- the nodes that are named in cells, and with symbols the labelled ones behind them
 abbrev pub named_rows : LiveTree Parts → List ℕ → List ℕ → Bool → List ℕ
 named_rows d order cells symbols = cells ++ (if symbols then labelled_rows d order else [])
 
--- each node gets the next phandle that isn't given
-abbrev pub new_phandles : Given → List ℕ → List NodePhandle
-new_phandles given ns = assigned_rows (is_taken given.taken) (length given.phandles.items) 0 ns
+-- each node gets the next phandle above n that isn't given
+abbrev pub new_phandles : Given → ℕ → List ℕ → List NodePhandle
+new_phandles given n ns = assigned_rows (is_taken given.taken) (length given.phandles.items) n ns
+
+-- those of a list that have none get one, in their order
+abbrev pub numbered : List PathPhandle → ℕ → List Path → List PathPhandle
+numbered given n ps = assigned given n (new_ones (map (λ x. x.path) given) ps)

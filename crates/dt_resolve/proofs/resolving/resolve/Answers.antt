@@ -1,19 +1,19 @@
-use Rattle.std.proofs.Common.{◌≡◌, ◌∙◌, ◌==◌, ◌++◌, if◌then◌else◌, [], ℕ, List, map, length, Ok, sym, ap, ap₂, subst, arith}
+use Rattle.std.proofs.Common.{◌≡◌, ◌∙◌, ◌==◌, ◌++◌, if◌then◌else◌, [], ℕ, List, map, true, Ok, sym, ap, ap₂, subst, arith}
 use Rattle.std.specs.List.{list_any}
 use Rattle.dt_meaning.specs.Phandles.{given_of, has_phandle}
 use Rattle.dt_meaning.specs.References.{found_value, in_order, references}
 use Rattle.dt_meaning.specs.Resolved.{names_taken}
 use Rattle.dt_tree.specs.Steps.{then_do, each}
 use Rattle.dt_live.specs.declared.live_tree.NodeRow.{NodeRow}
-use Rattle.dt_live.specs.Rows.{IsNode}
+use Rattle.dt_live.specs.Rows.{IsNode, is_standing, node_path}
 use Rattle.dt_live.proofs.Each.{Each, each-all}
 use Rattle.dt_edit.specs.Said.{tree_of}
 use Rattle.dt_resolve.specs.declared.node_phandles.NodePhandle.{NodePhandle}
 use Rattle.dt_resolve.specs.NodePhandles.{AreStanding, path_phandle_of}
-use Rattle.dt_resolve.specs.Private.Wanted.{is_taken, labelled_rows, new_rows, assigned_rows}
+use Rattle.dt_resolve.specs.Private.Wanted.{HasTaken, labelled_rows, numbered}
 use Rattle.dt_resolve.specs.Private.ReadProperty.{read_property}
 use Rattle.dt_resolve.proofs.Faults.{fault-then, fault-same}
-use Rattle.dt_resolve.proofs.Joined.{all-assigned, fault-behind, free-fault, named-within, new-standing}
+use Rattle.dt_resolve.proofs.Joined.{fault-behind, free-fault, named-paths, named-within}
 use Rattle.dt_resolve.proofs.ReadOrder.{read-order}
 use Rattle.dt_resolve.proofs.resolving.resolve.Goals as goal
 
@@ -40,29 +40,28 @@ returns-in-Err-find_targets-clause-resolved c =
     (fault-behind e (given_of (in_order (tree_of d)) []) (references c.args.plugin (tree_of d)) phandles given
     (fault-same e (each (found_value c.args.plugin (tree_of d)) (map (read_property d.nodes.items) xs)) (references c.args.plugin (tree_of d)) (ap (each (found_value c.args.plugin (tree_of d))) (sym order)) c.in-Err-find_targets.ensures.targets))
 
-pub wanting-requires-clause-named : goal.wanting-requires-clause-named
-wanting-requires-clause-named c k x below =
+pub number_nodes-requires-clause-owners : goal.number_nodes-requires-clause-owners
+number_nodes-requires-clause-owners c = subst (λ (rows : List NodeRow). AreStanding rows c.in-Ok.given.phandles.items) c.nodes.ensures c.in-Ok.ensures.owners
+
+pub number_nodes-requires-clause-taken : goal.number_nodes-requires-clause-taken
+number_nodes-requires-clause-taken c = subst (λ (rows : List NodeRow). HasTaken rows c.in-Ok.given) c.nodes.ensures c.in-Ok.ensures.taken
+
+pub number_nodes-requires-clause-known : goal.number_nodes-requires-clause-known
+number_nodes-requires-clause-known c =
     let d = c.args.live.now in
-    let named = c.as_slice-3.ensures.value ∙ c.in_ok-named.ensures ∙ ap (λ (ns : List ℕ). ns ++ (if c.args.symbols then labelled_rows d c.args.order.now else [])) c.as_slice.ensures.value in
-    let all = subst (λ (ns : List ℕ). Each (λ n. IsNode d n) ns) (sym named)
-    (named-within (λ n. IsNode d n) d c.args.symbols c.in-Ok-find_targets.targets.cells.items c.args.order.now c.in-Ok-find_targets.ensures.known.known c.requires.known) in
-    omega (arith, ap length c.nodes-2.ensures, each-all (λ n. IsNode d n) c.as_slice-3.result.now all k x below)
+    let named = c.as_slice-2.ensures.value ∙ c.in_ok-named.ensures ∙ ap (λ (ns : List ℕ). ns ++ (if c.args.symbols then labelled_rows d c.args.order.now else [])) c.as_slice.ensures.value in
+    each-all (λ n. IsNode d n) c.as_slice-2.result.now (subst (λ (ns : List ℕ). Each (λ n. IsNode d n) ns) (sym named)
+    (named-within (λ n. IsNode d n) d c.args.symbols c.in-Ok-find_targets.targets.cells.items c.args.order.now c.in-Ok-find_targets.ensures.known.known c.requires.known))
+
+pub number_nodes-requires-clause-there : goal.number_nodes-requires-clause-there
+number_nodes-requires-clause-there c =
+    let d = c.args.live.now in
+    let named = c.as_slice-2.ensures.value ∙ c.in_ok-named.ensures ∙ ap (λ (ns : List ℕ). ns ++ (if c.args.symbols then labelled_rows d c.args.order.now else [])) c.as_slice.ensures.value in
+    each-all (λ n. is_standing d n ≡ true) c.as_slice-2.result.now (subst (λ (ns : List ℕ). Each (λ n. is_standing d n ≡ true) ns) (sym named)
+    (named-within (λ n. is_standing d n ≡ true) d c.args.symbols c.in-Ok-find_targets.targets.cells.items c.args.order.now c.in-Ok-find_targets.ensures.known.there c.requires.there))
 
 pub returns-clause-given : goal.returns-clause-given
 returns-clause-given c = subst (λ (rows : List NodeRow). AreStanding rows c.in-Ok.given.phandles.items) c.nodes.ensures c.in-Ok.ensures.owners
-
-pub returns-clause-new : goal.returns-clause-new
-returns-clause-new c =
-    let d = c.args.live.now in
-    let given = c.in-Ok.given.phandles.items in
-    let taken = is_taken c.in-Ok.given.taken in
-    let t = c.in-Ok-find_targets.targets in
-    let order = c.args.order.now in
-    let named = c.as_slice-3.ensures.value ∙ c.in_ok-named.ensures ∙ ap (λ (ns : List ℕ). ns ++ (if c.args.symbols then labelled_rows d order else [])) c.as_slice.ensures.value in
-    let nodes = c.as_slice-4.ensures.value ∙ c.in_ok-nodes.ensures
-    ∙ ap₂ (λ (gs : List NodePhandle) (ns : List ℕ). new_rows (λ n. list_any (λ x. x.node == n) gs) ns) c.as_slice-2.ensures.value named in
-    new-standing d t c.in-Ok-find_targets.ensures.known c.args.symbols order c.requires.known c.requires.there (λ n. list_any (λ x. x.node == n) given) taken (length given) c.in_ok-new.new.items
-    (c.in_ok-new.ensures ∙ ap (assigned_rows taken (length given) 0) nodes)
 
 pub returns-clause-resolved : goal.returns-clause-resolved
 returns-clause-resolved c =
@@ -70,13 +69,9 @@ returns-clause-resolved c =
     let xs = c.args.properties.now in
     let order = read-order d xs c.requires.definitions in
     let given = c.in-Ok.given.phandles.items in
-    let taken = is_taken c.in-Ok.given.taken in
     let t = c.in-Ok-find_targets.targets in
     let found = c.in-Ok-find_targets.ensures.targets in
-    let up = subst (λ (rows : List NodeRow). AreStanding rows given) c.nodes.ensures c.in-Ok.ensures.owners in
-    let named = c.as_slice-3.ensures.value ∙ c.in_ok-named.ensures ∙ ap (λ (ns : List ℕ). ns ++ (if c.args.symbols then labelled_rows d c.args.order.now else [])) c.as_slice.ensures.value in
-    let nodes = c.as_slice-4.ensures.value ∙ c.in_ok-nodes.ensures
-    ∙ ap₂ (λ (gs : List NodePhandle) (ns : List ℕ). new_rows (λ n. list_any (λ x. x.node == n) gs) ns) c.as_slice-2.ensures.value named in (
+    let named = c.as_slice-2.ensures.value ∙ c.in_ok-named.ensures ∙ ap (λ (ns : List ℕ). ns ++ (if c.args.symbols then labelled_rows d c.args.order.now else [])) c.as_slice.ensures.value in (
       found.0,
       record {
         free = sym c.is_name_taken.ensures ∙ c.if-is_name_taken.false;
@@ -84,8 +79,7 @@ returns-clause-resolved c =
             ∙ ap (λ (rows : List NodeRow). Ok (map (path_phandle_of rows) given)) c.nodes.ensures;
         found = ap (each (found_value c.args.plugin (tree_of d))) (sym order) ∙ found.1;
         targets = found.2;
-        new = all-assigned d c.requires.sound given up found.0 t found.2 c.in-Ok-find_targets.ensures.known taken
-            (λ n. c.in-Ok.ensures.taken n ∙ ap (λ (rows : List NodeRow). has_phandle n (map (path_phandle_of rows) given)) c.nodes.ensures) c.args.symbols c.args.order.now c.requires.there c.requires.nodes c.in_ok-new.new.items
-            (c.in_ok-new.ensures ∙ ap (assigned_rows taken (length given) 0) nodes);
+        new = c.in_ok-new.ensures.numbers
+            ∙ ap (λ ps. numbered (map (path_phandle_of d.nodes.items) given) 0 ps) (ap (map (node_path d)) named ∙ named-paths d c.requires.sound found.0 t found.2 c.args.symbols c.args.order.now c.requires.there c.requires.nodes);
       },
     )

@@ -5,4 +5,4 @@ use Rattle.dt_resolve.proofs.wanted.assign_phandles.Given as goal
 abbrev pub invariant-loop-node : goal.invariant-loop-node
 invariant-loop-node l =
     l.phandles.items ++ assigned_rows (is_taken l.given.taken) (length l.given.phandles.items) l.last (drop l.node-index l.nodes)
-    ≡ assigned_rows (is_taken l.given.taken) (length l.given.phandles.items) 0 l.nodes
+    ≡ assigned_rows (is_taken l.given.taken) (length l.given.phandles.items) l.fn.last l.nodes

@@ -1,11 +1,13 @@
-use Rattle.std.proofs.Common.{◌≡◌, ◌-◌, ◌++◌, ◌∷◌, [], None, true, if◌then◌else◌, refl, sym, ap, ap₂, ◌∙◌, subst, arith, rules}
+use Rattle.std.proofs.Common.{◌≡◌, ◌-◌, ◌++◌, ◌∷◌, [], suc, slice_set, None, true, if◌then◌else◌, refl, sym, ap, ap₂, ◌∙◌, subst, arith, rules}
 use Rattle.std.proofs.lemmas.List.{get_or_default}
 use Rattle.dt_meaning.specs.Edits.{without_node}
 use Rattle.dt_live.specs.declared.live_tree.NodeRow.{NodeRow}
 use Rattle.dt_live.specs.Index.{row_of, is_key}
-use Rattle.dt_live.specs.Rows.{Found, AreTables, no_row, row_at, path_of, state_in}
+use Rattle.dt_meaning.specs.Paths.{Path}
+use Rattle.dt_live.specs.Rows.{Found, AreTables, Taken, no_row, row_at, path_of, state_in}
 use Rattle.dt_live.proofs.Keeping.{kept-marked, kept-itself}
 use Rattle.dt_live.proofs.NodeRows.{node-removed, not-listed, child-of, unlisted}
+use Rattle.dt_live.proofs.TakenRows.{taken-marked, taken-none}
 use Rattle.dt_live.proofs.Tables.{forgotten, tables-marked}
 use Rattle.dt_live.proofs.live_tree.LiveTree.remove_child.Goals as goal
 
@@ -35,6 +37,10 @@ returns-in-Some g c =
       kept =
           kept-marked (path_of old c.args.parent) c.args.name.now old i r row.within (ap (λ x. x.parent) was) (ap (λ x. x.name.now) was) refl
           (row_of d.node_rows) c.requires.sound.grown c.requires.sound.nodes row.there row.path_is;
+      taken =
+          let whole : Taken (path_of old (suc i)) old (slice_set old i r) =
+          taken-marked old i r row.within (ap (λ x. x.parent) was) (ap (λ x. x.name.now) was) refl (row_of d.node_rows) c.requires.sound.grown c.requires.sound.nodes row.there in
+          subst (λ (p : Path). Taken p old (slice_set old i r)) row.path_is whole;
       state =
           node-removed old i r row.within (ap (λ x. x.parent) was) (ap (λ x. x.name.now) was) refl (row_of d.node_rows) d.properties.items d.labels.items
           c.requires.sound.grown c.requires.sound.nodes row.there
@@ -58,3 +64,9 @@ returns-in_default-clause-sound g c =
 
 pub returns-in_default-clause-kept : goal.returns-in_default-clause-kept
 returns-in_default-clause-kept g c = kept-itself (path_of c.args.self.now.nodes.items c.args.parent) c.args.self.now.nodes.items
+
+pub returns-in_default-clause-taken : goal.returns-in_default-clause-taken
+returns-in_default-clause-taken g c =
+    let d = c.args.self.now in
+    taken-none d.nodes.items c.requires.sound.grown (path_of d.nodes.items c.args.parent) c.args.name.now
+    (not-listed d.nodes.items (row_of d.node_rows) c.requires.sound.grown c.requires.sound.nodes c.args.parent c.args.name.now c.requires.stands (sym c.in_default.ensures.was))

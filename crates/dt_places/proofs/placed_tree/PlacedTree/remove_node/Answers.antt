@@ -1,31 +1,40 @@
-use Rattle.std.proofs.Common.{◌≡◌, ◌-◌, suc, true, not, if◌then◌else◌, length, ap, sym, ◌∙◌, arith}
-use Rattle.std.specs.List.{filter}
-use Rattle.dt_meaning.specs.Paths.{is_listed, is_within}
-use Rattle.dt_meaning.specs.Edits.{without_node}
-use Rattle.dt_meaning.specs.Seen.{seen}
-use Rattle.dt_meaning.proofs.SeenNodes.{removed}
-use Rattle.dt_live.specs.Rows.{path_of, stands, state_of}
-use Rattle.dt_live.proofs.StandingProperties.{listed-standing}
-use Rattle.dt_places.specs.PlacedNodes.{path_at, place_paths}
+use Rattle.std.proofs.Common.{◌≡◌, ◌+◌, ◌-◌, ◌<◌, ◌++◌, ◌∷◌, [], List, ℕ, suc, Option, Some, None, Ok, Bor, Bool, true, false, not, length, slice_set, refl, sym, ap, ap₂, ◌∙◌, subst, arith, if◌then◌else◌}
+use Rattle.std.specs.Prelude.{slice_index_or}
+use Rattle.std.proofs.lemmas.List.{get_or_default, set-get_or}
+use Rattle.dt_meaning.specs.Places.{has_two_places}
+use Rattle.dt_meaning.specs.DtcEdits.{made_node, unmade_node, without_all_within}
+use Rattle.dt_meaning.specs.Paths.{same_path}
+use Rattle.dt_live.specs.Rows.{Found}
+use Rattle.dt_places.specs.declared.place.Place.{Place}
+use Rattle.dt_places.specs.declared.table.Entry.{Entry}
+use Rattle.dt_places.specs.Rows.{is_made, no_place, path_of, place_at}
+use Rattle.dt_places.specs.Tables.{Enters, found_in, rows_in}
+use Rattle.dt_places.specs.PlacedTrees.{AreSound, IsOwner, IsPlacedTree, child_path, dtc_tree}
+use Rattle.dt_places.specs.PlacedEdits.{IsMade, Keeps, IsFresh}
+use Rattle.std.specs.Vec.{with_item}
+use Rattle.dt_places.proofs.NodesRemoved.{marks-removed, sound-removed, tree-removed}
+use Rattle.dt_places.proofs.Owners.{standing-owner}
 use Rattle.dt_places.proofs.placed_tree.PlacedTree.remove_node.Goals as goal
 
-pub returns-clause-rows : goal.returns-clause-rows
-returns-clause-rows g c =
+pub returns-clause-sound : goal.returns-clause-sound
+returns-clause-sound g c =
     let d = c.args.self.now in
-    let s = state_of d.standing in
-    let rows = d.standing.nodes.items in
-    let p = path_at d c.args.node in
-    let k = c.args.node.node - 1 in
-    let at : c.args.node.node ≡ suc k = omega (arith, c.requires.below) in
-    let up : stands rows (suc k) ≡ true = ap (stands rows) (sym at) ∙ c.requires.node.there in
-    let listed : is_listed p s.nodes ≡ true =
-    ap (λ n. is_listed (path_of rows n) s.nodes) at
-    ∙ listed-standing (path_of rows) (stands rows) (length rows) k (omega (arith, at, c.requires.node.node)) up in
-    let gone : (without_node p s).nodes ≡ filter (λ q. not (is_within p q)) s.nodes = ap (λ b. (if b
-    then record s {
-      nodes = filter (λ q. not (is_within p q)) s.nodes;
-      properties = filter (λ e. not (is_within p e.path)) s.properties;
-      labels = filter (λ l. not (is_within p l.path)) s.labels;
-    }
-    else s).nodes) listed in
-    ap (λ ns. seen (place_paths d) ns) (ap (λ x. x.nodes) c.remove_node.ensures.state ∙ gone) ∙ sym (removed p (place_paths d) s.nodes)
+    let i = c.args.node - 1 in
+    let at : c.args.node ≡ suc i = omega (arith, c.requires.below) in
+    let o = standing-owner (rows_in d.nodes) (found_in d.nodes) c.requires.sound.tables.nodes_table c.requires.sound.tables.grown c.requires.sound.tables.node_owners c.args.node c.requires.node.known c.requires.node.there i at in
+    let y = c.index_mut.result.now in
+    let ys : y ≡ place_at (rows_in d.nodes) i = c.index_mut.ensures.value ∙ get_or_default (rows_in d.nodes) i y no_place o.0 in
+    let r : Place (Unit {0}) = record y { removed = true } in
+    record { tables = sound-removed d c.requires.sound i o.0 o.1 r (ap (λ z. z.owner) ys) (ap (λ z. z.name.now) ys) (ap (λ z. z.made) ys) (ap (λ z. z.again) ys) refl; marks = marks-removed d c.requires.sound i o.0 o.1 r (ap (λ z. z.owner) ys) (ap (λ z. z.name.now) ys) (ap (λ z. z.made) ys) (ap (λ z. z.again) ys) refl; single = c.requires.sound.single }
+
+pub returns-clause-tree : goal.returns-clause-tree
+returns-clause-tree g c =
+    let d = c.args.self.now in
+    let i = c.args.node - 1 in
+    let at : c.args.node ≡ suc i = omega (arith, c.requires.below) in
+    let o = standing-owner (rows_in d.nodes) (found_in d.nodes) c.requires.sound.tables.nodes_table c.requires.sound.tables.grown c.requires.sound.tables.node_owners c.args.node c.requires.node.known c.requires.node.there i at in
+    let y = c.index_mut.result.now in
+    let ys : y ≡ place_at (rows_in d.nodes) i = c.index_mut.ensures.value ∙ get_or_default (rows_in d.nodes) i y no_place o.0 in
+    let r : Place (Unit {0}) = record y { removed = true } in
+    λ read. tree-removed d c.requires.sound i o.0 o.1 r (ap (λ z. z.owner) ys) (ap (λ z. z.name.now) ys) (ap (λ z. z.made) ys) (ap (λ z. z.again) ys) refl read (record d { nodes = record d.nodes { rows = with_item d.nodes.rows i r } }) refl refl refl refl refl refl
+    ∙ ap (λ n. without_all_within (path_of (rows_in d.nodes) n) (dtc_tree read d)) (sym at)

@@ -1,0 +1,16 @@
+pub mod Addresses
+pub mod Bridges
+pub mod Buses
+pub mod Cells
+pub mod Chosen
+pub mod Fault
+pub mod Names
+pub mod Nodes
+pub mod Pci
+pub mod Private
+pub mod Ranges
+pub mod Reg
+pub mod Style
+pub mod Texts
+pub mod Unit
+pub mod UnitRules

@@ -1,0 +1,94 @@
+//! Which bus a node is.
+ghost use Rattle.std.specs.Prelude.{◌≡◌};
+ghost use Rattle.std.specs.List.{list_any};
+ghost use Rattle.dt_check.specs.Buses.{is_pci, is_simple, is_i2c, is_spi_like, is_spi, starts_spi, has_spi_property, is_called, is_provider};
+
+use crate::here::{children, has};
+use crate::reg::{address_cells, size_cells};
+use crate::texts::{has_string, is_same};
+use crate::unit::base_name;
+use dt_tree::{Node, Property};
+
+/// Whether the base of a node's name is this one.
+pub fn is_called(node: &Node, name: &[u8]) -> bool
+    ensures { result ≡ is_called name.now node.now }
+{
+    is_same(base_name(node.name_bytes()), name)
+}
+
+/// Whether a node is a bridge to PCI.
+pub fn is_pci(node: &Node) -> bool
+    ensures { result ≡ is_pci node.now }
+{
+    match node.value(b"device_type") {
+        None => false,
+        Some(value) => is_same(value.as_slice(), b"pci\0"),
+    }
+}
+
+/// Whether a node is a bus whose devices are found without it.
+pub fn is_simple(node: &Node) -> bool
+    ensures { result ≡ is_simple node.now }
+{
+    match node.value(b"compatible") {
+        None => false,
+        Some(value) => has_string(value.as_slice(), b"simple-bus"),
+    }
+}
+
+/// Whether a node is an I2C bus.
+pub fn is_i2c(node: &Node) -> bool
+    ensures { result ≡ is_i2c node.now }
+{
+    is_called(node, b"i2c-bus") || is_called(node, b"i2c-arb") || is_called(node, b"i2c")
+}
+
+fn starts_spi(name: &[u8]) -> bool
+    ensures { result ≡ starts_spi name.now }
+{
+    name.len() >= 4 && is_same(&name[..4], b"spi-")
+}
+
+fn names_spi(properties: &[Property]) -> bool
+    ensures { result ≡ list_any (λ p. starts_spi p.name) properties.now }
+{
+    properties
+        .iter()
+        .any(|property| starts_spi(property.name.as_bytes()))
+}
+
+fn has_spi_property(node: &Node) -> bool
+    ensures { result ≡ has_spi_property node.now }
+{
+    names_spi(node.properties())
+}
+
+fn any_spi(nodes: &[Node]) -> bool
+    ensures { result ≡ list_any has_spi_property nodes.now }
+{
+    nodes.iter().any(|node| has_spi_property(node))
+}
+
+/// Whether a node is an SPI bus without the name of one.
+pub fn is_spi_like(node: &Node) -> bool
+    ensures { result ≡ is_spi_like node.now }
+{
+    !is_called(node, b"spi")
+        && address_cells(node) == 1
+        && size_cells(node) == 0
+        && any_spi(children(node))
+}
+
+/// Whether a node is an SPI bus.
+pub fn is_spi(node: &Node) -> bool
+    ensures { result ≡ is_spi node.now }
+{
+    is_called(node, b"spi") || is_spi_like(node)
+}
+
+/// Whether a node is the parent of interrupts.
+pub fn is_provider(node: &Node) -> bool
+    ensures { result ≡ is_provider node.now }
+{
+    has(node, b"interrupt-controller") || has(node, b"interrupt-map")
+}

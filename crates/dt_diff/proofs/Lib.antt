@@ -1,0 +1,7 @@
+mod CellLemmas
+mod CompareLemmas
+mod ListedLemmas
+mod NamingLemmas
+mod PartLemmas
+mod SameNodes
+mod SharedLemmas

@@ -1,0 +1,7 @@
+pub mod Comparison
+pub mod Difference
+pub mod Named
+pub mod Private
+pub mod ReferenceTable
+pub mod SameBoard
+pub mod Seen

@@ -1,0 +1,9 @@
+-- What only the contracts of private functions cite: a reader of the public ones needs none of it.
+pub mod Differences
+pub mod Kept
+pub mod Left
+pub mod Listed
+pub mod Rows
+pub mod Tests
+pub mod Things
+pub mod Views

@@ -1,0 +1,23 @@
+-- What a tree of dtc's language leaves when all is read (Devicetree Specification v0.4, sections 6.3 and 6.4; where it is silent,
+-- dtc 1.6.1, tried by hand).
+use Rattle.std.specs.Prelude.{◌≡◌, ◌+◌, ℕ, Bool, true, false, List, length, slice_index_or}
+use Rattle.dt_meaning.specs.Paths.{Path, is_listed}
+use Rattle.dt_meaning.specs.Edits.{counted}
+use Rattle.dt_meaning.specs.DtcEdits.{DtcTree, ever_labelled}
+use Rattle.dt_meaning.specs.DtcStatements.{dtc_state}
+use Rattle.dt_live.specs.declared.live_tree.LiveTree.{LiveTree}
+use Rattle.dt_live.specs.Rows.{IsLiveTree, IsNode, is_standing, node_path}
+use Rattle.dt_edit.specs.declared.standing.Standing.{Standing}
+use Rattle.dt_edit.specs.Said.{Parts, tree_of}
+
+-- each node that stands, the root among them, is marked if its path passes
+pub record AreNodeMarks (test : Path → Bool) (d : LiveTree Parts) (xs : List Bool) : Type 0 where
+  pub count : length xs ≡ length d.nodes.items + 1
+  pub marks : (n : ℕ) → IsNode d n → is_standing d n ≡ true → slice_index_or xs n false ≡ test (node_path d n)
+
+-- it is what a tree of dtc's language leaves
+pub record IsStandingOf (s : Standing) (t : DtcTree) : Type 0 where
+  pub sound : IsLiveTree s.live
+  pub tree : dtc_state t ≡ counted t.fragments (tree_of s.live)
+  pub marked : AreNodeMarks (λ p. is_listed p t.marked) s.live s.marked.items
+  pub labelled : AreNodeMarks (ever_labelled t) s.live s.labelled.items

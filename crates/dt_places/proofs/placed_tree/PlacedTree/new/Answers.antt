@@ -1,0 +1,14 @@
+use Rattle.std.proofs.Common.{◌≡◌, ℕ, List, [], ap, sym, ◌∙◌, subst, arith}
+use Rattle.dt_places.specs.declared.place.Place.{Place}
+use Rattle.dt_places.specs.Rows.{place_at}
+use Rattle.dt_places.specs.Tables.{found_in, rows_in}
+use Rattle.dt_places.proofs.NewTree.{new-sound, no-marks}
+use Rattle.dt_places.proofs.placed_tree.PlacedTree.new.Goals as goal
+
+pub returns-clause-sound : goal.returns-clause-sound
+returns-clause-sound g c = record {
+  tables = new-sound (rows_in c.new.result) (found_in c.new.result) (rows_in c.new-2.result) (found_in c.new-2.result) (rows_in c.new-3.result) (found_in c.new-3.result)
+      c.new.ensures.table c.new-2.ensures.table c.new-3.ensures.table c.new.ensures.empty c.new-2.ensures.empty c.new-3.ensures.empty;
+  marks = no-marks (rows_in c.new.result) (found_in c.new.result) c.new-5.result.items c.new-5.ensures.items;
+  single = λ k. ap (λ rs. (place_at rs k).again) c.new-3.ensures.empty;
+}

@@ -1,0 +1,77 @@
+-- The tree while a source in dtc's language edits it (Devicetree Specification v0.4, section 6.3; where it is silent, dtc 1.6.1, tried
+-- by hand): what the tables of a placed tree stand for.
+use Rattle.std.specs.Prelude.{◌≡◌, ℕ, suc, ◌<◌, ◌≤◌, Bool, true, false, List, [], ◌∷◌, ◌++◌, length, map, reverse, Option, Some, None, if◌then◌else◌, slice_index_or}
+use Rattle.dt_meaning.specs.Paths.{Path}
+use Rattle.dt_meaning.specs.Syntax.{Piece}
+use Rattle.dt_meaning.specs.Edits.{Definition, definition, Label, labelled_at}
+use Rattle.dt_meaning.specs.Places.{Row, row}
+use Rattle.dt_meaning.specs.DtcEdits.{DtcTree}
+use Rattle.dt_live.specs.Rows.{Found}
+use Rattle.dt_places.specs.declared.place.Place.{Place}
+use Rattle.dt_places.specs.declared.placed_tree.PlacedTree.{PlacedTree}
+use Rattle.dt_places.specs.Rows.{holds, is_there, made_at, path_of, place_at}
+use Rattle.dt_places.specs.Tables.{IsTable, found_in, rows_in}
+
+-- ---- the tree
+abbrev pub root_rows : Bool → List (Row Path)
+root_rows begun = if begun then row [] ∷ [] else []
+
+abbrev pub node_seen : {X : Type 0} → List (Place X) → Place X → Row Path
+node_seen nodes r = record { what = path_of nodes r.owner ++ r.name.now ∷ []; stands = is_there nodes r }
+
+abbrev pub value_read : {V : Type 0} → (V → List Piece) → Option V → List Piece
+value_read read None = []
+value_read read (Some v) = read v
+
+abbrev pub property_seen : {X V : Type 0} → (V → List Piece) → List (Place X) → Place V → Row (Definition (List Piece))
+property_seen read nodes r = record { what = definition (path_of nodes r.owner) r.name.now (value_read read r.value); stands = is_there nodes r }
+
+abbrev pub label_seen : {X L : Type 0} → List (Place X) → Place L → Row Label
+label_seen nodes r = record { what = labelled_at r.name.now (path_of nodes r.owner); stands = is_there nodes r }
+
+-- the tree that a placed tree shows, with its values read
+abbrev pub dtc_tree : {V : Type 0} → (V → List Piece) → PlacedTree V → DtcTree
+dtc_tree read d = record {
+  nodes = root_rows d.begun ++ map (node_seen (rows_in d.nodes)) (rows_in d.nodes);
+  properties = map (property_seen read (rows_in d.nodes)) (rows_in d.properties);
+  labels = map (label_seen (rows_in d.nodes)) (rows_in d.labels);
+  marked = map (path_of (rows_in d.nodes)) (reverse d.marks.items);
+  fragments = d.fragments;
+}
+
+-- ---- what is true of each placed tree
+-- a node that has something: its row counts, and it was made
+abbrev pub IsOwner : {X : Type 0} → List (Place X) → Found → ℕ → Type 0
+IsOwner nodes found n =
+    (k : ℕ) → n ≡ suc k → (k < length nodes) × (found (place_at nodes k).owner (place_at nodes k).name.now ≡ Some k) × (1 ≤ (place_at nodes k).made)
+
+pub record AreSound {N P L : Type 0} (nodes : List (Place N)) (at_nodes : Found) (properties : List (Place P)) (at_properties : Found) (labels : List (Place L)) (at_labels : Found) (clock : ℕ) : Type 0 where
+  pub nodes_table : IsTable nodes at_nodes
+  pub properties_table : IsTable properties at_properties
+  pub labels_table : IsTable labels at_labels
+  pub grown : (k : ℕ) → (place_at nodes k).owner ≤ k
+  pub node_owners : (k : ℕ) → IsOwner nodes at_nodes (place_at nodes k).owner
+  pub property_owners : (k : ℕ) → IsOwner nodes at_nodes (place_at properties k).owner
+  pub label_owners : (k : ℕ) → IsOwner nodes at_nodes (place_at labels k).owner
+  pub early : (k : ℕ) → (place_at nodes k).made ≤ clock
+  pub early_properties : (k : ℕ) → (place_at properties k).made ≤ clock
+  pub early_labels : (k : ℕ) → (place_at labels k).made ≤ clock
+  pub ticking : 1 ≤ clock
+
+pub record IsPlacedTree {V : Type 0} (d : PlacedTree V) : Type 0 where
+  pub tables : AreSound (rows_in d.nodes) (found_in d.nodes) (rows_in d.properties) (found_in d.properties) (rows_in d.labels) (found_in d.labels) d.clock
+  pub marks : (k : ℕ) → IsOwner (rows_in d.nodes) (found_in d.nodes) (slice_index_or d.marks.items k 0)
+  -- no label gets a second place at its node
+  pub single : (k : ℕ) → (place_at (rows_in d.labels) k).again ≡ false
+
+-- ---- nodes
+abbrev pub node_path : {V : Type 0} → PlacedTree V → ℕ → Path
+node_path d n = path_of (rows_in d.nodes) n
+
+abbrev pub child_path : {V : Type 0} → PlacedTree V → ℕ → List ℕ → Path
+child_path d n name = node_path d n ++ name ∷ []
+
+-- the node stands
+pub record IsStanding {V : Type 0} (d : PlacedTree V) (n : ℕ) : Type 0 where
+  pub known : n ≤ length (rows_in d.nodes)
+  pub there : holds (rows_in d.nodes) n ≡ true

@@ -1,0 +1,33 @@
+//! Why a single edit is refused.
+ghost use Rattle.std.specs.Prelude.{◌≡◌};
+
+use std::alloc::{AllocError, AllocFailed};
+
+/// Why a single edit is refused.
+#[derive(Debug, Clone, Copy, PartialEq, Eq, Drop)]
+pub enum PlaceError {
+    NoMemory,
+    DuplicateInBody,
+}
+
+impl From<AllocError> for PlaceError {
+    ghost use Rattle.std.specs.Prelude.{◌≡◌};
+    ghost use Rattle.dt_places.specs.declared.error.PlaceError.TheVariants.{NoMemory};
+
+    ghost from_gives = { λ _ e. e ≡ NoMemory };
+
+    fn from(_e: AllocError) -> PlaceError {
+        PlaceError::NoMemory
+    }
+}
+
+impl<T: Drop> From<AllocFailed<T>> for PlaceError {
+    ghost use Rattle.std.specs.Prelude.{◌≡◌};
+    ghost use Rattle.dt_places.specs.declared.error.PlaceError.TheVariants.{NoMemory};
+
+    ghost from_gives = { λ _ e. e ≡ NoMemory };
+
+    fn from(_e: AllocFailed<T>) -> PlaceError {
+        PlaceError::NoMemory
+    }
+}

@@ -1,0 +1,4 @@
+pub mod Get
+pub mod Private
+pub mod Set
+pub mod Unheld

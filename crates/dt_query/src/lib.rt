@@ -1,0 +1,10 @@
+//! Single values of blobs, read and written.
+#![tactic(auto)]
+
+mod error;
+mod getting;
+mod setting;
+
+pub use error::QueryError;
+pub use getting::get;
+pub use setting::set;

@@ -1,0 +1,9 @@
+mod Beginnings
+mod Descents
+mod Goings
+mod Holdings
+mod Names
+mod Orders
+mod Overviews
+mod Pairs
+mod Shapes

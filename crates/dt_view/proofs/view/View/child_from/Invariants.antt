@@ -1,0 +1,15 @@
+use Rattle.std.proofs.Common.{◌≡◌, ◌-◌, true, List, length}
+use Rattle.dt_tree.specs.declared.property.Property.{Property}
+use Rattle.dt_tree.specs.NodeData.{Siblings}
+use Rattle.dt_tree.specs.PathMap.{child_named}
+use Rattle.dt_blob.specs.Token.{Token}
+use Rattle.dt_view.specs.Private.Reading.{inside_tokens}
+use Rattle.dt_view.specs.Standing.{Ahead, ends}
+use Rattle.dt_view.proofs.Names.{NamedLeft}
+use Rattle.dt_view.proofs.view.View.child_from.Given as goal
+
+abbrev pub invariant-tokens : goal.invariant-tokens
+invariant-tokens l = (ps : List Property) (nodes : Siblings) (last : Token) → ends last ≡ true → Ahead l.self l.from (inside_tokens ps nodes last) → NamedLeft l.self l.at last l.name (child_named nodes l.name)
+
+abbrev pub decreases-tokens : goal.decreases-tokens
+decreases-tokens l = length l.self.structure.now - l.at

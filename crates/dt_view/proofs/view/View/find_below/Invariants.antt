@@ -1,0 +1,11 @@
+use Rattle.std.proofs.Common.{drop, length}
+use Rattle.std.specs.List.{slice_split}
+use Rattle.dt_tree.specs.NodeData.{NodeData}
+use Rattle.dt_tree.specs.Path.{is_slash}
+use Rattle.dt_tree.specs.PathMap.{node_at}
+use Rattle.dt_view.specs.Standing.{StandsAt}
+use Rattle.dt_view.proofs.Names.{Leads}
+use Rattle.dt_view.proofs.view.View.find_below.Given as goal
+
+abbrev pub invariant-loop-name : goal.invariant-loop-name
+invariant-loop-name l = (d : NodeData) → StandsAt l.self l.fn.from.at d → Leads l.self l.node.at (drop (length l.yielded) (slice_split is_slash l.names)) (node_at d (slice_split is_slash l.names))

@@ -1,0 +1,14 @@
+use Rattle.std.proofs.Common.{◌-◌, ◌≤◌, List, ◌∷◌, length}
+use Rattle.dt_blob.specs.Token.{Token}
+use Rattle.dt_view.specs.Standing.{Ahead}
+use Rattle.dt_view.proofs.view.View.token_from.Given as goal
+
+abbrev pub invariant-nops : goal.invariant-nops
+invariant-nops l = record {
+  ahead : (u : Token) (us : List Token) → Ahead l.self l.from (u ∷ us) → Ahead l.self l.at (u ∷ us);
+  back : (us : List Token) → Ahead l.self l.at us → Ahead l.self l.from us;
+  begins : l.from ≤ l.at;
+}
+
+abbrev pub decreases-nops : goal.decreases-nops
+decreases-nops l = length l.self.structure.now - l.at

@@ -1,0 +1,3 @@
+-- What private contracts cite. No public clause rests on it, so that a reader need not believe it.
+pub mod Reading
+pub mod Stages

@@ -1,0 +1,44 @@
+-- What a reader of tokens learns.
+use Rattle.std.specs.Prelude.{◌≡◌, ℕ, ◌≤◌, ◌<◌, true, false, List, [], ◌∷◌, ◌++◌, length}
+use Rattle.dt_tree.specs.declared.property.Property.{Property}
+use Rattle.dt_tree.specs.NodeData.{Siblings}
+use Rattle.dt_blob.specs.Holds.{is_nop}
+use Rattle.dt_blob.specs.Token.{Token, begin_node, property, property_tokens, sibling_tokens}
+use Rattle.dt_view.specs.declared.view.View.{View}
+use Rattle.dt_view.specs.Standing.{Ahead}
+
+-- no token stands there
+abbrev pub StandsNothing : View → ℕ → Type 0
+StandsNothing view from = (u : Token) (us : List Token) → Ahead view from (u ∷ us) → ⊥
+
+-- a token stands there, and ends at an offset
+pub record Reads (view : View) (from : ℕ) (t : Token) (next : ℕ) : Type 0 where
+  pub ahead : is_nop t ≡ false → (u : Token) (us : List Token) → Ahead view from (u ∷ us) → (t ≡ u) × Ahead view next us
+  pub ahead_nop : is_nop t ≡ true → (u : Token) (us : List Token) → Ahead view from (u ∷ us) → Ahead view next (u ∷ us)
+  pub back : is_nop t ≡ false → (us : List Token) → Ahead view next us → Ahead view from (t ∷ us)
+  pub back_nop : is_nop t ≡ true → (us : List Token) → Ahead view next us → Ahead view from us
+  pub further : from < next
+  pub inside : next ≤ length view.structure.now
+
+-- the first one that is no NOP begins at an offset, and ends at another
+pub record Finds (view : View) (from : ℕ) (t : Token) (at next : ℕ) : Type 0 where
+  pub ahead : (u : Token) (us : List Token) → Ahead view from (u ∷ us) → (t ≡ u) × Ahead view at (u ∷ us) × Ahead view next us
+  pub back : (us : List Token) → Ahead view next us → Ahead view from (t ∷ us)
+  pub begins : from ≤ at
+  pub further : at < next
+  pub inside : next ≤ length view.structure.now
+
+-- a node of this name begins there
+pub record Opens (view : View) (from : ℕ) (name : List ℕ) (at next : ℕ) : Type 0 where
+  pub ahead : (n : List ℕ) (us : List Token) → Ahead view from (begin_node n ∷ us) → (name ≡ n) × Ahead view at (begin_node n ∷ us) × Ahead view next us
+  pub stands : Ahead view from (begin_node name ∷ [])
+  pub further : from < next
+
+-- a property stands there, and ends at an offset
+pub record Has (view : View) (from : ℕ) (name value : List ℕ) (next : ℕ) : Type 0 where
+  pub ahead : (n v : List ℕ) (us : List Token) → Ahead view from (property n v ∷ us) → (name ≡ n) × (value ≡ v) × Ahead view next us
+  pub stands : Ahead view from (property name value ∷ [])
+
+-- what stands inside a node, or behind a child of it
+abbrev pub inside_tokens : List Property → Siblings → Token → List Token
+inside_tokens ps nodes last = property_tokens ps ++ (sibling_tokens nodes ++ last ∷ [])

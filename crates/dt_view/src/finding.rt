@@ -1,0 +1,86 @@
+//! Nodes by name and by path.
+ghost use Rattle.std.specs.Prelude.{◌≡◌, ◌↔◌, ◌∷◌, ◌++◌, List, IsErrOf, IsOkAnd, IsTrue, Some, true, false};
+ghost use Rattle.std.specs.List.{slice_split};
+ghost use Rattle.dt_tree.specs.NodeData.{NodeData, Siblings};
+ghost use Rattle.dt_tree.specs.Path.{is_path, is_slash, names_behind, path_names};
+ghost use Rattle.dt_tree.specs.PathMap.{child_named, node_at};
+ghost use Rattle.dt_tree.specs.TreeData.{TreeData};
+ghost use Rattle.dt_tree.specs.declared.property.Property.{Property};
+ghost use Rattle.dt_blob.specs.Token.{Token};
+ghost use Rattle.dt_view.specs.Places.{IsPlaceOf};
+ghost use Rattle.dt_view.specs.Private.Reading.{inside_tokens};
+ghost use Rattle.dt_view.specs.Shows.{Views};
+ghost use Rattle.dt_view.specs.Standing.{Ahead, HasNoNode, StandsAt, ends};
+
+use crate::error::ViewError;
+use crate::nodes::NodeOffset;
+use crate::view::View;
+use dt_blob::BlobToken;
+use dt_tree::is_path;
+
+impl<'a> View<'a> {
+    // The first child of this name, from inside a node on.
+    fn child_from(&self, from: usize, name: &[u8]) -> Result<Option<NodeOffset>, ViewError>
+        ensures { (ps : List Property) (nodes : Siblings) (last : Token) → ends last ≡ true → Ahead self.now from (inside_tokens ps nodes last) → IsOkAnd result (λ child. IsPlaceOf self.now child (child_named nodes name.now)) }
+    {
+        let mut at = from;
+        'tokens: loop {
+            let found = self.token_from(at)?;
+            match found.token {
+                BlobToken::BeginNode(own) => {
+                    if own == name {
+                        return Ok(Some(NodeOffset { at: found.at }));
+                    }
+                    at = self.node_end(found.next)?;
+                }
+                BlobToken::Property(_, _) => at = found.next,
+                BlobToken::EndNode => return Ok(None),
+                BlobToken::End => return Ok(None),
+                BlobToken::Nop => return Err(ViewError::BadOffset),
+            }
+        }
+    }
+
+    /// The child of this name, unit address and all: none where a node has no such child.
+    pub fn child(&self, node: NodeOffset, name: &[u8]) -> Result<Option<NodeOffset>, ViewError>
+        ensures stands { (d : NodeData) → StandsAt self.now node.at d → IsOkAnd result (λ child. IsPlaceOf self.now child (child_named d.children name.now)) }
+        ensures refused { HasNoNode self.now node.at → result ≡ Err ViewError.BadOffset }
+    {
+        let begun = self.begin(node.at)?;
+        self.child_from(begun.next, name)
+    }
+
+    // The node at names behind one another, from a node on.
+    fn find_below(&self, from: NodeOffset, names: &[u8]) -> Result<Option<NodeOffset>, ViewError>
+        ensures { (d : NodeData) → StandsAt self.now from.at d → IsOkAnd result (λ node. IsPlaceOf self.now node (node_at d (slice_split is_slash names.now))) }
+    {
+        let mut node = from;
+        for name in names.split(|byte| *byte == b'/') {
+            match self.child(node, name)? {
+                None => return Ok(None),
+                Some(child) => node = child,
+            }
+        }
+        Ok(Some(node))
+    }
+
+    /// The node at a path: none where there is none. Fails with `BadPath` where the bytes are no path.
+    pub fn find(&self, path: &[u8]) -> Result<Option<NodeOffset>, ViewError>
+        ensures found { (tree : TreeData) → Views self.now tree → is_path path.now ≡ true → IsOkAnd result (λ node. IsPlaceOf self.now node (node_at tree.root (path_names path.now))) }
+        ensures bad_path { IsErrOf result ViewError.BadPath ↔ (is_path path.now ≡ false) }
+    {
+        if !is_path(path) {
+            return Err(ViewError::BadPath);
+        }
+        let Ok(root) = self.root() else {
+            return Err(ViewError::BadOffset);
+        };
+        if path.len() < 2 {
+            return Ok(Some(root));
+        }
+        match self.find_below(root, &path[1..]) {
+            Ok(node) => Ok(node),
+            Err(_) => Err(ViewError::BadOffset),
+        }
+    }
+}

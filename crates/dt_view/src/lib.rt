@@ -1,0 +1,22 @@
+//! A blob read in place: over the caller's bytes, without memory of its own and without recursion.
+#![tactic(auto)]
+
+mod cells;
+mod checking;
+mod error;
+mod finding;
+mod laws;
+mod nodes;
+mod ordering;
+mod properties;
+mod reserves;
+mod stages;
+mod tokens;
+mod view;
+
+pub use cells::{cell, double_cell, text};
+pub use error::ViewError;
+pub use laws::{first_of_siblings, held_is_shown};
+pub use nodes::NodeOffset;
+pub use properties::{PropertyOffset, ViewProperty};
+pub use view::View;

@@ -1,0 +1,176 @@
+//! Nodes and values of a blob, asked for and set by the words of a command line.
+
+use crate::saying::{SayError, are_numbers, said};
+use crate::showing::{ShowError, shown};
+use crate::source_lines::add_plain_property;
+use crate::value_type::{Notation, ValueType};
+use dt_blob::{BlobError, read};
+use dt_diff::Naming;
+use dt_query::{QueryError, get, set};
+use dt_tree::{Bytes, Name, Node, Path, TreeError};
+use std::alloc::{AllocError, Global};
+use std::hash::RandomState;
+
+/// Why there is no answer.
+#[derive(Clone, Copy, Debug, PartialEq, Eq)]
+pub enum AskError<'a> {
+    /// The blob has none.
+    Query(QueryError),
+    /// The value isn't such a text, or no whole numbers of the width.
+    Show(ShowError),
+    /// The word is no such number.
+    NoNumber(&'a str),
+    /// No property can have this name.
+    NoName,
+}
+
+impl From<AllocError> for AskError<'_> {
+    fn from(_error: AllocError) -> Self {
+        AskError::Query(QueryError::Blob(BlobError::NoMemory))
+    }
+}
+
+impl From<QueryError> for AskError<'_> {
+    fn from(error: QueryError) -> Self {
+        AskError::Query(error)
+    }
+}
+
+impl From<BlobError> for AskError<'_> {
+    fn from(error: BlobError) -> Self {
+        AskError::Query(QueryError::Blob(error))
+    }
+}
+
+impl From<ShowError> for AskError<'_> {
+    fn from(error: ShowError) -> Self {
+        match error {
+            ShowError::NoMemory => AskError::Query(QueryError::Blob(BlobError::NoMemory)),
+            error => AskError::Show(error),
+        }
+    }
+}
+
+impl<'a> From<SayError<'a>> for AskError<'a> {
+    fn from(error: SayError<'a>) -> Self {
+        match error {
+            SayError::NoMemory => AskError::Query(QueryError::Blob(BlobError::NoMemory)),
+            SayError::NoNumber(word) => AskError::NoNumber(word),
+        }
+    }
+}
+
+// What is no path no node has.
+fn path_of(alloc: Global, path: &str) -> Result<Path, QueryError> {
+    match Path::parse(alloc, path.as_bytes()) {
+        Ok(path) => Ok(path),
+        Err(TreeError::NoMemory) => Err(QueryError::Blob(BlobError::NoMemory)),
+        Err(_) => Err(QueryError::NoNode),
+    }
+}
+
+/// The value of a property as it is asked for, in a line.
+pub fn value_line(
+    alloc: Global,
+    blob: &[u8],
+    path: &str,
+    name: &str,
+    kind: ValueType,
+) -> Result<Vec<u8>, AskError<'static>> {
+    let path = path_of(alloc, path)?;
+    let value = get(alloc, blob, &path, name.as_bytes())?;
+    let mut line = shown(alloc, kind, value.as_slice())?;
+    line.push(b'\n').map_err(AllocError::from)?;
+    Ok(line)
+}
+
+fn properties_text(
+    alloc: Global,
+    naming: &Naming<'_>,
+    node: &Node,
+) -> Result<Vec<u8>, AskError<'static>> {
+    let mut text = Vec::new(alloc);
+    for property in node.properties() {
+        add_plain_property(alloc, &mut text, naming, property)?;
+    }
+    Ok(text)
+}
+
+/// The properties of a node as lines of a source; a phandle is shown as the path of the node that it names.
+pub fn node_text(
+    alloc: Global,
+    hasher: RandomState,
+    blob: &[u8],
+    path: &str,
+) -> Result<Vec<u8>, AskError<'static>> {
+    let tree = read(alloc, blob)?;
+    let path = path_of(alloc, path)?;
+    let naming = Naming::of(alloc, hasher, &tree)?;
+    match tree.find(&path) {
+        None => Err(AskError::Query(QueryError::NoNode)),
+        Some(node) => properties_text(alloc, &naming, node),
+    }
+}
+
+fn add_line(text: &mut Vec<u8>, name: &[u8], end: &[u8]) -> Result<(), AllocError> {
+    text.extend_from_slice(name)?;
+    text.extend_from_slice(end)
+}
+
+fn names_text(alloc: Global, node: &Node) -> Result<Vec<u8>, AllocError> {
+    let mut text = Vec::new(alloc);
+    for property in node.properties() {
+        add_line(&mut text, property.name.as_bytes(), b"\n")?;
+    }
+    for child in node.children() {
+        add_line(&mut text, child.name_bytes(), b"/\n")?;
+    }
+    Ok(text)
+}
+
+/// The names of what a node has: its properties, and its children each with a slash behind it.
+pub fn list_text(alloc: Global, blob: &[u8], path: &str) -> Result<Vec<u8>, AskError<'static>> {
+    let tree = read(alloc, blob)?;
+    let path = path_of(alloc, path)?;
+    match tree.find(&path) {
+        None => Err(AskError::Query(QueryError::NoNode)),
+        Some(node) => Ok(names_text(alloc, node)?),
+    }
+}
+
+// Where nothing is said of them, words that are all numbers make cells, and others texts.
+fn kind_of(kind: ValueType, words: &[&str]) -> ValueType {
+    let notation = match kind.notation {
+        Some(notation) => notation,
+        None if are_numbers(words) => Notation::Signed,
+        None => Notation::Text,
+    };
+    ValueType {
+        width: kind.width,
+        notation: Some(notation),
+    }
+}
+
+fn name_of(alloc: Global, name: &str) -> Result<Name, AskError<'static>> {
+    match Name::new(alloc, name.as_bytes()) {
+        Ok(name) => Ok(name),
+        Err(TreeError::NoMemory) => Err(AskError::Query(QueryError::Blob(BlobError::NoMemory))),
+        Err(_) => Err(AskError::NoName),
+    }
+}
+
+/// The blob with a property of the value that words say.
+pub fn set_bytes<'a>(
+    alloc: Global,
+    hasher: RandomState,
+    blob: &[u8],
+    path: &str,
+    name: &str,
+    kind: ValueType,
+    words: &[&'a str],
+) -> Result<Vec<u8>, AskError<'a>> {
+    let value = said(alloc, kind_of(kind, words), words)?;
+    let name = name_of(alloc, name)?;
+    let path = path_of(alloc, path)?;
+    Ok(set(alloc, hasher, blob, &path, name, Bytes::from_vec(value))?)
+}

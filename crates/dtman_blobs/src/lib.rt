@@ -1,0 +1,16 @@
+//! What the commands `diff`, `get`, `set` and `ls` answer, from the bytes of blobs to text.
+#![tactic(auto)]
+
+mod asking;
+mod diff_text;
+mod diffing;
+mod saying;
+mod showing;
+mod source_lines;
+mod value_type;
+
+pub use asking::{AskError, list_text, node_text, set_bytes, value_line};
+pub use diffing::{DiffError, Titles, diff_bytes};
+pub use saying::{SayError, said};
+pub use showing::{ShowError, are_texts, shown};
+pub use value_type::{Notation, ValueType, Width};

@@ -1,0 +1,10 @@
+//! The view of a blob as calls from C, which take no memory.
+//!
+//! `install/dtman_view.h` declares them. What is trusted of the caller stands there and in docs/promises.md.
+#![tactic(auto)]
+
+mod finding;
+mod opening;
+mod parts;
+mod told;
+mod walking;

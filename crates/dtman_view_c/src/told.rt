@@ -1,0 +1,84 @@
+//! How a call ended.
+ghost use Rattle.std.specs.Prelude.{◌≡◌};
+ghost use Rattle.dtman_view_c.specs.Told.{done, nothing, node_told, property_told, refused};
+
+use dt_blob::BlobError;
+use dt_view::{NodeOffset, PropertyOffset, ViewError};
+
+const DONE: u32 = 0;
+
+const REFUSED: u32 = 2;
+
+/// There is none of what is asked for.
+const NOTHING: u32 = 4;
+
+/// No node, or no property, begins at the offset.
+const BAD_OFFSET: u32 = 8;
+
+/// The bytes are no path.
+const BAD_PATH: u32 = 9;
+
+/// How a call of a view ended, and the offset or the number that it tells.
+#[repr(C)]
+#[derive(Clone, Copy)]
+pub struct ViewTold {
+    pub status: u32,
+    /// The fault's number where refused.
+    pub number: u32,
+    pub at: usize,
+}
+
+fn ended(status: u32, number: u32, at: usize) -> ViewTold
+    ensures { result ≡ record { status = status; number = number; at = at } }
+{
+    ViewTold { status, number, at }
+}
+
+pub(crate) fn done(at: usize) -> ViewTold
+    ensures { result ≡ done at }
+{
+    ended(DONE, 0, at)
+}
+
+pub(crate) fn nothing() -> ViewTold
+    ensures { result ≡ nothing }
+{
+    ended(NOTHING, 0, 0)
+}
+
+pub(crate) fn refused(error: BlobError) -> ViewTold
+    ensures { result ≡ refused error }
+{
+    ended(REFUSED, u32::from(error.number()), 0)
+}
+
+pub(crate) fn failed(error: ViewError) -> ViewTold
+    ensures { result ≡ node_told (Err error) }
+{
+    match error {
+        ViewError::BadOffset => ended(BAD_OFFSET, 0, 0),
+        ViewError::BadPath => ended(BAD_PATH, 0, 0),
+    }
+}
+
+/// Where a node was found.
+pub(crate) fn node_told(answer: Result<Option<NodeOffset>, ViewError>) -> ViewTold
+    ensures { result ≡ node_told answer }
+{
+    match answer {
+        Ok(Some(node)) => done(node.at),
+        Ok(None) => nothing(),
+        Err(error) => failed(error),
+    }
+}
+
+/// Where a property was found.
+pub(crate) fn property_told(answer: Result<Option<PropertyOffset>, ViewError>) -> ViewTold
+    ensures { result ≡ property_told answer }
+{
+    match answer {
+        Ok(Some(property)) => done(property.at),
+        Ok(None) => nothing(),
+        Err(error) => failed(error),
+    }
+}

@@ -1,0 +1,135 @@
+/*
+ * dtman_view.h: a blob read in place. Over the caller's bytes, without memory of the library's own and without recursion: for a boot loader,
+ * before there is a heap.
+ *
+ * Blobs are the flattened devicetrees of the Devicetree Specification v0.4, chapter 5, of versions 16 and 17. dtman_view_open makes the
+ * tests of a blob once; each other call then reads by offsets. A call over a view never reads outside the blob, whatever offset it is given.
+ *
+ * Bytes. A pointer is followed by how many bytes stand there, and is never NULL: DTMAN_VIEW_NONE, 0 says none. Names, paths and texts need
+ * no NUL at their end; those that a view hands out have none counted. The blob is only read. It must stay as it was opened, and where it
+ * was, as long as the view and what the view hands out are used. It needs no alignment.
+ *
+ * Offsets. A node and a property are named by where they begin in the structure block, as libfdt counts. An offset that a call handed out
+ * is right; where no node begins, the call answers DTMAN_BAD_OFFSET. An offset inside of a value that looks like a node is taken for one.
+ *
+ * Names. Siblings of one name, and properties of one name, are not looked for: of equals each call answers the first. The program's other
+ * calls refuse such a blob by 37.
+ *
+ * The library takes no memory, opens no file, makes no system call and has no state of its own. Of libc it wants memcpy, memmove, memset,
+ * memcmp and bcmp at most. docs/libfdt.md says which call stands for which of libfdt.
+ */
+#ifndef DTMAN_VIEW_H
+#define DTMAN_VIEW_H
+
+#include <stddef.h>
+#include <stdint.h>
+
+#ifdef __cplusplus
+extern "C" {
+#endif
+
+/* Which calls there are: it grows by one with each call more, and by a hundred where one changes. */
+#define DTMAN_VIEW_VERSION 100
+
+/* No bytes. */
+#define DTMAN_VIEW_NONE ((const uint8_t *)"")
+
+/* How a call ended. */
+enum {
+	DTMAN_VIEW_DONE = 0,       /* it found what it tells */
+	DTMAN_VIEW_REFUSED = 2,    /* of open alone: the blob has the fault with `number`, 30 to 38 */
+	DTMAN_VIEW_NOTHING = 4,    /* there is none */
+	DTMAN_VIEW_BAD_OFFSET = 8, /* no node, or no property, begins at the offset */
+	DTMAN_VIEW_BAD_PATH = 9    /* the bytes are no path */
+};
+
+struct dtman_view_told {
+	uint32_t status; /* one of the above */
+	uint32_t number; /* of the fault where refused, else 0 */
+	size_t at;       /* the offset of what was found, else 0 */
+};
+
+/* Bytes of the caller's blob. */
+struct dtman_view_part {
+	const uint8_t *bytes;
+	size_t length;
+};
+
+/* A view is the caller's memory; `= DTMAN_NO_VIEW` before it is opened. What stands in it is read, and only open writes it. */
+struct dtman_view {
+	struct dtman_view_part reserves, structure, strings;
+	uint32_t boot_cpu; /* the processor that boots */
+};
+
+#define DTMAN_NO_PART { DTMAN_VIEW_NONE, 0 }
+#define DTMAN_NO_VIEW { DTMAN_NO_PART, DTMAN_NO_PART, DTMAN_NO_PART, 0 }
+
+struct dtman_view_property {
+	struct dtman_view_part name, value;
+};
+
+#define DTMAN_NO_PROPERTY { DTMAN_NO_PART, DTMAN_NO_PART }
+
+struct dtman_view_reservation {
+	uint64_t address, size;
+};
+
+/*
+ * The view of a blob. All tests of the blob are made here, in the order in which the program makes them, but for equal names.
+ * REFUSED: 30 Truncated, 31 BadMagic, 32 BadVersion, 33 BadLayout, 34 BadToken, 35 BadString, 36 PropertyAfterNode, 37 BadTree,
+ * 38 TooLarge. The view is then as it was.
+ */
+struct dtman_view_told dtman_view_open(const uint8_t *blob, size_t length, struct dtman_view *view);
+
+/* The root. */
+struct dtman_view_told dtman_view_root(const struct dtman_view *view);
+
+/* The first child of a node. NOTHING where it has none. BAD_OFFSET. */
+struct dtman_view_told dtman_view_first_child(const struct dtman_view *view, size_t node);
+
+/* The next child of the same parent. NOTHING behind the last. BAD_OFFSET. */
+struct dtman_view_told dtman_view_next_sibling(const struct dtman_view *view, size_t node);
+
+/*
+ * The next node in the order of the blob: a node stands before all below it, and a child with all below it before the next child. NOTHING
+ * behind the last. BAD_OFFSET.
+ */
+struct dtman_view_told dtman_view_next_node(const struct dtman_view *view, size_t node);
+
+/* The child of a node by its whole name, unit address and all. NOTHING where it has no such child. BAD_OFFSET. */
+struct dtman_view_told dtman_view_child(const struct dtman_view *view, size_t node, const uint8_t *name, size_t name_length);
+
+/* The node at a path: `/`, or one or more times `/` and a whole name. NOTHING where there is none. BAD_PATH. */
+struct dtman_view_told dtman_view_find(const struct dtman_view *view, const uint8_t *path, size_t path_length);
+
+/* The first node in the order of the blob with a phandle. NOTHING where there is none. */
+struct dtman_view_told dtman_view_by_phandle(const struct dtman_view *view, uint32_t phandle);
+
+/* The next node behind this one, in the order of the blob, whose property `compatible` lists a text. NOTHING behind the last. BAD_OFFSET. */
+struct dtman_view_told dtman_view_next_compatible(const struct dtman_view *view, size_t node, const uint8_t *text,
+	size_t text_length);
+
+/* The first property of a node. NOTHING where it has none. BAD_OFFSET. */
+struct dtman_view_told dtman_view_first_property(const struct dtman_view *view, size_t node);
+
+/* The next property of the same node. NOTHING behind the last. BAD_OFFSET. */
+struct dtman_view_told dtman_view_next_property(const struct dtman_view *view, size_t property);
+
+/* A node's name, with its unit address; the root's has no bytes. BAD_OFFSET, and `part` is then as it was. */
+struct dtman_view_told dtman_view_name(const struct dtman_view *view, size_t node, struct dtman_view_part *part);
+
+/* A property's name and value. BAD_OFFSET, and `into` is then as it was. */
+struct dtman_view_told dtman_view_property(const struct dtman_view *view, size_t property, struct dtman_view_property *into);
+
+/* The value of a node's property by its name. NOTHING where it has no such property, BAD_OFFSET; `part` is then as it was. */
+struct dtman_view_told dtman_view_value(const struct dtman_view *view, size_t node, const uint8_t *name, size_t name_length,
+	struct dtman_view_part *part);
+
+/* The reserved memory by its place, from 0 on. NOTHING behind the last, and `into` is then as it was. */
+struct dtman_view_told dtman_view_reservation(const struct dtman_view *view, size_t index, struct dtman_view_reservation *into);
+
+#ifdef __cplusplus
+}
+#endif
+
+#endif
