@@ -1,5 +1,5 @@
 -- From a source that is prepared to its tree.
-use Rattle.std.proofs.Common.{◌≡◌, ℕ, ◌<◌, ◌≤◌, ◌-◌, ◌^◌, min, arith, Bool, true, false, List, Option, Some, None, ap, ◌∙◌}
+use Rattle.std.proofs.Common.{◌≡◌, ℕ, ◌<◌, ◌≤◌, ◌-◌, ◌^◌, min, arith, Bool, true, false, List, Option, Some, None, sym, ap, subst, ◌∙◌}
 use Rattle.std.specs.List.{filter, list_any}
 use Rattle.dt_tree.specs.NodeData.{NodeData}
 use Rattle.dt_tree.specs.PathMap.{path_map, tree_map}
@@ -15,8 +15,10 @@ use Rattle.dt_edit.specs.Said.{tree_of}
 use Rattle.dt_resolve.specs.declared.error.BuildError.TheVariants.{TooDeep}
 use Rattle.dt_resolve.specs.declared.prepared.Prepared.{Prepared}
 use Rattle.dt_resolve.specs.Prepared.{IsPrepared}
+use Rattle.dt_build.specs.declared.draft.Draft.{Draft}
+use Rattle.dt_build.specs.Private.Drafts.{drafted}
 use Rattle.dt_build.specs.Built.{IsBuilt, Refuses}
-use Rattle.dt_build.specs.Private.Fitting.{IsFitting}
+use Rattle.dt_build.specs.Private.Fitting.{IsFitting, IsPreparedFrom}
 use Rattle.dt_build.specs.Private.Made.{founds, lists}
 use Rattle.dt_build.specs.Private.Ready.{IsReady}
 use Rattle.dt_build.proofs.ListsOfPrepared.{lists-within, prepared-resolved, prepared-too_deep}
@@ -33,15 +35,18 @@ too-long size limit counted is more = omega (arith, is, more)
 pub passed : (size limit counted : ℕ) → counted ≡ min size (2 ^ 64 - 1) → limit < counted → limit < 2 ^ 64 - 1
 passed size limit counted is more = omega (arith, is, more)
 
-pub tree-made : (symbols : Bool) (source : Source) (p : Prepared) (rs : List (ℕ × ℕ)) (root : NodeData) (t : TreeData) → t ≡ tree_data (filter is_reserve rs) 0 root → rs ≡ source.reserves.items
+pub tree-made : (symbols : Bool) (source : Source) (p : Draft) (rs : List (ℕ × ℕ)) (root : NodeData) (t : TreeData) → t ≡ tree_data (filter is_reserve rs) 0 root → rs ≡ source.reserves.items
     → path_map root ≡ map_of (lists symbols p) → tree_map t ≡ tree_map_of (meaning_of source) (lists symbols p)
 tree-made symbols source p rs root t is same made = ap tree_map is ∙ (λ i. record { nodes = made i; reserves = filter is_reserve (same i); boot_cpu = 0 })
 
-module _ (symbols : Bool) (source : Source) (es : List (Definition (List Found))) (p : Prepared) (is : IsPrepared symbols (meaning_of source) es p) where
+module _ (symbols : Bool) (source : Source) (es : List (Definition (List Found))) (from : Prepared) (is : IsPrepared symbols (meaning_of source) es from) where
+  abbrev p : Draft
+  p = drafted from
+
   pub prepared-ready : IsLawful (meaning_of source) → IsReady p
   prepared-ready lawful =
-      ready symbols source es p is lawful
-      (walked-founds p.plugin (tree_of p.live) (founds p) (standing-all symbols (meaning_of source) es p is) (found-all symbols (meaning_of source) es p is))
+      ready symbols source es from is lawful
+      (walked-founds p.plugin (tree_of p.live) (founds p) (standing-all symbols (meaning_of source) es from is) (found-all symbols (meaning_of source) es from is))
 
   -- no node has a name that is kept
   pub prepared-free : names_taken symbols p.plugin (tree_of p.live) ≡ false
@@ -50,16 +55,33 @@ module _ (symbols : Bool) (source : Source) (es : List (Definition (List Found))
   pub built : IsLawful (meaning_of source) → list_any is_too_deep (lists symbols p).nodes ≡ false → (limit : ℕ) (tree : Option TreeData) → IsFitting symbols (meaning_of source) p limit tree
       → IsBuilt symbols (meaning_of source) limit tree
   built lawful fits limit (Some t) h = record {
-    tree = record { lists = lists symbols p; resolves = prepared-resolved symbols (meaning_of source) es p is fits; map = h.map };
+    tree = record { lists = lists symbols p; resolves = prepared-resolved symbols (meaning_of source) es from is fits; map = h.map };
     fits = h.fits;
   }
   built lawful fits limit None h = record {
     lists = lists symbols p;
-    resolves = prepared-resolved symbols (meaning_of source) es p is fits;
+    resolves = prepared-resolved symbols (meaning_of source) es from is fits;
     longer = h.0;
     passable = h.1;
     trees = λ b sound same. lists-within symbols p (prepared-ready lawful) prepared-free fits b sound same;
   }
 
   pub too-deep : list_any is_too_deep (lists symbols p).nodes ≡ true → Refuses symbols (meaning_of source) TooDeep
-  too-deep deep = prepared-too_deep symbols (meaning_of source) es p is deep
+  too-deep deep = prepared-too_deep symbols (meaning_of source) es from is deep
+
+-- ---- a draft of such a source
+module _ (symbols : Bool) (source : Source) (d : Draft) (of : IsPreparedFrom symbols (meaning_of source) d) where
+  pub draft-ready : IsLawful (meaning_of source) → IsReady d
+  draft-ready lawful = subst IsReady (sym of.3) (prepared-ready symbols source of.0 of.1 of.2 lawful)
+
+  pub draft-free : names_taken symbols d.plugin (tree_of d.live) ≡ false
+  draft-free = ap (λ x. names_taken symbols x.plugin (tree_of x.live)) of.3 ∙ prepared-free symbols source of.0 of.1 of.2
+
+  pub draft-built : IsLawful (meaning_of source) → list_any is_too_deep (lists symbols d).nodes ≡ false → (limit : ℕ) (tree : Option TreeData) → IsFitting symbols (meaning_of source) d limit tree
+      → IsBuilt symbols (meaning_of source) limit tree
+  draft-built lawful fits limit tree fitting =
+      built symbols source of.0 of.1 of.2 lawful (ap (λ x. list_any is_too_deep (lists symbols x).nodes) (sym of.3) ∙ fits) limit tree
+      (subst (λ (x : Draft). IsFitting symbols (meaning_of source) x limit tree) of.3 fitting)
+
+  pub draft-deep : list_any is_too_deep (lists symbols d).nodes ≡ true → Refuses symbols (meaning_of source) TooDeep
+  draft-deep deep = too-deep symbols source of.0 of.1 of.2 (ap (λ x. list_any is_too_deep (lists symbols x).nodes) (sym of.3) ∙ deep)

@@ -16,7 +16,7 @@ use Rattle.dt_tree_builder.specs.Standing.{walked}
 use Rattle.dt_tree_builder.proofs.Orders.{there-same}
 use Rattle.dt_tree_builder.proofs.MakingWalk.{names-defined, one-more}
 use Rattle.dt_edit.specs.Said.{tree_of}
-use Rattle.dt_resolve.specs.declared.prepared.Prepared.{Prepared}
+use Rattle.dt_build.specs.declared.draft.Draft.{Draft}
 use Rattle.dt_build.specs.declared.fixups_by_label.LabelFixups.{LabelFixups}
 use Rattle.dt_build.specs.Private.ByLabel.{fixups_path, given}
 use Rattle.dt_build.specs.Private.Made.{all_phandles, fixup_lists, founds, made_sites, symbol_lists}
@@ -44,7 +44,7 @@ label-of : (es : List (Definition (List ℕ))) (g : LabelFixups) (gs : List Labe
 label-of [] g gs h = h.0
 label-of (e ∷ es) g gs h = label-of es g gs h.1
 
-pub label_fixups-named : (p : Prepared) → IsReady p → (old : List Property) (left rest : List LabelFixups) (g : LabelFixups) → left ≡ g ∷ rest → defined_at fixups_path old ++ given left ≡ fixups (made_sites p) [] → IsName g.label.now
+pub label_fixups-named : (p : Draft) → IsReady p → (old : List Property) (left rest : List LabelFixups) (g : LabelFixups) → left ≡ g ∷ rest → defined_at fixups_path old ++ given left ≡ fixups (made_sites p) [] → IsName g.label.now
 label_fixups-named p ready old left rest g first so =
     label-of (defined_at fixups_path old) g rest
     (subst (Each (λ e. IsName e.name)) (sym so ∙ ap (λ gs. defined_at fixups_path old ++ given gs) first) (fixups-names IsName (made_sites p) (made-labelled p ready)))
@@ -54,7 +54,7 @@ held-all : (q : Path) (es : List (Definition (List ℕ))) → Each (λ e. e.path
 held-all q [] at = refl
 held-all q (e ∷ es) at = held-own e es q at.0 ∙ ap (λ ds. e ∷ ds) (held-all q es at.1)
 
-module _ (p : Prepared) (ps : List Property) (is : defined_at fixups_path ps ≡ fixups (made_sites p) []) where
+module _ (p : Draft) (ps : List Property) (is : defined_at fixups_path ps ≡ fixups (made_sites p) []) where
   pub distinct-labels : are_distinct (property_names ps) ≡ true
   distinct-labels =
       ap are_distinct (names-defined fixups_path ps ∙ ap (map (λ e. e.name)) (is ∙ sym (held-all fixups_path (fixups (made_sites p) []) (fixups-at (made_sites p)))))

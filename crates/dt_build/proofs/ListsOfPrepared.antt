@@ -1,4 +1,4 @@
--- The lists of a source that is prepared: they are its resolved tree, each property stands at a node of theirs, and no name stands
+-- The lists of a draft: they are its resolved tree, each property stands at a node of theirs, and no name stands
 -- twice at one.
 use Rattle.std.proofs.Common.{◌≡◌, ◌≤◌, suc, Bool, true, false, List, [], ◌∷◌, ◌++◌, map, length, Ok, Err, if◌then◌else◌, refl, sym, ap, ap₂, ◌∙◌, subst, arith}
 use Rattle.std.specs.Prelude.{All}
@@ -23,6 +23,8 @@ use Rattle.dt_live.proofs.Each.{Each, each-all, each-append, each-more, each-sam
 use Rattle.dt_edit.specs.Said.{tree_of}
 use Rattle.dt_resolve.specs.declared.node_phandles.NodePhandle.{NodePhandle}
 use Rattle.dt_resolve.specs.declared.prepared.Prepared.{Prepared}
+use Rattle.dt_build.specs.declared.draft.Draft.{Draft}
+use Rattle.dt_build.specs.Private.Drafts.{drafted}
 use Rattle.dt_resolve.specs.NodePhandles.{AreStanding, path_phandle_of}
 use Rattle.dt_resolve.specs.Prepared.{IsPrepared}
 use Rattle.dt_tree_builder.specs.Standing.{AreNodes, behind_root, walked}
@@ -41,7 +43,10 @@ use Rattle.dt_build.proofs.SymbolsLast.{symbols_path, symbols-elsewhere, symbols
 use Rattle.dt_build.proofs.WalkOrder.{AllAt, AreOrdered, in-walk, walk-ordered}
 
 -- ---- the resolved tree
-module _ (symbols : Bool) (m : Meaning) (es : List (Definition (List Found))) (p : Prepared) (is : IsPrepared symbols m es p) where
+module _ (symbols : Bool) (m : Meaning) (es : List (Definition (List Found))) (from : Prepared) (is : IsPrepared symbols m es from) where
+  abbrev p : Draft
+  p = drafted from
+
   prepared-site_list : resolved symbols m ≡ shallow (lists symbols p)
   prepared-site_list =
       let s = tree_of p.live in
@@ -49,7 +54,7 @@ module _ (symbols : Bool) (m : Meaning) (es : List (Definition (List Found))) (p
       ap (λ r. then_do r (resolved_state symbols m.plugin)) is.edited
       ∙ state-resolved symbols m.plugin is.fragments s es (given_phandles p) all.free all.given all.found
       ∙ ap₂ (λ b ns. shallow (put_together symbols b s es (given_phandles p) ns)) (sym is.plugin) (sym all.new)
-      ∙ ap (λ fs. shallow (put_together symbols p.plugin s fs (given_phandles p) (new_phandles p))) (sym (founds-are symbols m es p is))
+      ∙ ap (λ fs. shallow (put_together symbols p.plugin s fs (given_phandles p) (new_phandles p))) (sym (founds-are symbols m es from is))
       ∙ ap shallow (put-by symbols p.plugin s (founds p) (given_phandles p) (new_phandles p))
 
   pub prepared-resolved : list_any is_too_deep (lists symbols p).nodes ≡ false → resolved symbols m ≡ Ok (lists symbols p)
@@ -87,7 +92,7 @@ assigned-there rows (x ∷ xs) up = (
   assigned-there rows xs (record { known = λ i y below. up.known (suc i) y (omega arith); stand = λ i y below. up.stand (suc i) y (omega arith) }),
 )
 
-module _ (p : Prepared) (are : AreNodes (tree_of p.live).nodes) (same : flat_map (held (founds p)) (preorder (tree_of p.live).nodes) ≡ founds p) (up : AreStanding p.live.nodes.items p.resolution.new.items) where
+module _ (p : Draft) (are : AreNodes (tree_of p.live).nodes) (same : flat_map (held (founds p)) (preorder (tree_of p.live).nodes) ≡ founds p) (up : AreStanding p.live.nodes.items p.new.items) where
   abbrev there : List Path
   there = [] ∷ (tree_of p.live).nodes
 
@@ -95,7 +100,7 @@ module _ (p : Prepared) (are : AreNodes (tree_of p.live).nodes) (same : flat_map
   made-each =
       each-append (IsAt there) (map (with_bytes (all_phandles p)) (founds p)) (map phandle_property (new_phandles p))
       (each-same (IsAt there) (with_bytes (all_phandles p)) (founds p) (walk-there (tree_of p.live).nodes are (founds p) same))
-      (assigned-there p.live.nodes.items p.resolution.new.items up)
+      (assigned-there p.live.nodes.items p.new.items up)
 
   -- each property that is made is at a node
   pub made-there : All (λ e. is_listed e.path ([] ∷ (tree_of p.live).nodes) ≡ true) (made_properties p)
@@ -126,7 +131,7 @@ symbols-distinct ls labels q = by_same (same_path q symbols_path) refl where
   by_same false other = ap (λ es. are_distinct (map (λ e. e.name) es)) (symbols-elsewhere ls q other)
 
 -- ---- the lists
-module _ (symbols : Bool) (p : Prepared) (ready : IsReady p) (free : names_taken symbols p.plugin (tree_of p.live) ≡ false) where
+module _ (symbols : Bool) (p : Draft) (ready : IsReady p) (free : names_taken symbols p.plugin (tree_of p.live) ≡ false) where
   abbrev labels : List Label
   labels = (tree_of p.live).labels
 
@@ -182,7 +187,7 @@ module _ (symbols : Bool) (p : Prepared) (ready : IsReady p) (free : names_taken
     map-lists_walked = sym (map-walked (lists symbols p) lists-whole.nodes)
 
 -- ---- the symbols in the order of the walk
-pub walked-lists : (p : Prepared) → IsReady p → names_taken true p.plugin (tree_of p.live) ≡ false → (l : Label) (ls : List Label) → (tree_of p.live).labels ≡ l ∷ ls
+pub walked-lists : (p : Draft) → IsReady p → names_taken true p.plugin (tree_of p.live) ≡ false → (l : Label) (ls : List Label) → (tree_of p.live).labels ≡ l ∷ ls
     → walked (symbol_lists true p)
     ≡ record {
       nodes = behind_root (preorder (tree_of p.live).nodes) ++ (symbols_name ∷ []) ∷ [];
@@ -197,11 +202,11 @@ walked-lists p ready free l ls are =
       with_last xs = record { nodes = behind_root (preorder (tree_of p.live).nodes) ++ (symbols_name ∷ []) ∷ []; properties = flat_map (own p) (preorder (tree_of p.live).nodes) ++ map symbol xs }
 
 -- without symbols, or without labels, there is nothing more
-pub lists-bare : (symbols : Bool) (p : Prepared) → when symbols (map symbol (tree_of p.live).labels) ≡ [] → symbol_lists symbols p ≡ plain_lists p
+pub lists-bare : (symbols : Bool) (p : Draft) → when symbols (map symbol (tree_of p.live).labels) ≡ [] → symbol_lists symbols p ≡ plain_lists p
 lists-bare symbols p none = ap (λ es. with_more es (plain_lists p)) none ∙ with-none (plain_lists p)
 
 -- an ordinary source has no fixups
-pub lists-ordinary : (symbols : Bool) (p : Prepared) → p.plugin ≡ false → lists symbols p ≡ symbol_lists symbols p
+pub lists-ordinary : (symbols : Bool) (p : Draft) → p.plugin ≡ false → lists symbols p ≡ symbol_lists symbols p
 lists-ordinary symbols p ordinary =
     ap (λ b. let xs = when b (sites (all_phandles p) (founds p)) in with_more (local_fixups xs []) (with_more (fixups xs []) (symbol_lists symbols p))) ordinary
     ∙ with-none (with_more [] (symbol_lists symbols p)) ∙ with-none (symbol_lists symbols p)

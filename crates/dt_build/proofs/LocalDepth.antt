@@ -14,7 +14,7 @@ use Rattle.dt_meaning.specs.Resolved.{Resolved, fronts, is_too_deep, symbol, whe
 use Rattle.dt_live.proofs.Each.{Each}
 use Rattle.dt_edit.specs.Said.{tree_of}
 use Rattle.dt_tree_builder.proofs.PathFacts.{listed-first, listed-next, same-is}
-use Rattle.dt_resolve.specs.declared.prepared.Prepared.{Prepared}
+use Rattle.dt_build.specs.declared.draft.Draft.{Draft}
 use Rattle.dt_build.specs.Private.Made.{fixup_lists, lists, made_sites, plain_lists, symbol_lists}
 use Rattle.dt_build.specs.Private.Ready.{IsReady}
 use Rattle.dt_build.specs.Private.FixupSites.{is_deep}
@@ -112,12 +112,12 @@ deep-local [] es = none (any_deep es) where
 deep-local (x ∷ xs) es =
     deep-local xs (local_fixup x.label x es) ∙ ap (λ b. b || list_any is_deep xs) (deep-one x.label x es) ∙ regroup (is_deep x) (any_deep es) (list_any is_deep xs)
 
--- ---- of a source that is prepared
+-- ---- of a draft
 when-at : (t : Bool) (ls : List Label) → Each (λ e. e.path ≡ symbols_path) (when t (map symbol ls))
 when-at true ls = symbols-at ls
 when-at false ls = tt
 
-pub lists-deep : (symbols : Bool) (p : Prepared) → IsReady p → list_any is_too_deep (lists symbols p).nodes ≡ list_any is_deep (made_sites p)
+pub lists-deep : (symbols : Bool) (p : Draft) → IsReady p → list_any is_too_deep (lists symbols p).nodes ≡ list_any is_deep (made_sites p)
 lists-deep symbols p ready =
     let labels = (tree_of p.live).labels in
     deep-more (fixup_lists symbols p) (local_fixups (made_sites p) [])

@@ -1,23 +1,24 @@
--- Properties of a source that is prepared differ in node or name.
-use Rattle.std.proofs.Common.{◌≡◌, ℕ, Bool, true, false, not, ◌||◌, List, [], ◌∷◌, ◌++◌, map, cond, refl, sym, ap, ◌∙◌, subst}
+-- Properties of a draft differ in node or name.
+use Rattle.std.proofs.Common.{◌≡◌, ℕ, Bool, true, false, not, ◌||◌, List, [], ◌∷◌, ◌++◌, map, drop, Option, cond, refl, sym, ap, ◌∙◌, subst}
 use Rattle.std.specs.Str.{bytes_eq}
 use Rattle.std.proofs.lemmas.Bool.{and_parts}
 use Rattle.dt_tree.specs.Sound.{is_among, are_distinct}
 use Rattle.dt_meaning.specs.Paths.{Path, same_path}
 use Rattle.dt_meaning.specs.Edits.{Definition, is_of}
-use Rattle.dt_meaning.specs.References.{held, in_order}
+use Rattle.dt_meaning.specs.References.{held}
 use Rattle.dt_meaning.specs.Resolved.{phandle_property, with_bytes}
 use Rattle.dt_live.proofs.Each.{Each}
-use Rattle.dt_edit.specs.Said.{tree_of}
-use Rattle.dt_resolve.specs.Private.ReadProperty.{read_property}
-use Rattle.dt_resolve.proofs.ReadOrder.{read-order}
-use Rattle.dt_resolve.specs.declared.prepared.Prepared.{Prepared}
+use Rattle.dt_live.specs.Rows.{node_path}
+use Rattle.dt_live.specs.declared.preorder.properties.NodeProperty.{NodeProperty}
+use Rattle.dt_edit.specs.Said.{Parts}
+use Rattle.dt_resolve.specs.Founds.{all_uses, found_properties}
+use Rattle.dt_build.specs.declared.draft.Draft.{Draft}
 use Rattle.dt_tree_builder.proofs.PathFacts.{not-both, not-true, same-is, same-itself}
 use Rattle.dt_build.specs.Private.FixupSites.{key_of, keys}
 use Rattle.dt_build.specs.Private.Made.{all_phandles, founds, made_properties, new_phandles}
 use Rattle.dt_build.specs.Private.Ready.{IsReady}
 use Rattle.dt_build.proofs.ApartLists.{InPairs, pairs-from, pairs-same}
-use Rattle.dt_build.proofs.ApartPhandles.{bare, keys-found}
+use Rattle.dt_build.proofs.ApartPhandles.{bare}
 use Rattle.dt_build.proofs.NamedEdits.{HasOtherKey}
 
 module _ {V : Type 0} where
@@ -63,7 +64,11 @@ module _ {V : Type 0} where
     before [] g = tt
     before (z ∷ zs) g = (g.0, before zs g.1)
 
-module _ (p : Prepared) (ready : IsReady p) where
+bare-founds : (p : Draft) (xs : List (NodeProperty Parts)) (ts : List (Option ℕ)) → map bare (found_properties (node_path p.live) xs ts) ≡ map bare (map (key_of p) xs)
+bare-founds p [] ts = refl
+bare-founds p (x ∷ xs) ts = ap (λ ks. bare (key_of p x) ∷ ks) (bare-founds p xs (drop (all_uses x.value.now) ts))
+
+module _ (p : Draft) (ready : IsReady p) where
   founds-apart : InPairs HasOtherKey (founds p)
   founds-apart =
       pairs-from HasOtherKey (with_bytes (all_phandles p)) (founds p)
@@ -72,7 +77,5 @@ module _ (p : Prepared) (ready : IsReady p) where
   -- in preorder
   pub keys-apart : InPairs HasOtherKey (keys p)
   keys-apart =
-      let same = keys-found p.plugin (tree_of p.live) (in_order (tree_of p.live)) (founds p) ready.found in
-      let read : InPairs HasOtherKey (in_order (tree_of p.live)) = pairs-from HasOtherKey bare (in_order (tree_of p.live)) (subst (InPairs HasOtherKey) same (pairs-same HasOtherKey bare (founds p) founds-apart)) in
-      pairs-same HasOtherKey (key_of p) p.in_preorder.properties.items
-      (pairs-from HasOtherKey (read_property p.live.nodes.items) p.in_preorder.properties.items (subst (InPairs HasOtherKey) (sym (read-order p.live p.in_preorder.properties.items ready.properties)) read))
+      pairs-from HasOtherKey bare (keys p)
+      (subst (InPairs HasOtherKey) (bare-founds p p.in_preorder.properties.items p.targets.items) (pairs-same HasOtherKey bare (founds p) founds-apart))

@@ -17,7 +17,7 @@ use Rattle.dt_tree_builder.proofs.Pushes.{IsNext}
 use Rattle.dt_tree_builder.proofs.MakingWalk.{some-node}
 use Rattle.dt_live.proofs.BlankRows.{blank_row}
 use Rattle.dt_edit.specs.Said.{tree_of}
-use Rattle.dt_resolve.specs.declared.prepared.Prepared.{Prepared}
+use Rattle.dt_build.specs.declared.draft.Draft.{Draft}
 use Rattle.dt_build.specs.declared.local_properties.LocalFixup.{LocalFixup}
 use Rattle.dt_build.specs.Private.Made.{lists}
 use Rattle.dt_build.specs.Private.FixupSites.{key_at}
@@ -42,17 +42,17 @@ not-zero n some = by_test (n == 0) refl where
   by_test true e = let none : n ≡ 0 = eqb-true n 0 e in absurd (omega (arith, some, none))
   by_test false e = refl
 
-pub first-node : (p : Prepared) → IsReady p → 1 ≤ length p.in_preorder.nodes.items
+pub first-node : (p : Draft) → IsReady p → 1 ≤ length p.in_preorder.nodes.items
 first-node p ready = omega (arith, count (order-of p ready), some-node (tree_of p.live).nodes)
 
-pub marks-are : (p : Prepared) (marks : List Bool) (xs ys : List LocalFixup) → local_definitions p xs ≡ all_local p → ys ≡ xs → length marks ≡ length p.live.nodes.items + 1
+pub marks-are : (p : Draft) (marks : List Bool) (xs ys : List LocalFixup) → local_definitions p xs ≡ all_local p → ys ≡ xs → length marks ≡ length p.live.nodes.items + 1
     → ((j : ℕ) → is_standing p.live j ≡ true → get_or marks j false ≡ list_any (λ x. is_listed (node_path p.live j) (fronts (key_at p x.property).path)) ys) → AreMarks p marks
 marks-are p marks xs ys are same long all = record {
   count = long;
   marks = λ n some there. mark-is p (node_path p.live n) some xs are (get_or marks n false) (all n there ∙ ap (list_any (λ x. is_listed (node_path p.live n) (fronts (key_at p x.property).path))) same);
 }
 
-module _ (p : Prepared) (ready : IsReady p) (k : ℕ) (some : 1 ≤ k) (below : k < length p.in_preorder.nodes.items) (n : ℕ) (there : n ≡ get_or p.in_preorder.nodes.items k n) where
+module _ (p : Draft) (ready : IsReady p) (k : ℕ) (some : 1 ≤ k) (below : k < length p.in_preorder.nodes.items) (n : ℕ) (there : n ≡ get_or p.in_preorder.nodes.items k n) where
   pub node-is : n ≡ get_or p.in_preorder.nodes.items k 0
   node-is = there ∙ get_or_default p.in_preorder.nodes.items k n 0 below
 

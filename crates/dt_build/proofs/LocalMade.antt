@@ -13,7 +13,7 @@ use Rattle.dt_live.proofs.Each.{Each}
 use Rattle.dt_tree_builder.specs.Standing.{walked}
 use Rattle.dt_tree_builder.proofs.Standing.{listed-both}
 use Rattle.dt_edit.specs.Said.{tree_of}
-use Rattle.dt_resolve.specs.declared.prepared.Prepared.{Prepared}
+use Rattle.dt_build.specs.declared.draft.Draft.{Draft}
 use Rattle.dt_build.specs.Private.LocalFixups.{all_local, has_local, local_path, with_locals}
 use Rattle.dt_build.specs.Private.Made.{all_phandles, fixup_lists, founds, lists, made_sites}
 use Rattle.dt_build.specs.Private.Ready.{IsReady}
@@ -36,17 +36,17 @@ pub nothing-behind : (r : Resolved) → r ≡ with_behind r [] []
 nothing-behind r = λ i. record { nodes = sym (append-nil r.nodes) i; properties = sym (append-nil r.properties) i }
 
 -- a source with some is a plugin
-pub of-plugin : (p : Prepared) (e : Definition (List ℕ)) (es : List (Definition (List ℕ))) → all_local p ≡ e ∷ es → p.plugin ≡ true
+pub of-plugin : (p : Draft) (e : Definition (List ℕ)) (es : List (Definition (List ℕ))) → all_local p ≡ e ∷ es → p.plugin ≡ true
 of-plugin p e es is = by_plugin p.plugin is where
   by_plugin : (b : Bool) → local_fixups (when b (sites (all_phandles p) (founds p))) [] ≡ e ∷ es → b ≡ true
   by_plugin true is = refl
   by_plugin false is = absurd (cc)
 
 -- the nodes that have local fixups, in the order of the walk
-abbrev pub local_paths : Prepared → List Path
+abbrev pub local_paths : Draft → List Path
 local_paths p = filter (has_local p) (preorder (tree_of p.live).nodes)
 
-module _ (symbols : Bool) (p : Prepared) (ready : IsReady p) (free : names_taken symbols p.plugin (tree_of p.live) ≡ false) (shallow : list_any is_too_deep (lists symbols p).nodes ≡ false) where
+module _ (symbols : Bool) (p : Draft) (ready : IsReady p) (free : names_taken symbols p.plugin (tree_of p.live) ≡ false) (shallow : list_any is_too_deep (lists symbols p).nodes ≡ false) where
   -- none
   without : all_local p ≡ [] → walked (lists symbols p) ≡ with_locals symbols p (local_paths p)
   without is =

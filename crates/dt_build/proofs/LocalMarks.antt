@@ -16,7 +16,7 @@ use Rattle.dt_live.specs.Rows.{IsNode, no_row, path_of, row_at, stands}
 use Rattle.dt_live.proofs.Climbs.{path-step, stands-step}
 use Rattle.dt_live.proofs.PathTests.{within-snoc}
 use Rattle.dt_live.proofs.StandingRows.{same-node}
-use Rattle.dt_resolve.specs.declared.prepared.Prepared.{Prepared}
+use Rattle.dt_build.specs.declared.draft.Draft.{Draft}
 use Rattle.dt_tree_builder.specs.Lists.{defined_at}
 use Rattle.dt_tree_builder.proofs.PathFacts.{bytes-itself}
 use Rattle.dt_tree_builder.proofs.MakingWalk.{one-more}
@@ -41,7 +41,7 @@ at-set xs i k a d within = by_test (k == i) refl where
   by_test true e = ap (λ j. get_or (set xs i a) j d) (eqb-true k i e) ∙ get_or-set_same xs i a d within
   by_test false e = let other : k ≢ i = λ is. absurd (cc (eq-eqb k i is)) in get_or-set_other xs i k a d other
 
-module _ (p : Prepared) (ready : IsReady p) where
+module _ (p : Draft) (ready : IsReady p) where
   abbrev rows : List NodeRow
   rows = p.live.nodes.items
 

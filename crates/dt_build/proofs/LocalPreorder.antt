@@ -10,7 +10,7 @@ use Rattle.dt_meaning.specs.Resolved.{is_too_deep}
 use Rattle.dt_tree_builder.proofs.PathFacts.{child-is, not-deep, or-false}
 use Rattle.dt_tree_builder.proofs.Walks.{flat-none}
 use Rattle.dt_edit.specs.Said.{tree_of}
-use Rattle.dt_resolve.specs.declared.prepared.Prepared.{Prepared}
+use Rattle.dt_build.specs.declared.draft.Draft.{Draft}
 use Rattle.dt_build.specs.Private.Made.{fixup_lists, lists, made_sites}
 use Rattle.dt_build.specs.Private.Ready.{IsReady}
 use Rattle.dt_build.proofs.LocalOrder.{listed-kept}
@@ -57,9 +57,9 @@ module _ (n : List ℕ) (nodes news : List Path) (shallow : list_any is_too_deep
   unfolding preorder
   kept-preorder = deeper 63 [] refl
 
--- ---- of a source that is prepared
+-- ---- of a draft
 -- where there are local fixups, the walk below their node is that over the nodes that have local fixups
-pub local-walked : (symbols : Bool) (p : Prepared) → IsReady p → list_any is_too_deep (lists symbols p).nodes ≡ false → is_listed (local_fixups_name ∷ []) (locals_of (made_sites p)) ≡ true
+pub local-walked : (symbols : Bool) (p : Draft) → IsReady p → list_any is_too_deep (lists symbols p).nodes ≡ false → is_listed (local_fixups_name ∷ []) (locals_of (made_sites p)) ≡ true
     → walk_of local_fixups_name (local_fixups (made_sites p) []) ≡ map (λ c. local_fixups_name ∷ c) (filter (λ q. is_listed (local_fixups_name ∷ q) (locals_of (made_sites p))) (preorder (tree_of p.live).nodes))
 local-walked symbols p ready shallow there =
     let nodes = (tree_of p.live).nodes in

@@ -23,7 +23,7 @@ use Rattle.dt_tree_builder.proofs.Standing.{listed-both}
 use Rattle.dt_live.specs.Rows.{node_path}
 use Rattle.dt_tree_builder.proofs.MakingWalk.{names-defined}
 use Rattle.dt_edit.specs.Said.{tree_of}
-use Rattle.dt_resolve.specs.declared.prepared.Prepared.{Prepared}
+use Rattle.dt_build.specs.declared.draft.Draft.{Draft}
 use Rattle.dt_build.specs.declared.local_properties.LocalFixup.{LocalFixup}
 use Rattle.dt_build.specs.Private.Made.{fixup_lists, lists, made_sites}
 use Rattle.dt_build.specs.Private.FixupSites.{key_at}
@@ -71,7 +71,7 @@ listed-taken (x ∷ xs) (suc i) (suc j) less below = later (same_path (get_or xs
   later false e = e
 
 -- ---- marks
-module _ (p : Prepared) (q : Path) (some : 1 ≤ length q) where
+module _ (p : Draft) (q : Path) (some : 1 ≤ length q) where
   one-mark : (x : Path) → is_listed (local_path q) (fronts (local_path x)) ≡ is_listed q (fronts x)
   one-mark x =
       listed-fronts (local_path q) (local_path x) ∙ ap (λ t. t && is_within q x) (bytes-itself local_fixups_name)
@@ -88,23 +88,23 @@ module _ (p : Prepared) (q : Path) (some : 1 ≤ length q) where
   mark-is xs are t is = is ∙ all-marks xs ∙ ap (λ es. is_listed (local_path q) (fronts_of es)) are ∙ sym (listed-new (local_path q) (fronts_of (all_local p)))
 
 -- ---- none
-pub no-local : (symbols : Bool) (p : Prepared) (bs : List NodeData) → built_lists bs ≡ walked (fixup_lists symbols p) → all_local p ≡ [] → built_lists bs ≡ walked (lists symbols p)
+pub no-local : (symbols : Bool) (p : Draft) (bs : List NodeData) → built_lists bs ≡ walked (fixup_lists symbols p) → all_local p ≡ [] → built_lists bs ≡ walked (lists symbols p)
 no-local symbols p bs made none = made ∙ ap walked (sym (ap (λ es. with_more es (fixup_lists symbols p)) none ∙ with-none (fixup_lists symbols p)))
 
-pub plugin-locals : (p : Prepared) (xs : List LocalFixup) → local_definitions p xs ≡ all_local p → 0 < length xs → p.plugin ≡ true
+pub plugin-locals : (p : Draft) (xs : List LocalFixup) → local_definitions p xs ≡ all_local p → 0 < length xs → p.plugin ≡ true
 plugin-locals p [] are some = absurd (omega (arith, some))
 plugin-locals p (x ∷ xs) are some = of-plugin p _ _ (sym are)
 
-pub none-locals : (p : Prepared) (xs : List LocalFixup) → local_definitions p xs ≡ all_local p → length xs ≡ 0 → all_local p ≡ []
+pub none-locals : (p : Draft) (xs : List LocalFixup) → local_definitions p xs ≡ all_local p → length xs ≡ 0 → all_local p ≡ []
 none-locals p [] are none = sym are
 none-locals p (x ∷ xs) are none = absurd (omega (arith, none))
 
 -- no name stands twice
-pub distinct-local : (p : Prepared) (q : Path) (ps : List Property) → defined_at (local_path q) ps ≡ held (all_local p) (local_path q) → are_distinct (property_names ps) ≡ true
+pub distinct-local : (p : Draft) (q : Path) (ps : List Property) → defined_at (local_path q) ps ≡ held (all_local p) (local_path q) → are_distinct (property_names ps) ≡ true
 distinct-local p q ps is = ap are_distinct (names-defined (local_path q) ps ∙ ap (map (λ e. e.name)) is) ∙ local_fixups-distinct (made_sites p) (local_path q)
 
 -- ---- the nodes of the walk
-module _ (symbols : Bool) (p : Prepared) (ready : IsReady p) (free : names_taken symbols p.plugin (tree_of p.live) ≡ false) (shallow : list_any is_too_deep (lists symbols p).nodes ≡ false) (plugin : p.plugin ≡ true) where
+module _ (symbols : Bool) (p : Draft) (ready : IsReady p) (free : names_taken symbols p.plugin (tree_of p.live) ≡ false) (shallow : list_any is_too_deep (lists symbols p).nodes ≡ false) (plugin : p.plugin ≡ true) where
   abbrev order : List Path
   order = preorder (tree_of p.live).nodes
 

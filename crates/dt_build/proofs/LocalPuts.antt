@@ -10,7 +10,7 @@ use Rattle.dt_meaning.specs.Paths.{same_path}
 use Rattle.dt_meaning.specs.Edits.{Definition, definition, is_of}
 use Rattle.dt_meaning.specs.Fixups.{Site, appended, local_fixup}
 use Rattle.dt_live.proofs.Each.{Each, each-all, each-append, each-of}
-use Rattle.dt_resolve.specs.declared.prepared.Prepared.{Prepared}
+use Rattle.dt_build.specs.declared.draft.Draft.{Draft}
 use Rattle.dt_tree_builder.proofs.PathFacts.{bytes-itself, same-itself}
 use Rattle.dt_build.specs.declared.local_properties.LocalFixup.{LocalFixup}
 use Rattle.dt_source.specs.declared.tree.Reference.{Reference}
@@ -67,7 +67,7 @@ pairs-at R (x ∷ xs) h i zero d less below = absurd (omega (arith, less))
 pairs-at R (x ∷ xs) h zero (suc j) d less below = each-all (R x) xs h.0 j d (omega (arith, below))
 pairs-at R (x ∷ xs) h (suc i) (suc j) d less below = pairs-at R xs h.1 i j d (omega (arith, less)) (omega (arith, below))
 
-module _ (p : Prepared) where
+module _ (p : Draft) where
   abbrev at_place : ℕ → List ℕ → Definition (List ℕ)
   at_place i w = definition (local_path (key_at p i).path) (key_at p i).name w
 

@@ -15,7 +15,7 @@ use Rattle.dt_tree_builder.specs.Standing.{AreNodes}
 use Rattle.dt_tree_builder.proofs.PathFacts.{bytes-itself, child-is, listed-first, listed-next, not-both, same-is, within-is}
 use Rattle.dt_tree_builder.proofs.Walks.{flat-flat}
 use Rattle.dt_edit.specs.Said.{tree_of}
-use Rattle.dt_resolve.specs.declared.prepared.Prepared.{Prepared}
+use Rattle.dt_build.specs.declared.draft.Draft.{Draft}
 use Rattle.dt_build.specs.Private.Made.{all_phandles, founds, made_sites}
 use Rattle.dt_build.specs.Private.Ready.{IsReady}
 use Rattle.dt_build.proofs.ApartLists.{each-passed}
@@ -160,12 +160,12 @@ module _ (ns : List PathPhandle) (es : List (Definition (List Found))) where
       order = in-order local_fixups_name nodes are paths_of paths-within local_list (local-fronts (sites ns es) ∙ ap (new_ones []) by-nodes);
     }
 
--- ---- of a source that is prepared
+-- ---- of a draft
 nothing-held : (order : List Path) → flat_map (held {V = List Found} []) order ≡ []
 nothing-held [] = refl
 nothing-held (x ∷ xs) = nothing-held xs
 
-pub local-ready : (p : Prepared) → IsReady p → IsLocal local_fixups_name (tree_of p.live).nodes (new_ones [] (fronts_of (local_fixups (made_sites p) [])))
+pub local-ready : (p : Draft) → IsReady p → IsLocal local_fixups_name (tree_of p.live).nodes (new_ones [] (fronts_of (local_fixups (made_sites p) [])))
 local-ready p ready = by_plugin p.plugin where
   by_plugin : (b : Bool) → IsLocal local_fixups_name (tree_of p.live).nodes (new_ones [] (fronts_of (local_fixups (when b (sites (all_phandles p) (founds p))) [])))
   by_plugin true = local-of (all_phandles p) (founds p) (tree_of p.live).nodes ready.standing ready.walked

@@ -1,4 +1,4 @@
--- The node at a place of a source that is prepared.
+-- The node at a place of a draft.
 use Rattle.std.proofs.Common.{◌≡◌, ℕ, suc, ◌-◌, ◌≤◌, ◌<◌, Bool, true, false, ◌||◌, List, [], ◌∷◌, ◌++◌, length, refl, sym, ap, ◌∙◌, subst, arith}
 use Rattle.std.specs.Prelude.{slice_index_or}
 use Rattle.std.specs.List.{list_all}
@@ -13,7 +13,7 @@ use Rattle.dt_live.proofs.BlankRows.{blank_row}
 use Rattle.dt_live.proofs.Each.{Each, each-of}
 use Rattle.dt_live.proofs.MakingNodes.{AreInOrder, at, before, row-is, row-known}
 use Rattle.dt_edit.specs.Said.{tree_of}
-use Rattle.dt_resolve.specs.declared.prepared.Prepared.{Prepared}
+use Rattle.dt_build.specs.declared.draft.Draft.{Draft}
 use Rattle.dt_build.specs.Private.Made.{plain_lists}
 use Rattle.dt_build.specs.Private.Ready.{IsReady}
 
@@ -30,7 +30,7 @@ last-name [] n e = (and_parts (is_name n) true e).0
 last-name (x ∷ xs) n e = last-name xs n (and_parts (is_name x) (list_all is_name (xs ++ n ∷ [])) e).1
 
 -- ---- one node
-module _ (p : Prepared) (r : IsReady p) where
+module _ (p : Draft) (r : IsReady p) where
   pub order-of : AreInOrder p.live p.in_preorder.nodes.items (plain_lists p)
   order-of = record { order = r.nodes; standing = r.standing; known = r.known }
 

@@ -8,7 +8,7 @@ use Rattle.dt_meaning.specs.Resolved.{phandle_property, symbol}
 use Rattle.dt_tree_builder.specs.Sizes.{size_in}
 use Rattle.dt_tree_builder.proofs.SizesOfMaps.{size-append}
 use Rattle.dt_edit.specs.Said.{tree_of}
-use Rattle.dt_resolve.specs.declared.prepared.Prepared.{Prepared}
+use Rattle.dt_build.specs.declared.draft.Draft.{Draft}
 use Rattle.dt_resolve.specs.NodePhandles.{path_phandle_of}
 use Rattle.dt_build.specs.Private.FixupSites.{sites_size}
 use Rattle.dt_build.specs.Private.Made.{fixup_lists, lists, made_properties, made_sites, new_phandles, plain_properties, symbol_lists}
@@ -18,20 +18,20 @@ phandles-long : (xs : List PathPhandle) → size_in (map phandle_property xs) �
 phandles-long [] = refl
 phandles-long (x ∷ xs) = let four : length (to_be_bytes w32 x.phandle) ≡ 4 = refl in omega (arith, phandles-long xs, four)
 
-pub size-made : (p : Prepared) → size_in (made_properties p) ≡ size_in (plain_properties p) + 4 * length p.resolution.new.items
+pub size-made : (p : Draft) → size_in (made_properties p) ≡ size_in (plain_properties p) + 4 * length p.new.items
 size-made p =
     size-append (plain_properties p) (map phandle_property (new_phandles p))
     ∙ ap (λ n. size_in (plain_properties p) + n)
-    (phandles-long (new_phandles p) ∙ ap (λ n. 4 * n) (length-map p.resolution.new.items (path_phandle_of p.live.nodes.items)))
+    (phandles-long (new_phandles p) ∙ ap (λ n. 4 * n) (length-map p.new.items (path_phandle_of p.live.nodes.items)))
 
 -- ---- with what is added
-pub size-plain : (p : Prepared) → size_in (symbol_lists false p).properties ≡ size_in (made_properties p)
+pub size-plain : (p : Draft) → size_in (symbol_lists false p).properties ≡ size_in (made_properties p)
 size-plain p = ap size_in (append-nil (made_properties p))
 
-pub size-symbols : (p : Prepared) → size_in (symbol_lists true p).properties ≡ size_in (made_properties p) + size_in (map symbol (tree_of p.live).labels)
+pub size-symbols : (p : Draft) → size_in (symbol_lists true p).properties ≡ size_in (made_properties p) + size_in (map symbol (tree_of p.live).labels)
 size-symbols p = size-append (made_properties p) (map symbol (tree_of p.live).labels)
 
-pub size-lists : (symbols : Bool) (p : Prepared) → size_in (lists symbols p).properties ≡ size_in (symbol_lists symbols p).properties + sites_size (made_sites p)
+pub size-lists : (symbols : Bool) (p : Draft) → size_in (lists symbols p).properties ≡ size_in (symbol_lists symbols p).properties + sites_size (made_sites p)
 size-lists symbols p =
     let sizes = sizes-of-sites (made_sites p) [] [] in
     size-append (fixup_lists symbols p).properties (local_fixups (made_sites p) [])

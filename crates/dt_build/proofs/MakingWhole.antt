@@ -13,14 +13,14 @@ use Rattle.dt_tree_builder.specs.Builders.{built_lists}
 use Rattle.dt_tree_builder.specs.Standing.{behind_root, walked}
 use Rattle.dt_tree_builder.proofs.Orders.{there-same}
 use Rattle.dt_edit.specs.Said.{tree_of}
-use Rattle.dt_resolve.specs.declared.prepared.Prepared.{Prepared}
+use Rattle.dt_build.specs.declared.draft.Draft.{Draft}
 use Rattle.dt_build.specs.Private.Made.{own, plain_lists, symbol_lists}
 use Rattle.dt_build.specs.Private.Ready.{IsReady}
 use Rattle.dt_build.proofs.ListsOfPrepared.{lists-bare, walked-lists}
 use Rattle.dt_build.proofs.Shallow.{symbols-free}
 
 -- ---- the labels' node
-module _ (p : Prepared) (r : IsReady p) (free : names_taken true p.plugin (tree_of p.live) ≡ false) (bs : List NodeData) (made : built_lists bs ≡ walked (plain_lists p)) where
+module _ (p : Draft) (r : IsReady p) (free : names_taken true p.plugin (tree_of p.live) ≡ false) (bs : List NodeData) (made : built_lists bs ≡ walked (plain_lists p)) where
   abbrev labels : List Label
   labels = (tree_of p.live).labels
 

@@ -16,7 +16,7 @@ use Rattle.dt_live.specs.Index.{row_of}
 use Rattle.dt_live.specs.Rows.{IsNode, is_standing, node_path}
 use Rattle.dt_tree_builder.proofs.Orders.{held-append}
 use Rattle.dt_tree_builder.proofs.PathFacts.{not-both, or-false, not-true, same-is, bytes-itself}
-use Rattle.dt_resolve.specs.declared.prepared.Prepared.{Prepared}
+use Rattle.dt_build.specs.declared.draft.Draft.{Draft}
 use Rattle.dt_resolve.proofs.PathPhandles.{given-same}
 use Rattle.dt_making.specs.Made.{phandle_at}
 use Rattle.dt_build.specs.declared.node_phandles.NodePhandles.{NodePhandles}
@@ -69,8 +69,8 @@ number-behind q (x ∷ xs) ys gone =
     let parts = or-false (same_path q x.path) (is_listed q (map (λ x. x.path) xs)) gone in
     ap (λ t. if t then x.phandle else phandle_of (xs ++ ys) q) parts.0 ∙ number-behind q xs ys parts.1
 
--- ---- of a source that is prepared
-module _ (p : Prepared) (ready : IsReady p) (node_phandles : NodePhandles) (is : AreNodePhandles p node_phandles) (n : ℕ) (known : IsNode p.live n) (up : is_standing p.live n ≡ true) where
+-- ---- of a draft
+module _ (p : Draft) (ready : IsReady p) (node_phandles : NodePhandles) (is : AreNodePhandles p node_phandles) (n : ℕ) (known : IsNode p.live n) (up : is_standing p.live n ≡ true) where
   abbrev q : Path
   q = node_path p.live n
 
@@ -91,7 +91,7 @@ module _ (p : Prepared) (ready : IsReady p) (node_phandles : NodePhandles) (is :
   marked : get_or node_phandles.new.items n false ≡ is_listed q (map (λ x. x.path) (new_phandles p))
   marked =
       is.new n
-      ∙ given-same p.live.nodes.items (row_of p.live.node_rows) ready.sound.grown ready.sound.nodes p.resolution.new.items (each-assigned p.live.nodes.items p.resolution.new.items ready.new.stand) n up
+      ∙ given-same p.live.nodes.items (row_of p.live.node_rows) ready.sound.grown ready.sound.nodes p.new.items (each-assigned p.live.nodes.items p.new.items ready.new.stand) n up
 
   by_mark : (b : Bool) → is_listed q (map (λ x. x.path) (new_phandles p)) ≡ b
       → (if b then definition q phandle_name (to_be_bytes w32 (phandle_of (new_phandles p) q)) ∷ [] else []) ≡ phandle_at q (if b then Some phandle else None)

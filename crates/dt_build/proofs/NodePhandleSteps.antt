@@ -8,7 +8,7 @@ use Rattle.dt_live.specs.Index.{row_of}
 use Rattle.dt_live.specs.Rows.{Found, is_standing, node_path, path_of, stands, IsGrown, IsNodeIndex}
 use Rattle.dt_live.proofs.StandingRows.{same-node}
 use Rattle.dt_resolve.specs.declared.node_phandles.NodePhandle.{NodePhandle}
-use Rattle.dt_resolve.specs.declared.prepared.Prepared.{Prepared}
+use Rattle.dt_build.specs.declared.draft.Draft.{Draft}
 use Rattle.dt_resolve.specs.NodePhandles.{path_phandle_of}
 use Rattle.dt_resolve.proofs.PathPhandles.{EachStands, each-assigned}
 use Rattle.dt_build.specs.Private.Made.{all_phandles, new_phandles}
@@ -30,16 +30,16 @@ module _ (rows : List NodeRow) (index : Found) (grown : IsGrown rows) (indexed :
       one-by x (first_phandle xs k d) (map (path_phandle_of rows) xs ++ ys) k (k == x.node) (first-is xs each.1 k d ys up e)
       ∙ ap (λ b. to_be_bytes w32 (if b then x.phandle else phandle_of (map (path_phandle_of rows) xs ++ ys) (path_of rows k))) (sym (same-node rows index grown indexed k x.node up each.0))
 
--- ---- of a source that is prepared
-module _ (p : Prepared) (ready : IsReady p) (k : ℕ) (up : is_standing p.live k ≡ true) where
-  new-is : to_be_bytes w32 (first_phandle p.resolution.new.items k 4294967295) ≡ to_be_bytes w32 (phandle_of (new_phandles p) (node_path p.live k))
+-- ---- of a draft
+module _ (p : Draft) (ready : IsReady p) (k : ℕ) (up : is_standing p.live k ≡ true) where
+  new-is : to_be_bytes w32 (first_phandle p.new.items k 4294967295) ≡ to_be_bytes w32 (phandle_of (new_phandles p) (node_path p.live k))
   new-is =
-      first-is p.live.nodes.items (row_of p.live.node_rows) ready.sound.grown ready.sound.nodes p.resolution.new.items (each-assigned p.live.nodes.items p.resolution.new.items ready.new.stand) k 4294967295 [] up refl
+      first-is p.live.nodes.items (row_of p.live.node_rows) ready.sound.grown ready.sound.nodes p.new.items (each-assigned p.live.nodes.items p.new.items ready.new.stand) k 4294967295 [] up refl
       ∙ ap (λ ys. to_be_bytes w32 (phandle_of ys (node_path p.live k))) (append-nil (new_phandles p))
 
-  pub number-is : (n m : ℕ) → n ≡ first_phandle p.resolution.given.phandles.items k m → m ≡ first_phandle p.resolution.new.items k 4294967295
+  pub number-is : (n m : ℕ) → n ≡ first_phandle p.given.items k m → m ≡ first_phandle p.new.items k 4294967295
       → to_be_bytes w32 n ≡ to_be_bytes w32 (phandle_of (all_phandles p) (node_path p.live k))
   number-is n m a b =
-      ap (to_be_bytes w32) (a ∙ ap (first_phandle p.resolution.given.phandles.items k) b)
-      ∙ first-is p.live.nodes.items (row_of p.live.node_rows) ready.sound.grown ready.sound.nodes p.resolution.given.phandles.items
-      (each-assigned p.live.nodes.items p.resolution.given.phandles.items ready.given.stand) k (first_phandle p.resolution.new.items k 4294967295) (new_phandles p) up new-is
+      ap (to_be_bytes w32) (a ∙ ap (first_phandle p.given.items k) b)
+      ∙ first-is p.live.nodes.items (row_of p.live.node_rows) ready.sound.grown ready.sound.nodes p.given.items
+      (each-assigned p.live.nodes.items p.given.items ready.given.stand) k (first_phandle p.new.items k 4294967295) (new_phandles p) up new-is

@@ -8,7 +8,8 @@ use Rattle.dt_source.specs.Meaning.{meaning_of}
 use Rattle.dt_meaning.specs.Paths.{Path, is_listed}
 use Rattle.dt_meaning.specs.Syntax.{Meaning}
 use Rattle.dt_meaning.specs.Edits.{Definition}
-use Rattle.dt_meaning.specs.References.{Found, held, in_order, preorder, references}
+use Rattle.dt_tree.specs.Steps.{each}
+use Rattle.dt_meaning.specs.References.{Found, found_value, held, in_order, preorder, references}
 use Rattle.dt_meaning.specs.Phandles.{assigned, wanted}
 use Rattle.dt_live.specs.Index.{row_of}
 use Rattle.dt_live.specs.Rows.{path_of}
@@ -20,8 +21,11 @@ use Rattle.dt_resolve.specs.declared.node_phandles.NodePhandle.{NodePhandle}
 use Rattle.dt_resolve.specs.declared.prepared.Prepared.{Prepared}
 use Rattle.dt_resolve.specs.NodePhandles.{AreStanding, path_phandle_of}
 use Rattle.dt_resolve.specs.Prepared.{IsPrepared}
-use Rattle.dt_resolve.specs.Targets.{AreFound}
-use Rattle.dt_build.specs.Private.Made.{founds, given_phandles, new_phandles, ok_or_none}
+use Rattle.dt_resolve.proofs.FoundProperties.{properties-found}
+use Rattle.dt_resolve.proofs.ReadOrder.{read-order}
+use Rattle.dt_build.specs.declared.draft.Draft.{Draft}
+use Rattle.dt_build.specs.Private.Drafts.{drafted}
+use Rattle.dt_build.specs.Private.Made.{founds, given_phandles, new_phandles}
 use Rattle.dt_build.specs.Private.Ready.{AreNamed, IsReady}
 use Rattle.dt_build.proofs.ApartKeys.{distinct-words}
 use Rattle.dt_build.proofs.ApartMade.{listed-in-order, names-apart}
@@ -35,10 +39,16 @@ module _ (symbols : Bool) (m : Meaning) (es : List (Definition (List Found))) (p
   found-here : references p.plugin (tree_of p.live) ≡ Ok es
   found-here = ap (λ b. references b (tree_of p.live)) is.plugin ∙ is.resolved.found
 
-  pub founds-are : founds p ≡ es
-  founds-are = ap ok_or_none found-here
+  abbrev pub made : Draft
+  made = drafted p
 
-  pub found-all : references p.plugin (tree_of p.live) ≡ Ok (founds p)
+  pub founds-are : founds made ≡ es
+  founds-are =
+      sym (properties-found m.plugin (tree_of p.live) p.live.nodes.items p.in_preorder.properties.items es
+      (ap (each (found_value m.plugin (tree_of p.live))) (read-order p.live p.in_preorder.properties.items is.properties) ∙ is.resolved.found)
+      p.resolution.targets.all.items is.resolved.targets.all)
+
+  pub found-all : references p.plugin (tree_of p.live) ≡ Ok (founds made)
   found-all = found-here ∙ ap (λ xs. Ok xs) (sym founds-are)
 
   pub standing-all : AreNodes (tree_of p.live).nodes
@@ -50,19 +60,19 @@ module _ (symbols : Bool) (m : Meaning) (es : List (Definition (List Found))) (p
   abbrev nodes : List Path
   nodes = (tree_of p.live).nodes
 
-  new-is : new_phandles p ≡ assigned (given_phandles p) 0 (wanted symbols (tree_of p.live) (given_phandles p) (founds p))
-  new-is = is.resolved.new ∙ ap (λ fs. assigned (given_phandles p) 0 (wanted symbols (tree_of p.live) (given_phandles p) fs)) (sym founds-are)
+  new-is : new_phandles made ≡ assigned (given_phandles made) 0 (wanted symbols (tree_of p.live) (given_phandles made) (founds made))
+  new-is = is.resolved.new ∙ ap (λ fs. assigned (given_phandles made) 0 (wanted symbols (tree_of p.live) (given_phandles made) fs)) (sym founds-are)
 
-  new-nodes : AreNew (given_phandles p) (new_phandles p)
-  new-nodes = new-phandles symbols p.plugin (tree_of p.live) (in_order (tree_of p.live)) (founds p) (given_phandles p) (new_phandles p) found-all new-is
+  new-nodes : AreNew (given_phandles made) (new_phandles made)
+  new-nodes = new-phandles symbols p.plugin (tree_of p.live) (in_order (tree_of p.live)) (founds made) (given_phandles made) (new_phandles made) found-all new-is
 
   -- no node gets two
-  pub new-apart : are_apart (paths (new_phandles p)) ≡ true
-  new-apart = apart-of (paths (new_phandles p)) new-nodes.apart
+  pub new-apart : are_apart (paths (new_phandles made)) ≡ true
+  new-apart = apart-of (paths (new_phandles made)) new-nodes.apart
 
   -- no node gets one that has one
-  pub new-free : (q : Path) → is_listed q (paths (new_phandles p)) ≡ true → is_listed q (paths (given_phandles p)) ≡ false
-  new-free q there = listed-so (λ x. is_listed x (paths (given_phandles p)) ≡ false) q (paths (new_phandles p)) new-nodes.unseen there
+  pub new-free : (q : Path) → is_listed q (paths (new_phandles made)) ≡ true → is_listed q (paths (given_phandles made)) ≡ false
+  new-free q there = listed-so (λ x. is_listed x (paths (given_phandles made)) ≡ false) q (paths (new_phandles made)) new-nodes.unseen there
 
   each-there : (xs : List NodePhandle) → AreStanding p.live.nodes.items xs → Each (λ q. is_listed q (preorder nodes) ≡ true) (paths (map (path_phandle_of p.live.nodes.items) xs))
   each-there [] up = tt
@@ -73,25 +83,25 @@ module _ (symbols : Bool) (m : Meaning) (es : List (Definition (List Found))) (p
   )
 
   -- each node that gets one is met in the walk, and so is each that has one
-  pub new-there : (q : Path) → is_listed q (paths (new_phandles p)) ≡ true → is_listed q (preorder nodes) ≡ true
-  new-there q there = listed-so (λ x. is_listed x (preorder nodes) ≡ true) q (paths (new_phandles p)) (each-there p.resolution.new.items is.new) there
+  pub new-there : (q : Path) → is_listed q (paths (new_phandles made)) ≡ true → is_listed q (preorder nodes) ≡ true
+  new-there q there = listed-so (λ x. is_listed x (preorder nodes) ≡ true) q (paths (new_phandles made)) (each-there p.resolution.new.items is.new) there
 
-  pub given-there : (q : Path) → is_listed q (paths (given_phandles p)) ≡ true → is_listed q (preorder nodes) ≡ true
-  given-there q there = listed-so (λ x. is_listed x (preorder nodes) ≡ true) q (paths (given_phandles p)) (each-there p.resolution.given.phandles.items is.given) there
+  pub given-there : (q : Path) → is_listed q (paths (given_phandles made)) ≡ true → is_listed q (preorder nodes) ≡ true
+  given-there q there = listed-so (λ x. is_listed x (preorder nodes) ≡ true) q (paths (given_phandles made)) (each-there p.resolution.given.phandles.items is.given) there
 
   -- ---- of a lawful one
-  module _ (named : IsNamed IsName (IsNamedValue IsName) (tree_of p.live)) (walked : flat_map (held (founds p)) (preorder nodes) ≡ founds p) where
-    all-named : AreNamed p
+  module _ (named : IsNamed IsName (IsNamedValue IsName) (tree_of p.live)) (walked : flat_map (held (founds made)) (preorder nodes) ≡ founds made) where
+    all-named : AreNamed made
     all-named = record {
       nodes = each-all (λ q. list_all is_name q ≡ true) nodes (each-more (IsNamedPath IsName) (λ q. list_all is_name q ≡ true) nodes (λ q h. named_path-named q h.0) named.nodes);
       properties = each-all (λ e. is_name e.name ≡ true) (tree_of p.live).properties
           (each-more (λ e. IsName e.name × IsNamedValue IsName e.value) (λ e. is_name e.name ≡ true) (tree_of p.live).properties (λ e h. h.0) named.properties);
       labels = each-all (λ l. is_name l.label ≡ true) (tree_of p.live).labels
           (each-more (λ l. IsName l.label × IsNamedPath IsName l.path) (λ l. is_name l.label ≡ true) (tree_of p.live).labels (λ l h. h.0) named.labels);
-      elsewhere = founds-named p.plugin (tree_of p.live) (founds p) named.properties found-all;
+      elsewhere = founds-named p.plugin (tree_of p.live) (founds made) named.properties found-all;
     }
 
-    named-ready : IsReady p
+    named-ready : IsReady made
     named-ready = record {
       sound = is.sound;
       nodes = is.nodes;
@@ -100,8 +110,6 @@ module _ (symbols : Bool) (m : Meaning) (es : List (Definition (List Found))) (p
       owners = is.owners;
       stand = is.stand;
       properties = is.properties;
-      found = found-all;
-      targets = subst (λ fs. AreFound p.live fs p.resolution.targets) (sym founds-are) is.resolved.targets;
       targets_known = is.targets_known;
       targets_there = is.targets_there;
       given = is.given;
@@ -109,14 +117,14 @@ module _ (symbols : Bool) (m : Meaning) (es : List (Definition (List Found))) (p
       new_free = new-free;
       standing = standing-all;
       named = all-named;
-      apart = names-apart symbols p.plugin (tree_of p.live) standing-all named.keys (given_phandles p) (new_phandles p) (founds p) is.resolved.given found-all new-is;
+      apart = names-apart symbols p.plugin (tree_of p.live) standing-all named.keys (given_phandles made) (new_phandles made) (founds made) is.resolved.given found-all new-is;
       labels_apart = distinct-words (tree_of p.live).labels named.words;
       walked = walked;
     }
 
 -- a lawful source
 pub ready : (symbols : Bool) (source : Source) (es : List (Definition (List Found))) (p : Prepared) → IsPrepared symbols (meaning_of source) es p → IsLawful (meaning_of source)
-    → flat_map (held (founds p)) (preorder (tree_of p.live).nodes) ≡ founds p → IsReady p
+    → flat_map (held (founds (drafted p))) (preorder (tree_of p.live).nodes) ≡ founds (drafted p) → IsReady (drafted p)
 ready symbols source es p is lawful walked =
     named-ready symbols (meaning_of source) es p is
     (edits-named IsName names-brought (meaning_of source) is.fragments (tree_of p.live) (items-named (meaning_of source).items lawful.items) is.edited) walked

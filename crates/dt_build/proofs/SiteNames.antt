@@ -10,7 +10,7 @@ use Rattle.dt_meaning.specs.Resolved.{when}
 use Rattle.dt_edit.specs.Said.{Parts, tree_of}
 use Rattle.dt_live.specs.declared.preorder.properties.NodeProperty.{NodeProperty}
 use Rattle.dt_live.proofs.Each.{Each, each-all, each-append, each-flat, each-more, each-of}
-use Rattle.dt_resolve.specs.declared.prepared.Prepared.{Prepared}
+use Rattle.dt_build.specs.declared.draft.Draft.{Draft}
 use Rattle.dt_resolve.specs.Private.ReadProperty.{read_property}
 use Rattle.dt_resolve.proofs.ReadOrder.{read-order}
 use Rattle.dt_build.specs.Private.Made.{all_phandles, founds, made_sites}
@@ -64,12 +64,12 @@ sites-labelled ns es h =
     (each-more (λ e. Each IsNamedFound e.value) (λ e. Each (λ f. Each (λ l. (k : ℕ) → IsOfLabel IsName l) (label_found f)) e.value) es
     (λ e k. each-more IsNamedFound (λ f. Each (λ l. (j : ℕ) → IsOfLabel IsName l) (label_found f)) e.value label-named k) h)
 
--- ---- of a source that is prepared
+-- ---- of a draft
 each-when : {A : Type 0} (P : A → Type 0) (b : Bool) (xs : List A) → Each P xs → Each P (when b xs)
 each-when P true xs h = h
 each-when P false xs h = tt
 
-module _ (p : Prepared) (ready : IsReady p) where
+module _ (p : Draft) (ready : IsReady p) where
   founds-labelled : Each (λ e. Each IsNamedFound e.value) (founds p)
   founds-labelled =
       each-more (λ e. All IsNamedFound e.value) (λ e. Each IsNamedFound e.value) (founds p) (λ e k. each-of IsNamedFound e.value k) (each-of (λ e. All IsNamedFound e.value) (founds p) ready.named.elsewhere)

@@ -9,7 +9,7 @@ use Rattle.dt_meaning.specs.Fixups.{Site, bytes_of, label_found, sites_in}
 use Rattle.dt_live.specs.Rows.{node_path}
 use Rattle.dt_live.specs.declared.preorder.properties.NodeProperty.{NodeProperty}
 use Rattle.dt_edit.specs.Said.{Parts}
-use Rattle.dt_resolve.specs.declared.prepared.Prepared.{Prepared}
+use Rattle.dt_build.specs.declared.draft.Draft.{Draft}
 use Rattle.dt_build.specs.declared.fixup_sites.FixupSite.{FixupSite}
 use Rattle.dt_build.specs.Private.FixupSites.{AreBetween, all_left, key_at, key_of, site_with}
 use Rattle.dt_build.specs.Private.Made.{all_phandles}
@@ -41,7 +41,7 @@ pub split : (ss : List FixupSite) (i : ℕ) → i < length ss → drop i ss ≡ 
 split ss i below = at_drop_more (λ ts. ts) ss i no_site below
 
 -- the property that code reads
-pub key-read : (p : Prepared) (i : ℕ) (x : NodeProperty Parts) → i < length p.in_preorder.properties.items → x ≡ get_or p.in_preorder.properties.items i x → key_at p i ≡ key_of p x
+pub key-read : (p : Draft) (i : ℕ) (x : NodeProperty Parts) → i < length p.in_preorder.properties.items → x ≡ get_or p.in_preorder.properties.items i x → key_at p i ≡ key_of p x
 key-read p i x below at = get_or-map (key_of p) p.in_preorder.properties.items i x (definition [] [] []) below ∙ ap (key_of p) (sym at)
 
 -- ---- the sites of a value, part by part
@@ -53,7 +53,7 @@ sites-more ns q n f fs gs offset next old new whole at step sum so =
     ∙ ap (λ hs. old ++ sites_in ns q n offset hs) (sym at) ∙ so
 
 -- those of a property more
-pub property-more : (p : Prepared) (i : ℕ) (x : NodeProperty Parts) (ts us : List (Option ℕ)) (old new whole : List Site) → i < length p.in_preorder.properties.items → x ≡ get_or p.in_preorder.properties.items i x
+pub property-more : (p : Draft) (i : ℕ) (x : NodeProperty Parts) (ts us : List (Option ℕ)) (old new whole : List Site) → i < length p.in_preorder.properties.items → x ≡ get_or p.in_preorder.properties.items i x
     → us ≡ drop (all_uses x.value.now) ts → new ≡ old ++ sites_in (all_phandles p) (key_at p i).path (key_at p i).name 0 (founds_of (node_path p.live) x.value.now ts)
     → old ++ all_left (all_phandles p) (node_path p.live) (drop i p.in_preorder.properties.items) ts ≡ whole → new ++ all_left (all_phandles p) (node_path p.live) (drop (i + 1) p.in_preorder.properties.items) us ≡ whole
 property-more p i x ts us old new whole below at behind put so =

@@ -1,5 +1,6 @@
--- What private contracts cite: what is made of a source that is prepared, and how far the code has come. No public clause rests on it.
+-- What private contracts cite: what is made of a draft, and how far the code has come. No public clause rests on it.
 pub mod ByLabel
+pub mod Drafts
 pub mod FirstPhandle
 pub mod Fitting
 pub mod FixupSites

@@ -12,38 +12,39 @@ ghost use Rattle.dt_build.specs.Private.Fitting.{IsFitting, IsPreparedFrom};
 ghost use Rattle.dt_build.specs.Private.Made.{lists};
 ghost use Rattle.dt_build.specs.Private.Ready.{IsReady};
 
+use crate::draft::{Draft, draft_of};
 use crate::fixup_sites::{FixupSite, find_sites};
 use crate::local_depth::is_local_too_deep;
 use crate::making::make;
 use crate::node_phandles::number;
 use crate::sizes::total_size;
 use dt_edit::{Fragments, fragments_of};
-use dt_resolve::{BuildError, Prepared, prepare};
+use dt_resolve::{BuildError, prepare};
 use dt_source::Source;
 use dt_tree::Tree;
 use std::alloc::{AllocError, Global};
 use std::hash::RandomState;
 
-// The tree of a source that is prepared, or None where its values are too long.
+// The tree of a draft, or None where its values are too long.
 fn fitting_tree(
     alloc: Global,
     source: &Source<'_>,
-    prepared: &Prepared<'_, '_>,
+    draft: &Draft<'_, '_>,
     sites: &[FixupSite<'_>],
     symbols: bool,
     limit: usize,
 ) -> Result<Option<Tree>, AllocError>
-    requires ready { IsReady prepared.now }
-    requires sites { AreSites prepared.now sites.now }
-    requires free { names_taken symbols prepared.now.plugin (tree_of prepared.now.live) ≡ false }
-    requires shallow { list_any is_too_deep (lists symbols prepared.now).nodes ≡ false }
-    ensures { IfOk result (λ tree. IsFitting symbols (meaning_of source.now) prepared.now limit tree) }
+    requires ready { IsReady draft.now }
+    requires sites { AreSites draft.now sites.now }
+    requires free { names_taken symbols draft.now.plugin (tree_of draft.now.live) ≡ false }
+    requires shallow { list_any is_too_deep (lists symbols draft.now).nodes ≡ false }
+    ensures { IfOk result (λ tree. IsFitting symbols (meaning_of source.now) draft.now limit tree) }
 {
-    if total_size(prepared, sites, symbols) > limit {
+    if total_size(draft, sites, symbols) > limit {
         return Ok(None);
     }
-    let node_phandles = number(alloc, prepared)?;
-    let root = make(alloc, prepared, &node_phandles, sites, symbols)?;
+    let node_phandles = number(alloc, draft)?;
+    let root = make(alloc, draft, &node_phandles, sites, symbols)?;
     let reserves = Vec::from_slice(alloc, source.reserves.as_slice())?;
     match Tree::new(reserves, 0, root) {
         Ok(tree) => Ok(Some(tree)),
@@ -52,24 +53,24 @@ fn fitting_tree(
     }
 }
 
-// The tree of a source that was prepared, or why it has none.
-fn prepared_tree(
+// The tree of a source's draft, or why it has none.
+fn draft_tree(
     alloc: Global,
     source: &Source<'_>,
-    prepared: &Prepared<'_, '_>,
+    draft: &Draft<'_, '_>,
     symbols: bool,
     limit: usize,
 ) -> Result<Option<Tree>, BuildError>
     requires lawful { IsLawful (meaning_of source.now) }
-    requires prepared { IsPreparedFrom symbols (meaning_of source.now) prepared.now }
+    requires prepared { IsPreparedFrom symbols (meaning_of source.now) draft.now }
     ensures { Builds symbols (meaning_of source.now) limit result }
 {
-    let sites = find_sites(alloc, prepared)?;
+    let sites = find_sites(alloc, draft)?;
     // behind the edits only the local fixups of a node is deeper than the node
-    if is_local_too_deep(prepared, sites.as_slice()) {
+    if is_local_too_deep(draft, sites.as_slice()) {
         return Err(BuildError::TooDeep);
     }
-    let tree = fitting_tree(alloc, source, prepared, sites.as_slice(), symbols, limit)?;
+    let tree = fitting_tree(alloc, source, draft, sites.as_slice(), symbols, limit)?;
     Ok(tree)
 }
 
@@ -87,7 +88,10 @@ fn source_tree<'d, 't>(
     ensures { Builds symbols (meaning_of source.now) limit result }
 {
     match prepare(alloc, hasher, source, fragments, symbols) {
-        Ok(prepared) => prepared_tree(alloc, source, &prepared, symbols, limit),
+        Ok(prepared) => {
+            let draft = draft_of(prepared);
+            draft_tree(alloc, source, &draft, symbols, limit)
+        }
         Err(error) => Err(error),
     }
 }

@@ -5,8 +5,9 @@ ghost use Rattle.dt_build.specs.Private.Ready.{IsReady};
 ghost use Rattle.dt_build.specs.Private.FixupSites.{AreBetween, AreSites, PutsPart, PutsAll};
 ghost use Rattle.dt_build.specs.Private.Values.{label_in, part_bytes};
 
+use crate::draft::Draft;
 use crate::value::part_size;
-use dt_resolve::{Prepared, target_at, target_count, targets_behind};
+use dt_resolve::{target_at, target_count, targets_behind};
 use dt_source::{Part, Reference};
 use std::alloc::{AllocError, Global};
 
@@ -57,16 +58,16 @@ fn put_site<'d>(
 
 // Where the next part of a value begins.
 fn offset_behind(
-    prepared: &Prepared<'_, '_>,
+    draft: &Draft<'_, '_>,
     part: &Part<'_>,
     target: Option<usize>,
     offset: usize,
 ) -> Result<usize, AllocError>
-    requires ready { IsReady prepared.now }
-    requires known { IsKnown prepared.now.live target }
-    ensures { IfOk result (λ next. next ≡ offset + length (part_bytes prepared.now part.now target)) }
+    requires ready { IsReady draft.now }
+    requires known { IsKnown draft.now.live target }
+    ensures { IfOk result (λ next. next ≡ offset + length (part_bytes draft.now part.now target)) }
 {
-    let next = offset.saturating_add(part_size(prepared, part, target));
+    let next = offset.saturating_add(part_size(draft, part, target));
     // a value of so many bytes doesn't fit into memory
     if next == usize::MAX {
         return Err(AllocError);
@@ -77,23 +78,23 @@ fn offset_behind(
 // Puts the sites of a property's value behind the others.
 fn put_sites<'d>(
     sites: &mut Vec<FixupSite<'d>>,
-    prepared: &Prepared<'_, '_>,
+    draft: &Draft<'_, '_>,
     property: usize,
     value: &'d [Part<'d>],
     targets: &[Option<usize>],
 ) -> Result<(), AllocError>
-    requires ready { IsReady prepared.now }
-    requires known { All (IsKnown prepared.now.live) targets.now }
+    requires ready { IsReady draft.now }
+    requires known { All (IsKnown draft.now.live) targets.now }
     requires places { AreBetween 0 (property + 1) sites.old.items }
     ensures places { OnOk result (AreBetween 0 (property + 1) sites.new.items) }
-    ensures sites { OnOk result (PutsAll prepared.now property value.now targets.now sites.old.items sites.new.items) }
+    ensures sites { OnOk result (PutsAll draft.now property value.now targets.now sites.old.items sites.new.items) }
 {
     let mut used = 0;
     let mut offset = 0;
     for part in value {
         let target = target_at(targets, used);
         put_site(sites, property, part, target, offset)?;
-        offset = offset_behind(prepared, part, target, offset)?;
+        offset = offset_behind(draft, part, target, offset)?;
         used += target_count(part);
     }
     Ok(())
@@ -102,20 +103,20 @@ fn put_sites<'d>(
 /// All sites of a plugin. Another source has none.
 pub(crate) fn find_sites<'d>(
     alloc: Global,
-    prepared: &Prepared<'d, 'd>,
+    draft: &Draft<'d, 'd>,
 ) -> Result<Vec<FixupSite<'d>>, AllocError>
-    requires { IsReady prepared.now }
-    ensures { IfOk result (λ sites. AreSites prepared.now sites.items) }
+    requires { IsReady draft.now }
+    ensures { IfOk result (λ sites. AreSites draft.now sites.items) }
 {
-    if !prepared.plugin {
+    if !draft.plugin {
         return Ok(Vec::new(alloc));
     }
-    let mut targets = prepared.resolution.targets.all.as_slice();
+    let mut targets = draft.targets.as_slice();
     // each site has a target
     let mut sites = Vec::with_capacity(alloc, targets.len())?;
-    let properties = prepared.in_preorder.properties.as_slice();
+    let properties = draft.in_preorder.properties.as_slice();
     for (property, node_property) in properties.iter().enumerate() {
-        put_sites(&mut sites, prepared, property, node_property.value, targets)?;
+        put_sites(&mut sites, draft, property, node_property.value, targets)?;
         targets = targets_behind(node_property.value, targets);
     }
     Ok(sites)

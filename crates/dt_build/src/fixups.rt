@@ -11,9 +11,9 @@ ghost use Rattle.dt_build.specs.Private.Made.{fixup_lists, made_sites, symbol_li
 ghost use Rattle.dt_build.specs.Private.Ready.{IsReady};
 ghost use Rattle.dt_build.specs.Private.FixupSites.{AreSites};
 
+use crate::draft::Draft;
 use crate::fixup_sites::FixupSite;
 use crate::fixups_by_label::collect_by_label;
-use dt_resolve::Prepared;
 use dt_tree::{Bytes, Property, lawful_name};
 use dt_tree_builder::TreeBuilder;
 use std::alloc::{AllocError, Global};
@@ -21,14 +21,14 @@ use std::alloc::{AllocError, Global};
 // One property a label that no node has.
 fn fixups_of(
     alloc: Global,
-    prepared: &Prepared<'_, '_>,
+    draft: &Draft<'_, '_>,
     sites: &[FixupSite<'_>],
 ) -> Result<Vec<Property>, AllocError>
-    requires ready { IsReady prepared.now }
-    requires sites { AreSites prepared.now sites.now }
-    ensures { IfOk result (λ made. defined_at fixups_path made.items ≡ fixups (made_sites prepared.now) []) }
+    requires ready { IsReady draft.now }
+    requires sites { AreSites draft.now sites.now }
+    ensures { IfOk result (λ made. defined_at fixups_path made.items ≡ fixups (made_sites draft.now) []) }
 {
-    let by_label = collect_by_label(alloc, prepared, sites)?.labels;
+    let by_label = collect_by_label(alloc, draft, sites)?.labels;
     let mut properties = Vec::with_capacity(alloc, by_label.len())?;
     for label_fixups in by_label {
         properties.push(Property {
@@ -42,18 +42,18 @@ fn fixups_of(
 /// The tree with the node of fixups behind all others, where the plugin leaves a label to its base.
 pub(crate) fn with_fixups(
     alloc: Global,
-    prepared: &Prepared<'_, '_>,
+    draft: &Draft<'_, '_>,
     sites: &[FixupSite<'_>],
     symbols: bool,
     builder: TreeBuilder,
 ) -> Result<TreeBuilder, AllocError>
-    requires ready { IsReady prepared.now }
-    requires sites { AreSites prepared.now sites.now }
-    requires free { names_taken symbols prepared.now.plugin (tree_of prepared.now.live) ≡ false }
-    requires made { built_lists builder ≡ walked (symbol_lists symbols prepared.now) }
-    ensures { IfOk result (λ whole. built_lists whole ≡ walked (fixup_lists symbols prepared.now)) }
+    requires ready { IsReady draft.now }
+    requires sites { AreSites draft.now sites.now }
+    requires free { names_taken symbols draft.now.plugin (tree_of draft.now.live) ≡ false }
+    requires made { built_lists builder ≡ walked (symbol_lists symbols draft.now) }
+    ensures { IfOk result (λ whole. built_lists whole ≡ walked (fixup_lists symbols draft.now)) }
 {
-    let properties = fixups_of(alloc, prepared, sites)?;
+    let properties = fixups_of(alloc, draft, sites)?;
     if properties.is_empty() {
         return Ok(builder);
     }

@@ -7,9 +7,9 @@ ghost use Rattle.dt_build.specs.Private.Ready.{IsReady};
 ghost use Rattle.dt_build.specs.Private.FixupSites.{AreSites, site_of};
 
 use crate::digits::{append_digits, digits_size};
+use crate::draft::Draft;
 use crate::fixup_sites::{FixupSite, label_of};
 use dt_live::{append_path, path_size};
-use dt_resolve::Prepared;
 use std::alloc::{AllocError, Global};
 use std::collections::BTreeMap;
 
@@ -28,14 +28,14 @@ pub(crate) struct FixupsByLabel<'d> {
 }
 
 /// How many bytes the text of a site has, or the greatest number where there are more.
-pub(crate) fn text_size(prepared: &Prepared<'_, '_>, site: FixupSite<'_>) -> usize
-    requires ready { IsReady prepared.now }
-    requires place { site.property < length prepared.now.in_preorder.properties.items }
-    ensures { result ≡ min (length (site_text (site_of prepared.now site.entry))) (2 ^ 64 - 1) }
+pub(crate) fn text_size(draft: &Draft<'_, '_>, site: FixupSite<'_>) -> usize
+    requires ready { IsReady draft.now }
+    requires place { site.property < length draft.now.in_preorder.properties.items }
+    ensures { result ≡ min (length (site_text (site_of draft.now site.entry))) (2 ^ 64 - 1) }
 {
-    let property = prepared.in_preorder.properties[site.property];
+    let property = draft.in_preorder.properties[site.property];
     // with its zero byte
-    let path_bytes = path_size(prepared.live.nodes(), property.node);
+    let path_bytes = path_size(draft.live.nodes(), property.node);
     let name = property
         .name
         .len()
@@ -46,17 +46,17 @@ pub(crate) fn text_size(prepared: &Prepared<'_, '_>, site: FixupSite<'_>) -> usi
 // Counts the text of a site among those of its label, where it has one.
 fn count_site<'d>(
     sizes: &mut BTreeMap<&'d [u8], usize>,
-    prepared: &Prepared<'_, '_>,
+    draft: &Draft<'_, '_>,
     site: FixupSite<'d>,
 ) -> Result<(), AllocError>
-    requires ready { IsReady prepared.now }
-    requires place { site.property < length prepared.now.in_preorder.properties.items }
+    requires ready { IsReady draft.now }
+    requires place { site.property < length draft.now.in_preorder.properties.items }
 {
     let label = match site.reference {
         Some(reference) => label_of(reference),
         None => return Ok(()),
     };
-    let sum = room_of(sizes, label).saturating_add(text_size(prepared, site));
+    let sum = room_of(sizes, label).saturating_add(text_size(draft, site));
     sizes.insert(label, sum)?;
     Ok(())
 }
@@ -64,15 +64,15 @@ fn count_site<'d>(
 // How long the texts of each label are together: room is taken once for them.
 fn label_sizes<'d>(
     alloc: Global,
-    prepared: &Prepared<'_, '_>,
+    draft: &Draft<'_, '_>,
     sites: &[FixupSite<'d>],
 ) -> Result<BTreeMap<&'d [u8], usize>, AllocError>
-    requires ready { IsReady prepared.now }
-    requires sites { AreSites prepared.now sites.now }
+    requires ready { IsReady draft.now }
+    requires sites { AreSites draft.now sites.now }
 {
     let mut sizes = BTreeMap::new(alloc);
     for site in sites {
-        count_site(&mut sizes, prepared, *site)?;
+        count_site(&mut sizes, draft, *site)?;
     }
     Ok(sizes)
 }
@@ -110,15 +110,15 @@ fn index_of_label<'d>(
 // Puts the text of a site behind others.
 fn append_text(
     text: &mut Vec<u8>,
-    prepared: &Prepared<'_, '_>,
+    draft: &Draft<'_, '_>,
     site: FixupSite<'_>,
 ) -> Result<(), AllocError>
-    requires ready { IsReady prepared.now }
-    requires place { site.property < length prepared.now.in_preorder.properties.items }
-    ensures { OnOk result (text.new.items ≡ text.old.items ++ site_text (site_of prepared.now site.entry)) }
+    requires ready { IsReady draft.now }
+    requires place { site.property < length draft.now.in_preorder.properties.items }
+    ensures { OnOk result (text.new.items ≡ text.old.items ++ site_text (site_of draft.now site.entry)) }
 {
-    let property = prepared.in_preorder.properties[site.property];
-    append_path(text, prepared.live.nodes(), property.node)?;
+    let property = draft.in_preorder.properties[site.property];
+    append_path(text, draft.live.nodes(), property.node)?;
     // its zero byte
     text.pop();
     text.push(b':')?;
@@ -132,43 +132,43 @@ fn append_text(
 // Puts a site among the fixups of its label, where it has one.
 fn put_text<'d>(
     alloc: Global,
-    prepared: &Prepared<'_, '_>,
+    draft: &Draft<'_, '_>,
     sizes: &BTreeMap<&'d [u8], usize>,
     by_label: &mut FixupsByLabel<'d>,
     site: FixupSite<'d>,
 ) -> Result<(), AllocError>
-    requires ready { IsReady prepared.now }
-    requires place { site.property < length prepared.now.in_preorder.properties.items }
+    requires ready { IsReady draft.now }
+    requires place { site.property < length draft.now.in_preorder.properties.items }
     requires indexed { AreIndexed by_label.old }
     ensures indexed { OnOk result (AreIndexed by_label.new) }
-    ensures given { OnOk result (PutsSite prepared.now site.entry by_label.old by_label.new) }
+    ensures given { OnOk result (PutsSite draft.now site.entry by_label.old by_label.new) }
 {
     let label = match site.reference {
         Some(reference) => label_of(reference),
         None => return Ok(()),
     };
     let slot = index_of_label(alloc, by_label, label, room_of(sizes, label))?;
-    append_text(&mut by_label.labels[slot].text, prepared, site)?;
+    append_text(&mut by_label.labels[slot].text, draft, site)?;
     Ok(())
 }
 
 /// All fixups by label, in order of first reference.
 pub(crate) fn collect_by_label<'d>(
     alloc: Global,
-    prepared: &Prepared<'_, '_>,
+    draft: &Draft<'_, '_>,
     sites: &[FixupSite<'d>],
 ) -> Result<FixupsByLabel<'d>, AllocError>
-    requires ready { IsReady prepared.now }
-    requires sites { AreSites prepared.now sites.now }
-    ensures { IfOk result (λ by_label. all_given by_label ≡ fixups (made_sites prepared.now) []) }
+    requires ready { IsReady draft.now }
+    requires sites { AreSites draft.now sites.now }
+    ensures { IfOk result (λ by_label. all_given by_label ≡ fixups (made_sites draft.now) []) }
 {
-    let sizes = label_sizes(alloc, prepared, sites)?;
+    let sizes = label_sizes(alloc, draft, sites)?;
     let mut by_label = FixupsByLabel {
         labels: Vec::new(alloc),
         slots: BTreeMap::new(alloc),
     };
     for site in sites {
-        put_text(alloc, prepared, &sizes, &mut by_label, *site)?;
+        put_text(alloc, draft, &sizes, &mut by_label, *site)?;
     }
     Ok(by_label)
 }

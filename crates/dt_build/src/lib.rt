@@ -5,6 +5,7 @@
 
 mod building;
 mod digits;
+mod draft;
 mod fixup_sites;
 mod fixups;
 mod fixups_by_label;

@@ -10,23 +10,23 @@ ghost use Rattle.dt_build.specs.Private.FixupSites.{AreSites};
 ghost use Rattle.dt_build.specs.Private.LocalFixups.{AreListsFrom, AreMadeTo, AreMarks, ArePlaced, IsAtNode, ListsNodes, MarksNode, MarksNodes};
 ghost use Rattle.dt_build.specs.Private.Ready.{IsReady};
 
+use crate::draft::Draft;
 use crate::fixup_sites::FixupSite;
 use crate::local_properties::{LocalFixup, local_properties};
-use dt_resolve::Prepared;
 use dt_tree::{Bytes, Property, lawful_name};
 use dt_tree_builder::TreeBuilder;
 use std::alloc::{AllocError, Global};
 use std::mem;
 
 // Marks a node and all above it but the root.
-fn mark(marks: &mut Vec<bool>, prepared: &Prepared<'_, '_>, node: usize)
-    requires ready { IsReady prepared.now }
-    requires node { IsAtNode prepared.now node }
-    requires count { length marks.old.items ≡ length prepared.now.live.nodes.items + 1 }
+fn mark(marks: &mut Vec<bool>, draft: &Draft<'_, '_>, node: usize)
+    requires ready { IsReady draft.now }
+    requires node { IsAtNode draft.now node }
+    requires count { length marks.old.items ≡ length draft.now.live.nodes.items + 1 }
     ensures count { length marks.new.items ≡ length marks.old.items }
-    ensures marks { MarksNode prepared.now node marks.old.items marks.new.items }
+    ensures marks { MarksNode draft.now node marks.old.items marks.new.items }
 {
-    let rows = prepared.live.nodes();
+    let rows = draft.live.nodes();
     let mut at = node;
     'up: while at != 0 {
         marks[at] = true;
@@ -37,18 +37,18 @@ fn mark(marks: &mut Vec<bool>, prepared: &Prepared<'_, '_>, node: usize)
 // Whether each node but the root, or one below it, is that of a local fixup.
 fn local_marks(
     alloc: Global,
-    prepared: &Prepared<'_, '_>,
+    draft: &Draft<'_, '_>,
     locals: &[LocalFixup],
 ) -> Result<Vec<bool>, AllocError>
-    requires ready { IsReady prepared.now }
-    requires places { ArePlaced prepared.now locals.now }
-    ensures count { IfOk result (λ marks. length marks.items ≡ length prepared.now.live.nodes.items + 1) }
-    ensures marks { IfOk result (λ marks. MarksNodes prepared.now locals.now marks.items) }
+    requires ready { IsReady draft.now }
+    requires places { ArePlaced draft.now locals.now }
+    ensures count { IfOk result (λ marks. length marks.items ≡ length draft.now.live.nodes.items + 1) }
+    ensures marks { IfOk result (λ marks. MarksNodes draft.now locals.now marks.items) }
 {
-    let mut marks = vec![in alloc; false; prepared.live.nodes().len() + 1]?;
+    let mut marks = vec![in alloc; false; draft.live.nodes().len() + 1]?;
     for one in locals {
-        let property = prepared.in_preorder.properties[one.property];
-        mark(&mut marks, prepared, property.node);
+        let property = draft.in_preorder.properties[one.property];
+        mark(&mut marks, draft, property.node);
     }
     Ok(marks)
 }
@@ -67,17 +67,17 @@ fn empty_lists(alloc: Global, count: usize) -> Result<Vec<Vec<Property>>, AllocE
 // The local fixups of each node.
 fn local_lists(
     alloc: Global,
-    prepared: &Prepared<'_, '_>,
+    draft: &Draft<'_, '_>,
     locals: Vec<LocalFixup>,
 ) -> Result<Vec<Vec<Property>>, AllocError>
-    requires ready { IsReady prepared.now }
-    requires places { ArePlaced prepared.now locals.items }
-    ensures count { IfOk result (λ lists. length lists.items ≡ length prepared.now.live.nodes.items + 1) }
-    ensures lists { IfOk result (λ lists. ListsNodes prepared.now locals.items (map (λ list. list.items) lists.items)) }
+    requires ready { IsReady draft.now }
+    requires places { ArePlaced draft.now locals.items }
+    ensures count { IfOk result (λ lists. length lists.items ≡ length draft.now.live.nodes.items + 1) }
+    ensures lists { IfOk result (λ lists. ListsNodes draft.now locals.items (map (λ list. list.items) lists.items)) }
 {
-    let mut lists = empty_lists(alloc, prepared.live.nodes().len() + 1)?;
+    let mut lists = empty_lists(alloc, draft.live.nodes().len() + 1)?;
     for one in locals {
-        let property = prepared.in_preorder.properties[one.property];
+        let property = draft.in_preorder.properties[one.property];
         lists[property.node].push(Property {
             name: lawful_name(alloc, property.name)?,
             value: Bytes::from_vec(one.cells),
@@ -89,64 +89,64 @@ fn local_lists(
 // The tree with the node at a place in preorder behind all others, where it or one below it has local fixups.
 fn with_local_node(
     alloc: Global,
-    prepared: &Prepared<'_, '_>,
+    draft: &Draft<'_, '_>,
     symbols: bool,
     place: usize,
     marks: &[bool],
     lists: &mut Vec<Vec<Property>>,
     builder: TreeBuilder,
 ) -> Result<TreeBuilder, AllocError>
-    requires ready { IsReady prepared.now }
-    requires free { names_taken symbols prepared.now.plugin (tree_of prepared.now.live) ≡ false }
-    requires shallow { list_any is_too_deep (lists_of symbols prepared.now).nodes ≡ false }
-    requires plugin { prepared.now.plugin ≡ true }
+    requires ready { IsReady draft.now }
+    requires free { names_taken symbols draft.now.plugin (tree_of draft.now.live) ≡ false }
+    requires shallow { list_any is_too_deep (lists_of symbols draft.now).nodes ≡ false }
+    requires plugin { draft.now.plugin ≡ true }
     requires some { 1 ≤ place }
-    requires below { place < length prepared.now.in_preorder.nodes.items }
-    requires marks { AreMarks prepared.now marks.now }
-    requires lists { AreListsFrom place prepared.now (map (λ list. list.items) lists.old.items) }
-    requires made { AreMadeTo symbols prepared.now place builder }
-    ensures lists { OnOk result (AreListsFrom (place + 1) prepared.now (map (λ list. list.items) lists.new.items)) }
-    ensures made { IfOk result (λ more. AreMadeTo symbols prepared.now (place + 1) more) }
+    requires below { place < length draft.now.in_preorder.nodes.items }
+    requires marks { AreMarks draft.now marks.now }
+    requires lists { AreListsFrom place draft.now (map (λ list. list.items) lists.old.items) }
+    requires made { AreMadeTo symbols draft.now place builder }
+    ensures lists { OnOk result (AreListsFrom (place + 1) draft.now (map (λ list. list.items) lists.new.items)) }
+    ensures made { IfOk result (λ more. AreMadeTo symbols draft.now (place + 1) more) }
 {
-    let node = prepared.in_preorder.nodes[place];
+    let node = draft.in_preorder.nodes[place];
     if !marks[node] {
         return Ok(builder);
     }
-    let name = lawful_name(alloc, prepared.live.nodes()[node - 1].name)?;
+    let name = lawful_name(alloc, draft.live.nodes()[node - 1].name)?;
     let properties = mem::replace(&mut lists[node], Vec::new(alloc));
-    let depth = prepared.live.depth(node) + 1;
+    let depth = draft.live.depth(node) + 1;
     builder.push(alloc, depth, name, properties)
 }
 
 /// The tree with the local fixups behind all other nodes, where the plugin has a phandle of its own in cells.
 pub(crate) fn with_local_fixups(
     alloc: Global,
-    prepared: &Prepared<'_, '_>,
+    draft: &Draft<'_, '_>,
     sites: &[FixupSite<'_>],
     symbols: bool,
     builder: TreeBuilder,
 ) -> Result<TreeBuilder, AllocError>
-    requires ready { IsReady prepared.now }
-    requires sites { AreSites prepared.now sites.now }
-    requires free { names_taken symbols prepared.now.plugin (tree_of prepared.now.live) ≡ false }
-    requires shallow { list_any is_too_deep (lists_of symbols prepared.now).nodes ≡ false }
-    requires made { built_lists builder ≡ walked (fixup_lists symbols prepared.now) }
-    ensures { IfOk result (λ whole. built_lists whole ≡ walked (lists_of symbols prepared.now)) }
+    requires ready { IsReady draft.now }
+    requires sites { AreSites draft.now sites.now }
+    requires free { names_taken symbols draft.now.plugin (tree_of draft.now.live) ≡ false }
+    requires shallow { list_any is_too_deep (lists_of symbols draft.now).nodes ≡ false }
+    requires made { built_lists builder ≡ walked (fixup_lists symbols draft.now) }
+    ensures { IfOk result (λ whole. built_lists whole ≡ walked (lists_of symbols draft.now)) }
 {
-    let locals = local_properties(alloc, prepared, sites)?;
+    let locals = local_properties(alloc, draft, sites)?;
     if locals.is_empty() {
         return Ok(builder);
     }
-    let marks = local_marks(alloc, prepared, locals.as_slice())?;
-    let mut lists = local_lists(alloc, prepared, locals)?;
+    let marks = local_marks(alloc, draft, locals.as_slice())?;
+    let mut lists = local_lists(alloc, draft, locals)?;
     let name = lawful_name(alloc, b"__local_fixups__".as_slice())?;
     let properties = mem::replace(&mut lists[0], Vec::new(alloc));
     let mut builder = builder.push(alloc, 1, name, properties)?;
     let mut place = 1;
-    'each: while place < prepared.in_preorder.nodes.len() {
+    'each: while place < draft.in_preorder.nodes.len() {
         builder = with_local_node(
             alloc,
-            prepared,
+            draft,
             symbols,
             place,
             marks.as_slice(),

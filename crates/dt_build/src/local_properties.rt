@@ -4,8 +4,8 @@ ghost use Rattle.dt_build.specs.Private.FixupSites.{AreSites};
 ghost use Rattle.dt_build.specs.Private.LocalFixups.{AreBelow, ArePlaced, PutsLocal, all_local, ends_with, local_definitions, places};
 ghost use Rattle.dt_build.specs.Private.Ready.{IsReady};
 
+use crate::draft::Draft;
 use crate::fixup_sites::FixupSite;
-use dt_resolve::Prepared;
 use std::alloc::{AllocError, Global};
 
 /// The local fixups of the property at a place in preorder: the offsets of its sites.
@@ -54,15 +54,15 @@ fn put_local(
 /// The local fixups of all properties that have a phandle of the source's own, in the order of the walk.
 pub(crate) fn local_properties(
     alloc: Global,
-    prepared: &Prepared<'_, '_>,
+    draft: &Draft<'_, '_>,
     sites: &[FixupSite<'_>],
 ) -> Result<Vec<LocalFixup>, AllocError>
-    requires ready { IsReady prepared.now }
-    requires sites { AreSites prepared.now sites.now }
-    ensures all { IfOk result (λ xs. local_definitions prepared.now xs.items ≡ all_local prepared.now) }
-    ensures places { IfOk result (λ xs. ArePlaced prepared.now xs.items) }
+    requires ready { IsReady draft.now }
+    requires sites { AreSites draft.now sites.now }
+    ensures all { IfOk result (λ xs. local_definitions draft.now xs.items ≡ all_local draft.now) }
+    ensures places { IfOk result (λ xs. ArePlaced draft.now xs.items) }
 {
-    let _prepared = prepared;
+    let _prepared = draft;
     let mut locals = Vec::new(alloc);
     for site in sites {
         put_local(&mut locals, alloc, *site)?;

@@ -12,6 +12,7 @@ ghost use Rattle.dt_build.specs.Private.NodePhandles.{AreNodePhandles};
 ghost use Rattle.dt_build.specs.Private.FixupSites.{AreSites};
 ghost use Rattle.dt_build.specs.Private.Ready.{IsReady};
 
+use crate::draft::Draft;
 use crate::fixup_sites::FixupSite;
 use crate::fixups::with_fixups;
 use crate::local_nodes::with_local_fixups;
@@ -19,7 +20,6 @@ use crate::node_phandles::NodePhandles;
 use crate::source_values::SourceValues;
 use crate::symbols::with_symbols;
 use dt_making::make_nodes;
-use dt_resolve::Prepared;
 use dt_tree::Node;
 use dt_tree_builder::TreeBuilder;
 use std::alloc::{AllocError, Global};
@@ -27,78 +27,78 @@ use std::alloc::{AllocError, Global};
 // All nodes but that of the labels.
 fn with_nodes(
     alloc: Global,
-    prepared: &Prepared<'_, '_>,
+    draft: &Draft<'_, '_>,
     node_phandles: &NodePhandles,
 ) -> Result<TreeBuilder, AllocError>
-    requires ready { IsReady prepared.now }
-    requires node_phandles { AreNodePhandles prepared.now node_phandles.now }
-    ensures { IfOk result (λ builder. built_lists builder ≡ walked (plain_lists prepared.now)) }
+    requires ready { IsReady draft.now }
+    requires node_phandles { AreNodePhandles draft.now node_phandles.now }
+    ensures { IfOk result (λ builder. built_lists builder ≡ walked (plain_lists draft.now)) }
 {
     let mut values = SourceValues {
-        prepared,
+        draft,
         node_phandles,
-        targets: prepared.resolution.targets.all.as_slice(),
+        targets: draft.targets.as_slice(),
     };
-    make_nodes(alloc, &prepared.live, &prepared.in_preorder, &mut values)
+    make_nodes(alloc, &draft.live, &draft.in_preorder, &mut values)
 }
 
 // The nodes of the source, with symbols the labels' node last.
 fn with_labels(
     alloc: Global,
-    prepared: &Prepared<'_, '_>,
+    draft: &Draft<'_, '_>,
     node_phandles: &NodePhandles,
     symbols: bool,
 ) -> Result<TreeBuilder, AllocError>
-    requires ready { IsReady prepared.now }
-    requires node_phandles { AreNodePhandles prepared.now node_phandles.now }
-    requires free { names_taken symbols prepared.now.plugin (tree_of prepared.now.live) ≡ false }
-    ensures { IfOk result (λ builder. built_lists builder ≡ walked (symbol_lists symbols prepared.now)) }
+    requires ready { IsReady draft.now }
+    requires node_phandles { AreNodePhandles draft.now node_phandles.now }
+    requires free { names_taken symbols draft.now.plugin (tree_of draft.now.live) ≡ false }
+    ensures { IfOk result (λ builder. built_lists builder ≡ walked (symbol_lists symbols draft.now)) }
 {
-    let nodes = with_nodes(alloc, prepared, node_phandles)?;
+    let nodes = with_nodes(alloc, draft, node_phandles)?;
     if !symbols {
         return Ok(nodes);
     }
-    with_symbols(alloc, prepared, nodes)
+    with_symbols(alloc, draft, nodes)
 }
 
 // With a plugin's fixups behind all others.
 fn with_all(
     alloc: Global,
-    prepared: &Prepared<'_, '_>,
+    draft: &Draft<'_, '_>,
     node_phandles: &NodePhandles,
     sites: &[FixupSite<'_>],
     symbols: bool,
 ) -> Result<TreeBuilder, AllocError>
-    requires ready { IsReady prepared.now }
-    requires node_phandles { AreNodePhandles prepared.now node_phandles.now }
-    requires sites { AreSites prepared.now sites.now }
-    requires free { names_taken symbols prepared.now.plugin (tree_of prepared.now.live) ≡ false }
-    requires shallow { list_any is_too_deep (lists symbols prepared.now).nodes ≡ false }
-    ensures { IfOk result (λ builder. built_lists builder ≡ walked (lists symbols prepared.now)) }
+    requires ready { IsReady draft.now }
+    requires node_phandles { AreNodePhandles draft.now node_phandles.now }
+    requires sites { AreSites draft.now sites.now }
+    requires free { names_taken symbols draft.now.plugin (tree_of draft.now.live) ≡ false }
+    requires shallow { list_any is_too_deep (lists symbols draft.now).nodes ≡ false }
+    ensures { IfOk result (λ builder. built_lists builder ≡ walked (lists symbols draft.now)) }
 {
-    let builder = with_labels(alloc, prepared, node_phandles, symbols)?;
-    if !prepared.plugin {
+    let builder = with_labels(alloc, draft, node_phandles, symbols)?;
+    if !draft.plugin {
         return Ok(builder);
     }
-    let builder = with_fixups(alloc, prepared, sites, symbols, builder)?;
-    with_local_fixups(alloc, prepared, sites, symbols, builder)
+    let builder = with_fixups(alloc, draft, sites, symbols, builder)?;
+    with_local_fixups(alloc, draft, sites, symbols, builder)
 }
 
 /// The root with all below it: the nodes of the source, with symbols the labels' node, and a plugin's fixups last.
 pub(crate) fn make(
     alloc: Global,
-    prepared: &Prepared<'_, '_>,
+    draft: &Draft<'_, '_>,
     node_phandles: &NodePhandles,
     sites: &[FixupSite<'_>],
     symbols: bool,
 ) -> Result<Node, AllocError>
-    requires ready { IsReady prepared.now }
-    requires node_phandles { AreNodePhandles prepared.now node_phandles.now }
-    requires sites { AreSites prepared.now sites.now }
-    requires free { names_taken symbols prepared.now.plugin (tree_of prepared.now.live) ≡ false }
-    requires shallow { list_any is_too_deep (lists symbols prepared.now).nodes ≡ false }
+    requires ready { IsReady draft.now }
+    requires node_phandles { AreNodePhandles draft.now node_phandles.now }
+    requires sites { AreSites draft.now sites.now }
+    requires free { names_taken symbols draft.now.plugin (tree_of draft.now.live) ≡ false }
+    requires shallow { list_any is_too_deep (lists symbols draft.now).nodes ≡ false }
     ensures name { IfOk result (λ root. root.name ≡ []) }
-    ensures map { IfOk result (λ root. path_map root ≡ map_of (lists symbols prepared.now)) }
+    ensures map { IfOk result (λ root. path_map root ≡ map_of (lists symbols draft.now)) }
 {
-    with_all(alloc, prepared, node_phandles, sites, symbols)?.finish()
+    with_all(alloc, draft, node_phandles, sites, symbols)?.finish()
 }

@@ -4,7 +4,8 @@ ghost use Rattle.dt_build.specs.Private.FirstPhandle.{PutsPhandles};
 ghost use Rattle.dt_build.specs.Private.NodePhandles.{AreNodePhandles};
 ghost use Rattle.dt_build.specs.Private.Ready.{IsReady};
 
-use dt_resolve::{NodePhandle, Prepared, nodes_with_phandles};
+use crate::draft::Draft;
+use dt_resolve::{NodePhandle, nodes_with_phandles};
 use std::alloc::{AllocError, Global};
 
 /// The phandle of each node, the number that is no phandle where it has none; and whether it is a new one.
@@ -29,13 +30,13 @@ fn put_phandles(phandles: &mut Vec<u32>, list: &[NodePhandle])
 }
 
 /// The phandles of all nodes.
-pub(crate) fn number(alloc: Global, prepared: &Prepared<'_, '_>) -> Result<NodePhandles, AllocError>
-    requires { IsReady prepared.now }
-    ensures { IfOk result (λ node_phandles. AreNodePhandles prepared.now node_phandles) }
+pub(crate) fn number(alloc: Global, draft: &Draft<'_, '_>) -> Result<NodePhandles, AllocError>
+    requires { IsReady draft.now }
+    ensures { IfOk result (λ node_phandles. AreNodePhandles draft.now node_phandles) }
 {
-    let count = prepared.live.nodes().len() + 1;
-    let given = prepared.resolution.given.phandles.as_slice();
-    let added = prepared.resolution.new.as_slice();
+    let count = draft.live.nodes().len() + 1;
+    let given = draft.given.as_slice();
+    let added = draft.new.as_slice();
     let new = nodes_with_phandles(alloc, count, added)?;
     let mut phandles = vec![in alloc; u32::MAX; count]?;
     put_phandles(&mut phandles, added);

@@ -7,10 +7,11 @@ ghost use Rattle.dt_build.specs.Private.Ready.{IsReady};
 ghost use Rattle.dt_build.specs.Private.SourceValues.{AreReady, source_made};
 ghost use Rattle.dt_build.specs.Private.Values.{values_of};
 
+use crate::draft::Draft;
 use crate::node_phandles::NodePhandles;
 use crate::value::{value_bytes, value_size};
 use dt_making::Values;
-use dt_resolve::{Prepared, targets_behind};
+use dt_resolve::targets_behind;
 use dt_source::Part;
 use dt_tree::Bytes;
 use std::alloc::{AllocError, Global};
@@ -18,26 +19,20 @@ use std::alloc::{AllocError, Global};
 /// Values that are made, and the targets of those that come next.
 #[derive(Drop)]
 pub(crate) struct SourceValues<'p, 'd, 't> {
-    pub(crate) prepared: &'p Prepared<'d, 't>,
+    pub(crate) draft: &'p Draft<'d, 't>,
     pub(crate) node_phandles: &'p NodePhandles,
     pub(crate) targets: &'p [Option<usize>],
 }
 
 impl<'p, 'd, 't> Values<&'d [Part<'t>]> for SourceValues<'p, 'd, 't> {
-    ghost made = { λ s. source_made s.prepared.now s.node_phandles.now };
+    ghost made = { λ s. source_made s.draft.now s.node_phandles.now };
 
     ghost is_ready = { AreReady };
 
-    ghost bytes_of = { λ s vs. values_of (all_phandles s.prepared.now) (node_path s.prepared.now.live) vs s.targets.now };
+    ghost bytes_of = { λ s vs. values_of (all_phandles s.draft.now) (node_path s.draft.now.live) vs s.targets.now };
 
     fn next(&mut self, alloc: Global, value: &'d [Part<'t>]) -> Result<Bytes, AllocError> {
-        let bytes = value_bytes(
-            alloc,
-            self.prepared,
-            self.node_phandles,
-            value,
-            self.targets,
-        )?;
+        let bytes = value_bytes(alloc, self.draft, self.node_phandles, value, self.targets)?;
         self.targets = targets_behind(value, self.targets);
         Ok(bytes)
     }
@@ -51,14 +46,14 @@ impl<'p, 'd, 't> Values<&'d [Part<'t>]> for SourceValues<'p, 'd, 't> {
 }
 
 /// How many bytes the values have together, or the greatest number where there are more. Takes no memory.
-pub(crate) fn values_size(prepared: &Prepared<'_, '_>) -> usize
-    requires { IsReady prepared.now }
-    ensures { result ≡ min (size_in (plain_properties prepared.now)) (2 ^ 64 - 1) }
+pub(crate) fn values_size(draft: &Draft<'_, '_>) -> usize
+    requires { IsReady draft.now }
+    ensures { result ≡ min (size_in (plain_properties draft.now)) (2 ^ 64 - 1) }
 {
     let mut size: usize = 0;
-    let mut left = prepared.resolution.targets.all.as_slice();
-    for node_property in prepared.in_preorder.properties.as_slice() {
-        size = size.saturating_add(value_size(prepared, node_property.value, left));
+    let mut left = draft.targets.as_slice();
+    for node_property in draft.in_preorder.properties.as_slice() {
+        size = size.saturating_add(value_size(draft, node_property.value, left));
         left = targets_behind(node_property.value, left);
     }
     size

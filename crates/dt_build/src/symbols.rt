@@ -10,8 +10,8 @@ ghost use Rattle.dt_tree_builder.specs.Sizes.{size_in};
 ghost use Rattle.dt_build.specs.Private.Made.{as_symbols, plain_lists, symbol_at, symbol_lists};
 ghost use Rattle.dt_build.specs.Private.Ready.{IsReady};
 
+use crate::draft::Draft;
 use dt_live::{LabelRow, LiveTree, append_path, path_size};
-use dt_resolve::Prepared;
 use dt_source::Part;
 use dt_tree::{Bytes, Property, lawful_name};
 use dt_tree_builder::TreeBuilder;
@@ -38,11 +38,11 @@ fn symbol_of<'t>(
 }
 
 // The labels of nodes that stand, in order of definition.
-fn symbols_of(alloc: Global, prepared: &Prepared<'_, '_>) -> Result<Vec<Property>, AllocError>
-    requires { IsReady prepared.now }
-    ensures { IfOk result (λ made. as_symbols made.items ≡ map symbol (tree_of prepared.now.live).labels) }
+fn symbols_of(alloc: Global, draft: &Draft<'_, '_>) -> Result<Vec<Property>, AllocError>
+    requires { IsReady draft.now }
+    ensures { IfOk result (λ made. as_symbols made.items ≡ map symbol (tree_of draft.now.live).labels) }
 {
-    let live = &prepared.live;
+    let live = &draft.live;
     let mut symbols = Vec::new(alloc);
     for row in live.labels() {
         if live.is_in_tree(row.node) {
@@ -53,11 +53,11 @@ fn symbols_of(alloc: Global, prepared: &Prepared<'_, '_>) -> Result<Vec<Property
 }
 
 /// How many bytes the labels' properties have together, or the greatest number where there are more. Takes no memory.
-pub(crate) fn symbols_size(prepared: &Prepared<'_, '_>) -> usize
-    requires { IsReady prepared.now }
-    ensures { result ≡ min (size_in (map symbol (tree_of prepared.now.live).labels)) (2 ^ 64 - 1) }
+pub(crate) fn symbols_size(draft: &Draft<'_, '_>) -> usize
+    requires { IsReady draft.now }
+    ensures { result ≡ min (size_in (map symbol (tree_of draft.now.live).labels)) (2 ^ 64 - 1) }
 {
-    let live = &prepared.live;
+    let live = &draft.live;
     let mut size: usize = 0;
     for label in live.labels() {
         if live.is_in_tree(label.node) {
@@ -70,15 +70,15 @@ pub(crate) fn symbols_size(prepared: &Prepared<'_, '_>) -> usize
 /// The tree with the labels' node behind all others, where a node has a label.
 pub(crate) fn with_symbols(
     alloc: Global,
-    prepared: &Prepared<'_, '_>,
+    draft: &Draft<'_, '_>,
     builder: TreeBuilder,
 ) -> Result<TreeBuilder, AllocError>
-    requires ready { IsReady prepared.now }
-    requires free { names_taken true prepared.now.plugin (tree_of prepared.now.live) ≡ false }
-    requires made { built_lists builder ≡ walked (plain_lists prepared.now) }
-    ensures { IfOk result (λ whole. built_lists whole ≡ walked (symbol_lists true prepared.now)) }
+    requires ready { IsReady draft.now }
+    requires free { names_taken true draft.now.plugin (tree_of draft.now.live) ≡ false }
+    requires made { built_lists builder ≡ walked (plain_lists draft.now) }
+    ensures { IfOk result (λ whole. built_lists whole ≡ walked (symbol_lists true draft.now)) }
 {
-    let symbols = symbols_of(alloc, prepared)?;
+    let symbols = symbols_of(alloc, draft)?;
     if symbols.is_empty() {
         return Ok(builder);
     }

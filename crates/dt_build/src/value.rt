@@ -5,28 +5,25 @@ ghost use Rattle.dt_build.specs.Private.NodePhandles.{AreNodePhandles};
 ghost use Rattle.dt_build.specs.Private.Ready.{IsReady};
 ghost use Rattle.dt_build.specs.Private.Values.{bytes_for, part_bytes};
 
+use crate::draft::Draft;
 use crate::node_phandles::NodePhandles;
 use dt_live::{append_path, path_size};
-use dt_resolve::{Prepared, target_at, target_count};
+use dt_resolve::{target_at, target_count};
 use dt_source::Part;
 use dt_tree::Bytes;
 use std::alloc::{AllocError, Global};
 
 // ---- sizes
 /// How many bytes a part has, or the greatest number where there are more. Takes no memory.
-pub(crate) fn part_size(
-    prepared: &Prepared<'_, '_>,
-    part: &Part<'_>,
-    target: Option<usize>,
-) -> usize
-    requires ready { IsReady prepared.now }
-    requires known { IsKnown prepared.now.live target }
-    ensures { result ≡ min (length (part_bytes prepared.now part.now target)) (2 ^ 64 - 1) }
+pub(crate) fn part_size(draft: &Draft<'_, '_>, part: &Part<'_>, target: Option<usize>) -> usize
+    requires ready { IsReady draft.now }
+    requires known { IsKnown draft.now.live target }
+    ensures { result ≡ min (length (part_bytes draft.now part.now target)) (2 ^ 64 - 1) }
 {
     match (part, target) {
         (Part::Bytes(bytes), _) => bytes.len(),
         (Part::Phandle(_), _) => 4,
-        (Part::Path(_), Some(node)) => path_size(prepared.live.nodes(), node),
+        (Part::Path(_), Some(node)) => path_size(draft.live.nodes(), node),
         // never: the text of a path has its node
         (Part::Path(_), None) => 0,
     }
@@ -34,18 +31,18 @@ pub(crate) fn part_size(
 
 /// How many bytes a value has, or the greatest number where there are more. Takes no memory.
 pub(crate) fn value_size(
-    prepared: &Prepared<'_, '_>,
+    draft: &Draft<'_, '_>,
     value: &[Part<'_>],
     targets: &[Option<usize>],
 ) -> usize
-    requires ready { IsReady prepared.now }
-    requires known { All (IsKnown prepared.now.live) targets.now }
-    ensures { result ≡ min (length (bytes_for prepared.now value.now targets.now)) (2 ^ 64 - 1) }
+    requires ready { IsReady draft.now }
+    requires known { All (IsKnown draft.now.live) targets.now }
+    ensures { result ≡ min (length (bytes_for draft.now value.now targets.now)) (2 ^ 64 - 1) }
 {
     let mut size: usize = 0;
     let mut used = 0;
     for part in value {
-        size = size.saturating_add(part_size(prepared, part, target_at(targets, used)));
+        size = size.saturating_add(part_size(draft, part, target_at(targets, used)));
         used += target_count(part);
     }
     size
@@ -55,16 +52,16 @@ pub(crate) fn value_size(
 // A cell whose node the plugin leaves to its base holds the number that is no phandle.
 fn append_part(
     value: &mut Vec<u8>,
-    prepared: &Prepared<'_, '_>,
+    draft: &Draft<'_, '_>,
     node_phandles: &NodePhandles,
     part: &Part<'_>,
     target: Option<usize>,
 ) -> Result<(), AllocError>
-    requires ready { IsReady prepared.now }
-    requires node_phandles { AreNodePhandles prepared.now node_phandles.now }
-    requires known { IsKnown prepared.now.live target }
-    requires there { IsThere prepared.now.live target }
-    ensures { OnOk result (value.new.items ≡ value.old.items ++ part_bytes prepared.now part.now target) }
+    requires ready { IsReady draft.now }
+    requires node_phandles { AreNodePhandles draft.now node_phandles.now }
+    requires known { IsKnown draft.now.live target }
+    requires there { IsThere draft.now.live target }
+    ensures { OnOk result (value.new.items ≡ value.old.items ++ part_bytes draft.now part.now target) }
 {
     match (part, target) {
         (Part::Bytes(bytes), _) => value.extend_from_slice(bytes)?,
@@ -72,7 +69,7 @@ fn append_part(
             value.extend_from_slice(&node_phandles.phandles[node].to_be_bytes())?
         }
         (Part::Phandle(_), None) => value.extend_from_slice(&u32::MAX.to_be_bytes())?,
-        (Part::Path(_), Some(node)) => append_path(value, prepared.live.nodes(), node)?,
+        (Part::Path(_), Some(node)) => append_path(value, draft.live.nodes(), node)?,
         // never: the text of a path has its node
         (Part::Path(_), None) => {}
     }
@@ -82,23 +79,23 @@ fn append_part(
 /// The bytes of a value, in room that is taken once.
 pub(crate) fn value_bytes(
     alloc: Global,
-    prepared: &Prepared<'_, '_>,
+    draft: &Draft<'_, '_>,
     node_phandles: &NodePhandles,
     value: &[Part<'_>],
     targets: &[Option<usize>],
 ) -> Result<Bytes, AllocError>
-    requires ready { IsReady prepared.now }
-    requires node_phandles { AreNodePhandles prepared.now node_phandles.now }
-    requires known { All (IsKnown prepared.now.live) targets.now }
-    requires there { All (IsThere prepared.now.live) targets.now }
-    ensures { IfOk result (λ bytes. bytes ≡ bytes_for prepared.now value.now targets.now) }
+    requires ready { IsReady draft.now }
+    requires node_phandles { AreNodePhandles draft.now node_phandles.now }
+    requires known { All (IsKnown draft.now.live) targets.now }
+    requires there { All (IsThere draft.now.live) targets.now }
+    ensures { IfOk result (λ bytes. bytes ≡ bytes_for draft.now value.now targets.now) }
 {
-    let mut bytes = Vec::with_capacity(alloc, value_size(prepared, value, targets))?;
+    let mut bytes = Vec::with_capacity(alloc, value_size(draft, value, targets))?;
     let mut used = 0;
     for part in value {
         append_part(
             &mut bytes,
-            prepared,
+            draft,
             node_phandles,
             part,
             target_at(targets, used),

@@ -1,6 +1,7 @@
 pub mod Admission
 pub mod Collecting
 pub mod Decimals
+pub mod DtcSteps
 pub mod Faults
 pub mod FragmentSteps
 pub mod ItemSteps

@@ -1,7 +1,9 @@
 -- What private contracts cite: how far the code has come. No public clause rests on it.
 pub mod Admitted
+pub mod DtcEdited
 pub mod Edited
 pub mod LabelFault
 pub mod Made
+pub mod PlaceFault
 pub mod Progress
 pub mod Ready

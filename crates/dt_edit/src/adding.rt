@@ -40,7 +40,7 @@ pub(crate) fn makes_fragment<'d, 't>(
     }
 }
 
-fn target_name<'t>(target: &Reference<'t>) -> &'static [u8]
+pub(crate) fn target_name<'t>(target: &Reference<'t>) -> &'static [u8]
     ensures { result.now ≡ target_name (target_view target.now) }
 {
     match target {

@@ -1,8 +1,10 @@
 //! Why the edits of a source stop.
 ghost use Rattle.std.specs.Prelude.{◌≡◌};
 ghost use Rattle.dt_edit.specs.Private.LabelFault.{edit_error};
+ghost use Rattle.dt_edit.specs.Private.PlaceFault.{place_error};
 
 use dt_live::LabelError;
+use dt_places::PlaceError;
 use std::alloc::AllocError;
 
 /// Why the edits of a source stop.
@@ -35,6 +37,15 @@ impl EditError {
         match error {
             LabelError::NoMemory => EditError::NoMemory,
             LabelError::DuplicateLabel => EditError::DuplicateLabel,
+        }
+    }
+
+    pub(crate) fn of_place(error: PlaceError) -> EditError
+        ensures { result ≡ place_error error }
+    {
+        match error {
+            PlaceError::NoMemory => EditError::NoMemory,
+            PlaceError::DuplicateInBody => EditError::DuplicateInBody,
         }
     }
 }

@@ -5,6 +5,10 @@
 
 mod adding;
 mod body;
+mod dtc_body;
+mod dtc_child;
+mod dtc_fragment;
+mod dtc_items;
 mod error;
 mod fragments;
 mod items;

@@ -146,9 +146,9 @@ module _ {V : Type 0} (d : PlacedTree V) (sound : IsPlacedTree d) (parent : ℕ)
       pub fresh-after : IsFresh d' (suc (length nodes))
       fresh-after = fresh-added d sound parent standing a.r a.owner a.base rows at a.ground a.is a.table a.noted mine d' ns
 
-      pub made-after : d.clock ≤ made → IsMade d' (suc (length nodes)) (child_path d parent name.now)
+      pub made-after : d.clock ≤ made → IsMade d' parent (suc (length nodes)) (child_path d parent name.now)
       made-after late = record {
-        below = omega arith;
+        behind = omega (arith, standing.known);
         standing = standing-last d sound parent standing a.r a.owner a.base rows at a.ground a.is a.table a.noted mine d' ns (now-there late);
         path = path-last-is d sound parent standing a.r a.owner a.base rows at a.ground a.is a.table a.noted mine d' ns ∙ ap (λ n. path_of nodes parent ++ n ∷ []) a.named;
       }

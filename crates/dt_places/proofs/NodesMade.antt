@@ -75,9 +75,9 @@ module _ {V : Type 0} (d : PlacedTree V) (sound : IsPlacedTree d) (parent : ℕ)
             get_or-map (node_seen old) old i no_place (node_seen old no_place) within
             ∙ ap₂ (λ w s. record { what = w; stands = s }) what-row (sym (holds-step old sound.tables.grown i) ∙ holds-row d sound parent standing name i has true there)
 
-  pub merged-standing : (d' : PlacedTree V) → rows_in d'.nodes ≡ old → is_made old (place_at old i) ≡ true → IsMade d' (suc i) q
+  pub merged-standing : (d' : PlacedTree V) → rows_in d'.nodes ≡ old → is_made old (place_at old i) ≡ true → IsMade d' parent (suc i) q
   merged-standing d' ns there = record {
-    below = omega arith;
+    behind = omega (arith, sound.tables.grown i, (key d sound parent standing name i has).0);
     standing = record { known = omega (arith, within, ap length ns); there = ap (λ rs. holds rs (suc i)) ns ∙ holds-row d sound parent standing name i has true there };
     path = ap (λ rs. path_of rs (suc i)) ns ∙ path-row;
   }
@@ -162,9 +162,9 @@ module _ {V : Type 0} (d : PlacedTree V) (sound : IsPlacedTree d) (parent : ℕ)
         ap₂ (λ a s. record { what = record { label = x.name.now; path = a }; stands = s }) (path' x.owner) (there' x (omega (arith, sound.tables.early_labels k, late, ap (λ y. y.made) here)))))
         (marks-seen (reverse d.marks.items))))
 
-    pub made-standing : (d' : PlacedTree V) → rows_in d'.nodes ≡ new → IsMade d' (suc i) q
+    pub made-standing : (d' : PlacedTree V) → rows_in d'.nodes ≡ new → IsMade d' parent (suc i) q
     made-standing d' ns = record {
-      below = omega arith;
+      behind = omega (arith, sound.tables.grown i, (key d sound parent standing name i has).0);
       standing = record { known = omega (arith, within, ap length ns, length-set old i r); there = ap (λ rs. holds rs (suc i)) ns ∙ stands-now };
       path = ap (λ rs. path_of rs (suc i)) ns ∙ path' (suc i) ∙ path-row;
     }

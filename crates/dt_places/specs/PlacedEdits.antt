@@ -40,9 +40,9 @@ pub record Grows {V : Type 0} (old new : PlacedTree V) : Type 0 where
 abbrev pub IsFresh : {V : Type 0} → PlacedTree V → ℕ → Type 0
 IsFresh d n = (k : ℕ) → (place_at (rows_in d.nodes) k).owner ≡ n → holds (rows_in d.nodes) (suc k) ≡ false → (place_at (rows_in d.nodes) k).made ≡ 0
 
--- the node is there, at the path
-pub record IsMade {V : Type 0} (d : PlacedTree V) (n : ℕ) (p : Path) : Type 0 where
-  pub below : 1 ≤ n
+-- the node is there, at the path, and behind its parent
+pub record IsMade {V : Type 0} (d : PlacedTree V) (parent n : ℕ) (p : Path) : Type 0 where
+  pub behind : parent < n
   pub standing : IsStanding d n
   pub path : node_path d n ≡ p
 

@@ -7,7 +7,6 @@ ghost use Rattle.dt_places.specs.PlacedTrees.{IsPlacedTree, IsStanding, child_pa
 ghost use Rattle.dt_places.specs.PlacedEdits.{HasSameNodes, counted_fragment};
 ghost use Rattle.dt_places.specs.Tables.{rows_in};
 
-use crate::error::PlaceError;
 use crate::placed_tree::PlacedTree;
 use std::alloc::AllocError;
 
@@ -65,7 +64,7 @@ impl<'d, V: Copy> PlacedTree<'d, V> {
     }
 
     /// One fragment more is made.
-    pub fn count_fragment(&mut self) -> Result<(), PlaceError>
+    pub fn count_fragment(&mut self) -> Result<(), AllocError>
         requires sound { IsPlacedTree self.old }
         ensures sound { OnOk result (IsPlacedTree self.new) }
         ensures nodes { HasSameNodes self.old self.new }
@@ -78,7 +77,7 @@ impl<'d, V: Copy> PlacedTree<'d, V> {
                 Ok(())
             }
             // 2^64 fragments don't fit into memory
-            None => Err(PlaceError::NoMemory),
+            None => Err(AllocError),
         }
     }
 }

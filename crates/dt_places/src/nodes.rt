@@ -27,7 +27,7 @@ impl<'d, V: Copy> PlacedTree<'d, V> {
         requires parent { IsStanding self.old parent }
         requires fresh { IsFresh self.old parent }
         ensures sound { OnOk result (IsPlacedTree self.new) }
-        ensures node { IfOk result (λ node. IsMade self.new node (child_path self.old parent name.now)) }
+        ensures node { IfOk result (λ node. IsMade self.new parent node (child_path self.old parent name.now)) }
         ensures fresh { IfOk result (IsFresh self.new) }
         ensures grows { OnOk result (Grows self.old self.new) }
         ensures begun { self.new.begun ≡ self.old.begun }
@@ -57,7 +57,7 @@ impl<'d, V: Copy> PlacedTree<'d, V> {
         requires sound { IsPlacedTree self.old }
         requires parent { IsStanding self.old parent }
         ensures sound { OnOk result (IsPlacedTree self.new) }
-        ensures node { IfOk result (λ x. IsMade self.new x.node (child_path self.old parent name.now)) }
+        ensures node { IfOk result (λ x. IsMade self.new parent x.node (child_path self.old parent name.now)) }
         ensures fresh { IfOk result (λ x. x.begins ≡ true → IsFresh self.new x.node) }
         ensures begun { self.new.begun ≡ self.old.begun }
         ensures keeps { OnOk result (Keeps parent self.old self.new) }

@@ -1,14 +1,12 @@
 //! All that making a tree in dtc's language needs.
-ghost use Rattle.std.specs.Prelude.{◌≡◌, ◌+◌, ◌<◌, true, All, IfOk, OnOk, length, map};
+ghost use Rattle.std.specs.Prelude.{◌≡◌, ◌+◌, ◌<◌, true, All, IfOk, OnOk, length};
 ghost use Rattle.std.specs.List.{list_any};
 ghost use Rattle.dt_meaning.specs.DtcEdits.{DtcTree};
 ghost use Rattle.dt_live.specs.Rows.{IsLiveTree, IsNode, is_standing};
 ghost use Rattle.dt_edit.specs.Standing.{IsStandingOf};
 ghost use Rattle.dt_resolve.specs.Gathered.{Gathers};
-ghost use Rattle.dt_resolve.specs.NodePhandles.{path_phandle_of};
-ghost use Rattle.dt_resolve.specs.Private.Gathering.{Extends, FindsAnew, GathersIn, IsInOrder, IsWithout, NumbersCells, all_numbers};
+ghost use Rattle.dt_resolve.specs.Private.Gathering.{AreAllNumbers, Extends, FindsAnew, GathersIn, IsInOrder, IsWithout, NumbersCells};
 ghost use Rattle.dt_resolve.specs.Private.Gone.{IsThereIn, is_marked};
-ghost use Rattle.dt_resolve.specs.Targets.{IsKnown};
 
 use crate::error::BuildError;
 use crate::given_by_both::given_by_both;
@@ -172,7 +170,7 @@ fn number_symbols<'d, 't>(
     requires labelled { length labelled.now ≡ length live.now.nodes.items + 1 }
     requires given { All (λ x. IsNode live.now x.node) given.now }
     requires of_cells { All (λ x. IsNode live.now x.node) of_cells.now }
-    ensures numbers { IfOk result (λ new. map (path_phandle_of live.now.nodes.items) new.items ≡ all_numbers live.now order.now labelled.now given.now of_cells.now symbols) }
+    ensures numbers { IfOk result (λ new. AreAllNumbers live.now order.now labelled.now given.now of_cells.now symbols new.items) }
     ensures extends { IfOk result (λ new. Extends live.now of_cells.now new.items) }
 {
     let mut new = Vec::from_slice(alloc, of_cells)?;

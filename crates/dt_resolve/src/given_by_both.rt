@@ -1,12 +1,11 @@
 //! The phandles that a source in dtc's language gives, by either name.
-ghost use Rattle.std.specs.Prelude.{true, ◌≡◌, ◌||◌, [], ℕ, All, IfOk, None, OnOk, Some, slice_index_or};
+ghost use Rattle.std.specs.Prelude.{true, ◌≡◌, All, IfOk, None, OnOk, slice_index_or};
 ghost use Rattle.dt_meaning.specs.DtcPhandles as meaning;
-ghost use Rattle.dt_meaning.specs.DtcPhandles.{with_given};
-ghost use Rattle.dt_live.specs.Rows.{IsLiveTree, IsNode, is_standing, node_path};
+ghost use Rattle.dt_live.specs.Rows.{IsLiveTree, IsNode, is_standing};
 ghost use Rattle.dt_resolve.specs.NodePhandles.{AreStanding};
-ghost use Rattle.dt_resolve.specs.Targets.{IsKnown, IsThere};
-ghost use Rattle.dt_resolve.specs.Private.GivenByBoth.{AreNumbers, GivesNumbers, IsNumber, given_all, given_more};
-ghost use Rattle.dt_resolve.specs.Private.Wanted.{HasTaken, phandles_of};
+ghost use Rattle.dt_resolve.specs.Targets.{IsThere};
+ghost use Rattle.dt_resolve.specs.Private.GivenByBoth.{AreNumbers, GivesAll, GivesMore, GivesOne, IsNumber};
+ghost use Rattle.dt_resolve.specs.Private.Wanted.{HasTaken};
 
 use crate::error::BuildError;
 use crate::node_phandles::{Given, NodePhandle, take};
@@ -75,7 +74,7 @@ fn give_first<'d, 't>(
     requires numbers { AreNumbers live.now.nodes.items numbers.old }
     requires first { slice_index_or numbers.old.of_nodes.items node None ≡ None }
     ensures numbers { OnOk result (AreNumbers live.now.nodes.items numbers.new) }
-    ensures step { GivesNumbers live.now.nodes.items (with_given (node_path live.now node) (Some phandle) (phandles_of live.now.nodes.items numbers.old.given)) (λ _. numbers.new.given) result }
+    ensures step { GivesOne live.now node phandle numbers.old.given numbers.new.given result }
 {
     numbers.given.phandles.reserve(1)?;
     if !take(&mut numbers.given.taken, phandle)? {
@@ -98,7 +97,7 @@ fn give<'d, 't>(
     requires there { is_standing live.now node ≡ true }
     requires numbers { AreNumbers live.now.nodes.items numbers.old }
     ensures numbers { OnOk result (AreNumbers live.now.nodes.items numbers.new) }
-    ensures step { GivesNumbers live.now.nodes.items (with_given (node_path live.now node) (Some phandle) (phandles_of live.now.nodes.items numbers.old.given)) (λ _. numbers.new.given) result }
+    ensures step { GivesOne live.now node phandle numbers.old.given numbers.new.given result }
 {
     match numbers.of_nodes[node] {
         None => give_first(numbers, live, node, phandle),
@@ -127,7 +126,7 @@ fn note<'d, 't>(
     requires targets { All (IsThere live.now) targets.now }
     requires numbers { AreNumbers live.now.nodes.items numbers.old }
     ensures numbers { OnOk result (AreNumbers live.now.nodes.items numbers.new) }
-    ensures step { GivesNumbers live.now.nodes.items (given_more live.now property.now targets.now (phandles_of live.now.nodes.items numbers.old.given)) (λ _. numbers.new.given) result }
+    ensures step { GivesMore live.now property.now targets.now numbers.old.given numbers.new.given result }
 {
     if !is_phandle_name(property.name) {
         return Ok(());
@@ -155,7 +154,7 @@ pub(crate) fn given_by_both<'d, 't>(
     requires targets { All (IsThere live.now) targets.now }
     ensures owners { IfOk result (λ given. AreStanding live.now.nodes.items given.phandles.items) }
     ensures taken { IfOk result (λ given. HasTaken live.now.nodes.items given) }
-    ensures phandles { GivesNumbers live.now.nodes.items (given_all live.now properties.now targets.now []) (λ given. given) result }
+    ensures phandles { GivesAll live.now properties.now targets.now result }
 {
     let mut numbers = Numbers {
         given: Given {

@@ -2,7 +2,7 @@
 ghost use Rattle.std.specs.Prelude.{◌≡◌, ◌++◌, All, IfOk, OnOk, map};
 ghost use Rattle.std.specs.List.{filter};
 ghost use Rattle.dt_live.specs.Rows.{IsLiveTree, IsNode, is_standing, node_path};
-ghost use Rattle.dt_resolve.specs.Private.Gone.{IsThereIn, Leaves, left_targets, part_targets};
+ghost use Rattle.dt_resolve.specs.Private.Gone.{IsThereIn, Leaves, part_targets, standing_properties, standing_targets};
 
 use crate::parts::{target_at, target_count, targets_behind};
 use dt_live::{LiveTree, NodeProperty};
@@ -77,8 +77,8 @@ pub(crate) fn left_properties<'d, 't>(
 ) -> Result<LeftProperties<'d, 't>, AllocError>
     requires sound { IsLiveTree live.now }
     requires known { All (λ x. IsNode live.now x.node) properties.now }
-    ensures properties { IfOk result (λ left. left.properties.items ≡ filter (λ x. is_standing live.now x.node) properties.now) }
-    ensures targets { IfOk result (λ left. left.targets.items ≡ left_targets (is_standing live.now) properties.now targets.now) }
+    ensures properties { IfOk result (λ left. left.properties.items ≡ standing_properties live.now properties.now) }
+    ensures targets { IfOk result (λ left. left.targets.items ≡ standing_targets live.now properties.now targets.now) }
 {
     let mut left = LeftProperties {
         properties: Vec::with_capacity(alloc, properties.len())?,

@@ -1,11 +1,8 @@
 //! The numbers that nodes get for their symbols in dtc's language.
-ghost use Rattle.std.specs.Prelude.{◌≡◌, ◌++◌, All, IfOk, List, map, true};
-ghost use Rattle.std.specs.List.{filter};
-ghost use Rattle.dt_meaning.specs.DtcPhandles as meaning;
-ghost use Rattle.dt_live.specs.declared.live_tree.NodeRow.{NodeRow};
-ghost use Rattle.dt_live.specs.Rows.{IsLiveTree, IsNode, is_standing, node_path};
-ghost use Rattle.dt_resolve.specs.NodePhandles.{AreStanding, path_phandle_of};
-ghost use Rattle.dt_resolve.specs.Private.SymbolNumbers.{IsLastOf, symbol_numbers};
+ghost use Rattle.std.specs.Prelude.{◌≡◌, All, IfOk, true};
+ghost use Rattle.dt_live.specs.Rows.{IsLiveTree, IsNode, is_standing};
+ghost use Rattle.dt_resolve.specs.NodePhandles.{AreStanding};
+ghost use Rattle.dt_resolve.specs.Private.SymbolNumbers.{AreSymbolNumbers, IsLastOf, standing_phandles};
 ghost use Rattle.dt_resolve.specs.Private.Wanted.{HasTaken};
 
 use crate::node_phandles::{Given, NodePhandle, take};
@@ -23,7 +20,7 @@ fn left_phandles<'d, 't>(
 ) -> Result<Given, AllocError>
     requires sound { IsLiveTree live.now }
     requires known { All (λ x. IsNode live.now x.node) phandles.now }
-    ensures phandles { IfOk result (λ left. left.phandles.items ≡ filter (λ x. is_standing live.now x.node) phandles.now) }
+    ensures phandles { IfOk result (λ left. left.phandles.items ≡ standing_phandles live.now phandles.now) }
     ensures owners { IfOk result (λ left. AreStanding live.now.nodes.items left.phandles.items) }
     ensures taken { IfOk result (λ left. HasTaken live.now.nodes.items left) }
 {
@@ -65,7 +62,7 @@ pub(crate) fn numbers_of_symbols<'d, 't>(
     requires known { All (λ n. IsNode live.now n) nodes.now }
     requires there { All (λ n. is_standing live.now n ≡ true) nodes.now }
     ensures stand { IfOk result (λ new. AreStanding live.now.nodes.items new.items) }
-    ensures numbers { IfOk result (λ new. map (path_phandle_of live.now.nodes.items) new.items ≡ symbol_numbers live.now given.now of_cells.now nodes.now) }
+    ensures numbers { IfOk result (λ new. AreSymbolNumbers live.now given.now of_cells.now nodes.now new.items) }
 {
     let mut all = Vec::from_slice(alloc, given)?;
     all.extend_from_slice(of_cells)?;

@@ -1,9 +1,9 @@
 //! The nodes that want a phandle, and the phandles that they get.
-ghost use Rattle.std.specs.Prelude.{IfSome, ◌≡◌, ◌<◌, All, IfOk, length, map, true, ◌==◌};
+ghost use Rattle.std.specs.Prelude.{IfSome, ◌≡◌, ◌<◌, All, IfOk, length, true, ◌==◌};
 ghost use Rattle.std.specs.List.{list_any};
-ghost use Rattle.dt_live.specs.Rows.{IsLiveTree, IsNode, is_standing, node_path};
-ghost use Rattle.dt_resolve.specs.NodePhandles.{AreMarks, AreStanding, path_phandle_of};
-ghost use Rattle.dt_resolve.specs.Private.Wanted.{HasTaken, free_after, is_taken, new_phandles, new_rows, numbered, phandles_of};
+ghost use Rattle.dt_live.specs.Rows.{IsLiveTree, IsNode, is_standing};
+ghost use Rattle.dt_resolve.specs.NodePhandles.{AreMarks, AreStanding};
+ghost use Rattle.dt_resolve.specs.Private.Wanted.{AreNumbered, HasTaken, free_after, is_taken, new_phandles, new_rows};
 
 use crate::node_phandles::{Given, NodePhandle};
 use dt_live::LiveTree;
@@ -103,7 +103,7 @@ pub(crate) fn number_nodes<'d, 't>(
     requires known { All (λ n. IsNode live.now n) nodes.now }
     requires there { All (λ n. is_standing live.now n ≡ true) nodes.now }
     ensures stand { IfOk result (λ new. AreStanding live.now.nodes.items new.items) }
-    ensures numbers { IfOk result (λ new. map (path_phandle_of live.now.nodes.items) new.items ≡ numbered (phandles_of live.now.nodes.items given.now) last (map (node_path live.now) nodes.now)) }
+    ensures numbers { IfOk result (λ new. AreNumbered live.now given.now last nodes.now new.items) }
 {
     let count = live.nodes().len() + 1;
     let wanted = wanting(alloc, count, given.phandles.as_slice(), nodes)?;

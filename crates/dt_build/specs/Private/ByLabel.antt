@@ -8,7 +8,7 @@ use Rattle.dt_meaning.specs.Names.{fixups_name}
 use Rattle.dt_meaning.specs.Paths.{Path}
 use Rattle.dt_meaning.specs.Edits.{Definition, definition}
 use Rattle.dt_meaning.specs.Fixups.{fixups}
-use Rattle.dt_resolve.specs.declared.prepared.Prepared.{Prepared}
+use Rattle.dt_build.specs.declared.draft.Draft.{Draft}
 use Rattle.dt_build.specs.declared.fixup_sites.FixupSite.{FixupSite}
 use Rattle.dt_build.specs.declared.fixups_by_label.LabelFixups.{LabelFixups}
 use Rattle.dt_build.specs.declared.fixups_by_label.FixupsByLabel.{FixupsByLabel}
@@ -26,7 +26,7 @@ abbrev pub all_given : FixupsByLabel → List (Definition (List ℕ))
 all_given x = given x.labels.items
 
 -- a site is put among those of its label, where it has one
-abbrev pub PutsSite : Prepared → FixupSite → FixupsByLabel → FixupsByLabel → Type 0
+abbrev pub PutsSite : Draft → FixupSite → FixupsByLabel → FixupsByLabel → Type 0
 PutsSite p s old new = all_given new ≡ fixups (site_of p s ∷ []) (all_given old)
 
 -- the index of a label's fixups

@@ -1,4 +1,4 @@
--- What is made of a source that is prepared, where its values are short enough.
+-- What is made of a draft, where its values are short enough.
 use Rattle.std.specs.Prelude.{◌≡◌, ◌<◌, ◌≤◌, ◌-◌, ◌^◌, ℕ, Bool, List, Option, None, Some}
 use Rattle.dt_tree.specs.PathMap.{tree_map}
 use Rattle.dt_tree.specs.TreeData.{TreeData}
@@ -7,20 +7,22 @@ use Rattle.dt_meaning.specs.Edits.{Definition}
 use Rattle.dt_meaning.specs.References.{Found}
 use Rattle.dt_meaning.specs.MapOf.{tree_map_of}
 use Rattle.dt_tree_builder.specs.Sizes.{size_in}
+use Rattle.dt_build.specs.declared.draft.Draft.{Draft}
 use Rattle.dt_resolve.specs.declared.prepared.Prepared.{Prepared}
 use Rattle.dt_resolve.specs.Prepared.{IsPrepared}
+use Rattle.dt_build.specs.Private.Drafts.{drafted}
 use Rattle.dt_build.specs.Private.Made.{lists}
 
 -- the tree, which is no longer than a limit that numbers can pass
-pub record IsFittingTree (symbols : Bool) (m : Meaning) (p : Prepared) (limit : ℕ) (t : TreeData) : Type 0 where
+pub record IsFittingTree (symbols : Bool) (m : Meaning) (p : Draft) (limit : ℕ) (t : TreeData) : Type 0 where
   pub map : tree_map t ≡ tree_map_of m (lists symbols p)
   pub fits : limit < 2 ^ 64 - 1 → size_in (lists symbols p).properties ≤ limit
 
 -- or none, as its values are longer than such a limit
-abbrev pub IsFitting : Bool → Meaning → Prepared → ℕ → Option TreeData → Type 0
+abbrev pub IsFitting : Bool → Meaning → Draft → ℕ → Option TreeData → Type 0
 IsFitting symbols m p limit (Some t) = IsFittingTree symbols m p limit t
 IsFitting symbols m p limit None = (limit < size_in (lists symbols p).properties) × (limit < 2 ^ 64 - 1)
 
 -- the source was prepared, whatever its values are
-abbrev pub IsPreparedFrom : Bool → Meaning → Prepared → Type 0
-IsPreparedFrom symbols m p = (es : List (Definition (List Found))) × IsPrepared symbols m es p
+abbrev pub IsPreparedFrom : Bool → Meaning → Draft → Type 0
+IsPreparedFrom symbols m p = (es : List (Definition (List Found))) × (from : Prepared) × IsPrepared symbols m es from × (p ≡ drafted from)

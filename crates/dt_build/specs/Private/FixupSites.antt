@@ -12,7 +12,7 @@ use Rattle.dt_meaning.specs.Resolved.{is_too_deep}
 use Rattle.dt_live.specs.Rows.{node_path}
 use Rattle.dt_live.specs.declared.preorder.properties.NodeProperty.{NodeProperty}
 use Rattle.dt_edit.specs.Said.{Parts}
-use Rattle.dt_resolve.specs.declared.prepared.Prepared.{Prepared}
+use Rattle.dt_build.specs.declared.draft.Draft.{Draft}
 use Rattle.dt_build.specs.declared.fixup_sites.FixupSite.{FixupSite}
 use Rattle.dt_build.specs.Private.Made.{all_phandles, made_sites}
 use Rattle.dt_build.specs.Private.Values.{all_uses, found_of, founds_of, label_in}
@@ -22,21 +22,21 @@ abbrev pub site_with : Path → List ℕ → ℕ → Option (List ℕ) → Site
 site_with q n o l = record { label = l; path = q; name = n; offset = o }
 
 -- the path and the name of a property, without its value
-abbrev pub key_of : Prepared → NodeProperty Parts → Definition (List ℕ)
+abbrev pub key_of : Draft → NodeProperty Parts → Definition (List ℕ)
 key_of p x = definition (node_path p.live x.node) x.name.now []
 
-abbrev pub keys : Prepared → List (Definition (List ℕ))
+abbrev pub keys : Draft → List (Definition (List ℕ))
 keys p = map (key_of p) p.in_preorder.properties.items
 
 -- of the property at a place in preorder
-abbrev pub key_at : Prepared → ℕ → Definition (List ℕ)
+abbrev pub key_at : Draft → ℕ → Definition (List ℕ)
 key_at p i = slice_index_or (keys p) i (definition [] [] [])
 
 -- the label, where no node of the source has it
 abbrev pub open_label : Option (Bor Reference) → Option (List ℕ)
 open_label = option_map (λ r. label_in r.now)
 
-abbrev pub site_of : Prepared → FixupSite → Site
+abbrev pub site_of : Draft → FixupSite → Site
 site_of p s = site_with (key_at p s.property).path (key_at p s.property).name s.offset (open_label s.reference)
 
 -- ---- all sites
@@ -45,7 +45,7 @@ abbrev pub AreBetween : ℕ → ℕ → List FixupSite → Type 0
 AreBetween m n [] = Unit {0}
 AreBetween m n (s ∷ ss) = (m ≤ s.property) × (s.property < n) × AreBetween s.property n ss
 
-pub record AreSites (p : Prepared) (ss : List FixupSite) : Type 0 where
+pub record AreSites (p : Draft) (ss : List FixupSite) : Type 0 where
   pub sites : map (site_of p) ss ≡ made_sites p
   pub places : AreBetween 0 (length p.in_preorder.properties.items) ss
 
@@ -57,11 +57,11 @@ all_left ns path (x ∷ xs) ts = sites_in ns (path x.node) x.name.now 0 (founds_
 -- ---- sites put behind others
 -- that of a part of the property at a place in preorder, where it is a phandle
 abbrev pub PutsPart : ℕ → Part → Option ℕ → ℕ → List FixupSite → List FixupSite → Type 0
-PutsPart i x t offset old new = (p : Prepared) (path : ℕ → Path)
+PutsPart i x t offset old new = (p : Draft) (path : ℕ → Path)
     → map (site_of p) new ≡ map (site_of p) old ++ map (site_with (key_at p i).path (key_at p i).name offset) (label_found (found_of path x t))
 
 -- those of its value, whose targets are the first of these
-abbrev pub PutsAll : Prepared → ℕ → List Part → List (Option ℕ) → List FixupSite → List FixupSite → Type 0
+abbrev pub PutsAll : Draft → ℕ → List Part → List (Option ℕ) → List FixupSite → List FixupSite → Type 0
 PutsAll p i v ts old new =
     map (site_of p) new ≡ map (site_of p) old ++ sites_in (all_phandles p) (key_at p i).path (key_at p i).name 0 (founds_of (node_path p.live) v ts)
 

@@ -1,11 +1,10 @@
--- What is made of a source that is prepared.
-use Rattle.std.specs.Prelude.{ℕ, Bool, List, [], ◌∷◌, ◌++◌, map, Result, Ok, Err}
+-- What is made of a draft.
+use Rattle.std.specs.Prelude.{ℕ, Bool, List, [], ◌∷◌, ◌++◌, map}
 use Rattle.dt_tree.specs.declared.property.Property.{Property}
 use Rattle.dt_meaning.specs.Names.{symbols_name}
 use Rattle.dt_meaning.specs.Paths.{Path}
 use Rattle.dt_meaning.specs.Edits.{Definition, labelled_at}
-use Rattle.dt_meaning.specs.Statements.{Fault}
-use Rattle.dt_meaning.specs.References.{Found, held, references}
+use Rattle.dt_meaning.specs.References.{Found, held}
 use Rattle.dt_meaning.specs.Phandles.{PathPhandle}
 use Rattle.dt_meaning.specs.Fixups.{Site, sites, fixups, local_fixups}
 use Rattle.dt_meaning.specs.Resolved.{Resolved, with_bytes, with_more, when, symbol, phandle_property}
@@ -14,40 +13,37 @@ use Rattle.dt_live.specs.declared.live_tree.LabelRow.{LabelRow}
 use Rattle.dt_live.specs.declared.live_tree.LiveTree.{LiveTree}
 use Rattle.dt_live.specs.Rows.{node_path}
 use Rattle.dt_edit.specs.Said.{Parts, tree_of}
-use Rattle.dt_resolve.specs.declared.prepared.Prepared.{Prepared}
+use Rattle.dt_build.specs.declared.draft.Draft.{Draft}
+use Rattle.dt_resolve.specs.Founds.{found_properties}
 use Rattle.dt_resolve.specs.NodePhandles.{path_phandle_of}
 
-abbrev pub ok_or_none : {A : Type 0} → Result (List A) Fault → List A
-ok_or_none (Ok xs) = xs
-ok_or_none (Err f) = []
-
 -- the values with their references found, in the order of the walk
-abbrev pub founds : Prepared → List (Definition (List Found))
-founds p = ok_or_none (references p.plugin (tree_of p.live))
+abbrev pub founds : Draft → List (Definition (List Found))
+founds p = found_properties (node_path p.live) p.in_preorder.properties.items p.targets.items
 
-abbrev pub given_phandles : Prepared → List PathPhandle
-given_phandles p = map (path_phandle_of p.live.nodes.items) p.resolution.given.phandles.items
+abbrev pub given_phandles : Draft → List PathPhandle
+given_phandles p = map (path_phandle_of p.live.nodes.items) p.given.items
 
-abbrev pub new_phandles : Prepared → List PathPhandle
-new_phandles p = map (path_phandle_of p.live.nodes.items) p.resolution.new.items
+abbrev pub new_phandles : Draft → List PathPhandle
+new_phandles p = map (path_phandle_of p.live.nodes.items) p.new.items
 
-abbrev pub all_phandles : Prepared → List PathPhandle
+abbrev pub all_phandles : Draft → List PathPhandle
 all_phandles p = given_phandles p ++ new_phandles p
 
 -- the properties with their bytes
-abbrev pub plain_properties : Prepared → List (Definition (List ℕ))
+abbrev pub plain_properties : Draft → List (Definition (List ℕ))
 plain_properties p = map (with_bytes (all_phandles p)) (founds p)
 
 -- and the new phandles behind them
-abbrev pub made_properties : Prepared → List (Definition (List ℕ))
+abbrev pub made_properties : Draft → List (Definition (List ℕ))
 made_properties p = plain_properties p ++ map phandle_property (new_phandles p)
 
 -- those of the node at a path
-abbrev pub own : Prepared → Path → List (Definition (List ℕ))
+abbrev pub own : Draft → Path → List (Definition (List ℕ))
 own p q = held (made_properties p) q
 
 -- the tree without symbols
-abbrev pub plain_lists : Prepared → Resolved
+abbrev pub plain_lists : Draft → Resolved
 plain_lists p = record { nodes = (tree_of p.live).nodes; properties = made_properties p }
 
 -- the labels' properties, and that of one label
@@ -58,17 +54,17 @@ abbrev pub symbol_at : LiveTree Parts → LabelRow → Definition (List ℕ)
 symbol_at d row = symbol (labelled_at row.label.now (node_path d row.node))
 
 -- the tree with symbols, where they are wanted
-abbrev pub symbol_lists : Bool → Prepared → Resolved
+abbrev pub symbol_lists : Bool → Draft → Resolved
 symbol_lists symbols p = with_more (when symbols (map symbol (tree_of p.live).labels)) (plain_lists p)
 
 -- the fixup sites in a plugin's values
-abbrev pub made_sites : Prepared → List Site
+abbrev pub made_sites : Draft → List Site
 made_sites p = when p.plugin (sites (all_phandles p) (founds p))
 
 -- and with the fixups of a plugin
-abbrev pub fixup_lists : Bool → Prepared → Resolved
+abbrev pub fixup_lists : Bool → Draft → Resolved
 fixup_lists symbols p = with_more (fixups (made_sites p) []) (symbol_lists symbols p)
 
 -- the tree, with the local fixups of a plugin
-abbrev pub lists : Bool → Prepared → Resolved
+abbrev pub lists : Bool → Draft → Resolved
 lists symbols p = with_more (local_fixups (made_sites p) []) (fixup_lists symbols p)

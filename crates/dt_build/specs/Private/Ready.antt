@@ -1,17 +1,17 @@
--- What making a tree needs to know of a source that is prepared.
-use Rattle.std.specs.Prelude.{◌≡◌, true, false, map, All, Ok}
+-- What making a tree needs to know of a draft.
+use Rattle.std.specs.Prelude.{◌≡◌, true, false, map, All}
 use Rattle.std.specs.List.{list_all, flat_map}
 use Rattle.dt_tree.specs.Name.{is_name}
 use Rattle.dt_tree.specs.Sound.{are_distinct}
 use Rattle.dt_meaning.specs.Paths.{Path, is_listed}
-use Rattle.dt_meaning.specs.References.{Found, Bytes, Cell, Open, PathText, held, in_order, preorder, references}
+use Rattle.dt_meaning.specs.References.{Found, Bytes, Cell, Open, PathText, held, in_order, preorder}
 use Rattle.dt_live.specs.Rows.{IsLiveTree, IsNode, is_standing, node_path, state_of}
 use Rattle.dt_live.specs.Preorder.{definition_of}
 use Rattle.dt_tree_builder.specs.Standing.{AreNodes}
 use Rattle.dt_edit.specs.Said.{tree_of}
-use Rattle.dt_resolve.specs.declared.prepared.Prepared.{Prepared}
+use Rattle.dt_build.specs.declared.draft.Draft.{Draft}
 use Rattle.dt_resolve.specs.NodePhandles.{AreStanding}
-use Rattle.dt_resolve.specs.Targets.{AreFound, IsKnown, IsThere}
+use Rattle.dt_resolve.specs.Targets.{IsKnown, IsThere}
 use Rattle.dt_build.specs.Private.Made.{founds, own, given_phandles, new_phandles}
 
 -- the label of a node elsewhere is a name
@@ -22,13 +22,13 @@ IsNamedFound (Cell q) = Unit {0}
 IsNamedFound (PathText q) = Unit {0}
 
 -- each name of a node's path is a name, and so are those of properties and labels
-pub record AreNamed (p : Prepared) : Type 0 where
+pub record AreNamed (p : Draft) : Type 0 where
   pub nodes : All (λ q. list_all is_name q ≡ true) (tree_of p.live).nodes
   pub properties : All (λ e. is_name e.name ≡ true) (tree_of p.live).properties
   pub labels : All (λ l. is_name l.label ≡ true) (tree_of p.live).labels
   pub elsewhere : All (λ e. All IsNamedFound e.value) (founds p)
 
-pub record IsReady (p : Prepared) : Type 0 where
+pub record IsReady (p : Draft) : Type 0 where
   pub sound : IsLiveTree p.live
   pub nodes : map (node_path p.live) p.in_preorder.nodes.items ≡ preorder (tree_of p.live).nodes
   pub known : All (λ n. IsNode p.live n) p.in_preorder.nodes.items
@@ -36,12 +36,10 @@ pub record IsReady (p : Prepared) : Type 0 where
   pub owners : All (λ x. IsNode p.live x.node) p.in_preorder.properties.items
   pub stand : All (λ x. is_standing p.live x.node ≡ true) p.in_preorder.properties.items
   pub properties : map (definition_of p.live) p.in_preorder.properties.items ≡ in_order (state_of p.live)
-  pub found : references p.plugin (tree_of p.live) ≡ Ok (founds p)
-  pub targets : AreFound p.live (founds p) p.resolution.targets
-  pub targets_known : All (IsKnown p.live) p.resolution.targets.all.items
-  pub targets_there : All (IsThere p.live) p.resolution.targets.all.items
-  pub given : AreStanding p.live.nodes.items p.resolution.given.phandles.items
-  pub new : AreStanding p.live.nodes.items p.resolution.new.items
+  pub targets_known : All (IsKnown p.live) p.targets.items
+  pub targets_there : All (IsThere p.live) p.targets.items
+  pub given : AreStanding p.live.nodes.items p.given.items
+  pub new : AreStanding p.live.nodes.items p.new.items
   pub new_free : (q : Path) → is_listed q (map (λ x. x.path) (new_phandles p)) ≡ true → is_listed q (map (λ x. x.path) (given_phandles p)) ≡ false
   pub standing : AreNodes (tree_of p.live).nodes
   pub named : AreNamed p

@@ -1,7 +1,7 @@
--- What a tree is made of: the values of a source that is prepared, with the phandles of its nodes.
+-- What a tree is made of: the values of a draft, with the phandles of its nodes.
 use Rattle.std.specs.Prelude.{false, All, Some, None, if◌then◌else◌, slice_index_or}
 use Rattle.dt_making.specs.Made.{Made}
-use Rattle.dt_resolve.specs.declared.prepared.Prepared.{Prepared}
+use Rattle.dt_build.specs.declared.draft.Draft.{Draft}
 use Rattle.dt_resolve.specs.Targets.{IsKnown, IsThere}
 use Rattle.dt_build.specs.declared.node_phandles.NodePhandles.{NodePhandles}
 use Rattle.dt_build.specs.declared.source_values.SourceValues.{SourceValues}
@@ -9,7 +9,7 @@ use Rattle.dt_build.specs.Private.NodePhandles.{AreNodePhandles}
 use Rattle.dt_build.specs.Private.Made.{plain_lists, plain_properties}
 use Rattle.dt_build.specs.Private.Ready.{IsReady}
 
-abbrev pub source_made : Prepared → NodePhandles → Made
+abbrev pub source_made : Draft → NodePhandles → Made
 source_made p n = record {
   lists = plain_lists p;
   plain = plain_properties p;
@@ -18,7 +18,7 @@ source_made p n = record {
 
 -- each target is a node that stands, and each node has its phandle
 pub record AreReady (s : SourceValues) : Type 0 where
-  pub ready : IsReady s.prepared.now
-  pub node_phandles : AreNodePhandles s.prepared.now s.node_phandles.now
-  pub known : All (IsKnown s.prepared.now.live) s.targets.now
-  pub there : All (IsThere s.prepared.now.live) s.targets.now
+  pub ready : IsReady s.draft.now
+  pub node_phandles : AreNodePhandles s.draft.now s.node_phandles.now
+  pub known : All (IsKnown s.draft.now.live) s.targets.now
+  pub there : All (IsThere s.draft.now.live) s.targets.now

@@ -6,15 +6,15 @@ use Rattle.dt_meaning.specs.Fixups.{bytes_of, value_bytes}
 use Rattle.dt_meaning.specs.Phandles.{PathPhandle}
 use Rattle.dt_live.specs.Rows.{node_path}
 use Rattle.dt_edit.specs.Said.{Parts}
-use Rattle.dt_resolve.specs.declared.prepared.Prepared.{Prepared}
+use Rattle.dt_build.specs.declared.draft.Draft.{Draft}
 pub use Rattle.dt_resolve.specs.Founds.{uses, all_uses, label_in, cell_for, text_for, found_of, founds_of}
 use Rattle.dt_build.specs.Private.Made.{all_phandles}
 
--- of a source that is prepared: the bytes of a part with its target, and of a value whose targets are the first of these
-abbrev pub part_bytes : Prepared → Part → Option ℕ → List ℕ
+-- of a draft: the bytes of a part with its target, and of a value whose targets are the first of these
+abbrev pub part_bytes : Draft → Part → Option ℕ → List ℕ
 part_bytes p x t = bytes_of (all_phandles p) (found_of (node_path p.live) x t)
 
-abbrev pub bytes_for : Prepared → List Part → List (Option ℕ) → List ℕ
+abbrev pub bytes_for : Draft → List Part → List (Option ℕ) → List ℕ
 bytes_for p v ts = value_bytes (all_phandles p) (founds_of (node_path p.live) v ts)
 
 -- the bytes of values whose targets are the first of these

@@ -94,6 +94,9 @@ abbrev pub all_numbers : LiveTree Parts → List ℕ → List Bool → List Node
 all_numbers d order labelled given of_cells symbols =
     phandles_in d of_cells ++ (if symbols then symbol_numbers d given of_cells (marked_rows d (is_marked labelled) order) else [])
 
+abbrev pub AreAllNumbers : LiveTree Parts → List ℕ → List Bool → List NodePhandle → List NodePhandle → Bool → List NodePhandle → Type 0
+AreAllNumbers d order labelled given of_cells symbols new = phandles_in d new ≡ all_numbers d order labelled given of_cells symbols
+
 -- those of cells, and others of nodes that stand behind them
 pub record Extends (d : LiveTree Parts) (of_cells new : List NodePhandle) : Type 0 where
   pub more : List NodePhandle

@@ -50,9 +50,20 @@ IsNumber d n v ts result = (xs : List PathPhandle) → MatchResult result
 abbrev pub GivesNumbers : {A : Type 0} → List NodeRow → Result (List PathPhandle) Fault → (A → Given) → Result A BuildError → Type 0
 GivesNumbers rows meant new result = MatchResult result (λ a. meant ≡ Ok (phandles_of rows (new a))) (λ e. IsFault e meant)
 
+-- a node is given one more
+abbrev pub GivesOne : {A : Type 0} → LiveTree Parts → ℕ → ℕ → Given → Given → Result A BuildError → Type 0
+GivesOne d node n old new result =
+    GivesNumbers d.nodes.items (with_given (node_path d node) (Some n) (phandles_of d.nodes.items old)) (λ _. new) result
+
 -- those that one property gives, and all
 abbrev pub given_more : LiveTree Parts → NodeProperty Parts → List (Option ℕ) → List PathPhandle → Result (List PathPhandle) Fault
 given_more d x ts xs = given_by_both (found_property (node_path d) x ts ∷ []) xs
 
 abbrev pub given_all : LiveTree Parts → List (NodeProperty Parts) → List (Option ℕ) → List PathPhandle → Result (List PathPhandle) Fault
 given_all d ys ts xs = given_by_both (found_properties (node_path d) ys ts) xs
+
+abbrev pub GivesMore : {A : Type 0} → LiveTree Parts → NodeProperty Parts → List (Option ℕ) → Given → Given → Result A BuildError → Type 0
+GivesMore d x ts old new result = GivesNumbers d.nodes.items (given_more d x ts (phandles_of d.nodes.items old)) (λ _. new) result
+
+abbrev pub GivesAll : LiveTree Parts → List (NodeProperty Parts) → List (Option ℕ) → Result Given BuildError → Type 0
+GivesAll d ys ts result = GivesNumbers d.nodes.items (given_all d ys ts []) (λ given. given) result

@@ -64,6 +64,10 @@ pub record IsThereIn (d : LiveTree Parts) (n : ℕ) : Type 0 where
   pub known : n ≤ length d.nodes.items
   pub there : is_standing d n ≡ true
 
+-- those whose nodes stand
+abbrev pub standing_properties : LiveTree Parts → List (NodeProperty Parts) → List (NodeProperty Parts)
+standing_properties d xs = filter (λ x. is_standing d x.node) xs
+
 -- ---- the targets of what is left
 -- those of a value, none behind the last
 abbrev pub part_targets : List Part → List (Option ℕ) → List (Option ℕ)
@@ -74,3 +78,6 @@ part_targets (x ∷ xs) ts = (if uses x == 1 then slice_index_or ts 0 None ∷ [
 abbrev pub left_targets : (ℕ → Bool) → List (NodeProperty Parts) → List (Option ℕ) → List (Option ℕ)
 left_targets test [] ts = []
 left_targets test (x ∷ xs) ts = (if test x.node then part_targets x.value.now ts else []) ++ left_targets test xs (drop (all_uses x.value.now) ts)
+
+abbrev pub standing_targets : LiveTree Parts → List (NodeProperty Parts) → List (Option ℕ) → List (Option ℕ)
+standing_targets d xs ts = left_targets (is_standing d) xs ts

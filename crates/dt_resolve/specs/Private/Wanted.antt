@@ -71,3 +71,7 @@ new_phandles given n ns = assigned_rows (is_taken given.taken) (length given.pha
 -- those of a list that have none get one, in their order
 abbrev pub numbered : List PathPhandle → ℕ → List Path → List PathPhandle
 numbered given n ps = assigned given n (new_ones (map (λ x. x.path) given) ps)
+
+abbrev pub AreNumbered : LiveTree Parts → Given → ℕ → List ℕ → List NodePhandle → Type 0
+AreNumbered d given n nodes new =
+    map (path_phandle_of d.nodes.items) new ≡ numbered (phandles_of d.nodes.items given) n (map (node_path d) nodes)

@@ -15,24 +15,24 @@ use Rattle.dt_build.proofs.Sites.{between-more, property-more}
 use Rattle.dt_build.proofs.SitesOfFounds.{all-sites}
 use Rattle.dt_build.proofs.fixup_sites.find_sites.Goals as goal
 
-pub returns-then-not-prepared : goal.returns-then-not-prepared
-returns-then-not-prepared c =
-    let p = c.args.prepared.now in
+pub returns-then-not-draft : goal.returns-then-not-draft
+returns-then-not-draft c =
+    let p = c.args.draft.now in
     let none = c.new.ensures.items in
     record {
-      sites = ap (map (site_of p)) none ∙ ap (λ t. when t (sites (all_phandles p) (founds p))) (sym c.if-not-prepared.true);
+      sites = ap (map (site_of p)) none ∙ ap (λ t. when t (sites (all_phandles p) (founds p))) (sym c.if-not-draft.true);
       places = subst (AreBetween 0 (length p.in_preorder.properties.items)) (sym none) tt;
     }
 
 pub loop-property-init : goal.loop-property-init
 loop-property-init c =
-    let p = c.args.prepared.now in
+    let p = c.args.draft.now in
     let none = c.in_ok-sites.ensures.items in
     record {
       known = subst (All (IsKnown p.live)) (sym c.as_slice-targets.ensures.value) c.requires.targets_known;
       places = subst (AreBetween 0 0) (sym none) tt;
       sites = ap₂ (λ ss (ts : List (Option ℕ)). map (site_of p) ss ++ all_left (all_phandles p) (node_path p.live) p.in_preorder.properties.items ts) none c.as_slice-targets.ensures.value
-          ∙ all-sites p c.requires ∙ ap (λ t. when t (sites (all_phandles p) (founds p))) (sym c.if-not-prepared.false);
+          ∙ all-sites p ∙ ap (λ t. when t (sites (all_phandles p) (founds p))) (sym c.if-not-draft.false);
     }
 
 pub put_sites-requires-clause-places : goal.put_sites-requires-clause-places
@@ -42,7 +42,7 @@ put_sites-requires-clause-places c =
 
 pub loop-property-preserved : goal.loop-property-preserved
 loop-property-preserved c =
-    let p = c.args.prepared.now in
+    let p = c.args.draft.now in
     let k = c.loop-property.property in
     let x = c.index-properties-property.result in
     let same = c.as_slice-properties.ensures.value in
@@ -58,7 +58,7 @@ loop-property-preserved c =
 
 pub returns : goal.returns
 returns c =
-    let p = c.args.prepared.now in
+    let p = c.args.draft.now in
     let k = c.loop-property.property in
     let same = c.as_slice-properties.ensures.value in
     let found = map (site_of p) c.loop-property.sites.items in

@@ -8,7 +8,7 @@ use Rattle.dt_build.proofs.fixup_sites.find_sites.Given as goal
 
 abbrev pub invariant-loop-property : goal.invariant-loop-property
 invariant-loop-property l = record {
-  known : All (IsKnown l.prepared.live) l.targets;
+  known : All (IsKnown l.draft.live) l.targets;
   places : AreBetween 0 l.property l.sites.items;
-  sites : map (site_of l.prepared) l.sites.items ++ all_left (all_phandles l.prepared) (node_path l.prepared.live) (drop l.property l.prepared.in_preorder.properties.items) l.targets ≡ made_sites l.prepared;
+  sites : map (site_of l.draft) l.sites.items ++ all_left (all_phandles l.draft) (node_path l.draft.live) (drop l.property l.draft.in_preorder.properties.items) l.targets ≡ made_sites l.draft;
 }

@@ -21,12 +21,12 @@ known-at d (t ∷ ts) all (suc k) = known-at d ts (λ j e below. all (suc j) e (
 
 pub offset_behind-requires-clause-known : goal.offset_behind-requires-clause-known
 offset_behind-requires-clause-known c =
-    let d = c.args.prepared.now.live in
+    let d = c.args.draft.now.live in
     subst (λ (t : Option ℕ). IsKnown d t) (sym c.target_at-target.ensures) (known-at d c.args.targets.now c.requires.known c.loop-part.used)
 
 pub loop-part-preserved : goal.loop-part-preserved
 loop-part-preserved c =
-    let p = c.args.prepared.now in
+    let p = c.args.draft.now in
     let path = node_path p.live in
     let xs = c.args.value.now in
     let ts = c.args.targets.now in
@@ -46,7 +46,7 @@ loop-part-preserved c =
 
 pub returns-clause-sites : goal.returns-clause-sites
 returns-clause-sites c =
-    let p = c.args.prepared.now in
+    let p = c.args.draft.now in
     let found = map (site_of p) c.loop-part.sites.items in
     let key = key_at p c.args.property in
     let left = drop c.loop-part.used c.args.targets.now in

@@ -10,6 +10,6 @@ abbrev pub invariant-loop-part : goal.invariant-loop-part
 invariant-loop-part l = record {
   few : l.used ≤ l.part-index;
   places : AreBetween 0 (l.property + 1) l.sites.items;
-  sites : map (site_of l.prepared) l.sites.items ++ sites_in (all_phandles l.prepared) (key_at l.prepared l.property).path (key_at l.prepared l.property).name l.offset (founds_of (node_path l.prepared.live) (drop l.part-index l.value) (drop l.used l.targets))
-      ≡ map (site_of l.prepared) l.fn.sites.items ++ sites_in (all_phandles l.prepared) (key_at l.prepared l.property).path (key_at l.prepared l.property).name 0 (founds_of (node_path l.prepared.live) l.value l.targets);
+  sites : map (site_of l.draft) l.sites.items ++ sites_in (all_phandles l.draft) (key_at l.draft l.property).path (key_at l.draft l.property).name l.offset (founds_of (node_path l.draft.live) (drop l.part-index l.value) (drop l.used l.targets))
+      ≡ map (site_of l.draft) l.fn.sites.items ++ sites_in (all_phandles l.draft) (key_at l.draft l.property).path (key_at l.draft l.property).name 0 (founds_of (node_path l.draft.live) l.value l.targets);
 }

@@ -3,7 +3,7 @@ use Rattle.dt_build.proofs.fixups.fixups_of.Goals as goal
 
 pub lawful_name-requires : goal.lawful_name-requires
 lawful_name-requires c =
-    label_fixups-named c.args.prepared.now c.requires.ready c.loop-label_fixups.properties.items c.loop-label_fixups.label_fixups-iterator.rest.items c.next.new.self.rest.items c.in-Some.label_fixups c.in-Some.ensures.steps.0
+    label_fixups-named c.args.draft.now c.requires.ready c.loop-label_fixups.properties.items c.loop-label_fixups.label_fixups-iterator.rest.items c.next.new.self.rest.items c.in-Some.label_fixups c.in-Some.ensures.steps.0
     c.loop-label_fixups.invariant
 
 pub loop-label_fixups-preserved : goal.loop-label_fixups-preserved

@@ -12,14 +12,14 @@ pub push-requires-clause-new : goal.push-requires-clause-new
 push-requires-clause-new c =
     let ps = c.in_ok-properties.properties.items in
     let some : 0 < length ps = grind (arith, nat_tests, c.is_empty.ensures, c.if-is_empty.false) in
-    node-new c.args.prepared.now ps c.in_ok-properties.ensures c.args.symbols c.requires.ready c.requires.free c.args.builder c.requires.made some c.in_ok-name.name (c.in_ok-name.ensures ∙ c.as_slice.ensures)
+    node-new c.args.draft.now ps c.in_ok-properties.ensures c.args.symbols c.requires.ready c.requires.free c.args.builder c.requires.made some c.in_ok-name.name (c.in_ok-name.ensures ∙ c.as_slice.ensures)
 
 pub push-requires-clause-properties : goal.push-requires-clause-properties
-push-requires-clause-properties c = distinct-labels c.args.prepared.now c.in_ok-properties.properties.items c.in_ok-properties.ensures
+push-requires-clause-properties c = distinct-labels c.args.draft.now c.in_ok-properties.properties.items c.in_ok-properties.ensures
 
 pub returns : goal.returns
 returns c =
-    let p = c.args.prepared.now in
+    let p = c.args.draft.now in
     let ps = c.in_ok-properties.properties.items in
     let bs = c.args.builder in
     let some : 0 < length ps = grind (arith, nat_tests, c.is_empty.ensures, c.if-is_empty.false) in

@@ -9,7 +9,7 @@ use Rattle.dt_build.proofs.fixups_by_label.append_text.Goals as goal
 
 pub returns : goal.returns
 returns c =
-    let p = c.args.prepared.now in
+    let p = c.args.draft.now in
     let s = c.args.site in
     let x = c.index-property.result.now in
     let label = open_label s.reference in

@@ -11,7 +11,7 @@ put_text-requires-clause-place c = site-known 0 _ c.args.sites.now c.loop-site.s
 
 pub loop-site-preserved : goal.loop-site-preserved
 loop-site-preserved c =
-    let p = c.args.prepared.now in
+    let p = c.args.draft.now in
     let i = c.loop-site.site-index in
     let old = given c.loop-site.by_label.labels.items in
     record {
@@ -22,6 +22,6 @@ loop-site-preserved c =
 
 pub returns : goal.returns
 returns c =
-    let p = c.args.prepared.now in
+    let p = c.args.draft.now in
     let made = given c.loop-site.by_label.labels.items in
     ap (λ ss. fixups (map (site_of p) ss) made) (sym (drop_all c.loop-site.site-index c.args.sites.now c.loop-site-test.false)) ∙ c.loop-site.invariant.given

@@ -12,7 +12,7 @@ returns-clause-indexed c l =
 
 pub returns-clause-given : goal.returns-clause-given
 returns-clause-given c =
-    let x = site_of c.args.prepared.now c.args.site in
+    let x = site_of c.args.draft.now c.args.site in
     let l = c.label_of-label.result.now in
     let old = c.args.by_label.now.labels.items in
     let gs = c.index_of_label.new.by_label.labels.items in

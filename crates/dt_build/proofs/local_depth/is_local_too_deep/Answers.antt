@@ -14,7 +14,7 @@ is_site_too_deep-requires-clause-place c = site-known 0 _ c.args.sites.now c.loo
 
 pub returns-then-is_site_too_deep : goal.returns-then-is_site_too_deep
 returns-then-is_site_too_deep c symbols =
-    let p = c.args.prepared.now in
+    let p = c.args.draft.now in
     let left = drop (c.loop-site.site-index + 1) c.args.sites.now in
     ap (λ b. b || list_any is_deep (map (site_of p) left)) (sym c.if-is_site_too_deep.true ∙ c.is_site_too_deep.ensures)
     ∙ ap (λ ss. list_any is_deep (map (site_of p) ss)) (sym (split c.args.sites.now c.loop-site.site-index c.loop-site-test.true))
@@ -22,7 +22,7 @@ returns-then-is_site_too_deep c symbols =
 
 pub loop-site-preserved : goal.loop-site-preserved
 loop-site-preserved c =
-    let p = c.args.prepared.now in
+    let p = c.args.draft.now in
     let left = drop (c.loop-site.site-index + 1) c.args.sites.now in
     ap (λ b. b || list_any is_deep (map (site_of p) left)) (sym c.if-is_site_too_deep.false ∙ c.is_site_too_deep.ensures)
     ∙ ap (λ ss. list_any is_deep (map (site_of p) ss)) (sym (split c.args.sites.now c.loop-site.site-index c.loop-site-test.true))
@@ -30,5 +30,5 @@ loop-site-preserved c =
 
 pub returns : goal.returns
 returns c symbols =
-    let p = c.args.prepared.now in
+    let p = c.args.draft.now in
     ap (λ ss. list_any is_deep (map (site_of p) ss)) (sym (drop_all c.loop-site.site-index c.args.sites.now c.loop-site-test.false)) ∙ c.loop-site.invariant ∙ sym (lists-deep symbols p c.requires.ready)

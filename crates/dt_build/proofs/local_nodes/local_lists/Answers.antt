@@ -10,14 +10,14 @@ use Rattle.dt_build.proofs.local_nodes.local_lists.Goals as goal
 
 pub lawful_name-requires : goal.lawful_name-requires
 lawful_name-requires c =
-    let p = c.args.prepared.now in
+    let p = c.args.draft.now in
     let x = c.in-Some.one in
     let places = subst (λ (xs : List LocalFixup). All (λ z. z.property < length p.in_preorder.properties.items) xs) c.in-Some.ensures.steps.0 c.loop-one.invariant.places in
     property-named p c.requires.ready x.property c.index-property.result.now (places 0 x (omega arith)) c.index-property.ensures
 
 pub loop-one-preserved : goal.loop-one-preserved
 loop-one-preserved c =
-    let p = c.args.prepared.now in
+    let p = c.args.draft.now in
     let inv = c.loop-one.invariant in
     let x = c.in-Some.one in
     let y = c.index-property.result.now in

@@ -27,18 +27,18 @@ loop-one-init c =
 
 pub index-property-requires : goal.index-property-requires
 index-property-requires c =
-    let p = c.args.prepared.now in
+    let p = c.args.draft.now in
     let known = subst (λ (x : LocalFixup). x.property < length p.in_preorder.properties.items) (sym c.one-item.is) (c.requires.places c.loop-one.one-index c.one-item.result c.loop-one-test.true) in
     omega (arith, known, p.in_preorder.properties.ok.0)
 
 pub mark-requires-clause-node : goal.mark-requires-clause-node
 mark-requires-clause-node c =
-    let below = subst (λ (x : LocalFixup). x.property < length c.args.prepared.now.in_preorder.properties.items) (sym c.one-item.is) (c.requires.places c.loop-one.one-index c.one-item.result c.loop-one-test.true) in
-    node-stands c.args.prepared.now c.requires.ready c.one-item.result.property c.index-property.result.now below c.index-property.ensures
+    let below = subst (λ (x : LocalFixup). x.property < length c.args.draft.now.in_preorder.properties.items) (sym c.one-item.is) (c.requires.places c.loop-one.one-index c.one-item.result c.loop-one-test.true) in
+    node-stands c.args.draft.now c.requires.ready c.one-item.result.property c.index-property.result.now below c.index-property.ensures
 
 pub loop-one-preserved : goal.loop-one-preserved
 loop-one-preserved c =
-    let p = c.args.prepared.now in
+    let p = c.args.draft.now in
     let xs = c.args.locals.now in
     let i = c.loop-one.one-index in
     let x = c.one-item.result in
@@ -54,6 +54,6 @@ loop-one-preserved c =
 
 pub returns-clause-marks : goal.returns-clause-marks
 returns-clause-marks c k there =
-    let p = c.args.prepared.now in
+    let p = c.args.draft.now in
     c.loop-one.invariant.marks k there
     ∙ ap (list_any (λ (y : LocalFixup). is_listed (node_path p.live k) (fronts (key_at p y.property).path))) (take_all c.loop-one.one-index c.args.locals.now c.loop-one-test.false)

@@ -8,6 +8,6 @@ use Rattle.dt_build.proofs.local_nodes.local_marks.Given as goal
 
 abbrev pub invariant-loop-one : goal.invariant-loop-one
 invariant-loop-one l = record {
-  count : length l.marks.items ≡ length l.prepared.live.nodes.items + 1;
-  marks : (k : ℕ) → is_standing l.prepared.live k ≡ true → slice_index_or l.marks.items k false ≡ list_any (λ x. is_listed (node_path l.prepared.live k) (fronts (key_at l.prepared x.property).path)) (take l.one-index l.locals);
+  count : length l.marks.items ≡ length l.draft.live.nodes.items + 1;
+  marks : (k : ℕ) → is_standing l.draft.live k ≡ true → slice_index_or l.marks.items k false ≡ list_any (λ x. is_listed (node_path l.draft.live k) (fronts (key_at l.draft x.property).path)) (take l.one-index l.locals);
 }

@@ -6,7 +6,7 @@ use Rattle.dt_build.proofs.local_nodes.mark.Goals as goal
 
 pub up-preserved : goal.up-preserved
 up-preserved c =
-    let p = c.args.prepared.now in
+    let p = c.args.draft.now in
     let all = c.nodes-rows.result.now in
     let same = c.nodes-rows.ensures in
     let at = c.up.at in

@@ -16,7 +16,7 @@ use Rattle.dt_build.proofs.local_nodes.with_local_fixups.Goals as goal
 
 pub returns-then-is_empty : goal.returns-then-is_empty
 returns-then-is_empty c =
-    let p = c.args.prepared.now in
+    let p = c.args.draft.now in
     let locals = c.in_ok-locals.locals.items in
     let none : length locals ≡ 0 = grind (arith, nat_tests, c.is_empty.ensures, c.if-is_empty.true) in
     no-local c.args.symbols p c.args.builder c.requires.made (none-locals p locals c.in_ok-locals.ensures.all none)
@@ -26,7 +26,7 @@ index_mut-requires c = omega (arith, c.in_ok-lists.ensures.count)
 
 pub push-requires-clause-new : goal.push-requires-clause-new
 push-requires-clause-new c =
-    let p = c.args.prepared.now in
+    let p = c.args.draft.now in
     let r = c.requires.ready in
     let locals = c.in_ok-locals.locals.items in
     let are = c.in_ok-locals.ensures.all in
@@ -37,7 +37,7 @@ push-requires-clause-new c =
 
 pub push-requires-clause-properties : goal.push-requires-clause-properties
 push-requires-clause-properties c =
-    let p = c.args.prepared.now in
+    let p = c.args.draft.now in
     let are = c.in_ok-locals.ensures.all in
     let ls = c.in_ok-lists.lists.items in
     let kept = map (λ list. list.items) ls in
@@ -50,7 +50,7 @@ push-requires-clause-properties c =
 
 pub each-init : goal.each-init
 each-init c =
-    let p = c.args.prepared.now in
+    let p = c.args.draft.now in
     let r = c.requires.ready in
     let locals = c.in_ok-locals.locals.items in
     let are = c.in_ok-locals.ensures.all in
@@ -90,22 +90,22 @@ pub with_local_node-requires-clause-plugin : goal.with_local_node-requires-claus
 with_local_node-requires-clause-plugin c =
     let locals = c.in_ok-locals.locals.items in
     let nonempty : 0 < length locals = grind (arith, nat_tests, c.is_empty.ensures, c.if-is_empty.false) in
-    plugin-locals c.args.prepared.now locals c.in_ok-locals.ensures.all nonempty
+    plugin-locals c.args.draft.now locals c.in_ok-locals.ensures.all nonempty
 
 pub with_local_node-requires-clause-below : goal.with_local_node-requires-clause-below
 with_local_node-requires-clause-below c = omega (arith, c.each-test.true, c.len.ensures)
 
 pub with_local_node-requires-clause-marks : goal.with_local_node-requires-clause-marks
 with_local_node-requires-clause-marks c =
-    subst (AreMarks c.args.prepared.now) (sym c.as_slice-in-each.ensures.value)
-    (marks-are c.args.prepared.now c.in_ok-marks.marks.items c.in_ok-locals.locals.items c.as_slice.result.now c.in_ok-locals.ensures.all c.as_slice.ensures.value c.in_ok-marks.ensures.count c.in_ok-marks.ensures.marks)
+    subst (AreMarks c.args.draft.now) (sym c.as_slice-in-each.ensures.value)
+    (marks-are c.args.draft.now c.in_ok-marks.marks.items c.in_ok-locals.locals.items c.as_slice.result.now c.in_ok-locals.ensures.all c.as_slice.ensures.value c.in_ok-marks.ensures.count c.in_ok-marks.ensures.marks)
 
 pub each-preserved : goal.each-preserved
 each-preserved c = record { some = omega (arith, c.each.invariant.some); lists = c.in_ok-builder-2.ensures.lists; made = c.in_ok-builder-2.ensures.made }
 
 pub returns : goal.returns
 returns c =
-    let p = c.args.prepared.now in
+    let p = c.args.draft.now in
     let r = c.requires.ready in
     let locals = c.in_ok-locals.locals.items in
     let are = c.in_ok-locals.ensures.all in

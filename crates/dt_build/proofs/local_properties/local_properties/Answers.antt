@@ -11,7 +11,7 @@ use Rattle.dt_build.proofs.local_properties.local_properties.Goals as goal
 
 pub loop-site-init : goal.loop-site-init
 loop-site-init c =
-    let p = c.args.prepared.now in
+    let p = c.args.draft.now in
     let none = c.new-locals.ensures.items in
     record {
       places = (0, omega arith, subst (λ (xs : List LocalFixup). AreBelow 0 (places xs)) (sym none) tt, c.requires.sites.places);
@@ -21,7 +21,7 @@ loop-site-init c =
 -- what is left begins with the site that is put
 pub put_local-requires : goal.put_local-requires
 put_local-requires c =
-    let n = length c.args.prepared.now.in_preorder.properties.items in
+    let n = length c.args.draft.now.in_preorder.properties.items in
     let i = c.loop-site.site-index in
     let s = site_at c.args.sites.now c.loop-site.site-index in
     let inv = c.loop-site.invariant.places in
@@ -30,7 +30,7 @@ put_local-requires c =
 
 pub loop-site-preserved : goal.loop-site-preserved
 loop-site-preserved c =
-    let p = c.args.prepared.now in
+    let p = c.args.draft.now in
     let n = length p.in_preorder.properties.items in
     let i = c.loop-site.site-index in
     let s = site_at c.args.sites.now c.loop-site.site-index in
@@ -46,10 +46,10 @@ loop-site-preserved c =
 
 pub returns-clause-all : goal.returns-clause-all
 returns-clause-all c =
-    let p = c.args.prepared.now in
+    let p = c.args.draft.now in
     ap (λ (ss : List FixupSite). local_fixups (map (site_of p) ss) (local_definitions p c.loop-site.locals.items)) (sym (drop_all c.loop-site.site-index c.args.sites.now c.loop-site-test.false)) ∙ c.loop-site.invariant.all
 
 pub returns-clause-places : goal.returns-clause-places
 returns-clause-places c =
     let inv = c.loop-site.invariant.places in
-    all-below inv.0 (length c.args.prepared.now.in_preorder.properties.items) c.loop-site.locals.items inv.1 inv.2
+    all-below inv.0 (length c.args.draft.now.in_preorder.properties.items) c.loop-site.locals.items inv.1 inv.2

@@ -3,8 +3,8 @@ use Rattle.dt_tree_builder.specs.Standing.{walked}
 use Rattle.dt_build.proofs.ListsOfPrepared.{lists-ordinary}
 use Rattle.dt_build.proofs.making.with_all.Goals as goal
 
-pub returns-then-not-prepared : goal.returns-then-not-prepared
-returns-then-not-prepared c = c.in_ok-builder.ensures ∙ ap walked (sym (lists-ordinary c.args.symbols c.args.prepared.now c.if-not-prepared.true))
+pub returns-then-not-draft : goal.returns-then-not-draft
+returns-then-not-draft c = c.in_ok-builder.ensures ∙ ap walked (sym (lists-ordinary c.args.symbols c.args.draft.now c.if-not-draft.true))
 
 pub with_local_fixups-requires-clause-made : goal.with_local_fixups-requires-clause-made
 with_local_fixups-requires-clause-made c = search rules

@@ -8,7 +8,7 @@ use Rattle.dt_build.proofs.node_phandles.number.Goals as goal
 
 pub returns : goal.returns
 returns c =
-    let p = c.args.prepared.now in
+    let p = c.args.draft.now in
     let rows : length c.nodes.result.now ≡ length p.live.nodes.items = ap length c.nodes.ensures in
     let filled = c.in_ok-phandles.ensures.items_if_clones_equal (λ y e. e) in
     record {
@@ -19,6 +19,6 @@ returns c =
           number-is p c.requires k up _ (get_or c.put_phandles.new.phandles.items k 0)
           (c.put_phandles-2.ensures.list k ∙ ap (λ (xs : List NodePhandle). first_phandle xs k (get_or c.put_phandles.new.phandles.items k 0)) c.as_slice-given.ensures.value)
           (c.put_phandles.ensures.list k ∙ ap (λ (xs : List NodePhandle). first_phandle xs k (get_or c.in_ok-phandles.phandles.items k 0)) c.as_slice-added.ensures.value
-          ∙ ap (first_phandle p.resolution.new.items k) (ap (λ (xs : List ℕ). get_or xs k 0) filled ∙ get_or-replicate (length c.nodes.result.now + 1) k 4294967295 0 within));
+          ∙ ap (first_phandle p.new.items k) (ap (λ (xs : List ℕ). get_or xs k 0) filled ∙ get_or-replicate (length c.nodes.result.now + 1) k 4294967295 0 within));
       new = λ k. c.in_ok-new.ensures.marks k ∙ ap (λ (xs : List NodePhandle). list_any (λ x. x.node == k) xs) c.as_slice-added.ensures.value;
     }

@@ -12,7 +12,7 @@ size_of_site-requires-clause-place c = site-known 0 _ c.args.sites.now c.loop-si
 
 pub loop-site-preserved : goal.loop-site-preserved
 loop-site-preserved c =
-    let p = c.args.prepared.now in
+    let p = c.args.draft.now in
     let i = c.loop-site.site-index in
     let s = site_at c.args.sites.now c.loop-site.site-index in
     let more : sites_size (map (site_of p) (drop i c.args.sites.now)) ≡ site_size (site_of p s) + sites_size (map (site_of p) (drop (i + 1) c.args.sites.now)) =
@@ -24,6 +24,6 @@ loop-site-preserved c =
 
 pub returns : goal.returns
 returns c =
-    let p = c.args.prepared.now in
+    let p = c.args.draft.now in
     let none : sites_size (map (site_of p) (drop c.loop-site.site-index c.args.sites.now)) ≡ 0 = ap (λ ss. sites_size (map (site_of p) ss)) (drop_all c.loop-site.site-index c.args.sites.now c.loop-site-test.false) in
     omega (arith, none, c.loop-site.invariant.fits, c.loop-site.invariant.size)

@@ -6,6 +6,6 @@ use Rattle.dt_build.proofs.sizes.total_size.Goals as goal
 
 pub returns : goal.returns
 returns c =
-    let p = c.args.prepared.now in
+    let p = c.args.draft.now in
     sum-capped (size_in (lists c.args.symbols p).properties) (size_in (symbol_lists c.args.symbols p).properties) (sites_size (made_sites p)) c.labels_size.result c.sites_size.result c.saturating_add.result
     (size-lists c.args.symbols p) c.labels_size.ensures c.sites_size.ensures c.saturating_add.ensures

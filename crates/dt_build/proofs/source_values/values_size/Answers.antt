@@ -13,7 +13,7 @@ use Rattle.dt_build.proofs.source_values.values_size.Goals as goal
 
 pub loop-node_property-init : goal.loop-node_property-init
 loop-node_property-init c =
-    let p = c.args.prepared.now in
+    let p = c.args.draft.now in
     let all = c.as_slice-left.ensures.value in
     let same : size_in (made (all_phandles p) (node_path p.live) p.in_preorder.properties.items c.as_slice-left.result.now) ≡ size_in (plain_properties p) =
     ap (λ (ts : List (Option ℕ)). size_in (made (all_phandles p) (node_path p.live) p.in_preorder.properties.items ts)) all ∙ ap size_in (source-bytes p c.requires) in
@@ -21,7 +21,7 @@ loop-node_property-init c =
 
 pub loop-node_property-preserved : goal.loop-node_property-preserved
 loop-node_property-preserved c =
-    let p = c.args.prepared.now in
+    let p = c.args.draft.now in
     let x = c.node_property-item.result in
     let i = c.loop-node_property.node_property-index in
     let old = c.loop-node_property.left.now in
@@ -38,7 +38,7 @@ loop-node_property-preserved c =
 
 pub returns : goal.returns
 returns c =
-    let p = c.args.prepared.now in
+    let p = c.args.draft.now in
     let i = c.loop-node_property.node_property-index in
     let over : length p.in_preorder.properties.items ≤ i = omega (arith, c.loop-node_property-test.false, ap length c.as_slice-node_property-items.ensures.value) in
     sizes-all (all_phandles p) (node_path p.live) p.in_preorder.properties.items i c.loop-node_property.size _ c.loop-node_property.left.now over c.loop-node_property.invariant.fits c.loop-node_property.invariant.size

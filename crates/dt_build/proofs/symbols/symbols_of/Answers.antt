@@ -13,7 +13,7 @@ use Rattle.dt_build.proofs.symbols.symbols_of.Goals.{then-is_in_tree+in_ok-symbo
 
 pub symbol_of-requires-clause-named : goal.symbol_of-requires-clause-named
 symbol_of-requires-clause-named c =
-    let d = c.args.prepared.now.live in
+    let d = c.args.draft.now.live in
     let k = c.loop-row.row-index in
     let rows = c.labels-row-items.ensures in
     let below : k < length d.labels.items = omega (arith, c.loop-row-test.true, ap length rows) in
@@ -23,7 +23,7 @@ symbol_of-requires-clause-named c =
 
 pub loop-row-preserved : goal.loop-row-preserved
 loop-row-preserved c =
-    let d = c.args.prepared.now.live in
+    let d = c.args.draft.now.live in
     let rows = c.labels-row-items.result.now in
     let k = c.loop-row.row-index in
     elim c.if-is_in_tree.branch [
@@ -38,7 +38,7 @@ loop-row-preserved c =
 
 pub returns : goal.returns
 returns c =
-    let d = c.args.prepared.now.live in
+    let d = c.args.draft.now.live in
     c.loop-row.invariant
     ∙ ap (λ rs. map symbol (worn (node_path d) (is_standing d) rs))
     (take_all c.loop-row.row-index c.labels-row-items.result.now c.loop-row-test.false ∙ c.labels-row-items.ensures)

@@ -8,7 +8,7 @@ use Rattle.dt_build.proofs.symbols.symbols_size.Goals.{then-is_in_tree, else-is_
 
 pub loop-label-preserved : goal.loop-label-preserved
 loop-label-preserved c =
-    let d = c.args.prepared.now.live in
+    let d = c.args.draft.now.live in
     let rows = c.labels-label-items.result.now in
     let k = c.loop-label.label-index in
     elim c.if-is_in_tree.branch [

@@ -12,15 +12,15 @@ use Rattle.dt_build.proofs.symbols.with_symbols.Goals as goal
 
 pub push-requires-clause-new : goal.push-requires-clause-new
 push-requires-clause-new c =
-    symbols-new c.args.prepared.now c.requires.ready c.requires.free c.args.builder c.requires.made c.in_ok-name.name (c.in_ok-name.ensures ∙ c.as_slice.ensures)
+    symbols-new c.args.draft.now c.requires.ready c.requires.free c.args.builder c.requires.made c.in_ok-name.name (c.in_ok-name.ensures ∙ c.as_slice.ensures)
 
 pub push-requires-clause-properties : goal.push-requires-clause-properties
 push-requires-clause-properties c =
-    distinct-symbols (tree_of c.args.prepared.now.live).labels c.in_ok-symbols.symbols.items c.requires.ready.labels_apart c.in_ok-symbols.ensures
+    distinct-symbols (tree_of c.args.draft.now.live).labels c.in_ok-symbols.symbols.items c.requires.ready.labels_apart c.in_ok-symbols.ensures
 
 pub returns : goal.returns
 returns c =
-    let p = c.args.prepared.now in
+    let p = c.args.draft.now in
     let ps = c.in_ok-symbols.symbols.items in
     let bs = c.args.builder in
     let some : 0 < length ps = grind (arith, nat_tests, c.is_empty.ensures, c.if-is_empty.false) in

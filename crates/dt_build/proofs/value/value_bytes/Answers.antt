@@ -17,23 +17,23 @@ at-or-none P none (t ∷ ts) all (suc k) = at-or-none P none ts (λ j d below. a
 
 pub loop-part-init : goal.loop-part-init
 loop-part-init c =
-    let p = c.args.prepared.now in
+    let p = c.args.draft.now in
     let fs = founds_of (node_path p.live) c.args.value.now c.args.targets.now in
     record { few = omega arith; bytes = ap (λ bs. bs ++ value_bytes (all_phandles p) fs) c.in_ok-bytes.ensures.items }
 
 pub append_part-requires-clause-known : goal.append_part-requires-clause-known
 append_part-requires-clause-known c =
-    let known : Option ℕ → Type 0 = λ t. IsKnown c.args.prepared.now.live t in
+    let known : Option ℕ → Type 0 = λ t. IsKnown c.args.draft.now.live t in
     subst known (sym c.target_at.ensures) (at-or-none known tt c.args.targets.now c.requires.known c.loop-part.used)
 
 pub append_part-requires-clause-there : goal.append_part-requires-clause-there
 append_part-requires-clause-there c =
-    let there : Option ℕ → Type 0 = λ t. IsThere c.args.prepared.now.live t in
+    let there : Option ℕ → Type 0 = λ t. IsThere c.args.draft.now.live t in
     subst there (sym c.target_at.ensures) (at-or-none there tt c.args.targets.now c.requires.there c.loop-part.used)
 
 pub loop-part-preserved : goal.loop-part-preserved
 loop-part-preserved c =
-    let p = c.args.prepared.now in
+    let p = c.args.draft.now in
     let path = node_path p.live in
     let xs = c.args.value.now in
     let ts = c.args.targets.now in
@@ -51,7 +51,7 @@ loop-part-preserved c =
 
 pub returns : goal.returns
 returns c =
-    let p = c.args.prepared.now in
+    let p = c.args.draft.now in
     let bytes = c.loop-part.bytes.items in
     let left = drop c.loop-part.used c.args.targets.now in
     c.from_vec.ensures ∙ sym (append-nil bytes)

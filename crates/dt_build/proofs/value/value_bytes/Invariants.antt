@@ -8,6 +8,6 @@ use Rattle.dt_build.proofs.value.value_bytes.Given as goal
 abbrev pub invariant-loop-part : goal.invariant-loop-part
 invariant-loop-part l = record {
   few : l.used ≤ l.part-index;
-  bytes : l.bytes.items ++ value_bytes (all_phandles l.prepared) (founds_of (node_path l.prepared.live) (drop l.part-index l.value) (drop l.used l.targets))
-      ≡ value_bytes (all_phandles l.prepared) (founds_of (node_path l.prepared.live) l.value l.targets);
+  bytes : l.bytes.items ++ value_bytes (all_phandles l.draft) (founds_of (node_path l.draft.live) (drop l.part-index l.value) (drop l.used l.targets))
+      ≡ value_bytes (all_phandles l.draft) (founds_of (node_path l.draft.live) l.value l.targets);
 }

@@ -7,7 +7,7 @@ use Rattle.dt_build.proofs.value.value_size.Goals as goal
 
 pub loop-part-preserved : goal.loop-part-preserved
 loop-part-preserved c =
-    let p = c.args.prepared.now in
+    let p = c.args.draft.now in
     let path = node_path p.live in
     let xs = c.args.value.now in
     let ts = c.args.targets.now in

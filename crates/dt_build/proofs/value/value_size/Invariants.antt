@@ -9,6 +9,6 @@ abbrev pub invariant-loop-part : goal.invariant-loop-part
 invariant-loop-part l = record {
   fits : l.size ≤ 2 ^ 64 - 1;
   few : l.used ≤ l.part-index;
-  size : min (l.size + length (value_bytes (all_phandles l.prepared) (founds_of (node_path l.prepared.live) (drop l.part-index l.value) (drop l.used l.targets)))) (2 ^ 64 - 1)
-      ≡ min (length (value_bytes (all_phandles l.prepared) (founds_of (node_path l.prepared.live) l.value l.targets))) (2 ^ 64 - 1);
+  size : min (l.size + length (value_bytes (all_phandles l.draft) (founds_of (node_path l.draft.live) (drop l.part-index l.value) (drop l.used l.targets)))) (2 ^ 64 - 1)
+      ≡ min (length (value_bytes (all_phandles l.draft) (founds_of (node_path l.draft.live) l.value l.targets))) (2 ^ 64 - 1);
 }

@@ -49,7 +49,7 @@ returns-in-New-clause-node g c =
     let e = subst (λ (e : Entry). Enters (record { owner = c.args.parent; name = c.args.name; value = None; made = c.in-Some.made; removed = false; again = false }) d.nodes c.enter.new.self e) c.in-New.is c.in_ok-row.ensures in
     let a = added-new d c.requires.sound c.args.parent c.requires.parent c.args.name c.in-Some.made c.in-New.row c.enter.new.self e in
     let at : c.in-New.row + 1 ≡ suc (length (rows_in d.nodes)) = omega (arith, e.1) in
-    subst (λ (n : ℕ). IsMade (record d { nodes = c.enter.new.self; clock = c.in-Some.made }) n (child_path d c.args.parent c.args.name.now)) (sym at) (made-after d c.requires.sound c.args.parent c.requires.parent c.args.name c.in-Some.made (rows_in c.enter.new.self) (found_in c.enter.new.self) a (record d { nodes = c.enter.new.self; clock = c.in-Some.made }) refl (omega (arith, late)))
+    subst (λ (n : ℕ). IsMade (record d { nodes = c.enter.new.self; clock = c.in-Some.made }) c.args.parent n (child_path d c.args.parent c.args.name.now)) (sym at) (made-after d c.requires.sound c.args.parent c.requires.parent c.args.name c.in-Some.made (rows_in c.enter.new.self) (found_in c.enter.new.self) a (record d { nodes = c.enter.new.self; clock = c.in-Some.made }) refl (omega (arith, late)))
 
 pub returns-in-New-clause-fresh : goal.returns-in-New-clause-fresh
 returns-in-New-clause-fresh g c =
@@ -119,7 +119,7 @@ returns-then-is_row_made-clause-node g c =
     let was : x ≡ place_at (rows_in d.nodes) i = c.index.ensures ∙ ap (λ rs. slice_index_or rs i x) met.1 ∙ get_or_default (rows_in d.nodes) i x no_place known in
     let one : (place_at (rows_in d.nodes) i).again ≡ false = sym (ap (λ y. y.again) was) ∙ c.if-index.false in
     let there : is_made (rows_in d.nodes) (place_at (rows_in d.nodes) i) ≡ true = ap (λ rs. is_made rs (place_at rs i)) (sym (c.as_slice.ensures.value ∙ met.1)) ∙ sym c.is_row_made.ensures ∙ c.if-is_row_made.true in
-    subst (λ (n : ℕ). IsMade (record d { nodes = c.enter.new.self; clock = c.in-Some.made }) n (child_path d c.args.parent c.args.name.now)) (sym (let at : c.in-Found.row + 1 ≡ suc i = omega arith in at)) (merged-standing d c.requires.sound c.args.parent c.requires.parent c.args.name i met.0 (record d { nodes = c.enter.new.self; clock = c.in-Some.made }) met.1 there)
+    subst (λ (n : ℕ). IsMade (record d { nodes = c.enter.new.self; clock = c.in-Some.made }) c.args.parent n (child_path d c.args.parent c.args.name.now)) (sym (let at : c.in-Found.row + 1 ≡ suc i = omega arith in at)) (merged-standing d c.requires.sound c.args.parent c.requires.parent c.args.name i met.0 (record d { nodes = c.enter.new.self; clock = c.in-Some.made }) met.1 there)
 
 pub returns-then-is_row_made-clause-begins : goal.returns-then-is_row_made-clause-begins
 returns-then-is_row_made-clause-begins g c =
@@ -190,7 +190,7 @@ returns-else-is_row_made-clause-node g c =
     let r : Place (Unit {0}) = record { owner = y.owner; name = y.name; value = y.value; made = c.in-Some.made; removed = false; again = y.again } in
     let ys : y ≡ place_at (rows_in d.nodes) i = c.index_mut-place.ensures.value ∙ ap (λ rs. slice_index_or rs i y) met.1 ∙ get_or_default (rows_in d.nodes) i y no_place known in
     let ns : slice_set (rows_in c.enter.new.self) i r ≡ slice_set (rows_in d.nodes) i r = ap (λ rs. slice_set rs i r) met.1 in
-    subst (λ (n : ℕ). IsMade (record d { nodes = record c.enter.new.self { rows = with_item c.enter.new.self.rows i r }; clock = c.in-Some.made }) n (child_path d c.args.parent c.args.name.now)) (sym (let at : c.in-Found.row + 1 ≡ suc i = omega arith in at)) (made-standing d c.requires.sound c.args.parent c.requires.parent c.args.name i met.0 r (ap (λ z. z.owner) ys) (ap (λ z. z.name.now) ys) (ap (λ z. z.again) ys) late refl away (record d { nodes = record c.enter.new.self { rows = with_item c.enter.new.self.rows i r }; clock = c.in-Some.made }) ns)
+    subst (λ (n : ℕ). IsMade (record d { nodes = record c.enter.new.self { rows = with_item c.enter.new.self.rows i r }; clock = c.in-Some.made }) c.args.parent n (child_path d c.args.parent c.args.name.now)) (sym (let at : c.in-Found.row + 1 ≡ suc i = omega arith in at)) (made-standing d c.requires.sound c.args.parent c.requires.parent c.args.name i met.0 r (ap (λ z. z.owner) ys) (ap (λ z. z.name.now) ys) (ap (λ z. z.again) ys) late refl away (record d { nodes = record c.enter.new.self { rows = with_item c.enter.new.self.rows i r }; clock = c.in-Some.made }) ns)
 
 pub returns-else-is_row_made-clause-keeps : goal.returns-else-is_row_made-clause-keeps
 returns-else-is_row_made-clause-keeps g c =

@@ -44,7 +44,7 @@ returns-in-New-clause-node g c =
     let e = subst (λ (e : Entry). Enters (record { owner = c.args.parent; name = c.args.name; value = None; made = c.in-Some.made; removed = false; again = false }) d.nodes c.enter.new.self e) c.in-New.is c.in_ok-row.ensures in
     let a = added-new d c.requires.sound c.args.parent c.requires.parent c.args.name c.in-Some.made c.in-New.row c.enter.new.self e in
     let at : c.in-New.row + 1 ≡ suc (length (rows_in d.nodes)) = omega (arith, e.1) in
-    subst (λ (n : ℕ). IsMade (record d { nodes = c.enter.new.self; clock = c.in-Some.made }) n (child_path d c.args.parent c.args.name.now)) (sym at) (made-after d c.requires.sound c.args.parent c.requires.parent c.args.name c.in-Some.made (rows_in c.enter.new.self) (found_in c.enter.new.self) a (record d { nodes = c.enter.new.self; clock = c.in-Some.made }) refl (omega (arith, late)))
+    subst (λ (n : ℕ). IsMade (record d { nodes = c.enter.new.self; clock = c.in-Some.made }) c.args.parent n (child_path d c.args.parent c.args.name.now)) (sym at) (made-after d c.requires.sound c.args.parent c.requires.parent c.args.name c.in-Some.made (rows_in c.enter.new.self) (found_in c.enter.new.self) a (record d { nodes = c.enter.new.self; clock = c.in-Some.made }) refl (omega (arith, late)))
 
 pub returns-in-New-clause-fresh : goal.returns-in-New-clause-fresh
 returns-in-New-clause-fresh g c =
@@ -99,7 +99,7 @@ returns-in_ok-row-in-Found-clause-node g c =
     let gone : is_made (rows_in d.nodes) (place_at (rows_in d.nodes) i) ≡ false = ap (λ rs. is_made rs (place_at rs i)) (sym (c.as_slice.ensures.value ∙ met.1)) ∙ sym c.is_row_made.ensures ∙ c.if-is_row_made.false in
     let a = added-again d c.requires.sound c.args.parent c.requires.parent c.args.name i met.0 c.in-Some.made c.enter.new.self c.renew.new.self met.1 met.2 c.requires.fresh gone c.in_ok-row-in-Found.ensures.rows c.in_ok-row-in-Found.ensures.index in
     let at : c.in_ok-row-in-Found.row + 1 ≡ suc (length (rows_in d.nodes)) = omega (arith, c.in_ok-row-in-Found.ensures.row, ap length met.1) in
-    subst (λ (n : ℕ). IsMade (record d { nodes = c.renew.new.self; clock = c.in-Some.made }) n (child_path d c.args.parent c.args.name.now)) (sym at) (made-after d c.requires.sound c.args.parent c.requires.parent c.args.name c.in-Some.made (rows_in c.renew.new.self) (found_in c.renew.new.self) a (record d { nodes = c.renew.new.self; clock = c.in-Some.made }) refl (omega (arith, late)))
+    subst (λ (n : ℕ). IsMade (record d { nodes = c.renew.new.self; clock = c.in-Some.made }) c.args.parent n (child_path d c.args.parent c.args.name.now)) (sym at) (made-after d c.requires.sound c.args.parent c.requires.parent c.args.name c.in-Some.made (rows_in c.renew.new.self) (found_in c.renew.new.self) a (record d { nodes = c.renew.new.self; clock = c.in-Some.made }) refl (omega (arith, late)))
 
 pub returns-in_ok-row-in-Found-clause-fresh : goal.returns-in_ok-row-in-Found-clause-fresh
 returns-in_ok-row-in-Found-clause-fresh g c =

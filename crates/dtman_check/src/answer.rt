@@ -1,0 +1,125 @@
+//! From a blob to the lines of its findings.
+use crate::line::{Shape, put_line};
+use crate::writer::Writer;
+use dt_blob::{BlobError, read};
+use dt_check::Survey;
+use dt_check_table::{Finding, Selection, run_checks};
+use dt_tree::{Name, Path, Tree, TreeError};
+use std::alloc::{AllocError, Global};
+use std::hash::RandomState;
+
+/// What a tree was made of.
+#[derive(Clone, Copy, Debug, PartialEq, Eq)]
+pub enum Origin {
+    /// A source: the nodes that its compiler added are left out.
+    Source,
+    Blob,
+}
+
+/// What is asked of the lines.
+#[derive(Clone, Copy)]
+pub struct Asked<'a> {
+    /// What the file is called.
+    pub file: &'a [u8],
+    pub shape: Shape,
+    /// How often it is asked to say less: once, and warnings are left out; twice, and errors too.
+    pub quiet: usize,
+}
+
+/// What the checks of a tree told.
+#[derive(Drop)]
+pub struct Answer {
+    pub text: Vec<u8>,
+    /// Whether one is an error.
+    pub failed: bool,
+}
+
+fn is_told(selection: &Selection, check: usize, quiet: usize) -> bool {
+    let level = selection.level(check);
+    (level.warns && quiet < 1) || (level.fails && quiet < 2)
+}
+
+fn put_findings(
+    alloc: Global,
+    writer: &mut Writer,
+    survey: &Survey<'_>,
+    selection: &Selection,
+    findings: &[Finding<'_>],
+    asked: Asked<'_>,
+) -> Result<(), AllocError> {
+    for finding in findings {
+        if is_told(selection, finding.check, asked.quiet) {
+            put_line(
+                alloc,
+                writer,
+                survey,
+                selection,
+                asked.file,
+                finding,
+                asked.shape,
+            )?;
+        }
+    }
+    Ok(())
+}
+
+/// The lines of what the checks find in a tree.
+pub fn check_tree(
+    alloc: Global,
+    hasher: RandomState,
+    tree: &Tree,
+    selection: &Selection,
+    asked: Asked<'_>,
+) -> Result<Answer, AllocError> {
+    let survey = Survey::of(alloc, hasher, tree)?;
+    let report = run_checks(alloc, &survey, selection)?;
+    let mut writer = Writer::new(alloc);
+    put_findings(
+        alloc,
+        &mut writer,
+        &survey,
+        selection,
+        report.findings.as_slice(),
+        asked,
+    )?;
+    let failed = report.failed;
+    Ok(Answer {
+        text: writer.text,
+        failed,
+    })
+}
+
+fn take_out(alloc: Global, tree: &mut Tree, name: &[u8]) -> Result<(), TreeError> {
+    let root = Path::parse(alloc, b"/")?;
+    let name = Name::new(alloc, name)?;
+    let _ = tree.remove_child(&root, &name)?;
+    Ok(())
+}
+
+// Takes out the nodes that a compiler adds below the root.
+fn take_out_added(alloc: Global, tree: &mut Tree) -> Result<(), TreeError> {
+    take_out(alloc, tree, b"__symbols__")?;
+    take_out(alloc, tree, b"__fixups__")?;
+    take_out(alloc, tree, b"__local_fixups__")
+}
+
+fn tree_of(alloc: Global, blob: &[u8], origin: Origin) -> Result<Tree, BlobError> {
+    let mut tree = read(alloc, blob)?;
+    if origin == Origin::Source && take_out_added(alloc, &mut tree).is_err() {
+        return Err(BlobError::NoMemory);
+    }
+    Ok(tree)
+}
+
+/// The same of the tree that a blob holds, which was made of this.
+pub fn check_blob(
+    alloc: Global,
+    hasher: RandomState,
+    blob: &[u8],
+    origin: Origin,
+    selection: &Selection,
+    asked: Asked<'_>,
+) -> Result<Answer, BlobError> {
+    let tree = tree_of(alloc, blob, origin)?;
+    Ok(check_tree(alloc, hasher, &tree, selection, asked)?)
+}

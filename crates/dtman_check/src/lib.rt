@@ -1,0 +1,16 @@
+//! What `check` answers, from the bytes of a blob to lines of text: each mistake with its place, its check and what is wrong.
+#![tactic(auto)]
+
+mod answer;
+mod buses;
+mod escaping;
+mod line;
+mod links;
+mod nodes;
+mod paths;
+mod words;
+mod writer;
+
+pub use answer::{Answer, Asked, Origin, check_blob, check_tree};
+pub use line::Shape;
+pub use paths::path_at;

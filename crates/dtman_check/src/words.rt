@@ -1,0 +1,39 @@
+//! What a finding says, in words.
+use crate::buses::{say_bridge, say_device, say_graph};
+use crate::links::{say_lists, say_nodes};
+use crate::nodes::{plain_words, say_numbers};
+use crate::writer::Writer;
+use dt_check::{Message, Survey};
+use dt_check_table::check_at;
+use std::alloc::{AllocError, Global};
+
+// A prerequisite by its name.
+fn say_prerequisite(writer: &mut Writer, check: usize) -> Result<(), AllocError> {
+    writer.put(b"Failed prerequisite '")?;
+    if let Some(row) = check_at(check) {
+        writer.put(row.name.as_bytes())?;
+    }
+    writer.put(b"'")
+}
+
+/// Puts the words of a message last.
+pub fn say(
+    alloc: Global,
+    writer: &mut Writer,
+    survey: &Survey<'_>,
+    message: Message,
+) -> Result<(), AllocError> {
+    if let Message::Prerequisite(check) = message {
+        return say_prerequisite(writer, check);
+    }
+    let said = say_numbers(writer, message)?
+        || say_bridge(writer, message)?
+        || say_device(writer, message)?
+        || say_graph(writer, message)?
+        || say_lists(writer, message)?
+        || say_nodes(alloc, writer, survey, message)?;
+    if said {
+        return Ok(());
+    }
+    writer.put(plain_words(message).as_bytes())
+}
