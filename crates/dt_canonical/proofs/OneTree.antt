@@ -1,5 +1,6 @@
 -- The canonical source of a tree means that tree, and no other.
 use Rattle.std.proofs.Common.{◌≡◌, false, Result, Ok, sym, ap, ◌∙◌, subst}
+use Rattle.dt_lexeme.specs.declared.language.Language.TheVariants.{Profile}
 use Rattle.dt_tree.specs.TreeData.{TreeData, IsTree}
 use Rattle.dt_tree.proofs.MapLaws.{same_tree}
 use Rattle.dt_source.specs.Parse.{Says}
@@ -29,7 +30,7 @@ one-tree m t u is also one other =
     let same : one.lists ≡ other.lists = same-lists one.lists other.lists (resolved false m) one.resolves other.resolves in
     same_tree u t also is (other.map ∙ ap (tree_map_of m) (sym same) ∙ sym one.map)
 
-pub no-other : (t : TreeData) → IsTree t → HasBytes t → IsSourceTree t → (m : Meaning) → Says (text_of t) m → (u : TreeData) → IsTree u → IsTreeOf false m u → u ≡ t
+pub no-other : (t : TreeData) → IsTree t → HasBytes t → IsSourceTree t → (m : Meaning) → Says Profile (text_of t) m → (u : TreeData) → IsTree u → IsTreeOf false m u → u ≡ t
 no-other t is bytes has m says u also of =
-    let same : m ≡ source_of t = one_meaning sources_are_read (text_of t) m (source_of t) says (canonical_says t is bytes) in
+    let same : m ≡ source_of t = one_meaning sources_are_read Profile (text_of t) m (source_of t) says (canonical_says t is bytes) in
     one-tree (source_of t) t u is also (the-tree t is has) (subst (λ (x : Meaning). IsTreeOf false x u) same of)

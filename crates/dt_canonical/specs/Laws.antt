@@ -1,5 +1,6 @@
 -- What the canonical source of a tree says and means.
 use Rattle.std.specs.Prelude.{◌≡◌, false, Ok}
+use Rattle.dt_lexeme.specs.declared.language.Language.TheVariants.{Profile}
 use Rattle.dt_tree.specs.PathMap.{tree_map}
 use Rattle.dt_tree.specs.TreeData.{TreeData, IsTree}
 use Rattle.dt_meaning.specs.MapOf.{tree_map_of}
@@ -16,8 +17,8 @@ IsMeant t = (r : Resolved) × (resolved false (source_of t) ≡ Ok r) × (tree_m
 
 -- its text says it, and so says the tree
 abbrev pub IsSaid : TreeData → Type 0
-IsSaid t = Says (text_of t) (source_of t) × IsTreeOf false (source_of t) t
+IsSaid t = Says Profile (text_of t) (source_of t) × IsTreeOf false (source_of t) t
 
 -- whatever its text says, no other tree is said
 abbrev pub SaysNoOther : TreeData → Type 0
-SaysNoOther t = (m : Meaning) → Says (text_of t) m → (u : TreeData) → IsTree u → IsTreeOf false m u → u ≡ t
+SaysNoOther t = (m : Meaning) → Says Profile (text_of t) m → (u : TreeData) → IsTree u → IsTreeOf false m u → u ≡ t

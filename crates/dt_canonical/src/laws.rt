@@ -1,5 +1,6 @@
 //! The laws.
 ghost use Rattle.std.specs.Prelude.{ℕ, List, IsTrue};
+ghost use Rattle.dt_lexeme.specs.declared.language.Language.TheVariants.{Profile};
 ghost use Rattle.dt_tree.specs.TreeData.{TreeData, IsTree};
 ghost use Rattle.dt_source.specs.Parse.{Says};
 ghost use Rattle.dt_blob.specs.Holds.{Holds};
@@ -11,7 +12,7 @@ ghost use Rattle.dt_canonical.specs.SourceOf.{source_of};
 
 /// The canonical source of a tree whose values have bytes spells a source without faults, and says the tree.
 pub fn canonical_parse()
-    ensures { (t : TreeData) → IsTree t → HasBytes t → Says (text_of t) (source_of t) }
+    ensures { (t : TreeData) → IsTree t → HasBytes t → Says Profile (text_of t) (source_of t) }
 {}
 
 /// A tree that bytes hold has values of bytes: each tree that was read from a blob or written into one.

@@ -3,8 +3,8 @@ use Rattle.std.proofs.Common.{◌≡◌, ℕ, zero, suc, ◌-◌, ◌<◌, ◌�
 use Rattle.std.proofs.lemmas.Bool.{eqb-true, cases_lt}
 use Rattle.dt_lexeme.specs.declared.lexeme.Lexeme.{Lexeme}
 use Rattle.dt_lexeme.specs.declared.lexeme.Kind.{Kind}
-use Rattle.dt_lexeme.specs.declared.lexeme.Kind.TheVariants.{Literal, Question, Colon, Paren, EndParen}
-use Rattle.dt_expression.specs.Expression.{Expression, Number, Grouped, Prefixed, Infix, Choice, rank, is_prefix, Begins, Spells, SpellsPrimary, Making, made}
+use Rattle.dt_lexeme.specs.declared.lexeme.Kind.TheVariants.{Literal, Character, Question, Colon, Paren, EndParen}
+use Rattle.dt_expression.specs.Expression.{Expression, Number, Grouped, Prefixed, Infix, Choice, rank, is_number, is_prefix, Begins, Spells, SpellsPrimary, Making, made}
 use Rattle.dt_expression.specs.ReadingExpressions.{Reader, closed, primary_by, primary_with, prefixed_by, operator_at, more, levels, otherwise, otherwise_by, chosen, chosen_by, expr_below, unary_below, expr_at, unary_at, primary_made}
 
 -- No operator of this rank or less stands first.
@@ -129,12 +129,22 @@ unary_at_primary : {A : Type 0} (m : Making A) (d : ℕ) (t : Lexeme) (ts : List
 unfolding unary_at
 unary_at_primary m d t ts h = rw h refl
 
-number_read : {A : Type 0} (m : Making A) (ex : Lexeme → Reader A) (l : Lexeme) (rest : List Lexeme) → l.kind ≡ Literal → primary_by m ex l.kind l rest ≡ Ok (m.number l, rest)
-number_read m ex l rest h = rw h refl
+number_read : {A : Type 0} (m : Making A) (ex : Lexeme → Reader A) (l : Lexeme) (rest : List Lexeme) → is_number l.kind ≡ true → primary_by m ex l.kind l rest ≡ Ok (m.number l, rest)
+number_read m ex l rest h = go l.kind h
+  where
+    go : (k : Kind) → is_number k ≡ true → primary_by m ex k l rest ≡ Ok (m.number l, rest)
+    go Literal h = refl
+    go Character h = refl
+    go _ h = absurd cc
+
+no_prefix : (k : Kind) → is_number k ≡ true → is_prefix k ≡ false
+no_prefix Literal h = refl
+no_prefix Character h = refl
+no_prefix _ h = absurd cc
 
 number_operand : {A : Type 0} (m : Making A) (l : Lexeme) → IsOperand m (Number l)
 unfolding Spells made
-number_operand m l = record { read = λ d level ts rest h. ap (unary_at m d) h.1 ∙ unary_at_primary m d l rest (ap is_prefix h.0) ∙ number_read m (expr_below m d) l rest h.0 }
+number_operand m l = record { read = λ d level ts rest h. ap (unary_at m d) h.1 ∙ unary_at_primary m d l rest (no_prefix l.kind h.0) ∙ number_read m (expr_below m d) l rest h.0 }
 
 expr_below_at : {A : Type 0} (m : Making A) (d : ℕ) (t : Lexeme) (ts : List Lexeme) → expr_below m (suc d) t ts ≡ expr_at m d ts
 unfolding expr_below expr_at unary_at

@@ -4,8 +4,8 @@ use Rattle.std.proofs.lemmas.Bool.{eqb-true}
 use Rattle.dt_lexeme.specs.declared.lexeme.Lexeme.{Lexeme}
 use Rattle.dt_lexeme.specs.declared.lexeme.Refusal.{Refusal}
 use Rattle.dt_lexeme.specs.declared.lexeme.Kind.{Kind}
-use Rattle.dt_lexeme.specs.declared.lexeme.Kind.TheVariants.{Literal, Question, Colon, Paren, EndParen}
-use Rattle.dt_expression.specs.Expression.{Expression, Number, Grouped, Prefixed, Infix, Choice, rank, is_prefix, Deeper, Begins, Takes, Spells, IsPrimary, Making, made}
+use Rattle.dt_lexeme.specs.declared.lexeme.Kind.TheVariants.{Literal, Character, Question, Colon, Paren, EndParen}
+use Rattle.dt_expression.specs.Expression.{Expression, Number, Grouped, Prefixed, Infix, Choice, rank, is_number, is_prefix, Deeper, Begins, Takes, Spells, IsPrimary, Making, made}
 use Rattle.dt_expression.specs.Reading.{◌>>=◌}
 use Rattle.dt_expression.specs.ReadingExpressions.{Reader, closed, closed_by, primary_by, prefixed_by, unary_with, operator_at, with_operator, more, levels, otherwise, otherwise_by, chosen, chosen_by, expr_with, expr_below, unary_below, unary_at, primary_made}
 
@@ -75,7 +75,10 @@ pub primary_by_sound : {A : Type 0} (m : Making A) (d : ℕ) (ex : Lexeme → Re
 unfolding Spells made
 primary_by_sound {A = A} m d ex hx t ts v rest Literal k e =
     let p = ok_is (m.number t, ts) (v, rest) e in
-    record { tree = Number t; primary = tt; spells = (k, ap (λ (x : A × List Lexeme). t ∷ x.1) p); value = ap (λ (x : A × List Lexeme). x.0) p }
+    record { tree = Number t; primary = tt; spells = (ap is_number k, ap (λ (x : A × List Lexeme). t ∷ x.1) p); value = ap (λ (x : A × List Lexeme). x.0) p }
+primary_by_sound {A = A} m d ex hx t ts v rest Character k e =
+    let p = ok_is (m.number t, ts) (v, rest) e in
+    record { tree = Number t; primary = tt; spells = (ap is_number k, ap (λ (x : A × List Lexeme). t ∷ x.1) p); value = ap (λ (x : A × List Lexeme). x.0) p }
 primary_by_sound {A = A} m d ex hx t ts v rest Paren k e =
     let b = bind_ok (ex t ts) (λ x. closed (m.grouped x.0) x.1) (v, rest) e in
     let f = hx.by t ts b.0.0 b.0.1 b.1 in

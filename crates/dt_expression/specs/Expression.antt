@@ -2,7 +2,7 @@
 use Rattle.std.specs.Prelude.{◌≡◌, ℕ, zero, suc, ◌-◌, ◌≤◌, Bool, true, false, List, [], ◌∷◌}
 use Rattle.dt_lexeme.specs.declared.lexeme.Lexeme.{Lexeme}
 use Rattle.dt_lexeme.specs.declared.lexeme.Kind.{Kind}
-use Rattle.dt_lexeme.specs.declared.lexeme.Kind.TheVariants.{Literal, Less, Greater, Paren, EndParen, Slash, Question, Colon, OrOr, AndAnd, Or, Xor, And, EqualEqual, NotEqual, LessEqual, GreaterEqual, ShiftLeft, ShiftRight, Plus, Minus, Star, Percent, Tilde, Bang}
+use Rattle.dt_lexeme.specs.declared.lexeme.Kind.TheVariants.{Literal, Character, Less, Greater, Paren, EndParen, Slash, Question, Colon, OrOr, AndAnd, Or, Xor, And, EqualEqual, NotEqual, LessEqual, GreaterEqual, ShiftLeft, ShiftRight, Plus, Minus, Star, Percent, Tilde, Bang}
 
 -- An expression, with the lexemes that its value and its faults are of.
 pub data Expression : Type 0 where
@@ -35,6 +35,12 @@ rank OrOr = 10
 rank Question = 11
 rank _ = 0
 
+-- The lexemes that are a number: literals, and in dtc's language character literals.
+abbrev pub is_number : Kind → Bool
+is_number Literal = true
+is_number Character = true
+is_number _ = false
+
 -- The operators that stand before their one operand.
 abbrev pub is_prefix : Kind → Bool
 is_prefix Minus = true
@@ -59,7 +65,7 @@ Takes ts t after = ts ≡ t ∷ after
 -- The lexemes begin with a spelling of the expression, which may nest depth levels further and has only
 -- operators of this rank or less outside parentheses, and then the rest follows.
 unfoldable pub Spells : ℕ → ℕ → Expression → List Lexeme → List Lexeme → Type 0
-Spells depth level (Number l) ts rest = (l.kind ≡ Literal) × Takes ts l rest
+Spells depth level (Number l) ts rest = (is_number l.kind ≡ true) × Takes ts l rest
 Spells depth level (Grouped e) ts rest =
     Deeper depth (λ inner. (a b : List Lexeme) × Begins ts Paren a × Spells inner 11 e a b × Begins b EndParen rest)
 Spells depth level (Prefixed t e) ts rest =
@@ -75,7 +81,7 @@ Spells depth level (Choice e f g) ts rest =
 abbrev pub nesting_limit : ℕ
 nesting_limit = 64
 
--- A literal, or an expression in parentheses.
+-- A number, or an expression in parentheses.
 abbrev pub IsPrimary : Expression → Type 0
 IsPrimary (Number l) = Unit {0}
 IsPrimary (Grouped e) = Unit {0}

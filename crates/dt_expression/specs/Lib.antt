@@ -1,3 +1,4 @@
+pub mod Character
 pub mod Expression
 pub mod Values
 pub mod Reading

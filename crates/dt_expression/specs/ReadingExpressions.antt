@@ -2,7 +2,7 @@
 use Rattle.std.specs.Prelude.{◌≡◌, ℕ, zero, suc, List, [], ◌∷◌, length, Ok, Err, ◌==◌, if◌then◌else◌, Option, None, Some}
 use Rattle.dt_lexeme.specs.declared.lexeme.Lexeme.{Lexeme}
 use Rattle.dt_lexeme.specs.declared.lexeme.Kind.{Kind}
-use Rattle.dt_lexeme.specs.declared.lexeme.Kind.TheVariants.{Literal, Question, Colon, Paren, EndParen}
+use Rattle.dt_lexeme.specs.declared.lexeme.Kind.TheVariants.{Literal, Character, Question, Colon, Paren, EndParen}
 use Rattle.dt_expression.specs.Expression.{Expression, nesting_limit, rank, is_prefix, SpellsPrimary, Making}
 use Rattle.dt_expression.specs.Values.{Value, values, value_of}
 use Rattle.dt_expression.specs.Reading.{◌>>=◌, Read, syntax_at, too_deep}
@@ -19,9 +19,10 @@ abbrev pub closed : {A : Type 0} → A → List Lexeme → Read A
 closed v [] = Err (syntax_at [])
 closed v (t ∷ ts) = closed_by v t.kind t ts
 
--- a literal or parentheses
+-- a number or parentheses
 abbrev pub primary_by : {A : Type 0} → Making A → (Lexeme → Reader A) → Kind → Lexeme → List Lexeme → Read A
 primary_by m expr Literal t ts = Ok (m.number t, ts)
+primary_by m expr Character t ts = Ok (m.number t, ts)
 primary_by m expr Paren t ts = do
   x ← expr t ts
   closed (m.grouped x.0) x.1

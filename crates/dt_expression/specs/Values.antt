@@ -5,7 +5,8 @@ use Rattle.dt_lexeme.specs.declared.lexeme.Lexeme.{Lexeme}
 use Rattle.dt_lexeme.specs.declared.lexeme.Fault.{Fault}
 use Rattle.dt_lexeme.specs.declared.lexeme.FaultKind.TheVariants.{DivideByZero, LiteralRange}
 use Rattle.dt_lexeme.specs.declared.lexeme.Kind.{Kind}
-use Rattle.dt_lexeme.specs.declared.lexeme.Kind.TheVariants.{Less, Greater, Slash, OrOr, AndAnd, Or, Xor, And, EqualEqual, NotEqual, LessEqual, GreaterEqual, ShiftLeft, ShiftRight, Plus, Minus, Star, Percent, Tilde, Bang}
+use Rattle.dt_lexeme.specs.declared.lexeme.Kind.TheVariants.{Character, Less, Greater, Slash, OrOr, AndAnd, Or, Xor, And, EqualEqual, NotEqual, LessEqual, GreaterEqual, ShiftLeft, ShiftRight, Plus, Minus, Star, Percent, Tilde, Bang}
+use Rattle.dt_expression.specs.Character.{character_of}
 use Rattle.dt_expression.specs.Expression.{Expression, Number, Grouped, Prefixed, Infix, Choice, Making}
 
 -- a number below 2 ^ 64, or the one fault
@@ -58,6 +59,22 @@ or_out_of_range l (Some n) = Ok n
 -- the number of a literal, where it is one below 2 ^ 64 in its base
 unfoldable pub literal_of : List ℕ → Lexeme → Value
 literal_of text l = or_out_of_range l (below_64 (literal_number (bytes_of text l)))
+
+-- what stands between the quotes of a character literal
+abbrev pub inside_of : List ℕ → Lexeme → List ℕ
+inside_of text l = slice_range text (l.start + 1) (l.end - 1)
+
+-- the number of a character literal, where it has one
+unfoldable pub character_at : List ℕ → Lexeme → Value
+character_at text l = or_out_of_range l (character_of (inside_of text l))
+
+abbrev pub constant_by : List ℕ → Lexeme → Kind → Value
+constant_by text l Character = character_at text l
+constant_by text l _ = literal_of text l
+
+-- a number as it stands in the text: a character literal, in dtc's language, or a literal
+abbrev pub constant_of : List ℕ → Lexeme → Value
+constant_of text l = constant_by text l l.kind
 
 -- ---- operators
 
@@ -126,7 +143,7 @@ choice (Ok x) (Ok y) (Ok z) = Ok (if x == 0 then z else y)
 
 -- the value of an expression of this text
 unfoldable pub value_of : List ℕ → Expression → Value
-value_of text (Number l) = literal_of text l
+value_of text (Number l) = constant_of text l
 value_of text (Grouped e) = value_of text e
 value_of text (Prefixed t e) = prefixed t (value_of text e)
 value_of text (Infix t e f) = both t (value_of text e) (value_of text f)
@@ -134,4 +151,4 @@ value_of text (Choice e f g) = choice (value_of text e) (value_of text f) (value
 
 -- the same, as what a reader of this text makes of it
 abbrev pub values : List ℕ → Making Value
-values text = record { number = literal_of text; grouped = λ v. v; prefixed = prefixed; joined = both; chosen = choice }
+values text = record { number = constant_of text; grouped = λ v. v; prefixed = prefixed; joined = both; chosen = choice }

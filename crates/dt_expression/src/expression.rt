@@ -6,7 +6,7 @@ ghost use Rattle.dt_expression.specs.ReadingOperators.{is_infix, infix_at};
 ghost use Rattle.dt_expression.specs.Values.{values};
 ghost use Rattle.dt_expression.specs.ReadingExpressions.{unary_at, expr_at, expr_below, unary_below, closed, chosen_in, operands_in, otherwise_in, primary_in, primary_at, ReadsWhatIsSpelled, ReadsAllThatIsSpelled, SpellsOne};
 
-use crate::numeral::literal;
+use crate::numeral::constant;
 use crate::refusals::{syntax_at, too_deep};
 use crate::value::{choice, prefixed};
 use crate::waiting::Waiting;
@@ -108,7 +108,7 @@ fn primary_within<'a>(text: &[u8], depth: u8, lexemes: &'a [Lexeme]) -> ReadValu
     match lexemes {
         [] => Err(syntax_at(lexemes)),
         [first, rest @ ..] => match first.kind {
-            Kind::Literal => Ok((literal(text, *first), rest)),
+            Kind::Literal | Kind::Character => Ok((constant(text, *first), rest)),
             Kind::Paren => {
                 let (value, rest) = expr_deeper(text, depth, *first, rest)?;
                 close(value, rest)
@@ -210,7 +210,7 @@ fn otherwise<'a>(
     }
 }
 
-/// Reads a literal or an expression in parentheses at the front of the lexemes, within `MAX_NESTING` levels: its value or its
+/// Reads a number or an expression in parentheses at the front of the lexemes, within `MAX_NESTING` levels: its value or its
 /// one fault, and the lexemes behind it.
 #[tactic(auto, unfolding(crate::specs::ReadingExpressions::primary_at, crate::specs::ReadingExpressions::primary_made))]
 pub fn primary<'a>(text: &[u8], lexemes: &'a [Lexeme]) -> ReadValue<'a>

@@ -3,6 +3,7 @@
 //! The Devicetree Specification v0.4, section 6.3, says which there are.
 #![tactic(auto)]
 
+mod characters;
 mod elements;
 mod expression;
 mod numeral;
@@ -10,7 +11,8 @@ mod refusals;
 mod value;
 mod waiting;
 
+pub use characters::character;
 pub use elements::{Width, element, push_low_bytes, width_of};
 pub use expression::{MAX_NESTING, ReadValue, primary, reads_the_grammar};
-pub use numeral::{bytes_of, digit_of, literal};
+pub use numeral::{bytes_of, constant, digit_of, literal};
 pub use refusals::{syntax_at, too_deep};

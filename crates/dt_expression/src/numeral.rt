@@ -1,8 +1,9 @@
 //! Numbers as they stand in the text.
 ghost use Rattle.std.specs.Prelude.{◌≡◌, ◌≤◌};
-ghost use Rattle.dt_expression.specs.Values.{bytes_of, digit_of, is_suffix, number_of, literal_number, literal_of, below_64};
+ghost use Rattle.dt_expression.specs.Values.{bytes_of, digit_of, is_suffix, number_of, literal_number, literal_of, inside_of, character_at, constant_of, below_64};
 
-use dt_lexeme::{Fault, FaultKind, Lexeme};
+use crate::characters::character;
+use dt_lexeme::{Fault, FaultKind, Kind, Lexeme};
 
 /// What a lexeme stands for in its text.
 pub fn bytes_of<'a>(text: &'a [u8], lexeme: Lexeme) -> &'a [u8]
@@ -82,5 +83,37 @@ pub fn literal(text: &[u8], lexeme: Lexeme) -> Result<u64, Fault>
             kind: FaultKind::LiteralRange,
             place: lexeme.start,
         }),
+    }
+}
+
+// What stands between the quotes of a character literal.
+fn inside_of<'a>(text: &'a [u8], lexeme: Lexeme) -> &'a [u8]
+    ensures { result.now ≡ inside_of text.now lexeme }
+{
+    let end = (lexeme.end as usize).saturating_sub(1).min(text.len());
+    let start = (lexeme.start as usize + 1).min(end);
+    &text[start..end]
+}
+
+#[tactic(auto, unfolding(crate::specs::Values::character_at))]
+fn character_at(text: &[u8], lexeme: Lexeme) -> Result<u64, Fault>
+    ensures { result ≡ character_at text.now lexeme }
+{
+    match character(inside_of(text, lexeme)) {
+        Some(number) => Ok(number as u64),
+        None => Err(Fault {
+            kind: FaultKind::LiteralRange,
+            place: lexeme.start,
+        }),
+    }
+}
+
+/// The number of a literal or of a character literal, or its fault at its first byte.
+pub fn constant(text: &[u8], lexeme: Lexeme) -> Result<u64, Fault>
+    ensures { result ≡ constant_of text.now lexeme }
+{
+    match lexeme.kind {
+        Kind::Character => character_at(text, lexeme),
+        _ => literal(text, lexeme),
     }
 }

@@ -7,12 +7,14 @@ use Rattle.std.proofs.lemmas.Bool.{eqb-true, cases_eq, cases_lt, and_left}
 use Rattle.dt_lexeme.specs.declared.lexeme.Kind.{Kind}
 use Rattle.dt_lexeme.specs.declared.lexeme.Kind.TheVariants.{Label, Name, Literal, Reference, PathReference, Pair, Slash, And}
 use Rattle.dt_lexeme.specs.declared.bytes.Class.TheVariants as classes
+use Rattle.dt_lexeme.specs.declared.language.Language.{Language}
+use Rattle.dt_lexeme.specs.declared.language.Language.TheVariants.{Profile, Dtc}
 use Rattle.dt_lexeme.specs.declared.context.Context.{Context}
 use Rattle.dt_lexeme.specs.declared.families.First.{First}
 use Rattle.dt_lexeme.specs.declared.families.First.TheVariants as firsts
 use Rattle.dt_lexeme.specs.Bytes.{is_word, is_name, is_letter, is_hex, begins, begins_letter}
 use Rattle.dt_lexeme.specs.Fronts.{Front, IsFront, ends, ends_label, ends_word, labels, names, words, paths, numbers, hexed, one_hex}
-use Rattle.dt_lexeme.specs.Families.{Longest, IsLongest, given, alone, keyword, slashed, operated, second_of, and_alone, ampersand, label_or, kind_by, kind_of, first_at}
+use Rattle.dt_lexeme.specs.Families.{Longest, IsLongest, given, alone, keyword, dtc_keyword, keyword_in, slashed, operated, second_of, and_alone, ampersand, label_or, kind_by, kind_of, first_at}
 use Rattle.dt_lexeme.proofs.Runs.{kind_more, kind_none, all_fails, and_first, ends_at, ends_once}
 
 -- ---- a byte in front
@@ -58,46 +60,72 @@ keyword_ends s h = go (pointwise nat_eq s (codes "dts-v1/")) refl (pointwise nat
     go false p false q false r false t false u true v = as_text (codes "delete-property/") v refl
     go false p false q false r false t false u false v = absurd (h (rw (p, q, r, t, u, v) refl))
 
-no_keyword : (s : List ℕ) → ends_word s ≡ false → keyword s ≡ None
-no_keyword s e = go (keyword s) refl
+dtc_keyword_ends : (s : List ℕ) → (dtc_keyword s ≡ None → ⊥) → ends_word s ≡ true
+unfolding ends
+dtc_keyword_ends s h = go (pointwise nat_eq s (codes "omit-if-no-ref/")) refl (pointwise nat_eq s (codes "incbin/")) refl
+  where
+    as_text : (w : List ℕ) → pointwise nat_eq s w ≡ true → ends_word w ≡ true → ends_word s ≡ true
+    as_text w e f = ap ends_word (same_text s w (sym e)) ∙ f
+
+    go : (a : Bool) → pointwise nat_eq s (codes "omit-if-no-ref/") ≡ a → (b : Bool) → pointwise nat_eq s (codes "incbin/") ≡ b → ends_word s ≡ true
+    go true p b q = as_text (codes "omit-if-no-ref/") p refl
+    go false p true q = as_text (codes "incbin/") q refl
+    go false p false q = absurd (h (rw (p, q) refl))
+
+no_plain_keyword : (s : List ℕ) → ends_word s ≡ false → keyword s ≡ None
+no_plain_keyword s e = go (keyword s) refl
   where
     go : (o : Option Kind) → keyword s ≡ o → keyword s ≡ None
     go None f = f
     go (Some k) f = absurd (cc (keyword_ends s (λ g. cc (g, f))))
 
-slash_at : (s : List ℕ) (m : ℕ) → keyword (take m s) ≡ None → 0 < m → m ≤ length s → slashed (take m s) ≡ None
-unfolding slashed
-slash_at s m e lt le = rw e ((alone_kind Slash s).longest m lt le)
-
-pub keyword_kind : (s : List ℕ) (n : ℕ) (k : Kind) → IsFront ends_word s n → keyword (take n s) ≡ Some k → IsLongest slashed s k n
-unfolding slashed
-keyword_kind s n k h e = record { within = h.within; is = rw e refl; longest = λ m lt le. slash_at s m (no_keyword (take m s) (h.longest m lt le)) (omega arith) le }
-
-slash_alone : (s : List ℕ) → ((m : ℕ) → m ≤ length s → keyword (take m s) ≡ None) → IsLongest slashed s Slash 0
-unfolding slashed
-slash_alone s h = record { within = omega arith; is = empty; longest = λ m lt le. slash_at s m (h m le) lt le }
+no_dtc_keyword : (s : List ℕ) → ends_word s ≡ false → dtc_keyword s ≡ None
+no_dtc_keyword s e = go (dtc_keyword s) refl
   where
-    empty : slashed [] ≡ Some Slash
-    empty = refl
+    go : (o : Option Kind) → dtc_keyword s ≡ o → dtc_keyword s ≡ None
+    go None f = f
+    go (Some k) f = absurd (cc (dtc_keyword_ends s (λ g. cc (g, f))))
 
-pub slash_kind : (s : List ℕ) (n : ℕ) → IsFront ends_word s n → keyword (take n s) ≡ None → IsLongest slashed s Slash 0
-slash_kind s n h e = slash_alone s go
-  where
-    shorter : (m : ℕ) → m < n → (b : Bool) → ends_word (take m s) ≡ b → ends_word (take m s) ≡ false
-    shorter m lt true f = absurd (cc (ends_once (λ c. not (eqb c 47)) (λ c. eqb c 47) s m n f lt h.within, h.is))
-    shorter m lt false f = f
+no_keyword : (language : Language) (s : List ℕ) → ends_word s ≡ false → keyword_in language s ≡ None
+no_keyword Profile s e = rw (no_plain_keyword s e) refl
+no_keyword Dtc s e = rw (no_plain_keyword s e) (no_dtc_keyword s e)
 
-    go : (m : ℕ) → m ≤ length s → keyword (take m s) ≡ None
-    go m le = elim (cases_lt n m) [
-      | inl lt ↦ no_keyword (take m s) (h.longest m lt le)
-      | inr le' ↦ elim (cases_eq m n) [
-        | inl k ↦ rw k e
-        | inr k ↦ no_keyword (take m s) (shorter m (omega arith) (ends_word (take m s)) refl)
+slashed_empty : (language : Language) → slashed language [] ≡ Some Slash
+unfolding slashed
+slashed_empty Profile = refl
+slashed_empty Dtc = refl
+
+module _ (language : Language) where
+  slash_at : (s : List ℕ) (m : ℕ) → keyword_in language (take m s) ≡ None → 0 < m → m ≤ length s → slashed language (take m s) ≡ None
+  unfolding slashed
+  slash_at s m e lt le = rw e ((alone_kind Slash s).longest m lt le)
+
+  pub keyword_kind : (s : List ℕ) (n : ℕ) (k : Kind) → IsFront ends_word s n → keyword_in language (take n s) ≡ Some k → IsLongest (slashed language) s k n
+  unfolding slashed
+  keyword_kind s n k h e = record { within = h.within; is = rw e refl; longest = λ m lt le. slash_at s m (no_keyword language (take m s) (h.longest m lt le)) (omega arith) le }
+
+  slash_alone : (s : List ℕ) → ((m : ℕ) → m ≤ length s → keyword_in language (take m s) ≡ None) → IsLongest (slashed language) s Slash 0
+  unfolding slashed
+  slash_alone s h = record { within = omega arith; is = slashed_empty language; longest = λ m lt le. slash_at s m (h m le) lt le }
+
+  pub slash_kind : (s : List ℕ) (n : ℕ) → IsFront ends_word s n → keyword_in language (take n s) ≡ None → IsLongest (slashed language) s Slash 0
+  slash_kind s n h e = slash_alone s go
+    where
+      shorter : (m : ℕ) → m < n → (b : Bool) → ends_word (take m s) ≡ b → ends_word (take m s) ≡ false
+      shorter m lt true f = absurd (cc (ends_once (λ c. not (eqb c 47)) (λ c. eqb c 47) s m n f lt h.within, h.is))
+      shorter m lt false f = f
+
+      go : (m : ℕ) → m ≤ length s → keyword_in language (take m s) ≡ None
+      go m le = elim (cases_lt n m) [
+        | inl lt ↦ no_keyword language (take m s) (h.longest m lt le)
+        | inr le' ↦ elim (cases_eq m n) [
+          | inl k ↦ rw k e
+          | inr k ↦ no_keyword language (take m s) (shorter m (omega arith) (ends_word (take m s)) refl)
+        ]
       ]
-    ]
 
-pub slash_only : (s : List ℕ) → Front ends_word s None → IsLongest slashed s Slash 0
-slash_only s h = slash_alone s (λ m le. no_keyword (take m s) (h m le))
+  pub slash_only : (s : List ℕ) → Front ends_word s None → IsLongest (slashed language) s Slash 0
+  slash_only s h = slash_alone s (λ m le. no_keyword language (take m s) (h m le))
 
 -- ---- operators
 

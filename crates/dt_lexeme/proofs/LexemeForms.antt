@@ -7,8 +7,10 @@ use Rattle.dt_tree.specs.Name as tree
 use Rattle.dt_tree.specs.Path.{is_path}
 use Rattle.dt_lexeme.specs.declared.lexeme.Lexeme.{Lexeme}
 use Rattle.dt_lexeme.specs.declared.lexeme.Kind.{Kind}
-use Rattle.dt_lexeme.specs.declared.lexeme.Kind.TheVariants.{Version, Plugin, MemReserve, Bits, DeleteNode, DeleteProperty, Label, Name, Literal, Text, Reference, PathReference, Pair, Semicolon, Brace, EndBrace, Equals, Comma, Less, Greater, Square, EndSquare, Paren, EndParen, Slash, Question, Colon, OrOr, AndAnd, Or, Xor, And, EqualEqual, NotEqual, LessEqual, GreaterEqual, ShiftLeft, ShiftRight, Plus, Minus, Star, Percent, Tilde, Bang}
+use Rattle.dt_lexeme.specs.declared.lexeme.Kind.TheVariants.{Version, Plugin, MemReserve, Bits, DeleteNode, DeleteProperty, OmitIfNoRef, IncludeBinary, Label, Name, Literal, Text, Character, Reference, PathReference, Pair, Semicolon, Brace, EndBrace, Equals, Comma, Less, Greater, Square, EndSquare, Paren, EndParen, Slash, Question, Colon, OrOr, AndAnd, Or, Xor, And, EqualEqual, NotEqual, LessEqual, GreaterEqual, ShiftLeft, ShiftRight, Plus, Minus, Star, Percent, Tilde, Bang}
 use Rattle.dt_lexeme.specs.declared.bytes.Class.TheVariants as classes
+use Rattle.dt_lexeme.specs.declared.language.Language.{Language}
+use Rattle.dt_lexeme.specs.declared.language.Language.TheVariants.{Profile, Dtc}
 use Rattle.dt_lexeme.specs.declared.context.Mode.{Mode}
 use Rattle.dt_lexeme.specs.declared.context.Mode.TheVariants as modes
 use Rattle.dt_lexeme.specs.declared.context.Context.{Context}
@@ -18,7 +20,7 @@ use Rattle.dt_lexeme.specs.Bytes.{is_letter, is_name, is_hex, is_digit}
 use Rattle.dt_lexeme.specs.Fronts.{closes, labels, names, words, paths, numbers, hexed, one_hex}
 use Rattle.dt_lexeme.specs.Label.{IsLabel}
 use Rattle.dt_lexeme.specs.Forms.{FormAt, AllLawful}
-use Rattle.dt_lexeme.specs.Families.{IsLongest, punctuation, operator, second_of, single_operator, single_by, first_in, first_at, alone, keyword, or_kind, slashed, operated, ampersand, kind_by, kind_of}
+use Rattle.dt_lexeme.specs.Families.{IsLongest, punctuation, operator, second_of, single_operator, single_by, first_in, first_at, alone, keyword, dtc_keyword, more_keywords, keyword_in, is_dtc, or_kind, slashed, operated, ampersand, kind_by, kind_of}
 use Rattle.dt_lexeme.specs.Contexts.{start, step}
 use Rattle.dt_lexeme.specs.Lexemes.{Left, Lexemes}
 use Rattle.dt_lexeme.proofs.Scanning.{some_byte}
@@ -78,9 +80,17 @@ keyword_formed s bs =
     pick (pointwise nat_eq s (codes "delete-node/")) DeleteNode _ bs tt (
     pick (pointwise nat_eq s (codes "delete-property/")) DeleteProperty _ bs tt tt)))))
 
-slashed_formed : (s bs : List ℕ) → FormedBy (slashed s) bs
+dtc_keyword_formed : (s bs : List ℕ) → FormedBy (dtc_keyword s) bs
+dtc_keyword_formed s bs = pick (pointwise nat_eq s (codes "omit-if-no-ref/")) OmitIfNoRef _ bs tt (pick (pointwise nat_eq s (codes "incbin/")) IncludeBinary _ bs tt tt)
+
+more_formed : (language : Language) (s bs : List ℕ) → FormedBy (more_keywords language s) bs
+more_formed Profile s bs = tt
+more_formed Dtc s bs = dtc_keyword_formed s bs
+
+slashed_formed : (language : Language) (s bs : List ℕ) → FormedBy (slashed language s) bs
 unfolding slashed
-slashed_formed s bs = or_formed (keyword s) (alone Slash s) bs (keyword_formed s bs) (alone_formed Slash s bs tt)
+slashed_formed language s bs =
+    or_formed (keyword_in language s) (alone Slash s) bs (or_formed (keyword s) (more_keywords language s) bs (keyword_formed s bs) (more_formed language s bs)) (alone_formed Slash s bs tt)
 
 second_formed : (k : Kind) (c : ℕ) (bs : List ℕ) → FormedBy (second_of k c) bs
 second_formed Less c bs = pick (eqb c 61) LessEqual _ bs tt (pick (eqb c 60) ShiftLeft _ bs tt tt)
@@ -114,7 +124,8 @@ Fits _ c = Unit {0}
 
 by_formed : (f : First) (c : ℕ) (s : List ℕ) → Fits f c → FormedBy (kind_by f s) (c ∷ s)
 by_formed firsts.Quote c s h = given_formed (closes 34 false s) Text (c ∷ s) (λ e. tt)
-by_formed firsts.Solidus c s h = slashed_formed s (c ∷ s)
+by_formed firsts.Apostrophe c s h = given_formed (closes 39 false s) Character (c ∷ s) (λ e. tt)
+by_formed (firsts.Solidus language) c s h = slashed_formed language s (c ∷ s)
 by_formed (firsts.Ampersand inside) c s h = ampersand_formed inside c s
 by_formed firsts.Zero c s h = either (hexed s) _ _ (c ∷ s) (λ e. tt) (λ e. given_formed (numbers classes.Digit s) Literal (c ∷ s) (λ e. tt))
 by_formed firsts.Digit c s h = given_formed (numbers classes.Digit s) Literal (c ∷ s) (λ e. tt)
@@ -181,7 +192,7 @@ in_fits modes.Byte inside c =
 first_fits : (context : Context) (c : ℕ) → Fits (first_at context c) c
 unfolding first_at
 first_fits context c =
-    either_fits (eqb c 34) _ _ c (λ e. tt) (λ e. either_fits (eqb c 47) _ _ c (λ f. tt) (λ f. either_fits (eqb c 38) _ _ c (λ g. tt) (λ g. in_fits context.mode (nat_lt 0 context.parens) c)))
+    either_fits (eqb c 34) _ _ c (λ e. tt) (λ e. either_fits (is_dtc context.language && eqb c 39) _ _ c (λ d. tt) (λ d. either_fits (eqb c 47) _ _ c (λ f. tt) (λ f. either_fits (eqb c 38) _ _ c (λ g. tt) (λ g. in_fits context.mode (nat_lt 0 context.parens) c))))
 
 kind_formed : (context : Context) (bs : List ℕ) → FormedBy (kind_of context bs) bs
 unfolding kind_of
@@ -204,10 +215,10 @@ left_lawful : (text : List ℕ) (context : Context) (left : List ℕ) (ls : List
 unfolding Left AllLawful
 left_lawful text context left [] t h = tt
 left_lawful text context left (l ∷ ls) t (s, n, gap, longest, from, to, more) =
-    let here = ends_on text left s t (gap_ends left s gap) in
+    let here = ends_on text left s t (gap_ends context.language left s gap) in
     (moved l.kind text s (length text - length s) n l.start l.end (ends_at text s here) (some_byte context s l.kind n longest) from to (longest_formed context s l.kind n longest), left_lawful text (step context l.kind) (drop n s) ls (ends_on text s (drop n s) here (ends_drop n s)) more)
 
 -- Each lexeme of a text has its kind's form.
-pub lexemes_lawful : (text : List ℕ) (ls : List Lexeme) → Lexemes text ls → AllLawful text ls
+pub lexemes_lawful : (language : Language) (text : List ℕ) (ls : List Lexeme) → Lexemes language text ls → AllLawful text ls
 unfolding Lexemes
-lexemes_lawful text ls h = left_lawful text start text ls (ends_self text) h
+lexemes_lawful language text ls h = left_lawful text (start language) text ls (ends_self text) h

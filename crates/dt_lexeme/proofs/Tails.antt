@@ -4,6 +4,7 @@ use Rattle.std.proofs.Math.Seq.{drop-append_seam}
 use Rattle.std.proofs.lemmas.List.{take-append-drop, drop-drop, drop-take}
 use Rattle.std.specs.Prelude.{slice_range}
 use Rattle.std.proofs.lemmas.Bool.{cases_lt}
+use Rattle.dt_lexeme.specs.declared.language.Language.{Language}
 use Rattle.dt_lexeme.specs.Gaps.{comment_end, line_end, ends_comment, Gap, nothing, blank, line, comment, IsGap}
 use Rattle.dt_lexeme.proofs.Runs.{take_within}
 
@@ -57,10 +58,10 @@ line_ends (c ∷ s) = go (eqb c 10) (line_ends s)
     go true next = ends_self (c ∷ s)
     go false next = ends_more c s (line_end s) next
 
-pub gap_ends : (s t : List ℕ) → IsGap s t → EndsIn s t
-gap_ends s t h = go s t h.gap
+pub gap_ends : (language : Language) (s t : List ℕ) → IsGap language s t → EndsIn s t
+gap_ends language s t h = go s t h.gap
   where
-    go : (s t : List ℕ) → Gap s t → EndsIn s t
+    go : (s t : List ℕ) → Gap language s t → EndsIn s t
     go s t nothing = ends_self s
     go s t (blank b g) = ends_on s (drop 1 s) t (ends_drop 1 s) (go (drop 1 s) t g)
     go s t (line b g) = ends_on s (drop 2 s) t (ends_drop 2 s) (ends_on (drop 2 s) (line_end (drop 2 s)) t (line_ends (drop 2 s)) (go (line_end (drop 2 s)) t g))

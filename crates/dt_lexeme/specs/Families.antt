@@ -1,9 +1,12 @@
--- What a text is in a context, if it is one lexeme (Devicetree Specification v0.4, section 6).
+-- What a text is in a context, if it is one lexeme (Devicetree Specification v0.4, section 6; what only dtc's language has, dtc 1.6,
+-- Documentation/dts-format.txt).
 use Rattle.std.specs.Prelude.{◌≡◌, ℕ, ◌<◌, ◌≤◌, ◌==◌, nat_lt, nat_eq, Bool, true, false, ◌&&◌, List, [], ◌∷◌, length, take, Option, Some, None, if◌then◌else◌, codes}
 use Rattle.std.specs.Cmp.Lexicographic.{pointwise}
 use Rattle.dt_lexeme.specs.declared.lexeme.Kind.{Kind}
-use Rattle.dt_lexeme.specs.declared.lexeme.Kind.TheVariants.{Version, Plugin, MemReserve, Bits, DeleteNode, DeleteProperty, Label, Name, Literal, Text, Reference, PathReference, Pair, Semicolon, Brace, EndBrace, Equals, Comma, Less, Greater, Square, EndSquare, Paren, EndParen, Slash, Question, Colon, OrOr, AndAnd, Or, Xor, And, EqualEqual, NotEqual, LessEqual, GreaterEqual, ShiftLeft, ShiftRight, Plus, Minus, Star, Percent, Tilde, Bang}
+use Rattle.dt_lexeme.specs.declared.lexeme.Kind.TheVariants.{Version, Plugin, MemReserve, Bits, DeleteNode, DeleteProperty, OmitIfNoRef, IncludeBinary, Label, Name, Literal, Text, Character, Reference, PathReference, Pair, Semicolon, Brace, EndBrace, Equals, Comma, Less, Greater, Square, EndSquare, Paren, EndParen, Slash, Question, Colon, OrOr, AndAnd, Or, Xor, And, EqualEqual, NotEqual, LessEqual, GreaterEqual, ShiftLeft, ShiftRight, Plus, Minus, Star, Percent, Tilde, Bang}
 use Rattle.dt_lexeme.specs.declared.bytes.Class.TheVariants as classes
+use Rattle.dt_lexeme.specs.declared.language.Language.{Language}
+use Rattle.dt_lexeme.specs.declared.language.Language.TheVariants.{Profile, Dtc}
 use Rattle.dt_lexeme.specs.declared.context.Mode.{Mode}
 use Rattle.dt_lexeme.specs.declared.context.Mode.TheVariants as modes
 use Rattle.dt_lexeme.specs.declared.context.Context.{Context}
@@ -85,13 +88,18 @@ first_in modes.Name inside c = if is_letter c then firsts.Letter else (if is_nam
 first_in modes.Value inside c = if is_letter c then firsts.Word else (if c == 48 then firsts.Zero else (if is_digit c then firsts.Digit else single inside c))
 first_in modes.Byte inside c = if is_letter c then (if is_hex c then firsts.HexLetter else firsts.Word) else (if is_hex c then firsts.HexDigit else single inside c)
 
+abbrev pub is_dtc : Language → Bool
+is_dtc Profile = false
+is_dtc Dtc = true
+
 -- the lexemes that may begin with this byte in this context
 unfoldable pub first_at : Context → ℕ → First
 first_at context c =
     if c == 34 then firsts.Quote else
-    (if c == 47 then firsts.Solidus else
+    (if is_dtc context.language && c == 39 then firsts.Apostrophe else
+    (if c == 47 then firsts.Solidus context.language else
     (if c == 38 then firsts.Ampersand (nat_lt 0 context.parens) else
-    first_in context.mode (nat_lt 0 context.parens) c))
+    first_in context.mode (nat_lt 0 context.parens) c)))
 
 -- ---- what stands behind the first byte
 
@@ -116,9 +124,22 @@ abbrev pub or_kind : Option Kind → Option Kind → Option Kind
 or_kind (Some k) other = Some k
 or_kind None other = other
 
+-- the same, of those that only dtc's language has
+abbrev pub dtc_keyword : List ℕ → Option Kind
+dtc_keyword s =
+    if pointwise nat_eq s (codes "omit-if-no-ref/") then Some OmitIfNoRef else
+    (if pointwise nat_eq s (codes "incbin/") then Some IncludeBinary else None)
+
+abbrev pub more_keywords : Language → List ℕ → Option Kind
+more_keywords Profile s = None
+more_keywords Dtc s = dtc_keyword s
+
+abbrev pub keyword_in : Language → List ℕ → Option Kind
+keyword_in language s = or_kind (keyword s) (more_keywords language s)
+
 -- a keyword, or the slash alone
-unfoldable pub slashed : List ℕ → Option Kind
-slashed s = or_kind (keyword s) (alone Slash s)
+unfoldable pub slashed : Language → List ℕ → Option Kind
+slashed language s = or_kind (keyword_in language s) (alone Slash s)
 
 -- one character, or two that are an operator
 abbrev pub operated : Kind → List ℕ → Option Kind
@@ -144,7 +165,8 @@ label_or other s = if labels s then Some Label else other s
 
 abbrev pub kind_by : First → List ℕ → Option Kind
 kind_by firsts.Quote s = given Text (closes 34 false) s
-kind_by firsts.Solidus s = slashed s
+kind_by firsts.Apostrophe s = given Character (closes 39 false) s
+kind_by (firsts.Solidus language) s = slashed language s
 kind_by (firsts.Ampersand inside) s = ampersand inside s
 kind_by firsts.Zero s = if hexed s then Some Literal else given Literal (numbers classes.Digit) s
 kind_by firsts.Digit s = given Literal (numbers classes.Digit) s

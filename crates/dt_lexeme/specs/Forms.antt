@@ -5,6 +5,7 @@ use Rattle.dt_tree.specs.Path.{is_path}
 use Rattle.dt_lexeme.specs.declared.lexeme.Lexeme.{Lexeme}
 use Rattle.dt_lexeme.specs.declared.lexeme.Kind.{Kind}
 use Rattle.dt_lexeme.specs.declared.lexeme.Kind.TheVariants.{Name, Label, Reference, PathReference}
+use Rattle.dt_lexeme.specs.declared.language.Language.{Language}
 use Rattle.dt_lexeme.specs.Label.{IsLabel}
 use Rattle.dt_lexeme.specs.Lexemes.{Lexemes}
 
@@ -24,4 +25,4 @@ AllLawful text (l ∷ ls) = FormAt l.kind text l.start l.end × AllLawful text l
 
 -- A text's lexemes have their kinds' forms.
 abbrev pub LexemesAreLawful : Type 0
-LexemesAreLawful = (text : List ℕ) (ls : List Lexeme) → Lexemes text ls → AllLawful text ls
+LexemesAreLawful = (language : Language) (text : List ℕ) (ls : List Lexeme) → Lexemes language text ls → AllLawful text ls

@@ -1,6 +1,7 @@
 -- Lexemes in the order of the text.
 use Rattle.std.specs.Prelude.{◌≡◌, ◌≤◌, ◌<◌, ℕ, List, [], ◌∷◌}
 use Rattle.dt_lexeme.specs.declared.lexeme.Lexeme.{Lexeme}
+use Rattle.dt_lexeme.specs.declared.language.Language.{Language}
 use Rattle.dt_lexeme.specs.Lexemes.{Lexemes}
 
 -- These lexemes stand one behind the other, at or behind this place.
@@ -10,8 +11,8 @@ Above p (l ∷ ls) = (p ≤ l.start) × (l.start < l.end) × Above l.end ls
 
 -- A text's lexemes stand one behind the other.
 abbrev pub LexemesAreInOrder : Type 0
-LexemesAreInOrder = (text : List ℕ) (ls : List Lexeme) → Lexemes text ls → Above 0 ls
+LexemesAreInOrder = (language : Language) (text : List ℕ) (ls : List Lexeme) → Lexemes language text ls → Above 0 ls
 
 -- A text has one list of lexemes at most.
 abbrev pub OneList : Type 0
-OneList = (text : List ℕ) (a b : List Lexeme) → Lexemes text a → Lexemes text b → a ≡ b
+OneList = (language : Language) (text : List ℕ) (a b : List Lexeme) → Lexemes language text a → Lexemes language text b → a ≡ b

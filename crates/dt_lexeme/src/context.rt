@@ -2,6 +2,7 @@
 ghost use Rattle.std.specs.Prelude.{◌≡◌, ◌<◌};
 ghost use Rattle.dt_lexeme.specs.Contexts.{step, start};
 
+use crate::language::Language;
 use crate::lexeme::Kind;
 
 /// At a statement's beginning, between `[` and `]`, or elsewhere.
@@ -12,20 +13,22 @@ pub enum Mode {
     Byte,
 }
 
-/// How many bodies and parentheses are open, and what may stand next.
+/// The text's language, how many bodies and parentheses are open, and what may stand next.
 #[derive(Clone, Copy)]
 pub struct Context {
+    pub language: Language,
     pub braces: usize,
     pub parens: usize,
     pub mode: Mode,
 }
 
 impl Context {
-    /// The context where a text begins.
-    pub(crate) fn start() -> Context
-        ensures { result ≡ start }
+    /// The context where a text in this language begins.
+    pub(crate) fn start(language: Language) -> Context
+        ensures { result ≡ start language }
     {
         Context {
+            language,
             braces: 0,
             parens: 0,
             mode: Mode::Value,
@@ -40,6 +43,7 @@ impl Context {
         ensures { result ≡ step self kind }
     {
         let Context {
+            language,
             braces,
             parens,
             mode: _,
@@ -47,37 +51,45 @@ impl Context {
         let statement = if braces == 0 { Mode::Value } else { Mode::Name };
         match kind {
             Kind::Brace => Context {
+                language,
                 braces: braces + 1,
                 parens,
                 mode: Mode::Name,
             },
             Kind::EndBrace => Context {
+                language,
                 braces: braces.saturating_sub(1),
                 parens,
                 mode: Mode::Value,
             },
-            Kind::Semicolon | Kind::DeleteNode | Kind::DeleteProperty => Context {
-                braces,
-                parens,
-                mode: statement,
-            },
+            Kind::Semicolon | Kind::DeleteNode | Kind::DeleteProperty | Kind::OmitIfNoRef =>
+                Context {
+                    language,
+                    braces,
+                    parens,
+                    mode: statement,
+                },
             Kind::Square => Context {
+                language,
                 braces,
                 parens,
                 mode: Mode::Byte,
             },
             Kind::Paren => Context {
+                language,
                 braces,
                 parens: parens + 1,
                 mode: Mode::Value,
             },
             Kind::EndParen => Context {
+                language,
                 braces,
                 parens: parens.saturating_sub(1),
                 mode: Mode::Value,
             },
             Kind::Label | Kind::Pair => self,
             _ => Context {
+                language,
                 braces,
                 parens,
                 mode: Mode::Value,

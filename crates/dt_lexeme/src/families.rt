@@ -1,6 +1,6 @@
 //! The longest lexeme, by the byte that it begins with.
 ghost use Rattle.std.specs.Prelude.{◌≡◌, ◌≤◌, option_map, Some};
-ghost use Rattle.dt_lexeme.specs.Families.{punctuation, operator, single, first_in, first_at, second_of, keyword, Longest, given, ampersand, kind_by, slashed, operated, alone, and_alone};
+ghost use Rattle.dt_lexeme.specs.Families.{punctuation, operator, single, first_in, is_dtc, first_at, second_of, keyword, dtc_keyword, keyword_in, Longest, given, ampersand, kind_by, slashed, operated, alone, and_alone};
 ghost use Rattle.dt_lexeme.specs.Fronts.{one_hex};
 
 use crate::bytes::{Class, begins, begins_letter, from, front, is_hex, is_letter, is_name};
@@ -8,6 +8,7 @@ use crate::context::{Context, Mode};
 use crate::fronts::{
     hex_len, label_len, name_len, number_len, path_len, quoted_len, word_end, words_len,
 };
+use crate::language::Language;
 use crate::lexeme::Kind;
 
 /// The lexemes that begin with a byte.
@@ -15,8 +16,10 @@ use crate::lexeme::Kind;
 pub enum First {
     /// a string
     Quote,
+    /// a character literal, in dtc's language
+    Apostrophe,
     /// a keyword or `/`
-    Solidus,
+    Solidus(Language),
     /// a reference; inside parentheses also `&` and `&&`
     Ampersand(bool),
     /// a literal with a leading 0
@@ -134,6 +137,15 @@ fn first_in(mode: Mode, inside: bool, c: u8) -> First
     }
 }
 
+fn is_dtc(language: Language) -> bool
+    ensures { result ≡ is_dtc language }
+{
+    match language {
+        Language::Profile => false,
+        Language::Dtc => true,
+    }
+}
+
 /// What may begin with this byte in this context.
 #[tactic(auto, unfolding(crate::specs::Families::first_at))]
 pub(crate) fn first_at(context: Context, c: u8) -> First
@@ -141,8 +153,10 @@ pub(crate) fn first_at(context: Context, c: u8) -> First
 {
     if c == b'"' {
         First::Quote
+    } else if is_dtc(context.language) && c == b'\'' {
+        First::Apostrophe
     } else if c == b'/' {
-        First::Solidus
+        First::Solidus(context.language)
     } else if c == b'&' {
         First::Ampersand(context.parens > 0)
     } else {
@@ -179,14 +193,38 @@ fn keyword(s: &[u8]) -> Option<Kind>
     }
 }
 
+fn dtc_keyword(s: &[u8]) -> Option<Kind>
+    ensures { result ≡ dtc_keyword s.now }
+{
+    if s == b"omit-if-no-ref/".as_slice() {
+        Some(Kind::OmitIfNoRef)
+    } else if s == b"incbin/".as_slice() {
+        Some(Kind::IncludeBinary)
+    } else {
+        None
+    }
+}
+
+fn keyword_in(language: Language, s: &[u8]) -> Option<Kind>
+    ensures { result ≡ keyword_in language s.now }
+{
+    match keyword(s) {
+        Some(kind) => Some(kind),
+        None => match language {
+            Language::Profile => None,
+            Language::Dtc => dtc_keyword(s),
+        },
+    }
+}
+
 // A keyword, or the slash alone.
-fn solidus(s: &[u8]) -> (Kind, usize)
-    ensures { Longest slashed s.now (Some result) }
+fn solidus(language: Language, s: &[u8]) -> (Kind, usize)
+    ensures { Longest (slashed language) s.now (Some result) }
 {
     let Some(n) = word_end(s) else {
         return (Kind::Slash, 0);
     };
-    match keyword(front(s, n)) {
+    match keyword_in(language, front(s, n)) {
         Some(kind) => (kind, n),
         None => (Kind::Slash, 0),
     }
@@ -276,7 +314,8 @@ pub(crate) fn family(first: First, s: &[u8]) -> Option<(Kind, usize)>
 {
     match first {
         First::Quote => with_kind(Kind::Text, quoted_len(b'"', false, s)),
-        First::Solidus => Some(solidus(s)),
+        First::Apostrophe => with_kind(Kind::Character, quoted_len(b'\'', false, s)),
+        First::Solidus(language) => Some(solidus(language, s)),
         First::Ampersand(inside) => ampersand(inside, s),
         First::Zero => Some((Kind::Literal, zero(s))),
         First::Digit => Some((Kind::Literal, number_len(Class::Digit, s))),

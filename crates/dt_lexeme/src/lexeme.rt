@@ -19,6 +19,10 @@ pub enum Kind {
     DeleteNode,
     /// `/delete-property/`
     DeleteProperty,
+    /// `/omit-if-no-ref/`, in dtc's language
+    OmitIfNoRef,
+    /// `/incbin/`, in dtc's language
+    IncludeBinary,
     /// `label:`, with its colon
     Label,
     /// a node's or property's name
@@ -27,6 +31,8 @@ pub enum Kind {
     Literal,
     /// `"text"`, with its quotes
     Text,
+    /// `'c'`, with its quotes, in dtc's language
+    Character,
     /// `&label`
     Reference,
     /// `&{/path}`

@@ -8,10 +8,12 @@ mod context;
 mod families;
 pub mod fronts;
 pub mod gaps;
+mod language;
 mod lexeme;
 mod line;
 mod scanner;
 
+pub use language::Language;
 pub use lexeme::{Fault, FaultKind, Kind, Lexeme, ReadError, Refusal, RefusalKind};
 pub use line::line_of;
 pub use scanner::{lexemes_are_in_order, lexemes_are_lawful, one_list, scan, scan_front};

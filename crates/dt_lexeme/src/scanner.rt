@@ -15,6 +15,7 @@ use crate::bytes::from;
 use crate::context::Context;
 use crate::families::{family, first_at};
 use crate::gaps::skip_gap;
+use crate::language::Language;
 use crate::lexeme::{Kind, Lexeme, ReadError, Refusal, RefusalKind};
 use std::alloc::{AllocError, Global};
 
@@ -31,16 +32,20 @@ fn next(context: Context, s: &[u8]) -> Option<(Kind, usize)>
     }
 }
 
-/// The lexemes of the text, or those up to the place where it breaks off, and that place.
-pub fn scan_front(alloc: Global, text: &[u8]) -> Result<(Vec<Lexeme>, Option<u32>), AllocError>
+/// The lexemes of the text in this language, or those up to the place where it breaks off, and that place.
+pub fn scan_front(
+    alloc: Global,
+    text: &[u8],
+    language: Language,
+) -> Result<(Vec<Lexeme>, Option<u32>), AllocError>
     requires { length text.now ≤ text_limit }
-    ensures { IfOk result (λ r. Scanned text.now r.0.items r.1) }
+    ensures { IfOk result (λ r. Scanned language text.now r.0.items r.1) }
 {
     let mut found = Vec::new(alloc);
-    let mut context = Context::start();
+    let mut context = Context::start(language);
     let mut left = text;
     'lexemes: loop {
-        let s = match skip_gap(left) {
+        let s = match skip_gap(context.language, left) {
             Ok(s) => s,
             Err(s) => return Ok((found, Some((text.len() - s.len()) as u32))),
         };
@@ -61,18 +66,18 @@ pub fn scan_front(alloc: Global, text: &[u8]) -> Result<(Vec<Lexeme>, Option<u32
     }
 }
 
-/// The lexemes of the text, or the place where it breaks off.
-pub fn scan(alloc: Global, text: &[u8]) -> Result<Vec<Lexeme>, ReadError>
+/// The lexemes of the text in this language, or the place where it breaks off.
+pub fn scan(alloc: Global, text: &[u8], language: Language) -> Result<Vec<Lexeme>, ReadError>
     requires { length text.now ≤ text_limit }
     // What is found are the text's lexemes.
-    ensures found { IfOk result (λ v. Lexemes text.now v.items) }
+    ensures found { IfOk result (λ v. Lexemes language text.now v.items) }
     // The text is refused only where it has none.
-    ensures only { (r : Refusal) → result ≡ Err (Refused r) → HasNone text.now }
+    ensures only { (r : Refusal) → result ≡ Err (Refused r) → HasNone language text.now }
     // Its place is where the text breaks off.
-    ensures place { (r : Refusal) → result ≡ Err (Refused r) → IsStop text.now r.place }
+    ensures place { (r : Refusal) → result ≡ Err (Refused r) → IsStop language text.now r.place }
     ensures syntax { (r : Refusal) → result ≡ Err (Refused r) → r.kind ≡ Syntax }
 {
-    match scan_front(alloc, text)? {
+    match scan_front(alloc, text, language)? {
         (lexemes, None) => Ok(lexemes),
         (_, Some(place)) => Err(ReadError::Refused(Refusal {
             kind: RefusalKind::Syntax,

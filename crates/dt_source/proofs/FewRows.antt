@@ -1,14 +1,17 @@
 -- A source has no more items, statements and labels than its text has bytes.
 use Rattle.std.proofs.Common.{ℕ, zero, suc, ◌+◌, ◌<◌, ◌≤◌, Bool, true, false, List, [], ◌∷◌, length, map, ap, subst, arith}
 use Rattle.std.proofs.lemmas.List.{length-map}
+use Rattle.dt_lexeme.specs.declared.language.Language.{Language}
 use Rattle.dt_lexeme.specs.declared.lexeme.Lexeme.{Lexeme}
-use Rattle.dt_lexeme.specs.declared.lexeme.Kind.TheVariants.{Name, Semicolon, Brace, EndBrace, DeleteNode, DeleteProperty, Slash}
+use Rattle.dt_lexeme.specs.declared.lexeme.Kind.TheVariants.{Name, Semicolon, Brace, EndBrace, DeleteNode, DeleteProperty, OmitIfNoRef, Slash}
 use Rattle.dt_lexeme.proofs.InOrder.{lexemes_few}
 use Rattle.dt_expression.proofs.Complete.{begins_shorter}
 use Rattle.dt_source.specs.Sequences.{SpellsEach}
+use Rattle.dt_source.specs.Marks.{is_label, labels_in}
 use Rattle.dt_source.specs.Words.{label_bytes}
+use Rattle.std.specs.Prelude.{if◌then◌else◌}
 use Rattle.dt_meaning.specs.Syntax.{body_of, Meaning}
-use Rattle.dt_source.specs.Source.{Statements, End, Sets, Unsets, Holds, Drops, ItemTree, Root, Extend, Delete, SourceTree, SpellsLabels, SpellsStatements, SpellsBody, SpellsItem, SpellsHeader, SpellsReserve, Spells, entries_of, item_said, said}
+use Rattle.dt_source.specs.Source.{Statements, End, Sets, Unsets, Holds, Drops, ItemTree, Root, Extend, Delete, Omit, SourceTree, SpellsLabels, SpellsMarks, SpellsStatements, SpellsBody, SpellsItem, SpellsHeader, SpellsReserve, Spells, entries_of, item_said, said}
 use Rattle.dt_source.specs.Parse.{Says}
 use Rattle.dt_source.specs.Counts.{body_count, edit_count, how_many}
 use Rattle.dt_source.proofs.SpelledLabels.{labels_shorter}
@@ -20,6 +23,15 @@ unfolding SpellsEach
 labels_few [] ts rest s = omega (arith, ap length s)
 labels_few (l ∷ ls) ts rest (a, s, more) = omega (arith, ap length s.1, labels_few ls a rest more)
 
+marks_few : (ms ts rest : List Lexeme) → SpellsMarks ms ts rest → length (labels_in ms) + length rest ≤ length ts
+unfolding SpellsEach
+marks_few [] ts rest s = omega (arith, ap length s)
+marks_few (m ∷ ms) ts rest (a, s, more) = go (is_label m.kind) (marks_few ms a rest more)
+  where
+    go : (b : Bool) → length (labels_in ms) + length rest ≤ length a → length (if b then m ∷ labels_in ms else labels_in ms) + length rest ≤ length ts
+    go true h = omega (arith, ap length s.1)
+    go false h = omega (arith, ap length s.1)
+
 statements_few : (text : List ℕ) (s : Statements) (depth : ℕ) (nodes : Bool) (ts rest : List Lexeme) → SpellsStatements depth nodes s ts rest → body_count (body_of (entries_of text s)) + length rest < length ts
 unfolding SpellsStatements entries_of
 statements_few text End depth nodes ts rest h = omega (arith, begins_shorter ts EndBrace rest h)
@@ -29,7 +41,7 @@ statements_few text (Unsets n more) depth nodes ts rest h =
     omega (arith, begins_shorter ts DeleteProperty h.1 h.4, one_shorter Name n h.1 h.2 h.5, begins_shorter h.2 Semicolon h.3 h.6, statements_few text more depth false h.3 rest h.7)
 statements_few text (Holds ls n body more) zero nodes ts rest h = absurd h.8
 statements_few text (Holds ls n body more) (suc depth) nodes ts rest h =
-    omega (arith, length-map ls (label_bytes text), labels_few ls ts h.0 h.5, one_shorter Name n h.0 h.1 h.6, begins_shorter h.1 Brace h.2 h.7, statements_few text body depth false h.2 h.3 h.8, begins_shorter h.3 Semicolon h.4 h.9, statements_few text more (suc depth) true h.4 rest h.10)
+    omega (arith, length-map (labels_in ls) (label_bytes text), marks_few ls ts h.0 h.5, one_shorter Name n h.0 h.1 h.6, begins_shorter h.1 Brace h.2 h.7, statements_few text body depth false h.2 h.3 h.8, begins_shorter h.3 Semicolon h.4 h.9, statements_few text more (suc depth) true h.4 rest h.10)
 statements_few text (Drops n more) depth nodes ts rest h =
     omega (arith, begins_shorter ts DeleteNode h.0 h.3, one_shorter Name n h.0 h.1 h.4, begins_shorter h.1 Semicolon h.2 h.5, statements_few text more depth true h.2 rest h.6)
 
@@ -40,6 +52,7 @@ item_few : (text : List ℕ) (i : ItemTree) (ts rest : List Lexeme) → SpellsIt
 item_few text (Root s) ts rest h = omega (arith, begins_shorter ts Slash h.0 h.1, body_few text s h.0 rest h.2)
 item_few text (Extend ls l s) ts rest h = omega (arith, length-map ls (label_bytes text), labels_few ls ts h.0 h.2, ap length h.3.1, body_few text s h.1 rest h.4)
 item_few text (Delete l) ts rest h = omega (arith, begins_shorter ts DeleteNode h.0 h.2, ap length h.3.1, begins_shorter h.1 Semicolon rest h.4)
+item_few text (Omit l) ts rest h = omega (arith, begins_shorter ts OmitIfNoRef h.0 h.2, ap length h.3.1, begins_shorter h.1 Semicolon rest h.4)
 
 items_few : (text : List ℕ) (is : List ItemTree) (ts rest : List Lexeme) → SpellsEach SpellsItem is ts rest → how_many (map (item_said text) is) + length rest ≤ length ts
 unfolding SpellsEach
@@ -56,8 +69,8 @@ unfolding Spells said
 source_few text s ts (some_header, some_item, a, b, headers, reserves, items) =
     omega (arith, each_shorter SpellsHeader header_shorter s.headers ts a headers, each_shorter SpellsReserve reserve_shorter s.reserves a b reserves, items_few text s.items b [] items)
 
-pub says_few : (text : List ℕ) (m : Meaning) → Says text m → how_many m.items ≤ length text
-says_few text m (s, (ls, lexemes, spells), faults, e) =
-    let within = lexemes_few text ls lexemes in
+pub says_few : (language : Language) (text : List ℕ) (m : Meaning) → Says language text m → how_many m.items ≤ length text
+says_few language text m (s, (ls, lexemes, spells), faults, e) =
+    let within = lexemes_few language text ls lexemes in
     let few : how_many (said text s).items ≤ length text = omega (arith, source_few text s ls spells) in
     subst (λ (n : Meaning). how_many n.items ≤ length text) e few

@@ -4,10 +4,11 @@ use Rattle.std.specs.Prelude.{◌==◌}
 use Rattle.dt_lexeme.specs.declared.lexeme.Lexeme.{Lexeme}
 use Rattle.dt_lexeme.specs.declared.lexeme.Fault.{Fault}
 use Rattle.dt_lexeme.specs.declared.lexeme.Kind.{Kind}
-use Rattle.dt_lexeme.specs.declared.lexeme.Kind.TheVariants.{Slash, Percent}
+use Rattle.dt_lexeme.specs.declared.lexeme.Kind.TheVariants.{Character, Slash, Percent}
 use Rattle.dt_lexeme.specs.declared.lexeme.FaultKind.TheVariants.{DivideByZero}
+use Rattle.dt_expression.specs.Character.{character_of}
 use Rattle.dt_expression.specs.Expression.{Expression, Number, Grouped, Prefixed, Infix, Choice, Begins, Takes, Spells}
-use Rattle.dt_expression.specs.Values.{Value, value_of, literal_of, or_out_of_range, below_64, literal_number, bytes_of, divided, operation, both, prefixed, choice}
+use Rattle.dt_expression.specs.Values.{Value, value_of, literal_of, character_at, constant_by, constant_of, inside_of, or_out_of_range, below_64, literal_number, bytes_of, divided, operation, both, prefixed, choice}
 use Rattle.dt_source.specs.Pieces.{fault_in}
 use Rattle.dt_source.specs.Source.{fault_list}
 use Rattle.dt_lexeme.specs.Order.{Above}
@@ -87,9 +88,8 @@ pub record ValueReach (p : ℕ) (rest : List Lexeme) (v : Value) : Type 0 where
   pub inside : (f : Fault) → v ≡ Err f → (p ≤ f.place) × (f.place < to)
   pub above : Above to rest
 
-pub literal_place : (text : List ℕ) (l : Lexeme) (f : Fault) → literal_of text l ≡ Err f → f.place ≡ l.start
-unfolding literal_of
-literal_place text l f e = go (below_64 (literal_number (bytes_of text l))) e
+number_place : (l : Lexeme) (o : Option ℕ) (f : Fault) → or_out_of_range l o ≡ Err f → f.place ≡ l.start
+number_place l o f e = go o e
   where
     go : (o : Option ℕ) → or_out_of_range l o ≡ Err f → f.place ≡ l.start
     go None e = sym (ap (λ (r : Value). place_of r) e)
@@ -98,6 +98,21 @@ literal_place text l f e = go (below_64 (literal_number (bytes_of text l))) e
         place_of (Err g) = g.place
         place_of (Ok n) = 0
     go (Some n) e = absurd cc
+
+pub literal_place : (text : List ℕ) (l : Lexeme) (f : Fault) → literal_of text l ≡ Err f → f.place ≡ l.start
+unfolding literal_of
+literal_place text l f e = number_place l (below_64 (literal_number (bytes_of text l))) f e
+
+character_place : (text : List ℕ) (l : Lexeme) (f : Fault) → character_at text l ≡ Err f → f.place ≡ l.start
+unfolding character_at
+character_place text l f e = number_place l (character_of (inside_of text l)) f e
+
+constant_place : (text : List ℕ) (l : Lexeme) (f : Fault) → constant_of text l ≡ Err f → f.place ≡ l.start
+constant_place text l f e = go l.kind e
+  where
+    go : (k : Kind) → constant_by text l k ≡ Err f → f.place ≡ l.start
+    go Character e = character_place text l f e
+    go _ e = literal_place text l f e
 
 divided_place : (t : Lexeme) (y q : ℕ) (f : Fault) → divided t y q ≡ Err f → f.place ≡ t.start
 divided_place t y q f e = go (y == 0) e
@@ -130,7 +145,7 @@ pub value_reach : (text : List ℕ) (depth level : ℕ) (e : Expression) (ts res
 unfolding Spells value_of
 value_reach text depth level (Number l) ts rest p (k, take) h =
     let t = takes_above p ts l rest take h in
-    record { to = l.end; far = omega (arith, t.0, t.1); inside = λ f e. (omega (arith, t.0, literal_place text l f e), omega (arith, t.1, literal_place text l f e)); above = t.2 }
+    record { to = l.end; far = omega (arith, t.0, t.1); inside = λ f e. (omega (arith, t.0, constant_place text l f e), omega (arith, t.1, constant_place text l f e)); above = t.2 }
 value_reach text zero level (Grouped e) ts rest p s h = absurd s
 value_reach text (suc depth) level (Grouped e) ts rest p (a, b, open_, s, close) h =
     let r = value_reach text depth 11 e a b p s (begins_above p ts _ a open_ h) in

@@ -1,15 +1,16 @@
 -- What a source says names nodes and properties lawfully.
 use Rattle.std.proofs.Common.{ℕ, zero, suc, Bool, true, false, List, [], subst}
 use Rattle.std.proofs.lemmas.List.Elements.{All-map, All-from_recursion}
+use Rattle.dt_lexeme.specs.declared.language.Language.{Language}
 use Rattle.dt_lexeme.specs.declared.lexeme.Lexeme.{Lexeme}
 use Rattle.dt_lexeme.specs.declared.lexeme.Kind.TheVariants.{Name}
 use Rattle.dt_meaning.specs.Syntax.{body_of, Meaning}
-use Rattle.dt_source.specs.Source.{Statements, End, Sets, Unsets, Holds, Drops, ReserveTree, ItemTree, Root, Extend, Delete, SourceTree, SpellsStatements, SpellsBody, SpellsItem, SpellsReserve, SpellsHeader, Spells, entries_of, item_said, said}
+use Rattle.dt_source.specs.Source.{Statements, End, Sets, Unsets, Holds, Drops, ReserveTree, ItemTree, Root, Extend, Delete, Omit, SourceTree, SpellsStatements, SpellsBody, SpellsItem, SpellsReserve, SpellsHeader, Spells, entries_of, item_said, said}
 use Rattle.dt_source.specs.Parse.{Says}
 use Rattle.dt_source.specs.Lawful.{IsLawfulBody, IsLawfulEdit, IsLawful}
 use Rattle.dt_lexeme.specs.Forms.{AllLawful}
 use Rattle.dt_lexeme.proofs.LexemeForms.{lexemes_lawful}
-use Rattle.dt_source.proofs.LawfulValues.{one_lawful, begins_lawful, reference_lawful, each_lawful, labels_lawful, drops_lawful, expression_lawful, value_lawful, value_joined}
+use Rattle.dt_source.proofs.LawfulValues.{one_lawful, begins_lawful, reference_lawful, each_lawful, labels_lawful, marks_lawful, drops_lawful, expression_lawful, value_lawful, value_joined}
 
 -- ---- bodies
 
@@ -27,7 +28,7 @@ statements_lawful text depth nodes (Unsets n more) ts rest (k, a, b, c, keyword,
     ((x.0, z.0), z.1)
 statements_lawful text zero nodes (Holds ls n body more) ts rest (a, b, c, d, e, labels, name, brace, inner, semicolon, others) h = absurd inner
 statements_lawful text (suc depth) nodes (Holds ls n body more) ts rest (a, b, c, d, e, labels, name, brace, inner, semicolon, others) h =
-    let l = labels_lawful text ls ts a labels h in
+    let l = marks_lawful text ls ts a labels h in
     let x = one_lawful text Name n a b name l.1 in
     let y = statements_lawful text depth false body c d inner (begins_lawful text b _ c brace x.1) in
     let z = statements_lawful text (suc depth) true more e rest others (begins_lawful text d _ e semicolon y.1) in
@@ -54,6 +55,9 @@ item_lawful text (Extend ls l s) ts rest (a, b, labels, reference, body) h =
 item_lawful text (Delete l) ts rest (a, b, keyword, reference, semicolon) h =
     let x = reference_lawful text l a b reference (begins_lawful text ts _ a keyword h) in
     (x.0, begins_lawful text b _ rest semicolon x.1)
+item_lawful text (Omit l) ts rest (a, b, keyword, reference, semicolon) h =
+    let x = reference_lawful text l a b reference (begins_lawful text ts _ a keyword h) in
+    (x.0, begins_lawful text b _ rest semicolon x.1)
 
 reserve_lawful : (text : List ℕ) (i : ReserveTree) (ts rest : List Lexeme) → SpellsReserve i ts rest → AllLawful text ts → AllLawful text rest
 reserve_lawful text i ts rest (a, b, c, d, labels, keyword, address, size, semicolon) h =
@@ -74,5 +78,5 @@ source_lawful text s ts (some_header, some_item, a, b, headers, reserves, items)
     let z = each_lawful text SpellsItem P (item_lawful text) s.items b [] items y.1 in
     record { items = All-map IsLawfulEdit (item_said text) s.items (All-from_recursion P s.items z.0) }
 
-pub says_lawful : (text : List ℕ) (m : Meaning) → Says text m → IsLawful m
-says_lawful text m (s, (ls, lexemes, spells), faults, e) = subst IsLawful e (source_lawful text s ls spells (lexemes_lawful text ls lexemes))
+pub says_lawful : (language : Language) (text : List ℕ) (m : Meaning) → Says language text m → IsLawful m
+says_lawful language text m (s, (ls, lexemes, spells), faults, e) = subst IsLawful e (source_lawful text s ls spells (lexemes_lawful language text ls lexemes))

@@ -1,6 +1,6 @@
 -- Values name nodes by labels and paths.
 use Rattle.std.proofs.Common.{◌≡◌, refl, Bool, true, false, not, ◌&&◌, ℕ, zero, suc, List, [], ◌∷◌, ◌++◌, map, Option, Some, None, Ok, Err, sym, subst, inl, inr}
-use Rattle.std.specs.Prelude.{flat_map, All}
+use Rattle.std.specs.Prelude.{flat_map, All, if◌then◌else◌}
 use Rattle.std.specs.List.{AllByRecursion}
 use Rattle.std.proofs.lemmas.List.Elements.{All-map, All-from_recursion}
 use Rattle.dt_lexeme.specs.declared.lexeme.Lexeme.{Lexeme}
@@ -14,8 +14,9 @@ use Rattle.dt_expression.specs.Element.{element}
 use Rattle.dt_source.specs.Sequences.{SpellsEach}
 use Rattle.dt_meaning.specs.Syntax.{Piece, Plain, PhandleOf, PathOf}
 use Rattle.dt_source.specs.Pieces.{target_by, target_of, width_in, element_pieces, cell_pieces, joined, join_bytes}
+use Rattle.dt_source.specs.Marks.{is_label, is_mark, labels_in}
 use Rattle.dt_source.specs.Words.{label_bytes}
-use Rattle.dt_source.specs.Source.{CellTree, Element, Refers, Marks, PieceTree, Quoted, Points, Pairs, Cells, WideCells, One, IsReference, OneReference, OnePair, SpellsLabels, DropsLabels, SpellsCell, SpellsCells, SpellsPiece, SpellsPlaced, SpellsFurther, SpellsValue, cell_of, cells_said, piece_said, value_said, width_said}
+use Rattle.dt_source.specs.Source.{CellTree, Element, Refers, Marks, PieceTree, Quoted, Points, Pairs, Cells, WideCells, One, IsReference, OneReference, OnePair, SpellsLabels, SpellsMarks, DropsLabels, SpellsCell, SpellsCells, SpellsPiece, SpellsPlaced, SpellsFurther, SpellsValue, cell_of, cells_said, piece_said, value_said, width_said}
 use Rattle.dt_lexeme.specs.Label.{IsLabel}
 use Rattle.dt_source.specs.Lawful.{IsLawfulTarget, IsLawfulPiece, has_bytes, begins_plain, are_joined}
 use Rattle.dt_lexeme.specs.Forms.{FormAt, AllLawful}
@@ -62,6 +63,28 @@ labels_lawful text ls ts rest s h =
     let P : Lexeme → Type 0 = λ l. IsLabel (label_bytes text l) in
     let r = each_lawful text (One Label) P (λ l ts rest s h. one_lawful text Label l ts rest s h) ls ts rest s h in
     (All-map IsLabel (label_bytes text) ls (All-from_recursion P ls r.0), r.1)
+
+-- the labels among marks
+marks_each : (text : List ℕ) (ms : List Lexeme) (ts rest : List Lexeme) → SpellsMarks ms ts rest → AllLawful text ts → AllByRecursion (λ l. IsLabel (label_bytes text l)) (labels_in ms) × AllLawful text rest
+unfolding SpellsEach
+marks_each text [] ts rest s h = (tt, subst (AllLawful text) s h)
+marks_each text (m ∷ ms) ts rest (a, s, more) h =
+    let t = takes_lawful text ts m a s.1 h in
+    let r = marks_each text ms a rest more t.1 in
+    (go m.kind t.0 r.0, r.1)
+  where
+    P : Lexeme → Type 0
+    P = λ l. IsLabel (label_bytes text l)
+
+    go : (k : Kind) → FormAt k text m.start m.end → AllByRecursion P (labels_in ms) → AllByRecursion P (if is_label k then m ∷ labels_in ms else labels_in ms)
+    go Label f r = (f, r)
+    go _ f r = r
+
+pub marks_lawful : (text : List ℕ) (ms : List Lexeme) (ts rest : List Lexeme) → SpellsMarks ms ts rest → AllLawful text ts → All IsLabel (map (label_bytes text) (labels_in ms)) × AllLawful text rest
+marks_lawful text ms ts rest s h =
+    let P : Lexeme → Type 0 = λ l. IsLabel (label_bytes text l) in
+    let r = marks_each text ms ts rest s h in
+    (All-map IsLabel (label_bytes text) (labels_in ms) (All-from_recursion P (labels_in ms) r.0), r.1)
 
 pub drops_lawful : (text : List ℕ) (ts rest : List Lexeme) → DropsLabels ts rest → AllLawful text ts → AllLawful text rest
 drops_lawful text ts rest s h = (labels_lawful text s.0 ts rest s.1 h).1

@@ -3,6 +3,7 @@ pub mod Semicolons
 pub mod CellLoops
 pub mod Chars
 pub mod PieceLoops
+pub mod MarkLoops
 pub mod StatementLoops
 pub mod SourceLoops
 pub mod Parsing

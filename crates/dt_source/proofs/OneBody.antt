@@ -4,26 +4,27 @@ use Rattle.dt_lexeme.specs.declared.lexeme.Lexeme.{Lexeme}
 use Rattle.dt_lexeme.specs.declared.lexeme.Kind.{Kind}
 use Rattle.dt_lexeme.specs.declared.lexeme.Kind.TheVariants.{Name, Semicolon, Brace, EndBrace, DeleteNode, DeleteProperty}
 use Rattle.dt_expression.specs.Expression.{Begins, Deeper}
-use Rattle.dt_source.specs.Source.{Statements, End, Sets, Unsets, Holds, Drops, PieceTree, One, SpellsLabels, SpellsValue, SpellsStatements, SpellsBody}
-use Rattle.dt_source.proofs.OneEach.{Same, one_takes, one_begins, one_after, one_labels, sorted, sort_behind, begins_sort, takes_sort, no_label, behind_labels, behind_none}
+use Rattle.dt_source.specs.Source.{Statements, End, Sets, Unsets, Holds, Drops, PieceTree, One, SpellsMarks, SpellsValue, SpellsStatements, SpellsBody}
+use Rattle.dt_source.proofs.OneEach.{Same, one_takes, one_begins, one_after, one_marks, sorted, sort_marked, begins_sort, takes_sort, no_mark, behind_marks, behind_no_mark}
+use Rattle.dt_source.proofs.SpelledLabels.{labels_are_marks}
 use Rattle.dt_source.proofs.OneValue.{Ended, no_brace, one_value}
 
--- ---- labels and a name
+-- ---- marks and a name
 
--- Labels and a name stand first.
+-- Marks and a name stand first.
 abbrev HasName : List Lexeme → Lexeme → List Lexeme → List Lexeme → List Lexeme → Type 0
-HasName ls n ts at rest = SpellsLabels ls ts at × One Name n at rest
+HasName ms n ts at rest = SpellsMarks ms ts at × One Name n at rest
 
 record SameNamed (ls ms : List Lexeme) (n m : Lexeme) (r q : List Lexeme) : Type 0 where
-  labels : ls ≡ ms
+  marks : ls ≡ ms
   name : n ≡ m
   rest : r ≡ q
 
 one_named : (ls ms : List Lexeme) (n m : Lexeme) (ts a r b q : List Lexeme) → HasName ls n ts a r → HasName ms m ts b q → SameNamed ls ms n m r q
 one_named ls ms n m ts a r b q h k =
-    let labels = one_labels ls ms ts a b h.0 k.0 (no_label Name a (takes_sort Name n a r h.1.0 h.1.1) refl) (no_label Name b (takes_sort Name m b q k.1.0 k.1.1) refl) in
-    let name = one_takes n m a r q h.1.1 (labels.1 ∙ k.1.1) in
-    record { labels = labels.0; name = name.0; rest = name.1 }
+    let marks = one_marks ls ms ts a b h.0 k.0 (no_mark Name a (takes_sort Name n a r h.1.0 h.1.1) refl) (no_mark Name b (takes_sort Name m b q k.1.0 k.1.1) refl) in
+    let name = one_takes n m a r q h.1.1 (marks.1 ∙ k.1.1) in
+    record { marks = marks.0; name = name.0; rest = name.1 }
 
 -- A lexeme of this kind, a name and a semicolon.
 abbrev Deletes : Kind → Lexeme → List Lexeme → List Lexeme → List Lexeme → List Lexeme → Type 0
@@ -44,13 +45,13 @@ statement_kind (Unsets n more) = DeleteProperty
 statement_kind (Holds ls n body more) = Name
 statement_kind (Drops n more) = DeleteNode
 
-statement_sort : (s : Statements) (depth : ℕ) (nodes : Bool) (ts rest : List Lexeme) → SpellsStatements depth nodes s ts rest → sort_behind ts ≡ sorted (statement_kind s)
+statement_sort : (s : Statements) (depth : ℕ) (nodes : Bool) (ts rest : List Lexeme) → SpellsStatements depth nodes s ts rest → sort_marked ts ≡ sorted (statement_kind s)
 unfolding SpellsStatements
-statement_sort End depth nodes ts rest h = behind_none EndBrace ts (begins_sort EndBrace ts rest h) refl
-statement_sort (Sets ls n v more) depth nodes ts rest h = behind_labels Name ls ts h.1 h.5 (takes_sort Name n h.1 h.2 h.6.0 h.6.1) refl
-statement_sort (Unsets n more) depth nodes ts rest h = behind_none DeleteProperty ts (begins_sort DeleteProperty ts h.1 h.4) refl
-statement_sort (Holds ls n body more) depth nodes ts rest h = behind_labels Name ls ts h.0 h.5 (takes_sort Name n h.0 h.1 h.6.0 h.6.1) refl
-statement_sort (Drops n more) depth nodes ts rest h = behind_none DeleteNode ts (begins_sort DeleteNode ts h.0 h.3) refl
+statement_sort End depth nodes ts rest h = behind_no_mark EndBrace ts (begins_sort EndBrace ts rest h) refl
+statement_sort (Sets ls n v more) depth nodes ts rest h = behind_marks Name ls ts h.1 (labels_are_marks ls ts h.1 h.5) (takes_sort Name n h.1 h.2 h.6.0 h.6.1) refl
+statement_sort (Unsets n more) depth nodes ts rest h = behind_no_mark DeleteProperty ts (begins_sort DeleteProperty ts h.1 h.4) refl
+statement_sort (Holds ls n body more) depth nodes ts rest h = behind_marks Name ls ts h.0 h.5 (takes_sort Name n h.0 h.1 h.6.0 h.6.1) refl
+statement_sort (Drops n more) depth nodes ts rest h = behind_no_mark DeleteNode ts (begins_sort DeleteNode ts h.0 h.3) refl
 
 -- A property is no node.
 sets_holds : (ls ms : List Lexeme) (n m : Lexeme) (v : List PieceTree) (ts a r b q at rest end : List Lexeme) → HasName ls n ts a r → Ended v r at rest → HasName ms m ts b q → Begins q Brace end → ⊥
@@ -68,10 +69,10 @@ one_statements : (s t : Statements) (depth : ℕ) (nodes : Bool) (ts r q : List 
 unfolding SpellsStatements
 one_statements End End depth nodes ts r q h k = (refl, (one_begins EndBrace EndBrace ts r q h k).1)
 one_statements (Sets ls n v more) (Sets ms m w others) depth nodes ts r q h k =
-    let named = one_named ls ms n m ts h.1 h.2 k.1 k.2 (h.5, h.6) (k.5, k.6) in
+    let named = one_named ls ms n m ts h.1 h.2 k.1 k.2 (labels_are_marks ls ts h.1 h.5, h.6) (labels_are_marks ms ts k.1 k.5, k.6) in
     let value = one_value v w h.2 h.3 h.4 k.3 k.4 (record { value = h.7; ends = h.8 }) (record { value = subst (λ (x : List Lexeme). SpellsValue w x k.3) (sym named.rest) k.7; ends = k.8 }) in
     let next = one_statements more others depth false h.4 r q h.9 (subst (λ (x : List Lexeme). SpellsStatements depth false others x q) (sym value.1) k.9) in
-    (cc (named.labels, named.name, value.0, next.0), next.1)
+    (cc (named.marks, named.name, value.0, next.0), next.1)
 one_statements (Unsets n more) (Unsets m others) depth nodes ts r q h k =
     let name = one_deleted DeleteProperty n m ts h.1 h.2 h.3 k.1 k.2 k.3 (h.4, h.5, h.6) (k.4, k.5, k.6) in
     let next = one_statements more others depth false h.3 r q h.7 (subst (λ (x : List Lexeme). SpellsStatements depth false others x q) (sym name.1) k.7) in
@@ -85,15 +86,15 @@ one_statements (Holds ls n body more) (Holds ms m other others) depth nodes ts r
     (subst (λ (x : List Lexeme). Deeper depth (λ inner. SpellsStatements inner false other x k.3)) (sym brace) k.8) in
     let end = one_after Semicolon h.3 k.3 h.4 k.4 held.1 h.9 k.9 in
     let next = one_statements more others depth true h.4 r q h.10 (subst (λ (x : List Lexeme). SpellsStatements depth true others x q) (sym end) k.10) in
-    (cc (named.labels, named.name, held.0, next.0), next.1)
+    (cc (named.marks, named.name, held.0, next.0), next.1)
 one_statements (Drops n more) (Drops m others) depth nodes ts r q h k =
     let name = one_deleted DeleteNode n m ts h.0 h.1 h.2 k.0 k.1 k.2 (h.3, h.4, h.5) (k.3, k.4, k.5) in
     let next = one_statements more others depth true h.2 r q h.6 (subst (λ (x : List Lexeme). SpellsStatements depth true others x q) (sym name.1) k.6) in
     (cc (name.0, next.0), next.1)
 one_statements (Sets ls n v more) (Holds ms m other others) depth nodes ts r q h k =
-    absurd (sets_holds ls ms n m v ts h.1 h.2 k.0 k.1 h.3 h.4 k.2 (h.5, h.6) (record { value = h.7; ends = h.8 }) (k.5, k.6) k.7)
+    absurd (sets_holds ls ms n m v ts h.1 h.2 k.0 k.1 h.3 h.4 k.2 (labels_are_marks ls ts h.1 h.5, h.6) (record { value = h.7; ends = h.8 }) (k.5, k.6) k.7)
 one_statements (Holds ls n body more) (Sets ms m w others) depth nodes ts r q h k =
-    absurd (sets_holds ms ls m n w ts k.1 k.2 h.0 h.1 k.3 k.4 h.2 (k.5, k.6) (record { value = k.7; ends = k.8 }) (h.5, h.6) h.7)
+    absurd (sets_holds ms ls m n w ts k.1 k.2 h.0 h.1 k.3 k.4 h.2 (labels_are_marks ms ts k.1 k.5, k.6) (record { value = k.7; ends = k.8 }) (h.5, h.6) h.7)
 one_statements s t depth nodes ts r q h k = let e : sorted (statement_kind s) ≡ sorted (statement_kind t) = sym (statement_sort s depth nodes ts r h) ∙ statement_sort t depth nodes ts q k in absurd cc
 
 pub one_body : (s t : Statements) (ts r q : List Lexeme) → SpellsBody s ts r → SpellsBody t ts q → Same s t r q

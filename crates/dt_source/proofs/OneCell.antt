@@ -1,18 +1,23 @@
 -- Lexemes spell cells and byte strings in one way alone.
-use Rattle.std.proofs.Common.{◌≡◌, List, sym, ap, ◌∙◌, ◌⊎◌, inl, inr}
+use Rattle.std.proofs.Common.{◌≡◌, true, refl, List, sym, ap, ◌∙◌, ◌⊎◌, inl, inr}
 use Rattle.dt_lexeme.specs.declared.lexeme.Lexeme.{Lexeme}
 use Rattle.dt_lexeme.specs.declared.lexeme.Kind.{Kind}
-use Rattle.dt_lexeme.specs.declared.lexeme.Kind.TheVariants.{Label, Literal, Reference, Pair, Less, Greater, Square, EndSquare, Paren}
-use Rattle.dt_expression.specs.Expression.{Expression, Number, Grouped, Prefixed, Infix, Choice, Begins, Spells, SpellsPrimary}
+use Rattle.dt_lexeme.specs.declared.lexeme.Kind.TheVariants.{Label, Literal, Character, Reference, Pair, Less, Greater, Square, EndSquare, Paren}
+use Rattle.dt_expression.specs.Expression.{Expression, Number, Grouped, Prefixed, Infix, Choice, is_number, Begins, Spells, SpellsPrimary}
 use Rattle.dt_source.specs.Source.{CellTree, Element, Refers, Marks, IsPair, OnePair, SpellsCell, SpellsCells}
 use Rattle.dt_expression.proofs.Trees.{spells_one}
-use Rattle.dt_source.proofs.OneEach.{Same, one_takes, one_between, Between, sorted, sort_at, begins_sort, takes_sort, reference_sort}
+use Rattle.dt_source.proofs.OneEach.{Same, one_takes, one_between, Between, sort, sorted, sort_at, begins_sort, takes_sort, reference_sort}
 
 -- ---- cells
 
+number_sort : (k : Kind) → is_number k ≡ true → sort k ≡ Literal
+number_sort Literal h = refl
+number_sort Character h = refl
+number_sort _ h = absurd cc
+
 primary_sort : (e : Expression) (ts rest : List Lexeme) → SpellsPrimary e ts rest → sort_at ts ≡ sorted Literal
 unfolding Spells
-primary_sort (Number l) ts rest h = takes_sort Literal l ts rest h.1.0 h.1.1
+primary_sort (Number l) ts rest h = ap sort_at h.1.1 ∙ ap sorted (number_sort l.kind h.1.0)
 primary_sort (Grouped e) ts rest h = begins_sort Paren ts h.1.0 h.1.2
 primary_sort (Prefixed o e) ts rest h = absurd h.0
 primary_sort (Infix o e f) ts rest h = absurd h.0

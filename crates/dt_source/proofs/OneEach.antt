@@ -2,13 +2,14 @@
 use Rattle.std.proofs.Common.{◌≡◌, List, [], ◌∷◌, Option, Some, None, false, refl, sym, ap, subst, ◌∙◌, inl, inr}
 use Rattle.dt_lexeme.specs.declared.lexeme.Lexeme.{Lexeme}
 use Rattle.dt_lexeme.specs.declared.lexeme.Kind.{Kind}
-use Rattle.dt_lexeme.specs.declared.lexeme.Kind.TheVariants.{Literal, Paren, Reference, PathReference}
+use Rattle.dt_lexeme.specs.declared.lexeme.Kind.TheVariants.{Literal, Character, Paren, Reference, PathReference}
 use Rattle.dt_expression.specs.Expression.{Begins, Takes}
 use Rattle.dt_source.specs.Sequences.{SpellsEach}
-use Rattle.dt_source.specs.Reading.Bodies.{is_label, labels_at}
-use Rattle.dt_source.specs.Source.{IsReference, OneReference, SpellsLabels}
+use Rattle.dt_source.specs.Reading.Bodies.{labels_at, marks_at}
+use Rattle.dt_source.specs.Marks.{is_label, is_mark}
+use Rattle.dt_source.specs.Source.{IsReference, OneReference, SpellsLabels, SpellsMarks}
 use Rattle.dt_source.proofs.Several.{each_can}
-use Rattle.dt_source.proofs.SpelledLabels.{NoLabel, none_at, labels_again}
+use Rattle.dt_source.proofs.SpelledLabels.{NoLabel, none_at, labels_again, NoMark, no_mark_at, marks_again}
 
 -- The same thing was spelled, and the same follows it.
 abbrev pub Same : {A : Type 0} → A → A → List Lexeme → List Lexeme → Type 0
@@ -30,6 +31,7 @@ one_after k ts us r q e h l = (one_begins k k ts r q h (subst (λ (x : List Lexe
 -- one kind for those of which either may begin the same thing
 abbrev pub sort : Kind → Kind
 sort Paren = Literal
+sort Character = Literal
 sort PathReference = Reference
 sort k = k
 
@@ -56,6 +58,7 @@ reference_sort l ts rest h = go h.0
 
 label_sort : (k : Kind) → is_label (sort k) ≡ is_label k
 label_sort Paren = refl
+label_sort Character = refl
 label_sort PathReference = refl
 label_sort k = refl
 
@@ -79,6 +82,33 @@ behind_labels k ls ts at h e n = ap (λ (x : List Lexeme × List Lexeme). sort_a
 
 pub behind_none : (k : Kind) (ts : List Lexeme) → sort_at ts ≡ sorted k → is_label k ≡ false → sort_behind ts ≡ sorted k
 behind_none k ts e n = ap (λ (x : List Lexeme × List Lexeme). sort_at x.1) (none_at ts (no_label k ts e n)) ∙ e
+
+-- ---- marks
+
+mark_sort : (k : Kind) → is_mark (sort k) ≡ is_mark k
+mark_sort Paren = refl
+mark_sort Character = refl
+mark_sort PathReference = refl
+mark_sort k = refl
+
+pub no_mark : (k : Kind) (ts : List Lexeme) → sort_at ts ≡ sorted k → is_mark k ≡ false → NoMark ts
+no_mark k [] h e = tt
+no_mark k (t ∷ ts) h e = let same : sort t.kind ≡ k = cc in sym (mark_sort t.kind) ∙ ap is_mark same ∙ e
+
+pub one_marks : (ls ms ts r q : List Lexeme) → SpellsMarks ls ts r → SpellsMarks ms ts q → NoMark r → NoMark q → Same ls ms r q
+one_marks ls ms ts r q h k n o =
+    let e : ◌≡◌ {A = List Lexeme × List Lexeme} (ls, r) (ms, q) = sym (marks_again ls ts r h n) ∙ marks_again ms ts q k o in
+    (ap (λ (x : List Lexeme × List Lexeme). x.0) e, ap (λ (x : List Lexeme × List Lexeme). x.1) e)
+
+-- the sort of what stands behind the marks
+abbrev pub sort_marked : List Lexeme → Option Kind
+sort_marked ts = sort_at (marks_at ts).1
+
+pub behind_marks : (k : Kind) (ms ts at : List Lexeme) → SpellsMarks ms ts at → sort_at at ≡ sorted k → is_mark k ≡ false → sort_marked ts ≡ sorted k
+behind_marks k ms ts at h e n = ap (λ (x : List Lexeme × List Lexeme). sort_at x.1) (marks_again ms ts at h (no_mark k at e n)) ∙ e
+
+pub behind_no_mark : (k : Kind) (ts : List Lexeme) → sort_at ts ≡ sorted k → is_mark k ≡ false → sort_marked ts ≡ sorted k
+behind_no_mark k ts e n = ap (λ (x : List Lexeme × List Lexeme). sort_at x.1) (no_mark_at ts (no_mark k ts e n)) ∙ e
 
 -- ---- one thing after the other
 

@@ -3,11 +3,11 @@ use Rattle.std.proofs.Common.{◌≡◌, Bool, true, false, List, [], ◌∷◌,
 use Rattle.std.specs.Prelude.{◌≢◌}
 use Rattle.dt_lexeme.specs.declared.lexeme.Lexeme.{Lexeme}
 use Rattle.dt_lexeme.specs.declared.lexeme.Kind.{Kind}
-use Rattle.dt_lexeme.specs.declared.lexeme.Kind.TheVariants.{Version, Plugin, MemReserve, Reference, Semicolon, Slash, DeleteNode}
+use Rattle.dt_lexeme.specs.declared.lexeme.Kind.TheVariants.{Version, Plugin, MemReserve, Reference, Semicolon, Slash, DeleteNode, OmitIfNoRef}
 use Rattle.dt_expression.specs.Expression.{Expression, Begins, SpellsPrimary}
 use Rattle.dt_source.specs.Sequences.{SpellsEach}
 use Rattle.dt_source.specs.Reading.Bodies.{labels_at}
-use Rattle.dt_source.specs.Source.{SourceTree, ReserveTree, ItemTree, Root, Extend, Delete, SpellsBody, SpellsItem, SpellsReserve, SpellsHeader, Spells}
+use Rattle.dt_source.specs.Source.{SourceTree, ReserveTree, ItemTree, Root, Extend, Delete, Omit, SpellsBody, SpellsItem, SpellsReserve, SpellsHeader, Spells}
 use Rattle.dt_source.specs.Laws.{OneSpelling}
 use Rattle.dt_source.proofs.Several.{each_can}
 use Rattle.dt_source.proofs.SpelledLabels.{NoLabel}
@@ -23,11 +23,13 @@ abbrev item_kind : ItemTree → Kind
 item_kind (Root s) = Slash
 item_kind (Extend ls l s) = Reference
 item_kind (Delete l) = DeleteNode
+item_kind (Omit l) = OmitIfNoRef
 
 item_sort : (i : ItemTree) (ts rest : List Lexeme) → SpellsItem i ts rest → sort_behind ts ≡ sorted (item_kind i)
 item_sort (Root s) ts rest h = behind_none Slash ts (begins_sort Slash ts h.0 h.1) refl
 item_sort (Extend ls l s) ts rest h = behind_labels Reference ls ts h.0 h.2 (reference_sort l h.0 h.1 h.3) refl
 item_sort (Delete l) ts rest h = behind_none DeleteNode ts (begins_sort DeleteNode ts h.0 h.2) refl
+item_sort (Omit l) ts rest h = behind_none OmitIfNoRef ts (begins_sort OmitIfNoRef ts h.0 h.2) refl
 
 one_item : (i j : ItemTree) (ts r q : List Lexeme) → SpellsItem i ts r → SpellsItem j ts q → Same i j r q
 one_item (Root s) (Root t) ts r q h k =
@@ -43,6 +45,10 @@ one_item (Delete l) (Delete m) ts r q h k =
     let first = one_begins DeleteNode DeleteNode ts h.0 k.0 h.2 k.2 in
     let name = one_takes l m h.0 h.1 k.1 h.3.1 (first.1 ∙ k.3.1) in
     (ap Delete name.0, one_after Semicolon h.1 k.1 r q name.1 h.4 k.4)
+one_item (Omit l) (Omit m) ts r q h k =
+    let first = one_begins OmitIfNoRef OmitIfNoRef ts h.0 k.0 h.2 k.2 in
+    let name = one_takes l m h.0 h.1 k.1 h.3.1 (first.1 ∙ k.3.1) in
+    (ap Omit name.0, one_after Semicolon h.1 k.1 r q name.1 h.4 k.4)
 one_item i j ts r q h k = let e : sorted (item_kind i) ≡ sorted (item_kind j) = sym (item_sort i ts r h) ∙ item_sort j ts q k in absurd cc
 
 abbrev Anything : List Lexeme → Type 0
@@ -84,6 +90,7 @@ no_reserve i ts rest h = record { can = tt; none = λ r a k. go i (sym (reserve_
     go (Root s) e = cc
     go (Extend ls l s) e = cc
     go (Delete l) e = cc
+    go (Omit l) e = cc
 
 -- ---- headers
 

@@ -5,7 +5,7 @@ use Rattle.dt_lexeme.specs.declared.lexeme.Kind.{Kind}
 use Rattle.dt_lexeme.specs.declared.lexeme.Kind.TheVariants.{Text, Reference, Square, Less, Bits, Equals, Comma, Semicolon, Brace}
 use Rattle.dt_expression.specs.Expression.{Begins}
 use Rattle.dt_source.specs.Sequences.{SpellsEach}
-use Rattle.dt_source.specs.Reading.Bodies.{is_label}
+use Rattle.dt_source.specs.Marks.{is_label}
 use Rattle.dt_source.specs.Source.{CellTree, PieceTree, Quoted, Points, Pairs, Cells, WideCells, SpellsLabels, SpellsCells, SpellsPiece, SpellsPlaced, SpellsFurther, SpellsValue}
 use Rattle.dt_source.proofs.Several.{each_can}
 use Rattle.dt_source.proofs.SpelledLabels.{NoLabel}

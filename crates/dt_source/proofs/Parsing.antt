@@ -1,6 +1,7 @@
 -- A text, its lexemes and its source.
 use Rattle.std.proofs.Common.{◌≡◌, ℕ, List, Option, Some, None, Result, Ok, Err, refl, sym, ap, subst, ◌∙◌, inl, inr, ◌⊎◌, arith}
 use Rattle.std.specs.Prelude.{IfOk, IfErr}
+use Rattle.dt_lexeme.specs.declared.language.Language.{Language}
 use Rattle.dt_lexeme.specs.declared.lexeme.Lexeme.{Lexeme}
 use Rattle.dt_lexeme.specs.declared.lexeme.Fault.{Fault}
 use Rattle.dt_lexeme.specs.declared.lexeme.Refusal.{Refusal}
@@ -25,8 +26,8 @@ use Rattle.dt_source.specs.SourceError.{kind_of_fault}
 use Rattle.dt_lexeme.proofs.Scanning.{one_list}
 use Rattle.dt_source.proofs.OneSource.{one_spelling}
 
-pub same_tree : (text : List ℕ) (s t : SourceTree) → IsSource text s → IsSource text t → s ≡ t
-same_tree text s t a b = one_spelling b.0 s t (subst (Spells s) (one_list text a.0 b.0 a.1 b.1) a.2) b.2
+pub same_tree : (language : Language) (text : List ℕ) (s t : SourceTree) → IsSource language text s → IsSource language text t → s ≡ t
+same_tree language text s t a b = one_spelling b.0 s t (subst (Spells s) (one_list language text a.0 b.0 a.1 b.1) a.2) b.2
 
 abbrev just : {A : Type 0} → A → Result A Refusal
 just x = Ok x
@@ -34,48 +35,48 @@ just x = Ok x
 ok_is : {A : Type 0} (x y : A) → just x ≡ just y → x ≡ y
 ok_is x y e = cc
 
-pub same_source : SourcesAreRead → (text : List ℕ) (s t : SourceTree) → IsSource text s → IsSource text t → (said text s ≡ said text t) × (first_of (faults_of text s) ≡ first_of (faults_of text t))
-same_source again text s t a b =
-    let e = one_list text a.0 b.0 a.1 b.1 in
+pub same_source : SourcesAreRead → (language : Language) (text : List ℕ) (s t : SourceTree) → IsSource language text s → IsSource language text t → (said text s ≡ said text t) × (first_of (faults_of text s) ≡ first_of (faults_of text t))
+same_source again language text s t a b =
+    let e = one_list language text a.0 b.0 a.1 b.1 in
     let p = ok_is _ _ (sym (again text s a.0 a.2) ∙ ap (source_at text) e ∙ again text t b.0 b.2) in
     (ap (λ (z : Meaning × Option Fault). z.0) p, ap (λ (z : Meaning × Option Fault). z.1) p)
 
-refused : SourcesAreRead → (text : List ℕ) (ls : List Lexeme) (r : Refusal) → Lexemes text ls → source_at text ls ≡ Err r → IsNoSource text
-refused again text ls r h e = λ s a.
-    let same = one_list text a.0 ls a.1 h in
+refused : SourcesAreRead → (language : Language) (text : List ℕ) (ls : List Lexeme) (r : Refusal) → Lexemes language text ls → source_at text ls ≡ Err r → IsNoSource language text
+refused again language text ls r h e = λ s a.
+    let same = one_list language text a.0 ls a.1 h in
     let here = again text s a.0 a.2 in
     let there : source_at text a.0 ≡ Err r = ap (source_at text) same ∙ e in
     cc (here, there)
 
-found : SourcesAreSpelled → FaultsAreInOrder → (text : List ℕ) (ls : List Lexeme) (m : Meaning) (f : Option Fault) → Lexemes text ls → source_at text ls ≡ Ok (m, f) → IsRead text m f
-found takes order text ls m f h e =
+found : SourcesAreSpelled → FaultsAreInOrder → (language : Language) (text : List ℕ) (ls : List Lexeme) (m : Meaning) (f : Option Fault) → Lexemes language text ls → source_at text ls ≡ Ok (m, f) → IsRead language text m f
+found takes order language text ls m f h e =
     let s = takes text ls m f e in
-    (s.0, (ls, h, s.1), s.2, (s.3, subst (λ (o : Option Fault). IsFirstInText o (faults_of text s.0)) s.3 (order text ls s.0 h s.1)))
+    (s.0, (ls, h, s.1), s.2, (s.3, subst (λ (o : Option Fault). IsFirstInText o (faults_of text s.0)) s.3 (order language text ls s.0 h s.1)))
 
 -- what reading the lexemes gave
-pub is_found : SourcesAreSpelled → FaultsAreInOrder → (text : List ℕ) (ts ls : List Lexeme) (r : Result (Outline × Option Fault) ReadError) → Lexemes text ls → ts ≡ ls → Reads (λ x. (outlined x.0, x.1)) r (source_at text ts) → IfOk r (λ x. IsRead text (outlined x.0) x.1)
-is_found takes order text ts ls (Ok x) h t e = found takes order text ls (outlined x.0) x.1 h (ap (source_at text) (sym t) ∙ e)
-is_found takes order text ts ls (Err x) h t e = tt
+pub is_found : SourcesAreSpelled → FaultsAreInOrder → (language : Language) (text : List ℕ) (ts ls : List Lexeme) (r : Result (Outline × Option Fault) ReadError) → Lexemes language text ls → ts ≡ ls → Reads (λ x. (outlined x.0, x.1)) r (source_at text ts) → IfOk r (λ x. IsRead language text (outlined x.0) x.1)
+is_found takes order language text ts ls (Ok x) h t e = found takes order language text ls (outlined x.0) x.1 h (ap (source_at text) (sym t) ∙ e)
+is_found takes order language text ts ls (Err x) h t e = tt
 
 -- a text whose lexemes are refused
-pub is_refused : SourcesAreRead → (text : List ℕ) (ts ls : List Lexeme) (r : Result (Outline × Option Fault) ReadError) → Lexemes text ls → ts ≡ ls → Reads (λ x. (outlined x.0, x.1)) r (source_at text ts) → IfErr r (λ x. IfRefused text x)
-is_refused again text ts ls (Ok x) h t e = tt
-is_refused again text ts ls (Err errors.NoMemory) h t e = tt
-is_refused again text ts ls (Err (errors.Refused r)) h t e =
+pub is_refused : SourcesAreRead → (language : Language) (text : List ℕ) (ts ls : List Lexeme) (r : Result (Outline × Option Fault) ReadError) → Lexemes language text ls → ts ≡ ls → Reads (λ x. (outlined x.0, x.1)) r (source_at text ts) → IfErr r (λ x. IfRefused language text x)
+is_refused again language text ts ls (Ok x) h t e = tt
+is_refused again language text ts ls (Err errors.NoMemory) h t e = tt
+is_refused again language text ts ls (Err (errors.Refused r)) h t e =
     let read : source_at text ls ≡ Err r = ap (source_at text) (sym t) ∙ e in
-    (refused again text ls r h read, (ls, None, h, ap (refusal_of None) read))
+    (refused again language text ls r h read, (ls, None, h, ap (refusal_of None) read))
 
 -- a text without lexemes is no source
-without_lexemes : (text : List ℕ) → HasNone text → IsNoSource text
-without_lexemes text none = λ s a. none a.0 a.1
+without_lexemes : (language : Language) (text : List ℕ) → HasNone language text → IsNoSource language text
+without_lexemes language text none = λ s a. none a.0 a.1
 
 -- a text that breaks off at a place
-pub is_broken : (text : List ℕ) (ts ls : List Lexeme) (place : ℕ) (r : Result (Outline × Option Fault) ReadError) → Scanned text ls (Some place) → ts ≡ ls → Reads (λ x. (outlined x.0, x.1)) r (source_at text ts) → IfRefused text (refused_at place r)
-is_broken text ts ls place (Ok x) h t e =
-    (without_lexemes text h.0, (ls, Some place, h, ap (refusal_of (Some place)) (ap (source_at text) (sym t) ∙ e)))
-is_broken text ts ls place (Err errors.NoMemory) h t e = tt
-is_broken text ts ls place (Err (errors.Refused r)) h t e =
-    (without_lexemes text h.0, (ls, Some place, h, ap (refusal_of (Some place)) (ap (source_at text) (sym t) ∙ e)))
+pub is_broken : (language : Language) (text : List ℕ) (ts ls : List Lexeme) (place : ℕ) (r : Result (Outline × Option Fault) ReadError) → Scanned language text ls (Some place) → ts ≡ ls → Reads (λ x. (outlined x.0, x.1)) r (source_at text ts) → IfRefused language text (refused_at place r)
+is_broken language text ts ls place (Ok x) h t e =
+    (without_lexemes language text h.0, (ls, Some place, h, ap (refusal_of (Some place)) (ap (source_at text) (sym t) ∙ e)))
+is_broken language text ts ls place (Err errors.NoMemory) h t e = tt
+is_broken language text ts ls place (Err (errors.Refused r)) h t e =
+    (without_lexemes language text h.0, (ls, Some place, h, ap (refusal_of (Some place)) (ap (source_at text) (sym t) ∙ e)))
 
 -- ---- one answer
 
@@ -85,42 +86,42 @@ some x = Some x
 some_is : {A : Type 0} (x y : A) → some x ≡ some y → x ≡ y
 some_is x y e = cc
 
-pub one_meaning : SourcesAreRead → (text : List ℕ) (m n : Meaning) → Says text m → Says text n → m ≡ n
-one_meaning again text m n a b = sym a.3 ∙ (same_source again text a.0 b.0 a.1 b.1).0 ∙ b.3
+pub one_meaning : SourcesAreRead → (language : Language) (text : List ℕ) (m n : Meaning) → Says language text m → Says language text n → m ≡ n
+one_meaning again language text m n a b = sym a.3 ∙ (same_source again language text a.0 b.0 a.1 b.1).0 ∙ b.3
 
-pub no_fault : SourcesAreRead → (text : List ℕ) (m : Meaning) (f : Fault) → Says text m → HasFirstFault text f → ⊥
-no_fault again text m f a b =
-    let e : first_of (faults_of text a.0) ≡ some f = (same_source again text a.0 b.0 a.1 b.1).1 ∙ b.2.0 in
+pub no_fault : SourcesAreRead → (language : Language) (text : List ℕ) (m : Meaning) (f : Fault) → Says language text m → HasFirstFault language text f → ⊥
+no_fault again language text m f a b =
+    let e : first_of (faults_of text a.0) ≡ some f = (same_source again language text a.0 b.0 a.1 b.1).1 ∙ b.2.0 in
     let n : first_of (faults_of text a.0) ≡ None = ap first_of a.2 in
     cc (e, n)
 
-pub one_fault : SourcesAreRead → (text : List ℕ) (f g : Fault) → HasFirstFault text f → HasFirstFault text g → f ≡ g
-one_fault again text f g a b = some_is f g (sym a.2.0 ∙ (same_source again text a.0 b.0 a.1 b.1).1 ∙ b.2.0)
+pub one_fault : SourcesAreRead → (language : Language) (text : List ℕ) (f g : Fault) → HasFirstFault language text f → HasFirstFault language text g → f ≡ g
+one_fault again language text f g a b = some_is f g (sym a.2.0 ∙ (same_source again language text a.0 b.0 a.1 b.1).1 ∙ b.2.0)
 
-has_no_fault : SourcesAreRead → (text : List ℕ) (m : Meaning) (k : FaultKind) (n : ℕ) → Says text m → HasFault text k n → ⊥
-has_no_fault again text m k n a h = no_fault again text m h.1.0 a h.1.1
+has_no_fault : SourcesAreRead → (language : Language) (text : List ℕ) (m : Meaning) (k : FaultKind) (n : ℕ) → Says language text m → HasFault language text k n → ⊥
+has_no_fault again language text m k n a h = no_fault again language text m h.1.0 a h.1.1
 
-pub accepted : SourcesAreRead → (text : List ℕ) (m : Meaning) (k : SourceErrorKind) (n : ℕ) → IsShort text → Says text m → Refuses text k n → k ≡ kinds.NoMemory
-accepted again text m kinds.NoMemory n h a r = refl
-accepted again text m kinds.Syntax n h a r = absurd (r.1.1.0 a.0 a.1)
-accepted again text m kinds.TooDeep n h a r = absurd (r.1.1.0 a.0 a.1)
-accepted again text m kinds.TooLong n h a r = absurd (omega arith)
-accepted again text m kinds.ElementRange n h a r = absurd (has_no_fault again text m ElementRange n a r)
-accepted again text m kinds.DivideByZero n h a r = absurd (has_no_fault again text m DivideByZero n a r)
-accepted again text m kinds.BadBits n h a r = absurd (has_no_fault again text m BadBits n a r)
-accepted again text m kinds.LiteralRange n h a r = absurd (has_no_fault again text m LiteralRange n a r)
-accepted again text m kinds.BadEscape n h a r = absurd (has_no_fault again text m BadEscape n a r)
+pub accepted : SourcesAreRead → (language : Language) (text : List ℕ) (m : Meaning) (k : SourceErrorKind) (n : ℕ) → IsShort text → Says language text m → Refuses language text k n → k ≡ kinds.NoMemory
+accepted again language text m kinds.NoMemory n h a r = refl
+accepted again language text m kinds.Syntax n h a r = absurd (r.1.1.0 a.0 a.1)
+accepted again language text m kinds.TooDeep n h a r = absurd (r.1.1.0 a.0 a.1)
+accepted again language text m kinds.TooLong n h a r = absurd (omega arith)
+accepted again language text m kinds.ElementRange n h a r = absurd (has_no_fault again language text m ElementRange n a r)
+accepted again language text m kinds.DivideByZero n h a r = absurd (has_no_fault again language text m DivideByZero n a r)
+accepted again language text m kinds.BadBits n h a r = absurd (has_no_fault again language text m BadBits n a r)
+accepted again language text m kinds.LiteralRange n h a r = absurd (has_no_fault again language text m LiteralRange n a r)
+accepted again language text m kinds.BadEscape n h a r = absurd (has_no_fault again language text m BadEscape n a r)
 
-same_kind : SourcesAreRead → (text : List ℕ) (f : Fault) (k : FaultKind) (n : ℕ) → HasFirstFault text f → HasFault text k n → kind_of_fault k ≡ kind_of_fault f.kind
-same_kind again text f k n a h = ap kind_of_fault (sym h.1.2 ∙ ap (λ (g : Fault). g.kind) (one_fault again text h.1.0 f h.1.1 a))
+same_kind : SourcesAreRead → (language : Language) (text : List ℕ) (f : Fault) (k : FaultKind) (n : ℕ) → HasFirstFault language text f → HasFault language text k n → kind_of_fault k ≡ kind_of_fault f.kind
+same_kind again language text f k n a h = ap kind_of_fault (sym h.1.2 ∙ ap (λ (g : Fault). g.kind) (one_fault again language text h.1.0 f h.1.1 a))
 
-pub faulty : SourcesAreRead → (text : List ℕ) (f : Fault) (k : SourceErrorKind) (n : ℕ) → IsShort text → HasFirstFault text f → Refuses text k n → (k ≡ kinds.NoMemory) ⊎ (k ≡ kind_of_fault f.kind)
-faulty again text f kinds.NoMemory n h a r = inl refl
-faulty again text f kinds.Syntax n h a r = absurd (r.1.1.0 a.0 a.1)
-faulty again text f kinds.TooDeep n h a r = absurd (r.1.1.0 a.0 a.1)
-faulty again text f kinds.TooLong n h a r = absurd (omega arith)
-faulty again text f kinds.ElementRange n h a r = inr (same_kind again text f ElementRange n a r)
-faulty again text f kinds.DivideByZero n h a r = inr (same_kind again text f DivideByZero n a r)
-faulty again text f kinds.BadBits n h a r = inr (same_kind again text f BadBits n a r)
-faulty again text f kinds.LiteralRange n h a r = inr (same_kind again text f LiteralRange n a r)
-faulty again text f kinds.BadEscape n h a r = inr (same_kind again text f BadEscape n a r)
+pub faulty : SourcesAreRead → (language : Language) (text : List ℕ) (f : Fault) (k : SourceErrorKind) (n : ℕ) → IsShort text → HasFirstFault language text f → Refuses language text k n → (k ≡ kinds.NoMemory) ⊎ (k ≡ kind_of_fault f.kind)
+faulty again language text f kinds.NoMemory n h a r = inl refl
+faulty again language text f kinds.Syntax n h a r = absurd (r.1.1.0 a.0 a.1)
+faulty again language text f kinds.TooDeep n h a r = absurd (r.1.1.0 a.0 a.1)
+faulty again language text f kinds.TooLong n h a r = absurd (omega arith)
+faulty again language text f kinds.ElementRange n h a r = inr (same_kind again language text f ElementRange n a r)
+faulty again language text f kinds.DivideByZero n h a r = inr (same_kind again language text f DivideByZero n a r)
+faulty again language text f kinds.BadBits n h a r = inr (same_kind again language text f BadBits n a r)
+faulty again language text f kinds.LiteralRange n h a r = inr (same_kind again language text f LiteralRange n a r)
+faulty again language text f kinds.BadEscape n h a r = inr (same_kind again language text f BadEscape n a r)

@@ -16,7 +16,8 @@ use Rattle.dt_source.specs.Reading.Several.{earlier, Part, many, Fails}
 use Rattle.dt_meaning.specs.Syntax.{Target, Piece, Plain, PhandleOf, PathOf}
 use Rattle.dt_source.specs.Reading.Values.{Built, put, put_all, bytes_piece, flushed}
 use Rattle.dt_source.specs.Pieces.{join_bytes, joined}
-use Rattle.dt_source.specs.Reading.Bodies.{is_label, labels_at, stays, placed_at, comma_by, comma_at, concat_pieces, pieces_at, value_at}
+use Rattle.dt_source.specs.Reading.Bodies.{labels_at, stays, placed_at, comma_by, comma_at, concat_pieces, pieces_at, value_at}
+use Rattle.dt_source.specs.Marks.{is_label}
 use Rattle.dt_source.specs.Reading.Loops.{into, folded, comma_by_kind, comma_rest}
 use Rattle.dt_source.proofs.Chars.{drop_all}
 use Rattle.dt_source.proofs.Loops.{many_more, many_end, many_fails, earlier_none}

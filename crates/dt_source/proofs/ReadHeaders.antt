@@ -4,14 +4,15 @@ use Rattle.std.specs.Prelude.{flat_map, fold}
 use Rattle.dt_lexeme.specs.declared.lexeme.Lexeme.{Lexeme}
 use Rattle.dt_lexeme.specs.declared.lexeme.Fault.{Fault}
 use Rattle.dt_lexeme.specs.declared.lexeme.Kind.{Kind}
-use Rattle.dt_lexeme.specs.declared.lexeme.Kind.TheVariants.{Version, Plugin, MemReserve, Label, Reference, PathReference, Semicolon, Slash, DeleteNode}
+use Rattle.dt_lexeme.specs.declared.lexeme.Kind.TheVariants.{Version, Plugin, MemReserve, Label, Reference, PathReference, Semicolon, Slash, DeleteNode, OmitIfNoRef}
 use Rattle.dt_expression.specs.Expression.{Begins, SpellsPrimary}
 use Rattle.dt_expression.specs.ReadingExpressions.{primary_at}
 use Rattle.dt_source.specs.Sequences.{SpellsEach}
 use Rattle.dt_expression.specs.Values.{value_of}
 use Rattle.dt_source.specs.Order.{first_of}
-use Rattle.dt_source.specs.Reading.Bodies.{is_label, labels_at, semicolon_at}
-use Rattle.dt_source.specs.Source.{ReserveTree, ItemTree, Root, Extend, Delete, IsReference, SpellsLabels, SpellsReserve, SpellsHeader, SpellsItem, both_numbers, reserve_values, reserve_faults}
+use Rattle.dt_source.specs.Reading.Bodies.{labels_at, semicolon_at}
+use Rattle.dt_source.specs.Marks.{is_label}
+use Rattle.dt_source.specs.Source.{ReserveTree, ItemTree, Root, Extend, Delete, Omit, IsReference, SpellsLabels, SpellsReserve, SpellsHeader, SpellsItem, both_numbers, reserve_values, reserve_faults}
 use Rattle.dt_source.specs.Reading.Whole.{plugin_kind, plugin_at, header_kind, header_at, more_headers, headers_at, reserve_kind, reserve_with, reserve_at, reserves_at}
 use Rattle.dt_expression.proofs.Complete.{begins_shorter, shorter}
 use Rattle.dt_expression.proofs.Trees.{reads_all_that_is_spelled}
@@ -34,6 +35,7 @@ FollowsHeader (t ∷ ts) = is_plugin t.kind ≡ false
 abbrev is_opening : Kind → Bool
 is_opening MemReserve = true
 is_opening DeleteNode = true
+is_opening OmitIfNoRef = true
 is_opening Label = true
 is_opening Reference = true
 is_opening PathReference = true
@@ -65,6 +67,7 @@ pub item_opens : (i : ItemTree) (ts rest : List Lexeme) → SpellsItem i ts rest
 item_opens (Root s) ts rest h = opening_begins Slash refl ts h.0 h.1
 item_opens (Extend ls l s) ts rest h = labels_open ls ts h.0 h.2 (subst Opens (sym h.3.1) (reference_opens l h.3.0))
 item_opens (Delete l) ts rest h = opening_begins DeleteNode refl ts h.0 h.2
+item_opens (Omit l) ts rest h = opening_begins OmitIfNoRef refl ts h.0 h.2
 
 no_plugin : (k : Kind) → is_opening k ≡ true → is_plugin k ≡ false
 no_plugin Plugin h = absurd cc
@@ -178,3 +181,4 @@ item_no_reserve text (Root s) ts rest h = unlabelled_item text Slash refl (λ wh
 item_no_reserve text (Extend ls l s) ts rest h =
     labelled_reserve text ls ts h.0 h.2 (subst NoLabel (sym h.3.1) (reference_front l h.3.0)) ∙ ap (reserve_with text ts) h.3.1 ∙ extend_item text l ts h.1 h.3.0
 item_no_reserve text (Delete l) ts rest h = unlabelled_item text DeleteNode refl (λ whole ts. refl) ts h.0 h.2
+item_no_reserve text (Omit l) ts rest h = unlabelled_item text OmitIfNoRef refl (λ whole ts. refl) ts h.0 h.2

@@ -2,6 +2,7 @@
 use Rattle.std.proofs.Common.{◌≡◌, ℕ, zero, suc, ◌+◌, ◌-◌, ◌*◌, ◌≤◌, Bool, true, false, cond, List, [], ◌∷◌, length, drop, take, Option, Some, None, Ok, Err, refl, sym, ap, subst, arith, inl, inr, ◌⊎◌}
 use Rattle.std.specs.Prelude.{flat_map, slice_range, ◌==◌, if◌then◌else◌, All}
 use Rattle.std.proofs.lemmas.List.{length-take}
+use Rattle.dt_lexeme.specs.declared.language.Language.{Language}
 use Rattle.dt_lexeme.specs.declared.lexeme.Lexeme.{Lexeme}
 use Rattle.dt_lexeme.specs.declared.lexeme.Fault.{Fault}
 use Rattle.dt_lexeme.specs.declared.lexeme.FaultKind.TheVariants.{ElementRange, BadEscape, BadBits}
@@ -16,7 +17,7 @@ use Rattle.dt_source.specs.Sequences.{SpellsEach}
 use Rattle.dt_source.specs.Strings.{chars_with, char_step, with_char, escaped, escape_at, faults, string_faults}
 use Rattle.dt_source.specs.Pieces.{fault_in, cell_fault, reference_fault, width_at, width_in, lawful}
 use Rattle.dt_source.specs.Order.{first_of}
-use Rattle.dt_source.specs.Source.{CellTree, Element, Refers, Marks, PieceTree, Quoted, Points, Pairs, Cells, WideCells, Statements, End, Sets, Unsets, Holds, Drops, ReserveTree, ItemTree, Root, Extend, Delete, SourceTree, One, SpellsLabels, DropsLabels, SpellsCell, SpellsCells, OnePair, SpellsPiece, SpellsPlaced, SpellsFurther, SpellsValue, SpellsStatements, SpellsBody, SpellsItem, SpellsReserve, SpellsHeader, Spells, cell_of, fault_list, cells_faults, piece_faults, width_said, value_faults, faults_in, item_faults, reserve_faults, faults_of}
+use Rattle.dt_source.specs.Source.{CellTree, Element, Refers, Marks, PieceTree, Quoted, Points, Pairs, Cells, WideCells, Statements, End, Sets, Unsets, Holds, Drops, ReserveTree, ItemTree, Root, Extend, Delete, Omit, SourceTree, One, SpellsLabels, SpellsMarks, DropsLabels, SpellsCell, SpellsCells, OnePair, SpellsPiece, SpellsPlaced, SpellsFurther, SpellsValue, SpellsStatements, SpellsBody, SpellsItem, SpellsReserve, SpellsHeader, Spells, cell_of, fault_list, cells_faults, piece_faults, width_said, value_faults, faults_in, item_faults, reserve_faults, faults_of}
 use Rattle.dt_source.specs.Order.{IsFirstInText}
 use Rattle.dt_lexeme.specs.Order.{Above}
 use Rattle.dt_lexeme.proofs.InOrder.{lexemes_above}
@@ -39,6 +40,9 @@ each_above Spell one (i ∷ is) ts rest p (a, s, more) h = each_above Spell one 
 
 labels_above : (ls : List Lexeme) (ts rest : List Lexeme) (p : ℕ) → SpellsLabels ls ts rest → Above p ts → Above p rest
 labels_above ls ts rest p s h = each_above _ (λ l ts rest p s h. takes_rest p ts l rest s.1 h) ls ts rest p s h
+
+marks_above : (ms : List Lexeme) (ts rest : List Lexeme) (p : ℕ) → SpellsMarks ms ts rest → Above p ts → Above p rest
+marks_above ms ts rest p s h = each_above _ (λ l ts rest p s h. takes_rest p ts l rest s.1 h) ms ts rest p s h
 
 drops_above : (ts rest : List Lexeme) (p : ℕ) → DropsLabels ts rest → Above p ts → Above p rest
 drops_above ts rest p s h = labels_above s.0 ts rest p s.1 h
@@ -196,7 +200,7 @@ statements_reach text depth nodes (Unsets n more) ts rest p (k, a, b, c, keyword
 statements_reach text zero nodes (Holds ls n body more) ts rest p (a, b, c, d, e, labels, name, brace, inner, semicolon, others) h = absurd inner
 statements_reach text (suc depth) nodes (Holds ls n body more) ts rest p (a, b, c, d, e, labels, name, brace, inner, semicolon, others) h =
     reach_both p e rest (faults_in text body) (faults_in text more)
-    (reach_behind p d _ e (faults_in text body) semicolon (statements_reach text depth false body c d p inner (begins_above p b _ c brace (one_above _ n a b p name (labels_above ls ts a p labels h)))))
+    (reach_behind p d _ e (faults_in text body) semicolon (statements_reach text depth false body c d p inner (begins_above p b _ c brace (one_above _ n a b p name (marks_above ls ts a p labels h)))))
     (λ q g. statements_reach text (suc depth) true more e rest q others g)
 statements_reach text depth nodes (Drops n more) ts rest p (a, b, c, keyword, name, semicolon, others) h =
     statements_reach text depth true more c rest p others (begins_above p b _ c semicolon (one_above _ n a b p name (begins_above p ts _ a keyword h)))
@@ -211,6 +215,7 @@ item_reach : (text : List ℕ) (i : ItemTree) (ts rest : List Lexeme) (p : ℕ) 
 item_reach text (Root s) ts rest p (a, slash, b) h = body_reach text s a rest p b (begins_above p ts _ a slash h)
 item_reach text (Extend ls l s) ts rest p (a, b, labels, reference, body) h = body_reach text s b rest p body (takes_rest p a l b reference.1 (labels_above ls ts a p labels h))
 item_reach text (Delete l) ts rest p (a, b, keyword, reference, semicolon) h = reach_none p rest (begins_above p b _ rest semicolon (takes_rest p a l b reference.1 (begins_above p ts _ a keyword h)))
+item_reach text (Omit l) ts rest p (a, b, keyword, reference, semicolon) h = reach_none p rest (begins_above p b _ rest semicolon (takes_rest p a l b reference.1 (begins_above p ts _ a keyword h)))
 
 reserve_reach : (text : List ℕ) (i : ReserveTree) (ts rest : List Lexeme) (p : ℕ) → SpellsReserve i ts rest → Above p ts → Reach p rest (reserve_faults text i)
 reserve_reach text i ts rest p (a, b, c, d, labels, keyword, address, size, semicolon) h =
@@ -242,5 +247,5 @@ unfolding Within
 first_is_first p q [] h = refl
 first_is_first p q (f ∷ fs) h = ((0, omega arith, refl), none_before f.place f.place q (f ∷ fs) (omega arith) (omega arith, h.1))
 
-pub in_order : (text : List ℕ) (ls : List Lexeme) (s : SourceTree) → Lexemes text ls → Spells s ls → IsFirstInText (first_of (faults_of text s)) (faults_of text s)
-in_order text ls s h g = let r = source_reach text s ls 0 g (lexemes_above text ls h) in first_is_first 0 r.to (faults_of text s) r.within
+pub in_order : (language : Language) (text : List ℕ) (ls : List Lexeme) (s : SourceTree) → Lexemes language text ls → Spells s ls → IsFirstInText (first_of (faults_of text s)) (faults_of text s)
+in_order language text ls s h g = let r = source_reach text s ls 0 g (lexemes_above language text ls h) in first_is_first 0 r.to (faults_of text s) r.within

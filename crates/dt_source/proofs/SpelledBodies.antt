@@ -1,5 +1,5 @@
 -- Statements that are spelled are read.
-use Rattle.std.proofs.Common.{◌≡◌, ℕ, zero, suc, ◌<◌, ◌≤◌, Bool, true, false, List, [], ◌∷◌, ◌++◌, length, map, Ok, Option, Some, None, refl, sym, ap, subst, ◌∙◌, arith}
+use Rattle.std.proofs.Common.{◌≡◌, ℕ, zero, suc, ◌<◌, ◌≤◌, Bool, true, false, ◌||◌, List, [], ◌∷◌, ◌++◌, length, map, Ok, Option, Some, None, refl, sym, ap, subst, ◌∙◌, arith}
 use Rattle.dt_lexeme.specs.declared.lexeme.Lexeme.{Lexeme}
 use Rattle.dt_lexeme.specs.declared.lexeme.Fault.{Fault}
 use Rattle.dt_lexeme.specs.declared.lexeme.Kind.{Kind}
@@ -9,13 +9,14 @@ use Rattle.dt_expression.specs.Reading.{◌>>=◌}
 use Rattle.dt_source.specs.Reading.Several.{earlier, many}
 use Rattle.dt_meaning.specs.Syntax.{Piece, Entry, Defines, Undefines, Child, Removes, body_of}
 use Rattle.dt_source.specs.Order.{first_of}
-use Rattle.dt_source.specs.Reading.Bodies.{is_label, labels_at, ended_by, Inner, name_by, named_by, named_at, deleted_at, begun_by, begun_at, statement_at, after, body_below, body_at}
+use Rattle.dt_source.specs.Reading.Bodies.{marks_at, ended_by, Inner, name_by, named_by, named_at, deleted_at, begun_by, begun_at, statement_at, after, body_below, body_at}
+use Rattle.dt_source.specs.Marks.{is_mark, omits, labels_in}
 use Rattle.dt_source.specs.Words.{label_bytes, name_bytes}
-use Rattle.dt_source.specs.Source.{Statements, End, Sets, Unsets, Holds, Drops, One, SpellsLabels, SpellsValue, SpellsPlaced, SpellsStatements, PieceTree, value_said, value_faults, entries_of, faults_in}
+use Rattle.dt_source.specs.Source.{Statements, End, Sets, Unsets, Holds, Drops, One, SpellsLabels, SpellsMarks, SpellsValue, SpellsPlaced, SpellsStatements, PieceTree, value_said, value_faults, entries_of, faults_in}
 use Rattle.dt_expression.proofs.Complete.{begins_shorter}
 use Rattle.dt_source.proofs.Several as several
 use Rattle.dt_source.proofs.Semicolons.{semicolon_again}
-use Rattle.dt_source.proofs.SpelledLabels.{NoLabel, labels_again, labels_shorter, none_at}
+use Rattle.dt_source.proofs.SpelledLabels.{NoMark, marks_again, no_mark_at, labels_shorter, marks_shorter, labels_are_marks, labels_omit_nothing}
 use Rattle.dt_source.proofs.SpelledValues.{value_again, value_shorter}
 
 pub ended_again : {A : Type 0} (a : A) (f : Option Fault) (ts rest : List Lexeme) → Begins ts Semicolon rest → ended_by a f ts ≡ Ok (a, f, rest)
@@ -23,60 +24,67 @@ ended_again a f ts rest h = rw (semicolon_again ts rest h) refl
 
 -- ---- by what stands there
 
--- Labels and a name are read, and what follows them decides.
-named_front : (text : List ℕ) (inner : Inner) (nodes : Bool) (ls : List Lexeme) (n : Lexeme) (ts at us : List Lexeme) → SpellsLabels ls ts at → One Name n at us
-    → statement_at text inner nodes ts ≡ named_at text inner nodes (map (label_bytes text) ls) (name_bytes text n) us
+-- Marks and a name are read, and what follows them decides.
+named_front : (text : List ℕ) (inner : Inner) (nodes : Bool) (ms : List Lexeme) (n : Lexeme) (ts at us : List Lexeme) → SpellsMarks ms ts at → One Name n at us
+    → statement_at text inner nodes ts ≡ named_at text inner (nodes || omits ms) (omits ms) (map (label_bytes text) (labels_in ms)) (name_bytes text n) us
 unfolding statement_at
-named_front text inner nodes ls n ts at us h k =
-    let free : NoLabel at = subst NoLabel (sym k.1) (ap is_label k.0) in
-    let labels : labels_at ts ≡ (ls, at) = labels_again ls ts at h free in
-    ap (λ (x : List Lexeme × List Lexeme). begun_at text inner nodes x.0 x.1) labels ∙ ap (begun_at text inner nodes ls) k.1 ∙ ap (λ (x : Kind). begun_by text inner nodes ls x n us) k.0
+named_front text inner nodes ms n ts at us h k =
+    let free : NoMark at = subst NoMark (sym k.1) (ap is_mark k.0) in
+    let marks : marks_at ts ≡ (ms, at) = marks_again ms ts at h free in
+    ap (λ (x : List Lexeme × List Lexeme). begun_at text inner nodes x.0 x.1) marks ∙ ap (begun_at text inner nodes ms) k.1 ∙ ap (λ (x : Kind). begun_by text inner nodes ms x n us) k.0
 
--- What no label stands before is read by its kind.
-bare_front : (text : List ℕ) (inner : Inner) (nodes : Bool) (t : Lexeme) (ts : List Lexeme) → is_label t.kind ≡ false → statement_at text inner nodes (t ∷ ts) ≡ begun_by text inner nodes [] t.kind t ts
+-- labels and a property's name
+labelled_front : (text : List ℕ) (inner : Inner) (ls : List Lexeme) (n : Lexeme) (ts at us : List Lexeme) → SpellsLabels ls ts at → One Name n at us
+    → statement_at text inner false ts ≡ named_at text inner false false (map (label_bytes text) (labels_in ls)) (name_bytes text n) us
+labelled_front text inner ls n ts at us h k =
+    named_front text inner false ls n ts at us (labels_are_marks ls ts at h) k
+    ∙ ap (λ (o : Bool). named_at text inner o o (map (label_bytes text) (labels_in ls)) (name_bytes text n) us) (labels_omit_nothing ls ts at h)
+
+-- What no mark stands before is read by its kind.
+bare_front : (text : List ℕ) (inner : Inner) (nodes : Bool) (t : Lexeme) (ts : List Lexeme) → is_mark t.kind ≡ false → statement_at text inner nodes (t ∷ ts) ≡ begun_by text inner nodes [] t.kind t ts
 unfolding statement_at
 bare_front text inner nodes t ts h =
-    let labels : labels_at (t ∷ ts) ≡ ([], t ∷ ts) = none_at (t ∷ ts) h in
-    ap (λ (x : List Lexeme × List Lexeme). begun_at text inner nodes x.0 x.1) labels
+    let marks : marks_at (t ∷ ts) ≡ ([], t ∷ ts) = no_mark_at (t ∷ ts) h in
+    ap (λ (x : List Lexeme × List Lexeme). begun_at text inner nodes x.0 x.1) marks
 
 end_again : (text : List ℕ) (inner : Inner) (nodes : Bool) (ts rest : List Lexeme) → Begins ts EndBrace rest → statement_at text inner nodes ts ≡ Ok (None, None, rest)
 end_again text inner nodes [] rest h = absurd h
-end_again text inner nodes (t ∷ ts) rest h = bare_front text inner nodes t ts (ap is_label h.0) ∙ ap (λ (x : Kind). begun_by text inner nodes [] x t ts) h.0 ∙ go nodes ∙ ap (several.part None None) h.1
+end_again text inner nodes (t ∷ ts) rest h = bare_front text inner nodes t ts (ap is_mark h.0) ∙ ap (λ (x : Kind). begun_by text inner nodes [] x t ts) h.0 ∙ go nodes ∙ ap (several.part None None) h.1
   where
     go : (nodes : Bool) → begun_by text inner nodes [] EndBrace t ts ≡ Ok (None, None, ts)
     go false = refl
     go true = refl
 
 empty_again : (text : List ℕ) (inner : Inner) (labels : List (List ℕ)) (name : List ℕ) (us rest : List Lexeme) → Begins us Semicolon rest
-    → named_at text inner false labels name us ≡ Ok (Some (Defines name []), None, rest)
+    → named_at text inner false false labels name us ≡ Ok (Some (Defines name []), None, rest)
 empty_again text inner labels name [] rest h = absurd h
-empty_again text inner labels name (t ∷ us) rest h = ap (λ (x : Kind). named_by text inner false labels name x t us) h.0 ∙ rw (h.1) refl
+empty_again text inner labels name (t ∷ us) rest h = ap (λ (x : Kind). named_by text inner false false labels name x t us) h.0 ∙ rw (h.1) refl
 
 valued_again : (text : List ℕ) (inner : Inner) (labels : List (List ℕ)) (name : List ℕ) (p : PieceTree) (ps : List PieceTree) (us mid rest : List Lexeme) → SpellsValue (p ∷ ps) us mid → Begins mid Semicolon rest
-    → named_at text inner false labels name us ≡ Ok (Some (Defines name (value_said text (p ∷ ps))), first_of (value_faults text (p ∷ ps)), rest)
+    → named_at text inner false false labels name us ≡ Ok (Some (Defines name (value_said text (p ∷ ps))), first_of (value_faults text (p ∷ ps)), rest)
 valued_again text inner labels name p ps [] mid rest h s = absurd h.2
 valued_again text inner labels name p ps (t ∷ us) mid rest h s =
     let value = value_again text p ps us h.1 mid rest (subst (λ (x : List Lexeme). SpellsPlaced p x h.1) (sym h.2.1) h.3) h.4 s in
     let ended = ended_again (Some (Defines name (value_said text (p ∷ ps)))) (first_of (value_faults text (p ∷ ps))) mid rest s in
-    ap (λ (x : Kind). named_by text inner false labels name x t us) h.2.0 ∙ rw value ended
+    ap (λ (x : Kind). named_by text inner false false labels name x t us) h.2.0 ∙ rw value ended
 
 -- how a body in this one is read
 record Inside (text : List ℕ) (inner : Inner) (body : Statements) (ts rest : List Lexeme) : Type 0 where
   read : (t : Lexeme) → inner t ts ≡ Ok (entries_of text body, first_of (faults_in text body), rest)
 
-child_again : (text : List ℕ) (inner : Inner) (nodes : Bool) (labels : List (List ℕ)) (name : List ℕ) (body : Statements) (us at mid rest : List Lexeme) → Begins us Brace at → Inside text inner body at mid → Begins mid Semicolon rest
-    → named_at text inner nodes labels name us ≡ Ok (Some (Child false labels name (body_of (entries_of text body))), first_of (faults_in text body), rest)
-child_again text inner nodes labels name body [] at mid rest h i s = absurd h
-child_again text inner nodes labels name body (t ∷ us) at mid rest h i s =
-    ap (λ (x : Kind). named_by text inner nodes labels name x t us) h.0 ∙ go nodes
+child_again : (text : List ℕ) (inner : Inner) (nodes omitted : Bool) (labels : List (List ℕ)) (name : List ℕ) (body : Statements) (us at mid rest : List Lexeme) → Begins us Brace at → Inside text inner body at mid → Begins mid Semicolon rest
+    → named_at text inner nodes omitted labels name us ≡ Ok (Some (Child omitted labels name (body_of (entries_of text body))), first_of (faults_in text body), rest)
+child_again text inner nodes omitted labels name body [] at mid rest h i s = absurd h
+child_again text inner nodes omitted labels name body (t ∷ us) at mid rest h i s =
+    ap (λ (x : Kind). named_by text inner nodes omitted labels name x t us) h.0 ∙ go nodes
   where
     inside : inner t us ≡ Ok (entries_of text body, first_of (faults_in text body), mid)
     inside = ap (inner t) h.1 ∙ i.read t
 
-    ended : ended_by (Some (Child false labels name (body_of (entries_of text body)))) (first_of (faults_in text body)) mid ≡ Ok (Some (Child false labels name (body_of (entries_of text body))), first_of (faults_in text body), rest)
-    ended = ended_again (Some (Child false labels name (body_of (entries_of text body)))) (first_of (faults_in text body)) mid rest s
+    ended : ended_by (Some (Child omitted labels name (body_of (entries_of text body)))) (first_of (faults_in text body)) mid ≡ Ok (Some (Child omitted labels name (body_of (entries_of text body))), first_of (faults_in text body), rest)
+    ended = ended_again (Some (Child omitted labels name (body_of (entries_of text body)))) (first_of (faults_in text body)) mid rest s
 
-    go : (nodes : Bool) → named_by text inner nodes labels name Brace t us ≡ Ok (Some (Child false labels name (body_of (entries_of text body))), first_of (faults_in text body), rest)
+    go : (nodes : Bool) → named_by text inner nodes omitted labels name Brace t us ≡ Ok (Some (Child omitted labels name (body_of (entries_of text body))), first_of (faults_in text body), rest)
     go false = rw inside ended
     go true = rw inside ended
 
@@ -87,13 +95,13 @@ unsets_again : (text : List ℕ) (inner : Inner) (n : Lexeme) (ts a b rest : Lis
     → statement_at text inner false ts ≡ Ok (Some (Undefines (name_bytes text n)), None, rest)
 unsets_again text inner n [] a b rest h k s = absurd h
 unsets_again text inner n (t ∷ ts) a b rest h k s =
-    bare_front text inner false t ts (ap is_label h.0) ∙ ap (λ (x : Kind). begun_by text inner false [] x t ts) h.0 ∙ ap (deleted_at text Undefines) h.1 ∙ deleted_again text Undefines n a b rest k s
+    bare_front text inner false t ts (ap is_mark h.0) ∙ ap (λ (x : Kind). begun_by text inner false [] x t ts) h.0 ∙ ap (deleted_at text Undefines) h.1 ∙ deleted_again text Undefines n a b rest k s
 
 drops_again : (text : List ℕ) (inner : Inner) (nodes : Bool) (n : Lexeme) (ts a b rest : List Lexeme) → Begins ts DeleteNode a → One Name n a b → Begins b Semicolon rest
     → statement_at text inner nodes ts ≡ Ok (Some (Removes (name_bytes text n)), None, rest)
 drops_again text inner nodes n [] a b rest h k s = absurd h
 drops_again text inner nodes n (t ∷ ts) a b rest h k s =
-    bare_front text inner nodes t ts (ap is_label h.0) ∙ ap (λ (x : Kind). begun_by text inner nodes [] x t ts) h.0 ∙ go nodes ∙ ap (deleted_at text Removes) h.1 ∙ deleted_again text Removes n a b rest k s
+    bare_front text inner nodes t ts (ap is_mark h.0) ∙ ap (λ (x : Kind). begun_by text inner nodes [] x t ts) h.0 ∙ go nodes ∙ ap (deleted_at text Removes) h.1 ∙ deleted_again text Removes n a b rest k s
   where
     go : (nodes : Bool) → begun_by text inner nodes [] DeleteNode t ts ≡ deleted_at text Removes ts
     go false = refl
@@ -117,7 +125,7 @@ statements_shorter (Unsets n more) depth nodes ts rest h =
     omega (arith, begins_shorter ts DeleteProperty h.1 h.4, one_shorter Name n h.1 h.2 h.5, begins_shorter h.2 Semicolon h.3 h.6, statements_shorter more depth false h.3 rest h.7)
 statements_shorter (Holds ls n body more) zero nodes ts rest h = absurd h.8
 statements_shorter (Holds ls n body more) (suc depth) nodes ts rest h =
-    omega (arith, labels_shorter ls ts h.0 h.5, one_shorter Name n h.0 h.1 h.6, begins_shorter h.1 Brace h.2 h.7, statements_shorter body depth false h.2 h.3 h.8, begins_shorter h.3 Semicolon h.4 h.9, statements_shorter more (suc depth) true h.4 rest h.10)
+    omega (arith, marks_shorter ls ts h.0 h.5, one_shorter Name n h.0 h.1 h.6, begins_shorter h.1 Brace h.2 h.7, statements_shorter body depth false h.2 h.3 h.8, begins_shorter h.3 Semicolon h.4 h.9, statements_shorter more (suc depth) true h.4 rest h.10)
 statements_shorter (Drops n more) depth nodes ts rest h =
     omega (arith, begins_shorter ts DeleteNode h.0 h.3, one_shorter Name n h.0 h.1 h.4, begins_shorter h.1 Semicolon h.2 h.5, statements_shorter more depth true h.2 rest h.6)
 
@@ -165,13 +173,13 @@ statements_again text (Sets ls n [] more) depth true ts rest h = absurd cc
 statements_again text (Sets ls n [] more) depth false ts rest h =
     plain_read text depth false (Defines (name_bytes text n) []) (Sets ls n [] more) more ts h.4 rest refl refl
     (omega (arith, labels_shorter ls ts h.1 h.5, one_shorter Name n h.1 h.2 h.6, value_end [] h.2 h.3 h.7, begins_shorter h.3 Semicolon h.4 h.8))
-    (named_front text (body_below text depth) false ls n ts h.1 h.2 h.5 h.6 ∙ empty_again text (body_below text depth) (map (label_bytes text) ls) (name_bytes text n) h.2 h.4 (subst (λ (x : List Lexeme). Begins x Semicolon h.4) (sym h.7) h.8))
+    (labelled_front text (body_below text depth) ls n ts h.1 h.2 h.5 h.6 ∙ empty_again text (body_below text depth) (map (label_bytes text) (labels_in ls)) (name_bytes text n) h.2 h.4 (subst (λ (x : List Lexeme). Begins x Semicolon h.4) (sym h.7) h.8))
     (statements_again text more depth false h.4 rest h.9)
 statements_again text (Sets ls n (p ∷ ps) more) depth true ts rest h = absurd cc
 statements_again text (Sets ls n (p ∷ ps) more) depth false ts rest h =
     faulty_read text depth false (Defines (name_bytes text n) (value_said text (p ∷ ps))) (value_faults text (p ∷ ps)) (Sets ls n (p ∷ ps) more) more ts h.4 rest refl refl
     (omega (arith, labels_shorter ls ts h.1 h.5, one_shorter Name n h.1 h.2 h.6, value_end (p ∷ ps) h.2 h.3 h.7, begins_shorter h.3 Semicolon h.4 h.8))
-    (named_front text (body_below text depth) false ls n ts h.1 h.2 h.5 h.6 ∙ valued_again text (body_below text depth) (map (label_bytes text) ls) (name_bytes text n) p ps h.2 h.3 h.4 h.7 h.8)
+    (labelled_front text (body_below text depth) ls n ts h.1 h.2 h.5 h.6 ∙ valued_again text (body_below text depth) (map (label_bytes text) (labels_in ls)) (name_bytes text n) p ps h.2 h.3 h.4 h.7 h.8)
     (statements_again text more depth false h.4 rest h.9)
 statements_again text (Unsets n more) depth true ts rest h = absurd cc
 statements_again text (Unsets n more) depth false ts rest h =
@@ -182,10 +190,10 @@ statements_again text (Unsets n more) depth false ts rest h =
 statements_again text (Holds ls n body more) zero nodes ts rest h = absurd h.8
 statements_again text (Holds ls n body more) (suc depth) nodes ts rest h =
     let inside = statements_again text body depth false h.2 h.3 h.8 in
-    faulty_read text (suc depth) nodes (Child false (map (label_bytes text) ls) (name_bytes text n) (body_of (entries_of text body))) (faults_in text body) (Holds ls n body more) more ts h.4 rest refl refl
-    (omega (arith, labels_shorter ls ts h.0 h.5, one_shorter Name n h.0 h.1 h.6, begins_shorter h.1 Brace h.2 h.7, statements_shorter body depth false h.2 h.3 h.8, begins_shorter h.3 Semicolon h.4 h.9))
+    faulty_read text (suc depth) nodes (Child (omits ls) (map (label_bytes text) (labels_in ls)) (name_bytes text n) (body_of (entries_of text body))) (faults_in text body) (Holds ls n body more) more ts h.4 rest refl refl
+    (omega (arith, marks_shorter ls ts h.0 h.5, one_shorter Name n h.0 h.1 h.6, begins_shorter h.1 Brace h.2 h.7, statements_shorter body depth false h.2 h.3 h.8, begins_shorter h.3 Semicolon h.4 h.9))
     (named_front text (body_below text (suc depth)) nodes ls n ts h.0 h.1 h.5 h.6
-    ∙ child_again text (body_below text (suc depth)) nodes (map (label_bytes text) ls) (name_bytes text n) body h.1 h.2 h.3 h.4 h.7 (record { read = λ t. inside (suc (length h.2)) (omega arith) }) h.9)
+    ∙ child_again text (body_below text (suc depth)) (nodes || omits ls) (omits ls) (map (label_bytes text) (labels_in ls)) (name_bytes text n) body h.1 h.2 h.3 h.4 h.7 (record { read = λ t. inside (suc (length h.2)) (omega arith) }) h.9)
     (statements_again text more (suc depth) true h.4 rest h.10)
 statements_again text (Drops n more) depth nodes ts rest h =
     plain_read text depth nodes (Removes (name_bytes text n)) (Drops n more) more ts h.2 rest refl refl

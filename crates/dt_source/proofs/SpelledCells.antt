@@ -1,13 +1,13 @@
 -- Cells and byte strings that are read are spelled, and the other way round.
-use Rattle.std.proofs.Common.{◌≡◌, ℕ, suc, ◌<◌, ◌≤◌, List, [], ◌∷◌, length, Ok, Option, Some, None, refl, sym, ap, subst, ◌∙◌, arith, ◌⊎◌, inl, inr}
+use Rattle.std.proofs.Common.{◌≡◌, ℕ, suc, true, ◌<◌, ◌≤◌, List, [], ◌∷◌, length, Ok, Option, Some, None, refl, sym, ap, subst, ◌∙◌, arith, ◌⊎◌, inl, inr}
 use Rattle.dt_lexeme.specs.declared.lexeme.Lexeme.{Lexeme}
 use Rattle.dt_lexeme.specs.declared.lexeme.Fault.{Fault}
 use Rattle.dt_lexeme.specs.declared.lexeme.Kind.{Kind}
-use Rattle.dt_lexeme.specs.declared.lexeme.Kind.TheVariants.{Label, Literal, Reference, PathReference, Greater, Paren}
+use Rattle.dt_lexeme.specs.declared.lexeme.Kind.TheVariants.{Label, Literal, Character, Reference, PathReference, Greater, Paren}
 use Rattle.dt_expression.specs.declared.elements.Width.{Width}
 use Rattle.dt_source.specs.declared.cell.Cell.{Cell}
 use Rattle.dt_source.specs.declared.cell.Cell.TheVariants as cells
-use Rattle.dt_expression.specs.Expression.{Expression, Number, Grouped, Prefixed, Infix, Choice, Begins, Spells, SpellsPrimary}
+use Rattle.dt_expression.specs.Expression.{Expression, Number, Grouped, Prefixed, Infix, Choice, is_number, Begins, Spells, SpellsPrimary}
 use Rattle.dt_expression.specs.Values.{value_of}
 use Rattle.dt_expression.specs.ReadingExpressions.{primary_at}
 use Rattle.dt_source.specs.Reading.Several.{many}
@@ -49,6 +49,7 @@ cell_sound text (t ∷ ts) o rest e = go t.kind refl e
     go : (k : Kind) → t.kind ≡ k → cell_by text k t ts ≡ Ok (o, rest) → CellFound text (t ∷ ts) o rest
     go Greater k e = found text (t ∷ ts) (None, ts) o rest (k, refl) e
     go Literal k e = element_sound text t ts o rest e
+    go Character k e = element_sound text t ts o rest e
     go Paren k e = element_sound text t ts o rest e
     go Reference k e = found text (t ∷ ts) (Some (cells.Reference t), ts) o rest (Refers t, (inl k, refl), refl) e
     go PathReference k e = found text (t ∷ ts) (Some (cells.Reference t), ts) o rest (Refers t, (inr k, refl), refl) e
@@ -105,9 +106,9 @@ cells_sound text w ts ps f rest e =
 
 -- ---- the other way round
 
-primary_front : (e : Expression) (t : Lexeme) (ts rest : List Lexeme) → SpellsPrimary e (t ∷ ts) rest → (t.kind ≡ Literal) ⊎ (t.kind ≡ Paren)
+primary_front : (e : Expression) (t : Lexeme) (ts rest : List Lexeme) → SpellsPrimary e (t ∷ ts) rest → (is_number t.kind ≡ true) ⊎ (t.kind ≡ Paren)
 unfolding Spells
-primary_front (Number l) t ts rest h = let same : t ≡ l = cc in inl (ap (λ (x : Lexeme). x.kind) same ∙ h.1.0)
+primary_front (Number l) t ts rest h = let same : t ≡ l = cc in inl (ap (λ (x : Lexeme). is_number x.kind) same ∙ h.1.0)
 primary_front (Grouped e) t ts rest h = inr h.1.2.0
 primary_front (Prefixed o e) t ts rest h = absurd h.0
 primary_front (Infix o e f) t ts rest h = absurd h.0
@@ -121,8 +122,13 @@ element_again text t ts e rest h = go (primary_front e t ts rest h)
     same : element_at t.start text (t ∷ ts) ≡ Ok (Some (cells.Element t.start (value_of text e)), rest)
     same = let r = reads_all_that_is_spelled text e (t ∷ ts) rest h in rw r refl
 
-    go : (t.kind ≡ Literal) ⊎ (t.kind ≡ Paren) → cell_by text t.kind t ts ≡ Ok (Some (cells.Element t.start (value_of text e)), rest)
-    go (inl k) = ap (λ (x : Kind). cell_by text x t ts) k ∙ same
+    number : (k : Kind) → is_number k ≡ true → cell_by text k t ts ≡ element_at t.start text (t ∷ ts)
+    number Literal h = refl
+    number Character h = refl
+    number _ h = absurd cc
+
+    go : (is_number t.kind ≡ true) ⊎ (t.kind ≡ Paren) → cell_by text t.kind t ts ≡ Ok (Some (cells.Element t.start (value_of text e)), rest)
+    go (inl k) = number t.kind k ∙ same
     go (inr k) = ap (λ (x : Kind). cell_by text x t ts) k ∙ same
 
 refers_again : (text : List ℕ) (t : Lexeme) (ts : List Lexeme) → IsReference t.kind → cell_at text (t ∷ ts) ≡ Ok (Some (cells.Reference t), ts)

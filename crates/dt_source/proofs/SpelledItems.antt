@@ -3,16 +3,17 @@ use Rattle.std.proofs.Common.{◌≡◌, ℕ, ◌<◌, false, List, [], ◌∷�
 use Rattle.dt_lexeme.specs.declared.lexeme.Lexeme.{Lexeme}
 use Rattle.dt_lexeme.specs.declared.lexeme.Fault.{Fault}
 use Rattle.dt_lexeme.specs.declared.lexeme.Kind.{Kind}
-use Rattle.dt_lexeme.specs.declared.lexeme.Kind.TheVariants.{Reference, PathReference, Semicolon, Brace, Slash, DeleteNode}
+use Rattle.dt_lexeme.specs.declared.lexeme.Kind.TheVariants.{Reference, PathReference, Semicolon, Brace, Slash, DeleteNode, OmitIfNoRef}
 use Rattle.dt_expression.specs.Expression.{Begins}
 use Rattle.dt_source.specs.Sequences.{SpellsEach}
-use Rattle.dt_meaning.specs.Syntax.{Piece, Entry, Body, body_of, Edit, Rooted, Extends, Deletes}
+use Rattle.dt_meaning.specs.Syntax.{Target, Piece, Entry, Body, body_of, Edit, Rooted, Extends, Deletes, Omits}
 use Rattle.dt_source.specs.Pieces.{target_of}
 use Rattle.dt_source.specs.Order.{first_of}
-use Rattle.dt_source.specs.Reading.Bodies.{is_label, labels_at, ended_by, body_at, body_below}
+use Rattle.dt_source.specs.Reading.Bodies.{labels_at, ended_by, body_at, body_below}
+use Rattle.dt_source.specs.Marks.{is_label}
 use Rattle.dt_source.specs.Words.{label_bytes}
-use Rattle.dt_source.specs.Source.{Statements, ItemTree, Root, Extend, Delete, IsReference, OneReference, SpellsLabels, SpellsStatements, SpellsBody, SpellsItem, entries_of, faults_in, item_said, item_faults}
-use Rattle.dt_source.specs.Reading.Whole.{brace_kind, brace_at, extend_at, delete_kind, delete_at, root_at, bare_item, unlabelled_item, item_kind, item_with, item_at}
+use Rattle.dt_source.specs.Source.{Statements, ItemTree, Root, Extend, Delete, Omit, IsReference, OneReference, SpellsLabels, SpellsStatements, SpellsBody, SpellsItem, entries_of, faults_in, item_said, item_faults}
+use Rattle.dt_source.specs.Reading.Whole.{brace_kind, brace_at, extend_at, referred_kind, referred_at, delete_at, omit_at, root_at, bare_item, unlabelled_item, item_kind, item_with, item_at}
 use Rattle.dt_expression.proofs.Sound.{bind_ok}
 use Rattle.dt_expression.proofs.Complete.{begins_shorter}
 use Rattle.dt_source.proofs.Several as several
@@ -71,23 +72,48 @@ root_sound text t us o f rest k e =
     (record { tree = Root b.tree; spells = (us, (k, refl), b.spells); value_is = ap Rooted b.said_is; fault_is = b.fault_is })
     (several.part_is (Some (Rooted y.0.0)) o y.0.1 f y.0.2 rest y.2)
 
-delete_sound : (text : List ℕ) (t : Lexeme) (us : List Lexeme) (o : Option Edit) (f : Option Fault) (rest : List Lexeme) → t.kind ≡ DeleteNode → delete_at text us ≡ Ok (o, f, rest) → ItemFound text (t ∷ us) o f rest
-delete_sound text t [] o f rest k e = absurd cc
-delete_sound text t (l ∷ us) o f rest k e = go l.kind refl e
-  where
-    deletes : IsReference l.kind → ended_by (Some (Deletes (target_of text l))) None us ≡ Ok (o, f, rest) → ItemFound text (t ∷ l ∷ us) o f rest
-    deletes h e =
-        let s = ended_sound (Some (Deletes (target_of text l))) o None f us rest e in
-        item_to text (t ∷ l ∷ us) (Some (Deletes (target_of text l))) o None f rest rest (record { tree = Delete l; spells = (l ∷ us, us, (k, refl), (h, refl), s.ends); value_is = refl; fault_is = refl }) (s.value_is, s.fault_is, refl)
+record ReferredFound (text : List ℕ) (ts : List Lexeme) (target : Target) (f : Option Fault) (rest : List Lexeme) : Type 0 where
+  reference : Lexeme
+  at : List Lexeme
+  spells : OneReference reference ts at
+  ends : Begins at Semicolon rest
+  target_is : target_of text reference ≡ target
+  fault_is : f ≡ None
 
-    go : (k : Kind) → l.kind ≡ k → delete_kind text k l us ≡ Ok (o, f, rest) → ItemFound text (t ∷ l ∷ us) o f rest
-    go Reference h e = deletes (inl h) e
-    go PathReference h e = deletes (inr h) e
+referred_sound : (text : List ℕ) (ts : List Lexeme) (target : Target) (f : Option Fault) (rest : List Lexeme) → referred_at text ts ≡ Ok (target, f, rest) → ReferredFound text ts target f rest
+referred_sound text [] target f rest e = absurd cc
+referred_sound text (l ∷ us) target f rest e = go l.kind refl e
+  where
+    refers : IsReference l.kind → ended_by (target_of text l) None us ≡ Ok (target, f, rest) → ReferredFound text (l ∷ us) target f rest
+    refers h e =
+        let s = ended_sound (target_of text l) target None f us rest e in
+        record { reference = l; at = us; spells = (h, refl); ends = s.ends; target_is = s.value_is; fault_is = sym s.fault_is }
+
+    go : (k : Kind) → l.kind ≡ k → referred_kind text k l us ≡ Ok (target, f, rest) → ReferredFound text (l ∷ us) target f rest
+    go Reference h e = refers (inl h) e
+    go PathReference h e = refers (inr h) e
     go _ h e = absurd cc
+
+delete_sound : (text : List ℕ) (t : Lexeme) (us : List Lexeme) (o : Option Edit) (f : Option Fault) (rest : List Lexeme) → t.kind ≡ DeleteNode → delete_at text us ≡ Ok (o, f, rest) → ItemFound text (t ∷ us) o f rest
+delete_sound text t us o f rest k e =
+    let y = bind_ok (referred_at text us) (λ y. Ok (Some (Deletes y.0), y.1, y.2)) (o, f, rest) e in
+    let r = referred_sound text us y.0.0 y.0.1 y.0.2 y.1 in
+    item_to text (t ∷ us) (Some (Deletes y.0.0)) o y.0.1 f y.0.2 rest
+    (record { tree = Delete r.reference; spells = (us, r.at, (k, refl), r.spells, r.ends); value_is = ap Deletes r.target_is; fault_is = sym r.fault_is })
+    (several.part_is (Some (Deletes y.0.0)) o y.0.1 f y.0.2 rest y.2)
+
+omit_sound : (text : List ℕ) (t : Lexeme) (us : List Lexeme) (o : Option Edit) (f : Option Fault) (rest : List Lexeme) → t.kind ≡ OmitIfNoRef → omit_at text us ≡ Ok (o, f, rest) → ItemFound text (t ∷ us) o f rest
+omit_sound text t us o f rest k e =
+    let y = bind_ok (referred_at text us) (λ y. Ok (Some (Omits y.0), y.1, y.2)) (o, f, rest) e in
+    let r = referred_sound text us y.0.0 y.0.1 y.0.2 y.1 in
+    item_to text (t ∷ us) (Some (Omits y.0.0)) o y.0.1 f y.0.2 rest
+    (record { tree = Omit r.reference; spells = (us, r.at, (k, refl), r.spells, r.ends); value_is = ap Omits r.target_is; fault_is = sym r.fault_is })
+    (several.part_is (Some (Omits y.0.0)) o y.0.1 f y.0.2 rest y.2)
 
 bare_sound : (text : List ℕ) (t : Lexeme) (us : List Lexeme) (k : Kind) (o : Option Edit) (f : Option Fault) (rest : List Lexeme) → t.kind ≡ k → bare_item text k t us ≡ Ok (o, f, rest) → ItemFound text (t ∷ us) o f rest
 bare_sound text t us Slash o f rest h e = root_sound text t us o f rest h e
 bare_sound text t us DeleteNode o f rest h e = delete_sound text t us o f rest h e
+bare_sound text t us OmitIfNoRef o f rest h e = omit_sound text t us o f rest h e
 bare_sound text t us _ o f rest h e = absurd cc
 
 unlabelled_sound : (text : List ℕ) (ls ts : List Lexeme) (t : Lexeme) (us : List Lexeme) (k : Kind) (o : Option Edit) (f : Option Fault) (rest : List Lexeme) → SpellsLabels ls ts (t ∷ us) → t.kind ≡ k
@@ -151,14 +177,24 @@ extend_again text ls l s ts us rest h k b = labelled text ls ts l us h (referenc
     go (inl k) = ap (λ (x : Kind). item_kind text ls x l us) k ∙ same
     go (inr k) = ap (λ (x : Kind). item_kind text ls x l us) k ∙ same
 
+referred_again : (text : List ℕ) (l : Lexeme) (ts at rest : List Lexeme) → OneReference l ts at → Begins at Semicolon rest → referred_at text ts ≡ Ok (target_of text l, None, rest)
+referred_again text l ts at rest k s = ap (referred_at text) k.1 ∙ go k.0
+  where
+    go : IsReference l.kind → referred_kind text l.kind l at ≡ Ok (target_of text l, None, rest)
+    go (inl k) = ap (λ (x : Kind). referred_kind text x l at) k ∙ ended_again (target_of text l) None at rest s
+    go (inr k) = ap (λ (x : Kind). referred_kind text x l at) k ∙ ended_again (target_of text l) None at rest s
+
 delete_again : (text : List ℕ) (l t : Lexeme) (ts a b rest : List Lexeme) → Begins (t ∷ ts) DeleteNode a → OneReference l a b → Begins b Semicolon rest → Again text (Delete l) (t ∷ ts) rest
 unfolding SpellsEach
 delete_again text l t ts a b rest h k s =
-    labelled text [] (t ∷ ts) t ts refl (ap is_label h.0) ∙ ap (λ (x : Kind). item_kind text [] x t ts) h.0 ∙ ap (delete_at text) (h.1 ∙ k.1) ∙ go k.0
-  where
-    go : IsReference l.kind → delete_kind text l.kind l b ≡ Ok (Some (item_said text (Delete l)), None, rest)
-    go (inl k) = ap (λ (x : Kind). delete_kind text x l b) k ∙ ended_again (Some (Deletes (target_of text l))) None b rest s
-    go (inr k) = ap (λ (x : Kind). delete_kind text x l b) k ∙ ended_again (Some (Deletes (target_of text l))) None b rest s
+    let referred = ap (referred_at text) h.1 ∙ referred_again text l a b rest k s in
+    labelled text [] (t ∷ ts) t ts refl (ap is_label h.0) ∙ ap (λ (x : Kind). item_kind text [] x t ts) h.0 ∙ rw referred refl
+
+omit_again : (text : List ℕ) (l t : Lexeme) (ts a b rest : List Lexeme) → Begins (t ∷ ts) OmitIfNoRef a → OneReference l a b → Begins b Semicolon rest → Again text (Omit l) (t ∷ ts) rest
+unfolding SpellsEach
+omit_again text l t ts a b rest h k s =
+    let referred = ap (referred_at text) h.1 ∙ referred_again text l a b rest k s in
+    labelled text [] (t ∷ ts) t ts refl (ap is_label h.0) ∙ ap (λ (x : Kind). item_kind text [] x t ts) h.0 ∙ rw referred refl
 
 pub item_again : (text : List ℕ) (i : ItemTree) (ts rest : List Lexeme) → SpellsItem i ts rest → Again text i ts rest
 item_again text (Root s) [] rest h = absurd h.1
@@ -166,6 +202,8 @@ item_again text (Root s) (t ∷ ts) rest h = root_again text s t ts h.0 rest h.1
 item_again text (Extend ls l s) ts rest h = extend_again text ls l s ts h.1 rest (subst (λ (x : List Lexeme). SpellsLabels ls ts x) h.3.1 h.2) h.3.0 h.4
 item_again text (Delete l) [] rest h = absurd h.2
 item_again text (Delete l) (t ∷ ts) rest h = delete_again text l t ts h.0 h.1 rest h.2 h.3 h.4
+item_again text (Omit l) [] rest h = absurd h.2
+item_again text (Omit l) (t ∷ ts) rest h = omit_again text l t ts h.0 h.1 rest h.2 h.3 h.4
 
 body_shorter : (s : Statements) (ts rest : List Lexeme) → SpellsBody s ts rest → length rest < length ts
 body_shorter s ts rest h = omega (arith, begins_shorter ts Brace h.0 h.2, statements_shorter s 64 false h.0 h.1 h.3, begins_shorter h.1 Semicolon rest h.4)
@@ -174,3 +212,4 @@ pub item_shorter : (i : ItemTree) (ts rest : List Lexeme) → SpellsItem i ts re
 item_shorter (Root s) ts rest h = omega (arith, begins_shorter ts Slash h.0 h.1, body_shorter s h.0 rest h.2)
 item_shorter (Extend ls l s) ts rest h = omega (arith, labels_shorter ls ts h.0 h.2, ap length h.3.1, body_shorter s h.1 rest h.4)
 item_shorter (Delete l) ts rest h = omega (arith, begins_shorter ts DeleteNode h.0 h.2, ap length h.3.1, begins_shorter h.1 Semicolon rest h.4)
+item_shorter (Omit l) ts rest h = omega (arith, begins_shorter ts OmitIfNoRef h.0 h.2, ap length h.3.1, begins_shorter h.1 Semicolon rest h.4)

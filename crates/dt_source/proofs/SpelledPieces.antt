@@ -13,7 +13,8 @@ use Rattle.dt_meaning.specs.Syntax.{Piece, Plain, PathOf}
 use Rattle.dt_source.specs.Strings.{string_bytes, string_faults}
 use Rattle.dt_source.specs.Pieces.{target_of, width_in, fault_in}
 use Rattle.dt_source.specs.Order.{first_of}
-use Rattle.dt_source.specs.Reading.Bodies.{is_label, labels_at, cells_at, pairs_at, less_by, less_at, bits_by, bits_at, piece_by, piece_at, placed_at}
+use Rattle.dt_source.specs.Reading.Bodies.{labels_at, cells_at, pairs_at, less_by, less_at, bits_by, bits_at, piece_by, piece_at, placed_at}
+use Rattle.dt_source.specs.Marks.{is_label}
 use Rattle.dt_source.specs.Source.{CellTree, PieceTree, Quoted, Points, Pairs, Cells, WideCells, IsReference, SpellsCell, SpellsCells, OnePair, SpellsPiece, SpellsPlaced, cells_said, cells_faults, fault_list, width_said, piece_said, piece_faults}
 use Rattle.dt_expression.proofs.Sound.{bind_ok}
 use Rattle.dt_expression.proofs.Complete.{begins_shorter}

@@ -1,5 +1,5 @@
 -- Statements that are read are spelled.
-use Rattle.std.proofs.Common.{◌≡◌, ℕ, zero, suc, Bool, true, false, List, [], ◌∷◌, length, map, Ok, Option, Some, None, refl, sym, ap, subst, ◌∙◌}
+use Rattle.std.proofs.Common.{◌≡◌, ℕ, zero, suc, Bool, true, false, ◌||◌, List, [], ◌∷◌, length, map, Ok, Option, Some, None, refl, sym, ap, subst, ◌∙◌}
 use Rattle.dt_lexeme.specs.declared.lexeme.Lexeme.{Lexeme}
 use Rattle.dt_lexeme.specs.declared.lexeme.Fault.{Fault}
 use Rattle.dt_lexeme.specs.declared.lexeme.Kind.{Kind}
@@ -10,13 +10,14 @@ use Rattle.dt_source.specs.Reading.Several.{Part, earlier, many, with_item}
 use Rattle.dt_source.specs.Sequences.{SpellsEach}
 use Rattle.dt_meaning.specs.Syntax.{Piece, Entry, Defines, Undefines, Child, Removes, body_of}
 use Rattle.dt_source.specs.Order.{first_of}
+use Rattle.dt_source.specs.Marks.{omits, labels_in}
 use Rattle.dt_source.specs.Words.{label_bytes, name_bytes}
-use Rattle.dt_source.specs.Reading.Bodies.{labels_at, value_at, semicolon_at, ended_by, Inner, name_by, named_by, named_at, deleted_at, bare_by, unlabelled, begun_by, begun_at, statement_at, after, statements_at, body_below}
-use Rattle.dt_source.specs.Source.{Statements, End, Sets, Unsets, Holds, Drops, One, SpellsLabels, SpellsStatements, value_faults, entries_of, faults_in}
+use Rattle.dt_source.specs.Reading.Bodies.{marks_at, value_at, semicolon_at, ended_by, Inner, name_by, named_by, named_at, deleted_at, bare_by, unmarked, begun_by, begun_at, statement_at, after, statements_at, body_below}
+use Rattle.dt_source.specs.Source.{Statements, End, Sets, Unsets, Holds, Drops, One, SpellsLabels, SpellsMarks, SpellsStatements, value_faults, entries_of, faults_in}
 use Rattle.dt_expression.proofs.Sound.{bind_ok}
 use Rattle.dt_source.proofs.Several as several
 use Rattle.dt_source.proofs.Semicolons.{semicolon_sound}
-use Rattle.dt_source.proofs.SpelledLabels.{labels_sound}
+use Rattle.dt_source.proofs.SpelledLabels.{marks_sound, marks_are_labels, neither}
 use Rattle.dt_source.proofs.SpelledValues.{ValueFound, value_sound}
 
 -- ---- the end of a statement
@@ -74,6 +75,15 @@ record Front (text : List ℕ) (ls : List Lexeme) (n : Lexeme) (ts us : List Lex
   labels : SpellsLabels ls ts at
   name : One Name n at us
 
+-- the same of marks
+record MarkedFront (text : List ℕ) (ms : List Lexeme) (n : Lexeme) (ts us : List Lexeme) : Type 0 where
+  at : List Lexeme
+  marks : SpellsMarks ms ts at
+  name : One Name n at us
+
+front_of : (text : List ℕ) (ms : List Lexeme) (n : Lexeme) (ts us : List Lexeme) → MarkedFront text ms n ts us → omits ms ≡ false → Front text ms n ts us
+front_of text ms n ts us h o = record { at = h.at; labels = marks_are_labels ms ts h.at h.marks o; name = h.name }
+
 empty_found : (text : List ℕ) (depth : ℕ) (ls : List Lexeme) (n t : Lexeme) (ts us : List Lexeme) → Front text ls n ts (t ∷ us) → t.kind ≡ Semicolon
     → StatementFound text depth false ts (Defines (name_bytes text n) []) None us
 unfolding SpellsStatements entries_of faults_in
@@ -94,13 +104,13 @@ value_found text depth ls n t ts us ps f mid r h k v s = record {
   faults = λ more. several.first_of_both (value_faults text (v.first ∷ v.others)) (faults_in text more) ∙ ap (λ (x : Option Fault). earlier x (first_of (faults_in text more))) v.fault_is;
 }
 
-child_found : (text : List ℕ) (depth : ℕ) (nodes : Bool) (ls : List Lexeme) (n t : Lexeme) (ts us : List Lexeme) (es : List (Entry (List Piece))) (f : Option Fault) (mid r : List Lexeme) → Front text ls n ts (t ∷ us) → t.kind ≡ Brace
-    → InnerFound text depth us es f mid → Begins mid Semicolon r → StatementFound text depth nodes ts (Child false (map (label_bytes text) ls) (name_bytes text n) (body_of es)) f r
+child_found : (text : List ℕ) (depth : ℕ) (nodes : Bool) (ls : List Lexeme) (n t : Lexeme) (ts us : List Lexeme) (es : List (Entry (List Piece))) (f : Option Fault) (mid r : List Lexeme) → MarkedFront text ls n ts (t ∷ us) → t.kind ≡ Brace
+    → InnerFound text depth us es f mid → Begins mid Semicolon r → StatementFound text depth nodes ts (Child (omits ls) (map (label_bytes text) (labels_in ls)) (name_bytes text n) (body_of es)) f r
 unfolding SpellsStatements entries_of faults_in
 child_found text depth nodes ls n t ts us es f mid r h k b s = record {
   make = Holds ls n b.tree;
-  spells = λ more rest m. (h.at, t ∷ us, us, mid, r, h.labels, h.name, (k, refl), b.spells, s, m);
-  entries = λ more. ap (λ (x : List (Entry (List Piece))). Child false (map (label_bytes text) ls) (name_bytes text n) (body_of x) ∷ entries_of text more) b.entries;
+  spells = λ more rest m. (h.at, t ∷ us, us, mid, r, h.marks, h.name, (k, refl), b.spells, s, m);
+  entries = λ more. ap (λ (x : List (Entry (List Piece))). Child (omits ls) (map (label_bytes text) (labels_in ls)) (name_bytes text n) (body_of x) ∷ entries_of text more) b.entries;
   faults = λ more. several.first_of_both (faults_in text b.tree) (faults_in text more) ∙ ap (λ (x : Option Fault). earlier x (first_of (faults_in text more))) b.faults;
 }
 
@@ -126,32 +136,40 @@ drops_found text depth nodes t n us r k h s = record {
 
 -- ---- by what stands there
 
-named_sound : (text : List ℕ) (depth : ℕ) (inner : Inner) → InnerSound text depth inner → (nodes : Bool) (ls : List Lexeme) (n : Lexeme) (ts us : List Lexeme) (o : Option (Entry (List Piece))) (f : Option Fault) (r : List Lexeme)
-    → Front text ls n ts us → named_at text inner nodes (map (label_bytes text) ls) (name_bytes text n) us ≡ Ok (o, f, r) → Found text depth nodes ts o f r
-named_sound text depth inner hi nodes ls n ts [] o f r h e = absurd cc
-named_sound text depth inner hi nodes ls n ts (t ∷ us) o f r h e = go nodes t.kind refl e
+named_sound : (text : List ℕ) (depth : ℕ) (inner : Inner) → InnerSound text depth inner → (nodes : Bool) (ms : List Lexeme) (n : Lexeme) (ts us : List Lexeme) (o : Option (Entry (List Piece))) (f : Option Fault) (r : List Lexeme)
+    → MarkedFront text ms n ts us → named_at text inner (nodes || omits ms) (omits ms) (map (label_bytes text) (labels_in ms)) (name_bytes text n) us ≡ Ok (o, f, r) → Found text depth nodes ts o f r
+named_sound text depth inner hi nodes ms n ts [] o f r h e = absurd cc
+named_sound text depth inner hi nodes ms n ts (t ∷ us) o f r h e = go (nodes || omits ms) refl t.kind refl e
   where
     labels : List (List ℕ)
-    labels = map (label_bytes text) ls
+    labels = map (label_bytes text) (labels_in ms)
 
     name : List ℕ
     name = name_bytes text n
 
-    child : (nodes : Bool) → t.kind ≡ Brace → (inner t us >>= λ b. ended_by (Some (Child false labels name (body_of b.0))) b.1 b.2) ≡ Ok (o, f, r) → Found text depth nodes ts o f r
-    child nodes k e =
-        let b = bind_ok (inner t us) (λ b. ended_by (Some (Child false labels name (body_of b.0))) b.1 b.2) (o, f, r) e in
-        let s = ended_sound (Some (Child false labels name (body_of b.0.0))) o b.0.1 f b.0.2 r b.2 in
-        to text depth nodes ts (Some (Child false labels name (body_of b.0.0))) o b.0.1 f r r (child_found text depth nodes ls n t ts us b.0.0 b.0.1 b.0.2 r h k (hi.by t us b.0.0 b.0.1 b.0.2 b.1) s.ends) (s.value_is, s.fault_is, refl)
+    front : (nodes || omits ms) ≡ false → Front text ms n ts (t ∷ us)
+    front free = front_of text ms n ts (t ∷ us) h (neither nodes (omits ms) free).1
 
-    go : (nodes : Bool) (k : Kind) → t.kind ≡ k → named_by text inner nodes labels name k t us ≡ Ok (o, f, r) → Found text depth nodes ts o f r
-    go false Semicolon k e = to text depth false ts (Some (Defines name [])) o None f us r (empty_found text depth ls n t ts us h k) (several.part_is (Some (Defines name [])) o None f us r e)
-    go false Equals k e =
+    -- where a property may stand, no node stood before
+    with_nodes : (nodes || omits ms) ≡ false → Found text depth false ts o f r → Found text depth nodes ts o f r
+    with_nodes free x = subst (λ (b : Bool). Found text depth b ts o f r) (sym (neither nodes (omits ms) free).0) x
+
+    child : t.kind ≡ Brace → (inner t us >>= λ b. ended_by (Some (Child (omits ms) labels name (body_of b.0))) b.1 b.2) ≡ Ok (o, f, r) → Found text depth nodes ts o f r
+    child k e =
+        let b = bind_ok (inner t us) (λ b. ended_by (Some (Child (omits ms) labels name (body_of b.0))) b.1 b.2) (o, f, r) e in
+        let s = ended_sound (Some (Child (omits ms) labels name (body_of b.0.0))) o b.0.1 f b.0.2 r b.2 in
+        to text depth nodes ts (Some (Child (omits ms) labels name (body_of b.0.0))) o b.0.1 f r r (child_found text depth nodes ms n t ts us b.0.0 b.0.1 b.0.2 r h k (hi.by t us b.0.0 b.0.1 b.0.2 b.1) s.ends) (s.value_is, s.fault_is, refl)
+
+    go : (closed : Bool) → (nodes || omits ms) ≡ closed → (k : Kind) → t.kind ≡ k → named_by text inner closed (omits ms) labels name k t us ≡ Ok (o, f, r) → Found text depth nodes ts o f r
+    go false free Semicolon k e =
+        with_nodes free (to text depth false ts (Some (Defines name [])) o None f us r (empty_found text depth ms n t ts us (front free) k) (several.part_is (Some (Defines name [])) o None f us r e))
+    go false free Equals k e =
         let b = bind_ok (value_at text us) (λ v. ended_by (Some (Defines name v.0)) v.1 v.2) (o, f, r) e in
         let s = ended_sound (Some (Defines name b.0.0)) o b.0.1 f b.0.2 r b.2 in
-        to text depth false ts (Some (Defines name b.0.0)) o b.0.1 f r r (value_found text depth ls n t ts us b.0.0 b.0.1 b.0.2 r h k (value_sound text us b.0.0 b.0.1 b.0.2 b.1) s.ends) (s.value_is, s.fault_is, refl)
-    go false Brace k e = child false k e
-    go true Brace k e = child true k e
-    go _ _ k e = absurd cc
+        with_nodes free (to text depth false ts (Some (Defines name b.0.0)) o b.0.1 f r r (value_found text depth ms n t ts us b.0.0 b.0.1 b.0.2 r (front free) k (value_sound text us b.0.0 b.0.1 b.0.2 b.1) s.ends) (s.value_is, s.fault_is, refl))
+    go false free Brace k e = child k e
+    go true free Brace k e = child k e
+    go _ free _ k e = absurd cc
 
 record DeletedFound (text : List ℕ) (entry : List ℕ → Entry (List Piece)) (ts : List Lexeme) (o : Option (Entry (List Piece))) (f : Option Fault) (r : List Lexeme) : Type 0 where
   name : Lexeme
@@ -195,25 +213,25 @@ bare_sound text depth nodes t us k o f r h e = go nodes k h e
     go true DeleteNode k e = drops true k e
     go _ _ k e = absurd cc
 
-unlabelled_sound : (text : List ℕ) (depth : ℕ) (nodes : Bool) (ls ts : List Lexeme) (t : Lexeme) (us : List Lexeme) (k : Kind) (o : Option (Entry (List Piece))) (f : Option Fault) (r : List Lexeme) → SpellsLabels ls ts (t ∷ us) → t.kind ≡ k
-    → unlabelled text nodes ls k t us ≡ Ok (o, f, r) → Found text depth nodes ts o f r
+unmarked_sound : (text : List ℕ) (depth : ℕ) (nodes : Bool) (ls ts : List Lexeme) (t : Lexeme) (us : List Lexeme) (k : Kind) (o : Option (Entry (List Piece))) (f : Option Fault) (r : List Lexeme) → SpellsMarks ls ts (t ∷ us) → t.kind ≡ k
+    → unmarked text nodes ls k t us ≡ Ok (o, f, r) → Found text depth nodes ts o f r
 unfolding SpellsEach
-unlabelled_sound text depth nodes [] ts t us k o f r s h e = subst (λ (x : List Lexeme). Found text depth nodes x o f r) (sym s) (bare_sound text depth nodes t us k o f r h e)
-unlabelled_sound text depth nodes (l ∷ ls) ts t us k o f r s h e = absurd cc
+unmarked_sound text depth nodes [] ts t us k o f r s h e = subst (λ (x : List Lexeme). Found text depth nodes x o f r) (sym s) (bare_sound text depth nodes t us k o f r h e)
+unmarked_sound text depth nodes (l ∷ ls) ts t us k o f r s h e = absurd cc
 
-begun_sound : (text : List ℕ) (depth : ℕ) (inner : Inner) → InnerSound text depth inner → (nodes : Bool) (ls ts us : List Lexeme) (o : Option (Entry (List Piece))) (f : Option Fault) (r : List Lexeme) → SpellsLabels ls ts us
+begun_sound : (text : List ℕ) (depth : ℕ) (inner : Inner) → InnerSound text depth inner → (nodes : Bool) (ls ts us : List Lexeme) (o : Option (Entry (List Piece))) (f : Option Fault) (r : List Lexeme) → SpellsMarks ls ts us
     → begun_at text inner nodes ls us ≡ Ok (o, f, r) → Found text depth nodes ts o f r
 begun_sound text depth inner hi nodes ls ts [] o f r s e = absurd cc
 begun_sound text depth inner hi nodes ls ts (t ∷ us) o f r s e = go t.kind refl e
   where
     go : (k : Kind) → t.kind ≡ k → begun_by text inner nodes ls k t us ≡ Ok (o, f, r) → Found text depth nodes ts o f r
-    go Name k e = named_sound text depth inner hi nodes ls t ts us o f r (record { at = t ∷ us; labels = s; name = (k, refl) }) e
-    go k h e = unlabelled_sound text depth nodes ls ts t us k o f r s h e
+    go Name k e = named_sound text depth inner hi nodes ls t ts us o f r (record { at = t ∷ us; marks = s; name = (k, refl) }) e
+    go k h e = unmarked_sound text depth nodes ls ts t us k o f r s h e
 
 statement_sound : (text : List ℕ) (depth : ℕ) (inner : Inner) → InnerSound text depth inner → (nodes : Bool) (ts : List Lexeme) (o : Option (Entry (List Piece))) (f : Option Fault) (r : List Lexeme)
     → statement_at text inner nodes ts ≡ Ok (o, f, r) → Found text depth nodes ts o f r
 unfolding statement_at
-statement_sound text depth inner hi nodes ts o f r e = begun_sound text depth inner hi nodes (labels_at ts).0 ts (labels_at ts).1 o f r (labels_sound ts).0 e
+statement_sound text depth inner hi nodes ts o f r e = begun_sound text depth inner hi nodes (marks_at ts).0 ts (marks_at ts).1 o f r (marks_sound ts).0 e
 
 -- ---- statements one after the other
 

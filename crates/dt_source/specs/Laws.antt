@@ -1,5 +1,6 @@
 -- What reading a source has to do with what its lexemes spell.
 use Rattle.std.specs.Prelude.{◌≡◌, ◌⊎◌, ℕ, List, Option, Ok}
+use Rattle.dt_lexeme.specs.declared.language.Language.{Language}
 use Rattle.dt_lexeme.specs.declared.lexeme.Lexeme.{Lexeme}
 use Rattle.dt_lexeme.specs.declared.lexeme.Fault.{Fault}
 use Rattle.dt_source.specs.declared.error.SourceErrorKind.{SourceErrorKind}
@@ -28,10 +29,10 @@ OneSpelling = (ts : List Lexeme) (s t : SourceTree) → Spells s ts → Spells t
 -- Nothing but want of memory refuses a text that says something.
 abbrev pub OnlyMemoryRefusesWhatIsSaid : Type 0
 OnlyMemoryRefusesWhatIsSaid =
-    (text : List ℕ) (m : Meaning) (k : SourceErrorKind) (line : ℕ) → IsShort text → Says text m → Refuses text k line → k ≡ NoMemory
+    (language : Language) (text : List ℕ) (m : Meaning) (k : SourceErrorKind) (line : ℕ) → IsShort text → Says language text m → Refuses language text k line → k ≡ NoMemory
 
 -- Nothing but its first fault and want of memory refuses a text that has one.
 abbrev pub OnlyMemoryAndTheFaultRefuse : Type 0
 OnlyMemoryAndTheFaultRefuse =
-    (text : List ℕ) (f : Fault) (k : SourceErrorKind) (line : ℕ) → IsShort text → HasFirstFault text f → Refuses text k line
+    (language : Language) (text : List ℕ) (f : Fault) (k : SourceErrorKind) (line : ℕ) → IsShort text → HasFirstFault language text f → Refuses language text k line
     → (k ≡ NoMemory) ⊎ (k ≡ kind_of_fault f.kind)

@@ -1,5 +1,6 @@
 pub mod Sequences
 pub mod Words
+pub mod Marks
 pub mod Tree
 pub mod Strings
 pub mod Pieces

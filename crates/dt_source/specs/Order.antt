@@ -1,5 +1,6 @@
 -- Faults in the order of the text.
 use Rattle.std.specs.Prelude.{◌≡◌, ℕ, ◌≤◌, List, [], ◌∷◌, Option, Some, None, Contains, All}
+use Rattle.dt_lexeme.specs.declared.language.Language.{Language}
 use Rattle.dt_lexeme.specs.declared.lexeme.Lexeme.{Lexeme}
 use Rattle.dt_lexeme.specs.declared.lexeme.Fault.{Fault}
 use Rattle.dt_lexeme.specs.Lexemes.{Lexemes}
@@ -16,4 +17,4 @@ IsFirstInText (Some f) fs = Contains fs f × All (λ g. f.place ≤ g.place) fs
 
 -- The first fault that is met is the first in the text.
 abbrev pub FaultsAreInOrder : Type 0
-FaultsAreInOrder = (text : List ℕ) (ls : List Lexeme) (s : SourceTree) → Lexemes text ls → Spells s ls → IsFirstInText (first_of (faults_of text s)) (faults_of text s)
+FaultsAreInOrder = (language : Language) (text : List ℕ) (ls : List Lexeme) (s : SourceTree) → Lexemes language text ls → Spells s ls → IsFirstInText (first_of (faults_of text s)) (faults_of text s)

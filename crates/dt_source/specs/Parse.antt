@@ -1,6 +1,7 @@
--- What text is a source, and what parsing answers (Devicetree Specification v0.4, chapter 6).
+-- What text is a source in a language, and what parsing answers (Devicetree Specification v0.4, chapter 6).
 use Rattle.std.specs.Prelude.{◌≡◌, ℕ, ◌<◌, ◌≤◌, nat_lt, List, [], length, Option, Some, None, Result, Ok, Err, if◌then◌else◌}
 use Rattle.dt_lexeme.specs.Limits.{text_limit}
+use Rattle.dt_lexeme.specs.declared.language.Language.{Language}
 use Rattle.dt_lexeme.specs.declared.lexeme.Lexeme.{Lexeme}
 use Rattle.dt_lexeme.specs.declared.lexeme.Fault.{Fault}
 use Rattle.dt_lexeme.specs.declared.lexeme.FaultKind.{FaultKind}
@@ -25,24 +26,24 @@ abbrev pub IsShort : List ℕ → Type 0
 IsShort text = length text ≤ text_limit
 
 -- Some lexemes of the text spell the source.
-abbrev pub IsSource : List ℕ → SourceTree → Type 0
-IsSource text s = (ls : List Lexeme) × Lexemes text ls × Spells s ls
+abbrev pub IsSource : Language → List ℕ → SourceTree → Type 0
+IsSource language text s = (ls : List Lexeme) × Lexemes language text ls × Spells s ls
 
 -- The text isn't in the bounded grammar.
-abbrev pub IsNoSource : List ℕ → Type 0
-IsNoSource text = (s : SourceTree) → IsSource text s → ⊥
+abbrev pub IsNoSource : Language → List ℕ → Type 0
+IsNoSource language text = (s : SourceTree) → IsSource language text s → ⊥
 
 -- The text spells a source without faults, and this is what it says.
-abbrev pub Says : List ℕ → Meaning → Type 0
-Says text m = (s : SourceTree) × IsSource text s × (faults_of text s ≡ []) × (said text s ≡ m)
+abbrev pub Says : Language → List ℕ → Meaning → Type 0
+Says language text m = (s : SourceTree) × IsSource language text s × (faults_of text s ≡ []) × (said text s ≡ m)
 
 -- The first of the faults, which is the first in the text, or there is none.
 abbrev pub IsFirst : Option Fault → List Fault → Type 0
 IsFirst f fs = (first_of fs ≡ f) × IsFirstInText f fs
 
 -- The text spells a source with faults, and this is the first of them.
-abbrev pub HasFirstFault : List ℕ → Fault → Type 0
-HasFirstFault text f = (s : SourceTree) × IsSource text s × IsFirst (Some f) (faults_of text s)
+abbrev pub HasFirstFault : Language → List ℕ → Fault → Type 0
+HasFirstFault language text f = (s : SourceTree) × IsSource language text s × IsFirst (Some f) (faults_of text s)
 
 -- ---- where a text that is no source stops
 
@@ -63,40 +64,40 @@ refusal_of (Some place) (Ok x) = Some (no_lexeme place)
 refusal_of (Some place) (Err r) = Some (refusal_before place r)
 
 -- The text is refused at this place: its lexemes, or those before it breaks off, read from left to right, are refused there.
-abbrev pub StopsAt : List ℕ → Refusal → Type 0
-StopsAt text r = (ls : List Lexeme) × (end : Option ℕ) × Scanned text ls end × (refusal_of end (source_at text ls) ≡ Some r)
+abbrev pub StopsAt : Language → List ℕ → Refusal → Type 0
+StopsAt language text r = (ls : List Lexeme) × (end : Option ℕ) × Scanned language text ls end × (refusal_of end (source_at text ls) ≡ Some r)
 
-abbrev pub IsRefused : List ℕ → Refusal → Type 0
-IsRefused text r = IsNoSource text × StopsAt text r
+abbrev pub IsRefused : Language → List ℕ → Refusal → Type 0
+IsRefused language text r = IsNoSource language text × StopsAt language text r
 
 -- ---- when each refusal comes, and its line
 
 -- The text isn't in the bounded grammar, and stops for this reason in this line.
-abbrev pub HasStop : List ℕ → RefusalKind → ℕ → Type 0
-HasStop text k line = IsShort text × ((r : Refusal) × IsRefused text r × (r.kind ≡ k) × (line ≡ line_at text r.place))
+abbrev pub HasStop : Language → List ℕ → RefusalKind → ℕ → Type 0
+HasStop language text k line = IsShort text × ((r : Refusal) × IsRefused language text r × (r.kind ≡ k) × (line ≡ line_at text r.place))
 
 -- Its first fault is of this kind, in this line.
-abbrev pub HasFault : List ℕ → FaultKind → ℕ → Type 0
-HasFault text k line = IsShort text × ((f : Fault) × HasFirstFault text f × (f.kind ≡ k) × (line ≡ line_at text f.place))
+abbrev pub HasFault : Language → List ℕ → FaultKind → ℕ → Type 0
+HasFault language text k line = IsShort text × ((f : Fault) × HasFirstFault language text f × (f.kind ≡ k) × (line ≡ line_at text f.place))
 
-abbrev pub Refuses : List ℕ → SourceErrorKind → ℕ → Type 0
-Refuses text kinds.NoMemory line = IsShort text × (line ≡ 0)
-Refuses text kinds.Syntax line = HasStop text Syntax line
-Refuses text kinds.TooDeep line = HasStop text TooDeep line
-Refuses text kinds.TooLong line = (text_limit < length text) × (line ≡ 1)
-Refuses text kinds.ElementRange line = HasFault text ElementRange line
-Refuses text kinds.DivideByZero line = HasFault text DivideByZero line
-Refuses text kinds.BadBits line = HasFault text BadBits line
-Refuses text kinds.LiteralRange line = HasFault text LiteralRange line
-Refuses text kinds.BadEscape line = HasFault text BadEscape line
+abbrev pub Refuses : Language → List ℕ → SourceErrorKind → ℕ → Type 0
+Refuses language text kinds.NoMemory line = IsShort text × (line ≡ 0)
+Refuses language text kinds.Syntax line = HasStop language text Syntax line
+Refuses language text kinds.TooDeep line = HasStop language text TooDeep line
+Refuses language text kinds.TooLong line = (text_limit < length text) × (line ≡ 1)
+Refuses language text kinds.ElementRange line = HasFault language text ElementRange line
+Refuses language text kinds.DivideByZero line = HasFault language text DivideByZero line
+Refuses language text kinds.BadBits line = HasFault language text BadBits line
+Refuses language text kinds.LiteralRange line = HasFault language text LiteralRange line
+Refuses language text kinds.BadEscape line = HasFault language text BadEscape line
 
 -- what was read of a text: what its source says, and the first of its faults
-abbrev pub IsRead : List ℕ → Meaning → Option Fault → Type 0
-IsRead text m f = (s : SourceTree) × IsSource text s × (said text s ≡ m) × IsFirst f (faults_of text s)
+abbrev pub IsRead : Language → List ℕ → Meaning → Option Fault → Type 0
+IsRead language text m f = (s : SourceTree) × IsSource language text s × (said text s ≡ m) × IsFirst f (faults_of text s)
 
-abbrev pub IfRefused : List ℕ → ReadError → Type 0
-IfRefused text errors.NoMemory = Unit {0}
-IfRefused text (errors.Refused r) = IsRefused text r
+abbrev pub IfRefused : Language → List ℕ → ReadError → Type 0
+IfRefused language text errors.NoMemory = Unit {0}
+IfRefused language text (errors.Refused r) = IsRefused language text r
 
 -- the refusal where no lexeme stands at this place
 abbrev pub refused_at : {A : Type 0} → ℕ → Result A ReadError → ReadError

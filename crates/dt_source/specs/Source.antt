@@ -1,9 +1,10 @@
--- Sources, the lexemes that spell them, what they say, and their faults (Devicetree Specification v0.4, sections 6.2 and 6.3).
+-- Sources, the lexemes that spell them, what they say, and their faults (Devicetree Specification v0.4, sections 6.2 and 6.3). What
+-- begins with a lexeme that only dtc's language has is dtc's (dtc 1.6, Documentation/dts-format.txt).
 use Rattle.std.specs.Prelude.{◌≡◌, ◌≢◌, ℕ, Bool, true, false, ◌||◌, List, [], ◌∷◌, ◌++◌, Option, Some, None, Result, Ok, map, flat_map, ◌⊎◌}
 use Rattle.dt_lexeme.specs.declared.lexeme.Lexeme.{Lexeme}
 use Rattle.dt_lexeme.specs.declared.lexeme.Fault.{Fault}
 use Rattle.dt_lexeme.specs.declared.lexeme.Kind.{Kind}
-use Rattle.dt_lexeme.specs.declared.lexeme.Kind.TheVariants.{Version, Plugin, MemReserve, Bits, DeleteNode, DeleteProperty, Label, Name, Literal, Text, Reference, PathReference, Pair, Semicolon, Brace, EndBrace, Equals, Comma, Less, Greater, Square, EndSquare, Slash}
+use Rattle.dt_lexeme.specs.declared.lexeme.Kind.TheVariants.{Version, Plugin, MemReserve, Bits, DeleteNode, DeleteProperty, OmitIfNoRef, Label, Name, Literal, Text, Reference, PathReference, Pair, Semicolon, Brace, EndBrace, Equals, Comma, Less, Greater, Square, EndSquare, Slash}
 use Rattle.dt_expression.specs.declared.elements.Width.{Width}
 use Rattle.dt_expression.specs.declared.elements.Width.TheVariants.{ThirtyTwo}
 use Rattle.dt_source.specs.declared.cell.Cell.{Cell}
@@ -11,9 +12,10 @@ use Rattle.dt_source.specs.declared.cell.Cell.TheVariants as cells
 use Rattle.dt_expression.specs.Expression.{Expression, Begins, Takes, Deeper, SpellsPrimary}
 use Rattle.dt_expression.specs.Values.{Value, literal_of, value_of}
 use Rattle.dt_source.specs.Sequences.{SpellsEach}
-use Rattle.dt_meaning.specs.Syntax.{Piece, Plain, PathOf, Entry, Defines, Undefines, Child, Removes, body_of, Edit, Rooted, Extends, Deletes, Meaning}
+use Rattle.dt_meaning.specs.Syntax.{Piece, Plain, PathOf, Entry, Defines, Undefines, Child, Removes, body_of, Edit, Rooted, Extends, Deletes, Omits, Meaning}
 use Rattle.dt_source.specs.Strings.{string_bytes, string_faults, pair_byte}
 use Rattle.dt_source.specs.Pieces.{target_of, width_at, width_in, fault_in, cell_fault, cells_pieces, joined}
+use Rattle.dt_source.specs.Marks.{is_mark, omits, labels_in}
 use Rattle.dt_source.specs.Words.{label_bytes, name_bytes, concat}
 
 -- ---- what is spelled, with the lexemes that its meaning and its faults are of
@@ -35,7 +37,7 @@ pub data Statements : Type 0 where
   End : Statements
   Sets : (labels : List Lexeme) (name : Lexeme) (value : List PieceTree) (more : Statements) → Statements
   Unsets : (name : Lexeme) (more : Statements) → Statements
-  Holds : (labels : List Lexeme) (name : Lexeme) (body more : Statements) → Statements
+  Holds : (marks : List Lexeme) (name : Lexeme) (body more : Statements) → Statements
   Drops : (name : Lexeme) (more : Statements) → Statements
 
 pub record ReserveTree : Type 0 where
@@ -46,6 +48,7 @@ pub data ItemTree : Type 0 where
   Root : (body : Statements) → ItemTree
   Extend : (labels : List Lexeme) (reference : Lexeme) (body : Statements) → ItemTree
   Delete : (reference : Lexeme) → ItemTree
+  Omit : (reference : Lexeme) → ItemTree
 
 -- headers say whether they are a plugin's
 pub record SourceTree : Type 0 where
@@ -67,6 +70,12 @@ OneReference l ts rest = IsReference l.kind × Takes ts l rest
 
 abbrev pub SpellsLabels : List Lexeme → List Lexeme → List Lexeme → Type 0
 SpellsLabels ls ts rest = SpellsEach (One Label) ls ts rest
+
+abbrev pub OneMark : Lexeme → List Lexeme → List Lexeme → Type 0
+OneMark l ts rest = (is_mark l.kind ≡ true) × Takes ts l rest
+
+abbrev pub SpellsMarks : List Lexeme → List Lexeme → List Lexeme → Type 0
+SpellsMarks ms ts rest = SpellsEach OneMark ms ts rest
 
 -- Labels that are read and dropped.
 abbrev pub DropsLabels : List Lexeme → List Lexeme → Type 0
@@ -112,8 +121,8 @@ SpellsStatements depth nodes (Sets ls n v more) ts rest =
     (nodes ≡ false) × (a b c d : List Lexeme) × SpellsLabels ls ts a × One Name n a b × SpellsValue v b c × Begins c Semicolon d × SpellsStatements depth false more d rest
 SpellsStatements depth nodes (Unsets n more) ts rest =
     (nodes ≡ false) × (a b c : List Lexeme) × Begins ts DeleteProperty a × One Name n a b × Begins b Semicolon c × SpellsStatements depth false more c rest
-SpellsStatements depth nodes (Holds ls n body more) ts rest =
-    (a b c d e : List Lexeme) × SpellsLabels ls ts a × One Name n a b × Begins b Brace c
+SpellsStatements depth nodes (Holds ms n body more) ts rest =
+    (a b c d e : List Lexeme) × SpellsMarks ms ts a × One Name n a b × Begins b Brace c
     × Deeper depth (λ inner. SpellsStatements inner false body c d) × Begins d Semicolon e × SpellsStatements depth true more e rest
 SpellsStatements depth nodes (Drops n more) ts rest =
     (a b c : List Lexeme) × Begins ts DeleteNode a × One Name n a b × Begins b Semicolon c × SpellsStatements depth true more c rest
@@ -129,6 +138,7 @@ abbrev pub SpellsItem : ItemTree → List Lexeme → List Lexeme → Type 0
 SpellsItem (Root s) ts rest = (a : List Lexeme) × Begins ts Slash a × SpellsBody s a rest
 SpellsItem (Extend ls l s) ts rest = (a b : List Lexeme) × SpellsLabels ls ts a × OneReference l a b × SpellsBody s b rest
 SpellsItem (Delete l) ts rest = (a b : List Lexeme) × Begins ts DeleteNode a × OneReference l a b × Begins b Semicolon rest
+SpellsItem (Omit l) ts rest = (a b : List Lexeme) × Begins ts OmitIfNoRef a × OneReference l a b × Begins b Semicolon rest
 
 abbrev pub SpellsReserve : ReserveTree → List Lexeme → List Lexeme → Type 0
 SpellsReserve r ts rest = (a b c d : List Lexeme) × DropsLabels ts a × Begins a MemReserve b × SpellsPrimary r.address b c × SpellsPrimary r.size c d × Begins d Semicolon rest
@@ -177,13 +187,14 @@ unfoldable pub entries_of : List ℕ → Statements → List (Entry (List Piece)
 entries_of text End = []
 entries_of text (Sets ls n v more) = Defines (name_bytes text n) (value_said text v) ∷ entries_of text more
 entries_of text (Unsets n more) = Undefines (name_bytes text n) ∷ entries_of text more
-entries_of text (Holds ls n body more) = Child false (map (label_bytes text) ls) (name_bytes text n) (body_of (entries_of text body)) ∷ entries_of text more
+entries_of text (Holds ms n body more) = Child (omits ms) (map (label_bytes text) (labels_in ms)) (name_bytes text n) (body_of (entries_of text body)) ∷ entries_of text more
 entries_of text (Drops n more) = Removes (name_bytes text n) ∷ entries_of text more
 
 abbrev pub item_said : List ℕ → ItemTree → Edit
 item_said text (Root s) = Rooted (body_of (entries_of text s))
 item_said text (Extend ls l s) = Extends (map (label_bytes text) ls) (target_of text l) (body_of (entries_of text s))
 item_said text (Delete l) = Deletes (target_of text l)
+item_said text (Omit l) = Omits (target_of text l)
 
 -- the pairs of numbers that have no fault
 abbrev pub both_numbers : Value × Value → List (ℕ × ℕ)
@@ -231,6 +242,7 @@ abbrev pub item_faults : List ℕ → ItemTree → List Fault
 item_faults text (Root s) = faults_in text s
 item_faults text (Extend ls l s) = faults_in text s
 item_faults text (Delete l) = []
+item_faults text (Omit l) = []
 
 abbrev pub reserve_faults : List ℕ → ReserveTree → List Fault
 reserve_faults text r = fault_list (fault_in (value_of text r.address)) ++ fault_list (fault_in (value_of text r.size))

@@ -1,13 +1,14 @@
 //! Bodies.
-ghost use Rattle.std.specs.Prelude.{◌≡◌, ◌<◌, ◌∷◌, Some, length, IfOk};
+ghost use Rattle.std.specs.Prelude.{◌≡◌, ◌<◌, ◌||◌, ◌∷◌, Some, length, IfOk};
 ghost use Rattle.dt_expression.specs.Reading.{Gives};
 ghost use Rattle.dt_source.specs.Reading.Returned.{ReadsStatement, ReadsBody};
 ghost use Rattle.dt_source.specs.Tree.{view};
-ghost use Rattle.dt_source.specs.Reading.Bodies.{name_at, ended_by, bare_by, unlabelled, begun_at};
+ghost use Rattle.dt_source.specs.Marks.{omits};
+ghost use Rattle.dt_source.specs.Reading.Bodies.{name_at, ended_by, bare_by, unmarked, begun_at};
 ghost use Rattle.dt_source.specs.Reading.Bodies.{statement_at, named_below, after, body_below, body_at};
 
-use crate::labels::labels_of;
-use crate::pieces::{labels, value};
+use crate::marks::{labels_among, marks, omits};
+use crate::pieces::value;
 use crate::reading::{Read, ReadBody, ReadStatement, semicolon};
 use crate::room::push_sparingly;
 use crate::string::earlier;
@@ -80,41 +81,58 @@ fn bare<'a, 'text>(
     }
 }
 
+// Whether no property may stand behind these marks, where a node stood before or not.
+fn closed(nodes: bool, marks: &[Lexeme]) -> bool
+    ensures { result ≡ (nodes || omits marks.now) }
+{
+    nodes || omits(marks)
+}
+
 #[cycle(body)]
 fn begun<'a, 'text>(
     alloc: Global,
     text: &'text [u8],
     depth: u8,
     nodes: bool,
-    labels: &[Lexeme],
+    marks: &[Lexeme],
     ts: &'a [Lexeme],
 ) -> ReadStatement<'a, 'text>
-    ensures gives { ReadsStatement result (begun_at text.now (body_below text.now depth) nodes labels.now ts.now) }
+    ensures gives { ReadsStatement result (begun_at text.now (body_below text.now depth) nodes marks.now ts.now) }
     ensures shorter { IfOk result (λ x. length x.rest.now < length ts.now) }
 {
     match ts {
         [] => Err(ReadError::Refused(syntax_at(ts))),
         [t, rest @ ..] => match t.kind {
-            Kind::Name => named(alloc, text, depth, nodes, labels, bytes_of(text, *t), rest),
-            _ => unlabelled(text, nodes, labels, *t, rest, ts),
+            Kind::Name => {
+                named(
+                    alloc,
+                    text,
+                    depth,
+                    closed(nodes, marks),
+                    marks,
+                    bytes_of(text, *t),
+                    rest,
+                )
+            }
+            _ => unmarked(text, nodes, marks, *t, rest, ts),
         },
     }
 }
 
-// Nothing but a name follows labels.
-fn unlabelled<'a, 'text>(
+// Nothing but a name follows marks.
+fn unmarked<'a, 'text>(
     text: &'text [u8],
     nodes: bool,
-    labels: &[Lexeme],
+    marks: &[Lexeme],
     t: Lexeme,
     rest: &'a [Lexeme],
     ts: &'a [Lexeme],
 ) -> ReadStatement<'a, 'text>
     requires { ts.now ≡ t ∷ rest.now }
-    ensures gives { ReadsStatement result (unlabelled text.now nodes labels.now t.kind t rest.now) }
+    ensures gives { ReadsStatement result (unmarked text.now nodes marks.now t.kind t rest.now) }
     ensures shorter { IfOk result (λ x. length x.rest.now < length ts.now) }
 {
-    match labels {
+    match marks {
         [] => bare(text, nodes, t, rest, ts),
         [_, ..] => Err(ReadError::Refused(syntax_at(ts))),
     }
@@ -132,22 +150,22 @@ fn statement<'a, 'text>(
     ensures gives { ReadsStatement result (statement_at text.now (body_below text.now depth) nodes ts.now) }
     ensures shorter { IfOk result (λ x. length x.rest.now < length ts.now) }
 {
-    let (labels, rest) = labels(ts);
-    begun(alloc, text, depth, nodes, labels, rest)
+    let (marks, rest) = marks(ts);
+    begun(alloc, text, depth, nodes, marks, rest)
 }
 
-// What follows a name: the end of a property without value, a value, or a body.
+// What follows a name: the end of a property without value, a value, or a body. Where `nodes` is true no property may stand.
 #[cycle(body)]
 fn named<'a, 'text>(
     alloc: Global,
     text: &'text [u8],
     depth: u8,
     nodes: bool,
-    labels: &[Lexeme],
+    marks: &[Lexeme],
     name: &'text [u8],
     ts: &'a [Lexeme],
 ) -> ReadStatement<'a, 'text>
-    ensures gives { ReadsStatement result (named_below text.now depth nodes labels.now name.now ts.now) }
+    ensures gives { ReadsStatement result (named_below text.now depth nodes marks.now name.now ts.now) }
     ensures shorter { IfOk result (λ x. length x.rest.now < length ts.now) }
 {
     match ts {
@@ -163,8 +181,8 @@ fn named<'a, 'text>(
             }
             Kind::Brace => {
                 let Read { found, fault, rest } = body_deeper(alloc, text, depth, *t, rest)?;
-                let labels = labels_of(alloc, text, labels)?;
-                end(node(false, labels, name, found), fault, rest)
+                let labels = labels_among(alloc, text, marks)?;
+                end(node(omits(marks), labels, name, found), fault, rest)
             }
             _ => Err(ReadError::Refused(syntax_at(ts))),
         },

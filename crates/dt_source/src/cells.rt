@@ -40,7 +40,7 @@ fn cell<'a>(text: &[u8], ts: &'a [Lexeme]) -> Result<(Option<Cell>, &'a [Lexeme]
         [] => Err(syntax_at(ts)),
         [t, rest @ ..] => match t.kind {
             Kind::Greater => Ok((None, rest)),
-            Kind::Literal | Kind::Paren => element(t.start, text, ts),
+            Kind::Literal | Kind::Character | Kind::Paren => element(t.start, text, ts),
             Kind::Reference | Kind::PathReference => Ok((Some(Cell::Reference(*t)), rest)),
             Kind::Label => Ok((Some(Cell::Label), rest)),
             _ => Err(syntax_at(ts)),

@@ -37,6 +37,13 @@ impl<'a> Labels<'a> {
     }
 }
 
+/// What a label is in the text, without its colon.
+pub(crate) fn label_text(text: &[u8], l: Lexeme) -> &[u8]
+    ensures { result.now ≡ label_bytes text.now l }
+{
+    bytes_between(text, l.start as usize, (l.end as usize).saturating_sub(1))
+}
+
 /// The labels that these lexemes are.
 pub(crate) fn labels_of<'text>(
     alloc: Global,
@@ -47,11 +54,7 @@ pub(crate) fn labels_of<'text>(
 {
     let mut list = Vec::with_capacity(alloc, labels.len())?;
     for label in labels {
-        list.push(bytes_between(
-            text,
-            label.start as usize,
-            (label.end as usize).saturating_sub(1),
-        ))?;
+        list.push(label_text(text, *label))?;
     }
     Labels::new(alloc, list)
 }

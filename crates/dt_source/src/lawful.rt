@@ -1,5 +1,6 @@
 //! What a source names is lawful, and its bodies are lists.
 ghost use Rattle.std.specs.Prelude.{ℕ, List};
+ghost use Rattle.dt_lexeme.specs.declared.language.Language.{Language};
 ghost use Rattle.dt_meaning.specs.Syntax.{Meaning};
 ghost use Rattle.dt_source.specs.Parse.{Says};
 ghost use Rattle.dt_source.specs.Lawful.{IsLawful};
@@ -8,7 +9,7 @@ ghost use Rattle.dt_source.specs.BodyLaws.{StatementsOfABody, BodyOfItsStatement
 /// What a text says is lawful: its names and paths are those of trees, and its labels are labels. So a tree is built of
 /// them without a test.
 pub fn says_lawful()
-    ensures { (text : List ℕ) (m : Meaning) → Says text m → IsLawful m }
+    ensures { (language : Language) (text : List ℕ) (m : Meaning) → Says language text m → IsLawful m }
 {}
 
 /// A body is the list of its statements, and lawful where each of them is.

@@ -9,6 +9,7 @@ mod cells;
 mod error;
 mod labels;
 mod lawful;
+mod marks;
 mod order;
 mod parser;
 mod parts;

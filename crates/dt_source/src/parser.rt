@@ -1,6 +1,7 @@
 //! A text, parsed.
 ghost use Rattle.std.specs.Prelude.{◌≡◌, ℕ, List, IfOk, IfErr};
 ghost use Rattle.dt_source.specs.declared.error.SourceErrorKind.TheVariants.{TooLong};
+ghost use Rattle.dt_lexeme.specs.declared.language.Language.{Language};
 ghost use Rattle.dt_lexeme.specs.declared.lexeme.Fault.{Fault};
 ghost use Rattle.dt_source.specs.Laws.{OnlyMemoryRefusesWhatIsSaid, OnlyMemoryAndTheFaultRefuse};
 ghost use Rattle.dt_meaning.specs.Syntax.{Meaning};
@@ -12,19 +13,23 @@ use crate::error::{SourceError, SourceErrorKind};
 use crate::refusals::{error_of, fault_error, refused_at};
 use crate::source::source;
 use crate::tree::{Outline, Source};
-use dt_lexeme::{Fault, ReadError, scan_front};
+use dt_lexeme::{Fault, Language, ReadError, scan_front};
 use std::alloc::Global;
 
 /// The longest text of a source, in bytes: 16 MiB.
 pub const MAX_TEXT_LEN: usize = 16_777_216;
 
 // What the text's source says, and the first of its faults.
-fn read<'a>(alloc: Global, text: &'a [u8]) -> Result<(Outline<'a>, Option<Fault>), ReadError>
+fn read<'a>(
+    alloc: Global,
+    text: &'a [u8],
+    language: Language,
+) -> Result<(Outline<'a>, Option<Fault>), ReadError>
     requires { IsShort text.now }
-    ensures found { IfOk result (λ x. IsRead text.now (outlined x.0) x.1) }
-    ensures refused { IfErr result (λ e. IfRefused text.now e) }
+    ensures found { IfOk result (λ x. IsRead language text.now (outlined x.0) x.1) }
+    ensures refused { IfErr result (λ e. IfRefused language text.now e) }
 {
-    let (lexemes, stop) = scan_front(alloc, text)?;
+    let (lexemes, stop) = scan_front(alloc, text, language)?;
     match stop {
         None => source(alloc, text, lexemes.as_slice()),
         Some(place) => Err(refused_at(place, source(alloc, text, lexemes.as_slice()))),
@@ -41,19 +46,23 @@ fn too_long() -> SourceError
     }
 }
 
-/// The source that the text spells, or why there is none: a text over 16 MiB, then what isn't in the grammar or
+/// The source that the text spells in this language, or why there is none: a text over 16 MiB, then what isn't in the grammar or
 /// nests too deep, then the first fault of a value in the order of the text.
-pub fn parse<'a>(alloc: Global, text: &'a [u8]) -> Result<Source<'a>, SourceError>
+pub fn parse<'a>(
+    alloc: Global,
+    text: &'a [u8],
+    language: Language,
+) -> Result<Source<'a>, SourceError>
     // What is answered is what the text says.
-    ensures found { IfOk result (λ s. IsShort text.now × Says text.now (meaning_of s)) }
+    ensures found { IfOk result (λ s. IsShort text.now × Says language text.now (meaning_of s)) }
     // Each refusal comes only where it should, and tells the line of its place. So a text is too long where that is
     // told.
-    ensures refused { IfErr result (λ e. Refuses text.now e.kind e.line) }
+    ensures refused { IfErr result (λ e. Refuses language text.now e.kind e.line) }
 {
     if text.len() > MAX_TEXT_LEN {
         return Err(too_long());
     }
-    match read(alloc, text) {
+    match read(alloc, text, language) {
         Err(refusal) => Err(error_of(text, refusal)),
         Ok((_, Some(fault))) => Err(fault_error(text, fault)),
         Ok(
@@ -76,9 +85,9 @@ pub fn parse<'a>(alloc: Global, text: &'a [u8]) -> Result<Source<'a>, SourceErro
 /// A text spells one source at most, and one answer fits it: where it says something nothing but want of memory
 /// refuses it, and where it has a fault nothing but that and want of memory.
 pub fn one_source()
-    ensures one { (text : List ℕ) (s t : SourceTree) → IsSource text s → IsSource text t → s ≡ t }
-    ensures meaning { (text : List ℕ) (m n : Meaning) → Says text m → Says text n → m ≡ n }
+    ensures one { (language : Language) (text : List ℕ) (s t : SourceTree) → IsSource language text s → IsSource language text t → s ≡ t }
+    ensures meaning { (language : Language) (text : List ℕ) (m n : Meaning) → Says language text m → Says language text n → m ≡ n }
     ensures accepted { OnlyMemoryRefusesWhatIsSaid }
-    ensures fault { (text : List ℕ) (m : Meaning) (f : Fault) → Says text m → HasFirstFault text f → ⊥ }
+    ensures fault { (language : Language) (text : List ℕ) (m : Meaning) (f : Fault) → Says language text m → HasFirstFault language text f → ⊥ }
     ensures faulty { OnlyMemoryAndTheFaultRefuse }
 {}

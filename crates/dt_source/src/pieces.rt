@@ -4,7 +4,8 @@ ghost use Rattle.dt_source.specs.Reading.Several.{Reads};
 ghost use Rattle.dt_source.specs.Reading.Returned.{Pushes};
 ghost use Rattle.dt_source.specs.Tree.{part_view};
 ghost use Rattle.dt_source.specs.Pieces.{width_at};
-ghost use Rattle.dt_source.specs.Reading.Bodies.{is_label, labels_at, less_at, bits_at};
+ghost use Rattle.dt_source.specs.Reading.Bodies.{labels_at, less_at, bits_at};
+ghost use Rattle.dt_source.specs.Marks.{is_label};
 ghost use Rattle.dt_source.specs.Reading.Bodies.{piece_at, placed_at, pieces_at, value_at};
 ghost use Rattle.dt_source.specs.Reading.Loops.{comma_rest};
 
@@ -18,7 +19,8 @@ use dt_expression::{Width, literal, syntax_at, width_of};
 use dt_lexeme::{Fault, FaultKind, Kind, Lexeme, ReadError};
 use std::alloc::Global;
 
-fn is_label(kind: Kind) -> bool
+/// Whether it is a label.
+pub(crate) fn is_label(kind: Kind) -> bool
     ensures { result ≡ is_label kind }
 {
     match kind {

@@ -3,7 +3,7 @@ ghost use Rattle.std.specs.Prelude.{◌<◌, length, IfOk};
 ghost use Rattle.dt_expression.specs.Reading.{Gives};
 ghost use Rattle.dt_source.specs.Reading.Bodies.{semicolon_at};
 
-use crate::tree::{Item, Statement};
+use crate::tree::{Item, Reference, Statement};
 use dt_expression::syntax_at;
 use dt_lexeme::{Fault, Kind, Lexeme, ReadError, Refusal};
 
@@ -26,6 +26,9 @@ pub type ReadBody<'a, 'text> = Result<Read<'a, Vec<Statement<'text>>>, ReadError
 
 /// An item, or the end of a source.
 pub type ReadItem<'a, 'text> = Result<Read<'a, Option<Item<'text>>>, ReadError>;
+
+/// What a reference names.
+pub type ReadTarget<'a, 'text> = Result<Read<'a, Reference<'text>>, ReadError>;
 
 /// A reservation's address and size, where one begins.
 pub type ReadReserve<'a> = Result<

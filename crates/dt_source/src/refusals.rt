@@ -1,5 +1,6 @@
 //! How a text is refused: by what can't be read, or by the first fault of a value.
 ghost use Rattle.std.specs.Prelude.{◌≡◌};
+ghost use Rattle.dt_lexeme.specs.declared.language.Language.{Language};
 ghost use Rattle.dt_source.specs.Parse.{IsShort, HasFirstFault, Refuses, IfRefused, refused_at};
 
 use crate::error::{SourceError, SourceErrorKind, kind_of_fault, kind_of_refusal};
@@ -30,9 +31,8 @@ pub(crate) fn refused_at(
 
 /// Why a text is refused that isn't in the grammar or nests too deep, and the line of that.
 pub(crate) fn error_of(text: &[u8], refusal: ReadError) -> SourceError
-    requires short { IsShort text.now }
-    requires none { IfRefused text.now refusal }
-    ensures { Refuses text.now result.kind result.line }
+    requires { IsShort text.now }
+    ensures { (language : Language) → IfRefused language text.now refusal → Refuses language text.now result.kind result.line }
 {
     match refusal {
         ReadError::NoMemory => SourceError {
@@ -48,9 +48,8 @@ pub(crate) fn error_of(text: &[u8], refusal: ReadError) -> SourceError
 
 /// Why a text is refused whose first fault this is, and its line.
 pub(crate) fn fault_error(text: &[u8], fault: Fault) -> SourceError
-    requires short { IsShort text.now }
-    requires first { HasFirstFault text.now fault }
-    ensures { Refuses text.now result.kind result.line }
+    requires { IsShort text.now }
+    ensures { (language : Language) → HasFirstFault language text.now fault → Refuses language text.now result.kind result.line }
 {
     SourceError {
         kind: kind_of_fault(fault.kind),

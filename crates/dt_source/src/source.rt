@@ -3,8 +3,7 @@ ghost use Rattle.std.specs.Prelude.{◌≡◌, ◌≤◌, ◌<◌, ◌++◌, ◌
 ghost use Rattle.std.specs.Prelude.{IfOk, OnOk, IfSome};
 ghost use Rattle.dt_expression.specs.Reading.{Gives};
 ghost use Rattle.dt_source.specs.Reading.Several.{Reads};
-ghost use Rattle.dt_source.specs.Reading.Returned.{ReadsItem, ReadsItemBody};
-ghost use Rattle.dt_meaning.specs.Syntax.{Deletes};
+ghost use Rattle.dt_source.specs.Reading.Returned.{ReadsItem, ReadsItemBody, ReadsTarget};
 ghost use Rattle.dt_source.specs.Tree.{views, item_view};
 ghost use Rattle.dt_source.specs.Meaning.{outlined};
 ghost use Rattle.dt_source.specs.Pieces.{target_of};
@@ -12,14 +11,14 @@ ghost use Rattle.dt_source.specs.Reading.Bodies.{ended_by};
 ghost use Rattle.dt_source.specs.Source.{both_numbers};
 ghost use Rattle.dt_source.specs.Reading.Whole.{plugin_at, header_at, more_headers, headers_at, some_header};
 ghost use Rattle.dt_source.specs.Reading.Whole.{reserve_with, reserve_at, reserves_at, brace_at, extend_at};
-ghost use Rattle.dt_source.specs.Reading.Whole.{delete_at, bare_item, unlabelled_item, item_with, item_at};
+ghost use Rattle.dt_source.specs.Reading.Whole.{referred_at, bare_item, unlabelled_item, item_with, item_at};
 ghost use Rattle.dt_source.specs.Reading.Whole.{all_items_at, items_at, source_at};
 
 use crate::body::{MAX_BODY_DEPTH, body};
 use crate::cells::fault_in;
 use crate::labels::labels_of;
 use crate::pieces::labels;
-use crate::reading::{Read, ReadBody, ReadItem, ReadReserve, semicolon};
+use crate::reading::{Read, ReadBody, ReadItem, ReadReserve, ReadTarget, semicolon};
 use crate::references::target;
 use crate::string::earlier;
 use crate::tree::{Item, Outline, Statement};
@@ -220,29 +219,30 @@ fn extend<'a, 'text>(
     Ok(Read { found, fault, rest })
 }
 
-fn end_delete<'a, 'text>(text: &'text [u8], t: Lexeme, ts: &'a [Lexeme]) -> ReadItem<'a, 'text>
-    ensures gives { ReadsItem result (ended_by (Some (Deletes (target_of text.now t))) None ts.now) }
+fn end_reference<'a, 'text>(text: &'text [u8], t: Lexeme, ts: &'a [Lexeme]) -> ReadTarget<'a, 'text>
+    ensures gives { ReadsTarget result (ended_by (target_of text.now t) None ts.now) }
     ensures shorter { IfOk result (λ x. length x.rest.now < length ts.now) }
 {
     let rest = semicolon(ts)?;
-    let (found, fault) = (Some(Item::Delete(target(text, t))), None);
+    let (found, fault) = (target(text, t), None);
     Ok(Read { found, fault, rest })
 }
 
-fn delete<'a, 'text>(text: &'text [u8], ts: &'a [Lexeme]) -> ReadItem<'a, 'text>
-    ensures gives { ReadsItem result (delete_at text.now ts.now) }
+// What a reference names, and a semicolon.
+fn referred<'a, 'text>(text: &'text [u8], ts: &'a [Lexeme]) -> ReadTarget<'a, 'text>
+    ensures gives { ReadsTarget result (referred_at text.now ts.now) }
     ensures shorter { IfOk result (λ x. length x.rest.now < length ts.now) }
 {
     match ts {
         [] => Err(ReadError::Refused(syntax_at(ts))),
         [t, rest @ ..] => match t.kind {
-            Kind::Reference | Kind::PathReference => end_delete(text, *t, rest),
+            Kind::Reference | Kind::PathReference => end_reference(text, *t, rest),
             _ => Err(ReadError::Refused(syntax_at(ts))),
         },
     }
 }
 
-// The root again, or the deletion of a node. The lexemes with this one are for the refusal.
+// The root again, or the deletion or mark of a node. The lexemes with this one are for the refusal.
 fn bare<'a, 'text>(
     alloc: Global,
     text: &'text [u8],
@@ -260,7 +260,16 @@ fn bare<'a, 'text>(
             let found = Some(Item::Root(found));
             Ok(Read { found, fault, rest })
         }
-        Kind::DeleteNode => delete(text, rest),
+        Kind::DeleteNode => {
+            let Read { found, fault, rest } = referred(text, rest)?;
+            let found = Some(Item::Delete(found));
+            Ok(Read { found, fault, rest })
+        }
+        Kind::OmitIfNoRef => {
+            let Read { found, fault, rest } = referred(text, rest)?;
+            let found = Some(Item::Omit(found));
+            Ok(Read { found, fault, rest })
+        }
         _ => Err(ReadError::Refused(syntax_at(ts))),
     }
 }

@@ -2,7 +2,6 @@ pub mod Bodies
 pub mod Broken
 pub mod Bytes
 pub mod Chains
-pub mod Character
 pub mod Copied
 pub mod Course
 pub mod Cuts

@@ -24,7 +24,7 @@ use Rattle.dtc_dialect.specs.Copied.{Between, IsPut, apart, inside, is_character
 use Rattle.dtc_dialect.specs.Phandles.{cells_behind, no_cells}
 use Rattle.dtc_dialect.specs.References.{NamesNode}
 use Rattle.dtc_dialect.specs.Stops.{labels_there}
-use Rattle.dtc_dialect.specs.Character.{character_of}
+use Rattle.dt_expression.specs.Character.{character_of}
 
 -- ---- phandles
 -- what is known of a node's phandle, where numbers are written out

@@ -6,7 +6,6 @@
 mod bytes;
 mod chains;
 mod changing;
-mod character;
 mod edits;
 mod error;
 mod first_two;

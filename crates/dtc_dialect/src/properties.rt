@@ -9,7 +9,6 @@ ghost use Rattle.dtc_dialect.specs.Said.{AreSaid, Copied, IsSaid, IsSaidAt, IsVa
 ghost use Rattle.dtc_dialect.specs.Said.{asked_of, base_name, is_cell_reference, is_name_of, known_of, legacy_at, legacy_in, repeats_name, says_name};
 
 use crate::bytes::{begins, behind, front};
-use crate::character::character;
 use crate::error::{DialectError, Mistake, refused};
 use crate::numbers::{Cells, Known, Numbers};
 use crate::printer::Printer;
@@ -17,6 +16,7 @@ use crate::printing::{Printed, node_row};
 use crate::table::{NodeRow, PropertyRow};
 use crate::token::{Kind, Token};
 use crate::watch::Word;
+use dt_expression::character;
 use std::alloc::Global;
 
 pub(crate) fn put_properties<'t>(

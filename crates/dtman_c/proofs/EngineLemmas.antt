@@ -1,5 +1,6 @@
 -- What an engine's clauses say of its result, they say of the bytes or the fault that it shows.
 use Rattle.std.proofs.Common.{◌≡◌, ◌↔◌, ◌⊎◌, inr, ap, ℕ, Bool, List, Result, Ok, Err, Some, IfOk, IfErr, IsErrAnd, MatchResult}
+use Rattle.dt_lexeme.specs.declared.language.Language.TheVariants.{Profile}
 use Rattle.dt_tree.specs.TreeData.{TreeData}
 use Rattle.dt_source.specs.Parse.{Says}
 use Rattle.dt_meaning.specs.Syntax.{Meaning}
@@ -49,7 +50,7 @@ wanting fault MayBe before after told is h = record { given = Err (fault_value f
 -- ---- the engines
 pub compiled : {V : Type 0} (items : V → List ℕ) (r : Result V Fault) (symbols : Bool) (source : List ℕ)
     → IfOk r (λ blob. compile.IsCompiled symbols source (items blob))
-    → ((m : Meaning) → IsShort source → Says source m → MatchResult r (λ blob. compile.IsBlobOf symbols m (items blob)) (λ fault. compile.CannotBuild symbols m (fault_value fault)))
+    → ((m : Meaning) → IsShort source → Says Profile source m → MatchResult r (λ blob. compile.IsBlobOf symbols m (items blob)) (λ fault. compile.CannotBuild symbols m (fault_value fault)))
     → IfErr r (λ fault. compile.IsCompileRefusal symbols source (fault_value fault))
     → IsCompileAnswer symbols source (shown items r)
 compiled items (Ok v) symbols source a s r = record { answer = a; said = s; refused = r }

@@ -1,5 +1,6 @@
 -- The engines' clauses, over what they answer as a caller sees it: bytes or a fault.
 use Rattle.std.specs.Prelude.{◌≡◌, ◌↔◌, ◌⊎◌, ℕ, Bool, List, Result, Ok, Err, Some, IfOk, IfErr, IsErrAnd, MatchResult}
+use Rattle.dt_lexeme.specs.declared.language.Language.TheVariants.{Profile}
 use Rattle.dt_tree.specs.TreeData.{TreeData}
 use Rattle.dt_source.specs.Parse.{Says}
 use Rattle.dt_meaning.specs.Syntax.{Meaning}
@@ -23,7 +24,7 @@ pub record IsCompileAnswer (symbols : Bool) (source : List ℕ) (result : Result
   pub said :
       (m : Meaning)
       → IsShort source
-      → Says source m
+      → Says Profile source m
       → MatchResult result (λ blob. compile.IsBlobOf symbols m blob) (λ fault. compile.CannotBuild symbols m fault)
   pub refused : IfErr result (λ fault. compile.IsCompileRefusal symbols source fault)
 

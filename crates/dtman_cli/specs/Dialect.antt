@@ -1,6 +1,7 @@
 -- What `compile --dtc` answers of a source: what the profile answers of it, and where that is a refusal that dtc's dialect may lift, what the
 -- profile answers of the text by which the source is said without the dialect (dtc 1.6, Documentation/dts-format.txt).
 use Rattle.std.specs.Prelude.{◌≡◌, ℕ, Bool, false, true, List, Ok, Err, IfOk, IfErr, MatchResult}
+use Rattle.dt_lexeme.specs.declared.language.Language.TheVariants.{Profile}
 use Rattle.dt_source.specs.Parse.{Says}
 use Rattle.dt_meaning.specs.Syntax.{Meaning}
 use Rattle.dtman_engine.specs.Compile.{Builds, IsCompileRefusal, IsCompiled}
@@ -14,7 +15,7 @@ use Rattle.dtman_cli.specs.declared.dialect.Outcome.TheVariants.{Plain, Said, Re
 -- what the profile answers of a text: all that `compile_bytes` says of it
 pub record IsAnswer (symbols : Bool) (text : List ℕ) (given : Answer) : Type 0 where
   pub answer : IfOk given (λ blob. IsCompiled symbols text blob.items)
-  pub said : (m : Meaning) → IsShort text → Says text m → Builds symbols m given
+  pub said : (m : Meaning) → IsShort text → Says Profile text m → Builds symbols m given
   pub refused : IfErr given (λ fault. IsCompileRefusal symbols text (fault_value fault))
 
 -- the answer is a refusal that the dialect may lift

@@ -2,7 +2,7 @@
 //!
 //! `parse` tells the line of a refusal: so the text is written with one lexeme a line, and parsed again.
 
-use dt_lexeme::Lexeme;
+use dt_lexeme::{Language, Lexeme};
 use dt_source::{SourceErrorKind, parse};
 use std::alloc::{AllocError, Global};
 
@@ -21,7 +21,7 @@ pub(crate) fn stop_of(
     broken: Option<u32>,
 ) -> Result<Option<Stop>, AllocError> {
     let lines = one_a_line(alloc, text, lexemes, broken)?;
-    match parse(alloc, lines.as_slice()) {
+    match parse(alloc, lines.as_slice(), Language::Profile) {
         Ok(_) => Ok(None),
         Err(error) => match error.kind {
             SourceErrorKind::NoMemory => Err(AllocError),

@@ -4,7 +4,7 @@ use crate::alike::nearest;
 use crate::blobs::of_file_with;
 use crate::diagnosis::{Diagnosis, Location, Note, Subject, copied};
 use crate::refused::{Stop, stop_of};
-use dt_lexeme::{Kind, Lexeme, scan_front};
+use dt_lexeme::{Kind, Language, Lexeme, scan_front};
 use dt_place::{locate, position_of};
 use dt_source::MAX_SOURCE_LEN;
 use dt_trace::{Around, Culprit, Trace, fragment_names, trace_source, whereabouts};
@@ -30,7 +30,7 @@ pub fn diagnose_source(
     if text.len() > MAX_SOURCE_LEN {
         return refused.whole(alloc);
     }
-    let (lexemes, broken) = scan_front(alloc, text)?;
+    let (lexemes, broken) = scan_front(alloc, text, Language::Profile)?;
     match number {
         10..=16 => refused.spelling(alloc, lexemes.as_slice(), broken),
         20..=28 => refused.meaning(alloc, lexemes.as_slice(), symbols),

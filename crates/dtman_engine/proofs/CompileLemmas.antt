@@ -1,5 +1,6 @@
 -- From what the parts answer to what compiling answers.
 use Rattle.std.proofs.Common.{◌≡◌, ◌<◌, inl, inr, ℕ, Bool, List, length, Result, Ok, Err, IfOk, IfErr, MatchResult, ap, sym, ◌∙◌, subst, arith}
+use Rattle.dt_lexeme.specs.declared.language.Language.TheVariants.{Profile}
 use Rattle.dt_tree.specs.PathMap.{TreeMap}
 use Rattle.dt_tree.specs.TreeData.{TreeData, IsTree}
 use Rattle.dt_tree.proofs.MapLaws.{same_tree}
@@ -43,12 +44,12 @@ unbuilt symbols m t fault is of (inr large) = inr (inr (large.0, long-tree symbo
 
 -- what is said of the result of a source is said of the text's
 module _ {V : Type 0} (bytes : V → List ℕ) (symbols : Bool) (text : List ℕ) (m : Meaning) where
-  pub compiled : (r : Result V Fault) → IsShort text → Says text m → MatchResult r (λ blob. IsBlobOf symbols m (bytes blob)) (λ fault. CannotBuild symbols m (fault_value fault))
+  pub compiled : (r : Result V Fault) → IsShort text → Says Profile text m → MatchResult r (λ blob. IsBlobOf symbols m (bytes blob)) (λ fault. CannotBuild symbols m (fault_value fault))
       → IfOk r (λ blob. IsCompiled symbols text (bytes blob))
   compiled (Ok blob) short says h = record { said = m; short = short; says = says; blob_is = h }
   compiled (Err fault) short says h = tt
 
-  pub in-vain : (r : Result V Fault) → IsShort text → Says text m → MatchResult r (λ blob. IsBlobOf symbols m (bytes blob)) (λ fault. CannotBuild symbols m (fault_value fault))
+  pub in-vain : (r : Result V Fault) → IsShort text → Says Profile text m → MatchResult r (λ blob. IsBlobOf symbols m (bytes blob)) (λ fault. CannotBuild symbols m (fault_value fault))
       → IfErr r (λ fault. IsCompileRefusal symbols text (fault_value fault))
   in-vain (Ok blob) short says h = tt
   in-vain (Err fault) short says h = inr (record { said = m; short = short; says = says; cannot = h })

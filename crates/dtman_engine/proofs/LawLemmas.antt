@@ -1,5 +1,6 @@
 -- A blob comes back from its dump, by the laws of the crates below.
 use Rattle.std.proofs.Common.{◌≡◌, ◌<◌, ◌≤◌, inl, inr, ℕ, false, List, length, None, Some, Result, Ok, Err, refl, ap, ◌∙◌, subst, arith}
+use Rattle.dt_lexeme.specs.declared.language.Language.TheVariants.{Profile}
 use Rattle.dt_tree.specs.TreeData.{TreeData, IsTree}
 use Rattle.dt_source.specs.declared.error.SourceErrorKind.{SourceErrorKind}
 use Rattle.dt_source.specs.declared.error.SourceErrorKind.TheVariants as kinds
@@ -80,11 +81,11 @@ fits-not m t is of fits long =
     omega (arith, fits, over)
 
 -- ---- a text that says what means the tree
-module _ (accepted : (text : List ℕ) (m : Meaning) (k : SourceErrorKind) (line : ℕ) → IsShort text → Says text m → parse.Refuses text k line → k ≡ kinds.NoMemory) (meaning : (text : List ℕ) (m n : Meaning) → Says text m → Says text n → m ≡ n) (text : List ℕ) (s : Meaning) (t : TreeData) (is : IsTree t) (says : Says text s) (of : IsTreeOf false s t) (fits : length (blob_of t) ≤ blob_limit) where
-  wanted : (k : SourceErrorKind) (line : ℕ) (fault : FaultValue) → fault ≡ source_fault k line → IsShort text → parse.Refuses text k line → CannotCompile text fault
+module _ (accepted : (text : List ℕ) (m : Meaning) (k : SourceErrorKind) (line : ℕ) → IsShort text → Says Profile text m → parse.Refuses Profile text k line → k ≡ kinds.NoMemory) (meaning : (text : List ℕ) (m n : Meaning) → Says Profile text m → Says Profile text n → m ≡ n) (text : List ℕ) (s : Meaning) (t : TreeData) (is : IsTree t) (says : Says Profile text s) (of : IsTreeOf false s t) (fits : length (blob_of t) ≤ blob_limit) where
+  wanted : (k : SourceErrorKind) (line : ℕ) (fault : FaultValue) → fault ≡ source_fault k line → IsShort text → parse.Refuses Profile text k line → CannotCompile text fault
   wanted k line fault told short why = inl (told ∙ ap (λ (x : SourceErrorKind). source_fault x line) (accepted text s k line short says why))
 
-  unsaid : (k : SourceErrorKind) (line : ℕ) (fault : FaultValue) → fault ≡ source_fault k line → parse.Refuses text k line → CannotCompile text fault
+  unsaid : (k : SourceErrorKind) (line : ℕ) (fault : FaultValue) → fault ≡ source_fault k line → parse.Refuses Profile text k line → CannotCompile text fault
   unsaid kinds.NoMemory line fault told why = inl told
   unsaid kinds.TooLong line fault told why = inr (told ∙ ap (source_fault kinds.TooLong) why.1, why.0)
   unsaid kinds.Syntax line fault told why = wanted kinds.Syntax line fault told why.0 why

@@ -1,5 +1,6 @@
 -- What an input means is one, and that has one answer.
 use Rattle.std.proofs.Common.{◌≡◌, inl, inr, ℕ, Bool, List, ap, ◌∙◌, subst}
+use Rattle.dt_lexeme.specs.declared.language.Language.TheVariants.{Profile}
 use Rattle.dt_tree.specs.TreeData.{TreeData}
 use Rattle.dt_source.specs.declared.error.SourceErrorKind.{SourceErrorKind}
 use Rattle.dt_source.specs.Laws.{OnlyMemoryRefusesWhatIsSaid}
@@ -16,13 +17,13 @@ use Rattle.dtman_engine.proofs.LawLemmas.{dumped, undumped, unread}
 use Rattle.dtman_engine.proofs.OneApplied.{IsPrint, one-overlaid, one-print}
 use Rattle.dtman_engine.proofs.OneBuilt.{narrower, one-blob}
 
-module _ (accepted : OnlyMemoryRefusesWhatIsSaid) (meaning : (text : List ℕ) (m n : Meaning) → Says text m → Says text n → m ≡ n) (symbols : Bool) (text : List ℕ) (m : Meaning) (short : IsShort text) (says : Says text m) where
+module _ (accepted : OnlyMemoryRefusesWhatIsSaid) (meaning : (text : List ℕ) (m n : Meaning) → Says Profile text m → Says Profile text n → m ≡ n) (symbols : Bool) (text : List ℕ) (m : Meaning) (short : IsShort text) (says : Says Profile text m) where
   gives : (blob : List ℕ) → IsCompiled symbols text blob → IsBlobOf symbols m blob
   gives blob made = subst (λ (x : Meaning). IsBlobOf symbols x blob) (meaning text made.said m made.says says) made.blob_is
 
   refuses : (fault : FaultValue) → IsCompileRefusal symbols text fault → CannotBuild symbols m fault
   refuses fault (inl none) =
-      inl (none.told ∙ ap (λ (k : SourceErrorKind). source_fault k none.line) (accepted text m none.kind none.line short says none.refuses))
+      inl (none.told ∙ ap (λ (k : SourceErrorKind). source_fault k none.line) (accepted Profile text m none.kind none.line short says none.refuses))
   refuses fault (inr vain) = subst (λ (x : Meaning). CannotBuild symbols x fault) (meaning text vain.said m vain.says says) vain.cannot
 
   pub compiled-once : IsOneAnswer (IsCompiled symbols text) (IsCompileRefusal symbols text)

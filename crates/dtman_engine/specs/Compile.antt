@@ -1,5 +1,6 @@
 -- What `compile_bytes` answers: the blob of the tree that the source in a text means, or why there is none.
 use Rattle.std.specs.Prelude.{◌≡◌, ◌≤◌, ◌<◌, ◌⊎◌, ℕ, Bool, List, length, Ok, MatchResult}
+use Rattle.dt_lexeme.specs.declared.language.Language.TheVariants.{Profile}
 use Rattle.dt_tree.specs.PathMap.{tree_map}
 use Rattle.dt_tree.specs.TreeData.{TreeData, IsTree}
 use Rattle.dt_source.specs.declared.error.SourceErrorKind.{SourceErrorKind}
@@ -48,7 +49,7 @@ Builds symbols m given = MatchResult given (λ blob. IsBlobOf symbols m blob.ite
 pub record IsCompiled (symbols : Bool) (text blob : List ℕ) : Type 0 where
   pub said : Meaning
   pub short : IsShort text
-  pub says : parse.Says text said
+  pub says : parse.Says Profile text said
   pub blob_is : IsBlobOf symbols said blob
 
 -- ---- refusals
@@ -57,13 +58,13 @@ pub record SaysNone (text : List ℕ) (fault : FaultValue) : Type 0 where
   pub kind : SourceErrorKind
   pub line : ℕ
   pub told : fault ≡ source_fault kind line
-  pub refuses : parse.Refuses text kind line
+  pub refuses : parse.Refuses Profile text kind line
 
 -- what the text says makes no blob
 pub record SaysInVain (symbols : Bool) (text : List ℕ) (fault : FaultValue) : Type 0 where
   pub said : Meaning
   pub short : IsShort text
-  pub says : parse.Says text said
+  pub says : parse.Says Profile text said
   pub cannot : CannotBuild symbols said fault
 
 abbrev pub IsCompileRefusal : Bool → List ℕ → FaultValue → Type 0

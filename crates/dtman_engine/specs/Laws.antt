@@ -1,5 +1,6 @@
 -- What the engines keep together, over all that their clauses let them answer.
 use Rattle.std.specs.Prelude.{◌≡◌, ◌<◌, ◌≤◌, ◌⊎◌, ℕ, Bool, false, List, length}
+use Rattle.dt_lexeme.specs.declared.language.Language.TheVariants.{Profile}
 use Rattle.dt_tree.specs.TreeData.{TreeData, IsTree}
 use Rattle.dt_source.specs.declared.error.SourceErrorKind.TheVariants.{TooLong}
 use Rattle.dt_source.specs.Parse.{Says}
@@ -48,6 +49,6 @@ pub record IsOneAnswer (Gives : List ℕ → Type 0) (Refuses : FaultValue → T
 
 -- So it is of compiling a text that says something, and of overlays and dumps of bytes that hold trees.
 pub record OneAnswer : Type 0 where
-  pub compiled : (symbols : Bool) (text : List ℕ) (m : Meaning) → IsShort text → Says text m → IsOneAnswer (IsCompiled symbols text) (IsCompileRefusal symbols text)
+  pub compiled : (symbols : Bool) (text : List ℕ) (m : Meaning) → IsShort text → Says Profile text m → IsOneAnswer (IsCompiled symbols text) (IsCompileRefusal symbols text)
   pub overlaid : (base over : List ℕ) (b o : TreeData) → Holds base b → Holds over o → IsOneAnswer (IsOverlaid base over) (IsOverlayRefusal base over)
   pub dumped : (blob : List ℕ) (tree : TreeData) → Holds blob tree → IsOneAnswer (IsDump blob) (IsRefusal blob)

@@ -1,5 +1,6 @@
 //! The blob of a source, from bytes to bytes.
 ghost use Rattle.std.specs.Prelude.{IfOk, IfErr};
+ghost use Rattle.dt_lexeme.specs.declared.language.Language.TheVariants.{Profile};
 ghost use Rattle.dt_source.specs.Parse.{Says};
 ghost use Rattle.dt_source.specs.Meaning.{meaning_of};
 ghost use Rattle.dt_meaning.specs.Syntax.{Meaning};
@@ -12,6 +13,7 @@ use crate::fault::Fault;
 use crate::limits::MAX_BLOB_LEN;
 use dt_blob::{BlobError, write};
 use dt_build::build_within;
+use dt_lexeme::Language;
 use dt_source::{Source, one_source, parse};
 use dt_tree::Tree;
 use std::alloc::Global;
@@ -30,12 +32,12 @@ pub fn compile_bytes(
     // What is answered is the blob of the tree that the text means.
     ensures answer { IfOk result (λ blob. IsCompiled symbols source.now blob.items) }
     // What a text says is answered, or why it makes no blob.
-    ensures said { (m : Meaning) → IsShort source.now → Says source.now m → Builds symbols m result }
+    ensures said { (m : Meaning) → IsShort source.now → Says Profile source.now m → Builds symbols m result }
     // Each refusal has its reason in the text.
     ensures refused { IfErr result (λ fault. IsCompileRefusal symbols source.now (fault_value fault)) }
 {
     one_source();
-    match parse(alloc, source) {
+    match parse(alloc, source, Language::Profile) {
         Err(error) => Err(Fault::from(error)),
         Ok(parsed) => source_blob(alloc, hasher, &parsed, symbols),
     }

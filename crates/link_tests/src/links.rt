@@ -3,6 +3,7 @@
 use crate::rows::{FAULTS, INTERRUPTS, PROPERTIES, STANDINGS};
 use bus_links::{Strictness, link, linked_text, read_link_drivers, warnings_text};
 use dt_build::build;
+use dt_lexeme::Language;
 use dt_source::parse;
 use dt_tree::Tree;
 use std::alloc::Global;
@@ -20,7 +21,7 @@ pub struct Row {
 
 pub fn tree_of(rt: &impl Abort, alloc: Global, hasher: RandomState, source: &str) -> Tree {
     let text = format!(in alloc; "/dts-v1/; / {{ {source} }};").expect(rt, "memory");
-    let source = parse(alloc, text.as_str().as_bytes()).expect(rt, "a source");
+    let source = parse(alloc, text.as_str().as_bytes(), Language::Profile).expect(rt, "a source");
     build(alloc, hasher, &source, false).expect(rt, "a tree")
 }
 

@@ -1,6 +1,6 @@
 //! Where a byte came from, and what a lexeme names.
 
-use dt_lexeme::{Lexeme, scan};
+use dt_lexeme::{Language, Lexeme, scan};
 use dt_place::{lexeme_at, locate, named, position_of};
 use std::process::Abort;
 
@@ -90,7 +90,7 @@ fn is_named(rt: &impl Abort, lexemes: &[Lexeme], row: &(usize, &str)) {
 
 #[test]
 fn lexemes_are_located(rt: HostRuntime) {
-    let Ok(lexemes) = scan(rt.alloc(), TEXT) else {
+    let Ok(lexemes) = scan(rt.alloc(), TEXT, Language::Profile) else {
         panic!(rt; "lexemes");
     };
     for row in NAMES {

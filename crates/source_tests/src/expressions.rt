@@ -3,7 +3,7 @@ use dt_expression::{
     Width, bytes_of, digit_of, element, literal, primary, push_low_bytes, reads_the_grammar,
     syntax_at, too_deep, width_of,
 };
-use dt_lexeme::{Fault, FaultKind, Kind, Lexeme, Refusal, RefusalKind, scan};
+use dt_lexeme::{Fault, FaultKind, Kind, Language, Lexeme, Refusal, RefusalKind, scan};
 use std::alloc::Global;
 use std::process::Abort;
 
@@ -16,7 +16,7 @@ fn first_cell(alloc: Global, text: &[u8]) -> Result<Result<u64, Fault>, Refusal>
     if text.len() > 1000 {
         return Err(lost);
     }
-    match scan(alloc, text) {
+    match scan(alloc, text, Language::Profile) {
         Ok(lexemes) => match lexemes.as_slice() {
             [_, _, _, _, _, _, _, cells @ ..] => {
                 let (value, _) = primary(text, cells)?;

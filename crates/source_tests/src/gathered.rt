@@ -3,6 +3,7 @@
 ghost use Rattle.std.specs.Prelude.{◌≡◌, length};
 
 use dt_edit::{Standing, edit_items, fragments_of};
+use dt_lexeme::Language;
 use dt_live::LiveTree;
 use dt_resolve::{BuildError, Gathered, gather};
 use dt_source::{Source, parse};
@@ -187,7 +188,7 @@ fn gather_row(
     hasher: RandomState,
     row: &Row,
 ) -> Result<Outcome, u8> {
-    let source = parse(alloc, row.text).expect(rt, "a source");
+    let source = parse(alloc, row.text, Language::Profile).expect(rt, "a source");
     gather_source(rt, alloc, hasher, &source, row)
 }
 

@@ -1,7 +1,7 @@
 //! Lexemes of sources: their kinds, their places, and texts that break off.
 use dt_lexeme::{
-    Kind, Lexeme, ReadError, Refusal, RefusalKind, lexemes_are_in_order, lexemes_are_lawful,
-    line_of, one_list, scan, scan_front,
+    Kind, Language, Lexeme, ReadError, Refusal, RefusalKind, lexemes_are_in_order,
+    lexemes_are_lawful, line_of, one_list, scan, scan_front,
 };
 use std::alloc::Global;
 use std::process::Abort;
@@ -11,7 +11,7 @@ fn are(alloc: Global, text: &[u8], kinds: &[(Kind, u32)]) -> bool {
     if text.len() > 1000 {
         return false;
     }
-    let Ok(found) = scan(alloc, text) else {
+    let Ok(found) = scan(alloc, text, Language::Profile) else {
         return false;
     };
     found.len() == kinds.len()
@@ -23,13 +23,13 @@ fn are(alloc: Global, text: &[u8], kinds: &[(Kind, u32)]) -> bool {
 // How many lexemes stand in front of where a text breaks off.
 fn front(rt: &impl Abort, alloc: Global, text: &[u8]) -> (usize, Option<u32>) {
     assert!(rt; text.len() <= 1000);
-    let (front, stop) = scan_front(alloc, text).expect(rt, "lexemes");
+    let (front, stop) = scan_front(alloc, text, Language::Profile).expect(rt, "lexemes");
     (front.len(), stop)
 }
 
 fn has_lexemes(rt: &impl Abort, alloc: Global, text: &[u8], lexemes: &[Lexeme]) {
     assert!(rt; text.len() <= 1000);
-    let found = scan(alloc, text).expect(rt, "lexemes");
+    let found = scan(alloc, text, Language::Profile).expect(rt, "lexemes");
     assert_eq!(rt; found.as_slice(), lexemes);
 }
 
@@ -286,7 +286,10 @@ fn breaks_off(rt: &impl Abort, alloc: Global, text: &[u8], place: u32, line: usi
         kind: RefusalKind::Syntax,
         place,
     };
-    assert_eq!(rt; scan(alloc, text).err(), Some(ReadError::Refused(refusal)));
+    assert_eq!(rt;
+        scan(alloc, text, Language::Profile).err(),
+        Some(ReadError::Refused(refusal))
+    );
     assert_eq!(rt; line_of(text, place), line);
 }
 

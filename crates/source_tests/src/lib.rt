@@ -6,6 +6,8 @@
 #![tactic(auto)]
 
 #[cfg(test)]
+mod dtc;
+#[cfg(test)]
 mod expressions;
 #[cfg(test)]
 mod gathered;

@@ -3,6 +3,7 @@
 mod board;
 
 use board::BOARD;
+use dt_lexeme::Language;
 use dt_source::{
     Item, Part, Reference, Source, SourceError, SourceErrorKind, Statement, bodies_are_lists,
     faults_are_in_order, one_source, parse, reads_sources, says_lawful,
@@ -33,7 +34,7 @@ fn only_bytes<'s>(value: &'s [Part<'_>]) -> Option<&'s [u8]> {
 }
 
 fn refusal(alloc: Global, text: &[u8]) -> Option<SourceError> {
-    parse(alloc, text).err()
+    parse(alloc, text, Language::Profile).err()
 }
 
 // The number of the text's refusal, or 255.
@@ -86,14 +87,14 @@ const VALUES: &[(&[u8], &[u8])] = &[
     ),
 ];
 
-fn has_last_bytes(rt: &impl Abort, source: &Source<'_>, bytes: &[u8]) {
+pub fn has_last_bytes(rt: &impl Abort, source: &Source<'_>, bytes: &[u8]) {
     source.check();
     let value = last_value(source).expect(rt, "a value");
     assert_eq!(rt; only_bytes(value), Some(bytes));
 }
 
 fn says_bytes(rt: &impl Abort, alloc: Global, text: &[u8], bytes: &[u8]) {
-    let source = parse(alloc, text).expect(rt, "a source");
+    let source = parse(alloc, text, Language::Profile).expect(rt, "a source");
     has_last_bytes(rt, &source, bytes);
 }
 
@@ -146,7 +147,7 @@ fn says_parts(rt: &impl Abort, source: &Source<'_>) {
 }
 
 fn says_no_parts(rt: &impl Abort, alloc: Global, text: &[u8]) {
-    let source = parse(alloc, text).expect(rt, "a source");
+    let source = parse(alloc, text, Language::Profile).expect(rt, "a source");
     let value = last_value(&source).expect(rt, "a value");
     assert!(rt; value.is_empty());
 }
@@ -154,7 +155,7 @@ fn says_no_parts(rt: &impl Abort, alloc: Global, text: &[u8]) {
 #[test]
 fn values_of_parts(rt: HostRuntime) {
     let text = b"/dts-v1/; / { p = [], \"x\", &l, <1 &m 2>, <>, [03], &{/a/b@1}, \"\"; };";
-    let source = parse(rt.alloc(), text).expect(&rt, "a source");
+    let source = parse(rt.alloc(), text, Language::Profile).expect(&rt, "a source");
     says_parts(&rt, &source);
     says_no_parts(&rt, rt.alloc(), b"/dts-v1/; / { p = [], <>; };");
 }
@@ -342,7 +343,7 @@ fn says_items(rt: &impl Abort, source: &Source<'_>) {
 fn items(rt: HostRuntime) {
     let text =
         b"/dts-v1/;\n# 1 \"a.dts\"\n/plugin/; /dts-v1/; m: /memreserve/ 0x1000 (0x1000 * 2);\n/ { };\na: b: &l { x; c: d: n@1 { /delete-property/ y; /delete-node/ z; e { }; }; };\n/delete-node/ &{/a};";
-    let source = parse(rt.alloc(), text).expect(&rt, "a source");
+    let source = parse(rt.alloc(), text, Language::Profile).expect(&rt, "a source");
     says_items(&rt, &source);
 }
 

@@ -1,6 +1,7 @@
 -- Punctuation and keywords, whatever stands behind them.
 use Rattle.std.proofs.Common.{◌≡◌, ℕ, suc, ◌+◌, ◌-◌, false, eqb, List, [], ◌∷◌, ◌++◌, Option, None, refl, arith}
 use Rattle.std.specs.Prelude.{codes}
+use Rattle.dt_lexeme.specs.declared.language.Language.TheVariants.{Profile}
 use Rattle.dt_lexeme.specs.declared.lexeme.Kind.{Kind}
 use Rattle.dt_lexeme.specs.declared.lexeme.Kind.TheVariants as kinds
 use Rattle.dt_lexeme.specs.declared.context.Mode.TheVariants as modes
@@ -14,18 +15,18 @@ use Rattle.dt_canonical.proofs.Lexing.Segments.{Ends, Here}
 -- ---- fixup sites
 
 abbrev pub at_value : ℕ → Context
-at_value n = record { braces = n; parens = 0; mode = modes.Value }
+at_value n = record { language = Profile; braces = n; parens = 0; mode = modes.Value }
 
 abbrev pub at_name : ℕ → Context
-at_name n = record { braces = n; parens = 0; mode = modes.Name }
+at_name n = record { language = Profile; braces = n; parens = 0; mode = modes.Name }
 
 abbrev pub at_byte : ℕ → Context
-at_byte n = record { braces = n; parens = 0; mode = modes.Byte }
+at_byte n = record { language = Profile; braces = n; parens = 0; mode = modes.Byte }
 
 -- ---- no gap
 
 -- A byte that is neither blank nor `/` nor `#` begins none.
-pub plain_no_gap : (b : ℕ) (t : List ℕ) → is_blank b ≡ false → eqb b 47 ≡ false → eqb b 35 ≡ false → NoGap (b ∷ t)
+pub plain_no_gap : (b : ℕ) (t : List ℕ) → is_blank b ≡ false → eqb b 47 ≡ false → eqb b 35 ≡ false → NoGap Profile (b ∷ t)
 plain_no_gap b [] e f g = record { blank = e; line = refl; comment = refl }
 plain_no_gap b (c ∷ t) e f g = record { blank = e; line = rw (f, g) refl; comment = rw f refl }
 
@@ -74,15 +75,15 @@ square n t = record { over = plain_no_gap 91 t refl refl refl; is = refl; ends =
 
 -- ---- keywords, and the root's slash
 
-pub version : (t : List ℕ) → Here start kinds.Version (codes "/dts-v1/") t
+pub version : (t : List ℕ) → Here (start Profile) kinds.Version (codes "/dts-v1/") t
 unfolding kind_of first_at slashed
-version t = record { over = record { blank = refl; line = refl; comment = refl }; is = refl; ends = ends_any (kind_of start) (codes "/dts-v1/") t (λ c u. refl) }
+version t = record { over = record { blank = refl; line = refl; comment = refl }; is = refl; ends = ends_any (kind_of (start Profile)) (codes "/dts-v1/") t (λ c u. refl) }
 
-pub mem_reserve : (t : List ℕ) → Here start kinds.MemReserve (codes "/memreserve/") t
+pub mem_reserve : (t : List ℕ) → Here (start Profile) kinds.MemReserve (codes "/memreserve/") t
 unfolding kind_of first_at slashed
-mem_reserve t = record { over = record { blank = refl; line = refl; comment = refl }; is = refl; ends = ends_any (kind_of start) (codes "/memreserve/") t (λ c u. refl) }
+mem_reserve t = record { over = record { blank = refl; line = refl; comment = refl }; is = refl; ends = ends_any (kind_of (start Profile)) (codes "/memreserve/") t (λ c u. refl) }
 
-pub slash : (t : List ℕ) → Here start kinds.Slash (codes "/") (32 ∷ t)
+pub slash : (t : List ℕ) → Here (start Profile) kinds.Slash (codes "/") (32 ∷ t)
 unfolding kind_of first_at slashed
 slash t = record { over = record { blank = refl; line = refl; comment = refl }; is = refl; ends = λ u. refl }
 

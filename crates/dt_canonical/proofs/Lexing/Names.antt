@@ -4,6 +4,7 @@ use Rattle.std.specs.Prelude.{◌&&◌, IsTrue}
 use Rattle.std.specs.List.{list_all}
 use Rattle.std.proofs.lemmas.Bool.{and_parts, and_from, le-leb, ltb-false, ne_eqb}
 use Rattle.std.proofs.lemmas.Bool.Decides.{nat_tests}
+use Rattle.dt_lexeme.specs.declared.language.Language.TheVariants.{Profile}
 use Rattle.dt_tree.specs.Name as tree
 use Rattle.dt_lexeme.specs.declared.lexeme.Kind.TheVariants as kinds
 use Rattle.dt_lexeme.specs.declared.families.First.TheVariants as firsts
@@ -145,13 +146,13 @@ name_ends n c s d u e f g h = go (name_first n c e)
     go (inr k) = rw (k, all) refl
 
 -- A name begins neither a comment nor the marker of a line.
-name_no_gap : (c : ℕ) (s : List ℕ) (d : ℕ) (t : List ℕ) → is_name c ≡ true → list_all is_name s ≡ true → begins_digit t ≡ false → NoGap (c ∷ s ++ d ∷ t)
+name_no_gap : (c : ℕ) (s : List ℕ) (d : ℕ) (t : List ℕ) → is_name c ≡ true → list_all is_name s ≡ true → begins_digit t ≡ false → NoGap Profile (c ∷ s ++ d ∷ t)
 name_no_gap c s d t e f g = record { blank = name_no_blank c e; line = line s f; comment = comment s }
   where
     solidus : eqb c 47 ≡ false
     solidus = name_no c 47 e refl
 
-    line : (s : List ℕ) → list_all is_name s ≡ true → begins_line (c ∷ s ++ d ∷ t) ≡ false
+    line : (s : List ℕ) → list_all is_name s ≡ true → begins_line Profile (c ∷ s ++ d ∷ t) ≡ false
     line [] f = rw (solidus, g) (both (eqb c 35) (eqb d 32))
       where
         both : (a b : Bool) → (a && b && false) ≡ false

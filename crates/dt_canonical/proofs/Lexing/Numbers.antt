@@ -4,6 +4,7 @@ use Rattle.std.specs.Prelude.{◌&&◌}
 use Rattle.std.specs.List.{list_all}
 use Rattle.std.proofs.lemmas.Bool.{and_parts, ltb-true, agree_below_at}
 use Rattle.std.proofs.lemmas.Bool.Decides.{nat_tests}
+use Rattle.dt_lexeme.specs.declared.language.Language.TheVariants.{Profile}
 use Rattle.dt_blob.specs.SourceText.{hex_digit, hex_of}
 use Rattle.dt_lexeme.specs.declared.lexeme.Kind.TheVariants as kinds
 use Rattle.dt_lexeme.specs.declared.bytes.Class.TheVariants as classes
@@ -155,7 +156,7 @@ pair_ends n h l c u e f g k = go (pair_first n h e)
     go (inl k) = rw (k, none, f) refl
     go (inr k) = rw (k, f) refl
 
-hex_no_gap : (c : ℕ) (t : List ℕ) → is_hex c ≡ true → NoGap (c ∷ t)
+hex_no_gap : (c : ℕ) (t : List ℕ) → is_hex c ≡ true → NoGap Profile (c ∷ t)
 hex_no_gap c t e = plain_no_gap c t blank (hex_no c 47 e refl) (hex_no c 35 e refl)
   where
     blank : is_blank c ≡ false

@@ -3,6 +3,8 @@ use Rattle.std.proofs.Common.{◌≡◌, ℕ, zero, suc, ◌+◌, ◌<◌, ◌�
 use Rattle.std.specs.List.{list_all}
 use Rattle.std.proofs.lemmas.Bool.{and_parts}
 use Rattle.std.proofs.Math.Seq.{take-append_seam, drop-append_seam}
+use Rattle.dt_lexeme.specs.declared.language.Language.{Language}
+use Rattle.dt_lexeme.specs.declared.language.Language.TheVariants.{Profile, Dtc}
 use Rattle.dt_lexeme.specs.declared.lexeme.Lexeme.{Lexeme}
 use Rattle.dt_lexeme.specs.declared.lexeme.Kind.{Kind}
 use Rattle.dt_lexeme.specs.declared.context.Context.{Context}
@@ -22,13 +24,13 @@ written_append (s ∷ a) b = ap (λ (t : List ℕ). bytes_of s ++ t) (written_ap
 
 -- ---- blanks in front
 
-blank_gap : (b : ℕ) (t s : List ℕ) → is_blank b ≡ true → IsGap t s → IsGap (b ∷ t) s
-blank_gap b t s e h = record { gap = blank e h.gap; over = h.over }
+blank_gap : (language : Language) (b : ℕ) (t s : List ℕ) → is_blank b ≡ true → IsGap language t s → IsGap language (b ∷ t) s
+blank_gap language b t s e h = record { gap = blank e h.gap; over = h.over }
 
 pub left_blank : (total : ℕ) (context : Context) (b : ℕ) (t : List ℕ) (ls : List Lexeme) → is_blank b ≡ true → Left total context t ls → Left total context (b ∷ t) ls
 unfolding Left
-left_blank total context b t [] e h = blank_gap b t [] e h
-left_blank total context b t (l ∷ ls) e (s, n, gap, longest, from, to, more) = (s, n, blank_gap b t s e gap, longest, from, to, more)
+left_blank total context b t [] e h = blank_gap context.language b t [] e h
+left_blank total context b t (l ∷ ls) e (s, n, gap, longest, from, to, more) = (s, n, blank_gap context.language b t s e gap, longest, from, to, more)
 
 pub left_blanks : (total : ℕ) (context : Context) (bs t : List ℕ) (ls : List Lexeme) → list_all is_blank bs ≡ true → Left total context t ls → Left total context (bs ++ t) ls
 left_blanks total context [] t ls e h = h
@@ -61,7 +63,7 @@ longest_of f bs t k e h = record { within = omega (arith, length-append bs t); i
 
 -- These bytes are a lexeme in this context, behind no gap, and with what is behind them they are none.
 pub record Here (context : Context) (k : Kind) (bs t : List ℕ) : Type 0 where
-  pub over : NoGap (bs ++ t)
+  pub over : NoGap context.language (bs ++ t)
   pub is : kind_of context bs ≡ Some k
   pub ends : Ends (kind_of context) bs t
 
@@ -71,10 +73,14 @@ Stands context [] = Unit {0}
 Stands context (Blanks bs ∷ ss) = (list_all is_blank bs ≡ true) × Stands context ss
 Stands context (Word k bs ∷ ss) = Here context k bs (written ss) × Stands (step context k) ss
 
+no_gap_at_end : (language : Language) → NoGap language []
+no_gap_at_end Profile = record { blank = refl; line = refl; comment = refl }
+no_gap_at_end Dtc = record { blank = refl; line = refl; comment = refl }
+
 -- Parts that stand are the lexemes of their text.
 pub lexed : (total p : ℕ) (context : Context) (ss : List Segment) → Stands context ss → p + length (written ss) ≡ total → Left total context (written ss) (placed p ss)
 unfolding written placed Left Stands
-lexed total p context [] h e = record { gap = nothing; over = record { blank = refl; line = refl; comment = refl } }
+lexed total p context [] h e = record { gap = nothing; over = no_gap_at_end context.language }
 lexed total p context (Blanks bs ∷ ss) h e =
     left_blanks total context bs (written ss) (placed (p + length bs) ss) h.0 (lexed total (p + length bs) context ss h.1 (omega (arith, e, length-append bs (written ss))))
 lexed total p context (Word k bs ∷ ss) h e =

@@ -3,6 +3,7 @@ use Rattle.std.proofs.Common.{◌≡◌, ℕ, zero, suc, ◌<◌, true, ltb, Lis
 use Rattle.std.specs.Prelude.{codes}
 use Rattle.std.specs.Int.{bytes_high_first, byte_at}
 use Rattle.std.proofs.lemmas.Bool.{and_parts, and_from, lt-ltb}
+use Rattle.dt_lexeme.specs.declared.language.Language.TheVariants.{Profile}
 use Rattle.dt_tree.specs.NodeData.{NodeData}
 use Rattle.dt_tree.specs.Sound.{IsSound}
 use Rattle.dt_tree.specs.TreeData.{TreeData, IsTree}
@@ -32,11 +33,11 @@ pub double_word_bytes : (n : ℕ) → are_bytes (double_word n) ≡ true
 unfolding double_word
 double_word_bytes n = long_bytes 8 n
 
-long_stands : (n : ℕ) (rest : List Segment) → StopsAt (written rest) → Stands start rest → Stands start (long_parts n ++ rest)
+long_stands : (n : ℕ) (rest : List Segment) → StopsAt (written rest) → Stands (start Profile) rest → Stands (start Profile) (long_parts n ++ rest)
 unfolding Stands step double_word
 long_stands n rest g h = (refl, (literal_before 0 (byte_at 7 n) (bytes_high_first 7 n) (written rest) (long_bytes 8 n) g, h))
 
-stop_at_top : (rest : List Segment) → Stands start rest → Stands start (stop_parts ++ rest)
+stop_at_top : (rest : List Segment) → Stands (start Profile) rest → Stands (start Profile) (stop_parts ++ rest)
 unfolding Stands step
 stop_at_top rest h = (semicolon 0 (written (Blanks (codes "\n") ∷ rest)), (refl, h))
 
@@ -48,25 +49,25 @@ long_front : (n : ℕ) (rest : List Segment) → StopsAt (written (long_parts n 
 unfolding written
 long_front n rest = record { no_hex = refl; no_u = refl; no_ell = refl }
 
-mem_stands : (rest : List Segment) → Stands start rest → Stands start (memreserve_parts ++ rest)
+mem_stands : (rest : List Segment) → Stands (start Profile) rest → Stands (start Profile) (memreserve_parts ++ rest)
 unfolding Stands step
 mem_stands rest h = (mem_reserve (written rest), h)
 
 four : (a b c d rest : List Segment) → (a ++ (b ++ (c ++ d))) ++ rest ≡ a ++ (b ++ (c ++ (d ++ rest)))
 four a b c d rest = simp append_assoc
 
-reserve_stands : (r : ℕ × ℕ) (rest : List Segment) → Stands start rest → Stands start (reserve_parts r ++ rest)
+reserve_stands : (r : ℕ × ℕ) (rest : List Segment) → Stands (start Profile) rest → Stands (start Profile) (reserve_parts r ++ rest)
 reserve_stands r rest h =
     let last = stop_at_top rest h in
     let size = long_stands r.1 (stop_parts ++ rest) (stop_front rest) last in
     let address = long_stands r.0 (long_parts r.1 ++ (stop_parts ++ rest)) (long_front r.1 (stop_parts ++ rest)) size in
     mem_stands (long_parts r.0 ++ (long_parts r.1 ++ (stop_parts ++ rest))) address
 
-reserves_stand : (rs : List (ℕ × ℕ)) (rest : List Segment) → Stands start rest → Stands start (reserves_parts rs ++ rest)
+reserves_stand : (rs : List (ℕ × ℕ)) (rest : List Segment) → Stands (start Profile) rest → Stands (start Profile) (reserves_parts rs ++ rest)
 reserves_stand [] rest h = h
 reserves_stand (r ∷ rs) rest h =
     let turn = append_assoc (reserve_parts r) (reserves_parts rs) rest in
-    subst (λ (x : List Segment). Stands start x) (sym turn) (reserve_stands r (reserves_parts rs ++ rest) (reserves_stand rs rest h))
+    subst (λ (x : List Segment). Stands (start Profile) x) (sym turn) (reserve_stands r (reserves_parts rs ++ rest) (reserves_stand rs rest h))
 
 -- ---- the root
 
@@ -74,23 +75,23 @@ end_at_top : Stands (at_name 1) (end_parts 0)
 unfolding Stands
 end_at_top = end_stands 0 0 [] (stop_at_top [] tt)
 
-slash_stands : (rest : List Segment) → Stands start rest → Stands start (Word kinds.Slash (codes "/") ∷ Blanks (codes " ") ∷ rest)
+slash_stands : (rest : List Segment) → Stands (start Profile) rest → Stands (start Profile) (Word kinds.Slash (codes "/") ∷ Blanks (codes " ") ∷ rest)
 unfolding Stands step written
 slash_stands rest h = (slash (written rest), (refl, h))
 
-header_stands : (rest : List Segment) → Stands start rest → Stands start (header_parts ++ rest)
+header_stands : (rest : List Segment) → Stands (start Profile) rest → Stands (start Profile) (header_parts ++ rest)
 unfolding Stands step
 header_stands rest h = (version (written (Word kinds.Semicolon (codes ";") ∷ Blanks (codes "\n\n") ∷ rest)), (semicolon 0 (written (Blanks (codes "\n\n") ∷ rest)), (refl, h)))
 
-root_stands : (root : NodeData) → IsSound root → have_bytes root.properties ≡ true → hold_bytes root.children ≡ true → Stands start (root_parts root)
+root_stands : (root : NodeData) → IsSound root → have_bytes root.properties ≡ true → hold_bytes root.children ≡ true → Stands (start Profile) (root_parts root)
 unfolding Stands
 root_stands root h f g =
     let inner = siblings_stand 0 1 root.children (end_parts 0) h.siblings.named h.below g end_at_top in
     let body = properties_stand 0 1 root.properties (sibling_parts 1 root.children ++ end_parts 0) h.properties.named f inner in
-    let braced : Stands start (brace_parts ++ (properties_parts 1 root.properties ++ (sibling_parts 1 root.children ++ end_parts 0))) = brace_stands 0 (properties_parts 1 root.properties ++ (sibling_parts 1 root.children ++ end_parts 0)) body in
+    let braced : Stands (start Profile) (brace_parts ++ (properties_parts 1 root.properties ++ (sibling_parts 1 root.children ++ end_parts 0))) = brace_stands 0 (properties_parts 1 root.properties ++ (sibling_parts 1 root.children ++ end_parts 0)) body in
     slash_stands (Word kinds.Brace (codes "{") ∷ Blanks (codes "\n") ∷ (properties_parts 1 root.properties ++ (sibling_parts 1 root.children ++ end_parts 0))) braced.1
 
-parts_stand : (t : TreeData) → IsTree t → HasBytes t → Stands start (parts_of t)
+parts_stand : (t : TreeData) → IsTree t → HasBytes t → Stands (start Profile) (parts_of t)
 parts_stand t h f =
     let p = and_parts (have_bytes t.root.properties) (hold_bytes t.root.children) f in
     header_stands (reserves_parts t.reserves ++ root_parts t.root) (reserves_stand t.reserves (root_parts t.root) (root_stands t.root h.sound p.0 p.1))
@@ -130,8 +131,8 @@ parts_written t =
     rw (k, a, b) refl
 
 -- The parts' lexemes are those of the canonical source.
-pub canonical_lexemes : (t : TreeData) → IsTree t → HasBytes t → Lexemes (text_of t) (lexemes_of t)
+pub canonical_lexemes : (t : TreeData) → IsTree t → HasBytes t → Lexemes Profile (text_of t) (lexemes_of t)
 unfolding Lexemes
 canonical_lexemes t h f =
     let e = parts_written t in
-    subst (λ (text : List ℕ). Left (length text) start text (placed 0 (parts_of t))) e (lexed (length (written (parts_of t))) 0 start (parts_of t) (parts_stand t h f) (omega arith))
+    subst (λ (text : List ℕ). Left (length text) (start Profile) text (placed 0 (parts_of t))) e (lexed (length (written (parts_of t))) 0 (start Profile) (parts_of t) (parts_stand t h f) (omega arith))

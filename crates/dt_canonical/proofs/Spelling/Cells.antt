@@ -8,7 +8,7 @@ use Rattle.dt_lexeme.specs.declared.lexeme.Fault.{Fault}
 use Rattle.dt_lexeme.specs.declared.lexeme.Kind.{Kind}
 use Rattle.dt_lexeme.specs.declared.lexeme.Kind.TheVariants as kinds
 use Rattle.dt_expression.specs.declared.elements.Width.TheVariants.{ThirtyTwo}
-use Rattle.dt_expression.specs.Expression.{Spells}
+use Rattle.dt_expression.specs.Expression.{Spells, is_number}
 use Rattle.dt_expression.specs.Values.{literal_number, below_64, or_out_of_range, literal_of, value_of}
 use Rattle.dt_expression.specs.Element.{element}
 use Rattle.dt_source.specs.Sequences.{SpellsEach}
@@ -47,7 +47,7 @@ AllOf k (l ∷ ls) = (l.kind ≡ k) × AllOf k ls
 numbers_spelled : (ls m : List Lexeme) → AllOf kinds.Literal ls → SpellsEach SpellsCell (map number_cell ls) (ls ++ m) m
 unfolding SpellsEach Spells
 numbers_spelled [] m h = refl
-numbers_spelled (l ∷ ls) m h = (ls ++ m, (ls ++ m, refl, (tt, (h.0, refl))), numbers_spelled ls m h.1)
+numbers_spelled (l ∷ ls) m h = (ls ++ m, (ls ++ m, refl, (tt, (ap is_number h.0, refl))), numbers_spelled ls m h.1)
 
 pairs_spelled : (ls m : List Lexeme) → AllOf kinds.Pair ls → SpellsEach OnePair ls (ls ++ m) m
 unfolding SpellsEach

@@ -2,6 +2,7 @@
 use Rattle.std.proofs.Common.{◌≡◌, ℕ, ◌+◌, ◌^◌, ◌<◌, true, false, List, [], ◌∷◌, ◌++◌, map, Ok, refl, sym, ap, ◌∙◌, append_assoc, subst}
 use Rattle.std.specs.Prelude.{◌≢◌, codes, flat_map, fold}
 use Rattle.std.proofs.lemmas.Bool.{and_parts}
+use Rattle.dt_lexeme.specs.declared.language.Language.TheVariants.{Profile}
 use Rattle.dt_tree.specs.NodeData.{NodeData}
 use Rattle.dt_tree.specs.Sound.{IsSound}
 use Rattle.dt_tree.specs.TreeData.{TreeData, IsTree, AreLong}
@@ -139,7 +140,7 @@ tree_said t h b =
     meaning : List (ℕ × ℕ) → Edit → Meaning
     meaning rs i = record { plugin = false; reserves = rs; items = i ∷ [] }
 
-pub canonical_says : (t : TreeData) → IsTree t → HasBytes t → Says (text_of t) (source_of t)
+pub canonical_says : (t : TreeData) → IsTree t → HasBytes t → Says Profile (text_of t) (source_of t)
 canonical_says t h b =
     let r = tree_said t h b in
     (spelled_of t, (lexemes_of t, canonical_lexemes t h b, r.spells), r.faultless, r.says)

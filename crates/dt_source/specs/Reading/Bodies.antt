@@ -1,10 +1,10 @@
 -- Reading the statements of a body, and the values of its properties.
-use Rattle.std.specs.Prelude.{ℕ, zero, suc, Bool, true, false, List, [], ◌∷◌, ◌++◌, length, map, Option, Some, None, Result, Ok, Err, if◌then◌else◌}
+use Rattle.std.specs.Prelude.{ℕ, zero, suc, Bool, true, false, List, [], ◌∷◌, ◌++◌, ◌||◌, length, map, Option, Some, None, Result, Ok, Err, if◌then◌else◌}
 use Rattle.dt_lexeme.specs.declared.lexeme.Lexeme.{Lexeme}
 use Rattle.dt_lexeme.specs.declared.lexeme.Fault.{Fault}
 use Rattle.dt_lexeme.specs.declared.lexeme.Refusal.{Refusal}
 use Rattle.dt_lexeme.specs.declared.lexeme.Kind.{Kind}
-use Rattle.dt_lexeme.specs.declared.lexeme.Kind.TheVariants.{Bits, DeleteNode, DeleteProperty, Label, Name, Literal, Text, Reference, PathReference, Pair, Semicolon, Brace, EndBrace, Equals, Comma, Less, Greater, Square, EndSquare, Paren}
+use Rattle.dt_lexeme.specs.declared.lexeme.Kind.TheVariants.{Bits, DeleteNode, DeleteProperty, Label, Name, Literal, Character, Text, Reference, PathReference, Pair, Semicolon, Brace, EndBrace, Equals, Comma, Less, Greater, Square, EndSquare, Paren}
 use Rattle.dt_expression.specs.declared.elements.Width.{Width}
 use Rattle.dt_expression.specs.declared.elements.Width.TheVariants.{ThirtyTwo}
 use Rattle.dt_source.specs.declared.cell.Cell.{Cell}
@@ -16,19 +16,21 @@ use Rattle.dt_source.specs.Reading.Several.{earlier, Part, many}
 use Rattle.dt_meaning.specs.Syntax.{Piece, Plain, PathOf, Entry, Defines, Undefines, Child, Removes, body_of}
 use Rattle.dt_source.specs.Strings.{string_bytes, string_faults, pair_byte}
 use Rattle.dt_source.specs.Pieces.{target_of, width_at, width_in, fault_in, cell_fault, cells_pieces, joined}
+use Rattle.dt_source.specs.Marks.{is_label, is_mark, omits, labels_in}
 use Rattle.dt_source.specs.Words.{label_bytes, name_bytes, concat}
 use Rattle.dt_source.specs.Order.{first_of}
 
 -- ---- labels and names
 
-abbrev pub is_label : Kind → Bool
-is_label Label = true
-is_label _ = false
-
 -- the labels at the front, and what follows them
 unfoldable pub labels_at : List Lexeme → List Lexeme × List Lexeme
 labels_at [] = ([], [])
 labels_at (t ∷ ts) = if is_label t.kind then (t ∷ (labels_at ts).0, (labels_at ts).1) else ([], t ∷ ts)
+
+-- the labels and `/omit-if-no-ref/` at the front, and what follows them
+unfoldable pub marks_at : List Lexeme → List Lexeme × List Lexeme
+marks_at [] = ([], [])
+marks_at (t ∷ ts) = if is_mark t.kind then (t ∷ (marks_at ts).0, (marks_at ts).1) else ([], t ∷ ts)
 
 -- ---- cells
 
@@ -40,6 +42,7 @@ element_at place text ts = do
 abbrev pub cell_by : List ℕ → Kind → Lexeme → List Lexeme → Read (Option Cell)
 cell_by text Greater t ts = Ok (None, ts)
 cell_by text Literal t ts = element_at t.start text (t ∷ ts)
+cell_by text Character t ts = element_at t.start text (t ∷ ts)
 cell_by text Paren t ts = element_at t.start text (t ∷ ts)
 cell_by text Reference t ts = Ok (Some (cells.Reference t), ts)
 cell_by text PathReference t ts = Ok (Some (cells.Reference t), ts)
@@ -168,20 +171,20 @@ ended_by a f ts = semicolon_at ts >>= λ r. Ok (a, f, r)
 abbrev pub Inner : Type 0
 Inner = Lexeme → List Lexeme → Part (List (Entry (List Piece)))
 
--- what follows a name: the end of a property without value, a value, or a body
-abbrev pub named_by : List ℕ → Inner → Bool → List (List ℕ) → List ℕ → Kind → Lexeme → List Lexeme → Part (Option (Entry (List Piece)))
-named_by text inner false labels name Semicolon t ts = Ok (Some (Defines name []), None, ts)
-named_by text inner false labels name Equals t ts = do
+-- what follows a name: the end of a property without value, a value, or a body. Where `nodes` is true no property may stand.
+abbrev pub named_by : List ℕ → Inner → (nodes omitted : Bool) → List (List ℕ) → List ℕ → Kind → Lexeme → List Lexeme → Part (Option (Entry (List Piece)))
+named_by text inner false omitted labels name Semicolon t ts = Ok (Some (Defines name []), None, ts)
+named_by text inner false omitted labels name Equals t ts = do
   v ← value_at text ts
   ended_by (Some (Defines name v.0)) v.1 v.2
-named_by text inner nodes labels name Brace t ts = do
+named_by text inner nodes omitted labels name Brace t ts = do
   b ← inner t ts
-  ended_by (Some (Child false labels name (body_of b.0))) b.1 b.2
-named_by text inner nodes labels name _ t ts = Err (syntax_at (t ∷ ts))
+  ended_by (Some (Child omitted labels name (body_of b.0))) b.1 b.2
+named_by text inner nodes omitted labels name _ t ts = Err (syntax_at (t ∷ ts))
 
-abbrev pub named_at : List ℕ → Inner → Bool → List (List ℕ) → List ℕ → List Lexeme → Part (Option (Entry (List Piece)))
-named_at text inner nodes labels name [] = Err (syntax_at [])
-named_at text inner nodes labels name (t ∷ ts) = named_by text inner nodes labels name t.kind t ts
+abbrev pub named_at : List ℕ → Inner → (nodes omitted : Bool) → List (List ℕ) → List ℕ → List Lexeme → Part (Option (Entry (List Piece)))
+named_at text inner nodes omitted labels name [] = Err (syntax_at [])
+named_at text inner nodes omitted labels name (t ∷ ts) = named_by text inner nodes omitted labels name t.kind t ts
 
 abbrev pub name_by : List ℕ → Kind → Lexeme → List Lexeme → Read (List ℕ)
 name_by text Name t ts = Ok (name_bytes text t, ts)
@@ -195,28 +198,28 @@ name_at text (t ∷ ts) = name_by text t.kind t ts
 abbrev pub deleted_at : List ℕ → (List ℕ → Entry (List Piece)) → List Lexeme → Part (Option (Entry (List Piece)))
 deleted_at text entry ts = name_at text ts >>= λ x. ended_by (Some (entry x.0)) None x.1
 
--- Nothing but a name follows labels.
+-- Nothing but a name follows marks.
 abbrev pub bare_by : List ℕ → Bool → Kind → Lexeme → List Lexeme → Part (Option (Entry (List Piece)))
 bare_by text nodes EndBrace t ts = Ok (None, None, ts)
 bare_by text false DeleteProperty t ts = deleted_at text Undefines ts
 bare_by text nodes DeleteNode t ts = deleted_at text Removes ts
 bare_by text nodes _ t ts = Err (syntax_at (t ∷ ts))
 
-abbrev pub unlabelled : List ℕ → Bool → List Lexeme → Kind → Lexeme → List Lexeme → Part (Option (Entry (List Piece)))
-unlabelled text nodes [] k t ts = bare_by text nodes k t ts
-unlabelled text nodes (l ∷ ls) k t ts = Err (syntax_at (t ∷ ts))
+abbrev pub unmarked : List ℕ → Bool → List Lexeme → Kind → Lexeme → List Lexeme → Part (Option (Entry (List Piece)))
+unmarked text nodes [] k t ts = bare_by text nodes k t ts
+unmarked text nodes (m ∷ ms) k t ts = Err (syntax_at (t ∷ ts))
 
 abbrev pub begun_by : List ℕ → Inner → Bool → List Lexeme → Kind → Lexeme → List Lexeme → Part (Option (Entry (List Piece)))
-begun_by text inner nodes labels Name t ts = named_at text inner nodes (map (label_bytes text) labels) (name_bytes text t) ts
-begun_by text inner nodes labels k t ts = unlabelled text nodes labels k t ts
+begun_by text inner nodes marks Name t ts = named_at text inner (nodes || omits marks) (omits marks) (map (label_bytes text) (labels_in marks)) (name_bytes text t) ts
+begun_by text inner nodes marks k t ts = unmarked text nodes marks k t ts
 
 abbrev pub begun_at : List ℕ → Inner → Bool → List Lexeme → List Lexeme → Part (Option (Entry (List Piece)))
-begun_at text inner nodes labels [] = Err (syntax_at [])
-begun_at text inner nodes labels (t ∷ ts) = begun_by text inner nodes labels t.kind t ts
+begun_at text inner nodes marks [] = Err (syntax_at [])
+begun_at text inner nodes marks (t ∷ ts) = begun_by text inner nodes marks t.kind t ts
 
 -- a statement, or the end of the body
 unfoldable pub statement_at : List ℕ → Inner → Bool → List Lexeme → Part (Option (Entry (List Piece)))
-statement_at text inner nodes ts = let l = labels_at ts in begun_at text inner nodes l.0 l.1
+statement_at text inner nodes ts = let m = marks_at ts in begun_at text inner nodes m.0 m.1
 
 -- no property follows a node or the deletion of one
 abbrev pub after : Bool → Entry (List Piece) → Bool
@@ -236,6 +239,6 @@ body_below text (suc depth) t ts = statements_at text (body_below text depth) ts
 unfoldable pub body_at : List ℕ → ℕ → List Lexeme → Part (List (Entry (List Piece)))
 body_at text depth ts = statements_at text (body_below text depth) ts
 
--- what follows a name behind labels, with bodies at most this deep
+-- what follows a name behind marks, with bodies at most this deep
 abbrev pub named_below : List ℕ → ℕ → Bool → List Lexeme → List ℕ → List Lexeme → Part (Option (Entry (List Piece)))
-named_below text depth nodes labels name ts = named_at text (body_below text depth) nodes (map (label_bytes text) labels) name ts
+named_below text depth nodes marks name ts = named_at text (body_below text depth) nodes (omits marks) (map (label_bytes text) (labels_in marks)) name ts

@@ -5,12 +5,13 @@ use Rattle.std.specs.Global.{Global}
 use Rattle.dt_lexeme.specs.declared.lexeme.Fault.{Fault}
 use Rattle.dt_lexeme.specs.declared.lexeme.Lexeme.{Lexeme}
 use Rattle.dt_lexeme.specs.declared.lexeme.ReadError.{ReadError}
-use Rattle.dt_meaning.specs.Syntax.{Piece, Entry, Body, Edit}
+use Rattle.dt_meaning.specs.Syntax.{Target, Piece, Entry, Body, Edit}
 use Rattle.dt_source.specs.declared.parts.Parts.{Parts}
 use Rattle.dt_source.specs.declared.reading.Read.{Read}
+use Rattle.dt_source.specs.declared.tree.Reference.{Reference}
 use Rattle.dt_source.specs.declared.tree.Statement.{Statement}
 use Rattle.dt_source.specs.declared.tree.Item.{Item}
-use Rattle.dt_source.specs.Tree.{view, views, item_view}
+use Rattle.dt_source.specs.Tree.{target_view, view, views, item_view}
 use Rattle.dt_source.specs.Reading.Several.{Part, Reads}
 use Rattle.dt_source.specs.Reading.Values.{built}
 use Rattle.dt_source.specs.Reading.Loops.{into}
@@ -31,3 +32,6 @@ ReadsItemBody result read = Reads (λ x. (views x.found.items, x.fault, x.rest.n
 
 abbrev pub ReadsItem : Result (Read (Option Item)) ReadError → Part (Option Edit) → Type 0
 ReadsItem result read = Reads (λ x. (option_map item_view x.found, x.fault, x.rest.now)) result read
+
+abbrev pub ReadsTarget : Result (Read Reference) ReadError → Part Target → Type 0
+ReadsTarget result read = Reads (λ x. (target_view x.found, x.fault, x.rest.now)) result read

@@ -4,12 +4,12 @@ use Rattle.dt_lexeme.specs.declared.lexeme.Lexeme.{Lexeme}
 use Rattle.dt_lexeme.specs.declared.lexeme.Fault.{Fault}
 use Rattle.dt_lexeme.specs.declared.lexeme.Refusal.{Refusal}
 use Rattle.dt_lexeme.specs.declared.lexeme.Kind.{Kind}
-use Rattle.dt_lexeme.specs.declared.lexeme.Kind.TheVariants.{Version, Plugin, MemReserve, DeleteNode, Reference, PathReference, Brace, Slash}
+use Rattle.dt_lexeme.specs.declared.lexeme.Kind.TheVariants.{Version, Plugin, MemReserve, DeleteNode, OmitIfNoRef, Reference, PathReference, Brace, Slash}
 use Rattle.dt_expression.specs.Values.{Value}
 use Rattle.dt_expression.specs.Reading.{◌>>=◌, Read, syntax_at}
 use Rattle.dt_expression.specs.ReadingExpressions.{primary_at}
 use Rattle.dt_source.specs.Reading.Several.{earlier, Part, many}
-use Rattle.dt_meaning.specs.Syntax.{Piece, Body, body_of, Edit, Rooted, Extends, Deletes, Meaning}
+use Rattle.dt_meaning.specs.Syntax.{Target, Piece, Body, body_of, Edit, Rooted, Extends, Deletes, Omits, Meaning}
 use Rattle.dt_source.specs.Pieces.{target_of, fault_in}
 use Rattle.dt_source.specs.Words.{label_bytes}
 use Rattle.dt_source.specs.Reading.Bodies.{labels_at, stays, semicolon_at, ended_by, body_at}
@@ -76,14 +76,21 @@ brace_at text (t ∷ ts) = brace_kind text t.kind t ts
 abbrev pub extend_at : List ℕ → List Lexeme → Lexeme → List Lexeme → Part (Option Edit)
 extend_at text ls t ts = brace_at text ts >>= λ y. Ok (Some (Extends (map (label_bytes text) ls) (target_of text t) y.0), y.1, y.2)
 
-abbrev pub delete_kind : List ℕ → Kind → Lexeme → List Lexeme → Part (Option Edit)
-delete_kind text Reference t ts = ended_by (Some (Deletes (target_of text t))) None ts
-delete_kind text PathReference t ts = ended_by (Some (Deletes (target_of text t))) None ts
-delete_kind text _ t ts = Err (syntax_at (t ∷ ts))
+abbrev pub referred_kind : List ℕ → Kind → Lexeme → List Lexeme → Part Target
+referred_kind text Reference t ts = ended_by (target_of text t) None ts
+referred_kind text PathReference t ts = ended_by (target_of text t) None ts
+referred_kind text _ t ts = Err (syntax_at (t ∷ ts))
+
+-- what a reference names, and a semicolon
+abbrev pub referred_at : List ℕ → List Lexeme → Part Target
+referred_at text [] = Err (syntax_at [])
+referred_at text (t ∷ ts) = referred_kind text t.kind t ts
 
 abbrev pub delete_at : List ℕ → List Lexeme → Part (Option Edit)
-delete_at text [] = Err (syntax_at [])
-delete_at text (t ∷ ts) = delete_kind text t.kind t ts
+delete_at text ts = referred_at text ts >>= λ y. Ok (Some (Deletes y.0), y.1, y.2)
+
+abbrev pub omit_at : List ℕ → List Lexeme → Part (Option Edit)
+omit_at text ts = referred_at text ts >>= λ y. Ok (Some (Omits y.0), y.1, y.2)
 
 abbrev pub root_at : List ℕ → List Lexeme → Part (Option Edit)
 root_at text ts = brace_at text ts >>= λ y. Ok (Some (Rooted y.0), y.1, y.2)
@@ -92,6 +99,7 @@ root_at text ts = brace_at text ts >>= λ y. Ok (Some (Rooted y.0), y.1, y.2)
 abbrev pub bare_item : List ℕ → Kind → Lexeme → List Lexeme → Part (Option Edit)
 bare_item text Slash t ts = root_at text ts
 bare_item text DeleteNode t ts = delete_at text ts
+bare_item text OmitIfNoRef t ts = omit_at text ts
 bare_item text _ t ts = Err (syntax_at (t ∷ ts))
 
 abbrev pub unlabelled_item : List ℕ → List Lexeme → Kind → Lexeme → List Lexeme → Part (Option Edit)

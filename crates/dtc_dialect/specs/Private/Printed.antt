@@ -4,7 +4,7 @@ use Rattle.dtc_dialect.specs.declared.printer.Printer.{Printer}
 use Rattle.dtc_dialect.specs.declared.printing.Printed.{Printed}
 use Rattle.dtc_dialect.specs.declared.table.LabelRow.{LabelRow}
 use Rattle.dtc_dialect.specs.declared.token.Token.{Token}
-use Rattle.dtc_dialect.specs.Character.{character_of}
+use Rattle.dt_expression.specs.Character.{character_of}
 use Rattle.dtc_dialect.specs.Copied.{Between, IsPut, apart, inside}
 use Rattle.dtc_dialect.specs.Said.{AreLabels, root_text}
 use Rattle.dtc_dialect.specs.Stops.{KnowsLabels}

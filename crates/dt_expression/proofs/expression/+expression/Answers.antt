@@ -3,7 +3,7 @@ use Rattle.std.proofs.lemmas.List.{take_rest}
 use Rattle.std.proofs.lemmas.Result.{err_from_is_err_and}
 use Rattle.dt_lexeme.specs.declared.lexeme.Lexeme.{Lexeme}
 use Rattle.dt_lexeme.specs.declared.lexeme.Kind.{Kind}
-use Rattle.dt_lexeme.specs.declared.lexeme.Kind.TheVariants.{Literal, Question, Colon, Paren}
+use Rattle.dt_lexeme.specs.declared.lexeme.Kind.TheVariants.{Literal, Character, Question, Colon, Paren}
 use Rattle.dt_expression.specs.Expression.{is_prefix, Making}
 use Rattle.dt_expression.specs.Values.{values}
 use Rattle.dt_expression.specs.ReadingExpressions.{Reader, primary_by, primary_with, unary_at, levels, otherwise_by, otherwise, chosen_by, chosen, expr_below, expr_at}
@@ -114,14 +114,15 @@ expr-returns-clause-gives t c = rw (first (values c.args.text.now) c.args.depth 
 
 -- ---- lexemes that begin no operand
 
-no_primary : {A : Type 0} (m : Making A) (expr : Lexeme → Reader A) (ts : List Lexeme) (d : Lexeme) → 1 ≤ length ts → ((get_or ts 0 d).kind ≡ Literal → ⊥) → ((get_or ts 0 d).kind ≡ Paren → ⊥) → primary_with m expr ts ≡ Err (syntax_at ts)
-no_primary m expr [] d h n0 n1 = absurd (omega arith)
-no_primary m expr (t ∷ ts) d h n0 n1 = go t.kind n0 n1
+no_primary : {A : Type 0} (m : Making A) (expr : Lexeme → Reader A) (ts : List Lexeme) (d : Lexeme) → 1 ≤ length ts → ((get_or ts 0 d).kind ≡ Literal → ⊥) → ((get_or ts 0 d).kind ≡ Character → ⊥) → ((get_or ts 0 d).kind ≡ Paren → ⊥) → primary_with m expr ts ≡ Err (syntax_at ts)
+no_primary m expr [] d h n0 n2 n1 = absurd (omega arith)
+no_primary m expr (t ∷ ts) d h n0 n2 n1 = go t.kind n0 n2 n1
   where
-    go : (k : Kind) → (k ≡ Literal → ⊥) → (k ≡ Paren → ⊥) → primary_by m expr k t ts ≡ Err (syntax_at (t ∷ ts))
-    go Literal n0 n1 = absurd (n0 refl)
-    go Paren n0 n1 = absurd (n1 refl)
-    go _ n0 n1 = refl
+    go : (k : Kind) → (k ≡ Literal → ⊥) → (k ≡ Character → ⊥) → (k ≡ Paren → ⊥) → primary_by m expr k t ts ≡ Err (syntax_at (t ∷ ts))
+    go Literal n0 n2 n1 = absurd (n0 refl)
+    go Character n0 n2 n1 = absurd (n2 refl)
+    go Paren n0 n2 n1 = absurd (n1 refl)
+    go _ n0 n2 n1 = refl
 
 no_second : {A : Type 0} (m : Making A) (expr : Lexeme → Reader A) (v : A) (ts : List Lexeme) (d : Lexeme) → 1 ≤ length ts → ((get_or ts 0 d).kind ≡ Question → ⊥) → chosen m expr v ts ≡ Ok (v, ts)
 no_second m expr v [] d h n = absurd (omega arith)
@@ -140,7 +141,7 @@ no_third m expr v w (t ∷ ts) d h n = go t.kind n
     go _ n = refl
 
 pub primary_within-returns-in_default-clause-gives : goal.primary_within-returns-in_default-clause-gives
-primary_within-returns-in_default-clause-gives t c = rw c.syntax_at-in_default.ensures (no_primary (values c.args.text.now) (expr_below (values c.args.text.now) c.args.depth) c.args.lexemes.now _ c.in-len1-up.len_at_least c.in_default.not-Literal c.in_default.not-Paren)
+primary_within-returns-in_default-clause-gives t c = rw c.syntax_at-in_default.ensures (no_primary (values c.args.text.now) (expr_below (values c.args.text.now) c.args.depth) c.args.lexemes.now _ c.in-len1-up.len_at_least c.in_default.not-Literal c.in_default.not-Character c.in_default.not-Paren)
 
 pub choose-returns-in_default-clause-gives : goal.choose-returns-in_default-clause-gives
 choose-returns-in_default-clause-gives t c = no_second (values c.args.text.now) (expr_below (values c.args.text.now) c.args.depth) c.args.test c.args.lexemes.now _ c.in-len1-up.len_at_least c.in_default.not-Question

@@ -10,19 +10,19 @@ lexemes-init c = rw (c.start-context.ensures, c.new-found.ensures.items) (record
   shorter = omega arith;
   braces = omega arith;
   parens = omega arith;
-  scans = scans_start c.args.text.now;
+  scans = scans_start c.args.language c.args.text.now;
 })
 
 pub returns-in-Err : goal.returns-in-Err
-returns-in-Err c = scans_none c.args.text.now c.lexemes.found.items c.lexemes.context c.lexemes.left.now c.in-Err.s.now c.in-Err.ensures.gap c.in-Err.ensures.unclosed c.lexemes.invariant.scans
+returns-in-Err c = scans_none c.args.language c.args.text.now c.lexemes.found.items c.lexemes.context c.lexemes.left.now c.in-Err.s.now c.in-Err.ensures.gap c.in-Err.ensures.unclosed c.lexemes.invariant.scans
 
 pub returns-then-is_empty : goal.returns-then-is_empty
 returns-then-is_empty c =
     let e : c.in-Ok.s.now ≡ [] = nil_from_length c.in-Ok.s.now (eqb-true _ _ (sym c.if-is_empty.ensures)) in
-    scans_done c.args.text.now c.lexemes.found.items c.lexemes.context c.lexemes.left.now (subst (λ (x : List ℕ). IsGap c.lexemes.left.now x) e c.in-Ok.ensures.gap) c.lexemes.invariant.scans
+    scans_done c.args.language c.args.text.now c.lexemes.found.items c.lexemes.context c.lexemes.left.now (subst (λ (x : List ℕ). IsGap c.lexemes.context.language c.lexemes.left.now x) e c.in-Ok.ensures.gap) c.lexemes.invariant.scans
 
 pub returns-in_default : goal.returns-in_default
-returns-in_default c = scans_lost c.args.text.now c.lexemes.found.items c.lexemes.context c.lexemes.left.now c.in-Ok.s.now c.in-Ok.ensures.gap (not_empty c.in-Ok.s.now (sym c.if-is_empty.ensures)) c.in_default.ensures c.lexemes.invariant.scans
+returns-in_default c = scans_lost c.args.language c.args.text.now c.lexemes.found.items c.lexemes.context c.lexemes.left.now c.in-Ok.s.now c.in-Ok.ensures.gap (not_empty c.in-Ok.s.now (sym c.if-is_empty.ensures)) c.in_default.ensures c.lexemes.invariant.scans
 
 pub lexemes-smaller : goal.lexemes-smaller
 lexemes-smaller c =
@@ -39,5 +39,5 @@ lexemes-preserved c =
       shorter = omega (arith, g, left, c.lexemes.invariant.shorter);
       braces = rw (c.step-context.ensures) (omega (arith, h, g, left, c.in-Some.ensures.within, c.lexemes.invariant.braces, step_braces c.lexemes.context c.in-Some.kind));
       parens = rw (c.step-context.ensures) (omega (arith, h, g, left, c.in-Some.ensures.within, c.lexemes.invariant.parens, step_parens c.lexemes.context c.in-Some.kind));
-      scans = rw (c.step-context.ensures, c.from-left.ensures, items) (scans_more c.args.text.now c.lexemes.found.items c.lexemes.context c.lexemes.left.now c.in-Ok.s.now c.in-Some.kind c.in-Some.n c.in-Ok.ensures.gap c.in-Some.ensures c.lexemes.invariant.scans);
+      scans = rw (c.step-context.ensures, c.from-left.ensures, items) (scans_more c.args.language c.args.text.now c.lexemes.found.items c.lexemes.context c.lexemes.left.now c.in-Ok.s.now c.in-Some.kind c.in-Some.n c.in-Ok.ensures.gap c.in-Some.ensures c.lexemes.invariant.scans);
     }

@@ -7,7 +7,7 @@ invariant-lexemes l = record {
   shorter : length l.left ≤ length l.text;
   braces : l.context.braces + length l.left ≤ length l.text;
   parens : l.context.parens + length l.left ≤ length l.text;
-  scans : Scans l.text l.found.items l.context l.left;
+  scans : Scans l.fn.language l.text l.found.items l.context l.left;
 }
 
 abbrev pub decreases-lexemes : goal.decreases-lexemes

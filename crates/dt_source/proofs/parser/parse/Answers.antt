@@ -8,9 +8,9 @@ use Rattle.dt_source.proofs.parser.parse.Goals as goal
 pub invariant_of-result : goal.invariant_of-result
 invariant_of-result c =
     let read = rw c.in-Ok-default-None.field-0-1-is at c.in-Ok-default-None.ensures.found in
-    let few : how_many (outlined c.in-Ok-default-None.field-0-0).items ≤ length c.args.text.now = says_few c.args.text.now (outlined c.in-Ok-default-None.field-0-0) (read.0, read.1, read.3.1, read.2) in
+    let few : how_many (outlined c.in-Ok-default-None.field-0-0).items ≤ length c.args.text.now = says_few c.args.language c.args.text.now (outlined c.in-Ok-default-None.field-0-0) (read.0, read.1, read.3.1, read.2) in
     record {
-      lawful = (says_lawful c.args.text.now (outlined c.in-Ok-default-None.field-0-0) (read.0, read.1, read.3.1, read.2)).items;
+      lawful = (says_lawful c.args.language c.args.text.now (outlined c.in-Ok-default-None.field-0-0) (read.0, read.1, read.3.1, read.2)).items;
       few = omega (arith, few);
     }
 

@@ -1,5 +1,6 @@
 -- One source fits a text, so what is answered of the one that was parsed is answered of what the text says.
 use Rattle.std.proofs.Common.{inl, MatchResult, ap, subst, ◌∙◌}
+use Rattle.dt_lexeme.specs.declared.language.Language.TheVariants.{Profile}
 use Rattle.dt_source.specs.Meaning.{meaning_of}
 use Rattle.dt_meaning.specs.Syntax.{Meaning}
 use Rattle.dtman_engine.specs.Compile.{CannotBuild, IsBlobOf}
@@ -12,7 +13,7 @@ pub returns-in-Err-clause-said : goal.returns-in-Err-clause-said
 returns-in-Err-clause-said c =
     let kind = c.in-Err.error.kind in
     let line = c.in-Err.error.line in
-    λ m short says. inl (c.from.ensures ∙ ap (λ k. source_fault k line) (c.one_source.ensures.accepted c.args.source.now m kind line short says c.in-Err.ensures.refused))
+    λ m short says. inl (c.from.ensures ∙ ap (λ k. source_fault k line) (c.one_source.ensures.accepted Profile c.args.source.now m kind line short says c.in-Err.ensures.refused))
 
 pub returns-in-Ok-clause-answer : goal.returns-in-Ok-clause-answer
 returns-in-Ok-clause-answer c =
@@ -23,7 +24,7 @@ returns-in-Ok-clause-said c =
     let symbols = c.args.symbols in
     λ m short says.
     subst (λ (x : Meaning). MatchResult c.source_blob.result (λ blob. IsBlobOf symbols x blob.items) (λ fault. CannotBuild symbols x (fault_value fault)))
-    (c.one_source.ensures.meaning c.args.source.now (meaning_of c.in-Ok.parsed) m c.in-Ok.ensures.found.1 says) c.source_blob.ensures
+    (c.one_source.ensures.meaning Profile c.args.source.now (meaning_of c.in-Ok.parsed) m c.in-Ok.ensures.found.1 says) c.source_blob.ensures
 
 pub returns-in-Ok-clause-refused : goal.returns-in-Ok-clause-refused
 returns-in-Ok-clause-refused c =

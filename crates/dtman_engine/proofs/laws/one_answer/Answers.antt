@@ -1,4 +1,5 @@
 -- A text says one thing at most, and bytes hold one tree at most.
+use Rattle.dt_lexeme.specs.declared.language.Language.TheVariants.{Profile}
 use Rattle.dtman_engine.proofs.OneAnswers.{compiled-once, dumped-once, overlaid-once}
 use Rattle.dtman_engine.proofs.laws.one_answer.Goals as goal
 
@@ -7,7 +8,7 @@ returns c =
     let source = c.one_source.ensures in
     let one = c.one_tree.ensures in
     record {
-      compiled = λ symbols text m short says. compiled-once source.accepted source.meaning symbols text m short says;
+      compiled = λ symbols text m short says. compiled-once source.accepted (source.meaning Profile) symbols text m short says;
       overlaid = λ base over b o held also. overlaid-once one base over b o held also;
       dumped = λ blob t held. dumped-once one blob t held;
     }

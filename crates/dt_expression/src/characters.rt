@@ -1,9 +1,9 @@
 //! Character literals.
 ghost use Rattle.std.specs.Prelude.{◌≡◌, ◌≤◌};
-ghost use Rattle.dtc_dialect.specs.Character.{alone_of, byte_of, character_of, control_of, digit_in, escape_of};
+ghost use Rattle.dt_expression.specs.Character.{alone_of, byte_of, character_of, control_of, digit_in, escape_of};
 
-/// The number of a character literal, which stands between quotes.
-pub(crate) fn character(inside: &[u8]) -> Option<u8>
+/// The number of a character literal by what stands between its quotes, where it has one.
+pub fn character(inside: &[u8]) -> Option<u8>
     ensures { result ≡ character_of inside.now }
 {
     match inside {
