@@ -7,6 +7,7 @@ use Rattle.bus_manager.specs.Workers.{most_workers}
 use Rattle.clap.specs.Words.{Row, Text, all_of, first_of, one_of, subcommand_of}
 use Rattle.dtman_cli.specs.declared.subcommand.Command.{Command}
 use Rattle.dtman_cli.specs.declared.subcommand.Command.TheVariants.{Compile, Overlay, Dump, Plan, Replay, Probe, Why, Needs, Drivers, Trace, Explain}
+use Rattle.dtman_cli.specs.declared.subcommand.Board.{Board}
 use Rattle.dtman_cli.specs.declared.subcommand.Links.{Links}
 use Rattle.dtman_cli.specs.declared.subcommand.Profile.{Profile}
 use Rattle.dtman_cli.specs.declared.subcommand.Profile.TheVariants.{Specification, Dialect}
@@ -50,6 +51,11 @@ IsProfile (Dialect folders) rows =
 abbrev pub IsLinks : Links → List Row → Type 0
 IsLinks links rows = IsText links.name (codes "links") rows × (links.strict ≡ is_on (first_of (codes "strict") rows))
 
+-- the files of the board that is asked about, and whose links count
+abbrev pub IsBoard : Board → List Row → Type 0
+IsBoard board rows =
+    (first_of (codes "BLOB") rows ≡ Some board.blob.now) × (first_of (codes "DRIVERS") rows ≡ Some board.drivers.now) × IsLinks board.links rows
+
 -- the subcommand that was met, with the values of its arguments
 abbrev pub IsMet : Command → Text → List Row → Type 0
 IsMet (Compile source out symbols profile) name rows =
@@ -58,18 +64,12 @@ IsMet (Compile source out symbols profile) name rows =
 IsMet (Overlay base overlay out) name rows =
     (name ≡ codes "overlay") × (first_of (codes "BASE") rows ≡ Some base.now) × (first_of (codes "OVERLAY") rows ≡ Some overlay.now) × (first_of (codes "OUT") rows ≡ Some out.now)
 IsMet (Dump blob) name rows = (name ≡ codes "dump") × (first_of (codes "IN") rows ≡ Some blob.now)
-IsMet (Plan blob drivers dot links) name rows =
-    (name ≡ codes "plan") × (first_of (codes "BLOB") rows ≡ Some blob.now) × (first_of (codes "DRIVERS") rows ≡ Some drivers.now) × (dot ≡ is_on (first_of (codes "dot") rows))
-    × IsLinks links rows
-IsMet (Probe blob drivers workers without links) name rows =
-    (name ≡ codes "probe") × (first_of (codes "BLOB") rows ≡ Some blob.now) × (first_of (codes "DRIVERS") rows ≡ Some drivers.now)
-    × AreWorkers workers rows × IsText without (codes "without") rows × IsLinks links rows
-IsMet (Why blob drivers path check links) name rows =
-    (name ≡ codes "why") × (first_of (codes "BLOB") rows ≡ Some blob.now) × (first_of (codes "DRIVERS") rows ≡ Some drivers.now)
-    × IsText path (codes "PATH") rows × (check ≡ is_on (first_of (codes "check") rows)) × IsLinks links rows
-IsMet (Needs blob drivers path links) name rows =
-    (name ≡ codes "needs") × (first_of (codes "BLOB") rows ≡ Some blob.now) × (first_of (codes "DRIVERS") rows ≡ Some drivers.now)
-    × (first_of (codes "PATH") rows ≡ Some path.now) × IsLinks links rows
+IsMet (Plan board dot) name rows = (name ≡ codes "plan") × IsBoard board rows × (dot ≡ is_on (first_of (codes "dot") rows))
+IsMet (Probe board workers without) name rows =
+    (name ≡ codes "probe") × IsBoard board rows × AreWorkers workers rows × IsText without (codes "without") rows
+IsMet (Why board path check) name rows =
+    (name ≡ codes "why") × IsBoard board rows × IsText path (codes "PATH") rows × (check ≡ is_on (first_of (codes "check") rows))
+IsMet (Needs board path) name rows = (name ≡ codes "needs") × IsBoard board rows × (first_of (codes "PATH") rows ≡ Some path.now)
 IsMet (Drivers aliases builtin) name rows =
     (name ≡ codes "drivers") × (first_of (codes "ALIASES") rows ≡ Some aliases.now) × IsText builtin (codes "MODINFO") rows
 IsMet (Trace log plan) name rows =

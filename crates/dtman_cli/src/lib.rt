@@ -2,6 +2,8 @@
 #![tactic(auto)]
 
 mod beside;
+mod blobs;
+mod boots;
 mod compiling;
 mod detail;
 mod diagnosing;
@@ -11,6 +13,7 @@ mod failure;
 mod files;
 mod folders;
 mod grammar;
+mod host;
 mod noted;
 mod origins;
 mod performing;
@@ -28,7 +31,7 @@ pub use dialect::{Outcome, compile_dialect};
 pub use origins::refused_bytes;
 pub use reading::command;
 pub use running::{COMMAND_LINE, DONE, FILE, REFUSED, run, run_words};
-pub use subcommand::{Command, Links, Profile};
+pub use subcommand::{Board, Command, Links, Profile};
 pub use surroundings::Surroundings;
 pub use translating::{Missing, Saying};
 pub use unsaid::Unsaid;

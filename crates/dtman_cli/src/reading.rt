@@ -3,10 +3,10 @@ ghost use Rattle.std.specs.Prelude.{◌≡◌, IfOk, IfSome, codes, map};
 ghost use Rattle.clap.specs.Words.{app_of, first_of, found_of, rows_of};
 ghost use Rattle.clap.specs.Simple.{subcommand_rows_of};
 ghost use Rattle.dtman_cli.specs.Grammar.{dtman};
-ghost use Rattle.dtman_cli.specs.CommandLine.{AreAsked, AreWorkers, IsMet, IsLinks, IsProfile, IsText, Meets, Says, is_on, texts_of};
+ghost use Rattle.dtman_cli.specs.CommandLine.{AreAsked, AreWorkers, IsBoard, IsMet, IsLinks, IsProfile, IsText, Meets, Says, is_on, texts_of};
 
 use crate::grammar::grammar;
-use crate::subcommand::{Command, Links, Profile};
+use crate::subcommand::{Board, Command, Links, Profile};
 use bus_manager::MAX_WORKERS;
 use clap::error::ErrorKind;
 use clap::{ArgMatches, Error};
@@ -128,23 +128,18 @@ fn dump<'a>(given: &ArgMatches<'a>) -> Option<Command<'a>>
 fn plan<'a>(given: &ArgMatches<'a>) -> Option<Command<'a>>
     ensures { IfSome result (λ command. IsMet command (codes "plan") (rows_of (found_of given.now))) }
 {
-    Some(Command::Plan {
-        blob: given.get_str("BLOB")?,
-        drivers: given.get_str("DRIVERS")?,
-        dot: is_on(given, "dot"),
-        links: links(given),
-    })
+    let board = board(given)?;
+    let dot = is_on(given, "dot");
+    Some(Command::Plan { board, dot })
 }
 
 fn probe<'a>(given: &ArgMatches<'a>) -> Option<Command<'a>>
     ensures { IfSome result (λ command. IsMet command (codes "probe") (rows_of (found_of given.now))) }
 {
     Some(Command::Probe {
-        blob: given.get_str("BLOB")?,
-        drivers: given.get_str("DRIVERS")?,
+        board: board(given)?,
         workers: workers(given)?,
         without: text(given, "without"),
-        links: links(given),
     })
 }
 
@@ -152,23 +147,18 @@ fn why<'a>(given: &ArgMatches<'a>) -> Option<Command<'a>>
     ensures { IfSome result (λ command. IsMet command (codes "why") (rows_of (found_of given.now))) }
 {
     Some(Command::Why {
-        blob: given.get_str("BLOB")?,
-        drivers: given.get_str("DRIVERS")?,
+        board: board(given)?,
         path: text(given, "PATH"),
         check: is_on(given, "check"),
-        links: links(given),
     })
 }
 
 fn needs<'a>(given: &ArgMatches<'a>) -> Option<Command<'a>>
     ensures { IfSome result (λ command. IsMet command (codes "needs") (rows_of (found_of given.now))) }
 {
-    Some(Command::Needs {
-        blob: given.get_str("BLOB")?,
-        drivers: given.get_str("DRIVERS")?,
-        path: given.get_str("PATH")?,
-        links: links(given),
-    })
+    let board = board(given)?;
+    let path = given.get_str("PATH")?;
+    Some(Command::Needs { board, path })
 }
 
 fn drivers<'a>(given: &ArgMatches<'a>) -> Option<Command<'a>>
@@ -203,6 +193,17 @@ fn explain<'a>(given: &ArgMatches<'a>) -> Option<Command<'a>>
 {
     Some(Command::Explain {
         number: given.get_str("NUMBER")?,
+    })
+}
+
+/// The board that is asked about.
+fn board<'a>(given: &ArgMatches<'a>) -> Option<Board<'a>>
+    ensures { IfSome result (λ board. IsBoard board (rows_of (found_of given.now))) }
+{
+    Some(Board {
+        blob: given.get_str("BLOB")?,
+        drivers: given.get_str("DRIVERS")?,
+        links: links(given),
     })
 }
 

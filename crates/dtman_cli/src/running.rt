@@ -4,6 +4,7 @@ ghost use Rattle.std.specs.Prelude.{◌≡◌, false};
 use crate::detail::{Detail, asked_for};
 use crate::failure::{Failure, fail};
 use crate::files::{INPUT, print};
+use crate::host::Host;
 use crate::noted::Noted;
 use crate::performing::perform;
 use crate::reading::command;
@@ -110,47 +111,37 @@ pub fn run_words<S: Surroundings, O: Channel, E: Eprint, T: Threads + Sync>(
         Ok(asked) => asked,
         Err(_) => return fail(errors, Failure::Refused(Fault::no_memory())),
     };
-    run_command(
+    let mut host = Host {
         alloc,
         surroundings,
         threads,
-        output,
         errors,
-        asked.words.as_slice(),
-        asked.detail,
-    )
+        detail: asked.detail,
+    };
+    run_command(&mut host, output, asked.words.as_slice())
 }
 
 fn run_command<S: Surroundings, O: Channel, E: Eprint, T: Threads + Sync>(
-    alloc: Global,
-    surroundings: &mut S,
-    threads: &T,
+    host: &mut Host<'_, S, E, T>,
     output: &mut O,
-    errors: &E,
     words: &[&str],
-    detail: Detail,
 ) -> u8
     requires { O.has_failed output.old ≡ false }
 {
-    match command(alloc, words) {
-        Ok(command) => match perform(
-            alloc,
-            surroundings,
-            threads,
-            output,
-            errors,
-            command,
-            detail,
-        ) {
+    let errors = host.errors;
+    match command(host.alloc, words) {
+        Ok(command) => match perform(host, output, command) {
             Ok(()) => DONE,
-            Err(Failure::File(fault, path)) if detail == Detail::Verbose => {
-                fail_file(surroundings, errors, fault, path)
+            Err(Failure::File(fault, path)) if host.detail == Detail::Verbose => {
+                fail_file(host.surroundings, errors, fault, path)
             }
             Err(failure) => fail(errors, failure),
         },
         Err(error) => match error.kind() {
             Mistake::OutOfMemory => fail(errors, Failure::Refused(Fault::no_memory())),
-            Mistake::DisplayHelp | Mistake::DisplayVersion => tell(alloc, output, errors, &error),
+            Mistake::DisplayHelp | Mistake::DisplayVersion => {
+                tell(host.alloc, output, errors, &error)
+            }
             _ => {
                 let _ = errors.eprint(&error);
                 COMMAND_LINE

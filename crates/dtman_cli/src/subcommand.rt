@@ -18,6 +18,14 @@ pub struct Links<'a> {
     pub strict: bool,
 }
 
+/// The files of a board, and whose links count.
+#[derive(Clone, Copy, Debug)]
+pub struct Board<'a> {
+    pub blob: &'a str,
+    pub drivers: &'a str,
+    pub links: Links<'a>,
+}
+
 /// A subcommand with its paths and options.
 #[derive(Debug, Drop)]
 pub enum Command<'a> {
@@ -37,11 +45,9 @@ pub enum Command<'a> {
         blob: &'a str,
     },
     Plan {
-        blob: &'a str,
-        drivers: &'a str,
+        board: Board<'a>,
         /// Print a Graphviz graph in place of the plan file.
         dot: bool,
-        links: Links<'a>,
     },
     Replay {
         plan: &'a str,
@@ -50,28 +56,22 @@ pub enum Command<'a> {
         workers: Option<u8>,
     },
     Probe {
-        blob: &'a str,
-        drivers: &'a str,
+        board: Board<'a>,
         /// From 1 to `MAX_WORKERS`.
         workers: u8,
         /// A driver of the file that never comes.
         without: Option<&'a str>,
-        links: Links<'a>,
     },
     Why {
-        blob: &'a str,
-        drivers: &'a str,
+        board: Board<'a>,
         /// The device that is asked for, or else each that waits.
         path: Option<&'a str>,
         /// End with another status where a device is listed.
         check: bool,
-        links: Links<'a>,
     },
     Needs {
-        blob: &'a str,
-        drivers: &'a str,
+        board: Board<'a>,
         path: &'a str,
-        links: Links<'a>,
     },
     Drivers {
         aliases: &'a str,

@@ -1,5 +1,6 @@
 //! Answers by the links of Linux.
 
+use crate::answers::{Asked, BoardAnswer};
 use crate::order_text::needs_text;
 use crate::reasons::Reasons;
 use crate::waits::{Waits, why_text};
@@ -12,29 +13,6 @@ use dtman_engine::Fault;
 use std::alloc::{AllocError, Global};
 use std::hash::RandomState;
 use std::thread::Threads;
-
-/// What is asked of a plan.
-#[derive(Clone, Copy, Debug)]
-pub enum Asked<'a> {
-    /// Its text.
-    Plan,
-    /// A Graphviz graph of it.
-    Graph,
-    /// The end report of a run by so many workers.
-    Report(usize),
-    /// Why the device at a path waits, or why each does.
-    Why(Option<&'a [u8]>),
-    /// What the device at a path needs.
-    Needs(&'a [u8]),
-}
-
-/// The text that was asked for, whether it lists a device that isn't bound, and the warnings of the links.
-#[derive(Drop)]
-pub struct LinkedAnswer {
-    pub text: Vec<u8>,
-    pub any: bool,
-    pub warnings: Vec<u8>,
-}
 
 // ` (PROPERTY)` or ` (PROPERTY, entry N)` for what made a link, ` (its bus)` for the bus above.
 fn add_reason(alloc: Global, text: &mut Vec<u8>, link: &Link<'_>) -> Result<(), AllocError> {
@@ -104,10 +82,10 @@ fn with_warnings<R: Threads + Sync>(
     alloc: Global,
     linked: &Linked<'_>,
     asked: Asked<'_>,
-) -> Result<LinkedAnswer, Fault> {
+) -> Result<BoardAnswer, Fault> {
     let warnings = warnings_text(alloc, linked)?;
     let Waits { text, any } = answer(rt, alloc, linked, asked)?;
-    Ok(LinkedAnswer {
+    Ok(BoardAnswer {
         text,
         any,
         warnings,
@@ -116,7 +94,7 @@ fn with_warnings<R: Threads + Sync>(
 
 /// What is asked of the plan of a blob's tree by the links of Linux. The faults are those of `planned`, but for those of suppliers, which
 /// are warnings here.
-pub fn linked_answer<R: Threads + Sync>(
+pub(crate) fn linked_answer<R: Threads + Sync>(
     rt: &R,
     alloc: Global,
     hasher: RandomState,
@@ -124,7 +102,7 @@ pub fn linked_answer<R: Threads + Sync>(
     drivers: &[u8],
     strictness: Strictness,
     asked: Asked<'_>,
-) -> Result<LinkedAnswer, Fault> {
+) -> Result<BoardAnswer, Fault> {
     let tree = read(alloc, blob)?;
     let drivers = read_link_drivers(alloc, hasher, drivers)?;
     let linked = link(alloc, hasher, &tree, &drivers, strictness)?;

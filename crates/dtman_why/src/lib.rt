@@ -1,6 +1,7 @@
 //! What the commands `why`, `needs`, `drivers` and `trace` answer, from the bytes of files to text.
 #![tactic(auto)]
 
+mod answers;
 mod boots;
 mod by_links;
 mod chain_text;
@@ -12,8 +13,8 @@ mod shown;
 mod waits;
 mod without;
 
+pub use answers::{Asked, BoardAnswer, board_answer};
 pub use boots::{Boot, boot_bytes};
-pub use by_links::{Asked, LinkedAnswer, linked_answer};
 pub use end::end_of;
 pub use installed::{Installed, installed_drivers};
 pub use order_text::needs_text;

@@ -1,7 +1,7 @@
 //! The command line.
 
 use clap::error::ErrorKind;
-use dtman_cli::{Command, Links, Profile, command};
+use dtman_cli::{Board, Command, Links, Profile, command};
 use std::alloc::Global;
 
 /// The command that the words name, or the kind of their mistake.
@@ -95,13 +95,15 @@ fn reads_plan_with_its_option(rt: HostRuntime) {
         matches!(
             plan,
             Ok(Command::Plan {
-                blob: "board.dtb",
-                drivers: "board.drivers",
-                dot: false,
-                links: Links {
-                    name: None,
-                    strict: false
-                }
+                board: Board {
+                    blob: "board.dtb",
+                    drivers: "board.drivers",
+                    links: Links {
+                        name: None,
+                        strict: false
+                    }
+                },
+                dot: false
             })
         )
     );
@@ -111,10 +113,12 @@ fn reads_plan_with_its_option(rt: HostRuntime) {
         matches!(
             graph,
             Ok(Command::Plan {
-                blob: "board.dtb",
-                drivers: "board.drivers",
-                dot: true,
-                ..
+                board: Board {
+                    blob: "board.dtb",
+                    drivers: "board.drivers",
+                    ..
+                },
+                dot: true
             })
         )
     );
@@ -126,11 +130,13 @@ fn workers_of(alloc: Global, command: &str, option: (&str, &str)) -> Result<Opti
     let words = ["dtman", command, "board", "beside", name, number];
     match read(alloc, words.as_slice())? {
         Command::Probe {
-            blob: "board",
-            drivers: "beside",
+            board: Board {
+                blob: "board",
+                drivers: "beside",
+                ..
+            },
             workers,
             without: None,
-            ..
         } => Ok(Some(workers)),
         Command::Replay {
             plan: "board",
@@ -205,10 +211,12 @@ fn reads_questions(rt: HostRuntime) {
         matches!(
             needs,
             Ok(Command::Needs {
-                blob: "b",
-                drivers: "d",
-                path: "/uart",
-                ..
+                board: Board {
+                    blob: "b",
+                    drivers: "d",
+                    ..
+                },
+                path: "/uart"
             })
         )
     );
@@ -226,9 +234,12 @@ fn reads_questions(rt: HostRuntime) {
         matches!(
             linux,
             Ok(Command::Needs {
-                links: Links {
-                    name: Some("linux"),
-                    strict: true
+                board: Board {
+                    links: Links {
+                        name: Some("linux"),
+                        strict: true
+                    },
+                    ..
                 },
                 ..
             })

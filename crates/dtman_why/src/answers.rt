@@ -1,0 +1,103 @@
+//! Answers about a board, by the table of suppliers or by the links of Linux.
+
+use crate::by_links::linked_answer;
+use crate::order_text::needs_text;
+use crate::reasons::NoReasons;
+use crate::waits::why_text;
+use bus_links::Strictness;
+use bus_manager::TableProber;
+use dtman_engine::{Fault, graph_bytes, plan_bytes, planned, probe_bytes};
+use std::alloc::Global;
+use std::hash::RandomState;
+use std::thread::Threads;
+
+/// What is asked of a board's plan.
+#[derive(Clone, Copy, Debug)]
+pub enum Asked<'a> {
+    /// Its text.
+    Plan,
+    /// A Graphviz graph of it.
+    Graph,
+    /// The end report of a run by so many workers.
+    Report(usize),
+    /// Why the device at a path waits, or why each does.
+    Why(Option<&'a [u8]>),
+    /// What the device at a path needs.
+    Needs(&'a [u8]),
+}
+
+/// The text that was asked for, whether it lists a device that isn't bound, and the warnings of the links.
+#[derive(Drop)]
+pub struct BoardAnswer {
+    pub text: Vec<u8>,
+    pub any: bool,
+    pub warnings: Vec<u8>,
+}
+
+impl BoardAnswer {
+    /// A text that lists nothing, without warnings.
+    pub(crate) fn plain(alloc: Global, text: Vec<u8>) -> BoardAnswer {
+        BoardAnswer {
+            text,
+            any: false,
+            warnings: Vec::new(alloc),
+        }
+    }
+}
+
+/// What is asked of the plan of a blob's tree: by the links of Linux, as strictly as is said, or else by the table of suppliers.
+/// The faults are those of `planned`; by the links those of suppliers are warnings.
+pub fn board_answer<R: Threads + Sync>(
+    rt: &R,
+    alloc: Global,
+    hasher: RandomState,
+    blob: &[u8],
+    drivers: &[u8],
+    links: Option<Strictness>,
+    asked: Asked<'_>,
+) -> Result<BoardAnswer, Fault> {
+    match links {
+        Some(strictness) => linked_answer(rt, alloc, hasher, blob, drivers, strictness, asked),
+        None => planned_answer(rt, alloc, hasher, blob, drivers, asked),
+    }
+}
+
+fn planned_answer<R: Threads + Sync>(
+    rt: &R,
+    alloc: Global,
+    hasher: RandomState,
+    blob: &[u8],
+    drivers: &[u8],
+    asked: Asked<'_>,
+) -> Result<BoardAnswer, Fault> {
+    let text = match asked {
+        Asked::Plan => plan_bytes(alloc, hasher, blob, drivers)?,
+        Asked::Graph => graph_bytes(alloc, hasher, blob, drivers)?,
+        Asked::Report(workers) => {
+            probe_bytes(rt, alloc, hasher, blob, drivers, &TableProber, workers)?.report
+        }
+        Asked::Needs(path) => {
+            let plan = planned(alloc, hasher, blob, drivers)?;
+            needs_text(alloc, &plan, path)?
+        }
+        Asked::Why(path) => return waits_answer(rt, alloc, hasher, blob, drivers, path),
+    };
+    Ok(BoardAnswer::plain(alloc, text))
+}
+
+fn waits_answer<R: Threads + Sync>(
+    rt: &R,
+    alloc: Global,
+    hasher: RandomState,
+    blob: &[u8],
+    drivers: &[u8],
+    path: Option<&[u8]>,
+) -> Result<BoardAnswer, Fault> {
+    let plan = planned(alloc, hasher, blob, drivers)?;
+    let waits = why_text(rt, alloc, &plan, &NoReasons, path)?;
+    Ok(BoardAnswer {
+        text: waits.text,
+        any: waits.any,
+        warnings: Vec::new(alloc),
+    })
+}
