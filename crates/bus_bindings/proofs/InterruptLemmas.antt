@@ -1,9 +1,10 @@
 -- One step to an interrupt parent, along the rows of a map, and to a controller.
-use Rattle.std.proofs.Common.{◌≡◌, refl, ℕ, zero, suc, ◌+◌, ◌-◌, ◌<◌, ◌==◌, nat_le, ◌&&◌, Bool, true, false, List, [], ◌∷◌, length, take, drop, Some, None, arith}
+use Rattle.std.proofs.Common.{◌≡◌, refl, ℕ, zero, suc, ◌+◌, ◌-◌, ◌<◌, ◌≤◌, ◌==◌, nat_le, ◌&&◌, Bool, true, false, List, [], ◌∷◌, length, take, drop, Some, None, arith}
 use Rattle.std.specs.Prelude.{codes}
+use Rattle.std.proofs.lemmas.Bool.Decides.{nat_tests}
 use Rattle.bus_drivers.specs.Nodes.{is_okay}
 use Rattle.bus_bindings.specs.LinkNodes.{LinkNode, node_at}
-use Rattle.bus_bindings.specs.Interrupts.{has, towards, parent_within, agrees, Parent, parent_in, Asked, row_within, is_controller, asked_next, controller_within, number_at, address_cells_within}
+use Rattle.bus_bindings.specs.Interrupts.{has, towards, parent_within, agrees, Parent, parent_in, Asked, row_within, is_controller, asked_next, controller_within, number_at, address_cells_within, first_byte, padded}
 
 module _ (nodes : List LinkNode) where
   pub parent-none : (left place : ℕ) → 0 < left → towards nodes place ≡ None → parent_within nodes left place ≡ None
@@ -68,3 +69,10 @@ module _ (nodes : List LinkNode) where
       → address_cells_within nodes (left - 1) (node_at nodes place).above ≡ address_cells_within nodes left place
   cells-on zero place h t s = absurd (omega arith)
   cells-on (suc k) place h t s = let one : suc k - 1 ≡ k = omega arith in rw one (rw t (rw s refl))
+
+pub padded-on : (left : ℕ) (rest : List ℕ) → 0 < left → padded left rest ≡ first_byte rest ∷ padded (left - 1) (drop 1 rest)
+padded-on zero rest h = absurd (omega arith)
+padded-on (suc k) rest h = let one : suc k - 1 ≡ k = omega arith in rw one refl
+
+pub le-test : (a b : ℕ) → a ≤ b → nat_le a b ≡ true
+le-test a b h = grind (arith, nat_tests)

@@ -67,15 +67,11 @@ abbrev pub first_mask : List ℕ → ℕ
 first_mask [] = 255
 first_mask (m ∷ ms) = m
 
-abbrev pub masks_behind : List ℕ → List ℕ
-masks_behind [] = []
-masks_behind (m ∷ ms) = ms
-
 -- a row is for a key that agrees with it under the mask
 abbrev pub agrees : List ℕ → List ℕ → List ℕ → Bool
 agrees masks [] row = true
 agrees masks (k ∷ ks) [] = false
-agrees masks (k ∷ ks) (r ∷ rs) = bit_and k (first_mask masks) == bit_and r (first_mask masks) && agrees (masks_behind masks) ks rs
+agrees masks (k ∷ ks) (r ∷ rs) = bit_and k (first_mask masks) == bit_and r (first_mask masks) && agrees (drop 1 masks) ks rs
 
 -- how many bytes a unit address and a specifier take of a node that takes interrupts: as `#address-cells` (none without it) and
 -- `#interrupt-cells` say
@@ -154,10 +150,13 @@ abbrev pub address_bytes : List LinkNode → ℕ → ℕ
 address_bytes nodes place = 4 * address_cells_within nodes most_steps place
 
 -- so many of these bytes, filled up by zeros
+abbrev pub first_byte : List ℕ → ℕ
+first_byte [] = 0
+first_byte (b ∷ bs) = b
+
 abbrev pub padded : ℕ → List ℕ → List ℕ
 padded zero bytes = []
-padded (suc n) [] = 0 ∷ padded n []
-padded (suc n) (b ∷ bs) = b ∷ padded n bs
+padded (suc n) bytes = first_byte bytes ∷ padded n (drop 1 bytes)
 
 -- the key of an interrupt with this specifier at a node that takes it: before the specifier the first address of `reg`, three cells
 -- of it at most

@@ -2,9 +2,9 @@
 -- its property's list and is a fault; so does, without a fault, one that is left empty (0).
 use Rattle.std.specs.Prelude.{ℕ, zero, suc, ◌+◌, ◌-◌, ◌*◌, Bool, true, false, not, ◌&&◌, ◌||◌, ◌==◌, nat_le, codes, if◌then◌else◌, List, [], ◌∷◌, ◌++◌, length, take, drop, Option, Some, None, option_and_then}
 use Rattle.std.specs.Option.{option_map, option_map_or}
-use Rattle.std.specs.Int.{from_be_bytes, w32}
 use Rattle.std.specs.Str.{bytes_eq}
 use Rattle.dt_tree.specs.declared.property.Property.{Property}
+use Rattle.dt_tree.specs.Cell.{cell_in}
 use Rattle.bus_bindings.specs.Bindings.{Listing, counted, bare, endpoint, mapped, controllers, lines, Binding, binding_of}
 use Rattle.bus_bindings.specs.Interrupts.{has, number_in, interrupt_parent, controller_of}
 use Rattle.bus_bindings.specs.LinkNodes.{LinkNode, node_at, place_with}
@@ -78,27 +78,33 @@ abbrev pub entry_at : Listing → List LinkNode → ℕ → List ℕ → Option 
 entry_at listing nodes own behind None = None
 entry_at listing nodes own behind (Some node) = option_and_then (entry_with listing nodes own behind node) (cells_behind listing nodes node)
 
--- what this value names; so many cells at its front still belong to the entry before
-abbrev pub found_in : List LinkNode → ℕ → Listing → List ℕ → ℕ → ℕ → List ℕ → FoundData
-found_in nodes own listing property entry skipped (a ∷ b ∷ c ∷ d ∷ behind) =
+-- what so many cells of a value name; so many at its front still belong to the entry before
+abbrev pub found_within : List LinkNode → ℕ → Listing → List ℕ → ℕ → ℕ → ℕ → List ℕ → FoundData
+found_within nodes own listing property entry skipped zero value = nothing
+found_within nodes own listing property entry skipped (suc left) value =
+    option_map_or
+    (λ phandle.
     if skipped == 0
-    then (if from_be_bytes w32 (a ∷ b ∷ c ∷ d ∷ []) == 0 then nothing
+    then (if phandle == 0 then nothing
     else option_map_or
-    (λ e. and_then (mentioned property entry e.node) (found_in nodes own listing property (entry + 1) (e.cells + cells_before listing) behind))
-    (entry_at listing nodes own behind (place_with nodes (from_be_bytes w32 (a ∷ b ∷ c ∷ d ∷ [])))) (fault property entry))
-    else found_in nodes own listing property entry (skipped - 1) behind
-found_in nodes own listing property entry skipped _ = nothing
+    (λ e. and_then (mentioned property entry e.node) (found_within nodes own listing property (entry + 1) (e.cells + cells_before listing) left (drop 4 value)))
+    (entry_at listing nodes own (drop 4 value) (place_with nodes phandle)) (fault property entry))
+    else found_within nodes own listing property entry (skipped - 1) left (drop 4 value))
+    (cell_in (take 4 value)) nothing
+
+abbrev pub found_in : List LinkNode → ℕ → Listing → List ℕ → ℕ → List ℕ → FoundData
+found_in nodes own listing property skipped value = found_within nodes own listing property 0 skipped (length value) value
 
 -- ---- properties
 -- what `interrupts` names, specifier by specifier of so many bytes at the interrupt parent: the controller of each, until one has none
 abbrev pub lines_within : List LinkNode → List ℕ → ℕ → ℕ → ℕ → ℕ → ℕ → List ℕ → FoundData
 lines_within nodes property own parent width entry zero value = nothing
-lines_within nodes property own parent width entry (suc left) [] = nothing
-lines_within nodes property own parent width entry (suc left) (b ∷ bs) =
-    if nat_le width (length (b ∷ bs))
-    then option_map_or (λ c. and_then (mentioned property entry c) (lines_within nodes property own parent width (entry + 1) left (drop width (b ∷ bs))))
-    (controller_of nodes own parent (take width (b ∷ bs))) (fault property entry)
-    else fault property entry
+lines_within nodes property own parent width entry (suc left) value =
+    if length value == 0 then nothing
+    else (if nat_le width (length value)
+    then option_map_or (λ c. and_then (mentioned property entry c) (lines_within nodes property own parent width (entry + 1) left (drop width value)))
+    (controller_of nodes own parent (take width value)) (fault property entry)
+    else fault property entry)
 
 -- a specifier has one cell at least
 abbrev pub lines_at : List LinkNode → List ℕ → ℕ → List ℕ → ℕ → ℕ → FoundData
@@ -114,11 +120,11 @@ found_lines nodes property own value = option_map_or (lines_from nodes property 
 
 abbrev pub found_listed : List LinkNode → ℕ → Listing → Property → FoundData
 found_listed nodes own lines p = found_lines nodes p.name own p.value
-found_listed nodes own (counted name) p = found_in nodes own (counted name) p.name 0 0 p.value
-found_listed nodes own bare p = found_in nodes own bare p.name 0 0 p.value
-found_listed nodes own endpoint p = found_in nodes own endpoint p.name 0 0 (take 4 p.value)
-found_listed nodes own mapped p = found_in nodes own mapped p.name 0 1 p.value
-found_listed nodes own controllers p = found_in nodes own controllers p.name 0 0 p.value
+found_listed nodes own (counted name) p = found_in nodes own (counted name) p.name 0 p.value
+found_listed nodes own bare p = found_in nodes own bare p.name 0 p.value
+found_listed nodes own endpoint p = found_in nodes own endpoint p.name 0 (take 4 p.value)
+found_listed nodes own mapped p = found_in nodes own mapped p.name 1 p.value
+found_listed nodes own controllers p = found_in nodes own controllers p.name 0 p.value
 
 -- a hog's lines are no device's, and `interrupts-extended` stands over `interrupts`
 abbrev pub is_passed_over : List LinkNode → ℕ → List ℕ → Bool

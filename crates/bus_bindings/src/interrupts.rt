@@ -1,14 +1,15 @@
 //! The interrupt tree: to which controller a node's interrupts go (Devicetree Specification v0.4, section 2.4).
-ghost use Rattle.std.specs.Prelude.{◌≡◌, ◌++◌, IfOk, OnOk, take};
+ghost use Rattle.std.specs.Prelude.{◌≡◌, ◌++◌, IfOk, OnOk};
 ghost use Rattle.std.specs.List.{list_any};
 ghost use Rattle.bus_plan.specs.PlanPaths.{is_among};
 ghost use Rattle.bus_drivers.specs.TreePlan.{strings};
-ghost use Rattle.bus_bindings.specs.Interrupts.{above_of, towards, parent_within, interrupt_parent, own_maps, has_own_map, is_controller, asked_next, controller_within, address_cells_within, address_bytes, padded, key_of, controller_of, most_steps};
+ghost use Rattle.bus_bindings.specs.Interrupts.{above_of, towards, parent_within, interrupt_parent, own_maps, has_own_map, is_controller, asked_next, controller_within, address_cells_within, address_bytes, first_byte, padded, key_of, controller_of, most_steps};
 
 use crate::naming::{bytes, has, named_by, number_or};
-use crate::nexus::{Asked, most_bytes, row_for};
+use crate::nexus::{Asked, before, most_bytes, row_for};
 use crate::nodes::Nodes;
 use bus_drivers::next_string;
+use dt_tree::behind;
 use std::alloc::{AllocError, Global};
 
 // More steps than any way has that ends.
@@ -114,7 +115,12 @@ fn asked_next<'k>(nodes: &'k Nodes<'_>, place: usize, key: &'k [u8]) -> Option<A
     row_for(nodes, masks, key, rows.as_slice())
 }
 
-fn controller_within(nodes: &Nodes<'_>, steps: usize, place: usize, key: &[u8]) -> Option<usize>
+fn controller_within<'k>(
+    nodes: &'k Nodes<'_>,
+    steps: usize,
+    place: usize,
+    key: &'k [u8],
+) -> Option<usize>
     ensures { result ≡ controller_within nodes.now steps place key.now }
 {
     let mut at = place;
@@ -162,6 +168,15 @@ fn address_bytes(nodes: &Nodes<'_>, place: usize) -> usize
     4 * (address_cells_within(nodes, most_steps(), place) as usize)
 }
 
+fn first_byte(bytes: &[u8]) -> u8
+    ensures { result ≡ first_byte bytes.now }
+{
+    match bytes {
+        [] => 0,
+        [byte, ..] => *byte,
+    }
+}
+
 // Adds so many of these bytes, filled up by zeros.
 fn add_padded(key: &mut Vec<u8>, count: usize, bytes: &[u8]) -> Result<(), AllocError>
     ensures { OnOk result (key.new.items ≡ key.old.items ++ padded count bytes.now) }
@@ -170,25 +185,10 @@ fn add_padded(key: &mut Vec<u8>, count: usize, bytes: &[u8]) -> Result<(), Alloc
     let mut left = count;
     while left > 0 {
         left -= 1;
-        match rest {
-            [] => key.push(0)?,
-            [byte, behind @ ..] => {
-                key.push(*byte)?;
-                rest = behind;
-            }
-        }
+        key.push(first_byte(rest))?;
+        rest = behind(rest, 1);
     }
     Ok(())
-}
-
-// Three cells, or all that there are.
-fn three_cells(value: &[u8]) -> &[u8]
-    ensures { result.now ≡ take 12 value.now }
-{
-    if value.len() < 12 {
-        return value;
-    }
-    &value[..12]
 }
 
 // The key of an interrupt of a node at the one that takes it.
@@ -202,7 +202,7 @@ fn key_of(
     ensures { IfOk result (λ key. key.items ≡ key_of nodes.now own place specifier.now) }
 {
     let mut key = Vec::new(alloc);
-    let address = three_cells(bytes(nodes, own, b"reg"));
+    let address = before(bytes(nodes, own, b"reg"), 12);
     add_padded(&mut key, address_bytes(nodes, place), address)?;
     key.extend_from_slice(specifier)?;
     Ok(key)

@@ -7,8 +7,9 @@ ghost use Rattle.bus_bindings.specs.Mentions.{and_then, mentioned, fault, nothin
 use crate::binding::{Binding, Listing, Strictness};
 use crate::interrupts::{controller_of, interrupt_parent};
 use crate::naming::{has, number};
+use crate::nexus::before;
 use crate::nodes::Nodes;
-use dt_tree::Property;
+use dt_tree::{Property, behind, cell_in};
 use std::alloc::{AllocError, Global};
 use std::marker::Model;
 
@@ -140,16 +141,6 @@ impl<'t> Found<'t> {
     }
 }
 
-// The first four bytes, or all that there are.
-fn first_bytes(value: &[u8]) -> &[u8]
-    ensures { result.now ≡ take 4 value.now }
-{
-    if value.len() < 4 {
-        return value;
-    }
-    &value[..4]
-}
-
 /// An entry: the node that it means, and how many cells behind its phandle are its own.
 #[derive(Clone, Copy)]
 struct Entry {
@@ -189,7 +180,7 @@ fn entry_of(
     if bytes > behind.len() {
         return Ok(None);
     }
-    match meant(alloc, nodes, listing, own, node, &behind[..bytes])? {
+    match meant(alloc, nodes, listing, own, node, before(behind, bytes))? {
         None => Ok(None),
         Some(node) => Ok(Some(Entry { node, cells })),
     }
@@ -216,21 +207,25 @@ impl<'t> Found<'t> {
         listing: Listing,
         property: &'t [u8],
         value: &[u8],
-        before: usize,
+        first: usize,
     ) -> Result<(), AllocError>
         ensures { OnOk result (self.new
-            ≡ and_then self.old (found_in nodes.now own (listing_data listing) property.now 0 before value.now)) }
+            ≡ and_then self.old (found_in nodes.now own (listing_data listing) property.now first value.now)) }
     {
         let mut rest = value;
-        let mut skipped = before;
+        let mut skipped = first;
         let mut entry = 0;
-        while let [a, b, c, d, behind @ ..] = rest {
-            rest = behind;
+        let mut left = value.len();
+        while left > 0 {
+            left -= 1;
+            let Some(phandle) = cell_in(before(rest, 4)) else {
+                return Ok(());
+            };
+            rest = behind(rest, 4);
             if skipped > 0 {
                 skipped -= 1;
                 continue;
             }
-            let phandle = u32::from_be_bytes([*a, *b, *c, *d]);
             if phandle == 0 {
                 return Ok(());
             }
@@ -269,12 +264,13 @@ impl<'t> Found<'t> {
             if width > rest.len() {
                 return self.add_fault(property, entry);
             }
-            let Some(controller) = controller_of(alloc, nodes, own, parent, &rest[..width])? else {
+            let specifier = before(rest, width);
+            let Some(controller) = controller_of(alloc, nodes, own, parent, specifier)? else {
                 return self.add_fault(property, entry);
             };
             self.add(property, entry, controller)?;
             entry += 1;
-            rest = &rest[width..];
+            rest = behind(rest, width);
         }
         Ok(())
     }
@@ -297,7 +293,15 @@ impl<'t> Found<'t> {
             return self.add_fault(name, 0);
         }
         let width = 4 * (cells as usize);
-        self.add_specifiers(alloc, nodes, own, parent, width, name, property.value.as_slice())
+        self.add_specifiers(
+            alloc,
+            nodes,
+            own,
+            parent,
+            width,
+            name,
+            property.value.as_slice(),
+        )
     }
 
     // Adds the controllers of a node's interrupts.
@@ -333,13 +337,16 @@ impl<'t> Found<'t> {
     {
         let name = property.name.as_bytes();
         let value = property.value.as_slice();
-        let (value, before) = match listing {
-            Listing::Lines => return self.add_lines(alloc, nodes, own, property),
-            Listing::Endpoint => (first_bytes(value), 0),
-            Listing::Mapped => (value, 1),
-            Listing::Counted(_) | Listing::Bare | Listing::Controllers => (value, 0),
-        };
-        self.add_entries(alloc, nodes, own, listing, name, value, before)
+        match listing {
+            Listing::Lines => self.add_lines(alloc, nodes, own, property),
+            Listing::Endpoint => {
+                self.add_entries(alloc, nodes, own, listing, name, before(value, 4), 0)
+            }
+            Listing::Mapped => self.add_entries(alloc, nodes, own, listing, name, value, 1),
+            Listing::Counted(_) => self.add_entries(alloc, nodes, own, listing, name, value, 0),
+            Listing::Bare => self.add_entries(alloc, nodes, own, listing, name, value, 0),
+            Listing::Controllers => self.add_entries(alloc, nodes, own, listing, name, value, 0),
+        }
     }
 
     // Adds what a property of the node names: nothing, where it has no binding that counts.

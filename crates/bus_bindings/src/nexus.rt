@@ -1,13 +1,16 @@
 //! The maps of nexus nodes (Devicetree Specification v0.4, section 2.4.3).
-ghost use Rattle.std.specs.Prelude.{◌≡◌};
-ghost use Rattle.bus_bindings.specs.Interrupts.{first_mask, masks_behind, agrees, bytes_taken, most_bytes, Parent as ParentData, parent_in, row_within, row_for};
+ghost use Rattle.std.specs.Prelude.{◌≡◌, ◌≤◌, ◌&&◌, IfSome, take};
+ghost use Rattle.bus_drivers.specs.Nodes.{is_okay};
+ghost use Rattle.bus_bindings.specs.LinkNodes.{node_at};
+ghost use Rattle.bus_bindings.specs.Interrupts.{first_mask, agrees, bytes_taken, most_bytes, parent_in, row_within, row_for};
 
 use crate::naming::{named_by, number, number_or};
 use crate::nodes::Nodes;
+use dt_tree::behind;
 use std::marker::Model;
 
 /// What is asked of a node: the unit address and the specifier of an interrupt, to be found in its map.
-#[derive(Clone, Copy)]
+#[derive(Drop)]
 pub struct Asked<'k> {
     pub place: usize,
     pub key: &'k [u8],
@@ -28,6 +31,16 @@ struct Parent {
     bytes: usize,
 }
 
+impl Model for Parent {
+    ghost use Rattle.bus_bindings.specs.Interrupts.{Parent as Data};
+
+    ghost Value = { Data };
+
+    ghost view = { λ p. record { node = p.node; bytes = p.bytes } };
+
+    ghost inverse = { λ p. record { node = p.node; bytes = p.bytes } };
+}
+
 /// The most that a unit address and a specifier may take: 16 cells.
 pub fn most_bytes() -> usize
     ensures { result ≡ most_bytes }
@@ -44,22 +57,15 @@ fn first_mask(masks: &[u8]) -> u8
     }
 }
 
-fn masks_behind(masks: &[u8]) -> &[u8]
-    ensures { result.now ≡ masks_behind masks.now }
-{
-    match masks {
-        [] => &[],
-        [_, behind @ ..] => behind,
-    }
-}
-
 // Whether a row is for a key.
 fn agrees(masks: &[u8], key: &[u8], row: &[u8]) -> bool
     ensures { result ≡ agrees masks.now key.now row.now }
 {
     let mut masks = masks;
     let mut row = row;
-    for byte in key {
+    let mut left = key;
+    while let [byte, bytes @ ..] = left {
+        left = bytes;
         let [other, others @ ..] = row else {
             return false;
         };
@@ -68,7 +74,7 @@ fn agrees(masks: &[u8], key: &[u8], row: &[u8]) -> bool
             return false;
         }
         row = others;
-        masks = masks_behind(masks);
+        masks = behind(masks, 1);
     }
     true
 }
@@ -86,7 +92,8 @@ fn bytes_taken(nodes: &Nodes<'_>, place: usize) -> Option<usize>
 
 // Where a row leads that begins with a phandle.
 fn parent_in(nodes: &Nodes<'_>, row: &[u8]) -> Option<Parent>
-    ensures { result ≡ parent_in nodes.now row.now }
+    ensures value { result ≡ parent_in nodes.now row.now }
+    ensures small { IfSome result (λ parent. parent.bytes ≤ 64) }
 {
     let Some(node) = named_by(nodes, row) else {
         return None;
@@ -94,10 +101,30 @@ fn parent_in(nodes: &Nodes<'_>, row: &[u8]) -> Option<Parent>
     let Some(bytes) = bytes_taken(nodes, node) else {
         return None;
     };
-    if bytes > most_bytes() || bytes + 4 > row.len() {
+    if row.len() < 4 || bytes > row.len() - 4 {
+        return None;
+    }
+    if bytes > most_bytes() {
         return None;
     }
     Some(Parent { node, bytes })
+}
+
+/// The first bytes, or all that there are.
+pub fn before(bytes: &[u8], count: usize) -> &[u8]
+    ensures { result.now ≡ take count bytes.now }
+{
+    if bytes.len() < count {
+        return bytes;
+    }
+    &bytes[..count]
+}
+
+// Whether a row is for a key, and its parent okay.
+fn is_for(nodes: &Nodes<'_>, masks: &[u8], key: &[u8], row: &[u8], parent: usize) -> bool
+    ensures { result ≡ (agrees masks.now key.now row.now && is_okay (node_at nodes.now parent).properties) }
+{
+    agrees(masks, key, row) && nodes.okay(parent)
 }
 
 // What the first of so many rows that is for the key asks of its parent.
@@ -114,31 +141,26 @@ fn row_within<'r>(
     let mut left = most;
     while left > 0 {
         left -= 1;
-        if rest.len() < 8 || rest.len() - 8 < key.len() {
+        if rest.len() < key.len() + 8 {
             return None;
         }
-        let Some(parent) = parent_in(nodes, &rest[key.len()..]) else {
+        let Some(parent) = parent_in(nodes, behind(rest, key.len())) else {
             return None;
         };
-        let behind = &rest[key.len() + 4..];
-        if agrees(masks, key, rest) && nodes.okay(parent.node) {
+        let asked = behind(rest, key.len() + 4);
+        if is_for(nodes, masks, key, rest, parent.node) {
             return Some(Asked {
                 place: parent.node,
-                key: &behind[..parent.bytes],
+                key: before(asked, parent.bytes),
             });
         }
-        rest = &behind[parent.bytes..];
+        rest = behind(rest, key.len() + 4 + parent.bytes);
     }
     None
 }
 
 /// What the first row of a map that is for the key, and whose parent is okay, asks of that one.
-pub fn row_for<'r>(
-    nodes: &Nodes<'_>,
-    masks: &[u8],
-    key: &[u8],
-    rows: &'r [u8],
-) -> Option<Asked<'r>>
+pub fn row_for<'r>(nodes: &Nodes<'_>, masks: &[u8], key: &[u8], rows: &'r [u8]) -> Option<Asked<'r>>
     ensures { result ≡ row_for nodes.now masks.now key.now rows.now }
 {
     row_within(nodes, masks, key, rows.len(), rows)

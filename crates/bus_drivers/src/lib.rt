@@ -29,6 +29,7 @@ pub use matching::Matcher;
 pub use phandle_index::PhandleIndex;
 pub use planning::plan;
 pub use reading::read_drivers;
+pub use reference::Reference;
 pub use statement::Statement;
 pub use status::{is_compatible, is_okay};
 pub use strings::next_string;

@@ -147,6 +147,7 @@ module _ (early : List Bool) (components : List ℕ) where
   among own s (l ∷ ls) h e = by (is_waited_for early components l) refl (among own s ls (All-tail (IsShaped own) l ls h)) where
     later : (is_in (waited_for ls) s ≡ true → Steps ls own s) → is_in (waited_for ls) s ≡ true → Steps (l ∷ ls) own s
     later rest there = let step = rest there in (counted_later l ls s step.0, step.1)
+
     by : (t : Bool) → is_waited_for early components l ≡ t → (is_in (waited_for ls) s ≡ true → Steps ls own s) → Steps (l ∷ ls) own s
     by false is rest = later rest (rw is at e)
     by true is rest =
@@ -168,9 +169,10 @@ module _ (early : List Bool) (components : List ℕ) where
 
     steps_at : (own s : ℕ) → is_in (suppliers_by (is_waited_for early components) own (links_at links own)) s ≡ true
         → (is_in (suppliers_by (is_counted early) own (links_at links own)) s ≡ true) × (rank own ≡ rank s → s < own)
-    steps_at own s e =
-        (among_both own s (waited_for (links_at links own)) (counted (links_at links own)) (λ there. (among own s (links_at links own) (shaped own) there).0) e,
-        (among own s (links_at links own) (shaped own) (among_these own s (waited_for (links_at links own)) e)).1)
+    steps_at own s e = (
+      among_both own s (waited_for (links_at links own)) (counted (links_at links own)) (λ there. (among own s (links_at links own) (shaped own) there).0) e,
+      (among own s (links_at links own) (shaped own) (among_these own s (waited_for (links_at links own)) e)).1,
+    )
 
     steps_from : (ds : List TreeDevice) (own k s : ℕ) → has_supplier (relaxed own ds) k s ≡ true → (has_supplier (whole own ds) k s ≡ true) × (rank (own + k) ≡ rank s → s < own + k)
     steps_from [] own k s e = absurd (let bad : false ≡ true = e in cc bad)
@@ -210,12 +212,13 @@ module _ (early : List Bool) (components : List ℕ) where
       along d e (b ∷ bs) known h =
           let parts = both (has_supplier (relaxed 0 ds) d b) (is_chain (relaxed 0 ds) b (bs ++ e ∷ [])) h in
           let first : Way d b = one_step d b (begins b e bs parts.1) parts.0 in
-          let rest : Way b e = along b e bs known parts.1 in
-          (takes_on (whole 0 ds) d b e first.0 rest.0,
-          λ back.
-          let down : e < b = rest.1 (takes_on (whole 0 ds) e d b back first.0) in
-          let up : b < d = first.1 (takes_on (whole 0 ds) b e d rest.0 back) in
-          omega arith)
+          let rest : Way b e = along b e bs known parts.1 in (
+            takes_on (whole 0 ds) d b e first.0 rest.0,
+            λ back.
+                let down : e < b = rest.1 (takes_on (whole 0 ds) e d b back first.0) in
+                let up : b < d = first.1 (takes_on (whole 0 ds) b e d rest.0 back) in
+                omega arith,
+          )
 
 pub no_cycle : NoCycleIsLeft
 no_cycle = λ root set strict components are d between chain.

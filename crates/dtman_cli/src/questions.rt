@@ -4,21 +4,25 @@ use crate::diagnosing::{Inputs, file_of};
 use crate::failure::Failure;
 use crate::host::Host;
 use crate::performing::Answer;
-use crate::subcommand::{Board, Links};
+use crate::subcommand::{Board, Links, PlanForm};
 use crate::surroundings::Surroundings;
 use bus_links::Strictness;
 use dtman_engine::Fault;
-use dtman_why::{Asked, BoardAnswer, board_answer, without_driver};
+use dtman_why::{Asked, BoardAnswer, Drawing, board_answer, without_driver};
 use std::alloc::Global;
 use std::thread::Threads;
 
-/// The plan, as a plan file or as a graph.
+/// The plan, as a plan file or as a picture.
 pub fn planned<'a, S: Surroundings, E: Eprint, T: Threads + Sync>(
     host: &mut Host<'_, S, E, T>,
     board: Board<'a>,
-    dot: bool,
+    form: PlanForm<'a>,
 ) -> Result<Answer<'a>, Failure<'a>> {
-    let asked = if dot { Asked::Graph } else { Asked::Plan };
+    let asked = match form {
+        PlanForm::Plain => Asked::Plan,
+        PlanForm::Graph { of } => Asked::Picture(Drawing::Graph(bytes_of(of))),
+        PlanForm::Page => Asked::Picture(Drawing::Page),
+    };
     let answer = answered(host, board, None, asked)?;
     Ok(Answer::Text(answer.text))
 }

@@ -26,6 +26,17 @@ pub struct Board<'a> {
     pub links: Links<'a>,
 }
 
+/// How a plan is printed.
+#[derive(Clone, Copy, Debug)]
+pub enum PlanForm<'a> {
+    /// As a plan file.
+    Plain,
+    /// As a Graphviz graph: of what the device at a path needs and what needs it, or of the whole board.
+    Graph { of: Option<&'a str> },
+    /// As a page for a browser.
+    Page,
+}
+
 /// A subcommand with its paths and options.
 #[derive(Debug, Drop)]
 pub enum Command<'a> {
@@ -46,8 +57,7 @@ pub enum Command<'a> {
     },
     Plan {
         board: Board<'a>,
-        /// Print a Graphviz graph in place of the plan file.
-        dot: bool,
+        form: PlanForm<'a>,
     },
     Replay {
         plan: &'a str,
