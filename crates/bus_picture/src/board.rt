@@ -90,5 +90,8 @@ pub fn reason_name<'t>(reason: Reason<'t>) -> &'t [u8] {
 
 /// Whether the consumer of an arrow waits for the supplier, or would but for a cycle.
 pub fn is_drawn(board: &Board<'_>, arrow: &Arrow<'_>) -> bool {
-    arrow.standing != Standing::Early && board.state(arrow.consumer.index()) != State::Disabled
+    match board.state(arrow.consumer.index()) {
+        State::Disabled | State::Early => false,
+        _ => arrow.standing != Standing::Early,
+    }
 }

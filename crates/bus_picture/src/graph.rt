@@ -100,26 +100,9 @@ fn select(
     Ok(())
 }
 
-// The devices that may be drawn: all, or what one needs and what needs it.
-fn selection(
-    alloc: Global,
-    board: &Board<'_>,
-    of: Option<Device>,
-) -> Result<Vec<bool>, AllocError> {
-    let mut selected = vec![in alloc; of.is_none(); board.plan.len()]?;
-    if let Some(device) = of
-        && device.index() < board.plan.len()
-    {
-        select(alloc, board, &mut selected, device)?;
-    }
-    Ok(selected)
-}
-
-// Marks the ends of the arrows that are drawn, and the device that is asked for.
-fn mark_ends(board: &Board<'_>, bundles: &Bundles, drawn: &mut [bool], of: Option<Device>) {
-    if let Some(device) = of {
-        mark(drawn, device.index());
-    }
+// Marks the ends of the arrows that are drawn, and the device at this place.
+fn mark_ends(board: &Board<'_>, bundles: &Bundles, drawn: &mut [bool], own: usize) {
+    mark(drawn, own);
     for (place, arrow) in board.arrows.iter().enumerate() {
         if is_marked(bundles.first.as_slice(), place) {
             mark(drawn, arrow.consumer.index());
@@ -128,16 +111,31 @@ fn mark_ends(board: &Board<'_>, bundles: &Bundles, drawn: &mut [bool], of: Optio
     }
 }
 
+// What stands behind the last slash of a path.
+fn last_name<'p>(path: &'p [u8]) -> &'p [u8] {
+    let mut name = path;
+    for _ in 0..path.len() {
+        match name.iter().position(|byte| *byte == b'/') {
+            Some(slash) if slash < name.len() => name = &name[slash + 1..],
+            _ => return name,
+        }
+    }
+    name
+}
+
 fn write_device(
     alloc: Global,
     text: &mut Vec<u8>,
     board: &Board<'_>,
     place: usize,
 ) -> Result<(), AllocError> {
+    let path = board.path(place);
     write_number(alloc, text, b"    d", place, b" [label=\"")?;
-    write_shown(text, board.path(place))?;
-    text.extend_from_slice(b"\\n")?;
+    write_shown(text, last_name(path))?;
+    text.extend_from_slice(b" (")?;
     board.write_outcome(text, place)?;
+    text.extend_from_slice(b")\", tooltip=\"")?;
+    write_shown(text, path)?;
     write_between(
         text,
         b"\", fillcolor=\"",
@@ -229,31 +227,64 @@ const HEAD: &'static [u8] = b"digraph board {
     edge [fontname=\"sans-serif\", fontsize=8, arrowsize=0.6, color=gray40];
 ";
 
+// The devices and arrows of bundles, and the device at this place.
+fn write_drawn(
+    alloc: Global,
+    text: &mut Vec<u8>,
+    board: &Board<'_>,
+    bundles: &Bundles,
+    own: usize,
+) -> Result<(), AllocError> {
+    let mut drawn = vec![in alloc; false; board.plan.len()]?;
+    mark_ends(board, bundles, &mut drawn, own);
+    write_devices(alloc, text, board, drawn.as_slice())?;
+    write_bundles(alloc, text, board, bundles)
+}
+
 fn write_graph(
     alloc: Global,
     text: &mut Vec<u8>,
     board: &Board<'_>,
-    of: Option<Device>,
+    selected: &[bool],
+    own: usize,
 ) -> Result<(), AllocError> {
-    let selected = selection(alloc, board, of)?;
-    let bundles = bundles_of(alloc, board, selected.as_slice())?;
-    let mut drawn = vec![in alloc; false; board.plan.len()]?;
-    mark_ends(board, &bundles, &mut drawn, of);
     text.extend_from_slice(HEAD)?;
-    write_devices(alloc, text, board, drawn.as_slice())?;
-    write_bundles(alloc, text, board, &bundles)?;
+    let bundles = bundles_of(alloc, board, selected)?;
+    write_drawn(alloc, text, board, &bundles, own)?;
     text.extend_from_slice(b"}\n")
 }
 
-/// The board as a Graphviz graph: its devices, filled by what became of them, each with an arrow to each supplier, on which the
-/// properties stand that name it; red in cycles. Devices without an arrow are left out, and so is what disabled devices wait for and
-/// all that is set up before the bus begins. Where a device is asked for, only what it needs and what needs it is drawn.
+fn write_whole(alloc: Global, text: &mut Vec<u8>, board: &Board<'_>) -> Result<(), AllocError> {
+    let selected = vec![in alloc; true; board.plan.len()]?;
+    write_graph(alloc, text, board, selected.as_slice(), board.plan.len())
+}
+
+fn write_around(
+    alloc: Global,
+    text: &mut Vec<u8>,
+    board: &Board<'_>,
+    device: Device,
+) -> Result<(), AllocError> {
+    let mut selected = vec![in alloc; false; board.plan.len()]?;
+    if device.index() < board.plan.len() {
+        select(alloc, board, &mut selected, device)?;
+    }
+    write_graph(alloc, text, board, selected.as_slice(), device.index())
+}
+
+/// The board as a Graphviz graph: its devices, by the last names of their paths, filled by what became of them, each with an arrow
+/// to each supplier, on which the properties stand that name it; red in cycles. Devices without an arrow are left out, and so is
+/// what nobody waits for: what disabled devices and those that are set up before the bus begins name, and what is set up so. Where a
+/// device is asked for, only what it needs and what needs it is drawn.
 pub fn board_graph(
     alloc: Global,
     board: &Board<'_>,
     of: Option<Device>,
 ) -> Result<Vec<u8>, AllocError> {
     let mut text = Vec::new(alloc);
-    write_graph(alloc, &mut text, board, of)?;
+    match of {
+        None => write_whole(alloc, &mut text, board)?,
+        Some(device) => write_around(alloc, &mut text, board, device)?,
+    }
     Ok(text)
 }

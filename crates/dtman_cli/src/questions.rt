@@ -8,7 +8,7 @@ use crate::subcommand::{Board, Links, PlanForm};
 use crate::surroundings::Surroundings;
 use bus_links::Strictness;
 use dtman_engine::Fault;
-use dtman_why::{Asked, BoardAnswer, Drawing, board_answer, without_driver};
+use dtman_why::{Asked, BoardAnswer, board_answer, without_driver};
 use std::alloc::Global;
 use std::thread::Threads;
 
@@ -20,8 +20,9 @@ pub fn planned<'a, S: Surroundings, E: Eprint, T: Threads + Sync>(
 ) -> Result<Answer<'a>, Failure<'a>> {
     let asked = match form {
         PlanForm::Plain => Asked::Plan,
-        PlanForm::Graph { of } => Asked::Picture(Drawing::Graph(bytes_of(of))),
-        PlanForm::Page => Asked::Picture(Drawing::Page),
+        PlanForm::Graph { of: None } => Asked::Graph,
+        PlanForm::Graph { of: Some(path) } => Asked::GraphOf(path.as_bytes()),
+        PlanForm::Page => Asked::Page,
     };
     let answer = answered(host, board, None, asked)?;
     Ok(Answer::Text(answer.text))

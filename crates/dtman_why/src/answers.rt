@@ -17,8 +17,12 @@ use std::thread::Threads;
 pub enum Asked<'a> {
     /// Its text.
     Plan,
-    /// A picture of it.
-    Picture(Drawing<'a>),
+    /// A Graphviz graph of the board.
+    Graph,
+    /// One of what the device at a path needs and what needs it.
+    GraphOf(&'a [u8]),
+    /// A page for a browser.
+    Page,
     /// The end report of a run by so many workers.
     Report(usize),
     /// Why the device at a path waits, or why each does.
@@ -73,7 +77,13 @@ fn planned_answer<R: Threads + Sync>(
 ) -> Result<BoardAnswer, Fault> {
     let text = match asked {
         Asked::Plan => plan_bytes(alloc, hasher, blob, drivers)?,
-        Asked::Picture(drawing) => planned_picture(rt, alloc, hasher, blob, drivers, drawing)?,
+        Asked::Graph => {
+            planned_picture(rt, alloc, hasher, blob, drivers, Drawing::Graph(None))?
+        }
+        Asked::GraphOf(path) => {
+            planned_picture(rt, alloc, hasher, blob, drivers, Drawing::Graph(Some(path)))?
+        }
+        Asked::Page => planned_picture(rt, alloc, hasher, blob, drivers, Drawing::Page)?,
         Asked::Report(workers) => {
             probe_bytes(rt, alloc, hasher, blob, drivers, &TableProber, workers)?.report
         }

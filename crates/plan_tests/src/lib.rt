@@ -13,7 +13,6 @@ mod drivers;
 #[cfg(test)]
 mod forms;
 #[cfg(test)]
-#[cfg(test)]
 mod handles;
 #[cfg(test)]
 mod late_drivers;
