@@ -1,14 +1,5 @@
 use bus_plan::Device;
 
-/// What makes a device wait for another.
-#[derive(Clone, Copy, Debug)]
-pub enum Reason<'t> {
-    /// An entry of a property, from 0.
-    Property { name: &'t [u8], entry: usize },
-    /// The other is the bus above it.
-    Bus,
-}
-
 /// Whether an arrow counts.
 #[derive(Clone, Copy, Debug, PartialEq, Eq)]
 pub enum Standing {
@@ -25,6 +16,9 @@ pub enum Standing {
 pub struct Arrow<'t> {
     pub consumer: Device,
     pub supplier: Device,
-    pub reason: Reason<'t>,
+    /// The consumer's property that does: empty for the bus above it.
+    pub property: &'t [u8],
+    /// Which entry of it, from 0.
+    pub entry: usize,
     pub standing: Standing,
 }

@@ -1,4 +1,4 @@
-use crate::arrow::{Arrow, Reason, Standing};
+use crate::arrow::{Arrow, Standing};
 use crate::shown::write_shown;
 use crate::state::State;
 use bus_plan::{Device, Plan};
@@ -81,11 +81,11 @@ fn empty_lists(alloc: Global, count: usize) -> Result<Vec<Vec<usize>>, AllocErro
 }
 
 /// The name of what makes an arrow.
-pub fn reason_name<'t>(reason: Reason<'t>) -> &'t [u8] {
-    match reason {
-        Reason::Property { name, .. } => name,
-        Reason::Bus => b"its bus",
+pub fn reason_name<'t>(arrow: &Arrow<'t>) -> &'t [u8] {
+    if arrow.property.is_empty() {
+        return b"its bus";
     }
+    arrow.property
 }
 
 /// Whether the consumer of an arrow waits for the supplier, or would but for a cycle.

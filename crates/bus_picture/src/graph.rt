@@ -172,7 +172,7 @@ fn write_properties(
         let Some(arrow) = board.arrows.get(place) else {
             break;
         };
-        let name = reason_name(arrow.reason);
+        let name = reason_name(arrow);
         if name != before {
             if !before.is_empty() {
                 text.extend_from_slice(b"\\n")?;

@@ -23,7 +23,7 @@ label{margin-right:.8em;padding:1px .3em;border-radius:3px}
 .away{display:none}
 </style></head><body>
 <h1>The bus of a board</h1>
-<p>Each device with what became of it. Open one to see what it needs and what needs it, and why.</p>
+<p>Each device with what became of it. Open one to see what it needs and what needs it, with the properties that say so.</p>
 ";
 
 /// Behind the board: the filter, which needs a script; without one all is shown.

@@ -10,7 +10,7 @@ mod page;
 mod shown;
 mod state;
 
-pub use arrow::{Arrow, Reason, Standing};
+pub use arrow::{Arrow, Standing};
 pub use board::Board;
 pub use graph::board_graph;
 pub use page::board_page;

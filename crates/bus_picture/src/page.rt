@@ -1,6 +1,6 @@
 //! The board as a page by itself: a tree that needs no script, with a filter that does.
 
-use crate::arrow::{Arrow, Reason, Standing};
+use crate::arrow::{Arrow, Standing};
 use crate::board::{Board, End, reason_name};
 use crate::html::{HEAD, TAIL};
 use crate::shown::{write_between, write_number, write_shown};
@@ -59,9 +59,9 @@ fn write_filter(alloc: Global, text: &mut Vec<u8>, board: &Board<'_>) -> Result<
 
 fn write_reason(alloc: Global, text: &mut Vec<u8>, arrow: &Arrow<'_>) -> Result<(), AllocError> {
     text.push(b' ')?;
-    write_shown(text, reason_name(arrow.reason))?;
-    if let Reason::Property { entry, .. } = arrow.reason {
-        write_number(alloc, text, b", entry ", entry, b"")?;
+    write_shown(text, reason_name(arrow))?;
+    if !arrow.property.is_empty() {
+        write_number(alloc, text, b", entry ", arrow.entry, b"")?;
     }
     match arrow.standing {
         Standing::Waited => Ok(()),

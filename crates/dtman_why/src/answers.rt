@@ -77,9 +77,7 @@ fn planned_answer<R: Threads + Sync>(
 ) -> Result<BoardAnswer, Fault> {
     let text = match asked {
         Asked::Plan => plan_bytes(alloc, hasher, blob, drivers)?,
-        Asked::Graph => {
-            planned_picture(rt, alloc, hasher, blob, drivers, Drawing::Graph(None))?
-        }
+        Asked::Graph => { planned_picture(rt, alloc, hasher, blob, drivers, Drawing::Graph(None))? }
         Asked::GraphOf(path) => {
             planned_picture(rt, alloc, hasher, blob, drivers, Drawing::Graph(Some(path)))?
         }

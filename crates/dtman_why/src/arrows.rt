@@ -2,7 +2,7 @@
 
 use bus_drivers::{Form, PhandleIndex, Reference, next_cell};
 use bus_links::{Link, Linked, Standing as LinkStanding};
-use bus_picture::{Arrow, Reason, Standing};
+use bus_picture::{Arrow, Standing};
 use bus_plan::Device;
 use dt_tree::Property;
 use std::alloc::{AllocError, Global};
@@ -17,14 +17,6 @@ pub fn early_devices(alloc: Global, linked: &Linked<'_>) -> Result<Vec<bool>, Al
 }
 
 fn link_arrow<'t>(linked: &Linked<'_>, link: &Link<'t>) -> Arrow<'t> {
-    let reason = if link.is_bus() {
-        Reason::Bus
-    } else {
-        Reason::Property {
-            name: link.property(),
-            entry: link.entry(),
-        }
-    };
     let standing = match linked.standing(link) {
         LinkStanding::Needed => Standing::Waited,
         LinkStanding::Early => Standing::Early,
@@ -33,7 +25,8 @@ fn link_arrow<'t>(linked: &Linked<'_>, link: &Link<'t>) -> Arrow<'t> {
     Arrow {
         consumer: link.consumer(),
         supplier: link.supplier(),
-        reason,
+        property: link.property(),
+        entry: link.entry(),
         standing,
     }
 }
@@ -65,27 +58,32 @@ fn component_of(components: &[usize], device: Device) -> usize {
     }
 }
 
+// Whether an arrow between two devices counts.
+fn standing_of(components: &[usize], consumer: Device, supplier: Device) -> Standing {
+    if component_of(components, consumer) == component_of(components, supplier) {
+        return Standing::Cycle;
+    }
+    Standing::Waited
+}
+
 // That an entry of a device's property refers to another device.
 fn add_reference<'t>(
     arrows: &mut Vec<Arrow<'t>>,
     components: &[usize],
     consumer: Device,
     supplier: Device,
-    reason: Reason<'t>,
+    property: &'t [u8],
+    entry: usize,
 ) -> Result<(), AllocError> {
     if consumer.index() == supplier.index() {
         return Ok(());
     }
-    let standing = if component_of(components, consumer) == component_of(components, supplier) {
-        Standing::Cycle
-    } else {
-        Standing::Waited
-    };
     arrows.push(Arrow {
         consumer,
         supplier,
-        reason,
-        standing,
+        property,
+        entry,
+        standing: standing_of(components, consumer, supplier),
     })?;
     Ok(())
 }
@@ -113,8 +111,7 @@ fn add_references<'t>(
         };
         if let Some(supplier) = reference.device {
             let name = property.name.as_bytes();
-            let reason = Reason::Property { name, entry };
-            add_reference(arrows, components, consumer, supplier, reason)?;
+            add_reference(arrows, components, consumer, supplier, name, entry)?;
         }
         entry = entry.saturating_add(1);
         left = reference.cells;
@@ -146,7 +143,13 @@ pub fn plan_arrows<'t>(
     let mut arrows = Vec::new(alloc);
     for (place, device) in index.devices().iter().enumerate() {
         let consumer = Device::new(place);
-        add_properties(&mut arrows, index, components, consumer, device.node().properties())?;
+        add_properties(
+            &mut arrows,
+            index,
+            components,
+            consumer,
+            device.node().properties(),
+        )?;
     }
     Ok(arrows)
 }

@@ -113,7 +113,14 @@ pub(crate) fn linked_picture<R: Threads + Sync>(
 ) -> Result<Vec<u8>, Fault> {
     let early = early_devices(alloc, linked)?;
     let arrows = link_arrows(alloc, linked)?;
-    picture(rt, alloc, linked.plan(), early.as_slice(), arrows.as_slice(), drawing)
+    picture(
+        rt,
+        alloc,
+        linked.plan(),
+        early.as_slice(),
+        arrows.as_slice(),
+        drawing,
+    )
 }
 
 // The picture of the plan of a tree, whose properties say what the arrows are.

@@ -1,6 +1,6 @@
 //! Pictures of boards.
 
-use bus_picture::{Arrow, Board, Reason, Standing, State, board_graph, board_page};
+use bus_picture::{Arrow, Board, Standing, State, board_graph, board_page};
 use bus_plan::{Device, Plan, read_plan};
 use std::alloc::Global;
 use std::hash::RandomState;
@@ -20,11 +20,12 @@ fn plan_of(rt: &impl Abort, alloc: Global, hasher: RandomState) -> Plan {
     read_plan(alloc, hasher, PLAN.as_bytes()).expect(rt, "a plan")
 }
 
-fn arrow<'t>(consumer: usize, name: &'t [u8], entry: usize, standing: Standing) -> Arrow<'t> {
+fn arrow<'t>(consumer: usize, property: &'t [u8], entry: usize, standing: Standing) -> Arrow<'t> {
     Arrow {
         consumer: Device::new(consumer),
         supplier: Device::new(1),
-        reason: Reason::Property { name, entry },
+        property,
+        entry,
         standing,
     }
 }
