@@ -127,26 +127,16 @@ COMMANDS = (
         "plan",
         "Prints the plan of a blob: its devices, their drivers and suppliers",
         (Operand("BLOB", "blob", "The blob"), DRIVERS),
-        (
-            Option("--dot", "Prints a Graphviz graph instead"),
-            Option("--of", "Only what this device needs, and what needs it", "PATH"),
-            Option("--html", "Prints a page for a browser instead"),
-            *LINKS,
-        ),
+        (Option("--dot", "Prints a Graphviz graph instead"), *LINKS),
         (
             "Prints what the bus would do with a board: its devices in the order of the tree, each with the driver that matches it and the"
             " devices that have to be bound before it. The answer is a plan file, which can be read, kept, edited and replayed.",
-            "With `--dot` the answer is a Graphviz graph of the devices that need something or are needed: each filled by what becomes of"
-            " it (bound, waiting, failed, no driver), the property that names a supplier on the arrow, the arrows of a cycle red. With"
-            " `--of` it has only what a device needs and what needs it.",
-            "With `--html` the answer is a page that needs no network: the board as a tree, for each device what it needs and what needs"
-            " it, with the property and its entry, and a filter by state and text. The tree needs no script.",
+            "With `--dot` the answer is a Graphviz graph, in which the arrows of a cycle are red.",
             BY_LINKS,
         ),
         (
             ("The plan of a board", "dtman plan board.dtb board.drivers >board.plan"),
             ("A picture of it", "dtman plan board.dtb board.drivers --dot | dot -Tsvg >board.svg"),
-            ("A page to look through", "dtman plan board.dtb board.drivers --links linux --html >board.html"),
         ),
         "30 to 38, 50 and 51 with the line of the driver file, and 53 to 56",
     ),

@@ -9,8 +9,6 @@ use Rattle.dtman_cli.specs.declared.subcommand.Command.{Command}
 use Rattle.dtman_cli.specs.declared.subcommand.Command.TheVariants.{Compile, Overlay, Dump, Plan, Replay, Probe, Why, Needs, Drivers, Trace, Explain}
 use Rattle.dtman_cli.specs.declared.subcommand.Board.{Board}
 use Rattle.dtman_cli.specs.declared.subcommand.Links.{Links}
-use Rattle.dtman_cli.specs.declared.subcommand.PlanForm.{PlanForm}
-use Rattle.dtman_cli.specs.declared.subcommand.PlanForm.TheVariants as form
 use Rattle.dtman_cli.specs.declared.subcommand.Profile.{Profile}
 use Rattle.dtman_cli.specs.declared.subcommand.Profile.TheVariants.{Specification, Dialect}
 use Rattle.dtman_cli.specs.Grammar.{dtman}
@@ -53,12 +51,6 @@ IsProfile (Dialect folders) rows =
 abbrev pub IsLinks : Links → List Row → Type 0
 IsLinks links rows = IsText links.name (codes "links") rows × (links.strict ≡ is_on (first_of (codes "strict") rows))
 
--- what is printed of a plan: a graph, of a device where one is named; or a page; or its text
-abbrev pub IsForm : PlanForm → List Row → Type 0
-IsForm (form.Graph of) rows = (is_on (first_of (codes "dot") rows) ≡ true) × IsText of (codes "of") rows
-IsForm form.Page rows = (is_on (first_of (codes "dot") rows) ≡ false) × (is_on (first_of (codes "html") rows) ≡ true)
-IsForm form.Plain rows = (is_on (first_of (codes "dot") rows) ≡ false) × (is_on (first_of (codes "html") rows) ≡ false)
-
 -- the files of the board that is asked about, and whose links count
 abbrev pub IsBoard : Board → List Row → Type 0
 IsBoard board rows =
@@ -72,7 +64,7 @@ IsMet (Compile source out symbols profile) name rows =
 IsMet (Overlay base overlay out) name rows =
     (name ≡ codes "overlay") × (first_of (codes "BASE") rows ≡ Some base.now) × (first_of (codes "OVERLAY") rows ≡ Some overlay.now) × (first_of (codes "OUT") rows ≡ Some out.now)
 IsMet (Dump blob) name rows = (name ≡ codes "dump") × (first_of (codes "IN") rows ≡ Some blob.now)
-IsMet (Plan board form) name rows = (name ≡ codes "plan") × IsBoard board rows × IsForm form rows
+IsMet (Plan board dot) name rows = (name ≡ codes "plan") × IsBoard board rows × (dot ≡ is_on (first_of (codes "dot") rows))
 IsMet (Probe board workers without) name rows =
     (name ≡ codes "probe") × IsBoard board rows × AreWorkers workers rows × IsText without (codes "without") rows
 IsMet (Why board path check) name rows =

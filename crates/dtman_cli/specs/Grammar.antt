@@ -36,10 +36,6 @@ asked_text id = record (new_rule id) { long = Some id; value_names = 1 }
 abbrev pub beside : Text → Rule
 beside id = record (new_rule id) { long = Some id; action = Some SetTrue; is_free = false }
 
--- an option with a text that wants another beside it
-abbrev pub beside_text : Text → Rule
-beside_text id = record (new_rule id) { long = Some id; value_names = 1; is_free = false }
-
 -- whose links count
 abbrev pub with_links : App → App
 with_links app = with_rule (with_rule app (asked_text (codes "links"))) (beside (codes "strict"))
@@ -58,11 +54,7 @@ abbrev pub overlay : App
 overlay = with_rule (with_rule (with_rule (new_app (codes "overlay")) (required (codes "BASE"))) (required (codes "OVERLAY"))) (required (codes "OUT"))
 
 abbrev pub plan : App
-plan =
-    with_links
-    (with_rule
-    (with_rule (with_rule (with_rule (with_rule (new_app (codes "plan")) (required (codes "BLOB"))) (required (codes "DRIVERS"))) (flag (codes "dot"))) (beside_text (codes "of")))
-    (flag (codes "html")))
+plan = with_links (with_rule (with_rule (with_rule (new_app (codes "plan")) (required (codes "BLOB"))) (required (codes "DRIVERS"))) (flag (codes "dot")))
 
 abbrev pub replay : App
 replay =

@@ -167,14 +167,10 @@ fn plan<'a>(alloc: Global) -> Result<Command<'a>, AllocError>
     ensures { IfOk result (λ c. (app_of c ≡ spec.plan) × ((out-Command c).has_globals ≡ false)) }
 {
     let about = "Prints the plan of a blob: its devices, their drivers and suppliers";
-    let device = "Only what this device needs, and what needs it";
-    let of = beside_text(alloc, "of", "PATH", "dot", device)?;
     let command = named(alloc, "plan", about).arg(required(alloc, "BLOB", "The blob"));
     let command = add_argument(command, required(alloc, "DRIVERS", "The driver file"));
     let dot = flag(alloc, "dot", "Prints a Graphviz graph instead");
-    let command = add_argument(add_argument(command, dot), of);
-    let html = flag(alloc, "html", "Prints a page for a browser instead");
-    add_links(alloc, add_argument(command, html))
+    add_links(alloc, add_argument(command, dot))
 }
 
 fn replay<'a>(alloc: Global) -> Result<Command<'a>, AllocError>
@@ -304,24 +300,7 @@ fn beside<'a>(
         .requires_arg(other)
 }
 
-/// An option with a text, which wants another beside it.
-fn beside_text<'a>(
-    alloc: Global,
-    name: &'a str,
-    value: &'a str,
-    other: &'a str,
-    about: &'a str,
-) -> Result<Arg<'a>, AllocError>
-    ensures { IfOk result (λ a. (rule_of a ≡ spec.beside_text name.now) × (a.global ≡ false)) }
-{
-    Arg::new(alloc, name)
-        .long(name)
-        .value_name(value)
-        .help(about)
-        .requires_arg(other)
-}
-
-/// An option with values, which may be given again and again and wants another beside it.
+/// An option with a value, which wants another beside it.
 fn repeated<'a>(
     alloc: Global,
     name: &'a str,

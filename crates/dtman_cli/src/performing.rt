@@ -61,7 +61,7 @@ fn answer<'a, S: Surroundings, E: Eprint, T: Threads + Sync>(
         } => compiled(host, source, out, symbols, &profile),
         Command::Overlay { base, overlay, out } => overlaid(host, base, overlay, out),
         Command::Dump { blob } => dumped(host, blob),
-        Command::Plan { board, form } => planned(host, board, form),
+        Command::Plan { board, dot } => planned(host, board, dot),
         Command::Probe {
             board,
             workers,

@@ -4,7 +4,7 @@ use crate::diagnosing::{Inputs, file_of};
 use crate::failure::Failure;
 use crate::host::Host;
 use crate::performing::Answer;
-use crate::subcommand::{Board, Links, PlanForm};
+use crate::subcommand::{Board, Links};
 use crate::surroundings::Surroundings;
 use bus_links::Strictness;
 use dtman_engine::Fault;
@@ -12,18 +12,13 @@ use dtman_why::{Asked, BoardAnswer, board_answer, without_driver};
 use std::alloc::Global;
 use std::thread::Threads;
 
-/// The plan, as a plan file or as a picture.
+/// The plan, as a plan file or as a graph.
 pub fn planned<'a, S: Surroundings, E: Eprint, T: Threads + Sync>(
     host: &mut Host<'_, S, E, T>,
     board: Board<'a>,
-    form: PlanForm<'a>,
+    dot: bool,
 ) -> Result<Answer<'a>, Failure<'a>> {
-    let asked = match form {
-        PlanForm::Plain => Asked::Plan,
-        PlanForm::Graph { of: None } => Asked::Graph,
-        PlanForm::Graph { of: Some(path) } => Asked::GraphOf(path.as_bytes()),
-        PlanForm::Page => Asked::Page,
-    };
+    let asked = if dot { Asked::Graph } else { Asked::Plan };
     let answer = answered(host, board, None, asked)?;
     Ok(Answer::Text(answer.text))
 }

@@ -3,10 +3,10 @@ ghost use Rattle.std.specs.Prelude.{◌≡◌, IfOk, IfSome, codes, map};
 ghost use Rattle.clap.specs.Words.{app_of, first_of, found_of, rows_of};
 ghost use Rattle.clap.specs.Simple.{subcommand_rows_of};
 ghost use Rattle.dtman_cli.specs.Grammar.{dtman};
-ghost use Rattle.dtman_cli.specs.CommandLine.{AreAsked, AreWorkers, IsBoard, IsForm, IsMet, IsLinks, IsProfile, IsText, Meets, Says, is_on, texts_of};
+ghost use Rattle.dtman_cli.specs.CommandLine.{AreAsked, AreWorkers, IsBoard, IsMet, IsLinks, IsProfile, IsText, Meets, Says, is_on, texts_of};
 
 use crate::grammar::grammar;
-use crate::subcommand::{Board, Command, Links, PlanForm, Profile};
+use crate::subcommand::{Board, Command, Links, Profile};
 use bus_manager::MAX_WORKERS;
 use clap::error::ErrorKind;
 use clap::{ArgMatches, Error};
@@ -129,22 +129,8 @@ fn plan<'a>(given: &ArgMatches<'a>) -> Option<Command<'a>>
     ensures { IfSome result (λ command. IsMet command (codes "plan") (rows_of (found_of given.now))) }
 {
     let board = board(given)?;
-    let form = form(given);
-    Some(Command::Plan { board, form })
-}
-
-/// How the plan is printed.
-fn form<'a>(given: &ArgMatches<'a>) -> PlanForm<'a>
-    ensures { IsForm result (rows_of (found_of given.now)) }
-{
-    if is_on(given, "dot") {
-        let of = text(given, "of");
-        return PlanForm::Graph { of };
-    }
-    if is_on(given, "html") {
-        return PlanForm::Page;
-    }
-    PlanForm::Plain
+    let dot = is_on(given, "dot");
+    Some(Command::Plan { board, dot })
 }
 
 fn probe<'a>(given: &ArgMatches<'a>) -> Option<Command<'a>>

@@ -26,17 +26,6 @@ pub struct Board<'a> {
     pub links: Links<'a>,
 }
 
-/// How a plan is printed.
-#[derive(Clone, Copy, Debug)]
-pub enum PlanForm<'a> {
-    /// As a plan file.
-    Plain,
-    /// As a Graphviz graph: of what the device at a path needs and what needs it, or of the whole board.
-    Graph { of: Option<&'a str> },
-    /// As a page for a browser.
-    Page,
-}
-
 /// A subcommand with its paths and options.
 #[derive(Debug, Drop)]
 pub enum Command<'a> {
@@ -57,7 +46,8 @@ pub enum Command<'a> {
     },
     Plan {
         board: Board<'a>,
-        form: PlanForm<'a>,
+        /// Print a Graphviz graph in place of the plan file.
+        dot: bool,
     },
     Replay {
         plan: &'a str,

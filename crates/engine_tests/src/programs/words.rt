@@ -1,7 +1,7 @@
 //! The command line.
 
 use clap::error::ErrorKind;
-use dtman_cli::{Board, Command, Links, PlanForm, Profile, command};
+use dtman_cli::{Board, Command, Links, Profile, command};
 use std::alloc::Global;
 
 /// The command that the words name, or the kind of their mistake.
@@ -103,7 +103,7 @@ fn reads_plan_with_its_option(rt: HostRuntime) {
                         strict: false
                     }
                 },
-                form: PlanForm::Plain
+                dot: false
             })
         )
     );
@@ -118,7 +118,7 @@ fn reads_plan_with_its_option(rt: HostRuntime) {
                     drivers: "board.drivers",
                     ..
                 },
-                form: PlanForm::Graph { of: None }
+                dot: true
             })
         )
     );
