@@ -10,6 +10,4 @@ mod links;
 #[cfg(test)]
 mod many;
 #[cfg(test)]
-mod pictures;
-#[cfg(test)]
 mod rows;
