@@ -2,12 +2,11 @@
 
 use crate::by_links::linked_answer;
 use crate::order_text::needs_text;
-use crate::pictures::{Drawing, planned_picture};
 use crate::reasons::NoReasons;
 use crate::waits::why_text;
 use bus_links::Strictness;
 use bus_manager::TableProber;
-use dtman_engine::{Fault, plan_bytes, planned, probe_bytes};
+use dtman_engine::{Fault, graph_bytes, plan_bytes, planned, probe_bytes};
 use std::alloc::Global;
 use std::hash::RandomState;
 use std::thread::Threads;
@@ -17,12 +16,8 @@ use std::thread::Threads;
 pub enum Asked<'a> {
     /// Its text.
     Plan,
-    /// A Graphviz graph of the board.
+    /// A Graphviz graph of it.
     Graph,
-    /// One of what the device at a path needs and what needs it.
-    GraphOf(&'a [u8]),
-    /// A page for a browser.
-    Page,
     /// The end report of a run by so many workers.
     Report(usize),
     /// Why the device at a path waits, or why each does.
@@ -77,11 +72,7 @@ fn planned_answer<R: Threads + Sync>(
 ) -> Result<BoardAnswer, Fault> {
     let text = match asked {
         Asked::Plan => plan_bytes(alloc, hasher, blob, drivers)?,
-        Asked::Graph => { planned_picture(rt, alloc, hasher, blob, drivers, Drawing::Graph(None))? }
-        Asked::GraphOf(path) => {
-            planned_picture(rt, alloc, hasher, blob, drivers, Drawing::Graph(Some(path)))?
-        }
-        Asked::Page => planned_picture(rt, alloc, hasher, blob, drivers, Drawing::Page)?,
+        Asked::Graph => graph_bytes(alloc, hasher, blob, drivers)?,
         Asked::Report(workers) => {
             probe_bytes(rt, alloc, hasher, blob, drivers, &TableProber, workers)?.report
         }

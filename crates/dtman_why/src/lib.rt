@@ -2,14 +2,12 @@
 #![tactic(auto)]
 
 mod answers;
-mod arrows;
 mod boots;
 mod by_links;
 mod chain_text;
 mod end;
 mod installed;
 mod order_text;
-mod pictures;
 mod reasons;
 mod shown;
 mod waits;
@@ -20,7 +18,6 @@ pub use boots::{Boot, boot_bytes};
 pub use end::end_of;
 pub use installed::{Installed, installed_drivers};
 pub use order_text::needs_text;
-pub use pictures::{Drawing, planned_picture};
 pub use reasons::{NoReasons, Reasons};
 pub use waits::{Waits, why_text};
 pub use without::without_driver;

@@ -13,6 +13,8 @@ mod drivers;
 #[cfg(test)]
 mod forms;
 #[cfg(test)]
+mod graphs;
+#[cfg(test)]
 mod handles;
 #[cfg(test)]
 mod late_drivers;
