@@ -2,8 +2,8 @@ ghost use Rattle.std.specs.Prelude.{◌≡◌, map};
 ghost use Rattle.std.specs.Option.{option_map};
 ghost use Rattle.bus_drivers.specs.SupplierTable.{supplier_table, is_for, form_of};
 ghost use Rattle.bus_drivers.specs.References.{is_length};
-ghost use Rattle.bus_drivers.specs.Private.TableRows.{pattern_data, row_data};
-ghost use Rattle.bus_drivers.specs.SupplierForm.{form_data};
+ghost use Rattle.bus_drivers.specs.Private.TableRows.{row_data};
+ghost use Rattle.bus_drivers.specs.SupplierForm.{form_data, pattern_data};
 
 /// Which properties a row is for.
 #[derive(Clone, Copy, Debug)]

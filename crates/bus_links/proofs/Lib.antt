@@ -1,7 +1,3 @@
-pub mod FoundLemmas
-pub mod InterruptLemmas
 pub mod LawfulLinks
-pub mod NoCycle
-pub mod OrderLemmas
-pub mod RefusalLemmas
-pub mod WalkLemmas
+mod NoCycle
+mod RefusalLemmas

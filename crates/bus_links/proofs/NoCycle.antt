@@ -1,8 +1,10 @@
--- With the relaxed links out no cycle is left: along a link that is waited for the component grows, or stays while the place falls.
-use Rattle.std.proofs.Common.{◌≡◌, ◌⊎◌, inl, inr, ⊎_elim, ℕ, zero, suc, ◌+◌, ◌<◌, ◌≤◌, Bool, true, false, if◌then◌else◌, not, nat_lt, nat_le, ◌&&◌, ◌||◌, ◌==◌, List, [], ◌∷◌, ◌++◌, length, map, Option, Some, None, option_and_then, refl, ap, sym, ◌∙◌, subst, arith}
+-- With the relaxed links out no cycle is left: where a chain comes back each of its links lies in a cycle, so it is one to a bus, and a
+-- bus stands before what is on it.
+use Rattle.std.proofs.Common.{◌≡◌, ◌⊎◌, inl, inr, ⊎_elim, ℕ, zero, suc, ◌+◌, ◌<◌, Bool, true, false, if◌then◌else◌, not, nat_lt, ◌&&◌, ◌||◌, ◌==◌, List, [], ◌∷◌, ◌++◌, length, map, Option, Some, None, option_and_then, refl, ap, sym, ◌∙◌, subst, arith}
 use Rattle.std.specs.Prelude.{filter, slice_get}
 use Rattle.std.specs.Option.{option_map_or, option_to_list}
-use Rattle.std.specs.List.{All, list_all, list_any}
+use Rattle.std.specs.List.{All}
+use Rattle.std.proofs.lemmas.Bool.{eqb-true, eq-eqb, ne_eqb, cases_eq}
 use Rattle.std.proofs.lemmas.Bool.Decides.{nat_tests}
 use Rattle.std.proofs.lemmas.List.Elements.{All-nil, All-cons, All-head, All-tail, All-append}
 use Rattle.std.proofs.lemmas.Option.{option_and_then_some}
@@ -13,40 +15,53 @@ use Rattle.bus_plan.specs.Plan.{PlannedDevice, suppliers_of}
 use Rattle.bus_drivers.specs.Driver.{DriverSetData}
 use Rattle.bus_drivers.specs.Nodes.{TreeDevice, tree_devices}
 use Rattle.bus_drivers.specs.TreePlan.{first_mentions, suppliers_among}
+use Rattle.bus_bindings.specs.LinkNodes.{LinkNode, node_at, tree_nodes, device_places}
+use Rattle.bus_bindings.specs.Mentions.{MentionData, found_at}
+use Rattle.bus_reach.specs.Takes.{Takes}
+use Rattle.bus_reach.specs.Components.{AreComponents, component_of}
+use Rattle.bus_reach.specs.Reached.{is_in}
+use Rattle.bus_reach.proofs.InLemmas.{some_or, or_left, or_right, in_filter, filter_in}
+use Rattle.bus_reach.proofs.TakesLemmas.{takes_on, takes_supplier, known_consumer}
 use Rattle.bus_links.specs.Laws.{is_chain, NoCycleIsLeft}
-use Rattle.bus_links.specs.LinkNodes.{LinkNode, node_at, tree_nodes, device_places}
-use Rattle.bus_links.specs.LinkPlan.{component_of, is_relaxed, is_counted, is_waited_for, is_in_order, are_in_order, suppliers_by, links_at, planned_by, relaxed_plan}
+use Rattle.bus_links.specs.LinkPlan.{is_relaxed, is_counted, is_waited_for, suppliers_by, links_at, planned_by}
 use Rattle.bus_links.specs.Links.{LinkData, supplier_of, link_by, links_by, flags, is_bus_for, bus_above, bus_link, links_of, node_of, links_from, tree_links}
-use Rattle.bus_links.specs.Mentions.{MentionData, found_at}
 
--- ---- lists
-some_or : (a b : Bool) → (a || b) ≡ true → (a ≡ true) ⊎ (b ≡ true)
-some_or true b e = inl refl
-some_or false b e = inr e
+-- ---- suppliers, each once
+filter_keeps : (p : ℕ → Bool) (ds : List ℕ) (s : ℕ) → is_in (filter p ds) s ≡ true → is_in ds s ≡ true
+filter_keeps p [] s e = e
+filter_keeps p (d ∷ ds) s e = by (p d) refl (filter_keeps p ds s) where
+  by : (t : Bool) → p d ≡ t → (is_in (filter p ds) s ≡ true → is_in ds s ≡ true) → is_in (d ∷ ds) s ≡ true
+  by true is rest =
+      ⊎_elim (λ here. or_left (d == s) (is_in ds s) here) (λ later. or_right (d == s) (is_in ds s) (rest later))
+      (some_or (d == s) (is_in (filter p ds) s) (let g : is_in (d ∷ filter p ds) s ≡ true = rw is at e in g))
+  by false is rest = or_right (d == s) (is_in ds s) (rest (rw is at e))
 
-or_left : (a b : Bool) → a ≡ true → (a || b) ≡ true
-or_left true b e = refl
-or_left false b e = absurd (let bad : false ≡ true = e in cc bad)
+mentioned : (ds : List ℕ) (s : ℕ) → is_in (first_mentions ds) s ≡ true → is_in ds s ≡ true
+mentioned [] s e = e
+mentioned (d ∷ ds) s e =
+    ⊎_elim (λ here. or_left (d == s) (is_in ds s) here)
+    (λ later. or_right (d == s) (is_in ds s) (mentioned ds s (filter_keeps (λ x. not (x == d)) (first_mentions ds) s later)))
+    (some_or (d == s) (is_in (filter (λ x. not (x == d)) (first_mentions ds)) s) e)
 
-or_right : (a b : Bool) → b ≡ true → (a || b) ≡ true
-or_right true b e = refl
-or_right false b e = e
+mentioned_first : (ds : List ℕ) (s : ℕ) → is_in ds s ≡ true → is_in (first_mentions ds) s ≡ true
+mentioned_first [] s e = e
+mentioned_first (d ∷ ds) s e = by (cases_eq s d) (mentioned_first ds s) where
+  by : (s ≡ d) ⊎ (s ≡ d → ⊥) → (is_in ds s ≡ true → is_in (first_mentions ds) s ≡ true) → is_in (first_mentions (d ∷ ds)) s ≡ true
+  by (inl same) rest = or_left (d == s) (is_in (filter (λ x. not (x == d)) (first_mentions ds)) s) (eq-eqb d s (sym same))
+  by (inr other) rest =
+      or_right (d == s) (is_in (filter (λ x. not (x == d)) (first_mentions ds)) s)
+      (filter_in (λ x. not (x == d)) (first_mentions ds) s (ap not (ne_eqb s d other))
+      (rest (⊎_elim (λ here. absurd (other (sym (eqb-true d s here)))) (λ later. later) (some_or (d == s) (is_in ds s) e))))
 
-any_filtered : (p q : ℕ → Bool) (ds : List ℕ) → list_any p (filter q ds) ≡ true → list_any p ds ≡ true
-any_filtered p q [] e = e
-any_filtered p q (d ∷ ds) e = by (q d) refl (any_filtered p q ds) where
-  by : (t : Bool) → q d ≡ t → (list_any p (filter q ds) ≡ true → list_any p ds ≡ true) → list_any p (d ∷ ds) ≡ true
-  by true is rest = ⊎_elim (λ h. or_left (p d) (list_any p ds) h) (λ h. or_right (p d) (list_any p ds) (rest h)) (some_or (p d) (list_any p (filter q ds)) (let g : list_any p (d ∷ filter q ds) ≡ true = rw is at e in g))
-  by false is rest = or_right (p d) (list_any p ds) (rest (rw is at e))
+-- suppliers of the one list are suppliers of the other, where what it mentions is
+among_both : (own s : ℕ) (these those : List ℕ) → (is_in these s ≡ true → is_in those s ≡ true) → is_in (suppliers_among own these) s ≡ true → is_in (suppliers_among own those) s ≡ true
+among_both own s these those h e =
+    let left : is_in (filter (λ d. not (d == own)) these) s ≡ true = mentioned (filter (λ d. not (d == own)) these) s e in
+    mentioned_first (filter (λ d. not (d == own)) those) s
+    (filter_in (λ d. not (d == own)) those s (in_filter (λ d. not (d == own)) these s left) (h (filter_keeps (λ d. not (d == own)) these s left)))
 
-any_first : (p : ℕ → Bool) (ds : List ℕ) → list_any p (first_mentions ds) ≡ true → list_any p ds ≡ true
-any_first p [] e = e
-any_first p (d ∷ ds) e =
-    ⊎_elim (λ h. or_left (p d) (list_any p ds) h) (λ h. or_right (p d) (list_any p ds) (any_first p ds (any_filtered p (λ x. not (x == d)) (first_mentions ds) h)))
-    (some_or (p d) (list_any p (filter (λ x. not (x == d)) (first_mentions ds))) e)
-
-any_mentioned : (p : ℕ → Bool) (own : ℕ) (ds : List ℕ) → list_any p (suppliers_among own ds) ≡ true → list_any p ds ≡ true
-any_mentioned p own ds e = any_filtered p (λ d. not (d == own)) ds (any_first p (filter (λ d. not (d == own)) ds) e)
+among_these : (own s : ℕ) (these : List ℕ) → is_in (suppliers_among own these) s ≡ true → is_in these s ≡ true
+among_these own s these e = filter_keeps (λ d. not (d == own)) these s (mentioned (filter (λ d. not (d == own)) these) s e)
 
 -- ---- links know their consumer, and a bus stands before it
 abbrev IsShaped : ℕ → LinkData → Type 0
@@ -98,79 +113,121 @@ module _ (early : List Bool) (components : List ℕ) where
   abbrev rank : ℕ → ℕ
   rank d = component_of components d
 
-  abbrev Steps : ℕ → ℕ → Type 0
-  Steps a b = (rank a < rank b) ⊎ ((rank a ≤ rank b) × (b < a))
+  of_tests : (own : ℕ) (l : LinkData) → IsShaped own l → (c b t : Bool) → l.is_bus ≡ b → (rank l.consumer == rank l.supplier) ≡ t
+      → (c && not (not b && t)) ≡ true → (c ≡ true) × (rank own ≡ rank l.supplier → l.supplier < own)
+  of_tests own l h false b t bus same waited = absurd (let bad : false ≡ true = waited in cc bad)
+  of_tests own l h true true t bus same waited = (refl, λ _. h.1 bus)
+  of_tests own l h true false true bus same waited = absurd (let bad : false ≡ true = waited in cc bad)
+  of_tests own l h true false false bus same waited =
+      (refl, λ one. absurd (let is : (rank l.consumer == rank l.supplier) ≡ true = eq-eqb (rank l.consumer) (rank l.supplier) (ap rank h.0 ∙ one) in let bad : true ≡ false = sym is ∙ same in cc bad))
 
-  onwards : (a b c : ℕ) → Steps a b → Steps b c → Steps a c
-  onwards a b c (inl up) (inl more) = inl (omega arith)
-  onwards a b c (inl up) (inr more) = inl (omega (arith, more.0))
-  onwards a b c (inr up) (inl more) = inl (omega (arith, up.0))
-  onwards a b c (inr up) (inr more) = inr (omega (arith, up.0, more.0), omega (arith, up.1, more.1))
+  of_link : (own : ℕ) (l : LinkData) → IsShaped own l → is_waited_for early components l ≡ true → (is_counted early l ≡ true) × (rank own ≡ rank l.supplier → l.supplier < own)
+  of_link own l h waited = of_tests own l h (is_counted early l) l.is_bus _ refl refl waited
 
-  never_back : (a : ℕ) → Steps a a → ⊥
-  never_back a (inl up) = absurd (omega arith)
-  never_back a (inr down) = absurd (omega (arith, down.1))
+  abbrev counted : List LinkData → List ℕ
+  counted ls = map (λ l. l.supplier) (filter (is_counted early) ls)
 
-  of_tests : (own : ℕ) (l : LinkData) → IsShaped own l → (c b t o : Bool) → l.is_bus ≡ b → (rank l.consumer == rank l.supplier) ≡ t → nat_le (rank l.consumer) (rank l.supplier) ≡ o
-      → (not c || o) ≡ true → (c && not (not b && t)) ≡ true → Steps own l.supplier
-  of_tests own l h false b t o bus same low ordered waited = absurd (let bad : false ≡ true = waited in cc bad)
-  of_tests own l h true b t false bus same low ordered waited = absurd (let bad : false ≡ true = ordered in cc bad)
-  of_tests own l h true true t true bus same low ordered waited =
-      let le : rank l.consumer ≤ rank l.supplier = grind (arith, nat_tests) in
-      inr (subst (λ (k : ℕ). rank k ≤ rank l.supplier) h.0 le, h.1 bus)
-  of_tests own l h true false true true bus same low ordered waited = absurd (let bad : false ≡ true = waited in cc bad)
-  of_tests own l h true false false true bus same low ordered waited =
-      let lt : rank l.consumer < rank l.supplier = grind (arith, nat_tests) in
-      inl (subst (λ (k : ℕ). rank k < rank l.supplier) h.0 lt)
+  abbrev waited_for : List LinkData → List ℕ
+  waited_for ls = map (λ l. l.supplier) (filter (is_waited_for early components) ls)
 
-  of_link : (own : ℕ) (l : LinkData) → IsShaped own l → is_in_order early components l ≡ true → is_waited_for early components l ≡ true → Steps own l.supplier
-  of_link own l h ordered waited = of_tests own l h (is_counted early l) l.is_bus _ _ refl refl refl ordered waited
+  counted_later : (l : LinkData) (ls : List LinkData) (s : ℕ) → is_in (counted ls) s ≡ true → is_in (counted (l ∷ ls)) s ≡ true
+  counted_later l ls s e = by (is_counted early l) refl where
+    by : (t : Bool) → is_counted early l ≡ t → is_in (counted (l ∷ ls)) s ≡ true
+    by true is = rw is (or_right (l.supplier == s) (is_in (counted ls) s) e)
+    by false is = rw is e
 
-  among : (own s : ℕ) (ls : List LinkData) → All (IsShaped own) ls → list_all (is_in_order early components) ls ≡ true
-      → list_any (λ x. x == s) (map (λ l. l.supplier) (filter (is_waited_for early components) ls)) ≡ true → Steps own s
-  among own s [] h ordered e = absurd (let bad : false ≡ true = e in cc bad)
-  among own s (l ∷ ls) h ordered e =
-      by (is_waited_for early components l) refl (both (is_in_order early components l) (list_all (is_in_order early components) ls) ordered)
-      (among own s ls (All-tail (IsShaped own) l ls h)) where
-        by : (t : Bool) → is_waited_for early components l ≡ t → (is_in_order early components l ≡ true) × (list_all (is_in_order early components) ls ≡ true)
-            → (list_all (is_in_order early components) ls ≡ true → list_any (λ x. x == s) (map (λ k. k.supplier) (filter (is_waited_for early components) ls)) ≡ true → Steps own s) → Steps own s
-        by false is o rest = rest o.1 (rw is at e)
-        by true is o rest =
-            ⊎_elim
-            (λ same. let at : l.supplier ≡ s = grind (arith, nat_tests) in subst (λ (k : ℕ). Steps own k) at (of_link own l (All-head (IsShaped own) l ls h) o.0 is))
-            (λ later. rest o.1 later)
-            (some_or (l.supplier == s) (list_any (λ x. x == s) (map (λ k. k.supplier) (filter (is_waited_for early components) ls)))
-            (let g : list_any (λ x. x == s) (map (λ k. k.supplier) (l ∷ filter (is_waited_for early components) ls)) ≡ true = rw is at e in g))
+  counted_here : (l : LinkData) (ls : List LinkData) (s : ℕ) → is_counted early l ≡ true → (l.supplier == s) ≡ true → is_in (counted (l ∷ ls)) s ≡ true
+  counted_here l ls s is here = rw is (or_left (l.supplier == s) (is_in (counted ls) s) here)
+
+  abbrev Steps : List LinkData → ℕ → ℕ → Type 0
+  Steps ls own s = (is_in (counted ls) s ≡ true) × (rank own ≡ rank s → s < own)
+
+  among : (own s : ℕ) (ls : List LinkData) → All (IsShaped own) ls → is_in (waited_for ls) s ≡ true → Steps ls own s
+  among own s [] h e = absurd (let bad : false ≡ true = e in cc bad)
+  among own s (l ∷ ls) h e = by (is_waited_for early components l) refl (among own s ls (All-tail (IsShaped own) l ls h)) where
+    later : (is_in (waited_for ls) s ≡ true → Steps ls own s) → is_in (waited_for ls) s ≡ true → Steps (l ∷ ls) own s
+    later rest there = let step = rest there in (counted_later l ls s step.0, step.1)
+
+    by : (t : Bool) → is_waited_for early components l ≡ t → (is_in (waited_for ls) s ≡ true → Steps ls own s) → Steps (l ∷ ls) own s
+    by false is rest = later rest (rw is at e)
+    by true is rest =
+        ⊎_elim
+        (λ here.
+        let step = of_link own l (All-head (IsShaped own) l ls h) is in
+        let at : l.supplier ≡ s = eqb-true l.supplier s here in
+        (counted_here l ls s step.0 here, subst (λ (k : ℕ). rank own ≡ rank k → k < own) at step.1))
+        (λ there. later rest there)
+        (some_or (l.supplier == s) (is_in (waited_for ls) s) (let g : is_in (l.supplier ∷ waited_for ls) s ≡ true = rw is at e in g))
 
   -- ---- in a plan
-  ordered_at : (links : List (List LinkData)) (k : ℕ) → are_in_order early components links ≡ true → list_all (is_in_order early components) (links_at links k) ≡ true
-  ordered_at [] k e = refl
-  ordered_at (ls ∷ links) zero e = (both (list_all (is_in_order early components) ls) (are_in_order early components links) e).0
-  ordered_at (ls ∷ links) (suc k) e = ordered_at links k (both (list_all (is_in_order early components) ls) (are_in_order early components links) e).1
+  module _ (set : DriverSetData) (links : List (List LinkData)) (shaped : (k : ℕ) → All (IsShaped k) (links_at links k)) where
+    abbrev whole : ℕ → List TreeDevice → List PlannedDevice
+    whole own ds = planned_by set (is_counted early) links own ds
 
-  module _ (set : DriverSetData) (links : List (List LinkData)) (ordered : are_in_order early components links ≡ true) (shaped : (k : ℕ) → All (IsShaped k) (links_at links k)) where
-    steps_at : (own s : ℕ) → list_any (λ x. x == s) (suppliers_by (is_waited_for early components) own (links_at links own)) ≡ true → Steps own s
-    steps_at own s e = among own s (links_at links own) (shaped own) (ordered_at links own ordered) (any_mentioned (λ x. x == s) own (map (λ l. l.supplier) (filter (is_waited_for early components) (links_at links own))) e)
+    abbrev relaxed : ℕ → List TreeDevice → List PlannedDevice
+    relaxed own ds = planned_by set (is_waited_for early components) links own ds
 
-    steps_from : (ds : List TreeDevice) (own k s : ℕ) → has_supplier (planned_by set (is_waited_for early components) links own ds) k s ≡ true → Steps (own + k) s
+    steps_at : (own s : ℕ) → is_in (suppliers_by (is_waited_for early components) own (links_at links own)) s ≡ true
+        → (is_in (suppliers_by (is_counted early) own (links_at links own)) s ≡ true) × (rank own ≡ rank s → s < own)
+    steps_at own s e = (
+      among_both own s (waited_for (links_at links own)) (counted (links_at links own)) (λ there. (among own s (links_at links own) (shaped own) there).0) e,
+      (among own s (links_at links own) (shaped own) (among_these own s (waited_for (links_at links own)) e)).1,
+    )
+
+    steps_from : (ds : List TreeDevice) (own k s : ℕ) → has_supplier (relaxed own ds) k s ≡ true → (has_supplier (whole own ds) k s ≡ true) × (rank (own + k) ≡ rank s → s < own + k)
     steps_from [] own k s e = absurd (let bad : false ≡ true = e in cc bad)
-    steps_from (d ∷ ds) own zero s e = let same : own ≡ own + 0 = omega arith in subst (λ (p : ℕ). Steps p s) same (steps_at own s e)
-    steps_from (d ∷ ds) own (suc k) s e = let same : (own + 1) + k ≡ own + suc k = omega arith in subst (λ (p : ℕ). Steps p s) same (steps_from ds (own + 1) k s e)
+    steps_from (d ∷ ds) own zero s e =
+        let same : own ≡ own + 0 = omega arith in
+        let step = steps_at own s e in
+        (step.0, subst (λ (p : ℕ). rank p ≡ rank s → s < p) same step.1)
+    steps_from (d ∷ ds) own (suc k) s e =
+        let same : (own + 1) + k ≡ own + suc k = omega arith in
+        let step = steps_from ds (own + 1) k s e in
+        (step.0, subst (λ (p : ℕ). rank p ≡ rank s → s < p) same step.1)
 
-    steps_in : (ds : List TreeDevice) (d s : ℕ) → has_supplier (planned_by set (is_waited_for early components) links 0 ds) d s ≡ true → Steps d s
-    steps_in ds d s e = let same : 0 + d ≡ d = omega arith in subst (λ (p : ℕ). Steps p s) same (steps_from ds 0 d s e)
+    steps_in : (ds : List TreeDevice) (d s : ℕ) → has_supplier (relaxed 0 ds) d s ≡ true → (has_supplier (whole 0 ds) d s ≡ true) × (rank d ≡ rank s → s < d)
+    steps_in ds d s e =
+        let same : 0 + d ≡ d = omega arith in
+        let step = steps_from ds 0 d s e in
+        (step.0, subst (λ (p : ℕ). rank p ≡ rank s → s < p) same step.1)
 
-    along : (ds : List TreeDevice) (d e : ℕ) (between : List ℕ) → is_chain (planned_by set (is_waited_for early components) links 0 ds) d (between ++ e ∷ []) ≡ true → Steps d e
-    along ds d e [] h = steps_in ds d e (both (has_supplier (planned_by set (is_waited_for early components) links 0 ds) d e) true h).0
-    along ds d e (b ∷ bs) h =
-        let parts = both (has_supplier (planned_by set (is_waited_for early components) links 0 ds) d b) (is_chain (planned_by set (is_waited_for early components) links 0 ds) b (bs ++ e ∷ [])) h in
-        onwards d b e (steps_in ds d b parts.0) (along ds b e bs parts.1)
+    module _ (ds : List TreeDevice) (are : AreComponents (whole 0 ds) components) where
+      -- a chain's first device is one of the plan
+      begins : (b e : ℕ) (bs : List ℕ) → is_chain (relaxed 0 ds) b (bs ++ e ∷ []) ≡ true → b < length (whole 0 ds)
+      begins b e [] h = known_consumer (whole 0 ds) b e (steps_in ds b e (both (has_supplier (relaxed 0 ds) b e) true h).0).0
+      begins b e (x ∷ xs) h =
+          known_consumer (whole 0 ds) b x (steps_in ds b x (both (has_supplier (relaxed 0 ds) b x) (is_chain (relaxed 0 ds) x (xs ++ e ∷ [])) h).0).0
+
+      abbrev Way : ℕ → ℕ → Type 0
+      Way d e = Takes (whole 0 ds) d e × (Takes (whole 0 ds) e d → e < d)
+
+      one_step : (d e : ℕ) → e < length (whole 0 ds) → has_supplier (relaxed 0 ds) d e ≡ true → Way d e
+      one_step d e known h =
+          let step = steps_in ds d e h in
+          let takes : Takes (whole 0 ds) d e = takes_supplier (whole 0 ds) d e step.0 in
+          (takes, λ back. step.1 ((are.same d e (known_consumer (whole 0 ds) d e step.0) known).1 (takes, back)))
+
+      along : (d e : ℕ) (between : List ℕ) → e < length (whole 0 ds) → is_chain (relaxed 0 ds) d (between ++ e ∷ []) ≡ true → Way d e
+      along d e [] known h = one_step d e known (both (has_supplier (relaxed 0 ds) d e) true h).0
+      along d e (b ∷ bs) known h =
+          let parts = both (has_supplier (relaxed 0 ds) d b) (is_chain (relaxed 0 ds) b (bs ++ e ∷ [])) h in
+          let first : Way d b = one_step d b (begins b e bs parts.1) parts.0 in
+          let rest : Way b e = along b e bs known parts.1 in (
+            takes_on (whole 0 ds) d b e first.0 rest.0,
+            λ back.
+                let down : e < b = rest.1 (takes_on (whole 0 ds) e d b back first.0) in
+                let up : b < d = first.1 (takes_on (whole 0 ds) b e d rest.0 back) in
+                omega arith,
+          )
 
 pub no_cycle : NoCycleIsLeft
-no_cycle = λ root set strict components ordered d between chain.
+no_cycle = λ root set strict components are d between chain.
     let early : List Bool = flags set.early (tree_devices root) in
     let links : List (List LinkData) = tree_links root set strict in
     let shaped : (k : ℕ) → All (IsShaped k) (links_at links k) =
     λ k. let same : 0 + k ≡ k = omega arith in
     subst (λ (p : ℕ). All (IsShaped p) (links_at links k)) same (shaped_all (tree_nodes root) (tree_devices root) (flags set.buses (tree_devices root)) strict (device_places (tree_nodes root)) (tree_devices root) 0 k) in
-    never_back early components d (along early components set.drivers links ordered shaped (tree_devices root) d d between chain)
+    let known = begins early components set.drivers links shaped (tree_devices root) are d d between chain in
+    let way = along early components set.drivers links shaped (tree_devices root) are d d between known chain in
+    let low : d < d = way.1 way.0 in
+    absurd (omega arith)

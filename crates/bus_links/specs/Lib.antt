@@ -1,11 +1,7 @@
-pub mod BindingView
-pub mod Bindings
 pub mod Laws
 pub mod LinkDrivers
 pub mod LinkFile
-pub mod LinkNodes
 pub mod LinkPlan
 pub mod Linked
 pub mod Links
-pub mod Mentions
 pub mod Private

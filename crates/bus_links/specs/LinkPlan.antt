@@ -1,8 +1,8 @@
 -- The plan of a tree by the links of Linux. A device waits for the suppliers of its links, but for early ones, and but for links
 -- that lie in a cycle: those are relaxed. The bus above stays a supplier, since buses make no cycle.
-use Rattle.std.specs.Prelude.{◌≡◌, ℕ, ◌+◌, ◌<◌, Bool, true, false, not, ◌&&◌, ◌||◌, ◌==◌, nat_le, if◌then◌else◌, List, [], ◌∷◌, ◌++◌, map, filter, length, slice_index, Option, Some}
+use Rattle.std.specs.Prelude.{ℕ, ◌+◌, Bool, not, ◌&&◌, ◌==◌, nat_le, if◌then◌else◌, List, [], ◌∷◌, map, filter, length, Option, Some}
 use Rattle.std.specs.Option.{option_map}
-use Rattle.std.specs.List.{list_all, slice_index_or}
+use Rattle.std.specs.List.{slice_index_or}
 use Rattle.dt_tree.specs.NodeData.{NodeData}
 use Rattle.bus_plan.specs.declared.error.PlanError.{PlanError}
 use Rattle.bus_plan.specs.declared.error.PlanError.TheVariants.{UnknownPath, TooManyDevices}
@@ -11,14 +11,12 @@ use Rattle.bus_plan.specs.Plan.{PlannedDevice}
 use Rattle.bus_drivers.specs.Driver.{DriverSetData}
 use Rattle.bus_drivers.specs.Nodes.{TreeDevice, device_nodes, tree_devices}
 use Rattle.bus_drivers.specs.TreePlan.{suppliers_among, planned_device, unknown_fail}
+use Rattle.bus_reach.specs.Components.{component_of}
 use Rattle.bus_links.specs.LinkDrivers.{LinkDriversData}
 use Rattle.bus_links.specs.Links.{LinkData, flags, flag_at, tree_links}
 
 -- ---- which links are waited for
--- the component of a device: devices are in one where each reaches the other by links
-abbrev pub component_of : List ℕ → ℕ → ℕ
-component_of components d = slice_index components d
-
+-- a link between devices of one component lies in a cycle; that to the bus above isn't relaxed
 abbrev pub is_relaxed : List ℕ → LinkData → Bool
 is_relaxed components l = not l.is_bus && component_of components l.consumer == component_of components l.supplier
 
@@ -43,19 +41,15 @@ planned_by set test links own [] = []
 planned_by set test links own (d ∷ ds) =
     planned_device set d (suppliers_by test own (links_at links own)) ∷ planned_by set test links (own + 1) ds
 
--- ---- the plan
+-- ---- plans
+-- that of all links which count, cycles among them
+abbrev pub counted_plan : NodeData → LinkDriversData → Bool → List PlannedDevice
+counted_plan root set strict =
+    planned_by set.drivers (is_counted (flags set.early (tree_devices root))) (tree_links root set strict) 0 (tree_devices root)
+
 abbrev pub relaxed_plan : NodeData → LinkDriversData → Bool → List ℕ → List PlannedDevice
 relaxed_plan root set strict components =
     planned_by set.drivers (is_waited_for (flags set.early (tree_devices root)) components) (tree_links root set strict) 0 (tree_devices root)
-
--- ---- components
--- a counted link leads to no earlier component
-abbrev pub is_in_order : List Bool → List ℕ → LinkData → Bool
-is_in_order early components l = not (is_counted early l) || nat_le (component_of components l.consumer) (component_of components l.supplier)
-
--- so with none of these links a way leads from one component to another and back
-abbrev pub are_in_order : List Bool → List ℕ → List (List LinkData) → Bool
-are_in_order early components links = list_all (λ ls. list_all (is_in_order early components) ls) links
 
 -- ---- refusals
 -- the first refusal of a tree, as of a plan of it: too many devices, then a `fail` line whose path is no device's

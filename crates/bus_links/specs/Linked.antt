@@ -1,10 +1,11 @@
 -- What a plan by links is made of.
-use Rattle.std.specs.Prelude.{◌≡◌, ℕ, Bool, if◌then◌else◌, List, None, true}
+use Rattle.std.specs.Prelude.{◌≡◌, ℕ, Bool, if◌then◌else◌, List, None}
 use Rattle.dt_tree.specs.NodeData.{NodeData}
 use Rattle.bus_plan.specs.Plan.{PlannedDevice}
 use Rattle.bus_drivers.specs.Nodes.{tree_devices}
+use Rattle.bus_reach.specs.Components.{AreComponents}
 use Rattle.bus_links.specs.LinkDrivers.{LinkDriversData}
-use Rattle.bus_links.specs.LinkPlan.{is_relaxed, relaxed_plan, are_in_order, tree_refusal}
+use Rattle.bus_links.specs.LinkPlan.{is_relaxed, counted_plan, relaxed_plan, tree_refusal}
 use Rattle.bus_links.specs.Links.{LinkData, WarningData, flags, flag_at, tree_links, tree_warnings}
 use Rattle.bus_links.specs.declared.linked.Standing.{Standing}
 use Rattle.bus_links.specs.declared.linked.Standing.TheVariants.{Needed, Early, Relaxed}
@@ -21,12 +22,13 @@ pub record LinkedData : Type 0 where
 abbrev pub standing_of : List Bool → List ℕ → LinkData → Standing
 standing_of early components l = if flag_at early l.supplier then Early else (if is_relaxed components l then Relaxed else Needed)
 
--- what is made of a tree, by its root
+-- what is made of a tree, by its root: two devices have one component exactly where each takes the other in the plan of all links that
+-- count
 pub record MakesLinked (root : NodeData) (set : LinkDriversData) (strict : Bool) (l : LinkedData) : Type 0 where
   pub links : l.links ≡ tree_links root set strict
   pub warnings : l.warnings ≡ tree_warnings root strict
   pub early : l.early ≡ flags set.early (tree_devices root)
-  pub ordered : are_in_order l.early l.components l.links ≡ true
+  pub cycles : AreComponents (counted_plan root set strict) l.components
   pub plan : l.plan ≡ relaxed_plan root set strict l.components
 
 -- what linking a tree answers: that, where there is no refusal

@@ -1,30 +1,21 @@
 //! Plans out of trees by the links of Linux: the second way to a plan, over the same bus.
 #![tactic(auto)]
 
-mod binding;
 mod bus_above;
-mod cycle;
 mod device_links;
 mod flags;
-mod interrupts;
 mod laws;
 mod link_drivers;
-mod link_node;
 mod link_reading;
 mod link_text;
 mod linked;
 mod linker;
 mod linking;
 mod links;
-mod mentions;
-mod naming;
-mod nodes;
-mod order;
 mod relaxing;
-mod walk;
 
-pub use binding::{Binding, Listing, Strictness};
-pub use cycle::Cycle;
+pub use bus_bindings::Strictness;
+pub use bus_reach::Cycle;
 pub use device_links::DeviceLinks;
 pub use laws::no_cycle_is_left;
 pub use link_drivers::LinkDrivers;

@@ -1,11 +1,11 @@
 ghost use Rattle.std.specs.Prelude.{◌≡◌};
 
-use crate::cycle::{Cycle, cycles_of};
 use crate::device_links::DeviceLinks;
 use crate::flags::flag_at;
 use crate::links::{Link, Warning};
 use crate::relaxing::is_relaxed;
 use bus_plan::{Device, Plan};
+use bus_reach::{Cycle, cycles_of};
 use std::alloc::{AllocError, Global};
 use std::marker::Model;
 
@@ -130,7 +130,7 @@ impl<'t> Linked<'t> {
         cycles_of(alloc, self.components.as_slice())
     }
 
-    /// The number of each device's component: devices are in one where each reaches the other by links.
+    /// The number of each device's component: devices are in one where each takes the other.
     pub fn components(&self) -> &[usize]
         ensures { result.now ≡ self.now.components }
     {

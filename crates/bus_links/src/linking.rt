@@ -3,14 +3,14 @@ ghost use Rattle.bus_plan.specs.declared.error.PlanError.TheVariants.{NoMemory};
 ghost use Rattle.bus_plan.specs.Limits.{most_devices};
 ghost use Rattle.bus_plan.specs.Plan.{IsLawful};
 ghost use Rattle.bus_drivers.specs.Nodes.{device_nodes, tree_devices};
-ghost use Rattle.bus_links.specs.BindingView.{is_strict};
-ghost use Rattle.bus_links.specs.LinkPlan.{are_in_order, is_counted, is_waited_for, planned_by, tree_refusal};
+ghost use Rattle.bus_bindings.specs.BindingView.{is_strict};
+ghost use Rattle.bus_reach.specs.Components.{AreComponents};
+ghost use Rattle.bus_links.specs.LinkPlan.{is_counted, is_waited_for, planned_by, tree_refusal};
 ghost use Rattle.bus_links.specs.Linked.{IsLinked, MakesLinked};
-ghost use Rattle.bus_links.specs.LinkNodes.{device_places};
+ghost use Rattle.bus_bindings.specs.LinkNodes.{device_places};
 ghost use Rattle.bus_links.specs.Links.{LinkData, flags, links_from, warnings_from, tree_links, tree_warnings};
 ghost use Rattle.bus_links.specs.Private.Counting.{passes};
 
-use crate::binding::Strictness;
 use crate::bus_above::device_places;
 use crate::device_links::DeviceLinks;
 use crate::flags::flags_of;
@@ -18,11 +18,11 @@ use crate::link_drivers::LinkDrivers;
 use crate::linked::Linked;
 use crate::linker::Linker;
 use crate::links::Warning;
-use crate::nodes::Nodes;
-use crate::order::are_in_order;
 use crate::relaxing::{Counting, planned_devices};
-use bus_drivers::{Matcher, PhandleIndex, TreeDevice, components_of};
+use bus_bindings::{Nodes, Strictness};
+use bus_drivers::{Matcher, PhandleIndex, TreeDevice};
 use bus_plan::{Plan, PlanError};
+use bus_reach::components_of;
 use dt_tree::Tree;
 use std::alloc::{AllocError, Global};
 use std::hash::RandomState;
@@ -44,22 +44,7 @@ fn plan_by(
     Plan::of(alloc, hasher, devices)
 }
 
-// These components, if they are in order; one for all always is.
-fn in_order(
-    alloc: Global,
-    components: Vec<usize>,
-    links: &[DeviceLinks<'_>],
-    early: &[bool],
-) -> Vec<usize>
-    ensures { are_in_order early.now result.items links.now ≡ true }
-{
-    if are_in_order(early, components.as_slice(), links) {
-        return components;
-    }
-    Vec::new(alloc)
-}
-
-// The components of the devices by the plan of all links.
+// The components of the devices by the plan of all links that count.
 fn components_by(
     alloc: Global,
     hasher: RandomState,
@@ -69,12 +54,11 @@ fn components_by(
     early: &[bool],
 ) -> Result<Vec<usize>, AllocError>
     requires { IsLawful (planned_by matcher.now (is_counted early.now) links.now 0 devices.now) }
-    ensures { IfOk result (λ components. are_in_order early.now components.items links.now ≡ true) }
+    ensures { IfOk result (λ components. AreComponents (planned_by matcher.now (is_counted early.now) links.now 0 devices.now) components.items) }
 {
     let counting = Counting::All;
     let whole = plan_by(alloc, hasher, matcher, devices, links, early, &counting)?;
-    let components = components_of(alloc, &whole)?;
-    Ok(in_order(alloc, components, links, early))
+    components_of(alloc, &whole)
 }
 
 // The plan of the links that count by these components.
@@ -107,7 +91,7 @@ fn relaxed_plan(
     requires { (test : LinkData → Bool) → IsLawful (planned_by matcher.now test links.now 0 devices.now) }
     ensures plan { IfOk result (λ made. made.0
         ≡ planned_by matcher.now (is_waited_for early.now made.1.items) links.now 0 devices.now) }
-    ensures order { IfOk result (λ made. are_in_order early.now made.1.items links.now ≡ true) }
+    ensures cycles { IfOk result (λ made. AreComponents (planned_by matcher.now (is_counted early.now) links.now 0 devices.now) made.1.items) }
 {
     let components = components_by(alloc, hasher, matcher, devices, links, early)?;
     let by = components.as_slice();

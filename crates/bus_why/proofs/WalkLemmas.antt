@@ -4,7 +4,7 @@ use Rattle.std.specs.Prelude.{All, ◌==◌}
 use Rattle.std.proofs.lemmas.Bool.{cases_eq, cases_lt, cases_Bool}
 use Rattle.std.proofs.lemmas.List.{get_or-set_same, get_or-set_other, get_or_append_left, get_or_push, take_at, take-append-le, get_or_default, get_or_past}
 use Rattle.bus_plan.specs.Plan.{PlannedDevice, suppliers_of}
-use Rattle.bus_why.specs.Takes.{Takes, HasSuppliers}
+use Rattle.bus_reach.specs.Takes.{Takes, HasSuppliers}
 use Rattle.bus_why.specs.Order.{times, AreBehindSuppliers, IsOrderFor}
 use Rattle.bus_why.specs.Private.Walk.{IsSound, IsFrom, ungone}
 use Rattle.bus_why.proofs.TimesLemmas.{bit, times_push, times_push_here, times_push_apart, times_none, place_of_times, times_of_place}

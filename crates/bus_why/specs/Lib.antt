@@ -1,4 +1,3 @@
-pub mod Takes
 pub mod Order
 pub mod Chain
 pub mod Private

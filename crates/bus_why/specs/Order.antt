@@ -1,7 +1,7 @@
 -- An order in which devices can be bound one after the other.
 use Rattle.std.specs.Prelude.{◌≡◌, ◌⊎◌, ◌↔◌, ℕ, ◌<◌, ◌+◌, ◌==◌, List, All, length, take, slice_index, count_by}
 use Rattle.bus_plan.specs.Plan.{PlannedDevice, suppliers_of}
-use Rattle.bus_why.specs.Takes.{Takes}
+use Rattle.bus_reach.specs.Takes.{Takes}
 
 -- how often a device stands in a list
 abbrev pub times : ℕ → List ℕ → ℕ

@@ -10,4 +10,4 @@ mod why;
 pub use chain::{Chain, chain_from};
 pub use hold::Cause;
 pub use needing::needs;
-pub use why::waiting_chains;
+pub use why::{end_cause, waiting_chains};

@@ -1,11 +1,13 @@
 //! The chains of all devices that wait.
 
-ghost use Rattle.std.specs.Prelude.{◌≡◌, ◌<◌, ◌++◌, ◌∷◌, [], All, length, map, if◌then◌else◌, IfOk, OnOk};
-ghost use Rattle.bus_why.specs.Chain.{bound_by, first_of, waits, AreChains, IsChainOf};
+ghost use Rattle.std.specs.Prelude.{◌≡◌, ◌<◌, ◌++◌, ◌∷◌, [], All, length, map, if◌then◌else◌, IfOk, OnOk, MatchOption};
+ghost use Rattle.bus_core.specs.declared.status.Status.TheVariants.{Waiting};
+ghost use Rattle.bus_core.specs.Report.{end_status};
+ghost use Rattle.bus_why.specs.Chain.{bound_by, first_of, waits, IsEnd, AreChains, IsChainOf};
 ghost use Rattle.bus_why.specs.Private.Places.{AreClear};
 
 use crate::chain::{Chain, next_chain};
-use crate::hold::{Hold, hold_of};
+use crate::hold::{Cause, Hold, hold_of};
 use bus_plan::{Device, Plan};
 use std::alloc::{AllocError, Global};
 
@@ -65,4 +67,16 @@ pub fn waiting_chains(alloc: Global, plan: &Plan, bound: &[bool]) -> Result<Vec<
     let mut chains = Vec::new(alloc);
     add_chains(alloc, plan, bound, &mut places, &mut chains)?;
     Ok(chains)
+}
+
+/// What a device is at the end; nothing where it waits.
+pub fn end_cause(plan: &Plan, bound: &[bool], device: Device) -> Option<Cause>
+    requires { device < length plan.now }
+    ensures { MatchOption result (end_status plan.now (bound_by bound.now) device ≡ Waiting)
+        (IsEnd plan.now (bound_by bound.now) device) }
+{
+    match hold_of(plan, bound, device) {
+        Hold::Waits(_) => None,
+        Hold::Ends(cause) => Some(cause),
+    }
 }

@@ -310,7 +310,7 @@ pub const FAULTS: [Row; 11] = [
 ];
 
 /// Interrupts.
-pub const INTERRUPTS: [Row; 12] = [
+pub const INTERRUPTS: [Row; 20] = [
     Row {
         name: "own-parent",
         source: "g: gic { compatible = \"c\"; #interrupt-cells = <1>; interrupt-controller; }; u { compatible = \"c\"; interrupt-parent = <&g>; interrupts = <1>; };",
@@ -334,7 +334,7 @@ pub const INTERRUPTS: [Row; 12] = [
     },
     Row {
         name: "node-above",
-        source: "soc { compatible = \"isa\"; #interrupt-cells = <1>; u { compatible = \"c\"; interrupts = <1>; }; };",
+        source: "soc { compatible = \"isa\"; #interrupt-cells = <1>; interrupt-controller; u { compatible = \"c\"; interrupts = <1>; }; };",
         drivers: "driver x c\n",
         strictness: Strictness::Usual,
         wanted: "/soc - -\n/soc/u x ok /soc\ncompatible /soc isa\n",
@@ -347,36 +347,92 @@ pub const INTERRUPTS: [Row; 12] = [
         wanted: "/gic x ok\n/u x ok /gic\n",
     },
     Row {
-        name: "nexus",
-        source: "g: gic { compatible = \"c\"; #interrupt-cells = <1>; interrupt-controller; }; n: bus { compatible = \"isa\"; #address-cells = <2>; #interrupt-cells = <1>; interrupt-map = <0 0 0 &g 0 0 4>; u { compatible = \"c\"; interrupts = <1>; }; };",
+        name: "node-that-is-no-controller",
+        source: "soc { compatible = \"isa\"; #interrupt-cells = <1>; u { compatible = \"c\"; interrupts = <1>; }; };",
         drivers: "driver x c\n",
         strictness: Strictness::Usual,
-        wanted: "/gic x ok\n/bus - -\n/bus/u x ok /gic\ncompatible /bus isa\n",
+        wanted: "/soc - -\n/soc/u x ok\ncompatible /soc isa\nwarning: /soc/u: interrupts: entry 0 is malformed or leads nowhere\n",
     },
     Row {
-        name: "nexus-without-map-row",
-        source: "n: bus { compatible = \"isa\"; #address-cells = <2>; #interrupt-cells = <1>; interrupt-map = <0 0 0>; u { compatible = \"c\"; interrupts = <1>; }; };",
+        name: "each-specifier",
+        source: "g: gic { compatible = \"c\"; #interrupt-cells = <1>; interrupt-controller; }; u { compatible = \"c\"; interrupt-parent = <&g>; interrupts = <1 2>; }; v { compatible = \"c\"; interrupt-parent = <&h>; interrupts = <1 2 3>; }; h: mux { compatible = \"c\"; #interrupt-cells = <2>; interrupt-controller; }; ",
         drivers: "driver x c\n",
         strictness: Strictness::Usual,
-        wanted: "/bus - -\n/bus/u x ok /bus\ncompatible /bus isa\n",
+        wanted: "/gic x ok\n/u x ok /gic\n/v x ok /mux\n/mux x ok\nwarning: /v: interrupts: entry 1 is malformed or leads nowhere\n",
+    },
+    Row {
+        name: "nexus",
+        source: "g: gic { compatible = \"c\"; #interrupt-cells = <1>; interrupt-controller; }; n: pci { compatible = \"isa\"; #address-cells = <2>; #interrupt-cells = <1>; interrupt-map = <0 0 1 &g 4>; u { compatible = \"c\"; interrupts = <1>; }; };",
+        drivers: "driver x c\n",
+        strictness: Strictness::Usual,
+        wanted: "/gic x ok\n/pci - -\n/pci/u x ok /gic\ncompatible /pci isa\n",
+    },
+    Row {
+        name: "nexus-by-specifier",
+        source: "g: gic { compatible = \"c\"; #interrupt-cells = <1>; interrupt-controller; }; h: mux { compatible = \"c\"; #interrupt-cells = <2>; interrupt-controller; }; n: pci { compatible = \"isa\"; #address-cells = <2>; #interrupt-cells = <1>; interrupt-map = <0 0 1 &g 4>, <0 0 2 &h 5 0>; u { compatible = \"c\"; interrupts = <2>, <1>; }; };",
+        drivers: "driver x c\n",
+        strictness: Strictness::Usual,
+        wanted: "/gic x ok\n/mux x ok\n/pci - -\n/pci/u x ok /mux /gic\ncompatible /pci isa\n",
+    },
+    Row {
+        name: "nexus-by-address-under-a-mask",
+        source: "g: gic { compatible = \"c\"; #interrupt-cells = <1>; interrupt-controller; }; h: mux { compatible = \"c\"; #interrupt-cells = <2>; interrupt-controller; }; n: pci { compatible = \"isa\"; #address-cells = <2>; #interrupt-cells = <1>; interrupt-map-mask = <0xf800 0 7>; interrupt-map = <0x800 0 1 &g 4>, <0x1000 0 1 &h 5 0>; u { compatible = \"c\"; reg = <0x1300 9>; interrupts = <9>; }; };",
+        drivers: "driver x c\n",
+        strictness: Strictness::Usual,
+        wanted: "/gic x ok\n/mux x ok\n/pci - -\n/pci/u x ok /mux\ncompatible /pci isa\n",
+    },
+    Row {
+        name: "nexus-without-a-row",
+        source: "g: gic { compatible = \"c\"; #interrupt-cells = <1>; interrupt-controller; }; n: pci { compatible = \"isa\"; #address-cells = <2>; #interrupt-cells = <1>; interrupt-map = <0 0 1 &g 4>; u { compatible = \"c\"; interrupts = <2>; }; };",
+        drivers: "driver x c\n",
+        strictness: Strictness::Usual,
+        wanted: "/gic x ok\n/pci - -\n/pci/u x ok\ncompatible /pci isa\nwarning: /pci/u: interrupts: entry 0 is malformed or leads nowhere\n",
+    },
+    Row {
+        name: "row-of-a-disabled-parent",
+        source: "g: gic { compatible = \"c\"; #interrupt-cells = <1>; interrupt-controller; }; h: mux { compatible = \"c\"; status = \"disabled\"; #interrupt-cells = <2>; interrupt-controller; }; n: pci { compatible = \"isa\"; #address-cells = <2>; #interrupt-cells = <1>; interrupt-map = <0 0 1 &h 5 0>, <0 0 1 &g 4>; u { compatible = \"c\"; interrupts = <1>; }; };",
+        drivers: "driver x c\n",
+        strictness: Strictness::Usual,
+        wanted: "/gic x ok\n/mux ! -\n/pci - -\n/pci/u x ok /gic\ncompatible /pci isa\n",
+    },
+    Row {
+        name: "parent-with-a-unit-address",
+        source: "g: gic { compatible = \"c\"; #address-cells = <2>; #interrupt-cells = <1>; interrupt-controller; }; h: mux { compatible = \"c\"; #interrupt-cells = <2>; interrupt-controller; }; n: pci { compatible = \"isa\"; #address-cells = <2>; #interrupt-cells = <1>; interrupt-map = <0 0 2 &g 0 0 4>, <0 0 1 &h 5 0>; u { compatible = \"c\"; interrupts = <1>; }; };",
+        drivers: "driver x c\n",
+        strictness: Strictness::Usual,
+        wanted: "/gic x ok\n/mux x ok\n/pci - -\n/pci/u x ok /mux\ncompatible /pci isa\n",
+    },
+    Row {
+        name: "row-that-is-malformed",
+        source: "g: gic { compatible = \"c\"; #interrupt-cells = <1>; interrupt-controller; }; n: pci { compatible = \"isa\"; #address-cells = <2>; #interrupt-cells = <1>; interrupt-map = <0 0 2 77 4>, <0 0 1 &g 4>; u { compatible = \"c\"; interrupts = <1>; }; };",
+        drivers: "driver x c\n",
+        strictness: Strictness::Usual,
+        wanted: "/gic x ok\n/pci - -\n/pci/u x ok\ncompatible /pci isa\nwarning: /pci/u: interrupts: entry 0 is malformed or leads nowhere\n",
     },
     Row {
         name: "controller-with-a-map",
-        source: "interrupt-parent = <&n>; g: gic { compatible = \"c\"; #interrupt-cells = <1>; interrupt-controller; }; n: mux { compatible = \"c\"; interrupt-controller; #address-cells = <0>; #interrupt-cells = <1>; interrupt-map = <0 &g 4>; }; u { compatible = \"c\"; interrupts = <1>; };",
+        source: "interrupt-parent = <&n>; g: gic { compatible = \"c\"; #interrupt-cells = <1>; interrupt-controller; }; n: mux { compatible = \"c\"; interrupt-controller; #address-cells = <0>; #interrupt-cells = <1>; interrupt-map = <1 &g 4>; }; u { compatible = \"c\"; interrupts = <1>; };",
+        drivers: "driver x c\n",
+        strictness: Strictness::Usual,
+        wanted: "/gic x ok\n/mux x ok\n/u x ok /gic\n",
+    },
+    Row {
+        name: "map-that-is-for-the-driver",
+        source: "interrupt-parent = <&n>; g: gic { compatible = \"c\"; #interrupt-cells = <1>; interrupt-controller; }; n: mux { compatible = \"c\", \"renesas,rza1-irqc\"; interrupt-controller; #address-cells = <0>; #interrupt-cells = <1>; interrupt-map = <1 &g 4>; }; u { compatible = \"c\"; interrupts = <1>; };",
         drivers: "driver x c\n",
         strictness: Strictness::Usual,
         wanted: "/gic x ok\n/mux x ok\n/u x ok /mux\n",
     },
     Row {
         name: "extended",
-        source: "g: gic { compatible = \"c\"; #interrupt-cells = <1>; interrupt-controller; }; h: h { compatible = \"c\"; #interrupt-cells = <2>; }; u { compatible = \"c\"; interrupt-parent = <&g>; interrupts-extended = <&h 1 2>, <&g 3>; interrupts = <1>; };",
+        source: "g: gic { compatible = \"c\"; #interrupt-cells = <1>; interrupt-controller; }; h: h { compatible = \"c\"; #interrupt-cells = <2>; interrupt-controller; }; u { compatible = \"c\"; interrupt-parent = <&g>; interrupts-extended = <&h 1 2>, <&g 3>; interrupts = <1>; };",
         drivers: "driver x c\n",
         strictness: Strictness::Usual,
         wanted: "/gic x ok\n/h x ok\n/u x ok /gic /h\n",
     },
     Row {
         name: "extended-through-a-nexus",
-        source: "g: gic { compatible = \"c\"; #interrupt-cells = <1>; interrupt-controller; }; n: n { compatible = \"c\"; #address-cells = <0>; #interrupt-cells = <1>; interrupt-map = <0 &g 4>; }; u { compatible = \"c\"; interrupts-extended = <&n 1>; };",
+        source: "g: gic { compatible = \"c\"; #interrupt-cells = <1>; interrupt-controller; }; n: n { compatible = \"c\"; #address-cells = <0>; #interrupt-cells = <1>; interrupt-map = <1 &g 4>; }; u { compatible = \"c\"; interrupts-extended = <&n 1>; };",
         drivers: "driver x c\n",
         strictness: Strictness::Usual,
         wanted: "/gic x ok\n/n x ok\n/u x ok /gic\n",
@@ -390,9 +446,9 @@ pub const INTERRUPTS: [Row; 12] = [
     },
     Row {
         name: "map-ring",
-        source: "a: a { compatible = \"c\"; #address-cells = <0>; #interrupt-cells = <1>; interrupt-map = <0 &b 0>; }; b: b { compatible = \"c\"; #address-cells = <0>; #interrupt-cells = <1>; interrupt-map = <0 &a 0>; }; u { compatible = \"c\"; interrupts-extended = <&a 1>; };",
+        source: "a: a { compatible = \"c\"; #address-cells = <0>; #interrupt-cells = <1>; interrupt-map = <0 &b 0>; }; b: b { compatible = \"c\"; #address-cells = <0>; #interrupt-cells = <1>; interrupt-map = <0 &a 0>; }; u { compatible = \"c\"; interrupts-extended = <&a 0>; };",
         drivers: "driver x c\n",
         strictness: Strictness::Usual,
-        wanted: "/a x ok\n/b x ok\n/u x ok /a\n",
+        wanted: "/a x ok\n/b x ok\n/u x ok\nwarning: /u: interrupts-extended: entry 0 is malformed or leads nowhere\n",
     },
 ];

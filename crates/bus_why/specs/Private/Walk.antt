@@ -3,7 +3,7 @@ use Rattle.std.specs.Prelude.{◌≡◌, ℕ, ◌+◌, ◌-◌, ◌<◌, ◌≤�
 use Rattle.std.specs.List.{slice_index_or}
 use Rattle.bus_plan.specs.Plan.{PlannedDevice, suppliers_of}
 use Rattle.bus_why.specs.declared.walk.Walk.{Walk}
-use Rattle.bus_why.specs.Takes.{Takes}
+use Rattle.bus_reach.specs.Takes.{Takes}
 use Rattle.bus_why.specs.Order.{times, AreBehindSuppliers}
 
 -- what is entered is left or on the path, once; the path leads from each of its devices to those behind it; a supplier that the walk

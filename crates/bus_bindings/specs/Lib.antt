@@ -1,0 +1,6 @@
+pub mod BindingView
+pub mod Bindings
+pub mod Interrupts
+pub mod LinkNodes
+pub mod Mentions
+pub mod Private

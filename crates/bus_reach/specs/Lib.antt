@@ -1,0 +1,4 @@
+pub mod Takes
+pub mod Components
+pub mod Reached
+pub mod Private
