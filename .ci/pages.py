@@ -26,6 +26,10 @@ def sections(*words):
     return page.splitlines()[0], found
 
 
+def operand(it):
+    return (f"[{it.name}]" if it.optional else f"<{it.name}>") + ("..." if it.repeated else "")
+
+
 def option(it):
     return f"{it.names} <{it.value}>" if it.value else it.names, it.about + (f" [default: {it.default}]" if it.default else "")
 
@@ -33,7 +37,7 @@ def option(it):
 def wanted(command):
     listed = {"Options": dict(map(option, (*command.options, told.HELP)))}
     if command.operands:
-        listed["Arguments"] = {f"[{it.name}]" if it.optional else f"<{it.name}>": it.about for it in command.operands}
+        listed["Arguments"] = {operand(it): it.about for it in command.operands}
     return command.about, listed
 
 

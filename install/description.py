@@ -11,12 +11,13 @@ DATE = "November 26, 2026"
 
 @dataclass(frozen=True)
 class Operand:
-    """A word that a command wants, with the kind of what it names."""
+    """A word that a command wants, or any number of them, with the kind of what it names."""
 
     name: str
     kind: str
     about: str
     optional: bool = False
+    repeated: bool = False
 
 
 @dataclass(frozen=True)
@@ -63,6 +64,9 @@ VERBOSE = Option("-v, --verbose", "Tells of a refusal where it is and of what, i
 
 OUT = Operand("OUT", "blob", "The blob, which is written once all of it is ready")
 DRIVERS = Operand("DRIVERS", "drivers", "The driver file")
+
+# How values are written.
+TYPE = Option("-t, --type", "hh or b, h, l (1, 2, 4 bytes) and then s, i, u or x", "TYPE")
 
 # Whose device links count.
 LINKS = (Option("--links", "By the links of `linux`", "MODEL"), Option("--strict", "Optional links count, too"))
@@ -220,6 +224,63 @@ COMMANDS = (
         "50 to 53 and 56 with the line of the plan file",
     ),
     Command(
+        "diff",
+        "Compares the boards of two blobs, phandles by the paths they name",
+        (Operand("FIRST", "blob", "The one blob"), Operand("SECOND", "blob", "The other blob")),
+        (),
+        (
+            "Prints what differs as a patch of sources: below the path of each node, lines with - for what the first has alone and with + for what"
+            " the second has. The order of nodes and properties doesn't count, and a phandle counts as the path of the node that it names. It"
+            " prints nothing exactly where the two are the same board; where they differ the status is 1.",
+        ),
+        (("Two builds of a board", "dtman diff old.dtb new.dtb"),),
+        "30 to 38, of the first before those of the second",
+    ),
+    Command(
+        "get",
+        "Prints the value of a property, or all properties of a node",
+        (
+            Operand("BLOB", "blob", "The blob"),
+            Operand("PATH", "path", "The node"),
+            Operand("PROPERTY", "property", "The property; where none is named, all of the node", True),
+        ),
+        (TYPE,),
+        (
+            "Prints the value of a property of the node at the path. It is printed as text if it is such, else as integers of four bytes, or as"
+            " bytes; TYPE says otherwise. Where no property is named, all of the node are printed as lines of a source, with the paths of nodes"
+            " in place of their phandles.",
+        ),
+        (("What a board is called", "dtman get board.dtb / model"),),
+        "30 to 38, and 53 where the node or the property isn't there",
+    ),
+    Command(
+        "ls",
+        "Lists the properties of a node, and its children each with a slash",
+        (Operand("BLOB", "blob", "The blob"), Operand("PATH", "path", "The node; where none is named, the root", True)),
+        (),
+        ("Lists the names of what a node has, in order.",),
+        (("What a board has", "dtman ls board.dtb"),),
+        "30 to 38, and 53 where the node isn't there",
+    ),
+    Command(
+        "set",
+        "Sets a property of a node, all else as it was",
+        (
+            Operand("BLOB", "blob", "The blob"),
+            Operand("PATH", "path", "The node"),
+            Operand("PROPERTY", "property", "The property"),
+            Operand("VALUE", "value", "Texts, or numbers if all are; none for an empty value", True, True),
+        ),
+        (TYPE, Option("-o, --out", "The new blob; where none is named, BLOB", "OUT")),
+        (
+            "Sets a property of the node at the path: in its place, or last where it is new. Values that are all numbers make cells, others texts;"
+            " TYPE says otherwise. A negative number stands behind `--`.",
+            "The new blob is written beside and renamed once all of its bytes are ready.",
+        ),
+        (("A device that is switched off", "dtman set board.dtb /soc/uart@50000 status disabled"),),
+        "30 to 38, and 53 where the node isn't there",
+    ),
+    Command(
         "explain",
         "Says what an error means and what to do; alone it lists all",
         (Operand("NUMBER", "number", "The number behind `error`, or the name"),),
@@ -249,7 +310,7 @@ LIMITS = (
 )
 
 TOOLS = (
-    "`dtman dtc` and `dtman fdtoverlay`, or links of these names to the program, take the words of dtc and of fdtoverlay in their place."
+    "`dtman dtc`, `fdtoverlay`, `fdtget`, `fdtput` and `fdtdump`, or links of these names to the program, take the words of these programs in their place."
 )
 
 VERBOSITY = "A variable `DTMAN_VERBOSE` with the value 1 in the environment asks for the same as `--verbose`."

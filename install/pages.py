@@ -300,7 +300,8 @@ def zsh():
         specs = [zsh_spec(option) for option in it.options]
         specs += [zsh_option(told.HELP), zsh_option(told.VERBOSE)]
         for operand in it.operands:
-            specs.append(f"':{':' if operand.optional else ''}{operand.name}:{zsh_action(operand)}'")
+            front = "*:" if operand.repeated else "::" if operand.optional else ":"
+            specs.append(f"'{front}{operand.name}:{zsh_action(operand)}'")
         cases.append(f"\t{it.name})\n\t\t_arguments " + " \\\n\t\t\t".join(specs) + "\n\t\t;;")
     numbers = "\n".join(f"\t\t'{number}:{name}'" for number, name in errors())
     return ZSH.format(verbose=zsh_option(told.VERBOSE), commands=commands, cases="\n".join(cases), numbers=numbers)

@@ -1,8 +1,9 @@
-//! `dtman` in the place of dtc and fdtoverlay: by `dtman dtc ..`, `dtman fdtoverlay ..`, or by a link of that name.
+//! `dtman` in the place of the programs of dtc's package: by `dtman dtc ..` and the like, or by a link of that name.
 
 use crate::engine::Engine;
 use crate::files::System;
 use dtman_dtc::{run_dtc, run_fdtoverlay};
+use dtman_fdt::{run_fdtdump, run_fdtget, run_fdtput};
 use std::env;
 use std::random::RandomSource;
 use std::rt::{Env, Files};
@@ -12,6 +13,9 @@ use std::rt::{Env, Files};
 enum Tool {
     Dtc,
     Fdtoverlay,
+    Fdtget,
+    Fdtput,
+    Fdtdump,
 }
 
 /// Runs a tool where the words ask for one, and answers its exit status.
@@ -30,6 +34,9 @@ pub fn stand_in<R: Env + Files + RandomSource + Input + Print + Eprint + AllocGl
     Some(match tool {
         Tool::Dtc => run_dtc(rt.alloc(), &mut system, &mut engine, rest),
         Tool::Fdtoverlay => run_fdtoverlay(rt.alloc(), &mut system, &mut engine, rest),
+        Tool::Fdtget => run_fdtget(rt.alloc(), &mut system, rest),
+        Tool::Fdtput => run_fdtput(rt.alloc(), &mut system, rest),
+        Tool::Fdtdump => run_fdtdump(rt.alloc(), &mut system, rest),
     })
 }
 
@@ -51,6 +58,9 @@ fn tool_of(name: &str) -> Option<Tool> {
     match name {
         "dtc" => Some(Tool::Dtc),
         "fdtoverlay" => Some(Tool::Fdtoverlay),
+        "fdtget" => Some(Tool::Fdtget),
+        "fdtput" => Some(Tool::Fdtput),
+        "fdtdump" => Some(Tool::Fdtdump),
         _ => None,
     }
 }

@@ -6,7 +6,7 @@ use Rattle.std.specs.Str.Parse.{IsNumeral, digits_value, without_leading_plus}
 use Rattle.bus_manager.specs.Workers.{most_workers}
 use Rattle.clap.specs.Words.{Row, Text, all_of, first_of, one_of, subcommand_of}
 use Rattle.dtman_cli.specs.declared.subcommand.Command.{Command}
-use Rattle.dtman_cli.specs.declared.subcommand.Command.TheVariants.{Compile, Overlay, Dump, Plan, Replay, Probe, Why, Needs, Drivers, Trace, Explain}
+use Rattle.dtman_cli.specs.declared.subcommand.Command.TheVariants.{Compile, Overlay, Dump, Plan, Replay, Probe, Why, Needs, Drivers, Trace, Diff, Get, Listing, Set, Explain}
 use Rattle.dtman_cli.specs.declared.subcommand.Board.{Board}
 use Rattle.dtman_cli.specs.declared.subcommand.Links.{Links}
 use Rattle.dtman_cli.specs.declared.subcommand.Profile.{Profile}
@@ -77,6 +77,16 @@ IsMet (Trace log plan) name rows =
 IsMet (Replay plan schedule workers) name rows =
     (name ≡ codes "replay") × (first_of (codes "PLAN") rows ≡ Some plan.now) × (first_of (codes "SCHEDULE") rows ≡ Some schedule.now)
     × AreAsked workers rows
+IsMet (Diff first second) name rows =
+    (name ≡ codes "diff") × (first_of (codes "FIRST") rows ≡ Some first.now) × (first_of (codes "SECOND") rows ≡ Some second.now)
+IsMet (Get blob path property kind) name rows =
+    (name ≡ codes "get") × (first_of (codes "BLOB") rows ≡ Some blob.now) × (first_of (codes "PATH") rows ≡ Some path.now)
+    × IsText property (codes "PROPERTY") rows × IsText kind (codes "type") rows
+IsMet (Listing blob path) name rows = (name ≡ codes "ls") × (first_of (codes "BLOB") rows ≡ Some blob.now) × IsText path (codes "PATH") rows
+IsMet (Set blob path property values kind out) name rows =
+    (name ≡ codes "set") × (first_of (codes "BLOB") rows ≡ Some blob.now) × (first_of (codes "PATH") rows ≡ Some path.now)
+    × (first_of (codes "PROPERTY") rows ≡ Some property.now) × (map (λ word. word.now) values.items ≡ texts_of (codes "VALUE") rows)
+    × IsText kind (codes "type") rows × IsText out (codes "out") rows
 IsMet (Explain number) name rows = (name ≡ codes "explain") × (first_of (codes "NUMBER") rows ≡ Some number.now)
 
 pub record Meets (command : Command) (met : Option (Text × List Row)) : Type 0 where

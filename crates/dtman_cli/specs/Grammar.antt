@@ -84,6 +84,33 @@ drivers = with_rule (with_rule (new_app (codes "drivers")) (required (codes "ALI
 abbrev pub trace : App
 trace = with_rule (with_rule (new_app (codes "trace")) (required (codes "LOG"))) (required (codes "PLAN"))
 
+-- an option with a text and a short name
+abbrev pub lettered : Text → ℕ → Rule
+lettered id short = record (new_rule id) { long = Some id; short = Some short; value_names = 1 }
+
+-- arguments of which any number may stand behind the others
+abbrev pub others : Text → Rule
+others id = record (new_rule id) { action = Some Append }
+
+abbrev pub diff : App
+diff = with_rule (with_rule (new_app (codes "diff")) (required (codes "FIRST"))) (required (codes "SECOND"))
+
+abbrev pub get : App
+get =
+    with_rule (with_rule (with_rule (with_rule (new_app (codes "get")) (required (codes "BLOB"))) (required (codes "PATH"))) (optional (codes "PROPERTY")))
+    (lettered (codes "type") 116)
+
+abbrev pub list : App
+list = with_rule (with_rule (new_app (codes "ls")) (required (codes "BLOB"))) (optional (codes "PATH"))
+
+abbrev pub set : App
+set =
+    with_rule
+    (with_rule
+    (with_rule (with_rule (with_rule (with_rule (new_app (codes "set")) (required (codes "BLOB"))) (required (codes "PATH"))) (required (codes "PROPERTY"))) (others (codes "VALUE")))
+    (lettered (codes "type") 116))
+    (lettered (codes "out") 111)
+
 abbrev pub explain : App
 explain = with_rule (new_app (codes "explain")) (required (codes "NUMBER"))
 
@@ -95,9 +122,14 @@ top = let a = new_app (codes "dtman") in record a { top = record a.top { has_ver
 abbrev pub with_questions : App → App
 with_questions app = with_subcommand (with_subcommand (with_subcommand (with_subcommand app why.top) needs.top) drivers.top) trace.top
 
+-- those of the nodes and values of blobs
+abbrev pub with_blobs : App → App
+with_blobs app = with_subcommand (with_subcommand (with_subcommand (with_subcommand app diff.top) get.top) list.top) set.top
+
 unfoldable pub dtman : App
 dtman =
     with_subcommand
+    (with_blobs
     (with_questions
-    (with_subcommand (with_subcommand (with_subcommand (with_subcommand (with_subcommand (with_subcommand top compile.top) overlay.top) dump.top) plan.top) replay.top) probe.top))
+    (with_subcommand (with_subcommand (with_subcommand (with_subcommand (with_subcommand (with_subcommand top compile.top) overlay.top) dump.top) plan.top) replay.top) probe.top)))
     explain.top

@@ -25,7 +25,9 @@ pub enum Failure<'a> {
     NoSuchDriver(&'a str),
     /// A name that no links have.
     NoSuchLinks(&'a str),
-    /// Devices wait, and were printed. That isn't told again.
+    /// A word of the command line, and what is wrong with it.
+    BadWord(&'a str, &'static str),
+    /// Devices wait, or boards differ, and were printed. That isn't told again.
     Waiting,
 }
 
@@ -56,6 +58,7 @@ pub fn fail<E: Eprint>(errors: &E, failure: Failure<'_>) -> u8 {
             eprintln!(errors; "error: no links are those of {name}; `linux` has some"),
             COMMAND_LINE,
         ),
+        Failure::BadWord(word, why) => (eprintln!(errors; "error: {word}: {why}"), COMMAND_LINE),
         Failure::Waiting => (Ok(()), REFUSED),
     };
     // Standard error is the last place to say anything: the status stands alone where it is closed.

@@ -35,8 +35,8 @@ up before the bus) and `bus COMPATIBLE..` (makes its devices without a driver).
 Workers are 1 to 64: of `probe` 4 where none are named; `replay` binds what is
 left by workers only where they are named.
 
-`dtman dtc` and `dtman fdtoverlay`, or links of these names to the program, take
-the words of dtc and of fdtoverlay; `dtman dtc -h` says which.
+`dtman dtc`, `fdtoverlay`, `fdtget`, `fdtput` and `fdtdump`, or links of these
+names to the program, take the words of dtc's package; `dtman dtc -h` says which.
 
 Formats: a driver file's line is `driver NAME COMPATIBLE..` or `fail PATH`. A
 plan's line is `PATH DRIVER ok|fail SUPPLIER..`, `PATH - - SUPPLIER..` (no
@@ -44,6 +44,9 @@ driver), `PATH ! - SUPPLIER..` (switched off) or `compatible PATH COMPATIBLE..`
 (what a late driver may match). A schedule's is `begin PATH`, `finish PATH
 settled`, `finish PATH missing SUPPLIER`, `abandon PATH` or `driver NAME
 COMPATIBLE..` (a driver that comes late). Lines that begin with # are skipped.";
+
+/// How values are written.
+const TYPE: &str = "hh or b, h, l (1, 2, 4 bytes) and then s, i, u or x";
 
 /// What the program takes.
 pub fn grammar<'a>(alloc: Global) -> Result<Command<'a>, AllocError>
@@ -56,7 +59,21 @@ pub fn grammar<'a>(alloc: Global) -> Result<Command<'a>, AllocError>
     let app = add_subcommand(app, replay(alloc));
     let app = add_subcommand(app, probe(alloc));
     let app = add_questions(alloc, app);
+    let app = add_blobs(alloc, app);
     add_subcommand(app, explain(alloc))
+}
+
+/// Adds what is asked of the nodes and values of blobs.
+fn add_blobs<'a>(
+    alloc: Global,
+    app: Result<Command<'a>, AllocError>,
+) -> Result<Command<'a>, AllocError>
+    ensures { (before : App) → Makes app.entry before → Makes result (spec.with_blobs before) }
+{
+    let app = add_subcommand(app, diff(alloc));
+    let app = add_subcommand(app, get(alloc));
+    let app = add_subcommand(app, list(alloc));
+    add_subcommand(app, set(alloc))
 }
 
 /// Adds the questions that are asked of a board's bus.
@@ -242,6 +259,48 @@ fn trace<'a>(alloc: Global) -> Result<Command<'a>, AllocError>
     add_argument(command, required(alloc, "PLAN", "The plan file"))
 }
 
+fn diff<'a>(alloc: Global) -> Result<Command<'a>, AllocError>
+    ensures { IfOk result (λ c. (app_of c ≡ spec.diff) × ((out-Command c).has_globals ≡ false)) }
+{
+    let about = "Compares the boards of two blobs, phandles by the paths they name";
+    let command = named(alloc, "diff", about).arg(required(alloc, "FIRST", "The one blob"));
+    add_argument(command, required(alloc, "SECOND", "The other blob"))
+}
+
+fn get<'a>(alloc: Global) -> Result<Command<'a>, AllocError>
+    ensures { IfOk result (λ c. (app_of c ≡ spec.get) × ((out-Command c).has_globals ≡ false)) }
+{
+    let about = "Prints the value of a property, or all properties of a node";
+    let property = "The property; where none is named, all of the node";
+    let command = named(alloc, "get", about).arg(required(alloc, "BLOB", "The blob"));
+    let command = add_argument(command, required(alloc, "PATH", "The node"));
+    let command = add_argument(command, optional(alloc, "PROPERTY", property));
+    add_argument(command, lettered(alloc, "type", 't', "TYPE", TYPE))
+}
+
+fn list<'a>(alloc: Global) -> Result<Command<'a>, AllocError>
+    ensures { IfOk result (λ c. (app_of c ≡ spec.list) × ((out-Command c).has_globals ≡ false)) }
+{
+    let about = "Lists the properties of a node, and its children each with a slash";
+    let path = "The node; where none is named, the root";
+    let command = named(alloc, "ls", about).arg(required(alloc, "BLOB", "The blob"));
+    add_argument(command, optional(alloc, "PATH", path))
+}
+
+fn set<'a>(alloc: Global) -> Result<Command<'a>, AllocError>
+    ensures { IfOk result (λ c. (app_of c ≡ spec.set) × ((out-Command c).has_globals ≡ false)) }
+{
+    let about = "Sets a property of a node, all else as it was";
+    let values = "Texts, or numbers if all are; none for an empty value";
+    let out = "The new blob; where none is named, BLOB";
+    let command = named(alloc, "set", about).arg(required(alloc, "BLOB", "The blob"));
+    let command = add_argument(command, required(alloc, "PATH", "The node"));
+    let command = add_argument(command, required(alloc, "PROPERTY", "The property"));
+    let command = add_argument(command, others(alloc, "VALUE", values));
+    let command = add_argument(command, lettered(alloc, "type", 't', "TYPE", TYPE));
+    add_argument(command, lettered(alloc, "out", 'o', "OUT", out))
+}
+
 fn explain<'a>(alloc: Global) -> Result<Command<'a>, AllocError>
     ensures { IfOk result (λ c. (app_of c ≡ spec.explain) × ((out-Command c).has_globals ≡ false)) }
 {
@@ -272,6 +331,32 @@ fn asked_text<'a>(alloc: Global, name: &'a str, value: &'a str, about: &'a str) 
         .long(name)
         .value_name(value)
         .help(about)
+}
+
+/// An option with a text and a short name.
+fn lettered<'a>(
+    alloc: Global,
+    name: &'a str,
+    short: char,
+    value: &'a str,
+    about: &'a str,
+) -> Arg<'a>
+    ensures rule { rule_of result ≡ spec.lettered name.now short }
+    ensures local { result.global ≡ false }
+{
+    Arg::new(alloc, name)
+        .long(name)
+        .short(short)
+        .value_name(value)
+        .help(about)
+}
+
+/// Arguments of which any number may stand behind the others.
+fn others<'a>(alloc: Global, name: &'a str, about: &'a str) -> Arg<'a>
+    ensures rule { rule_of result ≡ spec.others name.now }
+    ensures local { result.global ≡ false }
+{
+    Arg::new(alloc, name).action(ArgAction::Append).help(about)
 }
 
 fn flag<'a>(alloc: Global, name: &'a str, about: &'a str) -> Arg<'a>

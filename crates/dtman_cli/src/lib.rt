@@ -14,6 +14,7 @@ mod files;
 mod folders;
 mod grammar;
 mod host;
+mod nodes;
 mod noted;
 mod origins;
 mod performing;

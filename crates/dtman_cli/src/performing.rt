@@ -7,6 +7,7 @@ use crate::explaining::explained;
 use crate::failure::Failure;
 use crate::files::{print, write_at};
 use crate::host::Host;
+use crate::nodes::{Asked, changed, compared, listed, valued};
 use crate::questions::{needed, planned, probed, waiting};
 use crate::subcommand::Command;
 use crate::surroundings::Surroundings;
@@ -76,6 +77,29 @@ fn answer_of<'a, S: Surroundings, E: Eprint, T: Threads + Sync>(
             schedule,
             workers,
         } => replayed(host, plan, schedule, workers),
+        Command::Diff { first, second } => compared(host, first, second),
+        Command::Get {
+            blob,
+            path,
+            property,
+            kind,
+        } => valued(host, blob, path, property, kind),
+        Command::Listing { blob, path } => listed(host, blob, path),
+        Command::Set {
+            blob,
+            path,
+            property,
+            values,
+            kind,
+            out,
+        } => {
+            let asked = Asked {
+                blob,
+                path,
+                property,
+            };
+            changed(host, asked, values.as_slice(), kind, out)
+        }
         Command::Explain { number } => Ok(Answer::Text(explained(host.alloc, number)?)),
     }
 }

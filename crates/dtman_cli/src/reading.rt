@@ -62,6 +62,10 @@ fn chosen<'a>(alloc: Global, matches: &ArgMatches<'a>) -> Result<Option<Command<
         "needs" => Ok(needs(given)),
         "drivers" => Ok(drivers(given)),
         "trace" => Ok(trace(given)),
+        "diff" => Ok(diff(given)),
+        "get" => Ok(get(given)),
+        "ls" => Ok(list(given)),
+        "set" => set(alloc, given),
         "explain" => Ok(explain(given)),
         _ => Ok(None),
     }
@@ -93,16 +97,20 @@ fn profile<'a>(alloc: Global, given: &ArgMatches<'a>) -> Result<Profile<'a>, All
     if !is_on(given, "dtc") {
         return Ok(Profile::Specification);
     }
-    let folders = folders(alloc, given)?;
+    let folders = all_texts(alloc, given, "include")?;
     Ok(Profile::Dialect { folders })
 }
 
-/// The folders that are named for the dialect's files.
-fn folders<'a>(alloc: Global, given: &ArgMatches<'a>) -> Result<Vec<&'a str>, AllocError>
-    ensures { IfOk result (λ folders. map (λ folder. folder.now) folders.items ≡ texts_of (codes "include") (rows_of (found_of given.now))) }
+/// The texts of an argument that may be given again and again.
+fn all_texts<'a>(
+    alloc: Global,
+    given: &ArgMatches<'a>,
+    name: &str,
+) -> Result<Vec<&'a str>, AllocError>
+    ensures { IfOk result (λ texts. map (λ text. text.now) texts.items ≡ texts_of name.now (rows_of (found_of given.now))) }
 {
-    match given.get_strs("include") {
-        Some(folders) => Ok(Vec::from_slice(alloc, folders)?),
+    match given.get_strs(name) {
+        Some(texts) => Ok(Vec::from_slice(alloc, texts)?),
         None => Ok(Vec::new(alloc)),
     }
 }
@@ -185,6 +193,63 @@ fn replay<'a>(given: &ArgMatches<'a>) -> Option<Command<'a>>
         plan: given.get_str("PLAN")?,
         schedule: given.get_str("SCHEDULE")?,
         workers: asked_workers(given)?.number,
+    })
+}
+
+fn diff<'a>(given: &ArgMatches<'a>) -> Option<Command<'a>>
+    ensures { IfSome result (λ command. IsMet command (codes "diff") (rows_of (found_of given.now))) }
+{
+    let first = given.get_str("FIRST")?;
+    let second = given.get_str("SECOND")?;
+    Some(Command::Diff { first, second })
+}
+
+fn get<'a>(given: &ArgMatches<'a>) -> Option<Command<'a>>
+    ensures { IfSome result (λ command. IsMet command (codes "get") (rows_of (found_of given.now))) }
+{
+    let blob = given.get_str("BLOB")?;
+    let path = given.get_str("PATH")?;
+    let property = text(given, "PROPERTY");
+    let kind = text(given, "type");
+    Some(Command::Get {
+        blob,
+        path,
+        property,
+        kind,
+    })
+}
+
+fn list<'a>(given: &ArgMatches<'a>) -> Option<Command<'a>>
+    ensures { IfSome result (λ command. IsMet command (codes "ls") (rows_of (found_of given.now))) }
+{
+    let blob = given.get_str("BLOB")?;
+    let path = text(given, "PATH");
+    Some(Command::Listing { blob, path })
+}
+
+fn set<'a>(alloc: Global, given: &ArgMatches<'a>) -> Result<Option<Command<'a>>, AllocError>
+    ensures { IfOk result (λ met. IfSome met (λ command. IsMet command (codes "set") (rows_of (found_of given.now)))) }
+{
+    let values = all_texts(alloc, given, "VALUE")?;
+    Ok(set_to(values, given))
+}
+
+fn set_to<'a>(values: Vec<&'a str>, given: &ArgMatches<'a>) -> Option<Command<'a>>
+    requires { map (λ word. word.now) values.items ≡ texts_of (codes "VALUE") (rows_of (found_of given.now)) }
+    ensures { IfSome result (λ command. IsMet command (codes "set") (rows_of (found_of given.now))) }
+{
+    let blob = given.get_str("BLOB")?;
+    let path = given.get_str("PATH")?;
+    let property = given.get_str("PROPERTY")?;
+    let kind = text(given, "type");
+    let out = text(given, "out");
+    Some(Command::Set {
+        blob,
+        path,
+        property,
+        values,
+        kind,
+        out,
     })
 }
 

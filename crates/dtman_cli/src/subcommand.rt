@@ -81,6 +81,32 @@ pub enum Command<'a> {
         log: &'a str,
         plan: &'a str,
     },
+    Diff {
+        first: &'a str,
+        second: &'a str,
+    },
+    Get {
+        blob: &'a str,
+        path: &'a str,
+        /// The property that is asked for, or else all of the node.
+        property: Option<&'a str>,
+        /// How its value is written.
+        kind: Option<&'a str>,
+    },
+    Listing {
+        blob: &'a str,
+        path: Option<&'a str>,
+    },
+    Set {
+        blob: &'a str,
+        path: &'a str,
+        property: &'a str,
+        values: Vec<&'a str>,
+        /// How they are written.
+        kind: Option<&'a str>,
+        /// The new blob, or else the one that is read.
+        out: Option<&'a str>,
+    },
     Explain {
         number: &'a str,
     },

@@ -1,0 +1,175 @@
+//! Commands that read and write nodes and values of blobs: `diff`, `get`, `ls`, `set`.
+
+use crate::diagnosing::{Inputs, file_of};
+use crate::failure::Failure;
+use crate::host::Host;
+use crate::performing::Answer;
+use crate::surroundings::Surroundings;
+use dt_query::QueryError;
+use dtman_blobs::{
+    AskError, DiffError, ShowError, Titles, ValueType, diff_bytes, list_text, node_text, set_bytes,
+    value_line,
+};
+use dtman_engine::{Fault, Position};
+
+/// A node or a property that is asked for.
+#[derive(Clone, Copy, Debug)]
+pub struct Asked<'a> {
+    pub blob: &'a str,
+    pub path: &'a str,
+    pub property: &'a str,
+}
+
+// No node has the path that the command line names, or the node hasn't the property.
+fn unknown_path() -> Fault {
+    Fault {
+        number: 53,
+        name: "UnknownPath",
+        position: Position::Nowhere,
+    }
+}
+
+fn kind_of(word: Option<&str>) -> Result<ValueType, Failure<'_>> {
+    let Some(word) = word else {
+        return Ok(ValueType::unsaid());
+    };
+    match ValueType::of(word) {
+        Some(kind) => Ok(kind),
+        None => Err(Failure::BadWord(word, "no type of values has this name")),
+    }
+}
+
+fn unshown(error: ShowError) -> &'static str {
+    match error {
+        ShowError::Unterminated => "the value has no zero byte behind it",
+        _ => "the value is no whole numbers of this width",
+    }
+}
+
+// Why a blob has no answer.
+fn unanswered<'a, S: Surroundings, E: Eprint, T>(
+    host: &Host<'_, S, E, T>,
+    asked: Asked<'a>,
+    blob: &Vec<u8>,
+    error: AskError<'a>,
+) -> Failure<'a> {
+    match error {
+        AskError::Query(QueryError::Blob(error)) => {
+            let inputs = Inputs::Blob(file_of(asked.blob, blob));
+            host.refusal(Fault::from(error), inputs)
+        }
+        AskError::Query(_) => Failure::Refused(unknown_path()),
+        AskError::Show(error) => Failure::BadWord(asked.property, unshown(error)),
+        AskError::NoNumber(word) => Failure::BadWord(word, "no number of this width"),
+        AskError::NoName => Failure::BadWord(asked.property, "no property can have this name"),
+    }
+}
+
+/// What differs between two blobs.
+pub fn compared<'a, S: Surroundings, E: Eprint, T>(
+    host: &mut Host<'_, S, E, T>,
+    first_path: &'a str,
+    second_path: &'a str,
+) -> Result<Answer<'a>, Failure<'a>> {
+    let first = host.blob(first_path)?;
+    let second = host.blob(second_path)?;
+    let hasher = host.seed()?;
+    let titles = Titles {
+        first: first_path,
+        second: second_path,
+    };
+    let text = diff_bytes(
+        host.alloc,
+        hasher,
+        titles,
+        first.as_slice(),
+        second.as_slice(),
+    );
+    match text {
+        Ok(text) if text.is_empty() => Ok(Answer::Text(text)),
+        Ok(text) => Ok(Answer::Failing(text)),
+        Err(DiffError::First(error)) => {
+            let inputs = Inputs::Blob(file_of(first_path, &first));
+            Err(host.refusal(Fault::from(error), inputs))
+        }
+        Err(DiffError::Second(error)) => {
+            let inputs = Inputs::Blob(file_of(second_path, &second));
+            Err(host.refusal(Fault::from(error), inputs))
+        }
+        Err(DiffError::Text(error)) => Err(Failure::Refused(Fault::from(error))),
+    }
+}
+
+/// The value of a property, or all properties of a node.
+pub fn valued<'a, S: Surroundings, E: Eprint, T>(
+    host: &mut Host<'_, S, E, T>,
+    blob_path: &'a str,
+    path: &'a str,
+    property: Option<&'a str>,
+    kind: Option<&'a str>,
+) -> Result<Answer<'a>, Failure<'a>> {
+    let kind = kind_of(kind)?;
+    let blob = host.blob(blob_path)?;
+    let hasher = host.seed()?;
+    let answer = match property {
+        Some(name) => value_line(host.alloc, blob.as_slice(), path, name, kind),
+        None => node_text(host.alloc, hasher, blob.as_slice(), path),
+    };
+    let asked = Asked {
+        blob: blob_path,
+        path,
+        property: property.unwrap_or(path),
+    };
+    match answer {
+        Ok(text) => Ok(Answer::Text(text)),
+        Err(error) => Err(unanswered(host, asked, &blob, error)),
+    }
+}
+
+/// The names of what a node has.
+pub fn listed<'a, S: Surroundings, E: Eprint, T>(
+    host: &mut Host<'_, S, E, T>,
+    blob_path: &'a str,
+    path: Option<&'a str>,
+) -> Result<Answer<'a>, Failure<'a>> {
+    let path = path.unwrap_or("/");
+    let blob = host.blob(blob_path)?;
+    let asked = Asked {
+        blob: blob_path,
+        path,
+        property: path,
+    };
+    match list_text(host.alloc, blob.as_slice(), path) {
+        Ok(text) => Ok(Answer::Text(text)),
+        Err(error) => Err(unanswered(host, asked, &blob, error)),
+    }
+}
+
+/// A blob with a property set.
+pub fn changed<'a, S: Surroundings, E: Eprint, T>(
+    host: &mut Host<'_, S, E, T>,
+    asked: Asked<'a>,
+    words: &[&'a str],
+    kind: Option<&'a str>,
+    out: Option<&'a str>,
+) -> Result<Answer<'a>, Failure<'a>> {
+    let kind = kind_of(kind)?;
+    let blob = host.blob(asked.blob)?;
+    let hasher = host.seed()?;
+    let made = set_bytes(
+        host.alloc,
+        hasher,
+        blob.as_slice(),
+        asked.path,
+        asked.property,
+        kind,
+        words,
+    );
+    match made {
+        Ok(bytes) => Ok(Answer::File {
+            path: out.unwrap_or(asked.blob),
+            bytes,
+        }),
+        Err(error) => Err(unanswered(host, asked, &blob, error)),
+    }
+}
