@@ -1,8 +1,8 @@
-//! `dtman` in the place of dtc and fdtoverlay: by `dtman dtc ..`, `dtman fdtoverlay ..`, or by a link of that name.
+//! `dtman` in the place of dtc and fdtoverlay: by `dtman dtc ..`, `dtman fdtoverlay ..`, or by a link of that name; and `dtman check ..`.
 
 use crate::engine::Engine;
 use crate::files::System;
-use dtman_dtc::{run_dtc, run_fdtoverlay};
+use dtman_dtc::{run_check, run_dtc, run_fdtoverlay};
 use std::env;
 use std::random::RandomSource;
 use std::rt::{Env, Files};
@@ -12,6 +12,8 @@ use std::rt::{Env, Files};
 enum Tool {
     Dtc,
     Fdtoverlay,
+    /// The checks alone, which no link asks for.
+    Check,
 }
 
 /// Runs a tool where the words ask for one, and answers its exit status.
@@ -30,6 +32,7 @@ pub fn stand_in<R: Env + Files + RandomSource + Input + Print + Eprint + AllocGl
     Some(match tool {
         Tool::Dtc => run_dtc(rt.alloc(), &mut system, &mut engine, rest),
         Tool::Fdtoverlay => run_fdtoverlay(rt.alloc(), &mut system, &mut engine, rest),
+        Tool::Check => run_check(rt.alloc(), &mut system, &mut engine, rest),
     })
 }
 
@@ -44,6 +47,9 @@ fn asked<'a, 'b>(words: &'b [&'a str]) -> Option<(Tool, &'b [&'a str])> {
         return Some((tool, rest));
     }
     let (first, rest) = rest.split_first()?;
+    if *first == "check" {
+        return Some((Tool::Check, rest));
+    }
     Some((tool_of(*first)?, rest))
 }
 
