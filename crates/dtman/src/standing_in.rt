@@ -1,8 +1,8 @@
-//! `dtman` in the place of the programs of dtc's package: by `dtman dtc ..` and the like, or by a link of that name.
+//! `dtman` in the place of the programs of dtc's package: by `dtman dtc ..` and the like, or by a link of that name; and `dtman check ..`.
 
 use crate::engine::Engine;
 use crate::files::System;
-use dtman_dtc::{run_dtc, run_fdtoverlay};
+use dtman_dtc::{run_check, run_dtc, run_fdtoverlay};
 use dtman_fdt::{run_fdtdump, run_fdtget, run_fdtput};
 use std::env;
 use std::random::RandomSource;
@@ -16,6 +16,8 @@ enum Tool {
     Fdtget,
     Fdtput,
     Fdtdump,
+    /// The checks alone, which no link asks for.
+    Check,
 }
 
 /// Runs a tool where the words ask for one, and answers its exit status.
@@ -37,6 +39,7 @@ pub fn stand_in<R: Env + Files + RandomSource + Input + Print + Eprint + AllocGl
         Tool::Fdtget => run_fdtget(rt.alloc(), &mut system, rest),
         Tool::Fdtput => run_fdtput(rt.alloc(), &mut system, rest),
         Tool::Fdtdump => run_fdtdump(rt.alloc(), &mut system, rest),
+        Tool::Check => run_check(rt.alloc(), &mut system, &mut engine, rest),
     })
 }
 
@@ -51,6 +54,9 @@ fn asked<'a, 'b>(words: &'b [&'a str]) -> Option<(Tool, &'b [&'a str])> {
         return Some((tool, rest));
     }
     let (first, rest) = rest.split_first()?;
+    if *first == "check" {
+        return Some((Tool::Check, rest));
+    }
     Some((tool_of(*first)?, rest))
 }
 

@@ -5,6 +5,7 @@
 
 mod blob;
 mod booting;
+mod checking;
 mod host;
 mod options;
 mod overlaying;
@@ -13,6 +14,7 @@ mod running;
 mod searching;
 mod wording;
 
+pub use checking::run_check;
 pub use host::{Compiler, Fault, Host, Unread, Unwritten};
 pub use options::{Asked, BadWord, Format, Options, Order, Output, Room, read_words};
 pub use overlaying::run_fdtoverlay;

@@ -1,5 +1,6 @@
 //! dtc's command line: what its words say.
 
+use dt_check_table::{Kind, Selection};
 use std::alloc::{AllocError, Global};
 
 /// What a file holds.
@@ -57,6 +58,12 @@ pub struct Options<'a> {
     pub room: Room,
     /// How often `-q` stands.
     pub quiet: usize,
+    /// Which checks warn and which are errors (`-W`, `-E`).
+    pub selection: Selection,
+    /// Whether a word asks for a check: else none is made.
+    pub checks: bool,
+    /// Whether what an error is found in is written all the same (`-f`).
+    pub force: bool,
 }
 
 /// What a command line comes to.
@@ -85,6 +92,8 @@ pub enum BadWord<'a> {
     Extra(&'a str),
     /// Nothing is there to be applied.
     NoOverlay,
+    /// No check of this name.
+    NoCheck(&'a str),
     /// Two options that exclude each other.
     Both(&'a str, &'a str),
 }
@@ -194,8 +203,9 @@ fn long(name: &str) -> Option<Letter> {
 }
 
 impl<'a> Options<'a> {
-    fn new(alloc: Global) -> Options<'a> {
-        Options {
+    /// What stands for what no word says.
+    pub(crate) fn new(alloc: Global) -> Result<Options<'a>, AllocError> {
+        Ok(Options {
             input: "-",
             output: "-",
             from: None,
@@ -212,7 +222,10 @@ impl<'a> Options<'a> {
                 align: 0,
             },
             quiet: 0,
-        }
+            selection: Selection::usual(alloc)?,
+            checks: false,
+            force: false,
+        })
     }
 }
 
@@ -232,7 +245,7 @@ struct Reading<'a> {
 /// Reads the words behind the program's name.
 pub fn read_words<'a>(alloc: Global, words: &[&'a str]) -> Result<Asked<'a>, BadWord<'a>> {
     let mut reading = Reading {
-        options: Options::new(alloc),
+        options: Options::new(alloc)?,
         open: None,
         has_input: false,
         asks_help: false,
@@ -348,8 +361,8 @@ fn read_letters<'a>(
 fn meet<'a>(reading: &mut Reading<'a>, letter: Letter, word: &'a str) -> Result<(), BadWord<'a>> {
     match letter {
         Letter::Quiet => reading.options.quiet = reading.options.quiet.saturating_add(1),
-        // What dtc takes with -f and warns of is an error here all the same.
-        Letter::Force => {}
+        // What a source's words come to is an error with it, too: it lifts what checks find alone.
+        Letter::Force => reading.options.force = true,
         Letter::Symbols => reading.options.symbols = true,
         Letter::Sort => reading.options.order = Order::ByName,
         Letter::Help => reading.asks_help = true,
@@ -380,7 +393,19 @@ fn set<'a>(
         Letter::Space => options.room.space = number(name, word)?,
         Letter::Pad => options.room.padding = number(name, word)?,
         Letter::Align => options.room.align = power_of_two(name, word)?,
+        Letter::Warning => select(options, Kind::Warning, word)?,
+        Letter::Mistake => select(options, Kind::Error, word)?,
         _ => {}
+    }
+    Ok(())
+}
+
+fn select<'a>(options: &mut Options<'a>, kind: Kind, word: &'a str) -> Result<(), BadWord<'a>> {
+    if !options.selection.apply(kind, word) {
+        return Err(BadWord::NoCheck(word));
+    }
+    if word.strip_prefix("no-").is_none() {
+        options.checks = true;
     }
     Ok(())
 }

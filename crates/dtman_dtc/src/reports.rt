@@ -323,6 +323,9 @@ fn bad_word(alloc: Global, word: &BadWord<'_>) -> Result<String, AllocError> {
         }
         BadWord::Extra(word) => format!(in alloc; "Error: more than one input: {word}\n"),
         BadWord::NoOverlay => format!(in alloc; "Error: missing overlay file(s)\n"),
+        BadWord::NoCheck(word) => format!(in alloc;
+            "FATAL ERROR: Unrecognized check name \"{word}\"\n"
+        ),
         BadWord::Both(one, other) => format!(in alloc;
             "FATAL ERROR: Can't set both {one} and {other}\n"
         ),

@@ -2,6 +2,7 @@
 
 use crate::blob::{set_boot_cpu, with_room};
 use crate::booting::boot_cpu_of;
+use crate::checking::checked;
 use crate::host::{Compiler, Host};
 use crate::options::{Asked, Format, Options, Order, Output, format_named, read_words};
 use crate::reports::{
@@ -39,8 +40,9 @@ Options: -[qI:O:o:V:d:R:S:p:a:fb:i:H:sW:E:@hv]
   -i, --include <folder>      where files are looked for
   -s, --sort                  nodes and properties in order of their names
   -H, --phandle <arg>         epapr: phandles stand in properties phandle
-  -f, --force, -W, --warning <arg>, -E, --error <arg>
-                              taken, without effect: there are no warnings
+  -f, --force                 writes what an error was found in
+  -W, --warning <check>       a check warns; no-<check>, it doesn't
+  -E, --error <check>         a check is an error; no-<check>, it is none
   -@, --symbols               adds the paths of all labelled nodes
   -h, --help                  this text
   -v, --version               the version\n";
@@ -105,6 +107,7 @@ fn convert<'a, H: Host, C: Compiler>(
         (Format::Dtb, Output::Holds(Format::Dts)) => bytes,
         (Format::Dtb, _) => copied(alloc, host, compiler, options, bytes.as_slice())?,
     };
+    checked(alloc, host, options, from, blob.as_slice())?;
     let blob = ordered(alloc, host, compiler, options, blob)?;
     let output = match to {
         Output::Holds(Format::Dts) => dumped(alloc, host, compiler, options, blob.as_slice())?,
@@ -116,7 +119,7 @@ fn convert<'a, H: Host, C: Compiler>(
 }
 
 /// What an input is: a blob where its bytes begin as one, else what its name says, else a source.
-fn guessed(path: &str, bytes: &[u8]) -> Format {
+pub(crate) fn guessed(path: &str, bytes: &[u8]) -> Format {
     match bytes {
         [0xd0, 0x0d, 0xfe, 0xed, ..] => Format::Dtb,
         _ => format_named(path).unwrap_or(Format::Dts),
@@ -133,7 +136,7 @@ fn wanted(path: &str, from: Format) -> Format {
 }
 
 /// The blob of a source, with the processor that boots.
-fn compiled<H: Host, C: Compiler>(
+pub(crate) fn compiled<H: Host, C: Compiler>(
     alloc: Global,
     host: &mut H,
     compiler: &mut C,
@@ -303,7 +306,7 @@ fn put_dependencies<'a, H: Host>(
 }
 
 /// How an input is called: standard input has no path.
-fn named(path: &str) -> &str {
+pub(crate) fn named(path: &str) -> &str {
     match path {
         "-" => "<stdin>",
         path => path,
