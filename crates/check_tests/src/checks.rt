@@ -6,6 +6,7 @@ use crate::nodes::NODES;
 use dt_build::build;
 use dt_check::{Message, Survey};
 use dt_check_table::{Finding, Kind, Selection, check_at, run_checks};
+use dt_lexeme::Language;
 use dt_source::parse;
 use dt_tree::Tree;
 use dtman_check::path_at;
@@ -15,7 +16,7 @@ use std::process::Abort;
 
 pub fn tree_of(rt: &impl Abort, alloc: Global, hasher: RandomState, source: &str) -> Tree {
     let text = format!(in alloc; "/dts-v1/; / {{ {source} }};").expect(rt, "memory");
-    let source = parse(alloc, text.as_str().as_bytes()).expect(rt, "a source");
+    let source = parse(alloc, text.as_str().as_bytes(), Language::Profile).expect(rt, "a source");
     build(alloc, hasher, &source, false).expect(rt, "a tree")
 }
 
