@@ -9,6 +9,14 @@ use dt_check_table::Kind;
 use dtman_check::{Answer, Asked, Origin, Shape, check_blob};
 use std::alloc::Global;
 
+const HELP: &[u8] = b"Usage: dtman check [options] <input file>\n
+The mistakes in a source or a blob that dtc warns of, by dtc's names, on standard
+output; the status is 1 where one is an error.
+  -W <check>   it warns; no-<check>, it doesn't
+  -E <check>   it is an error; no-<check>, it is none
+  -q           no warnings; -qq: no errors, either
+  --json       an object a line\n";
+
 /// What the checks of a blob tell, for a run of dtc.
 pub(crate) fn checked<'a, H: Host>(
     alloc: Global,
@@ -70,6 +78,7 @@ struct Question<'a> {
     options: Options<'a>,
     shape: Shape,
     has_input: bool,
+    asks_help: bool,
     /// The option that the next word belongs to, and how it was written.
     open: Option<(Kind, &'a str)>,
 }
@@ -86,6 +95,7 @@ fn read_word<'a>(question: &mut Question<'a>, word: &'a str) -> Result<(), BadWo
         return select(question, kind, word);
     }
     match word {
+        "-h" | "--help" => question.asks_help = true,
         "--json" => question.shape = Shape::Json,
         "--dtc" => {}
         "-q" => question.options.quiet = question.options.quiet.saturating_add(1),
@@ -119,6 +129,7 @@ fn read_question<'a>(alloc: Global, words: &[&'a str]) -> Result<Question<'a>, B
         options: Options::new(alloc)?,
         shape: Shape::Plain,
         has_input: false,
+        asks_help: false,
         open: None,
     };
     for word in words {
@@ -142,7 +153,11 @@ pub fn run_check<H: Host, C: Compiler>(
         Ok(question) => question,
         Err(word) => return fail(alloc, host, &Failure::Word(word)),
     };
-    match answer_to(alloc, host, compiler, &question) {
+    let told = match question.asks_help {
+        true => put(host, "-", HELP).map(|()| false),
+        false => answer_to(alloc, host, compiler, &question),
+    };
+    match told {
         Ok(false) => DONE,
         Ok(true) => FAILED,
         Err(failure) => fail(alloc, host, &failure),
