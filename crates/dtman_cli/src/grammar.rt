@@ -36,7 +36,8 @@ Workers are 1 to 64: of `probe` 4 where none are named; `replay` binds what is
 left by workers only where they are named.
 
 `dtman dtc`, `fdtoverlay`, `fdtget`, `fdtput` and `fdtdump`, or links of these
-names to the program, take the words of dtc's package; `dtman dtc -h` says which.
+names to the program, take the words of dtc's package (`dtman dtc -h`). `dtman
+check` tells the mistakes that dtc warns of (`dtman check -h`).
 
 Formats: a driver file's line is `driver NAME COMPATIBLE..` or `fail PATH`. A
 plan's line is `PATH DRIVER ok|fail SUPPLIER..`, `PATH - - SUPPLIER..` (no

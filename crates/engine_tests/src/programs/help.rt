@@ -36,6 +36,10 @@ fn help_fits_80_columns(rt: HostRuntime) {
         &["dtman", "needs", "--help"],
         &["dtman", "drivers", "--help"],
         &["dtman", "trace", "--help"],
+        &["dtman", "diff", "--help"],
+        &["dtman", "get", "--help"],
+        &["dtman", "ls", "--help"],
+        &["dtman", "set", "--help"],
         &["dtman", "explain", "--help"],
     ];
     let hasher = RandomState::new(&rt).expect(&rt, "a seed");
