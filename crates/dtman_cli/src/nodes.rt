@@ -1,6 +1,6 @@
 //! Commands that read and write nodes and values of blobs: `diff`, `get`, `ls`, `set`.
 
-use crate::diagnosing::{Inputs, file_of};
+use crate::diagnosing::{Given, Inputs, file_of};
 use crate::failure::Failure;
 use crate::host::Host;
 use crate::performing::Answer;
@@ -50,13 +50,12 @@ fn unshown(error: ShowError) -> &'static str {
 fn unanswered<'a, S: Surroundings, E: Eprint, T>(
     host: &Host<'_, S, E, T>,
     asked: Asked<'a>,
-    blob: &Vec<u8>,
+    blob: Given<'_>,
     error: AskError<'a>,
 ) -> Failure<'a> {
     match error {
         AskError::Query(QueryError::Blob(error)) => {
-            let inputs = Inputs::Blob(file_of(asked.blob, blob));
-            host.refusal(Fault::from(error), inputs)
+            host.refusal(Fault::from(error), Inputs::Blob(blob))
         }
         AskError::Query(_) => Failure::Refused(unknown_path()),
         AskError::Show(error) => Failure::BadWord(asked.property, unshown(error)),
@@ -122,7 +121,10 @@ pub fn valued<'a, S: Surroundings, E: Eprint, T>(
     };
     match answer {
         Ok(text) => Ok(Answer::Text(text)),
-        Err(error) => Err(unanswered(host, asked, &blob, error)),
+        Err(error) => {
+            let blob = file_of(asked.blob, &blob);
+            Err(unanswered(host, asked, blob, error))
+        }
     }
 }
 
@@ -141,7 +143,10 @@ pub fn listed<'a, S: Surroundings, E: Eprint, T>(
     };
     match list_text(host.alloc, blob.as_slice(), path) {
         Ok(text) => Ok(Answer::Text(text)),
-        Err(error) => Err(unanswered(host, asked, &blob, error)),
+        Err(error) => {
+            let blob = file_of(asked.blob, &blob);
+            Err(unanswered(host, asked, blob, error))
+        }
     }
 }
 
@@ -170,6 +175,9 @@ pub fn changed<'a, S: Surroundings, E: Eprint, T>(
             path: out.unwrap_or(asked.blob),
             bytes,
         }),
-        Err(error) => Err(unanswered(host, asked, &blob, error)),
+        Err(error) => {
+            let blob = file_of(asked.blob, &blob);
+            Err(unanswered(host, asked, blob, error))
+        }
     }
 }

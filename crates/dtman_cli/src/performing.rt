@@ -33,20 +33,43 @@ pub fn perform<'a, S: Surroundings, O: Channel, E: Eprint, T: Threads + Sync>(
 ) -> Result<(), Failure<'a>>
     requires { O.has_failed output.old ≡ false }
 {
-    match answer_of(host, command)? {
-        Answer::Text(text) => print(output, text.as_slice()),
-        Answer::Failing(text) => {
-            print(output, text.as_slice())?;
-            Err(Failure::Waiting)
-        }
-        Answer::File { path, bytes } => write_at(
-            host.alloc,
-            host.surroundings,
-            output,
-            path,
-            bytes.as_slice(),
-        ),
+    match answer_of(host, command) {
+        Ok(answer) => deliver(host, output, answer),
+        Err(failure) => Err(failure),
     }
+}
+
+// Prints or writes an answer.
+fn deliver<'a, S: Surroundings, O: Channel, E: Eprint, T: Threads + Sync>(
+    host: &mut Host<'_, S, E, T>,
+    output: &mut O,
+    answer: Answer<'a>,
+) -> Result<(), Failure<'a>>
+    requires { O.has_failed output.old ≡ false }
+{
+    match answer {
+        Answer::Text(text) => print(output, text.as_slice()),
+        Answer::Failing(text) => failing(output, text.as_slice()),
+        Answer::File { path, bytes } => written(host, output, path, bytes.as_slice()),
+    }
+}
+
+fn failing<O: Channel>(output: &mut O, text: &[u8]) -> Result<(), Failure<'static>>
+    requires { O.has_failed output.old ≡ false }
+{
+    print(output, text)?;
+    Err(Failure::Waiting)
+}
+
+fn written<'a, S: Surroundings, O: Channel, E: Eprint, T: Threads + Sync>(
+    host: &mut Host<'_, S, E, T>,
+    output: &mut O,
+    path: &'a str,
+    bytes: &[u8],
+) -> Result<(), Failure<'a>>
+    requires { O.has_failed output.old ≡ false }
+{
+    write_at(host.alloc, host.surroundings, output, path, bytes)
 }
 
 fn answer_of<'a, S: Surroundings, E: Eprint, T: Threads + Sync>(
