@@ -7,6 +7,7 @@ pub mod Fault
 pub mod Names
 pub mod Nodes
 pub mod Pci
+pub mod Ports
 pub mod Private
 pub mod Ranges
 pub mod Reg

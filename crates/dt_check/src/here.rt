@@ -5,33 +5,63 @@ ghost use Rattle.dt_tree.specs.PathMap.{value_of};
 ghost use Rattle.dt_tree.specs.NodeData.{nodes_of};
 ghost use Rattle.dt_check.specs.Cells.{has, number_of};
 
+use crate::placed::Placed;
 use dt_tree::{Bytes, Node, cell_in};
 use std::marker::Model;
 
 /// A node, and the one above it: none above the root.
 #[derive(Drop)]
 pub struct Here<'t> {
-    pub node: &'t Node,
-    pub above: Option<&'t Node>,
+    node: &'t Node,
+    above: Option<&'t Node>,
+    // whether the node is a port
+    port: bool,
+    // whether the one above it is
+    below_port: bool,
 }
 
 impl<'t> Model for Here<'t> {
-    ghost use Rattle.std.specs.Option.{option_copied};
+    ghost use Rattle.std.specs.Prelude.{◌≡◌, false};
+    ghost use Rattle.std.specs.Option.{option_copied, option_map_or};
     ghost use Rattle.dt_check.specs.Nodes.{HereData, coded_here};
+    ghost use Rattle.dt_check.specs.Ports.{is_port};
 
     ghost Value = { HereData };
 
     ghost coded = { coded_here };
 
     ghost view = { λ h. record { node = h.node.now; above = option_copied h.above } };
+
+    ghost invariant = { λ h. (h.port ≡ is_port h.node.now)
+        × (h.below_port ≡ option_map_or is_port (option_copied h.above) false) };
 }
 
 impl<'t> Here<'t> {
-    /// The node and what is above it.
-    pub fn new(node: &'t Node, above: Option<&'t Node>) -> Self
-        ensures { result ≡ record { node = node.now; above = option_copied above.entry } }
+    ghost use Rattle.std.specs.Prelude.{false};
+    ghost use Rattle.std.specs.Option.{option_map, option_map_or};
+    ghost use Rattle.dt_check.specs.Ports.{is_port};
+
+    /// The node at its place, and what is above it.
+    pub fn new(placed: &Placed<'t>, above: Option<&Placed<'t>>) -> Self
+        ensures { result ≡ record {
+          node = placed.now.node;
+          above = option_map (λ p. p.node) (option_copied above.entry);
+        } }
     {
-        Self { node, above }
+        match above {
+            None => Self {
+                node: placed.node(),
+                above: None,
+                port: placed.is_port(),
+                below_port: false,
+            },
+            Some(above) => Self {
+                node: placed.node(),
+                above: Some(above.node()),
+                port: placed.is_port(),
+                below_port: above.is_port(),
+            },
+        }
     }
 
     /// The node.
@@ -46,6 +76,20 @@ impl<'t> Here<'t> {
         ensures { option_copied result ≡ self.now.above }
     {
         self.above
+    }
+
+    /// Whether the node is a port of a graph.
+    pub fn is_port(&self) -> bool
+        ensures { result ≡ is_port self.now.node }
+    {
+        self.port
+    }
+
+    /// Whether the node above it is one.
+    pub fn is_below_port(&self) -> bool
+        ensures { result ≡ option_map_or is_port self.now.above false }
+    {
+        self.below_port
     }
 
     /// The value of the node's property of this name.

@@ -15,6 +15,7 @@ mod message;
 mod names;
 mod pci;
 mod placed;
+mod ports;
 mod ranges;
 mod reg;
 mod style;
@@ -44,6 +45,7 @@ pub use pci::{
     pci_unit_fault, register_fault, space_fault, two_cells_fault,
 };
 pub use placed::Placed;
+pub use ports::is_port;
 pub use ranges::{ranges_fault, ranges_size_fault};
 pub use reg::{is_multiple, reg_fault};
 pub use style::{default_fault, unnecessary_fault};

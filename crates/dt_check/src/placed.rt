@@ -1,32 +1,44 @@
 //! A node of a tree in preorder.
+use crate::ports::is_port;
 use dt_tree::Node;
 use std::marker::Model;
 
 /// A node, and the place of the node above it among the nodes of the tree: none for the root.
 #[derive(Drop)]
 pub struct Placed<'t> {
-    pub node: &'t Node,
-    pub above: Option<usize>,
+    node: &'t Node,
+    above: Option<usize>,
+    // whether the node is a port: found once, since it takes a look at all children
+    port: bool,
 }
 
 impl<'t> Model for Placed<'t> {
+    ghost use Rattle.std.specs.Prelude.{◌≡◌};
     ghost use Rattle.dt_check.specs.Nodes.{PlacedData, coded_placed};
+    ghost use Rattle.dt_check.specs.Ports.{is_port};
 
     ghost Value = { PlacedData };
 
     ghost coded = { coded_placed };
 
     ghost view = { λ p. record { node = p.node.now; above = p.above } };
+
+    ghost invariant = { λ p. p.port ≡ is_port p.node.now };
 }
 
 impl<'t> Placed<'t> {
     ghost use Rattle.std.specs.Prelude.{◌≡◌};
+    ghost use Rattle.dt_check.specs.Ports.{is_port};
 
     /// The node at its place.
     pub fn new(node: &'t Node, above: Option<usize>) -> Self
         ensures { result ≡ record { node = node.now; above = above } }
     {
-        Self { node, above }
+        Self {
+            node,
+            above,
+            port: is_port(node),
+        }
     }
 
     /// The node itself.
@@ -41,5 +53,12 @@ impl<'t> Placed<'t> {
         ensures { result ≡ self.now.above }
     {
         self.above
+    }
+
+    /// Whether the node is a port of a graph.
+    pub fn is_port(&self) -> bool
+        ensures { result ≡ is_port self.now.node }
+    {
+        self.port
     }
 }

@@ -131,9 +131,9 @@ impl<'t> Survey<'t> {
     {
         let above = match placed.above() {
             None => None,
-            Some(place) => self.node(place),
+            Some(place) => self.nodes.get(place),
         };
-        Here::new(placed.node(), above)
+        Here::new(placed, above)
     }
 
     /// The first with this phandle.

@@ -1,6 +1,5 @@
--- Graphs of devices (bindings graph.txt of Linux): a port has endpoints, nodes of that name or with `remote-endpoint`; a device has its
--- ports below it, or below its node `ports`. Ports and endpoints are numbered by a `reg` of one cell, which is the unit address; a
--- single one needs no number.
+-- Graphs of devices (bindings graph.txt of Linux): a device has its ports below it, or below its node `ports`. Ports and endpoints are
+-- numbered by a `reg` of one cell, which is the unit address; a single one needs no number. What a port is: `Ports.antt` of `dt_check`.
 use Rattle.std.specs.Prelude.{ℕ, Bool, true, false, not, ◌&&◌, ◌||◌, ◌==◌, codes, if◌then◌else◌, List, length, Option, Some, None, option_and_then}
 use Rattle.std.specs.Option.{option_map_or}
 use Rattle.std.specs.List.{list_any}
@@ -16,13 +15,8 @@ use Rattle.dt_check.specs.Cells.{has}
 use Rattle.dt_check.specs.Chosen.{is_named}
 use Rattle.dt_check.specs.Fault.{FaultData, of_node, of_property}
 use Rattle.dt_check.specs.Nodes.{HereData}
+use Rattle.dt_check.specs.Ports.{is_port}
 use Rattle.dt_check.specs.Unit.{unit_address, is_hex_of}
-
-abbrev pub is_endpoint : NodeData → Bool
-is_endpoint b = is_called (codes "endpoint") b || has b.properties (codes "remote-endpoint")
-
-abbrev pub is_port : NodeData → Bool
-is_port b = list_any is_endpoint (nodes_of b.children)
 
 abbrev pub is_addressed_port : NodeData → Bool
 is_addressed_port b = is_port b && has b.properties (codes "reg")

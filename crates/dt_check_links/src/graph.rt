@@ -1,33 +1,14 @@
 //! Graphs of devices (bindings graph.txt of Linux): a device has ports, or a node `ports` with them, and a port has endpoints.
 ghost use Rattle.std.specs.Prelude.{◌≡◌};
 ghost use Rattle.std.specs.List.{list_any};
-ghost use Rattle.dt_check_links.specs.Graph.{is_endpoint, is_port, is_addressed_port, is_on_bus, is_ports, has_number, is_single, single_child_fault, name_of, is_of, graph_name_fault, graph_reg, graph_reg_fault, graph_unit_fault, cells_of_above, is_number, graph_address_fault, graph_size_fault, cells_fault, wrong_address, wrong_size};
+ghost use Rattle.dt_check.specs.Ports.{is_port};
+ghost use Rattle.dt_check_links.specs.Graph.{is_addressed_port, is_on_bus, is_ports, has_number, is_single, single_child_fault, name_of, is_of, graph_name_fault, graph_reg, graph_reg_fault, graph_unit_fault, cells_of_above, is_number, graph_address_fault, graph_size_fault, cells_fault, wrong_address, wrong_size};
 
 use dt_check::{
     Fault, Graph, Here, Message, children, has, is_called, is_hex_of, is_i2c, is_named, is_pci,
-    is_simple, is_spi, unit_address,
+    is_port, is_simple, is_spi, unit_address,
 };
 use dt_tree::{Node, cell_in};
-
-/// Whether a node is an endpoint.
-pub fn is_endpoint(node: &Node) -> bool
-    ensures { result ≡ is_endpoint node.now }
-{
-    is_called(node, b"endpoint") || has(node, b"remote-endpoint")
-}
-
-fn any_endpoint(nodes: &[Node]) -> bool
-    ensures { result ≡ list_any is_endpoint nodes.now }
-{
-    nodes.iter().any(|node| is_endpoint(node))
-}
-
-/// Whether a node is a port.
-pub fn is_port(node: &Node) -> bool
-    ensures { result ≡ is_port node.now }
-{
-    any_endpoint(children(node))
-}
 
 fn any_port(nodes: &[Node]) -> bool
     ensures { result ≡ list_any is_port nodes.now }
@@ -97,7 +78,7 @@ pub fn single_child_fault(here: &Here<'_>) -> Option<Fault<'static>>
     ensures { result ≡ single_child_fault here.now }
 {
     let node = here.node();
-    if !(is_port(node) || is_ports(node)) || !is_single(node) {
+    if !(here.is_port() || is_ports(node)) || !is_single(node) {
         return None;
     }
     Some(Fault::of_node(Message::SingleChild))
@@ -117,11 +98,8 @@ pub fn is_of(here: &Here<'_>, kind: Graph) -> bool
     ensures { result ≡ is_of kind here.now }
 {
     match kind {
-        Graph::Port => is_port(here.node()),
-        Graph::Endpoint => match here.above() {
-            None => false,
-            Some(above) => is_port(above),
-        },
+        Graph::Port => here.is_port(),
+        Graph::Endpoint => here.is_below_port(),
     }
 }
 
