@@ -5,6 +5,7 @@ use crate::failure::Failure;
 use crate::host::Host;
 use crate::performing::Answer;
 use crate::surroundings::Surroundings;
+use dt_blob::BlobError;
 use dt_query::QueryError;
 use dtman_blobs::{
     AskError, DiffError, ShowError, Titles, ValueType, diff_bytes, list_text, node_text, set_bytes,
@@ -54,14 +55,31 @@ fn unanswered<'a, S: Surroundings, E: Eprint, T>(
     error: AskError<'a>,
 ) -> Failure<'a> {
     match error {
-        AskError::Query(QueryError::Blob(error)) => {
-            host.refusal(Fault::from(error), Inputs::Blob(blob))
-        }
-        AskError::Query(_) => Failure::Refused(unknown_path()),
+        AskError::Query(error) => unread(host, blob, error),
         AskError::Show(error) => Failure::BadWord(asked.property, unshown(error)),
         AskError::NoNumber(word) => Failure::BadWord(word, "no number of this width"),
         AskError::NoName => Failure::BadWord(asked.property, "no property can have this name"),
     }
+}
+
+fn unread<'a, S: Surroundings, E: Eprint, T>(
+    host: &Host<'_, S, E, T>,
+    blob: Given<'_>,
+    error: QueryError,
+) -> Failure<'a> {
+    match error {
+        QueryError::Blob(error) => unheld(host, blob, error),
+        QueryError::NoNode => Failure::Refused(unknown_path()),
+        QueryError::NoProperty => Failure::Refused(unknown_path()),
+    }
+}
+
+fn unheld<'a, S: Surroundings, E: Eprint, T>(
+    host: &Host<'_, S, E, T>,
+    blob: Given<'_>,
+    error: BlobError,
+) -> Failure<'a> {
+    host.refusal(Fault::from(error), Inputs::Blob(blob))
 }
 
 /// What differs between two blobs.
