@@ -1,11 +1,10 @@
 //! Commands that read and write nodes and values of blobs: `diff`, `get`, `ls`, `set`.
 
-use crate::diagnosing::{Given, Inputs, file_of};
+use crate::diagnosing::{Inputs, file_of};
 use crate::failure::Failure;
 use crate::host::Host;
 use crate::performing::Answer;
 use crate::surroundings::Surroundings;
-use dt_blob::BlobError;
 use dt_query::QueryError;
 use dtman_blobs::{
     AskError, DiffError, ShowError, Titles, ValueType, diff_bytes, list_text, node_text, set_bytes,
@@ -47,39 +46,22 @@ fn unshown(error: ShowError) -> &'static str {
     }
 }
 
-// Why a blob has no answer.
-fn unanswered<'a, S: Surroundings, E: Eprint, T>(
-    host: &Host<'_, S, E, T>,
-    asked: Asked<'a>,
-    blob: Given<'_>,
-    error: AskError<'a>,
-) -> Failure<'a> {
+fn fault_of(error: QueryError) -> Fault {
     match error {
-        AskError::Query(error) => unread(host, blob, error),
+        QueryError::Blob(error) => Fault::from(error),
+        QueryError::NoNode => unknown_path(),
+        QueryError::NoProperty => unknown_path(),
+    }
+}
+
+// Why a blob has no answer.
+fn unanswered<'a>(asked: Asked<'a>, error: AskError<'a>) -> Failure<'a> {
+    match error {
+        AskError::Query(error) => Failure::Refused(fault_of(error)),
         AskError::Show(error) => Failure::BadWord(asked.property, unshown(error)),
         AskError::NoNumber(word) => Failure::BadWord(word, "no number of this width"),
         AskError::NoName => Failure::BadWord(asked.property, "no property can have this name"),
     }
-}
-
-fn unread<'a, S: Surroundings, E: Eprint, T>(
-    host: &Host<'_, S, E, T>,
-    blob: Given<'_>,
-    error: QueryError,
-) -> Failure<'a> {
-    match error {
-        QueryError::Blob(error) => unheld(host, blob, error),
-        QueryError::NoNode => Failure::Refused(unknown_path()),
-        QueryError::NoProperty => Failure::Refused(unknown_path()),
-    }
-}
-
-fn unheld<'a, S: Surroundings, E: Eprint, T>(
-    host: &Host<'_, S, E, T>,
-    blob: Given<'_>,
-    error: BlobError,
-) -> Failure<'a> {
-    host.refusal(Fault::from(error), Inputs::Blob(blob))
 }
 
 /// What differs between two blobs.
@@ -139,10 +121,7 @@ pub fn valued<'a, S: Surroundings, E: Eprint, T>(
     };
     match answer {
         Ok(text) => Ok(Answer::Text(text)),
-        Err(error) => {
-            let blob = file_of(asked.blob, &blob);
-            Err(unanswered(host, asked, blob, error))
-        }
+        Err(error) => Err(unanswered(asked, error)),
     }
 }
 
@@ -161,10 +140,7 @@ pub fn listed<'a, S: Surroundings, E: Eprint, T>(
     };
     match list_text(host.alloc, blob.as_slice(), path) {
         Ok(text) => Ok(Answer::Text(text)),
-        Err(error) => {
-            let blob = file_of(asked.blob, &blob);
-            Err(unanswered(host, asked, blob, error))
-        }
+        Err(error) => Err(unanswered(asked, error)),
     }
 }
 
@@ -193,9 +169,6 @@ pub fn changed<'a, S: Surroundings, E: Eprint, T>(
             path: out.unwrap_or(asked.blob),
             bytes,
         }),
-        Err(error) => {
-            let blob = file_of(asked.blob, &blob);
-            Err(unanswered(host, asked, blob, error))
-        }
+        Err(error) => Err(unanswered(asked, error)),
     }
 }
