@@ -95,7 +95,10 @@ const COUNTED: [(&'static str, &'static str); 14] = [
     ("gpios", "#gpio-cells"),
     ("reset-gpio", "#gpio-cells"),
     ("reset-gpios", "#gpio-cells"),
-    ("interrupts-extended", "interrupt-controller; #interrupt-cells"),
+    (
+        "interrupts-extended",
+        "interrupt-controller; #interrupt-cells",
+    ),
 ];
 
 /// Those of which a phandle alone is read.
