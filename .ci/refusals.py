@@ -190,11 +190,6 @@ LINES = """
 0 plan clock.dtb drivers --dot
 0 replay plan schedule
 0 probe clock.dtb drivers --workers 2
-0 diff clock.dtb clock.dtb
-1 diff base.dtb clock.dtb
-0 get clock.dtb /
-0 ls clock.dtb
-0 set clock.dtb / model Clock -o OUT
 0 explain 63
 0 --help
 0 --version
