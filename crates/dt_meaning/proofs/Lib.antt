@@ -1,2 +1,4 @@
 pub mod SeenNodes
 pub mod SeenProperties
+mod DtcLists
+mod StandingRows
