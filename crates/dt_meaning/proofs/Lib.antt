@@ -2,3 +2,4 @@ pub mod SeenNodes
 pub mod SeenProperties
 mod DtcLists
 mod StandingRows
+mod DtcSteps

@@ -79,7 +79,7 @@ module _ {X : Type 0} (is : X → Bool) (x : X) where
     by_test false e rest =
         one-any f r (put_in_place is x rs) ∙ ap (λ b. (r.stands && f r.what) || b) rest ∙ turned (r.stands && f r.what) (f x) (list_any f (what_stands rs))
 
-  no-place : (rs : List (Row X)) → has_place is rs ≡ false → Each (λ y. is y ≡ false) (what_stands rs)
+  pub no-place : (rs : List (Row X)) → has_place is rs ≡ false → Each (λ y. is y ≡ false) (what_stands rs)
   no-place [] e = tt
   no-place (r ∷ rs) e = by_test (is r.what) refl e (no-place rs) where
     by_test : (b : Bool) → is r.what ≡ b → (b || has_place is rs) ≡ false → (has_place is rs ≡ false → Each (λ y. is y ≡ false) (what_stands rs)) → Each (λ y. is y ≡ false) (what_stands (r ∷ rs))
