@@ -3,3 +3,4 @@ pub mod SeenProperties
 mod DtcLists
 mod StandingRows
 mod DtcSteps
+mod DtcBodies
