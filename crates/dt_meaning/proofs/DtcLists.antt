@@ -77,6 +77,10 @@ module _ {A : Type 0} (P : A → Type 0) where
     by_test true is e rest = (y, is, h.0)
     by_test false is e rest = rest e
 
+pub each-both : {A : Type 0} (P Q : A → Type 0) (xs : List A) → Each P xs → Each Q xs → Each (λ x. P x × Q x) xs
+each-both P Q [] a b = tt
+each-both P Q (x ∷ xs) a b = ((a.0, b.0), each-both P Q xs a.1 b.1)
+
 -- none of them passes the test
 pub none-so : {A : Type 0} (t : A → Bool) (xs : List A) → list_any t xs ≡ false → Each (λ x. t x ≡ false) xs
 none-so t [] e = tt
@@ -115,3 +119,11 @@ module _ {A : Type 0} (R : A → A → Type 0) where
   pairs-reverse turn (x ∷ xs) h =
       subst (InPairs R) (sym (reverse-append (x ∷ []) xs))
       (pairs-last (reverse xs) x (pairs-reverse turn xs h.1) (each-reverse (λ y. R y x) xs (each-more (R x) (λ y. R y x) xs (turn x) h.0)))
+
+-- each with each
+pub each-two : {A : Type 0} (R S : A → A → Type 0) → ((x : A) → S x x) → ((x y : A) → R x y → S x y) → ((x y : A) → R x y → S y x) → (xs : List A) → InPairs R xs → Each (λ x. Each (S x) xs) xs
+each-two R S own there back [] h = tt
+each-two R S own there back (x ∷ xs) h = (
+  (own x, each-more (R x) (S x) xs (there x) h.0),
+  each-both (λ y. S y x) (λ y. Each (S y) xs) xs (each-more (R x) (λ y. S y x) xs (back x) h.0) (each-two R S own there back xs h.1),
+)

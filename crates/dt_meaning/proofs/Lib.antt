@@ -4,3 +4,4 @@ mod DtcLists
 mod StandingRows
 mod DtcSteps
 mod DtcBodies
+mod DtcOrder
