@@ -5,3 +5,5 @@ mod StandingRows
 mod DtcSteps
 mod DtcBodies
 mod DtcOrder
+pub mod DtcSound
+pub mod DtcRest
