@@ -4,7 +4,7 @@ use Rattle.std.specs.Prelude.{All}
 use Rattle.std.specs.List.{filter, flat_map, list_any}
 use Rattle.std.proofs.lemmas.Bool.{and_from}
 use Rattle.dt_meaning.specs.Paths.{Path, is_listed, same_path}
-use Rattle.dt_meaning.specs.Syntax.{Target, OfLabel, OfPath, Piece, Plain, PhandleOf, PathOf, Entry, Defines, Undefines, Child, Removes, Body, Done, Then, Edit, Rooted, Extends, Deletes, Omits, Meaning}
+use Rattle.dt_meaning.specs.Syntax.{Target, OfLabel, OfPath, Piece, PhandleOf, PathOf, Entry, Defines, Undefines, Child, Removes, Body, Done, Then, Edit, Rooted, Extends, Deletes, Omits, Meaning}
 use Rattle.dt_meaning.specs.Edits.{Definition, Label, has_node, is_of}
 use Rattle.dt_meaning.specs.Statements.{DuplicateLabel}
 use Rattle.dt_meaning.specs.References.{preorder}
@@ -109,9 +109,9 @@ target-any (OfLabel l) = tt
 target-any (OfPath s) = tt
 
 piece-any : (v : Piece) → PieceHas IsAny v
-piece-any (Plain b) = tt
 piece-any (PhandleOf t) = target-any t
 piece-any (PathOf t) = target-any t
+piece-any _ = tt
 
 mutual
   entry-any : (e : Entry (List Piece)) → EntryHas IsAny e

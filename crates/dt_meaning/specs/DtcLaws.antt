@@ -4,7 +4,7 @@ use Rattle.std.specs.Prelude.{◌≡◌, ℕ, Bool, true, false, List, [], ◌�
 use Rattle.std.specs.List.{list_any}
 use Rattle.dt_meaning.specs.Names.{fragment_name, overlay_name}
 use Rattle.dt_meaning.specs.Paths.{Path, is_listed}
-use Rattle.dt_meaning.specs.Syntax.{Target, OfLabel, OfPath, Piece, Plain, PhandleOf, PathOf, Entry, Defines, Undefines, Child, Removes, Body, Done, Then, Edit, Rooted, Extends, Deletes, Omits, Meaning}
+use Rattle.dt_meaning.specs.Syntax.{Target, OfLabel, OfPath, Piece, PhandleOf, PathOf, Entry, Defines, Undefines, Child, Removes, Body, Done, Then, Edit, Rooted, Extends, Deletes, Omits, Meaning}
 use Rattle.dt_meaning.specs.Edits.{State, has_node}
 use Rattle.dt_meaning.specs.Statements.{target_name}
 use Rattle.dt_meaning.specs.Resolved.{is_too_deep}
@@ -19,9 +19,9 @@ TargetHas N (OfLabel l) = N l
 TargetHas N (OfPath t) = Unit {0}
 
 abbrev pub PieceHas : (List ℕ → Type 0) → Piece → Type 0
-PieceHas N (Plain b) = Unit {0}
 PieceHas N (PhandleOf t) = TargetHas N t
 PieceHas N (PathOf t) = TargetHas N t
+PieceHas N _ = Unit {0}
 
 abbrev pub ValueHas : (List ℕ → Type 0) → List Piece → Type 0
 ValueHas N v = All (PieceHas N) v
