@@ -12,7 +12,7 @@ use Rattle.dt_expression.specs.Expression.{Expression, Number, Grouped, Prefixed
 use Rattle.dt_expression.specs.Values.{Value, value_of}
 use Rattle.dt_expression.specs.Element.{element}
 use Rattle.dt_source.specs.Sequences.{SpellsEach}
-use Rattle.dt_meaning.specs.Syntax.{Piece, Plain, PhandleOf, PathOf}
+use Rattle.dt_meaning.specs.Syntax.{Piece, Plain, PhandleOf, PathOf, Stored}
 use Rattle.dt_source.specs.Pieces.{target_by, target_of, width_in, element_pieces, cell_pieces, joined, join_bytes}
 use Rattle.dt_source.specs.Marks.{is_label, is_mark, labels_in}
 use Rattle.dt_source.specs.Words.{label_bytes}
@@ -127,12 +127,14 @@ join_lawful (b ∷ bs) [] h = (tt, tt)
 join_lawful (b ∷ bs) (Plain cs ∷ ps) h = (tt, h.1)
 join_lawful (b ∷ bs) (PhandleOf t ∷ ps) h = (tt, h)
 join_lawful (b ∷ bs) (PathOf t ∷ ps) h = (tt, h)
+join_lawful (b ∷ bs) (Stored at o n ∷ ps) h = (tt, h)
 
 joined_lawful : (ps : List Piece) → AllPieces ps → AllPieces (joined ps)
 joined_lawful [] h = tt
 joined_lawful (Plain bs ∷ ps) h = join_lawful bs (joined ps) (joined_lawful ps h.1)
 joined_lawful (PhandleOf t ∷ ps) h = (h.0, joined_lawful ps h.1)
 joined_lawful (PathOf t ∷ ps) h = (h.0, joined_lawful ps h.1)
+joined_lawful (Stored at o n ∷ ps) h = (h.0, joined_lawful ps h.1)
 
 -- ---- cells and pieces
 
@@ -189,12 +191,14 @@ join_joined (b ∷ bs) [] h = refl
 join_joined (b ∷ bs) (Plain cs ∷ ps) h = without_first (has_bytes cs) (not (begins_plain ps)) (are_joined ps) h
 join_joined (b ∷ bs) (PhandleOf t ∷ ps) h = h
 join_joined (b ∷ bs) (PathOf t ∷ ps) h = h
+join_joined (b ∷ bs) (Stored at o n ∷ ps) h = h
 
 all_joined : (ps : List Piece) → are_joined (joined ps) ≡ true
 all_joined [] = refl
 all_joined (Plain bs ∷ ps) = join_joined bs (joined ps) (all_joined ps)
 all_joined (PhandleOf t ∷ ps) = all_joined ps
 all_joined (PathOf t ∷ ps) = all_joined ps
+all_joined (Stored at o n ∷ ps) = all_joined ps
 
 pub value_joined : (text : List ℕ) (ps : List PieceTree) → are_joined (value_said text ps) ≡ true
 value_joined text ps = all_joined (flat_map (piece_said text) ps)

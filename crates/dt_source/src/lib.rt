@@ -30,4 +30,4 @@ pub use lawful::{bodies_are_lists, says_lawful};
 pub use order::faults_are_in_order;
 pub use parser::{MAX_TEXT_LEN as MAX_SOURCE_LEN, one_source, parse};
 pub use spelling::reads_sources;
-pub use tree::{Item, Part, Reference, Source, Statement};
+pub use tree::{FilePart, Item, Part, Reference, Source, Statement};
