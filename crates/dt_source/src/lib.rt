@@ -7,6 +7,7 @@ mod body;
 mod cell;
 mod cells;
 mod error;
+mod file_parts;
 mod labels;
 mod lawful;
 mod marks;
