@@ -11,7 +11,7 @@ use Rattle.dt_tree.specs.Path.{path_names}
 use Rattle.dt_tree.specs.Sound.{is_among}
 use Rattle.dt_meaning.specs.Names.{fragment_name, overlay_name}
 use Rattle.dt_meaning.specs.Paths.{Path, same_path, is_within, is_listed}
-use Rattle.dt_meaning.specs.Syntax.{Target, OfLabel, OfPath, Piece, Plain, PhandleOf, PathOf, Entry, Defines, Undefines, Child, Removes, Body, Done, Then, Edit, Rooted, Extends, Deletes, Omits, Meaning}
+use Rattle.dt_meaning.specs.Syntax.{Target, OfLabel, OfPath, Piece, Plain, PhandleOf, PathOf, Stored, Entry, Defines, Undefines, Child, Removes, Body, Done, Then, Edit, Rooted, Extends, Deletes, Omits, Meaning}
 use Rattle.dt_meaning.specs.Edits.{Definition, definition, Label, labelled_at, State, empty, counted, has_node, with_node, without_node, is_of, put, with_property, without_property, label_path, with_label}
 use Rattle.dt_meaning.specs.Statements.{Fault, UnknownLabel, UnknownPath, DuplicateLabel, DuplicateInBody, ReservedName, TooDeep, give_label, give_labels, is_made, Progress, progress, begun, child_fault, unless, after_entry, after_body, found, target_name, target_value, with_fragment, after_fragment, makes_fragment, after_item, after_items, edited}
 use Rattle.dt_live.proofs.PathTests.{same-is}
@@ -59,6 +59,7 @@ abbrev pub IsNamedPiece : (List ℕ → Type 0) → Piece → Type 0
 IsNamedPiece N (Plain b) = Unit {0}
 IsNamedPiece N (PhandleOf t) = IsNamedTarget N t
 IsNamedPiece N (PathOf t) = IsNamedTarget N t
+IsNamedPiece N (Stored at offset length) = Unit {0}
 
 abbrev pub IsNamedValue : (List ℕ → Type 0) → List Piece → Type 0
 IsNamedValue N v = Each (IsNamedPiece N) v

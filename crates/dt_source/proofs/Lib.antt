@@ -11,6 +11,7 @@ pub mod Several
 pub mod SpelledLabels
 pub mod SpelledCells
 pub mod SpelledPairs
+pub mod SpelledFiles
 pub mod SpelledPieces
 pub mod SpelledValues
 pub mod SpelledStatements

@@ -2,6 +2,7 @@
 -- spelling of sources, and the place at which a text that is no source stops.
 pub mod Several
 pub mod Values
+pub mod Files
 pub mod Bodies
 pub mod Loops
 pub mod Whole

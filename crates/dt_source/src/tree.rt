@@ -16,6 +16,17 @@ pub enum Reference<'a> {
     Path(&'a [u8]),
 }
 
+/// A part of the file that an `/incbin/` names, which only dtc's language has.
+#[derive(Clone, Copy)]
+pub struct FilePart {
+    /// where the `/incbin/` stands in the text, in bytes
+    pub at: u32,
+    /// the first of its bytes
+    pub offset: u64,
+    /// so many bytes of it as there are, or all behind the offset
+    pub length: Option<u64>,
+}
+
 /// A part of a property's value.
 #[derive(Drop)]
 pub enum Part<'a> {
@@ -25,6 +36,8 @@ pub enum Part<'a> {
     Phandle(Reference<'a>),
     /// the target's full path, and a zero byte
     Path(Reference<'a>),
+    /// a part of a file, which has no bytes until it is filled in
+    File(FilePart),
 }
 
 /// One statement of a body, in the order of the text.
