@@ -130,5 +130,8 @@ item-any (Extends ls target body) = (any-all IsAny ls (λ l. tt), target-any tar
 item-any (Deletes target) = tt
 item-any (Omits target) = tt
 
+pub any-sound : (plugin : Bool) (is : List Edit) (u : DtcTree) → dtc_items plugin is nothing ≡ Ok u → IsSound IsAny u
+any-sound plugin is u e = all-kept IsAny (record { fragment = λ n. tt; overlay = tt; target = λ s. tt }) plugin is u (any-all (EditHas IsAny) is item-any) e
+
 pub dtc-any : (m : Meaning) (t : DtcTree) → dtc_edited m ≡ Ok t → IsSoundState IsAny (dtc_state t)
 dtc-any m t e = dtc-sound IsAny (record { fragment = λ n. tt; overlay = tt; target = λ s. tt }) m t (any-all (EditHas IsAny) m.items item-any) e
