@@ -1,5 +1,6 @@
 //! What holds of each tree in dtc's language.
 ghost use Rattle.std.specs.Prelude.{◌≡◌, ℕ, Bool, true, List};
+ghost use Rattle.dt_meaning.specs.Alike.{AreAlike};
 ghost use Rattle.dt_meaning.specs.Paths.{Path};
 ghost use Rattle.dt_meaning.specs.Syntax.{Piece, Meaning};
 ghost use Rattle.dt_meaning.specs.Edits.{State};
@@ -13,4 +14,10 @@ pub fn dtc_trees()
     ensures read { (test : List ℕ → Bool) (m : Meaning) (t : DtcTree) → IsDtcSound (λ n. test n ≡ true) m t }
     ensures any { (m : Meaning) (t : DtcTree) → IsDtcTree m t }
     ensures left { (test : List ℕ → Bool) (gone : List Path) (s : State (List Piece)) → IsRestSound (λ n. test n ≡ true) gone s }
+{}
+
+/// A source that both languages take, which is no plugin and deletes nothing, has the same nodes and properties in both, in the same
+/// order.
+pub fn languages_alike()
+    ensures same { (m : Meaning) (t : DtcTree) (s : State (List Piece)) → AreAlike m t s }
 {}
