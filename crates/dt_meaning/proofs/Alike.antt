@@ -14,7 +14,7 @@ use Rattle.dt_meaning.specs.Syntax.{Target, OfLabel, OfPath, Piece, Entry, Defin
 use Rattle.dt_meaning.specs.Edits.{Definition, definition, Label, labelled_at, State, empty, has_node, is_of, label_path, put, with_label, with_node, with_property}
 use Rattle.dt_meaning.specs.Statements.{Fault, DuplicateInBody, DuplicateLabel, TooDeep, UnknownLabel, UnknownPath, Progress, progress, begun, child_fault, unless, give_label, give_labels, found, after_entry, after_body, after_item, after_items, edited}
 use Rattle.dt_meaning.specs.References.{preorder}
-use Rattle.dt_meaning.specs.Places.{Row, row, what_stands, one_stands, has_two_places, put_in_place}
+use Rattle.dt_meaning.specs.Places.{row, what_stands, one_stands, has_two_places, put_in_place}
 use Rattle.dt_meaning.specs.DtcEdits.{DtcTree, nothing, node_stands, node_has_place, made_property, made_node, is_label_at, with_labels_at, given_in_turn, with_mark, in_preorder, is_labelled, named_node}
 use Rattle.dt_meaning.specs.DtcStatements.{is_first, begun_node, dtc_entry, dtc_body, with_root, dtc_item, dtc_items, dtc_edited, dtc_state, label_twice, with_labels_once}
 use Rattle.dt_meaning.specs.Alike.{body_deletes, entry_deletes, edit_deletes, IsSameTree}

@@ -1,6 +1,6 @@
 -- Laws of dtc's language: the tree that stands when all is read, and what omission leaves of it, is one that a resolved tree can hold
 -- (Devicetree Specification v0.4, sections 2.2.1, 2.2.3 and 2.2.4). N is what is true of each name that a source gives.
-use Rattle.std.specs.Prelude.{◌≡◌, ℕ, Bool, true, false, List, [], ◌∷◌, ◌++◌, All, Ok}
+use Rattle.std.specs.Prelude.{◌≡◌, ℕ, true, false, List, [], ◌∷◌, ◌++◌, All, Ok}
 use Rattle.std.specs.List.{list_any}
 use Rattle.dt_meaning.specs.Names.{fragment_name, overlay_name}
 use Rattle.dt_meaning.specs.Paths.{Path, is_listed}
