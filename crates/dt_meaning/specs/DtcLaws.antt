@@ -1,6 +1,6 @@
 -- Laws of dtc's language: the tree that stands when all is read, and what omission leaves of it, is one that a resolved tree can hold
 -- (Devicetree Specification v0.4, sections 2.2.1, 2.2.3 and 2.2.4). N is what is true of each name that a source gives.
-use Rattle.std.specs.Prelude.{◌≡◌, ℕ, true, false, List, [], ◌∷◌, ◌++◌, All, Ok}
+use Rattle.std.specs.Prelude.{◌≡◌, ℕ, Bool, true, false, List, [], ◌∷◌, ◌++◌, All, Ok}
 use Rattle.std.specs.List.{list_any}
 use Rattle.dt_meaning.specs.Names.{fragment_name, overlay_name}
 use Rattle.dt_meaning.specs.Paths.{Path, is_listed}
@@ -66,6 +66,10 @@ pub record IsSoundState (N : List ℕ → Type 0) (s : State (List Piece)) : Typ
   pub labelled : All (λ l. has_node l.path s ≡ true) s.labels
   pub labels : All (λ l. N l.label) s.labels
   pub words : label_twice s.labels ≡ false
+
+-- the name passes the test
+abbrev pub Passes : (List ℕ → Bool) → List ℕ → Type 0
+Passes test n = test n ≡ true
 
 -- ---- the laws
 -- the tree that stands when all is read
