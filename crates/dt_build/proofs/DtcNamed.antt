@@ -1,11 +1,9 @@
 -- What a lawful source names in dtc's language, and what the tree that is left of it holds.
-use Rattle.std.proofs.Common.{◌≡◌, ℕ, Bool, true, false, not, ◌&&◌, List, [], ◌∷◌, length, Ok, ◌≤◌, refl, sym, ap, ap₂, ◌∙◌, subst, arith}
+use Rattle.std.proofs.Common.{◌≡◌, ℕ, Bool, true, false, not, ◌&&◌, List, [], ◌∷◌, length, Ok, ◌≤◌, refl, ap₂, ◌∙◌, arith}
 use Rattle.std.specs.Prelude.{All, nat_lt, slice_index_or}
 use Rattle.std.specs.List.{list_any}
-use Rattle.std.specs.Str.{bytes_eq}
 use Rattle.std.proofs.lemmas.Bool.{and_parts}
 use Rattle.std.proofs.lemmas.Bool.Decides.{nat_tests}
-use Rattle.dt_tree.specs.Name.{is_name}
 use Rattle.dt_source.specs.Lawful.{IsLawful, IsLawfulTarget, IsLawfulPiece, IsLawfulEntry, IsLawfulBody, IsLawfulEdit}
 use Rattle.dt_tree.proofs.SeenNames.{bytes_eq-comm}
 use Rattle.dt_meaning.specs.Paths.{Path, is_listed, same_path}
@@ -19,13 +17,12 @@ use Rattle.dt_meaning.specs.DtcStatements.{dtc_edited, dtc_state, label_twice, s
 use Rattle.dt_meaning.specs.Seen.{are_once, properties_once}
 use Rattle.dt_meaning.proofs.DtcRest.{rest-sound}
 use Rattle.dt_meaning.proofs.DtcSound.{dtc-sound}
-use Rattle.dt_live.proofs.PathTests.{same-is}
 use Rattle.dt_live.proofs.Each.{Each, each-more, each-of}
 use Rattle.dt_tree_builder.specs.Standing.{AreNodes, are_apart}
-use Rattle.dt_tree_builder.proofs.PathFacts.{not-true, or-false, other-side}
+use Rattle.dt_tree_builder.proofs.PathFacts.{not-true, or-false}
 use Rattle.dt_build.proofs.ApartLists.{InPairs}
 use Rattle.dt_build.proofs.FragmentNames.{fragment-named, overlay-named, target-named}
-use Rattle.dt_build.proofs.NamedEdits.{HasOtherKey, IsOtherWord, IsNamed, IsNamedPath, IsNamedPiece, IsNamedTarget, IsNamedValue, listed-so}
+use Rattle.dt_build.proofs.NamedEdits.{HasOtherKey, IsOtherWord, IsNamed, IsNamedPath, IsNamedPiece, IsNamedValue, listed-so}
 use Rattle.dt_build.proofs.NamedSources.{IsName}
 
 -- ---- what a lawful source names
