@@ -5,6 +5,7 @@ pub mod ApartPhandles
 pub mod BuildingSteps
 pub mod ByLabelSteps
 pub mod DigitSteps
+pub mod DtcNamed
 pub mod FixupLists
 pub mod FixupsMade
 pub mod FoundNames

@@ -1,12 +1,12 @@
 -- Statements and items of dtc's language keep a tree sound.
-use Rattle.std.proofs.Common.{◌≡◌, ℕ, zero, suc, ◌+◌, Bool, true, false, not, ◌&&◌, ◌||◌, List, [], ◌∷◌, ◌++◌, Option, Some, None, Result, Ok, Err, if◌then◌else◌, refl, sym, ap, ap₂, ◌∙◌, subst, true≢false}
+use Rattle.std.proofs.Common.{◌≡◌, ℕ, zero, suc, ◌+◌, Bool, true, false, not, ◌||◌, List, [], ◌∷◌, ◌++◌, Option, Some, None, Result, Ok, Err, if◌then◌else◌, refl, sym, ap, ◌∙◌, subst, true≢false}
 use Rattle.std.specs.Prelude.{All, ok_or, is_some}
-use Rattle.std.specs.List.{filter, find, flat_map, list_any}
+use Rattle.std.specs.List.{filter, find}
 use Rattle.dt_tree.specs.Steps.{then_do}
 use Rattle.dt_tree.specs.Path.{path_names}
 use Rattle.dt_meaning.specs.Names.{fragment_name, overlay_name}
 use Rattle.dt_meaning.specs.Paths.{Path, name_below, same_path}
-use Rattle.dt_meaning.specs.Syntax.{Target, OfLabel, OfPath, Piece, Plain, PhandleOf, Entry, Defines, Undefines, Child, Removes, Body, Done, Then, Edit, Rooted, Extends, Deletes, Omits}
+use Rattle.dt_meaning.specs.Syntax.{Target, OfLabel, OfPath, Piece, Entry, Defines, Undefines, Child, Removes, Body, Done, Then, Edit, Rooted, Extends, Deletes, Omits}
 use Rattle.dt_meaning.specs.Statements.{Fault, UnknownLabel, UnknownPath, DuplicateInBody, ReservedName, target_name, target_value}
 use Rattle.dt_meaning.specs.References.{preorder, walk}
 use Rattle.dt_meaning.specs.Places.{Row, row, what_stands, has_place}
@@ -16,7 +16,7 @@ use Rattle.dt_meaning.specs.DtcLaws.{TargetHas, PieceHas, ValueHas, EntryHas, Bo
 use Rattle.dt_meaning.proofs.SeenNodes.{same-is}
 use Rattle.dt_meaning.proofs.DtcLists.{Each, each-all, each-append, each-flat, each-kept, each-of, find-so, so-none}
 use Rattle.dt_meaning.proofs.StandingRows.{no-place}
-use Rattle.dt_meaning.proofs.DtcSteps.{did, ok-is, not-refused, or-right, not-both, at, each-there, there-so, child-no-root, root-no-child, same-above, IsPath, RootStands, IsSound, IsSoundAt, HasAbove, made-last, node-made, node-begun, node-unmade, without-it, property-made, property-unmade, labels-given, marked-so}
+use Rattle.dt_meaning.proofs.DtcSteps.{did, ok-is, not-refused, or-right, not-both, at, each-there, there-so, root-no-child, same-above, IsPath, RootStands, IsSound, IsSoundAt, HasAbove, made-last, node-made, node-begun, node-unmade, without-it, property-made, property-unmade, labels-given}
 
 -- ---- the root
 root-there : (rs : List (Row Path)) → Each RootStands rs → has_place (same_path []) rs ≡ true → at [] (what_stands rs) ≡ true

@@ -1,5 +1,5 @@
 -- What omission leaves is still one that a resolved tree can hold.
-use Rattle.std.proofs.Common.{◌≡◌, ℕ, Bool, true, false, not, ◌&&◌, ◌||◌, List, [], ◌∷◌, ◌++◌, refl, sym, ap, ◌∙◌, true≢false}
+use Rattle.std.proofs.Common.{◌≡◌, ℕ, Bool, true, false, not, ◌||◌, List, [], ◌∷◌, ◌++◌, sym, ap, ◌∙◌}
 use Rattle.std.specs.Prelude.{All}
 use Rattle.std.specs.List.{filter, list_any}
 use Rattle.std.proofs.lemmas.Bool.{and_parts}
@@ -10,8 +10,8 @@ use Rattle.dt_meaning.specs.Resolved.{is_too_deep}
 use Rattle.dt_meaning.specs.DtcResolved.{is_left, rest_of}
 use Rattle.dt_meaning.specs.DtcLaws.{ValueHas, IsSoundState}
 use Rattle.dt_meaning.specs.Seen.{are_once, properties_once}
-use Rattle.dt_meaning.proofs.SeenNodes.{not-true, or-parts}
-use Rattle.dt_meaning.proofs.DtcLists.{Each, InPairs, each-all, each-both, each-kept, each-more, each-of, each-passed, none-so, pairs-kept, so-none}
+use Rattle.dt_meaning.proofs.SeenNodes.{not-true}
+use Rattle.dt_meaning.proofs.DtcLists.{InPairs, each-all, each-both, each-kept, each-more, each-of, each-passed, none-so, pairs-kept, so-none}
 use Rattle.dt_meaning.proofs.DtcSteps.{or-cases, or-right, not-both, refuted, at, there-so, within-further, HasOtherKey, IsOther}
 use Rattle.dt_meaning.proofs.DtcOrder.{IsOtherWord, words-apart, words-once}
 use Rattle.dt_meaning.proofs.DtcSound.{keys-once, kept-still, kept-was, listed-at, paths-once}

@@ -1,7 +1,7 @@
 -- The tree that stands when all is read is one that a resolved tree can hold.
-use Rattle.std.proofs.Common.{◌≡◌, ℕ, Bool, true, false, not, ◌&&◌, ◌||◌, List, [], ◌∷◌, ◌++◌, reverse, Ok, if◌then◌else◌, refl, sym, ap, ap₂, ◌∙◌, subst, true≢false}
+use Rattle.std.proofs.Common.{◌≡◌, ℕ, Bool, true, false, not, ◌||◌, List, [], ◌∷◌, ◌++◌, reverse, Ok, if◌then◌else◌, refl, sym, ap, ◌∙◌, subst}
 use Rattle.std.specs.Prelude.{All}
-use Rattle.std.specs.List.{filter, flat_map, list_any}
+use Rattle.std.specs.List.{filter, list_any}
 use Rattle.std.proofs.lemmas.Bool.{and_from}
 use Rattle.dt_meaning.specs.Paths.{Path, is_listed, same_path}
 use Rattle.dt_meaning.specs.Syntax.{Target, OfLabel, OfPath, Piece, PhandleOf, PathOf, Entry, Defines, Undefines, Child, Removes, Body, Done, Then, Edit, Rooted, Extends, Deletes, Omits, Meaning}
@@ -129,6 +129,9 @@ item-any (Rooted body) = body-any body
 item-any (Extends ls target body) = (any-all IsAny ls (λ l. tt), target-any target, body-any body)
 item-any (Deletes target) = tt
 item-any (Omits target) = tt
+
+pub any-sound : (plugin : Bool) (is : List Edit) (u : DtcTree) → dtc_items plugin is nothing ≡ Ok u → IsSound IsAny u
+any-sound plugin is u e = all-kept IsAny (record { fragment = λ n. tt; overlay = tt; target = λ s. tt }) plugin is u (any-all (EditHas IsAny) is item-any) e
 
 pub dtc-any : (m : Meaning) (t : DtcTree) → dtc_edited m ≡ Ok t → IsSoundState IsAny (dtc_state t)
 dtc-any m t e = dtc-sound IsAny (record { fragment = λ n. tt; overlay = tt; target = λ s. tt }) m t (any-all (EditHas IsAny) m.items item-any) e

@@ -52,7 +52,7 @@ pub refuted : (b : Bool) → (b ≡ true → ⊥) → b ≡ false
 refuted true f = absurd (f refl)
 refuted false f = refl
 
-any-last : {A : Type 0} (f : A → Bool) (xs : List A) (x : A) → list_any f (xs ++ x ∷ []) ≡ (f x || list_any f xs)
+pub any-last : {A : Type 0} (f : A → Bool) (xs : List A) (x : A) → list_any f (xs ++ x ∷ []) ≡ (f x || list_any f xs)
 any-last f [] x = refl
 any-last f (y ∷ ys) x = ap (λ b. f y || b) (any-last f ys x) ∙ turned (f y) (f x) (list_any f ys) where
   turned : (a b c : Bool) → (a || (b || c)) ≡ (b || (a || c))

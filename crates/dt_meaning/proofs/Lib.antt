@@ -7,3 +7,4 @@ mod DtcBodies
 mod DtcOrder
 pub mod DtcSound
 pub mod DtcRest
+pub mod Alike

@@ -1,8 +1,8 @@
 -- What stands after each change of rows.
-use Rattle.std.proofs.Common.{◌≡◌, Bool, true, false, ◌&&◌, ◌||◌, List, [], ◌∷◌, ◌++◌, map, if◌then◌else◌, cond, refl, sym, ap, ◌∙◌, subst, append-nil, true≢false}
+use Rattle.std.proofs.Common.{◌≡◌, Bool, true, false, ◌&&◌, ◌||◌, List, [], ◌∷◌, ◌++◌, map, if◌then◌else◌, cond, refl, sym, ap, ◌∙◌, append-nil, true≢false}
 use Rattle.std.specs.List.{filter, list_any}
 use Rattle.dt_meaning.specs.Places.{Row, row, place, what_stands, has_place, has_two_places, put_in_place, first_removed, all_removed}
-use Rattle.dt_meaning.proofs.DtcLists.{Each, InPairs, each-more, none-so}
+use Rattle.dt_meaning.proofs.DtcLists.{Each, InPairs, each-more}
 
 -- ---- one row more in front
 module _ {X : Type 0} (P : X → Type 0) where

@@ -67,6 +67,10 @@ pub record IsSoundState (N : List ℕ → Type 0) (s : State (List Piece)) : Typ
   pub labels : All (λ l. N l.label) s.labels
   pub words : label_twice s.labels ≡ false
 
+-- the name passes the test
+abbrev pub Passes : (List ℕ → Bool) → List ℕ → Type 0
+Passes test n = test n ≡ true
+
 -- ---- the laws
 -- the tree that stands when all is read
 abbrev pub IsDtcSound : (List ℕ → Type 0) → Meaning → DtcTree → Type 0

@@ -1,3 +1,4 @@
+pub mod Alike
 pub mod BootProcessor
 pub mod DtcEdits
 pub mod DtcLaws

@@ -8,7 +8,7 @@ mod dtc_rows;
 mod laws;
 mod rows;
 
-pub use dtc_laws::dtc_trees;
+pub use dtc_laws::{dtc_trees, languages_alike};
 pub use dtc_rows::worked_rows_of_dtc;
 pub use laws::{nodes_at_places, properties_at_places};
 pub use rows::worked_rows;
