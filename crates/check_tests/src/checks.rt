@@ -5,7 +5,7 @@ use crate::links::LINKS;
 use crate::nodes::NODES;
 use dt_build::build;
 use dt_check::{Message, Survey};
-use dt_check_table::{Finding, Kind, Selection, check_at, run_checks};
+use dt_check_table::{Finding, Kind, Least, Selection, check_at, run_checks};
 use dt_lexeme::Language;
 use dt_source::parse;
 use dt_tree::Tree;
@@ -66,7 +66,7 @@ fn places(
     let mut selection = Selection::usual(alloc).expect(rt, "memory");
     assert!(rt; selection.apply(Kind::Warning, check), "{check}");
     let survey = Survey::of(alloc, hasher, tree).expect(rt, "memory");
-    let report = run_checks(alloc, &survey, &selection).expect(rt, "memory");
+    let report = run_checks(alloc, &survey, &selection, Least::Warning).expect(rt, "memory");
     let mut text = Vec::new(alloc);
     for finding in &report.findings {
         if name_of(finding.check) == check {

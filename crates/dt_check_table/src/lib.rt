@@ -15,6 +15,6 @@ pub use finding::Finding;
 pub use finding_all::find;
 pub use rule::{LinkRule, PropertyRule, Rule};
 pub use run::{Report, run_checks};
-pub use selection::{Kind, Level, Selection, check_named};
+pub use selection::{Kind, Least, Level, Selection, check_named};
 pub use table::{CHECK_COUNT, check_at};
 pub use units::{Counted, find_units};

@@ -3,7 +3,7 @@
 use crate::check::{Check, Finds};
 use crate::finding::Finding;
 use crate::finding_all::find;
-use crate::selection::Selection;
+use crate::selection::{Least, Selection};
 use crate::table::{CHECK_COUNT, check_at};
 use crate::units::find_units;
 use dt_check::Survey;
@@ -139,6 +139,7 @@ pub fn run_checks<'t>(
     alloc: Global,
     survey: &Survey<'t>,
     selection: &Selection,
+    least: Least,
 ) -> Result<Report<'t>, AllocError> {
     let mut run = Run {
         statuses: vec![in alloc; Status::Waiting; CHECK_COUNT]?,
@@ -146,8 +147,7 @@ pub fn run_checks<'t>(
         failed: false,
     };
     for check in 0..CHECK_COUNT {
-        let level = selection.level(check);
-        if (level.warns || level.fails) && !run.failed {
+        if selection.level(check).is_asked(least) && !run.failed {
             run.make(alloc, survey, selection, check)?;
         }
     }

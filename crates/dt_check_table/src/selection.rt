@@ -11,6 +11,25 @@ pub struct Level {
     pub fails: bool,
 }
 
+/// What mistakes are looked for.
+#[derive(Clone, Copy, Debug, PartialEq, Eq)]
+pub enum Least {
+    /// Those that come to a warning or an error.
+    Warning,
+    /// Errors alone.
+    Error,
+}
+
+impl Level {
+    /// Whether a check whose mistakes come to this is asked for.
+    pub fn is_asked(self, least: Least) -> bool {
+        match least {
+            Least::Warning => self.warns || self.fails,
+            Least::Error => self.fails,
+        }
+    }
+}
+
 /// What an option speaks of.
 #[derive(Clone, Copy, Debug, PartialEq, Eq)]
 pub enum Kind {
@@ -98,8 +117,8 @@ impl Selection {
     }
 
     /// Whether no check is asked for.
-    pub fn is_empty(&self) -> bool {
-        self.levels.iter().all(|level| !level.warns && !level.fails)
+    pub fn is_empty(&self, least: Least) -> bool {
+        self.levels.iter().all(|level| !level.is_asked(least))
     }
 
     fn has(&self, kind: Kind, check: usize) -> bool {

@@ -3,7 +3,7 @@ use crate::line::{Shape, put_line};
 use crate::writer::Writer;
 use dt_blob::{BlobError, read};
 use dt_check::Survey;
-use dt_check_table::{Finding, Selection, run_checks};
+use dt_check_table::{Finding, Least, Selection, run_checks};
 use dt_tree::{Name, Path, Tree, TreeError};
 use std::alloc::{AllocError, Global};
 use std::hash::RandomState;
@@ -39,6 +39,14 @@ fn is_told(selection: &Selection, check: usize, quiet: usize) -> bool {
     (level.warns && quiet < 1) || (level.fails && quiet < 2)
 }
 
+/// What a mistake comes to at least that is looked for: who is asked to say less looks for errors alone.
+pub fn least_of(quiet: usize) -> Least {
+    if quiet < 1 {
+        return Least::Warning;
+    }
+    Least::Error
+}
+
 fn put_findings(
     alloc: Global,
     writer: &mut Writer,
@@ -72,7 +80,7 @@ pub fn check_tree(
     asked: Asked<'_>,
 ) -> Result<Answer, AllocError> {
     let survey = Survey::of(alloc, hasher, tree)?;
-    let report = run_checks(alloc, &survey, selection)?;
+    let report = run_checks(alloc, &survey, selection, least_of(asked.quiet))?;
     let mut writer = Writer::new(alloc);
     put_findings(
         alloc,

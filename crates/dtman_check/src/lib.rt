@@ -11,6 +11,6 @@ mod paths;
 mod words;
 mod writer;
 
-pub use answer::{Answer, Asked, Origin, check_blob, check_tree};
+pub use answer::{Answer, Asked, Origin, check_blob, check_tree, least_of};
 pub use line::Shape;
 pub use paths::path_at;

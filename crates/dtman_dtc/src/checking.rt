@@ -6,7 +6,7 @@ use crate::reports::{Failure, Wrong, fail, report_fault};
 use crate::running::{DONE, FAILED, compiled, guessed, named, put, read};
 use dt_blob::BlobError;
 use dt_check_table::Kind;
-use dtman_check::{Answer, Asked, Origin, Shape, check_blob};
+use dtman_check::{Answer, Asked, Origin, Shape, check_blob, least_of};
 use std::alloc::Global;
 
 const HELP: &[u8] = b"Usage: dtman check [options] <input file>\n
@@ -25,7 +25,7 @@ pub(crate) fn checked<'a, H: Host>(
     from: Format,
     blob: &[u8],
 ) -> Result<(), Failure<'a>> {
-    if !options.checks || options.selection.is_empty() {
+    if options.selection.is_empty(least_of(options.quiet)) {
         return Ok(());
     }
     let Some(answer) = answer_of(alloc, host, options, from, blob, Shape::Plain)? else {

@@ -42,8 +42,7 @@ Options: -[qI:O:o:V:d:R:S:p:a:fb:i:H:sW:E:@hv]
   -H, --phandle <arg>         epapr: phandles stand in properties phandle
   -f, --force                 writes what an error was found in
   -W, --warning <check>       a check warns; no-<check>, it doesn't
-  -E, --error <check>         a check is an error; no-<check>, it is none;
-                              checks are made where one of the two names one
+  -E, --error <check>         a check is an error; no-<check>, it is none
   -@, --symbols               adds the paths of all labelled nodes
   -h, --help                  this text
   -v, --version               the version\n";
