@@ -11,3 +11,5 @@ mod lines;
 mod links;
 #[cfg(test)]
 mod nodes;
+#[cfg(test)]
+mod spots;

@@ -19,7 +19,7 @@ struct Row {
 const SOURCE: &str = "#address-cells = <1>; #size-cells = <1>; a@1 { reg = <1>; };";
 
 const WARNING: &str =
-    "x: Warning (reg_format): /a@1:reg: has 4 bytes; #address-cells 1 and #size-cells 1 of the node above want a multiple of 8\n\
+    "x: Warning (reg_format): /a@1:reg: has 4 bytes; #address-cells 1 and #size-cells 1 of / want a multiple of 8\n\
 x: Warning (pci_device_reg): Failed prerequisite 'reg_format'\n\
 x: Warning (pci_device_bus_num): Failed prerequisite 'reg_format'\n\
 x: Warning (simple_bus_reg): Failed prerequisite 'reg_format'\n\
@@ -27,10 +27,10 @@ x: Warning (i2c_bus_reg): Failed prerequisite 'reg_format'\n\
 x: Warning (spi_bus_reg): Failed prerequisite 'reg_format'\n";
 
 const ERROR: &str =
-    "x: ERROR (reg_format): /a@1:reg: has 4 bytes; #address-cells 1 and #size-cells 1 of the node above want a multiple of 8\n";
+    "x: ERROR (reg_format): /a@1:reg: has 4 bytes; #address-cells 1 and #size-cells 1 of / want a multiple of 8\n";
 
 const JSON: &str =
-    "{\"file\":\"x\",\"severity\":\"error\",\"check\":\"reg_format\",\"path\":\"/a@1\",\"property\":\"reg\",\"message\":\"has 4 bytes; #address-cells 1 and #size-cells 1 of the node above want a multiple of 8\"}\n";
+    "{\"file\":\"x\",\"severity\":\"error\",\"check\":\"reg_format\",\"path\":\"/a@1\",\"property\":\"reg\",\"message\":\"has 4 bytes; #address-cells 1 and #size-cells 1 of / want a multiple of 8\"}\n";
 
 const ROWS: &[Row] = &[
     Row {
@@ -115,6 +115,7 @@ fn answer(rt: &impl Abort, alloc: Global, hasher: RandomState, row: &Row) -> Ans
     let selection = selected(rt, alloc, row.options);
     let asked = Asked {
         file: b"x",
+        text: b"",
         shape: row.shape,
         quiet: row.quiet,
     };

@@ -1,4 +1,5 @@
-//! What `check` answers, from the bytes of a blob to lines of text: each mistake with its place, its check and what is wrong.
+//! What `check` answers, from the bytes of a blob to lines of text: each mistake with its place in the user's files, its check and what
+//! is wrong.
 #![tactic(auto)]
 
 mod answer;
@@ -8,6 +9,7 @@ mod line;
 mod links;
 mod nodes;
 mod paths;
+mod places;
 mod words;
 mod writer;
 

@@ -3,7 +3,7 @@
 use crate::host::{Compiler, Host};
 use crate::options::{BadWord, Format, Options};
 use crate::reports::{Failure, Wrong, fail, report_fault};
-use crate::running::{DONE, FAILED, compiled, guessed, named, put, read};
+use crate::running::{Compiled, DONE, FAILED, compiled, guessed, named, of_blob, put, read};
 use dt_blob::BlobError;
 use dt_check_table::Kind;
 use dtman_check::{Answer, Asked, Origin, Shape, check_blob, least_of};
@@ -24,11 +24,12 @@ pub(crate) fn checked<'a, H: Host>(
     options: &Options<'a>,
     from: Format,
     blob: &[u8],
+    text: &[u8],
 ) -> Result<(), Failure<'a>> {
     if options.selection.is_empty(least_of(options.quiet)) {
         return Ok(());
     }
-    let Some(answer) = answer_of(alloc, host, options, from, blob, Shape::Plain)? else {
+    let Some(answer) = answer_of(alloc, host, options, from, blob, text, Shape::Plain)? else {
         return Ok(());
     };
     host.report(answer.text.as_slice());
@@ -51,6 +52,7 @@ fn answer_of<'a, H: Host>(
     options: &Options<'a>,
     from: Format,
     blob: &[u8],
+    text: &[u8],
     shape: Shape,
 ) -> Result<Option<Answer>, Failure<'a>> {
     let Ok(hasher) = host.seed() else {
@@ -58,6 +60,7 @@ fn answer_of<'a, H: Host>(
     };
     let asked = Asked {
         file: named(options.input).as_bytes(),
+        text,
         shape,
         quiet: options.quiet,
     };
@@ -175,11 +178,20 @@ fn answer_to<'a, H: Host, C: Compiler>(
     let bytes = read(alloc, host, options.input)?;
     let mut found = Vec::new(alloc);
     let from = guessed(options.input, bytes.as_slice());
-    let blob = match from {
+    let Compiled { blob, text } = match from {
         Format::Dts => compiled(alloc, host, compiler, options, bytes.as_slice(), &mut found)?,
-        Format::Dtb => bytes,
+        Format::Dtb => of_blob(alloc, bytes),
     };
-    match answer_of(alloc, host, options, from, blob.as_slice(), question.shape)? {
+    let shape = question.shape;
+    match answer_of(
+        alloc,
+        host,
+        options,
+        from,
+        blob.as_slice(),
+        text.as_slice(),
+        shape,
+    )? {
         Some(answer) => {
             put(host, "-", answer.text.as_slice())?;
             Ok(answer.failed)
