@@ -12,4 +12,6 @@ mod links;
 #[cfg(test)]
 mod nodes;
 #[cfg(test)]
+mod own;
+#[cfg(test)]
 mod spots;

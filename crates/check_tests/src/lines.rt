@@ -1,7 +1,7 @@
 //! Lines of findings, by the options that ask for them.
 
 use crate::checks::tree_of;
-use dt_check_table::{Kind, Selection};
+use dt_check_table::{Kind, Reference, Selection};
 use dtman_check::{Answer, Asked, Shape, check_tree};
 use std::alloc::Global;
 use std::hash::RandomState;
@@ -113,7 +113,9 @@ fn selected(rt: &impl Abort, alloc: Global, options: &[&str]) -> Selection {
 fn answer(rt: &impl Abort, alloc: Global, hasher: RandomState, row: &Row) -> Answer {
     let tree = tree_of(rt, alloc, hasher, SOURCE);
     let selection = selected(rt, alloc, row.options);
+    let reference = Reference::new(alloc);
     let asked = Asked {
+        reference: &reference,
         file: b"x",
         text: b"",
         shape: row.shape,

@@ -1,7 +1,7 @@
 //! Places of findings in the user's files: lines as dtc 1.6.1 tells them, columns of the name alone.
 
 use dt_build::build;
-use dt_check_table::{Kind, Selection};
+use dt_check_table::{Kind, Reference, Selection};
 use dt_lexeme::Language;
 use dt_source::parse;
 use dtman_check::{Answer, Asked, Shape, check_tree};
@@ -68,7 +68,9 @@ fn answer(rt: &impl Abort, alloc: Global, hasher: RandomState, row: &Row) -> Ans
     for word in row.without {
         assert!(rt; selection.apply(Kind::Warning, *word), "{word}");
     }
+    let reference = Reference::new(alloc);
     let asked = Asked {
+        reference: &reference,
         file: b"x.dts",
         text: TEXT.as_bytes(),
         shape: row.shape,

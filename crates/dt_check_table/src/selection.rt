@@ -1,7 +1,7 @@
 //! Which checks warn and which are errors.
 
 use crate::check::Severity;
-use crate::table::{CHECK_COUNT, check_at};
+use crate::table::{CHECK_COUNT, UNKNOWN_PROPERTY, check_at};
 use std::alloc::{AllocError, Global};
 
 /// What a mistake that a check finds comes to: both may be so, and then it is an error.
@@ -69,9 +69,9 @@ fn is_called(place: usize, name: &str) -> bool {
     }
 }
 
-/// The check of this name, by its place in the table.
+/// The check of this name, by its place in the table: `unknown_property` is asked for by its reference set alone.
 pub fn check_named(name: &str) -> Option<usize> {
-    for place in 0..CHECK_COUNT {
+    for place in 0..UNKNOWN_PROPERTY {
         if is_called(place, name) {
             return Some(place);
         }
@@ -166,6 +166,16 @@ impl Selection {
                 self.set(kind, other, false);
             }
         }
+    }
+
+    /// Asks for `unknown_property`.
+    pub fn ask_unknown(&mut self, kind: Kind) {
+        self.set(kind, UNKNOWN_PROPERTY, true);
+    }
+
+    /// Whether `unknown_property` is asked for.
+    pub fn asks_unknown(&self) -> bool {
+        self.level(UNKNOWN_PROPERTY).is_asked(Least::Warning)
     }
 
     /// Takes the word of an option: a check's name, or one behind `no-`, by which it goes. Says whether there is such a check; else

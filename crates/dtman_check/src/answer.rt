@@ -4,7 +4,7 @@ use crate::places::{Located, Source, locate_findings};
 use crate::writer::Writer;
 use dt_blob::{BlobError, read};
 use dt_check::Survey;
-use dt_check_table::{Finding, Least, Selection, run_checks};
+use dt_check_table::{Finding, Least, Reference, Selection, run_checks};
 use dt_tree::{Name, Path, Tree, TreeError};
 use std::alloc::{AllocError, Global};
 use std::hash::RandomState;
@@ -24,6 +24,8 @@ pub struct Asked<'a> {
     pub file: &'a [u8],
     /// The source with all that it takes in, whose lines are told; no bytes where there is none.
     pub text: &'a [u8],
+    /// What `unknown_property` goes by.
+    pub reference: &'a Reference<'a>,
     pub shape: Shape,
     /// How often it is asked to say less: once, and warnings are left out; twice, and errors too.
     pub quiet: usize,
@@ -99,7 +101,13 @@ pub fn check_tree(
     asked: Asked<'_>,
 ) -> Result<Answer, AllocError> {
     let survey = Survey::of(alloc, hasher, tree)?;
-    let report = run_checks(alloc, &survey, selection, least_of(asked.quiet))?;
+    let report = run_checks(
+        alloc,
+        &survey,
+        asked.reference,
+        selection,
+        least_of(asked.quiet),
+    )?;
     let mut writer = Writer::new(alloc);
     put_findings(
         alloc,

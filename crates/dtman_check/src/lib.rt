@@ -5,6 +5,7 @@
 mod answer;
 mod buses;
 mod escaping;
+mod learning;
 mod line;
 mod links;
 mod nodes;
@@ -14,5 +15,6 @@ mod words;
 mod writer;
 
 pub use answer::{Answer, Asked, Origin, check_blob, check_tree, least_of};
+pub use learning::Learned;
 pub use line::Shape;
 pub use paths::path_at;

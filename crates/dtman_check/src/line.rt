@@ -42,6 +42,7 @@ pub fn put_line(
     let above = Above {
         path: path_above(path.as_slice()),
         site: located.above,
+        reference: asked.reference,
     };
     let mut words = Writer::new(alloc);
     say(alloc, &mut words, survey, finding.message, above)?;

@@ -130,6 +130,8 @@ pub fn plain_words(message: Message) -> &'static str {
             "the name of an alias has other than lower case letters, digits and -",
         Message::PhandlesDiffer => "phandle and linux,phandle differ",
         Message::SingleChild => "has a single child, which needs no #address-cells and #size-cells",
+        Message::LostRanges =>
+            "a bus with devices in memory, but no ranges: none of their addresses can be reached",
         Message::GraphReg => "reg is not one cell",
         Message::NoRemote => "no node has this phandle",
         _ => "",

@@ -5,7 +5,7 @@ use crate::nodes::{plain_words, say_numbers};
 use crate::places::Site;
 use crate::writer::Writer;
 use dt_check::{Message, Survey};
-use dt_check_table::check_at;
+use dt_check_table::{Reference, check_at};
 use std::alloc::{AllocError, Global};
 
 // A prerequisite by its name.
@@ -17,11 +17,12 @@ fn say_prerequisite(writer: &mut Writer, check: usize) -> Result<(), AllocError>
     writer.put(b"'")
 }
 
-/// The node above that which is told of.
+/// The node above that which is told of, and what `unknown_property` goes by.
 #[derive(Clone, Copy)]
 pub struct Above<'a> {
     pub path: &'a [u8],
     pub site: Option<Site<'a>>,
+    pub reference: &'a Reference<'a>,
 }
 
 impl Above<'_> {
@@ -38,6 +39,19 @@ impl Above<'_> {
     }
 }
 
+// The property that is known in its place.
+fn say_unknown(
+    writer: &mut Writer,
+    reference: &Reference<'_>,
+    row: usize,
+) -> Result<(), AllocError> {
+    writer.put(b"no node of this compatible has it in the reference set; known is ")?;
+    match reference.row(row) {
+        Some(row) => writer.put(row.name),
+        None => Ok(()),
+    }
+}
+
 /// Puts the words of a message last.
 pub fn say(
     alloc: Global,
@@ -48,6 +62,9 @@ pub fn say(
 ) -> Result<(), AllocError> {
     if let Message::Prerequisite(check) = message {
         return say_prerequisite(writer, check);
+    }
+    if let Message::Unknown(row) = message {
+        return say_unknown(writer, above.reference, row);
     }
     let said = say_numbers(writer, message, above)?
         || say_bridge(writer, message)?
