@@ -14,14 +14,17 @@ pub struct Definitions<'t> {
 }
 
 impl<'t> Definitions<'t> {
-    /// Of a text whose lexemes these are, in the profile or in dtc's language. The names are those of its fragments.
+    /// Of a text whose lexemes these are, in the profile or in dtc's language, with its properties of these few names alone. The other
+    /// names are those of its fragments.
     pub fn of(
         alloc: Global,
         text: &'t [u8],
         lexemes: &[Lexeme],
         fragments: &'t [Vec<u8>],
+        names: &'t [&'t [u8]],
     ) -> Result<Self, AllocError> {
         let mut walk = Walk::new(alloc, text, fragments)?;
+        walk.kept = Some(names);
         for (i, lexeme) in lexemes.iter().enumerate() {
             walk.step(i, *lexeme, lexemes)?;
         }

@@ -6,6 +6,7 @@ use dt_lexeme::{Language, Lexeme, scan_front};
 use dt_place::{Position, positions_of};
 use dt_trace::{Definitions, fragment_names};
 use std::alloc::{AllocError, Global};
+use std::collections::BTreeSet;
 
 /// A name in a text of the user's: the file, the line from 1, the columns from 1 of its first byte and behind its last.
 #[derive(Clone, Copy)]
@@ -93,6 +94,21 @@ fn paths_of(
     Ok(paths)
 }
 
+// The names of the properties that are told of, each once.
+fn names_of<'t>(alloc: Global, findings: &[Finding<'t>]) -> Result<Vec<&'t [u8]>, AllocError> {
+    let mut all = BTreeSet::new(alloc);
+    for finding in findings {
+        if let Some(name) = finding.property {
+            all.insert(name)?;
+        }
+    }
+    let mut names = Vec::with_capacity(alloc, all.len())?;
+    for name in all.iter() {
+        names.push(*name)?;
+    }
+    Ok(names)
+}
+
 fn spots_of(
     alloc: Global,
     text: &[u8],
@@ -102,7 +118,14 @@ fn spots_of(
 ) -> Result<Vec<Spots>, AllocError> {
     let fragments = fragment_names(alloc, lexemes)?;
     let paths = paths_of(alloc, survey, findings)?;
-    let definitions = Definitions::of(alloc, text, lexemes, fragments.as_slice())?;
+    let names = names_of(alloc, findings)?;
+    let definitions = Definitions::of(
+        alloc,
+        text,
+        lexemes,
+        fragments.as_slice(),
+        names.as_slice(),
+    )?;
     let mut spots = Vec::with_capacity(alloc, findings.len())?;
     for (finding, path) in findings.iter().zip(paths.iter()) {
         spots.push(spots_at(&definitions, lexemes, path.as_slice(), finding.property))?;
