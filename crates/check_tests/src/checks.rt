@@ -64,7 +64,8 @@ fn places(
     check: &str,
 ) -> Vec<u8> {
     let mut selection = Selection::usual(alloc).expect(rt, "memory");
-    assert!(rt; selection.apply(Kind::Warning, check), "{check}");
+    let known = selection.apply(Kind::Warning, check).expect(rt, "memory");
+    assert!(rt; known, "{check}");
     let survey = Survey::of(alloc, hasher, tree).expect(rt, "memory");
     let reference = Reference::new(alloc);
     let report = run_checks(alloc, &survey, &reference, &selection, Least::Warning).expect(

@@ -15,3 +15,5 @@ mod nodes;
 mod own;
 #[cfg(test)]
 mod spots;
+#[cfg(test)]
+mod standing;

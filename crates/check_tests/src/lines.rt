@@ -93,9 +93,9 @@ const ROWS: &[Row] = &[
 
 fn select(rt: &impl Abort, selection: &mut Selection, option: &str) {
     let known = match option.strip_prefix("E") {
-        Some(word) => selection.apply(Kind::Error, word),
+        Some(word) => selection.apply(Kind::Error, word).expect(rt, "memory"),
         None => match option.strip_prefix("W") {
-            Some(word) => selection.apply(Kind::Warning, word),
+            Some(word) => selection.apply(Kind::Warning, word).expect(rt, "memory"),
             None => false,
         },
     };
@@ -141,7 +141,14 @@ fn lines_by_options(rt: HostRuntime) {
 #[test]
 fn names_that_no_check_has(rt: HostRuntime) {
     let mut selection = Selection::usual(rt.alloc()).expect(&rt, "memory");
-    assert!(rt; !selection.apply(Kind::Warning, "no_such_check"));
-    assert!(rt; !selection.apply(Kind::Error, "no-"));
-    assert!(rt; selection.apply(Kind::Warning, "no_reg_format"));
+    for (word, known) in [
+        ("no_such_check", false),
+        ("no-", false),
+        ("unknown_property", false),
+        ("no_reg_format", true),
+        ("lost_ranges", true),
+    ] {
+        let applied = selection.apply(Kind::Warning, word).expect(&rt, "memory");
+        assert!(rt; applied == known, "{word}");
+    }
 }

@@ -52,7 +52,7 @@ fn answer(rt: &impl Abort, alloc: Global, hasher: RandomState, properties: &str)
     let tree = tree_of(rt, alloc, hasher, source.as_str());
     let reference = Reference::read(alloc, KNOWN.as_bytes()).expect(rt, "a reference set");
     let mut selection = Selection::usual(alloc).expect(rt, "memory");
-    selection.ask_unknown(Kind::Warning);
+    selection.ask_unknown(Kind::Warning).expect(rt, "memory");
     let asked = Asked {
         file: b"x",
         text: b"",

@@ -66,7 +66,8 @@ fn answer(rt: &impl Abort, alloc: Global, hasher: RandomState, row: &Row) -> Ans
     let tree = build(alloc, hasher, &source, false).expect(rt, "a tree");
     let mut selection = Selection::usual(alloc).expect(rt, "memory");
     for word in row.without {
-        assert!(rt; selection.apply(Kind::Warning, *word), "{word}");
+        let known = selection.apply(Kind::Warning, *word).expect(rt, "memory");
+        assert!(rt; known, "{word}");
     }
     let reference = Reference::new(alloc);
     let asked = Asked {

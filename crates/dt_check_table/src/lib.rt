@@ -20,7 +20,7 @@ pub use near::is_within;
 pub use reference::{BadReference, Reference, Row, list_of};
 pub use rule::{LinkRule, PropertyRule, Rule};
 pub use run::{Report, run_checks};
-pub use selection::{Kind, Least, Level, Selection, check_named};
+pub use selection::{Change, Entry, Kind, Least, Level, Selection, check_named};
 pub use table::{CHECK_COUNT, DTC_COUNT, UNKNOWN_PROPERTY, check_at};
 pub use units::{Counted, find_units};
 pub use unknown::find_unknown;

@@ -124,10 +124,10 @@ enum Open {
 
 fn select<'a>(question: &mut Question<'a>, kind: Kind, word: &'a str) -> Result<(), BadWord<'a>> {
     if word == "unknown_property" {
-        question.options.selection.ask_unknown(kind);
+        question.options.selection.ask_unknown(kind)?;
         return Ok(());
     }
-    if question.options.selection.apply(kind, word) {
+    if question.options.selection.apply(kind, word)? {
         return Ok(());
     }
     Err(BadWord::NoCheck(word))

@@ -398,7 +398,7 @@ fn set<'a>(
 }
 
 fn select<'a>(options: &mut Options<'a>, kind: Kind, word: &'a str) -> Result<(), BadWord<'a>> {
-    if options.selection.apply(kind, word) {
+    if options.selection.apply(kind, word)? {
         return Ok(());
     }
     Err(BadWord::NoCheck(word))
