@@ -42,8 +42,7 @@ Options: -[qI:O:o:V:d:R:S:p:a:fb:i:H:sW:E:@hv]
   -H, --phandle <arg>         epapr: phandles stand in properties phandle
   -f, --force                 writes what an error was found in
   -W, --warning <check>       a check warns; no-<check>, it doesn't
-  -E, --error <check>         a check is an error; no-<check>, it is none;
-                              checks are made where one of the two names one
+  -E, --error <check>         a check is an error; no-<check>, it is none
   -@, --symbols               adds the paths of all labelled nodes
   -h, --help                  this text
   -v, --version               the version\n";
@@ -102,13 +101,16 @@ fn convert<'a, H: Host, C: Compiler>(
         .to
         .unwrap_or(Output::Holds(wanted(options.output, from)));
     let mut found = Vec::new(alloc);
-    let blob = match (from, to) {
+    let Compiled { blob, text } = match (from, to) {
         (Format::Dts, _) => compiled(alloc, host, compiler, options, bytes.as_slice(), &mut found)?,
         // what is printed is read once
-        (Format::Dtb, Output::Holds(Format::Dts)) => bytes,
-        (Format::Dtb, _) => copied(alloc, host, compiler, options, bytes.as_slice())?,
+        (Format::Dtb, Output::Holds(Format::Dts)) => of_blob(alloc, bytes),
+        (Format::Dtb, _) => of_blob(
+            alloc,
+            copied(alloc, host, compiler, options, bytes.as_slice())?,
+        ),
     };
-    checked(alloc, host, options, from, blob.as_slice())?;
+    checked(alloc, host, options, from, blob.as_slice(), text.as_slice())?;
     let blob = ordered(alloc, host, compiler, options, blob)?;
     let output = match to {
         Output::Holds(Format::Dts) => dumped(alloc, host, compiler, options, blob.as_slice())?,
@@ -136,6 +138,22 @@ fn wanted(path: &str, from: Format) -> Format {
     format_named(path).unwrap_or(other)
 }
 
+/// A blob, and the source with all that it takes in, of which it was made.
+#[derive(Drop)]
+pub(crate) struct Compiled {
+    pub blob: Vec<u8>,
+    /// No bytes where there is none.
+    pub text: Vec<u8>,
+}
+
+/// A blob that was made of no source.
+pub(crate) fn of_blob(alloc: Global, blob: Vec<u8>) -> Compiled {
+    Compiled {
+        blob,
+        text: Vec::new(alloc),
+    }
+}
+
 /// The blob of a source, with the processor that boots.
 pub(crate) fn compiled<H: Host, C: Compiler>(
     alloc: Global,
@@ -144,7 +162,7 @@ pub(crate) fn compiled<H: Host, C: Compiler>(
     options: &Options<'_>,
     source: &[u8],
     found: &mut Vec<Vec<u8>>,
-) -> Result<Vec<u8>, Failure<'static>> {
+) -> Result<Compiled, Failure<'static>> {
     let Ok(hasher) = host.seed() else {
         return Err(Failure::NoSeed);
     };
@@ -162,7 +180,7 @@ pub(crate) fn compiled<H: Host, C: Compiler>(
         Ok(mut blob) => {
             let guessed = boot_cpu_of(blob.as_slice());
             set_boot_cpu(&mut blob, options.boot_cpu.unwrap_or(guessed));
-            Ok(blob)
+            Ok(Compiled { blob, text: whole })
         }
         Err(fault) => {
             let source = Source {
