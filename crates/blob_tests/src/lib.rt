@@ -8,4 +8,6 @@ mod boards;
 #[cfg(test)]
 mod differing;
 #[cfg(test)]
+mod layouts;
+#[cfg(test)]
 mod tools;

@@ -1,7 +1,7 @@
 //! Runs of dtc over files in memory, with a compiler whose blob is the text behind a header of zeros.
 
 use dtc_dialect::Span;
-use dtman_dtc::{Compiler, Fault, Host, Unread, Unwritten, run_dtc, run_fdtoverlay};
+use dtman_dtc::{Compiler, Fault, Host, Texts, Unread, Unwritten, run_dtc, run_fdtoverlay};
 use std::alloc::Global;
 use std::hash::RandomState;
 use std::process::Abort;
@@ -86,7 +86,7 @@ impl Compiler for Copier {
         joined(alloc, HEADER, text)
     }
 
-    fn dump(&mut self, alloc: Global, blob: &[u8]) -> Result<Vec<u8>, Fault> {
+    fn dump(&mut self, alloc: Global, blob: &[u8], _texts: Texts) -> Result<Vec<u8>, Fault> {
         let text = blob.get(HEADER.len()..blob.len()).unwrap_or(b"");
         match Vec::from_slice(alloc, text) {
             Ok(bytes) => Ok(bytes),

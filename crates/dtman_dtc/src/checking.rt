@@ -1,6 +1,7 @@
 //! The checks of a tree: on the way to its blob, and alone.
 
 use crate::host::{Compiler, Host};
+use crate::layout::Texts;
 use crate::options::{BadWord, Format, Options};
 use crate::reports::{Failure, Wrong, fail, report_fault};
 use crate::running::{DONE, FAILED, compiled, guessed, named, put, read};
@@ -196,7 +197,7 @@ fn no_blob<H: Host, C: Compiler>(
     options: &Options<'_>,
     blob: &[u8],
 ) -> Failure<'static> {
-    match compiler.dump(alloc, blob) {
+    match compiler.dump(alloc, blob, Texts::Joined) {
         Ok(_) => Failure::NoMemory,
         Err(fault) => report_fault(alloc, host, options.input.as_bytes(), b"", &fault),
     }

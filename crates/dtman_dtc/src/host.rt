@@ -1,5 +1,6 @@
 //! What dtc's command line asks of its surroundings.
 
+use crate::layout::Texts;
 use dtc_dialect::Span;
 use std::alloc::Global;
 use std::hash::RandomState;
@@ -46,7 +47,8 @@ pub trait Compiler {
         symbols: bool,
     ) -> Result<Vec<u8>, Fault>;
 
-    fn dump(&mut self, alloc: Global, blob: &[u8]) -> Result<Vec<u8>, Fault>;
+    /// The source of a blob in dtc's layout.
+    fn dump(&mut self, alloc: Global, blob: &[u8], texts: Texts) -> Result<Vec<u8>, Fault>;
 
     /// The blob of the tree that a blob holds in order of its names.
     fn sort(&mut self, alloc: Global, hasher: RandomState, blob: &[u8]) -> Result<Vec<u8>, Fault>;

@@ -4,6 +4,7 @@ use crate::blob::{set_boot_cpu, with_room};
 use crate::booting::boot_cpu_of;
 use crate::checking::checked;
 use crate::host::{Compiler, Host};
+use crate::layout::Texts;
 use crate::options::{Asked, Format, Options, Order, Output, format_named, read_words};
 use crate::reports::{
     Failure, Source, fail, report_dialect, report_fault, report_shortfall, report_source,
@@ -29,7 +30,7 @@ Options: -[qI:O:o:V:d:R:S:p:a:fb:i:H:sW:E:@hv]
   -q, --quiet                 say less
   -I, --in-format <arg>       dts or dtb
   -o, --out <arg>             the output file, - for standard output
-  -O, --out-format <arg>      dtb, dts (canonical) or null (nothing)
+  -O, --out-format <arg>      dtb, dts or null (nothing)
   -V, --out-version <arg>     17, the version of each blob
   -d, --out-dependency <arg>  writes the files that were read, for make
   -R, --reserve <number>      empty entries of the memory reservations
@@ -111,7 +112,14 @@ fn convert<'a, H: Host, C: Compiler>(
     checked(alloc, host, options, from, blob.as_slice())?;
     let blob = ordered(alloc, host, compiler, options, blob)?;
     let output = match to {
-        Output::Holds(Format::Dts) => dumped(alloc, host, compiler, options, blob.as_slice())?,
+        Output::Holds(Format::Dts) => dumped(
+            alloc,
+            host,
+            compiler,
+            options,
+            from,
+            blob.as_slice(),
+        )?,
         Output::Holds(Format::Dtb) => widened(alloc, host, options, blob.as_slice())?,
         Output::Nothing => return put_found(alloc, host, options, found.as_slice()),
     };
@@ -240,15 +248,20 @@ fn ordered<H: Host, C: Compiler>(
     }
 }
 
-/// The canonical source of a blob.
+/// The source of a blob in dtc's layout. What a source was made of is no longer known: its strings are told apart.
 fn dumped<H: Host, C: Compiler>(
     alloc: Global,
     host: &mut H,
     compiler: &mut C,
     options: &Options<'_>,
+    from: Format,
     blob: &[u8],
 ) -> Result<Vec<u8>, Failure<'static>> {
-    match compiler.dump(alloc, blob) {
+    let texts = match from {
+        Format::Dts => Texts::Apart,
+        Format::Dtb => Texts::Joined,
+    };
+    match compiler.dump(alloc, blob, texts) {
         Ok(text) => Ok(text),
         Err(fault) => Err(report_fault(alloc, host, options.input.as_bytes(), b"", &fault)),
     }
