@@ -64,7 +64,7 @@ fn answer_of<'a, H: Host>(
     };
     let origin = match from {
         Format::Dts => Origin::Source,
-        Format::Dtb => Origin::Blob,
+        Format::Dtb | Format::Folder => Origin::Blob,
     };
     match check_blob(alloc, hasher, blob, origin, &options.selection, asked) {
         Ok(answer) => Ok(Some(answer)),
@@ -178,7 +178,7 @@ fn answer_to<'a, H: Host, C: Compiler>(
     let from = guessed(options.input, bytes.as_slice());
     let blob = match from {
         Format::Dts => compiled(alloc, host, compiler, options, bytes.as_slice(), &mut found)?,
-        Format::Dtb => bytes,
+        Format::Dtb | Format::Folder => bytes,
     };
     match answer_of(alloc, host, options, from, blob.as_slice(), question.shape)? {
         Some(answer) => {

@@ -13,6 +13,22 @@ pub struct Unread;
 #[derive(Clone, Copy, Debug, PartialEq, Eq)]
 pub struct Unwritten;
 
+/// What stands in a folder.
+#[derive(Clone, Copy, Debug, PartialEq, Eq)]
+pub enum EntryKind {
+    File,
+    Folder,
+    /// Neither: a link, a pipe.
+    Other,
+}
+
+/// One of those, by its name.
+#[derive(Drop)]
+pub struct Entry {
+    pub name: String,
+    pub kind: EntryKind,
+}
+
 /// A refusal of the compiler: its number and name, its line in the text that was given, and the bytes of that which are refused.
 #[derive(Clone, Copy, Debug)]
 pub struct Fault {
@@ -26,6 +42,9 @@ pub struct Fault {
 pub trait Host {
     /// The bytes of a file; of standard input where the path is `-`.
     fn read(&mut self, alloc: Global, path: &str) -> Result<Vec<u8>, Unread>;
+
+    /// What a folder has, in the order in which the system tells it.
+    fn entries(&mut self, alloc: Global, path: &str) -> Result<Vec<Entry>, Unread>;
 
     /// Makes or empties a file and writes it; standard output where the path is `-`.
     fn write(&mut self, path: &str, bytes: &[u8]) -> Result<(), Unwritten>;

@@ -6,6 +6,7 @@
 mod blob;
 mod booting;
 mod checking;
+mod folder_tree;
 mod host;
 mod layout;
 mod options;
@@ -16,7 +17,7 @@ mod searching;
 mod wording;
 
 pub use checking::run_check;
-pub use host::{Compiler, Fault, Host, Unread, Unwritten};
+pub use host::{Compiler, Entry, EntryKind, Fault, Host, Unread, Unwritten};
 pub use layout::{Texts, layout_bytes};
 pub use options::{Asked, BadWord, Format, Options, Order, Output, Room, read_words};
 pub use overlaying::run_fdtoverlay;
