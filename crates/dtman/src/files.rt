@@ -44,7 +44,8 @@ impl<R: Files + RandomSource + Input + Print + Eprint + AllocGlobal + Clone + Dr
             let Ok(entry) = entry else {
                 return Err(Unread);
             };
-            let kind = match entry.file_type() {
+            // what a link leads to
+            let kind = match fs::metadata(self.rt, entry.path()) {
                 Ok(kind) if kind.is_dir() => EntryKind::Folder,
                 Ok(kind) if kind.is_file() => EntryKind::File,
                 _ => EntryKind::Other,

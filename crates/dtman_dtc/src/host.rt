@@ -18,7 +18,7 @@ pub struct Unwritten;
 pub enum EntryKind {
     File,
     Folder,
-    /// Neither: a link, a pipe.
+    /// Neither, as a pipe, or a link that leads nowhere.
     Other,
 }
 
