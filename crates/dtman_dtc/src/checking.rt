@@ -1,9 +1,12 @@
 //! The checks of a tree: on the way to its blob, and alone.
 
 use crate::host::{Compiler, Host};
+use crate::layout::Texts;
 use crate::options::{BadWord, Format, Options};
 use crate::reports::{Failure, Wrong, fail, report_fault};
-use crate::running::{Compiled, DONE, FAILED, compiled, guessed, named, of_blob, put, read};
+use crate::running::{
+    Compiled, DONE, FAILED, Given, compiled, input_of, named, of_blob, put, read,
+};
 use dt_blob::BlobError;
 use dt_check_table::{BadReference, Kind, Reference};
 use dtman_check::{Answer, Asked, Learned, Origin, Shape, check_blob, least_of};
@@ -85,7 +88,7 @@ fn answer_of<'a, H: Host>(
     };
     let origin = match wanted.from {
         Format::Dts => Origin::Source,
-        Format::Dtb => Origin::Blob,
+        Format::Dtb | Format::Folder => Origin::Blob,
     };
     match check_blob(alloc, hasher, blob, origin, &options.selection, asked) {
         Ok(answer) => Ok(Some(answer)),
@@ -236,12 +239,11 @@ fn taken<'a, H: Host, C: Compiler>(
     compiler: &mut C,
     options: &Options<'a>,
 ) -> Result<Taken, Failure<'a>> {
-    let bytes = read(alloc, host, options.input)?;
+    let Given { from, bytes } = input_of(alloc, host, options)?;
     let mut found = Vec::new(alloc);
-    let from = guessed(options.input, bytes.as_slice());
     let made = match from {
         Format::Dts => compiled(alloc, host, compiler, options, bytes.as_slice(), &mut found)?,
-        Format::Dtb => of_blob(alloc, bytes),
+        Format::Dtb | Format::Folder => of_blob(alloc, bytes),
     };
     Ok(Taken { from, made })
 }
@@ -334,7 +336,7 @@ fn no_blob<H: Host, C: Compiler>(
     options: &Options<'_>,
     blob: &[u8],
 ) -> Failure<'static> {
-    match compiler.dump(alloc, blob) {
+    match compiler.dump(alloc, blob, Texts::Joined) {
         Ok(_) => Failure::NoMemory,
         Err(fault) => report_fault(alloc, host, options.input.as_bytes(), b"", &fault),
     }

@@ -10,6 +10,8 @@ pub enum Format {
     Dts,
     /// A blob.
     Dtb,
+    /// A folder, which only an input can be.
+    Folder,
 }
 
 /// What is asked of the output.
@@ -408,7 +410,7 @@ fn format_of<'a>(name: &'a str, word: &'a str) -> Result<Format, BadWord<'a>> {
     match word {
         "dts" => Ok(Format::Dts),
         "dtb" => Ok(Format::Dtb),
-        "fs" => Err(BadWord::MissingArgument(name, word)),
+        "fs" => Ok(Format::Folder),
         _ => Err(BadWord::BadArgument(name, word)),
     }
 }
