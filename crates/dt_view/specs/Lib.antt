@@ -1,6 +1,9 @@
+pub mod Aliases
 pub mod Cells
 pub mod Order
 pub mod Places
 pub mod Private
+pub mod Reaching
+pub mod Regions
 pub mod Shows
 pub mod Standing

@@ -1,5 +1,6 @@
 //! Nodes by name and by path.
-ghost use Rattle.std.specs.Prelude.{◌≡◌, ◌↔◌, List, IsErrOf, true, false};
+ghost use Rattle.std.specs.Prelude.{◌≡◌, ◌↔◌, List, IsErrOf, IsOkAnd, true, false};
+ghost use Rattle.std.specs.Option.{option_copied};
 ghost use Rattle.std.specs.List.{slice_split};
 ghost use Rattle.dt_tree.specs.NodeData.{NodeData, Siblings};
 ghost use Rattle.dt_tree.specs.Path.{is_path, is_slash, path_names};
@@ -7,11 +8,13 @@ ghost use Rattle.dt_tree.specs.PathMap.{child_named, node_at};
 ghost use Rattle.dt_tree.specs.TreeData.{TreeData};
 ghost use Rattle.dt_tree.specs.declared.property.Property.{Property};
 ghost use Rattle.dt_blob.specs.Token.{Token};
+ghost use Rattle.dt_view.specs.Aliases.{TellsAlias, alias_in};
 ghost use Rattle.dt_view.specs.Places.{TellsPlace};
 ghost use Rattle.dt_view.specs.Private.Reading.{inside_tokens};
 ghost use Rattle.dt_view.specs.Shows.{Views};
 ghost use Rattle.dt_view.specs.Standing.{Ahead, HasNoNode, StandsAt, ends};
 
+use crate::cells::text;
 use crate::error::ViewError;
 use crate::nodes::NodeOffset;
 use crate::view::View;
@@ -86,6 +89,32 @@ impl<'a> View<'a> {
         match self.find_below(root, &path[1..]) {
             Ok(node) => Ok(node),
             Err(_) => Err(ViewError::BadOffset),
+        }
+    }
+
+    // The text that `/aliases` has under a name.
+    fn alias_text(&self, name: &[u8]) -> Result<Option<&'a [u8]>, ViewError>
+        ensures { (tree : TreeData) → Views self.now tree
+            → IsOkAnd result (λ path. option_copied path ≡ alias_in tree.root name.now) }
+    {
+        let Some(aliases) = self.find(b"/aliases")? else {
+            return Ok(None);
+        };
+        match self.value(aliases, name)? {
+            None => Ok(None),
+            Some(value) => Ok(text(value)),
+        }
+    }
+
+    /// The node at the path that an alias stands for: none where `/aliases` has no such property. Fails with `BadPath` where its text
+    /// is no path.
+    pub fn alias(&self, name: &[u8]) -> Result<Option<NodeOffset>, ViewError>
+        ensures { (tree : TreeData) → Views self.now tree
+            → TellsAlias self.now tree.root (alias_in tree.root name.now) result }
+    {
+        match self.alias_text(name)? {
+            None => Ok(None),
+            Some(path) => self.find(path),
         }
     }
 }
