@@ -1,15 +1,21 @@
 -- What stands before the places that walks come to.
-use Rattle.std.proofs.Common.{◌≡◌, ℕ, zero, suc, ◌+◌, ◌<◌, Bool, true, false, List, [], ◌∷◌, ◌++◌, length, get_or, drop, Option, Some, None, refl, ap, sym, subst, ◌∙◌, arith, append_assoc, add-one}
-use Rattle.std.proofs.lemmas.List.{append-nil, append_cancel_right}
+use Rattle.std.proofs.Common.{◌≡◌, ℕ, zero, suc, ◌+◌, ◌<◌, ◌≤◌, Bool, true, false, List, [], ◌∷◌, ◌++◌, length, get_or, drop, Option, Some, None, refl, ap, sym, subst, ◌∙◌, arith, append_assoc, add-one}
+use Rattle.std.specs.Prelude.{Result}
+use Rattle.std.proofs.lemmas.List.{append-nil, append_cancel_right, at_drop_more, at_drop_all}
 use Rattle.std.specs.Option.{option_map_or}
 use Rattle.std.specs.Str.{bytes_eq}
 use Rattle.dt_tree.specs.declared.property.Property.{Property}
 use Rattle.dt_tree.specs.NodeData.{NodeData, Siblings, none, more}
 use Rattle.dt_tree.specs.PathMap.{child_named}
 use Rattle.dt_blob.specs.Token.{Token, begin_node, end_node, property, nop, end, property_tokens, sibling_tokens, tokens_of}
+use Rattle.dt_view.specs.declared.error.ViewError.{ViewError}
+use Rattle.dt_view.specs.declared.nodes.NodeOffset.{NodeOffset}
 use Rattle.dt_view.specs.declared.view.View.{View}
+use Rattle.dt_view.specs.declared.properties.PlacedProperty.{PlacedProperty}
+use Rattle.dt_view.specs.Places.{IsPlaceOf}
+use Rattle.dt_view.specs.Placing.{TellsPlaced}
 use Rattle.dt_view.specs.Private.Reading.{Finds, StandsNothing, inside_tokens}
-use Rattle.dt_view.specs.Reaching.{Reached, before_child, before_node, before_property}
+use Rattle.dt_view.specs.Reaching.{IsSpelled, Reached, TellsReached, before_child, before_node, before_property}
 use Rattle.dt_view.specs.Standing.{Ahead, StandsAt, ends, ends_properties}
 use Rattle.dt_view.proofs.Descents.{behind_begin, closed, closed_inside, regrouped, the_node}
 
@@ -187,12 +193,12 @@ pub record Leading (view : View) (at : ℕ) (left : List (List ℕ)) (goal : Lis
   pub reached : Reached view at before
   pub is : before ++ before_node node left ≡ goal
 
-pub leading_end : (view : View) (at : ℕ) (left : List (List ℕ)) (goal : List Token) → left ≡ [] → Leading view at left goal → Reached view at goal
-leading_end view at left goal e l =
-    let same : l.before ++ [] ≡ goal = ap (λ (x : List (List ℕ)). l.before ++ before_node l.node x) (sym e) ∙ l.is in
+pub leading_end : (view : View) (at : ℕ) (all : List (List ℕ)) (i : ℕ) (goal : List Token) → length all ≤ i → Leading view at (drop i all) goal → Reached view at goal
+leading_end view at all i goal h l =
+    let same : l.before ++ [] ≡ goal = ap (λ (x : List Token). l.before ++ x) (sym (at_drop_all (before_node l.node) all i h)) ∙ l.is in
     subst (λ (x : List Token). Reached view at x) (sym (append-nil l.before) ∙ same) l.reached
 
-pub leading_step : (view : View) (at child : ℕ) (k : List ℕ) (left later : List (List ℕ)) (goal : List Token) → left ≡ k ∷ later → (l : Leading view at left goal) → (c : NodeData) → child_named l.node.children k ≡ Some c → StandsAt view child c
+leading_step : (view : View) (at child : ℕ) (k : List ℕ) (left later : List (List ℕ)) (goal : List Token) → left ≡ k ∷ later → (l : Leading view at left goal) → (c : NodeData) → child_named l.node.children k ≡ Some c → StandsAt view child c
     → Reached view child (l.before ++ begin_node l.node.name ∷ (property_tokens l.node.properties ++ before_child l.node.children k)) → Leading view child later goal
 leading_step view at child k left later goal e l c f s r =
     let found : option_map_or (λ x. before_node x later) (child_named l.node.children k) [] ≡ before_node c later = ap (λ (o : Option NodeData). option_map_or (λ x. before_node x later) o []) f in
@@ -210,3 +216,71 @@ leading_step view at child k left later goal e l c f s r =
           ∙ ap (λ (x : List Token). l.before ++ x) (sym whole)
           ∙ ap (λ (x : List (List ℕ)). l.before ++ before_node l.node x) (sym e) ∙ l.is;
     }
+
+pub leading_some : (view : View) (at i : ℕ) (names : List (List ℕ)) (k : List ℕ) (child : NodeOffset) (goal : List Token) → (i < length names) × (k ≡ get_or names i k) → ((d : NodeData) → StandsAt view at d → IsPlaceOf view (Some child) (child_named d.children k))
+    → ((d : NodeData) (before : List Token) → StandsAt view at d → Reached view at before → Reached view child.at (before ++ begin_node d.name ∷ (property_tokens d.properties ++ before_child d.children k)))
+    → Leading view at (drop i names) goal → Leading view child.at (drop (i + 1) names) goal
+leading_some view at i names k child goal h c r l =
+    let p = c l.node l.stands in
+    let first : drop i names ≡ k ∷ drop (i + 1) names = at_drop_more (λ (x : List (List ℕ)). x) names i k h.0 ∙ ap (λ (x : List ℕ). x ∷ drop (i + 1) names) (sym h.1) in
+    leading_step view at child.at k (drop i names) (drop (i + 1) names) goal first l (p.0) (p.1) (p.2) (r l.node l.before l.stands l.reached)
+
+-- ---- to a property
+
+pub record Placing (view : View) (at : ℕ) (last : Token) (name : List ℕ) (goal : List Token) : Type 0 where
+  pub properties : List Property
+  pub ahead : Ahead view at (property_tokens properties ++ last ∷ [])
+  pub before : List Token
+  pub reached : Reached view at before
+  pub is : before ++ before_property properties name ≡ goal
+
+same_name : (n v m w : List ℕ) → property n v ≡ property m w → m ≡ n
+same_name n v m w e = cc
+
+first_test : (p : Property) (n v name : List ℕ) (b : Bool) → property n v ≡ property p.name p.value → bytes_eq n name ≡ b → bytes_eq p.name name ≡ b
+first_test p n v name b e h = ap (λ (x : List ℕ). bytes_eq x name) (same_name n v p.name p.value e) ∙ h
+
+pub placing_hit : (view : View) (from at next : ℕ) (t : Token) (n v name : List ℕ) (last : Token) (goal : List Token) → Finds view from t at next → t ≡ property n v → bytes_eq n name ≡ true → ends_properties last ≡ true → Placing view from last name goal → Reached view at goal
+placing_hit view from at next t n v name last goal f e h l w = by_list w.properties w.ahead w.is where
+  by_list : (qs : List Property) → Ahead view from (property_tokens qs ++ last ∷ []) → w.before ++ before_property qs name ≡ goal → Reached view at goal
+  by_list [] a i = absurd (let bad : false ≡ true = ap ends_properties (sym e ∙ (f.ahead last [] a).0) ∙ l in cc bad)
+  by_list (p ∷ ps) a i =
+      let q = f.ahead (property p.name p.value) (property_tokens ps ++ last ∷ []) a in
+      let test : bytes_eq p.name name ≡ true = first_test p n v name true (sym e ∙ q.0) h in
+      let found : before_property (p ∷ ps) name ≡ [] = rw test refl in
+      subst (λ (x : List Token). Reached view at x) (sym (append-nil w.before) ∙ ap (λ (x : List Token). w.before ++ x) (sym found) ∙ i) (f.reach w.before w.reached).0
+
+pub placing_miss : (view : View) (from at next : ℕ) (t : Token) (n v name : List ℕ) (last : Token) (goal : List Token) → Finds view from t at next → t ≡ property n v → bytes_eq n name ≡ false → ends_properties last ≡ true → Placing view from last name goal → Placing view next last name goal
+placing_miss view from at next t n v name last goal f e h l w = by_list w.properties w.ahead w.is where
+  by_list : (qs : List Property) → Ahead view from (property_tokens qs ++ last ∷ []) → w.before ++ before_property qs name ≡ goal → Placing view next last name goal
+  by_list [] a i = absurd (let bad : false ≡ true = ap ends_properties (sym e ∙ (f.ahead last [] a).0) ∙ l in cc bad)
+  by_list (p ∷ ps) a i =
+      let q = f.ahead (property p.name p.value) (property_tokens ps ++ last ∷ []) a in
+      let test : bytes_eq p.name name ≡ false = first_test p n v name false (sym e ∙ q.0) h in
+      let missed : before_property (p ∷ ps) name ≡ property p.name p.value ∷ before_property ps name = rw test refl in
+      record {
+        properties = ps;
+        ahead = q.2;
+        before = w.before ++ t ∷ [];
+        reached = (f.reach w.before w.reached).1;
+        is = append_assoc w.before (t ∷ []) (before_property ps name) ∙ ap (λ (x : Token). w.before ++ x ∷ before_property ps name) (q.0) ∙ ap (λ (x : List Token). w.before ++ x) (sym missed) ∙ i;
+      }
+
+pub is_placed : (view : View) (from at next : ℕ) (t : Token) (n v name : List ℕ) → Finds view from t at next → t ≡ property n v → n ≡ name → IsSpelled view at (property name v) next × (at < next) × (next ≤ length view.structure.now)
+is_placed view from at next t n v name f e s = (subst (λ (x : Token). IsSpelled view at x next) (e ∙ ap (λ (x : List ℕ). property x v) s) f.spelled, f.further, f.inside)
+
+-- ---- at a node
+
+pub reached_begin : (view : View) → Reached view 0 []
+reached_begin view = record { all = []; spells = refl; kept = refl; inside = omega arith }
+
+-- behind a node's beginning
+pub behind_name : (view : View) (answer : Result (Option NodeOffset) ViewError) (before within : List Token) (name own : List ℕ) → own ≡ name → TellsReached view answer ((before ++ begin_node own ∷ []) ++ within)
+    → TellsReached view answer (before ++ begin_node name ∷ within)
+behind_name view answer before within name own e t =
+    subst (λ (x : List Token). TellsReached view answer x) (append_assoc before (begin_node own ∷ []) within ∙ ap (λ (x : List ℕ). before ++ begin_node x ∷ within) e) t
+
+pub placed_behind : (view : View) (answer : Result (Option PlacedProperty) ViewError) (before within : List Token) (name own : List ℕ) → own ≡ name → TellsPlaced view answer ((before ++ begin_node own ∷ []) ++ within)
+    → TellsPlaced view answer (before ++ begin_node name ∷ within)
+placed_behind view answer before within name own e t =
+    subst (λ (x : List Token). TellsPlaced view answer x) (append_assoc before (begin_node own ∷ []) within ∙ ap (λ (x : List ℕ). before ++ begin_node x ∷ within) e) t

@@ -2,6 +2,7 @@ pub mod Aliases
 pub mod Cells
 pub mod Order
 pub mod Places
+pub mod Placing
 pub mod Private
 pub mod Reaching
 pub mod Regions
