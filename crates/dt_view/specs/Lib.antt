@@ -6,5 +6,6 @@ pub mod Placing
 pub mod Private
 pub mod Reaching
 pub mod Regions
+pub mod Reserved
 pub mod Shows
 pub mod Standing
