@@ -1,6 +1,6 @@
 -- What is put so far begins what the text comes to, turn by turn, and how long it is.
-use Rattle.std.proofs.Common.{Global, ◌≡◌, ℕ, zero, suc, ◌+◌, ◌*◌, ◌-◌, ◌<◌, ◌≤◌, Bool, true, false, eqb, List, [], ◌∷◌, ◌++◌, length, take, drop, refl, sym, ap, subst, ◌∙◌, arith}
-use Rattle.std.specs.Prelude.{Vec, ◌==◌, if◌then◌else◌, codes}
+use Rattle.std.proofs.Common.{Global, ◌≡◌, ℕ, zero, suc, ◌+◌, ◌*◌, ◌-◌, ◌<◌, ◌≤◌, Bool, true, false, eqb, List, [], ◌∷◌, ◌++◌, length, drop, refl, sym, ap, subst, ◌∙◌, arith}
+use Rattle.std.specs.Prelude.{Vec, if◌then◌else◌, codes}
 use Rattle.std.specs.Fmt.{decimal}
 use Rattle.std.proofs.lemmas.Bool.{eqb-true}
 use Rattle.std.proofs.lemmas.List.{append-nil, append_assoc, length-append}
@@ -14,9 +14,9 @@ use Rattle.dt_include.specs.declared.inclusion.Whole.{Whole}
 use Rattle.dt_include.specs.declared.words.Inclusion.{Inclusion}
 use Rattle.dt_include.specs.declared.words.Inclusion.TheVariants.{Binary, Source}
 use Rattle.dt_include.specs.Inclusion.{Includes, Piece, itself, named, plain, text_of}
-use Rattle.dt_include.specs.Private.Included.{Adds, Behind, Completes, Goes, IsPassed, IsTaken, IsTurned, PassedBy, PutsFrom, PutsTo, TurnsTo, behind_words, first_marker, first_put, not_yet, passed_text, place_on, stands_for, stay, wanting, words_of}
+use Rattle.dt_include.specs.Private.Included.{Adds, Behind, Completes, Goes, IsPassed, IsTaken, IsTurned, PassedBy, PutsFrom, PutsTo, TurnsTo, behind_words, first_marker, first_put, not_yet, passed_text, stands_for, stay, wanting, words_of}
 use Rattle.dt_include.specs.Shortfall.{IsTooLong, Puts, before_words, file, inside, nothing, past_binary, past_source, whole}
-use Rattle.dt_include.specs.UserLines.{UserPlace, marker_line, marker_of, plain_of}
+use Rattle.dt_include.specs.UserLines.{UserPlace, marker_line, plain_of}
 use Rattle.dt_include.specs.Words.{HasNext, HoldsNone}
 use Rattle.dt_include.proofs.OpenFiles.{Reading, all_of, before-five, before-four, before-three, binary_turns, done, ended, found_by, left_of, long_words, no_files, path_of, put_by, reached_place, rest_of, some_words, source_turns, split, stands}
 use Rattle.dt_include.proofs.Pieces.{adds_both, text-append}

@@ -1,5 +1,5 @@
 -- The places that reading comes to, turn by turn, and why it stops at one.
-use Rattle.std.proofs.Common.{Global, ◌≡◌, ℕ, ◌+◌, ◌-◌, List, [], ◌∷◌, ◌++◌, length, take, drop, Result, Ok, Err, IfErr, OnOk, sym, ap, subst, inl, inr, ◌∙◌, arith}
+use Rattle.std.proofs.Common.{Global, ◌≡◌, ℕ, ◌+◌, List, [], ◌∷◌, ◌++◌, length, drop, Result, Ok, Err, IfErr, OnOk, sym, ap, subst, inl, inr, ◌∙◌, arith}
 use Rattle.std.specs.Prelude.{Vec, if◌then◌else◌}
 use Rattle.std.specs.Result.{is_ok}
 use Rattle.std.proofs.lemmas.List.{append-nil, append_assoc, length-append}
@@ -245,17 +245,3 @@ module _ (Finds : List ℕ → List ℕ → Found → Type 0) where
           let e : 1 + length frames ≡ length frames + 1 = omega arith in
           kept reason told keeps
           (stuck old new turn (length frames + 1) reason (subst (λ (k : ℕ). Reaches Finds path text k old.path.items (left_in old)) e (innermost frames old h)) m wrong)
-
--- ---- one file more
-
-pushed_one : (frames : List Frame) (pushed : Vec Frame Global) (frame : Frame) → pushed.items ≡ frames ++ frame ∷ [] → pushed.len ≡ length frames + 1
-pushed_one frames pushed frame is = omega (arith, pushed.ok.0, ap length is, length-append frames (frame ∷ []))
-
-pub nests_in : (frames : List Frame) (pushed : Vec Frame Global) (frame : Frame) (turn : Turn) (found : Found) → turn ≡ Into found → pushed.items ≡ frames ++ frame ∷ [] → MayNest pushed.len
-    → Nests (length frames + 1) turn
-nests_in frames pushed frame turn found is push h = subst (Nests (length frames + 1)) (sym is) (subst MayNest (pushed_one frames pushed frame push) h)
-
-pub stuck_in : (frames : List Frame) (pushed : Vec Frame Global) (frame : Frame) (turn : Turn) (found : Found) (reason : Incomplete) → turn ≡ Into found → pushed.items ≡ frames ++ frame ∷ []
-    → Exceeds pushed.len reason → IsStuck (length frames + 1) turn reason
-stuck_in frames pushed frame turn found reason is push h =
-    subst (λ (t : Turn). IsStuck (length frames + 1) t reason) (sym is) (subst (λ (n : ℕ). Exceeds n reason) (pushed_one frames pushed frame push) h)

@@ -1,13 +1,13 @@
 -- The words that name a file, one by one, and what stands at the front of a text.
 use Rattle.std.proofs.Common.{◌≡◌, ℕ, zero, suc, ◌<◌, ◌≤◌, Bool, true, false, eqb, nat_eq, List, [], ◌∷◌, length, take, drop, Option, Some, None, refl, sym, ap, subst, ◌∙◌, arith}
-use Rattle.std.specs.Prelude.{◌≢◌, ◌&&◌, ◌||◌, codes, not}
+use Rattle.std.specs.Prelude.{◌≢◌, ◌&&◌, ◌||◌, codes}
 use Rattle.std.specs.Cmp.Lexicographic.{as_long, pointwise}
 use Rattle.std.proofs.lemmas.Bool.{eqb-true}
 use Rattle.std.proofs.lemmas.List.{length-drop, length-take}
 use denote.Ref.{Bor}
 use Rattle.dt_lexeme.specs.Bytes.{begins}
 use Rattle.dt_lexeme.specs.Fronts.{Front, closes}
-use Rattle.dt_lexeme.specs.Gaps.{Gap, IsGap, NoGap, begins_comment, begins_line, begins_plain_line, blank, comment, line, line_end, nothing}
+use Rattle.dt_lexeme.specs.Gaps.{Gap, IsGap, NoGap, begins_comment, begins_plain_line, blank, comment, line, line_end, nothing}
 use Rattle.dt_lexeme.specs.declared.language.Language.TheVariants.{Dtc}
 use Rattle.dt_lexeme.proofs.GapEnds.{comment_shorter, gap_shorter, line_shorter, one_end}
 use Rattle.dt_include.specs.Bytes.{passes, run_of}
@@ -23,9 +23,6 @@ use Rattle.dt_include.proofs.Runs.{run_no, run_yes}
 pub no_sign : (c : ℕ) (s left : List ℕ) → IsGap Dtc s left → begins c left ≡ false → (t : List ℕ) → Sign c s t → ⊥
 no_sign c s left h e t k = cc (ap (begins c) (one_end Dtc s left k.start h k.gap), e, k.sign)
 
-pub never_sign : (c : ℕ) (s : List ℕ) → ((t : List ℕ) → IsGap Dtc s t → ⊥) → (t : List ℕ) → Sign c s t → ⊥
-never_sign c s h t k = h k.start k.gap
-
 pub no_quote : (s left : List ℕ) → IsGap Dtc s left → begins 34 left ≡ false → (name t : List ℕ) → Quoted s name t → ⊥
 no_quote s left h e name t k = cc (ap (begins 34) (one_end Dtc s left k.start h k.gap), e, k.quote)
 
@@ -33,9 +30,6 @@ pub no_end : (s left : List ℕ) → IsGap Dtc s left → Front (closes 34 true)
 no_end s left h f name t k =
     let g = subst (λ (u : List ℕ). Front (closes 34 true) u None) (one_end Dtc s left k.start h k.gap) f in
     cc (g k.len k.string.within, k.string.is)
-
-pub never_quoted : (s : List ℕ) → ((t : List ℕ) → IsGap Dtc s t → ⊥) → (name t : List ℕ) → Quoted s name t → ⊥
-never_quoted s h name t k = h k.start k.gap
 
 one_sign : (c : ℕ) (s t u : List ℕ) → Sign c s t → Sign c s u → t ≡ u
 one_sign c s t u h k = h.rest_is ∙ ap (drop 1) (one_end Dtc s h.start k.start h.gap k.gap) ∙ sym k.rest_is

@@ -1,4 +1,4 @@
-use Rattle.std.proofs.Common.{List, ℕ, ◌++◌, ap, drop, take, refl, ◌∙◌, arith}
+use Rattle.std.proofs.Common.{◌++◌, ap, drop, take, refl, ◌∙◌, arith}
 use Rattle.dt_include.specs.declared.inclusion.Frame.{Frame}
 use Rattle.dt_include.specs.declared.inclusion.Whole.{Whole}
 use Rattle.dt_include.proofs.OpenFiles.{not_passed, replaced, staying}

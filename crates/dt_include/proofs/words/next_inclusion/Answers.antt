@@ -1,5 +1,5 @@
-use Rattle.std.proofs.Common.{List, ℕ, subst, inl, inr}
-use Rattle.dt_include.specs.Words.{Passes, nothing}
+use Rattle.std.proofs.Common.{inl, inr}
+use Rattle.dt_include.specs.Words.{nothing}
 use Rattle.dt_include.proofs.WordsHere.{empty_is, words_next}
 use Rattle.dt_include.proofs.words.next_inclusion.Goals as goal
 
