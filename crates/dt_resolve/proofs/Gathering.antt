@@ -37,7 +37,7 @@ use Rattle.dt_resolve.specs.declared.node_phandles.NodePhandle.{NodePhandle}
 use Rattle.dt_resolve.specs.BuildFault.{IsFault}
 use Rattle.dt_resolve.specs.Gathered.{HaveStood, IsAmong, IsGathered, all_gathered}
 use Rattle.dt_resolve.specs.NodePhandles.{path_phandle_of}
-use Rattle.dt_resolve.specs.Targets.{IsThere}
+use Rattle.dt_resolve.specs.Targets.{IsKnown, IsThere}
 use Rattle.dt_resolve.specs.Private.Gathering.{Extends, IsAsFound, IsFixed, IsNumbered, IsWithout, all_numbers, fixed_in, founds_in, paths_in, phandles_in, whole}
 use Rattle.dt_resolve.specs.Private.Gone.{IsThereIn, LeavesRows, gone_rows, is_marked, left_of}
 use Rattle.dt_resolve.specs.Private.SymbolNumbers.{left_numbers, symbol_numbers}
@@ -60,6 +60,16 @@ fixed-fault false s e is fault = absurd (true≢false (sym is))
 counted-fixed : (n : ℕ) (s : State (List Piece)) (plugin : Bool) → fixed_up plugin (counted n s) ≡ fixed_up plugin s
 counted-fixed n s true = ap (λ r. then_do r (λ ds. Ok (filter (λ x. not (asks_for_own x)) ds))) (counted-references n s true)
 counted-fixed n s false = refl
+
+-- targets that stand pass
+one-among : (d : LiveTree Parts) (test : ℕ → Bool) → ((n : ℕ) → IsNode d n → is_standing d n ≡ true → test n ≡ true) → (t : Option ℕ) → IsKnown d t × IsThere d t → IsAmong test t
+one-among d test up None h = tt
+one-among d test up (Some n) h = up n h.0 h.1
+
+pub anew-among : (d : LiveTree Parts) (test : ℕ → Bool) → ((n : ℕ) → IsNode d n → is_standing d n ≡ true → test n ≡ true) → (ts : List (Option ℕ)) → All (IsKnown d) ts → All (IsThere d) ts → All (IsAmong test) ts
+anew-among d test up ts known there =
+    each-all (IsAmong test) ts
+    (each-more (λ t. IsKnown d t × IsThere d t) (IsAmong test) ts (one-among d test up) (each-both (IsKnown d) (IsThere d) ts (each-of (IsKnown d) ts known) (each-of (IsThere d) ts there)))
 
 -- ---- faults
 fault-more : {A B C : Type 0} (e : BuildError) (r : Result A Fault) (f : A → Result B Fault) (k : A → B → Result C Fault) → IsFault e (then_do r f) → IsFault e (then_do r (λ a. then_do (f a) (k a)))
@@ -242,6 +252,15 @@ module _ (symbols plugin : Bool) (t : DtcTree) (s : Standing) (of : IsStandingOf
       among-of None up = tt
       among-of (Some n) up = up
 
+      targets-among : All (IsAmong (is_standing d)) now.targets.items
+      targets-among = without.among (is_standing d) (each-all (IsAmong (is_standing d)) x.rest.targets.items
+          (each-more (IsThere d) (IsAmong (is_standing d)) x.rest.targets.items among-of (each-of (IsThere d) x.rest.targets.items numbered.there)))
+
+      still-there : (n : ℕ) → IsNode new n → is_standing new n ≡ true → is_standing d n ≡ true
+      still-there n known up =
+          let inside : n ≤ length d.nodes.items = omega (arith, known, without.rows.rows.count) in
+          (and_parts (is_standing d n) (is_left (paths_in d gone) (node_path d n)) (sym (without.rows.rows.stand n inside) ∙ up)).0
+
       have-stood : HaveStood (rest_of G (dtc_state t)).nodes (whole new gathering)
       have-stood = record {
         stood = is_standing d;
@@ -249,11 +268,9 @@ module _ (symbols plugin : Bool) (t : DtcTree) (s : Standing) (of : IsStandingOf
             one-node d.nodes.items (row_of d.node_rows) of.sound.grown of.sound.nodes n n m (omega arith) a b
             (sym (without.rows.rows.paths n) ∙ same ∙ without.rows.rows.paths m);
         left = left-listed;
-        still = λ n known up.
-            let inside : n ≤ length d.nodes.items = omega (arith, known, without.rows.rows.count) in
-            (and_parts (is_standing d n) (is_left (paths_in d gone) (node_path d n)) (sym (without.rows.rows.stand n inside) ∙ up)).0;
-        targets = without.among (is_standing d) (each-all (IsAmong (is_standing d)) x.rest.targets.items
-            (each-more (IsThere d) (IsAmong (is_standing d)) x.rest.targets.items among-of (each-of (IsThere d) x.rest.targets.items numbered.there)));
+        still = still-there;
+        targets = targets-among;
+        anew = fixed.among (is_standing d) still-there targets-among;
         given = numbered.owners.stand;
         new = numbers-stood;
       }

@@ -1,3 +1,4 @@
+pub mod OwnNumbers
 pub mod Counted
 pub mod EachSteps
 pub mod Faults

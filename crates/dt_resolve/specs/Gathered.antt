@@ -47,6 +47,7 @@ pub record HaveStood (rest : List Path) (x : Gathered) : Type 0 where
   pub left : (n : ℕ) → stood n ≡ true → is_standing x.live n ≡ is_listed (node_path x.live n) ([] ∷ rest)
   pub still : (n : ℕ) → IsNode x.live n → is_standing x.live n ≡ true → stood n ≡ true
   pub targets : All (IsAmong stood) x.targets.items
+  pub anew : All (IsAmong stood) (targets_anew x.targets.items x.anew)
   pub given : All (λ y. stood y.node ≡ true) x.given.items
   pub new : All (λ y. stood y.node ≡ true) x.new.items
 

@@ -1,4 +1,5 @@
 -- What private contracts cite. No public clause rests on it.
+pub mod CellOf
 pub mod Filled
 pub mod Gathering
 pub mod GivenByBoth

@@ -1,7 +1,7 @@
 -- What lists of targets stand for (Devicetree Specification v0.4, section 6.3).
-use Rattle.std.specs.Prelude.{◌≡◌, ℕ, true, List, [], ◌∷◌, map, Option, Some, None, option_map}
+use Rattle.std.specs.Prelude.{◌≡◌, ◌==◌, ℕ, true, List, [], ◌∷◌, map, Option, Some, None, option_map}
 use Rattle.std.specs.List.{flat_map}
-use Rattle.dt_meaning.specs.Paths.{Path}
+use Rattle.dt_meaning.specs.Paths.{Path, same_path}
 use Rattle.dt_meaning.specs.Edits.{Definition}
 use Rattle.dt_meaning.specs.References.{Found, Bytes, Cell, Open, PathText}
 use Rattle.dt_meaning.specs.Phandles.{named_in_cells}
@@ -30,3 +30,8 @@ IsKnown d (Some n) = IsNode d n
 abbrev pub IsThere : LiveTree Parts → Option ℕ → Type 0
 IsThere d None = Unit {0}
 IsThere d (Some n) = is_standing d n ≡ true
+
+-- a target is a node itself where it has its path, and else another
+abbrev pub IsToldApart : LiveTree Parts → ℕ → Option ℕ → Type 0
+IsToldApart d n None = Unit {0}
+IsToldApart d n (Some m) = (m == n) ≡ same_path (node_path d n) (node_path d m)

@@ -23,7 +23,7 @@ pub(crate) struct Numbers {
     pub(crate) of_nodes: Vec<Option<u32>>,
 }
 
-fn is_phandle_name(name: &[u8]) -> bool
+pub(crate) fn is_phandle_name(name: &[u8]) -> bool
     ensures { result ≡ meaning.is_phandle_name name.now }
 {
     name == b"phandle".as_slice() || name == b"linux,phandle".as_slice()

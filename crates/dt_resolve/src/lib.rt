@@ -3,6 +3,7 @@
 //! The Devicetree Specification v0.4, chapter 6 and section 2.3.3, and `dt_meaning` say what a source means.
 #![tactic(auto)]
 
+mod asking;
 mod error;
 mod gathered;
 mod given_by_both;
@@ -20,6 +21,7 @@ mod resolving;
 mod symbol_numbers;
 mod wanted;
 
+pub use asking::asks_for_own;
 pub use error::BuildError;
 pub use gathered::{Gathered, gather};
 pub use laws::phandles_in_order;

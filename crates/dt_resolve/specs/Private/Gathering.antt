@@ -82,9 +82,14 @@ fixed_in plugin d x anew =
 abbrev pub IsAsFound : Bool → List ℕ → LiveTree Parts → Rest → Type 0
 IsAsFound plugin gone d x = gone ≡ [] → references plugin (tree_of d) ≡ Ok (founds_in d x)
 
+-- where each node that stands passes, and each target found before, so does each of these
+abbrev pub AreAmong : LiveTree Parts → List (Option ℕ) → List (Option ℕ) → Type 0
+AreAmong d ts us = (test : ℕ → Bool) → ((n : ℕ) → IsNode d n → is_standing d n ≡ true → test n ≡ true) → All (IsAmong test) ts → All (IsAmong test) us
+
 pub record IsFixed (plugin : Bool) (d : LiveTree Parts) (x : Rest) (anew : Option (Vec (Option ℕ) Global)) : Type 0 where
   pub fixed : fixed_up plugin (tree_of d) ≡ Ok (fixed_in plugin d x anew)
   pub targets : All (IsKnown d) (targets_anew x.targets.items anew)
+  pub among : AreAmong d x.targets.items (targets_anew x.targets.items anew)
 
 abbrev pub FindsAnew : Bool → List ℕ → LiveTree Parts → Rest → Result (Option (Vec (Option ℕ) Global)) BuildError → Type 0
 FindsAnew plugin gone d x result = IsAsFound plugin gone d x → MatchResult result (IsFixed plugin d x) (λ e. IsFault e (fixed_up plugin (tree_of d)))

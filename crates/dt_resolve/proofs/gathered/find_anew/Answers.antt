@@ -7,7 +7,7 @@ use Rattle.dt_resolve.specs.Founds.{found_properties}
 use Rattle.dt_resolve.specs.Private.ReadProperty.{read_property}
 use Rattle.dt_resolve.proofs.Faults.{fault-same}
 use Rattle.dt_resolve.proofs.FoundProperties.{properties-found}
-use Rattle.dt_resolve.proofs.Gathering.{fixed-fault, fixed-true}
+use Rattle.dt_resolve.proofs.Gathering.{anew-among, fixed-fault, fixed-true}
 use Rattle.dt_resolve.proofs.ReadOrder.{read-order}
 use Rattle.dt_resolve.proofs.gathered.find_anew.Goals as goal
 
@@ -24,6 +24,7 @@ returns-in-Ok c found =
     record {
       fixed = fixed-true c.args.plugin (tree_of d) (found_properties (node_path d) xs ts) c.if-not-plugin.false all;
       targets = c.in-Ok.ensures.known.all_known;
+      among = λ test up all. anew-among d test up ts c.in-Ok.ensures.known.all_known c.in-Ok.ensures.known.all_there;
     }
 
 pub returns-in-Err : goal.returns-in-Err
