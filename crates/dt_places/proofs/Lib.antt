@@ -9,6 +9,7 @@ pub mod NodesRemoved
 pub mod Owners
 pub mod PlaceClimbs
 pub mod PlaceLists
+pub mod PlacesDown
 pub mod PropertyEdits
 pub mod RowTables
 pub mod SeenRows
