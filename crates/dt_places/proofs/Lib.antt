@@ -1,3 +1,4 @@
+pub mod Chains
 pub mod LabelEdits
 pub mod NewNodes
 pub mod NewTree
@@ -13,3 +14,4 @@ pub mod PlacesDown
 pub mod PropertyEdits
 pub mod RowTables
 pub mod SeenRows
+pub mod Values
