@@ -1,3 +1,4 @@
+pub mod Chains
 pub mod LabelEdits
 pub mod NewNodes
 pub mod NewTree
@@ -9,6 +10,8 @@ pub mod NodesRemoved
 pub mod Owners
 pub mod PlaceClimbs
 pub mod PlaceLists
+pub mod PlacesDown
 pub mod PropertyEdits
 pub mod RowTables
 pub mod SeenRows
+pub mod Values

@@ -1,4 +1,5 @@
 pub mod PlacedEdits
 pub mod PlacedTrees
+pub mod References
 pub mod Rows
 pub mod Tables

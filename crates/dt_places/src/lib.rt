@@ -5,6 +5,7 @@ mod error;
 mod labels;
 mod marks;
 mod nodes;
+mod paths;
 mod place;
 mod placed_tree;
 mod properties;
