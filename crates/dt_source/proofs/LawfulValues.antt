@@ -129,7 +129,7 @@ join_lawful (b ∷ bs) (PhandleOf t ∷ ps) h = (tt, h)
 join_lawful (b ∷ bs) (PathOf t ∷ ps) h = (tt, h)
 join_lawful (b ∷ bs) (Stored at o n ∷ ps) h = (tt, h)
 
-joined_lawful : (ps : List Piece) → AllPieces ps → AllPieces (joined ps)
+pub joined_lawful : (ps : List Piece) → AllPieces ps → AllPieces (joined ps)
 joined_lawful [] h = tt
 joined_lawful (Plain bs ∷ ps) h = join_lawful bs (joined ps) (joined_lawful ps h.1)
 joined_lawful (PhandleOf t ∷ ps) h = (h.0, joined_lawful ps h.1)
@@ -207,7 +207,7 @@ join_joined (b ∷ bs) (PhandleOf t ∷ ps) h = h
 join_joined (b ∷ bs) (PathOf t ∷ ps) h = h
 join_joined (b ∷ bs) (Stored at o n ∷ ps) h = h
 
-all_joined : (ps : List Piece) → are_joined (joined ps) ≡ true
+pub all_joined : (ps : List Piece) → are_joined (joined ps) ≡ true
 all_joined [] = refl
 all_joined (Plain bs ∷ ps) = join_joined bs (joined ps) (all_joined ps)
 all_joined (PhandleOf t ∷ ps) = all_joined ps

@@ -1,5 +1,5 @@
 -- Parts of files that are read are spelled, and the other way round.
-use Rattle.std.proofs.Common.{◌≡◌, ℕ, ◌<◌, List, [], ◌∷◌, ◌++◌, length, Ok, Option, Some, None, refl, sym, ap, subst, ◌∙◌, arith}
+use Rattle.std.proofs.Common.{◌≡◌, ℕ, ◌<◌, List, [], ◌∷◌, ◌++◌, length, Ok, Option, Some, None, refl, ap, subst, ◌∙◌, arith}
 use Rattle.dt_lexeme.specs.declared.lexeme.Lexeme.{Lexeme}
 use Rattle.dt_lexeme.specs.declared.lexeme.Fault.{Fault}
 use Rattle.dt_lexeme.specs.declared.lexeme.Kind.{Kind}
@@ -14,7 +14,7 @@ use Rattle.dt_source.specs.Pieces.{fault_in, portion_pieces}
 use Rattle.dt_source.specs.Order.{first_of}
 use Rattle.dt_source.specs.Reading.Several.{earlier}
 use Rattle.dt_source.specs.Reading.Files.{paren_kind, paren_at, end_paren_kind, end_paren_at, separator_kind, separator_at, file_name_by, file_name_at, both_at, portion_by, portion_at, portion_fault, included_at}
-use Rattle.dt_source.specs.Source.{PortionTree, Whole, Portion, PieceTree, Includes, One, SpellsPortion, SpellsPiece, fault_list, portion_values, portion_faults, piece_said, piece_faults}
+use Rattle.dt_source.specs.Source.{PortionTree, Whole, Portion, Includes, One, SpellsPortion, SpellsPiece, fault_list, portion_values, portion_faults, piece_said, piece_faults}
 use Rattle.dt_expression.proofs.Sound.{bind_ok, done, ok_is}
 use Rattle.dt_expression.proofs.Complete.{begins_shorter, shorter}
 use Rattle.dt_expression.proofs.Trees.{reads_what_is_spelled, reads_all_that_is_spelled}

@@ -7,3 +7,4 @@ pub mod Bodies
 pub mod Loops
 pub mod Whole
 pub mod Returned
+pub mod Filling

@@ -3,11 +3,13 @@
 //! The Devicetree Specification v0.4, chapter 6, is their grammar.
 #![tactic(auto)]
 
+mod binary;
 mod body;
 mod cell;
 mod cells;
 mod error;
 mod file_parts;
+mod filling;
 mod labels;
 mod lawful;
 mod marks;
@@ -24,6 +26,7 @@ mod spelling;
 mod string;
 mod tree;
 
+pub use binary::Binary;
 pub use body::MAX_BODY_DEPTH;
 pub use error::{SourceError, SourceErrorKind};
 pub use labels::Labels;

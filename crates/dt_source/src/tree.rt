@@ -7,7 +7,11 @@ ghost use Rattle.dt_source.specs.Lawful.{IsLawfulEdit};
 ghost use Rattle.dt_source.specs.Counts.{how_many};
 ghost use Rattle.dt_source.specs.LawfulOnce.{edits_once};
 
+use crate::binary::Binary;
+use crate::filling::fill_items;
 use crate::labels::Labels;
+use dt_lexeme::ReadError;
+use std::alloc::Global;
 
 /// What a reference names: a label, or the path of a node.
 #[derive(Drop)]
@@ -88,6 +92,31 @@ pub struct Source<'a> {
     pub items: Vec<Item<'a>>,
     pub ghost lawful: { All IsLawfulEdit (map item_view items.items) } by { edits_once (map item_view items.items) },
     pub ghost few: { how_many (map item_view items.items) ≤ text_limit },
+}
+
+impl<'a> Source<'a> {
+    ghost use Rattle.dt_source.specs.Filled.{filled};
+    ghost use Rattle.dt_source.specs.Meaning.{meaning_of};
+    ghost use Rattle.dt_source.specs.Reading.Several.{Reads};
+
+    /// The source with its parts of files filled in, by the files in the order of the text, each at the place of its `/incbin/`.
+    /// Where the next file is of another place, or none is left, that `/incbin/` is refused. Of a whole file nothing is copied.
+    pub fn fill(self, alloc: Global, binaries: Vec<Binary>) -> Result<Source<'a>, ReadError>
+        ensures { Reads (λ s. meaning_of s) result (filled binaries.items (meaning_of self.entry)) }
+    {
+        let Source {
+            plugin,
+            reserves,
+            mut items,
+        } = self;
+        let mut left = binaries.into_iter();
+        fill_items(alloc, &mut left, &mut items)?;
+        Ok(Source {
+            plugin,
+            reserves,
+            items,
+        })
+    }
 }
 
 impl Source<'_> {
