@@ -2,4 +2,5 @@ pub mod PlacedEdits
 pub mod PlacedTrees
 pub mod References
 pub mod Rows
+pub mod Shown
 pub mod Tables
