@@ -53,13 +53,9 @@ fn answer(rt: &impl Abort, alloc: Global, hasher: RandomState, properties: &str)
     let reference = Reference::read(alloc, KNOWN.as_bytes()).expect(rt, "a reference set");
     let mut selection = Selection::usual(alloc).expect(rt, "memory");
     selection.ask_unknown(Kind::Warning).expect(rt, "memory");
-    let asked = Asked {
-        file: b"x",
-        text: b"",
-        reference: &reference,
-        shape: Shape::Plain,
-        quiet: 0,
-    };
+    let asked = Asked::of(b"x", &reference)
+        .in_text(b"")
+        .shaped(Shape::Plain, 0);
     check_tree(alloc, hasher, &tree, &selection, asked)
         .expect(rt, "memory")
         .text
