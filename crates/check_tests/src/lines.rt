@@ -114,13 +114,9 @@ fn answer(rt: &impl Abort, alloc: Global, hasher: RandomState, row: &Row) -> Ans
     let tree = tree_of(rt, alloc, hasher, SOURCE);
     let selection = selected(rt, alloc, row.options);
     let reference = Reference::new(alloc);
-    let asked = Asked {
-        reference: &reference,
-        file: b"x",
-        text: b"",
-        shape: row.shape,
-        quiet: row.quiet,
-    };
+    let asked = Asked::of(b"x", &reference)
+        .in_text(b"")
+        .shaped(row.shape, row.quiet);
     check_tree(alloc, hasher, &tree, &selection, asked).expect(rt, "memory")
 }
 

@@ -1,7 +1,7 @@
 //! Rows of the checks that dtc doesn't have, in the form of the other rows.
 
 use crate::checks::{placed, tree_of};
-use dt_check_table::{BadReference, Kind, Reference, Selection, is_within};
+use dt_check_table::{BadReference, Kind, Reference, Selection, is_near};
 use dtman_check::{Asked, Shape, check_tree};
 use std::alloc::Global;
 use std::hash::RandomState;
@@ -53,13 +53,9 @@ fn answer(rt: &impl Abort, alloc: Global, hasher: RandomState, properties: &str)
     let reference = Reference::read(alloc, KNOWN.as_bytes()).expect(rt, "a reference set");
     let mut selection = Selection::usual(alloc).expect(rt, "memory");
     selection.ask_unknown(Kind::Warning).expect(rt, "memory");
-    let asked = Asked {
-        file: b"x",
-        text: b"",
-        reference: &reference,
-        shape: Shape::Plain,
-        quiet: 0,
-    };
+    let asked = Asked::of(b"x", &reference)
+        .in_text(b"")
+        .shaped(Shape::Plain, 0);
     check_tree(alloc, hasher, &tree, &selection, asked)
         .expect(rt, "memory")
         .text
@@ -88,14 +84,28 @@ fn rows_of_unknown_properties(rt: HostRuntime) {
     }
 }
 
+/// Two names, and whether two letters or less are between them.
+const NAMES: &[(&str, &str, bool)] = &[
+    ("reg", "reg", true),
+    ("reg", "regs", true),
+    ("regs", "reg", true),
+    ("reg", "egs", true),
+    ("clocks", "colcks", true),
+    ("kitten", "mitte", true),
+    ("kitten", "sitting", false),
+    ("", "ab", true),
+    ("", "abc", false),
+    ("abc", "", false),
+];
+
 #[test]
 fn letters_between_names(rt: HostRuntime) {
-    assert!(rt; is_within(0, b"reg", b"reg"));
-    assert!(rt; !is_within(0, b"reg", b"regs"));
-    assert!(rt; is_within(1, b"reg", b"regs"));
-    assert!(rt; is_within(2, b"kitten", b"mitte"));
-    assert!(rt; !is_within(2, b"kitten", b"sitting"));
-    assert!(rt; is_within(3, b"kitten", b"sitting"));
+    for (one, other, wanted) in NAMES {
+        assert!(&rt;
+            is_near(one.as_bytes(), other.as_bytes()) == *wanted,
+            "{one} {other}"
+        );
+    }
 }
 
 #[test]

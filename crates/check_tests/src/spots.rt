@@ -70,13 +70,9 @@ fn answer(rt: &impl Abort, alloc: Global, hasher: RandomState, row: &Row) -> Ans
         assert!(rt; known, "{word}");
     }
     let reference = Reference::new(alloc);
-    let asked = Asked {
-        reference: &reference,
-        file: b"x.dts",
-        text: TEXT.as_bytes(),
-        shape: row.shape,
-        quiet: 0,
-    };
+    let asked = Asked::of(b"x.dts", &reference)
+        .in_text(TEXT.as_bytes())
+        .shaped(row.shape, 0);
     check_tree(alloc, hasher, &tree, &selection, asked).expect(rt, "memory")
 }
 

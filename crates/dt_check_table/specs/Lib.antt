@@ -1,5 +1,4 @@
 pub mod Finding
 pub mod Found
-pub mod Near
 pub mod Rules
 pub mod Selected

@@ -62,7 +62,7 @@ changed_from entries c place (l ∷ ls) = changed_at entries c place l ∷ chang
 
 -- what is so already stays as it is, with all that goes along
 abbrev pub is_done : List Level → Change → Bool
-is_done ls c = is_so c.kind (level_at ls c.check) == c.on
+is_done ls c = if c.on then is_so c.kind (level_at ls c.check) else not (is_so c.kind (level_at ls c.check))
 
 abbrev pub changed : Change → SelectionData → SelectionData
 changed c s =

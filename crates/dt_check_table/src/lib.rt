@@ -16,7 +16,7 @@ mod unknown;
 pub use check::{Check, Finds, Severity};
 pub use finding::Finding;
 pub use finding_all::find;
-pub use near::is_within;
+pub use near::is_near;
 pub use reference::{BadReference, Reference, Row, list_of};
 pub use rule::{LinkRule, PropertyRule, Rule};
 pub use run::{Report, run_checks};

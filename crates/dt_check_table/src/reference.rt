@@ -53,6 +53,17 @@ fn row_of(line: &[u8]) -> Option<Row<'_>> {
     })
 }
 
+// How many rows at the front are of a list.
+fn count_of(rows: &[Row<'_>], compatible: &[u8]) -> usize {
+    let other = rows.iter().position(|row| row.compatible != compatible);
+    other.unwrap_or(rows.len())
+}
+
+// How many rows in order are before those of a list.
+fn count_before(rows: &[Row<'_>], compatible: &[u8]) -> usize {
+    rows.partition_point(|row| row.compatible < compatible)
+}
+
 impl<'r> Reference<'r> {
     /// Of no boards.
     pub fn new(alloc: Global) -> Self {
@@ -82,20 +93,14 @@ impl<'r> Reference<'r> {
         self.rows.get(place).copied()
     }
 
-    // How many rows are before those of a list.
-    fn first_of(&self, compatible: &[u8]) -> usize {
-        self.rows.partition_point(|row| row.compatible < compatible)
-    }
-
     /// The rows of a list: the place of the first, and they themselves.
     pub fn rows_of(&self, compatible: &[u8]) -> (usize, &[Row<'r>]) {
-        let first = self.first_of(compatible);
+        let first = count_before(self.rows.as_slice(), compatible);
         let rest = self.rows.get(first..).unwrap_or(&[]);
-        let count = rest
-            .iter()
-            .position(|row| row.compatible != compatible)
-            .unwrap_or(rest.len());
-        (first, rest.get(..count).unwrap_or(rest))
+        (
+            first,
+            rest.get(..count_of(rest, compatible)).unwrap_or(rest),
+        )
     }
 }
 

@@ -81,6 +81,7 @@ impl<'t> Run<'t> {
                 return Ok(());
             }
             match row.finds {
+                Finds::Nothing => {}
                 Finds::Units(counted) => {
                     find_units(alloc, &mut self.findings, check, counted, survey)?;
                 }

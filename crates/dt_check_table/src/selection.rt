@@ -84,6 +84,12 @@ impl Level {
     }
 }
 
+fn any_asked(levels: &[Level], least: Least) -> bool
+    ensures { result ≡ list_any (is_asked least) levels.now }
+{
+    levels.iter().any(|level| level.is_asked(least))
+}
+
 fn usual(severity: Severity) -> Level
     ensures { result ≡ usual severity }
 {
@@ -247,19 +253,20 @@ impl Selection {
     pub fn is_empty(&self, least: Least) -> bool
         ensures { result ≡ not (list_any (is_asked least) self.now.levels) }
     {
-        !self.levels.iter().any(|level| level.is_asked(least))
+        !any_asked(self.levels.as_slice(), least)
     }
 
     fn is_done(&self, change: Change) -> bool
         ensures { result ≡ is_done self.now.levels change }
     {
-        self.level(change.check).is_so(change.kind) == change.on
+        let is_so = self.level(change.check).is_so(change.kind);
+        if change.on { is_so } else { !is_so }
     }
 
     /// Does what an option asks: with a check go those that it stands on, or that stand on it. What is so already stays, with all
     /// that would go along; for want of memory all stays.
     pub fn change(&mut self, change: Change) -> Result<(), AllocError>
-        ensures { OnOk result (self.new ≡ changed change self.old) }
+        ensures done { OnOk result (self.new ≡ changed change self.old) }
         ensures refused { OnErr result (self.new ≡ self.old) }
     {
         if self.is_done(change) {

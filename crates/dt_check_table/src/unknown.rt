@@ -1,22 +1,18 @@
 //! Properties that no node of the same `compatible` has in a reference set, and that are within two letters of one that has.
 
 use crate::finding::Finding;
-use crate::near::is_within;
+use crate::near::is_near;
 use crate::reference::{Reference, Row, list_of};
 use dt_check::{Fault, Message, Survey};
 use dt_tree::Property;
 use std::alloc::{AllocError, Global};
-
-/// By how many letters a name differs at most from the one that is meant.
-const LETTERS: u32 = 2;
 
 // The row that a property's name is near, among rows in which it isn't.
 fn meant(rows: &[Row<'_>], name: &[u8]) -> Option<usize> {
     if rows.iter().any(|row| row.name == name) {
         return None;
     }
-    rows.iter()
-        .position(|row| is_within(LETTERS, row.name, name))
+    rows.iter().position(|row| is_near(row.name, name))
 }
 
 fn find_in<'t>(

@@ -21,7 +21,7 @@ impl<'t> Definitions<'t> {
         text: &'t [u8],
         lexemes: &[Lexeme],
         fragments: &'t [Vec<u8>],
-        names: &'t [&'t [u8]],
+        names: &'t [Vec<u8>],
     ) -> Result<Self, AllocError> {
         let mut walk = Walk::new(alloc, text, fragments)?;
         walk.kept = Some(names);

@@ -35,7 +35,7 @@ pub(crate) struct Walk<'t> {
     pub statement: Statement,
     pub plugin: bool,
     /// The properties that are kept, by their names; all, where nothing is said.
-    pub kept: Option<&'t [&'t [u8]]>,
+    pub kept: Option<&'t [Vec<u8>]>,
     labels: Vec<usize>,
     target: Option<usize>,
     bodies: usize,
@@ -195,7 +195,7 @@ impl<'t> Walk<'t> {
     fn keeps(&self, name: &[u8]) -> bool {
         match self.kept {
             None => true,
-            Some(names) => names.iter().any(|kept| *kept == name),
+            Some(names) => names.iter().any(|kept| kept.as_slice() == name),
         }
     }
 

@@ -31,6 +31,41 @@ pub struct Asked<'a> {
     pub quiet: usize,
 }
 
+impl<'a> Asked<'a> {
+    /// Of a file, by what `unknown_property` goes by: plain lines of all, without places.
+    pub fn of(file: &'a [u8], reference: &'a Reference<'a>) -> Self {
+        Self {
+            file,
+            text: b"",
+            reference,
+            shape: Shape::Plain,
+            quiet: 0,
+        }
+    }
+
+    /// With the places of a source.
+    pub fn in_text(self, text: &'a [u8]) -> Self {
+        Self {
+            file: self.file,
+            text,
+            reference: self.reference,
+            shape: self.shape,
+            quiet: self.quiet,
+        }
+    }
+
+    /// In this shape, and so quiet.
+    pub fn shaped(self, shape: Shape, quiet: usize) -> Self {
+        Self {
+            file: self.file,
+            text: self.text,
+            reference: self.reference,
+            shape,
+            quiet,
+        }
+    }
+}
+
 /// What the checks of a tree told.
 #[derive(Drop)]
 pub struct Answer {
@@ -63,17 +98,19 @@ fn put_findings(
     let places = places_of(alloc, survey, findings, asked)?;
     for (index, finding) in findings.iter().enumerate() {
         if is_told(selection, finding.check, asked.quiet) {
-            let located = places.get(index).copied().unwrap_or(NOWHERE);
+            let located = places.get(index).copied().unwrap_or(nowhere());
             put_line(alloc, writer, survey, selection, asked, finding, located)?;
         }
     }
     Ok(())
 }
 
-const NOWHERE: Located<'static> = Located {
-    own: None,
-    above: None,
-};
+fn nowhere<'a>() -> Located<'a> {
+    Located {
+        own: None,
+        above: None,
+    }
+}
 
 // Where findings stand in the text: nowhere where there is none.
 fn places_of<'a>(

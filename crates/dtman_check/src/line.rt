@@ -39,35 +39,54 @@ pub fn put_line(
         None => Vec::new(alloc),
         Some(node) => path_at(alloc, survey, node)?,
     };
-    let above = Above {
-        path: path_above(path.as_slice()),
-        site: located.above,
-        reference: asked.reference,
-    };
+    let above = Above::of(path_above(path.as_slice()), located.above, asked.reference);
     let mut words = Writer::new(alloc);
     say(alloc, &mut words, survey, finding.message, above)?;
-    let told = Told {
-        check: name_of(finding.check),
+    let check = Judged {
+        name: name_of(finding.check),
         fails: selection.level(finding.check).fails,
-        path: path.as_slice(),
-        property: finding.property,
-        words: words.text.as_slice(),
     };
+    let told = telling(
+        check,
+        path.as_slice(),
+        finding.property,
+        words.text.as_slice(),
+    );
     match asked.shape {
         Shape::Plain => put_plain(writer, asked.file, located.own, told),
         Shape::Json => put_json(writer, asked.file, located.own, told),
     }
 }
 
+// A check, and whether its mistakes are errors.
+#[derive(Clone, Copy)]
+struct Judged {
+    name: &'static str,
+    fails: bool,
+}
+
 // What a line tells beside its place.
 #[derive(Clone, Copy)]
-struct Told<'a> {
-    check: &'static str,
-    fails: bool,
+struct Telling<'a> {
+    check: Judged,
     // none where the finding is of no node
     path: &'a [u8],
     property: Option<&'a [u8]>,
     words: &'a [u8],
+}
+
+fn telling<'a>(
+    check: Judged,
+    path: &'a [u8],
+    property: Option<&'a [u8]>,
+    words: &'a [u8],
+) -> Telling<'a> {
+    Telling {
+        check,
+        path,
+        property,
+        words,
+    }
 }
 
 // `FILE:LINE.COLUMN-COLUMN`, or the file alone.
@@ -85,16 +104,16 @@ fn put_plain(
     writer: &mut Writer,
     file: &[u8],
     site: Option<Site<'_>>,
-    told: Told<'_>,
+    told: Telling<'_>,
 ) -> Result<(), AllocError> {
     put_place(writer, file, site)?;
-    writer.put(if told.fails {
+    writer.put(if told.check.fails {
         ": ERROR ("
     } else {
         ": Warning ("
     }
     .as_bytes())?;
-    writer.put(told.check.as_bytes())?;
+    writer.put(told.check.name.as_bytes())?;
     writer.put(b"): ")?;
     if !told.path.is_empty() {
         writer.put(told.path)?;
@@ -128,18 +147,18 @@ fn put_json(
     writer: &mut Writer,
     file: &[u8],
     site: Option<Site<'_>>,
-    told: Told<'_>,
+    told: Telling<'_>,
 ) -> Result<(), AllocError> {
     put_json_place(writer, file, site)?;
     writer.put(b",\"severity\":")?;
-    writer.put(if told.fails {
+    writer.put(if told.check.fails {
         "\"error\""
     } else {
         "\"warning\""
     }
     .as_bytes())?;
     writer.put(b",\"check\":")?;
-    quoted(writer, told.check.as_bytes())?;
+    quoted(writer, told.check.name.as_bytes())?;
     if !told.path.is_empty() {
         writer.put(b",\"path\":")?;
         quoted(writer, told.path)?;

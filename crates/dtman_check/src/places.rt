@@ -94,19 +94,19 @@ fn paths_of(
     Ok(paths)
 }
 
-// The names of the properties that are told of, each once.
-fn names_of<'t>(alloc: Global, findings: &[Finding<'t>]) -> Result<Vec<&'t [u8]>, AllocError> {
-    let mut all = BTreeSet::new(alloc);
+// The names of the properties that are told of.
+fn names_of(alloc: Global, findings: &[Finding<'_>]) -> Result<Vec<Vec<u8>>, AllocError> {
+    let mut names = BTreeSet::new(alloc);
     for finding in findings {
         if let Some(name) = finding.property {
-            all.insert(name)?;
+            names.insert(Vec::from_slice(alloc, name)?)?;
         }
     }
-    let mut names = Vec::with_capacity(alloc, all.len())?;
-    for name in all.iter() {
-        names.push(*name)?;
+    let mut kept = Vec::with_capacity(alloc, names.len())?;
+    for name in names.iter() {
+        kept.push(Vec::from_slice(alloc, name.as_slice())?)?;
     }
-    Ok(names)
+    Ok(kept)
 }
 
 fn spots_of(

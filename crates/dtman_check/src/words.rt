@@ -25,7 +25,16 @@ pub struct Above<'a> {
     pub reference: &'a Reference<'a>,
 }
 
-impl Above<'_> {
+impl<'a> Above<'a> {
+    /// The node at a path, with its place where that is known.
+    pub fn of(path: &'a [u8], site: Option<Site<'a>>, reference: &'a Reference<'a>) -> Self {
+        Self {
+            path,
+            site,
+            reference,
+        }
+    }
+
     /// `/soc (board.dtsi:14)`, or the path alone.
     pub fn put(self, writer: &mut Writer) -> Result<(), AllocError> {
         writer.put(self.path)?;

@@ -79,13 +79,9 @@ fn answer_of<'a, H: Host>(
     let Ok(hasher) = host.seed() else {
         return Err(Failure::NoSeed);
     };
-    let asked = Asked {
-        file: named(options.input).as_bytes(),
-        text: wanted.text,
-        reference,
-        shape: wanted.shape,
-        quiet: options.quiet,
-    };
+    let asked = Asked::of(named(options.input).as_bytes(), reference)
+        .in_text(wanted.text)
+        .shaped(wanted.shape, options.quiet);
     let origin = match wanted.from {
         Format::Dts => Origin::Source,
         Format::Dtb | Format::Folder => Origin::Blob,
