@@ -17,7 +17,7 @@ pub use check::{Check, Finds, Severity};
 pub use finding::Finding;
 pub use finding_all::find;
 pub use near::is_near;
-pub use reference::{BadReference, Reference, Row, list_of};
+pub use reference::{BadReference, Places, Reference, Row, list_of};
 pub use rule::{LinkRule, PropertyRule, Rule};
 pub use run::{Report, run_checks};
 pub use selection::{Change, Entry, Kind, Least, Level, Selection, check_named};

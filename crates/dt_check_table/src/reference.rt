@@ -11,6 +11,13 @@ pub struct Row<'r> {
     pub name: &'r [u8],
 }
 
+/// Rows side by side: the place of the first, and the one behind the last.
+#[derive(Clone, Copy, Debug)]
+pub struct Places {
+    pub first: usize,
+    pub end: usize,
+}
+
 /// What nodes have.
 #[derive(Drop)]
 pub struct Reference<'r> {
@@ -53,15 +60,14 @@ fn row_of(line: &[u8]) -> Option<Row<'_>> {
     })
 }
 
-// How many rows at the front are of a list.
-fn count_of(rows: &[Row<'_>], compatible: &[u8]) -> usize {
-    let other = rows.iter().position(|row| row.compatible != compatible);
-    other.unwrap_or(rows.len())
-}
-
 // How many rows in order are before those of a list.
 fn count_before(rows: &[Row<'_>], compatible: &[u8]) -> usize {
     rows.partition_point(|row| row.compatible < compatible)
+}
+
+// And with them.
+fn count_with(rows: &[Row<'_>], compatible: &[u8]) -> usize {
+    rows.partition_point(|row| row.compatible <= compatible)
 }
 
 impl<'r> Reference<'r> {
@@ -93,14 +99,12 @@ impl<'r> Reference<'r> {
         self.rows.get(place).copied()
     }
 
-    /// The rows of a list: the place of the first, and they themselves.
-    pub fn rows_of(&self, compatible: &[u8]) -> (usize, &[Row<'r>]) {
-        let first = count_before(self.rows.as_slice(), compatible);
-        let rest = self.rows.get(first..).unwrap_or(&[]);
-        (
-            first,
-            rest.get(..count_of(rest, compatible)).unwrap_or(rest),
-        )
+    /// The places of the rows of a list.
+    pub fn places_of(&self, compatible: &[u8]) -> Places {
+        Places {
+            first: count_before(self.rows.as_slice(), compatible),
+            end: count_with(self.rows.as_slice(), compatible),
+        }
     }
 }
 

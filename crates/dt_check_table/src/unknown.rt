@@ -2,17 +2,31 @@
 
 use crate::finding::Finding;
 use crate::near::is_near;
-use crate::reference::{Reference, Row, list_of};
+use crate::reference::{Places, Reference, list_of};
 use dt_check::{Fault, Message, Survey};
 use dt_tree::Property;
 use std::alloc::{AllocError, Global};
 
-// The row that a property's name is near, among rows in which it isn't.
-fn meant(rows: &[Row<'_>], name: &[u8]) -> Option<usize> {
-    if rows.iter().any(|row| row.name == name) {
-        return None;
+// Whether one of these rows is of a name.
+fn is_known(reference: &Reference<'_>, places: Places, name: &[u8]) -> bool {
+    for place in places.first..places.end {
+        match reference.row(place) {
+            Some(row) if row.name == name => return true,
+            _ => {}
+        }
     }
-    rows.iter().position(|row| is_near(row.name, name))
+    false
+}
+
+// The first of these rows that a name is near.
+fn near_row(reference: &Reference<'_>, places: Places, name: &[u8]) -> Option<usize> {
+    for place in places.first..places.end {
+        match reference.row(place) {
+            Some(row) if is_near(row.name, name) => return Some(place),
+            _ => {}
+        }
+    }
+    None
 }
 
 fn find_in<'t>(
@@ -20,14 +34,17 @@ fn find_in<'t>(
     check: usize,
     place: usize,
     properties: &'t [Property],
-    first: usize,
-    rows: &[Row<'_>],
+    reference: &Reference<'_>,
+    places: Places,
 ) -> Result<(), AllocError> {
     for property in properties {
         let name = property.name.as_bytes();
-        if let Some(row) = meant(rows, name) {
-            let message = Message::Unknown(first.saturating_add(row));
-            findings.push(Finding::of(check, place, Fault::of_property(name, message)))?;
+        if is_known(reference, places, name) {
+            continue;
+        }
+        if let Some(row) = near_row(reference, places, name) {
+            let fault = Fault::of_property(name, Message::Unknown(row));
+            findings.push(Finding::of(check, place, fault))?;
         }
     }
     Ok(())
@@ -44,8 +61,8 @@ pub fn find_unknown<'t>(
     for place in 0..survey.len() {
         if let Some(node) = survey.node(place) {
             if let Some(list) = list_of(alloc, node)? {
-                let (first, rows) = reference.rows_of(list.as_slice());
-                find_in(findings, check, place, node.properties(), first, rows)?;
+                let places = reference.places_of(list.as_slice());
+                find_in(findings, check, place, node.properties(), reference, places)?;
             }
         }
     }
