@@ -45,17 +45,17 @@ body_lawful text i ts rest (a, b, brace, s, semicolon) h =
 
 -- ---- items, reservations, headers
 
-item_lawful : (text : List ℕ) (i : ItemTree) (ts rest : List Lexeme) → SpellsItem i ts rest → AllLawful text ts → IsLawfulEdit (item_said text i) × AllLawful text rest
-item_lawful text (Root s) ts rest (a, slash, b) h = body_lawful text s a rest b (begins_lawful text ts _ a slash h)
-item_lawful text (Extend ls l s) ts rest (a, b, labels, reference, body) h =
+item_lawful : (language : Language) (text : List ℕ) (i : ItemTree) (ts rest : List Lexeme) → SpellsItem language i ts rest → AllLawful text ts → IsLawfulEdit (item_said text i) × AllLawful text rest
+item_lawful language text (Root s) ts rest (a, slash, b) h = body_lawful text s a rest b (begins_lawful text ts _ a slash h)
+item_lawful language text (Extend ls l s) ts rest (a, b, labels, reference, body, few) h =
     let x = labels_lawful text ls ts a labels h in
     let y = reference_lawful text l a b reference x.1 in
     let z = body_lawful text s b rest body y.1 in
     ((x.0, y.0, z.0), z.1)
-item_lawful text (Delete l) ts rest (a, b, keyword, reference, semicolon) h =
+item_lawful language text (Delete l) ts rest (a, b, keyword, reference, semicolon) h =
     let x = reference_lawful text l a b reference (begins_lawful text ts _ a keyword h) in
     (x.0, begins_lawful text b _ rest semicolon x.1)
-item_lawful text (Omit l) ts rest (a, b, keyword, reference, semicolon) h =
+item_lawful language text (Omit l) ts rest (a, b, keyword, reference, semicolon) h =
     let x = reference_lawful text l a b reference (begins_lawful text ts _ a keyword h) in
     (x.0, begins_lawful text b _ rest semicolon x.1)
 
@@ -69,14 +69,14 @@ header_lawful text false ts rest (a, version, semicolon) h = begins_lawful text 
 header_lawful text true ts rest (a, b, c, version, semicolon, plugin, again) h =
     begins_lawful text c _ rest again (begins_lawful text b _ c plugin (begins_lawful text a _ b semicolon (begins_lawful text ts _ a version h)))
 
-pub source_lawful : (text : List ℕ) (s : SourceTree) (ts : List Lexeme) → Spells s ts → AllLawful text ts → IsLawful (said text s)
+pub source_lawful : (language : Language) (text : List ℕ) (s : SourceTree) (ts : List Lexeme) → Spells language s ts → AllLawful text ts → IsLawful (said text s)
 unfolding Spells said
-source_lawful text s ts (some_header, some_item, a, b, headers, reserves, items) h =
+source_lawful language text s ts (some_header, some_item, a, b, headers, reserves, items) h =
     let P : ItemTree → Type 0 = λ i. IsLawfulEdit (item_said text i) in
     let x = each_lawful text SpellsHeader (λ i. Unit {0}) (λ i ts rest s h. (tt, header_lawful text i ts rest s h)) s.headers ts a headers h in
     let y = each_lawful text SpellsReserve (λ i. Unit {0}) (λ i ts rest s h. (tt, reserve_lawful text i ts rest s h)) s.reserves a b reserves x.1 in
-    let z = each_lawful text SpellsItem P (item_lawful text) s.items b [] items y.1 in
+    let z = each_lawful text (SpellsItem language) P (item_lawful language text) s.items b [] items y.1 in
     record { items = All-map IsLawfulEdit (item_said text) s.items (All-from_recursion P s.items z.0) }
 
 pub says_lawful : (language : Language) (text : List ℕ) (m : Meaning) → Says language text m → IsLawful m
-says_lawful language text m (s, (ls, lexemes, spells), faults, e) = subst IsLawful e (source_lawful text s ls spells (lexemes_lawful language text ls lexemes))
+says_lawful language text m (s, (ls, lexemes, spells), faults, e) = subst IsLawful e (source_lawful language text s ls spells (lexemes_lawful language text ls lexemes))

@@ -220,11 +220,11 @@ body_reach text i ts rest p (a, b, brace, s, semicolon) h =
 
 -- ---- items, reservations, headers
 
-item_reach : (text : List ℕ) (i : ItemTree) (ts rest : List Lexeme) (p : ℕ) → SpellsItem i ts rest → Above p ts → Reach p rest (item_faults text i)
-item_reach text (Root s) ts rest p (a, slash, b) h = body_reach text s a rest p b (begins_above p ts _ a slash h)
-item_reach text (Extend ls l s) ts rest p (a, b, labels, reference, body) h = body_reach text s b rest p body (takes_rest p a l b reference.1 (labels_above ls ts a p labels h))
-item_reach text (Delete l) ts rest p (a, b, keyword, reference, semicolon) h = reach_none p rest (begins_above p b _ rest semicolon (takes_rest p a l b reference.1 (begins_above p ts _ a keyword h)))
-item_reach text (Omit l) ts rest p (a, b, keyword, reference, semicolon) h = reach_none p rest (begins_above p b _ rest semicolon (takes_rest p a l b reference.1 (begins_above p ts _ a keyword h)))
+item_reach : (language : Language) (text : List ℕ) (i : ItemTree) (ts rest : List Lexeme) (p : ℕ) → SpellsItem language i ts rest → Above p ts → Reach p rest (item_faults text i)
+item_reach language text (Root s) ts rest p (a, slash, b) h = body_reach text s a rest p b (begins_above p ts _ a slash h)
+item_reach language text (Extend ls l s) ts rest p (a, b, labels, reference, body, few) h = body_reach text s b rest p body (takes_rest p a l b reference.1 (labels_above ls ts a p labels h))
+item_reach language text (Delete l) ts rest p (a, b, keyword, reference, semicolon) h = reach_none p rest (begins_above p b _ rest semicolon (takes_rest p a l b reference.1 (begins_above p ts _ a keyword h)))
+item_reach language text (Omit l) ts rest p (a, b, keyword, reference, semicolon) h = reach_none p rest (begins_above p b _ rest semicolon (takes_rest p a l b reference.1 (begins_above p ts _ a keyword h)))
 
 reserve_reach : (text : List ℕ) (i : ReserveTree) (ts rest : List Lexeme) (p : ℕ) → SpellsReserve i ts rest → Above p ts → Reach p rest (reserve_faults text i)
 reserve_reach text i ts rest p (a, b, c, d, labels, keyword, address, size, semicolon) h =
@@ -236,12 +236,12 @@ header_above : (i : Bool) (ts rest : List Lexeme) (p : ℕ) → SpellsHeader i t
 header_above false ts rest p (a, version, semicolon) h = begins_above p a _ rest semicolon (begins_above p ts _ a version h)
 header_above true ts rest p (a, b, c, version, semicolon, plugin, again) h = begins_above p c _ rest again (begins_above p b _ c plugin (begins_above p a _ b semicolon (begins_above p ts _ a version h)))
 
-pub source_reach : (text : List ℕ) (s : SourceTree) (ts : List Lexeme) (p : ℕ) → Spells s ts → Above p ts → Reach p [] (faults_of text s)
+pub source_reach : (language : Language) (text : List ℕ) (s : SourceTree) (ts : List Lexeme) (p : ℕ) → Spells language s ts → Above p ts → Reach p [] (faults_of text s)
 unfolding Spells faults_of
-source_reach text s ts p (some_header, some_item, a, b, headers, reserves, items) h =
+source_reach language text s ts p (some_header, some_item, a, b, headers, reserves, items) h =
     reach_both p b [] (flat_map (reserve_faults text) s.reserves) (flat_map (item_faults text) s.items)
     (each_reach SpellsReserve (reserve_faults text) (reserve_reach text) s.reserves a b p reserves (each_above SpellsHeader header_above s.headers ts a p headers h))
-    (λ q g. each_reach SpellsItem (item_faults text) (item_reach text) s.items b [] q items g)
+    (λ q g. each_reach (SpellsItem language) (item_faults text) (item_reach language text) s.items b [] q items g)
 
 -- ---- the first of them
 
@@ -256,5 +256,5 @@ unfolding Within
 first_is_first p q [] h = refl
 first_is_first p q (f ∷ fs) h = ((0, omega arith, refl), none_before f.place f.place q (f ∷ fs) (omega arith) (omega arith, h.1))
 
-pub in_order : (language : Language) (text : List ℕ) (ls : List Lexeme) (s : SourceTree) → Lexemes language text ls → Spells s ls → IsFirstInText (first_of (faults_of text s)) (faults_of text s)
-in_order language text ls s h g = let r = source_reach text s ls 0 g (lexemes_above language text ls h) in first_is_first 0 r.to (faults_of text s) r.within
+pub in_order : (language : Language) (text : List ℕ) (ls : List Lexeme) (s : SourceTree) → Lexemes language text ls → Spells language s ls → IsFirstInText (first_of (faults_of text s)) (faults_of text s)
+in_order language text ls s h g = let r = source_reach language text s ls 0 g (lexemes_above language text ls h) in first_is_first 0 r.to (faults_of text s) r.within

@@ -13,7 +13,7 @@ abbrev pub NoLabel : List Lexeme → Type 0
 NoLabel [] = Unit {0}
 NoLabel (t ∷ ts) = is_label t.kind ≡ false
 
-label_is : (k : Kind) → is_label k ≡ true → k ≡ Label
+pub label_is : (k : Kind) → is_label k ≡ true → k ≡ Label
 label_is Label h = refl
 label_is _ h = absurd cc
 

@@ -27,7 +27,7 @@ IsShort text = length text ≤ text_limit
 
 -- Some lexemes of the text spell the source.
 abbrev pub IsSource : Language → List ℕ → SourceTree → Type 0
-IsSource language text s = (ls : List Lexeme) × Lexemes language text ls × Spells s ls
+IsSource language text s = (ls : List Lexeme) × Lexemes language text ls × Spells language s ls
 
 -- The text isn't in the bounded grammar.
 abbrev pub IsNoSource : Language → List ℕ → Type 0
@@ -65,7 +65,7 @@ refusal_of (Some place) (Err r) = Some (refusal_before place r)
 
 -- The text is refused at this place: its lexemes, or those before it breaks off, read from left to right, are refused there.
 abbrev pub StopsAt : Language → List ℕ → Refusal → Type 0
-StopsAt language text r = (ls : List Lexeme) × (end : Option ℕ) × Scanned language text ls end × (refusal_of end (source_at text ls) ≡ Some r)
+StopsAt language text r = (ls : List Lexeme) × (end : Option ℕ) × Scanned language text ls end × (refusal_of end (source_at language text ls) ≡ Some r)
 
 abbrev pub IsRefused : Language → List ℕ → Refusal → Type 0
 IsRefused language text r = IsNoSource language text × StopsAt language text r

@@ -1,6 +1,8 @@
 -- Sources, the lexemes that spell them, what they say, and their faults (Devicetree Specification v0.4, sections 6.2 and 6.3). What
 -- begins with a lexeme that only dtc's language has is dtc's (dtc 1.6, Documentation/dts-format.txt).
-use Rattle.std.specs.Prelude.{◌≡◌, ◌≢◌, ℕ, Bool, true, false, ◌||◌, List, [], ◌∷◌, ◌++◌, Option, Some, None, Result, Ok, map, flat_map, ◌⊎◌}
+use Rattle.std.specs.Prelude.{◌≡◌, ◌≢◌, ℕ, nat_le, length, Bool, true, false, ◌||◌, List, [], ◌∷◌, ◌++◌, Option, Some, None, Result, Ok, map, flat_map, ◌⊎◌}
+use Rattle.dt_lexeme.specs.declared.language.Language.{Language}
+use Rattle.dt_lexeme.specs.declared.language.Language.TheVariants.{Profile, Dtc}
 use Rattle.dt_lexeme.specs.declared.lexeme.Lexeme.{Lexeme}
 use Rattle.dt_lexeme.specs.declared.lexeme.Fault.{Fault}
 use Rattle.dt_lexeme.specs.declared.lexeme.Kind.{Kind}
@@ -146,11 +148,17 @@ body_limit = 64
 abbrev pub SpellsBody : Statements → List Lexeme → List Lexeme → Type 0
 SpellsBody s ts rest = (a b : List Lexeme) × Begins ts Brace a × SpellsStatements body_limit false s a b × Begins b Semicolon rest
 
-abbrev pub SpellsItem : ItemTree → List Lexeme → List Lexeme → Type 0
-SpellsItem (Root s) ts rest = (a : List Lexeme) × Begins ts Slash a × SpellsBody s a rest
-SpellsItem (Extend ls l s) ts rest = (a b : List Lexeme) × SpellsLabels ls ts a × OneReference l a b × SpellsBody s b rest
-SpellsItem (Delete l) ts rest = (a b : List Lexeme) × Begins ts DeleteNode a × OneReference l a b × Begins b Semicolon rest
-SpellsItem (Omit l) ts rest = (a b : List Lexeme) × Begins ts OmitIfNoRef a × OneReference l a b × Begins b Semicolon rest
+-- Before a reference stands any number of labels, in dtc's language one at most.
+abbrev pub stand_before_reference : Language → List Lexeme → Bool
+stand_before_reference Profile ls = true
+stand_before_reference Dtc ls = nat_le (length ls) 1
+
+abbrev pub SpellsItem : Language → ItemTree → List Lexeme → List Lexeme → Type 0
+SpellsItem language (Root s) ts rest = (a : List Lexeme) × Begins ts Slash a × SpellsBody s a rest
+SpellsItem language (Extend ls l s) ts rest =
+    (a b : List Lexeme) × SpellsLabels ls ts a × OneReference l a b × SpellsBody s b rest × (stand_before_reference language ls ≡ true)
+SpellsItem language (Delete l) ts rest = (a b : List Lexeme) × Begins ts DeleteNode a × OneReference l a b × Begins b Semicolon rest
+SpellsItem language (Omit l) ts rest = (a b : List Lexeme) × Begins ts OmitIfNoRef a × OneReference l a b × Begins b Semicolon rest
 
 abbrev pub SpellsReserve : ReserveTree → List Lexeme → List Lexeme → Type 0
 SpellsReserve r ts rest = (a b c d : List Lexeme) × DropsLabels ts a × Begins a MemReserve b × SpellsPrimary r.address b c × SpellsPrimary r.size c d × Begins d Semicolon rest
@@ -159,11 +167,11 @@ abbrev pub SpellsHeader : Bool → List Lexeme → List Lexeme → Type 0
 SpellsHeader false ts rest = (a : List Lexeme) × Begins ts Version a × Begins a Semicolon rest
 SpellsHeader true ts rest = (a b c : List Lexeme) × Begins ts Version a × Begins a Semicolon b × Begins b Plugin c × Begins c Semicolon rest
 
--- All the lexemes spell the source.
-unfoldable pub Spells : SourceTree → List Lexeme → Type 0
-Spells s ts =
+-- All the lexemes spell the source in this language.
+unfoldable pub Spells : Language → SourceTree → List Lexeme → Type 0
+Spells language s ts =
     (s.headers ≢ []) × (s.items ≢ []) × (a b : List Lexeme)
-    × SpellsEach SpellsHeader s.headers ts a × SpellsEach SpellsReserve s.reserves a b × SpellsEach SpellsItem s.items b []
+    × SpellsEach SpellsHeader s.headers ts a × SpellsEach SpellsReserve s.reserves a b × SpellsEach (SpellsItem language) s.items b []
 
 -- ---- what is said
 

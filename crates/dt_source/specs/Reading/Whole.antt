@@ -1,5 +1,7 @@
 -- Reading a whole source.
-use Rattle.std.specs.Prelude.{ℕ, suc, Bool, true, false, ◌||◌, List, [], ◌∷◌, length, map, flat_map, fold, Option, Some, None, Result, Ok, Err}
+use Rattle.std.specs.Prelude.{ℕ, suc, Bool, true, false, ◌||◌, List, [], ◌∷◌, length, map, flat_map, fold, Option, Some, None, Result, Ok, Err, if◌then◌else◌}
+use Rattle.dt_lexeme.specs.declared.language.Language.{Language}
+use Rattle.dt_lexeme.specs.declared.language.Language.TheVariants.{Profile, Dtc}
 use Rattle.dt_lexeme.specs.declared.lexeme.Lexeme.{Lexeme}
 use Rattle.dt_lexeme.specs.declared.lexeme.Fault.{Fault}
 use Rattle.dt_lexeme.specs.declared.lexeme.Refusal.{Refusal}
@@ -11,6 +13,7 @@ use Rattle.dt_expression.specs.ReadingExpressions.{primary_at}
 use Rattle.dt_source.specs.Reading.Several.{earlier, Part, many}
 use Rattle.dt_meaning.specs.Syntax.{Target, Piece, Body, body_of, Edit, Rooted, Extends, Deletes, Omits, Meaning}
 use Rattle.dt_source.specs.Pieces.{target_of, fault_in}
+use Rattle.dt_source.specs.Marks.{is_label}
 use Rattle.dt_source.specs.Words.{label_bytes}
 use Rattle.dt_source.specs.Reading.Bodies.{labels_at, stays, semicolon_at, ended_by, body_at}
 use Rattle.dt_source.specs.Source.{body_limit, both_numbers}
@@ -115,10 +118,20 @@ abbrev pub item_with : List ℕ → List Lexeme → List Lexeme → Part (Option
 item_with text ls [] = Err (syntax_at [])
 item_with text ls (t ∷ ts) = item_kind text ls t.kind t ts
 
+-- a label at the front, and what follows it
+abbrev pub first_label_at : List Lexeme → List Lexeme × List Lexeme
+first_label_at [] = ([], [])
+first_label_at (t ∷ ts) = if is_label t.kind then (t ∷ [], ts) else ([], t ∷ ts)
+
+-- the labels at the front that may stand before a reference, and what follows them
+abbrev pub labels_before : Language → List Lexeme → List Lexeme × List Lexeme
+labels_before Profile ts = labels_at ts
+labels_before Dtc ts = first_label_at ts
+
 -- an item, or the end
-unfoldable pub item_at : List ℕ → List Lexeme → Part (Option Edit)
-item_at text [] = Ok (None, None, [])
-item_at text (t ∷ ts) = let l = labels_at (t ∷ ts) in item_with text l.0 l.1
+unfoldable pub item_at : Language → List ℕ → List Lexeme → Part (Option Edit)
+item_at language text [] = Ok (None, None, [])
+item_at language text (t ∷ ts) = let l = labels_before language (t ∷ ts) in item_with text l.0 l.1
 
 abbrev pub some_items : List Lexeme → List Edit → Result (List Edit) Refusal
 some_items ts [] = Err (syntax_at ts)
@@ -129,20 +142,20 @@ some_header ts None = Err (syntax_at ts)
 some_header ts (Some plugin) = Ok plugin
 
 -- the items up to the end
-unfoldable pub all_items_at : List ℕ → List Lexeme → Part (List Edit)
-all_items_at text ts = many stays (λ s ts. item_at text ts) (suc (length ts)) tt ts
+unfoldable pub all_items_at : Language → List ℕ → List Lexeme → Part (List Edit)
+all_items_at language text ts = many stays (λ s ts. item_at language text ts) (suc (length ts)) tt ts
 
 -- the items, of which there is at least one
-unfoldable pub items_at : List ℕ → List Lexeme → Result (List Edit × Option Fault) Refusal
-items_at text ts = do
-  y ← all_items_at text ts
+unfoldable pub items_at : Language → List ℕ → List Lexeme → Result (List Edit × Option Fault) Refusal
+items_at language text ts = do
+  y ← all_items_at language text ts
   es ← some_items ts y.0
   Ok (es, y.1)
 
-unfoldable pub source_at : List ℕ → List Lexeme → Result (Meaning × Option Fault) Refusal
-source_at text ts = do
+unfoldable pub source_at : Language → List ℕ → List Lexeme → Result (Meaning × Option Fault) Refusal
+source_at language text ts = do
   h ← headers_at ts
   plugin ← some_header ts h.0
   r ← reserves_at text h.2
-  i ← items_at text r.2
+  i ← items_at language text r.2
   Ok (record { plugin = plugin; reserves = r.0; items = i.0 }, earlier r.1 i.1)
