@@ -29,7 +29,7 @@ extern "C" {
 #endif
 
 /* Which calls there are: it grows by one with each call more, and by a hundred where one changes. */
-#define DTMAN_VIEW_VERSION 106
+#define DTMAN_VIEW_VERSION 107
 
 /* No bytes. */
 #define DTMAN_VIEW_NONE ((const uint8_t *)"")
@@ -37,10 +37,12 @@ extern "C" {
 /* How a call ended. */
 enum {
 	DTMAN_VIEW_DONE = 0,       /* it found what it tells */
-	DTMAN_VIEW_REFUSED = 2,    /* of open alone: the blob has the fault with `number`, 30 to 38 */
+	DTMAN_VIEW_REFUSED = 2,    /* of open and of changes: the blob has the fault with `number`, 30 to 38 */
 	DTMAN_VIEW_NOTHING = 4,    /* there is none */
 	DTMAN_VIEW_BAD_OFFSET = 8, /* no node, or no property, begins at the offset */
-	DTMAN_VIEW_BAD_PATH = 9    /* the bytes are no path */
+	DTMAN_VIEW_BAD_PATH = 9,   /* the bytes are no path */
+	DTMAN_EDIT_OTHER_LENGTH = 10, /* of changes alone: the value has another length */
+	DTMAN_EDIT_UNORDERED = 11  /* of changes alone: the blocks don't stand in order and apart, or the blob has version 16 */
 };
 
 struct dtman_view_told {
@@ -169,6 +171,19 @@ struct dtman_view_told dtman_view_double_cell(const uint8_t *value, size_t value
  * `part` is then as it was.
  */
 struct dtman_view_told dtman_view_string(const uint8_t *value, size_t value_length, size_t place, struct dtman_view_part *part);
+
+/*
+ * Changes. They are made in the caller's bytes, and nothing but what they name is another: a blob that holds a tree holds the changed tree.
+ * The look-up goes from the root; no view is wanted, and one that is open over the blob stays right. A blob that wasn't opened before has
+ * its header tested alone. Where a change isn't DONE, the bytes are as they were.
+ */
+
+/*
+ * Sets a property of the node at a path to a value of the same length, in place: nothing moves. NOTHING where there is no such node or
+ * property, BAD_PATH, OTHER_LENGTH, UNORDERED, REFUSED.
+ */
+struct dtman_view_told dtman_edit_set_in_place(uint8_t *blob, size_t length, const uint8_t *path, size_t path_length, const uint8_t *name,
+	size_t name_length, const uint8_t *value, size_t value_length);
 
 #ifdef __cplusplus
 }
