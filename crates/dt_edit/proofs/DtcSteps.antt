@@ -32,7 +32,7 @@ place-says places.DuplicateInBody r h = h
 abbrev Placed : Type 0
 Placed = PlacedTree Parts
 
-standing-same : (a b : Placed) → rows_in b.nodes ≡ rows_in a.nodes → (k : ℕ) → IsStanding a k → IsStanding b k
+pub standing-same : (a b : Placed) → rows_in b.nodes ≡ rows_in a.nodes → (k : ℕ) → IsStanding a k → IsStanding b k
 standing-same a b ns k s = record { known = omega (arith, s.known, ap length ns); there = ap (λ rs. holds rs k) ns ∙ s.there }
 
 pub keeps-same : (n : ℕ) (a b : Placed) → HasSameNodes a b → Keeps n a b

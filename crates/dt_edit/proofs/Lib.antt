@@ -1,7 +1,9 @@
 pub mod Admission
 pub mod Collecting
 pub mod Decimals
+pub mod DtcItems
 pub mod DtcSteps
+pub mod DtcTargets
 pub mod Faults
 pub mod FragmentSteps
 pub mod ItemSteps

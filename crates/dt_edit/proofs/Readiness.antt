@@ -16,7 +16,7 @@ use Rattle.dt_meaning.specs.Names.{fragment_name}
 use Rattle.dt_meaning.specs.Syntax.{Piece, Target, Edit, Rooted, Extends, Deletes, Omits}
 use Rattle.dt_meaning.specs.Statements.{target_value}
 use Rattle.dt_edit.specs.declared.fragments.Fragments.{Fragments}
-use Rattle.dt_edit.specs.Fragments.{first_names, target_values}
+use Rattle.dt_edit.specs.Fragments.{AreFragments, first_names, target_values}
 use Rattle.dt_edit.specs.Private.Ready.{IsReady}
 
 -- ---- lists
@@ -78,3 +78,8 @@ ready-next f met (Extends ls t b) rest ready = record {
 }
 
 -- ---- before the first item
+pub ready-first : (is : List Edit) (f : Fragments) → AreFragments is f → IsReady f 0 is
+ready-first is f h = record {
+  names = h.names ∙ ap first_names (sym (ap length h.targets) ∙ length-map f.targets.items value_of);
+  targets = h.targets;
+}

@@ -63,7 +63,7 @@ fn extend<'d, 't>(
 }
 
 /// How many extensions an item is.
-fn extensions_in<'t>(item: &Item<'t>) -> usize
+pub(crate) fn extensions_in<'t>(item: &Item<'t>) -> usize
     ensures count { result ≡ length (target_values (item_view item.now)) }
     ensures one { result ≤ 1 }
 {

@@ -9,6 +9,8 @@ mod dtc_body;
 mod dtc_child;
 mod dtc_fragment;
 mod dtc_items;
+mod dtc_named;
+mod dtc_targets;
 mod error;
 mod fragments;
 mod items;

@@ -1,13 +1,17 @@
 -- What edits of dtc's language do to a placed tree (Devicetree Specification v0.4, section 6.3).
-use Rattle.std.specs.Prelude.{◌≡◌, ℕ, Bool, true, List, [], ◌∷◌, length, map, Result, Err, if◌then◌else◌}
+use Rattle.std.specs.Prelude.{◌≡◌, ℕ, Bool, true, false, List, [], ◌∷◌, length, map, Result, Err, if◌then◌else◌}
 use denote.Ref.{Bor}
 use Rattle.dt_source.specs.declared.tree.Statement.{Statement}
 use Rattle.dt_source.specs.Tree.{views}
-use Rattle.dt_meaning.specs.Syntax.{Piece, Entry, Child}
+use Rattle.dt_tree.specs.Steps.{then_do}
+use Rattle.dt_meaning.specs.Syntax.{Piece, Body, Entry, Child, Target}
 use Rattle.dt_meaning.specs.Statements.{Fault, DuplicateInBody}
-use Rattle.dt_meaning.specs.DtcEdits.{DtcTree, made_node, node_has_place}
+use Rattle.dt_meaning.specs.DtcEdits.{DtcTree, made_node, named_node, node_has_place, with_labels_at}
+use Rattle.dt_meaning.specs.DtcStatements.{dtc_body}
 use Rattle.dt_places.specs.declared.placed_tree.PlacedTree.{PlacedTree}
 use Rattle.dt_places.specs.PlacedTrees.{IsPlacedTree, IsStanding, dtc_tree, node_path}
+use Rattle.dt_places.specs.References.{IsShallow}
+use Rattle.dt_places.specs.Tables.{rows_in}
 use Rattle.dt_places.specs.PlacedEdits.{Grows, IsFresh, Keeps, counted_fragment}
 use Rattle.dt_edit.specs.Said.{Parts, pieces}
 
@@ -36,3 +40,13 @@ dtc_child omitted labels name ss = Child omitted (map (λ l. l.now) labels) name
 -- the node of a fragment, if no child of the root ever had its name
 abbrev pub fragment_begun : List ℕ → DtcTree → Result DtcTree Fault
 fragment_begun f t = if node_has_place (f ∷ []) t then Err DuplicateInBody else made_node true (f ∷ []) (counted_fragment t)
+
+-- an extension of a node that stands
+abbrev pub dtc_extended : List (List ℕ) → Target → Body (List Piece) → DtcTree → Result DtcTree Fault
+dtc_extended ls target body t = then_do (named_node target t) (λ p. dtc_body body false p (with_labels_at ls p t))
+
+-- a tree in which a reference can be looked up
+pub record IsDtcReady (d : PlacedTree Parts) : Type 0 where
+  pub sound : IsPlacedTree d
+  pub shallow : IsShallow d
+  pub empty : d.begun ≡ false → rows_in d.nodes ≡ []

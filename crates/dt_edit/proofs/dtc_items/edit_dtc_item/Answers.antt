@@ -1,0 +1,52 @@
+use Rattle.std.proofs.Common.{◌≡◌, ◌≤◌, Result, map, sym, ap, ◌∙◌, subst, arith}
+use Rattle.dt_source.specs.Tree.{item_view, labels_view, part_view, target_view, views}
+use Rattle.dt_meaning.specs.Names.{fragment_name}
+use Rattle.dt_meaning.specs.Statements.{Fault}
+use Rattle.dt_meaning.specs.DtcEdits.{DtcTree}
+use Rattle.dt_meaning.specs.DtcStatements.{dtc_fragment, dtc_item, with_root}
+use Rattle.dt_edit.specs.EditFault.{Gives}
+use Rattle.dt_edit.specs.Said.{pieces}
+use Rattle.dt_edit.specs.Private.DtcEdited.{placed_of}
+use Rattle.dt_edit.proofs.DtcItems.{item-begins, root-same}
+use Rattle.dt_edit.proofs.Readiness.{extension-next}
+use Rattle.dt_edit.proofs.dtc_items.edit_dtc_item.Goals as goal
+
+pub index-requires : goal.index-requires
+index-requires c =
+    let old = c.args.placed.now in
+    let made = c.fragments-made.result in
+    let same : made ≡ old.fragments = c.fragments-made.ensures ∙ ap (λ (u : DtcTree). u.fragments) (c.begin.ensures.tree pieces) ∙ root-same (placed_of old) in
+    let few : made ≤ c.args.extension = omega (arith, same, c.requires.counted) in
+    let next = extension-next c.args.fragments.now c.args.extension made c.requires.fragments.0 c.args.item.now c.in-Extend.labels c.in-Extend.target c.in-Extend.body
+    c.in-Extend.is c.requires.fragments.1 few in
+    omega (arith, next.within, c.args.fragments.now.names.ok)
+
+pub add_dtc_fragment-requires-clause-value : goal.add_dtc_fragment-requires-clause-value
+add_dtc_fragment-requires-clause-value c =
+    let old = c.args.placed.now in
+    let made = c.fragments-made.result in
+    let same : made ≡ old.fragments = c.fragments-made.ensures ∙ ap (λ (u : DtcTree). u.fragments) (c.begin.ensures.tree pieces) ∙ root-same (placed_of old) in
+    let few : made ≤ c.args.extension = omega (arith, same, c.requires.counted) in
+    let next = extension-next c.args.fragments.now c.args.extension made c.requires.fragments.0 c.args.item.now c.in-Extend.labels c.in-Extend.target c.in-Extend.body
+    c.in-Extend.is c.requires.fragments.1 few in
+    ap (map part_view) (c.as_slice-value.ensures.value ∙ ap (λ v. v.items) c.index-then-begins.ensures) ∙ next.value c.index-then-begins.result.now
+
+pub returns-then-begins-clause-item : goal.returns-then-begins-clause-item
+returns-then-begins-clause-item c =
+    let old = c.args.placed.now in
+    let t = placed_of old in
+    let plugin = c.args.plugin in
+    let target = target_view c.in-Extend.target in
+    let made = c.fragments-made.result in
+    let same : made ≡ old.fragments = c.fragments-made.ensures ∙ ap (λ (u : DtcTree). u.fragments) (c.begin.ensures.tree pieces) ∙ root-same t in
+    let few : made ≤ c.args.extension = omega (arith, same, c.requires.counted) in
+    let next = extension-next c.args.fragments.now c.args.extension made c.requires.fragments.0 c.args.item.now c.in-Extend.labels c.in-Extend.target c.in-Extend.body
+    c.in-Extend.is c.requires.fragments.1 few in
+    let name = c.as_slice-name.result.now in
+    let named = next.name name c.index.result.now (c.as_slice-name.ensures.value ∙ ap (λ v. v.items) c.index.ensures) ∙ ap fragment_name same in
+    let is : dtc_item plugin (item_view c.args.item.now) t ≡ dtc_fragment target (views c.as_slice-then-begins.result.now) name (placed_of c.begin.new.self) =
+    ap (λ i. dtc_item plugin (item_view i) t) c.in-Extend.is
+    ∙ item-begins plugin (labels_view c.in-Extend.labels) target (views c.in-Extend.body.items) t name (sym c.in_ok-begins-in-Extend.ensures ∙ c.if-begins.true) named
+    ∙ ap (λ ss. dtc_fragment target (views ss) name (with_root t)) (sym c.as_slice-then-begins.ensures.value)
+    ∙ ap (dtc_fragment target (views c.as_slice-then-begins.result.now) name) (sym (c.begin.ensures.tree pieces)) in
+    subst (λ (r : Result DtcTree Fault). Gives r (λ _. placed_of c.add_dtc_fragment.new.placed) c.add_dtc_fragment.result) (sym {A = Result DtcTree Fault} is) c.add_dtc_fragment.ensures.item
