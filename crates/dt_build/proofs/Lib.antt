@@ -5,6 +5,12 @@ pub mod ApartPhandles
 pub mod BuildingSteps
 pub mod ByLabelSteps
 pub mod DigitSteps
+pub mod DtcFounds
+pub mod DtcGathered
+pub mod DtcLists
+pub mod DtcNumbers
+pub mod DtcReady
+pub mod DtcSteps
 pub mod FixupLists
 pub mod FixupsMade
 pub mod FoundNames
@@ -34,6 +40,7 @@ pub mod MoreWalked
 pub mod NamedEdits
 pub mod NamedSources
 pub mod NewPhandles
+pub mod NodeNames
 pub mod NodePhandleSteps
 pub mod Ready
 pub mod Shallow
