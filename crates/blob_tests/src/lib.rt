@@ -8,4 +8,8 @@ mod boards;
 #[cfg(test)]
 mod differing;
 #[cfg(test)]
+mod folders;
+#[cfg(test)]
+mod layouts;
+#[cfg(test)]
 mod tools;

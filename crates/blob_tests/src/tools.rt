@@ -1,7 +1,7 @@
 //! fdtget, fdtput and fdtdump over a file in memory. What is wanted is what the tools of dtc 1.6.1 print.
 
 use super::boards::CLOCKED;
-use dtman_dtc::{Host, Unread, Unwritten};
+use dtman_dtc::{Entry, Host, Unread, Unwritten};
 use dtman_fdt::{run_fdtdump, run_fdtget, run_fdtput};
 use std::alloc::Global;
 use std::hash::RandomState;
@@ -20,6 +20,10 @@ impl Host for Desk {
         if path == "f" {
             return Vec::from_slice(alloc, self.file.as_slice()).map_err(|_| Unread);
         }
+        Err(Unread)
+    }
+
+    fn entries(&mut self, _alloc: Global, _path: &str) -> Result<Vec<Entry>, Unread> {
         Err(Unread)
     }
 

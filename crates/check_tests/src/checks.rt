@@ -5,7 +5,7 @@ use crate::links::LINKS;
 use crate::nodes::NODES;
 use dt_build::build;
 use dt_check::{Message, Survey};
-use dt_check_table::{Finding, Kind, Selection, check_at, run_checks};
+use dt_check_table::{Finding, Kind, Least, Reference, Selection, check_at, run_checks};
 use dt_lexeme::Language;
 use dt_source::parse;
 use dt_tree::Tree;
@@ -64,9 +64,13 @@ fn places(
     check: &str,
 ) -> Vec<u8> {
     let mut selection = Selection::usual(alloc).expect(rt, "memory");
-    assert!(rt; selection.apply(Kind::Warning, check), "{check}");
+    let known = selection.apply(Kind::Warning, check).expect(rt, "memory");
+    assert!(rt; known, "{check}");
     let survey = Survey::of(alloc, hasher, tree).expect(rt, "memory");
-    let report = run_checks(alloc, &survey, &selection).expect(rt, "memory");
+    let reference = Reference::new(alloc);
+    let report = run_checks(alloc, &survey, &reference, &selection, Least::Warning).expect(
+        rt, "memory",
+    );
     let mut text = Vec::new(alloc);
     for finding in &report.findings {
         if name_of(finding.check) == check {
@@ -87,7 +91,8 @@ fn is_told(rt: &impl Abort, alloc: Global, hasher: RandomState, row: &str) {
     assert_eq!(rt; told.as_slice(), wanted.as_bytes(), "{row}");
 }
 
-fn are_told(rt: &impl Abort, alloc: Global, hasher: RandomState, rows: &[&str]) {
+/// Each row is told as it says.
+pub fn placed(rt: &impl Abort, alloc: Global, hasher: RandomState, rows: &[&str]) {
     for row in rows {
         is_told(rt, alloc, hasher, *row);
     }
@@ -96,17 +101,17 @@ fn are_told(rt: &impl Abort, alloc: Global, hasher: RandomState, rows: &[&str]) 
 #[test]
 fn rows_of_nodes(rt: HostRuntime) {
     let hasher = RandomState::new(&rt).expect(&rt, "a seed");
-    are_told(&rt, rt.alloc(), hasher, NODES);
+    placed(&rt, rt.alloc(), hasher, NODES);
 }
 
 #[test]
 fn rows_of_buses(rt: HostRuntime) {
     let hasher = RandomState::new(&rt).expect(&rt, "a seed");
-    are_told(&rt, rt.alloc(), hasher, BUSES);
+    placed(&rt, rt.alloc(), hasher, BUSES);
 }
 
 #[test]
 fn rows_of_links(rt: HostRuntime) {
     let hasher = RandomState::new(&rt).expect(&rt, "a seed");
-    are_told(&rt, rt.alloc(), hasher, LINKS);
+    placed(&rt, rt.alloc(), hasher, LINKS);
 }

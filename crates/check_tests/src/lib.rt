@@ -11,3 +11,9 @@ mod lines;
 mod links;
 #[cfg(test)]
 mod nodes;
+#[cfg(test)]
+mod own;
+#[cfg(test)]
+mod spots;
+#[cfg(test)]
+mod standing;

@@ -1,7 +1,7 @@
 //! Lines of findings, by the options that ask for them.
 
 use crate::checks::tree_of;
-use dt_check_table::{Kind, Selection};
+use dt_check_table::{Kind, Reference, Selection};
 use dtman_check::{Answer, Asked, Shape, check_tree};
 use std::alloc::Global;
 use std::hash::RandomState;
@@ -19,7 +19,7 @@ struct Row {
 const SOURCE: &str = "#address-cells = <1>; #size-cells = <1>; a@1 { reg = <1>; };";
 
 const WARNING: &str =
-    "x: Warning (reg_format): /a@1:reg: has 4 bytes; #address-cells 1 and #size-cells 1 of the node above want a multiple of 8\n\
+    "x: Warning (reg_format): /a@1:reg: has 4 bytes; #address-cells 1 and #size-cells 1 of / want a multiple of 8\n\
 x: Warning (pci_device_reg): Failed prerequisite 'reg_format'\n\
 x: Warning (pci_device_bus_num): Failed prerequisite 'reg_format'\n\
 x: Warning (simple_bus_reg): Failed prerequisite 'reg_format'\n\
@@ -27,10 +27,10 @@ x: Warning (i2c_bus_reg): Failed prerequisite 'reg_format'\n\
 x: Warning (spi_bus_reg): Failed prerequisite 'reg_format'\n";
 
 const ERROR: &str =
-    "x: ERROR (reg_format): /a@1:reg: has 4 bytes; #address-cells 1 and #size-cells 1 of the node above want a multiple of 8\n";
+    "x: ERROR (reg_format): /a@1:reg: has 4 bytes; #address-cells 1 and #size-cells 1 of / want a multiple of 8\n";
 
 const JSON: &str =
-    "{\"file\":\"x\",\"severity\":\"error\",\"check\":\"reg_format\",\"path\":\"/a@1\",\"property\":\"reg\",\"message\":\"has 4 bytes; #address-cells 1 and #size-cells 1 of the node above want a multiple of 8\"}\n";
+    "{\"file\":\"x\",\"severity\":\"error\",\"check\":\"reg_format\",\"path\":\"/a@1\",\"property\":\"reg\",\"message\":\"has 4 bytes; #address-cells 1 and #size-cells 1 of / want a multiple of 8\"}\n";
 
 const ROWS: &[Row] = &[
     Row {
@@ -93,9 +93,9 @@ const ROWS: &[Row] = &[
 
 fn select(rt: &impl Abort, selection: &mut Selection, option: &str) {
     let known = match option.strip_prefix("E") {
-        Some(word) => selection.apply(Kind::Error, word),
+        Some(word) => selection.apply(Kind::Error, word).expect(rt, "memory"),
         None => match option.strip_prefix("W") {
-            Some(word) => selection.apply(Kind::Warning, word),
+            Some(word) => selection.apply(Kind::Warning, word).expect(rt, "memory"),
             None => false,
         },
     };
@@ -113,11 +113,10 @@ fn selected(rt: &impl Abort, alloc: Global, options: &[&str]) -> Selection {
 fn answer(rt: &impl Abort, alloc: Global, hasher: RandomState, row: &Row) -> Answer {
     let tree = tree_of(rt, alloc, hasher, SOURCE);
     let selection = selected(rt, alloc, row.options);
-    let asked = Asked {
-        file: b"x",
-        shape: row.shape,
-        quiet: row.quiet,
-    };
+    let reference = Reference::new(alloc);
+    let asked = Asked::of(b"x", &reference)
+        .in_text(b"")
+        .shaped(row.shape, row.quiet);
     check_tree(alloc, hasher, &tree, &selection, asked).expect(rt, "memory")
 }
 
@@ -138,7 +137,14 @@ fn lines_by_options(rt: HostRuntime) {
 #[test]
 fn names_that_no_check_has(rt: HostRuntime) {
     let mut selection = Selection::usual(rt.alloc()).expect(&rt, "memory");
-    assert!(rt; !selection.apply(Kind::Warning, "no_such_check"));
-    assert!(rt; !selection.apply(Kind::Error, "no-"));
-    assert!(rt; selection.apply(Kind::Warning, "no_reg_format"));
+    for (word, known) in [
+        ("no_such_check", false),
+        ("no-", false),
+        ("unknown_property", false),
+        ("no_reg_format", true),
+        ("lost_ranges", true),
+    ] {
+        let applied = selection.apply(Kind::Warning, word).expect(&rt, "memory");
+        assert!(rt; applied == known, "{word}");
+    }
 }

@@ -1,7 +1,7 @@
 //! Runs of dtc over files in memory, with a compiler whose blob is the text behind a header of zeros.
 
 use dtc_dialect::Span;
-use dtman_dtc::{Compiler, Fault, Host, Unread, Unwritten, run_dtc, run_fdtoverlay};
+use dtman_dtc::{Compiler, Entry, Fault, Host, Texts, Unread, Unwritten, run_dtc, run_fdtoverlay};
 use std::alloc::Global;
 use std::hash::RandomState;
 use std::process::Abort;
@@ -21,6 +21,10 @@ impl Host for Desk {
                 return Vec::from_slice(alloc, *bytes).map_err(|_| Unread);
             }
         }
+        Err(Unread)
+    }
+
+    fn entries(&mut self, _alloc: Global, _path: &str) -> Result<Vec<Entry>, Unread> {
         Err(Unread)
     }
 
@@ -86,7 +90,7 @@ impl Compiler for Copier {
         joined(alloc, HEADER, text)
     }
 
-    fn dump(&mut self, alloc: Global, blob: &[u8]) -> Result<Vec<u8>, Fault> {
+    fn dump(&mut self, alloc: Global, blob: &[u8], _texts: Texts) -> Result<Vec<u8>, Fault> {
         let text = blob.get(HEADER.len()..blob.len()).unwrap_or(b"");
         match Vec::from_slice(alloc, text) {
             Ok(bytes) => Ok(bytes),
@@ -206,7 +210,7 @@ const DTC_RUNS: &[Row] = &[
     (
         &["-I", "fs", "a.dts"],
         1,
-        "Error: dtc's -I fs isn't there in dtman\n",
+        "FATAL ERROR: Couldn't open \"a.dts\": error 80 CannotRead\n",
     ),
     (
         &["-O", "null", "-V", "17", "-H", "epapr", "-i", "in", "a.dts"],

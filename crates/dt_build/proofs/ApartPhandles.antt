@@ -6,7 +6,7 @@ use Rattle.std.proofs.lemmas.Bool.{and_parts, and_from}
 use Rattle.dt_tree.specs.Steps.{then_do, each}
 use Rattle.dt_tree.specs.Phandle.{is_reserved}
 use Rattle.dt_meaning.specs.Paths.{Path, same_path, is_listed}
-use Rattle.dt_meaning.specs.Syntax.{OfLabel, OfPath, Piece, Plain, PhandleOf, PathOf}
+use Rattle.dt_meaning.specs.Syntax.{OfLabel, OfPath, Piece, Plain, PhandleOf, PathOf, Stored}
 use Rattle.dt_meaning.specs.Edits.{Definition, definition, State, label_path}
 use Rattle.dt_meaning.specs.Statements.{DuplicatePhandle, ReservedName, found}
 use Rattle.dt_meaning.specs.References.{preorder, Found, Bytes, Cell, Open, PathText, cell_at, cell_of, cell_of_label, found_in, found_value}
@@ -104,6 +104,7 @@ path-free false s t f e =
 module _ (plugin : Bool) (s : State (List Piece)) where
   piece-free : (v : Piece) (f : Found) → found_in plugin s v ≡ Ok f → AreFree f
   piece-free (Plain b) f e = subst AreFree (ok-is (Bytes b) f e) tt
+  piece-free (Stored at offset length) f e = subst AreFree (ok-is (Bytes []) f e) tt
   piece-free (PathOf t) f e =
       let a = did (found t s) (λ p. Ok (PathText p)) f e in
       subst AreFree (ok-is (PathText a.0) f a.2) tt

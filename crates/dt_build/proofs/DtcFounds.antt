@@ -57,6 +57,8 @@ module _ (path : ℕ → Path) where
   string-same text [] ts us = refl
   string-same text (parts.Bytes b ∷ []) ts us = refl
   string-same text (parts.Bytes b ∷ y ∷ v) ts us = refl
+  string-same text (parts.File f ∷ []) ts us = refl
+  string-same text (parts.File f ∷ y ∷ v) ts us = refl
   string-same text (parts.Phandle r ∷ v) ts us = no-cell (get_or ts 0 None) _ ∙ sym (no-cell (get_or us 0 None) _) where
     no-cell : (t : Option ℕ) (fs : List Found) → is_string_of text (found_of path (parts.Phandle r) t ∷ fs) ≡ false
     no-cell None fs = refl
@@ -76,6 +78,8 @@ module _ (path : ℕ → Path) where
   string-bare text [] ts is = absurd (true≢false (sym is))
   string-bare text (parts.Bytes b ∷ []) ts is = refl
   string-bare text (parts.Bytes b ∷ y ∷ v) ts is = absurd (true≢false (sym is))
+  string-bare text (parts.File f ∷ []) ts is = refl
+  string-bare text (parts.File f ∷ y ∷ v) ts is = absurd (true≢false (sym is))
   string-bare text (parts.Phandle r ∷ v) ts is = no-cell (get_or ts 0 None) _ is where
     no-cell : (t : Option ℕ) (fs : List Found) → is_string_of text (found_of path (parts.Phandle r) t ∷ fs) ≡ true → all_uses (parts.Phandle r ∷ v) ≡ 0
     no-cell None fs is = absurd (true≢false (sym is))

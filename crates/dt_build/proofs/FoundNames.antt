@@ -4,7 +4,7 @@ use Rattle.std.specs.Prelude.{All}
 use Rattle.dt_tree.specs.Steps.{then_do, each}
 use Rattle.dt_tree.specs.Phandle.{is_reserved}
 use Rattle.dt_meaning.specs.Paths.{Path, same_path}
-use Rattle.dt_meaning.specs.Syntax.{OfLabel, OfPath, Piece, Plain, PhandleOf, PathOf}
+use Rattle.dt_meaning.specs.Syntax.{OfLabel, OfPath, Piece, Plain, PhandleOf, PathOf, Stored}
 use Rattle.dt_meaning.specs.Edits.{Definition, definition, State, label_path}
 use Rattle.dt_meaning.specs.Statements.{ReservedName, found}
 use Rattle.dt_meaning.specs.References.{Found, Bytes, Cell, Open, PathText, cell_at, cell_of, cell_of_label, found_in, found_value, held, in_order, preorder, references}
@@ -32,6 +32,7 @@ path-so false s t f e =
 module _ (plugin : Bool) (s : State (List Piece)) where
   piece-so : (v : Piece) (f : Found) → IsNamedPiece IsName v → found_in plugin s v ≡ Ok f → IsNamedFound f
   piece-so (Plain b) f h e = subst IsNamedFound (ok-is (Bytes b) f e) tt
+  piece-so (Stored at offset length) f h e = subst IsNamedFound (ok-is (Bytes []) f e) tt
   piece-so (PathOf t) f h e =
       let a = did (found t s) (λ p. Ok (PathText p)) f e in
       subst IsNamedFound (ok-is (PathText a.0) f a.2) tt

@@ -8,6 +8,7 @@ pub mod DigitSteps
 pub mod DtcFounds
 pub mod DtcGathered
 pub mod DtcLists
+pub mod DtcNamed
 pub mod DtcNumbers
 pub mod DtcReady
 pub mod DtcSteps

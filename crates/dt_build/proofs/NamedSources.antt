@@ -7,7 +7,7 @@ use Rattle.std.proofs.lemmas.Bool.Decides.{nat_tests}
 use Rattle.dt_tree.specs.Name.{is_name}
 use Rattle.dt_source.specs.Lawful.{IsLawfulTarget, IsLawfulPiece, IsLawfulEntry, IsLawfulBody, IsLawfulEdit}
 use Rattle.dt_meaning.specs.Paths.{Path}
-use Rattle.dt_meaning.specs.Syntax.{Target, OfLabel, OfPath, Piece, Plain, PhandleOf, PathOf, Entry, Defines, Undefines, Child, Removes, Body, Done, Then, Edit, Rooted, Extends, Deletes, Omits, Meaning}
+use Rattle.dt_meaning.specs.Syntax.{Target, OfLabel, OfPath, Piece, Plain, PhandleOf, PathOf, Stored, Entry, Defines, Undefines, Child, Removes, Body, Done, Then, Edit, Rooted, Extends, Deletes, Omits, Meaning}
 use Rattle.dt_meaning.specs.Edits.{State, counted}
 use Rattle.dt_meaning.specs.Statements.{edited}
 use Rattle.dt_meaning.specs.Resolved.{is_too_deep}
@@ -33,6 +33,7 @@ piece-is : (v : Piece) → IsLawfulPiece v → IsNamedPiece IsName v
 piece-is (Plain b) h = tt
 piece-is (PhandleOf t) h = target-is t h
 piece-is (PathOf t) h = target-is t h
+piece-is (Stored at offset length) h = tt
 
 value-is : (vs : List Piece) → All IsLawfulPiece vs → IsNamedValue IsName vs
 value-is vs all = each-more IsLawfulPiece (IsNamedPiece IsName) vs piece-is (each-of IsLawfulPiece vs all)
@@ -80,6 +81,7 @@ piece-any : (v : Piece) → IsNamedPiece IsAny v
 piece-any (Plain b) = tt
 piece-any (PhandleOf t) = target-any t
 piece-any (PathOf t) = target-any t
+piece-any (Stored at offset length) = tt
 
 mutual
   entry-any : (e : Entry (List Piece)) → IsNamedEntry IsAny (IsNamedValue IsAny) e

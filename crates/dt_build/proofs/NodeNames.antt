@@ -1,6 +1,7 @@
 -- A value that is a text as a string, and the names of nodes.
 use Rattle.std.proofs.Common.{◌≡◌, ◌≢◌, ◌<◌, ℕ, zero, suc, ◌+◌, Bool, true, false, None, List, [], ◌∷◌, ◌++◌, length, get_or, take, refl, sym, ap, ◌∙◌, length-append, arith}
 use Rattle.std.specs.Str.{bytes_eq}
+use Rattle.dt_source.specs.declared.tree.FilePart.{FilePart}
 use Rattle.dt_source.specs.declared.tree.Part.{Part}
 use Rattle.dt_source.specs.declared.tree.Part.TheVariants as parts
 use Rattle.dt_source.specs.declared.tree.Reference.{Reference}
@@ -81,6 +82,15 @@ module _ (text : List ℕ) (path : ℕ → Path) where
   -- the text of a path has its node, or no bytes
   pub not-path : (r : Reference) → is_string_of text (founds_of path (parts.Path r ∷ []) []) ≡ false
   not-path r = no-empty text
+
+module _ (text : List ℕ) where
+  none-empty : (s : List ℕ) → bytes_eq [] (s ++ 0 ∷ []) ≡ false
+  none-empty [] = refl
+  none-empty (c ∷ cs) = refl
+
+  -- a file that wasn't read has no bytes
+  pub not-file : (path : ℕ → Path) (f : FilePart) → is_string_of text (founds_of path (parts.File f ∷ []) []) ≡ false
+  not-file path f = none-empty text
 
 -- ---- the last name of a node's path
 pub last-behind : (p : Path) (n : List ℕ) → last_name (p ++ n ∷ []) ≡ n

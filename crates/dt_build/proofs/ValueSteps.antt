@@ -14,6 +14,7 @@ pub uses-few : (x : Part) → uses x ≤ 1
 uses-few (parts.Bytes b) = omega arith
 uses-few (parts.Phandle t) = omega arith
 uses-few (parts.Path t) = omega arith
+uses-few (parts.File f) = omega arith
 
 pub uses-more : (xs : List Part) (i : ℕ) (x : Part) → i < length xs → x ≡ get_or xs i x → all_uses (drop i xs) ≡ uses x + all_uses (drop (i + 1) xs)
 uses-more xs i x below is =

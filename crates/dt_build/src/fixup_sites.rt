@@ -51,6 +51,7 @@ fn put_site<'d>(
         (Part::Phandle(reference), None) => Some(reference),
         (Part::Bytes(_), _) => return Ok(()),
         (Part::Path(_), _) => return Ok(()),
+        (Part::File(_), _) => return Ok(()),
     };
     sites.push(FixupSite {
         property,

@@ -60,6 +60,7 @@ fn is_text(value: &[Part<'_>], text: &[u8]) -> bool
         Part::Bytes(bytes) => is_string(bytes.as_slice(), text),
         Part::Phandle(_) => false,
         Part::Path(_) => false,
+        Part::File(_) => false,
     }
 }
 

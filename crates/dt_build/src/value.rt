@@ -23,6 +23,8 @@ pub(crate) fn part_size(draft: &Draft<'_, '_>, part: &Part<'_>, target: Option<u
 {
     match (part, target) {
         (Part::Bytes(bytes), _) => bytes.len(),
+        // never in a source whose files were filled in
+        (Part::File(_), _) => 0,
         (Part::Phandle(_), _) => 4,
         (Part::Path(_), Some(node)) => path_size(draft.live.nodes(), node),
         // never: the text of a path has its node
@@ -66,6 +68,8 @@ fn append_part(
 {
     match (part, target) {
         (Part::Bytes(bytes), _) => value.extend_from_slice(bytes)?,
+        // never in a source whose files were filled in
+        (Part::File(_), _) => {}
         (Part::Phandle(_), Some(node)) => {
             value.extend_from_slice(&node_phandles.phandles[node].to_be_bytes())?
         }

@@ -3,7 +3,7 @@ ghost use Rattle.std.specs.Prelude.{◌≡◌};
 ghost use Rattle.dt_check.specs.Addresses.{number_in, translated, simple_number, simple_fault, is_missing, has_entries, no_reg_fault, first_address, without_own, i2c_fault, spi_fault, unit_fault_by, bits_fault, first_bits_fault, i2c_bits_fault};
 ghost use Rattle.dt_check.specs.Cells.{cells_of};
 
-use crate::buses::{is_i2c, is_simple, is_spi};
+use crate::buses::{is_i2c, is_simple};
 use crate::cells::{cell_from, next_cell};
 use crate::fault::Fault;
 use crate::here::{Here, has};
@@ -148,7 +148,7 @@ pub fn spi_fault(here: &Here<'_>) -> Option<Fault<'static>>
     let Some(above) = here.above() else {
         return None;
     };
-    if !is_spi(above) || has(above, b"spi-slave") {
+    if !here.is_below_spi() || has(above, b"spi-slave") {
         return None;
     }
     match first_address(here.node()) {

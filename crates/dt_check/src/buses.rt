@@ -79,7 +79,7 @@ pub fn is_spi_like(node: &Node) -> bool
         && any_spi(children(node))
 }
 
-/// Whether a node is an SPI bus.
+/// Whether a node is an SPI bus: may look at all its children. Of a node of a survey it is known (`Placed::is_spi`, `Here::is_below_spi`).
 pub fn is_spi(node: &Node) -> bool
     ensures { result ≡ is_spi node.now }
 {

@@ -18,12 +18,15 @@ pub struct Here<'t> {
     port: bool,
     // whether the one above it is
     below_port: bool,
+    // whether that is an SPI bus
+    below_spi: bool,
 }
 
 impl<'t> Model for Here<'t> {
     ghost use Rattle.std.specs.Prelude.{◌≡◌, false};
     ghost use Rattle.std.specs.Option.{option_copied, option_map_or};
     ghost use Rattle.dt_check.specs.Nodes.{HereData, coded_here};
+    ghost use Rattle.dt_check.specs.Buses.{is_spi};
     ghost use Rattle.dt_check.specs.Ports.{is_port};
 
     ghost Value = { HereData };
@@ -33,12 +36,14 @@ impl<'t> Model for Here<'t> {
     ghost view = { λ h. record { node = h.node.now; above = option_copied h.above } };
 
     ghost invariant = { λ h. (h.port ≡ is_port h.node.now)
-        × (h.below_port ≡ option_map_or is_port (option_copied h.above) false) };
+        × (h.below_port ≡ option_map_or is_port (option_copied h.above) false)
+        × (h.below_spi ≡ option_map_or is_spi (option_copied h.above) false) };
 }
 
 impl<'t> Here<'t> {
     ghost use Rattle.std.specs.Prelude.{false};
     ghost use Rattle.std.specs.Option.{option_map, option_map_or};
+    ghost use Rattle.dt_check.specs.Buses.{is_spi};
     ghost use Rattle.dt_check.specs.Ports.{is_port};
 
     /// The node at its place, and what is above it.
@@ -54,12 +59,14 @@ impl<'t> Here<'t> {
                 above: None,
                 port: placed.is_port(),
                 below_port: false,
+                below_spi: false,
             },
             Some(above) => Self {
                 node: placed.node(),
                 above: Some(above.node()),
                 port: placed.is_port(),
                 below_port: above.is_port(),
+                below_spi: above.is_spi(),
             },
         }
     }
@@ -90,6 +97,13 @@ impl<'t> Here<'t> {
         ensures { result ≡ option_map_or is_port self.now.above false }
     {
         self.below_port
+    }
+
+    /// Whether the node above it is an SPI bus.
+    pub fn is_below_spi(&self) -> bool
+        ensures { result ≡ option_map_or is_spi self.now.above false }
+    {
+        self.below_spi
     }
 
     /// The value of the node's property of this name.

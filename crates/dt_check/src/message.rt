@@ -165,6 +165,10 @@ pub enum Message {
     GraphAddress(Option<u32>),
     /// The node above has sizes of so many cells, and not of none.
     GraphSize(Option<u32>),
+    /// A bus without `ranges`, whose devices none above it can reach.
+    LostRanges,
+    /// The property that is at this place of the reference set is near.
+    Unknown(usize),
     /// No node has the phandle in `remote-endpoint`.
     NoRemote,
     /// The node at this place doesn't lead back.

@@ -1,4 +1,5 @@
 //! A node of a tree in preorder.
+use crate::buses::is_spi;
 use crate::ports::is_port;
 use dt_tree::Node;
 use std::marker::Model;
@@ -10,11 +11,14 @@ pub struct Placed<'t> {
     above: Option<usize>,
     // whether the node is a port: found once, since it takes a look at all children
     port: bool,
+    // whether it is an SPI bus: the same
+    spi: bool,
 }
 
 impl<'t> Model for Placed<'t> {
     ghost use Rattle.std.specs.Prelude.{◌≡◌};
     ghost use Rattle.dt_check.specs.Nodes.{PlacedData, coded_placed};
+    ghost use Rattle.dt_check.specs.Buses.{is_spi};
     ghost use Rattle.dt_check.specs.Ports.{is_port};
 
     ghost Value = { PlacedData };
@@ -23,11 +27,12 @@ impl<'t> Model for Placed<'t> {
 
     ghost view = { λ p. record { node = p.node.now; above = p.above } };
 
-    ghost invariant = { λ p. p.port ≡ is_port p.node.now };
+    ghost invariant = { λ p. (p.port ≡ is_port p.node.now) × (p.spi ≡ is_spi p.node.now) };
 }
 
 impl<'t> Placed<'t> {
     ghost use Rattle.std.specs.Prelude.{◌≡◌};
+    ghost use Rattle.dt_check.specs.Buses.{is_spi};
     ghost use Rattle.dt_check.specs.Ports.{is_port};
 
     /// The node at its place.
@@ -38,6 +43,7 @@ impl<'t> Placed<'t> {
             node,
             above,
             port: is_port(node),
+            spi: is_spi(node),
         }
     }
 
@@ -60,5 +66,11 @@ impl<'t> Placed<'t> {
         ensures { result ≡ is_port self.now.node }
     {
         self.port
+    }
+    /// Whether the node is an SPI bus.
+    pub fn is_spi(&self) -> bool
+        ensures { result ≡ is_spi self.now.node }
+    {
+        self.spi
     }
 }

@@ -1,4 +1,4 @@
--- What a check finds in a tree, but for nodes side by side with one unit address: node by node in preorder, in each node rule by rule, or property by property.
+-- What a check finds in a tree, but for nodes side by side with one unit address and unknown properties: node by node in preorder, in each node rule by rule, or property by property.
 use Rattle.std.specs.Prelude.{ℕ, ◌+◌, false, not, codes, if◌then◌else◌, List, [], ◌∷◌, ◌++◌, Option, Some, None, option_and_then}
 use Rattle.dt_tree.specs.declared.property.Property.{Property}
 use Rattle.dt_check.specs.Cells.{has}
@@ -9,7 +9,7 @@ use Rattle.dt_check_links.specs.Aliases.{alias_fault}
 use Rattle.dt_check_links.specs.Link.{LinkFaultData}
 use Rattle.dt_check_links.specs.Lists.{ListingData, list_fault}
 use Rattle.dt_check_table.specs.declared.check.Finds.{Finds}
-use Rattle.dt_check_table.specs.declared.check.Finds.TheVariants.{Nothing, Units, Node, Properties, Links, Gpios, Aliases}
+use Rattle.dt_check_table.specs.declared.check.Finds.TheVariants.{Nothing, Units, Unknown, Node, Properties, Links, Gpios, Aliases}
 use Rattle.dt_check_table.specs.declared.rule.LinkRule.{LinkRule}
 use Rattle.dt_check_table.specs.declared.rule.PropertyRule.{PropertyRule}
 use Rattle.dt_check_table.specs.declared.rule.Rule.{Rule}
@@ -59,6 +59,7 @@ found_aliases check nodes place (p ∷ ps) = added check place (alias_fault_in n
 abbrev pub found_here : ℕ → Finds → List PlacedData → ℕ → HereData → List FindingData
 found_here check Nothing nodes place here = []
 found_here check (Units counted) nodes place here = []
+found_here check Unknown nodes place here = []
 found_here check (Node rules) nodes place here = found_by_rules check place here rules.now
 found_here check (Properties rule) nodes place here = found_in_properties check place rule here.node.properties
 found_here check (Links rules) nodes place here = found_by_links check nodes place here rules.now

@@ -1,3 +1,4 @@
 pub mod Finding
 pub mod Found
 pub mod Rules
+pub mod Selected

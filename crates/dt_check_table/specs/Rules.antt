@@ -7,6 +7,7 @@ use Rattle.dt_check.specs.Addresses.{simple_fault, i2c_fault, i2c_bits_fault, sp
 use Rattle.dt_check.specs.Bridges.{bridge_address_fault, bridge_size_fault, spi_name_fault}
 use Rattle.dt_check.specs.Chosen.{controller_fault, place_fault, bootargs_fault, old_stdout_fault, stdout_fault, is_parent_without, gpio_fault, names_fault}
 use Rattle.dt_check.specs.Fault.{FaultData, of_node}
+use Rattle.dt_check.specs.Lost.{lost_fault}
 use Rattle.dt_check.specs.Names.{node_byte_fault, strict_node_fault, second_at_fault, name_twice_fault, name_fault, property_byte_fault, strict_property_fault}
 use Rattle.dt_check.specs.Nodes.{PlacedData, HereData}
 use Rattle.dt_check.specs.Pci.{pci_name_fault, no_ranges_fault, two_cells_fault, order_fault, end_fault, later_cells_fault, space_fault, register_fault, pci_unit_fault, pci_bus_fault}
@@ -27,7 +28,7 @@ use Rattle.dt_check_table.specs.declared.rule.LinkRule.TheVariants.{Phandle, Pha
 use Rattle.dt_check_table.specs.declared.rule.PropertyRule.{PropertyRule}
 use Rattle.dt_check_table.specs.declared.rule.PropertyRule.TheVariants.{Names, Byte, StrictByte, Gpio}
 use Rattle.dt_check_table.specs.declared.rule.Rule.{Rule}
-use Rattle.dt_check_table.specs.declared.rule.Rule.TheVariants.{IsString, IsStringList, IsCell, NodeByte, StrictNodeByte, SecondAt, NameTwice, NameProperty, Reg, Ranges, RangesSize, Unit as UnitAddress, LeadingHex, LeadingZero, PciName, NoRanges, BridgeAddress, BridgeSize, TwoCells, RangeOrder, RangeEnd, LaterCells, PciSpace, PciRegister, PciUnit, PciBus, SimpleAddress, I2cAddress, I2cBits, SpiName, SpiAddress, DefaultAddress, DefaultSize, Unnecessary, ObsoleteController, ChosenPlace, Bootargs, OldStdout, Stdout, NoInterruptCells, NoInterruptAddress, Always}
+use Rattle.dt_check_table.specs.declared.rule.Rule.TheVariants.{IsString, IsStringList, IsCell, NodeByte, StrictNodeByte, SecondAt, NameTwice, NameProperty, Reg, Ranges, RangesSize, Unit as UnitAddress, LeadingHex, LeadingZero, PciName, NoRanges, BridgeAddress, BridgeSize, TwoCells, RangeOrder, RangeEnd, LaterCells, PciSpace, PciRegister, PciUnit, PciBus, SimpleAddress, I2cAddress, I2cBits, SpiName, SpiAddress, DefaultAddress, DefaultSize, Unnecessary, ObsoleteController, ChosenPlace, Bootargs, OldStdout, Stdout, NoInterruptCells, NoInterruptAddress, LostRanges, Always}
 
 abbrev pub no_interrupt_cells : HereData → Option FaultData
 no_interrupt_cells here = is_parent_without (codes "#interrupt-cells") WithoutCells here
@@ -77,6 +78,7 @@ rule_fault OldStdout here = old_stdout_fault here
 rule_fault Stdout here = stdout_fault here
 rule_fault NoInterruptCells here = no_interrupt_cells here
 rule_fault NoInterruptAddress here = no_interrupt_address here
+rule_fault LostRanges here = lost_fault here
 rule_fault Always here = Some (of_node AlwaysFails)
 
 abbrev pub property_fault : PropertyRule → Property → Option FaultData

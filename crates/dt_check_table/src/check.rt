@@ -19,6 +19,8 @@ pub enum Finds {
     Nothing,
     /// Nodes side by side with one unit address: by `find_units`.
     Units(Counted),
+    /// Properties that no reference set has: by `find_unknown`.
+    Unknown,
     /// In each node, one rule after the other.
     Node(&'static [Rule]),
     /// In each property.

@@ -162,7 +162,7 @@ fn find_here<'t>(
 {
     let node = here.node();
     match finds {
-        Finds::Nothing | Finds::Units(_) => Ok(()),
+        Finds::Nothing | Finds::Units(_) | Finds::Unknown => Ok(()),
         Finds::Node(rules) => find_by_rules(findings, check, rules, here, place),
         Finds::Properties(rule) => {
             find_in_properties(findings, check, rule, node.properties(), place)

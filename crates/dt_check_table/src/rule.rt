@@ -5,11 +5,11 @@ ghost use Rattle.dt_check_table.specs.Rules.{no_interrupt_cells, no_interrupt_ad
 use dt_check::{
     Bus, Fault, Graph, Here, Message, Survey, bootargs_fault, bridge_address_fault,
     bridge_size_fault, cell_fault, controller_fault, default_fault, end_fault, gpio_fault,
-    hex_fault, i2c_bits_fault, i2c_fault, is_parent_without, later_cells_fault, name_fault,
-    name_twice_fault, names_fault, no_ranges_fault, node_byte_fault, old_stdout_fault, order_fault,
-    pci_bus_fault, pci_name_fault, pci_unit_fault, place_fault, property_byte_fault, ranges_fault,
-    ranges_size_fault, reg_fault, register_fault, second_at_fault, simple_fault, space_fault,
-    spi_fault, spi_name_fault, stdout_fault, strict_node_fault, strict_property_fault,
+    hex_fault, i2c_bits_fault, i2c_fault, is_parent_without, later_cells_fault, lost_fault,
+    name_fault, name_twice_fault, names_fault, no_ranges_fault, node_byte_fault, old_stdout_fault,
+    order_fault, pci_bus_fault, pci_name_fault, pci_unit_fault, place_fault, property_byte_fault,
+    ranges_fault, ranges_size_fault, reg_fault, register_fault, second_at_fault, simple_fault,
+    space_fault, spi_fault, spi_name_fault, stdout_fault, strict_node_fault, strict_property_fault,
     string_fault, string_list_fault, two_cells_fault, unit_fault, unnecessary_fault, zero_fault,
 };
 use dt_check_links::{
@@ -64,6 +64,7 @@ pub enum Rule {
     Stdout,
     NoInterruptCells,
     NoInterruptAddress,
+    LostRanges,
     Always,
 }
 
@@ -157,6 +158,7 @@ impl Rule {
             Rule::Stdout => stdout_fault(here),
             Rule::NoInterruptCells => no_interrupt_cells(here),
             Rule::NoInterruptAddress => no_interrupt_address(here),
+            Rule::LostRanges => lost_fault(here),
             Rule::Always => Some(Fault::of_node(Message::Always)),
         }
     }

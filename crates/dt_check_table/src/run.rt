@@ -3,9 +3,11 @@
 use crate::check::{Check, Finds};
 use crate::finding::Finding;
 use crate::finding_all::find;
-use crate::selection::Selection;
+use crate::reference::Reference;
+use crate::selection::{Least, Selection};
 use crate::table::{CHECK_COUNT, check_at};
 use crate::units::find_units;
+use crate::unknown::find_unknown;
 use dt_check::Survey;
 use std::alloc::{AllocError, Global};
 
@@ -64,6 +66,7 @@ impl<'t> Run<'t> {
         &mut self,
         alloc: Global,
         survey: &Survey<'t>,
+        reference: &Reference<'_>,
         selection: &Selection,
         check: usize,
         row: &Check,
@@ -78,8 +81,12 @@ impl<'t> Run<'t> {
                 return Ok(());
             }
             match row.finds {
+                Finds::Nothing => {}
                 Finds::Units(counted) => {
                     find_units(alloc, &mut self.findings, check, counted, survey)?;
+                }
+                Finds::Unknown => {
+                    find_unknown(alloc, &mut self.findings, check, survey, reference)?;
                 }
                 finds => find(&mut self.findings, check, finds, survey)?,
             }
@@ -106,12 +113,13 @@ impl<'t> Run<'t> {
         &mut self,
         alloc: Global,
         survey: &Survey<'t>,
+        reference: &Reference<'_>,
         selection: &Selection,
         checks: &[usize],
     ) -> Result<(), AllocError> {
         for check in checks {
             if let Some(row) = check_at(*check) {
-                self.step(alloc, survey, selection, *check, row)?;
+                self.step(alloc, survey, reference, selection, *check, row)?;
             }
         }
         Ok(())
@@ -122,14 +130,15 @@ impl<'t> Run<'t> {
         &mut self,
         alloc: Global,
         survey: &Survey<'t>,
+        reference: &Reference<'_>,
         selection: &Selection,
         check: usize,
     ) -> Result<(), AllocError> {
         let Some(row) = check_at(check) else {
             return Ok(());
         };
-        self.make_all(alloc, survey, selection, row.made_before)?;
-        self.step(alloc, survey, selection, check, row)
+        self.make_all(alloc, survey, reference, selection, row.made_before)?;
+        self.step(alloc, survey, reference, selection, check, row)
     }
 }
 
@@ -138,7 +147,9 @@ impl<'t> Run<'t> {
 pub fn run_checks<'t>(
     alloc: Global,
     survey: &Survey<'t>,
+    reference: &Reference<'_>,
     selection: &Selection,
+    least: Least,
 ) -> Result<Report<'t>, AllocError> {
     let mut run = Run {
         statuses: vec![in alloc; Status::Waiting; CHECK_COUNT]?,
@@ -146,9 +157,8 @@ pub fn run_checks<'t>(
         failed: false,
     };
     for check in 0..CHECK_COUNT {
-        let level = selection.level(check);
-        if (level.warns || level.fails) && !run.failed {
-            run.make(alloc, survey, selection, check)?;
+        if selection.level(check).is_asked(least) && !run.failed {
+            run.make(alloc, survey, reference, selection, check)?;
         }
     }
     let Run {

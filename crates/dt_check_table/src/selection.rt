@@ -1,14 +1,27 @@
 //! Which checks warn and which are errors.
+ghost use Rattle.std.specs.Prelude.{◌≡◌, IfOk};
+ghost use Rattle.std.specs.List.{list_any};
+ghost use Rattle.dt_check_table.specs.Selected.{usual, usual_levels, is_among, stands_on, goes_along, goes, level_with, is_so, changed_at, changed_from, is_asked};
 
 use crate::check::Severity;
-use crate::table::{CHECK_COUNT, check_at};
+use crate::table::{CHECK_COUNT, UNKNOWN_PROPERTY, check_at};
 use std::alloc::{AllocError, Global};
+use std::marker::Model;
 
 /// What a mistake that a check finds comes to: both may be so, and then it is an error.
 #[derive(Clone, Copy, Debug, PartialEq, Eq)]
 pub struct Level {
     pub warns: bool,
     pub fails: bool,
+}
+
+/// What mistakes are looked for.
+#[derive(Clone, Copy, Debug, PartialEq, Eq)]
+pub enum Least {
+    /// Those that come to a warning or an error.
+    Warning,
+    /// Errors alone.
+    Error,
 }
 
 /// What an option speaks of.
@@ -20,13 +33,66 @@ pub enum Kind {
     Error,
 }
 
-/// The checks that are asked for.
-#[derive(Drop)]
-pub struct Selection {
-    levels: Vec<Level>,
+/// What an option asks: whether a check, by its place in the table, is of a kind.
+#[derive(Clone, Copy, Debug)]
+pub struct Change {
+    pub kind: Kind,
+    pub check: usize,
+    pub on: bool,
 }
 
-fn usual(severity: Severity) -> Level {
+/// What the table says of a check: what its mistakes come to by default, and those that it stands on.
+#[derive(Clone, Copy, Debug)]
+pub struct Entry {
+    pub severity: Severity,
+    pub made_before: &'static [usize],
+}
+
+impl Level {
+    /// Whether a check whose mistakes come to this is asked for.
+    pub fn is_asked(self, least: Least) -> bool
+        ensures { result ≡ is_asked least self }
+    {
+        match least {
+            Least::Warning => self.warns || self.fails,
+            Least::Error => self.fails,
+        }
+    }
+
+    fn is_so(self, kind: Kind) -> bool
+        ensures { result ≡ is_so kind self }
+    {
+        match kind {
+            Kind::Warning => self.warns,
+            Kind::Error => self.fails,
+        }
+    }
+
+    fn with(self, kind: Kind, on: bool) -> Level
+        ensures { result ≡ level_with kind on self }
+    {
+        match kind {
+            Kind::Warning => Level {
+                warns: on,
+                fails: self.fails,
+            },
+            Kind::Error => Level {
+                warns: self.warns,
+                fails: on,
+            },
+        }
+    }
+}
+
+fn any_asked(levels: &[Level], least: Least) -> bool
+    ensures { result ≡ list_any (is_asked least) levels.now }
+{
+    levels.iter().any(|level| level.is_asked(least))
+}
+
+fn usual(severity: Severity) -> Level
+    ensures { result ≡ usual severity }
+{
     match severity {
         Severity::Off => Level {
             warns: false,
@@ -43,6 +109,86 @@ fn usual(severity: Severity) -> Level {
     }
 }
 
+fn usual_levels(alloc: Global, entries: &[Entry]) -> Result<Vec<Level>, AllocError>
+    ensures { IfOk result (λ levels. levels.items ≡ usual_levels entries.now) }
+{
+    let mut levels = Vec::with_capacity(alloc, entries.len())?;
+    for entry in entries {
+        levels.push(usual(entry.severity))?;
+    }
+    Ok(levels)
+}
+
+fn is_among(places: &[usize], wanted: usize) -> bool
+    ensures { result ≡ is_among places.now wanted }
+{
+    places.iter().any(|place| *place == wanted)
+}
+
+// Whether the check at a place stands on another.
+fn stands_on(entries: &[Entry], one: usize, other: usize) -> bool
+    ensures { result ≡ stands_on entries.now one other }
+{
+    match entries.get(one) {
+        None => false,
+        Some(entry) => is_among(entry.made_before, other),
+    }
+}
+
+fn goes_along(entries: &[Entry], change: Change, place: usize) -> bool
+    ensures { result ≡ goes_along entries.now change place }
+{
+    if change.on {
+        stands_on(entries, change.check, place)
+    } else {
+        stands_on(entries, place, change.check)
+    }
+}
+
+fn goes(entries: &[Entry], change: Change, place: usize) -> bool
+    ensures { result ≡ goes entries.now change place }
+{
+    place == change.check || goes_along(entries, change, place)
+}
+
+fn changed_at(entries: &[Entry], change: Change, place: usize, level: Level) -> Level
+    ensures { result ≡ changed_at entries.now change place level }
+{
+    if goes(entries, change, place) {
+        level.with(change.kind, change.on)
+    } else {
+        level
+    }
+}
+
+fn changed(
+    alloc: Global,
+    entries: &[Entry],
+    change: Change,
+    levels: &[Level],
+) -> Result<Vec<Level>, AllocError>
+    ensures { IfOk result (λ new. new.items ≡ changed_from entries.now change 0 levels.now) }
+{
+    let mut new = Vec::with_capacity(alloc, levels.len())?;
+    for (place, level) in levels.iter().enumerate() {
+        new.push(changed_at(entries, change, place, *level))?;
+    }
+    Ok(new)
+}
+
+fn entries_of(alloc: Global) -> Result<Vec<Entry>, AllocError> {
+    let mut entries = Vec::with_capacity(alloc, CHECK_COUNT)?;
+    for place in 0..CHECK_COUNT {
+        if let Some(check) = check_at(place) {
+            entries.push(Entry {
+                severity: check.severity,
+                made_before: check.made_before,
+            })?;
+        }
+    }
+    Ok(entries)
+}
+
 fn is_called(place: usize, name: &str) -> bool {
     match check_at(place) {
         None => false,
@@ -50,9 +196,9 @@ fn is_called(place: usize, name: &str) -> bool {
     }
 }
 
-/// The check of this name, by its place in the table.
+/// The check of this name, by its place in the table: `unknown_property` is asked for by its reference set alone.
 pub fn check_named(name: &str) -> Option<usize> {
-    for place in 0..CHECK_COUNT {
+    for place in 0..UNKNOWN_PROPERTY {
         if is_called(place, name) {
             return Some(place);
         }
@@ -60,37 +206,43 @@ pub fn check_named(name: &str) -> Option<usize> {
     None
 }
 
-fn is_among(places: &[usize], wanted: usize) -> bool {
-    places.iter().any(|place| *place == wanted)
+/// The checks that are asked for.
+#[derive(Drop)]
+pub struct Selection {
+    alloc: Global,
+    entries: Vec<Entry>,
+    levels: Vec<Level>,
 }
 
-// Whether the check at a place stands on another.
-fn stands_on(place: usize, other: usize) -> bool {
-    match check_at(place) {
-        None => false,
-        Some(check) => is_among(check.made_before, other),
-    }
-}
+impl Model for Selection {
+    ghost use Rattle.dt_check_table.specs.Selected.{SelectionData};
 
-fn usual_at(place: usize) -> Level {
-    match check_at(place) {
-        None => usual(Severity::Off),
-        Some(check) => usual(check.severity),
-    }
+    ghost Value = { SelectionData };
+
+    ghost view = { λ s. record { entries = s.entries.items; levels = s.levels.items } };
 }
 
 impl Selection {
+    ghost use Rattle.std.specs.Prelude.{not, OnOk, OnErr};
+    ghost use Rattle.dt_check_table.specs.Selected.{level_at, is_done, changed};
+
     /// dtc's own.
-    pub fn usual(alloc: Global) -> Result<Self, AllocError> {
-        let mut levels = Vec::with_capacity(alloc, CHECK_COUNT)?;
-        for place in 0..CHECK_COUNT {
-            levels.push(usual_at(place))?;
-        }
-        Ok(Self { levels })
+    pub fn usual(alloc: Global) -> Result<Self, AllocError>
+        ensures { IfOk result (λ selection. selection.levels ≡ usual_levels selection.entries) }
+    {
+        let entries = entries_of(alloc)?;
+        let levels = usual_levels(alloc, entries.as_slice())?;
+        Ok(Self {
+            alloc,
+            entries,
+            levels,
+        })
     }
 
     /// What a check's mistakes come to.
-    pub fn level(&self, check: usize) -> Level {
+    pub fn level(&self, check: usize) -> Level
+        ensures { result ≡ level_at self.now.levels check }
+    {
         match self.levels.get(check) {
             Some(level) => *level,
             None => usual(Severity::Off),
@@ -98,60 +250,54 @@ impl Selection {
     }
 
     /// Whether no check is asked for.
-    pub fn is_empty(&self) -> bool {
-        self.levels.iter().all(|level| !level.warns && !level.fails)
+    pub fn is_empty(&self, least: Least) -> bool
+        ensures { result ≡ not (list_any (is_asked least) self.now.levels) }
+    {
+        !any_asked(self.levels.as_slice(), least)
     }
 
-    fn has(&self, kind: Kind, check: usize) -> bool {
-        match kind {
-            Kind::Warning => self.level(check).warns,
-            Kind::Error => self.level(check).fails,
-        }
+    fn is_done(&self, change: Change) -> bool
+        ensures { result ≡ is_done self.now.levels change }
+    {
+        let is_so = self.level(change.check).is_so(change.kind);
+        if change.on { is_so } else { !is_so }
     }
 
-    fn set(&mut self, kind: Kind, check: usize, on: bool) {
-        if check >= self.levels.len() {
-            return;
+    /// Does what an option asks: with a check go those that it stands on, or that stand on it. What is so already stays, with all
+    /// that would go along; for want of memory all stays.
+    pub fn change(&mut self, change: Change) -> Result<(), AllocError>
+        ensures done { OnOk result (self.new ≡ changed change self.old) }
+        ensures refused { OnErr result (self.new ≡ self.old) }
+    {
+        if self.is_done(change) {
+            return Ok(());
         }
-        match kind {
-            Kind::Warning => self.levels[check].warns = on,
-            Kind::Error => self.levels[check].fails = on,
-        }
+        self.levels = changed(
+            self.alloc,
+            self.entries.as_slice(),
+            change,
+            self.levels.as_slice(),
+        )?;
+        Ok(())
     }
 
-    fn set_all(&mut self, kind: Kind, checks: &[usize]) {
-        for check in checks {
-            self.set(kind, *check, true);
-        }
+    /// Asks for `unknown_property`.
+    pub fn ask_unknown(&mut self, kind: Kind) -> Result<(), AllocError> {
+        self.change(Change {
+            kind,
+            check: UNKNOWN_PROPERTY,
+            on: true,
+        })
     }
 
-    // With a check go those that it stands on.
-    fn raise(&mut self, kind: Kind, check: usize) {
-        if self.has(kind, check) {
-            return;
-        }
-        let Some(row) = check_at(check) else {
-            return;
-        };
-        self.set_all(kind, row.made_before);
-        self.set(kind, check, true);
-    }
-
-    // With a check go those that stand on it.
-    fn lower(&mut self, kind: Kind, check: usize) {
-        if !self.has(kind, check) {
-            return;
-        }
-        for other in 0..CHECK_COUNT {
-            if other == check || stands_on(other, check) {
-                self.set(kind, other, false);
-            }
-        }
+    /// Whether `unknown_property` is asked for.
+    pub fn asks_unknown(&self) -> bool {
+        self.level(UNKNOWN_PROPERTY).is_asked(Least::Warning)
     }
 
     /// Takes the word of an option: a check's name, or one behind `no-`, by which it goes. Says whether there is such a check; else
     /// nothing changes.
-    pub fn apply(&mut self, kind: Kind, word: &str) -> bool {
+    pub fn apply(&mut self, kind: Kind, word: &str) -> Result<bool, AllocError> {
         let (name, on) = match word.strip_prefix("no-") {
             Some(name) => (name, false),
             None => match word.strip_prefix("no_") {
@@ -160,13 +306,9 @@ impl Selection {
             },
         };
         let Some(check) = check_named(name) else {
-            return false;
+            return Ok(false);
         };
-        if on {
-            self.raise(kind, check);
-        } else {
-            self.lower(kind, check);
-        }
-        true
+        self.change(Change { kind, check, on })?;
+        Ok(true)
     }
 }

@@ -1,14 +1,22 @@
-//! The table of checks, in dtc's order, in parts of eleven.
+//! The table of checks: dtc's in its order, in parts of eleven, and then those that dtc doesn't have.
 
 mod links;
 mod nodes;
+mod own;
 
 use crate::check::Check;
 use crate::table::links::{part_4, part_5, part_6, part_7};
 use crate::table::nodes::{part_0, part_1, part_2, part_3};
+use crate::table::own::part_8;
 
 /// How many checks there are.
-pub const CHECK_COUNT: usize = 88;
+pub const CHECK_COUNT: usize = 90;
+
+/// How many of them are dtc's.
+pub const DTC_COUNT: usize = 88;
+
+/// The place of `unknown_property`.
+pub const UNKNOWN_PROPERTY: usize = 89;
 
 /// How many there are in a part.
 const PART: usize = 11;
@@ -23,6 +31,7 @@ fn part(number: usize) -> &'static [Check] {
         5 => part_5(),
         6 => part_6(),
         7 => part_7(),
+        8 => part_8(),
         _ => &[],
     }
 }

@@ -1,10 +1,10 @@
 pub mod Runs
 mod Numbers
-mod GapEnds
+pub mod GapEnds
 mod Begins
 pub mod Scanning
 pub mod InOrder
-mod Tails
+pub mod Tails
 mod NameForms
 mod PathForms
 pub mod LexemeForms

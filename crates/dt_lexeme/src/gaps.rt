@@ -39,8 +39,8 @@ fn begins_plain_line(s: &[u8]) -> bool
     }
 }
 
-// What stands behind the word `line`, where a text begins with it, or else the text.
-fn behind_word(s: &[u8]) -> &[u8]
+/// What stands behind the word `line`, where a text begins with it, or else the text.
+pub fn behind_word(s: &[u8]) -> &[u8]
     ensures { result.now ≡ behind_word s.now }
 {
     match s {
@@ -87,8 +87,8 @@ fn begins_number(s: &[u8]) -> bool
     }
 }
 
-// A line marker of the preprocessor's, with the word `line` or without.
-fn begins_dtc_marker(s: &[u8]) -> bool
+/// Whether a line marker of the preprocessor's begins here, with the word `line` or without (dtc 1.6, manual.txt, section 4.1).
+pub fn begins_dtc_marker(s: &[u8]) -> bool
     ensures value { result ≡ begins_dtc_marker s.now }
     ensures long { result ≡ true → 2 ≤ length s.now }
 {
@@ -147,7 +147,7 @@ fn line_end(s: &[u8]) -> &[u8]
 }
 
 /// What follows the gap, or what stands from the comment on that doesn't end.
-pub(crate) fn skip_gap<'a>(language: Language, s: &'a [u8]) -> Result<&'a [u8], &'a [u8]>
+pub fn skip_gap<'a>(language: Language, s: &'a [u8]) -> Result<&'a [u8], &'a [u8]>
     ensures gap { MatchResult result (λ t. SkipsGap language s.now (Some t.now)) (λ t. SkipsGap language s.now None) }
     ensures unclosed { IfErr result (λ t. BreaksOff language s.now t.now) }
     ensures shorter { MatchResult result (λ t. length t.now ≤ length s.now) (λ t. length t.now ≤ length s.now) }

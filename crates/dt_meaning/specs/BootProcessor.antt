@@ -7,7 +7,7 @@ use Rattle.std.specs.Option.{option_and_then}
 use Rattle.dt_tree.specs.Cell.{cell_in}
 use Rattle.dt_tree.specs.Steps.{then_do}
 use Rattle.dt_meaning.specs.Paths.{Path, name_below}
-use Rattle.dt_meaning.specs.Syntax.{Piece, Plain, PhandleOf, PathOf, Meaning}
+use Rattle.dt_meaning.specs.Syntax.{Piece, Plain, PhandleOf, PathOf, Stored, Meaning}
 use Rattle.dt_meaning.specs.Edits.{Definition, is_of}
 use Rattle.dt_meaning.specs.Statements.{Fault}
 use Rattle.dt_meaning.specs.Places.{Row, what_stands}
@@ -17,11 +17,12 @@ use Rattle.dt_meaning.specs.DtcStatements.{dtc_edited}
 abbrev pub cpus : Path
 cpus = codes "cpus" ∷ []
 
--- a reference in cells isn't known yet, and one outside has no bytes yet
+-- A reference in cells isn't known yet, and one outside has no bytes yet, nor has a part of a file that wasn't filled in.
 abbrev pub written : Piece → List ℕ
 written (Plain b) = b
 written (PhandleOf t) = 255 ∷ 255 ∷ 255 ∷ 255 ∷ []
 written (PathOf t) = []
+written (Stored at offset length) = []
 
 abbrev pub number_written : Definition (List Piece) → Option ℕ
 number_written e = cell_in (flat_map written e.value)

@@ -1,5 +1,7 @@
+pub mod Alike
 pub mod BootProcessor
 pub mod DtcEdits
+pub mod DtcLaws
 pub mod DtcPhandles
 pub mod DtcResolved
 pub mod DtcRows

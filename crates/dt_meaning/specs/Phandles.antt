@@ -5,7 +5,7 @@ use Rattle.std.specs.Str.{bytes_eq}
 use Rattle.dt_tree.specs.Steps.{then_do}
 use Rattle.dt_tree.specs.Phandle.{is_reserved, phandle_in}
 use Rattle.dt_meaning.specs.Paths.{Path, same_path, is_listed}
-use Rattle.dt_meaning.specs.Syntax.{Piece, Plain, PhandleOf, PathOf}
+use Rattle.dt_meaning.specs.Syntax.{Piece, Plain, PhandleOf, PathOf, Stored}
 use Rattle.dt_meaning.specs.Edits.{Definition, State}
 use Rattle.dt_meaning.specs.Statements.{Fault, BadPhandle, DuplicatePhandle}
 use Rattle.dt_meaning.specs.References.{preorder, Found, Bytes, Cell, Open, PathText}
@@ -32,6 +32,7 @@ phandle_value (Plain b ∷ []) = phandle_in b
 phandle_value (Plain b ∷ v ∷ vs) = None
 phandle_value (PhandleOf t ∷ vs) = None
 phandle_value (PathOf t ∷ vs) = None
+phandle_value (Stored at offset length ∷ vs) = None
 
 abbrev pub given_one : Path → Option ℕ → List PathPhandle → Result (List PathPhandle) Fault
 given_one p None xs = Err BadPhandle

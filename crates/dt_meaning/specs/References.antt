@@ -5,7 +5,7 @@ use Rattle.std.specs.List.{filter, flat_map}
 use Rattle.dt_tree.specs.Steps.{then_do, each}
 use Rattle.dt_tree.specs.Phandle.{is_reserved}
 use Rattle.dt_meaning.specs.Paths.{Path, same_path, name_below}
-use Rattle.dt_meaning.specs.Syntax.{Target, OfLabel, OfPath, Piece, Plain, PhandleOf, PathOf}
+use Rattle.dt_meaning.specs.Syntax.{Target, OfLabel, OfPath, Piece, Plain, PhandleOf, PathOf, Stored}
 use Rattle.dt_meaning.specs.Edits.{Definition, definition, State, label_path}
 use Rattle.dt_meaning.specs.Statements.{Fault, UnknownLabel, PathInPlugin, ReservedName, found}
 
@@ -47,9 +47,11 @@ cell_of plugin s (OfLabel l) = cell_of_label plugin l (label_path l s.labels)
 cell_of true s (OfPath t) = Err PathInPlugin
 cell_of false s (OfPath t) = then_do (found (OfPath t) s) cell_at
 
+-- a part of a file that wasn't filled in has no bytes
 abbrev pub found_in : {V : Type 0} → Bool → State V → Piece → Result Found Fault
 found_in plugin s (Plain b) = Ok (Bytes b)
 found_in plugin s (PathOf t) = then_do (found t s) (λ p. Ok (PathText p))
+found_in plugin s (Stored at offset length) = Ok (Bytes [])
 found_in plugin s (PhandleOf t) = cell_of plugin s t
 
 abbrev pub found_value : {V : Type 0} → Bool → State V → Definition (List Piece) → Result (Definition (List Found)) Fault

@@ -1,16 +1,18 @@
 -- What a source says (Devicetree Specification v0.4, section 6.3): V is what stands for the value of a property.
-use Rattle.std.specs.Prelude.{ℕ, Bool, List, [], ◌∷◌}
+use Rattle.std.specs.Prelude.{ℕ, Bool, List, [], ◌∷◌, Option}
 
 -- what a reference names: a label, or the text of a path
 pub data Target : Type 0 where
   OfLabel : (label : List ℕ) → Target
   OfPath : (path : List ℕ) → Target
 
--- a part of a value: bytes, a reference in cells, or one outside
+-- A part of a value: bytes, a reference in cells, one outside, or a part of a file, which only dtc's language has (dtc 1.6,
+-- Documentation/dts-format.txt: `/incbin/`): by the place of its `/incbin/` in the text, from an offset on, so many bytes or all.
 pub data Piece : Type 0 where
   Plain : (bytes : List ℕ) → Piece
   PhandleOf : (target : Target) → Piece
   PathOf : (target : Target) → Piece
+  Stored : (at offset : ℕ) (length : Option ℕ) → Piece
 
 -- a statement of a body, and a body; `omitted` says that `/omit-if-no-ref/` stands before a node, which only dtc's language has
 mutual

@@ -8,4 +8,4 @@ mod marker;
 mod position;
 
 pub use located::{LocatedLexeme, lexeme_at, locate, named};
-pub use position::{Position, position_of};
+pub use position::{Position, position_of, positions_of};

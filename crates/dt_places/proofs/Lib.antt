@@ -1,3 +1,8 @@
+pub mod Chains
+pub mod Chosen
+pub mod FirstHeld
+pub mod FirstLabelled
+pub mod Holders
 pub mod LabelEdits
 pub mod NewNodes
 pub mod NewTree
@@ -9,6 +14,10 @@ pub mod NodesRemoved
 pub mod Owners
 pub mod PlaceClimbs
 pub mod PlaceLists
+pub mod PlacesDown
+pub mod Preorders
 pub mod PropertyEdits
 pub mod RowTables
 pub mod SeenRows
+pub mod ShownNodes
+pub mod Values

@@ -1,4 +1,6 @@
 pub mod PlacedEdits
 pub mod PlacedTrees
+pub mod References
 pub mod Rows
+pub mod Shown
 pub mod Tables

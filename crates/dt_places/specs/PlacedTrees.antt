@@ -1,11 +1,12 @@
 -- The tree while a source in dtc's language edits it (Devicetree Specification v0.4, section 6.3; where it is silent, dtc 1.6.1, tried
 -- by hand): what the tables of a placed tree stand for.
-use Rattle.std.specs.Prelude.{◌≡◌, ℕ, suc, ◌<◌, ◌≤◌, Bool, true, false, List, [], ◌∷◌, ◌++◌, length, map, reverse, Option, Some, None, if◌then◌else◌, slice_index_or}
+use Rattle.std.specs.Prelude.{◌≡◌, ◌≢◌, ℕ, suc, ◌<◌, ◌≤◌, Bool, true, false, List, [], ◌∷◌, ◌++◌, length, map, reverse, Option, Some, None, IsSome, if◌then◌else◌, slice_index_or}
 use Rattle.dt_meaning.specs.Paths.{Path}
 use Rattle.dt_meaning.specs.Syntax.{Piece}
 use Rattle.dt_meaning.specs.Edits.{Definition, definition, Label, labelled_at}
 use Rattle.dt_meaning.specs.Places.{Row, row}
 use Rattle.dt_meaning.specs.DtcEdits.{DtcTree}
+use Rattle.dt_live.specs.Index.{row_of}
 use Rattle.dt_live.specs.Rows.{Found}
 use Rattle.dt_places.specs.declared.place.Place.{Place}
 use Rattle.dt_places.specs.declared.placed_tree.PlacedTree.{PlacedTree}
@@ -58,11 +59,32 @@ pub record AreSound {N P L : Type 0} (nodes : List (Place N)) (at_nodes : Found)
   pub early_labels : (k : ℕ) → (place_at labels k).made ≤ clock
   pub ticking : 1 ≤ clock
 
+-- ---- labels by name
+-- of the first rows the last one of a name, none where none has it
+abbrev pub IsLast : {X : Type 0} → List (Place X) → ℕ → List ℕ → Option ℕ → Type 0
+IsLast rows n name None = (j : ℕ) → j < n → (place_at rows j).name.now ≢ name
+IsLast rows n name (Some i) = (i < n) × ((place_at rows i).name.now ≡ name) × ((j : ℕ) → i < j → j < n → (place_at rows j).name.now ≢ name)
+
+-- the last row of each name, and of each row the one before it of the same name
+pub record AreChained {X : Type 0} (rows : List (Place X)) (heads : Found) (older : List (Option ℕ)) : Type 0 where
+  pub count : length older ≡ length rows
+  pub last : (name : List ℕ) → IsLast rows (length rows) name (heads 0 name)
+  pub before : (i : ℕ) → i < length rows → IsLast rows i (place_at rows i).name.now (slice_index_or older i None)
+
+-- what was made has a value
+abbrev pub IsFilled : {X : Type 0} → Place X → Type 0
+IsFilled r = 1 ≤ r.made → IsSome r.value
+
+abbrev pub AreValued : {X : Type 0} → List (Place X) → Type 0
+AreValued rows = (k : ℕ) → IsFilled (place_at rows k)
+
 pub record IsPlacedTree {V : Type 0} (d : PlacedTree V) : Type 0 where
   pub tables : AreSound (rows_in d.nodes) (found_in d.nodes) (rows_in d.properties) (found_in d.properties) (rows_in d.labels) (found_in d.labels) d.clock
   pub marks : (k : ℕ) → IsOwner (rows_in d.nodes) (found_in d.nodes) (slice_index_or d.marks.items k 0)
   -- no label gets a second place at its node
   pub single : (k : ℕ) → (place_at (rows_in d.labels) k).again ≡ false
+  pub chained : AreChained (rows_in d.labels) (row_of d.heads) d.older.items
+  pub valued : AreValued (rows_in d.properties)
 
 -- ---- nodes
 abbrev pub node_path : {V : Type 0} → PlacedTree V → ℕ → Path

@@ -21,7 +21,12 @@ impl<'d, V: Copy> PlacedTree<'d, V> {
     {
         let made = self.clock;
         match self.labels.enter(node, label, None, made)? {
-            Entry::New(_) => Ok(()),
+            Entry::New(row) => {
+                let older = self.heads.get(0, label);
+                self.older.push(older)?;
+                self.heads.insert(0, label, row)?;
+                Ok(())
+            }
             Entry::Found(row) => {
                 let place = &mut self.labels.rows[row];
                 place.made = made;

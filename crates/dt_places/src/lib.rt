@@ -2,16 +2,20 @@
 #![tactic(auto)]
 
 mod error;
+mod labelled;
 mod labels;
 mod marks;
 mod nodes;
+mod paths;
 mod place;
 mod placed_tree;
 mod properties;
+mod shown;
 mod table;
 
 pub use error::PlaceError;
 pub use nodes::MadeNode;
 pub use place::Place;
 pub use placed_tree::PlacedTree;
+pub use shown::Shown;
 pub use table::{Entry, Table};

@@ -18,8 +18,10 @@ pub struct PlacedTree<'d, V> {
     pub(crate) nodes: Table<'d, ()>,
     pub(crate) properties: Table<'d, V>,
     pub(crate) labels: Table<'d, ()>,
-    // the first row of each label
+    // the last row of each label, at the node 0
     pub(crate) heads: Index<'d>,
+    // of each row of a label the one before it
+    pub(crate) older: Vec<Option<usize>>,
     // the nodes before which `/omit-if-no-ref/` counts
     pub(crate) marks: Vec<usize>,
     // a node gets a tick of its own each time that it is made
@@ -42,6 +44,7 @@ impl<'d, V: Copy> PlacedTree<'d, V> {
             properties: Table::new(alloc, hasher),
             labels: Table::new(alloc, hasher),
             heads: Index::new(alloc, hasher),
+            older: Vec::new(alloc),
             marks: Vec::new(alloc),
             clock: 1,
             fragments: 0,

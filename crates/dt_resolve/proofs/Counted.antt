@@ -1,7 +1,7 @@
 -- What follows the edits doesn't look at how many fragments were made.
 use Rattle.std.proofs.Common.{◌≡◌, ℕ, Bool, true, false, List, [], Ok, Err, if◌then◌else◌, refl, ap}
 use Rattle.dt_tree.specs.Steps.{then_do, each}
-use Rattle.dt_meaning.specs.Syntax.{Target, OfLabel, OfPath, Piece, Plain, PhandleOf, PathOf}
+use Rattle.dt_meaning.specs.Syntax.{Target, OfLabel, OfPath, Piece, Plain, PhandleOf, PathOf, Stored}
 use Rattle.dt_meaning.specs.Edits.{State, counted, definition}
 use Rattle.dt_meaning.specs.Statements.{ReservedName, found}
 use Rattle.dt_meaning.specs.References.{PathText, cell_of, found_in, in_order, references}
@@ -20,6 +20,7 @@ module _ (n : ℕ) (s : State (List Piece)) where
 
   counted-part : (plugin : Bool) (v : Piece) → found_in plugin (counted n s) v ≡ found_in plugin s v
   counted-part plugin (Plain b) = refl
+  counted-part plugin (Stored at offset length) = refl
   counted-part plugin (PathOf t) = ap (λ r. then_do r (λ p. Ok (PathText p))) (counted-found t)
   counted-part plugin (PhandleOf t) = counted-cell plugin t
 

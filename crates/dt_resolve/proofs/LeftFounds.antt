@@ -20,10 +20,12 @@ founds-part path [] ts rest = refl
 founds-part path (parts.Bytes b ∷ v) ts rest = ap (λ fs. Bytes b.items ∷ fs) (founds-part path v ts rest)
 founds-part path (parts.Phandle r ∷ v) ts rest = ap (λ fs. cell_for path r (get_or ts 0 None) ∷ fs) (founds-part path v (drop 1 ts) rest)
 founds-part path (parts.Path r ∷ v) ts rest = ap (λ fs. text_for path (get_or ts 0 None) ∷ fs) (founds-part path v (drop 1 ts) rest)
+founds-part path (parts.File f ∷ v) ts rest = ap (λ fs. Bytes [] ∷ fs) (founds-part path v ts rest)
 
 drop-part : (v : List Part) (ts rest : List (Option ℕ)) → drop (all_uses v) (part_targets v ts ++ rest) ≡ rest
 drop-part [] ts rest = refl
 drop-part (parts.Bytes b ∷ v) ts rest = ap (λ k. drop k (part_targets v ts ++ rest)) (zero-add (all_uses v)) ∙ drop-part v ts rest
+drop-part (parts.File f ∷ v) ts rest = ap (λ k. drop k (part_targets v ts ++ rest)) (zero-add (all_uses v)) ∙ drop-part v ts rest
 drop-part (parts.Phandle r ∷ v) ts rest =
     let one : 1 + all_uses v ≡ suc (all_uses v) = omega arith in
     ap (λ k. drop k (get_or ts 0 None ∷ (part_targets v (drop 1 ts) ++ rest))) one ∙ drop-part v (drop 1 ts) rest

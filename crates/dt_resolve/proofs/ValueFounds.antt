@@ -100,6 +100,9 @@ module _ (plugin : Bool) (s : State (List Piece)) (path : ℕ → Path) where
   part-found (parts.Bytes b) f ts rest h at =
       let e : f ≡ Bytes b.items = cc in
       (sym e, at ∙ ap (λ g. target_path g ++ rest) e)
+  part-found (parts.File g) f ts rest h at =
+      let e : f ≡ Bytes [] = cc in
+      (sym e, at ∙ ap (λ g. target_path g ++ rest) e)
   part-found (parts.Phandle t) f ts rest h at = cell-found t f ts rest h at
   part-found (parts.Path t) f ts rest h at = path-first path f (path-is (found (target_view t) s) f h) ts rest at
 

@@ -15,6 +15,7 @@ abbrev pub uses : Part → ℕ
 uses (parts.Bytes b) = 0
 uses (parts.Phandle t) = 1
 uses (parts.Path t) = 1
+uses (parts.File f) = 0
 
 abbrev pub all_uses : List Part → ℕ
 all_uses [] = 0
@@ -39,6 +40,7 @@ abbrev pub found_of : (ℕ → Path) → Part → Option ℕ → Found
 found_of path (parts.Bytes b) n = Bytes b.items
 found_of path (parts.Phandle t) n = cell_for path t n
 found_of path (parts.Path t) n = text_for path n
+found_of path (parts.File f) n = Bytes []
 
 -- a value whose targets are the first of these
 abbrev pub founds_of : (ℕ → Path) → List Part → List (Option ℕ) → List Found

@@ -58,6 +58,7 @@ fn number_in<'d, 't>(
         }
         (Part::Phandle(_), None) => Err(BuildError::BadPhandle),
         (Part::Path(_), _) => Err(BuildError::BadPhandle),
+        (Part::File(_), _) => Err(BuildError::BadPhandle),
     }
 }
 

@@ -13,6 +13,7 @@ pub fn target_count(part: &Part<'_>) -> usize
         Part::Bytes(_) => 0,
         Part::Phandle(_) => 1,
         Part::Path(_) => 1,
+        Part::File(_) => 0,
     }
 }
 

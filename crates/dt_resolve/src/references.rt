@@ -87,6 +87,7 @@ fn find_part<'d, 't>(
 {
     match part {
         Part::Bytes(_) => Ok(()),
+        Part::File(_) => Ok(()),
         Part::Path(target) => {
             let node = match target_of(live, target) {
                 Ok(node) => node,

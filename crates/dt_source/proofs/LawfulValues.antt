@@ -12,11 +12,11 @@ use Rattle.dt_expression.specs.Expression.{Expression, Number, Grouped, Prefixed
 use Rattle.dt_expression.specs.Values.{Value, value_of}
 use Rattle.dt_expression.specs.Element.{element}
 use Rattle.dt_source.specs.Sequences.{SpellsEach}
-use Rattle.dt_meaning.specs.Syntax.{Piece, Plain, PhandleOf, PathOf}
-use Rattle.dt_source.specs.Pieces.{target_by, target_of, width_in, element_pieces, cell_pieces, joined, join_bytes}
+use Rattle.dt_meaning.specs.Syntax.{Piece, Plain, PhandleOf, PathOf, Stored}
+use Rattle.dt_source.specs.Pieces.{target_by, target_of, width_in, element_pieces, cell_pieces, stored, portion_pieces, joined, join_bytes}
 use Rattle.dt_source.specs.Marks.{is_label, is_mark, labels_in}
 use Rattle.dt_source.specs.Words.{label_bytes}
-use Rattle.dt_source.specs.Source.{CellTree, Element, Refers, Marks, PieceTree, Quoted, Points, Pairs, Cells, WideCells, One, IsReference, OneReference, OnePair, SpellsLabels, SpellsMarks, DropsLabels, SpellsCell, SpellsCells, SpellsPiece, SpellsPlaced, SpellsFurther, SpellsValue, cell_of, cells_said, piece_said, value_said, width_said}
+use Rattle.dt_source.specs.Source.{CellTree, Element, Refers, Marks, PortionTree, Whole, Portion, PieceTree, Quoted, Points, Pairs, Cells, WideCells, Includes, One, IsReference, OneReference, OnePair, SpellsLabels, SpellsMarks, DropsLabels, SpellsCell, SpellsCells, SpellsPortion, SpellsPiece, SpellsPlaced, SpellsFurther, SpellsValue, cell_of, cells_said, portion_values, piece_said, value_said, width_said}
 use Rattle.dt_lexeme.specs.Label.{IsLabel}
 use Rattle.dt_source.specs.Lawful.{IsLawfulTarget, IsLawfulPiece, has_bytes, begins_plain, are_joined}
 use Rattle.dt_lexeme.specs.Forms.{FormAt, AllLawful}
@@ -127,12 +127,14 @@ join_lawful (b ∷ bs) [] h = (tt, tt)
 join_lawful (b ∷ bs) (Plain cs ∷ ps) h = (tt, h.1)
 join_lawful (b ∷ bs) (PhandleOf t ∷ ps) h = (tt, h)
 join_lawful (b ∷ bs) (PathOf t ∷ ps) h = (tt, h)
+join_lawful (b ∷ bs) (Stored at o n ∷ ps) h = (tt, h)
 
-joined_lawful : (ps : List Piece) → AllPieces ps → AllPieces (joined ps)
+pub joined_lawful : (ps : List Piece) → AllPieces ps → AllPieces (joined ps)
 joined_lawful [] h = tt
 joined_lawful (Plain bs ∷ ps) h = join_lawful bs (joined ps) (joined_lawful ps h.1)
 joined_lawful (PhandleOf t ∷ ps) h = (h.0, joined_lawful ps h.1)
 joined_lawful (PathOf t ∷ ps) h = (h.0, joined_lawful ps h.1)
+joined_lawful (Stored at o n ∷ ps) h = (h.0, joined_lawful ps h.1)
 
 -- ---- cells and pieces
 
@@ -153,6 +155,18 @@ cells_lawful text w cs ts rest (a, b, open_, s, close) h =
     let r = each_lawful text SpellsCell (λ c. AllPieces (cell_pieces text w (cell_of text c))) (cell_lawful text w) cs a b s (begins_lawful text ts _ a open_ h) in
     (flat_lawful (cell_pieces text w) (cell_of text) cs r.0, begins_lawful text b _ rest close r.1)
 
+stored_lawful : (at : ℕ) (v w : Value) → AllPieces (stored at v w)
+stored_lawful at (Ok o) (Ok n) = (tt, tt)
+stored_lawful at (Ok o) (Err f) = tt
+stored_lawful at (Err f) w = tt
+
+portion_lawful : (text : List ℕ) (at : ℕ) (i : PortionTree) (ts rest : List Lexeme) → SpellsPortion i ts rest → AllLawful text ts → AllPieces (portion_pieces at (portion_values text i)) × AllLawful text rest
+portion_lawful text at Whole ts rest s h = ((tt, tt), begins_lawful text ts _ rest s h)
+portion_lawful text at (Portion o n) ts rest (a, b, c, d, first, offset, mid, size, close) h =
+    let x = expression_lawful text 64 0 o a b offset.1 (begins_lawful text ts _ a first h) in
+    let y = expression_lawful text 64 0 n c d size.1 (begins_lawful text b _ c mid x) in
+    (stored_lawful at (value_of text o) (value_of text n), begins_lawful text d _ rest close y)
+
 piece_lawful : (text : List ℕ) (i : PieceTree) (ts rest : List Lexeme) → SpellsPiece i ts rest → AllLawful text ts → AllPieces (piece_said text i) × AllLawful text rest
 piece_lawful text (Quoted l) ts rest s h = ((tt, tt), (takes_lawful text ts l rest s.1 h).1)
 piece_lawful text (Points l) ts rest s h = let r = reference_lawful text l ts rest s h in ((r.0, tt), r.1)
@@ -161,6 +175,8 @@ piece_lawful text (Pairs ls) ts rest (a, b, open_, s, close) h =
     ((tt, tt), begins_lawful text b _ rest close r.1)
 piece_lawful text (Cells cs) ts rest s h = cells_lawful text (Some ThirtyTwo) cs ts rest s h
 piece_lawful text (WideCells l cs) ts rest (a, b, bits, literal, s) h = cells_lawful text (width_in (width_said text l)) cs b rest s (takes_lawful text a l b literal.1 (begins_lawful text ts _ a bits h)).1
+piece_lawful text (Includes w l i) ts rest (a, b, c, word, open_, name, portion) h =
+    portion_lawful text w.start i c rest portion (takes_lawful text b l c name.1 (begins_lawful text a _ b open_ (takes_lawful text ts w a word.1 h).1)).1
 
 placed_lawful : (text : List ℕ) (i : PieceTree) (ts rest : List Lexeme) → SpellsPlaced i ts rest → AllLawful text ts → AllPieces (piece_said text i) × AllLawful text rest
 placed_lawful text i ts rest (a, b, before, s, behind) h =
@@ -189,12 +205,14 @@ join_joined (b ∷ bs) [] h = refl
 join_joined (b ∷ bs) (Plain cs ∷ ps) h = without_first (has_bytes cs) (not (begins_plain ps)) (are_joined ps) h
 join_joined (b ∷ bs) (PhandleOf t ∷ ps) h = h
 join_joined (b ∷ bs) (PathOf t ∷ ps) h = h
+join_joined (b ∷ bs) (Stored at o n ∷ ps) h = h
 
-all_joined : (ps : List Piece) → are_joined (joined ps) ≡ true
+pub all_joined : (ps : List Piece) → are_joined (joined ps) ≡ true
 all_joined [] = refl
 all_joined (Plain bs ∷ ps) = join_joined bs (joined ps) (all_joined ps)
 all_joined (PhandleOf t ∷ ps) = all_joined ps
 all_joined (PathOf t ∷ ps) = all_joined ps
+all_joined (Stored at o n ∷ ps) = all_joined ps
 
 pub value_joined : (text : List ℕ) (ps : List PieceTree) → are_joined (value_said text ps) ≡ true
 value_joined text ps = all_joined (flat_map (piece_said text) ps)

@@ -11,6 +11,10 @@ pub mod Several
 pub mod SpelledLabels
 pub mod SpelledCells
 pub mod SpelledPairs
+pub mod FillingSteps
+pub mod FilledSources
+pub mod FilledViews
+pub mod SpelledFiles
 pub mod SpelledPieces
 pub mod SpelledValues
 pub mod SpelledStatements

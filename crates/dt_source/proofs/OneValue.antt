@@ -2,11 +2,12 @@
 use Rattle.std.proofs.Common.{◌≡◌, List, [], ◌∷◌, false, refl, sym, ap, subst, ◌∙◌}
 use Rattle.dt_lexeme.specs.declared.lexeme.Lexeme.{Lexeme}
 use Rattle.dt_lexeme.specs.declared.lexeme.Kind.{Kind}
-use Rattle.dt_lexeme.specs.declared.lexeme.Kind.TheVariants.{Text, Reference, Square, Less, Bits, Equals, Comma, Semicolon, Brace}
-use Rattle.dt_expression.specs.Expression.{Begins}
+use Rattle.dt_lexeme.specs.declared.lexeme.Kind.TheVariants.{Text, Reference, Square, Less, Bits, IncludeBinary, Paren, EndParen, Equals, Comma, Semicolon, Brace}
+use Rattle.dt_expression.specs.Expression.{Begins, SpellsPrimary}
 use Rattle.dt_source.specs.Sequences.{SpellsEach}
 use Rattle.dt_source.specs.Marks.{is_label}
-use Rattle.dt_source.specs.Source.{CellTree, PieceTree, Quoted, Points, Pairs, Cells, WideCells, SpellsLabels, SpellsCells, SpellsPiece, SpellsPlaced, SpellsFurther, SpellsValue}
+use Rattle.dt_source.specs.Source.{CellTree, PortionTree, Whole, Portion, PieceTree, Quoted, Points, Pairs, Cells, WideCells, Includes, One, SpellsLabels, SpellsCells, SpellsPortion, SpellsPiece, SpellsPlaced, SpellsFurther, SpellsValue}
+use Rattle.dt_expression.proofs.Trees.{spells_one}
 use Rattle.dt_source.proofs.Several.{each_can}
 use Rattle.dt_source.proofs.SpelledLabels.{NoLabel}
 use Rattle.dt_source.proofs.SpelledPieces.{front}
@@ -21,6 +22,7 @@ piece_kind (Points l) = Reference
 piece_kind (Pairs ls) = Square
 piece_kind (Cells cs) = Less
 piece_kind (WideCells l cs) = Bits
+piece_kind (Includes w l p) = IncludeBinary
 
 piece_sort : (p : PieceTree) (ts rest : List Lexeme) → SpellsPiece p ts rest → sort_at ts ≡ sorted (piece_kind p)
 piece_sort (Quoted l) ts rest h = takes_sort Text l ts rest h.0 h.1
@@ -28,6 +30,7 @@ piece_sort (Points l) ts rest h = reference_sort l ts rest h
 piece_sort (Pairs ls) ts rest h = begins_sort Square ts h.0 h.2
 piece_sort (Cells cs) ts rest h = begins_sort Less ts h.0 h.2
 piece_sort (WideCells l cs) ts rest h = begins_sort Bits ts h.0 h.2
+piece_sort (Includes w l p) ts rest h = takes_sort IncludeBinary w ts h.0 h.3.0 h.3.1
 
 piece_bare : (p : PieceTree) → is_label (piece_kind p) ≡ false
 piece_bare (Quoted l) = refl
@@ -35,6 +38,7 @@ piece_bare (Points l) = refl
 piece_bare (Pairs ls) = refl
 piece_bare (Cells cs) = refl
 piece_bare (WideCells l cs) = refl
+piece_bare (Includes w l p) = refl
 
 piece_front : (p : PieceTree) (ts rest : List Lexeme) → SpellsPiece p ts rest → NoLabel ts
 piece_front p ts rest h = no_label (piece_kind p) ts (piece_sort p ts rest h) (piece_bare p)
@@ -46,12 +50,39 @@ one_wide l m cs ds ts r q h k =
     let cells = one_cells cs ds h.1 r q h.4 (subst (λ (x : List Lexeme). SpellsCells ds x q) (sym width.1) k.4) in
     (cc (width.0, cells.0), cells.1)
 
+abbrev portion_kind : PortionTree → Kind
+portion_kind Whole = EndParen
+portion_kind (Portion o n) = Comma
+
+portion_sort : (p : PortionTree) (ts rest : List Lexeme) → SpellsPortion p ts rest → sort_at ts ≡ sorted (portion_kind p)
+portion_sort Whole ts rest h = begins_sort EndParen ts rest h
+portion_sort (Portion o n) ts rest h = begins_sort Comma ts h.0 h.4
+
+one_portion : (p o : PortionTree) (ts r q : List Lexeme) → SpellsPortion p ts r → SpellsPortion o ts q → Same p o r q
+one_portion Whole Whole ts r q h k = let e = one_begins EndParen EndParen ts r q h k in (refl, e.1)
+one_portion (Portion o n) (Portion x y) ts r q h k =
+    let first = one_begins Comma Comma ts h.0 k.0 h.4 k.4 in
+    let offset = spells_one o x h.0 h.1 k.1 h.5 (subst (λ (z : List Lexeme). SpellsPrimary x z k.1) (sym first.1) k.5) in
+    let mid : h.2 ≡ k.2 = one_after Comma h.1 k.1 h.2 k.2 offset.1 h.6 k.6 in
+    let size = spells_one n y h.2 h.3 k.3 h.7 (subst (λ (z : List Lexeme). SpellsPrimary y z k.3) (sym mid) k.7) in
+    (cc (offset.0, size.0), one_after EndParen h.3 k.3 r q size.1 h.8 k.8)
+one_portion p o ts r q h k = let e : sorted (portion_kind p) ≡ sorted (portion_kind o) = sym (portion_sort p ts r h) ∙ portion_sort o ts q k in absurd cc
+
+one_includes : (w x l m : Lexeme) (p o : PortionTree) (ts r q : List Lexeme) → SpellsPiece (Includes w l p) ts r → SpellsPiece (Includes x m o) ts q → Same (Includes w l p) (Includes x m o) r q
+one_includes w x l m p o ts r q h k =
+    let word = one_takes w x ts h.0 k.0 h.3.1 k.3.1 in
+    let inside : h.1 ≡ k.1 = one_after Paren h.0 k.0 h.1 k.1 word.1 h.4 k.4 in
+    let name = one_takes l m h.1 h.2 k.2 h.5.1 (inside ∙ k.5.1) in
+    let portion = one_portion p o h.2 r q h.6 (subst (λ (z : List Lexeme). SpellsPortion o z q) (sym name.1) k.6) in
+    (cc (word.0, name.0, portion.0), portion.1)
+
 one_piece : (p o : PieceTree) (ts r q : List Lexeme) → SpellsPiece p ts r → SpellsPiece o ts q → Same p o r q
 one_piece (Quoted l) (Quoted m) ts r q h k = let e = one_takes l m ts r q h.1 k.1 in (ap Quoted e.0, e.1)
 one_piece (Points l) (Points m) ts r q h k = let e = one_takes l m ts r q h.1 k.1 in (ap Points e.0, e.1)
 one_piece (Pairs ls) (Pairs ms) ts r q h k = let e = one_pairs ls ms ts r q h k in (ap Pairs e.0, e.1)
 one_piece (Cells cs) (Cells ds) ts r q h k = let e = one_cells cs ds ts r q h k in (ap Cells e.0, e.1)
 one_piece (WideCells l cs) (WideCells m ds) ts r q h k = one_wide l m cs ds ts r q h k
+one_piece (Includes w l p) (Includes x m o) ts r q h k = one_includes w x l m p o ts r q h k
 one_piece p o ts r q h k = let e : sorted (piece_kind p) ≡ sorted (piece_kind o) = sym (piece_sort p ts r h) ∙ piece_sort o ts q k in absurd cc
 
 -- ---- pieces with labels round them

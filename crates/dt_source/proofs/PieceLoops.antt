@@ -13,7 +13,7 @@ use Rattle.dt_lexeme.specs.declared.lexeme.ReadError.{ReadError}
 use Rattle.dt_lexeme.specs.declared.lexeme.ReadError.TheVariants as errors
 use Rattle.dt_expression.specs.Reading.{◌>>=◌}
 use Rattle.dt_source.specs.Reading.Several.{earlier, Part, many, Fails}
-use Rattle.dt_meaning.specs.Syntax.{Target, Piece, Plain, PhandleOf, PathOf}
+use Rattle.dt_meaning.specs.Syntax.{Target, Piece, Plain, PhandleOf, PathOf, Stored}
 use Rattle.dt_source.specs.Reading.Values.{Built, put, put_all, bytes_piece, flushed}
 use Rattle.dt_source.specs.Pieces.{join_bytes, joined}
 use Rattle.dt_source.specs.Reading.Bodies.{labels_at, stays, placed_at, comma_by, comma_at, concat_pieces, pieces_at, value_at}
@@ -186,6 +186,7 @@ joined_with (b ∷ bs) (c ∷ cs) [] = refl
 joined_with (b ∷ bs) (c ∷ cs) (Plain ds ∷ ps) = ap (λ (x : List ℕ). Plain (b ∷ x) ∷ ps) (sym (append_assoc bs (c ∷ cs) ds))
 joined_with (b ∷ bs) (c ∷ cs) (PhandleOf t ∷ ps) = refl
 joined_with (b ∷ bs) (c ∷ cs) (PathOf t ∷ ps) = refl
+joined_with (b ∷ bs) (c ∷ cs) (Stored at o n ∷ ps) = refl
 
 joined_empty : (ds : List ℕ) → join_bytes ds [] ≡ bytes_piece ds
 joined_empty [] = refl
@@ -198,6 +199,10 @@ joined_phandle (d ∷ ds) t ps = refl
 joined_path : (ds : List ℕ) (t : Target) (ps : List Piece) → join_bytes ds (PathOf t ∷ ps) ≡ bytes_piece ds ++ PathOf t ∷ ps
 joined_path [] t ps = refl
 joined_path (d ∷ ds) t ps = refl
+
+joined_stored : (ds : List ℕ) (at o : ℕ) (n : Option ℕ) (ps : List Piece) → join_bytes ds (Stored at o n ∷ ps) ≡ bytes_piece ds ++ Stored at o n ∷ ps
+joined_stored [] at o n ps = refl
+joined_stored (d ∷ ds) at o n ps = refl
 
 pub flushed_all : (b : Built) (ps : List Piece) → flushed (put_all b ps) ≡ b.closed ++ join_bytes b.bytes (joined ps)
 flushed_all b [] = ap (λ (x : List Piece). b.closed ++ x) (sym (joined_empty b.bytes))
@@ -212,6 +217,11 @@ flushed_all b (PathOf t ∷ ps) =
     ∙ append_assoc (flushed b) (PathOf t ∷ []) (joined ps)
     ∙ append_assoc b.closed (bytes_piece b.bytes) (PathOf t ∷ joined ps)
     ∙ ap (λ (x : List Piece). b.closed ++ x) (sym (joined_path b.bytes t (joined ps)))
+flushed_all b (Stored at o n ∷ ps) =
+    flushed_all (put b (Stored at o n)) ps
+    ∙ append_assoc (flushed b) (Stored at o n ∷ []) (joined ps)
+    ∙ append_assoc b.closed (bytes_piece b.bytes) (Stored at o n ∷ joined ps)
+    ∙ ap (λ (x : List Piece). b.closed ++ x) (sym (joined_stored b.bytes at o n (joined ps)))
 
 abbrev pub empty : Built
 empty = record { closed = []; bytes = [] }

@@ -17,7 +17,7 @@ use Rattle.dt_source.specs.Sequences.{SpellsEach}
 use Rattle.dt_source.specs.Strings.{chars_with, char_step, with_char, escaped, escape_at, faults, string_faults}
 use Rattle.dt_source.specs.Pieces.{fault_in, cell_fault, reference_fault, width_at, width_in, lawful}
 use Rattle.dt_source.specs.Order.{first_of}
-use Rattle.dt_source.specs.Source.{CellTree, Element, Refers, Marks, PieceTree, Quoted, Points, Pairs, Cells, WideCells, Statements, End, Sets, Unsets, Holds, Drops, ReserveTree, ItemTree, Root, Extend, Delete, Omit, SourceTree, One, SpellsLabels, SpellsMarks, DropsLabels, SpellsCell, SpellsCells, OnePair, SpellsPiece, SpellsPlaced, SpellsFurther, SpellsValue, SpellsStatements, SpellsBody, SpellsItem, SpellsReserve, SpellsHeader, Spells, cell_of, fault_list, cells_faults, piece_faults, width_said, value_faults, faults_in, item_faults, reserve_faults, faults_of}
+use Rattle.dt_source.specs.Source.{CellTree, Element, Refers, Marks, PortionTree, Whole, Portion, PieceTree, Quoted, Points, Pairs, Cells, WideCells, Includes, Statements, End, Sets, Unsets, Holds, Drops, ReserveTree, ItemTree, Root, Extend, Delete, Omit, SourceTree, One, SpellsLabels, SpellsMarks, DropsLabels, SpellsCell, SpellsCells, OnePair, SpellsPortion, SpellsPiece, SpellsPlaced, SpellsFurther, SpellsValue, SpellsStatements, SpellsBody, SpellsItem, SpellsReserve, SpellsHeader, Spells, cell_of, fault_list, cells_faults, portion_values, portion_faults, piece_faults, width_said, value_faults, faults_in, item_faults, reserve_faults, faults_of}
 use Rattle.dt_source.specs.Order.{IsFirstInText}
 use Rattle.dt_lexeme.specs.Order.{Above}
 use Rattle.dt_lexeme.proofs.InOrder.{lexemes_above}
@@ -159,6 +159,12 @@ width_reach text l ts rest p take h =
     let t = takes_above p ts l rest take h in
     reach_one p l.end rest (fault_in (width_said text l)) (omega (arith, t.0, t.1)) (λ f e. let k = width_place l (literal_of text l) f (literal_place text l) e in (omega (arith, k, t.0), omega (arith, k, t.1))) t.2
 
+portion_reach : (text : List ℕ) (i : PortionTree) (ts rest : List Lexeme) (p : ℕ) → SpellsPortion i ts rest → Above p ts → Reach p rest (portion_faults (portion_values text i))
+portion_reach text Whole ts rest p s h = reach_none p rest (begins_above p ts _ rest s h)
+portion_reach text (Portion o n) ts rest p (a, b, c, d, first, offset, mid, size, close) h =
+    reach_both p b rest (fault_list (fault_in (value_of text o))) (fault_list (fault_in (value_of text n))) (fault_reach p b (value_of text o) (value_reach text 64 0 o a b p offset.1 (begins_above p ts _ a first h)))
+    (λ q g. reach_behind q d _ rest (fault_list (fault_in (value_of text n))) close (fault_reach q d (value_of text n) (value_reach text 64 0 n c d q size.1 (begins_above q b _ c mid g))))
+
 piece_reach : (text : List ℕ) (i : PieceTree) (ts rest : List Lexeme) (p : ℕ) → SpellsPiece i ts rest → Above p ts → Reach p rest (piece_faults text i)
 piece_reach text (Quoted l) ts rest p s h = string_reach text l ts rest p s.1 h
 piece_reach text (Points l) ts rest p s h = reach_none p rest (takes_rest p ts l rest s.1 h)
@@ -168,6 +174,9 @@ piece_reach text (Cells cs) ts rest p s h = cells_reach text (Some ThirtyTwo) cs
 piece_reach text (WideCells l cs) ts rest p (a, b, bits, literal, s) h =
     reach_both p b rest (fault_list (fault_in (width_said text l))) (cells_faults text (width_in (width_said text l)) cs) (width_reach text l a b p literal.1 (begins_above p ts _ a bits h))
     (λ q g. cells_reach text (width_in (width_said text l)) cs b rest q s g)
+piece_reach text (Includes w l i) ts rest p (a, b, c, word, open_, name, portion) h =
+    reach_both p c rest (string_faults text l) (portion_faults (portion_values text i)) (string_reach text l b c p name.1 (begins_above p a _ b open_ (takes_rest p ts w a word.1 h)))
+    (λ q g. portion_reach text i c rest q portion g)
 
 placed_reach : (text : List ℕ) (i : PieceTree) (ts rest : List Lexeme) (p : ℕ) → SpellsPlaced i ts rest → Above p ts → Reach p rest (piece_faults text i)
 placed_reach text i ts rest p (a, b, before, s, behind) h =

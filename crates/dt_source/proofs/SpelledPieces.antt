@@ -3,7 +3,7 @@ use Rattle.std.proofs.Common.{◌≡◌, ℕ, ◌<◌, List, [], ◌∷◌, leng
 use Rattle.dt_lexeme.specs.declared.lexeme.Lexeme.{Lexeme}
 use Rattle.dt_lexeme.specs.declared.lexeme.Fault.{Fault}
 use Rattle.dt_lexeme.specs.declared.lexeme.Kind.{Kind}
-use Rattle.dt_lexeme.specs.declared.lexeme.Kind.TheVariants.{Text, Reference, PathReference, Square, EndSquare, Less, Greater, Bits, Literal}
+use Rattle.dt_lexeme.specs.declared.lexeme.Kind.TheVariants.{Text, Reference, PathReference, Square, EndSquare, Less, Greater, Bits, IncludeBinary, Literal}
 use Rattle.dt_expression.specs.declared.elements.Width.{Width}
 use Rattle.dt_expression.specs.declared.elements.Width.TheVariants.{ThirtyTwo}
 use Rattle.dt_expression.specs.Expression.{Begins}
@@ -15,13 +15,14 @@ use Rattle.dt_source.specs.Pieces.{target_of, width_in, fault_in}
 use Rattle.dt_source.specs.Order.{first_of}
 use Rattle.dt_source.specs.Reading.Bodies.{labels_at, cells_at, pairs_at, less_by, less_at, bits_by, bits_at, piece_by, piece_at, placed_at}
 use Rattle.dt_source.specs.Marks.{is_label}
-use Rattle.dt_source.specs.Source.{CellTree, PieceTree, Quoted, Points, Pairs, Cells, WideCells, IsReference, SpellsCell, SpellsCells, OnePair, SpellsPiece, SpellsPlaced, cells_said, cells_faults, fault_list, width_said, piece_said, piece_faults}
+use Rattle.dt_source.specs.Source.{CellTree, PortionTree, PieceTree, Quoted, Points, Pairs, Cells, WideCells, Includes, IsReference, SpellsCell, SpellsCells, OnePair, SpellsPiece, SpellsPlaced, cells_said, cells_faults, fault_list, width_said, piece_said, piece_faults}
 use Rattle.dt_expression.proofs.Sound.{bind_ok}
 use Rattle.dt_expression.proofs.Complete.{begins_shorter}
 use Rattle.dt_source.proofs.Several as several
 use Rattle.dt_source.proofs.SpelledLabels.{NoLabel, labels_sound, labels_again, labels_shorter}
 use Rattle.dt_source.proofs.SpelledCells.{cells_sound, cells_again, cells_shorter, first_of_list}
 use Rattle.dt_source.proofs.SpelledPairs.{pairs_sound, pairs_again, pairs_shorter}
+use Rattle.dt_source.proofs.SpelledFiles.{included_sound, included_again, included_shorter}
 
 -- ---- what is read is spelled so
 
@@ -92,6 +93,7 @@ piece_sound text (t ∷ ts) ps f rest e = go t.kind refl e
         let m = cells_sound text (Some ThirtyTwo) ts ps f rest e in
         record { tree = Cells m.trees; spells = (ts, m.mid, (k, refl), m.spells, m.ends); value_is = m.said_is; fault_is = m.fault_is }
     go Bits k e = bits_sound text t ts ps f rest k e
+    go IncludeBinary k e = included_sound text t ts ps f rest k e
     go _ k e = absurd cc
 
 abbrev pub PlacedFound : List ℕ → List Lexeme → List Piece → Option Fault → List Lexeme → Type 0
@@ -141,6 +143,11 @@ wide_again text l cs t ts rest k h s =
     let same : first_of (piece_faults text (WideCells l cs)) ≡ earlier (fault_in (width_said text l)) (first_of (cells_faults text (width_in (width_said text l)) cs)) = both ∙ ap (λ (x : Option Fault). earlier x (first_of (cells_faults text (width_in (width_said text l)) cs))) one in
     ap (λ (x : Kind). piece_by text x t (l ∷ ts)) k ∙ ap (λ (x : Kind). bits_by text x l ts) h ∙ c ∙ ap (λ (x : Option Fault). several.part (piece_said text (WideCells l cs)) x rest) (sym same)
 
+includes_again : (text : List ℕ) (w l : Lexeme) (p : PortionTree) (ts rest : List Lexeme) → SpellsPiece (Includes w l p) ts rest → Again text (Includes w l p) ts rest
+unfolding piece_at
+includes_again text w l p ts rest h =
+    ap (piece_at text) h.3.1 ∙ ap (λ (x : Kind). piece_by text x w h.0) h.3.0 ∙ included_again text w.start l p h.0 h.1 h.2 rest h.4 h.5 h.6
+
 pub piece_again : (text : List ℕ) (p : PieceTree) (ts rest : List Lexeme) → SpellsPiece p ts rest → Again text p ts rest
 unfolding piece_at
 piece_again text (Quoted l) ts rest h = ap (piece_at text) h.1 ∙ quoted_again text l rest h.0
@@ -156,6 +163,7 @@ piece_again text (WideCells l cs) [] rest h = absurd h.2
 piece_again text (WideCells l cs) (t ∷ ts) rest h =
     let at : ts ≡ l ∷ h.1 = h.2.1 ∙ h.3.1 in
     ap (λ (x : List Lexeme). piece_at text (t ∷ x)) at ∙ wide_again text l cs t h.1 rest h.2.0 h.3.0 h.4
+piece_again text (Includes w l p) ts rest h = includes_again text w l p ts rest h
 
 pub front : (k : Kind) → is_label k ≡ false → (ts rest : List Lexeme) → Begins ts k rest → NoLabel ts
 front k n [] rest h = tt
@@ -171,6 +179,7 @@ piece_front (Points l) ts rest h = subst NoLabel (sym h.1) (reference_front l h.
 piece_front (Pairs ls) ts rest h = front Square refl ts h.0 h.2
 piece_front (Cells cs) ts rest h = front Less refl ts h.0 h.2
 piece_front (WideCells l cs) ts rest h = front Bits refl ts h.0 h.2
+piece_front (Includes w l p) ts rest h = subst NoLabel (sym h.3.1) (ap is_label h.3.0)
 
 piece_shorter : (p : PieceTree) (ts rest : List Lexeme) → SpellsPiece p ts rest → length rest < length ts
 piece_shorter (Quoted l) ts rest h = omega (arith, ap length h.1)
@@ -179,6 +188,7 @@ piece_shorter (Pairs ls) ts rest h = omega (arith, begins_shorter ts Square h.0 
 piece_shorter (Cells cs) ts rest h = omega (arith, begins_shorter ts Less h.0 h.2, cells_shorter cs h.0 h.1 h.3, begins_shorter h.1 Greater rest h.4)
 piece_shorter (WideCells l cs) ts rest h =
     omega (arith, begins_shorter ts Bits h.0 h.2, ap length h.3.1, begins_shorter h.1 Less h.4.0 h.4.2, cells_shorter cs h.4.0 h.4.1 h.4.3, begins_shorter h.4.1 Greater rest h.4.4)
+piece_shorter (Includes w l p) ts rest h = included_shorter w l p ts rest h
 
 pub placed_again : (text : List ℕ) (p : PieceTree) (ts rest : List Lexeme) → SpellsPlaced p ts rest → NoLabel rest
     → placed_at text ts ≡ Ok (piece_said text p, first_of (piece_faults text p), rest)

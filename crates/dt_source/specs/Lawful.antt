@@ -4,7 +4,7 @@ use Rattle.std.specs.Prelude.{ℕ, Bool, true, false, not, ◌&&◌, List, [], �
 use Rattle.dt_tree.specs.Name.{is_name}
 use Rattle.dt_tree.specs.Path.{is_path}
 use Rattle.dt_lexeme.specs.Label.{IsLabel}
-use Rattle.dt_meaning.specs.Syntax.{Target, OfLabel, OfPath, Piece, Plain, PhandleOf, PathOf, Entry, Defines, Undefines, Child, Removes, Body, Done, Then, Edit, Rooted, Extends, Deletes, Omits, Meaning}
+use Rattle.dt_meaning.specs.Syntax.{Target, OfLabel, OfPath, Piece, Plain, PhandleOf, PathOf, Stored, Entry, Defines, Undefines, Child, Removes, Body, Done, Then, Edit, Rooted, Extends, Deletes, Omits, Meaning}
 
 abbrev pub IsLawfulTarget : Target → Type 0
 IsLawfulTarget (OfLabel label) = IsLabel label
@@ -14,6 +14,7 @@ abbrev pub IsLawfulPiece : Piece → Type 0
 IsLawfulPiece (Plain bytes) = Unit {0}
 IsLawfulPiece (PhandleOf target) = IsLawfulTarget target
 IsLawfulPiece (PathOf target) = IsLawfulTarget target
+IsLawfulPiece (Stored at offset length) = Unit {0}
 
 abbrev pub has_bytes : List ℕ → Bool
 has_bytes [] = false

@@ -4,7 +4,7 @@ use Rattle.std.specs.Coded.{×_prop, Π_prop, Unit-prop}
 use mathlib.Core.Bool.{Bool-set}
 use mathlib.Core.HLevel.{×₃_prop}
 use Rattle.dt_lexeme.specs.Label.{IsLabel}
-use Rattle.dt_meaning.specs.Syntax.{Target, OfLabel, OfPath, Piece, Plain, PhandleOf, PathOf, Entry, Defines, Undefines, Child, Removes, Body, Done, Then, Edit, Rooted, Extends, Deletes, Omits}
+use Rattle.dt_meaning.specs.Syntax.{Target, OfLabel, OfPath, Piece, Plain, PhandleOf, PathOf, Stored, Entry, Defines, Undefines, Child, Removes, Body, Done, Then, Edit, Rooted, Extends, Deletes, Omits}
 use Rattle.dt_source.specs.Lawful.{IsLawfulTarget, IsLawfulPiece, IsLawfulEntry, IsLawfulBody, IsLawfulEdit}
 
 true_once : (b : Bool) → IsProp (IsTrue b)
@@ -24,6 +24,7 @@ piece_once : (p : Piece) → IsProp (IsLawfulPiece p)
 piece_once (Plain bytes) = Unit-prop
 piece_once (PhandleOf target) = target_once target
 piece_once (PathOf target) = target_once target
+piece_once (Stored at offset length) = Unit-prop
 
 mutual
   entry_once : (e : Entry (List Piece)) → IsProp (IsLawfulEntry e)

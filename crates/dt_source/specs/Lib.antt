@@ -11,6 +11,7 @@ pub mod SourceError
 pub mod Parse
 pub mod Lawful
 pub mod Counts
+pub mod Filled
 pub mod LawfulOnce
 pub mod Meaning
 pub mod BodyLaws

@@ -11,7 +11,7 @@ use Rattle.dt_source.specs.declared.cell.Cell.{Cell}
 use Rattle.dt_source.specs.declared.cell.Cell.TheVariants as cells
 use Rattle.dt_expression.specs.Values.{Value}
 use Rattle.dt_expression.specs.Element.{bytes_in, width_of, low_bytes, element}
-use Rattle.dt_meaning.specs.Syntax.{Target, OfLabel, OfPath, Piece, Plain, PhandleOf}
+use Rattle.dt_meaning.specs.Syntax.{Target, OfLabel, OfPath, Piece, Plain, PhandleOf, Stored}
 
 abbrev pub target_by : List ℕ → Lexeme → Kind → Target
 target_by text l PathReference = OfPath (slice_range text (l.start + 2) (l.end - 1))
@@ -65,6 +65,18 @@ cell_fault _ cells.Label = None
 
 abbrev pub cells_pieces : List ℕ → Option Width → List Cell → List Piece
 cells_pieces text w cs = flat_map (cell_pieces text w) cs
+
+-- ---- parts of files (dtc 1.6, Documentation/dts-format.txt: `/incbin/`)
+
+-- the part that offset and length name, where both are numbers
+abbrev pub stored : ℕ → Value → Value → List Piece
+stored at (Ok offset) (Ok len) = Stored at offset (Some len) ∷ []
+stored at _ _ = []
+
+-- Without an offset and a length all of the file is the part.
+abbrev pub portion_pieces : ℕ → Option (Value × Value) → List Piece
+portion_pieces at None = Stored at 0 None ∷ []
+portion_pieces at (Some x) = stored at x.0 x.1
 
 -- ---- neighbouring bytes are joined, and empty ones dropped
 

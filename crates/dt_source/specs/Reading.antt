@@ -2,7 +2,9 @@
 -- spelling of sources, and the place at which a text that is no source stops.
 pub mod Several
 pub mod Values
+pub mod Files
 pub mod Bodies
 pub mod Loops
 pub mod Whole
 pub mod Returned
+pub mod Filling

@@ -4,7 +4,7 @@ use Rattle.std.specs.Prelude.{◌≡◌, ◌≢◌, ℕ, Bool, true, false, ◌|
 use Rattle.dt_lexeme.specs.declared.lexeme.Lexeme.{Lexeme}
 use Rattle.dt_lexeme.specs.declared.lexeme.Fault.{Fault}
 use Rattle.dt_lexeme.specs.declared.lexeme.Kind.{Kind}
-use Rattle.dt_lexeme.specs.declared.lexeme.Kind.TheVariants.{Version, Plugin, MemReserve, Bits, DeleteNode, DeleteProperty, OmitIfNoRef, Label, Name, Literal, Text, Reference, PathReference, Pair, Semicolon, Brace, EndBrace, Equals, Comma, Less, Greater, Square, EndSquare, Slash}
+use Rattle.dt_lexeme.specs.declared.lexeme.Kind.TheVariants.{Version, Plugin, MemReserve, Bits, DeleteNode, DeleteProperty, OmitIfNoRef, IncludeBinary, Label, Name, Literal, Text, Reference, PathReference, Pair, Semicolon, Brace, EndBrace, Equals, Comma, Less, Greater, Square, EndSquare, Paren, EndParen, Slash}
 use Rattle.dt_expression.specs.declared.elements.Width.{Width}
 use Rattle.dt_expression.specs.declared.elements.Width.TheVariants.{ThirtyTwo}
 use Rattle.dt_source.specs.declared.cell.Cell.{Cell}
@@ -14,7 +14,7 @@ use Rattle.dt_expression.specs.Values.{Value, literal_of, value_of}
 use Rattle.dt_source.specs.Sequences.{SpellsEach}
 use Rattle.dt_meaning.specs.Syntax.{Piece, Plain, PathOf, Entry, Defines, Undefines, Child, Removes, body_of, Edit, Rooted, Extends, Deletes, Omits, Meaning}
 use Rattle.dt_source.specs.Strings.{string_bytes, string_faults, pair_byte}
-use Rattle.dt_source.specs.Pieces.{target_of, width_at, width_in, fault_in, cell_fault, cells_pieces, joined}
+use Rattle.dt_source.specs.Pieces.{target_of, width_at, width_in, fault_in, cell_fault, cells_pieces, portion_pieces, joined}
 use Rattle.dt_source.specs.Marks.{is_mark, omits, labels_in}
 use Rattle.dt_source.specs.Words.{label_bytes, name_bytes, concat}
 
@@ -25,12 +25,18 @@ pub data CellTree : Type 0 where
   Refers : (reference : Lexeme) → CellTree
   Marks : (label : Lexeme) → CellTree
 
+-- what stands behind a file's name: nothing, or an offset and a length
+pub data PortionTree : Type 0 where
+  Whole : PortionTree
+  Portion : (offset size : Expression) → PortionTree
+
 pub data PieceTree : Type 0 where
   Quoted : (text : Lexeme) → PieceTree
   Points : (reference : Lexeme) → PieceTree
   Pairs : (pairs : List Lexeme) → PieceTree
   Cells : (cells : List CellTree) → PieceTree
   WideCells : (bits : Lexeme) (cells : List CellTree) → PieceTree
+  Includes : (word name : Lexeme) (portion : PortionTree) → PieceTree
 
 -- the statements of a body
 pub data Statements : Type 0 where
@@ -95,12 +101,18 @@ IsPair k = (k ≡ Pair) ⊎ (k ≡ Label)
 abbrev pub OnePair : Lexeme → List Lexeme → List Lexeme → Type 0
 OnePair l ts rest = IsPair l.kind × Takes ts l rest
 
+-- Offset and length are literals, or expressions in parentheses.
+abbrev pub SpellsPortion : PortionTree → List Lexeme → List Lexeme → Type 0
+SpellsPortion Whole ts rest = Begins ts EndParen rest
+SpellsPortion (Portion o n) ts rest = (a b c d : List Lexeme) × Begins ts Comma a × SpellsPrimary o a b × Begins b Comma c × SpellsPrimary n c d × Begins d EndParen rest
+
 abbrev pub SpellsPiece : PieceTree → List Lexeme → List Lexeme → Type 0
 SpellsPiece (Quoted l) ts rest = One Text l ts rest
 SpellsPiece (Points l) ts rest = OneReference l ts rest
 SpellsPiece (Pairs ls) ts rest = (a b : List Lexeme) × Begins ts Square a × SpellsEach OnePair ls a b × Begins b EndSquare rest
 SpellsPiece (Cells cs) ts rest = SpellsCells cs ts rest
 SpellsPiece (WideCells l cs) ts rest = (a b : List Lexeme) × Begins ts Bits a × One Literal l a b × SpellsCells cs b rest
+SpellsPiece (Includes w l p) ts rest = (a b c : List Lexeme) × One IncludeBinary w ts a × Begins a Paren b × One Text l b c × SpellsPortion p c rest
 
 abbrev pub SpellsPlaced : PieceTree → List Lexeme → List Lexeme → Type 0
 SpellsPlaced p ts rest = (a b : List Lexeme) × DropsLabels ts a × SpellsPiece p a b × DropsLabels b rest
@@ -173,12 +185,17 @@ pair_bytes text l = pair_by_kind text l l.kind
 abbrev pub width_said : List ℕ → Lexeme → Result Width Fault
 width_said text l = width_at l (literal_of text l)
 
+abbrev pub portion_values : List ℕ → PortionTree → Option (Value × Value)
+portion_values text Whole = None
+portion_values text (Portion o n) = Some (value_of text o, value_of text n)
+
 abbrev pub piece_said : List ℕ → PieceTree → List Piece
 piece_said text (Quoted l) = Plain (string_bytes text l) ∷ []
 piece_said text (Points l) = PathOf (target_of text l) ∷ []
 piece_said text (Pairs ls) = Plain (concat (map (pair_bytes text) ls)) ∷ []
 piece_said text (Cells cs) = cells_said text (Some ThirtyTwo) cs
 piece_said text (WideCells l cs) = cells_said text (width_in (width_said text l)) cs
+piece_said text (Includes w l p) = portion_pieces w.start (portion_values text p)
 
 abbrev pub value_said : List ℕ → List PieceTree → List Piece
 value_said text ps = joined (flat_map (piece_said text) ps)
@@ -221,12 +238,17 @@ fault_list (Some f) = f ∷ []
 abbrev pub cells_faults : List ℕ → Option Width → List CellTree → List Fault
 cells_faults text w cs = flat_map (λ c. fault_list (cell_fault w (cell_of text c))) cs
 
+abbrev pub portion_faults : Option (Value × Value) → List Fault
+portion_faults None = []
+portion_faults (Some x) = fault_list (fault_in x.0) ++ fault_list (fault_in x.1)
+
 abbrev pub piece_faults : List ℕ → PieceTree → List Fault
 piece_faults text (Quoted l) = string_faults text l
 piece_faults text (Points l) = []
 piece_faults text (Pairs ls) = []
 piece_faults text (Cells cs) = cells_faults text (Some ThirtyTwo) cs
 piece_faults text (WideCells l cs) = fault_list (fault_in (width_said text l)) ++ cells_faults text (width_in (width_said text l)) cs
+piece_faults text (Includes w l p) = string_faults text l ++ portion_faults (portion_values text p)
 
 abbrev pub value_faults : List ℕ → List PieceTree → List Fault
 value_faults text ps = flat_map (piece_faults text) ps

@@ -1,6 +1,6 @@
 -- What parsed values say, without where they lie in memory.
 use Rattle.std.specs.Prelude.{ℕ, List, [], Option, Some, None, map}
-use Rattle.dt_meaning.specs.Syntax.{Target, OfLabel, OfPath, Piece, Plain, PhandleOf, PathOf, Entry, Defines, Undefines, Child, Removes, Body, body_of, Edit, Rooted, Extends, Deletes, Omits}
+use Rattle.dt_meaning.specs.Syntax.{Target, OfLabel, OfPath, Piece, Plain, PhandleOf, PathOf, Stored, Entry, Defines, Undefines, Child, Removes, Body, body_of, Edit, Rooted, Extends, Deletes, Omits}
 use Rattle.dt_source.specs.declared.labels.Labels.{Labels}
 use Rattle.dt_source.specs.declared.tree.Reference.{Reference}
 use Rattle.dt_source.specs.declared.tree.Reference.TheVariants as references
@@ -28,6 +28,7 @@ abbrev pub part_view : Part → Piece
 part_view (parts.Bytes bytes) = Plain bytes.items
 part_view (parts.Phandle target) = PhandleOf (target_view target)
 part_view (parts.Path target) = PathOf (target_view target)
+part_view (parts.File file) = Stored file.at file.offset file.length
 
 -- a statement, with each inner one in its place
 abbrev pub view_step : Statement-F (Entry (List Piece)) → Entry (List Piece)

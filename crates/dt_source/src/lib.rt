@@ -3,10 +3,13 @@
 //! The Devicetree Specification v0.4, chapter 6, is their grammar.
 #![tactic(auto)]
 
+mod binary;
 mod body;
 mod cell;
 mod cells;
 mod error;
+mod file_parts;
+mod filling;
 mod labels;
 mod lawful;
 mod marks;
@@ -23,6 +26,7 @@ mod spelling;
 mod string;
 mod tree;
 
+pub use binary::Binary;
 pub use body::MAX_BODY_DEPTH;
 pub use error::{SourceError, SourceErrorKind};
 pub use labels::Labels;
@@ -30,4 +34,4 @@ pub use lawful::{bodies_are_lists, says_lawful};
 pub use order::faults_are_in_order;
 pub use parser::{MAX_TEXT_LEN as MAX_SOURCE_LEN, one_source, parse};
 pub use spelling::reads_sources;
-pub use tree::{Item, Part, Reference, Source, Statement};
+pub use tree::{FilePart, Item, Part, Reference, Source, Statement};

@@ -34,6 +34,17 @@ impl<'a> Parts<'a> {
         self.bytes.extend_from_slice(bytes)
     }
 
+    /// Puts bytes behind the others, and copies none where none stand before them.
+    pub(crate) fn push_whole(&mut self, bytes: Vec<u8>) -> Result<(), AllocError>
+        ensures { OnOk result (built self.new ≡ put (built self.old) (Plain bytes.items)) }
+    {
+        if self.bytes.is_empty() {
+            self.bytes = bytes;
+            return Ok(());
+        }
+        self.bytes.extend_from_slice(bytes.as_slice())
+    }
+
     pub(crate) fn push_number(&mut self, width: Width, number: u64) -> Result<(), AllocError>
         ensures { OnOk result (built self.new ≡ put (built self.old) (Plain (low_bytes (bytes_in width) number))) }
     {

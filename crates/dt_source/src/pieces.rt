@@ -10,6 +10,7 @@ ghost use Rattle.dt_source.specs.Reading.Bodies.{piece_at, placed_at, pieces_at,
 ghost use Rattle.dt_source.specs.Reading.Loops.{comma_rest};
 
 use crate::cells::{cells, pairs};
+use crate::file_parts::included;
 use crate::parts::Parts;
 use crate::reading::{Pushed, Read};
 use crate::references::target;
@@ -133,6 +134,7 @@ fn piece<'a, 'text>(
             }
             Kind::Less => cells(alloc, parts, text, Some(Width::ThirtyTwo), rest),
             Kind::Bits => bits(alloc, parts, text, rest),
+            Kind::IncludeBinary => included(alloc, parts, text, t.start, rest),
             _ => Err(ReadError::Refused(syntax_at(ts))),
         },
     }

@@ -7,13 +7,28 @@ ghost use Rattle.dt_source.specs.Lawful.{IsLawfulEdit};
 ghost use Rattle.dt_source.specs.Counts.{how_many};
 ghost use Rattle.dt_source.specs.LawfulOnce.{edits_once};
 
+use crate::binary::Binary;
+use crate::filling::fill_items;
 use crate::labels::Labels;
+use dt_lexeme::ReadError;
+use std::alloc::Global;
 
 /// What a reference names: a label, or the path of a node.
 #[derive(Drop)]
 pub enum Reference<'a> {
     Label(&'a [u8]),
     Path(&'a [u8]),
+}
+
+/// A part of the file that an `/incbin/` names, which only dtc's language has.
+#[derive(Clone, Copy)]
+pub struct FilePart {
+    /// where the `/incbin/` stands in the text, in bytes
+    pub at: u32,
+    /// the first of its bytes
+    pub offset: u64,
+    /// so many bytes of it as there are, or all behind the offset
+    pub length: Option<u64>,
 }
 
 /// A part of a property's value.
@@ -25,6 +40,8 @@ pub enum Part<'a> {
     Phandle(Reference<'a>),
     /// the target's full path, and a zero byte
     Path(Reference<'a>),
+    /// a part of a file, which has no bytes until it is filled in
+    File(FilePart),
 }
 
 /// One statement of a body, in the order of the text.
@@ -75,6 +92,31 @@ pub struct Source<'a> {
     pub items: Vec<Item<'a>>,
     pub ghost lawful: { All IsLawfulEdit (map item_view items.items) } by { edits_once (map item_view items.items) },
     pub ghost few: { how_many (map item_view items.items) ≤ text_limit },
+}
+
+impl<'a> Source<'a> {
+    ghost use Rattle.dt_source.specs.Filled.{filled};
+    ghost use Rattle.dt_source.specs.Meaning.{meaning_of};
+    ghost use Rattle.dt_source.specs.Reading.Several.{Reads};
+
+    /// The source with its parts of files filled in, by the files in the order of the text, each at the place of its `/incbin/`.
+    /// Where the next file is of another place, or none is left, that `/incbin/` is refused. Of a whole file nothing is copied.
+    pub fn fill(self, alloc: Global, binaries: Vec<Binary>) -> Result<Source<'a>, ReadError>
+        ensures { Reads (λ s. meaning_of s) result (filled binaries.items (meaning_of self.entry)) }
+    {
+        let Source {
+            plugin,
+            reserves,
+            mut items,
+        } = self;
+        let mut left = binaries.into_iter();
+        fill_items(alloc, &mut left, &mut items)?;
+        Ok(Source {
+            plugin,
+            reserves,
+            items,
+        })
+    }
 }
 
 impl Source<'_> {

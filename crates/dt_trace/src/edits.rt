@@ -34,6 +34,8 @@ pub(crate) struct Walk<'t> {
     pub open: Vec<Open>,
     pub statement: Statement,
     pub plugin: bool,
+    /// The properties that are kept, by their names; all, where nothing is said.
+    pub kept: Option<&'t [Vec<u8>]>,
     labels: Vec<usize>,
     target: Option<usize>,
     bodies: usize,
@@ -54,6 +56,7 @@ impl<'t> Walk<'t> {
             open: Vec::new(alloc),
             statement: Statement::Fresh,
             plugin: false,
+            kept: None,
             labels: Vec::new(alloc),
             target: None,
             bodies: 0,
@@ -180,9 +183,19 @@ impl<'t> Walk<'t> {
         };
         let (node, body) = (self.node(), self.body());
         let text = named(self.text, lexeme);
+        if !self.keeps(text) {
+            return Ok(None);
+        }
         match self.table.define_property(node, text, body, name)? {
             Some(other) => Ok(self.found(Fault::DuplicateInBody, name, Some(other))),
             None => Ok(None),
+        }
+    }
+
+    fn keeps(&self, name: &[u8]) -> bool {
+        match self.kept {
+            None => true,
+            Some(names) => names.iter().any(|kept| kept.as_slice() == name),
         }
     }
 

@@ -1,9 +1,12 @@
-//! Which lexeme of a devicetree source a refusal of its edits or references is of, and whereabouts any lexeme stands.
+//! Which lexeme of a devicetree source a refusal of its edits or references is of, whereabouts any lexeme stands, and where a source
+//! defines what stands at a path.
 //!
-//! A light walk over lexemes, for sources that were refused: it makes no values, and a good source never comes here.
+//! A light walk over lexemes, for sources that something is told of: it makes no values, and a source of which nothing is told never
+//! comes here.
 #![tactic(auto)]
 
 mod culprit;
+mod definitions;
 mod edits;
 mod order;
 mod references;
@@ -11,4 +14,5 @@ mod table;
 mod tracing;
 
 pub use culprit::{Culprit, Fault};
+pub use definitions::Definitions;
 pub use tracing::{Around, Trace, fragment_names, trace_source, whereabouts};

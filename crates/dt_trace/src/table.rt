@@ -246,6 +246,14 @@ impl<'t> Table<'t> {
         }
     }
 
+    /// The lexeme that defined the property of this name last, if it is there.
+    pub fn property(&self, node: usize, name: &'t [u8]) -> Option<usize> {
+        match self.names.get(&Key { node, name }) {
+            Some(entry) if entry.is_there => Some(entry.lexeme),
+            _ => None,
+        }
+    }
+
     /// Defines a property, and answers its definition in the same body.
     pub fn define_property(
         &mut self,

@@ -1,15 +1,17 @@
 -- Where bytes begin with the spelling of tokens: what a reader meets, and what it has met.
-use Rattle.std.proofs.Common.{◌≡◌, ℕ, ◌+◌, ◌-◌, ◌<◌, Bool, true, false, List, [], ◌∷◌, ◌++◌, length, drop, Some, None, refl, ap, sym, subst, ◌∙◌, arith, append_assoc}
+use Rattle.std.proofs.Common.{◌≡◌, ℕ, ◌+◌, ◌-◌, ◌<◌, Bool, true, false, List, [], ◌∷◌, ◌++◌, length, take, drop, Some, None, refl, ap, sym, subst, ◌∙◌, ◌≤◌, arith, append_assoc}
 use Rattle.std.proofs.lemmas.Option.{some_pair_parts}
-use Rattle.std.proofs.lemmas.List.{length-append, length-drop, drop-drop, drop_at}
+use Rattle.std.proofs.Math.Seq.{take-add}
+use Rattle.std.proofs.lemmas.List.{append-nil, length-append, length-drop, drop-drop, drop_at, take_at}
 use Rattle.dt_blob.specs.Token.{Token}
-use Rattle.dt_blob.specs.Holds.{Spells, is_nop, without_nops}
+use Rattle.dt_blob.specs.Holds.{Spells, SpellsToken, is_nop, without_nops}
 use Rattle.dt_blob.specs.Steps.Reading.{token_at}
 use Rattle.dt_blob.proofs.Spelled.{token_sound}
 use Rattle.dt_blob.proofs.TokenLists.{first_again}
 use Rattle.dt_blob.proofs.Words.{AreBytes}
 use Rattle.dt_view.specs.declared.view.View.{View}
 use Rattle.dt_view.specs.Private.Reading.{Reads, StandsNothing}
+use Rattle.dt_view.specs.Reaching.{Reached}
 use Rattle.dt_view.specs.Standing.{Begins}
 
 -- ---- what is met
@@ -117,6 +119,49 @@ left_at block first rest from e l =
 pub left_by : (strings block rest : List ℕ) (from : ℕ) (t : Token) → AreBytes (drop from block) → token_at strings (drop from block) ≡ Some (t, rest) → length rest < length (drop from block) → drop (length block - length rest) block ≡ rest
 left_by strings block rest from t f e l = let found = token_sound strings (drop from block) rest t f e in left_at block found.first rest from found.is l
 
+-- ---- the tokens before an offset
+
+spelled_on : (strings x y : List ℕ) (a : List Token) (t : Token) → Spells strings a x → SpellsToken strings t y → Spells strings (a ++ t ∷ []) (x ++ y)
+spelled_on strings x y [] t s p = (y, [], ap (λ (z : List ℕ). z ++ y) s ∙ sym (append-nil y), p, refl)
+spelled_on strings x y (u ∷ a) t s p =
+    (s.0, s.1 ++ y, ap (λ (z : List ℕ). z ++ y) (s.2) ∙ append_assoc (s.0) (s.1) y, s.3, spelled_on strings (s.1) y a t (s.4) p)
+
+kept_on : (a : List Token) (t : Token) → is_nop t ≡ false → without_nops (a ++ t ∷ []) ≡ without_nops a ++ t ∷ []
+kept_on [] t n = rw n refl
+kept_on (u ∷ a) t n = by_kind (is_nop u) refl (kept_on a t n) where
+  by_kind : (b : Bool) → is_nop u ≡ b → without_nops (a ++ t ∷ []) ≡ without_nops a ++ t ∷ [] → without_nops ((u ∷ a) ++ t ∷ []) ≡ without_nops (u ∷ a) ++ t ∷ []
+  by_kind true e ih = rw e ih
+  by_kind false e ih = rw e (ap (λ (x : List Token). u ∷ x) ih)
+
+kept_nop : (a : List Token) (t : Token) → is_nop t ≡ true → without_nops (a ++ t ∷ []) ≡ without_nops a
+kept_nop [] t n = rw n refl
+kept_nop (u ∷ a) t n = by_kind (is_nop u) refl (kept_nop a t n) where
+  by_kind : (b : Bool) → is_nop u ≡ b → without_nops (a ++ t ∷ []) ≡ without_nops a → without_nops ((u ∷ a) ++ t ∷ []) ≡ without_nops (u ∷ a)
+  by_kind true e ih = rw e ih
+  by_kind false e ih = rw e (ap (λ (x : List Token). u ∷ x) ih)
+
+-- the first bytes up to the end of a token
+pub front_on : (block first rest : List ℕ) (from next : ℕ) → drop from block ≡ first ++ rest → next ≡ from + length first → take next block ≡ take from block ++ first
+front_on block first rest from next e n =
+    ap (λ (k : ℕ). take k block) n ∙ take-add from (length first) block
+    ∙ ap (λ (x : List ℕ). take from block ++ x) (ap (take (length first)) e ∙ take_at first rest (length first) refl)
+
+reach_on : (view : View) (from next : ℕ) (first : List ℕ) (t : Token) (ts : List Token) → take next view.structure.now ≡ take from view.structure.now ++ first → next ≤ length view.structure.now → SpellsToken view.strings.now t first → is_nop t ≡ false → Reached view from ts → Reached view next (ts ++ t ∷ [])
+reach_on view from next first t ts e l p n r = record {
+  all = r.all ++ t ∷ [];
+  spells = subst (Spells view.strings.now (r.all ++ t ∷ [])) (sym e) (spelled_on view.strings.now (take from view.structure.now) first r.all t r.spells p);
+  kept = kept_on r.all t n ∙ ap (λ (x : List Token). x ++ t ∷ []) r.kept;
+  inside = l;
+}
+
+reach_nop : (view : View) (from next : ℕ) (first : List ℕ) (t : Token) (ts : List Token) → take next view.structure.now ≡ take from view.structure.now ++ first → next ≤ length view.structure.now → SpellsToken view.strings.now t first → is_nop t ≡ true → Reached view from ts → Reached view next ts
+reach_nop view from next first t ts e l p n r = record {
+  all = r.all ++ t ∷ [];
+  spells = subst (Spells view.strings.now (r.all ++ t ∷ [])) (sym e) (spelled_on view.strings.now (take from view.structure.now) first r.all t r.spells p);
+  kept = kept_nop r.all t n ∙ r.kept;
+  inside = l;
+}
+
 -- ---- a token that was read, or none
 
 reads_at : (view : View) (from : ℕ) (over : List ℕ) (t : Token) → AreBytes (drop from view.structure.now) → token_at view.strings.now (drop from view.structure.now) ≡ Some (t, over) → length over < length (drop from view.structure.now)
@@ -126,11 +171,21 @@ reads_at view from over t f e l =
     let bytes : List ℕ = drop from view.structure.now in
     let is : drop (length view.structure.now - length over) view.structure.now ≡ over = left_by strings view.structure.now over from t f e l in
     let size : length bytes ≡ length view.structure.now - from = length-drop from view.structure.now in
+    let found = token_sound strings bytes over t f e in
+    let sum : length bytes ≡ length found.first + length over = ap length found.is ∙ length-append found.first over in
+    let next : ℕ = length view.structure.now - length over in
+    let place : next ≡ from + length found.first = omega (arith, size, sum, l) in
+    let front : take next view.structure.now ≡ take from view.structure.now ++ found.first = front_on view.structure.now found.first over from next found.is place in
+    let width : next - from ≡ length found.first = omega (arith, place) in
+    let piece : take (next - from) bytes ≡ found.first = ap (λ (k : ℕ). take k bytes) width ∙ ap (take (length found.first)) found.is ∙ take_at found.first over (length found.first) refl in
     record {
       ahead = λ n u us a. let p = met strings bytes over t u us a e n in (p.0, subst (λ (x : List ℕ). Begins strings x us) (sym is) (p.1));
       ahead_nop = λ n u us a. subst (λ (x : List ℕ). Begins strings x (u ∷ us)) (sym is) (met_nop strings bytes over t u us a e n);
       back = λ n us a. back strings bytes over t us f e n (subst (λ (x : List ℕ). Begins strings x us) is a);
       back_nop = λ n us a. back_nop strings bytes over t us f e n (subst (λ (x : List ℕ). Begins strings x us) is a);
+      reach = λ n ts r. reach_on view from next found.first t ts front (omega arith) found.spells n r;
+      reach_nop = λ n ts r. reach_nop view from next found.first t ts front (omega arith) found.spells n r;
+      spelled = subst (SpellsToken strings t) (sym piece) found.spells;
       further = omega (arith, size, l);
       inside = omega arith;
     }

@@ -5,6 +5,7 @@ use Rattle.dt_tree.specs.NodeData.{NodeData, Siblings, none, more}
 use Rattle.dt_blob.specs.Token.{Token, begin_node, end_node, property, nop, end, property_tokens, sibling_tokens, tokens_of}
 use Rattle.dt_view.specs.declared.view.View.{View}
 use Rattle.dt_view.specs.Private.Reading.{Finds, Opens, StandsNothing, inside_tokens}
+use Rattle.dt_view.specs.Reaching.{Reached}
 use Rattle.dt_view.specs.Standing.{Ahead, HasNoNode, StandFrom, StandsAt, ends}
 use Rattle.dt_view.proofs.Beginnings.{shorter}
 
@@ -16,6 +17,9 @@ opens view from t name at next f e = record {
       let p = f.ahead (begin_node n) us a in
       let same : begin_node name ≡ begin_node n = sym e ∙ p.0 in
       (cc same, p.1, p.2);
+  reach = λ ts r.
+      let p = f.reach ts r in
+      (p.0, subst (λ (x : Token). Reached view next (ts ++ x ∷ [])) e (p.1));
   further = (let begins = f.begins in let further = f.further in omega (arith, begins, further));
   stands = subst (λ (x : Token). Ahead view from (x ∷ [])) e (f.back [] (record { all = []; front = []; behind = drop next view.structure.now; after = []; is = refl; spells = refl; kept = refl }));
 }

@@ -1,4 +1,5 @@
 mod Beginnings
+mod CellCounts
 mod Descents
 mod Goings
 mod Holdings
@@ -6,4 +7,5 @@ mod Names
 mod Orders
 mod Overviews
 mod Pairs
+mod Reaches
 mod Shapes

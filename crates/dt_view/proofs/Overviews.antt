@@ -17,7 +17,7 @@ use Rattle.dt_blob.proofs.Tests.{both}
 use Rattle.dt_blob.proofs.TokenLists.{root_spelled, root_lexed}
 use Rattle.dt_blob.proofs.Whole.{reserves_sound, reserves_bytes}
 use Rattle.dt_blob.proofs.Words.{AreBytes}
-use Rattle.dt_view.specs.Shows.{NamedBelow, Shows, Views}
+use Rattle.dt_view.specs.Shows.{IsOver, NamedBelow, Shows, Views}
 use Rattle.dt_view.specs.Standing.{Begins}
 use Rattle.dt_view.specs.declared.stages.Stage.TheVariants as stage
 use Rattle.dt_view.specs.declared.view.View.{View}
@@ -25,12 +25,6 @@ use Rattle.dt_view.specs.Private.Stages.{accepts}
 use Rattle.dt_view.proofs.Shapes.{accept_tree, accepted_tree}
 
 -- ---- the blocks of a view
-
-pub record IsOver (bytes : List ℕ) (view : View) : Type 0 where
-  pub reserves : view.reserves.now ≡ reserves_of bytes
-  pub structure : view.structure.now ≡ structure_in bytes
-  pub strings : view.strings.now ≡ strings_of bytes
-  pub boot_cpu : view.boot_cpu ≡ (header_of bytes).boot_cpu
 
 pub is_over_blocks : (bytes : List ℕ) (view : View) (b : BlobBlocks) → AreBlocks bytes b → view.reserves.now ≡ b.reserves.now → view.structure.now ≡ b.structure.now → view.strings.now ≡ b.strings.now → view.boot_cpu ≡ b.boot_cpu → IsOver bytes view
 is_over_blocks bytes view b a r s t c = record { reserves = r ∙ a.reserves; structure = s ∙ a.structure; strings = t ∙ a.strings; boot_cpu = c ∙ a.boot_cpu }

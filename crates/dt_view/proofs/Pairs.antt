@@ -1,5 +1,5 @@
 -- The pairs of reserved memory, one by one.
-use Rattle.std.proofs.Common.{◌≡◌, ℕ, zero, suc, ◌+◌, ◌<◌, true, false, ◌&&◌, ◌==◌, List, [], ◌∷◌, length, drop, Option, Some, None, refl, ap, sym, subst, ◌∙◌, arith}
+use Rattle.std.proofs.Common.{◌≡◌, ℕ, zero, suc, ◌+◌, ◌*◌, ◌<◌, true, false, ◌&&◌, ◌==◌, List, [], ◌∷◌, length, drop, Option, Some, None, refl, ap, sym, subst, ◌∙◌, arith}
 use Rattle.std.specs.Prelude.{slice_get}
 use Rattle.byteorder.specs.Endian.{big_number}
 use Rattle.dt_blob.specs.Holds.{Reserves}
@@ -49,3 +49,27 @@ at_first p ss (suc n) o e i = absurd (omega arith)
 pub at_later : (p : ℕ × ℕ) (ss : List (ℕ × ℕ)) (before d : ℕ) (o : Option (ℕ × ℕ)) → d + 1 ≡ before → slice_get (p ∷ ss) before ≡ o → slice_get ss d ≡ o
 at_later p ss zero d o e i = absurd (omega arith)
 at_later p ss (suc n) d o e i = let same : d ≡ n = omega arith in ap (slice_get ss) same ∙ i
+
+-- the pairs from here on, and the bytes that all pairs have
+abbrev pub Sized : List ℕ → ℕ → ℕ → Type 0
+Sized rest passed total = (ss : List (ℕ × ℕ)) × Reserves ss rest × (passed + 16 * (length ss + 1) ≡ total)
+
+pub sized_short : (rest : List ℕ) (passed total : ℕ) → length rest < 16 → Sized rest passed total → ⊥
+sized_short rest passed total h q = asked_short rest 0 (slice_get (q.0) 0) h (q.0, q.1, refl)
+
+pub sized_end : (rest : List ℕ) (a b passed total : ℕ) → a ≡ big_number 8 rest → b ≡ big_number 8 (drop 8 rest) → (a == 0 && b == 0) ≡ true → Sized rest passed total → passed + 16 ≡ total
+sized_end rest a b passed total ea eb z q = by_list (q.0) (q.1) (q.2) where
+  by_list : (ss : List (ℕ × ℕ)) → Reserves ss rest → passed + 16 * (length ss + 1) ≡ total → passed + 16 ≡ total
+  by_list [] r i = omega (arith, i)
+  by_list (s ∷ ss) r i = absurd (let bad : Some s ≡ None = asked_end rest a b 0 (Some s) ea eb z (s ∷ ss, r, refl) in cc bad)
+
+pub sized_some : (rest : List ℕ) (a b passed total : ℕ) → a ≡ big_number 8 rest → b ≡ big_number 8 (drop 8 rest) → (a == 0 && b == 0) ≡ false → Sized rest passed total → Sized (drop 16 rest) (passed + 16) total
+sized_some rest a b passed total ea eb z q = by_list (q.0) (q.1) (q.2) where
+  by_list : (ss : List (ℕ × ℕ)) → Reserves ss rest → passed + 16 * (length ss + 1) ≡ total → Sized (drop 16 rest) (passed + 16) total
+  by_list [] r i =
+      let f = first_of rest 0 0 (r.0) (r.1) (omega arith) (omega arith) in
+      let same : (a == 0 && b == 0) ≡ true = ap (λ (x : ℕ). x == 0 && b == 0) (ea ∙ f.0) ∙ ap (λ (x : ℕ). 0 == 0 && x == 0) (eb ∙ f.1) in
+      absurd (let bad : true ≡ false = sym same ∙ z in cc bad)
+  by_list (s ∷ ss) r i =
+      let f = first_of rest (s.0) (s.1) (r.0) (r.1) (r.2) (r.3) in
+      (ss, subst (λ (x : List ℕ). Reserves ss x) (sym (f.2)) (r.5), omega (arith, i))

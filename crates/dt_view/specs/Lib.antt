@@ -1,6 +1,11 @@
+pub mod Aliases
 pub mod Cells
 pub mod Order
 pub mod Places
+pub mod Placing
 pub mod Private
+pub mod Reaching
+pub mod Regions
+pub mod Reserved
 pub mod Shows
 pub mod Standing

@@ -4,7 +4,8 @@ use Rattle.dt_tree.specs.Limits.{depth_limit}
 use Rattle.dt_tree.specs.Name.{is_name, are_names}
 use Rattle.dt_tree.specs.NodeData.{NodeData, Siblings, none, more, property_names, height_of}
 use Rattle.dt_tree.specs.TreeData.{TreeData}
-use Rattle.dt_blob.specs.HeaderWords.{header_of, header_fault, reserves_of}
+use Rattle.dt_blob.specs.Blocks.{structure_in}
+use Rattle.dt_blob.specs.HeaderWords.{header_of, header_fault, reserves_of, strings_of}
 use Rattle.dt_blob.specs.Holds.{Reserves, StructureSpells}
 use Rattle.dt_blob.specs.Token.{tree_tokens}
 use Rattle.dt_view.specs.Standing.{Ahead}
@@ -35,3 +36,10 @@ pub record Views (view : View) (tree : TreeData) : Type 0 where
   pub reserves : Reserves tree.reserves view.reserves.now
   pub root : Ahead view 0 (tree_tokens tree.root)
   pub boot_cpu : tree.boot_cpu ≡ view.boot_cpu
+
+-- the view's blocks are those of the bytes
+pub record IsOver (bytes : List ℕ) (view : View) : Type 0 where
+  pub reserves : view.reserves.now ≡ reserves_of bytes
+  pub structure : view.structure.now ≡ structure_in bytes
+  pub strings : view.strings.now ≡ strings_of bytes
+  pub boot_cpu : view.boot_cpu ≡ (header_of bytes).boot_cpu

@@ -1,9 +1,9 @@
 //! Numbers and texts in a property's value.
 ghost use Rattle.std.specs.Prelude.{◌≡◌, ◌==◌, ◌<◌, IfSome, length, position};
 ghost use Rattle.std.specs.Option.{option_copied};
-ghost use Rattle.dt_view.specs.Cells.{double_cell_in, number_in, text_in};
+ghost use Rattle.dt_view.specs.Cells.{behind_text_in, double_cell_in, number_in, string_in, text_in};
 
-use dt_tree::cell_at;
+use dt_tree::{behind, cell_at};
 
 /// The cell at a place of a value, in cells from 0: none where it isn't there whole.
 pub fn cell(value: &[u8], place: usize) -> Option<u32>
@@ -39,4 +39,25 @@ pub fn text(value: &[u8]) -> Option<&[u8]>
         None => None,
         Some(end) => Some(&value[..end]),
     }
+}
+
+// What stands behind the first text's zero byte.
+fn behind_text(value: &[u8]) -> Option<&[u8]>
+    ensures { option_copied result ≡ behind_text_in value.now }
+{
+    match zero_place(value) {
+        None => None,
+        Some(end) => Some(behind(behind(value, end), 1)),
+    }
+}
+
+/// The string at a place of a list of strings, counted from 0: none behind the last, and none without its zero byte.
+pub fn string(value: &[u8], place: usize) -> Option<&[u8]>
+    ensures { option_copied result ≡ string_in value.now place }
+{
+    let mut rest = value;
+    for _ in 0..place {
+        rest = behind_text(rest)?;
+    }
+    text(rest)
 }

@@ -9,14 +9,16 @@ mod laws;
 mod nodes;
 mod ordering;
 mod properties;
+mod regions;
 mod reserves;
 mod stages;
 mod tokens;
 mod view;
 
-pub use cells::{cell, double_cell, text};
+pub use cells::{cell, double_cell, string, text};
 pub use error::ViewError;
 pub use laws::{first_of_siblings, held_is_shown};
 pub use nodes::NodeOffset;
-pub use properties::{PropertyOffset, ViewProperty};
+pub use properties::{PlacedProperty, PropertyOffset, ViewProperty};
+pub use regions::{RegCells, Region, region_at};
 pub use view::View;

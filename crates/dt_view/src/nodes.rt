@@ -1,11 +1,12 @@
 //! Walks from node to node.
-ghost use Rattle.std.specs.Prelude.{◌≡◌, ◌≤◌, ◌∷◌, ◌++◌, List, IfOk, IsOkAnd, true, ℕ};
+ghost use Rattle.std.specs.Prelude.{◌≡◌, ◌≤◌, ◌∷◌, ◌++◌, [], List, IfOk, IsOkAnd, true, ℕ};
 ghost use Rattle.dt_tree.specs.NodeData.{NodeData, Siblings, more};
 ghost use Rattle.dt_tree.specs.TreeData.{TreeData};
 ghost use Rattle.dt_tree.specs.declared.property.Property.{Property};
 ghost use Rattle.dt_blob.specs.Token.{Token, end_node, property_tokens, sibling_tokens};
 ghost use Rattle.dt_view.specs.Order.{StandsIn, all_of};
 ghost use Rattle.dt_view.specs.Private.Reading.{inside_tokens};
+ghost use Rattle.dt_view.specs.Reaching.{Reached};
 ghost use Rattle.dt_view.specs.Shows.{Views};
 ghost use Rattle.dt_view.specs.Standing.{Ahead, HasNoNode, StandFrom, StandsAt, ends};
 ghost use Rattle.dt_view.specs.Places.{TellsNodes};
@@ -44,6 +45,9 @@ impl<'a> View<'a> {
         ensures inside { (ps : List Property) (nodes : Siblings) (ts : List Token)
             → Ahead self.now from (property_tokens ps ++ (sibling_tokens nodes ++ end_node ∷ ts))
             → IsOkAnd result (λ next. Ahead self.now next ts) }
+        ensures reached { (ps : List Property) (nodes : Siblings) (ts before : List Token)
+            → Ahead self.now from (property_tokens ps ++ (sibling_tokens nodes ++ end_node ∷ ts)) → Reached self.now from before
+            → IsOkAnd result (λ next. Reached self.now next (before ++ (property_tokens ps ++ (sibling_tokens nodes ++ end_node ∷ [])))) }
         ensures further { IfOk result (λ next. from ≤ next) }
     {
         let mut at = from;
@@ -72,6 +76,7 @@ impl<'a> View<'a> {
             → IsOkAnd result (λ root. StandsAt self.now root.at tree.root) }
         ensures first { (tree : TreeData) → Views self.now tree
             → IsOkAnd result (λ root. StandsIn self.now root.at tree.root (all_of tree.root.children)) }
+        ensures reached { (tree : TreeData) → Views self.now tree → IsOkAnd result (λ root. Reached self.now root.at []) }
     {
         let begun = self.begin(0)?;
         Ok(NodeOffset { at: begun.at })

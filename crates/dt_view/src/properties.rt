@@ -1,11 +1,13 @@
 //! The properties of a node.
 ghost use Rattle.std.specs.Prelude.{◌≡◌, ◌∷◌, ◌++◌, [], List, IsOkAnd, MatchResult, true};
-ghost use Rattle.std.specs.Option.{option_copied};
+ghost use Rattle.std.specs.Option.{option_copied, option_map};
 ghost use Rattle.dt_tree.specs.NodeData.{NodeData};
 ghost use Rattle.dt_tree.specs.PathMap.{value_of};
 ghost use Rattle.dt_tree.specs.declared.property.Property.{Property};
-ghost use Rattle.dt_blob.specs.Token.{Token, property_tokens};
+ghost use Rattle.dt_blob.specs.Token.{Token, begin_node, property_tokens};
+ghost use Rattle.dt_view.specs.Placing.{AreSpelled, TellsPlaced};
 ghost use Rattle.dt_view.specs.Private.Reading.{Has};
+ghost use Rattle.dt_view.specs.Reaching.{Reached, before_property};
 ghost use Rattle.dt_view.specs.Standing.{Ahead, HasNoNode, HasNoProperty, PropertiesFrom, StandsAt, ends_properties};
 ghost use Rattle.dt_view.specs.Places.{TellsProperties};
 
@@ -26,6 +28,14 @@ pub struct PropertyOffset {
 pub struct ViewProperty<'a> {
     pub name: &'a [u8],
     pub value: &'a [u8],
+}
+
+/// The value of a property, and the offsets of the structure block from which and up to which the property stands.
+#[derive(Clone, Copy)]
+pub struct PlacedProperty<'a> {
+    pub value: &'a [u8],
+    pub at: usize,
+    pub next: usize,
 }
 
 /// A property, and where it ends.
@@ -71,11 +81,15 @@ impl<'a> View<'a> {
         }
     }
 
-    // The value of the first property of this name, from inside a node on.
-    fn value_from(&self, from: usize, name: &[u8]) -> Result<Option<&'a [u8]>, ViewError>
-        ensures { (ps : List Property) (t : Token) → ends_properties t ≡ true
+    // The first property of this name, from inside a node on.
+    fn placed_from(&self, from: usize, name: &[u8]) -> Result<Option<PlacedProperty<'a>>, ViewError>
+        ensures found { (ps : List Property) (t : Token) → ends_properties t ≡ true
             → Ahead self.now from (property_tokens ps ++ t ∷ [])
-            → IsOkAnd result (λ value. option_copied value ≡ value_of ps name.now) }
+            → IsOkAnd result (λ place. option_map (λ p. p.value.now) place ≡ value_of ps name.now) }
+        ensures reached { (ps : List Property) (t : Token) (before : List Token) → ends_properties t ≡ true
+            → Ahead self.now from (property_tokens ps ++ t ∷ []) → Reached self.now from before
+            → TellsPlaced self.now result (before ++ before_property ps name.now) }
+        ensures spelled { AreSpelled self.now result name.now }
     {
         let mut at = from;
         'properties: loop {
@@ -83,7 +97,11 @@ impl<'a> View<'a> {
             match found.token {
                 BlobToken::Property(own, value) => {
                     if own == name {
-                        return Ok(Some(value));
+                        return Ok(Some(PlacedProperty {
+                            value,
+                            at: found.at,
+                            next: found.next,
+                        }));
                     }
                     at = found.next;
                 }
@@ -131,13 +149,32 @@ impl<'a> View<'a> {
         })
     }
 
+    /// The value of a node's property of this name and where the property stands: none where it has no such property.
+    pub fn placed(
+        &self,
+        node: NodeOffset,
+        name: &[u8],
+    ) -> Result<Option<PlacedProperty<'a>>, ViewError>
+        ensures stands { (d : NodeData) → StandsAt self.now node.at d
+            → IsOkAnd result (λ place. option_map (λ p. p.value.now) place ≡ value_of d.properties name.now) }
+        ensures reached { (d : NodeData) (before : List Token) → StandsAt self.now node.at d → Reached self.now node.at before
+            → TellsPlaced self.now result (before ++ begin_node d.name ∷ before_property d.properties name.now) }
+        ensures spelled { AreSpelled self.now result name.now }
+        ensures refused { HasNoNode self.now node.at → result ≡ Err ViewError.BadOffset }
+    {
+        let begun = self.begin(node.at)?;
+        self.placed_from(begun.next, name)
+    }
+
     /// The value of a node's property of this name: none where it has no such property.
     pub fn value(&self, node: NodeOffset, name: &[u8]) -> Result<Option<&'a [u8]>, ViewError>
         ensures stands { (d : NodeData) → StandsAt self.now node.at d
             → IsOkAnd result (λ value. option_copied value ≡ value_of d.properties name.now) }
         ensures refused { HasNoNode self.now node.at → result ≡ Err ViewError.BadOffset }
     {
-        let begun = self.begin(node.at)?;
-        self.value_from(begun.next, name)
+        match self.placed(node, name)? {
+            None => Ok(None),
+            Some(place) => Ok(Some(place.value)),
+        }
     }
 }

@@ -3,7 +3,7 @@ ghost use Rattle.std.specs.Prelude.{◌≡◌, ◌⊎◌, ◌↔◌, IfOk, IsErr
 ghost use Rattle.dt_tree.specs.TreeData.{TreeData};
 ghost use Rattle.dt_blob.specs.HeaderWords.{header_fault, reserves_of};
 ghost use Rattle.dt_blob.specs.Holds.{HaveNoEnd};
-ghost use Rattle.dt_view.specs.Shows.{Shows, Views};
+ghost use Rattle.dt_view.specs.Shows.{IsOver, Shows, Views};
 
 use crate::checking::{check_reserves, check_structure};
 use dt_blob::{BlobBlocks, BlobError, blocks_in};
@@ -40,6 +40,7 @@ impl<'a> View<'a> {
     /// Fails with `TooLarge`, `Truncated`, `BadMagic`, `BadVersion` or `BadLayout`, the header's first fault.
     pub fn over(bytes: &'a [u8]) -> Result<Self, BlobError>
         ensures shown { (tree : TreeData) → Shows bytes.now tree → IsOkAnd result (λ view. Views view tree) }
+        ensures blocks { IfOk result (λ view. IsOver bytes.now view) }
         ensures fault { MatchResult result (λ _. header_fault bytes.now ≡ None)
             (λ e. header_fault bytes.now ≡ Some e) }
     {

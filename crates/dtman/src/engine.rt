@@ -1,8 +1,8 @@
 //! The engines as dtc's command line calls them.
 
 use dtman_cli::refused_bytes;
-use dtman_dtc::{Compiler, Fault};
-use dtman_engine::{Position, compile_bytes, copy_bytes, dump_bytes, overlay_bytes, sort_bytes};
+use dtman_dtc::{Compiler, Fault, Texts, layout_bytes};
+use dtman_engine::{Position, compile_bytes, copy_bytes, overlay_bytes, sort_bytes};
 use std::alloc::Global;
 use std::hash::RandomState;
 
@@ -28,8 +28,11 @@ impl Compiler for Engine {
         }
     }
 
-    fn dump(&mut self, alloc: Global, blob: &[u8]) -> Result<Vec<u8>, Fault> {
-        dump_bytes(alloc, blob).map_err(|fault| dtc_fault(fault))
+    fn dump(&mut self, alloc: Global, blob: &[u8], texts: Texts) -> Result<Vec<u8>, Fault> {
+        match layout_bytes(alloc, blob, texts) {
+            Ok(text) => Ok(text),
+            Err(error) => Err(dtc_fault(dtman_engine::Fault::from(error))),
+        }
     }
 
     fn sort(&mut self, alloc: Global, hasher: RandomState, blob: &[u8]) -> Result<Vec<u8>, Fault> {

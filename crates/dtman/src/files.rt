@@ -1,6 +1,6 @@
 //! The system's files and standard streams, as dtc's command line asks for them.
 
-use dtman_dtc::{Host, Unread, Unwritten};
+use dtman_dtc::{Entry, EntryKind, Host, Unread, Unwritten};
 use dtman_engine::{FileChannel, MAX_BLOB_LEN, OutputChannel, read_all, write_out};
 use std::alloc::Global;
 use std::hash::RandomState;
@@ -20,7 +20,8 @@ impl<R> Drop for System<'_, R> {
     }
 }
 
-impl<R: Files + RandomSource + Input + Print + Eprint> Host for System<'_, R> {
+impl<R: Files + RandomSource + Input + Print + Eprint + AllocGlobal + Clone + Drop> Host
+    for System<'_, R> {
     fn read(&mut self, alloc: Global, path: &str) -> Result<Vec<u8>, Unread> {
         if path == "-" {
             return input(alloc, self.rt);
@@ -32,6 +33,31 @@ impl<R: Files + RandomSource + Input + Print + Eprint> Host for System<'_, R> {
             }
             Err(_) => Err(Unread),
         }
+    }
+
+    fn entries(&mut self, alloc: Global, path: &str) -> Result<Vec<Entry>, Unread> {
+        let Ok(folder) = fs::read_dir(self.rt, path) else {
+            return Err(Unread);
+        };
+        let mut entries = Vec::new(alloc);
+        for entry in folder {
+            let Ok(entry) = entry else {
+                return Err(Unread);
+            };
+            // what a link leads to
+            let kind = match fs::metadata(self.rt, entry.path()) {
+                Ok(kind) if kind.is_dir() => EntryKind::Folder,
+                Ok(kind) if kind.is_file() => EntryKind::File,
+                _ => EntryKind::Other,
+            };
+            let Ok(name) = String::from_str(alloc, entry.file_name()) else {
+                return Err(Unread);
+            };
+            if entries.push(Entry { name, kind }).is_err() {
+                return Err(Unread);
+            }
+        }
+        Ok(entries)
     }
 
     fn write(&mut self, path: &str, bytes: &[u8]) -> Result<(), Unwritten> {

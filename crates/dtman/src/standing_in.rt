@@ -21,9 +21,9 @@ enum Tool {
 }
 
 /// Runs a tool where the words ask for one, and answers its exit status.
-pub fn stand_in<R: Env + Files + RandomSource + Input + Print + Eprint + AllocGlobal>(
-    rt: &R,
-) -> Option<u8> {
+pub fn stand_in<
+    R: Env + Files + RandomSource + Input + Print + Eprint + AllocGlobal + Clone + Drop,
+>(rt: &R) -> Option<u8> {
     let words: Vec<String> = env::args(rt).ok()?.collect(rt.alloc()).ok()?;
     let words: Vec<&str> = words
         .iter()

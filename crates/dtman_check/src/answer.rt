@@ -1,9 +1,10 @@
 //! From a blob to the lines of its findings.
 use crate::line::{Shape, put_line};
+use crate::places::{Located, Source, locate_findings};
 use crate::writer::Writer;
 use dt_blob::{BlobError, read};
 use dt_check::Survey;
-use dt_check_table::{Finding, Selection, run_checks};
+use dt_check_table::{Finding, Least, Reference, Selection, run_checks};
 use dt_tree::{Name, Path, Tree, TreeError};
 use std::alloc::{AllocError, Global};
 use std::hash::RandomState;
@@ -21,9 +22,48 @@ pub enum Origin {
 pub struct Asked<'a> {
     /// What the file is called.
     pub file: &'a [u8],
+    /// The source with all that it takes in, whose lines are told; no bytes where there is none.
+    pub text: &'a [u8],
+    /// What `unknown_property` goes by.
+    pub reference: &'a Reference<'a>,
     pub shape: Shape,
     /// How often it is asked to say less: once, and warnings are left out; twice, and errors too.
     pub quiet: usize,
+}
+
+impl<'a> Asked<'a> {
+    /// Of a file, by what `unknown_property` goes by: plain lines of all, without places.
+    pub fn of(file: &'a [u8], reference: &'a Reference<'a>) -> Self {
+        Self {
+            file,
+            text: b"",
+            reference,
+            shape: Shape::Plain,
+            quiet: 0,
+        }
+    }
+
+    /// With the places of a source.
+    pub fn in_text(self, text: &'a [u8]) -> Self {
+        Self {
+            file: self.file,
+            text,
+            reference: self.reference,
+            shape: self.shape,
+            quiet: self.quiet,
+        }
+    }
+
+    /// In this shape, and so quiet.
+    pub fn shaped(self, shape: Shape, quiet: usize) -> Self {
+        Self {
+            file: self.file,
+            text: self.text,
+            reference: self.reference,
+            shape,
+            quiet,
+        }
+    }
 }
 
 /// What the checks of a tree told.
@@ -39,6 +79,14 @@ fn is_told(selection: &Selection, check: usize, quiet: usize) -> bool {
     (level.warns && quiet < 1) || (level.fails && quiet < 2)
 }
 
+/// What a mistake comes to at least that is looked for: who is asked to say less looks for errors alone.
+pub fn least_of(quiet: usize) -> Least {
+    if quiet < 1 {
+        return Least::Warning;
+    }
+    Least::Error
+}
+
 fn put_findings(
     alloc: Global,
     writer: &mut Writer,
@@ -47,20 +95,38 @@ fn put_findings(
     findings: &[Finding<'_>],
     asked: Asked<'_>,
 ) -> Result<(), AllocError> {
-    for finding in findings {
+    let places = places_of(alloc, survey, findings, asked)?;
+    for (index, finding) in findings.iter().enumerate() {
         if is_told(selection, finding.check, asked.quiet) {
-            put_line(
-                alloc,
-                writer,
-                survey,
-                selection,
-                asked.file,
-                finding,
-                asked.shape,
-            )?;
+            let located = places.get(index).copied().unwrap_or(nowhere());
+            put_line(alloc, writer, survey, selection, asked, finding, located)?;
         }
     }
     Ok(())
+}
+
+fn nowhere<'a>() -> Located<'a> {
+    Located {
+        own: None,
+        above: None,
+    }
+}
+
+// Where findings stand in the text: nowhere where there is none.
+fn places_of<'a>(
+    alloc: Global,
+    survey: &Survey<'_>,
+    findings: &[Finding<'_>],
+    asked: Asked<'a>,
+) -> Result<Vec<Located<'a>>, AllocError> {
+    if findings.is_empty() || asked.text.is_empty() || asked.quiet > 1 {
+        return Ok(Vec::new(alloc));
+    }
+    let source = Source {
+        file: asked.file,
+        text: asked.text,
+    };
+    locate_findings(alloc, source, survey, findings)
 }
 
 /// The lines of what the checks find in a tree.
@@ -72,7 +138,13 @@ pub fn check_tree(
     asked: Asked<'_>,
 ) -> Result<Answer, AllocError> {
     let survey = Survey::of(alloc, hasher, tree)?;
-    let report = run_checks(alloc, &survey, selection)?;
+    let report = run_checks(
+        alloc,
+        &survey,
+        asked.reference,
+        selection,
+        least_of(asked.quiet),
+    )?;
     let mut writer = Writer::new(alloc);
     put_findings(
         alloc,

@@ -1,4 +1,5 @@
 //! What is wrong on a bus, in words.
+use crate::words::Above;
 use crate::writer::Writer;
 use dt_check::{Bus, Graph, Message};
 use std::alloc::AllocError;
@@ -77,15 +78,16 @@ fn cells_above(
     name: &str,
     cells: Option<u32>,
     wanted: usize,
+    above: Above<'_>,
 ) -> Result<(), AllocError> {
-    writer.put(b"the node above ")?;
+    above.put(writer)?;
     match cells {
         None => {
-            writer.put(b"doesn't say ")?;
+            writer.put(b" doesn't say ")?;
             writer.put(name.as_bytes())?;
         }
         Some(count) => {
-            writer.put(b"has ")?;
+            writer.put(b" has ")?;
             writer.put(name.as_bytes())?;
             writer.count(" ", count as usize)?;
         }
@@ -94,15 +96,19 @@ fn cells_above(
 }
 
 /// Says what is wrong with a node of a graph, and answers whether it did.
-pub fn say_graph(writer: &mut Writer, message: Message) -> Result<bool, AllocError> {
+pub fn say_graph(
+    writer: &mut Writer,
+    message: Message,
+    above: Above<'_>,
+) -> Result<bool, AllocError> {
     match message {
         Message::GraphName(Graph::Port) => writer.put(b"a port isn't named port")?,
         Message::GraphName(Graph::Endpoint) => writer.put(b"an endpoint isn't named endpoint")?,
         Message::GraphUnit(number) => {
             writer.hex("the unit address wants to be ", u64::from(number))?;
         }
-        Message::GraphAddress(cells) => cells_above(writer, "#address-cells", cells, 1)?,
-        Message::GraphSize(cells) => cells_above(writer, "#size-cells", cells, 0)?,
+        Message::GraphAddress(cells) => cells_above(writer, "#address-cells", cells, 1, above)?,
+        Message::GraphSize(cells) => cells_above(writer, "#size-cells", cells, 0, above)?,
         _ => return Ok(false),
     }
     Ok(true)

@@ -1,16 +1,20 @@
-//! What `check` answers, from the bytes of a blob to lines of text: each mistake with its place, its check and what is wrong.
+//! What `check` answers, from the bytes of a blob to lines of text: each mistake with its place in the user's files, its check and what
+//! is wrong.
 #![tactic(auto)]
 
 mod answer;
 mod buses;
 mod escaping;
+mod learning;
 mod line;
 mod links;
 mod nodes;
 mod paths;
+mod places;
 mod words;
 mod writer;
 
-pub use answer::{Answer, Asked, Origin, check_blob, check_tree};
+pub use answer::{Answer, Asked, Origin, check_blob, check_tree, least_of};
+pub use learning::Learned;
 pub use line::Shape;
 pub use paths::path_at;

@@ -1,4 +1,5 @@
 //! What is wrong with one node, in words.
+use crate::words::Above;
 use crate::writer::Writer;
 use dt_check::Message;
 use std::alloc::AllocError;
@@ -9,12 +10,15 @@ fn reg_length(
     bytes: usize,
     address_cells: u32,
     size_cells: u32,
+    above: Above<'_>,
 ) -> Result<(), AllocError> {
     writer.count("has ", bytes)?;
     writer.count(" bytes; #address-cells ", address_cells as usize)?;
     writer.count(" and #size-cells ", size_cells as usize)?;
+    writer.put(b" of ")?;
+    above.put(writer)?;
     let entry = 4 * (address_cells as usize + size_cells as usize);
-    writer.count(" of the node above want a multiple of ", entry)
+    writer.count(" want a multiple of ", entry)
 }
 
 fn ranges_length(
@@ -23,38 +27,55 @@ fn ranges_length(
     above_cells: u32,
     address_cells: u32,
     size_cells: u32,
+    above: Above<'_>,
 ) -> Result<(), AllocError> {
     writer.count("has ", bytes)?;
     writer.count(" bytes; #address-cells ", address_cells as usize)?;
     writer.count(" and #size-cells ", size_cells as usize)?;
     writer.count(" of the node and #address-cells ", above_cells as usize)?;
+    writer.put(b" of ")?;
+    above.put(writer)?;
     let entry = 4 * (above_cells as usize + address_cells as usize + size_cells as usize);
-    writer.count(" above want a multiple of ", entry)
+    writer.count(" want a multiple of ", entry)
 }
 
-fn empty_map(writer: &mut Writer, name: &str, own: u32, above: u32) -> Result<(), AllocError> {
+fn empty_map(
+    writer: &mut Writer,
+    name: &str,
+    own: u32,
+    outer: u32,
+    above: Above<'_>,
+) -> Result<(), AllocError> {
     writer.put(b"is empty, but ")?;
     writer.put(name.as_bytes())?;
     writer.count(" is ", own as usize)?;
-    writer.count(", and of the node above ", above as usize)
+    writer.put(b", and of ")?;
+    above.put(writer)?;
+    writer.count(" ", outer as usize)
 }
 
 /// Says what has numbers in it, and answers whether it did.
-pub fn say_numbers(writer: &mut Writer, message: Message) -> Result<bool, AllocError> {
+pub fn say_numbers(
+    writer: &mut Writer,
+    message: Message,
+    above: Above<'_>,
+) -> Result<bool, AllocError> {
     match message {
         Message::RegLength {
             bytes,
             address_cells,
             size_cells,
-        } => reg_length(writer, bytes, address_cells, size_cells)?,
+        } => reg_length(writer, bytes, address_cells, size_cells, above)?,
         Message::RangesLength {
             bytes,
             above_cells,
             address_cells,
             size_cells,
-        } => ranges_length(writer, bytes, above_cells, address_cells, size_cells)?,
-        Message::EmptyAddress(own, above) => empty_map(writer, "#address-cells", own, above)?,
-        Message::EmptySize(own, above) => empty_map(writer, "#size-cells", own, above)?,
+        } => ranges_length(writer, bytes, above_cells, address_cells, size_cells, above)?,
+        Message::EmptyAddress(own, outer) => {
+            empty_map(writer, "#address-cells", own, outer, above)?;
+        }
+        Message::EmptySize(own, outer) => empty_map(writer, "#size-cells", own, outer, above)?,
         Message::BadNodeByte(byte) => writer.byte("the name of a node can't have", byte)?,
         Message::OddNodeByte(byte) => {
             writer.byte("not recommended in the name of a node:", byte)?;
@@ -109,6 +130,8 @@ pub fn plain_words(message: Message) -> &'static str {
             "the name of an alias has other than lower case letters, digits and -",
         Message::PhandlesDiffer => "phandle and linux,phandle differ",
         Message::SingleChild => "has a single child, which needs no #address-cells and #size-cells",
+        Message::LostRanges =>
+            "a bus with devices in memory, but no ranges: none of their addresses can be reached",
         Message::GraphReg => "reg is not one cell",
         Message::NoRemote => "no node has this phandle",
         _ => "",

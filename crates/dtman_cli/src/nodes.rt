@@ -121,6 +121,10 @@ pub fn valued<'a, S: Surroundings, E: Eprint, T>(
     };
     match answer {
         Ok(text) => Ok(Answer::Text(text)),
+        Err(AskError::Query(QueryError::Blob(error))) => {
+            let inputs = Inputs::Blob(file_of(blob_path, &blob));
+            Err(host.refusal(Fault::from(error), inputs))
+        }
         Err(error) => Err(unanswered(asked, error)),
     }
 }
@@ -140,6 +144,10 @@ pub fn listed<'a, S: Surroundings, E: Eprint, T>(
     };
     match list_text(host.alloc, blob.as_slice(), path) {
         Ok(text) => Ok(Answer::Text(text)),
+        Err(AskError::Query(QueryError::Blob(error))) => {
+            let inputs = Inputs::Blob(file_of(blob_path, &blob));
+            Err(host.refusal(Fault::from(error), inputs))
+        }
         Err(error) => Err(unanswered(asked, error)),
     }
 }
@@ -169,6 +177,10 @@ pub fn changed<'a, S: Surroundings, E: Eprint, T>(
             path: out.unwrap_or(asked.blob),
             bytes,
         }),
+        Err(AskError::Query(QueryError::Blob(error))) => {
+            let inputs = Inputs::Blob(file_of(asked.blob, &blob));
+            Err(host.refusal(Fault::from(error), inputs))
+        }
         Err(error) => Err(unanswered(asked, error)),
     }
 }

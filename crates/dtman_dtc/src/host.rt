@@ -1,5 +1,6 @@
 //! What dtc's command line asks of its surroundings.
 
+use crate::layout::Texts;
 use dtc_dialect::Span;
 use std::alloc::Global;
 use std::hash::RandomState;
@@ -11,6 +12,22 @@ pub struct Unread;
 /// A file can't be written.
 #[derive(Clone, Copy, Debug, PartialEq, Eq)]
 pub struct Unwritten;
+
+/// What stands in a folder.
+#[derive(Clone, Copy, Debug, PartialEq, Eq)]
+pub enum EntryKind {
+    File,
+    Folder,
+    /// Neither, as a pipe, or a link that leads nowhere.
+    Other,
+}
+
+/// One of those, by its name.
+#[derive(Drop)]
+pub struct Entry {
+    pub name: String,
+    pub kind: EntryKind,
+}
 
 /// A refusal of the compiler: its number and name, its line in the text that was given, and the bytes of that which are refused.
 #[derive(Clone, Copy, Debug)]
@@ -25,6 +42,9 @@ pub struct Fault {
 pub trait Host {
     /// The bytes of a file; of standard input where the path is `-`.
     fn read(&mut self, alloc: Global, path: &str) -> Result<Vec<u8>, Unread>;
+
+    /// What a folder has, in the order in which the system tells it.
+    fn entries(&mut self, alloc: Global, path: &str) -> Result<Vec<Entry>, Unread>;
 
     /// Makes or empties a file and writes it; standard output where the path is `-`.
     fn write(&mut self, path: &str, bytes: &[u8]) -> Result<(), Unwritten>;
@@ -46,7 +66,8 @@ pub trait Compiler {
         symbols: bool,
     ) -> Result<Vec<u8>, Fault>;
 
-    fn dump(&mut self, alloc: Global, blob: &[u8]) -> Result<Vec<u8>, Fault>;
+    /// The source of a blob in dtc's layout.
+    fn dump(&mut self, alloc: Global, blob: &[u8], texts: Texts) -> Result<Vec<u8>, Fault>;
 
     /// The blob of the tree that a blob holds in order of its names.
     fn sort(&mut self, alloc: Global, hasher: RandomState, blob: &[u8]) -> Result<Vec<u8>, Fault>;

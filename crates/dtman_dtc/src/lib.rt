@@ -6,7 +6,9 @@
 mod blob;
 mod booting;
 mod checking;
+mod folder_tree;
 mod host;
+mod layout;
 mod options;
 mod overlaying;
 mod reports;
@@ -15,7 +17,8 @@ mod searching;
 mod wording;
 
 pub use checking::run_check;
-pub use host::{Compiler, Fault, Host, Unread, Unwritten};
+pub use host::{Compiler, Entry, EntryKind, Fault, Host, Unread, Unwritten};
+pub use layout::{Texts, layout_bytes};
 pub use options::{Asked, BadWord, Format, Options, Order, Output, Room, read_words};
 pub use overlaying::run_fdtoverlay;
 pub use running::{DONE, FAILED, WRONG_TREE, run_dtc};

@@ -10,6 +10,8 @@ pub enum Format {
     Dts,
     /// A blob.
     Dtb,
+    /// A folder, which only an input can be.
+    Folder,
 }
 
 /// What is asked of the output.
@@ -60,8 +62,6 @@ pub struct Options<'a> {
     pub quiet: usize,
     /// Which checks warn and which are errors (`-W`, `-E`).
     pub selection: Selection,
-    /// Whether a word asks for a check: else none is made.
-    pub checks: bool,
     /// Whether what an error is found in is written all the same (`-f`).
     pub force: bool,
 }
@@ -223,7 +223,6 @@ impl<'a> Options<'a> {
             },
             quiet: 0,
             selection: Selection::usual(alloc)?,
-            checks: false,
             force: false,
         })
     }
@@ -401,20 +400,17 @@ fn set<'a>(
 }
 
 fn select<'a>(options: &mut Options<'a>, kind: Kind, word: &'a str) -> Result<(), BadWord<'a>> {
-    if !options.selection.apply(kind, word) {
-        return Err(BadWord::NoCheck(word));
+    if options.selection.apply(kind, word)? {
+        return Ok(());
     }
-    if word.strip_prefix("no-").is_none() {
-        options.checks = true;
-    }
-    Ok(())
+    Err(BadWord::NoCheck(word))
 }
 
 fn format_of<'a>(name: &'a str, word: &'a str) -> Result<Format, BadWord<'a>> {
     match word {
         "dts" => Ok(Format::Dts),
         "dtb" => Ok(Format::Dtb),
-        "fs" => Err(BadWord::MissingArgument(name, word)),
+        "fs" => Ok(Format::Folder),
         _ => Err(BadWord::BadArgument(name, word)),
     }
 }

@@ -22,6 +22,8 @@ pub(crate) enum Failure<'a> {
     Incomplete(Incomplete),
     /// It was said already what is wrong, and in what.
     Said(Wrong),
+    /// This line of a file is none of a reference set.
+    NoReference(&'a str, usize),
     /// An overlay that doesn't fit; why was said already.
     NotApplied(&'a str),
     /// A blob over 2^32 bytes.
@@ -301,6 +303,9 @@ fn words_of(alloc: Global, failure: &Failure<'_>) -> Result<String, AllocError> 
         }
         Failure::Said(Wrong::Tree) => format!(in alloc; "ERROR: Input tree has errors, aborting\n"),
         Failure::NotApplied(path) => format!(in alloc; "Failed to apply '{path}'\n"),
+        Failure::NoReference(path, line) => format!(in alloc;
+            "FATAL ERROR: {path}:{line}: no line of a reference set: a compatible, a tab and a property\n"
+        ),
         Failure::TooLong => format!(in alloc; "FATAL ERROR: error 38 TooLarge\n"),
     }
 }

@@ -3,7 +3,9 @@
 use crate::blob::{set_boot_cpu, with_room};
 use crate::booting::boot_cpu_of;
 use crate::checking::checked;
+use crate::folder_tree::folder_blob;
 use crate::host::{Compiler, Host};
+use crate::layout::Texts;
 use crate::options::{Asked, Format, Options, Order, Output, format_named, read_words};
 use crate::reports::{
     Failure, Source, fail, report_dialect, report_fault, report_shortfall, report_source,
@@ -27,9 +29,9 @@ pub(crate) const VERSION: &[u8] = b"Version: DTC 1.6.1-dtman-0.3\n";
 const HELP: &[u8] = b"Usage: dtc [options] <input file>\n
 Options: -[qI:O:o:V:d:R:S:p:a:fb:i:H:sW:E:@hv]
   -q, --quiet                 say less
-  -I, --in-format <arg>       dts or dtb
+  -I, --in-format <arg>       dts, dtb or fs (a folder)
   -o, --out <arg>             the output file, - for standard output
-  -O, --out-format <arg>      dtb, dts (canonical) or null (nothing)
+  -O, --out-format <arg>      dtb, dts or null (nothing)
   -V, --out-version <arg>     17, the version of each blob
   -d, --out-dependency <arg>  writes the files that were read, for make
   -R, --reserve <number>      empty entries of the memory reservations
@@ -42,8 +44,7 @@ Options: -[qI:O:o:V:d:R:S:p:a:fb:i:H:sW:E:@hv]
   -H, --phandle <arg>         epapr: phandles stand in properties phandle
   -f, --force                 writes what an error was found in
   -W, --warning <check>       a check warns; no-<check>, it doesn't
-  -E, --error <check>         a check is an error; no-<check>, it is none;
-                              checks are made where one of the two names one
+  -E, --error <check>         a check is an error; no-<check>, it is none
   -@, --symbols               adds the paths of all labelled nodes
   -h, --help                  this text
   -v, --version               the version\n";
@@ -94,29 +95,76 @@ fn convert<'a, H: Host, C: Compiler>(
     compiler: &mut C,
     options: &Options<'a>,
 ) -> Result<(), Failure<'a>> {
-    let bytes = read(alloc, host, options.input)?;
-    let from = options
-        .from
-        .unwrap_or(guessed(options.input, bytes.as_slice()));
+    let Given { from, bytes } = input_of(alloc, host, options)?;
     let to = options
         .to
         .unwrap_or(Output::Holds(wanted(options.output, from)));
     let mut found = Vec::new(alloc);
-    let blob = match (from, to) {
+    let Compiled { blob, text } = match (from, to) {
         (Format::Dts, _) => compiled(alloc, host, compiler, options, bytes.as_slice(), &mut found)?,
-        // what is printed is read once
-        (Format::Dtb, Output::Holds(Format::Dts)) => bytes,
-        (Format::Dtb, _) => copied(alloc, host, compiler, options, bytes.as_slice())?,
+        // what is printed is read once, and what a folder holds was laid out just now
+        (Format::Dtb, Output::Holds(Format::Dts)) => of_blob(alloc, bytes),
+        (Format::Folder, _) => of_blob(alloc, booted(bytes, options)),
+        (Format::Dtb, _) => of_blob(
+            alloc,
+            copied(alloc, host, compiler, options, bytes.as_slice())?,
+        ),
     };
-    checked(alloc, host, options, from, blob.as_slice())?;
+    checked(alloc, host, options, from, blob.as_slice(), text.as_slice())?;
     let blob = ordered(alloc, host, compiler, options, blob)?;
     let output = match to {
-        Output::Holds(Format::Dts) => dumped(alloc, host, compiler, options, blob.as_slice())?,
-        Output::Holds(Format::Dtb) => widened(alloc, host, options, blob.as_slice())?,
+        Output::Holds(Format::Dts) => dumped(
+            alloc,
+            host,
+            compiler,
+            options,
+            from,
+            blob.as_slice(),
+        )?,
+        Output::Holds(_) => widened(alloc, host, options, blob.as_slice())?,
         Output::Nothing => return put_found(alloc, host, options, found.as_slice()),
     };
     put_found(alloc, host, options, found.as_slice())?;
     put(host, options.output, output.as_slice())
+}
+
+/// What was given: what it is, and its bytes; those of its blob where it is a folder.
+#[derive(Drop)]
+pub(crate) struct Given {
+    pub(crate) from: Format,
+    pub(crate) bytes: Vec<u8>,
+}
+
+/// What the command line names as input.
+pub(crate) fn input_of<'a, H: Host>(
+    alloc: Global,
+    host: &mut H,
+    options: &Options<'a>,
+) -> Result<Given, Failure<'a>> {
+    let from = match options.from {
+        None if host.entries(alloc, options.input).is_ok() => Some(Format::Folder),
+        from => from,
+    };
+    if from == Some(Format::Folder) {
+        return Ok(Given {
+            from: Format::Folder,
+            bytes: folder_blob(alloc, host, options.input)?,
+        });
+    }
+    let bytes = read(alloc, host, options.input)?;
+    Ok(Given {
+        from: from.unwrap_or(guessed(options.input, bytes.as_slice())),
+        bytes,
+    })
+}
+
+/// A blob with the processor that was named to boot.
+fn booted(blob: Vec<u8>, options: &Options<'_>) -> Vec<u8> {
+    let mut blob = blob;
+    if let Some(number) = options.boot_cpu {
+        set_boot_cpu(&mut blob, number);
+    }
+    blob
 }
 
 /// What an input is: a blob where its bytes begin as one, else what its name says, else a source.
@@ -131,9 +179,25 @@ pub(crate) fn guessed(path: &str, bytes: &[u8]) -> Format {
 fn wanted(path: &str, from: Format) -> Format {
     let other = match from {
         Format::Dts => Format::Dtb,
-        Format::Dtb => Format::Dts,
+        Format::Dtb | Format::Folder => Format::Dts,
     };
     format_named(path).unwrap_or(other)
+}
+
+/// A blob, and the source with all that it takes in, of which it was made.
+#[derive(Drop)]
+pub(crate) struct Compiled {
+    pub blob: Vec<u8>,
+    /// No bytes where there is none.
+    pub text: Vec<u8>,
+}
+
+/// A blob that was made of no source.
+pub(crate) fn of_blob(alloc: Global, blob: Vec<u8>) -> Compiled {
+    Compiled {
+        blob,
+        text: Vec::new(alloc),
+    }
 }
 
 /// The blob of a source, with the processor that boots.
@@ -144,7 +208,7 @@ pub(crate) fn compiled<H: Host, C: Compiler>(
     options: &Options<'_>,
     source: &[u8],
     found: &mut Vec<Vec<u8>>,
-) -> Result<Vec<u8>, Failure<'static>> {
+) -> Result<Compiled, Failure<'static>> {
     let Ok(hasher) = host.seed() else {
         return Err(Failure::NoSeed);
     };
@@ -162,7 +226,7 @@ pub(crate) fn compiled<H: Host, C: Compiler>(
         Ok(mut blob) => {
             let guessed = boot_cpu_of(blob.as_slice());
             set_boot_cpu(&mut blob, options.boot_cpu.unwrap_or(guessed));
-            Ok(blob)
+            Ok(Compiled { blob, text: whole })
         }
         Err(fault) => {
             let source = Source {
@@ -210,12 +274,7 @@ fn copied<H: Host, C: Compiler>(
         return Err(Failure::NoSeed);
     };
     match compiler.copy(alloc, hasher, blob) {
-        Ok(mut copy) => {
-            if let Some(number) = options.boot_cpu {
-                set_boot_cpu(&mut copy, number);
-            }
-            Ok(copy)
-        }
+        Ok(copy) => Ok(booted(copy, options)),
         Err(fault) => Err(report_fault(alloc, host, options.input.as_bytes(), b"", &fault)),
     }
 }
@@ -240,15 +299,20 @@ fn ordered<H: Host, C: Compiler>(
     }
 }
 
-/// The canonical source of a blob.
+/// The source of a blob in dtc's layout. What a source was made of is no longer known: its strings are told apart.
 fn dumped<H: Host, C: Compiler>(
     alloc: Global,
     host: &mut H,
     compiler: &mut C,
     options: &Options<'_>,
+    from: Format,
     blob: &[u8],
 ) -> Result<Vec<u8>, Failure<'static>> {
-    match compiler.dump(alloc, blob) {
+    let texts = match from {
+        Format::Dts => Texts::Apart,
+        Format::Dtb | Format::Folder => Texts::Joined,
+    };
+    match compiler.dump(alloc, blob, texts) {
         Ok(text) => Ok(text),
         Err(fault) => Err(report_fault(alloc, host, options.input.as_bytes(), b"", &fault)),
     }

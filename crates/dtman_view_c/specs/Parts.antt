@@ -13,3 +13,8 @@ IsPart None part told = told ≡ nothing
 abbrev pub IsPair : Option (ℕ × ℕ) → Reservation → ViewTold → Type 0
 IsPair (Some pair) into told = (told ≡ done 0) × (into.address ≡ pair.0) × (into.size ≡ pair.1)
 IsPair None into told = told ≡ nothing
+
+-- what is asked for, where it is there
+abbrev pub IsGiven : {A : Type 0} → Option A → A → ViewTold → Type 0
+IsGiven (Some it) into told = (told ≡ done 0) × (into ≡ it)
+IsGiven None into told = told ≡ nothing

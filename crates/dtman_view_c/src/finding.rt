@@ -5,6 +5,7 @@ ghost use Rattle.dt_tree.specs.Path.{is_path, path_names};
 ghost use Rattle.dt_tree.specs.PathMap.{child_named, node_at};
 ghost use Rattle.dt_tree.specs.TreeData.{TreeData};
 ghost use Rattle.dt_view.specs.Order.{StandsIn, from_first, has_phandle, in_order, is_compatible, TellsNext};
+ghost use Rattle.dt_view.specs.Aliases.{TellsAlias, alias_in};
 ghost use Rattle.dt_view.specs.Places.{TellsPlace};
 ghost use Rattle.dt_view.specs.Shows.{Views};
 ghost use Rattle.dt_view.specs.Standing.{HasNoNode, StandsAt};
@@ -31,6 +32,15 @@ pub extern "C" fn dtman_view_find(view: &View<'_>, path: &[u8]) -> ViewTold
     ensures bad_path { is_path path.now ≡ false → result ≡ bad_path }
 {
     node_told(view.find(path))
+}
+
+/// The node at the path that an alias stands for.
+#[unsafe(no_mangle)]
+pub extern "C" fn dtman_view_alias(view: &View<'_>, name: &[u8]) -> ViewTold
+    ensures { TellsNode (λ answer. (tree : TreeData) → Views view.now tree
+        → TellsAlias view.now tree.root (alias_in tree.root name.now) answer) result }
+{
+    node_told(view.alias(name))
 }
 
 /// The first node with this phandle.

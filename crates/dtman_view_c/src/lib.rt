@@ -6,5 +6,7 @@
 mod finding;
 mod opening;
 mod parts;
+mod regions;
 mod told;
+mod values;
 mod walking;

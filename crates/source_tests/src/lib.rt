@@ -8,6 +8,8 @@
 #[cfg(test)]
 mod dtc;
 #[cfg(test)]
+mod dtc_files;
+#[cfg(test)]
 mod expressions;
 #[cfg(test)]
 mod gathered;

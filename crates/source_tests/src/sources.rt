@@ -12,7 +12,7 @@ use std::alloc::Global;
 use std::process::Abort;
 
 // The value of the last property of the last item, which is the root.
-fn last_value<'s, 'a>(source: &'s Source<'a>) -> Option<&'s [Part<'a>]> {
+pub fn last_value<'s, 'a>(source: &'s Source<'a>) -> Option<&'s [Part<'a>]> {
     match source.items.last() {
         Some(Item::Root(body)) => match body.last() {
             Some(Statement::Property { value, .. }) => Some(value.as_slice()),
@@ -110,7 +110,7 @@ fn values_of_bytes(rt: HostRuntime) {
     }
 }
 
-// The kind of a part, and its bytes, label or path.
+// The kind of a part, and its bytes, label or path; of a part of a file nothing.
 fn said<'s>(part: &'s Part<'_>) -> (&'static str, &'s [u8]) {
     match part {
         Part::Bytes(bytes) => ("bytes", bytes.as_slice()),
@@ -118,6 +118,7 @@ fn said<'s>(part: &'s Part<'_>) -> (&'static str, &'s [u8]) {
         Part::Phandle(Reference::Path(path)) => ("phandle of a path", path),
         Part::Path(Reference::Label(label)) => ("path of a label", label),
         Part::Path(Reference::Path(path)) => ("path of a path", path),
+        Part::File(_) => ("file", b""),
     }
 }
 

@@ -3,7 +3,7 @@ use Rattle.std.specs.Prelude.{◌≡◌, ◌≤◌, ℕ, true, false, List, [], 
 use Rattle.std.specs.Str.{bytes_eq}
 use Rattle.dt_tree.specs.Name.{is_name}
 use Rattle.dt_meaning.specs.Paths.{Path}
-use Rattle.dt_meaning.specs.Syntax.{Target, OfLabel, OfPath, Piece, Plain, PhandleOf, PathOf}
+use Rattle.dt_meaning.specs.Syntax.{Target, OfLabel, OfPath, Piece, Plain, PhandleOf, PathOf, Stored}
 use Rattle.dt_meaning.specs.Edits.{Definition, Label, State, is_of}
 use Rattle.dt_live.proofs.Each.{Each}
 
@@ -44,6 +44,7 @@ abbrev pub IsNamedPiece : (List ℕ → Type 0) → Piece → Type 0
 IsNamedPiece N (Plain b) = Unit {0}
 IsNamedPiece N (PhandleOf t) = IsNamedTarget N t
 IsNamedPiece N (PathOf t) = IsNamedTarget N t
+IsNamedPiece N (Stored at offset length) = Unit {0}
 
 abbrev pub IsNamedValue : (List ℕ → Type 0) → List Piece → Type 0
 IsNamedValue N v = Each (IsNamedPiece N) v

@@ -4,7 +4,7 @@ use Rattle.dt_lexeme.specs.declared.lexeme.Lexeme.{Lexeme}
 use Rattle.dt_lexeme.specs.declared.lexeme.Fault.{Fault}
 use Rattle.dt_lexeme.specs.declared.lexeme.Refusal.{Refusal}
 use Rattle.dt_lexeme.specs.declared.lexeme.Kind.{Kind}
-use Rattle.dt_lexeme.specs.declared.lexeme.Kind.TheVariants.{Bits, DeleteNode, DeleteProperty, Label, Name, Literal, Character, Text, Reference, PathReference, Pair, Semicolon, Brace, EndBrace, Equals, Comma, Less, Greater, Square, EndSquare, Paren}
+use Rattle.dt_lexeme.specs.declared.lexeme.Kind.TheVariants.{Bits, DeleteNode, DeleteProperty, IncludeBinary, Label, Name, Literal, Character, Text, Reference, PathReference, Pair, Semicolon, Brace, EndBrace, Equals, Comma, Less, Greater, Square, EndSquare, Paren}
 use Rattle.dt_expression.specs.declared.elements.Width.{Width}
 use Rattle.dt_expression.specs.declared.elements.Width.TheVariants.{ThirtyTwo}
 use Rattle.dt_source.specs.declared.cell.Cell.{Cell}
@@ -13,6 +13,7 @@ use Rattle.dt_expression.specs.Values.{literal_of}
 use Rattle.dt_expression.specs.Reading.{◌>>=◌, Read, syntax_at, too_deep}
 use Rattle.dt_expression.specs.ReadingExpressions.{primary_at}
 use Rattle.dt_source.specs.Reading.Several.{earlier, Part, many}
+use Rattle.dt_source.specs.Reading.Files.{included_at}
 use Rattle.dt_meaning.specs.Syntax.{Piece, Plain, PathOf, Entry, Defines, Undefines, Child, Removes, body_of}
 use Rattle.dt_source.specs.Strings.{string_bytes, string_faults, pair_byte}
 use Rattle.dt_source.specs.Pieces.{target_of, width_at, width_in, fault_in, cell_fault, cells_pieces, joined}
@@ -120,6 +121,7 @@ piece_by text PathReference t ts = path_at text t ts
 piece_by text Square t ts = square_at text ts
 piece_by text Less t ts = cells_at text (Some ThirtyTwo) ts
 piece_by text Bits t ts = bits_at text ts
+piece_by text IncludeBinary t ts = included_at text t.start ts
 piece_by text _ t ts = Err (syntax_at (t ∷ ts))
 
 unfoldable pub piece_at : List ℕ → List Lexeme → Part (List Piece)

@@ -1,7 +1,7 @@
 -- A value while it is read.
 use Rattle.std.specs.Prelude.{ℕ, List, [], ◌∷◌, ◌++◌, fold, map}
 use Rattle.dt_source.specs.declared.parts.Parts.{Parts}
-use Rattle.dt_meaning.specs.Syntax.{Piece, Plain, PhandleOf, PathOf}
+use Rattle.dt_meaning.specs.Syntax.{Piece, Plain, PhandleOf, PathOf, Stored}
 use Rattle.dt_source.specs.Tree.{part_view}
 
 -- the parts that are closed, and the bytes behind them
@@ -27,6 +27,7 @@ abbrev pub put : Built → Piece → Built
 put b (Plain bytes) = record { closed = b.closed; bytes = b.bytes ++ bytes }
 put b (PhandleOf target) = closed_by b (PhandleOf target)
 put b (PathOf target) = closed_by b (PathOf target)
+put b (Stored at offset length) = closed_by b (Stored at offset length)
 
 abbrev pub put_all : Built → List Piece → Built
 put_all b ps = fold put b ps

@@ -5,6 +5,7 @@ use Rattle.dt_tree.specs.NodeData.{Siblings}
 use Rattle.dt_blob.specs.Holds.{is_nop}
 use Rattle.dt_blob.specs.Token.{Token, begin_node, property, property_tokens, sibling_tokens}
 use Rattle.dt_view.specs.declared.view.View.{View}
+use Rattle.dt_view.specs.Reaching.{IsSpelled, Reached}
 use Rattle.dt_view.specs.Standing.{Ahead}
 
 -- no token stands there
@@ -17,6 +18,9 @@ pub record Reads (view : View) (from : ℕ) (t : Token) (next : ℕ) : Type 0 wh
   pub ahead_nop : is_nop t ≡ true → (u : Token) (us : List Token) → Ahead view from (u ∷ us) → Ahead view next (u ∷ us)
   pub back : is_nop t ≡ false → (us : List Token) → Ahead view next us → Ahead view from (t ∷ us)
   pub back_nop : is_nop t ≡ true → (us : List Token) → Ahead view next us → Ahead view from us
+  pub reach : is_nop t ≡ false → (ts : List Token) → Reached view from ts → Reached view next (ts ++ t ∷ [])
+  pub reach_nop : is_nop t ≡ true → (ts : List Token) → Reached view from ts → Reached view next ts
+  pub spelled : IsSpelled view from t next
   pub further : from < next
   pub inside : next ≤ length view.structure.now
 
@@ -24,6 +28,8 @@ pub record Reads (view : View) (from : ℕ) (t : Token) (next : ℕ) : Type 0 wh
 pub record Finds (view : View) (from : ℕ) (t : Token) (at next : ℕ) : Type 0 where
   pub ahead : (u : Token) (us : List Token) → Ahead view from (u ∷ us) → (t ≡ u) × Ahead view at (u ∷ us) × Ahead view next us
   pub back : (us : List Token) → Ahead view next us → Ahead view from (t ∷ us)
+  pub reach : (ts : List Token) → Reached view from ts → Reached view at ts × Reached view next (ts ++ t ∷ [])
+  pub spelled : IsSpelled view at t next
   pub begins : from ≤ at
   pub further : at < next
   pub inside : next ≤ length view.structure.now
@@ -32,6 +38,7 @@ pub record Finds (view : View) (from : ℕ) (t : Token) (at next : ℕ) : Type 0
 pub record Opens (view : View) (from : ℕ) (name : List ℕ) (at next : ℕ) : Type 0 where
   pub ahead : (n : List ℕ) (us : List Token) → Ahead view from (begin_node n ∷ us) → (name ≡ n) × Ahead view at (begin_node n ∷ us) × Ahead view next us
   pub stands : Ahead view from (begin_node name ∷ [])
+  pub reach : (ts : List Token) → Reached view from ts → Reached view at ts × Reached view next (ts ++ begin_node name ∷ [])
   pub further : from < next
 
 -- a property stands there, and ends at an offset

@@ -14,6 +14,11 @@ returns-in-Bytes-clause-step c =
     let b = c.in-Bytes.field-0.items in
     (Bytes b, ap (λ p. found_in c.args.plugin (tree_of d) (part_view p)) c.in-Bytes.is, adds-bytes d b c.args.targets.now)
 
+pub returns-in-File-clause-step : goal.returns-in-File-clause-step
+returns-in-File-clause-step c =
+    let d = c.args.live.now in
+    (Bytes [], ap (λ p. found_in c.args.plugin (tree_of d) (part_view p)) c.in-File.is, adds-bytes d [] c.args.targets.now)
+
 pub returns-in_ok-push-in-Path-clause-step : goal.returns-in_ok-push-in-Path-clause-step
 returns-in_ok-push-in-Path-clause-step c =
     let d = c.args.live.now in

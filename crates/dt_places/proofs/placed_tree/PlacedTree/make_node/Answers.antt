@@ -37,7 +37,7 @@ returns-in-New-clause-sound g c =
     let late : d.clock < c.in-Some.made = omega (arith, c.in-Some.ensures.1) in
     let e = subst (λ (e : Entry). Enters (record { owner = c.args.parent; name = c.args.name; value = None; made = c.in-Some.made; removed = false; again = false }) d.nodes c.enter.new.self e) c.in-New.is c.in_ok-row.ensures in
     let a = added-new d c.requires.sound c.args.parent c.requires.parent c.args.name c.in-Some.made c.in-New.row c.enter.new.self e in
-    record { tables = tables-after d c.requires.sound c.args.parent c.requires.parent c.args.name c.in-Some.made (rows_in c.enter.new.self) (found_in c.enter.new.self) a c.in-Some.made (omega arith) (omega (arith, late)); marks = marks-after d c.requires.sound c.args.parent c.requires.parent c.args.name c.in-Some.made (rows_in c.enter.new.self) (found_in c.enter.new.self) a; single = c.requires.sound.single }
+    record { tables = tables-after d c.requires.sound c.args.parent c.requires.parent c.args.name c.in-Some.made (rows_in c.enter.new.self) (found_in c.enter.new.self) a c.in-Some.made (omega arith) (omega (arith, late)); marks = marks-after d c.requires.sound c.args.parent c.requires.parent c.args.name c.in-Some.made (rows_in c.enter.new.self) (found_in c.enter.new.self) a; single = c.requires.sound.single; chained = c.requires.sound.chained; valued = c.requires.sound.valued }
 
 pub returns-in-New-clause-node : goal.returns-in-New-clause-node
 returns-in-New-clause-node g c =
@@ -103,6 +103,8 @@ returns-then-is_row_made-clause-sound g c =
           subst (λ (fs : Found). IsOwner (rows_in c.enter.new.self) fs (slice_index_or d.marks.items k 0)) (sym met.2)
           (subst (λ (rs : List (Place (Unit {0}))). IsOwner rs (found_in d.nodes) (slice_index_or d.marks.items k 0)) (sym met.1) (c.requires.sound.marks k));
       single = c.requires.sound.single;
+      chained = c.requires.sound.chained;
+      valued = c.requires.sound.valued;
     }
 
 pub returns-then-is_row_made-clause-node : goal.returns-then-is_row_made-clause-node
@@ -170,6 +172,8 @@ returns-else-is_row_made-clause-sound g c =
           subst (λ (fs : Found). IsOwner (slice_set (rows_in c.enter.new.self) i r) fs (slice_index_or d.marks.items k 0)) (sym met.2)
           (subst (λ (rs : List (Place (Unit {0}))). IsOwner rs (found_in d.nodes) (slice_index_or d.marks.items k 0)) (sym ns) (marks-made d c.requires.sound c.args.parent c.requires.parent c.args.name i met.0 r (ap (λ z. z.owner) ys) (ap (λ z. z.name.now) ys) (ap (λ z. z.again) ys) late refl away k));
       single = c.requires.sound.single;
+      chained = c.requires.sound.chained;
+      valued = c.requires.sound.valued;
     }
 
 pub returns-else-is_row_made-clause-node : goal.returns-else-is_row_made-clause-node

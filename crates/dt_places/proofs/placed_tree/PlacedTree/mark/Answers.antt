@@ -12,6 +12,8 @@ returns-clause-sound g c =
           (standing-owner (rows_in d.nodes) (found_in d.nodes) c.requires.sound.tables.nodes_table c.requires.sound.tables.grown c.requires.sound.tables.node_owners c.args.node c.requires.node.known c.requires.node.there)
           c.in_ok-push.ensures.items;
       single = c.requires.sound.single;
+      chained = c.requires.sound.chained;
+      valued = c.requires.sound.valued;
     }
 
 pub returns-clause-tree : goal.returns-clause-tree

@@ -28,7 +28,7 @@ returns-in-New-clause-sound g c =
     let late : d.clock < c.in-Some.made = omega (arith, c.in-Some.ensures.1) in
     let e = subst (λ (e : Entry). Enters (record { owner = c.args.parent; name = c.args.name; value = None; made = c.in-Some.made; removed = false; again = false }) d.nodes c.enter.new.self e) c.in-New.is c.in_ok-row.ensures in
     let a = added-new d c.requires.sound c.args.parent c.requires.parent c.args.name c.in-Some.made c.in-New.row c.enter.new.self e in
-    record { tables = tables-after d c.requires.sound c.args.parent c.requires.parent c.args.name c.in-Some.made (rows_in c.enter.new.self) (found_in c.enter.new.self) a c.in-Some.made (omega arith) (omega (arith, late)); marks = marks-after d c.requires.sound c.args.parent c.requires.parent c.args.name c.in-Some.made (rows_in c.enter.new.self) (found_in c.enter.new.self) a; single = c.requires.sound.single }
+    record { tables = tables-after d c.requires.sound c.args.parent c.requires.parent c.args.name c.in-Some.made (rows_in c.enter.new.self) (found_in c.enter.new.self) a c.in-Some.made (omega arith) (omega (arith, late)); marks = marks-after d c.requires.sound c.args.parent c.requires.parent c.args.name c.in-Some.made (rows_in c.enter.new.self) (found_in c.enter.new.self) a; single = c.requires.sound.single; chained = c.requires.sound.chained; valued = c.requires.sound.valued }
 
 pub returns-in-New-clause-node : goal.returns-in-New-clause-node
 returns-in-New-clause-node g c =
@@ -81,7 +81,7 @@ returns-in_ok-row-in-Found-clause-sound g c =
     let met = subst (λ (e : Entry). Enters (record { owner = c.args.parent; name = c.args.name; value = None; made = c.in-Some.made; removed = false; again = false }) d.nodes c.enter.new.self e) c.in-Found.is c.in_ok-row.ensures in
     let gone : is_made (rows_in d.nodes) (place_at (rows_in d.nodes) i) ≡ false = ap (λ rs. is_made rs (place_at rs i)) (sym (c.as_slice.ensures.value ∙ met.1)) ∙ sym c.is_row_made.ensures ∙ c.if-is_row_made.false in
     let a = added-again d c.requires.sound c.args.parent c.requires.parent c.args.name i met.0 c.in-Some.made c.enter.new.self c.renew.new.self met.1 met.2 c.requires.fresh gone c.in_ok-row-in-Found.ensures.rows c.in_ok-row-in-Found.ensures.index in
-    record { tables = tables-after d c.requires.sound c.args.parent c.requires.parent c.args.name c.in-Some.made (rows_in c.renew.new.self) (found_in c.renew.new.self) a c.in-Some.made (omega arith) (omega (arith, late)); marks = marks-after d c.requires.sound c.args.parent c.requires.parent c.args.name c.in-Some.made (rows_in c.renew.new.self) (found_in c.renew.new.self) a; single = c.requires.sound.single }
+    record { tables = tables-after d c.requires.sound c.args.parent c.requires.parent c.args.name c.in-Some.made (rows_in c.renew.new.self) (found_in c.renew.new.self) a c.in-Some.made (omega arith) (omega (arith, late)); marks = marks-after d c.requires.sound c.args.parent c.requires.parent c.args.name c.in-Some.made (rows_in c.renew.new.self) (found_in c.renew.new.self) a; single = c.requires.sound.single; chained = c.requires.sound.chained; valued = c.requires.sound.valued }
 
 pub returns-in_ok-row-in-Found-clause-node : goal.returns-in_ok-row-in-Found-clause-node
 returns-in_ok-row-in-Found-clause-node g c =

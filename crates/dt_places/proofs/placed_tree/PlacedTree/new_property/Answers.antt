@@ -7,6 +7,7 @@ use Rattle.dt_places.specs.declared.table.Entry.{Entry}
 use Rattle.dt_places.specs.Rows.{is_made, no_place, place_at}
 use Rattle.dt_live.specs.Rows.{Found}
 use Rattle.dt_places.specs.Tables.{Enters, found_in, hidden, rows_in}
+use Rattle.dt_places.proofs.Values.{valued-again, valued-entered}
 use Rattle.dt_places.proofs.PropertyEdits.{new-gone, new-none, new-there, sound-again, sound-entered, within}
 use Rattle.dt_places.proofs.placed_tree.PlacedTree.new_property.Goals as goal
 
@@ -34,6 +35,8 @@ returns-in-New-clause-sound g c =
       tables = sound-entered d c.requires.sound c.args.node c.requires.node c.args.name (Some c.args.value) d.clock (omega arith) c.enter.new.self c.in_ok-enter.field-0 c.in_ok-enter.ensures;
       marks = c.requires.sound.marks;
       single = c.requires.sound.single;
+      chained = c.requires.sound.chained;
+      valued = valued-entered d.properties c.requires.sound.valued (record { owner = c.args.node; name = c.args.name; value = Some c.args.value; made = d.clock; removed = false; again = false }) (λ _. refl) c.enter.new.self c.in_ok-enter.field-0 c.in_ok-enter.ensures;
     }
 
 pub returns-in-New-clause-tree : goal.returns-in-New-clause-tree
@@ -56,6 +59,9 @@ returns-in_ok-renew-in-Found-clause-sound g c =
           ∙ ap₂ (λ (rs : List (Place _)) (fs : Found). if is_key (place_at rs i).owner (place_at rs i).name.now n k then Some (length rs) else fs n k) met.1 met.2);
       marks = c.requires.sound.marks;
       single = c.requires.sound.single;
+      chained = c.requires.sound.chained;
+      valued = valued-again (rows_in d.properties) i (within d c.requires.sound c.args.node c.requires.node c.args.name i met.0) c.requires.sound.valued (record x { value = Some c.args.value; made = d.clock; removed = false; again = true }) (λ _. refl) (rows_in c.renew.new.self)
+          (c.in_ok-renew-in-Found.ensures.rows ∙ ap (λ rs. slice_set rs i (hidden (place_at rs i)) ++ (record (place_at rs i) { value = Some c.args.value; made = d.clock; removed = false; again = true }) ∷ []) met.1);
     }
 
 pub returns-in_ok-renew-in-Found-clause-tree : goal.returns-in_ok-renew-in-Found-clause-tree

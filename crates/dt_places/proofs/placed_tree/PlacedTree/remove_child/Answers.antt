@@ -28,7 +28,7 @@ returns-then-not-place-clause-sound g c =
     let y = c.index_mut-place.result.now in
     let ys : y ≡ place_at (rows_in d.nodes) i = c.index_mut-place.ensures.value ∙ get_or_default (rows_in d.nodes) i y no_place known in
     let r : Place (Unit {0}) = record y { removed = true } in
-    record { tables = sound-removed d c.requires.sound i known counted r (ap (λ z. z.owner) ys) (ap (λ z. z.name.now) ys) (ap (λ z. z.made) ys) (ap (λ z. z.again) ys) refl; marks = marks-removed d c.requires.sound i known counted r (ap (λ z. z.owner) ys) (ap (λ z. z.name.now) ys) (ap (λ z. z.made) ys) (ap (λ z. z.again) ys) refl; single = c.requires.sound.single }
+    record { tables = sound-removed d c.requires.sound i known counted r (ap (λ z. z.owner) ys) (ap (λ z. z.name.now) ys) (ap (λ z. z.made) ys) (ap (λ z. z.again) ys) refl; marks = marks-removed d c.requires.sound i known counted r (ap (λ z. z.owner) ys) (ap (λ z. z.name.now) ys) (ap (λ z. z.made) ys) (ap (λ z. z.again) ys) refl; single = c.requires.sound.single; chained = c.requires.sound.chained; valued = c.requires.sound.valued }
 
 pub returns-then-not-place-clause-keeps : goal.returns-then-not-place-clause-keeps
 returns-then-not-place-clause-keeps g c =
@@ -74,6 +74,8 @@ returns-else-not-place-clause-sound g c =
       tables = subst (λ (rs : List (Place (Unit {0}))). AreSound rs (found_in d.nodes) (rows_in d.properties) (found_in d.properties) (rows_in d.labels) (found_in d.labels) d.clock) (sym same) c.requires.sound.tables;
       marks = λ j. subst (λ (rs : List (Place (Unit {0}))). IsOwner rs (found_in d.nodes) (slice_index_or d.marks.items j 0)) (sym same) (c.requires.sound.marks j);
       single = c.requires.sound.single;
+      chained = c.requires.sound.chained;
+      valued = c.requires.sound.valued;
     }
 
 pub returns-else-not-place-clause-tree : goal.returns-else-not-place-clause-tree

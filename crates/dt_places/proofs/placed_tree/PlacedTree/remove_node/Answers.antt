@@ -19,7 +19,7 @@ returns-clause-sound g c =
     let y = c.index_mut.result.now in
     let ys : y ≡ place_at (rows_in d.nodes) i = c.index_mut.ensures.value ∙ get_or_default (rows_in d.nodes) i y no_place o.0 in
     let r : Place (Unit {0}) = record y { removed = true } in
-    record { tables = sound-removed d c.requires.sound i o.0 o.1 r (ap (λ z. z.owner) ys) (ap (λ z. z.name.now) ys) (ap (λ z. z.made) ys) (ap (λ z. z.again) ys) refl; marks = marks-removed d c.requires.sound i o.0 o.1 r (ap (λ z. z.owner) ys) (ap (λ z. z.name.now) ys) (ap (λ z. z.made) ys) (ap (λ z. z.again) ys) refl; single = c.requires.sound.single }
+    record { tables = sound-removed d c.requires.sound i o.0 o.1 r (ap (λ z. z.owner) ys) (ap (λ z. z.name.now) ys) (ap (λ z. z.made) ys) (ap (λ z. z.again) ys) refl; marks = marks-removed d c.requires.sound i o.0 o.1 r (ap (λ z. z.owner) ys) (ap (λ z. z.name.now) ys) (ap (λ z. z.made) ys) (ap (λ z. z.again) ys) refl; single = c.requires.sound.single; chained = c.requires.sound.chained; valued = c.requires.sound.valued }
 
 pub returns-clause-tree : goal.returns-clause-tree
 returns-clause-tree g c =

@@ -1,7 +1,10 @@
-use Rattle.std.proofs.Common.{◌≡◌, true, refl, sym, ap, ◌∙◌, arith}
+use Rattle.std.proofs.Common.{◌≡◌, true, refl, sym, ap, ◌∙◌, subst, arith}
+use Rattle.dt_places.specs.declared.place.Place.{Place}
+use Rattle.dt_places.specs.PlacedTrees.{IsFilled}
 use Rattle.std.proofs.lemmas.List.{get_or_default}
 use Rattle.dt_places.specs.Rows.{no_place, place_at}
 use Rattle.dt_places.specs.Tables.{found_in, rows_in}
+use Rattle.dt_places.proofs.Values.{valued-set}
 use Rattle.dt_places.proofs.PropertyEdits.{removed-again, removed-none, removed-some, sound-set, within}
 use Rattle.dt_places.proofs.placed_tree.PlacedTree.remove_property.Goals as goal
 
@@ -22,6 +25,8 @@ returns-then-not-place-clause-sound g c =
           (omega (arith, ap (λ x. x.made) was, c.requires.sound.tables.early_properties i)) refl;
       marks = c.requires.sound.marks;
       single = c.requires.sound.single;
+      chained = c.requires.sound.chained;
+      valued = valued-set (rows_in d.properties) i known c.requires.sound.valued (record c.index_mut-place.result.now { removed = true }) (subst (λ (x : Place _). IsFilled x) (sym was) (c.requires.sound.valued i)) _ refl;
     }
 
 pub returns-then-not-place-clause-tree : goal.returns-then-not-place-clause-tree

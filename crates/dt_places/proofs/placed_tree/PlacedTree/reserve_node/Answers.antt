@@ -15,6 +15,8 @@ returns-in-New-clause-sound g c =
       tables = tables-after d c.requires.sound c.args.parent c.requires.parent c.args.name 0 (rows_in c.enter.new.self) (found_in c.enter.new.self) a d.clock (omega arith) (omega arith);
       marks = marks-after d c.requires.sound c.args.parent c.requires.parent c.args.name 0 (rows_in c.enter.new.self) (found_in c.enter.new.self) a;
       single = c.requires.sound.single;
+      chained = c.requires.sound.chained;
+      valued = c.requires.sound.valued;
     }
 
 pub returns-in-New-clause-grows : goal.returns-in-New-clause-grows
@@ -73,7 +75,7 @@ returns-in_ok-renew-in-Found-clause-sound g c =
     let met = subst (λ (e : Entry). Enters (record { owner = c.args.parent; name = c.args.name; value = None; made = 0; removed = false; again = false }) d.nodes c.enter.new.self e) c.in-Found.is c.in_ok-enter.ensures in
     let gone : is_made (rows_in d.nodes) (place_at (rows_in d.nodes) i) ≡ false = ap (λ rs. is_made rs (place_at rs i)) (sym (c.as_slice.ensures.value ∙ met.1)) ∙ sym c.is_row_made.ensures ∙ c.if-is_row_made.false in
     let a = added-again d c.requires.sound c.args.parent c.requires.parent c.args.name i met.0 0 c.enter.new.self c.renew.new.self met.1 met.2 c.requires.fresh gone c.in_ok-renew-in-Found.ensures.rows c.in_ok-renew-in-Found.ensures.index in
-    record { tables = tables-after d c.requires.sound c.args.parent c.requires.parent c.args.name 0 (rows_in c.renew.new.self) (found_in c.renew.new.self) a d.clock (omega arith) (omega arith); marks = marks-after d c.requires.sound c.args.parent c.requires.parent c.args.name 0 (rows_in c.renew.new.self) (found_in c.renew.new.self) a; single = c.requires.sound.single }
+    record { tables = tables-after d c.requires.sound c.args.parent c.requires.parent c.args.name 0 (rows_in c.renew.new.self) (found_in c.renew.new.self) a d.clock (omega arith) (omega arith); marks = marks-after d c.requires.sound c.args.parent c.requires.parent c.args.name 0 (rows_in c.renew.new.self) (found_in c.renew.new.self) a; single = c.requires.sound.single; chained = c.requires.sound.chained; valued = c.requires.sound.valued }
 
 pub returns-in_ok-renew-in-Found-clause-grows : goal.returns-in_ok-renew-in-Found-clause-grows
 returns-in_ok-renew-in-Found-clause-grows g c =

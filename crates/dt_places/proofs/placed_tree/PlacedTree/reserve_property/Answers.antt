@@ -1,4 +1,5 @@
-use Rattle.std.proofs.Common.{None, arith}
+use Rattle.std.proofs.Common.{None, false, arith}
+use Rattle.dt_places.proofs.Values.{valued-entered}
 use Rattle.dt_places.proofs.PropertyEdits.{reserved, sound-entered}
 use Rattle.dt_places.proofs.placed_tree.PlacedTree.reserve_property.Goals as goal
 
@@ -9,6 +10,8 @@ returns-clause-sound g c =
       tables = sound-entered d c.requires.sound c.args.node c.requires.node c.args.name None 0 (omega arith) c.enter.new.self c.in_ok-enter.field-0 c.in_ok-enter.ensures;
       marks = c.requires.sound.marks;
       single = c.requires.sound.single;
+      chained = c.requires.sound.chained;
+      valued = valued-entered d.properties c.requires.sound.valued (record { owner = c.args.node; name = c.args.name; value = None; made = 0; removed = false; again = false }) (λ le. absurd (omega (arith, le))) c.enter.new.self c.in_ok-enter.field-0 c.in_ok-enter.ensures;
     }
 
 pub returns-clause-tree : goal.returns-clause-tree

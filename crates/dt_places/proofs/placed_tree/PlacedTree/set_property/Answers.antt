@@ -4,6 +4,7 @@ use Rattle.std.proofs.lemmas.List.{get_or_default}
 use Rattle.dt_places.specs.declared.table.Entry.{Entry}
 use Rattle.dt_places.specs.Rows.{no_place, place_at}
 use Rattle.dt_places.specs.Tables.{Enters, rows_in}
+use Rattle.dt_places.proofs.Values.{valued-entered, valued-set}
 use Rattle.dt_places.proofs.PropertyEdits.{set-again, set-none, set-some, sound-entered, sound-set, within}
 use Rattle.dt_places.proofs.placed_tree.PlacedTree.set_property.Goals as goal
 
@@ -30,6 +31,8 @@ returns-in-New-clause-sound g c =
       tables = sound-entered d c.requires.sound c.args.node c.requires.node c.args.name (Some c.args.value) d.clock (omega arith) c.enter.new.self c.in_ok-enter.field-0 c.in_ok-enter.ensures;
       marks = c.requires.sound.marks;
       single = c.requires.sound.single;
+      chained = c.requires.sound.chained;
+      valued = valued-entered d.properties c.requires.sound.valued (record { owner = c.args.node; name = c.args.name; value = Some c.args.value; made = d.clock; removed = false; again = false }) (λ _. refl) c.enter.new.self c.in_ok-enter.field-0 c.in_ok-enter.ensures;
     }
 
 pub returns-in-New-clause-tree : goal.returns-in-New-clause-tree
@@ -53,6 +56,9 @@ returns-else-place-clause-sound g c =
           (omega arith) (ap (λ rs. slice_set rs i (record { owner = x.owner; name = x.name; value = Some c.args.value; made = d.clock; removed = false; again = x.again })) met.1);
       marks = c.requires.sound.marks;
       single = c.requires.sound.single;
+      chained = c.requires.sound.chained;
+      valued = valued-set (rows_in d.properties) i known c.requires.sound.valued (record { owner = x.owner; name = x.name; value = Some c.args.value; made = d.clock; removed = false; again = x.again }) (λ _. refl) _
+          (ap (λ rs. slice_set rs i (record { owner = x.owner; name = x.name; value = Some c.args.value; made = d.clock; removed = false; again = x.again })) met.1);
     }
 
 pub returns-else-place-clause-tree : goal.returns-else-place-clause-tree

@@ -2,6 +2,7 @@ use Rattle.std.proofs.Common.{[], ◌∷◌}
 use Rattle.dt_blob.specs.Token.{begin_node, tokens_of}
 use Rattle.dt_view.proofs.Beginnings.{shorter}
 use Rattle.dt_view.proofs.Orders.{root_first}
+use Rattle.dt_view.proofs.Reaches.{reached_begin}
 use Rattle.dt_view.proofs.view.View.root.Goals as goal
 
 pub returns-in_err-begun-clause-stands : goal.returns-in_err-begun-clause-stands
@@ -15,3 +16,9 @@ returns-clause-stands c = λ t v. shorter _ _ (tokens_of t.root) _ ((c.in_ok-beg
 
 pub returns-clause-first : goal.returns-clause-first
 returns-clause-first c = λ t v. root_first c.args.self.now c.in_ok-begun.begun.at t.root ((c.in_ok-begun.ensures.ahead t.root.name _ v.root).1)
+
+pub returns-in_err-begun-clause-reached : goal.returns-in_err-begun-clause-reached
+returns-in_err-begun-clause-reached c = λ t v. absurd (c.in_err-begun.ensures.0 t.root.name (shorter _ _ (begin_node t.root.name ∷ []) _ v.root))
+
+pub returns-clause-reached : goal.returns-clause-reached
+returns-clause-reached c = λ t v. (c.in_ok-begun.ensures.reach [] (reached_begin c.args.self.now)).0

@@ -17,6 +17,8 @@ returns-then-not-is_nop c =
     record {
       ahead = λ u us a. let p = read.ahead test u us (kept.ahead u us a) in (p.0, kept.ahead u us a, p.1);
       back = λ us a. kept.back (token_of c.in_ok-token.token ∷ us) (read.back test us a);
+      reach = λ ts r. (kept.reach ts r, read.reach test ts (kept.reach ts r));
+      spelled = read.spelled;
       begins = kept.begins;
       further = read.further;
       inside = read.inside;

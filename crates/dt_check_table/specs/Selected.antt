@@ -1,0 +1,75 @@
+-- Which checks are asked for (dtc's manual, Documentation/manual.txt, section 'Command-line arguments', -W and -E; the names are said by
+-- `dtc -W`): a check warns, is an error, or neither. With one that is asked for go those that it stands on; with one that isn't, those
+-- that stand on it.
+use Rattle.std.specs.Prelude.{ℕ, ◌+◌, Bool, true, false, not, ◌||◌, ◌==◌, if◌then◌else◌, List, [], ◌∷◌, Option, Some, None}
+use Rattle.std.specs.Option.{option_map_or}
+use Rattle.std.specs.List.{slice_get, list_any}
+use Rattle.dt_check_table.specs.declared.check.Severity.{Severity}
+use Rattle.dt_check_table.specs.declared.check.Severity.TheVariants.{Off, Warning, Error}
+use Rattle.dt_check_table.specs.declared.selection.Change.{Change}
+use Rattle.dt_check_table.specs.declared.selection.Kind.{Kind}
+use Rattle.dt_check_table.specs.declared.selection.Kind.TheVariants.{Warning as ByWarning, Error as ByError}
+use Rattle.dt_check_table.specs.declared.selection.Least.{Least}
+use Rattle.dt_check_table.specs.declared.selection.Least.TheVariants.{Warning as AtLeastWarning, Error as AtLeastError}
+use Rattle.dt_check_table.specs.declared.selection.Level.{Level}
+use Rattle.dt_check_table.specs.declared.selection.Entry.{Entry}
+
+pub record SelectionData : Type 0 where
+  pub entries : List Entry
+  pub levels : List Level
+
+-- ---- by default
+abbrev pub usual : Severity → Level
+usual Off = record { warns = false; fails = false }
+usual Warning = record { warns = true; fails = false }
+usual Error = record { warns = false; fails = true }
+
+abbrev pub usual_levels : List Entry → List Level
+usual_levels [] = []
+usual_levels (r ∷ rs) = usual r.severity ∷ usual_levels rs
+
+abbrev pub level_at : List Level → ℕ → Level
+level_at ls place = option_map_or (λ l. l) (slice_get ls place) (usual Off)
+
+-- ---- a change
+abbrev pub is_among : List ℕ → ℕ → Bool
+is_among places wanted = list_any (λ place. place == wanted) places
+
+abbrev pub stands_on : List Entry → ℕ → ℕ → Bool
+stands_on entries one other = option_map_or (λ r. is_among r.made_before.now other) (slice_get entries one) false
+
+abbrev pub goes_along : List Entry → Change → ℕ → Bool
+goes_along entries c place = if c.on then stands_on entries c.check place else stands_on entries place c.check
+
+abbrev pub goes : List Entry → Change → ℕ → Bool
+goes entries c place = place == c.check || goes_along entries c place
+
+abbrev pub level_with : Kind → Bool → Level → Level
+level_with ByWarning on l = record { warns = on; fails = l.fails }
+level_with ByError on l = record { warns = l.warns; fails = on }
+
+abbrev pub is_so : Kind → Level → Bool
+is_so ByWarning l = l.warns
+is_so ByError l = l.fails
+
+abbrev pub changed_at : List Entry → Change → ℕ → Level → Level
+changed_at entries c place l = if goes entries c place then level_with c.kind c.on l else l
+
+-- the levels from this place on
+abbrev pub changed_from : List Entry → Change → ℕ → List Level → List Level
+changed_from entries c place [] = []
+changed_from entries c place (l ∷ ls) = changed_at entries c place l ∷ changed_from entries c (place + 1) ls
+
+-- what is so already stays as it is, with all that goes along
+abbrev pub is_done : List Level → Change → Bool
+is_done ls c = if c.on then is_so c.kind (level_at ls c.check) else not (is_so c.kind (level_at ls c.check))
+
+abbrev pub changed : Change → SelectionData → SelectionData
+changed c s =
+    if is_done s.levels c then s
+    else record { entries = s.entries; levels = changed_from s.entries c 0 s.levels }
+
+-- ---- what is asked for
+abbrev pub is_asked : Least → Level → Bool
+is_asked AtLeastWarning l = l.warns || l.fails
+is_asked AtLeastError l = l.fails

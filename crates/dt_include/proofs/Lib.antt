@@ -1,0 +1,10 @@
+mod MarkerWords
+mod OpenFiles
+mod Pieces
+mod Putting
+mod Reaching
+mod Runs
+mod Searches
+mod UserPlaces
+mod WordEnds
+mod WordsHere

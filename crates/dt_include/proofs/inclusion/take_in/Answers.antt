@@ -1,0 +1,20 @@
+use Rattle.std.proofs.Common.{refl, sym, subst, arith}
+use Rattle.dt_include.specs.declared.inclusion.Binary.{Binary}
+use Rattle.dt_include.specs.declared.inclusion.Turn.TheVariants.{Again}
+use Rattle.dt_include.specs.declared.inclusion.Whole.{Whole}
+use Rattle.dt_include.specs.declared.words.Inclusion.{Inclusion}
+use Rattle.dt_include.specs.Private.Included.{IsTaken}
+use Rattle.dt_include.proofs.Pieces.{adds_named}
+use Rattle.dt_include.proofs.inclusion.take_in.Goals as goal
+
+pub returns-in_ok-push-in-Binary-clause-taken : goal.returns-in_ok-push-in-Binary-clause-taken
+returns-in_ok-push-in-Binary-clause-taken g c =
+    let whole = c.args.whole.now in
+    let grown : Whole = record { text = whole.text; binaries = c.push.new.self } in
+    let found = c.in_ok-bytes-in-Binary.field-0 in
+    let kept : Binary = record { at = c.len-at.result; bytes = found.bytes } in
+    subst (λ (i : Inclusion). IsTaken g.F.Files.finds c.args.beside.now i whole grown Again) (sym c.in-Binary.is) (
+      found,
+      c.in_ok-bytes-in-Binary.ensures.found,
+      adds_named whole grown kept found.bytes.items refl c.in_ok-push-in-Binary.ensures.items (omega (arith, c.len-at.ensures, whole.text.ok.0)) refl,
+    )

@@ -1,0 +1,196 @@
+//! A tree as a source in the layout that dtc prints (`-O dts`).
+//!
+//! The Devicetree Specification v0.4, chapter 6, says what each form means; which form dtc takes for a value was tried by hand.
+
+use dt_blob::{BlobError, read};
+use dt_tree::{Node, Property, Tree};
+use std::alloc::{AllocError, Global};
+
+/// How the texts of one value are told apart.
+#[derive(Clone, Copy, Debug, PartialEq, Eq)]
+pub enum Texts {
+    /// Each is a string for itself, as sources have them.
+    Apart,
+    /// They are one string with `\0` between them, as dtc prints a blob's.
+    Joined,
+}
+
+/// The form of a value.
+#[derive(Clone, Copy, Debug, PartialEq, Eq)]
+enum Form {
+    Texts,
+    Cells,
+    Bytes,
+}
+
+// What may stand in a string: what prints, what has an escape of one letter, and zero bytes.
+fn is_in_text(byte: u8) -> bool {
+    matches!(byte, 0 | 7..=13 | b' '..=b'~')
+}
+
+// Texts end in a zero byte, and not more than every second of their bytes is one.
+fn are_texts(value: &[u8]) -> bool {
+    let zeros = value.iter().filter(|byte| **byte == 0).count();
+    value.last() == Some(&0)
+        && value.iter().all(|byte| is_in_text(*byte))
+        && zeros <= value.len().saturating_sub(zeros)
+}
+
+fn form_of(value: &[u8]) -> Form {
+    if are_texts(value) {
+        return Form::Texts;
+    }
+    if value.len() % 4 == 0 {
+        return Form::Cells;
+    }
+    Form::Bytes
+}
+
+// The letter behind the backslash of a byte that isn't put as it is.
+fn escape_of(byte: u8) -> Option<u8> {
+    match byte {
+        0 => Some(b'0'),
+        7 => Some(b'a'),
+        8 => Some(b'b'),
+        9 => Some(b't'),
+        10 => Some(b'n'),
+        11 => Some(b'v'),
+        12 => Some(b'f'),
+        13 => Some(b'r'),
+        b'\\' | b'"' => Some(byte),
+        _ => None,
+    }
+}
+
+/// The text so far.
+#[derive(Drop)]
+struct Layout {
+    alloc: Global,
+    text: Vec<u8>,
+    texts: Texts,
+}
+
+impl Layout {
+    fn put(&mut self, bytes: &[u8]) -> Result<(), AllocError> {
+        self.text.extend_from_slice(bytes)
+    }
+
+    fn indent(&mut self, depth: usize) -> Result<(), AllocError> {
+        for _level in 0..depth {
+            self.text.push(b'\t')?;
+        }
+        Ok(())
+    }
+
+    fn put_letter(&mut self, byte: u8) -> Result<(), AllocError> {
+        if byte == 0 && self.texts == Texts::Apart {
+            return self.put(b"\", \"");
+        }
+        if let Some(letter) = escape_of(byte) {
+            self.text.push(b'\\')?;
+            return Ok(self.text.push(letter)?);
+        }
+        Ok(self.text.push(byte)?)
+    }
+
+    // The last zero byte ends the string.
+    fn put_texts(&mut self, value: &[u8]) -> Result<(), AllocError> {
+        self.put(b"\"")?;
+        for byte in value.strip_suffix(b"\0").unwrap_or(value) {
+            self.put_letter(*byte)?;
+        }
+        self.put(b"\"")
+    }
+
+    fn put_cells(&mut self, value: &[u8]) -> Result<(), AllocError> {
+        let mut between = b"<".as_slice();
+        for cell in value.chunks(4) {
+            let mut number: u32 = 0;
+            for byte in cell {
+                number = number.wrapping_shl(8) | u32::from(*byte);
+            }
+            let digits = format!(in self.alloc; "0x{number:02x}")?;
+            self.put(between)?;
+            self.put(digits.as_bytes())?;
+            between = b" ";
+        }
+        self.put(b">")
+    }
+
+    fn put_bytes(&mut self, value: &[u8]) -> Result<(), AllocError> {
+        let mut between = b"[".as_slice();
+        for byte in value {
+            let digits = format!(in self.alloc; "{byte:02x}")?;
+            self.put(between)?;
+            self.put(digits.as_bytes())?;
+            between = b" ";
+        }
+        self.put(b"]")
+    }
+
+    fn put_value(&mut self, value: &[u8]) -> Result<(), AllocError> {
+        self.put(b" = ")?;
+        match form_of(value) {
+            Form::Texts => self.put_texts(value),
+            Form::Cells => self.put_cells(value),
+            Form::Bytes => self.put_bytes(value),
+        }
+    }
+
+    fn put_property(&mut self, property: &Property, depth: usize) -> Result<(), AllocError> {
+        self.indent(depth)?;
+        self.put(property.name.as_bytes())?;
+        let value = property.value.as_slice();
+        if !value.is_empty() {
+            self.put_value(value)?;
+        }
+        self.put(b";\n")
+    }
+
+    fn put_properties(&mut self, node: &Node, depth: usize) -> Result<(), AllocError> {
+        for property in node.properties() {
+            self.put_property(property, depth)?;
+        }
+        Ok(())
+    }
+
+    // A node whose first line is begun already.
+    fn put_node(&mut self, name: &[u8], node: &Node, depth: usize) -> Result<(), AllocError> {
+        self.indent(depth)?;
+        self.put(name)?;
+        self.put(b" {\n")?;
+        self.put_properties(node, depth.saturating_add(1))?;
+        for child in node.children() {
+            self.put(b"\n")?;
+            self.put_node(child.name_bytes(), child, depth.saturating_add(1))?;
+        }
+        self.indent(depth)?;
+        self.put(b"};\n")
+    }
+
+    fn put_reserves(&mut self, reserves: &[(u64, u64)]) -> Result<(), AllocError> {
+        for (address, size) in reserves {
+            let line = format!(in self.alloc; "/memreserve/\t0x{address:016x} 0x{size:016x};\n")?;
+            self.put(line.as_bytes())?;
+        }
+        Ok(())
+    }
+}
+
+/// The source of the tree that a blob holds, in dtc's layout.
+pub fn layout_bytes(alloc: Global, blob: &[u8], texts: Texts) -> Result<Vec<u8>, BlobError> {
+    let tree = read(alloc, blob)?;
+    Ok(laid_out(alloc, &tree, texts)?)
+}
+
+fn laid_out(alloc: Global, tree: &Tree, texts: Texts) -> Result<Vec<u8>, AllocError> {
+    let mut layout = Layout {
+        alloc,
+        text: Vec::new(alloc),
+        texts,
+    };
+    layout.put(b"/dts-v1/;\n\n")?;
+    layout.put_reserves(tree.reserves())?;
+    layout.put_node(b"/", tree.root(), 0)?;
+    Ok(layout.text)
+}

@@ -1,0 +1,54 @@
+//! Numbers and texts in a value.
+ghost use Rattle.std.specs.Prelude.{◌≡◌};
+ghost use Rattle.dt_view.specs.Cells.{double_cell_in, number_in, string_in};
+ghost use Rattle.dtman_view_c.specs.Parts.{IsGiven, IsPart};
+
+use crate::parts::ViewPart;
+use crate::told::{ViewTold, done, nothing};
+use dt_view::{cell, double_cell, string};
+
+/// The cell at a place of a value, counted in cells.
+#[unsafe(no_mangle)]
+pub extern "C" fn dtman_view_cell(value: &[u8], place: usize, into: &mut u32) -> ViewTold
+    ensures { IsGiven (number_in value.now place) into.new result }
+{
+    match cell(value, place) {
+        Some(number) => {
+            *into = number;
+            done(0)
+        }
+        None => nothing(),
+    }
+}
+
+/// The number of two cells, the higher one first, at a place counted in cells.
+#[unsafe(no_mangle)]
+pub extern "C" fn dtman_view_double_cell(value: &[u8], place: usize, into: &mut u64) -> ViewTold
+    ensures { IsGiven (double_cell_in value.now place) into.new result }
+{
+    match double_cell(value, place) {
+        Some(number) => {
+            *into = number;
+            done(0)
+        }
+        None => nothing(),
+    }
+}
+
+/// The string at a place of a list of strings.
+#[unsafe(no_mangle)]
+pub extern "C" fn dtman_view_string<'a>(
+    value: &'a [u8],
+    place: usize,
+    part: &mut ViewPart<'a>,
+) -> ViewTold
+    ensures { IsPart (string_in value.now place) part.new result }
+{
+    match string(value, place) {
+        Some(text) => {
+            part.bytes = text;
+            done(0)
+        }
+        None => nothing(),
+    }
+}
