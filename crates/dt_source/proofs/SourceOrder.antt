@@ -17,7 +17,7 @@ use Rattle.dt_source.specs.Sequences.{SpellsEach}
 use Rattle.dt_source.specs.Strings.{chars_with, char_step, with_char, escaped, escape_at, faults, string_faults}
 use Rattle.dt_source.specs.Pieces.{fault_in, cell_fault, reference_fault, width_at, width_in, lawful}
 use Rattle.dt_source.specs.Order.{first_of}
-use Rattle.dt_source.specs.Source.{CellTree, Element, Refers, Marks, PortionTree, Whole, Portion, PieceTree, Quoted, Points, Pairs, Cells, WideCells, Includes, Statements, End, Sets, Unsets, Holds, Drops, ReserveTree, ItemTree, Root, Extend, Delete, Omit, SourceTree, One, SpellsLabels, SpellsMarks, DropsLabels, SpellsCell, SpellsCells, OnePair, SpellsPortion, SpellsPiece, SpellsPlaced, SpellsFurther, SpellsValue, SpellsStatements, SpellsBody, SpellsItem, SpellsReserve, SpellsHeader, Spells, cell_of, fault_list, cells_faults, portion_values, portion_faults, piece_faults, width_said, value_faults, faults_in, item_faults, reserve_faults, faults_of}
+use Rattle.dt_source.specs.Source.{CellTree, Element, Refers, Marks, PortionTree, Whole, Portion, PieceTree, Quoted, Points, Pairs, Cells, WideCells, Includes, Statements, End, Sets, Unsets, Holds, Drops, ReserveTree, ItemTree, Root, Extend, Delete, Omit, SourceTree, One, SpellsLabels, SpellsMarks, DropsLabels, SpellsCell, SpellsCells, OnePair, SpellsPortion, SpellsPiece, SpellsPlaced, SpellsFurther, SpellsValue, BeginsDeletion, SpellsStatements, SpellsBody, SpellsItem, SpellsReserve, SpellsHeader, Spells, cell_of, fault_list, cells_faults, portion_values, portion_faults, piece_faults, width_said, value_faults, faults_in, item_faults, reserve_faults, faults_of}
 use Rattle.dt_source.specs.Order.{IsFirstInText}
 use Rattle.dt_lexeme.specs.Order.{Above}
 use Rattle.dt_lexeme.proofs.InOrder.{lexemes_above}
@@ -197,32 +197,35 @@ values_reach text (i ∷ is) ts rest p (a, b, equals, s, more) h =
 one_above : (k : Kind) (l : Lexeme) (ts rest : List Lexeme) (p : ℕ) → One k l ts rest → Above p ts → Above p rest
 one_above k l ts rest p s h = takes_rest p ts l rest s.1 h
 
-pub statements_reach : (text : List ℕ) (depth : ℕ) (nodes : Bool) (i : Statements) (ts rest : List Lexeme) (p : ℕ) → SpellsStatements depth nodes i ts rest → Above p ts → Reach p rest (faults_in text i)
+deletion_above : (language : Language) (k : Kind) (ts rest : List Lexeme) (p : ℕ) → BeginsDeletion language k ts rest → Above p ts → Above p rest
+deletion_above language k ts rest p (ms, a, marks, fit, keyword) h = begins_above p a k rest keyword (marks_above ms ts a p marks h)
+
+pub statements_reach : (language : Language) (text : List ℕ) (depth : ℕ) (nodes : Bool) (i : Statements) (ts rest : List Lexeme) (p : ℕ) → SpellsStatements language depth nodes i ts rest → Above p ts → Reach p rest (faults_in text i)
 unfolding SpellsStatements faults_in
-statements_reach text depth nodes End ts rest p s h = reach_none p rest (begins_above p ts _ rest s h)
-statements_reach text depth nodes (Sets ls n v more) ts rest p (k, a, b, c, d, labels, name, value, semicolon, others) h =
+statements_reach language text depth nodes End ts rest p s h = reach_none p rest (begins_above p ts _ rest s h)
+statements_reach language text depth nodes (Sets ls n v more) ts rest p (k, a, b, c, d, labels, name, value, semicolon, others) h =
     reach_both p d rest (value_faults text v) (faults_in text more)
     (reach_behind p c _ d (value_faults text v) semicolon (values_reach text v b c p value (one_above _ n a b p name (labels_above ls ts a p labels h))))
-    (λ q g. statements_reach text depth false more d rest q others g)
-statements_reach text depth nodes (Unsets n more) ts rest p (k, a, b, c, keyword, name, semicolon, others) h =
-    statements_reach text depth false more c rest p others (begins_above p b _ c semicolon (one_above _ n a b p name (begins_above p ts _ a keyword h)))
-statements_reach text zero nodes (Holds ls n body more) ts rest p (a, b, c, d, e, labels, name, brace, inner, semicolon, others) h = absurd inner
-statements_reach text (suc depth) nodes (Holds ls n body more) ts rest p (a, b, c, d, e, labels, name, brace, inner, semicolon, others) h =
+    (λ q g. statements_reach language text depth false more d rest q others g)
+statements_reach language text depth nodes (Unsets n more) ts rest p (k, a, b, c, keyword, name, semicolon, others) h =
+    statements_reach language text depth false more c rest p others (begins_above p b _ c semicolon (one_above _ n a b p name (deletion_above language _ ts a p keyword h)))
+statements_reach language text zero nodes (Holds ls n body more) ts rest p (a, b, c, d, e, labels, name, brace, inner, semicolon, others) h = absurd inner
+statements_reach language text (suc depth) nodes (Holds ls n body more) ts rest p (a, b, c, d, e, labels, name, brace, inner, semicolon, others) h =
     reach_both p e rest (faults_in text body) (faults_in text more)
-    (reach_behind p d _ e (faults_in text body) semicolon (statements_reach text depth false body c d p inner (begins_above p b _ c brace (one_above _ n a b p name (marks_above ls ts a p labels h)))))
-    (λ q g. statements_reach text (suc depth) true more e rest q others g)
-statements_reach text depth nodes (Drops n more) ts rest p (a, b, c, keyword, name, semicolon, others) h =
-    statements_reach text depth true more c rest p others (begins_above p b _ c semicolon (one_above _ n a b p name (begins_above p ts _ a keyword h)))
+    (reach_behind p d _ e (faults_in text body) semicolon (statements_reach language text depth false body c d p inner (begins_above p b _ c brace (one_above _ n a b p name (marks_above ls ts a p labels h)))))
+    (λ q g. statements_reach language text (suc depth) true more e rest q others g)
+statements_reach language text depth nodes (Drops n more) ts rest p (a, b, c, keyword, name, semicolon, others) h =
+    statements_reach language text depth true more c rest p others (begins_above p b _ c semicolon (one_above _ n a b p name (deletion_above language _ ts a p keyword h)))
 
-body_reach : (text : List ℕ) (i : Statements) (ts rest : List Lexeme) (p : ℕ) → SpellsBody i ts rest → Above p ts → Reach p rest (faults_in text i)
-body_reach text i ts rest p (a, b, brace, s, semicolon) h =
-    reach_behind p b _ rest (faults_in text i) semicolon (statements_reach text 64 false i a b p s (begins_above p ts _ a brace h))
+body_reach : (language : Language) (text : List ℕ) (i : Statements) (ts rest : List Lexeme) (p : ℕ) → SpellsBody language i ts rest → Above p ts → Reach p rest (faults_in text i)
+body_reach language text i ts rest p (a, b, brace, s, semicolon) h =
+    reach_behind p b _ rest (faults_in text i) semicolon (statements_reach language text 64 false i a b p s (begins_above p ts _ a brace h))
 
 -- ---- items, reservations, headers
 
 item_reach : (language : Language) (text : List ℕ) (i : ItemTree) (ts rest : List Lexeme) (p : ℕ) → SpellsItem language i ts rest → Above p ts → Reach p rest (item_faults text i)
-item_reach language text (Root s) ts rest p (a, slash, b) h = body_reach text s a rest p b (begins_above p ts _ a slash h)
-item_reach language text (Extend ls l s) ts rest p (a, b, labels, reference, body, few) h = body_reach text s b rest p body (takes_rest p a l b reference.1 (labels_above ls ts a p labels h))
+item_reach language text (Root s) ts rest p (a, slash, b) h = body_reach language text s a rest p b (begins_above p ts _ a slash h)
+item_reach language text (Extend ls l s) ts rest p (a, b, labels, reference, body, few) h = body_reach language text s b rest p body (takes_rest p a l b reference.1 (labels_above ls ts a p labels h))
 item_reach language text (Delete l) ts rest p (a, b, keyword, reference, semicolon) h = reach_none p rest (begins_above p b _ rest semicolon (takes_rest p a l b reference.1 (begins_above p ts _ a keyword h)))
 item_reach language text (Omit l) ts rest p (a, b, keyword, reference, semicolon) h = reach_none p rest (begins_above p b _ rest semicolon (takes_rest p a l b reference.1 (begins_above p ts _ a keyword h)))
 

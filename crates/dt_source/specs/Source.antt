@@ -1,6 +1,6 @@
 -- Sources, the lexemes that spell them, what they say, and their faults (Devicetree Specification v0.4, sections 6.2 and 6.3). What
 -- begins with a lexeme that only dtc's language has is dtc's (dtc 1.6, Documentation/dts-format.txt).
-use Rattle.std.specs.Prelude.{◌≡◌, ◌≢◌, ℕ, nat_le, length, Bool, true, false, ◌||◌, List, [], ◌∷◌, ◌++◌, Option, Some, None, Result, Ok, map, flat_map, ◌⊎◌}
+use Rattle.std.specs.Prelude.{◌≡◌, ◌≢◌, ℕ, nat_le, length, Bool, true, false, ◌||◌, List, [], ◌∷◌, ◌++◌, Option, Some, None, Result, Ok, map, flat_map, ◌⊎◌, if◌then◌else◌}
 use Rattle.dt_lexeme.specs.declared.language.Language.{Language}
 use Rattle.dt_lexeme.specs.declared.language.Language.TheVariants.{Profile, Dtc}
 use Rattle.dt_lexeme.specs.declared.lexeme.Lexeme.{Lexeme}
@@ -127,26 +127,37 @@ abbrev pub SpellsValue : List PieceTree → List Lexeme → List Lexeme → Type
 SpellsValue [] ts rest = ts ≡ rest
 SpellsValue (p ∷ ps) ts rest = (a b : List Lexeme) × Begins ts Equals a × SpellsPlaced p a b × SpellsEach SpellsFurther ps b rest
 
+-- What may stand before a deletion in a body, and says nothing: marks in dtc's language, which are labels where a property
+-- is deleted; in the profile nothing.
+abbrev pub stand_before_deletion : Language → Kind → List Lexeme → Bool
+stand_before_deletion Profile k [] = true
+stand_before_deletion Profile k (m ∷ ms) = false
+stand_before_deletion Dtc DeleteProperty ms = if omits ms then false else true
+stand_before_deletion Dtc _ ms = true
+
+abbrev pub BeginsDeletion : Language → Kind → List Lexeme → List Lexeme → Type 0
+BeginsDeletion language k ts rest = (ms a : List Lexeme) × SpellsMarks ms ts a × (stand_before_deletion language k ms ≡ true) × Begins a k rest
+
 -- Where nodes is true a node or the deletion of one stood before, and no property follows. A body in this one may
 -- stand where a level is left. The closing brace belongs to the spelling.
-unfoldable pub SpellsStatements : ℕ → Bool → Statements → List Lexeme → List Lexeme → Type 0
-SpellsStatements depth nodes End ts rest = Begins ts EndBrace rest
-SpellsStatements depth nodes (Sets ls n v more) ts rest =
-    (nodes ≡ false) × (a b c d : List Lexeme) × SpellsLabels ls ts a × One Name n a b × SpellsValue v b c × Begins c Semicolon d × SpellsStatements depth false more d rest
-SpellsStatements depth nodes (Unsets n more) ts rest =
-    (nodes ≡ false) × (a b c : List Lexeme) × Begins ts DeleteProperty a × One Name n a b × Begins b Semicolon c × SpellsStatements depth false more c rest
-SpellsStatements depth nodes (Holds ms n body more) ts rest =
+unfoldable pub SpellsStatements : Language → ℕ → Bool → Statements → List Lexeme → List Lexeme → Type 0
+SpellsStatements language depth nodes End ts rest = Begins ts EndBrace rest
+SpellsStatements language depth nodes (Sets ls n v more) ts rest =
+    (nodes ≡ false) × (a b c d : List Lexeme) × SpellsLabels ls ts a × One Name n a b × SpellsValue v b c × Begins c Semicolon d × SpellsStatements language depth false more d rest
+SpellsStatements language depth nodes (Unsets n more) ts rest =
+    (nodes ≡ false) × (a b c : List Lexeme) × BeginsDeletion language DeleteProperty ts a × One Name n a b × Begins b Semicolon c × SpellsStatements language depth false more c rest
+SpellsStatements language depth nodes (Holds ms n body more) ts rest =
     (a b c d e : List Lexeme) × SpellsMarks ms ts a × One Name n a b × Begins b Brace c
-    × Deeper depth (λ inner. SpellsStatements inner false body c d) × Begins d Semicolon e × SpellsStatements depth true more e rest
-SpellsStatements depth nodes (Drops n more) ts rest =
-    (a b c : List Lexeme) × Begins ts DeleteNode a × One Name n a b × Begins b Semicolon c × SpellsStatements depth true more c rest
+    × Deeper depth (λ inner. SpellsStatements language inner false body c d) × Begins d Semicolon e × SpellsStatements language depth true more e rest
+SpellsStatements language depth nodes (Drops n more) ts rest =
+    (a b c : List Lexeme) × BeginsDeletion language DeleteNode ts a × One Name n a b × Begins b Semicolon c × SpellsStatements language depth true more c rest
 
 -- how many bodies stand within one another below an item's, at most: as many levels as a tree has
 abbrev pub body_limit : ℕ
 body_limit = 64
 
-abbrev pub SpellsBody : Statements → List Lexeme → List Lexeme → Type 0
-SpellsBody s ts rest = (a b : List Lexeme) × Begins ts Brace a × SpellsStatements body_limit false s a b × Begins b Semicolon rest
+abbrev pub SpellsBody : Language → Statements → List Lexeme → List Lexeme → Type 0
+SpellsBody language s ts rest = (a b : List Lexeme) × Begins ts Brace a × SpellsStatements language body_limit false s a b × Begins b Semicolon rest
 
 -- Before a reference stands any number of labels, in dtc's language one at most.
 abbrev pub stand_before_reference : Language → List Lexeme → Bool
@@ -154,9 +165,9 @@ stand_before_reference Profile ls = true
 stand_before_reference Dtc ls = nat_le (length ls) 1
 
 abbrev pub SpellsItem : Language → ItemTree → List Lexeme → List Lexeme → Type 0
-SpellsItem language (Root s) ts rest = (a : List Lexeme) × Begins ts Slash a × SpellsBody s a rest
+SpellsItem language (Root s) ts rest = (a : List Lexeme) × Begins ts Slash a × SpellsBody language s a rest
 SpellsItem language (Extend ls l s) ts rest =
-    (a b : List Lexeme) × SpellsLabels ls ts a × OneReference l a b × SpellsBody s b rest × (stand_before_reference language ls ≡ true)
+    (a b : List Lexeme) × SpellsLabels ls ts a × OneReference l a b × SpellsBody language s b rest × (stand_before_reference language ls ≡ true)
 SpellsItem language (Delete l) ts rest = (a b : List Lexeme) × Begins ts DeleteNode a × OneReference l a b × Begins b Semicolon rest
 SpellsItem language (Omit l) ts rest = (a b : List Lexeme) × Begins ts OmitIfNoRef a × OneReference l a b × Begins b Semicolon rest
 

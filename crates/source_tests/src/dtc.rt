@@ -147,6 +147,33 @@ const REFUSALS: &[(&[u8], u8, u8)] = &[
     (b"/dts-v1/; / { a { }; p; };", 10, 10),
     (b"/dts-v1/; / { l: p; m: n: q = <1>; };", 255, 255),
     (b"/dts-v1/; / { l: };", 10, 10),
+    // what may stand before a deletion in a body
+    (b"/dts-v1/; / { l: /delete-node/ a; };", 255, 10),
+    (
+        b"/dts-v1/; / { l: m: /delete-node/ a; l: b { }; };",
+        255,
+        10,
+    ),
+    (
+        b"/dts-v1/; / { /omit-if-no-ref/ l: /delete-node/ a; };",
+        255,
+        10,
+    ),
+    (
+        b"/dts-v1/; / { l: /omit-if-no-ref/ /delete-node/ a; };",
+        255,
+        10,
+    ),
+    (b"/dts-v1/; / { l: m: /delete-property/ a; b; };", 255, 10),
+    (
+        b"/dts-v1/; / { l: /omit-if-no-ref/ /delete-property/ a; };",
+        10,
+        10,
+    ),
+    (b"/dts-v1/; / { l: /delete-node/ a; b; };", 10, 10),
+    (b"/dts-v1/; / { c { }; l: /delete-property/ b; };", 10, 10),
+    (b"/dts-v1/; / { l: /delete-node/ &a; };", 10, 10),
+    (b"/dts-v1/; / { a: a { }; }; l: /delete-node/ &a;", 10, 10),
     // items
     (b"/dts-v1/; / { a: a { }; }; /omit-if-no-ref/ &a;", 255, 10),
     (

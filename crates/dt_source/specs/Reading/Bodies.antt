@@ -1,5 +1,7 @@
 -- Reading the statements of a body, and the values of its properties.
 use Rattle.std.specs.Prelude.{ℕ, zero, suc, Bool, true, false, List, [], ◌∷◌, ◌++◌, ◌||◌, length, map, Option, Some, None, Result, Ok, Err, if◌then◌else◌}
+use Rattle.dt_lexeme.specs.declared.language.Language.{Language}
+use Rattle.dt_lexeme.specs.declared.language.Language.TheVariants.{Profile, Dtc}
 use Rattle.dt_lexeme.specs.declared.lexeme.Lexeme.{Lexeme}
 use Rattle.dt_lexeme.specs.declared.lexeme.Fault.{Fault}
 use Rattle.dt_lexeme.specs.declared.lexeme.Refusal.{Refusal}
@@ -200,28 +202,36 @@ name_at text (t ∷ ts) = name_by text t.kind t ts
 abbrev pub deleted_at : List ℕ → (List ℕ → Entry (List Piece)) → List Lexeme → Part (Option (Entry (List Piece)))
 deleted_at text entry ts = name_at text ts >>= λ x. ended_by (Some (entry x.0)) None x.1
 
--- Nothing but a name follows marks.
+-- the end of a body, or a deletion
 abbrev pub bare_by : List ℕ → Bool → Kind → Lexeme → List Lexeme → Part (Option (Entry (List Piece)))
 bare_by text nodes EndBrace t ts = Ok (None, None, ts)
 bare_by text false DeleteProperty t ts = deleted_at text Undefines ts
 bare_by text nodes DeleteNode t ts = deleted_at text Removes ts
 bare_by text nodes _ t ts = Err (syntax_at (t ∷ ts))
 
-abbrev pub unmarked : List ℕ → Bool → List Lexeme → Kind → Lexeme → List Lexeme → Part (Option (Entry (List Piece)))
-unmarked text nodes [] k t ts = bare_by text nodes k t ts
-unmarked text nodes (m ∷ ms) k t ts = Err (syntax_at (t ∷ ts))
+-- a deletion behind marks
+abbrev pub marked_by : List ℕ → Bool → Kind → Lexeme → List Lexeme → Part (Option (Entry (List Piece)))
+marked_by text closed EndBrace t ts = Err (syntax_at (t ∷ ts))
+marked_by text closed k t ts = bare_by text closed k t ts
 
-abbrev pub begun_by : List ℕ → Inner → Bool → List Lexeme → Kind → Lexeme → List Lexeme → Part (Option (Entry (List Piece)))
-begun_by text inner nodes marks Name t ts = named_at text inner (nodes || omits marks) (omits marks) (map (label_bytes text) (labels_in marks)) (name_bytes text t) ts
-begun_by text inner nodes marks k t ts = unmarked text nodes marks k t ts
+-- What has no name: nothing of it follows marks in the profile, and a deletion alone in dtc's language.
+abbrev pub nameless : Language → List ℕ → Bool → List Lexeme → Kind → Lexeme → List Lexeme → Part (Option (Entry (List Piece)))
+nameless Profile text nodes [] k t ts = bare_by text nodes k t ts
+nameless Profile text nodes (m ∷ ms) k t ts = Err (syntax_at (t ∷ ts))
+nameless Dtc text nodes [] k t ts = bare_by text nodes k t ts
+nameless Dtc text nodes (m ∷ ms) k t ts = marked_by text (nodes || omits (m ∷ ms)) k t ts
 
-abbrev pub begun_at : List ℕ → Inner → Bool → List Lexeme → List Lexeme → Part (Option (Entry (List Piece)))
-begun_at text inner nodes marks [] = Err (syntax_at [])
-begun_at text inner nodes marks (t ∷ ts) = begun_by text inner nodes marks t.kind t ts
+abbrev pub begun_by : Language → List ℕ → Inner → Bool → List Lexeme → Kind → Lexeme → List Lexeme → Part (Option (Entry (List Piece)))
+begun_by language text inner nodes marks Name t ts = named_at text inner (nodes || omits marks) (omits marks) (map (label_bytes text) (labels_in marks)) (name_bytes text t) ts
+begun_by language text inner nodes marks k t ts = nameless language text nodes marks k t ts
+
+abbrev pub begun_at : Language → List ℕ → Inner → Bool → List Lexeme → List Lexeme → Part (Option (Entry (List Piece)))
+begun_at language text inner nodes marks [] = Err (syntax_at [])
+begun_at language text inner nodes marks (t ∷ ts) = begun_by language text inner nodes marks t.kind t ts
 
 -- a statement, or the end of the body
-unfoldable pub statement_at : List ℕ → Inner → Bool → List Lexeme → Part (Option (Entry (List Piece)))
-statement_at text inner nodes ts = let m = marks_at ts in begun_at text inner nodes m.0 m.1
+unfoldable pub statement_at : Language → List ℕ → Inner → Bool → List Lexeme → Part (Option (Entry (List Piece)))
+statement_at language text inner nodes ts = let m = marks_at ts in begun_at language text inner nodes m.0 m.1
 
 -- no property follows a node or the deletion of one
 abbrev pub after : Bool → Entry (List Piece) → Bool
@@ -230,17 +240,17 @@ after nodes (Undefines name) = nodes
 after nodes (Child omitted labels name body) = true
 after nodes (Removes name) = true
 
-abbrev pub statements_at : List ℕ → Inner → List Lexeme → Part (List (Entry (List Piece)))
-statements_at text inner ts = many after (statement_at text inner) (suc (length ts)) false ts
+abbrev pub statements_at : Language → List ℕ → Inner → List Lexeme → Part (List (Entry (List Piece)))
+statements_at language text inner ts = many after (statement_at language text inner) (suc (length ts)) false ts
 
 -- a body whose brace was read, at most this deep
-unfoldable pub body_below : List ℕ → ℕ → Lexeme → List Lexeme → Part (List (Entry (List Piece)))
-body_below text zero t ts = Err (too_deep t)
-body_below text (suc depth) t ts = statements_at text (body_below text depth) ts
+unfoldable pub body_below : Language → List ℕ → ℕ → Lexeme → List Lexeme → Part (List (Entry (List Piece)))
+body_below language text zero t ts = Err (too_deep t)
+body_below language text (suc depth) t ts = statements_at language text (body_below language text depth) ts
 
-unfoldable pub body_at : List ℕ → ℕ → List Lexeme → Part (List (Entry (List Piece)))
-body_at text depth ts = statements_at text (body_below text depth) ts
+unfoldable pub body_at : Language → List ℕ → ℕ → List Lexeme → Part (List (Entry (List Piece)))
+body_at language text depth ts = statements_at language text (body_below language text depth) ts
 
 -- what follows a name behind marks, with bodies at most this deep
-abbrev pub named_below : List ℕ → ℕ → Bool → List Lexeme → List ℕ → List Lexeme → Part (Option (Entry (List Piece)))
-named_below text depth nodes marks name ts = named_at text (body_below text depth) nodes (omits marks) (map (label_bytes text) (labels_in marks)) name ts
+abbrev pub named_below : Language → List ℕ → ℕ → Bool → List Lexeme → List ℕ → List Lexeme → Part (Option (Entry (List Piece)))
+named_below language text depth nodes marks name ts = named_at text (body_below language text depth) nodes (omits marks) (map (label_bytes text) (labels_in marks)) name ts
