@@ -28,7 +28,7 @@ ended_again a f ts rest h = rw (semicolon_again ts rest h) refl
 
 -- Marks and a name are read, and what follows them decides.
 named_front : (language : Language) (text : List ℕ) (inner : Inner) (nodes : Bool) (ms : List Lexeme) (n : Lexeme) (ts at us : List Lexeme) → SpellsMarks ms ts at → One Name n at us
-    → statement_at language text inner nodes ts ≡ named_at text inner (nodes || omits ms) (omits ms) (map (label_bytes text) (labels_in ms)) (name_bytes text n) us
+    → statement_at language text inner nodes ts ≡ named_at language text inner (nodes || omits ms) (omits ms) (map (label_bytes text) (labels_in ms)) (name_bytes text n) us
 unfolding statement_at
 named_front language text inner nodes ms n ts at us h k =
     let free : NoMark at = subst NoMark (sym k.1) (ap is_mark k.0) in
@@ -37,10 +37,10 @@ named_front language text inner nodes ms n ts at us h k =
 
 -- labels and a property's name
 labelled_front : (language : Language) (text : List ℕ) (inner : Inner) (ls : List Lexeme) (n : Lexeme) (ts at us : List Lexeme) → SpellsLabels ls ts at → One Name n at us
-    → statement_at language text inner false ts ≡ named_at text inner false false (map (label_bytes text) (labels_in ls)) (name_bytes text n) us
+    → statement_at language text inner false ts ≡ named_at language text inner false false (map (label_bytes text) (labels_in ls)) (name_bytes text n) us
 labelled_front language text inner ls n ts at us h k =
     named_front language text inner false ls n ts at us (labels_are_marks ls ts at h) k
-    ∙ ap (λ (o : Bool). named_at text inner o o (map (label_bytes text) (labels_in ls)) (name_bytes text n) us) (labels_omit_nothing ls ts at h)
+    ∙ ap (λ (o : Bool). named_at language text inner o o (map (label_bytes text) (labels_in ls)) (name_bytes text n) us) (labels_omit_nothing ls ts at h)
 
 -- What no mark stands before is read by its kind.
 bare_front : (language : Language) (text : List ℕ) (inner : Inner) (nodes : Bool) (t : Lexeme) (ts : List Lexeme) → is_mark t.kind ≡ false → statement_at language text inner nodes (t ∷ ts) ≡ begun_by language text inner nodes [] t.kind t ts
@@ -59,36 +59,36 @@ end_again language text inner nodes (t ∷ ts) rest h = bare_front language text
     go Dtc false = refl
     go Dtc true = refl
 
-empty_again : (text : List ℕ) (inner : Inner) (labels : List (List ℕ)) (name : List ℕ) (us rest : List Lexeme) → Begins us Semicolon rest
-    → named_at text inner false false labels name us ≡ Ok (Some (Defines name []), None, rest)
-empty_again text inner labels name [] rest h = absurd h
-empty_again text inner labels name (t ∷ us) rest h = ap (λ (x : Kind). named_by text inner false false labels name x t us) h.0 ∙ rw (h.1) refl
+empty_again : (language : Language) (text : List ℕ) (inner : Inner) (labels : List (List ℕ)) (name : List ℕ) (us rest : List Lexeme) → Begins us Semicolon rest
+    → named_at language text inner false false labels name us ≡ Ok (Some (Defines name []), None, rest)
+empty_again language text inner labels name [] rest h = absurd h
+empty_again language text inner labels name (t ∷ us) rest h = ap (λ (x : Kind). named_by language text inner false false labels name x t us) h.0 ∙ rw (h.1) refl
 
-valued_again : (text : List ℕ) (inner : Inner) (labels : List (List ℕ)) (name : List ℕ) (p : PieceTree) (ps : List PieceTree) (us mid rest : List Lexeme) → SpellsValue (p ∷ ps) us mid → Begins mid Semicolon rest
-    → named_at text inner false false labels name us ≡ Ok (Some (Defines name (value_said text (p ∷ ps))), first_of (value_faults text (p ∷ ps)), rest)
-valued_again text inner labels name p ps [] mid rest h s = absurd h.2
-valued_again text inner labels name p ps (t ∷ us) mid rest h s =
-    let value = value_again text p ps us h.1 mid rest (subst (λ (x : List Lexeme). SpellsPlaced p x h.1) (sym h.2.1) h.3) h.4 s in
-    let ended = ended_again (Some (Defines name (value_said text (p ∷ ps)))) (first_of (value_faults text (p ∷ ps))) mid rest s in
-    ap (λ (x : Kind). named_by text inner false false labels name x t us) h.2.0 ∙ rw value ended
+valued_again : (language : Language) (text : List ℕ) (inner : Inner) (labels : List (List ℕ)) (name : List ℕ) (p : PieceTree) (ps : List PieceTree) (us mid rest : List Lexeme) → SpellsValue (p ∷ ps) us mid → Begins mid Semicolon rest
+    → named_at language text inner false false labels name us ≡ Ok (Some (Defines name (value_said language text (p ∷ ps))), first_of (value_faults language text (p ∷ ps)), rest)
+valued_again language text inner labels name p ps [] mid rest h s = absurd h.2
+valued_again language text inner labels name p ps (t ∷ us) mid rest h s =
+    let value = value_again language text p ps us h.1 mid rest (subst (λ (x : List Lexeme). SpellsPlaced p x h.1) (sym h.2.1) h.3) h.4 s in
+    let ended = ended_again (Some (Defines name (value_said language text (p ∷ ps)))) (first_of (value_faults language text (p ∷ ps))) mid rest s in
+    ap (λ (x : Kind). named_by language text inner false false labels name x t us) h.2.0 ∙ rw value ended
 
 -- how a body in this one is read
-record Inside (text : List ℕ) (inner : Inner) (body : Statements) (ts rest : List Lexeme) : Type 0 where
-  read : (t : Lexeme) → inner t ts ≡ Ok (entries_of text body, first_of (faults_in text body), rest)
+record Inside (language : Language) (text : List ℕ) (inner : Inner) (body : Statements) (ts rest : List Lexeme) : Type 0 where
+  read : (t : Lexeme) → inner t ts ≡ Ok (entries_of language text body, first_of (faults_in language text body), rest)
 
-child_again : (text : List ℕ) (inner : Inner) (nodes omitted : Bool) (labels : List (List ℕ)) (name : List ℕ) (body : Statements) (us at mid rest : List Lexeme) → Begins us Brace at → Inside text inner body at mid → Begins mid Semicolon rest
-    → named_at text inner nodes omitted labels name us ≡ Ok (Some (Child omitted labels name (body_of (entries_of text body))), first_of (faults_in text body), rest)
-child_again text inner nodes omitted labels name body [] at mid rest h i s = absurd h
-child_again text inner nodes omitted labels name body (t ∷ us) at mid rest h i s =
-    ap (λ (x : Kind). named_by text inner nodes omitted labels name x t us) h.0 ∙ go nodes
+child_again : (language : Language) (text : List ℕ) (inner : Inner) (nodes omitted : Bool) (labels : List (List ℕ)) (name : List ℕ) (body : Statements) (us at mid rest : List Lexeme) → Begins us Brace at → Inside language text inner body at mid → Begins mid Semicolon rest
+    → named_at language text inner nodes omitted labels name us ≡ Ok (Some (Child omitted labels name (body_of (entries_of language text body))), first_of (faults_in language text body), rest)
+child_again language text inner nodes omitted labels name body [] at mid rest h i s = absurd h
+child_again language text inner nodes omitted labels name body (t ∷ us) at mid rest h i s =
+    ap (λ (x : Kind). named_by language text inner nodes omitted labels name x t us) h.0 ∙ go nodes
   where
-    inside : inner t us ≡ Ok (entries_of text body, first_of (faults_in text body), mid)
+    inside : inner t us ≡ Ok (entries_of language text body, first_of (faults_in language text body), mid)
     inside = ap (inner t) h.1 ∙ i.read t
 
-    ended : ended_by (Some (Child omitted labels name (body_of (entries_of text body)))) (first_of (faults_in text body)) mid ≡ Ok (Some (Child omitted labels name (body_of (entries_of text body))), first_of (faults_in text body), rest)
-    ended = ended_again (Some (Child omitted labels name (body_of (entries_of text body)))) (first_of (faults_in text body)) mid rest s
+    ended : ended_by (Some (Child omitted labels name (body_of (entries_of language text body)))) (first_of (faults_in language text body)) mid ≡ Ok (Some (Child omitted labels name (body_of (entries_of language text body))), first_of (faults_in language text body), rest)
+    ended = ended_again (Some (Child omitted labels name (body_of (entries_of language text body)))) (first_of (faults_in language text body)) mid rest s
 
-    go : (nodes : Bool) → named_by text inner nodes omitted labels name Brace t us ≡ Ok (Some (Child omitted labels name (body_of (entries_of text body))), first_of (faults_in text body), rest)
+    go : (nodes : Bool) → named_by language text inner nodes omitted labels name Brace t us ≡ Ok (Some (Child omitted labels name (body_of (entries_of language text body))), first_of (faults_in language text body), rest)
     go false = rw inside ended
     go true = rw inside ended
 
@@ -173,7 +173,7 @@ done_again language text inner n nodes ts rest h = rw h refl
 
 -- how a body of this depth is read where so many lexemes may be looked at
 abbrev Read : Language → List ℕ → Statements → ℕ → Bool → List Lexeme → List Lexeme → Type 0
-Read language text s depth nodes ts rest = (n : ℕ) → length ts < n → many after (statement_at language text (body_below language text depth)) n nodes ts ≡ Ok (entries_of text s, first_of (faults_in text s), rest)
+Read language text s depth nodes ts rest = (n : ℕ) → length ts < n → many after (statement_at language text (body_below language text depth)) n nodes ts ≡ Ok (entries_of language text s, first_of (faults_in language text s), rest)
 
 end_read : (language : Language) (text : List ℕ) (depth : ℕ) (nodes : Bool) (ts rest : List Lexeme) → Begins ts EndBrace rest → Read language text End depth nodes ts rest
 unfolding entries_of faults_in
@@ -181,21 +181,21 @@ end_read language text depth nodes ts rest h zero lt = absurd (omega arith)
 end_read language text depth nodes ts rest h (suc n) lt = done_again language text (body_below language text depth) n nodes ts rest (end_again language text (body_below language text depth) nodes ts rest h)
 
 -- a statement that has no fault of its own
-plain_read : (language : Language) (text : List ℕ) (depth : ℕ) (nodes : Bool) (e : Entry (List Piece)) (s more : Statements) (ts at rest : List Lexeme) → entries_of text s ≡ e ∷ entries_of text more → first_of (faults_in text s) ≡ first_of (faults_in text more)
+plain_read : (language : Language) (text : List ℕ) (depth : ℕ) (nodes : Bool) (e : Entry (List Piece)) (s more : Statements) (ts at rest : List Lexeme) → entries_of language text s ≡ e ∷ entries_of language text more → first_of (faults_in language text s) ≡ first_of (faults_in language text more)
     → length at < length ts → statement_at language text (body_below language text depth) nodes ts ≡ Ok (Some e, None, at) → Read language text more depth (after nodes e) at rest → Read language text s depth nodes ts rest
 plain_read language text depth nodes e s more ts at rest es fs lt h r zero l = absurd (omega arith)
 plain_read language text depth nodes e s more ts at rest es fs lt h r (suc n) l =
-    then_again language text (body_below language text depth) n nodes ts e None at (entries_of text more) (first_of (faults_in text more)) rest h (r n (omega arith))
-    ∙ ap (λ (x : List (Entry (List Piece))). several.part x (first_of (faults_in text more)) rest) (sym es) ∙ ap (λ (x : Option Fault). several.part (entries_of text s) x rest) (sym fs)
+    then_again language text (body_below language text depth) n nodes ts e None at (entries_of language text more) (first_of (faults_in language text more)) rest h (r n (omega arith))
+    ∙ ap (λ (x : List (Entry (List Piece))). several.part x (first_of (faults_in language text more)) rest) (sym es) ∙ ap (λ (x : Option Fault). several.part (entries_of language text s) x rest) (sym fs)
 
 -- a statement that has faults
-faulty_read : (language : Language) (text : List ℕ) (depth : ℕ) (nodes : Bool) (e : Entry (List Piece)) (own : List Fault) (s more : Statements) (ts at rest : List Lexeme) → entries_of text s ≡ e ∷ entries_of text more → faults_in text s ≡ own ++ faults_in text more
+faulty_read : (language : Language) (text : List ℕ) (depth : ℕ) (nodes : Bool) (e : Entry (List Piece)) (own : List Fault) (s more : Statements) (ts at rest : List Lexeme) → entries_of language text s ≡ e ∷ entries_of language text more → faults_in language text s ≡ own ++ faults_in language text more
     → length at < length ts → statement_at language text (body_below language text depth) nodes ts ≡ Ok (Some e, first_of own, at) → Read language text more depth (after nodes e) at rest → Read language text s depth nodes ts rest
 faulty_read language text depth nodes e own s more ts at rest es fs lt h r zero l = absurd (omega arith)
 faulty_read language text depth nodes e own s more ts at rest es fs lt h r (suc n) l =
-    then_again language text (body_below language text depth) n nodes ts e (first_of own) at (entries_of text more) (first_of (faults_in text more)) rest h (r n (omega arith))
-    ∙ ap (λ (x : List (Entry (List Piece))). several.part x (earlier (first_of own) (first_of (faults_in text more))) rest) (sym es)
-    ∙ ap (λ (x : Option Fault). several.part (entries_of text s) x rest) (sym (ap first_of fs ∙ several.first_of_both own (faults_in text more)))
+    then_again language text (body_below language text depth) n nodes ts e (first_of own) at (entries_of language text more) (first_of (faults_in language text more)) rest h (r n (omega arith))
+    ∙ ap (λ (x : List (Entry (List Piece))). several.part x (earlier (first_of own) (first_of (faults_in language text more))) rest) (sym es)
+    ∙ ap (λ (x : Option Fault). several.part (entries_of language text s) x rest) (sym (ap first_of fs ∙ several.first_of_both own (faults_in language text more)))
 
 pub statements_again : (language : Language) (text : List ℕ) (s : Statements) (depth : ℕ) (nodes : Bool) (ts rest : List Lexeme) → SpellsStatements language depth nodes s ts rest → Read language text s depth nodes ts rest
 unfolding SpellsStatements entries_of faults_in body_below
@@ -204,13 +204,13 @@ statements_again language text (Sets ls n [] more) depth true ts rest h = absurd
 statements_again language text (Sets ls n [] more) depth false ts rest h =
     plain_read language text depth false (Defines (name_bytes text n) []) (Sets ls n [] more) more ts h.4 rest refl refl
     (omega (arith, labels_shorter ls ts h.1 h.5, one_shorter Name n h.1 h.2 h.6, value_end [] h.2 h.3 h.7, begins_shorter h.3 Semicolon h.4 h.8))
-    (labelled_front language text (body_below language text depth) ls n ts h.1 h.2 h.5 h.6 ∙ empty_again text (body_below language text depth) (map (label_bytes text) (labels_in ls)) (name_bytes text n) h.2 h.4 (subst (λ (x : List Lexeme). Begins x Semicolon h.4) (sym h.7) h.8))
+    (labelled_front language text (body_below language text depth) ls n ts h.1 h.2 h.5 h.6 ∙ empty_again language text (body_below language text depth) (map (label_bytes text) (labels_in ls)) (name_bytes text n) h.2 h.4 (subst (λ (x : List Lexeme). Begins x Semicolon h.4) (sym h.7) h.8))
     (statements_again language text more depth false h.4 rest h.9)
 statements_again language text (Sets ls n (p ∷ ps) more) depth true ts rest h = absurd cc
 statements_again language text (Sets ls n (p ∷ ps) more) depth false ts rest h =
-    faulty_read language text depth false (Defines (name_bytes text n) (value_said text (p ∷ ps))) (value_faults text (p ∷ ps)) (Sets ls n (p ∷ ps) more) more ts h.4 rest refl refl
+    faulty_read language text depth false (Defines (name_bytes text n) (value_said language text (p ∷ ps))) (value_faults language text (p ∷ ps)) (Sets ls n (p ∷ ps) more) more ts h.4 rest refl refl
     (omega (arith, labels_shorter ls ts h.1 h.5, one_shorter Name n h.1 h.2 h.6, value_end (p ∷ ps) h.2 h.3 h.7, begins_shorter h.3 Semicolon h.4 h.8))
-    (labelled_front language text (body_below language text depth) ls n ts h.1 h.2 h.5 h.6 ∙ valued_again text (body_below language text depth) (map (label_bytes text) (labels_in ls)) (name_bytes text n) p ps h.2 h.3 h.4 h.7 h.8)
+    (labelled_front language text (body_below language text depth) ls n ts h.1 h.2 h.5 h.6 ∙ valued_again language text (body_below language text depth) (map (label_bytes text) (labels_in ls)) (name_bytes text n) p ps h.2 h.3 h.4 h.7 h.8)
     (statements_again language text more depth false h.4 rest h.9)
 statements_again language text (Unsets n more) depth true ts rest h = absurd cc
 statements_again language text (Unsets n more) depth false ts rest h =
@@ -221,10 +221,10 @@ statements_again language text (Unsets n more) depth false ts rest h =
 statements_again language text (Holds ls n body more) zero nodes ts rest h = absurd h.8
 statements_again language text (Holds ls n body more) (suc depth) nodes ts rest h =
     let inside = statements_again language text body depth false h.2 h.3 h.8 in
-    faulty_read language text (suc depth) nodes (Child (omits ls) (map (label_bytes text) (labels_in ls)) (name_bytes text n) (body_of (entries_of text body))) (faults_in text body) (Holds ls n body more) more ts h.4 rest refl refl
+    faulty_read language text (suc depth) nodes (Child (omits ls) (map (label_bytes text) (labels_in ls)) (name_bytes text n) (body_of (entries_of language text body))) (faults_in language text body) (Holds ls n body more) more ts h.4 rest refl refl
     (omega (arith, marks_shorter ls ts h.0 h.5, one_shorter Name n h.0 h.1 h.6, begins_shorter h.1 Brace h.2 h.7, statements_shorter language body depth false h.2 h.3 h.8, begins_shorter h.3 Semicolon h.4 h.9))
     (named_front language text (body_below language text (suc depth)) nodes ls n ts h.0 h.1 h.5 h.6
-    ∙ child_again text (body_below language text (suc depth)) (nodes || omits ls) (omits ls) (map (label_bytes text) (labels_in ls)) (name_bytes text n) body h.1 h.2 h.3 h.4 h.7 (record { read = λ t. inside (suc (length h.2)) (omega arith) }) h.9)
+    ∙ child_again language text (body_below language text (suc depth)) (nodes || omits ls) (omits ls) (map (label_bytes text) (labels_in ls)) (name_bytes text n) body h.1 h.2 h.3 h.4 h.7 (record { read = λ t. inside (suc (length h.2)) (omega arith) }) h.9)
     (statements_again language text more (suc depth) true h.4 rest h.10)
 statements_again language text (Drops n more) depth nodes ts rest h =
     plain_read language text depth nodes (Removes (name_bytes text n)) (Drops n more) more ts h.2 rest refl refl
@@ -232,6 +232,6 @@ statements_again language text (Drops n more) depth nodes ts rest h =
     (drops_again language text (body_below language text depth) nodes n ts h.0 h.1 h.2 h.3 h.4 h.5)
     (statements_again language text more depth true h.2 rest h.6)
 
-pub body_again : (language : Language) (text : List ℕ) (s : Statements) (depth : ℕ) (ts rest : List Lexeme) → SpellsStatements language depth false s ts rest → body_at language text depth ts ≡ Ok (entries_of text s, first_of (faults_in text s), rest)
+pub body_again : (language : Language) (text : List ℕ) (s : Statements) (depth : ℕ) (ts rest : List Lexeme) → SpellsStatements language depth false s ts rest → body_at language text depth ts ≡ Ok (entries_of language text s, first_of (faults_in language text s), rest)
 unfolding body_at
 body_again language text s depth ts rest h = statements_again language text s depth false ts rest h (suc (length ts)) (omega arith)

@@ -30,8 +30,8 @@ use Rattle.dt_source.proofs.SpelledBodies.{ended_again, body_again, statements_s
 record BraceFound (language : Language) (text : List ℕ) (ts : List Lexeme) (b : Body (List Piece)) (f : Option Fault) (rest : List Lexeme) : Type 0 where
   tree : Statements
   spells : SpellsBody language tree ts rest
-  said_is : body_of (entries_of text tree) ≡ b
-  fault_is : first_of (faults_in text tree) ≡ f
+  said_is : body_of (entries_of language text tree) ≡ b
+  fault_is : first_of (faults_in language text tree) ≡ f
 
 body_found : (language : Language) (text : List ℕ) (ts : List Lexeme) (es : List (Entry (List Piece))) (f : Option Fault) (rest : List Lexeme) → body_at language text 64 ts ≡ Ok (es, f, rest) → BodyFound language text 64 false ts es f rest
 unfolding body_at
@@ -52,7 +52,7 @@ brace_sound language text (t ∷ ts) b f rest e = go t.kind refl e
 
 abbrev pub ItemFound : Language → List ℕ → List Lexeme → Option Edit → Option Fault → List Lexeme → Type 0
 ItemFound language text ts None f rest = (ts ≡ []) × (f ≡ None)
-ItemFound language text ts (Some i) f rest = several.One (SpellsItem language) (item_said text) (item_faults text) ts i f rest
+ItemFound language text ts (Some i) f rest = several.One (SpellsItem language) (item_said language text) (item_faults language text) ts i f rest
 
 item_to : (language : Language) (text : List ℕ) (ts : List Lexeme) (a b : Option Edit) (f g : Option Fault) (r q : List Lexeme) → ItemFound language text ts a f r → (a ≡ b) × (f ≡ g) × (r ≡ q) → ItemFound language text ts b g q
 item_to language text ts a b f g r q h p =
@@ -151,12 +151,12 @@ item_sound language text (t ∷ ts) o f rest e = let l = before_sound language (
 
 -- ---- what is spelled is read
 
-brace_again : (language : Language) (text : List ℕ) (s : Statements) (ts rest : List Lexeme) → SpellsBody language s ts rest → brace_at language text ts ≡ Ok (body_of (entries_of text s), first_of (faults_in text s), rest)
+brace_again : (language : Language) (text : List ℕ) (s : Statements) (ts rest : List Lexeme) → SpellsBody language s ts rest → brace_at language text ts ≡ Ok (body_of (entries_of language text s), first_of (faults_in language text s), rest)
 unfolding brace_at
 brace_again language text s [] rest h = absurd h.2
 brace_again language text s (t ∷ ts) rest h =
     let body = body_again language text s 64 ts h.1 (subst (λ (x : List Lexeme). SpellsStatements language 64 false s x h.1) (sym h.2.1) h.3) in
-    let ended = ended_again (body_of (entries_of text s)) (first_of (faults_in text s)) h.1 rest h.4 in
+    let ended = ended_again (body_of (entries_of language text s)) (first_of (faults_in language text s)) h.1 rest h.4 in
     ap (λ (x : Kind). brace_kind language text x t ts) h.2.0 ∙ rw body ended
 
 none_before : (language : Language) → stand_before_reference language [] ≡ true
@@ -183,7 +183,7 @@ labelled language text ls (x ∷ ts) t us h few n =
     ap (λ (x : List Lexeme × List Lexeme). item_with language text x.0 x.1) labels
 
 abbrev Again : Language → List ℕ → ItemTree → List Lexeme → List Lexeme → Type 0
-Again language text i ts rest = item_at language text ts ≡ Ok (Some (item_said text i), first_of (item_faults text i), rest)
+Again language text i ts rest = item_at language text ts ≡ Ok (Some (item_said language text i), first_of (item_faults language text i), rest)
 
 root_again : (language : Language) (text : List ℕ) (s : Statements) (t : Lexeme) (ts a rest : List Lexeme) → Begins (t ∷ ts) Slash a → SpellsBody language s a rest → Again language text (Root s) (t ∷ ts) rest
 unfolding SpellsEach
@@ -194,13 +194,13 @@ root_again language text s t ts a rest h b =
 extend_again : (language : Language) (text : List ℕ) (ls : List Lexeme) (l : Lexeme) (s : Statements) (ts us rest : List Lexeme) → SpellsLabels ls ts (l ∷ us) → stand_before_reference language ls ≡ true → IsReference l.kind → SpellsBody language s us rest → Again language text (Extend ls l s) ts rest
 extend_again language text ls l s ts us rest h few k b = labelled language text ls ts l us h few (reference_front l k) ∙ go k
   where
-    brace : brace_at language text us ≡ Ok (body_of (entries_of text s), first_of (faults_in text s), rest)
+    brace : brace_at language text us ≡ Ok (body_of (entries_of language text s), first_of (faults_in language text s), rest)
     brace = brace_again language text s us rest b
 
-    same : extend_at language text ls l us ≡ Ok (Some (item_said text (Extend ls l s)), first_of (faults_in text s), rest)
+    same : extend_at language text ls l us ≡ Ok (Some (item_said language text (Extend ls l s)), first_of (faults_in language text s), rest)
     same = rw brace refl
 
-    go : IsReference l.kind → item_kind language text ls l.kind l us ≡ Ok (Some (item_said text (Extend ls l s)), first_of (faults_in text s), rest)
+    go : IsReference l.kind → item_kind language text ls l.kind l us ≡ Ok (Some (item_said language text (Extend ls l s)), first_of (faults_in language text s), rest)
     go (inl k) = ap (λ (x : Kind). item_kind language text ls x l us) k ∙ same
     go (inr k) = ap (λ (x : Kind). item_kind language text ls x l us) k ∙ same
 

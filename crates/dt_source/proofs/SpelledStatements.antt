@@ -41,8 +41,8 @@ ended_sound a b f g ts rest e =
 pub record StatementFound (language : Language) (text : List ℕ) (depth : ℕ) (nodes : Bool) (ts : List Lexeme) (e : Entry (List Piece)) (f : Option Fault) (r : List Lexeme) : Type 0 where
   pub make : Statements → Statements
   pub spells : (more : Statements) (rest : List Lexeme) → SpellsStatements language depth (after nodes e) more r rest → SpellsStatements language depth nodes (make more) ts rest
-  pub entries : (more : Statements) → entries_of text (make more) ≡ e ∷ entries_of text more
-  pub faults : (more : Statements) → first_of (faults_in text (make more)) ≡ earlier f (first_of (faults_in text more))
+  pub entries : (more : Statements) → entries_of language text (make more) ≡ e ∷ entries_of language text more
+  pub faults : (more : Statements) → first_of (faults_in language text (make more)) ≡ earlier f (first_of (faults_in language text more))
 
 abbrev pub Found : Language → List ℕ → ℕ → Bool → List Lexeme → Option (Entry (List Piece)) → Option Fault → List Lexeme → Type 0
 Found language text depth nodes ts None f r = Begins ts EndBrace r × (f ≡ None)
@@ -58,15 +58,15 @@ to language text depth nodes ts a b f g r q h p =
 pub record BodyFound (language : Language) (text : List ℕ) (depth : ℕ) (nodes : Bool) (ts : List Lexeme) (es : List (Entry (List Piece))) (f : Option Fault) (rest : List Lexeme) : Type 0 where
   pub tree : Statements
   pub spells : SpellsStatements language depth nodes tree ts rest
-  pub entries : entries_of text tree ≡ es
-  pub faults : first_of (faults_in text tree) ≡ f
+  pub entries : entries_of language text tree ≡ es
+  pub faults : first_of (faults_in language text tree) ≡ f
 
 -- the same of a body in this one
 pub record InnerFound (language : Language) (text : List ℕ) (depth : ℕ) (ts : List Lexeme) (es : List (Entry (List Piece))) (f : Option Fault) (rest : List Lexeme) : Type 0 where
   pub tree : Statements
   pub spells : Deeper depth (λ inner. SpellsStatements language inner false tree ts rest)
-  pub entries : entries_of text tree ≡ es
-  pub faults : first_of (faults_in text tree) ≡ f
+  pub entries : entries_of language text tree ≡ es
+  pub faults : first_of (faults_in language text tree) ≡ f
 
 pub record InnerSound (language : Language) (text : List ℕ) (depth : ℕ) (inner : Inner) : Type 0 where
   pub by : (t : Lexeme) (ts : List Lexeme) (es : List (Entry (List Piece))) (f : Option Fault) (rest : List Lexeme) → inner t ts ≡ Ok (es, f, rest) → InnerFound language text depth ts es f rest
@@ -97,13 +97,13 @@ empty_found language text depth ls n t ts us h k = record {
 }
 
 value_found : (language : Language) (text : List ℕ) (depth : ℕ) (ls : List Lexeme) (n t : Lexeme) (ts us : List Lexeme) (ps : List Piece) (f : Option Fault) (mid r : List Lexeme) → Front text ls n ts (t ∷ us) → t.kind ≡ Equals
-    → ValueFound text us ps f mid → Begins mid Semicolon r → StatementFound language text depth false ts (Defines (name_bytes text n) ps) f r
+    → ValueFound language text us ps f mid → Begins mid Semicolon r → StatementFound language text depth false ts (Defines (name_bytes text n) ps) f r
 unfolding SpellsStatements entries_of faults_in
 value_found language text depth ls n t ts us ps f mid r h k v s = record {
   make = Sets ls n (v.first ∷ v.others);
   spells = λ more rest m. (refl, h.at, t ∷ us, mid, r, h.labels, h.name, (us, v.mid, (k, refl), v.spells_first, v.spells_others), s, m);
-  entries = λ more. ap (λ (x : List Piece). Defines (name_bytes text n) x ∷ entries_of text more) v.said_is;
-  faults = λ more. several.first_of_both (value_faults text (v.first ∷ v.others)) (faults_in text more) ∙ ap (λ (x : Option Fault). earlier x (first_of (faults_in text more))) v.fault_is;
+  entries = λ more. ap (λ (x : List Piece). Defines (name_bytes text n) x ∷ entries_of language text more) v.said_is;
+  faults = λ more. several.first_of_both (value_faults language text (v.first ∷ v.others)) (faults_in language text more) ∙ ap (λ (x : Option Fault). earlier x (first_of (faults_in language text more))) v.fault_is;
 }
 
 child_found : (language : Language) (text : List ℕ) (depth : ℕ) (nodes : Bool) (ls : List Lexeme) (n t : Lexeme) (ts us : List Lexeme) (es : List (Entry (List Piece))) (f : Option Fault) (mid r : List Lexeme) → MarkedFront text ls n ts (t ∷ us) → t.kind ≡ Brace
@@ -112,8 +112,8 @@ unfolding SpellsStatements entries_of faults_in
 child_found language text depth nodes ls n t ts us es f mid r h k b s = record {
   make = Holds ls n b.tree;
   spells = λ more rest m. (h.at, t ∷ us, us, mid, r, h.marks, h.name, (k, refl), b.spells, s, m);
-  entries = λ more. ap (λ (x : List (Entry (List Piece))). Child (omits ls) (map (label_bytes text) (labels_in ls)) (name_bytes text n) (body_of x) ∷ entries_of text more) b.entries;
-  faults = λ more. several.first_of_both (faults_in text b.tree) (faults_in text more) ∙ ap (λ (x : Option Fault). earlier x (first_of (faults_in text more))) b.faults;
+  entries = λ more. ap (λ (x : List (Entry (List Piece))). Child (omits ls) (map (label_bytes text) (labels_in ls)) (name_bytes text n) (body_of x) ∷ entries_of language text more) b.entries;
+  faults = λ more. several.first_of_both (faults_in language text b.tree) (faults_in language text more) ∙ ap (λ (x : Option Fault). earlier x (first_of (faults_in language text more))) b.faults;
 }
 
 unsets_found : (language : Language) (text : List ℕ) (depth : ℕ) (ms : List Lexeme) (t n : Lexeme) (ts us r : List Lexeme) → SpellsMarks ms ts (t ∷ n ∷ us) → stand_before_deletion language DeleteProperty ms ≡ true → t.kind ≡ DeleteProperty → n.kind ≡ Name → Begins us Semicolon r
@@ -139,7 +139,7 @@ drops_found language text depth nodes ms t n ts us r marks fit k h s = record {
 -- ---- by what stands there
 
 named_sound : (language : Language) (text : List ℕ) (depth : ℕ) (inner : Inner) → InnerSound language text depth inner → (nodes : Bool) (ms : List Lexeme) (n : Lexeme) (ts us : List Lexeme) (o : Option (Entry (List Piece))) (f : Option Fault) (r : List Lexeme)
-    → MarkedFront text ms n ts us → named_at text inner (nodes || omits ms) (omits ms) (map (label_bytes text) (labels_in ms)) (name_bytes text n) us ≡ Ok (o, f, r) → Found language text depth nodes ts o f r
+    → MarkedFront text ms n ts us → named_at language text inner (nodes || omits ms) (omits ms) (map (label_bytes text) (labels_in ms)) (name_bytes text n) us ≡ Ok (o, f, r) → Found language text depth nodes ts o f r
 named_sound language text depth inner hi nodes ms n ts [] o f r h e = absurd cc
 named_sound language text depth inner hi nodes ms n ts (t ∷ us) o f r h e = go (nodes || omits ms) refl t.kind refl e
   where
@@ -162,13 +162,13 @@ named_sound language text depth inner hi nodes ms n ts (t ∷ us) o f r h e = go
         let s = ended_sound (Some (Child (omits ms) labels name (body_of b.0.0))) o b.0.1 f b.0.2 r b.2 in
         to language text depth nodes ts (Some (Child (omits ms) labels name (body_of b.0.0))) o b.0.1 f r r (child_found language text depth nodes ms n t ts us b.0.0 b.0.1 b.0.2 r h k (hi.by t us b.0.0 b.0.1 b.0.2 b.1) s.ends) (s.value_is, s.fault_is, refl)
 
-    go : (closed : Bool) → (nodes || omits ms) ≡ closed → (k : Kind) → t.kind ≡ k → named_by text inner closed (omits ms) labels name k t us ≡ Ok (o, f, r) → Found language text depth nodes ts o f r
+    go : (closed : Bool) → (nodes || omits ms) ≡ closed → (k : Kind) → t.kind ≡ k → named_by language text inner closed (omits ms) labels name k t us ≡ Ok (o, f, r) → Found language text depth nodes ts o f r
     go false free Semicolon k e =
         with_nodes free (to language text depth false ts (Some (Defines name [])) o None f us r (empty_found language text depth ms n t ts us (front free) k) (several.part_is (Some (Defines name [])) o None f us r e))
     go false free Equals k e =
-        let b = bind_ok (value_at text us) (λ v. ended_by (Some (Defines name v.0)) v.1 v.2) (o, f, r) e in
+        let b = bind_ok (value_at language text us) (λ v. ended_by (Some (Defines name v.0)) v.1 v.2) (o, f, r) e in
         let s = ended_sound (Some (Defines name b.0.0)) o b.0.1 f b.0.2 r b.2 in
-        with_nodes free (to language text depth false ts (Some (Defines name b.0.0)) o b.0.1 f r r (value_found language text depth ms n t ts us b.0.0 b.0.1 b.0.2 r (front free) k (value_sound text us b.0.0 b.0.1 b.0.2 b.1) s.ends) (s.value_is, s.fault_is, refl))
+        with_nodes free (to language text depth false ts (Some (Defines name b.0.0)) o b.0.1 f r r (value_found language text depth ms n t ts us b.0.0 b.0.1 b.0.2 r (front free) k (value_sound language text us b.0.0 b.0.1 b.0.2 b.1) s.ends) (s.value_is, s.fault_is, refl))
     go false free Brace k e = child k e
     go true free Brace k e = child k e
     go _ free _ k e = absurd cc

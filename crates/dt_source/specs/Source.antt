@@ -208,29 +208,29 @@ abbrev pub portion_values : List ℕ → PortionTree → Option (Value × Value)
 portion_values text Whole = None
 portion_values text (Portion o n) = Some (value_of text o, value_of text n)
 
-abbrev pub piece_said : List ℕ → PieceTree → List Piece
-piece_said text (Quoted l) = Plain (string_bytes text l) ∷ []
-piece_said text (Points l) = PathOf (target_of text l) ∷ []
-piece_said text (Pairs ls) = Plain (concat (map (pair_bytes text) ls)) ∷ []
-piece_said text (Cells cs) = cells_said text (Some ThirtyTwo) cs
-piece_said text (WideCells l cs) = cells_said text (width_in (width_said text l)) cs
-piece_said text (Includes w l p) = portion_pieces w.start (portion_values text p)
+abbrev pub piece_said : Language → List ℕ → PieceTree → List Piece
+piece_said language text (Quoted l) = Plain (string_bytes language text l) ∷ []
+piece_said language text (Points l) = PathOf (target_of text l) ∷ []
+piece_said language text (Pairs ls) = Plain (concat (map (pair_bytes text) ls)) ∷ []
+piece_said language text (Cells cs) = cells_said text (Some ThirtyTwo) cs
+piece_said language text (WideCells l cs) = cells_said text (width_in (width_said text l)) cs
+piece_said language text (Includes w l p) = portion_pieces w.start (portion_values text p)
 
-abbrev pub value_said : List ℕ → List PieceTree → List Piece
-value_said text ps = joined (flat_map (piece_said text) ps)
+abbrev pub value_said : Language → List ℕ → List PieceTree → List Piece
+value_said language text ps = joined (flat_map (piece_said language text) ps)
 
-unfoldable pub entries_of : List ℕ → Statements → List (Entry (List Piece))
-entries_of text End = []
-entries_of text (Sets ls n v more) = Defines (name_bytes text n) (value_said text v) ∷ entries_of text more
-entries_of text (Unsets n more) = Undefines (name_bytes text n) ∷ entries_of text more
-entries_of text (Holds ms n body more) = Child (omits ms) (map (label_bytes text) (labels_in ms)) (name_bytes text n) (body_of (entries_of text body)) ∷ entries_of text more
-entries_of text (Drops n more) = Removes (name_bytes text n) ∷ entries_of text more
+unfoldable pub entries_of : Language → List ℕ → Statements → List (Entry (List Piece))
+entries_of language text End = []
+entries_of language text (Sets ls n v more) = Defines (name_bytes text n) (value_said language text v) ∷ entries_of language text more
+entries_of language text (Unsets n more) = Undefines (name_bytes text n) ∷ entries_of language text more
+entries_of language text (Holds ms n body more) = Child (omits ms) (map (label_bytes text) (labels_in ms)) (name_bytes text n) (body_of (entries_of language text body)) ∷ entries_of language text more
+entries_of language text (Drops n more) = Removes (name_bytes text n) ∷ entries_of language text more
 
-abbrev pub item_said : List ℕ → ItemTree → Edit
-item_said text (Root s) = Rooted (body_of (entries_of text s))
-item_said text (Extend ls l s) = Extends (map (label_bytes text) ls) (target_of text l) (body_of (entries_of text s))
-item_said text (Delete l) = Deletes (target_of text l)
-item_said text (Omit l) = Omits (target_of text l)
+abbrev pub item_said : Language → List ℕ → ItemTree → Edit
+item_said language text (Root s) = Rooted (body_of (entries_of language text s))
+item_said language text (Extend ls l s) = Extends (map (label_bytes text) ls) (target_of text l) (body_of (entries_of language text s))
+item_said language text (Delete l) = Deletes (target_of text l)
+item_said language text (Omit l) = Omits (target_of text l)
 
 -- the pairs of numbers that have no fault
 abbrev pub both_numbers : Value × Value → List (ℕ × ℕ)
@@ -245,8 +245,8 @@ any [] = false
 any (b ∷ bs) = b || any bs
 
 -- A source is a plugin where any header says so.
-unfoldable pub said : List ℕ → SourceTree → Meaning
-said text s = record { plugin = any s.headers; reserves = flat_map both_numbers (map (reserve_values text) s.reserves); items = map (item_said text) s.items }
+unfoldable pub said : Language → List ℕ → SourceTree → Meaning
+said language text s = record { plugin = any s.headers; reserves = flat_map both_numbers (map (reserve_values text) s.reserves); items = map (item_said language text) s.items }
 
 -- ---- faults, in the order of the text
 
@@ -261,32 +261,32 @@ abbrev pub portion_faults : Option (Value × Value) → List Fault
 portion_faults None = []
 portion_faults (Some x) = fault_list (fault_in x.0) ++ fault_list (fault_in x.1)
 
-abbrev pub piece_faults : List ℕ → PieceTree → List Fault
-piece_faults text (Quoted l) = string_faults text l
-piece_faults text (Points l) = []
-piece_faults text (Pairs ls) = []
-piece_faults text (Cells cs) = cells_faults text (Some ThirtyTwo) cs
-piece_faults text (WideCells l cs) = fault_list (fault_in (width_said text l)) ++ cells_faults text (width_in (width_said text l)) cs
-piece_faults text (Includes w l p) = string_faults text l ++ portion_faults (portion_values text p)
+abbrev pub piece_faults : Language → List ℕ → PieceTree → List Fault
+piece_faults language text (Quoted l) = string_faults language text l
+piece_faults language text (Points l) = []
+piece_faults language text (Pairs ls) = []
+piece_faults language text (Cells cs) = cells_faults text (Some ThirtyTwo) cs
+piece_faults language text (WideCells l cs) = fault_list (fault_in (width_said text l)) ++ cells_faults text (width_in (width_said text l)) cs
+piece_faults language text (Includes w l p) = string_faults language text l ++ portion_faults (portion_values text p)
 
-abbrev pub value_faults : List ℕ → List PieceTree → List Fault
-value_faults text ps = flat_map (piece_faults text) ps
+abbrev pub value_faults : Language → List ℕ → List PieceTree → List Fault
+value_faults language text ps = flat_map (piece_faults language text) ps
 
-unfoldable pub faults_in : List ℕ → Statements → List Fault
-faults_in text End = []
-faults_in text (Sets ls n v more) = value_faults text v ++ faults_in text more
-faults_in text (Unsets n more) = faults_in text more
-faults_in text (Holds ls n body more) = faults_in text body ++ faults_in text more
-faults_in text (Drops n more) = faults_in text more
+unfoldable pub faults_in : Language → List ℕ → Statements → List Fault
+faults_in language text End = []
+faults_in language text (Sets ls n v more) = value_faults language text v ++ faults_in language text more
+faults_in language text (Unsets n more) = faults_in language text more
+faults_in language text (Holds ls n body more) = faults_in language text body ++ faults_in language text more
+faults_in language text (Drops n more) = faults_in language text more
 
-abbrev pub item_faults : List ℕ → ItemTree → List Fault
-item_faults text (Root s) = faults_in text s
-item_faults text (Extend ls l s) = faults_in text s
-item_faults text (Delete l) = []
-item_faults text (Omit l) = []
+abbrev pub item_faults : Language → List ℕ → ItemTree → List Fault
+item_faults language text (Root s) = faults_in language text s
+item_faults language text (Extend ls l s) = faults_in language text s
+item_faults language text (Delete l) = []
+item_faults language text (Omit l) = []
 
 abbrev pub reserve_faults : List ℕ → ReserveTree → List Fault
 reserve_faults text r = fault_list (fault_in (value_of text r.address)) ++ fault_list (fault_in (value_of text r.size))
 
-unfoldable pub faults_of : List ℕ → SourceTree → List Fault
-faults_of text s = flat_map (reserve_faults text) s.reserves ++ flat_map (item_faults text) s.items
+unfoldable pub faults_of : Language → List ℕ → SourceTree → List Fault
+faults_of language text s = flat_map (reserve_faults text) s.reserves ++ flat_map (item_faults language text) s.items

@@ -202,7 +202,7 @@ fn named<'a, 'text>(
                 Ok(Read { found, fault, rest })
             }
             Kind::Equals if !nodes => {
-                let Read { found, fault, rest } = value(alloc, text, rest)?;
+                let Read { found, fault, rest } = value(alloc, language, text, rest)?;
                 end(property(name, found), fault, rest)
             }
             Kind::Brace => {
