@@ -35,12 +35,12 @@ item_sort language (Omit l) ts rest h = behind_none OmitIfNoRef ts (begins_sort 
 one_item : (language : Language) (i j : ItemTree) (ts r q : List Lexeme) → SpellsItem language i ts r → SpellsItem language j ts q → Same i j r q
 one_item language (Root s) (Root t) ts r q h k =
     let first = one_begins Slash Slash ts h.0 k.0 h.1 k.1 in
-    let body = one_body s t h.0 r q h.2 (subst (λ (x : List Lexeme). SpellsBody t x q) (sym first.1) k.2) in
+    let body = one_body language s t h.0 r q h.2 (subst (λ (x : List Lexeme). SpellsBody language t x q) (sym first.1) k.2) in
     (ap Root body.0, body.1)
 one_item language (Extend ls l s) (Extend ms m t) ts r q h k =
     let labels = one_labels ls ms ts h.0 k.0 h.2 k.2 (no_label Reference h.0 (reference_sort l h.0 h.1 h.3) refl) (no_label Reference k.0 (reference_sort m k.0 k.1 k.3) refl) in
     let name = one_takes l m h.0 h.1 k.1 h.3.1 (labels.1 ∙ k.3.1) in
-    let body = one_body s t h.1 r q h.4 (subst (λ (x : List Lexeme). SpellsBody t x q) (sym name.1) k.4) in
+    let body = one_body language s t h.1 r q h.4 (subst (λ (x : List Lexeme). SpellsBody language t x q) (sym name.1) k.4) in
     (cc (labels.0, name.0, body.0), body.1)
 one_item language (Delete l) (Delete m) ts r q h k =
     let first = one_begins DeleteNode DeleteNode ts h.0 k.0 h.2 k.2 in

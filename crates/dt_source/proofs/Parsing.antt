@@ -35,7 +35,7 @@ just x = Ok x
 ok_is : {A : Type 0} (x y : A) → just x ≡ just y → x ≡ y
 ok_is x y e = cc
 
-pub same_source : SourcesAreRead → (language : Language) (text : List ℕ) (s t : SourceTree) → IsSource language text s → IsSource language text t → (said text s ≡ said text t) × (first_of (faults_of text s) ≡ first_of (faults_of text t))
+pub same_source : SourcesAreRead → (language : Language) (text : List ℕ) (s t : SourceTree) → IsSource language text s → IsSource language text t → (said language text s ≡ said language text t) × (first_of (faults_of language text s) ≡ first_of (faults_of language text t))
 same_source again language text s t a b =
     let e = one_list language text a.0 b.0 a.1 b.1 in
     let p = ok_is _ _ (sym (again language text s a.0 a.2) ∙ ap (source_at language text) e ∙ again language text t b.0 b.2) in
@@ -51,7 +51,7 @@ refused again language text ls r h e = λ s a.
 found : SourcesAreSpelled → FaultsAreInOrder → (language : Language) (text : List ℕ) (ls : List Lexeme) (m : Meaning) (f : Option Fault) → Lexemes language text ls → source_at language text ls ≡ Ok (m, f) → IsRead language text m f
 found takes order language text ls m f h e =
     let s = takes language text ls m f e in
-    (s.0, (ls, h, s.1), s.2, (s.3, subst (λ (o : Option Fault). IsFirstInText o (faults_of text s.0)) s.3 (order language text ls s.0 h s.1)))
+    (s.0, (ls, h, s.1), s.2, (s.3, subst (λ (o : Option Fault). IsFirstInText o (faults_of language text s.0)) s.3 (order language text ls s.0 h s.1)))
 
 -- what reading the lexemes gave
 pub is_found : SourcesAreSpelled → FaultsAreInOrder → (language : Language) (text : List ℕ) (ts ls : List Lexeme) (r : Result (Outline × Option Fault) ReadError) → Lexemes language text ls → ts ≡ ls → Reads (λ x. (outlined x.0, x.1)) r (source_at language text ts) → IfOk r (λ x. IsRead language text (outlined x.0) x.1)
@@ -91,8 +91,8 @@ one_meaning again language text m n a b = sym a.3 ∙ (same_source again languag
 
 pub no_fault : SourcesAreRead → (language : Language) (text : List ℕ) (m : Meaning) (f : Fault) → Says language text m → HasFirstFault language text f → ⊥
 no_fault again language text m f a b =
-    let e : first_of (faults_of text a.0) ≡ some f = (same_source again language text a.0 b.0 a.1 b.1).1 ∙ b.2.0 in
-    let n : first_of (faults_of text a.0) ≡ None = ap first_of a.2 in
+    let e : first_of (faults_of language text a.0) ≡ some f = (same_source again language text a.0 b.0 a.1 b.1).1 ∙ b.2.0 in
+    let n : first_of (faults_of language text a.0) ≡ None = ap first_of a.2 in
     cc (e, n)
 
 pub one_fault : SourcesAreRead → (language : Language) (text : List ℕ) (f g : Fault) → HasFirstFault language text f → HasFirstFault language text g → f ≡ g

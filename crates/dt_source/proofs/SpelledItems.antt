@@ -27,50 +27,50 @@ use Rattle.dt_source.proofs.SpelledBodies.{ended_again, body_again, statements_s
 
 -- ---- what is read is spelled so
 
-record BraceFound (text : List ℕ) (ts : List Lexeme) (b : Body (List Piece)) (f : Option Fault) (rest : List Lexeme) : Type 0 where
+record BraceFound (language : Language) (text : List ℕ) (ts : List Lexeme) (b : Body (List Piece)) (f : Option Fault) (rest : List Lexeme) : Type 0 where
   tree : Statements
-  spells : SpellsBody tree ts rest
-  said_is : body_of (entries_of text tree) ≡ b
-  fault_is : first_of (faults_in text tree) ≡ f
+  spells : SpellsBody language tree ts rest
+  said_is : body_of (entries_of language text tree) ≡ b
+  fault_is : first_of (faults_in language text tree) ≡ f
 
-body_found : (text : List ℕ) (ts : List Lexeme) (es : List (Entry (List Piece))) (f : Option Fault) (rest : List Lexeme) → body_at text 64 ts ≡ Ok (es, f, rest) → BodyFound text 64 false ts es f rest
+body_found : (language : Language) (text : List ℕ) (ts : List Lexeme) (es : List (Entry (List Piece))) (f : Option Fault) (rest : List Lexeme) → body_at language text 64 ts ≡ Ok (es, f, rest) → BodyFound language text 64 false ts es f rest
 unfolding body_at
-body_found text ts es f rest e = statements_sound text 64 (body_below text 64) (body_sound text 64) ts es f rest e
+body_found language text ts es f rest e = statements_sound language text 64 (body_below language text 64) (body_sound language text 64) ts es f rest e
 
-brace_sound : (text : List ℕ) (ts : List Lexeme) (b : Body (List Piece)) (f : Option Fault) (rest : List Lexeme) → brace_at text ts ≡ Ok (b, f, rest) → BraceFound text ts b f rest
+brace_sound : (language : Language) (text : List ℕ) (ts : List Lexeme) (b : Body (List Piece)) (f : Option Fault) (rest : List Lexeme) → brace_at language text ts ≡ Ok (b, f, rest) → BraceFound language text ts b f rest
 unfolding brace_at
-brace_sound text [] b f rest e = absurd cc
-brace_sound text (t ∷ ts) b f rest e = go t.kind refl e
+brace_sound language text [] b f rest e = absurd cc
+brace_sound language text (t ∷ ts) b f rest e = go t.kind refl e
   where
-    go : (k : Kind) → t.kind ≡ k → brace_kind text k t ts ≡ Ok (b, f, rest) → BraceFound text (t ∷ ts) b f rest
+    go : (k : Kind) → t.kind ≡ k → brace_kind language text k t ts ≡ Ok (b, f, rest) → BraceFound language text (t ∷ ts) b f rest
     go Brace k e =
-        let y = bind_ok (body_at text 64 ts) (λ y. ended_by (body_of y.0) y.1 y.2) (b, f, rest) e in
+        let y = bind_ok (body_at language text 64 ts) (λ y. ended_by (body_of y.0) y.1 y.2) (b, f, rest) e in
         let s = ended_sound (body_of y.0.0) b y.0.1 f y.0.2 rest y.2 in
-        let m = body_found text ts y.0.0 y.0.1 y.0.2 y.1 in
+        let m = body_found language text ts y.0.0 y.0.1 y.0.2 y.1 in
         record { tree = m.tree; spells = (ts, y.0.2, (k, refl), m.spells, s.ends); said_is = ap body_of m.entries ∙ s.value_is; fault_is = m.faults ∙ s.fault_is }
     go _ k e = absurd cc
 
 abbrev pub ItemFound : Language → List ℕ → List Lexeme → Option Edit → Option Fault → List Lexeme → Type 0
 ItemFound language text ts None f rest = (ts ≡ []) × (f ≡ None)
-ItemFound language text ts (Some i) f rest = several.One (SpellsItem language) (item_said text) (item_faults text) ts i f rest
+ItemFound language text ts (Some i) f rest = several.One (SpellsItem language) (item_said language text) (item_faults language text) ts i f rest
 
 item_to : (language : Language) (text : List ℕ) (ts : List Lexeme) (a b : Option Edit) (f g : Option Fault) (r q : List Lexeme) → ItemFound language text ts a f r → (a ≡ b) × (f ≡ g) × (r ≡ q) → ItemFound language text ts b g q
 item_to language text ts a b f g r q h p =
     subst (λ (x : Option Edit). ItemFound language text ts x g q) p.0 (subst (λ (x : Option Fault). ItemFound language text ts a x q) p.1 (subst (λ (x : List Lexeme). ItemFound language text ts a f x) p.2 h))
 
 extend_sound : (language : Language) (text : List ℕ) (ls : List Lexeme) (t : Lexeme) (ts us : List Lexeme) (o : Option Edit) (f : Option Fault) (rest : List Lexeme) → SpellsLabels ls ts (t ∷ us) → stand_before_reference language ls ≡ true → IsReference t.kind
-    → extend_at text ls t us ≡ Ok (o, f, rest) → ItemFound language text ts o f rest
+    → extend_at language text ls t us ≡ Ok (o, f, rest) → ItemFound language text ts o f rest
 extend_sound language text ls t ts us o f rest s few k e =
-    let y = bind_ok (brace_at text us) (λ y. Ok (Some (Extends (map (label_bytes text) ls) (target_of text t) y.0), y.1, y.2)) (o, f, rest) e in
-    let b = brace_sound text us y.0.0 y.0.1 y.0.2 y.1 in
+    let y = bind_ok (brace_at language text us) (λ y. Ok (Some (Extends (map (label_bytes text) ls) (target_of text t) y.0), y.1, y.2)) (o, f, rest) e in
+    let b = brace_sound language text us y.0.0 y.0.1 y.0.2 y.1 in
     item_to language text ts (Some (Extends (map (label_bytes text) ls) (target_of text t) y.0.0)) o y.0.1 f y.0.2 rest
     (record { tree = Extend ls t b.tree; spells = (t ∷ us, us, s, (k, refl), b.spells, few); value_is = ap (Extends (map (label_bytes text) ls) (target_of text t)) b.said_is; fault_is = b.fault_is })
     (several.part_is (Some (Extends (map (label_bytes text) ls) (target_of text t) y.0.0)) o y.0.1 f y.0.2 rest y.2)
 
-root_sound : (language : Language) (text : List ℕ) (t : Lexeme) (us : List Lexeme) (o : Option Edit) (f : Option Fault) (rest : List Lexeme) → t.kind ≡ Slash → root_at text us ≡ Ok (o, f, rest) → ItemFound language text (t ∷ us) o f rest
+root_sound : (language : Language) (text : List ℕ) (t : Lexeme) (us : List Lexeme) (o : Option Edit) (f : Option Fault) (rest : List Lexeme) → t.kind ≡ Slash → root_at language text us ≡ Ok (o, f, rest) → ItemFound language text (t ∷ us) o f rest
 root_sound language text t us o f rest k e =
-    let y = bind_ok (brace_at text us) (λ y. Ok (Some (Rooted y.0), y.1, y.2)) (o, f, rest) e in
-    let b = brace_sound text us y.0.0 y.0.1 y.0.2 y.1 in
+    let y = bind_ok (brace_at language text us) (λ y. Ok (Some (Rooted y.0), y.1, y.2)) (o, f, rest) e in
+    let b = brace_sound language text us y.0.0 y.0.1 y.0.2 y.1 in
     item_to language text (t ∷ us) (Some (Rooted y.0.0)) o y.0.1 f y.0.2 rest
     (record { tree = Root b.tree; spells = (us, (k, refl), b.spells); value_is = ap Rooted b.said_is; fault_is = b.fault_is })
     (several.part_is (Some (Rooted y.0.0)) o y.0.1 f y.0.2 rest y.2)
@@ -113,23 +113,23 @@ omit_sound language text t us o f rest k e =
     (record { tree = Omit r.reference; spells = (us, r.at, (k, refl), r.spells, r.ends); value_is = ap Omits r.target_is; fault_is = sym r.fault_is })
     (several.part_is (Some (Omits y.0.0)) o y.0.1 f y.0.2 rest y.2)
 
-bare_sound : (language : Language) (text : List ℕ) (t : Lexeme) (us : List Lexeme) (k : Kind) (o : Option Edit) (f : Option Fault) (rest : List Lexeme) → t.kind ≡ k → bare_item text k t us ≡ Ok (o, f, rest) → ItemFound language text (t ∷ us) o f rest
+bare_sound : (language : Language) (text : List ℕ) (t : Lexeme) (us : List Lexeme) (k : Kind) (o : Option Edit) (f : Option Fault) (rest : List Lexeme) → t.kind ≡ k → bare_item language text k t us ≡ Ok (o, f, rest) → ItemFound language text (t ∷ us) o f rest
 bare_sound language text t us Slash o f rest h e = root_sound language text t us o f rest h e
 bare_sound language text t us DeleteNode o f rest h e = delete_sound language text t us o f rest h e
 bare_sound language text t us OmitIfNoRef o f rest h e = omit_sound language text t us o f rest h e
 bare_sound language text t us _ o f rest h e = absurd cc
 
 unlabelled_sound : (language : Language) (text : List ℕ) (ls ts : List Lexeme) (t : Lexeme) (us : List Lexeme) (k : Kind) (o : Option Edit) (f : Option Fault) (rest : List Lexeme) → SpellsLabels ls ts (t ∷ us) → t.kind ≡ k
-    → unlabelled_item text ls k t us ≡ Ok (o, f, rest) → ItemFound language text ts o f rest
+    → unlabelled_item language text ls k t us ≡ Ok (o, f, rest) → ItemFound language text ts o f rest
 unfolding SpellsEach
 unlabelled_sound language text [] ts t us k o f rest s h e = subst (λ (x : List Lexeme). ItemFound language text x o f rest) (sym s) (bare_sound language text t us k o f rest h e)
 unlabelled_sound language text (l ∷ ls) ts t us k o f rest s h e = absurd cc
 
-item_with_sound : (language : Language) (text : List ℕ) (ls ts us : List Lexeme) (o : Option Edit) (f : Option Fault) (rest : List Lexeme) → SpellsLabels ls ts us → stand_before_reference language ls ≡ true → item_with text ls us ≡ Ok (o, f, rest) → ItemFound language text ts o f rest
+item_with_sound : (language : Language) (text : List ℕ) (ls ts us : List Lexeme) (o : Option Edit) (f : Option Fault) (rest : List Lexeme) → SpellsLabels ls ts us → stand_before_reference language ls ≡ true → item_with language text ls us ≡ Ok (o, f, rest) → ItemFound language text ts o f rest
 item_with_sound language text ls ts [] o f rest s few e = absurd cc
 item_with_sound language text ls ts (t ∷ us) o f rest s few e = go t.kind refl e
   where
-    go : (k : Kind) → t.kind ≡ k → item_kind text ls k t us ≡ Ok (o, f, rest) → ItemFound language text ts o f rest
+    go : (k : Kind) → t.kind ≡ k → item_kind language text ls k t us ≡ Ok (o, f, rest) → ItemFound language text ts o f rest
     go Reference h e = extend_sound language text ls t ts us o f rest s few (inl h) e
     go PathReference h e = extend_sound language text ls t ts us o f rest s few (inr h) e
     go k h e = unlabelled_sound language text ls ts t us k o f rest s h e
@@ -151,13 +151,13 @@ item_sound language text (t ∷ ts) o f rest e = let l = before_sound language (
 
 -- ---- what is spelled is read
 
-brace_again : (text : List ℕ) (s : Statements) (ts rest : List Lexeme) → SpellsBody s ts rest → brace_at text ts ≡ Ok (body_of (entries_of text s), first_of (faults_in text s), rest)
+brace_again : (language : Language) (text : List ℕ) (s : Statements) (ts rest : List Lexeme) → SpellsBody language s ts rest → brace_at language text ts ≡ Ok (body_of (entries_of language text s), first_of (faults_in language text s), rest)
 unfolding brace_at
-brace_again text s [] rest h = absurd h.2
-brace_again text s (t ∷ ts) rest h =
-    let body = body_again text s 64 ts h.1 (subst (λ (x : List Lexeme). SpellsStatements 64 false s x h.1) (sym h.2.1) h.3) in
-    let ended = ended_again (body_of (entries_of text s)) (first_of (faults_in text s)) h.1 rest h.4 in
-    ap (λ (x : Kind). brace_kind text x t ts) h.2.0 ∙ rw body ended
+brace_again language text s [] rest h = absurd h.2
+brace_again language text s (t ∷ ts) rest h =
+    let body = body_again language text s 64 ts h.1 (subst (λ (x : List Lexeme). SpellsStatements language 64 false s x h.1) (sym h.2.1) h.3) in
+    let ended = ended_again (body_of (entries_of language text s)) (first_of (faults_in language text s)) h.1 rest h.4 in
+    ap (λ (x : Kind). brace_kind language text x t ts) h.2.0 ∙ rw body ended
 
 none_before : (language : Language) → stand_before_reference language [] ≡ true
 none_before Profile = refl
@@ -174,35 +174,35 @@ before_again Dtc (l ∷ []) ts t us h few n =
 before_again Dtc (l ∷ m ∷ ls) ts t us h few n = let most = leb-true (length (l ∷ m ∷ ls)) 1 few in absurd (omega (arith, most))
 
 -- Labels are read before an item.
-pub labelled : (language : Language) (text : List ℕ) (ls ts : List Lexeme) (t : Lexeme) (us : List Lexeme) → SpellsLabels ls ts (t ∷ us) → stand_before_reference language ls ≡ true → is_label t.kind ≡ false → item_at language text ts ≡ item_kind text ls t.kind t us
+pub labelled : (language : Language) (text : List ℕ) (ls ts : List Lexeme) (t : Lexeme) (us : List Lexeme) → SpellsLabels ls ts (t ∷ us) → stand_before_reference language ls ≡ true → is_label t.kind ≡ false → item_at language text ts ≡ item_kind language text ls t.kind t us
 unfolding item_at SpellsEach
 labelled language text [] [] t us h few n = absurd cc
 labelled language text (l ∷ ls) [] t us h few n = let impossible : [] ≡ l ∷ h.0 = h.1.1 in absurd cc
 labelled language text ls (x ∷ ts) t us h few n =
     let labels : labels_before language (x ∷ ts) ≡ (ls, t ∷ us) = before_again language ls (x ∷ ts) t us h few n in
-    ap (λ (x : List Lexeme × List Lexeme). item_with text x.0 x.1) labels
+    ap (λ (x : List Lexeme × List Lexeme). item_with language text x.0 x.1) labels
 
 abbrev Again : Language → List ℕ → ItemTree → List Lexeme → List Lexeme → Type 0
-Again language text i ts rest = item_at language text ts ≡ Ok (Some (item_said text i), first_of (item_faults text i), rest)
+Again language text i ts rest = item_at language text ts ≡ Ok (Some (item_said language text i), first_of (item_faults language text i), rest)
 
-root_again : (language : Language) (text : List ℕ) (s : Statements) (t : Lexeme) (ts a rest : List Lexeme) → Begins (t ∷ ts) Slash a → SpellsBody s a rest → Again language text (Root s) (t ∷ ts) rest
+root_again : (language : Language) (text : List ℕ) (s : Statements) (t : Lexeme) (ts a rest : List Lexeme) → Begins (t ∷ ts) Slash a → SpellsBody language s a rest → Again language text (Root s) (t ∷ ts) rest
 unfolding SpellsEach
 root_again language text s t ts a rest h b =
-    let brace = ap (brace_at text) h.1 ∙ brace_again text s a rest b in
-    labelled language text [] (t ∷ ts) t ts refl (none_before language) (ap is_label h.0) ∙ ap (λ (x : Kind). item_kind text [] x t ts) h.0 ∙ rw brace refl
+    let brace = ap (brace_at language text) h.1 ∙ brace_again language text s a rest b in
+    labelled language text [] (t ∷ ts) t ts refl (none_before language) (ap is_label h.0) ∙ ap (λ (x : Kind). item_kind language text [] x t ts) h.0 ∙ rw brace refl
 
-extend_again : (language : Language) (text : List ℕ) (ls : List Lexeme) (l : Lexeme) (s : Statements) (ts us rest : List Lexeme) → SpellsLabels ls ts (l ∷ us) → stand_before_reference language ls ≡ true → IsReference l.kind → SpellsBody s us rest → Again language text (Extend ls l s) ts rest
+extend_again : (language : Language) (text : List ℕ) (ls : List Lexeme) (l : Lexeme) (s : Statements) (ts us rest : List Lexeme) → SpellsLabels ls ts (l ∷ us) → stand_before_reference language ls ≡ true → IsReference l.kind → SpellsBody language s us rest → Again language text (Extend ls l s) ts rest
 extend_again language text ls l s ts us rest h few k b = labelled language text ls ts l us h few (reference_front l k) ∙ go k
   where
-    brace : brace_at text us ≡ Ok (body_of (entries_of text s), first_of (faults_in text s), rest)
-    brace = brace_again text s us rest b
+    brace : brace_at language text us ≡ Ok (body_of (entries_of language text s), first_of (faults_in language text s), rest)
+    brace = brace_again language text s us rest b
 
-    same : extend_at text ls l us ≡ Ok (Some (item_said text (Extend ls l s)), first_of (faults_in text s), rest)
+    same : extend_at language text ls l us ≡ Ok (Some (item_said language text (Extend ls l s)), first_of (faults_in language text s), rest)
     same = rw brace refl
 
-    go : IsReference l.kind → item_kind text ls l.kind l us ≡ Ok (Some (item_said text (Extend ls l s)), first_of (faults_in text s), rest)
-    go (inl k) = ap (λ (x : Kind). item_kind text ls x l us) k ∙ same
-    go (inr k) = ap (λ (x : Kind). item_kind text ls x l us) k ∙ same
+    go : IsReference l.kind → item_kind language text ls l.kind l us ≡ Ok (Some (item_said language text (Extend ls l s)), first_of (faults_in language text s), rest)
+    go (inl k) = ap (λ (x : Kind). item_kind language text ls x l us) k ∙ same
+    go (inr k) = ap (λ (x : Kind). item_kind language text ls x l us) k ∙ same
 
 referred_again : (text : List ℕ) (l : Lexeme) (ts at rest : List Lexeme) → OneReference l ts at → Begins at Semicolon rest → referred_at text ts ≡ Ok (target_of text l, None, rest)
 referred_again text l ts at rest k s = ap (referred_at text) k.1 ∙ go k.0
@@ -215,13 +215,13 @@ delete_again : (language : Language) (text : List ℕ) (l t : Lexeme) (ts a b re
 unfolding SpellsEach
 delete_again language text l t ts a b rest h k s =
     let referred = ap (referred_at text) h.1 ∙ referred_again text l a b rest k s in
-    labelled language text [] (t ∷ ts) t ts refl (none_before language) (ap is_label h.0) ∙ ap (λ (x : Kind). item_kind text [] x t ts) h.0 ∙ rw referred refl
+    labelled language text [] (t ∷ ts) t ts refl (none_before language) (ap is_label h.0) ∙ ap (λ (x : Kind). item_kind language text [] x t ts) h.0 ∙ rw referred refl
 
 omit_again : (language : Language) (text : List ℕ) (l t : Lexeme) (ts a b rest : List Lexeme) → Begins (t ∷ ts) OmitIfNoRef a → OneReference l a b → Begins b Semicolon rest → Again language text (Omit l) (t ∷ ts) rest
 unfolding SpellsEach
 omit_again language text l t ts a b rest h k s =
     let referred = ap (referred_at text) h.1 ∙ referred_again text l a b rest k s in
-    labelled language text [] (t ∷ ts) t ts refl (none_before language) (ap is_label h.0) ∙ ap (λ (x : Kind). item_kind text [] x t ts) h.0 ∙ rw referred refl
+    labelled language text [] (t ∷ ts) t ts refl (none_before language) (ap is_label h.0) ∙ ap (λ (x : Kind). item_kind language text [] x t ts) h.0 ∙ rw referred refl
 
 pub item_again : (language : Language) (text : List ℕ) (i : ItemTree) (ts rest : List Lexeme) → SpellsItem language i ts rest → Again language text i ts rest
 item_again language text (Root s) [] rest h = absurd h.1
@@ -232,11 +232,11 @@ item_again language text (Delete l) (t ∷ ts) rest h = delete_again language te
 item_again language text (Omit l) [] rest h = absurd h.2
 item_again language text (Omit l) (t ∷ ts) rest h = omit_again language text l t ts h.0 h.1 rest h.2 h.3 h.4
 
-body_shorter : (s : Statements) (ts rest : List Lexeme) → SpellsBody s ts rest → length rest < length ts
-body_shorter s ts rest h = omega (arith, begins_shorter ts Brace h.0 h.2, statements_shorter s 64 false h.0 h.1 h.3, begins_shorter h.1 Semicolon rest h.4)
+body_shorter : (language : Language) (s : Statements) (ts rest : List Lexeme) → SpellsBody language s ts rest → length rest < length ts
+body_shorter language s ts rest h = omega (arith, begins_shorter ts Brace h.0 h.2, statements_shorter language s 64 false h.0 h.1 h.3, begins_shorter h.1 Semicolon rest h.4)
 
 pub item_shorter : (language : Language) (i : ItemTree) (ts rest : List Lexeme) → SpellsItem language i ts rest → length rest < length ts
-item_shorter language (Root s) ts rest h = omega (arith, begins_shorter ts Slash h.0 h.1, body_shorter s h.0 rest h.2)
-item_shorter language (Extend ls l s) ts rest h = omega (arith, labels_shorter ls ts h.0 h.2, ap length h.3.1, body_shorter s h.1 rest h.4)
+item_shorter language (Root s) ts rest h = omega (arith, begins_shorter ts Slash h.0 h.1, body_shorter language s h.0 rest h.2)
+item_shorter language (Extend ls l s) ts rest h = omega (arith, labels_shorter ls ts h.0 h.2, ap length h.3.1, body_shorter language s h.1 rest h.4)
 item_shorter language (Delete l) ts rest h = omega (arith, begins_shorter ts DeleteNode h.0 h.2, ap length h.3.1, begins_shorter h.1 Semicolon rest h.4)
 item_shorter language (Omit l) ts rest h = omega (arith, begins_shorter ts OmitIfNoRef h.0 h.2, ap length h.3.1, begins_shorter h.1 Semicolon rest h.4)

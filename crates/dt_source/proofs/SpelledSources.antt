@@ -38,18 +38,18 @@ record ItemsFound (language : Language) (text : List ℕ) (ts : List Lexeme) (es
   items : List ItemTree
   some : items ≢ []
   spells : SpellsEach (SpellsItem language) items ts []
-  said_is : map (item_said text) items ≡ es
-  fault_is : first_of (flat_map (item_faults text) items) ≡ f
+  said_is : map (item_said language text) items ≡ es
+  fault_is : first_of (flat_map (item_faults language text) items) ≡ f
 
 items_are : (ts : List Lexeme) (xs es : List Edit) → some_items ts xs ≡ Ok es → (xs ≡ es) × (xs ≢ [])
 items_are ts [] es e = absurd cc
 items_are ts (x ∷ xs) es e = (ok_is (x ∷ xs) es e, λ e. cc)
 
 all_items_sound : (language : Language) (text : List ℕ) (ts : List Lexeme) (xs : List Edit) (f : Option Fault) (rest : List Lexeme) → all_items_at language text ts ≡ Ok (xs, f, rest)
-    → several.Many (SpellsItem language) (item_said text) (item_faults text) (λ ts rest. ts ≡ []) ts xs f rest
+    → several.Many (SpellsItem language) (item_said language text) (item_faults language text) (λ ts rest. ts ≡ []) ts xs f rest
 unfolding all_items_at
 all_items_sound language text ts xs f rest e =
-    several.many_sound (item_at language text) (SpellsItem language) (item_said text) (item_faults text) (λ ts rest. ts ≡ []) (λ ts a f rest e. item_sound language text ts (Some a) f rest e) (λ ts f rest e. item_sound language text ts None f rest e) (suc (length ts)) ts xs f rest e
+    several.many_sound (item_at language text) (SpellsItem language) (item_said language text) (item_faults language text) (λ ts rest. ts ≡ []) (λ ts a f rest e. item_sound language text ts (Some a) f rest e) (λ ts f rest e. item_sound language text ts None f rest e) (suc (length ts)) ts xs f rest e
 
 items_sound : (language : Language) (text : List ℕ) (ts : List Lexeme) (es : List Edit) (f : Option Fault) → items_at language text ts ≡ Ok (es, f) → ItemsFound language text ts es f
 unfolding items_at
@@ -61,7 +61,7 @@ items_sound language text ts es f e =
     let are = items_are ts y.0.0 s.0 s.1 in
     record {
       items = m.trees;
-      some = λ none. are.1 (sym m.values_are ∙ ap (map (item_said text)) none);
+      some = λ none. are.1 (sym m.values_are ∙ ap (map (item_said language text)) none);
       spells = subst (λ (x : List Lexeme). SpellsEach (SpellsItem language) m.trees ts x) m.ends m.spells;
       said_is = m.values_are ∙ are.0 ∙ ap (λ (x : List Edit × Option Fault). x.0) p;
       fault_is = m.fault_is ∙ ap (λ (x : List Edit × Option Fault). x.1) p;
@@ -74,7 +74,7 @@ meaning_is a b rs qs es ds p q r = cc
 source_found : (language : Language) (text : List ℕ) (ts at us : List Lexeme) (o : Option Bool) (plugin : Bool) (rs : List (ℕ × ℕ)) (g : Option Fault) (es : List Edit) (h : Option Fault) (m : Meaning) (f : Option Fault)
     → HeadersFound ts o at → o ≡ Some plugin → ReservesFound text at rs g us → ItemsFound language text us es h
     → ◌≡◌ {A = Result (Meaning × Option Fault) Refusal} (Ok (record { plugin = plugin; reserves = rs; items = es }, earlier g h)) (Ok (m, f))
-    → (s : SourceTree) × Spells language s ts × (said text s ≡ m) × (first_of (faults_of text s) ≡ f)
+    → (s : SourceTree) × Spells language s ts × (said language text s ≡ m) × (first_of (faults_of language text s) ≡ f)
 unfolding Spells said faults_of
 source_found language text ts at us o plugin rs g es h m f a p b c e =
     let d = headed a.headers plugin (a.said_is ∙ p) in
@@ -82,9 +82,9 @@ source_found language text ts at us o plugin rs g es h m f a p b c e =
     let q : ◌≡◌ {A = Meaning × Option Fault} (record { plugin = plugin; reserves = rs; items = es }, earlier g h) (m, f) = ok_is (record { plugin = plugin; reserves = rs; items = es }, earlier g h) (m, f) e in (
       tree,
       (d.some, c.some, at, us, a.spells, b.spells, c.spells),
-      meaning_is (any a.headers) plugin (flat_map both_numbers (map (reserve_values text) b.reserves)) rs (map (item_said text) c.items) es d.said_is b.said_is c.said_is ∙ ap (λ (x : Meaning × Option Fault). x.0) q,
-      several.first_of_both (flat_map (reserve_faults text) b.reserves) (flat_map (item_faults text) c.items)
-          ∙ ap (λ (x : Option Fault). earlier x (first_of (flat_map (item_faults text) c.items))) b.fault_is ∙ ap (earlier g) c.fault_is ∙ ap (λ (x : Meaning × Option Fault). x.1) q,
+      meaning_is (any a.headers) plugin (flat_map both_numbers (map (reserve_values text) b.reserves)) rs (map (item_said language text) c.items) es d.said_is b.said_is c.said_is ∙ ap (λ (x : Meaning × Option Fault). x.0) q,
+      several.first_of_both (flat_map (reserve_faults text) b.reserves) (flat_map (item_faults language text) c.items)
+          ∙ ap (λ (x : Option Fault). earlier x (first_of (flat_map (item_faults language text) c.items))) b.fault_is ∙ ap (earlier g) c.fault_is ∙ ap (λ (x : Meaning × Option Fault). x.1) q,
     )
 
 pub sources_are_spelled : SourcesAreSpelled
@@ -99,10 +99,10 @@ sources_are_spelled language text ts m f e =
 -- ---- what is spelled is read
 
 items_again : (language : Language) (text : List ℕ) (i : ItemTree) (is : List ItemTree) (ts : List Lexeme) → SpellsEach (SpellsItem language) (i ∷ is) ts []
-    → items_at language text ts ≡ Ok (map (item_said text) (i ∷ is), first_of (flat_map (item_faults text) (i ∷ is)))
+    → items_at language text ts ≡ Ok (map (item_said language text) (i ∷ is), first_of (flat_map (item_faults language text) (i ∷ is)))
 unfolding items_at all_items_at item_at
 items_again language text i is ts h =
-    let all = several.many_again (item_at language text) (SpellsItem language) (item_said text) (item_faults text) (λ ts. Unit {0}) (λ i ts rest h u. item_again language text i ts rest h) (λ i ts rest h. tt) (item_shorter language) (i ∷ is) (suc (length ts)) ts [] [] (omega arith) h tt refl in
+    let all = several.many_again (item_at language text) (SpellsItem language) (item_said language text) (item_faults language text) (λ ts. Unit {0}) (λ i ts rest h u. item_again language text i ts rest h) (λ i ts rest h. tt) (item_shorter language) (i ∷ is) (suc (length ts)) ts [] [] (omega arith) h tt refl in
     rw all refl
 
 items_open : (language : Language) (i : ItemTree) (is : List ItemTree) (ts : List Lexeme) → SpellsEach (SpellsItem language) (i ∷ is) ts [] → Opens ts
@@ -116,8 +116,8 @@ items_no_reserve language text i is ts h = item_no_reserve language text i ts h.
 parts_again : (language : Language) (text : List ℕ) (b : Bool) (bs : List Bool) (rs : List ReserveTree) (i : ItemTree) (is : List ItemTree) (ts at us : List Lexeme)
     → SpellsEach SpellsHeader (b ∷ bs) ts at → SpellsEach SpellsReserve rs at us → SpellsEach (SpellsItem language) (i ∷ is) us []
     → source_at language text ts ≡ Ok (
-      record { plugin = any (b ∷ bs); reserves = flat_map both_numbers (map (reserve_values text) rs); items = map (item_said text) (i ∷ is) },
-      first_of (flat_map (reserve_faults text) rs ++ flat_map (item_faults text) (i ∷ is)),
+      record { plugin = any (b ∷ bs); reserves = flat_map both_numbers (map (reserve_values text) rs); items = map (item_said language text) (i ∷ is) },
+      first_of (flat_map (reserve_faults text) rs ++ flat_map (item_faults language text) (i ∷ is)),
     )
 unfolding source_at
 parts_again language text b bs rs i is ts at us h k l =
@@ -126,14 +126,14 @@ parts_again language text b bs rs i is ts at us h k l =
     let plugin = all_headers b bs in
     let reserves = reserves_again text rs at us k (items_no_reserve language text i is us l) in
     let items = items_again language text i is us l in
-    let faults = several.first_of_both (flat_map (reserve_faults text) rs) (flat_map (item_faults text) (i ∷ is)) in
+    let faults = several.first_of_both (flat_map (reserve_faults text) rs) (flat_map (item_faults language text) (i ∷ is)) in
     rw (headers, plugin, reserves, items, faults) refl
 
 lists_again : (language : Language) (text : List ℕ) (bs : List Bool) (rs : List ReserveTree) (is : List ItemTree) (ts at us : List Lexeme) → bs ≢ [] → is ≢ []
     → SpellsEach SpellsHeader bs ts at → SpellsEach SpellsReserve rs at us → SpellsEach (SpellsItem language) is us []
     → source_at language text ts ≡ Ok (
-      record { plugin = any bs; reserves = flat_map both_numbers (map (reserve_values text) rs); items = map (item_said text) is },
-      first_of (flat_map (reserve_faults text) rs ++ flat_map (item_faults text) is),
+      record { plugin = any bs; reserves = flat_map both_numbers (map (reserve_values text) rs); items = map (item_said language text) is },
+      first_of (flat_map (reserve_faults text) rs ++ flat_map (item_faults language text) is),
     )
 lists_again language text [] rs is ts at us nb ni h k l = absurd (nb refl)
 lists_again language text (b ∷ bs) rs [] ts at us nb ni h k l = absurd (ni refl)

@@ -16,12 +16,12 @@ use Rattle.dt_source.specs.Reading.Whole.{source_at}
 abbrev pub SourcesAreSpelled : Type 0
 SourcesAreSpelled =
     (language : Language) (text : List ℕ) (ts : List Lexeme) (m : Meaning) (f : Option Fault) → source_at language text ts ≡ Ok (m, f)
-    → (s : SourceTree) × Spells language s ts × (said text s ≡ m) × (first_of (faults_of text s) ≡ f)
+    → (s : SourceTree) × Spells language s ts × (said language text s ≡ m) × (first_of (faults_of language text s) ≡ f)
 
 -- What is spelled is read.
 abbrev pub SourcesAreRead : Type 0
 SourcesAreRead =
-    (language : Language) (text : List ℕ) (s : SourceTree) (ts : List Lexeme) → Spells language s ts → source_at language text ts ≡ Ok (said text s, first_of (faults_of text s))
+    (language : Language) (text : List ℕ) (s : SourceTree) (ts : List Lexeme) → Spells language s ts → source_at language text ts ≡ Ok (said language text s, first_of (faults_of language text s))
 
 -- Lexemes spell at most one source, in one way.
 abbrev pub OneSpelling : Type 0

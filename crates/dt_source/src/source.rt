@@ -184,15 +184,26 @@ fn end_body<'a, 'text>(
 
 // The body of an item, and a semicolon.
 #[tactic(auto, unfolding(crate::specs::Reading::Whole::brace_at))]
-fn brace<'a, 'text>(alloc: Global, text: &'text [u8], ts: &'a [Lexeme]) -> ReadBody<'a, 'text>
-    ensures gives { ReadsItemBody result (brace_at text.now ts.now) }
+fn brace<'a, 'text>(
+    alloc: Global,
+    language: Language,
+    text: &'text [u8],
+    ts: &'a [Lexeme],
+) -> ReadBody<'a, 'text>
+    ensures gives { ReadsItemBody result (brace_at language text.now ts.now) }
     ensures shorter { IfOk result (λ x. length x.rest.now < length ts.now) }
 {
     match ts {
         [] => Err(ReadError::Refused(syntax_at(ts))),
         [t, rest @ ..] => match t.kind {
             Kind::Brace => {
-                let Read { found, fault, rest } = body(alloc, text, MAX_BODY_DEPTH, rest)?;
+                let Read { found, fault, rest } = body(
+                    alloc,
+                    language,
+                    text,
+                    MAX_BODY_DEPTH,
+                    rest,
+                )?;
                 end_body(found, fault, rest)
             }
             _ => Err(ReadError::Refused(syntax_at(ts))),
@@ -202,15 +213,16 @@ fn brace<'a, 'text>(alloc: Global, text: &'text [u8], ts: &'a [Lexeme]) -> ReadB
 
 fn extend<'a, 'text>(
     alloc: Global,
+    language: Language,
     text: &'text [u8],
     labels: &[Lexeme],
     t: Lexeme,
     ts: &'a [Lexeme],
 ) -> ReadItem<'a, 'text>
-    ensures gives { ReadsItem result (extend_at text.now labels.now t ts.now) }
+    ensures gives { ReadsItem result (extend_at language text.now labels.now t ts.now) }
     ensures shorter { IfOk result (λ x. length x.rest.now < length ts.now) }
 {
-    let Read { found, fault, rest } = brace(alloc, text, ts)?;
+    let Read { found, fault, rest } = brace(alloc, language, text, ts)?;
     let labels = labels_of(alloc, text, labels)?;
     let found = Some(Item::Extend {
         labels,
@@ -246,18 +258,19 @@ fn referred<'a, 'text>(text: &'text [u8], ts: &'a [Lexeme]) -> ReadTarget<'a, 't
 // The root again, or the deletion or mark of a node. The lexemes with this one are for the refusal.
 fn bare<'a, 'text>(
     alloc: Global,
+    language: Language,
     text: &'text [u8],
     t: Lexeme,
     rest: &'a [Lexeme],
     ts: &'a [Lexeme],
 ) -> ReadItem<'a, 'text>
     requires { ts.now ≡ t ∷ rest.now }
-    ensures gives { ReadsItem result (bare_item text.now t.kind t rest.now) }
+    ensures gives { ReadsItem result (bare_item language text.now t.kind t rest.now) }
     ensures shorter { IfOk result (λ x. length x.rest.now < length ts.now) }
 {
     match t.kind {
         Kind::Slash => {
-            let Read { found, fault, rest } = brace(alloc, text, rest)?;
+            let Read { found, fault, rest } = brace(alloc, language, text, rest)?;
             let found = Some(Item::Root(found));
             Ok(Read { found, fault, rest })
         }
@@ -278,6 +291,7 @@ fn bare<'a, 'text>(
 // Nothing but a reference follows labels.
 fn unlabelled<'a, 'text>(
     alloc: Global,
+    language: Language,
     text: &'text [u8],
     labels: &[Lexeme],
     t: Lexeme,
@@ -285,29 +299,32 @@ fn unlabelled<'a, 'text>(
     ts: &'a [Lexeme],
 ) -> ReadItem<'a, 'text>
     requires { ts.now ≡ t ∷ rest.now }
-    ensures gives { ReadsItem result (unlabelled_item text.now labels.now t.kind t rest.now) }
+    ensures gives { ReadsItem result (unlabelled_item language text.now labels.now t.kind t rest.now) }
     ensures shorter { IfOk result (λ x. length x.rest.now < length ts.now) }
 {
     match labels {
-        [] => bare(alloc, text, t, rest, ts),
+        [] => bare(alloc, language, text, t, rest, ts),
         [_, ..] => Err(ReadError::Refused(syntax_at(ts))),
     }
 }
 
 fn item_with<'a, 'text>(
     alloc: Global,
+    language: Language,
     text: &'text [u8],
     labels: &[Lexeme],
     ts: &'a [Lexeme],
 ) -> ReadItem<'a, 'text>
-    ensures gives { ReadsItem result (item_with text.now labels.now ts.now) }
+    ensures gives { ReadsItem result (item_with language text.now labels.now ts.now) }
     ensures shorter { IfOk result (λ x. length x.rest.now < length ts.now) }
 {
     match ts {
         [] => Err(ReadError::Refused(syntax_at(ts))),
         [t, rest @ ..] => match t.kind {
-            Kind::Reference | Kind::PathReference => extend(alloc, text, labels, *t, rest),
-            _ => unlabelled(alloc, text, labels, *t, rest, ts),
+            Kind::Reference | Kind::PathReference => extend(
+                alloc, language, text, labels, *t, rest,
+            ),
+            _ => unlabelled(alloc, language, text, labels, *t, rest, ts),
         },
     }
 }
@@ -353,7 +370,7 @@ fn item<'a, 'text>(
         });
     }
     let (labels, rest) = labels_before(language, ts);
-    item_with(alloc, text, labels, rest)
+    item_with(alloc, language, text, labels, rest)
 }
 
 fn all_items<'a, 'text>(

@@ -65,19 +65,19 @@ reserve_at text ts = reserve_with text ts (labels_at ts).1
 unfoldable pub reserves_at : List ℕ → List Lexeme → Part (List (ℕ × ℕ))
 reserves_at text ts = many stays (λ s ts. reserve_at text ts) (suc (length ts)) tt ts >>= λ y. Ok (flat_map both_numbers y.0, y.1, y.2)
 
-abbrev pub brace_kind : List ℕ → Kind → Lexeme → List Lexeme → Part (Body (List Piece))
-brace_kind text Brace t ts = do
-  y ← body_at text body_limit ts
+abbrev pub brace_kind : Language → List ℕ → Kind → Lexeme → List Lexeme → Part (Body (List Piece))
+brace_kind language text Brace t ts = do
+  y ← body_at language text body_limit ts
   ended_by (body_of y.0) y.1 y.2
-brace_kind text _ t ts = Err (syntax_at (t ∷ ts))
+brace_kind language text _ t ts = Err (syntax_at (t ∷ ts))
 
 -- the body of an item, and a semicolon
-unfoldable pub brace_at : List ℕ → List Lexeme → Part (Body (List Piece))
-brace_at text [] = Err (syntax_at [])
-brace_at text (t ∷ ts) = brace_kind text t.kind t ts
+unfoldable pub brace_at : Language → List ℕ → List Lexeme → Part (Body (List Piece))
+brace_at language text [] = Err (syntax_at [])
+brace_at language text (t ∷ ts) = brace_kind language text t.kind t ts
 
-abbrev pub extend_at : List ℕ → List Lexeme → Lexeme → List Lexeme → Part (Option Edit)
-extend_at text ls t ts = brace_at text ts >>= λ y. Ok (Some (Extends (map (label_bytes text) ls) (target_of text t) y.0), y.1, y.2)
+abbrev pub extend_at : Language → List ℕ → List Lexeme → Lexeme → List Lexeme → Part (Option Edit)
+extend_at language text ls t ts = brace_at language text ts >>= λ y. Ok (Some (Extends (map (label_bytes text) ls) (target_of text t) y.0), y.1, y.2)
 
 abbrev pub referred_kind : List ℕ → Kind → Lexeme → List Lexeme → Part Target
 referred_kind text Reference t ts = ended_by (target_of text t) None ts
@@ -95,28 +95,28 @@ delete_at text ts = referred_at text ts >>= λ y. Ok (Some (Deletes y.0), y.1, y
 abbrev pub omit_at : List ℕ → List Lexeme → Part (Option Edit)
 omit_at text ts = referred_at text ts >>= λ y. Ok (Some (Omits y.0), y.1, y.2)
 
-abbrev pub root_at : List ℕ → List Lexeme → Part (Option Edit)
-root_at text ts = brace_at text ts >>= λ y. Ok (Some (Rooted y.0), y.1, y.2)
+abbrev pub root_at : Language → List ℕ → List Lexeme → Part (Option Edit)
+root_at language text ts = brace_at language text ts >>= λ y. Ok (Some (Rooted y.0), y.1, y.2)
 
 -- Nothing but a reference follows labels.
-abbrev pub bare_item : List ℕ → Kind → Lexeme → List Lexeme → Part (Option Edit)
-bare_item text Slash t ts = root_at text ts
-bare_item text DeleteNode t ts = delete_at text ts
-bare_item text OmitIfNoRef t ts = omit_at text ts
-bare_item text _ t ts = Err (syntax_at (t ∷ ts))
+abbrev pub bare_item : Language → List ℕ → Kind → Lexeme → List Lexeme → Part (Option Edit)
+bare_item language text Slash t ts = root_at language text ts
+bare_item language text DeleteNode t ts = delete_at text ts
+bare_item language text OmitIfNoRef t ts = omit_at text ts
+bare_item language text _ t ts = Err (syntax_at (t ∷ ts))
 
-abbrev pub unlabelled_item : List ℕ → List Lexeme → Kind → Lexeme → List Lexeme → Part (Option Edit)
-unlabelled_item text [] k t ts = bare_item text k t ts
-unlabelled_item text (l ∷ ls) k t ts = Err (syntax_at (t ∷ ts))
+abbrev pub unlabelled_item : Language → List ℕ → List Lexeme → Kind → Lexeme → List Lexeme → Part (Option Edit)
+unlabelled_item language text [] k t ts = bare_item language text k t ts
+unlabelled_item language text (l ∷ ls) k t ts = Err (syntax_at (t ∷ ts))
 
-abbrev pub item_kind : List ℕ → List Lexeme → Kind → Lexeme → List Lexeme → Part (Option Edit)
-item_kind text ls Reference t ts = extend_at text ls t ts
-item_kind text ls PathReference t ts = extend_at text ls t ts
-item_kind text ls k t ts = unlabelled_item text ls k t ts
+abbrev pub item_kind : Language → List ℕ → List Lexeme → Kind → Lexeme → List Lexeme → Part (Option Edit)
+item_kind language text ls Reference t ts = extend_at language text ls t ts
+item_kind language text ls PathReference t ts = extend_at language text ls t ts
+item_kind language text ls k t ts = unlabelled_item language text ls k t ts
 
-abbrev pub item_with : List ℕ → List Lexeme → List Lexeme → Part (Option Edit)
-item_with text ls [] = Err (syntax_at [])
-item_with text ls (t ∷ ts) = item_kind text ls t.kind t ts
+abbrev pub item_with : Language → List ℕ → List Lexeme → List Lexeme → Part (Option Edit)
+item_with language text ls [] = Err (syntax_at [])
+item_with language text ls (t ∷ ts) = item_kind language text ls t.kind t ts
 
 -- a label at the front, and what follows it
 abbrev pub first_label_at : List Lexeme → List Lexeme × List Lexeme
@@ -131,7 +131,7 @@ labels_before Dtc ts = first_label_at ts
 -- an item, or the end
 unfoldable pub item_at : Language → List ℕ → List Lexeme → Part (Option Edit)
 item_at language text [] = Ok (None, None, [])
-item_at language text (t ∷ ts) = let l = labels_before language (t ∷ ts) in item_with text l.0 l.1
+item_at language text (t ∷ ts) = let l = labels_before language (t ∷ ts) in item_with language text l.0 l.1
 
 abbrev pub some_items : List Lexeme → List Edit → Result (List Edit) Refusal
 some_items ts [] = Err (syntax_at ts)
