@@ -83,7 +83,7 @@ module _ (text : List ℕ) where
   -- ---- the root
 
   record RootSaid (p : ℕ) (root : NodeData) : Type 0 where
-    pub spells : SpellsItem (spelled_root p root) (placed p (root_parts root)) []
+    pub spells : SpellsItem Profile (spelled_root p root) (placed p (root_parts root)) []
     pub says : item_said text (spelled_root p root) ≡ Rooted (with_properties root.properties (nodes_of root.children))
     pub faultless : item_faults text (spelled_root p root) ≡ []
 
@@ -110,7 +110,7 @@ some_items : {A : Type 0} (x : A) (xs : List A) → (x ∷ xs) ≢ []
 some_items x xs e = absurd cc
 
 record TreeSaid (t : TreeData) : Type 0 where
-  pub spells : Spells (spelled_of t) (lexemes_of t)
+  pub spells : Spells Profile (spelled_of t) (lexemes_of t)
   pub says : said (text_of t) (spelled_of t) ≡ source_of t
   pub faultless : faults_of (text_of t) (spelled_of t) ≡ []
 
