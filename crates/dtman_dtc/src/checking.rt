@@ -4,9 +4,7 @@ use crate::host::{Compiler, Host};
 use crate::layout::Texts;
 use crate::options::{BadWord, Format, Options};
 use crate::reports::{Failure, Wrong, fail, report_fault};
-use crate::running::{
-    Blob, DONE, FAILED, Given, Made, compiled, input_of, named, of_blob, put, read,
-};
+use crate::running::{DONE, FAILED, Given, Made, compiled, input_of, named, of_blob, put, read};
 use dt_blob::BlobError;
 use dt_check_table::{BadReference, Kind, Reference};
 use dtman_check::{Answer, Asked, Learned, Origin, Shape, check_blob, least_of};
