@@ -3,13 +3,14 @@
 .PHONY: build library demo test install uninstall dist deb clean toolchain
 
 PREFIX ?= /usr/local
-export PREFIX DESTDIR MAINTAINER
+export PREFIX DESTDIR MAINTAINER TARGET
 
 # Proves and builds the program, and leaves it at bin/dtman.
 build: toolchain
 	@.ci/build
 
-# Proves and builds the C libraries, and leaves them at bin/libdtman.a and bin/libdtman_view.a.
+# Proves and builds the C libraries, and leaves them at bin/libdtman.a and bin/libdtman_view.a; with TARGET=aarch64-unknown-linux-gnu the
+# view's for that processor, bin/libdtman_view-aarch64.a.
 library: toolchain
 	@.ci/build library
 

@@ -84,6 +84,9 @@ if [ ${#compilers[@]} -gt 0 ] && [ "$(uname -sm)" = "Linux x86_64" ]; then
 	ended=0
 	"$work/bare" || ended=$?
 	[ "$ended" = 7 ] || fail "examples/c/bare ends with $ended"
+	ended=0
+	"$work/bare_set" || ended=$?
+	[ "$ended" = 1 ] || fail "examples/c/bare_set ends with $ended"
 fi
 
 # libfdt does the step too, in another order of properties, so what is printed is compared.

@@ -29,7 +29,7 @@ extern "C" {
 #endif
 
 /* Which calls there are: it grows by one with each call more, and by a hundred where one changes. */
-#define DTMAN_VIEW_VERSION 100
+#define DTMAN_VIEW_VERSION 107
 
 /* No bytes. */
 #define DTMAN_VIEW_NONE ((const uint8_t *)"")
@@ -37,10 +37,12 @@ extern "C" {
 /* How a call ended. */
 enum {
 	DTMAN_VIEW_DONE = 0,       /* it found what it tells */
-	DTMAN_VIEW_REFUSED = 2,    /* of open alone: the blob has the fault with `number`, 30 to 38 */
+	DTMAN_VIEW_REFUSED = 2,    /* of open and of changes: the blob has the fault with `number`, 30 to 38 */
 	DTMAN_VIEW_NOTHING = 4,    /* there is none */
 	DTMAN_VIEW_BAD_OFFSET = 8, /* no node, or no property, begins at the offset */
-	DTMAN_VIEW_BAD_PATH = 9    /* the bytes are no path */
+	DTMAN_VIEW_BAD_PATH = 9,   /* the bytes are no path */
+	DTMAN_EDIT_OTHER_LENGTH = 10, /* of changes alone: the value has another length */
+	DTMAN_EDIT_UNORDERED = 11  /* of changes alone: the blocks don't stand in order and apart, or the blob has version 16 */
 };
 
 struct dtman_view_told {
@@ -74,6 +76,16 @@ struct dtman_view_reservation {
 	uint64_t address, size;
 };
 
+/* How many cells of 32 bits an address and a size have in `reg`. */
+struct dtman_view_reg_cells {
+	uint32_t address, size;
+};
+
+/* An entry of `reg`. */
+struct dtman_view_region {
+	uint64_t address, size;
+};
+
 /*
  * The view of a blob. All tests of the blob are made here, in the order in which the program makes them, but for equal names.
  * REFUSED: 30 Truncated, 31 BadMagic, 32 BadVersion, 33 BadLayout, 34 BadToken, 35 BadString, 36 PropertyAfterNode, 37 BadTree,
@@ -102,6 +114,12 @@ struct dtman_view_told dtman_view_child(const struct dtman_view *view, size_t no
 /* The node at a path: `/`, or one or more times `/` and a whole name. NOTHING where there is none. BAD_PATH. */
 struct dtman_view_told dtman_view_find(const struct dtman_view *view, const uint8_t *path, size_t path_length);
 
+/*
+ * The node at the path that an alias stands for: the property of this name in `/aliases`. NOTHING where there is no such alias or no node
+ * at its path. BAD_PATH where its text is no path.
+ */
+struct dtman_view_told dtman_view_alias(const struct dtman_view *view, const uint8_t *name, size_t name_length);
+
 /* The first node in the order of the blob with a phandle. NOTHING where there is none. */
 struct dtman_view_told dtman_view_by_phandle(const struct dtman_view *view, uint32_t phandle);
 
@@ -127,6 +145,45 @@ struct dtman_view_told dtman_view_value(const struct dtman_view *view, size_t no
 
 /* The reserved memory by its place, from 0 on. NOTHING behind the last, and `into` is then as it was. */
 struct dtman_view_told dtman_view_reservation(const struct dtman_view *view, size_t index, struct dtman_view_reservation *into);
+
+/*
+ * How many cells the `reg` of a node's children has for an address and for a size: `#address-cells` and `#size-cells` of the node, 2 and 1
+ * where it hasn't them. NOTHING where one of the two isn't one cell, BAD_OFFSET; `into` is then as it was.
+ */
+struct dtman_view_told dtman_view_reg_cells(const struct dtman_view *view, size_t parent, struct dtman_view_reg_cells *into);
+
+/*
+ * The entry of a node's `reg` by its place, from 0 on, with the cells that its parent tells. NOTHING where it isn't there whole, where a
+ * count of cells is no cell or more than 2, and where an address has none; BAD_OFFSET where one of the two offsets is no node's. `into` is
+ * then as it was.
+ */
+struct dtman_view_told dtman_view_region(const struct dtman_view *view, size_t parent, size_t node, size_t index,
+	struct dtman_view_region *into);
+
+/* The cell of a value by its place, counted in cells from 0. NOTHING where it isn't there whole, and `into` is then as it was. */
+struct dtman_view_told dtman_view_cell(const uint8_t *value, size_t value_length, size_t place, uint32_t *into);
+
+/* The number of two cells of a value, the higher one first, by the place of that one, counted in cells. NOTHING, as above. */
+struct dtman_view_told dtman_view_double_cell(const uint8_t *value, size_t value_length, size_t place, uint64_t *into);
+
+/*
+ * The string of a list of strings by its place, from 0 on, without the NUL at its end. NOTHING behind the last and where the NUL lacks;
+ * `part` is then as it was.
+ */
+struct dtman_view_told dtman_view_string(const uint8_t *value, size_t value_length, size_t place, struct dtman_view_part *part);
+
+/*
+ * Changes. They are made in the caller's bytes, and nothing but what they name is another: a blob that holds a tree holds the changed tree.
+ * The look-up goes from the root; no view is wanted, and one that is open over the blob stays right. A blob that wasn't opened before has
+ * its header tested alone. Where a change isn't DONE, the bytes are as they were.
+ */
+
+/*
+ * Sets a property of the node at a path to a value of the same length, in place: nothing moves. NOTHING where there is no such node or
+ * property, BAD_PATH, OTHER_LENGTH, UNORDERED, REFUSED.
+ */
+struct dtman_view_told dtman_edit_set_in_place(uint8_t *blob, size_t length, const uint8_t *path, size_t path_length, const uint8_t *name,
+	size_t name_length, const uint8_t *value, size_t value_length);
 
 #ifdef __cplusplus
 }

@@ -1,5 +1,5 @@
 /*
- * A blob walked and looked up by the view and by libfdt: view BLOB. Prints nanoseconds an operation, the least of several rounds.
+ * A blob walked, looked up and changed in place by the view and by libfdt: view BLOB. Prints nanoseconds an operation, the least of several rounds.
  */
 #include <libfdt.h>
 #include <stdio.h>
@@ -103,6 +103,36 @@ static void phandle_fdt(struct input *in)
 	sink += fdt_node_offset_by_phandle(in->blob, in->phandle);
 }
 
+/* The same value again, so that both sides go on with the same blob. */
+static void set_view(struct input *in)
+{
+	uint8_t value[LONGEST];
+
+	for (int i = 0; i < in->path_count; i++) {
+		struct dtman_view_part part = DTMAN_NO_PART;
+
+		told = dtman_view_find(&in->view, (const uint8_t *)in->paths[i], strlen(in->paths[i]));
+		dtman_view_value(&in->view, told.at, (const uint8_t *)"compatible", 10, &part);
+		memcpy(value, part.bytes, part.length);
+		told = dtman_edit_set_in_place(in->blob, in->length, (const uint8_t *)in->paths[i], strlen(in->paths[i]), (const uint8_t *)"compatible", 10, value, part.length);
+		sink += told.status;
+	}
+}
+
+static void set_fdt(struct input *in)
+{
+	uint8_t value[LONGEST];
+
+	for (int i = 0; i < in->path_count; i++) {
+		int length = 0, node = fdt_path_offset(in->blob, in->paths[i]);
+		const void *part = fdt_getprop(in->blob, node, "compatible", &length);
+
+		length = length > 0 ? length : 0;
+		memcpy(value, part, length);
+		sink += fdt_setprop_inplace(in->blob, fdt_path_offset(in->blob, in->paths[i]), "compatible", value, length);
+	}
+}
+
 static double least(void (*step)(struct input *), struct input *in, int times)
 {
 	double best = 1e18;
@@ -169,5 +199,6 @@ int main(int count, char **words)
 	measure("all properties", &in, walk_view, walk_fdt, 20, 1);
 	measure("a property by its path", &in, find_view, find_fdt, 1, in.path_count);
 	measure("a node by its phandle", &in, phandle_view, phandle_fdt, 10, 1);
+	measure("a property read and set in place by its path", &in, set_view, set_fdt, 1, in.path_count);
 	return sink == 42;
 }

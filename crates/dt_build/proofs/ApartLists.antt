@@ -1,12 +1,8 @@
 -- What is true of each element of a list, or of each two.
 use Rattle.std.proofs.Common.{◌≡◌, Bool, true, false, List, [], ◌∷◌, ◌++◌, map, refl}
 use Rattle.std.specs.List.{filter}
+pub use Rattle.dt_build.specs.Private.Named.{InPairs}
 use Rattle.dt_live.proofs.Each.{Each, each-append, each-kept, each-more, each-same}
-
--- each stands so to all behind it
-abbrev pub InPairs : {A : Type 0} → (A → A → Type 0) → List A → Type 0
-InPairs R [] = Unit {0}
-InPairs R (x ∷ xs) = Each (R x) xs × InPairs R xs
 
 -- ---- each
 module _ {A : Type 0} (P : A → Type 0) where

@@ -19,7 +19,7 @@ use Rattle.dt_edit.specs.Said.{tree_of}
 use Rattle.dt_build.specs.declared.draft.Draft.{Draft}
 use Rattle.dt_build.specs.declared.fixups_by_label.LabelFixups.{LabelFixups}
 use Rattle.dt_build.specs.Private.ByLabel.{fixups_path, given}
-use Rattle.dt_build.specs.Private.Made.{all_phandles, fixup_lists, founds, made_sites, symbol_lists}
+use Rattle.dt_build.specs.Private.Made.{all_phandles, fixed, fixup_lists, made_sites, symbol_lists}
 use Rattle.dt_build.specs.Private.Ready.{IsReady}
 use Rattle.dt_build.proofs.FixupLists.{fixups-at, fixups-distinct, fixups-names}
 use Rattle.dt_build.proofs.ListsOfPrepared.{fixups-new, symbols-whole}
@@ -63,7 +63,7 @@ module _ (p : Draft) (ps : List Property) (is : defined_at fixups_path ps ≡ fi
   -- only a plugin has fixups
   of-plugin : 0 < length ps → p.plugin ≡ true
   of-plugin some = by_plugin p.plugin ps is some where
-    by_plugin : (b : Bool) (qs : List Property) → defined_at fixups_path qs ≡ fixups (when b (sites (all_phandles p) (founds p))) [] → 0 < length qs → b ≡ true
+    by_plugin : (b : Bool) (qs : List Property) → defined_at fixups_path qs ≡ fixups (when b (sites (all_phandles p) (fixed p))) [] → 0 < length qs → b ≡ true
     by_plugin true qs is some = refl
     by_plugin false [] is some = absurd (omega arith)
     by_plugin false (q ∷ qs) is some = absurd (cc)

@@ -5,7 +5,13 @@ pub mod ApartPhandles
 pub mod BuildingSteps
 pub mod ByLabelSteps
 pub mod DigitSteps
+pub mod DtcFounds
+pub mod DtcGathered
+pub mod DtcLists
 pub mod DtcNamed
+pub mod DtcNumbers
+pub mod DtcReady
+pub mod DtcSteps
 pub mod FixupLists
 pub mod FixupsMade
 pub mod FoundNames
@@ -35,6 +41,7 @@ pub mod MoreWalked
 pub mod NamedEdits
 pub mod NamedSources
 pub mod NewPhandles
+pub mod NodeNames
 pub mod NodePhandleSteps
 pub mod Ready
 pub mod Shallow

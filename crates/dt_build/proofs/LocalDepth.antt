@@ -15,7 +15,7 @@ use Rattle.dt_live.proofs.Each.{Each}
 use Rattle.dt_edit.specs.Said.{tree_of}
 use Rattle.dt_tree_builder.proofs.PathFacts.{listed-first, listed-next, same-is}
 use Rattle.dt_build.specs.declared.draft.Draft.{Draft}
-use Rattle.dt_build.specs.Private.Made.{fixup_lists, lists, made_sites, plain_lists, symbol_lists}
+use Rattle.dt_build.specs.Private.Made.{bare_node, fixup_lists, lists, made_sites, plain_lists, symbol_lists}
 use Rattle.dt_build.specs.Private.Ready.{IsReady}
 use Rattle.dt_build.specs.Private.FixupSites.{is_deep}
 use Rattle.dt_build.proofs.FixupLists.{fixups-at}
@@ -117,10 +117,19 @@ when-at : (t : Bool) (ls : List Label) → Each (λ e. e.path ≡ symbols_path) 
 when-at true ls = symbols-at ls
 when-at false ls = tt
 
+bare-shallow : (t labelled : Bool) (ls : List Label) → list_any is_too_deep (when t (bare_node labelled ls)) ≡ false
+bare-shallow false labelled ls = refl
+bare-shallow true false ls = refl
+bare-shallow true true [] = refl
+bare-shallow true true (l ∷ ls) = refl
+
 pub lists-deep : (symbols : Bool) (p : Draft) → IsReady p → list_any is_too_deep (lists symbols p).nodes ≡ list_any is_deep (made_sites p)
 lists-deep symbols p ready =
     let labels = (tree_of p.live).labels in
     deep-more (fixup_lists symbols p) (local_fixups (made_sites p) [])
     ∙ ap₂ (λ a b. a || b)
-    (shallow-child (symbol_lists symbols p) fixups_name (fixups (made_sites p) []) (shallow-child (plain_lists p) symbols_name (when symbols (map symbol labels)) ready.standing.shallow (when-at symbols labels)) (fixups-at (made_sites p)))
+    (shallow-child (symbol_lists symbols p) fixups_name (fixups (made_sites p) [])
+    (deep-both (with_more (when symbols (map symbol labels)) (plain_lists p)).nodes (when symbols (bare_node p.labelled labels))
+    ∙ ap₂ (λ a b. a || b) (shallow-child (plain_lists p) symbols_name (when symbols (map symbol labels)) ready.standing.shallow (when-at symbols labels)) (bare-shallow symbols p.labelled labels))
+    (fixups-at (made_sites p)))
     (deep-local (made_sites p) [])

@@ -15,7 +15,7 @@ use Rattle.dt_resolve.specs.Founds.{all_uses, found_properties}
 use Rattle.dt_build.specs.declared.draft.Draft.{Draft}
 use Rattle.dt_tree_builder.proofs.PathFacts.{not-both, not-true, same-is, same-itself}
 use Rattle.dt_build.specs.Private.FixupSites.{key_of, keys}
-use Rattle.dt_build.specs.Private.Made.{all_phandles, founds, made_properties, new_phandles}
+use Rattle.dt_build.specs.Private.Made.{all_phandles, founds, made_properties, added_phandles}
 use Rattle.dt_build.specs.Private.Ready.{IsReady}
 use Rattle.dt_build.proofs.ApartLists.{InPairs, pairs-from, pairs-same}
 use Rattle.dt_build.proofs.ApartPhandles.{bare}
@@ -72,7 +72,7 @@ module _ (p : Draft) (ready : IsReady p) where
   founds-apart : InPairs HasOtherKey (founds p)
   founds-apart =
       pairs-from HasOtherKey (with_bytes (all_phandles p)) (founds p)
-      (pairs-before (map (with_bytes (all_phandles p)) (founds p)) (map phandle_property (new_phandles p)) (pairs-of-distinct (made_properties p) ready.apart))
+      (pairs-before (map (with_bytes (all_phandles p)) (founds p)) (map phandle_property (added_phandles p)) (pairs-of-distinct (made_properties p) ready.apart))
 
   -- in preorder
   pub keys-apart : InPairs HasOtherKey (keys p)

@@ -15,7 +15,7 @@ use Rattle.dt_tree_builder.proofs.Standing.{listed-both}
 use Rattle.dt_edit.specs.Said.{tree_of}
 use Rattle.dt_build.specs.declared.draft.Draft.{Draft}
 use Rattle.dt_build.specs.Private.LocalFixups.{all_local, has_local, local_path, with_locals}
-use Rattle.dt_build.specs.Private.Made.{all_phandles, fixup_lists, founds, lists, made_sites}
+use Rattle.dt_build.specs.Private.Made.{all_phandles, fixed, fixup_lists, lists, made_sites}
 use Rattle.dt_build.specs.Private.Ready.{IsReady}
 use Rattle.dt_build.proofs.ListsOfPrepared.{fixups-whole, local-new}
 use Rattle.dt_build.proofs.LocalLists.{local_fixups-under}
@@ -38,7 +38,7 @@ nothing-behind r = λ i. record { nodes = sym (append-nil r.nodes) i; properties
 -- a source with some is a plugin
 pub of-plugin : (p : Draft) (e : Definition (List ℕ)) (es : List (Definition (List ℕ))) → all_local p ≡ e ∷ es → p.plugin ≡ true
 of-plugin p e es is = by_plugin p.plugin is where
-  by_plugin : (b : Bool) → local_fixups (when b (sites (all_phandles p) (founds p))) [] ≡ e ∷ es → b ≡ true
+  by_plugin : (b : Bool) → local_fixups (when b (sites (all_phandles p) (fixed p))) [] ≡ e ∷ es → b ≡ true
   by_plugin true is = refl
   by_plugin false is = absurd (cc)
 

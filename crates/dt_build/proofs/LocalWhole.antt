@@ -16,7 +16,7 @@ use Rattle.dt_tree_builder.proofs.PathFacts.{bytes-itself, child-is, listed-firs
 use Rattle.dt_tree_builder.proofs.Walks.{flat-flat}
 use Rattle.dt_edit.specs.Said.{tree_of}
 use Rattle.dt_build.specs.declared.draft.Draft.{Draft}
-use Rattle.dt_build.specs.Private.Made.{all_phandles, founds, made_sites}
+use Rattle.dt_build.specs.Private.Made.{all_phandles, fixed, made_sites}
 use Rattle.dt_build.specs.Private.Ready.{IsReady}
 use Rattle.dt_build.proofs.ApartLists.{each-passed}
 use Rattle.dt_build.proofs.LocalFronts.{brought, brought_by, local-fronts}
@@ -167,6 +167,6 @@ nothing-held (x ∷ xs) = nothing-held xs
 
 pub local-ready : (p : Draft) → IsReady p → IsLocal local_fixups_name (tree_of p.live).nodes (new_ones [] (fronts_of (local_fixups (made_sites p) [])))
 local-ready p ready = by_plugin p.plugin where
-  by_plugin : (b : Bool) → IsLocal local_fixups_name (tree_of p.live).nodes (new_ones [] (fronts_of (local_fixups (when b (sites (all_phandles p) (founds p))) [])))
-  by_plugin true = local-of (all_phandles p) (founds p) (tree_of p.live).nodes ready.standing ready.walked
+  by_plugin : (b : Bool) → IsLocal local_fixups_name (tree_of p.live).nodes (new_ones [] (fronts_of (local_fixups (when b (sites (all_phandles p) (fixed p))) [])))
+  by_plugin true = local-of (all_phandles p) (fixed p) (tree_of p.live).nodes ready.standing ready.fixed_walked
   by_plugin false = local-of (all_phandles p) [] (tree_of p.live).nodes ready.standing (nothing-held (preorder (tree_of p.live).nodes))

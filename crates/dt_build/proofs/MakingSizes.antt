@@ -11,18 +11,18 @@ use Rattle.dt_edit.specs.Said.{tree_of}
 use Rattle.dt_build.specs.declared.draft.Draft.{Draft}
 use Rattle.dt_resolve.specs.NodePhandles.{path_phandle_of}
 use Rattle.dt_build.specs.Private.FixupSites.{sites_size}
-use Rattle.dt_build.specs.Private.Made.{fixup_lists, lists, made_properties, made_sites, new_phandles, plain_properties, symbol_lists}
+use Rattle.dt_build.specs.Private.Made.{fixup_lists, lists, made_properties, made_sites, added_phandles, plain_properties, symbol_lists}
 use Rattle.dt_build.proofs.SiteSizes.{sizes-of-sites}
 
 phandles-long : (xs : List PathPhandle) → size_in (map phandle_property xs) ≡ 4 * length xs
 phandles-long [] = refl
 phandles-long (x ∷ xs) = let four : length (to_be_bytes w32 x.phandle) ≡ 4 = refl in omega (arith, phandles-long xs, four)
 
-pub size-made : (p : Draft) → size_in (made_properties p) ≡ size_in (plain_properties p) + 4 * length p.new.items
+pub size-made : (p : Draft) → size_in (made_properties p) ≡ size_in (plain_properties p) + 4 * length p.added.items
 size-made p =
-    size-append (plain_properties p) (map phandle_property (new_phandles p))
+    size-append (plain_properties p) (map phandle_property (added_phandles p))
     ∙ ap (λ n. size_in (plain_properties p) + n)
-    (phandles-long (new_phandles p) ∙ ap (λ n. 4 * n) (length-map p.new.items (path_phandle_of p.live.nodes.items)))
+    (phandles-long (added_phandles p) ∙ ap (λ n. 4 * n) (length-map p.added.items (path_phandle_of p.live.nodes.items)))
 
 -- ---- with what is added
 pub size-plain : (p : Draft) → size_in (symbol_lists false p).properties ≡ size_in (made_properties p)

@@ -7,7 +7,7 @@ use Rattle.std.proofs.lemmas.Bool.{and_parts, and_from, or_left, or_right, or_fr
 use Rattle.std.proofs.lemmas.Slice.Eq.{bytes_eq-Decides}
 use Rattle.dt_tree.specs.Sound.{are_distinct}
 use Rattle.dt_meaning.specs.Paths.{Path, same_path, is_within, is_listed}
-use Rattle.dt_meaning.specs.Edits.{Definition}
+use Rattle.dt_meaning.specs.Edits.{Definition, definition}
 use Rattle.dt_meaning.specs.References.{held}
 use Rattle.dt_meaning.specs.Phandles.{new_ones}
 use Rattle.dt_meaning.specs.Resolved.{Resolved, fronts, is_too_deep, with_more}
@@ -16,6 +16,7 @@ use Rattle.dt_tree_builder.specs.Standing.{are_apart, AreNodes}
 use Rattle.dt_tree_builder.proofs.Orders.{held-append}
 use Rattle.dt_tree_builder.proofs.PathFacts.{by_last, bytes-itself, listed-first, not-both, not-true, or-false, same-is}
 use Rattle.dt_tree_builder.proofs.Standing.{listed-both}
+use Rattle.dt_build.specs.Private.Made.{with_nodes}
 use Rattle.dt_build.proofs.ApartPhandles.{apart-of, ones-apart, ones-so}
 use Rattle.dt_build.proofs.HeldProperties.{held-other}
 use Rattle.dt_build.proofs.SymbolsLast.{none-held, with-none}
@@ -287,3 +288,18 @@ module _ (r : Resolved) (n : List ℕ) (es : List (Definition (List ℕ))) (new 
       by_under : (q : Path) (t : Bool) → is_within (n ∷ []) q ≡ t → are_distinct (map (λ e. e.name) (held (r.properties ++ es) q)) ≡ true
       by_under q true here = ap (λ ds. are_distinct (map (λ e. e.name) ds)) (held-under q here) ∙ apart q
       by_under q false other = ap (λ ds. are_distinct (map (λ e. e.name) ds)) (held-before q other) ∙ is.apart q
+
+-- a child of the root without properties
+pub whole-bare : (r : Resolved) (n : List ℕ) → is_listed (n ∷ []) r.nodes ≡ false → IsWhole r → IsWhole (with_nodes ((n ∷ []) ∷ []) r)
+whole-bare r n new is =
+    let es : List (Definition (List ℕ)) = definition (n ∷ []) [] [] ∷ [] in
+    let at : Each (λ e. e.path ≡ n ∷ []) es = (refl, tt) in
+    record {
+      nodes = nodes-more r n es new (under-at n (n ∷ []) refl, tt) is.nodes (shallow-child r n es is.nodes.shallow at);
+      there =
+          each-all (λ e. is_listed e.path ([] ∷ (r.nodes ++ (n ∷ []) ∷ [])) ≡ true) r.properties
+          (each-more (λ e. is_listed e.path ([] ∷ r.nodes) ≡ true) (λ e. is_listed e.path ([] ∷ (r.nodes ++ (n ∷ []) ∷ [])) ≡ true) r.properties
+          (λ e l. listed-both e.path ([] ∷ r.nodes) ((n ∷ []) ∷ []) ∙ or_left (is_listed e.path ([] ∷ r.nodes)) (is_listed e.path ((n ∷ []) ∷ [])) l)
+          (each-of (λ e. is_listed e.path ([] ∷ r.nodes) ≡ true) r.properties is.there));
+      apart = is.apart;
+    }

@@ -11,32 +11,13 @@ use Rattle.dt_tree.specs.Path.{path_names}
 use Rattle.dt_tree.specs.Sound.{is_among}
 use Rattle.dt_meaning.specs.Names.{fragment_name, overlay_name}
 use Rattle.dt_meaning.specs.Paths.{Path, same_path, is_within, is_listed}
-use Rattle.dt_meaning.specs.Syntax.{Target, OfLabel, OfPath, Piece, Plain, PhandleOf, PathOf, Stored, Entry, Defines, Undefines, Child, Removes, Body, Done, Then, Edit, Rooted, Extends, Deletes, Omits, Meaning}
+use Rattle.dt_meaning.specs.Syntax.{Target, OfLabel, OfPath, Piece, Entry, Defines, Undefines, Child, Removes, Body, Done, Then, Edit, Rooted, Extends, Deletes, Omits, Meaning}
 use Rattle.dt_meaning.specs.Edits.{Definition, definition, Label, labelled_at, State, empty, counted, has_node, with_node, without_node, is_of, put, with_property, without_property, label_path, with_label}
 use Rattle.dt_meaning.specs.Statements.{Fault, UnknownLabel, UnknownPath, DuplicateLabel, DuplicateInBody, ReservedName, TooDeep, give_label, give_labels, is_made, Progress, progress, begun, child_fault, unless, after_entry, after_body, found, target_name, target_value, with_fragment, after_fragment, makes_fragment, after_item, after_items, edited}
 use Rattle.dt_live.proofs.PathTests.{same-is}
 use Rattle.dt_live.proofs.Each.{Each, each-append, each-kept}
+pub use Rattle.dt_build.specs.Private.Named.{HasOtherKey, IsNamed, IsNamedPath, IsNamedPiece, IsNamedTarget, IsNamedValue, IsOtherWord}
 use Rattle.dt_build.proofs.ApartLists.{InPairs, pairs-kept, pairs-last}
-
--- the names of the path are so, and there are at most 64
-abbrev pub IsNamedPath : (List ℕ → Type 0) → Path → Type 0
-IsNamedPath N q = Each N q × (length q ≤ 64)
-
--- the later property has another node or another name
-abbrev pub HasOtherKey : {V : Type 0} → Definition V → Definition V → Type 0
-HasOtherKey e x = is_of x.path x.name e ≡ false
-
--- the later label is another word
-abbrev pub IsOtherWord : Label → Label → Type 0
-IsOtherWord l x = bytes_eq x.label l.label ≡ false
-
--- N is true of each name, and W of each value
-pub record IsNamed {V : Type 0} (N : List ℕ → Type 0) (W : V → Type 0) (s : State V) : Type 0 where
-  pub nodes : Each (IsNamedPath N) s.nodes
-  pub properties : Each (λ e. N e.name × W e.value) s.properties
-  pub labels : Each (λ l. N l.label × IsNamedPath N l.path) s.labels
-  pub keys : InPairs HasOtherKey s.properties
-  pub words : InPairs IsOtherWord s.labels
 
 -- ---- what a source names
 abbrev mutual
@@ -49,20 +30,6 @@ abbrev mutual
   pub IsNamedBody : {V : Type 0} → (List ℕ → Type 0) → (V → Type 0) → Body V → Type 0
   IsNamedBody N W Done = Unit {0}
   IsNamedBody N W (Then e b) = IsNamedEntry N W e × IsNamedBody N W b
-
--- a label that a reference has
-abbrev pub IsNamedTarget : (List ℕ → Type 0) → Target → Type 0
-IsNamedTarget N (OfLabel l) = N l
-IsNamedTarget N (OfPath t) = Unit {0}
-
-abbrev pub IsNamedPiece : (List ℕ → Type 0) → Piece → Type 0
-IsNamedPiece N (Plain b) = Unit {0}
-IsNamedPiece N (PhandleOf t) = IsNamedTarget N t
-IsNamedPiece N (PathOf t) = IsNamedTarget N t
-IsNamedPiece N (Stored at offset length) = Unit {0}
-
-abbrev pub IsNamedValue : (List ℕ → Type 0) → List Piece → Type 0
-IsNamedValue N v = Each (IsNamedPiece N) v
 
 abbrev pub IsNamedEdit : (List ℕ → Type 0) → Edit → Type 0
 IsNamedEdit N (Rooted b) = IsNamedBody N (IsNamedValue N) b

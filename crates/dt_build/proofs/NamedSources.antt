@@ -12,12 +12,10 @@ use Rattle.dt_meaning.specs.Edits.{State, counted}
 use Rattle.dt_meaning.specs.Statements.{edited}
 use Rattle.dt_meaning.specs.Resolved.{is_too_deep}
 use Rattle.dt_live.proofs.Each.{Each, each-more, each-of}
+pub use Rattle.dt_build.specs.Private.Named.{IsName}
 use Rattle.dt_build.proofs.ApartLists.{each-any}
 use Rattle.dt_build.proofs.FragmentNames.{fragment-named, overlay-named, target-named}
 use Rattle.dt_build.proofs.NamedEdits.{HasFragmentNames, IsNamedPath, IsNamedTarget, IsNamedPiece, IsNamedValue, IsNamedEntry, IsNamedBody, IsNamedEdit, edits-named}
-
-abbrev pub IsName : List ℕ → Type 0
-IsName n = is_name n ≡ true
 
 -- ---- what is lawful is named
 -- what a reference may name is what a label is

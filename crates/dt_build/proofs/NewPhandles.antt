@@ -1,4 +1,4 @@
--- A new phandle stands behind a node's other properties.
+-- A phandle that is added stands behind a node's other properties.
 use Rattle.std.proofs.Common.{◌≡◌, ℕ, Bool, true, false, not, ◌||◌, List, [], ◌∷◌, ◌++◌, get_or, map, if◌then◌else◌, cond, codes, refl, sym, ap, ap₂, ◌∙◌}
 use Rattle.std.specs.Int.{to_be_bytes, w32}
 use Rattle.std.specs.Prelude.{None, Some}
@@ -20,7 +20,7 @@ use Rattle.dt_build.specs.declared.draft.Draft.{Draft}
 use Rattle.dt_resolve.proofs.PathPhandles.{given-same}
 use Rattle.dt_making.specs.Made.{phandle_at}
 use Rattle.dt_build.specs.declared.node_phandles.NodePhandles.{NodePhandles}
-use Rattle.dt_build.specs.Private.Made.{given_phandles, new_phandles, own, plain_properties}
+use Rattle.dt_build.specs.Private.Made.{added_phandles, own, plain_properties}
 use Rattle.dt_build.specs.Private.NodePhandles.{AreNodePhandles}
 use Rattle.dt_build.specs.Private.Ready.{IsReady}
 use Rattle.dt_resolve.proofs.PathPhandles.{each-assigned}
@@ -62,13 +62,6 @@ distinct-behind : (ms ns : List (List ℕ)) → are_distinct (ms ++ ns) ≡ true
 distinct-behind [] ns d = d
 distinct-behind (m ∷ ms) ns d = distinct-behind ms ns (and_parts (not (is_among m (ms ++ ns))) (are_distinct (ms ++ ns)) d).1
 
--- a number that isn't given
-number-behind : (q : Path) (xs ys : List PathPhandle) → is_listed q (map (λ x. x.path) xs) ≡ false → phandle_of (xs ++ ys) q ≡ phandle_of ys q
-number-behind q [] ys gone = refl
-number-behind q (x ∷ xs) ys gone =
-    let parts = or-false (same_path q x.path) (is_listed q (map (λ x. x.path) xs)) gone in
-    ap (λ t. if t then x.phandle else phandle_of (xs ++ ys) q) parts.0 ∙ number-behind q xs ys parts.1
-
 -- ---- of a draft
 module _ (p : Draft) (ready : IsReady p) (node_phandles : NodePhandles) (is : AreNodePhandles p node_phandles) (n : ℕ) (known : IsNode p.live n) (up : is_standing p.live n ≡ true) where
   abbrev q : Path
@@ -80,29 +73,29 @@ module _ (p : Draft) (ready : IsReady p) (node_phandles : NodePhandles) (is : Ar
   abbrev phandle : ℕ
   phandle = get_or node_phandles.phandles.items n 0
 
-  whole : own p q ≡ plain ++ held (map phandle_property (new_phandles p)) q
-  whole = held-append q (plain_properties p) (map phandle_property (new_phandles p))
+  whole : own p q ≡ plain ++ held (map phandle_property (added_phandles p)) q
+  whole = held-append q (plain_properties p) (map phandle_property (added_phandles p))
 
-  apart : are_distinct (names_in (held (map phandle_property (new_phandles p)) q)) ≡ true
+  apart : are_distinct (names_in (held (map phandle_property (added_phandles p)) q)) ≡ true
   apart =
-      distinct-behind (names_in plain) (names_in (held (map phandle_property (new_phandles p)) q))
-      (ap are_distinct (sym (map-append (λ e. e.name) plain (held (map phandle_property (new_phandles p)) q)) ∙ ap names_in (sym whole)) ∙ ready.apart q)
+      distinct-behind (names_in plain) (names_in (held (map phandle_property (added_phandles p)) q))
+      (ap are_distinct (sym (map-append (λ e. e.name) plain (held (map phandle_property (added_phandles p)) q)) ∙ ap names_in (sym whole)) ∙ ready.apart q)
 
-  marked : get_or node_phandles.new.items n false ≡ is_listed q (map (λ x. x.path) (new_phandles p))
+  marked : get_or node_phandles.added.items n false ≡ is_listed q (map (λ x. x.path) (added_phandles p))
   marked =
-      is.new n
-      ∙ given-same p.live.nodes.items (row_of p.live.node_rows) ready.sound.grown ready.sound.nodes p.new.items (each-assigned p.live.nodes.items p.new.items ready.new.stand) n up
+      is.added n
+      ∙ given-same p.live.nodes.items (row_of p.live.node_rows) ready.sound.grown ready.sound.nodes p.added.items (each-assigned p.live.nodes.items p.added.items ready.added.stand) n up
 
-  by_mark : (b : Bool) → is_listed q (map (λ x. x.path) (new_phandles p)) ≡ b
-      → (if b then definition q phandle_name (to_be_bytes w32 (phandle_of (new_phandles p) q)) ∷ [] else []) ≡ phandle_at q (if b then Some phandle else None)
+  by_mark : (b : Bool) → is_listed q (map (λ x. x.path) (added_phandles p)) ≡ b
+      → (if b then definition q phandle_name (to_be_bytes w32 (phandle_of (added_phandles p) q)) ∷ [] else []) ≡ phandle_at q (if b then Some phandle else None)
   by_mark true new =
       ap (λ bs. definition q phandle_name bs ∷ [])
-      (ap (to_be_bytes w32) (sym (number-behind q (given_phandles p) (new_phandles p) (ready.new_free q new))) ∙ sym (is.phandles n known up))
+      (sym (ap (to_be_bytes w32) (is.phandles n known) ∙ ready.added_numbers n up new))
   by_mark false new = refl
 
-  pub own-is : own p q ≡ plain ++ phandle_at q (if get_or node_phandles.new.items n false then Some phandle else None)
+  pub own-is : own p q ≡ plain ++ phandle_at q (if get_or node_phandles.added.items n false then Some phandle else None)
   own-is =
       whole
       ∙ ap (λ es. plain ++ es)
-      (one-phandle q (new_phandles p) apart ∙ by_mark (is_listed q (map (λ x. x.path) (new_phandles p))) refl
+      (one-phandle q (added_phandles p) apart ∙ by_mark (is_listed q (map (λ x. x.path) (added_phandles p))) refl
       ∙ ap (λ b. phandle_at q (if b then Some phandle else None)) (sym marked))

@@ -1,19 +1,20 @@
 -- The phandles of nodes by their rows, and their bytes.
 use Rattle.std.proofs.Common.{◌≡◌, ℕ, ◌==◌, Bool, true, false, List, [], ◌∷◌, ◌++◌, map, if◌then◌else◌, refl, sym, ap, ◌∙◌, append-nil}
 use Rattle.std.specs.Int.{to_be_bytes, w32}
+use Rattle.dt_meaning.specs.Paths.{Path, same_path, is_listed}
 use Rattle.dt_meaning.specs.Phandles.{PathPhandle}
 use Rattle.dt_meaning.specs.Fixups.{phandle_of}
 use Rattle.dt_live.specs.declared.live_tree.NodeRow.{NodeRow}
 use Rattle.dt_live.specs.Index.{row_of}
-use Rattle.dt_live.specs.Rows.{Found, is_standing, node_path, path_of, stands, IsGrown, IsNodeIndex}
+use Rattle.dt_live.specs.Rows.{Found, IsLiveTree, is_standing, node_path, path_of, stands, IsGrown, IsNodeIndex}
 use Rattle.dt_live.proofs.StandingRows.{same-node}
+use Rattle.dt_tree_builder.proofs.PathFacts.{or-false}
 use Rattle.dt_resolve.specs.declared.node_phandles.NodePhandle.{NodePhandle}
 use Rattle.dt_build.specs.declared.draft.Draft.{Draft}
-use Rattle.dt_resolve.specs.NodePhandles.{path_phandle_of}
+use Rattle.dt_resolve.specs.NodePhandles.{AreStanding, path_phandle_of}
 use Rattle.dt_resolve.proofs.PathPhandles.{EachStands, each-assigned}
-use Rattle.dt_build.specs.Private.Made.{all_phandles, new_phandles}
-use Rattle.dt_build.specs.Private.FirstPhandle.{first_phandle}
-use Rattle.dt_build.specs.Private.Ready.{IsReady}
+use Rattle.dt_build.specs.Private.Made.{new_phandles}
+use Rattle.dt_build.specs.Private.FirstPhandle.{IsOfPath, first_phandle}
 
 module _ (rows : List NodeRow) (index : Found) (grown : IsGrown rows) (indexed : IsNodeIndex rows index) where
   one-by : (x : NodePhandle) (first : ℕ) (xs : List PathPhandle) (k : ℕ) (b : Bool) → to_be_bytes w32 first ≡ to_be_bytes w32 (phandle_of xs (path_of rows k))
@@ -30,16 +31,21 @@ module _ (rows : List NodeRow) (index : Found) (grown : IsGrown rows) (indexed :
       one-by x (first_phandle xs k d) (map (path_phandle_of rows) xs ++ ys) k (k == x.node) (first-is xs each.1 k d ys up e)
       ∙ ap (λ b. to_be_bytes w32 (if b then x.phandle else phandle_of (map (path_phandle_of rows) xs ++ ys) (path_of rows k))) (sym (same-node rows index grown indexed k x.node up each.0))
 
--- ---- of a draft
-module _ (p : Draft) (ready : IsReady p) (k : ℕ) (up : is_standing p.live k ≡ true) where
+-- a number that isn't among the first
+pub number-behind : (q : Path) (xs ys : List PathPhandle) → is_listed q (map (λ x. x.path) xs) ≡ false → phandle_of (xs ++ ys) q ≡ phandle_of ys q
+number-behind q [] ys gone = refl
+number-behind q (x ∷ xs) ys gone =
+    let parts = or-false (same_path q x.path) (is_listed q (map (λ x. x.path) xs)) gone in
+    ap (λ t. if t then x.phandle else phandle_of (xs ++ ys) q) parts.0 ∙ number-behind q xs ys parts.1
+
+-- ---- of a draft whose numbers are of nodes that stand
+module _ (p : Draft) (sound : IsLiveTree p.live) (given : AreStanding p.live.nodes.items p.given.items) (new : AreStanding p.live.nodes.items p.new.items) (k : ℕ) (up : is_standing p.live k ≡ true) where
   new-is : to_be_bytes w32 (first_phandle p.new.items k 4294967295) ≡ to_be_bytes w32 (phandle_of (new_phandles p) (node_path p.live k))
   new-is =
-      first-is p.live.nodes.items (row_of p.live.node_rows) ready.sound.grown ready.sound.nodes p.new.items (each-assigned p.live.nodes.items p.new.items ready.new.stand) k 4294967295 [] up refl
+      first-is p.live.nodes.items (row_of p.live.node_rows) sound.grown sound.nodes p.new.items (each-assigned p.live.nodes.items p.new.items new.stand) k 4294967295 [] up refl
       ∙ ap (λ ys. to_be_bytes w32 (phandle_of ys (node_path p.live k))) (append-nil (new_phandles p))
 
-  pub number-is : (n m : ℕ) → n ≡ first_phandle p.given.items k m → m ≡ first_phandle p.new.items k 4294967295
-      → to_be_bytes w32 n ≡ to_be_bytes w32 (phandle_of (all_phandles p) (node_path p.live k))
-  number-is n m a b =
-      ap (to_be_bytes w32) (a ∙ ap (first_phandle p.given.items k) b)
-      ∙ first-is p.live.nodes.items (row_of p.live.node_rows) ready.sound.grown ready.sound.nodes p.given.items
-      (each-assigned p.live.nodes.items p.given.items ready.given.stand) k (first_phandle p.new.items k 4294967295) (new_phandles p) up new-is
+  pub number-is : IsOfPath p k
+  number-is =
+      first-is p.live.nodes.items (row_of p.live.node_rows) sound.grown sound.nodes p.given.items
+      (each-assigned p.live.nodes.items p.given.items given.stand) k (first_phandle p.new.items k 4294967295) (new_phandles p) up new-is

@@ -3,21 +3,17 @@ use Rattle.std.proofs.Common.{◌≡◌, ◌+◌, ◌<◌, ℕ, Bool, true, fals
 use Rattle.std.specs.Prelude.{All}
 use Rattle.dt_meaning.specs.Paths.{Path}
 use Rattle.dt_meaning.specs.Edits.{Definition}
-use Rattle.dt_meaning.specs.References.{Found, Bytes, Cell, Open, PathText, in_order}
+use Rattle.dt_meaning.specs.References.{Found, Bytes, Cell, Open, PathText}
 use Rattle.dt_meaning.specs.Phandles.{PathPhandle}
 use Rattle.dt_meaning.specs.Fixups.{Site, bytes_of, label_found, sites, sites_in}
 use Rattle.dt_meaning.specs.Resolved.{when}
-use Rattle.dt_edit.specs.Said.{Parts, tree_of}
+use Rattle.dt_edit.specs.Said.{Parts}
 use Rattle.dt_live.specs.declared.preorder.properties.NodeProperty.{NodeProperty}
-use Rattle.dt_live.proofs.Each.{Each, each-all, each-append, each-flat, each-more, each-of}
+use Rattle.dt_live.proofs.Each.{Each, each-append, each-flat, each-more, each-of}
 use Rattle.dt_build.specs.declared.draft.Draft.{Draft}
-use Rattle.dt_resolve.specs.Private.ReadProperty.{read_property}
-use Rattle.dt_resolve.proofs.ReadOrder.{read-order}
-use Rattle.dt_build.specs.Private.Made.{all_phandles, founds, made_sites}
+use Rattle.dt_build.specs.Private.Made.{all_phandles, fixed, made_sites}
 use Rattle.dt_build.specs.Private.Ready.{IsNamedFound, IsReady}
-use Rattle.dt_build.proofs.ApartLists.{each-from}
 use Rattle.dt_build.proofs.FixupLists.{IsOfLabel}
-use Rattle.dt_build.proofs.FoundNames.{each-walked}
 use Rattle.dt_build.proofs.NamedSources.{IsName}
 
 -- ---- what is true of the path and the name of each property, and of the labels in it
@@ -65,25 +61,16 @@ sites-labelled ns es h =
     (λ e k. each-more IsNamedFound (λ f. Each (λ l. (j : ℕ) → IsOfLabel IsName l) (label_found f)) e.value label-named k) h)
 
 -- ---- of a draft
-each-when : {A : Type 0} (P : A → Type 0) (b : Bool) (xs : List A) → Each P xs → Each P (when b xs)
-each-when P true xs h = h
-each-when P false xs h = tt
-
 module _ (p : Draft) (ready : IsReady p) where
-  founds-labelled : Each (λ e. Each IsNamedFound e.value) (founds p)
-  founds-labelled =
-      each-more (λ e. All IsNamedFound e.value) (λ e. Each IsNamedFound e.value) (founds p) (λ e k. each-of IsNamedFound e.value k) (each-of (λ e. All IsNamedFound e.value) (founds p) ready.named.elsewhere)
-
-  walk-names : Each (λ e. IsName e.name) (in_order (tree_of p.live))
-  walk-names = each-walked (λ e. IsName e.name) (tree_of p.live) (each-of (λ e. IsName e.name) (tree_of p.live).properties ready.named.properties)
-
   -- the name of each property in preorder is one
   pub property-named : (i : ℕ) (x : NodeProperty Parts) → i < length p.in_preorder.properties.items → x ≡ get_or p.in_preorder.properties.items i x → IsName x.name.now
-  property-named i x below at =
-      let xs = p.in_preorder.properties.items in
-      let read = each-from (λ e. IsName e.name) (read_property p.live.nodes.items) xs (subst (Each (λ e. IsName e.name)) (sym (read-order p.live xs ready.properties)) walk-names) in
-      subst (λ (y : NodeProperty Parts). IsName y.name.now) (sym at) (each-all (λ y. IsName y.name.now) xs read i x below)
+  property-named i x below at = subst (λ (y : NodeProperty Parts). IsName y.name.now) (sym at) (ready.named.properties i x below)
+
+  labelled-by : (b : Bool) → Each (λ e. All IsNamedFound e.value) (when b (fixed p)) → Each (λ x. IsOfLabel IsName x.label) (when b (sites (all_phandles p) (fixed p)))
+  labelled-by false h = tt
+  labelled-by true h =
+      sites-labelled (all_phandles p) (fixed p) (each-more (λ e. All IsNamedFound e.value) (λ e. Each IsNamedFound e.value) (fixed p) (λ e k. each-of IsNamedFound e.value k) h)
 
   -- the label of a place is a name
   pub made-labelled : Each (λ x. IsOfLabel IsName x.label) (made_sites p)
-  made-labelled = each-when (λ x. IsOfLabel IsName x.label) p.plugin (sites (all_phandles p) (founds p)) (sites-labelled (all_phandles p) (founds p) founds-labelled)
+  made-labelled = labelled-by p.plugin (each-of (λ e. All IsNamedFound e.value) (when p.plugin (fixed p)) ready.named.elsewhere)

@@ -9,11 +9,12 @@ use Rattle.dt_meaning.specs.Fixups.{Site, bytes_of, label_found, sites_in}
 use Rattle.dt_live.specs.Rows.{node_path}
 use Rattle.dt_live.specs.declared.preorder.properties.NodeProperty.{NodeProperty}
 use Rattle.dt_edit.specs.Said.{Parts}
+use Rattle.dt_resolve.specs.Founds.{found_property}
 use Rattle.dt_build.specs.declared.draft.Draft.{Draft}
 use Rattle.dt_build.specs.declared.fixup_sites.FixupSite.{FixupSite}
-use Rattle.dt_build.specs.Private.FixupSites.{AreBetween, all_left, key_at, key_of, site_with}
+use Rattle.dt_build.specs.Private.FixupSites.{AreBetween, all_left, fixed_sites, key_at, key_of, site_with}
 use Rattle.dt_build.specs.Private.Made.{all_phandles}
-use Rattle.dt_build.specs.Private.Values.{all_uses, founds_of}
+use Rattle.dt_build.specs.Private.Values.{all_uses}
 
 -- ---- places
 pub between-push : (m n : ℕ) (ss : List FixupSite) (s : FixupSite) → m < n → s.property + 1 ≡ n → AreBetween m n ss → AreBetween m n (ss ++ s ∷ [])
@@ -54,13 +55,12 @@ sites-more ns q n f fs gs offset next old new whole at step sum so =
 
 -- those of a property more
 pub property-more : (p : Draft) (i : ℕ) (x : NodeProperty Parts) (ts us : List (Option ℕ)) (old new whole : List Site) → i < length p.in_preorder.properties.items → x ≡ get_or p.in_preorder.properties.items i x
-    → us ≡ drop (all_uses x.value.now) ts → new ≡ old ++ sites_in (all_phandles p) (key_at p i).path (key_at p i).name 0 (founds_of (node_path p.live) x.value.now ts)
-    → old ++ all_left (all_phandles p) (node_path p.live) (drop i p.in_preorder.properties.items) ts ≡ whole → new ++ all_left (all_phandles p) (node_path p.live) (drop (i + 1) p.in_preorder.properties.items) us ≡ whole
+    → us ≡ drop (all_uses x.value.now) ts → new ≡ old ++ fixed_sites p.asks (all_phandles p) (found_property (node_path p.live) x ts)
+    → old ++ all_left p.asks (all_phandles p) (node_path p.live) (drop i p.in_preorder.properties.items) ts ≡ whole → new ++ all_left p.asks (all_phandles p) (node_path p.live) (drop (i + 1) p.in_preorder.properties.items) us ≡ whole
 property-more p i x ts us old new whole below at behind put so =
     let ns = all_phandles p in
     let path = node_path p.live in
     let rest = drop (i + 1) p.in_preorder.properties.items in
-    let founds = founds_of path x.value.now ts in
-    ap₂ (λ xs vs. xs ++ all_left ns path rest vs) (put ∙ ap (λ k. old ++ sites_in ns k.path k.name 0 founds) (key-read p i x below at)) behind
-    ∙ append_assoc old (sites_in ns (path x.node) x.name.now 0 founds) (all_left ns path rest (drop (all_uses x.value.now) ts))
-    ∙ ap (λ y. old ++ all_left ns path (y ∷ rest) ts) at ∙ sym (at_drop_more (λ ys. old ++ all_left ns path ys ts) p.in_preorder.properties.items i x below) ∙ so
+    ap₂ (λ xs vs. xs ++ all_left p.asks ns path rest vs) put behind
+    ∙ append_assoc old (fixed_sites p.asks ns (found_property path x ts)) (all_left p.asks ns path rest (drop (all_uses x.value.now) ts))
+    ∙ ap (λ y. old ++ all_left p.asks ns path (y ∷ rest) ts) at ∙ sym (at_drop_more (λ ys. old ++ all_left p.asks ns path ys ts) p.in_preorder.properties.items i x below) ∙ so

@@ -1,19 +1,30 @@
 -- The fixup sites of all values that were found are those of a walk over the properties and the targets.
-use Rattle.std.proofs.Common.{◌≡◌, ℕ, List, [], ◌∷◌, ◌++◌, drop, Option, refl, ap}
+use Rattle.std.proofs.Common.{◌≡◌, ℕ, Bool, true, false, List, [], ◌∷◌, ◌++◌, drop, Option, if◌then◌else◌, refl, ap}
+use Rattle.std.specs.List.{filter}
 use Rattle.dt_meaning.specs.Paths.{Path}
 use Rattle.dt_meaning.specs.Phandles.{PathPhandle}
-use Rattle.dt_meaning.specs.Fixups.{sites, sites_in}
+use Rattle.dt_meaning.specs.Edits.{Definition}
+use Rattle.dt_meaning.specs.Fixups.{Site, sites, sites_in}
+use Rattle.dt_meaning.specs.References.{Found}
 use Rattle.dt_live.specs.Rows.{node_path}
 use Rattle.dt_live.specs.declared.preorder.properties.NodeProperty.{NodeProperty}
 use Rattle.dt_edit.specs.Said.{Parts}
 use Rattle.dt_build.specs.declared.draft.Draft.{Draft}
-use Rattle.dt_build.specs.Private.Made.{founds, all_phandles}
-use Rattle.dt_resolve.specs.Founds.{all_uses, found_properties, founds_of}
+use Rattle.dt_build.specs.Private.Made.{all_phandles, fixed, is_fixed}
+use Rattle.dt_resolve.specs.Founds.{all_uses, found_properties, found_property}
+use Rattle.dt_resolve.specs.Gathered.{targets_anew}
 use Rattle.dt_build.specs.Private.FixupSites.{all_left}
 
-walk-sites : (ns : List PathPhandle) (path : ℕ → Path) (xs : List (NodeProperty Parts)) (ts : List (Option ℕ)) → all_left ns path xs ts ≡ sites ns (found_properties path xs ts)
-walk-sites ns path [] ts = refl
-walk-sites ns path (x ∷ xs) ts = ap (λ ss. sites_in ns (path x.node) x.name.now 0 (founds_of path x.value.now ts) ++ ss) (walk-sites ns path xs (drop (all_uses x.value.now) ts))
+module _ (asks : Bool) (ns : List PathPhandle) where
+  one-fixed : (e : Definition (List Found)) (es : List (Definition (List Found))) (b : Bool) (xs : List Site) → xs ≡ sites ns es → (if b then sites_in ns e.path e.name 0 e.value else []) ++ xs ≡ sites ns (if b then e ∷ es else es)
+  one-fixed e es true xs is = ap (λ ys. sites_in ns e.path e.name 0 e.value ++ ys) is
+  one-fixed e es false xs is = is
 
-pub all-sites : (p : Draft) → all_left (all_phandles p) (node_path p.live) p.in_preorder.properties.items p.targets.items ≡ sites (all_phandles p) (founds p)
-all-sites p = walk-sites (all_phandles p) (node_path p.live) p.in_preorder.properties.items p.targets.items
+  walk-sites : (path : ℕ → Path) (xs : List (NodeProperty Parts)) (ts : List (Option ℕ)) → all_left asks ns path xs ts ≡ sites ns (filter (is_fixed asks) (found_properties path xs ts))
+  walk-sites path [] ts = refl
+  walk-sites path (x ∷ xs) ts =
+      let e = found_property path x ts in
+      one-fixed e (filter (is_fixed asks) (found_properties path xs (drop (all_uses x.value.now) ts))) (is_fixed asks e) (all_left asks ns path xs (drop (all_uses x.value.now) ts)) (walk-sites path xs (drop (all_uses x.value.now) ts))
+
+pub all-sites : (p : Draft) → all_left p.asks (all_phandles p) (node_path p.live) p.in_preorder.properties.items (targets_anew p.targets.items p.anew) ≡ sites (all_phandles p) (fixed p)
+all-sites p = walk-sites p.asks (all_phandles p) (node_path p.live) p.in_preorder.properties.items (targets_anew p.targets.items p.anew)

@@ -1,25 +1,18 @@
 -- A draft is what its tree is made of.
-use Rattle.std.proofs.Common.{◌≡◌, Option, ℕ, Bool, true, false, List, [], ◌∷◌, ◌++◌, map, drop, cond, refl, sym, ap, ap₂, ◌∙◌, subst, arith}
+use Rattle.std.proofs.Common.{◌≡◌, Option, ℕ, Bool, true, false, List, [], ◌∷◌, ◌++◌, map, drop, cond, refl, sym, ap, ap₂, ◌∙◌, arith}
 use Rattle.std.specs.List.{flat_map}
 use Rattle.std.proofs.lemmas.List.{map-append}
-use Rattle.dt_tree.specs.Name.{is_name}
 use Rattle.dt_meaning.specs.Paths.{Path, same_path}
-use Rattle.dt_meaning.specs.Syntax.{Piece}
 use Rattle.dt_meaning.specs.Edits.{Definition, definition}
 use Rattle.dt_meaning.specs.References.{Found, held, preorder}
 use Rattle.dt_meaning.specs.Phandles.{PathPhandle}
 use Rattle.dt_meaning.specs.Fixups.{value_bytes}
 use Rattle.dt_meaning.specs.Resolved.{with_bytes}
-use Rattle.dt_live.specs.declared.live_tree.NodeRow.{NodeRow}
 use Rattle.dt_live.specs.Rows.{node_path}
 use Rattle.dt_live.specs.declared.preorder.properties.NodeProperty.{NodeProperty}
-use Rattle.dt_live.proofs.Each.{Each, each-all, each-of}
-use Rattle.dt_live.proofs.Runs.{HasName, all-named}
 use Rattle.dt_making.specs.Made.{IsInPreorder, IsRest, entries, values_in}
 use Rattle.dt_edit.specs.Said.{Parts, tree_of}
 use Rattle.dt_build.specs.declared.draft.Draft.{Draft}
-use Rattle.dt_resolve.specs.Private.ReadProperty.{read_property}
-use Rattle.dt_resolve.proofs.ReadOrder.{read-order}
 use Rattle.dt_build.specs.declared.node_phandles.NodePhandles.{NodePhandles}
 use Rattle.dt_build.specs.Private.NodePhandles.{AreNodePhandles}
 use Rattle.dt_build.specs.Private.Made.{all_phandles, founds, plain_properties}
@@ -29,14 +22,6 @@ use Rattle.dt_resolve.specs.Founds.{found_properties}
 use Rattle.dt_build.specs.Private.Values.{all_uses, founds_of, values_of}
 use Rattle.dt_build.proofs.MakingNodes.{lawful}
 use Rattle.dt_build.proofs.NewPhandles.{own-is}
-
--- ---- names
-abbrev PropertiesNamed : NodeProperty Parts → Type 0
-PropertiesNamed x = is_name x.name.now ≡ true
-
-node_property-named : (nodes : List NodeRow) (xs : List (NodeProperty Parts)) → Each HasName (map (read_property nodes) xs) → Each PropertiesNamed xs
-node_property-named nodes [] h = tt
-node_property-named nodes (x ∷ xs) h = (h.0, node_property-named nodes xs h.1)
 
 -- ---- what is found in the values of properties, as bytes
 all-bytes : (path : ℕ → Path) (ns : List PathPhandle) (xs : List (NodeProperty Parts)) (ts : List (Option ℕ)) → entries path xs (values_of ns path (values_in xs) ts) ≡ map (with_bytes ns) (found_properties path xs ts)
@@ -78,10 +63,7 @@ module _ (p : Draft) (ready : IsReady p) where
       there = ready.there;
       stand = ready.stand;
       named_nodes = λ k n some below here. lawful p ready k some below n here;
-      named = each-all (λ x. is_name x.name.now ≡ true) p.in_preorder.properties.items
-          (node_property-named p.live.nodes.items p.in_preorder.properties.items
-          (subst (λ (es : List (Definition (List Piece))). Each HasName es) (sym (read-order p.live p.in_preorder.properties.items ready.properties))
-          (all-named (tree_of p.live).properties (preorder (tree_of p.live).nodes) (each-of HasName (tree_of p.live).properties ready.named.properties))));
+      named = ready.named.properties;
       apart = ready.apart;
       own = own-is p ready n is;
     }

@@ -11,6 +11,7 @@ use Rattle.dt_meaning.specs.References.{walk, preorder, held}
 use Rattle.dt_meaning.specs.Phandles.{new_ones}
 use Rattle.dt_meaning.specs.Resolved.{Resolved, fronts, symbol, with_more}
 use Rattle.dt_tree_builder.specs.Standing.{AreNodes, walked, behind_root}
+use Rattle.dt_build.specs.Private.Made.{bare_node, with_nodes}
 use Rattle.dt_tree_builder.proofs.Orders.{behind, held-append, there-same, no-below}
 use Rattle.dt_tree_builder.proofs.PathFacts.{not-both, same-itself, child-is, listed-first, listed-next, listed-other, other-side}
 use Rattle.dt_build.proofs.HeldProperties.{held-other}
@@ -108,6 +109,14 @@ seen-symbols (l ∷ ls) = ap (λ b. if b then new_ones (symbols_path ∷ []) (sy
 pub with-none : (r : Resolved) → with_more [] r ≡ r
 with-none r = λ i. record { nodes = append-nil r.nodes i; properties = append-nil r.properties i }
 
+pub nodes-none : (r : Resolved) → with_nodes [] r ≡ r
+nodes-none r = λ i. record { nodes = append-nil r.nodes i; properties = r.properties }
+
+-- where there is a label, its node is there anyway
+pub bare-none : (labelled : Bool) (l : Label) (ls : List Label) → bare_node labelled (l ∷ ls) ≡ []
+bare-none true l ls = refl
+bare-none false l ls = refl
+
 pub with-symbols : (r : Resolved) (l : Label) (ls : List Label) → (with_more (map symbol (l ∷ ls)) r).nodes ≡ r.nodes ++ symbols_path ∷ []
 with-symbols r l ls = ap (λ ps. r.nodes ++ symbols_path ∷ ps) (seen-symbols ls)
 
@@ -140,6 +149,21 @@ module _ (r : Resolved) (are : AreNodes r.nodes) (new : is_listed symbols_path r
     met-before x there =
         other-side symbols_path x
         (listed-other symbols_path x ([] ∷ r.nodes) new (there-same r are x ∙ ap (is_listed x) (behind r are) ∙ there))
+
+    -- the node without a property
+    pub bare-walked : walked (with_nodes (symbols_path ∷ []) r) ≡ record { nodes = (walked r).nodes ++ symbols_path ∷ []; properties = (walked r).properties ++ [] }
+    bare-walked = λ i. record { nodes = of_nodes i; properties = of_properties i } where
+      order : preorder (r.nodes ++ symbols_path ∷ []) ≡ preorder r.nodes ++ symbols_path ∷ []
+      order = preorder-last r.nodes symbols_name are new
+
+      of_nodes : behind_root (preorder (r.nodes ++ symbols_path ∷ [])) ≡ behind_root (preorder r.nodes) ++ symbols_path ∷ []
+      of_nodes = ap behind_root order ∙ ap (λ ps. behind_root (ps ++ symbols_path ∷ [])) (sym (behind r are))
+
+      of_properties : flat_map (held r.properties) (preorder (r.nodes ++ symbols_path ∷ [])) ≡ flat_map (held r.properties) (preorder r.nodes) ++ []
+      of_properties =
+          ap (flat_map (held r.properties)) order
+          ∙ flat_map-append (held r.properties) (preorder r.nodes) (symbols_path ∷ [])
+          ∙ ap (λ es. flat_map (held r.properties) (preorder r.nodes) ++ es) (append-nil (held r.properties symbols_path) ∙ none-held r.properties ([] ∷ r.nodes) symbols_path new all)
 
     pub symbols-walked : (l : Label) (ls : List Label)
         → walked (with_more (map symbol (l ∷ ls)) r) ≡ record { nodes = (walked r).nodes ++ (symbols_name ∷ []) ∷ []; properties = (walked r).properties ++ map symbol (l ∷ ls) }

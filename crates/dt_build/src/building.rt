@@ -8,7 +8,7 @@ ghost use Rattle.dt_edit.specs.Said.{tree_of};
 ghost use Rattle.dt_source.specs.Meaning.{meaning_of};
 ghost use Rattle.dt_build.specs.Built.{Builds, BuildsTree};
 ghost use Rattle.dt_build.specs.Private.FixupSites.{AreSites};
-ghost use Rattle.dt_build.specs.Private.Fitting.{IsFitting, IsPreparedFrom};
+ghost use Rattle.dt_build.specs.Private.Fitting.{IsFitting, MakesTree};
 ghost use Rattle.dt_build.specs.Private.Made.{lists};
 ghost use Rattle.dt_build.specs.Private.Ready.{IsReady};
 
@@ -46,24 +46,24 @@ fn fitting_tree(
     let node_phandles = number(alloc, draft)?;
     let root = make(alloc, draft, &node_phandles, sites, symbols)?;
     let reserves = Vec::from_slice(alloc, source.reserves.as_slice())?;
-    match Tree::new(reserves, 0, root) {
+    match Tree::new(reserves, draft.processor, root) {
         Ok(tree) => Ok(Some(tree)),
         // the root has no name
         Err(_) => unreachable!(),
     }
 }
 
-// The tree of a source's draft, or why it has none.
-fn draft_tree(
+/// The tree of a draft, unless it is too deep.
+pub(crate) fn draft_tree(
     alloc: Global,
     source: &Source<'_>,
     draft: &Draft<'_, '_>,
     symbols: bool,
     limit: usize,
 ) -> Result<Option<Tree>, BuildError>
-    requires lawful { IsLawful (meaning_of source.now) }
-    requires prepared { IsPreparedFrom symbols (meaning_of source.now) draft.now }
-    ensures { Builds symbols (meaning_of source.now) limit result }
+    requires ready { IsReady draft.now }
+    requires free { names_taken symbols draft.now.plugin (tree_of draft.now.live) ≡ false }
+    ensures { MakesTree symbols (meaning_of source.now) draft.now limit result }
 {
     let sites = find_sites(alloc, draft)?;
     // behind the edits only the local fixups of a node is deeper than the node
@@ -89,7 +89,7 @@ fn source_tree<'d, 't>(
 {
     match prepare(alloc, hasher, source, fragments, symbols) {
         Ok(prepared) => {
-            let draft = draft_of(prepared);
+            let draft = draft_of(alloc, prepared)?;
             draft_tree(alloc, source, &draft, symbols, limit)
         }
         Err(error) => Err(error),

@@ -1,13 +1,17 @@
 //! The fixup sites of a plugin, found once: one for each phandle in its values, in the order of the walk.
-ghost use Rattle.std.specs.Prelude.{◌≡◌, ◌<◌, ◌+◌, All, IfOk, OnOk, length};
-ghost use Rattle.dt_resolve.specs.Targets.{IsKnown};
+ghost use Rattle.std.specs.Prelude.{◌≡◌, ◌<◌, ◌+◌, true, All, IfOk, OnOk, length};
+ghost use Rattle.dt_resolve.specs.Targets.{IsKnown, IsToldApart};
 ghost use Rattle.dt_build.specs.Private.Ready.{IsReady};
-ghost use Rattle.dt_build.specs.Private.FixupSites.{AreBetween, AreSites, PutsPart, PutsAll};
+ghost use Rattle.dt_live.specs.Rows.{IsNode, node_path};
+ghost use Rattle.dt_resolve.specs.Founds.{found_property};
+ghost use Rattle.dt_build.specs.Private.FixupSites.{AreBetween, AreSites, PutsFixed, PutsPart, PutsAll, key_at, key_of};
+ghost use Rattle.dt_build.specs.Private.Made.{is_fixed};
 ghost use Rattle.dt_build.specs.Private.Values.{label_in, part_bytes};
 
-use crate::draft::Draft;
+use crate::draft::{Draft, fixed_targets};
 use crate::value::part_size;
-use dt_resolve::{target_at, target_count, targets_behind};
+use dt_live::NodeProperty;
+use dt_resolve::{asks_for_own, target_at, target_count, targets_behind};
 use dt_source::{Part, Reference};
 use std::alloc::{AllocError, Global};
 
@@ -101,6 +105,47 @@ fn put_sites<'d>(
     Ok(())
 }
 
+// Whether the phandles of a property are fixups: a number that its own node asks for is none.
+fn gives_sites<'d>(
+    draft: &Draft<'d, 'd>,
+    property: &NodeProperty<'d, &'d [Part<'d>]>,
+    targets: &[Option<usize>],
+) -> bool
+    requires ready { IsReady draft.now }
+    requires node { IsNode draft.now.live property.now.node }
+    requires apart { draft.now.asks ≡ true → All (IsToldApart draft.now.live property.now.node) targets.now }
+    ensures { result ≡ is_fixed draft.now.asks (found_property (node_path draft.now.live) property.now targets.now) }
+{
+    if !draft.asks {
+        return true;
+    }
+    !asks_for_own(&draft.live, property, targets)
+}
+
+// Puts the sites of a property behind the others, unless it asks for the number of its own node.
+fn put_fixed<'d>(
+    sites: &mut Vec<FixupSite<'d>>,
+    draft: &Draft<'d, 'd>,
+    place: usize,
+    property: &NodeProperty<'d, &'d [Part<'d>]>,
+    targets: &[Option<usize>],
+) -> Result<(), AllocError>
+    requires ready { IsReady draft.now }
+    requires known { All (IsKnown draft.now.live) targets.now }
+    requires node { IsNode draft.now.live property.now.node }
+    requires key { key_at draft.now place ≡ key_of draft.now property.now }
+    requires apart { draft.now.asks ≡ true → All (IsToldApart draft.now.live property.now.node) targets.now }
+    requires places { AreBetween 0 (place + 1) sites.old.items }
+    ensures places { OnOk result (AreBetween 0 (place + 1) sites.new.items) }
+    ensures sites { OnOk result (PutsFixed draft.now property.now targets.now sites.old.items sites.new.items) }
+{
+    if !gives_sites(draft, property, targets) {
+        return Ok(());
+    }
+    put_sites(sites, draft, place, property.value, targets)?;
+    Ok(())
+}
+
 /// All sites of a plugin. Another source has none.
 pub(crate) fn find_sites<'d>(
     alloc: Global,
@@ -112,12 +157,12 @@ pub(crate) fn find_sites<'d>(
     if !draft.plugin {
         return Ok(Vec::new(alloc));
     }
-    let mut targets = draft.targets.as_slice();
+    let mut targets = fixed_targets(draft);
     // each site has a target
     let mut sites = Vec::with_capacity(alloc, targets.len())?;
     let properties = draft.in_preorder.properties.as_slice();
     for (property, node_property) in properties.iter().enumerate() {
-        put_sites(&mut sites, draft, property, node_property.value, targets)?;
+        put_fixed(&mut sites, draft, property, node_property, targets)?;
         targets = targets_behind(node_property.value, targets);
     }
     Ok(sites)

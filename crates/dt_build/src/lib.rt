@@ -6,6 +6,8 @@
 mod building;
 mod digits;
 mod draft;
+mod dtc_building;
+mod dtc_draft;
 mod fixup_sites;
 mod fixups;
 mod fixups_by_label;
@@ -13,6 +15,7 @@ mod local_depth;
 mod local_nodes;
 mod local_properties;
 mod making;
+mod node_names;
 mod node_phandles;
 mod sizes;
 mod source_values;

@@ -8,11 +8,11 @@ use crate::draft::Draft;
 use dt_resolve::{NodePhandle, nodes_with_phandles};
 use std::alloc::{AllocError, Global};
 
-/// The phandle of each node, the number that is no phandle where it has none; and whether it is a new one.
+/// The phandle of each node, the number that is no phandle where it has none; and whether it gets a property.
 #[derive(Drop)]
 pub(crate) struct NodePhandles {
     pub(crate) phandles: Vec<u32>,
-    pub(crate) new: Vec<bool>,
+    pub(crate) added: Vec<bool>,
 }
 
 // Writes the phandles from last to first, so that a node keeps its first one.
@@ -36,10 +36,11 @@ pub(crate) fn number(alloc: Global, draft: &Draft<'_, '_>) -> Result<NodePhandle
 {
     let count = draft.live.nodes().len() + 1;
     let given = draft.given.as_slice();
-    let added = draft.new.as_slice();
-    let new = nodes_with_phandles(alloc, count, added)?;
+    let new = draft.new.as_slice();
+    let with_property = draft.added.as_slice();
+    let added = nodes_with_phandles(alloc, count, with_property)?;
     let mut phandles = vec![in alloc; u32::MAX; count]?;
-    put_phandles(&mut phandles, added);
+    put_phandles(&mut phandles, new);
     put_phandles(&mut phandles, given);
-    Ok(NodePhandles { phandles, new })
+    Ok(NodePhandles { phandles, added })
 }

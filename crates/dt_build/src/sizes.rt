@@ -16,7 +16,7 @@ fn nodes_size(draft: &Draft<'_, '_>) -> usize
     requires { IsReady draft.now }
     ensures { result ≡ min (size_in (made_properties draft.now)) (2 ^ 64 - 1) }
 {
-    let phandles = draft.new.len().saturating_mul(4);
+    let phandles = draft.added.len().saturating_mul(4);
     values_size(draft).saturating_add(phandles)
 }
 

@@ -38,7 +38,7 @@ impl<'p, 'd, 't> Values<&'d [Part<'t>]> for SourceValues<'p, 'd, 't> {
     }
 
     fn new_phandle(&self, node: usize) -> Option<u32> {
-        match self.node_phandles.new.get(node) {
+        match self.node_phandles.added.get(node) {
             Some(true) => Some(self.node_phandles.phandles[node]),
             _ => None,
         }

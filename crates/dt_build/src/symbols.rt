@@ -1,5 +1,5 @@
 //! The labels of a tree, as properties of the root's child `__symbols__`.
-ghost use Rattle.std.specs.Prelude.{◌≡◌, ◌∷◌, ◌-◌, ◌^◌, [], true, false, map, IfOk, min};
+ghost use Rattle.std.specs.Prelude.{◌≡◌, ◌==◌, ◌||◌, ◌∷◌, ◌-◌, ◌^◌, [], true, false, length, map, not, IfOk, min};
 ghost use Rattle.dt_tree.specs.Name.{is_name};
 ghost use Rattle.dt_meaning.specs.Resolved.{names_taken, symbol};
 ghost use Rattle.dt_live.specs.Rows.{IsLiveTree, IsNode};
@@ -67,7 +67,17 @@ pub(crate) fn symbols_size(draft: &Draft<'_, '_>) -> usize
     size
 }
 
-/// The tree with the labels' node behind all others, where a node has a label.
+// Whether there is a node of symbols.
+fn has_node(draft: &Draft<'_, '_>, symbols: &[Property]) -> bool
+    ensures { result ≡ (draft.now.labelled || not (length symbols.now == 0)) }
+{
+    if draft.labelled {
+        return true;
+    }
+    !symbols.is_empty()
+}
+
+/// The tree with the labels' node behind all others, where a node has a label, or the draft asks for one.
 pub(crate) fn with_symbols(
     alloc: Global,
     draft: &Draft<'_, '_>,
@@ -79,7 +89,7 @@ pub(crate) fn with_symbols(
     ensures { IfOk result (λ whole. built_lists whole ≡ walked (symbol_lists true draft.now)) }
 {
     let symbols = symbols_of(alloc, draft)?;
-    if symbols.is_empty() {
+    if !has_node(draft, symbols.as_slice()) {
         return Ok(builder);
     }
     let name = lawful_name(alloc, b"__symbols__".as_slice())?;

@@ -1,6 +1,7 @@
 //! The bytes of values whose references have targets.
 ghost use Rattle.std.specs.Prelude.{◌≡◌, ◌≤◌, ◌^◌, ◌-◌, ◌++◌, ◌∷◌, [], None, All, IfOk, OnOk, length, min};
-ghost use Rattle.dt_resolve.specs.Targets.{IsKnown, IsThere};
+ghost use Rattle.dt_resolve.specs.Targets.{IsKnown};
+ghost use Rattle.dt_build.specs.Private.FirstPhandle.{IsByPath};
 ghost use Rattle.dt_build.specs.Private.NodePhandles.{AreNodePhandles};
 ghost use Rattle.dt_build.specs.Private.Ready.{IsReady};
 ghost use Rattle.dt_build.specs.Private.Values.{bytes_for, part_bytes};
@@ -62,7 +63,7 @@ fn append_part(
     requires ready { IsReady draft.now }
     requires node_phandles { AreNodePhandles draft.now node_phandles.now }
     requires known { IsKnown draft.now.live target }
-    requires there { IsThere draft.now.live target }
+    requires numbered { IsByPath draft.now target }
     ensures { OnOk result (value.new.items ≡ value.old.items ++ part_bytes draft.now part.now target) }
 {
     match (part, target) {
@@ -91,7 +92,7 @@ pub(crate) fn value_bytes(
     requires ready { IsReady draft.now }
     requires node_phandles { AreNodePhandles draft.now node_phandles.now }
     requires known { All (IsKnown draft.now.live) targets.now }
-    requires there { All (IsThere draft.now.live) targets.now }
+    requires numbered { All (IsByPath draft.now) targets.now }
     ensures { IfOk result (λ bytes. bytes ≡ bytes_for draft.now value.now targets.now) }
 {
     let mut bytes = Vec::with_capacity(alloc, value_size(draft, value, targets))?;

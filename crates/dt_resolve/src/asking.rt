@@ -30,6 +30,7 @@ fn refers_to<'d, 't>(
         (Part::Phandle(_), None) => false,
         (Part::Bytes(_), _) => false,
         (Part::Path(_), _) => false,
+        (Part::File(_), _) => false,
     }
 }
 

@@ -3,6 +3,7 @@ use Rattle.std.proofs.Common.{◌≡◌, refl, Bool, true, false, not, ◌&&◌,
 use Rattle.std.specs.Prelude.{flat_map, All, if◌then◌else◌}
 use Rattle.std.specs.List.{AllByRecursion}
 use Rattle.std.proofs.lemmas.List.Elements.{All-map, All-from_recursion}
+use Rattle.dt_lexeme.specs.declared.language.Language.{Language}
 use Rattle.dt_lexeme.specs.declared.lexeme.Lexeme.{Lexeme}
 use Rattle.dt_lexeme.specs.declared.lexeme.Kind.{Kind}
 use Rattle.dt_lexeme.specs.declared.lexeme.Kind.TheVariants.{Label}
@@ -14,7 +15,7 @@ use Rattle.dt_expression.specs.Element.{element}
 use Rattle.dt_source.specs.Sequences.{SpellsEach}
 use Rattle.dt_meaning.specs.Syntax.{Piece, Plain, PhandleOf, PathOf, Stored}
 use Rattle.dt_source.specs.Pieces.{target_by, target_of, width_in, element_pieces, cell_pieces, stored, portion_pieces, joined, join_bytes}
-use Rattle.dt_source.specs.Marks.{is_label, is_mark, labels_in}
+use Rattle.dt_source.specs.Marks.{is_label, labels_in}
 use Rattle.dt_source.specs.Words.{label_bytes}
 use Rattle.dt_source.specs.Source.{CellTree, Element, Refers, Marks, PortionTree, Whole, Portion, PieceTree, Quoted, Points, Pairs, Cells, WideCells, Includes, One, IsReference, OneReference, OnePair, SpellsLabels, SpellsMarks, DropsLabels, SpellsCell, SpellsCells, SpellsPortion, SpellsPiece, SpellsPlaced, SpellsFurther, SpellsValue, cell_of, cells_said, portion_values, piece_said, value_said, width_said}
 use Rattle.dt_lexeme.specs.Label.{IsLabel}
@@ -167,30 +168,30 @@ portion_lawful text at (Portion o n) ts rest (a, b, c, d, first, offset, mid, si
     let y = expression_lawful text 64 0 n c d size.1 (begins_lawful text b _ c mid x) in
     (stored_lawful at (value_of text o) (value_of text n), begins_lawful text d _ rest close y)
 
-piece_lawful : (text : List ℕ) (i : PieceTree) (ts rest : List Lexeme) → SpellsPiece i ts rest → AllLawful text ts → AllPieces (piece_said text i) × AllLawful text rest
-piece_lawful text (Quoted l) ts rest s h = ((tt, tt), (takes_lawful text ts l rest s.1 h).1)
-piece_lawful text (Points l) ts rest s h = let r = reference_lawful text l ts rest s h in ((r.0, tt), r.1)
-piece_lawful text (Pairs ls) ts rest (a, b, open_, s, close) h =
+piece_lawful : (language : Language) (text : List ℕ) (i : PieceTree) (ts rest : List Lexeme) → SpellsPiece i ts rest → AllLawful text ts → AllPieces (piece_said language text i) × AllLawful text rest
+piece_lawful language text (Quoted l) ts rest s h = ((tt, tt), (takes_lawful text ts l rest s.1 h).1)
+piece_lawful language text (Points l) ts rest s h = let r = reference_lawful text l ts rest s h in ((r.0, tt), r.1)
+piece_lawful language text (Pairs ls) ts rest (a, b, open_, s, close) h =
     let r = each_lawful text OnePair (λ l. Unit {0}) (λ l ts rest s h. (tt, (takes_lawful text ts l rest s.1 h).1)) ls a b s (begins_lawful text ts _ a open_ h) in
     ((tt, tt), begins_lawful text b _ rest close r.1)
-piece_lawful text (Cells cs) ts rest s h = cells_lawful text (Some ThirtyTwo) cs ts rest s h
-piece_lawful text (WideCells l cs) ts rest (a, b, bits, literal, s) h = cells_lawful text (width_in (width_said text l)) cs b rest s (takes_lawful text a l b literal.1 (begins_lawful text ts _ a bits h)).1
-piece_lawful text (Includes w l i) ts rest (a, b, c, word, open_, name, portion) h =
+piece_lawful language text (Cells cs) ts rest s h = cells_lawful text (Some ThirtyTwo) cs ts rest s h
+piece_lawful language text (WideCells l cs) ts rest (a, b, bits, literal, s) h = cells_lawful text (width_in (width_said text l)) cs b rest s (takes_lawful text a l b literal.1 (begins_lawful text ts _ a bits h)).1
+piece_lawful language text (Includes w l i) ts rest (a, b, c, word, open_, name, portion) h =
     portion_lawful text w.start i c rest portion (takes_lawful text b l c name.1 (begins_lawful text a _ b open_ (takes_lawful text ts w a word.1 h).1)).1
 
-placed_lawful : (text : List ℕ) (i : PieceTree) (ts rest : List Lexeme) → SpellsPlaced i ts rest → AllLawful text ts → AllPieces (piece_said text i) × AllLawful text rest
-placed_lawful text i ts rest (a, b, before, s, behind) h =
-    let r = piece_lawful text i a b s (drops_lawful text ts a before h) in
+placed_lawful : (language : Language) (text : List ℕ) (i : PieceTree) (ts rest : List Lexeme) → SpellsPlaced i ts rest → AllLawful text ts → AllPieces (piece_said language text i) × AllLawful text rest
+placed_lawful language text i ts rest (a, b, before, s, behind) h =
+    let r = piece_lawful language text i a b s (drops_lawful text ts a before h) in
     (r.0, drops_lawful text b rest behind r.1)
 
-further_lawful : (text : List ℕ) (i : PieceTree) (ts rest : List Lexeme) → SpellsFurther i ts rest → AllLawful text ts → AllPieces (piece_said text i) × AllLawful text rest
-further_lawful text i ts rest (a, comma, s) h = placed_lawful text i a rest s (begins_lawful text ts _ a comma h)
+further_lawful : (language : Language) (text : List ℕ) (i : PieceTree) (ts rest : List Lexeme) → SpellsFurther i ts rest → AllLawful text ts → AllPieces (piece_said language text i) × AllLawful text rest
+further_lawful language text i ts rest (a, comma, s) h = placed_lawful language text i a rest s (begins_lawful text ts _ a comma h)
 
-pieces_lawful : (text : List ℕ) (ps : List PieceTree) (ts rest : List Lexeme) → SpellsValue ps ts rest → AllLawful text ts → AllByRecursion (λ p. AllPieces (piece_said text p)) ps × AllLawful text rest
-pieces_lawful text [] ts rest s h = (tt, subst (AllLawful text) s h)
-pieces_lawful text (p ∷ ps) ts rest (a, b, equals, s, more) h =
-    let x = placed_lawful text p a b s (begins_lawful text ts _ a equals h) in
-    let y = each_lawful text SpellsFurther (λ p. AllPieces (piece_said text p)) (further_lawful text) ps b rest more x.1 in
+pieces_lawful : (language : Language) (text : List ℕ) (ps : List PieceTree) (ts rest : List Lexeme) → SpellsValue ps ts rest → AllLawful text ts → AllByRecursion (λ p. AllPieces (piece_said language text p)) ps × AllLawful text rest
+pieces_lawful language text [] ts rest s h = (tt, subst (AllLawful text) s h)
+pieces_lawful language text (p ∷ ps) ts rest (a, b, equals, s, more) h =
+    let x = placed_lawful language text p a b s (begins_lawful text ts _ a equals h) in
+    let y = each_lawful text SpellsFurther (λ p. AllPieces (piece_said language text p)) (further_lawful language text) ps b rest more x.1 in
     ((x.0, y.0), y.1)
 
 -- ---- joined bytes
@@ -214,10 +215,10 @@ all_joined (PhandleOf t ∷ ps) = all_joined ps
 all_joined (PathOf t ∷ ps) = all_joined ps
 all_joined (Stored at o n ∷ ps) = all_joined ps
 
-pub value_joined : (text : List ℕ) (ps : List PieceTree) → are_joined (value_said text ps) ≡ true
-value_joined text ps = all_joined (flat_map (piece_said text) ps)
+pub value_joined : (language : Language) (text : List ℕ) (ps : List PieceTree) → are_joined (value_said language text ps) ≡ true
+value_joined language text ps = all_joined (flat_map (piece_said language text) ps)
 
-pub value_lawful : (text : List ℕ) (ps : List PieceTree) (ts rest : List Lexeme) → SpellsValue ps ts rest → AllLawful text ts → All IsLawfulPiece (value_said text ps) × AllLawful text rest
-value_lawful text ps ts rest s h =
-    let r = pieces_lawful text ps ts rest s h in
-    (All-from_recursion IsLawfulPiece (value_said text ps) (joined_lawful (flat_map (piece_said text) ps) (all_flat (piece_said text) ps r.0)), r.1)
+pub value_lawful : (language : Language) (text : List ℕ) (ps : List PieceTree) (ts rest : List Lexeme) → SpellsValue ps ts rest → AllLawful text ts → All IsLawfulPiece (value_said language text ps) × AllLawful text rest
+value_lawful language text ps ts rest s h =
+    let r = pieces_lawful language text ps ts rest s h in
+    (All-from_recursion IsLawfulPiece (value_said language text ps) (joined_lawful (flat_map (piece_said language text) ps) (all_flat (piece_said language text) ps r.0)), r.1)

@@ -1,6 +1,7 @@
 -- Lexemes spell a source in one way alone.
 use Rattle.std.proofs.Common.{◌≡◌, Bool, true, false, List, [], ◌∷◌, None, refl, sym, ap, subst, ◌∙◌}
 use Rattle.std.specs.Prelude.{◌≢◌}
+use Rattle.dt_lexeme.specs.declared.language.Language.{Language}
 use Rattle.dt_lexeme.specs.declared.lexeme.Lexeme.{Lexeme}
 use Rattle.dt_lexeme.specs.declared.lexeme.Kind.{Kind}
 use Rattle.dt_lexeme.specs.declared.lexeme.Kind.TheVariants.{Version, Plugin, MemReserve, Reference, Semicolon, Slash, DeleteNode, OmitIfNoRef}
@@ -25,43 +26,43 @@ item_kind (Extend ls l s) = Reference
 item_kind (Delete l) = DeleteNode
 item_kind (Omit l) = OmitIfNoRef
 
-item_sort : (i : ItemTree) (ts rest : List Lexeme) → SpellsItem i ts rest → sort_behind ts ≡ sorted (item_kind i)
-item_sort (Root s) ts rest h = behind_none Slash ts (begins_sort Slash ts h.0 h.1) refl
-item_sort (Extend ls l s) ts rest h = behind_labels Reference ls ts h.0 h.2 (reference_sort l h.0 h.1 h.3) refl
-item_sort (Delete l) ts rest h = behind_none DeleteNode ts (begins_sort DeleteNode ts h.0 h.2) refl
-item_sort (Omit l) ts rest h = behind_none OmitIfNoRef ts (begins_sort OmitIfNoRef ts h.0 h.2) refl
+item_sort : (language : Language) (i : ItemTree) (ts rest : List Lexeme) → SpellsItem language i ts rest → sort_behind ts ≡ sorted (item_kind i)
+item_sort language (Root s) ts rest h = behind_none Slash ts (begins_sort Slash ts h.0 h.1) refl
+item_sort language (Extend ls l s) ts rest h = behind_labels Reference ls ts h.0 h.2 (reference_sort l h.0 h.1 h.3) refl
+item_sort language (Delete l) ts rest h = behind_none DeleteNode ts (begins_sort DeleteNode ts h.0 h.2) refl
+item_sort language (Omit l) ts rest h = behind_none OmitIfNoRef ts (begins_sort OmitIfNoRef ts h.0 h.2) refl
 
-one_item : (i j : ItemTree) (ts r q : List Lexeme) → SpellsItem i ts r → SpellsItem j ts q → Same i j r q
-one_item (Root s) (Root t) ts r q h k =
+one_item : (language : Language) (i j : ItemTree) (ts r q : List Lexeme) → SpellsItem language i ts r → SpellsItem language j ts q → Same i j r q
+one_item language (Root s) (Root t) ts r q h k =
     let first = one_begins Slash Slash ts h.0 k.0 h.1 k.1 in
-    let body = one_body s t h.0 r q h.2 (subst (λ (x : List Lexeme). SpellsBody t x q) (sym first.1) k.2) in
+    let body = one_body language s t h.0 r q h.2 (subst (λ (x : List Lexeme). SpellsBody language t x q) (sym first.1) k.2) in
     (ap Root body.0, body.1)
-one_item (Extend ls l s) (Extend ms m t) ts r q h k =
+one_item language (Extend ls l s) (Extend ms m t) ts r q h k =
     let labels = one_labels ls ms ts h.0 k.0 h.2 k.2 (no_label Reference h.0 (reference_sort l h.0 h.1 h.3) refl) (no_label Reference k.0 (reference_sort m k.0 k.1 k.3) refl) in
     let name = one_takes l m h.0 h.1 k.1 h.3.1 (labels.1 ∙ k.3.1) in
-    let body = one_body s t h.1 r q h.4 (subst (λ (x : List Lexeme). SpellsBody t x q) (sym name.1) k.4) in
+    let body = one_body language s t h.1 r q h.4 (subst (λ (x : List Lexeme). SpellsBody language t x q) (sym name.1) k.4) in
     (cc (labels.0, name.0, body.0), body.1)
-one_item (Delete l) (Delete m) ts r q h k =
+one_item language (Delete l) (Delete m) ts r q h k =
     let first = one_begins DeleteNode DeleteNode ts h.0 k.0 h.2 k.2 in
     let name = one_takes l m h.0 h.1 k.1 h.3.1 (first.1 ∙ k.3.1) in
     (ap Delete name.0, one_after Semicolon h.1 k.1 r q name.1 h.4 k.4)
-one_item (Omit l) (Omit m) ts r q h k =
+one_item language (Omit l) (Omit m) ts r q h k =
     let first = one_begins OmitIfNoRef OmitIfNoRef ts h.0 k.0 h.2 k.2 in
     let name = one_takes l m h.0 h.1 k.1 h.3.1 (first.1 ∙ k.3.1) in
     (ap Omit name.0, one_after Semicolon h.1 k.1 r q name.1 h.4 k.4)
-one_item i j ts r q h k = let e : sorted (item_kind i) ≡ sorted (item_kind j) = sym (item_sort i ts r h) ∙ item_sort j ts q k in absurd cc
+one_item language i j ts r q h k = let e : sorted (item_kind i) ≡ sorted (item_kind j) = sym (item_sort language i ts r h) ∙ item_sort language j ts q k in absurd cc
 
 abbrev Anything : List Lexeme → Type 0
 Anything ts = Unit {0}
 
-no_item : (i : ItemTree) (rest : List Lexeme) → SpellsItem i [] rest → ⊥
+no_item : (language : Language) (i : ItemTree) (rest : List Lexeme) → SpellsItem language i [] rest → ⊥
 unfolding labels_at
-no_item i rest h = let e : None ≡ sorted (item_kind i) = item_sort i [] rest h in cc
+no_item language i rest h = let e : None ≡ sorted (item_kind i) = item_sort language i [] rest h in cc
 
-one_items : (is js : List ItemTree) (ts : List Lexeme) → SpellsEach SpellsItem is ts [] → SpellsEach SpellsItem js ts [] → is ≡ js
-one_items is js ts h k =
-    let end : Ends SpellsItem Anything [] = record { can = tt; none = no_item } in
-    (one_each SpellsItem Anything (λ i j ts r q h k n m. one_item i j ts r q h k) (λ i ts rest h. tt) is js ts [] [] h k end end).0
+one_items : (language : Language) (is js : List ItemTree) (ts : List Lexeme) → SpellsEach (SpellsItem language) is ts [] → SpellsEach (SpellsItem language) js ts [] → is ≡ js
+one_items language is js ts h k =
+    let end : Ends (SpellsItem language) Anything [] = record { can = tt; none = no_item language } in
+    (one_each (SpellsItem language) Anything (λ i j ts r q h k n m. one_item language i j ts r q h k) (λ i ts rest h. tt) is js ts [] [] h k end end).0
 
 -- ---- reservations
 
@@ -83,8 +84,8 @@ one_reserve r s ts a b h k =
     (reserve_is r.address r.size s.address s.size address.0 size.0, one_after Semicolon h.3 k.3 a b size.1 h.8 k.8)
 
 -- Where items begin, no reservation does.
-no_reserve : (i : ItemTree) (ts rest : List Lexeme) → SpellsItem i ts rest → Ends SpellsReserve Anything ts
-no_reserve i ts rest h = record { can = tt; none = λ r a k. go i (sym (reserve_sort r ts a k) ∙ item_sort i ts rest h) }
+no_reserve : (language : Language) (i : ItemTree) (ts rest : List Lexeme) → SpellsItem language i ts rest → Ends SpellsReserve Anything ts
+no_reserve language i ts rest h = record { can = tt; none = λ r a k. go i (sym (reserve_sort r ts a k) ∙ item_sort language i ts rest h) }
   where
     go : (i : ItemTree) → sorted MemReserve ≡ sorted (item_kind i) → ⊥
     go (Root s) e = cc
@@ -140,10 +141,10 @@ record Items (ts : List Lexeme) : Type 0 where
   opens : Opens ts
   none : Ends SpellsReserve Anything ts
 
-items : (is : List ItemTree) (ts : List Lexeme) → is ≢ [] → SpellsEach SpellsItem is ts [] → Items ts
+items : (language : Language) (is : List ItemTree) (ts : List Lexeme) → is ≢ [] → SpellsEach (SpellsItem language) is ts [] → Items ts
 unfolding SpellsEach
-items [] ts some h = absurd (some refl)
-items (i ∷ is) ts some h = record { opens = item_opens i ts h.0 h.1; none = no_reserve i ts h.0 h.1 }
+items language [] ts some h = absurd (some refl)
+items language (i ∷ is) ts some h = record { opens = item_opens language i ts h.0 h.1; none = no_reserve language i ts h.0 h.1 }
 
 ends_headers : (rs : List ReserveTree) (ts at : List Lexeme) → SpellsEach SpellsReserve rs ts at → Items at → Ends SpellsHeader NoPlugin ts
 ends_headers rs ts at h i = no_header ts (each_can SpellsReserve Opens reserve_opens rs ts at h i.opens)
@@ -154,11 +155,11 @@ source_is hs gs rs qs is js h r i = cc
 
 pub one_spelling : OneSpelling
 unfolding Spells
-one_spelling ts s t h k =
-    let here = items s.items h.3 h.1 h.6 in
-    let there = items t.items k.3 k.1 k.6 in
+one_spelling language ts s t h k =
+    let here = items language s.items h.3 h.1 h.6 in
+    let there = items language t.items k.3 k.1 k.6 in
     let headers = one_each SpellsHeader NoPlugin one_header header_front s.headers t.headers ts h.2 k.2 h.4 k.4 (ends_headers s.reserves h.2 h.3 h.5 here) (ends_headers t.reserves k.2 k.3 k.5 there) in
     let reserves =
     one_each SpellsReserve Anything (λ r s ts a b h k n m. one_reserve r s ts a b h k) (λ r ts rest h. tt) s.reserves t.reserves h.2 h.3 k.3 h.5
     (subst (λ (x : List Lexeme). SpellsEach SpellsReserve t.reserves x k.3) (sym headers.1) k.5) here.none there.none in
-    source_is s.headers t.headers s.reserves t.reserves s.items t.items headers.0 reserves.0 (one_items s.items t.items h.3 h.6 (subst (λ (x : List Lexeme). SpellsEach SpellsItem t.items x []) (sym reserves.1) k.6))
+    source_is s.headers t.headers s.reserves t.reserves s.items t.items headers.0 reserves.0 (one_items language s.items t.items h.3 h.6 (subst (λ (x : List Lexeme). SpellsEach (SpellsItem language) t.items x []) (sym reserves.1) k.6))

@@ -27,7 +27,7 @@ use Rattle.dt_lexeme.proofs.Scanning.{one_list}
 use Rattle.dt_source.proofs.OneSource.{one_spelling}
 
 pub same_tree : (language : Language) (text : List ℕ) (s t : SourceTree) → IsSource language text s → IsSource language text t → s ≡ t
-same_tree language text s t a b = one_spelling b.0 s t (subst (Spells s) (one_list language text a.0 b.0 a.1 b.1) a.2) b.2
+same_tree language text s t a b = one_spelling language b.0 s t (subst (Spells language s) (one_list language text a.0 b.0 a.1 b.1) a.2) b.2
 
 abbrev just : {A : Type 0} → A → Result A Refusal
 just x = Ok x
@@ -35,35 +35,35 @@ just x = Ok x
 ok_is : {A : Type 0} (x y : A) → just x ≡ just y → x ≡ y
 ok_is x y e = cc
 
-pub same_source : SourcesAreRead → (language : Language) (text : List ℕ) (s t : SourceTree) → IsSource language text s → IsSource language text t → (said text s ≡ said text t) × (first_of (faults_of text s) ≡ first_of (faults_of text t))
+pub same_source : SourcesAreRead → (language : Language) (text : List ℕ) (s t : SourceTree) → IsSource language text s → IsSource language text t → (said language text s ≡ said language text t) × (first_of (faults_of language text s) ≡ first_of (faults_of language text t))
 same_source again language text s t a b =
     let e = one_list language text a.0 b.0 a.1 b.1 in
-    let p = ok_is _ _ (sym (again text s a.0 a.2) ∙ ap (source_at text) e ∙ again text t b.0 b.2) in
+    let p = ok_is _ _ (sym (again language text s a.0 a.2) ∙ ap (source_at language text) e ∙ again language text t b.0 b.2) in
     (ap (λ (z : Meaning × Option Fault). z.0) p, ap (λ (z : Meaning × Option Fault). z.1) p)
 
-refused : SourcesAreRead → (language : Language) (text : List ℕ) (ls : List Lexeme) (r : Refusal) → Lexemes language text ls → source_at text ls ≡ Err r → IsNoSource language text
+refused : SourcesAreRead → (language : Language) (text : List ℕ) (ls : List Lexeme) (r : Refusal) → Lexemes language text ls → source_at language text ls ≡ Err r → IsNoSource language text
 refused again language text ls r h e = λ s a.
     let same = one_list language text a.0 ls a.1 h in
-    let here = again text s a.0 a.2 in
-    let there : source_at text a.0 ≡ Err r = ap (source_at text) same ∙ e in
+    let here = again language text s a.0 a.2 in
+    let there : source_at language text a.0 ≡ Err r = ap (source_at language text) same ∙ e in
     cc (here, there)
 
-found : SourcesAreSpelled → FaultsAreInOrder → (language : Language) (text : List ℕ) (ls : List Lexeme) (m : Meaning) (f : Option Fault) → Lexemes language text ls → source_at text ls ≡ Ok (m, f) → IsRead language text m f
+found : SourcesAreSpelled → FaultsAreInOrder → (language : Language) (text : List ℕ) (ls : List Lexeme) (m : Meaning) (f : Option Fault) → Lexemes language text ls → source_at language text ls ≡ Ok (m, f) → IsRead language text m f
 found takes order language text ls m f h e =
-    let s = takes text ls m f e in
-    (s.0, (ls, h, s.1), s.2, (s.3, subst (λ (o : Option Fault). IsFirstInText o (faults_of text s.0)) s.3 (order language text ls s.0 h s.1)))
+    let s = takes language text ls m f e in
+    (s.0, (ls, h, s.1), s.2, (s.3, subst (λ (o : Option Fault). IsFirstInText o (faults_of language text s.0)) s.3 (order language text ls s.0 h s.1)))
 
 -- what reading the lexemes gave
-pub is_found : SourcesAreSpelled → FaultsAreInOrder → (language : Language) (text : List ℕ) (ts ls : List Lexeme) (r : Result (Outline × Option Fault) ReadError) → Lexemes language text ls → ts ≡ ls → Reads (λ x. (outlined x.0, x.1)) r (source_at text ts) → IfOk r (λ x. IsRead language text (outlined x.0) x.1)
-is_found takes order language text ts ls (Ok x) h t e = found takes order language text ls (outlined x.0) x.1 h (ap (source_at text) (sym t) ∙ e)
+pub is_found : SourcesAreSpelled → FaultsAreInOrder → (language : Language) (text : List ℕ) (ts ls : List Lexeme) (r : Result (Outline × Option Fault) ReadError) → Lexemes language text ls → ts ≡ ls → Reads (λ x. (outlined x.0, x.1)) r (source_at language text ts) → IfOk r (λ x. IsRead language text (outlined x.0) x.1)
+is_found takes order language text ts ls (Ok x) h t e = found takes order language text ls (outlined x.0) x.1 h (ap (source_at language text) (sym t) ∙ e)
 is_found takes order language text ts ls (Err x) h t e = tt
 
 -- a text whose lexemes are refused
-pub is_refused : SourcesAreRead → (language : Language) (text : List ℕ) (ts ls : List Lexeme) (r : Result (Outline × Option Fault) ReadError) → Lexemes language text ls → ts ≡ ls → Reads (λ x. (outlined x.0, x.1)) r (source_at text ts) → IfErr r (λ x. IfRefused language text x)
+pub is_refused : SourcesAreRead → (language : Language) (text : List ℕ) (ts ls : List Lexeme) (r : Result (Outline × Option Fault) ReadError) → Lexemes language text ls → ts ≡ ls → Reads (λ x. (outlined x.0, x.1)) r (source_at language text ts) → IfErr r (λ x. IfRefused language text x)
 is_refused again language text ts ls (Ok x) h t e = tt
 is_refused again language text ts ls (Err errors.NoMemory) h t e = tt
 is_refused again language text ts ls (Err (errors.Refused r)) h t e =
-    let read : source_at text ls ≡ Err r = ap (source_at text) (sym t) ∙ e in
+    let read : source_at language text ls ≡ Err r = ap (source_at language text) (sym t) ∙ e in
     (refused again language text ls r h read, (ls, None, h, ap (refusal_of None) read))
 
 -- a text without lexemes is no source
@@ -71,12 +71,12 @@ without_lexemes : (language : Language) (text : List ℕ) → HasNone language t
 without_lexemes language text none = λ s a. none a.0 a.1
 
 -- a text that breaks off at a place
-pub is_broken : (language : Language) (text : List ℕ) (ts ls : List Lexeme) (place : ℕ) (r : Result (Outline × Option Fault) ReadError) → Scanned language text ls (Some place) → ts ≡ ls → Reads (λ x. (outlined x.0, x.1)) r (source_at text ts) → IfRefused language text (refused_at place r)
+pub is_broken : (language : Language) (text : List ℕ) (ts ls : List Lexeme) (place : ℕ) (r : Result (Outline × Option Fault) ReadError) → Scanned language text ls (Some place) → ts ≡ ls → Reads (λ x. (outlined x.0, x.1)) r (source_at language text ts) → IfRefused language text (refused_at place r)
 is_broken language text ts ls place (Ok x) h t e =
-    (without_lexemes language text h.0, (ls, Some place, h, ap (refusal_of (Some place)) (ap (source_at text) (sym t) ∙ e)))
+    (without_lexemes language text h.0, (ls, Some place, h, ap (refusal_of (Some place)) (ap (source_at language text) (sym t) ∙ e)))
 is_broken language text ts ls place (Err errors.NoMemory) h t e = tt
 is_broken language text ts ls place (Err (errors.Refused r)) h t e =
-    (without_lexemes language text h.0, (ls, Some place, h, ap (refusal_of (Some place)) (ap (source_at text) (sym t) ∙ e)))
+    (without_lexemes language text h.0, (ls, Some place, h, ap (refusal_of (Some place)) (ap (source_at language text) (sym t) ∙ e)))
 
 -- ---- one answer
 
@@ -91,8 +91,8 @@ one_meaning again language text m n a b = sym a.3 ∙ (same_source again languag
 
 pub no_fault : SourcesAreRead → (language : Language) (text : List ℕ) (m : Meaning) (f : Fault) → Says language text m → HasFirstFault language text f → ⊥
 no_fault again language text m f a b =
-    let e : first_of (faults_of text a.0) ≡ some f = (same_source again language text a.0 b.0 a.1 b.1).1 ∙ b.2.0 in
-    let n : first_of (faults_of text a.0) ≡ None = ap first_of a.2 in
+    let e : first_of (faults_of language text a.0) ≡ some f = (same_source again language text a.0 b.0 a.1 b.1).1 ∙ b.2.0 in
+    let n : first_of (faults_of language text a.0) ≡ None = ap first_of a.2 in
     cc (e, n)
 
 pub one_fault : SourcesAreRead → (language : Language) (text : List ℕ) (f g : Fault) → HasFirstFault language text f → HasFirstFault language text g → f ≡ g

@@ -4,6 +4,7 @@ use Rattle.std.specs.Prelude.{fold}
 use Rattle.std.proofs.lemmas.Grind.{fold-append}
 use Rattle.std.proofs.lemmas.List.{append-nil}
 use Rattle.std.proofs.Math.Seq.{take-suc}
+use Rattle.dt_lexeme.specs.declared.language.Language.{Language}
 use Rattle.dt_lexeme.specs.declared.lexeme.Lexeme.{Lexeme}
 use Rattle.dt_lexeme.specs.declared.lexeme.Kind.{Kind}
 use Rattle.dt_lexeme.specs.declared.lexeme.Kind.TheVariants.{Comma}
@@ -100,8 +101,8 @@ labels_all i ts h k e =
 
 -- ---- further pieces
 
-abbrev pub pieces_left : List ℕ → ℕ → List Lexeme → Part (List (List Piece))
-pieces_left text n ts = many stays (λ s ts. comma_at text ts) n tt ts
+abbrev pub pieces_left : Language → List ℕ → ℕ → List Lexeme → Part (List (List Piece))
+pieces_left language text n ts = many stays (λ s ts. comma_at language text ts) n tt ts
 
 put_concat : (b : Built) (xs : List (List Piece)) → fold put_all b xs ≡ put_all b (concat_pieces xs)
 put_concat b [] = refl
@@ -111,71 +112,71 @@ pieces_read : (b b' : Built) (x : List Piece) (f : Option Fault) → put_all b x
 pieces_read b b' x f e (Ok y) = ap (λ (z : Built). Ok (z, earlier f y.1, y.2)) (put_concat b' y.0 ∙ ap (λ (z : Built). put_all z (concat_pieces y.0)) (sym e) ∙ sym (fold-append put b x (concat_pieces y.0)))
 pieces_read b b' x f e (Err r) = refl
 
-pub pieces_begin : (text : List ℕ) (b b' : Built) (f : Option Fault) (ts left : List Lexeme) → into b (placed_at text ts) ≡ Ok (b', f, left)
-    → (n : ℕ) × (length left < n) × (folded put_all b' f (pieces_left text n left) ≡ into b (pieces_at text ts))
+pub pieces_begin : (language : Language) (text : List ℕ) (b b' : Built) (f : Option Fault) (ts left : List Lexeme) → into b (placed_at language text ts) ≡ Ok (b', f, left)
+    → (n : ℕ) × (length left < n) × (folded put_all b' f (pieces_left language text n left) ≡ into b (pieces_at language text ts))
 unfolding pieces_at
-pieces_begin text b b' f ts left e = go (placed_at text ts) refl e
+pieces_begin language text b b' f ts left e = go (placed_at language text ts) refl e
   where
-    go : (read : Part (List Piece)) → placed_at text ts ≡ read → into b read ≡ Ok (b', f, left) → (n : ℕ) × (length left < n) × (folded put_all b' f (pieces_left text n left) ≡ into b (placed_at text ts >>= λ x. (many stays (λ s ts. comma_at text ts) (suc (length x.2)) tt x.2 >>= λ y. Ok (x.0 ++ concat_pieces y.0, earlier x.1 y.1, y.2))))
+    go : (read : Part (List Piece)) → placed_at language text ts ≡ read → into b read ≡ Ok (b', f, left) → (n : ℕ) × (length left < n) × (folded put_all b' f (pieces_left language text n left) ≡ into b (placed_at language text ts >>= λ x. (many stays (λ s ts. comma_at language text ts) (suc (length x.2)) tt x.2 >>= λ y. Ok (x.0 ++ concat_pieces y.0, earlier x.1 y.1, y.2))))
     go (Err r) h e = absurd cc
     go (Ok y) h e =
         let p = ok_is (put_all b y.0, y.1, y.2) (b', f, left) e in
         let q : left ≡ y.2 = sym (ap (λ (z : Built × Option Fault × List Lexeme). z.2) p) in
         let g : f ≡ y.1 = sym (ap (λ (z : Built × Option Fault × List Lexeme). z.1) p) in
-        (suc (length left), omega arith, rw (h, q, g) (pieces_read b b' y.0 y.1 (ap (λ (z : Built × Option Fault × List Lexeme). z.0) p) (pieces_left text (suc (length y.2)) y.2)))
+        (suc (length left), omega arith, rw (h, q, g) (pieces_read b b' y.0 y.1 (ap (λ (z : Built × Option Fault × List Lexeme). z.0) p) (pieces_left language text (suc (length y.2)) y.2)))
 
-pub pieces_begin_fails : (text : List ℕ) (b : Built) (ts : List Lexeme) (x : ReadError) → Fails x (into b (placed_at text ts)) → Fails x (into b (pieces_at text ts))
+pub pieces_begin_fails : (language : Language) (text : List ℕ) (b : Built) (ts : List Lexeme) (x : ReadError) → Fails x (into b (placed_at language text ts)) → Fails x (into b (pieces_at language text ts))
 unfolding pieces_at
-pieces_begin_fails text b ts errors.NoMemory e = tt
-pieces_begin_fails text b ts (errors.Refused r) e = go (placed_at text ts) refl e
+pieces_begin_fails language text b ts errors.NoMemory e = tt
+pieces_begin_fails language text b ts (errors.Refused r) e = go (placed_at language text ts) refl e
   where
-    go : (read : Part (List Piece)) → placed_at text ts ≡ read → into b read ≡ Err r → into b (placed_at text ts >>= λ x. (many stays (λ s ts. comma_at text ts) (suc (length x.2)) tt x.2 >>= λ y. Ok (x.0 ++ concat_pieces y.0, earlier x.1 y.1, y.2))) ≡ Err r
+    go : (read : Part (List Piece)) → placed_at language text ts ≡ read → into b read ≡ Err r → into b (placed_at language text ts >>= λ x. (many stays (λ s ts. comma_at language text ts) (suc (length x.2)) tt x.2 >>= λ y. Ok (x.0 ++ concat_pieces y.0, earlier x.1 y.1, y.2))) ≡ Err r
     go (Err s) h e = rw h e
     go (Ok y) h e = absurd cc
 
-comma_some : (text : List ℕ) (ts rest : List Lexeme) → comma_rest ts ≡ Some rest → comma_at text ts ≡ (placed_at text rest >>= λ y. Ok (Some y.0, y.1, y.2))
-comma_some text [] rest e = absurd cc
-comma_some text (t ∷ ts) rest e = go t.kind e
+comma_some : (language : Language) (text : List ℕ) (ts rest : List Lexeme) → comma_rest ts ≡ Some rest → comma_at language text ts ≡ (placed_at language text rest >>= λ y. Ok (Some y.0, y.1, y.2))
+comma_some language text [] rest e = absurd cc
+comma_some language text (t ∷ ts) rest e = go t.kind e
   where
-    go : (k : Kind) → comma_by_kind k ts ≡ Some rest → comma_by text k t ts ≡ (placed_at text rest >>= λ y. Ok (Some y.0, y.1, y.2))
+    go : (k : Kind) → comma_by_kind k ts ≡ Some rest → comma_by language text k t ts ≡ (placed_at language text rest >>= λ y. Ok (Some y.0, y.1, y.2))
     go Comma e = let p : ts ≡ rest = cc in rw p refl
     go _ e = absurd cc
 
-comma_none : (text : List ℕ) (ts : List Lexeme) → comma_rest ts ≡ None → comma_at text ts ≡ Ok (None, None, ts)
-comma_none text [] e = refl
-comma_none text (t ∷ ts) e = go t.kind e
+comma_none : (language : Language) (text : List ℕ) (ts : List Lexeme) → comma_rest ts ≡ None → comma_at language text ts ≡ Ok (None, None, ts)
+comma_none language text [] e = refl
+comma_none language text (t ∷ ts) e = go t.kind e
   where
-    go : (k : Kind) → comma_by_kind k ts ≡ None → comma_by text k t ts ≡ Ok (None, None, t ∷ ts)
+    go : (k : Kind) → comma_by_kind k ts ≡ None → comma_by language text k t ts ≡ Ok (None, None, t ∷ ts)
     go Comma e = absurd cc
     go _ e = refl
 
-pub pieces_more : (text : List ℕ) (n : ℕ) (left : List Lexeme) (b : Built) (f : Option Fault) (rest : List Lexeme) (b' : Built) (g : Option Fault) (after : List Lexeme) (total : Part Built)
-    → comma_rest left ≡ Some rest → into b (placed_at text rest) ≡ Ok (b', g, after) → length after < length left → length left < n → folded put_all b f (pieces_left text n left) ≡ total
-    → (m : ℕ) × (length after < m) × (folded put_all b' (earlier f g) (pieces_left text m after) ≡ total)
-pieces_more text n left b f rest b' g after total c e l k t = go (placed_at text rest) refl e
+pub pieces_more : (language : Language) (text : List ℕ) (n : ℕ) (left : List Lexeme) (b : Built) (f : Option Fault) (rest : List Lexeme) (b' : Built) (g : Option Fault) (after : List Lexeme) (total : Part Built)
+    → comma_rest left ≡ Some rest → into b (placed_at language text rest) ≡ Ok (b', g, after) → length after < length left → length left < n → folded put_all b f (pieces_left language text n left) ≡ total
+    → (m : ℕ) × (length after < m) × (folded put_all b' (earlier f g) (pieces_left language text m after) ≡ total)
+pieces_more language text n left b f rest b' g after total c e l k t = go (placed_at language text rest) refl e
   where
-    go : (read : Part (List Piece)) → placed_at text rest ≡ read → into b read ≡ Ok (b', g, after) → (m : ℕ) × (length after < m) × (folded put_all b' (earlier f g) (pieces_left text m after) ≡ total)
+    go : (read : Part (List Piece)) → placed_at language text rest ≡ read → into b read ≡ Ok (b', g, after) → (m : ℕ) × (length after < m) × (folded put_all b' (earlier f g) (pieces_left language text m after) ≡ total)
     go (Err r) h e = absurd cc
     go (Ok y) h e =
         let p = ok_is (put_all b y.0, y.1, y.2) (b', g, after) e in
-        let one : comma_at text left ≡ Ok (Some y.0, g, after) = comma_some text left rest c ∙ rw h (ap (λ (z : Built × Option Fault × List Lexeme). Ok (Some y.0, z.1, z.2)) p) in
-        let m = many_more stays (λ s ts. comma_at text ts) put_all n tt left b f y.0 g after total one l k t in
-        (m.0, m.1, subst (λ (z : Built). folded put_all z (earlier f g) (pieces_left text m.0 after) ≡ total) (ap (λ (z : Built × Option Fault × List Lexeme). z.0) p) m.2)
+        let one : comma_at language text left ≡ Ok (Some y.0, g, after) = comma_some language text left rest c ∙ rw h (ap (λ (z : Built × Option Fault × List Lexeme). Ok (Some y.0, z.1, z.2)) p) in
+        let m = many_more stays (λ s ts. comma_at language text ts) put_all n tt left b f y.0 g after total one l k t in
+        (m.0, m.1, subst (λ (z : Built). folded put_all z (earlier f g) (pieces_left language text m.0 after) ≡ total) (ap (λ (z : Built × Option Fault × List Lexeme). z.0) p) m.2)
 
-pub pieces_fail : (text : List ℕ) (n : ℕ) (left : List Lexeme) (b : Built) (f : Option Fault) (rest : List Lexeme) (x : ReadError) (total : Part Built)
-    → comma_rest left ≡ Some rest → Fails x (into b (placed_at text rest)) → length left < n → folded put_all b f (pieces_left text n left) ≡ total → Fails x total
-pieces_fail text n left b f rest errors.NoMemory total c e k t = tt
-pieces_fail text n left b f rest (errors.Refused r) total c e k t = go (placed_at text rest) refl e
+pub pieces_fail : (language : Language) (text : List ℕ) (n : ℕ) (left : List Lexeme) (b : Built) (f : Option Fault) (rest : List Lexeme) (x : ReadError) (total : Part Built)
+    → comma_rest left ≡ Some rest → Fails x (into b (placed_at language text rest)) → length left < n → folded put_all b f (pieces_left language text n left) ≡ total → Fails x total
+pieces_fail language text n left b f rest errors.NoMemory total c e k t = tt
+pieces_fail language text n left b f rest (errors.Refused r) total c e k t = go (placed_at language text rest) refl e
   where
-    go : (read : Part (List Piece)) → placed_at text rest ≡ read → into b read ≡ Err r → total ≡ Err r
+    go : (read : Part (List Piece)) → placed_at language text rest ≡ read → into b read ≡ Err r → total ≡ Err r
     go (Ok y) h e = absurd cc
     go (Err s) h e =
-        let one : comma_at text left ≡ Err r = comma_some text left rest c ∙ rw h (ap (λ (z : Part Built). z >>= λ y. Err s) e ∙ cc) in
-        many_fails stays (λ s ts. comma_at text ts) put_all n tt left b f r total one k t
+        let one : comma_at language text left ≡ Err r = comma_some language text left rest c ∙ rw h (ap (λ (z : Part Built). z >>= λ y. Err s) e ∙ cc) in
+        many_fails stays (λ s ts. comma_at language text ts) put_all n tt left b f r total one k t
 
-pub pieces_end : (text : List ℕ) (n : ℕ) (left : List Lexeme) (b : Built) (f : Option Fault) (total : Part Built)
-    → comma_rest left ≡ None → length left < n → folded put_all b f (pieces_left text n left) ≡ total → total ≡ Ok (b, f, left)
-pieces_end text n left b f total c k t = many_end stays (λ s ts. comma_at text ts) put_all n tt left b f None left total (comma_none text left c) k t ∙ ap (λ (x : Option Fault). Ok (b, x, left)) (earlier_none f)
+pub pieces_end : (language : Language) (text : List ℕ) (n : ℕ) (left : List Lexeme) (b : Built) (f : Option Fault) (total : Part Built)
+    → comma_rest left ≡ None → length left < n → folded put_all b f (pieces_left language text n left) ≡ total → total ≡ Ok (b, f, left)
+pieces_end language text n left b f total c k t = many_end stays (λ s ts. comma_at language text ts) put_all n tt left b f None left total (comma_none language text left c) k t ∙ ap (λ (x : Option Fault). Ok (b, x, left)) (earlier_none f)
 
 -- ---- the parts of a value
 
@@ -226,9 +227,9 @@ flushed_all b (Stored at o n ∷ ps) =
 abbrev pub empty : Built
 empty = record { closed = []; bytes = [] }
 
-pub value_is : (text : List ℕ) (b : Built) (f : Option Fault) (ts rest : List Lexeme) → into empty (pieces_at text ts) ≡ Ok (b, f, rest) → value_at text ts ≡ Ok (flushed b, f, rest)
+pub value_is : (language : Language) (text : List ℕ) (b : Built) (f : Option Fault) (ts rest : List Lexeme) → into empty (pieces_at language text ts) ≡ Ok (b, f, rest) → value_at language text ts ≡ Ok (flushed b, f, rest)
 unfolding value_at
-value_is text b f ts rest e = go (pieces_at text ts) e
+value_is language text b f ts rest e = go (pieces_at language text ts) e
   where
     go : (read : Part (List Piece)) → into empty read ≡ Ok (b, f, rest) → ◌>>=◌ {B = List Piece × Option Fault × List Lexeme} read (λ y. Ok (joined y.0, y.1, y.2)) ≡ Ok (flushed b, f, rest)
     go (Err r) e = absurd cc
@@ -236,10 +237,10 @@ value_is text b f ts rest e = go (pieces_at text ts) e
         let p = ok_is (put_all empty y.0, y.1, y.2) (b, f, rest) e in
         ap (λ (x : List Piece). Ok (x, y.1, y.2)) (sym (flushed_all empty y.0)) ∙ ap (λ (z : Built × Option Fault × List Lexeme). Ok (flushed z.0, z.1, z.2)) p
 
-pub value_fails : (text : List ℕ) (ts : List Lexeme) (x : ReadError) → Fails x (into empty (pieces_at text ts)) → Fails x (value_at text ts)
+pub value_fails : (language : Language) (text : List ℕ) (ts : List Lexeme) (x : ReadError) → Fails x (into empty (pieces_at language text ts)) → Fails x (value_at language text ts)
 unfolding value_at
-value_fails text ts errors.NoMemory e = tt
-value_fails text ts (errors.Refused r) e = go (pieces_at text ts) e
+value_fails language text ts errors.NoMemory e = tt
+value_fails language text ts (errors.Refused r) e = go (pieces_at language text ts) e
   where
     go : (read : Part (List Piece)) → into empty read ≡ Err r → ◌>>=◌ {B = List Piece × Option Fault × List Lexeme} read (λ y. Ok (joined y.0, y.1, y.2)) ≡ Err r
     go (Err s) e = cc

@@ -1,6 +1,7 @@
 -- Headers and reservations that are spelled are read.
 use Rattle.std.proofs.Common.{◌≡◌, ℕ, suc, ◌<◌, Bool, true, false, List, [], ◌∷◌, length, map, Ok, Option, Some, None, refl, sym, ap, subst, ◌∙◌, arith, inl, inr}
 use Rattle.std.specs.Prelude.{flat_map, fold}
+use Rattle.dt_lexeme.specs.declared.language.Language.{Language}
 use Rattle.dt_lexeme.specs.declared.lexeme.Lexeme.{Lexeme}
 use Rattle.dt_lexeme.specs.declared.lexeme.Fault.{Fault}
 use Rattle.dt_lexeme.specs.declared.lexeme.Kind.{Kind}
@@ -63,11 +64,11 @@ reference_opens : (l : Lexeme) → IsReference l.kind → is_opening l.kind ≡ 
 reference_opens l (inl k) = ap is_opening k
 reference_opens l (inr k) = ap is_opening k
 
-pub item_opens : (i : ItemTree) (ts rest : List Lexeme) → SpellsItem i ts rest → Opens ts
-item_opens (Root s) ts rest h = opening_begins Slash refl ts h.0 h.1
-item_opens (Extend ls l s) ts rest h = labels_open ls ts h.0 h.2 (subst Opens (sym h.3.1) (reference_opens l h.3.0))
-item_opens (Delete l) ts rest h = opening_begins DeleteNode refl ts h.0 h.2
-item_opens (Omit l) ts rest h = opening_begins OmitIfNoRef refl ts h.0 h.2
+pub item_opens : (language : Language) (i : ItemTree) (ts rest : List Lexeme) → SpellsItem language i ts rest → Opens ts
+item_opens language (Root s) ts rest h = opening_begins Slash refl ts h.0 h.1
+item_opens language (Extend ls l s) ts rest h = labels_open ls ts h.0 h.2 (subst Opens (sym h.3.1) (reference_opens l h.3.0))
+item_opens language (Delete l) ts rest h = opening_begins DeleteNode refl ts h.0 h.2
+item_opens language (Omit l) ts rest h = opening_begins OmitIfNoRef refl ts h.0 h.2
 
 no_plugin : (k : Kind) → is_opening k ≡ true → is_plugin k ≡ false
 no_plugin Plugin h = absurd cc
@@ -176,9 +177,9 @@ extend_item : (text : List ℕ) (l : Lexeme) (whole us : List Lexeme) → IsRefe
 extend_item text l whole us (inl k) = ap (λ (x : Kind). reserve_kind text whole x us) k
 extend_item text l whole us (inr k) = ap (λ (x : Kind). reserve_kind text whole x us) k
 
-pub item_no_reserve : (text : List ℕ) (i : ItemTree) (ts rest : List Lexeme) → SpellsItem i ts rest → reserve_at text ts ≡ Ok (None, None, ts)
-item_no_reserve text (Root s) ts rest h = unlabelled_item text Slash refl (λ whole ts. refl) ts h.0 h.1
-item_no_reserve text (Extend ls l s) ts rest h =
+pub item_no_reserve : (language : Language) (text : List ℕ) (i : ItemTree) (ts rest : List Lexeme) → SpellsItem language i ts rest → reserve_at text ts ≡ Ok (None, None, ts)
+item_no_reserve language text (Root s) ts rest h = unlabelled_item text Slash refl (λ whole ts. refl) ts h.0 h.1
+item_no_reserve language text (Extend ls l s) ts rest h =
     labelled_reserve text ls ts h.0 h.2 (subst NoLabel (sym h.3.1) (reference_front l h.3.0)) ∙ ap (reserve_with text ts) h.3.1 ∙ extend_item text l ts h.1 h.3.0
-item_no_reserve text (Delete l) ts rest h = unlabelled_item text DeleteNode refl (λ whole ts. refl) ts h.0 h.2
-item_no_reserve text (Omit l) ts rest h = unlabelled_item text OmitIfNoRef refl (λ whole ts. refl) ts h.0 h.2
+item_no_reserve language text (Delete l) ts rest h = unlabelled_item text DeleteNode refl (λ whole ts. refl) ts h.0 h.2
+item_no_reserve language text (Omit l) ts rest h = unlabelled_item text OmitIfNoRef refl (λ whole ts. refl) ts h.0 h.2

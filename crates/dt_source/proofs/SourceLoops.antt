@@ -2,6 +2,7 @@
 use Rattle.std.proofs.Common.{◌≡◌, ℕ, suc, ◌<◌, Bool, List, [], ◌∷◌, ◌++◌, length, Option, Some, None, Ok, Err, refl, sym, ap, ◌∙◌, append_assoc, arith}
 use Rattle.std.specs.Prelude.{fold, flat_map}
 use Rattle.std.proofs.lemmas.List.{append-nil}
+use Rattle.dt_lexeme.specs.declared.language.Language.{Language}
 use Rattle.dt_lexeme.specs.declared.lexeme.Lexeme.{Lexeme}
 use Rattle.dt_lexeme.specs.declared.lexeme.Fault.{Fault}
 use Rattle.dt_lexeme.specs.declared.lexeme.Refusal.{Refusal}
@@ -77,23 +78,23 @@ reserves_fail text n left b f r total e k t = many_fails stays (λ s ts. reserve
 
 -- ---- items
 
-abbrev pub items_left : List ℕ → ℕ → List Lexeme → Part (List Edit)
-items_left text n ts = many stays (λ s ts. item_at text ts) n tt ts
+abbrev pub items_left : Language → List ℕ → ℕ → List Lexeme → Part (List Edit)
+items_left language text n ts = many stays (λ s ts. item_at language text ts) n tt ts
 
-pub items_begin : (text : List ℕ) (ts : List Lexeme) → (n : ℕ) × (length ts < n) × (folded snoc [] None (items_left text n ts) ≡ all_items_at text ts)
+pub items_begin : (language : Language) (text : List ℕ) (ts : List Lexeme) → (n : ℕ) × (length ts < n) × (folded snoc [] None (items_left language text n ts) ≡ all_items_at language text ts)
 unfolding all_items_at
-items_begin text ts = (suc (length ts), omega arith, snoc_read (items_left text (suc (length ts)) ts))
+items_begin language text ts = (suc (length ts), omega arith, snoc_read (items_left language text (suc (length ts)) ts))
 
-pub items_more : (text : List ℕ) (n : ℕ) (left : List Lexeme) (b : List Edit) (f : Option Fault) (e : Edit) (g : Option Fault) (rest : List Lexeme) (total : Part (List Edit))
-    → item_at text left ≡ Ok (Some e, g, rest) → length rest < length left → length left < n → folded snoc b f (items_left text n left) ≡ total
-    → (m : ℕ) × (length rest < m) × (folded snoc (b ++ e ∷ []) (earlier f g) (items_left text m rest) ≡ total)
-items_more text n left b f e g rest total h = many_more stays (λ s ts. item_at text ts) snoc n tt left b f e g rest total h
+pub items_more : (language : Language) (text : List ℕ) (n : ℕ) (left : List Lexeme) (b : List Edit) (f : Option Fault) (e : Edit) (g : Option Fault) (rest : List Lexeme) (total : Part (List Edit))
+    → item_at language text left ≡ Ok (Some e, g, rest) → length rest < length left → length left < n → folded snoc b f (items_left language text n left) ≡ total
+    → (m : ℕ) × (length rest < m) × (folded snoc (b ++ e ∷ []) (earlier f g) (items_left language text m rest) ≡ total)
+items_more language text n left b f e g rest total h = many_more stays (λ s ts. item_at language text ts) snoc n tt left b f e g rest total h
 
-pub items_end : (text : List ℕ) (n : ℕ) (left : List Lexeme) (b : List Edit) (f g : Option Fault) (rest : List Lexeme) (total : Part (List Edit))
-    → item_at text left ≡ Ok (None, g, rest) → length left < n → folded snoc b f (items_left text n left) ≡ total → total ≡ Ok (b, earlier f g, rest)
-items_end text n left b f g rest total h k t = many_end stays (λ s ts. item_at text ts) snoc n tt left b f g rest total h k t
+pub items_end : (language : Language) (text : List ℕ) (n : ℕ) (left : List Lexeme) (b : List Edit) (f g : Option Fault) (rest : List Lexeme) (total : Part (List Edit))
+    → item_at language text left ≡ Ok (None, g, rest) → length left < n → folded snoc b f (items_left language text n left) ≡ total → total ≡ Ok (b, earlier f g, rest)
+items_end language text n left b f g rest total h k t = many_end stays (λ s ts. item_at language text ts) snoc n tt left b f g rest total h k t
 
-pub items_fail : (text : List ℕ) (n : ℕ) (left : List Lexeme) (b : List Edit) (f : Option Fault) (x : ReadError) (total : Part (List Edit))
-    → Fails x (item_at text left) → length left < n → folded snoc b f (items_left text n left) ≡ total → Fails x total
-items_fail text n left b f errors.NoMemory total h k t = tt
-items_fail text n left b f (errors.Refused r) total h k t = many_fails stays (λ s ts. item_at text ts) snoc n tt left b f r total h k t
+pub items_fail : (language : Language) (text : List ℕ) (n : ℕ) (left : List Lexeme) (b : List Edit) (f : Option Fault) (x : ReadError) (total : Part (List Edit))
+    → Fails x (item_at language text left) → length left < n → folded snoc b f (items_left language text n left) ≡ total → Fails x total
+items_fail language text n left b f errors.NoMemory total h k t = tt
+items_fail language text n left b f (errors.Refused r) total h k t = many_fails stays (λ s ts. item_at language text ts) snoc n tt left b f r total h k t

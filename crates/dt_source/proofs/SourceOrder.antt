@@ -17,7 +17,7 @@ use Rattle.dt_source.specs.Sequences.{SpellsEach}
 use Rattle.dt_source.specs.Strings.{chars_with, char_step, with_char, escaped, escape_at, faults, string_faults}
 use Rattle.dt_source.specs.Pieces.{fault_in, cell_fault, reference_fault, width_at, width_in, lawful}
 use Rattle.dt_source.specs.Order.{first_of}
-use Rattle.dt_source.specs.Source.{CellTree, Element, Refers, Marks, PortionTree, Whole, Portion, PieceTree, Quoted, Points, Pairs, Cells, WideCells, Includes, Statements, End, Sets, Unsets, Holds, Drops, ReserveTree, ItemTree, Root, Extend, Delete, Omit, SourceTree, One, SpellsLabels, SpellsMarks, DropsLabels, SpellsCell, SpellsCells, OnePair, SpellsPortion, SpellsPiece, SpellsPlaced, SpellsFurther, SpellsValue, SpellsStatements, SpellsBody, SpellsItem, SpellsReserve, SpellsHeader, Spells, cell_of, fault_list, cells_faults, portion_values, portion_faults, piece_faults, width_said, value_faults, faults_in, item_faults, reserve_faults, faults_of}
+use Rattle.dt_source.specs.Source.{CellTree, Element, Refers, Marks, PortionTree, Whole, Portion, PieceTree, Quoted, Points, Pairs, Cells, WideCells, Includes, Statements, End, Sets, Unsets, Holds, Drops, ReserveTree, ItemTree, Root, Extend, Delete, Omit, SourceTree, One, SpellsLabels, SpellsMarks, DropsLabels, SpellsCell, SpellsCells, OnePair, SpellsPortion, SpellsPiece, SpellsPlaced, SpellsFurther, SpellsValue, BeginsDeletion, SpellsStatements, SpellsBody, SpellsItem, SpellsReserve, SpellsHeader, Spells, cell_of, fault_list, cells_faults, portion_values, portion_faults, piece_faults, width_said, value_faults, faults_in, item_faults, reserve_faults, faults_of}
 use Rattle.dt_source.specs.Order.{IsFirstInText}
 use Rattle.dt_lexeme.specs.Order.{Above}
 use Rattle.dt_lexeme.proofs.InOrder.{lexemes_above}
@@ -100,15 +100,15 @@ escaped_place place None f e = let k : ◌≡◌ {A = Fault} (record { kind = Ba
 some_value : (v w : Value) → Some v ≡ Some w → v ≡ w
 some_value v w e = cc
 
-step_place : (skip place c : ℕ) (cs : List ℕ) (f : Fault) → (char_step skip place c cs).0 ≡ Some (Err f) → f.place ≡ place
-step_place (suc skip) place c cs f e = absurd cc
-step_place zero place c cs f e = go (c == 92) e
+step_place : (language : Language) (skip place c : ℕ) (cs : List ℕ) (f : Fault) → (char_step language skip place c cs).0 ≡ Some (Err f) → f.place ≡ place
+step_place language (suc skip) place c cs f e = absurd cc
+step_place language zero place c cs f e = go (c == 92) e
   where
     char : Bool → Option Value × ℕ
-    char b = if b then (Some (escaped place (escape_at cs).0), (escape_at cs).1) else (Some (Ok c), 0)
+    char b = if b then (Some (escaped place (escape_at language cs).0), (escape_at language cs).1) else (Some (Ok c), 0)
 
     go : (b : Bool) → (char b).0 ≡ Some (Err f) → f.place ≡ place
-    go true e = escaped_place place (escape_at cs).0 f (some_value _ _ e)
+    go true e = escaped_place place (escape_at language cs).0 f (some_value _ _ e)
     go false e = absurd cc
 
 char_within : (place q : ℕ) (o : Option Value) (vs : List Value) → ((f : Fault) → o ≡ Some (Err f) → f.place ≡ place) → Within (place + 1) q (faults vs) → Within place q (faults (with_char o vs))
@@ -117,13 +117,13 @@ char_within place q None vs h w = within_lower place (place + 1) q (faults vs) (
 char_within place q (Some (Ok n)) vs h w = within_lower place (place + 1) q (faults vs) (omega arith) w
 char_within place q (Some (Err f)) vs h w = let e = h f refl in (omega (arith, e), subst (λ (r : ℕ). Within (r + 1) q (faults vs)) (sym e) w)
 
-chars_within : (skip place : ℕ) (cs : List ℕ) → Within place (place + length cs) (faults (chars_with skip place cs))
+chars_within : (language : Language) (skip place : ℕ) (cs : List ℕ) → Within place (place + length cs) (faults (chars_with language skip place cs))
 unfolding chars_with Within
-chars_within skip place [] = omega arith
-chars_within skip place (c ∷ cs) =
-    let n = (char_step skip place c cs).1 in
+chars_within language skip place [] = omega arith
+chars_within language skip place (c ∷ cs) =
+    let n = (char_step language skip place c cs).1 in
     let e : place + 1 + length cs ≡ place + length (c ∷ cs) = omega arith in
-    char_within place (place + length (c ∷ cs)) (char_step skip place c cs).0 (chars_with n (place + 1) cs) (step_place skip place c cs) (subst (λ (q : ℕ). Within (place + 1) q (faults (chars_with n (place + 1) cs))) e (chars_within n (place + 1) cs))
+    char_within place (place + length (c ∷ cs)) (char_step language skip place c cs).0 (chars_with language n (place + 1) cs) (step_place language skip place c cs) (subst (λ (q : ℕ). Within (place + 1) q (faults (chars_with language n (place + 1) cs))) e (chars_within language n (place + 1) cs))
 
 within_upper : (p q r : ℕ) (fs : List Fault) → q ≤ r → Within p q fs → Within p r fs
 unfolding Within
@@ -133,14 +133,14 @@ within_upper p q r (f ∷ fs) le h = (h.0, within_upper (f.place + 1) q r fs le 
 range_length : (text : List ℕ) (i j : ℕ) → length (slice_range text i j) ≤ j - i
 range_length text i j = omega (arith, length-take (j - i) (drop i text))
 
-string_reach : (text : List ℕ) (l : Lexeme) (ts rest : List Lexeme) (p : ℕ) → Takes ts l rest → Above p ts → Reach p rest (string_faults text l)
-string_reach text l ts rest p take h =
+string_reach : (language : Language) (text : List ℕ) (l : Lexeme) (ts rest : List Lexeme) (p : ℕ) → Takes ts l rest → Above p ts → Reach p rest (string_faults language text l)
+string_reach language text l ts rest p take h =
     let t = takes_above p ts l rest take h in
     let inside = slice_range text (l.start + 1) (l.end - 1) in
-    let w = chars_within 0 (l.start + 1) inside in
+    let w = chars_within language 0 (l.start + 1) inside in
     record {
       to = l.end;
-      within = within_lower p (l.start + 1) l.end (string_faults text l) (omega (arith, t.0)) (within_upper (l.start + 1) (l.start + 1 + length inside) l.end (string_faults text l) (omega (arith, t.1, range_length text (l.start + 1) (l.end - 1))) w);
+      within = within_lower p (l.start + 1) l.end (string_faults language text l) (omega (arith, t.0)) (within_upper (l.start + 1) (l.start + 1 + length inside) l.end (string_faults language text l) (omega (arith, t.1, range_length text (l.start + 1) (l.end - 1))) w);
       above = t.2;
     }
 
@@ -165,66 +165,69 @@ portion_reach text (Portion o n) ts rest p (a, b, c, d, first, offset, mid, size
     reach_both p b rest (fault_list (fault_in (value_of text o))) (fault_list (fault_in (value_of text n))) (fault_reach p b (value_of text o) (value_reach text 64 0 o a b p offset.1 (begins_above p ts _ a first h)))
     (λ q g. reach_behind q d _ rest (fault_list (fault_in (value_of text n))) close (fault_reach q d (value_of text n) (value_reach text 64 0 n c d q size.1 (begins_above q b _ c mid g))))
 
-piece_reach : (text : List ℕ) (i : PieceTree) (ts rest : List Lexeme) (p : ℕ) → SpellsPiece i ts rest → Above p ts → Reach p rest (piece_faults text i)
-piece_reach text (Quoted l) ts rest p s h = string_reach text l ts rest p s.1 h
-piece_reach text (Points l) ts rest p s h = reach_none p rest (takes_rest p ts l rest s.1 h)
-piece_reach text (Pairs ls) ts rest p (a, b, open_, s, close) h =
+piece_reach : (language : Language) (text : List ℕ) (i : PieceTree) (ts rest : List Lexeme) (p : ℕ) → SpellsPiece i ts rest → Above p ts → Reach p rest (piece_faults language text i)
+piece_reach language text (Quoted l) ts rest p s h = string_reach language text l ts rest p s.1 h
+piece_reach language text (Points l) ts rest p s h = reach_none p rest (takes_rest p ts l rest s.1 h)
+piece_reach language text (Pairs ls) ts rest p (a, b, open_, s, close) h =
     reach_none p rest (begins_above p b _ rest close (each_above OnePair (λ l ts rest p s h. takes_rest p ts l rest s.1 h) ls a b p s (begins_above p ts _ a open_ h)))
-piece_reach text (Cells cs) ts rest p s h = cells_reach text (Some ThirtyTwo) cs ts rest p s h
-piece_reach text (WideCells l cs) ts rest p (a, b, bits, literal, s) h =
+piece_reach language text (Cells cs) ts rest p s h = cells_reach text (Some ThirtyTwo) cs ts rest p s h
+piece_reach language text (WideCells l cs) ts rest p (a, b, bits, literal, s) h =
     reach_both p b rest (fault_list (fault_in (width_said text l))) (cells_faults text (width_in (width_said text l)) cs) (width_reach text l a b p literal.1 (begins_above p ts _ a bits h))
     (λ q g. cells_reach text (width_in (width_said text l)) cs b rest q s g)
-piece_reach text (Includes w l i) ts rest p (a, b, c, word, open_, name, portion) h =
-    reach_both p c rest (string_faults text l) (portion_faults (portion_values text i)) (string_reach text l b c p name.1 (begins_above p a _ b open_ (takes_rest p ts w a word.1 h)))
+piece_reach language text (Includes w l i) ts rest p (a, b, c, word, open_, name, portion) h =
+    reach_both p c rest (string_faults language text l) (portion_faults (portion_values text i)) (string_reach language text l b c p name.1 (begins_above p a _ b open_ (takes_rest p ts w a word.1 h)))
     (λ q g. portion_reach text i c rest q portion g)
 
-placed_reach : (text : List ℕ) (i : PieceTree) (ts rest : List Lexeme) (p : ℕ) → SpellsPlaced i ts rest → Above p ts → Reach p rest (piece_faults text i)
-placed_reach text i ts rest p (a, b, before, s, behind) h =
-    let r = piece_reach text i a b p s (drops_above ts a p before h) in
+placed_reach : (language : Language) (text : List ℕ) (i : PieceTree) (ts rest : List Lexeme) (p : ℕ) → SpellsPlaced i ts rest → Above p ts → Reach p rest (piece_faults language text i)
+placed_reach language text i ts rest p (a, b, before, s, behind) h =
+    let r = piece_reach language text i a b p s (drops_above ts a p before h) in
     record { to = r.to; within = r.within; above = drops_above b rest r.to behind r.above }
 
-further_reach : (text : List ℕ) (i : PieceTree) (ts rest : List Lexeme) (p : ℕ) → SpellsFurther i ts rest → Above p ts → Reach p rest (piece_faults text i)
-further_reach text i ts rest p (a, comma, s) h = placed_reach text i a rest p s (begins_above p ts _ a comma h)
+further_reach : (language : Language) (text : List ℕ) (i : PieceTree) (ts rest : List Lexeme) (p : ℕ) → SpellsFurther i ts rest → Above p ts → Reach p rest (piece_faults language text i)
+further_reach language text i ts rest p (a, comma, s) h = placed_reach language text i a rest p s (begins_above p ts _ a comma h)
 
-pub values_reach : (text : List ℕ) (ps : List PieceTree) (ts rest : List Lexeme) (p : ℕ) → SpellsValue ps ts rest → Above p ts → Reach p rest (value_faults text ps)
-values_reach text [] ts rest p s h = reach_none p rest (subst (Above p) s h)
-values_reach text (i ∷ is) ts rest p (a, b, equals, s, more) h =
-    reach_both p b rest (piece_faults text i) (value_faults text is) (placed_reach text i a b p s (begins_above p ts _ a equals h))
-    (λ q g. each_reach SpellsFurther (piece_faults text) (further_reach text) is b rest q more g)
+pub values_reach : (language : Language) (text : List ℕ) (ps : List PieceTree) (ts rest : List Lexeme) (p : ℕ) → SpellsValue ps ts rest → Above p ts → Reach p rest (value_faults language text ps)
+values_reach language text [] ts rest p s h = reach_none p rest (subst (Above p) s h)
+values_reach language text (i ∷ is) ts rest p (a, b, equals, s, more) h =
+    reach_both p b rest (piece_faults language text i) (value_faults language text is) (placed_reach language text i a b p s (begins_above p ts _ a equals h))
+    (λ q g. each_reach SpellsFurther (piece_faults language text) (further_reach language text) is b rest q more g)
 
 -- ---- bodies
 
 one_above : (k : Kind) (l : Lexeme) (ts rest : List Lexeme) (p : ℕ) → One k l ts rest → Above p ts → Above p rest
 one_above k l ts rest p s h = takes_rest p ts l rest s.1 h
 
-pub statements_reach : (text : List ℕ) (depth : ℕ) (nodes : Bool) (i : Statements) (ts rest : List Lexeme) (p : ℕ) → SpellsStatements depth nodes i ts rest → Above p ts → Reach p rest (faults_in text i)
-unfolding SpellsStatements faults_in
-statements_reach text depth nodes End ts rest p s h = reach_none p rest (begins_above p ts _ rest s h)
-statements_reach text depth nodes (Sets ls n v more) ts rest p (k, a, b, c, d, labels, name, value, semicolon, others) h =
-    reach_both p d rest (value_faults text v) (faults_in text more)
-    (reach_behind p c _ d (value_faults text v) semicolon (values_reach text v b c p value (one_above _ n a b p name (labels_above ls ts a p labels h))))
-    (λ q g. statements_reach text depth false more d rest q others g)
-statements_reach text depth nodes (Unsets n more) ts rest p (k, a, b, c, keyword, name, semicolon, others) h =
-    statements_reach text depth false more c rest p others (begins_above p b _ c semicolon (one_above _ n a b p name (begins_above p ts _ a keyword h)))
-statements_reach text zero nodes (Holds ls n body more) ts rest p (a, b, c, d, e, labels, name, brace, inner, semicolon, others) h = absurd inner
-statements_reach text (suc depth) nodes (Holds ls n body more) ts rest p (a, b, c, d, e, labels, name, brace, inner, semicolon, others) h =
-    reach_both p e rest (faults_in text body) (faults_in text more)
-    (reach_behind p d _ e (faults_in text body) semicolon (statements_reach text depth false body c d p inner (begins_above p b _ c brace (one_above _ n a b p name (marks_above ls ts a p labels h)))))
-    (λ q g. statements_reach text (suc depth) true more e rest q others g)
-statements_reach text depth nodes (Drops n more) ts rest p (a, b, c, keyword, name, semicolon, others) h =
-    statements_reach text depth true more c rest p others (begins_above p b _ c semicolon (one_above _ n a b p name (begins_above p ts _ a keyword h)))
+deletion_above : (language : Language) (k : Kind) (ts rest : List Lexeme) (p : ℕ) → BeginsDeletion language k ts rest → Above p ts → Above p rest
+deletion_above language k ts rest p (ms, a, marks, fit, keyword) h = begins_above p a k rest keyword (marks_above ms ts a p marks h)
 
-body_reach : (text : List ℕ) (i : Statements) (ts rest : List Lexeme) (p : ℕ) → SpellsBody i ts rest → Above p ts → Reach p rest (faults_in text i)
-body_reach text i ts rest p (a, b, brace, s, semicolon) h =
-    reach_behind p b _ rest (faults_in text i) semicolon (statements_reach text 64 false i a b p s (begins_above p ts _ a brace h))
+pub statements_reach : (language : Language) (text : List ℕ) (depth : ℕ) (nodes : Bool) (i : Statements) (ts rest : List Lexeme) (p : ℕ) → SpellsStatements language depth nodes i ts rest → Above p ts → Reach p rest (faults_in language text i)
+unfolding SpellsStatements faults_in
+statements_reach language text depth nodes End ts rest p s h = reach_none p rest (begins_above p ts _ rest s h)
+statements_reach language text depth nodes (Sets ls n v more) ts rest p (k, a, b, c, d, labels, name, value, semicolon, others) h =
+    reach_both p d rest (value_faults language text v) (faults_in language text more)
+    (reach_behind p c _ d (value_faults language text v) semicolon (values_reach language text v b c p value (one_above _ n a b p name (labels_above ls ts a p labels h))))
+    (λ q g. statements_reach language text depth false more d rest q others g)
+statements_reach language text depth nodes (Unsets n more) ts rest p (k, a, b, c, keyword, name, semicolon, others) h =
+    statements_reach language text depth false more c rest p others (begins_above p b _ c semicolon (one_above _ n a b p name (deletion_above language _ ts a p keyword h)))
+statements_reach language text zero nodes (Holds ls n body more) ts rest p (a, b, c, d, e, labels, name, brace, inner, semicolon, others) h = absurd inner
+statements_reach language text (suc depth) nodes (Holds ls n body more) ts rest p (a, b, c, d, e, labels, name, brace, inner, semicolon, others) h =
+    reach_both p e rest (faults_in language text body) (faults_in language text more)
+    (reach_behind p d _ e (faults_in language text body) semicolon (statements_reach language text depth false body c d p inner (begins_above p b _ c brace (one_above _ n a b p name (marks_above ls ts a p labels h)))))
+    (λ q g. statements_reach language text (suc depth) true more e rest q others g)
+statements_reach language text depth nodes (Drops n more) ts rest p (a, b, c, keyword, name, semicolon, others) h =
+    statements_reach language text depth true more c rest p others (begins_above p b _ c semicolon (one_above _ n a b p name (deletion_above language _ ts a p keyword h)))
+
+body_reach : (language : Language) (text : List ℕ) (i : Statements) (ts rest : List Lexeme) (p : ℕ) → SpellsBody language i ts rest → Above p ts → Reach p rest (faults_in language text i)
+body_reach language text i ts rest p (a, b, brace, s, semicolon) h =
+    reach_behind p b _ rest (faults_in language text i) semicolon (statements_reach language text 64 false i a b p s (begins_above p ts _ a brace h))
 
 -- ---- items, reservations, headers
 
-item_reach : (text : List ℕ) (i : ItemTree) (ts rest : List Lexeme) (p : ℕ) → SpellsItem i ts rest → Above p ts → Reach p rest (item_faults text i)
-item_reach text (Root s) ts rest p (a, slash, b) h = body_reach text s a rest p b (begins_above p ts _ a slash h)
-item_reach text (Extend ls l s) ts rest p (a, b, labels, reference, body) h = body_reach text s b rest p body (takes_rest p a l b reference.1 (labels_above ls ts a p labels h))
-item_reach text (Delete l) ts rest p (a, b, keyword, reference, semicolon) h = reach_none p rest (begins_above p b _ rest semicolon (takes_rest p a l b reference.1 (begins_above p ts _ a keyword h)))
-item_reach text (Omit l) ts rest p (a, b, keyword, reference, semicolon) h = reach_none p rest (begins_above p b _ rest semicolon (takes_rest p a l b reference.1 (begins_above p ts _ a keyword h)))
+item_reach : (language : Language) (text : List ℕ) (i : ItemTree) (ts rest : List Lexeme) (p : ℕ) → SpellsItem language i ts rest → Above p ts → Reach p rest (item_faults language text i)
+item_reach language text (Root s) ts rest p (a, slash, b) h = body_reach language text s a rest p b (begins_above p ts _ a slash h)
+item_reach language text (Extend ls l s) ts rest p (a, b, labels, reference, body, few) h = body_reach language text s b rest p body (takes_rest p a l b reference.1 (labels_above ls ts a p labels h))
+item_reach language text (Delete l) ts rest p (a, b, keyword, reference, semicolon) h = reach_none p rest (begins_above p b _ rest semicolon (takes_rest p a l b reference.1 (begins_above p ts _ a keyword h)))
+item_reach language text (Omit l) ts rest p (a, b, keyword, reference, semicolon) h = reach_none p rest (begins_above p b _ rest semicolon (takes_rest p a l b reference.1 (begins_above p ts _ a keyword h)))
 
 reserve_reach : (text : List ℕ) (i : ReserveTree) (ts rest : List Lexeme) (p : ℕ) → SpellsReserve i ts rest → Above p ts → Reach p rest (reserve_faults text i)
 reserve_reach text i ts rest p (a, b, c, d, labels, keyword, address, size, semicolon) h =
@@ -236,12 +239,12 @@ header_above : (i : Bool) (ts rest : List Lexeme) (p : ℕ) → SpellsHeader i t
 header_above false ts rest p (a, version, semicolon) h = begins_above p a _ rest semicolon (begins_above p ts _ a version h)
 header_above true ts rest p (a, b, c, version, semicolon, plugin, again) h = begins_above p c _ rest again (begins_above p b _ c plugin (begins_above p a _ b semicolon (begins_above p ts _ a version h)))
 
-pub source_reach : (text : List ℕ) (s : SourceTree) (ts : List Lexeme) (p : ℕ) → Spells s ts → Above p ts → Reach p [] (faults_of text s)
+pub source_reach : (language : Language) (text : List ℕ) (s : SourceTree) (ts : List Lexeme) (p : ℕ) → Spells language s ts → Above p ts → Reach p [] (faults_of language text s)
 unfolding Spells faults_of
-source_reach text s ts p (some_header, some_item, a, b, headers, reserves, items) h =
-    reach_both p b [] (flat_map (reserve_faults text) s.reserves) (flat_map (item_faults text) s.items)
+source_reach language text s ts p (some_header, some_item, a, b, headers, reserves, items) h =
+    reach_both p b [] (flat_map (reserve_faults text) s.reserves) (flat_map (item_faults language text) s.items)
     (each_reach SpellsReserve (reserve_faults text) (reserve_reach text) s.reserves a b p reserves (each_above SpellsHeader header_above s.headers ts a p headers h))
-    (λ q g. each_reach SpellsItem (item_faults text) (item_reach text) s.items b [] q items g)
+    (λ q g. each_reach (SpellsItem language) (item_faults language text) (item_reach language text) s.items b [] q items g)
 
 -- ---- the first of them
 
@@ -256,5 +259,5 @@ unfolding Within
 first_is_first p q [] h = refl
 first_is_first p q (f ∷ fs) h = ((0, omega arith, refl), none_before f.place f.place q (f ∷ fs) (omega arith) (omega arith, h.1))
 
-pub in_order : (language : Language) (text : List ℕ) (ls : List Lexeme) (s : SourceTree) → Lexemes language text ls → Spells s ls → IsFirstInText (first_of (faults_of text s)) (faults_of text s)
-in_order language text ls s h g = let r = source_reach text s ls 0 g (lexemes_above language text ls h) in first_is_first 0 r.to (faults_of text s) r.within
+pub in_order : (language : Language) (text : List ℕ) (ls : List Lexeme) (s : SourceTree) → Lexemes language text ls → Spells language s ls → IsFirstInText (first_of (faults_of language text s)) (faults_of language text s)
+in_order language text ls s h g = let r = source_reach language text s ls 0 g (lexemes_above language text ls h) in first_is_first 0 r.to (faults_of language text s) r.within

@@ -1,5 +1,6 @@
 -- Parts of files that are read are spelled, and the other way round.
 use Rattle.std.proofs.Common.{◌≡◌, ℕ, ◌<◌, List, [], ◌∷◌, ◌++◌, length, Ok, Option, Some, None, refl, ap, subst, ◌∙◌, arith}
+use Rattle.dt_lexeme.specs.declared.language.Language.{Language}
 use Rattle.dt_lexeme.specs.declared.lexeme.Lexeme.{Lexeme}
 use Rattle.dt_lexeme.specs.declared.lexeme.Fault.{Fault}
 use Rattle.dt_lexeme.specs.declared.lexeme.Kind.{Kind}
@@ -68,19 +69,19 @@ found {A = A} x y r q e =
 
 -- ---- names
 
-file_name_sound : (text : List ℕ) (ts : List Lexeme) (f : Option Fault) (rest : List Lexeme) → file_name_at text ts ≡ Ok (f, rest) → (l : Lexeme) × One Text l ts rest × (first_of (string_faults text l) ≡ f)
-file_name_sound text [] f rest e = absurd cc
-file_name_sound text (t ∷ ts) f rest e = go t.kind refl e
+file_name_sound : (language : Language) (text : List ℕ) (ts : List Lexeme) (f : Option Fault) (rest : List Lexeme) → file_name_at language text ts ≡ Ok (f, rest) → (l : Lexeme) × One Text l ts rest × (first_of (string_faults language text l) ≡ f)
+file_name_sound language text [] f rest e = absurd cc
+file_name_sound language text (t ∷ ts) f rest e = go t.kind refl e
   where
-    go : (k : Kind) → t.kind ≡ k → file_name_by text k t ts ≡ Ok (f, rest) → (l : Lexeme) × One Text l (t ∷ ts) rest × (first_of (string_faults text l) ≡ f)
-    go Text k e = let p = found (first_of (string_faults text t)) f ts rest e in (t, (k, ap (λ (x : List Lexeme). t ∷ x) p.1), p.0)
+    go : (k : Kind) → t.kind ≡ k → file_name_by language text k t ts ≡ Ok (f, rest) → (l : Lexeme) × One Text l (t ∷ ts) rest × (first_of (string_faults language text l) ≡ f)
+    go Text k e = let p = found (first_of (string_faults language text t)) f ts rest e in (t, (k, ap (λ (x : List Lexeme). t ∷ x) p.1), p.0)
     go _ k e = absurd cc
 
-name_first : (text : List ℕ) (l : Lexeme) (rest : List Lexeme) → l.kind ≡ Text → file_name_at text (l ∷ rest) ≡ Ok (first_of (string_faults text l), rest)
-name_first text l rest k = ap (λ (x : Kind). file_name_by text x l rest) k
+name_first : (language : Language) (text : List ℕ) (l : Lexeme) (rest : List Lexeme) → l.kind ≡ Text → file_name_at language text (l ∷ rest) ≡ Ok (first_of (string_faults language text l), rest)
+name_first language text l rest k = ap (λ (x : Kind). file_name_by language text x l rest) k
 
-file_name_again : (text : List ℕ) (l : Lexeme) (ts rest : List Lexeme) → One Text l ts rest → file_name_at text ts ≡ Ok (first_of (string_faults text l), rest)
-file_name_again text l ts rest h = ap (file_name_at text) h.1 ∙ name_first text l rest h.0
+file_name_again : (language : Language) (text : List ℕ) (l : Lexeme) (ts rest : List Lexeme) → One Text l ts rest → file_name_at language text ts ≡ Ok (first_of (string_faults language text l), rest)
+file_name_again language text l ts rest h = ap (file_name_at language text) h.1 ∙ name_first language text l rest h.0
 
 -- ---- offset and length
 
@@ -138,32 +139,32 @@ first_fault (Some x) =
 
 -- ---- a part of a file
 
-pub included_sound : (text : List ℕ) (t : Lexeme) (ts : List Lexeme) (ps : List Piece) (f : Option Fault) (rest : List Lexeme) → t.kind ≡ IncludeBinary → included_at text t.start ts ≡ Ok (ps, f, rest)
-    → several.One SpellsPiece (piece_said text) (piece_faults text) (t ∷ ts) ps f rest
+pub included_sound : (language : Language) (text : List ℕ) (t : Lexeme) (ts : List Lexeme) (ps : List Piece) (f : Option Fault) (rest : List Lexeme) → t.kind ≡ IncludeBinary → included_at language text t.start ts ≡ Ok (ps, f, rest)
+    → several.One SpellsPiece (piece_said language text) (piece_faults language text) (t ∷ ts) ps f rest
 unfolding included_at
-included_sound text t ts ps f rest k e =
-    let a = bind_ok (paren_at ts) (λ a. file_name_at text a >>= λ x. portion_at text x.1 >>= λ p. Ok (portion_pieces t.start p.0, earlier x.0 (portion_fault p.0), p.1)) (ps, f, rest) e in
-    let b = bind_ok (file_name_at text a.0) (λ x. portion_at text x.1 >>= λ p. Ok (portion_pieces t.start p.0, earlier x.0 (portion_fault p.0), p.1)) (ps, f, rest) a.2 in
+included_sound language text t ts ps f rest k e =
+    let a = bind_ok (paren_at ts) (λ a. file_name_at language text a >>= λ x. portion_at text x.1 >>= λ p. Ok (portion_pieces t.start p.0, earlier x.0 (portion_fault p.0), p.1)) (ps, f, rest) e in
+    let b = bind_ok (file_name_at language text a.0) (λ x. portion_at text x.1 >>= λ p. Ok (portion_pieces t.start p.0, earlier x.0 (portion_fault p.0), p.1)) (ps, f, rest) a.2 in
     let c = bind_ok (portion_at text b.0.1) (λ p. Ok (portion_pieces t.start p.0, earlier b.0.0 (portion_fault p.0), p.1)) (ps, f, rest) b.2 in
     let p = several.part_is (portion_pieces t.start c.0.0) ps (earlier b.0.0 (portion_fault c.0.0)) f c.0.1 rest c.2 in
-    let n = file_name_sound text a.0 b.0.0 b.0.1 b.1 in
+    let n = file_name_sound language text a.0 b.0.0 b.0.1 b.1 in
     let o = portion_sound text b.0.1 c.0.0 c.0.1 c.1 in
     record {
       tree = Includes t n.0 o.0;
       spells = (ts, a.0, b.0.1, (k, refl), paren_sound ts a.0 a.1, n.1, subst (SpellsPortion o.0 b.0.1) p.2 o.1);
       value_is = ap (portion_pieces t.start) o.2 ∙ p.0;
-      fault_is = several.first_of_both (string_faults text n.0) (portion_faults (portion_values text o.0)) ∙ ap (λ (x : Option Fault). earlier x (fault_of (portion_values text o.0))) n.2
+      fault_is = several.first_of_both (string_faults language text n.0) (portion_faults (portion_values text o.0)) ∙ ap (λ (x : Option Fault). earlier x (fault_of (portion_values text o.0))) n.2
           ∙ ap (λ (v : Option (Value × Value)). earlier b.0.0 (fault_of v)) o.2 ∙ ap (earlier b.0.0) (first_fault c.0.0) ∙ p.1;
     }
 
-pub included_again : (text : List ℕ) (at : ℕ) (l : Lexeme) (p : PortionTree) (ts a b rest : List Lexeme) → Begins ts Paren a → One Text l a b → SpellsPortion p b rest
-    → included_at text at ts ≡ Ok (portion_pieces at (portion_values text p), first_of (string_faults text l ++ portion_faults (portion_values text p)), rest)
+pub included_again : (language : Language) (text : List ℕ) (at : ℕ) (l : Lexeme) (p : PortionTree) (ts a b rest : List Lexeme) → Begins ts Paren a → One Text l a b → SpellsPortion p b rest
+    → included_at language text at ts ≡ Ok (portion_pieces at (portion_values text p), first_of (string_faults language text l ++ portion_faults (portion_values text p)), rest)
 unfolding included_at
-included_again text at l p ts a b rest open_ name portion =
+included_again language text at l p ts a b rest open_ name portion =
     let x = paren_again ts a open_ in
-    let y = file_name_again text l a b name in
+    let y = file_name_again language text l a b name in
     let z = portion_again text p b rest portion in
-    let f = several.first_of_both (string_faults text l) (portion_faults (portion_values text p)) in
+    let f = several.first_of_both (string_faults language text l) (portion_faults (portion_values text p)) in
     let g = first_fault (portion_values text p) in
     rw (x, y, z, f, g) refl
 

@@ -1,5 +1,6 @@
 -- The pieces of a value that are read are spelled, and the other way round.
 use Rattle.std.proofs.Common.{◌≡◌, ℕ, ◌<◌, List, [], ◌∷◌, length, Ok, Option, Some, None, false, refl, sym, ap, subst, ◌∙◌, arith, inl, inr}
+use Rattle.dt_lexeme.specs.declared.language.Language.{Language}
 use Rattle.dt_lexeme.specs.declared.lexeme.Lexeme.{Lexeme}
 use Rattle.dt_lexeme.specs.declared.lexeme.Fault.{Fault}
 use Rattle.dt_lexeme.specs.declared.lexeme.Kind.{Kind}
@@ -49,14 +50,14 @@ less_sound text w f (t ∷ ts) ps g rest e = go t.kind refl e
         }
     go _ k e = absurd cc
 
-abbrev pub PieceFound : List ℕ → List Lexeme → List Piece → Option Fault → List Lexeme → Type 0
-PieceFound text ts ps f rest = several.One SpellsPiece (piece_said text) (piece_faults text) ts ps f rest
+abbrev pub PieceFound : Language → List ℕ → List Lexeme → List Piece → Option Fault → List Lexeme → Type 0
+PieceFound language text ts ps f rest = several.One SpellsPiece (piece_said language text) (piece_faults language text) ts ps f rest
 
-bits_sound : (text : List ℕ) (t : Lexeme) (ts : List Lexeme) (ps : List Piece) (f : Option Fault) (rest : List Lexeme) → t.kind ≡ Bits → bits_at text ts ≡ Ok (ps, f, rest) → PieceFound text (t ∷ ts) ps f rest
-bits_sound text t [] ps f rest h e = absurd cc
-bits_sound text t (l ∷ ts) ps f rest h e = go l.kind refl e
+bits_sound : (language : Language) (text : List ℕ) (t : Lexeme) (ts : List Lexeme) (ps : List Piece) (f : Option Fault) (rest : List Lexeme) → t.kind ≡ Bits → bits_at text ts ≡ Ok (ps, f, rest) → PieceFound language text (t ∷ ts) ps f rest
+bits_sound language text t [] ps f rest h e = absurd cc
+bits_sound language text t (l ∷ ts) ps f rest h e = go l.kind refl e
   where
-    go : (k : Kind) → l.kind ≡ k → bits_by text k l ts ≡ Ok (ps, f, rest) → PieceFound text (t ∷ l ∷ ts) ps f rest
+    go : (k : Kind) → l.kind ≡ k → bits_by text k l ts ≡ Ok (ps, f, rest) → PieceFound language text (t ∷ l ∷ ts) ps f rest
     go Literal k e =
         let m = less_sound text (width_in (width_said text l)) (fault_in (width_said text l)) ts ps f rest e in
         record {
@@ -68,43 +69,43 @@ bits_sound text t (l ∷ ts) ps f rest h e = go l.kind refl e
         }
     go _ k e = absurd cc
 
-square_sound : (text : List ℕ) (t : Lexeme) (ts : List Lexeme) (ps : List Piece) (f : Option Fault) (rest : List Lexeme) → t.kind ≡ Square
-    → piece_by text Square t ts ≡ Ok (ps, f, rest) → PieceFound text (t ∷ ts) ps f rest
-square_sound text t ts ps f rest h e =
+square_sound : (language : Language) (text : List ℕ) (t : Lexeme) (ts : List Lexeme) (ps : List Piece) (f : Option Fault) (rest : List Lexeme) → t.kind ≡ Square
+    → piece_by language text Square t ts ≡ Ok (ps, f, rest) → PieceFound language text (t ∷ ts) ps f rest
+square_sound language text t ts ps f rest h e =
     let b = bind_ok (pairs_at text ts) (λ y. Ok (Plain y.0 ∷ [], y.1, y.2)) (ps, f, rest) e in
     let m = pairs_sound text ts b.0.0 b.0.1 b.0.2 b.1 in
-    several.one_to SpellsPiece (piece_said text) (piece_faults text) (t ∷ ts) (Plain b.0.0 ∷ []) ps b.0.1 f b.0.2 rest
+    several.one_to SpellsPiece (piece_said language text) (piece_faults language text) (t ∷ ts) (Plain b.0.0 ∷ []) ps b.0.1 f b.0.2 rest
     (record { tree = Pairs m.trees; spells = (ts, m.mid, (h, refl), m.spells, m.ends); value_is = ap (λ (x : List ℕ). Plain x ∷ []) m.said_is; fault_is = sym m.fault_is }) b.2
 
-pub piece_sound : (text : List ℕ) (ts : List Lexeme) (ps : List Piece) (f : Option Fault) (rest : List Lexeme) → piece_at text ts ≡ Ok (ps, f, rest) → PieceFound text ts ps f rest
+pub piece_sound : (language : Language) (text : List ℕ) (ts : List Lexeme) (ps : List Piece) (f : Option Fault) (rest : List Lexeme) → piece_at language text ts ≡ Ok (ps, f, rest) → PieceFound language text ts ps f rest
 unfolding piece_at
-piece_sound text [] ps f rest e = absurd cc
-piece_sound text (t ∷ ts) ps f rest e = go t.kind refl e
+piece_sound language text [] ps f rest e = absurd cc
+piece_sound language text (t ∷ ts) ps f rest e = go t.kind refl e
   where
-    read : (qs : List Piece) (g : Option Fault) → PieceFound text (t ∷ ts) qs g ts → several.part qs g ts ≡ several.part ps f rest → PieceFound text (t ∷ ts) ps f rest
-    read qs g o e = several.one_to SpellsPiece (piece_said text) (piece_faults text) (t ∷ ts) qs ps g f ts rest o e
+    read : (qs : List Piece) (g : Option Fault) → PieceFound language text (t ∷ ts) qs g ts → several.part qs g ts ≡ several.part ps f rest → PieceFound language text (t ∷ ts) ps f rest
+    read qs g o e = several.one_to SpellsPiece (piece_said language text) (piece_faults language text) (t ∷ ts) qs ps g f ts rest o e
 
-    go : (k : Kind) → t.kind ≡ k → piece_by text k t ts ≡ Ok (ps, f, rest) → PieceFound text (t ∷ ts) ps f rest
-    go Text k e = read (Plain (string_bytes text t) ∷ []) (first_of (string_faults text t)) (record { tree = Quoted t; spells = (k, refl); value_is = refl; fault_is = refl }) e
+    go : (k : Kind) → t.kind ≡ k → piece_by language text k t ts ≡ Ok (ps, f, rest) → PieceFound language text (t ∷ ts) ps f rest
+    go Text k e = read (Plain (string_bytes language text t) ∷ []) (first_of (string_faults language text t)) (record { tree = Quoted t; spells = (k, refl); value_is = refl; fault_is = refl }) e
     go Reference k e = read (PathOf (target_of text t) ∷ []) None (record { tree = Points t; spells = (inl k, refl); value_is = refl; fault_is = refl }) e
     go PathReference k e = read (PathOf (target_of text t) ∷ []) None (record { tree = Points t; spells = (inr k, refl); value_is = refl; fault_is = refl }) e
-    go Square k e = square_sound text t ts ps f rest k e
+    go Square k e = square_sound language text t ts ps f rest k e
     go Less k e =
         let m = cells_sound text (Some ThirtyTwo) ts ps f rest e in
         record { tree = Cells m.trees; spells = (ts, m.mid, (k, refl), m.spells, m.ends); value_is = m.said_is; fault_is = m.fault_is }
-    go Bits k e = bits_sound text t ts ps f rest k e
-    go IncludeBinary k e = included_sound text t ts ps f rest k e
+    go Bits k e = bits_sound language text t ts ps f rest k e
+    go IncludeBinary k e = included_sound language text t ts ps f rest k e
     go _ k e = absurd cc
 
-abbrev pub PlacedFound : List ℕ → List Lexeme → List Piece → Option Fault → List Lexeme → Type 0
-PlacedFound text ts ps f rest = several.One SpellsPlaced (piece_said text) (piece_faults text) ts ps f rest
+abbrev pub PlacedFound : Language → List ℕ → List Lexeme → List Piece → Option Fault → List Lexeme → Type 0
+PlacedFound language text ts ps f rest = several.One SpellsPlaced (piece_said language text) (piece_faults language text) ts ps f rest
 
-pub placed_sound : (text : List ℕ) (ts : List Lexeme) (ps : List Piece) (f : Option Fault) (rest : List Lexeme) → placed_at text ts ≡ Ok (ps, f, rest) → PlacedFound text ts ps f rest
+pub placed_sound : (language : Language) (text : List ℕ) (ts : List Lexeme) (ps : List Piece) (f : Option Fault) (rest : List Lexeme) → placed_at language text ts ≡ Ok (ps, f, rest) → PlacedFound language text ts ps f rest
 unfolding placed_at
-placed_sound text ts ps f rest e =
-    let b = bind_ok (piece_at text (labels_at ts).1) (λ y. Ok (y.0, y.1, (labels_at y.2).1)) (ps, f, rest) e in
-    let m = piece_sound text (labels_at ts).1 b.0.0 b.0.1 b.0.2 b.1 in
-    several.one_to SpellsPlaced (piece_said text) (piece_faults text) ts b.0.0 ps b.0.1 f (labels_at b.0.2).1 rest
+placed_sound language text ts ps f rest e =
+    let b = bind_ok (piece_at language text (labels_at ts).1) (λ y. Ok (y.0, y.1, (labels_at y.2).1)) (ps, f, rest) e in
+    let m = piece_sound language text (labels_at ts).1 b.0.0 b.0.1 b.0.2 b.1 in
+    several.one_to SpellsPlaced (piece_said language text) (piece_faults language text) ts b.0.0 ps b.0.1 f (labels_at b.0.2).1 rest
     (record {
       tree = m.tree;
       spells = ((labels_at ts).1, b.0.2, ((labels_at ts).0, (labels_sound ts).0), m.spells, ((labels_at b.0.2).0, (labels_sound b.0.2).0));
@@ -122,48 +123,48 @@ less_again text w f cs (t ∷ ts) rest h =
     ap (λ (k : Kind). less_by text w f k t ts) h.2.0 ∙ rw c refl
 
 -- what a piece is read as
-abbrev Again : List ℕ → PieceTree → List Lexeme → List Lexeme → Type 0
-Again text p ts rest = piece_at text ts ≡ Ok (piece_said text p, first_of (piece_faults text p), rest)
+abbrev Again : Language → List ℕ → PieceTree → List Lexeme → List Lexeme → Type 0
+Again language text p ts rest = piece_at language text ts ≡ Ok (piece_said language text p, first_of (piece_faults language text p), rest)
 
-quoted_again : (text : List ℕ) (t : Lexeme) (rest : List Lexeme) → t.kind ≡ Text → Again text (Quoted t) (t ∷ rest) rest
+quoted_again : (language : Language) (text : List ℕ) (t : Lexeme) (rest : List Lexeme) → t.kind ≡ Text → Again language text (Quoted t) (t ∷ rest) rest
 unfolding piece_at
-quoted_again text t rest k = ap (λ (x : Kind). piece_by text x t rest) k
+quoted_again language text t rest k = ap (λ (x : Kind). piece_by language text x t rest) k
 
-points_again : (text : List ℕ) (t : Lexeme) (rest : List Lexeme) → IsReference t.kind → Again text (Points t) (t ∷ rest) rest
+points_again : (language : Language) (text : List ℕ) (t : Lexeme) (rest : List Lexeme) → IsReference t.kind → Again language text (Points t) (t ∷ rest) rest
 unfolding piece_at
-points_again text t rest (inl k) = ap (λ (x : Kind). piece_by text x t rest) k
-points_again text t rest (inr k) = ap (λ (x : Kind). piece_by text x t rest) k
+points_again language text t rest (inl k) = ap (λ (x : Kind). piece_by language text x t rest) k
+points_again language text t rest (inr k) = ap (λ (x : Kind). piece_by language text x t rest) k
 
-wide_again : (text : List ℕ) (l : Lexeme) (cs : List CellTree) (t : Lexeme) (ts rest : List Lexeme) → t.kind ≡ Bits → l.kind ≡ Literal → SpellsCells cs ts rest → Again text (WideCells l cs) (t ∷ l ∷ ts) rest
+wide_again : (language : Language) (text : List ℕ) (l : Lexeme) (cs : List CellTree) (t : Lexeme) (ts rest : List Lexeme) → t.kind ≡ Bits → l.kind ≡ Literal → SpellsCells cs ts rest → Again language text (WideCells l cs) (t ∷ l ∷ ts) rest
 unfolding piece_at
-wide_again text l cs t ts rest k h s =
+wide_again language text l cs t ts rest k h s =
     let c = less_again text (width_in (width_said text l)) (fault_in (width_said text l)) cs ts rest s in
     let both = several.first_of_both (fault_list (fault_in (width_said text l))) (cells_faults text (width_in (width_said text l)) cs) in
     let one = first_of_list (fault_in (width_said text l)) in
-    let same : first_of (piece_faults text (WideCells l cs)) ≡ earlier (fault_in (width_said text l)) (first_of (cells_faults text (width_in (width_said text l)) cs)) = both ∙ ap (λ (x : Option Fault). earlier x (first_of (cells_faults text (width_in (width_said text l)) cs))) one in
-    ap (λ (x : Kind). piece_by text x t (l ∷ ts)) k ∙ ap (λ (x : Kind). bits_by text x l ts) h ∙ c ∙ ap (λ (x : Option Fault). several.part (piece_said text (WideCells l cs)) x rest) (sym same)
+    let same : first_of (piece_faults language text (WideCells l cs)) ≡ earlier (fault_in (width_said text l)) (first_of (cells_faults text (width_in (width_said text l)) cs)) = both ∙ ap (λ (x : Option Fault). earlier x (first_of (cells_faults text (width_in (width_said text l)) cs))) one in
+    ap (λ (x : Kind). piece_by language text x t (l ∷ ts)) k ∙ ap (λ (x : Kind). bits_by text x l ts) h ∙ c ∙ ap (λ (x : Option Fault). several.part (piece_said language text (WideCells l cs)) x rest) (sym same)
 
-includes_again : (text : List ℕ) (w l : Lexeme) (p : PortionTree) (ts rest : List Lexeme) → SpellsPiece (Includes w l p) ts rest → Again text (Includes w l p) ts rest
+includes_again : (language : Language) (text : List ℕ) (w l : Lexeme) (p : PortionTree) (ts rest : List Lexeme) → SpellsPiece (Includes w l p) ts rest → Again language text (Includes w l p) ts rest
 unfolding piece_at
-includes_again text w l p ts rest h =
-    ap (piece_at text) h.3.1 ∙ ap (λ (x : Kind). piece_by text x w h.0) h.3.0 ∙ included_again text w.start l p h.0 h.1 h.2 rest h.4 h.5 h.6
+includes_again language text w l p ts rest h =
+    ap (piece_at language text) h.3.1 ∙ ap (λ (x : Kind). piece_by language text x w h.0) h.3.0 ∙ included_again language text w.start l p h.0 h.1 h.2 rest h.4 h.5 h.6
 
-pub piece_again : (text : List ℕ) (p : PieceTree) (ts rest : List Lexeme) → SpellsPiece p ts rest → Again text p ts rest
+pub piece_again : (language : Language) (text : List ℕ) (p : PieceTree) (ts rest : List Lexeme) → SpellsPiece p ts rest → Again language text p ts rest
 unfolding piece_at
-piece_again text (Quoted l) ts rest h = ap (piece_at text) h.1 ∙ quoted_again text l rest h.0
-piece_again text (Points l) ts rest h = ap (piece_at text) h.1 ∙ points_again text l rest h.0
-piece_again text (Pairs ls) [] rest h = absurd h.2
-piece_again text (Pairs ls) (t ∷ ts) rest h =
+piece_again language text (Quoted l) ts rest h = ap (piece_at language text) h.1 ∙ quoted_again language text l rest h.0
+piece_again language text (Points l) ts rest h = ap (piece_at language text) h.1 ∙ points_again language text l rest h.0
+piece_again language text (Pairs ls) [] rest h = absurd h.2
+piece_again language text (Pairs ls) (t ∷ ts) rest h =
     let c = pairs_again text ls ts h.1 rest (subst (λ (x : List Lexeme). SpellsEach OnePair ls x h.1) (sym h.2.1) h.3) h.4 in
-    ap (λ (x : Kind). piece_by text x t ts) h.2.0 ∙ rw c refl
-piece_again text (Cells cs) [] rest h = absurd h.2
-piece_again text (Cells cs) (t ∷ ts) rest h =
-    ap (λ (x : Kind). piece_by text x t ts) h.2.0 ∙ cells_again text (Some ThirtyTwo) cs ts h.1 rest (subst (λ (x : List Lexeme). SpellsEach SpellsCell cs x h.1) (sym h.2.1) h.3) h.4
-piece_again text (WideCells l cs) [] rest h = absurd h.2
-piece_again text (WideCells l cs) (t ∷ ts) rest h =
+    ap (λ (x : Kind). piece_by language text x t ts) h.2.0 ∙ rw c refl
+piece_again language text (Cells cs) [] rest h = absurd h.2
+piece_again language text (Cells cs) (t ∷ ts) rest h =
+    ap (λ (x : Kind). piece_by language text x t ts) h.2.0 ∙ cells_again text (Some ThirtyTwo) cs ts h.1 rest (subst (λ (x : List Lexeme). SpellsEach SpellsCell cs x h.1) (sym h.2.1) h.3) h.4
+piece_again language text (WideCells l cs) [] rest h = absurd h.2
+piece_again language text (WideCells l cs) (t ∷ ts) rest h =
     let at : ts ≡ l ∷ h.1 = h.2.1 ∙ h.3.1 in
-    ap (λ (x : List Lexeme). piece_at text (t ∷ x)) at ∙ wide_again text l cs t h.1 rest h.2.0 h.3.0 h.4
-piece_again text (Includes w l p) ts rest h = includes_again text w l p ts rest h
+    ap (λ (x : List Lexeme). piece_at language text (t ∷ x)) at ∙ wide_again language text l cs t h.1 rest h.2.0 h.3.0 h.4
+piece_again language text (Includes w l p) ts rest h = includes_again language text w l p ts rest h
 
 pub front : (k : Kind) → is_label k ≡ false → (ts rest : List Lexeme) → Begins ts k rest → NoLabel ts
 front k n [] rest h = tt
@@ -190,13 +191,13 @@ piece_shorter (WideCells l cs) ts rest h =
     omega (arith, begins_shorter ts Bits h.0 h.2, ap length h.3.1, begins_shorter h.1 Less h.4.0 h.4.2, cells_shorter cs h.4.0 h.4.1 h.4.3, begins_shorter h.4.1 Greater rest h.4.4)
 piece_shorter (Includes w l p) ts rest h = included_shorter w l p ts rest h
 
-pub placed_again : (text : List ℕ) (p : PieceTree) (ts rest : List Lexeme) → SpellsPlaced p ts rest → NoLabel rest
-    → placed_at text ts ≡ Ok (piece_said text p, first_of (piece_faults text p), rest)
+pub placed_again : (language : Language) (text : List ℕ) (p : PieceTree) (ts rest : List Lexeme) → SpellsPlaced p ts rest → NoLabel rest
+    → placed_at language text ts ≡ Ok (piece_said language text p, first_of (piece_faults language text p), rest)
 unfolding placed_at
-placed_again text p ts rest h n =
+placed_again language text p ts rest h n =
     let before : labels_at ts ≡ (h.2.0, h.0) = labels_again h.2.0 ts h.0 h.2.1 (piece_front p h.0 h.1 h.3) in
     let behind : labels_at h.1 ≡ (h.4.0, rest) = labels_again h.4.0 h.1 rest h.4.1 n in
-    let piece = piece_again text p h.0 h.1 h.3 in
+    let piece = piece_again language text p h.0 h.1 h.3 in
     rw (before, piece, behind) refl
 
 pub placed_shorter : (p : PieceTree) (ts rest : List Lexeme) → SpellsPlaced p ts rest → length rest < length ts

@@ -1,5 +1,7 @@
 -- Statements that are read are spelled.
-use Rattle.std.proofs.Common.{◌≡◌, ℕ, zero, suc, Bool, true, false, ◌||◌, List, [], ◌∷◌, length, map, Ok, Option, Some, None, refl, sym, ap, subst, ◌∙◌}
+use Rattle.std.proofs.Common.{◌≡◌, ℕ, zero, suc, Bool, true, false, ◌||◌, cond, List, [], ◌∷◌, length, map, Ok, Option, Some, None, refl, sym, ap, subst, ◌∙◌}
+use Rattle.dt_lexeme.specs.declared.language.Language.{Language}
+use Rattle.dt_lexeme.specs.declared.language.Language.TheVariants.{Profile, Dtc}
 use Rattle.dt_lexeme.specs.declared.lexeme.Lexeme.{Lexeme}
 use Rattle.dt_lexeme.specs.declared.lexeme.Fault.{Fault}
 use Rattle.dt_lexeme.specs.declared.lexeme.Kind.{Kind}
@@ -12,8 +14,8 @@ use Rattle.dt_meaning.specs.Syntax.{Piece, Entry, Defines, Undefines, Child, Rem
 use Rattle.dt_source.specs.Order.{first_of}
 use Rattle.dt_source.specs.Marks.{omits, labels_in}
 use Rattle.dt_source.specs.Words.{label_bytes, name_bytes}
-use Rattle.dt_source.specs.Reading.Bodies.{marks_at, value_at, semicolon_at, ended_by, Inner, name_by, named_by, named_at, deleted_at, bare_by, unmarked, begun_by, begun_at, statement_at, after, statements_at, body_below}
-use Rattle.dt_source.specs.Source.{Statements, End, Sets, Unsets, Holds, Drops, One, SpellsLabels, SpellsMarks, SpellsStatements, value_faults, entries_of, faults_in}
+use Rattle.dt_source.specs.Reading.Bodies.{marks_at, value_at, semicolon_at, ended_by, Inner, name_by, named_by, named_at, deleted_at, bare_by, marked_by, nameless, begun_by, begun_at, statement_at, after, statements_at, body_below}
+use Rattle.dt_source.specs.Source.{Statements, End, Sets, Unsets, Holds, Drops, One, SpellsLabels, SpellsMarks, SpellsStatements, stand_before_deletion, value_faults, entries_of, faults_in}
 use Rattle.dt_expression.proofs.Sound.{bind_ok}
 use Rattle.dt_source.proofs.Several as several
 use Rattle.dt_source.proofs.Semicolons.{semicolon_sound}
@@ -36,38 +38,38 @@ ended_sound a b f g ts rest e =
 -- ---- one statement, and what stands behind it
 
 -- A statement was read: what it adds to statements that follow it.
-pub record StatementFound (text : List ℕ) (depth : ℕ) (nodes : Bool) (ts : List Lexeme) (e : Entry (List Piece)) (f : Option Fault) (r : List Lexeme) : Type 0 where
+pub record StatementFound (language : Language) (text : List ℕ) (depth : ℕ) (nodes : Bool) (ts : List Lexeme) (e : Entry (List Piece)) (f : Option Fault) (r : List Lexeme) : Type 0 where
   pub make : Statements → Statements
-  pub spells : (more : Statements) (rest : List Lexeme) → SpellsStatements depth (after nodes e) more r rest → SpellsStatements depth nodes (make more) ts rest
-  pub entries : (more : Statements) → entries_of text (make more) ≡ e ∷ entries_of text more
-  pub faults : (more : Statements) → first_of (faults_in text (make more)) ≡ earlier f (first_of (faults_in text more))
+  pub spells : (more : Statements) (rest : List Lexeme) → SpellsStatements language depth (after nodes e) more r rest → SpellsStatements language depth nodes (make more) ts rest
+  pub entries : (more : Statements) → entries_of language text (make more) ≡ e ∷ entries_of language text more
+  pub faults : (more : Statements) → first_of (faults_in language text (make more)) ≡ earlier f (first_of (faults_in language text more))
 
-abbrev pub Found : List ℕ → ℕ → Bool → List Lexeme → Option (Entry (List Piece)) → Option Fault → List Lexeme → Type 0
-Found text depth nodes ts None f r = Begins ts EndBrace r × (f ≡ None)
-Found text depth nodes ts (Some e) f r = StatementFound text depth nodes ts e f r
+abbrev pub Found : Language → List ℕ → ℕ → Bool → List Lexeme → Option (Entry (List Piece)) → Option Fault → List Lexeme → Type 0
+Found language text depth nodes ts None f r = Begins ts EndBrace r × (f ≡ None)
+Found language text depth nodes ts (Some e) f r = StatementFound language text depth nodes ts e f r
 
 -- what was read, as what the function gives
-to : (text : List ℕ) (depth : ℕ) (nodes : Bool) (ts : List Lexeme) (a b : Option (Entry (List Piece))) (f g : Option Fault) (r q : List Lexeme)
-    → Found text depth nodes ts a f r → (a ≡ b) × (f ≡ g) × (r ≡ q) → Found text depth nodes ts b g q
-to text depth nodes ts a b f g r q h p =
-    subst (λ (x : Option (Entry (List Piece))). Found text depth nodes ts x g q) p.0 (subst (λ (x : Option Fault). Found text depth nodes ts a x q) p.1 (subst (λ (x : List Lexeme). Found text depth nodes ts a f x) p.2 h))
+to : (language : Language) (text : List ℕ) (depth : ℕ) (nodes : Bool) (ts : List Lexeme) (a b : Option (Entry (List Piece))) (f g : Option Fault) (r q : List Lexeme)
+    → Found language text depth nodes ts a f r → (a ≡ b) × (f ≡ g) × (r ≡ q) → Found language text depth nodes ts b g q
+to language text depth nodes ts a b f g r q h p =
+    subst (λ (x : Option (Entry (List Piece))). Found language text depth nodes ts x g q) p.0 (subst (λ (x : Option Fault). Found language text depth nodes ts a x q) p.1 (subst (λ (x : List Lexeme). Found language text depth nodes ts a f x) p.2 h))
 
 -- the statements of a body, from some statement on
-pub record BodyFound (text : List ℕ) (depth : ℕ) (nodes : Bool) (ts : List Lexeme) (es : List (Entry (List Piece))) (f : Option Fault) (rest : List Lexeme) : Type 0 where
+pub record BodyFound (language : Language) (text : List ℕ) (depth : ℕ) (nodes : Bool) (ts : List Lexeme) (es : List (Entry (List Piece))) (f : Option Fault) (rest : List Lexeme) : Type 0 where
   pub tree : Statements
-  pub spells : SpellsStatements depth nodes tree ts rest
-  pub entries : entries_of text tree ≡ es
-  pub faults : first_of (faults_in text tree) ≡ f
+  pub spells : SpellsStatements language depth nodes tree ts rest
+  pub entries : entries_of language text tree ≡ es
+  pub faults : first_of (faults_in language text tree) ≡ f
 
 -- the same of a body in this one
-pub record InnerFound (text : List ℕ) (depth : ℕ) (ts : List Lexeme) (es : List (Entry (List Piece))) (f : Option Fault) (rest : List Lexeme) : Type 0 where
+pub record InnerFound (language : Language) (text : List ℕ) (depth : ℕ) (ts : List Lexeme) (es : List (Entry (List Piece))) (f : Option Fault) (rest : List Lexeme) : Type 0 where
   pub tree : Statements
-  pub spells : Deeper depth (λ inner. SpellsStatements inner false tree ts rest)
-  pub entries : entries_of text tree ≡ es
-  pub faults : first_of (faults_in text tree) ≡ f
+  pub spells : Deeper depth (λ inner. SpellsStatements language inner false tree ts rest)
+  pub entries : entries_of language text tree ≡ es
+  pub faults : first_of (faults_in language text tree) ≡ f
 
-pub record InnerSound (text : List ℕ) (depth : ℕ) (inner : Inner) : Type 0 where
-  pub by : (t : Lexeme) (ts : List Lexeme) (es : List (Entry (List Piece))) (f : Option Fault) (rest : List Lexeme) → inner t ts ≡ Ok (es, f, rest) → InnerFound text depth ts es f rest
+pub record InnerSound (language : Language) (text : List ℕ) (depth : ℕ) (inner : Inner) : Type 0 where
+  pub by : (t : Lexeme) (ts : List Lexeme) (es : List (Entry (List Piece))) (f : Option Fault) (rest : List Lexeme) → inner t ts ≡ Ok (es, f, rest) → InnerFound language text depth ts es f rest
 
 -- labels and a name, before what follows them
 record Front (text : List ℕ) (ls : List Lexeme) (n : Lexeme) (ts us : List Lexeme) : Type 0 where
@@ -84,62 +86,62 @@ record MarkedFront (text : List ℕ) (ms : List Lexeme) (n : Lexeme) (ts us : Li
 front_of : (text : List ℕ) (ms : List Lexeme) (n : Lexeme) (ts us : List Lexeme) → MarkedFront text ms n ts us → omits ms ≡ false → Front text ms n ts us
 front_of text ms n ts us h o = record { at = h.at; labels = marks_are_labels ms ts h.at h.marks o; name = h.name }
 
-empty_found : (text : List ℕ) (depth : ℕ) (ls : List Lexeme) (n t : Lexeme) (ts us : List Lexeme) → Front text ls n ts (t ∷ us) → t.kind ≡ Semicolon
-    → StatementFound text depth false ts (Defines (name_bytes text n) []) None us
+empty_found : (language : Language) (text : List ℕ) (depth : ℕ) (ls : List Lexeme) (n t : Lexeme) (ts us : List Lexeme) → Front text ls n ts (t ∷ us) → t.kind ≡ Semicolon
+    → StatementFound language text depth false ts (Defines (name_bytes text n) []) None us
 unfolding SpellsStatements entries_of faults_in
-empty_found text depth ls n t ts us h k = record {
+empty_found language text depth ls n t ts us h k = record {
   make = Sets ls n [];
   spells = λ more rest s. (refl, h.at, t ∷ us, t ∷ us, us, h.labels, h.name, refl, (k, refl), s);
   entries = λ more. refl;
   faults = λ more. refl;
 }
 
-value_found : (text : List ℕ) (depth : ℕ) (ls : List Lexeme) (n t : Lexeme) (ts us : List Lexeme) (ps : List Piece) (f : Option Fault) (mid r : List Lexeme) → Front text ls n ts (t ∷ us) → t.kind ≡ Equals
-    → ValueFound text us ps f mid → Begins mid Semicolon r → StatementFound text depth false ts (Defines (name_bytes text n) ps) f r
+value_found : (language : Language) (text : List ℕ) (depth : ℕ) (ls : List Lexeme) (n t : Lexeme) (ts us : List Lexeme) (ps : List Piece) (f : Option Fault) (mid r : List Lexeme) → Front text ls n ts (t ∷ us) → t.kind ≡ Equals
+    → ValueFound language text us ps f mid → Begins mid Semicolon r → StatementFound language text depth false ts (Defines (name_bytes text n) ps) f r
 unfolding SpellsStatements entries_of faults_in
-value_found text depth ls n t ts us ps f mid r h k v s = record {
+value_found language text depth ls n t ts us ps f mid r h k v s = record {
   make = Sets ls n (v.first ∷ v.others);
   spells = λ more rest m. (refl, h.at, t ∷ us, mid, r, h.labels, h.name, (us, v.mid, (k, refl), v.spells_first, v.spells_others), s, m);
-  entries = λ more. ap (λ (x : List Piece). Defines (name_bytes text n) x ∷ entries_of text more) v.said_is;
-  faults = λ more. several.first_of_both (value_faults text (v.first ∷ v.others)) (faults_in text more) ∙ ap (λ (x : Option Fault). earlier x (first_of (faults_in text more))) v.fault_is;
+  entries = λ more. ap (λ (x : List Piece). Defines (name_bytes text n) x ∷ entries_of language text more) v.said_is;
+  faults = λ more. several.first_of_both (value_faults language text (v.first ∷ v.others)) (faults_in language text more) ∙ ap (λ (x : Option Fault). earlier x (first_of (faults_in language text more))) v.fault_is;
 }
 
-child_found : (text : List ℕ) (depth : ℕ) (nodes : Bool) (ls : List Lexeme) (n t : Lexeme) (ts us : List Lexeme) (es : List (Entry (List Piece))) (f : Option Fault) (mid r : List Lexeme) → MarkedFront text ls n ts (t ∷ us) → t.kind ≡ Brace
-    → InnerFound text depth us es f mid → Begins mid Semicolon r → StatementFound text depth nodes ts (Child (omits ls) (map (label_bytes text) (labels_in ls)) (name_bytes text n) (body_of es)) f r
+child_found : (language : Language) (text : List ℕ) (depth : ℕ) (nodes : Bool) (ls : List Lexeme) (n t : Lexeme) (ts us : List Lexeme) (es : List (Entry (List Piece))) (f : Option Fault) (mid r : List Lexeme) → MarkedFront text ls n ts (t ∷ us) → t.kind ≡ Brace
+    → InnerFound language text depth us es f mid → Begins mid Semicolon r → StatementFound language text depth nodes ts (Child (omits ls) (map (label_bytes text) (labels_in ls)) (name_bytes text n) (body_of es)) f r
 unfolding SpellsStatements entries_of faults_in
-child_found text depth nodes ls n t ts us es f mid r h k b s = record {
+child_found language text depth nodes ls n t ts us es f mid r h k b s = record {
   make = Holds ls n b.tree;
   spells = λ more rest m. (h.at, t ∷ us, us, mid, r, h.marks, h.name, (k, refl), b.spells, s, m);
-  entries = λ more. ap (λ (x : List (Entry (List Piece))). Child (omits ls) (map (label_bytes text) (labels_in ls)) (name_bytes text n) (body_of x) ∷ entries_of text more) b.entries;
-  faults = λ more. several.first_of_both (faults_in text b.tree) (faults_in text more) ∙ ap (λ (x : Option Fault). earlier x (first_of (faults_in text more))) b.faults;
+  entries = λ more. ap (λ (x : List (Entry (List Piece))). Child (omits ls) (map (label_bytes text) (labels_in ls)) (name_bytes text n) (body_of x) ∷ entries_of language text more) b.entries;
+  faults = λ more. several.first_of_both (faults_in language text b.tree) (faults_in language text more) ∙ ap (λ (x : Option Fault). earlier x (first_of (faults_in language text more))) b.faults;
 }
 
-unsets_found : (text : List ℕ) (depth : ℕ) (t n : Lexeme) (ts us r : List Lexeme) → t.kind ≡ DeleteProperty → n.kind ≡ Name → Begins us Semicolon r
-    → StatementFound text depth false (t ∷ n ∷ us) (Undefines (name_bytes text n)) None r
+unsets_found : (language : Language) (text : List ℕ) (depth : ℕ) (ms : List Lexeme) (t n : Lexeme) (ts us r : List Lexeme) → SpellsMarks ms ts (t ∷ n ∷ us) → stand_before_deletion language DeleteProperty ms ≡ true → t.kind ≡ DeleteProperty → n.kind ≡ Name → Begins us Semicolon r
+    → StatementFound language text depth false ts (Undefines (name_bytes text n)) None r
 unfolding SpellsStatements entries_of faults_in
-unsets_found text depth t n ts us r k h s = record {
+unsets_found language text depth ms t n ts us r marks fit k h s = record {
   make = Unsets n;
-  spells = λ more rest m. (refl, n ∷ us, us, r, (k, refl), (h, refl), s, m);
+  spells = λ more rest m. (refl, n ∷ us, us, r, (ms, t ∷ n ∷ us, marks, fit, (k, refl)), (h, refl), s, m);
   entries = λ more. refl;
   faults = λ more. refl;
 }
 
-drops_found : (text : List ℕ) (depth : ℕ) (nodes : Bool) (t n : Lexeme) (us r : List Lexeme) → t.kind ≡ DeleteNode → n.kind ≡ Name → Begins us Semicolon r
-    → StatementFound text depth nodes (t ∷ n ∷ us) (Removes (name_bytes text n)) None r
+drops_found : (language : Language) (text : List ℕ) (depth : ℕ) (nodes : Bool) (ms : List Lexeme) (t n : Lexeme) (ts us r : List Lexeme) → SpellsMarks ms ts (t ∷ n ∷ us) → stand_before_deletion language DeleteNode ms ≡ true → t.kind ≡ DeleteNode → n.kind ≡ Name → Begins us Semicolon r
+    → StatementFound language text depth nodes ts (Removes (name_bytes text n)) None r
 unfolding SpellsStatements entries_of faults_in
-drops_found text depth nodes t n us r k h s = record {
+drops_found language text depth nodes ms t n ts us r marks fit k h s = record {
   make = Drops n;
-  spells = λ more rest m. (n ∷ us, us, r, (k, refl), (h, refl), s, m);
+  spells = λ more rest m. (n ∷ us, us, r, (ms, t ∷ n ∷ us, marks, fit, (k, refl)), (h, refl), s, m);
   entries = λ more. refl;
   faults = λ more. refl;
 }
 
 -- ---- by what stands there
 
-named_sound : (text : List ℕ) (depth : ℕ) (inner : Inner) → InnerSound text depth inner → (nodes : Bool) (ms : List Lexeme) (n : Lexeme) (ts us : List Lexeme) (o : Option (Entry (List Piece))) (f : Option Fault) (r : List Lexeme)
-    → MarkedFront text ms n ts us → named_at text inner (nodes || omits ms) (omits ms) (map (label_bytes text) (labels_in ms)) (name_bytes text n) us ≡ Ok (o, f, r) → Found text depth nodes ts o f r
-named_sound text depth inner hi nodes ms n ts [] o f r h e = absurd cc
-named_sound text depth inner hi nodes ms n ts (t ∷ us) o f r h e = go (nodes || omits ms) refl t.kind refl e
+named_sound : (language : Language) (text : List ℕ) (depth : ℕ) (inner : Inner) → InnerSound language text depth inner → (nodes : Bool) (ms : List Lexeme) (n : Lexeme) (ts us : List Lexeme) (o : Option (Entry (List Piece))) (f : Option Fault) (r : List Lexeme)
+    → MarkedFront text ms n ts us → named_at language text inner (nodes || omits ms) (omits ms) (map (label_bytes text) (labels_in ms)) (name_bytes text n) us ≡ Ok (o, f, r) → Found language text depth nodes ts o f r
+named_sound language text depth inner hi nodes ms n ts [] o f r h e = absurd cc
+named_sound language text depth inner hi nodes ms n ts (t ∷ us) o f r h e = go (nodes || omits ms) refl t.kind refl e
   where
     labels : List (List ℕ)
     labels = map (label_bytes text) (labels_in ms)
@@ -151,22 +153,22 @@ named_sound text depth inner hi nodes ms n ts (t ∷ us) o f r h e = go (nodes |
     front free = front_of text ms n ts (t ∷ us) h (neither nodes (omits ms) free).1
 
     -- where a property may stand, no node stood before
-    with_nodes : (nodes || omits ms) ≡ false → Found text depth false ts o f r → Found text depth nodes ts o f r
-    with_nodes free x = subst (λ (b : Bool). Found text depth b ts o f r) (sym (neither nodes (omits ms) free).0) x
+    with_nodes : (nodes || omits ms) ≡ false → Found language text depth false ts o f r → Found language text depth nodes ts o f r
+    with_nodes free x = subst (λ (b : Bool). Found language text depth b ts o f r) (sym (neither nodes (omits ms) free).0) x
 
-    child : t.kind ≡ Brace → (inner t us >>= λ b. ended_by (Some (Child (omits ms) labels name (body_of b.0))) b.1 b.2) ≡ Ok (o, f, r) → Found text depth nodes ts o f r
+    child : t.kind ≡ Brace → (inner t us >>= λ b. ended_by (Some (Child (omits ms) labels name (body_of b.0))) b.1 b.2) ≡ Ok (o, f, r) → Found language text depth nodes ts o f r
     child k e =
         let b = bind_ok (inner t us) (λ b. ended_by (Some (Child (omits ms) labels name (body_of b.0))) b.1 b.2) (o, f, r) e in
         let s = ended_sound (Some (Child (omits ms) labels name (body_of b.0.0))) o b.0.1 f b.0.2 r b.2 in
-        to text depth nodes ts (Some (Child (omits ms) labels name (body_of b.0.0))) o b.0.1 f r r (child_found text depth nodes ms n t ts us b.0.0 b.0.1 b.0.2 r h k (hi.by t us b.0.0 b.0.1 b.0.2 b.1) s.ends) (s.value_is, s.fault_is, refl)
+        to language text depth nodes ts (Some (Child (omits ms) labels name (body_of b.0.0))) o b.0.1 f r r (child_found language text depth nodes ms n t ts us b.0.0 b.0.1 b.0.2 r h k (hi.by t us b.0.0 b.0.1 b.0.2 b.1) s.ends) (s.value_is, s.fault_is, refl)
 
-    go : (closed : Bool) → (nodes || omits ms) ≡ closed → (k : Kind) → t.kind ≡ k → named_by text inner closed (omits ms) labels name k t us ≡ Ok (o, f, r) → Found text depth nodes ts o f r
+    go : (closed : Bool) → (nodes || omits ms) ≡ closed → (k : Kind) → t.kind ≡ k → named_by language text inner closed (omits ms) labels name k t us ≡ Ok (o, f, r) → Found language text depth nodes ts o f r
     go false free Semicolon k e =
-        with_nodes free (to text depth false ts (Some (Defines name [])) o None f us r (empty_found text depth ms n t ts us (front free) k) (several.part_is (Some (Defines name [])) o None f us r e))
+        with_nodes free (to language text depth false ts (Some (Defines name [])) o None f us r (empty_found language text depth ms n t ts us (front free) k) (several.part_is (Some (Defines name [])) o None f us r e))
     go false free Equals k e =
-        let b = bind_ok (value_at text us) (λ v. ended_by (Some (Defines name v.0)) v.1 v.2) (o, f, r) e in
+        let b = bind_ok (value_at language text us) (λ v. ended_by (Some (Defines name v.0)) v.1 v.2) (o, f, r) e in
         let s = ended_sound (Some (Defines name b.0.0)) o b.0.1 f b.0.2 r b.2 in
-        with_nodes free (to text depth false ts (Some (Defines name b.0.0)) o b.0.1 f r r (value_found text depth ms n t ts us b.0.0 b.0.1 b.0.2 r (front free) k (value_sound text us b.0.0 b.0.1 b.0.2 b.1) s.ends) (s.value_is, s.fault_is, refl))
+        with_nodes free (to language text depth false ts (Some (Defines name b.0.0)) o b.0.1 f r r (value_found language text depth ms n t ts us b.0.0 b.0.1 b.0.2 r (front free) k (value_sound language text us b.0.0 b.0.1 b.0.2 b.1) s.ends) (s.value_is, s.fault_is, refl))
     go false free Brace k e = child k e
     go true free Brace k e = child k e
     go _ free _ k e = absurd cc
@@ -188,96 +190,121 @@ deleted_sound text entry (t ∷ ts) o f r e = go t.kind refl e
     go Name k e = let s = ended_sound (Some (entry (name_bytes text t))) o None f ts r e in record { name = t; at = ts; there = refl; named = k; ends = s.ends; entry_is = s.value_is; fault_is = s.fault_is }
     go _ k e = absurd cc
 
-bare_sound : (text : List ℕ) (depth : ℕ) (nodes : Bool) (t : Lexeme) (us : List Lexeme) (k : Kind) (o : Option (Entry (List Piece))) (f : Option Fault) (r : List Lexeme) → t.kind ≡ k
-    → bare_by text nodes k t us ≡ Ok (o, f, r) → Found text depth nodes (t ∷ us) o f r
-bare_sound text depth nodes t us k o f r h e = go nodes k h e
+-- a deletion behind such marks
+drops_sound : (language : Language) (text : List ℕ) (depth : ℕ) (nodes : Bool) (ms ts : List Lexeme) (t : Lexeme) (us : List Lexeme) (o : Option (Entry (List Piece))) (f : Option Fault) (r : List Lexeme) → SpellsMarks ms ts (t ∷ us) → stand_before_deletion language DeleteNode ms ≡ true
+    → t.kind ≡ DeleteNode → deleted_at text Removes us ≡ Ok (o, f, r) → Found language text depth nodes ts o f r
+drops_sound language text depth nodes ms ts t us o f r s fit k e =
+    let d = deleted_sound text Removes us o f r e in
+    let marks = subst (λ (x : List Lexeme). SpellsMarks ms ts (t ∷ x)) d.there s in
+    to language text depth nodes ts (Some (Removes (name_bytes text d.name))) o None f r r (drops_found language text depth nodes ms t d.name ts d.at r marks fit k d.named d.ends) (d.entry_is, d.fault_is, refl)
+
+unsets_sound : (language : Language) (text : List ℕ) (depth : ℕ) (ms ts : List Lexeme) (t : Lexeme) (us : List Lexeme) (o : Option (Entry (List Piece))) (f : Option Fault) (r : List Lexeme) → SpellsMarks ms ts (t ∷ us) → stand_before_deletion language DeleteProperty ms ≡ true
+    → t.kind ≡ DeleteProperty → deleted_at text Undefines us ≡ Ok (o, f, r) → Found language text depth false ts o f r
+unsets_sound language text depth ms ts t us o f r s fit k e =
+    let d = deleted_sound text Undefines us o f r e in
+    let marks = subst (λ (x : List Lexeme). SpellsMarks ms ts (t ∷ x)) d.there s in
+    to language text depth false ts (Some (Undefines (name_bytes text d.name))) o None f r r (unsets_found language text depth ms t d.name ts d.at r marks fit k d.named d.ends) (d.entry_is, d.fault_is, refl)
+
+none_before_node : (language : Language) → stand_before_deletion language DeleteNode [] ≡ true
+none_before_node Profile = refl
+none_before_node Dtc = refl
+
+none_before_property : (language : Language) → stand_before_deletion language DeleteProperty [] ≡ true
+none_before_property Profile = refl
+none_before_property Dtc = refl
+
+bare_sound : (language : Language) (text : List ℕ) (depth : ℕ) (nodes : Bool) (ts : List Lexeme) (t : Lexeme) (us : List Lexeme) (k : Kind) (o : Option (Entry (List Piece))) (f : Option Fault) (r : List Lexeme) → SpellsMarks [] ts (t ∷ us) → t.kind ≡ k
+    → bare_by text nodes k t us ≡ Ok (o, f, r) → Found language text depth nodes ts o f r
+unfolding SpellsEach
+bare_sound language text depth nodes ts t us k o f r s h e = go nodes k h e
   where
-    ended : (nodes : Bool) → t.kind ≡ EndBrace → several.part None None us ≡ several.part o f r → Found text depth nodes (t ∷ us) o f r
-    ended nodes k e = to text depth nodes (t ∷ us) None o None f us r ((k, refl), refl) (several.part_is None o None f us r e)
+    ended : (nodes : Bool) → t.kind ≡ EndBrace → several.part None None us ≡ several.part o f r → Found language text depth nodes ts o f r
+    ended nodes k e = subst (λ (x : List Lexeme). Found language text depth nodes x o f r) (sym s) (to language text depth nodes (t ∷ us) None o None f us r ((k, refl), refl) (several.part_is None o None f us r e))
 
-    drops : (nodes : Bool) → t.kind ≡ DeleteNode → deleted_at text Removes us ≡ Ok (o, f, r) → Found text depth nodes (t ∷ us) o f r
-    drops nodes k e =
-        let d = deleted_sound text Removes us o f r e in
-        subst (λ (x : List Lexeme). Found text depth nodes (t ∷ x) o f r) (sym d.there) (to text depth nodes (t ∷ d.name ∷ d.at) (Some (Removes (name_bytes text d.name))) o None f r r (drops_found text depth nodes t d.name d.at r k d.named d.ends) (d.entry_is, d.fault_is, refl))
-
-    unsets : t.kind ≡ DeleteProperty → deleted_at text Undefines us ≡ Ok (o, f, r) → Found text depth false (t ∷ us) o f r
-    unsets k e =
-        let d = deleted_sound text Undefines us o f r e in
-        subst (λ (x : List Lexeme). Found text depth false (t ∷ x) o f r) (sym d.there) (to text depth false (t ∷ d.name ∷ d.at) (Some (Undefines (name_bytes text d.name))) o None f r r (unsets_found text depth t d.name us d.at r k d.named d.ends) (d.entry_is, d.fault_is, refl))
-
-    go : (nodes : Bool) (k : Kind) → t.kind ≡ k → bare_by text nodes k t us ≡ Ok (o, f, r) → Found text depth nodes (t ∷ us) o f r
+    go : (nodes : Bool) (k : Kind) → t.kind ≡ k → bare_by text nodes k t us ≡ Ok (o, f, r) → Found language text depth nodes ts o f r
     go false EndBrace k e = ended false k e
     go true EndBrace k e = ended true k e
-    go false DeleteProperty k e = unsets k e
-    go false DeleteNode k e = drops false k e
-    go true DeleteNode k e = drops true k e
+    go false DeleteProperty k e = unsets_sound language text depth [] ts t us o f r s (none_before_property language) k e
+    go false DeleteNode k e = drops_sound language text depth false [] ts t us o f r s (none_before_node language) k e
+    go true DeleteNode k e = drops_sound language text depth true [] ts t us o f r s (none_before_node language) k e
     go _ _ k e = absurd cc
 
-unmarked_sound : (text : List ℕ) (depth : ℕ) (nodes : Bool) (ls ts : List Lexeme) (t : Lexeme) (us : List Lexeme) (k : Kind) (o : Option (Entry (List Piece))) (f : Option Fault) (r : List Lexeme) → SpellsMarks ls ts (t ∷ us) → t.kind ≡ k
-    → unmarked text nodes ls k t us ≡ Ok (o, f, r) → Found text depth nodes ts o f r
-unfolding SpellsEach
-unmarked_sound text depth nodes [] ts t us k o f r s h e = subst (λ (x : List Lexeme). Found text depth nodes x o f r) (sym s) (bare_sound text depth nodes t us k o f r h e)
-unmarked_sound text depth nodes (l ∷ ls) ts t us k o f r s h e = absurd cc
+marked_sound : (text : List ℕ) (depth : ℕ) (nodes : Bool) (ms ts : List Lexeme) (t : Lexeme) (us : List Lexeme) (o : Option (Entry (List Piece))) (f : Option Fault) (r : List Lexeme) → SpellsMarks ms ts (t ∷ us)
+    → (closed : Bool) → (nodes || omits ms) ≡ closed → (k : Kind) → t.kind ≡ k → marked_by text closed k t us ≡ Ok (o, f, r) → Found Dtc text depth nodes ts o f r
+marked_sound text depth nodes ms ts t us o f r s false free DeleteProperty k e =
+    let n = neither nodes (omits ms) free in
+    let fit : stand_before_deletion Dtc DeleteProperty ms ≡ true = ap (λ (b : Bool). cond b false true) n.1 in
+    subst (λ (b : Bool). Found Dtc text depth b ts o f r) (sym n.0) (unsets_sound Dtc text depth ms ts t us o f r s fit k e)
+marked_sound text depth nodes ms ts t us o f r s false free DeleteNode k e = drops_sound Dtc text depth nodes ms ts t us o f r s refl k e
+marked_sound text depth nodes ms ts t us o f r s true free DeleteNode k e = drops_sound Dtc text depth nodes ms ts t us o f r s refl k e
+marked_sound text depth nodes ms ts t us o f r s _ free _ k e = absurd cc
 
-begun_sound : (text : List ℕ) (depth : ℕ) (inner : Inner) → InnerSound text depth inner → (nodes : Bool) (ls ts us : List Lexeme) (o : Option (Entry (List Piece))) (f : Option Fault) (r : List Lexeme) → SpellsMarks ls ts us
-    → begun_at text inner nodes ls us ≡ Ok (o, f, r) → Found text depth nodes ts o f r
-begun_sound text depth inner hi nodes ls ts [] o f r s e = absurd cc
-begun_sound text depth inner hi nodes ls ts (t ∷ us) o f r s e = go t.kind refl e
+nameless_sound : (language : Language) (text : List ℕ) (depth : ℕ) (nodes : Bool) (ls ts : List Lexeme) (t : Lexeme) (us : List Lexeme) (k : Kind) (o : Option (Entry (List Piece))) (f : Option Fault) (r : List Lexeme) → SpellsMarks ls ts (t ∷ us) → t.kind ≡ k
+    → nameless language text nodes ls k t us ≡ Ok (o, f, r) → Found language text depth nodes ts o f r
+nameless_sound Profile text depth nodes [] ts t us k o f r s h e = bare_sound Profile text depth nodes ts t us k o f r s h e
+nameless_sound Profile text depth nodes (l ∷ ls) ts t us k o f r s h e = absurd cc
+nameless_sound Dtc text depth nodes [] ts t us k o f r s h e = bare_sound Dtc text depth nodes ts t us k o f r s h e
+nameless_sound Dtc text depth nodes (l ∷ ls) ts t us k o f r s h e = marked_sound text depth nodes (l ∷ ls) ts t us o f r s (nodes || omits (l ∷ ls)) refl k h e
+
+begun_sound : (language : Language) (text : List ℕ) (depth : ℕ) (inner : Inner) → InnerSound language text depth inner → (nodes : Bool) (ls ts us : List Lexeme) (o : Option (Entry (List Piece))) (f : Option Fault) (r : List Lexeme) → SpellsMarks ls ts us
+    → begun_at language text inner nodes ls us ≡ Ok (o, f, r) → Found language text depth nodes ts o f r
+begun_sound language text depth inner hi nodes ls ts [] o f r s e = absurd cc
+begun_sound language text depth inner hi nodes ls ts (t ∷ us) o f r s e = go t.kind refl e
   where
-    go : (k : Kind) → t.kind ≡ k → begun_by text inner nodes ls k t us ≡ Ok (o, f, r) → Found text depth nodes ts o f r
-    go Name k e = named_sound text depth inner hi nodes ls t ts us o f r (record { at = t ∷ us; marks = s; name = (k, refl) }) e
-    go k h e = unmarked_sound text depth nodes ls ts t us k o f r s h e
+    go : (k : Kind) → t.kind ≡ k → begun_by language text inner nodes ls k t us ≡ Ok (o, f, r) → Found language text depth nodes ts o f r
+    go Name k e = named_sound language text depth inner hi nodes ls t ts us o f r (record { at = t ∷ us; marks = s; name = (k, refl) }) e
+    go k h e = nameless_sound language text depth nodes ls ts t us k o f r s h e
 
-statement_sound : (text : List ℕ) (depth : ℕ) (inner : Inner) → InnerSound text depth inner → (nodes : Bool) (ts : List Lexeme) (o : Option (Entry (List Piece))) (f : Option Fault) (r : List Lexeme)
-    → statement_at text inner nodes ts ≡ Ok (o, f, r) → Found text depth nodes ts o f r
+statement_sound : (language : Language) (text : List ℕ) (depth : ℕ) (inner : Inner) → InnerSound language text depth inner → (nodes : Bool) (ts : List Lexeme) (o : Option (Entry (List Piece))) (f : Option Fault) (r : List Lexeme)
+    → statement_at language text inner nodes ts ≡ Ok (o, f, r) → Found language text depth nodes ts o f r
 unfolding statement_at
-statement_sound text depth inner hi nodes ts o f r e = begun_sound text depth inner hi nodes (marks_at ts).0 ts (marks_at ts).1 o f r (marks_sound ts).0 e
+statement_sound language text depth inner hi nodes ts o f r e = begun_sound language text depth inner hi nodes (marks_at ts).0 ts (marks_at ts).1 o f r (marks_sound ts).0 e
 
 -- ---- statements one after the other
 
-end_found : (text : List ℕ) (depth : ℕ) (nodes : Bool) (ts : List Lexeme) (g : Option Fault) (q : List Lexeme) (es : List (Entry (List Piece))) (f : Option Fault) (rest : List Lexeme)
-    → Begins ts EndBrace q × (g ≡ None) → several.part [] g q ≡ several.part es f rest → BodyFound text depth nodes ts es f rest
+end_found : (language : Language) (text : List ℕ) (depth : ℕ) (nodes : Bool) (ts : List Lexeme) (g : Option Fault) (q : List Lexeme) (es : List (Entry (List Piece))) (f : Option Fault) (rest : List Lexeme)
+    → Begins ts EndBrace q × (g ≡ None) → several.part [] g q ≡ several.part es f rest → BodyFound language text depth nodes ts es f rest
 unfolding SpellsStatements entries_of faults_in
-end_found text depth nodes ts g q es f rest h e =
+end_found language text depth nodes ts g q es f rest h e =
     let p = several.part_is [] es g f q rest e in
     record { tree = End; spells = subst (λ (x : List Lexeme). Begins ts EndBrace x) p.2 h.0; entries = p.0; faults = sym h.1 ∙ p.1 }
 
-then_found : (text : List ℕ) (depth : ℕ) (nodes : Bool) (ts : List Lexeme) (a : Entry (List Piece)) (g : Option Fault) (q : List Lexeme) (bs : List (Entry (List Piece))) (h : Option Fault) (r : List Lexeme) (es : List (Entry (List Piece))) (f : Option Fault) (rest : List Lexeme)
-    → StatementFound text depth nodes ts a g q → BodyFound text depth (after nodes a) q bs h r → several.part (a ∷ bs) (earlier g h) r ≡ several.part es f rest → BodyFound text depth nodes ts es f rest
-then_found text depth nodes ts a g q bs h r es f rest s b e =
+then_found : (language : Language) (text : List ℕ) (depth : ℕ) (nodes : Bool) (ts : List Lexeme) (a : Entry (List Piece)) (g : Option Fault) (q : List Lexeme) (bs : List (Entry (List Piece))) (h : Option Fault) (r : List Lexeme) (es : List (Entry (List Piece))) (f : Option Fault) (rest : List Lexeme)
+    → StatementFound language text depth nodes ts a g q → BodyFound language text depth (after nodes a) q bs h r → several.part (a ∷ bs) (earlier g h) r ≡ several.part es f rest → BodyFound language text depth nodes ts es f rest
+then_found language text depth nodes ts a g q bs h r es f rest s b e =
     let p = several.part_is (a ∷ bs) es (earlier g h) f r rest e in
     record {
       tree = s.make b.tree;
-      spells = s.spells b.tree rest (subst (λ (x : List Lexeme). SpellsStatements depth (after nodes a) b.tree q x) p.2 b.spells);
+      spells = s.spells b.tree rest (subst (λ (x : List Lexeme). SpellsStatements language depth (after nodes a) b.tree q x) p.2 b.spells);
       entries = s.entries b.tree ∙ ap (λ (x : List (Entry (List Piece))). a ∷ x) b.entries ∙ p.0;
       faults = s.faults b.tree ∙ ap (earlier g) b.faults ∙ p.1;
     }
 
-many_found : (text : List ℕ) (depth : ℕ) (inner : Inner) → InnerSound text depth inner → (n : ℕ) (nodes : Bool) (ts : List Lexeme) (es : List (Entry (List Piece))) (f : Option Fault) (rest : List Lexeme)
-    → many after (statement_at text inner) n nodes ts ≡ Ok (es, f, rest) → BodyFound text depth nodes ts es f rest
+many_found : (language : Language) (text : List ℕ) (depth : ℕ) (inner : Inner) → InnerSound language text depth inner → (n : ℕ) (nodes : Bool) (ts : List Lexeme) (es : List (Entry (List Piece))) (f : Option Fault) (rest : List Lexeme)
+    → many after (statement_at language text inner) n nodes ts ≡ Ok (es, f, rest) → BodyFound language text depth nodes ts es f rest
 unfolding many
-many_found text depth inner hi zero nodes ts es f rest e = absurd cc
-many_found text depth inner hi (suc n) nodes ts es f rest e =
-    let b = bind_ok (statement_at text inner nodes ts) (λ x. with_item {B = Part (List (Entry (List Piece)))} x.0 (Ok ([], x.1, x.2)) (λ a. many after (statement_at text inner) n (after nodes a) x.2 >>= λ y. Ok (a ∷ y.0, earlier x.1 y.1, y.2))) (es, f, rest) e in
-    go (λ nodes r bs h q k. many_found text depth inner hi n nodes r bs h q k) b.0.0 b.0.1 b.0.2 b.1 b.2
+many_found language text depth inner hi zero nodes ts es f rest e = absurd cc
+many_found language text depth inner hi (suc n) nodes ts es f rest e =
+    let b = bind_ok (statement_at language text inner nodes ts) (λ x. with_item {B = Part (List (Entry (List Piece)))} x.0 (Ok ([], x.1, x.2)) (λ a. many after (statement_at language text inner) n (after nodes a) x.2 >>= λ y. Ok (a ∷ y.0, earlier x.1 y.1, y.2))) (es, f, rest) e in
+    go (λ nodes r bs h q k. many_found language text depth inner hi n nodes r bs h q k) b.0.0 b.0.1 b.0.2 b.1 b.2
   where
-    go : ((nodes : Bool) (r : List Lexeme) (bs : List (Entry (List Piece))) (h : Option Fault) (q : List Lexeme) → many after (statement_at text inner) n nodes r ≡ Ok (bs, h, q) → BodyFound text depth nodes r bs h q)
-        → (o : Option (Entry (List Piece))) (g : Option Fault) (r : List Lexeme) → statement_at text inner nodes ts ≡ Ok (o, g, r)
-        → with_item {B = Part (List (Entry (List Piece)))} o (Ok ([], g, r)) (λ a. many after (statement_at text inner) n (after nodes a) r >>= λ y. Ok (a ∷ y.0, earlier g y.1, y.2)) ≡ Ok (es, f, rest) → BodyFound text depth nodes ts es f rest
-    go next None g r h k = end_found text depth nodes ts g r es f rest (statement_sound text depth inner hi nodes ts None g r h) k
+    go : ((nodes : Bool) (r : List Lexeme) (bs : List (Entry (List Piece))) (h : Option Fault) (q : List Lexeme) → many after (statement_at language text inner) n nodes r ≡ Ok (bs, h, q) → BodyFound language text depth nodes r bs h q)
+        → (o : Option (Entry (List Piece))) (g : Option Fault) (r : List Lexeme) → statement_at language text inner nodes ts ≡ Ok (o, g, r)
+        → with_item {B = Part (List (Entry (List Piece)))} o (Ok ([], g, r)) (λ a. many after (statement_at language text inner) n (after nodes a) r >>= λ y. Ok (a ∷ y.0, earlier g y.1, y.2)) ≡ Ok (es, f, rest) → BodyFound language text depth nodes ts es f rest
+    go next None g r h k = end_found language text depth nodes ts g r es f rest (statement_sound language text depth inner hi nodes ts None g r h) k
     go next (Some a) g r h k =
-        let b = bind_ok (many after (statement_at text inner) n (after nodes a) r) (λ y. Ok (a ∷ y.0, earlier g y.1, y.2)) (es, f, rest) k in
-        then_found text depth nodes ts a g r b.0.0 b.0.1 b.0.2 es f rest (statement_sound text depth inner hi nodes ts (Some a) g r h) (next (after nodes a) r b.0.0 b.0.1 b.0.2 b.1) b.2
+        let b = bind_ok (many after (statement_at language text inner) n (after nodes a) r) (λ y. Ok (a ∷ y.0, earlier g y.1, y.2)) (es, f, rest) k in
+        then_found language text depth nodes ts a g r b.0.0 b.0.1 b.0.2 es f rest (statement_sound language text depth inner hi nodes ts (Some a) g r h) (next (after nodes a) r b.0.0 b.0.1 b.0.2 b.1) b.2
 
-pub statements_sound : (text : List ℕ) (depth : ℕ) (inner : Inner) → InnerSound text depth inner → (ts : List Lexeme) (es : List (Entry (List Piece))) (f : Option Fault) (rest : List Lexeme)
-    → statements_at text inner ts ≡ Ok (es, f, rest) → BodyFound text depth false ts es f rest
-statements_sound text depth inner hi ts es f rest e = many_found text depth inner hi (suc (length ts)) false ts es f rest e
+pub statements_sound : (language : Language) (text : List ℕ) (depth : ℕ) (inner : Inner) → InnerSound language text depth inner → (ts : List Lexeme) (es : List (Entry (List Piece))) (f : Option Fault) (rest : List Lexeme)
+    → statements_at language text inner ts ≡ Ok (es, f, rest) → BodyFound language text depth false ts es f rest
+statements_sound language text depth inner hi ts es f rest e = many_found language text depth inner hi (suc (length ts)) false ts es f rest e
 
-pub body_sound : (text : List ℕ) (depth : ℕ) → InnerSound text depth (body_below text depth)
+pub body_sound : (language : Language) (text : List ℕ) (depth : ℕ) → InnerSound language text depth (body_below language text depth)
 unfolding body_below
-body_sound text zero = record { by = λ t ts es f rest e. absurd cc }
-body_sound text (suc depth) = record {
+body_sound language text zero = record { by = λ t ts es f rest e. absurd cc }
+body_sound language text (suc depth) = record {
   by = λ t ts es f rest e.
-      let b = statements_sound text depth (body_below text depth) (body_sound text depth) ts es f rest e in
+      let b = statements_sound language text depth (body_below language text depth) (body_sound language text depth) ts es f rest e in
       record { tree = b.tree; spells = b.spells; entries = b.entries; faults = b.faults };
 }

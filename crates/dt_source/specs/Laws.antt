@@ -15,16 +15,17 @@ use Rattle.dt_source.specs.Reading.Whole.{source_at}
 -- What is read is spelled so: it says that, and has that first fault.
 abbrev pub SourcesAreSpelled : Type 0
 SourcesAreSpelled =
-    (text : List ℕ) (ts : List Lexeme) (m : Meaning) (f : Option Fault) → source_at text ts ≡ Ok (m, f)
-    → (s : SourceTree) × Spells s ts × (said text s ≡ m) × (first_of (faults_of text s) ≡ f)
+    (language : Language) (text : List ℕ) (ts : List Lexeme) (m : Meaning) (f : Option Fault) → source_at language text ts ≡ Ok (m, f)
+    → (s : SourceTree) × Spells language s ts × (said language text s ≡ m) × (first_of (faults_of language text s) ≡ f)
 
 -- What is spelled is read.
 abbrev pub SourcesAreRead : Type 0
-SourcesAreRead = (text : List ℕ) (s : SourceTree) (ts : List Lexeme) → Spells s ts → source_at text ts ≡ Ok (said text s, first_of (faults_of text s))
+SourcesAreRead =
+    (language : Language) (text : List ℕ) (s : SourceTree) (ts : List Lexeme) → Spells language s ts → source_at language text ts ≡ Ok (said language text s, first_of (faults_of language text s))
 
 -- Lexemes spell at most one source, in one way.
 abbrev pub OneSpelling : Type 0
-OneSpelling = (ts : List Lexeme) (s t : SourceTree) → Spells s ts → Spells t ts → s ≡ t
+OneSpelling = (language : Language) (ts : List Lexeme) (s t : SourceTree) → Spells language s ts → Spells language t ts → s ≡ t
 
 -- Nothing but want of memory refuses a text that says something.
 abbrev pub OnlyMemoryRefusesWhatIsSaid : Type 0

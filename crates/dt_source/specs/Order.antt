@@ -17,4 +17,4 @@ IsFirstInText (Some f) fs = Contains fs f × All (λ g. f.place ≤ g.place) fs
 
 -- The first fault that is met is the first in the text.
 abbrev pub FaultsAreInOrder : Type 0
-FaultsAreInOrder = (language : Language) (text : List ℕ) (ls : List Lexeme) (s : SourceTree) → Lexemes language text ls → Spells s ls → IsFirstInText (first_of (faults_of text s)) (faults_of text s)
+FaultsAreInOrder = (language : Language) (text : List ℕ) (ls : List Lexeme) (s : SourceTree) → Lexemes language text ls → Spells language s ls → IsFirstInText (first_of (faults_of language text s)) (faults_of language text s)

@@ -27,7 +27,7 @@ IsShort text = length text ≤ text_limit
 
 -- Some lexemes of the text spell the source.
 abbrev pub IsSource : Language → List ℕ → SourceTree → Type 0
-IsSource language text s = (ls : List Lexeme) × Lexemes language text ls × Spells s ls
+IsSource language text s = (ls : List Lexeme) × Lexemes language text ls × Spells language s ls
 
 -- The text isn't in the bounded grammar.
 abbrev pub IsNoSource : Language → List ℕ → Type 0
@@ -35,7 +35,7 @@ IsNoSource language text = (s : SourceTree) → IsSource language text s → ⊥
 
 -- The text spells a source without faults, and this is what it says.
 abbrev pub Says : Language → List ℕ → Meaning → Type 0
-Says language text m = (s : SourceTree) × IsSource language text s × (faults_of text s ≡ []) × (said text s ≡ m)
+Says language text m = (s : SourceTree) × IsSource language text s × (faults_of language text s ≡ []) × (said language text s ≡ m)
 
 -- The first of the faults, which is the first in the text, or there is none.
 abbrev pub IsFirst : Option Fault → List Fault → Type 0
@@ -43,7 +43,7 @@ IsFirst f fs = (first_of fs ≡ f) × IsFirstInText f fs
 
 -- The text spells a source with faults, and this is the first of them.
 abbrev pub HasFirstFault : Language → List ℕ → Fault → Type 0
-HasFirstFault language text f = (s : SourceTree) × IsSource language text s × IsFirst (Some f) (faults_of text s)
+HasFirstFault language text f = (s : SourceTree) × IsSource language text s × IsFirst (Some f) (faults_of language text s)
 
 -- ---- where a text that is no source stops
 
@@ -65,7 +65,7 @@ refusal_of (Some place) (Err r) = Some (refusal_before place r)
 
 -- The text is refused at this place: its lexemes, or those before it breaks off, read from left to right, are refused there.
 abbrev pub StopsAt : Language → List ℕ → Refusal → Type 0
-StopsAt language text r = (ls : List Lexeme) × (end : Option ℕ) × Scanned language text ls end × (refusal_of end (source_at text ls) ≡ Some r)
+StopsAt language text r = (ls : List Lexeme) × (end : Option ℕ) × Scanned language text ls end × (refusal_of end (source_at language text ls) ≡ Some r)
 
 abbrev pub IsRefused : Language → List ℕ → Refusal → Type 0
 IsRefused language text r = IsNoSource language text × StopsAt language text r
@@ -93,7 +93,7 @@ Refuses language text kinds.BadEscape line = HasFault language text BadEscape li
 
 -- what was read of a text: what its source says, and the first of its faults
 abbrev pub IsRead : Language → List ℕ → Meaning → Option Fault → Type 0
-IsRead language text m f = (s : SourceTree) × IsSource language text s × (said text s ≡ m) × IsFirst f (faults_of text s)
+IsRead language text m f = (s : SourceTree) × IsSource language text s × (said language text s ≡ m) × IsFirst f (faults_of language text s)
 
 abbrev pub IfRefused : Language → List ℕ → ReadError → Type 0
 IfRefused language text errors.NoMemory = Unit {0}

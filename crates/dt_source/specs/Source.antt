@@ -1,6 +1,8 @@
 -- Sources, the lexemes that spell them, what they say, and their faults (Devicetree Specification v0.4, sections 6.2 and 6.3). What
 -- begins with a lexeme that only dtc's language has is dtc's (dtc 1.6, Documentation/dts-format.txt).
-use Rattle.std.specs.Prelude.{◌≡◌, ◌≢◌, ℕ, Bool, true, false, ◌||◌, List, [], ◌∷◌, ◌++◌, Option, Some, None, Result, Ok, map, flat_map, ◌⊎◌}
+use Rattle.std.specs.Prelude.{◌≡◌, ◌≢◌, ℕ, nat_le, length, Bool, true, false, ◌||◌, List, [], ◌∷◌, ◌++◌, Option, Some, None, Result, Ok, map, flat_map, ◌⊎◌, if◌then◌else◌}
+use Rattle.dt_lexeme.specs.declared.language.Language.{Language}
+use Rattle.dt_lexeme.specs.declared.language.Language.TheVariants.{Profile, Dtc}
 use Rattle.dt_lexeme.specs.declared.lexeme.Lexeme.{Lexeme}
 use Rattle.dt_lexeme.specs.declared.lexeme.Fault.{Fault}
 use Rattle.dt_lexeme.specs.declared.lexeme.Kind.{Kind}
@@ -125,32 +127,49 @@ abbrev pub SpellsValue : List PieceTree → List Lexeme → List Lexeme → Type
 SpellsValue [] ts rest = ts ≡ rest
 SpellsValue (p ∷ ps) ts rest = (a b : List Lexeme) × Begins ts Equals a × SpellsPlaced p a b × SpellsEach SpellsFurther ps b rest
 
+-- What may stand before a deletion in a body, and says nothing: marks in dtc's language, which are labels where a property
+-- is deleted; in the profile nothing.
+abbrev pub stand_before_deletion : Language → Kind → List Lexeme → Bool
+stand_before_deletion Profile k [] = true
+stand_before_deletion Profile k (m ∷ ms) = false
+stand_before_deletion Dtc DeleteProperty ms = if omits ms then false else true
+stand_before_deletion Dtc _ ms = true
+
+abbrev pub BeginsDeletion : Language → Kind → List Lexeme → List Lexeme → Type 0
+BeginsDeletion language k ts rest = (ms a : List Lexeme) × SpellsMarks ms ts a × (stand_before_deletion language k ms ≡ true) × Begins a k rest
+
 -- Where nodes is true a node or the deletion of one stood before, and no property follows. A body in this one may
 -- stand where a level is left. The closing brace belongs to the spelling.
-unfoldable pub SpellsStatements : ℕ → Bool → Statements → List Lexeme → List Lexeme → Type 0
-SpellsStatements depth nodes End ts rest = Begins ts EndBrace rest
-SpellsStatements depth nodes (Sets ls n v more) ts rest =
-    (nodes ≡ false) × (a b c d : List Lexeme) × SpellsLabels ls ts a × One Name n a b × SpellsValue v b c × Begins c Semicolon d × SpellsStatements depth false more d rest
-SpellsStatements depth nodes (Unsets n more) ts rest =
-    (nodes ≡ false) × (a b c : List Lexeme) × Begins ts DeleteProperty a × One Name n a b × Begins b Semicolon c × SpellsStatements depth false more c rest
-SpellsStatements depth nodes (Holds ms n body more) ts rest =
+unfoldable pub SpellsStatements : Language → ℕ → Bool → Statements → List Lexeme → List Lexeme → Type 0
+SpellsStatements language depth nodes End ts rest = Begins ts EndBrace rest
+SpellsStatements language depth nodes (Sets ls n v more) ts rest =
+    (nodes ≡ false) × (a b c d : List Lexeme) × SpellsLabels ls ts a × One Name n a b × SpellsValue v b c × Begins c Semicolon d × SpellsStatements language depth false more d rest
+SpellsStatements language depth nodes (Unsets n more) ts rest =
+    (nodes ≡ false) × (a b c : List Lexeme) × BeginsDeletion language DeleteProperty ts a × One Name n a b × Begins b Semicolon c × SpellsStatements language depth false more c rest
+SpellsStatements language depth nodes (Holds ms n body more) ts rest =
     (a b c d e : List Lexeme) × SpellsMarks ms ts a × One Name n a b × Begins b Brace c
-    × Deeper depth (λ inner. SpellsStatements inner false body c d) × Begins d Semicolon e × SpellsStatements depth true more e rest
-SpellsStatements depth nodes (Drops n more) ts rest =
-    (a b c : List Lexeme) × Begins ts DeleteNode a × One Name n a b × Begins b Semicolon c × SpellsStatements depth true more c rest
+    × Deeper depth (λ inner. SpellsStatements language inner false body c d) × Begins d Semicolon e × SpellsStatements language depth true more e rest
+SpellsStatements language depth nodes (Drops n more) ts rest =
+    (a b c : List Lexeme) × BeginsDeletion language DeleteNode ts a × One Name n a b × Begins b Semicolon c × SpellsStatements language depth true more c rest
 
 -- how many bodies stand within one another below an item's, at most: as many levels as a tree has
 abbrev pub body_limit : ℕ
 body_limit = 64
 
-abbrev pub SpellsBody : Statements → List Lexeme → List Lexeme → Type 0
-SpellsBody s ts rest = (a b : List Lexeme) × Begins ts Brace a × SpellsStatements body_limit false s a b × Begins b Semicolon rest
+abbrev pub SpellsBody : Language → Statements → List Lexeme → List Lexeme → Type 0
+SpellsBody language s ts rest = (a b : List Lexeme) × Begins ts Brace a × SpellsStatements language body_limit false s a b × Begins b Semicolon rest
 
-abbrev pub SpellsItem : ItemTree → List Lexeme → List Lexeme → Type 0
-SpellsItem (Root s) ts rest = (a : List Lexeme) × Begins ts Slash a × SpellsBody s a rest
-SpellsItem (Extend ls l s) ts rest = (a b : List Lexeme) × SpellsLabels ls ts a × OneReference l a b × SpellsBody s b rest
-SpellsItem (Delete l) ts rest = (a b : List Lexeme) × Begins ts DeleteNode a × OneReference l a b × Begins b Semicolon rest
-SpellsItem (Omit l) ts rest = (a b : List Lexeme) × Begins ts OmitIfNoRef a × OneReference l a b × Begins b Semicolon rest
+-- Before a reference stands any number of labels, in dtc's language one at most.
+abbrev pub stand_before_reference : Language → List Lexeme → Bool
+stand_before_reference Profile ls = true
+stand_before_reference Dtc ls = nat_le (length ls) 1
+
+abbrev pub SpellsItem : Language → ItemTree → List Lexeme → List Lexeme → Type 0
+SpellsItem language (Root s) ts rest = (a : List Lexeme) × Begins ts Slash a × SpellsBody language s a rest
+SpellsItem language (Extend ls l s) ts rest =
+    (a b : List Lexeme) × SpellsLabels ls ts a × OneReference l a b × SpellsBody language s b rest × (stand_before_reference language ls ≡ true)
+SpellsItem language (Delete l) ts rest = (a b : List Lexeme) × Begins ts DeleteNode a × OneReference l a b × Begins b Semicolon rest
+SpellsItem language (Omit l) ts rest = (a b : List Lexeme) × Begins ts OmitIfNoRef a × OneReference l a b × Begins b Semicolon rest
 
 abbrev pub SpellsReserve : ReserveTree → List Lexeme → List Lexeme → Type 0
 SpellsReserve r ts rest = (a b c d : List Lexeme) × DropsLabels ts a × Begins a MemReserve b × SpellsPrimary r.address b c × SpellsPrimary r.size c d × Begins d Semicolon rest
@@ -159,11 +178,11 @@ abbrev pub SpellsHeader : Bool → List Lexeme → List Lexeme → Type 0
 SpellsHeader false ts rest = (a : List Lexeme) × Begins ts Version a × Begins a Semicolon rest
 SpellsHeader true ts rest = (a b c : List Lexeme) × Begins ts Version a × Begins a Semicolon b × Begins b Plugin c × Begins c Semicolon rest
 
--- All the lexemes spell the source.
-unfoldable pub Spells : SourceTree → List Lexeme → Type 0
-Spells s ts =
+-- All the lexemes spell the source in this language.
+unfoldable pub Spells : Language → SourceTree → List Lexeme → Type 0
+Spells language s ts =
     (s.headers ≢ []) × (s.items ≢ []) × (a b : List Lexeme)
-    × SpellsEach SpellsHeader s.headers ts a × SpellsEach SpellsReserve s.reserves a b × SpellsEach SpellsItem s.items b []
+    × SpellsEach SpellsHeader s.headers ts a × SpellsEach SpellsReserve s.reserves a b × SpellsEach (SpellsItem language) s.items b []
 
 -- ---- what is said
 
@@ -189,29 +208,29 @@ abbrev pub portion_values : List ℕ → PortionTree → Option (Value × Value)
 portion_values text Whole = None
 portion_values text (Portion o n) = Some (value_of text o, value_of text n)
 
-abbrev pub piece_said : List ℕ → PieceTree → List Piece
-piece_said text (Quoted l) = Plain (string_bytes text l) ∷ []
-piece_said text (Points l) = PathOf (target_of text l) ∷ []
-piece_said text (Pairs ls) = Plain (concat (map (pair_bytes text) ls)) ∷ []
-piece_said text (Cells cs) = cells_said text (Some ThirtyTwo) cs
-piece_said text (WideCells l cs) = cells_said text (width_in (width_said text l)) cs
-piece_said text (Includes w l p) = portion_pieces w.start (portion_values text p)
+abbrev pub piece_said : Language → List ℕ → PieceTree → List Piece
+piece_said language text (Quoted l) = Plain (string_bytes language text l) ∷ []
+piece_said language text (Points l) = PathOf (target_of text l) ∷ []
+piece_said language text (Pairs ls) = Plain (concat (map (pair_bytes text) ls)) ∷ []
+piece_said language text (Cells cs) = cells_said text (Some ThirtyTwo) cs
+piece_said language text (WideCells l cs) = cells_said text (width_in (width_said text l)) cs
+piece_said language text (Includes w l p) = portion_pieces w.start (portion_values text p)
 
-abbrev pub value_said : List ℕ → List PieceTree → List Piece
-value_said text ps = joined (flat_map (piece_said text) ps)
+abbrev pub value_said : Language → List ℕ → List PieceTree → List Piece
+value_said language text ps = joined (flat_map (piece_said language text) ps)
 
-unfoldable pub entries_of : List ℕ → Statements → List (Entry (List Piece))
-entries_of text End = []
-entries_of text (Sets ls n v more) = Defines (name_bytes text n) (value_said text v) ∷ entries_of text more
-entries_of text (Unsets n more) = Undefines (name_bytes text n) ∷ entries_of text more
-entries_of text (Holds ms n body more) = Child (omits ms) (map (label_bytes text) (labels_in ms)) (name_bytes text n) (body_of (entries_of text body)) ∷ entries_of text more
-entries_of text (Drops n more) = Removes (name_bytes text n) ∷ entries_of text more
+unfoldable pub entries_of : Language → List ℕ → Statements → List (Entry (List Piece))
+entries_of language text End = []
+entries_of language text (Sets ls n v more) = Defines (name_bytes text n) (value_said language text v) ∷ entries_of language text more
+entries_of language text (Unsets n more) = Undefines (name_bytes text n) ∷ entries_of language text more
+entries_of language text (Holds ms n body more) = Child (omits ms) (map (label_bytes text) (labels_in ms)) (name_bytes text n) (body_of (entries_of language text body)) ∷ entries_of language text more
+entries_of language text (Drops n more) = Removes (name_bytes text n) ∷ entries_of language text more
 
-abbrev pub item_said : List ℕ → ItemTree → Edit
-item_said text (Root s) = Rooted (body_of (entries_of text s))
-item_said text (Extend ls l s) = Extends (map (label_bytes text) ls) (target_of text l) (body_of (entries_of text s))
-item_said text (Delete l) = Deletes (target_of text l)
-item_said text (Omit l) = Omits (target_of text l)
+abbrev pub item_said : Language → List ℕ → ItemTree → Edit
+item_said language text (Root s) = Rooted (body_of (entries_of language text s))
+item_said language text (Extend ls l s) = Extends (map (label_bytes text) ls) (target_of text l) (body_of (entries_of language text s))
+item_said language text (Delete l) = Deletes (target_of text l)
+item_said language text (Omit l) = Omits (target_of text l)
 
 -- the pairs of numbers that have no fault
 abbrev pub both_numbers : Value × Value → List (ℕ × ℕ)
@@ -226,8 +245,8 @@ any [] = false
 any (b ∷ bs) = b || any bs
 
 -- A source is a plugin where any header says so.
-unfoldable pub said : List ℕ → SourceTree → Meaning
-said text s = record { plugin = any s.headers; reserves = flat_map both_numbers (map (reserve_values text) s.reserves); items = map (item_said text) s.items }
+unfoldable pub said : Language → List ℕ → SourceTree → Meaning
+said language text s = record { plugin = any s.headers; reserves = flat_map both_numbers (map (reserve_values text) s.reserves); items = map (item_said language text) s.items }
 
 -- ---- faults, in the order of the text
 
@@ -242,32 +261,32 @@ abbrev pub portion_faults : Option (Value × Value) → List Fault
 portion_faults None = []
 portion_faults (Some x) = fault_list (fault_in x.0) ++ fault_list (fault_in x.1)
 
-abbrev pub piece_faults : List ℕ → PieceTree → List Fault
-piece_faults text (Quoted l) = string_faults text l
-piece_faults text (Points l) = []
-piece_faults text (Pairs ls) = []
-piece_faults text (Cells cs) = cells_faults text (Some ThirtyTwo) cs
-piece_faults text (WideCells l cs) = fault_list (fault_in (width_said text l)) ++ cells_faults text (width_in (width_said text l)) cs
-piece_faults text (Includes w l p) = string_faults text l ++ portion_faults (portion_values text p)
+abbrev pub piece_faults : Language → List ℕ → PieceTree → List Fault
+piece_faults language text (Quoted l) = string_faults language text l
+piece_faults language text (Points l) = []
+piece_faults language text (Pairs ls) = []
+piece_faults language text (Cells cs) = cells_faults text (Some ThirtyTwo) cs
+piece_faults language text (WideCells l cs) = fault_list (fault_in (width_said text l)) ++ cells_faults text (width_in (width_said text l)) cs
+piece_faults language text (Includes w l p) = string_faults language text l ++ portion_faults (portion_values text p)
 
-abbrev pub value_faults : List ℕ → List PieceTree → List Fault
-value_faults text ps = flat_map (piece_faults text) ps
+abbrev pub value_faults : Language → List ℕ → List PieceTree → List Fault
+value_faults language text ps = flat_map (piece_faults language text) ps
 
-unfoldable pub faults_in : List ℕ → Statements → List Fault
-faults_in text End = []
-faults_in text (Sets ls n v more) = value_faults text v ++ faults_in text more
-faults_in text (Unsets n more) = faults_in text more
-faults_in text (Holds ls n body more) = faults_in text body ++ faults_in text more
-faults_in text (Drops n more) = faults_in text more
+unfoldable pub faults_in : Language → List ℕ → Statements → List Fault
+faults_in language text End = []
+faults_in language text (Sets ls n v more) = value_faults language text v ++ faults_in language text more
+faults_in language text (Unsets n more) = faults_in language text more
+faults_in language text (Holds ls n body more) = faults_in language text body ++ faults_in language text more
+faults_in language text (Drops n more) = faults_in language text more
 
-abbrev pub item_faults : List ℕ → ItemTree → List Fault
-item_faults text (Root s) = faults_in text s
-item_faults text (Extend ls l s) = faults_in text s
-item_faults text (Delete l) = []
-item_faults text (Omit l) = []
+abbrev pub item_faults : Language → List ℕ → ItemTree → List Fault
+item_faults language text (Root s) = faults_in language text s
+item_faults language text (Extend ls l s) = faults_in language text s
+item_faults language text (Delete l) = []
+item_faults language text (Omit l) = []
 
 abbrev pub reserve_faults : List ℕ → ReserveTree → List Fault
 reserve_faults text r = fault_list (fault_in (value_of text r.address)) ++ fault_list (fault_in (value_of text r.size))
 
-unfoldable pub faults_of : List ℕ → SourceTree → List Fault
-faults_of text s = flat_map (reserve_faults text) s.reserves ++ flat_map (item_faults text) s.items
+unfoldable pub faults_of : Language → List ℕ → SourceTree → List Fault
+faults_of language text s = flat_map (reserve_faults text) s.reserves ++ flat_map (item_faults language text) s.items

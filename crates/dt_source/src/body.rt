@@ -4,7 +4,7 @@ ghost use Rattle.dt_expression.specs.Reading.{Gives};
 ghost use Rattle.dt_source.specs.Reading.Returned.{ReadsStatement, ReadsBody};
 ghost use Rattle.dt_source.specs.Tree.{view};
 ghost use Rattle.dt_source.specs.Marks.{omits};
-ghost use Rattle.dt_source.specs.Reading.Bodies.{name_at, ended_by, bare_by, unmarked, begun_at};
+ghost use Rattle.dt_source.specs.Reading.Bodies.{name_at, ended_by, bare_by, marked_by, nameless, begun_at};
 ghost use Rattle.dt_source.specs.Reading.Bodies.{statement_at, named_below, after, body_below, body_at};
 
 use crate::marks::{labels_among, marks, omits};
@@ -14,7 +14,7 @@ use crate::room::push_sparingly;
 use crate::string::earlier;
 use crate::tree::{Statement, delete_node, delete_property, node, property};
 use dt_expression::{bytes_of, syntax_at, too_deep};
-use dt_lexeme::{Fault, Kind, Lexeme, ReadError, Refusal};
+use dt_lexeme::{Fault, Kind, Language, Lexeme, ReadError, Refusal};
 use std::alloc::{AllocError, Global};
 
 /// How many levels of bodies may stand in an item's body: as deep as nodes of a tree.
@@ -91,13 +91,14 @@ fn closed(nodes: bool, marks: &[Lexeme]) -> bool
 #[cycle(body)]
 fn begun<'a, 'text>(
     alloc: Global,
+    language: Language,
     text: &'text [u8],
     depth: u8,
     nodes: bool,
     marks: &[Lexeme],
     ts: &'a [Lexeme],
 ) -> ReadStatement<'a, 'text>
-    ensures gives { ReadsStatement result (begun_at text.now (body_below text.now depth) nodes marks.now ts.now) }
+    ensures gives { ReadsStatement result (begun_at language text.now (body_below language text.now depth) nodes marks.now ts.now) }
     ensures shorter { IfOk result (λ x. length x.rest.now < length ts.now) }
 {
     match ts {
@@ -106,6 +107,7 @@ fn begun<'a, 'text>(
             Kind::Name => {
                 named(
                     alloc,
+                    language,
                     text,
                     depth,
                     closed(nodes, marks),
@@ -114,13 +116,32 @@ fn begun<'a, 'text>(
                     rest,
                 )
             }
-            _ => unmarked(text, nodes, marks, *t, rest, ts),
+            _ => nameless(language, text, nodes, marks, *t, rest, ts),
         },
     }
 }
 
-// Nothing but a name follows marks.
-fn unmarked<'a, 'text>(
+// A deletion behind marks.
+fn marked<'a, 'text>(
+    text: &'text [u8],
+    closed: bool,
+    t: Lexeme,
+    rest: &'a [Lexeme],
+    ts: &'a [Lexeme],
+) -> ReadStatement<'a, 'text>
+    requires { ts.now ≡ t ∷ rest.now }
+    ensures gives { ReadsStatement result (marked_by text.now closed t.kind t rest.now) }
+    ensures shorter { IfOk result (λ x. length x.rest.now < length ts.now) }
+{
+    match t.kind {
+        Kind::EndBrace => Err(ReadError::Refused(syntax_at(ts))),
+        _ => bare(text, closed, t, rest, ts),
+    }
+}
+
+// What has no name: nothing of it follows marks in the profile, and a deletion alone in dtc's language.
+fn nameless<'a, 'text>(
+    language: Language,
     text: &'text [u8],
     nodes: bool,
     marks: &[Lexeme],
@@ -129,12 +150,15 @@ fn unmarked<'a, 'text>(
     ts: &'a [Lexeme],
 ) -> ReadStatement<'a, 'text>
     requires { ts.now ≡ t ∷ rest.now }
-    ensures gives { ReadsStatement result (unmarked text.now nodes marks.now t.kind t rest.now) }
+    ensures gives { ReadsStatement result (nameless language text.now nodes marks.now t.kind t rest.now) }
     ensures shorter { IfOk result (λ x. length x.rest.now < length ts.now) }
 {
     match marks {
         [] => bare(text, nodes, t, rest, ts),
-        [_, ..] => Err(ReadError::Refused(syntax_at(ts))),
+        [_, ..] => match language {
+            Language::Profile => Err(ReadError::Refused(syntax_at(ts))),
+            Language::Dtc => marked(text, closed(nodes, marks), t, rest, ts),
+        },
     }
 }
 
@@ -142,22 +166,24 @@ fn unmarked<'a, 'text>(
 #[tactic(auto, unfolding(crate::specs::Reading::Bodies::statement_at))]
 fn statement<'a, 'text>(
     alloc: Global,
+    language: Language,
     text: &'text [u8],
     depth: u8,
     nodes: bool,
     ts: &'a [Lexeme],
 ) -> ReadStatement<'a, 'text>
-    ensures gives { ReadsStatement result (statement_at text.now (body_below text.now depth) nodes ts.now) }
+    ensures gives { ReadsStatement result (statement_at language text.now (body_below language text.now depth) nodes ts.now) }
     ensures shorter { IfOk result (λ x. length x.rest.now < length ts.now) }
 {
     let (marks, rest) = marks(ts);
-    begun(alloc, text, depth, nodes, marks, rest)
+    begun(alloc, language, text, depth, nodes, marks, rest)
 }
 
 // What follows a name: the end of a property without value, a value, or a body. Where `nodes` is true no property may stand.
 #[cycle(body)]
 fn named<'a, 'text>(
     alloc: Global,
+    language: Language,
     text: &'text [u8],
     depth: u8,
     nodes: bool,
@@ -165,7 +191,7 @@ fn named<'a, 'text>(
     name: &'text [u8],
     ts: &'a [Lexeme],
 ) -> ReadStatement<'a, 'text>
-    ensures gives { ReadsStatement result (named_below text.now depth nodes marks.now name.now ts.now) }
+    ensures gives { ReadsStatement result (named_below language text.now depth nodes marks.now name.now ts.now) }
     ensures shorter { IfOk result (λ x. length x.rest.now < length ts.now) }
 {
     match ts {
@@ -176,11 +202,13 @@ fn named<'a, 'text>(
                 Ok(Read { found, fault, rest })
             }
             Kind::Equals if !nodes => {
-                let Read { found, fault, rest } = value(alloc, text, rest)?;
+                let Read { found, fault, rest } = value(alloc, language, text, rest)?;
                 end(property(name, found), fault, rest)
             }
             Kind::Brace => {
-                let Read { found, fault, rest } = body_deeper(alloc, text, depth, *t, rest)?;
+                let Read { found, fault, rest } = body_deeper(
+                    alloc, language, text, depth, *t, rest,
+                )?;
                 let labels = labels_among(alloc, text, marks)?;
                 end(node(omits(marks), labels, name, found), fault, rest)
             }
@@ -192,18 +220,19 @@ fn named<'a, 'text>(
 #[cycle(body)]
 fn body_deeper<'a, 'text>(
     alloc: Global,
+    language: Language,
     text: &'text [u8],
     depth: u8,
     brace: Lexeme,
     ts: &'a [Lexeme],
 ) -> ReadBody<'a, 'text>
-    ensures gives { ReadsBody result (body_below text.now depth brace ts.now) }
+    ensures gives { ReadsBody result (body_below language text.now depth brace ts.now) }
     ensures shorter { IfOk result (λ x. length x.rest.now < length ts.now) }
 {
     if depth == 0 {
         return Err(ReadError::Refused(too_deep(brace)));
     }
-    body(alloc, text, depth - 1, ts)
+    body(alloc, language, text, depth - 1, ts)
 }
 
 /// Reads a body behind its brace: its statements, its first fault, and the lexemes behind it. Bodies in it may be
@@ -211,11 +240,12 @@ fn body_deeper<'a, 'text>(
 #[cycle(body)]
 pub(crate) fn body<'a, 'text>(
     alloc: Global,
+    language: Language,
     text: &'text [u8],
     depth: u8,
     ts: &'a [Lexeme],
 ) -> ReadBody<'a, 'text>
-    ensures gives { ReadsBody result (body_at text.now depth ts.now) }
+    ensures gives { ReadsBody result (body_at language text.now depth ts.now) }
     ensures shorter { IfOk result (λ x. length x.rest.now < length ts.now) }
 {
     let mut statements = Vec::new(alloc);
@@ -223,7 +253,7 @@ pub(crate) fn body<'a, 'text>(
     let mut nodes = false;
     let mut left = ts;
     'statements: loop {
-        let Read { found, fault, rest } = statement(alloc, text, depth, nodes, left)?;
+        let Read { found, fault, rest } = statement(alloc, language, text, depth, nodes, left)?;
         first = earlier(first, fault);
         left = rest;
         match found {

@@ -14,7 +14,7 @@ use crate::reading::Pushed;
 use crate::string::{earlier, string_of};
 use crate::tree::{FilePart, Part};
 use dt_expression::{primary, syntax_at};
-use dt_lexeme::{Fault, Kind, Lexeme, ReadError, Refusal};
+use dt_lexeme::{Fault, Kind, Language, Lexeme, ReadError, Refusal};
 use std::alloc::{AllocError, Global};
 
 /// An offset and a length, where they are given.
@@ -65,17 +65,18 @@ fn separator(ts: &[Lexeme]) -> Result<&[Lexeme], Refusal>
 // The fault of a file's name, and what follows it. Who finds the file reads the name.
 fn file_name<'a>(
     alloc: Global,
+    language: Language,
     text: &[u8],
     ts: &'a [Lexeme],
 ) -> Result<(Option<Fault>, &'a [Lexeme]), ReadError>
-    ensures gives { Reads (λ x. (x.0, x.1.now)) result (file_name_at text.now ts.now) }
+    ensures gives { Reads (λ x. (x.0, x.1.now)) result (file_name_at language text.now ts.now) }
     ensures shorter { IfOk result (λ x. length x.1.now < length ts.now) }
 {
     match ts {
         [] => Err(ReadError::Refused(syntax_at(ts))),
         [t, rest @ ..] => match t.kind {
             Kind::Text => {
-                let (_, fault) = string_of(alloc, text, *t)?;
+                let (_, fault) = string_of(alloc, language, text, *t)?;
                 Ok((fault, rest))
             }
             _ => Err(ReadError::Refused(syntax_at(ts))),
@@ -155,15 +156,16 @@ fn push_portion(
 pub(crate) fn included<'a, 'text>(
     alloc: Global,
     parts: &mut Parts<'text>,
+    language: Language,
     text: &'text [u8],
     at: u32,
     ts: &'a [Lexeme],
 ) -> Pushed<'a>
-    ensures gives { Pushes parts.old parts.new result (included_at text.now at ts.now) }
+    ensures gives { Pushes parts.old parts.new result (included_at language text.now at ts.now) }
     ensures shorter { IfOk result (λ x. length x.1.now < length ts.now) }
 {
     let rest = paren(ts)?;
-    let (fault, rest) = file_name(alloc, text, rest)?;
+    let (fault, rest) = file_name(alloc, language, text, rest)?;
     let (portion, rest) = portion(text, rest)?;
     push_portion(alloc, parts, at, portion)?;
     Ok((earlier(fault, portion_fault(portion)), rest))

@@ -31,8 +31,8 @@ fn read<'a>(
 {
     let (lexemes, stop) = scan_front(alloc, text, language)?;
     match stop {
-        None => source(alloc, text, lexemes.as_slice()),
-        Some(place) => Err(refused_at(place, source(alloc, text, lexemes.as_slice()))),
+        None => source(alloc, language, text, lexemes.as_slice()),
+        Some(place) => Err(refused_at(place, source(alloc, language, text, lexemes.as_slice()))),
     }
 }
 

@@ -17,7 +17,7 @@ use crate::references::target;
 use crate::string::{earlier, string_of};
 use crate::tree::Part;
 use dt_expression::{Width, literal, syntax_at, width_of};
-use dt_lexeme::{Fault, FaultKind, Kind, Lexeme, ReadError};
+use dt_lexeme::{Fault, FaultKind, Kind, Language, Lexeme, ReadError};
 use std::alloc::Global;
 
 /// Whether it is a label.
@@ -109,17 +109,18 @@ fn bits<'a, 'text>(
 fn piece<'a, 'text>(
     alloc: Global,
     parts: &mut Parts<'text>,
+    language: Language,
     text: &'text [u8],
     ts: &'a [Lexeme],
 ) -> Pushed<'a>
-    ensures gives { Pushes parts.old parts.new result (piece_at text.now ts.now) }
+    ensures gives { Pushes parts.old parts.new result (piece_at language text.now ts.now) }
     ensures shorter { IfOk result (λ x. length x.1.now < length ts.now) }
 {
     match ts {
         [] => Err(ReadError::Refused(syntax_at(ts))),
         [t, rest @ ..] => match t.kind {
             Kind::Text => {
-                let (bytes, fault) = string_of(alloc, text, *t)?;
+                let (bytes, fault) = string_of(alloc, language, text, *t)?;
                 parts.push_bytes(bytes.as_slice())?;
                 Ok((fault, rest))
             }
@@ -134,7 +135,7 @@ fn piece<'a, 'text>(
             }
             Kind::Less => cells(alloc, parts, text, Some(Width::ThirtyTwo), rest),
             Kind::Bits => bits(alloc, parts, text, rest),
-            Kind::IncludeBinary => included(alloc, parts, text, t.start, rest),
+            Kind::IncludeBinary => included(alloc, parts, language, text, t.start, rest),
             _ => Err(ReadError::Refused(syntax_at(ts))),
         },
     }
@@ -145,14 +146,15 @@ fn piece<'a, 'text>(
 fn placed<'a, 'text>(
     alloc: Global,
     parts: &mut Parts<'text>,
+    language: Language,
     text: &'text [u8],
     ts: &'a [Lexeme],
 ) -> Pushed<'a>
-    ensures gives { Pushes parts.old parts.new result (placed_at text.now ts.now) }
+    ensures gives { Pushes parts.old parts.new result (placed_at language text.now ts.now) }
     ensures shorter { IfOk result (λ x. length x.1.now < length ts.now) }
 {
     let (_, bare) = labels(ts);
-    let (fault, behind) = piece(alloc, parts, text, bare)?;
+    let (fault, behind) = piece(alloc, parts, language, text, bare)?;
     let (_, rest) = labels(behind);
     Ok((fault, rest))
 }
@@ -174,15 +176,16 @@ fn comma<'a>(ts: &'a [Lexeme]) -> Option<&'a [Lexeme]>
 fn pieces<'a, 'text>(
     alloc: Global,
     parts: &mut Parts<'text>,
+    language: Language,
     text: &'text [u8],
     ts: &'a [Lexeme],
 ) -> Pushed<'a>
-    ensures gives { Pushes parts.old parts.new result (pieces_at text.now ts.now) }
+    ensures gives { Pushes parts.old parts.new result (pieces_at language text.now ts.now) }
     ensures shorter { IfOk result (λ x. length x.1.now < length ts.now) }
 {
-    let (mut first, mut left) = placed(alloc, parts, text, ts)?;
+    let (mut first, mut left) = placed(alloc, parts, language, text, ts)?;
     while let Some(rest) = comma(left) {
-        let (fault, after) = placed(alloc, parts, text, rest)?;
+        let (fault, after) = placed(alloc, parts, language, text, rest)?;
         first = earlier(first, fault);
         left = after;
     }
@@ -192,14 +195,15 @@ fn pieces<'a, 'text>(
 /// Reads a value behind its `=`: its parts, its first fault, and the lexemes behind it.
 pub(crate) fn value<'a, 'text>(
     alloc: Global,
+    language: Language,
     text: &'text [u8],
     ts: &'a [Lexeme],
 ) -> Result<Read<'a, Vec<Part<'text>>>, ReadError>
-    ensures gives { Reads (λ x. (map part_view x.found.items, x.fault, x.rest.now)) result (value_at text.now ts.now) }
+    ensures gives { Reads (λ x. (map part_view x.found.items, x.fault, x.rest.now)) result (value_at language text.now ts.now) }
     ensures shorter { IfOk result (λ x. length x.rest.now < length ts.now) }
 {
     let mut parts = Parts::new(alloc);
-    let (fault, rest) = pieces(alloc, &mut parts, text, ts)?;
+    let (fault, rest) = pieces(alloc, &mut parts, language, text, ts)?;
     let found = parts.finish(alloc)?;
     Ok(Read { found, fault, rest })
 }

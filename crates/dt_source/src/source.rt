@@ -11,19 +11,20 @@ ghost use Rattle.dt_source.specs.Reading.Bodies.{ended_by};
 ghost use Rattle.dt_source.specs.Source.{both_numbers};
 ghost use Rattle.dt_source.specs.Reading.Whole.{plugin_at, header_at, more_headers, headers_at, some_header};
 ghost use Rattle.dt_source.specs.Reading.Whole.{reserve_with, reserve_at, reserves_at, brace_at, extend_at};
+ghost use Rattle.dt_source.specs.Reading.Whole.{first_label_at, labels_before};
 ghost use Rattle.dt_source.specs.Reading.Whole.{referred_at, bare_item, unlabelled_item, item_with, item_at};
 ghost use Rattle.dt_source.specs.Reading.Whole.{all_items_at, items_at, source_at};
 
 use crate::body::{MAX_BODY_DEPTH, body};
 use crate::cells::fault_in;
 use crate::labels::labels_of;
-use crate::pieces::labels;
+use crate::pieces::{is_label, labels};
 use crate::reading::{Read, ReadBody, ReadItem, ReadReserve, ReadTarget, semicolon};
 use crate::references::target;
 use crate::string::earlier;
 use crate::tree::{Item, Outline, Statement};
 use dt_expression::{primary, syntax_at};
-use dt_lexeme::{Fault, Kind, Lexeme, ReadError, Refusal};
+use dt_lexeme::{Fault, Kind, Language, Lexeme, ReadError, Refusal};
 use std::alloc::{AllocError, Global};
 
 fn plugin(ts: &[Lexeme]) -> Result<(bool, &[Lexeme]), Refusal>
@@ -183,15 +184,26 @@ fn end_body<'a, 'text>(
 
 // The body of an item, and a semicolon.
 #[tactic(auto, unfolding(crate::specs::Reading::Whole::brace_at))]
-fn brace<'a, 'text>(alloc: Global, text: &'text [u8], ts: &'a [Lexeme]) -> ReadBody<'a, 'text>
-    ensures gives { ReadsItemBody result (brace_at text.now ts.now) }
+fn brace<'a, 'text>(
+    alloc: Global,
+    language: Language,
+    text: &'text [u8],
+    ts: &'a [Lexeme],
+) -> ReadBody<'a, 'text>
+    ensures gives { ReadsItemBody result (brace_at language text.now ts.now) }
     ensures shorter { IfOk result (λ x. length x.rest.now < length ts.now) }
 {
     match ts {
         [] => Err(ReadError::Refused(syntax_at(ts))),
         [t, rest @ ..] => match t.kind {
             Kind::Brace => {
-                let Read { found, fault, rest } = body(alloc, text, MAX_BODY_DEPTH, rest)?;
+                let Read { found, fault, rest } = body(
+                    alloc,
+                    language,
+                    text,
+                    MAX_BODY_DEPTH,
+                    rest,
+                )?;
                 end_body(found, fault, rest)
             }
             _ => Err(ReadError::Refused(syntax_at(ts))),
@@ -201,15 +213,16 @@ fn brace<'a, 'text>(alloc: Global, text: &'text [u8], ts: &'a [Lexeme]) -> ReadB
 
 fn extend<'a, 'text>(
     alloc: Global,
+    language: Language,
     text: &'text [u8],
     labels: &[Lexeme],
     t: Lexeme,
     ts: &'a [Lexeme],
 ) -> ReadItem<'a, 'text>
-    ensures gives { ReadsItem result (extend_at text.now labels.now t ts.now) }
+    ensures gives { ReadsItem result (extend_at language text.now labels.now t ts.now) }
     ensures shorter { IfOk result (λ x. length x.rest.now < length ts.now) }
 {
-    let Read { found, fault, rest } = brace(alloc, text, ts)?;
+    let Read { found, fault, rest } = brace(alloc, language, text, ts)?;
     let labels = labels_of(alloc, text, labels)?;
     let found = Some(Item::Extend {
         labels,
@@ -245,18 +258,19 @@ fn referred<'a, 'text>(text: &'text [u8], ts: &'a [Lexeme]) -> ReadTarget<'a, 't
 // The root again, or the deletion or mark of a node. The lexemes with this one are for the refusal.
 fn bare<'a, 'text>(
     alloc: Global,
+    language: Language,
     text: &'text [u8],
     t: Lexeme,
     rest: &'a [Lexeme],
     ts: &'a [Lexeme],
 ) -> ReadItem<'a, 'text>
     requires { ts.now ≡ t ∷ rest.now }
-    ensures gives { ReadsItem result (bare_item text.now t.kind t rest.now) }
+    ensures gives { ReadsItem result (bare_item language text.now t.kind t rest.now) }
     ensures shorter { IfOk result (λ x. length x.rest.now < length ts.now) }
 {
     match t.kind {
         Kind::Slash => {
-            let Read { found, fault, rest } = brace(alloc, text, rest)?;
+            let Read { found, fault, rest } = brace(alloc, language, text, rest)?;
             let found = Some(Item::Root(found));
             Ok(Read { found, fault, rest })
         }
@@ -277,6 +291,7 @@ fn bare<'a, 'text>(
 // Nothing but a reference follows labels.
 fn unlabelled<'a, 'text>(
     alloc: Global,
+    language: Language,
     text: &'text [u8],
     labels: &[Lexeme],
     t: Lexeme,
@@ -284,37 +299,67 @@ fn unlabelled<'a, 'text>(
     ts: &'a [Lexeme],
 ) -> ReadItem<'a, 'text>
     requires { ts.now ≡ t ∷ rest.now }
-    ensures gives { ReadsItem result (unlabelled_item text.now labels.now t.kind t rest.now) }
+    ensures gives { ReadsItem result (unlabelled_item language text.now labels.now t.kind t rest.now) }
     ensures shorter { IfOk result (λ x. length x.rest.now < length ts.now) }
 {
     match labels {
-        [] => bare(alloc, text, t, rest, ts),
+        [] => bare(alloc, language, text, t, rest, ts),
         [_, ..] => Err(ReadError::Refused(syntax_at(ts))),
     }
 }
 
 fn item_with<'a, 'text>(
     alloc: Global,
+    language: Language,
     text: &'text [u8],
     labels: &[Lexeme],
     ts: &'a [Lexeme],
 ) -> ReadItem<'a, 'text>
-    ensures gives { ReadsItem result (item_with text.now labels.now ts.now) }
+    ensures gives { ReadsItem result (item_with language text.now labels.now ts.now) }
     ensures shorter { IfOk result (λ x. length x.rest.now < length ts.now) }
 {
     match ts {
         [] => Err(ReadError::Refused(syntax_at(ts))),
         [t, rest @ ..] => match t.kind {
-            Kind::Reference | Kind::PathReference => extend(alloc, text, labels, *t, rest),
-            _ => unlabelled(alloc, text, labels, *t, rest, ts),
+            Kind::Reference | Kind::PathReference => extend(
+                alloc, language, text, labels, *t, rest,
+            ),
+            _ => unlabelled(alloc, language, text, labels, *t, rest, ts),
         },
+    }
+}
+
+// A label at the front, and what follows it.
+fn first_label(ts: &[Lexeme]) -> (&[Lexeme], &[Lexeme])
+    ensures gives { (result.0.now, result.1.now) ≡ first_label_at ts.now }
+    ensures shorter { length result.1.now ≤ length ts.now }
+{
+    match ts {
+        [t, ..] => ts.split_at(if is_label(t.kind) { 1 } else { 0 }),
+        [] => (ts, ts),
+    }
+}
+
+// The labels at the front that may stand before a reference, and what follows them: one at most in dtc's language.
+fn labels_before(language: Language, ts: &[Lexeme]) -> (&[Lexeme], &[Lexeme])
+    ensures gives { (result.0.now, result.1.now) ≡ labels_before language ts.now }
+    ensures shorter { length result.1.now ≤ length ts.now }
+{
+    match language {
+        Language::Profile => labels(ts),
+        Language::Dtc => first_label(ts),
     }
 }
 
 // An item, or the end.
 #[tactic(auto, unfolding(crate::specs::Reading::Whole::item_at))]
-fn item<'a, 'text>(alloc: Global, text: &'text [u8], ts: &'a [Lexeme]) -> ReadItem<'a, 'text>
-    ensures gives { ReadsItem result (item_at text.now ts.now) }
+fn item<'a, 'text>(
+    alloc: Global,
+    language: Language,
+    text: &'text [u8],
+    ts: &'a [Lexeme],
+) -> ReadItem<'a, 'text>
+    ensures gives { ReadsItem result (item_at language text.now ts.now) }
     ensures shorter { IfOk result (λ x. IfSome x.found (λ _. length x.rest.now < length ts.now)) }
 {
     if ts.is_empty() {
@@ -324,22 +369,23 @@ fn item<'a, 'text>(alloc: Global, text: &'text [u8], ts: &'a [Lexeme]) -> ReadIt
             rest: ts,
         });
     }
-    let (labels, rest) = labels(ts);
-    item_with(alloc, text, labels, rest)
+    let (labels, rest) = labels_before(language, ts);
+    item_with(alloc, language, text, labels, rest)
 }
 
 fn all_items<'a, 'text>(
     alloc: Global,
+    language: Language,
     text: &'text [u8],
     ts: &'a [Lexeme],
 ) -> Result<Read<'a, Vec<Item<'text>>>, ReadError>
-    ensures { Reads (λ x. (map item_view x.found.items, x.fault, x.rest.now)) result (all_items_at text.now ts.now) }
+    ensures { Reads (λ x. (map item_view x.found.items, x.fault, x.rest.now)) result (all_items_at language text.now ts.now) }
 {
     let mut items = Vec::new(alloc);
     let mut first = None;
     let mut left = ts;
     'items: loop {
-        let Read { found, fault, rest } = item(alloc, text, left)?;
+        let Read { found, fault, rest } = item(alloc, language, text, left)?;
         first = earlier(first, fault);
         match found {
             None => return Ok(Read {
@@ -356,12 +402,13 @@ fn all_items<'a, 'text>(
 #[tactic(auto, unfolding(crate::specs::Reading::Whole::items_at))]
 fn items<'text>(
     alloc: Global,
+    language: Language,
     text: &'text [u8],
     ts: &[Lexeme],
 ) -> Result<(Vec<Item<'text>>, Option<Fault>), ReadError>
-    ensures { Reads (λ x. (map item_view x.0.items, x.1)) result (items_at text.now ts.now) }
+    ensures { Reads (λ x. (map item_view x.0.items, x.1)) result (items_at language text.now ts.now) }
 {
-    let Read { found, fault, .. } = all_items(alloc, text, ts)?;
+    let Read { found, fault, .. } = all_items(alloc, language, text, ts)?;
     let mut items = found;
     if items.is_empty() {
         return Err(ReadError::Refused(syntax_at(ts)));
@@ -370,21 +417,22 @@ fn items<'text>(
     Ok((items, fault))
 }
 
-/// Reads the source that all the lexemes spell, and its first fault.
+/// Reads the source that all the lexemes spell in this language, and its first fault.
 #[tactic(auto, unfolding(crate::specs::Reading::Whole::source_at))]
 pub(crate) fn source<'text>(
     alloc: Global,
+    language: Language,
     text: &'text [u8],
     ts: &[Lexeme],
 ) -> Result<(Outline<'text>, Option<Fault>), ReadError>
-    ensures { Reads (λ x. (outlined x.0, x.1)) result (source_at text.now ts.now) }
+    ensures { Reads (λ x. (outlined x.0, x.1)) result (source_at language text.now ts.now) }
 {
     let (plugin, rest) = headers(ts)?;
     let plugin = some_header(plugin, ts)?;
     let Read { found, fault, rest } = reserves(alloc, text, rest)?;
     let mut reserves = found;
     reserves.shrink_to_fit();
-    let (items, later) = items(alloc, text, rest)?;
+    let (items, later) = items(alloc, language, text, rest)?;
     Ok((
         Outline {
             plugin,

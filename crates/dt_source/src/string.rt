@@ -1,13 +1,13 @@
 //! Strings and pairs of hex digits, as bytes.
 ghost use Rattle.std.specs.Prelude.{◌≡◌, ◌<◌, ◌≤◌, ◌+◌, ◌^◌, ◌++◌, length, drop, slice_range};
 ghost use Rattle.std.specs.Prelude.{IfOk, OnOk, IfSome, option_map};
-ghost use Rattle.dt_source.specs.Strings.{escape_of, digit_at, octal_at, hex_at, escape_at, pair_byte};
+ghost use Rattle.dt_source.specs.Strings.{escape_of, digit_at, octal_byte, octal_at, hex_at, escape_at, pair_byte};
 ghost use Rattle.dt_source.specs.Strings.{char_step, char_fault, char_number, string_bytes, string_faults};
 ghost use Rattle.dt_source.specs.Reading.Several.{earlier};
 ghost use Rattle.dt_source.specs.Order.{first_of};
 
 use dt_expression::{bytes_of, digit_of};
-use dt_lexeme::{Fault, FaultKind, Lexeme};
+use dt_lexeme::{Fault, FaultKind, Language, Lexeme};
 use std::alloc::{AllocError, Global};
 
 /// What stands between two places of the text.
@@ -69,9 +69,25 @@ fn digit(base: u8, s: &[u8]) -> Option<(u8, &[u8])>
     }
 }
 
-fn octal(a: u8, s: &[u8]) -> (Option<u8>, usize)
+// The byte of an octal number, of which dtc keeps the low eight bits.
+fn octal_byte(language: Language, number: u16) -> Option<u8>
+    ensures { result ≡ octal_byte language number }
+{
+    match language {
+        Language::Profile => {
+            if number < 256 {
+                Some(number as u8)
+            } else {
+                None
+            }
+        }
+        Language::Dtc => Some((number % 256) as u8),
+    }
+}
+
+fn octal(language: Language, a: u8, s: &[u8]) -> (Option<u8>, usize)
     requires { a < 8 }
-    ensures { result ≡ octal_at a s.now }
+    ensures { result ≡ octal_at language a s.now }
 {
     match digit(8, s) {
         None => (Some(a), 1),
@@ -79,14 +95,7 @@ fn octal(a: u8, s: &[u8]) -> (Option<u8>, usize)
             None => (Some(a * 8 + b), 2),
             Some((c, _)) => {
                 let number = (a as u16 * 8 + b as u16) * 8 + c as u16;
-                (
-                    if number < 256 {
-                        Some(number as u8)
-                    } else {
-                        None
-                    },
-                    3,
-                )
+                (octal_byte(language, number), 3)
             }
         },
     }
@@ -105,8 +114,8 @@ fn hex(s: &[u8]) -> (Option<u8>, usize)
 }
 
 // What stands behind a backslash: its byte, where it stands for one, and how many bytes it has.
-fn escape(s: &[u8]) -> (Option<u8>, usize)
-    ensures { result ≡ escape_at s.now }
+fn escape(language: Language, s: &[u8]) -> (Option<u8>, usize)
+    ensures { result ≡ escape_at language s.now }
 {
     match s {
         [] => (None, 0),
@@ -116,7 +125,7 @@ fn escape(s: &[u8]) -> (Option<u8>, usize)
             }
             match digit(8, s) {
                 None => (Some(escape_of(*c)), 1),
-                Some((a, rest)) => octal(a, rest),
+                Some((a, rest)) => octal(language, a, rest),
             }
         }
     }
@@ -132,6 +141,7 @@ fn place_in(l: Lexeme, index: usize) -> u32
 
 // What a byte of a string stands for, with the bytes behind it, and how many of these belong to its backslash.
 fn char_at(
+    language: Language,
     lexeme: Lexeme,
     skip: usize,
     index: usize,
@@ -139,7 +149,7 @@ fn char_at(
     rest: &[u8],
 ) -> (Option<Result<u8, Fault>>, usize)
     requires { lexeme.start + 1 + index < 2 ^ 32 }
-    ensures { result ≡ char_step skip (lexeme.start + 1 + index) c rest.now }
+    ensures { result ≡ char_step language skip (lexeme.start + 1 + index) c rest.now }
 {
     if skip > 0 {
         return (None, skip - 1);
@@ -147,7 +157,7 @@ fn char_at(
     if c != b'\\' {
         return (Some(Ok(c)), 0);
     }
-    let (byte, taken) = escape(rest);
+    let (byte, taken) = escape(language, rest);
     match byte {
         Some(byte) => (Some(Ok(byte)), taken),
         None => (
@@ -181,14 +191,15 @@ fn push_char(bytes: &mut Vec<u8>, said: Option<Result<u8, Fault>>) -> Result<(),
     }
 }
 
-/// The bytes of a string with a zero byte, and its first fault.
+/// The bytes of a string in this language with a zero byte, and its first fault.
 pub(crate) fn string_of(
     alloc: Global,
+    language: Language,
     text: &[u8],
     lexeme: Lexeme,
 ) -> Result<(Vec<u8>, Option<Fault>), AllocError>
-    ensures bytes { IfOk result (λ x. x.0.items ≡ string_bytes text.now lexeme) }
-    ensures fault { IfOk result (λ x. x.1 ≡ first_of (string_faults text.now lexeme)) }
+    ensures bytes { IfOk result (λ x. x.0.items ≡ string_bytes language text.now lexeme) }
+    ensures fault { IfOk result (λ x. x.1 ≡ first_of (string_faults language text.now lexeme)) }
 {
     let inside = bytes_between(
         text,
@@ -199,7 +210,7 @@ pub(crate) fn string_of(
     let mut first = None;
     let mut skip: usize = 0;
     for (i, c) in inside.iter().enumerate() {
-        let (said, taken) = char_at(lexeme, skip, i, *c, from(inside, i + 1));
+        let (said, taken) = char_at(language, lexeme, skip, i, *c, from(inside, i + 1));
         first = earlier(first, char_fault(said));
         push_char(&mut bytes, said)?;
         skip = taken;

@@ -46,7 +46,7 @@ pub fn put_line(
         name: name_of(finding.check),
         fails: selection.level(finding.check).fails,
     };
-    let told = telling(
+    let told = tell_of(
         check,
         path.as_slice(),
         finding.property,
@@ -75,7 +75,7 @@ struct Telling<'a> {
     words: &'a [u8],
 }
 
-fn telling<'a>(
+fn tell_of<'a>(
     check: Judged,
     path: &'a [u8],
     property: Option<&'a [u8]>,

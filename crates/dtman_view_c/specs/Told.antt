@@ -2,6 +2,9 @@
 use Rattle.std.specs.Prelude.{◌≡◌, ℕ, List, Option, Some, None, Result, Ok, Err}
 use Rattle.dt_blob.specs.BlobError.{number_of}
 use Rattle.dt_blob.specs.declared.error.BlobError.{BlobError}
+use Rattle.dt_patch.specs.declared.error.PatchError.{PatchError}
+use Rattle.dt_patch.specs.declared.error.PatchError.TheVariants.{Blob, NoNode, NoProperty, OtherLength, Unordered}
+use Rattle.dt_patch.specs.declared.error.PatchError.TheVariants as patch
 use Rattle.dt_view.specs.declared.error.ViewError.{ViewError}
 use Rattle.dt_view.specs.declared.error.ViewError.TheVariants.{BadOffset, BadPath}
 use Rattle.dt_view.specs.declared.nodes.NodeOffset.{NodeOffset}
@@ -29,6 +32,27 @@ bad_path = record { status = 9; number = 0; at = 0 }
 abbrev pub failed : ViewError → ViewTold
 failed BadOffset = bad_offset
 failed BadPath = bad_path
+
+-- the value that is to be set has another length
+abbrev pub other_length : ViewTold
+other_length = record { status = 10; number = 0; at = 0 }
+
+-- the blob's blocks stand in another order
+abbrev pub unordered : ViewTold
+unordered = record { status = 11; number = 0; at = 0 }
+
+-- why a blob wasn't changed
+abbrev pub unchanged : PatchError → ViewTold
+unchanged (Blob error) = refused error
+unchanged patch.BadPath = bad_path
+unchanged NoNode = nothing
+unchanged NoProperty = nothing
+unchanged OtherLength = other_length
+unchanged Unordered = unordered
+
+abbrev pub edited : Option PatchError → ViewTold
+edited None = done 0
+edited (Some error) = unchanged error
 
 -- a node's place, as it is told
 abbrev pub node_told : Result (Option NodeOffset) ViewError → ViewTold

@@ -3,6 +3,7 @@
 //! `install/dtman_view.h` declares them. What is trusted of the caller stands there and in docs/promises.md.
 #![tactic(auto)]
 
+mod editing;
 mod finding;
 mod opening;
 mod parts;

@@ -1,8 +1,9 @@
 //! How a call ended.
 ghost use Rattle.std.specs.Prelude.{◌≡◌};
-ghost use Rattle.dtman_view_c.specs.Told.{done, nothing, node_told, property_told, refused};
+ghost use Rattle.dtman_view_c.specs.Told.{done, nothing, node_told, property_told, refused, unchanged};
 
 use dt_blob::BlobError;
+use dt_patch::PatchError;
 use dt_view::{NodeOffset, PropertyOffset, ViewError};
 
 const DONE: u32 = 0;
@@ -17,6 +18,12 @@ const BAD_OFFSET: u32 = 8;
 
 /// The bytes are no path.
 const BAD_PATH: u32 = 9;
+
+/// The value that is to be set has another length.
+const OTHER_LENGTH: u32 = 10;
+
+/// The blob's blocks stand in another order, or it has version 16.
+const UNORDERED: u32 = 11;
 
 /// How a call of a view ended, and the offset or the number that it tells.
 #[repr(C)]
@@ -58,6 +65,20 @@ pub(crate) fn failed(error: ViewError) -> ViewTold
     match error {
         ViewError::BadOffset => ended(BAD_OFFSET, 0, 0),
         ViewError::BadPath => ended(BAD_PATH, 0, 0),
+    }
+}
+
+/// Why a blob wasn't changed.
+pub(crate) fn unchanged(error: PatchError) -> ViewTold
+    ensures { result ≡ unchanged error }
+{
+    match error {
+        PatchError::Blob(error) => refused(error),
+        PatchError::BadPath => ended(BAD_PATH, 0, 0),
+        PatchError::NoNode => nothing(),
+        PatchError::NoProperty => nothing(),
+        PatchError::OtherLength => ended(OTHER_LENGTH, 0, 0),
+        PatchError::Unordered => ended(UNORDERED, 0, 0),
     }
 }
 

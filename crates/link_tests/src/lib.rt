@@ -10,4 +10,6 @@ mod links;
 #[cfg(test)]
 mod many;
 #[cfg(test)]
+mod pictures;
+#[cfg(test)]
 mod rows;

@@ -87,6 +87,11 @@ const VALUES: &[(&[u8], &[u8])] = &[
         &[0, 0, 0, 113, 0, 0, 0, 0],
     ),
     (b"/dts-v1/; / { p = \"'\"; };", b"'\0"),
+    // octal escapes above 255
+    (b"/dts-v1/; / { p = \"\\400\\777\"; };", &[0, 255, 0]),
+    (b"/dts-v1/; / { p = \"a\\477b\"; };", b"a?b\0"),
+    (b"/dts-v1/; / { p = \"\\1000\"; };", b"@0\0"),
+    (b"/dts-v1/; / { p = \"\\377\\000x\"; };", &[255, 0, 120, 0]),
     (
         b"/dts-v1/; / { p = l: /bits/ 8 <m: 'A' n:> o: , q: [ r: 42 ]; };",
         b"AB",
@@ -128,6 +133,10 @@ const REFUSALS: &[(&[u8], u8, u8)] = &[
     (b"/dts-v1/; / { p = <'A'L>; };", 10, 10),
     (b"/dts-v1/; / { p = 'A'; };", 10, 10),
     (b"/dts-v1/; /memreserve/ 'A' 'B'; / { };", 255, 10),
+    (b"/dts-v1/; / { p = \"\\400\"; };", 255, 15),
+    (b"/dts-v1/; / { p = \"\\377\"; };", 255, 255),
+    (b"/dts-v1/; / { p = \"\\x\"; };", 15, 15),
+    (b"/dts-v1/; / { p = \"\\400\\x\"; };", 15, 15),
     // what may stand before a name, and what behind that
     (b"/dts-v1/; / { /omit-if-no-ref/ a { }; };", 255, 10),
     (b"/dts-v1/; / { l: /omit-if-no-ref/ m: a { }; };", 255, 10),
@@ -147,6 +156,33 @@ const REFUSALS: &[(&[u8], u8, u8)] = &[
     (b"/dts-v1/; / { a { }; p; };", 10, 10),
     (b"/dts-v1/; / { l: p; m: n: q = <1>; };", 255, 255),
     (b"/dts-v1/; / { l: };", 10, 10),
+    // what may stand before a deletion in a body
+    (b"/dts-v1/; / { l: /delete-node/ a; };", 255, 10),
+    (
+        b"/dts-v1/; / { l: m: /delete-node/ a; l: b { }; };",
+        255,
+        10,
+    ),
+    (
+        b"/dts-v1/; / { /omit-if-no-ref/ l: /delete-node/ a; };",
+        255,
+        10,
+    ),
+    (
+        b"/dts-v1/; / { l: /omit-if-no-ref/ /delete-node/ a; };",
+        255,
+        10,
+    ),
+    (b"/dts-v1/; / { l: m: /delete-property/ a; b; };", 255, 10),
+    (
+        b"/dts-v1/; / { l: /omit-if-no-ref/ /delete-property/ a; };",
+        10,
+        10,
+    ),
+    (b"/dts-v1/; / { l: /delete-node/ a; b; };", 10, 10),
+    (b"/dts-v1/; / { c { }; l: /delete-property/ b; };", 10, 10),
+    (b"/dts-v1/; / { l: /delete-node/ &a; };", 10, 10),
+    (b"/dts-v1/; / { a: a { }; }; l: /delete-node/ &a;", 10, 10),
     // items
     (b"/dts-v1/; / { a: a { }; }; /omit-if-no-ref/ &a;", 255, 10),
     (
@@ -171,6 +207,9 @@ const REFUSALS: &[(&[u8], u8, u8)] = &[
         10,
     ),
     (b"/dts-v1/; / { a: a { }; }; l: &a { };", 255, 255),
+    (b"/dts-v1/; / { a: a { }; }; l: &{/a} { };", 255, 255),
+    (b"/dts-v1/; / { a: a { }; }; l: m: &a { };", 10, 255),
+    (b"/dts-v1/; / { a: a { }; }; l: m: &{/a} { };", 10, 255),
 ];
 
 #[test]

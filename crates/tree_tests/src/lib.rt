@@ -16,6 +16,8 @@ mod growing;
 #[cfg(test)]
 mod merges;
 #[cfg(test)]
+mod patches;
+#[cfg(test)]
 mod trees;
 #[cfg(test)]
 mod versions;

@@ -1,5 +1,5 @@
 -- The fixup sites of a plugin in one list, which both nodes of fixups are made of (dt-object-internal, sections 1.1 and 2).
-use Rattle.std.specs.Prelude.{◌≡◌, ◌≤◌, ◌<◌, ℕ, Bool, ◌&&◌, is_none, ◌+◌, List, [], ◌∷◌, ◌++◌, length, map, drop, Option, None, Some, option_map, slice_index_or}
+use Rattle.std.specs.Prelude.{◌≡◌, ◌≤◌, ◌<◌, ℕ, Bool, ◌&&◌, is_none, if◌then◌else◌, ◌+◌, List, [], ◌∷◌, ◌++◌, length, map, drop, Option, None, Some, option_map, slice_index_or}
 use denote.Ref.{Bor}
 use Rattle.dt_source.specs.declared.tree.Part.{Part}
 use Rattle.dt_source.specs.declared.tree.Reference.{Reference}
@@ -7,14 +7,16 @@ use Rattle.dt_meaning.specs.Names.{local_fixups_name}
 use Rattle.dt_meaning.specs.Paths.{Path}
 use Rattle.dt_meaning.specs.Edits.{Definition, definition}
 use Rattle.dt_meaning.specs.Phandles.{PathPhandle}
+use Rattle.dt_meaning.specs.References.{Found}
 use Rattle.dt_meaning.specs.Fixups.{Site, label_found, sites_in, site_text}
 use Rattle.dt_meaning.specs.Resolved.{is_too_deep}
 use Rattle.dt_live.specs.Rows.{node_path}
 use Rattle.dt_live.specs.declared.preorder.properties.NodeProperty.{NodeProperty}
 use Rattle.dt_edit.specs.Said.{Parts}
+use Rattle.dt_resolve.specs.Founds.{found_property}
 use Rattle.dt_build.specs.declared.draft.Draft.{Draft}
 use Rattle.dt_build.specs.declared.fixup_sites.FixupSite.{FixupSite}
-use Rattle.dt_build.specs.Private.Made.{all_phandles, made_sites}
+use Rattle.dt_build.specs.Private.Made.{all_phandles, is_fixed, made_sites}
 use Rattle.dt_build.specs.Private.Values.{all_uses, found_of, founds_of, label_in}
 
 -- ---- one site
@@ -49,10 +51,14 @@ pub record AreSites (p : Draft) (ss : List FixupSite) : Type 0 where
   pub sites : map (site_of p) ss ≡ made_sites p
   pub places : AreBetween 0 (length p.in_preorder.properties.items) ss
 
+-- those of one property, unless it asks for the number of its own node
+abbrev pub fixed_sites : Bool → List PathPhandle → Definition (List Found) → List Site
+fixed_sites asks ns e = if is_fixed asks e then sites_in ns e.path e.name 0 e.value else []
+
 -- those in these properties, whose values have the first of these targets
-abbrev pub all_left : List PathPhandle → (ℕ → Path) → List (NodeProperty Parts) → List (Option ℕ) → List Site
-all_left ns path [] ts = []
-all_left ns path (x ∷ xs) ts = sites_in ns (path x.node) x.name.now 0 (founds_of path x.value.now ts) ++ all_left ns path xs (drop (all_uses x.value.now) ts)
+abbrev pub all_left : Bool → List PathPhandle → (ℕ → Path) → List (NodeProperty Parts) → List (Option ℕ) → List Site
+all_left asks ns path [] ts = []
+all_left asks ns path (x ∷ xs) ts = fixed_sites asks ns (found_property path x ts) ++ all_left asks ns path xs (drop (all_uses x.value.now) ts)
 
 -- ---- sites put behind others
 -- that of a part of the property at a place in preorder, where it is a phandle
@@ -64,6 +70,10 @@ PutsPart i x t offset old new = (p : Draft) (path : ℕ → Path)
 abbrev pub PutsAll : Draft → ℕ → List Part → List (Option ℕ) → List FixupSite → List FixupSite → Type 0
 PutsAll p i v ts old new =
     map (site_of p) new ≡ map (site_of p) old ++ sites_in (all_phandles p) (key_at p i).path (key_at p i).name 0 (founds_of (node_path p.live) v ts)
+
+-- those of a property that has fixups
+abbrev pub PutsFixed : Draft → NodeProperty Parts → List (Option ℕ) → List FixupSite → List FixupSite → Type 0
+PutsFixed p x ts old new = map (site_of p) new ≡ map (site_of p) old ++ fixed_sites p.asks (all_phandles p) (found_property (node_path p.live) x ts)
 
 -- ---- sizes
 -- a text among the fixups of a label, or the four bytes of an offset among the local fixups

@@ -1,5 +1,7 @@
 -- Reading the statements of a body, and the values of its properties.
 use Rattle.std.specs.Prelude.{ℕ, zero, suc, Bool, true, false, List, [], ◌∷◌, ◌++◌, ◌||◌, length, map, Option, Some, None, Result, Ok, Err, if◌then◌else◌}
+use Rattle.dt_lexeme.specs.declared.language.Language.{Language}
+use Rattle.dt_lexeme.specs.declared.language.Language.TheVariants.{Profile, Dtc}
 use Rattle.dt_lexeme.specs.declared.lexeme.Lexeme.{Lexeme}
 use Rattle.dt_lexeme.specs.declared.lexeme.Fault.{Fault}
 use Rattle.dt_lexeme.specs.declared.lexeme.Refusal.{Refusal}
@@ -108,52 +110,52 @@ abbrev pub bits_at : List ℕ → List Lexeme → Part (List Piece)
 bits_at text [] = Err (syntax_at [])
 bits_at text (t ∷ ts) = bits_by text t.kind t ts
 
-abbrev pub string_at : List ℕ → Lexeme → List Lexeme → Part (List Piece)
-string_at text t ts = Ok (Plain (string_bytes text t) ∷ [], first_of (string_faults text t), ts)
+abbrev pub string_at : Language → List ℕ → Lexeme → List Lexeme → Part (List Piece)
+string_at language text t ts = Ok (Plain (string_bytes language text t) ∷ [], first_of (string_faults language text t), ts)
 
 abbrev pub path_at : List ℕ → Lexeme → List Lexeme → Part (List Piece)
 path_at text t ts = Ok (PathOf (target_of text t) ∷ [], None, ts)
 
-abbrev pub piece_by : List ℕ → Kind → Lexeme → List Lexeme → Part (List Piece)
-piece_by text Text t ts = string_at text t ts
-piece_by text Reference t ts = path_at text t ts
-piece_by text PathReference t ts = path_at text t ts
-piece_by text Square t ts = square_at text ts
-piece_by text Less t ts = cells_at text (Some ThirtyTwo) ts
-piece_by text Bits t ts = bits_at text ts
-piece_by text IncludeBinary t ts = included_at text t.start ts
-piece_by text _ t ts = Err (syntax_at (t ∷ ts))
+abbrev pub piece_by : Language → List ℕ → Kind → Lexeme → List Lexeme → Part (List Piece)
+piece_by language text Text t ts = string_at language text t ts
+piece_by language text Reference t ts = path_at text t ts
+piece_by language text PathReference t ts = path_at text t ts
+piece_by language text Square t ts = square_at text ts
+piece_by language text Less t ts = cells_at text (Some ThirtyTwo) ts
+piece_by language text Bits t ts = bits_at text ts
+piece_by language text IncludeBinary t ts = included_at language text t.start ts
+piece_by language text _ t ts = Err (syntax_at (t ∷ ts))
 
-unfoldable pub piece_at : List ℕ → List Lexeme → Part (List Piece)
-piece_at text [] = Err (syntax_at [])
-piece_at text (t ∷ ts) = piece_by text t.kind t ts
+unfoldable pub piece_at : Language → List ℕ → List Lexeme → Part (List Piece)
+piece_at language text [] = Err (syntax_at [])
+piece_at language text (t ∷ ts) = piece_by language text t.kind t ts
 
 -- a piece, with labels before and after it, which are dropped
-unfoldable pub placed_at : List ℕ → List Lexeme → Part (List Piece)
-placed_at text ts = piece_at text (labels_at ts).1 >>= λ y. Ok (y.0, y.1, (labels_at y.2).1)
+unfoldable pub placed_at : Language → List ℕ → List Lexeme → Part (List Piece)
+placed_at language text ts = piece_at language text (labels_at ts).1 >>= λ y. Ok (y.0, y.1, (labels_at y.2).1)
 
-abbrev pub comma_by : List ℕ → Kind → Lexeme → List Lexeme → Part (Option (List Piece))
-comma_by text Comma t ts = placed_at text ts >>= λ y. Ok (Some y.0, y.1, y.2)
-comma_by text _ t ts = Ok (None, None, t ∷ ts)
+abbrev pub comma_by : Language → List ℕ → Kind → Lexeme → List Lexeme → Part (Option (List Piece))
+comma_by language text Comma t ts = placed_at language text ts >>= λ y. Ok (Some y.0, y.1, y.2)
+comma_by language text _ t ts = Ok (None, None, t ∷ ts)
 
 -- a further piece, where a comma stands before it
-abbrev pub comma_at : List ℕ → List Lexeme → Part (Option (List Piece))
-comma_at text [] = Ok (None, None, [])
-comma_at text (t ∷ ts) = comma_by text t.kind t ts
+abbrev pub comma_at : Language → List ℕ → List Lexeme → Part (Option (List Piece))
+comma_at language text [] = Ok (None, None, [])
+comma_at language text (t ∷ ts) = comma_by language text t.kind t ts
 
 abbrev pub concat_pieces : List (List Piece) → List Piece
 concat_pieces [] = []
 concat_pieces (p ∷ ps) = p ++ concat_pieces ps
 
 -- one piece, and further ones behind commas
-unfoldable pub pieces_at : List ℕ → List Lexeme → Part (List Piece)
-pieces_at text ts = do
-  x ← placed_at text ts
-  y ← many stays (λ s ts. comma_at text ts) (suc (length x.2)) tt x.2
+unfoldable pub pieces_at : Language → List ℕ → List Lexeme → Part (List Piece)
+pieces_at language text ts = do
+  x ← placed_at language text ts
+  y ← many stays (λ s ts. comma_at language text ts) (suc (length x.2)) tt x.2
   Ok (x.0 ++ concat_pieces y.0, earlier x.1 y.1, y.2)
 
-unfoldable pub value_at : List ℕ → List Lexeme → Part (List Piece)
-value_at text ts = pieces_at text ts >>= λ y. Ok (joined y.0, y.1, y.2)
+unfoldable pub value_at : Language → List ℕ → List Lexeme → Part (List Piece)
+value_at language text ts = pieces_at language text ts >>= λ y. Ok (joined y.0, y.1, y.2)
 
 -- ---- statements
 
@@ -174,19 +176,19 @@ abbrev pub Inner : Type 0
 Inner = Lexeme → List Lexeme → Part (List (Entry (List Piece)))
 
 -- what follows a name: the end of a property without value, a value, or a body. Where `nodes` is true no property may stand.
-abbrev pub named_by : List ℕ → Inner → (nodes omitted : Bool) → List (List ℕ) → List ℕ → Kind → Lexeme → List Lexeme → Part (Option (Entry (List Piece)))
-named_by text inner false omitted labels name Semicolon t ts = Ok (Some (Defines name []), None, ts)
-named_by text inner false omitted labels name Equals t ts = do
-  v ← value_at text ts
+abbrev pub named_by : Language → List ℕ → Inner → (nodes omitted : Bool) → List (List ℕ) → List ℕ → Kind → Lexeme → List Lexeme → Part (Option (Entry (List Piece)))
+named_by language text inner false omitted labels name Semicolon t ts = Ok (Some (Defines name []), None, ts)
+named_by language text inner false omitted labels name Equals t ts = do
+  v ← value_at language text ts
   ended_by (Some (Defines name v.0)) v.1 v.2
-named_by text inner nodes omitted labels name Brace t ts = do
+named_by language text inner nodes omitted labels name Brace t ts = do
   b ← inner t ts
   ended_by (Some (Child omitted labels name (body_of b.0))) b.1 b.2
-named_by text inner nodes omitted labels name _ t ts = Err (syntax_at (t ∷ ts))
+named_by language text inner nodes omitted labels name _ t ts = Err (syntax_at (t ∷ ts))
 
-abbrev pub named_at : List ℕ → Inner → (nodes omitted : Bool) → List (List ℕ) → List ℕ → List Lexeme → Part (Option (Entry (List Piece)))
-named_at text inner nodes omitted labels name [] = Err (syntax_at [])
-named_at text inner nodes omitted labels name (t ∷ ts) = named_by text inner nodes omitted labels name t.kind t ts
+abbrev pub named_at : Language → List ℕ → Inner → (nodes omitted : Bool) → List (List ℕ) → List ℕ → List Lexeme → Part (Option (Entry (List Piece)))
+named_at language text inner nodes omitted labels name [] = Err (syntax_at [])
+named_at language text inner nodes omitted labels name (t ∷ ts) = named_by language text inner nodes omitted labels name t.kind t ts
 
 abbrev pub name_by : List ℕ → Kind → Lexeme → List Lexeme → Read (List ℕ)
 name_by text Name t ts = Ok (name_bytes text t, ts)
@@ -200,28 +202,36 @@ name_at text (t ∷ ts) = name_by text t.kind t ts
 abbrev pub deleted_at : List ℕ → (List ℕ → Entry (List Piece)) → List Lexeme → Part (Option (Entry (List Piece)))
 deleted_at text entry ts = name_at text ts >>= λ x. ended_by (Some (entry x.0)) None x.1
 
--- Nothing but a name follows marks.
+-- the end of a body, or a deletion
 abbrev pub bare_by : List ℕ → Bool → Kind → Lexeme → List Lexeme → Part (Option (Entry (List Piece)))
 bare_by text nodes EndBrace t ts = Ok (None, None, ts)
 bare_by text false DeleteProperty t ts = deleted_at text Undefines ts
 bare_by text nodes DeleteNode t ts = deleted_at text Removes ts
 bare_by text nodes _ t ts = Err (syntax_at (t ∷ ts))
 
-abbrev pub unmarked : List ℕ → Bool → List Lexeme → Kind → Lexeme → List Lexeme → Part (Option (Entry (List Piece)))
-unmarked text nodes [] k t ts = bare_by text nodes k t ts
-unmarked text nodes (m ∷ ms) k t ts = Err (syntax_at (t ∷ ts))
+-- a deletion behind marks
+abbrev pub marked_by : List ℕ → Bool → Kind → Lexeme → List Lexeme → Part (Option (Entry (List Piece)))
+marked_by text closed EndBrace t ts = Err (syntax_at (t ∷ ts))
+marked_by text closed k t ts = bare_by text closed k t ts
 
-abbrev pub begun_by : List ℕ → Inner → Bool → List Lexeme → Kind → Lexeme → List Lexeme → Part (Option (Entry (List Piece)))
-begun_by text inner nodes marks Name t ts = named_at text inner (nodes || omits marks) (omits marks) (map (label_bytes text) (labels_in marks)) (name_bytes text t) ts
-begun_by text inner nodes marks k t ts = unmarked text nodes marks k t ts
+-- What has no name: nothing of it follows marks in the profile, and a deletion alone in dtc's language.
+abbrev pub nameless : Language → List ℕ → Bool → List Lexeme → Kind → Lexeme → List Lexeme → Part (Option (Entry (List Piece)))
+nameless Profile text nodes [] k t ts = bare_by text nodes k t ts
+nameless Profile text nodes (m ∷ ms) k t ts = Err (syntax_at (t ∷ ts))
+nameless Dtc text nodes [] k t ts = bare_by text nodes k t ts
+nameless Dtc text nodes (m ∷ ms) k t ts = marked_by text (nodes || omits (m ∷ ms)) k t ts
 
-abbrev pub begun_at : List ℕ → Inner → Bool → List Lexeme → List Lexeme → Part (Option (Entry (List Piece)))
-begun_at text inner nodes marks [] = Err (syntax_at [])
-begun_at text inner nodes marks (t ∷ ts) = begun_by text inner nodes marks t.kind t ts
+abbrev pub begun_by : Language → List ℕ → Inner → Bool → List Lexeme → Kind → Lexeme → List Lexeme → Part (Option (Entry (List Piece)))
+begun_by language text inner nodes marks Name t ts = named_at language text inner (nodes || omits marks) (omits marks) (map (label_bytes text) (labels_in marks)) (name_bytes text t) ts
+begun_by language text inner nodes marks k t ts = nameless language text nodes marks k t ts
+
+abbrev pub begun_at : Language → List ℕ → Inner → Bool → List Lexeme → List Lexeme → Part (Option (Entry (List Piece)))
+begun_at language text inner nodes marks [] = Err (syntax_at [])
+begun_at language text inner nodes marks (t ∷ ts) = begun_by language text inner nodes marks t.kind t ts
 
 -- a statement, or the end of the body
-unfoldable pub statement_at : List ℕ → Inner → Bool → List Lexeme → Part (Option (Entry (List Piece)))
-statement_at text inner nodes ts = let m = marks_at ts in begun_at text inner nodes m.0 m.1
+unfoldable pub statement_at : Language → List ℕ → Inner → Bool → List Lexeme → Part (Option (Entry (List Piece)))
+statement_at language text inner nodes ts = let m = marks_at ts in begun_at language text inner nodes m.0 m.1
 
 -- no property follows a node or the deletion of one
 abbrev pub after : Bool → Entry (List Piece) → Bool
@@ -230,17 +240,17 @@ after nodes (Undefines name) = nodes
 after nodes (Child omitted labels name body) = true
 after nodes (Removes name) = true
 
-abbrev pub statements_at : List ℕ → Inner → List Lexeme → Part (List (Entry (List Piece)))
-statements_at text inner ts = many after (statement_at text inner) (suc (length ts)) false ts
+abbrev pub statements_at : Language → List ℕ → Inner → List Lexeme → Part (List (Entry (List Piece)))
+statements_at language text inner ts = many after (statement_at language text inner) (suc (length ts)) false ts
 
 -- a body whose brace was read, at most this deep
-unfoldable pub body_below : List ℕ → ℕ → Lexeme → List Lexeme → Part (List (Entry (List Piece)))
-body_below text zero t ts = Err (too_deep t)
-body_below text (suc depth) t ts = statements_at text (body_below text depth) ts
+unfoldable pub body_below : Language → List ℕ → ℕ → Lexeme → List Lexeme → Part (List (Entry (List Piece)))
+body_below language text zero t ts = Err (too_deep t)
+body_below language text (suc depth) t ts = statements_at language text (body_below language text depth) ts
 
-unfoldable pub body_at : List ℕ → ℕ → List Lexeme → Part (List (Entry (List Piece)))
-body_at text depth ts = statements_at text (body_below text depth) ts
+unfoldable pub body_at : Language → List ℕ → ℕ → List Lexeme → Part (List (Entry (List Piece)))
+body_at language text depth ts = statements_at language text (body_below language text depth) ts
 
 -- what follows a name behind marks, with bodies at most this deep
-abbrev pub named_below : List ℕ → ℕ → Bool → List Lexeme → List ℕ → List Lexeme → Part (Option (Entry (List Piece)))
-named_below text depth nodes marks name ts = named_at text (body_below text depth) nodes (omits marks) (map (label_bytes text) (labels_in marks)) name ts
+abbrev pub named_below : Language → List ℕ → ℕ → Bool → List Lexeme → List ℕ → List Lexeme → Part (Option (Entry (List Piece)))
+named_below language text depth nodes marks name ts = named_at language text (body_below language text depth) nodes (omits marks) (map (label_bytes text) (labels_in marks)) name ts

@@ -1,5 +1,6 @@
 -- Reading the words that name a part of a file: `/incbin/("NAME")`, `/incbin/("NAME", OFFSET, LENGTH)`.
 use Rattle.std.specs.Prelude.{ℕ, List, [], ◌∷◌, Option, Some, None, Result, Ok, Err}
+use Rattle.dt_lexeme.specs.declared.language.Language.{Language}
 use Rattle.dt_lexeme.specs.declared.lexeme.Lexeme.{Lexeme}
 use Rattle.dt_lexeme.specs.declared.lexeme.Fault.{Fault}
 use Rattle.dt_lexeme.specs.declared.lexeme.Refusal.{Refusal}
@@ -43,13 +44,13 @@ separator_at (t ∷ ts) = separator_kind t.kind t ts
 -- ---- a file
 
 -- the fault of a file's name
-abbrev pub file_name_by : List ℕ → Kind → Lexeme → List Lexeme → Read (Option Fault)
-file_name_by text Text t ts = Ok (first_of (string_faults text t), ts)
-file_name_by text _ t ts = Err (syntax_at (t ∷ ts))
+abbrev pub file_name_by : Language → List ℕ → Kind → Lexeme → List Lexeme → Read (Option Fault)
+file_name_by language text Text t ts = Ok (first_of (string_faults language text t), ts)
+file_name_by language text _ t ts = Err (syntax_at (t ∷ ts))
 
-abbrev pub file_name_at : List ℕ → List Lexeme → Read (Option Fault)
-file_name_at text [] = Err (syntax_at [])
-file_name_at text (t ∷ ts) = file_name_by text t.kind t ts
+abbrev pub file_name_at : Language → List ℕ → List Lexeme → Read (Option Fault)
+file_name_at language text [] = Err (syntax_at [])
+file_name_at language text (t ∷ ts) = file_name_by language text t.kind t ts
 
 -- an offset and a length, and the parenthesis behind them
 unfoldable pub both_at : List ℕ → List Lexeme → Read (Option (Value × Value))
@@ -75,9 +76,9 @@ portion_fault None = None
 portion_fault (Some x) = earlier (fault_in x.0) (fault_in x.1)
 
 -- a part of a file whose word was read and stands at this place
-unfoldable pub included_at : List ℕ → ℕ → List Lexeme → Part (List Piece)
-included_at text at ts = do
+unfoldable pub included_at : Language → List ℕ → ℕ → List Lexeme → Part (List Piece)
+included_at language text at ts = do
   a ← paren_at ts
-  x ← file_name_at text a
+  x ← file_name_at language text a
   p ← portion_at text x.1
   Ok (portion_pieces at p.0, earlier x.0 (portion_fault p.0), p.1)

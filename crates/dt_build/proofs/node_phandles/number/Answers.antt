@@ -3,7 +3,6 @@ use Rattle.std.specs.List.{list_any}
 use Rattle.std.proofs.lemmas.List.{get_or-replicate, length-replicate}
 use Rattle.dt_resolve.specs.declared.node_phandles.NodePhandle.{NodePhandle}
 use Rattle.dt_build.specs.Private.FirstPhandle.{first_phandle}
-use Rattle.dt_build.proofs.NodePhandleSteps.{number-is}
 use Rattle.dt_build.proofs.node_phandles.number.Goals as goal
 
 pub returns : goal.returns
@@ -13,12 +12,12 @@ returns c =
     let filled = c.in_ok-phandles.ensures.items_if_clones_equal (λ y e. e) in
     record {
       count = c.put_phandles-2.ensures.count ∙ c.put_phandles.ensures.count ∙ ap length filled ∙ length-replicate (length c.nodes.result.now + 1) 4294967295 ∙ ap (λ n. n + 1) rows;
-      marks = c.in_ok-new.ensures.count ∙ ap (λ n. n + 1) rows;
-      phandles = λ k known up.
+      marks = c.in_ok-added.ensures.count ∙ ap (λ n. n + 1) rows;
+      phandles = λ k known.
           let within : k < length c.nodes.result.now + 1 = omega arith in
-          number-is p c.requires k up _ (get_or c.put_phandles.new.phandles.items k 0)
-          (c.put_phandles-2.ensures.list k ∙ ap (λ (xs : List NodePhandle). first_phandle xs k (get_or c.put_phandles.new.phandles.items k 0)) c.as_slice-given.ensures.value)
-          (c.put_phandles.ensures.list k ∙ ap (λ (xs : List NodePhandle). first_phandle xs k (get_or c.in_ok-phandles.phandles.items k 0)) c.as_slice-added.ensures.value
+          c.put_phandles-2.ensures.list k ∙ ap (λ (xs : List NodePhandle). first_phandle xs k (get_or c.put_phandles.new.phandles.items k 0)) c.as_slice-given.ensures.value
+          ∙ ap (first_phandle p.given.items k)
+          (c.put_phandles.ensures.list k ∙ ap (λ (xs : List NodePhandle). first_phandle xs k (get_or c.in_ok-phandles.phandles.items k 0)) c.as_slice-new.ensures.value
           ∙ ap (first_phandle p.new.items k) (ap (λ (xs : List ℕ). get_or xs k 0) filled ∙ get_or-replicate (length c.nodes.result.now + 1) k 4294967295 0 within));
-      new = λ k. c.in_ok-new.ensures.marks k ∙ ap (λ (xs : List NodePhandle). list_any (λ x. x.node == k) xs) c.as_slice-added.ensures.value;
+      added = λ k. c.in_ok-added.ensures.marks k ∙ ap (λ (xs : List NodePhandle). list_any (λ x. x.node == k) xs) c.as_slice-with_property.ensures.value;
     }

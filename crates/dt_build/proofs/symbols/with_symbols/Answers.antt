@@ -1,5 +1,5 @@
-use Rattle.std.proofs.Common.{◌≡◌, ◌<◌, ◌∷◌, [], ◌-◌, ◌++◌, true, length, take, ap, ◌∙◌, arith}
-use Rattle.std.proofs.lemmas.Bool.Decides.{nat_tests}
+use Rattle.std.proofs.Common.{◌≡◌, ◌==◌, ◌||◌, ◌∷◌, [], ◌-◌, ◌++◌, true, not, List, length, take, sym, ap, ◌∙◌}
+use Rattle.dt_tree.specs.declared.property.Property.{Property}
 use Rattle.dt_tree_builder.specs.Lists.{with_last}
 use Rattle.dt_tree_builder.specs.Builders.{built_lists, last_path}
 use Rattle.dt_tree_builder.specs.Standing.{walked}
@@ -12,7 +12,7 @@ use Rattle.dt_build.proofs.symbols.with_symbols.Goals as goal
 
 pub push-requires-clause-new : goal.push-requires-clause-new
 push-requires-clause-new c =
-    symbols-new c.args.draft.now c.requires.ready c.requires.free c.args.builder c.requires.made c.in_ok-name.name (c.in_ok-name.ensures ∙ c.as_slice.ensures)
+    symbols-new c.args.draft.now c.requires.ready c.requires.free c.args.builder c.requires.made c.in_ok-name.name (c.in_ok-name.ensures ∙ c.as_slice-2.ensures)
 
 pub push-requires-clause-properties : goal.push-requires-clause-properties
 push-requires-clause-properties c =
@@ -23,7 +23,7 @@ returns c =
     let p = c.args.draft.now in
     let ps = c.in_ok-symbols.symbols.items in
     let bs = c.args.builder in
-    let some : 0 < length ps = grind (arith, nat_tests, c.is_empty.ensures, c.if-is_empty.false) in
+    let some = ap (λ (qs : List Property). p.labelled || not (length qs == 0)) (sym c.as_slice.ensures.value) ∙ sym c.has_node.ensures ∙ c.if-not-has_node.false in
     ok-more (λ a. built_lists a ≡ with_last (take (1 - 1) (last_path bs) ++ c.in_ok-name.name ∷ []) ps (built_lists bs)) (λ a. built_lists a ≡ walked (symbol_lists true p))
-    (λ a e. e ∙ ap (λ n. with_last (n ∷ []) ps (built_lists bs)) (c.in_ok-name.ensures ∙ c.as_slice.ensures) ∙ whole p c.requires.ready c.requires.free bs c.requires.made ps c.in_ok-symbols.ensures some)
+    (λ a e. e ∙ ap (λ n. with_last (n ∷ []) ps (built_lists bs)) (c.in_ok-name.ensures ∙ c.as_slice-2.ensures) ∙ whole p c.requires.ready c.requires.free bs c.requires.made ps c.in_ok-symbols.ensures some)
     c.push.result c.push.ensures.nodes

@@ -2,7 +2,8 @@ use Rattle.std.proofs.Common.{◌+◌, ◌++◌, ℕ, Option, drop, ap, sym, sub
 use Rattle.std.proofs.lemmas.List.{drop_all}
 use Rattle.dt_meaning.specs.Fixups.{value_bytes}
 use Rattle.dt_live.specs.Rows.{node_path}
-use Rattle.dt_resolve.specs.Targets.{IsKnown, IsThere}
+use Rattle.dt_resolve.specs.Targets.{IsKnown}
+use Rattle.dt_build.specs.Private.FirstPhandle.{IsByPath}
 use Rattle.dt_build.specs.Private.Made.{all_phandles}
 use Rattle.dt_build.specs.Private.Values.{found_of, founds_of}
 use Rattle.dt_resolve.proofs.PartSteps.{at-or-none}
@@ -20,10 +21,9 @@ append_part-requires-clause-known c =
     let known : Option ℕ → Type 0 = λ t. IsKnown c.args.draft.now.live t in
     subst known (sym c.target_at.ensures) (at-or-none known tt c.args.targets.now c.requires.known c.loop-part.used)
 
-pub append_part-requires-clause-there : goal.append_part-requires-clause-there
-append_part-requires-clause-there c =
-    let there : Option ℕ → Type 0 = λ t. IsThere c.args.draft.now.live t in
-    subst there (sym c.target_at.ensures) (at-or-none there tt c.args.targets.now c.requires.there c.loop-part.used)
+pub append_part-requires-clause-numbered : goal.append_part-requires-clause-numbered
+append_part-requires-clause-numbered c =
+    subst (IsByPath c.args.draft.now) (sym c.target_at.ensures) (at-or-none (IsByPath c.args.draft.now) tt c.args.targets.now c.requires.numbered c.loop-part.used)
 
 pub loop-part-preserved : goal.loop-part-preserved
 loop-part-preserved c =

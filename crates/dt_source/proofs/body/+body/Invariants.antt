@@ -24,7 +24,7 @@ decreases-body_deeper l = l.depth * 8 + 1
 abbrev pub invariant-body-statements : goal.invariant-body-statements
 invariant-body-statements l = record {
   shorter : length l.left ≤ length l.ts;
-  so_far : (n : ℕ) × (length l.left < n) × (folded snoc (map view l.statements.items) l.first (statements_left l.text l.depth n l.nodes l.left) ≡ body_at l.text l.depth l.ts);
+  so_far : (n : ℕ) × (length l.left < n) × (folded snoc (map view l.statements.items) l.first (statements_left l.language l.text l.depth n l.nodes l.left) ≡ body_at l.language l.text l.depth l.ts);
 }
 
 abbrev pub decreases-body-statements : goal.decreases-body-statements

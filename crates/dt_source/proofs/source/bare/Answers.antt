@@ -1,4 +1,5 @@
 use Rattle.std.proofs.Common.{◌≡◌, ℕ, List, ◌∷◌, Err, refl}
+use Rattle.dt_lexeme.specs.declared.language.Language.{Language}
 use Rattle.dt_lexeme.specs.declared.lexeme.Lexeme.{Lexeme}
 use Rattle.dt_lexeme.specs.declared.lexeme.Kind.{Kind}
 use Rattle.dt_lexeme.specs.declared.lexeme.Kind.TheVariants.{Slash, DeleteNode, OmitIfNoRef}
@@ -6,11 +7,11 @@ use Rattle.dt_expression.specs.Reading.{syntax_at}
 use Rattle.dt_source.specs.Reading.Whole.{bare_item}
 use Rattle.dt_source.proofs.source.bare.Goals as goal
 
-other : (text : List ℕ) (k : Kind) (t : Lexeme) (ts : List Lexeme) → (k ≡ Slash → ⊥) → (k ≡ DeleteNode → ⊥) → (k ≡ OmitIfNoRef → ⊥) → bare_item text k t ts ≡ Err (syntax_at (t ∷ ts))
-other text Slash t ts n0 n1 n2 = absurd (n0 refl)
-other text DeleteNode t ts n0 n1 n2 = absurd (n1 refl)
-other text OmitIfNoRef t ts n0 n1 n2 = absurd (n2 refl)
-other text _ t ts n0 n1 n2 = refl
+other : (language : Language) (text : List ℕ) (k : Kind) (t : Lexeme) (ts : List Lexeme) → (k ≡ Slash → ⊥) → (k ≡ DeleteNode → ⊥) → (k ≡ OmitIfNoRef → ⊥) → bare_item language text k t ts ≡ Err (syntax_at (t ∷ ts))
+other language text Slash t ts n0 n1 n2 = absurd (n0 refl)
+other language text DeleteNode t ts n0 n1 n2 = absurd (n1 refl)
+other language text OmitIfNoRef t ts n0 n1 n2 = absurd (n2 refl)
+other language text _ t ts n0 n1 n2 = refl
 
 pub returns-in_default-clause-gives : goal.returns-in_default-clause-gives
-returns-in_default-clause-gives c = rw (c.syntax_at.ensures, c.requires) (other c.args.text.now c.args.t.kind c.args.t c.args.rest.now c.in_default.not-Slash c.in_default.not-DeleteNode c.in_default.not-OmitIfNoRef)
+returns-in_default-clause-gives c = rw (c.syntax_at.ensures, c.requires) (other c.args.language c.args.text.now c.args.t.kind c.args.t c.args.rest.now c.in_default.not-Slash c.in_default.not-DeleteNode c.in_default.not-OmitIfNoRef)

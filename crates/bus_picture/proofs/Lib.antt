@@ -1,0 +1,3 @@
+mod EscapeLemmas
+mod RangeLemmas
+mod ShownLemmas

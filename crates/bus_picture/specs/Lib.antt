@@ -1,0 +1,4 @@
+pub mod Arrows
+pub mod Escape
+pub mod Shown
+pub mod States

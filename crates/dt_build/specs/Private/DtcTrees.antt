@@ -1,0 +1,26 @@
+-- What is gathered of a source in dtc's language, in a tree that can be held (Devicetree Specification v0.4, section 6.3).
+use Rattle.std.specs.Prelude.{◌≡◌, ℕ, Bool, true, Ok}
+use Rattle.dt_meaning.specs.Syntax.{Meaning}
+use Rattle.dt_meaning.specs.Edits.{has_node}
+use Rattle.dt_meaning.specs.BootProcessor.{boot_processor}
+use Rattle.dt_meaning.specs.DtcEdits.{DtcTree}
+use Rattle.dt_meaning.specs.DtcResolved as meaning
+use Rattle.dt_meaning.specs.DtcStatements.{dtc_edited}
+use Rattle.dt_live.proofs.Each.{Each}
+use Rattle.dt_tree_builder.specs.Standing.{AreNodes}
+use Rattle.dt_resolve.specs.declared.gathered.Gathered.{Gathered}
+use Rattle.dt_resolve.specs.Gathered.{IsGathered, all_gathered}
+use Rattle.dt_build.specs.Private.Named.{IsName, IsNamed, IsNamedValue}
+
+-- The edits made a tree that boots on this processor, and this is gathered of it. What is left has lawful names, no name and no label
+-- twice, and each label is at one of its nodes.
+pub record IsGatheredOf (symbols : Bool) (m : Meaning) (processor : ℕ) (x : Gathered) : Type 0 where
+  pub tree : DtcTree
+  pub edited : dtc_edited m ≡ Ok tree
+  pub boots : processor ≡ boot_processor tree
+  pub meant : meaning.Gathered
+  pub all : all_gathered symbols m.plugin tree ≡ Ok meant
+  pub is : IsGathered m.plugin tree meant x
+  pub named : IsNamed IsName (IsNamedValue IsName) meant.rest
+  pub nodes : AreNodes meant.rest.nodes
+  pub at_nodes : Each (λ l. has_node l.path meant.rest ≡ true) meant.rest.labels

@@ -1,0 +1,5 @@
+mod Blocks
+mod Found
+mod Splices
+mod Trees
+mod Values

@@ -1,0 +1,97 @@
+-- Bytes that spell tokens, with one token in the place of another.
+use Rattle.std.proofs.Common.{◌≡◌, ℕ, ◌+◌, ◌≤◌, Bool, true, false, List, [], ◌∷◌, ◌++◌, length, Some, refl, ap, sym, subst, ◌∙◌, arith, append_assoc}
+use Rattle.std.proofs.lemmas.Option.{some_pair_parts}
+use Rattle.std.proofs.lemmas.List.{append-nil, append_cancel_left, length-append}
+use Rattle.dt_tree.specs.NodeData.{NodeData}
+use Rattle.dt_blob.specs.Holds.{Spells, SpellsRoot, SpellsToken, is_nop, without_nops}
+use Rattle.dt_blob.specs.Steps.NodeBuilders.{is_end}
+use Rattle.dt_blob.specs.Steps.Reading.{token_at}
+use Rattle.dt_blob.specs.Token.{Token, end, property, tokens_of}
+use Rattle.dt_blob.proofs.Spelled.{token_long}
+use Rattle.dt_blob.proofs.TokenLists.{first_again}
+
+-- ---- what is spelled behind a front
+
+pub record Rest (strings : List ℕ) (a b : List Token) (y : List ℕ) : Type 0 where
+  pub rest : List Token
+  pub is : b ≡ a ++ rest
+  pub spells : Spells strings rest y
+
+pub rest_of : (strings : List ℕ) (a b : List Token) (x y : List ℕ) → Spells strings a x → Spells strings b (x ++ y) → Rest strings a b y
+rest_of strings [] b x y s r = record { rest = b; is = refl; spells = subst (λ (z : List ℕ). Spells strings b (z ++ y)) s r }
+rest_of strings (u ∷ a) [] x y s r = absurd (omega (arith, ap length r, length-append x y, ap length (s.2), length-append (s.0) (s.1), token_long strings (s.0) u (s.3)))
+rest_of strings (u ∷ a) (v ∷ b) x y s r =
+    let one : token_at strings (x ++ y) ≡ Some (u, s.1 ++ y) = first_again strings (s.0) (s.1) x y u (s.2) (s.3) in
+    let all : token_at strings ((x ++ y) ++ []) ≡ Some (v, r.1 ++ []) = first_again strings (r.0) (r.1) (x ++ y) [] v (r.2) (r.3) in
+    let two : token_at strings (x ++ y) ≡ Some (v, r.1) = ap (token_at strings) (sym (append-nil (x ++ y))) ∙ all ∙ ap (λ (z : List ℕ). Some (v, z)) (append-nil (r.1)) in
+    let p = some_pair_parts u v (s.1 ++ y) (r.1) (sym one ∙ two) in
+    let i = rest_of strings a b (s.1) y (s.4) (subst (Spells strings b) (sym (p.1)) (r.4)) in
+    record { rest = i.rest; is = ap (λ (z : Token). z ∷ b) (sym (p.0)) ∙ ap (λ (z : List Token). u ∷ z) i.is; spells = i.spells }
+
+pub joined : (strings : List ℕ) (a b : List Token) (x y : List ℕ) → Spells strings a x → Spells strings b y → Spells strings (a ++ b) (x ++ y)
+joined strings [] b x y s r = subst (λ (z : List ℕ). Spells strings b (z ++ y)) (sym s) r
+joined strings (u ∷ a) b x y s r = (s.0, s.1 ++ y, ap (λ (z : List ℕ). z ++ y) (s.2) ∙ append_assoc (s.0) (s.1) y, s.3, joined strings a b (s.1) y (s.4) r)
+
+pub alone : (strings : List ℕ) (t : Token) (x : List ℕ) → SpellsToken strings t x → Spells strings (t ∷ []) x
+alone strings t x s = (x, [], sym (append-nil x), s, refl)
+
+-- ---- the end of the block
+
+record Before (ts a c : List Token) (t : Token) : Type 0 where
+  later : List Token
+  all : ts ≡ a ++ t ∷ later
+  last : c ≡ later ++ end ∷ []
+
+head : (x y : Token) (xs ys : List Token) → x ∷ xs ≡ y ∷ ys → x ≡ y
+head x y xs ys e = cc
+
+tail : (x y : Token) (xs ys : List Token) → x ∷ xs ≡ y ∷ ys → xs ≡ ys
+tail x y xs ys e = cc
+
+none_left : (a c : List Token) (t : Token) → [] ≡ a ++ t ∷ c → ⊥
+none_left [] c t e = cc e
+none_left (u ∷ a) c t e = cc e
+
+before_end : (ts a c : List Token) (t : Token) → is_end t ≡ false → ts ++ end ∷ [] ≡ a ++ t ∷ c → Before ts a c t
+before_end [] [] c t n e = absurd (let bad : true ≡ false = ap is_end (head end t [] c e) ∙ n in cc bad)
+before_end [] (v ∷ a) c t n e = absurd (none_left a c t (tail end v [] (a ++ t ∷ c) e))
+before_end (u ∷ ts) [] c t n e = record {
+  later = ts;
+  all = ap (λ (x : Token). x ∷ ts) (head u t (ts ++ end ∷ []) c e);
+  last = sym (tail u t (ts ++ end ∷ []) c e);
+}
+before_end (u ∷ ts) (v ∷ a) c t n e =
+    let b = before_end ts a c t n (tail u v (ts ++ end ∷ []) (a ++ t ∷ c) e) in
+    record {
+      later = b.later;
+      all = ap (λ (x : Token). x ∷ ts) (head u v (ts ++ end ∷ []) (a ++ t ∷ c) e) ∙ ap (λ (x : List Token). v ∷ x) b.all;
+      last = b.last;
+    }
+
+kept_append : (a b : List Token) → without_nops (a ++ b) ≡ without_nops a ++ without_nops b
+kept_append [] b = refl
+kept_append (u ∷ a) b = by_kind (is_nop u) refl (kept_append a b) where
+  by_kind : (t : Bool) → is_nop u ≡ t → without_nops (a ++ b) ≡ without_nops a ++ without_nops b → without_nops ((u ∷ a) ++ b) ≡ without_nops (u ∷ a) ++ without_nops b
+  by_kind true e ih = rw e ih
+  by_kind false e ih = rw e (ap (λ (x : List Token). u ∷ x) ih)
+
+-- ---- a property in the place of another
+
+module _ (strings : List ℕ) (root changed : NodeData) (a before after : List Token) (k v w : List ℕ) (was : tokens_of root ≡ before ++ property k v ∷ after) (now : tokens_of changed ≡ before ++ property k w ∷ after) where
+  later_kept : (ts later : List Token) → without_nops a ≡ before → without_nops ts ≡ tokens_of root → ts ≡ a ++ property k v ∷ later → without_nops (a ++ property k w ∷ later) ≡ tokens_of changed
+  later_kept ts later b kept is =
+      let front : (p : List ℕ) → without_nops (a ++ property k p ∷ later) ≡ before ++ property k p ∷ without_nops later = λ p. kept_append a (property k p ∷ later) ∙ ap (λ (x : List Token). x ++ property k p ∷ without_nops later) b in
+      let same : before ++ property k v ∷ without_nops later ≡ before ++ property k v ∷ after = sym (front v) ∙ ap without_nops (sym is) ∙ kept ∙ was in
+      let behind : without_nops later ≡ after = tail (property k v) (property k v) (without_nops later) after (append_cancel_left before (property k v ∷ without_nops later) (property k v ∷ after) same) in
+      front w ∙ ap (λ (x : List Token). before ++ property k w ∷ x) behind ∙ sym now
+
+  pub root_with : (structure front old new rest : List ℕ) → structure ≡ front ++ (old ++ rest) → SpellsRoot strings root structure → Spells strings a front → without_nops a ≡ before → SpellsToken strings (property k v) old → SpellsToken strings (property k w) new
+      → SpellsRoot strings changed (front ++ (new ++ rest))
+  root_with structure front old new rest is s f b o n =
+      let all = rest_of strings a (s.0 ++ end ∷ []) front (old ++ rest) f (subst (Spells strings (s.0 ++ end ∷ [])) is (s.1)) in
+      let behind = rest_of strings (property k v ∷ []) all.rest old rest (alone strings (property k v) old o) all.spells in
+      let c = before_end (s.0) a behind.rest (property k v) refl (all.is ∙ ap (λ (x : List Token). a ++ x) behind.is) in
+      let spelled : Spells strings (a ++ property k w ∷ behind.rest) (front ++ (new ++ rest)) =
+      joined strings a (property k w ∷ behind.rest) front (new ++ rest) f (joined strings (property k w ∷ []) behind.rest new rest (alone strings (property k w) new n) behind.spells) in
+      let ended : a ++ property k w ∷ behind.rest ≡ (a ++ property k w ∷ c.later) ++ end ∷ [] = ap (λ (x : List Token). a ++ property k w ∷ x) c.last ∙ sym (append_assoc a (property k w ∷ c.later) (end ∷ [])) in
+      (a ++ property k w ∷ c.later, subst (λ (x : List Token). Spells strings x (front ++ (new ++ rest))) ended spelled, later_kept (s.0) c.later b (s.2) c.all)

@@ -1,0 +1,19 @@
+//! Why a blob isn't changed.
+use dt_blob::BlobError;
+
+/// Why a blob isn't changed. It is then as it was.
+#[derive(Clone, Copy, Debug, Drop, PartialEq, Eq)]
+pub enum PatchError {
+    /// The header has this fault, or the structure block makes no tree.
+    Blob(BlobError),
+    /// The bytes are no path.
+    BadPath,
+    /// No node has the path.
+    NoNode,
+    /// The node hasn't the property.
+    NoProperty,
+    /// The value has another length.
+    OtherLength,
+    /// The blocks aren't the header, the reserved memory, the structure and the strings, in this order and apart, or the version is 16.
+    Unordered,
+}

@@ -1,0 +1,18 @@
+/* What libdtman_view.a wants where there is no libc: memmove, as the C standard says. `volatile` keeps a compiler from making it a call of itself. */
+#include <stddef.h>
+
+void *memmove(void *to, const void *from, size_t count);
+
+void *memmove(void *to, const void *from, size_t count)
+{
+	volatile unsigned char *into = to;
+	const volatile unsigned char *of = from;
+
+	if (into < of)
+		for (size_t i = 0; i < count; i++)
+			into[i] = of[i];
+	else
+		while (count--)
+			into[count] = of[count];
+	return to;
+}

@@ -1,0 +1,40 @@
+/*
+ * The boot arguments of a blob in a static buffer, set in place without libc, memory or a system, as before a boot loader has any:
+ * `make bare` links this with nothing but libdtman_view.a. It ends with the last digit of what the blob then has, or with 255. The way out
+ * is Linux's on x86-64.
+ */
+#include "dtman_view.h"
+
+/* `/ { chosen { bootargs = "console=ttyS0"; }; };` */
+static uint8_t blob[] = {
+	0xd0, 13, 0xfe, 0xed, 0, 0, 0, 0x7d, 0, 0, 0, 0x38, 0, 0, 0, 0x74, 0, 0, 0, 0x28, 0, 0, 0, 17, 0, 0, 0, 16, 0, 0, 0, 0,
+	0, 0, 0, 9, 0, 0, 0, 0x3c,
+	0, 0, 0, 0, 0, 0, 0, 0, 0, 0, 0, 0, 0, 0, 0, 0,
+	0, 0, 0, 1, 0, 0, 0, 0, 0, 0, 0, 1, 0x63, 0x68, 0x6f, 0x73, 0x65, 0x6e, 0, 0, 0, 0, 0, 3, 0, 0, 0, 14, 0, 0, 0, 0,
+	0x63, 0x6f, 0x6e, 0x73, 0x6f, 0x6c, 0x65, 0x3d, 0x74, 0x74, 0x79, 0x53, 0x30, 0, 0, 0, 0, 0, 0, 2, 0, 0, 0, 2, 0, 0, 0, 9,
+	0x62, 0x6f, 0x6f, 0x74, 0x61, 0x72, 0x67, 0x73, 0
+};
+
+static const uint8_t chosen[] = "/chosen", bootargs[] = "bootargs", wanted[] = "console=ttyS1";
+
+static long change(void)
+{
+	struct dtman_view view = DTMAN_NO_VIEW;
+	struct dtman_view_part value = DTMAN_NO_PART;
+
+	if (dtman_view_open(blob, sizeof blob, &view).status != DTMAN_VIEW_DONE)
+		return 255;
+	if (dtman_edit_set_in_place(blob, sizeof blob, chosen, 7, bootargs, 8, wanted, sizeof wanted).status != DTMAN_VIEW_DONE)
+		return 255;
+	if (dtman_edit_set_in_place(blob, sizeof blob, chosen, 7, bootargs, 8, wanted, 3).status != DTMAN_EDIT_OTHER_LENGTH)
+		return 255;
+	if (dtman_view_value(&view, dtman_view_find(&view, chosen, 7).at, bootargs, 8, &value).status != DTMAN_VIEW_DONE || value.length != sizeof wanted)
+		return 255;
+	return value.bytes[sizeof wanted - 2] - '0';
+}
+
+__attribute__((force_align_arg_pointer)) void _start(void)
+{
+	__asm__ volatile("syscall" : : "a"(231), "D"(change()));
+	__builtin_unreachable();
+}
