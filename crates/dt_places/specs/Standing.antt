@@ -1,6 +1,6 @@
 -- What a placed tree leaves when all is read, as a live tree (Devicetree Specification v0.4, section 6.3; where it is silent, dtc 1.6.1,
 -- tried by hand).
-use Rattle.std.specs.Prelude.{◌≡◌, ℕ, ◌+◌, ◌<◌, All, Bool, true, false, ◌||◌, List, [], drop, length, map, reverse, take, slice_index_or}
+use Rattle.std.specs.Prelude.{◌≡◌, ℕ, ◌+◌, ◌<◌, ◌≤◌, All, Bool, true, false, ◌||◌, List, [], drop, length, map, reverse, take, slice_index_or}
 use Rattle.std.specs.List.{filter, flat_map}
 use Rattle.dt_meaning.specs.Paths.{Path, same_path}
 use Rattle.dt_meaning.specs.Syntax.{Piece}
@@ -62,6 +62,7 @@ IsOfRow d e = IsWornRow d e.value × (label_of d e.value ≡ label_in e)
 pub record HasLabelRows {V : Type 0} (d : PlacedTree V) (n : ℕ) (s : Shown ℕ) : Type 0 where
   pub shown : HasNodesOf d s
   pub right : All (IsOfRow d) (state_of s.live).properties
+  pub behind : All (λ e. n ≤ e.value) (state_of s.live).properties
   pub listed : map label_in (state_of s.live).properties ≡ what_stands (map (label_seen (rows_in d.nodes)) (reverse (drop n (rows_in d.labels))))
 
 -- the labels that stand, node by node in preorder, a node's last one first

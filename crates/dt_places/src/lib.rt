@@ -2,6 +2,7 @@
 #![tactic(auto)]
 
 mod error;
+mod label_order;
 mod labelled;
 mod labels;
 mod looks;
