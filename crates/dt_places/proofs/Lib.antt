@@ -25,3 +25,4 @@ pub mod RowTables
 pub mod SeenRows
 pub mod ShownNodes
 pub mod Values
+pub mod WordsGiven

@@ -1,0 +1,33 @@
+//! The labels of a tree that is shown.
+ghost use Rattle.std.specs.Prelude.{◌≡◌, IsErrOf, OnOk, true};
+ghost use Rattle.dt_live.specs.Rows.{state_of};
+ghost use Rattle.dt_places.specs.PlacedTrees.{IsPlacedTree};
+ghost use Rattle.dt_places.specs.Standing.{GivesLabel, HasNodesOf, IsWornRow, is_taken};
+
+use crate::placed_tree::PlacedTree;
+use crate::shown::Shown;
+use dt_live::LabelError;
+
+impl<'d, V: Copy> PlacedTree<'d, V> {
+    // Gives the label of a row that stands, unless a node has it.
+    fn show_word(&self, shown: &mut Shown<'d, V>, row: usize) -> Result<(), LabelError>
+        requires sound { IsPlacedTree self.now }
+        requires worn { IsWornRow self.now row }
+        requires shown { HasNodesOf self.now shown.old }
+        ensures shown { OnOk result (HasNodesOf self.now shown.new) }
+        ensures given { OnOk result (GivesLabel self.now row shown.old shown.new) }
+        ensures refused { IsErrOf result LabelError.DuplicateLabel → is_taken self.now row (state_of shown.old.live).labels ≡ true }
+    {
+        let label = self.labels.rows[row];
+        match shown.live.labelled(label.name) {
+            Some(_) => Err(LabelError::DuplicateLabel),
+            None => match shown.numbers[label.owner] {
+                Some(node) => {
+                    shown.live.give_label(label.name, node)?;
+                    Ok(())
+                }
+                None => Ok(()),
+            },
+        }
+    }
+}
