@@ -1,8 +1,9 @@
 //! The labels of a tree that is shown.
-ghost use Rattle.std.specs.Prelude.{◌≡◌, IsErrOf, OnOk, true};
+ghost use Rattle.std.specs.Prelude.{◌≡◌, [], All, IsErrOf, OnOk, map, true};
+ghost use Rattle.dt_meaning.specs.DtcStatements.{label_twice};
 ghost use Rattle.dt_live.specs.Rows.{state_of};
 ghost use Rattle.dt_places.specs.PlacedTrees.{IsPlacedTree};
-ghost use Rattle.dt_places.specs.Standing.{GivesLabel, HasNodesOf, IsWornRow, is_taken};
+ghost use Rattle.dt_places.specs.Standing.{GivesLabel, HasNodesOf, IsWornRow, is_taken, label_of};
 
 use crate::placed_tree::PlacedTree;
 use crate::shown::Shown;
@@ -29,5 +30,24 @@ impl<'d, V: Copy> PlacedTree<'d, V> {
                 None => Ok(()),
             },
         }
+    }
+    // Gives the labels of rows that stand, in order, unless one of them is a label of two nodes.
+    fn show_words(&self, shown: &mut Shown<'d, V>, rows: &[usize]) -> Result<(), LabelError>
+        requires sound { IsPlacedTree self.now }
+        requires worn { All (IsWornRow self.now) rows.now }
+        requires shown { HasNodesOf self.now shown.old }
+        requires unlabelled { (state_of shown.old.live).labels ≡ [] }
+        ensures shown { OnOk result (HasNodesOf self.now shown.new) }
+        ensures labels { OnOk result ((state_of shown.new.live).labels ≡ map (label_of self.now) rows.now) }
+        ensures properties { OnOk result ((state_of shown.new.live).properties ≡ (state_of shown.old.live).properties) }
+        ensures refused { IsErrOf result LabelError.DuplicateLabel → label_twice (map (label_of self.now) rows.now) ≡ true }
+    {
+        for row in rows {
+            match self.show_word(shown, *row) {
+                Ok(()) => {}
+                Err(error) => return Err(error),
+            }
+        }
+        Ok(())
     }
 }
