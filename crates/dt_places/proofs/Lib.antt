@@ -4,6 +4,7 @@ pub mod FirstHeld
 pub mod FirstLabelled
 pub mod Holders
 pub mod LabelEdits
+pub mod LabelsShown
 pub mod LookedUp
 pub mod NewNodes
 pub mod NewTree
@@ -24,3 +25,4 @@ pub mod RowTables
 pub mod SeenRows
 pub mod ShownNodes
 pub mod Values
+pub mod WordsGiven

@@ -84,7 +84,7 @@ module _ {V W : Type 0} (d : PlacedTree V) (sound : IsPlacedTree d) (s : Shown W
                 get_or-set_other xs number m true false other
                 ∙ are.marks m known there
                 ∙ sym (ap (λ b. b || test (live.node_path s.live m)) (by-not (same_path (live.node_path s.live m) (path_of nodes node)) (λ e.
-                    other (one-node s.live.nodes.items _ has.numbered.sound.grown has.numbered.sound.nodes m m number (omega arith) there h.there (same-is (live.node_path s.live m) (path_of nodes node) e ∙ sym h.path)))))
+                other (one-node s.live.nodes.items _ has.numbered.sound.grown has.numbered.sound.nodes m m number (omega arith) there h.there (same-is (live.node_path s.live m) (path_of nodes node) e ∙ sym h.path)))))
           ];
         }
 

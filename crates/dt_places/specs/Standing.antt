@@ -1,11 +1,12 @@
 -- What a placed tree leaves when all is read, as a live tree (Devicetree Specification v0.4, section 6.3; where it is silent, dtc 1.6.1,
 -- tried by hand).
-use Rattle.std.specs.Prelude.{◌≡◌, ℕ, ◌+◌, ◌<◌, All, Bool, true, false, ◌||◌, List, [], drop, length, map, reverse, take, slice_index_or}
-use Rattle.std.specs.List.{filter, flat_map}
+use Rattle.std.specs.Prelude.{◌≡◌, ℕ, ◌+◌, ◌<◌, ◌≤◌, All, Bool, true, false, ◌||◌, List, [], ◌∷◌, ◌++◌, drop, length, map, reverse, take, slice_index_or}
+use Rattle.std.specs.List.{filter, flat_map, list_any}
 use Rattle.dt_meaning.specs.Paths.{Path, same_path}
 use Rattle.dt_meaning.specs.Syntax.{Piece}
 use Rattle.dt_meaning.specs.Edits.{Definition, definition, Label, labelled_at, State}
 use Rattle.dt_meaning.specs.Places.{what_stands}
+use Rattle.dt_meaning.specs.DtcStatements.{same_label}
 use Rattle.dt_meaning.specs.References.{preorder}
 use Rattle.dt_live.specs.declared.live_tree.LiveTree.{LiveTree}
 use Rattle.dt_live.specs.Rows.{IsNode, is_standing, state_of}
@@ -62,6 +63,7 @@ IsOfRow d e = IsWornRow d e.value × (label_of d e.value ≡ label_in e)
 pub record HasLabelRows {V : Type 0} (d : PlacedTree V) (n : ℕ) (s : Shown ℕ) : Type 0 where
   pub shown : HasNodesOf d s
   pub right : All (IsOfRow d) (state_of s.live).properties
+  pub behind : All (λ e. n ≤ e.value) (state_of s.live).properties
   pub listed : map label_in (state_of s.live).properties ≡ what_stands (map (label_seen (rows_in d.nodes)) (reverse (drop n (rows_in d.labels))))
 
 -- the labels that stand, node by node in preorder, a node's last one first
@@ -74,3 +76,12 @@ ordered_labels d =
 pub record AreOrdered {V : Type 0} (d : PlacedTree V) (rows : List ℕ) : Type 0 where
   pub worn : All (IsWornRow d) rows
   pub labels : map (label_of d) rows ≡ ordered_labels d
+
+-- a label more is given, and all else stays
+abbrev pub GivesLabel : {V W : Type 0} → PlacedTree V → ℕ → Shown W → Shown W → Type 0
+GivesLabel d row old new =
+    ((state_of new.live).labels ≡ (state_of old.live).labels ++ label_of d row ∷ []) × ((state_of new.live).properties ≡ (state_of old.live).properties)
+
+-- one of the labels so far is the same word
+abbrev pub is_taken : {V : Type 0} → PlacedTree V → ℕ → List Label → Bool
+is_taken d row ls = list_any (same_label (label_of d row)) ls

@@ -2,8 +2,10 @@
 #![tactic(auto)]
 
 mod error;
+mod label_order;
 mod labelled;
 mod labels;
+mod labels_shown;
 mod looks;
 mod marks;
 mod nodes;
