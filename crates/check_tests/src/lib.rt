@@ -17,3 +17,5 @@ mod own;
 mod spots;
 #[cfg(test)]
 mod standing;
+#[cfg(test)]
+mod telling;

@@ -1,8 +1,9 @@
 //! Lines of findings, by the options that ask for them.
 
 use crate::checks::tree_of;
+use crate::telling::{Lines, told};
 use dt_check_table::{Kind, Reference, Selection};
-use dtman_check::{Answer, Asked, Shape, check_tree};
+use dtman_check::{Answer, Shape};
 use std::alloc::Global;
 use std::hash::RandomState;
 use std::process::Abort;
@@ -114,16 +115,19 @@ fn answer(rt: &impl Abort, alloc: Global, hasher: RandomState, row: &Row) -> Ans
     let tree = tree_of(rt, alloc, hasher, SOURCE);
     let selection = selected(rt, alloc, row.options);
     let reference = Reference::new(alloc);
-    let asked = Asked::of(b"x", &reference)
-        .in_text(b"")
-        .shaped(row.shape, row.quiet);
-    check_tree(alloc, hasher, &tree, &selection, asked).expect(rt, "memory")
+    let lines = Lines {
+        file: b"x",
+        text: b"",
+        shape: row.shape,
+        quiet: row.quiet,
+    };
+    told(rt, alloc, hasher, &tree, &selection, &reference, lines)
 }
 
 fn is_answered(rt: &impl Abort, alloc: Global, hasher: RandomState, row: &Row) {
-    let told = answer(rt, alloc, hasher, row);
-    assert_eq!(rt; told.text.as_slice(), row.wanted.as_bytes());
-    assert_eq!(rt; told.failed, row.failed);
+    let answer = answer(rt, alloc, hasher, row);
+    assert_eq!(rt; answer.text.as_slice(), row.wanted.as_bytes());
+    assert_eq!(rt; answer.failed, row.failed);
 }
 
 #[test]

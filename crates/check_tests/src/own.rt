@@ -1,8 +1,9 @@
 //! Rows of the checks that dtc doesn't have, in the form of the other rows.
 
 use crate::checks::{placed, tree_of};
+use crate::telling::{Lines, told};
 use dt_check_table::{BadReference, Kind, Reference, Selection, is_near};
-use dtman_check::{Asked, Shape, check_tree};
+use dtman_check::Shape;
 use std::alloc::Global;
 use std::hash::RandomState;
 use std::process::Abort;
@@ -53,25 +54,26 @@ fn answer(rt: &impl Abort, alloc: Global, hasher: RandomState, properties: &str)
     let reference = Reference::read(alloc, KNOWN.as_bytes()).expect(rt, "a reference set");
     let mut selection = Selection::usual(alloc).expect(rt, "memory");
     selection.ask_unknown(Kind::Warning).expect(rt, "memory");
-    let asked = Asked::of(b"x", &reference)
-        .in_text(b"")
-        .shaped(Shape::Plain, 0);
-    check_tree(alloc, hasher, &tree, &selection, asked)
-        .expect(rt, "memory")
-        .text
+    let lines = Lines {
+        file: b"x",
+        text: b"",
+        shape: Shape::Plain,
+        quiet: 0,
+    };
+    told(rt, alloc, hasher, &tree, &selection, &reference, lines).text
 }
 
 fn is_known(rt: &impl Abort, alloc: Global, hasher: RandomState, row: &str) {
     let (properties, wanted) = row.split_once(" | ").expect(rt, "a row");
-    let told = answer(rt, alloc, hasher, properties);
-    let told = std::str::from_utf8(told.as_slice()).unwrap_or("?");
+    let line = answer(rt, alloc, hasher, properties);
+    let line = std::str::from_utf8(line.as_slice()).unwrap_or("?");
     match wanted.split_once(": ") {
-        None => assert_eq!(rt; told, "", "{row}"),
+        None => assert_eq!(rt; line, "", "{row}"),
         Some((place, known)) => {
-            let line = format!(in alloc;
+            let wanted = format!(in alloc;
                 "x: Warning (unknown_property): {place}: no node of this compatible has it in the reference set; known is {known}\n"
             ).expect(rt, "memory");
-            assert_eq!(rt; told, line.as_str());
+            assert_eq!(rt; line, wanted.as_str());
         }
     }
 }

@@ -1,10 +1,11 @@
 //! Places of findings in the user's files: lines as dtc 1.6.1 tells them, columns of the name alone.
 
+use crate::telling::{Lines, told};
 use dt_build::build;
 use dt_check_table::{Kind, Reference, Selection};
 use dt_lexeme::Language;
 use dt_source::parse;
-use dtman_check::{Answer, Asked, Shape, check_tree};
+use dtman_check::{Answer, Shape};
 use std::alloc::Global;
 use std::hash::RandomState;
 use std::process::Abort;
@@ -70,15 +71,18 @@ fn answer(rt: &impl Abort, alloc: Global, hasher: RandomState, row: &Row) -> Ans
         assert!(rt; known, "{word}");
     }
     let reference = Reference::new(alloc);
-    let asked = Asked::of(b"x.dts", &reference)
-        .in_text(TEXT.as_bytes())
-        .shaped(row.shape, 0);
-    check_tree(alloc, hasher, &tree, &selection, asked).expect(rt, "memory")
+    let lines = Lines {
+        file: b"x.dts",
+        text: TEXT.as_bytes(),
+        shape: row.shape,
+        quiet: 0,
+    };
+    told(rt, alloc, hasher, &tree, &selection, &reference, lines)
 }
 
 fn is_placed(rt: &impl Abort, alloc: Global, hasher: RandomState, row: &Row) {
-    let told = answer(rt, alloc, hasher, row);
-    let text = std::str::from_utf8(told.text.as_slice()).unwrap_or("?");
+    let answer = answer(rt, alloc, hasher, row);
+    let text = std::str::from_utf8(answer.text.as_slice()).unwrap_or("?");
     assert_eq!(rt; text, row.wanted);
 }
 
