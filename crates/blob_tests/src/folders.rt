@@ -14,30 +14,82 @@ struct Desk {
     printed: Vec<u8>,
 }
 
-/// A folder, and what it has in the system's order: a name, its kind, and the bytes of a file.
-type Folder = (
-    &'static str,
-    &'static [(&'static str, EntryKind, &'static [u8])],
-);
+/// What stands in a folder: a name, its kind, and the bytes of a file.
+#[derive(Clone, Copy)]
+struct Thing {
+    name: &'static str,
+    kind: EntryKind,
+    bytes: &'static [u8],
+}
+
+const PIPE: Thing = Thing {
+    name: "pipe",
+    kind: EntryKind::Other,
+    bytes: b"",
+};
+
+/// A folder, and what it has in the system's order.
+#[derive(Clone, Copy)]
+struct Folder {
+    path: &'static str,
+    things: &'static [Thing],
+}
 
 const FOLDERS: &[Folder] = &[
-    (
-        "tree",
-        &[
-            ("model", EntryKind::File, b"one\0"),
-            ("cpus", EntryKind::Folder, b""),
-            ("link", EntryKind::Other, b""),
-            ("name", EntryKind::File, b"\0"),
-            ("b@1", EntryKind::Folder, b""),
+    Folder {
+        path: "tree",
+        things: &[
+            Thing {
+                name: "model",
+                kind: EntryKind::File,
+                bytes: b"one\0",
+            },
+            Thing {
+                name: "cpus",
+                kind: EntryKind::Folder,
+                bytes: b"",
+            },
+            PIPE,
+            Thing {
+                name: "name",
+                kind: EntryKind::File,
+                bytes: b"\0",
+            },
+            Thing {
+                name: "b@1",
+                kind: EntryKind::Folder,
+                bytes: b"",
+            },
         ],
-    ),
-    ("tree/cpus", &[("cpu@5", EntryKind::Folder, b"")]),
-    (
-        "tree/cpus/cpu@5",
-        &[("reg", EntryKind::File, b"\0\0\0\x05")],
-    ),
-    ("tree/b@1", &[]),
-    ("loop", &[("loop", EntryKind::Folder, b"")]),
+    },
+    Folder {
+        path: "tree/cpus",
+        things: &[Thing {
+            name: "cpu@5",
+            kind: EntryKind::Folder,
+            bytes: b"",
+        }],
+    },
+    Folder {
+        path: "tree/cpus/cpu@5",
+        things: &[Thing {
+            name: "reg",
+            kind: EntryKind::File,
+            bytes: b"\0\0\0\x05",
+        }],
+    },
+    Folder {
+        path: "tree/b@1",
+        things: &[],
+    },
+    Folder {
+        path: "loop",
+        things: &[Thing {
+            name: "loop",
+            kind: EntryKind::Folder,
+            bytes: b"",
+        }],
+    },
 ];
 
 // The folder of a path: all paths into `loop` lead to it.
@@ -48,8 +100,17 @@ fn folder_at(path: &str) -> Option<&'static Folder> {
         path
     };
     for folder in FOLDERS {
-        if folder.0 == path {
+        if folder.path == path {
             return Some(folder);
+        }
+    }
+    None
+}
+
+fn bytes_of(folder: &Folder, file: &str) -> Option<&'static [u8]> {
+    for thing in folder.things {
+        if thing.name == file && thing.kind == EntryKind::File {
+            return Some(thing.bytes);
         }
     }
     None
@@ -57,19 +118,15 @@ fn folder_at(path: &str) -> Option<&'static Folder> {
 
 fn bytes_at(path: &str) -> Option<&'static [u8]> {
     let (folder, file) = path.rsplit_once("/")?;
-    for (name, kind, bytes) in folder_at(folder)?.1 {
-        if *name == file && *kind == EntryKind::File {
-            return Some(*bytes);
-        }
-    }
-    None
+    bytes_of(folder_at(folder)?, file)
 }
 
 fn entries_of(alloc: Global, folder: &Folder) -> Option<Vec<Entry>> {
     let mut entries = Vec::new(alloc);
-    for (name, kind, _) in folder.1 {
-        let name = String::from_str(alloc, *name).ok()?;
-        entries.push(Entry { name, kind: *kind }).ok()?;
+    for thing in folder.things {
+        let name = String::from_str(alloc, thing.name).ok()?;
+        let kind = thing.kind;
+        entries.push(Entry { name, kind }).ok()?;
     }
     Some(entries)
 }
@@ -167,17 +224,21 @@ type Row = (&'static [&'static str], u8, &'static [u8]);
 
 const ROWS: &[Row] = &[
     (
-        &["-I", "fs", "-O", "dts", "tree"],
+        &["-q", "-I", "fs", "-O", "dts", "tree"],
         0,
         b"/dts-v1/;\n\n/ {\n\tmodel = \"one\";\n\tname = [00];\n\n\tcpus {\n\n\t\tcpu@5 {\n\t\t\treg = <0x05>;\n\t\t};\n\t};\n\n\tb@1 {\n\t};\n};\n",
     ),
     // a folder is known to be one, and a slash may end its path
     (
-        &["tree/cpus"],
+        &["-q", "tree/cpus"],
         0,
         b"/dts-v1/;\n\n/ {\n\n\tcpu@5 {\n\t\treg = <0x05>;\n\t};\n};\n",
     ),
-    (&["-I", "fs", "tree/b@1"], 0, b"/dts-v1/;\n\n/ {\n};\n"),
+    (
+        &["-q", "-I", "fs", "tree/b@1"],
+        0,
+        b"/dts-v1/;\n\n/ {\n};\n",
+    ),
     (
         &["-I", "fs", "none"],
         1,
