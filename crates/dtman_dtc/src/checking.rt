@@ -4,9 +4,7 @@ use crate::host::{Compiler, Host};
 use crate::layout::Texts;
 use crate::options::{BadWord, Format, Options};
 use crate::reports::{Failure, Wrong, fail, report_fault};
-use crate::running::{
-    Compiled, DONE, FAILED, Given, compiled, input_of, named, of_blob, put, read,
-};
+use crate::running::{DONE, FAILED, Given, Made, compiled, input_of, named, of_blob, put, read};
 use dt_blob::BlobError;
 use dt_check_table::{BadReference, Kind, Reference};
 use dtman_check::{Answer, Asked, Learned, Origin, Shape, check_blob, least_of};
@@ -224,9 +222,9 @@ pub fn run_check<H: Host, C: Compiler>(
 
 /// A blob as an input has it or as it is compiled of one, and what it was.
 #[derive(Drop)]
-struct Taken {
+struct Subject {
     from: Format,
-    made: Compiled,
+    made: Made,
 }
 
 fn taken<'a, H: Host, C: Compiler>(
@@ -234,14 +232,14 @@ fn taken<'a, H: Host, C: Compiler>(
     host: &mut H,
     compiler: &mut C,
     options: &Options<'a>,
-) -> Result<Taken, Failure<'a>> {
+) -> Result<Subject, Failure<'a>> {
     let Given { from, bytes } = input_of(alloc, host, options)?;
     let mut found = Vec::new(alloc);
     let made = match from {
         Format::Dts => compiled(alloc, host, compiler, options, bytes.as_slice(), &mut found)?,
         Format::Dtb | Format::Folder => of_blob(alloc, bytes),
     };
-    Ok(Taken { from, made })
+    Ok(Subject { from, made })
 }
 
 // Whether one is an error.
@@ -261,7 +259,7 @@ fn answer_to<'a, H: Host, C: Compiler>(
         Err(bad) => return Err(no_reference(question.known.unwrap_or(""), bad)),
     };
     let options = &question.options;
-    let Taken { from, made } = taken(alloc, host, compiler, options)?;
+    let Subject { from, made } = taken(alloc, host, compiler, options)?;
     let wanted = Wanted {
         from,
         text: made.text.as_slice(),
@@ -313,7 +311,7 @@ fn learn_of<'a, H: Host, C: Compiler>(
     options: &Options<'a>,
     learned: &mut Learned,
 ) -> Result<(), Failure<'a>> {
-    let Taken { made, .. } = taken(alloc, host, compiler, options)?;
+    let Subject { made, .. } = taken(alloc, host, compiler, options)?;
     let Ok(hasher) = host.seed() else {
         return Err(Failure::NoSeed);
     };

@@ -100,7 +100,7 @@ fn convert<'a, H: Host, C: Compiler>(
         .to
         .unwrap_or(Output::Holds(wanted(options.output, from)));
     let mut found = Vec::new(alloc);
-    let Compiled { blob, text } = match (from, to) {
+    let Made { blob, text } = match (from, to) {
         (Format::Dts, _) => compiled(alloc, host, compiler, options, bytes.as_slice(), &mut found)?,
         // what is printed is read once, and what a folder holds was laid out just now
         (Format::Dtb, Output::Holds(Format::Dts)) => of_blob(alloc, bytes),
@@ -186,15 +186,15 @@ fn wanted(path: &str, from: Format) -> Format {
 
 /// A blob, and the source with all that it takes in, of which it was made.
 #[derive(Drop)]
-pub(crate) struct Compiled {
+pub(crate) struct Made {
     pub blob: Vec<u8>,
     /// No bytes where there is none.
     pub text: Vec<u8>,
 }
 
 /// A blob that was made of no source.
-pub(crate) fn of_blob(alloc: Global, blob: Vec<u8>) -> Compiled {
-    Compiled {
+pub(crate) fn of_blob(alloc: Global, blob: Vec<u8>) -> Made {
+    Made {
         blob,
         text: Vec::new(alloc),
     }
@@ -208,7 +208,7 @@ pub(crate) fn compiled<H: Host, C: Compiler>(
     options: &Options<'_>,
     source: &[u8],
     found: &mut Vec<Vec<u8>>,
-) -> Result<Compiled, Failure<'static>> {
+) -> Result<Made, Failure<'static>> {
     let Ok(hasher) = host.seed() else {
         return Err(Failure::NoSeed);
     };
@@ -226,7 +226,7 @@ pub(crate) fn compiled<H: Host, C: Compiler>(
         Ok(mut blob) => {
             let guessed = boot_cpu_of(blob.as_slice());
             set_boot_cpu(&mut blob, options.boot_cpu.unwrap_or(guessed));
-            Ok(Compiled { blob, text: whole })
+            Ok(Made { blob, text: whole })
         }
         Err(fault) => {
             let source = Source {
