@@ -1,5 +1,5 @@
 //! Pictures of boards: graphs and pages.
-ghost use Rattle.std.specs.Prelude.{◌<◌, length, IfOk, IfSome};
+ghost use Rattle.std.specs.Prelude.{◌<◌, length, IfSome};
 
 use crate::end::end_of;
 use crate::waits::{device_at, no_device};
@@ -26,20 +26,7 @@ pub struct Picture<'a> {
     pub of: Option<&'a [u8]>,
 }
 
-// The device that a picture is of, if it is of one.
-fn center_of(plan: &Plan, of: Option<&[u8]>) -> Result<Option<Device>, Fault>
-    ensures { IfOk result (λ center. IfSome center (λ device. device < length plan.now)) }
-{
-    let Some(path) = of else {
-        return Ok(None);
-    };
-    match device_at(plan, path) {
-        Some(device) => Ok(Some(device)),
-        None => Err(no_device()),
-    }
-}
-
-fn drawn<O: Origins>(
+fn painted<O: Origins>(
     alloc: Global,
     plan: &Plan,
     sketch: Sketch,
@@ -55,17 +42,38 @@ fn drawn<O: Origins>(
     }
 }
 
+// Of the device at a path, or else of the board.
+fn drawn<O: Origins>(
+    alloc: Global,
+    plan: &Plan,
+    sketch: Sketch,
+    origins: &O,
+    form: Form,
+    of: Option<&[u8]>,
+) -> Result<Vec<u8>, Fault> {
+    let Some(path) = of else {
+        return painted(alloc, plan, sketch, origins, form, None).map_err(|_| Fault::no_memory());
+    };
+    match device_at(plan, path) {
+        Some(device) => {
+            let center = Some(device);
+            painted(alloc, plan, sketch, origins, form, center).map_err(|_| Fault::no_memory())
+        }
+        None => Err(no_device()),
+    }
+}
+
 fn linked_drawn(
     alloc: Global,
     linked: &Linked<'_>,
     bound: &[bool],
     form: Form,
-    center: Option<Device>,
-) -> Result<Vec<u8>, AllocError>
-    requires { IfSome center (λ device. device < length linked.now.plan) }
-{
-    let sketch = linked_sketch(alloc, linked, bound)?;
-    drawn(alloc, linked.plan(), sketch, linked, form, center)
+    of: Option<&[u8]>,
+) -> Result<Vec<u8>, Fault> {
+    match linked_sketch(alloc, linked, bound) {
+        Ok(sketch) => drawn(alloc, linked.plan(), sketch, linked, form, of),
+        Err(_) => Err(Fault::no_memory()),
+    }
 }
 
 fn planned_drawn(
@@ -73,12 +81,12 @@ fn planned_drawn(
     plan: &Plan,
     bound: &[bool],
     form: Form,
-    center: Option<Device>,
-) -> Result<Vec<u8>, AllocError>
-    requires { IfSome center (λ device. device < length plan.now) }
-{
-    let sketch = planned_sketch(alloc, plan, bound)?;
-    drawn(alloc, plan, sketch, &NoOrigins, form, center)
+    of: Option<&[u8]>,
+) -> Result<Vec<u8>, Fault> {
+    match planned_sketch(alloc, plan, bound) {
+        Ok(sketch) => drawn(alloc, plan, sketch, &NoOrigins, form, of),
+        Err(_) => Err(Fault::no_memory()),
+    }
 }
 
 /// The picture of a plan by links, with the devices as a run leaves them.
@@ -88,9 +96,8 @@ pub(crate) fn linked_picture<R: Threads + Sync>(
     linked: &Linked<'_>,
     picture: Picture<'_>,
 ) -> Result<Vec<u8>, Fault> {
-    let center = center_of(linked.plan(), picture.of)?;
     match end_of(rt, alloc, linked.plan()) {
-        Ok(bound) => Ok(linked_drawn(alloc, linked, bound.as_slice(), picture.form, center)?),
+        Ok(bound) => linked_drawn(alloc, linked, bound.as_slice(), picture.form, picture.of),
         Err(fault) => Err(fault),
     }
 }
@@ -102,9 +109,8 @@ pub(crate) fn planned_picture<R: Threads + Sync>(
     plan: &Plan,
     picture: Picture<'_>,
 ) -> Result<Vec<u8>, Fault> {
-    let center = center_of(plan, picture.of)?;
     match end_of(rt, alloc, plan) {
-        Ok(bound) => Ok(planned_drawn(alloc, plan, bound.as_slice(), picture.form, center)?),
+        Ok(bound) => planned_drawn(alloc, plan, bound.as_slice(), picture.form, picture.of),
         Err(fault) => Err(fault),
     }
 }
