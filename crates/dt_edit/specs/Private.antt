@@ -1,5 +1,6 @@
 -- What private contracts cite: how far the code has come. No public clause rests on it.
 pub mod Admitted
+pub mod BootReg
 pub mod DtcEdited
 pub mod Edited
 pub mod LabelFault

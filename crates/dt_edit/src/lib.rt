@@ -5,6 +5,7 @@
 
 mod adding;
 mod body;
+mod boot_processor;
 mod dtc_body;
 mod dtc_child;
 mod dtc_fragment;

@@ -4,6 +4,7 @@ pub mod FirstHeld
 pub mod FirstLabelled
 pub mod Holders
 pub mod LabelEdits
+pub mod LookedUp
 pub mod NewNodes
 pub mod NewTree
 pub mod NodeEdits

@@ -3,12 +3,17 @@ use Rattle.std.specs.Prelude.{◌≡◌, ℕ, suc, Bool, true, false, List, leng
 use Rattle.std.specs.List.{find, list_any}
 use Rattle.std.specs.Option.{option_and_then}
 use Rattle.dt_meaning.specs.Paths.{Path, is_listed}
+use Rattle.dt_meaning.specs.Syntax.{Piece}
+use Rattle.dt_meaning.specs.Edits.{definition, is_of}
+use Rattle.dt_meaning.specs.Places.{what_stands}
+use Rattle.dt_meaning.specs.BootProcessor.{first_below}
 use Rattle.dt_meaning.specs.DtcEdits.{DtcTree, in_preorder, is_labelled, node_stands}
 use Rattle.dt_meaning.specs.References.{preorder}
 use Rattle.dt_meaning.specs.Resolved.{is_too_deep}
+use Rattle.dt_places.specs.declared.place.Place.{Place}
 use Rattle.dt_places.specs.declared.placed_tree.PlacedTree.{PlacedTree}
 use Rattle.dt_places.specs.declared.table.Table.{Table}
-use Rattle.dt_places.specs.Rows.{is_made, place_at}
+use Rattle.dt_places.specs.Rows.{holds, is_made, place_at}
 use Rattle.dt_places.specs.Tables.{found_in, rows_in}
 use Rattle.dt_places.specs.PlacedTrees.{node_path}
 use Rattle.dt_places.specs.Shown.{first_standing}
@@ -39,3 +44,20 @@ IsFirstOf d nodes found =
     let order = preorder (first_standing (rows_in d.nodes) (length (rows_in d.nodes))) in
     let is_one : Path → Bool = λ p. is_listed p (map (node_path d) nodes) in
     MatchOption found (find is_one order ≡ None) (λ node. find is_one order ≡ Some (node_path d node))
+
+-- the first child that a node ever had, also where it was removed
+abbrev pub IsFirstChild : {V : Type 0} → PlacedTree V → ℕ → DtcTree → Option ℕ → Type 0
+IsFirstChild d n t found =
+    let first = first_below (node_path d n) t.nodes in
+    MatchOption found (first ≡ None) (λ child. first ≡ Some (record { what = node_path d child; stands = holds (rows_in d.nodes) child }))
+
+-- what is at a row, where it was made since its node was
+abbrev pub value_made : {U V : Type 0} → List (Place U) → Place V → Option V
+value_made nodes r = if is_made nodes r then r.value else None
+
+-- the value of a property that stands
+abbrev pub IsValueOf : {V : Type 0} → (V → List Piece) → PlacedTree V → ℕ → List ℕ → DtcTree → Option V → Type 0
+IsValueOf read d n name t found =
+    let p = node_path d n in
+    let its = find (is_of p name) (what_stands t.properties) in
+    MatchOption found (its ≡ None) (λ v. its ≡ Some (definition p name (read v)))

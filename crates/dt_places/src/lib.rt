@@ -4,6 +4,7 @@
 mod error;
 mod labelled;
 mod labels;
+mod looks;
 mod marks;
 mod nodes;
 mod paths;

@@ -15,7 +15,7 @@ use Rattle.dt_expression.specs.Element.{element}
 use Rattle.dt_source.specs.Sequences.{SpellsEach}
 use Rattle.dt_meaning.specs.Syntax.{Piece, Plain, PhandleOf, PathOf, Stored}
 use Rattle.dt_source.specs.Pieces.{target_by, target_of, width_in, element_pieces, cell_pieces, stored, portion_pieces, joined, join_bytes}
-use Rattle.dt_source.specs.Marks.{is_label, is_mark, labels_in}
+use Rattle.dt_source.specs.Marks.{is_label, labels_in}
 use Rattle.dt_source.specs.Words.{label_bytes}
 use Rattle.dt_source.specs.Source.{CellTree, Element, Refers, Marks, PortionTree, Whole, Portion, PieceTree, Quoted, Points, Pairs, Cells, WideCells, Includes, One, IsReference, OneReference, OnePair, SpellsLabels, SpellsMarks, DropsLabels, SpellsCell, SpellsCells, SpellsPortion, SpellsPiece, SpellsPlaced, SpellsFurther, SpellsValue, cell_of, cells_said, portion_values, piece_said, value_said, width_said}
 use Rattle.dt_lexeme.specs.Label.{IsLabel}

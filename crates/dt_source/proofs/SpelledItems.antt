@@ -12,7 +12,7 @@ use Rattle.dt_source.specs.Sequences.{SpellsEach}
 use Rattle.dt_meaning.specs.Syntax.{Target, Piece, Entry, Body, body_of, Edit, Rooted, Extends, Deletes, Omits}
 use Rattle.dt_source.specs.Pieces.{target_of}
 use Rattle.dt_source.specs.Order.{first_of}
-use Rattle.dt_source.specs.Reading.Bodies.{labels_at, ended_by, body_at, body_below}
+use Rattle.dt_source.specs.Reading.Bodies.{ended_by, body_at, body_below}
 use Rattle.dt_source.specs.Marks.{is_label}
 use Rattle.dt_source.specs.Words.{label_bytes}
 use Rattle.dt_source.specs.Source.{Statements, ItemTree, Root, Extend, Delete, Omit, IsReference, OneReference, SpellsLabels, SpellsStatements, SpellsBody, SpellsItem, stand_before_reference, entries_of, faults_in, item_said, item_faults}

@@ -4,7 +4,7 @@ use Rattle.dt_lexeme.specs.declared.lexeme.Lexeme.{Lexeme}
 use Rattle.dt_lexeme.specs.declared.lexeme.Kind.{Kind}
 use Rattle.dt_lexeme.specs.declared.lexeme.Kind.TheVariants.{Label, OmitIfNoRef}
 use Rattle.dt_source.specs.Sequences.{SpellsEach}
-use Rattle.dt_source.specs.Marks.{is_label, is_mark, is_omission, omits, labels_in}
+use Rattle.dt_source.specs.Marks.{is_label, is_mark, is_omission, omits}
 use Rattle.dt_source.specs.Reading.Bodies.{labels_at, marks_at}
 use Rattle.dt_source.specs.Source.{SpellsLabels, SpellsMarks}
 

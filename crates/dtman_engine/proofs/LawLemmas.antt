@@ -1,31 +1,30 @@
 -- A blob comes back from its dump, by the laws of the crates below.
 use Rattle.std.proofs.Common.{◌≡◌, ◌<◌, ◌≤◌, inl, inr, ℕ, false, List, length, None, Some, Result, Ok, Err, refl, ap, ◌∙◌, subst, arith}
 use Rattle.dt_lexeme.specs.declared.language.Language.TheVariants.{Profile}
+use Rattle.dt_tree.specs.PathMap.{tree_map}
 use Rattle.dt_tree.specs.TreeData.{TreeData, IsTree}
 use Rattle.dt_source.specs.declared.error.SourceErrorKind.{SourceErrorKind}
 use Rattle.dt_source.specs.declared.error.SourceErrorKind.TheVariants as kinds
 use Rattle.dt_source.specs.Parse as parse
 use Rattle.dt_source.specs.Parse.{IsShort, Says}
 use Rattle.dt_meaning.specs.Syntax.{Meaning}
-use Rattle.dt_meaning.specs.MapOf.{tree_map_of}
-use Rattle.dt_meaning.specs.Resolved.{Resolved, resolved}
-use Rattle.dt_resolve.specs.declared.error.BuildError.{BuildError}
-use Rattle.dt_resolve.specs.declared.error.BuildError.TheVariants as builds
-use Rattle.dt_build.specs.Built.{IsTreeOf, Refuses}
+use Rattle.dt_build.specs.Built.{IsTreeOf}
 use Rattle.dt_blob.specs.declared.error.BlobError.{BlobError}
 use Rattle.dt_blob.specs.declared.error.BlobError.TheVariants.{NoMemory, Truncated, BadMagic, BadVersion, BadLayout, BadToken, BadString, PropertyAfterNode, BadTree, TooLarge}
 use Rattle.dt_blob.specs.Blob.{blob_of}
 use Rattle.dt_blob.specs.HeaderWords.{header_fault}
 use Rattle.dt_blob.specs.Holds.{Holds}
 use Rattle.dt_blob.specs.SourceText.{text_of}
-use Rattle.dtman_engine.specs.Compile.{CannotBuild, IsCompileRefusal, HasLongBlob}
+use Rattle.dtman_engine.specs.Compile.{CannotBuild, IsCompileRefusal, meant_by}
 use Rattle.dtman_engine.specs.Dump.{CannotPrint, Explains, IsDump, IsRefusal, IsUnread}
 use Rattle.dtman_engine.specs.Fault.{FaultValue, no_memory}
 use Rattle.dtman_engine.specs.SourceFaults.{build_fault, source_fault}
 use Rattle.dtman_engine.specs.BlobFaults.{blob_fault}
 use Rattle.dtman_engine.specs.Laws.{CannotCompile}
 use Rattle.dtman_engine.specs.Limits.{blob_limit}
-use Rattle.dtman_engine.proofs.OneErrors.{same-lists, none-built}
+use Rattle.dtman_engine.proofs.CompileLemmas.{tree-meant}
+use Rattle.dtman_engine.proofs.OneBuilt.{fits-not}
+use Rattle.dtman_engine.proofs.OneBuilt as one_built
 
 no-fault : (bytes : List ℕ) (t : TreeData) (e : BlobError) → Holds bytes t → header_fault bytes ≡ Some e → ⊥
 no-fault bytes t e held bad = let none : header_fault bytes ≡ None = held.header in cc
@@ -70,16 +69,6 @@ module _ (one : (bytes : List ℕ) (tree other : TreeData) → Holds bytes tree 
   pub unread : (fault : FaultValue) → IsUnread bytes fault → fault ≡ no_memory
   unread fault refusal = unwanted refusal.error fault refusal.told refusal.explained refusal.size
 
--- ---- a source that means a tree is refused for want of memory alone
-built : (m : Meaning) (lists : Resolved) (e : BuildError) → resolved false m ≡ Ok lists → Refuses false m e → e ≡ builds.NoMemory
-built m lists e is why = none-built (resolved false m) lists e is why
-
-fits-not : (m : Meaning) (t : TreeData) → IsTree t → IsTreeOf false m t → length (blob_of t) ≤ blob_limit → HasLongBlob false m → ⊥
-fits-not m t is of fits long =
-    let same : of.lists ≡ long.lists = same-lists (resolved false m) of.lists long.lists of.resolves long.resolves in
-    let over : blob_limit < length (blob_of t) = long.long t is (of.map ∙ ap (tree_map_of m) same) in
-    omega (arith, fits, over)
-
 -- ---- a text that says what means the tree
 module _ (accepted : (text : List ℕ) (m : Meaning) (k : SourceErrorKind) (line : ℕ) → IsShort text → Says Profile text m → parse.Refuses Profile text k line → k ≡ kinds.NoMemory) (meaning : (text : List ℕ) (m n : Meaning) → Says Profile text m → Says Profile text n → m ≡ n) (text : List ℕ) (s : Meaning) (t : TreeData) (is : IsTree t) (says : Says Profile text s) (of : IsTreeOf false s t) (fits : length (blob_of t) ≤ blob_limit) where
   wanted : (k : SourceErrorKind) (line : ℕ) (fault : FaultValue) → fault ≡ source_fault k line → IsShort text → parse.Refuses Profile text k line → CannotCompile text fault
@@ -98,8 +87,8 @@ module _ (accepted : (text : List ℕ) (m : Meaning) (k : SourceErrorKind) (line
 
   unbuilt : (m : Meaning) (fault : FaultValue) → IsTreeOf false m t → CannotBuild false m fault → CannotCompile text fault
   unbuilt m fault also (inl none) = inl none
-  unbuilt m fault also (inr (inl none)) = inl (none.told ∙ ap build_fault (built m also.lists none.error also.resolves none.refuses))
-  unbuilt m fault also (inr (inr long)) = elim (fits-not m t is also fits long.1) [ ]
+  unbuilt m fault also (inr (inl none)) = inl (one_built.wanted (meant_by false m) (tree_map t) fault (tree-meant false m t also) none)
+  unbuilt m fault also (inr (inr long)) = elim (fits-not (meant_by false m) t is (tree-meant false m t also) fits long.1) [ ]
 
   pub uncompiled : (fault : FaultValue) → IsCompileRefusal false text fault → CannotCompile text fault
   uncompiled fault (inl none) = unsaid none.kind none.line fault none.told none.refuses

@@ -7,7 +7,7 @@ mod HeaderLemmas
 mod LawLemmas
 mod OneAnswers
 mod OneApplied
-mod OneBuilt
+pub mod OneBuilt
 mod OneErrors
 pub mod OverlayLemmas
 mod RunLemmas

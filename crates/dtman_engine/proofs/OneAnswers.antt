@@ -7,7 +7,7 @@ use Rattle.dt_source.specs.Laws.{OnlyMemoryRefusesWhatIsSaid}
 use Rattle.dt_source.specs.Parse.{IsShort, Says}
 use Rattle.dt_meaning.specs.Syntax.{Meaning}
 use Rattle.dt_blob.specs.Holds.{Holds}
-use Rattle.dtman_engine.specs.Compile.{CannotBuild, IsBlobOf, IsCompiled, IsCompileRefusal}
+use Rattle.dtman_engine.specs.Compile.{CannotBuild, IsBlobOf, IsCompiled, IsCompileRefusal, meant_by}
 use Rattle.dtman_engine.specs.Dump.{CannotPrint, IsDump, IsRefusal}
 use Rattle.dtman_engine.specs.Fault.{FaultValue}
 use Rattle.dtman_engine.specs.Laws.{IsOneAnswer}
@@ -27,7 +27,7 @@ module _ (accepted : OnlyMemoryRefusesWhatIsSaid) (meaning : (text : List ℕ) (
   refuses fault (inr vain) = subst (λ (x : Meaning). CannotBuild symbols x fault) (meaning text vain.said m vain.says says) vain.cannot
 
   pub compiled-once : IsOneAnswer (IsCompiled symbols text) (IsCompileRefusal symbols text)
-  compiled-once = narrower (IsBlobOf symbols m) (IsCompiled symbols text) (CannotBuild symbols m) (IsCompileRefusal symbols text) gives refuses (one-blob symbols m)
+  compiled-once = narrower (IsBlobOf symbols m) (IsCompiled symbols text) (CannotBuild symbols m) (IsCompileRefusal symbols text) gives refuses (one-blob (meant_by symbols m))
 
 module _ (one : (bytes : List ℕ) (tree other : TreeData) → Holds bytes tree → Holds bytes other → tree ≡ other) (base over : List ℕ) (b o : TreeData) (held : Holds base b) (also : Holds over o) where
   overlays : (blob : List ℕ) → IsOverlaid base over blob → IsBlobOfApplied b o blob

@@ -1,71 +1,35 @@
 -- What `compile_bytes` answers: the blob of the tree that the source in a text means, or why there is none.
-use Rattle.std.specs.Prelude.{◌≡◌, ◌≤◌, ◌<◌, ◌⊎◌, ℕ, Bool, List, length, Ok, MatchResult}
+use Rattle.std.specs.Prelude.{◌⊎◌, ℕ, Bool, List, Ok}
 use Rattle.dt_lexeme.specs.declared.language.Language.TheVariants.{Profile}
-use Rattle.dt_tree.specs.PathMap.{tree_map}
-use Rattle.dt_tree.specs.TreeData.{TreeData, IsTree}
-use Rattle.dt_source.specs.declared.error.SourceErrorKind.{SourceErrorKind}
+use Rattle.dt_tree.specs.Steps.{then_do}
 use Rattle.dt_source.specs.Parse as parse
 use Rattle.dt_meaning.specs.Syntax.{Meaning}
 use Rattle.dt_meaning.specs.MapOf.{tree_map_of}
-use Rattle.dt_meaning.specs.Resolved.{Resolved, resolved}
-use Rattle.dt_resolve.specs.declared.error.BuildError.{BuildError}
-use Rattle.dt_build.specs.Built.{IsTreeOf, Refuses}
-use Rattle.dt_blob.specs.declared.error.BlobError.TheVariants.{TooLarge}
-use Rattle.dt_blob.specs.Blob.{blob_of}
-use Rattle.dtman_engine.specs.Fault.{Answer, FaultValue, fault_value, no_memory}
-use Rattle.dtman_engine.specs.SourceFaults.{build_fault, source_fault}
-use Rattle.dtman_engine.specs.BlobFaults.{blob_fault}
-use Rattle.dtman_engine.specs.Limits.{blob_limit, IsShort}
+use Rattle.dt_meaning.specs.Resolved.{resolved}
+use Rattle.dtman_engine.specs.Fault.{Answer, FaultValue}
+use Rattle.dtman_engine.specs.Meant as meant
+
+-- what a source means: its resolved tree
+abbrev pub meant_by : Bool → Meaning → meant.Meant
+meant_by symbols m = then_do (resolved symbols m) (λ lists. Ok (tree_map_of m lists))
 
 -- the blob of the tree that a source means
-pub record IsBlobOf (symbols : Bool) (m : Meaning) (blob : List ℕ) : Type 0 where
-  pub tree : TreeData
-  pub is : IsTree tree
-  pub tree_is : IsTreeOf symbols m tree
-  pub blob_is : blob ≡ blob_of tree
-  pub fits : length blob ≤ blob_limit
-
--- the blob of that tree is too long
-pub record HasLongBlob (symbols : Bool) (m : Meaning) : Type 0 where
-  pub lists : Resolved
-  pub resolves : resolved symbols m ≡ Ok lists
-  pub long : (tree : TreeData) → IsTree tree → tree_map tree ≡ tree_map_of m lists → blob_limit < length (blob_of tree)
-
--- the source means no tree, for this error
-pub record MeansNone (symbols : Bool) (m : Meaning) (fault : FaultValue) : Type 0 where
-  pub error : BuildError
-  pub told : fault ≡ build_fault error
-  pub refuses : Refuses symbols m error
+abbrev pub IsBlobOf : Bool → Meaning → List ℕ → Type 0
+IsBlobOf symbols m blob = meant.IsBlobOf (meant_by symbols m) blob
 
 -- why what a source says makes no blob: memory is wanted, it means no tree, or the blob is too long
 abbrev pub CannotBuild : Bool → Meaning → FaultValue → Type 0
-CannotBuild symbols m fault = (fault ≡ no_memory) ⊎ MeansNone symbols m fault ⊎ ((fault ≡ blob_fault TooLarge) × HasLongBlob symbols m)
+CannotBuild symbols m fault = meant.CannotBuild (meant_by symbols m) fault
 
 -- the answer to what a source says: its blob, or why there is none
 abbrev pub Builds : Bool → Meaning → Answer → Type 0
-Builds symbols m given = MatchResult given (λ blob. IsBlobOf symbols m blob.items) (λ fault. CannotBuild symbols m (fault_value fault))
+Builds symbols m given = meant.Builds (meant_by symbols m) given
 
 -- the text says something, and this is its blob
-pub record IsCompiled (symbols : Bool) (text blob : List ℕ) : Type 0 where
-  pub said : Meaning
-  pub short : IsShort text
-  pub says : parse.Says Profile text said
-  pub blob_is : IsBlobOf symbols said blob
+abbrev pub IsCompiled : Bool → List ℕ → List ℕ → Type 0
+IsCompiled symbols text blob = meant.IsBlobOfText (parse.Says Profile text) (meant_by symbols) text blob
 
--- ---- refusals
--- the text says nothing, for this kind of error in this line
-pub record SaysNone (text : List ℕ) (fault : FaultValue) : Type 0 where
-  pub kind : SourceErrorKind
-  pub line : ℕ
-  pub told : fault ≡ source_fault kind line
-  pub refuses : parse.Refuses Profile text kind line
-
--- what the text says makes no blob
-pub record SaysInVain (symbols : Bool) (text : List ℕ) (fault : FaultValue) : Type 0 where
-  pub said : Meaning
-  pub short : IsShort text
-  pub says : parse.Says Profile text said
-  pub cannot : CannotBuild symbols said fault
-
+-- the text says nothing, or what it says makes no blob
 abbrev pub IsCompileRefusal : Bool → List ℕ → FaultValue → Type 0
-IsCompileRefusal symbols text fault = SaysNone text fault ⊎ SaysInVain symbols text fault
+IsCompileRefusal symbols text fault =
+    meant.SaysNone (parse.Refuses Profile text) fault ⊎ meant.SaysInVain (parse.Says Profile text) (meant_by symbols) text fault

@@ -7,6 +7,7 @@ pub mod Explain
 pub mod Fault
 pub mod Laws
 pub mod Limits
+pub mod Meant
 pub mod Overlay
 pub mod OverlayFaults
 pub mod Plan

@@ -2,6 +2,7 @@
 use Rattle.std.proofs.Common.{◌≡◌, ℕ, ◌%◌, Bool, true, false, eqb, cond, List, [], ◌∷◌, ◌++◌, length, map, refl, sym, ap, ◌∙◌, append_assoc, append-nil, subst, arith}
 use Rattle.std.proofs.lemmas.Bool.{eqb-true}
 use Rattle.dt_blob.specs.SourceText.{are_strings}
+use Rattle.dt_lexeme.specs.declared.language.Language.TheVariants.{Profile}
 use Rattle.dt_lexeme.specs.declared.lexeme.Lexeme.{Lexeme}
 use Rattle.dt_lexeme.specs.declared.lexeme.Kind.TheVariants as kinds
 use Rattle.dt_expression.specs.Expression.{Begins}
@@ -28,7 +29,7 @@ joined_plain : (bss : List (List ℕ)) → joined (map Plain bss) ≡ value_of (
 joined_plain [] = refl
 joined_plain (bs ∷ bss) = ap (join_bytes bs) (joined_plain bss) ∙ joined_one bs (concat bss)
 
-pieced_says : (text : List ℕ) (p : ℕ) (parts : List Segment) (pieces : List PieceTree) (value : List ℕ) (rest : List Segment) → Pieced text p parts pieces value rest → value_said text pieces ≡ value_of value
+pieced_says : (text : List ℕ) (p : ℕ) (parts : List Segment) (pieces : List PieceTree) (value : List ℕ) (rest : List Segment) → Pieced text p parts pieces value rest → value_said Profile text pieces ≡ value_of value
 pieced_says text p parts pieces value rest h = ap joined h.says ∙ joined_plain h.bytes ∙ ap value_of h.bytes_are
 
 -- ---- the first form that fits
@@ -63,8 +64,8 @@ module _ (text : List ℕ) where
     pub mid : List Lexeme
     pub spells : SpellsValue pieces (placed p (parts ++ rest)) mid
     pub ends : Begins mid kinds.Semicolon (placed (past p parts) rest)
-    pub says : value_said text pieces ≡ value_of value
-    pub faultless : value_faults text pieces ≡ []
+    pub says : value_said Profile text pieces ≡ value_of value
+    pub faultless : value_faults Profile text pieces ≡ []
 
   empty_valued : (p : ℕ) (value : List ℕ) (rest : List Segment) → eqb (length value) 0 ≡ true → Valued p stop_parts [] value rest
   unfolding placed past

@@ -4,6 +4,7 @@ use Rattle.std.specs.Prelude.{flat_map, slice_range}
 use Rattle.std.specs.List.{list_all}
 use Rattle.std.proofs.lemmas.Bool.{and_parts}
 use Rattle.dt_blob.specs.SourceText.{is_printable}
+use Rattle.dt_lexeme.specs.declared.language.Language.TheVariants.{Profile}
 use Rattle.dt_lexeme.specs.declared.lexeme.Lexeme.{Lexeme}
 use Rattle.dt_lexeme.specs.declared.lexeme.Fault.{Fault}
 use Rattle.dt_lexeme.specs.declared.lexeme.Kind.TheVariants as kinds
@@ -34,9 +35,9 @@ bare_piece p ts rest h = (ts, rest, ([], refl), h, ([], refl))
 pub record Pieced (text : List ℕ) (p : ℕ) (parts : List Segment) (pieces : List PieceTree) (value : List ℕ) (rest : List Segment) : Type 0 where
   pub spells : SpellsPieces pieces (placed p (parts ++ rest)) (placed (past p parts) rest)
   pub bytes : List (List ℕ)
-  pub says : flat_map (piece_said text) pieces ≡ map Plain bytes
+  pub says : flat_map (piece_said Profile text) pieces ≡ map Plain bytes
   pub bytes_are : concat bytes ≡ value
-  pub faultless : value_faults text pieces ≡ []
+  pub faultless : value_faults Profile text pieces ≡ []
 
 -- ---- one string
 
@@ -49,13 +50,13 @@ module _ (text : List ℕ) where
       let n : p + length (quoted s) - 1 ≡ p + 1 + length (escaped s) = omega (arith, length-append (escaped s) (34 ∷ [])) in
       ap (slice_range text (p + 1)) n ∙ slice_front text (p + 1) (escaped s) (34 ∷ written ss) f
 
-  string_is : (p : ℕ) (s : List ℕ) (ss : List Segment) → At text p (Word kinds.Text (quoted s) ∷ ss) → list_all is_printable s ≡ true → chars_of text (lexeme_at p kinds.Text (quoted s)) ≡ plain s
-  string_is p s ss h e = ap (chars_with 0 (p + 1)) (string_slice p s ss h) ∙ chars_plain (p + 1) s e
+  string_is : (p : ℕ) (s : List ℕ) (ss : List Segment) → At text p (Word kinds.Text (quoted s) ∷ ss) → list_all is_printable s ≡ true → chars_of Profile text (lexeme_at p kinds.Text (quoted s)) ≡ plain s
+  string_is p s ss h e = ap (chars_with Profile 0 (p + 1)) (string_slice p s ss h) ∙ chars_plain (p + 1) s e
 
-  string_says : (p : ℕ) (s : List ℕ) (ss : List Segment) → At text p (Word kinds.Text (quoted s) ∷ ss) → list_all is_printable s ≡ true → string_bytes text (lexeme_at p kinds.Text (quoted s)) ≡ s ++ 0 ∷ []
+  string_says : (p : ℕ) (s : List ℕ) (ss : List Segment) → At text p (Word kinds.Text (quoted s) ∷ ss) → list_all is_printable s ≡ true → string_bytes Profile text (lexeme_at p kinds.Text (quoted s)) ≡ s ++ 0 ∷ []
   string_says p s ss h e = ap (λ (vs : List Value). numbers vs ++ 0 ∷ []) (string_is p s ss h e) ∙ ap (λ (bs : List ℕ). bs ++ 0 ∷ []) (plain_numbers s)
 
-  string_faultless : (p : ℕ) (s : List ℕ) (ss : List Segment) → At text p (Word kinds.Text (quoted s) ∷ ss) → list_all is_printable s ≡ true → string_faults text (lexeme_at p kinds.Text (quoted s)) ≡ []
+  string_faultless : (p : ℕ) (s : List ℕ) (ss : List Segment) → At text p (Word kinds.Text (quoted s) ∷ ss) → list_all is_printable s ≡ true → string_faults Profile text (lexeme_at p kinds.Text (quoted s)) ≡ []
   string_faultless p s ss h e = ap faults (string_is p s ss h e) ∙ plain_faults s
 
   -- ---- strings behind commas
@@ -65,8 +66,8 @@ module _ (text : List ℕ) where
 
   record FurtherSaid (p : ℕ) (ss : List (List ℕ)) (rest : List Segment) : Type 0 where
     pub spells : SpellsEach SpellsFurther (quoted_pieces (placed p (further ss))) (placed p (further ss ++ rest)) (placed (past p (further ss)) rest)
-    pub says : flat_map (piece_said text) (quoted_pieces (placed p (further ss))) ≡ map Plain (with_zeros ss)
-    pub faultless : value_faults text (quoted_pieces (placed p (further ss))) ≡ []
+    pub says : flat_map (piece_said Profile text) (quoted_pieces (placed p (further ss))) ≡ map Plain (with_zeros ss)
+    pub faultless : value_faults Profile text (quoted_pieces (placed p (further ss))) ≡ []
 
   further_said : (p : ℕ) (ss : List (List ℕ)) (rest : List Segment) → At text p (further ss ++ rest) → all_printable ss ≡ true → FurtherSaid p ss rest
   unfolding placed past SpellsEach
@@ -83,8 +84,8 @@ module _ (text : List ℕ) where
       let behind = placed (p + 1 + 1 + length (quoted s)) (further ss ++ rest) in
       record {
         spells = (behind, (l ∷ behind, (refl, refl), bare_piece (Quoted l) (l ∷ behind) behind (refl, refl)), more.spells);
-        says = ap (λ (bs : List ℕ). Plain bs ∷ flat_map (piece_said text) (quoted_pieces (placed (p + 1 + 1 + length (quoted s)) (further ss)))) says ∙ ap (λ (ps : List Piece). Plain (s ++ 0 ∷ []) ∷ ps) more.says;
-        faultless = ap (λ (fs : List Fault). fs ++ value_faults text (quoted_pieces (placed (p + 1 + 1 + length (quoted s)) (further ss)))) faultless ∙ more.faultless;
+        says = ap (λ (bs : List ℕ). Plain bs ∷ flat_map (piece_said Profile text) (quoted_pieces (placed (p + 1 + 1 + length (quoted s)) (further ss)))) says ∙ ap (λ (ps : List Piece). Plain (s ++ 0 ∷ []) ∷ ps) more.says;
+        faultless = ap (λ (fs : List Fault). fs ++ value_faults Profile text (quoted_pieces (placed (p + 1 + 1 + length (quoted s)) (further ss)))) faultless ∙ more.faultless;
       }
 
   zeros_strung : (ss : List (List ℕ)) → concat (with_zeros ss) ≡ strung ss
@@ -104,7 +105,7 @@ module _ (text : List ℕ) where
       record {
         spells = (behind, bare_piece (Quoted l) (l ∷ behind) behind (refl, refl), more.spells);
         bytes = with_zeros (s ∷ ss);
-        says = ap (λ (bs : List ℕ). Plain bs ∷ flat_map (piece_said text) (quoted_pieces (placed (p + length (quoted s)) (further ss)))) says ∙ ap (λ (ps : List Piece). Plain (s ++ 0 ∷ []) ∷ ps) more.says;
+        says = ap (λ (bs : List ℕ). Plain bs ∷ flat_map (piece_said Profile text) (quoted_pieces (placed (p + length (quoted s)) (further ss)))) says ∙ ap (λ (ps : List Piece). Plain (s ++ 0 ∷ []) ∷ ps) more.says;
         bytes_are = zeros_strung (s ∷ ss);
-        faultless = ap (λ (fs : List Fault). fs ++ value_faults text (quoted_pieces (placed (p + length (quoted s)) (further ss)))) faultless ∙ more.faultless;
+        faultless = ap (λ (fs : List Fault). fs ++ value_faults Profile text (quoted_pieces (placed (p + length (quoted s)) (further ss)))) faultless ∙ more.faultless;
       }

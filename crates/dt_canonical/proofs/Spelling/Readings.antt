@@ -8,6 +8,7 @@ use Rattle.std.proofs.lemmas.Bool.Decides.{nat_tests}
 use Rattle.dt_blob.specs.BigEndian.{double_word}
 use Rattle.dt_blob.specs.SourceText.{is_printable, hex_digit, hex_of}
 use Rattle.dt_expression.specs.Values.{Value, digit_of, is_suffix, number_step, literal_number}
+use Rattle.dt_lexeme.specs.declared.language.Language.TheVariants.{Profile}
 use Rattle.dt_source.specs.Strings.{chars_with, numbers, faults, pair_value}
 use Rattle.dt_canonical.specs.Bytes.{are_bytes}
 use Rattle.dt_canonical.specs.Private.Lexed.{escaped}
@@ -20,25 +21,25 @@ abbrev pub plain : List ℕ → List Value
 plain [] = []
 plain (b ∷ bytes) = Ok b ∷ plain bytes
 
-quote_marked : (place : ℕ) (bytes : List ℕ) → chars_with 0 place (92 ∷ 34 ∷ bytes) ≡ Ok 34 ∷ chars_with 0 (place + 1 + 1) bytes
+quote_marked : (place : ℕ) (bytes : List ℕ) → chars_with Profile 0 place (92 ∷ 34 ∷ bytes) ≡ Ok 34 ∷ chars_with Profile 0 (place + 1 + 1) bytes
 unfolding chars_with
 quote_marked place bytes = refl
 
-backslash_marked : (place : ℕ) (bytes : List ℕ) → chars_with 0 place (92 ∷ 92 ∷ bytes) ≡ Ok 92 ∷ chars_with 0 (place + 1 + 1) bytes
+backslash_marked : (place : ℕ) (bytes : List ℕ) → chars_with Profile 0 place (92 ∷ 92 ∷ bytes) ≡ Ok 92 ∷ chars_with Profile 0 (place + 1 + 1) bytes
 unfolding chars_with
 backslash_marked place bytes = refl
 
-marked : (b place : ℕ) (bytes : List ℕ) → (eqb b 34 || eqb b 92) ≡ true → chars_with 0 place (92 ∷ b ∷ bytes) ≡ Ok b ∷ chars_with 0 (place + 1 + 1) bytes
+marked : (b place : ℕ) (bytes : List ℕ) → (eqb b 34 || eqb b 92) ≡ true → chars_with Profile 0 place (92 ∷ b ∷ bytes) ≡ Ok b ∷ chars_with Profile 0 (place + 1 + 1) bytes
 marked b place bytes e = elim (or_cases (eqb b 34) (eqb b 92) e) [
-  | inl f ↦ subst (λ (c : ℕ). chars_with 0 place (92 ∷ c ∷ bytes) ≡ Ok c ∷ chars_with 0 (place + 1 + 1) bytes) (sym (eqb-true b 34 f)) (quote_marked place bytes)
-  | inr f ↦ subst (λ (c : ℕ). chars_with 0 place (92 ∷ c ∷ bytes) ≡ Ok c ∷ chars_with 0 (place + 1 + 1) bytes) (sym (eqb-true b 92 f)) (backslash_marked place bytes)
+  | inl f ↦ subst (λ (c : ℕ). chars_with Profile 0 place (92 ∷ c ∷ bytes) ≡ Ok c ∷ chars_with Profile 0 (place + 1 + 1) bytes) (sym (eqb-true b 34 f)) (quote_marked place bytes)
+  | inr f ↦ subst (λ (c : ℕ). chars_with Profile 0 place (92 ∷ c ∷ bytes) ≡ Ok c ∷ chars_with Profile 0 (place + 1 + 1) bytes) (sym (eqb-true b 92 f)) (backslash_marked place bytes)
 ]
 
-unmarked : (b place : ℕ) (bytes : List ℕ) → eqb b 92 ≡ false → chars_with 0 place (b ∷ bytes) ≡ Ok b ∷ chars_with 0 (place + 1) bytes
+unmarked : (b place : ℕ) (bytes : List ℕ) → eqb b 92 ≡ false → chars_with Profile 0 place (b ∷ bytes) ≡ Ok b ∷ chars_with Profile 0 (place + 1) bytes
 unfolding chars_with
 unmarked b place bytes e = rw e refl
 
-pub chars_plain : (place : ℕ) (bytes : List ℕ) → list_all is_printable bytes ≡ true → chars_with 0 place (escaped bytes) ≡ plain bytes
+pub chars_plain : (place : ℕ) (bytes : List ℕ) → list_all is_printable bytes ≡ true → chars_with Profile 0 place (escaped bytes) ≡ plain bytes
 unfolding chars_with
 chars_plain place [] e = refl
 chars_plain place (b ∷ bytes) e = go (λ at. chars_plain at bytes (and_parts (is_printable b) (list_all is_printable bytes) e).1) (eqb b 34 || eqb b 92) refl
@@ -46,7 +47,7 @@ chars_plain place (b ∷ bytes) e = go (λ at. chars_plain at bytes (and_parts (
     some : eqb b 0 ≡ false
     some = printable_some b (and_parts (is_printable b) (list_all is_printable bytes) e).0
 
-    go : ((at : ℕ) → chars_with 0 at (escaped bytes) ≡ plain bytes) → (m : Bool) → (eqb b 34 || eqb b 92) ≡ m → chars_with 0 place (escaped (b ∷ bytes)) ≡ Ok b ∷ plain bytes
+    go : ((at : ℕ) → chars_with Profile 0 at (escaped bytes) ≡ plain bytes) → (m : Bool) → (eqb b 34 || eqb b 92) ≡ m → chars_with Profile 0 place (escaped (b ∷ bytes)) ≡ Ok b ∷ plain bytes
     go more true f = rw (some, f) (marked b place (escaped bytes) f ∙ ap (λ (vs : List Value). Ok b ∷ vs) (more (place + 1 + 1)))
     go more false f = rw (some, f) (unmarked b place (escaped bytes) (or_parts (eqb b 34) (eqb b 92) f).1 ∙ ap (λ (vs : List Value). Ok b ∷ vs) (more (place + 1)))
 

@@ -84,8 +84,8 @@ module _ (text : List ℕ) where
 
   record RootSaid (p : ℕ) (root : NodeData) : Type 0 where
     pub spells : SpellsItem Profile (spelled_root p root) (placed p (root_parts root)) []
-    pub says : item_said text (spelled_root p root) ≡ Rooted (with_properties root.properties (nodes_of root.children))
-    pub faultless : item_faults text (spelled_root p root) ≡ []
+    pub says : item_said Profile text (spelled_root p root) ≡ Rooted (with_properties root.properties (nodes_of root.children))
+    pub faultless : item_faults Profile text (spelled_root p root) ≡ []
 
   root_said : (p : ℕ) (root : NodeData) → At text p (root_parts root) → IsSound root → have_bytes root.properties ≡ true → hold_bytes root.children ≡ true → RootSaid p root
   unfolding placed past
@@ -111,8 +111,8 @@ some_items x xs e = absurd cc
 
 record TreeSaid (t : TreeData) : Type 0 where
   pub spells : Spells Profile (spelled_of t) (lexemes_of t)
-  pub says : said (text_of t) (spelled_of t) ≡ source_of t
-  pub faultless : faults_of (text_of t) (spelled_of t) ≡ []
+  pub says : said Profile (text_of t) (spelled_of t) ≡ source_of t
+  pub faultless : faults_of Profile (text_of t) (spelled_of t) ≡ []
 
 tree_said : (t : TreeData) → IsTree t → HasBytes t → TreeSaid t
 unfolding placed past SpellsEach Spells said faults_of
@@ -133,8 +133,8 @@ tree_said t h b =
     let more = root.faultless in
     record {
       spells = (some_items false [], some_items (spelled_root q t.root) [], x, y, (x, (placed 8 (Word kinds.Semicolon (codes ";") ∷ Blanks (codes "\n\n") ∷ (reserves_parts t.reserves ++ root_parts t.root)), (refl, refl), (refl, refl)), refl), reserves.spells, ([], root.spells, refl));
-      says = ap (λ (rs : List (ℕ × ℕ)). meaning rs (item_said text (spelled_root q t.root))) kept ∙ ap (λ (i : Edit). meaning t.reserves i) items;
-      faultless = ap (λ (fs : List Fault). fs ++ (item_faults text (spelled_root q t.root) ++ [])) faults ∙ ap (λ (fs : List Fault). fs ++ []) more;
+      says = ap (λ (rs : List (ℕ × ℕ)). meaning rs (item_said Profile text (spelled_root q t.root))) kept ∙ ap (λ (i : Edit). meaning t.reserves i) items;
+      faultless = ap (λ (fs : List Fault). fs ++ (item_faults Profile text (spelled_root q t.root) ++ [])) faults ∙ ap (λ (fs : List Fault). fs ++ []) more;
     }
   where
     meaning : List (ℕ × ℕ) → Edit → Meaning

@@ -5,6 +5,7 @@ use Rattle.std.proofs.lemmas.Bool.{and_parts}
 use Rattle.dt_tree.specs.declared.property.Property.{Property}
 use Rattle.dt_tree.specs.NodeData.{Siblings, none, more, height_of}
 use Rattle.dt_blob.specs.SourceText.{tabs}
+use Rattle.dt_lexeme.specs.declared.language.Language.TheVariants.{Profile}
 use Rattle.dt_lexeme.specs.declared.lexeme.Lexeme.{Lexeme}
 use Rattle.dt_lexeme.specs.declared.lexeme.Fault.{Fault}
 use Rattle.dt_lexeme.specs.declared.lexeme.Kind.TheVariants as kinds
@@ -25,9 +26,9 @@ five_past p a b c d e = simp past_append
 module _ (text : List ℕ) where
   -- The lexemes spell these statements, which say the body and have no fault.
   pub record Read (nodes : Bool) (depth : ℕ) (statements : Statements) (ts rest : List Lexeme) (body : Body (List Piece)) : Type 0 where
-    pub spells : SpellsStatements depth nodes statements ts rest
-    pub says : body_of (entries_of text statements) ≡ body
-    pub faultless : faults_in text statements ≡ []
+    pub spells : SpellsStatements Profile depth nodes statements ts rest
+    pub says : body_of (entries_of Profile text statements) ≡ body
+    pub faultless : faults_in Profile text statements ≡ []
 
   name_said : (p depth : ℕ) (name : List ℕ) (rest : List Segment) → At text p (name_parts depth name ++ rest) → name_bytes text (name_at p depth name) ≡ name
   name_said p depth name rest h = at_word text (p + length (tabs depth)) kinds.Name name rest (at_next text p (Blanks (tabs depth)) (Word kinds.Name name ∷ rest) h)
@@ -46,10 +47,10 @@ module _ (text : List ℕ) where
       record {
         spells = (refl, ts, placed q (behind_name x.value ++ rest), value.mid, placed (past q (behind_name x.value)) rest, refl, (refl, refl), value.spells, value.ends, onward.spells);
         says =
-            ap (λ (n : List ℕ). Then (Defines n (value_said text (property_pieces q x.value))) (body_of (entries_of text others))) name
-            ∙ ap (λ (v : List Piece). Then (Defines x.name v) (body_of (entries_of text others))) value.says
+            ap (λ (n : List ℕ). Then (Defines n (value_said Profile text (property_pieces q x.value))) (body_of (entries_of Profile text others))) name
+            ∙ ap (λ (v : List Piece). Then (Defines x.name v) (body_of (entries_of Profile text others))) value.says
             ∙ ap (λ (b : Body (List Piece)). Then (Defines x.name (value_of x.value)) b) onward.says;
-        faultless = ap (λ (fs : List Fault). fs ++ faults_in text others) value.faultless ∙ onward.faultless;
+        faultless = ap (λ (fs : List Fault). fs ++ faults_in Profile text others) value.faultless ∙ onward.faultless;
       }
 
   pub properties_read : (k depth p : ℕ) (ps : List Property) (rest : List Segment) (behind : Statements) (after : List Lexeme) (body : Body (List Piece))
@@ -79,10 +80,10 @@ module _ (text : List ℕ) where
       record {
         spells = (ts, placed (past p (name_parts depth name)) (brace_parts ++ rest), placed (inside_at p depth name) rest, placed q (stop_parts ++ left), placed (q + 1 + 1) left, refl, (refl, refl), (refl, refl), inner.spells, (refl, refl), onward.spells);
         says =
-            ap (λ (n : List ℕ). Then (Child false [] n (body_of (entries_of text body))) (body_of (entries_of text others))) said
-            ∙ ap (λ (b : Body (List Piece)). Then (Child false [] name b) (body_of (entries_of text others))) inner.says
+            ap (λ (n : List ℕ). Then (Child false [] n (body_of (entries_of Profile text body))) (body_of (entries_of Profile text others))) said
+            ∙ ap (λ (b : Body (List Piece)). Then (Child false [] name b) (body_of (entries_of Profile text others))) inner.says
             ∙ ap (λ (b : Body (List Piece)). Then (Child false [] name inside) b) onward.says;
-        faultless = ap (λ (fs : List Fault). fs ++ faults_in text others) inner.faultless ∙ onward.faultless;
+        faultless = ap (λ (fs : List Fault). fs ++ faults_in Profile text others) inner.faultless ∙ onward.faultless;
       }
 
   pub siblings_read : (nodes : Bool) (k depth e p : ℕ) (s : Siblings) (tail : List Segment)

@@ -2,8 +2,9 @@
 use Rattle.std.proofs.Common.{inl, MatchResult, ap, subst, ◌∙◌}
 use Rattle.dt_lexeme.specs.declared.language.Language.TheVariants.{Profile}
 use Rattle.dt_source.specs.Meaning.{meaning_of}
+use Rattle.dt_source.specs.Parse.{Refuses, Says}
 use Rattle.dt_meaning.specs.Syntax.{Meaning}
-use Rattle.dtman_engine.specs.Compile.{CannotBuild, IsBlobOf}
+use Rattle.dtman_engine.specs.Compile.{CannotBuild, IsBlobOf, meant_by}
 use Rattle.dtman_engine.specs.Fault.{fault_value}
 use Rattle.dtman_engine.specs.SourceFaults.{source_fault}
 use Rattle.dtman_engine.proofs.CompileLemmas.{compiled, in-vain}
@@ -17,7 +18,7 @@ returns-in-Err-clause-said c =
 
 pub returns-in-Ok-clause-answer : goal.returns-in-Ok-clause-answer
 returns-in-Ok-clause-answer c =
-    compiled (λ blob. blob.items) c.args.symbols c.args.source.now (meaning_of c.in-Ok.parsed) c.source_blob.result c.in-Ok.ensures.found.0 c.in-Ok.ensures.found.1 c.source_blob.ensures
+    compiled (λ blob. blob.items) (Says Profile c.args.source.now) (meant_by c.args.symbols) c.args.source.now (meaning_of c.in-Ok.parsed) c.source_blob.result c.in-Ok.ensures.found.0 c.in-Ok.ensures.found.1 c.source_blob.ensures
 
 pub returns-in-Ok-clause-said : goal.returns-in-Ok-clause-said
 returns-in-Ok-clause-said c =
@@ -28,4 +29,4 @@ returns-in-Ok-clause-said c =
 
 pub returns-in-Ok-clause-refused : goal.returns-in-Ok-clause-refused
 returns-in-Ok-clause-refused c =
-    in-vain (λ blob. blob.items) c.args.symbols c.args.source.now (meaning_of c.in-Ok.parsed) c.source_blob.result c.in-Ok.ensures.found.0 c.in-Ok.ensures.found.1 c.source_blob.ensures
+    in-vain (λ blob. blob.items) (Says Profile c.args.source.now) (meant_by c.args.symbols) c.args.source.now (meaning_of c.in-Ok.parsed) (Refuses Profile c.args.source.now) c.source_blob.result c.in-Ok.ensures.found.0 c.in-Ok.ensures.found.1 c.source_blob.ensures
