@@ -16,22 +16,29 @@ use Rattle.dt_meaning.specs.DtcPhandles.{given_by_both}
 use Rattle.dt_meaning.specs.DtcResolved as meaning
 use Rattle.dt_meaning.specs.DtcResolved.{dtc_resolved, gathered_tree, is_left, resolved_tree, rest_of}
 use Rattle.dt_meaning.specs.DtcStatements.{dtc_edited, dtc_state}
+use Rattle.dt_source.specs.Lawful.{IsLawful}
+use Rattle.dt_meaning.specs.DtcLaws.{IsSoundState}
+use Rattle.dt_edit.specs.declared.standing.Standing.{Standing}
+use Rattle.dt_edit.specs.declared.error.EditError.{EditError}
+use Rattle.dt_edit.specs.EditFault as edit
 use Rattle.dt_edit.specs.Said.{tree_of}
 use Rattle.dt_tree_builder.proofs.PathFacts.{or-false}
 use Rattle.dt_resolve.specs.declared.error.BuildError.{BuildError}
 use Rattle.dt_resolve.specs.declared.gathered.Gathered.{Gathered}
-use Rattle.dt_resolve.specs.BuildFault.{IsFault}
-use Rattle.dt_resolve.specs.Gathered.{all_gathered}
-use Rattle.dt_resolve.proofs.Faults.{fault-same, fault-then}
+use Rattle.dt_resolve.specs.BuildFault.{IsFault, build_error}
+use Rattle.dt_resolve.specs.Gathered.{IsGathered, all_gathered}
+use Rattle.dt_resolve.proofs.Faults.{edit-fault, fault-same, fault-then}
 use Rattle.dt_build.specs.declared.draft.Draft.{Draft}
 use Rattle.dt_build.specs.BuiltByDtc.{BuildsDtc, DtcRefuses, IsDtcBuilt}
 use Rattle.dt_build.specs.Private.DtcDrafts.{IsDtcDraft}
-use Rattle.dt_build.specs.Private.DtcTrees.{IsGatheredOf}
+use Rattle.dt_build.specs.Private.DtcTrees.{IsGatheredOf, IsReadAs}
+use Rattle.dt_build.specs.Private.Named.{IsName}
 use Rattle.dt_build.specs.Private.Fitting.{IsFitting, MakesTree}
 use Rattle.dt_build.specs.Private.Made.{lists}
 use Rattle.dt_build.specs.Private.Ready.{IsReady}
 use Rattle.dt_build.proofs.DtcGathered.{gone, names-free, rest-is}
 use Rattle.dt_build.proofs.DtcLists.{lists-are}
+use Rattle.dt_build.proofs.DtcNamed.{lawful-rest, state-labelled, state-named, state-nodes}
 use Rattle.dt_build.proofs.DtcReady.{IsDtcGathered, dtc-ready, p}
 use Rattle.dt_build.proofs.ListsOfPrepared.{lists-within}
 
@@ -102,8 +109,11 @@ of-draft of draft = record {
 
 -- ---- faults
 module _ (symbols : Bool) (m : Meaning) where
-  pub edit-refused : (e : BuildError) → IsFault e (dtc_edited m) → DtcRefuses symbols m e
+  edit-refused : (e : BuildError) → IsFault e (dtc_edited m) → DtcRefuses symbols m e
   edit-refused e fault = fault-then e (dtc_edited m) (resolved_tree symbols m.plugin) fault
+
+  pub edits-refused : (a : EditError) (e : BuildError) → e ≡ build_error a → edit.IsFault a (dtc_edited m) → DtcRefuses symbols m e
+  edits-refused a e is fault = subst (DtcRefuses symbols m) (sym is) (edit-refused (build_error a) (edit-fault a (dtc_edited m) fault))
 
   module _ (t : DtcTree) (edited : dtc_edited m ≡ Ok t) where
     pub resolved-by : dtc_resolved symbols m ≡ then_do (all_gathered symbols m.plugin t) (λ g. shallow (gathered_tree symbols m.plugin t g))
@@ -163,3 +173,22 @@ module _ (symbols : Bool) (m : Meaning) where
 
         pub made-builds : (limit : ℕ) (result : Result (Option TreeData) BuildError) → MakesTree symbols m made limit result → BuildsDtc symbols m limit result
         made-builds limit result h = builds limit result (subst (λ (y : Draft). MakesTree symbols m y limit result) same h)
+
+-- ---- what is left of a lawful source's tree
+module _ (symbols : Bool) (m : Meaning) (lawful : IsLawful m) {s : Standing} (read : IsReadAs m s) (meant : meaning.Gathered) (all : all_gathered symbols m.plugin read.tree ≡ Ok meant)
+    (x : Gathered) (is : IsGathered m.plugin read.tree meant x) where
+  rest-held : IsSoundState IsName meant.rest
+  rest-held = subst (IsSoundState IsName) (sym (rest-is symbols m.plugin read.tree meant all)) (lawful-rest m read.tree (gone symbols m.plugin read.tree meant all) lawful read.edited)
+
+  pub gathered-of : IsGatheredOf symbols m s.boot_processor x
+  gathered-of = record {
+    tree = read.tree;
+    edited = read.edited;
+    boots = read.stands.boot;
+    meant = meant;
+    all = all;
+    is = is;
+    named = state-named meant.rest rest-held;
+    nodes = state-nodes IsName meant.rest rest-held;
+    at_nodes = state-labelled IsName meant.rest rest-held;
+  }

@@ -12,11 +12,13 @@ pub mod NodeSteps
 pub mod NodesAdded
 pub mod NodesMade
 pub mod NodesRemoved
+pub mod NodesMarked
 pub mod Owners
 pub mod PlaceClimbs
 pub mod PlaceLists
 pub mod PlacesDown
 pub mod Preorders
+pub mod PropertiesShown
 pub mod PropertyEdits
 pub mod RowTables
 pub mod SeenRows

@@ -80,7 +80,7 @@ below-last (x ∷ xs) (y ∷ q) n = by_name (bytes_eq x y) (below-last xs q n) w
   by_name true e = e
   by_name false e = refl
 
-leb-le : (a b : ℕ) → nat_le a b ≡ true → a ≤ b
+pub leb-le : (a b : ℕ) → nat_le a b ≡ true → a ≤ b
 leb-le a b e = elim (cases_lt b a) [
   | inl less ↦ absurd (true≢false (sym e ∙ lt-leb a b less))
   | inr more ↦ more

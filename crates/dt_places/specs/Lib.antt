@@ -3,4 +3,5 @@ pub mod PlacedTrees
 pub mod References
 pub mod Rows
 pub mod Shown
+pub mod Standing
 pub mod Tables

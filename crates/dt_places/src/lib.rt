@@ -12,6 +12,7 @@ mod place;
 mod placed_tree;
 mod properties;
 mod shown;
+mod standing;
 mod table;
 
 pub use error::PlaceError;

@@ -26,7 +26,7 @@ impl<'d, V: Copy> PlacedTree<'d, V> {
     }
 
     // The value at a row of a property, where it was made since its node was.
-    fn value_at(&self, row: usize) -> Option<V>
+    pub(crate) fn value_at(&self, row: usize) -> Option<V>
         requires sound { IsPlacedTree self.now }
         requires known { row < length (rows_in self.now.properties) }
         ensures { result ≡ value_made (rows_in self.now.nodes) (place_at (rows_in self.now.properties) row) }

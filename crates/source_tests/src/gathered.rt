@@ -175,6 +175,7 @@ fn gather_source(
         live,
         marked: marks(rt, alloc, count, row.marked),
         labelled: marks(rt, alloc, count, row.labelled),
+        boot_processor: 0,
     };
     match gather(alloc, standing, row.symbols, source.plugin) {
         Ok(gathered) => Ok(outcome_of(rt, alloc, &gathered)),

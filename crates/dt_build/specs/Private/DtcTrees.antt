@@ -7,6 +7,8 @@ use Rattle.dt_meaning.specs.DtcEdits.{DtcTree}
 use Rattle.dt_meaning.specs.DtcResolved as meaning
 use Rattle.dt_meaning.specs.DtcStatements.{dtc_edited}
 use Rattle.dt_live.proofs.Each.{Each}
+use Rattle.dt_edit.specs.declared.standing.Standing.{Standing}
+use Rattle.dt_edit.specs.Standing.{IsStandingOf}
 use Rattle.dt_tree_builder.specs.Standing.{AreNodes}
 use Rattle.dt_resolve.specs.declared.gathered.Gathered.{Gathered}
 use Rattle.dt_resolve.specs.Gathered.{IsGathered, all_gathered}
@@ -24,3 +26,9 @@ pub record IsGatheredOf (symbols : Bool) (m : Meaning) (processor : ℕ) (x : Ga
   pub named : IsNamed IsName (IsNamedValue IsName) meant.rest
   pub nodes : AreNodes meant.rest.nodes
   pub at_nodes : Each (λ l. has_node l.path meant.rest ≡ true) meant.rest.labels
+
+-- this stands when the source is read
+pub record IsReadAs (m : Meaning) (s : Standing) : Type 0 where
+  pub tree : DtcTree
+  pub edited : dtc_edited m ≡ Ok tree
+  pub stands : IsStandingOf s tree
