@@ -188,6 +188,7 @@ LINES = """
 0 dump clock.dtb
 0 plan clock.dtb drivers
 0 plan clock.dtb drivers --dot
+0 plan clock.dtb drivers --html --of /clk --links linux
 0 replay plan schedule
 0 probe clock.dtb drivers --workers 2
 0 explain 63

@@ -131,16 +131,23 @@ COMMANDS = (
         "plan",
         "Prints the plan of a blob: its devices, their drivers and suppliers",
         (Operand("BLOB", "blob", "The blob"), DRIVERS),
-        (Option("--dot", "Prints a Graphviz graph instead"), *LINKS),
+        (
+            Option("--dot", "Prints a Graphviz graph instead"),
+            Option("--html", "Prints a page of HTML instead"),
+            Option("--of", "Draws what the device needs and what needs it", "PATH"),
+            *LINKS,
+        ),
         (
             "Prints what the bus would do with a board: its devices in the order of the tree, each with the driver that matches it and the"
             " devices that have to be bound before it. The answer is a plan file, which can be read, kept, edited and replayed.",
-            "With `--dot` the answer is a Graphviz graph, in which the arrows of a cycle are red.",
+            "With `--dot` the answer is a Graphviz graph: states by colour, arrows to suppliers, those of a cycle red. With `--html` it is a page that"
+            " needs nothing else, with the board as a tree. With `--of` either shows that device, all that it needs and all that needs it.",
             BY_LINKS,
         ),
         (
             ("The plan of a board", "dtman plan board.dtb board.drivers >board.plan"),
             ("A picture of it", "dtman plan board.dtb board.drivers --dot | dot -Tsvg >board.svg"),
+            ("A page of what a device needs", "dtman plan board.dtb board.drivers --html --of /panel >panel.html"),
         ),
         "30 to 38, 50 and 51 with the line of the driver file, and 53 to 56",
     ),

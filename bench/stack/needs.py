@@ -45,6 +45,7 @@ COMMANDS = [
     "dump string.dtb",
     "plan devices.dtb one.drivers",
     "plan devices.dtb long.drivers --dot",
+    "plan devices.dtb long.drivers --html",
     "replay devices.plan long.schedule",
     "probe devices.dtb one.drivers --workers 64",
     "explain 63",

@@ -9,6 +9,7 @@ use Rattle.dtman_cli.specs.declared.subcommand.Command.{Command}
 use Rattle.dtman_cli.specs.declared.subcommand.Command.TheVariants.{Compile, Overlay, Dump, Plan, Replay, Probe, Why, Needs, Drivers, Trace, Diff, Get, Listing, Set, Explain}
 use Rattle.dtman_cli.specs.declared.subcommand.Board.{Board}
 use Rattle.dtman_cli.specs.declared.subcommand.Links.{Links}
+use Rattle.dtman_cli.specs.declared.subcommand.Picture.{Picture}
 use Rattle.dtman_cli.specs.declared.subcommand.Profile.{Profile}
 use Rattle.dtman_cli.specs.declared.subcommand.Profile.TheVariants.{Specification, Dialect}
 use Rattle.dtman_cli.specs.Grammar.{dtman}
@@ -56,6 +57,11 @@ abbrev pub IsBoard : Board → List Row → Type 0
 IsBoard board rows =
     (first_of (codes "BLOB") rows ≡ Some board.blob.now) × (first_of (codes "DRIVERS") rows ≡ Some board.drivers.now) × IsLinks board.links rows
 
+-- what is to be drawn, and of which device, if of one
+abbrev pub IsPicture : Picture → List Row → Type 0
+IsPicture picture rows =
+    (picture.dot ≡ is_on (first_of (codes "dot") rows)) × (picture.html ≡ is_on (first_of (codes "html") rows)) × IsText picture.of (codes "of") rows
+
 -- the subcommand that was met, with the values of its arguments
 abbrev pub IsMet : Command → Text → List Row → Type 0
 IsMet (Compile source out symbols profile) name rows =
@@ -64,7 +70,7 @@ IsMet (Compile source out symbols profile) name rows =
 IsMet (Overlay base overlay out) name rows =
     (name ≡ codes "overlay") × (first_of (codes "BASE") rows ≡ Some base.now) × (first_of (codes "OVERLAY") rows ≡ Some overlay.now) × (first_of (codes "OUT") rows ≡ Some out.now)
 IsMet (Dump blob) name rows = (name ≡ codes "dump") × (first_of (codes "IN") rows ≡ Some blob.now)
-IsMet (Plan board dot) name rows = (name ≡ codes "plan") × IsBoard board rows × (dot ≡ is_on (first_of (codes "dot") rows))
+IsMet (Plan board picture) name rows = (name ≡ codes "plan") × IsBoard board rows × IsPicture picture rows
 IsMet (Probe board workers without) name rows =
     (name ≡ codes "probe") × IsBoard board rows × AreWorkers workers rows × IsText without (codes "without") rows
 IsMet (Why board path check) name rows =

@@ -40,6 +40,10 @@ beside id = record (new_rule id) { long = Some id; action = Some SetTrue; is_fre
 abbrev pub with_links : App → App
 with_links app = with_rule (with_rule app (asked_text (codes "links"))) (beside (codes "strict"))
 
+-- what is drawn
+abbrev pub with_picture : App → App
+with_picture app = with_rule (with_rule (with_rule app (flag (codes "dot"))) (flag (codes "html"))) (asked_text (codes "of"))
+
 -- an option that has a short name too, may be given again and again, with a value each time, and wants another beside it
 abbrev pub repeated : Text → ℕ → Rule
 repeated id short = record (new_rule id) { long = Some id; short = Some short; action = Some Append; value_names = 1; is_free = false }
@@ -54,7 +58,7 @@ abbrev pub overlay : App
 overlay = with_rule (with_rule (with_rule (new_app (codes "overlay")) (required (codes "BASE"))) (required (codes "OVERLAY"))) (required (codes "OUT"))
 
 abbrev pub plan : App
-plan = with_links (with_rule (with_rule (with_rule (new_app (codes "plan")) (required (codes "BLOB"))) (required (codes "DRIVERS"))) (flag (codes "dot")))
+plan = with_links (with_picture (with_rule (with_rule (new_app (codes "plan")) (required (codes "BLOB"))) (required (codes "DRIVERS"))))
 
 abbrev pub replay : App
 replay =

@@ -128,6 +128,21 @@ fn add_links<'a>(
     add_argument(command, strict)
 }
 
+/// Adds what is drawn.
+fn add_picture<'a>(
+    alloc: Global,
+    command: Result<Command<'a>, AllocError>,
+) -> Result<Command<'a>, AllocError>
+    ensures { (app : App) → Makes command.entry app → Makes result (spec.with_picture app) }
+{
+    let dot = "Prints a Graphviz graph instead";
+    let html = "Prints a page of HTML instead";
+    let of = "Draws what the device needs and what needs it";
+    let command = add_argument(command, flag(alloc, "dot", dot));
+    let command = add_argument(command, flag(alloc, "html", html));
+    add_argument(command, asked_text(alloc, "of", "PATH", of))
+}
+
 /// A command without arguments.
 fn named<'a>(alloc: Global, name: &'a str, about: &'a str) -> Command<'a>
     ensures shape { app_of result ≡ new_app name.now }
@@ -187,8 +202,7 @@ fn plan<'a>(alloc: Global) -> Result<Command<'a>, AllocError>
     let about = "Prints the plan of a blob: its devices, their drivers and suppliers";
     let command = named(alloc, "plan", about).arg(required(alloc, "BLOB", "The blob"));
     let command = add_argument(command, required(alloc, "DRIVERS", "The driver file"));
-    let dot = flag(alloc, "dot", "Prints a Graphviz graph instead");
-    add_links(alloc, add_argument(command, dot))
+    add_links(alloc, add_picture(alloc, command))
 }
 
 fn replay<'a>(alloc: Global) -> Result<Command<'a>, AllocError>

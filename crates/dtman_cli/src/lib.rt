@@ -32,7 +32,7 @@ pub use dialect::{Outcome, compile_dialect};
 pub use origins::refused_bytes;
 pub use reading::command;
 pub use running::{COMMAND_LINE, DONE, FILE, REFUSED, run, run_words};
-pub use subcommand::{Board, Command, Links, Profile};
+pub use subcommand::{Board, Command, Links, Picture, Profile};
 pub use surroundings::Surroundings;
 pub use translating::{Missing, Saying};
 pub use unsaid::Unsaid;

@@ -85,7 +85,7 @@ fn answer_of<'a, S: Surroundings, E: Eprint, T: Threads + Sync>(
         } => compiled(host, source, out, symbols, &profile),
         Command::Overlay { base, overlay, out } => overlaid(host, base, overlay, out),
         Command::Dump { blob } => dumped(host, blob),
-        Command::Plan { board, dot } => planned(host, board, dot),
+        Command::Plan { board, picture } => planned(host, board, picture),
         Command::Probe {
             board,
             workers,

@@ -4,21 +4,36 @@ use crate::diagnosing::{Inputs, file_of};
 use crate::failure::Failure;
 use crate::host::Host;
 use crate::performing::Answer;
-use crate::subcommand::{Board, Links};
+use crate::subcommand::{Board, Links, Picture};
 use crate::surroundings::Surroundings;
 use bus_links::Strictness;
 use dtman_engine::Fault;
-use dtman_why::{Asked, BoardAnswer, board_answer, without_driver};
+use dtman_why::{Asked, BoardAnswer, Form, board_answer, without_driver};
 use std::alloc::Global;
 use std::thread::Threads;
 
-/// The plan, as a plan file or as a graph.
+// The plan file, or the picture that is asked for: one, and of a device only where there is a picture.
+fn plan_asked<'a>(picture: Picture<'a>) -> Result<Asked<'a>, Failure<'a>> {
+    let form = match (picture.dot, picture.html) {
+        (true, true) => return Err(Failure::BadWord("--html", "not beside --dot")),
+        (true, false) => Form::Graph,
+        (false, true) => Form::Page,
+        (false, false) => match picture.of {
+            None => return Ok(Asked::Plan),
+            Some(_) => return Err(Failure::BadWord("--of", "wants --dot or --html")),
+        },
+    };
+    let of = bytes_of(picture.of);
+    Ok(Asked::Picture(dtman_why::Picture { form, of }))
+}
+
+/// The plan, as a plan file or as a picture.
 pub fn planned<'a, S: Surroundings, E: Eprint, T: Threads + Sync>(
     host: &mut Host<'_, S, E, T>,
     board: Board<'a>,
-    dot: bool,
+    picture: Picture<'a>,
 ) -> Result<Answer<'a>, Failure<'a>> {
-    let asked = if dot { Asked::Graph } else { Asked::Plan };
+    let asked = plan_asked(picture)?;
     let answer = answered(host, board, None, asked)?;
     Ok(Answer::Text(answer.text))
 }

@@ -3,10 +3,10 @@ ghost use Rattle.std.specs.Prelude.{◌≡◌, IfOk, IfSome, codes, map};
 ghost use Rattle.clap.specs.Words.{app_of, first_of, found_of, rows_of};
 ghost use Rattle.clap.specs.Simple.{subcommand_rows_of};
 ghost use Rattle.dtman_cli.specs.Grammar.{dtman};
-ghost use Rattle.dtman_cli.specs.CommandLine.{AreAsked, AreWorkers, IsBoard, IsMet, IsLinks, IsProfile, IsText, Meets, Says, is_on, texts_of};
+ghost use Rattle.dtman_cli.specs.CommandLine.{AreAsked, AreWorkers, IsBoard, IsMet, IsLinks, IsPicture, IsProfile, IsText, Meets, Says, is_on, texts_of};
 
 use crate::grammar::grammar;
-use crate::subcommand::{Board, Command, Links, Profile};
+use crate::subcommand::{Board, Command, Links, Picture, Profile};
 use bus_manager::MAX_WORKERS;
 use clap::error::ErrorKind;
 use clap::{ArgMatches, Error};
@@ -136,9 +136,10 @@ fn dump<'a>(given: &ArgMatches<'a>) -> Option<Command<'a>>
 fn plan<'a>(given: &ArgMatches<'a>) -> Option<Command<'a>>
     ensures { IfSome result (λ command. IsMet command (codes "plan") (rows_of (found_of given.now))) }
 {
-    let board = board(given)?;
-    let dot = is_on(given, "dot");
-    Some(Command::Plan { board, dot })
+    Some(Command::Plan {
+        board: board(given)?,
+        picture: picture(given),
+    })
 }
 
 fn probe<'a>(given: &ArgMatches<'a>) -> Option<Command<'a>>
@@ -270,6 +271,17 @@ fn board<'a>(given: &ArgMatches<'a>) -> Option<Board<'a>>
         drivers: given.get_str("DRIVERS")?,
         links: links(given),
     })
+}
+
+/// What is to be drawn.
+fn picture<'a>(given: &ArgMatches<'a>) -> Picture<'a>
+    ensures { IsPicture result (rows_of (found_of given.now)) }
+{
+    Picture {
+        dot: is_on(given, "dot"),
+        html: is_on(given, "html"),
+        of: text(given, "of"),
+    }
 }
 
 /// Whose links are asked for.

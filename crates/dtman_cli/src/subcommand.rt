@@ -26,6 +26,17 @@ pub struct Board<'a> {
     pub links: Links<'a>,
 }
 
+/// What is drawn of a board in place of its plan file.
+#[derive(Clone, Copy, Debug)]
+pub struct Picture<'a> {
+    /// A Graphviz graph.
+    pub dot: bool,
+    /// A page of HTML.
+    pub html: bool,
+    /// The device that it is of, or else the board.
+    pub of: Option<&'a str>,
+}
+
 /// A subcommand with its paths and options.
 #[derive(Debug, Drop)]
 pub enum Command<'a> {
@@ -46,8 +57,7 @@ pub enum Command<'a> {
     },
     Plan {
         board: Board<'a>,
-        /// Print a Graphviz graph in place of the plan file.
-        dot: bool,
+        picture: Picture<'a>,
     },
     Replay {
         plan: &'a str,

@@ -2,11 +2,12 @@
 
 use crate::by_links::linked_answer;
 use crate::order_text::needs_text;
+use crate::pictures::{Picture, planned_picture};
 use crate::reasons::NoReasons;
 use crate::waits::why_text;
 use bus_links::Strictness;
 use bus_manager::TableProber;
-use dtman_engine::{Fault, graph_bytes, plan_bytes, planned, probe_bytes};
+use dtman_engine::{Fault, plan_bytes, planned, probe_bytes};
 use std::alloc::Global;
 use std::hash::RandomState;
 use std::thread::Threads;
@@ -16,8 +17,8 @@ use std::thread::Threads;
 pub enum Asked<'a> {
     /// Its text.
     Plan,
-    /// A Graphviz graph of it.
-    Graph,
+    /// A picture of it.
+    Picture(Picture<'a>),
     /// The end report of a run by so many workers.
     Report(usize),
     /// Why the device at a path waits, or why each does.
@@ -72,7 +73,10 @@ fn planned_answer<R: Threads + Sync>(
 ) -> Result<BoardAnswer, Fault> {
     let text = match asked {
         Asked::Plan => plan_bytes(alloc, hasher, blob, drivers)?,
-        Asked::Graph => graph_bytes(alloc, hasher, blob, drivers)?,
+        Asked::Picture(picture) => {
+            let plan = planned(alloc, hasher, blob, drivers)?;
+            planned_picture(rt, alloc, &plan, picture)?
+        }
         Asked::Report(workers) => {
             probe_bytes(rt, alloc, hasher, blob, drivers, &TableProber, workers)?.report
         }

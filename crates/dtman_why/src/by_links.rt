@@ -2,9 +2,9 @@
 
 use crate::answers::{Asked, BoardAnswer};
 use crate::order_text::needs_text;
+use crate::pictures::linked_picture;
 use crate::reasons::Reasons;
 use crate::waits::{Waits, why_text};
-use bus_drivers::plan_graph;
 use bus_links::{Link, Linked, Strictness, link, linked_text, read_link_drivers, warnings_text};
 use bus_manager::{TableProber, run};
 use bus_plan::{Device, Plan};
@@ -70,7 +70,7 @@ fn answer<R: Threads + Sync>(
 ) -> Result<Waits, Fault> {
     match asked {
         Asked::Plan => Ok(alone(linked_text(alloc, linked)?)),
-        Asked::Graph => Ok(alone(plan_graph(alloc, linked.plan())?)),
+        Asked::Picture(picture) => Ok(alone(linked_picture(rt, alloc, linked, picture)?)),
         Asked::Report(workers) => Ok(alone(report(rt, alloc, linked.plan(), workers)?)),
         Asked::Why(path) => why_text(rt, alloc, linked.plan(), linked, path),
         Asked::Needs(path) => Ok(alone(needs_text(alloc, linked.plan(), path)?)),

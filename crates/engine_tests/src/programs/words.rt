@@ -1,7 +1,7 @@
 //! The command line.
 
 use clap::error::ErrorKind;
-use dtman_cli::{Board, Command, Links, Profile, command};
+use dtman_cli::{Board, Command, Links, Picture, Profile, command};
 use std::alloc::Global;
 
 /// The command that the words name, or the kind of their mistake.
@@ -103,11 +103,23 @@ fn reads_plan_with_its_option(rt: HostRuntime) {
                         strict: false
                     }
                 },
-                dot: false
+                picture: Picture {
+                    dot: false,
+                    html: false,
+                    of: None
+                }
             })
         )
     );
-    let words = ["dtman", "plan", "--dot", "board.dtb", "board.drivers"];
+    let words = [
+        "dtman",
+        "plan",
+        "--dot",
+        "--of",
+        "/a",
+        "board.dtb",
+        "board.drivers",
+    ];
     let graph = read(rt.alloc(), words.as_slice());
     assert!(rt;
         matches!(
@@ -118,7 +130,11 @@ fn reads_plan_with_its_option(rt: HostRuntime) {
                     drivers: "board.drivers",
                     ..
                 },
-                dot: true
+                picture: Picture {
+                    dot: true,
+                    html: false,
+                    of: Some("/a")
+                }
             })
         )
     );

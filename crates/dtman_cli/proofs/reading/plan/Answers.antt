@@ -2,4 +2,4 @@ use Rattle.std.proofs.Common.{refl}
 use Rattle.dtman_cli.proofs.reading.plan.Goals as goal
 
 pub returns : goal.returns
-returns c = (refl, c.in_ok-board.ensures, c.is_on-dot.ensures)
+returns c = (refl, c.in_ok-board.ensures, c.picture.ensures)
