@@ -1,10 +1,10 @@
 pub mod SeenNodes
 pub mod SeenProperties
-mod DtcLists
+pub mod DtcLists
 mod StandingRows
-mod DtcSteps
+pub mod DtcSteps
 mod DtcBodies
-mod DtcOrder
+pub mod DtcOrder
 pub mod DtcSound
 pub mod DtcRest
 pub mod Alike
