@@ -64,6 +64,9 @@ struct dtman_answer {
 /* No bytes. */
 #define DTMAN_NONE ((uint8_t *)"")
 
+/* Which calls there are: it grows by one with each call more, and by a hundred where one changes. */
+#define DTMAN_VERSION 100
+
 /* The most bytes of a blob and of its printed source (38 above it), and of a source (17 above it). */
 #define DTMAN_MAX_BLOB 268435456
 #define DTMAN_MAX_SOURCE 16777216
@@ -72,32 +75,32 @@ struct dtman_answer {
  * The blob of a source, as the C preprocessor leaves it. With `symbols` it has the paths of all labelled nodes, as the base of an overlay
  * needs it. A source with the tag /plugin/ becomes an overlay. Refused: 10 to 17 with the line, 20 to 28, 38.
  */
-struct dtman_answer dtman_compile(const uint8_t *source, size_t source_length, bool symbols, uint64_t seed,
-	uint8_t *out, size_t room);
+struct dtman_answer dtman_compile(const void *source, size_t source_length, bool symbols, uint64_t seed,
+	void *out, size_t room);
 
 /* The blob of a base with an overlay applied. Refused: 30 to 38, of the base before those of the overlay, and 40 to 46. */
-struct dtman_answer dtman_overlay(const uint8_t *base, size_t base_length, const uint8_t *overlay,
-	size_t overlay_length, uint64_t seed, uint8_t *out, size_t room);
+struct dtman_answer dtman_overlay(const void *base, size_t base_length, const void *overlay,
+	size_t overlay_length, uint64_t seed, void *out, size_t room);
 
 /* The canonical source of a blob. Refused: 30 to 38. */
-struct dtman_answer dtman_dump(const uint8_t *blob, size_t blob_length, uint8_t *out, size_t room);
+struct dtman_answer dtman_dump(const void *blob, size_t blob_length, void *out, size_t room);
 
 /*
  * The plan of a blob's devices by a driver file, as text; dtman-plan(5) tells of its form. Refused: 30 to 38, and 50 to 56 with the line
  * of the driver file.
  */
-struct dtman_answer dtman_plan(const uint8_t *blob, size_t blob_length, const uint8_t *drivers,
-	size_t drivers_length, uint64_t seed, uint8_t *out, size_t room);
+struct dtman_answer dtman_plan(const void *blob, size_t blob_length, const void *drivers,
+	size_t drivers_length, uint64_t seed, void *out, size_t room);
 
 /*
  * The report of the bus after a schedule over a plan, as text. Refused: 50 to 56 with the line of the plan or of the schedule, and 60 to 67
  * with the event.
  */
-struct dtman_answer dtman_replay(const uint8_t *plan, size_t plan_length, const uint8_t *schedule,
-	size_t schedule_length, uint64_t seed, uint8_t *out, size_t room);
+struct dtman_answer dtman_replay(const void *plan, size_t plan_length, const void *schedule,
+	size_t schedule_length, uint64_t seed, void *out, size_t room);
 
 /* The name of the fault with a number, with no NUL behind it: no name has more than 24 bytes. Takes no memory. */
-struct dtman_answer dtman_name(uint8_t number, uint8_t *out, size_t room);
+struct dtman_answer dtman_name(uint8_t number, void *out, size_t room);
 
 /*
  * The board: threads of the caller's own probe the devices of a plan, each over a seat of its own, and no call waits for another. A
@@ -139,7 +142,7 @@ struct dtman_told {
  * A board of a plan's devices on which nothing was begun, and its first seat, into an empty one. `length` is how many devices there are.
  * Refused: 50 to 56 with the line. DTMAN_OCCUPIED.
  */
-struct dtman_answer dtman_board_open(const uint8_t *plan, size_t plan_length, uint64_t seed, struct dtman_seat *seat);
+struct dtman_answer dtman_board_open(const void *plan, size_t plan_length, uint64_t seed, struct dtman_seat *seat);
 
 /* A further seat of the board that `from` is of, into an empty one. DTMAN_OCCUPIED. */
 struct dtman_told dtman_board_seat(struct dtman_seat *from, struct dtman_seat *seat);
@@ -179,7 +182,7 @@ struct dtman_told dtman_board_give_back(struct dtman_seat *into, struct dtman_se
  * `number` is 1 where nothing was left to do, and else 0; `device` is how many devices there are. DTMAN_SHORT where `room` is less,
  * DTMAN_SHARED.
  */
-struct dtman_told dtman_board_close(struct dtman_seat *seat, uint8_t *out, size_t room);
+struct dtman_told dtman_board_close(struct dtman_seat *seat, void *out, size_t room);
 
 #ifdef __cplusplus
 }

@@ -91,7 +91,7 @@ struct dtman_view_region {
  * REFUSED: 30 Truncated, 31 BadMagic, 32 BadVersion, 33 BadLayout, 34 BadToken, 35 BadString, 36 PropertyAfterNode, 37 BadTree,
  * 38 TooLarge. The view is then as it was.
  */
-struct dtman_view_told dtman_view_open(const uint8_t *blob, size_t length, struct dtman_view *view);
+struct dtman_view_told dtman_view_open(const void *blob, size_t length, struct dtman_view *view);
 
 /* The root. */
 struct dtman_view_told dtman_view_root(const struct dtman_view *view);
@@ -109,22 +109,22 @@ struct dtman_view_told dtman_view_next_sibling(const struct dtman_view *view, si
 struct dtman_view_told dtman_view_next_node(const struct dtman_view *view, size_t node);
 
 /* The child of a node by its whole name, unit address and all. NOTHING where it has no such child. BAD_OFFSET. */
-struct dtman_view_told dtman_view_child(const struct dtman_view *view, size_t node, const uint8_t *name, size_t name_length);
+struct dtman_view_told dtman_view_child(const struct dtman_view *view, size_t node, const void *name, size_t name_length);
 
 /* The node at a path: `/`, or one or more times `/` and a whole name. NOTHING where there is none. BAD_PATH. */
-struct dtman_view_told dtman_view_find(const struct dtman_view *view, const uint8_t *path, size_t path_length);
+struct dtman_view_told dtman_view_find(const struct dtman_view *view, const void *path, size_t path_length);
 
 /*
  * The node at the path that an alias stands for: the property of this name in `/aliases`. NOTHING where there is no such alias or no node
  * at its path. BAD_PATH where its text is no path.
  */
-struct dtman_view_told dtman_view_alias(const struct dtman_view *view, const uint8_t *name, size_t name_length);
+struct dtman_view_told dtman_view_alias(const struct dtman_view *view, const void *name, size_t name_length);
 
 /* The first node in the order of the blob with a phandle. NOTHING where there is none. */
 struct dtman_view_told dtman_view_by_phandle(const struct dtman_view *view, uint32_t phandle);
 
 /* The next node behind this one, in the order of the blob, whose property `compatible` lists a text. NOTHING behind the last. BAD_OFFSET. */
-struct dtman_view_told dtman_view_next_compatible(const struct dtman_view *view, size_t node, const uint8_t *text,
+struct dtman_view_told dtman_view_next_compatible(const struct dtman_view *view, size_t node, const void *text,
 	size_t text_length);
 
 /* The first property of a node. NOTHING where it has none. BAD_OFFSET. */
@@ -140,7 +140,7 @@ struct dtman_view_told dtman_view_name(const struct dtman_view *view, size_t nod
 struct dtman_view_told dtman_view_property(const struct dtman_view *view, size_t property, struct dtman_view_property *into);
 
 /* The value of a node's property by its name. NOTHING where it has no such property, BAD_OFFSET; `part` is then as it was. */
-struct dtman_view_told dtman_view_value(const struct dtman_view *view, size_t node, const uint8_t *name, size_t name_length,
+struct dtman_view_told dtman_view_value(const struct dtman_view *view, size_t node, const void *name, size_t name_length,
 	struct dtman_view_part *part);
 
 /* The reserved memory by its place, from 0 on. NOTHING behind the last, and `into` is then as it was. */
@@ -161,16 +161,16 @@ struct dtman_view_told dtman_view_region(const struct dtman_view *view, size_t p
 	struct dtman_view_region *into);
 
 /* The cell of a value by its place, counted in cells from 0. NOTHING where it isn't there whole, and `into` is then as it was. */
-struct dtman_view_told dtman_view_cell(const uint8_t *value, size_t value_length, size_t place, uint32_t *into);
+struct dtman_view_told dtman_view_cell(const void *value, size_t value_length, size_t place, uint32_t *into);
 
 /* The number of two cells of a value, the higher one first, by the place of that one, counted in cells. NOTHING, as above. */
-struct dtman_view_told dtman_view_double_cell(const uint8_t *value, size_t value_length, size_t place, uint64_t *into);
+struct dtman_view_told dtman_view_double_cell(const void *value, size_t value_length, size_t place, uint64_t *into);
 
 /*
  * The string of a list of strings by its place, from 0 on, without the NUL at its end. NOTHING behind the last and where the NUL lacks;
  * `part` is then as it was.
  */
-struct dtman_view_told dtman_view_string(const uint8_t *value, size_t value_length, size_t place, struct dtman_view_part *part);
+struct dtman_view_told dtman_view_string(const void *value, size_t value_length, size_t place, struct dtman_view_part *part);
 
 /*
  * Changes. They are made in the caller's bytes, and nothing but what they name is another: a blob that holds a tree holds the changed tree.
@@ -182,8 +182,8 @@ struct dtman_view_told dtman_view_string(const uint8_t *value, size_t value_leng
  * Sets a property of the node at a path to a value of the same length, in place: nothing moves. NOTHING where there is no such node or
  * property, BAD_PATH, OTHER_LENGTH, UNORDERED, REFUSED.
  */
-struct dtman_view_told dtman_edit_set_in_place(uint8_t *blob, size_t length, const uint8_t *path, size_t path_length, const uint8_t *name,
-	size_t name_length, const uint8_t *value, size_t value_length);
+struct dtman_view_told dtman_edit_set_in_place(void *blob, size_t length, const void *path, size_t path_length, const void *name,
+	size_t name_length, const void *value, size_t value_length);
 
 #ifdef __cplusplus
 }
