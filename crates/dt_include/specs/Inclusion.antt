@@ -1,7 +1,7 @@
 -- What a source takes in, and the files that it names (dtc 1.6, Documentation/manual.txt, section 4.1).
 use Rattle.std.specs.Prelude.{◌≡◌, ℕ, ◌+◌, ◌≤◌, List, [], ◌∷◌, ◌++◌, length, map}
 use denote.Ref.{Bor}
-use Rattle.dt_include.specs.declared.inclusion.Binary.{Binary}
+use Rattle.dt_lexeme.specs.declared.binary.Binary.{Binary}
 use Rattle.dt_include.specs.declared.inclusion.Found.{Found}
 use Rattle.dt_include.specs.declared.inclusion.Whole.{Whole}
 use Rattle.dt_include.specs.declared.words.Inclusion.TheVariants as inclusions

@@ -10,6 +10,7 @@ use crate::place::Span;
 use crate::places::Line;
 use crate::site::{Shortfall, Site};
 use crate::words::{Inclusion, Next, next_inclusion, span_of};
+use dt_lexeme::Binary;
 use std::alloc::{AllocError, AllocFailed, Global};
 
 /// How deep files may take in files.
@@ -79,15 +80,6 @@ impl<T: Drop> From<AllocFailed<T>> for Incomplete {
     fn from(_error: AllocFailed<T>) -> Self {
         Incomplete::NoMemory
     }
-}
-
-/// A file that an `/incbin/` names.
-#[derive(Drop)]
-pub struct Binary {
-    /// Where the word `/incbin/` begins in the whole text, in bytes.
-    pub at: u32,
-    /// All of the file.
-    pub bytes: Vec<u8>,
 }
 
 /// A text with all that it takes in, with line markers where files change, and the files of its `/incbin/`s, in their order.

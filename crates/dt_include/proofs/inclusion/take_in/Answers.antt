@@ -1,5 +1,5 @@
 use Rattle.std.proofs.Common.{refl, sym, subst, arith}
-use Rattle.dt_include.specs.declared.inclusion.Binary.{Binary}
+use Rattle.dt_lexeme.specs.declared.binary.Binary.{Binary}
 use Rattle.dt_include.specs.declared.inclusion.Turn.TheVariants.{Again}
 use Rattle.dt_include.specs.declared.inclusion.Whole.{Whole}
 use Rattle.dt_include.specs.declared.words.Inclusion.{Inclusion}
