@@ -3,6 +3,7 @@
 
 mod channel;
 mod compiling;
+mod compiling_dtc;
 mod copying;
 mod dump;
 mod explaining;
@@ -21,6 +22,7 @@ mod transfer;
 
 pub use channel::{Channel, Failed};
 pub use compiling::compile_bytes;
+pub use compiling_dtc::{DtcOptions, compile_dtc_bytes};
 pub use copying::copy_bytes;
 pub use dump::dump_bytes;
 pub use explaining::{Explanation, explain};
