@@ -31,7 +31,7 @@ pub use laws::{blobs_come_back, limits_stand, one_answer};
 pub use limits::{MAX_BLOB_LEN, MAX_SOURCE_LEN, MAX_TEXT_LEN};
 pub use memory::Memory;
 pub use overlaying::overlay_bytes;
-pub use planning::{graph_bytes, plan_bytes, planned};
+pub use planning::{plan_bytes, planned};
 pub use probing::probe_bytes;
 pub use replay::replay_bytes;
 pub use replay_run::replay_run_bytes;
