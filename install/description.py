@@ -225,7 +225,8 @@ COMMANDS = (
         (),
         (
             "Prints the probes that the log of a Linux kernel tells of as a schedule over a plan. The kernel is booted with"
-            " `dyndbg=\"file drivers/base/dd.c +p\"`. A name that stands for no device of the plan is told as a warning.",
+            " `dyndbg=\"file drivers/base/dd.c +p\"`; `initcall_debug` alone tells the ends of probes. A device that the plan has no driver for"
+            " gets the one that the log names, by a `driver` line. A name that stands for no device of the plan is told as a warning.",
         ),
         (("Where a boot left the plan's way", "dtman trace boot.log board.plan >boot.schedule\ndtman replay -v board.plan boot.schedule"),),
         "50 to 53 and 56 with the line of the plan file",
