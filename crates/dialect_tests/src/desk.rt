@@ -4,6 +4,9 @@ use dtman_dtc::{Entry, Host, Unread, Unwritten};
 use std::alloc::Global;
 use std::hash::RandomState;
 
+/// A file that is there beside the others: it is named `f`.
+const BESIDE: &[u8] = b"12";
+
 /// Files to read, and what was written last, or reported.
 #[derive(Drop)]
 pub struct Desk<'a> {
@@ -12,12 +15,28 @@ pub struct Desk<'a> {
     pub written: Vec<u8>,
 }
 
+/// A desk with these files, on which nothing was written.
+pub fn desk_of<'a>(
+    alloc: Global,
+    hasher: RandomState,
+    files: &'a [(&'a str, &'a [u8])],
+) -> Desk<'a> {
+    Desk {
+        hasher,
+        files,
+        written: Vec::new(alloc),
+    }
+}
+
 impl Host for Desk<'_> {
     fn read(&mut self, alloc: Global, path: &str) -> Result<Vec<u8>, Unread> {
         for (name, bytes) in self.files {
             if *name == path {
                 return Vec::from_slice(alloc, *bytes).map_err(|_| Unread);
             }
+        }
+        if path == "f" {
+            return Vec::from_slice(alloc, BESIDE).map_err(|_| Unread);
         }
         Err(Unread)
     }

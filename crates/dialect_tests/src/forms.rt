@@ -1,7 +1,7 @@
 //! What each form of dtc's language that the profile hasn't comes to, worked by hand from dtc's pages and its edits: the blob is that of a
 //! source in the profile.
 
-use crate::desk::Desk;
+use crate::desk::desk_of;
 use crate::engine::Engine;
 use dtman_dtc::run_dtc;
 use dtman_engine::compile_bytes;
@@ -13,23 +13,15 @@ use std::process::Abort;
 type Row = (&'static str, &'static str);
 
 /// Puts the header in front, which the text has too.
-fn headed(rt: &impl Abort, alloc: Global, source: &str) -> String {
+pub fn headed(rt: &impl Abort, alloc: Global, source: &str) -> String {
     format!(in alloc; "/dts-v1/;{source}").expect(rt, "memory")
-}
-
-fn desk<'a>(alloc: Global, hasher: RandomState, files: &'a [(&'a str, &'a [u8])]) -> Desk<'a> {
-    Desk {
-        hasher,
-        files,
-        written: Vec::new(alloc),
-    }
 }
 
 fn comes_to(rt: &impl Abort, alloc: Global, hasher: RandomState, row: &Row) {
     let source = headed(rt, alloc, row.0);
     let wanted = headed(rt, alloc, row.1);
     let files = [("a.dts", source.as_bytes())];
-    let mut desk = desk(alloc, hasher, files.as_slice());
+    let mut desk = desk_of(alloc, hasher, files.as_slice());
     let status = run_dtc(alloc, &mut desk, &mut Engine, &["-q", "a.dts"]);
     assert_eq!(rt; status, 0);
     match compile_bytes(alloc, hasher, wanted.as_bytes(), false) {
@@ -161,7 +153,7 @@ fn the_processor_that_boots(rt: HostRuntime) {
     )];
     let hasher = RandomState::new(&rt).expect(&rt, "a seed");
     for (words, processor) in BOOTS {
-        let mut desk = desk(rt.alloc(), hasher, FILES);
+        let mut desk = desk_of(rt.alloc(), hasher, FILES);
         let status = run_dtc(rt.alloc(), &mut desk, &mut Engine, *words);
         assert_eq!(&rt; status, 0);
         assert_eq!(&rt;

@@ -1,8 +1,9 @@
 //! What is refused of sources in dtc's language: the status and the place, as dtc 1.6.1 answered by hand (but for the root that is
 //! deleted, which it takes, and where it tells no place), and the words.
 
-use crate::desk::Desk;
+use crate::desk::desk_of;
 use crate::engine::Engine;
+use crate::forms::headed;
 use dtman_dtc::run_dtc;
 use std::alloc::Global;
 use std::hash::RandomState;
@@ -12,13 +13,9 @@ use std::process::Abort;
 type Row = (&'static str, &'static str, &'static str);
 
 fn told(rt: &impl Abort, alloc: Global, hasher: RandomState, source: &str) -> (u8, String) {
-    let source = format!(in alloc; "/dts-v1/;{source}").expect(rt, "memory");
-    let files = [("a.dts", source.as_bytes()), ("f", b"12".as_slice())];
-    let mut desk = Desk {
-        hasher,
-        files: files.as_slice(),
-        written: Vec::new(alloc),
-    };
+    let headed = headed(rt, alloc, source);
+    let files = [("a.dts", headed.as_bytes())];
+    let mut desk = desk_of(alloc, hasher, files.as_slice());
     let status = run_dtc(alloc, &mut desk, &mut Engine, &["-q", "a.dts"]);
     let text = std::str::from_utf8(desk.written.as_slice()).expect(rt, "text");
     (status, String::from_str(alloc, text).expect(rt, "memory"))
