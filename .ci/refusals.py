@@ -24,7 +24,7 @@ OLD = b"what stood there before\n"
 
 BASE = b"/dts-v1/; / { ocp: ocp { }; };"
 OVERLAY = b"/dts-v1/; /plugin/; &ocp { d { r = <&e>; }; e: e { }; };"
-DIALECT = b'/dts-v1/; / { b = <\'B\'>; c = /incbin/("drivers", 1, 6); /omit-if-no-ref/ a: a { }; };'
+DTC_SOURCE = b'/dts-v1/; / { b = <\'B\'>; c = /incbin/("drivers", 1, 6); /omit-if-no-ref/ a: a { }; };'
 CLOCK = b'/dts-v1/; / { clk: clk { compatible = "fixed-clock"; #clock-cells = <0>; }; uart { compatible = "ns16550a"; clocks = <&clk>; }; };'
 DRIVERS = b"driver fixed fixed-clock\ndriver ns ns16550a\n"
 SCHEDULE = b"begin /uart\nbegin /clk\nfinish /clk settled\nfinish /uart missing /clk\n"
@@ -168,7 +168,7 @@ def inputs_of(room, filling):
     comment = b"#" + more + b"\n" if filling else b""
     clock = blob_of(CLOCK + value)
     made = {"base.dts": more + BASE, "overlay.dts": more + OVERLAY, "wrong.dts": more + b"/dts-v1/; / {",
-            "dialect.dts": more + DIALECT, "drivers": comment + DRIVERS,
+            "dtc.dts": more + DTC_SOURCE, "drivers": comment + DRIVERS,
             "base.dtb": blob_of(BASE + value, "--symbols"), "overlay.dtb": blob_of(OVERLAY + value), "clock.dtb": clock, "schedule": comment + SCHEDULE}
     for name, data in made.items():
         with open(f"{room}/{name}", "wb") as file:
@@ -183,7 +183,7 @@ LINES = """
 0 compile base.dts OUT --symbols
 0 compile overlay.dts OUT
 0 compile overlay.dts OUT --symbols
-0 compile dialect.dts OUT --dtc
+0 compile dtc.dts OUT --dtc
 0 overlay base.dtb overlay.dtb OUT
 0 dump clock.dtb
 0 plan clock.dtb drivers

@@ -82,21 +82,21 @@ COMMANDS = (
         (Operand("IN", "source", "The source"), OUT),
         (
             Option("--symbols", "Adds the paths of all labelled nodes"),
-            Option("--dtc", "Takes dtc's dialect, too"),
-            Option("-i, --include", "Looks for the dialect's files there, too", "DIR"),
+            Option("--dtc", "Takes a source in dtc's language"),
+            Option("-i, --include", "Looks there, too, for files that the source takes in", "DIR"),
         ),
         (
             "Compiles a devicetree source, as the C preprocessor leaves it, to a flattened blob of version 17. A source with the tag"
             " `/plugin/` becomes an overlay, with its `__fixups__` and `__local_fixups__`.",
             "With `--symbols` the blob has the path of each labelled node, as the base of an overlay needs it.",
-            "With `--dtc` a source that would be refused by 10 to 16 or 20 to 28 is read as dtc does: with `/include/` and `/incbin/`,"
-            " `/omit-if-no-ref/`, character literals, names and labels that stand twice. Any other is compiled as without it. Files are looked"
-            " for beside the file that names them, then in each DIR in turn.",
+            "With `--dtc` the source is read as dtc does, with `/include/` and `/incbin/`, `/omit-if-no-ref/`, character literals, names and"
+            " labels that stand twice, and the blob has dtc's bytes. Files are looked for beside the file that names them, then in each DIR in"
+            " turn.",
             "OUT is opened only when all of its bytes are ready, so a refused source leaves an old blob as it was.",
         ),
         (
             ("A board and the overlay of a HAT", "dtman compile board.dts board.dtb --symbols\ndtman compile hat.dts hat.dtbo"),
-            ("A source in dtc's dialect", "dtman compile --dtc -i include board.dts board.dtb"),
+            ("A source in dtc's language", "dtman compile --dtc -i include board.dts board.dtb"),
             ("A source with includes, as kernels do", "cpp -nostdinc -undef -D__DTS__ -x assembler-with-cpp board.dts |\n\tdtman compile - board.dtb"),
         ),
         "10 to 17 with the line of the source, 20 to 28, and 38",
@@ -225,7 +225,8 @@ COMMANDS = (
         (),
         (
             "Prints the probes that the log of a Linux kernel tells of as a schedule over a plan. The kernel is booted with"
-            " `dyndbg=\"file drivers/base/dd.c +p\"`. A name that stands for no device of the plan is told as a warning.",
+            " `dyndbg=\"file drivers/base/dd.c +p\"`; `initcall_debug` alone tells the ends of probes. A device that the plan has no driver for"
+            " gets the one that the log names, by a `driver` line. A name that stands for no device of the plan is told as a warning.",
         ),
         (("Where a boot left the plan's way", "dtman trace boot.log board.plan >boot.schedule\ndtman replay -v board.plan boot.schedule"),),
         "50 to 53 and 56 with the line of the plan file",

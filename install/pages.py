@@ -32,6 +32,11 @@ def plain(text):
     return f"\\&{text}" if text[:1] in (".", "'") else text
 
 
+def argument(text):
+    """What is typed, as an argument of a macro: a quotation mark within it is named."""
+    return '"\\&%s"' % text.replace("\\", "\\e").replace("-", "\\-").replace('"', "\\(dq")
+
+
 def prose(text):
     """A paragraph: what stands between backticks is literal, and NAME(N) is another page."""
     lines = []
@@ -39,7 +44,7 @@ def prose(text):
         literal = re.fullmatch(r"(\(?)`([^`]+)`([.,;:)]*)", part)
         page = re.fullmatch(r"([a-z-]+)\((\d)\)([.,;:)]*)", part)
         if literal:
-            words = [literal[1], '"\\&%s"' % literal[2].replace("\\", "\\e").replace("-", "\\-"), *literal[3]]
+            words = [literal[1], argument(literal[2]), *literal[3]]
             lines.append(".Ql " + " ".join(it for it in words if it))
         elif page:
             lines.append(" ".join([".Xr", page[1], page[2], *page[3]]))

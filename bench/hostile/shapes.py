@@ -311,6 +311,8 @@ SHAPES = [
     ("names of 255 bytes with 250 tails", "dump 0", lambda: [tailed_blob()]),
     ("4,096 devices that all name all others", "plan 0 1", lambda: [all_name_all(MOST, others), X_DRIVER]),
     ("the same, as a picture", "plan 0 1 --dot", lambda: [all_name_all(MOST, others), X_DRIVER]),
+    ("the same, as a page", "plan 0 1 --html", lambda: [all_name_all(MOST, others), X_DRIVER]),
+    ("the same, by the links of Linux", "plan 0 1 --links linux", lambda: [all_name_all(MOST, others), X_DRIVER]),
     ("drivers with strings of one prefix of 240 bytes", "plan 0 1", lambda: [few_devices((b"compatible", strings("x"))), drivers_of_one_prefix()]),
     ("a million strings of one such prefix", "plan 0 1", lambda: [few_devices((b"compatible", strings("x"))), strings_of_one_prefix()]),
     ("`fail` of one device, again and again", "plan 0 1", lambda: [few_devices((b"compatible", strings("x"))), repeated(BLOB, "", "fail /d\n")]),

@@ -3,12 +3,15 @@
 
 The devices that Linux sets up before its driver core begins, as lines of a driver file: `early COMPATIBLE`. They are what the
 sources of a kernel declare by IRQCHIP_DECLARE, IRQCHIP_MATCH, TIMER_OF_DECLARE, CLK_OF_DECLARE and CLK_OF_DECLARE_DRIVER.
+Behind them stand the buses whose devices another driver makes, as lines `bus COMPATIBLE`; these are told by hand.
 """
 import os
 import re
 import sys
 
 KINDS = "IRQCHIP_DECLARE", "IRQCHIP_MATCH", "TIMER_OF_DECLARE", "CLK_OF_DECLARE", "CLK_OF_DECLARE_DRIVER"
+# drivers/bus/vexpress-config.c makes the devices of these once its system controller is bound.
+BUSES = ("arm,vexpress,config-bus",)
 # All but IRQCHIP_MATCH have a name of their own before the string.
 DECLARATION = re.compile(r"\b(%s)\s*\(\s*(?:\w+\s*,\s*)?\"([^\"\s]+)\"" % "|".join(KINDS))
 
@@ -39,6 +42,9 @@ def main():
         for string in sorted(strings - said):
             print("early " + string)
         said |= strings
+    print("# Buses whose devices another driver makes")
+    for string in BUSES:
+        print("bus " + string)
 
 
 if __name__ == "__main__":

@@ -1,7 +1,9 @@
 //! Trees out of folders, as Linux shows its own in /proc/device-tree, over folders in memory.
 
+use dt_include::Binary;
 use dtman_dtc::{
-    Compiler, Entry, EntryKind, Fault, Host, Texts, Unread, Unwritten, layout_bytes, run_dtc,
+    Compilation, Compiler, Entry, EntryKind, Fault, Host, Texts, Unread, Unwritten, layout_bytes,
+    run_dtc,
 };
 use std::alloc::Global;
 use std::hash::RandomState;
@@ -178,7 +180,8 @@ impl Compiler for Printer {
         _alloc: Global,
         _hasher: RandomState,
         _text: &[u8],
-        _symbols: bool,
+        _binaries: Vec<Binary>,
+        _compilation: Compilation,
     ) -> Result<Vec<u8>, Fault> {
         refused()
     }

@@ -24,6 +24,8 @@ struct Event {
 pub struct Flights {
     open: Vec<Device>,
     held: Vec<Vec<Event>>,
+    /// Whether a probe of each device has ended.
+    ended: Vec<bool>,
     text: Vec<u8>,
 }
 
@@ -38,6 +40,13 @@ fn write(text: &mut Vec<u8>, plan: &Plan, event: Event) -> Result<(), AllocError
     text.extend_from_slice(back)
 }
 
+fn suppliers_at<'p>(plan: &'p Plan, device: Device) -> &'p [Device] {
+    if device.index() >= plan.len() {
+        return &[];
+    }
+    plan.suppliers(device)
+}
+
 impl Flights {
     /// None open, of so many devices.
     pub fn new(alloc: Global, count: usize) -> Result<Self, AllocError> {
@@ -48,6 +57,7 @@ impl Flights {
         Ok(Self {
             open: Vec::new(alloc),
             held,
+            ended: vec![in alloc; false; count]?,
             text: Vec::new(alloc),
         })
     }
@@ -114,11 +124,67 @@ impl Flights {
     ) -> Result<(), AllocError> {
         self.open.retain(|other| other.index() != device.index());
         self.put(plan, Event { line, device })?;
+        self.follow(alloc, plan, device)
+    }
+
+    // What was held back for a device's end follows.
+    fn follow(&mut self, alloc: Global, plan: &Plan, device: Device) -> Result<(), AllocError> {
+        if let Some(has_ended) = self.ended.get_mut(device.index()) {
+            *has_ended = true;
+        }
         let held = self.let_go(alloc, device);
         for event in &held {
             self.put(plan, *event)?;
         }
         Ok(())
+    }
+
+    // The bus that a device waits for, where no probe of it has ended.
+    fn awaited(&self, plan: &Plan, device: Device) -> Option<Device> {
+        let path = path_at(plan, device);
+        for supplier in suppliers_at(plan, device) {
+            let is_awaited = matches!(self.ended.get(supplier.index()), Some(false));
+            if is_awaited && is_below(path, path_at(plan, *supplier)) {
+                return Some(*supplier);
+            }
+        }
+        None
+    }
+
+    // Writes an event of a probe of which the log tells only the end: it stands behind the end of the bus that the device waits for.
+    fn put_late(&mut self, plan: &Plan, event: Event) -> Result<(), AllocError> {
+        if let Some(bus) = self.awaited(plan, event.device) {
+            if let Some(held) = self.held.get_mut(bus.index()) {
+                held.push(event)?;
+                return Ok(());
+            }
+        }
+        self.put(plan, event)
+    }
+
+    /// A probe has begun and ended.
+    pub fn pass(
+        &mut self,
+        alloc: Global,
+        plan: &Plan,
+        device: Device,
+        line: Line,
+    ) -> Result<(), AllocError> {
+        let begin = Line::Begin;
+        self.put_late(
+            plan,
+            Event {
+                line: begin,
+                device,
+            },
+        )?;
+        self.put_late(plan, Event { line, device })?;
+        self.follow(alloc, plan, device)
+    }
+
+    /// The text of the schedule so far, for a line that stands before what is held back.
+    pub fn text_mut(&mut self) -> &mut Vec<u8> {
+        &mut self.text
     }
 
     /// Writes what is held back still.

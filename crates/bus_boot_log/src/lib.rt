@@ -2,6 +2,7 @@
 #![tactic(auto)]
 
 mod flights;
+mod late;
 mod log_line;
 mod naming;
 mod node_name;

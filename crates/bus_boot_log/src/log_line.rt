@@ -12,6 +12,8 @@ pub enum Told<'a> {
     Failed { name: &'a [u8] },
     /// Its probe is put off, or the driver doesn't want it.
     GivenUp { name: &'a [u8] },
+    /// Its probe returned this number: 0 where it is bound.
+    Returned { name: &'a [u8], number: &'a [u8] },
 }
 
 // What stands before the first space.
@@ -75,6 +77,16 @@ fn put_off<'a>(line: &'a [u8]) -> Option<Told<'a>> {
     })
 }
 
+// `probe of NAME returned NUMBER after TIME usecs`, which `initcall_debug` has the kernel print.
+fn returned<'a>(line: &'a [u8]) -> Option<Told<'a>> {
+    let rest = behind(line, b"probe of ")?;
+    let (name, rest) = rest.split_once_str(b" returned ")?;
+    Some(Told::Returned {
+        name,
+        number: first_word(rest),
+    })
+}
+
 /// What a line tells, if it tells of a probe.
 pub fn read_log_line<'a>(line: &'a [u8]) -> Option<Told<'a>> {
     if let Some(told) = begun(line) {
@@ -86,5 +98,8 @@ pub fn read_log_line<'a>(line: &'a [u8]) -> Option<Told<'a>> {
     if let Some(told) = ended(line) {
         return Some(told);
     }
-    put_off(line)
+    if let Some(told) = put_off(line) {
+        return Some(told);
+    }
+    returned(line)
 }

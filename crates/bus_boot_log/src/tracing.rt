@@ -1,6 +1,7 @@
 //! A log as a schedule.
 
 use crate::flights::{Flights, Line};
+use crate::late::LateDrivers;
 use crate::log_line::{Told, read_log_line};
 use crate::naming::Names;
 use crate::node_name::path_at;
@@ -28,7 +29,19 @@ pub struct Traced<'a> {
 struct Trace<'a> {
     names: Names,
     flights: Flights,
+    late: LateDrivers,
+    /// Whether the log has told the end of each device's last probe, and not yet what it returned.
+    told: Vec<bool>,
     unplaced: Vec<Unplaced<'a>>,
+}
+
+// How a probe ended that returned this number: 517 is the kernel's word for later, 6 and 19 those of a driver that doesn't want the device.
+fn end_by(code: &[u8]) -> Option<Line> {
+    match code {
+        b"517" | b"6" | b"19" => Some(Line::Abandon),
+        _ if code.starts_with(b"-") => None,
+        _ => Some(Line::Settled),
+    }
 }
 
 impl<'a> Trace<'a> {
@@ -55,11 +68,24 @@ impl<'a> Trace<'a> {
         Ok(device)
     }
 
+    // Has a device that the plan has no driver for get the one that the kernel probed it by.
+    fn give(
+        &mut self,
+        alloc: Global,
+        plan: &Plan,
+        device: Device,
+        driver: &[u8],
+    ) -> Result<(), AllocError> {
+        let text = self.flights.text_mut();
+        self.late.give(alloc, text, plan, device, driver)
+    }
+
     fn begin(&mut self, alloc: Global, plan: &Plan, device: Device) -> Result<(), AllocError> {
         // Where the log has lost the end of a probe, the next one ends it.
         if self.flights.is_open(device) {
             self.flights.end(alloc, plan, device, Line::Abandon)?;
         }
+        self.set_told(device, false);
         self.flights.begin(plan, device)
     }
 
@@ -72,9 +98,57 @@ impl<'a> Trace<'a> {
     ) -> Result<(), AllocError> {
         match self.names.known(name) {
             Some(device) if self.flights.is_open(device) => {
+                self.set_told(device, true);
                 self.flights.end(alloc, plan, device, line)
             }
             _ => Ok(()),
+        }
+    }
+
+    fn set_told(&mut self, device: Device, value: bool) {
+        if let Some(is_told) = self.told.get_mut(device.index()) {
+            *is_told = value;
+        }
+    }
+
+    fn is_told(&self, device: Device) -> bool {
+        matches!(self.told.get(device.index()), Some(true))
+    }
+
+    // A probe has returned, of which the log may have told nothing before.
+    fn pass(
+        &mut self,
+        alloc: Global,
+        plan: &Plan,
+        device: Device,
+        line: Line,
+    ) -> Result<(), AllocError> {
+        if self.flights.is_open(device) {
+            return self.flights.end(alloc, plan, device, line);
+        }
+        if self.is_told(device) {
+            self.set_told(device, false);
+            return Ok(());
+        }
+        self.give(alloc, plan, device, b"")?;
+        self.flights.pass(alloc, plan, device, line)
+    }
+
+    // A line that tells what a probe returned. Before a probe whose suppliers aren't there the kernel turns back, by a negative number.
+    fn read_return(
+        &mut self,
+        alloc: Global,
+        plan: &Plan,
+        number: usize,
+        name: &'a [u8],
+        code: &[u8],
+    ) -> Result<(), AllocError> {
+        let Some(line) = end_by(code) else {
+            return Ok(());
+        };
+        match self.device_of(alloc, plan, number, name, b"")? {
+            Some(device) => self.pass(alloc, plan, device, line),
+            None => Ok(()),
         }
     }
 
@@ -88,9 +162,15 @@ impl<'a> Trace<'a> {
         match read_log_line(line) {
             Some(Told::Probing { driver, name }) => {
                 match self.device_of(alloc, plan, number, name, driver)? {
-                    Some(device) => self.begin(alloc, plan, device),
+                    Some(device) => {
+                        self.give(alloc, plan, device, driver)?;
+                        self.begin(alloc, plan, device)
+                    }
                     None => Ok(()),
                 }
+            }
+            Some(Told::Returned { name, number: code }) => {
+                self.read_return(alloc, plan, number, name, code)
             }
             Some(Told::Bound { name }) => self.end(alloc, plan, name, Line::Settled),
             Some(Told::Failed { name }) => self.end(alloc, plan, name, Line::Settled),
@@ -116,6 +196,7 @@ fn read_trace<'a>(
     log: &'a [u8],
 ) -> Result<(), AllocError> {
     trace.names.fill(alloc, plan)?;
+    trace.late.fill(alloc, plan)?;
     trace.read(alloc, plan, log)
 }
 
@@ -129,6 +210,8 @@ fn new_trace<'a>(
     Ok(Trace {
         names,
         flights,
+        late: LateDrivers::new(alloc, hasher),
+        told: vec![in alloc; false; count]?,
         unplaced: Vec::new(alloc),
     })
 }
@@ -147,6 +230,8 @@ pub fn boot_schedule<'a>(
     let Trace {
         names: _,
         flights,
+        late: _,
+        told: _,
         unplaced,
     } = trace;
     Ok(Traced {

@@ -1,12 +1,10 @@
 //! Plans out of trees: driver files, and the devices of a tree with their drivers and suppliers.
 #![tactic(auto)]
 
-mod cycles;
 mod driver;
 mod driver_set;
 mod driver_set_builder;
 mod fail_line;
-mod graph;
 mod late_strings;
 mod matching;
 mod path_sets;
@@ -23,12 +21,10 @@ mod target;
 mod tree_device;
 mod walk;
 
-pub use cycles::components_of;
 pub use driver::Driver;
 pub use driver_set::DriverSet;
 pub use driver_set_builder::DriverSetBuilder;
 pub use fail_line::FailLine;
-pub use graph::plan_graph;
 pub use matching::Matcher;
 pub use phandle_index::PhandleIndex;
 pub use planning::plan;

@@ -66,7 +66,7 @@ fn put_needed(needed_by: &mut [Places], bundles: &Bundles) -> Result<(), AllocEr
     Ok(())
 }
 
-fn drawing_of(alloc: Global, count: usize, arrows: &[Arrow]) -> Result<Drawing, AllocError> {
+fn drawing_of(alloc: Global, count: usize, arrows: Vec<Arrow>) -> Result<Drawing, AllocError> {
     let bundles = bundles_of(alloc, count, arrows)?;
     let mut needs = no_places(alloc, count)?;
     let mut needed_by = no_places(alloc, count)?;
@@ -79,25 +79,19 @@ fn drawing_of(alloc: Global, count: usize, arrows: &[Arrow]) -> Result<Drawing, 
     })
 }
 
-// The arrows both ends of which are shown.
-fn within(alloc: Global, shown: &[bool], arrows: Vec<Arrow>) -> Result<Vec<Arrow>, AllocError> {
-    let mut kept = Vec::new(alloc);
-    for arrow in &arrows {
-        if flag_at(shown, arrow.consumer) && flag_at(shown, arrow.supplier) {
-            kept.push(*arrow)?;
-        }
-    }
-    Ok(kept)
+// Whether both ends of an arrow are shown.
+fn is_within(shown: &[bool], arrow: &Arrow) -> bool {
+    flag_at(shown, arrow.consumer) && flag_at(shown, arrow.supplier)
 }
 
 /// The drawing of all arrows between the devices that are shown.
 pub fn drawing_within(
     alloc: Global,
     shown: &[bool],
-    arrows: Vec<Arrow>,
+    mut arrows: Vec<Arrow>,
 ) -> Result<Drawing, AllocError> {
-    let kept = within(alloc, shown, arrows)?;
-    drawing_of(alloc, shown.len(), kept.as_slice())
+    arrows.retain(|arrow| is_within(shown, arrow));
+    drawing_of(alloc, shown.len(), arrows)
 }
 
 // Which devices some arrow leads to.
@@ -121,30 +115,15 @@ fn has_arrows(states: &[State], needed: &[bool], device: Device) -> bool {
     }
 }
 
-fn of_whole(
-    alloc: Global,
-    states: &[State],
-    needed: &[bool],
-    arrows: Vec<Arrow>,
-) -> Result<Vec<Arrow>, AllocError> {
-    let mut kept = Vec::new(alloc);
-    for arrow in &arrows {
-        if has_arrows(states, needed, arrow.consumer) {
-            kept.push(*arrow)?;
-        }
-    }
-    Ok(kept)
-}
-
 /// The drawing of the whole board, without the arrows that tell nothing of what comes up.
 pub fn whole_drawing(
     alloc: Global,
     states: &[State],
-    arrows: Vec<Arrow>,
+    mut arrows: Vec<Arrow>,
 ) -> Result<Drawing, AllocError> {
     let needed = needed(alloc, states.len(), arrows.as_slice())?;
-    let kept = of_whole(alloc, states, needed.as_slice(), arrows)?;
-    drawing_of(alloc, states.len(), kept.as_slice())
+    arrows.retain(|arrow| has_arrows(states, needed.as_slice(), arrow.consumer));
+    drawing_of(alloc, states.len(), arrows)
 }
 
 /// The bundles at some places.

@@ -9,6 +9,12 @@ use crate::states::State;
 use bus_plan::{Device, Plan};
 use std::alloc::{AllocError, Global};
 
+/// A page of more bundles than these tells only the first of each list: no board has as many.
+const MOST_BUNDLES: usize = 65_536;
+
+/// How many those are.
+const FIRST_TOLD: usize = 16;
+
 /// Which end of its bundles a device is.
 #[derive(Clone, Copy, Debug, PartialEq, Eq)]
 pub(crate) enum End {
@@ -98,7 +104,24 @@ fn write_bundles<O: Origins>(
     Ok(())
 }
 
-/// Writes a list of the devices at the other ends, each with the properties and entries; nothing where there are none.
+// Those of a device's bundles that are told.
+fn told_of<'d>(drawing: &'d Drawing, places: &'d [usize]) -> &'d [usize] {
+    if drawing.bundles.len() <= MOST_BUNDLES {
+        return places;
+    }
+    places.get(..FIRST_TOLD).unwrap_or(places)
+}
+
+fn write_untold(alloc: Global, text: &mut Vec<u8>, count: usize) -> Result<(), AllocError> {
+    if count == 0 {
+        return Ok(());
+    }
+    let words = format!(in alloc; "<li>and {count} more</li>")?;
+    text.extend_from_slice(words.as_bytes())
+}
+
+/// Writes a list of the devices at the other ends, each with the properties and entries; nothing where there are none. Where the page
+/// has too many bundles it is the first of them, and how many more there are.
 pub(crate) fn write_links<O: Origins>(
     alloc: Global,
     text: &mut Vec<u8>,
@@ -114,6 +137,8 @@ pub(crate) fn write_links<O: Origins>(
         return Ok(());
     }
     text.extend_from_slice(end.title())?;
-    write_bundles(alloc, text, plan, states, origins, drawing, places, end)?;
+    let told = told_of(drawing, places);
+    write_bundles(alloc, text, plan, states, origins, drawing, told, end)?;
+    write_untold(alloc, text, places.len().saturating_sub(told.len()))?;
     text.extend_from_slice(b"</ul>")
 }

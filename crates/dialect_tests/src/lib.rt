@@ -1,13 +1,13 @@
-//! Tests of dtc's dialect and of dtc's command line.
+//! Tests of dtc's command line.
 #![tactic(auto)]
 
 #[cfg(test)]
+mod desk;
+#[cfg(test)]
+mod engine;
+#[cfg(test)]
 mod forms;
 #[cfg(test)]
-mod origins;
+mod refusals;
 #[cfg(test)]
 mod runs;
-#[cfg(test)]
-mod searching;
-#[cfg(test)]
-mod shortfalls;

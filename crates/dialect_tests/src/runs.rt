@@ -1,51 +1,16 @@
-//! Runs of dtc over files in memory, with a compiler whose blob is the text behind a header of zeros.
+//! Runs of dtc over files in memory, with a compiler whose blob is the text and the files that it names behind a header of zeros.
 
-use dtc_dialect::Span;
-use dtman_dtc::{Compiler, Entry, Fault, Host, Texts, Unread, Unwritten, run_dtc, run_fdtoverlay};
+use crate::desk::Desk;
+use dt_include::{Binary, Span};
+use dtman_dtc::{Compilation, Compiler, Fault, Texts, run_dtc, run_fdtoverlay};
 use std::alloc::Global;
 use std::hash::RandomState;
 use std::process::Abort;
 
-/// Files to read, and what was written last, or reported.
-#[derive(Drop)]
-struct Desk {
-    hasher: RandomState,
-    files: &'static [(&'static str, &'static [u8])],
-    written: Vec<u8>,
-}
-
-impl Host for Desk {
-    fn read(&mut self, alloc: Global, path: &str) -> Result<Vec<u8>, Unread> {
-        for (name, bytes) in self.files {
-            if *name == path {
-                return Vec::from_slice(alloc, *bytes).map_err(|_| Unread);
-            }
-        }
-        Err(Unread)
-    }
-
-    fn entries(&mut self, _alloc: Global, _path: &str) -> Result<Vec<Entry>, Unread> {
-        Err(Unread)
-    }
-
-    fn write(&mut self, _path: &str, bytes: &[u8]) -> Result<(), Unwritten> {
-        self.written.clear();
-        self.written.extend_from_slice(bytes).map_err(|_| Unwritten)
-    }
-
-    fn report(&mut self, text: &[u8]) {
-        let _ = self.written.extend_from_slice(text);
-    }
-
-    fn seed(&mut self) -> Result<RandomState, Unread> {
-        Ok(self.hasher)
-    }
-}
-
 const HEADER: &[u8] = &[0; 40];
 
-/// Puts the text behind a header, and takes it from there; applies an overlay by putting it behind the base. A text that refers to
-/// `&unknown` is refused there.
+/// Puts the text and the files that it names behind a header, and takes them from there; applies an overlay by putting it behind the
+/// base. A text that has `&unknown` is refused there.
 #[derive(Clone, Copy)]
 struct Copier;
 
@@ -74,7 +39,8 @@ impl Compiler for Copier {
         alloc: Global,
         _hasher: RandomState,
         text: &[u8],
-        _symbols: bool,
+        binaries: Vec<Binary>,
+        _compilation: Compilation,
     ) -> Result<Vec<u8>, Fault> {
         if let Some(start) = place_of(text, b"&unknown") {
             return Err(Fault {
@@ -87,7 +53,11 @@ impl Compiler for Copier {
                 }),
             });
         }
-        joined(alloc, HEADER, text)
+        let mut blob = joined(alloc, HEADER, text)?;
+        for binary in &binaries {
+            blob = joined(alloc, blob.as_slice(), binary.bytes.as_slice())?;
+        }
+        Ok(blob)
     }
 
     fn dump(&mut self, alloc: Global, blob: &[u8], _texts: Texts) -> Result<Vec<u8>, Fault> {
@@ -141,14 +111,19 @@ type Row = (&'static [&'static str], u8, &'static str);
 const FILES: &[(&str, &[u8])] = &[
     ("a.dts", b"/dts-v1/; / { /include/ \"b.dtsi\" };"),
     ("in/b.dtsi", b"x = /incbin/(\"c\", 1, 2);"),
-    ("in/c", b"\x00\x1f\xff\x00"),
+    ("in/c", b"\x00\x1f\x7f\x00"),
     ("one.dts", b"/dts-v1/; / { };"),
     ("-", b"/dts-v1/; / { };"),
     (
         "text.dtb",
         b"0123456789012345678901234567890123456789/ { };",
     ),
-    ("bad.dts", b"/dts-v1/;\n&x { };"),
+    ("bad.dts", b"/dts-v1/;\n&unknown { };"),
+    (
+        "gone.dts",
+        b"/dts-v1/;\n/ { };\n/delete-node/ /* one */ &unknown;",
+    ),
+    ("x.dts", b"&x"),
     (
         "unknown.dts",
         b"/dts-v1/;\n/ {\n\tx = <1\n\t\t&unknown>;\n};",
@@ -156,13 +131,9 @@ const FILES: &[(&str, &[u8])] = &[
     ("lost.dts", b"/dts-v1/;\n /include/ \"none.dtsi\"\n"),
     ("five.dts", b"/dts-v1/;\n/include/ 5;\n"),
     ("deep.dts", b"\n/include/ \"deep.dts\""),
-    (
-        "part.dts",
-        b"/dts-v1/; / { x = /incbin/(\"in/c\", 1, z); };",
-    ),
 ];
 
-fn make_desk(alloc: Global, hasher: RandomState) -> Desk {
+fn make_desk(alloc: Global, hasher: RandomState) -> Desk<'static> {
     Desk {
         hasher,
         files: FILES,
@@ -218,11 +189,7 @@ const DTC_RUNS: &[Row] = &[
         "",
     ),
     // the output's name says that it is a source
-    (
-        &["-o", "x.dts", "one.dts"],
-        0,
-        "/dts-v1/;\n# 1 \"one.dts\"\n/ { };\n",
-    ),
+    (&["-o", "x.dts", "one.dts"], 0, "/dts-v1/; / { };"),
     // the input's name says that it is a blob
     (&["-O", "dts", "text.dtb"], 0, "/ { };"),
     (
@@ -253,7 +220,12 @@ const DTC_RUNS: &[Row] = &[
     (
         &["bad.dts"],
         1,
-        "Error: bad.dts:2.1-3: UnknownLabel: no node has this label: `&x`\nFATAL ERROR: Unable to parse input tree\n",
+        "Error: bad.dts:2.1-9: UnknownLabel: no node has this label: `&unknown`\nFATAL ERROR: Unable to parse input tree\n",
+    ),
+    (
+        &["gone.dts"],
+        1,
+        "Error: gone.dts:3.25-33: UnknownLabel: no node has this label: `&unknown`\nFATAL ERROR: Unable to parse input tree\n",
     ),
     (
         &["unknown.dts"],
@@ -276,14 +248,9 @@ const DTC_RUNS: &[Row] = &[
         "Error: deep.dts:2.1-21: TooDeep: nested over 64 deep\nFATAL ERROR: Includes nested too deeply\n",
     ),
     (
-        &["part.dts"],
-        1,
-        "Error: part.dts:1.39-40: Syntax: this can't stand here\nFATAL ERROR: error 10 Syntax in an inclusion\n",
-    ),
-    (
         &["-i", "in", "-O", "dts", "--out=x", "-d", "y", "a.dts"],
         0,
-        "/dts-v1/;\n# 1 \"a.dts\"\n/ {\n# 1 \"in/b.dtsi\"\nx = [1fff]; };\n",
+        "/dts-v1/; / { \n# 1 \"in/b.dtsi\"\nx = /incbin/(\"c\", 1, 2);\n# 1 \"a.dts\"\n };\x00\x1f\x7f\x00",
     ),
 ];
 
@@ -319,9 +286,9 @@ const OVERLAY_RUNS: &[Row] = &[
     ),
     (&["-x"], 1, "Error: unknown option -x\n"),
     (
-        &["-i", "in/c", "-o", "x", "bad.dts"],
+        &["-i", "in/c", "-o", "x", "x.dts"],
         1,
-        "Error: bad.dts: UnknownSymbol: the base has no such symbol, or no phandle where it leads\nFailed to apply 'bad.dts'\n",
+        "Error: x.dts: UnknownSymbol: the base has no such symbol, or no phandle where it leads\nFailed to apply 'x.dts'\n",
     ),
     (
         &["-i", "none", "-o", "x", "in/c"],

@@ -1,16 +1,18 @@
 //! The tree of a source in dtc's language.
 ghost use Rattle.dt_source.specs.Lawful.{IsLawful};
 ghost use Rattle.dt_source.specs.Meaning.{meaning_of};
+ghost use Rattle.dt_edit.specs.Fragments.{AreFragments};
 ghost use Rattle.dt_build.specs.BuiltByDtc.{BuildsDtc};
 ghost use Rattle.dt_build.specs.Private.DtcTrees.{IsGatheredOf, IsReadAs};
 
 use crate::building::draft_tree;
 use crate::dtc_draft::dtc_draft_of;
-use dt_edit::Standing;
+use dt_edit::{Fragments, Standing, edit_dtc, fragments_of};
 use dt_resolve::{BuildError, Gathered, gather};
 use dt_source::Source;
 use dt_tree::Tree;
 use std::alloc::Global;
+use std::hash::RandomState;
 
 // The tree of what is gathered of a source, or why it has none.
 fn gathered_tree<'d, 't>(
@@ -45,4 +47,41 @@ fn standing_tree<'d, 't>(
         Ok(gathered) => gathered_tree(alloc, source, gathered, processor, symbols, limit),
         Err(error) => Err(error),
     }
+}
+
+// The tree of a source with these fragments, or why it has none.
+fn dtc_source_tree<'d, 't>(
+    alloc: Global,
+    hasher: RandomState,
+    source: &'d Source<'t>,
+    fragments: &'d Fragments<'t>,
+    symbols: bool,
+    limit: usize,
+) -> Result<Option<Tree>, BuildError>
+    requires lawful { IsLawful (meaning_of source.now) }
+    requires fragments { AreFragments (meaning_of source.now).items fragments.now }
+    ensures { BuildsDtc symbols (meaning_of source.now) limit result }
+{
+    match edit_dtc(alloc, hasher, fragments, source) {
+        Ok(standing) => standing_tree(alloc, source, standing, symbols, limit),
+        Err(error) => Err(BuildError::from(error)),
+    }
+}
+
+/// The tree of a source in dtc's language, with its boot processor, or None where its values are longer together than the limit, in
+/// bytes: sizes are counted before any value is made. With symbols the root gets `__symbols__`, with the path of each labelled node; a
+/// plugin's root gets `__fixups__` and `__local_fixups__`, with the sites of its phandles. Errors: 20 to 28 (Devicetree Specification
+/// v0.4, chapter 6; where it is silent, dtc 1.6.1).
+pub fn build_dtc_within(
+    alloc: Global,
+    hasher: RandomState,
+    source: &Source<'_>,
+    symbols: bool,
+    limit: usize,
+) -> Result<Option<Tree>, BuildError>
+    ensures tree { BuildsDtc symbols (meaning_of source.now) limit result }
+{
+    source.check();
+    let fragments = fragments_of(alloc, source.items.as_slice())?;
+    dtc_source_tree(alloc, hasher, source, &fragments, symbols, limit)
 }

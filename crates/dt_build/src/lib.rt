@@ -24,3 +24,4 @@ mod value;
 
 pub use building::{build, build_within};
 pub use dt_resolve::BuildError;
+pub use dtc_building::build_dtc_within;

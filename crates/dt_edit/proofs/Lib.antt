@@ -1,4 +1,5 @@
 pub mod Admission
+pub mod AllRead
 pub mod BootReg
 pub mod Collecting
 pub mod Decimals

@@ -22,5 +22,5 @@ mod targets;
 pub use error::EditError;
 pub use fragments::{Fragments, fragments_of};
 pub use items::edit_items;
-pub use standing::Standing;
+pub use standing::{Standing, edit_dtc};
 pub use targets::target_of;

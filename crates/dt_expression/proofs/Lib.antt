@@ -4,3 +4,4 @@ mod Operators
 pub mod Sound
 pub mod Complete
 pub mod Trees
+mod Unescaping

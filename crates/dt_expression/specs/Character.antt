@@ -30,9 +30,10 @@ single (c ∷ d ∷ ds) = None
 abbrev pub alone_of : List ℕ → Option ℕ
 alone_of cs = option_map control_of (single cs)
 
--- what stands behind a backslash: x (120) with one or two hex digits, one to three octal digits, or a byte
+-- what stands behind a backslash: x (120) with one or two hex digits, one to three octal digits, or a byte. Where nothing does, dtc reads
+-- on to the last apostrophe (39; dtc 1.6, util.c: get_escape_char).
 abbrev pub escape_of : List ℕ → Option ℕ
-escape_of [] = None
+escape_of [] = Some 39
 escape_of (c ∷ cs) = if c == 120 then byte_of 16 2 cs else (if is_digit c 8 then byte_of 8 3 (c ∷ cs) else alone_of (c ∷ cs))
 
 -- the number of what stands between the quotes: of a byte, or of an escape behind a backslash (92)

@@ -5,3 +5,4 @@ pub mod Reading
 pub mod ReadingExpressions
 pub mod ReadingOperators
 pub mod Element
+pub mod Escape

@@ -13,7 +13,7 @@ pub fn character(inside: &[u8]) -> Option<u8>
     }
 }
 
-/// What stands behind a backslash: one escape, and nothing behind it.
+/// What stands behind a backslash: one escape, and nothing behind it. Where nothing stands there, it is the last apostrophe.
 fn escaped(s: &[u8]) -> Option<u8>
     ensures { result ≡ escape_of s.now }
 {
@@ -23,7 +23,7 @@ fn escaped(s: &[u8]) -> Option<u8>
             Some(_) => octal(s),
             None => alone(s),
         },
-        [] => None,
+        [] => Some(b'\''),
     }
 }
 

@@ -5,6 +5,7 @@
 
 mod characters;
 mod elements;
+mod escapes;
 mod expression;
 mod numeral;
 mod refusals;
@@ -13,6 +14,7 @@ mod waiting;
 
 pub use characters::character;
 pub use elements::{Width, element, push_low_bytes, width_of};
+pub use escapes::{escape, unescaped};
 pub use expression::{MAX_NESTING, ReadValue, primary, reads_the_grammar};
 pub use numeral::{bytes_of, constant, digit_of, literal};
 pub use refusals::{syntax_at, too_deep};

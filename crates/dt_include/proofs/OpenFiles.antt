@@ -17,7 +17,7 @@ use Rattle.dt_include.specs.Inclusion.{Includes, IncludesFrom, Piece, behind_wor
 use Rattle.dt_include.specs.Private.Included.{Behind, ComesTo, Completes, Enters, Goes, IsPassed, PassedBy, TurnsTo, first_marker, first_put, passed_text, place_on, stands_for, stay, words_of}
 use Rattle.dt_include.specs.Private.Places.{place_of}
 use Rattle.dt_include.specs.UserLines.{UserPlace, first_of, marker_line, marker_of, place_behind, plain_of}
-use Rattle.dt_include.specs.Words.{HasNext, HoldsNone, NamesFile, Passes}
+use Rattle.dt_include.specs.Words.{HasNext, HoldsNone, NamesFile, Passes, name_of}
 use Rattle.dt_include.proofs.Pieces.{adds_nothing, adds_text}
 use Rattle.dt_include.proofs.UserPlaces.{behind_nothing}
 use Rattle.dt_include.proofs.WordEnds.{cut_before, passes_ends, words_between, words_end, words_long}
@@ -243,14 +243,14 @@ module _ (Finds : List ℕ → List ℕ → Found → Type 0) where
 
   -- a binary file is named
   pub binary_turns : (old frame new : Frame) (name : Bor (List ℕ)) (found : Found) (whole passed : Whole) (r : Reading old frame new (Binary name) whole passed)
-      → Finds frame.path.items name.now found → TurnsTo Finds old new Again (r.passed_is.put ++ plain r.before ++ named found.bytes.items)
+      → Finds frame.path.items (name_of (Binary name)) found → TurnsTo Finds old new Again (r.passed_is.put ++ plain r.before ++ named found.bytes.items)
   binary_turns old frame new name found whole passed r f = λ own k.
       let m = goes_on old frame new (Binary name) whole passed r own k in
       let bytes = named found.bytes.items in
       let words = plain (words_of new) in
       let all =
       binary name (words_of new) r.rest found (has_next old frame new (Binary name) whole passed r) (all_of old frame new (Binary name) whole passed r)
-      (found_by old frame new (Binary name) whole passed r Finds name.now found f) m.1 in
+      (found_by old frame new (Binary name) whole passed r Finds (name_of (Binary name)) found f) m.1 in
       subst (ComesTo Finds old)
       (before-four r.passed_is.put (plain r.before) bytes words m.0 ∙ ap (λ (t : List Piece). r.passed_is.put ++ plain r.before ++ bytes ++ t) (sym m.2))
       (whole_of old frame new (Binary name) whole passed r (plain r.before ++ bytes ++ words ++ m.0) all)

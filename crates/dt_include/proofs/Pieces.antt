@@ -1,7 +1,7 @@
 -- The text of pieces, and the files that they name, piece by piece.
 use Rattle.std.proofs.Common.{◌≡◌, ℕ, ◌+◌, List, [], ◌∷◌, ◌++◌, length, map, refl, sym, ap, ◌∙◌, arith}
 use Rattle.std.proofs.lemmas.List.{append-nil, append_assoc, length-append, map-append}
-use Rattle.dt_include.specs.declared.inclusion.Binary.{Binary}
+use Rattle.dt_lexeme.specs.declared.binary.Binary.{Binary}
 use Rattle.dt_include.specs.declared.inclusion.Whole.{Whole}
 use Rattle.dt_include.specs.Inclusion.{IsWhole, Named, Piece, Plain, Stored, files_from, named, plain, stored_of, text_of}
 use Rattle.dt_include.specs.Private.Included.{Adds}

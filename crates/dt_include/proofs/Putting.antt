@@ -17,7 +17,7 @@ use Rattle.dt_include.specs.Inclusion.{Includes, Piece, itself, named, plain, te
 use Rattle.dt_include.specs.Private.Included.{Adds, Behind, Completes, Goes, IsPassed, IsTaken, IsTurned, PassedBy, PutsFrom, PutsTo, TurnsTo, behind_words, first_marker, first_put, not_yet, passed_text, stands_for, stay, wanting, words_of}
 use Rattle.dt_include.specs.Shortfall.{IsTooLong, Puts, before_words, file, inside, nothing, past_binary, past_source, whole}
 use Rattle.dt_include.specs.UserLines.{UserPlace, marker_line, plain_of}
-use Rattle.dt_include.specs.Words.{HasNext, HoldsNone}
+use Rattle.dt_include.specs.Words.{HasNext, HoldsNone, name_of}
 use Rattle.dt_include.proofs.OpenFiles.{Reading, all_of, before-five, before-four, before-three, binary_turns, done, ended, found_by, left_of, long_words, no_files, path_of, put_by, reached_place, rest_of, some_words, source_turns, split, stands}
 use Rattle.dt_include.proofs.Pieces.{adds_both, text-append}
 use Rattle.dt_include.proofs.Reaching.{again_before, comes_to, ended_before, into_before, left_in, next_words}
@@ -128,15 +128,15 @@ module _ (Finds : List ℕ → List ℕ → Found → Type 0) where
 
   -- ---- a binary file
 
-  module _ (old frame new : Frame) (name : Bor (List ℕ)) (found : Found) (text passed : Whole) (r : Reading old frame new (Binary name) text passed) (f : Finds frame.path.items name.now found) where
+  module _ (old frame new : Frame) (name : Bor (List ℕ)) (found : Found) (text passed : Whole) (r : Reading old frame new (Binary name) text passed) (f : Finds frame.path.items (name_of (Binary name)) found) where
     abbrev bytes : List Piece
     bytes = named found.bytes.items
 
     abbrev put_with : List Piece
     put_with = r.passed_is.put ++ plain r.before ++ bytes
 
-    found_there : Finds old.path.items name.now found
-    found_there = found_by old frame new (Binary name) text passed r Finds name.now found f
+    found_there : Finds old.path.items (name_of (Binary name)) found
+    found_there = found_by old frame new (Binary name) text passed r Finds (name_of (Binary name)) found f
 
     put_bytes : PutsFrom Finds old put_with
     put_bytes =

@@ -15,9 +15,9 @@ use Rattle.dt_include.specs.declared.words.Inclusion.TheVariants.{Binary, Source
 use Rattle.dt_include.specs.Inclusion.{Includes, MayNest, Piece, text_of}
 use Rattle.dt_include.specs.Private.Included.{Advances, ComesTo, Completes, Exceeds, Goes, IsKept, IsMissing, IsStuck, IsTaken, Moves, Nests, PutsFrom, StopsIn, TurnsTo, first_marker}
 use Rattle.dt_include.specs.Private.Places.{place_of}
-use Rattle.dt_include.specs.Shortfall.{IsStopped, Puts, Reaches, Stops, StopsAt, begin, behind_binary, behind_source, into, name_of}
+use Rattle.dt_include.specs.Shortfall.{IsStopped, Puts, Reaches, Stops, StopsAt, begin, behind_binary, behind_source, into}
 use Rattle.dt_include.specs.UserLines.{first_of}
-use Rattle.dt_include.specs.Words.{HasNext}
+use Rattle.dt_include.specs.Words.{HasNext, name_of}
 use Rattle.dt_include.proofs.OpenFiles.{Reading, found_by, has_next, just_opened, left_of, no_files, opened, path_of, rest_of, split}
 use Rattle.dt_include.proofs.Pieces.{text-append}
 

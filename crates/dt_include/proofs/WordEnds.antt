@@ -7,7 +7,7 @@ use Rattle.dt_lexeme.proofs.Tails.{EndsIn, ends_at, ends_drop, ends_on, ends_sel
 use Rattle.dt_lexeme.specs.declared.language.Language.TheVariants.{Dtc}
 use Rattle.dt_include.specs.declared.words.Inclusion.{Inclusion}
 use Rattle.dt_include.specs.declared.words.Inclusion.TheVariants.{Binary, Source}
-use Rattle.dt_include.specs.Words.{Bracketed, NamesFile, Passes, Quoted, Sign, byte, nameless, nothing, remark, string}
+use Rattle.dt_include.specs.Words.{Bracketed, NamesFile, Passes, Quoted, Sign, byte, character, nameless, nothing, remark, string}
 
 sign_ends : (c : ℕ) (s t : List ℕ) → Sign c s t → EndsIn s t
 sign_ends c s t h = ends_on s h.start t (gap_ends Dtc s h.start h.gap) (subst (EndsIn h.start) (sym h.rest_is) (ends_drop 1 h.start))
@@ -26,7 +26,8 @@ names_ends s (Binary name) t h = bracketed_ends (drop 8 s) name.now t h.1
 
 pub passes_ends : (s t : List ℕ) → Passes s t → EndsIn s t
 passes_ends s t nothing = ends_self s
-passes_ends s t (string quote n q b f h) = ends_on s (drop n s) t (ends_drop n s) (passes_ends (drop n s) t h)
+passes_ends s t (string n b f h) = ends_on s (drop n s) t (ends_drop n s) (passes_ends (drop n s) t h)
+passes_ends s t (character n b f h) = ends_on s (drop (n + 1) s) t (ends_drop (n + 1) s) (passes_ends (drop (n + 1) s) t h)
 passes_ends s t (remark behind b g h) = ends_on s behind t (gap_ends Dtc s behind g) (passes_ends behind t h)
 passes_ends s t (nameless b h) = ends_on s (drop 8 s) t (ends_drop 8 s) (passes_ends (drop 8 s) t h)
 passes_ends s t (byte b h) = ends_on s (drop 1 s) t (ends_drop 1 s) (passes_ends (drop 1 s) t h)

@@ -1,12 +1,12 @@
 -- The words that name a file, one by one, and what stands at the front of a text.
-use Rattle.std.proofs.Common.{◌≡◌, ℕ, zero, suc, ◌<◌, ◌≤◌, Bool, true, false, eqb, nat_eq, List, [], ◌∷◌, length, take, drop, Option, Some, None, refl, sym, ap, subst, ◌∙◌, arith}
+use Rattle.std.proofs.Common.{◌≡◌, ℕ, zero, suc, ◌+◌, ◌<◌, ◌≤◌, Bool, true, false, eqb, nat_eq, List, [], ◌∷◌, length, take, drop, Option, Some, None, refl, sym, ap, subst, ◌∙◌, arith}
 use Rattle.std.specs.Prelude.{◌≢◌, ◌&&◌, ◌||◌, codes}
 use Rattle.std.specs.Cmp.Lexicographic.{as_long, pointwise}
 use Rattle.std.proofs.lemmas.Bool.{eqb-true}
 use Rattle.std.proofs.lemmas.List.{length-drop, length-take}
 use denote.Ref.{Bor}
 use Rattle.dt_lexeme.specs.Bytes.{begins}
-use Rattle.dt_lexeme.specs.Fronts.{Front, closes}
+use Rattle.dt_lexeme.specs.Fronts.{Front, closes, closes_character}
 use Rattle.dt_lexeme.specs.Gaps.{Gap, IsGap, NoGap, begins_comment, begins_plain_line, blank, comment, line, line_end, nothing}
 use Rattle.dt_lexeme.specs.declared.language.Language.TheVariants.{Dtc}
 use Rattle.dt_lexeme.proofs.GapEnds.{comment_shorter, gap_shorter, line_shorter, one_end}
@@ -14,7 +14,7 @@ use Rattle.dt_include.specs.Bytes.{passes, run_of}
 use Rattle.dt_include.specs.declared.bytes.Class.TheVariants.{Plain}
 use Rattle.dt_include.specs.declared.words.Inclusion.{Inclusion}
 use Rattle.dt_include.specs.Private.Included.{BinaryAt, QuotedAt}
-use Rattle.dt_include.specs.Words.{Bracketed, NamesFile, Passes, Quoted, Sign, begins_incbin, begins_include, begins_keyword, begins_line_comment, begins_quote, begins_remark, byte, is_quote, nameless, remark, string}
+use Rattle.dt_include.specs.Words.{Bracketed, NamesFile, Passes, Quoted, Sign, begins_incbin, begins_include, begins_keyword, begins_line_comment, begins_quote, begins_remark, byte, character, is_quote, nameless, remark, string}
 use Rattle.dt_include.specs.Words as words
 use Rattle.dt_include.proofs.Runs.{run_no, run_yes}
 
@@ -53,17 +53,25 @@ IsPassed s rest = (length rest < length s) × ((t : List ℕ) → Passes rest t 
 none_of : (a b c d : Bool) → a ≡ false → b ≡ false → c ≡ false → d ≡ false → (a || (b || (c || d))) ≡ false
 none_of a b c d e f g h = rw (e, f, g, h) refl
 
-no_front : (quote : ℕ) → closes quote true [] ≡ false
+no_front : closes 34 true [] ≡ false
 unfolding closes
-no_front quote = refl
+no_front = refl
 
-quoted_some : (quote : ℕ) (s : List ℕ) (n : ℕ) → Front (closes quote true) s (Some n) → 0 < n
-quoted_some quote s zero h = absurd (cc (h.is, no_front quote))
-quoted_some quote s (suc n) h = omega arith
+quoted_some : (s : List ℕ) (n : ℕ) → Front (closes 34 true) s (Some n) → 0 < n
+quoted_some s zero h = absurd (cc (h.is, no_front))
+quoted_some s (suc n) h = omega arith
 
-pub string_passed : (quote : ℕ) (s rest : List ℕ) (n : ℕ) → is_quote quote ≡ true → begins quote s ≡ true → Front (closes quote true) s (Some n) → rest ≡ drop n s → IsPassed s rest
-string_passed quote s rest n q b f is =
-    (omega (arith, quoted_some quote s n f, f.within, ap length is, length-drop n s), λ t h. string quote n q b f (subst (λ (u : List ℕ). Passes u t) is h))
+pub string_passed : (s rest : List ℕ) (n : ℕ) → begins 34 s ≡ true → Front (closes 34 true) s (Some n) → rest ≡ drop n s → IsPassed s rest
+string_passed s rest n b f is =
+    (omega (arith, quoted_some s n f, f.within, ap length is, length-drop n s), λ t h. string n b f (subst (λ (u : List ℕ). Passes u t) is h))
+
+begun_some : (c : ℕ) (s : List ℕ) → begins c s ≡ true → 1 ≤ length s
+begun_some c [] e = absurd (cc e)
+begun_some c (d ∷ s) e = omega arith
+
+pub character_passed : (s rest : List ℕ) (n : ℕ) → begins 39 s ≡ true → Front (closes_character false) (drop 1 s) (Some n) → rest ≡ drop (n + 1) s → IsPassed s rest
+character_passed s rest n b f is =
+    (omega (arith, begun_some 39 s b, ap length is, length-drop (n + 1) s), λ t h. character n b f (subst (λ (u : List ℕ). Passes u t) is h))
 
 -- ---- comments
 

@@ -1,12 +1,12 @@
 -- What a source takes in, and the files that it names (dtc 1.6, Documentation/manual.txt, section 4.1).
 use Rattle.std.specs.Prelude.{◌≡◌, ℕ, ◌+◌, ◌≤◌, List, [], ◌∷◌, ◌++◌, length, map}
 use denote.Ref.{Bor}
-use Rattle.dt_include.specs.declared.inclusion.Binary.{Binary}
+use Rattle.dt_lexeme.specs.declared.binary.Binary.{Binary}
 use Rattle.dt_include.specs.declared.inclusion.Found.{Found}
 use Rattle.dt_include.specs.declared.inclusion.Whole.{Whole}
 use Rattle.dt_include.specs.declared.words.Inclusion.TheVariants as inclusions
 use Rattle.dt_include.specs.UserLines.{UserPlace, first_of, marker_of, place_behind}
-use Rattle.dt_include.specs.Words.{HasNext, HoldsNone}
+use Rattle.dt_include.specs.Words.{HasNext, HoldsNone, name_of}
 
 -- whether a file may be taken in where so many are open, the user's own among them: then 200 at most are nested in that one
 abbrev pub MayNest : ℕ → Type 0
@@ -60,7 +60,7 @@ pub data IncludesFrom (Finds : List ℕ → List ℕ → Found → Type 0) : Lis
       → IncludesFrom Finds path place text
       (plain before ++ plain (marker_of (first_of found.path.items)) ++ inner ++ plain (marker_of (behind_words place before words)) ++ more)
   binary : {path text before : List ℕ} {more : List Piece} {place : UserPlace} (name : Bor (List ℕ)) (words rest : List ℕ) (found : Found)
-      → HasNext text (inclusions.Binary name) before rest → before ++ words ++ rest ≡ text → Finds path name.now found
+      → HasNext text (inclusions.Binary name) before rest → before ++ words ++ rest ≡ text → Finds path (name_of (inclusions.Binary name)) found
       → IncludesFrom Finds path (behind_words place before words) rest more
       → IncludesFrom Finds path place text (plain before ++ named found.bytes.items ++ plain words ++ more)
 

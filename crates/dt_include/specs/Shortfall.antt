@@ -9,12 +9,7 @@ use Rattle.dt_include.specs.declared.words.Inclusion.{Inclusion}
 use Rattle.dt_include.specs.declared.words.Inclusion.TheVariants.{Binary, Source}
 use Rattle.dt_include.specs.Inclusion.{Includes, MayNest, Piece, named, plain, text_of}
 use Rattle.dt_include.specs.UserLines.{marker_line, plain_of}
-use Rattle.dt_include.specs.Words.{HasNext, IsBroken, Passes}
-
--- the name in words that name a file
-abbrev pub name_of : Inclusion → List ℕ
-name_of (Source name) = name.now
-name_of (Binary name) = name.now
+use Rattle.dt_include.specs.Words.{HasNext, IsBroken, Passes, name_of}
 
 -- Reading a text of a path comes to a place in a file: so many files are open there, the user's own among them, and this is the
 -- path of the innermost and what is left of it. Behind words it comes once all that they take in is read.
@@ -27,7 +22,7 @@ pub data Reaches (Finds : List ℕ → List ℕ → Found → Type 0) (path text
       → Reaches Finds path text opened beside left → HasNext left (Source name) before rest → Finds beside name.now found → MayNest opened
       → Includes Finds found.path.items found.bytes.items inner → Reaches Finds path text opened beside rest
   behind_binary : {opened : ℕ} {beside left before rest : List ℕ} (name : Bor (List ℕ)) (found : Found) → Reaches Finds path text opened beside left
-      → HasNext left (Binary name) before rest → Finds beside name.now found → Reaches Finds path text opened beside rest
+      → HasNext left (Binary name) before rest → Finds beside (name_of (Binary name)) found → Reaches Finds path text opened beside rest
 
 -- Words are next in the text that name a file.
 pub record Names (left : List ℕ) (inclusion : Inclusion) : Type 0 where
@@ -56,7 +51,7 @@ pub data Puts (Finds : List ℕ → List ℕ → Found → Type 0) : List ℕ �
   nothing : {path text : List ℕ} → Puts Finds path text []
   whole : {path text : List ℕ} {pieces : List Piece} → Includes Finds path text pieces → Puts Finds path text pieces
   before_words : {path text before rest : List ℕ} (inclusion : Inclusion) → HasNext text inclusion before rest → Puts Finds path text (plain before)
-  file : {path text before rest : List ℕ} (name : Bor (List ℕ)) (found : Found) → HasNext text (Binary name) before rest → Finds path name.now found
+  file : {path text before rest : List ℕ} (name : Bor (List ℕ)) (found : Found) → HasNext text (Binary name) before rest → Finds path (name_of (Binary name)) found
       → Puts Finds path text (plain before ++ named found.bytes.items)
   inside : {path text before rest : List ℕ} {put : List Piece} (name : Bor (List ℕ)) (found : Found) → HasNext text (Source name) before rest
       → Finds path name.now found → Puts Finds found.path.items found.bytes.items put
@@ -65,7 +60,7 @@ pub data Puts (Finds : List ℕ → List ℕ → Found → Type 0) : List ℕ �
       → HasNext text (Source name) before rest → Finds path name.now found → Includes Finds found.path.items found.bytes.items inner → Puts Finds path rest put
       → Puts Finds path text (plain before ++ plain (marker_line 1 (plain_of found.path.items)) ++ inner ++ plain (marker_line line file) ++ put)
   past_binary : {path text before rest : List ℕ} {put : List Piece} (name : Bor (List ℕ)) (found : Found) (words : List ℕ)
-      → HasNext text (Binary name) before rest → before ++ words ++ rest ≡ text → Finds path name.now found → Puts Finds path rest put
+      → HasNext text (Binary name) before rest → before ++ words ++ rest ≡ text → Finds path (name_of (Binary name)) found → Puts Finds path rest put
       → Puts Finds path text (plain before ++ named found.bytes.items ++ plain words ++ put)
 
 -- over 16 MiB

@@ -1,10 +1,11 @@
 -- The words by which a source names files: `/include/ "FILE"` and `/incbin/("FILE"` (dtc 1.6, Documentation/manual.txt, section 4.1).
-use Rattle.std.specs.Prelude.{◌≡◌, ◌⊎◌, ℕ, ◌-◌, ◌==◌, nat_eq, Bool, true, false, ◌&&◌, ◌||◌, List, [], ◌∷◌, ◌++◌, Some, None, take, drop, codes}
+use Rattle.std.specs.Prelude.{◌≡◌, ◌⊎◌, ℕ, ◌+◌, ◌-◌, ◌==◌, nat_eq, Bool, true, false, ◌&&◌, ◌||◌, List, [], ◌∷◌, ◌++◌, Some, None, take, drop, codes}
 use Rattle.std.specs.Cmp.Lexicographic.{pointwise}
 use Rattle.dt_lexeme.specs.Bytes.{begins}
-use Rattle.dt_lexeme.specs.Fronts.{Front, closes}
+use Rattle.dt_lexeme.specs.Fronts.{Front, closes, closes_character}
 use Rattle.dt_lexeme.specs.Gaps.{IsGap, begins_comment}
 use Rattle.dt_lexeme.specs.declared.language.Language.TheVariants.{Dtc}
+use Rattle.dt_expression.specs.Escape.{unescaped}
 use Rattle.dt_include.specs.declared.words.Inclusion.{Inclusion}
 use Rattle.dt_include.specs.declared.words.Inclusion.TheVariants.{Binary, Source}
 
@@ -52,6 +53,11 @@ IsBroken s = (begins_include s ≡ true) × ((name rest : List ℕ) → Quoted (
 abbrev pub IsNameless : List ℕ → Type 0
 IsNameless s = (begins_incbin s ≡ true) × ((name rest : List ℕ) → Bracketed (drop 8 s) name rest → ⊥)
 
+-- The name in words that name a file. In an `/incbin/`'s stand the escapes of strings, in an `/include/`'s none (dtc 1.6, dtc-lexer.l).
+abbrev pub name_of : Inclusion → List ℕ
+name_of (Source name) = name.now
+name_of (Binary name) = unescaped Dtc 0 name.now
+
 -- ---- which words are next
 
 -- of a string or of a character literal
@@ -77,14 +83,16 @@ begins_keyword s = begins_include s || begins_incbin s
 -- other words lie between the front of the first text and the second text.
 pub data Passes : List ℕ → List ℕ → Type 0 where
   nothing : {s : List ℕ} → Passes s s
-  string : {s t : List ℕ} (quote n : ℕ) → is_quote quote ≡ true → begins quote s ≡ true → Front (closes quote true) s (Some n) → Passes (drop n s) t → Passes s t
+  string : {s t : List ℕ} (n : ℕ) → begins 34 s ≡ true → Front (closes 34 true) s (Some n) → Passes (drop n s) t → Passes s t
+  character : {s t : List ℕ} (n : ℕ) → begins 39 s ≡ true → Front (closes_character false) (drop 1 s) (Some n) → Passes (drop (n + 1) s) t → Passes s t
   remark : {s t : List ℕ} (behind : List ℕ) → begins_remark s ≡ true → IsGap Dtc s behind → Passes behind t → Passes s t
   nameless : {s t : List ℕ} → IsNameless s → Passes (drop 8 s) t → Passes s t
   byte : {s t : List ℕ} → (begins_quote s || (begins_remark s || begins_keyword s)) ≡ false → Passes (drop 1 s) t → Passes s t
 
 -- A string, a character literal or a comment is open up to the text's end.
 pub data IsOpen (s : List ℕ) : Type 0 where
-  open_string : (quote : ℕ) → is_quote quote ≡ true → begins quote s ≡ true → Front (closes quote true) s None → IsOpen s
+  open_string : begins 34 s ≡ true → Front (closes 34 true) s None → IsOpen s
+  open_character : begins 39 s ≡ true → Front (closes_character false) (drop 1 s) None → IsOpen s
   open_comment : begins_remark s ≡ true → ((t : List ℕ) → IsGap Dtc s t → ⊥) → IsOpen s
 
 -- No words that name a file stand in the text.

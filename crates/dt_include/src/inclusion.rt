@@ -3,13 +3,16 @@ ghost use Rattle.std.specs.Prelude.{◌≡◌, ◌+◌, ◌≤◌, ◌↔◌, �
 ghost use Rattle.dt_lexeme.specs.Limits.{text_limit};
 ghost use Rattle.dt_include.specs.Inclusion.{IsIncluded, MayNest};
 ghost use Rattle.dt_include.specs.Private.Included.{Adds, Exceeds, Goes, IsKept, IsMissing, IsPassed, IsStuck, IsTaken, IsTurned, Moves, Nests, StopsIn, first_put, stay};
-ghost use Rattle.dt_include.specs.Shortfall.{IsTooLong, Stops, name_of};
+ghost use Rattle.dt_include.specs.Shortfall.{IsTooLong, Stops};
+ghost use Rattle.dt_include.specs.Words.{name_of};
 
 use crate::bytes::{behind, front};
 use crate::place::Span;
 use crate::places::Line;
 use crate::site::{Shortfall, Site};
 use crate::words::{Inclusion, Next, next_inclusion, span_of};
+use dt_expression::unescaped;
+use dt_lexeme::{Binary, Language};
 use std::alloc::{AllocError, AllocFailed, Global};
 
 /// How deep files may take in files.
@@ -79,15 +82,6 @@ impl<T: Drop> From<AllocFailed<T>> for Incomplete {
     fn from(_error: AllocFailed<T>) -> Self {
         Incomplete::NoMemory
     }
-}
-
-/// A file that an `/incbin/` names.
-#[derive(Drop)]
-pub struct Binary {
-    /// Where the word `/incbin/` begins in the whole text, in bytes.
-    pub at: u32,
-    /// All of the file.
-    pub bytes: Vec<u8>,
 }
 
 /// A text with all that it takes in, with line markers where files change, and the files of its `/incbin/`s, in their order.
@@ -337,7 +331,8 @@ fn take_in<F: Files>(
     match inclusion {
         Inclusion::Source(name) => Ok(Turn::Into(find(alloc, files, beside, name)?)),
         Inclusion::Binary(name) => {
-            let Found { path: _, bytes } = find(alloc, files, beside, name)?;
+            let name = unescaped(alloc, Language::Dtc, name)?;
+            let Found { path: _, bytes } = find(alloc, files, beside, name.as_slice())?;
             let at = whole.text.len() as u32;
             whole.binaries.push(Binary { at, bytes })?;
             Ok(Turn::Again)

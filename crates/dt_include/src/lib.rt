@@ -12,7 +12,8 @@ mod searching;
 mod site;
 mod words;
 
-pub use inclusion::{Binary, Files, Found, Incomplete, MAX_INCLUDES, Whole, included};
+pub use dt_lexeme::Binary;
+pub use inclusion::{Files, Found, Incomplete, MAX_INCLUDES, Whole, included};
 pub use place::{Place, Span};
 pub use places::{columns_of, line_of, plain, user_place};
 pub use searching::{Reads, search};

@@ -1,13 +1,13 @@
 //! The words that name a file, as they stand in a text: `/include/ "FILE"`, `/incbin/("FILE"`.
 ghost use Rattle.std.specs.Prelude.{◌≡◌, ◌≢◌, ◌-◌, [], false, length, true};
 ghost use Rattle.dt_lexeme.specs.Bytes.{begins};
-ghost use Rattle.dt_include.specs.Words.{begins_include, begins_incbin, begins_line_comment, begins_remark, is_quote};
+ghost use Rattle.dt_include.specs.Words.{begins_include, begins_incbin, begins_line_comment, begins_remark};
 ghost use Rattle.dt_include.specs.Private.Included.{BinaryAt, IsNext, IsPiece, IsStringLen, IsTold, IsWordLen, QuotedAt, SignAt, SkipsTo};
 
 use crate::bytes::{Class, begins, behind, front, run_len};
 use crate::place::Span;
 use dt_lexeme::Language;
-use dt_lexeme::fronts::quoted_len;
+use dt_lexeme::fronts::{character_len, quoted_len};
 use dt_lexeme::gaps::{begins_comment, skip_gap};
 
 /// The name of a file that words name.
@@ -87,10 +87,10 @@ fn piece_at<'t>(s: &'t [u8]) -> Piece<'t>
     ensures { IsPiece s.now result }
 {
     if begins(s, b'"') {
-        return string_at(b'"', s);
+        return string_at(s);
     }
     if begins(s, b'\'') {
-        return string_at(b'\'', s);
+        return character_at(s);
     }
     if begins(s, b'/') {
         return slash_at(s);
@@ -98,14 +98,23 @@ fn piece_at<'t>(s: &'t [u8]) -> Piece<'t>
     Piece::Passed(behind(s, run_len(Class::Plain, s)))
 }
 
-/// A string or a character literal.
-fn string_at<'t>(quote: u8, s: &'t [u8]) -> Piece<'t>
-    requires quote { is_quote quote ≡ true }
-    requires begins { begins quote s.now ≡ true }
+fn string_at<'t>(s: &'t [u8]) -> Piece<'t>
+    requires { begins 34 s.now ≡ true }
     ensures { IsPiece s.now result }
 {
-    match quoted_len(quote, true, s) {
+    match quoted_len(b'"', true, s) {
         Some(len) => Piece::Passed(behind(s, len)),
+        None => Piece::Open,
+    }
+}
+
+/// A character literal.
+fn character_at<'t>(s: &'t [u8]) -> Piece<'t>
+    requires { begins 39 s.now ≡ true }
+    ensures { IsPiece s.now result }
+{
+    match character_len(behind(s, 1)) {
+        Some(len) => Piece::Passed(behind(s, len + 1)),
         None => Piece::Open,
     }
 }

@@ -142,41 +142,42 @@ operated_two k two (c ∷ s) le e = record { within = omega arith; is = e; longe
 
 -- ---- references
 
-amp_path : (inside : Bool) (c : ℕ) (u : List ℕ) → eqb c 123 ≡ true → ampersand inside (c ∷ u) ≡ given PathReference paths u
-amp_path inside c u e = rw e refl
+module _ (language : Language) where
+  amp_path : (inside : Bool) (c : ℕ) (u : List ℕ) → eqb c 123 ≡ true → ampersand language inside (c ∷ u) ≡ given PathReference (paths language) u
+  amp_path inside c u e = rw e refl
 
-pub path_kind : (inside : Bool) (s : List ℕ) (n : ℕ) → begins 123 s ≡ true → IsFront paths (drop 1 s) n → IsLongest (ampersand inside) s PathReference (n + 1)
-path_kind inside [] n e h = absurd cc
-path_kind inside (c ∷ s) n e h = kind_more (ampersand inside) (given PathReference paths) c s PathReference n (λ u. amp_path inside c u e) (given_longest PathReference paths s n h)
+  pub path_kind : (inside : Bool) (s : List ℕ) (n : ℕ) → begins 123 s ≡ true → IsFront (paths language) (drop 1 s) n → IsLongest (ampersand language inside) s PathReference (n + 1)
+  path_kind inside [] n e h = absurd cc
+  path_kind inside (c ∷ s) n e h = kind_more (ampersand language inside) (given PathReference (paths language)) c s PathReference n (λ u. amp_path inside c u e) (given_longest PathReference (paths language) s n h)
 
--- where nothing longer than the ampersand is one
-amp_or_none : (inside : Bool) (g : List ℕ → Option Kind) (c : ℕ) (s : List ℕ) → ((u : List ℕ) → ampersand inside (c ∷ u) ≡ g u) → Longest g s None → Longest (ampersand inside) (c ∷ s) (and_alone inside)
-amp_or_none true g c s same h = kind_empty (ampersand true) g c s And refl same h
-amp_or_none false g c s same h = kind_none (ampersand false) g c s refl same h
+  -- where nothing longer than the ampersand is one
+  amp_or_none : (inside : Bool) (g : List ℕ → Option Kind) (c : ℕ) (s : List ℕ) → ((u : List ℕ) → ampersand language inside (c ∷ u) ≡ g u) → Longest g s None → Longest (ampersand language inside) (c ∷ s) (and_alone inside)
+  amp_or_none true g c s same h = kind_empty (ampersand language true) g c s And refl same h
+  amp_or_none false g c s same h = kind_none (ampersand language false) g c s refl same h
 
-pub path_other : (inside : Bool) (s : List ℕ) → begins 123 s ≡ true → Front paths (drop 1 s) None → Longest (ampersand inside) s (and_alone inside)
-path_other inside [] e h = absurd cc
-path_other inside (c ∷ s) e h = amp_or_none inside (given PathReference paths) c s (λ u. amp_path inside c u e) (given_none PathReference paths s h)
+  pub path_other : (inside : Bool) (s : List ℕ) → begins 123 s ≡ true → Front (paths language) (drop 1 s) None → Longest (ampersand language inside) s (and_alone inside)
+  path_other inside [] e h = absurd cc
+  path_other inside (c ∷ s) e h = amp_or_none inside (given PathReference (paths language)) c s (λ u. amp_path inside c u e) (given_none PathReference (paths language) s h)
 
-amp_letter : (inside : Bool) (c : ℕ) (u : List ℕ) → eqb c 123 ≡ false → is_letter c ≡ true → ampersand inside (c ∷ u) ≡ given Reference words u
-amp_letter inside c u e f = rw (e, f) refl
+  amp_letter : (inside : Bool) (c : ℕ) (u : List ℕ) → eqb c 123 ≡ false → is_letter c ≡ true → ampersand language inside (c ∷ u) ≡ given Reference words u
+  amp_letter inside c u e f = rw (e, f) refl
 
-pub reference_kind : (inside : Bool) (s : List ℕ) (n : ℕ) → begins 123 s ≡ false → begins_letter s ≡ true → IsFront words (drop 1 s) n → IsLongest (ampersand inside) s Reference (n + 1)
-reference_kind inside [] n e f h = absurd cc
-reference_kind inside (c ∷ s) n e f h = kind_more (ampersand inside) (given Reference words) c s Reference n (λ u. amp_letter inside c u e f) (given_longest Reference words s n h)
+  pub reference_kind : (inside : Bool) (s : List ℕ) (n : ℕ) → begins 123 s ≡ false → begins_letter s ≡ true → IsFront words (drop 1 s) n → IsLongest (ampersand language inside) s Reference (n + 1)
+  reference_kind inside [] n e f h = absurd cc
+  reference_kind inside (c ∷ s) n e f h = kind_more (ampersand language inside) (given Reference words) c s Reference n (λ u. amp_letter inside c u e f) (given_longest Reference words s n h)
 
-amp_nothing : (inside : Bool) (c : ℕ) (u : List ℕ) → eqb c 123 ≡ false → is_letter c ≡ false → eqb c 38 ≡ false → ampersand inside (c ∷ u) ≡ None
-amp_nothing true c u e f g = rw (e, f, g) refl
-amp_nothing false c u e f g = rw (e, f) refl
+  amp_nothing : (inside : Bool) (c : ℕ) (u : List ℕ) → eqb c 123 ≡ false → is_letter c ≡ false → eqb c 38 ≡ false → ampersand language inside (c ∷ u) ≡ None
+  amp_nothing true c u e f g = rw (e, f, g) refl
+  amp_nothing false c u e f g = rw (e, f) refl
 
-empty : (m : ℕ) → m ≤ 0 → ampersand false (take m []) ≡ None
-empty zero le = refl
-empty (suc m) le = absurd (omega arith)
+  empty : (m : ℕ) → m ≤ 0 → ampersand language false (take m []) ≡ None
+  empty zero le = refl
+  empty (suc m) le = absurd (omega arith)
 
-pub and_kind : (inside : Bool) (s : List ℕ) → begins 123 s ≡ false → begins 38 s ≡ false → begins_letter s ≡ false → Longest (ampersand inside) s (and_alone inside)
-and_kind true [] e f g = record { within = omega arith; is = refl; longest = λ m lt le. absurd (omega arith) }
-and_kind false [] e f g = empty
-and_kind inside (c ∷ s) e f g = amp_or_none inside (λ u. None) c s (λ u. amp_nothing inside c u e g f) (λ m le. refl)
+  pub and_kind : (inside : Bool) (s : List ℕ) → begins 123 s ≡ false → begins 38 s ≡ false → begins_letter s ≡ false → Longest (ampersand language inside) s (and_alone inside)
+  and_kind true [] e f g = record { within = omega arith; is = refl; longest = λ m lt le. absurd (omega arith) }
+  and_kind false [] e f g = empty
+  and_kind inside (c ∷ s) e f g = amp_or_none inside (λ u. None) c s (λ u. amp_nothing inside c u e g f) (λ m le. refl)
 
 -- ---- literals
 

@@ -17,7 +17,7 @@ use Rattle.dt_lexeme.specs.declared.context.Context.{Context}
 use Rattle.dt_lexeme.specs.declared.families.First.{First}
 use Rattle.dt_lexeme.specs.declared.families.First.TheVariants as firsts
 use Rattle.dt_lexeme.specs.Bytes.{is_letter, is_name, is_hex, is_digit}
-use Rattle.dt_lexeme.specs.Fronts.{closes, labels, names, words, paths, numbers, hexed, one_hex}
+use Rattle.dt_lexeme.specs.Fronts.{strings, closes_character, labels, names, words, paths, path_of, numbers, hexed, one_hex}
 use Rattle.dt_lexeme.specs.Label.{IsLabel}
 use Rattle.dt_lexeme.specs.Forms.{FormAt, AllLawful}
 use Rattle.dt_lexeme.specs.Families.{IsLongest, punctuation, operator, second_of, single_operator, single_by, first_in, first_at, alone, keyword, dtc_keyword, more_keywords, keyword_in, is_dtc, or_kind, slashed, operated, ampersand, kind_by, kind_of}
@@ -68,8 +68,8 @@ reference_formed a c s e h =
     let k : slice_range (a ∷ c ∷ s) (0 + 1) (length (a ∷ c ∷ s)) ≡ c ∷ s = take_all (length (a ∷ c ∷ s) - 1) (c ∷ s) (omega arith) in
     rw k (reference_label c s e h)
 
-path_formed : (a c : ℕ) (s : List ℕ) → paths s ≡ true → FormAt PathReference (a ∷ c ∷ s) 0 (length (a ∷ c ∷ s))
-path_formed a c s h = path_before_brace s (length (a ∷ c ∷ s) - 1 - 2) (omega arith) h
+path_formed : (language : Language) (a c : ℕ) (s : List ℕ) → paths language s ≡ true → FormAt PathReference (a ∷ c ∷ s) 0 (length (a ∷ c ∷ s))
+path_formed language a c s h = path_before_brace language s (length (a ∷ c ∷ s) - 1 - 2) (omega arith) h
 
 keyword_formed : (s bs : List ℕ) → FormedBy (keyword s) bs
 keyword_formed s bs =
@@ -105,10 +105,10 @@ operated_formed k [] bs h = h
 operated_formed k (c ∷ []) bs h = second_formed k c bs
 operated_formed k (c ∷ d ∷ s) bs h = tt
 
-ampersand_formed : (inside : Bool) (a : ℕ) (s : List ℕ) → FormedBy (ampersand inside s) (a ∷ s)
-ampersand_formed inside a [] = given_formed inside And (a ∷ []) (λ e. tt)
-ampersand_formed inside a (c ∷ s) =
-    either (eqb c 123) _ _ (a ∷ c ∷ s) (λ e. given_formed (paths s) PathReference (a ∷ c ∷ s) (path_formed a c s))
+ampersand_formed : (language : Language) (inside : Bool) (a : ℕ) (s : List ℕ) → FormedBy (ampersand language inside s) (a ∷ s)
+ampersand_formed language inside a [] = given_formed inside And (a ∷ []) (λ e. tt)
+ampersand_formed language inside a (c ∷ s) =
+    either (eqb c 123) _ _ (a ∷ c ∷ s) (λ e. given_formed (paths language s) PathReference (a ∷ c ∷ s) (path_formed language a c s))
     (λ e. either (is_letter c) _ _ (a ∷ c ∷ s) (λ f. given_formed (words s) Reference (a ∷ c ∷ s) (reference_formed a c s f))
     (λ f. either (inside && eqb c 38) _ _ (a ∷ c ∷ s) (λ g. alone_formed AndAnd s (a ∷ c ∷ s) tt) (λ g. tt)))
 
@@ -123,10 +123,10 @@ Fits (firsts.Alone k) c = (bs : List ℕ) → FormAt k bs 0 (length bs)
 Fits _ c = Unit {0}
 
 by_formed : (f : First) (c : ℕ) (s : List ℕ) → Fits f c → FormedBy (kind_by f s) (c ∷ s)
-by_formed firsts.Quote c s h = given_formed (closes 34 false s) Text (c ∷ s) (λ e. tt)
-by_formed firsts.Apostrophe c s h = given_formed (closes 39 false s) Character (c ∷ s) (λ e. tt)
+by_formed (firsts.Quote language) c s h = given_formed (strings language s) Text (c ∷ s) (λ e. tt)
+by_formed firsts.Apostrophe c s h = given_formed (closes_character false s) Character (c ∷ s) (λ e. tt)
 by_formed (firsts.Solidus language) c s h = slashed_formed language s (c ∷ s)
-by_formed (firsts.Ampersand inside) c s h = ampersand_formed inside c s
+by_formed (firsts.Ampersand language inside) c s h = ampersand_formed language inside c s
 by_formed firsts.Zero c s h = either (hexed s) _ _ (c ∷ s) (λ e. tt) (λ e. given_formed (numbers classes.Digit s) Literal (c ∷ s) (λ e. tt))
 by_formed firsts.Digit c s h = given_formed (numbers classes.Digit s) Literal (c ∷ s) (λ e. tt)
 by_formed firsts.Letter c s h = either (labels s) _ _ (c ∷ s) (label_formed c s h) (λ e. given_formed (names s) Name (c ∷ s) (name_formed c s (letter_name c h)))
@@ -205,7 +205,7 @@ moved : (k : Kind) (text s : List ℕ) (from n i j : ℕ) → drop from text ≡
 moved Name text s from n i j e le ei ej h = subst (λ (x : List ℕ). IsTrue (tree.is_name x)) (cut text s from n 0 n i j e (omega arith) (omega arith) ej) h
 moved Label text s from n i j e le ei ej h = subst IsLabel (cut text s from n 0 (n - 1) i (j - 1) e (omega arith) (omega arith) (omega arith)) h
 moved Reference text s from n i j e le ei ej h = subst IsLabel (cut text s from n 1 n (i + 1) j e (omega arith) (omega arith) ej) h
-moved PathReference text s from n i j e le ei ej h = subst (λ (x : List ℕ). IsTrue (is_path x)) (cut text s from n 2 (n - 1) (i + 2) (j - 1) e (omega arith) (omega arith) (omega arith)) h
+moved PathReference text s from n i j e le ei ej h = subst (λ (x : List ℕ). IsTrue (is_path (path_of x))) (cut text s from n 2 (n - 1) (i + 2) (j - 1) e (omega arith) (omega arith) (omega arith)) h
 moved _ text s from n i j e le ei ej h = tt
 
 longest_formed : (context : Context) (s : List ℕ) (k : Kind) (n : ℕ) → IsLongest (kind_of context) s k n → FormAt k (take n s) 0 n

@@ -1,11 +1,12 @@
 -- How far strings, paths and numbers reach.
 use Rattle.std.proofs.Common.{◌≡◌, ℕ, zero, suc, ◌+◌, Bool, true, false, ltb, eqb, List, [], ◌∷◌, take, drop, Option, Some, None, refl, sym, ap, ◌∙◌, arith}
-use Rattle.std.specs.Prelude.{◌&&◌, not}
+use Rattle.std.specs.Prelude.{◌&&◌, ◌||◌, not}
 use Rattle.std.specs.List.{list_all}
 use Rattle.dt_lexeme.specs.declared.bytes.Class.{Class}
 use Rattle.dt_lexeme.specs.declared.bytes.Class.TheVariants.{HexDigit}
+use Rattle.dt_lexeme.specs.declared.language.Language.{Language}
 use Rattle.dt_lexeme.specs.Bytes.{passes, is_name, begins, begins_hex, begins_x}
-use Rattle.dt_lexeme.specs.Fronts.{Front, IsFront, is_empty, closes, closes_path, path_step, path_behind, paths, ells, suffix, numbers, hexes, hexed}
+use Rattle.dt_lexeme.specs.Fronts.{Front, IsFront, is_empty, closes, closes_string, closes_character, may_close, closes_path, path_step, path_behind, paths, ells, suffix, numbers, hexes, hexed}
 use Rattle.dt_lexeme.proofs.Runs.{and_first, and_second, shifted, front_same, front_same_any, front_some, front_more, front_one, front_none, front_empty}
 
 -- ---- strings
@@ -24,81 +25,123 @@ unfolding closes
 closes_on quote true c u h = refl
 closes_on quote false c u h = rw h refl
 
+-- ---- strings and characters of dtc's language
+
+pub string_nil : (e : Bool) → closes_string e [] ≡ false
+unfolding closes_string
+string_nil e = refl
+
+pub string_breaks : (e : Bool) (c : ℕ) (u : List ℕ) → (e && eqb c 10) ≡ true → closes_string e (c ∷ u) ≡ false
+unfolding closes_string
+string_breaks true c u h = rw h refl
+string_breaks false c u h = absurd cc
+
+pub string_here : (e : Bool) (c : ℕ) (u : List ℕ) → (not e && eqb c 34) ≡ true → closes_string e (c ∷ u) ≡ is_empty u
+unfolding closes_string
+string_here true c u h = absurd cc
+string_here false c u h = rw h refl
+
+pub string_on : (e : Bool) (c : ℕ) (u : List ℕ) → (e && eqb c 10) ≡ false → (not e && eqb c 34) ≡ false → closes_string e (c ∷ u) ≡ closes_string (not e && eqb c 92) u
+unfolding closes_string
+string_on true c u g h = rw g refl
+string_on false c u g h = rw h refl
+
+pub character_nil : (e : Bool) → closes_character e [] ≡ false
+unfolding closes_character
+character_nil e = refl
+
+pub character_here : (e : Bool) (c : ℕ) (u : List ℕ) → eqb c 39 ≡ true → e ≡ false → closes_character e (c ∷ u) ≡ is_empty u
+unfolding closes_character
+character_here e c u h g = rw (h, g) (right (is_empty u))
+  where
+    right : (a : Bool) → (a || false) ≡ a
+    right true = refl
+    right false = refl
+
+pub character_either : (e : Bool) (c : ℕ) (u : List ℕ) → eqb c 39 ≡ true → e ≡ true → closes_character e (c ∷ u) ≡ (is_empty u || closes_character false u)
+unfolding closes_character
+character_either e c u h g = rw (h, g) refl
+
+pub character_on : (e : Bool) (c : ℕ) (u : List ℕ) → eqb c 39 ≡ false → closes_character e (c ∷ u) ≡ closes_character (eqb c 92) u
+unfolding closes_character
+character_on e c u h = rw h refl
+
 -- ---- paths
 
-pub path_nil : (n : ℕ) → closes_path n [] ≡ false
-unfolding closes_path
-path_nil n = refl
+module _ (language : Language) where
+  pub path_nil : (n : ℕ) → closes_path language n [] ≡ false
+  unfolding closes_path
+  path_nil n = refl
 
-pub path_brace : (n c : ℕ) (u : List ℕ) → eqb c 125 ≡ true → ltb 0 n ≡ true → closes_path n (c ∷ u) ≡ is_empty u
-unfolding closes_path
-path_brace n c u e f = rw (e, f) refl
+  pub path_brace : (n c : ℕ) (u : List ℕ) → eqb c 125 ≡ true → may_close language n ≡ true → closes_path language n (c ∷ u) ≡ is_empty u
+  unfolding closes_path
+  path_brace n c u e f = rw (e, f) refl
 
-pub path_brace_no : (n c : ℕ) (u : List ℕ) → eqb c 125 ≡ true → ltb 0 n ≡ false → closes_path n (c ∷ u) ≡ false
-unfolding closes_path
-path_brace_no n c u e f = rw (e, f) refl
+  pub path_brace_no : (n c : ℕ) (u : List ℕ) → eqb c 125 ≡ true → may_close language n ≡ false → closes_path language n (c ∷ u) ≡ false
+  unfolding closes_path
+  path_brace_no n c u e f = rw (e, f) refl
 
-path_slash : (n c : ℕ) (u : List ℕ) → eqb c 125 ≡ false → eqb c 47 ≡ true → ltb 0 n ≡ true → closes_path n (c ∷ u) ≡ closes_path 0 u
-unfolding closes_path
-path_slash n c u e f g = rw (e, f, g) refl
+  path_slash : (n c : ℕ) (u : List ℕ) → eqb c 125 ≡ false → eqb c 47 ≡ true → ltb 0 n ≡ true → closes_path language n (c ∷ u) ≡ closes_path language 0 u
+  unfolding closes_path
+  path_slash n c u e f g = rw (e, f, g) refl
 
-path_slash_no : (n c : ℕ) (u : List ℕ) → eqb c 125 ≡ false → eqb c 47 ≡ true → ltb 0 n ≡ false → closes_path n (c ∷ u) ≡ false
-unfolding closes_path
-path_slash_no n c u e f g = rw (e, f, g) refl
+  path_slash_no : (n c : ℕ) (u : List ℕ) → eqb c 125 ≡ false → eqb c 47 ≡ true → ltb 0 n ≡ false → closes_path language n (c ∷ u) ≡ false
+  unfolding closes_path
+  path_slash_no n c u e f g = rw (e, f, g) refl
 
-path_name : (n c : ℕ) (u : List ℕ) → eqb c 125 ≡ false → eqb c 47 ≡ false → (ltb n 255 && is_name c) ≡ true → closes_path n (c ∷ u) ≡ closes_path (n + 1) u
-unfolding closes_path
-path_name n c u e f g = rw (e, f) (go (ltb n 255) (is_name c) g)
-  where
-    go : (a b : Bool) → (a && b) ≡ true → (a && b && closes_path (n + 1) u) ≡ closes_path (n + 1) u
-    go true true h = refl
-    go true false h = absurd cc
-    go false b h = absurd cc
+  path_name : (n c : ℕ) (u : List ℕ) → eqb c 125 ≡ false → eqb c 47 ≡ false → (ltb n 255 && is_name c) ≡ true → closes_path language n (c ∷ u) ≡ closes_path language (n + 1) u
+  unfolding closes_path
+  path_name n c u e f g = rw (e, f) (go (ltb n 255) (is_name c) g)
+    where
+      go : (a b : Bool) → (a && b) ≡ true → (a && b && closes_path language (n + 1) u) ≡ closes_path language (n + 1) u
+      go true true h = refl
+      go true false h = absurd cc
+      go false b h = absurd cc
 
-path_other : (n c : ℕ) (u : List ℕ) → eqb c 125 ≡ false → eqb c 47 ≡ false → (ltb n 255 && is_name c) ≡ false → closes_path n (c ∷ u) ≡ false
-unfolding closes_path
-path_other n c u e f g = rw (e, f) (go (ltb n 255) (is_name c) g)
-  where
-    go : (a b : Bool) → (a && b) ≡ false → (a && b && closes_path (n + 1) u) ≡ false
-    go true true h = absurd cc
-    go true false h = refl
-    go false b h = refl
+  path_other : (n c : ℕ) (u : List ℕ) → eqb c 125 ≡ false → eqb c 47 ≡ false → (ltb n 255 && is_name c) ≡ false → closes_path language n (c ∷ u) ≡ false
+  unfolding closes_path
+  path_other n c u e f g = rw (e, f) (go (ltb n 255) (is_name c) g)
+    where
+      go : (a b : Bool) → (a && b) ≡ false → (a && b && closes_path language (n + 1) u) ≡ false
+      go true true h = absurd cc
+      go true false h = refl
+      go false b h = refl
 
-pub path_next : (n c k : ℕ) (u : List ℕ) → eqb c 125 ≡ false → path_step n c ≡ Some k → closes_path n (c ∷ u) ≡ closes_path k u
-path_next n c k u e f = go (eqb c 47) refl (ltb 0 n) refl (ltb n 255 && is_name c) refl
-  where
-    go : (a : Bool) → eqb c 47 ≡ a → (b : Bool) → ltb 0 n ≡ b → (d : Bool) → (ltb n 255 && is_name c) ≡ d → closes_path n (c ∷ u) ≡ closes_path k u
-    go true h true g d x = let p : path_step n c ≡ Some 0 = rw (h, g) refl in let q : 0 ≡ k = cc in path_slash n c u e h g ∙ ap (λ (m : ℕ). closes_path m u) q
-    go true h false g d x = let p : path_step n c ≡ None = rw (h, g) refl in absurd cc
-    go false h b g true x = let p : path_step n c ≡ Some (n + 1) = rw (h, x) refl in let q : n + 1 ≡ k = cc in path_name n c u e h x ∙ ap (λ (m : ℕ). closes_path m u) q
-    go false h b g false x = let p : path_step n c ≡ None = rw (h, x) refl in absurd cc
+  pub path_next : (n c k : ℕ) (u : List ℕ) → eqb c 125 ≡ false → path_step n c ≡ Some k → closes_path language n (c ∷ u) ≡ closes_path language k u
+  path_next n c k u e f = go (eqb c 47) refl (ltb 0 n) refl (ltb n 255 && is_name c) refl
+    where
+      go : (a : Bool) → eqb c 47 ≡ a → (b : Bool) → ltb 0 n ≡ b → (d : Bool) → (ltb n 255 && is_name c) ≡ d → closes_path language n (c ∷ u) ≡ closes_path language k u
+      go true h true g d x = let p : path_step n c ≡ Some 0 = rw (h, g) refl in let q : 0 ≡ k = cc in path_slash n c u e h g ∙ ap (λ (m : ℕ). closes_path language m u) q
+      go true h false g d x = let p : path_step n c ≡ None = rw (h, g) refl in absurd cc
+      go false h b g true x = let p : path_step n c ≡ Some (n + 1) = rw (h, x) refl in let q : n + 1 ≡ k = cc in path_name n c u e h x ∙ ap (λ (m : ℕ). closes_path language m u) q
+      go false h b g false x = let p : path_step n c ≡ None = rw (h, x) refl in absurd cc
 
-pub path_dead : (n c : ℕ) (u : List ℕ) → eqb c 125 ≡ false → path_step n c ≡ None → closes_path n (c ∷ u) ≡ false
-path_dead n c u e f = go (eqb c 47) refl (ltb 0 n) refl (ltb n 255 && is_name c) refl
-  where
-    go : (a : Bool) → eqb c 47 ≡ a → (b : Bool) → ltb 0 n ≡ b → (d : Bool) → (ltb n 255 && is_name c) ≡ d → closes_path n (c ∷ u) ≡ false
-    go true h true g d x = let p : path_step n c ≡ Some 0 = rw (h, g) refl in absurd cc
-    go true h false g d x = path_slash_no n c u e h g
-    go false h b g true x = let p : path_step n c ≡ Some (n + 1) = rw (h, x) refl in absurd cc
-    go false h b g false x = path_other n c u e h x
+  pub path_dead : (n c : ℕ) (u : List ℕ) → eqb c 125 ≡ false → path_step n c ≡ None → closes_path language n (c ∷ u) ≡ false
+  path_dead n c u e f = go (eqb c 47) refl (ltb 0 n) refl (ltb n 255 && is_name c) refl
+    where
+      go : (a : Bool) → eqb c 47 ≡ a → (b : Bool) → ltb 0 n ≡ b → (d : Bool) → (ltb n 255 && is_name c) ≡ d → closes_path language n (c ∷ u) ≡ false
+      go true h true g d x = let p : path_step n c ≡ Some 0 = rw (h, g) refl in absurd cc
+      go true h false g d x = path_slash_no n c u e h g
+      go false h b g true x = let p : path_step n c ≡ Some (n + 1) = rw (h, x) refl in absurd cc
+      go false h b g false x = path_other n c u e h x
 
-pub paths_no : (s : List ℕ) → begins 47 s ≡ false → Front paths s None
-paths_no [] e = front_empty paths refl
-paths_no (c ∷ s) e = front_none paths c s refl (λ u. rw e refl)
+  pub paths_no : (s : List ℕ) → begins 47 s ≡ false → Front (paths language) s None
+  paths_no [] e = front_empty (paths language) refl
+  paths_no (c ∷ s) e = front_none (paths language) c s refl (λ u. rw e refl)
 
-pub paths_root : (s : List ℕ) → begins 47 s ≡ true → begins 125 (drop 1 s) ≡ true → IsFront paths s 2
-paths_root [] e f = absurd cc
-paths_root (c ∷ []) e f = absurd cc
-paths_root (c ∷ d ∷ s) e f = front_some paths path_behind c (d ∷ s) 1 (λ u. rw e refl) (front_one path_behind d s (λ u. rw f refl))
+  pub paths_root : (s : List ℕ) → begins 47 s ≡ true → begins 125 (drop 1 s) ≡ true → IsFront (paths language) s 2
+  paths_root [] e f = absurd cc
+  paths_root (c ∷ []) e f = absurd cc
+  paths_root (c ∷ d ∷ s) e f = front_some (paths language) (path_behind language) c (d ∷ s) 1 (λ u. rw e refl) (front_one (path_behind language) d s (λ u. rw f refl))
 
-pub paths_more : (s : List ℕ) (r : Option ℕ) → begins 47 s ≡ true → begins 125 (drop 1 s) ≡ false → Front (closes_path 0) (drop 1 s) r → Front paths s (shifted 1 r)
-paths_more [] r e f h = absurd cc
-paths_more (c ∷ s) r e f h = front_more paths path_behind c s r refl (λ u. rw e refl) (front_same_any path_behind (closes_path 0) s r (same s f) h)
-  where
-    same : (s : List ℕ) → begins 125 s ≡ false → (m : ℕ) → path_behind (take m s) ≡ closes_path 0 (take m s)
-    same s f zero = sym (path_nil 0)
-    same [] f (suc m) = sym (path_nil 0)
-    same (d ∷ s) f (suc m) = rw f refl
+  pub paths_more : (s : List ℕ) (r : Option ℕ) → begins 47 s ≡ true → begins 125 (drop 1 s) ≡ false → Front (closes_path language 0) (drop 1 s) r → Front (paths language) s (shifted 1 r)
+  paths_more [] r e f h = absurd cc
+  paths_more (c ∷ s) r e f h = front_more (paths language) (path_behind language) c s r refl (λ u. rw e refl) (front_same_any (path_behind language) (closes_path language 0) s r (same s f) h)
+    where
+      same : (s : List ℕ) → begins 125 s ≡ false → (m : ℕ) → path_behind language (take m s) ≡ closes_path language 0 (take m s)
+      same s f zero = sym (path_nil 0)
+      same [] f (suc m) = sym (path_nil 0)
+      same (d ∷ s) f (suc m) = rw f refl
 
 -- ---- suffixes
 

@@ -1,6 +1,6 @@
 -- The longest front that passes a test.
 use Rattle.std.proofs.Common.{◌≡◌, ℕ, zero, suc, ◌+◌, ◌<◌, ◌≤◌, Bool, true, false, leb, List, [], ◌∷◌, length, take, drop, get_or, Option, Some, None, refl, sym, ap, subst, ◌∙◌, arith, add-one, inl, inr, ◌⊎◌}
-use Rattle.std.specs.Prelude.{◌&&◌, option_map}
+use Rattle.std.specs.Prelude.{◌&&◌, ◌||◌, option_map}
 use Rattle.std.specs.List.{list_all}
 use Rattle.std.proofs.Math.Seq.{drop-cons}
 use Rattle.std.proofs.lemmas.List.{drop_all, take_all, length-take}
@@ -104,6 +104,85 @@ leads_stop b a s i lt empty same c =
 -- at the end of the text
 pub leads_over : (b a : List ℕ → Bool) (s : List ℕ) (i : ℕ) → length s ≤ i → a [] ≡ false → Leads b a s i → Front b s None
 leads_over b a s i le empty c =
+    let e : drop i s ≡ [] = drop_all i s le in
+    c.on None (subst (λ (l : List ℕ). Front a l None) (sym e) (front_empty a empty))
+
+-- ---- the same where fronts were found before
+
+-- The longest front is one that was found, but for those further on.
+abbrev pub shifted_or : ℕ → Option ℕ → Option ℕ → Option ℕ
+shifted_or i found None = found
+shifted_or i found (Some n) = Some (i + n)
+
+-- What is so of the rest by the second test is so of the whole by the first, i bytes further, or else by what was found.
+pub record LeadsOr (b a : List ℕ → Bool) (s : List ℕ) (i : ℕ) (found : Option ℕ) : Type 0 where
+  pub on : (r : Option ℕ) → Front a (drop i s) r → Front b s (shifted_or i found r)
+
+pub leads_or_start : (b : List ℕ → Bool) (s : List ℕ) → LeadsOr b b s 0 None
+leads_or_start b s = record { on = go }
+  where
+    go : (r : Option ℕ) → Front b (drop 0 s) r → Front b s (shifted_or 0 None r)
+    go None h = h
+    go (Some n) h = let e : 0 + n ≡ n = omega arith in rw e h
+
+pub leads_or_step : (b a a' : List ℕ → Bool) (s : List ℕ) (i : ℕ) (found : Option ℕ) → i < length s → a [] ≡ false → ((u : List ℕ) → a (get_or s i 0 ∷ u) ≡ a' u) → LeadsOr b a s i found → LeadsOr b a' s (i + 1) found
+leads_or_step b a a' s i found lt empty same c = record { on = go }
+  where
+    go : (r : Option ℕ) → Front a' (drop (i + 1) s) r → Front b s (shifted_or (i + 1) found r)
+    go None h = c.on None (subst (λ (l : List ℕ). Front a l None) (sym (split_at s i lt)) (front_more a a' (get_or s i 0) (drop (i + 1) s) None empty same h))
+    go (Some n) h =
+        let e : i + (1 + n) ≡ i + 1 + n = omega arith in
+        subst (λ (k : ℕ). Front b s (Some k)) e (c.on (Some (1 + n)) (subst (λ (l : List ℕ). Front a l (Some (1 + n))) (sym (split_at s i lt)) (front_more a a' (get_or s i 0) (drop (i + 1) s) (Some n) empty same h)))
+
+-- at a byte that may end it
+front_either : (a a' : List ℕ → Bool) (x : ℕ) (t : List ℕ) (r : Option ℕ) → a' [] ≡ false → ((u : List ℕ) → a (x ∷ u) ≡ (is_empty u || a' u)) → Front a' t r → Front a (x ∷ t) (shifted_or 1 (Some 1) r)
+front_either a a' x t r empty same h = go r h
+  where
+    longer : (k : ℕ) (t : List ℕ) → 0 < k → k ≤ length t → is_empty (take k t) ≡ false
+    longer zero t lt le = absurd (omega arith)
+    longer (suc k) [] lt le = absurd (omega arith)
+    longer (suc k) (d ∷ t) lt le = refl
+
+    over : (m : ℕ) → 1 < m → m ≤ length (x ∷ t) → ((k : ℕ) → m ≡ suc k → a' (take k t) ≡ false) → a (take m (x ∷ t)) ≡ false
+    over zero lt le less = absurd (omega arith)
+    over (suc m) lt le less =
+        let e = longer m t (omega arith) (omega arith) in
+        let f = less m refl in
+        same (take m t) ∙ rw (e, f) refl
+
+    here : (b : Bool) → b ≡ true → (d : Bool) → (d || b) ≡ true
+    here true e true = refl
+    here true e false = refl
+    here false e d = absurd cc
+
+    go : (r : Option ℕ) → Front a' t r → Front a (x ∷ t) (shifted_or 1 (Some 1) r)
+    go None h = record { within = omega arith; is = same []; longest = λ m lt le. over m lt le (λ k e. h k (omega arith)) }
+    go (Some n) h =
+        let e : 1 + n ≡ suc n = omega arith in
+        rw e (record {
+          within = omega (arith, h.within);
+          is = same (take n t) ∙ here (a' (take n t)) h.is (is_empty (take n t));
+          longest = λ m lt le. over m (omega arith) le (λ k f. h.longest k (omega arith) (omega arith));
+        })
+
+pub leads_or_either : (b a a' : List ℕ → Bool) (s : List ℕ) (i : ℕ) (found : Option ℕ) → i < length s → a' [] ≡ false → ((u : List ℕ) → a (get_or s i 0 ∷ u) ≡ (is_empty u || a' u)) → LeadsOr b a s i found → LeadsOr b a' s (i + 1) (Some (i + 1))
+leads_or_either b a a' s i found lt empty same c = record { on = go }
+  where
+    back : (r : Option ℕ) → Front a' (drop (i + 1) s) r → Front a (drop i s) (shifted_or 1 (Some 1) r)
+    back r h = subst (λ (l : List ℕ). Front a l (shifted_or 1 (Some 1) r)) (sym (split_at s i lt)) (front_either a a' (get_or s i 0) (drop (i + 1) s) r empty same h)
+
+    go : (r : Option ℕ) → Front a' (drop (i + 1) s) r → Front b s (shifted_or (i + 1) (Some (i + 1)) r)
+    go None h = c.on (Some 1) (back None h)
+    go (Some n) h =
+        let e : i + (1 + n) ≡ i + 1 + n = omega arith in
+        subst (λ (k : ℕ). Front b s (Some k)) e (c.on (Some (1 + n)) (back (Some n) h))
+
+pub leads_or_here : (b a : List ℕ → Bool) (s : List ℕ) (i : ℕ) (found : Option ℕ) → i < length s → ((u : List ℕ) → a (get_or s i 0 ∷ u) ≡ is_empty u) → LeadsOr b a s i found → IsFront b s (i + 1)
+leads_or_here b a s i found lt same c =
+    c.on (Some 1) (subst (λ (l : List ℕ). Front a l (Some 1)) (sym (split_at s i lt)) (front_one a (get_or s i 0) (drop (i + 1) s) same))
+
+pub leads_or_over : (b a : List ℕ → Bool) (s : List ℕ) (i : ℕ) (found : Option ℕ) → length s ≤ i → a [] ≡ false → LeadsOr b a s i found → Front b s found
+leads_or_over b a s i found le empty c =
     let e : drop i s ≡ [] = drop_all i s le in
     c.on None (subst (λ (l : List ℕ). Front a l None) (sym e) (front_empty a empty))
 

@@ -13,7 +13,7 @@ use Rattle.dt_lexeme.specs.declared.context.Context.{Context}
 use Rattle.dt_lexeme.specs.declared.families.First.{First}
 use Rattle.dt_lexeme.specs.declared.families.First.TheVariants as firsts
 use Rattle.dt_lexeme.specs.Bytes.{is_letter, is_digit, is_hex, is_name}
-use Rattle.dt_lexeme.specs.Fronts.{closes, labels, names, words, paths, numbers, hexed, one_hex}
+use Rattle.dt_lexeme.specs.Fronts.{strings, closes_character, labels, names, words, paths, numbers, hexed, one_hex}
 
 -- ---- the longest lexeme
 
@@ -95,10 +95,10 @@ is_dtc Dtc = true
 -- the lexemes that may begin with this byte in this context
 unfoldable pub first_at : Context → ℕ → First
 first_at context c =
-    if c == 34 then firsts.Quote else
+    if c == 34 then firsts.Quote context.language else
     (if is_dtc context.language && c == 39 then firsts.Apostrophe else
     (if c == 47 then firsts.Solidus context.language else
-    (if c == 38 then firsts.Ampersand (nat_lt 0 context.parens) else
+    (if c == 38 then firsts.Ampersand context.language (nat_lt 0 context.parens) else
     first_in context.mode (nat_lt 0 context.parens) c)))
 
 -- ---- what stands behind the first byte
@@ -152,10 +152,10 @@ abbrev pub and_alone : Bool → Option (Kind × ℕ)
 and_alone inside = if inside then Some (And, 0) else None
 
 -- behind `&`: a label or a path in braces, or inside parentheses nothing or a second `&`
-abbrev pub ampersand : Bool → List ℕ → Option Kind
-ampersand inside [] = if inside then Some And else None
-ampersand inside (c ∷ s) =
-    if c == 123 then given PathReference paths s else
+abbrev pub ampersand : Language → Bool → List ℕ → Option Kind
+ampersand language inside [] = if inside then Some And else None
+ampersand language inside (c ∷ s) =
+    if c == 123 then given PathReference (paths language) s else
     (if is_letter c then given Reference words s else
     (if inside && c == 38 then alone AndAnd s else None))
 
@@ -164,10 +164,10 @@ abbrev pub label_or : (List ℕ → Option Kind) → List ℕ → Option Kind
 label_or other s = if labels s then Some Label else other s
 
 abbrev pub kind_by : First → List ℕ → Option Kind
-kind_by firsts.Quote s = given Text (closes 34 false) s
-kind_by firsts.Apostrophe s = given Character (closes 39 false) s
+kind_by (firsts.Quote language) s = given Text (strings language) s
+kind_by firsts.Apostrophe s = given Character (closes_character false) s
 kind_by (firsts.Solidus language) s = slashed language s
-kind_by (firsts.Ampersand inside) s = ampersand inside s
+kind_by (firsts.Ampersand language inside) s = ampersand language inside s
 kind_by firsts.Zero s = if hexed s then Some Literal else given Literal (numbers classes.Digit) s
 kind_by firsts.Digit s = given Literal (numbers classes.Digit) s
 kind_by firsts.Letter s = label_or (given Name names) s

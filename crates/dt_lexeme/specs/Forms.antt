@@ -6,16 +6,17 @@ use Rattle.dt_lexeme.specs.declared.lexeme.Lexeme.{Lexeme}
 use Rattle.dt_lexeme.specs.declared.lexeme.Kind.{Kind}
 use Rattle.dt_lexeme.specs.declared.lexeme.Kind.TheVariants.{Name, Label, Reference, PathReference}
 use Rattle.dt_lexeme.specs.declared.language.Language.{Language}
+use Rattle.dt_lexeme.specs.Fronts.{path_of}
 use Rattle.dt_lexeme.specs.Label.{IsLabel}
 use Rattle.dt_lexeme.specs.Lexemes.{Lexemes}
 
 -- Between the two places of the text stands a lexeme of this kind. A label's colon is no part of it, nor are a
--- reference's `&` and braces.
+-- reference's `&` and braces, nor in dtc's language the slash behind a path.
 abbrev pub FormAt : Kind → List ℕ → ℕ → ℕ → Type 0
 FormAt Name text i j = IsTrue (is_name (slice_range text i j))
 FormAt Label text i j = IsLabel (slice_range text i (j - 1))
 FormAt Reference text i j = IsLabel (slice_range text (i + 1) j)
-FormAt PathReference text i j = IsTrue (is_path (slice_range text (i + 2) (j - 1)))
+FormAt PathReference text i j = IsTrue (is_path (path_of (slice_range text (i + 2) (j - 1))))
 FormAt _ text i j = Unit {0}
 
 -- Each of these lexemes of the text has its kind's form.

@@ -1,9 +1,11 @@
 -- What stands behind the first byte of a lexeme, and how far it reaches.
-use Rattle.std.specs.Prelude.{◌≡◌, ℕ, ◌+◌, ◌-◌, ◌<◌, ◌≤◌, ◌==◌, nat_le, nat_lt, Bool, true, false, ◌&&◌, ◌||◌, not, List, [], ◌∷◌, length, take, Option, Some, None, if◌then◌else◌}
+use Rattle.std.specs.Prelude.{◌≡◌, ℕ, ◌+◌, ◌-◌, ◌<◌, ◌≤◌, ◌==◌, nat_le, nat_lt, Bool, true, false, ◌&&◌, ◌||◌, not, List, [], ◌∷◌, length, take, get_or, Option, Some, None, if◌then◌else◌}
 use Rattle.std.specs.List.{list_all}
 use Rattle.dt_tree.specs.Limits.{name_limit}
 use Rattle.dt_lexeme.specs.declared.bytes.Class.{Class}
 use Rattle.dt_lexeme.specs.declared.bytes.Class.TheVariants.{Word, Name, HexDigit, Ell}
+use Rattle.dt_lexeme.specs.declared.language.Language.{Language}
+use Rattle.dt_lexeme.specs.declared.language.Language.TheVariants.{Profile, Dtc}
 use Rattle.dt_lexeme.specs.Bytes.{is_word, is_name, is_hex, passes}
 
 -- ---- the longest front
@@ -63,6 +65,23 @@ closes quote escaped [] = false
 closes quote true (c ∷ s) = closes quote false s
 closes quote false (c ∷ s) = if c == quote then is_empty s else closes quote (c == 92) s
 
+-- A string of dtc's language (dtc 1.6, dtc-lexer.l: STRING): the same, but behind a backslash stands no line feed (10).
+unfoldable pub closes_string : Bool → List ℕ → Bool
+closes_string escaped [] = false
+closes_string true (c ∷ s) = not (c == 10) && closes_string false s
+closes_string false (c ∷ s) = if c == 34 then is_empty s else closes_string (c == 92) s
+
+-- behind the first quote (34) of a string
+abbrev pub strings : Language → List ℕ → Bool
+strings Profile s = closes 34 false s
+strings Dtc s = closes_string false s
+
+-- A character literal behind its first apostrophe (39; dtc 1.6, dtc-lexer.l: CHAR_LITERAL): the last byte is one, and before each
+-- other stands a backslash. The flag says that a backslash stands before.
+unfoldable pub closes_character : Bool → List ℕ → Bool
+closes_character behind [] = false
+closes_character behind (c ∷ s) = if c == 39 then is_empty s || behind && closes_character false s else closes_character (c == 92) s
+
 -- ---- paths of references
 
 -- how many characters of a name stand behind a byte of a path, if so many stand before it and it may stand there
@@ -71,23 +90,32 @@ path_step n c =
     if c == 47 then (if nat_lt 0 n then Some 0 else None) else
     (if nat_lt n name_limit && is_name c then Some (n + 1) else None)
 
+-- whether a brace may stand behind so many characters of a name: in dtc's language also behind a slash (dtc 1.6, dtc-lexer.l: PATHCHAR)
+abbrev pub may_close : Language → ℕ → Bool
+may_close Profile n = nat_lt 0 n
+may_close Dtc n = true
+
 -- The rest of a path and the brace behind it; so many characters of a name stand before it.
-unfoldable pub closes_path : ℕ → List ℕ → Bool
-closes_path n [] = false
-closes_path n (c ∷ s) =
-    if c == 125 then nat_lt 0 n && is_empty s else
-    (if c == 47 then nat_lt 0 n && closes_path 0 s else
-    (nat_lt n name_limit && is_name c && closes_path (n + 1) s))
+unfoldable pub closes_path : Language → ℕ → List ℕ → Bool
+closes_path language n [] = false
+closes_path language n (c ∷ s) =
+    if c == 125 then may_close language n && is_empty s else
+    (if c == 47 then nat_lt 0 n && closes_path language 0 s else
+    (nat_lt n name_limit && is_name c && closes_path language (n + 1) s))
 
 -- behind the path's first slash: the brace, as the path is `/`, or names
-abbrev pub path_behind : List ℕ → Bool
-path_behind [] = false
-path_behind (c ∷ s) = if c == 125 then is_empty s else closes_path 0 (c ∷ s)
+abbrev pub path_behind : Language → List ℕ → Bool
+path_behind language [] = false
+path_behind language (c ∷ s) = if c == 125 then is_empty s else closes_path language 0 (c ∷ s)
 
 -- behind `&{`: a path and a brace
-abbrev pub paths : List ℕ → Bool
-paths [] = false
-paths (c ∷ s) = c == 47 && path_behind s
+abbrev pub paths : Language → List ℕ → Bool
+paths language [] = false
+paths language (c ∷ s) = c == 47 && path_behind language s
+
+-- the path that is named, where a slash (47) may stand behind its last name
+abbrev pub path_of : List ℕ → List ℕ
+path_of s = if nat_lt 1 (length s) && get_or s (length s - 1) 0 == 47 then take (length s - 1) s else s
 
 -- ---- literals
 

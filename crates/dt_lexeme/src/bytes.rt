@@ -27,22 +27,27 @@ pub fn is_letter(c: u8) -> bool
 pub(crate) fn is_word(c: u8) -> bool
     ensures { result ≡ is_word c }
 {
-    is_letter(c) || c >= b'0' && c <= b'9'
+    if c >= b'a' {
+        return c <= b'z';
+    }
+    c >= b'0' && c <= b'9' || c >= b'A' && c <= b'Z' || c == b'_'
 }
 
 /// A character of a name.
 pub fn is_name(c: u8) -> bool
     ensures { result ≡ is_name c }
 {
-    is_word(c)
-        || c == b','
-        || c == b'.'
-        || c == b'+'
-        || c == b'*'
-        || c == b'#'
-        || c == b'?'
-        || c == b'@'
-        || c == b'-'
+    // the commonest first, with few comparisons: each byte of a name comes here
+    if c >= b'a' {
+        return c <= b'z';
+    }
+    if c >= b'?' {
+        return c <= b'Z' || c == b'_';
+    }
+    if c >= b'0' {
+        return c <= b'9';
+    }
+    c >= b'*' && c <= b'.' || c == b'#'
 }
 
 pub(crate) fn is_hex(c: u8) -> bool

@@ -6,7 +6,8 @@ ghost use Rattle.dt_lexeme.specs.Fronts.{one_hex};
 use crate::bytes::{Class, begins, begins_letter, from, front, is_hex, is_letter, is_name};
 use crate::context::{Context, Mode};
 use crate::fronts::{
-    hex_len, label_len, name_len, number_len, path_len, quoted_len, word_end, words_len,
+    character_len, hex_len, label_len, name_len, number_len, path_len, string_len, word_end,
+    words_len,
 };
 use crate::language::Language;
 use crate::lexeme::Kind;
@@ -15,13 +16,13 @@ use crate::lexeme::Kind;
 #[derive(Clone, Copy)]
 pub enum First {
     /// a string
-    Quote,
+    Quote(Language),
     /// a character literal, in dtc's language
     Apostrophe,
     /// a keyword or `/`
     Solidus(Language),
     /// a reference; inside parentheses also `&` and `&&`
-    Ampersand(bool),
+    Ampersand(Language, bool),
     /// a literal with a leading 0
     Zero,
     Digit,
@@ -152,13 +153,13 @@ pub(crate) fn first_at(context: Context, c: u8) -> First
     ensures { result ≡ first_at context c }
 {
     if c == b'"' {
-        First::Quote
+        First::Quote(context.language)
     } else if is_dtc(context.language) && c == b'\'' {
         First::Apostrophe
     } else if c == b'/' {
         First::Solidus(context.language)
     } else if c == b'&' {
-        First::Ampersand(context.parens > 0)
+        First::Ampersand(context.language, context.parens > 0)
     } else {
         first_in(context.mode, context.parens > 0, c)
     }
@@ -266,11 +267,11 @@ fn and_alone(inside: bool) -> Option<(Kind, usize)>
 }
 
 // A reference, or inside parentheses an operator.
-fn ampersand(inside: bool, s: &[u8]) -> Option<(Kind, usize)>
-    ensures { Longest (ampersand inside) s.now result }
+fn ampersand(language: Language, inside: bool, s: &[u8]) -> Option<(Kind, usize)>
+    ensures { Longest (ampersand language inside) s.now result }
 {
     if begins(s, b'{') {
-        return match path_len(from(s, 1)) {
+        return match path_len(language, from(s, 1)) {
             Some(n) => Some((Kind::PathReference, n + 1)),
             None => and_alone(inside),
         };
@@ -313,10 +314,10 @@ pub(crate) fn family(first: First, s: &[u8]) -> Option<(Kind, usize)>
     ensures { Longest (kind_by first) s.now result }
 {
     match first {
-        First::Quote => with_kind(Kind::Text, quoted_len(b'"', false, s)),
-        First::Apostrophe => with_kind(Kind::Character, quoted_len(b'\'', false, s)),
+        First::Quote(language) => with_kind(Kind::Text, string_len(language, s)),
+        First::Apostrophe => with_kind(Kind::Character, character_len(s)),
         First::Solidus(language) => Some(solidus(language, s)),
-        First::Ampersand(inside) => ampersand(inside, s),
+        First::Ampersand(language, inside) => ampersand(language, inside, s),
         First::Zero => Some((Kind::Literal, zero(s))),
         First::Digit => Some((Kind::Literal, number_len(Class::Digit, s))),
         First::Letter => match label_len(s) {

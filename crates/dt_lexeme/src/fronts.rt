@@ -1,8 +1,10 @@
 //! Where a string, a word, a path or a number ends, behind its first byte.
-ghost use Rattle.std.specs.Prelude.{◌≡◌, ◌==◌, ◌&&◌, not, Some};
-ghost use Rattle.dt_lexeme.specs.Fronts.{Front, closes, ends_label, labels, names, words, ends_word, path_step, closes_path, paths, ells, suffix, numbers, hexed};
+ghost use Rattle.std.specs.Prelude.{◌≡◌, ◌==◌, ◌&&◌, false, not, Some};
+ghost use Rattle.dt_lexeme.specs.Fronts.{Front, closes, closes_string, strings, closes_character, ends_label, labels, names, words, ends_word};
+ghost use Rattle.dt_lexeme.specs.Fronts.{path_step, may_close, closes_path, paths, path_of, ells, suffix, numbers, hexed};
 
 use crate::bytes::{Class, begins, begins_hex, begins_x, from, front, is_name, is_word, run_len};
+use crate::language::Language;
 use dt_tree::MAX_NAME_LEN;
 
 // Whether a byte is this one, with no backslash before it.
@@ -24,6 +26,60 @@ pub fn quoted_len(quote: u8, escaped: bool, s: &[u8]) -> Option<usize>
         is_escaped = is_plain(is_escaped, b'\\', *c);
     }
     None
+}
+
+// Whether a line ends behind a backslash.
+fn breaks_off(escaped: bool, c: u8) -> bool
+    ensures { result ≡ escaped && c == 10 }
+{
+    escaped && c == b'\n'
+}
+
+// How long a string of dtc's language is behind its first quote.
+fn dtc_string_len(s: &[u8]) -> Option<usize>
+    ensures { Front (closes_string false) s.now result }
+{
+    let mut is_escaped = false;
+    for (i, c) in s.iter().enumerate() {
+        if breaks_off(is_escaped, *c) {
+            return None;
+        }
+        if is_plain(is_escaped, b'"', *c) {
+            return Some(i + 1);
+        }
+        is_escaped = is_plain(is_escaped, b'\\', *c);
+    }
+    None
+}
+
+/// How long a string is behind its first quote, with its last one.
+pub(crate) fn string_len(language: Language, s: &[u8]) -> Option<usize>
+    ensures { Front (strings language) s.now result }
+{
+    match language {
+        Language::Profile => quoted_len(b'"', false, s),
+        Language::Dtc => dtc_string_len(s),
+    }
+}
+
+/// How long a character literal is behind its first apostrophe, with its last one.
+pub fn character_len(s: &[u8]) -> Option<usize>
+    ensures { Front (closes_character false) s.now result }
+{
+    let mut longest = None;
+    let mut behind = false;
+    for (i, c) in s.iter().enumerate() {
+        if *c == b'\'' {
+            if !behind {
+                return Some(i + 1);
+            }
+            longest = Some(i + 1);
+            behind = false;
+        } else {
+            behind = is_plain(false, b'\\', *c);
+        }
+    }
+    longest
 }
 
 fn label_end(s: &[u8]) -> Option<usize>
@@ -86,13 +142,27 @@ fn path_step(name: usize, c: u8) -> Option<usize>
     }
 }
 
-fn path_end(s: &[u8]) -> Option<usize>
-    ensures { Front (closes_path 0) s.now result }
+// Whether a brace may stand behind so many characters of a name.
+fn may_close(language: Language, name: usize) -> bool
+    ensures { result ≡ may_close language name }
+{
+    match language {
+        Language::Profile => name > 0,
+        Language::Dtc => true,
+    }
+}
+
+fn path_end(language: Language, s: &[u8]) -> Option<usize>
+    ensures { Front (closes_path language 0) s.now result }
 {
     let mut name = 0;
     for (i, c) in s.iter().enumerate() {
         if *c == b'}' {
-            return if name > 0 { Some(i + 1) } else { None };
+            return if may_close(language, name) {
+                Some(i + 1)
+            } else {
+                None
+            };
         }
         let Some(longer) = path_step(name, *c) else {
             return None;
@@ -103,8 +173,8 @@ fn path_end(s: &[u8]) -> Option<usize>
 }
 
 /// How long the path of a reference is, with its last brace, behind its first brace.
-pub(crate) fn path_len(s: &[u8]) -> Option<usize>
-    ensures { Front paths s.now result }
+pub(crate) fn path_len(language: Language, s: &[u8]) -> Option<usize>
+    ensures { Front (paths language) s.now result }
 {
     if !begins(s, b'/') {
         return None;
@@ -113,10 +183,20 @@ pub(crate) fn path_len(s: &[u8]) -> Option<usize>
     if begins(names, b'}') {
         return Some(2);
     }
-    match path_end(names) {
+    match path_end(language, names) {
         Some(n) => Some(n + 1),
         None => None,
     }
+}
+
+/// The path that the bytes between a reference's braces name: in dtc's language a slash may stand behind the last name.
+pub fn path_of(s: &[u8]) -> &[u8]
+    ensures { result.now ≡ path_of s.now }
+{
+    if s.len() > 1 && s[s.len() - 1] == b'/' {
+        return &s[..s.len() - 1];
+    }
+    s
 }
 
 fn ells_len(s: &[u8]) -> usize

@@ -3,6 +3,7 @@
 //! The Devicetree Specification v0.4, chapter 6, says what they are.
 #![tactic(auto)]
 
+mod binary;
 pub mod bytes;
 mod context;
 mod families;
@@ -13,6 +14,7 @@ mod lexeme;
 mod line;
 mod scanner;
 
+pub use binary::Binary;
 pub use language::Language;
 pub use lexeme::{Fault, FaultKind, Kind, Lexeme, ReadError, Refusal, RefusalKind};
 pub use line::line_of;

@@ -3,14 +3,15 @@ use Rattle.std.specs.Prelude.{◌≡◌, ℕ, ◌+◌, ◌-◌, ◌<◌, ◌≤�
 use Rattle.dt_lexeme.specs.declared.lexeme.Lexeme.{Lexeme}
 use Rattle.dt_lexeme.specs.declared.lexeme.Kind.{Kind}
 use Rattle.dt_lexeme.specs.declared.lexeme.Kind.TheVariants.{Label, Reference, PathReference}
+use Rattle.dt_lexeme.specs.Fronts.{path_of}
 use Rattle.dt_place.specs.declared.located.LocatedLexeme.{LocatedLexeme}
 use Rattle.dt_place.specs.Positions.{site_at, site_of}
 
--- A label without its colon, what a reference names without `&` and braces, or else the whole lexeme.
+-- A label without its colon, what a reference names without `&` and braces, nor a slash behind a path, or else the whole lexeme.
 abbrev pub name_between : Kind → List ℕ → ℕ → ℕ → List ℕ
 name_between Label text i j = slice_range text i (j - 1)
 name_between Reference text i j = slice_range text (i + 1) j
-name_between PathReference text i j = slice_range text (i + 2) (j - 1)
+name_between PathReference text i j = path_of (slice_range text (i + 2) (j - 1))
 name_between _ text i j = slice_range text i j
 
 abbrev pub name_in : List ℕ → Lexeme → List ℕ

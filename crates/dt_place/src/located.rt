@@ -3,6 +3,7 @@ ghost use Rattle.std.specs.Prelude.{◌≡◌, IfSome, is_some, position, slice_
 ghost use Rattle.dt_place.specs.Located.{IsLocated, has_place, is_inside, name_in};
 
 use crate::position::{Position, position_of};
+use dt_lexeme::fronts::path_of;
 use dt_lexeme::{Kind, Lexeme};
 
 /// A lexeme of a text: what it names, and where its first byte came from.
@@ -34,7 +35,7 @@ pub fn named<'a>(text: &'a [u8], lexeme: Lexeme) -> &'a [u8]
     match lexeme.kind {
         Kind::Label => between(text, start, end.saturating_sub(1)),
         Kind::Reference => between(text, start + 1, end),
-        Kind::PathReference => between(text, start + 2, end.saturating_sub(1)),
+        Kind::PathReference => path_of(between(text, start + 2, end.saturating_sub(1))),
         _ => between(text, start, end),
     }
 }

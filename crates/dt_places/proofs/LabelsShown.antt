@@ -1,6 +1,5 @@
 -- The labels that stand are put as properties of their nodes, the last first, and read in preorder.
-use Rattle.std.proofs.Common.{◌≡◌, ◌⊎◌, inl, inr, ℕ, zero, suc, ◌+◌, ◌<◌, ◌≤◌, All, Bool, true, false, ◌||◌, not, ◌&&◌, List, [], ◌∷◌, ◌++◌, drop, length, map, reverse, Option, Some, None, if◌then◌else◌, refl, sym, ap, ap₂, ◌∙◌, subst, append-nil, true≢false, arith}
-use Rattle.std.specs.Prelude.{slice_index_or}
+use Rattle.std.proofs.Common.{◌≡◌, ◌⊎◌, inl, inr, ℕ, ◌+◌, ◌<◌, ◌≤◌, All, Bool, true, false, ◌||◌, ◌&&◌, List, [], ◌∷◌, ◌++◌, drop, length, map, reverse, Some, if◌then◌else◌, refl, sym, ap, ap₂, ◌∙◌, subst, append-nil, true≢false, arith}
 use Rattle.std.specs.Str.{bytes_eq}
 use Rattle.std.specs.List.{filter, flat_map, list_any}
 use Rattle.std.proofs.lemmas.Bool.{and_parts}
@@ -8,10 +7,9 @@ use Rattle.std.proofs.lemmas.List.{drop_all, drop_more, map-append, reverse-appe
 use Rattle.std.proofs.lemmas.List.Elements.{All-append, All-cons, All-head, All-nil, All-tail}
 use Rattle.std.proofs.lemmas.Slice.Eq.{bytes_eq-Decides}
 use Rattle.dt_meaning.specs.Paths.{Path, same_path}
-use Rattle.dt_meaning.specs.Edits.{Definition, Label, State, definition, is_of, labelled_at, put, with_property}
+use Rattle.dt_meaning.specs.Edits.{Definition, Label, State, definition, is_of, put, with_property}
 use Rattle.dt_meaning.specs.Places.{Row, what_stands}
-use Rattle.dt_meaning.specs.References.{held, in_order, preorder}
-use Rattle.dt_live.specs.declared.live_tree.LiveTree.{LiveTree}
+use Rattle.dt_meaning.specs.References.{held, preorder}
 use Rattle.dt_live.specs.declared.preorder.properties.NodeProperty.{NodeProperty}
 use Rattle.dt_live.specs.Preorder.{AreInOrder, definition_of}
 use Rattle.dt_live.specs.Rows.{Found, IsLiveTree, state_of}
@@ -22,10 +20,10 @@ use Rattle.dt_places.specs.declared.place.Place.{Place}
 use Rattle.dt_places.specs.declared.placed_tree.PlacedTree.{PlacedTree}
 use Rattle.dt_places.specs.declared.shown.Shown.{Shown}
 use Rattle.dt_places.specs.Rows.{holds, is_made, is_there, no_place, path_of, place_at}
-use Rattle.dt_places.specs.Tables.{HasKey, IsBehind, found_in, rows_in}
+use Rattle.dt_places.specs.Tables.{IsBehind, found_in, rows_in}
 use Rattle.dt_places.specs.PlacedTrees.{IsPlacedTree, label_seen}
-use Rattle.dt_places.specs.Shown.{AreShown, IsShownAt, first_standing}
-use Rattle.dt_places.specs.Standing.{AreOrdered, HasLabelRows, HasNodesOf, IsOfRow, IsWornRow, label_in, label_of, ordered_labels}
+use Rattle.dt_places.specs.Shown.{AreShown, IsShownAt}
+use Rattle.dt_places.specs.Standing.{AreOrdered, HasLabelRows, IsOfRow, IsWornRow, label_in, label_of}
 use Rattle.dt_places.proofs.Chosen.{numbered-same}
 use Rattle.dt_places.proofs.FirstHeld.{put-all}
 use Rattle.dt_places.proofs.Owners.{one-owner}

@@ -4,6 +4,7 @@ pub mod FirstHeld
 pub mod FirstLabelled
 pub mod Holders
 pub mod LabelEdits
+pub mod LabelsOnce
 pub mod LabelsShown
 pub mod LookedUp
 pub mod NewNodes
@@ -24,5 +25,6 @@ pub mod PropertyEdits
 pub mod RowTables
 pub mod SeenRows
 pub mod ShownNodes
+pub mod TreeLeft
 pub mod Values
 pub mod WordsGiven

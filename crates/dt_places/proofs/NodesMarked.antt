@@ -1,5 +1,5 @@
 -- Nodes that are marked one after the other.
-use Rattle.std.proofs.Common.{◌≡◌, ◌≢◌, inl, inr, ℕ, zero, suc, ◌+◌, ◌<◌, ◌≤◌, Bool, true, false, ◌||◌, List, [], ◌∷◌, ◌++◌, length, map, reverse, take, slice_set, Some, None, refl, sym, ap, ap₂, ◌∙◌, subst, true≢false, arith}
+use Rattle.std.proofs.Common.{◌≡◌, inl, inr, ℕ, zero, suc, ◌+◌, ◌<◌, ◌≤◌, Bool, true, false, ◌||◌, List, [], ◌∷◌, length, map, reverse, take, slice_set, Some, None, refl, sym, ap, ◌∙◌, true≢false, arith}
 use Rattle.std.specs.Prelude.{slice_index_or}
 use Rattle.std.proofs.lemmas.Bool.{cases_eq}
 use Rattle.std.specs.List.{list_any}
@@ -21,7 +21,7 @@ use Rattle.dt_places.specs.declared.shown.Shown.{Shown}
 use Rattle.dt_places.specs.Rows.{holds, no_place, path_of, place_at}
 use Rattle.dt_places.specs.Tables.{found_in, rows_in}
 use Rattle.dt_places.specs.PlacedTrees.{IsOwner, IsPlacedTree, label_seen}
-use Rattle.dt_places.specs.Shown.{IsShownAt, first_standing, number_at}
+use Rattle.dt_places.specs.Shown.{first_standing, number_at}
 use Rattle.dt_places.specs.Standing.{AreMarked, HasNodesOf, or_at}
 use Rattle.dt_places.proofs.Owners.{one-owner, standing-owner}
 

@@ -73,7 +73,7 @@ module _ {X : Type 0} (nodes : List (Place X)) (found : Found) (are : AreNodeRow
       one-owner nodes found are.table are.grown are.owners (suc j) (suc j) (suc k) (omega arith)
       (standing-owner nodes found are.table are.grown are.owners (suc j) (omega (arith, bj)) hj) (standing-owner nodes found are.table are.grown are.owners (suc k) (omega (arith, bk)) hk) e
 
-  apart-first : (n : ℕ) → n ≤ length nodes → are_apart (first_standing nodes n) ≡ true
+  pub apart-first : (n : ℕ) → n ≤ length nodes → are_apart (first_standing nodes n) ≡ true
   apart-first zero le = refl
   apart-first (suc k) le = by_holds (holds nodes (suc k)) refl (apart-first k (omega (arith, le))) where
     by_holds : (b : Bool) → holds nodes (suc k) ≡ b → are_apart (first_standing nodes k) ≡ true → are_apart (first_standing nodes k ++ (if b then path_of nodes (suc k) ∷ [] else [])) ≡ true

@@ -1,5 +1,5 @@
 -- The properties that stand are put one behind the other.
-use Rattle.std.proofs.Common.{◌≡◌, ◌⊎◌, inl, inr, ℕ, zero, suc, ◌+◌, ◌<◌, ◌≤◌, Bool, true, false, ◌||◌, not, ◌&&◌, List, [], ◌∷◌, ◌++◌, length, map, take, Option, Some, None, IsSome, if◌then◌else◌, nat_le, refl, sym, ap, ap₂, ◌∙◌, subst, append-nil, true≢false, arith}
+use Rattle.std.proofs.Common.{◌≡◌, ◌⊎◌, inl, inr, ℕ, zero, suc, ◌+◌, ◌<◌, ◌≤◌, Bool, true, false, ◌||◌, not, ◌&&◌, List, [], ◌∷◌, ◌++◌, length, map, take, Some, None, IsSome, if◌then◌else◌, nat_le, refl, sym, ap, ap₂, ◌∙◌, subst, append-nil, true≢false, arith}
 use Rattle.std.specs.Prelude.{slice_index_or}
 use Rattle.std.specs.List.{filter, list_any}
 use Rattle.std.proofs.lemmas.Bool.{and_parts}
@@ -8,8 +8,7 @@ use Rattle.std.proofs.lemmas.List.Elements.{filter-append}
 use Rattle.dt_meaning.specs.Paths.{Path}
 use Rattle.dt_meaning.specs.Syntax.{Piece}
 use Rattle.dt_meaning.specs.Edits.{Definition, State, definition, is_of, put, with_property}
-use Rattle.dt_meaning.specs.Places.{Row, one_stands, what_stands}
-use Rattle.dt_live.specs.declared.live_tree.LiveTree.{LiveTree}
+use Rattle.dt_meaning.specs.Places.{Row, what_stands}
 use Rattle.dt_live.specs.Rows.{Found, IsLiveTree, state_of}
 use Rattle.dt_live.specs.Rows as live
 use Rattle.dt_live.proofs.NodeRows.{absent-present, some-is}
@@ -17,11 +16,11 @@ use Rattle.dt_places.specs.declared.place.Place.{Place}
 use Rattle.dt_places.specs.declared.placed_tree.PlacedTree.{PlacedTree}
 use Rattle.dt_places.specs.declared.shown.Shown.{Shown}
 use Rattle.dt_places.specs.Rows.{holds, is_made, is_there, made_at, no_place, path_of, place_at}
-use Rattle.dt_places.specs.Tables.{HasKey, IsBehind, IsTable, found_in, rows_in}
-use Rattle.dt_places.specs.PlacedTrees.{IsOwner, IsPlacedTree, property_seen, value_read}
-use Rattle.dt_places.specs.Shown.{AreNumbered, AreShown, IsShownAt}
+use Rattle.dt_places.specs.Tables.{HasKey, IsBehind, found_in, rows_in}
+use Rattle.dt_places.specs.PlacedTrees.{IsPlacedTree, property_seen, value_read}
+use Rattle.dt_places.specs.Shown.{IsShownAt}
 use Rattle.dt_places.specs.References.{value_made}
-use Rattle.dt_places.specs.Standing.{HasNodesOf, HasProperties, read_with}
+use Rattle.dt_places.specs.Standing.{HasProperties, read_with}
 use Rattle.dt_places.proofs.Chosen.{numbered-same}
 use Rattle.dt_places.proofs.LookedUp.{leb-le}
 use Rattle.dt_places.proofs.Owners.{key-of-row}

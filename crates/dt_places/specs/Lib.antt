@@ -1,3 +1,4 @@
+pub mod AllRead
 pub mod PlacedEdits
 pub mod PlacedTrees
 pub mod References

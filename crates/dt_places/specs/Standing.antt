@@ -1,14 +1,17 @@
 -- What a placed tree leaves when all is read, as a live tree (Devicetree Specification v0.4, section 6.3; where it is silent, dtc 1.6.1,
 -- tried by hand).
-use Rattle.std.specs.Prelude.{◌≡◌, ℕ, ◌+◌, ◌<◌, ◌≤◌, All, Bool, true, false, ◌||◌, List, [], ◌∷◌, ◌++◌, drop, length, map, reverse, take, slice_index_or}
+use Rattle.std.specs.Prelude.{◌≡◌, ℕ, ◌+◌, ◌<◌, ◌≤◌, All, Bool, true, false, ◌||◌, List, [], ◌∷◌, ◌++◌, drop, is_some, length, map, reverse, take, if◌then◌else◌, slice_index_or}
 use Rattle.std.specs.List.{filter, flat_map, list_any}
+use Rattle.std.specs.Str.{bytes_eq}
 use Rattle.dt_meaning.specs.Paths.{Path, same_path}
 use Rattle.dt_meaning.specs.Syntax.{Piece}
 use Rattle.dt_meaning.specs.Edits.{Definition, definition, Label, labelled_at, State}
 use Rattle.dt_meaning.specs.Places.{what_stands}
-use Rattle.dt_meaning.specs.DtcStatements.{same_label}
+use Rattle.dt_meaning.specs.DtcStatements.{label_twice, same_label}
 use Rattle.dt_meaning.specs.References.{preorder}
+use Rattle.dt_live.specs.declared.index.Index.{Index}
 use Rattle.dt_live.specs.declared.live_tree.LiveTree.{LiveTree}
+use Rattle.dt_live.specs.Index.{row_of}
 use Rattle.dt_live.specs.Rows.{IsNode, is_standing, state_of}
 use Rattle.dt_live.specs.Rows as live
 use Rattle.dt_places.specs.declared.placed_tree.PlacedTree.{PlacedTree}
@@ -72,6 +75,10 @@ ordered_labels d =
     let worn = reverse (what_stands (map (label_seen (rows_in d.nodes)) (rows_in d.labels))) in
     flat_map (λ p. filter (λ l. same_path p l.path) worn) (preorder (first_standing (rows_in d.nodes) (length (rows_in d.nodes))))
 
+-- those of them that are shown: without a root none is
+abbrev pub shown_labels : {V : Type 0} → PlacedTree V → List Label
+shown_labels d = if d.begun then ordered_labels d else []
+
 -- their rows in that order
 pub record AreOrdered {V : Type 0} (d : PlacedTree V) (rows : List ℕ) : Type 0 where
   pub worn : All (IsWornRow d) rows
@@ -85,3 +92,22 @@ GivesLabel d row old new =
 -- one of the labels so far is the same word
 abbrev pub is_taken : {V : Type 0} → PlacedTree V → ℕ → List Label → Bool
 is_taken d row ls = list_any (same_label (label_of d row)) ls
+
+-- ---- a label at two nodes
+-- the labels of the first rows that stand
+abbrev pub first_worn : {V : Type 0} → PlacedTree V → ℕ → List Label
+first_worn d n = what_stands (map (label_seen (rows_in d.nodes)) (take n (rows_in d.labels)))
+
+-- the labels that stand, in the order of their places
+abbrev pub worn_labels : {V : Type 0} → PlacedTree V → List Label
+worn_labels d = what_stands (map (label_seen (rows_in d.nodes)) (rows_in d.labels))
+
+-- no two of the first are the same word, and at the node 0 an index has their words alone
+pub record AreNoted {V : Type 0} (d : PlacedTree V) (n : ℕ) (words : Index) : Type 0 where
+  pub once : label_twice (first_worn d n) ≡ false
+  pub listed : (word : List ℕ) → is_some (row_of words 0 word) ≡ list_any (λ l. bytes_eq word l.label) (first_worn d n)
+
+-- ---- all that stands
+-- a state whose values are read
+abbrev pub state_read : {V : Type 0} → (V → List Piece) → State V → State (List Piece)
+state_read read s = record { nodes = s.nodes; properties = read_with read s.properties; labels = s.labels; fragments = s.fragments }

@@ -32,7 +32,7 @@ impl<'d, V: Copy> PlacedTree<'d, V> {
     }
 
     // Whether a row of a label stands.
-    fn is_worn(&self, row: usize) -> bool
+    pub(crate) fn is_worn(&self, row: usize) -> bool
         requires sound { IsPlacedTree self.now }
         requires known { row < length (rows_in self.now.labels) }
         ensures { result ≡ is_there (rows_in self.now.nodes) (place_at (rows_in self.now.labels) row) }

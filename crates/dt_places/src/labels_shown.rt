@@ -32,7 +32,11 @@ impl<'d, V: Copy> PlacedTree<'d, V> {
         }
     }
     // Gives the labels of rows that stand, in order, unless one of them is a label of two nodes.
-    fn show_words(&self, shown: &mut Shown<'d, V>, rows: &[usize]) -> Result<(), LabelError>
+    pub(crate) fn show_words(
+        &self,
+        shown: &mut Shown<'d, V>,
+        rows: &[usize],
+    ) -> Result<(), LabelError>
         requires sound { IsPlacedTree self.now }
         requires worn { All (IsWornRow self.now) rows.now }
         requires shown { HasNodesOf self.now shown.old }

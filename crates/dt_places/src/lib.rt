@@ -5,6 +5,7 @@ mod error;
 mod label_order;
 mod labelled;
 mod labels;
+mod labels_once;
 mod labels_shown;
 mod looks;
 mod marks;

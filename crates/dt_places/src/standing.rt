@@ -1,16 +1,21 @@
 //! What stands when all is read.
-ghost use Rattle.std.specs.Prelude.{◌≡◌, ◌+◌, ◌<◌, Bool, IfOk, OnOk, length};
+ghost use Rattle.std.specs.Prelude.{◌≡◌, ◌+◌, ◌<◌, [], Bool, IfOk, IsErrOf, OnOk, false, length, true};
 ghost use Rattle.dt_meaning.specs.DtcEdits.{ever_labelled};
+ghost use Rattle.dt_meaning.specs.DtcStatements.{label_twice};
 ghost use Rattle.dt_meaning.specs.Paths.{Path, is_listed};
 ghost use Rattle.dt_meaning.specs.Syntax.{Piece};
 ghost use Rattle.std.specs.Prelude.{List};
+ghost use Rattle.dt_live.specs.Rows.{state_of};
+ghost use Rattle.dt_places.specs.AllRead.{ShowsTree};
 ghost use Rattle.dt_places.specs.PlacedTrees.{IsOwner, IsPlacedTree, dtc_tree, node_path};
-ghost use Rattle.dt_places.specs.Standing.{AreMarked, HasNodesOf, HasProperties, or_at};
+ghost use Rattle.dt_places.specs.Standing.{AreMarked, HasNodesOf, HasProperties, or_at, shown_labels, worn_labels};
 ghost use Rattle.dt_places.specs.Tables.{found_in, rows_in};
 
 use crate::placed_tree::PlacedTree;
-use crate::shown::Shown;
+use crate::shown::{Shown, show_nodes};
+use dt_live::LabelError;
 use std::alloc::{AllocError, Global};
+use std::hash::RandomState;
 
 impl<'d, V: Copy> PlacedTree<'d, V> {
     // Shows the property of a row, if it stands.
@@ -44,6 +49,44 @@ impl<'d, V: Copy> PlacedTree<'d, V> {
             self.show_property(shown, row)?;
         }
         Ok(())
+    }
+
+    // Gives the labels that stand, in the order of the symbols.
+    fn show_labels(
+        &self,
+        alloc: Global,
+        hasher: RandomState,
+        shown: &mut Shown<'d, V>,
+    ) -> Result<(), LabelError>
+        requires sound { IsPlacedTree self.now }
+        requires shown { HasNodesOf self.now shown.old }
+        requires unlabelled { (state_of shown.old.live).labels ≡ [] }
+        ensures shown { OnOk result (HasNodesOf self.now shown.new) }
+        ensures labels { OnOk result ((state_of shown.new.live).labels ≡ shown_labels self.now) }
+        ensures properties { OnOk result ((state_of shown.new.live).properties ≡ (state_of shown.old.live).properties) }
+        ensures refused { IsErrOf result LabelError.DuplicateLabel → label_twice (worn_labels self.now) ≡ true }
+    {
+        if !self.begun {
+            return Ok(());
+        }
+        let rows = self.label_order(alloc, hasher)?;
+        self.show_words(shown, rows.as_slice())
+    }
+
+    /// What stands when all is read: nodes and properties in the order of their places, labels in that of the symbols. Refused
+    /// exactly where a label stands at two nodes.
+    pub fn stand(&self, alloc: Global, hasher: RandomState) -> Result<Shown<'d, V>, LabelError>
+        requires sound { IsPlacedTree self.now }
+        ensures once { OnOk result (label_twice (worn_labels self.now) ≡ false) }
+        ensures shown { IfOk result (HasNodesOf self.now) }
+        ensures tree { IfOk result (ShowsTree self.now) }
+        ensures refused { IsErrOf result LabelError.DuplicateLabel → label_twice (worn_labels self.now) ≡ true }
+    {
+        let mut shown: Shown<'d, V> = show_nodes(alloc, hasher, &self.nodes)?;
+        self.show_properties(&mut shown)?;
+        self.check_labels(alloc, hasher)?;
+        self.show_labels(alloc, hasher, &mut shown)?;
+        Ok(shown)
     }
 
     // Marks a node, where it stands.

@@ -6,7 +6,7 @@ use Rattle.dt_lexeme.specs.declared.lexeme.ReadError.TheVariants as errors
 use Rattle.dt_lexeme.specs.declared.lexeme.Refusal.{Refusal}
 use Rattle.dt_expression.specs.Reading.{◌>>=◌}
 use Rattle.dt_meaning.specs.Syntax.{Piece}
-use Rattle.dt_source.specs.declared.binary.Binary.{Binary}
+use Rattle.dt_lexeme.specs.declared.binary.Binary.{Binary}
 use Rattle.dt_source.specs.declared.tree.Part.{Part}
 use Rattle.dt_source.specs.Filled.{Filled, filled_piece, filled_each, is_stored, holds_file, filled_value}
 use Rattle.dt_source.specs.Pieces.{joined}

@@ -3,7 +3,7 @@ use Rattle.std.specs.Prelude.{ℕ, Bool, true, false, ◌||◌, ◌==◌, List, 
 use Rattle.dt_lexeme.specs.declared.lexeme.Refusal.{Refusal}
 use Rattle.dt_expression.specs.Reading.{◌>>=◌}
 use Rattle.dt_meaning.specs.Syntax.{Piece, Plain, PhandleOf, PathOf, Stored, Entry, Defines, Undefines, Child, Removes, Body, Done, Then, Edit, Rooted, Extends, Deletes, Omits, Meaning}
-use Rattle.dt_source.specs.declared.binary.Binary.{Binary}
+use Rattle.dt_lexeme.specs.declared.binary.Binary.{Binary}
 use Rattle.dt_source.specs.Parse.{no_lexeme}
 use Rattle.dt_source.specs.Pieces.{joined}
 

@@ -5,6 +5,7 @@ use Rattle.dt_lexeme.specs.declared.lexeme.Fault.{Fault}
 use Rattle.dt_lexeme.specs.declared.lexeme.FaultKind.TheVariants.{BadBits}
 use Rattle.dt_lexeme.specs.declared.lexeme.Kind.{Kind}
 use Rattle.dt_lexeme.specs.declared.lexeme.Kind.TheVariants.{PathReference}
+use Rattle.dt_lexeme.specs.Fronts.{path_of}
 use Rattle.dt_expression.specs.declared.elements.Width.{Width}
 use Rattle.dt_expression.specs.declared.elements.Width.TheVariants.{ThirtyTwo}
 use Rattle.dt_source.specs.declared.cell.Cell.{Cell}
@@ -14,7 +15,7 @@ use Rattle.dt_expression.specs.Element.{bytes_in, width_of, low_bytes, element}
 use Rattle.dt_meaning.specs.Syntax.{Target, OfLabel, OfPath, Piece, Plain, PhandleOf, Stored}
 
 abbrev pub target_by : List ℕ → Lexeme → Kind → Target
-target_by text l PathReference = OfPath (slice_range text (l.start + 2) (l.end - 1))
+target_by text l PathReference = OfPath (path_of (slice_range text (l.start + 2) (l.end - 1)))
 target_by text l _ = OfLabel (slice_range text (l.start + 1) l.end)
 
 -- what a reference names: behind & a label, or a path in braces

@@ -8,10 +8,9 @@ ghost use Rattle.dt_source.specs.Reading.Values.{built};
 ghost use Rattle.dt_source.specs.Reading.Filling.{put_filled};
 ghost use Rattle.dt_source.specs.Tree.{part_view, view, views, item_view};
 
-use crate::binary::Binary;
 use crate::parts::Parts;
 use crate::tree::{FilePart, Item, Part, Statement};
-use dt_lexeme::{ReadError, Refusal, RefusalKind};
+use dt_lexeme::{Binary, ReadError, Refusal, RefusalKind};
 use std::alloc::{AllocError, Global};
 use std::mem;
 use std::vec::IntoIter;

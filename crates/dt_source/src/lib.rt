@@ -3,7 +3,6 @@
 //! The Devicetree Specification v0.4, chapter 6, is their grammar.
 #![tactic(auto)]
 
-mod binary;
 mod body;
 mod cell;
 mod cells;
@@ -26,8 +25,8 @@ mod spelling;
 mod string;
 mod tree;
 
-pub use binary::Binary;
 pub use body::MAX_BODY_DEPTH;
+pub use dt_lexeme::Binary;
 pub use error::{SourceError, SourceErrorKind};
 pub use labels::Labels;
 pub use lawful::{bodies_are_lists, says_lawful};

@@ -6,6 +6,7 @@ ghost use Rattle.dt_source.specs.Pieces.{target_of, reference_fault};
 use crate::string::bytes_between;
 use crate::tree::Reference;
 use dt_expression::Width;
+use dt_lexeme::fronts::path_of;
 use dt_lexeme::{Fault, FaultKind, Kind, Lexeme};
 
 /// What a reference names.
@@ -13,11 +14,11 @@ pub(crate) fn target(text: &[u8], l: Lexeme) -> Reference<'_>
     ensures { target_view result ≡ target_of text.now l }
 {
     match l.kind {
-        Kind::PathReference => Reference::Path(bytes_between(
+        Kind::PathReference => Reference::Path(path_of(bytes_between(
             text,
             l.start as usize + 2,
             (l.end as usize).saturating_sub(1),
-        )),
+        ))),
         _ => Reference::Label(bytes_between(text, l.start as usize + 1, l.end as usize)),
     }
 }

@@ -1,12 +1,12 @@
 //! Strings and pairs of hex digits, as bytes.
 ghost use Rattle.std.specs.Prelude.{◌≡◌, ◌<◌, ◌≤◌, ◌+◌, ◌^◌, ◌++◌, length, drop, slice_range};
-ghost use Rattle.std.specs.Prelude.{IfOk, OnOk, IfSome, option_map};
-ghost use Rattle.dt_source.specs.Strings.{escape_of, digit_at, octal_byte, octal_at, hex_at, escape_at, pair_byte};
+ghost use Rattle.std.specs.Prelude.{IfOk, OnOk};
+ghost use Rattle.dt_source.specs.Strings.{pair_byte};
 ghost use Rattle.dt_source.specs.Strings.{char_step, char_fault, char_number, string_bytes, string_faults};
 ghost use Rattle.dt_source.specs.Reading.Several.{earlier};
 ghost use Rattle.dt_source.specs.Order.{first_of};
 
-use dt_expression::{bytes_of, digit_of};
+use dt_expression::{bytes_of, digit_of, escape};
 use dt_lexeme::{Fault, FaultKind, Language, Lexeme};
 use std::alloc::{AllocError, Global};
 
@@ -33,101 +33,6 @@ pub(crate) fn earlier(a: Option<Fault>, b: Option<Fault>) -> Option<Fault>
     match a {
         None => b,
         Some(fault) => Some(fault),
-    }
-}
-
-// What a backslash before this byte stands for, where it is neither a digit nor x.
-fn escape_of(c: u8) -> u8
-    ensures { result ≡ escape_of c }
-{
-    match c {
-        b'a' => 7,
-        b'b' => 8,
-        b't' => 9,
-        b'n' => 10,
-        b'v' => 11,
-        b'f' => 12,
-        b'r' => 13,
-        _ => c,
-    }
-}
-
-fn digit(base: u8, s: &[u8]) -> Option<(u8, &[u8])>
-    ensures gives { option_map (λ x. (x.0, x.1.now)) result ≡ digit_at base s.now }
-    ensures small { IfSome result (λ x. x.0 < base) }
-{
-    match s {
-        [] => None,
-        [c, rest @ ..] => {
-            let number = digit_of(*c);
-            if number < base {
-                Some((number, rest))
-            } else {
-                None
-            }
-        }
-    }
-}
-
-// The byte of an octal number, of which dtc keeps the low eight bits.
-fn octal_byte(language: Language, number: u16) -> Option<u8>
-    ensures { result ≡ octal_byte language number }
-{
-    match language {
-        Language::Profile => {
-            if number < 256 {
-                Some(number as u8)
-            } else {
-                None
-            }
-        }
-        Language::Dtc => Some((number % 256) as u8),
-    }
-}
-
-fn octal(language: Language, a: u8, s: &[u8]) -> (Option<u8>, usize)
-    requires { a < 8 }
-    ensures { result ≡ octal_at language a s.now }
-{
-    match digit(8, s) {
-        None => (Some(a), 1),
-        Some((b, s)) => match digit(8, s) {
-            None => (Some(a * 8 + b), 2),
-            Some((c, _)) => {
-                let number = (a as u16 * 8 + b as u16) * 8 + c as u16;
-                (octal_byte(language, number), 3)
-            }
-        },
-    }
-}
-
-fn hex(s: &[u8]) -> (Option<u8>, usize)
-    ensures { result ≡ hex_at s.now }
-{
-    match digit(16, s) {
-        None => (None, 1),
-        Some((a, s)) => match digit(16, s) {
-            None => (Some(a), 2),
-            Some((b, _)) => (Some(a * 16 + b), 3),
-        },
-    }
-}
-
-// What stands behind a backslash: its byte, where it stands for one, and how many bytes it has.
-fn escape(language: Language, s: &[u8]) -> (Option<u8>, usize)
-    ensures { result ≡ escape_at language s.now }
-{
-    match s {
-        [] => (None, 0),
-        [c, rest @ ..] => {
-            if *c == b'x' {
-                return hex(rest);
-            }
-            match digit(8, s) {
-                None => (Some(escape_of(*c)), 1),
-                Some((a, rest)) => octal(language, a, rest),
-            }
-        }
     }
 }
 

@@ -7,10 +7,9 @@ ghost use Rattle.dt_source.specs.Lawful.{IsLawfulEdit};
 ghost use Rattle.dt_source.specs.Counts.{how_many};
 ghost use Rattle.dt_source.specs.LawfulOnce.{edits_once};
 
-use crate::binary::Binary;
 use crate::filling::fill_items;
 use crate::labels::Labels;
-use dt_lexeme::ReadError;
+use dt_lexeme::{Binary, ReadError};
 use std::alloc::Global;
 
 /// What a reference names: a label, or the path of a node.

@@ -2,7 +2,7 @@
 
 use crate::edits::Walk;
 use crate::table::Table;
-use dt_lexeme::{Kind, Lexeme};
+use dt_lexeme::{Kind, Language, Lexeme};
 use std::alloc::{AllocError, Global};
 use trace_paths::at_path;
 
@@ -14,16 +14,17 @@ pub struct Definitions<'t> {
 }
 
 impl<'t> Definitions<'t> {
-    /// Of a text whose lexemes these are, in the profile or in dtc's language, with its properties of these few names alone. The other
-    /// names are those of its fragments.
+    /// Of a text in this language whose lexemes these are, with its properties of these few names alone. The other names are those of
+    /// its fragments.
     pub fn of(
         alloc: Global,
+        language: Language,
         text: &'t [u8],
         lexemes: &[Lexeme],
         fragments: &'t [Vec<u8>],
         names: &'t [Vec<u8>],
     ) -> Result<Self, AllocError> {
-        let mut walk = Walk::new(alloc, text, fragments)?;
+        let mut walk = Walk::new(alloc, language, text, fragments)?;
         walk.kept = Some(names);
         for (i, lexeme) in lexemes.iter().enumerate() {
             walk.step(i, *lexeme, lexemes)?;

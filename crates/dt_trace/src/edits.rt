@@ -1,17 +1,19 @@
 //! The walk over lexemes: bodies, statements and their edits, in the order of the text.
 
 use crate::culprit::{Culprit, Fault};
+use crate::labels::Labelled;
 use crate::table::Table;
-use dt_lexeme::{Kind, Lexeme};
+use dt_lexeme::{Kind, Language, Lexeme};
 use dt_place::named;
 use std::alloc::{AllocError, Global};
-use trace_paths::{Children, at_path};
+use trace_paths::at_path;
 
-/// A body that is open: the node that it is of, and its number.
+/// A body that is open: the node that it is of, its number, and whether it is the one with which the node begins.
 #[derive(Clone, Copy)]
 pub(crate) struct Open {
     pub node: usize,
     pub number: usize,
+    pub is_first: bool,
 }
 
 /// What was read of a statement.
@@ -26,9 +28,20 @@ pub(crate) enum Statement {
     Valued(usize),
 }
 
+/// What the body of an item is of.
+#[derive(Clone, Copy)]
+pub(crate) enum Target {
+    Root,
+    Node(usize),
+    /// the overlay of a fragment
+    Overlay(usize),
+}
+
 /// A walk over a text's lexemes.
 #[derive(Drop)]
 pub(crate) struct Walk<'t> {
+    pub alloc: Global,
+    pub language: Language,
     pub text: &'t [u8],
     pub table: Table<'t>,
     pub open: Vec<Open>,
@@ -36,8 +49,10 @@ pub(crate) struct Walk<'t> {
     pub plugin: bool,
     /// The properties that are kept, by their names; all, where nothing is said.
     pub kept: Option<&'t [Vec<u8>]>,
+    /// `/omit-if-no-ref/` stands before the statement's name.
+    pub omits: bool,
+    pub target: Option<Target>,
     labels: Vec<usize>,
-    target: Option<usize>,
     bodies: usize,
     fragments: &'t [Vec<u8>],
     made: usize,
@@ -47,18 +62,22 @@ impl<'t> Walk<'t> {
     /// Before the first lexeme. As many names of fragments are lent as there are extensions.
     pub fn new(
         alloc: Global,
+        language: Language,
         text: &'t [u8],
         fragments: &'t [Vec<u8>],
     ) -> Result<Self, AllocError> {
         Ok(Walk {
+            alloc,
+            language,
             text,
-            table: Table::new(alloc)?,
+            table: Table::new(alloc, language)?,
             open: Vec::new(alloc),
             statement: Statement::Fresh,
             plugin: false,
             kept: None,
-            labels: Vec::new(alloc),
+            omits: false,
             target: None,
+            labels: Vec::new(alloc),
             bodies: 0,
             fragments,
             made: 0,
@@ -73,7 +92,8 @@ impl<'t> Walk<'t> {
         }
     }
 
-    fn body(&self) -> usize {
+    /// The number of the innermost body.
+    pub fn body(&self) -> usize {
         match self.open.last() {
             Some(body) => body.number,
             None => 0,
@@ -88,7 +108,8 @@ impl<'t> Walk<'t> {
         }
     }
 
-    fn found(&self, fault: Fault, lexeme: usize, other: Option<usize>) -> Option<Culprit> {
+    /// A fault of a lexeme, and the earlier one that it meets.
+    pub fn found(&self, fault: Fault, lexeme: usize, other: Option<usize>) -> Option<Culprit> {
         Some(Culprit {
             fault,
             lexeme,
@@ -109,16 +130,17 @@ impl<'t> Walk<'t> {
             Kind::Plugin => self.plugin = true,
             Kind::DeleteNode => self.statement = Statement::DeletesNode,
             Kind::DeleteProperty => self.statement = Statement::DeletesProperty,
+            Kind::OmitIfNoRef => self.omits = true,
             Kind::Label => self.label(index)?,
-            Kind::Name => self.name(index, named(self.text, lexeme)),
-            Kind::Equals => return self.property_begins(index, lexemes),
-            Kind::Brace => return self.body_begins(index, lexemes),
+            Kind::Name => return self.name(index, named(self.text, lexeme)),
+            Kind::Equals => return self.property_begins(lexemes),
+            Kind::Brace => return self.body_begins(lexemes),
             Kind::EndBrace => {
                 self.open.pop();
                 self.clear();
             }
             Kind::Semicolon => return self.ends(lexemes),
-            Kind::Slash if self.open.is_empty() => self.target = Some(0),
+            Kind::Slash if self.open.is_empty() => self.target = Some(Target::Root),
             Kind::Reference | Kind::PathReference if self.open.is_empty() => {
                 return self.item(index, lexeme, lexemes);
             }
@@ -130,6 +152,7 @@ impl<'t> Walk<'t> {
     fn clear(&mut self) {
         self.labels.clear();
         self.statement = Statement::Fresh;
+        self.omits = false;
         self.target = None;
     }
 
@@ -141,25 +164,21 @@ impl<'t> Walk<'t> {
         Ok(())
     }
 
-    fn name(&mut self, index: usize, name: &'t [u8]) {
+    fn name(&mut self, index: usize, name: &'t [u8]) -> Result<Option<Culprit>, AllocError> {
         match self.statement {
-            Statement::DeletesNode => {
-                let node = self.node();
-                self.table.remove_child(node, name);
-            }
+            Statement::DeletesNode => self.child_goes(index, name),
             Statement::DeletesProperty => {
-                let node = self.node();
-                self.table.remove_property(node, name);
+                self.property_goes(index, name)?;
+                Ok(None)
             }
-            _ => self.statement = Statement::AfterName(index),
+            _ => {
+                self.statement = Statement::AfterName(index);
+                Ok(None)
+            }
         }
     }
 
-    fn property_begins(
-        &mut self,
-        _index: usize,
-        lexemes: &[Lexeme],
-    ) -> Result<Option<Culprit>, AllocError> {
+    fn property_begins(&mut self, lexemes: &[Lexeme]) -> Result<Option<Culprit>, AllocError> {
         let Statement::AfterName(name) = self.statement else {
             return Ok(None);
         };
@@ -181,40 +200,40 @@ impl<'t> Walk<'t> {
         let Some(lexeme) = lexemes.get(name).copied() else {
             return Ok(None);
         };
-        let (node, body) = (self.node(), self.body());
         let text = named(self.text, lexeme);
         if !self.keeps(text) {
             return Ok(None);
         }
-        match self.table.define_property(node, text, body, name)? {
+        match self.property_comes(name, text)? {
             Some(other) => Ok(self.found(Fault::DuplicateInBody, name, Some(other))),
             None => Ok(None),
         }
     }
 
-    fn keeps(&self, name: &[u8]) -> bool {
+    /// Whether properties of this name are kept.
+    pub fn keeps(&self, name: &[u8]) -> bool {
         match self.kept {
             None => true,
             Some(names) => names.iter().any(|kept| kept.as_slice() == name),
         }
     }
 
-    fn open_body(&mut self, node: usize) -> Result<(), AllocError> {
+    /// Opens a body of a node.
+    pub fn open_body(&mut self, node: usize, is_first: bool) -> Result<(), AllocError> {
         self.bodies = self.bodies.saturating_add(1);
         let number = self.bodies;
-        self.open.push(Open { node, number })?;
+        self.open.push(Open {
+            node,
+            number,
+            is_first,
+        })?;
         self.clear();
         Ok(())
     }
 
-    fn body_begins(
-        &mut self,
-        _index: usize,
-        lexemes: &[Lexeme],
-    ) -> Result<Option<Culprit>, AllocError> {
+    fn body_begins(&mut self, lexemes: &[Lexeme]) -> Result<Option<Culprit>, AllocError> {
         if self.open.is_empty() {
-            let node = self.target.unwrap_or(0);
-            self.open_body(node)?;
+            self.item_begins()?;
             return Ok(None);
         }
         let Statement::AfterName(name) = self.statement else {
@@ -223,37 +242,24 @@ impl<'t> Walk<'t> {
         let Some(lexeme) = lexemes.get(name).copied() else {
             return Ok(None);
         };
-        self.child(name, named(self.text, lexeme), lexemes)
+        self.child_comes(name, named(self.text, lexeme), lexemes)
     }
 
-    fn child(
-        &mut self,
-        index: usize,
-        name: &'t [u8],
-        lexemes: &[Lexeme],
-    ) -> Result<Option<Culprit>, AllocError> {
-        let (parent, body) = (self.node(), self.body());
-        let before = self.table.child_in(parent, name, body);
-        let node = self.table.define_child(parent, name, body, index)?;
-        let mut found = self.give_labels(node, lexemes)?;
-        if found.is_none() {
-            found = match before {
-                Some(other) => self.found(Fault::DuplicateInBody, index, Some(other)),
-                _ if self.table.is_fragment(parent, name) => {
-                    self.found(Fault::ReservedName, index, None)
-                }
-                _ if self.table.is_deepest(parent) => self.found(Fault::TooDeep, index, None),
-                _ => None,
-            };
-        }
-        self.open_body(node)?;
-        Ok(found)
+    fn item_begins(&mut self) -> Result<(), AllocError> {
+        let (node, is_first) = match self.target {
+            None => (0, false),
+            Some(Target::Root) => (0, self.table.make_root()),
+            Some(Target::Node(node)) => (node, false),
+            Some(Target::Overlay(node)) => (node, true),
+        };
+        self.open_body(node, is_first)
     }
 
-    // Gives a node the labels that stand before it.
-    fn give_labels(
+    /// Gives a node the labels that stand before what this lexeme says of it.
+    pub fn give_labels(
         &mut self,
         node: usize,
+        given: usize,
         lexemes: &[Lexeme],
     ) -> Result<Option<Culprit>, AllocError> {
         let mut found = None;
@@ -265,18 +271,39 @@ impl<'t> Walk<'t> {
                 return Ok(found);
             };
             let label = named(self.text, lexeme);
-            match self.table.labelled(label) {
-                Some(other) if other.node != node && found.is_none() => {
-                    found = self.found(Fault::DuplicateLabel, index, Some(other.lexeme));
-                }
-                Some(_) => {}
-                None => self.table.give_label(label, node, index)?,
+            let labelled = Labelled {
+                node,
+                lexeme: index,
+                given,
+                within: self.node(),
+            };
+            let met = self.give_label(label, labelled)?;
+            if found.is_none() {
+                found = met;
             }
         }
         Ok(found)
     }
 
-    // The reference of an extension or a deletion.
+    // In the profile no other node may have the label; in dtc's language that shows when all is read.
+    fn give_label(
+        &mut self,
+        label: &'t [u8],
+        labelled: Labelled,
+    ) -> Result<Option<Culprit>, AllocError> {
+        if self.language == Language::Profile {
+            if let Some(other) = self.table.labelled(label) {
+                if other.node == labelled.node {
+                    return Ok(None);
+                }
+                return Ok(self.found(Fault::DuplicateLabel, labelled.lexeme, Some(other.lexeme)));
+            }
+        }
+        self.table.give_label(self.alloc, label, labelled)?;
+        Ok(None)
+    }
+
+    // The reference of an extension, a deletion or a mark.
     fn item(
         &mut self,
         index: usize,
@@ -285,29 +312,40 @@ impl<'t> Walk<'t> {
     ) -> Result<Option<Culprit>, AllocError> {
         let name = named(self.text, lexeme);
         let is_path = lexeme.kind == Kind::PathReference;
-        let target = match is_path {
-            true => at_path(&self.table, name),
-            false => match self.table.labelled(name) {
-                Some(labelled) => Some(labelled.node),
-                None => None,
-            },
-        };
+        let target = self.target_of(name, is_path);
         if self.statement == Statement::DeletesNode {
             return Ok(self.delete(index, is_path, target));
+        }
+        if self.omits {
+            return Ok(self.mark(index, is_path, target));
         }
         if self.plugin && self.labels.is_empty() && (is_path || target.is_none()) {
             return self.fragment(index);
         }
         match target {
             Some(node) => {
-                self.target = Some(node);
-                self.give_labels(node, lexemes)
+                self.target = Some(Target::Node(node));
+                self.give_labels(node, index, lexemes)
             }
             None => {
                 let found = self.found(unknown(is_path), index, None);
-                self.target = Some(self.loose(index, lexeme)?);
+                let loose = self.loose(index, lexeme)?;
+                self.target = Some(Target::Node(loose));
                 Ok(found)
             }
+        }
+    }
+
+    // The node that a reference names so far.
+    fn target_of(&mut self, name: &'t [u8], is_path: bool) -> Option<usize> {
+        let node = match is_path {
+            true => at_path(&self.table, name)?,
+            false => self.table.labelled(name)?.node,
+        };
+        if self.table.stands(node) {
+            Some(node)
+        } else {
+            None
         }
     }
 
@@ -332,34 +370,24 @@ impl<'t> Walk<'t> {
         }
     }
 
-    // Where a node was defined first.
-    fn first_lexeme(&self, node: usize) -> Option<usize> {
-        match self.table.nodes.get(node) {
-            Some(row) => Some(row.lexeme),
-            None => None,
+    fn mark(&mut self, index: usize, is_path: bool, target: Option<usize>) -> Option<Culprit> {
+        match target {
+            None => self.found(unknown(is_path), index, None),
+            Some(node) => {
+                self.table.mark(node);
+                None
+            }
         }
     }
 
+    // The fragment that a plugin's extension makes.
     fn fragment(&mut self, index: usize) -> Result<Option<Culprit>, AllocError> {
         let Some(name) = self.fragments.get(self.made) else {
             return Ok(None);
         };
         let name = name.as_slice();
         self.made = self.made.saturating_add(1);
-        let found = match self.table.child(0, name) {
-            Some(child) => {
-                let other = self.first_lexeme(child);
-                self.found(Fault::ReservedName, index, other)
-            }
-            None => None,
-        };
-        self.table.take_fragment(name)?;
-        let fragment = self.table.define_child(0, name, 0, index)?;
-        let overlay = self
-            .table
-            .define_child(fragment, b"__overlay__".as_slice(), 0, index)?;
-        self.target = Some(overlay);
-        Ok(found)
+        self.fragment_comes(index, name)
     }
 }
 

@@ -8,8 +8,12 @@
 mod culprit;
 mod definitions;
 mod edits;
+mod labels;
 mod order;
+mod phandles;
+mod places;
 mod references;
+mod statements;
 mod table;
 mod tracing;
 

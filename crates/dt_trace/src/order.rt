@@ -22,7 +22,7 @@ fn siblings_of(alloc: Global, table: &Table<'_>) -> Result<Siblings, AllocError>
     let mut first = vec![in alloc; None; count]?;
     let mut next = vec![in alloc; None; count]?;
     for (node, row) in table.nodes.iter().enumerate().rev() {
-        if row.is_removed || row.parent == node {
+        if row.is_removed || row.parent == node || !table.is_since(row.parent, row.lexeme) {
             continue;
         }
         if let (Some(eldest), Some(sibling)) = (first.get_mut(row.parent), next.get_mut(node)) {
@@ -62,7 +62,8 @@ pub(crate) fn in_order(alloc: Global, table: &Table<'_>) -> Result<Vec<usize>, A
     let mut found = Vec::new(alloc);
     for (row, property) in table.properties.iter().enumerate() {
         let rank = ranks.get(property.node).copied().unwrap_or(0);
-        if rank > 0 && !property.is_removed {
+        let is_there = !property.is_removed && table.is_since(property.node, property.lexeme);
+        if rank > 0 && is_there {
             found.push(Ranked { rank, row })?;
         }
     }

@@ -3,13 +3,12 @@
 use crate::culprit::{Culprit, Fault};
 use crate::edits::{Walk, unknown};
 use crate::order::in_order;
+use crate::phandles::{at_name, is_phandle_name, phandles, values_phandles};
 use crate::table::{Property, Table};
-use dt_expression::primary;
-use dt_lexeme::{Kind, Lexeme};
+use dt_lexeme::{Kind, Language, Lexeme};
 use dt_place::named;
 use dt_tree::MAX_DEPTH;
 use std::alloc::{AllocError, Global};
-use std::collections::BTreeMap;
 use trace_paths::{Children, at_path};
 
 /// The first fault of a source whose edits are done, in the order of the walk.
@@ -23,13 +22,29 @@ pub(crate) fn resolve<'t>(
         return Ok(Some(taken));
     }
     let rows = in_order(alloc, &walk.table)?;
-    if let Some(found) = phandles(alloc, walk, lexemes, rows.as_slice())? {
-        return Ok(Some(found));
-    }
-    if let Some(found) = references(walk, lexemes, rows.as_slice()) {
+    if let Some(found) = of_values(alloc, walk, lexemes, rows.as_slice())? {
         return Ok(Some(found));
     }
     Ok(too_deep(walk, lexemes, rows.as_slice()))
+}
+
+// The first fault of phandles and references: in the profile phandles come first, in dtc's language references.
+fn of_values<'t>(
+    alloc: Global,
+    walk: &Walk<'t>,
+    lexemes: &[Lexeme],
+    rows: &[usize],
+) -> Result<Option<Culprit>, AllocError> {
+    match walk.language {
+        Language::Profile => match phandles(alloc, walk, lexemes, rows)? {
+            Some(found) => Ok(Some(found)),
+            None => Ok(references(walk, lexemes, rows)),
+        },
+        Language::Dtc => match references(walk, lexemes, rows) {
+            Some(found) => Ok(Some(found)),
+            None => values_phandles(alloc, walk, lexemes, rows),
+        },
+    }
 }
 
 // A child of the root whose name the compiler gives.
@@ -56,7 +71,7 @@ fn taken_name(table: &Table<'_>, symbols: bool, plugin: bool) -> Option<Culprit>
 }
 
 /// Whether a node is a child of the root that the compiler writes, or below one.
-fn is_reserved(table: &Table<'_>, node: usize) -> bool {
+pub(crate) fn is_reserved(table: &Table<'_>, node: usize) -> bool {
     let mut above = node;
     for _ in 0..MAX_DEPTH + 2 {
         let Some(row) = table.nodes.get(above) else {
@@ -72,8 +87,8 @@ fn is_reserved(table: &Table<'_>, node: usize) -> bool {
     false
 }
 
-// The lexemes behind a property's name, up to its semicolon.
-fn value_of<'a>(lexemes: &'a [Lexeme], name: usize) -> &'a [Lexeme] {
+/// The lexemes behind a property's name, up to its semicolon.
+pub(crate) fn value_of<'a>(lexemes: &'a [Lexeme], name: usize) -> &'a [Lexeme] {
     let Some(behind) = lexemes.get(name..) else {
         return &[];
     };
@@ -83,110 +98,26 @@ fn value_of<'a>(lexemes: &'a [Lexeme], name: usize) -> &'a [Lexeme] {
     }
 }
 
-// ---- phandles
-
-// The bad phandle or the repeated one.
-fn phandles<'t>(
-    alloc: Global,
-    walk: &Walk<'t>,
-    lexemes: &[Lexeme],
-    rows: &[usize],
-) -> Result<Option<Culprit>, AllocError> {
-    let mut given: BTreeMap<u32, usize> = BTreeMap::new(alloc);
-    for row in rows {
-        let Some(property) = walk.table.properties.get(*row) else {
-            continue;
-        };
-        if property.name != b"phandle".as_slice() || is_reserved(&walk.table, property.node) {
-            continue;
-        }
-        let Some(number) = phandle(walk.text, lexemes, property.lexeme) else {
-            return Ok(Some(at_name(Fault::BadPhandle, property, None)));
-        };
-        if let Some(other) = given.insert(number, property.lexeme)? {
-            return Ok(Some(at_name(Fault::DuplicatePhandle, property, Some(other))));
-        }
-    }
-    Ok(None)
-}
-
-fn at_name(fault: Fault, property: &Property<'_>, other: Option<usize>) -> Culprit {
-    Culprit {
-        fault,
-        lexeme: property.lexeme,
-        other,
-        node: property.node,
-        property: Some(property.lexeme),
-    }
-}
-
-// The number that four plain bytes of a value are, if they are a phandle: one cell, or four bytes in hex.
-fn phandle(text: &[u8], lexemes: &[Lexeme], name: usize) -> Option<u32> {
-    let number = match value_of(lexemes, name) {
-        [_, open, cell @ ..] if open.kind == Kind::Less => one_cell(text, cell)?,
-        [_, open, pairs @ ..] if open.kind == Kind::Square => four_bytes(text, pairs)?,
-        _ => return None,
-    };
-    if number == 0 || number == u32::MAX {
-        None
-    } else {
-        Some(number)
-    }
-}
-
-// What a cell holds, before its bracket.
-fn one_cell(text: &[u8], cell: &[Lexeme]) -> Option<u32> {
-    match primary(text, cell) {
-        Ok((Ok(number), [close])) if close.kind == Kind::Greater => {
-            Some((number & 0xffff_ffff) as u32)
-        }
-        _ => None,
-    }
-}
-
-fn four_bytes(text: &[u8], pairs: &[Lexeme]) -> Option<u32> {
-    let [a, b, c, d, close] = pairs else {
-        return None;
-    };
-    if close.kind != Kind::EndSquare {
-        return None;
-    }
-    Some(u32::from_be_bytes([
-        pair(text, *a)?,
-        pair(text, *b)?,
-        pair(text, *c)?,
-        pair(text, *d)?,
-    ]))
-}
-
-// The byte that two hex digits are.
-fn pair(text: &[u8], lexeme: Lexeme) -> Option<u8> {
-    let [high, low] = named(text, lexeme) else {
-        return None;
-    };
-    Some((hex(*high) << 4) | hex(*low))
-}
-
-fn hex(digit: u8) -> u8 {
-    match digit {
-        b'0'..=b'9' => digit - b'0',
-        b'a'..=b'f' => digit - b'a' + 10,
-        b'A'..=b'F' => digit - b'A' + 10,
-        _ => 0,
-    }
-}
-
 // ---- references
 
 // How far a value was read: inside cells, and inside parentheses there.
 #[derive(Clone, Copy)]
-struct Inside {
-    cells: bool,
-    parens: usize,
+pub(crate) struct Inside {
+    pub cells: bool,
+    pub parens: usize,
 }
 
 impl Inside {
-    fn step(self, kind: Kind) -> Inside {
+    /// Before a value.
+    pub fn new() -> Inside {
+        Inside {
+            cells: false,
+            parens: 0,
+        }
+    }
+
+    /// Behind one more lexeme.
+    pub fn step(self, kind: Kind) -> Inside {
         let Inside { cells, parens } = self;
         match kind {
             Kind::Paren => Inside {
@@ -226,10 +157,7 @@ fn references_of<'t>(
     lexemes: &[Lexeme],
     property: &Property<'t>,
 ) -> Option<Culprit> {
-    let mut inside = Inside {
-        cells: false,
-        parens: 0,
-    };
+    let mut inside = Inside::new();
     for (i, lexeme) in value_of(lexemes, property.lexeme).iter().enumerate() {
         inside = inside.step(lexeme.kind);
         if let Some(fault) = reference(walk, *lexeme, inside.cells) {
@@ -263,11 +191,12 @@ fn reference<'t>(walk: &Walk<'t>, lexeme: Lexeme, cells: bool) -> Option<Fault> 
     }
 }
 
-fn target<'t>(walk: &Walk<'t>, name: &'t [u8], is_path: bool) -> Option<usize> {
+/// The node that a reference names when all is read.
+pub(crate) fn target<'t>(walk: &Walk<'t>, name: &'t [u8], is_path: bool) -> Option<usize> {
     if is_path {
         return at_path(&walk.table, name);
     }
-    match walk.table.labelled(name) {
+    match walk.table.labelled_last(name) {
         Some(labelled) => Some(labelled.node),
         None => None,
     }
@@ -282,7 +211,7 @@ fn too_deep<'t>(walk: &Walk<'t>, lexemes: &[Lexeme], rows: &[usize]) -> Option<C
     }
     for row in rows {
         if let Some(property) = walk.table.properties.get(*row) {
-            if walk.table.is_deepest(property.node) && has_local_fixup(walk, lexemes, property) {
+            if is_fixed_up(walk, property) && has_local_fixup(walk, lexemes, property) {
                 return Some(at_name(Fault::TooDeep, property, None));
             }
         }
@@ -290,17 +219,37 @@ fn too_deep<'t>(walk: &Walk<'t>, lexemes: &[Lexeme], rows: &[usize]) -> Option<C
     None
 }
 
+// Whether local fixups of a property would lie too deep. In dtc's language the number that a node asks for itself has none, and of
+// nodes that `/omit-if-no-ref/` may take out nothing is told.
+fn is_fixed_up(walk: &Walk<'_>, property: &Property<'_>) -> bool {
+    walk.table.is_deepest(property.node)
+        && (walk.language == Language::Profile
+            || !is_phandle_name(property.name) && !is_marked(&walk.table, property.node))
+}
+
+// Whether `/omit-if-no-ref/` counts for a node or one above it.
+fn is_marked(table: &Table<'_>, node: usize) -> bool {
+    let mut below = node;
+    for _ in 0..MAX_DEPTH + 2 {
+        let Some(row) = table.nodes.get(below) else {
+            return false;
+        };
+        if row.is_marked || row.parent == below {
+            return row.is_marked;
+        }
+        below = row.parent;
+    }
+    false
+}
+
 // Whether a property has a resolved reference in cells.
 fn has_local_fixup<'t>(walk: &Walk<'t>, lexemes: &[Lexeme], property: &Property<'t>) -> bool {
-    let mut inside = Inside {
-        cells: false,
-        parens: 0,
-    };
+    let mut inside = Inside::new();
     for lexeme in value_of(lexemes, property.lexeme) {
         inside = inside.step(lexeme.kind);
         if inside.cells && lexeme.kind == Kind::Reference {
-            if target(walk, named(walk.text, *lexeme), false).is_some() {
-                return true;
+            if let Some(node) = target(walk, named(walk.text, *lexeme), false) {
+                return !is_marked(&walk.table, node);
             }
         }
     }

@@ -1,5 +1,7 @@
 //! The nodes, properties and labels that a text defined so far. Node 0 is the root.
 
+use crate::labels::{Labelled, Labels, Twice, is_since, stands};
+use dt_lexeme::Language;
 use dt_tree::MAX_DEPTH;
 use std::alloc::{AllocError, Global};
 use std::collections::{BTreeMap, BTreeSet};
@@ -20,6 +22,8 @@ pub(crate) struct Node<'t> {
     pub depth: usize,
     pub lexeme: usize,
     pub is_removed: bool,
+    /// `/omit-if-no-ref/` counts for it.
+    pub is_marked: bool,
 }
 
 /// A property: its last definition is this lexeme.
@@ -37,7 +41,9 @@ pub(crate) struct Entry {
     pub row: usize,
     pub body: usize,
     pub lexeme: usize,
-    is_there: bool,
+    pub is_there: bool,
+    /// In dtc's language the deletion that keeps another place of this name, before it.
+    pub twin: Option<usize>,
 }
 
 // The row of an entry that is still there.
@@ -56,41 +62,35 @@ fn defined_in(entry: Option<Entry>, body: usize) -> Option<usize> {
     }
 }
 
-/// The node that a label names, and the lexeme that says so.
-#[derive(Clone, Copy, Drop)]
-pub(crate) struct Labelled {
-    pub node: usize,
-    pub lexeme: usize,
-}
-
 /// What a text defined so far.
 #[derive(Drop)]
 pub(crate) struct Table<'t> {
     pub nodes: Vec<Node<'t>>,
     pub properties: Vec<Property<'t>>,
-    children: BTreeMap<Key<'t>, Entry>,
-    names: BTreeMap<Key<'t>, Entry>,
-    pub labels: BTreeMap<&'t [u8], Labelled>,
+    pub children: BTreeMap<Key<'t>, Entry>,
+    pub names: BTreeMap<Key<'t>, Entry>,
+    pub labels: Labels<'t>,
     fragments: BTreeSet<&'t [u8]>,
 }
 
 impl<'t> Table<'t> {
-    /// A tree with a root alone.
-    pub fn new(alloc: Global) -> Result<Self, AllocError> {
+    /// A tree with a root alone, which in dtc's language the first item makes.
+    pub fn new(alloc: Global, language: Language) -> Result<Self, AllocError> {
         let mut nodes = Vec::with_capacity(alloc, 1)?;
         nodes.push(Node {
             parent: 0,
             name: b"".as_slice(),
             depth: 0,
             lexeme: 0,
-            is_removed: false,
+            is_removed: language == Language::Dtc,
+            is_marked: false,
         })?;
         Ok(Table {
             nodes,
             properties: Vec::new(alloc),
             children: BTreeMap::new(alloc),
             names: BTreeMap::new(alloc),
-            labels: BTreeMap::new(alloc),
+            labels: Labels::new(alloc),
             fragments: BTreeSet::new(alloc),
         })
     }
@@ -109,25 +109,15 @@ impl<'t> Table<'t> {
 
     /// Whether a node and all above it are there.
     pub fn stands(&self, node: usize) -> bool {
-        let mut above = node;
-        for _ in 0..MAX_DEPTH + 2 {
-            match self.nodes.get(above) {
-                None => return false,
-                Some(row) => {
-                    if row.is_removed {
-                        return false;
-                    }
-                    if row.parent == above {
-                        return true;
-                    }
-                    above = row.parent;
-                }
-            }
-        }
-        false
+        stands(self.nodes.as_slice(), node)
     }
 
-    fn child_entry(&self, node: usize, name: &'t [u8]) -> Option<Entry> {
+    /// Whether what this lexeme defined in a node is of the node as it was made last.
+    pub fn is_since(&self, node: usize, lexeme: usize) -> bool {
+        is_since(self.nodes.as_slice(), node, lexeme)
+    }
+
+    pub fn child_entry(&self, node: usize, name: &'t [u8]) -> Option<Entry> {
         self.children.get(&Key { node, name }).copied()
     }
 
@@ -137,24 +127,34 @@ impl<'t> Table<'t> {
     }
 
     /// The node that a label names.
-    pub fn labelled(&self, label: &'t [u8]) -> Option<Labelled> {
-        let found = self.labels.get(&label).copied()?;
-        if self.stands(found.node) {
-            Some(found)
-        } else {
-            None
-        }
+    pub fn labelled(&mut self, label: &'t [u8]) -> Option<Labelled> {
+        self.labels.first(self.nodes.as_slice(), label)
+    }
+
+    /// The same where all is read.
+    pub fn labelled_last(&self, label: &'t [u8]) -> Option<Labelled> {
+        self.labels.get(self.nodes.as_slice(), label)
+    }
+
+    /// The labels that nodes have.
+    pub fn standing_labels(&self, alloc: Global) -> Result<Vec<&'t [u8]>, AllocError> {
+        self.labels.standing(alloc, self.nodes.as_slice())
+    }
+
+    /// The label that two nodes have when all is read.
+    pub fn settle_labels(&mut self) -> Option<Twice> {
+        self.labels.settle(self.nodes.as_slice())
     }
 
     /// Gives a label to a node.
     pub fn give_label(
         &mut self,
+        alloc: Global,
         label: &'t [u8],
-        node: usize,
-        lexeme: usize,
+        labelled: Labelled,
     ) -> Result<(), AllocError> {
-        self.labels.insert(label, Labelled { node, lexeme })?;
-        Ok(())
+        self.labels
+            .give(alloc, self.nodes.as_slice(), label, labelled)
     }
 
     /// Whether a fragment had this name.
@@ -177,6 +177,7 @@ impl<'t> Table<'t> {
             depth: 0,
             lexeme,
             is_removed: false,
+            is_marked: false,
         })?;
         Ok(row)
     }
@@ -191,27 +192,56 @@ impl<'t> Table<'t> {
     ) -> Result<usize, AllocError> {
         let row = match self.child(node, name) {
             Some(row) => row,
-            None => {
-                let depth = self.depth(node).saturating_add(1);
-                let row = self.nodes.len();
-                self.nodes.push(Node {
-                    parent: node,
-                    name,
-                    depth,
-                    lexeme,
-                    is_removed: false,
-                })?;
-                row
-            }
+            None => self.add_node(Key { node, name }, lexeme)?,
         };
         let entry = Entry {
             row,
             body,
             lexeme,
             is_there: true,
+            twin: None,
         };
         self.children.insert(Key { node, name }, entry)?;
         Ok(row)
+    }
+
+    /// A new row for the child of this name.
+    pub fn add_node(&mut self, key: Key<'t>, lexeme: usize) -> Result<usize, AllocError> {
+        let row = self.nodes.len();
+        let depth = self.depth(key.node).saturating_add(1);
+        self.nodes.push(Node {
+            parent: key.node,
+            name: key.name,
+            depth,
+            lexeme,
+            is_removed: false,
+            is_marked: false,
+        })?;
+        Ok(row)
+    }
+
+    /// A new row for the property of this name.
+    pub fn add_property(&mut self, key: Key<'t>, lexeme: usize) -> Result<usize, AllocError> {
+        let row = self.properties.len();
+        self.properties.push(Property {
+            node: key.node,
+            name: key.name,
+            lexeme,
+            is_removed: false,
+        })?;
+        Ok(row)
+    }
+
+    /// Where a node was defined first.
+    pub fn lexeme_of(&self, node: usize) -> Option<usize> {
+        Some(self.nodes.get(node)?.lexeme)
+    }
+
+    /// Has `/omit-if-no-ref/` count for a node.
+    pub fn mark(&mut self, node: usize) {
+        if let Some(row) = self.nodes.get_mut(node) {
+            row.is_marked = true;
+        }
     }
 
     /// Takes a node out, if it isn't the root.
@@ -249,7 +279,9 @@ impl<'t> Table<'t> {
     /// The lexeme that defined the property of this name last, if it is there.
     pub fn property(&self, node: usize, name: &'t [u8]) -> Option<usize> {
         match self.names.get(&Key { node, name }) {
-            Some(entry) if entry.is_there => Some(entry.lexeme),
+            Some(entry) if entry.is_there && self.is_since(node, entry.lexeme) => {
+                Some(entry.lexeme)
+            }
             _ => None,
         }
     }
@@ -266,16 +298,7 @@ impl<'t> Table<'t> {
         let known = self.names.get(&key).copied();
         let row = match standing(known) {
             Some(row) => row,
-            None => {
-                let row = self.properties.len();
-                self.properties.push(Property {
-                    node,
-                    name,
-                    lexeme,
-                    is_removed: false,
-                })?;
-                row
-            }
+            None => self.add_property(key, lexeme)?,
         };
         if let Some(property) = self.properties.get_mut(row) {
             property.lexeme = lexeme;
@@ -285,6 +308,7 @@ impl<'t> Table<'t> {
             body,
             lexeme,
             is_there: true,
+            twin: None,
         };
         self.names.insert(key, entry)?;
         Ok(defined_in(known, body))
@@ -293,7 +317,13 @@ impl<'t> Table<'t> {
 
 impl<'t> Children<'t> for Table<'t> {
     fn child(&self, node: usize, name: &'t [u8]) -> Option<usize> {
-        standing(self.child_entry(node, name))
+        let row = standing(self.child_entry(node, name))?;
+        let child = self.nodes.get(row)?;
+        if self.is_since(node, child.lexeme) {
+            Some(row)
+        } else {
+            None
+        }
     }
 }
 

@@ -1,9 +1,9 @@
 //! A text followed from its first lexeme: to a fault, or to a lexeme.
 
-use crate::culprit::Culprit;
+use crate::culprit::{Culprit, Fault};
 use crate::edits::Walk;
 use crate::references::resolve;
-use dt_lexeme::{Kind, Lexeme};
+use dt_lexeme::{Kind, Language, Lexeme};
 use std::alloc::{AllocError, Global};
 use trace_paths::path_of;
 
@@ -41,17 +41,21 @@ pub fn fragment_names(alloc: Global, lexemes: &[Lexeme]) -> Result<Vec<Vec<u8>>,
     Ok(names)
 }
 
-/// The first fault of the edits and references of a text whose lexemes these are, where the walk finds one. The names are
-/// those of its fragments.
+/// The first fault of the edits and references of a text in this language whose lexemes these are, where the walk finds one. The
+/// names are those of its fragments.
 pub fn trace_source<'t>(
     alloc: Global,
+    language: Language,
     text: &'t [u8],
     lexemes: &[Lexeme],
     fragments: &'t [Vec<u8>],
     symbols: bool,
 ) -> Result<Option<Trace<'t>>, AllocError> {
-    let mut walk = Walk::new(alloc, text, fragments)?;
-    let edited = first_of_edits(&mut walk, lexemes)?;
+    let mut walk = Walk::new(alloc, language, text, fragments)?;
+    let edited = match first_of_edits(&mut walk, lexemes)? {
+        Some(culprit) => Some(culprit),
+        None => walk.label_twice(),
+    };
     let found = match edited {
         Some(culprit) => Some(culprit),
         None => resolve(alloc, &walk, lexemes, symbols)?,
@@ -64,7 +68,7 @@ pub fn trace_source<'t>(
                 path: path_of(alloc, &walk.table, culprit.node)?,
                 property: culprit.property,
             },
-            labels: standing_labels(alloc, &walk)?,
+            labels: walk.table.standing_labels(alloc)?,
         })),
     }
 }
@@ -81,24 +85,29 @@ fn first_of_edits<'t>(
     Ok(None)
 }
 
-fn standing_labels<'t>(alloc: Global, walk: &Walk<'t>) -> Result<Vec<&'t [u8]>, AllocError> {
-    let mut labels = Vec::new(alloc);
-    for (label, labelled) in walk.table.labels.iter() {
-        if walk.table.stands(labelled.node) {
-            labels.push(*label)?;
-        }
+impl<'t> Walk<'t> {
+    // A label that two nodes have when all is read. In the profile none does.
+    fn label_twice(&mut self) -> Option<Culprit> {
+        let twice = self.table.settle_labels()?;
+        Some(Culprit {
+            fault: Fault::DuplicateLabel,
+            lexeme: twice.second.lexeme,
+            other: Some(twice.first.lexeme),
+            node: twice.second.within,
+            property: None,
+        })
     }
-    Ok(labels)
 }
 
-/// Whereabouts the lexeme behind these stands.
+/// Whereabouts the lexeme behind these stands, in a text in this language.
 pub fn whereabouts<'t>(
     alloc: Global,
+    language: Language,
     text: &'t [u8],
     lexemes: &[Lexeme],
     fragments: &'t [Vec<u8>],
 ) -> Result<Around, AllocError> {
-    let mut walk = Walk::new(alloc, text, fragments)?;
+    let mut walk = Walk::new(alloc, language, text, fragments)?;
     for (i, lexeme) in lexemes.iter().enumerate() {
         walk.step(i, *lexeme, lexemes)?;
     }

@@ -1,12 +1,15 @@
 //! The engines as dtc's command line calls them.
 
-use dtman_cli::refused_bytes;
-use dtman_dtc::{Compiler, Fault, Texts, layout_bytes};
-use dtman_engine::{Position, compile_bytes, copy_bytes, overlay_bytes, sort_bytes};
+use dt_include::Binary;
+use dtman_diagnosis::dtc_span;
+use dtman_dtc::{Compilation, Compiler, Fault, Texts, layout_bytes};
+use dtman_engine::{
+    DtcOptions, Position, compile_dtc_bytes, copy_bytes, overlay_bytes, sort_bytes,
+};
 use std::alloc::Global;
 use std::hash::RandomState;
 
-/// The compiler of the profile.
+/// The compiler.
 #[derive(Clone, Copy)]
 pub struct Engine;
 
@@ -16,13 +19,22 @@ impl Compiler for Engine {
         alloc: Global,
         hasher: RandomState,
         text: &[u8],
-        symbols: bool,
+        binaries: Vec<Binary>,
+        compilation: Compilation,
     ) -> Result<Vec<u8>, Fault> {
-        match compile_bytes(alloc, hasher, text, symbols) {
+        let Compilation {
+            symbols,
+            boot_processor,
+        } = compilation;
+        let options = DtcOptions {
+            symbols,
+            boot_processor,
+        };
+        match compile_dtc_bytes(alloc, hasher, text, binaries, options) {
             Ok(blob) => Ok(blob),
             Err(fault) => Err(Fault {
                 // Where there is no memory to find them, the line stands alone.
-                bytes: refused_bytes(alloc, text, symbols, fault.number).unwrap_or(None),
+                bytes: dtc_span(alloc, text, symbols, fault.number).unwrap_or(None),
                 ..dtc_fault(fault)
             }),
         }

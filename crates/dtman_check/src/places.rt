@@ -121,6 +121,7 @@ fn spots_of(
     let names = names_of(alloc, findings)?;
     let definitions = Definitions::of(
         alloc,
+        Language::Dtc,
         text,
         lexemes,
         fragments.as_slice(),

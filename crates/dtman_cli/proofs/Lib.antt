@@ -1,3 +1,2 @@
-mod Kept
 mod MetLemmas
 pub mod Making

@@ -10,8 +10,8 @@ use Rattle.dtman_cli.specs.declared.subcommand.Command.TheVariants.{Compile, Ove
 use Rattle.dtman_cli.specs.declared.subcommand.Board.{Board}
 use Rattle.dtman_cli.specs.declared.subcommand.Links.{Links}
 use Rattle.dtman_cli.specs.declared.subcommand.Picture.{Picture}
-use Rattle.dtman_cli.specs.declared.subcommand.Profile.{Profile}
-use Rattle.dtman_cli.specs.declared.subcommand.Profile.TheVariants.{Specification, Dialect}
+use Rattle.dtman_cli.specs.declared.subcommand.Language.{Language}
+use Rattle.dtman_cli.specs.declared.subcommand.Language.TheVariants.{Profile, Dtc}
 use Rattle.dtman_cli.specs.Grammar.{dtman}
 
 -- whether an option without a value was given
@@ -42,10 +42,10 @@ IsText (Some text) id rows = first_of id rows ≡ Some text.now
 abbrev pub texts_of : Text → List Row → List Text
 texts_of id rows = unwrap_or (all_of id rows) []
 
--- dtc's dialect is asked for, with all folders that are named, or it isn't
-abbrev pub IsProfile : Profile → List Row → Type 0
-IsProfile Specification rows = is_on (first_of (codes "dtc") rows) ≡ false
-IsProfile (Dialect folders) rows =
+-- dtc's language is asked for, with all folders that are named, or the profile is
+abbrev pub IsLanguage : Language → List Row → Type 0
+IsLanguage Profile rows = is_on (first_of (codes "dtc") rows) ≡ false
+IsLanguage (Dtc folders) rows =
     (is_on (first_of (codes "dtc") rows) ≡ true) × (map (λ folder. folder.now) folders.items ≡ texts_of (codes "include") rows)
 
 -- whose links are asked for, if any are, and whether strictly
@@ -64,9 +64,9 @@ IsPicture picture rows =
 
 -- the subcommand that was met, with the values of its arguments
 abbrev pub IsMet : Command → Text → List Row → Type 0
-IsMet (Compile source out symbols profile) name rows =
+IsMet (Compile source out symbols language) name rows =
     (name ≡ codes "compile") × (first_of (codes "IN") rows ≡ Some source.now) × (first_of (codes "OUT") rows ≡ Some out.now) × (symbols ≡ is_on (first_of (codes "symbols") rows))
-    × IsProfile profile rows
+    × IsLanguage language rows
 IsMet (Overlay base overlay out) name rows =
     (name ≡ codes "overlay") × (first_of (codes "BASE") rows ≡ Some base.now) × (first_of (codes "OVERLAY") rows ≡ Some overlay.now) × (first_of (codes "OUT") rows ≡ Some out.now)
 IsMet (Dump blob) name rows = (name ≡ codes "dump") × (first_of (codes "IN") rows ≡ Some blob.now)

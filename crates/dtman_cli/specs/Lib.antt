@@ -1,6 +1,6 @@
 pub mod CommandLine
-pub mod Dialect
 pub mod Grammar
 pub mod Making
-pub mod Private
-pub mod Translation
+pub mod Outcome
+pub mod Shortfall
+pub mod UserFault

@@ -1,11 +1,11 @@
 //! Commands that make blobs, or read them: `compile`, `overlay`, `dump`.
 
-use crate::compiling::{Manner, dialect_blob, profile_blob};
+use crate::compiling::{Manner, dtc_blob, profile_blob};
 use crate::diagnosing::{Inputs, file_of};
 use crate::failure::Failure;
 use crate::host::Host;
 use crate::performing::Answer;
-use crate::subcommand::Profile;
+use crate::subcommand::Language;
 use crate::surroundings::Surroundings;
 use dtman_engine::{dump_bytes, overlay_bytes};
 
@@ -15,7 +15,7 @@ pub fn compiled<'a, S: Surroundings, E: Eprint, T>(
     source: &'a str,
     out: &'a str,
     symbols: bool,
-    profile: &Profile<'_>,
+    language: &Language<'_>,
 ) -> Result<Answer<'a>, Failure<'a>> {
     let text = host.source(source)?;
     let hasher = host.seed()?;
@@ -24,10 +24,10 @@ pub fn compiled<'a, S: Surroundings, E: Eprint, T>(
         symbols,
         detail: host.detail,
     };
-    let bytes = match profile {
-        Profile::Specification => profile_blob(host.alloc, hasher, text, manner)?,
-        Profile::Dialect { folders } => {
-            dialect_blob(
+    let bytes = match language {
+        Language::Profile => profile_blob(host.alloc, hasher, text, manner)?,
+        Language::Dtc { folders } => {
+            dtc_blob(
                 host.alloc,
                 hasher,
                 host.surroundings,

@@ -2,8 +2,8 @@
 
 use crate::detail::line_in;
 use dtman_diagnosis::{
-    Diagnosis, before_event, diagnose_blob, diagnose_event, diagnose_overlay, diagnose_plan,
-    diagnose_source, diagnose_text,
+    Diagnosis, before_event, diagnose_blob, diagnose_dtc, diagnose_event, diagnose_overlay,
+    diagnose_plan, diagnose_source, diagnose_text,
 };
 use dtman_engine::{Fault, Position, replay_bytes};
 use std::alloc::{AllocError, Global};
@@ -31,6 +31,11 @@ pub enum Inputs<'a> {
         text: Given<'a>,
         symbols: bool,
     },
+    /// A source in dtc's language with all that it takes in, by the name of the file that is the user's.
+    Whole {
+        text: Given<'a>,
+        symbols: bool,
+    },
     Overlay {
         base: Given<'a>,
         overlay: Given<'a>,
@@ -53,6 +58,9 @@ pub fn diagnosed(alloc: Global, inputs: Inputs<'_>, fault: Fault) -> Result<Diag
     match inputs {
         Inputs::Source { text, symbols } => {
             diagnose_source(alloc, text.name, text.bytes, symbols, number)
+        }
+        Inputs::Whole { text, symbols } => {
+            diagnose_dtc(alloc, text.name, text.bytes, symbols, number)
         }
         Inputs::Overlay { base, overlay } => diagnose_overlay(
             alloc,

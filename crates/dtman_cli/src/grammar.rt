@@ -169,8 +169,8 @@ fn compile<'a>(alloc: Global) -> Result<Command<'a>, AllocError>
     let about = "Compiles a source to a blob";
     let out = "The blob, which is written once all of it is ready";
     let symbols = "Adds the paths of all labelled nodes";
-    let dtc = "Takes dtc's dialect, too";
-    let folder = "Looks for the dialect's files there, too";
+    let dtc = "Takes a source in dtc's language";
+    let folder = "Looks there, too, for files that the source takes in";
     let include = repeated(alloc, "include", 'i', "DIR", "dtc", folder)?;
     let command = named(alloc, "compile", about).arg(required(alloc, "IN", "The source"));
     let command = add_argument(command, required(alloc, "OUT", out));

@@ -3,10 +3,10 @@ ghost use Rattle.std.specs.Prelude.{◌≡◌, IfOk, IfSome, codes, map};
 ghost use Rattle.clap.specs.Words.{app_of, first_of, found_of, rows_of};
 ghost use Rattle.clap.specs.Simple.{subcommand_rows_of};
 ghost use Rattle.dtman_cli.specs.Grammar.{dtman};
-ghost use Rattle.dtman_cli.specs.CommandLine.{AreAsked, AreWorkers, IsBoard, IsMet, IsLinks, IsPicture, IsProfile, IsText, Meets, Says, is_on, texts_of};
+ghost use Rattle.dtman_cli.specs.CommandLine.{AreAsked, AreWorkers, IsBoard, IsMet, IsLanguage, IsLinks, IsPicture, IsText, Meets, Says, is_on, texts_of};
 
 use crate::grammar::grammar;
-use crate::subcommand::{Board, Command, Links, Picture, Profile};
+use crate::subcommand::{Board, Command, Language, Links, Picture};
 use bus_manager::MAX_WORKERS;
 use clap::error::ErrorKind;
 use clap::{ArgMatches, Error};
@@ -74,31 +74,31 @@ fn chosen<'a>(alloc: Global, matches: &ArgMatches<'a>) -> Result<Option<Command<
 fn compile<'a>(alloc: Global, given: &ArgMatches<'a>) -> Result<Option<Command<'a>>, AllocError>
     ensures { IfOk result (λ met. IfSome met (λ command. IsMet command (codes "compile") (rows_of (found_of given.now)))) }
 {
-    let profile = profile(alloc, given)?;
-    Ok(compile_by(profile, given))
+    let language = language(alloc, given)?;
+    Ok(compile_by(language, given))
 }
 
-fn compile_by<'a>(profile: Profile<'a>, given: &ArgMatches<'a>) -> Option<Command<'a>>
-    requires { IsProfile profile (rows_of (found_of given.now)) }
+fn compile_by<'a>(language: Language<'a>, given: &ArgMatches<'a>) -> Option<Command<'a>>
+    requires { IsLanguage language (rows_of (found_of given.now)) }
     ensures { IfSome result (λ command. IsMet command (codes "compile") (rows_of (found_of given.now))) }
 {
     Some(Command::Compile {
         source: given.get_str("IN")?,
         out: given.get_str("OUT")?,
         symbols: is_on(given, "symbols"),
-        profile,
+        language,
     })
 }
 
-/// The profile that is asked for, with the folders of its options.
-fn profile<'a>(alloc: Global, given: &ArgMatches<'a>) -> Result<Profile<'a>, AllocError>
-    ensures { IfOk result (λ profile. IsProfile profile (rows_of (found_of given.now))) }
+/// The language that is asked for, with the folders of its options.
+fn language<'a>(alloc: Global, given: &ArgMatches<'a>) -> Result<Language<'a>, AllocError>
+    ensures { IfOk result (λ language. IsLanguage language (rows_of (found_of given.now))) }
 {
     if !is_on(given, "dtc") {
-        return Ok(Profile::Specification);
+        return Ok(Language::Profile);
     }
     let folders = all_texts(alloc, given, "include")?;
-    Ok(Profile::Dialect { folders })
+    Ok(Language::Dtc { folders })
 }
 
 /// The texts of an argument that may be given again and again.

@@ -1,13 +1,12 @@
 //! What the command line asks for.
 
-/// Which sources are taken.
+/// In which language a source is.
 #[derive(Debug, Drop)]
-pub enum Profile<'a> {
-    /// Those of the profile alone.
-    Specification,
-    /// Those of dtc's dialect, too. Files that they take in are looked for in these folders, behind the folder of the file that
-    /// names them.
-    Dialect { folders: Vec<&'a str> },
+pub enum Language<'a> {
+    /// The profile, which takes nothing in.
+    Profile,
+    /// dtc's. Files that the source takes in are looked for in these folders, behind the folder of the file that names them.
+    Dtc { folders: Vec<&'a str> },
 }
 
 /// Whose device links count: those of Linux, which are asked for by that name, or else those of the table of suppliers.
@@ -45,7 +44,7 @@ pub enum Command<'a> {
         out: &'a str,
         /// Add the node of symbols.
         symbols: bool,
-        profile: Profile<'a>,
+        language: Language<'a>,
     },
     Overlay {
         base: &'a str,

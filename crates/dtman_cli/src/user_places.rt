@@ -1,24 +1,23 @@
-//! Places in the user's files as a diagnosis has them: its locations.
+//! Places in the user's files: a fault's line, and a diagnosis' locations.
+ghost use Rattle.std.specs.Prelude.{◌≡◌};
+ghost use Rattle.dtman_engine.specs.Fault.{fault_value};
+ghost use Rattle.dtman_cli.specs.UserFault.{in_user_file};
 
-use dtc_dialect::{Place, Site, Span, columns_of, line_of};
-use dtman_diagnosis::{Location, copied};
-use std::alloc::{AllocError, Global};
+use dt_include::{Site, user_place};
+use dtman_diagnosis::Location;
+use dtman_engine::{Fault, Position};
 
-/// The location of bytes of a text.
-pub fn text_location(
-    alloc: Global,
-    text: &[u8],
-    place: Place<'_>,
-    span: Span,
-) -> Result<Location, AllocError> {
-    let columns = columns_of(text, span);
-    Ok(Location::Text {
-        file: copied(alloc, place.file)?,
-        line: place.line,
-        column: columns.start,
-        text: copied(alloc, line_of(text, span))?,
-        marked: columns.end.saturating_sub(columns.start),
-    })
+/// A fault of a whole text, at the line of the user's file: that text is what the file of this name comes to.
+pub fn in_user_file(file: &[u8], text: &[u8], fault: Fault) -> Fault
+    ensures { fault_value result ≡ in_user_file file.now text.now (fault_value fault) }
+{
+    match fault.position {
+        Position::Line(line) => Fault {
+            position: Position::Line(user_place(file, text, line).line),
+            ..fault
+        },
+        _ => fault,
+    }
 }
 
 /// The location of words that take something in.

@@ -38,8 +38,17 @@ pub enum Note {
     Alike(Vec<Vec<u8>>),
     /// Where that stands which it meets.
     Earlier(Location),
+    /// Where it is deleted.
+    Deleted(Location),
     /// Where a bracket stands that isn't closed.
     Unclosed(Location),
+    /// Where a body begins that by its indentation should end before what stands there.
+    Indented {
+        opened: Location,
+        before: Location,
+    },
+    /// What is meant by a word.
+    Meant(Vec<u8>),
     /// What must stand there, and the word that does.
     Wanted {
         wanted: &'static str,
@@ -97,6 +106,22 @@ pub enum Subject {
     Escape,
     Punctuation,
     Unclosed,
+    /// A string that goes on in the next line.
+    LongText,
+    /// A property behind a child.
+    BehindChild,
+    /// What is missing behind a lexeme.
+    Missing,
+    /// A word that is no value.
+    Word,
+    /// What dtc's language has, and the profile hasn't.
+    Dialect,
+    /// A literal with a leading 0, and digits that no octal number has.
+    Octal,
+    /// The deletion of what the same body defines.
+    Deletion,
+    /// What was deleted before it was defined.
+    Deleted,
     /// Words that take in a file.
     Inclusion,
     End,

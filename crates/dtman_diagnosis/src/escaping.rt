@@ -36,6 +36,14 @@ pub(crate) fn first_piece(s: &[u8]) -> Option<(Piece<'_>, usize)> {
     }
 }
 
+/// How many bytes the character in front has, or 1 where none is.
+pub(crate) fn character_len(s: &[u8]) -> usize {
+    match character(s) {
+        Some(character) => character.len(),
+        None => 1,
+    }
+}
+
 /// Writes bytes as text.
 pub(crate) fn push_shown(out: &mut String, bytes: &[u8]) -> Result<(), AllocError> {
     let mut left = bytes;

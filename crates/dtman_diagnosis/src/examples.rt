@@ -25,7 +25,7 @@ fn of_text(number: u8) -> Option<&'static str> {
             "error 13 BadBits line 1\nIN:1:21: the width `9` isn't 8, 16, 32 or 64\n  |\n1 | /dts-v1/;/{a=/bits/ 9<1>;};\n  |                     ^\n  = in /, property a\n",
         ),
         14 => Some(
-            "error 14 LiteralRange line 1\nIN:1:15: `08` is no number below 2^64\n  |\n1 | /dts-v1/;/{a=<08>;};\n  |               ^^\n  = in /, property a\n",
+            "error 14 LiteralRange line 1\nIN:1:15: `08` is no octal number, which a leading 0 says that it is\n  |\n1 | /dts-v1/;/{a=<08>;};\n  |               ^^\n  = in /, property a\n",
         ),
         15 => Some(
             "error 15 BadEscape line 1\nIN:1:15: `\\x` is no escape\n  |\n1 | /dts-v1/;/{a=\"\\x\";};\n  |               ^^\n  = in /, property a\n",

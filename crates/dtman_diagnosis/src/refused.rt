@@ -13,15 +13,16 @@ pub(crate) struct Stop {
     pub offset: usize,
 }
 
-/// Where a text is refused whose lexemes these are, up to the place where it breaks off.
+/// Where a text in this language is refused whose lexemes these are, up to the place where it breaks off.
 pub(crate) fn stop_of(
     alloc: Global,
+    language: Language,
     text: &[u8],
     lexemes: &[Lexeme],
     broken: Option<u32>,
 ) -> Result<Option<Stop>, AllocError> {
     let lines = one_a_line(alloc, text, lexemes, broken)?;
-    match parse(alloc, lines.as_slice(), Language::Profile) {
+    match parse(alloc, lines.as_slice(), language) {
         Ok(_) => Ok(None),
         Err(error) => match error.kind {
             SourceErrorKind::NoMemory => Err(AllocError),
@@ -29,7 +30,9 @@ pub(crate) fn stop_of(
             kind => {
                 let index = index_of(text, lexemes, error.line);
                 let offset = match (kind, lexemes.get(index)) {
-                    (SourceErrorKind::BadEscape, Some(lexeme)) => bad_escape(text, *lexeme),
+                    (SourceErrorKind::BadEscape, Some(lexeme)) => {
+                        bad_escape(language, text, *lexeme)
+                    }
                     _ => 0,
                 };
                 Ok(Some(Stop { index, offset }))
@@ -80,11 +83,11 @@ fn index_of(text: &[u8], lexemes: &[Lexeme], line: usize) -> usize {
 }
 
 // Where the first escape stands in a string that is none.
-fn bad_escape(text: &[u8], lexeme: Lexeme) -> usize {
+fn bad_escape(language: Language, text: &[u8], lexeme: Lexeme) -> usize {
     let bytes = bytes_of(text, lexeme);
     let mut escaped = false;
     for (i, b) in bytes.iter().enumerate() {
-        if escaped && is_no_escape(bytes.get(i..).unwrap_or(&[])) {
+        if escaped && is_no_escape(language, bytes.get(i..).unwrap_or(&[])) {
             return i.saturating_sub(1);
         }
         escaped = *b == b'\\' && !escaped;
@@ -92,12 +95,12 @@ fn bad_escape(text: &[u8], lexeme: Lexeme) -> usize {
     0
 }
 
-// Whether what follows a backslash is no escape: `x` without a digit, or an octal number above 255.
-fn is_no_escape(behind: &[u8]) -> bool {
+// Whether what follows a backslash is no escape: `x` without a digit, or in the profile an octal number above 255.
+fn is_no_escape(language: Language, behind: &[u8]) -> bool {
     match behind {
         [b'x', b'0'..=b'9', ..] | [b'x', b'a'..=b'f', ..] | [b'x', b'A'..=b'F', ..] => false,
         [b'x', ..] => true,
-        [b'4'..=b'7', b'0'..=b'7', b'0'..=b'7', ..] => true,
+        [b'4'..=b'7', b'0'..=b'7', b'0'..=b'7', ..] => language == Language::Profile,
         _ => false,
     }
 }

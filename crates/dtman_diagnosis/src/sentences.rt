@@ -30,6 +30,17 @@ fn syntax(kind: Subject) -> Sentence {
         Subject::End => plain("the text ends, and more must follow"),
         Subject::Unclosed => plain("what begins here isn't closed"),
         Subject::Nothing => plain("no lexeme begins here"),
+        Subject::LongText => plain("the string that begins here goes on in the next line"),
+        Subject::BehindChild => of(
+            "",
+            " stands behind a child; properties stand before children",
+        ),
+        Subject::Missing => of("expected ", ""),
+        Subject::Dialect => of("", " is of dtc's language, which `--dtc` reads"),
+        Subject::Word => of(
+            "",
+            " is no value: a value is a string \"..\", <..>, [..] or a reference",
+        ),
         _ => of("", " can't stand here"),
     }
 }
@@ -43,6 +54,13 @@ fn bits(kind: Subject) -> Sentence {
             )
         }
         _ => of("the width ", " isn't 8, 16, 32 or 64"),
+    }
+}
+
+fn literal(kind: Subject) -> Sentence {
+    match kind {
+        Subject::Octal => of("", " is no octal number, which a leading 0 says that it is"),
+        _ => of("", " is no number below 2^64"),
     }
 }
 
@@ -60,13 +78,37 @@ fn reserved(kind: Subject) -> Sentence {
     }
 }
 
+fn doubled(kind: Subject) -> Sentence {
+    match kind {
+        Subject::Label | Subject::Path => {
+            of(
+                "a child of the root has the name of the fragment that ",
+                " makes",
+            )
+        }
+        Subject::Deletion => {
+            of(
+                "the body with which a node begins can't delete ",
+                ", which it defines",
+            )
+        }
+        Subject::Deleted => {
+            of(
+                "",
+                " was deleted in the body with which its node begins, before it was defined there",
+            )
+        }
+        _ => of("the body defines ", " twice"),
+    }
+}
+
 fn of_source(number: u8, kind: Subject) -> Sentence {
     match number {
         10 => syntax(kind),
         11 => of("the element ", " doesn't fit its width"),
         12 => of("", " divides by zero"),
         13 => bits(kind),
-        14 => of("", " is no number below 2^64"),
+        14 => literal(kind),
         15 => of("", " is no escape"),
         16 => depth(kind),
         17 => plain("a source has at most 16,777,216 bytes"),
@@ -75,7 +117,7 @@ fn of_source(number: u8, kind: Subject) -> Sentence {
         22 => of("no node has the path ", ""),
         23 => plain("a phandle is four plain bytes, and neither 0 nor 0xffffffff"),
         24 => plain("another node has this phandle"),
-        25 => of("the body defines ", " twice"),
+        25 => doubled(kind),
         26 => of("cells of a plugin can't refer to the path ", ""),
         27 => reserved(kind),
         28 => of("", " lies deeper than 64 levels"),

@@ -1,20 +1,25 @@
 //! Refusals of sources.
 
+use crate::advice::{Halt, advised, begins_statement};
 use crate::alike::nearest;
 use crate::blobs::of_file_with;
+use crate::brackets::{innermost, misfit_in, unclosed};
 use crate::diagnosis::{Diagnosis, Location, Note, Subject, copied};
-use crate::refused::{Stop, stop_of};
+use crate::hints::{hint, meant};
+use crate::marks::{Mark, mark_stopped, mark_traced, span_of};
+use crate::origins::Origin;
+use crate::refused::stop_of;
+use dt_include::Span;
 use dt_lexeme::{Kind, Language, Lexeme, scan_front};
-use dt_place::{locate, position_of};
+use dt_place::named;
 use dt_source::MAX_SOURCE_LEN;
 use dt_trace::{Around, Culprit, Trace, fragment_names, trace_source, whereabouts};
 use std::alloc::{AllocError, Global};
 
-/// A text that was refused, and the name of its file.
+/// A text that was refused, and by which number.
 #[derive(Clone, Copy)]
 struct Refused<'a> {
-    file: &'a [u8],
-    text: &'a [u8],
+    origin: Origin<'a>,
     number: u8,
 }
 
@@ -26,43 +31,122 @@ pub fn diagnose_source(
     symbols: bool,
     number: u8,
 ) -> Result<Diagnosis, AllocError> {
-    let refused = Refused { file, text, number };
-    if text.len() > MAX_SOURCE_LEN {
-        return refused.whole(alloc);
-    }
-    let (lexemes, broken) = scan_front(alloc, text, Language::Profile)?;
-    match number {
-        10..=16 => refused.spelling(alloc, lexemes.as_slice(), broken),
-        20..=28 => refused.meaning(alloc, lexemes.as_slice(), symbols),
-        38 => of_file_with(alloc, file, number, "its blob would have more"),
-        _ => refused.whole(alloc),
+    let language = Language::Profile;
+    let origin = Origin {
+        language,
+        file,
+        text,
+    };
+    Refused { origin, number }.diagnose(alloc, symbols)
+}
+
+/// The same of a source in dtc's language, with all that it takes in.
+pub fn diagnose_dtc(
+    alloc: Global,
+    file: &[u8],
+    text: &[u8],
+    symbols: bool,
+    number: u8,
+) -> Result<Diagnosis, AllocError> {
+    let language = Language::Dtc;
+    let origin = Origin {
+        language,
+        file,
+        text,
+    };
+    Refused { origin, number }.diagnose(alloc, symbols)
+}
+
+/// The bytes of a source in dtc's language, with all that it takes in, which are refused by this number; none where they aren't known.
+pub fn dtc_span(
+    alloc: Global,
+    text: &[u8],
+    symbols: bool,
+    number: u8,
+) -> Result<Option<Span>, AllocError> {
+    let origin = Origin {
+        language: Language::Dtc,
+        file: b"",
+        text,
+    };
+    let refused = Refused { origin, number };
+    match refused.mark(alloc, symbols)? {
+        Some(mark) => Ok(Some(mark.span)),
+        None => Ok(None),
     }
 }
 
 impl<'a> Refused<'a> {
+    fn diagnose(&self, alloc: Global, symbols: bool) -> Result<Diagnosis, AllocError> {
+        let (text, language) = (self.origin.text, self.origin.language);
+        if text.len() > MAX_SOURCE_LEN {
+            return self.whole(alloc);
+        }
+        let (lexemes, broken) = scan_front(alloc, text, language)?;
+        match self.number {
+            10..=16 => self.spelling(alloc, lexemes.as_slice(), broken),
+            20..=28 => self.meaning(alloc, lexemes.as_slice(), symbols),
+            38 => of_file_with(alloc, self.origin.file, 38, "its blob would have more"),
+            _ => self.whole(alloc),
+        }
+    }
+
+    // The bytes that are refused.
+    fn mark(&self, alloc: Global, symbols: bool) -> Result<Option<Mark<'a>>, AllocError> {
+        let (text, language) = (self.origin.text, self.origin.language);
+        if text.len() > MAX_SOURCE_LEN {
+            return Ok(None);
+        }
+        let (lexemes, broken) = scan_front(alloc, text, language)?;
+        let lexemes = lexemes.as_slice();
+        match self.number {
+            10..=16 => match stop_of(alloc, language, text, lexemes, broken)? {
+                Some(stop) => Ok(mark_stopped(self.origin, self.number, lexemes, broken, stop)),
+                None => Ok(None),
+            },
+            _ => self.mark_of_meaning(alloc, lexemes, symbols),
+        }
+    }
+
+    fn mark_of_meaning(
+        &self,
+        alloc: Global,
+        lexemes: &[Lexeme],
+        symbols: bool,
+    ) -> Result<Option<Mark<'a>>, AllocError> {
+        let (text, language) = (self.origin.text, self.origin.language);
+        let fragments = fragment_names(alloc, lexemes)?;
+        let names = fragments.as_slice();
+        match trace_source(alloc, language, text, lexemes, names, symbols)? {
+            Some(trace) if trace.culprit.fault as u8 == self.number => {
+                Ok(mark_traced(text, lexemes, &trace.culprit))
+            }
+            _ => Ok(None),
+        }
+    }
+
     // The file alone.
     fn whole(&self, alloc: Global) -> Result<Diagnosis, AllocError> {
         Ok(Diagnosis {
             number: self.number,
-            location: Location::File {
-                file: copied(alloc, self.file)?,
-            },
+            location: self.origin.whole(alloc)?,
             kind: Subject::Nothing,
             subject: Vec::new(alloc),
             notes: Vec::new(alloc),
         })
     }
 
-    // The location of bytes of the text.
-    fn location(&self, alloc: Global, start: usize, end: usize) -> Result<Location, AllocError> {
-        let position = position_of(self.text, start);
-        let line = line_around(self.text, start, position.column);
-        Ok(Location::Text {
-            file: copied(alloc, position.file.unwrap_or(self.file))?,
-            line: position.line,
-            column: position.column,
-            text: copied(alloc, line)?,
-            marked: end.saturating_sub(start),
+    // What is marked, or the file alone where nothing is.
+    fn marked(&self, alloc: Global, mark: Option<Mark<'a>>) -> Result<Diagnosis, AllocError> {
+        let Some(mark) = mark else {
+            return self.whole(alloc);
+        };
+        Ok(Diagnosis {
+            number: self.number,
+            location: self.origin.location(alloc, mark.span)?,
+            kind: mark.kind,
+            subject: copied(alloc, mark.subject)?,
+            notes: Vec::new(alloc),
         })
     }
 
@@ -73,10 +157,8 @@ impl<'a> Refused<'a> {
         index: usize,
     ) -> Result<Location, AllocError> {
         match lexemes.get(index) {
-            Some(lexeme) => self.location(alloc, lexeme.start as usize, lexeme.end as usize),
-            None => Ok(Location::File {
-                file: copied(alloc, self.file)?,
-            }),
+            Some(lexeme) => self.origin.location(alloc, span_of(*lexeme)),
+            None => self.origin.whole(alloc),
         }
     }
 
@@ -88,100 +170,95 @@ impl<'a> Refused<'a> {
         lexemes: &[Lexeme],
         broken: Option<u32>,
     ) -> Result<Diagnosis, AllocError> {
-        let Some(stop) = stop_of(alloc, self.text, lexemes, broken)? else {
+        let (text, language) = (self.origin.text, self.origin.language);
+        let Some(stop) = stop_of(alloc, language, text, lexemes, broken)? else {
             return self.whole(alloc);
         };
-        let fragments = fragment_names(alloc, lexemes)?;
         let before = lexemes.get(..stop.index).unwrap_or(lexemes);
-        let mut diagnosis = match lexemes.get(stop.index) {
-            Some(lexeme) => self.lexeme(alloc, lexemes, stop, *lexeme)?,
-            None => self.no_lexeme(alloc, lexemes, broken)?,
+        let halt = Halt {
+            origin: self.origin,
+            lexemes,
+            index: stop.index,
+            start: start_of(text, lexemes, broken, stop.index),
+            bracket: kind_of(lexemes, innermost(alloc, before)?),
         };
-        let around = whereabouts(alloc, self.text, before, fragments.as_slice())?;
+        let refused = mark_stopped(self.origin, self.number, lexemes, broken, stop);
+        let mut diagnosis = self.stopped(alloc, halt, refused)?;
+        let fragments = fragment_names(alloc, lexemes)?;
+        let around = whereabouts(alloc, language, text, before, fragments.as_slice())?;
         self.add_around(alloc, &mut diagnosis, &around, lexemes)?;
-        if self.number == 16 || stop.index >= lexemes.len() {
-            self.add_unclosed(alloc, &mut diagnosis, before)?;
+        if broken.is_none() {
+            self.add_unclosed(alloc, &mut diagnosis, halt)?;
+        }
+        if self.number == 10 {
+            self.add_hints(alloc, &mut diagnosis, halt)?;
         }
         Ok(diagnosis)
     }
 
-    // A lexeme that can't follow, or has a fault.
-    fn lexeme(
+    // What is refused, or what is meant instead. A text without a lexeme ends.
+    fn stopped(
         &self,
         alloc: Global,
-        lexemes: &[Lexeme],
-        stop: Stop,
-        lexeme: Lexeme,
+        halt: Halt<'_>,
+        refused: Option<Mark<'_>>,
     ) -> Result<Diagnosis, AllocError> {
-        let Some(found) = locate(self.text, lexemes, stop.index) else {
-            return self.whole(alloc);
+        let Some(mark) = refused else {
+            let mut diagnosis = self.whole(alloc)?;
+            diagnosis.kind = Subject::End;
+            return Ok(diagnosis);
         };
-        let stopped = (lexeme.start as usize).saturating_add(stop.offset);
-        let (start, end) = match self.number {
-            11 => (
-                found.lexeme.start as usize,
-                element_end(lexemes, stop.index),
-            ),
-            15 => (stopped, stopped.saturating_add(2)),
-            _ => (found.lexeme.start as usize, found.lexeme.end as usize),
-        };
-        let subject = match self.number {
-            13 => found.name,
-            _ => self.text.get(start..end).unwrap_or(&[]),
-        };
-        Ok(Diagnosis {
-            number: self.number,
-            location: self.location(alloc, start, end)?,
-            kind: subject_of(found.lexeme.kind),
-            subject: copied(alloc, subject)?,
-            notes: Vec::new(alloc),
-        })
+        if self.number == 10 {
+            if let Some(advised) = advised(halt, mark.kind) {
+                return self.marked(alloc, Some(advised));
+            }
+        }
+        self.marked(alloc, Some(mark))
     }
 
-    // A byte where no lexeme stands.
-    fn no_lexeme(
-        &self,
-        alloc: Global,
-        lexemes: &[Lexeme],
-        broken: Option<u32>,
-    ) -> Result<Diagnosis, AllocError> {
-        let broken = match broken {
-            Some(broken) => broken as usize,
-            None => self.text.len(),
-        };
-        let (kind, location) = match self.text.get(broken..) {
-            Some([b'"', ..] | [b'/', b'*', ..] | [b'&', b'{', ..]) => (
-                Subject::Unclosed,
-                self.location(alloc, broken, broken.saturating_add(1))?,
-            ),
-            Some([_, ..]) => (
-                Subject::Nothing,
-                self.location(alloc, broken, broken.saturating_add(1))?,
-            ),
-            _ => (
-                Subject::End,
-                self.location_of(alloc, lexemes, lexemes.len().saturating_sub(1))?,
-            ),
-        };
-        Ok(Diagnosis {
-            number: self.number,
-            location,
-            kind,
-            subject: Vec::new(alloc),
-            notes: Vec::new(alloc),
-        })
-    }
-
-    // The innermost bracket that is open behind these lexemes.
+    // The body or bracket that isn't closed: where the text ends, where brackets nest too deep, or where an item stands in a body.
     fn add_unclosed(
         &self,
         alloc: Global,
         diagnosis: &mut Diagnosis,
-        before: &[Lexeme],
+        halt: Halt<'_>,
     ) -> Result<(), AllocError> {
-        if let Some(index) = unclosed(alloc, before)? {
-            let location = self.location_of(alloc, before, index)?;
-            diagnosis.notes.push(Note::Unclosed(location))?;
+        let is_end = diagnosis.kind == Subject::End;
+        if is_end || is_item(halt) {
+            if let Some(misfit) = misfit_in(alloc, self.origin.text, halt.lexemes, halt.index)? {
+                let opened = self.location_of(alloc, halt.lexemes, misfit.opened)?;
+                let before = self.location_of(alloc, halt.lexemes, misfit.before)?;
+                diagnosis.notes.push(Note::Indented { opened, before })?;
+                return Ok(());
+            }
+        }
+        if is_end || self.number == 16 {
+            if let Some(index) = unclosed(alloc, halt.lexemes, halt.index)? {
+                let location = self.location_of(alloc, halt.lexemes, index)?;
+                diagnosis.notes.push(Note::Unclosed(location))?;
+            }
+        }
+        Ok(())
+    }
+
+    // What there is to do.
+    fn add_hints(
+        &self,
+        alloc: Global,
+        diagnosis: &mut Diagnosis,
+        halt: Halt<'_>,
+    ) -> Result<(), AllocError> {
+        if let Some(meant) = meant(alloc, halt, diagnosis.kind)? {
+            diagnosis.notes.push(Note::Meant(meant))?;
+            return Ok(());
+        }
+        if matches!(
+            diagnosis.kind,
+            Subject::Nothing | Subject::Punctuation | Subject::Name | Subject::Literal
+        ) {
+            if let Some(words) = hint(halt) {
+                diagnosis.notes.push(Note::Words(words))?;
+            }
         }
         Ok(())
     }
@@ -194,8 +271,8 @@ impl<'a> Refused<'a> {
         lexemes: &[Lexeme],
     ) -> Result<(), AllocError> {
         let property = match around.property {
-            Some(index) => match locate(self.text, lexemes, index) {
-                Some(found) => Some(copied(alloc, found.name)?),
+            Some(index) => match lexemes.get(index) {
+                Some(lexeme) => Some(copied(alloc, named(self.origin.text, *lexeme))?),
                 None => None,
             },
             None => None,
@@ -215,9 +292,10 @@ impl<'a> Refused<'a> {
         lexemes: &[Lexeme],
         symbols: bool,
     ) -> Result<Diagnosis, AllocError> {
+        let (text, language) = (self.origin.text, self.origin.language);
         let fragments = fragment_names(alloc, lexemes)?;
-        let found = trace_source(alloc, self.text, lexemes, fragments.as_slice(), symbols)?;
-        match found {
+        let names = fragments.as_slice();
+        match trace_source(alloc, language, text, lexemes, names, symbols)? {
             Some(trace) if trace.culprit.fault as u8 == self.number => {
                 self.traced(alloc, lexemes, &trace)
             }
@@ -231,56 +309,84 @@ impl<'a> Refused<'a> {
         lexemes: &[Lexeme],
         trace: &Trace<'_>,
     ) -> Result<Diagnosis, AllocError> {
-        let Some(found) = locate(self.text, lexemes, trace.culprit.lexeme) else {
+        let culprit = &trace.culprit;
+        let Some(lexeme) = lexemes.get(culprit.lexeme).copied() else {
             return self.whole(alloc);
         };
-        let mut diagnosis = Diagnosis {
-            number: self.number,
-            location: self.location(
-                alloc,
-                found.lexeme.start as usize,
-                found.lexeme.end as usize,
-            )?,
-            kind: subject_of(found.lexeme.kind),
-            subject: copied(alloc, found.name)?,
-            notes: Vec::new(alloc),
-        };
+        let mark = mark_traced(self.origin.text, lexemes, culprit);
+        let mut diagnosis = self.marked(alloc, mark)?;
         self.add_around(alloc, &mut diagnosis, &trace.around, lexemes)?;
-        if let Some(other) = trace.culprit.other {
+        if let Some(other) = culprit.other {
             let location = self.location_of(alloc, lexemes, other)?;
-            diagnosis.notes.push(Note::Earlier(location))?;
+            let note = match diagnosis.kind {
+                Subject::Deleted => Note::Deleted(location),
+                _ => Note::Earlier(location),
+            };
+            diagnosis.notes.push(note)?;
+        }
+        let name = named(self.origin.text, lexeme);
+        if self.number == 25 && self.is_dtc(alloc)? {
+            let words = "dtc's language takes that in a body that extends a node: `--dtc` reads it";
+            diagnosis.notes.push(Note::Words(words))?;
         }
         if self.number == 27 {
-            let words = match found.lexeme.kind {
-                Kind::Name => kept_for(found.name),
-                _ => barred(&trace.culprit),
+            let words = match lexeme.kind {
+                Kind::Name => kept_for(name),
+                _ => barred(culprit),
             };
             diagnosis.notes.push(Note::Words(words))?;
         }
         if self.number == 20 && !trace.labels.is_empty() {
-            let alike = nearest(alloc, found.name, trace.labels.as_slice())?;
+            let alike = nearest(alloc, name, trace.labels.as_slice())?;
             diagnosis.notes.push(Note::Alike(alike))?;
         }
         Ok(diagnosis)
     }
 }
 
-// Where the element ends that begins with a lexeme: with its parenthesis, where it begins with one.
-fn element_end(lexemes: &[Lexeme], index: usize) -> usize {
-    let mut parens: usize = 0;
-    let mut end = 0;
-    for lexeme in lexemes.get(index..).unwrap_or(&[]) {
-        end = lexeme.end as usize;
-        match lexeme.kind {
-            Kind::Paren => parens = parens.saturating_add(1),
-            Kind::EndParen => parens = parens.saturating_sub(1),
-            _ => {}
+impl<'a> Refused<'a> {
+    // Whether a text of the profile has no fault of edits or references by the rules of dtc's language.
+    fn is_dtc(&self, alloc: Global) -> Result<bool, AllocError> {
+        if self.origin.language == Language::Dtc {
+            return Ok(false);
         }
-        if parens == 0 {
-            return end;
+        let (text, language) = (self.origin.text, Language::Dtc);
+        if text.len() > MAX_SOURCE_LEN {
+            return Ok(false);
         }
+        let (lexemes, _) = scan_front(alloc, text, language)?;
+        let lexemes = lexemes.as_slice();
+        let fragments = fragment_names(alloc, lexemes)?;
+        let found = trace_source(alloc, language, text, lexemes, fragments.as_slice(), false)?;
+        Ok(found.is_none())
     }
-    end
+}
+
+// The first byte of the lexeme at which reading stops, or of what is none.
+fn start_of(text: &[u8], lexemes: &[Lexeme], broken: Option<u32>, index: usize) -> usize {
+    match (lexemes.get(index), broken) {
+        (Some(lexeme), _) => lexeme.start as usize,
+        (None, Some(broken)) => broken as usize,
+        (None, None) => text.len(),
+    }
+}
+
+fn kind_of(lexemes: &[Lexeme], index: Option<usize>) -> Option<Kind> {
+    Some(lexemes.get(index?)?.kind)
+}
+
+// Whether an item of the text stands where a statement of a body begins.
+fn is_item(halt: Halt<'_>) -> bool {
+    match halt.lexemes.get(halt.index) {
+        Some(lexeme) => {
+            begins_statement(halt)
+                && matches!(
+                    lexeme.kind,
+                    Kind::Reference | Kind::PathReference | Kind::Slash
+                )
+        }
+        None => false,
+    }
 }
 
 // What a name is kept for that a source can't use.
@@ -304,54 +410,5 @@ fn barred(culprit: &Culprit) -> &'static str {
         "a child of the root has the name of the fragment that this makes"
     } else {
         "the root can't be deleted"
-    }
-}
-
-// The bracket that is open innermost behind these lexemes.
-fn unclosed(alloc: Global, lexemes: &[Lexeme]) -> Result<Option<usize>, AllocError> {
-    let mut open: Vec<usize> = Vec::new(alloc);
-    let mut parens: usize = 0;
-    for (i, lexeme) in lexemes.iter().enumerate() {
-        match lexeme.kind {
-            Kind::Brace | Kind::Square => open.push(i)?,
-            Kind::Less if parens == 0 => open.push(i)?,
-            Kind::Paren => {
-                parens = parens.saturating_add(1);
-                open.push(i)?;
-            }
-            Kind::EndParen => {
-                parens = parens.saturating_sub(1);
-                open.pop();
-            }
-            Kind::EndBrace | Kind::EndSquare => {
-                open.pop();
-            }
-            Kind::Greater if parens == 0 => {
-                open.pop();
-            }
-            _ => {}
-        }
-    }
-    Ok(open.last().copied())
-}
-
-// The line of the text round an offset, whose column is known.
-fn line_around(text: &[u8], offset: usize, column: usize) -> &[u8] {
-    let start = offset.saturating_sub(column.saturating_sub(1));
-    let line = text.get(start..).unwrap_or(&[]);
-    let end = line
-        .iter()
-        .position(|c| *c == b'\n' || *c == b'\r')
-        .unwrap_or(line.len());
-    line.get(..end).unwrap_or(line)
-}
-
-fn subject_of(kind: Kind) -> Subject {
-    match kind {
-        Kind::Label | Kind::Reference => Subject::Label,
-        Kind::PathReference => Subject::Path,
-        Kind::Name => Subject::Name,
-        Kind::Literal => Subject::Literal,
-        _ => Subject::Punctuation,
     }
 }

@@ -105,11 +105,20 @@ fn push_note(out: &mut String, note: &Note) -> Result<(), AllocError> {
         Note::In { path, property } => push_around(out, path, property),
         Note::Alike(names) => push_alike(out, names),
         Note::Earlier(location) => push_there(out, "the other one stands at ", location),
+        Note::Deleted(location) => push_there(out, "it is deleted at ", location),
         Note::Unclosed(location) => push_there(
             out,
             "the bracket isn't closed that stands at ",
             location,
         ),
+        Note::Indented { opened, before } => {
+            push_there(out, "by its indentation the body that begins at ", opened)?;
+            push_there(out, " should end before ", before)
+        }
+        Note::Meant(word) => {
+            push_quoted(out, "did you mean ", word)?;
+            out.push_str("?")
+        }
         Note::Fixup(entry) => push_quoted(out, "its entry in __fixups__ is ", entry),
         Note::Stands(line) => {
             out.push_str("before it: ")?;

@@ -1,7 +1,5 @@
 //! The tree that a folder holds (`-I fs`), as Linux shows its own in /proc/device-tree: a folder is a node, a file a property.
 
-use crate::blob::set_boot_cpu;
-use crate::booting::boot_cpu_of;
 use crate::host::{Entry, EntryKind, Host};
 use crate::reports::{Failure, Wrong};
 use dt_blob::{BlobError, write};
@@ -109,6 +107,29 @@ fn node_of<H: Host>(
     Ok(Node::new(alloc, name, properties, children)?)
 }
 
+// The first node of this name below the root.
+fn child_of<'a>(root: &'a Node, name: &[u8]) -> Option<&'a Node> {
+    for child in root.children() {
+        if child.name_bytes() == name {
+            return Some(child);
+        }
+    }
+    None
+}
+
+fn first_reg(root: &Node) -> Option<&[u8]> {
+    let first = child_of(root, b"cpus")?.children().first()?;
+    Some(first.value(b"reg")?.as_slice())
+}
+
+// The processor that boots: the `reg` of the first node in /cpus where that is one cell, else 0.
+fn boot_processor(root: &Node) -> u32 {
+    match first_reg(root) {
+        Some([a, b, c, d]) => u32::from_be_bytes([*a, *b, *c, *d]),
+        _ => 0,
+    }
+}
+
 /// The blob of the tree that a folder holds. The processor that boots is the first below /cpus.
 pub(crate) fn folder_blob<'a, H: Host>(
     alloc: Global,
@@ -119,18 +140,15 @@ pub(crate) fn folder_blob<'a, H: Host>(
         Ok(root) => root,
         Err(error) => return Err(untold(alloc, host, folder, error)),
     };
-    let Ok(tree) = Tree::new(Vec::new(alloc), 0, root) else {
+    let processor = boot_processor(&root);
+    let Ok(tree) = Tree::new(Vec::new(alloc), processor, root) else {
         return Err(Failure::NoInput(folder));
     };
     let Ok(hasher) = host.seed() else {
         return Err(Failure::NoSeed);
     };
     match write(alloc, hasher, &tree) {
-        Ok(mut blob) => {
-            let processor = boot_cpu_of(blob.as_slice());
-            set_boot_cpu(&mut blob, processor);
-            Ok(blob)
-        }
+        Ok(blob) => Ok(blob),
         Err(BlobError::TooLarge) => Err(Failure::TooLong),
         Err(_) => Err(Failure::NoMemory),
     }

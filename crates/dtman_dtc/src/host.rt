@@ -1,7 +1,7 @@
 //! What dtc's command line asks of its surroundings.
 
 use crate::layout::Texts;
-use dtc_dialect::Span;
+use dt_include::{Binary, Span};
 use std::alloc::Global;
 use std::hash::RandomState;
 
@@ -29,7 +29,8 @@ pub struct Entry {
     pub kind: EntryKind,
 }
 
-/// A refusal of the compiler: its number and name, its line in the text that was given, and the bytes of that which are refused.
+/// A refusal of the compiler: its number and name, its line in the text that was given, and the bytes of that which are refused, as
+/// far as they are known.
 #[derive(Clone, Copy, Debug)]
 pub struct Fault {
     pub number: u8,
@@ -56,14 +57,25 @@ pub trait Host {
     fn seed(&mut self) -> Result<RandomState, Unread>;
 }
 
-/// What makes blobs of texts in the profile, texts and copies of blobs, and one blob of two.
+/// How a source is compiled.
+#[derive(Clone, Copy, Debug)]
+pub struct Compilation {
+    /// Whether the paths of all labelled nodes are added.
+    pub symbols: bool,
+    /// The processor that boots; that of the tree where none is named.
+    pub boot_processor: Option<u32>,
+}
+
+/// What makes blobs of sources, texts and copies of blobs, and one blob of two.
 pub trait Compiler {
+    /// The blob of a text in dtc's language, with all that it takes in, and the files that its `/incbin/`s name.
     fn compile(
         &mut self,
         alloc: Global,
         hasher: RandomState,
         text: &[u8],
-        symbols: bool,
+        binaries: Vec<Binary>,
+        compilation: Compilation,
     ) -> Result<Vec<u8>, Fault>;
 
     /// The source of a blob in dtc's layout.

@@ -4,8 +4,8 @@
 #![tactic(auto)]
 
 mod blob;
-mod booting;
 mod checking;
+mod edits;
 mod folder_tree;
 mod host;
 mod layout;
@@ -17,7 +17,7 @@ mod searching;
 mod wording;
 
 pub use checking::run_check;
-pub use host::{Compiler, Entry, EntryKind, Fault, Host, Unread, Unwritten};
+pub use host::{Compilation, Compiler, Entry, EntryKind, Fault, Host, Unread, Unwritten};
 pub use layout::{Texts, layout_bytes};
 pub use options::{Asked, BadWord, Format, Options, Order, Output, Room, read_words};
 pub use overlaying::run_fdtoverlay;

@@ -1,14 +1,13 @@
 //! What is said on standard error, in dtc's way.
 
+use crate::edits::names_edited;
 use crate::host::{Fault, Host};
 use crate::options::BadWord;
 use crate::running::{FAILED, WRONG_TREE};
 use crate::wording::words_of_number;
-use dtc_dialect::{
-    DialectError, Incomplete, Options, Place, Shortfall, Span, columns_of, origin_of, user_place,
-};
+use dt_include::{Incomplete, Place, Shortfall, Span, columns_of, user_place};
+use dt_lexeme::line_of;
 use std::alloc::{AllocError, AllocFailed, Global};
-use std::hash::RandomState;
 
 /// Why a run ended without its output.
 #[derive(Drop)]
@@ -51,62 +50,37 @@ impl<T: Drop> From<AllocFailed<T>> for Failure<'_> {
     }
 }
 
-/// Says that a source isn't taken, and where in its text.
-pub(crate) fn report_dialect<H: Host>(
-    alloc: Global,
-    host: &mut H,
-    text: &[u8],
-    error: &DialectError<'_>,
-) -> Failure<'static> {
-    match error {
-        DialectError::NoMemory => Failure::NoMemory,
-        DialectError::Refused(refusal) => {
-            let told = Told {
-                number: refusal.mistake as u8,
-                name: refusal.mistake.name(),
-                lexeme: lexeme_in(text, refusal.place.span),
-            };
-            let at = located(text, refusal.place);
-            said(Wrong::Text, report_at(alloc, host, Some(at), told))
-        }
-    }
-}
-
-/// A source as the dialect reads it, and the text by which that says it.
-#[derive(Clone, Copy)]
-pub(crate) struct Source<'t> {
-    pub hasher: RandomState,
-    pub options: Options<'t>,
-    pub whole: &'t [u8],
-    pub text: &'t [u8],
-}
-
-/// Says a refusal of the compiler in the text of a source, where it shows in the user's files.
+/// Says a refusal of the compiler in a source with all that it takes in, where it shows in the user's files.
 pub(crate) fn report_source<H: Host>(
     alloc: Global,
     host: &mut H,
-    source: &Source<'_>,
+    file: &[u8],
+    text: &[u8],
     fault: &Fault,
 ) -> Failure<'static> {
-    let (file, text) = (source.options.file, source.text);
     let Some(bytes) = fault.bytes else {
         return report_fault(alloc, host, file, text, fault);
     };
-    match origin_of(alloc, source.hasher, source.options, source.whole, bytes) {
-        Ok(Some(place)) => {
-            let told = Told {
-                number: fault.number,
-                name: fault.name,
-                lexeme: lexeme_in(source.whole, place.span),
-            };
-            let at = located(source.whole, place);
-            said(
-                wrong_in(fault.number),
-                report_at(alloc, host, Some(at), told),
-            )
-        }
-        Err(DialectError::NoMemory) => Failure::NoMemory,
-        _ => report_fault(alloc, host, file, text, fault),
+    let told = Told {
+        number: fault.number,
+        name: fault.name,
+        lexeme: lexeme_in(text, bytes),
+    };
+    let at = located(text, place_of(file, text, bytes));
+    let wrong = match names_edited(alloc, text, bytes) {
+        Ok(true) => Wrong::Text,
+        Ok(false) => wrong_in(fault.number),
+        Err(_) => return Failure::NoMemory,
+    };
+    said(wrong, report_at(alloc, host, Some(at), told))
+}
+
+/// The user's place of bytes of a text.
+fn place_of<'t>(file: &'t [u8], text: &'t [u8], bytes: Span) -> Place<'t> {
+    let line = line_of(text, bytes.start.min(u32::MAX as usize) as u32);
+    Place {
+        span: Some(bytes),
+        ..user_place(file, text, line)
     }
 }
 
@@ -155,10 +129,7 @@ struct Told<'a> {
 }
 
 /// The bytes of a span, where they are text of one line and short enough to be shown.
-fn lexeme_in(text: &[u8], span: Option<Span>) -> &[u8] {
-    let Some(span) = span else {
-        return b"";
-    };
+fn lexeme_in(text: &[u8], span: Span) -> &[u8] {
     match text.get(span.start..span.end) {
         Some(lexeme) if lexeme.len() <= MAX_SHOWN && is_shown(lexeme) => lexeme,
         _ => b"",

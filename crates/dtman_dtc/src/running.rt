@@ -1,17 +1,14 @@
 //! A run of dtc: one input, one output.
 
 use crate::blob::{set_boot_cpu, with_room};
-use crate::booting::boot_cpu_of;
 use crate::checking::checked;
 use crate::folder_tree::folder_blob;
-use crate::host::{Compiler, Host};
+use crate::host::{Compilation, Compiler, Host};
 use crate::layout::Texts;
 use crate::options::{Asked, Format, Options, Order, Output, format_named, read_words};
-use crate::reports::{
-    Failure, Source, fail, report_dialect, report_fault, report_shortfall, report_source,
-};
+use crate::reports::{Failure, fail, report_fault, report_shortfall, report_source};
 use crate::searching::Searching;
-use dtc_dialect::{included, plain, rewrite};
+use dt_include::{Whole, included, plain};
 use std::alloc::Global;
 
 /// The exit status of a run that gave its output.
@@ -213,34 +210,18 @@ pub(crate) fn compiled<H: Host, C: Compiler>(
         return Err(Failure::NoSeed);
     };
     let file = plain(named(options.input).as_bytes());
-    let whole = whole(alloc, host, options, file, source, found)?;
-    let wanted = dtc_dialect::Options {
-        file,
+    let Whole { text, binaries } = whole(alloc, host, options, file, source, found)?;
+    let compilation = Compilation {
         symbols: options.symbols,
+        boot_processor: options.boot_cpu,
     };
-    let text = match rewrite(alloc, hasher, wanted, whole.as_slice()) {
-        Ok(text) => text,
-        Err(error) => return Err(report_dialect(alloc, host, whole.as_slice(), &error)),
-    };
-    match compiler.compile(alloc, hasher, text.as_slice(), options.symbols) {
-        Ok(mut blob) => {
-            let guessed = boot_cpu_of(blob.as_slice());
-            set_boot_cpu(&mut blob, options.boot_cpu.unwrap_or(guessed));
-            Ok(Made { blob, text: whole })
-        }
-        Err(fault) => {
-            let source = Source {
-                hasher,
-                options: wanted,
-                whole: whole.as_slice(),
-                text: text.as_slice(),
-            };
-            Err(report_source(alloc, host, &source, &fault))
-        }
+    match compiler.compile(alloc, hasher, text.as_slice(), binaries, compilation) {
+        Ok(blob) => Ok(Made { blob, text }),
+        Err(fault) => Err(report_source(alloc, host, file, text.as_slice(), &fault)),
     }
 }
 
-/// A source with all that it takes in from other files.
+/// A source with all that it takes in from other files, and the files that its `/incbin/`s name.
 fn whole<H: Host>(
     alloc: Global,
     host: &mut H,
@@ -248,7 +229,7 @@ fn whole<H: Host>(
     file: &[u8],
     source: &[u8],
     found: &mut Vec<Vec<u8>>,
-) -> Result<Vec<u8>, Failure<'static>> {
+) -> Result<Whole, Failure<'static>> {
     let mut files = Searching {
         host,
         folders: options.folders.as_slice(),

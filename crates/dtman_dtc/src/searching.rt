@@ -1,7 +1,7 @@
 //! Files that a source includes, and which of them were read.
 
 use crate::host::Host;
-use dtc_dialect::{Files, Found, Reads, search};
+use dt_include::{Files, Found, Reads, search};
 use std::alloc::{AllocError, Global};
 
 /// Where files are looked for, and those that were found.
@@ -13,7 +13,7 @@ pub(crate) struct Searching<'a, H> {
 
 impl<H: Host> Files for Searching<'_, H> {
     ghost use Rattle.std.specs.Prelude.{ℕ, List};
-    ghost use Rattle.dtc_dialect.specs.Searching.{FindsWithin};
+    ghost use Rattle.dt_include.specs.Searching.{FindsWithin};
 
     // Some folders lead to it: they stand in `self`, of which this knows nothing.
     ghost finds = { λ beside name found.

@@ -1,5 +1,6 @@
 pub mod CompileLemmas
 mod ChannelLemmas
+mod CompileDtcLemmas
 mod CopyLemmas
 mod DumpLemmas
 mod ExplainLemmas
@@ -8,6 +9,7 @@ mod LawLemmas
 mod OneAnswers
 mod OneApplied
 pub mod OneBuilt
+mod OneDtc
 mod OneErrors
 pub mod OverlayLemmas
 mod RunLemmas

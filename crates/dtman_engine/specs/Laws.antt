@@ -2,6 +2,7 @@
 use Rattle.std.specs.Prelude.{◌≡◌, ◌<◌, ◌≤◌, ◌⊎◌, ℕ, Bool, false, List, length}
 use Rattle.dt_lexeme.specs.declared.language.Language.TheVariants.{Profile}
 use Rattle.dt_tree.specs.TreeData.{TreeData, IsTree}
+use Rattle.dt_lexeme.specs.declared.binary.Binary.{Binary}
 use Rattle.dt_source.specs.declared.error.SourceErrorKind.TheVariants.{TooLong}
 use Rattle.dt_source.specs.Parse.{Says}
 use Rattle.dt_meaning.specs.Syntax.{Meaning}
@@ -11,7 +12,9 @@ use Rattle.dt_blob.specs.SourceText.{text_of}
 use Rattle.dt_canonical.specs.Bytes.{HasBytes}
 use Rattle.dt_canonical.specs.Conditions.{IsSourceTree}
 use Rattle.dtman_engine.specs.Compile.{IsCompiled, IsCompileRefusal}
+use Rattle.dtman_engine.specs.CompileDtc.{IsDtcCompiled, IsDtcRefusal, SaysWith}
 use Rattle.dtman_engine.specs.Dump.{CannotPrint, IsDump, IsRefusal}
+use Rattle.dtman_engine.specs.declared.compiling_dtc.DtcOptions.{DtcOptions}
 use Rattle.dtman_engine.specs.Fault.{FaultValue, no_memory}
 use Rattle.dtman_engine.specs.SourceFaults.{source_fault}
 use Rattle.dtman_engine.specs.Limits.{blob_limit, source_limit, IsShort}
@@ -47,8 +50,10 @@ pub record IsOneAnswer (Gives : List ℕ → Type 0) (Refuses : FaultValue → T
   pub faults : (one other : FaultValue) → Refuses one → Refuses other → (one ≡ no_memory) ⊎ (other ≡ no_memory) ⊎ (one ≡ other)
   pub apart : (bytes : List ℕ) (fault : FaultValue) → Gives bytes → Refuses fault → fault ≡ no_memory
 
--- So it is of compiling a text that says something, and of overlays and dumps of bytes that hold trees.
+-- So it is of compiling a text that says something, in dtc's language with its files, and of overlays and dumps of bytes that hold trees.
 pub record OneAnswer : Type 0 where
   pub compiled : (symbols : Bool) (text : List ℕ) (m : Meaning) → IsShort text → Says Profile text m → IsOneAnswer (IsCompiled symbols text) (IsCompileRefusal symbols text)
+  pub compiled_dtc : (options : DtcOptions) (text : List ℕ) (files : List Binary) (m : Meaning) → IsShort text → SaysWith text files m
+      → IsOneAnswer (IsDtcCompiled options text files) (IsDtcRefusal options text files)
   pub overlaid : (base over : List ℕ) (b o : TreeData) → Holds base b → Holds over o → IsOneAnswer (IsOverlaid base over) (IsOverlayRefusal base over)
   pub dumped : (blob : List ℕ) (tree : TreeData) → Holds blob tree → IsOneAnswer (IsDump blob) (IsRefusal blob)

@@ -1,5 +1,6 @@
 pub mod BlobFaults
 pub mod Compile
+pub mod CompileDtc
 pub mod Copy
 pub mod Dump
 pub mod EventFaults

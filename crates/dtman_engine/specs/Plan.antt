@@ -34,10 +34,6 @@ pub record IsPlanned (blob drivers : List ℕ) (plan : List PlannedDevice) : Typ
   pub held : Holds blob tree
   pub planned : planning tree drivers ≡ Ok plan
 
--- there is such a plan
-abbrev pub HasPlan : List ℕ → List ℕ → Type 0
-HasPlan blob drivers = (plan : List PlannedDevice) × IsPlanned blob drivers plan
-
 -- the text of such a plan
 pub record IsPlanText (blob drivers text : List ℕ) : Type 0 where
   pub plan : List PlannedDevice

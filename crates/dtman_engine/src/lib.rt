@@ -3,6 +3,7 @@
 
 mod channel;
 mod compiling;
+mod compiling_dtc;
 mod copying;
 mod dump;
 mod explaining;
@@ -21,6 +22,7 @@ mod transfer;
 
 pub use channel::{Channel, Failed};
 pub use compiling::compile_bytes;
+pub use compiling_dtc::{DtcOptions, compile_dtc_bytes};
 pub use copying::copy_bytes;
 pub use dump::dump_bytes;
 pub use explaining::{Explanation, explain};
@@ -29,7 +31,7 @@ pub use laws::{blobs_come_back, limits_stand, one_answer};
 pub use limits::{MAX_BLOB_LEN, MAX_SOURCE_LEN, MAX_TEXT_LEN};
 pub use memory::Memory;
 pub use overlaying::overlay_bytes;
-pub use planning::{graph_bytes, plan_bytes, planned};
+pub use planning::{plan_bytes, planned};
 pub use probing::probe_bytes;
 pub use replay::replay_bytes;
 pub use replay_run::replay_run_bytes;

@@ -8,11 +8,11 @@ ghost use Rattle.bus_plan.specs.PlanFile.{Answers};
 ghost use Rattle.bus_plan.specs.PlanText.{text_of};
 ghost use Rattle.dtman_engine.specs.Fault.{Tells, fault_value};
 ghost use Rattle.dtman_engine.specs.BlobFaults.{blob_fault};
-ghost use Rattle.dtman_engine.specs.Plan.{planning, HasPlan, IsPlanned, IsPlanText, IsPlanRefusal, Plans, PrintsPlan};
+ghost use Rattle.dtman_engine.specs.Plan.{planning, IsPlanned, IsPlanText, IsPlanRefusal, Plans, PrintsPlan};
 ghost use Rattle.dtman_engine.specs.Private.Printing.{Prints};
 
 use crate::fault::Fault;
-use bus_drivers::{plan, plan_graph, read_drivers};
+use bus_drivers::{plan, read_drivers};
 use bus_plan::{Plan, PlanError, plan_text};
 use dt_blob::read;
 use dt_tree::Tree;
@@ -73,20 +73,4 @@ fn text_of(alloc: Global, plan: &Plan) -> Result<Vec<u8>, Fault>
     ensures { Prints (text_of plan.now) result }
 {
     plan_text(alloc, plan).map_err(|_| Fault::no_memory())
-}
-
-/// The plan as a Graphviz graph in place of its text, refused as that is. What it draws is outside the proved clauses.
-pub fn graph_bytes(
-    alloc: Global,
-    hasher: RandomState,
-    blob: &[u8],
-    drivers: &[u8],
-) -> Result<Vec<u8>, Fault>
-    // What is drawn is a plan of a tree that the bytes hold.
-    ensures answer { IfOk result (λ _. HasPlan blob.now drivers.now) }
-    ensures refused { IfErr result (λ fault. IsPlanRefusal blob.now drivers.now (fault_value fault)) }
-    ensures header { (e : BlobError) → header_fault blob.now ≡ Some e → Tells result (blob_fault e) }
-{
-    let plan = planned(alloc, hasher, blob, drivers)?;
-    plan_graph(alloc, &plan).map_err(|_| Fault::no_memory())
 }

@@ -9,6 +9,8 @@ mod answers;
 #[cfg(test)]
 mod compiling;
 #[cfg(test)]
+mod dtc_rows;
+#[cfg(test)]
 mod engines;
 #[cfg(test)]
 mod great_board;

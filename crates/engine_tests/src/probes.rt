@@ -3,7 +3,7 @@
 use crate::answers::printed;
 use bus_manager::{Prober, TableProber};
 use bus_tests::gate::Gate;
-use dtman_engine::{graph_bytes, plan_bytes, probe_bytes};
+use dtman_engine::{plan_bytes, probe_bytes};
 use std::alloc::Global;
 use std::hash::RandomState;
 use std::process::Abort;
@@ -66,14 +66,6 @@ fn plans_blobs(rt: HostRuntime) {
     for (blob, drivers, wanted) in ROWS {
         is_planned(&rt, rt.alloc(), hasher, *blob, *drivers, *wanted);
     }
-}
-
-#[test]
-fn draws_blobs(rt: HostRuntime) {
-    let hasher = RandomState::new(&rt).expect(&rt, "a seed");
-    let answer = graph_bytes(rt.alloc(), hasher, CLOCK_AND_UART, DRIVERS.as_bytes());
-    let text = printed(&rt, rt.alloc(), answer);
-    assert!(rt; text.starts_with(b"digraph"));
 }
 
 fn is_probed<P: Prober, R: Threads + Sync + Abort>(

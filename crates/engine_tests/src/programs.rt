@@ -1,7 +1,7 @@
 //! What the command line means, and what the program does with files and standard output over memory.
 mod clock_and_uart;
 mod compiling;
-mod dialect;
+mod dtc;
 mod help;
 mod overlaying;
 mod probing;

@@ -52,6 +52,13 @@ fn texts_in_place_of_words(rt: HostRuntime) {
             "'\"' /* /include/ \"one\"",
             &[],
         ),
+        // nor does a character literal, which goes on behind an apostrophe with a backslash before it, where another follows
+        ("'\\' /include/ \"one\" '", "'\\' /include/ \"one\" '", &[]),
+        (
+            "'\\'/include/ \"one\"",
+            "'\\'\n# 1 \"one\"\ny;\n\n# 1 \"a.dts\"\n",
+            &[],
+        ),
     ];
     for row in ROWS {
         comes_to(&rt, rt.alloc(), row);
@@ -77,6 +84,12 @@ fn files_that_are_named(rt: HostRuntime) {
             "u = /incbin/(\"own\");/include/ \"two\"",
             "u = /incbin/(\"own\");\n# 1 \"two\"\n\n# 1 \"one\"\ny;\n\n# 1 \"two\"\nz = /incbin/(\"own\");\n# 1 \"a.dts\"\n",
             &[(4, b"a.dts"), (60, b"two")],
+        ),
+        // the escapes of strings stand in its name
+        (
+            "/incbin/(\"\\x62\\151n\")",
+            "/incbin/(\"\\x62\\151n\")",
+            &[(0, b"\x00\"\xff")],
         ),
         // without a name, in a comment and in a string there is none
         ("/incbin/(bin)", "/incbin/(bin)", &[]),

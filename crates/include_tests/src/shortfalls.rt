@@ -41,6 +41,8 @@ fn words_that_take_nothing_in(rt: HostRuntime) {
         // files that aren't there, and one that takes itself in
         ("\n /include/ \"gone\";", 80, ("a.dts", 2), (2, 18)),
         ("/incbin/(\"gone\")", 80, ("a.dts", 1), (1, 16)),
+        // an `/include/`'s name has no escapes
+        ("/include/ \"\\x6fne\"", 80, ("a.dts", 1), (1, 19)),
         ("/include/ \"low\"", 80, ("low", 2), (17, 33)),
         ("/include/ \"self\"", 16, ("self", 2), (2, 18)),
         // behind words that were taken, and by a line marker

@@ -4,7 +4,11 @@
 #[cfg(test)]
 mod blobs;
 #[cfg(test)]
+mod dtc;
+#[cfg(test)]
 mod examples;
+#[cfg(test)]
+mod mistakes;
 #[cfg(test)]
 mod places;
 #[cfg(test)]

@@ -23,7 +23,7 @@ const SPELLING: &[Row] = &[
         source: "# 1 \"board.dts\"\n/dts-v1/;\n# 1 \"soc.dtsi\" 1\n/ {\n\tsoc {\n\t\ta = <1>\n\t};\n};\n",
         symbols: false,
         number: 10,
-        lines: "error 10 Syntax line 7\nsoc.dtsi:4:2: `}` can't stand here\n  |\n4 | \t};\n  | \t^\n  = in /soc, property a\n",
+        lines: "error 10 Syntax line 7\nsoc.dtsi:3:10: expected `;`\n  |\n3 | \t\ta = <1>\n  | \t\t       ^\n  = in /soc, property a\n",
     },
     Row {
         source: "/dts-v1/;\n/ {\n\tsoc {\n\t\ta;\n\t};\n",
@@ -35,13 +35,13 @@ const SPELLING: &[Row] = &[
         source: "/dts-v1/;\n/ { s = \"abc; };\n",
         symbols: false,
         number: 10,
-        lines: "error 10 Syntax line 2\nboard.i:2:9: what begins here isn't closed\n  |\n2 | / { s = \"abc; };\n  |         ^\n  = in /, property s\n  = the bracket isn't closed that stands at board.i:2:3\n",
+        lines: "error 10 Syntax line 2\nboard.i:2:9: what begins here isn't closed\n  |\n2 | / { s = \"abc; };\n  |         ^\n  = in /, property s\n",
     },
     Row {
         source: "/dts-v1/;\n/ { $; };\n",
         symbols: false,
         number: 10,
-        lines: "error 10 Syntax line 2\nboard.i:2:5: no lexeme begins here\n  |\n2 | / { $; };\n  |     ^\n  = in /\n  = the bracket isn't closed that stands at board.i:2:3\n",
+        lines: "error 10 Syntax line 2\nboard.i:2:5: no lexeme begins here\n  |\n2 | / { $; };\n  |     ^\n  = in /\n",
     },
     Row {
         source: "/dts-v1/;\n/ { a = <1 (0x80000000 * 2) 3>; };\n",
@@ -71,7 +71,7 @@ const SPELLING: &[Row] = &[
         source: "/dts-v1/;\n/ { a = <1 089>; };\n",
         symbols: false,
         number: 14,
-        lines: "error 14 LiteralRange line 2\nboard.i:2:12: `089` is no number below 2^64\n  |\n2 | / { a = <1 089>; };\n  |            ^^^\n  = in /, property a\n",
+        lines: "error 14 LiteralRange line 2\nboard.i:2:12: `089` is no octal number, which a leading 0 says that it is\n  |\n2 | / { a = <1 089>; };\n  |            ^^^\n  = in /, property a\n",
     },
     Row {
         source: "/dts-v1/;\n/ { a = \"b\", \"c\\xyz\"; };\n",

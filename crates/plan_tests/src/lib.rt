@@ -13,8 +13,6 @@ mod drivers;
 #[cfg(test)]
 mod forms;
 #[cfg(test)]
-mod graphs;
-#[cfg(test)]
 mod handles;
 #[cfg(test)]
 mod late_drivers;

@@ -42,6 +42,13 @@ const LEXEMES: &[(&[u8], &[Kind])] = &[
         &[Kind::Character, Kind::Character, Kind::Character],
     ),
     (b"1'b'2", &[Kind::Literal, Kind::Character, Kind::Literal]),
+    // an apostrophe behind a backslash ends a literal only where no other does
+    (b"'\\'", &[Kind::Character]),
+    (b"'\\\\'", &[Kind::Character]),
+    (b"'\\' '", &[Kind::Character]),
+    (b"'\\\\' '", &[Kind::Character]),
+    // a path that ends in a slash
+    (b"&{/b/}&{/}", &[Kind::PathReference, Kind::PathReference]),
     // line markers: with the word `line`, with a tab
     (b"\n#line 5 \"f\"\n;", &[Kind::Semicolon]),
     (b"\n#\t5 \"f\" 1\n;", &[Kind::Semicolon]),
@@ -52,7 +59,16 @@ const LEXEMES: &[(&[u8], &[Kind])] = &[
 ];
 
 // What of these the profile has no lexemes for.
-const LEXEMES_OF_DTC: &[&[u8]] = &[b"'a'", b"\n#line 5 \"f\"\n;", b"\n#\t5 \"f\"\n;", b"'"];
+const LEXEMES_OF_DTC: &[&[u8]] = &[
+    b"'a'",
+    b"\n#line 5 \"f\"\n;",
+    b"\n#\t5 \"f\"\n;",
+    b"'",
+    b"&{/b/}",
+];
+
+// What neither language has lexemes for.
+const NO_LEXEMES: &[&[u8]] = &[b"&{//b}", b"&{/b//}", b"&{//}", b"&{b/}"];
 
 #[test]
 fn lexemes(rt: HostRuntime) {
@@ -63,7 +79,15 @@ fn lexemes(rt: HostRuntime) {
         assert!(rt; text.len() <= 1000);
         assert!(rt; scan(rt.alloc(), *text, Language::Profile).is_err());
     }
+    for text in NO_LEXEMES {
+        assert!(rt; text.len() <= 1000);
+        assert!(rt; scan(rt.alloc(), *text, Language::Profile).is_err());
+        assert!(rt; scan(rt.alloc(), *text, Language::Dtc).is_err());
+    }
     assert!(rt; scan(rt.alloc(), b"'a", Language::Dtc).is_err());
+    // a line end behind a backslash
+    assert!(rt; scan(rt.alloc(), b"\"a\\\nb\"", Language::Dtc).is_err());
+    assert!(rt; are(rt.alloc(), b"\"a\\\nb\"", Language::Profile, &[Kind::Text]));
 }
 
 // Sources, and the bytes that dtc gives their last property.
@@ -85,6 +109,12 @@ const VALUES: &[(&[u8], &[u8])] = &[
     (
         b"/dts-v1/; / { p = <'\\q' '\\0'>; };",
         &[0, 0, 0, 113, 0, 0, 0, 0],
+    ),
+    (b"/dts-v1/; / { p = <'\\'>; };", &[0, 0, 0, 39]),
+    (b"/dts-v1/; / { p = <'\\\\'>; };", &[0, 0, 0, 92]),
+    (
+        b"/dts-v1/; / { p = <'\\a' '\n'>; };",
+        &[0, 0, 0, 7, 0, 0, 0, 10],
     ),
     (b"/dts-v1/; / { p = \"'\"; };", b"'\0"),
     // octal escapes above 255
@@ -179,6 +209,8 @@ const REFUSALS: &[(&[u8], u8, u8)] = &[
         10,
         10,
     ),
+    (b"/dts-v1/; / { p = <'\\'>, <'a'>; };", 10, 10),
+    (b"/dts-v1/; / { p = <'\\\\' 'a'>; };", 10, 10),
     (b"/dts-v1/; / { l: /delete-node/ a; b; };", 10, 10),
     (b"/dts-v1/; / { c { }; l: /delete-property/ b; };", 10, 10),
     (b"/dts-v1/; / { l: /delete-node/ &a; };", 10, 10),

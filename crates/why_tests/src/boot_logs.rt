@@ -62,6 +62,57 @@ const ROWS: &[Row] = &[
     },
 ];
 
+/// Rows of what `initcall_debug` prints, and of drivers that match by more than strings.
+const FURTHER: &[Row] = &[
+    // A probe's number behind its messages tells nothing new; without them it tells the probe.
+    Row {
+        name: "returned",
+        plan: "/a x ok\n/b y ok\n/c z fail\n/d z ok /c\n",
+        log: "really_probe: probing driver x with device a\nreally_probe: bound device a to driver x\nprobe of a returned 0 after 5 usecs\n[    1.2] probe of b returned 517 after 7 usecs\nprobe of b returned 0 after 7 usecs\nprobe of c returned 22 after 1 usecs\nprobe of d returned -517 after 1 usecs\n",
+        schedule: "begin /a\nfinish /a settled\nbegin /b\nabandon /b\nbegin /b\nfinish /b settled\nbegin /c\nfinish /c settled\n",
+        unplaced: "",
+    },
+    // The end of a probe that is lost is told by its number.
+    Row {
+        name: "lost-end",
+        plan: "/a x ok\n",
+        log: "really_probe: probing driver x with device a\n** 9 printk messages dropped **\nprobe of a returned 19 after 5 usecs\n",
+        schedule: "begin /a\nabandon /a\n",
+        unplaced: "",
+    },
+    // A device on a bus returns before the bus whose probe made it.
+    Row {
+        name: "returned-within",
+        plan: "/i2c i ok\n/i2c/rtc@68 r ok /i2c\n/soc - -\n/soc/u u ok\n",
+        log: "probe of 0-0068 returned 0 after 5 usecs\nprobe of soc:u returned 0 after 1 usecs\nprobe of i2c returned 0 after 9 usecs\n",
+        schedule: "begin /soc/u\nfinish /soc/u settled\nbegin /i2c\nfinish /i2c settled\nbegin /i2c/rtc@68\nfinish /i2c/rtc@68 settled\n",
+        unplaced: "",
+    },
+    // A driver that the plan doesn't know of comes late, for the first string of the device that it probes.
+    Row {
+        name: "by-a-number-in-a-register",
+        plan: "/serial@90000 - -\n/serial@a0000 - -\ncompatible /serial@90000 arm,pl011 arm,primecell\ncompatible /serial@a0000 arm,pl011 arm,primecell\n",
+        log: "bus: 'amba': really_probe: probing driver uart-pl011 with device 1c090000.serial\nbus: 'amba': really_probe: bound device 1c090000.serial to driver uart-pl011\nbus: 'amba': really_probe: probing driver uart-pl011 with device 1c0a0000.serial\nbus: 'amba': really_probe: bound device 1c0a0000.serial to driver uart-pl011\n",
+        schedule: "driver uart-pl011 arm,pl011\nbegin /serial@90000\nfinish /serial@90000 settled\nbegin /serial@a0000\nfinish /serial@a0000 settled\n",
+        unplaced: "",
+    },
+    // Its name may be taken, have a space, or not be told.
+    Row {
+        name: "late-names",
+        plan: "/a lm75 ok\n/b - -\n/c - -\n/d - -\n/e - -\ncompatible /b ti,lm75b\ncompatible /c x/y z\ncompatible /d z x/y\n",
+        log: "probing driver lm75 with device b\nreally_probe: probing driver lm75 with device b\nreally_probe: bound device b to driver lm75\nreally_probe: probing driver My Driver with device c\nprobe of d returned 0 after 1 usecs\nreally_probe: probing driver e with device e\n",
+        schedule: "driver lm75-ti,lm75b ti,lm75b\nbegin /b\nfinish /b settled\ndriver My-Driver x/y\nbegin /c\nbegin /d\nfinish /d settled\nbegin /e\n",
+        unplaced: "",
+    },
+    Row {
+        name: "late-by-its-string",
+        plan: "/a - -\n/b - -\ncompatible /a x/y\ncompatible /b x/y\n",
+        log: "probe of a returned 0 after 1 usecs\nprobe of b returned 0 after 1 usecs\n",
+        schedule: "driver x-y x/y\nbegin /a\nfinish /a settled\nbegin /b\nfinish /b settled\n",
+        unplaced: "",
+    },
+];
+
 fn add_unplaced(rt: &impl Abort, alloc: Global, text: &mut Vec<u8>, unplaced: &Unplaced<'_>) {
     let front = format!(in alloc; "{} ", unplaced.line).expect(rt, "room");
     text.extend_from_slice(front.as_bytes()).expect(rt, "room");
@@ -88,6 +139,14 @@ fn holds(rt: &impl Abort, alloc: Global, hasher: RandomState, row: &Row) {
 fn boot_logs(rt: HostRuntime) {
     let hasher = RandomState::new(&rt).expect(&rt, "a seed");
     for row in ROWS {
+        holds(&rt, rt.alloc(), hasher, row);
+    }
+}
+
+#[test]
+fn further_boot_logs(rt: HostRuntime) {
+    let hasher = RandomState::new(&rt).expect(&rt, "a seed");
+    for row in FURTHER {
         holds(&rt, rt.alloc(), hasher, row);
     }
 }

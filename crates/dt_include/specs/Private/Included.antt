@@ -23,9 +23,9 @@ use Rattle.dt_include.specs.declared.words.Stand.{Stand}
 use Rattle.dt_include.specs.Bytes.{run_of}
 use Rattle.dt_include.specs.Inclusion.{Includes, IncludesFrom, MayNest, Piece, files_from, named, plain, stored_of, text_of}
 use Rattle.dt_include.specs.Private.Places.{place_of}
-use Rattle.dt_include.specs.Shortfall.{IsTooLong, Puts, StopsAt, name_of}
+use Rattle.dt_include.specs.Shortfall.{IsTooLong, Puts, StopsAt}
 use Rattle.dt_include.specs.UserLines.{UserPlace, first_of, marker_line, marker_of, place_behind, plain_of}
-use Rattle.dt_include.specs.Words.{Bracketed, HasNext, HoldsNone, IsBroken, IsOpen, NamesFile, Passes, Quoted, Sign}
+use Rattle.dt_include.specs.Words.{Bracketed, HasNext, HoldsNone, IsBroken, IsOpen, NamesFile, Passes, Quoted, Sign, name_of}
 
 -- ---- a word that was read, and what is left behind it
 
@@ -150,7 +150,7 @@ stay (inclusions.Binary name) = true
 abbrev pub IsTaken : (List ℕ → List ℕ → Found → Type 0) → List ℕ → Inclusion → Whole → Whole → Turn → Type 0
 IsTaken Finds beside inclusion whole grown End = ⊥
 IsTaken Finds beside (inclusions.Source name) whole grown Again = ⊥
-IsTaken Finds beside (inclusions.Binary name) whole grown Again = (found : Found) × Finds beside name.now found × Adds whole grown (named found.bytes.items)
+IsTaken Finds beside (inclusions.Binary name) whole grown Again = (found : Found) × Finds beside (name_of (inclusions.Binary name)) found × Adds whole grown (named found.bytes.items)
 IsTaken Finds beside (inclusions.Source name) whole grown (Into found) = Finds beside name.now found × Adds whole grown []
 IsTaken Finds beside (inclusions.Binary name) whole grown (Into found) = ⊥
 

@@ -1,7 +1,7 @@
 //! The command line.
 
 use clap::error::ErrorKind;
-use dtman_cli::{Board, Command, Links, Picture, Profile, command};
+use dtman_cli::{Board, Command, Language, Links, Picture, command};
 use std::alloc::Global;
 
 /// The command that the words name, or the kind of their mistake.
@@ -52,11 +52,11 @@ fn reads_the_command_line(rt: HostRuntime) {
     assert!(rt; matches!(unknown, Err(ErrorKind::InvalidSubcommand)));
 }
 
-/// The folders that a command line names for dtc's dialect, or none where it doesn't ask for it.
+/// The folders that a command line names for dtc's language, or none where it doesn't ask for it.
 fn folders_of<'a>(alloc: Global, words: &'a [&'a str]) -> Result<Option<Vec<&'a str>>, ErrorKind> {
     match read(alloc, words)? {
         Command::Compile {
-            profile: Profile::Dialect { folders },
+            language: Language::Dtc { folders },
             ..
         } => Ok(Some(folders)),
         _ => Ok(None),

@@ -3,7 +3,7 @@ use Rattle.dt_include.proofs.WordsHere.{string_passed}
 use Rattle.dt_include.proofs.words.string_at.Goals as goal
 
 pub returns-in-Some : goal.returns-in-Some
-returns-in-Some c = string_passed c.args.quote c.args.s.now c.behind.result.now c.in-Some.len c.requires.quote c.requires.begins c.in-Some.ensures c.behind.ensures
+returns-in-Some c = string_passed c.args.s.now c.behind.result.now c.in-Some.len c.requires c.in-Some.ensures c.behind.ensures
 
 pub returns-in-None : goal.returns-in-None
-returns-in-None c = open_string c.args.quote c.requires.quote c.requires.begins c.in-None.ensures
+returns-in-None c = open_string c.requires c.in-None.ensures

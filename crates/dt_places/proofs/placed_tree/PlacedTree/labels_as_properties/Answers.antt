@@ -1,4 +1,4 @@
-use Rattle.std.proofs.Common.{◌≡◌, ◌+◌, ◌-◌, ◌<◌, ℕ, length, subst, arith}
+use Rattle.std.proofs.Common.{◌≡◌, ◌+◌, ◌-◌, ℕ, length, subst, arith}
 use Rattle.dt_places.specs.Standing.{HasLabelRows}
 use Rattle.dt_places.specs.Tables.{rows_in}
 use Rattle.dt_places.proofs.LabelsShown.{none-put}

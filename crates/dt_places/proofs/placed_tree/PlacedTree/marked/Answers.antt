@@ -1,6 +1,6 @@
-use Rattle.std.proofs.Common.{◌≡◌, ◌<◌, ℕ, map, reverse, take, length, sym, ap, ◌∙◌, subst, arith}
+use Rattle.std.proofs.Common.{◌<◌, ℕ, map, reverse, take, length, sym, ap, ◌∙◌, subst, arith}
 use Rattle.std.specs.Prelude.{slice_index_or}
-use Rattle.dt_meaning.specs.Paths.{Path, is_listed}
+use Rattle.dt_meaning.specs.Paths.{is_listed}
 use Rattle.dt_places.specs.PlacedTrees.{IsOwner, node_path}
 use Rattle.dt_places.specs.Standing.{or_at}
 use Rattle.dt_places.specs.Tables.{found_in, rows_in}

@@ -1,11 +1,10 @@
-use Rattle.std.proofs.Common.{◌≡◌, ◌++◌, ◌∷◌, [], ◌<◌, length, Some, None, refl, sym, ap, ◌∙◌, arith}
+use Rattle.std.proofs.Common.{◌≡◌, Some, None, refl, sym, ap, ◌∙◌, arith}
 use Rattle.std.proofs.lemmas.List.{get_or_default}
 use Rattle.dt_meaning.specs.Edits.{with_property}
 use Rattle.dt_live.specs.Rows.{state_of}
 use Rattle.dt_live.specs.Rows as live
-use Rattle.dt_places.specs.References.{value_made}
 use Rattle.dt_places.specs.Rows.{no_place, place_at}
-use Rattle.dt_places.specs.Shown.{IsShownAt, number_at}
+use Rattle.dt_places.specs.Shown.{number_at}
 use Rattle.dt_places.specs.Tables.{rows_in}
 use Rattle.dt_places.proofs.NodesMarked.{known-number}
 use Rattle.dt_places.proofs.PropertiesShown.{owner-away, property-put, property-skipped, row-there, value-away, value-some}

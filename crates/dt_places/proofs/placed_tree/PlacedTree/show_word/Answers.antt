@@ -1,9 +1,9 @@
-use Rattle.std.proofs.Common.{◌≡◌, ◌<◌, ◌++◌, ◌∷◌, [], true, false, length, Some, None, refl, sym, ap, ap₂, ◌∙◌, true≢false, arith}
+use Rattle.std.proofs.Common.{◌≡◌, ◌++◌, ◌∷◌, [], length, Some, None, refl, sym, ap, ap₂, ◌∙◌, true≢false, arith}
 use Rattle.std.specs.List.{list_any}
 use Rattle.std.proofs.lemmas.Bool.{and_parts}
 use Rattle.std.proofs.lemmas.List.{get_or_default}
 use Rattle.dt_meaning.specs.DtcStatements.{same_label}
-use Rattle.dt_meaning.specs.Edits.{State, labelled_at, with_label}
+use Rattle.dt_meaning.specs.Edits.{State, labelled_at}
 use Rattle.dt_live.specs.Rows.{state_of}
 use Rattle.dt_live.specs.Rows as live
 use Rattle.dt_places.specs.Rows.{holds, is_made, no_place, path_of, place_at}

@@ -1,0 +1,23 @@
+use Rattle.std.proofs.Common.{◌≡◌, length, map, ap, ◌∙◌, arith}
+use Rattle.std.proofs.lemmas.List.{take_all}
+use Rattle.dt_meaning.specs.Places.{what_stands}
+use Rattle.dt_live.specs.Rows.{state_of}
+use Rattle.dt_places.specs.PlacedTrees.{property_seen}
+use Rattle.dt_places.specs.Standing.{read_with}
+use Rattle.dt_places.specs.Tables.{rows_in}
+use Rattle.dt_places.proofs.TreeLeft.{none-more, state-left}
+use Rattle.dt_places.proofs.placed_tree.PlacedTree.stand.Goals as goal
+
+pub show_properties-requires-clause-shown : goal.show_properties-requires-clause-shown
+show_properties-requires-clause-shown g c = none-more c.args.self.now c.in_ok-shown.shown c.in_ok-shown.ensures
+
+pub returns-clause-tree : goal.returns-clause-tree
+returns-clause-tree g c = λ read.
+    let d = c.args.self.now in
+    let s = c.show_labels.new.shown in
+    let rows = rows_in d.properties in
+    let properties : read_with read (state_of s.live).properties ≡ what_stands (map (property_seen read (rows_in d.nodes)) rows) =
+    ap (read_with read) c.in_ok-show_labels.ensures.properties
+    ∙ c.in_ok-show_properties.ensures.properties_shown read
+    ∙ ap (λ rs. what_stands (map (property_seen read (rows_in d.nodes)) rs)) (take_all (length rows) rows (omega arith)) in
+    state-left d c.requires.sound read s c.in_ok-show_labels.ensures.shown properties c.in_ok-show_labels.ensures.labels

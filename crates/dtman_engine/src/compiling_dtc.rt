@@ -1,0 +1,128 @@
+//! The blob of a source in dtc's language, from bytes to bytes.
+ghost use Rattle.std.specs.Prelude.{◌≡◌, IfOk, IfErr};
+ghost use Rattle.dt_lexeme.specs.declared.language.Language.TheVariants.{Dtc};
+ghost use Rattle.dt_tree.specs.PathMap.{tree_map};
+ghost use Rattle.dt_source.specs.Filled.{filled};
+ghost use Rattle.dt_source.specs.Meaning.{meaning_of};
+ghost use Rattle.dt_source.specs.Parse.{Says};
+ghost use Rattle.dt_meaning.specs.Syntax.{Meaning};
+ghost use Rattle.dtman_engine.specs.CompileDtc.{AnswersFilled, IsDtcCompiled, IsDtcRefusal, dtc_meant};
+ghost use Rattle.dtman_engine.specs.Fault.{fault_value};
+ghost use Rattle.dtman_engine.specs.Limits.{IsShort};
+ghost use Rattle.dtman_engine.specs.Meant.{Builds};
+ghost use Rattle.dtman_engine.specs.Private.CompilingDtc.{TellsLack, boots_on};
+
+use crate::compiling::tree_blob;
+use crate::fault::Fault;
+use crate::limits::MAX_BLOB_LEN;
+use dt_blob::BlobError;
+use dt_build::build_dtc_within;
+use dt_lexeme::{Binary, Language, ReadError, line_of};
+use dt_source::{Source, SourceError, SourceErrorKind, one_source, parse};
+use dt_tree::Tree;
+use std::alloc::Global;
+use std::hash::RandomState;
+
+/// How a source in dtc's language is compiled.
+#[derive(Clone, Copy, Debug, PartialEq, Eq)]
+pub struct DtcOptions {
+    /// the root gets `__symbols__`, with the path of each labelled node
+    pub symbols: bool,
+    /// the processor on which the system boots; where none is named it is the source's own
+    pub boot_processor: Option<u32>,
+}
+
+/// The blob of the tree that the source in a text in dtc's language means, with the files that its `/incbin/` name, in the order
+/// of the text, each at the place of its word in bytes (Devicetree Specification v0.4, chapters 5 and 6; where it is silent,
+/// dtc 1.6.1).
+///
+/// The text's fault comes first, with its line: 10 to 16, or 17 where it is over 16 MiB. Then, with the line of its `/incbin/`, 10
+/// where the next file is of another place or none is left; then 20 to 28 of what the source says; then 38 of a blob over 256 MiB:
+/// sizes are counted before any value is made, and files count there alone. Of a whole file nothing is copied.
+pub fn compile_dtc_bytes(
+    alloc: Global,
+    hasher: RandomState,
+    source: &[u8],
+    binaries: Vec<Binary>,
+    options: DtcOptions,
+) -> Result<Vec<u8>, Fault>
+    // What is answered is the blob of the tree that the text means with these files.
+    ensures answer { IfOk result (λ blob. IsDtcCompiled options source.now binaries.items blob.items) }
+    // What a text says is answered, or why it makes no blob: a file that is lacking is told, too.
+    ensures said { (m : Meaning) → IsShort source.now → Says Dtc source.now m → AnswersFilled options source.now (filled binaries.items m) result }
+    // Each refusal has its reason in the text or in the files.
+    ensures refused { IfErr result (λ fault. IsDtcRefusal options source.now binaries.items (fault_value fault)) }
+{
+    one_source();
+    match parse(alloc, source, Language::Dtc) {
+        Err(error) => Err(Fault::from(error)),
+        Ok(parsed) => filled_blob(alloc, hasher, source, parsed, binaries, options),
+    }
+}
+
+// The blob of a source with these files, of whose text it was parsed.
+fn filled_blob(
+    alloc: Global,
+    hasher: RandomState,
+    text: &[u8],
+    parsed: Source<'_>,
+    binaries: Vec<Binary>,
+    options: DtcOptions,
+) -> Result<Vec<u8>, Fault>
+    ensures { AnswersFilled options text.now (filled binaries.items (meaning_of parsed.entry)) result }
+{
+    match parsed.fill(alloc, binaries) {
+        Err(error) => Err(lack(text, error)),
+        Ok(source) => dtc_blob(alloc, hasher, &source, options),
+    }
+}
+
+// The fault of a text whose files can't be filled in.
+fn lack(text: &[u8], error: ReadError) -> Fault
+    ensures { TellsLack text.now error (fault_value result) }
+{
+    match error {
+        ReadError::NoMemory => Fault::no_memory(),
+        ReadError::Refused(refusal) => Fault::from(SourceError {
+            kind: SourceErrorKind::Syntax,
+            line: line_of(text, refusal.place),
+        }),
+    }
+}
+
+fn dtc_blob(
+    alloc: Global,
+    hasher: RandomState,
+    source: &Source<'_>,
+    options: DtcOptions,
+) -> Result<Vec<u8>, Fault>
+    ensures { Builds (dtc_meant options (meaning_of source.now)) result }
+{
+    match build_dtc_within(alloc, hasher, source, options.symbols, MAX_BLOB_LEN) {
+        Err(error) => Err(Fault::from(error)),
+        Ok(None) => Err(Fault::from(BlobError::TooLarge)),
+        Ok(Some(tree)) => {
+            let tree = booted(tree, options.boot_processor);
+            tree.check();
+            tree_blob(alloc, hasher, &tree)
+        }
+    }
+}
+
+// The tree, whose system boots on the processor that is named.
+fn booted(tree: Tree, processor: Option<u32>) -> Tree
+    ensures { tree_map result ≡ boots_on processor (tree_map tree) }
+{
+    match processor {
+        None => tree,
+        Some(processor) => {
+            tree.check();
+            let (reserves, _, root) = tree.into_parts();
+            match Tree::new(reserves, processor, root) {
+                Ok(tree) => tree,
+                // the root has no name
+                Err(_) => unreachable!(),
+            }
+        }
+    }
+}
