@@ -29,7 +29,7 @@ extern "C" {
 #endif
 
 /* Which calls there are: it grows by one with each call more, and by a hundred where one changes. */
-#define DTMAN_VIEW_VERSION 107
+#define DTMAN_VIEW_VERSION 208
 
 /* No bytes. */
 #define DTMAN_VIEW_NONE ((const uint8_t *)"")
@@ -42,13 +42,15 @@ enum {
 	DTMAN_VIEW_BAD_OFFSET = 8, /* no node, or no property, begins at the offset */
 	DTMAN_VIEW_BAD_PATH = 9,   /* the bytes are no path */
 	DTMAN_EDIT_OTHER_LENGTH = 10, /* of changes alone: the value has another length */
-	DTMAN_EDIT_UNORDERED = 11  /* of changes alone: the blocks don't stand in order and apart, or the blob has version 16 */
+	DTMAN_EDIT_UNORDERED = 11, /* of changes alone: the blocks don't stand in order and apart, or the blob has version 16 */
+	DTMAN_EDIT_SHORT = 12,     /* of changes alone: the buffer wants `at` bytes */
+	DTMAN_EDIT_BAD_NAME = 13   /* of changes alone: what is added has no lawful name */
 };
 
 struct dtman_view_told {
 	uint32_t status; /* one of the above */
 	uint32_t number; /* of the fault where refused, else 0 */
-	size_t at;       /* the offset of what was found, else 0 */
+	size_t at;       /* the offset of what was found, or how many bytes are wanted where SHORT, else 0 */
 };
 
 /* Bytes of the caller's blob. */
@@ -174,15 +176,24 @@ struct dtman_view_told dtman_view_string(const void *value, size_t value_length,
 
 /*
  * Changes. They are made in the caller's bytes, and nothing but what they name is another: a blob that holds a tree holds the changed tree.
- * The look-up goes from the root; no view is wanted, and one that is open over the blob stays right. A blob that wasn't opened before has
- * its header tested alone. Where a change isn't DONE, the bytes are as they were.
+ * The look-up goes from the root, and no view is wanted. A blob that wasn't opened before has its header tested alone. Where a change isn't
+ * DONE, the bytes are as they were.
  */
 
 /*
- * Sets a property of the node at a path to a value of the same length, in place: nothing moves. NOTHING where there is no such node or
- * property, BAD_PATH, OTHER_LENGTH, UNORDERED, REFUSED.
+ * Sets a property of the node at a path to a value of the same length, in place: nothing moves, and a view that is open over the blob stays
+ * right. NOTHING where there is no such node or property, BAD_PATH, OTHER_LENGTH, UNORDERED, REFUSED.
  */
 struct dtman_view_told dtman_edit_set_in_place(void *blob, size_t length, const void *path, size_t path_length, const void *name,
+	size_t name_length, const void *value, size_t value_length);
+
+/*
+ * Sets a property of the node at a path to a value of any length: in its place, or behind the last property of the node where it is new. The
+ * blob stands at the front of a buffer of `length` bytes, which may have room behind it. What stands behind the property is moved once, and
+ * a name that is new goes to the end of the strings. Views over the buffer are to be opened anew. NOTHING where there is no such node,
+ * BAD_PATH, BAD_NAME, UNORDERED, SHORT, REFUSED. The path, the name and the value stand outside of the buffer.
+ */
+struct dtman_view_told dtman_edit_set(void *buffer, size_t length, const void *path, size_t path_length, const void *name,
 	size_t name_length, const void *value, size_t value_length);
 
 #ifdef __cplusplus

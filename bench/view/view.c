@@ -9,11 +9,12 @@
 
 #include "dtman_view.h"
 
-enum { ROUNDS = 15, PATHS = 200, LONGEST = 4096 };
+enum { ROUNDS = 15, PATHS = 200, LONGEST = 4096, ROOM = 65536 };
 
 struct input {
 	uint8_t *blob;
 	size_t length;
+	uint8_t *roomy; /* the blob, with room behind it */
 	struct dtman_view view;
 	char *paths[PATHS]; /* spread over the nodes */
 	int path_count;
@@ -133,6 +134,27 @@ static void set_fdt(struct input *in)
 	}
 }
 
+/* Values of two lengths in turn, so that what stands behind the property moves each time. */
+static void resize_view(struct input *in)
+{
+	static const uint8_t value[24];
+
+	for (int i = 0; i < in->path_count; i++)
+		for (size_t length = 8; length <= sizeof value; length += 16) {
+			told = dtman_edit_set(in->roomy, in->length + ROOM, in->paths[i], strlen(in->paths[i]), "bench", 5, value, length);
+			sink += told.status;
+		}
+}
+
+static void resize_fdt(struct input *in)
+{
+	static const uint8_t value[24];
+
+	for (int i = 0; i < in->path_count; i++)
+		for (size_t length = 8; length <= sizeof value; length += 16)
+			sink += fdt_setprop(in->roomy, fdt_path_offset(in->roomy, in->paths[i]), "bench", value, length);
+}
+
 static double least(void (*step)(struct input *), struct input *in, int times)
 {
 	double best = 1e18;
@@ -169,6 +191,9 @@ static void read_blob(struct input *in, const char *path)
 	if (fread(in->blob, 1, in->length, file) != in->length)
 		exit(3);
 	fclose(file);
+	in->roomy = malloc(in->length + ROOM);
+	if (!in->roomy || fdt_open_into(in->blob, in->roomy, in->length + ROOM))
+		exit(3);
 }
 
 static void choose(struct input *in)
@@ -200,5 +225,6 @@ int main(int count, char **words)
 	measure("a property by its path", &in, find_view, find_fdt, 1, in.path_count);
 	measure("a node by its phandle", &in, phandle_view, phandle_fdt, 10, 1);
 	measure("a property read and set in place by its path", &in, set_view, set_fdt, 1, in.path_count);
+	measure("a property set to another length by its path", &in, resize_view, resize_fdt, 1, 2 * in.path_count);
 	return sink == 42;
 }

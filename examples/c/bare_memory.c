@@ -1,7 +1,11 @@
-/* What libdtman_view.a wants where there is no libc: memmove, as the C standard says. `volatile` keeps a compiler from making it a call of itself. */
+/*
+ * What libdtman_view.a wants where there is no libc: memmove and memset, as the C standard says. `volatile` keeps a compiler from making one a
+ * call of itself.
+ */
 #include <stddef.h>
 
 void *memmove(void *to, const void *from, size_t count);
+void *memset(void *to, int byte, size_t count);
 
 void *memmove(void *to, const void *from, size_t count)
 {
@@ -14,5 +18,14 @@ void *memmove(void *to, const void *from, size_t count)
 	else
 		while (count--)
 			into[count] = of[count];
+	return to;
+}
+
+void *memset(void *to, int byte, size_t count)
+{
+	volatile unsigned char *into = to;
+
+	for (size_t i = 0; i < count; i++)
+		into[i] = (unsigned char)byte;
 	return to;
 }

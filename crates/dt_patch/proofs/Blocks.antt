@@ -85,7 +85,7 @@ front_number (a ∷ b ∷ []) x y h = absurd (omega arith)
 front_number (a ∷ b ∷ c ∷ []) x y h = absurd (omega arith)
 front_number (a ∷ b ∷ c ∷ d ∷ p) x y h = refl
 
-word_kept : (place : ℕ) (p x y : List ℕ) → place + 4 ≤ length p → word_at place (p ++ x) ≡ word_at place (p ++ y)
+pub word_kept : (place : ℕ) (p x y : List ℕ) → place + 4 ≤ length p → word_at place (p ++ x) ≡ word_at place (p ++ y)
 word_kept place p x y h =
     ap (big_number 4) (drop-append-le place p x (omega arith))
     ∙ front_number (drop place p) x y (omega (arith, length-drop place p))

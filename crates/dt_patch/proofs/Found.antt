@@ -1,24 +1,45 @@
 -- What a look-up by a path says of the reasons not to change a blob.
-use Rattle.std.proofs.Common.{◌≡◌, ℕ, Bool, true, false, List, length, Option, Some, None, refl, ap, sym, ◌∙◌}
+use Rattle.std.proofs.Common.{◌≡◌, ℕ, Bool, true, false, List, length, Option, Some, None, refl, subst}
 use Rattle.std.specs.Prelude.{◌==◌}
+use Rattle.dt_tree.specs.Name.{is_name}
 use Rattle.dt_tree.specs.NodeData.{NodeData}
 use Rattle.dt_tree.specs.Path.{is_path, path_names}
 use Rattle.dt_tree.specs.PathMap.{node_at, value_of}
 use Rattle.dt_blob.proofs.Tests.{equal, test_equal}
 use Rattle.dt_patch.specs.declared.error.PatchError.{PatchError}
-use Rattle.dt_patch.specs.declared.error.PatchError.TheVariants.{BadPath, NoNode, NoProperty, OtherLength, Unordered}
-use Rattle.dt_patch.specs.Setting.{length_fault, node_fault, or_unordered, value_fault}
+use Rattle.dt_patch.specs.declared.error.PatchError.TheVariants.{BadName, BadPath, NoNode, NoProperty, OtherLength, Unordered}
+use Rattle.dt_patch.specs.Setting.{length_fault, missing, or_unordered, path_fault, place_fault, value_fault}
 
 -- what isn't false is true
 pub true_else : (b : Bool) → (b ≡ false → ⊥) → b ≡ true
 true_else true n = refl
 true_else false n = absurd (n refl)
 
-pub bad_path : (root : NodeData) (path name : List ℕ) (n : ℕ) → is_path path ≡ false → value_fault root path name n ≡ Some BadPath
-bad_path root path name n e = rw e refl
+pub bad_path : (root : NodeData) (path : List ℕ) → is_path path ≡ false → path_fault root path ≡ Some BadPath
+bad_path root path e = rw e refl
 
-pub no_node : (root : NodeData) (path name : List ℕ) (n : ℕ) → is_path path ≡ true → node_at root (path_names path) ≡ None → value_fault root path name n ≡ Some NoNode
-no_node root path name n e f = rw (e, f) refl
+pub no_node : (root : NodeData) (path : List ℕ) → is_path path ≡ true → node_at root (path_names path) ≡ None → path_fault root path ≡ Some NoNode
+no_node root path e f = rw (e, f) refl
+
+-- what the path's fault says of what is looked for at it
+by_path : (P : Option PatchError → Type 0) (root : NodeData) (path : List ℕ) (e : PatchError) → (is_path path ≡ false → P (Some BadPath)) → (is_path path ≡ true → node_at root (path_names path) ≡ None → P (Some NoNode)) → path_fault root path ≡ Some e → P (Some e)
+by_path P root path e bad none f = by_test (is_path path) refl f where
+  by_node : (o : Option NodeData) → node_at root (path_names path) ≡ o → is_path path ≡ true → missing (node_at root (path_names path)) ≡ Some e → P (Some e)
+  by_node None h t g = let same : Some NoNode ≡ Some e = (rw h at g) in subst P same (none t h)
+  by_node (Some d) h t g = absurd (let no : None ≡ Some e = (rw h at g) in cc no)
+
+  by_test : (t : Bool) → is_path path ≡ t → path_fault root path ≡ Some e → P (Some e)
+  by_test false h g = let same : Some BadPath ≡ Some e = (rw h at g) in subst P same (bad h)
+  by_test true h g = by_node (node_at root (path_names path)) refl h (rw h at g)
+
+pub no_value : (root : NodeData) (path name : List ℕ) (n : ℕ) (e : PatchError) → path_fault root path ≡ Some e → value_fault root path name n ≡ Some e
+no_value root path name n e f = by_path (λ (o : Option PatchError). value_fault root path name n ≡ o) root path e (λ h. rw h refl) (λ h g. rw (h, g) refl) f
+
+pub no_place : (root : NodeData) (path name : List ℕ) (e : PatchError) → path_fault root path ≡ Some e → place_fault root path name ≡ Some e
+no_place root path name e f = by_path (λ (o : Option PatchError). place_fault root path name ≡ o) root path e (λ h. rw h refl) (λ h g. rw (h, g) refl) f
+
+pub bad_name : (root node : NodeData) (path name : List ℕ) → is_path path ≡ true → node_at root (path_names path) ≡ Some node → is_name name ≡ false → place_fault root path name ≡ Some BadName
+bad_name root node path name e f g = rw (e, f, g) refl
 
 pub no_property : (root node : NodeData) (path name : List ℕ) (n : ℕ) → is_path path ≡ true → node_at root (path_names path) ≡ Some node → value_of node.properties name ≡ None → value_fault root path name n ≡ Some NoProperty
 no_property root node path name n e f g = rw (e, f, g) refl

@@ -1,5 +1,12 @@
 mod Blocks
+mod Changed
 mod Found
+mod Laid
+mod Makes
+mod Named
+mod Puts
+mod Rooms
+mod Sets
 mod Splices
 mod Trees
 mod Values

@@ -1,12 +1,12 @@
 -- Bytes that spell tokens, with one token in the place of another.
-use Rattle.std.proofs.Common.{◌≡◌, ℕ, ◌+◌, ◌≤◌, Bool, true, false, List, [], ◌∷◌, ◌++◌, length, Some, refl, ap, sym, subst, ◌∙◌, arith, append_assoc}
+use Rattle.std.proofs.Common.{◌≡◌, ℕ, ◌≤◌, Bool, true, false, List, [], ◌∷◌, ◌++◌, length, Some, refl, ap, sym, subst, ◌∙◌, arith, append_assoc, length-drop}
 use Rattle.std.proofs.lemmas.Option.{some_pair_parts}
-use Rattle.std.proofs.lemmas.List.{append-nil, append_cancel_left, length-append}
+use Rattle.std.proofs.lemmas.List.{append-nil, append_cancel_left, append_cancel_right, drop-append-le, length-append}
 use Rattle.dt_tree.specs.NodeData.{NodeData}
-use Rattle.dt_blob.specs.Holds.{Spells, SpellsRoot, SpellsToken, is_nop, without_nops}
+use Rattle.dt_blob.specs.Holds.{Names, Spells, SpellsRoot, SpellsToken, is_nop, without_nops}
 use Rattle.dt_blob.specs.Steps.NodeBuilders.{is_end}
 use Rattle.dt_blob.specs.Steps.Reading.{token_at}
-use Rattle.dt_blob.specs.Token.{Token, end, property, tokens_of}
+use Rattle.dt_blob.specs.Token.{Token, begin_node, end_node, nop, end, property, tokens_of}
 use Rattle.dt_blob.proofs.Spelled.{token_long}
 use Rattle.dt_blob.proofs.TokenLists.{first_again}
 
@@ -68,7 +68,7 @@ before_end (u ∷ ts) (v ∷ a) c t n e =
       last = b.last;
     }
 
-kept_append : (a b : List Token) → without_nops (a ++ b) ≡ without_nops a ++ without_nops b
+pub kept_append : (a b : List Token) → without_nops (a ++ b) ≡ without_nops a ++ without_nops b
 kept_append [] b = refl
 kept_append (u ∷ a) b = by_kind (is_nop u) refl (kept_append a b) where
   by_kind : (t : Bool) → is_nop u ≡ t → without_nops (a ++ b) ≡ without_nops a ++ without_nops b → without_nops ((u ∷ a) ++ b) ≡ without_nops (u ∷ a) ++ without_nops b
@@ -95,3 +95,64 @@ module _ (strings : List ℕ) (root changed : NodeData) (a before after : List T
       joined strings a (property k w ∷ behind.rest) front (new ++ rest) f (joined strings (property k w ∷ []) behind.rest new rest (alone strings (property k w) new n) behind.spells) in
       let ended : a ++ property k w ∷ behind.rest ≡ (a ++ property k w ∷ c.later) ++ end ∷ [] = ap (λ (x : List Token). a ++ property k w ∷ x) c.last ∙ sym (append_assoc a (property k w ∷ c.later) (end ∷ [])) in
       (a ++ property k w ∷ c.later, subst (λ (x : List Token). Spells strings x (front ++ (new ++ rest))) ended spelled, later_kept (s.0) c.later b (s.2) c.all)
+
+-- ---- tokens in the place of others
+
+-- more strings take none away
+names_more : (strings extra : List ℕ) (place : ℕ) (name : List ℕ) → Names strings place name → Names (strings ++ extra) place name
+names_more strings extra place name n =
+    let inside : place ≤ length strings = omega (arith, ap length (n.1), length-drop place strings, length-append name (0 ∷ n.0)) in
+    (n.0 ++ extra, drop-append-le place strings extra inside ∙ ap (λ (x : List ℕ). x ++ extra) (n.1) ∙ append_assoc name (0 ∷ n.0) extra, n.2)
+
+token_more : (strings extra : List ℕ) (t : Token) (x : List ℕ) → SpellsToken strings t x → SpellsToken (strings ++ extra) t x
+token_more strings extra (begin_node name) x s = s
+token_more strings extra end_node x s = s
+token_more strings extra (property name value) x s = (s.0, s.1, s.2, s.3, s.4, s.5, names_more strings extra (s.0) name (s.6))
+token_more strings extra nop x s = s
+token_more strings extra end x s = s
+
+pub spells_more : (strings extra : List ℕ) (ts : List Token) (x : List ℕ) → Spells strings ts x → Spells (strings ++ extra) ts x
+spells_more strings extra [] x s = s
+spells_more strings extra (t ∷ ts) x s = (s.0, s.1, s.2, token_more strings extra t (s.0) (s.3), spells_more strings extra ts (s.1) (s.4))
+
+-- the end of the block stands behind what was passed
+record Last (b : List Token) : Type 0 where
+  before : List Token
+  is : b ≡ before ++ end ∷ []
+
+last_of : (ts a b : List Token) → (b ≡ [] → ⊥) → ts ++ end ∷ [] ≡ a ++ b → Last b
+last_of ts [] b n e = record { before = ts; is = sym e }
+last_of [] (u ∷ a) [] n e = absurd (n refl)
+last_of [] (u ∷ a) (v ∷ b) n e = absurd (no_more a v b (tail end u [] (a ++ v ∷ b) e)) where
+  no_more : (c : List Token) (w : Token) (d : List Token) → [] ≡ c ++ w ∷ d → ⊥
+  no_more [] w d e = cc e
+  no_more (x ∷ c) w d e = cc e
+last_of (t ∷ ts) (u ∷ a) b n e = last_of ts a b n (tail t u (ts ++ end ∷ []) (a ++ b) e)
+
+not_nothing : (after : List Token) (t : Token) → [] ≡ after ++ t ∷ [] → ⊥
+not_nothing [] t e = cc e
+not_nothing (u ∷ after) t e = cc e
+
+-- a front, what is spelled behind another front, and new tokens between them
+pub replaced : (strings extra block : List ℕ) (root changed : NodeData) (a b before olds after news : List Token) (x y z new : List ℕ) → SpellsRoot strings root block
+    → Spells strings a x → without_nops a ≡ before → block ≡ y ++ z → Spells strings b y → without_nops b ≡ before ++ olds
+    → tokens_of root ≡ before ++ (olds ++ after) → tokens_of changed ≡ before ++ (news ++ after) → without_nops news ≡ news → Spells (strings ++ extra) news new
+    → SpellsRoot (strings ++ extra) changed (x ++ (new ++ z))
+replaced strings extra block root changed a b before olds after news x y z new s sa ka is sb kb was now plain sn =
+    let all = rest_of strings b (s.0 ++ end ∷ []) y z sb (subst (Spells strings (s.0 ++ end ∷ [])) is (s.1)) in
+    let both : without_nops (s.0 ++ end ∷ []) ≡ (before ++ olds) ++ without_nops all.rest = ap without_nops all.is ∙ kept_append b all.rest ∙ ap (λ (t : List Token). t ++ without_nops all.rest) kb in
+    let root_is : without_nops (s.0 ++ end ∷ []) ≡ (before ++ olds) ++ (after ++ end ∷ []) =
+    kept_append (s.0) (end ∷ []) ∙ ap (λ (t : List Token). t ++ end ∷ []) (s.2 ∙ was ∙ sym (append_assoc before olds after)) ∙ append_assoc (before ++ olds) after (end ∷ []) in
+    let behind : without_nops all.rest ≡ after ++ end ∷ [] = append_cancel_left (before ++ olds) (without_nops all.rest) (after ++ end ∷ []) (sym both ∙ root_is) in
+    let some : all.rest ≡ [] → ⊥ = λ e. not_nothing after end (sym (ap without_nops e) ∙ behind) in
+    let l = last_of (s.0) b all.rest some all.is in
+    let inner : without_nops l.before ≡ after = append_cancel_right (without_nops l.before) after (end ∷ []) (sym (kept_append l.before (end ∷ [])) ∙ sym (ap without_nops l.is) ∙ behind) in
+    let more : Spells (strings ++ extra) a x = spells_more strings extra a x sa in
+    let rest : Spells (strings ++ extra) all.rest z = spells_more strings extra all.rest z all.spells in
+    let spelled : Spells (strings ++ extra) (a ++ (news ++ all.rest)) (x ++ (new ++ z)) = joined (strings ++ extra) a (news ++ all.rest) x (new ++ z) more (joined (strings ++ extra) news all.rest new z sn rest) in
+    let ended : a ++ (news ++ all.rest) ≡ (a ++ (news ++ l.before)) ++ end ∷ [] =
+    ap (λ (t : List Token). a ++ (news ++ t)) l.is ∙ ap (λ (t : List Token). a ++ t) (sym (append_assoc news l.before (end ∷ []))) ∙ sym (append_assoc a (news ++ l.before) (end ∷ [])) in
+    let kept : without_nops (a ++ (news ++ l.before)) ≡ tokens_of changed =
+    kept_append a (news ++ l.before) ∙ ap (λ (t : List Token). t ++ without_nops (news ++ l.before)) ka
+    ∙ ap (λ (t : List Token). before ++ t) (kept_append news l.before ∙ ap (λ (t : List Token). t ++ without_nops l.before) plain ∙ ap (λ (t : List Token). news ++ t) inner) ∙ sym now in
+    (a ++ (news ++ l.before), subst (λ (t : List Token). Spells (strings ++ extra) t (x ++ (new ++ z))) ended spelled, kept)

@@ -1,10 +1,11 @@
 -- A tree with a property set: its tokens, and that it is a tree.
-use Rattle.std.proofs.Common.{◌≡◌, ℕ, ◌+◌, ◌≤◌, max, Bool, true, false, List, [], ◌∷◌, ◌++◌, Option, Some, None, refl, ap, sym, subst, ◌∙◌, arith, append_assoc}
+use Rattle.std.proofs.Common.{◌≡◌, ℕ, suc, ◌+◌, ◌-◌, ◌≤◌, max, length, Bool, true, false, List, [], ◌∷◌, ◌++◌, Option, Some, None, refl, ap, sym, subst, ◌∙◌, arith, append_assoc}
 use Rattle.std.specs.Option.{option_map_or}
 use Rattle.std.specs.Str.{bytes_eq}
 use Rattle.std.proofs.lemmas.Slice.Eq.{bytes_eq-Decides}
 use Rattle.dt_tree.specs.declared.property.Property.{Property}
 use Rattle.dt_tree.specs.Changes.{with_property}
+use Rattle.dt_tree.specs.Name.{is_name}
 use Rattle.dt_tree.specs.NodeData.{NodeData, Siblings, none, more, node_data, child_names, property_names, height_of}
 use Rattle.dt_tree.specs.PathMap.{child_named, node_at, value_of}
 use Rattle.dt_tree.specs.Private.Edits.{put_property, change_child, change_at}
@@ -13,6 +14,7 @@ use Rattle.dt_tree.specs.TreeData.{TreeData, IsTree, tree_data}
 use Rattle.dt_tree.proofs.CallLaws.{of_nodes}
 use Rattle.dt_tree.proofs.ChangeLaws.{map-set}
 use Rattle.dt_tree.proofs.Places.{IsSoundInside, inside}
+use Rattle.dt_tree.proofs.StillSound.{put_sound}
 use Rattle.dt_blob.specs.Token.{Token, begin_node, end_node, property, property_tokens, sibling_tokens, tokens_of}
 use Rattle.dt_query.specs.Set.{IsWithProperty}
 use Rattle.dt_view.specs.Reaching.{before_child, before_node, before_property}
@@ -173,55 +175,116 @@ value_split root path n k v e f =
       names = p.names;
     }
 
+-- ---- a node changed, as tokens
+
+-- the tokens before a change, those that go, those that come, and those behind
+pub record Turns (b c : NodeData) (before olds news : List Token) : Type 0 where
+  pub after : List Token
+  pub was : tokens_of b ≡ before ++ (olds ++ after)
+  pub now : tokens_of c ≡ before ++ (news ++ after)
+
+pub turns_at : (root : NodeData) (path : List (List ℕ)) (n : NodeData) (g : NodeData → NodeData) (before olds news : List Token) → node_at root path ≡ Some n → Turns n (g n) before olds news → Turns root (change_at path g root) (before_node root path ++ before) olds news
+turns_at root path n g before olds news e t =
+    let s = node_split path root n e in
+    let front : List Token = before_node root path in
+    let join : (x : List Token) → front ++ ((before ++ (x ++ t.after)) ++ s.after) ≡ (front ++ before) ++ (x ++ (t.after ++ s.after)) = λ x.
+    ap (λ (y : List Token). front ++ y) (append_assoc before (x ++ t.after) s.after ∙ ap (λ (y : List Token). before ++ y) (append_assoc x t.after s.after)) ∙ sym (append_assoc front before (x ++ (t.after ++ s.after))) in
+    record {
+      after = t.after ++ s.after;
+      was = s.own ∙ ap (λ (y : List Token). front ++ (y ++ s.after)) t.was ∙ join olds;
+      now = s.changed g ∙ ap (λ (y : List Token). front ++ (y ++ s.after)) t.now ∙ join news;
+    }
+
+pub set_turns : (n : NodeData) (k v w : List ℕ) → value_of n.properties k ≡ Some v → Turns n (set k w n) (begin_node n.name ∷ before_property n.properties k) (property k v ∷ []) (property k w ∷ [])
+set_turns n k v w f =
+    let p = property_split n.properties k v f in
+    let before : List Token = before_property n.properties k in
+    let rest : List Token = sibling_tokens n.children ++ end_node ∷ [] in
+    record {
+      after = p.after ++ rest;
+      was = ap (λ (x : List Token). begin_node n.name ∷ (x ++ rest)) p.own ∙ ap (λ (x : List Token). begin_node n.name ∷ x) (append_assoc before (property k v ∷ p.after) rest);
+      now = ap (λ (x : List Token). begin_node n.name ∷ (x ++ rest)) (p.put w) ∙ ap (λ (x : List Token). begin_node n.name ∷ x) (append_assoc before (property k w ∷ p.after) rest);
+    }
+
+added_last : (ps : List Property) (k w : List ℕ) → value_of ps k ≡ None → property_tokens (put_property (the_property k w) ps) ≡ property_tokens ps ++ property k w ∷ []
+added_last [] k w e = refl
+added_last (p ∷ ps) k w e = by_test _ refl e (added_last ps k w) where
+  by_test : (t : Bool) → bytes_eq p.name k ≡ t → value_of (p ∷ ps) k ≡ None → (value_of ps k ≡ None → property_tokens (put_property (the_property k w) ps) ≡ property_tokens ps ++ property k w ∷ []) → property_tokens (put_property (the_property k w) (p ∷ ps)) ≡ property_tokens (p ∷ ps) ++ property k w ∷ []
+  by_test true h e ih = absurd (let bad : Some p.value ≡ None = rw h at e in cc bad)
+  by_test false h e ih = rw h (ap (λ (x : List Token). property p.name p.value ∷ x) (ih (rw h at e)))
+
+pub add_turns : (n : NodeData) (k w : List ℕ) → value_of n.properties k ≡ None → Turns n (set k w n) (begin_node n.name ∷ property_tokens n.properties) [] (property k w ∷ [])
+add_turns n k w f =
+    let props : List Token = property_tokens n.properties in
+    let rest : List Token = sibling_tokens n.children ++ end_node ∷ [] in
+    record {
+      after = rest;
+      was = refl;
+      now = ap (λ (x : List Token). begin_node n.name ∷ (x ++ rest)) (added_last n.properties k w f) ∙ ap (λ (x : List Token). begin_node n.name ∷ x) (append_assoc props (property k w ∷ []) rest);
+    }
+
 -- ---- sound
 
--- a change that keeps what a node's place among others is judged by
-record Keeps (path : List (List ℕ)) (g : NodeData → NodeData) (b : NodeData) : Type 0 where
+-- a change that keeps what a node's place among others is judged by, but for at most so many levels
+record Keeps (path : List (List ℕ)) (g : NodeData → NodeData) (b : NodeData) (m : ℕ) : Type 0 where
   name : (change_at path g b).name ≡ b.name
-  height : height_of (change_at path g b).children ≡ height_of b.children
+  height : height_of (change_at path g b).children ≤ max (height_of b.children) m
   sound : IsSoundInside b → IsSoundInside (change_at path g b)
 
-record KeepsBelow (k : List ℕ) (f : NodeData → NodeData) (s : Siblings) : Type 0 where
+record KeepsBelow (k : List ℕ) (f : NodeData → NodeData) (s : Siblings) (m : ℕ) : Type 0 where
   names : child_names (change_child k f s) ≡ child_names s
-  height : height_of (change_child k f s) ≡ height_of s
+  height : height_of (change_child k f s) ≤ max (height_of s) m
   below : IsSoundBelow s → IsSoundBelow (change_child k f s)
 
-keeps_below : (s : Siblings) (k : List ℕ) (c : NodeData) (f : NodeData → NodeData) → child_named s k ≡ Some c → (f c).name ≡ c.name → height_of (f c).children ≡ height_of c.children → (IsSoundInside c → IsSoundInside (f c)) → KeepsBelow k f s
-keeps_below none k c f e n h i = absurd (cc e)
-keeps_below (more m p d rest) k c f e n h i = by_test _ refl e (λ q. keeps_below rest k c f q n h i) where
-  by_test : (t : Bool) → bytes_eq m k ≡ t → child_named (more m p d rest) k ≡ Some c → (child_named rest k ≡ Some c → KeepsBelow k f rest) → KeepsBelow k f (more m p d rest)
+keeps_below : (s : Siblings) (k : List ℕ) (c : NodeData) (f : NodeData → NodeData) (m : ℕ) → child_named s k ≡ Some c → (f c).name ≡ c.name → height_of (f c).children + 1 ≤ max (height_of c.children + 1) m → (IsSoundInside c → IsSoundInside (f c)) → KeepsBelow k f s m
+keeps_below none k c f m e n h i = absurd (cc e)
+keeps_below (more l p d rest) k c f m e n h i = by_test _ refl e (λ q. keeps_below rest k c f m q n h i) where
+  by_test : (t : Bool) → bytes_eq l k ≡ t → child_named (more l p d rest) k ≡ Some c → (child_named rest k ≡ Some c → KeepsBelow k f rest m) → KeepsBelow k f (more l p d rest) m
   by_test true q e ih =
-      let is : c ≡ node_data m p d = sym (some_same (node_data m p d) c (rw q at e)) in
-      let n' : (f (node_data m p d)).name ≡ m = subst (λ (x : NodeData). (f x).name ≡ x.name) is n in
-      let h' : height_of (f (node_data m p d)).children ≡ height_of d = subst (λ (x : NodeData). height_of (f x).children ≡ height_of x.children) is h in
-      let i' : IsSoundInside (node_data m p d) → IsSoundInside (f (node_data m p d)) = subst (λ (x : NodeData). IsSoundInside x → IsSoundInside (f x)) is i in
+      let is : c ≡ node_data l p d = sym (some_same (node_data l p d) c (rw q at e)) in
+      let n' : (f (node_data l p d)).name ≡ l = subst (λ (x : NodeData). (f x).name ≡ x.name) is n in
+      let h' : height_of (f (node_data l p d)).children + 1 ≤ max (height_of d + 1) m = subst (λ (x : NodeData). height_of (f x).children + 1 ≤ max (height_of x.children + 1) m) is h in
+      let i' : IsSoundInside (node_data l p d) → IsSoundInside (f (node_data l p d)) = subst (λ (x : NodeData). IsSoundInside x → IsSoundInside (f x)) is i in
       record {
         names = rw q (ap (λ (x : List ℕ). x ∷ child_names rest) n');
-        height = rw q (ap (λ (x : ℕ). max (x + 1) (height_of rest)) h');
+        height = rw q (taller (height_of (f (node_data l p d)).children) (height_of d) (height_of rest) m h');
         below = λ s. rw q (let j = i' (record { properties = s.0; siblings = s.1; below = s.2 }) in (j.properties, j.siblings, j.below, s.3));
       }
+    where
+      taller : (a d r m : ℕ) → a + 1 ≤ max (d + 1) m → max (a + 1) r ≤ max (max (d + 1) r) m
+      taller a d r m h = omega (arith, h)
   by_test false q e ih =
       let r = ih (rw q at e) in
       record {
-        names = rw q (ap (λ (x : List (List ℕ)). m ∷ x) r.names);
-        height = rw q (ap (λ (x : ℕ). max (height_of d + 1) x) r.height);
+        names = rw q (ap (λ (x : List (List ℕ)). l ∷ x) r.names);
+        height = rw q (wider (height_of (change_child k f rest)) (height_of d) (height_of rest) m r.height);
         below = λ s. rw q (s.0, s.1, s.2, r.below s.3);
       }
+    where
+      wider : (a d r m : ℕ) → a ≤ max r m → max (d + 1) a ≤ max (max (d + 1) r) m
+      wider a d r m h = omega (arith, h)
 
-keeps : (path : List (List ℕ)) (b n : NodeData) (g : NodeData → NodeData) → node_at b path ≡ Some n → (g n).name ≡ n.name → (g n).children ≡ n.children → (IsSoundInside n → IsSoundInside (g n)) → Keeps path g b
-keeps [] b n g e m c i =
+keeps : (path : List (List ℕ)) (b n : NodeData) (g : NodeData → NodeData) (m : ℕ) → node_at b path ≡ Some n → (g n).name ≡ n.name → height_of (g n).children + length path ≤ max (height_of n.children + length path) m → (IsSoundInside n → IsSoundInside (g n)) → Keeps path g b m
+keeps [] b n g m e l c i =
     let is : n ≡ b = sym (some_same b n e) in
+    let same : height_of (g n).children ≤ max (height_of n.children) m = omega (arith, c) in
     record {
-      name = subst (λ (x : NodeData). (g x).name ≡ x.name) is m;
-      height = ap height_of (subst (λ (x : NodeData). (g x).children ≡ x.children) is c);
+      name = subst (λ (x : NodeData). (g x).name ≡ x.name) is l;
+      height = subst (λ (x : NodeData). height_of (g x).children ≤ max (height_of x.children) m) is same;
       sound = subst (λ (x : NodeData). IsSoundInside x → IsSoundInside (g x)) is i;
     }
-keeps (k ∷ ks) b n g e m c i = through (child_named b.children k) refl e (λ d q. keeps ks d n g q m c i) where
-  through : (o : Option NodeData) → child_named b.children k ≡ o → node_at b (k ∷ ks) ≡ Some n → ((d : NodeData) → node_at d ks ≡ Some n → Keeps ks g d) → Keeps (k ∷ ks) g b
+keeps (k ∷ ks) b n g m e l c i = through (child_named b.children k) refl e (λ d q. keeps ks d n g (m - 1) q l (lower (height_of (g n).children) (height_of n.children) (length ks) m c) i) where
+  lower : (a h j m : ℕ) → a + suc j ≤ max (h + suc j) m → a + j ≤ max (h + j) (m - 1)
+  lower a h j m c = omega (arith, c)
+
+  higher : (a h m : ℕ) → a ≤ max h (m - 1) → a + 1 ≤ max (h + 1) m
+  higher a h m c = omega (arith, c)
+
+  through : (o : Option NodeData) → child_named b.children k ≡ o → node_at b (k ∷ ks) ≡ Some n → ((d : NodeData) → node_at d ks ≡ Some n → Keeps ks g d (m - 1)) → Keeps (k ∷ ks) g b m
   through None h e ih = absurd (let bad : None ≡ Some n = (rw h at e) in cc bad)
   through (Some d) h e ih =
       let r = ih d (rw h at e) in
-      let s = keeps_below b.children k d (change_at ks g) h r.name r.height r.sound in
+      let s = keeps_below b.children k d (change_at ks g) m h r.name (higher (height_of (change_at ks g d).children) (height_of d.children) m r.height) r.sound in
       record {
         name = refl;
         height = s.height;
@@ -235,6 +298,41 @@ keeps (k ∷ ks) b n g e m c i = through (child_named b.children k) refl e (λ d
         };
       }
 
+abbrev pub changed_tree : TreeData → List (List ℕ) → (NodeData → NodeData) → TreeData
+changed_tree tree path g = tree_data tree.reserves tree.boot_cpu (change_at path g tree.root)
+
+pub is_changed : (tree : TreeData) (path : List (List ℕ)) (n : NodeData) (g : NodeData → NodeData) (m : ℕ) → node_at tree.root path ≡ Some n → (g n).name ≡ n.name → height_of (g n).children + length path ≤ max (height_of n.children + length path) m → m ≤ 64
+    → (IsSoundInside n → IsSoundInside (g n)) → IsTree tree → IsTree (changed_tree tree path g)
+is_changed tree path n g m e l c h i t =
+    let r = keeps path tree.root n g m e l c i in
+    let inner = r.sound (inside tree.root t.sound) in
+    let s = t.sound in
+    let shallow = s.shallow in
+    let height = r.height in
+    record {
+      no_end = t.no_end;
+      long = t.long;
+      boot_cpu_fits = t.boot_cpu_fits;
+      no_name = r.name ∙ t.no_name;
+      sound = record {
+        own_name = rw r.name s.own_name;
+        properties = inner.properties;
+        siblings = inner.siblings;
+        below = inner.below;
+        shallow = omega (arith, shallow, height, h);
+      };
+    }
+
+abbrev pub tree_with : TreeData → List (List ℕ) → List ℕ → List ℕ → TreeData
+tree_with tree path k w = changed_tree tree path (set k w)
+
+put_inside : (n : NodeData) (k w : List ℕ) → is_name k ≡ true → IsSoundInside n → IsSoundInside (set k w n)
+put_inside n k w e s = record {
+  properties = (put_sound (node_data [] n.properties none) (the_property k w) e (record { own_name = refl; properties = s.properties; siblings = record { named = refl; distinct = refl }; below = tt; shallow = omega arith })).properties;
+  siblings = s.siblings;
+  below = s.below;
+}
+
 set_inside : (n : NodeData) (k w : List ℕ) → property_names (set k w n).properties ≡ property_names n.properties → IsSoundInside n → IsSoundInside (set k w n)
 set_inside n k w e s = record {
   properties = record { named = rw e s.properties.named; distinct = rw e s.properties.distinct };
@@ -242,31 +340,18 @@ set_inside n k w e s = record {
   below = s.below;
 }
 
-abbrev pub tree_with : TreeData → List (List ℕ) → List ℕ → List ℕ → TreeData
-tree_with tree path k w = tree_data tree.reserves tree.boot_cpu (change_at path (set k w) tree.root)
-
 -- a property's value set anew makes a tree, the one with that property
 pub value_set : (tree : TreeData) (path : List (List ℕ)) (n : NodeData) (k v w : List ℕ) → node_at tree.root path ≡ Some n → value_of n.properties k ≡ Some v → IsTree tree → IsWithProperty tree path k w (tree_with tree path k w)
 value_set tree path n k v w e f t =
     let p = value_split tree.root path n k v e f in
-    let r = keeps path tree.root n (set k w) e refl refl (set_inside n k w (p.names w)) in
-    let inner = r.sound (inside tree.root t.sound) in
-    let s = t.sound in
-    let shallow = s.shallow in
-    let height = r.height in
     record {
-      is = record {
-        no_end = t.no_end;
-        long = t.long;
-        boot_cpu_fits = t.boot_cpu_fits;
-        no_name = r.name ∙ t.no_name;
-        sound = record {
-          own_name = rw r.name s.own_name;
-          properties = inner.properties;
-          siblings = inner.siblings;
-          below = inner.below;
-          shallow = omega (arith, shallow, height);
-        };
-      };
+      is = is_changed tree path n (set k w) 0 e refl (omega arith) (omega arith) (set_inside n k w (p.names w)) t;
       map = of_nodes tree (tree_with tree path k w) (change_at path (set k w) tree.root) (with_property path k w) refl (map-set path tree.root n e k w);
     }
+
+-- and so does a property of a lawful name, there or not
+pub property_set : (tree : TreeData) (path : List (List ℕ)) (n : NodeData) (k w : List ℕ) → node_at tree.root path ≡ Some n → is_name k ≡ true → IsTree tree → IsWithProperty tree path k w (tree_with tree path k w)
+property_set tree path n k w e f t = record {
+  is = is_changed tree path n (set k w) 0 e refl (omega arith) (omega arith) (put_inside n k w f) t;
+  map = of_nodes tree (tree_with tree path k w) (change_at path (set k w) tree.root) (with_property path k w) refl (map-set path tree.root n e k w);
+}

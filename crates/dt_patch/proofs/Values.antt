@@ -1,13 +1,11 @@
 -- A value in the place of another of its length.
-use Rattle.std.proofs.Common.{◌≡◌, ℕ, ◌+◌, ◌-◌, ◌^◌, ◌<◌, ◌≤◌, ◌==◌, true, List, [], ◌∷◌, ◌++◌, length, take, drop, Option, Some, None, refl, ap, sym, subst, ◌∙◌, arith, append_assoc, length-append, length-drop}
+use Rattle.std.proofs.Common.{◌≡◌, ℕ, ◌+◌, ◌-◌, ◌^◌, ◌<◌, ◌≤◌, ◌==◌, true, List, ◌++◌, length, take, drop, Option, Some, None, refl, ap, sym, subst, ◌∙◌, arith, append_assoc, length-append, length-drop}
 use Rattle.std.specs.Prelude.{nat_le, unwrap_or}
 use Rattle.std.specs.Option.{option_map_or}
 use Rattle.std.proofs.lemmas.List.{drop_at, drop-drop, length-take, take-append-drop, take_at}
-use Rattle.dt_tree.specs.NodeData.{NodeData}
 use Rattle.dt_tree.specs.Path.{path_names}
 use Rattle.dt_tree.specs.TreeData.{TreeData}
 use Rattle.dt_blob.specs.BigEndian.{word}
-use Rattle.dt_blob.specs.Blocks.{structure_in}
 use Rattle.dt_blob.specs.HeaderWords.{header_fault, header_of, strings_of, structure_of, word_at}
 use Rattle.dt_blob.specs.Holds.{Holds, Pads, SpellsRoot, SpellsToken, is_structure_size}
 use Rattle.dt_blob.specs.Token.{property}

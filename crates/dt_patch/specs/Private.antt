@@ -1,2 +1,7 @@
 -- What only the contracts of private functions cite.
+pub mod Gaps
+pub mod Naming
+pub mod Pieces
 pub mod Places
+pub mod Planning
+pub mod Splicing

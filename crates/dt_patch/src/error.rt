@@ -16,4 +16,8 @@ pub enum PatchError {
     OtherLength,
     /// The blocks aren't the header, the reserved memory, the structure and the strings, in this order and apart, or the version is 16.
     Unordered,
+    /// What is added has no lawful name (section 2.2).
+    BadName,
+    /// The buffer has too little room: it wants so many bytes.
+    Short(usize),
 }

@@ -1,9 +1,11 @@
 //! The order of a blob's blocks.
-ghost use Rattle.std.specs.Prelude.{◌≡◌, ◌≤◌, ◌+◌, false, length, MatchResult, None, true};
+ghost use Rattle.std.specs.Prelude.{◌≡◌, ◌≤◌, ◌<◌, ◌^◌, ◌+◌, false, length, MatchResult, None, true};
 ghost use Rattle.byteorder.specs.Endian.{big_number};
 ghost use Rattle.dt_blob.specs.HeaderWords.{header_fault, header_of, word_at};
 ghost use Rattle.dt_patch.specs.Order.{is_ordered};
+ghost use Rattle.dt_patch.specs.Private.Splicing.{IsLayout, IsRelaid};
 
+use crate::bytes::put_word;
 use crate::error::PatchError;
 use byteorder::{BigEndian, ByteOrder};
 use dt_tree::behind;
@@ -47,4 +49,46 @@ pub(crate) fn ordered_structure(blob: &[u8], reserved: usize) -> Result<usize, P
         return Err(PatchError::Unordered);
     }
     Ok(structure_at)
+}
+
+/// Where the blocks of a blob stand, as its header says.
+#[derive(Clone, Copy)]
+pub(crate) struct Layout {
+    /// The blob's size.
+    pub(crate) size: usize,
+    pub(crate) structure_at: usize,
+    pub(crate) structure_size: usize,
+    pub(crate) strings_at: usize,
+    pub(crate) strings_size: usize,
+}
+
+/// What the words of a header say.
+pub(crate) fn layout_of(blob: &[u8]) -> Layout
+    requires { 40 ≤ length blob.now }
+    ensures { IsLayout blob.now result }
+{
+    Layout {
+        size: word(blob, 4) as usize,
+        structure_at: word(blob, 8) as usize,
+        structure_size: word(blob, 36) as usize,
+        strings_at: word(blob, 12) as usize,
+        strings_size: word(blob, 32) as usize,
+    }
+}
+
+/// Makes the header say where the blocks stand.
+pub(crate) fn lay(blob: &mut [u8], layout: &Layout)
+    requires whole { 40 ≤ length blob.old }
+    requires size { layout.now.size < 2 ^ 32 }
+    requires structure_at { layout.now.structure_at < 2 ^ 32 }
+    requires structure_size { layout.now.structure_size < 2 ^ 32 }
+    requires strings_at { layout.now.strings_at < 2 ^ 32 }
+    requires strings_size { layout.now.strings_size < 2 ^ 32 }
+    ensures { IsRelaid blob.old blob.new layout.now }
+{
+    put_word(blob, 4, layout.size as u32);
+    put_word(blob, 8, layout.structure_at as u32);
+    put_word(blob, 12, layout.strings_at as u32);
+    put_word(blob, 32, layout.strings_size as u32);
+    put_word(blob, 36, layout.structure_size as u32);
 }

@@ -1,11 +1,11 @@
 //! Where the value of a property stands.
-ghost use Rattle.std.specs.Prelude.{◌≡◌, IfOk, MatchResult, List, None, Some, ℕ};
+ghost use Rattle.std.specs.Prelude.{◌≡◌, IfOk, MatchResult, None, Some, ℕ};
 ghost use Rattle.dt_tree.specs.TreeData.{TreeData};
 ghost use Rattle.dt_blob.specs.Holds.{Holds};
 ghost use Rattle.dt_view.specs.Placing.{IsPlaced};
 ghost use Rattle.dt_view.specs.Shows.{Views};
 ghost use Rattle.dt_patch.specs.Private.Places.{IsNodeOf, IsPropertyOf, IsValuePlace};
-ghost use Rattle.dt_patch.specs.Setting.{set_fault, value_fault};
+ghost use Rattle.dt_patch.specs.Setting.{path_fault, set_fault, value_fault};
 
 use crate::error::PatchError;
 use crate::layout::ordered_structure;
@@ -15,10 +15,10 @@ use dt_view::{NodeOffset, PlacedProperty, View, ViewError, held_is_shown};
 /// The bytes of a property's token before its value.
 const PROPERTY_HEAD: usize = 12;
 
-fn node_place(view: &View<'_>, path: &[u8]) -> Result<NodeOffset, PatchError>
+pub(crate) fn node_place(view: &View<'_>, path: &[u8]) -> Result<NodeOffset, PatchError>
     ensures { (tree : TreeData) → Views view.now tree
         → MatchResult result (λ n. IsNodeOf view.now tree path.now n)
-        (λ e. (name : List ℕ) (size : ℕ) → value_fault tree.root path.now name size ≡ Some e) }
+        (λ e. path_fault tree.root path.now ≡ Some e) }
 {
     match view.find(path) {
         Ok(Some(node)) => Ok(node),

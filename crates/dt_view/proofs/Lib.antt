@@ -1,6 +1,7 @@
 mod Beginnings
 mod CellCounts
 mod Descents
+mod Ends
 mod Goings
 mod Holdings
 mod Names

@@ -11,6 +11,7 @@ mod ordering;
 mod properties;
 mod regions;
 mod reserves;
+mod spans;
 mod stages;
 mod tokens;
 mod view;

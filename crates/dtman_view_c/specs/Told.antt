@@ -3,7 +3,7 @@ use Rattle.std.specs.Prelude.{◌≡◌, ℕ, List, Option, Some, None, Result, 
 use Rattle.dt_blob.specs.BlobError.{number_of}
 use Rattle.dt_blob.specs.declared.error.BlobError.{BlobError}
 use Rattle.dt_patch.specs.declared.error.PatchError.{PatchError}
-use Rattle.dt_patch.specs.declared.error.PatchError.TheVariants.{Blob, NoNode, NoProperty, OtherLength, Unordered}
+use Rattle.dt_patch.specs.declared.error.PatchError.TheVariants.{BadName, Blob, NoNode, NoProperty, OtherLength, Short, Unordered}
 use Rattle.dt_patch.specs.declared.error.PatchError.TheVariants as patch
 use Rattle.dt_view.specs.declared.error.ViewError.{ViewError}
 use Rattle.dt_view.specs.declared.error.ViewError.TheVariants.{BadOffset, BadPath}
@@ -41,6 +41,14 @@ other_length = record { status = 10; number = 0; at = 0 }
 abbrev pub unordered : ViewTold
 unordered = record { status = 11; number = 0; at = 0 }
 
+-- the buffer is to have so many bytes
+abbrev pub short : ℕ → ViewTold
+short wanted = record { status = 12; number = 0; at = wanted }
+
+-- what is added has no lawful name
+abbrev pub bad_name : ViewTold
+bad_name = record { status = 13; number = 0; at = 0 }
+
 -- why a blob wasn't changed
 abbrev pub unchanged : PatchError → ViewTold
 unchanged (Blob error) = refused error
@@ -49,6 +57,8 @@ unchanged NoNode = nothing
 unchanged NoProperty = nothing
 unchanged OtherLength = other_length
 unchanged Unordered = unordered
+unchanged BadName = bad_name
+unchanged (Short wanted) = short wanted
 
 abbrev pub edited : Option PatchError → ViewTold
 edited None = done 0

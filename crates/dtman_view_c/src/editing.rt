@@ -1,13 +1,13 @@
 //! Changes of a blob in place.
 ghost use Rattle.std.specs.Prelude.{◌≡◌, ◌⊎◌, length};
 ghost use Rattle.dt_blob.specs.Holds.{Holds};
-ghost use Rattle.dt_patch.specs.Setting.{HoldsWith, set_fault};
+ghost use Rattle.dt_patch.specs.Setting.{HoldsWith, change_fault, set_fault};
 ghost use Rattle.dt_tree.specs.Path.{path_names};
 ghost use Rattle.dt_tree.specs.TreeData.{TreeData};
 ghost use Rattle.dtman_view_c.specs.Told.{done, edited};
 
 use crate::told::{ViewTold, done, unchanged};
-use dt_patch::set_in_place;
+use dt_patch::{set, set_in_place};
 
 /// Sets a property of the node at a path to a value of the same length.
 #[unsafe(no_mangle)]
@@ -24,6 +24,26 @@ pub extern "C" fn dtman_edit_set_in_place(
     ensures refused { (result ≡ done 0) ⊎ (blob.new ≡ blob.old) }
 {
     match set_in_place(blob, path, name, value) {
+        Ok(()) => done(0),
+        Err(error) => unchanged(error),
+    }
+}
+
+/// Sets a property of the node at a path to a value of any length.
+#[unsafe(no_mangle)]
+pub extern "C" fn dtman_edit_set(
+    buffer: &mut [u8],
+    path: &[u8],
+    name: &[u8],
+    value: &[u8],
+) -> ViewTold
+    ensures held { result ≡ done 0 → (tree : TreeData) → Holds buffer.old tree
+        → HoldsWith buffer.new tree (path_names path.now) name.now value.now }
+    ensures fault { (tree : TreeData) → Holds buffer.old tree
+        → result ≡ edited (change_fault buffer.old tree path.now name.now (length value.now)) }
+    ensures refused { (result ≡ done 0) ⊎ (buffer.new ≡ buffer.old) }
+{
+    match set(buffer, path, name, value) {
         Ok(()) => done(0),
         Err(error) => unchanged(error),
     }

@@ -25,6 +25,12 @@ const OTHER_LENGTH: u32 = 10;
 /// The blob's blocks stand in another order, or it has version 16.
 const UNORDERED: u32 = 11;
 
+/// The buffer has too little room.
+const SHORT: u32 = 12;
+
+/// What is added has no lawful name.
+const BAD_NAME: u32 = 13;
+
 /// How a call of a view ended, and the offset or the number that it tells.
 #[repr(C)]
 #[derive(Clone, Copy)]
@@ -32,6 +38,7 @@ pub struct ViewTold {
     pub status: u32,
     /// The fault's number where refused.
     pub number: u32,
+    /// The offset of what was found, or how many bytes are wanted.
     pub at: usize,
 }
 
@@ -79,6 +86,8 @@ pub(crate) fn unchanged(error: PatchError) -> ViewTold
         PatchError::NoProperty => nothing(),
         PatchError::OtherLength => ended(OTHER_LENGTH, 0, 0),
         PatchError::Unordered => ended(UNORDERED, 0, 0),
+        PatchError::BadName => ended(BAD_NAME, 0, 0),
+        PatchError::Short(wanted) => ended(SHORT, 0, wanted),
     }
 }
 

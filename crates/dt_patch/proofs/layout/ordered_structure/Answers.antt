@@ -1,4 +1,4 @@
-use Rattle.std.proofs.Common.{◌≤◌, refl, arith}
+use Rattle.std.proofs.Common.{refl, arith}
 use Rattle.dt_blob.proofs.Laying.{in_place}
 use Rattle.dt_patch.proofs.Blocks.{all_apart, in_header, in_reserved, in_structure, old_version}
 use Rattle.dt_patch.proofs.layout.ordered_structure.Goals as goal

@@ -1,14 +1,14 @@
-use Rattle.std.proofs.Common.{◌≡◌, Some, None, sym}
+use Rattle.std.proofs.Common.{sym}
 use Rattle.std.proofs.lemmas.Result.{err_from_is_err_and}
 use Rattle.dt_tree.specs.Path.{path_names}
 use Rattle.dt_view.specs.Reaching.{before_node}
-use Rattle.dt_patch.proofs.Found.{no_property}
+use Rattle.dt_patch.proofs.Found.{no_property, no_value}
 use Rattle.dt_patch.proofs.placing.property_place.Goals as goal
 
 pub returns-in_err-node-clause-stands : goal.returns-in_err-node-clause-stands
 returns-in_err-node-clause-stands c =
     let p = err_from_is_err_and c.from_residual.result c.from_residual.ensures.1 in
-    λ tree v. rw (p.1, p.2) (λ size. c.in_err-node.ensures tree v c.args.name.now size)
+    λ tree v. rw (p.1, p.2) (λ size. no_value tree.root c.args.path.now c.args.name.now size _ (c.in_err-node.ensures tree v))
 
 pub returns-in-Ok-Some-clause-stands : goal.returns-in-Ok-Some-clause-stands
 returns-in-Ok-Some-clause-stands c = λ tree v.

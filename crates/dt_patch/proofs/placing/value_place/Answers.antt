@@ -3,7 +3,7 @@ use Rattle.std.proofs.lemmas.Result.{err_from_is_err_and}
 use Rattle.dt_view.specs.Reserved.{reserved_size}
 use Rattle.dt_patch.specs.Order.{is_ordered}
 use Rattle.dt_patch.specs.Setting.{value_fault}
-use Rattle.dt_patch.proofs.Found.{by_length, other_length, same_length, then_ordered, then_unordered, told_first}
+use Rattle.dt_patch.proofs.Found.{by_length, same_length, then_ordered, then_unordered, told_first}
 use Rattle.dt_patch.proofs.Values.{value_there}
 use Rattle.dt_patch.proofs.placing.value_place.Goals as goal
 
