@@ -1,18 +1,14 @@
 //! Bytes written in the place of others.
-ghost use Rattle.std.specs.Prelude.{◌≡◌, ◌+◌, ◌-◌, ◌%◌, ◌≤◌, ◌<◌, ◌^◌, ◌++◌, ◌∷◌, length, map};
+ghost use Rattle.std.specs.Prelude.{◌≡◌, ◌+◌, ◌-◌, ◌%◌, ◌≤◌, ◌<◌, ◌^◌, length};
 ghost use Rattle.dt_blob.specs.BigEndian.{word};
 ghost use Rattle.dt_blob.specs.Blob.{padding};
 ghost use Rattle.dt_patch.specs.Private.Places.{put_at};
-ghost use Rattle.dt_patch.specs.Private.Pieces.{property_bytes, node_bytes};
+ghost use Rattle.dt_patch.specs.Private.Pieces.{property_bytes};
 
 use byteorder::{BigEndian, ByteOrder};
 
-/// The words that begin a property and a node, and the one that ends a node (section 5.4.1).
+/// The word that begins a property (section 5.4.1).
 const PROPERTY: u32 = 3;
-
-const BEGIN_NODE: u32 = 1;
-
-const END_NODE: u32 = 2;
 
 /// Puts bytes at a place.
 pub(crate) fn put(blob: &mut [u8], at: usize, bytes: &[u8])

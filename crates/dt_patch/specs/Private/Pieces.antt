@@ -6,7 +6,3 @@ use Rattle.dt_blob.specs.Blob.{padding}
 -- a property, by the place of its name in the strings
 abbrev pub property_bytes : ℕ → List ℕ → List ℕ
 property_bytes place value = word 3 ++ (word (length value) ++ (word place ++ (value ++ padding (length value))))
-
--- a node with nothing in it
-abbrev pub node_bytes : List ℕ → List ℕ
-node_bytes name = word 1 ++ ((name ++ 0 ∷ padding (length name + 1)) ++ word 2)
