@@ -27,7 +27,7 @@ echo '/a x ok' >"$work/one.plan"
 { seq 500000 | sed 's/.*/begin \/a\nabandon \/a/'; echo 'begin /a'; } >"$work/long.schedule"
 
 refused 1 'error 17 TooLong line 1' compile "$work/blanks.dts" "$work/none.dtb"
-refused 1 'error 17 TooLong line 1' compile --dtc "$work/blanks.dts" "$work/none.dtb"
+refused 1 'error 17 TooLong' compile --dtc "$work/blanks.dts" "$work/none.dtb"
 refused 1 'error 38 TooLarge' dump "$work/great"
 refused 1 'error 65 TooManyEvents event 1000001' replay "$work/one.plan" "$work/long.schedule"
 refused 3 "error 82 FileTooLong $work/great" replay "$work/great" "$work/long.schedule"
