@@ -20,4 +20,6 @@ mod places;
 #[cfg(test)]
 mod sources;
 #[cfg(test)]
+mod standing;
+#[cfg(test)]
 mod tree_builders;
