@@ -21,6 +21,7 @@ use Rattle.dt_source.specs.Source.{SourceTree, Spells, said, faults_of}
 use Rattle.dt_source.specs.Reading.Whole.{source_at}
 use Rattle.dt_source.specs.Order.{IsFirstInText, FaultsAreInOrder}
 use Rattle.dt_source.specs.Laws.{SourcesAreSpelled, SourcesAreRead}
+use Rattle.dt_source.specs.declared.place.Place.{Place}
 use Rattle.dt_source.specs.Parse.{IsShort, IsSource, IsNoSource, Says, HasFirstFault, HasFault, Refuses, IsRead, IfRefused, refusal_of, refused_at}
 use Rattle.dt_source.specs.SourceError.{kind_of_fault}
 use Rattle.dt_lexeme.proofs.Scanning.{one_list}
@@ -98,10 +99,10 @@ no_fault again language text m f a b =
 pub one_fault : SourcesAreRead → (language : Language) (text : List ℕ) (f g : Fault) → HasFirstFault language text f → HasFirstFault language text g → f ≡ g
 one_fault again language text f g a b = some_is f g (sym a.2.0 ∙ (same_source again language text a.0 b.0 a.1 b.1).1 ∙ b.2.0)
 
-has_no_fault : SourcesAreRead → (language : Language) (text : List ℕ) (m : Meaning) (k : FaultKind) (n : ℕ) → Says language text m → HasFault language text k n → ⊥
+has_no_fault : SourcesAreRead → (language : Language) (text : List ℕ) (m : Meaning) (k : FaultKind) (n : Place) → Says language text m → HasFault language text k n → ⊥
 has_no_fault again language text m k n a h = no_fault again language text m h.1.0 a h.1.1
 
-pub accepted : SourcesAreRead → (language : Language) (text : List ℕ) (m : Meaning) (k : SourceErrorKind) (n : ℕ) → IsShort text → Says language text m → Refuses language text k n → k ≡ kinds.NoMemory
+pub accepted : SourcesAreRead → (language : Language) (text : List ℕ) (m : Meaning) (k : SourceErrorKind) (n : Place) → IsShort text → Says language text m → Refuses language text k n → k ≡ kinds.NoMemory
 accepted again language text m kinds.NoMemory n h a r = refl
 accepted again language text m kinds.Syntax n h a r = absurd (r.1.1.0 a.0 a.1)
 accepted again language text m kinds.TooDeep n h a r = absurd (r.1.1.0 a.0 a.1)
@@ -112,10 +113,10 @@ accepted again language text m kinds.BadBits n h a r = absurd (has_no_fault agai
 accepted again language text m kinds.LiteralRange n h a r = absurd (has_no_fault again language text m LiteralRange n a r)
 accepted again language text m kinds.BadEscape n h a r = absurd (has_no_fault again language text m BadEscape n a r)
 
-same_kind : SourcesAreRead → (language : Language) (text : List ℕ) (f : Fault) (k : FaultKind) (n : ℕ) → HasFirstFault language text f → HasFault language text k n → kind_of_fault k ≡ kind_of_fault f.kind
+same_kind : SourcesAreRead → (language : Language) (text : List ℕ) (f : Fault) (k : FaultKind) (n : Place) → HasFirstFault language text f → HasFault language text k n → kind_of_fault k ≡ kind_of_fault f.kind
 same_kind again language text f k n a h = ap kind_of_fault (sym h.1.2 ∙ ap (λ (g : Fault). g.kind) (one_fault again language text h.1.0 f h.1.1 a))
 
-pub faulty : SourcesAreRead → (language : Language) (text : List ℕ) (f : Fault) (k : SourceErrorKind) (n : ℕ) → IsShort text → HasFirstFault language text f → Refuses language text k n → (k ≡ kinds.NoMemory) ⊎ (k ≡ kind_of_fault f.kind)
+pub faulty : SourcesAreRead → (language : Language) (text : List ℕ) (f : Fault) (k : SourceErrorKind) (n : Place) → IsShort text → HasFirstFault language text f → Refuses language text k n → (k ≡ kinds.NoMemory) ⊎ (k ≡ kind_of_fault f.kind)
 faulty again language text f kinds.NoMemory n h a r = inl refl
 faulty again language text f kinds.Syntax n h a r = absurd (r.1.1.0 a.0 a.1)
 faulty again language text f kinds.TooDeep n h a r = absurd (r.1.1.0 a.0 a.1)

@@ -4,6 +4,7 @@ use Rattle.dt_lexeme.specs.declared.language.Language.{Language}
 use Rattle.dt_lexeme.specs.declared.lexeme.Lexeme.{Lexeme}
 use Rattle.dt_lexeme.specs.declared.lexeme.Fault.{Fault}
 use Rattle.dt_source.specs.declared.error.SourceErrorKind.{SourceErrorKind}
+use Rattle.dt_source.specs.declared.place.Place.{Place}
 use Rattle.dt_source.specs.declared.error.SourceErrorKind.TheVariants.{NoMemory}
 use Rattle.dt_source.specs.SourceError.{kind_of_fault}
 use Rattle.dt_source.specs.Order.{first_of}
@@ -30,10 +31,10 @@ OneSpelling = (language : Language) (ts : List Lexeme) (s t : SourceTree) → Sp
 -- Nothing but want of memory refuses a text that says something.
 abbrev pub OnlyMemoryRefusesWhatIsSaid : Type 0
 OnlyMemoryRefusesWhatIsSaid =
-    (language : Language) (text : List ℕ) (m : Meaning) (k : SourceErrorKind) (line : ℕ) → IsShort text → Says language text m → Refuses language text k line → k ≡ NoMemory
+    (language : Language) (text : List ℕ) (m : Meaning) (k : SourceErrorKind) (p : Place) → IsShort text → Says language text m → Refuses language text k p → k ≡ NoMemory
 
 -- Nothing but its first fault and want of memory refuses a text that has one.
 abbrev pub OnlyMemoryAndTheFaultRefuse : Type 0
 OnlyMemoryAndTheFaultRefuse =
-    (language : Language) (text : List ℕ) (f : Fault) (k : SourceErrorKind) (line : ℕ) → IsShort text → HasFirstFault language text f → Refuses language text k line
+    (language : Language) (text : List ℕ) (f : Fault) (k : SourceErrorKind) (p : Place) → IsShort text → HasFirstFault language text f → Refuses language text k p
     → (k ≡ NoMemory) ⊎ (k ≡ kind_of_fault f.kind)

@@ -8,6 +8,7 @@ pub mod Source
 pub mod Laws
 pub mod Order
 pub mod SourceError
+pub mod Places
 pub mod Parse
 pub mod Lawful
 pub mod Counts

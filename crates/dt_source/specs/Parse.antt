@@ -14,7 +14,8 @@ use Rattle.dt_source.specs.declared.error.SourceErrorKind.TheVariants as kinds
 use Rattle.dt_lexeme.specs.declared.lexeme.ReadError.{ReadError}
 use Rattle.dt_lexeme.specs.declared.lexeme.ReadError.TheVariants as errors
 use Rattle.dt_lexeme.specs.Lexemes.{Lexemes, Scanned}
-use Rattle.dt_lexeme.specs.Lines.{line_at}
+use Rattle.dt_source.specs.declared.place.Place.{Place}
+use Rattle.dt_source.specs.Places.{beginning, nowhere, place_at}
 use Rattle.dt_meaning.specs.Syntax.{Meaning}
 use Rattle.dt_source.specs.Order.{first_of}
 use Rattle.dt_source.specs.Order.{IsFirstInText}
@@ -70,26 +71,26 @@ StopsAt language text r = (ls : List Lexeme) × (end : Option ℕ) × Scanned la
 abbrev pub IsRefused : Language → List ℕ → Refusal → Type 0
 IsRefused language text r = IsNoSource language text × StopsAt language text r
 
--- ---- when each refusal comes, and its line
+-- ---- when each refusal comes, and its place
 
--- The text isn't in the bounded grammar, and stops for this reason in this line.
-abbrev pub HasStop : Language → List ℕ → RefusalKind → ℕ → Type 0
-HasStop language text k line = IsShort text × ((r : Refusal) × IsRefused language text r × (r.kind ≡ k) × (line ≡ line_at text r.place))
+-- The text isn't in the bounded grammar, and stops for this reason at this place.
+abbrev pub HasStop : Language → List ℕ → RefusalKind → Place → Type 0
+HasStop language text k p = IsShort text × ((r : Refusal) × IsRefused language text r × (r.kind ≡ k) × (p ≡ place_at text r.place))
 
--- Its first fault is of this kind, in this line.
-abbrev pub HasFault : Language → List ℕ → FaultKind → ℕ → Type 0
-HasFault language text k line = IsShort text × ((f : Fault) × HasFirstFault language text f × (f.kind ≡ k) × (line ≡ line_at text f.place))
+-- Its first fault is of this kind, at this place.
+abbrev pub HasFault : Language → List ℕ → FaultKind → Place → Type 0
+HasFault language text k p = IsShort text × ((f : Fault) × HasFirstFault language text f × (f.kind ≡ k) × (p ≡ place_at text f.place))
 
-abbrev pub Refuses : Language → List ℕ → SourceErrorKind → ℕ → Type 0
-Refuses language text kinds.NoMemory line = IsShort text × (line ≡ 0)
-Refuses language text kinds.Syntax line = HasStop language text Syntax line
-Refuses language text kinds.TooDeep line = HasStop language text TooDeep line
-Refuses language text kinds.TooLong line = (text_limit < length text) × (line ≡ 1)
-Refuses language text kinds.ElementRange line = HasFault language text ElementRange line
-Refuses language text kinds.DivideByZero line = HasFault language text DivideByZero line
-Refuses language text kinds.BadBits line = HasFault language text BadBits line
-Refuses language text kinds.LiteralRange line = HasFault language text LiteralRange line
-Refuses language text kinds.BadEscape line = HasFault language text BadEscape line
+abbrev pub Refuses : Language → List ℕ → SourceErrorKind → Place → Type 0
+Refuses language text kinds.NoMemory p = IsShort text × (p ≡ nowhere)
+Refuses language text kinds.Syntax p = HasStop language text Syntax p
+Refuses language text kinds.TooDeep p = HasStop language text TooDeep p
+Refuses language text kinds.TooLong p = (text_limit < length text) × (p ≡ beginning)
+Refuses language text kinds.ElementRange p = HasFault language text ElementRange p
+Refuses language text kinds.DivideByZero p = HasFault language text DivideByZero p
+Refuses language text kinds.BadBits p = HasFault language text BadBits p
+Refuses language text kinds.LiteralRange p = HasFault language text LiteralRange p
+Refuses language text kinds.BadEscape p = HasFault language text BadEscape p
 
 -- what was read of a text: what its source says, and the first of its faults
 abbrev pub IsRead : Language → List ℕ → Meaning → Option Fault → Type 0

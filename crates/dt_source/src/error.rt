@@ -2,6 +2,7 @@
 ghost use Rattle.std.specs.Prelude.{◌≡◌};
 ghost use Rattle.dt_source.specs.SourceError.{number_of, name_of, kind_of_fault, kind_of_refusal};
 
+use crate::place::Place;
 use dt_lexeme::{FaultKind, RefusalKind};
 use std::fmt;
 use thiserror::Error;
@@ -28,12 +29,12 @@ impl fmt::Display for SourceErrorKind {
 
 impl std::error::Error for SourceErrorKind {}
 
-/// Why a text is refused, and the line of that, from 1. Want of memory has no line: it is 0 there.
+/// Why a text is refused, and where. Want of memory has no place: offset and line are 0 there.
 #[derive(Debug, Clone, Copy, PartialEq, Eq, Drop, Error)]
-#[error("{kind} in line {line}")]
+#[error("{kind} in line {}", .place.line)]
 pub struct SourceError {
     pub kind: SourceErrorKind,
-    pub line: usize,
+    pub place: Place,
 }
 
 impl SourceErrorKind {

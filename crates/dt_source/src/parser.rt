@@ -7,9 +7,11 @@ ghost use Rattle.dt_source.specs.Laws.{OnlyMemoryRefusesWhatIsSaid, OnlyMemoryAn
 ghost use Rattle.dt_meaning.specs.Syntax.{Meaning};
 ghost use Rattle.dt_source.specs.Meaning.{meaning_of, outlined};
 ghost use Rattle.dt_source.specs.Source.{SourceTree};
+ghost use Rattle.dt_source.specs.Places.{beginning};
 ghost use Rattle.dt_source.specs.Parse.{IsShort, IsSource, Says, HasFirstFault, Refuses, IsRead, IfRefused};
 
 use crate::error::{SourceError, SourceErrorKind};
+use crate::place::Place;
 use crate::refusals::{error_of, fault_error, refused_at};
 use crate::source::source;
 use crate::tree::{Outline, Source};
@@ -38,11 +40,11 @@ fn read<'a>(
 
 // The refusal of a text over 16 MiB.
 fn too_long() -> SourceError
-    ensures { result ≡ record { kind = TooLong; line = 1 } }
+    ensures { result ≡ record { kind = TooLong; place = beginning } }
 {
     SourceError {
         kind: SourceErrorKind::TooLong,
-        line: 1,
+        place: Place { offset: 0, line: 1 },
     }
 }
 
@@ -55,9 +57,9 @@ pub fn parse<'a>(
 ) -> Result<Source<'a>, SourceError>
     // What is answered is what the text says.
     ensures found { IfOk result (λ s. IsShort text.now × Says language text.now (meaning_of s)) }
-    // Each refusal comes only where it should, and tells the line of its place. So a text is too long where that is
+    // Each refusal comes only where it should, and tells its place, by offset and line. So a text is too long where that is
     // told.
-    ensures refused { IfErr result (λ e. Refuses language text.now e.kind e.line) }
+    ensures refused { IfErr result (λ e. Refuses language text.now e.kind e.place) }
 {
     if text.len() > MAX_TEXT_LEN {
         return Err(too_long());

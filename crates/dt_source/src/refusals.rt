@@ -4,8 +4,9 @@ ghost use Rattle.dt_lexeme.specs.declared.language.Language.{Language};
 ghost use Rattle.dt_source.specs.Parse.{IsShort, HasFirstFault, Refuses, IfRefused, refused_at};
 
 use crate::error::{SourceError, SourceErrorKind, kind_of_fault, kind_of_refusal};
+use crate::place::{Place, place_at};
 use crate::tree::Outline;
-use dt_lexeme::{Fault, ReadError, Refusal, RefusalKind, line_of};
+use dt_lexeme::{Fault, ReadError, Refusal, RefusalKind};
 
 /// The refusal of a text that has no lexeme at this place: what is refused before it, or else that place.
 pub(crate) fn refused_at(
@@ -29,30 +30,30 @@ pub(crate) fn refused_at(
     }
 }
 
-/// Why a text is refused that isn't in the grammar or nests too deep, and the line of that.
+/// Why a text is refused that isn't in the grammar or nests too deep, and where.
 pub(crate) fn error_of(text: &[u8], refusal: ReadError) -> SourceError
     requires { IsShort text.now }
-    ensures { (language : Language) → IfRefused language text.now refusal → Refuses language text.now result.kind result.line }
+    ensures { (language : Language) → IfRefused language text.now refusal → Refuses language text.now result.kind result.place }
 {
     match refusal {
         ReadError::NoMemory => SourceError {
             kind: SourceErrorKind::NoMemory,
-            line: 0,
+            place: Place { offset: 0, line: 0 },
         },
         ReadError::Refused(refusal) => SourceError {
             kind: kind_of_refusal(refusal.kind),
-            line: line_of(text, refusal.place),
+            place: place_at(text, refusal.place),
         },
     }
 }
 
-/// Why a text is refused whose first fault this is, and its line.
+/// Why a text is refused whose first fault this is, and where.
 pub(crate) fn fault_error(text: &[u8], fault: Fault) -> SourceError
     requires { IsShort text.now }
-    ensures { (language : Language) → HasFirstFault language text.now fault → Refuses language text.now result.kind result.line }
+    ensures { (language : Language) → HasFirstFault language text.now fault → Refuses language text.now result.kind result.place }
 {
     SourceError {
         kind: kind_of_fault(fault.kind),
-        line: line_of(text, fault.place),
+        place: place_at(text, fault.place),
     }
 }

@@ -5,7 +5,7 @@ mod board;
 use board::BOARD;
 use dt_lexeme::Language;
 use dt_source::{
-    Item, Part, Reference, Source, SourceError, SourceErrorKind, Statement, bodies_are_lists,
+    Item, Part, Place, Reference, Source, SourceError, SourceErrorKind, Statement, bodies_are_lists,
     faults_are_in_order, one_source, parse, reads_sources, says_lawful,
 };
 use std::alloc::Global;
@@ -206,7 +206,7 @@ fn is_refused(rt: &impl Abort, alloc: Global, text: &[u8], refused: u8, line: us
         None => assert_eq!(rt; refused, 255),
         Some(e) => {
             assert_eq!(rt; e.number(), refused);
-            assert_eq!(rt; e.line, line);
+            assert_eq!(rt; e.place.line, line);
         }
     }
 }
@@ -214,7 +214,7 @@ fn is_refused(rt: &impl Abort, alloc: Global, text: &[u8], refused: u8, line: us
 fn too_long_is_refused(rt: &impl Abort, alloc: Global) {
     let error = SourceError {
         kind: SourceErrorKind::TooLong,
-        line: 1,
+        place: Place { offset: 0, line: 1 },
     };
     assert_eq!(rt; error.name(), "TooLong");
     let long = vec![in alloc; b' '; 16_777_217].expect(rt, "memory");

@@ -1,0 +1,15 @@
+-- Places in a text: an offset in bytes, and the line of that byte, from 1.
+use Rattle.std.specs.Prelude.{ℕ, List}
+use Rattle.dt_lexeme.specs.Lines.{line_at}
+use Rattle.dt_source.specs.declared.place.Place.{Place}
+
+abbrev pub place_at : List ℕ → ℕ → Place
+place_at text offset = record { offset = offset; line = line_at text offset }
+
+-- of want of memory, which is no line's
+abbrev pub nowhere : Place
+nowhere = record { offset = 0; line = 0 }
+
+-- where every text begins
+abbrev pub beginning : Place
+beginning = record { offset = 0; line = 1 }
