@@ -1,9 +1,9 @@
 //! The engine as dtc's command line calls it, for sources.
 
 use dt_include::Binary;
-use dtman_diagnosis::dtc_span;
+use dtman_diagnosis::{Refused, dtc_span};
 use dtman_dtc::{Compilation, Compiler, Fault, Texts};
-use dtman_engine::{DtcOptions, Position, compile_dtc_bytes};
+use dtman_engine::{DtcOptions, compile_dtc_bytes};
 use std::alloc::Global;
 use std::hash::RandomState;
 
@@ -42,11 +42,8 @@ impl Compiler for Engine {
             Err(fault) => Err(Fault {
                 number: fault.number,
                 name: fault.name,
-                line: match fault.position {
-                    Position::Line(line) => Some(line),
-                    _ => None,
-                },
-                bytes: dtc_span(alloc, text, symbols, fault.number).unwrap_or(None),
+                line: fault.line(),
+                bytes: dtc_span(alloc, text, symbols, refused_by(&fault)).unwrap_or(None),
             }),
         }
     }
@@ -81,5 +78,12 @@ impl Compiler for Engine {
         _overlay: &[u8],
     ) -> Result<Vec<u8>, Fault> {
         refused()
+    }
+}
+
+fn refused_by(fault: &dtman_engine::Fault) -> Refused {
+    Refused {
+        number: fault.number,
+        offset: fault.offset(),
     }
 }

@@ -1,11 +1,9 @@
 //! The engines as dtc's command line calls them.
 
 use dt_include::Binary;
-use dtman_diagnosis::dtc_span;
+use dtman_diagnosis::{Refused, dtc_span};
 use dtman_dtc::{Compilation, Compiler, Fault, Texts, layout_bytes};
-use dtman_engine::{
-    DtcOptions, Position, compile_dtc_bytes, copy_bytes, overlay_bytes, sort_bytes,
-};
+use dtman_engine::{DtcOptions, compile_dtc_bytes, copy_bytes, overlay_bytes, sort_bytes};
 use std::alloc::Global;
 use std::hash::RandomState;
 
@@ -34,7 +32,7 @@ impl Compiler for Engine {
             Ok(blob) => Ok(blob),
             Err(fault) => Err(Fault {
                 // Where there is no memory to find them, the line stands alone.
-                bytes: dtc_span(alloc, text, symbols, fault.number).unwrap_or(None),
+                bytes: dtc_span(alloc, text, symbols, refused_by(&fault)).unwrap_or(None),
                 ..dtc_fault(fault)
             }),
         }
@@ -71,10 +69,14 @@ fn dtc_fault(fault: dtman_engine::Fault) -> Fault {
     Fault {
         number: fault.number,
         name: fault.name,
-        line: match fault.position {
-            Position::Line(line) => Some(line),
-            _ => None,
-        },
+        line: fault.line(),
         bytes: None,
+    }
+}
+
+fn refused_by(fault: &dtman_engine::Fault) -> Refused {
+    Refused {
+        number: fault.number,
+        offset: fault.offset(),
     }
 }

@@ -2,7 +2,7 @@
 use Rattle.std.specs.Prelude.{◌≡◌, ◌≤◌, ◌<◌, ◌++◌, ◌⊎◌, ℕ, List, length, drop, Result, Ok, Err}
 use Rattle.dtman_engine.specs.Fault.{FaultValue, no_memory}
 use Rattle.dtman_engine.specs.declared.fault.Position.{Position}
-use Rattle.dtman_engine.specs.declared.fault.Position.TheVariants.{Nowhere, Line, Event}
+use Rattle.dtman_engine.specs.declared.fault.Position.TheVariants.{Nowhere, Line, At, Event}
 use Rattle.dtman_c.specs.declared.answer.Answer.{Answer}
 
 -- so many bytes are in the buffer
@@ -21,12 +21,14 @@ unnamed = record { status = 3; number = 0; length = 0; line = 0; event = 0 }
 abbrev pub line_of : Position → ℕ
 line_of Nowhere = 0
 line_of (Line line) = line
+line_of (At place) = place.line
 line_of (Event event) = 0
 
 -- an event from 1, and 0 where there is none
 abbrev pub event_of : Position → ℕ
 event_of Nowhere = 0
 event_of (Line line) = 0
+event_of (At place) = 0
 event_of (Event event) = event
 
 -- there are no bytes, for this fault

@@ -92,6 +92,7 @@ pub(crate) fn refusal(fault: &Fault) -> Answer
     let (line, event) = match fault.position {
         Position::Nowhere => (0, 0),
         Position::Line(line) => (line, 0),
+        Position::At(place) => (place.line, 0),
         Position::Event(event) => (0, event),
     };
     Answer {

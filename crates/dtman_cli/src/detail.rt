@@ -3,7 +3,7 @@
 use crate::diagnosing::{Inputs, diagnosed};
 use crate::failure::Failure;
 use dtman_diagnosis::{Diagnosis, text_of};
-use dtman_engine::{Fault, Position};
+use dtman_engine::Fault;
 use std::alloc::{AllocError, Global};
 
 /// How much is told of a refusal.
@@ -74,12 +74,4 @@ pub fn refusal<'a>(
 fn lines_of(alloc: Global, fault: Fault, diagnosis: &Diagnosis) -> Result<String, AllocError> {
     let first = format!(in alloc; "{fault}")?;
     text_of(alloc, first.as_str(), diagnosis)
-}
-
-/// The line of a text file that a fault tells.
-pub fn line_in(fault: Fault) -> Option<usize> {
-    match fault.position {
-        Position::Line(line) => Some(line),
-        _ => None,
-    }
 }

@@ -1,9 +1,8 @@
 //! What each command's refusal is of, by the files that it was given.
 
-use crate::detail::line_in;
 use dtman_diagnosis::{
-    Diagnosis, before_event, diagnose_blob, diagnose_dtc, diagnose_event, diagnose_overlay,
-    diagnose_plan, diagnose_source, diagnose_text,
+    Diagnosis, Refused, before_event, diagnose_blob, diagnose_dtc, diagnose_event,
+    diagnose_overlay, diagnose_plan, diagnose_source, diagnose_text,
 };
 use dtman_engine::{Fault, Position, replay_bytes};
 use std::alloc::{AllocError, Global};
@@ -55,12 +54,16 @@ pub enum Inputs<'a> {
 /// What a refusal is of.
 pub fn diagnosed(alloc: Global, inputs: Inputs<'_>, fault: Fault) -> Result<Diagnosis, AllocError> {
     let number = fault.number;
+    let refused = Refused {
+        number,
+        offset: fault.offset(),
+    };
     match inputs {
         Inputs::Source { text, symbols } => {
-            diagnose_source(alloc, text.name, text.bytes, symbols, number)
+            diagnose_source(alloc, text.name, text.bytes, symbols, refused)
         }
         Inputs::Whole { text, symbols } => {
-            diagnose_dtc(alloc, text.name, text.bytes, symbols, number)
+            diagnose_dtc(alloc, text.name, text.bytes, symbols, refused)
         }
         Inputs::Overlay { base, overlay } => diagnose_overlay(
             alloc,
@@ -93,7 +96,7 @@ fn unplanned(
             drivers.name,
             drivers.bytes,
             fault.number,
-            line_in(fault),
+            fault.line(),
         ),
         54..=56 => diagnose_plan(alloc, blob.name, blob.bytes, fault.number),
         _ => diagnose_blob(alloc, blob.name, blob.bytes, fault.number),
@@ -108,7 +111,7 @@ fn unreplayed(
     schedule: Given<'_>,
     fault: Fault,
 ) -> Result<Diagnosis, AllocError> {
-    let (number, line) = (fault.number, line_in(fault));
+    let (number, line) = (fault.number, fault.line());
     let Position::Event(event) = fault.position else {
         return match replay_bytes(alloc, hasher, plan.bytes, b"".as_slice()) {
             Err(_) => diagnose_text(alloc, plan.name, plan.bytes, number, line),

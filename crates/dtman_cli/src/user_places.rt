@@ -4,6 +4,7 @@ ghost use Rattle.dtman_engine.specs.Fault.{fault_value};
 ghost use Rattle.dtman_cli.specs.UserFault.{in_user_file};
 
 use dt_include::{Site, user_place};
+use dt_source::Place;
 use dtman_diagnosis::Location;
 use dtman_engine::{Fault, Position};
 
@@ -14,6 +15,13 @@ pub fn in_user_file(file: &[u8], text: &[u8], fault: Fault) -> Fault
     match fault.position {
         Position::Line(line) => Fault {
             position: Position::Line(user_place(file, text, line).line),
+            ..fault
+        },
+        Position::At(place) => Fault {
+            position: Position::At(Place {
+                line: user_place(file, text, place.line).line,
+                ..place
+            }),
             ..fault
         },
         _ => fault,

@@ -27,6 +27,7 @@ pub use diagnosis::{Diagnosis, Location, Note, Subject, copied};
 pub use examples::example_of;
 pub use overlays::diagnose_overlay;
 pub use plans::{before_event, diagnose_event, diagnose_text};
+pub use refused::Refused;
 pub use sources::{diagnose_dtc, diagnose_source, dtc_span};
 pub use suppliers::diagnose_plan;
 pub use text::text_of;

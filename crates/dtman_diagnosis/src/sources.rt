@@ -8,7 +8,7 @@ use crate::diagnosis::{Diagnosis, Location, Note, Subject, copied};
 use crate::hints::{hint, meant};
 use crate::marks::{Mark, mark_stopped, mark_traced, span_of};
 use crate::origins::Origin;
-use crate::refused::stop_of;
+use crate::refused::{Refused, stop_at};
 use dt_include::Span;
 use dt_lexeme::{Kind, Language, Lexeme, scan_front};
 use dt_place::named;
@@ -16,20 +16,21 @@ use dt_source::MAX_SOURCE_LEN;
 use dt_trace::{Around, Culprit, Trace, fragment_names, trace_source, whereabouts};
 use std::alloc::{AllocError, Global};
 
-/// A text that was refused, and by which number.
+/// A text that was refused.
 #[derive(Clone, Copy)]
-struct Refused<'a> {
+struct Case<'a> {
     origin: Origin<'a>,
     number: u8,
+    offset: Option<u32>,
 }
 
-/// What `compile` refuses of a source by this number, with its place by the line markers in it, else in the file of this name.
+/// What `compile` refuses of a source so, with its place by the line markers in it, else in the file of this name.
 pub fn diagnose_source(
     alloc: Global,
     file: &[u8],
     text: &[u8],
     symbols: bool,
-    number: u8,
+    refused: Refused,
 ) -> Result<Diagnosis, AllocError> {
     let language = Language::Profile;
     let origin = Origin {
@@ -37,7 +38,7 @@ pub fn diagnose_source(
         file,
         text,
     };
-    Refused { origin, number }.diagnose(alloc, symbols)
+    case_of(origin, refused).diagnose(alloc, symbols)
 }
 
 /// The same of a source in dtc's language, with all that it takes in.
@@ -46,7 +47,7 @@ pub fn diagnose_dtc(
     file: &[u8],
     text: &[u8],
     symbols: bool,
-    number: u8,
+    refused: Refused,
 ) -> Result<Diagnosis, AllocError> {
     let language = Language::Dtc;
     let origin = Origin {
@@ -54,29 +55,37 @@ pub fn diagnose_dtc(
         file,
         text,
     };
-    Refused { origin, number }.diagnose(alloc, symbols)
+    case_of(origin, refused).diagnose(alloc, symbols)
 }
 
-/// The bytes of a source in dtc's language, with all that it takes in, which are refused by this number; none where they aren't known.
+/// The bytes of a source in dtc's language, with all that it takes in, which are refused so; none where they aren't known.
 pub fn dtc_span(
     alloc: Global,
     text: &[u8],
     symbols: bool,
-    number: u8,
+    refused: Refused,
 ) -> Result<Option<Span>, AllocError> {
     let origin = Origin {
         language: Language::Dtc,
         file: b"",
         text,
     };
-    let refused = Refused { origin, number };
-    match refused.mark(alloc, symbols)? {
+    match case_of(origin, refused).mark(alloc, symbols)? {
         Some(mark) => Ok(Some(mark.span)),
         None => Ok(None),
     }
 }
 
-impl<'a> Refused<'a> {
+fn case_of<'a>(origin: Origin<'a>, refused: Refused) -> Case<'a> {
+    let Refused { number, offset } = refused;
+    Case {
+        origin,
+        number,
+        offset,
+    }
+}
+
+impl<'a> Case<'a> {
     fn diagnose(&self, alloc: Global, symbols: bool) -> Result<Diagnosis, AllocError> {
         let (text, language) = (self.origin.text, self.origin.language);
         if text.len() > MAX_SOURCE_LEN {
@@ -100,8 +109,11 @@ impl<'a> Refused<'a> {
         let (lexemes, broken) = scan_front(alloc, text, language)?;
         let lexemes = lexemes.as_slice();
         match self.number {
-            10..=16 => match stop_of(alloc, language, text, lexemes, broken)? {
-                Some(stop) => Ok(mark_stopped(self.origin, self.number, lexemes, broken, stop)),
+            10..=16 => match self.offset {
+                Some(offset) => {
+                    let stop = stop_at(lexemes, offset);
+                    Ok(mark_stopped(self.origin, self.number, lexemes, broken, stop))
+                }
                 None => Ok(None),
             },
             _ => self.mark_of_meaning(alloc, lexemes, symbols),
@@ -171,9 +183,10 @@ impl<'a> Refused<'a> {
         broken: Option<u32>,
     ) -> Result<Diagnosis, AllocError> {
         let (text, language) = (self.origin.text, self.origin.language);
-        let Some(stop) = stop_of(alloc, language, text, lexemes, broken)? else {
+        let Some(offset) = self.offset else {
             return self.whole(alloc);
         };
+        let stop = stop_at(lexemes, offset);
         let before = lexemes.get(..stop.index).unwrap_or(lexemes);
         let halt = Halt {
             origin: self.origin,
@@ -344,7 +357,7 @@ impl<'a> Refused<'a> {
     }
 }
 
-impl<'a> Refused<'a> {
+impl<'a> Case<'a> {
     // Whether a text of the profile has no fault of edits or references by the rules of dtc's language.
     fn is_dtc(&self, alloc: Global) -> Result<bool, AllocError> {
         if self.origin.language == Language::Dtc {

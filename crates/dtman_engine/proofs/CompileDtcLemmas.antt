@@ -29,6 +29,7 @@ use Rattle.dt_resolve.proofs.Faults.{fault-then}
 use Rattle.dt_build.specs.BuiltByDtc.{DtcRefuses, IsDtcLonger, IsDtcTreeOf, booting}
 use Rattle.dtman_engine.specs.declared.compiling_dtc.DtcOptions.{DtcOptions}
 use Rattle.dtman_engine.specs.declared.fault.Fault.{Fault}
+use Rattle.dt_source.specs.Places.{nowhere}
 use Rattle.dtman_engine.specs.CompileDtc.{AnswersFilled, IsDtcCompiled, IsDtcRefusal, SaysWith, dtc_meant, lacking, processor_of}
 use Rattle.dtman_engine.specs.Fault.{Answer, FaultValue, fault_value, no_memory}
 use Rattle.dtman_engine.specs.Limits.{blob_limit, IsShort}
@@ -106,7 +107,7 @@ module _ (options : DtcOptions) (text : List ℕ) where
     compiled (Err refusal) fills (Err fault) h = tt
 
     untold : (refusal : Refusal) → filled files m ≡ Err refusal → (fault : FaultValue) → (fault ≡ no_memory) ⊎ (fault ≡ lacking text refusal) → IsDtcRefusal options text files fault
-    untold refusal lacks fault (inl none) = inl (record { kind = NoMemory; line = 0; told = none; refuses = (short, refl) })
+    untold refusal lacks fault (inl none) = inl (record { kind = NoMemory; place = nowhere; told = none; refuses = (short, refl) })
     untold refusal lacks fault (inr told) = inr (inl (record { said = m; short = short; says = says; refusal = refusal; lacks = lacks; told = told }))
 
     pub in-vain : (q : Result Meaning Refusal) → filled files m ≡ q → (r : Answer) → AnswersFilled options text q r → IfErr r (λ fault. IsDtcRefusal options text files (fault_value fault))

@@ -18,6 +18,7 @@ use Rattle.dt_blob.specs.Blob as blob
 use Rattle.dt_build.specs.Built.{IsLonger, IsTreeOf}
 use Rattle.dtman_engine.specs.Private.Writing.{CannotWrite}
 use Rattle.dtman_engine.specs.Compile.{meant_by}
+use Rattle.dt_source.specs.declared.place.Place.{Place}
 use Rattle.dtman_engine.specs.Meant.{CannotBuild, HasLongBlob, IsBlobOf, IsBlobOfText, Meant, SaysInVain, SaysNone}
 use Rattle.dtman_engine.specs.declared.fault.Fault.{Fault}
 use Rattle.dtman_engine.specs.Fault.{FaultValue, fault_value}
@@ -78,7 +79,7 @@ module _ {V : Type 0} (bytes : V → List ℕ) (Says : Meaning → Type 0) (mean
   compiled (Ok v) short says h = record { said = m; short = short; says = says; blob_is = h }
   compiled (Err fault) short says h = tt
 
-  module _ (Refuses : SourceErrorKind → ℕ → Type 0) where
+  module _ (Refuses : SourceErrorKind → Place → Type 0) where
     pub in-vain : (r : Result V Fault) → IsShort text → Says m → MatchResult r (λ v. IsBlobOf (meant m) (bytes v)) (λ fault. CannotBuild (meant m) (fault_value fault))
         → IfErr r (λ fault. SaysNone Refuses (fault_value fault) ⊎ SaysInVain Says meant text (fault_value fault))
     in-vain (Ok v) short says h = tt

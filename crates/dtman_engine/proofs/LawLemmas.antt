@@ -18,6 +18,7 @@ use Rattle.dt_blob.specs.SourceText.{text_of}
 use Rattle.dtman_engine.specs.Compile.{CannotBuild, IsCompileRefusal, meant_by}
 use Rattle.dtman_engine.specs.Dump.{CannotPrint, Explains, IsDump, IsRefusal, IsUnread}
 use Rattle.dtman_engine.specs.Fault.{FaultValue, no_memory}
+use Rattle.dt_source.specs.declared.place.Place.{Place}
 use Rattle.dtman_engine.specs.SourceFaults.{build_fault, source_fault}
 use Rattle.dtman_engine.specs.BlobFaults.{blob_fault}
 use Rattle.dtman_engine.specs.Laws.{CannotCompile}
@@ -70,20 +71,20 @@ module _ (one : (bytes : List ℕ) (tree other : TreeData) → Holds bytes tree 
   unread fault refusal = unwanted refusal.error fault refusal.told refusal.explained refusal.size
 
 -- ---- a text that says what means the tree
-module _ (accepted : (text : List ℕ) (m : Meaning) (k : SourceErrorKind) (line : ℕ) → IsShort text → Says Profile text m → parse.Refuses Profile text k line → k ≡ kinds.NoMemory) (meaning : (text : List ℕ) (m n : Meaning) → Says Profile text m → Says Profile text n → m ≡ n) (text : List ℕ) (s : Meaning) (t : TreeData) (is : IsTree t) (says : Says Profile text s) (of : IsTreeOf false s t) (fits : length (blob_of t) ≤ blob_limit) where
-  wanted : (k : SourceErrorKind) (line : ℕ) (fault : FaultValue) → fault ≡ source_fault k line → IsShort text → parse.Refuses Profile text k line → CannotCompile text fault
-  wanted k line fault told short why = inl (told ∙ ap (λ (x : SourceErrorKind). source_fault x line) (accepted text s k line short says why))
+module _ (accepted : (text : List ℕ) (m : Meaning) (k : SourceErrorKind) (place : Place) → IsShort text → Says Profile text m → parse.Refuses Profile text k place → k ≡ kinds.NoMemory) (meaning : (text : List ℕ) (m n : Meaning) → Says Profile text m → Says Profile text n → m ≡ n) (text : List ℕ) (s : Meaning) (t : TreeData) (is : IsTree t) (says : Says Profile text s) (of : IsTreeOf false s t) (fits : length (blob_of t) ≤ blob_limit) where
+  wanted : (k : SourceErrorKind) (place : Place) (fault : FaultValue) → fault ≡ source_fault k place → IsShort text → parse.Refuses Profile text k place → CannotCompile text fault
+  wanted k place fault told short why = inl (told ∙ ap (λ (x : SourceErrorKind). source_fault x place) (accepted text s k place short says why))
 
-  unsaid : (k : SourceErrorKind) (line : ℕ) (fault : FaultValue) → fault ≡ source_fault k line → parse.Refuses Profile text k line → CannotCompile text fault
-  unsaid kinds.NoMemory line fault told why = inl told
-  unsaid kinds.TooLong line fault told why = inr (told ∙ ap (source_fault kinds.TooLong) why.1, why.0)
-  unsaid kinds.Syntax line fault told why = wanted kinds.Syntax line fault told why.0 why
-  unsaid kinds.TooDeep line fault told why = wanted kinds.TooDeep line fault told why.0 why
-  unsaid kinds.ElementRange line fault told why = wanted kinds.ElementRange line fault told why.0 why
-  unsaid kinds.DivideByZero line fault told why = wanted kinds.DivideByZero line fault told why.0 why
-  unsaid kinds.BadBits line fault told why = wanted kinds.BadBits line fault told why.0 why
-  unsaid kinds.LiteralRange line fault told why = wanted kinds.LiteralRange line fault told why.0 why
-  unsaid kinds.BadEscape line fault told why = wanted kinds.BadEscape line fault told why.0 why
+  unsaid : (k : SourceErrorKind) (place : Place) (fault : FaultValue) → fault ≡ source_fault k place → parse.Refuses Profile text k place → CannotCompile text fault
+  unsaid kinds.NoMemory place fault told why = inl told
+  unsaid kinds.TooLong place fault told why = inr (told ∙ ap (source_fault kinds.TooLong) why.1, why.0)
+  unsaid kinds.Syntax place fault told why = wanted kinds.Syntax place fault told why.0 why
+  unsaid kinds.TooDeep place fault told why = wanted kinds.TooDeep place fault told why.0 why
+  unsaid kinds.ElementRange place fault told why = wanted kinds.ElementRange place fault told why.0 why
+  unsaid kinds.DivideByZero place fault told why = wanted kinds.DivideByZero place fault told why.0 why
+  unsaid kinds.BadBits place fault told why = wanted kinds.BadBits place fault told why.0 why
+  unsaid kinds.LiteralRange place fault told why = wanted kinds.LiteralRange place fault told why.0 why
+  unsaid kinds.BadEscape place fault told why = wanted kinds.BadEscape place fault told why.0 why
 
   unbuilt : (m : Meaning) (fault : FaultValue) → IsTreeOf false m t → CannotBuild false m fault → CannotCompile text fault
   unbuilt m fault also (inl none) = inl none
@@ -91,6 +92,6 @@ module _ (accepted : (text : List ℕ) (m : Meaning) (k : SourceErrorKind) (line
   unbuilt m fault also (inr (inr long)) = elim (fits-not (meant_by false m) t is (tree-meant false m t also) fits long.1) [ ]
 
   pub uncompiled : (fault : FaultValue) → IsCompileRefusal false text fault → CannotCompile text fault
-  uncompiled fault (inl none) = unsaid none.kind none.line fault none.told none.refuses
+  uncompiled fault (inl none) = unsaid none.kind none.place fault none.told none.refuses
   uncompiled fault (inr vain) =
       unbuilt vain.said fault (subst (λ (x : Meaning). IsTreeOf false x t) (meaning text s vain.said says vain.says) of) vain.cannot

@@ -23,7 +23,7 @@ module _ (accepted : OnlyMemoryRefusesWhatIsSaid) (meaning : (text : List ℕ) (
 
   refuses : (fault : FaultValue) → IsCompileRefusal symbols text fault → CannotBuild symbols m fault
   refuses fault (inl none) =
-      inl (none.told ∙ ap (λ (k : SourceErrorKind). source_fault k none.line) (accepted Profile text m none.kind none.line short says none.refuses))
+      inl (none.told ∙ ap (λ (k : SourceErrorKind). source_fault k none.place) (accepted Profile text m none.kind none.place short says none.refuses))
   refuses fault (inr vain) = subst (λ (x : Meaning). CannotBuild symbols x fault) (meaning text vain.said m vain.says says) vain.cannot
 
   pub compiled-once : IsOneAnswer (IsCompiled symbols text) (IsCompileRefusal symbols text)

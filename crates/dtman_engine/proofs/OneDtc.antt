@@ -37,7 +37,7 @@ module _ (accepted : OnlyMemoryRefusesWhatIsSaid) (meaning : (text : List ℕ) (
 
   refuses : (fault : FaultValue) → IsDtcRefusal options text files fault → CannotBuild (dtc_meant options m) fault
   refuses fault (inl none) =
-      inl (none.told ∙ ap (λ (k : SourceErrorKind). source_fault k none.line) (accepted Dtc text means.said none.kind none.line short means.says none.refuses))
+      inl (none.told ∙ ap (λ (k : SourceErrorKind). source_fault k none.place) (accepted Dtc text means.said none.kind none.place short means.says none.refuses))
   refuses fault (inr (inl lack)) = absurd (none-lacks fault lack)
   refuses fault (inr (inr vain)) = subst (λ (x : Meaning). CannotBuild (dtc_meant options x) fault) (same vain.said vain.says) vain.cannot
 

@@ -3,7 +3,7 @@
 use Rattle.std.specs.Prelude.{◌≡◌, ◌⊎◌, ℕ, List, Option, Some, None, Result, Ok, Err, IsErrAnd}
 use Rattle.dt_lexeme.specs.declared.language.Language.TheVariants.{Dtc}
 use Rattle.dt_lexeme.specs.declared.lexeme.Refusal.{Refusal}
-use Rattle.dt_lexeme.specs.Lines.{line_at}
+use Rattle.dt_source.specs.Places.{place_at}
 use Rattle.dt_tree.specs.Steps.{then_do}
 use Rattle.dt_lexeme.specs.declared.binary.Binary.{Binary}
 use Rattle.dt_source.specs.declared.error.SourceErrorKind.TheVariants.{Syntax}
@@ -39,9 +39,9 @@ pub record SaysWith (text : List ℕ) (files : List Binary) (m : Meaning) : Type
   pub says : Says Dtc text said
   pub fills : filled files said ≡ Ok m
 
--- 10 in the line of the `/incbin/` whose file isn't there
+-- 10 at the `/incbin/` whose file isn't there
 abbrev pub lacking : List ℕ → Refusal → FaultValue
-lacking text refusal = source_fault Syntax (line_at text refusal.place)
+lacking text refusal = source_fault Syntax (place_at text refusal.place)
 
 -- a file isn't there that the text names
 pub record LacksFile (text : List ℕ) (files : List Binary) (fault : FaultValue) : Type 0 where

@@ -9,6 +9,7 @@ use Rattle.dt_fixup.specs.declared.error.OverlayError.TheVariants as overlay
 use Rattle.bus_plan.specs.declared.error.PlanError.TheVariants as text
 use Rattle.bus_core.specs.declared.refusal.Refusal.TheVariants as event
 use Rattle.bus_manager.specs.declared.run_error.RunError.TheVariants as run
+use Rattle.dt_source.specs.Places.{beginning}
 use Rattle.dtman_engine.specs.declared.explaining.Explanation.{Explanation}
 use Rattle.dtman_engine.specs.Fault.{FaultValue, no_memory, cannot_read, cannot_write, file_too_long}
 use Rattle.dtman_engine.specs.BlobFaults.{blob_fault}
@@ -29,7 +30,7 @@ memory_faults = no_memory ∷ []
 
 abbrev pub source_faults : List FaultValue
 source_faults =
-    map (λ kind. source_fault kind 1) (source.Syntax ∷ source.ElementRange ∷ source.DivideByZero ∷ source.BadBits ∷ source.LiteralRange ∷ source.BadEscape ∷ source.TooDeep ∷ source.TooLong ∷ [])
+    map (λ kind. source_fault kind beginning) (source.Syntax ∷ source.ElementRange ∷ source.DivideByZero ∷ source.BadBits ∷ source.LiteralRange ∷ source.BadEscape ∷ source.TooDeep ∷ source.TooLong ∷ [])
 
 abbrev pub build_faults : List FaultValue
 build_faults =

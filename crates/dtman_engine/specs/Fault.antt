@@ -1,9 +1,9 @@
 -- A fault as contracts see it, and the line of standard error that tells it.
-use Rattle.std.specs.Prelude.{◌≡◌, ℕ, List, [], ◌++◌, codes, Result, IsErrAnd, Vec}
+use Rattle.std.specs.Prelude.{◌≡◌, ℕ, List, [], ◌++◌, codes, Option, None, Some, Result, IsErrAnd, Vec}
 use Rattle.std.specs.declared.alloc.Global.{Global}
 use Rattle.std.specs.Fmt.{decimal}
 use Rattle.dtman_engine.specs.declared.fault.Position.{Position}
-use Rattle.dtman_engine.specs.declared.fault.Position.TheVariants.{Nowhere, Line, Event}
+use Rattle.dtman_engine.specs.declared.fault.Position.TheVariants.{Nowhere, Line, At, Event}
 use Rattle.dtman_engine.specs.declared.fault.Fault.{Fault}
 
 pub record FaultValue : Type 0 where
@@ -18,7 +18,22 @@ fault_value fault = record { number = fault.number; name = fault.name.now; posit
 abbrev pub position_text : Position → List ℕ
 position_text Nowhere = []
 position_text (Line line) = codes " line " ++ decimal line
+position_text (At place) = codes " line " ++ decimal place.line
 position_text (Event event) = codes " event " ++ decimal event
+
+-- the line that a position tells
+abbrev pub line_in : Position → Option ℕ
+line_in Nowhere = None
+line_in (Line line) = Some line
+line_in (At place) = Some place.line
+line_in (Event event) = None
+
+-- the byte that a position tells
+abbrev pub offset_in : Position → Option ℕ
+offset_in Nowhere = None
+offset_in (Line line) = None
+offset_in (At place) = Some place.offset
+offset_in (Event event) = None
 
 -- the number, the name and the position
 abbrev pub fault_line : Fault → List ℕ

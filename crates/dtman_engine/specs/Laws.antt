@@ -17,6 +17,7 @@ use Rattle.dtman_engine.specs.Dump.{CannotPrint, IsDump, IsRefusal}
 use Rattle.dtman_engine.specs.declared.compiling_dtc.DtcOptions.{DtcOptions}
 use Rattle.dtman_engine.specs.Fault.{FaultValue, no_memory}
 use Rattle.dtman_engine.specs.SourceFaults.{source_fault}
+use Rattle.dt_source.specs.Places.{beginning}
 use Rattle.dtman_engine.specs.Limits.{blob_limit, source_limit, IsShort}
 use Rattle.dtman_engine.specs.Overlay.{IsOverlaid, IsOverlayRefusal}
 
@@ -29,7 +30,7 @@ pub record HasCanonicalSource (tree : TreeData) : Type 0 where
 
 -- why a text isn't compiled, though it means a tree whose blob fits: memory is wanted, or it is over 16 MiB
 abbrev pub CannotCompile : List ℕ → FaultValue → Type 0
-CannotCompile text fault = (fault ≡ no_memory) ⊎ ((fault ≡ source_fault TooLong 1) × (source_limit < length text))
+CannotCompile text fault = (fault ≡ no_memory) ⊎ ((fault ≡ source_fault TooLong beginning) × (source_limit < length text))
 
 -- the blob of the tree comes back: `dump_bytes` of it is the tree's text, and `compile_bytes` of that text, without
 -- symbols, is the blob, unless memory is wanted or the text is too long

@@ -4,6 +4,7 @@ use Rattle.dt_tree.specs.PathMap.{TreeMap, tree_map}
 use Rattle.dt_tree.specs.TreeData.{TreeData, IsTree}
 use Rattle.dt_meaning.specs.Statements.{Fault}
 use Rattle.dt_meaning.specs.Syntax.{Meaning}
+use Rattle.dt_source.specs.declared.place.Place.{Place}
 use Rattle.dt_source.specs.declared.error.SourceErrorKind.{SourceErrorKind}
 use Rattle.dt_resolve.specs.declared.error.BuildError.{BuildError}
 use Rattle.dt_resolve.specs.BuildFault.{IsFault}
@@ -47,7 +48,7 @@ CannotBuild meant fault = (fault ≡ no_memory) ⊎ MeansNone meant fault ⊎ ((
 abbrev pub Builds : Meant → Answer → Type 0
 Builds meant given = MatchResult given (λ blob. IsBlobOf meant blob.items) (λ fault. CannotBuild meant (fault_value fault))
 
--- ---- of what a text says: `Says` tells what that may be, and `Refuses` why it is nothing, by the kind of error and its line
+-- ---- of what a text says: `Says` tells what that may be, and `Refuses` why it is nothing, by the kind of error and its place
 -- the text says something, and this is the blob of what that means
 pub record IsBlobOfText (Says : Meaning → Type 0) (meant : Meaning → Meant) (text blob : List ℕ) : Type 0 where
   pub said : Meaning
@@ -55,12 +56,12 @@ pub record IsBlobOfText (Says : Meaning → Type 0) (meant : Meaning → Meant) 
   pub says : Says said
   pub blob_is : IsBlobOf (meant said) blob
 
--- the text says nothing, for this kind of error in this line
-pub record SaysNone (Refuses : SourceErrorKind → ℕ → Type 0) (fault : FaultValue) : Type 0 where
+-- the text says nothing, for this kind of error at this place
+pub record SaysNone (Refuses : SourceErrorKind → Place → Type 0) (fault : FaultValue) : Type 0 where
   pub kind : SourceErrorKind
-  pub line : ℕ
-  pub told : fault ≡ source_fault kind line
-  pub refuses : Refuses kind line
+  pub place : Place
+  pub told : fault ≡ source_fault kind place
+  pub refuses : Refuses kind place
 
 -- what the text says makes no blob
 pub record SaysInVain (Says : Meaning → Type 0) (meant : Meaning → Meant) (text : List ℕ) (fault : FaultValue) : Type 0 where

@@ -1,5 +1,5 @@
 -- The faults of a source, and of the tree that is built of it.
-use Rattle.std.specs.Prelude.{ℕ}
+use Rattle.dt_source.specs.declared.place.Place.{Place}
 use Rattle.dt_source.specs.declared.error.SourceErrorKind.{SourceErrorKind}
 use Rattle.dt_source.specs.declared.error.SourceErrorKind.TheVariants.{NoMemory}
 use Rattle.dt_source.specs.SourceError as source
@@ -7,16 +7,16 @@ use Rattle.dt_resolve.specs.declared.error.BuildError.{BuildError}
 use Rattle.dt_resolve.specs.BuildError as build
 use Rattle.dtman_engine.specs.Fault.{FaultValue}
 use Rattle.dtman_engine.specs.declared.fault.Position.{Position}
-use Rattle.dtman_engine.specs.declared.fault.Position.TheVariants.{Nowhere, Line}
+use Rattle.dtman_engine.specs.declared.fault.Position.TheVariants.{Nowhere, At}
 
--- want of memory is no line's
-abbrev pub source_position : SourceErrorKind → ℕ → Position
-source_position NoMemory line = Nowhere
-source_position _ line = Line line
+-- want of memory has no place
+abbrev pub source_position : SourceErrorKind → Place → Position
+source_position NoMemory place = Nowhere
+source_position _ place = At place
 
 -- of a source's text
-abbrev pub source_fault : SourceErrorKind → ℕ → FaultValue
-source_fault kind line = record { number = source.number_of kind; name = source.name_of kind; position = source_position kind line }
+abbrev pub source_fault : SourceErrorKind → Place → FaultValue
+source_fault kind place = record { number = source.number_of kind; name = source.name_of kind; position = source_position kind place }
 
 -- of what a source says
 abbrev pub build_fault : BuildError → FaultValue

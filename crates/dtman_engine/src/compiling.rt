@@ -21,7 +21,7 @@ use std::hash::RandomState;
 
 /// The blob of the tree that the source in a text means.
 ///
-/// The text's fault comes first, with its line, then that of what it says, then a blob that is too long: sizes are counted before
+/// The text's fault comes first, with its place, then that of what it says, then a blob that is too long: sizes are counted before
 /// any value is made.
 pub fn compile_bytes(
     alloc: Global,

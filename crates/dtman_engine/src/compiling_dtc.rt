@@ -17,8 +17,8 @@ use crate::fault::Fault;
 use crate::limits::MAX_BLOB_LEN;
 use dt_blob::BlobError;
 use dt_build::build_dtc_within;
-use dt_lexeme::{Binary, Language, ReadError, line_of};
-use dt_source::{Source, SourceError, SourceErrorKind, one_source, parse};
+use dt_lexeme::{Binary, Language, ReadError};
+use dt_source::{Source, SourceError, SourceErrorKind, one_source, parse, place_at};
 use dt_tree::Tree;
 use std::alloc::Global;
 use std::hash::RandomState;
@@ -36,7 +36,7 @@ pub struct DtcOptions {
 /// of the text, each at the place of its word in bytes (Devicetree Specification v0.4, chapters 5 and 6; where it is silent,
 /// dtc 1.6.1).
 ///
-/// The text's fault comes first, with its line: 10 to 16, or 17 where it is over 16 MiB. Then, with the line of its `/incbin/`, 10
+/// The text's fault comes first, with its place: 10 to 16, or 17 where it is over 16 MiB. Then, with the place of its `/incbin/`, 10
 /// where the next file is of another place or none is left; then 20 to 28 of what the source says; then 38 of a blob over 256 MiB:
 /// sizes are counted before any value is made, and files count there alone. Of a whole file nothing is copied.
 pub fn compile_dtc_bytes(
@@ -85,7 +85,7 @@ fn lack(text: &[u8], error: ReadError) -> Fault
         ReadError::NoMemory => Fault::no_memory(),
         ReadError::Refused(refusal) => Fault::from(SourceError {
             kind: SourceErrorKind::Syntax,
-            line: line_of(text, refusal.place),
+            place: place_at(text, refusal.place),
         }),
     }
 }

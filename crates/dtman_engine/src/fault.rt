@@ -14,7 +14,7 @@ use bus_plan::PlanError;
 use dt_blob::BlobError;
 use dt_build::BuildError;
 use dt_overlay::OverlayError;
-use dt_source::{SourceError, SourceErrorKind};
+use dt_source::{Place, SourceError, SourceErrorKind};
 use std::alloc::AllocError;
 use std::fmt;
 
@@ -24,6 +24,8 @@ pub enum Position {
     Nowhere,
     /// A line of a text file, from 1.
     Line(usize),
+    /// A place in a source.
+    At(Place),
     /// An event of a schedule, from 1.
     Event(usize),
 }
@@ -37,6 +39,29 @@ pub struct Fault {
 }
 
 impl Fault {
+    ghost use Rattle.dtman_engine.specs.Fault.{line_in, offset_in};
+
+    /// The line that it tells, from 1, where it tells one.
+    pub fn line(&self) -> Option<usize>
+        ensures { result ≡ line_in self.now.position }
+    {
+        match self.position {
+            Position::Line(line) => Some(line),
+            Position::At(place) => Some(place.line),
+            _ => None,
+        }
+    }
+
+    /// The byte of the source that is refused, where it tells one.
+    pub fn offset(&self) -> Option<u32>
+        ensures { result ≡ offset_in self.now.position }
+    {
+        match self.position {
+            Position::At(place) => Some(place.offset),
+            _ => None,
+        }
+    }
+
     /// A growth was refused.
     pub fn no_memory() -> Fault
         ensures { fault_value result ≡ no_memory }
@@ -105,9 +130,9 @@ impl From<PlanError> for Fault {
     }
 }
 
-/// The line is that of the text. Want of memory is no line's.
+/// The place is that of the text. Want of memory is no line's.
 impl From<SourceError> for Fault {
-    ghost from_gives = { λ error fault. fault_value fault ≡ source_fault error.kind error.line };
+    ghost from_gives = { λ error fault. fault_value fault ≡ source_fault error.kind error.place };
 
     fn from(error: SourceError) -> Fault {
         Fault {
@@ -115,7 +140,7 @@ impl From<SourceError> for Fault {
             name: error.name(),
             position: match error.kind {
                 SourceErrorKind::NoMemory => Position::Nowhere,
-                _ => Position::Line(error.line),
+                _ => Position::At(error.place),
             },
         }
     }
@@ -200,6 +225,7 @@ impl fmt::Display for Fault {
         match position {
             Position::Nowhere => write!(f, "error {number} {name}"),
             Position::Line(line) => write!(f, "error {number} {name} line {line}"),
+            Position::At(place) => write!(f, "error {number} {name} line {}", place.line),
             Position::Event(event) => write!(f, "error {number} {name} event {event}"),
         }
     }

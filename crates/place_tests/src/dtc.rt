@@ -2,6 +2,8 @@
 //! told.
 
 use super::shown::shows;
+use crate::refused::refused_by;
+use dt_lexeme::Language;
 use dtman_diagnosis::{diagnose_dtc, dtc_span};
 use std::process::Abort;
 
@@ -194,9 +196,10 @@ const DEEP: &str =
 
 fn row_shows<R: Abort + AllocGlobal>(rt: &R, row: &Row) {
     let (file, source) = (b"board.dts".as_slice(), row.source.as_bytes());
-    let diagnosis = diagnose_dtc(rt.alloc(), file, source, row.symbols, row.number);
+    let refused = refused_by(rt, Language::Dtc, source, row.number);
+    let diagnosis = diagnose_dtc(rt.alloc(), file, source, row.symbols, refused);
     shows(rt, rt.alloc(), diagnosis, row.lines);
-    let Ok(span) = dtc_span(rt.alloc(), source, row.symbols, row.number) else {
+    let Ok(span) = dtc_span(rt.alloc(), source, row.symbols, refused) else {
         panic!(rt; "memory");
     };
     match (span, row.refused) {

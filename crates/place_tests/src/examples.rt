@@ -1,6 +1,8 @@
 //! That the examples of `explain` show what is told of them in detail.
 
 use super::shown::shows;
+use crate::refused::refused_by;
+use dt_lexeme::Language;
 use dtman_diagnosis::{diagnose_event, diagnose_source, diagnose_text, example_of};
 use std::alloc::Global;
 use std::process::Abort;
@@ -30,7 +32,8 @@ const SOURCES: &[(u8, &str)] = &[
 
 fn source_shows<R: Abort + AllocGlobal>(rt: &R, number: u8, source: &str) {
     let file = b"IN".as_slice();
-    let diagnosis = diagnose_source(rt.alloc(), file, source.as_bytes(), false, number);
+    let refused = refused_by(rt, Language::Profile, source.as_bytes(), number);
+    let diagnosis = diagnose_source(rt.alloc(), file, source.as_bytes(), false, refused);
     let lines = example_of(number).expect(rt, "an example");
     shows(rt, rt.alloc(), diagnosis, lines);
 }

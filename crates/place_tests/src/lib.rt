@@ -12,6 +12,8 @@ mod mistakes;
 #[cfg(test)]
 mod places;
 #[cfg(test)]
+mod refused;
+#[cfg(test)]
 mod schedules;
 #[cfg(test)]
 mod shown;

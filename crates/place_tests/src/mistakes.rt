@@ -1,6 +1,7 @@
 //! Mistakes that users make, and what is told of them.
 
 use super::shown::shows;
+use crate::refused::refused_by;
 use dt_lexeme::Language;
 use dtman_diagnosis::{diagnose_dtc, diagnose_source};
 use std::process::Abort;
@@ -172,9 +173,10 @@ const ROWS: &[Row] = &[
 
 fn row_shows<R: Abort + AllocGlobal>(rt: &R, row: &Row) {
     let (file, source) = (b"board.dts".as_slice(), row.source.as_bytes());
+    let refused = refused_by(rt, row.language, source, row.number);
     let diagnosis = match row.language {
-        Language::Profile => diagnose_source(rt.alloc(), file, source, false, row.number),
-        Language::Dtc => diagnose_dtc(rt.alloc(), file, source, false, row.number),
+        Language::Profile => diagnose_source(rt.alloc(), file, source, false, refused),
+        Language::Dtc => diagnose_dtc(rt.alloc(), file, source, false, refused),
     };
     shows(rt, rt.alloc(), diagnosis, row.lines);
 }

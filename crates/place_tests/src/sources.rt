@@ -1,6 +1,8 @@
 //! Refusals of sources: where they are by the line markers, what they are of, and what else is told.
 
 use super::shown::shows;
+use crate::refused::refused_by;
+use dt_lexeme::Language;
 use dtman_diagnosis::diagnose_source;
 use std::process::Abort;
 
@@ -170,7 +172,8 @@ const MEANING: &[Row] = &[
 
 fn row_shows<R: Abort + AllocGlobal>(rt: &R, row: &Row) {
     let (file, source) = (b"board.i".as_slice(), row.source.as_bytes());
-    let diagnosis = diagnose_source(rt.alloc(), file, source, row.symbols, row.number);
+    let refused = refused_by(rt, Language::Profile, source, row.number);
+    let diagnosis = diagnose_source(rt.alloc(), file, source, row.symbols, refused);
     shows(rt, rt.alloc(), diagnosis, row.lines);
 }
 

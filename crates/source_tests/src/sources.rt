@@ -5,8 +5,8 @@ mod board;
 use board::BOARD;
 use dt_lexeme::Language;
 use dt_source::{
-    Item, Part, Place, Reference, Source, SourceError, SourceErrorKind, Statement, bodies_are_lists,
-    faults_are_in_order, one_source, parse, reads_sources, says_lawful,
+    Item, Part, Place, Reference, Source, SourceError, SourceErrorKind, Statement,
+    bodies_are_lists, faults_are_in_order, one_source, parse, reads_sources, says_lawful,
 };
 use std::alloc::Global;
 use std::process::Abort;

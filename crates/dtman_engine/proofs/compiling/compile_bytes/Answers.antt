@@ -13,8 +13,8 @@ use Rattle.dtman_engine.proofs.compiling.compile_bytes.Goals as goal
 pub returns-in-Err-clause-said : goal.returns-in-Err-clause-said
 returns-in-Err-clause-said c =
     let kind = c.in-Err.error.kind in
-    let line = c.in-Err.error.line in
-    λ m short says. inl (c.from.ensures ∙ ap (λ k. source_fault k line) (c.one_source.ensures.accepted Profile c.args.source.now m kind line short says c.in-Err.ensures.refused))
+    let place = c.in-Err.error.place in
+    λ m short says. inl (c.from.ensures ∙ ap (λ k. source_fault k place) (c.one_source.ensures.accepted Profile c.args.source.now m kind place short says c.in-Err.ensures.refused))
 
 pub returns-in-Ok-clause-answer : goal.returns-in-Ok-clause-answer
 returns-in-Ok-clause-answer c =

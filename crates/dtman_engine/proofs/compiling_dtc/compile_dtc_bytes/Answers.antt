@@ -12,11 +12,11 @@ use Rattle.dtman_engine.proofs.compiling_dtc.compile_dtc_bytes.Goals as goal
 pub returns-in-Err-clause-said : goal.returns-in-Err-clause-said
 returns-in-Err-clause-said c =
     let kind = c.in-Err.error.kind in
-    let line = c.in-Err.error.line in
+    let place = c.in-Err.error.place in
     let text = c.args.source.now in
     λ m short says.
     wanted c.args.options text (filled c.args.binaries.items m) c.from.result
-    (c.from.ensures ∙ ap (λ k. source_fault k line) (c.one_source.ensures.accepted Dtc text m kind line short says c.in-Err.ensures.refused))
+    (c.from.ensures ∙ ap (λ k. source_fault k place) (c.one_source.ensures.accepted Dtc text m kind place short says c.in-Err.ensures.refused))
 
 pub returns-in-Ok-clause-answer : goal.returns-in-Ok-clause-answer
 returns-in-Ok-clause-answer c =
