@@ -201,6 +201,27 @@ const REFUSALS: &[(&[u8], u8, usize)] = &[
     (b"/dts-v1/;\n/ { a = <(1 / 0)>; } };", 10, 2),
 ];
 
+// Sources, and the place of their refusal: its offset and its line.
+const PLACES: &[(&[u8], u32, usize)] = &[
+    (b"", 0, 1),
+    (b"/dts-v1/; / {", 13, 1),
+    (b"/dts-v1/; %", 10, 1),
+    (b"/dts-v1/;\n/* / { };\n", 10, 2),
+    (b"/dts-v1/;\n/ {\n  a { };\n b;\n};", 25, 4),
+    (b"/dts-v1/;\n/ { a = <1\n 0x100000000>; };", 22, 3),
+    (b"/dts-v1/; / { p = <(1 / 0)>; };", 22, 1),
+    (b"/dts-v1/;\n/ { p = \"a\\x\"; };", 20, 2),
+];
+
+#[test]
+fn places(rt: HostRuntime) {
+    for (text, offset, line) in PLACES {
+        let error = refusal(rt.alloc(), *text).expect(&rt, "a refusal");
+        assert_eq!(rt; error.place.offset, *offset);
+        assert_eq!(rt; error.place.line, *line);
+    }
+}
+
 fn is_refused(rt: &impl Abort, alloc: Global, text: &[u8], refused: u8, line: usize) {
     match refusal(alloc, text) {
         None => assert_eq!(rt; refused, 255),
