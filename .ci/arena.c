@@ -195,6 +195,8 @@ static struct dtman_answer overlaid(size_t length, uint8_t *both, size_t room)
 		x = o = dtman_compile(hat, sizeof hat - 1, false, 7, overlay, sizeof overlay);
 	if (x.status == DTMAN_WRITTEN)
 		x = dtman_overlay(base, b.length, overlay, o.length, 7, both, room);
+	if (x.status == DTMAN_WRITTEN)
+		check(dtman_overlay(base, b.length, overlay, o.length, 7, both, room).status == DTMAN_WRITTEN, "what was enough isn't enough again");
 	check((x.status == DTMAN_REFUSED) == (dtman_arena_used().refused > 0), "a refusal isn't told as one of the arena");
 	all = rattle_alloc(usable, 16);
 	check(all.ok == (usable > 0), "a call left something taken");
@@ -202,14 +204,14 @@ static struct dtman_answer overlaid(size_t length, uint8_t *both, size_t room)
 	return x;
 }
 
-static void try_overlays(void)
+static void try_overlays(size_t stride)
 {
 	uint8_t wanted[1024], both[1024];
 	struct dtman_answer ample = overlaid(1 << 20, wanted, sizeof wanted), answer;
 	size_t length, least = 0;
 
 	check(ample.status == DTMAN_WRITTEN, "an ample arena isn't enough");
-	for (length = 0; length < 40000; length += length < 2000 ? 1 : 32) {
+	for (length = 0; length < 40000; length += stride * (length < 2000 ? 1 : 32)) {
 		answer = overlaid(length, both, sizeof both);
 		if (answer.status == DTMAN_REFUSED) {
 			check(answer.number == 0, "another refusal than of memory");
@@ -233,7 +235,7 @@ int main(int count, char **words)
 	for (size_t skew = 0; skew < 17; skew++)
 		try_arena(3000 + 100 * skew, skew, requests);
 	try_arena(100000, 3, 20 * requests);
-	try_overlays();
+	try_overlays(requests < 1000 ? 16 : 1);
 	puts("arena: blocks are aligned, apart and inside, and all is free at the end");
 	return 0;
 }

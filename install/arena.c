@@ -124,11 +124,14 @@ struct tried rattle_realloc(void *block, size_t kept, size_t size, size_t align)
 	return moved;
 }
 
+/* Where nothing is held the next block is looked for at the front, so what was enough for a call is enough for it again. */
 void rattle_dealloc(void *block)
 {
 	size_t at = place_of(block), length = dtman_arena_give(arena.marks, arena.granules, at);
 
-	if (arena.next == at + length)
-		arena.next = at;
 	hold(0, length);
+	if (!arena.held)
+		arena.next = 0;
+	else if (arena.next == at + length)
+		arena.next = at;
 }
