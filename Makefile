@@ -9,8 +9,8 @@ export PREFIX DESTDIR MAINTAINER TARGET
 build: toolchain
 	@.ci/build
 
-# Proves and builds the C libraries, and leaves them at bin/libdtman.a and bin/libdtman_view.a; with TARGET=aarch64-unknown-linux-gnu the
-# view's for that processor, bin/libdtman_view-aarch64.a.
+# Proves and builds the C libraries, and leaves them at bin/libdtman.a, bin/libdtman_arena.a and bin/libdtman_view.a; with
+# TARGET=aarch64-unknown-linux-gnu the two that want no malloc, for that processor, bin/libdtman_arena-aarch64.a and bin/libdtman_view-aarch64.a.
 library: toolchain
 	@.ci/build library
 

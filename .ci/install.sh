@@ -105,9 +105,9 @@ try_c() {
 	make -s -C "$built" LIBRARY=installed CC="$1"
 	"$built/calls" | diff examples/c/calls.txt - || fail "examples/c/calls says something else"
 	for name in board hat; do bin/dtman compile "examples/$name.dts" "$built/$name.dtb" --symbols; done
-	bin/dtman compile examples/c/boot-arguments.dts "$built/arguments.dtb"
-	"$built/boot" "$built/board.dtb" "$built/hat.dtb" "$built/arguments.dtb" /chosen bootargs quiet "$built/out.dtb" | tail -1 >"$built/said"
-	[ "$(cat "$built/said")" = '/chosen: bootargs = "quiet"' ] || fail "boot found $(cat "$built/said")"
+	"$built/overlay" "$built/board.dtb" "$built/hat.dtb" "$built/overlaid.dtb" >/dev/null
+	"$built/boot" "$built/overlaid.dtb" 0x40000000 quiet 0x88000000 0x400000 "$built/out.dtb" | tail -1 >"$built/said"
+	[ "$(cat "$built/said")" = 'arguments: quiet' ] || fail "boot says $(cat "$built/said")"
 	bin/dtman dump "$built/out.dtb" | grep -q 'bootargs = "quiet";' || fail "boot wrote something else"
 	rm -rf "$built"
 	echo "C: the examples do what they should over what was installed, built by $1"

@@ -1,6 +1,6 @@
 #!/usr/bin/env bash
-# Builds bin/libdtman.a and bin/libdtman_view.a and tries the C examples over them: what they print, under which compilers, sanitizers and valgrind, and that a boot
-# loader's step makes the blob that the program makes. Where a tool isn't there, it says what wasn't tried.
+# Builds bin/libdtman.a, bin/libdtman_arena.a and bin/libdtman_view.a and tries the C examples over them: what they print, under which compilers,
+# sanitizers and valgrind, for which processors, and that a boot loader's step makes the board that the program makes. Where a tool isn't there, it says what wasn't tried.
 set -euo pipefail
 cd "$(dirname "$0")/.."
 work=$(mktemp -d)
@@ -22,25 +22,65 @@ has() {
 .ci/library
 for name in board hat; do bin/dtman compile "examples/$name.dts" "$work/$name.dtb" --symbols; done
 bin/dtman compile examples/c/boot-arguments.dts "$work/arguments.dtb"
-step=("$work/board.dtb" "$work/hat.dtb" "$work/arguments.dtb" /chosen bootargs "root=/dev/nvme0n1p1 \"two words\"")
+# Two overlays, as the program applies them.
+bin/dtman overlay "$work/board.dtb" "$work/hat.dtb" "$work/overlaid.dtb"
+bin/dtman overlay "$work/overlaid.dtb" "$work/arguments.dtb" "$work/overlaid.dtb"
+# A boot loader's step, what it says, and the same by an overlay.
+step=("$work/overlaid.dtb" 0x40000000 "root=/dev/nvme0n1p1 \"two words\"" 0x88000000 0x400000)
 cat >"$work/said" <<'END'
-/chosen: bootargs = "console=ttyS0,115200 root=/dev/mmcblk0p2 quiet"
-/chosen: bootargs = "root=/dev/nvme0n1p1 "two words""
+memory: 0x20000000 bytes at 0x80000000
+reserved: 0x10000 bytes at 0x80000000
+reserved: 0x1000000 bytes at 0x9f000000
+memory: 0x40000000 bytes at 0x80000000
+reserved: 0x10000 bytes at 0x80000000
+reserved: 0x1000000 bytes at 0x9f000000
+arguments: root=/dev/nvme0n1p1 "two words"
 END
 while read -r line; do grep -qxF "$line" examples/c/README.md || fail "examples/c/README.md shows another output of boot"; done <"$work/said"
-# The same step by the program, in three overlays.
 cat >"$work/setting.dts" <<'END'
 /dts-v1/;
 /plugin/;
-&{/chosen} { bootargs = "root=/dev/nvme0n1p1 \"two words\""; };
+&{/chosen} {
+	bootargs = "root=/dev/nvme0n1p1 \"two words\"";
+	linux,initrd-start = /bits/ 64 <0x88000000>;
+	linux,initrd-end = /bits/ 64 <0x88400000>;
+};
+&{/memory@80000000} { reg = <0 0x80000000 0 0x40000000>; };
 END
 bin/dtman compile "$work/setting.dts" "$work/setting.dtb"
-cp "$work/board.dtb" "$work/wanted.dtb"
-for name in hat arguments setting; do bin/dtman overlay "$work/wanted.dtb" "$work/$name.dtb" "$work/wanted.dtb"; done
+bin/dtman overlay "$work/overlaid.dtb" "$work/setting.dtb" "$work/booted.dtb"
+
+# same_board BLOB WHAT: whether the blob holds the board that boots
+same_board() {
+	[ -z "$(bin/dtman diff "$1" "$work/booted.dtb")" ] || fail "$2 makes another board than the program"
+}
 
 # The report of a run by the program's own threads.
 echo '# nothing happened yet' >"$work/empty.schedule"
 bin/dtman replay examples/sensor-board.plan "$work/empty.schedule" --workers 4 >"$work/report"
+
+# try_arena NAME FOLDER [RUNNER..]: runs the examples that take no memory by malloc, and compares what they print and write
+try_arena() {
+	local name=$1 built=$2
+	shift 2
+	"$@" "$built/boot" "${step[@]}" "$built/out.dtb" | diff "$work/said" - || fail "$name: examples/c/boot says something else"
+	same_board "$built/out.dtb" "$name: examples/c/boot"
+	"$@" "$built/overlay" "$work/board.dtb" "$work/hat.dtb" "$work/arguments.dtb" "$built/out.dtb" >"$built/taken" || fail "$name: examples/c/overlay ends otherwise"
+	grep -qE '^[0-9]+ bytes at most were taken of the arena$' "$built/taken" || fail "$name: examples/c/overlay says something else"
+	cmp "$built/out.dtb" "$work/overlaid.dtb" || fail "$name: examples/c/overlay makes another blob than the program"
+	"$@" "$built/mutated" examples/sensor-board.dtb "$mutations" | diff "$work/mutations" - || fail "$name: examples/c/mutated ends otherwise"
+}
+
+# try_bare NAME FOLDER [RUNNER..]: runs those that have no libc
+try_bare() {
+	local name=$1 built=$2 wanted=(bare 7 bare_set 1 bare_overlay 42) ended
+	shift 2
+	for ((i = 0; i < ${#wanted[@]}; i += 2)); do
+		ended=0
+		"$@" "$built/${wanted[i]}" || ended=$?
+		[ "$ended" = "${wanted[i + 1]}" ] || fail "$name: examples/c/${wanted[i]} ends with $ended"
+	done
+}
 
 # try_c NAME COMPILER FLAGS [RUNNER..]: builds the examples, runs them, and compares what they print and write
 try_c() {
@@ -49,13 +89,16 @@ try_c() {
 	mkdir -p "$built"
 	make -s -C examples/c OUT="$built" CC="$compiler" CFLAGS="$flags" || fail "$name: the examples aren't built"
 	"$@" "$built/calls" | diff examples/c/calls.txt - || fail "$name: examples/c/calls says something else"
-	"$@" "$built/boot" "${step[@]}" "$built/out.dtb" | diff "$work/said" - || fail "$name: examples/c/boot says something else"
 	"$@" "$built/bus" examples/sensor-board.plan | diff "$work/report" - || fail "$name: examples/c/bus ends with another report"
-	"$@" "$built/mutated" examples/sensor-board.dtb "$mutations" | diff "$work/mutations" - || fail "$name: examples/c/mutated ends otherwise"
-	cmp "$built/out.dtb" "$work/wanted.dtb" || fail "$name: examples/c/boot makes another blob than the program"
+	try_arena "$name" "$built" "$@"
+	# the arena by itself, with what makes pointers of it built by the compiler's flags, too
+	# shellcheck disable=SC2086
+	"$compiler" -std=c11 -Wall -Wextra -Werror $flags -Iinstall -o "$built/arena" .ci/arena.c install/arena.c bin/libdtman_arena.a || fail "$name: the arena isn't built"
+	"$@" "$built/arena" "$requests" || fail "$name: the arena isn't as it should be"
 	echo "library: $name: the examples do what they should"
 }
 
+requests=20000
 # 100,000 changed blobs, walked whole by the view; under valgrind a hundredth of them.
 mutations=100000
 cp examples/c/mutated.txt "$work/mutations"
@@ -72,29 +115,47 @@ for compiler in "${compilers[@]}"; do
 	fi
 done
 if [ ${#compilers[@]} -gt 0 ] && has valgrind "the examples aren't run under it"; then
-	mutations=1000
+	mutations=1000 requests=100
 	"$work/${compilers[0]// /-}/mutated" examples/sensor-board.dtb 1000 >"$work/mutations"
 	try_c valgrind "${compilers[0]}" "-g -O1" valgrind -q --leak-check=full --error-exitcode=9
 fi
-if has c++ "the header isn't read as C++"; then for header in dtman dtman_view; do c++ -std=c++11 -Wall -Werror -fsyntax-only -x c++ install/$header.h; done; fi
+if has c++ "the headers aren't read as C++"; then for header in dtman dtman_arena dtman_view; do c++ -std=c++11 -Wall -Werror -fsyntax-only -x c++ install/$header.h; done; fi
 
-# The view wants nothing of libc.
-if [ ${#compilers[@]} -gt 0 ] && [ "$(uname -sm)" = "Linux x86_64" ]; then
-	make -s -C examples/c OUT="$work" CC="${compilers[0]}" bare
-	ended=0
-	"$work/bare" || ended=$?
-	[ "$ended" = 7 ] || fail "examples/c/bare ends with $ended"
-	ended=0
-	"$work/bare_set" || ended=$?
-	[ "$ended" = 1 ] || fail "examples/c/bare_set ends with $ended"
+# install/arena.c, which is built without headers, has what its own declares.
+if [ ${#compilers[@]} -gt 0 ]; then
+	"${compilers[0]}" -std=c11 -Wall -Wextra -Werror -fsyntax-only -include install/dtman_arena.h install/arena.c || fail "install/arena.c isn't what its header declares"
 fi
 
-# libfdt does the step too, in another order of properties, so what is printed is compared.
-if [ ${#compilers[@]} -gt 0 ] && echo '#include <libfdt.h>' | "${compilers[0]}" -E -x c - >/dev/null 2>&1; then
+# Neither the view nor, over an arena, the engines want a libc.
+if [ ${#compilers[@]} -gt 0 ] && [ "$(uname -sm)" = "Linux x86_64" ]; then
+	make -s -C examples/c OUT="$work" CC="${compilers[0]}" bare
+	try_bare "without libc" "$work"
+	echo "library: the examples without libc end as they should"
+fi
+
+# The same for another processor, which is imitated.
+if [ ${#compilers[@]} -gt 0 ] && has aarch64-linux-gnu-gcc "nothing is built for aarch64" && has qemu-aarch64 "nothing is tried for aarch64"; then
+	mkdir -p "$work/aarch64"
+	TARGET=aarch64-unknown-linux-gnu .ci/library
+	make -s -C examples/c OUT="$work/aarch64" CC=aarch64-linux-gnu-gcc CFLAGS="-O2 -static" TARGET=-aarch64 arena bare
+	mutations=1000
+	"$work/${compilers[0]// /-}/mutated" examples/sensor-board.dtb 1000 >"$work/mutations"
+	try_arena aarch64 "$work/aarch64" qemu-aarch64
+	try_bare aarch64 "$work/aarch64" qemu-aarch64
+	echo "library: aarch64: the examples do what they should"
+fi
+
+# libfdt does the step too, in another order of properties, so the boards are compared; and each of its calls has a line in docs/libfdt.md.
+if [ ${#compilers[@]} -gt 0 ] && echo '#include <libfdt.h>' | "${compilers[0]}" -E -x c - >"$work/libfdt" 2>/dev/null; then
 	make -s -C examples/c OUT="$work" CC="${compilers[0]}" libfdt
 	"$work/boot_libfdt" "${step[@]}" "$work/fdt.dtb" | diff "$work/said" - || fail "libfdt's step says something else"
+	same_board "$work/fdt.dtb" "libfdt's step"
+	header=$(sed -n 's/^# 1 "\(.*\/libfdt.h\)".*/\1/p' "$work/libfdt" | head -1)
+	while read -r call; do
+		grep -qF "\`$call\`" docs/libfdt.md || fail "docs/libfdt.md has no line for $call"
+	done < <(grep -oE '^((static inline |const )?[a-z0-9_]+ \*?|#define )fdt[a-z0-9_]+\(' "$header" | grep -oE 'fdt[a-z0-9_]+\($' | tr -d '(' | sort -u)
 	for name in boot boot_libfdt; do [ -e "$work/$name" ] || cp "$work/${compilers[0]}/$name" "$work"; done
-	echo "library: libfdt's step says the same; its program has $(size -A "$work/boot_libfdt" | awk '$1 ~ /^\.(text|rodata)$/ { sum += $2 } END { print sum }') bytes of code and constants, that of libdtman $(size -A "$work/boot" | awk '$1 ~ /^\.(text|rodata)$/ { sum += $2 } END { print sum }')"
+	echo "library: libfdt's step says the same; its program has $(size -A "$work/boot_libfdt" | awk '$1 ~ /^\.(text|rodata)$/ { sum += $2 } END { print sum }') bytes of code and constants, that of the view $(size -A "$work/boot" | awk '$1 ~ /^\.(text|rodata)$/ { sum += $2 } END { print sum }')"
 else
 	echo "library: libfdt isn't here, so its step isn't compared" >&2
 fi

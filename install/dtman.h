@@ -18,7 +18,7 @@
  * Memory. A call takes memory by malloc, realloc and free, and has given all of it back when it returns, but for what stands behind a
  * board's seats. Where malloc has none the call is refused with the number 0. The three are of one allocator, which aligns a block to
  * each power of two up to 16 that divides its size. Besides them the library wants memcpy, memmove, memset, memcmp and bcmp. It opens no
- * file, makes no system call and starts no thread.
+ * file, makes no system call and starts no thread. libdtman_arena.a, in its place, takes memory of the caller's own: dtman_arena.h.
  *
  * Stack. How deep an input is nested takes stack, how long it is doesn't: 256 KB are enough for every input.
  *
@@ -65,7 +65,7 @@ struct dtman_answer {
 #define DTMAN_NONE ((uint8_t *)"")
 
 /* Which calls there are: it grows by one with each call more, and by a hundred where one changes. */
-#define DTMAN_VERSION 100
+#define DTMAN_VERSION 201
 
 /* The most bytes of a blob and of its printed source (38 above it), and of a source (17 above it). */
 #define DTMAN_MAX_BLOB 268435456
@@ -77,6 +77,28 @@ struct dtman_answer {
  */
 struct dtman_answer dtman_compile(const void *source, size_t source_length, bool symbols, uint64_t seed,
 	void *out, size_t room);
+
+/* The file that an `/incbin/` of a source names. */
+struct dtman_file {
+	uint32_t at; /* where the word `/incbin/` begins in the source, in bytes */
+	const uint8_t *bytes;
+	size_t length;
+};
+
+/* How a source in dtc's language is compiled. */
+struct dtman_dtc {
+	bool symbols;         /* with the paths of all labelled nodes */
+	bool names_processor; /* the system boots on the processor that stands here, and else on the source's own */
+	uint32_t boot_processor;
+};
+
+/*
+ * The blob of a source in dtc's language, as the C preprocessor leaves it and with what it takes in by /include/ in its place. `files` are
+ * those that its /incbin/ name, in the order of the text; it isn't NULL where there are none, either. Refused: 10 to 17 with the line, 10
+ * also at the /incbin/ whose file isn't the next; 20 to 28, 38.
+ */
+struct dtman_answer dtman_compile_dtc(const void *source, size_t source_length, const struct dtman_file *files,
+	size_t files_count, const struct dtman_dtc *choice, uint64_t seed, void *out, size_t room);
 
 /* The blob of a base with an overlay applied. Refused: 30 to 38, of the base before those of the overlay, and 40 to 46. */
 struct dtman_answer dtman_overlay(const void *base, size_t base_length, const void *overlay,
@@ -99,8 +121,22 @@ struct dtman_answer dtman_plan(const void *blob, size_t blob_length, const void 
 struct dtman_answer dtman_replay(const void *plan, size_t plan_length, const void *schedule,
 	size_t schedule_length, uint64_t seed, void *out, size_t room);
 
-/* The name of the fault with a number, with no NUL behind it: no name has more than 24 bytes. Takes no memory. */
-struct dtman_answer dtman_name(uint8_t number, void *out, size_t room);
+/* The name of the fault with a number, with no NUL behind it: no name has more than 24 bytes. DTMAN_UNNAMED. Takes no memory. */
+struct dtman_answer dtman_name(uint32_t number, void *out, size_t room);
+
+/* The room of a name with a NUL behind it. */
+#define DTMAN_NAME_ROOM 25
+
+/* The name of the fault with a number as a string, in the caller's room; NULL where no fault has the number. */
+static inline const char *dtman_name_text(uint32_t number, char text[DTMAN_NAME_ROOM])
+{
+	struct dtman_answer told = dtman_name(number, text, DTMAN_NAME_ROOM - 1);
+
+	if (told.status != DTMAN_WRITTEN)
+		return NULL;
+	text[told.length] = 0;
+	return text;
+}
 
 /*
  * The board: threads of the caller's own probe the devices of a plan, each over a seat of its own, and no call waits for another. A

@@ -25,9 +25,12 @@ listed() {
 	if [ -e bin/libdtman.a ]; then
 		echo 644 bin/libdtman.a "$library_folder/libdtman.a"
 		echo 644 install/dtman.h include/dtman.h
+		echo 644 bin/libdtman_arena.a "$library_folder/libdtman_arena.a"
+		echo 644 install/dtman_arena.h include/dtman_arena.h
 		echo 644 bin/libdtman_view.a "$library_folder/libdtman_view.a"
 		echo 644 install/dtman_view.h include/dtman_view.h
 		echo 644 out/pages/dtman.pc "$library_folder/pkgconfig/dtman.pc"
+		echo 644 out/pages/dtman_arena.pc "$library_folder/pkgconfig/dtman_arena.pc"
 		for file in examples/c/Makefile examples/c/*.{c,h,dts,txt,md}; do echo 644 "$file" "share/doc/dtman/examples/c/${file##*/}"; done
 	fi
 	for file in README.md CHANGELOG.md docs/{commands,errors,promises,status}.md; do echo 644 "$file" "share/doc/dtman/${file##*/}"; done
@@ -45,13 +48,19 @@ wants_proof() {
 make_pages() {
 	rm -rf out/pages
 	python3 install/pages.py out/pages
-	cat >out/pages/dtman.pc <<END
+	make_configuration dtman "devicetree compiler and probing core over the caller's bytes"
+	make_configuration dtman_arena "the same over memory of the caller's"
+}
+
+# make_configuration NAME WHAT: what pkg-config tells of the library
+make_configuration() {
+	cat >"out/pages/$1.pc" <<END
 prefix=\${pcfiledir}/$(sed 's#[^/]*#..#g' <<<"$library_folder/pkgconfig")
-Name: dtman
-Description: devicetree compiler and probing core over the caller's bytes
+Name: $1
+Description: $2
 Version: $version
 Cflags: -I\${prefix}/include
-Libs: -L\${prefix}/$library_folder -ldtman_view -ldtman
+Libs: -L\${prefix}/$library_folder -ldtman_view -l$1
 END
 }
 
@@ -67,7 +76,7 @@ take_away() {
 	local target
 	make_pages
 	listed | while read -r _ _ target; do rm -f "$root$prefix/$target"; done
-	rm -f "$root$prefix"/{"$library_folder"/libdtman{,_view}.a,include/dtman{,_view}.h,"$library_folder"/pkgconfig/dtman.pc,share/man/man3/libdtman.3}
+	rm -f "$root$prefix"/{"$library_folder"/libdtman{,_arena,_view}.a,include/dtman{,_arena,_view}.h,"$library_folder"/pkgconfig/dtman{,_arena}.pc,share/man/man3/libdtman.3}
 	rm -rf "$root$prefix/share/doc/dtman"
 }
 
@@ -101,7 +110,7 @@ deb() {
 	doc=$stage/usr/share/doc/dtman
 	mv "$doc/CHANGELOG.md" "$doc/NEWS.md"
 	strip --strip-unneeded -R .comment -R .note "$stage/usr/bin/dtman"
-	[ ! -e "$stage/usr/$libraries/libdtman.a" ] || strip --strip-debug -R .comment -R .note "$stage/usr/$libraries/libdtman.a"
+	[ ! -e "$stage/usr/$libraries/libdtman.a" ] || strip --strip-debug -R .comment -R .note "$stage/usr/$libraries"/libdtman{,_arena}.a
 	find "$stage/usr/share/man" -type f -exec gzip -9n {} +
 	debian_words "$stage" "$arch" "${MAINTAINER:-$(git log -1 --format='%an <%ae>')}"
 	gzip -9n "$doc/NEWS.md" "$doc"/{README,commands,errors,promises,status}.md "$doc/changelog"

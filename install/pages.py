@@ -170,6 +170,7 @@ def library_page():
     calls = re.findall(r"/\*((?:(?!\*/).)*)\*/\n(struct \w+) (\w+)\((.*?)\);", header, re.DOTALL)
     answers = re.search(r"^/\* How a call ended\..*?^};\n\nstruct.*?^};", header, re.DOTALL | re.MULTILINE)[0]
     board, seats = re.search(r"/\*((?:(?!\*/).)*)\*/\n(struct dtman_seat \{.*?^struct dtman_told \{.*?^};)", header, re.DOTALL | re.MULTILINE).groups()
+    dtc = re.search(r"^struct dtman_file \{.*?^struct dtman_dtc \{.*?^};", header, re.DOTALL | re.MULTILINE)[0]
     synopsis = [".In dtman.h"]
     for _, answer, name, parameters in calls:
         given = " ".join(f'"{" ".join(it.split())}"' for it in parameters.split(","))
@@ -177,6 +178,7 @@ def library_page():
     body = [prose(about.partition(": ")[2].capitalize()), f".Ss Calls\n.Bl -tag -width Ds"]
     body += [f".It Fn {name}\n{paragraphs(unwrapped(comment))}" for comment, _, name, _ in calls]
     body.append(".El\n.Ss Answers\n" + display(answers.replace("\t", "    ")))
+    body.append(".Ss Sources in dtc's language\n" + display(dtc.replace("\t", "    ")))
     body.append(f".Ss The board\n{paragraphs(unwrapped(board.replace('The board: t', 'T')))}\n" + display(seats.replace("\t", "    ")))
     for paragraph in told_first:
         title, _, text = paragraph.partition(". ")

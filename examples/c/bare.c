@@ -1,6 +1,6 @@
 /*
  * A blob's property found without libc, memory or a system, as before a boot loader has any: `make bare` links this with nothing but
- * libdtman_view.a. It ends with the cell that the root's property `a` has, or with 255. The way out is Linux's on x86-64.
+ * libdtman_view.a. It ends with the cell that the root's property `a` has, or with 255.
  */
 #include "dtman_view.h"
 
@@ -12,7 +12,9 @@ static const uint8_t blob[] = {
 	'a', 0
 };
 
-static long look(void)
+long run(void);
+
+long run(void)
 {
 	struct dtman_view view = DTMAN_NO_VIEW;
 	struct dtman_view_part value = DTMAN_NO_PART;
@@ -22,10 +24,4 @@ static long look(void)
 	if (dtman_view_value(&view, dtman_view_root(&view).at, (const uint8_t *)"a", 1, &value).status != DTMAN_VIEW_DONE || value.length != 4)
 		return 255;
 	return value.bytes[3];
-}
-
-__attribute__((force_align_arg_pointer)) void _start(void)
-{
-	__asm__ volatile("syscall" : : "a"(231), "D"(look()));
-	__builtin_unreachable();
 }

@@ -1,11 +1,14 @@
 /*
- * What libdtman_view.a wants where there is no libc: memmove and memset, as the C standard says. `volatile` keeps a compiler from making one a
- * call of itself.
+ * What the libraries want where there is no libc: the view memmove and memset, the engines memcpy, memcmp and bcmp too, as the C standard
+ * says. `volatile` keeps a compiler from making one a call of itself.
  */
 #include <stddef.h>
 
+void *memcpy(void *to, const void *from, size_t count);
 void *memmove(void *to, const void *from, size_t count);
 void *memset(void *to, int byte, size_t count);
+int memcmp(const void *one, const void *other, size_t count);
+int bcmp(const void *one, const void *other, size_t count);
 
 void *memmove(void *to, const void *from, size_t count)
 {
@@ -21,6 +24,11 @@ void *memmove(void *to, const void *from, size_t count)
 	return to;
 }
 
+void *memcpy(void *to, const void *from, size_t count)
+{
+	return memmove(to, from, count);
+}
+
 void *memset(void *to, int byte, size_t count)
 {
 	volatile unsigned char *into = to;
@@ -28,4 +36,19 @@ void *memset(void *to, int byte, size_t count)
 	for (size_t i = 0; i < count; i++)
 		into[i] = (unsigned char)byte;
 	return to;
+}
+
+int memcmp(const void *one, const void *other, size_t count)
+{
+	const volatile unsigned char *a = one, *b = other;
+
+	for (size_t i = 0; i < count; i++)
+		if (a[i] != b[i])
+			return a[i] < b[i] ? -1 : 1;
+	return 0;
+}
+
+int bcmp(const void *one, const void *other, size_t count)
+{
+	return memcmp(one, other, count);
 }

@@ -1,7 +1,7 @@
 /*
  * The boot arguments of a blob in a static buffer set in place, and a property added in the room behind it, without libc, memory or a
  * system, as before a boot loader has any: `make bare` links this with nothing but libdtman_view.a. It ends with the last digit of what the
- * blob then has, or with 255. The way out is Linux's on x86-64.
+ * blob then has, or with 255.
  */
 #include "dtman_view.h"
 
@@ -28,7 +28,9 @@ static int add(void)
 	return told.status == DTMAN_EDIT_SHORT && told.at == sizeof blob + 4;
 }
 
-static long change(void)
+long run(void);
+
+long run(void)
 {
 	struct dtman_view view = DTMAN_NO_VIEW;
 	struct dtman_view_part value = DTMAN_NO_PART;
@@ -44,10 +46,4 @@ static long change(void)
 	if (dtman_view_value(&view, dtman_view_find(&view, chosen, 7).at, bootargs, 8, &value).status != DTMAN_VIEW_DONE || value.length != sizeof wanted)
 		return 255;
 	return value.bytes[sizeof wanted - 2] - '0';
-}
-
-__attribute__((force_align_arg_pointer)) void _start(void)
-{
-	__asm__ volatile("syscall" : : "a"(231), "D"(change()));
-	__builtin_unreachable();
 }

@@ -1,117 +1,161 @@
 /*
- * A boot loader's step: boot BASE OVERLAY OVERLAY PATH PROPERTY VALUE OUT
+ * A boot loader's step: boot BLOB BYTES ARGUMENTS START SIZE OUT
  *
- * Applies two overlays to a board's blob, prints the string that a property has then, gives it another, and writes the blob.
+ * In a buffer with some room: finds the board's memory, makes its first region one of BYTES, tells the kernel its ARGUMENTS and where the
+ * initial file system stands, and writes the blob. All of it in place and without memory of its own, by libdtman_view.a alone; boot_libfdt.c
+ * is the same by libfdt.
  */
 #include <stdio.h>
 #include <stdlib.h>
 #include <string.h>
 
-#include "bytes.h"
-#include "dtman.h"
 #include "dtman_view.h"
 
-/* No stranger makes a boot loader's own blobs. */
-#define SEED 0
+#define ROOM (1 << 20)
 
-static struct bytes overlaid(struct bytes base, struct bytes overlay)
+static uint8_t buffer[ROOM];
+
+/* A text with its length, as calls take one. */
+#define TEXT(text) (text), strlen(text)
+
+static struct dtman_view_told checked(const char *what, struct dtman_view_told told)
 {
-	struct bytes out = make_room(base.length + 2 * overlay.length);
-	struct dtman_answer answer = dtman_overlay(base.at, base.length, overlay.at, overlay.length, SEED, out.at, out.length);
-
-	if (answer.status == DTMAN_SHORT) {
-		free(out.at);
-		out = make_room(answer.length);
-		answer = dtman_overlay(base.at, base.length, overlay.at, overlay.length, SEED, out.at, out.length);
-	}
-	if (answer.status != DTMAN_WRITTEN)
-		refuse("overlay", answer);
-	out.length = answer.length;
-	return out;
+	if (told.status == DTMAN_VIEW_DONE)
+		return told;
+	fprintf(stderr, "%s: status %u, error %u, %zu\n", what, told.status, told.number, told.at);
+	exit(1);
 }
 
-/* The value of the property of the node at a path; no bytes at NULL where there is none. */
-static struct bytes find(struct bytes blob, const char *path, const char *property)
+static void write_blob(const char *path)
 {
-	struct dtman_view view = DTMAN_NO_VIEW;
-	struct dtman_view_part value = DTMAN_NO_PART;
-	struct dtman_view_told told = dtman_view_open(blob.at, blob.length, &view);
+	size_t size = (size_t)buffer[4] << 24 | buffer[5] << 16 | buffer[6] << 8 | buffer[7];
+	FILE *file = fopen(path, "wb");
 
-	if (told.status == DTMAN_VIEW_DONE)
-		told = dtman_view_find(&view, (const uint8_t *)path, strlen(path));
-	if (told.status == DTMAN_VIEW_DONE)
-		told = dtman_view_value(&view, told.at, (const uint8_t *)property, strlen(property), &value);
-	if (told.status != DTMAN_VIEW_DONE)
-		return (struct bytes){ NULL, 0 };
-	return (struct bytes){ blob.at + (value.bytes - blob.at), value.length };
-}
-
-/* The string that a property has, if it has one. */
-static void print_value(const char *path, const char *property, struct bytes value)
-{
-	if (!value.at || !value.length || value.at[value.length - 1]) {
-		fprintf(stderr, "%s has no string in its %s\n", path, property);
+	if (!file || fwrite(buffer, 1, size, file) != size || fclose(file)) {
+		perror(path);
 		exit(1);
 	}
-	printf("%s: %s = \"%s\"\n", path, property, (const char *)value.at);
 }
 
-/* A text with the bytes of a string and its NUL, two digits a byte, so that no byte of it means anything to the compiler. */
-static int put_string(char *to, const char *string)
+static struct dtman_view opened(size_t length)
 {
-	int length = 0;
+	struct dtman_view view = DTMAN_NO_VIEW;
 
-	do
-		length += sprintf(to + length, "%02x ", (unsigned char)*string);
-	while (*string++);
-	return length;
+	checked("open", dtman_view_open(buffer, length, &view));
+	return view;
 }
 
-/* The overlay that gives a property a string: its source is written and compiled here. */
-static struct bytes setting(const char *path, const char *property, const char *value)
+/* The blob, which has to be there whole: what stands behind it in the buffer is no part of it. */
+static void read_blob(const char *path)
 {
-	struct bytes source = make_room(200 + 3 * (strlen(path) + strlen(value)) + strlen(property));
-	struct bytes out = make_room(400 + source.length);
-	char *text = (char *)source.at;
-	int length = sprintf(text, "/dts-v1/; / { fragment { target-path = [");
-	struct dtman_answer answer;
+	FILE *file = fopen(path, "rb");
 
-	length += put_string(text + length, path);
-	length += sprintf(text + length, "]; __overlay__ { %s = [", property);
-	length += put_string(text + length, value);
-	length += sprintf(text + length, "]; }; }; };");
-	answer = dtman_compile(source.at, length, false, SEED, out.at, out.length);
-	if (answer.status != DTMAN_WRITTEN)
-		refuse("setting", answer);
-	free(source.at);
-	out.length = answer.length;
-	return out;
+	if (!file) {
+		perror(path);
+		exit(1);
+	}
+	opened(fread(buffer, 1, sizeof buffer, file));
+	fclose(file);
 }
 
-/* Applies an overlay, and frees both. */
-static struct bytes take(struct bytes base, struct bytes overlay)
+static int is_memory(const struct dtman_view *view, size_t node)
 {
-	struct bytes out = overlaid(base, overlay);
+	struct dtman_view_part kind = DTMAN_NO_PART;
+	struct dtman_view_told told = dtman_view_value(view, node, TEXT("device_type"), &kind);
 
-	free(base.at);
-	free(overlay.at);
-	return out;
+	return told.status == DTMAN_VIEW_DONE && kind.length == 7 && !memcmp(kind.bytes, "memory", 7);
+}
+
+/* The first node below the root that is memory. */
+static size_t find_memory(const struct dtman_view *view)
+{
+	struct dtman_view_told told = dtman_view_first_child(view, dtman_view_root(view).at);
+
+	while (told.status == DTMAN_VIEW_DONE && !is_memory(view, told.at))
+		told = dtman_view_next_sibling(view, told.at);
+	return checked("memory", told).at;
+}
+
+static void print_memory(void)
+{
+	struct dtman_view view = opened(sizeof buffer);
+	struct dtman_view_region region;
+	struct dtman_view_reservation held;
+	size_t node = find_memory(&view), root = dtman_view_root(&view).at;
+
+	for (size_t i = 0; dtman_view_region(&view, root, node, i, &region).status == DTMAN_VIEW_DONE; i++)
+		printf("memory: %#llx bytes at %#llx\n", (unsigned long long)region.size, (unsigned long long)region.address);
+	for (size_t i = 0; dtman_view_reservation(&view, i, &held).status == DTMAN_VIEW_DONE; i++)
+		printf("reserved: %#llx bytes at %#llx\n", (unsigned long long)held.size, (unsigned long long)held.address);
+}
+
+/* A number of so many cells, the higher ones first. */
+static size_t put_number(uint8_t *to, uint32_t cells, uint64_t number)
+{
+	for (size_t i = 0; i < 4 * cells; i++)
+		to[4 * cells - 1 - i] = i < 8 ? number >> 8 * i : 0;
+	return 4 * cells;
+}
+
+static void set(const char *path, const char *name, const void *value, size_t length)
+{
+	checked(name, dtman_edit_set(buffer, sizeof buffer, TEXT(path), TEXT(name), value, length));
+}
+
+/* The first region of the memory gets this size, and is the only one then. */
+static void set_memory(uint64_t size)
+{
+	struct dtman_view view = opened(sizeof buffer);
+	struct dtman_view_reg_cells cells;
+	struct dtman_view_region region;
+	struct dtman_view_part name = DTMAN_NO_PART;
+	size_t node = find_memory(&view), root = dtman_view_root(&view).at, length;
+	char path[256];
+	uint8_t reg[16];
+
+	checked("cells", dtman_view_reg_cells(&view, root, &cells));
+	checked("reg", dtman_view_region(&view, root, node, 0, &region));
+	checked("name", dtman_view_name(&view, node, &name));
+	snprintf(path, sizeof path, "/%.*s", (int)name.length, (const char *)name.bytes);
+	length = put_number(reg, cells.address, region.address);
+	length += put_number(reg + length, cells.size, size);
+	set(path, "reg", reg, length);
+}
+
+static void set_double(const char *name, uint64_t number)
+{
+	uint8_t value[8];
+
+	set("/chosen", name, value, put_number(value, 2, number));
+}
+
+static void print_arguments(void)
+{
+	struct dtman_view view = opened(sizeof buffer);
+	struct dtman_view_part text = DTMAN_NO_PART;
+
+	checked("bootargs", dtman_view_value(&view, checked("/chosen", dtman_view_find(&view, TEXT("/chosen"))).at, TEXT("bootargs"), &text));
+	checked("bootargs", dtman_view_string(text.bytes, text.length, 0, &text));
+	printf("arguments: %.*s\n", (int)text.length, (const char *)text.bytes);
 }
 
 int main(int count, char **words)
 {
-	struct bytes blob;
+	uint64_t start;
 
-	if (count != 8) {
-		fprintf(stderr, "usage: boot BASE OVERLAY OVERLAY PATH PROPERTY VALUE OUT\n");
+	if (count != 7) {
+		fprintf(stderr, "usage: boot BLOB BYTES ARGUMENTS START SIZE OUT\n");
 		return 2;
 	}
-	blob = take(read_file(words[1]), read_file(words[2]));
-	blob = take(blob, read_file(words[3]));
-	print_value(words[4], words[5], find(blob, words[4], words[5]));
-	blob = take(blob, setting(words[4], words[5], words[6]));
-	print_value(words[4], words[5], find(blob, words[4], words[5]));
-	write_file(words[7], blob);
-	free(blob.at);
+	read_blob(words[1]);
+	print_memory();
+	set_memory(strtoull(words[2], NULL, 0));
+	set("/chosen", "bootargs", words[3], strlen(words[3]) + 1);
+	start = strtoull(words[4], NULL, 0);
+	set_double("linux,initrd-start", start);
+	set_double("linux,initrd-end", start + strtoull(words[5], NULL, 0));
+	print_memory();
+	print_arguments();
+	write_blob(words[6]);
 	return 0;
 }

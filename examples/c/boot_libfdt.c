@@ -1,56 +1,105 @@
 /*
- * The step of boot.c by libfdt, for comparison: boot_libfdt BASE OVERLAY OVERLAY PATH PROPERTY VALUE OUT
+ * The step of boot.c by libfdt, for comparison: boot_libfdt BLOB BYTES ARGUMENTS START SIZE OUT
  */
 #include <libfdt.h>
 #include <stdio.h>
 #include <stdlib.h>
 #include <string.h>
 
-#include "bytes.h"
+#define ROOM (1 << 20)
 
-static int checked(int result, const char *what)
+static uint8_t file_bytes[ROOM], buffer[ROOM];
+
+static int checked(const char *what, int result)
 {
-	if (result < 0) {
-		fprintf(stderr, "%s: %s\n", what, fdt_strerror(result));
-		exit(1);
-	}
-	return result;
+	if (result >= 0)
+		return result;
+	fprintf(stderr, "%s: %s\n", what, fdt_strerror(result));
+	exit(1);
 }
 
-static void print_value(const void *blob, const char *path, const char *property)
+static void read_blob(const char *path)
 {
-	const char *value = fdt_getprop(blob, checked(fdt_path_offset(blob, path), path), property, NULL);
+	FILE *file = fopen(path, "rb");
 
-	if (!value) {
-		fprintf(stderr, "%s has no %s\n", path, property);
+	if (!file || !fread(file_bytes, 1, sizeof file_bytes, file)) {
+		perror(path);
 		exit(1);
 	}
-	printf("%s: %s = \"%s\"\n", path, property, value);
+	fclose(file);
+	checked(path, fdt_open_into(file_bytes, buffer, sizeof buffer));
+}
+
+static void write_blob(const char *path)
+{
+	FILE *file = fopen(path, "wb");
+
+	checked("pack", fdt_pack(buffer));
+	if (!file || fwrite(buffer, 1, fdt_totalsize(buffer), file) != fdt_totalsize(buffer) || fclose(file)) {
+		perror(path);
+		exit(1);
+	}
+}
+
+static int find_memory(void)
+{
+	return checked("memory", fdt_node_offset_by_prop_value(buffer, -1, "device_type", "memory", 7));
+}
+
+static uint64_t number_at(const fdt32_t *cells, int count)
+{
+	uint64_t number = 0;
+
+	while (count--)
+		number = number << 32 | fdt32_ld(cells++);
+	return number;
+}
+
+static void print_memory(void)
+{
+	int addresses = checked("cells", fdt_address_cells(buffer, 0)), sizes = checked("cells", fdt_size_cells(buffer, 0)), length;
+	const fdt32_t *reg = fdt_getprop(buffer, find_memory(), "reg", &length);
+
+	checked("reg", length);
+	for (int i = 0; i + addresses + sizes <= length / 4; i += addresses + sizes)
+		printf("memory: %#llx bytes at %#llx\n", (unsigned long long)number_at(reg + i + addresses, sizes),
+			(unsigned long long)number_at(reg + i, addresses));
+	for (int i = 0; i < fdt_num_mem_rsv(buffer); i++) {
+		uint64_t address, size;
+
+		checked("reservation", fdt_get_mem_rsv(buffer, i, &address, &size));
+		printf("reserved: %#llx bytes at %#llx\n", (unsigned long long)size, (unsigned long long)address);
+	}
+}
+
+static void set_memory(uint64_t size)
+{
+	int memory = find_memory(), addresses = fdt_address_cells(buffer, 0), length;
+	uint64_t address = number_at(fdt_getprop(buffer, memory, "reg", &length), addresses);
+
+	checked("reg", fdt_delprop(buffer, memory, "reg"));
+	checked("reg", fdt_appendprop_addrrange(buffer, 0, memory, "reg", address, size));
 }
 
 int main(int count, char **words)
 {
-	struct bytes base, blob;
+	uint64_t start;
+	int chosen;
 
-	if (count != 8) {
-		fprintf(stderr, "usage: boot_libfdt BASE OVERLAY OVERLAY PATH PROPERTY VALUE OUT\n");
+	if (count != 7) {
+		fprintf(stderr, "usage: boot_libfdt BLOB BYTES ARGUMENTS START SIZE OUT\n");
 		return 2;
 	}
-	base = read_file(words[1]);
-	blob = make_room(base.length + 65536);
-	checked(fdt_open_into(base.at, blob.at, blob.length), words[1]);
-	for (int i = 2; i < 4; i++) {
-		struct bytes overlay = read_file(words[i]);
-
-		checked(fdt_overlay_apply(blob.at, overlay.at), words[i]);
-		free(overlay.at);
-	}
-	print_value(blob.at, words[4], words[5]);
-	checked(fdt_setprop_string(blob.at, fdt_path_offset(blob.at, words[4]), words[5], words[6]), words[5]);
-	print_value(blob.at, words[4], words[5]);
-	checked(fdt_pack(blob.at), "pack");
-	write_file(words[7], (struct bytes){ blob.at, fdt_totalsize(blob.at) });
-	free(base.at);
-	free(blob.at);
+	read_blob(words[1]);
+	print_memory();
+	set_memory(strtoull(words[2], NULL, 0));
+	chosen = checked("/chosen", fdt_path_offset(buffer, "/chosen"));
+	checked("bootargs", fdt_setprop_string(buffer, chosen, "bootargs", words[3]));
+	start = strtoull(words[4], NULL, 0);
+	checked("start", fdt_setprop_u64(buffer, chosen, "linux,initrd-start", start));
+	checked("end", fdt_setprop_u64(buffer, chosen, "linux,initrd-end", start + strtoull(words[5], NULL, 0)));
+	print_memory();
+	printf("arguments: %s\n", (const char *)fdt_getprop(buffer, chosen, "bootargs", NULL));
+	write_blob(words[6]);
 	return 0;
 }

@@ -43,10 +43,10 @@ void write_file(const char *path, struct bytes bytes)
 
 _Noreturn void refuse(const char *what, struct dtman_answer answer)
 {
-	uint8_t name[24];
-	struct dtman_answer named = dtman_name(answer.number, name, sizeof name);
+	char name[DTMAN_NAME_ROOM] = "";
 
-	fprintf(stderr, "%s: error %u %.*s", what, answer.number, (int)named.length, (char *)name);
+	dtman_name_text(answer.number, name);
+	fprintf(stderr, "%s: error %u %s", what, answer.number, name);
 	if (answer.line)
 		fprintf(stderr, " line %zu", answer.line);
 	if (answer.event)

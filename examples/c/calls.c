@@ -21,6 +21,11 @@ static const char board[] = "/dts-v1/;\n"
 			    "};\n";
 static const char unlawful[] = "/dts-v1/;\n/ {\n\ta = <(1 / 0)>;\n};\n";
 static const char hat[] = "/dts-v1/;\n/plugin/;\n&uart { status = \"okay\"; };\n";
+static const char dtc_source[] = "/dts-v1/;\n"
+				 "/ {\n"
+				 "\tletter = <'B'>;\n"
+				 "\tpart = /incbin/(\"file\", 1, 2), \"end\";\n"
+				 "};\n";
 static const char drivers[] = "driver clock fixed-clock\ndriver serial ns16550a\n";
 static const char twice[] = "driver clock fixed-clock\ndriver clock fixed-clock\n";
 static const char schedule[] = "begin /clock\nfinish /clock settled\nbegin /serial\nfinish /serial settled\n";
@@ -30,12 +35,11 @@ static const char early[] = "begin /clock\nbegin /clock\n";
 static void tell(FILE *to, const char *what, struct dtman_answer answer, const uint8_t *text)
 {
 	static const char *const ends[] = { "written", "short", "refused", "unnamed" };
-	uint8_t name[24];
+	char name[DTMAN_NAME_ROOM];
 
 	fprintf(to, "%s: %s, %zu bytes", what, ends[answer.status], answer.length);
 	if (answer.status == DTMAN_REFUSED)
-		fprintf(to, ", %u %.*s, line %zu, event %zu", answer.number, (int)dtman_name(answer.number, name, sizeof name).length, (char *)name,
-			answer.line, answer.event);
+		fprintf(to, ", %u %s, line %zu, event %zu", answer.number, dtman_name_text(answer.number, name), answer.line, answer.event);
 	fputc('\n', to);
 	if (text && answer.status == DTMAN_WRITTEN)
 		fwrite(text, 1, answer.length, to);
@@ -45,11 +49,11 @@ static void tell(FILE *to, const char *what, struct dtman_answer answer, const u
 static void tell_seat(FILE *to, const char *what, struct dtman_told told)
 {
 	static const char *const ends[] = { "done", "short", "refused", NULL, "nothing", "no seat", "occupied", "shared" };
-	uint8_t name[24];
+	char name[DTMAN_NAME_ROOM];
 
 	fprintf(to, "%s: %s, number %u, device %zu", what, ends[told.status], told.number, told.device);
 	if (told.status == DTMAN_REFUSED)
-		fprintf(to, ", %.*s", (int)dtman_name(told.number, name, sizeof name).length, (char *)name);
+		fprintf(to, ", %s", dtman_name_text(told.number, name));
 	fputc('\n', to);
 }
 
@@ -114,6 +118,26 @@ static void make_board_calls(FILE *to, const uint8_t *plan, size_t length)
 	tell_seat(to, "close, no seat", dtman_board_close(&one, words, 2));
 }
 
+/* A source in dtc's language, without its file and with it, on its own processor and on one that is named. */
+static void make_dtc_calls(FILE *to)
+{
+	struct dtman_file file = { strstr(dtc_source, "/incbin/") - dtc_source, BYTES("abcd") };
+	struct dtman_dtc own = { false, false, 0 }, third = { false, true, 3 };
+	uint8_t blob[ROOM], text[ROOM];
+	struct dtman_answer b;
+
+	tell(to, "dtc, without its file", dtman_compile_dtc(BYTES(dtc_source), &file, 0, &own, SEED, blob, ROOM), NULL);
+	file.at++;
+	tell(to, "dtc, with a file of another place", dtman_compile_dtc(BYTES(dtc_source), &file, 1, &own, SEED, blob, ROOM), NULL);
+	file.at--;
+	b = dtman_compile_dtc(BYTES(dtc_source), &file, 1, &own, SEED, blob, ROOM);
+	tell(to, "dtc, with its file", b, NULL);
+	fprintf(to, "boots on %u\n", blob[31]);
+	tell(to, "dump", dtman_dump(blob, b.length, text, ROOM), text);
+	tell(to, "dtc, on a processor", dtman_compile_dtc(BYTES(dtc_source), &file, 1, &third, SEED, blob, ROOM), NULL);
+	fprintf(to, "boots on %u\n", blob[31]);
+}
+
 static void make_calls(FILE *to)
 {
 	uint8_t base[ROOM], overlay[ROOM], both[ROOM], text[ROOM], plan[ROOM];
@@ -144,11 +168,13 @@ static void make_calls(FILE *to)
 	tell(to, "replay", dtman_replay(plan, p.length, BYTES(schedule), SEED, text, ROOM), text);
 	tell(to, "replay, a device that is begun twice", dtman_replay(plan, p.length, BYTES(early), SEED, text, ROOM), NULL);
 
+	make_dtc_calls(to);
 	make_board_calls(to, plan, p.length);
 
 	tell(to, "name", dtman_name(63, text, ROOM), text);
 	fputc('\n', to);
 	tell(to, "name, of no fault", dtman_name(99, text, ROOM), NULL);
+	tell(to, "name, of a number past 255", dtman_name(256 + 63, text, ROOM), NULL);
 }
 
 /* What the calls told, as text that the caller frees. */

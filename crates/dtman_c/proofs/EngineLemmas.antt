@@ -1,7 +1,10 @@
 -- What an engine's clauses say of its result, they say of the bytes or the fault that it shows.
 use Rattle.std.proofs.Common.{◌≡◌, ◌↔◌, ◌⊎◌, inr, ap, ℕ, Bool, List, Result, Ok, Err, Some, IfOk, IfErr, IsErrAnd, MatchResult}
-use Rattle.dt_lexeme.specs.declared.language.Language.TheVariants.{Profile}
+use Rattle.dt_lexeme.specs.declared.binary.Binary.{Binary}
+use Rattle.dt_lexeme.specs.declared.language.Language.TheVariants.{Dtc, Profile}
+use Rattle.dt_lexeme.specs.declared.lexeme.Refusal.{Refusal}
 use Rattle.dt_tree.specs.TreeData.{TreeData}
+use Rattle.dt_source.specs.Filled.{filled}
 use Rattle.dt_source.specs.Parse.{Says}
 use Rattle.dt_meaning.specs.Syntax.{Meaning}
 use Rattle.dt_blob.specs.declared.error.BlobError.{BlobError}
@@ -11,6 +14,9 @@ use Rattle.dt_blob.specs.Holds.{Holds}
 use Rattle.dt_blob.specs.SourceText.{text_of}
 use Rattle.dtman_engine.specs.declared.fault.Fault.{Fault}
 use Rattle.dtman_engine.specs.Compile as compile
+use Rattle.dtman_engine.specs.CompileDtc as engine_dtc
+use Rattle.dtman_engine.specs.declared.compiling_dtc.DtcOptions.{DtcOptions}
+use Rattle.dtman_engine.specs.Fault as engine
 use Rattle.dtman_engine.specs.Dump as dump
 use Rattle.dtman_engine.specs.Fault.{Tells, FaultValue, fault_value, no_memory}
 use Rattle.dtman_engine.specs.BlobFaults.{blob_fault}
@@ -19,6 +25,8 @@ use Rattle.dtman_engine.specs.Overlay as overlay
 use Rattle.dtman_engine.specs.Plan as plan
 use Rattle.dtman_engine.specs.Replay as replay
 use Rattle.dtman_c.specs.declared.answer.Answer.{Answer}
+use Rattle.dtman_c.specs.declared.dtc.IncludedFile.{IncludedFile}
+use Rattle.dtman_c.specs.Dtc as dtc
 use Rattle.dtman_c.specs.Crossing.{Crosses, IsGiven, OrNoMemory}
 use Rattle.dtman_c.specs.Engines.{IsCompileAnswer, IsDumpAnswer, IsOverlayAnswer, IsPlanAnswer, IsReplayAnswer}
 
@@ -97,3 +105,27 @@ pub replayed : {V : Type 0} (items : V → List ℕ) (r : Result V Fault) (plan_
     → IsReplayAnswer plan_file schedule (shown items r)
 replayed items (Ok v) plan_file schedule a h = record { answer = a; history = h }
 replayed items (Err fault) plan_file schedule a h = record { answer = a; history = h }
+
+-- ---- dtc's language
+pub answered_dtc : (options : DtcOptions) (source : List ℕ) (what : Result Meaning Refusal) (r : engine.Answer)
+    → engine_dtc.AnswersFilled options source what r → dtc.AnswersFilled options source what (dtc.shown r)
+answered_dtc options source (Ok m) (Ok v) h = h
+answered_dtc options source (Ok m) (Err fault) h = h
+answered_dtc options source (Err refusal) (Ok v) h = h
+answered_dtc options source (Err refusal) (Err fault) h = h
+
+pub compiled_dtc : (options : DtcOptions) (source : List ℕ) (files : List IncludedFile) (binaries : List Binary) (r : engine.Answer)
+    → dtc.AreFiles files binaries
+    → IfOk r (λ blob. engine_dtc.IsDtcCompiled options source binaries blob.items)
+    → ((m : Meaning) → IsShort source → Says Dtc source m → engine_dtc.AnswersFilled options source (filled binaries m) r)
+    → IfErr r (λ fault. engine_dtc.IsDtcRefusal options source binaries (fault_value fault))
+    → dtc.IsDtcAnswer options source files (dtc.shown r)
+compiled_dtc options source files binaries (Ok v) are a s r =
+    record { binaries = binaries; are_files = are; answer = a; said = λ m short says. answered_dtc options source (filled binaries m) (Ok v) (s m short says); refused = r }
+compiled_dtc options source files binaries (Err fault) are a s r =
+    record { binaries = binaries; are_files = are; answer = a; said = λ m short says. answered_dtc options source (filled binaries m) (Err fault) (s m short says); refused = r }
+
+pub handed_dtc : (r : engine.Answer) (MayBe : Result (List ℕ) FaultValue → Type 0) (before after : List ℕ) (told : Answer)
+    → MayBe (dtc.shown r) → AreCrossed (λ bytes. bytes.items) r before after told → IsGiven MayBe before after told
+handed_dtc (Ok v) MayBe before after told may h = record { given = Ok v.items; may_be = may; crosses = h }
+handed_dtc (Err fault) MayBe before after told may h = record { given = Err (fault_value fault); may_be = may; crosses = h }

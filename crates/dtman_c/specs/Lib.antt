@@ -1,4 +1,5 @@
 pub mod Boards
 pub mod Crossing
+pub mod Dtc
 pub mod Engines
 pub mod Naming

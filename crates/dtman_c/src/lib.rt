@@ -7,5 +7,6 @@ mod answer;
 mod blobs;
 mod board;
 mod bus;
+mod dtc;
 mod naming;
 mod seed;

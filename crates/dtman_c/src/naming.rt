@@ -6,10 +6,13 @@ use dtman_engine::explain;
 
 /// The name of the fault with a number.
 #[unsafe(no_mangle)]
-pub extern "C" fn dtman_name(number: u8, out: &mut [u8]) -> Answer
+pub extern "C" fn dtman_name(number: u32, out: &mut [u8]) -> Answer
     ensures { IsNameGiven number out.old out.new result }
 {
-    match explain(number) {
+    if number > 255 {
+        return unnamed();
+    }
+    match explain(number as u8) {
         Some(explanation) => put(explanation.name.as_bytes(), out),
         None => unnamed(),
     }

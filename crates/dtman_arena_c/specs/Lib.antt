@@ -1,0 +1,4 @@
+pub mod Blocks
+pub mod Laws
+pub mod Marks
+pub mod Told
