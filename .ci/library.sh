@@ -52,6 +52,7 @@ try_c() {
 	"$@" "$built/boot" "${step[@]}" "$built/out.dtb" | diff "$work/said" - || fail "$name: examples/c/boot says something else"
 	"$@" "$built/bus" examples/sensor-board.plan | diff "$work/report" - || fail "$name: examples/c/bus ends with another report"
 	"$@" "$built/mutated" examples/sensor-board.dtb "$mutations" | diff "$work/mutations" - || fail "$name: examples/c/mutated ends otherwise"
+	"$@" "$built/edits" | diff examples/c/edits.txt - || fail "$name: examples/c/edits says something else"
 	cmp "$built/out.dtb" "$work/wanted.dtb" || fail "$name: examples/c/boot makes another blob than the program"
 	echo "library: $name: the examples do what they should"
 }

@@ -1,9 +1,10 @@
 /*
- * What libdtman_view.a wants where there is no libc: memmove and memset, as the C standard says. `volatile` keeps a compiler from making one a
- * call of itself.
+ * What libdtman_view.a wants where there is no libc: memcpy, memmove and memset, as the C standard says. `volatile` keeps a compiler from making
+ * one a call of itself.
  */
 #include <stddef.h>
 
+void *memcpy(void *restrict to, const void *restrict from, size_t count);
 void *memmove(void *to, const void *from, size_t count);
 void *memset(void *to, int byte, size_t count);
 
@@ -19,6 +20,11 @@ void *memmove(void *to, const void *from, size_t count)
 		while (count--)
 			into[count] = of[count];
 	return to;
+}
+
+void *memcpy(void *restrict to, const void *restrict from, size_t count)
+{
+	return memmove(to, from, count);
 }
 
 void *memset(void *to, int byte, size_t count)
